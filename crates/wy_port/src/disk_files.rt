@@ -1,0 +1,137 @@
+//! Files of the system.
+ghost use Rattle.std.specs.Prelude.{◌≡◌, ◌≤◌, IfOk, vec_len};
+ghost use Rattle.wy_port.specs.Told.Told.{Unknown};
+
+use crate::files::{Files, LoadFault, SaveFault};
+use crate::sink::write_whole;
+use crate::std_sink::StdSink;
+use std::alloc::Global;
+use std::io::{ErrorKind, Read};
+use std::{fs, rt};
+
+/// The files of a runtime, as those of the system. It tells no contents.
+///
+/// A name is a path. Its counts stand at 0 first. A load reads at most one byte more than its limit, and a save
+/// writes over what stood under the name; a save that failed may leave a part of its bytes there.
+#[derive(Drop)]
+pub struct DiskFiles<'a, R: rt::Files> {
+    rt: &'a R,
+    load_faults: u64,
+    save_faults: u64,
+    misses: u64,
+}
+
+impl<'a, R: rt::Files> DiskFiles<'a, R> {
+    /// The files of `rt`.
+    pub fn new(rt: &'a R) -> DiskFiles<'a, R> {
+        DiskFiles {
+            rt,
+            load_faults: 0,
+            save_faults: 0,
+            misses: 0,
+        }
+    }
+}
+
+// What an error of the system means for a load.
+fn load_fault(kind: ErrorKind) -> LoadFault {
+    match kind {
+        ErrorKind::NotFound => LoadFault::Absent,
+        ErrorKind::OutOfMemory => LoadFault::NoMemory,
+        _ => LoadFault::Failed,
+    }
+}
+
+// What an error of the system means for a save that has changed nothing yet.
+fn save_fault(kind: ErrorKind) -> SaveFault {
+    match kind {
+        ErrorKind::OutOfMemory => SaveFault::NoMemory,
+        _ => SaveFault::Failed,
+    }
+}
+
+// All that a reader gives, in at most so many bytes.
+fn read_up_to<T: Read>(alloc: Global, reader: &mut T, limit: u64) -> Result<Vec<u8>, LoadFault>
+    ensures within { IfOk result (λ bytes. vec_len bytes ≤ limit) }
+{
+    let mut bytes = Vec::new(alloc);
+    let mut piece = [0u8; 4096];
+    for _ in 0..u64::MAX {
+        let count = match reader.read(&mut piece) {
+            Ok(count) => count,
+            Err(e) => {
+                if e.kind() == ErrorKind::Interrupted {
+                    continue;
+                }
+                return Err(load_fault(e.kind()));
+            }
+        };
+        if count == 0 {
+            return Ok(bytes);
+        }
+        if count as u64 > limit - bytes.len() as u64 {
+            return Err(LoadFault::TooLong);
+        }
+        bytes.extend_from_slice(&piece[..count])?;
+    }
+    Err(LoadFault::Failed)
+}
+
+// The bytes of the file at a path, in at most so many bytes.
+fn read_file<R: rt::Files>(
+    rt: &R,
+    alloc: Global,
+    name: &str,
+    limit: u64,
+) -> Result<Vec<u8>, LoadFault>
+    ensures within { IfOk result (λ bytes. vec_len bytes ≤ limit) }
+{
+    match fs::open(rt, name) {
+        Ok(file) => {
+            let mut file = file;
+            read_up_to(alloc, &mut file, limit)
+        }
+        Err(e) => Err(load_fault(e.kind())),
+    }
+}
+
+// Writes over the file at a path.
+fn write_file<R: rt::Files>(rt: &R, name: &str, bytes: &[u8]) -> Result<(), SaveFault> {
+    match fs::create(rt, name) {
+        Ok(file) => match write_whole(&mut StdSink::new(file), bytes) {
+            Ok(()) => Ok(()),
+            Err(_) => Err(SaveFault::Failed),
+        },
+        Err(e) => Err(save_fault(e.kind())),
+    }
+}
+
+impl<'a, R: rt::Files> Files for DiskFiles<'a, R> {
+    ghost told = { λ _ _. Unknown };
+
+    ghost load_faults = { λ s. s.load_faults };
+
+    ghost save_faults = { λ s. s.save_faults };
+
+    ghost misses = { λ s. s.misses };
+
+    fn load(&mut self, alloc: Global, name: &str, limit: u64) -> Result<Vec<u8>, LoadFault> {
+        let loaded = read_file(self.rt, alloc, name, limit);
+        match loaded {
+            Err(LoadFault::Failed) => self.load_faults = self.load_faults.saturating_add(1),
+            Err(LoadFault::Absent) | Err(LoadFault::TooLong) => self.misses = self
+                .misses
+                .saturating_add(1),
+            _ => {}
+        }
+        loaded
+    }
+
+    fn save(&mut self, _alloc: Global, name: &str, bytes: &[u8]) -> Result<(), SaveFault> {
+        let saved = write_file(self.rt, name, bytes);
+        if let Err(SaveFault::Failed) = saved {
+            self.save_faults = self.save_faults.saturating_add(1);
+        }
+        saved
+    }
+}
