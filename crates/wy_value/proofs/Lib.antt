@@ -1,0 +1,12 @@
+pub mod NumberLemmas
+pub mod FieldLemmas
+pub mod Levels
+pub mod SeenLemmas
+pub mod ShownLemmas
+pub mod OffsetLemmas
+pub mod CharacterLemmas
+pub mod NameLemmas
+pub mod FlatExact
+pub mod TextExact
+pub mod Refusals
+pub mod ValueOf

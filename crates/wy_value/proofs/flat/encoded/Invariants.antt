@@ -1,0 +1,7 @@
+use Rattle.std.proofs.Common.{◌≡◌, take, string_bytes}
+use Rattle.std.specs.Str.{encode_utf8_all}
+use Rattle.wy_value.proofs.flat.encoded.Given as goal
+
+-- the text has the characters that were gone through
+abbrev pub invariant-loop-c : goal.invariant-loop-c
+invariant-loop-c l = string_bytes l.text ≡ encode_utf8_all (take l.c-index l.word)

@@ -1,0 +1,11 @@
+//! The shapes of records.
+use sqlite_items::Items;
+use wy_data::Name;
+
+/// The names of fields by their numbers, and the shapes by theirs: a shape is the list of its fields'
+/// numbers, by rising names. `IsShapes` says what a table owes.
+#[derive(Drop)]
+pub struct Shapes {
+    pub names: Items<Name>,
+    pub lists: Items<Items<u32>>,
+}
