@@ -1,0 +1,5 @@
+-- what public contracts cite
+pub mod Term
+pub mod Meaning
+pub mod Condition
+pub mod Nodes

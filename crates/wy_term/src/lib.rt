@@ -1,0 +1,19 @@
+//! Terms and formulas: what the conditions of a program and the steps of a certificate are written in.
+//!
+//! `node` has the forms of terms and formulas, each with its parts as numbers, and `terms` keeps nodes in a list, in
+//! which a number names a term. `cond` has a condition, which is hypotheses and a goal beside the kind of what is owed
+//! and the place where. What a term means, for whatever data its names stand for, and when a condition is true are
+//! definitions of `specs/`; no code computes them.
+#![tactic(auto)]
+
+mod cond;
+mod memory;
+mod node;
+mod terms;
+#[cfg(test)]
+mod tests;
+
+pub use cond::{Cond, CondKind};
+pub use memory::NoMemory;
+pub use node::{Kind, Node};
+pub use terms::Terms;
