@@ -1,0 +1,6 @@
+pub mod PartsLemmas
+pub mod Ring
+pub mod OptionLemmas
+pub mod FormLemmas
+pub mod SumLemmas
+pub mod Sound
