@@ -1,0 +1,5 @@
+pub mod Sums
+pub mod Counts
+pub mod Agreement
+pub mod Keeps
+pub mod Told
