@@ -1,0 +1,17 @@
+pub mod ScanningLemmas
+pub mod DigitLemmas
+pub mod SourceLemmas
+pub mod SpellingLemmas
+pub mod SumLemmas
+pub mod CertificateLemmas
+pub mod CertificateFileLemmas
+pub mod ArgumentLemmas
+pub mod ConditionLemmas
+pub mod OffsetLemmas
+pub mod VerdictLemmas
+pub mod WordLemmas
+pub mod RunLemmas
+pub mod EndLemmas
+pub mod ExclusionLemmas
+pub mod SoundnessLemmas
+pub mod CauseLemmas

@@ -1,0 +1,106 @@
+-- What does the call answer, and what do the sinks take?
+use Rattle.std.specs.Prelude.{◌≡◌, ◌≢◌, ◌⊎◌, ℕ, List, Option, ℤ}
+use Rattle.wy_port.specs.Count.{Rose}
+use Rattle.wy_port.specs.Taken.{with_taken, TookFront}
+use Rattle.wy_port.specs.Told.Told.{Unknown}
+use Rattle.wy_port.specs.declared.files.LoadFault.{LoadFault}
+use Rattle.wy_port.specs.declared.files.LoadFault.TheVariants.{Absent, TooLong, Failed, NoMemory as NoMemoryToLoad}
+use Rattle.wy_top.specs.declared.refusal.Refusal.{Refusal}
+use Rattle.wy_top.specs.declared.refusal.Refusal.TheVariants.{Source, SourceNotYet, Certificate, CertificateNotYet, Unproved, NoEntry, ArgumentNotYet, RequiresFails, NoMemory}
+use Rattle.wy_top.specs.Outcome.{Setting, Outcome, no_command, refused, returned, Happens, IsAccepted, Starts}
+use Rattle.wy_top.specs.CommandLine.{Named, Commands}
+use Rattle.wy_top.specs.Diagnostics.{status_of, out_text, err_text}
+use Rattle.wy_top.specs.Meaning.{IsInt, Ensures, returned_by}
+use Rattle.wy_top.specs.Thin.{Program}
+
+-- the bytes that the two sinks took and their counts of faults, before the call and after it
+pub record Sinks : Type 0 where
+  pub out_before : Option (List ℕ)
+  pub out_after : Option (List ℕ)
+  pub out_faults_before : ℕ
+  pub out_faults_after : ℕ
+  pub err_before : Option (List ℕ)
+  pub err_after : Option (List ℕ)
+  pub err_faults_before : ℕ
+  pub err_faults_after : ℕ
+
+-- the status is that of the end, and the sinks took its texts whole
+pub record ShowsWhole (o : Outcome) (status : ℕ) (k : Sinks) : Type 0 where
+  pub answer : status ≡ status_of o
+  pub out : k.out_after ≡ with_taken k.out_before (out_text o)
+  pub err : k.err_after ≡ with_taken k.err_before (err_text o)
+
+-- the status is 5: a sink counted a fault, and each took a front of its text
+pub record ShowsFront (o : Outcome) (status : ℕ) (k : Sinks) : Type 0 where
+  pub answer : status ≡ 5
+  pub fault : Rose k.out_faults_before k.out_faults_after ⊎ Rose k.err_faults_before k.err_faults_after
+  pub out : TookFront k.out_before k.out_after (out_text o)
+  pub err : TookFront k.err_before k.err_after (err_text o)
+
+-- the call comes to an end, and shows it
+pub record Ends (words : List (List ℕ)) (s : Setting) (status : ℕ) (k : Sinks) : Type 0 where
+  pub outcome : Outcome
+  pub happens : Happens words s outcome
+  pub shown : ShowsWhole outcome status k ⊎ ShowsFront outcome status k
+
+-- ---- exactly where each end comes
+
+-- the fault is no failure of the outside and no want of memory
+abbrev pub IsPlain : LoadFault → Type 0
+IsPlain Absent = Unit {0}
+IsPlain TooLong = Unit {0}
+IsPlain Failed = ⊥
+IsPlain NoMemoryToLoad = ⊥
+
+-- the refusal follows from words and files, and is no failure of the outside and no want of memory
+abbrev pub IsDue : Refusal → Type 0
+IsDue (Source fault) = IsPlain fault
+IsDue SourceNotYet = Unit {0}
+IsDue (Certificate fault) = IsPlain fault
+IsDue CertificateNotYet = Unit {0}
+IsDue (Unproved verdicts place) = Unit {0}
+IsDue NoEntry = Unit {0}
+IsDue ArgumentNotYet = Unit {0}
+IsDue RequiresFails = Unit {0}
+IsDue NoMemory = ⊥
+
+-- the end follows from words and files
+abbrev pub IsDetermined : Outcome → Type 0
+IsDetermined no_command = Unit {0}
+IsDetermined (refused n reason) = IsDue reason
+IsDetermined (returned n r) = Unit {0}
+
+-- each file is told
+abbrev pub IsTold : Setting → Type 0
+IsTold s = (name : List ℕ) → s.told name ≢ Unknown
+
+-- of the ends that follow from words and told files, at most one happens
+abbrev pub EndsExclude : Type 0
+EndsExclude = (words : List (List ℕ)) (s : Setting) (a b : Outcome) → IsTold s → IsDetermined a → IsDetermined b → Happens words s a → Happens words s b → a ≡ b
+
+-- where files are told and this end happens, it is shown whole, but for a failed load, a failed sink and want of memory
+abbrev pub IsExact : List (List ℕ) → Setting → ℕ → Sinks → Type 0
+IsExact words s status k = IsTold s → (o : Outcome) → IsDetermined o → Happens words s o → ShowsWhole o status k ⊎ (status ≡ 4) ⊎ (status ≡ 5) ⊎ (status ≡ 9)
+
+-- no end with another status than 0 that follows from words and files happens
+abbrev pub NothingRefuses : List (List ℕ) → Setting → Type 0
+NothingRefuses words s = (o : Outcome) → IsDetermined o → Happens words s o → status_of o ≡ 0
+
+-- where nothing refuses the run, the status is 0, but for a failed load, a failed sink and want of memory
+abbrev pub SucceedsElse : List (List ℕ) → Setting → ℕ → Type 0
+SucceedsElse words s status = NothingRefuses words s → (status ≡ 0) ⊎ (status ≡ 4) ⊎ (status ≡ 5) ⊎ (status ≡ 9)
+
+-- ---- what status 0 promises
+
+-- an accepted program ran on an argument that meets its requires clause; its result is an `int`, meets its ensures clause, and was printed
+pub record IsDone (words : List (List ℕ)) (s : Setting) (k : Sinks) : Type 0 where
+  pub names : Named
+  pub program : Program
+  pub argument : ℤ
+  pub command : Commands words names
+  pub accepted : IsAccepted s names program
+  pub starts : Starts names program argument
+  pub argument_is : IsInt argument
+  pub result_is : IsInt (returned_by program argument)
+  pub ensured : Ensures program argument (returned_by program argument)
+  pub printed : k.out_after ≡ with_taken k.out_before (out_text (returned names (returned_by program argument)))

@@ -1,0 +1,113 @@
+//! The order of a run: from what the words name to the number that the program returns.
+ghost use Rattle.std.specs.Prelude.{◌≡◌, ◌≤◌, ◌↔◌, ℤ, IsTrue, MatchResult};
+ghost use Rattle.wy_top.specs.Operands.{named_by};
+ghost use Rattle.wy_top.specs.Outcome.{Refuses, Returns, HasCertificates, Starts, StartFails};
+ghost use Rattle.wy_top.specs.Steps.{setting, CertificatesFail, ProofFails};
+ghost use Rattle.wy_top.specs.CertificateView.{seen_sums};
+ghost use Rattle.wy_top.specs.Verdicts.{verdicts_on, all_supplied};
+ghost use Rattle.wy_top.specs.Meaning.{returned_by};
+ghost use Rattle.wy_top.specs.Thin.{IsThin};
+ghost use Rattle.wy_top.specs.Seen.{seen};
+
+use crate::certificate::{self, CertificateFault, Certificates};
+use crate::command_line::Operands;
+use crate::machine::{meets, returned};
+use crate::refusal::Refusal;
+use crate::thin::{Thin, sum_place};
+use crate::verdict::judge;
+use crate::{argument, source};
+use std::alloc::Global;
+use wy_port::Files;
+
+/// The most bytes of a source file.
+const SOURCE_LIMIT: u64 = 1_048_576;
+
+/// The most bytes of a certificate file.
+const CERTIFICATE_LIMIT: u64 = 16_777_216;
+
+// The certificates of the named file, or none.
+fn certificates<F: Files>(alloc: Global, name: &str, files: &mut F) -> Result<Certificates, Refusal>
+    ensures gives { MatchResult result
+        (λ c. HasCertificates (setting (F.told files.old) (F.load_faults files.old) (F.load_faults files.new) (F.misses files.old) (F.misses files.new)) name.now (seen_sums c))
+        (CertificatesFail (setting (F.told files.old) (F.load_faults files.old) (F.load_faults files.new) (F.misses files.old) (F.misses files.new)) name.now) }
+    ensures faults { F.load_faults files.old ≤ F.load_faults files.new }
+    ensures misses { F.misses files.old ≤ F.misses files.new }
+{
+    if name == "none" {
+        return Ok(Certificates {
+            first: None,
+            second: None,
+            third: None,
+        });
+    }
+    let bytes = match files.load(alloc, name, CERTIFICATE_LIMIT) {
+        Ok(bytes) => bytes,
+        Err(fault) => return Err(Refusal::Certificate(fault)),
+    };
+    match certificate::read(alloc, &bytes) {
+        Ok(certificates) => Ok(certificates),
+        Err(CertificateFault::NotYet) => Err(Refusal::CertificateNotYet),
+        Err(CertificateFault::NoMemory) => Err(Refusal::NoMemory),
+    }
+}
+
+// That each condition of the program has a valid certificate.
+fn accept(alloc: Global, thin: &Thin<'_>, certificates: Certificates) -> Result<(), Refusal>
+    requires { IsThin (seen thin.now) }
+    ensures gives { MatchResult result
+        (λ _. verdicts_on (seen thin.now) (seen_sums certificates) ≡ all_supplied)
+        (ProofFails (seen thin.now) (seen_sums certificates)) }
+{
+    let verdicts = judge(alloc, thin, certificates)?;
+    if !verdicts.are_supplied() {
+        return Err(Refusal::Unproved(verdicts, sum_place(thin)));
+    }
+    Ok(())
+}
+
+// Whether the program's function has this name.
+fn has_entry(thin: &Thin<'_>, name: &str) -> bool
+    ensures value { IsTrue result ↔ (name.now ≡ (seen thin.now).name) }
+{
+    name == thin.name
+}
+
+// What the program returns, where the words start it.
+fn start(operands: &Operands<'_>, thin: &Thin<'_>) -> Result<i128, Refusal>
+    requires { IsThin (seen thin.now) }
+    ensures gives { MatchResult result
+        (λ r. (x : ℤ) × Starts (named_by operands.now) (seen thin.now) x × (r ≡ returned_by (seen thin.now) x))
+        (StartFails (named_by operands.now) (seen thin.now)) }
+{
+    if !has_entry(thin, operands.name) {
+        return Err(Refusal::NoEntry);
+    }
+    let argument = match argument::read(operands.args.as_bytes()) {
+        Ok(argument) => argument,
+        Err(_) => return Err(Refusal::ArgumentNotYet),
+    };
+    if !meets(thin, argument) {
+        return Err(Refusal::RequiresFails);
+    }
+    Ok(returned(thin, argument))
+}
+
+/// Runs what the words name: loads, reads, judges and starts, in this order, and answers the number that the
+/// program returns, or the first refusal.
+pub fn run<F: Files>(alloc: Global, operands: &Operands<'_>, files: &mut F) -> Result<i128, Refusal>
+    ensures gives { MatchResult result
+        (Returns (setting (F.told files.old) (F.load_faults files.old) (F.load_faults files.new) (F.misses files.old) (F.misses files.new)) (named_by operands.now))
+        (Refuses (setting (F.told files.old) (F.load_faults files.old) (F.load_faults files.new) (F.misses files.old) (F.misses files.new)) (named_by operands.now)) }
+{
+    let bytes = match files.load(alloc, operands.source, SOURCE_LIMIT) {
+        Ok(bytes) => bytes,
+        Err(fault) => return Err(Refusal::Source(fault)),
+    };
+    let thin = match source::read(&bytes) {
+        Ok(thin) => thin,
+        Err(_) => return Err(Refusal::SourceNotYet),
+    };
+    let certificates = certificates(alloc, operands.cert, files)?;
+    accept(alloc, &thin, certificates)?;
+    start(operands, &thin)
+}
