@@ -7,8 +7,8 @@ use Rattle.wy_port.specs.declared.files.LoadFault.TheVariants.{Absent, TooLong, 
 use Rattle.wy_top.specs.declared.refusal.Refusal.TheVariants.{Source, SourceNotYet, Certificate, CertificateNotYet, Unproved, NoEntry, ArgumentNotYet, RequiresFails, NoMemory}
 use Rattle.wy_top.specs.Diagnostics.{status_of, load_status, out_text}
 use Rattle.wy_top.specs.Meaning.{IsInt}
-use Rattle.wy_top.specs.Outcome.{Setting, Outcome, no_command, refused, returned, Happens, Returns, LoadFails, source_limit, cert_limit}
-use Rattle.wy_top.specs.Run.{Sinks, ShowsWhole, ShowsFront, Ends, IsDetermined, IsPlain, IsExact, SucceedsElse, IsDone}
+use Rattle.wy_top.specs.Outcome.{Setting, Outcome, no_command, refused, returned, Happens, Returns}
+use Rattle.wy_top.specs.Run.{Sinks, ShowsWhole, ShowsFront, Ends, IsDetermined, IsPlain, IsExact, SucceedsElse, IsDone, HasCause, Runs}
 use Rattle.wy_top.specs.Verdicts.{SuppliedImpliesTrue}
 use Rattle.wy_top.proofs.ExclusionLemmas.{ends_exclude}
 use Rattle.wy_top.proofs.SoundnessLemmas.{is_right}
@@ -38,7 +38,7 @@ determined_or (returned n r) = inl tt
 abbrev Else : Type 0 → ℕ → Type 0
 Else P status = P ⊎ (status ≡ 4) ⊎ (status ≡ 5) ⊎ (status ≡ 9)
 
-pub is_exact : (words : List (List ℕ)) (s : Setting) (status : ℕ) (k : Sinks) → Ends words s status k → IsExact words s status k
+is_exact : (words : List (List ℕ)) (s : Setting) (status : ℕ) (k : Sinks) → Ends words s status k → IsExact words s status k
 is_exact words s status k ends told o due happens = by_showing ends.shown
   where
     by_kind : ShowsWhole ends.outcome status k → IsDetermined ends.outcome ⊎ ((status_of ends.outcome ≡ 4) ⊎ (status_of ends.outcome ≡ 9)) → Else (ShowsWhole o status k) status
@@ -50,7 +50,7 @@ is_exact words s status k ends told o due happens = by_showing ends.shown
     by_showing (inl whole) = by_kind whole (determined_or ends.outcome)
     by_showing (inr front) = inr (inr (inl front.answer))
 
-pub succeeds_else : (words : List (List ℕ)) (s : Setting) (status : ℕ) (k : Sinks) → Ends words s status k → SucceedsElse words s status
+succeeds_else : (words : List (List ℕ)) (s : Setting) (status : ℕ) (k : Sinks) → Ends words s status k → SucceedsElse words s status
 succeeds_else words s status k ends nothing = by_showing ends.shown
   where
     by_kind : status ≡ status_of ends.outcome → IsDetermined ends.outcome ⊎ ((status_of ends.outcome ≡ 4) ⊎ (status_of ends.outcome ≡ 9)) → Else (status ≡ 0) status
@@ -62,33 +62,38 @@ succeeds_else words s status k ends nothing = by_showing ends.shown
     by_showing (inl whole) = by_kind whole.answer (determined_or ends.outcome)
     by_showing (inr front) = inr (inr (inl front.answer))
 
--- ---- status 4
+-- ---- the other statuses
 
-load_rose : (s : Setting) (name : List ℕ) (limit : ℕ) (fault : LoadFault) → load_status fault ≡ 4 → LoadFails s name limit fault → Rose s.faults_before s.faults_after
-load_rose s name limit Absent e fails = absurd (omega (arith, e))
-load_rose s name limit TooLong e fails = absurd (omega (arith, e))
-load_rose s name limit Failed e fails = fails
-load_rose s name limit NoMemoryToLoad e fails = absurd (omega (arith, e))
+-- the cause of the status of an end is that of the end
+cause_of : (words : List (List ℕ)) (s : Setting) (o : Outcome) → Happens words s o → HasCause words s (status_of o)
+cause_of words s no_command happens = record { not_accepted = λ e. absurd (omega (arith, e)); no_command = λ e. happens; absent = λ e. absurd (omega (arith, e)); load_failed = λ e. absurd (omega (arith, e)); bad_certificates = λ e. absurd (omega (arith, e)); not_started = λ e. absurd (omega (arith, e)); too_long = λ e. absurd (omega (arith, e)) }
+cause_of words s (refused n (Source Absent)) happens = record { not_accepted = λ e. absurd (omega (arith, e)); no_command = λ e. absurd (omega (arith, e)); absent = λ e. record { names = n; command = happens.0; lacks = inl happens.1 }; load_failed = λ e. absurd (omega (arith, e)); bad_certificates = λ e. absurd (omega (arith, e)); not_started = λ e. absurd (omega (arith, e)); too_long = λ e. absurd (omega (arith, e)) }
+cause_of words s (refused n (Source TooLong)) happens = record { not_accepted = λ e. absurd (omega (arith, e)); no_command = λ e. absurd (omega (arith, e)); absent = λ e. absurd (omega (arith, e)); load_failed = λ e. absurd (omega (arith, e)); bad_certificates = λ e. absurd (omega (arith, e)); not_started = λ e. absurd (omega (arith, e)); too_long = λ e. record { names = n; command = happens.0; lacks = inl happens.1 } }
+cause_of words s (refused n (Source Failed)) happens = record { not_accepted = λ e. absurd (omega (arith, e)); no_command = λ e. absurd (omega (arith, e)); absent = λ e. absurd (omega (arith, e)); load_failed = λ e. happens.1; bad_certificates = λ e. absurd (omega (arith, e)); not_started = λ e. absurd (omega (arith, e)); too_long = λ e. absurd (omega (arith, e)) }
+cause_of words s (refused n (Source NoMemoryToLoad)) happens = record { not_accepted = λ e. absurd (omega (arith, e)); no_command = λ e. absurd (omega (arith, e)); absent = λ e. absurd (omega (arith, e)); load_failed = λ e. absurd (omega (arith, e)); bad_certificates = λ e. absurd (omega (arith, e)); not_started = λ e. absurd (omega (arith, e)); too_long = λ e. absurd (omega (arith, e)) }
+cause_of words s (refused n SourceNotYet) happens = record { not_accepted = λ e. record { names = n; command = happens.0; cause = inl happens.1 }; no_command = λ e. absurd (omega (arith, e)); absent = λ e. absurd (omega (arith, e)); load_failed = λ e. absurd (omega (arith, e)); bad_certificates = λ e. absurd (omega (arith, e)); not_started = λ e. absurd (omega (arith, e)); too_long = λ e. absurd (omega (arith, e)) }
+cause_of words s (refused n (Certificate Absent)) happens = record { not_accepted = λ e. absurd (omega (arith, e)); no_command = λ e. absurd (omega (arith, e)); absent = λ e. record { names = n; command = happens.0; lacks = inr happens.1 }; load_failed = λ e. absurd (omega (arith, e)); bad_certificates = λ e. absurd (omega (arith, e)); not_started = λ e. absurd (omega (arith, e)); too_long = λ e. absurd (omega (arith, e)) }
+cause_of words s (refused n (Certificate TooLong)) happens = record { not_accepted = λ e. absurd (omega (arith, e)); no_command = λ e. absurd (omega (arith, e)); absent = λ e. absurd (omega (arith, e)); load_failed = λ e. absurd (omega (arith, e)); bad_certificates = λ e. absurd (omega (arith, e)); not_started = λ e. absurd (omega (arith, e)); too_long = λ e. record { names = n; command = happens.0; lacks = inr happens.1 } }
+cause_of words s (refused n (Certificate Failed)) happens = record { not_accepted = λ e. absurd (omega (arith, e)); no_command = λ e. absurd (omega (arith, e)); absent = λ e. absurd (omega (arith, e)); load_failed = λ e. happens.1.fails; bad_certificates = λ e. absurd (omega (arith, e)); not_started = λ e. absurd (omega (arith, e)); too_long = λ e. absurd (omega (arith, e)) }
+cause_of words s (refused n (Certificate NoMemoryToLoad)) happens = record { not_accepted = λ e. absurd (omega (arith, e)); no_command = λ e. absurd (omega (arith, e)); absent = λ e. absurd (omega (arith, e)); load_failed = λ e. absurd (omega (arith, e)); bad_certificates = λ e. absurd (omega (arith, e)); not_started = λ e. absurd (omega (arith, e)); too_long = λ e. absurd (omega (arith, e)) }
+cause_of words s (refused n CertificateNotYet) happens = record { not_accepted = λ e. absurd (omega (arith, e)); no_command = λ e. absurd (omega (arith, e)); absent = λ e. absurd (omega (arith, e)); load_failed = λ e. absurd (omega (arith, e)); bad_certificates = λ e. record { names = n; command = happens.0; cause = happens.1 }; not_started = λ e. absurd (omega (arith, e)); too_long = λ e. absurd (omega (arith, e)) }
+cause_of words s (refused n (Unproved verdicts place)) happens = record { not_accepted = λ e. record { names = n; command = happens.0; cause = inr (verdicts, place, happens.1) }; no_command = λ e. absurd (omega (arith, e)); absent = λ e. absurd (omega (arith, e)); load_failed = λ e. absurd (omega (arith, e)); bad_certificates = λ e. absurd (omega (arith, e)); not_started = λ e. absurd (omega (arith, e)); too_long = λ e. absurd (omega (arith, e)) }
+cause_of words s (refused n NoEntry) happens = record { not_accepted = λ e. absurd (omega (arith, e)); no_command = λ e. absurd (omega (arith, e)); absent = λ e. absurd (omega (arith, e)); load_failed = λ e. absurd (omega (arith, e)); bad_certificates = λ e. absurd (omega (arith, e)); not_started = λ e. record { names = n; command = happens.0; reason = NoEntry; cause = happens.1 }; too_long = λ e. absurd (omega (arith, e)) }
+cause_of words s (refused n ArgumentNotYet) happens = record { not_accepted = λ e. absurd (omega (arith, e)); no_command = λ e. absurd (omega (arith, e)); absent = λ e. absurd (omega (arith, e)); load_failed = λ e. absurd (omega (arith, e)); bad_certificates = λ e. absurd (omega (arith, e)); not_started = λ e. record { names = n; command = happens.0; reason = ArgumentNotYet; cause = happens.1 }; too_long = λ e. absurd (omega (arith, e)) }
+cause_of words s (refused n RequiresFails) happens = record { not_accepted = λ e. absurd (omega (arith, e)); no_command = λ e. absurd (omega (arith, e)); absent = λ e. absurd (omega (arith, e)); load_failed = λ e. absurd (omega (arith, e)); bad_certificates = λ e. absurd (omega (arith, e)); not_started = λ e. record { names = n; command = happens.0; reason = RequiresFails; cause = happens.1 }; too_long = λ e. absurd (omega (arith, e)) }
+cause_of words s (refused n NoMemory) happens = record { not_accepted = λ e. absurd (omega (arith, e)); no_command = λ e. absurd (omega (arith, e)); absent = λ e. absurd (omega (arith, e)); load_failed = λ e. absurd (omega (arith, e)); bad_certificates = λ e. absurd (omega (arith, e)); not_started = λ e. absurd (omega (arith, e)); too_long = λ e. absurd (omega (arith, e)) }
+cause_of words s (returned n r) happens = record { not_accepted = λ e. absurd (omega (arith, e)); no_command = λ e. absurd (omega (arith, e)); absent = λ e. absurd (omega (arith, e)); load_failed = λ e. absurd (omega (arith, e)); bad_certificates = λ e. absurd (omega (arith, e)); not_started = λ e. absurd (omega (arith, e)); too_long = λ e. absurd (omega (arith, e)) }
 
-four_is_loading : (words : List (List ℕ)) (s : Setting) (o : Outcome) → Happens words s o → status_of o ≡ 4 → Rose s.faults_before s.faults_after
-four_is_loading words s no_command happens e = absurd (omega (arith, e))
-four_is_loading words s (refused n (Source fault)) happens e = load_rose s n.source source_limit fault e happens.1
-four_is_loading words s (refused n SourceNotYet) happens e = absurd (omega (arith, e))
-four_is_loading words s (refused n (Certificate fault)) happens e = load_rose s n.cert cert_limit fault e happens.1.fails
-four_is_loading words s (refused n CertificateNotYet) happens e = absurd (omega (arith, e))
-four_is_loading words s (refused n (Unproved verdicts place)) happens e = absurd (omega (arith, e))
-four_is_loading words s (refused n NoEntry) happens e = absurd (omega (arith, e))
-four_is_loading words s (refused n ArgumentNotYet) happens e = absurd (omega (arith, e))
-four_is_loading words s (refused n RequiresFails) happens e = absurd (omega (arith, e))
-four_is_loading words s (refused n NoMemory) happens e = absurd (omega (arith, e))
-four_is_loading words s (returned n r) happens e = absurd (omega (arith, e))
+-- at status 5 no other status is
+at_five : (words : List (List ℕ)) (s : Setting) → HasCause words s 5
+at_five words s = record { not_accepted = λ e. absurd (omega (arith, e)); no_command = λ e. absurd (omega (arith, e)); absent = λ e. absurd (omega (arith, e)); load_failed = λ e. absurd (omega (arith, e)); bad_certificates = λ e. absurd (omega (arith, e)); not_started = λ e. absurd (omega (arith, e)); too_long = λ e. absurd (omega (arith, e)) }
 
-pub load_cause : (words : List (List ℕ)) (s : Setting) (status : ℕ) (k : Sinks) → Ends words s status k → status ≡ 4 → Rose s.faults_before s.faults_after
-load_cause words s status k ends four = by_showing ends.shown
+has_cause : (words : List (List ℕ)) (s : Setting) (status : ℕ) (k : Sinks) → Ends words s status k → HasCause words s status
+has_cause words s status k ends = by_showing ends.shown
   where
-    by_showing : ShowsWhole ends.outcome status k ⊎ ShowsFront ends.outcome status k → Rose s.faults_before s.faults_after
-    by_showing (inl whole) = four_is_loading words s ends.outcome ends.happens (sym whole.answer ∙ four)
-    by_showing (inr front) = absurd (omega (arith, front.answer, four))
+    by_showing : ShowsWhole ends.outcome status k ⊎ ShowsFront ends.outcome status k → HasCause words s status
+    by_showing (inl whole) = subst (HasCause words s) (sym whole.answer) (cause_of words s ends.outcome ends.happens)
+    by_showing (inr front) = subst (HasCause words s) (sym front.answer) (at_five words s)
 
 -- ---- status 5
 
@@ -111,7 +116,7 @@ none_is_five (refused n RequiresFails) e = omega (arith, e)
 none_is_five (refused n NoMemory) e = omega (arith, e)
 none_is_five (returned n r) e = omega (arith, e)
 
-pub sink_cause : (words : List (List ℕ)) (s : Setting) (status : ℕ) (k : Sinks) → Ends words s status k → status ≡ 5 → Rose k.out_faults_before k.out_faults_after ⊎ Rose k.err_faults_before k.err_faults_after
+sink_cause : (words : List (List ℕ)) (s : Setting) (status : ℕ) (k : Sinks) → Ends words s status k → status ≡ 5 → Rose k.out_faults_before k.out_faults_after ⊎ Rose k.err_faults_before k.err_faults_after
 sink_cause words s status k ends five = by_showing ends.shown
   where
     by_showing : ShowsWhole ends.outcome status k ⊎ ShowsFront ends.outcome status k → Rose k.out_faults_before k.out_faults_after ⊎ Rose k.err_faults_before k.err_faults_after
@@ -157,9 +162,22 @@ done_by words s k sound (returned n r) happens e out =
       printed = out ∙ ap (λ (z : ℤ). with_taken k.out_before (out_text (returned n z))) ran.value;
     }
 
-pub is_done : (words : List (List ℕ)) (s : Setting) (status : ℕ) (k : Sinks) → SuppliedImpliesTrue → Ends words s status k → status ≡ 0 → IsDone words s k
+is_done : (words : List (List ℕ)) (s : Setting) (status : ℕ) (k : Sinks) → SuppliedImpliesTrue → Ends words s status k → status ≡ 0 → IsDone words s k
 is_done words s status k sound ends zero = by_showing ends.shown
   where
     by_showing : ShowsWhole ends.outcome status k ⊎ ShowsFront ends.outcome status k → IsDone words s k
     by_showing (inl whole) = done_by words s k sound ends.outcome ends.happens (sym whole.answer ∙ zero) whole.out
     by_showing (inr front) = absurd (omega (arith, front.answer, zero))
+
+-- ---- the statement
+
+-- where the call ends so, the whole statement holds
+pub runs : (words : List (List ℕ)) (s : Setting) (status : ℕ) (k : Sinks) → SuppliedImpliesTrue → Ends words s status k → Runs words s status k
+runs words s status k sound ends = record {
+  ends = ends;
+  cause = has_cause words s status k ends;
+  sink_cause = sink_cause words s status k ends;
+  done = is_done words s status k sound ends;
+  exact = is_exact words s status k ends;
+  success = succeeds_else words s status k ends;
+}

@@ -7,11 +7,13 @@ use Rattle.wy_port.specs.declared.files.LoadFault.{LoadFault}
 use Rattle.wy_port.specs.declared.files.LoadFault.TheVariants.{Absent, TooLong, Failed, NoMemory as NoMemoryToLoad}
 use Rattle.wy_top.specs.declared.refusal.Refusal.{Refusal}
 use Rattle.wy_top.specs.declared.refusal.Refusal.TheVariants.{Source, SourceNotYet, Certificate, CertificateNotYet, Unproved, NoEntry, ArgumentNotYet, RequiresFails, NoMemory}
-use Rattle.wy_top.specs.Outcome.{Setting, Outcome, no_command, refused, returned, Happens, IsAccepted, Starts}
-use Rattle.wy_top.specs.CommandLine.{Named, Commands}
+use Rattle.wy_top.specs.Outcome.{Setting, Outcome, no_command, refused, returned, Happens, LoadFails, HasNoProgram, LacksCertificateFile, HasNoCertificates, IsUnproved, DoesNotStart, IsAccepted, Starts, source_limit}
+use Rattle.wy_top.specs.CommandLine.{Named, Commands, IsNoCommand}
 use Rattle.wy_top.specs.Diagnostics.{status_of, out_text, err_text}
 use Rattle.wy_top.specs.Meaning.{IsInt, Ensures, returned_by}
 use Rattle.wy_top.specs.Thin.{Program}
+use Rattle.wy_top.specs.declared.thin.Place.{Place}
+use Rattle.wy_top.specs.declared.verdict.Verdicts.{Verdicts}
 
 -- the bytes that the two sinks took and their counts of faults, before the call and after it
 pub record Sinks : Type 0 where
@@ -104,3 +106,51 @@ pub record IsDone (words : List (List ℕ)) (s : Setting) (k : Sinks) : Type 0 w
   pub result_is : IsInt (returned_by program argument)
   pub ensured : Ensures program argument (returned_by program argument)
   pub printed : k.out_after ≡ with_taken k.out_before (out_text (returned names (returned_by program argument)))
+
+-- ---- where each status comes
+
+-- the words are a command, and one of its two files is not loaded, for this reason
+pub record LacksFile (words : List (List ℕ)) (s : Setting) (fault : LoadFault) : Type 0 where
+  pub names : Named
+  pub command : Commands words names
+  pub lacks : LoadFails s names.source source_limit fault ⊎ LacksCertificateFile s names fault
+
+-- the words are a command, and its source is no thin program, or one with a condition that lacks a valid certificate
+pub record IsNotAccepted (words : List (List ℕ)) (s : Setting) : Type 0 where
+  pub names : Named
+  pub command : Commands words names
+  pub cause : HasNoProgram s names.source ⊎ ((verdicts : Verdicts) × (place : Place) × IsUnproved s names verdicts place)
+
+-- the words are a command, and its certificate file has no certificates of the thin form
+pub record HasBadCertificates (words : List (List ℕ)) (s : Setting) : Type 0 where
+  pub names : Named
+  pub command : Commands words names
+  pub cause : HasNoCertificates s names
+
+-- the words are a command whose program was accepted, and the entry, the argument or the requires clause stops it
+pub record IsNotStarted (words : List (List ℕ)) (s : Setting) : Type 0 where
+  pub names : Named
+  pub command : Commands words names
+  pub reason : Refusal
+  pub cause : DoesNotStart s names reason
+
+-- the cause of each status but 0, 5 and 9, of which 9 has none
+pub record HasCause (words : List (List ℕ)) (s : Setting) (status : ℕ) : Type 0 where
+  pub not_accepted : status ≡ 1 → IsNotAccepted words s
+  pub no_command : status ≡ 2 → IsNoCommand words
+  pub absent : status ≡ 3 → LacksFile words s Absent
+  pub load_failed : status ≡ 4 → Rose s.faults_before s.faults_after
+  pub bad_certificates : status ≡ 6 → HasBadCertificates words s
+  pub not_started : status ≡ 7 → IsNotStarted words s
+  pub too_long : status ≡ 10 → LacksFile words s TooLong
+
+-- ---- the statement
+
+-- What the call on these words comes to. Some end happens, by its whole cause, and the status and the sinks show it; each status has its cause; status 0 promises a right result; and each end comes exactly where it is due.
+pub record Runs (words : List (List ℕ)) (s : Setting) (status : ℕ) (k : Sinks) : Type 0 where
+  pub ends : Ends words s status k
+  pub cause : HasCause words s status
+  pub sink_cause : status ≡ 5 → Rose k.out_faults_before k.out_faults_after ⊎ Rose k.err_faults_before k.err_faults_after
+  pub done : status ≡ 0 → IsDone words s k
+  pub exact : IsExact words s status k
+  pub success : SucceedsElse words s status

@@ -1,5 +1,5 @@
 //! The commands: from words to a status and to what the sinks take.
-ghost use Rattle.std.specs.Prelude.{◌≡◌, ◌≤◌, ◌++◌, ◌∷◌, ◌⊎◌, []};
+ghost use Rattle.std.specs.Prelude.{◌≡◌, ◌≤◌, ◌++◌, ◌∷◌, ℕ, List, ◌⊎◌, []};
 ghost use Rattle.std.specs.Fmt.{signed_decimal};
 ghost use Rattle.wy_port.specs.Count.{Rose};
 ghost use Rattle.wy_top.specs.CommandLine.{plain_words};
@@ -8,7 +8,7 @@ ghost use Rattle.wy_top.specs.Steps.{setting, sinks};
 ghost use Rattle.wy_top.specs.Diagnostics.{refusal_status, refusal_text};
 ghost use Rattle.wy_top.specs.Reporting.{Reports, ReportsIfMemory};
 ghost use Rattle.wy_top.specs.Outcome.{returned, no_command, refused};
-ghost use Rattle.wy_top.specs.Run.{Ends, IsExact, SucceedsElse, IsDone};
+ghost use Rattle.wy_top.specs.Run.{Runs};
 
 use crate::command_line::{Operands, read_words};
 use crate::diagnostics::{WORDS_REFUSED, WORDS_STATUS, number_line, status, text};
@@ -73,6 +73,8 @@ fn print<O: Sink>(alloc: Global, number: i128, out: &mut O) -> u8
 /// | 6 | the certificate file is of no thin form |
 /// | 7 | no such entry, no argument, or the requires clause is false of it |
 /// | 9 | want of memory |
+///
+/// What a sink took is a front of the text that the end of the call has for it, and all of it unless the status is 5.
 pub fn run_words<F: Files, O: Sink, E: Sink>(
     alloc: Global,
     words: &[String],
@@ -80,25 +82,14 @@ pub fn run_words<F: Files, O: Sink, E: Sink>(
     out: &mut O,
     err: &mut E,
 ) -> u8
-    // Some end happens, by its whole cause, and the status and the sinks show it: the sinks took the texts of that end,
-    // or fronts of them after a fault.
-    ensures ends { Ends (plain_words words.now) (setting (F.told files.old) (F.load_faults files.old) (F.load_faults files.new) (F.misses files.old) (F.misses files.new)) result
+    ensures runs { Runs (plain_words words.now)
+        (setting (F.told files.old) (F.load_faults files.old) (F.load_faults files.new) (F.misses files.old) (F.misses files.new))
+        result
         (sinks (O.taken out.old) (O.taken out.new) (O.faults out.old) (O.faults out.new) (E.taken err.old) (E.taken err.new) (E.faults err.old) (E.faults err.new)) }
 
-    // Status 0: the program was accepted and ran on an argument that meets its requires clause, and its result is an
-    // `int` that meets its ensures clause.
-    ensures done { result ≡ 0 → IsDone (plain_words words.now) (setting (F.told files.old) (F.load_faults files.old) (F.load_faults files.new) (F.misses files.old) (F.misses files.new))
-        (sinks (O.taken out.old) (O.taken out.new) (O.faults out.old) (O.faults out.new) (E.taken err.old) (E.taken err.new) (E.faults err.old) (E.faults err.new)) }
-
-    // Where files are told and an end happens that follows from words and files, its status and texts come, unless the
-    // status is 4, 5 or 9. Where no such end but success happens, the status is 0, 4, 5 or 9.
-    ensures exact { IsExact (plain_words words.now) (setting (F.told files.old) (F.load_faults files.old) (F.load_faults files.new) (F.misses files.old) (F.misses files.new)) result
-        (sinks (O.taken out.old) (O.taken out.new) (O.faults out.old) (O.faults out.new) (E.taken err.old) (E.taken err.new) (E.faults err.old) (E.faults err.new)) }
-    ensures success { SucceedsElse (plain_words words.now) (setting (F.told files.old) (F.load_faults files.old) (F.load_faults files.new) (F.misses files.old) (F.misses files.new)) result }
-
-    // Status 4 comes only where a load failed, and status 5 only where a sink failed.
-    ensures load_cause { result ≡ 4 → Rose (F.load_faults files.old) (F.load_faults files.new) }
-    ensures sink_cause { result ≡ 5 → Rose (O.faults out.old) (O.faults out.new) ⊎ Rose (E.faults err.old) (E.faults err.new) }
+    // No file is changed.
+    ensures save_count { F.save_faults files.new ≡ F.save_faults files.old }
+    ensures kept { (name : List ℕ) → F.told files.new name ≡ F.told files.old name }
 {
     supplied_is_true();
     let operands = match read_words(words) {

@@ -1,5 +1,5 @@
 //! The order of a run: from what the words name to the number that the program returns.
-ghost use Rattle.std.specs.Prelude.{◌≡◌, ◌≤◌, ◌↔◌, ℤ, IsTrue, MatchResult};
+ghost use Rattle.std.specs.Prelude.{◌≡◌, ◌≤◌, ◌↔◌, ℕ, ℤ, List, IsTrue, MatchResult};
 ghost use Rattle.wy_top.specs.Operands.{named_by};
 ghost use Rattle.wy_top.specs.Outcome.{Refuses, Returns, HasCertificates, Starts, StartFails};
 ghost use Rattle.wy_top.specs.Steps.{setting, CertificatesFail, ProofFails};
@@ -30,8 +30,10 @@ fn certificates<F: Files>(alloc: Global, name: &str, files: &mut F) -> Result<Ce
     ensures gives { MatchResult result
         (λ c. HasCertificates (setting (F.told files.old) (F.load_faults files.old) (F.load_faults files.new) (F.misses files.old) (F.misses files.new)) name.now (seen_sums c))
         (CertificatesFail (setting (F.told files.old) (F.load_faults files.old) (F.load_faults files.new) (F.misses files.old) (F.misses files.new)) name.now) }
-    ensures faults { F.load_faults files.old ≤ F.load_faults files.new }
-    ensures misses { F.misses files.old ≤ F.misses files.new }
+    ensures load_count { F.load_faults files.old ≤ F.load_faults files.new }
+    ensures miss_count { F.misses files.old ≤ F.misses files.new }
+    ensures save_count { F.save_faults files.new ≡ F.save_faults files.old }
+    ensures kept { (name : List ℕ) → F.told files.new name ≡ F.told files.old name }
 {
     if name == "none" {
         return Ok(Certificates {
@@ -98,6 +100,8 @@ pub fn run<F: Files>(alloc: Global, operands: &Operands<'_>, files: &mut F) -> R
     ensures gives { MatchResult result
         (Returns (setting (F.told files.old) (F.load_faults files.old) (F.load_faults files.new) (F.misses files.old) (F.misses files.new)) (named_by operands.now))
         (Refuses (setting (F.told files.old) (F.load_faults files.old) (F.load_faults files.new) (F.misses files.old) (F.misses files.new)) (named_by operands.now)) }
+    ensures save_count { F.save_faults files.new ≡ F.save_faults files.old }
+    ensures kept { (name : List ℕ) → F.told files.new name ≡ F.told files.old name }
 {
     let bytes = match files.load(alloc, operands.source, SOURCE_LIMIT) {
         Ok(bytes) => bytes,

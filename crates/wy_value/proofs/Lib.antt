@@ -10,3 +10,7 @@ pub mod FlatExact
 pub mod TextExact
 pub mod Refusals
 pub mod ValueOf
+pub mod Texts
+pub mod TextBytes
+pub mod RoundTrip
+pub mod LawLemmas

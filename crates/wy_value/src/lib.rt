@@ -9,6 +9,7 @@ mod character;
 mod fault;
 mod fields;
 mod flat;
+mod laws;
 mod nested;
 mod printer;
 mod shapes;
@@ -19,6 +20,10 @@ mod value;
 
 pub use bounds::{INT_MAX, INT_MIN};
 pub use fault::{NoMemory, ValueFault};
+pub use laws::{
+    a_shown_value_is_read, a_text_has_one_fault, a_text_has_one_reading, datum_determines_value,
+    text_determines_value,
+};
 pub use printer::show;
 pub use shapes::Shapes;
 pub use text::read_values;

@@ -51,7 +51,7 @@ fn write_items(alloc: Global, text: &mut Vec<u8>, items: &[Value]) -> Result<(),
     };
     write_value(alloc, text, first)?;
     for item in rest {
-        write_bytes(text, b", ")?;
+        write_comma(text)?;
         write_value(alloc, text, item)?;
     }
     Ok(())
@@ -67,11 +67,18 @@ fn write_fields(alloc: Global, text: &mut Vec<u8>, fields: &[(Name, Value)]) -> 
     write_name(text, &first.0)?;
     write_value(alloc, text, &first.1)?;
     for field in rest {
-        write_bytes(text, b", ")?;
+        write_comma(text)?;
         write_name(text, &field.0)?;
         write_value(alloc, text, &field.1)?;
     }
     Ok(())
+}
+
+// What stands between two items or fields.
+fn write_comma(text: &mut Vec<u8>) -> Result<(), NoMemory>
+    ensures { OnOk result (text.new.items ≡ text.old.items ++ (44 ∷ 32 ∷ [])) }
+{
+    write_bytes(text, b", ")
 }
 
 // A name with its colon.

@@ -38,16 +38,15 @@ impl StmtKind {
             StmtKind::Continue => Ok(StmtKind::Continue),
             StmtKind::Skip => Ok(StmtKind::Skip),
             StmtKind::Fail => Ok(StmtKind::Fail),
-            StmtKind::If(test, first, second) => Ok(StmtKind::If(
-                test.copy(alloc)?,
-                copy_stmts(alloc, first.as_slice())?,
-                copy_stmts(alloc, second.as_slice())?,
-            )),
-            StmtKind::While(test, invariants, body) => Ok(StmtKind::While(
-                test.copy(alloc)?,
-                copy_exprs(alloc, invariants.as_slice())?,
-                copy_stmts(alloc, body.as_slice())?,
-            )),
+            StmtKind::If(test, first, second) => {
+                let first = copy_stmts(alloc, first.as_slice())?;
+                let second = copy_stmts(alloc, second.as_slice())?;
+                copy_if(alloc, test, first, second)
+            }
+            StmtKind::While(test, invariants, body) => {
+                let body = copy_stmts(alloc, body.as_slice())?;
+                copy_while(alloc, test, invariants.as_slice(), body)
+            }
         }
     }
 }
@@ -92,6 +91,29 @@ fn copy_assert(alloc: Global, test: &Expr) -> Result<StmtKind, AllocError>
     ensures value { IfOk result (λ copy. copy ≡ StmtKind.Assert test.now) }
 {
     Ok(StmtKind::Assert(test.copy(alloc)?))
+}
+
+fn copy_if(
+    alloc: Global,
+    test: &Expr,
+    first: Items<Stmt>,
+    second: Items<Stmt>,
+) -> Result<StmtKind, AllocError>
+    ensures value { IfOk result (λ copy. copy ≡ StmtKind.If test.now first second) }
+{
+    Ok(StmtKind::If(test.copy(alloc)?, first, second))
+}
+
+fn copy_while(
+    alloc: Global,
+    test: &Expr,
+    invariants: &[Expr],
+    body: Items<Stmt>,
+) -> Result<StmtKind, AllocError>
+    ensures value { IfOk result (λ copy. copy ≡ StmtKind.While test.now invariants.now body) }
+{
+    let test = test.copy(alloc)?;
+    Ok(StmtKind::While(test, copy_exprs(alloc, invariants)?, body))
 }
 
 /// The same block once more, in time linear in its size.

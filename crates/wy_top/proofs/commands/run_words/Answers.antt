@@ -6,19 +6,19 @@ use Rattle.wy_top.specs.Operands.{named_by}
 use Rattle.wy_top.specs.Run.{Ends}
 use Rattle.wy_top.specs.Steps.{setting, sinks}
 use Rattle.wy_top.proofs.EndLemmas.{words_end, printed_ends, refused_ends}
-use Rattle.wy_top.proofs.CauseLemmas.{is_exact, succeeds_else, load_cause, sink_cause, is_done}
+use Rattle.wy_top.proofs.CauseLemmas.{runs}
 use Rattle.wy_top.proofs.commands.run_words.Goals as goal
 
-pub returns-in-None : goal.returns-in-None
-returns-in-None g c =
+pub returns-in-None-clause-runs : goal.returns-in-None-clause-runs
+returns-in-None-clause-runs g c =
     let words = plain_words c.args.words.now in
     let s = setting (g.F.Files.told c.args.files.now) (g.F.Files.load_faults c.args.files.now) (g.F.Files.load_faults c.args.files.now) (g.F.Files.misses c.args.files.now) (g.F.Files.misses c.args.files.now) in
     let k = sinks (g.O.Sink.taken c.args.out.now) (g.O.Sink.taken c.args.out.now) (g.O.Sink.faults c.args.out.now) (g.O.Sink.faults c.args.out.now) (g.E.Sink.taken c.args.err.now) (g.E.Sink.taken c.report.new.sink) (g.E.Sink.faults c.args.err.now) (g.E.Sink.faults c.report.new.sink) in
     let e : Ends words s c.report.result k = words_end words s c.report.result _ _ _ _ _ _ c.in-None.ensures.refuses c.report.ensures.reports in
-    record { ends = e; done = is_done words s c.report.result k c.supplied_is_true.ensures.sound e; exact = is_exact words s c.report.result k e; success = succeeds_else words s c.report.result k e; load_cause = load_cause words s c.report.result k e; sink_cause = sink_cause words s c.report.result k e }
+    runs words s c.report.result k c.supplied_is_true.ensures.sound e
 
-pub returns-in-Ok : goal.returns-in-Ok
-returns-in-Ok g c =
+pub returns-in-Ok-clause-runs : goal.returns-in-Ok-clause-runs
+returns-in-Ok-clause-runs g c =
     let r = c.in-Ok.number in
     let fits : FitsSigned w128 r = search rules in
     let reports = rw (to_z-of_z w128 r fits) at c.print.ensures.reports in
@@ -26,12 +26,12 @@ returns-in-Ok g c =
     let s = setting (g.F.Files.told c.args.files.now) (g.F.Files.load_faults c.args.files.now) (g.F.Files.load_faults c.run.new.files) (g.F.Files.misses c.args.files.now) (g.F.Files.misses c.run.new.files) in
     let k = sinks (g.O.Sink.taken c.args.out.now) (g.O.Sink.taken c.print.new.out) (g.O.Sink.faults c.args.out.now) (g.O.Sink.faults c.print.new.out) (g.E.Sink.taken c.args.err.now) (g.E.Sink.taken c.args.err.now) (g.E.Sink.faults c.args.err.now) (g.E.Sink.faults c.args.err.now) in
     let e : Ends words s c.print.result k = printed_ends words s (named_by c.in-Some.operands) r c.print.result _ _ _ _ _ _ c.in-Some.ensures.reads c.in-Ok.ensures.gives reports in
-    record { ends = e; done = is_done words s c.print.result k c.supplied_is_true.ensures.sound e; exact = is_exact words s c.print.result k e; success = succeeds_else words s c.print.result k e; load_cause = load_cause words s c.print.result k e; sink_cause = sink_cause words s c.print.result k e }
+    runs words s c.print.result k c.supplied_is_true.ensures.sound e
 
-pub returns-in-Err : goal.returns-in-Err
-returns-in-Err g c =
+pub returns-in-Err-clause-runs : goal.returns-in-Err-clause-runs
+returns-in-Err-clause-runs g c =
     let words = plain_words c.args.words.now in
     let s = setting (g.F.Files.told c.args.files.now) (g.F.Files.load_faults c.args.files.now) (g.F.Files.load_faults c.run.new.files) (g.F.Files.misses c.args.files.now) (g.F.Files.misses c.run.new.files) in
     let k = sinks (g.O.Sink.taken c.args.out.now) (g.O.Sink.taken c.args.out.now) (g.O.Sink.faults c.args.out.now) (g.O.Sink.faults c.args.out.now) (g.E.Sink.taken c.args.err.now) (g.E.Sink.taken c.refuse.new.err) (g.E.Sink.faults c.args.err.now) (g.E.Sink.faults c.refuse.new.err) in
     let e : Ends words s c.refuse.result k = refused_ends words s (named_by c.in-Some.operands) c.in-Err.refusal c.refuse.result _ _ _ _ _ _ c.in-Some.ensures.reads c.in-Err.ensures.gives c.refuse.ensures.reports in
-    record { ends = e; done = is_done words s c.refuse.result k c.supplied_is_true.ensures.sound e; exact = is_exact words s c.refuse.result k e; success = succeeds_else words s c.refuse.result k e; load_cause = load_cause words s c.refuse.result k e; sink_cause = sink_cause words s c.refuse.result k e }
+    runs words s c.refuse.result k c.supplied_is_true.ensures.sound e
