@@ -6,46 +6,17 @@ use Rattle.std.proofs.lemmas.Bool.Decides.{Decides-int_eq}
 use Rattle.std.proofs.lemmas.Slice.Eq.{bytes_eq-Decides}
 use Rattle.std.proofs.lemmas.Int.{ints}
 use Rattle.std.proofs.Math.IntN.{*ℤ-zero}
-use Rattle.wy_term.specs.declared.node.Kind.{Kind}
-use Rattle.wy_term.specs.declared.node.Kind.TheVariants as kind
-use Rattle.wy_term.specs.Term.{Term, Number, Add, Sub, Num, ValName, AtMost, OfKind, Not}
+use Rattle.wy_term.specs.Term.{Term, Of, no_parts, part, number, add, sub, num}
+use Rattle.wy_term.specs.Term as term
+use Rattle.wy_term.specs.Same.{same_term}
 use Rattle.wy_term.specs.Meaning.{Names, sense, at_most}
 use Rattle.wy_check.specs.declared.arithmetic.Factor.{Factor}
 use Rattle.wy_check.specs.declared.arithmetic.Factor.TheVariants.{Times, Minus}
-use Rattle.wy_check.specs.Form.{◌>>=◌, fitting, more, same_kind, same_term, Form, plus_part, plus_parts, plus, less_one, form_of}
+use Rattle.wy_check.specs.Form.{◌>>=◌, fitting, more, Form, plus_part, plus_parts, plus, less_one, form_of}
 use Rattle.wy_check.specs.Literal.{form_of_atom}
 use Rattle.wy_check.proofs.OptionLemmas.{some_is, bind_some, fitting_is, both_true}
+use Rattle.wy_term.proofs.SameLemmas.{terms_are}
 use Rattle.wy_check.proofs.Ring.{distrib_right, distrib_left, times_assoc, one_times, minus_times}
-
--- ---- equal terms
-
-same_kind_is : (k l : Kind) → same_kind k l ≡ true → k ≡ l
-same_kind_is kind.Null kind.Null e = refl
-same_kind_is kind.Bool kind.Bool e = refl
-same_kind_is kind.Int kind.Int e = refl
-same_kind_is kind.Array kind.Array e = refl
-same_kind_is k l e = absurd cc
-
-same_term_is : (s t : Term) → same_term s t ≡ true → s ≡ t
-same_term_is (Number a) (Number b) e = ap Number ((Decides-int_eq a b).0 e)
-same_term_is (Add s t) (Add u v) e =
-    let h = both_true (same_term s u) (same_term t v) e in
-    rw (same_term_is s u h.0, same_term_is t v h.1) refl
-same_term_is (Sub s t) (Sub u v) e =
-    let h = both_true (same_term s u) (same_term t v) e in
-    rw (same_term_is s u h.0, same_term_is t v h.1) refl
-same_term_is (Num v) (Num w) e = ap Num (same_term_is v w e)
-same_term_is (ValName x m) (ValName y n) e =
-    let h = both_true (bytes_eq x y) (eqb m n) e in
-    rw ((bytes_eq-Decides x y).0 h.0, eqb-true m n h.1) refl
-same_term_is (AtMost s t) (AtMost u v) e =
-    let h = both_true (same_term s u) (same_term t v) e in
-    rw (same_term_is s u h.0, same_term_is t v h.1) refl
-same_term_is (OfKind v k) (OfKind w l) e =
-    let h = both_true (same_term v w) (same_kind k l) e in
-    rw (same_term_is v w h.0, same_kind_is k l h.1) refl
-same_term_is (Not f) (Not g) e = ap Not (same_term_is f g e)
-same_term_is s t e = absurd cc
 
 -- ---- the value of a form
 
@@ -97,7 +68,7 @@ behind x rest a added e = omega (arith, ints, e)
 plus_part-at : (names : Names) (p : ℤ × Term) (ps : List (ℤ × Term)) (m : Factor) (c : ℤ) (v : Term) (qs : List (ℤ × Term)) (rest : (rs : List (ℤ × Term)) → plus_part ps m c v ≡ Some rs → value_parts names rs ≡ value_parts names ps +ℤ factor_of m *ℤ (c *ℤ number_of names v)) (b : Bool) → same_term p.1 v ≡ b → cond b (more p.0 m c >>= λ d. Some ((d, p.1) ∷ ps)) (plus_part ps m c v >>= λ rs. Some (p ∷ rs)) ≡ Some qs → value_parts names qs ≡ value_parts names (p ∷ ps) +ℤ factor_of m *ℤ (c *ℤ number_of names v)
 plus_part-at names p ps m c v qs rest true same made =
     let a = bind_some (more p.0 m c) (λ d. Some ((d, p.1) ∷ ps)) qs made in
-    ap (value_parts names) (sym (some_is _ _ a.2)) ∙ old_part names (factor_of m) p.0 c a.0 p.1 v (value_parts names ps) (same_term_is p.1 v same) (more_is p.0 m c a.0 a.1)
+    ap (value_parts names) (sym (some_is _ _ a.2)) ∙ old_part names (factor_of m) p.0 c a.0 p.1 v (value_parts names ps) (terms_are p.1 v same) (more_is p.0 m c a.0 a.1)
 plus_part-at names p ps m c v qs rest false same made =
     let a = bind_some (plus_part ps m c v) (λ rs. Some (p ∷ rs)) qs made in
     ap (value_parts names) (sym (some_is _ _ a.2)) ∙ behind (p.0 *ℤ number_of names p.1) (value_parts names ps) _ _ (rest a.0 a.1)
@@ -109,8 +80,8 @@ value_parts-plus_part names [] m c v qs e =
 value_parts-plus_part names (p ∷ ps) m c v qs e =
     plus_part-at names p ps m c v qs (λ rs made. value_parts-plus_part names ps m c v rs made) (same_term p.1 v) refl e
 
-no_parts : (m a : ℤ) → a ≡ a +ℤ m *ℤ pos 0
-no_parts m a = let z = *ℤ-zero m in omega (arith, ints, z)
+nothing_more : (m a : ℤ) → a ≡ a +ℤ m *ℤ pos 0
+nothing_more m a = let z = *ℤ-zero m in omega (arith, ints, z)
 
 more_parts : (m x a b total others : ℤ) → b ≡ a +ℤ m *ℤ x → total ≡ b +ℤ m *ℤ others → total ≡ a +ℤ m *ℤ (x +ℤ others)
 more_parts m x a b total others e f =
@@ -118,7 +89,7 @@ more_parts m x a b total others e f =
     omega (arith, ints, e, f, apart)
 
 value_parts-plus_parts : (names : Names) (ps : List (ℤ × Term)) (m : Factor) (gs qs : List (ℤ × Term)) → plus_parts ps m gs ≡ Some qs → value_parts names qs ≡ value_parts names ps +ℤ factor_of m *ℤ value_parts names gs
-value_parts-plus_parts names ps m [] qs e = ap (value_parts names) (sym (some_is _ _ e)) ∙ no_parts (factor_of m) (value_parts names ps)
+value_parts-plus_parts names ps m [] qs e = ap (value_parts names) (sym (some_is _ _ e)) ∙ nothing_more (factor_of m) (value_parts names ps)
 value_parts-plus_parts names ps m (g ∷ gs) qs e =
     let a = bind_some (plus_part ps m g.0 g.1) (λ rs. plus_parts rs m gs) qs e in
     more_parts (factor_of m) (g.0 *ℤ number_of names g.1) (value_parts names ps) (value_parts names a.0) (value_parts names qs) (value_parts names gs) (value_parts-plus_part names ps m g.0 g.1 a.0 a.1) (value_parts-plus_parts names a.0 m gs qs a.2)
@@ -159,20 +130,20 @@ taken : (a b x y h : ℤ) → a ≡ x → b ≡ y → h ≡ a +ℤ negsuc 0 *ℤ
 taken a b x y h e f g = let minus = minus_times b in omega (arith, ints, e, f, g, minus)
 
 pub value-form_of : (names : Names) (t : Term) (f : Form) → form_of t ≡ Some f → value names f ≡ number_of names t
-value-form_of names (Number z) f e =
+value-form_of names (Of (number z) ps) f e =
     let made : Form = record { parts = []; constant = z } in
     ap (value names) (sym (some_is made f e)) ∙ alone z
-value-form_of names (Add s t) h e =
+value-form_of names (Of add (part s (part t no_parts))) h e =
     let a = bind_some (form_of s) (λ f. form_of t >>= λ g. plus f (Times 1) g) h e in
     let b = bind_some (form_of t) (λ g. plus a.0 (Times 1) g) h a.2 in
     added (value names a.0) (value names b.0) _ _ (value names h) (value-form_of names s a.0 a.1) (value-form_of names t b.0 b.1) (value-plus names a.0 (Times 1) b.0 h b.2)
-value-form_of names (Sub s t) h e =
+value-form_of names (Of sub (part s (part t no_parts))) h e =
     let a = bind_some (form_of s) (λ f. form_of t >>= λ g. plus f Minus g) h e in
     let b = bind_some (form_of t) (λ g. plus a.0 Minus g) h a.2 in
     taken (value names a.0) (value names b.0) _ _ (value names h) (value-form_of names s a.0 a.1) (value-form_of names t b.0 b.1) (value-plus names a.0 Minus b.0 h b.2)
-value-form_of names (Num v) f e =
-    let made : Form = record { parts = (pos 1, Num v) ∷ []; constant = pos 0 } in
-    ap (value names) (sym (some_is made f e)) ∙ one_part (number_of names (Num v))
+value-form_of names (Of num ps) f e =
+    let made : Form = record { parts = (pos 1, Of num ps) ∷ []; constant = pos 0 } in
+    ap (value names) (sym (some_is made f e)) ∙ one_part (number_of names (Of num ps))
 value-form_of names t h e = absurd cc
 
 -- ---- forms of literals
@@ -191,12 +162,12 @@ less x y h k lt e f = omega (arith, ints)
 
 -- the form of an atom that has this truth value is at least 0
 pub value-form_of_atom : (names : Names) (t : Term) (holds : Bool) (f : Form) → form_of_atom t holds ≡ Some f → (sense names t).truth ≡ holds → pos 0 ≤ℤ value names f
-value-form_of_atom names (AtMost s t) true h e told =
+value-form_of_atom names (Of term.at_most (part s (part t no_parts))) true h e told =
     let a = bind_some (form_of s) (λ f. form_of t >>= λ g. plus g Minus f) h e in
     let b = bind_some (form_of t) (λ g. plus g Minus a.0) h a.2 in
     let is = taken (value names b.0) (value names a.0) (number_of names t) (number_of names s) (value names h) (value-form_of names t b.0 b.1) (value-form_of names s a.0 a.1) (value-plus names b.0 Minus a.0 h b.2) in
     not_less (number_of names s) (number_of names t) (value names h) (at_most_is _ _ told) is
-value-form_of_atom names (AtMost s t) false k e told =
+value-form_of_atom names (Of term.at_most (part s (part t no_parts))) false k e told =
     let a = bind_some (form_of s) (λ f. form_of t >>= λ g. plus f Minus g >>= λ h. less_one h) k e in
     let b = bind_some (form_of t) (λ g. plus a.0 Minus g >>= λ h. less_one h) k a.2 in
     let d = bind_some (plus a.0 Minus b.0) (λ h. less_one h) k b.2 in

@@ -3,10 +3,11 @@ use Rattle.std.proofs.Common.{◌≡◌, ℕ, zero, suc, List, [], ◌∷◌, �
 use Rattle.std.specs.Prelude.{slice_index_or, slice_set}
 use Rattle.std.proofs.lemmas.List.{map-append}
 use Rattle.wy_term.specs.Term.{Term}
+use Rattle.wy_term.specs.Same.{same_term}
 use Rattle.wy_check.specs.declared.arithmetic.Factor.{Factor}
 use Rattle.wy_check.specs.declared.stop.Stop.{Stop}
 use Rattle.wy_check.specs.declared.stop.Stop.TheVariants.{Undefined, NoMemory}
-use Rattle.wy_check.specs.Form.{◌>>=◌, more, same_term, plus_part}
+use Rattle.wy_check.specs.Form.{◌>>=◌, more, plus_part}
 use Rattle.wy_check.specs.Seen.{Stops, seen_part, seen_parts, DifferBelow, IsFirst}
 
 abbrev part_at : List (ℤ × ℕ) → ℕ → ℤ × ℕ

@@ -1,6 +1,6 @@
 -- A valid certificate shows that its condition is true: were the goal false, all literals would be true.
 use Rattle.std.proofs.Common.{◌≡◌, ℕ, List, [], ◌∷◌, ◌++◌, Bool, true, false, cond, not, None, refl}
-use Rattle.wy_term.specs.Term.{Term, Not}
+use Rattle.wy_term.specs.Term.{Term, Of, no_parts, part, denied}
 use Rattle.wy_term.specs.Meaning.{Names, sense}
 use Rattle.wy_term.specs.Condition.{Condition, AllTrue, HoldsAlways}
 use Rattle.wy_check.specs.Literal.{Literal, literal_of, denied_literal, has_literal, with_literal, with_formulas, literals_of}
@@ -19,7 +19,7 @@ unturned false false e = absurd cc
 
 -- the literal of a formula with this truth value is true, or false, with it
 literal_of_told : (names : Names) (f : Term) (b : Bool) → (sense names f).truth ≡ b → (sense names (literal_of f).atom).truth ≡ cond b (literal_of f).holds (not (literal_of f).holds)
-literal_of_told names (Not f) b e = unturned (sense names f).truth b e
+literal_of_told names (Of denied (part f no_parts)) b e = unturned (sense names f).truth b e
 literal_of_told names f true e = e
 literal_of_told names f false e = e
 
@@ -40,7 +40,7 @@ with_formulas_told names ls (f ∷ fs) told true_all = with_formulas_told names 
 
 -- where the hypotheses hold and the goal doesn't, all literals are true
 literals_of_told : (names : Names) (c : Condition) → AllTrue names c.hyps → (sense names c.goal).truth ≡ false → AllTold names (literals_of c)
-literals_of_told names c true_all denied = with_literal_told names (with_formulas [] c.hyps) (denied_literal (literal_of c.goal)) (with_formulas_told names [] c.hyps tt true_all) (literal_of_told names c.goal false denied)
+literals_of_told names c true_all untrue = with_literal_told names (with_formulas [] c.hyps) (denied_literal (literal_of c.goal)) (with_formulas_told names [] c.hyps tt true_all) (literal_of_told names c.goal false untrue)
 
 -- ---- the condition
 
@@ -49,7 +49,7 @@ not_false true h = refl
 not_false false h = absurd (h refl)
 
 true_by_sum : (c : Condition) (s : List (ℕ × ℕ)) → is_valid_sum (literals_of c) s ≡ true → HoldsAlways c
-true_by_sum c s valid names true_all = not_false (sense names c.goal).truth (λ denied. is_valid_sum_refutes names (literals_of c) s valid (literals_of_told names c true_all denied))
+true_by_sum c s valid names true_all = not_false (sense names c.goal).truth (λ untrue. is_valid_sum_refutes names (literals_of c) s valid (literals_of_told names c true_all untrue))
 
 valid_alone : (b : Bool) (x : ℕ) → cond b None (some x) ≡ None → b ≡ true
 valid_alone true x e = refl

@@ -1,10 +1,7 @@
 -- Which linear form an Int term has, with numbers that fit 128 bits.
-use Rattle.std.specs.Prelude.{◌^◌, List, [], ◌∷◌, Bool, true, false, ◌&&◌, nat_lt, ◌==◌, if◌then◌else◌, ℤ, pos, negsuc, ◌+ℤ◌, ◌-ℤ◌, ◌*ℤ◌, Option, Some, None}
-use Rattle.std.specs.Str.{bytes_eq}
-use Rattle.std.specs.Ordering.{int_eq}
-use Rattle.wy_term.specs.declared.node.Kind.{Kind}
-use Rattle.wy_term.specs.declared.node.Kind.TheVariants as kind
-use Rattle.wy_term.specs.Term.{Term, Number, Add, Sub, Num, ValName, AtMost, OfKind, Not}
+use Rattle.std.specs.Prelude.{◌^◌, List, [], ◌∷◌, Bool, nat_lt, if◌then◌else◌, ℤ, pos, negsuc, ◌+ℤ◌, ◌-ℤ◌, ◌*ℤ◌, Option, Some, None}
+use Rattle.wy_term.specs.Term.{Term, Of, no_parts, part, number, add, sub, num}
+use Rattle.wy_term.specs.Same.{same_term}
 use Rattle.wy_check.specs.declared.arithmetic.Factor.{Factor}
 use Rattle.wy_check.specs.declared.arithmetic.Factor.TheVariants.{Times, Minus}
 
@@ -27,25 +24,6 @@ None >>= f = None
 abbrev pub more : ℤ → Factor → ℤ → Option ℤ
 more a (Times m) c = fitting (pos m *ℤ c) >>= λ d. fitting (a +ℤ d)
 more a Minus c = fitting (a -ℤ c)
-
-abbrev pub same_kind : Kind → Kind → Bool
-same_kind kind.Null kind.Null = true
-same_kind kind.Bool kind.Bool = true
-same_kind kind.Int kind.Int = true
-same_kind kind.Array kind.Array = true
-same_kind k l = false
-
--- the two terms are equal
-abbrev pub same_term : Term → Term → Bool
-same_term (Number a) (Number b) = int_eq a b
-same_term (Add s t) (Add u v) = same_term s u && same_term t v
-same_term (Sub s t) (Sub u v) = same_term s u && same_term t v
-same_term (Num v) (Num w) = same_term v w
-same_term (ValName x m) (ValName y n) = bytes_eq x y && (m == n)
-same_term (AtMost s t) (AtMost u v) = same_term s u && same_term t v
-same_term (OfKind v k) (OfKind w l) = same_term v w && same_kind k l
-same_term (Not f) (Not g) = same_term f g
-same_term s t = false
 
 -- a sum of products of a number and a variable, and a number
 pub record Form : Type 0 where
@@ -74,10 +52,10 @@ less_one f = more f.constant Minus (pos 1) >>= λ c. Some (record { parts = f.pa
 abbrev pub zero_form : Form
 zero_form = record { parts = []; constant = pos 0 }
 
--- the form of an Int term: numbers, sums and differences are taken apart, and each other term is a variable
+-- the form of an Int term: numbers, sums and differences are taken apart, and the number of a Val term is a variable; no other term has a form yet
 abbrev pub form_of : Term → Option Form
-form_of (Number z) = Some (record { parts = []; constant = z })
-form_of (Add s t) = form_of s >>= λ f. form_of t >>= λ g. plus f (Times 1) g
-form_of (Sub s t) = form_of s >>= λ f. form_of t >>= λ g. plus f Minus g
-form_of (Num v) = Some (record { parts = (pos 1, Num v) ∷ []; constant = pos 0 })
+form_of (Of (number z) ps) = Some (record { parts = []; constant = z })
+form_of (Of add (part s (part t no_parts))) = form_of s >>= λ f. form_of t >>= λ g. plus f (Times 1) g
+form_of (Of sub (part s (part t no_parts))) = form_of s >>= λ f. form_of t >>= λ g. plus f Minus g
+form_of (Of num ps) = Some (record { parts = (pos 1, Of num ps) ∷ []; constant = pos 0 })
 form_of t = None

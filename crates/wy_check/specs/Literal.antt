@@ -1,10 +1,11 @@
 -- Which literals a condition has, and which form a literal has.
 use Rattle.std.specs.Prelude.{List, [], ◌∷◌, ◌++◌, Bool, true, false, ◌&&◌, not, if◌then◌else◌, Option, None}
 use Rattle.std.specs.Bool.{beq}
-use Rattle.wy_term.specs.Term.{Term, AtMost, Not}
+use Rattle.wy_term.specs.Term.{Term, Of, no_parts, part, at_most, denied}
+use Rattle.wy_term.specs.Same.{same_term}
 use Rattle.wy_term.specs.Condition.{Condition}
 use Rattle.wy_check.specs.declared.arithmetic.Factor.TheVariants.{Minus}
-use Rattle.wy_check.specs.Form.{◌>>=◌, Form, same_term, form_of, plus, less_one}
+use Rattle.wy_check.specs.Form.{◌>>=◌, Form, form_of, plus, less_one}
 
 -- an atom, and whether it holds
 pub record Literal : Type 0 where
@@ -13,7 +14,7 @@ pub record Literal : Type 0 where
 
 -- a formula as a literal
 abbrev pub literal_of : Term → Literal
-literal_of (Not f) = record { atom = f; holds = false }
+literal_of (Of denied (part f no_parts)) = record { atom = f; holds = false }
 literal_of t = record { atom = t; holds = true }
 
 -- the denial of a literal
@@ -44,8 +45,8 @@ literals_of c = with_literal (with_formulas [] c.hyps) (denied_literal (literal_
 
 -- the form that is at least 0 where the atom holds, or where it doesn't: t - s for `s <= t`, and s - t - 1 for its denial
 abbrev pub form_of_atom : Term → Bool → Option Form
-form_of_atom (AtMost s t) true = form_of s >>= λ f. form_of t >>= λ g. plus g Minus f
-form_of_atom (AtMost s t) false = form_of s >>= λ f. form_of t >>= λ g. plus f Minus g >>= λ h. less_one h
+form_of_atom (Of at_most (part s (part t no_parts))) true = form_of s >>= λ f. form_of t >>= λ g. plus g Minus f
+form_of_atom (Of at_most (part s (part t no_parts))) false = form_of s >>= λ f. form_of t >>= λ g. plus f Minus g >>= λ h. less_one h
 form_of_atom t holds = None
 
 -- the form that is at least 0 where the literal holds

@@ -12,7 +12,7 @@ use Rattle.wy_check.specs.declared.literal.Literal.{Literal}
 use Rattle.wy_check.specs.declared.stop.Stop.{Stop}
 use Rattle.wy_check.specs.declared.stop.Stop.TheVariants.{Undefined, NoMemory}
 use Rattle.wy_check.specs.Form as form
-use Rattle.wy_check.specs.Form.{same_term}
+use Rattle.wy_term.specs.Same.{same_term}
 use Rattle.wy_check.specs.Literal as literal
 
 -- ---- what public contracts cite

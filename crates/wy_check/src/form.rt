@@ -2,14 +2,14 @@
 ghost use Rattle.std.specs.Prelude.{◌≡◌, ◌<◌, ℕ, All, length, IfNone, IfSome, IfOk};
 ghost use Rattle.wy_term.specs.Term.{Term};
 ghost use Rattle.wy_term.specs.Nodes.{tree_at};
-ghost use Rattle.wy_check.specs.Form.{same_kind, same_term, plus_part, plus_parts, plus as sum_of, form_of, less_one as one_less};
+ghost use Rattle.wy_check.specs.Form.{plus_part, plus_parts, plus as sum_of, form_of, less_one as one_less};
 ghost use Rattle.wy_check.specs.Sum.{refutes};
 ghost use Rattle.wy_check.specs.Seen.{Gives, seen_parts, seen_form, DifferBelow, IsFirst, IsOver};
 
 use crate::arithmetic::{Factor, more};
 use crate::stop::Stop;
 use std::alloc::Global;
-use wy_term::{Kind, Node, Terms};
+use wy_term::{Node, Terms};
 
 /// A sum of products of a number and a variable, and a number. A variable is a term that isn't made of others by
 /// sums, given by its number; no two parts have equal variables.
@@ -17,37 +17,6 @@ use wy_term::{Kind, Node, Terms};
 pub struct Form {
     pub parts: Vec<(i128, u32)>,
     pub constant: i128,
-}
-
-fn same_kind(k: Kind, l: Kind) -> bool
-    ensures value { result ≡ same_kind k l }
-{
-    match (k, l) {
-        (Kind::Null, Kind::Null) => true,
-        (Kind::Bool, Kind::Bool) => true,
-        (Kind::Int, Kind::Int) => true,
-        (Kind::Array, Kind::Array) => true,
-        _ => false,
-    }
-}
-
-/// Whether two numbers name equal terms. It goes down both terms at once, as deep as the shallower of them.
-pub fn same(terms: &Terms, a: u32, b: u32) -> bool
-    requires first { a < length terms.now }
-    requires second { b < length terms.now }
-    ensures value { result ≡ same_term (tree_at terms.now a) (tree_at terms.now b) }
-{
-    match (terms.node(a), terms.node(b)) {
-        (Node::Number(x), Node::Number(y)) => x == y,
-        (Node::Add(s, t), Node::Add(u, v)) => same(terms, *s, *u) && same(terms, *t, *v),
-        (Node::Sub(s, t), Node::Sub(u, v)) => same(terms, *s, *u) && same(terms, *t, *v),
-        (Node::Num(v), Node::Num(w)) => same(terms, *v, *w),
-        (Node::ValName(x, m), Node::ValName(y, n)) => x.as_bytes() == y.as_bytes() && m == n,
-        (Node::AtMost(s, t), Node::AtMost(u, v)) => same(terms, *s, *u) && same(terms, *t, *v),
-        (Node::Kind(v, k), Node::Kind(w, l)) => same(terms, *v, *w) && same_kind(*k, *l),
-        (Node::Not(f), Node::Not(g)) => same(terms, *f, *g),
-        _ => false,
-    }
 }
 
 // The place of the first part with a variable.
@@ -58,7 +27,7 @@ fn place_of(terms: &Terms, parts: &[(i128, u32)], v: u32) -> Option<usize>
     ensures some { IfSome result (IsFirst (tree_at terms.now) parts.now (tree_at terms.now v)) }
 {
     for (i, part) in parts.iter().enumerate() {
-        if same(terms, part.1, v) {
+        if terms.same(part.1, v) {
             return Some(i);
         }
     }
@@ -140,7 +109,7 @@ pub fn less_one(f: Form) -> Result<Form, Stop>
     })
 }
 
-/// The form of an Int term. It goes down the term by recursion, as deep as the term is.
+/// The form of an Int term. It goes down sums and differences by recursion, as deep as these are nested.
 pub fn form_of(alloc: Global, terms: &Terms, t: u32) -> Result<Form, Stop>
     requires { t < length terms.now }
     ensures gives { Gives (seen_form (tree_at terms.now)) result (form_of (tree_at terms.now t)) }

@@ -6,7 +6,7 @@ ghost use Rattle.wy_check.specs.Literal.{literal_of, denied_literal, has_literal
 ghost use Rattle.wy_check.specs.Seen.{Gives, seen_form, seen_literal, seen_literals, AreOver, IsOver, IsOf};
 
 use crate::arithmetic::Factor;
-use crate::form::{Form, form_of, less_one, plus, same};
+use crate::form::{Form, form_of, less_one, plus};
 use crate::memory::NoMemory;
 use crate::stop::Stop;
 use std::alloc::Global;
@@ -51,7 +51,7 @@ fn has_literal(terms: &Terms, literals: &[Literal], l: Literal) -> bool
     ensures value { result ≡ has_literal (seen_literals (tree_at terms.now) literals.now) (seen_literal (tree_at terms.now) l) }
 {
     for literal in literals {
-        if same(terms, literal.atom, l.atom) && literal.holds == l.holds {
+        if terms.same(literal.atom, l.atom) && literal.holds == l.holds {
             return true;
         }
     }

@@ -1,6 +1,10 @@
 //! Certificates that are and that aren't valid, worked out by hand.
+ghost use Rattle.std.specs.Prelude.{length, IfOk};
+ghost use Rattle.wy_check.specs.Seen.{IsOf};
+
 use crate::{Cert, Checked, NoMemory, Step, check};
 use std::alloc::Global;
+use wy_data::Name;
 use wy_term::{Cond, CondKind, Kind, Node, Terms};
 
 #[test]
@@ -38,9 +42,11 @@ fn checks_sums(rt: HostRuntime) {
 
 // Hypotheses that `x.0` is an int, that it is at most 8 (twice) and at most 10, and the goal that it is at most 9. So the literals
 // are these three and, as the fourth, that it is not at most 9.
-fn below_ten_of(alloc: Global) -> Result<(Terms, Cond), NoMemory> {
+fn below_ten_of(alloc: Global) -> Result<(Terms, Cond), NoMemory>
+    ensures { IfOk result (λ made. IsOf (length made.0) made.1) }
+{
     let mut terms = Terms::new(alloc);
-    let x = terms.intern(Node::ValName(String::from_str(alloc, "x")?, 0))?;
+    let x = terms.intern(Node::ValName(Name::new(String::from_str(alloc, "x")?), 0))?;
     let int = terms.intern(Node::Kind(x, Kind::Int))?;
     let value = terms.intern(Node::Num(x))?;
     let eight = terms.intern(Node::Number(8))?;
@@ -61,7 +67,9 @@ fn below_ten_of(alloc: Global) -> Result<(Terms, Cond), NoMemory> {
 }
 
 // The hypothesis that 1 is at most 0, and the goal that 0 is at most 1.
-fn one_at_most_zero(alloc: Global) -> Result<(Terms, Cond), NoMemory> {
+fn one_at_most_zero(alloc: Global) -> Result<(Terms, Cond), NoMemory>
+    ensures { IfOk result (λ made. IsOf (length made.0) made.1) }
+{
     let mut terms = Terms::new(alloc);
     let zero = terms.intern(Node::Number(0))?;
     let one = terms.intern(Node::Number(1))?;
@@ -81,7 +89,9 @@ fn answer(
     alloc: Global,
     made: Result<(Terms, Cond), NoMemory>,
     sums: &[&[(u128, u32)]],
-) -> Result<Checked, NoMemory> {
+) -> Result<Checked, NoMemory>
+    requires { IfOk made (λ made. IsOf (length made.0) made.1) }
+{
     let (mut terms, cond) = made?;
     let mut steps = Vec::new(alloc);
     for sum in sums {

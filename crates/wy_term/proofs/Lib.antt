@@ -1,1 +1,4 @@
 pub mod NodesLemmas
+pub mod SameLemmas
+pub mod NodeEqLemmas
+pub mod InternLemmas

@@ -1,9 +1,15 @@
 -- The trees that the numbers of a list of nodes name, and how they stand when a node is added.
-use Rattle.std.proofs.Common.{◌≡◌, ℕ, zero, suc, ◌+◌, ◌<◌, List, [], ◌∷◌, ◌++◌, length, sym, ap, ◌∙◌, subst, refl, arith, length-append, pos}
+use Rattle.std.proofs.Common.{◌≡◌, ℕ, zero, suc, ◌+◌, ◌<◌, List, [], ◌∷◌, ◌++◌, All, get_or, ◌≤◌, Bool, true, false, eqb, take, drop, length, length-take, Result, Ok, Err, sym, ap, ◌∙◌, subst, refl, arith, length-append, pos}
 use Rattle.std.proofs.lemmas.List.{get_or_append_left}
 use Rattle.std.proofs.Math.Seq.{get_or-append_seam}
-use Rattle.wy_term.specs.Term.{Term, Number, Num, OfKind, Not}
-use Rattle.wy_term.specs.Nodes.{Plain, number, add, sub, num, val_name, at_most, of_kind, denied, HasPartsBelow, AreGrounded, node_at, pick, grown, trees_after, tree_at}
+use Rattle.std.proofs.Math.ListN.{take-append-drop}
+use Rattle.std.specs.Prelude.{IfOk}
+use Rattle.std.proofs.lemmas.Bool.{eqb-true}
+use Rattle.wy_term.specs.Term as term
+use Rattle.wy_term.specs.Same.{same_term}
+use Rattle.wy_term.proofs.SameLemmas.{terms_are, terms_self, eqb_self}
+use Rattle.wy_term.specs.Term.{Symbol, Term, Of, Parts, part, Number}
+use Rattle.wy_term.specs.Nodes.{Plain, of, HasPartsBelow, AreGrounded, AreNodes, Extends, Adds, node_at, pick, parts_at, grown, trees_after, tree_at}
 
 -- ---- parts
 
@@ -27,16 +33,13 @@ AreGrounded-push from (m ∷ ns) n grounded below =
     let e : from + length (m ∷ ns) ≡ suc from + length ns = omega arith in
     (grounded.0, AreGrounded-push (suc from) ns n grounded.1 (subst (λ (j : ℕ). HasPartsBelow j n) e below))
 
+parts_at-same : (f g : ℕ → Term) (bound : ℕ) (ks : List ℕ) → All (λ k. k < bound) ks → ((k : ℕ) → k < bound → f k ≡ g k) → parts_at f ks ≡ parts_at g ks
+parts_at-same f g bound [] below same = refl
+parts_at-same f g bound (k ∷ ks) below same = rw (same k (below 0 0 (omega arith)), parts_at-same f g bound ks (λ j d lt. below (suc j) d (omega arith)) same) refl
+
 -- a node grows the same tree where its parts' trees are the same
 pub grown-same : (f g : ℕ → Term) (bound : ℕ) (n : Plain) → HasPartsBelow bound n → ((k : ℕ) → k < bound → f k ≡ g k) → grown f n ≡ grown g n
-grown-same f g bound (number z) below same = refl
-grown-same f g bound (add s t) below same = rw (same s below.0, same t below.1) refl
-grown-same f g bound (sub s t) below same = rw (same s below.0, same t below.1) refl
-grown-same f g bound (num v) below same = ap Num (same v below)
-grown-same f g bound (val_name word n) below same = refl
-grown-same f g bound (at_most s t) below same = rw (same s below.0, same t below.1) refl
-grown-same f g bound (of_kind v k) below same = ap (λ (t : Term). OfKind t k) (same v below)
-grown-same f g bound (denied f') below same = ap Not (same f' below)
+grown-same f g bound n below same = ap (λ (ps : Parts). Of n.symbol ps) (parts_at-same f g bound n.parts below same)
 
 -- ---- lists of trees
 
@@ -80,46 +83,136 @@ tree_at-grown : (ns : List Plain) (t : ℕ) → AreGrounded 0 ns → t < length 
 unfolding tree_at
 tree_at-grown ns t grounded inside = ap (pick (trees_after [] ns)) (from_zero t) ∙ trees_after-at [] ns t grounded inside
 
-tree_at-kept : (ns : List Plain) (n : Plain) (t : ℕ) → t < length ns → tree_at (ns ++ n ∷ []) t ≡ tree_at ns t
+tree_at-append : (ns more : List Plain) (t : ℕ) → t < length ns → tree_at (ns ++ more) t ≡ tree_at ns t
 unfolding tree_at
-tree_at-kept ns n t inside =
-    ap (λ (ts : List Term). pick ts t) (trees_after-append [] ns (n ∷ []))
-    ∙ trees_after-front (trees_after [] ns) (n ∷ []) t (omega (arith, length-trees_after [] ns))
+tree_at-append ns more t inside =
+    ap (λ (ts : List Term). pick ts t) (trees_after-append [] ns more)
+    ∙ trees_after-front (trees_after [] ns) more t (omega (arith, length-trees_after [] ns))
 
-tree_at-new : (ns : List Plain) (n : Plain) → tree_at (ns ++ n ∷ []) (length ns) ≡ grown (tree_at ns) n
-unfolding tree_at
-tree_at-new ns n =
-    let ts = trees_after [] ns in
-    let here : length ns ≡ length ts = omega (arith, length-trees_after [] ns) in
-    ap (λ (all : List Term). pick all (length ns)) (trees_after-append [] ns (n ∷ []))
-    ∙ ap (pick (ts ++ grown (pick ts) n ∷ [])) here
-    ∙ get_or-append_seam ts (grown (pick ts) n) [] (Number (pos 0))
+-- ---- the same, of lists that are known to equal others
 
--- ---- the same, of a list that is known to equal another
+pub AreNodes-same : (seen inside : List Plain) → seen ≡ inside → AreNodes inside → AreNodes seen
+AreNodes-same seen inside same are = subst AreNodes (sym same) are
 
--- what a node that was read grows
-pub tree_of_read : (seen inside : List Plain) (t : ℕ) (n : Plain) → seen ≡ inside → AreGrounded 0 inside → t < length seen → n ≡ node_at seen t → tree_at seen t ≡ grown (tree_at seen) n
-tree_of_read seen inside t n same grounded lt read =
-    let whole : AreGrounded 0 seen = subst (λ (ns : List Plain). AreGrounded 0 ns) (sym same) grounded in
-    tree_at-grown seen t whole lt ∙ ap (grown (tree_at seen)) (sym read)
+-- the tree of a node that was read
+pub tree_of_read : (seen : List Plain) (t : ℕ) (n : Plain) → AreNodes seen → t < length seen → n ≡ node_at seen t → tree_at seen t ≡ grown (tree_at seen) n
+tree_of_read seen t n are lt read = tree_at-grown seen t are.grounded lt ∙ ap (grown (tree_at seen)) (sym read)
 
 -- the parts of a node that was read stand before it
-pub parts_of_read : (seen inside : List Plain) (t : ℕ) (n : Plain) → seen ≡ inside → AreGrounded 0 inside → t < length seen → n ≡ node_at seen t → HasPartsBelow t n
-parts_of_read seen inside t n same grounded lt read =
-    let whole : AreGrounded 0 seen = subst (λ (ns : List Plain). AreGrounded 0 ns) (sym same) grounded in
-    let at : HasPartsBelow t (node_at seen t) = subst (λ (j : ℕ). HasPartsBelow j (node_at seen t)) (sym (from_zero t)) (AreGrounded-at 0 seen t whole lt) in
+pub parts_of_read : (seen : List Plain) (t : ℕ) (n : Plain) → AreNodes seen → t < length seen → n ≡ node_at seen t → HasPartsBelow t n
+parts_of_read seen t n are lt read =
+    let at : HasPartsBelow t (node_at seen t) = subst (λ (j : ℕ). HasPartsBelow j (node_at seen t)) (sym (from_zero t)) (AreGrounded-at 0 seen t are.grounded lt) in
     subst (λ (m : Plain). HasPartsBelow t m) (sym read) at
 
--- a list with one node more is made of earlier ones too
-pub AreGrounded-more : (seen inside new : List Plain) (n : Plain) → seen ≡ inside → AreGrounded 0 inside → HasPartsBelow (length seen) n → new ≡ inside ++ n ∷ [] → AreGrounded 0 new
-AreGrounded-more seen inside new n same grounded parts e =
-    let below : HasPartsBelow (0 + length inside) n = subst (λ (j : ℕ). HasPartsBelow j n) (ap length same ∙ from_zero (length inside)) parts in
-    subst (λ (ns : List Plain). AreGrounded 0 ns) (sym e) (AreGrounded-push 0 inside n grounded below)
-
 -- older numbers name what they named
-pub tree_at-older : (seen new : List Plain) (n : Plain) → new ≡ seen ++ n ∷ [] → (t : ℕ) → t < length seen → tree_at new t ≡ tree_at seen t
-tree_at-older seen new n e t lt = ap (λ (ns : List Plain). tree_at ns t) e ∙ tree_at-kept seen n t lt
+pub tree_at-older : (old new : List Plain) → Extends old new → (t : ℕ) → t < length old → tree_at new t ≡ tree_at old t
+tree_at-older old new extends t lt = ap (λ (ns : List Plain). tree_at ns t) extends.1 ∙ tree_at-append old extends.0 t lt
 
--- the new number names the new node's tree
-pub tree_at-newest : (seen new : List Plain) (n : Plain) (t : ℕ) → new ≡ seen ++ n ∷ [] → t ≡ length seen → tree_at new t ≡ grown (tree_at seen) n
-tree_at-newest seen new n t e at = ap (λ (ns : List Plain). tree_at ns t) e ∙ ap (tree_at (seen ++ n ∷ [])) at ∙ tree_at-new seen n
+pub length-extends : (old new : List Plain) → Extends old new → length old ≤ length new
+length-extends old new extends = let e = ap length extends.1 in omega (arith, e, length-append old extends.0)
+
+-- the number of a node that was put in names the node's tree
+pub tree_at-added : (old new : List Plain) (n : Plain) (t : ℕ) → AreNodes old → HasPartsBelow (length old) n → Adds old new n t → tree_at new t ≡ grown (tree_at old) n
+tree_at-added old new n t are below adds =
+    let whole = adds.nodes are below in
+    tree_of_read new t n whole adds.within (sym adds.here) ∙ grown-same (tree_at new) (tree_at old) (length old) n below (λ k lt. tree_at-older old new adds.extends k lt)
+
+-- ---- one number for each tree
+
+of_same : (a b : Symbol) (ps qs : Parts) → Of a ps ≡ Of b qs → (a ≡ b) × (ps ≡ qs)
+of_same a b ps qs e = (cc, cc)
+
+part_same : (s t : Term) (ps qs : Parts) → part s ps ≡ part t qs → (s ≡ t) × (ps ≡ qs)
+part_same s t ps qs e = (cc, cc)
+
+made_same : (a b : Symbol) (ks js : List ℕ) → a ≡ b → ks ≡ js → of a ks ≡ of b js
+made_same a b ks js e f = cc
+
+-- where the trees of smaller numbers have one number each, so do lists of them
+parts_at-one : (at : ℕ → Term) (b : ℕ) → ((k j : ℕ) → k < b → j < b → at k ≡ at j → k ≡ j) → (ks js : List ℕ) → All (λ k. k < b) ks → All (λ j. j < b) js → parts_at at ks ≡ parts_at at js → ks ≡ js
+parts_at-one at b one [] [] in_ks in_js e = refl
+parts_at-one at b one [] (j ∷ js) in_ks in_js e = absurd cc
+parts_at-one at b one (k ∷ ks) [] in_ks in_js e = absurd cc
+parts_at-one at b one (k ∷ ks) (j ∷ js) in_ks in_js e =
+    let same = part_same (at k) (at j) (parts_at at ks) (parts_at at js) e in
+    let first : k ≡ j = one k j (in_ks 0 0 (omega arith)) (in_js 0 0 (omega arith)) same.0 in
+    let rest : ks ≡ js = parts_at-one at b one ks js (λ i d lt. in_ks (suc i) d (omega arith)) (λ i d lt. in_js (suc i) d (omega arith)) same.1 in
+    rw (first, rest) refl
+
+smaller : (bound s : ℕ) (ks : List ℕ) → s < suc bound → All (λ k. k < s) ks → All (λ k. k < bound) ks
+smaller bound s ks lt in_ks i d inside = let at : get_or ks i d < s = in_ks i d inside in omega (arith, at)
+
+one_below : (ns : List Plain) → AreNodes ns → (bound : ℕ) → bound ≤ length ns → (s t : ℕ) → s < bound → t < bound → tree_at ns s ≡ tree_at ns t → s ≡ t
+one_below ns are zero le s t below_s below_t e = absurd (omega arith)
+one_below ns are (suc bound) le s t below_s below_t e =
+    let in_s : s < length ns = omega arith in
+    let in_t : t < length ns = omega arith in
+    let n = node_at ns s in
+    let m = node_at ns t in
+    let grown_s = tree_at-grown ns s are.grounded in_s in
+    let grown_t = tree_at-grown ns t are.grounded in_t in
+    let same = of_same n.symbol m.symbol (parts_at (tree_at ns) n.parts) (parts_at (tree_at ns) m.parts) (sym grown_s ∙ e ∙ grown_t) in
+    let in_n = smaller bound s n.parts below_s (parts_of_read ns s n are in_s refl) in
+    let in_m = smaller bound t m.parts below_t (parts_of_read ns t m are in_t refl) in
+    are.distinct s t in_s in_t (made_same n.symbol m.symbol n.parts m.parts same.0 (parts_at-one (tree_at ns) bound (λ k j lt_k lt_j at. one_below ns are bound (omega arith) k j lt_k lt_j at) n.parts m.parts in_n in_m same.1))
+
+-- two numbers of one tree are one
+pub one_number : (ns : List Plain) → AreNodes ns → (s t : ℕ) → s < length ns → t < length ns → tree_at ns s ≡ tree_at ns t → s ≡ t
+one_number ns are s t in_s in_t e = one_below ns are (length ns) (omega arith) s t in_s in_t e
+
+same_by_number : (ns : List Plain) → AreNodes ns → (s t : ℕ) → s < length ns → t < length ns → (b c : Bool) → eqb s t ≡ b → same_term (tree_at ns s) (tree_at ns t) ≡ c → b ≡ c
+same_by_number ns are s t in_s in_t true true e f = refl
+same_by_number ns are s t in_s in_t false false e f = refl
+same_by_number ns are s t in_s in_t true false e f =
+    let same = ap (tree_at ns) (eqb-true s t e) in
+    let self = ap (same_term (tree_at ns s)) (sym same) ∙ terms_self (tree_at ns s) in
+    sym self ∙ f
+same_by_number ns are s t in_s in_t false true e f =
+    let same = one_number ns are s t in_s in_t (terms_are (tree_at ns s) (tree_at ns t) f) in
+    sym e ∙ ap (eqb s) (sym same) ∙ eqb_self s
+
+-- numbers are equal exactly where they name equal trees
+pub same_is_number : (ns : List Plain) → AreNodes ns → (s t : ℕ) → s < length ns → t < length ns → eqb s t ≡ same_term (tree_at ns s) (tree_at ns t)
+same_is_number ns are s t in_s in_t = same_by_number ns are s t in_s in_t (eqb s t) (same_term (tree_at ns s) (tree_at ns t)) refl refl
+
+-- ---- the first nodes alone
+
+AreGrounded-front : (from : ℕ) (ns more : List Plain) → AreGrounded from (ns ++ more) → AreGrounded from ns
+AreGrounded-front from [] more grounded = tt
+AreGrounded-front from (n ∷ ns) more grounded = (grounded.0, AreGrounded-front (suc from) ns more grounded.1)
+
+front_node : (ns more : List Plain) (t : ℕ) → t < length ns → node_at (ns ++ more) t ≡ node_at ns t
+front_node ns more t lt = get_or_append_left ns more (of (term.number (pos 0)) []) t lt
+
+AreNodes-front : (ns more : List Plain) → AreNodes (ns ++ more) → AreNodes ns
+AreNodes-front ns more are = record {
+  grounded = AreGrounded-front 0 ns more are.grounded;
+  distinct = λ s t in_s in_t same. are.distinct s t (omega (arith, length-append ns more)) (omega (arith, length-append ns more)) (front_node ns more s in_s ∙ same ∙ sym (front_node ns more t in_t));
+}
+
+pub AreNodes-take : (ns new : List Plain) (m : ℕ) → AreNodes ns → new ≡ take m ns → AreNodes new
+AreNodes-take ns new m are e = subst AreNodes (sym e) (AreNodes-front (take m ns) (drop m ns) (subst AreNodes (sym (take-append-drop m ns)) are))
+
+pub tree_at-take : (ns new : List Plain) (m : ℕ) → m ≤ length ns → new ≡ take m ns → (t : ℕ) → t < m → tree_at new t ≡ tree_at ns t
+tree_at-take ns new m le e t lt =
+    let inside : t < length new = omega (arith, ap length e, length-take m ns) in
+    sym (tree_at-older new ns (drop m ns, sym (ap (λ (front : List Plain). front ++ drop m ns) e ∙ take-append-drop m ns)) t inside)
+
+-- ---- of a value whose nodes are known to be those inside
+
+pub interned : (seen inside new : List Plain) (n : Plain) (t : ℕ) → seen ≡ inside → AreNodes inside → HasPartsBelow (length seen) n → Adds inside new n t → tree_at new t ≡ grown (tree_at seen) n
+interned seen inside new n t same are below adds =
+    tree_at-added inside new n t are (subst (λ (ns : List Plain). HasPartsBelow (length ns) n) same below) adds ∙ ap (λ (ns : List Plain). grown (tree_at ns) n) (sym same)
+
+pub kept_inside : (seen inside new : List Plain) → seen ≡ inside → Extends inside new → (t : ℕ) → t < length seen → tree_at new t ≡ tree_at seen t
+kept_inside seen inside new same extends t lt =
+    tree_at-older inside new extends t (subst (λ (ns : List Plain). t < length ns) same lt) ∙ ap (λ (ns : List Plain). tree_at ns t) (sym same)
+
+pub interned_if : (seen inside new : List Plain) (n : Plain) {E : Type 0} (r : Result ℕ E) → seen ≡ inside → AreNodes inside → HasPartsBelow (length seen) n → IfOk r (Adds inside new n) → IfOk r (λ t. tree_at new t ≡ grown (tree_at seen) n)
+interned_if seen inside new n (Ok t) same are below adds = interned seen inside new n t same are below adds
+interned_if seen inside new n (Err e) same are below adds = tt
+
+pub kept_cut : (seen inside new : List Plain) (m n : ℕ) → seen ≡ inside → n ≡ m → m ≤ length seen → new ≡ take n inside → (t : ℕ) → t < m → tree_at new t ≡ tree_at seen t
+kept_cut seen inside new m n same count le e t lt =
+    let le' : m ≤ length inside = omega (arith, ap length same) in
+    tree_at-take inside new m le' (e ∙ ap (λ (k : ℕ). take k inside) count) t lt ∙ ap (λ (ns : List Plain). tree_at ns t) (sym same)

@@ -15,5 +15,5 @@ mod tests;
 
 pub use cond::{Cond, CondKind};
 pub use memory::NoMemory;
-pub use node::{Kind, Node};
-pub use terms::Terms;
+pub use node::{Kind, Node, Quantifier};
+pub use terms::{Mark, Terms};

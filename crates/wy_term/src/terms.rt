@@ -1,28 +1,46 @@
-//! The list of nodes in which a number names a term.
-ghost use Rattle.std.specs.Prelude.{◌≡◌, ◌<◌, ◌++◌, ◌∷◌, ◌↔◌, [], ℕ, List, length, map, IsTrue, IfOk, OnOk, OnErr};
-ghost use Rattle.wy_term.specs.Nodes.{plain, grown, tree_at, node_at as plain_at, HasPartsBelow};
+//! The list of nodes in which a number names a term, and equal terms have one number.
+ghost use Rattle.std.specs.Prelude.{◌≡◌, ◌<◌, ◌≤◌, ◌↔◌, [], ℕ, List, length, map, take, IsTrue, IfOk, OnErr};
+ghost use Rattle.wy_term.specs.Nodes.{plain, grown, tree_at, node_at as plain_at, HasPartsBelow, AreNodes, Extends, Adds};
+ghost use Rattle.wy_term.specs.Same.{same_term};
 
 use crate::memory::NoMemory;
 use crate::node::Node;
+use indexmap::IndexSet;
 use std::alloc::Global;
 use std::marker::Model;
 
 /// Terms and formulas by number, each made of earlier ones. A contract sees the list of its nodes, and by `tree_at` the
-/// tree that a number names. None of the forms that stand here is folded, and equal terms may have several numbers.
+/// tree that a number names. Two different numbers name different trees. None of the forms is folded yet.
 #[derive(Drop)]
 pub struct Terms {
-    nodes: Vec<Node>,
+    nodes: IndexSet<Node>,
 }
 
 impl Model for Terms {
     ghost use Rattle.std.specs.Prelude.{List, map};
-    ghost use Rattle.wy_term.specs.Nodes.{Plain, plain, AreGrounded};
+    ghost use Rattle.wy_term.specs.Nodes.{Plain, plain, AreNodes};
 
     ghost Value = { List Plain };
 
-    ghost view = { λ s. map plain s.nodes.items };
+    ghost view = { λ s. map plain s.nodes.keys };
 
-    ghost invariant = { λ s. AreGrounded 0 (map plain s.nodes.items) };
+    ghost invariant = { λ s. AreNodes (map plain s.nodes.keys) };
+}
+
+/// How many terms a list had.
+#[derive(Clone, Copy, Debug, PartialEq, Eq)]
+pub struct Mark {
+    terms: usize,
+}
+
+impl Model for Mark {
+    ghost use Rattle.std.specs.Prelude.{ℕ};
+
+    ghost Value = { ℕ };
+
+    ghost view = { λ m. m.terms };
+
+    ghost inverse = { λ n. record { terms = n } };
 }
 
 impl Terms {
@@ -31,7 +49,7 @@ impl Terms {
         ensures value { result ≡ [] }
     {
         Terms {
-            nodes: Vec::new(alloc),
+            nodes: IndexSet::new(alloc),
         }
     }
 
@@ -39,14 +57,14 @@ impl Terms {
     pub fn len(&self) -> usize
         ensures value { result ≡ length self.now }
     {
-        self.nodes.len()
+        count(&self.nodes)
     }
 
     /// Whether there are none.
     pub fn is_empty(&self) -> bool
         ensures value { IsTrue result ↔ (length self.now ≡ 0) }
     {
-        self.nodes.is_empty()
+        self.len() == 0
     }
 
     /// The node of the term with this number, in constant time. Its parts have smaller numbers.
@@ -59,37 +77,85 @@ impl Terms {
         node_at(&self.nodes, term)
     }
 
-    /// The number of a term with this node, in amortized constant time. Older numbers name what they named. Want of
-    /// memory is also the answer where 2^32 terms stand.
+    /// The number of the term with this node, in amortized constant time beside that of hashing the node. Older numbers
+    /// name what they named. Want of memory is also the answer where 2^32 - 1 terms stand.
     pub fn intern(&mut self, node: Node) -> Result<u32, NoMemory>
         requires { HasPartsBelow (length self.old) (plain node) }
-        ensures number { IfOk result (λ t. t ≡ length self.old) }
-        ensures value { OnOk result (self.new ≡ self.old ++ plain node ∷ []) }
         ensures tree { IfOk result (λ t. tree_at self.new t ≡ grown (tree_at self.old) (plain node)) }
+        ensures within { IfOk result (λ t. t < length self.new) }
         ensures kept { (t : ℕ) → t < length self.old → tree_at self.new t ≡ tree_at self.old t }
+        ensures grows { length self.old ≤ length self.new }
         ensures no_memory { OnErr result (self.new ≡ self.old) }
     {
-        let Ok(term) = u32::try_from(self.nodes.len()) else {
-            return Err(NoMemory);
-        };
-        push_node(&mut self.nodes, node)?;
-        Ok(term)
+        add(&mut self.nodes, node)
+    }
+
+    /// Whether two numbers name equal terms, in constant time.
+    pub fn same(&self, s: u32, t: u32) -> bool
+        requires first { s < length self.now }
+        requires second { t < length self.now }
+        ensures value { result ≡ same_term (tree_at self.now s) (tree_at self.now t) }
+    {
+        same_number(&self.nodes, s, t)
+    }
+
+    /// How many terms there are, to go back to. It takes no memory.
+    pub fn mark(&self) -> Mark
+        ensures value { result ≡ length self.now }
+    {
+        Mark { terms: self.len() }
+    }
+
+    /// Takes away the terms that were made after the mark, in time linear in their number. It takes no memory.
+    pub fn back_to(&mut self, mark: Mark)
+        requires { mark ≤ length self.old }
+        ensures value { self.new ≡ take mark self.old }
+        ensures kept { (t : ℕ) → t < mark → tree_at self.new t ≡ tree_at self.old t }
+    {
+        cut(&mut self.nodes, mark.terms);
     }
 }
 
+fn count(nodes: &IndexSet<Node>) -> usize
+    ensures { result ≡ length (map plain nodes.now.keys) }
+{
+    nodes.len()
+}
+
 // The node with a number.
-fn node_at(nodes: &[Node], term: u32) -> &Node
-    requires { term < length nodes.now }
-    ensures { plain result.now ≡ plain_at (map plain nodes.now) term }
+fn node_at(nodes: &IndexSet<Node>, term: u32) -> &Node
+    requires { term < length (map plain nodes.now.keys) }
+    ensures { plain result.now ≡ plain_at (map plain nodes.now.keys) term }
 {
     &nodes[term as usize]
 }
 
-// One more node.
-fn push_node(nodes: &mut Vec<Node>, node: Node) -> Result<(), NoMemory>
-    ensures ok { OnOk result (map plain nodes.new.items ≡ map plain nodes.old.items ++ plain node ∷ []) }
-    ensures err { OnErr result (nodes.new.items ≡ nodes.old.items) }
+// The number of a node, which is put in where it doesn't stand yet.
+fn add(nodes: &mut IndexSet<Node>, node: Node) -> Result<u32, NoMemory>
+    ensures added { IfOk result (Adds (map plain nodes.old.keys) (map plain nodes.new.keys) (plain node)) }
+    ensures extends { Extends (map plain nodes.old.keys) (map plain nodes.new.keys) }
+    ensures no_memory { OnErr result (nodes.new.keys ≡ nodes.old.keys) }
 {
-    nodes.push(node)?;
-    Ok(())
+    if nodes.len() >= u32::MAX as usize {
+        return Err(NoMemory);
+    }
+    let (term, _) = nodes.insert_full(node)?;
+    Ok(term as u32)
+}
+
+// Whether two numbers are equal, and so name equal terms.
+fn same_number(nodes: &IndexSet<Node>, s: u32, t: u32) -> bool
+    requires nodes { AreNodes (map plain nodes.now.keys) }
+    requires first { s < length (map plain nodes.now.keys) }
+    requires second { t < length (map plain nodes.now.keys) }
+    ensures { result ≡ same_term (tree_at (map plain nodes.now.keys) s) (tree_at (map plain nodes.now.keys) t) }
+{
+    s == t
+}
+
+// The first nodes alone.
+fn cut(nodes: &mut IndexSet<Node>, terms: usize)
+    ensures { map plain nodes.new.keys ≡ take terms (map plain nodes.old.keys) }
+{
+    nodes.truncate(terms);
 }

@@ -3,9 +3,8 @@ use Rattle.std.specs.Prelude.{ℕ, ◌+◌, List, [], ◌∷◌, ◌++◌, lengt
 use Rattle.wy_value.specs.declared.bounds.TheConstants.{INT_MIN, INT_MAX}
 use Rattle.wy_term.specs.declared.cond.CondKind.{CondKind}
 use Rattle.wy_term.specs.declared.cond.CondKind.TheVariants.{Range, Ensures}
-use Rattle.wy_term.specs.declared.node.Kind.TheVariants.{Int}
 use Rattle.wy_term.specs.Condition.{Condition}
-use Rattle.wy_term.specs.Term.{Term, Number, Add, Sub, Num, ValName, OfKind, Not}
+use Rattle.wy_term.specs.Term.{Term, Number, Add, Sub, Num, ValName, OfKind, Not, int_kind}
 use Rattle.wy_term.specs.Term as term
 use Rattle.wy_top.specs.declared.thin.Comparison.{Comparison}
 use Rattle.wy_top.specs.declared.thin.Comparison.TheVariants.{Less, AtMost, Greater, AtLeast}
@@ -48,7 +47,7 @@ limit_number p (the_number number) = Number (pos number.value)
 
 -- the argument is of type `int`: it is a number, and is neither below the least `int` nor above the greatest
 abbrev pub is_int : Program → Term
-is_int p = OfKind (argument p) Int
+is_int p = OfKind (argument p) int_kind
 
 abbrev pub is_not_below : Term → Term
 is_not_below t = term.AtMost (Number INT_MIN) t

@@ -17,5 +17,5 @@ pub mod Steps
 pub mod Reporting
 pub mod Scanning
 pub mod Reading
+pub mod ConditionTerms
 pub mod CertificateReading
-pub mod ConditionNodes

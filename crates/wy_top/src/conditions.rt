@@ -1,14 +1,15 @@
 //! The conditions of a thin program: two on the range of what it returns, and one on its ensures clause.
-ghost use Rattle.std.specs.Prelude.{◌≡◌, ◌≤◌, ◌+◌, [], length, IfOk, OnOk};
-ghost use Rattle.wy_term.specs.Nodes.{plain};
+ghost use Rattle.std.specs.Prelude.{◌≡◌, ◌≤◌, ◌<◌, length, IfOk, pos};
+ghost use Rattle.wy_term.specs.Nodes.{plain, grown, tree_at, HasPartsBelow};
 ghost use Rattle.wy_check.specs.Seen.{IsOf};
 ghost use Rattle.wy_top.specs.Thin.{IsThin, comparison_text, limit_text};
 ghost use Rattle.wy_top.specs.Seen.{seen, seen_bound};
-ghost use Rattle.wy_top.specs.Conditions.{text_before_colon, sign_offset, return_offset, least_owed, greatest_owed, ensures_owed, conditions_of};
-ghost use Rattle.wy_top.specs.ConditionNodes.{atom_node, formula_number, returned_node, limit_value, limit_term, number_nodes, hypothesis_nodes, all_nodes, owed_by, seen_conditions, IsCond};
+ghost use Rattle.wy_top.specs.Conditions.{text_before_colon, sign_offset, return_offset, compared, changed, limit_number, returned_number, least_owed, greatest_owed, ensures_owed, conditions_of};
+ghost use Rattle.wy_top.specs.ConditionTerms.{IsAt, Keeps, IsParameter, AreEnds, AreAssumed, AreGoals, owed_by, seen_conditions, IsCond};
 
 use crate::thin::{Bound, Comparison, Sign, Thin};
 use std::alloc::Global;
+use wy_data::Name;
 use wy_term::{Cond, CondKind, Kind, NoMemory, Node, Terms};
 use wy_value::{INT_MAX, INT_MIN};
 
@@ -24,7 +25,38 @@ pub struct Conditions {
     pub ensured: Cond,
 }
 
-/// The conditions of a thin program, in 17 terms.
+// The numbers of the terms for the parameter: its datum and that datum's number.
+#[derive(Clone, Copy)]
+struct Parameter {
+    datum: u32,
+    number: u32,
+}
+
+// The numbers of the terms for the least and the greatest `int`.
+#[derive(Clone, Copy)]
+struct Ends {
+    least: u32,
+    greatest: u32,
+}
+
+// The numbers of what may be assumed in the body.
+#[derive(Clone, Copy)]
+struct Assumed {
+    int: u32,
+    least: u32,
+    greatest: u32,
+    required: u32,
+}
+
+// The numbers of what is owed of the result.
+#[derive(Clone, Copy)]
+struct Goals {
+    least: u32,
+    greatest: u32,
+    ensured: u32,
+}
+
+/// The conditions of a thin program, in at most 17 terms.
 pub fn conditions_of(alloc: Global, program: &Thin<'_>) -> Result<Conditions, NoMemory>
     requires { IsThin (seen program.now) }
     ensures value { IfOk result (λ c. seen_conditions c ≡ conditions_of (seen program.now)) }
@@ -33,12 +65,13 @@ pub fn conditions_of(alloc: Global, program: &Thin<'_>) -> Result<Conditions, No
     ensures ensured { IfOk result (λ c. IsOf (length c.terms) c.ensured) }
 {
     let mut terms = Terms::new(alloc);
-    add_numbers(alloc, &mut terms, program)?;
-    add_hypotheses(&mut terms, program)?;
-    add_goals(&mut terms, program)?;
-    let least = least_cond(alloc, program)?;
-    let greatest = greatest_cond(alloc, program)?;
-    let ensured = ensured_cond(alloc, program)?;
+    let parameter = add_parameter(alloc, &mut terms, program)?;
+    let ends = add_ends(&mut terms)?;
+    let assumed = add_assumed(&mut terms, program, parameter, ends)?;
+    let goals = add_goals(&mut terms, program, parameter, ends)?;
+    let least = least_cond(alloc, &terms, program, assumed, goals)?;
+    let greatest = greatest_cond(alloc, &terms, program, assumed, goals)?;
+    let ensured = ensured_cond(alloc, &terms, program, assumed, goals)?;
     Ok(Conditions {
         terms,
         least,
@@ -49,90 +82,138 @@ pub fn conditions_of(alloc: Global, program: &Thin<'_>) -> Result<Conditions, No
 
 // ---- terms
 
-fn atom(comparison: Comparison, s: u32, t: u32) -> Node
-    ensures { plain result ≡ atom_node comparison s t }
+// The number of the term with this node.
+fn intern(terms: &mut Terms, node: Node) -> Result<u32, NoMemory>
+    requires { HasPartsBelow (length terms.old) (plain node) }
+    ensures made { IfOk result (λ t. IsAt terms.new t (grown (tree_at terms.old) (plain node))) }
+    ensures keeps { Keeps terms.old terms.new }
+{
+    terms.intern(node)
+}
+
+// The number of a comparison as a formula.
+fn formula(terms: &mut Terms, comparison: Comparison, s: u32, t: u32) -> Result<u32, NoMemory>
+    requires first { s < length terms.old }
+    requires second { t < length terms.old }
+    ensures made { IfOk result (λ r. IsAt terms.new r (compared comparison (tree_at terms.old s) (tree_at terms.old t))) }
+    ensures keeps { Keeps terms.old terms.new }
 {
     match comparison {
-        Comparison::Less | Comparison::AtLeast => Node::AtMost(t, s),
-        Comparison::AtMost | Comparison::Greater => Node::AtMost(s, t),
+        Comparison::Less => {
+            let atom = intern(terms, Node::AtMost(t, s))?;
+            intern(terms, Node::Not(atom))
+        }
+        Comparison::AtMost => intern(terms, Node::AtMost(s, t)),
+        Comparison::Greater => {
+            let atom = intern(terms, Node::AtMost(s, t))?;
+            intern(terms, Node::Not(atom))
+        }
+        Comparison::AtLeast => intern(terms, Node::AtMost(t, s)),
     }
 }
 
-fn formula(comparison: Comparison, atom: u32) -> u32
-    requires { atom ≤ 15 }
-    ensures { result ≡ formula_number comparison atom }
+// The number of what is returned.
+fn returned(terms: &mut Terms, program: &Thin<'_>, parameter: Parameter) -> Result<u32, NoMemory>
+    requires { IsParameter terms.old (seen program.now) parameter }
+    ensures made { IfOk result (λ r. IsAt terms.new r (returned_number (seen program.now))) }
+    ensures keeps { Keeps terms.old terms.new }
 {
-    match comparison {
-        Comparison::Less | Comparison::Greater => atom + 1,
-        Comparison::AtMost | Comparison::AtLeast => atom,
-    }
+    let amount = intern(terms, Node::Number(i128::from(program.amount.value)))?;
+    changed(terms, program.sign, parameter.number, amount)
 }
 
-fn returned(sign: Sign) -> Node
-    ensures { plain result ≡ returned_node sign }
+// The number of a sum or a difference.
+fn changed(terms: &mut Terms, sign: Sign, s: u32, t: u32) -> Result<u32, NoMemory>
+    requires first { s < length terms.old }
+    requires second { t < length terms.old }
+    ensures made { IfOk result (λ r. IsAt terms.new r (changed sign (tree_at terms.old s) (tree_at terms.old t))) }
+    ensures keeps { Keeps terms.old terms.new }
 {
     match sign {
-        Sign::Plus => Node::Add(1, 5),
-        Sign::Minus => Node::Sub(1, 5),
+        Sign::Plus => intern(terms, Node::Add(s, t)),
+        Sign::Minus => intern(terms, Node::Sub(s, t)),
     }
 }
 
-fn limit_value(bound: &Bound<'_>) -> u64
-    ensures { result ≡ limit_value (seen_bound bound.now) }
+// The number of what the result is compared with.
+fn limit(terms: &mut Terms, program: &Thin<'_>, parameter: Parameter) -> Result<u32, NoMemory>
+    requires { IsParameter terms.old (seen program.now) parameter }
+    ensures made { IfOk result (λ r. IsAt terms.new r (limit_number (seen program.now) (seen_bound program.now.post_bound))) }
+    ensures keeps { Keeps terms.old terms.new }
 {
-    match bound {
-        Bound::Parameter => 0,
-        Bound::Literal(numeral) => numeral.value,
+    match program.post_bound {
+        Bound::Parameter => Ok(parameter.number),
+        Bound::Literal(numeral) => intern(terms, Node::Number(i128::from(numeral.value))),
     }
 }
 
-fn limit_term(bound: &Bound<'_>) -> u32
-    ensures value { result ≡ limit_term (seen_bound bound.now) }
-    ensures within { result ≤ 6 }
+fn add_parameter(
+    alloc: Global,
+    terms: &mut Terms,
+    program: &Thin<'_>,
+) -> Result<Parameter, NoMemory>
+    ensures made { IfOk result (IsParameter terms.new (seen program.now)) }
 {
-    match bound {
-        Bound::Parameter => 1,
-        Bound::Literal(_) => 6,
-    }
+    let name = Name::new(String::from_str(alloc, program.param)?);
+    let datum = intern(terms, Node::ValName(name, 0))?;
+    let number = intern(terms, Node::Num(datum))?;
+    Ok(Parameter { datum, number })
 }
 
-fn add_numbers(alloc: Global, terms: &mut Terms, program: &Thin<'_>) -> Result<(), NoMemory>
-    requires { terms.old ≡ [] }
-    ensures { OnOk result (terms.new ≡ number_nodes (seen program.now)) }
+fn add_ends(terms: &mut Terms) -> Result<Ends, NoMemory>
+    ensures made { IfOk result (AreEnds terms.new) }
+    ensures keeps { Keeps terms.old terms.new }
 {
-    let param = String::from_str(alloc, program.param)?;
-    terms.intern(Node::ValName(param, 0))?;
-    terms.intern(Node::Num(0))?;
-    terms.intern(Node::Number(INT_MIN))?;
-    terms.intern(Node::Number(INT_MAX))?;
-    terms.intern(Node::Number(i128::from(program.pre_bound.value)))?;
-    terms.intern(Node::Number(i128::from(program.amount.value)))?;
-    terms.intern(Node::Number(i128::from(limit_value(&program.post_bound))))?;
-    Ok(())
+    let least = intern(terms, Node::Number(INT_MIN))?;
+    let greatest = intern(terms, Node::Number(INT_MAX))?;
+    Ok(Ends { least, greatest })
 }
 
-fn add_hypotheses(terms: &mut Terms, program: &Thin<'_>) -> Result<(), NoMemory>
-    requires { terms.old ≡ number_nodes (seen program.now) }
-    ensures { OnOk result (terms.new ≡ hypothesis_nodes (seen program.now)) }
+fn add_assumed(
+    terms: &mut Terms,
+    program: &Thin<'_>,
+    parameter: Parameter,
+    ends: Ends,
+) -> Result<Assumed, NoMemory>
+    requires parameter { IsParameter terms.old (seen program.now) parameter }
+    requires ends { AreEnds terms.old ends }
+    ensures made { IfOk result (AreAssumed terms.new (seen program.now)) }
+    ensures keeps { Keeps terms.old terms.new }
 {
-    terms.intern(Node::Kind(0, Kind::Int))?;
-    terms.intern(Node::AtMost(2, 1))?;
-    terms.intern(Node::AtMost(1, 3))?;
-    terms.intern(atom(program.pre, 1, 4))?;
-    terms.intern(Node::Not(10))?;
-    Ok(())
+    let int = intern(terms, Node::Kind(parameter.datum, Kind::Int))?;
+    let least = intern(terms, Node::AtMost(ends.least, parameter.number))?;
+    let greatest = intern(terms, Node::AtMost(parameter.number, ends.greatest))?;
+    let bound = intern(terms, Node::Number(i128::from(program.pre_bound.value)))?;
+    let required = formula(terms, program.pre, parameter.number, bound)?;
+    Ok(Assumed {
+        int,
+        least,
+        greatest,
+        required,
+    })
 }
 
-fn add_goals(terms: &mut Terms, program: &Thin<'_>) -> Result<(), NoMemory>
-    requires { terms.old ≡ hypothesis_nodes (seen program.now) }
-    ensures { OnOk result (terms.new ≡ all_nodes (seen program.now)) }
+fn add_goals(
+    terms: &mut Terms,
+    program: &Thin<'_>,
+    parameter: Parameter,
+    ends: Ends,
+) -> Result<Goals, NoMemory>
+    requires parameter { IsParameter terms.old (seen program.now) parameter }
+    requires ends { AreEnds terms.old ends }
+    ensures made { IfOk result (AreGoals terms.new (seen program.now)) }
+    ensures keeps { Keeps terms.old terms.new }
 {
-    terms.intern(returned(program.sign))?;
-    terms.intern(Node::AtMost(2, 12))?;
-    terms.intern(Node::AtMost(12, 3))?;
-    terms.intern(atom(program.post, 12, limit_term(&program.post_bound)))?;
-    terms.intern(Node::Not(15))?;
-    Ok(())
+    let result = returned(terms, program, parameter)?;
+    let least = intern(terms, Node::AtMost(ends.least, result))?;
+    let greatest = intern(terms, Node::AtMost(result, ends.greatest))?;
+    let limit = limit(terms, program, parameter)?;
+    let ensured = formula(terms, program.post, result, limit)?;
+    Ok(Goals {
+        least,
+        greatest,
+        ensured,
+    })
 }
 
 // ---- places
@@ -202,48 +283,65 @@ fn cond(alloc: Global, kind: CondKind, at: u32, hyps: &[u32], goal: u32) -> Resu
     })
 }
 
-fn least_cond(alloc: Global, program: &Thin<'_>) -> Result<Cond, NoMemory>
-    requires { IsThin (seen program.now) }
-    ensures value { IfOk result (λ c. owed_by (all_nodes (seen program.now)) c ≡ least_owed (seen program.now)) }
-    ensures within { IfOk result (IsOf 17) }
+fn least_cond(
+    alloc: Global,
+    _terms: &Terms,
+    program: &Thin<'_>,
+    a: Assumed,
+    g: Goals,
+) -> Result<Cond, NoMemory>
+    requires thin { IsThin (seen program.now) }
+    requires assumed { AreAssumed _terms.now (seen program.now) a }
+    requires goals { AreGoals _terms.now (seen program.now) g }
+    ensures value { IfOk result (λ c. owed_by _terms.now c ≡ least_owed (seen program.now)) }
+    ensures within { IfOk result (IsOf (length _terms.now)) }
 {
-    let required = formula(program.pre, 10);
+    let hyps = [a.int, a.least, a.greatest, a.required];
+    cond(alloc, CondKind::Range, sign_offset(program), &hyps, g.least)
+}
+
+fn greatest_cond(
+    alloc: Global,
+    _terms: &Terms,
+    program: &Thin<'_>,
+    a: Assumed,
+    g: Goals,
+) -> Result<Cond, NoMemory>
+    requires thin { IsThin (seen program.now) }
+    requires assumed { AreAssumed _terms.now (seen program.now) a }
+    requires goals { AreGoals _terms.now (seen program.now) g }
+    ensures value { IfOk result (λ c. owed_by _terms.now c ≡ greatest_owed (seen program.now)) }
+    ensures within { IfOk result (IsOf (length _terms.now)) }
+{
+    let hyps = [a.int, a.least, a.greatest, a.required, g.least];
     cond(
         alloc,
         CondKind::Range,
         sign_offset(program),
-        &[7, 8, 9, required],
-        13,
+        &hyps,
+        g.greatest,
     )
 }
 
-fn greatest_cond(alloc: Global, program: &Thin<'_>) -> Result<Cond, NoMemory>
-    requires { IsThin (seen program.now) }
-    ensures value { IfOk result (λ c. owed_by (all_nodes (seen program.now)) c ≡ greatest_owed (seen program.now)) }
-    ensures within { IfOk result (IsOf 17) }
+fn ensured_cond(
+    alloc: Global,
+    _terms: &Terms,
+    program: &Thin<'_>,
+    a: Assumed,
+    g: Goals,
+) -> Result<Cond, NoMemory>
+    requires thin { IsThin (seen program.now) }
+    requires assumed { AreAssumed _terms.now (seen program.now) a }
+    requires goals { AreGoals _terms.now (seen program.now) g }
+    ensures value { IfOk result (λ c. owed_by _terms.now c ≡ ensures_owed (seen program.now)) }
+    ensures within { IfOk result (IsOf (length _terms.now)) }
 {
-    let required = formula(program.pre, 10);
-    cond(
-        alloc,
-        CondKind::Range,
-        sign_offset(program),
-        &[7, 8, 9, required, 13],
-        14,
-    )
-}
-
-fn ensured_cond(alloc: Global, program: &Thin<'_>) -> Result<Cond, NoMemory>
-    requires { IsThin (seen program.now) }
-    ensures value { IfOk result (λ c. owed_by (all_nodes (seen program.now)) c ≡ ensures_owed (seen program.now)) }
-    ensures within { IfOk result (IsOf 17) }
-{
-    let required = formula(program.pre, 10);
-    let ensured = formula(program.post, 15);
+    let hyps = [a.int, a.least, a.greatest, a.required, g.least, g.greatest];
     cond(
         alloc,
         CondKind::Ensures,
         return_offset(program),
-        &[7, 8, 9, required, 13, 14],
-        ensured,
+        &hyps,
+        g.ensured,
     )
 }

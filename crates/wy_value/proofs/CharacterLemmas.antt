@@ -1,12 +1,12 @@
 -- What the classes of characters say of single characters.
-use Rattle.std.proofs.Common.{◌≡◌, ℕ, ◌<◌, ◌==◌, ◌||◌, Bool, true, false, true≢false, List, [], ◌∷◌, refl, sym, ap, ◌∙◌, arith}
+use Rattle.std.proofs.Common.{◌≡◌, ℕ, true, false, true≢false, List, [], ◌∷◌, sym, arith}
 use Rattle.wy_data.proofs.WordLemmas.{is_start-ascii, is_part-ascii}
 use Rattle.wy_data.specs.Words.{is_start, is_part}
 use Rattle.wy_reading.specs.Rule.{heads}
 use Rattle.wy_reading.proofs.Exactness.{Passes, Lacks}
 use Rattle.wy_reading.proofs.SymbolSets.{heads-at, heads-not}
 use Rattle.wy_value.specs.declared.character.Character.{Character}
-use Rattle.wy_value.specs.declared.character.Character.TheVariants.{Space, Digit, Start, Part, Open, Number, Value, Is}
+use Rattle.wy_value.specs.declared.character.Character.TheVariants.{Is}
 use Rattle.wy_value.specs.Characters.{has}
 
 -- where the first character is c, a class answers as at c

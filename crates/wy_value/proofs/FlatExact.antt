@@ -1,10 +1,9 @@
 -- Spaces, numbers, words and names are read exactly.
-use Rattle.std.proofs.Common.{◌≡◌, ℕ, zero, suc, ◌≤◌, ◌==◌, ℤ, Bool, true, false, true≢false, List, [], ◌∷◌, ◌++◌, length, Ok, ◌⊎◌, inl, inr, refl, sym, subst, rules, codes}
-use Rattle.std.specs.Bool.{⊤}
+use Rattle.std.proofs.Common.{◌≡◌, ℕ, ◌≤◌, ℤ, true, false, true≢false, List, [], ◌∷◌, length, Ok, ◌⊎◌, inl, inr, refl, sym, subst, rules}
 use Rattle.std.specs.Str.{encode_utf8_all}
 use Rattle.wy_reading.specs.Mode.{Mode}
-use Rattle.wy_reading.specs.Rule.{heads, Checked, Only, Word}
-use Rattle.wy_reading.specs.Reader.{Outcome, and_then, ◌>>=◌, pure, one, word}
+use Rattle.wy_reading.specs.Rule.{heads, Only, Word}
+use Rattle.wy_reading.specs.Reader.{Outcome, and_then, ◌>>=◌, pure, one}
 use Rattle.wy_reading.proofs.Exactness.{Exact, ExactTo, Passes, Lacks}
 use Rattle.wy_reading.proofs.Outcomes.{and_then-ok, ok-parts, if-cases}
 use Rattle.wy_reading.proofs.Single.{nothing, symbol}
@@ -18,7 +17,7 @@ use Rattle.wy_value.specs.declared.fault.Kind.{Kind}
 use Rattle.wy_value.specs.declared.fault.Kind.TheVariants.{Range, Twice}
 use Rattle.wy_value.specs.declared.value.Value.{Value}
 use Rattle.wy_value.specs.declared.value.Value.TheVariants as value
-use Rattle.wy_value.specs.Characters.{has, is_digit}
+use Rattle.wy_value.specs.Characters.{has}
 use Rattle.wy_value.specs.Numbers.{plain, negated, is_int}
 use Rattle.wy_value.specs.Grammar.{eq, Spaces, Mark, Digits, Number, NoDigit, Int, Literal, Flat, Entry, may_name, is_new, NoPart, NewName}
 use Rattle.wy_value.specs.Reading.{spaces, mark, digits, number, int, literal, flat, name, new_name}

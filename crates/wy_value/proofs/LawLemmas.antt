@@ -1,12 +1,9 @@
 -- Values and their texts determine each other.
-use Rattle.std.proofs.Common.{◌≡◌, ℕ, ◌≤◌, max, true, List, [], ◌∷◌, ◌++◌, Ok, Err, refl, sym, ap, ◌∙◌, subst, arith}
-use Rattle.std.specs.Str.{chars, encode_utf8_all, IsUtf8}
-use Rattle.std.specs.Str.Lossy.{utf8_lossy}
+use Rattle.std.proofs.Common.{◌≡◌, ℕ, ◌≤◌, max, true, List, [], ◌∷◌, ◌++◌, refl, sym, ap, ◌∙◌, subst, arith}
+use Rattle.std.specs.Str.{chars, IsUtf8}
 use Rattle.std.proofs.lemmas.Str.{chars-encodes, utf8_lossy-IsUtf8}
-use Rattle.wy_reading.specs.declared.stop.Stop.TheVariants as stop
 use Rattle.wy_reading.specs.Mode.{Mode}
 use Rattle.wy_reading.specs.Places.{IsText}
-use Rattle.wy_reading.specs.Rule.{heads}
 use Rattle.wy_value.specs.declared.fault.Kind.{Kind}
 use Rattle.wy_value.specs.declared.value.Value.{Value}
 use Rattle.wy_value.specs.Datum.{Datum, item, no_items}
@@ -14,8 +11,7 @@ use Rattle.wy_value.specs.Values.{IsValue}
 use Rattle.wy_value.specs.Seen.{seen}
 use Rattle.wy_value.specs.Shown.{shown, nesting}
 use Rattle.wy_value.specs.Grammar.{Text}
-use Rattle.wy_value.specs.Reading as spec
-use Rattle.wy_value.specs.ArgumentText.{symbols, profile, AreText, Spells, Meets, MeetsAt, offset}
+use Rattle.wy_value.specs.ArgumentText.{symbols, profile, AreText, Spells, Meets, offset}
 use Rattle.wy_value.proofs.Refusals.{promised}
 use Rattle.wy_value.proofs.RoundTrip.{items-spell, mark-spells}
 use Rattle.wy_value.proofs.Texts.{text}

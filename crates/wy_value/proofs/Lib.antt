@@ -14,3 +14,4 @@ pub mod Texts
 pub mod TextBytes
 pub mod RoundTrip
 pub mod LawLemmas
+pub mod ReadValues

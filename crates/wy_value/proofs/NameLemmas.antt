@@ -1,5 +1,5 @@
 -- Long words are no keywords, and no names of given fields.
-use Rattle.std.proofs.Common.{◌≡◌, ℕ, suc, ◌≤◌, max, Bool, true, false, not, cond, List, [], ◌∷◌, length, refl, arith, rules}
+use Rattle.std.proofs.Common.{◌≡◌, ℕ, suc, ◌≤◌, max, true, false, List, [], ◌∷◌, length, refl, arith, rules}
 use Rattle.std.specs.Str.{bytes_eq, encode_utf8_all}
 use Rattle.std.proofs.lemmas.Str.{length-le-encodes}
 use Rattle.wy_data.specs.Words.{among, keywords, is_keyword}

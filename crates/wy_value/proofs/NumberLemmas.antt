@@ -1,5 +1,5 @@
 -- More digits make no smaller number.
-use Rattle.std.proofs.Common.{◌≡◌, ℕ, ◌+◌, ◌-◌, ◌*◌, ◌≤◌, List, [], ◌∷◌, refl, arith}
+use Rattle.std.proofs.Common.{ℕ, ◌+◌, ◌-◌, ◌*◌, ◌≤◌, List, [], ◌∷◌, arith}
 use Rattle.wy_value.specs.Numbers.{number_from}
 
 pub number_grows : (n : ℕ) (ds : List ℕ) → n ≤ number_from n ds

@@ -1,6 +1,7 @@
 -- The bytes of characters, one character after another.
-use Rattle.std.proofs.Common.{◌≡◌, ℕ, zero, suc, ◌+◌, ◌<◌, ◌≤◌, List, [], ◌∷◌, ◌++◌, length, take, drop, slice_index_or, refl, sym, ap, ◌∙◌, arith, length-append, append-nil, append_assoc}
-use Rattle.std.specs.Str.{encode_utf8_all}
+use Rattle.std.proofs.Common.{true, ◌≡◌, ℕ, zero, suc, ◌+◌, ◌<◌, List, [], ◌∷◌, ◌++◌, length, take, slice_index_or, sym, ap, ◌∙◌, arith, length-append, append-nil, append_assoc}
+use Rattle.std.specs.Str.{encode_utf8_all, all_scalars, IsUtf8}
+use Rattle.std.proofs.lemmas.Str.{chars_from_encodes, scalars-chars}
 use Rattle.std.specs.Char.{encode_utf8}
 
 -- one more character
@@ -14,3 +15,7 @@ pub bytes-take : (cs : List ℕ) (n m c : ℕ) → m ≡ suc n → n < length cs
 bytes-take cs n m c next le e =
     let h = encoded_next cs n c le in
     omega (arith, ap (λ k. length (encode_utf8_all (take k cs))) next, ap length h, length-append (encode_utf8_all (take n cs)) (encode_utf8 (slice_index_or cs n c)), ap (λ d. length (encode_utf8 d)) e)
+
+-- the characters of a text are characters
+pub decoded_scalars : (bytes cs : List ℕ) → IsUtf8 bytes → encode_utf8_all cs ≡ bytes → all_scalars cs ≡ true
+decoded_scalars bytes cs u e = ap all_scalars (chars_from_encodes cs bytes u e) ∙ scalars-chars bytes u

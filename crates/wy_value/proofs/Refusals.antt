@@ -1,11 +1,11 @@
 -- What is answered for an argument text whose characters are i.
-use Rattle.std.proofs.Common.{◌≡◌, ◌≢◌, ℕ, List, length, Result, Ok, Err, ◌⊎◌, inl, inr, refl, subst, sym}
+use Rattle.std.proofs.Common.{true, ◌<◌, ◌^◌, arith, ◌≡◌, ◌≢◌, ℕ, List, length, Result, Ok, Err, inl, inr, refl, subst, sym}
 use Rattle.wy_reading.specs.declared.stop.Stop.{Stop}
 use Rattle.wy_reading.specs.declared.stop.Stop.TheVariants as stop
 use Rattle.wy_reading.specs.Mode.{Mode}
 use Rattle.wy_reading.specs.Places.{IsPlace, Within}
 use Rattle.wy_reading.specs.Promise.{Promise}
-use Rattle.wy_reading.specs.Rule.{Rule, Then, One, Pure}
+use Rattle.wy_reading.specs.Rule.{Then, One, Pure}
 use Rattle.wy_reading.proofs.Exactness.{Passes}
 use Rattle.wy_reading.proofs.Theorem.{promise, whole-closes}
 use Rattle.wy_reading.proofs.Theorem as theorem
@@ -18,6 +18,10 @@ use Rattle.wy_value.specs.Characters.{has}
 use Rattle.wy_value.specs.Grammar.{R, Mark, Elems, ValueIn, Text}
 use Rattle.wy_value.specs.Reading.{text}
 use Rattle.wy_value.specs.ArgumentText.{profile, AreText, MeetsAt, AreRefused, fault_of, fault_at, Answers}
+use Rattle.std.specs.Str.{all_scalars}
+use Rattle.wy_value.specs.Seen.{seen_items}
+use Rattle.wy_value.specs.Values.{AreValues}
+use Rattle.wy_value.proofs.ReadValues.{text-values}
 use Rattle.wy_value.proofs.TextExact.{text-exact}
 
 -- the text without its end
@@ -34,6 +38,10 @@ module _ (i : List ℕ) where
   pub read-spells : (vs : List Value) (j : List ℕ) → text profile i ≡ Ok (vs, j) → AreText i vs
   unfolding AreText
   read-spells = theorem.read-spells Text text profile (promised profile) (fault_at i) i
+
+  pub read-values : (vs : List Value) (j : List ℕ) → text profile i ≡ Ok (vs, j) → all_scalars i ≡ true → length i < 2 ^ 63 → AreValues (seen_items vs)
+  read-values vs j h scalars within =
+      text-values 100 i vs j ((text-exact profile).sound i vs j h) scalars (omega (arith, within))
 
   pub read-reads : (us : List Value) (j : List ℕ) → text profile i ≡ Ok (us, j) → (vs : List Value) → AreText i vs → (let r : Result (List Value) ValueFault = Ok us in Answers (Ok vs) r)
   unfolding AreText

@@ -1,19 +1,18 @@
 -- The text of a value spells the value.
-use Rattle.std.proofs.Common.{◌≡◌, ℕ, zero, suc, ◌+◌, ◌<◌, ◌≤◌, ◌^◌, max, ℤ, pos, negsuc, Bool, true, false, not, List, [], ◌∷◌, ◌++◌, codes, ◌⊎◌, inl, inr, refl, sym, ap, ◌∙◌, subst, arith, rules, append_assoc, append-nil, ◌≤ℤ◌}
+use Rattle.std.proofs.Common.{◌≡◌, ℕ, zero, suc, ◌<◌, ◌≤◌, ◌^◌, ℤ, pos, negsuc, Bool, true, false, List, [], ◌∷◌, ◌++◌, codes, inl, inr, refl, sym, ap, ◌∙◌, subst, arith, rules, append_assoc, append-nil, ◌≤ℤ◌}
 use Rattle.std.specs.Bool.{⊤}
 use Rattle.std.proofs.lemmas.Int.{ints}
-use Rattle.std.specs.BTreeMap.{insert_entry}
 use Rattle.std.specs.Cmp.Lexicographic.{slice_cmp, nat_list_cmp_total}
 use Rattle.std.specs.Fmt.{decimal, signed_decimal}
 use Rattle.std.specs.List.{AllByRecursion}
 use Rattle.std.specs.List.Sorted.{IsStrictlySortedBy}
-use Rattle.std.specs.Ordering.{is_eq, nat_cmp, ordering_reverse}
-use Rattle.std.specs.declared.cmp.Ordering.TheVariants.{Less, Equal, Greater}
-use Rattle.std.specs.Str.{bytes_eq, chars, encode_utf8_all}
+use Rattle.std.specs.Ordering.{nat_cmp, ordering_reverse}
+use Rattle.std.specs.declared.cmp.Ordering.TheVariants.{Less, Greater}
+use Rattle.std.specs.Str.{chars}
 use Rattle.std.proofs.lemmas.Map.Text.{is_eq-slice_cmp}
 use Rattle.std.proofs.lemmas.Str.{encodes-chars}
-use Rattle.wy_data.specs.Words.{IsName, is_word, all_parts, is_start, is_part, is_keyword}
-use Rattle.wy_reading.specs.Rule.{Rule, lax, Loop, Turns, Word, Spelled}
+use Rattle.wy_data.specs.Words.{IsName, is_word, all_parts}
+use Rattle.wy_reading.specs.Rule.{lax, Turns, Spelled}
 use Rattle.wy_reading.specs.Rule.Turns.{stop, more}
 use Rattle.wy_reading.proofs.Words.{IsWordOf, AllPass, word-of}
 use Rattle.wy_value.specs.declared.bounds.TheConstants.{INT_MIN, INT_MAX}
@@ -24,11 +23,11 @@ use Rattle.wy_value.specs.declared.value.Value.TheVariants as value
 use Rattle.wy_value.specs.Characters.{has}
 use Rattle.wy_value.specs.Datum.{Datum, Null, Truth, Whole, Array, Record, Data, no_items, item, Fields, no_fields, field}
 use Rattle.wy_value.specs.Values.{Rise, names_of, IsValue, AreValues, AreValueFields}
-use Rattle.wy_value.specs.Numbers.{plain, negated, is_int}
+use Rattle.wy_value.specs.Numbers.{negated, is_int}
 use Rattle.wy_value.specs.Shown.{nesting, nesting_items, nesting_fields}
-use Rattle.wy_value.specs.Grammar.{R, eq, Spaces, Mark, Digits, Number, Int, Literal, Flat, Entry, given, placed, may_name, is_new, NewName, Elem, Next, Elems, Field, NextField, Fields as FieldsRule, Bracketed, ValueIn}
+use Rattle.wy_value.specs.Grammar.{R, eq, Mark, Digits, Number, Literal, Flat, Entry, given, placed, may_name, is_new, NewName, Elem, Next, Elems, Field, NextField, Fields as FieldsRule, ValueIn}
 use Rattle.wy_value.proofs.CharacterLemmas.{start_letter, part_letter}
-use Rattle.wy_value.proofs.Texts.{text, items_text, more_text, fields_text, more_fields_text, Writes, decimal_writes}
+use Rattle.wy_value.proofs.Texts.{text, items_text, more_text, fields_text, more_fields_text, decimal_writes}
 use Rattle.wy_value.proofs.TextBytes.{few_digits, few_digits_below}
 use Rattle.wy_value.proofs.ValueOf.{value_of, values_of, entries_of}
 

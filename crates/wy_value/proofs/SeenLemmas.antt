@@ -1,5 +1,5 @@
 -- The datum of a value, one layer at a time.
-use Rattle.std.proofs.Common.{◌≡◌, ℕ, ℤ, Bool, List, [], ◌∷◌, map, refl, sym, ap, ◌∙◌}
+use Rattle.std.proofs.Common.{◌≡◌, ℤ, Bool, List, [], ◌∷◌, map, refl, sym, ap, ◌∙◌}
 use Rattle.wy_value.specs.Datum.{item, field}
 use Rattle.wy_value.specs.Datum as datum
 use Rattle.wy_value.specs.declared.value.Value.{Value, Value-F, fold-roll-Value}

@@ -1,19 +1,18 @@
 -- The text of a value as characters has the bytes of its text.
-use Rattle.std.proofs.Common.{◌≡◌, ℕ, suc, ◌+◌, ◌<◌, ◌≤◌, ◌^◌, ◌&&◌, ℤ, pos, negsuc, Bool, true, false, List, [], ◌∷◌, ◌++◌, codes, refl, sym, ap, ◌∙◌, arith, rules, append_assoc, subst, ◌≤ℤ◌}
+use Rattle.std.proofs.Common.{◌≡◌, ℕ, suc, ◌<◌, ◌^◌, ℤ, pos, negsuc, true, false, List, [], ◌∷◌, ◌++◌, refl, sym, ap, ◌∙◌, arith, rules, append_assoc, subst, ◌≤ℤ◌}
 use Rattle.std.proofs.lemmas.Int.{ints}
 use Rattle.std.specs.Fmt.{decimal, signed_decimal}
 use Rattle.std.specs.Str.{chars, encode_utf8_all, all_scalars, IsUtf8}
-use Rattle.std.specs.Char.{encode_utf8}
 use Rattle.std.proofs.lemmas.Str.{encode_ascii, encodes-append, encodes-chars, scalars-chars}
 use Rattle.wy_data.specs.Words.{IsName}
-use Rattle.wy_reading.proofs.Words.{IsWordOf, AllPass}
+use Rattle.wy_reading.proofs.Words.{AllPass}
 use Rattle.wy_value.specs.declared.bounds.TheConstants.{INT_MIN, INT_MAX}
 use Rattle.wy_value.specs.declared.character.Character.TheVariants.{Digit}
 use Rattle.wy_value.specs.Characters.{has}
 use Rattle.wy_value.specs.Datum.{Datum, Null, Truth, Whole, Array, Record, Data, no_items, item, Fields, no_fields, field}
 use Rattle.wy_value.specs.Values.{IsValue, AreValues, AreValueFields}
 use Rattle.wy_value.specs.Shown.{shown, shown_items, more_items, shown_fields, more_fields}
-use Rattle.wy_value.proofs.Texts.{text, items_text, more_text, fields_text, more_fields_text, Writes, decimal_writes}
+use Rattle.wy_value.proofs.Texts.{text, items_text, more_text, fields_text, more_fields_text, decimal_writes}
 
 -- the characters have these bytes
 pub record Codes (cs bytes : List ℕ) : Type 0 where

@@ -1,9 +1,9 @@
 -- Values with brackets, and argument texts, are read exactly.
-use Rattle.std.proofs.Common.{◌≡◌, ℕ, zero, suc, Bool, true, false, List, [], ◌∷◌, ◌++◌, length, Err, ◌⊎◌, inl, inr, refl, ◌∙◌, rules}
+use Rattle.std.proofs.Common.{◌≡◌, ℕ, zero, suc, Bool, true, List, [], ◌∷◌, ◌++◌, length, Err, ◌⊎◌, inl, inr, refl, ◌∙◌, rules}
 use Rattle.std.specs.Bool.{⊤}
 use Rattle.wy_reading.specs.declared.stop.Stop.TheVariants.{Fault}
 use Rattle.wy_reading.specs.Mode.{Mode}
-use Rattle.wy_reading.specs.Rule.{Rule, heads}
+use Rattle.wy_reading.specs.Rule.{Rule}
 use Rattle.wy_reading.specs.Reader.{Reader}
 use Rattle.wy_reading.proofs.Exactness.{Exact, Passes, Lacks, Any, AtEnd}
 use Rattle.wy_reading.proofs.Single.{nothing, symbol}

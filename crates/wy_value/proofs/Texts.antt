@@ -1,20 +1,13 @@
 -- The text of a datum as characters, with more characters behind it.
-use Rattle.std.proofs.Common.{◌≡◌, ℕ, suc, ◌+◌, ◌-◌, ◌*◌, ◌/◌, ◌%◌, ◌<◌, ◌≤◌, ◌^◌, ◌&&◌, ℤ, pos, negsuc, Bool, true, false, List, [], ◌∷◌, ◌++◌, codes, refl, sym, ap, ◌∙◌, arith, rules, append_assoc}
-use Rattle.std.specs.Bool.{⊤}
+use Rattle.std.proofs.Common.{◌≡◌, ℕ, ◌+◌, ◌-◌, ◌*◌, ◌/◌, ◌%◌, ◌<◌, ◌≤◌, ◌^◌, true, false, List, [], ◌∷◌, ◌++◌, codes, refl, ap, arith}
 use Rattle.std.specs.Fmt.{decimal, signed_decimal}
-use Rattle.std.specs.Str.{chars, encode_utf8_all, all_scalars}
-use Rattle.std.specs.Char.{encode_utf8}
+use Rattle.std.specs.Str.{chars}
 use Rattle.std.proofs.lemmas.Fmt.{decimal_by_steps_wide}
-use Rattle.std.proofs.lemmas.Str.{encode_ascii, encodes-append, encodes-chars, scalars-chars}
-use Rattle.wy_data.specs.Words.{IsName}
-use Rattle.wy_reading.proofs.Words.{IsWordOf, AllPass, all-append}
-use Rattle.wy_value.specs.declared.bounds.TheConstants.{INT_MIN, INT_MAX}
+use Rattle.wy_reading.proofs.Words.{IsWordOf, all-append}
 use Rattle.wy_value.specs.declared.character.Character.TheVariants.{Digit}
 use Rattle.wy_value.specs.Characters.{has}
-use Rattle.wy_value.specs.Numbers.{number_from, plain, negated, is_int}
+use Rattle.wy_value.specs.Numbers.{number_from}
 use Rattle.wy_value.specs.Datum.{Datum, Null, Truth, Whole, Array, Record, Data, no_items, item, Fields, no_fields, field}
-use Rattle.wy_value.specs.Values.{IsValue, AreValues, AreValueFields}
-use Rattle.wy_value.specs.Shown.{shown, shown_items, more_items, shown_fields, more_fields}
 
 abbrev mutual
   pub text : Datum → List ℕ → List ℕ

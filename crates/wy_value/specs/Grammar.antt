@@ -10,7 +10,7 @@ use Rattle.std.specs.Ordering.{nat_cmp}
 use Rattle.std.specs.Str.{bytes_eq, encode_utf8_all}
 use Rattle.wy_data.specs.Words.{is_keyword}
 use Rattle.wy_reading.specs.Mode.{Mode}
-use Rattle.wy_reading.specs.Rule.{Rule, heads, One, Finish, Pure, Then, Loop, Or, Refused, Checked, Only, Word, Skip, Spelled, Whole, lax}
+use Rattle.wy_reading.specs.Rule.{Rule, heads, One, Pure, Then, Loop, Or, Refused, Checked, Only, Word, Skip, Spelled, Whole, lax}
 use Rattle.wy_value.specs.declared.character.Character.TheVariants as c
 use Rattle.wy_value.specs.declared.fault.Kind.{Kind}
 use Rattle.wy_value.specs.declared.fault.Kind.TheVariants.{Range, Deep, Twice}

@@ -1,5 +1,5 @@
 -- The text of a datum.
-use Rattle.std.specs.Prelude.{ℕ, suc, Bool, true, false, ◌≤◌, max, List, [], ◌∷◌, ◌++◌, codes}
+use Rattle.std.specs.Prelude.{ℕ, suc, true, false, max, List, [], ◌∷◌, ◌++◌, codes}
 use Rattle.std.specs.Fmt.{signed_decimal}
 use Rattle.wy_value.specs.Datum.{Datum, Null, Truth, Whole, Array, Record, Data, no_items, item, Fields, no_fields, field}
 

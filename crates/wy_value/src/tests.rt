@@ -157,6 +157,10 @@ fn copies(rt: HostRuntime) -> Result<(), AllocError> {
         let copy = value.copy(alloc)?;
         assert!(rt; copy.is(value));
     }
-    assert!(rt; !values[0].is(&values[1]) && !values[1].is(&values[2]));
+    let [first, second, third] = values else {
+        assert!(rt; false);
+        return Ok(());
+    };
+    assert!(rt; !first.is(second) && !second.is(third));
     Ok(())
 }

@@ -1,9 +1,12 @@
 //! Argument texts.
-ghost use Rattle.std.specs.Prelude.{◌≡◌, ◌≤◌, ℕ, List, length, Ok, Err, IfOk, IfErr, true};
+ghost use Rattle.std.specs.Str.{all_scalars};
+ghost use Rattle.std.specs.Prelude.{◌≡◌, ◌≤◌, ◌<◌, ◌^◌, ℕ, List, length, Ok, Err, IfOk, IfErr, true};
 ghost use Rattle.wy_reading.specs.Places as places;
 ghost use Rattle.wy_reading.specs.Reader.{Reads};
 ghost use Rattle.wy_value.specs.ArgumentText.{Answers, AreRefused, AreText, IsRefused, Meets, MeetsAt, Spells, fault_at, fault_of, offset, symbols};
 ghost use Rattle.wy_value.specs.Reading as spec;
+ghost use Rattle.wy_value.specs.Seen.{seen_items};
+ghost use Rattle.wy_value.specs.Values.{AreValues};
 
 use crate::character::Character;
 use crate::fault::{Kind, ValueFault};
@@ -21,6 +24,7 @@ use wy_reading::{Stop, one};
 /// names take O(n log n) comparisons.
 pub fn read_values(alloc: Global, text: &[u8]) -> Result<Items<Value>, ValueFault>
     ensures spells { IfOk result (λ vs. Spells text.now vs) }
+    ensures values { IfOk result (λ vs. AreValues (seen_items vs)) }
     ensures reads { (vs : List Value) → Spells text.now vs → Answers (Ok vs) result }
     ensures fault { IfErr result (IsRefused text.now) }
     ensures exact { (x : Kind) (at : ℕ) → Meets text.now x at → Answers (Err (fault_of x at)) result }
@@ -33,7 +37,10 @@ pub fn read_values(alloc: Global, text: &[u8]) -> Result<Items<Value>, ValueFaul
 
 // The values that the characters spell.
 fn values(alloc: Global, text: &[char]) -> Result<Items<Value>, ValueFault>
+    requires scalars { all_scalars text.now ≡ true }
+    requires within { length text.now < 2 ^ 63 }
     ensures spells { IfOk result (λ vs. AreText text.now vs) }
+    ensures values { IfOk result (λ vs. AreValues (seen_items vs)) }
     ensures reads { (vs : List Value) → AreText text.now vs → Answers (Ok vs) result }
     ensures fault { IfErr result (AreRefused text.now) }
     ensures exact { (x : Kind) (at : ℕ) → MeetsAt text.now x at → Answers (Err (fault_of x at)) result }
@@ -45,9 +52,11 @@ fn values(alloc: Global, text: &[char]) -> Result<Items<Value>, ValueFault>
 }
 
 // The characters of the text.
-#[tactic(auto, using(std::proofs::lemmas::Str::chars_from_encodes), unfolding(crate::specs::ArgumentText::symbols))]
+#[tactic(auto, using(std::proofs::lemmas::Str::chars_from_encodes, crate::proofs::OffsetLemmas::decoded_scalars), unfolding(crate::specs::ArgumentText::symbols))]
 fn decoded(alloc: Global, text: &[u8]) -> Result<Items<char>, AllocError>
-    ensures { IfOk result (λ cs. cs ≡ symbols text.now) }
+    ensures value { IfOk result (λ cs. cs ≡ symbols text.now) }
+    ensures scalars { IfOk result (λ cs. all_scalars cs ≡ true) }
+    ensures within { IfOk result (λ cs. length cs < 2 ^ 63) }
 {
     let text = String::from_utf8_lossy(alloc, text)?;
     let characters: Vec<char> = text.chars().collect(alloc)?;

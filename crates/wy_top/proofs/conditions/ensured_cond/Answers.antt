@@ -3,4 +3,4 @@ use Rattle.wy_top.proofs.ConditionLemmas.{ensures_found}
 use Rattle.wy_top.proofs.conditions.ensured_cond.Goals as goal
 
 pub returns-clause-value : goal.returns-clause-value
-returns-clause-value c = ensures_found (seen c.args.program.now) c.cond.result _ _ _ c.formula-required.ensures c.formula-ensured.ensures c.return_offset.ensures.value c.cond.ensures
+returns-clause-value c = ensures_found c.args._terms.now (seen c.args.program.now) c.args.a c.args.g _ c.cond.result c.requires.assumed c.requires.goals c.return_offset.ensures.value c.cond.ensures

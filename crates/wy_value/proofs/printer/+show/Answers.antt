@@ -1,4 +1,4 @@
-use Rattle.std.proofs.Common.{◌≡◌, ◌∙◌}
+use Rattle.std.proofs.Common.{◌∙◌}
 use Rattle.wy_value.proofs.ShownLemmas.{on_ok, array_written, record_written}
 use Rattle.wy_value.proofs.printer.+show.Goals as goal
 

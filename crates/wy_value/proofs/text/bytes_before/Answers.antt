@@ -1,4 +1,4 @@
-use Rattle.std.proofs.Common.{◌≡◌, ◌+◌, ◌-◌, length, take, arith}
+use Rattle.std.proofs.Common.{◌+◌, ◌-◌, length, take, arith}
 use Rattle.wy_value.proofs.OffsetLemmas.{bytes-take}
 use Rattle.wy_value.proofs.text.bytes_before.Goals as goal
 

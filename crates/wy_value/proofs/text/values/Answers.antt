@@ -1,5 +1,4 @@
-use Rattle.std.proofs.Common.{◌≡◌}
-use Rattle.wy_value.proofs.Refusals.{read-spells, read-reads, read-exact, stopped-within, stopped-reads, stopped-exact, refused}
+use Rattle.wy_value.proofs.Refusals.{read-spells, read-values, read-reads, read-exact, stopped-within, stopped-reads, stopped-exact, refused}
 use Rattle.wy_value.proofs.text.values.Goals as goal
 
 pub refusal-requires : goal.refusal-requires
@@ -22,3 +21,6 @@ returns-in-Err-clause-fault c = rw c.refusal.ensures (refused c.args.text.now c.
 
 pub returns-in-Err-clause-exact : goal.returns-in-Err-clause-exact
 returns-in-Err-clause-exact c = rw c.refusal.ensures (stopped-exact c.args.text.now c.in-Err.stop c.in-Err.ensures)
+
+pub returns-in-Ok-clause-values : goal.returns-in-Ok-clause-values
+returns-in-Ok-clause-values c = read-values c.args.text.now c.in-Ok.values c.in-Ok.field-0-1.now c.in-Ok.ensures c.requires.scalars c.requires.within

@@ -1,4 +1,3 @@
-use Rattle.std.proofs.Common.{◌≡◌, ◌∙◌}
 use Rattle.wy_value.proofs.FieldLemmas.{found}
 use Rattle.wy_value.proofs.fields.FieldMap.has.Goals as goal
 
