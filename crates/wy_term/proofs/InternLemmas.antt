@@ -6,7 +6,7 @@ use Rattle.std.proofs.Math.Seq.{get_or-append_seam}
 use Rattle.wy_term.specs.contracts.node.NodePartialEq.TheImpl.{eq-value}
 use Rattle.wy_term.specs.declared.node.Node.{Node}
 use Rattle.wy_term.specs.Term as term
-use Rattle.wy_term.specs.Nodes.{Plain, of, plain, node_at, HasPartsBelow, AreGrounded, AreDistinct, AreNodes, Extends, Adds}
+use Rattle.wy_term.specs.Nodes.{Plain, of, plain, node_at, HasPartsBelow, AreDistinct, AreNodes, Extends, Adds}
 use Rattle.wy_term.proofs.NodesLemmas.{AreGrounded-push}
 use Rattle.wy_term.proofs.NodeEqLemmas.{nodes_are, nodes_compare}
 

@@ -2,3 +2,4 @@ pub mod NodesLemmas
 pub mod SameLemmas
 pub mod NodeEqLemmas
 pub mod InternLemmas
+pub mod FoldingLemmas

@@ -3,5 +3,7 @@ pub mod Term
 pub mod Data
 pub mod Same
 pub mod Meaning
+pub mod Folding
+pub mod Sorts
 pub mod Condition
 pub mod Nodes

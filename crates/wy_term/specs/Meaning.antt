@@ -1,5 +1,5 @@
 -- What a term or formula means. The meaning is total, and one recursion gives it for all three sorts.
-use Rattle.std.specs.Prelude.{◌≡◌, ℕ, zero, suc, List, [], ◌∷◌, map, Bool, true, false, not, ◌&&◌, ◌||◌, ◌==◌, if◌then◌else◌, bytes_eq, ℤ, pos, negsuc, neg_ℤ, ◌+ℤ◌, ◌-ℤ◌, ◌*ℤ◌, int_lt, slice_index_or}
+use Rattle.std.specs.Prelude.{ℕ, zero, suc, List, [], ◌∷◌, map, Bool, true, false, not, ◌&&◌, ◌||◌, ◌==◌, if◌then◌else◌, bytes_eq, ℤ, pos, negsuc, neg_ℤ, ◌+ℤ◌, ◌-ℤ◌, ◌*ℤ◌, int_lt, slice_index_or}
 use Rattle.wy_value.specs.Datum.{Datum, Null, Truth, Whole, Array, Record}
 use Rattle.wy_term.specs.Term.{Symbol, Term, Of, Parts, no_parts, part}
 use Rattle.wy_term.specs.Term as term

@@ -7,6 +7,7 @@
 #![tactic(auto)]
 
 mod cond;
+mod law;
 mod memory;
 mod node;
 mod terms;
@@ -14,6 +15,7 @@ mod terms;
 mod tests;
 
 pub use cond::{Cond, CondKind};
+pub use law::folding_keeps_meaning;
 pub use memory::NoMemory;
 pub use node::{Kind, Node, Quantifier};
 pub use terms::{Mark, Terms};

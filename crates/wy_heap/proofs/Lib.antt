@@ -1,0 +1,14 @@
+pub mod CountLemmas
+pub mod ChangeLemmas
+pub mod MeaningLemmas
+pub mod FreeLemmas
+pub mod LeadLemmas
+pub mod WriteLemmas
+pub mod SlotLemmas
+pub mod WeighLemmas
+pub mod ReachLemmas
+pub mod BuildLemmas
+pub mod PathLemmas
+pub mod PlaceLemmas
+pub mod CompareLemmas
+pub mod ShowLemmas

@@ -1,0 +1,16 @@
+-- definitions of public contracts
+pub mod Nodes
+pub mod Meaning
+pub mod Standing
+pub mod Parts
+pub mod Slots
+pub mod Making
+pub mod Comparing
+pub mod Reaching
+
+-- definitions for functions inside
+pub mod Changing
+pub mod Freeing
+pub mod Numbering
+pub mod Weighing
+pub mod Showing

@@ -1,0 +1,18 @@
+//! Counted nodes, written in place where one place alone holds them.
+#![tactic(auto)]
+
+mod comparing;
+mod heap;
+mod holding;
+mod making;
+mod node;
+mod part;
+mod releasing;
+mod setting;
+mod showing;
+mod slots;
+#[cfg(test)]
+mod tests;
+
+pub use heap::{Heap, NoMemory};
+pub use part::{Kind, Place, Slot};
