@@ -7,7 +7,6 @@ pub mod Slots
 pub mod Making
 pub mod Comparing
 pub mod Reaching
-
 -- definitions for functions inside
 pub mod Changing
 pub mod Freeing

@@ -86,7 +86,13 @@ impl Heap {
         ensures same { OnErr result (SameNodes self.old self.new) }
         ensures rest { SameRest self.old self.new }
     {
-        let Ok(key) = self.nodes.insert(Node { count: 1, next: None, shape, parts }) else {
+        let Ok(key) = self.nodes.insert(Node {
+            count: 1,
+            next: None,
+            shape,
+            parts,
+        })
+        else {
             return Err(AllocError);
         };
         Ok(key)
@@ -164,6 +170,13 @@ impl Heap {
     {
         self.nodes.reserve(1)?;
         self.hold_all(&parts);
-        Ok(self.nodes.insert_reserved(Node { count: 1, next: None, shape, parts }))
+        Ok(
+            self.nodes.insert_reserved(Node {
+                count: 1,
+                next: None,
+                shape,
+                parts,
+            }),
+        )
     }
 }

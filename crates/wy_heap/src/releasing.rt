@@ -39,7 +39,12 @@ impl Heap {
     {
         let mut dead = self.let_go(part, None);
         while let Some(key) = dead {
-            let Node { count: _, next, shape: _, parts } = self.nodes.remove(key);
+            let Node {
+                count: _,
+                next,
+                shape: _,
+                parts,
+            } = self.nodes.remove(key);
             dead = self.let_go_all(&parts, next);
         }
     }
