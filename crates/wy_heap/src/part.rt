@@ -57,9 +57,7 @@ impl Place {
     {
         match k {
             Kind::Null => Place { part: Part::Null },
-            Kind::Bool(b) => Place {
-                part: Part::Bool(b),
-            },
+            Kind::Bool(b) => Place { part: Part::Bool(b) },
             Kind::Int(n) => Place { part: Part::Int(n) },
             Kind::Array | Kind::Record(_) => unreachable!(),
         }

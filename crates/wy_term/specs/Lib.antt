@@ -4,6 +4,7 @@ pub mod Data
 pub mod Same
 pub mod Meaning
 pub mod Folding
+pub mod FoldingView
 pub mod Sorts
 pub mod Condition
 pub mod Nodes

@@ -1,0 +1,2 @@
+mod ShortLemmas
+mod StepLemmas

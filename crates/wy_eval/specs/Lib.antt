@@ -1,0 +1,2 @@
+-- what results say
+pub mod Seen

@@ -1,0 +1,10 @@
+pub mod TruthLemmas
+pub mod SameLemmas
+pub mod OnceLemmas
+pub mod MeetLemmas
+pub mod OutLemmas
+pub mod RankedLemmas
+pub mod TermLemmas
+pub mod ClaimLemmas
+pub mod AskLemmas
+pub mod FoundLemmas

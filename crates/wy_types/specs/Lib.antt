@@ -1,0 +1,13 @@
+-- what a term says of a value
+pub mod Shape
+pub mod Membership
+pub mod Ranked
+pub mod Names
+-- the conjuncts of a term
+pub mod Claims
+pub mod Same
+pub mod Merge
+pub mod Conjuncts
+-- emptiness
+pub mod Asks
+pub mod Reach
