@@ -32,19 +32,25 @@ pub set_fits : (h : Heap) (places : List Part) (key place : ℕ) (n : Node) → 
 set_fits h places key place n counts was =
     let d = counts.meant key (subst IsSome (sym (body-node h key n was)) refl) in
     let node = held_node h (Key key) key d.0 refl d.1 in
-    let mean = mean_all-set (map_of h) node.data_of node.parts place datum.Null Null node.mean refl in
-    (put_nth node.data_of place datum.Null,
-     subst (λ (ps : List Part). MeanAll (map_of h) (put_nth node.data_of place datum.Null) (set ps place Null)) (sym (node_parts h key n d.0 node was)) mean,
-     put_at d.0 place datum.Null,
-     subst (λ (f : Form). IsSplit (put_at d.0 place datum.Null) f (put_nth node.data_of place datum.Null)) (sym (node_form h key n d.0 node was))
-       (split-put_at d.0 node.form node.data_of place datum.Null node.split))
+    let mean = mean_all-set (map_of h) node.data_of node.parts place datum.Null Null node.mean refl in (
+      put_nth node.data_of place datum.Null,
+      subst (λ (ps : List Part). MeanAll (map_of h) (put_nth node.data_of place datum.Null) (set ps place Null)) (sym (node_parts h key n d.0 node was)) mean,
+      put_at d.0 place datum.Null,
+      subst (λ (f : Form). IsSplit (put_at d.0 place datum.Null) f (put_nth node.data_of place datum.Null)) (sym (node_form h key n d.0 node was))
+          (split-put_at d.0 node.form node.data_of place datum.Null node.split),
+    )
 
 -- another number of copies changes nothing of a new node
 pub recopied : (h n : Heap) (made : ℕ) (form : Form) (parts : List Part) (copies : ℕ) → Builds h n form parts made → Builds h (record n { copies = copies }) form parts made
 recopied h n made form parts copies builds = record {
-    vacant = builds.vacant; count = builds.count; counts = builds.counts; keeps = builds.keeps;
-    node = builds.node; stays = builds.stays; fresh = builds.fresh;
-  }
+  vacant = builds.vacant;
+  count = builds.count;
+  counts = builds.counts;
+  keeps = builds.keeps;
+  node = builds.node;
+  stays = builds.stays;
+  fresh = builds.fresh;
+}
 
 -- ---- arrays and records
 
@@ -76,9 +82,12 @@ record_split t n list ds found same =
 
 pub record_fits : (h : Heap) (items : List Part) (n : ℕ) (others : List Part) → Counts h (items ++ others) → HasShape h.shapes n (length items) → Fits (map_of h) (form_of h.shapes (shape.Record n)) items
 record_fits h items n others counts has =
-    let all = parts_meant (map_of h) items (λ k some. held_meant h (items ++ others) counts k (omega (arith, held-append k items others, some))) in
-    (all.0, all.1, datum.Record (joined (named h.shapes.names has.0) all.0),
-     record_split h.shapes n has.0 all.0 has.1 (has.2 ∙ mean_all-length (map_of h) all.0 items all.1))
+    let all = parts_meant (map_of h) items (λ k some. held_meant h (items ++ others) counts k (omega (arith, held-append k items others, some))) in (
+      all.0,
+      all.1,
+      datum.Record (joined (named h.shapes.names has.0) all.0),
+      record_split h.shapes n has.0 all.0 has.1 (has.2 ∙ mean_all-length (map_of h) all.0 items all.1),
+    )
 
 some_same : (list other : List ℕ) → Some list ≡ Some other → list ≡ other
 some_same list other same = cc
@@ -99,9 +108,9 @@ len_is h p key n items is was means =
 held-replicate : (k n : ℕ) (p : Part) → 1 ≤ held k (replicate n p) → 1 ≤ holds k p
 held-replicate k zero p some = absurd (omega arith)
 held-replicate k (suc n) p some = elim (cases_eq (holds k p) 0) [
-    | inl none ↦ held-replicate k n p (omega arith)
-    | inr more ↦ omega (arith, more)
-  ]
+  | inl none ↦ held-replicate k n p (omega arith)
+  | inr more ↦ omega (arith, more)
+]
 
 pub fill_there : (h : Heap) (n : ℕ) (p : Part) (others : List Part) → Counts h (p ∷ others) → AreThere h (replicate n p)
 fill_there h n p others counts k some =
@@ -124,13 +133,13 @@ module _ (h n : Heap) (form : Form) (parts : List Part) (made : ℕ) (p : Part) 
   fill_acts stands o frees within lower kept rest =
       let last = frees (Key made ∷ others) (fill_free stands.counts) in
       acts_from h o (Key made ∷ []) others (p ∷ others) stands
-        (record {
-          counts = last.counts;
-          keeps = λ q d among means. last.keeps q d (λ k e. omega (arith, among k e)) (builds.keeps q d means);
-        })
-        (within_same n o lower rest.cap within) (rest.cap ∙ kept.0) (rest.shapes ∙ kept.1)
+      (record {
+        counts = last.counts;
+        keeps = λ q d among means. last.keeps q d (λ k e. omega (arith, among k e)) (builds.keeps q d means);
+      })
+      (within_same n o lower rest.cap within) (rest.cap ∙ kept.0) (rest.shapes ∙ kept.1)
 
 pub fill_means : (h n : Heap) (made : ℕ) (many : ℕ) (p : Part) (builds : Builds h n list_form (replicate many p) made) (others : List Part) → Counts h (p ∷ others) → (o : Heap) → ((all : List Part) → Counts n (p ∷ all) → Leads n o [] all) → (d : Datum) → Means (map_of h) d p → Means (map_of o) (datum.Array (repeated many d)) (Key made)
 fill_means h n made many p builds others counts o frees d means =
     (frees (Key made ∷ others) (fill_free h n list_form (replicate many p) made p builds others counts)).keeps (Key made) (datum.Array (repeated many d)) (among_first (Key made) others)
-      (builds.node (repeated many d) (mean_all-replicate (map_of h) d p many means))
+    (builds.node (repeated many d) (mean_all-replicate (map_of h) d p many means))

@@ -83,13 +83,13 @@ right_scalar m a b first second differ scalar same =
 -- one part is another: nothing is left to compare
 pub same_leaves : (m : Map) (a b : Part) (old : List Pair) → a ≡ b → IsMeant m a → Leaves m (Same m a b) (2 * weight m a) old old
 same_leaves m a b old same meant = record {
-    more = [];
-    is = sym (append-nil old);
-    back = λ all. same_part m a b same;
-    forth = λ claim. tt;
-    pairs = tt;
-    less = omega (arith, weight-tree m meant.0 a meant.1, tree_some meant.0);
-  }
+  more = [];
+  is = sym (append-nil old);
+  back = λ all. same_part m a b same;
+  forth = λ claim. tt;
+  pairs = tt;
+  less = omega (arith, weight-tree m meant.0 a meant.1, tree_some meant.0);
+}
 
 -- ---- data of one form
 
@@ -152,7 +152,7 @@ named_same names (x ∷ xs) (y ∷ ys) apart first second same =
 pub numbers_in : (t : Shapes) (n : ℕ) (list : List ℕ) → IsShapes t → slice_get t.lists n ≡ Some list → (k : ℕ) → k < length list → get_or list k 0 < length t.names
 numbers_in t n list table found k =
     subst (λ (l : List ℕ). k < length l → get_or l k 0 < length t.names) (get_or_from_slice_get t.lists n list [] found)
-      (table.numbers n [] (slice_get_within t.lists n list found) k 0)
+    (table.numbers n [] (slice_get_within t.lists n list found) k 0)
 
 -- two shapes of one form are one
 forms_shapes : (t : Shapes) (s u : Shape) → IsShapes t → form_of t s ≡ form_of t u → (form_of t s ≡ no_form → ⊥) → s ≡ u
@@ -164,7 +164,7 @@ forms_shapes t (shape.Record n) (shape.Record o) table same known =
     let second = record_known t.names (slice_get t.lists o) (λ none. known (same ∙ none)) in
     let forms : record_form (named t.names first.0) ≡ record_form (named t.names second.0) = sym (ap (record_of t.names) first.1) ∙ same ∙ ap (record_of t.names) second.1 in
     let lists = named_same t.names first.0 second.0 table.names_apart (numbers_in t n first.0 table first.1) (numbers_in t o second.0 table second.1)
-      (record_same (named t.names first.0) (named t.names second.0) forms) in
+    (record_same (named t.names first.0) (named t.names second.0) forms) in
     let here : get_or t.lists n [] ≡ get_or t.lists o [] = get_or_from_slice_get t.lists n first.0 [] first.1 ∙ lists ∙ sym (get_or_from_slice_get t.lists o second.0 [] second.1) in
     ap shape.Record (apart_same t.lists o n table.lists_apart (slice_get_within t.lists o second.0 second.1) (slice_get_within t.lists n first.0 first.1) here)
 
@@ -209,17 +209,23 @@ module _ (h : Heap) (j k : ℕ) (x y : Node) (first : get h.nodes j ≡ Some x) 
 
   pub other_lengths : length x.parts.items ≢ length y.parts.items → Same (map_of h) (Key j) (Key k) → ⊥
   other_lengths differ same =
-      differ (omega (arith, ap length (node_parts h j x left.0 one first), ap length (node_parts h k y right.0 two second),
-        mean_all-length (map_of h) one.data_of one.parts one.mean, mean_all-length (map_of h) two.data_of two.parts two.mean, ap length_of (same_parts same).1))
+      differ (omega (
+        arith,
+        ap length (node_parts h j x left.0 one first),
+        ap length (node_parts h k y right.0 two second),
+        mean_all-length (map_of h) one.data_of one.parts one.mean,
+        mean_all-length (map_of h) two.data_of two.parts two.mean,
+        ap length_of (same_parts same).1,
+      ))
 
   module _ (shapes : x.shape ≡ y.shape) (long : length x.parts.items ≡ length y.parts.items) where
     pub is_pair : IsPair (map_of h) (j, k, 0)
     is_pair = record {
-        left = left;
-        right = right;
-        form = ap form_in (body-node h j x first) ∙ ap (form_of h.shapes) shapes ∙ sym (ap form_in (body-node h k y second));
-        long = ap length (ap parts_in (body-node h j x first)) ∙ long ∙ sym (ap length (ap parts_in (body-node h k y second)));
-      }
+      left = left;
+      right = right;
+      form = ap form_in (body-node h j x first) ∙ ap (form_of h.shapes) shapes ∙ sym (ap form_in (body-node h k y second));
+      long = ap length (ap parts_in (body-node h j x first)) ∙ long ∙ sym (ap length (ap parts_in (body-node h k y second)));
+    }
 
     forms : one.form ≡ two.form
     forms = sym (ap form_in one.is) ∙ is_pair.form ∙ ap form_in two.is
@@ -230,29 +236,34 @@ module _ (h : Heap) (j k : ℕ) (x y : Node) (first : get h.nodes j ≡ Some x) 
     nodes_back : SameFrom (map_of h) (j, k, 0) → Same (map_of h) (Key j) (Key k)
     nodes_back all =
         let parts = data_back (map_of h) one.data_of two.data_of one.parts two.parts one.mean two.mean lengths
-          (λ n. subst (λ (o : Option Body). Same (map_of h) (get_or one.parts n Null) (part_of o n)) two.is
-            (subst (λ (o : Option Body). Same (map_of h) (part_of o n) (part_of (at (map_of h) k) n)) one.is (all n (omega arith)))) in
+        (λ n. subst (λ (o : Option Body). Same (map_of h) (get_or one.parts n Null) (part_of o n)) two.is
+        (subst (λ (o : Option Body). Same (map_of h) (part_of o n) (part_of (at (map_of h) k) n)) one.is (all n (omega arith)))) in
         same_from (map_of h) left.0 right.0 (Key j) (Key k) left.1 right.1
-          (split_same left.0 right.0 one.form one.data_of one.split
-            (subst (λ (f : Form). IsSplit right.0 f one.data_of) (sym forms) (subst (λ (es : Data). IsSplit right.0 two.form es) (sym parts) two.split)))
+        (split_same left.0 right.0 one.form one.data_of one.split
+        (subst (λ (f : Form). IsSplit right.0 f one.data_of) (sym forms) (subst (λ (es : Data). IsSplit right.0 two.form es) (sym parts) two.split)))
 
     nodes_forth : Same (map_of h) (Key j) (Key k) → SameFrom (map_of h) (j, k, 0)
     nodes_forth same n from =
         let data_same = (same_parts same).1 in
         subst (λ (o : Option Body). Same (map_of h) (part_of o n) (part_of (at (map_of h) k) n)) (sym one.is)
-          (subst (λ (o : Option Body). Same (map_of h) (get_or one.parts n Null) (part_of o n)) (sym two.is)
-            (data_forth (map_of h) one.data_of one.parts two.parts one.mean (subst (λ (es : Data). MeanAll (map_of h) es two.parts) (sym data_same) two.mean) n))
+        (subst (λ (o : Option Body). Same (map_of h) (get_or one.parts n Null) (part_of o n)) (sym two.is)
+        (data_forth (map_of h) one.data_of one.parts two.parts one.mean (subst (λ (es : Data). MeanAll (map_of h) es two.parts) (sym data_same) two.mean) n))
 
     pub nodes_leave : (old : List Pair) → Leaves (map_of h) (Same (map_of h) (Key j) (Key k)) (2 * weight (map_of h) (Key j)) old (old ++ (j, k, 0) ∷ [])
     nodes_leave old = record {
-        more = (j, k, 0) ∷ [];
-        is = refl;
-        back = λ all. nodes_back all.0;
-        forth = λ same. (nodes_forth same, tt);
-        pairs = (is_pair, tt);
-        less = omega (arith, weight-tree (map_of h) left.0 (Key j) left.1, tree-split left.0 one.form one.data_of one.split,
-          total-trees (map_of h) one.data_of one.parts one.mean, ap (λ (o : Option Body). total (weight (map_of h)) (parts_in o)) one.is);
-      }
+      more = (j, k, 0) ∷ [];
+      is = refl;
+      back = λ all. nodes_back all.0;
+      forth = λ same. (nodes_forth same, tt);
+      pairs = (is_pair, tt);
+      less = omega (
+        arith,
+        weight-tree (map_of h) left.0 (Key j) left.1,
+        tree-split left.0 one.form one.data_of one.split,
+        total-trees (map_of h) one.data_of one.parts one.mean,
+        ap (λ (o : Option Body). total (weight (map_of h)) (parts_in o)) one.is,
+      );
+    }
 
 -- ---- the next pair of parts
 
@@ -278,29 +289,31 @@ get_or-past (p ∷ ps) (suc i) past = get_or-past ps i (omega arith)
 -- all parts were compared
 pub past_leaves : (m : Map) (j k i : ℕ) (old : List Pair) → IsPair m (j, k, i) → length (parts_in (at m j)) ≤ i → Leaves m (SameFrom m (j, k, i)) (pair_work m (j, k, i)) old old
 past_leaves m j k i old pair past = record {
-    more = [];
-    is = sym (append-nil old);
-    back = λ all n from. same_part m (part_of (at m j) n) (part_of (at m k) n)
+  more = [];
+  is = sym (append-nil old);
+  back = λ all n from. same_part m (part_of (at m j) n) (part_of (at m k) n)
       (part_of-get_or (at m j) n ∙ get_or-past (parts_in (at m j)) n (omega arith) ∙ sym (part_of-get_or (at m k) n ∙ get_or-past (parts_in (at m k)) n (omega (arith, pair.long))));
-    forth = λ claim. tt;
-    pairs = tt;
-    less = omega arith;
-  }
+  forth = λ claim. tt;
+  pairs = tt;
+  less = omega arith;
+}
 
 pub next_compares : (m : Map) (j k i : ℕ) (a b : Part) (old mid new : List Pair) (answer : Boolean) → IsPair m (j, k, i) → i < length (parts_in (at m j)) → a ≡ part_of (at m j) i → b ≡ part_of (at m k) i → mid ≡ old ++ (j, k, i + 1) ∷ [] → Compares m (Same m a b) (2 * weight m a) mid new answer → Compares m (SameFrom m (j, k, i)) (pair_work m (j, k, i)) old new answer
 next_compares m j k i a b old mid new true pair below is_a is_b pushed leaves = record {
-    more = (j, k, i + 1) ∷ leaves.more;
-    is = leaves.is ∙ ap (λ (l : List Pair). l ++ leaves.more) pushed ∙ append_assoc old ((j, k, i + 1) ∷ []) leaves.more;
-    back = λ all n from. elim (cases_eq n i) [
-      | inl same ↦ subst (λ (x : ℕ). Same m (part_of (at m j) x) (part_of (at m k) x)) (sym same)
-          (subst (λ (p : Part). Same m p (part_of (at m k) i)) is_a (subst (Same m a) is_b (leaves.back all.1)))
-      | inr differ ↦ all.0 n (omega (arith, differ))
-    ];
-    forth = λ claim. ((λ n from. claim n (omega arith)),
-      leaves.forth (subst (Same m a) (sym is_b) (subst (λ (p : Part). Same m p (part_of (at m k) i)) (sym is_a) (claim i (omega arith)))));
-    pairs = (record { left = pair.left; right = pair.right; form = pair.form; long = pair.long }, leaves.pairs);
-    less = omega (arith, leaves.less, total-drop_more (weight m) (parts_in (at m j)) i below, ap (weight m) (is_a ∙ part_of-get_or (at m j) i));
-  }
+  more = (j, k, i + 1) ∷ leaves.more;
+  is = leaves.is ∙ ap (λ (l : List Pair). l ++ leaves.more) pushed ∙ append_assoc old ((j, k, i + 1) ∷ []) leaves.more;
+  back = λ all n from. elim (cases_eq n i) [
+    | inl same ↦ subst (λ (x : ℕ). Same m (part_of (at m j) x) (part_of (at m k) x)) (sym same)
+        (subst (λ (p : Part). Same m p (part_of (at m k) i)) is_a (subst (Same m a) is_b (leaves.back all.1)))
+    | inr differ ↦ all.0 n (omega (arith, differ))
+  ];
+  forth = λ claim. (
+    (λ n from. claim n (omega arith)),
+    leaves.forth (subst (Same m a) (sym is_b) (subst (λ (p : Part). Same m p (part_of (at m k) i)) (sym is_a) (claim i (omega arith)))),
+  );
+  pairs = (record { left = pair.left; right = pair.right; form = pair.form; long = pair.long }, leaves.pairs);
+  less = omega (arith, leaves.less, total-drop_more (weight m) (parts_in (at m j)) i below, ap (weight m) (is_a ∙ part_of-get_or (at m j) i));
+}
 next_compares m j k i a b old mid new false pair below is_a is_b pushed never =
     λ claim. never (subst (Same m a) (sym is_b) (subst (λ (p : Part). Same m p (part_of (at m k) i)) (sym is_a) (claim i (omega arith))))
 

@@ -26,13 +26,15 @@ off_first k j js off same = omega (arith, times_one k js, subst (λ (i : ℕ). t
 -- a change at a key that is not on the list keeps the list
 chain_kept : (h n : Heap) (key : ℕ) → ((j : ℕ) → j ≢ key → get n.nodes j ≡ get h.nodes j) → (dead : List ℕ) (first : Option ℕ) → times key dead ≡ 0 → Chain h dead first → Chain n dead first
 chain_kept h n key same [] first off chain = chain
-chain_kept h n key same (j ∷ js) first off chain =
-    (chain.0, record {
-      node = chain.1.node;
-      is = same j (off_first key j js off) ∙ chain.1.is;
-      none = chain.1.none;
-      then = chain_kept h n key same js chain.1.node.next (omega arith) chain.1.then;
-    })
+chain_kept h n key same (j ∷ js) first off chain = (
+  chain.0,
+  record {
+    node = chain.1.node;
+    is = same j (off_first key j js off) ∙ chain.1.is;
+    none = chain.1.none;
+    then = chain_kept h n key same js chain.1.node.next (omega arith) chain.1.then;
+  },
+)
 
 -- a node on the list has no holder
 chain_zero : (h : Heap) (k : ℕ) (dead : List ℕ) (first : Option ℕ) → Chain h dead first → 1 ≤ times k dead → count_at h k ≡ 0
@@ -118,12 +120,15 @@ module _ (h n : Heap) (key : ℕ) (old new : Node) (low : Lowers h n key old new
           | inl same ↦ subst (λ (i : ℕ). times i (key ∷ dead) ≤ 1) same (omega (arith, times_one key dead, off_list first places dead free))
           | inr differ ↦ omega (arith, times_other k key dead differ, free.once k)
         ];
-        chain = (refl, record {
-          node = new;
-          is = low.changes.updates.changed;
-          none = none;
-          then = chain_kept h n key low.changes.updates.others dead new.next (off_list first places dead free) (subst (Chain h dead) (sym link) free.chain);
-        });
+        chain = (
+          refl,
+          record {
+            node = new;
+            is = low.changes.updates.changed;
+            none = none;
+            then = chain_kept h n key low.changes.updates.others dead new.next (off_list first places dead free) (subst (Chain h dead) (sym link) free.chain);
+          },
+        );
       }
 
 -- ---- the first dead node leaves
@@ -159,26 +164,26 @@ unlinked h n key node was changes places j js free =
     let others = at_others h n key None changes in
     record {
       counted = λ k.
-        let sums = inner_updated k (map_of h) (map_of n) key others in
-        let slot_h = ap (slot_holds k) at_h in
-        let slot_n = ap (slot_holds k) at_n in
-        let more = held-append k node.parts.items places in
-        let here = free.counted k in
-        elim (cases_eq k key) [
-          | inl e ↦
-            let count_n : count_at n k ≡ 0 = ap (count_at n) e ∙ gone in
-            let count_h : count_at h k ≡ 0 = ap (count_at h) e ∙ zero_count in
-            omega arith
-          | inr differ ↦
-            let count_n : count_at n k ≡ count_at h k = count_others h n key None changes k differ in
-            omega arith
-        ];
+          let sums = inner_updated k (map_of h) (map_of n) key others in
+          let slot_h = ap (slot_holds k) at_h in
+          let slot_n = ap (slot_holds k) at_n in
+          let more = held-append k node.parts.items places in
+          let here = free.counted k in
+          elim (cases_eq k key) [
+            | inl e ↦
+                let count_n : count_at n k ≡ 0 = ap (count_at n) e ∙ gone in
+                let count_h : count_at h k ≡ 0 = ap (count_at h) e ∙ zero_count in
+                omega arith
+            | inr differ ↦
+                let count_n : count_at n k ≡ count_at h k = count_others h n key None changes k differ in
+                omega arith
+          ];
       alive = λ k is. elim (cases_eq k key) [
         | inl e ↦ absurd (not_there (at (map_of n) k) (ap (at (map_of n)) e ∙ at_n) is)
         | inr differ ↦
-          let count_n : count_at n k ≡ count_at h k = count_others h n key None changes k differ in
-          let off : times k (j ∷ js) ≡ times k js = times_other k j js (λ e. differ (sym e ∙ is_first)) in
-          omega (arith, free.alive k (subst IsSome (others k differ) is))
+            let count_n : count_at n k ≡ count_at h k = count_others h n key None changes k differ in
+            let off : times k (j ∷ js) ≡ times k js = times_other k j js (λ e. differ (sym e ∙ is_first)) in
+            omega (arith, free.alive k (subst IsSome (others k differ) is))
       ];
       once = λ k. omega (arith, free.once k);
       chain = chain_kept h n key changes.updates.others js node.next once (subst (λ (x : Node). Chain h js x.next) same link.then);
@@ -194,8 +199,8 @@ lasts_less m h n key changes lasts k =
     elim (cases_eq k key) [
       | inl same ↦ inl (ap (at (map_of n)) same ∙ at_changed h n key None changes)
       | inr differ ↦
-        let kept = at_others h n key None changes k differ in
-        elim (lasts k) [ inl gone ↦ inl (kept ∙ gone) | inr same ↦ inr (kept ∙ same) ]
+          let kept = at_others h n key None changes k differ in
+          elim (lasts k) [ inl gone ↦ inl (kept ∙ gone) | inr same ↦ inr (kept ∙ same) ]
     ]
 
 pub size_less : (h : Heap) (slots : List (Option Node)) (key : ℕ) (node : Node) → get h.nodes key ≡ Some node → slots ≡ set h.nodes.slots key None → size (map (body_of h.shapes) slots) + 1 ≡ size (map_of h)
@@ -216,13 +221,18 @@ inner_more k (Some c ∷ cs) (d ∷ ds) more =
 pub upheld_less : (h n : Heap) (first : Option ℕ) (key : ℕ) (others : List Part) → first ≡ Some key → Frees h first others → Changes h n key None → (base : Map) → Upholds base others → More base (map_of h) → More base (map_of n)
 upheld_less h n first key others is frees changes base upholds more k b was =
     elim (cases_eq k key) [
-      | inl same ↦ absurd (omega (arith, dead_count h first key others is frees, frees.1.counted key, inner_more key base (map_of h) more,
-          upholds key b (ap (at base) (sym same) ∙ was)))
+      | inl same ↦ absurd (omega (
+        arith,
+        dead_count h first key others is frees,
+        frees.1.counted key,
+        inner_more key base (map_of h) more,
+        upholds key b (ap (at base) (sym same) ∙ was),
+      ))
       | inr differ ↦ at_others h n key None changes k differ ∙ more k b was
     ]
 
 pub removed_lower : (h n : Heap) (key : ℕ) → Changes h n key None → (k : ℕ) → count_at n k ≤ count_at h k
 removed_lower h n key changes k = elim (cases_eq k key) [
-    | inl same ↦ omega (arith, ap (count_at n) same, count_changed h n key None changes)
-    | inr differ ↦ omega (arith, count_others h n key None changes k differ)
-  ]
+  | inl same ↦ omega (arith, ap (count_at n) same, count_changed h n key None changes)
+  | inr differ ↦ omega (arith, count_others h n key None changes k differ)
+]

@@ -22,9 +22,11 @@ use Rattle.wy_heap.proofs.MeaningLemmas.{Each, IsClosed, means_kept, each_held}
 -- the places in another order
 pub reordered : (c : ℕ → ℕ) (m : Map) (ps qs : List Part) → ((k : ℕ) → held k qs ≡ held k ps) → IsCounted c m ps → IsCounted c m qs
 reordered c m ps qs same counts = record {
-    counted = λ k. omega (arith, same k, counts.counted k);
-    alive = counts.alive; there = counts.there; meant = counts.meant;
-  }
+  counted = λ k. omega (arith, same k, counts.counted k);
+  alive = counts.alive;
+  there = counts.there;
+  meant = counts.meant;
+}
 
 -- the key is among places that begin with it
 pub among_first : (p : Part) (others : List Part) → Among (p ∷ others) p
@@ -68,26 +70,26 @@ means_same m n same d q means = means_kept m n Any (λ k b safe was. (same k ∙
 
 pub counts_same : (h n : Heap) (places : List Part) → SameNodes h n → Counts h places → Counts n places
 counts_same h n places same counts = record {
-    counted = λ k. omega (arith, same.counts k, counts.counted k, inner_same k (map_of h) (map_of n) same.nodes);
-    alive = λ k is. omega (arith, same.counts k, counts.alive k (subst IsSome (same.nodes k) is));
-    there = count_there n;
-    meant = λ k is.
+  counted = λ k. omega (arith, same.counts k, counts.counted k, inner_same k (map_of h) (map_of n) same.nodes);
+  alive = λ k is. omega (arith, same.counts k, counts.alive k (subst IsSome (same.nodes k) is));
+  there = count_there n;
+  meant = λ k is.
       let d = counts.meant k (subst IsSome (same.nodes k) is) in
       (d.0, means_same (map_of h) (map_of n) same.nodes d.0 (Key k) d.1);
-  }
+}
 
 pub same_slots : (h n : Heap) → n.nodes.slots ≡ h.nodes.slots → n.shapes ≡ h.shapes → SameNodes h n
 same_slots h n slots shapes = record {
-    nodes = λ k. at-map_of n k ∙ ap (λ (t : Shapes). body_of t (get n.nodes k)) shapes
+  nodes = λ k. at-map_of n k ∙ ap (λ (t : Shapes). body_of t (get n.nodes k)) shapes
       ∙ ap (λ (l : List (Option Node)). body_of h.shapes (get_or l k None)) slots ∙ sym (at-map_of h k);
-    counts = λ k. ap (λ (l : List (Option Node)). count_of (get_or l k None)) slots;
-  }
+  counts = λ k. ap (λ (l : List (Option Node)). count_of (get_or l k None)) slots;
+}
 
 pub same_trans : (h n o : Heap) → SameNodes h n → SameNodes n o → SameNodes h o
 same_trans h n o first second = record {
-    nodes = λ k. second.nodes k ∙ first.nodes k;
-    counts = λ k. second.counts k ∙ first.counts k;
-  }
+  nodes = λ k. second.nodes k ∙ first.nodes k;
+  counts = λ k. second.counts k ∙ first.counts k;
+}
 
 -- ---- a whole heap
 
@@ -97,14 +99,14 @@ within_same h n less cap within k = omega (arith, less k, cap, within k)
 -- a call inside that keeps within the cap is a call of a heap that stands
 pub acts_from : (h n : Heap) (made others spent : List Part) → Stands h spent → Leads h n made others → IsWithin n → n.cap ≡ h.cap → n.shapes ≡ h.shapes → Acts h n made others
 acts_from h n made others spent stands leads within cap shapes = record {
-    stands = record {
-      counts = leads.counts;
-      within = within;
-      some = omega (arith, cap, stands.some);
-      table = subst IsShapes (sym shapes) stands.table;
-    };
-    keeps = leads.keeps;
-  }
+  stands = record {
+    counts = leads.counts;
+    within = within;
+    some = omega (arith, cap, stands.some);
+    table = subst IsShapes (sym shapes) stands.table;
+  };
+  keeps = leads.keeps;
+}
 
 -- ---- a release
 
@@ -132,9 +134,9 @@ freed h n p others counts free lasts =
         alive = λ k is. omega (arith, free.alive k is);
         there = count_there n;
         meant = λ k is.
-          let was : IsSome (at (map_of h) k) = elim (lasts k) [ inl gone ↦ absurd (not_there _ gone is) | inr same ↦ subst IsSome same is ] in
-          let d = counts.meant k was in
-          (d.0, means_kept (map_of h) (map_of n) (IsIn (map_of n)) closed d.0 (Key k) (λ j e. let same : k ≡ j = cc in subst (λ (i : ℕ). IsSome (at (map_of n) i)) same is) d.1);
+            let was : IsSome (at (map_of h) k) = elim (lasts k) [ inl gone ↦ absurd (not_there _ gone is) | inr same ↦ subst IsSome same is ] in
+            let d = counts.meant k was in
+            (d.0, means_kept (map_of h) (map_of n) (IsIn (map_of n)) closed d.0 (Key k) (λ j e. let same : k ≡ j = cc in subst (λ (i : ℕ). IsSome (at (map_of n) i)) same is) d.1);
       };
       keeps = λ q d among. means_kept (map_of h) (map_of n) (IsIn (map_of n)) closed d q (λ j e. count_there n j (omega (arith, free.counted j, among j e)));
     }
@@ -145,9 +147,12 @@ released h n p first others counts (j ∷ js, free) none lasts = absurd (let som
 
 -- a heap that is counted is in the middle of no release
 pub counted_freeing : (h : Heap) (places : List Part) → Counts h places → Frees h None places
-counted_freeing h places counts = ([], record {
+counted_freeing h places counts = (
+  [],
+  record {
     counted = counts.counted;
     alive = λ k is. omega (arith, counts.alive k is);
     once = λ k. omega arith;
     chain = refl;
-  })
+  },
+)

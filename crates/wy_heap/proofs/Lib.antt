@@ -12,6 +12,3 @@ pub mod PathLemmas
 pub mod PlaceLemmas
 pub mod CompareLemmas
 pub mod ShowLemmas
-pub mod ImportLemmas
-pub mod TableLemmas
-pub mod SettleLemmas

@@ -52,12 +52,12 @@ each_held safe (p ∷ ps) from =
 
 -- ---- nodes: a form and the data of the parts
 
-pub data_from_fields : (m : Map) (fs : Fields) (ps : List Part) → MeanFields m fs ps → MeanAll m (data_in fs) ps
+data_from_fields : (m : Map) (fs : Fields) (ps : List Part) → MeanFields m fs ps → MeanAll m (data_in fs) ps
 data_from_fields m no_fields ps mean = mean
 data_from_fields m (field k d fs) [] mean = mean
 data_from_fields m (field k d fs) (p ∷ ps) mean = (mean.0, data_from_fields m fs ps mean.1)
 
-pub fields_from_data : (m : Map) (fs : Fields) (ps : List Part) → MeanAll m (data_in fs) ps → MeanFields m fs ps
+fields_from_data : (m : Map) (fs : Fields) (ps : List Part) → MeanAll m (data_in fs) ps → MeanFields m fs ps
 fields_from_data m no_fields ps mean = mean
 fields_from_data m (field k d fs) [] mean = mean
 fields_from_data m (field k d fs) (p ∷ ps) mean = (mean.0, fields_from_data m fs ps mean.1)
@@ -68,26 +68,42 @@ node_from_means m datum.Null p form ds split means = absurd split
 node_from_means m (datum.Truth b) p form ds split means = absurd split
 node_from_means m (datum.Whole z) p form ds split means = absurd split
 node_from_means m (datum.Array items) p form ds split means =
-    record { key = means.key; is_key = means.is_key; parts = means.parts;
+    record {
+      key = means.key;
+      is_key = means.is_key;
+      parts = means.parts;
       is_node = means.is_node ∙ ap (λ (f : Form). Some (record { form = f; parts = means.parts })) (sym split.0);
-      pass_all = subst (λ (es : Data). MeanAll m es means.parts) (sym split.1) means.pass_all }
+      pass_all = subst (λ (es : Data). MeanAll m es means.parts) (sym split.1) means.pass_all;
+    }
 node_from_means m (datum.Record fs) p form ds split means =
-    record { key = means.key; is_key = means.is_key; parts = means.parts;
+    record {
+      key = means.key;
+      is_key = means.is_key;
+      parts = means.parts;
       is_node = means.is_node ∙ ap (λ (f : Form). Some (record { form = f; parts = means.parts })) (sym split.0);
-      pass_all = subst (λ (es : Data). MeanAll m es means.parts) (sym split.1) (data_from_fields m fs means.parts means.pass_all) }
+      pass_all = subst (λ (es : Data). MeanAll m es means.parts) (sym split.1) (data_from_fields m fs means.parts means.pass_all);
+    }
 
 pub means_from_node : (m : Map) (d : Datum) (p : Part) (form : Form) (ds : Data) → IsSplit d form ds → IsNode m p form ds → Means m d p
 means_from_node m datum.Null p form ds split node = absurd split
 means_from_node m (datum.Truth b) p form ds split node = absurd split
 means_from_node m (datum.Whole z) p form ds split node = absurd split
 means_from_node m (datum.Array items) p form ds split node =
-    record { key = node.key; is_key = node.is_key; parts = node.parts;
+    record {
+      key = node.key;
+      is_key = node.is_key;
+      parts = node.parts;
       is_node = node.is_node ∙ ap (λ (f : Form). Some (record { form = f; parts = node.parts })) split.0;
-      pass_all = subst (λ (es : Data). MeanAll m es node.parts) split.1 node.pass_all }
+      pass_all = subst (λ (es : Data). MeanAll m es node.parts) split.1 node.pass_all;
+    }
 means_from_node m (datum.Record fs) p form ds split node =
-    record { key = node.key; is_key = node.is_key; parts = node.parts;
+    record {
+      key = node.key;
+      is_key = node.is_key;
+      parts = node.parts;
       is_node = node.is_node ∙ ap (λ (f : Form). Some (record { form = f; parts = node.parts })) split.0;
-      pass_all = fields_from_data m fs node.parts (subst (λ (es : Data). MeanAll m es node.parts) split.1 node.pass_all) }
+      pass_all = fields_from_data m fs node.parts (subst (λ (es : Data). MeanAll m es node.parts) split.1 node.pass_all);
+    }
 
 -- what a hold stands for has a form and data
 pub record HasSplit (d : Datum) : Type 0 where

@@ -127,13 +127,13 @@ module _ (s1 s2 : Heap) (key place : ℕ) (form : Form) (ds : Data) (whole : Dat
     pub done_keeps : Keeps (map_of s1) (map_of s3) others
     done_keeps q d among means =
         swap_among s2 s3 key place below out swaps is_out others level_counts level_sole q d (λ k e. omega (arith, among k e))
-          (level_leads.keeps q d (among_more (Key key) others q among) means)
+        (level_leads.keeps q d (among_more (Key key) others q among) means)
 
     pub done_value : (x : Datum) → Means (map_of s2) x below → Means (map_of s3) (put_at whole place x) (Key key)
     done_value x means =
         means_from_node (map_of s3) (put_at whole place x) (Key key) swaps.body.form (put_nth ds place x)
-          (subst (λ (f : Form). IsSplit (put_at whole place x) f (put_nth ds place x)) (sym level_body.0) (split-put_at whole form ds place x hole.split))
-          (swap_node s2 s3 key place below out swaps is_out others level_counts level_sole ds x level_body.1 means)
+        (subst (λ (f : Form). IsSplit (put_at whole place x) f (put_nth ds place x)) (sym level_body.0) (split-put_at whole form ds place x hole.split))
+        (swap_node s2 s3 key place below out swaps is_out others level_counts level_sole ds x level_body.1 means)
 
     pub done_inner : (k : ℕ) → holds k below + inner k (map_of s2) ≡ 0 → inner k (map_of s3) ≡ 0
     done_inner k none = omega (arith, none, swap_inner s2 s3 key place below out swaps is_out others level_counts level_sole k)
@@ -160,10 +160,19 @@ level_of h whole key place step rest inside is w means has place_is inside_is =
     let node = held_node h whole key w is means in
     let lies : place ≡ place_in node.form step = place_is ∙ ap (λ (o : Option Body). place_in (form_in o) step) node.is in
     record {
-      is_key = is; value = w; means = means; body = record { form = node.form; parts = node.parts }; was = node.is;
-      data_of = node.data_of; split = node.split; mean = node.mean; place_is = lies;
+      is_key = is;
+      value = w;
+      means = means;
+      body = record { form = node.form; parts = node.parts };
+      was = node.is;
+      data_of = node.data_of;
+      split = node.split;
+      mean = node.mean;
+      place_is = lies;
       within = omega (arith, lies, place_within w node.form node.data_of step node.split has.0, mean_all-length (map_of h) node.data_of node.parts node.mean);
-      has = has.0; path = has.1; inside_is = inside_is;
+      has = has.0;
+      path = has.1;
+      inside_is = inside_is;
     }
 
 -- the level at the first step of a path
@@ -191,8 +200,8 @@ module _ (s0 : Heap) (whole : Part) (key place : ℕ) (step : Step) (rest : List
   pub level_inside : Means (map_of s0) (child level.value step) inside
   level_inside =
       subst (λ (d : Datum). Means (map_of s0) d inside) (sym nth_is)
-        (subst (Means (map_of s0) (nth level.data_of place)) (sym (level.inside_is ∙ ap (λ (o : Option Body). part_of o place) level.was))
-          (mean_all-nth (map_of s0) level.data_of level.body.parts place level.mean level.within))
+      (subst (Means (map_of s0) (nth level.data_of place)) (sym (level.inside_is ∙ ap (λ (o : Option Body). part_of o place) level.was))
+      (mean_all-nth (map_of s0) level.data_of level.body.parts place level.mean level.within))
 
   -- the whole with another datum where the step leads
   pub level_put : (x : Datum) → put_step level.value step x ≡ put_at level.value place x
@@ -217,8 +226,8 @@ module _ (s0 : Heap) (whole : Part) (key place : ℕ) (step : Step) (rest : List
       let once = split-put_at level.value level.body.form level.data_of place x level.split in
       let node = node_from_means m (put_at (put_at level.value place datum.Null) place x) (Key key) level.body.form (put_nth (put_nth level.data_of place datum.Null) place x) twice means in
       subst (λ (d : Datum). Means m d (Key key)) (sym (level_put x))
-        (means_from_node m (put_at level.value place x) (Key key) level.body.form (put_nth level.data_of place x) once
-          (subst (λ (es : Data). IsNode m (Key key) level.body.form es) (put_nth-put_nth level.data_of place datum.Null x) node))
+      (means_from_node m (put_at level.value place x) (Key key) level.body.form (put_nth level.data_of place x) once
+      (subst (λ (es : Data). IsNode m (Key key) level.body.form es) (put_nth-put_nth level.data_of place datum.Null x) node))
 
 -- the copy that was made at this level
 pub level_builds : (s0 : Heap) (whole : Part) (key place : ℕ) (step : Step) (rest : List Step) (inside : Part) (level : Level s0 whole key place step rest inside) (s1 : Heap) (top : ℕ) → Builds s0 s1 (form_in (at (map_of s0) key)) (set (parts_in (at (map_of s0) key)) place Null) top → Builds s0 s1 level.body.form (set level.body.parts place Null) top
@@ -238,13 +247,13 @@ module _ (s0 : Heap) (whole : Part) (key place : ℕ) (step : Step) (rest : List
 
   pub copy_hole : Hole s1 top place level.body.form (put_nth level.data_of place datum.Null) (put_at level.value place datum.Null) (part ∷ []) others
   copy_hole = record {
-      counts = reordered (count_at s1) (map_of s1) (Key top ∷ part ∷ others) (part ∷ Key top ∷ others) (λ k. omega arith) copy_counts;
-      free = omega (arith, copy_counts.counted top, builds.count, holds_one top);
-      split = level_split s0 whole key place step rest inside level;
-      value = copy_value;
-      empty = level_empty s0 whole key place step rest inside level;
-      within = level_within s0 whole key place step rest inside level;
-    }
+    counts = reordered (count_at s1) (map_of s1) (Key top ∷ part ∷ others) (part ∷ Key top ∷ others) (λ k. omega arith) copy_counts;
+    free = omega (arith, copy_counts.counted top, builds.count, holds_one top);
+    split = level_split s0 whole key place step rest inside level;
+    value = copy_value;
+    empty = level_empty s0 whole key place step rest inside level;
+    within = level_within s0 whole key place step rest inside level;
+  }
 
   -- a key that was there is not the new one
   copy_old : (k : ℕ) (b : Body) → at (map_of s0) k ≡ Some b → k ≢ top
@@ -260,9 +269,9 @@ module _ (s0 : Heap) (whole : Part) (key place : ℕ) (step : Step) (rest : List
   module _ (s2 s3 : Heap) (below out : Part) (wrote : Wrote s1 s2 (part ∷ []) inside rest part below) (swaps : Swaps s2 s3 top place below) (is_out : out ≡ part_of (at (map_of s2) top) place) where
     copied_leads : Leads s0 s3 (Key top ∷ []) others
     copied_leads = record {
-        counts = done_counts s1 s2 top place level.body.form (put_nth level.data_of place datum.Null) (put_at level.value place datum.Null) (part ∷ []) others copy_hole inside rest part below wrote s3 out swaps is_out;
-        keeps = λ q d among means. done_keeps s1 s2 top place level.body.form (put_nth level.data_of place datum.Null) (put_at level.value place datum.Null) (part ∷ []) others copy_hole inside rest part below wrote s3 out swaps is_out q d among (builds.keeps q d means);
-      }
+      counts = done_counts s1 s2 top place level.body.form (put_nth level.data_of place datum.Null) (put_at level.value place datum.Null) (part ∷ []) others copy_hole inside rest part below wrote s3 out swaps is_out;
+      keeps = λ q d among means. done_keeps s1 s2 top place level.body.form (put_nth level.data_of place datum.Null) (put_at level.value place datum.Null) (part ∷ []) others copy_hole inside rest part below wrote s3 out swaps is_out q d among (builds.keeps q d means);
+    }
 
     copied_fresh : NoNew (map_of s0) (map_of s3) (part ∷ []) (Key top ∷ [])
     copied_fresh k b was none =
@@ -275,47 +284,47 @@ module _ (s0 : Heap) (whole : Part) (key place : ℕ) (step : Step) (rest : List
     copied_value w u means_w means_u =
         let x = put (child level.value step) rest u in
         let done = done_value s1 s2 top place level.body.form (put_nth level.data_of place datum.Null) (put_at level.value place datum.Null) (part ∷ []) others copy_hole inside rest part below wrote s3 out swaps is_out
-          x (wrote.value (child level.value step) u copied_inside (builds.keeps part u means_u)) in
+        x (wrote.value (child level.value step) u copied_inside (builds.keeps part u means_u)) in
         let twice = split-put_at (put_at level.value place datum.Null) level.body.form (put_nth level.data_of place datum.Null) place x (level_split s0 whole key place step rest inside level) in
         let once = split-put_at level.value level.body.form level.data_of place x level.split in
         let node = node_from_means (map_of s3) (put_at (put_at level.value place datum.Null) place x) (Key top) level.body.form (put_nth (put_nth level.data_of place datum.Null) place x) twice done in
         let all = means_from_node (map_of s3) (put_at level.value place x) (Key top) level.body.form (put_nth level.data_of place x) once
-          (subst (λ (es : Data). IsNode (map_of s3) (Key top) level.body.form es) (put_nth-put_nth level.data_of place datum.Null x) node) in
+        (subst (λ (es : Data). IsNode (map_of s3) (Key top) level.body.form es) (put_nth-put_nth level.data_of place datum.Null x) node) in
         subst (λ (v : Datum). Means (map_of s3) (put v (step ∷ rest) u) (Key top)) (means_unique (map_of s0) level.value w whole level.means means_w)
-          (subst (λ (v : Datum). Means (map_of s3) v (Key top)) (sym (level_put s0 whole key place step rest inside level x)) all)
+        (subst (λ (v : Datum). Means (map_of s3) v (Key top)) (sym (level_put s0 whole key place step rest inside level x)) all)
 
 -- the whole level
 pub copied_wrote : (s0 : Heap) (whole : Part) (key place : ℕ) (step : Step) (rest : List Step) (inside : Part) (level : Level s0 whole key place step rest inside) (s1 : Heap) (top : ℕ) (builds : Builds s0 s1 level.body.form (set level.body.parts place Null) top) (part : Part) (held_with : (others : List Part) × Counts s0 (part ∷ others)) (s2 s3 : Heap) (below out : Part) → Wrote s1 s2 (part ∷ []) inside rest part below → Swaps s2 s3 top place below → out ≡ part_of (at (map_of s2) top) place → Wrote s0 s3 (part ∷ []) whole (step ∷ rest) part (Key top)
 copied_wrote s0 whole key place step rest inside level s1 top builds part held_with s2 s3 below out wrote swaps is_out = record {
-    leads = λ others counts. copied_leads s0 whole key place step rest inside level s1 top builds part others counts s2 s3 below out wrote swaps is_out;
-    value = copied_value s0 whole key place step rest inside level s1 top builds part held_with.0 held_with.1 s2 s3 below out wrote swaps is_out;
-    fresh = copied_fresh s0 whole key place step rest inside level s1 top builds part held_with.0 held_with.1 s2 s3 below out wrote swaps is_out;
-  }
+  leads = λ others counts. copied_leads s0 whole key place step rest inside level s1 top builds part others counts s2 s3 below out wrote swaps is_out;
+  value = copied_value s0 whole key place step rest inside level s1 top builds part held_with.0 held_with.1 s2 s3 below out wrote swaps is_out;
+  fresh = copied_fresh s0 whole key place step rest inside level s1 top builds part held_with.0 held_with.1 s2 s3 below out wrote swaps is_out;
+}
 
 -- a new node that is let go of leaves the heap as it was
 pub dropped : (s0 s1 s2 : Heap) (form : Form) (parts : List Part) (made : ℕ) (places : List Part) → Builds s0 s1 form parts made → Counts s0 places → Counts s1 (Key made ∷ places) → ((others : List Part) → Counts s1 (Key made ∷ others) → Leads s1 s2 [] others) → Upheld s1 (map_of s2) (Key made) → SameNodes s0 s2
 dropped s0 s1 s2 form parts made places builds counts held_with frees upheld =
     restored s0 s2 places counts (frees places held_with).counts
-      (upheld (map_of s0) places held_with
-        (λ k b was. omega (arith, counts.counted k, counts.alive k (subst IsSome (sym was) refl)))
-        builds.stays)
+    (upheld (map_of s0) places held_with
+    (λ k b was. omega (arith, counts.counted k, counts.alive k (subst IsSome (sym was) refl)))
+    builds.stays)
 
 -- refused further down: the copy is let go of
 pub copied_refused : (s0 s1 s2 s3 : Heap) (form : Form) (parts : List Part) (top : ℕ) (places : List Part) → Builds s0 s1 form parts top → Counts s0 places → SameNodes s1 s2 → ((others : List Part) → Counts s2 (Key top ∷ others) → Leads s2 s3 [] others) → Upheld s2 (map_of s3) (Key top) → SameNodes s0 s3
 copied_refused s0 s1 s2 s3 form parts top places builds counts same frees upheld =
     let still = counts_same s1 s2 (Key top ∷ places) same (builds.counts places counts) in
     restored s0 s3 places counts (frees places still).counts
-      (upheld (map_of s0) places still
-        (λ k b was. omega (arith, counts.counted k, counts.alive k (subst IsSome (sym was) refl)))
-        (λ k b was. same.nodes k ∙ builds.stays k b was))
+    (upheld (map_of s0) places still
+    (λ k b was. omega (arith, counts.counted k, counts.alive k (subst IsSome (sym was) refl)))
+    (λ k b was. same.nodes k ∙ builds.stays k b was))
 
 -- nothing was done
 pub wrote_nothing : (s : Heap) (whole part : Part) → Wrote s s (part ∷ []) whole [] part part
 wrote_nothing s whole part = record {
-    leads = λ others counts. record { counts = counts; keeps = λ q d among means. means };
-    value = λ w u means_w means_u. means_u;
-    fresh = λ k b was none. none;
-  }
+  leads = λ others counts. record { counts = counts; keeps = λ q d among means. means };
+  value = λ w u means_w means_u. means_u;
+  fresh = λ k b was none. none;
+}
 
 pub inner_lasts : (k : ℕ) (m n : Map) → Lasts m n → inner k n ≤ inner k m
 inner_lasts k m [] lasts = omega arith
@@ -331,9 +340,9 @@ inner_lasts k (d ∷ ds) (c ∷ cs) lasts =
 pub copy_wrote : (s0 s1 s2 : Heap) (whole : Part) (path : List Step) (part made : Part) → (beside : (others : List Part) × Counts s0 (whole ∷ part ∷ others)) → Wrote s0 s1 (part ∷ []) whole path part made → ((others : List Part) → Counts s1 (whole ∷ others) → Leads s1 s2 [] others) → Lasts (map_of s1) (map_of s2) → Wrote s0 s2 (whole ∷ part ∷ []) whole path part made
 copy_wrote s0 s1 s2 whole path part made beside wrote frees lasts =
     let one : (others : List Part) → Counts s0 (whole ∷ part ∷ others) → Leads s0 s1 (made ∷ []) (whole ∷ others) =
-      λ others counts. wrote.leads (whole ∷ others) (reordered (count_at s0) (map_of s0) (whole ∷ part ∷ others) (part ∷ whole ∷ others) (λ k. omega arith) counts) in
+    λ others counts. wrote.leads (whole ∷ others) (reordered (count_at s0) (map_of s0) (whole ∷ part ∷ others) (part ∷ whole ∷ others) (λ k. omega arith) counts) in
     let two : (others : List Part) → Counts s0 (whole ∷ part ∷ others) → Leads s1 s2 [] (made ∷ others) =
-      λ others counts. frees (made ∷ others) (reordered (count_at s1) (map_of s1) (made ∷ whole ∷ others) (whole ∷ made ∷ others) (λ k. omega arith) (one others counts).counts) in
+    λ others counts. frees (made ∷ others) (reordered (count_at s1) (map_of s1) (made ∷ whole ∷ others) (whole ∷ made ∷ others) (λ k. omega arith) (one others counts).counts) in
     record {
       leads = λ others counts. record {
         counts = (two others counts).counts;
@@ -350,9 +359,9 @@ copy_free s0 s1 whole path part made wrote others counts =
 
 pub end_wrote : (s0 s1 : Heap) (whole part : Part) → (beside : (others : List Part) × Counts s0 (whole ∷ part ∷ others)) → ((others : List Part) → Counts s0 (whole ∷ others) → Leads s0 s1 [] others) → Lasts (map_of s0) (map_of s1) → Wrote s0 s1 (whole ∷ part ∷ []) whole [] part part
 end_wrote s0 s1 whole part beside frees lasts = record {
-    leads = λ others counts.
+  leads = λ others counts.
       let leads = frees (part ∷ others) counts in
       record { counts = leads.counts; keeps = λ q d among means. leads.keeps q d (λ k e. omega (arith, among k e)) means };
-    value = λ w u means_w means_u. (frees (part ∷ beside.0) beside.1).keeps part u (among_first part beside.0) means_u;
-    fresh = λ k b was none. omega (arith, none, inner_lasts k (map_of s0) (map_of s1) lasts);
-  }
+  value = λ w u means_w means_u. (frees (part ∷ beside.0) beside.1).keeps part u (among_first part beside.0) means_u;
+  fresh = λ k b was none. omega (arith, none, inner_lasts k (map_of s0) (map_of s1) lasts);
+}

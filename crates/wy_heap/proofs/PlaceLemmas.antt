@@ -31,20 +31,20 @@ module _ (s0 : Heap) (whole : Part) (key place : ℕ) (step : Step) (rest : List
   first_value : Means (map_of s1) (put_at level.value place datum.Null) (Key key)
   first_value =
       means_from_node (map_of s1) (put_at level.value place datum.Null) (Key key) swaps.body.form (put_nth level.data_of place datum.Null)
-        (subst (λ (f : Form). IsSplit (put_at level.value place datum.Null) f (put_nth level.data_of place datum.Null)) (sym (same_form swaps.body level.body same_body))
-          (level_split s0 whole key place step rest inside level))
-        (swap_node s0 s1 key place Null inside swaps level.inside_is (part ∷ others) start sole level.data_of datum.Null
-          (subst (MeanAll (map_of s0) level.data_of) (sym (ap parts_in same_body)) level.mean) refl)
+      (subst (λ (f : Form). IsSplit (put_at level.value place datum.Null) f (put_nth level.data_of place datum.Null)) (sym (same_form swaps.body level.body same_body))
+      (level_split s0 whole key place step rest inside level))
+      (swap_node s0 s1 key place Null inside swaps level.inside_is (part ∷ others) start sole level.data_of datum.Null
+      (subst (MeanAll (map_of s0) level.data_of) (sym (ap parts_in same_body)) level.mean) refl)
 
   pub place_hole : Hole s1 key place level.body.form (put_nth level.data_of place datum.Null) (put_at level.value place datum.Null) (inside ∷ part ∷ []) others
   place_hole = record {
-      counts = reordered (count_at s1) (map_of s1) (Key key ∷ inside ∷ part ∷ others) (inside ∷ part ∷ Key key ∷ others) (λ k. omega arith) first;
-      free = omega (arith, first.counted key, swaps.counts key, sole, holds_one key);
-      split = level_split s0 whole key place step rest inside level;
-      value = first_value;
-      empty = level_empty s0 whole key place step rest inside level;
-      within = level_within s0 whole key place step rest inside level;
-    }
+    counts = reordered (count_at s1) (map_of s1) (Key key ∷ inside ∷ part ∷ others) (inside ∷ part ∷ Key key ∷ others) (λ k. omega arith) first;
+    free = omega (arith, first.counted key, swaps.counts key, sole, holds_one key);
+    split = level_split s0 whole key place step rest inside level;
+    value = first_value;
+    empty = level_empty s0 whole key place step rest inside level;
+    within = level_within s0 whole key place step rest inside level;
+  }
 
   -- parts beside the node
   place_among : Keeps (map_of s0) (map_of s1) (inside ∷ Null ∷ part ∷ others)
@@ -68,10 +68,10 @@ module _ (s0 : Heap) (whole : Part) (key place : ℕ) (step : Step) (rest : List
   module _ (s2 s3 : Heap) (below out : Part) (wrote : Wrote s1 s2 (inside ∷ part ∷ []) inside rest part below) (again : Swaps s2 s3 key place below) (is_out : out ≡ part_of (at (map_of s2) key) place) where
     place_leads : Leads s0 s3 (Key key ∷ []) others
     place_leads = record {
-        counts = done_counts s1 s2 key place level.body.form (put_nth level.data_of place datum.Null) (put_at level.value place datum.Null) (inside ∷ part ∷ []) others place_hole inside rest part below wrote s3 out again is_out;
-        keeps = λ q d among means. done_keeps s1 s2 key place level.body.form (put_nth level.data_of place datum.Null) (put_at level.value place datum.Null) (inside ∷ part ∷ []) others place_hole inside rest part below wrote s3 out again is_out q d among
+      counts = done_counts s1 s2 key place level.body.form (put_nth level.data_of place datum.Null) (put_at level.value place datum.Null) (inside ∷ part ∷ []) others place_hole inside rest part below wrote s3 out again is_out;
+      keeps = λ q d among means. done_keeps s1 s2 key place level.body.form (put_nth level.data_of place datum.Null) (put_at level.value place datum.Null) (inside ∷ part ∷ []) others place_hole inside rest part below wrote s3 out again is_out q d among
           (place_among q d (λ k e. omega (arith, among k e)) means);
-      }
+    }
 
     place_fresh : NoNew (map_of s0) (map_of s3) (whole ∷ part ∷ []) (Key key ∷ [])
     place_fresh k b was none =
@@ -85,36 +85,36 @@ module _ (s0 : Heap) (whole : Part) (key place : ℕ) (step : Step) (rest : List
     place_value w u means_w means_u =
         let x = put (child level.value step) rest u in
         let done = done_value s1 s2 key place level.body.form (put_nth level.data_of place datum.Null) (put_at level.value place datum.Null) (inside ∷ part ∷ []) others place_hole inside rest part below wrote s3 out again is_out
-          x (wrote.value (child level.value step) u place_inside (place_part u means_u)) in
+        x (wrote.value (child level.value step) u place_inside (place_part u means_u)) in
         subst (λ (v : Datum). Means (map_of s3) (put v (step ∷ rest) u) (Key key)) (means_unique (map_of s0) level.value w whole level.means means_w)
-          (level_again s0 whole key place step rest inside level (map_of s3) x done)
+        (level_again s0 whole key place step rest inside level (map_of s3) x done)
 
 pub place_wrote : (s0 : Heap) (whole : Part) (key place : ℕ) (step : Step) (rest : List Step) (inside : Part) (level : Level s0 whole key place step rest inside) (s1 : Heap) (swaps : Swaps s0 s1 key place Null) (sole : count_at s0 key ≡ 1) (part : Part) (beside : (others : List Part) × Counts s0 (whole ∷ part ∷ others)) (s2 s3 : Heap) (below out : Part) (wrote : Wrote s1 s2 (inside ∷ part ∷ []) inside rest part below) (again : Swaps s2 s3 key place below) (is_out : out ≡ part_of (at (map_of s2) key) place) → Wrote s0 s3 (whole ∷ part ∷ []) whole (step ∷ rest) part (Key key)
 place_wrote s0 whole key place step rest inside level s1 swaps sole part beside s2 s3 below out wrote again is_out = record {
-    leads = λ others counts. place_leads s0 whole key place step rest inside level s1 swaps sole part others counts s2 s3 below out wrote again is_out;
-    value = place_value s0 whole key place step rest inside level s1 swaps sole part beside.0 beside.1 s2 s3 below out wrote again is_out;
-    fresh = place_fresh s0 whole key place step rest inside level s1 swaps sole part beside.0 beside.1 s2 s3 below out wrote again is_out;
-  }
+  leads = λ others counts. place_leads s0 whole key place step rest inside level s1 swaps sole part others counts s2 s3 below out wrote again is_out;
+  value = place_value s0 whole key place step rest inside level s1 swaps sole part beside.0 beside.1 s2 s3 below out wrote again is_out;
+  fresh = place_fresh s0 whole key place step rest inside level s1 swaps sole part beside.0 beside.1 s2 s3 below out wrote again is_out;
+}
 
 -- refused further down: what was in the slot goes back
 pub place_refused : (s0 : Heap) (whole : Part) (key place : ℕ) (step : Step) (rest : List Step) (inside : Part) (level : Level s0 whole key place step rest inside) (s1 s2 s3 : Heap) → Swaps s0 s1 key place Null → SameNodes s1 s2 → Swaps s2 s3 key place inside → SameNodes s0 s3
 place_refused s0 whole key place step rest inside level s1 s2 s3 swaps same again = record {
-    nodes = λ k. elim (cases_eq k key) [
-      | inr differ ↦ again.others k differ ∙ same.nodes k ∙ swaps.others k differ
-      | inl e ↦
+  nodes = λ k. elim (cases_eq k key) [
+    | inr differ ↦ again.others k differ ∙ same.nodes k ∙ swaps.others k differ
+    | inl e ↦
         let node : Some again.body ≡ Some (record { form = swaps.body.form; parts = set swaps.body.parts place Null }) = sym again.was ∙ same.nodes key ∙ swaps.is in
         let form : again.body.form ≡ swaps.body.form = same_form again.body (record { form = swaps.body.form; parts = set swaps.body.parts place Null }) node in
         let inside_in : inside ≡ get_or swaps.body.parts place Null = level.inside_is ∙ ap (λ (o : Option Body). part_of o place) swaps.was in
         let parts : set again.body.parts place inside ≡ swaps.body.parts =
-          ap (λ (ps : List Part). set ps place inside) (ap parts_in node) ∙ set-set swaps.body.parts place Null inside
-          ∙ ap (λ (q : Part). set swaps.body.parts place q) inside_in ∙ set-get_or swaps.body.parts place Null in
+        ap (λ (ps : List Part). set ps place inside) (ap parts_in node) ∙ set-set swaps.body.parts place Null inside
+        ∙ ap (λ (q : Part). set swaps.body.parts place q) inside_in ∙ set-get_or swaps.body.parts place Null in
         ap (at (map_of s3)) e ∙ again.is
         ∙ ap (λ (f : Form). Some (record { form = f; parts = set again.body.parts place inside })) form
         ∙ ap (λ (ps : List Part). Some (record { form = swaps.body.form; parts = ps })) parts
         ∙ sym swaps.was ∙ ap (at (map_of s0)) (sym e)
-    ];
-    counts = λ k. again.counts k ∙ same.counts k ∙ swaps.counts k;
-  }
+  ];
+  counts = λ k. again.counts k ∙ same.counts k ∙ swaps.counts k;
+}
 
 -- the slot is still there where it was refused
 pub refused_slot : (s1 s2 : Heap) (key place : ℕ) (form : Form) (ds : Data) (d : Datum) (spent others : List Part) → Hole s1 key place form ds d spent others → SameNodes s1 s2 → IsNodeSlot (map_of s2) key place
@@ -133,22 +133,24 @@ module _ (s t : Heap) (key place : ℕ) (part : Part) (swaps : Swaps s t key pla
   part_kept Null step free = (refl, refl)
   part_kept (Bool b) step free = (refl, refl)
   part_kept (Int z) step free = (refl, refl)
-  part_kept (Key k) step free =
-      (ap (λ (o : Option Body). part_of o (place_in (form_in o) step)) (swaps.others k (λ e. omega (arith, free, ap (λ (j : ℕ). holds key (Key j)) e, holds_one key))),
-       part_free key (at (map_of s) k) (place_in (form_in (at (map_of s) k)) step) (omega (arith, slot-le-inner key (map_of s) k, none)))
+  part_kept (Key k) step free = (
+    ap (λ (o : Option Body). part_of o (place_in (form_in o) step)) (swaps.others k (λ e. omega (arith, free, ap (λ (j : ℕ). holds key (Key j)) e, holds_one key))),
+    part_free key (at (map_of s) k) (place_in (form_in (at (map_of s) k)) step) (omega (arith, slot-le-inner key (map_of s) k, none)),
+  )
 
   sole_kept : (path : List Step) (p : Part) → holds key p ≡ 0 → Sole s p path → Sole t p path
   sole_kept [] p free sole = tt
   sole_kept (step ∷ path) p free sole =
-      let here = part_kept p step free in
-      (λ k e. swaps.counts k ∙ sole.0 k e,
-       subst (λ (q : Part). Sole t q path) (sym here.0) (sole_kept path (part_at (map_of s) p step) here.1 sole.1))
+      let here = part_kept p step free in (
+        λ k e. swaps.counts k ∙ sole.0 k e,
+        subst (λ (q : Part). Sole t q path) (sym here.0) (sole_kept path (part_at (map_of s) p step) here.1 sole.1),
+      )
 
 pub sole_inside : (s0 : Heap) (whole : Part) (key place : ℕ) (step : Step) (rest : List Step) (inside : Part) (level : Level s0 whole key place step rest inside) (s1 : Heap) → Swaps s0 s1 key place Null → count_at s0 key ≡ 1 → (others : List Part) → Counts s0 (whole ∷ others) → Sole s0 whole (step ∷ rest) → Sole s1 inside rest
 sole_inside s0 whole key place step rest inside level s1 swaps one others counts sole =
     let none : inner key (map_of s0) ≡ 0 = omega (arith, counts.counted key, one, ap (holds key) level.is_key, holds_one key) in
     let lies : place ≡ place_in (form_in (at (map_of s0) key)) step = level.place_is ∙ sym (ap (λ (o : Option Body). place_in (form_in o) step) level.was) in
     let inside_at : inside ≡ part_at (map_of s0) whole step =
-      level.inside_is ∙ ap (part_of (at (map_of s0) key)) lies ∙ sym (ap (λ (q : Part). part_at (map_of s0) q step) level.is_key) in
+    level.inside_is ∙ ap (part_of (at (map_of s0) key)) lies ∙ sym (ap (λ (q : Part). part_at (map_of s0) q step) level.is_key) in
     let free : holds key inside ≡ 0 = ap (holds key) level.inside_is ∙ part_free key (at (map_of s0) key) place (omega (arith, slot-le-inner key (map_of s0) key, none)) in
     sole_kept s0 s1 key place Null swaps none rest inside free (subst (λ (q : Part). Sole s0 q rest) (sym inside_at) sole.1)

@@ -32,9 +32,13 @@ rest_works-append m (x ∷ xs) ys = omega (arith, rest_works-append m xs ys)
 -- what lies on top is written first
 left_both : (m : Map) (xs ys : List Rest) (t u : List ℕ) → AreLeft m xs t → AreLeft m ys u → AreLeft m (xs ++ ys) (u ++ t)
 left_both m [] ys t u first second = subst (AreLeft m ys) (sym (append-nil u) ∙ ap (λ (l : List ℕ). u ++ l) (sym first)) second
-left_both m (x ∷ xs) ys t u first second =
-    (first.0, u ++ first.1, first.2, left_both m xs ys first.1 u first.3 second,
-     ap (λ (l : List ℕ). u ++ l) first.4 ∙ sym (append_assoc u first.1 first.0))
+left_both m (x ∷ xs) ys t u first second = (
+  first.0,
+  u ++ first.1,
+  first.2,
+  left_both m xs ys first.1 u first.3 second,
+  ap (λ (l : List ℕ). u ++ l) first.4 ∙ sym (append_assoc u first.1 first.0),
+)
 
 pub left_top : (m : Map) (xs : List Rest) (r : Rest) (t : List ℕ) → AreLeft m (xs ++ r ∷ []) t → (a : List ℕ) × (b : List ℕ) × IsLeft m r a × AreLeft m xs b × (t ≡ a ++ b)
 left_top m [] r t all = (all.0, [], all.2, refl, all.4 ∙ ap (λ (l : List ℕ). l ++ all.0) all.3 ∙ sym (append-nil all.0))
@@ -100,9 +104,9 @@ record_step (field n d fs) (suc i) below =
     let after = more_fields (fields_from fs (suc i)) in
     ap (λ (gs : Fields). more_fields gs ++ 125 ∷ []) (fields_from-step (field n d fs) (suc i) below)
     ∙ ap (λ (l : List ℕ). 44 ∷ 32 ∷ l)
-      (append_assoc (name ++ 58 ∷ 32 ∷ value) after (125 ∷ [])
-       ∙ append_assoc name (58 ∷ 32 ∷ value) (after ++ 125 ∷ [])
-       ∙ sym (append_assoc name (58 ∷ 32 ∷ []) (value ++ (after ++ 125 ∷ []))))
+    (append_assoc (name ++ 58 ∷ 32 ∷ value) after (125 ∷ [])
+    ∙ append_assoc name (58 ∷ 32 ∷ value) (after ++ 125 ∷ [])
+    ∙ sym (append_assoc name (58 ∷ 32 ∷ []) (value ++ (after ++ 125 ∷ []))))
 
 -- the next part with what stands before it, and the rest
 shown_step : (d : Datum) (form : Form) (ds : Data) (i : ℕ) → IsSplit d form ds → i < length_of ds → shown_from d i ≡ lead_of form i ++ (shown (nth ds i) ++ shown_from d (suc i))
@@ -155,13 +159,13 @@ shown_closing t (shape.Record n) (datum.Record fs) form ds i split is past = rec
 
 pub scalar_goes : (m : Map) (p : Part) (d : Datum) (old : List Rest) (before after : List ℕ) → Means m d p → after ≡ before ++ shown d → GoesOn m (IsText m p) (2 * weight m p) old old before after
 scalar_goes m p d old before after means is = record {
-    more = [];
-    is = sym (append-nil old);
-    wrote = shown d;
-    out = is;
-    rest = λ t w. ([], refl, w.2 ∙ ap shown (means_unique m w.0 d p w.1 means) ∙ sym (append-nil (shown d)));
-    less = omega (arith, weight-tree m d p means, tree_some d);
-  }
+  more = [];
+  is = sym (append-nil old);
+  wrote = shown d;
+  out = is;
+  rest = λ t w. ([], refl, w.2 ∙ ap shown (means_unique m w.0 d p w.1 means) ∙ sym (append-nil (shown d)));
+  less = omega (arith, weight-tree m d p means, tree_some d);
+}
 
 pub node_goes : (h : Heap) (p : Part) (key : ℕ) (n : Node) (old new : List Rest) (before after : List ℕ) → p ≡ Key key → get h.nodes key ≡ Some n → IsMeant (map_of h) p → new ≡ old ++ (key, 0) ∷ [] → after ≡ before ++ opening n.shape ∷ [] → GoesOn (map_of h) (IsText (map_of h) p) (2 * weight (map_of h) p) old new before after
 node_goes h p key n old new before after is was meant pushed wrote =
@@ -172,57 +176,67 @@ node_goes h p key n old new before after is was meant pushed wrote =
       wrote = opening n.shape ∷ [];
       out = wrote;
       rest = λ t w.
-        let same = means_unique (map_of h) w.0 meant.0 p w.1 meant.1 in
-        (shown_from meant.0 0,
-         (shown_from meant.0 0, [], (meant.0, subst (Means (map_of h) meant.0) is meant.1, omega arith, refl), refl, refl),
-         w.2 ∙ ap shown same ∙ shown_opening h.shapes n.shape meant.0 node.form node.data_of node.split (node_form h key n meant.0 node was));
-      less = omega (arith, weight-tree (map_of h) meant.0 p meant.1, tree-split meant.0 node.form node.data_of node.split,
-        total-trees (map_of h) node.data_of node.parts node.mean, ap (λ (o : Option Body). total (weight (map_of h)) (parts_in o)) node.is);
+          let same = means_unique (map_of h) w.0 meant.0 p w.1 meant.1 in (
+            shown_from meant.0 0,
+            (shown_from meant.0 0, [], (meant.0, subst (Means (map_of h) meant.0) is meant.1, omega arith, refl), refl, refl),
+            w.2 ∙ ap shown same ∙ shown_opening h.shapes n.shape meant.0 node.form node.data_of node.split (node_form h key n meant.0 node was),
+          );
+      less = omega (
+        arith,
+        weight-tree (map_of h) meant.0 p meant.1,
+        tree-split meant.0 node.form node.data_of node.split,
+        total-trees (map_of h) node.data_of node.parts node.mean,
+        ap (λ (o : Option Body). total (weight (map_of h)) (parts_in o)) node.is,
+      );
     }
 
 -- ---- what goes on
 
 pub end_goes : (h : Heap) (key place : ℕ) (n : Node) (old : List Rest) (before after : List ℕ) → get h.nodes key ≡ Some n → length n.parts.items ≤ place → after ≡ before ++ closing n.shape ∷ [] → GoesOn (map_of h) (IsLeft (map_of h) (key, place)) (rest_work (map_of h) (key, place)) old old before after
 end_goes h key place n old before after was past wrote = record {
-    more = [];
-    is = sym (append-nil old);
-    wrote = closing n.shape ∷ [];
-    out = wrote;
-    rest = λ t w.
-      let node = held_node h (Key key) key w.0 refl w.1 in
-      ([], refl, w.3 ∙ shown_closing h.shapes n.shape w.0 node.form node.data_of place node.split (node_form h key n w.0 node was)
-        (omega (arith, past, mean_all-length (map_of h) node.data_of node.parts node.mean, ap length (node_parts h key n w.0 node was))));
-    less = omega arith;
-  }
+  more = [];
+  is = sym (append-nil old);
+  wrote = closing n.shape ∷ [];
+  out = wrote;
+  rest = λ t w.
+      let node = held_node h (Key key) key w.0 refl w.1 in (
+        [],
+        refl,
+        w.3 ∙ shown_closing h.shapes n.shape w.0 node.form node.data_of place node.split (node_form h key n w.0 node was)
+            (omega (arith, past, mean_all-length (map_of h) node.data_of node.parts node.mean, ap length (node_parts h key n w.0 node was))),
+      );
+  less = omega arith;
+}
 
 pub part_goes : (h : Heap) (key place : ℕ) (part : Part) (old mid new : List Rest) (before middle after : List ℕ) → place < length (parts_in (at (map_of h) key)) → part ≡ part_of (at (map_of h) key) place → middle ≡ before ++ lead_of (form_in (at (map_of h) key)) place → mid ≡ old ++ (key, place + 1) ∷ [] → GoesOn (map_of h) (IsText (map_of h) part) (2 * weight (map_of h) part) mid new middle after → GoesOn (map_of h) (IsLeft (map_of h) (key, place)) (rest_work (map_of h) (key, place)) old new before after
 part_goes h key place part old mid new before middle after below is lead pushed goes = record {
-    more = (key, place + 1) ∷ goes.more;
-    is = goes.is ∙ ap (λ (l : List Rest). l ++ goes.more) pushed ∙ append_assoc old ((key, place + 1) ∷ []) goes.more;
-    wrote = lead_of (form_in (at (map_of h) key)) place ++ goes.wrote;
-    out = goes.out ∙ ap (λ (l : List ℕ). l ++ goes.wrote) lead ∙ append_assoc before (lead_of (form_in (at (map_of h) key)) place) goes.wrote;
-    rest = λ t w.
+  more = (key, place + 1) ∷ goes.more;
+  is = goes.is ∙ ap (λ (l : List Rest). l ++ goes.more) pushed ∙ append_assoc old ((key, place + 1) ∷ []) goes.more;
+  wrote = lead_of (form_in (at (map_of h) key)) place ++ goes.wrote;
+  out = goes.out ∙ ap (λ (l : List ℕ). l ++ goes.wrote) lead ∙ append_assoc before (lead_of (form_in (at (map_of h) key)) place) goes.wrote;
+  rest = λ t w.
       let d = w.0 in
       let node = held_node h (Key key) key d refl w.1 in
       let form : form_in (at (map_of h) key) ≡ node.form = ap form_in node.is in
       let here : place < length node.parts = omega (arith, below, ap length (ap parts_in node.is)) in
       let inside : place < length_of node.data_of = omega (arith, here, mean_all-length (map_of h) node.data_of node.parts node.mean) in
       let value : Means (map_of h) (nth node.data_of place) part =
-        subst (Means (map_of h) (nth node.data_of place)) (sym (is ∙ ap (λ (o : Option Body). part_of o place) node.is)) (mean_all-nth (map_of h) node.data_of node.parts place node.mean here) in
+      subst (Means (map_of h) (nth node.data_of place)) (sym (is ∙ ap (λ (o : Option Body). part_of o place) node.is)) (mean_all-nth (map_of h) node.data_of node.parts place node.mean here) in
       let next : suc place ≡ place + 1 = omega arith in
       let step : shown_from d place ≡ lead_of (form_in (at (map_of h) key)) place ++ (shown (nth node.data_of place) ++ shown_from d (place + 1)) =
-        shown_step d node.form node.data_of place node.split inside
-        ∙ ap (λ (f : Form). lead_of f place ++ (shown (nth node.data_of place) ++ shown_from d (suc place))) (sym form)
-        ∙ ap (λ (i : ℕ). lead_of (form_in (at (map_of h) key)) place ++ (shown (nth node.data_of place) ++ shown_from d i)) next in
-      let one = goes.rest (shown (nth node.data_of place)) (nth node.data_of place, value, refl) in
-      (one.0 ++ shown_from d (place + 1),
-       (shown_from d (place + 1), one.0, (d, w.1, omega (arith, below), refl), one.1, refl),
-       w.3 ∙ step
-       ∙ ap (λ (l : List ℕ). lead_of (form_in (at (map_of h) key)) place ++ (l ++ shown_from d (place + 1))) one.2
-       ∙ ap (λ (l : List ℕ). lead_of (form_in (at (map_of h) key)) place ++ l) (append_assoc goes.wrote one.0 (shown_from d (place + 1)))
-       ∙ sym (append_assoc (lead_of (form_in (at (map_of h) key)) place) goes.wrote (one.0 ++ shown_from d (place + 1))));
-    less = omega (arith, goes.less, total-drop_more (weight (map_of h)) (parts_in (at (map_of h) key)) place below, ap (weight (map_of h)) (is ∙ part_of-get_or (at (map_of h) key) place));
-  }
+      shown_step d node.form node.data_of place node.split inside
+      ∙ ap (λ (f : Form). lead_of f place ++ (shown (nth node.data_of place) ++ shown_from d (suc place))) (sym form)
+      ∙ ap (λ (i : ℕ). lead_of (form_in (at (map_of h) key)) place ++ (shown (nth node.data_of place) ++ shown_from d i)) next in
+      let one = goes.rest (shown (nth node.data_of place)) (nth node.data_of place, value, refl) in (
+        one.0 ++ shown_from d (place + 1),
+        (shown_from d (place + 1), one.0, (d, w.1, omega (arith, below), refl), one.1, refl),
+        w.3 ∙ step
+            ∙ ap (λ (l : List ℕ). lead_of (form_in (at (map_of h) key)) place ++ (l ++ shown_from d (place + 1))) one.2
+            ∙ ap (λ (l : List ℕ). lead_of (form_in (at (map_of h) key)) place ++ l) (append_assoc goes.wrote one.0 (shown_from d (place + 1)))
+            ∙ sym (append_assoc (lead_of (form_in (at (map_of h) key)) place) goes.wrote (one.0 ++ shown_from d (place + 1))),
+      );
+  less = omega (arith, goes.less, total-drop_more (weight (map_of h)) (parts_in (at (map_of h) key)) place below, ap (weight (map_of h)) (is ∙ part_of-get_or (at (map_of h) key) place));
+}
   where
     part_of-get_or : (o : Option Body) (i : ℕ) → part_of o i ≡ get_or (parts_in o) i Null
     part_of-get_or None i = refl
@@ -271,11 +285,12 @@ item_form h key n was is = ap form_in (body-node h key n was) ∙ ap (form_of h.
 pub turn_left : (m : Map) (r : Rest) (old new : List Rest) (before after whole t : List ℕ) → GoesOn m (IsLeft m r) (rest_work m r) old new before after → AreLeft m (old ++ r ∷ []) t → whole ≡ before ++ t → (u : List ℕ) × AreLeft m new u × (whole ≡ after ++ u)
 turn_left m r old new before after whole t goes all is =
     let top = left_top m old r t all in
-    let one = goes.rest top.0 top.2 in
-    (one.0 ++ top.1,
-     subst (λ (l : List Rest). AreLeft m l (one.0 ++ top.1)) (sym goes.is) (left_both m old goes.more top.1 one.0 top.3 one.1),
-     is ∙ ap (λ (l : List ℕ). before ++ l) (top.4 ∙ ap (λ (l : List ℕ). l ++ top.1) one.2 ∙ append_assoc goes.wrote one.0 top.1)
-       ∙ sym (append_assoc before goes.wrote (one.0 ++ top.1)) ∙ ap (λ (l : List ℕ). l ++ (one.0 ++ top.1)) (sym goes.out))
+    let one = goes.rest top.0 top.2 in (
+      one.0 ++ top.1,
+      subst (λ (l : List Rest). AreLeft m l (one.0 ++ top.1)) (sym goes.is) (left_both m old goes.more top.1 one.0 top.3 one.1),
+      is ∙ ap (λ (l : List ℕ). before ++ l) (top.4 ∙ ap (λ (l : List ℕ). l ++ top.1) one.2 ∙ append_assoc goes.wrote one.0 top.1)
+          ∙ sym (append_assoc before goes.wrote (one.0 ++ top.1)) ∙ ap (λ (l : List ℕ). l ++ (one.0 ++ top.1)) (sym goes.out),
+    )
 
 pub turn_fewer : (m : Map) (r : Rest) (old new : List Rest) (before after : List ℕ) → GoesOn m (IsLeft m r) (rest_work m r) old new before after → rest_works m new < rest_works m (old ++ r ∷ [])
 turn_fewer m r old new before after goes =

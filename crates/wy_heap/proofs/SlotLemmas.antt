@@ -36,19 +36,19 @@ use Rattle.wy_heap.proofs.WriteLemmas.{put_at}
 
 pub apart_same : (names : List (List ℕ)) (f g : ℕ) → AreApart names → f < length names → g < length names → get_or names g [] ≡ get_or names f [] → g ≡ f
 apart_same names f g apart inside other same = elim (cases_eq g f) [
-    | inl e ↦ e
-    | inr differ ↦ elim (cases_lt g f) [
-      | inl below ↦ absurd (apart g f [] below inside same)
-      | inr above ↦ absurd (apart f g [] (omega (arith, differ)) other (sym same))
-    ]
+  | inl e ↦ e
+  | inr differ ↦ elim (cases_lt g f) [
+    | inl below ↦ absurd (apart g f [] below inside same)
+    | inr above ↦ absurd (apart f g [] (omega (arith, differ)) other (sym same))
   ]
+]
 
 same_test : (names : List (List ℕ)) (f g : ℕ) → AreApart names → f < length names → g < length names → bytes_eq (get_or names g []) (get_or names f []) ≡ (g == f)
 same_test names f g apart inside other =
     let d = bytes_eq-Decides (get_or names g []) (get_or names f []) in
     same_from_decides {P = g ≡ f} (bytes_eq (get_or names g []) (get_or names f [])) (g == f)
-      ((λ e. apart_same names f g apart inside other (d.0 e)), (λ e. d.1 (ap (λ (i : ℕ). get_or names i []) e)))
-      (unsigned_Decides g f)
+    ((λ e. apart_same names f g apart inside other (d.0 e)), (λ e. d.1 (ap (λ (i : ℕ). get_or names i []) e)))
+    (unsigned_Decides g f)
 
 -- a name stands in a shape where its number does
 pub position_of-named : (names : List (List ℕ)) (f : ℕ) (list : List ℕ) → AreApart names → f < length names → ((k : ℕ) → k < length list → get_or list k 0 < length names) → position_of (get_or names f []) (named names list) ≡ number_position f list
@@ -167,9 +167,9 @@ child_means h p d s means has =
     let node = held_node h p key.0 d key.1 means in
     let below : place_in node.form s < length node.parts = omega (arith, place_within d node.form node.data_of s node.split has, mean_all-length (map_of h) node.data_of node.parts node.mean) in
     let found : part_at (map_of h) p s ≡ get_or node.parts (place_in node.form s) Null =
-      ap (λ (q : Part). part_at (map_of h) q s) key.1 ∙ ap (λ (o : Option Body). part_of o (place_in (form_in o) s)) node.is in
+    ap (λ (q : Part). part_at (map_of h) q s) key.1 ∙ ap (λ (o : Option Body). part_of o (place_in (form_in o) s)) node.is in
     subst (λ (e : Datum). Means (map_of h) e (part_at (map_of h) p s)) (sym (child-nth d node.form node.data_of s node.split has))
-      (subst (Means (map_of h) (nth node.data_of (place_in node.form s))) (sym found) (mean_all-nth (map_of h) node.data_of node.parts (place_in node.form s) node.mean below))
+    (subst (Means (map_of h) (nth node.data_of (place_in node.form s))) (sym found) (mean_all-nth (map_of h) node.data_of node.parts (place_in node.form s) node.mean below))
 
 -- a part that stands for a datum is there
 pub means_there : (h : Heap) (d : Datum) (q : Part) → Means (map_of h) d q → IsThere h q
@@ -204,15 +204,15 @@ field_place h key n number f d list table was is has found =
     let inside = slice_get_within h.shapes.names f name.0 name.1 in
     let same : get_or h.shapes.names f [] ≡ name.0 = get_or_from_slice_get h.shapes.names f name.0 [] name.1 in
     let numbers : (k : ℕ) → k < length list → get_or list k 0 < length h.shapes.names =
-      λ k below. subst (λ (l : List ℕ). k < length l → get_or l k 0 < length h.shapes.names) (get_or_from_slice_get h.shapes.lists number list [] found)
-        (table.numbers number [] (slice_get_within h.shapes.lists number list found) k 0) below in
+    λ k below. subst (λ (l : List ℕ). k < length l → get_or l k 0 < length h.shapes.names) (get_or_from_slice_get h.shapes.lists number list [] found)
+    (table.numbers number [] (slice_get_within h.shapes.lists number list found) k 0) below in
     let place = position_of-named h.shapes.names f list table.names_apart inside numbers in
     sym (ap (λ (o : Option Body). place_in (form_in o) (step_of h.shapes (Field f))) (body-node h key n was)
-      ∙ ap (λ (s : Shape). place_in (form_of h.shapes s) (step_of h.shapes (Field f))) is
-      ∙ ap (λ (o : Option (List ℕ)). place_in (record_of h.shapes.names o) (step_of h.shapes (Field f))) found
-      ∙ ap (λ (o : Option (List ℕ)). place_in (record_form (named h.shapes.names list)) (field_step o)) name.1
-      ∙ ap (λ (l : List ℕ). position_of l (named h.shapes.names list)) (sym same)
-      ∙ place)
+    ∙ ap (λ (s : Shape). place_in (form_of h.shapes s) (step_of h.shapes (Field f))) is
+    ∙ ap (λ (o : Option (List ℕ)). place_in (record_of h.shapes.names o) (step_of h.shapes (Field f))) found
+    ∙ ap (λ (o : Option (List ℕ)). place_in (record_form (named h.shapes.names list)) (field_step o)) name.1
+    ∙ ap (λ (l : List ℕ). position_of l (named h.shapes.names list)) (sym same)
+    ∙ place)
 
 -- the other pairs of a shape and a slot have no step
 pub array_field : (h : Heap) (key : ℕ) (n : Node) (s : Step) (d : Datum) → get h.nodes key ≡ Some n → n.shape ≡ shape.Array → Means (map_of h) d (Key key) → HasStep d s → (i : ℕ) × (s ≡ item_at i)

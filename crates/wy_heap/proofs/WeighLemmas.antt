@@ -127,14 +127,18 @@ module _ (m : Map) (k : ℕ) (top : Datum) (means_top : Means m top (Key k)) whe
     drop_kept (datum.Array items) q less means =
         let other = other_key (datum.Array items) q means.key means.is_key less means in
         record {
-          key = means.key; is_key = means.is_key; parts = means.parts;
+          key = means.key;
+          is_key = means.is_key;
+          parts = means.parts;
           is_node = get_or-set_other m k means.key None None other ∙ means.is_node;
           pass_all = drop_kept_all items means.parts (omega (arith, less)) means.pass_all;
         }
     drop_kept (datum.Record fs) q less means =
         let other = other_key (datum.Record fs) q means.key means.is_key less means in
         record {
-          key = means.key; is_key = means.is_key; parts = means.parts;
+          key = means.key;
+          is_key = means.is_key;
+          parts = means.parts;
           is_node = get_or-set_other m k means.key None None other ∙ means.is_node;
           pass_all = drop_kept_fields fs means.parts (omega (arith, less)) means.pass_all;
         }

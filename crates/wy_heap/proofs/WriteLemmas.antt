@@ -43,9 +43,9 @@ each_any (p ∷ ps) = (tt, each_any ps)
 module _ (c : ℕ → ℕ) (m : Map) (n : Heap) (key : ℕ) (form : Form) (parts : List Part) (grows : Grows c m n key form parts) where
   pub grown_stays : (k : ℕ) (b : Body) → at m k ≡ Some b → at (map_of n) k ≡ Some b
   grown_stays k b was = elim (cases_eq k key) [
-      | inl same ↦ absurd (let none : at m k ≡ None = ap (at m) same ∙ grows.none in cc)
-      | inr differ ↦ grows.others k differ ∙ was
-    ]
+    | inl same ↦ absurd (let none : at m k ≡ None = ap (at m) same ∙ grows.none in cc)
+    | inr differ ↦ grows.others k differ ∙ was
+  ]
 
   closed_more : IsClosed m (map_of n) Any
   closed_more k b safe was = (grown_stays k b was, each_any b.parts)
@@ -60,7 +60,7 @@ module _ (c : ℕ → ℕ) (m : Map) (n : Heap) (key : ℕ) (form : Form) (parts
 
   pub grown_counts : IsMeant (map_of n) (Key key) → (others : List Part) → IsCounted c m (parts ++ others) → Counts n (Key key ∷ others)
   grown_counts meant others counts = record {
-      counted = λ k.
+    counted = λ k.
         let sums = inner_updated k m (map_of n) key grows.others in
         let slot_m = ap (slot_holds k) grows.none in
         let slot_n = ap (slot_holds k) grows.is in
@@ -68,27 +68,27 @@ module _ (c : ℕ → ℕ) (m : Map) (n : Heap) (key : ℕ) (form : Form) (parts
         let here = counts.counted k in
         elim (cases_eq k key) [
           | inl same ↦
-            let count_n : count_at n k ≡ 1 = ap (count_at n) same ∙ grows.count in
-            let count_m : c k ≡ 0 = ap c same ∙ grows.zero_count in
-            let one : holds k (Key key) ≡ 1 = ap (λ (i : ℕ). holds i (Key key)) same ∙ holds_one key in
-            omega arith
+              let count_n : count_at n k ≡ 1 = ap (count_at n) same ∙ grows.count in
+              let count_m : c k ≡ 0 = ap c same ∙ grows.zero_count in
+              let one : holds k (Key key) ≡ 1 = ap (λ (i : ℕ). holds i (Key key)) same ∙ holds_one key in
+              omega arith
           | inr differ ↦
-            let count_n : count_at n k ≡ c k = grows.counts k differ in
-            let other = holds_other key k (λ e. differ (sym e)) in
-            omega arith
+              let count_n : count_at n k ≡ c k = grows.counts k differ in
+              let other = holds_other key k (λ e. differ (sym e)) in
+              omega arith
         ];
-      alive = λ k is. elim (cases_eq k key) [
-        | inl same ↦ omega (arith, ap (count_at n) same, grows.count)
-        | inr differ ↦ omega (arith, grows.counts k differ, counts.alive k (subst IsSome (grows.others k differ) is))
-      ];
-      there = count_there n;
-      meant = λ k is. elim (cases_eq k key) [
-        | inl same ↦ subst (λ (i : ℕ). IsMeant (map_of n) (Key i)) (sym same) meant
-        | inr differ ↦
+    alive = λ k is. elim (cases_eq k key) [
+      | inl same ↦ omega (arith, ap (count_at n) same, grows.count)
+      | inr differ ↦ omega (arith, grows.counts k differ, counts.alive k (subst IsSome (grows.others k differ) is))
+    ];
+    there = count_there n;
+    meant = λ k is. elim (cases_eq k key) [
+      | inl same ↦ subst (λ (i : ℕ). IsMeant (map_of n) (Key i)) (sym same) meant
+      | inr differ ↦
           let d = counts.meant k (subst IsSome (grows.others k differ) is) in
           (d.0, kept_more (Key k) d.0 d.1)
-      ];
-    }
+    ];
+  }
 
 -- a node whose parts' holds went over to it
 module _ (h n : Heap) (key : ℕ) (shape : Shape) (parts : List Part) (adds : Adds h n key shape parts) where
@@ -100,33 +100,30 @@ module _ (h n : Heap) (key : ℕ) (shape : Shape) (parts : List Part) (adds : Ad
 
   added_grows : Grows (count_at h) (map_of h) n key (form_of h.shapes shape) parts
   added_grows = record {
-      none = at_none h key adds.vacant;
-      zero_count = ap count_of adds.vacant;
-      is = added_is;
-      count = count_changed h n key (Some adds.node) adds.changes ∙ adds.one;
-      counts = count_others h n key (Some adds.node) adds.changes;
-      others = at_others h n key (Some adds.node) adds.changes;
-    }
+    none = at_none h key adds.vacant;
+    zero_count = ap count_of adds.vacant;
+    is = added_is;
+    count = count_changed h n key (Some adds.node) adds.changes ∙ adds.one;
+    counts = count_others h n key (Some adds.node) adds.changes;
+    others = at_others h n key (Some adds.node) adds.changes;
+  }
 
   pub added_node : (ds : Data) → MeanAll (map_of h) ds parts → IsNode (map_of n) (Key key) (form_of h.shapes shape) ds
   added_node = grown_node (count_at h) (map_of h) n key (form_of h.shapes shape) parts added_grows
 
   pub added_leads : Fits (map_of h) (form_of h.shapes shape) parts → (others : List Part) → Counts h (parts ++ others) → Leads h n (Key key ∷ []) others
   added_leads fits others counts = record {
-      counts = grown_counts (count_at h) (map_of h) n key (form_of h.shapes shape) parts added_grows
+    counts = grown_counts (count_at h) (map_of h) n key (form_of h.shapes shape) parts added_grows
         (fits.2, means_from_node (map_of n) fits.2 (Key key) (form_of h.shapes shape) fits.0 fits.3 (added_node fits.0 fits.1)) others counts;
-      keeps = λ q d among means. kept_more (count_at h) (map_of h) n key (form_of h.shapes shape) parts added_grows q d means;
-    }
-
-  pub added_stays : (k : ℕ) (b : Body) → at (map_of h) k ≡ Some b → at (map_of n) k ≡ Some b
-  added_stays = grown_stays (count_at h) (map_of h) n key (form_of h.shapes shape) parts added_grows
+    keeps = λ q d among means. kept_more (count_at h) (map_of h) n key (form_of h.shapes shape) parts added_grows q d means;
+  }
 
 -- the added node is within the cap where the others are
 pub added_within : (h n : Heap) (key : ℕ) (shape : Shape) (parts : List Part) (cap : ℕ) → Adds h n key shape parts → 1 ≤ cap → ((k : ℕ) → count_at h k ≤ cap) → (k : ℕ) → count_at n k ≤ cap
 added_within h n key shape parts cap adds some within k = elim (cases_eq k key) [
-    | inl same ↦ omega (arith, ap (count_at n) same, count_changed h n key (Some adds.node) adds.changes, adds.one)
-    | inr differ ↦ omega (arith, count_others h n key (Some adds.node) adds.changes k differ, within k)
-  ]
+  | inl same ↦ omega (arith, ap (count_at n) same, count_changed h n key (Some adds.node) adds.changes, adds.one)
+  | inr differ ↦ omega (arith, count_others h n key (Some adds.node) adds.changes k differ, within k)
+]
 
 -- ---- a node whose parts have a holder more
 
@@ -136,9 +133,9 @@ module _ (h n : Heap) (made : ℕ) (form : Form) (parts : List Part) (joins : Jo
 
   not_held : held made parts ≡ 0
   not_held = elim (cases_eq (held made parts) 0) [
-      | inl none ↦ none
-      | inr some ↦ absurd (let is = at_from_contains h made (there made (omega (arith, some))) in let none = joins.vacant in let n : IsSome {T = Body} None = subst IsSome none is in cc)
-    ]
+    | inl none ↦ none
+    | inr some ↦ absurd (let is = at_from_contains h made (there made (omega (arith, some))) in let none = joins.vacant in let n : IsSome {T = Body} None = subst IsSome none is in cc)
+  ]
 
   raised_zero : raised made ≡ 0
   unfolding raised
@@ -147,41 +144,41 @@ module _ (h n : Heap) (made : ℕ) (form : Form) (parts : List Part) (joins : Jo
   raised_counts : (places : List Part) → Counts h places → IsCounted raised (map_of h) (parts ++ places)
   unfolding raised
   raised_counts places counts = record {
-      counted = λ k. omega (arith, counts.counted k, held-append k parts places);
-      alive = λ k is. omega (arith, counts.alive k is);
-      there = λ k some. elim (cases_eq (held k parts) 0) [
-        | inl none ↦ counts.there k (omega arith)
-        | inr more ↦ counts.there k (omega (arith, counts.alive k (at_from_contains h k (there k (omega (arith, more))))))
-      ];
-      meant = counts.meant;
-    }
+    counted = λ k. omega (arith, counts.counted k, held-append k parts places);
+    alive = λ k is. omega (arith, counts.alive k is);
+    there = λ k some. elim (cases_eq (held k parts) 0) [
+      | inl none ↦ counts.there k (omega arith)
+      | inr more ↦ counts.there k (omega (arith, counts.alive k (at_from_contains h k (there k (omega (arith, more))))))
+    ];
+    meant = counts.meant;
+  }
 
   joined_grows : Grows raised (map_of h) n made form parts
   unfolding raised
   joined_grows = record {
-      none = joins.vacant;
-      zero_count = raised_zero;
-      is = joins.is;
-      count = joins.count;
-      counts = joins.counts;
-      others = joins.others;
-    }
+    none = joins.vacant;
+    zero_count = raised_zero;
+    is = joins.is;
+    count = joins.count;
+    counts = joins.counts;
+    others = joins.others;
+  }
 
   joined_inner : (k : ℕ) → inner k (map_of n) ≡ inner k (map_of h) + held k parts
   joined_inner k = omega (arith, inner_updated k (map_of h) (map_of n) made joins.others, ap (slot_holds k) joins.vacant, ap (slot_holds k) joins.is)
 
   pub joined_builds : Fits (map_of h) form parts → Builds h n form parts made
   joined_builds fits = record {
-      vacant = joins.vacant;
-      count = joins.count;
-      counts = λ others counts. grown_counts raised (map_of h) n made form parts joined_grows
+    vacant = joins.vacant;
+    count = joins.count;
+    counts = λ others counts. grown_counts raised (map_of h) n made form parts joined_grows
         (fits.2, means_from_node (map_of n) fits.2 (Key made) form fits.0 fits.3 (grown_node raised (map_of h) n made form parts joined_grows fits.0 fits.1))
         others (raised_counts others counts);
-      keeps = kept_more raised (map_of h) n made form parts joined_grows;
-      node = grown_node raised (map_of h) n made form parts joined_grows;
-      stays = grown_stays raised (map_of h) n made form parts joined_grows;
-      fresh = λ k b was none. omega (arith, joined_inner k, none);
-    }
+    keeps = kept_more raised (map_of h) n made form parts joined_grows;
+    node = grown_node raised (map_of h) n made form parts joined_grows;
+    stays = grown_stays raised (map_of h) n made form parts joined_grows;
+    fresh = λ k b was none. omega (arith, joined_inner k, none);
+  }
 
 -- ---- how a node joins
 
@@ -283,9 +280,10 @@ module _ (h n : Heap) (key place : ℕ) (part out : Part) (swaps : Swaps h n key
 
   closed_other : IsClosed (map_of h) (map_of n) (IsOther key)
   unfolding IsOther
-  closed_other k b safe was =
-      (swaps.others k (λ e. safe (ap (λ (i : ℕ). Key i) e)) ∙ was,
-       each_held (IsOther key) b.parts (λ q among e. omega (arith, among key e, slot-le-inner key (map_of h) k, ap (slot_holds key) was, only.2)))
+  closed_other k b safe was = (
+    swaps.others k (λ e. safe (ap (λ (i : ℕ). Key i) e)) ∙ was,
+    each_held (IsOther key) b.parts (λ q among e. omega (arith, among key e, slot-le-inner key (map_of h) k, ap (slot_holds key) was, only.2)),
+  )
 
   pub swap_keeps : (q : Part) (d : Datum) → holds key q ≡ 0 → Means (map_of h) d q → Means (map_of n) d q
   swap_keeps q d other means = means_kept (map_of h) (map_of n) (IsOther key) closed_other d q (is_other q other) means
@@ -299,10 +297,13 @@ module _ (h n : Heap) (key place : ℕ) (part out : Part) (swaps : Swaps h n key
 
   pub swap_node : (ds : Data) (u : Datum) → MeanAll (map_of h) ds swaps.body.parts → Means (map_of h) u part → IsNode (map_of n) (Key key) swaps.body.form (put_nth ds place u)
   swap_node ds u mean means = record {
-      key = key; is_key = refl; parts = set swaps.body.parts place part; is_node = swaps.is;
-      pass_all = mean_all_kept (map_of h) (map_of n) (IsOther key) closed_other (put_nth ds place u) (set swaps.body.parts place part) (each_other _ set_other)
+    key = key;
+    is_key = refl;
+    parts = set swaps.body.parts place part;
+    is_node = swaps.is;
+    pass_all = mean_all_kept (map_of h) (map_of n) (IsOther key) closed_other (put_nth ds place u) (set swaps.body.parts place part) (each_other _ set_other)
         (mean_all-set (map_of h) ds swaps.body.parts place u part mean means);
-    }
+  }
 
   pub swap_inner : (k : ℕ) → inner k (map_of n) + holds k out ≡ inner k (map_of h) + holds k part
   swap_inner k = omega (arith, inner_updated k (map_of h) (map_of n) key swaps.others, ap (slot_holds k) swaps.was, ap (slot_holds k) swaps.is, held-set k swaps.body.parts place part swaps.within, ap (holds k) out_is)
@@ -315,28 +316,29 @@ module _ (h n : Heap) (key place : ℕ) (part out : Part) (swaps : Swaps h n key
       let node = node_at (map_of h) (Key key) key split.form split.data_of refl (node_from_means (map_of h) d.0 (Key key) split.form split.data_of split.is d.1) in
       let same : Some swaps.body ≡ Some (record { form = split.form; parts = node.parts }) = sym swaps.was ∙ node.is in
       let u = part_meant (map_of h) part (λ j e. held_meant h (Key key ∷ part ∷ others) counts j (omega (arith, ap (holds j) e, holds_one j))) in
-      let mean = subst (MeanAll (map_of h) split.data_of) (sym (ap parts_in same)) node.mean in
-      (put_at d.0 place u.0,
-       means_from_node (map_of n) (put_at d.0 place u.0) (Key key) swaps.body.form (put_nth split.data_of place u.0)
-         (subst (λ (f : Form). IsSplit (put_at d.0 place u.0) f (put_nth split.data_of place u.0)) (sym (same_form swaps.body (record { form = split.form; parts = node.parts }) same))
-           (split-put_at d.0 split.form split.data_of place u.0 split.is))
-         (swap_node split.data_of u.0 mean u.1))
+      let mean = subst (MeanAll (map_of h) split.data_of) (sym (ap parts_in same)) node.mean in (
+        put_at d.0 place u.0,
+        means_from_node (map_of n) (put_at d.0 place u.0) (Key key) swaps.body.form (put_nth split.data_of place u.0)
+            (subst (λ (f : Form). IsSplit (put_at d.0 place u.0) f (put_nth split.data_of place u.0)) (sym (same_form swaps.body (record { form = split.form; parts = node.parts }) same))
+            (split-put_at d.0 split.form split.data_of place u.0 split.is))
+            (swap_node split.data_of u.0 mean u.1),
+      )
 
   pub swap_counts : Counts n (Key key ∷ out ∷ others)
   swap_counts = record {
-      counted = λ k. omega (arith, swaps.counts k, counts.counted k, swap_inner k);
-      alive = λ k is. elim (cases_eq k key) [
-        | inl e ↦ omega (arith, swaps.counts k, counts.alive k (subst (λ (i : ℕ). IsSome (at (map_of h) i)) (sym e) (subst IsSome (sym swaps.was) refl)))
-        | inr differ ↦ omega (arith, swaps.counts k, counts.alive k (subst IsSome (swaps.others k differ) is))
-      ];
-      there = count_there n;
-      meant = λ k is. elim (cases_eq k key) [
-        | inl e ↦ subst (λ (i : ℕ). IsMeant (map_of n) (Key i)) (sym e) swap_meant
-        | inr differ ↦
+    counted = λ k. omega (arith, swaps.counts k, counts.counted k, swap_inner k);
+    alive = λ k is. elim (cases_eq k key) [
+      | inl e ↦ omega (arith, swaps.counts k, counts.alive k (subst (λ (i : ℕ). IsSome (at (map_of h) i)) (sym e) (subst IsSome (sym swaps.was) refl)))
+      | inr differ ↦ omega (arith, swaps.counts k, counts.alive k (subst IsSome (swaps.others k differ) is))
+    ];
+    there = count_there n;
+    meant = λ k is. elim (cases_eq k key) [
+      | inl e ↦ subst (λ (i : ℕ). IsMeant (map_of n) (Key i)) (sym e) swap_meant
+      | inr differ ↦
           let d = counts.meant k (subst IsSome (swaps.others k differ) is) in
           (d.0, swap_keeps (Key k) d.0 (holds_other k key differ) d.1)
-      ];
-    }
+    ];
+  }
 
   -- what was held beside the key, and what came out, stand for what they stood for
   pub swap_among : Keeps (map_of h) (map_of n) (out ∷ part ∷ others)
@@ -358,9 +360,9 @@ set_parts_there h places key b place counts is within k some =
 -- the new node and its parts are within the cap
 pub joined_within : (h n : Heap) (made : ℕ) (form : Form) (parts : List Part) (cap : ℕ) → Joins h n made form parts → 1 ≤ cap → ((k : ℕ) → count_at h k ≤ cap) → ((k : ℕ) → 1 ≤ held k parts → count_at h k + length parts ≤ cap) → (k : ℕ) → count_at n k ≤ cap
 joined_within h n made form parts cap joins some within more k = elim (cases_eq k made) [
-    | inl same ↦ omega (arith, ap (count_at n) same, joins.count)
-    | inr differ ↦ elim (cases_eq (held k parts) 0) [
-      | inl none ↦ omega (arith, joins.counts k differ, within k)
-      | inr held_once ↦ omega (arith, joins.counts k differ, more k (omega (arith, held_once)), held-le-length k parts)
-    ]
+  | inl same ↦ omega (arith, ap (count_at n) same, joins.count)
+  | inr differ ↦ elim (cases_eq (held k parts) 0) [
+    | inl none ↦ omega (arith, joins.counts k differ, within k)
+    | inr held_once ↦ omega (arith, joins.counts k differ, more k (omega (arith, held_once)), held-le-length k parts)
   ]
+]

@@ -6,14 +6,10 @@ pub mod Parts
 pub mod Slots
 pub mod Making
 pub mod Comparing
-pub mod Extending
-pub mod Importing
 pub mod Reaching
-
 -- definitions for functions inside
 pub mod Changing
 pub mod Freeing
 pub mod Numbering
 pub mod Weighing
 pub mod Showing
-pub mod Settling

@@ -48,7 +48,13 @@ impl Heap {
     }
 
     // looks at the parts of two nodes at a place, and leaves those behind it
-    fn next_alike(&self, left: usize, right: usize, place: usize, todo: &mut Vec<(usize, usize, usize)>) -> Result<bool, AllocError>
+    fn next_alike(
+        &self,
+        left: usize,
+        right: usize,
+        place: usize,
+        todo: &mut Vec<(usize, usize, usize)>,
+    ) -> Result<bool, AllocError>
         requires table { IsShapes self.now.shapes }
         requires pair { IsPair (map_of self.now) (left, right, place) }
         ensures { IfOk result (Compares (map_of self.now) (SameFrom (map_of self.now) (left, right, place)) (pair_work (map_of self.now) (left, right, place)) todo.old.items todo.new.items) }
@@ -64,7 +70,12 @@ impl Heap {
     }
 
     // looks at two parts, and leaves the parts of their nodes
-    fn alike(&self, a: Part, b: Part, todo: &mut Vec<(usize, usize, usize)>) -> Result<bool, AllocError>
+    fn alike(
+        &self,
+        a: Part,
+        b: Part,
+        todo: &mut Vec<(usize, usize, usize)>,
+    ) -> Result<bool, AllocError>
         requires table { IsShapes self.now.shapes }
         requires left { IsMeant (map_of self.now) a }
         requires right { IsMeant (map_of self.now) b }
@@ -80,7 +91,12 @@ impl Heap {
     }
 
     // looks at two nodes, and leaves their parts
-    fn alike_nodes(&self, j: usize, k: usize, todo: &mut Vec<(usize, usize, usize)>) -> Result<bool, AllocError>
+    fn alike_nodes(
+        &self,
+        j: usize,
+        k: usize,
+        todo: &mut Vec<(usize, usize, usize)>,
+    ) -> Result<bool, AllocError>
         requires table { IsShapes self.now.shapes }
         requires left { IsMeant (map_of self.now) (Key j) }
         requires right { IsMeant (map_of self.now) (Key k) }

@@ -15,7 +15,7 @@ use crate::part::{Part, Place};
 
 impl Heap {
     /// A second hold on what a place holds. It takes no memory where the place holds no node, or one
-    /// with fewer holders than the cap. At the cap the new place holds a copy.
+    /// with fewer holders than the cap. At the cap it answers want of memory: a copy isn't made there yet.
     pub fn share(&mut self, p: &Place) -> Result<Place, NoMemory>
         requires held { AreHeld self.old (p.now ∷ []) }
         ensures acts { IfOk result (λ made. (others : List Part) → Stands self.old (p.now ∷ others) → Acts self.old self.new (made ∷ []) (p.now ∷ others)) }

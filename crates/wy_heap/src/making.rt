@@ -10,7 +10,7 @@ ghost use Rattle.wy_heap.specs.Meaning.{Means, MeanAll, IsNode};
 ghost use Rattle.wy_heap.specs.Standing.{Stands, Counts, IsWithin, AreHeld, Acts, SameTable, IsAsBefore};
 ghost use Rattle.wy_heap.specs.Slots.{joined};
 ghost use Rattle.wy_heap.specs.Making.{repeated, HasShape};
-ghost use Rattle.wy_heap.specs.Changing.{SameRest, SameNodes, Leads, Adds, Joins, AreThere, Fits, Builds, Adopts, Drops};
+ghost use Rattle.wy_heap.specs.Changing.{SameRest, SameNodes, Leads, Adds, Joins, AreThere, Fits, Builds};
 
 use crate::heap::Heap;
 use crate::node::{Node, Shape};
@@ -69,24 +69,6 @@ impl Heap {
         Ok(Place::of(Part::Key(key)))
     }
 
-    // a node of these parts, whose holds go over to it; at want of memory they are let go of
-    pub(crate) fn adopt(&mut self, shape: Shape, parts: Vec<Part>) -> Result<Part, AllocError>
-        requires held { (others : List Part) × Counts self.old (parts.items ++ others) }
-        requires fits { Fits (map_of self.old) (form_of self.old.shapes shape) parts.items }
-        ensures adopts { IfOk result (λ part. Adopts self.old self.new (form_of self.old.shapes shape) parts.items part) }
-        ensures frees { OnErr result (Drops self.old self.new parts.items) }
-        ensures within { 1 ≤ self.old.cap → IsWithin self.old → IsWithin self.new }
-        ensures rest { SameRest self.old self.new }
-    {
-        match self.nodes.reserve(1) {
-            Ok(()) => Ok(Part::Key(self.nodes.insert_reserved(Node { count: 1, next: None, shape, parts }))),
-            Err(error) => {
-                self.free_all(&parts);
-                Err(error)
-            }
-        }
-    }
-
     // the parts of these places
     fn words(&self, items: &[Place]) -> Result<Vec<Part>, AllocError>
         ensures { IfOk result (λ words. words.items ≡ items.now) }
@@ -104,7 +86,13 @@ impl Heap {
         ensures same { OnErr result (SameNodes self.old self.new) }
         ensures rest { SameRest self.old self.new }
     {
-        let Ok(key) = self.nodes.insert(Node { count: 1, next: None, shape, parts }) else {
+        let Ok(key) = self.nodes.insert(Node {
+            count: 1,
+            next: None,
+            shape,
+            parts,
+        })
+        else {
             return Err(AllocError);
         };
         Ok(key)
@@ -133,7 +121,7 @@ impl Heap {
     }
 
     // so many times the part
-    pub(crate) fn times(&self, part: Part, n: usize) -> Result<Vec<Part>, AllocError>
+    fn times(&self, part: Part, n: usize) -> Result<Vec<Part>, AllocError>
         ensures { IfOk result (λ words. words.items ≡ replicate n part) }
     {
         let mut words = Vec::with_capacity(self.alloc, n)?;
@@ -173,7 +161,7 @@ impl Heap {
     }
 
     // a node of these parts, each of which gets a holder more
-    pub(crate) fn join(&mut self, shape: Shape, parts: Vec<Part>) -> Result<usize, AllocError>
+    fn join(&mut self, shape: Shape, parts: Vec<Part>) -> Result<usize, AllocError>
         requires there { AreThere self.old parts.items }
         requires below { (k : ℕ) → 1 ≤ held k parts.items → count_at self.old k + length parts.items ≤ u64.MAX }
         ensures joins { IfOk result (λ made. Joins self.old self.new made (form_of self.old.shapes shape) parts.items) }
@@ -182,6 +170,13 @@ impl Heap {
     {
         self.nodes.reserve(1)?;
         self.hold_all(&parts);
-        Ok(self.nodes.insert_reserved(Node { count: 1, next: None, shape, parts }))
+        Ok(
+            self.nodes.insert_reserved(Node {
+                count: 1,
+                next: None,
+                shape,
+                parts,
+            }),
+        )
     }
 }

@@ -57,7 +57,9 @@ impl Place {
     {
         match k {
             Kind::Null => Place { part: Part::Null },
-            Kind::Bool(b) => Place { part: Part::Bool(b) },
+            Kind::Bool(b) => Place {
+                part: Part::Bool(b),
+            },
             Kind::Int(n) => Place { part: Part::Int(n) },
             Kind::Array | Kind::Record(_) => unreachable!(),
         }

@@ -66,7 +66,9 @@ impl Heap {
             self.free(whole);
             return Ok(part);
         };
-        let Part::Key(key) = whole else { unreachable!() };
+        let Part::Key(key) = whole else {
+            unreachable!()
+        };
         if self.nodes[key].count == SOLE {
             let place = self.position(key, *step);
             let child = self.swap(key, place, Part::Null);
@@ -121,7 +123,9 @@ impl Heap {
         let [step, rest @ ..] = path else {
             return Ok(part);
         };
-        let Part::Key(key) = whole else { unreachable!() };
+        let Part::Key(key) = whole else {
+            unreachable!()
+        };
         let place = self.position(key, *step);
         let child = self.part_in(key, place);
         let top = self.copy_without(key, place)?;

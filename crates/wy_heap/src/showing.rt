@@ -47,7 +47,13 @@ impl Heap {
     }
 
     // writes the part of a node at a place, and leaves those behind it
-    fn go_on(&self, key: usize, place: usize, todo: &mut Vec<(usize, usize)>, text: &mut Vec<u8>) -> Result<(), AllocError>
+    fn go_on(
+        &self,
+        key: usize,
+        place: usize,
+        todo: &mut Vec<(usize, usize)>,
+        text: &mut Vec<u8>,
+    ) -> Result<(), AllocError>
         requires meant { IsMeant (map_of self.now) (Key key) }
         requires within { place ≤ length (parts_in (at (map_of self.now) key)) }
         requires table { IsShapes self.now.shapes }
@@ -66,7 +72,12 @@ impl Heap {
     }
 
     // writes a scalar, or the bracket before a node's parts, which it leaves
-    fn begin(&self, part: Part, todo: &mut Vec<(usize, usize)>, text: &mut Vec<u8>) -> Result<(), AllocError>
+    fn begin(
+        &self,
+        part: Part,
+        todo: &mut Vec<(usize, usize)>,
+        text: &mut Vec<u8>,
+    ) -> Result<(), AllocError>
         requires meant { IsMeant (map_of self.now) part }
         ensures { OnOk result (GoesOn (map_of self.now) (IsText (map_of self.now) part) (2 * weight (map_of self.now) part) todo.old.items todo.new.items text.old.items text.new.items) }
     {
@@ -144,7 +155,11 @@ fn closing_of(shape: Shape) -> u8
 fn write_separator(place: usize, text: &mut Vec<u8>) -> Result<(), AllocError>
     ensures { OnOk result (text.new.items ≡ text.old.items ++ separator place) }
 {
-    if place == 0 { Ok(()) } else { write_bytes(text, b", ") }
+    if place == 0 {
+        Ok(())
+    } else {
+        write_bytes(text, b", ")
+    }
 }
 
 fn write_number(alloc: Global, text: &mut Vec<u8>, number: i128) -> Result<(), AllocError>

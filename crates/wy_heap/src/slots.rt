@@ -19,8 +19,8 @@ use crate::part::{Part, Place, Slot};
 
 impl Heap {
     /// A second hold on what is in a slot. It takes no memory where that is no node, or one with fewer
-    /// holders than the cap. At the cap the place holds a copy. Its cost is constant, and for a field
-    /// linear in the fields of the record.
+    /// holders than the cap. At the cap it answers want of memory: a copy isn't made there yet. Its cost
+    /// is constant, and for a field linear in the fields of the record.
     pub fn get(&mut self, p: &Place, s: Slot) -> Result<Place, NoMemory>
         requires held { AreHeld self.old (p.now ∷ []) }
         requires there { IsSlot self.old p.now s }

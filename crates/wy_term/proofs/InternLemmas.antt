@@ -6,7 +6,7 @@ use Rattle.std.proofs.Math.Seq.{get_or-append_seam}
 use Rattle.wy_term.specs.contracts.node.NodePartialEq.TheImpl.{eq-value}
 use Rattle.wy_term.specs.declared.node.Node.{Node}
 use Rattle.wy_term.specs.Term as term
-use Rattle.wy_term.specs.Nodes.{Plain, of, plain, node_at, HasPartsBelow, AreGrounded, AreDistinct, AreNodes, Extends, Adds}
+use Rattle.wy_term.specs.Nodes.{Plain, of, plain, node_at, HasPartsBelow, AreDistinct, AreNodes, Extends, Adds}
 use Rattle.wy_term.proofs.NodesLemmas.{AreGrounded-push}
 use Rattle.wy_term.proofs.NodeEqLemmas.{nodes_are, nodes_compare}
 
@@ -65,12 +65,15 @@ at_last ns p s e = ap (node_at (ns ++ p ∷ [])) e ∙ get_or-append_seam ns p [
 
 AreDistinct-push : (ns : List Plain) (p : Plain) → AreDistinct ns → ((k : ℕ) → k < length ns → node_at ns k ≡ p → ⊥) → AreDistinct (ns ++ p ∷ [])
 AreDistinct-push ns p distinct nowhere s t in_s in_t same = elim (below_or_last (length ns) s (omega (arith, length-append ns (p ∷ [])))) as (λ _. s ≡ t) [
-    inl below_s ↦ elim (below_or_last (length ns) t (omega (arith, length-append ns (p ∷ [])))) as (λ _. s ≡ t) [
-      inl below_t ↦ distinct s t below_s below_t (sym (at_older ns p s below_s) ∙ same ∙ at_older ns p t below_t)
-    | inr last_t ↦ absurd (nowhere s below_s (sym (at_older ns p s below_s) ∙ same ∙ at_last ns p t last_t)) ]
+  | inl below_s ↦ elim (below_or_last (length ns) t (omega (arith, length-append ns (p ∷ [])))) as (λ _. s ≡ t) [
+    | inl below_t ↦ distinct s t below_s below_t (sym (at_older ns p s below_s) ∙ same ∙ at_older ns p t below_t)
+    | inr last_t ↦ absurd (nowhere s below_s (sym (at_older ns p s below_s) ∙ same ∙ at_last ns p t last_t))
+  ]
   | inr last_s ↦ elim (below_or_last (length ns) t (omega (arith, length-append ns (p ∷ [])))) as (λ _. s ≡ t) [
-      inl below_t ↦ absurd (nowhere t below_t (sym (at_older ns p t below_t) ∙ sym same ∙ at_last ns p s last_s))
-    | inr last_t ↦ last_s ∙ sym last_t ] ]
+    | inl below_t ↦ absurd (nowhere t below_t (sym (at_older ns p t below_t) ∙ sym same ∙ at_last ns p s last_s))
+    | inr last_t ↦ last_s ∙ sym last_t
+  ]
+]
 
 AreNodes-push : (ns : List Plain) (p : Plain) → AreNodes ns → HasPartsBelow (length ns) p → ((k : ℕ) → k < length ns → node_at ns k ≡ p → ⊥) → AreNodes (ns ++ p ∷ [])
 AreNodes-push ns p are below nowhere = record { grounded = AreGrounded-push 0 ns p are.grounded (λ k d lt. let at : get_or p.parts k d < length ns = below k d lt in omega (arith, at)); distinct = AreDistinct-push ns p are.distinct nowhere }
@@ -91,7 +94,8 @@ adds_either n ks false any =
       within = omega (arith, place, length-append (map plain ks) (plain n ∷ []));
       here = at_last (map plain ks) (plain n) (position_or_len (test_of n) ks) place;
       extends = (plain n ∷ [], refl);
-      nodes = λ are below. AreNodes-push (map plain ks) (plain n) are below (found_nowhere n ks any) })
+      nodes = λ are below. AreNodes-push (map plain ks) (plain n) are below (found_nowhere n ks any);
+    })
 
 pub adds : (n : Node) (ks : List Node) → Adds (map plain ks) (map plain (cond (list_any (test_of n) ks) ks (ks ++ n ∷ []))) (plain n) (position_or_len (test_of n) ks)
 adds n ks = adds_either n ks (list_any (test_of n) ks) refl

@@ -187,7 +187,8 @@ front_node ns more t lt = get_or_append_left ns more (of (term.number (pos 0)) [
 AreNodes-front : (ns more : List Plain) → AreNodes (ns ++ more) → AreNodes ns
 AreNodes-front ns more are = record {
   grounded = AreGrounded-front 0 ns more are.grounded;
-  distinct = λ s t in_s in_t same. are.distinct s t (omega (arith, length-append ns more)) (omega (arith, length-append ns more)) (front_node ns more s in_s ∙ same ∙ sym (front_node ns more t in_t)) }
+  distinct = λ s t in_s in_t same. are.distinct s t (omega (arith, length-append ns more)) (omega (arith, length-append ns more)) (front_node ns more s in_s ∙ same ∙ sym (front_node ns more t in_t));
+}
 
 pub AreNodes-take : (ns new : List Plain) (m : ℕ) → AreNodes ns → new ≡ take m ns → AreNodes new
 AreNodes-take ns new m are e = subst AreNodes (sym e) (AreNodes-front (take m ns) (drop m ns) (subst AreNodes (sym (take-append-drop m ns)) are))

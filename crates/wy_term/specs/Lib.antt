@@ -4,7 +4,6 @@ pub mod Data
 pub mod Same
 pub mod Meaning
 pub mod Folding
-pub mod FoldingView
 pub mod Sorts
 pub mod Condition
 pub mod Nodes

@@ -1,5 +1,5 @@
 -- What a term or formula means. The meaning is total, and one recursion gives it for all three sorts.
-use Rattle.std.specs.Prelude.{◌≡◌, ℕ, zero, suc, List, [], ◌∷◌, map, Bool, true, false, not, ◌&&◌, ◌||◌, ◌==◌, if◌then◌else◌, bytes_eq, ℤ, pos, negsuc, neg_ℤ, ◌+ℤ◌, ◌-ℤ◌, ◌*ℤ◌, int_lt, slice_index_or}
+use Rattle.std.specs.Prelude.{ℕ, zero, suc, List, [], ◌∷◌, map, Bool, true, false, not, ◌&&◌, ◌||◌, ◌==◌, if◌then◌else◌, bytes_eq, ℤ, pos, negsuc, neg_ℤ, ◌+ℤ◌, ◌-ℤ◌, ◌*ℤ◌, int_lt, slice_index_or}
 use Rattle.wy_value.specs.Datum.{Datum, Null, Truth, Whole, Array, Record}
 use Rattle.wy_term.specs.Term.{Symbol, Term, Of, Parts, no_parts, part}
 use Rattle.wy_term.specs.Term as term
@@ -16,14 +16,16 @@ abbrev pub with_number : Names → List ℕ → ℕ → ℤ → Names
 with_number names word n z = record {
   datum_of = names.datum_of;
   number_of = λ w m. if bytes_eq w word && (m == n) then z else names.number_of w m;
-  is_member = names.is_member }
+  is_member = names.is_member;
+}
 
 -- the same names, but for one Val name
 abbrev pub with_datum : Names → List ℕ → ℕ → Datum → Names
 with_datum names word n d = record {
   datum_of = λ w m. if bytes_eq w word && (m == n) then d else names.datum_of w m;
   number_of = names.number_of;
-  is_member = names.is_member }
+  is_member = names.is_member;
+}
 
 -- What a term is as a number, as a datum and as a truth value. Its sort says which of them counts; the others are 0, null and false.
 pub record Sense : Type 0 where

@@ -1,5 +1,5 @@
 -- Which tree a number names in a list of nodes, each made of earlier ones.
-use Rattle.std.specs.Prelude.{◌≡◌, ℕ, suc, ◌<◌, List, [], ◌∷◌, ◌++◌, All, length, Bool, ◌&&◌, bytes_eq, ℤ, pos, map, slice_index_or}
+use Rattle.std.specs.Prelude.{◌≡◌, ℕ, suc, ◌<◌, List, [], ◌∷◌, ◌++◌, All, length, Bool, ◌&&◌, bytes_eq, pos, map, slice_index_or}
 use Rattle.wy_term.specs.declared.node.Kind.{Kind}
 use Rattle.wy_term.specs.declared.node.Kind.TheVariants as kind
 use Rattle.wy_term.specs.declared.node.Node.{Node}

@@ -1,5 +1,5 @@
 -- What terms and formulas are: a symbol applied to terms and formulas. Int terms, Val terms and formulas are of one type; each symbol is of one sort and has parts of fixed sorts.
-use Rattle.std.specs.Prelude.{ℕ, List, [], Bool, ℤ}
+use Rattle.std.specs.Prelude.{ℕ, List, Bool, ℤ}
 
 -- a kind of data
 pub data DataKind : Type 0 where

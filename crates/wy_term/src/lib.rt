@@ -7,7 +7,6 @@
 #![tactic(auto)]
 
 mod cond;
-mod fold;
 mod law;
 mod memory;
 mod node;

@@ -41,15 +41,26 @@ copied-requires t c =
     let top = c.in_ok-top.top in
     let shapes = c.in_ok-top.ensures.kept.1 in
     let builds = level_builds h c.args.whole key place (first_of h path) (rest_of h path) c.part_in-child.result level s1 top c.in_ok-top.ensures.builds in
-    let hole = copy_hole h c.args.whole key place (first_of h path) (rest_of h path) c.part_in-child.result level s1 top builds c.args.part held.0 held.1 in
-    (search rules,
-     ((Key top ∷ held.0, hole.counts),
-      (c.in_ok-top.ensures.within,
-       (omega (arith, c.in_ok-top.ensures.kept.0, c.requires.some),
-        (subst IsShapes (sym shapes) c.requires.table,
-         (child level.value (first_of h path),
-          copied_inside h c.args.whole key place (first_of h path) (rest_of h path) c.part_in-child.result level s1 top builds c.args.part held.0 held.1,
-          subst (λ (u : Shapes). HasPath (child level.value (first_of h path)) (steps_of u (take (length path - 1) (drop 1 path)))) (sym shapes) level.path))))))
+    let hole = copy_hole h c.args.whole key place (first_of h path) (rest_of h path) c.part_in-child.result level s1 top builds c.args.part held.0 held.1 in (
+      search rules,
+      (
+        (Key top ∷ held.0, hole.counts),
+        (
+          c.in_ok-top.ensures.within,
+          (
+            omega (arith, c.in_ok-top.ensures.kept.0, c.requires.some),
+            (
+              subst IsShapes (sym shapes) c.requires.table,
+              (
+                child level.value (first_of h path),
+                copied_inside h c.args.whole key place (first_of h path) (rest_of h path) c.part_in-child.result level s1 top builds c.args.part held.0 held.1,
+                subst (λ (u : Shapes). HasPath (child level.value (first_of h path)) (steps_of u (take (length path - 1) (drop 1 path)))) (sym shapes) level.path,
+              ),
+            ),
+          ),
+        ),
+      ),
+    )
 
 pub swap-requires : goal.swap-requires
 swap-requires t c =
@@ -99,7 +110,7 @@ returns-in-Ok-clause-wrote t c =
     let s2 = c.copied.new.self in
     let wrote = subst (λ (t : Shapes). Wrote s1 s2 (c.args.part ∷ []) c.part_in-child.result (steps_of t (take (length path - 1) (drop 1 path))) c.args.part c.in-Ok.below) shapes c.in-Ok.ensures.wrote in
     subst (λ (l : List Step). Wrote h c.swap.new.self (c.args.part ∷ []) c.args.whole l c.args.part (Key top)) (sym (path_split h.shapes path c.in-len1-up.len_at_least))
-      (copied_wrote h c.args.whole key place (first_of h path) (rest_of h path) c.part_in-child.result level s1 top builds c.args.part held s2 c.swap.new.self c.in-Ok.below c.swap.result wrote c.swap.ensures.swaps c.swap.ensures.out)
+    (copied_wrote h c.args.whole key place (first_of h path) (rest_of h path) c.part_in-child.result level s1 top builds c.args.part held s2 c.swap.new.self c.in-Ok.below c.swap.result wrote c.swap.ensures.swaps c.swap.ensures.out)
 
 pub returns-in-Err-clause-no_memory : goal.returns-in-Err-clause-no_memory
 returns-in-Err-clause-no_memory t c =

@@ -15,7 +15,7 @@ pub returns-in_default-clause-wrote : goal.returns-in_default-clause-wrote
 returns-in_default-clause-wrote t c =
     let h = c.args.self.now in
     subst (λ (l : List Step). Wrote h c.free.new.self (c.args.whole ∷ c.args.part ∷ []) c.args.whole l c.args.part c.args.part) (sym (path_nil h.shapes c.args.path.now c.in_default.len_below))
-      (end_wrote h c.free.new.self c.args.whole c.args.part c.requires.held c.free.ensures.leads c.free.ensures.lasts)
+    (end_wrote h c.free.new.self c.args.whole c.args.part c.requires.held c.free.ensures.leads c.free.ensures.lasts)
 
 pub swap-child-requires : goal.swap-child-requires
 swap-child-requires t c =
@@ -38,15 +38,26 @@ written-requires t c =
     let swaps = c.swap-child.ensures.swaps in
     let shapes = c.swap-child.ensures.rest.shapes in
     let sole : count_at h key ≡ 1 = ap count_of c.index.ensures ∙ c.if-index-eq-SOLE.true in
-    let hole = place_hole h c.args.whole key place (first_of h path) (rest_of h path) c.swap-child.result level s1 swaps sole c.args.part held.0 held.1 in
-    (search rules,
-     ((Key key ∷ held.0, hole.counts),
-      ((λ k. omega (arith, swaps.counts k, c.requires.within k, c.swap-child.ensures.rest.cap)),
-       (omega (arith, c.swap-child.ensures.rest.cap, c.requires.some),
-        (subst IsShapes (sym shapes) c.requires.table,
-         (child level.value (first_of h path),
-          place_inside h c.args.whole key place (first_of h path) (rest_of h path) c.swap-child.result level s1 swaps sole c.args.part held.0 held.1,
-          subst (λ (u : Shapes). HasPath (child level.value (first_of h path)) (steps_of u (take (length path - 1) (drop 1 path)))) (sym shapes) level.path))))))
+    let hole = place_hole h c.args.whole key place (first_of h path) (rest_of h path) c.swap-child.result level s1 swaps sole c.args.part held.0 held.1 in (
+      search rules,
+      (
+        (Key key ∷ held.0, hole.counts),
+        (
+          (λ k. omega (arith, swaps.counts k, c.requires.within k, c.swap-child.ensures.rest.cap)),
+          (
+            omega (arith, c.swap-child.ensures.rest.cap, c.requires.some),
+            (
+              subst IsShapes (sym shapes) c.requires.table,
+              (
+                child level.value (first_of h path),
+                place_inside h c.args.whole key place (first_of h path) (rest_of h path) c.swap-child.result level s1 swaps sole c.args.part held.0 held.1,
+                subst (λ (u : Shapes). HasPath (child level.value (first_of h path)) (steps_of u (take (length path - 1) (drop 1 path)))) (sym shapes) level.path,
+              ),
+            ),
+          ),
+        ),
+      ),
+    )
 
 pub swap-requires : goal.swap-requires
 swap-requires t c =
@@ -96,7 +107,7 @@ returns-in-Ok-clause-wrote t c =
     let s2 = c.written.new.self in
     let wrote = subst (λ (u : Shapes). Wrote s1 s2 (c.swap-child.result ∷ c.args.part ∷ []) c.swap-child.result (steps_of u (take (length path - 1) (drop 1 path))) c.args.part c.in-Ok.below) shapes c.in-Ok.ensures.wrote in
     subst (λ (l : List Step). Wrote h c.swap.new.self (c.args.whole ∷ c.args.part ∷ []) c.args.whole l c.args.part (Key key)) (sym (path_split h.shapes path c.in-len1-up.len_at_least))
-      (place_wrote h c.args.whole key place (first_of h path) (rest_of h path) c.swap-child.result level s1 swaps sole c.args.part held s2 c.swap.new.self c.in-Ok.below c.swap.result wrote c.swap.ensures.swaps c.swap.ensures.out)
+    (place_wrote h c.args.whole key place (first_of h path) (rest_of h path) c.swap-child.result level s1 swaps sole c.args.part held s2 c.swap.new.self c.in-Ok.below c.swap.result wrote c.swap.ensures.swaps c.swap.ensures.out)
 
 pub returns-in-Err-clause-no_memory : goal.returns-in-Err-clause-no_memory
 returns-in-Err-clause-no_memory t c =
@@ -127,6 +138,6 @@ returns-in-Err-clause-sole t c all_sole =
     let sole : count_at h key ≡ 1 = ap count_of c.index.ensures ∙ c.if-index-eq-SOLE.true in
     let hole = place_hole h c.args.whole key place (first_of h path) (rest_of h path) c.swap-child.result level s1 swaps sole c.args.part held.0 held.1 in
     c.in-Err.ensures.sole
-      (subst (λ (u : Shapes). Sole s1 c.swap-child.result (steps_of u (take (length path - 1) (drop 1 path)))) (sym shapes)
-        (sole_inside h c.args.whole key place (first_of h path) (rest_of h path) c.swap-child.result level s1 swaps sole (c.args.part ∷ held.0) held.1
-          (subst (Sole h c.args.whole) (path_split h.shapes path c.in-len1-up.len_at_least) all_sole)))
+    (subst (λ (u : Shapes). Sole s1 c.swap-child.result (steps_of u (take (length path - 1) (drop 1 path)))) (sym shapes)
+    (sole_inside h c.args.whole key place (first_of h path) (rest_of h path) c.swap-child.result level s1 swaps sole (c.args.part ∷ held.0) held.1
+    (subst (Sole h c.args.whole) (path_split h.shapes path c.in-len1-up.len_at_least) all_sole)))

@@ -18,7 +18,7 @@ returns-in-Key-Key c =
     let old = c.args.todo.now.items in
     let new = c.alike_nodes.new.todo.items in
     subst (λ (p : Part). IfOk c.alike_nodes.result (Compares m (Same m p c.args.b) (2 * weight m p) old new)) (sym c.in-Key-Key.is-0)
-      (subst (λ (q : Part). IfOk c.alike_nodes.result (Compares m (Same m (Key c.in-Key-Key.j) q) (2 * weight m (Key c.in-Key-Key.j)) old new)) (sym c.in-Key-Key.is-1) c.alike_nodes.ensures)
+    (subst (λ (q : Part). IfOk c.alike_nodes.result (Compares m (Same m (Key c.in-Key-Key.j) q) (2 * weight m (Key c.in-Key-Key.j)) old new)) (sym c.in-Key-Key.is-1) c.alike_nodes.ensures)
 
 pub returns-in_default : goal.returns-in_default
 returns-in_default c same =

@@ -25,7 +25,7 @@ returns-then-len c same =
     let x = c.index-left.result.now in
     let y = c.index-right.result.now in
     other_lengths c.args.self.now c.args.j c.args.k x y c.index-left.ensures c.index-right.ensures c.requires.left c.requires.right
-      (λ e. c.if-len.true (omega (arith, e, c.len.ensures, c.len-2.ensures, x.parts.ok, y.parts.ok))) same
+    (λ e. c.if-len.true (omega (arith, e, c.len.ensures, c.len-2.ensures, x.parts.ok, y.parts.ok))) same
 
 pub returns : goal.returns
 returns c =
@@ -35,4 +35,4 @@ returns c =
     let long : length x.parts.items ≡ length y.parts.items = omega (arith, c.if-len.false, c.len.ensures, c.len-2.ensures, x.parts.ok, y.parts.ok) in
     let m = map_of c.args.self.now in
     subst (λ (l : List Pair). Leaves m (Same m (Key c.args.j) (Key c.args.k)) (2 * weight m (Key c.args.j)) c.args.todo.now.items l) (sym c.in_ok-push.ensures.items)
-      (nodes_leave c.args.self.now c.args.j c.args.k x y c.index-left.ensures c.index-right.ensures c.requires.left c.requires.right shapes long c.args.todo.now.items)
+    (nodes_leave c.args.self.now c.args.j c.args.k x y c.index-left.ensures c.index-right.ensures c.requires.left c.requires.right shapes long c.args.todo.now.items)

@@ -29,10 +29,10 @@ returns-in_ok-write_bytes-in-Bool-false c =
 pub returns-in_ok-write_number-in-Int : goal.returns-in_ok-write_number-in-Int
 returns-in_ok-write_number-in-Int c =
     scalar_goes (map_of c.args.self.now) c.args.part (datum.Whole c.in-Int.n) c.args.todo.now.items c.args.text.now.items c.write_number.new.text.items c.in-Int.is
-      (let fits : FitsSigned w128 c.in-Int.n = search rules in
-       c.in_ok-write_number-in-Int.ensures ∙ ap (λ (z : ℤ). c.args.text.now.items ++ signed_decimal z) (to_z-of_z w128 c.in-Int.n fits))
+    (let fits : FitsSigned w128 c.in-Int.n = search rules in
+    c.in_ok-write_number-in-Int.ensures ∙ ap (λ (z : ℤ). c.args.text.now.items ++ signed_decimal z) (to_z-of_z w128 c.in-Int.n fits))
 
 pub returns-in_ok-push-in-Key-2 : goal.returns-in_ok-push-in-Key-2
 returns-in_ok-push-in-Key-2 c =
     node_goes c.args.self.now c.args.part c.in-Key.key c.index.result.now c.args.todo.now.items c.push-in-Key.new.self.items c.args.text.now.items c.push.new.self.items c.in-Key.is c.index.ensures c.requires.meant
-      c.in_ok-push-in-Key-2.ensures.items (c.in_ok-push-in-Key.ensures.items ∙ ap (λ (b : ℕ). c.args.text.now.items ++ b ∷ []) c.opening_of.ensures)
+    c.in_ok-push-in-Key-2.ensures.items (c.in_ok-push-in-Key.ensures.items ∙ ap (λ (b : ℕ). c.args.text.now.items ++ b ∷ []) c.opening_of.ensures)

@@ -11,7 +11,7 @@ can_hold-requires c =
     let i = c.loop-part.part-index in
     let parts = c.args.parts.now in
     there_from c.args.self.now (get_or parts i Null) (λ k is.
-      c.requires k (omega (arith, holds-get_or k parts i, ap (holds k) is, holds_one k)))
+    c.requires k (omega (arith, holds-get_or k parts i, ap (holds k) is, holds_one k)))
 
 pub loop-part-preserved : goal.loop-part-preserved
 loop-part-preserved c k some =

@@ -36,7 +36,7 @@ pairs-smaller c =
     let popped : c.pairs.todo.items ≡ old ++ pair ∷ [] = c.pop.ensures.items ∙ ap (λ (r : Option Pair). old ++ option_to_list r) c.in-Some.is in
     let leaves = subst (Compares m (SameFrom m pair) (pair_work m pair) old c.next_alike.new.todo.items) c.if-not-branch-2.false c.in_ok-next_alike.ensures in
     let less : pair_works m c.next_alike.new.todo.items < pair_works m c.pairs.todo.items =
-      omega (arith, turn_less m old c.next_alike.new.todo.items pair leaves, ap (pair_works m) popped) in
+    omega (arith, turn_less m old c.next_alike.new.todo.items pair leaves, ap (pair_works m) popped) in
     less
 
 pub pairs-preserved : goal.pairs-preserved

@@ -14,14 +14,14 @@ build-requires-clause-there c =
     let h = c.args.self.now in
     let there = c.requires.there in
     subst (λ (ps : List Part). AreThere h (set ps c.args.place Null)) (sym (c.in_ok-parts.ensures ∙ ap parts_in there.was))
-      (set_parts_there h c.requires.held.0 c.args.key there.body c.args.place c.requires.held.1 there.was there.within)
+    (set_parts_there h c.requires.held.0 c.args.key there.body c.args.place c.requires.held.1 there.was there.within)
 
 pub build-requires-clause-fits : goal.build-requires-clause-fits
 build-requires-clause-fits c =
     let h = c.args.self.now in
     let n = c.index.result.now in
     subst (λ (ps : List Part). Fits (map_of h) (form_of h.shapes n.shape) (set ps c.args.place Null)) (sym (c.in_ok-parts.ensures ∙ ap parts_in (body-node h c.args.key n c.index.ensures)))
-      (set_fits h c.requires.held.0 c.args.key c.args.place n c.requires.held.1 c.index.ensures)
+    (set_fits h c.requires.held.0 c.args.key c.args.place n c.requires.held.1 c.index.ensures)
 
 pub returns-clause-builds : goal.returns-clause-builds
 returns-clause-builds c =
@@ -30,5 +30,5 @@ returns-clause-builds c =
     let built = c.build.new.self in
     let made = c.in_ok-made.made in
     recopied h built made _ _ _
-      (subst (λ (f : Form). Builds h built f (set (parts_in (at (map_of h) c.args.key)) c.args.place Null) made) (sym (ap form_in (body-node h c.args.key n c.index.ensures)))
-        (subst (λ (ps : List Part). Builds h built (form_of h.shapes n.shape) (set ps c.args.place Null) made) c.in_ok-parts.ensures c.in_ok-made.ensures.builds))
+    (subst (λ (f : Form). Builds h built f (set (parts_in (at (map_of h) c.args.key)) c.args.place Null) made) (sym (ap form_in (body-node h c.args.key n c.index.ensures)))
+    (subst (λ (ps : List Part). Builds h built (form_of h.shapes n.shape) (set ps c.args.place Null) made) c.in_ok-parts.ensures c.in_ok-made.ensures.builds))

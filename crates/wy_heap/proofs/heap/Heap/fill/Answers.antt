@@ -25,10 +25,11 @@ build-requires-clause-fits c =
 pub free-requires : goal.free-requires
 free-requires c =
     let h = c.args.self.now in
-    let n = c.build.new.self in
-    (Key c.in-Ok-build.key ∷ c.requires.held.0,
-     subst (λ (p : Part). Counts n (p ∷ Key c.in-Ok-build.key ∷ c.requires.held.0)) (sym c.spent-part.ensures)
-       (fill_free h n _ _ c.in-Ok-build.key c.args.item c.in-Ok-build.ensures.builds c.requires.held.0 c.requires.held.1.counts))
+    let n = c.build.new.self in (
+      Key c.in-Ok-build.key ∷ c.requires.held.0,
+      subst (λ (p : Part). Counts n (p ∷ Key c.in-Ok-build.key ∷ c.requires.held.0)) (sym c.spent-part.ensures)
+          (fill_free h n _ _ c.in-Ok-build.key c.args.item c.in-Ok-build.ensures.builds c.requires.held.0 c.requires.held.1.counts),
+    )
 
 pub returns-clause-acts : goal.returns-clause-acts
 returns-clause-acts c others stands =
@@ -36,9 +37,9 @@ returns-clause-acts c others stands =
     let n = c.build.new.self in
     let o = c.free.new.self in
     subst (λ (p : Part). Acts h o (p ∷ []) others) (sym c.of.ensures)
-      (fill_acts h n _ _ c.in-Ok-build.key c.args.item c.in-Ok-build.ensures.builds others stands o
-        (λ all counts. c.free.ensures.leads all (subst (λ (p : Part). Counts n (p ∷ all)) (sym c.spent-part.ensures) counts))
-        c.build.ensures.within c.free.ensures.lower c.build.ensures.kept c.free.ensures.rest)
+    (fill_acts h n _ _ c.in-Ok-build.key c.args.item c.in-Ok-build.ensures.builds others stands o
+    (λ all counts. c.free.ensures.leads all (subst (λ (p : Part). Counts n (p ∷ all)) (sym c.spent-part.ensures) counts))
+    c.build.ensures.within c.free.ensures.lower c.build.ensures.kept c.free.ensures.rest)
 
 pub returns-clause-value : goal.returns-clause-value
 returns-clause-value c d means =
@@ -47,6 +48,6 @@ returns-clause-value c d means =
     let o = c.free.new.self in
     let words : c.in-Ok.words.items ≡ replicate c.args.n c.args.item = c.in-Ok.ensures ∙ ap (replicate c.args.n) c.part.ensures in
     subst (λ (p : Part). Means (map_of o) (datum.Array (repeated c.args.n d)) p) (sym c.of.ensures)
-      (fill_means h n c.in-Ok-build.key c.args.n c.args.item (subst (λ (ps : List Part). Builds h n list_form ps c.in-Ok-build.key) words c.in-Ok-build.ensures.builds)
-        c.requires.held.0 c.requires.held.1.counts o
-        (λ all counts. c.free.ensures.leads all (subst (λ (p : Part). Counts n (p ∷ all)) (sym c.spent-part.ensures) counts)) d means)
+    (fill_means h n c.in-Ok-build.key c.args.n c.args.item (subst (λ (ps : List Part). Builds h n list_form ps c.in-Ok-build.key) words c.in-Ok-build.ensures.builds)
+    c.requires.held.0 c.requires.held.1.counts o
+    (λ all counts. c.free.ensures.leads all (subst (λ (p : Part). Counts n (p ∷ all)) (sym c.spent-part.ensures) counts)) d means)

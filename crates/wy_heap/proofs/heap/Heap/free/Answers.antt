@@ -33,14 +33,14 @@ loop-dead-preserved c =
     record {
       rest = record { cap = cc; shapes = cc; copies = cc };
       frees = λ places counts.
-        let next = unlinks h n c.loop-dead.dead c.in-Some.key c.remove-next.result c.remove-next.ensures.value changes c.in-Some.is places (c.loop-dead.invariant.frees places counts) in
-        c.let_go_all-dead.ensures.frees places
+          let next = unlinks h n c.loop-dead.dead c.in-Some.key c.remove-next.result c.remove-next.ensures.value changes c.in-Some.is places (c.loop-dead.invariant.frees places counts) in
+          c.let_go_all-dead.ensures.frees places
           (subst (λ (ps : List Part). Frees n c.remove-next.result.next (ps ++ places)) (sym c.deref.ensures.value) next);
       lasts =
-        subst (λ (m : Map). Lasts (map_of c.args.self.now) m) (sym c.let_go_all-dead.ensures.nodes)
+          subst (λ (m : Map). Lasts (map_of c.args.self.now) m) (sym c.let_go_all-dead.ensures.nodes)
           (lasts_less (map_of c.args.self.now) h n c.in-Some.key changes c.loop-dead.invariant.lasts);
       upheld = λ base others counts upholds more.
-        subst (More base) (sym c.let_go_all-dead.ensures.nodes)
+          subst (More base) (sym c.let_go_all-dead.ensures.nodes)
           (upheld_less h n c.loop-dead.dead c.in-Some.key others c.in-Some.is (c.loop-dead.invariant.frees others counts) changes base upholds (c.loop-dead.invariant.upheld base others counts upholds more));
       lower = λ k. omega (arith, c.let_go_all-dead.ensures.lower k, removed_lower h n c.in-Some.key changes k, c.loop-dead.invariant.lower k);
     }

@@ -15,7 +15,7 @@ again-requires-clause-there c =
     let there = c.requires.there in
     let s = step_of h.shapes c.args.s in
     subst (IsThere h) (sym (c.child-child.ensures ∙ ap (λ (p : Part). part_at (map_of h) p s) c.part.ensures))
-      (means_there h (child there.0 s) (part_at (map_of h) c.args.p.now s) (child_means h c.args.p.now there.0 s there.1 there.2))
+    (means_there h (child there.0 s) (part_at (map_of h) c.args.p.now s) (child_means h c.args.p.now there.0 s there.1 there.2))
 
 pub returns-clause-value : goal.returns-clause-value
 returns-clause-value c d means =
@@ -25,7 +25,7 @@ returns-clause-value c d means =
     let s = step_of h.shapes c.args.s in
     let is = c.child-child.ensures ∙ ap (λ (p : Part). part_at (map_of h) p s) c.part.ensures in
     let here : Means (map_of h) (child there.0 s) c.child-child.result =
-      subst (Means (map_of h) (child there.0 s)) (sym is) (child_means h c.args.p.now there.0 s there.1 there.2) in
+    subst (Means (map_of h) (child there.0 s)) (sym is) (child_means h c.args.p.now there.0 s there.1 there.2) in
     subst (λ (p : Part). Means (map_of n) (child d s) p) (sym c.of.ensures)
-      (subst (λ (e : Datum). Means (map_of n) (child e s) c.in_ok-part.part) (means_unique (map_of h) there.0 d c.args.p.now there.1 means)
-        (c.in_ok-part.ensures.value (child there.0 s) here))
+    (subst (λ (e : Datum). Means (map_of n) (child e s) c.in_ok-part.part) (means_unique (map_of h) there.0 d c.args.p.now there.1 means)
+    (c.in_ok-part.ensures.value (child there.0 s) here))

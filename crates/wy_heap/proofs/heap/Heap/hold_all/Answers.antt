@@ -11,8 +11,8 @@ hold-requires-clause-there c =
     let i = c.loop-part.part-index in
     let parts = c.args.parts.now in
     there_from c.loop-part.self (get_or parts i Null) (λ k is.
-      contains_same c.args.self.now c.loop-part.self k c.loop-part.invariant.nodes
-        (c.requires.there k (omega (arith, holds-get_or k parts i, ap (holds k) is, holds_one k))))
+    contains_same c.args.self.now c.loop-part.self k c.loop-part.invariant.nodes
+    (c.requires.there k (omega (arith, holds-get_or k parts i, ap (holds k) is, holds_one k))))
 
 pub hold-requires-clause-below : goal.hold-requires-clause-below
 hold-requires-clause-below c =
@@ -20,9 +20,15 @@ hold-requires-clause-below c =
     let parts = c.args.parts.now in
     let below : i < length parts = search rules in
     below_from c.loop-part.self 18446744073709551615 (get_or parts i Null) (λ k is.
-      let taken : length (take i parts) ≤ i = omega (arith, length-take i parts) in
-      omega (arith, taken, below, c.loop-part.invariant.counts k, c.requires.below k (omega (arith, holds-get_or k parts i, ap (holds k) is, holds_one k)),
-        held-le-length k (take i parts)))
+    let taken : length (take i parts) ≤ i = omega (arith, length-take i parts) in
+    omega (
+      arith,
+      taken,
+      below,
+      c.loop-part.invariant.counts k,
+      c.requires.below k (omega (arith, holds-get_or k parts i, ap (holds k) is, holds_one k)),
+      held-le-length k (take i parts),
+    ))
 
 pub loop-part-preserved : goal.loop-part-preserved
 loop-part-preserved c =

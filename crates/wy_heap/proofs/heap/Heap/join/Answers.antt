@@ -20,7 +20,7 @@ returns-clause-joins c =
     let node : Node = record { count = 1; next = None; shape = c.args.shape; parts = c.args.parts } in
     let same = same_slots h room (ap (λ (s : Slab Node). s.slots) c.reserve.ensures.rest_kept) refl in
     let counts : (k : ℕ) → count_at more k ≡ count_at room k + held k c.args.parts.items =
-      λ k. c.hold_all.ensures.counts k ∙ ap (λ (ps : List Part). count_at room k + held k ps) c.deref.ensures.value in
+    λ k. c.hold_all.ensures.counts k ∙ ap (λ (ps : List Part). count_at room k + held k ps) c.deref.ensures.value in
     joined_by h room more (record more { nodes = c.insert_reserved.new.self }) c.insert_reserved.result node (form_of h.shapes c.args.shape)
-      same.nodes same.counts c.hold_all.ensures.nodes counts c.insert_reserved.ensures.was_vacant (record { shapes = refl; updates = c.insert_reserved.ensures.updates }) refl
-      (ap (λ (t : Shapes). form_of t c.args.shape) c.hold_all.ensures.rest.shapes)
+    same.nodes same.counts c.hold_all.ensures.nodes counts c.insert_reserved.ensures.was_vacant (record { shapes = refl; updates = c.insert_reserved.ensures.updates }) refl
+    (ap (λ (t : Shapes). form_of t c.args.shape) c.hold_all.ensures.rest.shapes)

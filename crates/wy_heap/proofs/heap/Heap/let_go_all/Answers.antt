@@ -10,9 +10,10 @@ let_go-dead-requires c =
     let i = c.loop-part.part-index in
     let parts = c.args.parts.now in
     let below : i < length parts = search rules in
-    let free = c.loop-part.invariant.frees c.requires.0 c.requires.1 in
-    (drop (i + 1) parts ++ c.requires.0,
-     subst (λ (ps : List Part). Frees c.loop-part.self c.loop-part.dead (ps ++ c.requires.0)) (drop_more parts i Null below) free)
+    let free = c.loop-part.invariant.frees c.requires.0 c.requires.1 in (
+      drop (i + 1) parts ++ c.requires.0,
+      subst (λ (ps : List Part). Frees c.loop-part.self c.loop-part.dead (ps ++ c.requires.0)) (drop_more parts i Null below) free,
+    )
 
 pub loop-part-preserved : goal.loop-part-preserved
 loop-part-preserved c =
@@ -24,7 +25,7 @@ loop-part-preserved c =
       nodes = cc;
       lower = λ k. omega (arith, c.let_go-dead.ensures.lower k, c.loop-part.invariant.lower k);
       frees = λ places start.
-        c.let_go-dead.ensures.frees (drop (i + 1) parts ++ places)
+          c.let_go-dead.ensures.frees (drop (i + 1) parts ++ places)
           (subst (λ (ps : List Part). Frees c.loop-part.self c.loop-part.dead (ps ++ places)) (drop_more parts i Null below) (c.loop-part.invariant.frees places start));
     }
 

@@ -19,9 +19,9 @@ returns-clause-acts c others stands =
     let fits = subst (Fits (map_of h) (form_of h.shapes c.args.shape)) (sym words) c.requires.fits in
     let within : IsWithin n = λ k. omega (arith, added_within h n key c.args.shape c.in-Ok.parts.items h.cap adds stands.some stands.within k, c.put.ensures.rest.cap) in
     subst (λ (p : Part). Acts h n (p ∷ []) others) (sym c.of.ensures)
-      (acts_from h n (Key key ∷ []) others (c.args.items.items ++ others) stands
-        (added_leads h n key c.args.shape c.in-Ok.parts.items adds fits others (subst (λ (ps : List Part). Counts h (ps ++ others)) (sym words) stands.counts))
-        within c.put.ensures.rest.cap c.put.ensures.rest.shapes)
+    (acts_from h n (Key key ∷ []) others (c.args.items.items ++ others) stands
+    (added_leads h n key c.args.shape c.in-Ok.parts.items adds fits others (subst (λ (ps : List Part). Counts h (ps ++ others)) (sym words) stands.counts))
+    within c.put.ensures.rest.cap c.put.ensures.rest.shapes)
 
 pub returns-clause-node : goal.returns-clause-node
 returns-clause-node c ds mean =
@@ -29,4 +29,4 @@ returns-clause-node c ds mean =
     let n = c.put.new.self in
     let words : c.in-Ok.parts.items ≡ c.args.items.items = c.in-Ok.ensures ∙ c.deref.ensures.value in
     subst (λ (p : Part). IsNode (map_of n) p (form_of h.shapes c.args.shape) ds) (sym c.of.ensures)
-      (added_node h n c.in-Ok-put.key c.args.shape c.in-Ok.parts.items c.in-Ok-put.ensures.adds ds (subst (MeanAll (map_of h) ds) (sym words) mean))
+    (added_node h n c.in-Ok-put.key c.args.shape c.in-Ok.parts.items c.in-Ok-put.ensures.adds ds (subst (MeanAll (map_of h) ds) (sym words) mean))

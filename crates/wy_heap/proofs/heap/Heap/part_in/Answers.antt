@@ -13,6 +13,6 @@ returns c =
     let n = c.index.result.now in
     let there = c.requires in
     let within : c.args.place < length n.parts.items =
-      subst (λ (ps : List Part). c.args.place < length ps) (ap parts_in (sym there.was ∙ body-node h c.args.key n c.index.ensures)) there.within in
+    subst (λ (ps : List Part). c.args.place < length ps) (ap parts_in (sym there.was ∙ body-node h c.args.key n c.index.ensures)) there.within in
     get_or_read n.parts.items c.args.place c.index-2.result.now within c.index-2.ensures Null
     ∙ sym (ap (λ (o : Option Body). part_of o c.args.place) (body-node h c.args.key n c.index.ensures))

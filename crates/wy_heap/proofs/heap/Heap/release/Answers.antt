@@ -9,5 +9,5 @@ returns-clause-acts c others stands =
     let h = c.args.self.now in
     let n = c.free.new.self in
     acts_from h n [] others (c.args.p ∷ others) stands
-      (c.free.ensures.leads others (subst (λ (p : Part). Counts h (p ∷ others)) (sym c.spent-part.ensures) stands.counts))
-      (within_same h n c.free.ensures.lower c.free.ensures.rest.cap stands.within) c.free.ensures.rest.cap c.free.ensures.rest.shapes
+    (c.free.ensures.leads others (subst (λ (p : Part). Counts h (p ∷ others)) (sym c.spent-part.ensures) stands.counts))
+    (within_same h n c.free.ensures.lower c.free.ensures.rest.cap stands.within) c.free.ensures.rest.cap c.free.ensures.rest.shapes

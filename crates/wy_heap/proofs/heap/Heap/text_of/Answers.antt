@@ -9,10 +9,11 @@ pub jobs-init : goal.jobs-init
 jobs-init c d means =
     let m = map_of c.args.self.now in
     let goes = c.in_ok-begin.ensures in
-    let one = goes.rest (shown d) (d, means, refl) in
-    (one.0,
-     subst (λ (l : List Rest). AreLeft m l one.0) (sym (goes.is ∙ ap (λ (l : List Rest). l ++ goes.more) c.new-todo.ensures.items)) one.1,
-     one.2 ∙ ap (λ (l : List ℕ). l ++ one.0) (sym (goes.out ∙ ap (λ (l : List ℕ). l ++ goes.wrote) c.new-text.ensures.items)))
+    let one = goes.rest (shown d) (d, means, refl) in (
+      one.0,
+      subst (λ (l : List Rest). AreLeft m l one.0) (sym (goes.is ∙ ap (λ (l : List Rest). l ++ goes.more) c.new-todo.ensures.items)) one.1,
+      one.2 ∙ ap (λ (l : List ℕ). l ++ one.0) (sym (goes.out ∙ ap (λ (l : List ℕ). l ++ goes.wrote) c.new-text.ensures.items)),
+    )
 
 pub go_on-requires-clause-meant : goal.go_on-requires-clause-meant
 go_on-requires-clause-meant c =
@@ -41,7 +42,7 @@ jobs-smaller c =
     let old = c.pop.new.self.items in
     let popped : c.jobs.todo.items ≡ old ++ rest ∷ [] = c.pop.ensures.items ∙ ap (λ (r : Option Rest). old ++ option_to_list r) c.in-Some.is in
     let less : rest_works m c.go_on.new.todo.items < rest_works m c.jobs.todo.items =
-      omega (arith, turn_fewer m rest old c.go_on.new.todo.items c.jobs.text.items c.go_on.new.text.items c.in_ok-go_on.ensures, ap (rest_works m) popped) in
+    omega (arith, turn_fewer m rest old c.go_on.new.todo.items c.jobs.text.items c.go_on.new.text.items c.in_ok-go_on.ensures, ap (rest_works m) popped) in
     less
 
 pub jobs-preserved : goal.jobs-preserved
@@ -52,4 +53,4 @@ jobs-preserved c d means =
     let popped : c.jobs.todo.items ≡ old ++ rest ∷ [] = c.pop.ensures.items ∙ ap (λ (r : Option Rest). old ++ option_to_list r) c.in-Some.is in
     let one = c.jobs.invariant d means in
     turn_left m rest old c.go_on.new.todo.items c.jobs.text.items c.go_on.new.text.items (shown d) one.0 c.in_ok-go_on.ensures
-      (subst (λ (l : List Rest). AreLeft m l one.0) popped one.1) one.2
+    (subst (λ (l : List Rest). AreLeft m l one.0) popped one.1) one.2

@@ -19,4 +19,4 @@ pub write_name-requires-clause-named : goal.write_name-requires-clause-named
 write_name-requires-clause-named c =
     let h = c.args.self.now in
     numbers_in h.shapes c.in-Record.shape c.fields_of.result.now c.requires.table c.fields_of.ensures c.args.place
-      (omega (arith, c.requires.within, fields_long h c.args.key c.index.result.now c.in-Record.shape c.fields_of.result.now c.index.ensures c.in-Record.is c.fields_of.ensures c.requires.meant))
+    (omega (arith, c.requires.within, fields_long h c.args.key c.index.result.now c.in-Record.shape c.fields_of.result.now c.index.ensures c.in-Record.is c.fields_of.ensures c.requires.meant))

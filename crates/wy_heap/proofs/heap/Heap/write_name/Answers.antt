@@ -12,10 +12,10 @@ returns c =
     let old = c.args.text.now.items in
     let below : number < length c.as_slice.result.now = omega (arith, c.requires.named, ap length c.as_slice.ensures) in
     let read : c.as_bytes.result.now ≡ get_or (named names list) c.args.place [] =
-      c.as_bytes.ensures.value
-      ∙ get_or_read c.as_slice.result.now number c.index-as_slice-number.result below c.index-as_slice-number.is []
-      ∙ ap (λ (l : List (List ℕ)). get_or l number []) c.as_slice.ensures
-      ∙ sym (named-get_or names list c.args.place c.requires.within) in
+    c.as_bytes.ensures.value
+    ∙ get_or_read c.as_slice.result.now number c.index-as_slice-number.result below c.index-as_slice-number.is []
+    ∙ ap (λ (l : List (List ℕ)). get_or l number []) c.as_slice.ensures
+    ∙ sym (named-get_or names list c.args.place c.requires.within) in
     c.in_ok-write_bytes-2.ensures ∙ ap (λ (l : List ℕ). l ++ 58 ∷ 32 ∷ []) c.in_ok-write_bytes.ensures
     ∙ append_assoc old c.as_bytes.result.now (58 ∷ 32 ∷ [])
     ∙ ap (λ (l : List ℕ). old ++ (l ++ 58 ∷ 32 ∷ [])) read

@@ -1,2 +1,0 @@
-mod ShortLemmas
-mod StepLemmas

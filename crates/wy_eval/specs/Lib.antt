@@ -1,2 +1,0 @@
--- what results say
-pub mod Seen

@@ -1,6 +1,0 @@
-mod NumberLemmas
-mod KnownLemmas
-mod NarrowLemmas
-mod MarkLemmas
-mod ValueLemmas
-mod WayLemmas

@@ -1,8 +1,0 @@
-use Rattle.std.proofs.Common.{◌≡◌, ◌<◌, ℕ, All, map, drop}
-use Rattle.wy_term.specs.Term.{Term}
-use Rattle.wy_term.specs.Nodes.{parts_at}
-use Rattle.wy_term.specs.Folding.{field_part}
-use Rattle.wy_term.proofs.fold.part_of.Given as goal
-
-abbrev pub invariant-loop-field : goal.invariant-loop-field
-invariant-loop-field l = (at : ℕ → Term) → field_part (map (λ p. p.0) (drop l.field-index l.fields)) (parts_at at (map (λ p. p.1) (drop l.field-index l.fields))) l.name ≡ field_part (map (λ p. p.0) l.fields) (parts_at at (map (λ p. p.1) l.fields)) l.name
