@@ -4,6 +4,7 @@ ghost use Rattle.std.specs.Prelude.{◌≡◌, IfOk};
 use crate::copies::expr_copies::copy_exprs;
 use crate::copies::stmt_copies::copy_stmts;
 use crate::declarations::{Alias, Decl, Function, Method, Param, Program, Property};
+use crate::expressions::Expr;
 use crate::types::Ty;
 use sqlite_items::Items;
 use std::alloc::{AllocError, Global};
@@ -39,11 +40,13 @@ impl Alias {
     fn copy(&self, alloc: Global) -> Result<Alias, AllocError>
         ensures value { IfOk result (λ copy. copy ≡ self.now) }
     {
+        let name = self.name.copy(alloc)?;
+        let named = copy_named(alloc, &self.ty, &self.variable)?;
         Ok(Alias {
             at: self.at,
-            name: self.name.copy(alloc)?,
-            ty: self.ty.copy(alloc)?,
-            variable: copy_name(alloc, &self.variable)?,
+            name,
+            ty: named.0,
+            variable: named.1,
             clauses: copy_exprs(alloc, self.clauses.as_slice())?,
         })
     }
@@ -53,14 +56,22 @@ impl Function {
     fn copy(&self, alloc: Global) -> Result<Function, AllocError>
         ensures value { IfOk result (λ copy. copy ≡ self.now) }
     {
+        let name = self.name.copy(alloc)?;
+        let params = copy_params(alloc, self.params.as_slice())?;
+        let named = copy_named(alloc, &self.result, &self.result_name)?;
+        let clauses = copy_clauses(
+            alloc,
+            self.preconditions.as_slice(),
+            self.postconditions.as_slice(),
+        )?;
         Ok(Function {
             at: self.at,
-            name: self.name.copy(alloc)?,
-            params: copy_params(alloc, self.params.as_slice())?,
-            result: self.result.copy(alloc)?,
-            result_name: copy_name(alloc, &self.result_name)?,
-            preconditions: copy_exprs(alloc, self.preconditions.as_slice())?,
-            postconditions: copy_exprs(alloc, self.postconditions.as_slice())?,
+            name,
+            params,
+            result: named.0,
+            result_name: named.1,
+            preconditions: clauses.0,
+            postconditions: clauses.1,
             body: copy_stmts(alloc, self.body.as_slice())?,
         })
     }
@@ -70,13 +81,21 @@ impl Method {
     fn copy(&self, alloc: Global) -> Result<Method, AllocError>
         ensures value { IfOk result (λ copy. copy ≡ self.now) }
     {
+        let name = self.name.copy(alloc)?;
+        let params = copy_params(alloc, self.params.as_slice())?;
+        let result = copy_result(alloc, &self.result)?;
+        let clauses = copy_clauses(
+            alloc,
+            self.preconditions.as_slice(),
+            self.postconditions.as_slice(),
+        )?;
         Ok(Method {
             at: self.at,
-            name: self.name.copy(alloc)?,
-            params: copy_params(alloc, self.params.as_slice())?,
-            result: copy_result(alloc, &self.result)?,
-            preconditions: copy_exprs(alloc, self.preconditions.as_slice())?,
-            postconditions: copy_exprs(alloc, self.postconditions.as_slice())?,
+            name,
+            params,
+            result,
+            preconditions: clauses.0,
+            postconditions: clauses.1,
             body: copy_stmts(alloc, self.body.as_slice())?,
         })
     }
@@ -115,6 +134,14 @@ fn copy_name(alloc: Global, name: &Option<Name>) -> Result<Option<Name>, AllocEr
     }
 }
 
+/// A type once more, and the name beside it where there is one.
+fn copy_named(alloc: Global, ty: &Ty, name: &Option<Name>) -> Result<(Ty, Option<Name>), AllocError>
+    ensures value { IfOk result (λ copy. copy ≡ (ty.now, name.now)) }
+{
+    let ty = ty.copy(alloc)?;
+    Ok((ty, copy_name(alloc, name)?))
+}
+
 fn copy_result(
     alloc: Global,
     result_ty: &Option<(Ty, Option<Name>)>,
@@ -123,8 +150,20 @@ fn copy_result(
 {
     match result_ty {
         None => Ok(None),
-        Some((ty, name)) => Ok(Some((ty.copy(alloc)?, copy_name(alloc, name)?))),
+        Some((ty, name)) => Ok(Some(copy_named(alloc, ty, name)?)),
     }
+}
+
+/// Preconditions and postconditions once more.
+fn copy_clauses(
+    alloc: Global,
+    preconditions: &[Expr],
+    postconditions: &[Expr],
+) -> Result<(Items<Expr>, Items<Expr>), AllocError>
+    ensures value { IfOk result (λ copy. copy ≡ (preconditions.now, postconditions.now)) }
+{
+    let preconditions = copy_exprs(alloc, preconditions)?;
+    Ok((preconditions, copy_exprs(alloc, postconditions)?))
 }
 
 /// The same list once more, in time linear in its size.
