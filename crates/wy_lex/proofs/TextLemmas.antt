@@ -1,11 +1,11 @@
 -- The bytes and the numbers that characters spell, one character after another.
-use Rattle.std.proofs.Common.{◌≡◌, ℕ, zero, suc, ◌+◌, ◌-◌, ◌*◌, ◌<◌, ◌≤◌, nat_le, Bool, true, false, true≢false, ◌&&◌, cond, List, [], ◌∷◌, ◌++◌, length, take, drop, slice_index_or, Option, Some, None, refl, sym, ap, ◌∙◌, arith, length-append, length-drop, append-nil, append_assoc}
+use Rattle.std.proofs.Common.{◌≡◌, ℕ, zero, suc, ◌+◌, ◌-◌, ◌*◌, ◌<◌, ◌≤◌, nat_le, Bool, true, false, true≢false, List, [], ◌∷◌, ◌++◌, length, take, drop, slice_index_or, Some, refl, sym, ap, ◌∙◌, arith, length-append, length-drop, append-nil, append_assoc}
 use Rattle.std.specs.Str.{encode_utf8_all}
 use Rattle.std.specs.Char.{encode_utf8}
 use Rattle.std.proofs.lemmas.Bool.{leb-true}
 use Rattle.wy_reading.specs.Rule.{heads}
 use Rattle.wy_lex.specs.declared.symbol.Symbol.{Symbol}
-use Rattle.wy_lex.specs.Symbols.{bytes_of, codes_of, place}
+use Rattle.wy_lex.specs.Symbols.{bytes_of}
 use Rattle.wy_lex.specs.Kinds.{number_from, greatest}
 use Rattle.wy_lex.specs.Grammar.{is}
 use Rattle.wy_lex.specs.Reading.{behind_close}

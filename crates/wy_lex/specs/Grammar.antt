@@ -1,7 +1,7 @@
 -- The grammar of a source: pieces of it (words, literals, symbols, comments, blanks, line ends), each as long as it can be.
 --   source = blanks { piece }
 --   piece  = word | numeral | string | symbol | comment | blanks | line end and the blanks behind it
-use Rattle.std.specs.Prelude.{◌≡◌, ◌≢◌, ℕ, Bool, true, false, not, ◌&&◌, ◌||◌, ◌==◌, Option, Some, None, List, [], ◌∷◌, ◌++◌, ◌⊎◌}
+use Rattle.std.specs.Prelude.{◌≡◌, ℕ, Bool, true, false, ◌&&◌, ◌||◌, Option, Some, None, List, [], ◌∷◌, ◌++◌, ◌⊎◌}
 use Rattle.wy_reading.specs.Mode.{Mode}
 use Rattle.wy_reading.specs.Rule.{Rule, heads, One, Pure, Then, Loop, Or, Finish, Refused, Checked, Unless, Letter, Word, Skip, Whole, lax}
 use Rattle.wy_lex.specs.declared.fault.Kind.{Kind}
@@ -104,10 +104,10 @@ Text strict =
 abbrev pub Sign : R Lexeme
 Sign =
     Then (One (holds class.Sign)) (λ c.
-        Or (Then (One (holds (second c.character))) (λ d.
-            Or (Then (One (holds (third c.character))) (λ e. Pure (lexeme triple c.at class.Nothing)))
-            (Pure (lexeme (double c.character) c.at (third c.character)))))
-        (Pure (lexeme (single c.character) c.at (second c.character))))
+    Or (Then (One (holds (second c.character))) (λ d.
+    Or (Then (One (holds (third c.character))) (λ e. Pure (lexeme triple c.at class.Nothing)))
+    (Pure (lexeme (double c.character) c.at (third c.character)))))
+    (Pure (lexeme (single c.character) c.at (second c.character))))
 
 -- a literal or a symbol
 abbrev pub Other : Bool → R Lexeme
@@ -141,9 +141,9 @@ Closed = record {
 abbrev pub Stroke : R (Solidus × ℕ)
 Stroke =
     Then (One (is 47)) (λ first.
-        Or (Then (One (is 47)) (λ s. Then (Skip (holds class.NoLineEnd)) (λ x. Pure (solidus.Line, first.at))))
-        (Or (Then (One (is 42)) (λ s. Then Closed (λ v. Pure (v, first.at))))
-        (Unless (holds class.Remark) (Pure (solidus.Sign, first.at)))))
+    Or (Then (One (is 47)) (λ s. Then (Skip (holds class.NoLineEnd)) (λ x. Pure (solidus.Line, first.at))))
+    (Or (Then (One (is 42)) (λ s. Then Closed (λ v. Pure (v, first.at))))
+    (Unless (holds class.Remark) (Pure (solidus.Sign, first.at)))))
 
 abbrev pub is_closed : Solidus × ℕ → Bool
 is_closed (solidus.Sign, at) = true

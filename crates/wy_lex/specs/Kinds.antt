@@ -1,5 +1,5 @@
 -- Which words and symbols there are, and what they do to lines and brackets.
-use Rattle.std.specs.Prelude.{◌≡◌, ℕ, ◌+◌, ◌-◌, ◌*◌, ◌==◌, ◌&&◌, nat_le, ℤ, pos, Bool, true, false, Option, Some, None, List, [], ◌∷◌, suc, slice_index_or, if◌then◌else◌}
+use Rattle.std.specs.Prelude.{ℕ, ◌+◌, ◌-◌, ◌*◌, ◌==◌, ◌&&◌, nat_le, ℤ, pos, Bool, true, false, Option, Some, None, List, [], ◌∷◌, suc, slice_index_or, if◌then◌else◌}
 use Rattle.std.specs.Str.{bytes_eq}
 use Rattle.wy_data.specs.Words.{keywords}
 use Rattle.wy_lex.specs.declared.token.TokenKind.{TokenKind}

@@ -1,6 +1,5 @@
 -- The readers of a source: the rules of the grammar as steps, with the branches taken by the first character.
-use Rattle.std.specs.Prelude.{◌≡◌, ℕ, Bool, true, false, ◌&&◌, Option, Some, None, Ok, Err, List, [], ◌∷◌, ◌++◌, drop, Result, if◌then◌else◌}
-use Rattle.std.specs.Str.{is_utf8, chars}
+use Rattle.std.specs.Prelude.{ℕ, Bool, true, false, ◌&&◌, Option, Some, None, Ok, List, [], ◌∷◌, ◌++◌, drop, Result, if◌then◌else◌}
 use Rattle.wy_reading.specs.Mode.{Mode}
 use Rattle.wy_reading.specs.Rule.{heads, lax}
 use Rattle.wy_reading.specs.Reader.{Reader, ◌>>=◌, pure, finish, one, branch, while, refused, checked, letter, word, skip, whole}
@@ -51,11 +50,11 @@ text strict = one (is 34) >>= (λ quote. inside strict >>= (λ codes. one (is 34
 unfoldable pub sign : Q Lexeme
 sign =
     one (holds class.Sign) >>= (λ c.
-        branch (holds (second c.character))
-        (one (holds (second c.character)) >>= (λ d.
-            branch (holds (third c.character)) (one (holds (third c.character)) >>= (λ e. pure (lexeme triple c.at class.Nothing)))
-            (pure (lexeme (double c.character) c.at (third c.character)))))
-        (pure (lexeme (single c.character) c.at (second c.character))))
+    branch (holds (second c.character))
+    (one (holds (second c.character)) >>= (λ d.
+    branch (holds (third c.character)) (one (holds (third c.character)) >>= (λ e. pure (lexeme triple c.at class.Nothing)))
+    (pure (lexeme (double c.character) c.at (third c.character)))))
+    (pure (lexeme (single c.character) c.at (second c.character))))
 
 unfoldable pub other : Bool → Q Lexeme
 other strict = branch (holds class.Digit) (numeral_lexeme strict) (branch (is 34) (text strict) sign)
@@ -79,9 +78,9 @@ closed i = closing (behind_close i)
 unfoldable pub stroke : Q (Solidus × ℕ)
 stroke =
     one (is 47) >>= (λ first.
-        branch (is 47) (one (is 47) >>= (λ s. skip (holds class.NoLineEnd) >>= (λ x. pure (solidus.Line, first.at))))
-        (branch (is 42) (one (is 42) >>= (λ s. closed >>= (λ v. pure (v, first.at))))
-        (pure (solidus.Sign, first.at))))
+    branch (is 47) (one (is 47) >>= (λ s. skip (holds class.NoLineEnd) >>= (λ x. pure (solidus.Line, first.at))))
+    (branch (is 42) (one (is 42) >>= (λ s. closed >>= (λ v. pure (v, first.at))))
+    (pure (solidus.Sign, first.at))))
 
 unfoldable pub slash : Bool → Q (Solidus × ℕ)
 slash strict = checked (lax strict is_closed) OpenComment stroke

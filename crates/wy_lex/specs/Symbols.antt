@@ -1,5 +1,5 @@
 -- The characters of a source, each with the byte offset where it stands, and classes of them. A character is its number.
-use Rattle.std.specs.Prelude.{◌≡◌, ℕ, ◌+◌, Bool, true, false, not, ◌&&◌, ◌||◌, ◌==◌, nat_le, List, [], ◌∷◌, length, ◌-◌, Option, Some, None, slice_get, if◌then◌else◌}
+use Rattle.std.specs.Prelude.{ℕ, ◌+◌, Bool, true, false, not, ◌&&◌, ◌||◌, ◌==◌, nat_le, List, [], ◌∷◌, length, ◌-◌, Option, Some, None, slice_get, if◌then◌else◌}
 use Rattle.std.specs.Str.{chars, encode_utf8_all}
 use Rattle.std.specs.Char.{encode_utf8}
 use Rattle.wy_data.specs.Words.{is_start, is_part}
@@ -92,4 +92,3 @@ place_or size (Some s) = s.at
 -- where the last so many characters begin, in a source of so many bytes
 abbrev pub offset : ℕ → List Symbol → ℕ → ℕ
 offset size i left = place_or size (slice_get i (length i - left))
-

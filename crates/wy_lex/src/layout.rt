@@ -92,12 +92,7 @@ pub fn placed(
     added(begun(alloc, state, at)?, kind, at, more)
 }
 
-fn added(
-    state: State,
-    kind: TokenKind,
-    at: u32,
-    more: Character,
-) -> Result<State, AllocError>
+fn added(state: State, kind: TokenKind, at: u32, more: Character) -> Result<State, AllocError>
     requires { state.depth ≤ length state.made }
     ensures value { IfOk result (λ s. s ≡ layout.added state kind at more) }
     ensures counted { IfOk result (λ s. s.depth ≤ length s.made) }
@@ -148,13 +143,32 @@ fn begun(alloc: Global, state: State, at: u32) -> Result<State, AllocError>
             let made = closed(made, blocks.len().saturating_sub(n + 1), at)?;
             blocks.keep(n + 1);
             let indent = Bytes::new(Vec::new(alloc));
-            Ok(State { made, blocks, depth, line: Line::Open, indent, header, more })
+            Ok(State {
+                made,
+                blocks,
+                depth,
+                line: Line::Open,
+                indent,
+                header,
+                more,
+            })
         }
         None => {
-            made.push(Token { kind: TokenKind::BlockIn, at })?;
+            made.push(Token {
+                kind: TokenKind::BlockIn,
+                at,
+            })?;
             blocks.push(indent)?;
             let indent = Bytes::new(Vec::new(alloc));
-            Ok(State { made, blocks, depth, line: Line::Open, indent, header, more })
+            Ok(State {
+                made,
+                blocks,
+                depth,
+                line: Line::Open,
+                indent,
+                header,
+                more,
+            })
         }
     }
 }
@@ -164,7 +178,10 @@ fn ended(mut made: Items<Token>, line: Line) -> Result<Items<Token>, AllocError>
     ensures { IfOk result (λ ts. ts ≡ made ++ layout.ending line) }
 {
     if let Line::Ended(at) = line {
-        made.push(Token { kind: TokenKind::LineEnd, at })?;
+        made.push(Token {
+            kind: TokenKind::LineEnd,
+            at,
+        })?;
     }
     Ok(made)
 }
@@ -175,7 +192,10 @@ fn closed(mut made: Items<Token>, count: usize, at: u32) -> Result<Items<Token>,
     ensures { IfOk result (λ ts. ts ≡ made ++ layout.outs count at) }
 {
     for _block in 0..count {
-        made.push(Token { kind: TokenKind::BlockOut, at })?;
+        made.push(Token {
+            kind: TokenKind::BlockOut,
+            at,
+        })?;
     }
     Ok(made)
 }
@@ -189,7 +209,12 @@ pub fn broken(state: State, at: u32, indent: Bytes) -> State
     } else {
         state.line
     };
-    State { line, indent, more: Character::Blank, ..state }
+    State {
+        line,
+        indent,
+        more: Character::Blank,
+        ..state
+    }
 }
 
 /// What makes no token.
@@ -203,14 +228,25 @@ pub fn passed(state: State, more: Character) -> State
 pub fn finished(state: State, size: u32) -> Result<Items<Token>, AllocError>
     ensures { IfOk result (λ ts. ts ≡ layout.finished state size) }
 {
-    let State { made, blocks, depth, line, indent: _, header: _, more: _ } = state;
+    let State {
+        made,
+        blocks,
+        depth,
+        line,
+        indent: _,
+        header: _,
+        more: _,
+    } = state;
     let mut made = if depth == 0 {
         let made = last_ended(made, line, size)?;
         closed(made, blocks.len().saturating_sub(1), size)?
     } else {
         made
     };
-    made.push(Token { kind: TokenKind::End, at: size })?;
+    made.push(Token {
+        kind: TokenKind::End,
+        at: size,
+    })?;
     Ok(made)
 }
 
@@ -221,11 +257,17 @@ fn last_ended(mut made: Items<Token>, line: Line, size: u32) -> Result<Items<Tok
     match line {
         Line::Fresh => Ok(made),
         Line::Open => {
-            made.push(Token { kind: TokenKind::LineEnd, at: size })?;
+            made.push(Token {
+                kind: TokenKind::LineEnd,
+                at: size,
+            })?;
             Ok(made)
         }
         Line::Ended(at) => {
-            made.push(Token { kind: TokenKind::LineEnd, at })?;
+            made.push(Token {
+                kind: TokenKind::LineEnd,
+                at,
+            })?;
             Ok(made)
         }
     }

@@ -136,10 +136,7 @@ fn inside(alloc: Global, text: &[Symbol]) -> Result<(Items<u8>, &[Symbol]), Stop
     Ok((codes, rest))
 }
 
-fn further(
-    mut codes: Items<u8>,
-    text: &[Symbol],
-) -> Result<(Items<u8>, &[Symbol]), Stop<Kind>>
+fn further(mut codes: Items<u8>, text: &[Symbol]) -> Result<(Items<u8>, &[Symbol]), Stop<Kind>>
     ensures { Reads (spec.further true codes text.now) result }
 {
     let (code, rest) = unit(text)?;
@@ -188,7 +185,14 @@ fn sign(text: &[Symbol]) -> Result<(Lexeme, &[Symbol]), Stop<Kind>>
     let (_, rest) = one(rest, more)?;
     if !next_is(rest, longest) {
         let kind = double(first.character);
-        return Ok((Lexeme { kind, at, more: longest }, rest));
+        return Ok((
+            Lexeme {
+                kind,
+                at,
+                more: longest,
+            },
+            rest,
+        ));
     }
     let (_, rest) = one(rest, longest)?;
     Ok((

@@ -41,11 +41,7 @@ pub fn pieces(
 }
 
 #[tactic(auto, unfolding(crate::specs::Reading::piece, crate::specs::Reading::other_piece))]
-fn piece(
-    alloc: Global,
-    state: State,
-    text: &[Symbol],
-) -> Result<(State, &[Symbol]), Stop<Kind>>
+fn piece(alloc: Global, state: State, text: &[Symbol]) -> Result<(State, &[Symbol]), Stop<Kind>>
     requires { state.depth ≤ length state.made }
     ensures reads { Reads (spec.piece true state text.now) result }
     ensures counted { IfOk result (λ r. r.0.depth ≤ length r.0.made) }

@@ -1,4 +1,4 @@
-use Rattle.std.proofs.Common.{◌≡◌, ◌+◌, ◌∙◌, sym, true, arith, rules}
+use Rattle.std.proofs.Common.{◌+◌, ◌∙◌, sym, arith, rules}
 use Rattle.wy_lex.specs.declared.symbol.Symbol.{Symbol}
 use Rattle.wy_lex.proofs.TextLemmas.{closes_at}
 use Rattle.wy_lex.proofs.comment.behind_close.Goals as goal

@@ -1,4 +1,4 @@
-use Rattle.std.proofs.Common.{◌≡◌, ◌∙◌, ap}
+use Rattle.std.proofs.Common.{◌∙◌, ap}
 use Rattle.wy_lex.specs.Symbols.{symbols}
 use Rattle.wy_lex.proofs.SourceLemmas.{answers_text, read_no_text}
 use Rattle.wy_lex.proofs.source.tokens.Goals as goal
