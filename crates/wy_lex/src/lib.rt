@@ -1,0 +1,29 @@
+//! From the bytes of a source to its tokens, or to the first fault in them.
+//!
+//! `source` makes characters with their places of the bytes (`symbol`) and reads them piece by piece
+//! (`pieces`). A piece is a word, a literal or a symbol (`lexeme`, over the tables in `words`), a slash
+//! with the comment that it begins (`comment`), blanks, or a line end. What was read so far is a state
+//! (`layout`): the tokens, the open blocks (`blocks`), the open brackets, and how far the line has come.
+//! A token that begins a line puts LINE, IN and OUT before itself, by the line's indentation.
+//!
+//! `specs/Grammar.antt` says what the tokens of a source are, as a relation, `specs/Layout.antt` what a
+//! token does to lines and blocks, and `specs/Reading.antt` has the same grammar as functions, each of
+//! which is one here. Nothing recurses on the source.
+#![tactic(auto)]
+
+mod blocks;
+mod comment;
+mod fault;
+mod layout;
+mod lexeme;
+mod pieces;
+mod source;
+mod symbol;
+#[cfg(test)]
+mod tests;
+mod token;
+mod words;
+
+pub use fault::LexFault;
+pub use source::tokens;
+pub use token::{Token, TokenKind};
