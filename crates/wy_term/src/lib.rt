@@ -7,6 +7,7 @@
 #![tactic(auto)]
 
 mod cond;
+mod fold;
 mod law;
 mod memory;
 mod node;

@@ -2,7 +2,9 @@
 ghost use Rattle.std.specs.Prelude.{◌≡◌, ◌<◌, ◌≤◌, ◌↔◌, [], ℕ, List, length, map, take, IsTrue, IfOk, OnErr};
 ghost use Rattle.wy_term.specs.Nodes.{plain, grown, tree_at, node_at as plain_at, HasPartsBelow, AreNodes, Extends, Adds};
 ghost use Rattle.wy_term.specs.Same.{same_term};
+ghost use Rattle.wy_term.specs.Folding.{folded};
 
+use crate::fold::{Folded, fold};
 use crate::memory::NoMemory;
 use crate::node::Node;
 use indexmap::IndexSet;
@@ -10,7 +12,7 @@ use std::alloc::Global;
 use std::marker::Model;
 
 /// Terms and formulas by number, each made of earlier ones. A contract sees the list of its nodes, and by `tree_at` the
-/// tree that a number names. Two different numbers name different trees. None of the forms is folded yet.
+/// tree that a number names. Two different numbers name different trees.
 #[derive(Drop)]
 pub struct Terms {
     nodes: IndexSet<Node>,
@@ -77,9 +79,25 @@ impl Terms {
         node_at(&self.nodes, term)
     }
 
-    /// The number of the term with this node, in amortized constant time beside that of hashing the node. Older numbers
-    /// name what they named. Want of memory is also the answer where 2^32 - 1 terms stand.
+    /// The number of the term that this node's term is folded to, in amortized constant time beside that of looking at
+    /// the node's parts and hashing it. Older numbers name what they named. Want of memory is also the answer where
+    /// 2^32 - 1 terms stand.
     pub fn intern(&mut self, node: Node) -> Result<u32, NoMemory>
+        requires { HasPartsBelow (length self.old) (plain node) }
+        ensures tree { IfOk result (λ t. tree_at self.new t ≡ folded (grown (tree_at self.old) (plain node))) }
+        ensures within { IfOk result (λ t. t < length self.new) }
+        ensures kept { (t : ℕ) → t < length self.old → tree_at self.new t ≡ tree_at self.old t }
+        ensures grows { length self.old ≤ length self.new }
+        ensures no_memory { OnErr result (self.new ≡ self.old) }
+    {
+        match fold(self, node)? {
+            Folded::Term(term) => Ok(term),
+            Folded::Node(node) => self.put(node),
+        }
+    }
+
+    // The number of the term with this node.
+    fn put(&mut self, node: Node) -> Result<u32, NoMemory>
         requires { HasPartsBelow (length self.old) (plain node) }
         ensures tree { IfOk result (λ t. tree_at self.new t ≡ grown (tree_at self.old) (plain node)) }
         ensures within { IfOk result (λ t. t < length self.new) }
@@ -88,6 +106,11 @@ impl Terms {
         ensures no_memory { OnErr result (self.new ≡ self.old) }
     {
         add(&mut self.nodes, node)
+    }
+
+    /// The allocator that the list was made with. It takes no memory.
+    pub fn allocator(&self) -> Global {
+        *self.nodes.allocator()
     }
 
     /// Whether two numbers name equal terms, in constant time.
