@@ -4,6 +4,7 @@ pub mod Data
 pub mod Same
 pub mod Meaning
 pub mod Folding
+pub mod Replacing
 pub mod Sorts
 pub mod Condition
 pub mod Nodes

@@ -11,6 +11,7 @@ mod fold;
 mod law;
 mod memory;
 mod node;
+mod parts;
 mod terms;
 #[cfg(test)]
 mod tests;
