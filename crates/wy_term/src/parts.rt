@@ -42,7 +42,11 @@ pub fn parts_of(alloc: Global, node: &Node) -> Result<Vec<u32>, AllocError>
 }
 
 // The names of these fields with other numbers.
-fn with_field_parts(alloc: Global, fields: &[(Name, u32)], parts: &[u32]) -> Result<Vec<(Name, u32)>, AllocError>
+fn with_field_parts(
+    alloc: Global,
+    fields: &[(Name, u32)],
+    parts: &[u32],
+) -> Result<Vec<(Name, u32)>, AllocError>
     requires { length parts.now ≡ length fields.now }
     ensures names { IfOk result (λ fs. map (λ p. p.0) fs.items ≡ map (λ p. p.0) fields.now) }
     ensures parts { IfOk result (λ fs. map (λ p. p.1) fs.items ≡ parts.now) }

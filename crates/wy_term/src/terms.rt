@@ -122,6 +122,13 @@ impl Terms {
         same_number(&self.nodes, s, t)
     }
 
+    /// Two numbers are one exactly where they name equal terms, in every list of terms, however it came to be.
+    pub fn one_number_for_each_term(&self)
+        ensures one { (s t : ℕ) → s < length self.now → t < length self.now → ((s ≡ t) ↔ (tree_at self.now s ≡ tree_at self.now t)) }
+    {
+        one_number(&self.nodes);
+    }
+
     /// How many terms there are, to go back to. It takes no memory.
     pub fn mark(&self) -> Mark
         ensures value { result ≡ length self.now }
@@ -174,6 +181,13 @@ fn same_number(nodes: &IndexSet<Node>, s: u32, t: u32) -> bool
     ensures { result ≡ same_term (tree_at (map plain nodes.now.keys) s) (tree_at (map plain nodes.now.keys) t) }
 {
     s == t
+}
+
+fn one_number(nodes: &IndexSet<Node>)
+    requires { AreNodes (map plain nodes.now.keys) }
+    ensures { (s t : ℕ) → s < length (map plain nodes.now.keys) → t < length (map plain nodes.now.keys) → ((s ≡ t) ↔ (tree_at (map plain nodes.now.keys) s ≡ tree_at (map plain nodes.now.keys) t)) }
+{
+    let _nodes = nodes;
 }
 
 // The first nodes alone.

@@ -220,12 +220,7 @@ fn add_goals(
 }
 
 // The number of the ensures clause, of what is returned and what it is compared with.
-fn ensured(
-    terms: &mut Terms,
-    program: &Thin<'_>,
-    outcome: u32,
-    limit: u32,
-) -> Result<u32, NoMemory>
+fn ensured(terms: &mut Terms, program: &Thin<'_>, outcome: u32, limit: u32) -> Result<u32, NoMemory>
     requires outcome { IsAt terms.old outcome (returned_number (seen program.now)) }
     requires limit { IsAt terms.old limit (limit_number (seen program.now) (seen_bound program.now.post_bound)) }
     ensures made { IfOk result (λ r. IsAt terms.new r (ensured (seen program.now))) }
