@@ -1,5 +1,5 @@
 -- Folding keeps the meaning of terms.
-use Rattle.std.proofs.Common.{◌≡◌, ℕ, zero, suc, List, [], ◌∷◌, Bool, true, false, cond, not, ◌&&◌, ◌||◌, ℤ, pos, negsuc, neg_ℤ, ◌+ℤ◌, ◌-ℤ◌, ◌*ℤ◌, Option, Some, None, refl, sym, ap, ◌∙◌, arith}
+use Rattle.std.proofs.Common.{◌≡◌, ℕ, zero, suc, List, [], ◌∷◌, Bool, true, false, cond, not, ◌&&◌, ◌||◌, ℤ, pos, negsuc, neg_ℤ, ◌+ℤ◌, ◌-ℤ◌, ◌*ℤ◌, Option, Some, None, refl, sym, ap, ◌∙◌, arith, map}
 use Rattle.std.proofs.lemmas.Int.{ints}
 use Rattle.std.specs.Prelude.{bytes_eq}
 use Rattle.std.specs.Ordering.{int_eq}
@@ -13,12 +13,15 @@ use Rattle.wy_term.specs.Data.{length_of, nth, item_at, items_with, field_of, fi
 use Rattle.wy_term.specs.Meaning.{Names, Sense, sense, sense_of, senses_of, data_in, all_hold, any_holds}
 use Rattle.wy_term.specs.Meaning as meaning
 use Rattle.wy_term.specs.Same.{same_names, same_kind, same_term}
-use Rattle.wy_term.specs.Folding.{as_number, as_int, as_bool, as_array, as_denied, is_truth, as_record, field_part, fold_field, names_for, kind_given, fold_kind, as_constant, fold_bool, fold_apart, fold_equal, is_true, is_false, True, False, decided, fits, number_or, fold_neg, fold_two, fold_num, count, fold_len, nth_part, part_at, fold_get, fold_order, fold_at_most, fold_not, has_false, has_true, without_true, without_false, joined, fold_and, fold_or}
-use Rattle.wy_term.specs.Sorts.{FoldingKeepsMeaning}
+use Rattle.wy_term.specs.Folding.{as_number, as_int, as_bool, as_array, as_denied, is_truth, as_record, field_part, fold_field, names_for, kind_given, fold_kind, as_constant, as_whole, fold_bool, fold_apart, fold_equal, is_true, is_false, True, False, decided, fits, fitted, number_or, on_one, on_two, fold_num, count, fold_len, nth_part, part_at, fold_get, fold_order, fold_at_most, fold_not, has_false, has_true, without_true, without_false, joined, fold_and, fold_or, folded}
+use Rattle.wy_term.specs.Sorts.{Agree, sort_in, FoldingKeepsMeaning}
 use Rattle.wy_term.proofs.SameLemmas.{terms_are, bytes_self}
 
 abbrev some_kind : DataKind → Option DataKind
 some_kind k = Some k
+
+abbrev some_number : ℤ → Option ℤ
+some_number z = Some z
 
 abbrev some_datum : Datum → Option Datum
 some_datum d = Some d
@@ -32,22 +35,22 @@ as_number_is : (names : Names) (t : Term) (z : ℤ) → as_number t ≡ Some z �
 as_number_is names (Of (number y) ps) z e = cc
 as_number_is names t z e = absurd cc
 
-number_of-number_or : (names : Names) (z : ℤ) (t : Term) → number_of names t ≡ z → number_of names (number_or z t) ≡ number_of names t
-number_of-number_or names z t e = either (fits z)
+fitted_kept : (names : Names) (z : ℤ) (t : Term) → number_of names t ≡ z → number_of names (number_or t (fitted z)) ≡ number_of names t
+fitted_kept names z t e = either (fits z)
   where
-    either : (b : Bool) → number_of names (cond b (Number z) t) ≡ number_of names t
+    either : (b : Bool) → number_of names (number_or t (cond b (some_number z) None)) ≡ number_of names t
     either true = sym e
     either false = refl
 
-two_kept : (names : Names) (f : ℤ → ℤ → ℤ) (s t u : Term) (a b : Option ℤ) → as_number s ≡ a → as_number t ≡ b → number_of names u ≡ f (number_of names s) (number_of names t) → number_of names (fold_two f u a b) ≡ number_of names u
+two_kept : (names : Names) (f : ℤ → ℤ → ℤ) (s t u : Term) (a b : Option ℤ) → as_number s ≡ a → as_number t ≡ b → number_of names u ≡ f (number_of names s) (number_of names t) → number_of names (number_or u (on_two f a b)) ≡ number_of names u
 two_kept names f s t u None b e g h = refl
 two_kept names f s t u (Some x) None e g h = refl
 two_kept names f s t u (Some x) (Some y) e g h =
-    number_of-number_or names (f x y) u (h ∙ ap (λ (z : ℤ). f z (number_of names t)) (as_number_is names s x e) ∙ ap (f x) (as_number_is names t y g))
+    fitted_kept names (f x y) u (h ∙ ap (λ (z : ℤ). f z (number_of names t)) (as_number_is names s x e) ∙ ap (f x) (as_number_is names t y g))
 
-neg_kept : (names : Names) (s : Term) (a : Option ℤ) → as_number s ≡ a → number_of names (fold_neg s a) ≡ number_of names (one neg s)
+neg_kept : (names : Names) (s : Term) (a : Option ℤ) → as_number s ≡ a → number_of names (number_or (one neg s) (on_one neg_ℤ a)) ≡ number_of names (one neg s)
 neg_kept names s None e = refl
-neg_kept names s (Some x) e = number_of-number_or names (neg_ℤ x) (one neg s) (ap neg_ℤ (as_number_is names s x e))
+neg_kept names s (Some x) e = fitted_kept names (neg_ℤ x) (one neg s) (ap neg_ℤ (as_number_is names s x e))
 
 num_kept : (names : Names) (v : Term) (s : Option Term) → as_int v ≡ s → number_of names (fold_num v s) ≡ number_of names (one num v)
 num_kept names v None e = refl
@@ -310,11 +313,15 @@ constant_same d e p = cc
 as_constant_is : (names : Names) (v : Term) (d : Datum) → as_constant v ≡ Some d → (sense names v).datum ≡ d
 as_constant_is names (Of null ps) d e = constant_same Null d e
 as_constant_is names (Of (term.truth b) ps) d e = constant_same (Truth b) d e
-as_constant_is names (Of int (part (Of (number z) qs) no_parts)) d e = constant_same (Whole z) d e
+as_constant_is names (Of int (part s no_parts)) d e = whole (as_number s) refl e
+  where
+    whole : (a : Option ℤ) → as_number s ≡ a → as_whole a ≡ Some d → Whole (number_of names s) ≡ d
+    whole None p q = absurd cc
+    whole (Some z) p q = ap Whole (as_number_is names s z p) ∙ constant_same (Whole z) d q
 as_constant_is names v d e = absurd cc
 
 is_truth_is : (names : Names) (w : Term) → is_truth w ≡ true → (sense names w).datum ≡ Truth true
-is_truth_is names (Of (term.truth true) ps) e = refl
+is_truth_is names (Of (term.truth b) ps) e = ap Truth e
 is_truth_is names w e = absurd cc
 
 beq_true : (b : Bool) → b ≡ beq b true

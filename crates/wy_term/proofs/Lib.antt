@@ -3,3 +3,4 @@ pub mod SameLemmas
 pub mod NodeEqLemmas
 pub mod InternLemmas
 pub mod FoldingLemmas
+pub mod FoldLemmas

@@ -1,5 +1,5 @@
 -- Which term a term is folded to when it is made, where its parts are folded already.
-use Rattle.std.specs.Prelude.{ℕ, zero, suc, ◌^◌, List, [], ◌∷◌, Bool, true, false, nat_lt, if◌then◌else◌, bytes_eq, ℤ, pos, negsuc, neg_ℤ, ◌+ℤ◌, ◌-ℤ◌, ◌*ℤ◌, Option, Some, None}
+use Rattle.std.specs.Prelude.{◌≡◌, ℕ, zero, suc, ◌^◌, List, [], ◌∷◌, Bool, true, false, ◌&&◌, nat_lt, if◌then◌else◌, bytes_eq, ℤ, pos, negsuc, neg_ℤ, ◌+ℤ◌, ◌-ℤ◌, ◌*ℤ◌, Option, Some, None}
 use Rattle.wy_term.specs.Term.{DataKind, null_kind, bool_kind, int_kind, array_kind, record_kind, Symbol, Term, Of, Parts, no_parts, part, leaf, one, two, Number, Not, number, add, sub, neg, mul, num, len, null, truth, int, bool, array, repeat, get, fields, field, at_most, equal, of_kind, denied, all_of, any_of}
 use Rattle.wy_value.specs.Datum.{Datum, Null, Truth, Whole}
 use Rattle.wy_term.specs.Data.{same_datum}
@@ -45,7 +45,7 @@ is_false t = false
 
 -- the datum `true`
 abbrev pub is_truth : Term → Bool
-is_truth (Of (truth true) ps) = true
+is_truth (Of (truth b) ps) = b
 is_truth t = false
 
 -- ---- results
@@ -65,21 +65,27 @@ abbrev pub fits : ℤ → Bool
 fits (pos n) = nat_lt n (2 ^ 127)
 fits (negsuc n) = nat_lt n (2 ^ 127)
 
--- the number where it is one of 128 bits, else the term
-abbrev pub number_or : ℤ → Term → Term
-number_or z t = if fits z then Number z else t
+-- the number where it is one of 128 bits
+abbrev pub fitted : ℤ → Option ℤ
+fitted z = if fits z then Some z else None
+
+-- the number where there is one, else the term
+abbrev pub number_or : Term → Option ℤ → Term
+number_or t None = t
+number_or t (Some z) = Number z
 
 -- ---- numbers
 
-abbrev pub fold_neg : Term → Option ℤ → Term
-fold_neg s None = one neg s
-fold_neg s (Some a) = number_or (neg_ℤ a) (one neg s)
+-- an operation on a number, where there is one
+abbrev pub on_one : (ℤ → ℤ) → Option ℤ → Option ℤ
+on_one f None = None
+on_one f (Some a) = fitted (f a)
 
--- an operation on two numbers
-abbrev pub fold_two : (ℤ → ℤ → ℤ) → Term → Option ℤ → Option ℤ → Term
-fold_two f t None b = t
-fold_two f t (Some a) None = t
-fold_two f t (Some a) (Some b) = number_or (f a b) t
+-- an operation on two numbers, where there are two
+abbrev pub on_two : (ℤ → ℤ → ℤ) → Option ℤ → Option ℤ → Option ℤ
+on_two f None b = None
+on_two f (Some a) None = None
+on_two f (Some a) (Some b) = fitted (f a b)
 
 abbrev pub fold_num : Term → Option Term → Term
 fold_num v None = one num v
@@ -197,11 +203,15 @@ fold_kind kind v (Some given) = decided (same_kind given kind)
 
 -- ---- equations
 
+abbrev pub as_whole : Option ℤ → Option Datum
+as_whole None = None
+as_whole (Some z) = Some (Whole z)
+
 -- the datum of a constant: null, true, false or a number
 abbrev pub as_constant : Term → Option Datum
 as_constant (Of null ps) = Some Null
 as_constant (Of (truth b) ps) = Some (Truth b)
-as_constant (Of int (part (Of (number z) qs) no_parts)) = Some (Whole z)
+as_constant (Of int (part s no_parts)) = as_whole (as_number s)
 as_constant t = None
 
 -- `bool(F) = true` is F
@@ -222,10 +232,10 @@ fold_equal v w = if same_term v w then True else fold_apart v w (as_constant v) 
 
 -- the term that this one is folded to
 abbrev pub folded : Term → Term
-folded (Of add (part s (part t no_parts))) = fold_two (λ a b. a +ℤ b) (two add s t) (as_number s) (as_number t)
-folded (Of sub (part s (part t no_parts))) = fold_two (λ a b. a -ℤ b) (two sub s t) (as_number s) (as_number t)
-folded (Of neg (part s no_parts)) = fold_neg s (as_number s)
-folded (Of mul (part s (part t no_parts))) = fold_two (λ a b. a *ℤ b) (two mul s t) (as_number s) (as_number t)
+folded (Of add (part s (part t no_parts))) = number_or (two add s t) (on_two (λ a b. a +ℤ b) (as_number s) (as_number t))
+folded (Of sub (part s (part t no_parts))) = number_or (two sub s t) (on_two (λ a b. a -ℤ b) (as_number s) (as_number t))
+folded (Of neg (part s no_parts)) = number_or (one neg s) (on_one neg_ℤ (as_number s))
+folded (Of mul (part s (part t no_parts))) = number_or (two mul s t) (on_two (λ a b. a *ℤ b) (as_number s) (as_number t))
 folded (Of num (part v no_parts)) = fold_num v (as_int v)
 folded (Of len (part v no_parts)) = fold_len v (as_array v)
 folded (Of get (part v (part s no_parts))) = fold_get v s (as_array v) (as_number s)

@@ -7,3 +7,5 @@ pub mod Folding
 pub mod Sorts
 pub mod Condition
 pub mod Nodes
+-- what functions inside owe each other
+pub mod FoldingView

@@ -7,9 +7,11 @@
 #![tactic(auto)]
 
 mod cond;
+mod fold;
 mod law;
 mod memory;
 mod node;
+mod parts;
 mod terms;
 #[cfg(test)]
 mod tests;

@@ -2,7 +2,9 @@
 ghost use Rattle.std.specs.Prelude.{◌≡◌, ◌<◌, ◌≤◌, ◌↔◌, [], ℕ, List, length, map, take, IsTrue, IfOk, OnErr};
 ghost use Rattle.wy_term.specs.Nodes.{plain, grown, tree_at, node_at as plain_at, HasPartsBelow, AreNodes, Extends, Adds};
 ghost use Rattle.wy_term.specs.Same.{same_term};
+ghost use Rattle.wy_term.specs.Folding.{folded};
 
+use crate::fold::{Folded, fold};
 use crate::memory::NoMemory;
 use crate::node::Node;
 use indexmap::IndexSet;
@@ -10,7 +12,7 @@ use std::alloc::Global;
 use std::marker::Model;
 
 /// Terms and formulas by number, each made of earlier ones. A contract sees the list of its nodes, and by `tree_at` the
-/// tree that a number names. Two different numbers name different trees. None of the forms is folded yet.
+/// tree that a number names. Two different numbers name different trees.
 #[derive(Drop)]
 pub struct Terms {
     nodes: IndexSet<Node>,
@@ -77,9 +79,25 @@ impl Terms {
         node_at(&self.nodes, term)
     }
 
-    /// The number of the term with this node, in amortized constant time beside that of hashing the node. Older numbers
-    /// name what they named. Want of memory is also the answer where 2^32 - 1 terms stand.
+    /// The number of the term that this node's term is folded to, in amortized constant time beside that of looking at
+    /// the node's parts and hashing it. Older numbers name what they named. Want of memory is also the answer where
+    /// 2^32 - 1 terms stand.
     pub fn intern(&mut self, node: Node) -> Result<u32, NoMemory>
+        requires { HasPartsBelow (length self.old) (plain node) }
+        ensures tree { IfOk result (λ t. tree_at self.new t ≡ folded (grown (tree_at self.old) (plain node))) }
+        ensures within { IfOk result (λ t. t < length self.new) }
+        ensures kept { (t : ℕ) → t < length self.old → tree_at self.new t ≡ tree_at self.old t }
+        ensures grows { length self.old ≤ length self.new }
+        ensures no_memory { OnErr result (self.new ≡ self.old) }
+    {
+        match fold(self, node)? {
+            Folded::Term(term) => Ok(term),
+            Folded::Node(node) => self.put(node),
+        }
+    }
+
+    // The number of the term with this node.
+    fn put(&mut self, node: Node) -> Result<u32, NoMemory>
         requires { HasPartsBelow (length self.old) (plain node) }
         ensures tree { IfOk result (λ t. tree_at self.new t ≡ grown (tree_at self.old) (plain node)) }
         ensures within { IfOk result (λ t. t < length self.new) }
@@ -90,6 +108,11 @@ impl Terms {
         add(&mut self.nodes, node)
     }
 
+    /// The allocator that the list was made with. It takes no memory.
+    pub fn allocator(&self) -> Global {
+        *self.nodes.allocator()
+    }
+
     /// Whether two numbers name equal terms, in constant time.
     pub fn same(&self, s: u32, t: u32) -> bool
         requires first { s < length self.now }
@@ -97,6 +120,13 @@ impl Terms {
         ensures value { result ≡ same_term (tree_at self.now s) (tree_at self.now t) }
     {
         same_number(&self.nodes, s, t)
+    }
+
+    /// Two numbers are one exactly where they name equal terms, in every list of terms, however it came to be.
+    pub fn one_number_for_each_term(&self)
+        ensures one { (s t : ℕ) → s < length self.now → t < length self.now → ((s ≡ t) ↔ (tree_at self.now s ≡ tree_at self.now t)) }
+    {
+        one_number(&self.nodes);
     }
 
     /// How many terms there are, to go back to. It takes no memory.
@@ -151,6 +181,13 @@ fn same_number(nodes: &IndexSet<Node>, s: u32, t: u32) -> bool
     ensures { result ≡ same_term (tree_at (map plain nodes.now.keys) s) (tree_at (map plain nodes.now.keys) t) }
 {
     s == t
+}
+
+fn one_number(nodes: &IndexSet<Node>)
+    requires { AreNodes (map plain nodes.now.keys) }
+    ensures { (s t : ℕ) → s < length (map plain nodes.now.keys) → t < length (map plain nodes.now.keys) → ((s ≡ t) ↔ (tree_at (map plain nodes.now.keys) s ≡ tree_at (map plain nodes.now.keys) t)) }
+{
+    let _nodes = nodes;
 }
 
 // The first nodes alone.

@@ -1,7 +1,15 @@
-//! What no clause says: that terms are made where memory is ample.
+//! What no clause says: that terms are made where memory is ample, and which number each folding gives.
+ghost use Rattle.std.specs.Prelude.{◌≡◌, ◌<◌, [], ◌∷◌, All, map, length, IfOk, IfSome};
+ghost use Rattle.wy_term.specs.Nodes.{plain};
+
 use crate::{Cond, CondKind, Kind, NoMemory, Node, Terms};
 use std::alloc::Global;
+use std::test::Fail;
 use wy_data::Name;
+
+fn name(alloc: Global, text: &str) -> Result<Name, NoMemory> {
+    Ok(Name::new(String::from_str(alloc, text)?))
+}
 
 #[test]
 fn makes_terms(rt: HostRuntime) {
@@ -11,8 +19,7 @@ fn makes_terms(rt: HostRuntime) {
 // How many terms `x.0` being an `int` of at least 0 has, one of them made twice, and the word of a condition that owes it.
 fn number_of_an_int(alloc: Global) -> Result<(usize, &'static str), NoMemory> {
     let mut terms = Terms::new(alloc);
-    let name = Name::new(String::from_str(alloc, "x")?);
-    let x = terms.intern(Node::ValName(name, 0))?;
+    let x = terms.intern(Node::ValName(name(alloc, "x")?, 0))?;
     let int = terms.intern(Node::Kind(x, Kind::Int))?;
     let value = terms.intern(Node::Num(x))?;
     let zero = terms.intern(Node::Number(0))?;
@@ -48,4 +55,193 @@ fn lengths_at_marks(alloc: Global) -> Result<[usize; 4], NoMemory> {
     let one = terms.len();
     terms.intern(Node::Bool(true))?;
     Ok([all, two, one, terms.len()])
+}
+
+// Rows of two texts that name one term. Each word of a text takes the terms that it needs from the end of a list, and puts
+// the term that it makes there.
+#[test]
+fn folds(rt: HostRuntime) -> Result<(), Fail> {
+    let rows: [(&str, &str); 38] = [
+        ("2 3 add", "5"),
+        ("2 5 sub", "-3"),
+        ("3 neg", "-3"),
+        ("2 3 mul", "6"),
+        ("6 int num", "6"),
+        ("max 0 add", "max"),
+        ("t x arr len", "2"),
+        ("t x arr 1 get", "x"),
+        ("t x arr 0 get", "t"),
+        ("t x arr 2 get", "null"),
+        ("t x arr -1 get", "null"),
+        ("t x arr max get", "null"),
+        ("t x rec a", "t"),
+        ("t x rec b", "x"),
+        ("t x rec c", "null"),
+        ("min max le", "true"),
+        ("max min le", "false"),
+        ("x num x num le", "true"),
+        ("x x eq", "true"),
+        ("null 1 int eq", "false"),
+        ("1 int 1 int eq", "true"),
+        ("t f eq", "false"),
+        ("x isint not not", "x isint"),
+        ("true x isint and", "x isint"),
+        ("x isint false and", "false"),
+        ("false x isint or", "x isint"),
+        ("x isint true or", "true"),
+        ("true true and", "true"),
+        ("false false or", "false"),
+        ("x isint bool t eq", "x isint"),
+        ("null isnull", "true"),
+        ("null isint", "false"),
+        ("3 int isint", "true"),
+        ("x isint bool isbool", "true"),
+        ("x 3 rep isarr", "true"),
+        ("t x arr isarr", "true"),
+        ("t x rec isarr", "false"),
+        ("t isbool", "true"),
+    ];
+    for (text, want) in rows {
+        let mut terms = Terms::new(rt.alloc());
+        let made = spelled(rt.alloc(), &mut terms, text)?;
+        let wanted = spelled(rt.alloc(), &mut terms, want)?;
+        assert_eq!(rt; made, wanted, "{text}");
+    }
+    Ok(())
+}
+
+// Texts whose last word is folded to nothing else: it makes a term of the form that is named beside it.
+#[test]
+fn keeps(rt: HostRuntime) -> Result<(), Fail> {
+    let rows = [
+        "max 1 add",
+        "min 1 sub",
+        "min neg",
+        "min min mul",
+        "6 3 div",
+        "6 3 mod",
+        "false not",
+        "true not",
+        "t x isint bool eq",
+        "null x num int eq",
+        "x isint",
+        "x num int",
+        "true bool",
+        "x isint x isnull and",
+        "x isint x isnull or",
+        "x num 3 le",
+    ];
+    for text in rows {
+        let mut terms = Terms::new(rt.alloc());
+        let made = spelled(rt.alloc(), &mut terms, text)?;
+        assert_eq!(rt; made as usize + 1, terms.len(), "{text}");
+    }
+    Ok(())
+}
+
+// The term that a text names.
+fn spelled(alloc: Global, terms: &mut Terms, text: &str) -> Result<u32, NoMemory>
+    ensures { IfOk result (λ t. t < length terms.new) }
+{
+    let mut made = Vec::new(alloc);
+    for word in text.split_whitespace() {
+        let term = word_of(alloc, terms, &mut made, word)?;
+        made.push(term)?;
+    }
+    made.pop().ok_or(NoMemory)
+}
+
+fn word_of(
+    alloc: Global,
+    terms: &mut Terms,
+    made: &mut Vec<u32>,
+    word: &str,
+) -> Result<u32, NoMemory>
+    requires { All (λ k. k < length terms.old) made.old.items }
+    ensures made { All (λ k. k < length terms.new) made.new.items }
+    ensures within { IfOk result (λ t. t < length terms.new) }
+{
+    if let Some(node) = constant(alloc, word)? {
+        return terms.intern(node);
+    }
+    let t = made.pop().ok_or(NoMemory)?;
+    if let Some(node) = of_one(alloc, word, t)? {
+        return terms.intern(node);
+    }
+    let s = made.pop().ok_or(NoMemory)?;
+    match of_two(alloc, word, s, t)? {
+        Some(node) => terms.intern(node),
+        None => Err(NoMemory),
+    }
+}
+
+fn constant(alloc: Global, word: &str) -> Result<Option<Node>, NoMemory>
+    ensures { IfOk result (λ o. IfSome o (λ n. (plain n).parts ≡ [])) }
+{
+    let node = match word {
+        "x" => Node::ValName(name(alloc, "x")?, 0),
+        "null" => Node::Null,
+        "t" => Node::Bool(true),
+        "f" => Node::Bool(false),
+        "max" => Node::Number(i128::MAX),
+        "min" => Node::Number(i128::MIN),
+        "true" => Node::And(Vec::new(alloc)),
+        "false" => Node::Or(Vec::new(alloc)),
+        _ => match word.parse::<i64>() {
+            Ok(number) => Node::Number(i128::from(number)),
+            Err(_) => return Ok(None),
+        },
+    };
+    Ok(Some(node))
+}
+
+fn of_one(alloc: Global, word: &str, t: u32) -> Result<Option<Node>, NoMemory>
+    ensures { IfOk result (λ o. IfSome o (λ n. (plain n).parts ≡ t ∷ [])) }
+{
+    let node = match word {
+        "neg" => Node::Neg(t),
+        "num" => Node::Num(t),
+        "len" => Node::Len(t),
+        "int" => Node::Int(t),
+        "bool" => Node::Truth(t),
+        "not" => Node::Not(t),
+        "a" | "b" | "c" => Node::Field(t, name(alloc, word)?),
+        "isnull" => Node::Kind(t, Kind::Null),
+        "isbool" => Node::Kind(t, Kind::Bool),
+        "isint" => Node::Kind(t, Kind::Int),
+        "isarr" => Node::Kind(t, Kind::Array),
+        _ => return Ok(None),
+    };
+    Ok(Some(node))
+}
+
+fn of_two(alloc: Global, word: &str, s: u32, t: u32) -> Result<Option<Node>, NoMemory>
+    ensures { IfOk result (λ o. IfSome o (λ n. (plain n).parts ≡ s ∷ t ∷ [])) }
+{
+    let node = match word {
+        "add" => Node::Add(s, t),
+        "sub" => Node::Sub(s, t),
+        "mul" => Node::Mul(s, t),
+        "div" => Node::Div(s, t),
+        "mod" => Node::Mod(s, t),
+        "rep" => Node::Repeat(s, t),
+        "get" => Node::Get(s, t),
+        "le" => Node::AtMost(s, t),
+        "eq" => Node::Equal(s, t),
+        "arr" => Node::Array(Vec::from_slice(alloc, &[s, t])?),
+        "and" => Node::And(Vec::from_slice(alloc, &[s, t])?),
+        "or" => Node::Or(Vec::from_slice(alloc, &[s, t])?),
+        "rec" => Node::Record(pair(alloc, s, t)?),
+        _ => return Ok(None),
+    };
+    Ok(Some(node))
+}
+
+fn pair(alloc: Global, s: u32, t: u32) -> Result<Vec<(Name, u32)>, NoMemory>
+    ensures { IfOk result (λ fs. map (λ p. p.1) fs.items ≡ s ∷ t ∷ []) }
+{
+    let mut fields = Vec::new(alloc);
+    fields.push((name(alloc, "a")?, s))?;
+    fields.push((name(alloc, "b")?, t))?;
+    Ok(fields)
 }

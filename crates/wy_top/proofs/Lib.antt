@@ -1,3 +1,4 @@
+pub mod UnfoldedLemmas
 pub mod ScanningLemmas
 pub mod DigitLemmas
 pub mod SourceLemmas

@@ -4,7 +4,8 @@ use Rattle.wy_value.specs.declared.bounds.TheConstants.{INT_MIN, INT_MAX}
 use Rattle.wy_term.specs.declared.cond.Cond.{Cond}
 use Rattle.wy_term.specs.declared.cond.CondKind.{CondKind}
 use Rattle.wy_term.specs.Condition.{condition_of}
-use Rattle.wy_term.specs.Term.{Term, Number}
+use Rattle.wy_term.specs.Term.{Term, Number, AtMost}
+use Rattle.wy_term.specs.Folding.{folded}
 use Rattle.wy_term.specs.Nodes.{Plain, tree_at}
 use Rattle.wy_top.specs.declared.conditions.Conditions.{Conditions}
 use Rattle.wy_top.specs.declared.conditions.Parameter.{Parameter}
@@ -23,6 +24,11 @@ pub record IsAt (nodes : List Plain) (t : ℕ) (tree : Term) : Type 0 where
 pub record Keeps (old new : List Plain) : Type 0 where
   pub grows : length old ≤ length new
   pub trees : (t : ℕ) → t < length old → tree_at new t ≡ tree_at old t
+
+-- comparisons of the two terms don't fold
+pub record StayAsTheyAre (s t : Term) : Type 0 where
+  pub upward : folded (AtMost s t) ≡ AtMost s t
+  pub downward : folded (AtMost t s) ≡ AtMost t s
 
 -- the parameter of the program
 pub record IsParameter (nodes : List Plain) (p : Program) (n : Parameter) : Type 0 where

@@ -1,11 +1,12 @@
 //! The conditions of a thin program: two on the range of what it returns, and one on its ensures clause.
-ghost use Rattle.std.specs.Prelude.{◌≡◌, ◌≤◌, ◌<◌, length, IfOk, pos};
+ghost use Rattle.std.specs.Prelude.{◌≡◌, ◌≤◌, ◌<◌, length, IfOk, None, pos};
+ghost use Rattle.wy_term.specs.Folding.{folded, as_number};
 ghost use Rattle.wy_term.specs.Nodes.{plain, grown, tree_at, HasPartsBelow};
 ghost use Rattle.wy_check.specs.Seen.{IsOf};
 ghost use Rattle.wy_top.specs.Thin.{IsThin, comparison_text, limit_text};
 ghost use Rattle.wy_top.specs.Seen.{seen, seen_bound};
-ghost use Rattle.wy_top.specs.Conditions.{text_before_colon, sign_offset, return_offset, compared, changed, limit_number, returned_number, least_owed, greatest_owed, ensures_owed, conditions_of};
-ghost use Rattle.wy_top.specs.ConditionTerms.{IsAt, Keeps, IsParameter, AreEnds, AreAssumed, AreGoals, owed_by, seen_conditions, IsCond};
+ghost use Rattle.wy_top.specs.Conditions.{text_before_colon, sign_offset, return_offset, compared, changed, limit_number, returned_number, ensured, least_owed, greatest_owed, ensures_owed, conditions_of};
+ghost use Rattle.wy_top.specs.ConditionTerms.{IsAt, Keeps, StayAsTheyAre, IsParameter, AreEnds, AreAssumed, AreGoals, owed_by, seen_conditions, IsCond};
 
 use crate::thin::{Bound, Comparison, Sign, Thin};
 use std::alloc::Global;
@@ -82,19 +83,20 @@ pub fn conditions_of(alloc: Global, program: &Thin<'_>) -> Result<Conditions, No
 
 // ---- terms
 
-// The number of the term with this node.
+// The number of the term that this node's term is folded to.
 fn intern(terms: &mut Terms, node: Node) -> Result<u32, NoMemory>
     requires { HasPartsBelow (length terms.old) (plain node) }
-    ensures made { IfOk result (λ t. IsAt terms.new t (grown (tree_at terms.old) (plain node))) }
+    ensures made { IfOk result (λ t. IsAt terms.new t (folded (grown (tree_at terms.old) (plain node)))) }
     ensures keeps { Keeps terms.old terms.new }
 {
     terms.intern(node)
 }
 
-// The number of a comparison as a formula.
+// The number of a comparison as a formula, of two terms whose comparisons don't fold.
 fn formula(terms: &mut Terms, comparison: Comparison, s: u32, t: u32) -> Result<u32, NoMemory>
     requires first { s < length terms.old }
     requires second { t < length terms.old }
+    requires unfolded { StayAsTheyAre (tree_at terms.old s) (tree_at terms.old t) }
     ensures made { IfOk result (λ r. IsAt terms.new r (compared comparison (tree_at terms.old s) (tree_at terms.old t))) }
     ensures keeps { Keeps terms.old terms.new }
 {
@@ -122,10 +124,11 @@ fn returned(terms: &mut Terms, program: &Thin<'_>, parameter: Parameter) -> Resu
     changed(terms, program.sign, parameter.number, amount)
 }
 
-// The number of a sum or a difference.
+// The number of a sum or a difference, of a term that is no number.
 fn changed(terms: &mut Terms, sign: Sign, s: u32, t: u32) -> Result<u32, NoMemory>
     requires first { s < length terms.old }
     requires second { t < length terms.old }
+    requires unfolded { as_number (tree_at terms.old s) ≡ None }
     ensures made { IfOk result (λ r. IsAt terms.new r (changed sign (tree_at terms.old s) (tree_at terms.old t))) }
     ensures keeps { Keeps terms.old terms.new }
 {
@@ -208,12 +211,22 @@ fn add_goals(
     let least = intern(terms, Node::AtMost(ends.least, result))?;
     let greatest = intern(terms, Node::AtMost(result, ends.greatest))?;
     let limit = limit(terms, program, parameter)?;
-    let ensured = formula(terms, program.post, result, limit)?;
+    let ensured = ensured(terms, program, result, limit)?;
     Ok(Goals {
         least,
         greatest,
         ensured,
     })
+}
+
+// The number of the ensures clause, of what is returned and what it is compared with.
+fn ensured(terms: &mut Terms, program: &Thin<'_>, outcome: u32, limit: u32) -> Result<u32, NoMemory>
+    requires outcome { IsAt terms.old outcome (returned_number (seen program.now)) }
+    requires limit { IsAt terms.old limit (limit_number (seen program.now) (seen_bound program.now.post_bound)) }
+    ensures made { IfOk result (λ r. IsAt terms.new r (ensured (seen program.now))) }
+    ensures keeps { Keeps terms.old terms.new }
+{
+    formula(terms, program.post, outcome, limit)
 }
 
 // ---- places

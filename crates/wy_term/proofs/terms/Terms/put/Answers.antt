@@ -1,6 +1,6 @@
 use Rattle.std.proofs.Common.{sym}
 use Rattle.wy_term.proofs.NodesLemmas.{interned_if, kept_inside}
-use Rattle.wy_term.proofs.terms.Terms.intern.Goals as goal
+use Rattle.wy_term.proofs.terms.Terms.put.Goals as goal
 
 pub returns-clause-tree : goal.returns-clause-tree
 returns-clause-tree c = interned_if _ _ _ _ _ (sym c.self.view_is) c.self.invariant c.requires c.add.ensures.added
