@@ -49,6 +49,7 @@ recopied h n made form parts copies builds = record {
   keeps = builds.keeps;
   node = builds.node;
   stays = builds.stays;
+  more = builds.more;
   fresh = builds.fresh;
 }
 

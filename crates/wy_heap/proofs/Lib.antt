@@ -12,3 +12,5 @@ pub mod PathLemmas
 pub mod PlaceLemmas
 pub mod CompareLemmas
 pub mod ShowLemmas
+pub mod SettleLemmas
+pub mod PutLemmas

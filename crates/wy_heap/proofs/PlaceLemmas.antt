@@ -11,7 +11,8 @@ use Rattle.wy_heap.specs.Nodes.{Form, Body, Map, map_of, at, holds, held, slot_h
 use Rattle.wy_heap.specs.Meaning.{Means, MeanAll, IsNode, IsSplit}
 use Rattle.wy_heap.specs.Standing.{Counts, Among, Keeps}
 use Rattle.wy_heap.specs.Slots.{Step, child, put_step, put, put_nth, place_in, part_of, part_at}
-use Rattle.wy_heap.specs.Changing.{SameNodes, Leads, Swaps, IsNodeSlot, NoNew, Wrote, Sole}
+use Rattle.wy_heap.specs.Changing.{SameNodes, Leads, Swaps, IsNodeSlot, NoNew, Wrote}
+use Rattle.wy_heap.specs.Putting.{Sole}
 use Rattle.wy_heap.proofs.CountLemmas.{holds_one, holds_other, holds-get_or, slot-le-inner}
 use Rattle.wy_heap.proofs.MeaningLemmas.{means_unique, means_from_node, same_form}
 use Rattle.wy_heap.proofs.LeadLemmas.{reordered, among_first}
@@ -124,7 +125,7 @@ refused_slot s1 s2 key place form ds d spent others hole same =
 
 -- ---- where each node on the path has one holder
 
-part_free : (key : ℕ) (o : Option Body) (i : ℕ) → slot_holds key o ≡ 0 → holds key (part_of o i) ≡ 0
+pub part_free : (key : ℕ) (o : Option Body) (i : ℕ) → slot_holds key o ≡ 0 → holds key (part_of o i) ≡ 0
 part_free key None i none = refl
 part_free key (Some b) i none = omega (arith, none, holds-get_or key b.parts i)
 

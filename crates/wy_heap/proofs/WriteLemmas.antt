@@ -177,6 +177,10 @@ module _ (h n : Heap) (made : ℕ) (form : Form) (parts : List Part) (joins : Jo
     keeps = kept_more raised (map_of h) n made form parts joined_grows;
     node = grown_node raised (map_of h) n made form parts joined_grows;
     stays = grown_stays raised (map_of h) n made form parts joined_grows;
+    more = λ k. elim (cases_eq k made) [
+      | inl same ↦ omega (arith, ap (count_at h) same, count_none h made joins.vacant)
+      | inr differ ↦ omega (arith, joins.counts k differ)
+    ];
     fresh = λ k b was none. omega (arith, joined_inner k, none);
   }
 

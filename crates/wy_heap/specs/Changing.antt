@@ -54,12 +54,21 @@ pub record Joins (old new : Heap) (made : ℕ) (form : Form) (parts : List Part)
   pub counts : (k : ℕ) → k ≢ made → count_at new k ≡ count_at old k + held k parts
   pub others : (k : ℕ) → k ≢ made → at (map_of new) k ≡ at (map_of old) k
 
+-- each of these parts can have a holder more for each of them within the cap
+abbrev pub HasRoom : Heap → List Part → Type 0
+HasRoom h parts = (k : ℕ) → 1 ≤ held k parts → count_at h k + held k parts ≤ h.cap
+
+-- a node more, with one holder, whose parts have a holder more, and no copy was counted
+pub record JoinsAlone (old new : Heap) (made : ℕ) (form : Form) (parts : List Part) : Type 0 where
+  pub joins : Joins old new made form parts
+  pub copies : new.copies ≡ old.copies
+
 -- a node of this form can have these parts
 abbrev pub Fits : Map → Form → List Part → Type 0
 Fits m form parts = (ds : Data) × MeanAll m ds parts × (d : Datum) × IsSplit d form ds
 
 -- a node more, with one holder, which stands for a datum of this form with what the parts stand for;
--- all parts stand for what they stood for, and each old node is as before
+-- all parts stand for what they stood for, each old node is as before, and no count fell
 pub record Builds (old new : Heap) (form : Form) (parts : List Part) (made : ℕ) : Type 0 where
   pub vacant : at (map_of old) made ≡ None
   pub count : count_at new made ≡ 1
@@ -67,6 +76,7 @@ pub record Builds (old new : Heap) (form : Form) (parts : List Part) (made : ℕ
   pub keeps : (q : Part) (d : Datum) → Means (map_of old) d q → Means (map_of new) d q
   pub node : (ds : Data) → MeanAll (map_of old) ds parts → IsNode (map_of new) (Key made) form ds
   pub stays : (k : ℕ) (b : Body) → at (map_of old) k ≡ Some b → at (map_of new) k ≡ Some b
+  pub more : (k : ℕ) → count_at old k ≤ count_at new k
   pub fresh : (k : ℕ) (b : Body) → at (map_of old) k ≡ Some b → inner k (map_of old) + held k parts ≡ 0 → inner k (map_of new) ≡ 0
 
 -- each node that is left is as it was
@@ -109,8 +119,3 @@ pub record Wrote (old new : Heap) (spent : List Part) (whole : Part) (path : Lis
   pub leads : (others : List Part) → Counts old (spent ++ others) → Leads old new (made ∷ []) others
   pub value : (w u : Datum) → Means (map_of old) w whole → Means (map_of old) u part → Means (map_of new) (put w path u) made
   pub fresh : NoNew (map_of old) (map_of new) spent (made ∷ [])
-
--- each node on the path has one holder
-abbrev pub Sole : Heap → Part → List Step → Type 0
-Sole h p [] = ⊤
-Sole h p (s ∷ path) = ((k : ℕ) → p ≡ Key k → count_at h k ≡ 1) × Sole h (part_at (map_of h) p s) path

@@ -16,6 +16,7 @@ mod node;
 mod part;
 mod releasing;
 mod setting;
+mod settling;
 mod showing;
 mod slots;
 

@@ -8,7 +8,8 @@ ghost use Rattle.wy_heap.specs.Nodes.{map_of, at, form_in, parts_in};
 ghost use Rattle.wy_heap.specs.Meaning.{Means};
 ghost use Rattle.wy_heap.specs.Standing.{Stands, Counts, IsWithin, AreHeld, Acts, SameTable, IsAsBefore};
 ghost use Rattle.wy_heap.specs.Slots.{steps_of, put, IsPath};
-ghost use Rattle.wy_heap.specs.Changing.{SameNodes, IsNodeSlot, Builds, Wrote, Sole};
+ghost use Rattle.wy_heap.specs.Changing.{SameNodes, IsNodeSlot, Builds, Wrote};
+ghost use Rattle.wy_heap.specs.Putting.{Sole};
 
 use crate::heap::Heap;
 use crate::part::{Part, Place, Slot};

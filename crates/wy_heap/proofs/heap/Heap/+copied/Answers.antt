@@ -6,7 +6,8 @@ use Rattle.wy_heap.specs.declared.part.Part.TheVariants.{Key}
 use Rattle.wy_heap.specs.declared.heap.Heap.{Heap}
 use Rattle.wy_heap.specs.Slots.{Step, part_of, steps_of, child, HasPath}
 use Rattle.wy_heap.specs.Nodes.{map_of, at, count_at, count_of}
-use Rattle.wy_heap.specs.Changing.{Wrote, Sole}
+use Rattle.wy_heap.specs.Changing.{Wrote}
+use Rattle.wy_heap.specs.Putting.{Sole}
 use Rattle.wy_heap.proofs.LeadLemmas.{counts_same}
 use Rattle.wy_heap.proofs.PathLemmas.{path_split, first_of, rest_of, level_at, level_node, level_builds, level_slot, copy_hole, copied_inside, copied_wrote, copied_refused}
 use Rattle.wy_heap.proofs.heap.Heap.+copied.Goals as goal

@@ -6,7 +6,8 @@ use Rattle.wy_heap.specs.declared.part.Part.TheVariants.{Key}
 use Rattle.wy_heap.specs.declared.heap.Heap.{Heap}
 use Rattle.wy_heap.specs.Slots.{Step, part_of, steps_of, child, HasPath}
 use Rattle.wy_heap.specs.Nodes.{map_of, at, count_at, count_of}
-use Rattle.wy_heap.specs.Changing.{Wrote, Sole}
+use Rattle.wy_heap.specs.Changing.{Wrote}
+use Rattle.wy_heap.specs.Putting.{Sole}
 use Rattle.wy_heap.proofs.PathLemmas.{path_split, path_nil, first_of, rest_of, level_at, level_node, level_slot, end_wrote}
 use Rattle.wy_heap.proofs.PlaceLemmas.{place_hole, place_inside, place_wrote, place_refused, refused_slot, sole_inside}
 use Rattle.wy_heap.proofs.heap.Heap.+written.Goals as goal
