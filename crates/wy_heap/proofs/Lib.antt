@@ -14,3 +14,4 @@ pub mod CompareLemmas
 pub mod ShowLemmas
 pub mod SettleLemmas
 pub mod PutLemmas
+pub mod PutLevelLemmas

@@ -17,7 +17,7 @@ use Rattle.wy_heap.specs.Standing.{Counts, Among, Keeps}
 use Rattle.wy_heap.specs.Slots.{Step, step_of, steps_of, HasStep, HasPath, IsPath, child, put_step, put, nth, put_nth, place_in, part_of}
 use Rattle.wy_heap.specs.Changing.{SameNodes, Leads, Builds, Swaps, IsNodeSlot, NoNew, Wrote, Lasts, More, Upheld}
 use Rattle.wy_heap.proofs.CountLemmas.{held-set, holds_one, holds_other, slot-le-inner}
-use Rattle.wy_heap.proofs.ChangeLemmas.{at_none, count_none}
+use Rattle.wy_heap.proofs.ChangeLemmas.{at_none, count_none, count_there}
 use Rattle.wy_heap.proofs.MeaningLemmas.{mean_all-length, mean_all-nth, means_unique, node_at, node_from_means, means_from_node, same_form}
 use Rattle.wy_heap.proofs.LeadLemmas.{reordered, among_first, counts_same, means_same}
 use Rattle.wy_heap.proofs.WriteLemmas.{mean_all-set, put_at, split-put_at, swap_counts, swap_among, swap_node, swap_inner}
@@ -112,6 +112,9 @@ module _ (s1 s2 : Heap) (key place : ℕ) (form : Form) (ds : Data) (whole : Dat
 
   pub level_slot : IsNodeSlot (map_of s2) key place
   level_slot = node_slot (map_of s2) key place whole form ds hole.split level_value hole.within
+
+  pub level_there : IsSome (at (map_of s2) key)
+  level_there = count_there s2 key (omega (arith, level_sole))
 
   module _ (s3 : Heap) (out : Part) (swaps : Swaps s2 s3 key place below) (is_out : out ≡ part_of (at (map_of s2) key) place) where
     level_body : (swaps.body.form ≡ form) × MeanAll (map_of s2) ds swaps.body.parts

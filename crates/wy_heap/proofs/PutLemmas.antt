@@ -11,13 +11,15 @@ use Rattle.wy_heap.specs.Meaning.{Means}
 use Rattle.wy_heap.specs.Standing.{Counts}
 use Rattle.wy_heap.specs.Slots.{Step, HasStep, HasPath, child, place_in, part_of, part_at}
 use Rattle.wy_heap.specs.Copying.{raised, CopiesAsMany}
-use Rattle.wy_heap.specs.Changing.{Joins, Swaps, HasRoom, More, Lasts, Upheld}
-use Rattle.wy_heap.specs.Putting.{IsSole, Sole, CountsCopies, with_step, CopiesTo, CopiedAlong, WritesIn, CopiesFrom, PutAlong, IsInPlace, Puts, left_in, copied_holds, RoomForCopies, RoomAlong}
+use Rattle.wy_heap.specs.Changing.{Joins, JoinsAlone, JoinsCopy, Swaps, HasRoom, Builds, CopiesOnly, Leads, More, Lasts, Upheld, Upholds}
+use Rattle.wy_heap.specs.Putting.{IsSole, Sole, CountsCopies, with_step, CopiesTo, CopiedAlong, WritesIn, CopiesFrom, PutAlong, IsInPlace, Puts, left_in, copied_holds, RoomForCopies, RoomAlong, CopiesAlong}
 use Rattle.wy_heap.proofs.CountLemmas.{holds_one, holds_other, holds-get_or, slot-le-inner}
 use Rattle.wy_heap.proofs.ChangeLemmas.{not_there, some_or_none}
 use Rattle.wy_heap.proofs.MeaningLemmas.{same_form}
 use Rattle.wy_heap.proofs.SlotLemmas.{Held_node, held_node, step_key, child_means}
+use Rattle.wy_heap.proofs.PathLemmas.{Level, level_inside}
 use Rattle.wy_heap.proofs.PlaceLemmas.{part_free}
+use Rattle.wy_heap.proofs.SettleLemmas.{copies_none, copies_trans, size_same, size_swapped, raised-raised}
 
 -- ---- a path whose nodes are the same in two maps
 
@@ -238,3 +240,9 @@ put_along-same h n n2 n3 key (s ∷ path) p part made copies same avoid counts v
       (λ k none. agrees k (λ e. not_there (at (map_of n) k) none (subst (λ (i : ℕ). IsSome (at (map_of n) i)) (sym e) there))) c.copied;
   as_many = c.as_many;
 })
+
+pub recounted : (h n : Heap) (made : ℕ) (form : Form) (parts : List Part) (copies : ℕ) → JoinsAlone h n made form parts → copies ≡ raised n.copies 1 → JoinsCopy h (record n { copies = copies }) made form parts
+recounted h n made form parts copies alone is = record {
+  joins = record { vacant = alone.joins.vacant; is = alone.joins.is; count = alone.joins.count; counts = alone.joins.counts; others = alone.joins.others };
+  copies = is ∙ ap (λ (x : ℕ). raised x 1) alone.copies;
+}

@@ -30,7 +30,7 @@ use Rattle.wy_heap.proofs.ReachLemmas.{restored}
 
 -- ---- numbers
 
-raised-raised : (n a b : ℕ) → raised (raised n a) b ≡ raised n (a + b)
+pub raised-raised : (n a b : ℕ) → raised (raised n a) b ≡ raised n (a + b)
 raised-raised n zero b = let e : b ≡ 0 + b = omega arith in ap (raised n) e
 raised-raised n (suc a) zero = let e : suc a ≡ suc a + 0 = omega arith in ap (raised n) e
 raised-raised n (suc a) (suc b) =
@@ -49,7 +49,7 @@ one_if : Option Body → ℕ
 one_if None = 0
 one_if (Some b) = 1
 
-size_same : (m n : Map) → ((j : ℕ) → at n j ≡ at m j) → size n ≡ size m
+pub size_same : (m n : Map) → ((j : ℕ) → at n j ≡ at m j) → size n ≡ size m
 unfolding one_if
 size_same [] [] same = refl
 size_same [] (None ∷ cs) same = size_same [] cs (λ j. same (suc j))

@@ -10,7 +10,8 @@ use Rattle.wy_heap.specs.declared.heap.Heap.{Heap}
 use Rattle.wy_heap.specs.Nodes.{Form, form_of, Body, Map, at, map_of, count_at, held, inner}
 use Rattle.wy_heap.specs.Meaning.{Means, MeanAll, IsNode, IsSplit}
 use Rattle.wy_heap.specs.Standing.{Counts, Keeps}
-use Rattle.wy_heap.specs.Slots.{Step, part_at, put}
+use Rattle.wy_heap.specs.Slots.{Step, put}
+use Rattle.wy_heap.specs.Copying.{raised, CopiesAsMany}
 
 -- the cap, the table and the number of copies are as before
 pub record SameRest (old new : Heap) : Type 0 where
@@ -62,6 +63,11 @@ HasRoom h parts = (k : ℕ) → 1 ≤ held k parts → count_at h k + held k par
 pub record JoinsAlone (old new : Heap) (made : ℕ) (form : Form) (parts : List Part) : Type 0 where
   pub joins : Joins old new made form parts
   pub copies : new.copies ≡ old.copies
+
+-- the same, and the node was counted as a copy
+pub record JoinsCopy (old new : Heap) (made : ℕ) (form : Form) (parts : List Part) : Type 0 where
+  pub joins : Joins old new made form parts
+  pub copies : new.copies ≡ raised old.copies 1
 
 -- a node of this form can have these parts
 abbrev pub Fits : Map → Form → List Part → Type 0
@@ -119,3 +125,9 @@ pub record Wrote (old new : Heap) (spent : List Part) (whole : Part) (path : Lis
   pub leads : (others : List Part) → Counts old (spent ++ others) → Leads old new (made ∷ []) others
   pub value : (w u : Datum) → Means (map_of old) w whole → Means (map_of old) u part → Means (map_of new) (put w path u) made
   pub fresh : NoNew (map_of old) (map_of new) spent (made ∷ [])
+
+-- nodes were only added, each of them counted as a copy, and no count fell
+pub record CopiesOnly (old new : Heap) : Type 0 where
+  pub stays : More (map_of old) (map_of new)
+  pub more : (k : ℕ) → count_at old k ≤ count_at new k
+  pub copies : CopiesAsMany old new

@@ -99,3 +99,8 @@ RoomAlong h whole [] = ⊤
 RoomAlong h whole (s ∷ path) =
   (IsSole h whole → RoomAlong h (part_at (map_of h) whole s) path)
   × ((IsSole h whole → ⊥) → RoomForCopies h whole (s ∷ path))
+
+-- each node on the path was copied, and as many were counted
+pub record CopiesAlong (old new : Heap) (whole : Part) (path : List Step) (part made : Part) : Type 0 where
+  pub along : CopiedAlong (map_of old) (map_of new) whole path part made
+  pub counted : new.copies ≡ raised old.copies (length path)
