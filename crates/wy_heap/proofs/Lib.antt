@@ -15,3 +15,4 @@ pub mod ShowLemmas
 pub mod SettleLemmas
 pub mod PutLemmas
 pub mod PutLevelLemmas
+pub mod LawLemmas

@@ -100,7 +100,7 @@ all_reached h places counts k is =
     reached h places counts (suc (bound (map_of h))) k d.0 d.1 is (omega arith)
 
 -- what the places reach in a map that has all old nodes is an old node
-reached_old : (h n : Heap) (places : List Part) → Counts h places → More (map_of h) (map_of n) → (k : ℕ) → Reach (map_of n) places k → IsSome (at (map_of h) k)
+pub reached_old : (h n : Heap) (places : List Part) → Counts h places → More (map_of h) (map_of n) → (k : ℕ) → Reach (map_of n) places k → IsSome (at (map_of h) k)
 reached_old h n places counts more k (root _ some) = counts.there k (omega (arith, counts.counted k, some))
 reached_old h n places counts more k (part j _ b reach is some) =
     let was = reached_old h n places counts more j reach in

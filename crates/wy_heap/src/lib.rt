@@ -11,6 +11,7 @@
 mod comparing;
 mod heap;
 mod holding;
+mod laws;
 mod making;
 mod node;
 mod part;
@@ -21,4 +22,5 @@ mod showing;
 mod slots;
 
 pub use heap::{Heap, NoMemory};
+pub use laws::{nothing_dead, nothing_left};
 pub use part::{Kind, Place, Slot};
