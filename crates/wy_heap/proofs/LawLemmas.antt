@@ -1,8 +1,8 @@
 -- The nodes of a heap are those that its places reach.
-use Rattle.std.proofs.Common.{◌≡◌, ◌⊎◌, inl, inr, ◌↔◌, ℕ, zero, suc, ◌≤◌, List, [], ◌∷◌, Option, Some, None, IsSome, refl, sym, subst, arith}
+use Rattle.std.proofs.Common.{◌≡◌, inl, inr, ◌↔◌, ℕ, suc, List, [], ◌∷◌, Some, None, IsSome, refl, sym, subst, arith}
 use Rattle.wy_heap.specs.declared.part.Part.{Part}
 use Rattle.wy_heap.specs.declared.heap.Heap.{Heap}
-use Rattle.wy_heap.specs.Nodes.{Body, Map, map_of, at, size, held}
+use Rattle.wy_heap.specs.Nodes.{Map, map_of, at, size}
 use Rattle.wy_heap.specs.Standing.{Stands}
 use Rattle.wy_heap.specs.Reaching.{Reach, root, part}
 use Rattle.wy_heap.proofs.ChangeLemmas.{some_or_none}

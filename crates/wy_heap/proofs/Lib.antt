@@ -16,3 +16,4 @@ pub mod SettleLemmas
 pub mod PutLemmas
 pub mod PutLevelLemmas
 pub mod LawLemmas
+pub mod RowLemmas

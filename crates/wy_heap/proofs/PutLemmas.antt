@@ -1,25 +1,21 @@
 -- A write at a path, key by key, a level at a time.
-use Rattle.std.proofs.Common.{◌≡◌, ◌≢◌, ◌⊎◌, inl, inr, ℕ, zero, suc, ◌+◌, ◌≤◌, ◌<◌, List, [], ◌∷◌, ◌++◌, set, get_or, length, Option, Some, None, IsSome, refl, sym, ◌∙◌, ap, subst, arith}
+use Rattle.std.proofs.Common.{◌≡◌, ◌≢◌, inl, inr, ℕ, zero, suc, ◌≤◌, List, [], ◌∷◌, set, Option, Some, None, IsSome, refl, sym, ◌∙◌, ap, subst, arith}
 use Rattle.std.proofs.lemmas.Bool.{cases_eq}
 use Rattle.std.proofs.lemmas.List.{set-set}
 use Rattle.wy_value.specs.Datum.{Datum}
 use Rattle.wy_heap.specs.declared.part.Part.{Part}
 use Rattle.wy_heap.specs.declared.part.Part.TheVariants.{Null, Bool, Int, Key}
 use Rattle.wy_heap.specs.declared.heap.Heap.{Heap}
-use Rattle.wy_heap.specs.Nodes.{Form, Body, Map, map_of, at, holds, held, slot_holds, inner, count_at, parts_in, form_in, size}
+use Rattle.wy_heap.specs.Nodes.{Form, Body, Map, map_of, at, holds, held, slot_holds, inner, count_at, parts_in, form_in}
 use Rattle.wy_heap.specs.Meaning.{Means}
-use Rattle.wy_heap.specs.Standing.{Counts}
-use Rattle.wy_heap.specs.Slots.{Step, HasStep, HasPath, child, place_in, part_of, part_at}
-use Rattle.wy_heap.specs.Copying.{raised, CopiesAsMany}
-use Rattle.wy_heap.specs.Changing.{Joins, JoinsAlone, JoinsCopy, Swaps, HasRoom, Builds, CopiesOnly, Leads, More, Lasts, Upheld, Upholds}
-use Rattle.wy_heap.specs.Putting.{IsSole, Sole, CountsCopies, with_step, CopiesTo, CopiedAlong, WritesIn, CopiesFrom, PutAlong, IsInPlace, Puts, left_in, copied_holds, RoomForCopies, RoomAlong, CopiesAlong}
-use Rattle.wy_heap.proofs.CountLemmas.{holds_one, holds_other, holds-get_or, slot-le-inner}
+use Rattle.wy_heap.specs.Slots.{Step, HasPath, child, place_in, part_of, part_at}
+use Rattle.wy_heap.specs.Copying.{raised}
+use Rattle.wy_heap.specs.Changing.{Joins, JoinsAlone, JoinsCopy, Swaps, More}
+use Rattle.wy_heap.specs.Putting.{IsSole, Sole, with_step, CopiedAlong, PutAlong, IsInPlace, left_in, copied_holds, RoomForCopies, RoomAlong}
+use Rattle.wy_heap.proofs.CountLemmas.{holds_one, slot-le-inner}
 use Rattle.wy_heap.proofs.ChangeLemmas.{not_there, some_or_none}
-use Rattle.wy_heap.proofs.MeaningLemmas.{same_form}
-use Rattle.wy_heap.proofs.SlotLemmas.{Held_node, held_node, step_key, child_means}
-use Rattle.wy_heap.proofs.PathLemmas.{Level, level_inside}
+use Rattle.wy_heap.proofs.SlotLemmas.{held_node, child_means}
 use Rattle.wy_heap.proofs.PlaceLemmas.{part_free}
-use Rattle.wy_heap.proofs.SettleLemmas.{copies_none, copies_trans, size_same, size_swapped, raised-raised}
 
 -- ---- a path whose nodes are the same in two maps
 
@@ -43,9 +39,10 @@ left_in-same m n (Key k) s same = ap (λ (o : Option Body). set (parts_in o) (pl
 pub same_more : (h n : Heap) (path : List Step) (p : Part) (d : Datum) → More (map_of h) (map_of n) → Means (map_of h) d p → HasPath d path → SamePath (map_of h) (map_of n) p path
 unfolding SamePath
 same_more h n [] p d more means has = tt
-same_more h n (s ∷ path) p d more means has =
-    ( (λ k is. let node = held_node h p k d is means in more k _ node.is ∙ sym node.is)
-    , same_more h n path (part_at (map_of h) p s) (child d s) more (child_means h p d s means has.0) has.1)
+same_more h n (s ∷ path) p d more means has = (
+  (λ k is. let node = held_node h p k d is means in more k _ node.is ∙ sym node.is),
+  same_more h n path (part_at (map_of h) p s) (child d s) more (child_means h p d s means has.0) has.1,
+)
 
 pub copied_holds-same : (k : ℕ) (m n : Map) (path : List Step) (p : Part) → SamePath m n p path → copied_holds k n p path ≡ copied_holds k m p path
 unfolding SamePath
@@ -187,31 +184,34 @@ sole-same_back h n p counts sole k is = counts k ∙ sole k is
 pub all_sole-same : (h n : Heap) (path : List Step) (p : Part) → SamePath (map_of h) (map_of n) p path → ((k : ℕ) → count_at n k ≡ count_at h k) → Sole n p path → Sole h p path
 unfolding SamePath
 all_sole-same h n [] p same counts sole = tt
-all_sole-same h n (s ∷ path) p same counts sole =
-    ( sole-same h n p counts sole.0
-    , all_sole-same h n path (part_at (map_of h) p s) same.1 counts
-        (subst (λ (q : Part). Sole n q path) (part_at-same (map_of h) (map_of n) p s same.0) sole.1))
+all_sole-same h n (s ∷ path) p same counts sole = (
+  sole-same h n p counts sole.0,
+  all_sole-same h n path (part_at (map_of h) p s) same.1 counts
+      (subst (λ (q : Part). Sole n q path) (part_at-same (map_of h) (map_of n) p s same.0) sole.1),
+)
 
 pub room_along-same : (h n : Heap) (path : List Step) (p : Part) → SamePath (map_of h) (map_of n) p path → ((k : ℕ) → count_at n k ≡ count_at h k) → n.cap ≡ h.cap → RoomAlong h p path → RoomAlong n p path
 unfolding SamePath
 room_along-same h n [] p same counts cap room = tt
-room_along-same h n (s ∷ path) p same counts cap room =
-    ( (λ sole. subst (λ (q : Part). RoomAlong n q path) (sym (part_at-same (map_of h) (map_of n) p s same.0))
-        (room_along-same h n path (part_at (map_of h) p s) same.1 counts cap (room.0 (sole-same h n p counts sole))))
-    , (λ many k some.
-        let e = copied_holds-same k (map_of h) (map_of n) (s ∷ path) p same in
-        omega (arith, e, counts k, cap, some, room.1 (λ sole. many (sole-same_back h n p counts sole)) k (omega (arith, e, some)))))
+room_along-same h n (s ∷ path) p same counts cap room = (
+  (λ sole. subst (λ (q : Part). RoomAlong n q path) (sym (part_at-same (map_of h) (map_of n) p s same.0))
+      (room_along-same h n path (part_at (map_of h) p s) same.1 counts cap (room.0 (sole-same h n p counts sole)))),
+  (λ many k some.
+      let e = copied_holds-same k (map_of h) (map_of n) (s ∷ path) p same in
+      omega (arith, e, counts k, cap, some, room.1 (λ sole. many (sole-same_back h n p counts sole)) k (omega (arith, e, some)))),
+)
 
 pub in_place-same : (h n : Heap) (k : ℕ) (path : List Step) (p : Part) → SamePath (map_of h) (map_of n) p path → ((j : ℕ) → count_at n j ≡ count_at h j) → IsInPlace n k p path → IsInPlace h k p path
 unfolding SamePath
 in_place-same h n k [] p same counts place = place
-in_place-same h n k (s ∷ path) p same counts place =
-    ( sole-same h n p counts place.0
-    , elim place.1 [
-        | inl is ↦ inl is
-        | inr further ↦ inr (in_place-same h n k path (part_at (map_of h) p s) same.1 counts
-            (subst (λ (q : Part). IsInPlace n k q path) (part_at-same (map_of h) (map_of n) p s same.0) further))
-      ])
+in_place-same h n k (s ∷ path) p same counts place = (
+  sole-same h n p counts place.0,
+  elim place.1 [
+    | inl is ↦ inl is
+    | inr further ↦ inr (in_place-same h n k path (part_at (map_of h) p s) same.1 counts
+        (subst (λ (q : Part). IsInPlace n k q path) (part_at-same (map_of h) (map_of n) p s same.0) further))
+  ],
+)
 
 pub in_place-avoids : (h : Heap) (key : ℕ) (path : List Step) (p : Part) → Avoids key (map_of h) p path → IsInPlace h key p path → ⊥
 unfolding Avoids

@@ -1,25 +1,22 @@
 -- A write at a path, key by key: a level of copies, and a level in place.
-use Rattle.std.proofs.Common.{◌≡◌, ◌≢◌, ◌⊎◌, inl, inr, ℕ, zero, suc, ◌+◌, ◌≤◌, ◌<◌, List, [], ◌∷◌, ◌++◌, set, get_or, length, Option, Some, None, IsSome, refl, sym, ◌∙◌, ap, subst, arith}
+use Rattle.std.proofs.Common.{◌≡◌, inl, inr, ℕ, ◌+◌, ◌≤◌, List, [], ◌∷◌, set, length, Option, Some, None, IsSome, refl, sym, ◌∙◌, ap, subst, arith}
 use Rattle.std.proofs.lemmas.Bool.{cases_eq}
 use Rattle.std.proofs.lemmas.List.{set-set}
-use Rattle.wy_value.specs.Datum.{Datum}
 use Rattle.wy_heap.specs.declared.part.Part.{Part}
 use Rattle.wy_heap.specs.declared.part.Part.TheVariants.{Null, Key}
 use Rattle.wy_heap.specs.declared.heap.Heap.{Heap}
-use Rattle.wy_heap.specs.Nodes.{Form, Body, Map, map_of, at, holds, held, slot_holds, inner, count_at, parts_in, form_in, size}
-use Rattle.wy_heap.specs.Meaning.{Means}
+use Rattle.wy_heap.specs.Nodes.{Body, map_of, at, holds, held, inner, count_at, parts_in, form_in}
 use Rattle.wy_heap.specs.Standing.{Counts}
-use Rattle.wy_heap.specs.Slots.{Step, HasPath, child, place_in, part_of, part_at}
+use Rattle.wy_heap.specs.Slots.{Step, child, place_in, part_of, part_at}
 use Rattle.wy_heap.specs.Copying.{raised, CopiesAsMany}
-use Rattle.wy_heap.specs.Changing.{Joins, JoinsCopy, Swaps, HasRoom, Builds, CopiesOnly, Leads, More, Lasts, Upheld, Upholds}
-use Rattle.wy_heap.specs.Putting.{IsSole, Sole, CountsCopies, with_step, CopiesTo, CopiedAlong, WritesIn, CopiesFrom, PutAlong, IsInPlace, Puts, left_in, copied_holds, RoomForCopies, RoomAlong, CopiesAlong}
+use Rattle.wy_heap.specs.Changing.{Joins, JoinsCopy, Swaps, HasRoom, CopiesOnly, More, Lasts, Upheld}
+use Rattle.wy_heap.specs.Putting.{IsSole, Sole, CountsCopies, with_step, CopiedAlong, PutAlong, IsInPlace, Puts, left_in, RoomForCopies, RoomAlong, CopiesAlong}
 use Rattle.wy_heap.proofs.CountLemmas.{holds_one, holds_is, slot-le-inner}
-use Rattle.wy_heap.proofs.ChangeLemmas.{not_there, some_or_none, count_there}
-use Rattle.wy_heap.proofs.MeaningLemmas.{same_form}
+use Rattle.wy_heap.proofs.ChangeLemmas.{not_there, some_or_none}
 use Rattle.wy_heap.proofs.PathLemmas.{Level, level_inside}
 use Rattle.wy_heap.proofs.PlaceLemmas.{part_free}
 use Rattle.wy_heap.proofs.SettleLemmas.{copies_none, copies_trans, size_same, size_swapped, raised-raised}
-use Rattle.wy_heap.proofs.PutLemmas.{SamePath, same_more, same_path, copied_along-same, copied_level, room_level, copied_held, Avoids, avoids, same_avoids, all_sole-same, room_along-same, in_place-same, in_place-avoids, put_along-same}
+use Rattle.wy_heap.proofs.PutLemmas.{SamePath, same_path, copied_along-same, copied_level, room_level, copied_held, Avoids, avoids, same_avoids, all_sole-same, room_along-same, in_place-same, in_place-avoids, put_along-same}
 
 -- ---- nothing was done
 
@@ -49,19 +46,19 @@ copied_only s0 s1 s2 s3 top place below vacant stays more copies only swaps same
 pub copied_exact : (s0 : Heap) (whole : Part) (key place : ℕ) (step : Step) (rest : List Step) (inside : Part) (level : Level s0 whole key place step rest inside) (s1 : Heap) (top : ℕ) (places : List Part) → Counts s0 places → (HasRoom s0 (set (parts_in (at (map_of s0) key)) place Null) → JoinsCopy s0 s1 top (form_in (at (map_of s0) key)) (set (parts_in (at (map_of s0) key)) place Null)) → 1 ≤ s0.cap → s1.cap ≡ s0.cap → More (map_of s0) (map_of s1) → (s2 s3 : Heap) (part below : Part) → More (map_of s1) (map_of s2) → (RoomForCopies s1 inside rest → CopiesAlong s1 s2 inside rest part below) → Swaps s2 s3 top place below → s3.copies ≡ s2.copies → RoomForCopies s0 whole (step ∷ rest) → CopiesAlong s0 s3 whole (step ∷ rest) part (Key top)
 copied_exact s0 whole key place step rest inside level s1 top places counts copy one cap stays s2 s3 part below stays2 goes_on swaps same room =
     let left : left_in (map_of s0) whole step ≡ set (parts_in (at (map_of s0) key)) place Null =
-        ap (λ (q : Part). left_in (map_of s0) q step) level.is_key
-        ∙ ap (λ (o : Option Body). set (parts_in (at (map_of s0) key)) (place_in (form_in o) step) Null) level.was
-        ∙ ap (λ (i : ℕ). set (parts_in (at (map_of s0) key)) i Null) (sym level.place_is) in
+    ap (λ (q : Part). left_in (map_of s0) q step) level.is_key
+    ∙ ap (λ (o : Option Body). set (parts_in (at (map_of s0) key)) (place_in (form_in o) step) Null) level.was
+    ∙ ap (λ (i : ℕ). set (parts_in (at (map_of s0) key)) i Null) (sym level.place_is) in
     let has : HasRoom s0 (set (parts_in (at (map_of s0) key)) place Null) =
-        λ k some. omega (arith, ap (held k) left, room k (omega (arith, some, ap (held k) left))) in
+    λ k some. omega (arith, ap (held k) left, room k (omega (arith, some, ap (held k) left))) in
     let joined = copy has in
     let joins : Joins s0 s1 top level.body.form (set level.body.parts place Null) =
-        subst (λ (o : Option Body). Joins s0 s1 top (form_in o) (set (parts_in o) place Null)) level.was joined.joins in
+    subst (λ (o : Option Body). Joins s0 s1 top (form_in o) (set (parts_in o) place Null)) level.was joined.joins in
     let inside_at = level_part s0 whole key place step rest inside level in
     let means = level_inside s0 whole key place step rest inside level in
     let further = room_level s0 s1 whole inside key place top level.body step rest (child level.value step) level.is_key level.was level.place_is inside_at means level.path joins stays one cap room
-        (λ k some e. not_there (at (map_of s0) k) (ap (at (map_of s0)) e ∙ joins.vacant)
-            (counts.there k (omega (arith, counts.counted k, copied_held k (map_of s0) rest inside some)))) in
+    (λ k some e. not_there (at (map_of s0) k) (ap (at (map_of s0)) e ∙ joins.vacant)
+    (counts.there k (omega (arith, counts.counted k, copied_held k (map_of s0) rest inside some)))) in
     let after = goes_on further in
     record {
       along = copied_level s0 s1 s2 s3 whole inside part below key place top level.body step rest (child level.value step) level.is_key level.was level.place_is inside_at means level.path joins stays stays2 swaps after.along;
@@ -79,13 +76,13 @@ nothing_freed s1 s2 whole all counts many lasts upheld k = elim (some_or_none (a
   | inr none ↦ elim (lasts k) [ inl gone ↦ gone ∙ sym none | inr same ↦ same ]
   | inl found ↦ upheld (map_of s1) all counts
       (λ j b was.
-        let alive : 1 ≤ count_at s1 j = counts.alive j (subst IsSome (sym was) refl) in
-        elim (cases_eq (holds j whole) 0) [
-          | inl free ↦ omega (arith, alive, free, counts.counted j)
-          | inr some ↦
-              let is = holds_is j whole (omega (arith, some)) in
-              omega (arith, many j is, counts.counted j, ap (holds j) is, holds_one j)
-        ])
+      let alive : 1 ≤ count_at s1 j = counts.alive j (subst IsSome (sym was) refl) in
+      elim (cases_eq (holds j whole) 0) [
+        | inl free ↦ omega (arith, alive, free, counts.counted j)
+        | inr some ↦
+            let is = holds_is j whole (omega (arith, some)) in
+            omega (arith, many j is, counts.counted j, ap (holds j) is, holds_one j)
+      ])
       (λ j b was. was) k found.0 found.1 ∙ sym found.1
 ]
 
@@ -227,10 +224,11 @@ module _ (s0 : Heap) (whole : Part) (key place : ℕ) (step : Step) (rest : List
   place_counts s2 s3 below copies again first last forth = record {
     none = λ all. last ∙ copies.none (forth all) ∙ first;
     some = λ many.
-        let made = copies.some (λ all. many (place_sole, subst (λ (q : Part). Sole s0 q rest) place_part (all_sole-same s0 s1 rest inside place_same swaps.counts all))) in
-        ( made.0
-        , omega (arith, made.1, size_swapped s0 s1 key place Null swaps, size_swapped s2 s3 key place below again)
-        , last ∙ made.2 ∙ ap (λ (n : ℕ). raised n made.0) first);
+        let made = copies.some (λ all. many (place_sole, subst (λ (q : Part). Sole s0 q rest) place_part (all_sole-same s0 s1 rest inside place_same swaps.counts all))) in (
+          made.0,
+          omega (arith, made.1, size_swapped s0 s1 key place Null swaps, size_swapped s2 s3 key place below again),
+          last ∙ made.2 ∙ ap (λ (n : ℕ). raised n made.0) first,
+        );
   }
 
 pub copy_counts : (s0 s2 : Heap) (whole : Part) (step : Step) (rest : List Step) → (IsSole s0 whole → ⊥) → CopiesAsMany s0 s2 → CountsCopies s0 s2 whole (step ∷ rest)

@@ -1,5 +1,5 @@
 -- How copies come in place of nodes with too many holders.
-use Rattle.std.proofs.Common.{◌≡◌, ◌≢◌, ◌⊎◌, inl, inr, ℕ, zero, suc, ◌+◌, ◌-◌, ◌≤◌, ◌<◌, ◌==◌, min, List, [], ◌∷◌, ◌++◌, set, get_or, take, drop, length, Option, Some, None, IsSome, cond, refl, sym, ◌∙◌, ap, subst, arith, length-set}
+use Rattle.std.proofs.Common.{◌≡◌, ◌≢◌, inl, inr, ℕ, zero, suc, ◌+◌, ◌≤◌, ◌<◌, min, List, [], ◌∷◌, ◌++◌, set, get_or, take, drop, length, Option, Some, None, IsSome, refl, sym, ◌∙◌, ap, subst, arith, length-set}
 use Rattle.std.proofs.lemmas.Bool.{cases_eq}
 use Rattle.std.proofs.lemmas.List.{get_or-set_other, take_all, drop_more, take_more}
 use Rattle.slab.specs.Slab.{get, ContainsKey}
@@ -16,14 +16,14 @@ use Rattle.wy_heap.specs.Standing.{Counts, IsWithin, SameTable}
 use Rattle.wy_heap.specs.Slots.{nth, part_of}
 use Rattle.wy_heap.specs.Weighing.{total, weight}
 use Rattle.wy_heap.specs.Freeing.{times, Frees}
-use Rattle.wy_heap.specs.Changing.{SameNodes, Leads, HasRoom, Joins, Swaps, IsNodeSlot, AreThere, Fits, Builds, More, Upheld}
+use Rattle.wy_heap.specs.Changing.{SameNodes, Leads, HasRoom, Joins, Swaps, IsNodeSlot, Fits, Builds, More, Upheld}
 use Rattle.wy_heap.specs.Copying.{raised, CopiesAsMany, CopiesBeside}
 use Rattle.wy_heap.specs.Settling.{owing, loads, Settles, Splits, SettlesPlace, AreTodo, Lacks, Spares, SettlesNode}
-use Rattle.wy_heap.proofs.CountLemmas.{held-set, held-append, inner_updated, slot-le-inner, inner_part, inner_same, holds_one, holds_other, holds_is, holds-get_or}
+use Rattle.wy_heap.proofs.CountLemmas.{held-set, inner_updated, slot-le-inner, inner_part, inner_same, holds_one, holds_other, holds_is, holds-get_or}
 use Rattle.wy_heap.proofs.ChangeLemmas.{count_there, contains_from_at, count_none, at_from_contains, not_there, some_or_none}
 use Rattle.wy_heap.proofs.MeaningLemmas.{mean_all-length, mean_all-nth, means_unique, data_unique, node_from_means, means_from_node, same_form}
 use Rattle.wy_heap.proofs.LeadLemmas.{counts_same, means_same}
-use Rattle.wy_heap.proofs.SlotLemmas.{Held_node, held_node, node_form, node_parts, body-node}
+use Rattle.wy_heap.proofs.SlotLemmas.{held_node, node_form, node_parts, body-node}
 use Rattle.wy_heap.proofs.WeighLemmas.{tree, trees, trees-data_in, tree-nth, tree-split, weight-tree, total-trees}
 use Rattle.wy_heap.proofs.WriteLemmas.{joined_builds, node_parts_there}
 use Rattle.wy_heap.proofs.ReachLemmas.{restored}
@@ -106,17 +106,19 @@ module _ (s t : Heap) (key place : ℕ) (part : Part) (u : Datum) (swaps : Swaps
       elim (cases_eq node.key key) [
         | inr differ ↦ record { key = node.key; is_key = node.is_key; parts = node.parts; is_node = swaps.others node.key differ ∙ node.is_node; pass_all = each_kept n below ds node.parts most node.pass_all }
         | inl same ↦
-          let body : Some swaps.body ≡ Some (record { form = form; parts = node.parts }) = sym swaps.was ∙ ap (at (map_of s)) (sym same) ∙ node.is_node in
-          let mean : MeanAll (map_of s) ds swaps.body.parts = subst (MeanAll (map_of s) ds) (sym (ap parts_in body)) node.pass_all in
-          let inside : place < length_of ds = omega (arith, mean_all-length (map_of s) ds swaps.body.parts mean, swaps.within) in
-          let child = mean_all-nth (map_of s) ds swaps.body.parts place mean swaps.within in
-          let is : u ≡ nth ds place = means_unique (map_of s) u (nth ds place) (get_or swaps.body.parts place Null) was child in
-          let moved = below (nth ds place) part (omega (arith, tree-nth ds place inside, most)) (subst (λ (x : Datum). Means (map_of s) x part) is new) in
-          record {
-            key = key; is_key = node.is_key ∙ ap (λ (i : ℕ). Key i) same; parts = set swaps.body.parts place part;
-            is_node = swaps.is ∙ ap (λ (f : Form). Some (record { form = f; parts = set swaps.body.parts place part })) (same_form swaps.body (record { form = form; parts = node.parts }) body);
-            pass_all = mean_all_put (map_of t) ds swaps.body.parts place part (each_kept n below ds swaps.body.parts most mean) moved swaps.within;
-          }
+            let body : Some swaps.body ≡ Some (record { form = form; parts = node.parts }) = sym swaps.was ∙ ap (at (map_of s)) (sym same) ∙ node.is_node in
+            let mean : MeanAll (map_of s) ds swaps.body.parts = subst (MeanAll (map_of s) ds) (sym (ap parts_in body)) node.pass_all in
+            let inside : place < length_of ds = omega (arith, mean_all-length (map_of s) ds swaps.body.parts mean, swaps.within) in
+            let child = mean_all-nth (map_of s) ds swaps.body.parts place mean swaps.within in
+            let is : u ≡ nth ds place = means_unique (map_of s) u (nth ds place) (get_or swaps.body.parts place Null) was child in
+            let moved = below (nth ds place) part (omega (arith, tree-nth ds place inside, most)) (subst (λ (x : Datum). Means (map_of s) x part) is new) in
+            record {
+              key = key;
+              is_key = node.is_key ∙ ap (λ (i : ℕ). Key i) same;
+              parts = set swaps.body.parts place part;
+              is_node = swaps.is ∙ ap (λ (f : Form). Some (record { form = f; parts = set swaps.body.parts place part })) (same_form swaps.body (record { form = form; parts = node.parts }) body);
+              pass_all = mean_all_put (map_of t) ds swaps.body.parts place part (each_kept n below ds swaps.body.parts most mean) moved swaps.within;
+            }
       ]
 
   kept_below : (n : ℕ) (d : Datum) (q : Part) → tree d ≤ n → Means (map_of s) d q → Means (map_of t) d q
@@ -126,11 +128,11 @@ module _ (s t : Heap) (key place : ℕ) (part : Part) (u : Datum) (swaps : Swaps
   kept_below zero (datum.Array items) q most means = absurd (omega arith)
   kept_below (suc n) (datum.Array items) q most means =
       means_from_node (map_of t) (datum.Array items) q list_form items (refl, refl)
-        (node_kept n (kept_below n) list_form items q (omega arith) (node_from_means (map_of s) (datum.Array items) q list_form items (refl, refl) means))
+      (node_kept n (kept_below n) list_form items q (omega arith) (node_from_means (map_of s) (datum.Array items) q list_form items (refl, refl) means))
   kept_below zero (datum.Record fs) q most means = absurd (omega arith)
   kept_below (suc n) (datum.Record fs) q most means =
       means_from_node (map_of t) (datum.Record fs) q (record_form (names_of fs)) (data_in fs) (refl, refl)
-        (node_kept n (kept_below n) (record_form (names_of fs)) (data_in fs) q (omega (arith, trees-data_in fs)) (node_from_means (map_of s) (datum.Record fs) q (record_form (names_of fs)) (data_in fs) (refl, refl) means))
+      (node_kept n (kept_below n) (record_form (names_of fs)) (data_in fs) q (omega (arith, trees-data_in fs)) (node_from_means (map_of s) (datum.Record fs) q (record_form (names_of fs)) (data_in fs) (refl, refl) means))
 
   -- whoever holds it, everything stands for what it stood for
   pub same_swap : (q : Part) (d : Datum) → Means (map_of s) d q → Means (map_of t) d q
@@ -139,44 +141,45 @@ module _ (s t : Heap) (key place : ℕ) (part : Part) (u : Datum) (swaps : Swaps
   -- the part went in, and what was there came out
   pub same_swap_counts : (others : List Part) → Counts s (part ∷ others) → Counts t (get_or swaps.body.parts place Null ∷ others)
   same_swap_counts others counts = record {
-      counted = λ k. omega (arith, swaps.counts k, counts.counted k, inner_updated k (map_of s) (map_of t) key swaps.others, ap (slot_holds k) swaps.was, ap (slot_holds k) swaps.is, held-set k swaps.body.parts place part swaps.within);
-      alive = λ k is. elim (cases_eq k key) [
-        | inl e ↦ omega (arith, swaps.counts k, counts.alive k (subst (λ (i : ℕ). IsSome (at (map_of s) i)) (sym e) (subst IsSome (sym swaps.was) refl)))
-        | inr differ ↦ omega (arith, swaps.counts k, counts.alive k (subst IsSome (swaps.others k differ) is))
-      ];
-      there = count_there t;
-      meant = λ k is. elim (cases_eq k key) [
-        | inl e ↦
+    counted = λ k. omega (arith, swaps.counts k, counts.counted k, inner_updated k (map_of s) (map_of t) key swaps.others, ap (slot_holds k) swaps.was, ap (slot_holds k) swaps.is, held-set k swaps.body.parts place part swaps.within);
+    alive = λ k is. elim (cases_eq k key) [
+      | inl e ↦ omega (arith, swaps.counts k, counts.alive k (subst (λ (i : ℕ). IsSome (at (map_of s) i)) (sym e) (subst IsSome (sym swaps.was) refl)))
+      | inr differ ↦ omega (arith, swaps.counts k, counts.alive k (subst IsSome (swaps.others k differ) is))
+    ];
+    there = count_there t;
+    meant = λ k is. elim (cases_eq k key) [
+      | inl e ↦
           let d = counts.meant k (subst (λ (i : ℕ). IsSome (at (map_of s) i)) (sym e) (subst IsSome (sym swaps.was) refl)) in
           (d.0, same_swap (Key k) d.0 d.1)
-        | inr differ ↦
+      | inr differ ↦
           let d = counts.meant k (subst IsSome (swaps.others k differ) is) in
           (d.0, same_swap (Key k) d.0 d.1)
-      ];
-    }
+    ];
+  }
 
 -- ---- letting go of one of many holds
 
 pub let_go_counts : (s t : Heap) (p : Part) (places : List Part) → Counts s (p ∷ places) → map_of t ≡ map_of s → (first : Option ℕ) → first ≡ None → Frees t first places → Counts t places
 let_go_counts s t p places counts same first none (j ∷ js, free) = absurd (let some = free.chain.0 in cc)
 let_go_counts s t p places counts same first none ([], free) = record {
-    counted = free.counted;
-    alive = λ k is. omega (arith, free.alive k is);
-    there = count_there t;
-    meant = λ k is.
+  counted = free.counted;
+  alive = λ k is. omega (arith, free.alive k is);
+  there = count_there t;
+  meant = λ k is.
       let d = counts.meant k (subst (λ (m : Map). IsSome (at m k)) same is) in
       (d.0, subst (λ (m : Map). Means m d.0 (Key k)) (sym same) d.1);
-  }
+}
 
 -- a copy of a whole node stands for a datum
 pub whole_fits : (h : Heap) (places : List Part) (key : ℕ) (n : Node) → Counts h places → get h.nodes key ≡ Some n → Fits (map_of h) (form_of h.shapes n.shape) n.parts.items
 whole_fits h places key n counts was =
     let d = counts.meant key (subst IsSome (sym (body-node h key n was)) refl) in
-    let node = held_node h (Key key) key d.0 refl d.1 in
-    (node.data_of,
-     subst (MeanAll (map_of h) node.data_of) (sym (node_parts h key n d.0 node was)) node.mean,
-     d.0,
-     subst (λ (f : Form). IsSplit d.0 f node.data_of) (sym (node_form h key n d.0 node was)) node.split)
+    let node = held_node h (Key key) key d.0 refl d.1 in (
+      node.data_of,
+      subst (MeanAll (map_of h) node.data_of) (sym (node_parts h key n d.0 node was)) node.mean,
+      d.0,
+      subst (λ (f : Form). IsSplit d.0 f node.data_of) (sym (node_form h key n d.0 node was)) node.split,
+    )
 
 -- ---- a copy in a slot
 
@@ -203,8 +206,17 @@ module _ (s0 s1 s2 : Heap) (node place key copy : ℕ) (n : Node) (was : get s0.
   old_is = sym (ap (λ (o : Option Body). part_of o place) swaps.was) ∙ split_slot
 
   split_inner : (k : ℕ) → inner k (map_of s2) + holds k (Key key) ≡ inner k (map_of s0) + held k n.parts.items + holds k (Key copy)
-  split_inner k = omega (arith, inner_updated k (map_of s0) (map_of s1) copy joins.others, ap (slot_holds k) joins.vacant, ap (slot_holds k) joins.is,
-      inner_updated k (map_of s1) (map_of s2) node swaps.others, ap (slot_holds k) swaps.was, ap (slot_holds k) swaps.is, held-set k swaps.body.parts place (Key copy) swaps.within, ap (holds k) old_is)
+  split_inner k = omega (
+    arith,
+    inner_updated k (map_of s0) (map_of s1) copy joins.others,
+    ap (slot_holds k) joins.vacant,
+    ap (slot_holds k) joins.is,
+    inner_updated k (map_of s1) (map_of s2) node swaps.others,
+    ap (slot_holds k) swaps.was,
+    ap (slot_holds k) swaps.is,
+    held-set k swaps.body.parts place (Key copy) swaps.within,
+    ap (holds k) old_is,
+  )
 
   module _ (places : List Part) (counts : Counts s0 places) where
     builds : Builds s0 s1 (form_of s0.shapes n.shape) n.parts.items copy
@@ -218,8 +230,8 @@ module _ (s0 s1 s2 : Heap) (node place key copy : ℕ) (n : Node) (was : get s0.
     value_copy =
         let node_is = held_node s0 (Key key) key value.0 refl value.1 in
         means_from_node (map_of s1) value.0 (Key copy) (form_of s0.shapes n.shape) node_is.data_of
-          (subst (λ (f : Form). IsSplit value.0 f node_is.data_of) (sym (node_form s0 key n value.0 node_is was)) node_is.split)
-          (builds.node node_is.data_of (subst (MeanAll (map_of s0) node_is.data_of) (sym (node_parts s0 key n value.0 node_is was)) node_is.mean))
+        (subst (λ (f : Form). IsSplit value.0 f node_is.data_of) (sym (node_form s0 key n value.0 node_is was)) node_is.split)
+        (builds.node node_is.data_of (subst (MeanAll (map_of s0) node_is.data_of) (sym (node_parts s0 key n value.0 node_is was)) node_is.mean))
 
     value_old : Means (map_of s1) value.0 (get_or swaps.body.parts place Null)
     value_old = subst (Means (map_of s1) value.0) (sym old_is) (builds.keeps (Key key) value.0 value.1)
@@ -245,35 +257,36 @@ module _ (s0 s1 s2 : Heap) (node place key copy : ℕ) (n : Node) (was : get s0.
 
     pub split_splits : Splits s0 o node place key copy
     split_splits = record {
-        vacant = joins.vacant;
-        key_body = record { form = form_of s0.shapes n.shape; parts = n.parts.items };
-        key_was = key_was;
-        body = swaps.body;
-        was = sym same_node ∙ swaps.was;
-        within = swaps.within;
-        part = old_is;
-        is = split_at node ∙ swaps.is;
-        copy_is = split_at copy ∙ swaps.others copy (λ e. not_copy (sym e)) ∙ joins.is;
-        others = λ k differ other. split_at k ∙ swaps.others k differ ∙ joins.others k other;
-        counts = split_count;
-        settles = record {
-          counts = λ others c. lets others (split_counts others c);
-          keeps = λ q d means. subst (λ (m : Map). Means m d q) (sym same) (split_keeps places counts q d means);
-          fresh = λ k some none.
-            let other = old_key k some in
-            (elim (cases_eq k node) [
-               | inl e ↦ subst IsSome (sym (split_at k ∙ ap (at (map_of s2)) e ∙ swaps.is)) refl
-               | inr differ ↦ subst IsSome (sym (split_at k ∙ swaps.others k differ ∙ joins.others k other)) some
-             ],
-             omega (arith, split_inner k, ap (inner k) same, none, slot-le-inner k (map_of s0) key, ap (slot_holds k) key_was, holds_other copy k (λ e. other (sym e))));
-          cap = cap;
-          high = λ k. elim (cases_eq k key) [
-            | inl e ↦ omega (arith, split_count k, ap (λ (i : ℕ). holds i (Key key)) e, holds_one key, ap (count_at s0) e, over)
-            | inr differ ↦ omega (arith, split_count k, holds_other key k (λ e. differ (sym e)))
-          ];
-        };
-        copies = (1, omega (arith, ap size same, size_swapped s1 s2 node place (Key copy) swaps, size_joined s0 s1 copy (form_of s0.shapes n.shape) n.parts.items joins), copies);
-      }
+      vacant = joins.vacant;
+      key_body = record { form = form_of s0.shapes n.shape; parts = n.parts.items };
+      key_was = key_was;
+      body = swaps.body;
+      was = sym same_node ∙ swaps.was;
+      within = swaps.within;
+      part = old_is;
+      is = split_at node ∙ swaps.is;
+      copy_is = split_at copy ∙ swaps.others copy (λ e. not_copy (sym e)) ∙ joins.is;
+      others = λ k differ other. split_at k ∙ swaps.others k differ ∙ joins.others k other;
+      counts = split_count;
+      settles = record {
+        counts = λ others c. lets others (split_counts others c);
+        keeps = λ q d means. subst (λ (m : Map). Means m d q) (sym same) (split_keeps places counts q d means);
+        fresh = λ k some none.
+            let other = old_key k some in (
+              elim (cases_eq k node) [
+                | inl e ↦ subst IsSome (sym (split_at k ∙ ap (at (map_of s2)) e ∙ swaps.is)) refl
+                | inr differ ↦ subst IsSome (sym (split_at k ∙ swaps.others k differ ∙ joins.others k other)) some
+              ],
+              omega (arith, split_inner k, ap (inner k) same, none, slot-le-inner k (map_of s0) key, ap (slot_holds k) key_was, holds_other copy k (λ e. other (sym e))),
+            );
+        cap = cap;
+        high = λ k. elim (cases_eq k key) [
+          | inl e ↦ omega (arith, split_count k, ap (λ (i : ℕ). holds i (Key key)) e, holds_one key, ap (count_at s0) e, over)
+          | inr differ ↦ omega (arith, split_count k, holds_other key k (λ e. differ (sym e)))
+        ];
+      };
+      copies = (1, omega (arith, ap size same, size_swapped s1 s2 node place (Key copy) swaps, size_joined s0 s1 copy (form_of s0.shapes n.shape) n.parts.items joins), copies);
+    }
 
 pub many_still : (s0 s1 s2 : Heap) (key copy : ℕ) (n : Node) (form : Form) (parts : List Part) → Joins s0 s1 copy form parts → get s0.nodes key ≡ Some n → 2 ≤ count_at s0 key → ((k : ℕ) → count_at s2 k ≡ count_at s1 k) → 2 ≤ count_at s2 key
 many_still s0 s1 s2 key copy n form parts joins was many counts =
@@ -288,21 +301,21 @@ settles_refl h = record { counts = λ others c. c; keeps = λ q d means. means; 
 
 pub settles_trans : (a b c : Heap) → Settles a b → Settles b c → Settles a c
 settles_trans a b c first second = record {
-    counts = λ others counts. second.counts others (first.counts others counts);
-    keeps = λ q d means. second.keeps q d (first.keeps q d means);
-    fresh = λ k some none. let one = first.fresh k some none in second.fresh k one.0 one.1;
-    cap = second.cap ∙ first.cap;
-    high = λ k. omega (arith, first.high k, second.high k, first.cap);
-  }
+  counts = λ others counts. second.counts others (first.counts others counts);
+  keeps = λ q d means. second.keeps q d (first.keeps q d means);
+  fresh = λ k some none. let one = first.fresh k some none in second.fresh k one.0 one.1;
+  cap = second.cap ∙ first.cap;
+  high = λ k. omega (arith, first.high k, second.high k, first.cap);
+}
 
 pub settles_same : (h n : Heap) → SameNodes h n → n.cap ≡ h.cap → Settles h n
 settles_same h n same cap = record {
-    counts = λ others counts. counts_same h n others same counts;
-    keeps = λ q d means. means_same (map_of h) (map_of n) same.nodes d q means;
-    fresh = λ k some none. (subst IsSome (sym (same.nodes k)) some, omega (arith, none, inner_equal k));
-    cap = cap;
-    high = λ k. omega (arith, same.counts k);
-  }
+  counts = λ others counts. counts_same h n others same counts;
+  keeps = λ q d means. means_same (map_of h) (map_of n) same.nodes d q means;
+  fresh = λ k some none. (subst IsSome (sym (same.nodes k)) some, omega (arith, none, inner_equal k));
+  cap = cap;
+  high = λ k. omega (arith, same.counts k);
+}
   where
     inner_equal : (k : ℕ) → inner k (map_of n) ≡ inner k (map_of h)
     inner_equal k = inner_same k (map_of h) (map_of n) same.nodes
@@ -349,8 +362,12 @@ loads_same : (m n : Map) (xs : List ℕ) → ((j : ℕ) → 1 ≤ times j xs →
 loads_same m n [] meant keeps = refl
 loads_same m n (x ∷ xs) meant keeps =
     let d = meant x (head_times x xs) in
-    omega (arith, weight-tree m d.0 (Key x) d.1, weight-tree n d.0 (Key x) (keeps (Key x) d.0 d.1),
-      loads_same m n xs (λ j some. meant j (omega (arith, some, tail_times x j xs))) keeps)
+    omega (
+      arith,
+      weight-tree m d.0 (Key x) d.1,
+      weight-tree n d.0 (Key x) (keeps (Key x) d.0 d.1),
+      loads_same m n xs (λ j some. meant j (omega (arith, some, tail_times x j xs))) keeps,
+    )
 
 -- ---- the parts of a node, one after the other
 
@@ -375,20 +392,20 @@ parts_of_slot k (Some b) = refl
 
 pub looked_first : (h : Heap) (node many : ℕ) (before : List ℕ) → IsSome (at (map_of h) node) → length (parts_in (at (map_of h) node)) ≡ many → AreTodo (map_of h) node before → Looked h h node 0 many before before
 looked_first h node many before here long todo = record {
-    settles = settles_refl h;
-    spares = λ base more none lacks. (more, lacks);
-    copies = copies_none h;
-    kept = (refl, refl);
-    here = here;
-    long = long;
-    first_long = long;
-    there = todo.there;
-    once = todo.once;
-    apart = todo.apart;
-    rest = λ i from. refl;
-    over = λ most k. omega (arith, most k, parts_of_slot k (at (map_of h) node));
-    load = omega arith;
-  }
+  settles = settles_refl h;
+  spares = λ base more none lacks. (more, lacks);
+  copies = copies_none h;
+  kept = (refl, refl);
+  here = here;
+  long = long;
+  first_long = long;
+  there = todo.there;
+  once = todo.once;
+  apart = todo.apart;
+  rest = λ i from. refl;
+  over = λ most k. omega (arith, most k, parts_of_slot k (at (map_of h) node));
+  load = omega arith;
+}
 
 held-drop : (k : ℕ) (ps : List Part) (i : ℕ) → i < length ps → held k (drop i ps) ≡ holds k (get_or ps i Null) + held k (drop (i + 1) ps)
 held-drop k ps i below = ap (held k) (drop_more ps i Null below)
@@ -413,18 +430,26 @@ part_is (Some b) i = refl
 
 pub looked_none : (h s : Heap) (node place many : ℕ) (before todo : List ℕ) → Looked h s node place many before todo → place < many → ((k : ℕ) → part_of (at (map_of s) node) place ≡ Key k → count_at s k ≤ h.cap) → Looked h s node (place + 1) many before todo
 looked_none h s node place many before todo looked below few = record {
-    settles = looked.settles; spares = looked.spares; copies = looked.copies; kept = looked.kept; here = looked.here; long = looked.long; first_long = looked.first_long;
-    there = looked.there; once = looked.once; apart = looked.apart;
-    rest = λ i from. looked.rest i (omega (arith, from));
-    over = λ most k.
+  settles = looked.settles;
+  spares = looked.spares;
+  copies = looked.copies;
+  kept = looked.kept;
+  here = looked.here;
+  long = looked.long;
+  first_long = looked.first_long;
+  there = looked.there;
+  once = looked.once;
+  apart = looked.apart;
+  rest = λ i from. looked.rest i (omega (arith, from));
+  over = λ most k.
       let ps = parts_in (at (map_of s) node) in
       let dropped = held-drop k ps place (omega (arith, below, looked.long)) in
       elim (cases_eq (holds k (get_or ps place Null)) 0) [
         | inl none ↦ omega (arith, looked.over most k, dropped, none)
         | inr some ↦ omega (arith, few k (part_is (at (map_of s) node) place ∙ holds_is k (get_or ps place Null) (omega (arith, some))))
       ];
-    load = omega (arith, looked.load, total-take (weight (map_of h)) (parts_in (at (map_of h) node)) place (omega (arith, below, looked.first_long)));
-  }
+  load = omega (arith, looked.load, total-take (weight (map_of h)) (parts_in (at (map_of h) node)) place (omega (arith, below, looked.first_long)));
+}
 
 mean_all_keeps : (m n : Map) → ((q : Part) (d : Datum) → Means m d q → Means n d q) → (ds : Data) (ps : List Part) → MeanAll m ds ps → MeanAll n ds ps
 mean_all_keeps m n keeps no_items ps mean = mean
@@ -449,9 +474,9 @@ module _ (h s t : Heap) (node place many : ℕ) (before todo : List ℕ) (looked
 
   copy_held : held copy splits.key_body.parts ≡ 0
   copy_held = elim (cases_eq (held copy splits.key_body.parts) 0) [
-      | inl none ↦ none
-      | inr more ↦ absurd (omega (arith, counts_s.counted copy, copy_count, inner_part (map_of s) key copy splits.key_body splits.key_was (omega (arith, more))))
-    ]
+    | inl none ↦ none
+    | inr more ↦ absurd (omega (arith, counts_s.counted copy, copy_count, inner_part (map_of s) key copy splits.key_body splits.key_was (omega (arith, more))))
+  ]
 
   owing_t : (k : ℕ) → owing k (map_of t) (todo ++ copy ∷ []) ≡ owing k (map_of s) todo + held k splits.key_body.parts
   owing_t k = omega (arith, owing-append k (map_of t) todo (copy ∷ []), owing_same k (map_of s) (map_of t) todo in_todo, ap (slot_holds k) splits.copy_is)
@@ -470,48 +495,54 @@ module _ (h s t : Heap) (node place many : ℕ) (before todo : List ℕ) (looked
       let same : Some splits.key_body ≡ Some (record { form = node_is.form; parts = node_is.parts }) = sym splits.key_was ∙ node_is.is in
       let mean = subst (MeanAll (map_of s) node_is.data_of) (sym (ap parts_in same)) node_is.mean in
       let value : Means (map_of t) first.0 (Key copy) = means_from_node (map_of t) first.0 (Key copy) splits.key_body.form node_is.data_of
-        (subst (λ (f : Form). IsSplit first.0 f node_is.data_of) (sym (same_form splits.key_body (record { form = node_is.form; parts = node_is.parts }) same)) node_is.split)
-        (record { key = copy; is_key = refl; parts = splits.key_body.parts; is_node = splits.copy_is;
-          pass_all = mean_all_keeps (map_of s) (map_of t) splits.settles.keeps node_is.data_of splits.key_body.parts mean }) in
+      (subst (λ (f : Form). IsSplit first.0 f node_is.data_of) (sym (same_form splits.key_body (record { form = node_is.form; parts = node_is.parts }) same)) node_is.split)
+      (record {
+        key = copy;
+        is_key = refl;
+        parts = splits.key_body.parts;
+        is_node = splits.copy_is;
+        pass_all = mean_all_keeps (map_of s) (map_of t) splits.settles.keeps node_is.data_of splits.key_body.parts mean;
+      }) in
       omega (arith, weight-tree (map_of t) first.0 (Key copy) value, weight-tree (map_of h) first.0 (Key key) first.1, ap (weight (map_of h)) part)
 
   pub looked_split : Looked h t node (place + 1) many before (todo ++ copy ∷ [])
   looked_split = record {
-      settles = settles_trans h s t looked.settles splits.settles;
-      spares = λ base more none lacks.
-        let one = looked.spares base more none lacks in
-        (splits_spares s t node place key copy splits base one.0 none,
-         λ k in_list. elim (cases_eq k copy) [
-           | inl same ↦ elim (some_or_none (at base k)) [
-             | inr gone ↦ gone
-             | inl found ↦ absurd (let is = one.0 k found.0 found.1 in let gone : at (map_of s) k ≡ None = ap (at (map_of s)) same ∙ splits.vacant in cc)
-           ]
-           | inr differ ↦ one.1 k (omega (arith, in_list, times-append k todo (copy ∷ []), times_other k copy (λ e. differ (sym e))))
-         ]);
-      copies = copies_trans h s t looked.copies splits.copies;
-      kept = (kept.0 ∙ looked.kept.0, kept.1 ∙ looked.kept.1);
-      here = subst IsSome (sym splits.is) refl;
-      long = ap length (ap parts_in splits.is) ∙ length-set splits.body.parts place (Key copy) ∙ sym (ap length parts_s) ∙ looked.long;
-      first_long = looked.first_long;
-      there = λ k in_list. elim (cases_eq k copy) [
-        | inl same ↦ subst IsSome (sym (ap (at (map_of t)) same ∙ splits.copy_is)) refl
-        | inr differ ↦
+    settles = settles_trans h s t looked.settles splits.settles;
+    spares = λ base more none lacks.
+        let one = looked.spares base more none lacks in (
+          splits_spares s t node place key copy splits base one.0 none,
+          λ k in_list. elim (cases_eq k copy) [
+            | inl same ↦ elim (some_or_none (at base k)) [
+              | inr gone ↦ gone
+              | inl found ↦ absurd (let is = one.0 k found.0 found.1 in let gone : at (map_of s) k ≡ None = ap (at (map_of s)) same ∙ splits.vacant in cc)
+            ]
+            | inr differ ↦ one.1 k (omega (arith, in_list, times-append k todo (copy ∷ []), times_other k copy (λ e. differ (sym e))))
+          ],
+        );
+    copies = copies_trans h s t looked.copies splits.copies;
+    kept = (kept.0 ∙ looked.kept.0, kept.1 ∙ looked.kept.1);
+    here = subst IsSome (sym splits.is) refl;
+    long = ap length (ap parts_in splits.is) ∙ length-set splits.body.parts place (Key copy) ∙ sym (ap length parts_s) ∙ looked.long;
+    first_long = looked.first_long;
+    there = λ k in_list. elim (cases_eq k copy) [
+      | inl same ↦ subst IsSome (sym (ap (at (map_of t)) same ∙ splits.copy_is)) refl
+      | inr differ ↦
           let here : 1 ≤ times k todo = omega (arith, in_list, times-append k todo (copy ∷ []), times_other k copy (λ e. differ (sym e))) in
           subst IsSome (sym (in_todo k here)) (looked.there k here)
-      ];
-      once = λ k. elim (cases_eq k copy) [
-        | inl same ↦ elim (cases_eq (times k todo) 0) [
-          | inl none ↦ omega (arith, none, times-append k todo (copy ∷ []), ap (λ (i : ℕ). times k (i ∷ [])) (sym same), times_one k)
-          | inr more ↦ absurd (copy_free k (looked.there k (omega (arith, more))) same)
-        ]
-        | inr differ ↦ omega (arith, looked.once k, times-append k todo (copy ∷ []), times_other k copy (λ e. differ (sym e)))
-      ];
-      apart = omega (arith, looked.apart, times-append node todo (copy ∷ []), times_other node copy (λ e. copy_free node looked.here (sym e)));
-      rest = λ i from.
+    ];
+    once = λ k. elim (cases_eq k copy) [
+      | inl same ↦ elim (cases_eq (times k todo) 0) [
+        | inl none ↦ omega (arith, none, times-append k todo (copy ∷ []), ap (λ (i : ℕ). times k (i ∷ [])) (sym same), times_one k)
+        | inr more ↦ absurd (copy_free k (looked.there k (omega (arith, more))) same)
+      ]
+      | inr differ ↦ omega (arith, looked.once k, times-append k todo (copy ∷ []), times_other k copy (λ e. differ (sym e)))
+    ];
+    apart = omega (arith, looked.apart, times-append node todo (copy ∷ []), times_other node copy (λ e. copy_free node looked.here (sym e)));
+    rest = λ i from.
         let differ : i ≢ place = omega (arith, from) in
         ap (λ (o : Option Body). get_or (parts_in o) i Null) splits.is ∙ get_or-set_other splits.body.parts place i (Key copy) Null differ
         ∙ ap (λ (ps : List Part). get_or ps i Null) (sym parts_s) ∙ looked.rest i (omega (arith, from));
-      over = λ most k.
+    over = λ most k.
         let dropped = held-drop k splits.body.parts place splits.within in
         let before_k = looked.over most k in
         let parts = ap (λ (ps : List Part). held k (drop place ps)) parts_s in
@@ -519,21 +550,26 @@ module _ (h s t : Heap) (node place many : ℕ) (before todo : List ℕ) (looked
           | inl same ↦ omega (arith, splits.counts k, ap (count_at s) same, copy_count, ap (λ (i : ℕ). held i splits.key_body.parts) same, copy_held, ap (λ (i : ℕ). holds i (Key copy)) same, holds_one copy, some)
           | inr differ ↦ omega (arith, splits.counts k, before_k, parts, dropped, ap (holds k) splits.part, dropped_t k, owing_t k, holds_other copy k (λ e. differ (sym e)))
         ];
-      load =
-        omega (arith, looked.load, total-take (weight (map_of h)) (parts_in (at (map_of h) node)) place (omega (arith, below, looked.first_long)),
-          loads-append (map_of t) todo (copy ∷ []), copy_weight,
-          loads_same (map_of s) (map_of t) todo (λ j in_list. counts_s.meant j (looked.there j in_list)) splits.settles.keeps);
-    }
+    load =
+        omega (
+          arith,
+          looked.load,
+          total-take (weight (map_of h)) (parts_in (at (map_of h) node)) place (omega (arith, below, looked.first_long)),
+          loads-append (map_of t) todo (copy ∷ []),
+          copy_weight,
+          loads_same (map_of s) (map_of t) todo (λ j in_list. counts_s.meant j (looked.there j in_list)) splits.settles.keeps,
+        );
+  }
 
 -- a turn
 pub looked_next : (h s t : Heap) (node place many : ℕ) (before todo after : List ℕ) → Looked h s node place many before todo → place < many → SettlesPlace s.cap s t node place todo after → SameTable s t → 1 ≤ h.cap → (places : List Part) → Counts h places → Looked h t node (place + 1) many before after
 looked_next h s t node place many before todo after looked below (inl none) kept some places counts =
     subst (λ (x : Heap). Looked h x node (place + 1) many before after) (sym none.0)
-      (subst (λ (l : List ℕ). Looked h s node (place + 1) many before l) (sym none.1)
-        (looked_none h s node place many before todo looked below (λ k is. omega (arith, none.2 k is, looked.kept.0))))
+    (subst (λ (l : List ℕ). Looked h s node (place + 1) many before l) (sym none.1)
+    (looked_none h s node place many before todo looked below (λ k is. omega (arith, none.2 k is, looked.kept.0))))
 looked_next h s t node place many before todo after looked below (inr (key, copy, splits, is)) kept some places counts =
     subst (λ (l : List ℕ). Looked h t node (place + 1) many before l) (sym is)
-      (looked_split h s t node place many before todo looked below key copy splits kept some places counts)
+    (looked_split h s t node place many before todo looked below key copy splits kept some places counts)
 
 drop_past : (k : ℕ) (ps : List Part) (i : ℕ) → length ps ≤ i → held k (drop i ps) ≡ 0
 drop_past k [] zero past = refl
@@ -553,8 +589,15 @@ looked_all h s node place many before todo looked past meant =
       once = looked.once;
       lacks = λ base more none lacks. (looked.spares base more none lacks).1;
       over = λ most k. omega (arith, looked.over most k, drop_past k (parts_in (at (map_of s) node)) place (omega (arith, past, looked.long)));
-      less = omega (arith, looked.load, ap (total (weight (map_of h))) all, ap (total (weight (map_of h))) parts, weight-tree (map_of h) meant.0 (Key node) meant.1,
-        tree-split meant.0 is.form is.data_of is.split, total-trees (map_of h) is.data_of is.parts is.mean);
+      less = omega (
+        arith,
+        looked.load,
+        ap (total (weight (map_of h))) all,
+        ap (total (weight (map_of h))) parts,
+        weight-tree (map_of h) meant.0 (Key node) meant.1,
+        tree-split meant.0 is.form is.data_of is.split,
+        total-trees (map_of h) is.data_of is.parts is.mean,
+      );
     }
 
 -- ---- node after node
@@ -570,41 +613,44 @@ pub record Settled (h s : Heap) (first : ℕ) (todo : List ℕ) : Type 0 where
 
 pub settled_first : (h s : Heap) (first : ℕ) (todo : List ℕ) → Settles h s → Spares h s first [] → SettlesNode h.cap h s first [] todo → SameTable h s → ((k : ℕ) → count_at h k ≤ h.cap + slot_holds k (at (map_of h) first)) → Settled h s first todo
 settled_first h s first todo settles spares node kept over = record {
-    settles = settles;
-    spares = λ base more none. (spares base more none (λ k some. absurd (omega arith)), node.lacks base more none (λ k some. absurd (omega arith)));
-    copies = node.copies;
-    kept = kept;
-    there = node.there;
-    once = node.once;
-    over = node.over (λ k. omega (arith, over k));
-  }
+  settles = settles;
+  spares = λ base more none. (spares base more none (λ k some. absurd (omega arith)), node.lacks base more none (λ k some. absurd (omega arith)));
+  copies = node.copies;
+  kept = kept;
+  there = node.there;
+  once = node.once;
+  over = node.over (λ k. omega (arith, over k));
+}
 
 -- the last of those to do is apart from the others
 pub settled_todo : (h s : Heap) (first node : ℕ) (rest : List ℕ) → Settled h s first (rest ++ node ∷ []) → AreTodo (map_of s) node rest
 settled_todo h s first node rest settled = record {
-    there = λ k some. settled.there k (omega (arith, some, times-append k rest (node ∷ [])));
-    once = λ k. omega (arith, settled.once k, times-append k rest (node ∷ []));
-    apart = omega (arith, settled.once node, times-append node rest (node ∷ []), times_one node);
-  }
+  there = λ k some. settled.there k (omega (arith, some, times-append k rest (node ∷ [])));
+  once = λ k. omega (arith, settled.once k, times-append k rest (node ∷ []));
+  apart = omega (arith, settled.once node, times-append node rest (node ∷ []), times_one node);
+}
 
 pub settled_there : (h s : Heap) (first node : ℕ) (rest : List ℕ) → Settled h s first (rest ++ node ∷ []) → IsSome (at (map_of s) node)
 settled_there h s first node rest settled = settled.there node (omega (arith, times-append node rest (node ∷ []), times_one node))
 
 pub settled_next : (h s t : Heap) (first node : ℕ) (rest after : List ℕ) → Settled h s first (rest ++ node ∷ []) → Settles s t → Spares s t node rest → SettlesNode s.cap s t node rest after → SameTable s t → Settled h t first after
 settled_next h s t first node rest after settled settles spares done kept = record {
-    settles = settles_trans h s t settled.settles settles;
-    spares = λ base more none.
+  settles = settles_trans h s t settled.settles settles;
+  spares = λ base more none.
       let one = settled.spares base more none in
       let here : at base node ≡ None = one.1 node (omega (arith, times-append node rest (node ∷ []), times_one node)) in
       let others : Lacks base rest = λ k some. one.1 k (omega (arith, some, times-append k rest (node ∷ []))) in
       (spares base one.0 here others, done.lacks base one.0 here others);
-    copies = copies_trans h s t settled.copies done.copies;
-    kept = (kept.0 ∙ settled.kept.0, kept.1 ∙ settled.kept.1);
-    there = done.there;
-    once = done.once;
-    over = λ k. omega (arith, settled.kept.0,
-      done.over (λ j. omega (arith, settled.over j, settled.kept.0, owing-append j (map_of s) rest (node ∷ []))) k);
-  }
+  copies = copies_trans h s t settled.copies done.copies;
+  kept = (kept.0 ∙ settled.kept.0, kept.1 ∙ settled.kept.1);
+  there = done.there;
+  once = done.once;
+  over = λ k. omega (
+    arith,
+    settled.kept.0,
+    done.over (λ j. omega (arith, settled.over j, settled.kept.0, owing-append j (map_of s) rest (node ∷ []))) k,
+  );
+}
 
 pub settled_less : (s t : Heap) (node : ℕ) (rest after : List ℕ) → SettlesNode s.cap s t node rest after → loads (map_of t) after < loads (map_of s) (rest ++ node ∷ [])
 settled_less s t node rest after done = omega (arith, done.less, loads-append (map_of s) rest (node ∷ []))
@@ -624,9 +670,9 @@ settled_builds a b c form parts made fits places counts within same_cap builds s
       counts = λ others k. settles.counts (Key made ∷ others) (builds.counts others k);
       keeps = λ q d means. settles.keeps q d (builds.keeps q d means);
       node = λ ds mean.
-        let same = data_unique (map_of a) fits.0 ds parts fits.1 mean in
-        let split = subst (IsSplit fits.2 form) same fits.3 in
-        node_from_means (map_of c) fits.2 (Key made) form ds split
+          let same = data_unique (map_of a) fits.0 ds parts fits.1 mean in
+          let split = subst (IsSplit fits.2 form) same fits.3 in
+          node_from_means (map_of c) fits.2 (Key made) form ds split
           (settles.keeps (Key made) fits.2 (means_from_node (map_of b) fits.2 (Key made) form ds split (builds.node ds mean)));
       stays = spares (map_of a) builds.stays builds.vacant;
       more = λ k. omega (arith, builds.more k, settles.high k, within k, same_cap);
@@ -635,30 +681,34 @@ settled_builds a b c form parts made fits places counts within same_cap builds s
 
 pub joined_over : (h n : Heap) (made : ℕ) (form : Form) (parts : List Part) (cap : ℕ) → Joins h n made form parts → 1 ≤ cap → ((k : ℕ) → count_at h k ≤ cap) → (k : ℕ) → count_at n k ≤ cap + slot_holds k (at (map_of n) made)
 joined_over h n made form parts cap joins some within k = elim (cases_eq k made) [
-    | inl same ↦ omega (arith, ap (count_at n) same, joins.count)
-    | inr differ ↦ omega (arith, joins.counts k differ, within k, ap (slot_holds k) joins.is)
-  ]
+  | inl same ↦ omega (arith, ap (count_at n) same, joins.count)
+  | inr differ ↦ omega (arith, joins.counts k differ, within k, ap (slot_holds k) joins.is)
+]
 
 -- what a slot holds is there
 pub slot_key_there : (h : Heap) (places : List Part) (node place key : ℕ) → Counts h places → IsNodeSlot (map_of h) node place → part_of (at (map_of h) node) place ≡ Key key → ContainsKey h.nodes key
 slot_key_there h places node place key counts there is =
     let found : get_or there.body.parts place Null ≡ Key key = sym (ap (λ (o : Option Body). part_of o place) there.was) ∙ is in
-    contains_from_at h key (count_there h key (omega (arith, counts.counted key, inner_part (map_of h) node key there.body there.was
-      (omega (arith, holds-get_or key there.body.parts place, ap (holds key) found, holds_one key)))))
+    contains_from_at h key (count_there h key (omega (
+      arith,
+      counts.counted key,
+      inner_part (map_of h) node key there.body there.was
+          (omega (arith, holds-get_or key there.body.parts place, ap (holds key) found, holds_one key)),
+    )))
 
 -- where a node could not be settled, a map that lacks the first stays
 pub settled_fails : (h s t : Heap) (first node : ℕ) (rest : List ℕ) → Settled h s first (rest ++ node ∷ []) → Spares s t node rest → (base : Map) → More base (map_of h) → at base first ≡ None → More base (map_of t)
 settled_fails h s t first node rest settled spares base more none =
     let one = settled.spares base more none in
     spares base one.0 (one.1 node (omega (arith, times-append node rest (node ∷ []), times_one node)))
-      (λ k some. one.1 k (omega (arith, some, times-append k rest (node ∷ []))))
+    (λ k some. one.1 k (omega (arith, some, times-append k rest (node ∷ []))))
 
 -- the next slot is there
 pub looked_slot : (h s : Heap) (node place many : ℕ) (before todo : List ℕ) → Looked h s node place many before todo → place < many → IsNodeSlot (map_of s) node place
 looked_slot h s node place many before todo looked below = elim (some_or_none (at (map_of s) node)) [
-    | inl found ↦ record { body = found.0; was = found.1; within = omega (arith, below, looked.long, ap length (ap parts_in found.1)) }
-    | inr none ↦ absurd (not_there (at (map_of s) node) none looked.here)
-  ]
+  | inl found ↦ record { body = found.0; was = found.1; within = omega (arith, below, looked.long, ap length (ap parts_in found.1)) }
+  | inr none ↦ absurd (not_there (at (map_of s) node) none looked.here)
+]
 
 -- where a part could not be settled, a map that lacks the node and those to do stays
 pub looked_fails : (h s t : Heap) (node place many : ℕ) (before todo : List ℕ) → Looked h s node place many before todo → ((base : Map) → More base (map_of s) → at base node ≡ None → More base (map_of t)) → Spares h t node before

@@ -1,5 +1,5 @@
 -- How one call inside changes the nodes of a heap.
-use Rattle.std.specs.Prelude.{◌≡◌, ◌≢◌, ◌⊎◌, ℕ, ◌+◌, ◌≤◌, ◌<◌, List, [], ◌∷◌, ◌++◌, length, Option, Some, None, slice_set, ⊤}
+use Rattle.std.specs.Prelude.{◌≡◌, ◌≢◌, ◌⊎◌, ℕ, ◌+◌, ◌≤◌, ◌<◌, List, [], ◌∷◌, ◌++◌, length, Option, Some, None, slice_set}
 use Rattle.slab.specs.Slab.{get, ContainsKey, Updates}
 use Rattle.wy_value.specs.Datum.{Datum, Data}
 use Rattle.wy_heap.specs.declared.part.Part.{Part}
@@ -7,7 +7,7 @@ use Rattle.wy_heap.specs.declared.part.Part.TheVariants.{Key}
 use Rattle.wy_heap.specs.declared.node.Node.{Node}
 use Rattle.wy_heap.specs.declared.node.Shape.{Shape}
 use Rattle.wy_heap.specs.declared.heap.Heap.{Heap}
-use Rattle.wy_heap.specs.Nodes.{Form, form_of, Body, Map, at, map_of, count_at, held, inner}
+use Rattle.wy_heap.specs.Nodes.{Form, Body, Map, at, map_of, count_at, held, inner}
 use Rattle.wy_heap.specs.Meaning.{Means, MeanAll, IsNode, IsSplit}
 use Rattle.wy_heap.specs.Standing.{Counts, Keeps}
 use Rattle.wy_heap.specs.Slots.{Step, put}

@@ -63,8 +63,8 @@ pub record CopiesFrom (old : Heap) (new : Map) (whole : Part) (path : List Step)
 abbrev pub PutAlong : Heap → Map → Part → List Step → Part → ℕ → Part → Type 0
 PutAlong h n whole [] part copies made = (made ≡ part) × (copies ≡ 0)
 PutAlong h n whole (s ∷ path) part copies made =
-  WritesIn h n whole s made (PutAlong h n (part_at (map_of h) whole s) path part copies)
-  ⊎ CopiesFrom h n whole (s ∷ path) part made copies
+    WritesIn h n whole s made (PutAlong h n (part_at (map_of h) whole s) path part copies)
+    ⊎ CopiesFrom h n whole (s ∷ path) part made copies
 
 -- the key's node is on the path, before the first with a second holder
 abbrev pub IsInPlace : Heap → ℕ → Part → List Step → Type 0
@@ -97,8 +97,8 @@ RoomForCopies h whole path = (k : ℕ) → 1 ≤ copied_holds k (map_of h) whole
 abbrev pub RoomAlong : Heap → Part → List Step → Type 0
 RoomAlong h whole [] = ⊤
 RoomAlong h whole (s ∷ path) =
-  (IsSole h whole → RoomAlong h (part_at (map_of h) whole s) path)
-  × ((IsSole h whole → ⊥) → RoomForCopies h whole (s ∷ path))
+    (IsSole h whole → RoomAlong h (part_at (map_of h) whole s) path)
+    × ((IsSole h whole → ⊥) → RoomForCopies h whole (s ∷ path))
 
 -- each node on the path was copied, and as many were counted
 pub record CopiesAlong (old new : Heap) (whole : Part) (path : List Step) (part made : Part) : Type 0 where

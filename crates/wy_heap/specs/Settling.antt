@@ -1,10 +1,10 @@
 -- How copies come in place of nodes with more holders than the cap allows.
-use Rattle.std.specs.Prelude.{◌≡◌, ◌≢◌, ℕ, ◌+◌, ◌-◌, ◌^◌, ◌≤◌, ◌<◌, ◌⊎◌, min, zero, suc, List, [], ◌∷◌, ◌++◌, Option, Some, None, IsSome, length, slice_set, slice_index_or}
+use Rattle.std.specs.Prelude.{◌≡◌, ◌≢◌, ℕ, ◌+◌, ◌≤◌, ◌<◌, ◌⊎◌, min, List, [], ◌∷◌, ◌++◌, Some, None, IsSome, length, slice_set, slice_index_or}
 use Rattle.wy_value.specs.Datum.{Datum}
 use Rattle.wy_heap.specs.declared.part.Part.{Part}
 use Rattle.wy_heap.specs.declared.part.Part.TheVariants.{Null, Key}
 use Rattle.wy_heap.specs.declared.heap.Heap.{Heap}
-use Rattle.wy_heap.specs.Nodes.{Body, Map, map_of, at, count_at, holds, held, slot_holds, inner, size, parts_in}
+use Rattle.wy_heap.specs.Nodes.{Body, Map, map_of, at, count_at, holds, held, slot_holds, inner}
 use Rattle.wy_heap.specs.Meaning.{Means}
 use Rattle.wy_heap.specs.Standing.{Counts}
 use Rattle.wy_heap.specs.Slots.{part_of}

@@ -71,9 +71,7 @@ impl Heap {
         ensures no_memory { OnErr result (IsAsBefore self.old self.new) }
         ensures kept { SameTable self.old self.new }
     {
-        let Part::Key(key) = part else {
-            unreachable!()
-        };
+        let Part::Key(key) = part else { unreachable!() };
         let before = self.copies;
         match self.copy_node(key) {
             Ok(made) => Ok(Part::Key(made)),

@@ -20,6 +20,8 @@ mod setting;
 mod settling;
 mod showing;
 mod slots;
+#[cfg(test)]
+mod tests;
 
 pub use heap::{Heap, NoMemory};
 pub use laws::{nothing_dead, nothing_left};

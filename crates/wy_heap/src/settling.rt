@@ -57,7 +57,12 @@ impl Heap {
     }
 
     // where the part in a slot has more holders than the cap allows, a copy comes into the slot
-    fn settle_place(&mut self, node: usize, place: usize, todo: &mut Vec<usize>) -> Result<(), AllocError>
+    fn settle_place(
+        &mut self,
+        node: usize,
+        place: usize,
+        todo: &mut Vec<usize>,
+    ) -> Result<(), AllocError>
         requires held { (places : List Part) × Counts self.old places }
         requires some { 1 ≤ self.old.cap }
         requires there { IsNodeSlot (map_of self.old) node place }

@@ -1,13 +1,10 @@
-use Rattle.std.proofs.Common.{◌≡◌, ◌≤◌, ◌-◌, ◌∷◌, [], ℕ, List, length, take, drop, refl, sym, subst, ap, ◌∙◌, arith, rules}
+use Rattle.std.proofs.Common.{◌-◌, ◌∷◌, [], List, length, take, drop, refl, sym, subst, arith, rules}
 use Rattle.wy_value.specs.declared.shapes.Shapes.{Shapes}
 use Rattle.wy_value.specs.Shapes.{IsShapes}
-use Rattle.wy_heap.specs.declared.part.Part.{Part}
 use Rattle.wy_heap.specs.declared.part.Part.TheVariants.{Key}
-use Rattle.wy_heap.specs.declared.heap.Heap.{Heap}
 use Rattle.wy_heap.specs.Slots.{Step, part_of, steps_of, child, HasPath}
-use Rattle.wy_heap.specs.Nodes.{map_of, at, count_at, count_of}
+use Rattle.wy_heap.specs.Nodes.{map_of, at}
 use Rattle.wy_heap.specs.Changing.{Wrote}
-use Rattle.wy_heap.specs.Putting.{Sole}
 use Rattle.wy_heap.specs.Putting.{CopiesAlong, RoomForCopies}
 use Rattle.wy_heap.proofs.LeadLemmas.{counts_same}
 use Rattle.wy_heap.proofs.PutLevelLemmas.{copied_only, copied_exact}

@@ -1,16 +1,13 @@
-use Rattle.std.proofs.Common.{◌≡◌, ◌≤◌, ◌-◌, ◌∷◌, [], ℕ, List, length, take, drop, refl, sym, subst, ap, ◌∙◌, arith, rules}
+use Rattle.std.proofs.Common.{◌≡◌, ◌-◌, ◌∷◌, [], List, length, take, drop, refl, sym, subst, ap, ◌∙◌, arith, rules}
 use Rattle.wy_value.specs.declared.shapes.Shapes.{Shapes}
 use Rattle.wy_value.specs.Shapes.{IsShapes}
-use Rattle.wy_heap.specs.declared.part.Part.{Part}
 use Rattle.wy_heap.specs.declared.part.Part.TheVariants.{Key}
-use Rattle.wy_heap.specs.declared.heap.Heap.{Heap}
 use Rattle.wy_heap.specs.Slots.{Step, part_of, steps_of, child, HasPath}
 use Rattle.wy_heap.specs.Nodes.{map_of, at, count_at, count_of}
 use Rattle.wy_heap.specs.Changing.{Wrote}
 use Rattle.wy_heap.specs.Putting.{Sole, CountsCopies, Puts, RoomAlong}
 use Rattle.wy_heap.proofs.PathLemmas.{path_split, path_nil, first_of, rest_of, level_at, level_node, level_slot, level_there, end_wrote}
 use Rattle.wy_heap.proofs.PlaceLemmas.{place_hole, place_inside, place_wrote, place_refused, refused_slot, sole_inside}
-use Rattle.wy_heap.proofs.ChangeLemmas.{count_there}
 use Rattle.wy_heap.proofs.PutLevelLemmas.{end_puts, place_room, place_puts, place_counts}
 use Rattle.wy_heap.proofs.heap.Heap.+written.Goals as goal
 

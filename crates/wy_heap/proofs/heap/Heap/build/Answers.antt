@@ -1,6 +1,6 @@
-use Rattle.std.proofs.Common.{◌≡◌, ◌≤◌, ◌∷◌, ℕ, arith}
+use Rattle.std.proofs.Common.{◌∷◌, arith}
 use Rattle.wy_heap.specs.declared.part.Part.TheVariants.{Key}
-use Rattle.wy_heap.specs.Nodes.{form_of, count_at}
+use Rattle.wy_heap.specs.Nodes.{form_of}
 use Rattle.wy_heap.proofs.WriteLemmas.{joined_builds}
 use Rattle.wy_heap.proofs.SettleLemmas.{settled_builds, joined_copies, settled_copies, unsettled}
 use Rattle.wy_heap.proofs.heap.Heap.build.Goals as goal
@@ -36,15 +36,15 @@ returns-in-Ok-clause-builds c =
     let n = c.join.new.self in
     let builds = joined_builds h n c.in_ok-made.made (form_of h.shapes c.args.shape) c.args.parts.items c.in_ok-made.ensures.joins c.requires.there c.requires.fits in
     settled_builds h n c.settle.new.self (form_of h.shapes c.args.shape) c.args.parts.items c.in_ok-made.made c.requires.fits c.requires.held.0 c.requires.held.1 c.requires.within
-      c.join.ensures.rest.cap builds c.settle.ensures.settles c.settle.ensures.spares
+    c.join.ensures.rest.cap builds c.settle.ensures.settles c.settle.ensures.spares
 
 pub returns-in-Ok-clause-copies : goal.returns-in-Ok-clause-copies
 returns-in-Ok-clause-copies c =
     let h = c.args.self.now in
     let n = c.join.new.self in
     settled_copies h n c.settle.new.self
-      (joined_copies h n c.in_ok-made.made (form_of h.shapes c.args.shape) c.args.parts.items c.in_ok-made.ensures.joins c.join.ensures.rest.copies)
-      c.in-Ok.ensures.copies
+    (joined_copies h n c.in_ok-made.made (form_of h.shapes c.args.shape) c.args.parts.items c.in_ok-made.ensures.joins c.join.ensures.rest.copies)
+    c.in-Ok.ensures.copies
 
 pub returns-in-Err-clause-no_memory : goal.returns-in-Err-clause-no_memory
 returns-in-Err-clause-no_memory c =
@@ -52,7 +52,7 @@ returns-in-Err-clause-no_memory c =
     let n = c.join.new.self in
     let builds = joined_builds h n c.in_ok-made.made (form_of h.shapes c.args.shape) c.args.parts.items c.in_ok-made.ensures.joins c.requires.there c.requires.fits in
     unsettled h n c.settle.new.self c.free.new.self (form_of h.shapes c.args.shape) c.args.parts.items c.in_ok-made.made c.requires.held.0 builds c.requires.held.1
-      c.settle.ensures.settles c.settle.ensures.spares c.free.ensures.leads c.free.ensures.upheld
+    c.settle.ensures.settles c.settle.ensures.spares c.free.ensures.leads c.free.ensures.upheld
 
 pub returns-in-Err-clause-within : goal.returns-in-Err-clause-within
 returns-in-Err-clause-within c k =
@@ -60,5 +60,5 @@ returns-in-Err-clause-within c k =
     let n = c.join.new.self in
     let builds = joined_builds h n c.in_ok-made.made (form_of h.shapes c.args.shape) c.args.parts.items c.in_ok-made.ensures.joins c.requires.there c.requires.fits in
     let same = unsettled h n c.settle.new.self c.free.new.self (form_of h.shapes c.args.shape) c.args.parts.items c.in_ok-made.made c.requires.held.0 builds c.requires.held.1
-      c.settle.ensures.settles c.settle.ensures.spares c.free.ensures.leads c.free.ensures.upheld in
+    c.settle.ensures.settles c.settle.ensures.spares c.free.ensures.leads c.free.ensures.upheld in
     omega (arith, same.counts k, c.requires.within k, c.free.ensures.rest.cap, c.settle.ensures.kept.0, c.join.ensures.rest.cap)

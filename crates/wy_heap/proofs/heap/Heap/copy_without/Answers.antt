@@ -1,7 +1,6 @@
-use Rattle.std.proofs.Common.{◌≡◌, List, set, refl, sym, subst, ◌∙◌, ap}
+use Rattle.std.proofs.Common.{List, set, refl, sym, subst, ◌∙◌, ap}
 use Rattle.wy_heap.specs.declared.part.Part.{Part}
 use Rattle.wy_heap.specs.declared.part.Part.TheVariants.{Null}
-use Rattle.wy_heap.specs.declared.heap.Heap.{Heap}
 use Rattle.wy_heap.specs.Nodes.{Form, map_of, at, form_of, form_in, parts_in}
 use Rattle.wy_heap.specs.Changing.{HasRoom, JoinsAlone, AreThere, Fits, Builds}
 use Rattle.wy_heap.proofs.SlotLemmas.{body-node}

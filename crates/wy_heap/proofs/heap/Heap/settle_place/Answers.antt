@@ -1,5 +1,4 @@
-use Rattle.std.proofs.Common.{◌≡◌, List, ◌∙◌, sym, ap}
-use Rattle.wy_heap.specs.declared.part.Part.TheVariants.{Key}
+use Rattle.std.proofs.Common.{◌∙◌, sym}
 use Rattle.wy_heap.proofs.SettleLemmas.{settles_same, splits_spares, slot_key_there}
 use Rattle.wy_heap.proofs.heap.Heap.settle_place.Goals as goal
 

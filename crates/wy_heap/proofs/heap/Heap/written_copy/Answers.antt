@@ -1,4 +1,4 @@
-use Rattle.std.proofs.Common.{◌≡◌, ◌∷◌, [], List, arith}
+use Rattle.std.proofs.Common.{◌∷◌, arith}
 use Rattle.wy_heap.specs.Nodes.{map_of, count_at}
 use Rattle.wy_heap.specs.Slots.{steps_of}
 use Rattle.wy_heap.proofs.LeadLemmas.{reordered}
