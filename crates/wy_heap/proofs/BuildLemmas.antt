@@ -1,5 +1,5 @@
 -- What new arrays, records and copies stand for.
-use Rattle.std.proofs.Common.{◌≡◌, ◌≢◌, ◌⊎◌, inl, inr, ℕ, zero, suc, ◌+◌, ◌≤◌, ◌<◌, List, [], ◌∷◌, ◌++◌, set, get_or, length, replicate, Option, Some, None, IsSome, refl, sym, ◌∙◌, ap, subst, arith, slice_get}
+use Rattle.std.proofs.Common.{◌≡◌, inl, inr, ℕ, zero, suc, ◌≤◌, List, [], ◌∷◌, ◌++◌, set, length, replicate, Some, IsSome, refl, sym, ◌∙◌, ap, subst, arith, slice_get}
 use Rattle.std.proofs.lemmas.Bool.{cases_eq}
 use Rattle.slab.specs.Slab.{get}
 use Rattle.wy_value.specs.declared.shapes.Shapes.{Shapes}
@@ -8,21 +8,21 @@ use Rattle.wy_value.specs.Datum.{Datum, Data, no_items, item, Fields, no_fields,
 use Rattle.wy_value.specs.Datum as datum
 use Rattle.wy_value.specs.Values.{names_of, length_of}
 use Rattle.wy_heap.specs.declared.part.Part.{Part}
-use Rattle.wy_heap.specs.declared.part.Part.TheVariants.{Null, Bool, Int, Key}
+use Rattle.wy_heap.specs.declared.part.Part.TheVariants.{Null, Key}
 use Rattle.wy_heap.specs.declared.node.Shape.TheVariants as shape
 use Rattle.wy_heap.specs.declared.node.Node.{Node}
 use Rattle.wy_heap.specs.declared.heap.Heap.{Heap}
-use Rattle.wy_heap.specs.Nodes.{Form, list_form, record_form, record_of, form_of, Body, map_of, at, holds, held, inner, count_at, parts_in}
+use Rattle.wy_heap.specs.Nodes.{Form, list_form, record_form, record_of, form_of, map_of, holds, held, count_at}
 use Rattle.wy_heap.specs.Meaning.{data_in, Means, MeanAll, IsNode, IsSplit}
 use Rattle.wy_heap.specs.Standing.{Counts, IsWithin, Stands, Acts, SameTable}
 use Rattle.wy_heap.specs.Slots.{put_nth, joined}
 use Rattle.wy_heap.specs.Making.{repeated, HasShape}
 use Rattle.wy_heap.specs.Changing.{SameRest, Leads, AreThere, Fits, Builds}
-use Rattle.wy_heap.proofs.CountLemmas.{held-append, holds_one}
+use Rattle.wy_heap.proofs.CountLemmas.{held-append}
 use Rattle.wy_heap.proofs.ChangeLemmas.{contains_from_at, count_there}
 use Rattle.wy_heap.proofs.MeaningLemmas.{mean_all-length, means_from_node}
 use Rattle.wy_heap.proofs.LeadLemmas.{reordered, parts_meant, held_meant, among_meant, among_first, acts_from, within_same}
-use Rattle.wy_heap.proofs.SlotLemmas.{Held_node, held_node, node_form, node_parts, body-node}
+use Rattle.wy_heap.proofs.SlotLemmas.{held_node, node_form, node_parts, body-node}
 use Rattle.wy_heap.proofs.WriteLemmas.{mean_all-set, put_at, split-put_at}
 
 -- ---- copies
@@ -49,6 +49,7 @@ recopied h n made form parts copies builds = record {
   keeps = builds.keeps;
   node = builds.node;
   stays = builds.stays;
+  more = builds.more;
   fresh = builds.fresh;
 }
 

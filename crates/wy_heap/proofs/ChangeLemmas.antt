@@ -1,10 +1,8 @@
 -- What the map and the counts are after a change at one key.
-use Rattle.std.proofs.Common.{◌≡◌, ◌≢◌, ◌⊎◌, ℕ, zero, suc, ◌+◌, ◌≤◌, ◌<◌, List, [], ◌∷◌, map, length, get_or, set, Option, Some, None, IsSome, refl, sym, ◌∙◌, ap, subst, arith, inl, inr, count_by, is_some, cond}
-use Rattle.std.proofs.lemmas.Bool.{cases_eq}
+use Rattle.std.proofs.Common.{◌≡◌, ◌≢◌, ◌⊎◌, ℕ, zero, suc, ◌≤◌, ◌<◌, List, [], ◌∷◌, map, get_or, set, Option, Some, None, IsSome, refl, sym, ◌∙◌, ap, subst, arith, inl, inr, count_by, is_some, cond}
 use Rattle.std.proofs.lemmas.List.{map-set, set-get_or}
 use Rattle.std.proofs.lemmas.List.Sums.{sum_by-cons}
-use Rattle.slab.specs.Slab.{Slab, get, slab_len, ContainsKey, Updates, with_value}
-use Rattle.slab.proofs.SlabLemmas.{Updates-with_value}
+use Rattle.slab.specs.Slab.{get, slab_len, ContainsKey, with_value}
 use Rattle.wy_value.specs.declared.shapes.Shapes.{Shapes}
 use Rattle.wy_heap.specs.declared.part.Part.{Part}
 use Rattle.wy_heap.specs.declared.part.Part.TheVariants.{Null, Bool, Int, Key}
@@ -12,7 +10,7 @@ use Rattle.wy_heap.specs.declared.node.Node.{Node}
 use Rattle.wy_heap.specs.declared.heap.Heap.{Heap}
 use Rattle.wy_heap.specs.Nodes.{Body, Map, body_of, map_of, at, count_of, count_at, size}
 use Rattle.wy_heap.specs.Parts.{IsThere, IsBelow}
-use Rattle.wy_heap.specs.Changing.{Changes, SameNodes}
+use Rattle.wy_heap.specs.Changing.{Changes}
 
 get_or-map_to : {X Y : Type 0} (f : X → Y) (xs : List X) (i : ℕ) (d : X) → get_or (map f xs) i (f d) ≡ f (get_or xs i d)
 get_or-map_to f [] i d = refl

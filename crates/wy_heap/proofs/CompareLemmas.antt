@@ -1,6 +1,6 @@
 -- What the pairs of a comparison tell.
-use Rattle.std.proofs.Common.{◌≡◌, ◌≢◌, ◌⊎◌, inl, inr, ℕ, zero, suc, ◌+◌, ◌*◌, ◌-◌, ◌≤◌, ◌<◌, true, false, List, [], ◌∷◌, ◌++◌, get_or, drop, length, Option, Some, None, refl, sym, ◌∙◌, ap, subst, arith, append-nil, append_assoc, slice_get, add-one}
-use Rattle.std.proofs.lemmas.Bool.{cases_eq, cases_lt}
+use Rattle.std.proofs.Common.{◌≡◌, ◌≢◌, inl, inr, ℕ, zero, suc, ◌+◌, ◌*◌, ◌≤◌, ◌<◌, true, false, List, [], ◌∷◌, ◌++◌, get_or, drop, length, Option, Some, None, refl, sym, ◌∙◌, ap, subst, arith, append-nil, append_assoc, slice_get}
+use Rattle.std.proofs.lemmas.Bool.{cases_eq}
 use Rattle.std.proofs.lemmas.Option.{slice_get_within, get_or_from_slice_get}
 use Rattle.std.specs.Prelude.{Bool as Boolean}
 use Rattle.slab.specs.Slab.{get}
@@ -10,7 +10,7 @@ use Rattle.wy_value.specs.Datum.{Datum, Data, no_items, item, Fields, no_fields,
 use Rattle.wy_value.specs.Datum as datum
 use Rattle.wy_value.specs.Values.{names_of, length_of}
 use Rattle.wy_heap.specs.declared.part.Part.{Part}
-use Rattle.wy_heap.specs.declared.part.Part.TheVariants.{Null, Bool, Int, Key}
+use Rattle.wy_heap.specs.declared.part.Part.TheVariants.{Null, Key}
 use Rattle.wy_heap.specs.declared.node.Shape.{Shape}
 use Rattle.wy_heap.specs.declared.node.Shape.TheVariants as shape
 use Rattle.wy_heap.specs.declared.node.Node.{Node}
@@ -19,11 +19,11 @@ use Rattle.wy_heap.specs.Nodes.{Form, list_form, record_form, no_form, record_of
 use Rattle.wy_heap.specs.Meaning.{data_in, Means, MeanAll, IsSplit, IsMeant}
 use Rattle.wy_heap.specs.Slots.{nth, part_of}
 use Rattle.wy_heap.specs.Weighing.{total, weight}
-use Rattle.wy_heap.specs.Comparing.{Same, Differ, Tells, Pair, IsPair, SameFrom, ArePairs, AreSame, pair_work, pair_works, Leaves, Compares}
+use Rattle.wy_heap.specs.Comparing.{Same, Pair, IsPair, SameFrom, ArePairs, AreSame, pair_work, pair_works, Leaves, Compares}
 use Rattle.wy_heap.specs.Changing.{IsNodeSlot}
 use Rattle.wy_heap.proofs.MeaningLemmas.{means_unique, mean_all-length, mean_all-nth}
 use Rattle.wy_heap.proofs.SlotLemmas.{Held_node, held_node, node_form, node_parts, body-node, split_known, apart_same, record_known}
-use Rattle.wy_heap.proofs.WeighLemmas.{tree, trees, tree_some, tree-split, weight-tree, total-trees}
+use Rattle.wy_heap.proofs.WeighLemmas.{tree_some, tree-split, weight-tree, total-trees}
 
 -- ---- lists of pairs
 

@@ -1,17 +1,17 @@
 -- How a step of a release keeps the counts and the list of dead nodes.
-use Rattle.std.proofs.Common.{◌≡◌, ◌≢◌, ◌⊎◌, inl, inr, ℕ, zero, suc, ◌+◌, ◌-◌, ◌==◌, ◌≤◌, ◌<◌, List, [], ◌∷◌, ◌++◌, map, set, Option, Some, None, IsSome, cond, refl, sym, ◌∙◌, ap, subst, arith}
+use Rattle.std.proofs.Common.{◌≡◌, ◌≢◌, inl, inr, ℕ, suc, ◌+◌, ◌-◌, ◌≤◌, List, [], ◌∷◌, ◌++◌, map, set, Option, Some, None, IsSome, refl, sym, ◌∙◌, ap, subst, arith}
 use Rattle.std.proofs.lemmas.Bool.{cases_eq}
 use Rattle.std.proofs.lemmas.List.{map-set}
-use Rattle.slab.specs.Slab.{get, ContainsKey, Updates, with_value}
+use Rattle.slab.specs.Slab.{get, ContainsKey, with_value}
 use Rattle.slab.proofs.SlabLemmas.{Updates-with_value}
 use Rattle.wy_heap.specs.declared.part.Part.{Part}
 use Rattle.wy_heap.specs.declared.part.Part.TheVariants.{Key}
 use Rattle.wy_heap.specs.declared.node.Node.{Node}
 use Rattle.wy_heap.specs.declared.heap.Heap.{Heap}
-use Rattle.wy_heap.specs.Nodes.{Body, Map, body_of, map_of, at, holds, held, slot_holds, inner, count_of, count_at, size}
-use Rattle.wy_heap.specs.Freeing.{times, Waits, Chain, IsFreeing, Frees}
+use Rattle.wy_heap.specs.Nodes.{Map, body_of, map_of, at, held, slot_holds, inner, count_of, count_at, size}
+use Rattle.wy_heap.specs.Freeing.{times, Chain, IsFreeing, Frees}
 use Rattle.wy_heap.specs.Changing.{Changes, Lasts, More, Upholds}
-use Rattle.wy_heap.proofs.CountLemmas.{held-append, holds_one, holds_other, inner_updated, slot-le-inner, size-set}
+use Rattle.wy_heap.proofs.CountLemmas.{held-append, holds_one, holds_other, inner_updated, size-set}
 use Rattle.wy_heap.proofs.ChangeLemmas.{at-map_of, at_changed, at_others, count_changed, count_others, map_of-recounted, not_there}
 
 times_one : (k : ℕ) (js : List ℕ) → times k (k ∷ js) ≡ 1 + times k js

@@ -1,6 +1,5 @@
 -- What the calls inside keep.
-use Rattle.std.proofs.Common.{◌≡◌, ◌≢◌, ◌⊎◌, inl, inr, ℕ, zero, suc, ◌+◌, ◌-◌, ◌≤◌, ◌<◌, List, [], ◌∷◌, ◌++◌, map, Option, Some, None, IsSome, refl, sym, ◌∙◌, ap, subst, arith, get_or}
-use Rattle.std.proofs.lemmas.Bool.{cases_eq}
+use Rattle.std.proofs.Common.{◌≡◌, inl, inr, ℕ, ◌+◌, ◌≤◌, List, [], ◌∷◌, Option, Some, None, IsSome, refl, sym, ◌∙◌, ap, subst, arith, get_or}
 use Rattle.slab.specs.Slab.{get}
 use Rattle.wy_value.specs.Datum.{Datum, Data, no_items, item}
 use Rattle.wy_value.specs.Datum as datum
@@ -10,12 +9,12 @@ use Rattle.wy_heap.specs.declared.part.Part.{Part}
 use Rattle.wy_heap.specs.declared.part.Part.TheVariants.{Null, Bool, Int, Key}
 use Rattle.wy_heap.specs.declared.node.Node.{Node}
 use Rattle.wy_heap.specs.declared.heap.Heap.{Heap}
-use Rattle.wy_heap.specs.Nodes.{Form, Body, Map, body_of, map_of, at, holds, held, slot_holds, inner, count_of, count_at}
-use Rattle.wy_heap.specs.Meaning.{Means, MeanAll, IsNode, IsMeant}
-use Rattle.wy_heap.specs.Standing.{IsCounted, Counts, IsWithin, Stands, Among, Keeps, Acts, SameTable, IsAsBefore}
-use Rattle.wy_heap.specs.Freeing.{Chain, IsFreeing, Frees}
-use Rattle.wy_heap.specs.Changing.{Leads, SameNodes, SameRest, Lasts}
-use Rattle.wy_heap.proofs.CountLemmas.{held-append, holds_one, holds_is, inner_part, inner_same}
+use Rattle.wy_heap.specs.Nodes.{Body, Map, body_of, map_of, at, holds, held, inner, count_of, count_at}
+use Rattle.wy_heap.specs.Meaning.{Means, MeanAll, IsMeant}
+use Rattle.wy_heap.specs.Standing.{IsCounted, Counts, IsWithin, Stands, Among, Acts}
+use Rattle.wy_heap.specs.Freeing.{IsFreeing, Frees}
+use Rattle.wy_heap.specs.Changing.{Leads, SameNodes, Lasts}
+use Rattle.wy_heap.proofs.CountLemmas.{holds_one, inner_part, inner_same}
 use Rattle.wy_heap.proofs.ChangeLemmas.{at-map_of, count_there, not_there}
 use Rattle.wy_heap.proofs.MeaningLemmas.{Each, IsClosed, means_kept, each_held}
 

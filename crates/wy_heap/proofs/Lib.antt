@@ -12,3 +12,8 @@ pub mod PathLemmas
 pub mod PlaceLemmas
 pub mod CompareLemmas
 pub mod ShowLemmas
+pub mod SettleLemmas
+pub mod PutLemmas
+pub mod PutLevelLemmas
+pub mod LawLemmas
+pub mod RowLemmas

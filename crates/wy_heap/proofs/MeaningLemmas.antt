@@ -1,12 +1,12 @@
 -- When a datum stays what a part stands for, and that there is one.
-use Rattle.std.proofs.Common.{◌≡◌, ◌≢◌, ℕ, zero, suc, ◌+◌, ◌≤◌, ◌<◌, length, get_or, List, [], ◌∷◌, Option, Some, None, IsSome, refl, sym, ◌∙◌, ap, subst, arith}
+use Rattle.std.proofs.Common.{◌≡◌, ℕ, zero, suc, ◌≤◌, ◌<◌, length, get_or, List, [], ◌∷◌, Option, Some, None, refl, sym, ◌∙◌, ap, subst, arith}
 use Rattle.wy_value.specs.Datum.{Datum, Data, no_items, item, Fields, no_fields, field}
 use Rattle.wy_value.specs.Datum as datum
 use Rattle.wy_value.specs.Values.{names_of, length_of}
 use Rattle.wy_heap.specs.declared.part.Part.{Part}
-use Rattle.wy_heap.specs.declared.part.Part.TheVariants.{Null, Bool, Int, Key}
+use Rattle.wy_heap.specs.declared.part.Part.TheVariants.{Null, Key}
 use Rattle.wy_heap.specs.Nodes.{Form, list_form, record_form, no_form, Body, Map, at, holds, held, parts_in}
-use Rattle.wy_heap.specs.Meaning.{data_in, IsMade, Means, MeanAll, MeanFields, IsMeant, IsNode, IsSplit}
+use Rattle.wy_heap.specs.Meaning.{data_in, Means, MeanAll, MeanFields, IsNode, IsSplit}
 use Rattle.wy_heap.specs.Slots.{nth}
 use Rattle.wy_heap.proofs.CountLemmas.{holds_one}
 

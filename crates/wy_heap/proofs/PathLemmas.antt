@@ -1,6 +1,5 @@
 -- A write at a path by copies, a level at a time.
-use Rattle.std.proofs.Common.{◌≡◌, ◌≢◌, ◌⊎◌, inl, inr, ℕ, zero, suc, ◌+◌, ◌-◌, ◌≤◌, ◌<◌, List, [], ◌∷◌, ◌++◌, set, get_or, take, drop, length, Option, Some, None, IsSome, refl, sym, ◌∙◌, ap, subst, arith}
-use Rattle.std.proofs.lemmas.Bool.{cases_eq}
+use Rattle.std.proofs.Common.{◌≡◌, ◌≢◌, inl, inr, ℕ, zero, suc, ◌+◌, ◌-◌, ◌≤◌, ◌<◌, List, [], ◌∷◌, ◌++◌, set, get_or, take, drop, length, Option, Some, IsSome, refl, sym, ◌∙◌, ap, subst, arith}
 use Rattle.std.proofs.lemmas.List.{take_all}
 use Rattle.wy_value.specs.declared.shapes.Shapes.{Shapes}
 use Rattle.wy_value.specs.Datum.{Datum, Data, no_items, item}
@@ -15,13 +14,13 @@ use Rattle.wy_heap.specs.Nodes.{Form, Body, Map, map_of, at, holds, held, slot_h
 use Rattle.wy_heap.specs.Meaning.{Means, MeanAll, IsNode, IsSplit}
 use Rattle.wy_heap.specs.Standing.{Counts, Among, Keeps}
 use Rattle.wy_heap.specs.Slots.{Step, step_of, steps_of, HasStep, HasPath, IsPath, child, put_step, put, nth, put_nth, place_in, part_of}
-use Rattle.wy_heap.specs.Changing.{SameNodes, Leads, Builds, Swaps, IsNodeSlot, NoNew, Wrote, Lasts, More, Upheld}
+use Rattle.wy_heap.specs.Changing.{SameNodes, Leads, Builds, Swaps, IsNodeSlot, NoNew, Wrote, Lasts, Upheld}
 use Rattle.wy_heap.proofs.CountLemmas.{held-set, holds_one, holds_other, slot-le-inner}
-use Rattle.wy_heap.proofs.ChangeLemmas.{at_none, count_none}
+use Rattle.wy_heap.proofs.ChangeLemmas.{count_there}
 use Rattle.wy_heap.proofs.MeaningLemmas.{mean_all-length, mean_all-nth, means_unique, node_at, node_from_means, means_from_node, same_form}
-use Rattle.wy_heap.proofs.LeadLemmas.{reordered, among_first, counts_same, means_same}
+use Rattle.wy_heap.proofs.LeadLemmas.{reordered, among_first, counts_same}
 use Rattle.wy_heap.proofs.WriteLemmas.{mean_all-set, put_at, split-put_at, swap_counts, swap_among, swap_node, swap_inner}
-use Rattle.wy_heap.proofs.SlotLemmas.{Held_node, held_node, place_within, child-nth, put_step-put_at}
+use Rattle.wy_heap.proofs.SlotLemmas.{held_node, place_within, child-nth, put_step-put_at}
 use Rattle.wy_heap.proofs.ReachLemmas.{restored}
 
 -- ---- lists of data
@@ -112,6 +111,9 @@ module _ (s1 s2 : Heap) (key place : ℕ) (form : Form) (ds : Data) (whole : Dat
 
   pub level_slot : IsNodeSlot (map_of s2) key place
   level_slot = node_slot (map_of s2) key place whole form ds hole.split level_value hole.within
+
+  pub level_there : IsSome (at (map_of s2) key)
+  level_there = count_there s2 key (omega (arith, level_sole))
 
   module _ (s3 : Heap) (out : Part) (swaps : Swaps s2 s3 key place below) (is_out : out ≡ part_of (at (map_of s2) key) place) where
     level_body : (swaps.body.form ≡ form) × MeanAll (map_of s2) ds swaps.body.parts

@@ -1,5 +1,5 @@
 -- A write at a path in place, a level at a time.
-use Rattle.std.proofs.Common.{◌≡◌, ◌≢◌, ◌⊎◌, inl, inr, ℕ, zero, suc, ◌+◌, ◌-◌, ◌≤◌, ◌<◌, List, [], ◌∷◌, ◌++◌, set, get_or, length, Option, Some, None, IsSome, refl, sym, ◌∙◌, ap, subst, arith}
+use Rattle.std.proofs.Common.{◌≡◌, ◌≢◌, inl, inr, ℕ, ◌+◌, List, [], ◌∷◌, set, get_or, Option, Some, None, refl, sym, ◌∙◌, ap, subst, arith}
 use Rattle.std.proofs.lemmas.Bool.{cases_eq}
 use Rattle.std.proofs.lemmas.List.{set-set, set-get_or}
 use Rattle.wy_value.specs.Datum.{Datum, Data}
@@ -7,14 +7,15 @@ use Rattle.wy_value.specs.Datum as datum
 use Rattle.wy_heap.specs.declared.part.Part.{Part}
 use Rattle.wy_heap.specs.declared.part.Part.TheVariants.{Null, Bool, Int, Key}
 use Rattle.wy_heap.specs.declared.heap.Heap.{Heap}
-use Rattle.wy_heap.specs.Nodes.{Form, Body, Map, map_of, at, holds, held, slot_holds, inner, count_at, parts_in, form_in}
-use Rattle.wy_heap.specs.Meaning.{Means, MeanAll, IsNode, IsSplit}
-use Rattle.wy_heap.specs.Standing.{Counts, Among, Keeps}
-use Rattle.wy_heap.specs.Slots.{Step, child, put_step, put, put_nth, place_in, part_of, part_at}
-use Rattle.wy_heap.specs.Changing.{SameNodes, Leads, Swaps, IsNodeSlot, NoNew, Wrote, Sole}
+use Rattle.wy_heap.specs.Nodes.{Form, Body, map_of, at, holds, slot_holds, inner, count_at, parts_in, form_in}
+use Rattle.wy_heap.specs.Meaning.{Means, MeanAll, IsSplit}
+use Rattle.wy_heap.specs.Standing.{Counts, Keeps}
+use Rattle.wy_heap.specs.Slots.{Step, child, put, put_nth, place_in, part_of, part_at}
+use Rattle.wy_heap.specs.Changing.{SameNodes, Leads, Swaps, IsNodeSlot, NoNew, Wrote}
+use Rattle.wy_heap.specs.Putting.{Sole}
 use Rattle.wy_heap.proofs.CountLemmas.{holds_one, holds_other, holds-get_or, slot-le-inner}
 use Rattle.wy_heap.proofs.MeaningLemmas.{means_unique, means_from_node, same_form}
-use Rattle.wy_heap.proofs.LeadLemmas.{reordered, among_first}
+use Rattle.wy_heap.proofs.LeadLemmas.{reordered}
 use Rattle.wy_heap.proofs.WriteLemmas.{put_at, swap_counts, swap_among, swap_node, swap_inner}
 use Rattle.wy_heap.proofs.PathLemmas.{Hole, Level, level_inside, level_split, level_empty, level_within, level_again, node_slot, done_counts, done_keeps, done_value, done_inner}
 
@@ -124,7 +125,7 @@ refused_slot s1 s2 key place form ds d spent others hole same =
 
 -- ---- where each node on the path has one holder
 
-part_free : (key : ℕ) (o : Option Body) (i : ℕ) → slot_holds key o ≡ 0 → holds key (part_of o i) ≡ 0
+pub part_free : (key : ℕ) (o : Option Body) (i : ℕ) → slot_holds key o ≡ 0 → holds key (part_of o i) ≡ 0
 part_free key None i none = refl
 part_free key (Some b) i none = omega (arith, none, holds-get_or key b.parts i)
 

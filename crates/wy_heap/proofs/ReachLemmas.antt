@@ -1,13 +1,13 @@
 -- Each node of a heap is reached from the places, and so a heap is known by its places and old nodes.
-use Rattle.std.proofs.Common.{◌≡◌, ◌≢◌, ◌⊎◌, inl, inr, ℕ, zero, suc, ◌+◌, ◌≤◌, ◌<◌, List, [], ◌∷◌, length, get_or, Option, Some, None, IsSome, refl, sym, ◌∙◌, ap, subst, arith}
+use Rattle.std.proofs.Common.{◌≡◌, inl, inr, ℕ, zero, suc, ◌+◌, ◌≤◌, ◌<◌, List, [], ◌∷◌, length, Option, Some, None, IsSome, refl, sym, ◌∙◌, ap, subst, arith}
 use Rattle.std.proofs.lemmas.Bool.{cases_eq}
 use Rattle.wy_value.specs.Datum.{Datum, Data, no_items, item}
 use Rattle.wy_heap.specs.declared.part.Part.{Part}
 use Rattle.wy_heap.specs.declared.part.Part.TheVariants.{Key}
 use Rattle.wy_heap.specs.declared.heap.Heap.{Heap}
-use Rattle.wy_heap.specs.Nodes.{Body, Map, map_of, at, holds, held, slot_holds, inner, count_at}
+use Rattle.wy_heap.specs.Nodes.{Body, Map, map_of, at, holds, held, slot_holds, inner}
 use Rattle.wy_heap.specs.Meaning.{Means, MeanAll}
-use Rattle.wy_heap.specs.Standing.{IsCounted, Counts}
+use Rattle.wy_heap.specs.Standing.{Counts}
 use Rattle.wy_heap.specs.Weighing.{weight}
 use Rattle.wy_heap.specs.Reaching.{Reach, root, part}
 use Rattle.wy_heap.specs.Changing.{SameNodes, More}
@@ -15,7 +15,7 @@ use Rattle.wy_heap.proofs.CountLemmas.{holds_is, inner_part, inner_same}
 use Rattle.wy_heap.proofs.ChangeLemmas.{some_or_none, not_there}
 use Rattle.wy_heap.proofs.MeaningLemmas.{means_unique}
 use Rattle.wy_heap.proofs.WeighLemmas.{tree, trees, weight-tree, tree-split}
-use Rattle.wy_heap.proofs.SlotLemmas.{Held_node, held_node}
+use Rattle.wy_heap.proofs.SlotLemmas.{held_node}
 
 -- a slot that holds the key
 record Holder (m : Map) (k : ℕ) : Type 0 where
@@ -100,7 +100,7 @@ all_reached h places counts k is =
     reached h places counts (suc (bound (map_of h))) k d.0 d.1 is (omega arith)
 
 -- what the places reach in a map that has all old nodes is an old node
-reached_old : (h n : Heap) (places : List Part) → Counts h places → More (map_of h) (map_of n) → (k : ℕ) → Reach (map_of n) places k → IsSome (at (map_of h) k)
+pub reached_old : (h n : Heap) (places : List Part) → Counts h places → More (map_of h) (map_of n) → (k : ℕ) → Reach (map_of n) places k → IsSome (at (map_of h) k)
 reached_old h n places counts more k (root _ some) = counts.there k (omega (arith, counts.counted k, some))
 reached_old h n places counts more k (part j _ b reach is some) =
     let was = reached_old h n places counts more j reach in

@@ -1,27 +1,27 @@
 -- The text of a datum, a part at a time.
-use Rattle.std.proofs.Common.{◌≡◌, ◌≢◌, ◌⊎◌, inl, inr, ℕ, zero, suc, ◌+◌, ◌*◌, ◌-◌, ◌≤◌, ◌<◌, List, [], ◌∷◌, ◌++◌, get_or, drop, length, Option, Some, None, refl, sym, ◌∙◌, ap, subst, arith, append-nil, append_assoc, slice_get}
+use Rattle.std.proofs.Common.{◌≡◌, ℕ, zero, suc, ◌+◌, ◌*◌, ◌≤◌, ◌<◌, List, [], ◌∷◌, ◌++◌, get_or, length, Option, Some, None, refl, sym, ◌∙◌, ap, subst, arith, append-nil, append_assoc, slice_get}
 use Rattle.slab.specs.Slab.{get}
 use Rattle.wy_value.specs.declared.shapes.Shapes.{Shapes}
-use Rattle.wy_value.specs.Shapes.{named, IsShapes}
+use Rattle.wy_value.specs.Shapes.{named}
 use Rattle.wy_value.specs.Datum.{Datum, Data, no_items, item, Fields, no_fields, field}
 use Rattle.wy_value.specs.Datum as datum
 use Rattle.wy_value.specs.Values.{names_of, length_of}
-use Rattle.wy_value.specs.Shown.{shown, shown_items, more_items, shown_fields, more_fields}
+use Rattle.wy_value.specs.Shown.{shown, more_items, more_fields}
 use Rattle.wy_heap.specs.declared.part.Part.{Part}
-use Rattle.wy_heap.specs.declared.part.Part.TheVariants.{Null, Bool, Int, Key}
+use Rattle.wy_heap.specs.declared.part.Part.TheVariants.{Null, Key}
 use Rattle.wy_heap.specs.declared.node.Shape.{Shape}
 use Rattle.wy_heap.specs.declared.node.Shape.TheVariants as shape
 use Rattle.wy_heap.specs.declared.node.Node.{Node}
 use Rattle.wy_heap.specs.declared.heap.Heap.{Heap}
-use Rattle.wy_heap.specs.Nodes.{Form, list_form, record_form, no_form, record_of, form_of, Body, Map, map_of, at, form_in, parts_in}
-use Rattle.wy_heap.specs.Meaning.{data_in, Means, MeanAll, IsSplit, IsMeant}
+use Rattle.wy_heap.specs.Nodes.{Form, list_form, record_form, record_of, form_of, Body, Map, map_of, at, form_in, parts_in}
+use Rattle.wy_heap.specs.Meaning.{data_in, Means, IsSplit, IsMeant}
 use Rattle.wy_heap.specs.Slots.{nth, part_of}
 use Rattle.wy_heap.specs.Weighing.{total, weight}
 use Rattle.wy_heap.specs.Showing.{opening, closing, separator, lead_of, items_from, fields_from, shown_from, Rest, IsLeft, AreLeft, IsText, rest_work, rest_works, GoesOn}
 use Rattle.wy_heap.proofs.MeaningLemmas.{means_unique, mean_all-length, mean_all-nth}
-use Rattle.wy_heap.proofs.SlotLemmas.{Held_node, held_node, node_form, node_parts, body-node, split_known}
-use Rattle.wy_heap.proofs.WeighLemmas.{tree, trees, tree_some, tree-split, weight-tree, total-trees}
-use Rattle.wy_heap.proofs.CompareLemmas.{total-drop_more, numbers_in}
+use Rattle.wy_heap.proofs.SlotLemmas.{held_node, node_form, node_parts, body-node}
+use Rattle.wy_heap.proofs.WeighLemmas.{tree_some, tree-split, weight-tree, total-trees}
+use Rattle.wy_heap.proofs.CompareLemmas.{total-drop_more}
 
 -- ---- lists of what is left
 

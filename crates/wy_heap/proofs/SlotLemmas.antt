@@ -1,35 +1,31 @@
 -- Where a slot lies in a node, and what is in it.
-use Rattle.std.proofs.Common.{◌≡◌, ◌≢◌, ◌⊎◌, inl, inr, ℕ, zero, suc, ◌+◌, ◌≤◌, ◌<◌, List, [], ◌∷◌, length, get_or, Option, Some, None, IsSome, refl, sym, ◌∙◌, ap, subst, arith, true, ◌==◌, if◌then◌else◌, slice_get}
+use Rattle.std.proofs.Common.{◌≡◌, inl, inr, ℕ, suc, ◌+◌, ◌<◌, List, [], ◌∷◌, length, get_or, Option, Some, None, IsSome, refl, sym, ◌∙◌, ap, subst, arith, ◌==◌, if◌then◌else◌, slice_get}
 use Rattle.std.specs.Str.{bytes_eq}
-use Rattle.std.specs.Bool.{Decides}
-use Rattle.std.specs.List.{All}
 use Rattle.std.specs.Cmp.{unsigned_Decides}
 use Rattle.std.proofs.lemmas.Bool.{cases_eq, cases_lt}
 use Rattle.std.proofs.lemmas.Bool.Decides.{same_from_decides}
 use Rattle.std.proofs.lemmas.Slice.Eq.{bytes_eq-Decides}
 use Rattle.std.proofs.lemmas.Option.{slice_get_within, get_or_from_slice_get}
 use Rattle.slab.specs.Slab.{get}
-use Rattle.wy_value.specs.declared.shapes.Shapes.{Shapes}
 use Rattle.wy_value.specs.Shapes.{named, AreApart, IsShapes}
 use Rattle.wy_value.specs.Datum.{Datum, Data, no_items, item, Fields, no_fields, field}
 use Rattle.wy_value.specs.Datum as datum
 use Rattle.wy_value.specs.Values.{names_of, length_of}
 use Rattle.wy_heap.specs.declared.part.Part.{Part}
-use Rattle.wy_heap.specs.declared.part.Part.TheVariants.{Null, Bool, Int, Key}
-use Rattle.wy_heap.specs.declared.part.Slot.{Slot}
-use Rattle.wy_heap.specs.declared.part.Slot.TheVariants.{Item, Field}
+use Rattle.wy_heap.specs.declared.part.Part.TheVariants.{Null, Key}
+use Rattle.wy_heap.specs.declared.part.Slot.TheVariants.{Field}
 use Rattle.wy_heap.specs.declared.node.Shape.{Shape}
 use Rattle.wy_heap.specs.declared.node.Shape.TheVariants as shape
 use Rattle.wy_heap.specs.declared.node.Node.{Node}
 use Rattle.wy_heap.specs.declared.heap.Heap.{Heap}
-use Rattle.wy_heap.specs.Nodes.{Form, list_form, record_form, no_form, record_of, form_of, Body, Map, body_of, map_of, at, form_in, parts_in}
-use Rattle.wy_heap.specs.Meaning.{data_in, Means, MeanAll, IsNode, IsSplit}
-use Rattle.wy_heap.specs.Slots.{Step, item_at, field_named, no_step, field_step, step_of, position_of, nth, put_nth, put_field, HasStep, child, put_step, IsSlot, place_in, part_of, part_at}
+use Rattle.wy_heap.specs.Nodes.{Form, record_form, no_form, record_of, form_of, Body, Map, body_of, map_of, at, form_in, parts_in}
+use Rattle.wy_heap.specs.Meaning.{data_in, Means, MeanAll, IsSplit}
+use Rattle.wy_heap.specs.Slots.{Step, item_at, field_named, no_step, field_step, step_of, position_of, nth, HasStep, child, put_step, place_in, part_of, part_at}
 use Rattle.wy_heap.specs.Parts.{IsThere}
 use Rattle.wy_heap.specs.Changing.{IsNodeSlot}
 use Rattle.wy_heap.specs.Numbering.{number_position}
 use Rattle.wy_heap.proofs.ChangeLemmas.{at-map_of, contains_from_at}
-use Rattle.wy_heap.proofs.MeaningLemmas.{mean_all-length, mean_all-nth, split_of, node_from_means, node_at, means_unique}
+use Rattle.wy_heap.proofs.MeaningLemmas.{mean_all-length, mean_all-nth, split_of, node_from_means, node_at}
 use Rattle.wy_heap.proofs.WriteLemmas.{put_at}
 
 -- ---- the table

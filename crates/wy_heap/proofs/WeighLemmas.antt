@@ -1,17 +1,16 @@
 -- The weight of a part is the size of the datum that it stands for.
-use Rattle.std.proofs.Common.{◌≡◌, ◌≢◌, ◌⊎◌, inl, inr, ℕ, zero, suc, ◌+◌, ◌-◌, ◌≤◌, ◌<◌, List, [], ◌∷◌, ◌++◌, set, get_or, length, Option, Some, None, refl, sym, ◌∙◌, ap, subst, arith}
-use Rattle.std.proofs.lemmas.Bool.{cases_eq}
+use Rattle.std.proofs.Common.{◌≡◌, ◌≢◌, ℕ, zero, suc, ◌+◌, ◌≤◌, ◌<◌, List, [], ◌∷◌, set, Option, None, refl, ◌∙◌, ap, subst, arith}
 use Rattle.std.proofs.lemmas.List.{get_or-set_other}
 use Rattle.wy_value.specs.Datum.{Datum, Data, no_items, item, Fields, no_fields, field}
 use Rattle.wy_value.specs.Datum as datum
-use Rattle.wy_value.specs.Values.{names_of, length_of}
+use Rattle.wy_value.specs.Values.{length_of}
 use Rattle.wy_heap.specs.declared.part.Part.{Part}
 use Rattle.wy_heap.specs.declared.part.Part.TheVariants.{Null, Bool, Int, Key}
-use Rattle.wy_heap.specs.Nodes.{Form, Body, Map, at, holds, held, slot_holds, parts_in, size}
-use Rattle.wy_heap.specs.Meaning.{data_in, Means, MeanAll, MeanFields, IsMade, IsNode, IsSplit}
+use Rattle.wy_heap.specs.Nodes.{Form, Body, Map, parts_in, size}
+use Rattle.wy_heap.specs.Meaning.{data_in, Means, MeanAll, MeanFields, IsSplit}
 use Rattle.wy_heap.specs.Slots.{nth}
 use Rattle.wy_heap.specs.Weighing.{total, weight_to, weight}
-use Rattle.wy_heap.proofs.CountLemmas.{holds_is, size-set}
+use Rattle.wy_heap.proofs.CountLemmas.{size-set}
 use Rattle.wy_heap.proofs.MeaningLemmas.{means_unique}
 
 -- how many arrays, records and scalars a datum has

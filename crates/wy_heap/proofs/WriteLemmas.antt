@@ -1,26 +1,26 @@
 -- What writes at a slot and new nodes keep.
-use Rattle.std.proofs.Common.{◌≡◌, ◌≢◌, ◌⊎◌, inl, inr, ℕ, zero, suc, ◌+◌, ◌-◌, ◌≤◌, ◌<◌, List, [], ◌∷◌, ◌++◌, map, set, get_or, length, Option, Some, None, IsSome, refl, sym, ◌∙◌, ap, subst, arith, length-set}
+use Rattle.std.proofs.Common.{◌≡◌, ◌≢◌, inl, inr, ℕ, zero, suc, ◌+◌, ◌≤◌, ◌<◌, List, [], ◌∷◌, ◌++◌, set, get_or, length, Option, Some, None, IsSome, refl, sym, ◌∙◌, ap, subst, arith}
 use Rattle.std.proofs.lemmas.Bool.{cases_eq}
-use Rattle.slab.specs.Slab.{get, ContainsKey, Updates, with_value}
+use Rattle.slab.specs.Slab.{get, with_value}
 use Rattle.slab.proofs.SlabLemmas.{Updates-with_value}
 use Rattle.wy_value.specs.declared.shapes.Shapes.{Shapes}
 use Rattle.wy_value.specs.Datum.{Datum, Data, no_items, item, Fields, no_fields, field}
 use Rattle.wy_value.specs.Datum as datum
-use Rattle.wy_value.specs.Values.{names_of, length_of}
+use Rattle.wy_value.specs.Values.{names_of}
 use Rattle.wy_heap.specs.declared.part.Part.{Part}
-use Rattle.wy_heap.specs.declared.part.Part.TheVariants.{Null, Bool, Int, Key}
+use Rattle.wy_heap.specs.declared.part.Part.TheVariants.{Null, Key}
 use Rattle.wy_heap.specs.declared.node.Shape.{Shape}
 use Rattle.wy_heap.specs.declared.node.Node.{Node}
 use Rattle.wy_heap.specs.declared.heap.Heap.{Heap}
-use Rattle.wy_heap.specs.Nodes.{Form, record_form, form_of, Body, Map, body_of, map_of, at, holds, held, slot_holds, inner, count_of, count_at, parts_in, form_in}
+use Rattle.wy_heap.specs.Nodes.{Form, record_form, form_of, Body, Map, body_of, map_of, at, holds, held, slot_holds, inner, count_of, count_at, parts_in}
 use Rattle.wy_heap.specs.Meaning.{data_in, Means, MeanAll, IsNode, IsSplit, IsMeant}
-use Rattle.wy_heap.specs.Standing.{IsCounted, Counts, Among, Keeps}
-use Rattle.wy_heap.specs.Slots.{nth, put_nth, put_field, part_of}
+use Rattle.wy_heap.specs.Standing.{IsCounted, Counts, Keeps}
+use Rattle.wy_heap.specs.Slots.{put_nth, put_field, part_of}
 use Rattle.wy_heap.specs.Changing.{Leads, Changes, Adds, Joins, Swaps, IsNodeSlot, AreThere, Fits, Builds}
 use Rattle.wy_heap.proofs.CountLemmas.{held-append, held-le-length, held-set, holds-get_or, holds_one, holds_other, holds_is, inner_updated, slot-le-inner, inner_part}
 use Rattle.wy_heap.proofs.ChangeLemmas.{at-map_of, at_changed, at_others, count_changed, count_others, contains_from_at, at_from_contains, count_there, count_none, at_none}
-use Rattle.wy_heap.proofs.MeaningLemmas.{Each, IsClosed, means_kept, mean_all_kept, each_held, means_from_node, node_from_means, split_of, HasSplit, NodeAt, node_at, data_unique, same_form}
-use Rattle.wy_heap.proofs.LeadLemmas.{reordered, part_meant, parts_meant, held_meant, means_same}
+use Rattle.wy_heap.proofs.MeaningLemmas.{Each, IsClosed, means_kept, mean_all_kept, each_held, means_from_node, node_from_means, split_of, node_at, same_form}
+use Rattle.wy_heap.proofs.LeadLemmas.{part_meant, held_meant}
 
 -- ---- a node more, in a map where its parts have their holders already
 
@@ -177,6 +177,10 @@ module _ (h n : Heap) (made : ℕ) (form : Form) (parts : List Part) (joins : Jo
     keeps = kept_more raised (map_of h) n made form parts joined_grows;
     node = grown_node raised (map_of h) n made form parts joined_grows;
     stays = grown_stays raised (map_of h) n made form parts joined_grows;
+    more = λ k. elim (cases_eq k made) [
+      | inl same ↦ omega (arith, ap (count_at h) same, count_none h made joins.vacant)
+      | inr differ ↦ omega (arith, joins.counts k differ)
+    ];
     fresh = λ k b was none. omega (arith, joined_inner k, none);
   }
 

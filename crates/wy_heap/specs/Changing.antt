@@ -1,5 +1,5 @@
 -- How one call inside changes the nodes of a heap.
-use Rattle.std.specs.Prelude.{◌≡◌, ◌≢◌, ◌⊎◌, ℕ, ◌+◌, ◌≤◌, ◌<◌, List, [], ◌∷◌, ◌++◌, length, Option, Some, None, slice_set, ⊤}
+use Rattle.std.specs.Prelude.{◌≡◌, ◌≢◌, ◌⊎◌, ℕ, ◌+◌, ◌≤◌, ◌<◌, List, [], ◌∷◌, ◌++◌, length, Option, Some, None, slice_set}
 use Rattle.slab.specs.Slab.{get, ContainsKey, Updates}
 use Rattle.wy_value.specs.Datum.{Datum, Data}
 use Rattle.wy_heap.specs.declared.part.Part.{Part}
@@ -7,10 +7,11 @@ use Rattle.wy_heap.specs.declared.part.Part.TheVariants.{Key}
 use Rattle.wy_heap.specs.declared.node.Node.{Node}
 use Rattle.wy_heap.specs.declared.node.Shape.{Shape}
 use Rattle.wy_heap.specs.declared.heap.Heap.{Heap}
-use Rattle.wy_heap.specs.Nodes.{Form, form_of, Body, Map, at, map_of, count_at, held, inner}
+use Rattle.wy_heap.specs.Nodes.{Form, Body, Map, at, map_of, count_at, held, inner}
 use Rattle.wy_heap.specs.Meaning.{Means, MeanAll, IsNode, IsSplit}
 use Rattle.wy_heap.specs.Standing.{Counts, Keeps}
-use Rattle.wy_heap.specs.Slots.{Step, part_at, put}
+use Rattle.wy_heap.specs.Slots.{Step, put}
+use Rattle.wy_heap.specs.Copying.{raised, CopiesAsMany}
 
 -- the cap, the table and the number of copies are as before
 pub record SameRest (old new : Heap) : Type 0 where
@@ -54,12 +55,26 @@ pub record Joins (old new : Heap) (made : ℕ) (form : Form) (parts : List Part)
   pub counts : (k : ℕ) → k ≢ made → count_at new k ≡ count_at old k + held k parts
   pub others : (k : ℕ) → k ≢ made → at (map_of new) k ≡ at (map_of old) k
 
+-- each of these parts can have a holder more for each of them within the cap
+abbrev pub HasRoom : Heap → List Part → Type 0
+HasRoom h parts = (k : ℕ) → 1 ≤ held k parts → count_at h k + held k parts ≤ h.cap
+
+-- a node more, with one holder, whose parts have a holder more, and no copy was counted
+pub record JoinsAlone (old new : Heap) (made : ℕ) (form : Form) (parts : List Part) : Type 0 where
+  pub joins : Joins old new made form parts
+  pub copies : new.copies ≡ old.copies
+
+-- the same, and the node was counted as a copy
+pub record JoinsCopy (old new : Heap) (made : ℕ) (form : Form) (parts : List Part) : Type 0 where
+  pub joins : Joins old new made form parts
+  pub copies : new.copies ≡ raised old.copies 1
+
 -- a node of this form can have these parts
 abbrev pub Fits : Map → Form → List Part → Type 0
 Fits m form parts = (ds : Data) × MeanAll m ds parts × (d : Datum) × IsSplit d form ds
 
 -- a node more, with one holder, which stands for a datum of this form with what the parts stand for;
--- all parts stand for what they stood for, and each old node is as before
+-- all parts stand for what they stood for, each old node is as before, and no count fell
 pub record Builds (old new : Heap) (form : Form) (parts : List Part) (made : ℕ) : Type 0 where
   pub vacant : at (map_of old) made ≡ None
   pub count : count_at new made ≡ 1
@@ -67,6 +82,7 @@ pub record Builds (old new : Heap) (form : Form) (parts : List Part) (made : ℕ
   pub keeps : (q : Part) (d : Datum) → Means (map_of old) d q → Means (map_of new) d q
   pub node : (ds : Data) → MeanAll (map_of old) ds parts → IsNode (map_of new) (Key made) form ds
   pub stays : (k : ℕ) (b : Body) → at (map_of old) k ≡ Some b → at (map_of new) k ≡ Some b
+  pub more : (k : ℕ) → count_at old k ≤ count_at new k
   pub fresh : (k : ℕ) (b : Body) → at (map_of old) k ≡ Some b → inner k (map_of old) + held k parts ≡ 0 → inner k (map_of new) ≡ 0
 
 -- each node that is left is as it was
@@ -110,7 +126,8 @@ pub record Wrote (old new : Heap) (spent : List Part) (whole : Part) (path : Lis
   pub value : (w u : Datum) → Means (map_of old) w whole → Means (map_of old) u part → Means (map_of new) (put w path u) made
   pub fresh : NoNew (map_of old) (map_of new) spent (made ∷ [])
 
--- each node on the path has one holder
-abbrev pub Sole : Heap → Part → List Step → Type 0
-Sole h p [] = ⊤
-Sole h p (s ∷ path) = ((k : ℕ) → p ≡ Key k → count_at h k ≡ 1) × Sole h (part_at (map_of h) p s) path
+-- nodes were only added, each of them counted as a copy, and no count fell
+pub record CopiesOnly (old new : Heap) : Type 0 where
+  pub stays : More (map_of old) (map_of new)
+  pub more : (k : ℕ) → count_at old k ≤ count_at new k
+  pub copies : CopiesAsMany old new

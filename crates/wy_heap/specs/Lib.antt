@@ -5,6 +5,8 @@ pub mod Standing
 pub mod Parts
 pub mod Slots
 pub mod Making
+pub mod Copying
+pub mod Putting
 pub mod Comparing
 pub mod Reaching
 -- definitions for functions inside
@@ -13,3 +15,4 @@ pub mod Freeing
 pub mod Numbering
 pub mod Weighing
 pub mod Showing
+pub mod Settling

@@ -5,7 +5,7 @@ use Rattle.wy_value.specs.Datum as datum
 use Rattle.wy_value.specs.Values.{names_of}
 use Rattle.wy_heap.specs.declared.part.Part.{Part}
 use Rattle.wy_heap.specs.declared.part.Part.TheVariants.{Null, Bool, Int, Key}
-use Rattle.wy_heap.specs.Nodes.{Form, list_form, record_form, Body, Map, at}
+use Rattle.wy_heap.specs.Nodes.{Form, list_form, record_form, Map, at}
 
 -- the part is a hold on a node of this form, whose parts pass
 pub record IsMade (m : Map) (p : Part) (form : Form) (pass : List Part → Type 0) : Type 0 where

@@ -1,10 +1,10 @@
 -- What a heap's nodes are: the map from keys to nodes, the stored counts, and the holders counted anew.
-use Rattle.std.specs.Prelude.{◌≡◌, ℕ, ◌+◌, ◌==◌, List, [], ◌∷◌, map, Option, Some, None, cond, slice_index_or, slice_get}
+use Rattle.std.specs.Prelude.{ℕ, ◌+◌, ◌==◌, List, [], ◌∷◌, map, Option, Some, None, cond, slice_index_or, slice_get}
 use Rattle.slab.specs.Slab.{get}
 use Rattle.wy_value.specs.declared.shapes.Shapes.{Shapes}
 use Rattle.wy_value.specs.Shapes.{named}
 use Rattle.wy_heap.specs.declared.part.Part.{Part}
-use Rattle.wy_heap.specs.declared.part.Part.TheVariants.{Null, Bool, Int, Key}
+use Rattle.wy_heap.specs.declared.part.Part.TheVariants.{Key}
 use Rattle.wy_heap.specs.declared.node.Shape.{Shape}
 use Rattle.wy_heap.specs.declared.node.Shape.TheVariants as shape
 use Rattle.wy_heap.specs.declared.node.Node.{Node}

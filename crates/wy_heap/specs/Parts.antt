@@ -1,21 +1,18 @@
 -- What a place holds, and the slots of its value.
-use Rattle.std.specs.Prelude.{◌≡◌, ℕ, ◌+◌, ◌<◌, ◌≤ℤ◌, List, [], ◌∷◌, zero, suc, Some, None, Option, if◌then◌else◌, bytes_eq, slice_index_or, slice_get, length, map, ⊤}
+use Rattle.std.specs.Prelude.{◌≡◌, ℕ, ◌<◌, ◌≤ℤ◌, List, Some, slice_get, ⊤}
 use Rattle.slab.specs.Slab.{ContainsKey}
 use Rattle.wy_value.specs.declared.bounds.TheConstants.{INT_MIN, INT_MAX}
 use Rattle.wy_value.specs.declared.shapes.Shapes.{Shapes}
 use Rattle.wy_value.specs.Shapes.{named}
 use Rattle.wy_value.specs.Datum.{Datum, Data, no_items, item, Fields, no_fields, field}
 use Rattle.wy_value.specs.Datum as datum
-use Rattle.wy_value.specs.Values.{names_of, length_of}
+use Rattle.wy_value.specs.Values.{names_of}
 use Rattle.wy_heap.specs.declared.part.Part.{Part}
 use Rattle.wy_heap.specs.declared.part.Part.TheVariants.{Null, Bool, Int, Key}
 use Rattle.wy_heap.specs.declared.part.Kind as kind
 use Rattle.wy_heap.specs.declared.part.Kind.TheVariants as is
-use Rattle.wy_heap.specs.declared.part.Slot as slot
-use Rattle.wy_heap.specs.declared.part.Slot.TheVariants as at_slot
 use Rattle.wy_heap.specs.declared.heap.Heap.{Heap}
-use Rattle.wy_heap.specs.Nodes.{Form, list_form, record_form, no_form, Body, Map, at, count_at}
-use Rattle.wy_heap.specs.Meaning.{Means}
+use Rattle.wy_heap.specs.Nodes.{count_at}
 
 -- the part that is this scalar, and null where the kind is none
 abbrev pub scalar_part : kind.Kind → Part

@@ -1,15 +1,15 @@
 -- The slots of a datum, and the datum with another one in a slot.
-use Rattle.std.specs.Prelude.{◌≡◌, ℕ, ◌+◌, ◌<◌, List, [], ◌∷◌, zero, suc, Some, None, Option, if◌then◌else◌, bytes_eq, slice_index_or, slice_get, length, map, ⊤}
+use Rattle.std.specs.Prelude.{ℕ, ◌+◌, ◌<◌, List, [], ◌∷◌, zero, suc, Some, None, Option, if◌then◌else◌, bytes_eq, slice_index_or, slice_get, length, map, ⊤}
 use Rattle.wy_value.specs.declared.shapes.Shapes.{Shapes}
 use Rattle.wy_value.specs.Datum.{Datum, Data, no_items, item, Fields, no_fields, field}
 use Rattle.wy_value.specs.Datum as datum
 use Rattle.wy_value.specs.Values.{names_of, length_of}
 use Rattle.wy_heap.specs.declared.part.Part.{Part}
-use Rattle.wy_heap.specs.declared.part.Part.TheVariants.{Null, Bool, Int, Key}
+use Rattle.wy_heap.specs.declared.part.Part.TheVariants.{Null, Key}
 use Rattle.wy_heap.specs.declared.part.Slot.{Slot}
 use Rattle.wy_heap.specs.declared.part.Slot.TheVariants.{Item, Field}
 use Rattle.wy_heap.specs.declared.heap.Heap.{Heap}
-use Rattle.wy_heap.specs.Nodes.{Form, list_form, record_form, no_form, Body, Map, at, map_of, form_in}
+use Rattle.wy_heap.specs.Nodes.{Form, list_form, record_form, Body, Map, at, map_of, form_in}
 use Rattle.wy_heap.specs.Meaning.{Means, data_in}
 
 -- a step into a datum: to an item of a list, to a field of a record, or to none that the table knows

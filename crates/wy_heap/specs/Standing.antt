@@ -1,5 +1,5 @@
 -- A heap and the places that its callers hold.
-use Rattle.std.specs.Prelude.{◌≡◌, ℕ, ◌+◌, ◌≤◌, List, [], ◌∷◌, ◌++◌, IsSome}
+use Rattle.std.specs.Prelude.{◌≡◌, ℕ, ◌+◌, ◌≤◌, List, ◌++◌, IsSome}
 use Rattle.wy_value.specs.Datum.{Datum}
 use Rattle.wy_value.specs.Shapes.{IsShapes}
 use Rattle.wy_heap.specs.declared.part.Part.{Part}

@@ -69,8 +69,9 @@ impl Heap {
         self.nodes.len() as u64
     }
 
-    /// How many nodes were copied: by `set`, and at the cap by `share`, `get` and `fill`. At 2^64 - 1 it
-    /// rises no more. It takes no memory.
+    /// How many nodes were copied: those of a path that `set` copied, and those that `share`, `get`, `fill`
+    /// and `set` copied at the cap. Each of these calls says in its clauses by how much it rose. At 2^64 - 1
+    /// it rises no more. It takes no memory.
     pub fn copies(&self) -> u64
         ensures value { result ≡ self.now.copies }
     {

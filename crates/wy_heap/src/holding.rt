@@ -1,26 +1,31 @@
 //! Holds: a second place for what a place holds.
-ghost use Rattle.std.specs.Prelude.{◌≡◌, ◌+◌, ◌<◌, ◌≤◌, ◌∷◌, [], ◌++◌, ◌↔◌, ℕ, List, Ok, IfOk, OnErr, IsTrue, true, length};
-ghost use Rattle.slab.specs.Slab.{HasRoomFor};
+ghost use Rattle.std.specs.Prelude.{◌≡◌, ◌+◌, ◌<◌, ◌≤◌, ◌∷◌, [], ◌++◌, ◌↔◌, ℕ, List, Ok, IfOk, OnErr, IsTrue, true, false, length};
+ghost use Rattle.slab.specs.Slab.{HasRoomFor, ContainsKey};
 ghost use Rattle.wy_value.specs.Datum.{Datum};
 ghost use Rattle.wy_heap.specs.declared.part.Part.{Part};
 ghost use Rattle.wy_heap.specs.declared.part.Part.TheVariants.{Key};
-ghost use Rattle.wy_heap.specs.Nodes.{map_of, count_at, holds, held};
+ghost use Rattle.wy_heap.specs.Nodes.{map_of, at, form_in, parts_in, count_at, holds, held};
 ghost use Rattle.wy_heap.specs.Meaning.{Means};
 ghost use Rattle.wy_heap.specs.Standing.{Stands, Counts, IsWithin, AreHeld, Acts, SameTable, IsAsBefore};
 ghost use Rattle.wy_heap.specs.Parts.{IsThere, IsBelow};
-ghost use Rattle.wy_heap.specs.Changing.{SameRest, SameNodes, Leads, AreThere};
+ghost use Rattle.wy_heap.specs.Changing.{SameRest, SameNodes, Leads, AreThere, Builds, More};
+ghost use Rattle.wy_heap.specs.Copying.{CopiesAsMany};
 
 use crate::heap::{Heap, NoMemory};
 use crate::part::{Part, Place};
+use std::alloc::AllocError;
 
 impl Heap {
     /// A second hold on what a place holds. It takes no memory where the place holds no node, or one
-    /// with fewer holders than the cap. At the cap it answers want of memory: a copy isn't made there yet.
+    /// with fewer holders than the cap. At the cap the new place holds a copy, whose parts are shared, or
+    /// copied in turn where they are at the cap.
     pub fn share(&mut self, p: &Place) -> Result<Place, NoMemory>
         requires held { AreHeld self.old (p.now ∷ []) }
         ensures acts { IfOk result (λ made. (others : List Part) → Stands self.old (p.now ∷ others) → Acts self.old self.new (made ∷ []) (p.now ∷ others)) }
         ensures value { IfOk result (λ made. (d : Datum) → Means (map_of self.old) d p.now → Means (map_of self.new) d made) }
         ensures below { IsBelow self.old self.old.cap p.now → (result ≡ Ok p.now) × (map_of self.new ≡ map_of self.old) × (self.new.copies ≡ self.old.copies) }
+        ensures stays { IfOk result (λ made. More (map_of self.old) (map_of self.new)) }
+        ensures copies { IfOk result (λ made. CopiesAsMany self.old self.new) }
         ensures no_memory { OnErr result (IsAsBefore self.old self.new) }
         ensures kept { SameTable self.old self.new }
     {
@@ -32,11 +37,14 @@ impl Heap {
     pub(crate) fn again(&mut self, part: Part) -> Result<Part, NoMemory>
         requires held { (places : List Part) × Counts self.old places }
         requires within { IsWithin self.old }
+        requires some { 1 ≤ self.old.cap }
         requires there { IsThere self.old part }
         ensures leads { IfOk result (λ made. (others : List Part) → Counts self.old others → Leads self.old self.new (made ∷ []) others) }
         ensures value { IfOk result (λ made. (d : Datum) → Means (map_of self.old) d part → Means (map_of self.new) d made) }
         ensures within { IsWithin self.new }
         ensures below { IsBelow self.old self.old.cap part → (result ≡ Ok part) × (map_of self.new ≡ map_of self.old) × (self.new.copies ≡ self.old.copies) }
+        ensures stays { IfOk result (λ made. More (map_of self.old) (map_of self.new)) }
+        ensures copies { IfOk result (λ made. CopiesAsMany self.old self.new) }
         ensures no_memory { OnErr result (IsAsBefore self.old self.new) }
         ensures kept { SameTable self.old self.new }
     {
@@ -44,8 +52,53 @@ impl Heap {
             self.hold(part);
             Ok(part)
         } else {
-            Err(NoMemory)
+            self.copy_of(part)
         }
+    }
+
+    // a hold on a copy of the node that the part holds
+    fn copy_of(&mut self, part: Part) -> Result<Part, NoMemory>
+        requires held { (places : List Part) × Counts self.old places }
+        requires within { IsWithin self.old }
+        requires some { 1 ≤ self.old.cap }
+        requires there { IsThere self.old part }
+        requires full { IsBelow self.old self.old.cap part → ⊥ }
+        ensures leads { IfOk result (λ made. (others : List Part) → Counts self.old others → Leads self.old self.new (made ∷ []) others) }
+        ensures value { IfOk result (λ made. (d : Datum) → Means (map_of self.old) d part → Means (map_of self.new) d made) }
+        ensures within { IsWithin self.new }
+        ensures stays { IfOk result (λ made. More (map_of self.old) (map_of self.new)) }
+        ensures copies { IfOk result (λ made. CopiesAsMany self.old self.new) }
+        ensures no_memory { OnErr result (IsAsBefore self.old self.new) }
+        ensures kept { SameTable self.old self.new }
+    {
+        let Part::Key(key) = part else { unreachable!() };
+        let before = self.copies;
+        match self.copy_node(key) {
+            Ok(made) => Ok(Part::Key(made)),
+            Err(_) => {
+                self.copies = before;
+                Err(NoMemory)
+            }
+        }
+    }
+
+    // a copy of a node, which shares its parts
+    fn copy_node(&mut self, key: usize) -> Result<usize, AllocError>
+        requires held { (places : List Part) × Counts self.old places }
+        requires within { IsWithin self.old }
+        requires some { 1 ≤ self.old.cap }
+        requires there { ContainsKey self.old.nodes key }
+        ensures builds { IfOk result (λ made. Builds self.old self.new (form_in (at (map_of self.old) key)) (parts_in (at (map_of self.old) key)) made) }
+        ensures copies { IfOk result (λ made. CopiesAsMany self.old self.new) }
+        ensures within { IsWithin self.new }
+        ensures no_memory { OnErr result (SameNodes self.old self.new) }
+        ensures kept { SameTable self.old self.new }
+    {
+        let shape = self.nodes[key].shape;
+        let parts = self.words_at(key)?;
+        let made = self.build(shape, parts)?;
+        self.copies = self.copies.saturating_add(1);
+        Ok(made)
     }
 
     // whether the part can have a holder more within the cap
@@ -73,6 +126,32 @@ impl Heap {
             let node = &mut self.nodes[key];
             node.count += 1;
         }
+    }
+
+    // whether the part has more holders than this
+    fn is_over(&self, part: Part, most: u64) -> bool
+        requires { IsThere self.now part }
+        ensures yes { IsTrue result → (k : ℕ) × (part ≡ Key k) × (most < count_at self.now k) }
+        ensures no { result ≡ false → (k : ℕ) → part ≡ Key k → count_at self.now k ≤ most }
+    {
+        match part {
+            Part::Key(key) => self.nodes[key].count > most,
+            _ => false,
+        }
+    }
+
+    // whether none of these parts has more holders than this
+    pub(crate) fn are_within(&self, parts: &[Part], most: u64) -> bool
+        requires { AreThere self.now parts.now }
+        ensures yes { IsTrue result → (k : ℕ) → 1 ≤ held k parts.now → count_at self.now k ≤ most }
+        ensures no { result ≡ false → (k : ℕ) × (1 ≤ held k parts.now) × (most < count_at self.now k) }
+    {
+        for part in parts {
+            if self.is_over(*part, most) {
+                return false;
+            }
+        }
+        true
     }
 
     // whether the part can have so many holders more within the limit

@@ -11,13 +11,18 @@
 mod comparing;
 mod heap;
 mod holding;
+mod laws;
 mod making;
 mod node;
 mod part;
 mod releasing;
 mod setting;
+mod settling;
 mod showing;
 mod slots;
+#[cfg(test)]
+mod tests;
 
 pub use heap::{Heap, NoMemory};
+pub use laws::{nothing_dead, nothing_left};
 pub use part::{Kind, Place, Slot};

@@ -10,7 +10,8 @@ ghost use Rattle.wy_heap.specs.Meaning.{Means, MeanAll, IsNode};
 ghost use Rattle.wy_heap.specs.Standing.{Stands, Counts, IsWithin, AreHeld, Acts, SameTable, IsAsBefore};
 ghost use Rattle.wy_heap.specs.Slots.{joined};
 ghost use Rattle.wy_heap.specs.Making.{repeated, HasShape};
-ghost use Rattle.wy_heap.specs.Changing.{SameRest, SameNodes, Leads, Adds, Joins, AreThere, Fits, Builds};
+ghost use Rattle.wy_heap.specs.Copying.{CopiesBeside};
+ghost use Rattle.wy_heap.specs.Changing.{SameRest, SameNodes, Leads, Adds, Joins, JoinsAlone, HasRoom, AreThere, Fits, Builds};
 
 use crate::heap::Heap;
 use crate::node::{Node, Shape};
@@ -141,7 +142,8 @@ impl Heap {
         Ok(words)
     }
 
-    // a node of these parts, each of which gets a holder more, within the cap
+    // a node of these parts, each of which gets a holder more; those that then have more than the cap
+    // allows are copied
     pub(crate) fn build(&mut self, shape: Shape, parts: Vec<Part>) -> Result<usize, AllocError>
         requires held { (places : List Part) × Counts self.old places }
         requires within { IsWithin self.old }
@@ -149,19 +151,28 @@ impl Heap {
         requires there { AreThere self.old parts.items }
         requires fits { Fits (map_of self.old) (form_of self.old.shapes shape) parts.items }
         ensures builds { IfOk result (λ made. Builds self.old self.new (form_of self.old.shapes shape) parts.items made) }
+        ensures room { IfOk result (λ made. HasRoom self.old parts.items → JoinsAlone self.old self.new made (form_of self.old.shapes shape) parts.items) }
+        ensures copies { IfOk result (λ made. CopiesBeside 1 self.old self.new) }
         ensures within { IsWithin self.new }
         ensures no_memory { OnErr result (SameNodes self.old self.new) }
         ensures kept { SameTable self.old self.new }
     {
-        if !self.can_hold_all(&parts, u64::from(self.cap)) {
-            return Err(AllocError);
-        }
+        let most = u64::from(self.cap);
         let made = self.join(shape, parts)?;
-        Ok(made)
+        if self.are_within(&self.nodes[made].parts, most) {
+            return Ok(made);
+        }
+        match self.settle(made) {
+            Ok(()) => Ok(made),
+            Err(error) => {
+                self.free(Part::Key(made));
+                Err(error)
+            }
+        }
     }
 
     // a node of these parts, each of which gets a holder more
-    fn join(&mut self, shape: Shape, parts: Vec<Part>) -> Result<usize, AllocError>
+    pub(crate) fn join(&mut self, shape: Shape, parts: Vec<Part>) -> Result<usize, AllocError>
         requires there { AreThere self.old parts.items }
         requires below { (k : ℕ) → 1 ≤ held k parts.items → count_at self.old k + length parts.items ≤ u64.MAX }
         ensures joins { IfOk result (λ made. Joins self.old self.new made (form_of self.old.shapes shape) parts.items) }

@@ -8,7 +8,9 @@ ghost use Rattle.wy_heap.specs.Nodes.{map_of, at, form_in, parts_in};
 ghost use Rattle.wy_heap.specs.Meaning.{Means};
 ghost use Rattle.wy_heap.specs.Standing.{Stands, Counts, IsWithin, AreHeld, Acts, SameTable, IsAsBefore};
 ghost use Rattle.wy_heap.specs.Slots.{steps_of, put, IsPath};
-ghost use Rattle.wy_heap.specs.Changing.{SameNodes, IsNodeSlot, Builds, Wrote, Sole};
+ghost use Rattle.wy_heap.specs.Changing.{SameNodes, IsNodeSlot, Builds, Wrote, HasRoom, JoinsCopy, CopiesOnly};
+ghost use Rattle.wy_heap.specs.Copying.{CopiesAsMany};
+ghost use Rattle.wy_heap.specs.Putting.{IsSole, Sole, CountsCopies, Puts, RoomForCopies, RoomAlong, CopiesAlong};
 
 use crate::heap::Heap;
 use crate::part::{Part, Place, Slot};
@@ -30,6 +32,8 @@ impl Heap {
         ensures acts { OnOk result ((others : List Part) → Stands self.old (p.old ∷ v ∷ others) → Acts self.old self.new (p.new ∷ []) others) }
         ensures value { OnOk result ((w u : Datum) → Means (map_of self.old) w p.old → Means (map_of self.old) u v → Means (map_of self.new) (put w (steps_of self.old.shapes path.now) u) p.new) }
         ensures sole { Sole self.old p.old (steps_of self.old.shapes path.now) → IsOk result }
+        ensures copies { OnOk result (CountsCopies self.old self.new p.old (steps_of self.old.shapes path.now)) }
+        ensures puts { OnOk result (RoomAlong self.old p.old (steps_of self.old.shapes path.now) → Puts self.old self.new p.old (steps_of self.old.shapes path.now) v p.new) }
         ensures back { IfErr result (λ back. back ≡ v) }
         ensures same { OnErr result (p.new ≡ p.old) }
         ensures no_memory { OnErr result (IsAsBefore self.old self.new) }
@@ -57,6 +61,8 @@ impl Heap {
         requires table { IsShapes self.old.shapes }
         requires there { IsPath self.old whole path.now }
         ensures wrote { IfOk result (λ made. Wrote self.old self.new (whole ∷ part ∷ []) whole (steps_of self.old.shapes path.now) part made) }
+        ensures copies { IfOk result (λ made. CountsCopies self.old self.new whole (steps_of self.old.shapes path.now)) }
+        ensures room { IfOk result (λ made. RoomAlong self.old whole (steps_of self.old.shapes path.now) → Puts self.old self.new whole (steps_of self.old.shapes path.now) part made) }
         ensures within { IsWithin self.new }
         ensures sole { Sole self.old whole (steps_of self.old.shapes path.now) → IsOk result }
         ensures no_memory { OnErr result (SameNodes self.old self.new) }
@@ -94,7 +100,10 @@ impl Heap {
         requires some { 1 ≤ self.old.cap }
         requires table { IsShapes self.old.shapes }
         requires there { IsPath self.old whole path.now }
+        requires many { IsSole self.old whole → ⊥ }
         ensures wrote { IfOk result (λ made. Wrote self.old self.new (whole ∷ part ∷ []) whole (steps_of self.old.shapes path.now) part made) }
+        ensures copies { IfOk result (λ made. CopiesAsMany self.old self.new) }
+        ensures room { IfOk result (λ made. RoomAlong self.old whole (steps_of self.old.shapes path.now) → Puts self.old self.new whole (steps_of self.old.shapes path.now) part made) }
         ensures within { IsWithin self.new }
         ensures no_memory { OnErr result (SameNodes self.old self.new) }
         ensures kept { SameTable self.old self.new }
@@ -116,6 +125,8 @@ impl Heap {
         requires table { IsShapes self.old.shapes }
         requires there { IsPath self.old whole path.now }
         ensures wrote { IfOk result (λ made. Wrote self.old self.new (part ∷ []) whole (steps_of self.old.shapes path.now) part made) }
+        ensures only { IfOk result (λ made. CopiesOnly self.old self.new) }
+        ensures room { IfOk result (λ made. RoomForCopies self.old whole (steps_of self.old.shapes path.now) → CopiesAlong self.old self.new whole (steps_of self.old.shapes path.now) part made) }
         ensures within { IsWithin self.new }
         ensures no_memory { OnErr result (SameNodes self.old self.new) }
         ensures kept { SameTable self.old self.new }
@@ -148,6 +159,8 @@ impl Heap {
         requires some { 1 ≤ self.old.cap }
         requires there { IsNodeSlot (map_of self.old) key place }
         ensures builds { IfOk result (λ made. Builds self.old self.new (form_in (at (map_of self.old) key)) (slice_set (parts_in (at (map_of self.old) key)) place Null) made) }
+        ensures room { IfOk result (λ made. HasRoom self.old (slice_set (parts_in (at (map_of self.old) key)) place Null) → JoinsCopy self.old self.new made (form_in (at (map_of self.old) key)) (slice_set (parts_in (at (map_of self.old) key)) place Null)) }
+        ensures copies { IfOk result (λ made. CopiesAsMany self.old self.new) }
         ensures within { IsWithin self.new }
         ensures no_memory { OnErr result (SameNodes self.old self.new) }
         ensures kept { SameTable self.old self.new }

@@ -10,7 +10,8 @@ ghost use Rattle.wy_heap.specs.Meaning.{Means, IsNode};
 ghost use Rattle.wy_heap.specs.Standing.{Stands, AreHeld, Acts, SameTable, IsAsBefore};
 ghost use Rattle.wy_heap.specs.Parts.{IsBelow};
 ghost use Rattle.wy_heap.specs.Slots.{step_of, child, IsSlot, place_in, part_of, part_at};
-ghost use Rattle.wy_heap.specs.Changing.{SameRest, IsNodeSlot, Swaps};
+ghost use Rattle.wy_heap.specs.Changing.{SameRest, IsNodeSlot, Swaps, More};
+ghost use Rattle.wy_heap.specs.Copying.{CopiesAsMany};
 ghost use Rattle.wy_heap.specs.Numbering.{number_position};
 
 use crate::heap::{Heap, NoMemory};
@@ -19,14 +20,16 @@ use crate::part::{Part, Place, Slot};
 
 impl Heap {
     /// A second hold on what is in a slot. It takes no memory where that is no node, or one with fewer
-    /// holders than the cap. At the cap it answers want of memory: a copy isn't made there yet. Its cost
-    /// is constant, and for a field linear in the fields of the record.
+    /// holders than the cap. At the cap the new place holds a copy, as at `share`. Below the cap its cost is
+    /// constant, and for a field linear in the fields of the record.
     pub fn get(&mut self, p: &Place, s: Slot) -> Result<Place, NoMemory>
         requires held { AreHeld self.old (p.now ∷ []) }
         requires there { IsSlot self.old p.now s }
         ensures acts { IfOk result (λ made. (others : List Part) → Stands self.old (p.now ∷ others) → Acts self.old self.new (made ∷ []) (p.now ∷ others)) }
         ensures value { IfOk result (λ made. (d : Datum) → Means (map_of self.old) d p.now → Means (map_of self.new) (child d (step_of self.old.shapes s)) made) }
         ensures below { let part = part_at (map_of self.old) p.now (step_of self.old.shapes s) in IsBelow self.old self.old.cap part → (result ≡ Ok part) × (map_of self.new ≡ map_of self.old) × (self.new.copies ≡ self.old.copies) }
+        ensures stays { IfOk result (λ made. More (map_of self.old) (map_of self.new)) }
+        ensures copies { IfOk result (λ made. CopiesAsMany self.old self.new) }
         ensures no_memory { OnErr result (IsAsBefore self.old self.new) }
         ensures kept { SameTable self.old self.new }
     {

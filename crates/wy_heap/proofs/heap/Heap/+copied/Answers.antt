@@ -1,13 +1,13 @@
-use Rattle.std.proofs.Common.{◌≡◌, ◌≤◌, ◌-◌, ◌∷◌, [], ℕ, List, length, take, drop, refl, sym, subst, ap, ◌∙◌, arith, rules}
+use Rattle.std.proofs.Common.{◌-◌, ◌∷◌, [], List, length, take, drop, refl, sym, subst, arith, rules}
 use Rattle.wy_value.specs.declared.shapes.Shapes.{Shapes}
 use Rattle.wy_value.specs.Shapes.{IsShapes}
-use Rattle.wy_heap.specs.declared.part.Part.{Part}
 use Rattle.wy_heap.specs.declared.part.Part.TheVariants.{Key}
-use Rattle.wy_heap.specs.declared.heap.Heap.{Heap}
 use Rattle.wy_heap.specs.Slots.{Step, part_of, steps_of, child, HasPath}
-use Rattle.wy_heap.specs.Nodes.{map_of, at, count_at, count_of}
-use Rattle.wy_heap.specs.Changing.{Wrote, Sole}
+use Rattle.wy_heap.specs.Nodes.{map_of, at}
+use Rattle.wy_heap.specs.Changing.{Wrote}
+use Rattle.wy_heap.specs.Putting.{CopiesAlong, RoomForCopies}
 use Rattle.wy_heap.proofs.LeadLemmas.{counts_same}
+use Rattle.wy_heap.proofs.PutLevelLemmas.{copied_only, copied_exact}
 use Rattle.wy_heap.proofs.PathLemmas.{path_split, first_of, rest_of, level_at, level_node, level_builds, level_slot, copy_hole, copied_inside, copied_wrote, copied_refused}
 use Rattle.wy_heap.proofs.heap.Heap.+copied.Goals as goal
 
@@ -126,3 +126,28 @@ returns-in-Err-clause-no_memory t c =
     let builds = level_builds h c.args.whole key place (first_of h path) (rest_of h path) c.part_in-child.result level s1 top c.in_ok-top.ensures.builds in
     let hole = copy_hole h c.args.whole key place (first_of h path) (rest_of h path) c.part_in-child.result level s1 top builds c.args.part held.0 held.1 in
     copied_refused h s1 c.copied.new.self c.free.new.self level.body.form _ top (c.args.part ∷ held.0) builds held.1 c.in-Err.ensures.no_memory c.free.ensures.leads c.free.ensures.upheld
+
+pub returns-in-Ok-clause-only : goal.returns-in-Ok-clause-only
+returns-in-Ok-clause-only t c =
+    let h = c.args.self.now in
+    let builds = c.in_ok-top.ensures.builds in
+    copied_only h c.copy_without.new.self c.copied.new.self c.swap.new.self c.in_ok-top.top c.position-place.result c.in-Ok.below builds.vacant builds.stays builds.more
+    c.in_ok-top.ensures.copies c.in-Ok.ensures.only c.swap.ensures.swaps c.swap.ensures.rest.copies
+
+pub returns-in-Ok-clause-room : goal.returns-in-Ok-clause-room
+returns-in-Ok-clause-room t c room =
+    let h = c.args.self.now in
+    let key = c.in-Key.key in
+    let place = c.position-place.result in
+    let path = c.args.path.now in
+    let level = level_at h c.args.whole key place path c.part_in-child.result c.in-Key.is c.requires.there c.in-len1-up.len_at_least c.position-place.ensures c.part_in-child.ensures in
+    let held = c.requires.held in
+    let s1 = c.copy_without.new.self in
+    let s2 = c.copied.new.self in
+    let shapes = c.in_ok-top.ensures.kept.1 in
+    let inside = c.part_in-child.result in
+    let goes_on = subst (λ (t : Shapes). RoomForCopies s1 inside (steps_of t (take (length path - 1) (drop 1 path))) → CopiesAlong s1 s2 inside (steps_of t (take (length path - 1) (drop 1 path))) c.args.part c.in-Ok.below) shapes c.in-Ok.ensures.room in
+    subst (λ (l : List Step). CopiesAlong h c.swap.new.self c.args.whole l c.args.part (Key c.in_ok-top.top)) (sym (path_split h.shapes path c.in-len1-up.len_at_least))
+    (copied_exact h c.args.whole key place (first_of h path) (rest_of h path) inside level s1 c.in_ok-top.top (c.args.part ∷ held.0) held.1 c.in_ok-top.ensures.room c.requires.some c.in_ok-top.ensures.kept.0
+    c.in_ok-top.ensures.builds.stays s2 c.swap.new.self c.args.part c.in-Ok.below c.in-Ok.ensures.only.stays goes_on c.swap.ensures.swaps c.swap.ensures.rest.copies
+    (subst (RoomForCopies h c.args.whole) (path_split h.shapes path c.in-len1-up.len_at_least) room))

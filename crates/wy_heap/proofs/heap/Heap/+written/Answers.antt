@@ -1,14 +1,14 @@
-use Rattle.std.proofs.Common.{◌≡◌, ◌≤◌, ◌-◌, ◌∷◌, [], ℕ, List, length, take, drop, refl, sym, subst, ap, ◌∙◌, arith, rules}
+use Rattle.std.proofs.Common.{◌≡◌, ◌-◌, ◌∷◌, [], List, length, take, drop, refl, sym, subst, ap, ◌∙◌, arith, rules}
 use Rattle.wy_value.specs.declared.shapes.Shapes.{Shapes}
 use Rattle.wy_value.specs.Shapes.{IsShapes}
-use Rattle.wy_heap.specs.declared.part.Part.{Part}
 use Rattle.wy_heap.specs.declared.part.Part.TheVariants.{Key}
-use Rattle.wy_heap.specs.declared.heap.Heap.{Heap}
 use Rattle.wy_heap.specs.Slots.{Step, part_of, steps_of, child, HasPath}
 use Rattle.wy_heap.specs.Nodes.{map_of, at, count_at, count_of}
-use Rattle.wy_heap.specs.Changing.{Wrote, Sole}
-use Rattle.wy_heap.proofs.PathLemmas.{path_split, path_nil, first_of, rest_of, level_at, level_node, level_slot, end_wrote}
+use Rattle.wy_heap.specs.Changing.{Wrote}
+use Rattle.wy_heap.specs.Putting.{Sole, CountsCopies, Puts, RoomAlong}
+use Rattle.wy_heap.proofs.PathLemmas.{path_split, path_nil, first_of, rest_of, level_at, level_node, level_slot, level_there, end_wrote}
 use Rattle.wy_heap.proofs.PlaceLemmas.{place_hole, place_inside, place_wrote, place_refused, refused_slot, sole_inside}
+use Rattle.wy_heap.proofs.PutLevelLemmas.{end_puts, place_room, place_puts, place_counts}
 use Rattle.wy_heap.proofs.heap.Heap.+written.Goals as goal
 
 pub returns-in_default-clause-wrote : goal.returns-in_default-clause-wrote
@@ -141,3 +141,52 @@ returns-in-Err-clause-sole t c all_sole =
     (subst (λ (u : Shapes). Sole s1 c.swap-child.result (steps_of u (take (length path - 1) (drop 1 path)))) (sym shapes)
     (sole_inside h c.args.whole key place (first_of h path) (rest_of h path) c.swap-child.result level s1 swaps sole (c.args.part ∷ held.0) held.1
     (subst (Sole h c.args.whole) (path_split h.shapes path c.in-len1-up.len_at_least) all_sole)))
+
+pub returns-in_default-clause-room : goal.returns-in_default-clause-room
+returns-in_default-clause-room t c room =
+    let h = c.args.self.now in
+    subst (λ (l : List Step). Puts h c.free.new.self c.args.whole l c.args.part c.args.part) (sym (path_nil h.shapes c.args.path.now c.in_default.len_below))
+    (end_puts h c.free.new.self c.args.whole c.args.part c.free.ensures.lasts c.free.ensures.rest.copies)
+
+pub returns-in-Ok-clause-copies : goal.returns-in-Ok-clause-copies
+returns-in-Ok-clause-copies t c =
+    let h = c.args.self.now in
+    let key = c.in-Key.key in
+    let place = c.position-place.result in
+    let path = c.args.path.now in
+    let level = level_at h c.args.whole key place path c.swap-child.result c.in-Key.is c.requires.there c.in-len1-up.len_at_least c.position-place.ensures c.swap-child.ensures.out in
+    let held = c.requires.held in
+    let s1 = c.swap-child.new.self in
+    let swaps = c.swap-child.ensures.swaps in
+    let shapes = c.swap-child.ensures.rest.shapes in
+    let sole : count_at h key ≡ 1 = ap count_of c.index.ensures ∙ c.if-index-eq-SOLE.true in
+    let s2 = c.written.new.self in
+    let further = subst (λ (u : Shapes). CountsCopies s1 s2 c.swap-child.result (steps_of u (take (length path - 1) (drop 1 path)))) shapes c.in-Ok.ensures.copies in
+    subst (CountsCopies h c.swap.new.self c.args.whole) (sym (path_split h.shapes path c.in-len1-up.len_at_least))
+    (place_counts h c.args.whole key place (first_of h path) (rest_of h path) c.swap-child.result level s1 swaps sole (c.args.part ∷ held.0) held.1 s2 c.swap.new.self c.in-Ok.below further c.swap.ensures.swaps
+    c.swap-child.ensures.rest.copies c.swap.ensures.rest.copies
+    (sole_inside h c.args.whole key place (first_of h path) (rest_of h path) c.swap-child.result level s1 swaps sole (c.args.part ∷ held.0) held.1))
+
+pub returns-in-Ok-clause-room : goal.returns-in-Ok-clause-room
+returns-in-Ok-clause-room t c room =
+    let h = c.args.self.now in
+    let key = c.in-Key.key in
+    let place = c.position-place.result in
+    let path = c.args.path.now in
+    let level = level_at h c.args.whole key place path c.swap-child.result c.in-Key.is c.requires.there c.in-len1-up.len_at_least c.position-place.ensures c.swap-child.ensures.out in
+    let held = c.requires.held in
+    let s1 = c.swap-child.new.self in
+    let swaps = c.swap-child.ensures.swaps in
+    let shapes = c.swap-child.ensures.rest.shapes in
+    let sole : count_at h key ≡ 1 = ap count_of c.index.ensures ∙ c.if-index-eq-SOLE.true in
+    let hole = place_hole h c.args.whole key place (first_of h path) (rest_of h path) c.swap-child.result level s1 swaps sole c.args.part held.0 held.1 in
+    let s2 = c.written.new.self in
+    let inside = c.swap-child.result in
+    let wrote = subst (λ (u : Shapes). Wrote s1 s2 (inside ∷ c.args.part ∷ []) inside (steps_of u (take (length path - 1) (drop 1 path))) c.args.part c.in-Ok.below) shapes c.in-Ok.ensures.wrote in
+    let has = place_room h c.args.whole key place (first_of h path) (rest_of h path) inside level s1 swaps sole (c.args.part ∷ held.0) held.1 c.swap-child.ensures.rest.cap
+    (subst (RoomAlong h c.args.whole) (path_split h.shapes path c.in-len1-up.len_at_least) room) in
+    let further = subst (λ (u : Shapes). RoomAlong s1 inside (steps_of u (take (length path - 1) (drop 1 path))) → Puts s1 s2 inside (steps_of u (take (length path - 1) (drop 1 path))) c.args.part c.in-Ok.below) shapes c.in-Ok.ensures.room in
+    let there = level_there s1 s2 key place _ _ _ (inside ∷ c.args.part ∷ []) held.0 hole inside (rest_of h path) c.args.part c.in-Ok.below wrote in
+    subst (λ (l : List Step). Puts h c.swap.new.self c.args.whole l c.args.part (Key key)) (sym (path_split h.shapes path c.in-len1-up.len_at_least))
+    (place_puts h c.args.whole key place (first_of h path) (rest_of h path) inside level s1 swaps sole (c.args.part ∷ held.0) held.1 s2 c.swap.new.self c.args.part c.in-Ok.below (further has) c.swap.ensures.swaps there
+    c.swap-child.ensures.rest.copies c.swap.ensures.rest.copies)

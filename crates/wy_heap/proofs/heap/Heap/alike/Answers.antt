@@ -1,4 +1,4 @@
-use Rattle.std.proofs.Common.{◌≡◌, ◌≢◌, ◌*◌, List, sym, subst, rules, IfOk}
+use Rattle.std.proofs.Common.{◌≡◌, ◌≢◌, ◌*◌, sym, subst, rules, IfOk}
 use Rattle.wy_heap.specs.declared.part.Part.{Part}
 use Rattle.wy_heap.specs.declared.part.Part.TheVariants.{Key}
 use Rattle.wy_heap.specs.Nodes.{map_of}

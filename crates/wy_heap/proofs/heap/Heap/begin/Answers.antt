@@ -1,4 +1,4 @@
-use Rattle.std.proofs.Common.{◌≡◌, ◌++◌, ◌∷◌, [], ℕ, ℤ, List, true, false, subst, ap, ◌∙◌, rules, FitsSigned}
+use Rattle.std.proofs.Common.{◌++◌, ◌∷◌, [], ℕ, ℤ, true, false, subst, ap, ◌∙◌, rules, FitsSigned}
 use Rattle.std.specs.Int.{w128}
 use Rattle.std.specs.Fmt.{signed_decimal}
 use Rattle.std.proofs.lemmas.Int.{to_z-of_z}
@@ -6,7 +6,6 @@ use Rattle.wy_value.specs.Datum as datum
 use Rattle.wy_heap.specs.declared.part.Part.TheVariants.{Bool}
 use Rattle.wy_heap.specs.Nodes.{map_of}
 use Rattle.wy_heap.specs.Parts.{IsThere}
-use Rattle.wy_heap.specs.Showing.{opening}
 use Rattle.wy_heap.proofs.SlotLemmas.{means_there}
 use Rattle.wy_heap.proofs.ShowLemmas.{scalar_goes, node_goes}
 use Rattle.wy_heap.proofs.heap.Heap.begin.Goals as goal

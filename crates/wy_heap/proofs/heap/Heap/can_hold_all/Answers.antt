@@ -1,4 +1,4 @@
-use Rattle.std.proofs.Common.{◌≡◌, ◌≤◌, ◌<◌, ◌+◌, ◌⊎◌, inl, inr, length, get_or, take, ap, arith, rules, refl}
+use Rattle.std.proofs.Common.{◌<◌, inl, inr, length, get_or, take, ap, arith, rules, refl}
 use Rattle.std.proofs.lemmas.Bool.{cases_lt}
 use Rattle.wy_heap.specs.declared.part.Part.TheVariants.{Null}
 use Rattle.wy_heap.specs.Nodes.{holds, held}

@@ -1,4 +1,4 @@
-use Rattle.std.proofs.Common.{◌≡◌, ◌<◌, ◌*◌, ◌++◌, ◌∷◌, [], List, Option, option_to_list, sym, subst, ap, ◌∙◌, arith}
+use Rattle.std.proofs.Common.{◌≡◌, ◌<◌, ◌*◌, ◌++◌, ◌∷◌, [], Option, option_to_list, sym, subst, ap, ◌∙◌, arith}
 use Rattle.wy_heap.specs.Nodes.{map_of}
 use Rattle.wy_heap.specs.Weighing.{weight}
 use Rattle.wy_heap.specs.Comparing.{Pair, Same, SameFrom, AreSame, ArePairs, pair_work, pair_works, Compares}

@@ -1,4 +1,4 @@
-use Rattle.std.proofs.Common.{◌≡◌, ◌∷◌, sym, subst, ap, arith}
+use Rattle.std.proofs.Common.{◌∷◌, sym, subst, ap, arith}
 use Rattle.wy_heap.specs.declared.part.Part.{Part}
 use Rattle.wy_heap.specs.Nodes.{map_of, holds}
 use Rattle.wy_heap.specs.Meaning.{IsMeant}

@@ -1,4 +1,4 @@
-use Rattle.std.proofs.Common.{◌≡◌, ◌∷◌, [], ℕ, List, replicate, sym, subst, ◌∙◌, ap}
+use Rattle.std.proofs.Common.{◌≡◌, ◌∷◌, [], List, replicate, sym, subst, ◌∙◌, ap}
 use Rattle.wy_value.specs.Datum as datum
 use Rattle.wy_heap.specs.Making.{repeated}
 use Rattle.wy_heap.specs.declared.part.Part.{Part}

@@ -1,7 +1,7 @@
-use Rattle.std.proofs.Common.{◌≡◌, ◌≤◌, ◌<◌, ◌+◌, ◌++◌, ◌∷◌, ℕ, List, Option, Some, None, refl, sym, subst, ap, arith}
+use Rattle.std.proofs.Common.{◌++◌, List, None, refl, sym, subst, ap, arith}
 use Rattle.wy_heap.specs.declared.part.Part.{Part}
 use Rattle.wy_heap.specs.declared.heap.Heap.{Heap}
-use Rattle.wy_heap.specs.Nodes.{Map, map_of, count_at, size}
+use Rattle.wy_heap.specs.Nodes.{Map, map_of, size}
 use Rattle.wy_heap.specs.Freeing.{Frees}
 use Rattle.wy_heap.specs.Changing.{Changes, Lasts, More}
 use Rattle.wy_heap.proofs.LeadLemmas.{released}

@@ -1,4 +1,4 @@
-use Rattle.std.proofs.Common.{◌≡◌, ◌≤◌, ◌∷◌, ℕ, List}
+use Rattle.std.proofs.Common.{◌≤◌, ◌∷◌, ℕ, List}
 use Rattle.wy_heap.specs.declared.part.Part.{Part}
 use Rattle.wy_heap.specs.Nodes.{map_of, count_at, size}
 use Rattle.wy_heap.specs.Standing.{Counts}

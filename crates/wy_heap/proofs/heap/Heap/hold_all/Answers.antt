@@ -1,4 +1,4 @@
-use Rattle.std.proofs.Common.{◌≡◌, ◌≤◌, ◌<◌, ◌+◌, length, get_or, take, ap, arith, rules}
+use Rattle.std.proofs.Common.{◌≤◌, ◌<◌, length, get_or, take, ap, arith, rules}
 use Rattle.std.proofs.lemmas.List.{length-take}
 use Rattle.wy_heap.specs.declared.part.Part.TheVariants.{Null}
 use Rattle.wy_heap.specs.Nodes.{holds}

@@ -1,4 +1,4 @@
-use Rattle.std.proofs.Common.{◌≡◌, arith, sym}
+use Rattle.std.proofs.Common.{arith, sym}
 use Rattle.wy_heap.proofs.BuildLemmas.{len_is}
 use Rattle.wy_heap.proofs.heap.Heap.len.Goals as goal
 

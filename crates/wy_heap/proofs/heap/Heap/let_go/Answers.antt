@@ -2,7 +2,6 @@ use Rattle.std.proofs.Common.{◌≡◌, ◌≢◌, ◌-◌, ◌∷◌, refl, su
 use Rattle.slab.specs.Slab.{with_value}
 use Rattle.wy_heap.specs.declared.part.Part.{Part}
 use Rattle.wy_heap.specs.declared.node.Node.{Node}
-use Rattle.wy_heap.specs.declared.heap.Heap.{Heap}
 use Rattle.wy_heap.specs.Freeing.{IsFreeing}
 use Rattle.wy_heap.proofs.ChangeLemmas.{map_of-recounted}
 use Rattle.wy_heap.proofs.FreeLemmas.{lowers, lowered_dies, lowered_stays}

@@ -1,10 +1,10 @@
-use Rattle.std.proofs.Common.{◌≡◌, ◌++◌, ◌∷◌, [], ℕ, List, sym, subst, ◌∙◌, arith}
+use Rattle.std.proofs.Common.{◌≡◌, ◌++◌, ◌∷◌, [], List, sym, subst, ◌∙◌, arith}
 use Rattle.wy_heap.specs.declared.part.Part.{Part}
 use Rattle.wy_heap.specs.declared.part.Part.TheVariants.{Key}
 use Rattle.wy_heap.specs.Nodes.{map_of, form_of}
 use Rattle.wy_heap.specs.Meaning.{MeanAll, IsNode}
 use Rattle.wy_heap.specs.Standing.{Counts, Acts, IsWithin}
-use Rattle.wy_heap.specs.Changing.{Fits, Leads}
+use Rattle.wy_heap.specs.Changing.{Fits}
 use Rattle.wy_heap.proofs.LeadLemmas.{acts_from}
 use Rattle.wy_heap.proofs.WriteLemmas.{added_leads, added_node, added_within}
 use Rattle.wy_heap.proofs.heap.Heap.make.Goals as goal

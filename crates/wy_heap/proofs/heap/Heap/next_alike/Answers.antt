@@ -1,6 +1,6 @@
-use Rattle.std.proofs.Common.{◌≡◌, ◌≤◌, ◌<◌, length, ap, sym, subst, ◌∙◌, arith, ◌+◌, ◌∷◌, []}
+use Rattle.std.proofs.Common.{length, ap, sym, subst, arith}
 use Rattle.wy_heap.specs.declared.part.Part.TheVariants.{Key}
-use Rattle.wy_heap.specs.Nodes.{map_of, at, parts_in}
+use Rattle.wy_heap.specs.Nodes.{map_of, parts_in}
 use Rattle.wy_heap.specs.Meaning.{IsMeant}
 use Rattle.wy_heap.proofs.SlotLemmas.{means_there, body-node}
 use Rattle.wy_heap.proofs.CompareLemmas.{past_leaves, next_compares, pair_slot, pair_parts_meant}

@@ -1,9 +1,9 @@
-use Rattle.std.proofs.Common.{◌≡◌, ◌<◌, ◌∙◌, sym, ap, length, arith, subst, List, Option}
+use Rattle.std.proofs.Common.{◌<◌, ◌∙◌, sym, ap, length, subst, List, Option}
 use Rattle.std.proofs.lemmas.List.{get_or_read}
 use Rattle.wy_heap.specs.declared.part.Part.{Part}
 use Rattle.wy_heap.specs.declared.part.Part.TheVariants.{Null}
 use Rattle.wy_heap.specs.Slots.{part_of}
-use Rattle.wy_heap.specs.Nodes.{Body, map_of, at, parts_in}
+use Rattle.wy_heap.specs.Nodes.{Body, parts_in}
 use Rattle.wy_heap.proofs.SlotLemmas.{body-node}
 use Rattle.wy_heap.proofs.heap.Heap.part_in.Goals as goal
 

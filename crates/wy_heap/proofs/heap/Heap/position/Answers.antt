@@ -1,4 +1,4 @@
-use Rattle.std.proofs.Common.{◌≡◌, ◌∙◌, ap, sym, subst}
+use Rattle.std.proofs.Common.{◌∙◌, ap, sym, subst}
 use Rattle.std.proofs.lemmas.Option.{slice_get_within}
 use Rattle.wy_heap.specs.Slots.{place_in, step_of, HasStep}
 use Rattle.wy_heap.specs.Nodes.{map_of, at, form_in}

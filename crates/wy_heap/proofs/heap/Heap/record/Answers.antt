@@ -1,4 +1,3 @@
-use Rattle.std.proofs.Common.{◌≡◌, ℕ, List}
 use Rattle.wy_heap.proofs.BuildLemmas.{record_fits, record_means}
 use Rattle.wy_heap.proofs.heap.Heap.record.Goals as goal
 

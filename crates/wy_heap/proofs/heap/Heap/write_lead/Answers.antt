@@ -1,6 +1,6 @@
-use Rattle.std.proofs.Common.{◌≡◌, ◌<◌, arith}
+use Rattle.std.proofs.Common.{arith}
 use Rattle.std.proofs.lemmas.Option.{slice_get_within}
-use Rattle.wy_heap.proofs.SlotLemmas.{shape_known, means_there}
+use Rattle.wy_heap.proofs.SlotLemmas.{shape_known}
 use Rattle.wy_heap.proofs.ShowLemmas.{fields_long}
 use Rattle.wy_heap.proofs.CompareLemmas.{numbers_in}
 use Rattle.wy_heap.proofs.heap.Heap.write_lead.Goals as goal
