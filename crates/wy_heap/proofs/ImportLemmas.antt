@@ -62,39 +62,39 @@ mean_all_more m n more (item d ds) (p ∷ ps) mean = (means_more m n more d p me
 
 pub imports_scalar : (h : Heap) (p : Part) → ((k : ℕ) → holds k p ≡ 0) → Imports h h (p ∷ [])
 imports_scalar h p none = record {
-    counts = λ others counts. reordered (count_at h) (map_of h) others (p ∷ others) (λ k. omega (arith, none k)) counts;
-    more = λ k b was. was;
-  }
+  counts = λ others counts. reordered (count_at h) (map_of h) others (p ∷ others) (λ k. omega (arith, none k)) counts;
+  more = λ k b was. was;
+}
 
 pub imports_adopts : (a b c : Heap) (form : Form) (parts : List Part) (made : Part) → Imports a b parts → Adopts b c form parts made → Imports a c (made ∷ [])
 imports_adopts a b c form parts made imports adopts = record {
-    counts = λ others counts. adopts.counts others (imports.counts others counts);
-    more = λ k body was. adopts.more k body (imports.more k body was);
-  }
+  counts = λ others counts. adopts.counts others (imports.counts others counts);
+  more = λ k body was. adopts.more k body (imports.more k body was);
+}
 
 -- parts that were imported and let go of leave the nodes as before
 pub imports_dropped : (a b c : Heap) (parts places : List Part) → Counts a places → Imports a b parts → Drops b c parts → SameNodes a c
 imports_dropped a b c parts places counts imports drops =
     restored a c places counts (drops.counts places (imports.counts places counts))
-      (drops.upheld (map_of a) places (imports.counts places counts)
-        (λ k body was. omega (arith, counts.counted k, counts.alive k (subst IsSome (sym was) refl)))
-        imports.more)
+    (drops.upheld (map_of a) places (imports.counts places counts)
+    (λ k body was. omega (arith, counts.counted k, counts.alive k (subst IsSome (sym was) refl)))
+    imports.more)
 
 pub same_imports : (a b c : Heap) (parts : List Part) → SameNodes a b → Imports b c parts → Imports a c parts
 same_imports a b c parts same imports = record {
-    counts = λ others counts. imports.counts others (counts_same a b others same counts);
-    more = λ k body was. imports.more k body (same.nodes k ∙ was);
-  }
+  counts = λ others counts. imports.counts others (counts_same a b others same counts);
+  more = λ k body was. imports.more k body (same.nodes k ∙ was);
+}
 
 -- one part more
 pub imports_set : (a b c : Heap) (parts : List Part) (i : ℕ) (part : Part) → Imports a b parts → Imports b c (part ∷ []) → i < length parts → get_or parts i Null ≡ Null → Imports a c (set parts i part)
 imports_set a b c parts i part first second below null = record {
-    counts = λ others counts.
+  counts = λ others counts.
       reordered (count_at c) (map_of c) (part ∷ parts ++ others) (set parts i part ++ others)
-        (λ k. omega (arith, held-append k (set parts i part) others, held-append k parts others, held-set k parts i part below, ap (holds k) null))
-        (second.counts (parts ++ others) (first.counts others counts));
-    more = λ k body was. second.more k body (first.more k body was);
-  }
+      (λ k. omega (arith, held-append k (set parts i part) others, held-append k parts others, held-set k parts i part below, ap (holds k) null))
+      (second.counts (parts ++ others) (first.counts others counts));
+  more = λ k body was. second.more k body (first.more k body was);
+}
 
 -- ---- the table grows
 
@@ -103,16 +103,16 @@ extends_refl t = record { names = λ n x is. is; lists = λ n x is. is }
 
 pub extends_trans : (t u v : Shapes) → Extends t u → Extends u v → Extends t v
 extends_trans t u v first second = record {
-    names = λ n x is. second.names n x (first.names n x is);
-    lists = λ n x is. second.lists n x (first.lists n x is);
-  }
+  names = λ n x is. second.names n x (first.names n x is);
+  lists = λ n x is. second.lists n x (first.lists n x is);
+}
 
 pub named_extends : (t u : Shapes) (list : List ℕ) → Extends t u → ((k : ℕ) → k < length list → get_or list k 0 < length t.names) → named u.names list ≡ named t.names list
 named_extends t u [] extends within = refl
 named_extends t u (n ∷ ns) extends within =
     let here = slice_get_within_some t.names n (within 0 (omega arith)) in
     let same : get_or u.names n [] ≡ get_or t.names n [] =
-      get_or_from_slice_get u.names n here.0 [] (extends.names n here.0 here.1) ∙ sym (get_or_from_slice_get t.names n here.0 [] here.1) in
+    get_or_from_slice_get u.names n here.0 [] (extends.names n here.0 here.1) ∙ sym (get_or_from_slice_get t.names n here.0 [] here.1) in
     let rest = named_extends t u ns extends (λ k below. within (suc k) (omega arith)) in
     cc
   where
@@ -132,9 +132,9 @@ form_extends t u (shape.Record n) table extends known =
 -- another table changes no node
 pub tabled : (h : Heap) (t : Shapes) (places : List Part) → Counts h places → IsShapes h.shapes → Extends h.shapes t → SameNodes h (record h { shapes = t })
 tabled h t places counts table extends = record {
-    nodes = λ k. at-map_of (record h { shapes = t }) k ∙ same k (get h.nodes k) refl ∙ sym (at-map_of h k);
-    counts = λ k. refl;
-  }
+  nodes = λ k. at-map_of (record h { shapes = t }) k ∙ same k (get h.nodes k) refl ∙ sym (at-map_of h k);
+  counts = λ k. refl;
+}
   where
     same : (k : ℕ) (o : Option Node) → get h.nodes k ≡ o → body_of t o ≡ body_of h.shapes o
     same k None was = refl
@@ -144,28 +144,28 @@ tabled h t places counts table extends = record {
         let node = held_node h (Key k) k d.0 refl d.1 in
         let form = node_form h k n d.0 node was in
         ap (λ (f : Form). Some (record { form = f; parts = n.parts.items }))
-          (form_extends h.shapes t n.shape table extends (λ none. split_known d.0 node.form node.data_of node.split (sym form ∙ none)))
+        (form_extends h.shapes t n.shape table extends (λ none. split_known d.0 node.form node.data_of node.split (sym form ∙ none)))
 
 pub grew_refl : (h : Heap) → IsShapes h.shapes → Grew h h
 grew_refl h table = record { cap = refl; copies = refl; table = table; extends = extends_refl h.shapes; within = λ within. within }
 
 pub grew_trans : (a b c : Heap) → Grew a b → Grew b c → Grew a c
 grew_trans a b c first second = record {
-    cap = second.cap ∙ first.cap;
-    copies = second.copies ∙ first.copies;
-    table = second.table;
-    extends = extends_trans a.shapes b.shapes c.shapes first.extends second.extends;
-    within = λ within. second.within (first.within within);
-  }
+  cap = second.cap ∙ first.cap;
+  copies = second.copies ∙ first.copies;
+  table = second.table;
+  extends = extends_trans a.shapes b.shapes c.shapes first.extends second.extends;
+  within = λ within. second.within (first.within within);
+}
 
 pub grew_rest : (a b c : Heap) → Grew a b → c.cap ≡ b.cap → c.shapes ≡ b.shapes → c.copies ≡ b.copies → (IsWithin b → IsWithin c) → Grew a c
 grew_rest a b c grew cap shapes copies within = record {
-    cap = cap ∙ grew.cap;
-    copies = copies ∙ grew.copies;
-    table = subst IsShapes (sym shapes) grew.table;
-    extends = subst (Extends a.shapes) (sym shapes) grew.extends;
-    within = λ w. within (grew.within w);
-  }
+  cap = cap ∙ grew.cap;
+  copies = copies ∙ grew.copies;
+  table = subst IsShapes (sym shapes) grew.table;
+  extends = subst (Extends a.shapes) (sym shapes) grew.extends;
+  within = λ w. within (grew.within w);
+}
 
 -- ---- data
 
@@ -238,7 +238,7 @@ record_datum v fs fields is same datum_is =
 pub array_imported : (m : Map) (v : Value) (vs items : List Value) (part : Part) → v ≡ value.Array items → vs ≡ items → IsNode m part list_form (seen_items vs) → Means m (seen v) part
 array_imported m v vs items part is same node =
     subst (λ (d : Datum). Means m d part) (sym (ap seen is ∙ seen_array items))
-      (subst (λ (l : List Value). Means m (datum.Array (seen_items l)) part) same node)
+    (subst (λ (l : List Value). Means m (datum.Array (seen_items l)) part) same node)
 
 -- the form of a record that was imported
 pub record_split : (t : Shapes) (n : ℕ) (fs : List (List ℕ × Value)) → HasNames t n (names_of (seen_fields fs)) → IsSplit (datum.Record (seen_fields fs)) (form_of t (shape.Record n)) (data_in (seen_fields fs))
@@ -247,8 +247,8 @@ record_split t n fs has = (ap (record_of t.names) has.1 ∙ ap record_form has.2
 pub record_imported : (m : Map) (t : Shapes) (n : ℕ) (v : Value) (fs fields : List (List ℕ × Value)) (part : Part) → v ≡ value.Record fields → fs ≡ fields → HasNames t n (names_of (seen_fields fs)) → IsNode m part (form_of t (shape.Record n)) (data_in (seen_fields fs)) → Means m (seen v) part
 record_imported m t n v fs fields part is same has node =
     subst (λ (d : Datum). Means m d part) (sym (ap seen is ∙ seen_record fields))
-      (subst (λ (l : List (List ℕ × Value)). Means m (datum.Record (seen_fields l)) part) same
-        (means_from_node m (datum.Record (seen_fields fs)) part (form_of t (shape.Record n)) (data_in (seen_fields fs)) (record_split t n fs has) node))
+    (subst (λ (l : List (List ℕ × Value)). Means m (datum.Record (seen_fields l)) part) same
+    (means_from_node m (datum.Record (seen_fields fs)) part (form_of t (shape.Record n)) (data_in (seen_fields fs)) (record_split t n fs has) node))
 
 -- a shape keeps its names where the table grows
 pub names_extend : (t u : Shapes) (n : ℕ) (names : List (List ℕ)) → IsShapes t → Extends t u → HasNames t n names → HasNames u n names
@@ -272,28 +272,28 @@ held-nulls k (suc n) = omega (arith, held-nulls k n)
 
 pub imports_nulls : (h : Heap) (n : ℕ) → Imports h h (replicate n Null)
 imports_nulls h n = record {
-    counts = λ others counts. reordered (count_at h) (map_of h) others (replicate n Null ++ others) (λ k. omega (arith, held-append k (replicate n Null) others, held-nulls k n)) counts;
-    more = λ k b was. was;
-  }
+  counts = λ others counts. reordered (count_at h) (map_of h) others (replicate n Null ++ others) (λ k. omega (arith, held-append k (replicate n Null) others, held-nulls k n)) counts;
+  more = λ k b was. was;
+}
 
 pub imports_failed : (a b c d : Heap) (parts places : List Part) → Counts a places → Imports a b parts → SameNodes b c → ((others : List Part) → Counts c (parts ++ others) → Counts d others) → ((base : Map) (others : List Part) → Counts c (parts ++ others) → Upholds base others → More base (map_of c) → More base (map_of d)) → SameNodes a d
 imports_failed a b c d parts places counts imports same frees upheld =
     let still = counts_same b c (parts ++ places) same (imports.counts places counts) in
     restored a d places counts (frees places still)
-      (upheld (map_of a) places still
-        (λ k body was. omega (arith, counts.counted k, counts.alive k (subst IsSome (sym was) refl)))
-        (λ k body was. same.nodes k ∙ imports.more k body was))
+    (upheld (map_of a) places still
+    (λ k body was. omega (arith, counts.counted k, counts.alive k (subst IsSome (sym was) refl)))
+    (λ k body was. same.nodes k ∙ imports.more k body was))
 
 pub import_acts : (a b : Heap) (part : Part) (others : List Part) → Stands a others → Imports a b (part ∷ []) → Grew a b → Acts a b (part ∷ []) others
 import_acts a b part others stands imports grew = record {
-    stands = record {
-      counts = imports.counts others stands.counts;
-      within = grew.within stands.within;
-      some = omega (arith, grew.cap, stands.some);
-      table = grew.table;
-    };
-    keeps = λ q d among means. means_more (map_of a) (map_of b) imports.more d q means;
-  }
+  stands = record {
+    counts = imports.counts others stands.counts;
+    within = grew.within stands.within;
+    some = omega (arith, grew.cap, stands.some);
+    table = grew.table;
+  };
+  keeps = λ q d among means. means_more (map_of a) (map_of b) imports.more d q means;
+}
 
 -- ---- what is inside is smaller
 

@@ -20,9 +20,9 @@ last_at [] x zero d below = inr (refl, refl)
 last_at [] x (suc k) d below = absurd (omega arith)
 last_at (y ∷ ys) x zero d below = inl (omega arith, refl)
 last_at (y ∷ ys) x (suc k) d below = elim (last_at ys x k d (omega arith)) [
-    | inl before ↦ inl (omega (arith, before.0), before.1)
-    | inr last ↦ inr (omega (arith, last.0), last.1)
-  ]
+  | inl before ↦ inl (omega (arith, before.0), before.1)
+  | inr last ↦ inr (omega (arith, last.0), last.1)
+]
 
 pub slice_get_more : {X : Type 0} (xs ys : List X) (n : ℕ) (x : X) → slice_get xs n ≡ Some x → slice_get (xs ++ ys) n ≡ Some x
 slice_get_more [] ys n x is = absurd (cc)
@@ -35,9 +35,9 @@ slice_get_last (y ∷ xs) x = slice_get_last xs x
 
 all_more : {X : Type 0} (P : X → Type 0) (xs : List X) (x : X) → All P xs → P x → All P (xs ++ x ∷ [])
 all_more P xs x all here k d below = elim (last_at xs x k d below) [
-    | inl before ↦ subst P (sym before.1) (all k d before.0)
-    | inr last ↦ subst P (sym last.1) here
-  ]
+  | inl before ↦ subst P (sym before.1) (all k d before.0)
+  | inr last ↦ subst P (sym last.1) here
+]
 
 get_or_any : (xs : List (List ℕ)) (k : ℕ) (d e : List ℕ) → k < length xs → get_or xs k d ≡ get_or xs k e
 get_or_any [] k d e below = absurd (omega arith)
@@ -84,12 +84,12 @@ list_extends t list = record { names = λ n y is. is; lists = λ n l is. slice_g
 
 pub list_table : (t : Shapes) (list : List ℕ) (names : List (List ℕ)) → IsShapes t → AreNamed t list names → Rise names → IsAbsent t.lists list → IsShapes (record t { lists = t.lists ++ list ∷ [] })
 list_table t list names table are rises absent = record {
-    names = table.names;
-    names_apart = table.names_apart;
-    lists_apart = apart_more t.lists list table.lists_apart absent;
-    numbers = all_more (λ l. All (λ n. n < length t.names) l) t.lists list table.numbers (λ k d below. subst (λ (n : ℕ). n < length t.names) (zero_default list k d below) (are.within k below));
-    rise = all_more (λ l. Rise (named t.names l)) t.lists list table.rise (subst Rise (sym are.are) rises);
-  }
+  names = table.names;
+  names_apart = table.names_apart;
+  lists_apart = apart_more t.lists list table.lists_apart absent;
+  numbers = all_more (λ l. All (λ n. n < length t.names) l) t.lists list table.numbers (λ k d below. subst (λ (n : ℕ). n < length t.names) (zero_default list k d below) (are.within k below));
+  rise = all_more (λ l. Rise (named t.names l)) t.lists list table.rise (subst Rise (sym are.are) rises);
+}
   where
     zero_default : (xs : List ℕ) (k d : ℕ) → k < length xs → get_or xs k 0 ≡ get_or xs k d
     zero_default [] k d below = absurd (omega arith)
@@ -122,6 +122,7 @@ named_step t u list names n x named_so extends is =
     found [] i below = absurd (omega arith)
     found (y ∷ xs) zero below = (y, refl)
     found (y ∷ xs) (suc i) below = found xs i (omega arith)
+
     grown : (i : ℕ) → i < length t.names → i < length u.names
     grown i below = let y = found t.names i below in slice_get_within u.names i y.0 (extends.names i y.0 y.1)
 

@@ -80,7 +80,14 @@ impl Heap {
         ensures rest { SameRest self.old self.new }
     {
         match self.nodes.reserve(1) {
-            Ok(()) => Ok(Part::Key(self.nodes.insert_reserved(Node { count: 1, next: None, shape, parts }))),
+            Ok(()) => Ok(Part::Key(
+                self.nodes.insert_reserved(Node {
+                    count: 1,
+                    next: None,
+                    shape,
+                    parts,
+                }),
+            )),
             Err(error) => {
                 self.free_all(&parts);
                 Err(error)

@@ -12,7 +12,11 @@ use wy_data::Name;
 use wy_value::{Shapes, Value};
 
 // the number of the shape with the names of these fields, which the table gets where it lacks it
-pub(crate) fn shape_number(alloc: Global, table: &mut Shapes, fields: &[(Name, Value)]) -> Result<u32, AllocError>
+pub(crate) fn shape_number(
+    alloc: Global,
+    table: &mut Shapes,
+    fields: &[(Name, Value)],
+) -> Result<u32, AllocError>
     requires table { IsShapes table.old }
     requires names { AreFields (seen_fields fields.now) }
     requires rise { Rise (names_of (seen_fields fields.now)) }
@@ -31,7 +35,11 @@ pub(crate) fn shape_number(alloc: Global, table: &mut Shapes, fields: &[(Name, V
 }
 
 // the numbers of the names of these fields
-fn numbers_of(alloc: Global, table: &mut Shapes, fields: &[(Name, Value)]) -> Result<Vec<u32>, AllocError>
+fn numbers_of(
+    alloc: Global,
+    table: &mut Shapes,
+    fields: &[(Name, Value)],
+) -> Result<Vec<u32>, AllocError>
     requires table { IsShapes table.old }
     requires names { AreFields (seen_fields fields.now) }
     ensures named { IfOk result (λ list. AreNamed table.new list.items (names_of (seen_fields fields.now))) }

@@ -9,8 +9,8 @@ returns-clause-table c =
     let t = c.args.table.now in
     let pushed : c.push.new.self ≡ t.names ++ c.args.name.now ∷ [] = c.in_ok-push.ensures.ok ∙ ap (λ (x : List ℕ). t.names ++ x ∷ []) c.in_ok-copy.ensures.value in
     subst (λ (l : List (List ℕ)). IsShapes (record t { names = l })) (sym pushed)
-      (name_table t c.args.name.now c.requires.table c.requires.name
-        (absent_in c.as_slice.result.now t.names c.args.name.now c.find_name.result c.as_slice.ensures c.find_name.ensures c.in_default.not-Some))
+    (name_table t c.args.name.now c.requires.table c.requires.name
+    (absent_in c.as_slice.result.now t.names c.args.name.now c.find_name.result c.as_slice.ensures c.find_name.ensures c.in_default.not-Some))
 
 pub returns-clause-extends : goal.returns-clause-extends
 returns-clause-extends c =

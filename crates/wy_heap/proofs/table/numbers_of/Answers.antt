@@ -25,5 +25,5 @@ loop-field-preserved c =
       table = c.in_ok-number.ensures.table;
       extends = extends_trans c.args.table.now t u c.loop-field.invariant.extends c.in_ok-number.ensures.extends;
       named = subst (λ (l : List ℕ). AreNamed u l (names_of (seen_fields (take (i + 1) fields)))) (sym c.in_ok-push.ensures.items)
-        (subst (AreNamed u (c.loop-field.list.items ++ c.in_ok-number.number ∷ [])) (sym (names_next fields i c.field-item.result below (sym c.field-item.is))) step);
+          (subst (AreNamed u (c.loop-field.list.items ++ c.in_ok-number.number ∷ [])) (sym (names_next fields i c.field-item.result below (sym c.field-item.is))) step);
     }

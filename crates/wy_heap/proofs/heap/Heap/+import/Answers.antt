@@ -36,25 +36,34 @@ pub import_items-imported-requires : goal.import_items-imported-requires
 import_items-imported-requires t c =
     let below = c.loop-i-test.true in
     let here : get_or c.args.items.now c.loop-i.i c.index-items-i.result ≡ c.index-items-i.result = sym c.index-items-i.is in
-    let less : 2 * tree (seen c.index-items-i.result) < 2 * trees (seen_items c.args.items.now) + 1 = item_falls c.args.items.now c.loop-i.i c.index-items-i.result below here in
-    (omega (arith, less),
-     ((c.loop-i.parts.items ++ c.requires.held.0, c.loop-i.invariant.imports.counts c.requires.held.0 c.requires.held.1),
-      (c.loop-i.invariant.grew.table,
-       (omega (arith, c.loop-i.invariant.grew.cap, c.requires.some),
-        item_datum c.args.items.now c.loop-i.i c.index-items-i.result below here c.requires.data))))
+    let less : 2 * tree (seen c.index-items-i.result) < 2 * trees (seen_items c.args.items.now) + 1 = item_falls c.args.items.now c.loop-i.i c.index-items-i.result below here in (
+      omega (arith, less),
+      (
+        (c.loop-i.parts.items ++ c.requires.held.0, c.loop-i.invariant.imports.counts c.requires.held.0 c.requires.held.1),
+        (
+          c.loop-i.invariant.grew.table,
+          (
+            omega (arith, c.loop-i.invariant.grew.cap, c.requires.some),
+            item_datum c.args.items.now c.loop-i.i c.index-items-i.result below here c.requires.data,
+          ),
+        ),
+      ),
+    )
 
 pub import_items-free_all-requires : goal.import_items-free_all-requires
-import_items-free_all-requires t c =
-    (c.requires.held.0, subst (λ (ps : List Part). Counts c.imported.new.self (ps ++ c.requires.held.0)) (sym c.deref.ensures.value)
+import_items-free_all-requires t c = (
+  c.requires.held.0,
+  subst (λ (ps : List Part). Counts c.imported.new.self (ps ++ c.requires.held.0)) (sym c.deref.ensures.value)
       (counts_same c.loop-i.self c.imported.new.self (c.loop-i.parts.items ++ c.requires.held.0) c.in-Err.ensures.no_memory
-        (c.loop-i.invariant.imports.counts c.requires.held.0 c.requires.held.1)))
+      (c.loop-i.invariant.imports.counts c.requires.held.0 c.requires.held.1)),
+)
 
 pub import_items-returns-in-Err-clause-no_memory : goal.import_items-returns-in-Err-clause-no_memory
 import_items-returns-in-Err-clause-no_memory t c =
     let b = c.imported.new.self in
     imports_failed c.args.self.now c.loop-i.self b c.free_all.new.self c.loop-i.parts.items c.requires.held.0 c.requires.held.1 c.loop-i.invariant.imports c.in-Err.ensures.no_memory
-      (λ others counts. c.free_all.ensures.counts others (subst (λ (ps : List Part). Counts b (ps ++ others)) (sym c.deref.ensures.value) counts))
-      (λ base others counts upholds more. c.free_all.ensures.upheld base others (subst (λ (ps : List Part). Counts b (ps ++ others)) (sym c.deref.ensures.value) counts) upholds more)
+    (λ others counts. c.free_all.ensures.counts others (subst (λ (ps : List Part). Counts b (ps ++ others)) (sym c.deref.ensures.value) counts))
+    (λ base others counts upholds more. c.free_all.ensures.upheld base others (subst (λ (ps : List Part). Counts b (ps ++ others)) (sym c.deref.ensures.value) counts) upholds more)
 
 pub import_items-loop-i-preserved : goal.import_items-loop-i-preserved
 import_items-loop-i-preserved t c =
@@ -74,20 +83,20 @@ import_items-loop-i-preserved t c =
       value = λ k lower. elim (cases_eq k i) [
         | inl same ↦ subst (λ (j : ℕ). Means (map_of n) (nth (seen_items c.args.items.now) j) (get_or (set parts i c.in-Ok.part) j Null)) (sym same)
             (subst (Means (map_of n) (nth (seen_items c.args.items.now) i)) (sym (get_or-set_same parts i c.in-Ok.part Null below))
-              (subst (λ (d : Datum). Means (map_of n) d c.in-Ok.part) (sym is) one.value))
+            (subst (λ (d : Datum). Means (map_of n) d c.in-Ok.part) (sym is) one.value))
         | inr differ ↦ subst (Means (map_of n) (nth (seen_items c.args.items.now) k)) (sym (get_or-set_other parts i k c.in-Ok.part Null differ))
             (means_more (map_of s) (map_of n) one.imports.more (nth (seen_items c.args.items.now) k) (get_or parts k Null) (c.loop-i.invariant.value k (omega (arith, lower, differ))))
       ];
       rest = λ k from.
-        let differ : k ≢ i = omega (arith, from) in
-        get_or-set_other parts i k c.in-Ok.part Null differ ∙ c.loop-i.invariant.rest k (omega (arith, from));
+          let differ : k ≢ i = omega (arith, from) in
+          get_or-set_other parts i k c.in-Ok.part Null differ ∙ c.loop-i.invariant.rest k (omega (arith, from));
     }
 
 pub import_items-returns-clause-value : goal.import_items-returns-clause-value
 import_items-returns-clause-value t c =
     let parts = c.loop-i.parts.items in
     (mean_all_from (map_of c.loop-i.self) (seen_items c.args.items.now) parts (c.loop-i.invariant.long ∙ sym (length-seen_items c.args.items.now))
-      (λ k below. c.loop-i.invariant.value k (omega (arith, below, c.loop-i.invariant.long, c.loop-i-test.false))))
+    (λ k below. c.loop-i.invariant.value k (omega (arith, below, c.loop-i.invariant.long, c.loop-i-test.false))))
 
 pub import_fields-loop-i-init : goal.import_fields-loop-i-init
 import_fields-loop-i-init t c =
@@ -104,25 +113,34 @@ pub import_fields-imported-requires : goal.import_fields-imported-requires
 import_fields-imported-requires t c =
     let below = c.loop-i-test.true in
     let here : get_or c.args.fields.now c.loop-i.i c.index-fields-i.result ≡ c.index-fields-i.result = sym c.index-fields-i.is in
-    let less : 2 * tree (seen ((get_or c.args.fields.now c.loop-i.i c.index-fields-i.result).1)) < 2 * trees (data_in (seen_fields c.args.fields.now)) + 1 = field_falls c.args.fields.now c.loop-i.i c.index-fields-i.result below here in
-    (omega (arith, less),
-     ((c.loop-i.parts.items ++ c.requires.held.0, c.loop-i.invariant.imports.counts c.requires.held.0 c.requires.held.1),
-      (c.loop-i.invariant.grew.table,
-       (omega (arith, c.loop-i.invariant.grew.cap, c.requires.some),
-        subst IsDatum (ap (λ x. seen x.1) (sym here)) (field_datum c.args.fields.now c.loop-i.i c.index-fields-i.result below here c.requires.data)))))
+    let less : 2 * tree (seen ((get_or c.args.fields.now c.loop-i.i c.index-fields-i.result).1)) < 2 * trees (data_in (seen_fields c.args.fields.now)) + 1 = field_falls c.args.fields.now c.loop-i.i c.index-fields-i.result below here in (
+      omega (arith, less),
+      (
+        (c.loop-i.parts.items ++ c.requires.held.0, c.loop-i.invariant.imports.counts c.requires.held.0 c.requires.held.1),
+        (
+          c.loop-i.invariant.grew.table,
+          (
+            omega (arith, c.loop-i.invariant.grew.cap, c.requires.some),
+            subst IsDatum (ap (λ x. seen x.1) (sym here)) (field_datum c.args.fields.now c.loop-i.i c.index-fields-i.result below here c.requires.data),
+          ),
+        ),
+      ),
+    )
 
 pub import_fields-free_all-requires : goal.import_fields-free_all-requires
-import_fields-free_all-requires t c =
-    (c.requires.held.0, subst (λ (ps : List Part). Counts c.imported.new.self (ps ++ c.requires.held.0)) (sym c.deref.ensures.value)
+import_fields-free_all-requires t c = (
+  c.requires.held.0,
+  subst (λ (ps : List Part). Counts c.imported.new.self (ps ++ c.requires.held.0)) (sym c.deref.ensures.value)
       (counts_same c.loop-i.self c.imported.new.self (c.loop-i.parts.items ++ c.requires.held.0) c.in-Err.ensures.no_memory
-        (c.loop-i.invariant.imports.counts c.requires.held.0 c.requires.held.1)))
+      (c.loop-i.invariant.imports.counts c.requires.held.0 c.requires.held.1)),
+)
 
 pub import_fields-returns-in-Err-clause-no_memory : goal.import_fields-returns-in-Err-clause-no_memory
 import_fields-returns-in-Err-clause-no_memory t c =
     let b = c.imported.new.self in
     imports_failed c.args.self.now c.loop-i.self b c.free_all.new.self c.loop-i.parts.items c.requires.held.0 c.requires.held.1 c.loop-i.invariant.imports c.in-Err.ensures.no_memory
-      (λ others counts. c.free_all.ensures.counts others (subst (λ (ps : List Part). Counts b (ps ++ others)) (sym c.deref.ensures.value) counts))
-      (λ base others counts upholds more. c.free_all.ensures.upheld base others (subst (λ (ps : List Part). Counts b (ps ++ others)) (sym c.deref.ensures.value) counts) upholds more)
+    (λ others counts. c.free_all.ensures.counts others (subst (λ (ps : List Part). Counts b (ps ++ others)) (sym c.deref.ensures.value) counts))
+    (λ base others counts upholds more. c.free_all.ensures.upheld base others (subst (λ (ps : List Part). Counts b (ps ++ others)) (sym c.deref.ensures.value) counts) upholds more)
 
 pub import_fields-loop-i-preserved : goal.import_fields-loop-i-preserved
 import_fields-loop-i-preserved t c =
@@ -143,20 +161,20 @@ import_fields-loop-i-preserved t c =
       value = λ k lower. elim (cases_eq k i) [
         | inl same ↦ subst (λ (j : ℕ). Means (map_of n) (nth (data_in (seen_fields c.args.fields.now)) j) (get_or (set parts i c.in-Ok.part) j Null)) (sym same)
             (subst (Means (map_of n) (nth (data_in (seen_fields c.args.fields.now)) i)) (sym (get_or-set_same parts i c.in-Ok.part Null below))
-              (subst (λ (d : Datum). Means (map_of n) d c.in-Ok.part) (sym (is ∙ now)) one.value))
+            (subst (λ (d : Datum). Means (map_of n) d c.in-Ok.part) (sym (is ∙ now)) one.value))
         | inr differ ↦ subst (Means (map_of n) (nth (data_in (seen_fields c.args.fields.now)) k)) (sym (get_or-set_other parts i k c.in-Ok.part Null differ))
             (means_more (map_of s) (map_of n) one.imports.more (nth (data_in (seen_fields c.args.fields.now)) k) (get_or parts k Null) (c.loop-i.invariant.value k (omega (arith, lower, differ))))
       ];
       rest = λ k from.
-        let differ : k ≢ i = omega (arith, from) in
-        get_or-set_other parts i k c.in-Ok.part Null differ ∙ c.loop-i.invariant.rest k (omega (arith, from));
+          let differ : k ≢ i = omega (arith, from) in
+          get_or-set_other parts i k c.in-Ok.part Null differ ∙ c.loop-i.invariant.rest k (omega (arith, from));
     }
 
 pub import_fields-returns-clause-value : goal.import_fields-returns-clause-value
 import_fields-returns-clause-value t c =
     let parts = c.loop-i.parts.items in
     fields_from_data (map_of c.loop-i.self) (seen_fields c.args.fields.now) parts (mean_all_from (map_of c.loop-i.self) (data_in (seen_fields c.args.fields.now)) parts (c.loop-i.invariant.long ∙ sym (length-seen_fields c.args.fields.now))
-      (λ k below. c.loop-i.invariant.value k (omega (arith, below, c.loop-i.invariant.long, c.loop-i-test.false))))
+    (λ k below. c.loop-i.invariant.value k (omega (arith, below, c.loop-i.invariant.long, c.loop-i-test.false))))
 
 pub imported-import_items-requires : goal.imported-import_items-requires
 imported-import_items-requires t c =
@@ -174,7 +192,7 @@ imported-returns-in_default-adopt-clause-no_memory t c =
 pub imported-returns-in-Ok-adopt-clause-value : goal.imported-returns-in-Ok-adopt-clause-value
 imported-returns-in-Ok-adopt-clause-value t c =
     array_imported (map_of c.adopt.new.self) c.args.value.now c.as_slice.result.now c.in-Array.items c.in-Ok-adopt.part c.in-Array.is c.as_slice.ensures
-      (c.in-Ok-adopt.ensures.adopts.node (seen_items c.as_slice.result.now) c.in-Ok.ensures.value)
+    (c.in-Ok-adopt.ensures.adopts.node (seen_items c.as_slice.result.now) c.in-Ok.ensures.value)
 
 pub imported-returns-in-Ok-adopt-clause-imports : goal.imported-returns-in-Ok-adopt-clause-imports
 imported-returns-in-Ok-adopt-clause-imports t c =
@@ -203,7 +221,7 @@ imported-returns-in_default-import_fields-clause-no_memory t c =
     let h = c.args.self.now in
     let grown : Heap = record h { shapes = c.shape_number.new.table } in
     same_trans h grown c.import_fields.new.self
-      (tabled h c.shape_number.new.table c.requires.held.0 c.requires.held.1 c.requires.table c.in-Ok-shape_number.ensures.extends) c.in_default-import_fields.ensures.no_memory
+    (tabled h c.shape_number.new.table c.requires.held.0 c.requires.held.1 c.requires.table c.in-Ok-shape_number.ensures.extends) c.in_default-import_fields.ensures.no_memory
 
 pub imported-adopt-requires-in-Record-clause-held : goal.imported-adopt-requires-in-Record-clause-held
 imported-adopt-requires-in-Record-clause-held t c =
@@ -217,9 +235,12 @@ imported-adopt-requires-in-Record-clause-fits t c =
     let fields = c.as_slice-in-Record-2.result.now in
     let slices : c.as_slice-in-Record.result.now ≡ fields = c.as_slice-in-Record.ensures ∙ sym c.as_slice-in-Record-2.ensures in
     let has = subst (λ fs. HasNames c.shape_number.new.table c.in-Ok-shape_number.shape (names_of (seen_fields fs))) slices c.in-Ok-shape_number.ensures.shape in
-    let later = names_extend c.shape_number.new.table c.import_fields.new.self.shapes c.in-Ok-shape_number.shape (names_of (seen_fields fields)) c.in-Ok-shape_number.ensures.table c.in-Ok-import_fields.ensures.grew.extends has in
-    (data_in (seen_fields fields), data_from_fields (map_of c.import_fields.new.self) (seen_fields fields) c.in-Ok-import_fields.parts.items c.in-Ok-import_fields.ensures.value,
-     datum.Record (seen_fields fields), record_split c.import_fields.new.self.shapes c.in-Ok-shape_number.shape fields later)
+    let later = names_extend c.shape_number.new.table c.import_fields.new.self.shapes c.in-Ok-shape_number.shape (names_of (seen_fields fields)) c.in-Ok-shape_number.ensures.table c.in-Ok-import_fields.ensures.grew.extends has in (
+      data_in (seen_fields fields),
+      data_from_fields (map_of c.import_fields.new.self) (seen_fields fields) c.in-Ok-import_fields.parts.items c.in-Ok-import_fields.ensures.value,
+      datum.Record (seen_fields fields),
+      record_split c.import_fields.new.self.shapes c.in-Ok-shape_number.shape fields later,
+    )
 
 pub imported-returns-in_default-adopt-2-clause-no_memory : goal.imported-returns-in_default-adopt-2-clause-no_memory
 imported-returns-in_default-adopt-2-clause-no_memory t c =
@@ -227,7 +248,7 @@ imported-returns-in_default-adopt-2-clause-no_memory t c =
     let grown : Heap = record h { shapes = c.shape_number.new.table } in
     let same = tabled h c.shape_number.new.table c.requires.held.0 c.requires.held.1 c.requires.table c.in-Ok-shape_number.ensures.extends in
     imports_dropped h c.import_fields.new.self c.adopt-in-Record.new.self c.in-Ok-import_fields.parts.items c.requires.held.0 c.requires.held.1
-      (same_imports h grown c.import_fields.new.self c.in-Ok-import_fields.parts.items same c.in-Ok-import_fields.ensures.imports) c.in_default-adopt-2.ensures.frees
+    (same_imports h grown c.import_fields.new.self c.in-Ok-import_fields.parts.items same c.in-Ok-import_fields.ensures.imports) c.in_default-adopt-2.ensures.frees
 
 pub imported-returns-in-Ok-adopt-2-clause-value : goal.imported-returns-in-Ok-adopt-2-clause-value
 imported-returns-in-Ok-adopt-2-clause-value t c =
@@ -236,7 +257,7 @@ imported-returns-in-Ok-adopt-2-clause-value t c =
     let has = subst (λ fs. HasNames c.shape_number.new.table c.in-Ok-shape_number.shape (names_of (seen_fields fs))) slices c.in-Ok-shape_number.ensures.shape in
     let later = names_extend c.shape_number.new.table c.import_fields.new.self.shapes c.in-Ok-shape_number.shape (names_of (seen_fields fields)) c.in-Ok-shape_number.ensures.table c.in-Ok-import_fields.ensures.grew.extends has in
     record_imported (map_of c.adopt-in-Record.new.self) c.import_fields.new.self.shapes c.in-Ok-shape_number.shape c.args.value.now fields c.in-Record.fields c.in-Ok-adopt-2.part c.in-Record.is c.as_slice-in-Record-2.ensures later
-      (c.in-Ok-adopt-2.ensures.adopts.node (data_in (seen_fields fields)) (data_from_fields (map_of c.import_fields.new.self) (seen_fields fields) c.in-Ok-import_fields.parts.items c.in-Ok-import_fields.ensures.value))
+    (c.in-Ok-adopt-2.ensures.adopts.node (data_in (seen_fields fields)) (data_from_fields (map_of c.import_fields.new.self) (seen_fields fields) c.in-Ok-import_fields.parts.items c.in-Ok-import_fields.ensures.value))
 
 pub imported-returns-in-Ok-adopt-2-clause-imports : goal.imported-returns-in-Ok-adopt-2-clause-imports
 imported-returns-in-Ok-adopt-2-clause-imports t c =
@@ -244,4 +265,4 @@ imported-returns-in-Ok-adopt-2-clause-imports t c =
     let grown : Heap = record h { shapes = c.shape_number.new.table } in
     let same = tabled h c.shape_number.new.table c.requires.held.0 c.requires.held.1 c.requires.table c.in-Ok-shape_number.ensures.extends in
     imports_adopts h c.import_fields.new.self c.adopt-in-Record.new.self _ c.in-Ok-import_fields.parts.items c.in-Ok-adopt-2.part
-      (same_imports h grown c.import_fields.new.self c.in-Ok-import_fields.parts.items same c.in-Ok-import_fields.ensures.imports) c.in-Ok-adopt-2.ensures.adopts
+    (same_imports h grown c.import_fields.new.self c.in-Ok-import_fields.parts.items same c.in-Ok-import_fields.ensures.imports) c.in-Ok-adopt-2.ensures.adopts

@@ -11,9 +11,10 @@ pub free-requires : goal.free-requires
 free-requires c =
     let i = c.loop-part.part-index in
     let parts = c.args.parts.now in
-    let below : i < length parts = search rules in
-    (drop (i + 1) parts ++ c.requires.0,
-     subst (λ (ps : List Part). Counts c.loop-part.self (ps ++ c.requires.0)) (drop_more parts i Null below) (c.loop-part.invariant.counts c.requires.0 c.requires.1))
+    let below : i < length parts = search rules in (
+      drop (i + 1) parts ++ c.requires.0,
+      subst (λ (ps : List Part). Counts c.loop-part.self (ps ++ c.requires.0)) (drop_more parts i Null below) (c.loop-part.invariant.counts c.requires.0 c.requires.1),
+    )
 
 pub loop-part-preserved : goal.loop-part-preserved
 loop-part-preserved c =
@@ -23,10 +24,10 @@ loop-part-preserved c =
     record {
       rest = record { cap = cc; shapes = cc; copies = cc };
       counts = λ others counts.
-        (c.free.ensures.leads (drop (i + 1) parts ++ others)
+          (c.free.ensures.leads (drop (i + 1) parts ++ others)
           (subst (λ (ps : List Part). Counts c.loop-part.self (ps ++ others)) (drop_more parts i Null below) (c.loop-part.invariant.counts others counts))).counts;
       upheld = λ base others counts upholds more.
-        c.free.ensures.upheld base (drop (i + 1) parts ++ others)
+          c.free.ensures.upheld base (drop (i + 1) parts ++ others)
           (subst (λ (ps : List Part). Counts c.loop-part.self (ps ++ others)) (drop_more parts i Null below) (c.loop-part.invariant.counts others counts))
           (upholds_more base (drop (i + 1) parts) others upholds)
           (c.loop-part.invariant.upheld base others counts upholds more);
