@@ -17,3 +17,5 @@ pub mod PutLemmas
 pub mod PutLevelLemmas
 pub mod LawLemmas
 pub mod RowLemmas
+pub mod ImportLemmas
+pub mod TableLemmas

@@ -52,12 +52,12 @@ each_held safe (p ∷ ps) from =
 
 -- ---- nodes: a form and the data of the parts
 
-data_from_fields : (m : Map) (fs : Fields) (ps : List Part) → MeanFields m fs ps → MeanAll m (data_in fs) ps
+pub data_from_fields : (m : Map) (fs : Fields) (ps : List Part) → MeanFields m fs ps → MeanAll m (data_in fs) ps
 data_from_fields m no_fields ps mean = mean
 data_from_fields m (field k d fs) [] mean = mean
 data_from_fields m (field k d fs) (p ∷ ps) mean = (mean.0, data_from_fields m fs ps mean.1)
 
-fields_from_data : (m : Map) (fs : Fields) (ps : List Part) → MeanAll m (data_in fs) ps → MeanFields m fs ps
+pub fields_from_data : (m : Map) (fs : Fields) (ps : List Part) → MeanAll m (data_in fs) ps → MeanFields m fs ps
 fields_from_data m no_fields ps mean = mean
 fields_from_data m (field k d fs) [] mean = mean
 fields_from_data m (field k d fs) (p ∷ ps) mean = (mean.0, fields_from_data m fs ps mean.1)

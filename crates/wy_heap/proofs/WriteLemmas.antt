@@ -111,6 +111,9 @@ module _ (h n : Heap) (key : ℕ) (shape : Shape) (parts : List Part) (adds : Ad
   pub added_node : (ds : Data) → MeanAll (map_of h) ds parts → IsNode (map_of n) (Key key) (form_of h.shapes shape) ds
   added_node = grown_node (count_at h) (map_of h) n key (form_of h.shapes shape) parts added_grows
 
+  pub added_stays : (k : ℕ) (b : Body) → at (map_of h) k ≡ Some b → at (map_of n) k ≡ Some b
+  added_stays = grown_stays (count_at h) (map_of h) n key (form_of h.shapes shape) parts added_grows
+
   pub added_leads : Fits (map_of h) (form_of h.shapes shape) parts → (others : List Part) → Counts h (parts ++ others) → Leads h n (Key key ∷ []) others
   added_leads fits others counts = record {
     counts = grown_counts (count_at h) (map_of h) n key (form_of h.shapes shape) parts added_grows

@@ -5,6 +5,8 @@ pub mod Standing
 pub mod Parts
 pub mod Slots
 pub mod Making
+pub mod Extending
+pub mod Importing
 pub mod Copying
 pub mod Putting
 pub mod Comparing

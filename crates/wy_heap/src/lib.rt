@@ -11,6 +11,7 @@
 mod comparing;
 mod heap;
 mod holding;
+mod importing;
 mod laws;
 mod making;
 mod node;
@@ -20,6 +21,7 @@ mod setting;
 mod settling;
 mod showing;
 mod slots;
+mod table;
 #[cfg(test)]
 mod tests;
 

@@ -11,7 +11,7 @@ ghost use Rattle.wy_heap.specs.Standing.{Stands, Counts, IsWithin, AreHeld, Acts
 ghost use Rattle.wy_heap.specs.Slots.{joined};
 ghost use Rattle.wy_heap.specs.Making.{repeated, HasShape};
 ghost use Rattle.wy_heap.specs.Copying.{CopiesBeside};
-ghost use Rattle.wy_heap.specs.Changing.{SameRest, SameNodes, Leads, Adds, Joins, JoinsAlone, HasRoom, AreThere, Fits, Builds};
+ghost use Rattle.wy_heap.specs.Changing.{SameRest, SameNodes, Leads, Adds, Joins, JoinsAlone, HasRoom, AreThere, Fits, Builds, Adopts, Drops};
 
 use crate::heap::Heap;
 use crate::node::{Node, Shape};
@@ -70,6 +70,31 @@ impl Heap {
         Ok(Place::of(Part::Key(key)))
     }
 
+    // a node of these parts, whose holds go over to it; at want of memory they are let go of
+    pub(crate) fn adopt(&mut self, shape: Shape, parts: Vec<Part>) -> Result<Part, AllocError>
+        requires held { (others : List Part) × Counts self.old (parts.items ++ others) }
+        requires fits { Fits (map_of self.old) (form_of self.old.shapes shape) parts.items }
+        ensures adopts { IfOk result (λ part. Adopts self.old self.new (form_of self.old.shapes shape) parts.items part) }
+        ensures frees { OnErr result (Drops self.old self.new parts.items) }
+        ensures within { 1 ≤ self.old.cap → IsWithin self.old → IsWithin self.new }
+        ensures rest { SameRest self.old self.new }
+    {
+        match self.nodes.reserve(1) {
+            Ok(()) => Ok(Part::Key(
+                self.nodes.insert_reserved(Node {
+                    count: 1,
+                    next: None,
+                    shape,
+                    parts,
+                }),
+            )),
+            Err(error) => {
+                self.free_all(&parts);
+                Err(error)
+            }
+        }
+    }
+
     // the parts of these places
     fn words(&self, items: &[Place]) -> Result<Vec<Part>, AllocError>
         ensures { IfOk result (λ words. words.items ≡ items.now) }
@@ -122,7 +147,7 @@ impl Heap {
     }
 
     // so many times the part
-    fn times(&self, part: Part, n: usize) -> Result<Vec<Part>, AllocError>
+    pub(crate) fn times(&self, part: Part, n: usize) -> Result<Vec<Part>, AllocError>
         ensures { IfOk result (λ words. words.items ≡ replicate n part) }
     {
         let mut words = Vec::with_capacity(self.alloc, n)?;

@@ -5,10 +5,10 @@
 ghost use Rattle.std.specs.Prelude.{◌≡◌, ◌≤◌, ◌∷◌, [], ◌++◌, ℕ, List};
 ghost use Rattle.wy_heap.specs.declared.part.Part.{Part};
 ghost use Rattle.wy_heap.specs.declared.part.Part.TheVariants.{Key};
-ghost use Rattle.wy_heap.specs.Nodes.{map_of, count_at};
+ghost use Rattle.wy_heap.specs.Nodes.{Map, map_of, count_at};
 ghost use Rattle.wy_heap.specs.Standing.{Stands, Counts, AreHeld, Acts, SameTable};
 ghost use Rattle.wy_heap.specs.Freeing.{Frees};
-ghost use Rattle.wy_heap.specs.Changing.{SameRest, Leads, Lasts, Upheld};
+ghost use Rattle.wy_heap.specs.Changing.{SameRest, Leads, Lasts, Upholds, Upheld, More};
 
 use crate::heap::Heap;
 use crate::node::Node;
@@ -46,6 +46,19 @@ impl Heap {
                 parts,
             } = self.nodes.remove(key);
             dead = self.let_go_all(&parts, next);
+        }
+    }
+
+    // lets go of the holds on these parts, and frees what nothing holds any more
+    pub(crate) fn free_all(&mut self, parts: &[Part])
+        requires { (others : List Part) × Counts self.old (parts.now ++ others) }
+        ensures counts { (others : List Part) → Counts self.old (parts.now ++ others) → Counts self.new others }
+        ensures upheld { (base : Map) (others : List Part) → Counts self.old (parts.now ++ others) → Upholds base others → More base (map_of self.old) → More base (map_of self.new) }
+        ensures lower { (k : ℕ) → count_at self.new k ≤ count_at self.old k }
+        ensures rest { SameRest self.old self.new }
+    {
+        for part in parts {
+            self.free(*part);
         }
     }
 
