@@ -1,0 +1,6 @@
+mod NumberLemmas
+mod KnownLemmas
+mod NarrowLemmas
+mod MarkLemmas
+mod ValueLemmas
+mod WayLemmas

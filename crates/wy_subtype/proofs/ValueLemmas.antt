@@ -1,0 +1,147 @@
+-- Marks of conjuncts with a value, sound and complete.
+use Rattle.std.proofs.Common.{◌≡◌, ℕ, ◌<◌, List, [], ◌∷◌, length, Bool, true, false, not, ◌&&◌, ◌||◌, ◌⊎◌, inl, inr, Some, set, refl, sym, ap, subst, ◌∙◌, arith}
+use Rattle.std.specs.Prelude.{slice_get}
+use Rattle.std.proofs.lemmas.Bool.{or_cases}
+use Rattle.std.proofs.lemmas.Option.{slice_get_within}
+use Rattle.wy_value.specs.Datum.{Datum}
+use Rattle.wy_types.specs.declared.conjuncts.Signed.{Signed}
+use Rattle.wy_types.specs.declared.conjuncts.Conjunct.{Conjunct}
+use Rattle.wy_types.specs.declared.table.Table.{Table}
+use Rattle.wy_types.specs.Shape.{part_in, conjunct_in, any_in}
+use Rattle.wy_types.specs.Claims.{SomeOf, EachOf}
+use Rattle.wy_types.specs.Membership.{shape_of, member}
+use Rattle.wy_types.specs.Ranked.{IsRanked}
+use Rattle.wy_types.specs.Conjuncts.{dnf_part, with_sides}
+use Rattle.wy_types.specs.Asks.{all_options, options, HasValue, IsMet}
+use Rattle.wy_types.specs.Reach.{outside}
+use Rattle.wy_types.proofs.ClaimLemmas.{some_split, each_append}
+use Rattle.wy_types.proofs.RankedLemmas.{has_laws, is_lawful}
+use Rattle.wy_types.proofs.TermLemmas.{any_in-dnf_part, part_in-with_sides}
+use Rattle.wy_types.proofs.AskLemmas.{options_of-value}
+use Rattle.wy_types.proofs.FoundLemmas.{found}
+use Rattle.wy_subtype.specs.declared.reach.Reach.{Reach}
+use Rattle.wy_subtype.specs.Numbers.{AreAt}
+use Rattle.wy_subtype.specs.Marks.{mark_at, any_marked, met, part_marks, HaveValues, AreSound, AreClosedBy}
+use Rattle.wy_subtype.specs.Known.{options_of, IsKnown, IsReach}
+use Rattle.wy_subtype.proofs.NumberLemmas.{get_within}
+use Rattle.wy_subtype.proofs.MarkLemmas.{or_left, or_right, met-value, met-at, IsMarked, IsPart, all_are_parts, mark_at-set, part_mark}
+
+pub none_are_sound : (table : Table) (k : ℕ) (conjuncts : List (Conjunct ℕ)) (marks : List Bool) → ((n : ℕ) → mark_at marks n ≡ false) → AreSound table k conjuncts marks
+none_are_sound table k conjuncts marks h n c e f = absurd (let x = h n in cc (x, e))
+
+-- a marked conjunct among those of a part
+head_value : (table : Table) (k : ℕ) (conjuncts : List (Conjunct ℕ)) (marks : List Bool) → AreSound table k conjuncts marks → (h : List ℕ) (cs : List (Conjunct ℕ)) → AreAt conjuncts h cs → any_marked marks h ≡ true → (d : Datum) × (any_in (shape_of table k d) cs ≡ true)
+head_value table k conjuncts marks sound [] [] a e = absurd cc
+head_value table k conjuncts marks sound [] (c ∷ cs) a e = absurd a
+head_value table k conjuncts marks sound (j ∷ js) [] a e = absurd a
+head_value table k conjuncts marks sound (j ∷ js) (c ∷ cs) a e = by (or_cases (mark_at marks j) (any_marked marks js) e) (λ f. head_value table k conjuncts marks sound js cs a.1 f)
+  where
+    by : (mark_at marks j ≡ true) ⊎ (any_marked marks js ≡ true) → (any_marked marks js ≡ true → (d : Datum) × (any_in (shape_of table k d) cs ≡ true)) → (d : Datum) × (any_in (shape_of table k d) (c ∷ cs) ≡ true)
+    by (inl f) rest = let v = sound j c f a.0 in (v.0, or_left (conjunct_in (shape_of table k v.0) c) (any_in (shape_of table k v.0) cs) v.1)
+    by (inr f) rest = let v = rest f in (v.0, or_right (conjunct_in (shape_of table k v.0) c) (any_in (shape_of table k v.0) cs) v.1)
+
+module _ (table : Table) (k : ℕ) (ranked : (rank : ℕ → ℕ) × IsRanked table rank k) where
+  union : (d : Datum) (p : List (Signed ℕ)) → any_in (shape_of table k d) (dnf_part table k p) ≡ part_in (member table k d) p
+  union d p = any_in-dnf_part table k (shape_of table k d) (has_laws table ranked.0 k ranked.1 d) p
+
+  pub held_sound : (first : List (Signed ℕ)) (r : Reach) (marks : List Bool) → IsKnown table k first r → AreSound table k r.conjuncts marks → HaveValues table k r.parts (part_marks marks r.heads)
+  held_sound first r marks known sound n p e at =
+      let lt : n < length r.heads = (let w = slice_get_within r.parts n p at in let f = known.counted in omega (arith, w, f)) in
+      let g = get_within r.heads n lt in
+      let v = head_value table k r.conjuncts marks sound g.0 (dnf_part table k p) (known.headed n p g.0 at g.1) (sym (part_mark marks r.heads n g.0 g.1) ∙ e) in
+      (v.0, sym (union v.0 p) ∙ v.1)
+
+  pub value_sound : (first : List (Signed ℕ)) (r : Reach) (held marks : List Bool) (i : ℕ) (a : List (List (List ℕ))) → IsKnown table k first r → HaveValues table k r.parts held → slice_get r.asks i ≡ Some a → met held a ≡ true → AreSound table k r.conjuncts marks
+      → AreSound table k r.conjuncts (set marks i true)
+  value_sound first r held marks i a known hs at m sound j c e f = by (mark_at-set marks i j e)
+    where
+      by : (j ≡ i) ⊎ (mark_at marks j ≡ true) → (d : Datum) × (conjunct_in (shape_of table k d) c ≡ true)
+      by (inl is) =
+          options_of-value table ranked.0 k ranked.1 c.positive c.negatives
+          (met-value table k r.parts held hs a (options_of table k c) (known.asked i c a (subst (λ (x : ℕ). slice_get r.conjuncts x ≡ Some c) is f) at) m)
+      by (inr old) = sound j c old f
+
+  -- ---- every part with a value is marked
+
+  all_parts : (first : List (Signed ℕ)) (r : Reach) (b : ℕ) (reach : IsReach table k first r b) (h : List ℕ) (cs : List (Conjunct ℕ)) → AreAt r.conjuncts h cs → EachOf (EachOf (EachOf (IsPart r.parts))) (all_options table k cs)
+  all_parts first r b reach [] [] a = tt
+  all_parts first r b reach [] (c ∷ cs) a = absurd a
+  all_parts first r b reach (j ∷ js) [] a = absurd a
+  all_parts first r b reach (j ∷ js) (c ∷ cs) a =
+      let lt : j < length r.asks = (let w = slice_get_within r.conjuncts j c a.0 in let f = reach.full in omega (arith, w, f)) in
+      let g = get_within r.asks j lt in
+      each_append (EachOf (EachOf (IsPart r.parts))) (options_of table k c) (all_options table k cs)
+      (all_are_parts r.parts g.0 (options_of table k c) (reach.known.asked j c g.0 a.0 g.1))
+      (all_parts first r b reach js cs a.1)
+
+  head_marked : (first : List (Signed ℕ)) (r : Reach) (b : ℕ) (reach : IsReach table k first r b) (held marks : List Bool) → AreClosedBy held marks r.asks (length r.asks) → (h : List ℕ) (cs : List (Conjunct ℕ)) → AreAt r.conjuncts h cs
+      → IsMet (IsMarked r.parts held) (all_options table k cs) → any_marked marks h ≡ true
+  head_marked first r b reach held marks closed [] [] a m = absurd m
+  head_marked first r b reach held marks closed [] (c ∷ cs) a m = absurd a
+  head_marked first r b reach held marks closed (j ∷ js) [] a m = absurd a
+  head_marked first r b reach held marks closed (j ∷ js) (c ∷ cs) a m =
+      by (some_split (EachOf (SomeOf (IsMarked r.parts held))) (options_of table k c) (all_options table k cs) m) (λ n. head_marked first r b reach held marks closed js cs a.1 n)
+    where
+      lt : j < length r.asks
+      lt = let w = slice_get_within r.conjuncts j c a.0 in let f = reach.full in omega (arith, w, f)
+
+      by : IsMet (IsMarked r.parts held) (options_of table k c) ⊎ IsMet (IsMarked r.parts held) (all_options table k cs) → (IsMet (IsMarked r.parts held) (all_options table k cs) → any_marked marks js ≡ true)
+          → (mark_at marks j || any_marked marks js) ≡ true
+      by (inl n) rest =
+          let g = get_within r.asks j lt in
+          or_left (mark_at marks j) (any_marked marks js) (closed j lt g.0 g.1 (met-at r.parts held g.0 (options_of table k c) (reach.known.asked j c g.0 a.0 g.1) n))
+      by (inr n) rest = or_right (mark_at marks j) (any_marked marks js) (rest n)
+
+  pub value_held : (first : List (Signed ℕ)) (r : Reach) (b : ℕ) → IsReach table k first r b → (marks : List Bool) → AreClosedBy (part_marks marks r.heads) marks r.asks (length r.asks) → (d : Datum) → part_in (member table k d) first ≡ true
+      → mark_at (part_marks marks r.heads) b ≡ true
+  value_held first r b reach marks closed d e =
+      found table ranked.0 k ranked.1 (IsPart r.parts) (IsMarked r.parts (part_marks marks r.heads)) within close d first (b, reach.begins) e b reach.begins
+    where
+      head_of : (n : ℕ) (p : List (Signed ℕ)) → slice_get r.parts n ≡ Some p → (h : List ℕ) × (slice_get r.heads n ≡ Some h)
+      head_of n p at = get_within r.heads n (let w = slice_get_within r.parts n p at in let f = reach.known.counted in omega (arith, w, f))
+
+      within : (p : List (Signed ℕ)) → IsPart r.parts p → EachOf (EachOf (EachOf (IsPart r.parts))) (options table k p)
+      within p i = let g = head_of i.0 p i.1 in all_parts first r b reach g.0 (dnf_part table k p) (reach.known.headed i.0 p g.0 i.1 g.1)
+
+      close : (p : List (Signed ℕ)) → IsPart r.parts p → IsMet (IsMarked r.parts (part_marks marks r.heads)) (options table k p) → IsMarked r.parts (part_marks marks r.heads) p
+      close p i m n at =
+          let g = head_of n p at in
+          part_mark marks r.heads n g.0 g.1 ∙ head_marked first r b reach (part_marks marks r.heads) marks closed g.0 (dnf_part table k p) (reach.known.headed n p g.0 at g.1) m
+
+  -- ---- inclusion
+
+  -- what is outside is in the one and not in the other
+  part_in-outside : (d : Datum) (a b : ℕ) → part_in (member table k d) (outside table k a b) ≡ (member table k d true a && not (member table k d true b))
+  part_in-outside d a b =
+      part_in-with_sides table (member table k d) (is_lawful table ranked.0 k ranked.1 (shape_of table k d)) k (with_sides table k [] true true a) true false b
+      ∙ ap (λ x. x && not (member table k d true b)) (part_in-with_sides table (member table k d) (is_lawful table ranked.0 k ranked.1 (shape_of table k d)) k [] true true a)
+
+  pub within_is : (a b : ℕ) → ((d : Datum) → part_in (member table k d) (outside table k a b) ≡ true → ⊥) → (d : Datum) → member table k d true a ≡ true → member table k d true b ≡ true
+  within_is a b h d in_a = by (member table k d true b) refl
+    where
+      by : (x : Bool) → member table k d true b ≡ x → member table k d true b ≡ true
+      by true f = f
+      by false f = absurd (h d (part_in-outside d a b ∙ rw (in_a, f) refl))
+
+  pub outside_is : (a b : ℕ) → HasValue table k (outside table k a b) → (d : Datum) × (member table k d true a ≡ true) × (member table k d true b ≡ false)
+  outside_is a b v = by v.0 (member table k v.0 true a) (member table k v.0 true b) refl refl (sym (part_in-outside v.0 a b) ∙ v.1)
+    where
+      by : (d : Datum) (x y : Bool) → member table k d true a ≡ x → member table k d true b ≡ y → (x && not y) ≡ true → (d : Datum) × (member table k d true a ≡ true) × (member table k d true b ≡ false)
+      by d true false f g h = (d, f, g)
+      by d true true f g h = absurd cc
+      by d false y f g h = absurd cc
+
+  -- ---- values of a term
+
+  part_in-inside : (d : Datum) (t : ℕ) → part_in (member table k d) (with_sides table k [] true true t) ≡ member table k d true t
+  part_in-inside d t = part_in-with_sides table (member table k d) (is_lawful table ranked.0 k ranked.1 (shape_of table k d)) k [] true true t
+
+  pub none_inside : (t : ℕ) → ((d : Datum) → part_in (member table k d) (with_sides table k [] true true t) ≡ true → ⊥) → (d : Datum) → member table k d true t ≡ false
+  none_inside t h d = by (member table k d true t) refl
+    where
+      by : (x : Bool) → member table k d true t ≡ x → member table k d true t ≡ false
+      by false f = f
+      by true f = absurd (h d (part_in-inside d t ∙ f))
+
+  pub some_inside : (t : ℕ) → HasValue table k (with_sides table k [] true true t) → (d : Datum) × (member table k d true t ≡ true)
+  some_inside t v = (v.0, sym (part_in-inside v.0 t) ∙ v.1)

@@ -1,0 +1,6 @@
+use Rattle.std.proofs.Common.{◌≡◌, drop}
+use Rattle.wy_types.specs.Shape.{BoolShape, none_in}
+use Rattle.wy_subtype.proofs.asks.no_bool.Given as goal
+
+abbrev pub invariant-loop-atom : goal.invariant-loop-atom
+invariant-loop-atom l = none_in BoolShape (drop l.atom-index l.negatives) ≡ none_in BoolShape l.negatives

@@ -1,0 +1,56 @@
+-- Marks of what has a value.
+use Rattle.std.specs.Prelude.{◌≡◌, ℕ, suc, ◌<◌, List, [], ◌∷◌, Bool, true, false, ◌&&◌, ◌||◌, Some, slice_get}
+use Rattle.std.specs.Option.{unwrap_or}
+use Rattle.wy_value.specs.Datum.{Datum}
+use Rattle.wy_types.specs.declared.conjuncts.Signed.{Signed}
+use Rattle.wy_types.specs.declared.conjuncts.Conjunct.{Conjunct}
+use Rattle.wy_types.specs.declared.table.Table.{Table}
+use Rattle.wy_types.specs.Shape.{conjunct_in}
+use Rattle.wy_types.specs.Membership.{shape_of}
+use Rattle.wy_types.specs.Asks.{HasValue}
+
+-- the number has a mark
+abbrev pub mark_at : List Bool → ℕ → Bool
+mark_at marks n = unwrap_or (slice_get marks n) false
+
+-- one of the numbers has a mark
+abbrev pub any_marked : List Bool → List ℕ → Bool
+any_marked marks [] = false
+any_marked marks (n ∷ ns) = mark_at marks n || any_marked marks ns
+
+-- one of each list has a mark
+abbrev pub each_marked : List Bool → List (List ℕ) → Bool
+each_marked marks [] = true
+each_marked marks (ns ∷ more) = any_marked marks ns && each_marked marks more
+
+-- one option is met by the marks
+abbrev pub met : List Bool → List (List (List ℕ)) → Bool
+met marks [] = false
+met marks (o ∷ os) = each_marked marks o || met marks os
+
+-- the parts with a marked conjunct
+abbrev pub part_marks : List Bool → List (List ℕ) → List Bool
+part_marks marks [] = []
+part_marks marks (h ∷ hs) = any_marked marks h ∷ part_marks marks hs
+
+-- how many are not marked
+abbrev pub unmarked : List Bool → ℕ
+unmarked [] = 0
+unmarked (true ∷ marks) = unmarked marks
+unmarked (false ∷ marks) = suc (unmarked marks)
+
+-- each marked part has a value
+abbrev pub HaveValues : Table → ℕ → List (List (Signed ℕ)) → List Bool → Type 0
+HaveValues table k parts marks = (n : ℕ) (p : List (Signed ℕ)) → mark_at marks n ≡ true → slice_get parts n ≡ Some p → HasValue table k p
+
+-- each marked conjunct has a value
+abbrev pub AreSound : Table → ℕ → List (Conjunct ℕ) → List Bool → Type 0
+AreSound table k conjuncts marks = (j : ℕ) (c : Conjunct ℕ) → mark_at marks j ≡ true → slice_get conjuncts j ≡ Some c → (d : Datum) × (conjunct_in (shape_of table k d) c ≡ true)
+
+-- the conjunct with this number is marked where what it asks is held
+abbrev pub IsClosedBy : List Bool → List Bool → List (List (List (List ℕ))) → ℕ → Type 0
+IsClosedBy held marks asks n = (a : List (List (List ℕ))) → slice_get asks n ≡ Some a → met held a ≡ true → mark_at marks n ≡ true
+
+-- so for each number below this one
+abbrev pub AreClosedBy : List Bool → List Bool → List (List (List (List ℕ))) → ℕ → Type 0
+AreClosedBy held marks asks m = (n : ℕ) → n < m → IsClosedBy held marks asks n

@@ -1,0 +1,16 @@
+pub mod TruthLemmas
+mod ShortLemmas
+pub mod OnceLemmas
+pub mod MeetLemmas
+pub mod OutLemmas
+pub mod RankedLemmas
+pub mod TermLemmas
+pub mod ClaimLemmas
+pub mod AskLemmas
+pub mod FoundLemmas
+pub mod PutLemmas
+pub mod StandLemmas
+pub mod RankLemmas
+pub mod AgreeLemmas
+pub mod QuestionLemmas
+mod SeenLemmas

@@ -1,0 +1,73 @@
+//! The types of a question in a table.
+ghost use Rattle.std.specs.Prelude.{◌≡◌, ℕ, Bool, map, IfOk, OnOk};
+ghost use Rattle.wy_core.specs.CoreSeen.{seen_ty};
+ghost use Rattle.wy_types.specs.Membership.{member};
+ghost use Rattle.wy_types.specs.Names.{shape_of, is_in_ty, seen_declared, types_of};
+ghost use Rattle.wy_types.specs.Numbering as numbering;
+ghost use Rattle.wy_types.specs.Questions.{numbered};
+ghost use Rattle.wy_types.specs.Ranked.{IsRanked};
+ghost use Rattle.wy_types.specs.Recursion.{RecurThroughParts};
+ghost use Rattle.wy_value.specs.Datum.{Datum};
+
+use crate::names::{Declared, Names};
+use crate::numbering::Numbering;
+use crate::table::{Definition, Table};
+use crate::tree_numbers::put_ty;
+use sqlite_items::Items;
+use std::alloc::{AllocError, Global};
+use wy_core::Ty;
+
+/// Two types by their numbers in a table that has the declared types too, and a number above the
+/// depth to which bare names in them go.
+#[derive(Drop)]
+pub struct Question {
+    pub table: Table,
+    pub depth: u32,
+    pub first: u32,
+    pub second: u32,
+}
+
+// The numbers of the declared types.
+fn put_declared(
+    alloc: Global,
+    nodes: &mut Numbering,
+    declared: &[Declared],
+) -> Result<Items<Definition>, AllocError>
+    ensures nodes { OnOk result (nodes.new ≡ (numbering.put_declared nodes.old (map seen_declared declared.now)).0) }
+    ensures made { IfOk result (λ made. made ≡ (numbering.put_declared nodes.old (map seen_declared declared.now)).1) }
+{
+    let mut made = Items::new(alloc);
+    for one in declared {
+        let term = put_ty(alloc, nodes, &one.ty)?;
+        made.push(Definition {
+            term,
+            constrained: one.constrained,
+        })?;
+    }
+    Ok(made)
+}
+
+impl Names {
+    /// The question whether the first type is within the second, in time linear in the size of the
+    /// declared types and of both. Want of memory is also the answer where the terms of these are
+    /// more than 2^32 - 2.
+    pub fn number(&self, alloc: Global, first: &Ty, second: &Ty) -> Result<Question, AllocError>
+        requires recursion { RecurThroughParts (types_of self.now) }
+        ensures value { IfOk result (λ q. q ≡ numbered (types_of self.now) (seen_ty first.now) (seen_ty second.now)) }
+        ensures ranked { IfOk result (λ q. (rank : ℕ → ℕ) × IsRanked q.table rank q.depth) }
+        ensures first { IfOk result (λ q. (d : Datum) (up : Bool) → member q.table q.depth d up q.first ≡ is_in_ty (types_of self.now) (shape_of (types_of self.now) d) up (seen_ty first.now)) }
+        ensures second { IfOk result (λ q. (d : Datum) (up : Bool) → member q.table q.depth d up q.second ≡ is_in_ty (types_of self.now) (shape_of (types_of self.now) d) up (seen_ty second.now)) }
+    {
+        let mut nodes = Numbering::new(alloc);
+        let definitions = put_declared(alloc, &mut nodes, self.declared.as_slice())?;
+        let first = put_ty(alloc, &mut nodes, first)?;
+        let second = put_ty(alloc, &mut nodes, second)?;
+        let depth = nodes.len() as u32 + 1;
+        Ok(Question {
+            table: Table { nodes, definitions },
+            depth,
+            first,
+            second,
+        })
+    }
+}
