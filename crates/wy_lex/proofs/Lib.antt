@@ -1,3 +1,13 @@
 pub mod TextLemmas
 pub mod LineLemmas
 pub mod SourceLemmas
+pub mod Judging
+pub mod CharacterLemmas
+pub mod CommentExact
+pub mod LexemeExact
+pub mod PieceExact
+pub mod SourceExact
+pub mod SourceEnds
+pub mod ValidLemmas
+pub mod Refusals
+pub mod PlaceLemmas

@@ -84,20 +84,20 @@ code_or_zero None = 0
 code_or_zero (Some c) = c
 
 -- a backslash and what stands behind it; one that begins no escape is BadEscape
-abbrev pub Escape : Bool → R ℕ
-Escape strict = Then (Checked Anything (lax strict means) BadEscape (Then (One (is 92)) (λ b. Behind))) (λ e. Pure (code_or_zero (meant e)))
+abbrev pub Escape : R ℕ
+Escape = Then (Checked Anything means BadEscape (Then (One (is 92)) (λ b. Behind))) (λ e. Pure (code_or_zero (meant e)))
 
 -- a character of a string, by its code
-abbrev pub Unit_of : Bool → R ℕ
-Unit_of strict = Or (Then (One (holds class.Plain)) (λ c. Pure c.character)) (Escape strict)
+abbrev pub UnitOf : R ℕ
+UnitOf = Or (Then (One (holds class.Plain)) (λ c. Pure c.character)) Escape
 
 -- one more
-abbrev pub Further : Bool → List ℕ → R (List ℕ)
-Further strict codes = Then (Unit_of strict) (λ c. Pure (codes ++ c ∷ []))
+abbrev pub Further : List ℕ → R (List ℕ)
+Further codes = Then UnitOf (λ c. Pure (codes ++ c ∷ []))
 
-abbrev pub Text : Bool → R Lexeme
-Text strict =
-    Then (One (is 34)) (λ quote. Then (Loop (Further strict) []) (λ codes. Then (One (is 34)) (λ close. Pure (lexeme (k.Text codes) quote.at class.Nothing))))
+abbrev pub Text : R Lexeme
+Text =
+    Then (One (is 34)) (λ quote. Then (Loop Further []) (λ codes. Then (One (is 34)) (λ close. Pure (lexeme (k.Text codes) quote.at class.Nothing))))
 
 -- ---- symbols, but for the slash
 
@@ -111,7 +111,7 @@ Sign =
 
 -- a literal or a symbol
 abbrev pub Other : Bool → R Lexeme
-Other strict = Or (Numeral strict) (Or (Text strict) Sign)
+Other strict = Or (Numeral strict) (Or Text Sign)
 
 abbrev pub placed_at : State → Lexeme → State
 placed_at s l = placed s l.kind l.at l.more
@@ -167,7 +167,7 @@ struck s (solidus.Open, at) = passed s class.Any
 -- a comment without its `*/` is OpenComment, and a slash that begins a line where none may begin is BadIndent
 abbrev pub SlashPiece : Bool → State → R State
 SlashPiece strict s =
-    Then (Checked Anything (lax strict (may_be s)) BadIndent (Checked Anything (lax strict is_closed) OpenComment Stroke)) (λ v. Pure (struck s v))
+    Then (Checked Anything (lax strict (may_be s)) BadIndent (Checked Anything is_closed OpenComment Stroke)) (λ v. Pure (struck s v))
 
 -- ---- blanks and line ends
 
@@ -191,9 +191,18 @@ Piece strict s =
     (Or (Gap s)
     (Break s))))
 
+-- the characters that would lengthen a piece, by what its state says
+abbrev pub lengthens : Character → Symbol → Bool
+lengthens class.Blank = holds class.Blank
+lengthens class.Part = holds class.Part
+lengthens class.Remark = holds class.Remark
+lengthens class.NoLineEnd = holds class.NoLineEnd
+lengthens (class.Is c) = holds (class.Is c)
+lengthens _ = λ s. false
+
 -- no piece begins with what would lengthen the one before it
 abbrev pub Next : Bool → State → R State
-Next strict s = Unless (holds s.more) (Piece strict s)
+Next strict s = Unless (lengthens s.more) (Piece strict s)
 
 -- the tokens of a source of so many bytes
 abbrev pub Source : ℕ → Mode → R (List Token)

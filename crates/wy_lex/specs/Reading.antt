@@ -32,20 +32,20 @@ numeral_lexeme strict =
 abbrev pub behind : Q (Option ℕ)
 behind = branch (holds class.Any) (one (holds class.Any) >>= (λ c. pure (Some c.character))) (finish >>= (λ x. pure None))
 
-unfoldable pub escape : Bool → Q ℕ
-escape strict = checked (lax strict means) BadEscape (one (is 92) >>= (λ b. behind)) >>= (λ e. pure (code_or_zero (meant e)))
+unfoldable pub escape : Q ℕ
+escape = checked means BadEscape (one (is 92) >>= (λ b. behind)) >>= (λ e. pure (code_or_zero (meant e)))
 
-unfoldable pub unit_of : Bool → Q ℕ
-unit_of strict = branch (holds class.Plain) (one (holds class.Plain) >>= (λ c. pure c.character)) (escape strict)
+unfoldable pub unit_of : Q ℕ
+unit_of = branch (holds class.Plain) (one (holds class.Plain) >>= (λ c. pure c.character)) escape
 
-abbrev pub further : Bool → List ℕ → Q (List ℕ)
-further strict codes = unit_of strict >>= (λ c. pure (codes ++ c ∷ []))
+abbrev pub further : List ℕ → Q (List ℕ)
+further codes = unit_of >>= (λ c. pure (codes ++ c ∷ []))
 
-unfoldable pub inside : Bool → Q (List ℕ)
-inside strict = while (holds class.Inside) (further strict) []
+unfoldable pub inside : Q (List ℕ)
+inside = while (holds class.Inside) further []
 
-unfoldable pub text : Bool → Q Lexeme
-text strict = one (is 34) >>= (λ quote. inside strict >>= (λ codes. one (is 34) >>= (λ close. pure (lexeme (k.Text codes) quote.at class.Nothing))))
+unfoldable pub text : Q Lexeme
+text = one (is 34) >>= (λ quote. inside >>= (λ codes. one (is 34) >>= (λ close. pure (lexeme (k.Text codes) quote.at class.Nothing))))
 
 unfoldable pub sign : Q Lexeme
 sign =
@@ -57,7 +57,7 @@ sign =
     (pure (lexeme (single c.character) c.at (second c.character))))
 
 unfoldable pub other : Bool → Q Lexeme
-other strict = branch (holds class.Digit) (numeral_lexeme strict) (branch (is 34) (text strict) sign)
+other strict = branch (holds class.Digit) (numeral_lexeme strict) (branch (is 34) text sign)
 
 unfoldable pub other_piece : Bool → Bool → State → Q State → Q State
 other_piece true strict s p = branch (holds class.Other) (other strict >>= (λ l. pure (placed_at s l))) p
@@ -82,11 +82,11 @@ stroke =
     (branch (is 42) (one (is 42) >>= (λ s. closed >>= (λ v. pure (v, first.at))))
     (pure (solidus.Sign, first.at))))
 
-unfoldable pub slash : Bool → Q (Solidus × ℕ)
-slash strict = checked (lax strict is_closed) OpenComment stroke
+unfoldable pub slash : Q (Solidus × ℕ)
+slash = checked is_closed OpenComment stroke
 
 unfoldable pub slash_piece : Bool → State → Q State
-slash_piece strict s = checked (lax strict (may_be s)) BadIndent (slash strict) >>= (λ v. pure (struck s v))
+slash_piece strict s = checked (lax strict (may_be s)) BadIndent slash >>= (λ v. pure (struck s v))
 
 unfoldable pub blanks : Q (List Symbol)
 blanks = while (holds class.Blank) (letter (holds class.Blank)) []

@@ -40,6 +40,10 @@ pub record Leaves (bytes : List ℕ) (at : ℕ) : Type 0 where
   pub here : at ≡ offset (length bytes) (symbols bytes) left
   pub bad : places.FirstBad (Source (length bytes)) profile (symbols bytes) left
 
+-- no rule's fault stands anywhere
+abbrev pub MeetsNone : List ℕ → Type 0
+MeetsNone bytes = (x : Kind) (at : ℕ) → Meets bytes x at → ⊥
+
 -- the bytes are refused so
 abbrev pub IsRefused : List ℕ → LexFault → Type 0
 IsRefused bytes (NotUtf8 at) = IsValidUpTo bytes at

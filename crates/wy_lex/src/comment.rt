@@ -23,7 +23,7 @@ pub enum Solidus {
 /// A slash with the comment that it begins, and its place.
 #[tactic(auto, unfolding(crate::specs::Reading::slash, crate::specs::Reading::stroke, crate::specs::Reading::closed))]
 pub fn slash(text: &[Symbol]) -> Result<((Solidus, u32), &[Symbol]), Stop<Kind>>
-    ensures { Reads (spec.slash true text.now) result }
+    ensures { Reads (spec.slash text.now) result }
 {
     let (first, rest) = one(text, Character::Is('/'))?;
     if next_is(rest, Character::Is('/')) {

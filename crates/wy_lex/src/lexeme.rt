@@ -104,7 +104,7 @@ pub fn spelled(alloc: Global, text: &[Symbol]) -> Result<String, AllocError>
 
 #[tactic(auto, unfolding(crate::specs::Reading::text))]
 fn string(alloc: Global, text: &[Symbol]) -> Result<(Lexeme, &[Symbol]), Stop<Kind>>
-    ensures { Reads (spec.text true text.now) result }
+    ensures { Reads (spec.text text.now) result }
 {
     let (quote, rest) = one(text, Character::Is('"'))?;
     let (codes, rest) = inside(alloc, rest)?;
@@ -122,7 +122,7 @@ fn string(alloc: Global, text: &[Symbol]) -> Result<(Lexeme, &[Symbol]), Stop<Ki
 // The codes of a string.
 #[tactic(auto, using(wy_reading::proofs::Turns::reader_steps), unfolding(crate::specs::Reading::inside))]
 fn inside(alloc: Global, text: &[Symbol]) -> Result<(Items<u8>, &[Symbol]), Stop<Kind>>
-    ensures { Reads (spec.inside true text.now) result }
+    ensures { Reads (spec.inside text.now) result }
 {
     let (mut codes, mut rest) = (Items::new(alloc), text);
     for _turn in 0..text.len() {
@@ -137,7 +137,7 @@ fn inside(alloc: Global, text: &[Symbol]) -> Result<(Items<u8>, &[Symbol]), Stop
 }
 
 fn further(mut codes: Items<u8>, text: &[Symbol]) -> Result<(Items<u8>, &[Symbol]), Stop<Kind>>
-    ensures { Reads (spec.further true codes text.now) result }
+    ensures { Reads (spec.further codes text.now) result }
 {
     let (code, rest) = unit(text)?;
     codes.push(code)?;
@@ -147,7 +147,7 @@ fn further(mut codes: Items<u8>, text: &[Symbol]) -> Result<(Items<u8>, &[Symbol
 // A character of a string, by its code.
 #[tactic(auto, unfolding(crate::specs::Reading::unit_of))]
 fn unit(text: &[Symbol]) -> Result<(u8, &[Symbol]), Stop<Kind>>
-    ensures { Reads (spec.unit_of true text.now) result }
+    ensures { Reads (spec.unit_of text.now) result }
 {
     if !next_is(text, Character::Plain) {
         return escape(text);
@@ -158,7 +158,7 @@ fn unit(text: &[Symbol]) -> Result<(u8, &[Symbol]), Stop<Kind>>
 
 #[tactic(auto, unfolding(crate::specs::Reading::escape))]
 fn escape(text: &[Symbol]) -> Result<(u8, &[Symbol]), Stop<Kind>>
-    ensures { Reads (spec.escape true text.now) result }
+    ensures { Reads (spec.escape text.now) result }
 {
     let (_, behind) = one(text, Character::Is('\\'))?;
     match behind {

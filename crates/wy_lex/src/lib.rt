@@ -8,12 +8,13 @@
 //!
 //! `specs/Grammar.antt` says what the tokens of a source are, as a relation, `specs/Layout.antt` what a
 //! token does to lines and blocks, and `specs/Reading.antt` has the same grammar as functions, each of
-//! which is one here. Nothing recurses on the source.
+//! which is one here; that both agree is proved of every source. Nothing recurses on the source.
 #![tactic(auto)]
 
 mod blocks;
 mod comment;
 mod fault;
+mod laws;
 mod layout;
 mod lexeme;
 mod pieces;
@@ -25,5 +26,6 @@ mod token;
 mod words;
 
 pub use fault::LexFault;
+pub use laws::{a_source_has_one_fault, a_source_has_one_reading, the_last_token_is_end};
 pub use source::tokens;
 pub use token::{Token, TokenKind};

@@ -1,8 +1,9 @@
 //! Sources.
-ghost use Rattle.std.specs.Prelude.{◌≡◌, ◌≤◌, ◌<◌, ◌^◌, length, Ok, Err, IfOk, IfErr, true};
-ghost use Rattle.std.specs.Str.{chars, encode_utf8_all};
+ghost use Rattle.std.specs.Prelude.{◌≡◌, ◌≤◌, ◌<◌, ◌^◌, length, Ok, Err, IfOk, IfErr, true, ℕ, List};
+ghost use Rattle.std.specs.Str.{IsValidUpTo, chars, encode_utf8_all};
+ghost use Rattle.wy_lex.specs.declared.fault.LexFault.TheVariants.{BadChar, NotUtf8};
 ghost use Rattle.wy_lex.specs.Reading as spec;
-ghost use Rattle.wy_lex.specs.Source.{Answers, answer, fault_at, tokens_read};
+ghost use Rattle.wy_lex.specs.Source.{Answers, IsRefused, Leaves, Meets, MeetsNone, Tokens, answer, fault_at, fault_of, tokens_read};
 ghost use Rattle.wy_lex.specs.Symbols as symbols;
 ghost use Rattle.wy_reading.specs.Places as places;
 ghost use Rattle.wy_reading.specs.Reader.{Reads, ReadsPart};
@@ -18,8 +19,22 @@ use std::alloc::{AllocError, Global};
 use wy_data::Bytes;
 use wy_reading::Stop;
 
-/// The tokens of a source, the last of which is `End`. Linear in the source.
+/// The tokens of a source, the last of which is `End`. Bytes that aren't UTF-8 are refused first, and of
+/// the other faults the one that stands first is answered, at its place. Linear in the source.
 pub fn tokens(alloc: Global, bytes: &[u8]) -> Result<Items<Token>, LexFault>
+    requires { length bytes.now < 2 ^ 32 }
+    ensures spells { IfOk result (λ ts. Tokens bytes.now ts) }
+    ensures reads { (ts : List Token) → Tokens bytes.now ts → Answers (Ok ts) result }
+    ensures fault { IfErr result (IsRefused bytes.now) }
+    ensures exact { (x : Kind) (at : ℕ) → Meets bytes.now x at → Answers (Err (fault_of x at)) result }
+    ensures utf8 { (at : ℕ) → IsValidUpTo bytes.now at → Answers (Err (NotUtf8 at)) result }
+    ensures bad_char { (at : ℕ) → Leaves bytes.now at → MeetsNone bytes.now → Answers (Err (BadChar at)) result }
+{
+    read(alloc, bytes)
+}
+
+// What the reader answers.
+fn read(alloc: Global, bytes: &[u8]) -> Result<Items<Token>, LexFault>
     requires { length bytes.now < 2 ^ 32 }
     ensures value { Answers (tokens_read bytes.now) result }
 {

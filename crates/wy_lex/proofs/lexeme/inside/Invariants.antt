@@ -1,4 +1,4 @@
-use Rattle.std.proofs.Common.{◌≡◌, ◌-◌, true}
+use Rattle.std.proofs.Common.{◌≡◌, ◌-◌}
 use Rattle.wy_reading.specs.Reader.{loop}
 use Rattle.wy_lex.specs.declared.symbol.Character.TheVariants.{Inside}
 use Rattle.wy_lex.specs.Symbols.{holds}
@@ -7,4 +7,4 @@ use Rattle.wy_lex.proofs.lexeme.inside.Given as goal
 
 -- what the loop still reads completes what it made
 abbrev pub invariant-loop-turn : goal.invariant-loop-turn
-invariant-loop-turn l = inside true l.fn.text ≡ loop (holds Inside) (further true) (l._turn-end - l._turn) l.codes l.rest
+invariant-loop-turn l = inside l.fn.text ≡ loop (holds Inside) further (l._turn-end - l._turn) l.codes l.rest
