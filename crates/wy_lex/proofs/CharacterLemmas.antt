@@ -1,16 +1,16 @@
 -- What the classes of characters say of first characters.
-use Rattle.std.proofs.Common.{◌≡◌, ℕ, ◌<◌, Bool, true, false, not, cond, ◌&&◌, ◌||◌, ◌==◌, nat_le, nat_lt, true≢false, List, [], ◌∷◌, ◌⊎◌, inl, inr, refl, sym, ap, ◌∙◌, arith, eqb-true}
+use Rattle.std.proofs.Common.{◌≡◌, ℕ, Bool, true, false, not, cond, ◌&&◌, ◌||◌, ◌==◌, nat_le, true≢false, List, [], ◌∷◌, ◌⊎◌, inl, inr, refl, sym, ap, ◌∙◌, arith, eqb-true}
 use Rattle.std.specs.Char.{is_ascii_alphabetic, is_ascii_alphanumeric}
 use Rattle.std.proofs.lemmas.Bool.{leb-true}
 use Rattle.wy_data.proofs.WordLemmas.{is_start-ascii, is_part-ascii}
 use Rattle.wy_data.specs.Words.{is_start, is_part}
 use Rattle.wy_reading.specs.Rule.{heads, among}
 use Rattle.wy_reading.proofs.Exactness.{Passes, Lacks}
-use Rattle.wy_reading.proofs.SymbolSets.{heads-at, heads-not}
+use Rattle.wy_reading.proofs.SymbolSets.{heads-at}
 use Rattle.wy_lex.specs.declared.symbol.Symbol.{Symbol}
 use Rattle.wy_lex.specs.declared.symbol.Character.{Character}
 use Rattle.wy_lex.specs.declared.symbol.Character.TheVariants as class
-use Rattle.wy_lex.specs.Symbols.{has, holds, is_digit, is_sign, is_other, is_blank, signs}
+use Rattle.wy_lex.specs.Symbols.{has, holds, is_digit, is_sign, is_other, signs}
 use Rattle.wy_lex.specs.Grammar.{is}
 
 -- some character, anywhere

@@ -1,13 +1,13 @@
 -- A slash and the comment that it begins are read exactly.
-use Rattle.std.proofs.Common.{◌≡◌, ℕ, Bool, true, false, cond, ◌&&◌, ◌||◌, true≢false, List, [], ◌∷◌, ◌++◌, length, drop, Option, Some, None, Ok, Err, ◌⊎◌, inl, inr, refl, sym, ap, ◌∙◌, subst, append_assoc, append-nil, zero, suc}
+use Rattle.std.proofs.Common.{◌≡◌, ℕ, Bool, true, false, cond, ◌&&◌, ◌||◌, true≢false, List, [], ◌∷◌, ◌++◌, length, drop, Option, Some, None, Ok, Err, inl, inr, refl, sym, ap, ◌∙◌, subst, append_assoc, append-nil, zero, suc}
 use Rattle.std.specs.Bool.{⊤}
 use Rattle.wy_reading.specs.declared.stop.Stop.{Stop}
 use Rattle.wy_reading.specs.declared.stop.Stop.TheVariants.{Unexpected, Fault}
 use Rattle.wy_reading.specs.Mode.{Mode, Looser}
 use Rattle.wy_reading.specs.Rule.{Rule, heads, One, Pure, Then, Or, Skip, Unless, Checked}
-use Rattle.wy_reading.specs.Reader.{Reader, Outcome, and_then, ◌>>=◌, pure, one, branch, skip, unless, checked, loop, step}
-use Rattle.wy_reading.proofs.Exactness.{SameHead, Instead, same_mode, Stuck, Sample, ExactTo, Exact, Passes, Lacks, Any, AtEnd}
-use Rattle.wy_reading.proofs.Outcomes.{ok-parts, if-cases}
+use Rattle.wy_reading.specs.Reader.{Outcome, and_then, ◌>>=◌, pure, one, branch, skip, unless, loop, step}
+use Rattle.wy_reading.proofs.Exactness.{SameHead, Instead, Sample, ExactTo, Passes, Lacks, Any, AtEnd}
+use Rattle.wy_reading.proofs.Outcomes.{ok-parts}
 use Rattle.wy_reading.proofs.Single.{symbol, nothing_on}
 use Rattle.wy_reading.proofs.Sequence.{sequence_on}
 use Rattle.wy_reading.proofs.Choice.{choice}
@@ -19,10 +19,10 @@ use Rattle.wy_lex.specs.declared.symbol.Symbol.{Symbol}
 use Rattle.wy_lex.specs.declared.symbol.Character.TheVariants as class
 use Rattle.wy_lex.specs.declared.comment.Solidus.{Solidus}
 use Rattle.wy_lex.specs.declared.comment.Solidus.TheVariants as solidus
-use Rattle.wy_lex.specs.Symbols.{holds, has}
+use Rattle.wy_lex.specs.Symbols.{holds}
 use Rattle.wy_lex.specs.Grammar.{is, has_close, Closed, Stroke, is_closed}
 use Rattle.wy_lex.specs.Reading.{Q, behind_close, closing, closed, stroke, slash}
-use Rattle.wy_lex.proofs.Judging.{begins, clear-exact, RefusesFirst, first_only, judged-exact, judged-first, judged-sample}
+use Rattle.wy_lex.proofs.Judging.{begins, clear-exact, RefusesFirst, first_only, judged-exact, judged-first}
 use Rattle.wy_lex.proofs.CharacterLemmas.{at, at_zero}
 
 -- ---- the end of a comment

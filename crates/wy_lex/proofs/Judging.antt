@@ -1,12 +1,12 @@
 -- Checks whose outcome may say what follows, and other rules that the library of readers lacks.
-use Rattle.std.proofs.Common.{◌≡◌, ℕ, ◌≤◌, Bool, true, false, cond, true≢false, List, [], ◌∷◌, ◌++◌, length, Ok, Err, ◌⊎◌, inl, inr, refl, sym, ap, ◌∙◌, subst, arith}
+use Rattle.std.proofs.Common.{◌≡◌, ℕ, ◌≤◌, Bool, true, false, cond, List, [], ◌∷◌, ◌++◌, length, Ok, Err, ◌⊎◌, inl, inr, refl, sym, ap, ◌∙◌, subst, arith}
 use Rattle.std.specs.Bool.{⊤}
 use Rattle.wy_reading.specs.declared.stop.Stop.{Stop}
 use Rattle.wy_reading.specs.declared.stop.Stop.TheVariants.{Unexpected, Fault}
 use Rattle.wy_reading.specs.Mode.{Mode, Looser}
-use Rattle.wy_reading.specs.Rule.{Rule, heads, One, Pure, Then, Or, Refused, Checked, Unless}
-use Rattle.wy_reading.specs.Reader.{Reader, Outcome, and_then, ◌>>=◌, pure, refuse, one, branch, checked, unless}
-use Rattle.wy_reading.proofs.Exactness.{SameHead, Instead, same_mode, Stuck, Sample, ExactTo, Passes, Lacks}
+use Rattle.wy_reading.specs.Rule.{Rule, heads, Pure, Or, Refused, Checked, Unless}
+use Rattle.wy_reading.specs.Reader.{Reader, Outcome, and_then, ◌>>=◌, pure, refuse, one, checked, unless}
+use Rattle.wy_reading.proofs.Exactness.{SameHead, Instead, same_mode, Sample, ExactTo, Passes, Lacks}
 use Rattle.wy_reading.proofs.Outcomes.{and_then-ok, and_then-err, ok-parts, if-cases, SameHead-heads, SameHead-behind}
 
 -- other tests of what begins

@@ -1,10 +1,10 @@
 -- Words, literals and symbols are read exactly.
-use Rattle.std.proofs.Common.{◌≡◌, ℕ, ◌==◌, Bool, true, false, cond, true≢false, List, [], ◌∷◌, ◌++◌, length, Option, Some, None, Ok, Err, ◌⊎◌, inl, inr, refl, sym, ap, ◌∙◌, subst, rules}
+use Rattle.std.proofs.Common.{◌≡◌, ℕ, ◌==◌, Bool, true, false, cond, true≢false, List, [], ◌∷◌, ◌++◌, Option, Some, None, Err, ◌⊎◌, inl, inr, refl, sym, ap, ◌∙◌, subst, rules}
 use Rattle.std.specs.Bool.{⊤}
-use Rattle.wy_reading.specs.declared.stop.Stop.TheVariants.{Unexpected, Fault}
+use Rattle.wy_reading.specs.declared.stop.Stop.TheVariants.{Unexpected}
 use Rattle.wy_reading.specs.Mode.{Mode, Looser}
-use Rattle.wy_reading.specs.Rule.{Rule, heads, One, Pure, Then, Or, Finish, Word}
-use Rattle.wy_reading.specs.Reader.{Reader, ◌>>=◌, pure, one, finish, branch, word}
+use Rattle.wy_reading.specs.Rule.{heads, One, Pure, Then, Or, Word}
+use Rattle.wy_reading.specs.Reader.{◌>>=◌, pure, one, branch, word}
 use Rattle.wy_reading.proofs.Exactness.{Sample, ExactTo, Exact, Passes, Lacks, Any, AtEnd}
 use Rattle.wy_reading.proofs.Single.{symbol, nothing, nothing_on, finish-exact}
 use Rattle.wy_reading.proofs.Sequence.{sequence, sequence_on}
@@ -21,11 +21,11 @@ use Rattle.wy_lex.specs.declared.symbol.Symbol.{Symbol}
 use Rattle.wy_lex.specs.declared.symbol.Character.{Character}
 use Rattle.wy_lex.specs.declared.symbol.Character.TheVariants as class
 use Rattle.wy_lex.specs.declared.lexeme.Lexeme.{Lexeme}
-use Rattle.wy_lex.specs.Symbols.{has, holds, codes_of, place}
+use Rattle.wy_lex.specs.Symbols.{holds, codes_of, place}
 use Rattle.wy_lex.specs.Kinds.{numeral, single, second, double, third, triple}
-use Rattle.wy_lex.specs.Grammar.{R, is, lexeme, lengthens, NoPart, is_number, Numeral, Behind, meant, means, code_or_zero, Escape, UnitOf, Further, Text, Sign, Other}
-use Rattle.wy_lex.specs.Reading.{Q, numeral_lexeme, behind, escape, unit_of, further, inside, text, sign, other}
-use Rattle.wy_lex.proofs.Judging.{begins, RefusesFirst, first_only, judged-exact}
+use Rattle.wy_lex.specs.Grammar.{R, is, lexeme, lengthens, NoPart, is_number, Numeral, Behind, meant, means, code_or_zero, Escape, UnitOf, Text, Sign, Other}
+use Rattle.wy_lex.specs.Reading.{Q, numeral_lexeme, behind, escape, unit_of, inside, text, sign, other}
+use Rattle.wy_lex.proofs.Judging.{begins, first_only, judged-exact}
 use Rattle.wy_lex.proofs.CharacterLemmas.{at, at_zero, wider, apart, part_letter, sign_no_digit, sign_no_quote}
 
 -- nothing that lengthens it follows
@@ -106,8 +106,8 @@ module _ (n : Mode) where
   text-exact =
       sequence_on {F = λ s. Any} (symbol (is 34) (at_zero 34) refl)
       (λ quote. sequence_on {F = λ w. Passes (is 34)}
-          (repetition_before {F = Passes (is 34)} {G = Any} (holds class.Inside) (λ w. sequence unit-exact (λ c. nothing (w ++ c ∷ [])) (λ i f. f)) (λ i h. h) (λ i f. at 34 class.Inside i f) (λ i f. tt) (λ i h. tt) (at_zero 34 ∷ []) refl [])
-          (λ w. sequence_on {F = λ s. Any} (symbol (is 34) (at_zero 34) refl) (λ c. nothing_on (lexeme (k.Text w) quote.at class.Nothing)) (λ s i f. tt)) (λ w i f. f))
+      (repetition_before {F = Passes (is 34)} {G = Any} (holds class.Inside) (λ w. sequence unit-exact (λ c. nothing (w ++ c ∷ [])) (λ i f. f)) (λ i h. h) (λ i f. at 34 class.Inside i f) (λ i f. tt) (λ i h. tt) (at_zero 34 ∷ []) refl [])
+      (λ w. sequence_on {F = λ s. Any} (symbol (is 34) (at_zero 34) refl) (λ c. nothing_on (lexeme (k.Text w) quote.at class.Nothing)) (λ s i f. tt)) (λ w i f. f))
       (λ s i b. tt)
 
   -- ---- symbols
@@ -175,8 +175,8 @@ module _ (n : Mode) where
   sign-exact =
       sequence_on {F = λ s. Any} (symbol (holds class.Sign) (at_zero 40) refl)
       (λ c. grown (single c.character) c.at _ _
-          (λ d. grown (double c.character) c.at _ _ (λ e. begins {B' = Any} (nothing_on (lexeme triple c.at class.Nothing)) (λ i b. tt)) (third c.character) (third-is c.character))
-          (second c.character) (second-is c.character))
+      (λ d. grown (double c.character) c.at _ _ (λ e. begins {B' = Any} (nothing_on (lexeme triple c.at class.Nothing)) (λ i b. tt)) (third c.character) (third-is c.character))
+      (second c.character) (second-is c.character))
       (λ s i b. tt)
 
   -- ---- literals and symbols

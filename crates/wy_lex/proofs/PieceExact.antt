@@ -1,11 +1,11 @@
 -- Pieces of a source are read exactly.
-use Rattle.std.proofs.Common.{◌≡◌, ℕ, Bool, true, false, cond, ◌||◌, true≢false, List, [], ◌∷◌, ◌++◌, length, Ok, Err, ◌⊎◌, inl, inr, refl, sym, ap, ◌∙◌, subst}
+use Rattle.std.proofs.Common.{◌≡◌, ℕ, Bool, true, false, cond, ◌||◌, true≢false, List, [], ◌∷◌, ◌++◌, length, Err, ◌⊎◌, inl, inr, refl, sym, ap, ◌∙◌, subst}
 use Rattle.std.specs.Bool.{⊤}
-use Rattle.wy_reading.specs.declared.stop.Stop.TheVariants.{Unexpected, Fault}
+use Rattle.wy_reading.specs.declared.stop.Stop.TheVariants.{Fault}
 use Rattle.wy_reading.specs.Mode.{Mode, Looser}
-use Rattle.wy_reading.specs.Rule.{Rule, heads, One, Pure, Then, Or, Word, Checked, Letter, lax}
-use Rattle.wy_reading.specs.Reader.{Reader, ◌>>=◌, pure, one, branch, word, checked, skip}
-use Rattle.wy_reading.proofs.Exactness.{Sample, ExactTo, Exact, Passes, Lacks, Any}
+use Rattle.wy_reading.specs.Rule.{One, Or, Word, Checked, lax}
+use Rattle.wy_reading.specs.Reader.{◌>>=◌, pure, one, branch, word}
+use Rattle.wy_reading.proofs.Exactness.{ExactTo, Exact, Passes, Lacks, Any}
 use Rattle.wy_reading.proofs.Single.{symbol, nothing, nothing_on}
 use Rattle.wy_reading.proofs.Sequence.{sequence, sequence_on}
 use Rattle.wy_reading.proofs.Choice.{choice}
@@ -26,10 +26,10 @@ use Rattle.wy_lex.specs.declared.layout.State.{State}
 use Rattle.wy_lex.specs.Symbols.{has, holds, bytes_of, place}
 use Rattle.wy_lex.specs.Kinds.{word_kind, continues}
 use Rattle.wy_lex.specs.Layout.{may_stand, is_within, begun, added, placed, broken, passed}
-use Rattle.wy_lex.specs.Grammar.{R, is, lengthens, stands, NoPart, WordPiece, placed_at, Other, OtherPiece, Stroke, is_closed, may_be, struck, SlashPiece, Blanks, Gap, Break, Piece}
+use Rattle.wy_lex.specs.Grammar.{R, is, lengthens, stands, NoPart, WordPiece, placed_at, OtherPiece, Stroke, is_closed, may_be, struck, SlashPiece, Blanks, Gap, Break, Piece}
 use Rattle.wy_lex.specs.Reading.{Q, word_piece, other, other_piece, slash, slash_piece, blanks, gap, break_piece, piece}
 use Rattle.wy_lex.proofs.Judging.{begins, judged-exact, barrier-exact}
-use Rattle.wy_lex.proofs.CharacterLemmas.{at, at_zero, at_blank, wider, apart, other_no_start, slash_no_start, space_no_start, tab_no_start, line_end_no_start, start_letter, part_letter}
+use Rattle.wy_lex.proofs.CharacterLemmas.{at, at_zero, at_blank, apart, other_no_start, slash_no_start, space_no_start, tab_no_start, line_end_no_start, start_letter, part_letter}
 use Rattle.wy_lex.proofs.CommentExact.{FollowSlash, StrokeIs, stroke-is, slash-exact, slash-first, slash-sample}
 use Rattle.wy_lex.proofs.CommentExact.StrokeIs.{line, block, open_comment, sign}
 use Rattle.wy_lex.proofs.LexemeExact.{other-exact}

@@ -1,11 +1,10 @@
 -- Where a bad character stands, and where bytes stop being UTF-8, is one place.
-use Rattle.std.proofs.Common.{◌≡◌, ◌≢◌, ℕ, suc, ◌≤◌, ◌<◌, List, [], ◌∷◌, ◌++◌, length, take, Result, Ok, Err, ◌⊎◌, inl, inr, refl, sym, ap, ◌∙◌, subst, arith, append_assoc, append-nil, length-append}
+use Rattle.std.proofs.Common.{◌≡◌, ℕ, ◌<◌, List, [], ◌∷◌, ◌++◌, length, Result, Ok, Err, ◌⊎◌, inl, inr, refl, sym, ap, ◌∙◌, subst, arith, append_assoc, append-nil, length-append}
 use Rattle.std.specs.Str.{IsUtf8, IsValidUpTo}
-use Rattle.std.specs.Str.Lossy.{utf8_valid_len}
 use Rattle.std.proofs.lemmas.Str.{utf8_valid_len-IsValidUpTo}
 use Rattle.wy_reading.specs.Mode.{Mode}
 use Rattle.wy_reading.specs.Rule.{Rule}
-use Rattle.wy_reading.specs.Places.{IsText, CanGoOn, IsDead, FirstBad}
+use Rattle.wy_reading.specs.Places.{IsText, IsDead, FirstBad}
 use Rattle.wy_reading.proofs.Exactness.{same_mode}
 use Rattle.wy_lex.specs.declared.fault.Kind.{Kind}
 use Rattle.wy_lex.specs.declared.fault.Kind.TheVariants as kind
@@ -61,7 +60,7 @@ module _ {A : Type 0} (R : Mode → Rule Symbol Kind A) (n : Mode) where
       let lengths = sym (length-append f.front f.back) ∙ (ap length (sym f.cut ∙ g.cut) ∙ length-append g.front g.back) in
       let order : (length f.front < length g.front) ⊎ ((length g.front < length f.front) ⊎ (length f.front ≡ length g.front)) = grind arith in
       elim order [
-        inl h ↦ absurd (not-further i k l f g h)
+        | inl h ↦ absurd (not-further i k l f g h)
         | inr h ↦ elim h [ inl o ↦ absurd (not-further i l k g f o) | inr o ↦ omega (arith, lengths, o, f.left_is, g.left_is) ]
       ]
 

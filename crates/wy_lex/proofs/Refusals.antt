@@ -1,6 +1,6 @@
 -- What is answered agrees with the grammar, in both directions.
-use Rattle.std.proofs.Common.{◌≡◌, ◌≢◌, ℕ, Bool, true, false, true≢false, cond, ◌==◌, List, [], ◌∷◌, ◌++◌, ◌-◌, length, Result, Ok, Err, IfOk, IfErr, ◌⊎◌, inl, inr, refl, sym, ap, ◌∙◌, subst}
-use Rattle.std.specs.Str.{IsUtf8, IsValidUpTo, is_utf8}
+use Rattle.std.proofs.Common.{◌≡◌, ℕ, Bool, true, false, true≢false, cond, ◌==◌, List, [], ◌∷◌, ◌++◌, ◌-◌, length, Result, Ok, Err, IfOk, IfErr, inl, inr, refl, sym, ap, ◌∙◌, subst}
+use Rattle.std.specs.Str.{IsUtf8, is_utf8}
 use Rattle.std.specs.Str.Lossy.{utf8_valid_len}
 use Rattle.std.proofs.lemmas.Str.{IsUtf8-from_is_utf8, is_utf8-from_IsUtf8}
 use Rattle.wy_reading.specs.declared.stop.Stop.{Stop}
@@ -8,7 +8,6 @@ use Rattle.wy_reading.specs.declared.stop.Stop.TheVariants as stop
 use Rattle.wy_reading.specs.Mode.{Mode}
 use Rattle.wy_reading.specs.Promise.{Promise}
 use Rattle.wy_reading.proofs.Exactness.{Exact, Any, AtEnd}
-use Rattle.wy_reading.proofs.Outcomes.{ok-parts}
 use Rattle.wy_reading.proofs.Adapting.{same_readers}
 use Rattle.wy_reading.proofs.Theorem.{promise}
 use Rattle.wy_lex.specs.declared.fault.Kind.{Kind}
@@ -23,11 +22,11 @@ use Rattle.wy_lex.specs.declared.layout.State.{State}
 use Rattle.wy_lex.specs.Layout.{token, finished, last_ending, outs}
 use Rattle.wy_lex.specs.Grammar.{Source}
 use Rattle.wy_lex.specs.Reading.{source}
-use Rattle.wy_lex.specs.Source.{profile, Tokens, Meets, Leaves, IsRefused, fault_of, fault_at, answer, answer_if, tokens_read, Answers}
+use Rattle.wy_lex.specs.Source.{profile, Tokens, Meets, IsRefused, fault_of, fault_at, answer, answer_if, tokens_read, Answers}
 use Rattle.wy_lex.proofs.SourceExact.{careful-exact}
 use Rattle.wy_lex.proofs.SourceEnds.{source-careful}
 use Rattle.wy_lex.proofs.ValidLemmas.{valid_up_to}
-use Rattle.wy_lex.proofs.SourceLemmas.{read_text, no_text, read_no_text}
+use Rattle.wy_lex.proofs.SourceLemmas.{read_text, read_no_text}
 
 source-exact : (size : ℕ) (m : Mode) → Exact m (Source size m) (source size) AtEnd Any
 source-exact size m = same_readers (source size) (careful-exact m size) (λ l le i. source-careful size l i)

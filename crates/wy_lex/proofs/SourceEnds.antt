@@ -1,11 +1,10 @@
 -- Each piece is read as far as it goes, so no piece begins with what would lengthen the one before it.
-use Rattle.std.proofs.Common.{◌≡◌, ℕ, zero, suc, ◌≤◌, Bool, true, false, cond, ◌||◌, true≢false, List, [], ◌∷◌, ◌++◌, length, Result, Ok, Err, ◌⊎◌, inl, inr, refl, sym, ap, ◌∙◌, subst, arith}
+use Rattle.std.proofs.Common.{◌≡◌, ℕ, zero, suc, ◌≤◌, Bool, true, false, cond, List, [], ◌∷◌, ◌++◌, length, Ok, Err, ◌⊎◌, inl, inr, refl, sym, ap, ◌∙◌, subst, arith}
 use Rattle.std.specs.Bool.{⊤}
-use Rattle.wy_reading.specs.declared.stop.Stop.{Stop}
 use Rattle.wy_reading.specs.declared.stop.Stop.TheVariants.{Fault}
 use Rattle.wy_reading.specs.Mode.{Mode}
 use Rattle.wy_reading.specs.Rule.{heads, lax}
-use Rattle.wy_reading.specs.Reader.{Outcome, and_then, ◌>>=◌, pure, one, branch, word, checked, skip, step, letter, loop, while, unless, whole, finish, refused}
+use Rattle.wy_reading.specs.Reader.{Outcome, and_then, ◌>>=◌, pure, one, branch, word, checked, skip, step, letter, loop, while, finish, refused}
 use Rattle.wy_reading.proofs.Exactness.{Lacks}
 use Rattle.wy_reading.proofs.Outcomes.{and_then-ok, ok-parts, if-cases}
 use Rattle.wy_reading.proofs.Words.{word-ends}
@@ -146,7 +145,7 @@ two-ends : (c : Symbol) → Ends (two c) FollowLexeme
 two-ends c =
     bound-ends (one (holds (second c.character))) (λ d. branch (holds (third c.character)) (three c) (pair c)) FollowLexeme
     (λ b l z m g. elim (either (holds (third c.character)) (three c) (pair c) l (Ok (z, m)) g) [
-      inl u ↦ mapped-ends (one (holds (third c.character))) (λ w. lexeme triple c.at class.Nothing) (λ w q. ⊤) FollowLexeme (λ q w r f. tt) (λ w q f. free q) l z m u.1
+      | inl u ↦ mapped-ends (one (holds (third c.character))) (λ w. lexeme triple c.at class.Nothing) (λ w q. ⊤) FollowLexeme (λ q w r f. tt) (λ w q f. free q) l z m u.1
       | inr u ↦ pure-ends (lexeme (double c.character) c.at (third c.character)) FollowLexeme l (lacks-one (third c.character) (third-is (record { depth = 0; strict = true }) c.character) l u.0) z m u.1
     ])
 
@@ -155,14 +154,14 @@ unfolding sign
 sign-ends =
     bound-ends (one (holds class.Sign)) (λ c. branch (holds (second c.character)) (two c) (lone c)) FollowLexeme
     (λ c i a j e. elim (either (holds (second c.character)) (two c) (lone c) i (Ok (a, j)) e) [
-      inl d ↦ two-ends c i a j d.1
+      | inl d ↦ two-ends c i a j d.1
       | inr d ↦ pure-ends (lexeme (single c.character) c.at (second c.character)) FollowLexeme i (lacks-one (second c.character) (second-is (record { depth = 0; strict = true }) c.character) i d.0) a j d.1
     ])
 
 other-ends : (strict : Bool) → Ends (other strict) FollowLexeme
 unfolding other
 other-ends strict i a j e = elim (either (holds class.Digit) (numeral_lexeme strict) (branch (is 34) text sign) i (Ok (a, j)) e) [
-  inl d ↦ numeral-ends strict i a j d.1
+  | inl d ↦ numeral-ends strict i a j d.1
   | inr d ↦ elim (either (is 34) text sign i (Ok (a, j)) d.1) [ inl u ↦ text-ends i a j u.1 | inr u ↦ sign-ends i a j u.1 ]
 ]
 
@@ -190,11 +189,11 @@ unfolding stroke
 stroke-ends =
     bound-ends (one (is 47)) (λ first. branch (is 47) (to_line_end first.at) (branch (is 42) (to_close first.at) (by_itself first.at))) FollowSlash
     (λ first i a j e. elim (either (is 47) (to_line_end first.at) (branch (is 42) (to_close first.at) (by_itself first.at)) i (Ok (a, j)) e) [
-      inl d ↦
+      | inl d ↦
           bound-ends (one (is 47)) (λ s. skip (holds class.NoLineEnd) >>= (λ x. pure (solidus.Line, first.at))) FollowSlash
           (λ s. mapped-ends (skip (holds class.NoLineEnd)) (λ x. (solidus.Line, first.at)) (λ x. Lacks (holds class.NoLineEnd)) FollowSlash (skip-ends (holds class.NoLineEnd)) (λ x l f. f)) i a j d.1
       | inr d ↦ elim (either (is 42) (to_close first.at) (by_itself first.at) i (Ok (a, j)) d.1) [
-        inl u ↦ bound-ends (one (is 42)) (λ s. closed >>= (λ v. pure (v, first.at))) FollowSlash (λ s. closed-tail first.at) i a j u.1
+        | inl u ↦ bound-ends (one (is 42)) (λ s. closed >>= (λ v. pure (v, first.at))) FollowSlash (λ s. closed-tail first.at) i a j u.1
         | inr u ↦ pure-ends (solidus.Sign, first.at) FollowSlash i (both-false i d.0 u.0) a j u.1
       ]
     ])
@@ -224,11 +223,11 @@ break-ends s =
 other-piece-ends : (b strict : Bool) (s : State) (p : Q State) → Ends p Follow → Ends (other_piece b strict s p) Follow
 unfolding other_piece
 other-piece-ends true strict s p h i a j e = elim (either (holds class.Other) (other strict >>= (λ l. pure (placed_at s l))) p i (Ok (a, j)) e) [
-  inl d ↦ mapped-ends (other strict) (placed_at s) FollowLexeme Follow (other-ends strict) (λ l z f. subst (λ x. Lacks (lengthens x) z) (sym (placed-more s l.kind l.at l.more)) f) i a j d.1
+  | inl d ↦ mapped-ends (other strict) (placed_at s) FollowLexeme Follow (other-ends strict) (λ l z f. subst (λ x. Lacks (lengthens x) z) (sym (placed-more s l.kind l.at l.more)) f) i a j d.1
   | inr d ↦ h i a j d.1
 ]
 other-piece-ends false strict s p h i a j e = elim (either (holds class.Other) (refused (holds class.Other) BadIndent) p i (Ok (a, j)) e) [
-  inl d ↦ absurd (let r : refused (holds class.Other) BadIndent i ≡ Err (Fault BadIndent (length i)) = rw d.0 refl in let bad = sym r ∙ d.1 in cc)
+  | inl d ↦ absurd (let r : refused (holds class.Other) BadIndent i ≡ Err (Fault BadIndent (length i)) = rw d.0 refl in let bad = sym r ∙ d.1 in cc)
   | inr d ↦ h i a j d.1
 ]
 
@@ -240,7 +239,7 @@ rest strict s = branch (is 47) (slash_piece strict s) (blank_or_end s)
 
 rest-ends : (strict : Bool) (s : State) → Ends (rest strict s) Follow
 rest-ends strict s l b m g = elim (either (is 47) (slash_piece strict s) (blank_or_end s) l (Ok (b, m)) g) [
-  inl u ↦ slash-piece-ends strict s l b m u.1
+  | inl u ↦ slash-piece-ends strict s l b m u.1
   | inr u ↦ elim (either (holds class.Blank) (gap s) (break_piece s) l (Ok (b, m)) u.1) [ inl v ↦ gap-ends s l b m v.1 | inr v ↦ break-ends s l b m v.1 ]
 ]
 
@@ -250,7 +249,7 @@ behind_words strict s = other_piece (lax strict may_stand s) strict s (rest stri
 pub piece-ends : (strict : Bool) (s : State) → Ends (piece strict s) Follow
 unfolding piece
 piece-ends strict s i a j e = elim (either (holds class.Start) (word_piece strict s) (behind_words strict s) i (Ok (a, j)) e) [
-  inl d ↦ word-piece-ends strict s i a j d.1
+  | inl d ↦ word-piece-ends strict s i a j d.1
   | inr d ↦ other-piece-ends (lax strict may_stand s) strict s (rest strict s) (rest-ends strict s) i a j d.1
 ]
 

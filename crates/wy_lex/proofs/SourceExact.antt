@@ -1,10 +1,10 @@
 -- Sources are read exactly.
-use Rattle.std.proofs.Common.{◌≡◌, ℕ, zero, suc, ◌≤◌, ◌==◌, Bool, true, false, cond, ◌||◌, ◌&&◌, true≢false, List, [], ◌∷◌, ◌++◌, length, Ok, Err, ◌⊎◌, inl, inr, refl, sym, ap, ◌∙◌, subst, arith, eqb-true}
+use Rattle.std.proofs.Common.{◌≡◌, ℕ, ◌==◌, Bool, true, false, true≢false, List, [], ◌∷◌, ◌⊎◌, inl, inr, refl, sym, ap, ◌∙◌, eqb-true}
 use Rattle.std.specs.Bool.{⊤}
-use Rattle.wy_reading.specs.Mode.{Mode, Looser}
-use Rattle.wy_reading.specs.Rule.{Rule, heads, Pure, Then, Loop, Unless, Whole, lax}
+use Rattle.wy_reading.specs.Mode.{Mode}
+use Rattle.wy_reading.specs.Rule.{heads, Loop, lax}
 use Rattle.wy_reading.specs.Rule.Turns.{stop}
-use Rattle.wy_reading.specs.Reader.{Reader, ◌>>=◌, pure, while, unless, whole}
+use Rattle.wy_reading.specs.Reader.{◌>>=◌, pure, while, unless, whole}
 use Rattle.wy_reading.proofs.Exactness.{Sample, ExactTo, Exact, Passes, Lacks, Any, AtEnd}
 use Rattle.wy_reading.proofs.Single.{nothing}
 use Rattle.wy_reading.proofs.Sequence.{sequence, sequence_on}
@@ -19,8 +19,7 @@ use Rattle.wy_lex.specs.declared.layout.State.{State}
 use Rattle.wy_lex.specs.Symbols.{has, holds, bytes_of}
 use Rattle.wy_lex.specs.Layout.{may_stand, first_state, finished, passed, broken}
 use Rattle.wy_lex.specs.Grammar.{R, lengthens, OtherPiece, Piece, Next, Source}
-use Rattle.wy_lex.specs.Reading.{Q, piece, blanks, gap, break_piece}
-use Rattle.wy_lex.proofs.Judging.{begins}
+use Rattle.wy_lex.specs.Reading.{Q, piece, blanks}
 use Rattle.wy_lex.proofs.CharacterLemmas.{at, at_zero, at_blank, wider, other_no_start, slash_no_start, line_end_no_start, line_end_no_part, space_no_start, tab_no_start}
 use Rattle.wy_lex.proofs.PieceExact.{Follow, PieceBegun, piece-exact, blanks-exact}
 
