@@ -4,3 +4,5 @@ pub mod NodeEqLemmas
 pub mod InternLemmas
 pub mod FoldingLemmas
 pub mod FoldLemmas
+pub mod CopyingLemmas
+pub mod ReplacingLemmas

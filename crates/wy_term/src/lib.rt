@@ -7,11 +7,13 @@
 #![tactic(auto)]
 
 mod cond;
+mod copy;
 mod fold;
 mod law;
 mod memory;
 mod node;
 mod parts;
+mod replace;
 mod terms;
 #[cfg(test)]
 mod tests;
