@@ -1,13 +1,11 @@
 //! Rows on the heap alone: what each step copies and leaves, and what the places stand for in the end.
-ghost use Rattle.std.specs.Prelude.{◌≡◌, ◌≤◌, ◌<◌, ◌∷◌, [], ◌++◌, OnOk, IsTrue, length};
-ghost use Rattle.wy_heap.specs.declared.part.Slot.TheVariants.{Item};
-ghost use Rattle.wy_heap.specs.Standing.{Stands, AreHeld};
-ghost use Rattle.wy_heap.specs.Slots.{IsSlot};
+ghost use Rattle.std.specs.Prelude.{◌≡◌, ◌≤◌, ◌<◌, ◌∷◌, [], ◌++◌, OnOk, length};
+ghost use Rattle.wy_heap.specs.Standing.{Stands};
 
 use crate::part::spend;
 use crate::{Heap, Kind, NoMemory, Place, Slot};
 use sqlite_items::Items;
-use std::alloc::Global;
+use std::alloc::{AllocError, Global};
 use wy_value::Shapes;
 
 // A step of a row. Places have the numbers of their order, from 0; a new one comes last.
@@ -18,6 +16,8 @@ enum Step {
     // an array of so many times the place, which goes into it
     Nest(usize, u64),
     Share(usize),
+    // the item of the array at a place
+    Get(usize, u64),
     // a number for an item of the array at a place, which comes last then
     Set(usize, u64, i64),
     Release(usize),
@@ -99,47 +99,6 @@ fn release(heap: &mut Heap, places: &mut Vec<Place>, i: usize)
     heap.release(place);
 }
 
-// whether the place holds an array with this item
-fn has_item(heap: &Heap, place: &Place, index: u64) -> bool
-    requires { AreHeld heap.now (place.now ∷ []) }
-    ensures { IsTrue result → IsSlot heap.now place.now (Item index) }
-{
-    match heap.kind(place) {
-        Kind::Array => index < heap.len(place),
-        _ => false,
-    }
-}
-
-fn set(
-    heap: &mut Heap,
-    places: &mut Vec<Place>,
-    i: usize,
-    index: u64,
-    number: i64,
-) -> Result<(), NoMemory>
-    requires stands { Stands heap.old places.old.items }
-    requires there { i < length places.old.items }
-    ensures { OnOk result (Stands heap.new places.new.items) }
-{
-    let mut place = places.remove(i);
-    if !has_item(heap, &place, index) {
-        let _part = place.spent();
-        return Err(NoMemory);
-    }
-    let item = Place::scalar(Kind::Int(i128::from(number)));
-    match heap.set(&mut place, &[Slot::Item(index)], item) {
-        Ok(()) => {
-            keep(places, place)?;
-            Ok(())
-        }
-        Err(back) => {
-            let _part = back.spent();
-            let _part = place.spent();
-            Err(NoMemory)
-        }
-    }
-}
-
 fn play(heap: &mut Heap, places: &mut Vec<Place>, step: Step) -> Result<(), NoMemory>
     requires { Stands heap.old places.old.items }
     ensures { OnOk result (Stands heap.new places.new.items) }
@@ -148,7 +107,6 @@ fn play(heap: &mut Heap, places: &mut Vec<Place>, step: Step) -> Result<(), NoMe
         Step::Ones(n) => ones(heap, places, n),
         Step::Nest(i, n) if i < places.len() => nest(heap, places, i, n),
         Step::Share(i) if i < places.len() => share(heap, places, i),
-        Step::Set(i, index, number) if i < places.len() => set(heap, places, i, index, number),
         Step::Release(i) if i < places.len() => {
             release(heap, places, i);
             Ok(())
@@ -252,8 +210,6 @@ fn rows(rt: HostRuntime) -> Result<(), NoMemory> {
         Step::Share(0),
         Step::Release(0),
     ];
-    let write: &[Step] = &[Step::Ones(2), Step::Share(0), Step::Set(0, 0, 9)];
-    let alone: &[Step] = &[Step::Ones(2), Step::Set(0, 1, -9)];
     let cases = [
         // no copy below the cap; at the cap each share makes one
         (shares, 5, "0/1 0/1 0/1 0/1 [1, 1] [1, 1] [1, 1] [1, 1] "),
@@ -264,82 +220,11 @@ fn rows(rt: HostRuntime) -> Result<(), NoMemory> {
         (nested, 3, "0/1 0/2 0/2 0/2 [[1], [1]] "),
         (nested, 2, "0/1 1/3 1/3 1/3 [[1], [1]] "),
         (nested, 1, "0/1 2/3 5/6 5/3 [[1], [1]] "),
-        // a write at a shared node copies it, at cap 1 the share did so already
-        (write, 5, "0/1 0/1 1/2 [1, 1] [9, 1] "),
-        (write, 1, "0/1 1/2 1/2 [1, 1] [9, 1] "),
-        (alone, 5, "0/1 0/1 [1, -9] "),
     ];
     for (steps, cap, want) in cases {
         let (seen, left) = row(alloc, cap, steps)?;
         assert_eq!(rt; seen.as_str(), want);
         assert_eq!(rt; left, 0);
     }
-    Ok(())
-}
-
-// a list of so many links, each an array of the next one
-fn links(heap: &mut Heap, places: &mut Vec<Place>, many: u64) -> Result<(), NoMemory>
-    requires { Stands heap.old places.old.items }
-    ensures { OnOk result (Stands heap.new places.new.items) }
-{
-    ones(heap, places, 0)?;
-    for i in 0..many {
-        if let Some(last) = places.len().checked_sub(1) {
-            nest(heap, places, last, 1)?;
-        }
-    }
-    Ok(())
-}
-
-// whether the first two places stand for the same value
-fn same(heap: &Heap, places: &[Place]) -> Result<bool, NoMemory>
-    requires { Stands heap.now places.now }
-{
-    if places.len() < 2 {
-        return Err(NoMemory);
-    }
-    let first = &places[0];
-    let second = &places[1];
-    heap.equal(first, second)
-}
-
-// two lists of links: whether they are equal, the nodes, and the bytes of both texts
-fn compare_links(
-    alloc: Global,
-    heap: &mut Heap,
-    places: &mut Vec<Place>,
-    many: u64,
-) -> Result<(bool, u64, usize), NoMemory>
-    requires { Stands heap.old places.old.items }
-    ensures { OnOk result (Stands heap.new places.new.items) }
-{
-    links(heap, places, many)?;
-    links(heap, places, many)?;
-    let same = same(heap, places)?;
-    let mut seen = String::new(alloc);
-    write_texts(heap, places, &mut seen)?;
-    Ok((same, heap.live(), seen.len()))
-}
-
-// what is seen of two lists of so many links, and how many nodes are left behind them
-fn two_lists(alloc: Global, many: u64) -> Result<((bool, u64, usize), u64), NoMemory> {
-    let mut heap = heap_of(alloc, 4294967295);
-    let mut places = Vec::new(alloc);
-    match compare_links(alloc, &mut heap, &mut places, many) {
-        Ok(seen) => {
-            let left = release_all(&mut heap, places);
-            Ok((seen, left))
-        }
-        Err(error) => {
-            spend(places);
-            Err(error)
-        }
-    }
-}
-
-#[test]
-fn a_million_links(rt: HostRuntime) -> Result<(), NoMemory> {
-    let seen = two_lists(rt.alloc(), 1_000_000)?;
-    assert_eq!(rt; seen, ((true, 2_000_002, 4_000_006), 0));
     Ok(())
 }

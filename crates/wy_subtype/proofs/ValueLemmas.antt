@@ -133,7 +133,7 @@ module _ (table : Table) (k : ℕ) (ranked : (rank : ℕ → ℕ) × IsRanked ta
 
   -- ---- values of a term
 
-  pub part_in-inside : (d : Datum) (t : ℕ) → part_in (member table k d) (with_sides table k [] true true t) ≡ member table k d true t
+  part_in-inside : (d : Datum) (t : ℕ) → part_in (member table k d) (with_sides table k [] true true t) ≡ member table k d true t
   part_in-inside d t = part_in-with_sides table (member table k d) (is_lawful table ranked.0 k ranked.1 (shape_of table k d)) k [] true true t
 
   pub none_inside : (t : ℕ) → ((d : Datum) → part_in (member table k d) (with_sides table k [] true true t) ≡ true → ⊥) → (d : Datum) → member table k d true t ≡ false

@@ -4,21 +4,17 @@
 //! `asks` has the parts whose values decide whether a conjunct has one, and `ways` counts them for a
 //! record. `reach` makes all conjuncts and parts that a question reaches, `marks` and `values` find
 //! those that have a value, and `inclusion` answers for terms of a table. `questions` has the
-//! questions about the types of a program, and `normal` their normal forms.
+//! questions about the types of a program.
 #![tactic(auto)]
 
 mod asks;
 mod inclusion;
 mod marks;
-mod normal;
 mod questions;
 mod reach;
-#[cfg(test)]
-mod tests;
 mod values;
 mod ways;
 
 pub use inclusion::{is_inhabited, is_within};
-pub use normal::normal;
 pub use questions::{empty, subtype};
 pub use values::has_value;

@@ -4,5 +4,3 @@ pub mod NodeEqLemmas
 pub mod InternLemmas
 pub mod FoldingLemmas
 pub mod FoldLemmas
-pub mod CopyingLemmas
-pub mod ReplacingLemmas

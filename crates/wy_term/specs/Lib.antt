@@ -4,12 +4,8 @@ pub mod Data
 pub mod Same
 pub mod Meaning
 pub mod Folding
-pub mod Replacing
 pub mod Sorts
 pub mod Condition
 pub mod Nodes
 -- what functions inside owe each other
 pub mod FoldingView
-pub mod Numbers
-pub mod ReplacingView
-pub mod Copying

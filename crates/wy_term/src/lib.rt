@@ -7,13 +7,11 @@
 #![tactic(auto)]
 
 mod cond;
-mod copy;
 mod fold;
 mod law;
 mod memory;
 mod node;
 mod parts;
-mod replace;
 mod terms;
 #[cfg(test)]
 mod tests;

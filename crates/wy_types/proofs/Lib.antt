@@ -14,6 +14,3 @@ pub mod RankLemmas
 pub mod AgreeLemmas
 pub mod QuestionLemmas
 mod SeenLemmas
-pub mod ReadingLemmas
-pub mod GuardLemmas
-pub mod OneNumberLemmas

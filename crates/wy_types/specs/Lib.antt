@@ -3,7 +3,6 @@ pub mod Shape
 pub mod Membership
 pub mod Ranked
 pub mod Names
-pub mod Aliases
 -- the conjuncts of a term
 pub mod Claims
 pub mod Same
@@ -20,5 +19,4 @@ pub mod Numbering
 pub mod Standing
 pub mod Recursion
 pub mod Agreement
-pub mod Reading
 pub mod Questions

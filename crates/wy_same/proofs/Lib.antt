@@ -1,4 +1,0 @@
-mod PartLemmas
-mod LoopLemmas
-mod SeenLemmas
-mod NodeLemmas
