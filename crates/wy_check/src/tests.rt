@@ -36,7 +36,10 @@ fn checks_sums(rt: HostRuntime) {
         (&[((1 << 127) + 1, 1)], Checked::No(1)),
     ];
     for (sum, want) in edges {
-        assert_eq!(rt; answer(alloc, one_at_most_zero(alloc), &[sum]), Ok(want));
+        assert_eq!(rt;
+            answer(alloc, one_more_at_most_itself(alloc), &[sum]),
+            Ok(want)
+        );
     }
 }
 
@@ -66,15 +69,17 @@ fn below_ten_of(alloc: Global) -> Result<(Terms, Cond), NoMemory>
     Ok((terms, cond))
 }
 
-// The hypothesis that 1 is at most 0, and the goal that 0 is at most 1.
-fn one_at_most_zero(alloc: Global) -> Result<(Terms, Cond), NoMemory>
+// The hypothesis that a number and 1 are at most that number, and the goal that it is at most itself and 1.
+fn one_more_at_most_itself(alloc: Global) -> Result<(Terms, Cond), NoMemory>
     ensures { IfOk result (λ made. IsOf (length made.0) made.1) }
 {
     let mut terms = Terms::new(alloc);
-    let zero = terms.intern(Node::Number(0))?;
+    let x = terms.intern(Node::ValName(Name::new(String::from_str(alloc, "x")?), 0))?;
+    let value = terms.intern(Node::Num(x))?;
     let one = terms.intern(Node::Number(1))?;
-    let hyp = terms.intern(Node::AtMost(one, zero))?;
-    let goal = terms.intern(Node::AtMost(zero, one))?;
+    let more = terms.intern(Node::Add(value, one))?;
+    let hyp = terms.intern(Node::AtMost(more, value))?;
+    let goal = terms.intern(Node::AtMost(value, more))?;
     let cond = Cond {
         kind: CondKind::Assert,
         at: 0,
