@@ -1,0 +1,4 @@
+mod PartLemmas
+mod LoopLemmas
+mod SeenLemmas
+mod NodeLemmas

@@ -1,0 +1,12 @@
+use Rattle.std.proofs.Common.{◌≡◌, take}
+use Rattle.wy_same.proofs.surface.expressions.+same_expr.Given as goal
+
+-- both begin alike
+abbrev pub invariant-same_exprs-loop-i : goal.invariant-same_exprs-loop-i
+invariant-same_exprs-loop-i l = take l.i l.a ≡ take l.i l.b
+
+abbrev pub invariant-same_fields-loop-i : goal.invariant-same_fields-loop-i
+invariant-same_fields-loop-i l = take l.i l.a ≡ take l.i l.b
+
+abbrev pub invariant-same_ranges-loop-i : goal.invariant-same_ranges-loop-i
+invariant-same_ranges-loop-i l = take l.i l.a ≡ take l.i l.b
