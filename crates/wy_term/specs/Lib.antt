@@ -9,3 +9,5 @@ pub mod Condition
 pub mod Nodes
 -- what functions inside owe each other
 pub mod FoldingView
+pub mod Numbers
+pub mod Copying

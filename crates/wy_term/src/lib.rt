@@ -7,6 +7,7 @@
 #![tactic(auto)]
 
 mod cond;
+mod copy;
 mod fold;
 mod law;
 mod memory;
