@@ -11,3 +11,8 @@ pub mod SourceEnds
 pub mod ValidLemmas
 pub mod Refusals
 pub mod PlaceLemmas
+pub mod ListLemmas
+pub mod ListsMade
+pub mod LineBegins
+pub mod Alive
+pub mod FirstFault

@@ -20,13 +20,13 @@ use Rattle.wy_lex.proofs.Refusals.{read-spells, read-refused, no_utf8}
 
 -- ---- one list in two cuts
 
-record Longer (a b c d : List Symbol) : Type 0 where
+pub record Longer (a b c d : List Symbol) : Type 0 where
   pub bad : Symbol
   pub mid : List Symbol
   pub front : c ≡ a ++ bad ∷ mid
   pub back : b ≡ bad ∷ (mid ++ d)
 
-longer : (a b c d : List Symbol) → a ++ b ≡ c ++ d → length a < length c → Longer a b c d
+pub longer : (a b c d : List Symbol) → a ++ b ≡ c ++ d → length a < length c → Longer a b c d
 longer [] b [] d e le = absurd (omega (arith, le))
 longer [] b (x ∷ c) d e le = record { bad = x; mid = c; front = refl; back = e }
 longer (y ∷ a) b [] d e le = absurd (omega (arith, le))
@@ -66,11 +66,11 @@ module _ {A : Type 0} (R : Mode → Rule Symbol Kind A) (n : Mode) where
 
 -- ---- of bytes
 
-same_offset : (bytes : List ℕ) (at place : ℕ) → Leaves bytes at → Leaves bytes place → at ≡ place
+pub same_offset : (bytes : List ℕ) (at place : ℕ) → Leaves bytes at → Leaves bytes place → at ≡ place
 same_offset bytes at place f g =
     f.here ∙ (ap (offset (length bytes) (symbols bytes)) (one-place (Source (length bytes)) profile (symbols bytes) f.left g.left f.bad g.bad) ∙ sym g.here)
 
-not_valid : (bytes : List ℕ) (at : ℕ) → IsValidUpTo bytes at → IsUtf8 bytes → ⊥
+pub not_valid : (bytes : List ℕ) (at : ℕ) → IsValidUpTo bytes at → IsUtf8 bytes → ⊥
 not_valid bytes at v u = v.longest (length bytes) v.short (subst IsUtf8 (sym (take-all bytes (length bytes) (omega arith))) u)
 
 pub valid : (bytes : List ℕ) (r : Result (List Token) LexFault) → Answers (tokens_read bytes) r → (at : ℕ) → IsValidUpTo bytes at → Answers (Err (NotUtf8 at)) r

@@ -1,5 +1,5 @@
 -- What is answered agrees with the grammar, in both directions.
-use Rattle.std.proofs.Common.{◌≡◌, ℕ, Bool, true, false, true≢false, cond, ◌==◌, List, [], ◌∷◌, ◌++◌, ◌-◌, length, Result, Ok, Err, IfOk, IfErr, inl, inr, refl, sym, ap, ◌∙◌, subst}
+use Rattle.std.proofs.Common.{◌≡◌, ℕ, Bool, true, false, true≢false, List, length, Result, Ok, Err, IfOk, IfErr, inl, inr, refl, sym, ap, ◌∙◌, subst}
 use Rattle.std.specs.Str.{IsUtf8, is_utf8}
 use Rattle.std.specs.Str.Lossy.{utf8_valid_len}
 use Rattle.std.proofs.lemmas.Str.{IsUtf8-from_is_utf8, is_utf8-from_IsUtf8}
@@ -17,9 +17,6 @@ use Rattle.wy_lex.specs.declared.fault.LexFault.TheVariants.{NotUtf8, BadChar, B
 use Rattle.wy_lex.specs.declared.token.Token.{Token}
 use Rattle.wy_lex.specs.declared.symbol.Symbol.{Symbol}
 use Rattle.wy_lex.specs.Symbols.{symbols, offset}
-use Rattle.wy_lex.specs.declared.token.TokenKind.TheVariants as k
-use Rattle.wy_lex.specs.declared.layout.State.{State}
-use Rattle.wy_lex.specs.Layout.{token, finished, last_ending, outs}
 use Rattle.wy_lex.specs.Grammar.{Source}
 use Rattle.wy_lex.specs.Reading.{source}
 use Rattle.wy_lex.specs.Source.{profile, Tokens, Meets, IsRefused, fault_of, fault_at, answer, answer_if, tokens_read, Answers}
@@ -120,20 +117,3 @@ one_fault bytes x y at place m n =
     let c = sym (p.names (symbols bytes) x m.left m.met) ∙ p.names (symbols bytes) y n.left n.met in
     let left : m.left ≡ n.left = cc in
     ((cc), m.here ∙ (ap (offset (length bytes) (symbols bytes)) left ∙ sym n.here))
-
--- the last token is End, at the length
-finished-ends : (size : ℕ) (s : State) → (front : List Token) × (finished s size ≡ front ++ token k.End size ∷ [])
-finished-ends size s = by (s.depth == 0)
-  where
-    by : (b : Bool)
-        → (front : List Token)
-        × (cond b (((s.made ++ last_ending s.line size) ++ outs (length s.blocks - 1) size) ++ token k.End size ∷ []) (s.made ++ token k.End size ∷ []) ≡ front ++ token k.End size ∷ [])
-    by true = ((s.made ++ last_ending s.line size) ++ outs (length s.blocks - 1) size, refl)
-    by false = (s.made, refl)
-
-pub ends : (bytes : List ℕ) (ts : List Token) → Tokens bytes ts → (front : List Token) × (ts ≡ front ++ token k.End (length bytes) ∷ [])
-ends bytes ts h =
-    let inner = h.1.2 in
-    let loop = inner.3 in
-    let d = finished-ends (length bytes) loop.0 in
-    (d.0, h.1.3.3.0 ∙ (loop.3.0 ∙ d.1))

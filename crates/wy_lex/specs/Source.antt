@@ -1,5 +1,5 @@
 -- What the tokens of a source are, and why it has none. An offset counts bytes from the front.
-use Rattle.std.specs.Prelude.{◌≡◌, ℕ, Bool, true, false, List, length, Result, Ok, Err, ⊤, ◌⊎◌}
+use Rattle.std.specs.Prelude.{◌≡◌, ◌≢◌, ◌<◌, ◌≤◌, ℕ, Bool, true, false, List, length, Result, Ok, Err, ⊤, ◌⊎◌}
 use Rattle.std.specs.Str.{IsUtf8, IsValidUpTo, is_utf8}
 use Rattle.std.specs.Str.Lossy.{utf8_valid_len}
 use Rattle.wy_reading.specs.declared.stop.Stop.{Stop}
@@ -52,6 +52,33 @@ IsRefused bytes (BadIndent at) = Meets bytes kind.BadIndent at
 IsRefused bytes (BadNumeral at) = Meets bytes kind.BadNumeral at
 IsRefused bytes (OpenComment at) = Meets bytes kind.OpenComment at
 IsRefused bytes NoMemory = ⊤
+
+-- the number of a fault, in the order in which LexFault lists them, and the place of one that isn't NotUtf8
+abbrev pub number_of : LexFault → ℕ
+number_of (NotUtf8 at) = 1
+number_of (BadChar at) = 2
+number_of (BadIndent at) = 3
+number_of (BadNumeral at) = 4
+number_of (OpenComment at) = 5
+number_of NoMemory = 6
+
+abbrev pub place_of : LexFault → ℕ
+place_of (NotUtf8 at) = at
+place_of (BadChar at) = at
+place_of (BadIndent at) = at
+place_of (BadNumeral at) = at
+place_of (OpenComment at) = at
+place_of NoMemory = 0
+
+-- the one is given before the other: the one at a lesser place, or at the same place the one of the lesser number
+abbrev pub GoesBefore : LexFault → LexFault → Type 0
+GoesBefore f g = (place_of f < place_of g) ⊎ ((place_of f ≡ place_of g) × (number_of f ≤ number_of g))
+
+-- the fault is the first of all that stand in the bytes, of which NotUtf8 goes before all others
+abbrev pub IsFirst : List ℕ → LexFault → Type 0
+IsFirst bytes (NotUtf8 at) = (g : LexFault) → IsRefused bytes g → g ≢ NoMemory → g ≡ NotUtf8 at
+IsFirst bytes NoMemory = ⊤
+IsFirst bytes f = (g : LexFault) → IsRefused bytes g → g ≢ NoMemory → GoesBefore f g
 
 -- ---- by the reader
 

@@ -26,6 +26,9 @@ mod token;
 mod words;
 
 pub use fault::LexFault;
-pub use laws::{a_source_has_one_fault, a_source_has_one_reading, the_last_token_is_end};
+pub use laws::{
+    a_line_begins_by_its_indentation, a_source_has_one_fault, a_source_has_one_reading,
+    each_token_is_proper, places_rise, the_last_token_is_end,
+};
 pub use source::tokens;
 pub use token::{Token, TokenKind};

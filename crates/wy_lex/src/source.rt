@@ -2,8 +2,9 @@
 ghost use Rattle.std.specs.Prelude.{◌≡◌, ◌≤◌, ◌<◌, ◌^◌, length, Ok, Err, IfOk, IfErr, true, ℕ, List};
 ghost use Rattle.std.specs.Str.{IsValidUpTo, chars, encode_utf8_all};
 ghost use Rattle.wy_lex.specs.declared.fault.LexFault.TheVariants.{BadChar, NotUtf8};
+ghost use Rattle.wy_lex.specs.Lists.{EndsAt};
 ghost use Rattle.wy_lex.specs.Reading as spec;
-ghost use Rattle.wy_lex.specs.Source.{Answers, IsRefused, Leaves, Meets, MeetsNone, Tokens, answer, fault_at, fault_of, tokens_read};
+ghost use Rattle.wy_lex.specs.Source.{Answers, IsFirst, IsRefused, Leaves, Meets, MeetsNone, Tokens, answer, fault_at, fault_of, tokens_read};
 ghost use Rattle.wy_lex.specs.Symbols as symbols;
 ghost use Rattle.wy_reading.specs.Places as places;
 ghost use Rattle.wy_reading.specs.Reader.{Reads, ReadsPart};
@@ -24,8 +25,10 @@ use wy_reading::Stop;
 pub fn tokens(alloc: Global, bytes: &[u8]) -> Result<Items<Token>, LexFault>
     requires { length bytes.now < 2 ^ 32 }
     ensures spells { IfOk result (λ ts. Tokens bytes.now ts) }
+    ensures ended { IfOk result (λ ts. EndsAt (length bytes.now) ts) }
     ensures reads { (ts : List Token) → Tokens bytes.now ts → Answers (Ok ts) result }
     ensures fault { IfErr result (IsRefused bytes.now) }
+    ensures first { IfErr result (IsFirst bytes.now) }
     ensures exact { (x : Kind) (at : ℕ) → Meets bytes.now x at → Answers (Err (fault_of x at)) result }
     ensures utf8 { (at : ℕ) → IsValidUpTo bytes.now at → Answers (Err (NotUtf8 at)) result }
     ensures bad_char { (at : ℕ) → Leaves bytes.now at → MeetsNone bytes.now → Answers (Err (BadChar at)) result }

@@ -1,5 +1,5 @@
-use Rattle.wy_lex.proofs.Refusals.{ends}
+use Rattle.wy_lex.proofs.ListsMade.{ends-at}
 use Rattle.wy_lex.proofs.laws.the_last_token_is_end.Goals as goal
 
 pub returns : goal.returns
-returns c = ends
+returns c = ends-at
