@@ -9,5 +9,5 @@ same_case-returns-then-same_exprs t c =
     let labels : (out-Case c.args.a.now).labels ≡ (out-Case c.args.b.now).labels = cc (alike, c.as_slice.ensures, c.as_slice-2.ensures) in
     let whole = c.same_stmts.ensures.complete in
     let there : IsTrue c.same_stmts.result → (out-Case c.args.a.now).body ≡ (out-Case c.args.b.now).body =
-        λ h. cc (whole.0 h, c.as_slice-then-same_exprs.ensures, c.as_slice-then-same_exprs-2.ensures) in
+    λ h. cc (whole.0 h, c.as_slice-then-same_exprs.ensures, c.as_slice-then-same_exprs-2.ensures) in
     record { complete = ((λ h. same_parts c.args.a.now c.args.b.now labels (there h)), (λ e. whole.1 (cc (e, c.as_slice-then-same_exprs.ensures, c.as_slice-then-same_exprs-2.ensures)))) }
