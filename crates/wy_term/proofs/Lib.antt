@@ -4,3 +4,4 @@ pub mod NodeEqLemmas
 pub mod InternLemmas
 pub mod FoldingLemmas
 pub mod FoldLemmas
+pub mod CopyingLemmas

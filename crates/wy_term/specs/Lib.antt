@@ -6,6 +6,10 @@ pub mod Meaning
 pub mod Folding
 pub mod Sorts
 pub mod Condition
+pub mod Scope
+pub mod Unfolding
 pub mod Nodes
+pub mod Numbers
 -- what functions inside owe each other
 pub mod FoldingView
+pub mod Copying

@@ -56,8 +56,8 @@ fn opposite(a: Option<i128>) -> Option<i128>
     a?.checked_neg()
 }
 
-// The number that a term is, if it is one.
-fn number_at(terms: &Terms, t: u32) -> Option<i128>
+/// The number that a term is, if it is one.
+pub fn number_at(terms: &Terms, t: u32) -> Option<i128>
     requires { t < length terms.now }
     ensures { result ≡ as_number (tree_at terms.now t) }
 {
@@ -464,7 +464,7 @@ fn without_false(terms: &Terms, members: &[u32]) -> Result<Vec<u32>, NoMemory>
 }
 
 #[tactic(auto, using(crate::proofs::FoldLemmas::joined_parts_at))]
-fn conjunction(terms: &Terms, members: &[u32]) -> Result<Folded, NoMemory>
+pub fn conjunction(terms: &Terms, members: &[u32]) -> Result<Folded, NoMemory>
     requires { All (λ k. k < length terms.now) members.now }
     ensures value { IfOk result (λ f. folded_to (tree_at terms.now) f ≡ fold_and (parts_at (tree_at terms.now) members.now)) }
     ensures within { IfOk result (IsFoldedBelow (length terms.now)) }
@@ -480,7 +480,7 @@ fn conjunction(terms: &Terms, members: &[u32]) -> Result<Folded, NoMemory>
 }
 
 #[tactic(auto, using(crate::proofs::FoldLemmas::joined_parts_at))]
-fn disjunction(terms: &Terms, members: &[u32]) -> Result<Folded, NoMemory>
+pub fn disjunction(terms: &Terms, members: &[u32]) -> Result<Folded, NoMemory>
     requires { All (λ k. k < length terms.now) members.now }
     ensures value { IfOk result (λ f. folded_to (tree_at terms.now) f ≡ fold_or (parts_at (tree_at terms.now) members.now)) }
     ensures within { IfOk result (IsFoldedBelow (length terms.now)) }

@@ -4,6 +4,7 @@ ghost use Rattle.wy_term.specs.Nodes.{plain, grown, tree_at, node_at as plain_at
 ghost use Rattle.wy_term.specs.Same.{same_term};
 ghost use Rattle.wy_term.specs.Folding.{folded};
 
+use crate::copy::copied;
 use crate::fold::{Folded, fold};
 use crate::memory::NoMemory;
 use crate::node::Node;
@@ -96,8 +97,8 @@ impl Terms {
         }
     }
 
-    // The number of the term with this node.
-    fn put(&mut self, node: Node) -> Result<u32, NoMemory>
+    /// The number of the term with this node, which isn't folded.
+    pub(crate) fn put(&mut self, node: Node) -> Result<u32, NoMemory>
         requires { HasPartsBelow (length self.old) (plain node) }
         ensures tree { IfOk result (λ t. tree_at self.new t ≡ grown (tree_at self.old) (plain node)) }
         ensures within { IfOk result (λ t. t < length self.new) }
@@ -111,6 +112,18 @@ impl Terms {
     /// The allocator that the list was made with. It takes no memory.
     pub fn allocator(&self) -> Global {
         *self.nodes.allocator()
+    }
+
+    /// The number of the same term as one of another list. It takes time linear in how many terms that one is made of and
+    /// their parts, each counted once. Older numbers name what they named, at want of memory too.
+    pub fn copy(&mut self, from: &Terms, term: u32) -> Result<u32, NoMemory>
+        requires { term < length from.now }
+        ensures tree { IfOk result (λ t. tree_at self.new t ≡ tree_at from.now term) }
+        ensures within { IfOk result (λ t. t < length self.new) }
+        ensures kept { (t : ℕ) → t < length self.old → tree_at self.new t ≡ tree_at self.old t }
+        ensures grows { length self.old ≤ length self.new }
+    {
+        copied(self, from, term)
     }
 
     /// Whether two numbers name equal terms, in constant time.

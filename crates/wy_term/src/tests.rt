@@ -2,7 +2,7 @@
 ghost use Rattle.std.specs.Prelude.{◌≡◌, ◌<◌, [], ◌∷◌, All, map, length, IfOk, IfSome};
 ghost use Rattle.wy_term.specs.Nodes.{plain};
 
-use crate::{Cond, CondKind, Kind, NoMemory, Node, Terms};
+use crate::{Cond, CondKind, Kind, NoMemory, Node, Terms, Unfold};
 use std::alloc::Global;
 use std::test::Fail;
 use wy_data::Name;
@@ -31,6 +31,9 @@ fn number_of_an_int(alloc: Global) -> Result<(usize, &'static str), NoMemory> {
         at: 0,
         hyps: Vec::from_slice(alloc, &[int])?,
         goal,
+        unfold: Unfold {
+            list: Vec::new(alloc),
+        },
     };
     Ok((terms.len(), cond.kind.word()))
 }
@@ -244,4 +247,26 @@ fn pair(alloc: Global, s: u32, t: u32) -> Result<Vec<(Name, u32)>, NoMemory>
     fields.push((name(alloc, "a")?, s))?;
     fields.push((name(alloc, "b")?, t))?;
     Ok(fields)
+}
+
+#[test]
+fn copies(rt: HostRuntime) {
+    assert_eq!(rt; copied_twice(rt.alloc()), Ok((true, 5, 5)));
+}
+
+// A formula with a term that stands in it twice, in two lists: whether its copy is the number that is made there
+// by itself, and how many terms the new list has after each of the two.
+fn copied_twice(alloc: Global) -> Result<(bool, usize, usize), NoMemory> {
+    let mut from = Terms::new(alloc);
+    from.intern(Node::Null)?;
+    let wanted = "x num 3 le x num 3 le not or";
+    let term = spelled(alloc, &mut from, wanted)?;
+    let mut terms = Terms::new(alloc);
+    terms.intern(Node::Bool(true))?;
+    terms.intern(Node::Number(3))?;
+    let mark = terms.len();
+    let copy = terms.copy(&from, term)?;
+    let after_copy = terms.len() - mark;
+    let made = spelled(alloc, &mut terms, wanted)?;
+    Ok((copy == made, after_copy, terms.len() - mark))
 }

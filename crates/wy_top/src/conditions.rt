@@ -11,7 +11,7 @@ ghost use Rattle.wy_top.specs.ConditionTerms.{IsAt, Keeps, StayAsTheyAre, IsPara
 use crate::thin::{Bound, Comparison, Sign, Thin};
 use std::alloc::Global;
 use wy_data::Name;
-use wy_term::{Cond, CondKind, Kind, NoMemory, Node, Terms};
+use wy_term::{Cond, CondKind, Kind, NoMemory, Node, Terms, Unfold};
 use wy_value::{INT_MAX, INT_MIN};
 
 /// The conditions of a thin program, and the terms that they name.
@@ -293,6 +293,9 @@ fn cond(alloc: Global, kind: CondKind, at: u32, hyps: &[u32], goal: u32) -> Resu
         at,
         hyps: Vec::from_slice(alloc, hyps)?,
         goal,
+        unfold: Unfold {
+            list: Vec::new(alloc),
+        },
     })
 }
 
