@@ -71,9 +71,9 @@ looked_step f ks rs all k r lt looked e g =
     let more : take (k + 1) ks ≡ take k ks ++ get_or ks k 0 ∷ [] = take_more ks k 0 lt in
     subst (λ (js : List ℕ). Looked f js all) (sym more) (subst (λ (ss : List ℕ). Looked f (take k ks ++ get_or ks k 0 ∷ []) ss) (sym g) (looked_more f (take k ks) rs (get_or ks k 0) r looked e))
 
-pub copied_ok : (from to new : List Plain) (f : ℕ → Option ℕ) (rs : List ℕ) (t : ℕ) (p n : Plain) {E : Type 0} (r : Result ℕ E) → AreCopied from to f → p ≡ node_at from t → Looked f (node_at from t).parts rs → tree_at from t ≡ grown (tree_at from) p → n ≡ of p.symbol rs → IfOk r (λ k. tree_at new k ≡ grown (tree_at to) n) → IfOk r (λ k. k < length new) → IfOk r (λ k. IsAt new k (tree_at from t))
-copied_ok from to new f rs t p n (Ok k) copied is looked tree made e within = record { within = within; is = copied_node from to new f rs t k p n copied is looked tree made e }
-copied_ok from to new f rs t p n (Err x) copied is looked tree made e within = tt
+pub copied_ok : (from to new : List Plain) (f : ℕ → Option ℕ) (rs : List ℕ) (t : ℕ) (p n : Plain) {E : Type 0} (r : Result ℕ E) → AreCopied from to f → p ≡ node_at from t → Looked f (node_at from t).parts rs → tree_at from t ≡ grown (tree_at from) p → n ≡ of p.symbol rs → IfOk r (λ k. IsAt new k (grown (tree_at to) n)) → IfOk r (λ k. IsAt new k (tree_at from t))
+copied_ok from to new f rs t p n (Ok k) copied is looked tree made at = record { within = at.within; is = copied_node from to new f rs t k p n copied is looked tree made at.is }
+copied_ok from to new f rs t p n (Err x) copied is looked tree made at = tt
 
 -- the answer to a note
 pub noted_ok : (from to : List Plain) (f g : ℕ → Option ℕ) (k r : ℕ) {X E : Type 0} (a : Result X E) → k < length from → IsAt to r (tree_at from k) → AreCopied from to f → OnOk a ((q : ℕ) → g q ≡ cond (eqb k q) (Some r) (f q)) → OnOk a (AreCopied from to g)

@@ -3,6 +3,7 @@ pub mod Term
 pub mod Data
 pub mod Same
 pub mod Meaning
+pub mod Rewriting
 pub mod Folding
 pub mod Sorts
 pub mod Condition
@@ -12,4 +13,5 @@ pub mod Nodes
 pub mod Numbers
 -- what functions inside owe each other
 pub mod FoldingView
+pub mod ReplacingView
 pub mod Copying

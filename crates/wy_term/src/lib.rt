@@ -13,6 +13,7 @@ mod law;
 mod memory;
 mod node;
 mod parts;
+mod replace;
 mod terms;
 #[cfg(test)]
 mod tests;

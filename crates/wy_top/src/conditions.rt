@@ -1,6 +1,7 @@
 //! The conditions of a thin program: two on the range of what it returns, and one on its ensures clause.
 ghost use Rattle.std.specs.Prelude.{◌≡◌, ◌≤◌, ◌<◌, length, IfOk, None, pos};
-ghost use Rattle.wy_term.specs.Folding.{folded, as_number};
+ghost use Rattle.wy_term.specs.Folding.{folded};
+ghost use Rattle.wy_term.specs.Rewriting.{as_number};
 ghost use Rattle.wy_term.specs.Nodes.{plain, grown, tree_at, HasPartsBelow};
 ghost use Rattle.wy_check.specs.Seen.{IsOf};
 ghost use Rattle.wy_top.specs.Thin.{IsThin, comparison_text, limit_text};
