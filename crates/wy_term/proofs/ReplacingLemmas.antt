@@ -34,12 +34,17 @@ pub image_kept : (old new : List Plain) (ps : List (ℕ × ℕ)) (t : ℕ) → K
 image_kept old new ps t k below lt = rw (k.trees t lt, seen_pairs_kept old new ps k below) refl
 
 pub AreMade_kept : (old new : List Plain) (ps : List (ℕ × ℕ)) (f : ℕ → Option ℕ) → Keeps old new → AreBelow (length old) ps → AreMade old ps f → AreMade new ps f
-AreMade_kept old new ps f k below made = record { made = λ q r e.
-    let m = made.made q r e in
-    let is = m.1 in
-    (omega (arith, k.grows, m.0), record {
-      within = omega (arith, k.grows, is.within);
-      is = k.trees r is.within ∙ is.is ∙ sym (image_kept old new ps q k below m.0) }) }
+AreMade_kept old new ps f k below made = record {
+  made = λ q r e.
+      let m = made.made q r e in
+      let is = m.1 in (
+        omega (arith, k.grows, m.0),
+        record {
+          within = omega (arith, k.grows, is.within);
+          is = k.trees r is.within ∙ is.is ∙ sym (image_kept old new ps q k below m.0);
+        },
+      );
+}
 
 same_number : (a b : ℕ) → Some a ≡ Some b → a ≡ b
 same_number a b e = cc
@@ -142,7 +147,7 @@ so_far_more old new members more r body name env z k n lt keeps below at pushed 
     let rest = instances body name env (z +ℤ pos (k + 1)) (n - (k + 1)) in
     ap (λ (ks : List ℕ). followed (parts_at (tree_at new) ks) rest) pushed
     ∙ parts_more old new members r (body ((name, Number (z +ℤ pos k)) ∷ env)) rest (instances body name env z n) keeps below at.is
-        (ap (followed (parts_at (tree_at old) members)) (sym (instances_at body name env z k n lt)) ∙ so_far)
+    (ap (followed (parts_at (tree_at old) members)) (sym (instances_at body name env z k n lt)) ∙ so_far)
 
 pub so_far_last : (nodes : List Plain) (members : List ℕ) (body : List (Term × Term) → Term) (name : Term) (env : List (Term × Term)) (z : ℤ) (k n : ℕ) → n ≤ k → SoFar nodes members body name env z k n → parts_at (tree_at nodes) members ≡ instances body name env z n
 so_far_last nodes members body name env z k n le so_far =

@@ -18,8 +18,8 @@ pub instance-returns-clause-value : goal.instance-returns-clause-value
 instance-returns-clause-value t c =
     let same : to_z w128 (of_z w128 c.args.number) ≡ c.args.number = grind (arith, ints, to_z-of_z) in
     paired_if c.args.terms.now c.put.new.self c.replaced.new.terms c.args.pairs.now c.deref.result.now c.in_ok-name.name c.in_ok-value.value c.args.q.now.body (leaf (int_name c.args.q.now.word c.args.q.now.number)) (Number c.args.number) c.replaced.result
-      (keeps_on _ _ _ c.in_ok-name.ensures.keeps c.in_ok-value.ensures.keeps) c.requires.pairs c.requires.body (c.deref.ensures.value ∙ c.in_ok-inner.ensures.value)
-      (IsAt_kept _ _ _ _ c.in_ok-value.ensures.keeps c.in_ok-name.ensures.value).is (c.in_ok-value.ensures.value.is ∙ ap (λ (z : ℤ). Number z) same) c.replaced.ensures.value
+    (keeps_on _ _ _ c.in_ok-name.ensures.keeps c.in_ok-value.ensures.keeps) c.requires.pairs c.requires.body (c.deref.ensures.value ∙ c.in_ok-inner.ensures.value)
+    (IsAt_kept _ _ _ _ c.in_ok-value.ensures.keeps c.in_ok-name.ensures.value).is (c.in_ok-value.ensures.value.is ∙ ap (λ (z : ℤ). Number z) same) c.replaced.ensures.value
 
 pub instance-returns-clause-keeps : goal.instance-returns-clause-keeps
 instance-returns-clause-keeps t c = keeps_on _ _ _ (keeps_on _ _ _ c.in_ok-name.ensures.keeps c.in_ok-value.ensures.keeps) c.replaced.ensures.keeps
@@ -58,12 +58,19 @@ quantified-with_bounds-requires t c =
 
 pub replaced-step-requires : goal.replaced-step-requires
 replaced-step-requires t c =
-    let root : c.args.root < length c.loop-turn.terms = omega (arith, c.requires.within, c.loop-turn.invariant.keeps.grows) in
-    (search rules,
-      (popped_below (length c.loop-turn.terms) c.args.root c.unwrap_or-t.result c.loop-turn.todo.items c.pop.new.self.items c.pop.result root c.loop-turn.invariant.todo c.pop.ensures.items c.unwrap_or-t.ensures,
-      (AreBelow_kept c.args.terms.now c.loop-turn.terms c.args.pairs.now c.loop-turn.invariant.keeps c.requires.pairs,
-      (rest_below (length c.loop-turn.terms) c.loop-turn.todo.items c.pop.new.self.items _ c.loop-turn.invariant.todo c.pop.ensures.items,
-      c.loop-turn.invariant.made))))
+    let root : c.args.root < length c.loop-turn.terms = omega (arith, c.requires.within, c.loop-turn.invariant.keeps.grows) in (
+      search rules,
+      (
+        popped_below (length c.loop-turn.terms) c.args.root c.unwrap_or-t.result c.loop-turn.todo.items c.pop.new.self.items c.pop.result root c.loop-turn.invariant.todo c.pop.ensures.items c.unwrap_or-t.ensures,
+        (
+          AreBelow_kept c.args.terms.now c.loop-turn.terms c.args.pairs.now c.loop-turn.invariant.keeps c.requires.pairs,
+          (
+            rest_below (length c.loop-turn.terms) c.loop-turn.todo.items c.pop.new.self.items _ c.loop-turn.invariant.todo c.pop.ensures.items,
+            c.loop-turn.invariant.made,
+          ),
+        ),
+      ),
+    )
 
 pub replaced-returns-in_err-r-clause-keeps : goal.replaced-returns-in_err-r-clause-keeps
 replaced-returns-in_err-r-clause-keeps t c = keeps_on _ _ _ c.loop-turn.invariant.keeps c.in_err-r.ensures.keeps

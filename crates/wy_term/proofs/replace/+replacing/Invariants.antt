@@ -35,13 +35,15 @@ decreases-instance l = 8 * l.depth + 3
 -- what was made already is right, and what is to be made is there
 abbrev pub invariant-replaced-loop-turn : goal.invariant-replaced-loop-turn
 invariant-replaced-loop-turn l = record {
-    made : AreMade l.terms l.pairs (get nat_eq l.made);
-    todo : All (λ k. k < length l.terms) l.todo.items;
-    keeps : Keeps l.initial.terms l.terms; }
+  made : AreMade l.terms l.pairs (get nat_eq l.made);
+  todo : All (λ k. k < length l.terms) l.todo.items;
+  keeps : Keeps l.initial.terms l.terms;
+}
 
 -- the instances so far, and behind them those to come, are all instances
 abbrev pub invariant-instances-loop-k : goal.invariant-instances-loop-k
 invariant-instances-loop-k l = record {
-    so_far : SoFar l.terms l.members.items (replaced (tree_at l.initial.terms l.q.body)) (leaf (int_name l.q.word l.q.number)) (seen_pairs (tree_at l.initial.terms) l.pairs) l.range.0 l.k l.range.1;
-    below : All (λ k. k < length l.terms) l.members.items;
-    keeps : Keeps l.initial.terms l.terms; }
+  so_far : SoFar l.terms l.members.items (replaced (tree_at l.initial.terms l.q.body)) (leaf (int_name l.q.word l.q.number)) (seen_pairs (tree_at l.initial.terms) l.pairs) l.range.0 l.k l.range.1;
+  below : All (λ k. k < length l.terms) l.members.items;
+  keeps : Keeps l.initial.terms l.terms;
+}
