@@ -84,8 +84,9 @@ impl Terms {
     }
 
     /// The number of the term that this node's term is folded to, in amortized constant time beside that of looking at
-    /// the node's parts and hashing it. Older numbers name what they named. Want of memory is also the answer where
-    /// 2^32 - 1 terms stand.
+    /// the node's parts and hashing it; a quantifier over a range of at most 256 numbers takes the time to make its body
+    /// at each of them. Older numbers name what they named. Want of memory is also the answer where 2^32 - 1 terms stand,
+    /// and where a thousand such quantifiers stand one in another.
     pub fn intern(&mut self, node: Node) -> Result<u32, NoMemory>
         requires { HasPartsBelow (length self.old) (plain node) }
         ensures tree { IfOk result (λ t. tree_at self.new t ≡ folded (grown (tree_at self.old) (plain node))) }
