@@ -49,7 +49,7 @@ not_false true h = refl
 not_false false h = absurd (h refl)
 
 true_by_sum : (c : Condition) (s : List (ℕ × ℕ)) → is_valid_sum (literals_of c) s ≡ true → HoldsAlways c
-true_by_sum c s valid names true_all = not_false (sense names c.goal).truth (λ untrue. is_valid_sum_refutes names (literals_of c) s valid (literals_of_told names c true_all untrue))
+true_by_sum c s valid names unfolded true_all = not_false (sense names c.goal).truth (λ untrue. is_valid_sum_refutes names (literals_of c) s valid (literals_of_told names c true_all untrue))
 
 valid_alone : (b : Bool) (x : ℕ) → cond b None (some x) ≡ None → b ≡ true
 valid_alone true x e = refl

@@ -21,6 +21,7 @@ use Rattle.wy_check.specs.Literal as literal
 pub record IsOf (n : ℕ) (cond : Cond) : Type 0 where
   pub hyps : All (λ h. h < n) cond.hyps.items
   pub goal : cond.goal < n
+  pub types : All (λ (e : ℕ × ℕ × ℕ). (e.1 < n) × (e.2 < n)) cond.unfold.list.items
 
 -- the multipliers of a step, each with the number of a literal
 abbrev pub sum_of_step : Step → List (ℕ × ℕ)

@@ -5,7 +5,7 @@ ghost use Rattle.wy_check.specs.Seen.{IsOf};
 use crate::{Cert, Checked, NoMemory, Step, check};
 use std::alloc::Global;
 use wy_data::Name;
-use wy_term::{Cond, CondKind, Kind, Node, Terms};
+use wy_term::{Cond, CondKind, Kind, Node, Terms, Unfold};
 
 #[test]
 fn checks_sums(rt: HostRuntime) {
@@ -65,6 +65,9 @@ fn below_ten_of(alloc: Global) -> Result<(Terms, Cond), NoMemory>
         at: 0,
         hyps,
         goal,
+        unfold: Unfold {
+            list: Vec::new(alloc),
+        },
     };
     Ok((terms, cond))
 }
@@ -85,6 +88,9 @@ fn one_more_at_most_itself(alloc: Global) -> Result<(Terms, Cond), NoMemory>
         at: 0,
         hyps: Vec::from_slice(alloc, &[hyp])?,
         goal,
+        unfold: Unfold {
+            list: Vec::new(alloc),
+        },
     };
     Ok((terms, cond))
 }

@@ -6,7 +6,7 @@ use Rattle.std.proofs.lemmas.Int.{ints}
 use Rattle.wy_term.specs.Same.{same_names, same_kind}
 use Rattle.wy_term.specs.Term.{DataKind, record_kind, Term, Symbol, Of, fields, Parts, no_parts, part, leaf, null, all_of, any_of}
 use Rattle.wy_term.specs.Nodes.{parts_at, grown, of}
-use Rattle.wy_term.specs.Folding.{count, is_true, is_false, joined, names_for, nth_part, part_at, without_true, without_false, decided, kind_given, fold_kind}
+use Rattle.wy_term.specs.Rewriting.{count, is_true, is_false, joined, names_for, nth_part, part_at, without_true, without_false, decided, kind_given, fold_kind}
 
 pub count_parts_at : (at : ℕ → Term) (ks : List ℕ) → count (parts_at at ks) ≡ length ks
 count_parts_at at [] = refl

@@ -13,7 +13,8 @@ use Rattle.wy_term.specs.Data.{length_of, nth, item_at, items_with, field_of, fi
 use Rattle.wy_term.specs.Meaning.{Names, Sense, sense, sense_of, senses_of, data_in, all_hold, any_holds}
 use Rattle.wy_term.specs.Meaning as meaning
 use Rattle.wy_term.specs.Same.{same_names, same_kind, same_term}
-use Rattle.wy_term.specs.Folding.{as_number, as_int, as_bool, as_array, as_denied, is_truth, as_record, field_part, fold_field, names_for, kind_given, fold_kind, as_constant, as_whole, fold_bool, fold_apart, fold_equal, is_true, is_false, True, False, decided, fits, fitted, number_or, on_one, on_two, fold_num, count, fold_len, nth_part, part_at, fold_get, fold_order, fold_at_most, fold_not, has_false, has_true, without_true, without_false, joined, fold_and, fold_or, folded}
+use Rattle.wy_term.specs.Rewriting.{as_number, as_int, as_bool, as_array, as_denied, is_truth, as_record, field_part, fold_field, names_for, kind_given, fold_kind, as_constant, as_whole, fold_bool, fold_apart, fold_equal, is_true, is_false, True, False, decided, fits, fitted, number_or, on_one, on_two, fold_num, count, fold_len, nth_part, part_at, fold_get, fold_order, fold_at_most, fold_not, has_false, has_true, without_true, without_false, joined, fold_and, fold_or, rewritten}
+use Rattle.wy_term.specs.Folding.{fold_range}
 use Rattle.wy_term.specs.Sorts.{Agree, sort_in, FoldingKeepsMeaning}
 use Rattle.wy_term.proofs.SameLemmas.{terms_are, bytes_self}
 
@@ -353,19 +354,24 @@ equal_kept names v w = either (same_term v w) refl
 
 -- ---- terms
 
+rewriting_keeps_meaning : (t : Term) (names : Names) → Agree (sort_in t) (sense names (rewritten t)) (sense names t)
+rewriting_keeps_meaning (Of add (part s (part t no_parts))) names = two_kept names (λ a b. a +ℤ b) s t (two add s t) (as_number s) (as_number t) refl refl refl
+rewriting_keeps_meaning (Of sub (part s (part t no_parts))) names = two_kept names (λ a b. a -ℤ b) s t (two sub s t) (as_number s) (as_number t) refl refl refl
+rewriting_keeps_meaning (Of neg (part s no_parts)) names = neg_kept names s (as_number s) refl
+rewriting_keeps_meaning (Of mul (part s (part t no_parts))) names = two_kept names (λ a b. a *ℤ b) s t (two mul s t) (as_number s) (as_number t) refl refl refl
+rewriting_keeps_meaning (Of num (part v no_parts)) names = num_kept names v (as_int v) refl
+rewriting_keeps_meaning (Of len (part v no_parts)) names = len_kept names v (as_array v) refl
+rewriting_keeps_meaning (Of get (part v (part s no_parts))) names = get_kept names v s (as_array v) (as_number s) refl refl
+rewriting_keeps_meaning (Of at_most (part s (part t no_parts))) names = at_most_kept names s t
+rewriting_keeps_meaning (Of (term.field name) (part v no_parts)) names = field_kept names name v (as_record v) refl
+rewriting_keeps_meaning (Of equal (part v (part w no_parts))) names = equal_kept names v w
+rewriting_keeps_meaning (Of (term.of_kind kind) (part v no_parts)) names = kind_kept names kind v (kind_given v) refl
+rewriting_keeps_meaning (Of denied (part f no_parts)) names = not_kept names f (as_denied f) refl
+rewriting_keeps_meaning (Of all_of fs) names = and_kept names fs
+rewriting_keeps_meaning (Of any_of fs) names = or_kept names fs
+rewriting_keeps_meaning t names = refl
+
 pub folding_keeps_meaning : FoldingKeepsMeaning
-folding_keeps_meaning (Of add (part s (part t no_parts))) names = two_kept names (λ a b. a +ℤ b) s t (two add s t) (as_number s) (as_number t) refl refl refl
-folding_keeps_meaning (Of sub (part s (part t no_parts))) names = two_kept names (λ a b. a -ℤ b) s t (two sub s t) (as_number s) (as_number t) refl refl refl
-folding_keeps_meaning (Of neg (part s no_parts)) names = neg_kept names s (as_number s) refl
-folding_keeps_meaning (Of mul (part s (part t no_parts))) names = two_kept names (λ a b. a *ℤ b) s t (two mul s t) (as_number s) (as_number t) refl refl refl
-folding_keeps_meaning (Of num (part v no_parts)) names = num_kept names v (as_int v) refl
-folding_keeps_meaning (Of len (part v no_parts)) names = len_kept names v (as_array v) refl
-folding_keeps_meaning (Of get (part v (part s no_parts))) names = get_kept names v s (as_array v) (as_number s) refl refl
-folding_keeps_meaning (Of at_most (part s (part t no_parts))) names = at_most_kept names s t
-folding_keeps_meaning (Of (term.field name) (part v no_parts)) names = field_kept names name v (as_record v) refl
-folding_keeps_meaning (Of equal (part v (part w no_parts))) names = equal_kept names v w
-folding_keeps_meaning (Of (term.of_kind kind) (part v no_parts)) names = kind_kept names kind v (kind_given v) refl
-folding_keeps_meaning (Of denied (part f no_parts)) names = not_kept names f (as_denied f) refl
-folding_keeps_meaning (Of all_of fs) names = and_kept names fs
-folding_keeps_meaning (Of any_of fs) names = or_kept names fs
-folding_keeps_meaning t names = refl
+folding_keeps_meaning (Of (term.every word n) (part s (part t (part f no_parts)))) names whole = ap (λ (o : Option ℕ). truth_of names (fold_range true word n s t f o)) whole
+folding_keeps_meaning (Of (term.exists word n) (part s (part t (part f no_parts)))) names whole = ap (λ (o : Option ℕ). truth_of names (fold_range false word n s t f o)) whole
+folding_keeps_meaning t names whole = rewriting_keeps_meaning t names

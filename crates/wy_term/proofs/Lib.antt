@@ -1,6 +1,9 @@
 pub mod NodesLemmas
+pub mod NumbersLemmas
 pub mod SameLemmas
 pub mod NodeEqLemmas
 pub mod InternLemmas
 pub mod FoldingLemmas
 pub mod FoldLemmas
+pub mod CopyingLemmas
+pub mod ReplacingLemmas

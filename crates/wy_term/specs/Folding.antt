@@ -1,249 +1,105 @@
--- Which term a term is folded to when it is made, where its parts are folded already.
-use Rattle.std.specs.Prelude.{◌≡◌, ℕ, zero, suc, ◌^◌, List, [], ◌∷◌, Bool, true, false, ◌&&◌, nat_lt, if◌then◌else◌, bytes_eq, ℤ, pos, negsuc, neg_ℤ, ◌+ℤ◌, ◌-ℤ◌, ◌*ℤ◌, Option, Some, None}
-use Rattle.wy_term.specs.Term.{DataKind, null_kind, bool_kind, int_kind, array_kind, record_kind, Symbol, Term, Of, Parts, no_parts, part, leaf, one, two, Number, Not, number, add, sub, neg, mul, num, len, null, truth, int, bool, array, repeat, get, fields, field, at_most, equal, of_kind, denied, all_of, any_of}
-use Rattle.wy_value.specs.Datum.{Datum, Null, Truth, Whole}
-use Rattle.wy_term.specs.Data.{same_datum}
-use Rattle.wy_term.specs.Same.{same_kind, same_term}
-use Rattle.wy_term.specs.Meaning as meaning
+-- Which term a term is folded to when it is made, and which term comes of one where names stand for other terms.
+use Rattle.std.specs.Prelude.{ℕ, zero, suc, List, [], ◌∷◌, Bool, true, false, nat_le, if◌then◌else◌, ℤ, pos, negsuc, ◌+ℤ◌, ◌-ℤ◌, Option, Some, None, slice_index_or}
+use Rattle.wy_term.specs.Term.{Symbol, Term, Of, Parts, no_parts, part, leaf, Number, int_name, val_name, every, exists}
+use Rattle.wy_term.specs.Same.{same_term}
+use Rattle.wy_term.specs.Rewriting.{as_number, fold_and, fold_or, rewritten}
 
--- ---- what a term is, as far as folding asks
+-- ---- what names stand for: pairs of a name and a term, of which the first one of a name counts
 
--- the number that a term is, if it is one
-abbrev pub as_number : Term → Option ℤ
-as_number (Of (number z) ps) = Some z
-as_number t = None
+-- the term that a name stands for, if there is one
+abbrev pub found : List (Term × Term) → Term → Option Term
+found [] name = None
+found (p ∷ ps) name = if same_term p.0 name then Some p.1 else found ps name
 
--- the Int term that a datum is made of, if it is made of one
-abbrev pub as_int : Term → Option Term
-as_int (Of int (part s no_parts)) = Some s
-as_int t = None
+abbrev pub found_or : Option Term → Term → Term
+found_or None t = t
+found_or (Some u) t = u
 
--- the formula that a datum is made of, if it is made of one
-abbrev pub as_bool : Term → Option Term
-as_bool (Of bool (part f no_parts)) = Some f
-as_bool t = None
+-- the same, but where the name stands for another term it stands for itself
+abbrev pub hidden : Option Term → Term → List (Term × Term) → List (Term × Term)
+hidden None name env = env
+hidden (Some u) name env = if same_term u name then env else (name, name) ∷ env
 
--- the elements of an array that is written out
-abbrev pub as_array : Term → Option Parts
-as_array (Of array ps) = Some ps
-as_array t = None
+-- ---- short ranges
 
--- the formula that is denied, if one is
-abbrev pub as_denied : Term → Option Term
-as_denied (Of denied (part f no_parts)) = Some f
-as_denied t = None
+-- how many numbers there are from a first one on and below another, by their difference, where the two are at most 256 apart
+abbrev pub span : ℤ → Option ℕ
+span (pos n) = if nat_le n 256 then Some n else None
+span (negsuc n) = if nat_le n 255 then Some 0 else None
 
--- the formula `true` is an `and` without members
-abbrev pub is_true : Term → Bool
-is_true (Of all_of no_parts) = true
-is_true t = false
+-- the same, where both are numbers
+abbrev pub span_of : Option ℤ → Option ℤ → Option ℕ
+span_of None b = None
+span_of (Some a) None = None
+span_of (Some a) (Some b) = span (b -ℤ a)
 
--- the formula `false` is an `or` without members
-abbrev pub is_false : Term → Bool
-is_false (Of any_of no_parts) = true
-is_false t = false
+-- the formula at each of so many numbers from the first one on
+abbrev pub instances : (List (Term × Term) → Term) → Term → List (Term × Term) → ℤ → ℕ → Parts
+instances body name env z zero = no_parts
+instances body name env z (suc n) = part (body ((name, Number z) ∷ env)) (instances body name env (z +ℤ pos 1) n)
 
--- the datum `true`
-abbrev pub is_truth : Term → Bool
-is_truth (Of (truth b) ps) = b
-is_truth t = false
+-- the number that an Int term is, or 0
+abbrev pub number_or_zero : Option ℤ → ℤ
+number_or_zero None = pos 0
+number_or_zero (Some z) = z
 
--- ---- results
+-- `all` or `some` of a name
+abbrev pub binder : Bool → List ℕ → ℕ → Symbol
+binder true word n = every word n
+binder false word n = exists word n
 
-abbrev pub True : Term
-True = leaf all_of
+-- the formulas joined by `and` or by `or`
+abbrev pub joined_by : Bool → Parts → Term
+joined_by true fs = fold_and fs
+joined_by false fs = fold_or fs
 
-abbrev pub False : Term
-False = leaf any_of
+-- ---- terms where names stand for others
 
-abbrev pub decided : Bool → Term
-decided true = True
-decided false = False
+-- a quantifier with these bounds: over a short range its instances, else a quantifier, in whose body its name stands for itself
+abbrev pub quantified : Bool → List ℕ → ℕ → (List (Term × Term) → Term) → List (Term × Term) → Term → Term → Option ℕ → Term
+quantified all word n body env s t None = Of (binder all word n) (part s (part t (part (body (hidden (found env (leaf (int_name word n))) (leaf (int_name word n)) env)) no_parts)))
+quantified all word n body env s t (Some m) = joined_by all (instances body (leaf (int_name word n)) env (number_or_zero (as_number s)) m)
 
--- the number is one of 128 bits
-abbrev pub fits : ℤ → Bool
-fits (pos n) = nat_lt n (2 ^ 127)
-fits (negsuc n) = nat_lt n (2 ^ 127)
+-- the part with this number, from 0, where names stand for these terms
+abbrev pub part_of : List (List (Term × Term) → Term) → ℕ → List (Term × Term) → Term
+part_of parts k = slice_index_or parts k (λ env. Number (pos 0))
 
--- the number where it is one of 128 bits
-abbrev pub fitted : ℤ → Option ℤ
-fitted z = if fits z then Some z else None
+-- the parts where names stand for these terms
+abbrev pub parts_of : List (List (Term × Term) → Term) → List (Term × Term) → Parts
+parts_of [] env = no_parts
+parts_of (p ∷ ps) env = part (p env) (parts_of ps env)
 
--- the number where there is one, else the term
-abbrev pub number_or : Term → Option ℤ → Term
-number_or t None = t
-number_or t (Some z) = Number z
+abbrev pub quantifier_of : Bool → List ℕ → ℕ → List (List (Term × Term) → Term) → List (Term × Term) → Term
+quantifier_of all word n parts env =
+    quantified all word n (part_of parts 2) env (part_of parts 0 env) (part_of parts 1 env) (span_of (as_number (part_of parts 0 env)) (as_number (part_of parts 1 env)))
 
--- ---- numbers
+-- what comes of a term with this symbol, by what comes of its parts
+abbrev pub remade : Symbol → List (List (Term × Term) → Term) → List (Term × Term) → Term
+remade (int_name word n) parts env = found_or (found env (leaf (int_name word n))) (leaf (int_name word n))
+remade (val_name word n) parts env = found_or (found env (leaf (val_name word n))) (leaf (val_name word n))
+remade (every word n) parts env = quantifier_of true word n parts env
+remade (exists word n) parts env = quantifier_of false word n parts env
+remade symbol parts env = rewritten (Of symbol (parts_of parts env))
 
--- an operation on a number, where there is one
-abbrev pub on_one : (ℤ → ℤ) → Option ℤ → Option ℤ
-on_one f None = None
-on_one f (Some a) = fitted (f a)
+abbrev mutual
+  -- the term where names stand for these terms, made anew from the leaves up
+  pub replaced : Term → List (Term × Term) → Term
+  replaced (Of symbol ps) = remade symbol (replacers ps)
 
--- an operation on two numbers, where there are two
-abbrev pub on_two : (ℤ → ℤ → ℤ) → Option ℤ → Option ℤ → Option ℤ
-on_two f None b = None
-on_two f (Some a) None = None
-on_two f (Some a) (Some b) = fitted (f a b)
+  -- the same for each part
+  pub replacers : Parts → List (List (Term × Term) → Term)
+  replacers no_parts = []
+  replacers (part t ps) = replaced t ∷ replacers ps
 
-abbrev pub fold_num : Term → Option Term → Term
-fold_num v None = one num v
-fold_num v (Some s) = s
+-- ---- folding
 
--- ---- arrays
-
-abbrev pub count : Parts → ℕ
-count no_parts = 0
-count (part t ps) = suc (count ps)
-
-abbrev pub fold_len : Term → Option Parts → Term
-fold_len v None = one len v
-fold_len v (Some ps) = Number (pos (count ps))
-
-abbrev pub nth_part : Parts → ℕ → Term
-nth_part no_parts k = leaf null
-nth_part (part t ps) zero = t
-nth_part (part t ps) (suc k) = nth_part ps k
-
-abbrev pub part_at : Parts → ℤ → Term
-part_at ps (pos k) = nth_part ps k
-part_at ps (negsuc k) = leaf null
-
-abbrev pub fold_get : Term → Term → Option Parts → Option ℤ → Term
-fold_get v s None k = two get v s
-fold_get v s (Some ps) None = two get v s
-fold_get v s (Some ps) (Some k) = part_at ps k
-
--- ---- formulas
-
-abbrev pub fold_order : Term → Option ℤ → Option ℤ → Term
-fold_order t None b = t
-fold_order t (Some a) None = t
-fold_order t (Some a) (Some b) = decided (meaning.at_most a b)
-
-abbrev pub fold_at_most : Term → Term → Term
-fold_at_most s t = if same_term s t then True else fold_order (two at_most s t) (as_number s) (as_number t)
-
-abbrev pub fold_not : Term → Option Term → Term
-fold_not f None = Not f
-fold_not f (Some g) = g
-
--- a member is `false`
-abbrev pub has_false : Parts → Bool
-has_false no_parts = false
-has_false (part f fs) = if is_false f then true else has_false fs
-
--- a member is `true`
-abbrev pub has_true : Parts → Bool
-has_true no_parts = false
-has_true (part f fs) = if is_true f then true else has_true fs
-
--- the members but `true`
-abbrev pub without_true : Parts → Parts
-without_true no_parts = no_parts
-without_true (part f fs) = if is_true f then without_true fs else part f (without_true fs)
-
--- the members but `false`
-abbrev pub without_false : Parts → Parts
-without_false no_parts = no_parts
-without_false (part f fs) = if is_false f then without_false fs else part f (without_false fs)
-
--- one member stands alone
-abbrev pub joined : Symbol → Parts → Term
-joined symbol no_parts = leaf symbol
-joined symbol (part f no_parts) = f
-joined symbol (part f (part g fs)) = Of symbol (part f (part g fs))
-
-abbrev pub fold_and : Parts → Term
-fold_and fs = if has_false fs then False else joined all_of (without_true fs)
-
-abbrev pub fold_or : Parts → Term
-fold_or fs = if has_true fs then True else joined any_of (without_false fs)
-
--- ---- records
-
--- a record that is written out: its names and its parts
-abbrev pub as_record : Term → Option (List (List ℕ) × Parts)
-as_record (Of (fields names) ps) = Some (names, ps)
-as_record t = None
-
--- the part of this name, or null
-abbrev pub field_part : List (List ℕ) → Parts → List ℕ → Term
-field_part [] ps name = leaf null
-field_part (n ∷ ns) no_parts name = leaf null
-field_part (n ∷ ns) (part t ps) name = if bytes_eq n name then t else field_part ns ps name
-
-abbrev pub fold_field : List ℕ → Term → Option (List (List ℕ) × Parts) → Term
-fold_field name v None = one (field name) v
-fold_field name v (Some r) = field_part r.0 r.1 name
-
--- ---- kinds
-
--- the names that have a part
-abbrev pub names_for : List (List ℕ) → Parts → List (List ℕ)
-names_for [] ps = []
-names_for (n ∷ ns) no_parts = []
-names_for (n ∷ ns) (part t ps) = n ∷ names_for ns ps
-
--- the kind of a constant or of a datum that is written out
-abbrev pub kind_given : Term → Option DataKind
-kind_given (Of null ps) = Some null_kind
-kind_given (Of (truth b) ps) = Some bool_kind
-kind_given (Of int ps) = Some int_kind
-kind_given (Of bool ps) = Some bool_kind
-kind_given (Of array ps) = Some array_kind
-kind_given (Of repeat ps) = Some array_kind
-kind_given (Of (fields names) ps) = Some (record_kind (names_for names ps))
-kind_given t = None
-
-abbrev pub fold_kind : DataKind → Term → Option DataKind → Term
-fold_kind kind v None = one (of_kind kind) v
-fold_kind kind v (Some given) = decided (same_kind given kind)
-
--- ---- equations
-
-abbrev pub as_whole : Option ℤ → Option Datum
-as_whole None = None
-as_whole (Some z) = Some (Whole z)
-
--- the datum of a constant: null, true, false or a number
-abbrev pub as_constant : Term → Option Datum
-as_constant (Of null ps) = Some Null
-as_constant (Of (truth b) ps) = Some (Truth b)
-as_constant (Of int (part s no_parts)) = as_whole (as_number s)
-as_constant t = None
-
--- `bool(F) = true` is F
-abbrev pub fold_bool : Term → Option Term → Bool → Term
-fold_bool t None b = t
-fold_bool t (Some f) true = f
-fold_bool t (Some f) false = t
-
-abbrev pub fold_apart : Term → Term → Option Datum → Option Datum → Term
-fold_apart v w (Some d) (Some e) = decided (same_datum d e)
-fold_apart v w (Some d) None = two equal v w
-fold_apart v w None e = fold_bool (two equal v w) (as_bool v) (is_truth w)
-
-abbrev pub fold_equal : Term → Term → Term
-fold_equal v w = if same_term v w then True else fold_apart v w (as_constant v) (as_constant w)
-
--- ---- terms
+-- a quantifier over a short range is the `and` or the `or` of its instances
+abbrev pub fold_range : Bool → List ℕ → ℕ → Term → Term → Term → Option ℕ → Term
+fold_range all word n s t f None = Of (binder all word n) (part s (part t (part f no_parts)))
+fold_range all word n s t f (Some m) = joined_by all (instances (replaced f) (leaf (int_name word n)) [] (number_or_zero (as_number s)) m)
 
 -- the term that this one is folded to
 abbrev pub folded : Term → Term
-folded (Of add (part s (part t no_parts))) = number_or (two add s t) (on_two (λ a b. a +ℤ b) (as_number s) (as_number t))
-folded (Of sub (part s (part t no_parts))) = number_or (two sub s t) (on_two (λ a b. a -ℤ b) (as_number s) (as_number t))
-folded (Of neg (part s no_parts)) = number_or (one neg s) (on_one neg_ℤ (as_number s))
-folded (Of mul (part s (part t no_parts))) = number_or (two mul s t) (on_two (λ a b. a *ℤ b) (as_number s) (as_number t))
-folded (Of num (part v no_parts)) = fold_num v (as_int v)
-folded (Of len (part v no_parts)) = fold_len v (as_array v)
-folded (Of get (part v (part s no_parts))) = fold_get v s (as_array v) (as_number s)
-folded (Of at_most (part s (part t no_parts))) = fold_at_most s t
-folded (Of (field name) (part v no_parts)) = fold_field name v (as_record v)
-folded (Of equal (part v (part w no_parts))) = fold_equal v w
-folded (Of (of_kind kind) (part v no_parts)) = fold_kind kind v (kind_given v)
-folded (Of denied (part f no_parts)) = fold_not f (as_denied f)
-folded (Of all_of fs) = fold_and fs
-folded (Of any_of fs) = fold_or fs
-folded t = t
+folded (Of (every word n) (part s (part t (part f no_parts)))) = fold_range true word n s t f (span_of (as_number s) (as_number t))
+folded (Of (exists word n) (part s (part t (part f no_parts)))) = fold_range false word n s t f (span_of (as_number s) (as_number t))
+folded t = rewritten t

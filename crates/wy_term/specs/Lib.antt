@@ -3,9 +3,15 @@ pub mod Term
 pub mod Data
 pub mod Same
 pub mod Meaning
+pub mod Rewriting
 pub mod Folding
 pub mod Sorts
 pub mod Condition
+pub mod Scope
+pub mod Unfolding
 pub mod Nodes
+pub mod Numbers
 -- what functions inside owe each other
 pub mod FoldingView
+pub mod ReplacingView
+pub mod Copying

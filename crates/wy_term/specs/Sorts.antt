@@ -1,9 +1,10 @@
 -- Of which sort a term is, and when two senses agree as far as a sort asks.
-use Rattle.std.specs.Prelude.{◌≡◌}
-use Rattle.wy_term.specs.Term.{Symbol, Term, Of}
+use Rattle.std.specs.Prelude.{◌≡◌, None}
+use Rattle.wy_term.specs.Term.{Symbol, Term, Of, part, no_parts}
 use Rattle.wy_term.specs.Term as term
 use Rattle.wy_term.specs.Meaning.{Names, Sense, sense}
-use Rattle.wy_term.specs.Folding.{folded}
+use Rattle.wy_term.specs.Rewriting.{as_number}
+use Rattle.wy_term.specs.Folding.{span_of, folded}
 
 pub data Sort : Type 0 where
   int_sort : Sort
@@ -54,6 +55,12 @@ Agree int_sort a b = a.number ≡ b.number
 Agree val_sort a b = a.datum ≡ b.datum
 Agree formula_sort a b = a.truth ≡ b.truth
 
--- folding a term changes nothing of what it means, whatever names stand for
+-- the term is no quantifier over a short range
+abbrev pub StaysWhole : Term → Type 0
+StaysWhole (Of (term.every word n) (part s (part t (part f no_parts)))) = span_of (as_number s) (as_number t) ≡ None
+StaysWhole (Of (term.exists word n) (part s (part t (part f no_parts)))) = span_of (as_number s) (as_number t) ≡ None
+StaysWhole t = Unit {0}
+
+-- folding a term, but a quantifier over a short range, changes nothing of what it means, whatever names stand for
 abbrev pub FoldingKeepsMeaning : Type 0
-FoldingKeepsMeaning = (t : Term) (names : Names) → Agree (sort_in t) (sense names (folded t)) (sense names t)
+FoldingKeepsMeaning = (t : Term) (names : Names) → StaysWhole t → Agree (sort_in t) (sense names (folded t)) (sense names t)

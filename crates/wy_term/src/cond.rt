@@ -2,6 +2,8 @@
 ghost use Rattle.std.specs.Prelude.{◌≡◌};
 ghost use Rattle.wy_term.specs.Condition.{word_of};
 
+use crate::terms::Terms;
+
 /// A condition that a program owes: where the hypotheses hold, the goal holds. The numbers are those of a list of terms.
 #[derive(Drop)]
 pub struct Cond {
@@ -13,6 +15,24 @@ pub struct Cond {
     pub hyps: Vec<u32>,
     /// The formula that is owed.
     pub goal: u32,
+    /// What its tests of named types stand for.
+    pub unfold: Unfold,
+}
+
+/// What `in` stands for in a condition. There is an entry for each named type that the condition mentions, and for each
+/// that these types mention: the type's number, the number of a Val name, and the number of the formula that `in` of
+/// that name stands for. Each type is listed once, the Val name is the only free name of its formula, and the formula
+/// leads to no endless chain of tests (`AreGrounded`).
+#[derive(Drop)]
+pub struct Unfold {
+    pub list: Vec<(u32, u32, u32)>,
+}
+
+/// Conditions, and the list of the terms that they are written in.
+#[derive(Drop)]
+pub struct Conds {
+    pub terms: Terms,
+    pub list: Vec<Cond>,
 }
 
 /// Why a condition is owed.

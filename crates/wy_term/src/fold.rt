@@ -4,7 +4,7 @@ ghost use Rattle.wy_term.specs.Term.{Term, DataKind, null_kind, bool_kind, int_k
 ghost use Rattle.wy_term.specs.Nodes.{plain, plain_kind, grown, HasPartsBelow, tree_at, parts_at};
 ghost use Rattle.wy_term.specs.Data.{same_datum};
 ghost use Rattle.wy_term.specs.Same.{same_kind, same_names};
-ghost use Rattle.wy_term.specs.Folding.{as_number, as_int, as_bool, as_array, as_denied, as_record, as_constant, is_true, is_false, is_truth, on_one, on_two, number_or, decided, fold_num, fold_len, fold_get, fold_field, fold_kind, kind_given, fold_at_most, fold_equal, fold_bool, fold_not, fold_and, fold_or, has_true, has_false, without_true, without_false, part_at, field_part, folded};
+ghost use Rattle.wy_term.specs.Rewriting.{as_number, as_int, as_bool, as_array, as_denied, as_record, as_constant, is_true, is_false, is_truth, on_one, on_two, number_or, decided, fold_num, fold_len, fold_get, fold_field, fold_kind, kind_given, fold_at_most, fold_equal, fold_bool, fold_not, fold_and, fold_or, has_true, has_false, without_true, without_false, part_at, field_part, rewritten};
 ghost use Rattle.wy_term.specs.FoldingView.{folded_to, IsFoldedBelow, constant_of};
 
 use crate::memory::NoMemory;
@@ -56,8 +56,8 @@ fn opposite(a: Option<i128>) -> Option<i128>
     a?.checked_neg()
 }
 
-// The number that a term is, if it is one.
-fn number_at(terms: &Terms, t: u32) -> Option<i128>
+/// The number that a term is, if it is one.
+pub fn number_at(terms: &Terms, t: u32) -> Option<i128>
     requires { t < length terms.now }
     ensures { result ≡ as_number (tree_at terms.now t) }
 {
@@ -70,7 +70,7 @@ fn number_at(terms: &Terms, t: u32) -> Option<i128>
 fn sum(terms: &Terms, s: u32, t: u32) -> Folded
     requires first { s < length terms.now }
     requires second { t < length terms.now }
-    ensures value { folded_to (tree_at terms.now) result ≡ folded (two add (tree_at terms.now s) (tree_at terms.now t)) }
+    ensures value { folded_to (tree_at terms.now) result ≡ rewritten (two add (tree_at terms.now s) (tree_at terms.now t)) }
     ensures within { IsFoldedBelow (length terms.now) result }
 {
     match plus(number_at(terms, s), number_at(terms, t)) {
@@ -82,7 +82,7 @@ fn sum(terms: &Terms, s: u32, t: u32) -> Folded
 fn difference(terms: &Terms, s: u32, t: u32) -> Folded
     requires first { s < length terms.now }
     requires second { t < length terms.now }
-    ensures value { folded_to (tree_at terms.now) result ≡ folded (two sub (tree_at terms.now s) (tree_at terms.now t)) }
+    ensures value { folded_to (tree_at terms.now) result ≡ rewritten (two sub (tree_at terms.now s) (tree_at terms.now t)) }
     ensures within { IsFoldedBelow (length terms.now) result }
 {
     match minus(number_at(terms, s), number_at(terms, t)) {
@@ -94,7 +94,7 @@ fn difference(terms: &Terms, s: u32, t: u32) -> Folded
 fn product(terms: &Terms, s: u32, t: u32) -> Folded
     requires first { s < length terms.now }
     requires second { t < length terms.now }
-    ensures value { folded_to (tree_at terms.now) result ≡ folded (two mul (tree_at terms.now s) (tree_at terms.now t)) }
+    ensures value { folded_to (tree_at terms.now) result ≡ rewritten (two mul (tree_at terms.now s) (tree_at terms.now t)) }
     ensures within { IsFoldedBelow (length terms.now) result }
 {
     match times(number_at(terms, s), number_at(terms, t)) {
@@ -105,7 +105,7 @@ fn product(terms: &Terms, s: u32, t: u32) -> Folded
 
 fn negated(terms: &Terms, s: u32) -> Folded
     requires { s < length terms.now }
-    ensures value { folded_to (tree_at terms.now) result ≡ folded (one neg (tree_at terms.now s)) }
+    ensures value { folded_to (tree_at terms.now) result ≡ rewritten (one neg (tree_at terms.now s)) }
     ensures within { IsFoldedBelow (length terms.now) result }
 {
     match opposite(number_at(terms, s)) {
@@ -116,7 +116,7 @@ fn negated(terms: &Terms, s: u32) -> Folded
 
 fn number_in(terms: &Terms, v: u32) -> Folded
     requires { v < length terms.now }
-    ensures value { folded_to (tree_at terms.now) result ≡ folded (one num (tree_at terms.now v)) }
+    ensures value { folded_to (tree_at terms.now) result ≡ rewritten (one num (tree_at terms.now v)) }
     ensures within { IsFoldedBelow (length terms.now) result }
 {
     match terms.node(v) {
@@ -130,7 +130,7 @@ fn number_in(terms: &Terms, v: u32) -> Folded
 #[tactic(auto, using(crate::proofs::FoldLemmas::count_parts_at))]
 fn length_of(terms: &Terms, v: u32) -> Folded
     requires { v < length terms.now }
-    ensures value { folded_to (tree_at terms.now) result ≡ folded (one len (tree_at terms.now v)) }
+    ensures value { folded_to (tree_at terms.now) result ≡ rewritten (one len (tree_at terms.now v)) }
     ensures within { IsFoldedBelow (length terms.now) result }
 {
     match terms.node(v) {
@@ -157,7 +157,7 @@ fn element(_terms: &Terms, elements: &[u32], place: i128) -> Folded
 fn element_at(terms: &Terms, v: u32, s: u32) -> Folded
     requires first { v < length terms.now }
     requires second { s < length terms.now }
-    ensures value { folded_to (tree_at terms.now) result ≡ folded (two get (tree_at terms.now v) (tree_at terms.now s)) }
+    ensures value { folded_to (tree_at terms.now) result ≡ rewritten (two get (tree_at terms.now v) (tree_at terms.now s)) }
     ensures within { IsFoldedBelow (length terms.now) result }
 {
     match terms.node(v) {
@@ -185,7 +185,7 @@ fn part_of(_terms: &Terms, fields: &[(Name, u32)], name: &Name) -> Folded
 
 fn part_named(terms: &Terms, v: u32, name: Name) -> Folded
     requires { v < length terms.now }
-    ensures value { folded_to (tree_at terms.now) result ≡ folded (one (field name) (tree_at terms.now v)) }
+    ensures value { folded_to (tree_at terms.now) result ≡ rewritten (one (field name) (tree_at terms.now v)) }
     ensures within { IsFoldedBelow (length terms.now) result }
 {
     match terms.node(v) {
@@ -211,7 +211,7 @@ fn truth(terms: &Terms, holds: bool) -> Folded
 fn comparison(terms: &Terms, s: u32, t: u32) -> Folded
     requires first { s < length terms.now }
     requires second { t < length terms.now }
-    ensures value { folded_to (tree_at terms.now) result ≡ folded (two at_most (tree_at terms.now s) (tree_at terms.now t)) }
+    ensures value { folded_to (tree_at terms.now) result ≡ rewritten (two at_most (tree_at terms.now s) (tree_at terms.now t)) }
     ensures within { IsFoldedBelow (length terms.now) result }
 {
     if terms.same(s, t) {
@@ -226,7 +226,7 @@ fn comparison(terms: &Terms, s: u32, t: u32) -> Folded
 
 fn denial(terms: &Terms, f: u32) -> Folded
     requires { f < length terms.now }
-    ensures value { folded_to (tree_at terms.now) result ≡ folded (one denied (tree_at terms.now f)) }
+    ensures value { folded_to (tree_at terms.now) result ≡ rewritten (one denied (tree_at terms.now f)) }
     ensures within { IsFoldedBelow (length terms.now) result }
 {
     match terms.node(f) {
@@ -290,7 +290,7 @@ fn is_record(fields: &[(Name, u32)], kind: &Kind) -> bool
 #[tactic(auto, using(crate::proofs::FoldLemmas::names_for_parts_at))]
 fn kind_test(terms: &Terms, v: u32, kind: Kind) -> Folded
     requires { v < length terms.now }
-    ensures value { folded_to (tree_at terms.now) result ≡ folded (one (of_kind (plain_kind kind)) (tree_at terms.now v)) }
+    ensures value { folded_to (tree_at terms.now) result ≡ rewritten (one (of_kind (plain_kind kind)) (tree_at terms.now v)) }
     ensures within { IsFoldedBelow (length terms.now) result }
 {
     match terms.node(v) {
@@ -366,7 +366,7 @@ fn truth_equation(terms: &Terms, v: u32, w: u32) -> Folded
 fn equation(terms: &Terms, v: u32, w: u32) -> Folded
     requires first { v < length terms.now }
     requires second { w < length terms.now }
-    ensures value { folded_to (tree_at terms.now) result ≡ folded (two equal (tree_at terms.now v) (tree_at terms.now w)) }
+    ensures value { folded_to (tree_at terms.now) result ≡ rewritten (two equal (tree_at terms.now v) (tree_at terms.now w)) }
     ensures within { IsFoldedBelow (length terms.now) result }
 {
     if terms.same(v, w) {
@@ -464,7 +464,7 @@ fn without_false(terms: &Terms, members: &[u32]) -> Result<Vec<u32>, NoMemory>
 }
 
 #[tactic(auto, using(crate::proofs::FoldLemmas::joined_parts_at))]
-fn conjunction(terms: &Terms, members: &[u32]) -> Result<Folded, NoMemory>
+pub fn conjunction(terms: &Terms, members: &[u32]) -> Result<Folded, NoMemory>
     requires { All (λ k. k < length terms.now) members.now }
     ensures value { IfOk result (λ f. folded_to (tree_at terms.now) f ≡ fold_and (parts_at (tree_at terms.now) members.now)) }
     ensures within { IfOk result (IsFoldedBelow (length terms.now)) }
@@ -480,7 +480,7 @@ fn conjunction(terms: &Terms, members: &[u32]) -> Result<Folded, NoMemory>
 }
 
 #[tactic(auto, using(crate::proofs::FoldLemmas::joined_parts_at))]
-fn disjunction(terms: &Terms, members: &[u32]) -> Result<Folded, NoMemory>
+pub fn disjunction(terms: &Terms, members: &[u32]) -> Result<Folded, NoMemory>
     requires { All (λ k. k < length terms.now) members.now }
     ensures value { IfOk result (λ f. folded_to (tree_at terms.now) f ≡ fold_or (parts_at (tree_at terms.now) members.now)) }
     ensures within { IfOk result (IsFoldedBelow (length terms.now)) }
@@ -498,7 +498,7 @@ fn disjunction(terms: &Terms, members: &[u32]) -> Result<Folded, NoMemory>
 /// What a node is folded to. It takes time linear in the number of the node's parts.
 pub fn fold(terms: &Terms, node: Node) -> Result<Folded, NoMemory>
     requires { HasPartsBelow (length terms.now) (plain node) }
-    ensures value { IfOk result (λ f. folded_to (tree_at terms.now) f ≡ folded (grown (tree_at terms.now) (plain node))) }
+    ensures value { IfOk result (λ f. folded_to (tree_at terms.now) f ≡ rewritten (grown (tree_at terms.now) (plain node))) }
     ensures within { IfOk result (IsFoldedBelow (length terms.now)) }
 {
     match node {

@@ -2,11 +2,15 @@
 ghost use Rattle.std.specs.Prelude.{◌≡◌, ◌<◌, ◌≤◌, ◌↔◌, [], ℕ, List, length, map, take, IsTrue, IfOk, OnErr};
 ghost use Rattle.wy_term.specs.Nodes.{plain, grown, tree_at, node_at as plain_at, HasPartsBelow, AreNodes, Extends, Adds};
 ghost use Rattle.wy_term.specs.Same.{same_term};
+ghost use Rattle.wy_term.specs.Rewriting.{rewritten};
 ghost use Rattle.wy_term.specs.Folding.{folded};
+ghost use Rattle.wy_term.specs.Numbers.{IsAt, Keeps};
 
+use crate::copy::copied;
 use crate::fold::{Folded, fold};
 use crate::memory::NoMemory;
 use crate::node::Node;
+use crate::replace::made;
 use indexmap::IndexSet;
 use std::alloc::Global;
 use std::marker::Model;
@@ -80,8 +84,9 @@ impl Terms {
     }
 
     /// The number of the term that this node's term is folded to, in amortized constant time beside that of looking at
-    /// the node's parts and hashing it. Older numbers name what they named. Want of memory is also the answer where
-    /// 2^32 - 1 terms stand.
+    /// the node's parts and hashing it; a quantifier over a range of at most 256 numbers takes the time to make its body
+    /// at each of them. Older numbers name what they named. Want of memory is also the answer where 2^32 - 1 terms stand,
+    /// and where a thousand such quantifiers stand one in another.
     pub fn intern(&mut self, node: Node) -> Result<u32, NoMemory>
         requires { HasPartsBelow (length self.old) (plain node) }
         ensures tree { IfOk result (λ t. tree_at self.new t ≡ folded (grown (tree_at self.old) (plain node))) }
@@ -90,20 +95,33 @@ impl Terms {
         ensures grows { length self.old ≤ length self.new }
         ensures no_memory { OnErr result (self.new ≡ self.old) }
     {
+        let mark = self.mark();
+        match made(self, node) {
+            Ok(term) => Ok(term),
+            Err(e) => {
+                self.back_to(mark);
+                Err(e)
+            }
+        }
+    }
+
+    /// The number of the term that this node's term is folded to, where it is no quantifier.
+    pub(crate) fn make(&mut self, node: Node) -> Result<u32, NoMemory>
+        requires { HasPartsBelow (length self.old) (plain node) }
+        ensures value { IfOk result (λ t. IsAt self.new t (rewritten (grown (tree_at self.old) (plain node)))) }
+        ensures keeps { Keeps self.old self.new }
+    {
         match fold(self, node)? {
             Folded::Term(term) => Ok(term),
             Folded::Node(node) => self.put(node),
         }
     }
 
-    // The number of the term with this node.
-    fn put(&mut self, node: Node) -> Result<u32, NoMemory>
+    /// The number of the term with this node, which isn't folded.
+    pub(crate) fn put(&mut self, node: Node) -> Result<u32, NoMemory>
         requires { HasPartsBelow (length self.old) (plain node) }
-        ensures tree { IfOk result (λ t. tree_at self.new t ≡ grown (tree_at self.old) (plain node)) }
-        ensures within { IfOk result (λ t. t < length self.new) }
-        ensures kept { (t : ℕ) → t < length self.old → tree_at self.new t ≡ tree_at self.old t }
-        ensures grows { length self.old ≤ length self.new }
-        ensures no_memory { OnErr result (self.new ≡ self.old) }
+        ensures value { IfOk result (λ t. IsAt self.new t (grown (tree_at self.old) (plain node))) }
+        ensures keeps { Keeps self.old self.new }
     {
         add(&mut self.nodes, node)
     }
@@ -111,6 +129,18 @@ impl Terms {
     /// The allocator that the list was made with. It takes no memory.
     pub fn allocator(&self) -> Global {
         *self.nodes.allocator()
+    }
+
+    /// The number of the same term as one of another list. It takes time linear in how many terms that one is made of and
+    /// their parts, each counted once. Older numbers name what they named, at want of memory too.
+    pub fn copy(&mut self, from: &Terms, term: u32) -> Result<u32, NoMemory>
+        requires { term < length from.now }
+        ensures tree { IfOk result (λ t. tree_at self.new t ≡ tree_at from.now term) }
+        ensures within { IfOk result (λ t. t < length self.new) }
+        ensures kept { (t : ℕ) → t < length self.old → tree_at self.new t ≡ tree_at self.old t }
+        ensures grows { length self.old ≤ length self.new }
+    {
+        copied(self, from, term)
     }
 
     /// Whether two numbers name equal terms, in constant time.

@@ -2,7 +2,7 @@
 ghost use Rattle.std.specs.Prelude.{◌≡◌, ◌<◌, [], ◌∷◌, All, map, length, IfOk, IfSome};
 ghost use Rattle.wy_term.specs.Nodes.{plain};
 
-use crate::{Cond, CondKind, Kind, NoMemory, Node, Terms};
+use crate::{Cond, CondKind, Kind, NoMemory, Node, Quantifier, Terms, Unfold};
 use std::alloc::Global;
 use std::test::Fail;
 use wy_data::Name;
@@ -31,6 +31,9 @@ fn number_of_an_int(alloc: Global) -> Result<(usize, &'static str), NoMemory> {
         at: 0,
         hyps: Vec::from_slice(alloc, &[int])?,
         goal,
+        unfold: Unfold {
+            list: Vec::new(alloc),
+        },
     };
     Ok((terms.len(), cond.kind.word()))
 }
@@ -61,7 +64,7 @@ fn lengths_at_marks(alloc: Global) -> Result<[usize; 4], NoMemory> {
 // the term that it makes there.
 #[test]
 fn folds(rt: HostRuntime) -> Result<(), Fail> {
-    let rows: [(&str, &str); 38] = [
+    let rows: [(&str, &str); 50] = [
         ("2 3 add", "5"),
         ("2 5 sub", "-3"),
         ("3 neg", "-3"),
@@ -100,6 +103,31 @@ fn folds(rt: HostRuntime) -> Result<(), Fail> {
         ("t x arr isarr", "true"),
         ("t x rec isarr", "false"),
         ("t isbool", "true"),
+        // quantifiers over ranges of at most 256 numbers
+        ("1 3 k x num le allk", "1 x num le 2 x num le and"),
+        ("1 3 k x num le somek", "1 x num le 2 x num le or"),
+        ("4 4 k x num le allk", "true"),
+        ("4 4 k x num le somek", "false"),
+        ("4 -252 k x num le allk", "true"),
+        ("4 3 k x num le somek", "false"),
+        ("0 256 k 255 le allk", "true"),
+        ("0 256 255 k le somek", "true"),
+        // of which one bound speaks of the outer name
+        (
+            "1 3 0 k j x num le allj allk",
+            "0 x num le 0 x num le 1 x num le and and",
+        ),
+        // which hide a name
+        (
+            "1 3 0 x num k x num le somek allk",
+            "0 x num k x num le somek 0 x num k x num le somek and",
+        ),
+        (
+            "1 3 0 x num j k le somej allk",
+            "0 x num j 1 le somej 0 x num j 2 le somej and",
+        ),
+        // where what is made folds in its turn
+        ("0 2 t x arr k get t eq allk", "t t eq x t eq and"),
     ];
     for (text, want) in rows {
         let mut terms = Terms::new(rt.alloc());
@@ -130,6 +158,12 @@ fn keeps(rt: HostRuntime) -> Result<(), Fail> {
         "x isint x isnull and",
         "x isint x isnull or",
         "x num 3 le",
+        "0 257 k x num le allk",
+        "4 -253 k x num le somek",
+        "min max k x num le allk",
+        "max min k x num le somek",
+        "0 x num k x num le allk",
+        "x num 1 k x num le somek",
     ];
     for text in rows {
         let mut terms = Terms::new(rt.alloc());
@@ -169,7 +203,11 @@ fn word_of(
         return terms.intern(node);
     }
     let s = made.pop().ok_or(NoMemory)?;
-    match of_two(alloc, word, s, t)? {
+    if let Some(node) = of_two(alloc, word, s, t)? {
+        return terms.intern(node);
+    }
+    let r = made.pop().ok_or(NoMemory)?;
+    match of_three(alloc, word, r, s, t)? {
         Some(node) => terms.intern(node),
         None => Err(NoMemory),
     }
@@ -180,6 +218,8 @@ fn constant(alloc: Global, word: &str) -> Result<Option<Node>, NoMemory>
 {
     let node = match word {
         "x" => Node::ValName(name(alloc, "x")?, 0),
+        "k" => Node::IntName(name(alloc, "k")?, 1),
+        "j" => Node::IntName(name(alloc, "j")?, 2),
         "null" => Node::Null,
         "t" => Node::Bool(true),
         "f" => Node::Bool(false),
@@ -237,6 +277,32 @@ fn of_two(alloc: Global, word: &str, s: u32, t: u32) -> Result<Option<Node>, NoM
     Ok(Some(node))
 }
 
+fn of_three(alloc: Global, word: &str, r: u32, s: u32, t: u32) -> Result<Option<Node>, NoMemory>
+    ensures { IfOk result (λ o. IfSome o (λ n. (plain n).parts ≡ r ∷ s ∷ t ∷ [])) }
+{
+    let node = match word {
+        "upd" => Node::Update(r, s, t),
+        "allk" => Node::All(quantifier(name(alloc, "k")?, 1, r, s, t)),
+        "allj" => Node::All(quantifier(name(alloc, "j")?, 2, r, s, t)),
+        "somek" => Node::Some(quantifier(name(alloc, "k")?, 1, r, s, t)),
+        "somej" => Node::Some(quantifier(name(alloc, "j")?, 2, r, s, t)),
+        _ => return Ok(None),
+    };
+    Ok(Some(node))
+}
+
+fn quantifier(word: Name, number: u128, from: u32, below: u32, body: u32) -> Quantifier
+    ensures { result ≡ record { word = word; number = number; from = from; below = below; body = body } }
+{
+    Quantifier {
+        word,
+        number,
+        from,
+        below,
+        body,
+    }
+}
+
 fn pair(alloc: Global, s: u32, t: u32) -> Result<Vec<(Name, u32)>, NoMemory>
     ensures { IfOk result (λ fs. map (λ p. p.1) fs.items ≡ s ∷ t ∷ []) }
 {
@@ -244,4 +310,26 @@ fn pair(alloc: Global, s: u32, t: u32) -> Result<Vec<(Name, u32)>, NoMemory>
     fields.push((name(alloc, "a")?, s))?;
     fields.push((name(alloc, "b")?, t))?;
     Ok(fields)
+}
+
+#[test]
+fn copies(rt: HostRuntime) {
+    assert_eq!(rt; copied_twice(rt.alloc()), Ok((true, 5, 5)));
+}
+
+// A formula with a term that stands in it twice, in two lists: whether its copy is the number that is made there
+// by itself, and how many terms the new list has after each of the two.
+fn copied_twice(alloc: Global) -> Result<(bool, usize, usize), NoMemory> {
+    let mut from = Terms::new(alloc);
+    from.intern(Node::Null)?;
+    let wanted = "x num 3 le x num 3 le not or";
+    let term = spelled(alloc, &mut from, wanted)?;
+    let mut terms = Terms::new(alloc);
+    terms.intern(Node::Bool(true))?;
+    terms.intern(Node::Number(3))?;
+    let mark = terms.len();
+    let copy = terms.copy(&from, term)?;
+    let after_copy = terms.len() - mark;
+    let made = spelled(alloc, &mut terms, wanted)?;
+    Ok((copy == made, after_copy, terms.len() - mark))
 }

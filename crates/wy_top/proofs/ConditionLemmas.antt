@@ -4,6 +4,7 @@ use Rattle.std.specs.Prelude.{IfOk}
 use Rattle.wy_term.specs.declared.cond.Cond.{Cond}
 use Rattle.wy_term.specs.declared.cond.CondKind.{CondKind}
 use Rattle.wy_term.specs.declared.cond.CondKind.TheVariants.{Range, Ensures}
+use Rattle.wy_term.specs.Condition.{Entry, entry_of}
 use Rattle.wy_term.specs.Term.{Term}
 use Rattle.wy_term.specs.Nodes.{Plain, tree_at}
 use Rattle.wy_top.specs.declared.conditions.Assumed.{Assumed}
@@ -14,16 +15,16 @@ use Rattle.wy_top.specs.ConditionTerms.{AreAssumed, AreGoals, owed_by, IsCond}
 
 -- ---- conditions by their numbers
 
-made : CondKind → ℕ → List Term → Term → Owed
-made kind at hyps goal = record { kind = kind; at = at; condition = record { hyps = hyps; goal = goal } }
+made : CondKind → ℕ → List Term → Term → List Entry → Owed
+made kind at hyps goal types = record { kind = kind; at = at; condition = record { hyps = hyps; goal = goal; types = types } }
 
-same_made : (k l : CondKind) (a b : ℕ) (hs gs : List Term) (x y : Term) → k ≡ l → a ≡ b → hs ≡ gs → x ≡ y → made k a hs x ≡ made l b gs y
-same_made k l a b hs gs x y p q r s = cc
+same_made : (k l : CondKind) (a b : ℕ) (hs gs : List Term) (x y : Term) (es fs : List Entry) → k ≡ l → a ≡ b → hs ≡ gs → x ≡ y → es ≡ fs → made k a hs x es ≡ made l b gs y fs
+same_made k l a b hs gs x y es fs p q r s t = cc
 
-owed : (nodes : List Plain) (c : Cond) (kind : CondKind) (at at' : ℕ) (hyps : List ℕ) (goal : ℕ) (hs : List Term) (g : Term) → IsCond c kind at hyps goal → at ≡ at' → map (tree_at nodes) hyps ≡ hs → tree_at nodes goal ≡ g → owed_by nodes c ≡ record { kind = kind; at = at'; condition = record { hyps = hs; goal = g } }
+owed : (nodes : List Plain) (c : Cond) (kind : CondKind) (at at' : ℕ) (hyps : List ℕ) (goal : ℕ) (hs : List Term) (g : Term) → IsCond c kind at hyps goal → at ≡ at' → map (tree_at nodes) hyps ≡ hs → tree_at nodes goal ≡ g → owed_by nodes c ≡ record { kind = kind; at = at'; condition = record { hyps = hs; goal = g; types = [] } }
 unfolding made
 owed nodes c kind at at' hyps goal hs g is place e f =
-    same_made c.kind kind c.at at' (map (tree_at nodes) c.hyps.items) hs (tree_at nodes c.goal) g is.kind_is (is.at_is ∙ place) (ap (map (tree_at nodes)) is.hyps_are ∙ e) (ap (tree_at nodes) is.goal_is ∙ f)
+    same_made c.kind kind c.at at' (map (tree_at nodes) c.hyps.items) hs (tree_at nodes c.goal) g (map (entry_of nodes) c.unfold.list.items) [] is.kind_is (is.at_is ∙ place) (ap (map (tree_at nodes)) is.hyps_are ∙ e) (ap (tree_at nodes) is.goal_is ∙ f) (ap (map (entry_of nodes)) is.types_are)
 
 pub least_found : (nodes : List Plain) (p : Program) (a : Assumed) (g : Goals) (at : ℕ) {E : Type 0} (r : Result Cond E) → AreAssumed nodes p a → AreGoals nodes p g → at ≡ sign_offset p → IfOk r (λ c. IsCond c Range at (a.int ∷ a.least ∷ a.greatest ∷ a.required ∷ []) g.least) → IfOk r (λ c. owed_by nodes c ≡ least_owed p)
 least_found nodes p a g at (Ok c) assumed goals place is = owed nodes c Range at _ _ _ _ _ is place (rw (assumed.int.is, assumed.least.is, assumed.greatest.is, assumed.required.is) refl) goals.least.is

@@ -61,9 +61,10 @@ owed_by nodes cond = record { kind = cond.kind; at = cond.at; condition = condit
 abbrev pub seen_conditions : Conditions → List Owed
 seen_conditions c = owed_by c.terms c.least ∷ owed_by c.terms c.greatest ∷ owed_by c.terms c.ensured ∷ []
 
--- a condition of this kind, at this place, with these numbers
+-- a condition of this kind, at this place, with these numbers, that speaks of no named types
 pub record IsCond (cond : Cond) (kind : CondKind) (at : ℕ) (hyps : List ℕ) (goal : ℕ) : Type 0 where
   pub kind_is : cond.kind ≡ kind
   pub at_is : cond.at ≡ at
   pub hyps_are : cond.hyps.items ≡ hyps
   pub goal_is : cond.goal ≡ goal
+  pub types_are : cond.unfold.list.items ≡ []

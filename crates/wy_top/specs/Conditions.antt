@@ -97,7 +97,7 @@ abbrev pub least_owed : Program → Owed
 least_owed p = record {
   kind = Range;
   at = sign_offset p;
-  condition = record { hyps = assumed p; goal = is_not_below (returned_number p) };
+  condition = record { hyps = assumed p; goal = is_not_below (returned_number p); types = [] };
 }
 
 -- nor, where that holds, above the greatest
@@ -105,7 +105,7 @@ abbrev pub greatest_owed : Program → Owed
 greatest_owed p = record {
   kind = Range;
   at = sign_offset p;
-  condition = record { hyps = assumed p ++ is_not_below (returned_number p) ∷ []; goal = is_not_above (returned_number p) };
+  condition = record { hyps = assumed p ++ is_not_below (returned_number p) ∷ []; goal = is_not_above (returned_number p); types = [] };
 }
 
 -- and, where these hold, it meets the ensures clause
@@ -113,7 +113,7 @@ abbrev pub ensures_owed : Program → Owed
 ensures_owed p = record {
   kind = Ensures;
   at = return_offset p;
-  condition = record { hyps = assumed p ++ is_not_below (returned_number p) ∷ is_not_above (returned_number p) ∷ []; goal = ensured p };
+  condition = record { hyps = assumed p ++ is_not_below (returned_number p) ∷ is_not_above (returned_number p) ∷ []; goal = ensured p; types = [] };
 }
 
 -- the conditions of a thin program, in order

@@ -1,6 +1,7 @@
 //! The conditions of a thin program: two on the range of what it returns, and one on its ensures clause.
 ghost use Rattle.std.specs.Prelude.{◌≡◌, ◌≤◌, ◌<◌, length, IfOk, None, pos};
-ghost use Rattle.wy_term.specs.Folding.{folded, as_number};
+ghost use Rattle.wy_term.specs.Folding.{folded};
+ghost use Rattle.wy_term.specs.Rewriting.{as_number};
 ghost use Rattle.wy_term.specs.Nodes.{plain, grown, tree_at, HasPartsBelow};
 ghost use Rattle.wy_check.specs.Seen.{IsOf};
 ghost use Rattle.wy_top.specs.Thin.{IsThin, comparison_text, limit_text};
@@ -11,7 +12,7 @@ ghost use Rattle.wy_top.specs.ConditionTerms.{IsAt, Keeps, StayAsTheyAre, IsPara
 use crate::thin::{Bound, Comparison, Sign, Thin};
 use std::alloc::Global;
 use wy_data::Name;
-use wy_term::{Cond, CondKind, Kind, NoMemory, Node, Terms};
+use wy_term::{Cond, CondKind, Kind, NoMemory, Node, Terms, Unfold};
 use wy_value::{INT_MAX, INT_MIN};
 
 /// The conditions of a thin program, and the terms that they name.
@@ -293,6 +294,9 @@ fn cond(alloc: Global, kind: CondKind, at: u32, hyps: &[u32], goal: u32) -> Resu
         at,
         hyps: Vec::from_slice(alloc, hyps)?,
         goal,
+        unfold: Unfold {
+            list: Vec::new(alloc),
+        },
     })
 }
 

@@ -1,6 +1,6 @@
 use Rattle.std.proofs.Common.{◌≡◌, drop}
 use Rattle.wy_term.specs.Nodes.{tree_at, parts_at}
-use Rattle.wy_term.specs.Folding.{has_true}
+use Rattle.wy_term.specs.Rewriting.{has_true}
 use Rattle.wy_term.proofs.fold.has_true.Given as goal
 
 abbrev pub invariant-loop-member : goal.invariant-loop-member

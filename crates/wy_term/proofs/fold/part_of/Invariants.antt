@@ -1,6 +1,6 @@
 use Rattle.std.proofs.Common.{◌≡◌, map, drop}
 use Rattle.wy_term.specs.Nodes.{tree_at, parts_at}
-use Rattle.wy_term.specs.Folding.{field_part}
+use Rattle.wy_term.specs.Rewriting.{field_part}
 use Rattle.wy_term.proofs.fold.part_of.Given as goal
 
 abbrev pub invariant-loop-field : goal.invariant-loop-field

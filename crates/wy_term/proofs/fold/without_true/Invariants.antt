@@ -1,6 +1,6 @@
 use Rattle.std.proofs.Common.{◌≡◌, ◌<◌, All, length, drop}
 use Rattle.wy_term.specs.Nodes.{tree_at, parts_at}
-use Rattle.wy_term.specs.Folding.{without_true}
+use Rattle.wy_term.specs.Rewriting.{without_true}
 use Rattle.wy_term.proofs.FoldLemmas.{followed}
 use Rattle.wy_term.proofs.fold.without_true.Given as goal
 
