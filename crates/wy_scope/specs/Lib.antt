@@ -1,0 +1,5 @@
+-- definitions of public contracts
+pub mod Faults
+pub mod Scope
+pub mod Declarations
+pub mod Places
