@@ -1,5 +1,5 @@
 -- A name put last leaves what stood before, so a table is cut back to what it was.
-use Rattle.std.proofs.Common.{◌≡◌, ◌≤◌, ℕ, Option, Some, None, is_some, Bool, true, false, List, [], ◌∷◌, ◌++◌, length, take, min, refl, ap, sym, ◌∙◌, cond, arith}
+use Rattle.std.proofs.Common.{◌≡◌, ◌≤◌, ℕ, Option, Some, None, is_some, Bool, true, false, List, [], ◌∷◌, ◌++◌, length, take, refl, ap, ◌∙◌, cond, arith}
 use Rattle.std.proofs.lemmas.List.{take-append-le, length-take}
 use Rattle.wy_scope.specs.declared.table.Entry.{Entry}
 use Rattle.wy_scope.specs.Scope.{Scope, has, with_name}
