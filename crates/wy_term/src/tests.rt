@@ -202,6 +202,22 @@ fn word_of(
     if let Some(node) = of_one(alloc, word, t)? {
         return terms.intern(node);
     }
+    compound(alloc, terms, made, word, t)
+}
+
+// The term that a word makes of two or three terms, the last of which is t.
+fn compound(
+    alloc: Global,
+    terms: &mut Terms,
+    made: &mut Vec<u32>,
+    word: &str,
+    t: u32,
+) -> Result<u32, NoMemory>
+    requires last { t < length terms.old }
+    requires made { All (λ k. k < length terms.old) made.old.items }
+    ensures made { All (λ k. k < length terms.new) made.new.items }
+    ensures within { IfOk result (λ t. t < length terms.new) }
+{
     let s = made.pop().ok_or(NoMemory)?;
     if let Some(node) = of_two(alloc, word, s, t)? {
         return terms.intern(node);
@@ -329,7 +345,7 @@ fn copied_twice(alloc: Global) -> Result<(bool, usize, usize), NoMemory> {
     terms.intern(Node::Number(3))?;
     let mark = terms.len();
     let copy = terms.copy(&from, term)?;
-    let after_copy = terms.len() - mark;
+    let after_copy = terms.len().saturating_sub(mark);
     let made = spelled(alloc, &mut terms, wanted)?;
-    Ok((copy == made, after_copy, terms.len() - mark))
+    Ok((copy == made, after_copy, terms.len().saturating_sub(mark)))
 }
