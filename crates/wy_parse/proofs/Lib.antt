@@ -1,0 +1,14 @@
+-- for the code
+pub mod StepLemmas
+-- single tokens, and changes of readers
+pub mod TokenLemmas
+pub mod StepsExact
+pub mod InsideExact
+pub mod PlacedExact
+-- each line of the grammar is read exactly
+pub mod TypesExact
+pub mod OperatorsExact
+pub mod ExprsExact
+pub mod ExprLevels
+pub mod StmtsExact
+pub mod BlocksExact

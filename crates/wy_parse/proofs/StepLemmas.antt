@@ -1,0 +1,75 @@
+-- Levels, by their numbers.
+use Rattle.std.proofs.Common.{◌≡◌, ℕ, zero, suc, ◌-◌, ◌<◌, Bool, true, false, List, refl, arith}
+use Rattle.wy_reading.specs.Rule.{heads}
+use Rattle.wy_reading.specs.Reader.{refused, ◌>>=◌}
+use Rattle.wy_lex.specs.declared.token.Token.{Token}
+use Rattle.wy_parse.specs.declared.fault.Kind.TheVariants.{Deep}
+use Rattle.wy_parse.specs.Sorts.{is, NAME, IF, CASE, DEFAULT}
+use Rattle.wy_parse.specs.Steps.{mark, inner, name, inner_name, inside}
+use Rattle.wy_parse.specs.TypeReading.{tight, tight_of}
+use Rattle.wy_parse.specs.ExprReading.{readers, unary_of, expr_of}
+use Rattle.wy_parse.specs.BlockGrammar.{CaseList}
+use Rattle.wy_parse.specs.BlockReading.{nested, if_stmt, case_rest, default, last_out}
+
+pub inner_none : (n c : ℕ) (i : List Token) → n ≡ 0 → inner n c i ≡ refused (is c) Deep i
+unfolding inner
+inner_none n c i e = rw e refl
+
+pub inner_some : (n c : ℕ) (i : List Token) → 0 < n → inner n c i ≡ mark c i
+unfolding inner
+inner_some zero c i h = absurd (omega (arith, h))
+inner_some (suc n) c i h = refl
+
+pub inner_name_none : (n : ℕ) (i : List Token) → n ≡ 0 → inner_name n i ≡ refused (is NAME) Deep i
+unfolding inner_name
+inner_name_none n i e = rw e refl
+
+pub inner_name_some : (n : ℕ) (i : List Token) → 0 < n → inner_name n i ≡ name i
+unfolding inner_name
+inner_name_some zero i h = absurd (omega (arith, h))
+inner_name_some (suc n) i h = refl
+
+pub inside_is : (n : ℕ) → inside n ≡ n - 1
+inside_is zero = omega arith
+inside_is (suc n) = omega arith
+
+pub ruleset levels = (inner_none, inner_some, inner_name_none, inner_name_some, inside_is)
+
+pub tight_next : (n m : ℕ) (i : List Token) → n ≡ suc m → tight n i ≡ tight_of m (tight m) i
+unfolding tight
+tight_next n m i e = rw e refl
+
+pub unary_next : (s : Bool) (n m : ℕ) (i : List Token) → n ≡ suc m → (readers s n).unary i ≡ unary_of m (readers s m).unary (readers s m).expr i
+unfolding readers
+unary_next s n m i e = rw e refl
+
+pub expr_next : (s : Bool) (n m : ℕ) (i : List Token) → n ≡ suc m → (readers s n).expr i ≡ expr_of n (readers s n).unary s (readers s m).expr i
+unfolding readers
+expr_next s n m i e = rw e refl
+
+-- ---- statements with blocks on a level
+
+pub branch_next : (n m : ℕ) (i : List Token) → n ≡ suc m → (nested true n).branch i ≡ if_stmt true n (nested true m).block (nested true m).branch i
+unfolding nested
+branch_next n m i e = rw e refl
+
+pub branch_shut : (n : ℕ) (i : List Token) → n ≡ 0 → (nested true n).branch i ≡ refused (is IF) Deep i
+unfolding nested
+branch_shut n i e = rw e refl
+
+pub cases_next : (n m : ℕ) (cs : CaseList) (i : List Token) → n ≡ suc m → heads (is CASE) i ≡ true
+    → (nested true n).cases cs i ≡ (mark CASE >>= (λ _. case_rest (nested true m).block cs >>= (nested true m).cases)) i
+unfolding nested
+cases_next n m cs i e h = rw (e, h) refl
+
+pub cases_default : (n : ℕ) (cs : CaseList) (i : List Token) → heads (is CASE) i ≡ false → heads (is DEFAULT) i ≡ true → (nested true n).cases cs i ≡ default (nested true n).block cs i
+unfolding nested
+cases_default zero cs i h g = rw (h, g) refl
+cases_default (suc n) cs i h g = rw (h, g) refl
+
+pub cases_last : (n : ℕ) (cs : CaseList) (i : List Token) → heads (is CASE) i ≡ false → heads (is DEFAULT) i ≡ false → (nested true n).cases cs i ≡ last_out cs i
+unfolding nested
+cases_last zero cs i h g = rw (h, g) refl
+cases_last (suc n) cs i h g = rw (h, g) refl
+
+pub ruleset block_steps = (branch_next, branch_shut, cases_next, cases_default, cases_last)

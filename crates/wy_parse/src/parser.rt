@@ -1,0 +1,124 @@
+//! Whole programs.
+use crate::cursor::{Read, mark, name, next_in, next_is};
+use crate::declarations::declaration;
+use crate::fault::{Kind, ParseFault};
+use crate::measured::{Measured, pushed};
+use crate::sort::{Class, END, IMPORT, LINE_END};
+use sqlite_items::Items;
+use std::alloc::Global;
+use wy_ast::{Decl, Program};
+use wy_data::Name;
+use wy_lex::Token;
+use wy_reading::Stop;
+
+/// How many declarations a program may have.
+const MOST: usize = 4096;
+
+/// The program that the tokens spell. They are those of some bytes, so `End` stands as the last and
+/// nowhere else. The fault that stands first is given, and of several at one place the first of
+/// `ParseFault`. Linear in the number of tokens: no token is read twice. Recursion goes as deep as
+/// `Deep` lets nesting go, and what `Deep` doesn't count is read in a loop.
+pub fn parse(alloc: Global, tokens: &[Token]) -> Result<Program, ParseFault> {
+    match program(alloc, tokens) {
+        Ok((Measured::Low(program, _), _)) => Ok(program),
+        Ok((Measured::High(at), _)) => Err(ParseFault::Deep(at)),
+        Err(stop) => Err(refusal(tokens, stop)),
+    }
+}
+
+// The fault of a stop, at the place of the token where it stands.
+fn refusal(tokens: &[Token], stop: Stop<Kind>) -> ParseFault {
+    match stop {
+        Stop::Unexpected(left) => ParseFault::Unexpected(place(tokens, left)),
+        Stop::Fault(Kind::Mixed, left) => ParseFault::Mixed(place(tokens, left)),
+        Stop::Fault(Kind::Deep, left) => ParseFault::Deep(place(tokens, left)),
+        Stop::Fault(Kind::TooMany, left) => ParseFault::TooMany(place(tokens, left)),
+        Stop::NoMemory => ParseFault::NoMemory,
+    }
+}
+
+// The place of the token behind which, itself included, so many are left.
+fn place(tokens: &[Token], left: usize) -> u32 {
+    match tokens.get(tokens.len().saturating_sub(left)) {
+        Some(token) => token.at,
+        None => 0,
+    }
+}
+
+// program = { import } { declaration }, and the end
+fn program(alloc: Global, tokens: &[Token]) -> Read<'_, Measured<Program>> {
+    let (imports, rest) = imports(alloc, tokens)?;
+    let ((decls, _), rest) = declarations(alloc, rest)?;
+    let (_, rest) = mark(rest, END)?;
+    if !rest.is_empty() {
+        return Err(Stop::Unexpected(rest.len()));
+    }
+    Ok((program_node(imports, decls), rest))
+}
+
+fn program_node(imports: Items<(Name, u32)>, decls: Measured<Items<Decl>>) -> Measured<Program> {
+    match decls {
+        Measured::Low(decls, height) => Measured::Low(Program { imports, decls }, height),
+        Measured::High(at) => Measured::High(at),
+    }
+}
+
+fn imports(alloc: Global, tokens: &[Token]) -> Read<'_, Items<(Name, u32)>> {
+    let (mut made, mut rest) = (Items::new(alloc), tokens);
+    for _turn in 0..tokens.len() {
+        if !next_is(rest, IMPORT) {
+            return Ok((made, rest));
+        }
+        let (more, after) = import(alloc, made, rest)?;
+        made = more;
+        rest = after;
+    }
+    Ok((made, rest))
+}
+
+// 'import' NAME LINE
+fn import<'a>(
+    alloc: Global,
+    mut imports: Items<(Name, u32)>,
+    tokens: &'a [Token],
+) -> Read<'a, Items<(Name, u32)>> {
+    let (_, rest) = mark(tokens, IMPORT)?;
+    let ((at, name), rest) = name(alloc, rest)?;
+    let (_, rest) = mark(rest, LINE_END)?;
+    imports.push((name, at))?;
+    Ok((imports, rest))
+}
+
+/// Declarations, and how many they are.
+type Counted = (Measured<Items<Decl>>, usize);
+
+fn declarations(alloc: Global, tokens: &[Token]) -> Read<'_, Counted> {
+    let none = Measured::Low(Items::new(alloc), 0);
+    let (mut made, mut rest) = ((none, 0), tokens);
+    for _turn in 0..tokens.len() {
+        if !next_in(rest, Class::Declaration) {
+            return Ok((made, rest));
+        }
+        let (more, after) = next_declaration(alloc, made, rest)?;
+        made = more;
+        rest = after;
+    }
+    Ok((made, rest))
+}
+
+fn next_declaration<'a>(alloc: Global, decls: Counted, tokens: &'a [Token]) -> Read<'a, Counted> {
+    let (made, count) = decls;
+    if count >= MOST {
+        return full(tokens);
+    }
+    let (decl, rest) = declaration(alloc, tokens)?;
+    Ok(((pushed(made, decl)?, count + 1), rest))
+}
+
+// There is no place for another declaration.
+fn full<T>(tokens: &[Token]) -> Read<'_, T> {
+    if next_in(tokens, Class::Declaration) {
+        return Err(Stop::Fault(Kind::TooMany, tokens.len()));
+    }
+    Err(Stop::Unexpected(tokens.len()))
+}
