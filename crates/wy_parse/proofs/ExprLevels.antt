@@ -119,7 +119,7 @@ module _ (z : List Token) where
   logic-null d u s h f =
       rw (comparison-null d u h (fewer after_comparison after_logic z refl f), one_out t.AND after_logic z refl f, one_out t.OR after_logic z refl f) refl
 
-  expr-null : (s : Bool) (d : ℕ) → 1 ≤ d → After after_expr z → Null (readers s d).expr
+  pub expr-null : (s : Bool) (d : ℕ) → 1 ≤ d → After after_expr z → Null (readers s d).expr
   unfolding readers read.expr_of
   expr-null s zero h f = absurd (omega (arith, h))
   expr-null s (suc d) h f =

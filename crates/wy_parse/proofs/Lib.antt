@@ -12,3 +12,5 @@ pub mod ExprsExact
 pub mod ExprLevels
 pub mod StmtsExact
 pub mod BlocksExact
+pub mod SwitchExact
+pub mod NestLevels

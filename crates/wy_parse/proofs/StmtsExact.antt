@@ -160,7 +160,7 @@ module _ (n : Mode) where
       any : (i : List Token) → Any i
       any i = tt
 
-  where_clause-exact : (es : Args) → Exact n (rule.Where n.strict n.depth es) (λ m. read.where_clause m.strict m.depth es) (After after_expr) (Passes (is t.WHERE))
+  pub where_clause-exact : (es : Args) → Exact n (rule.Where n.strict n.depth es) (λ m. read.where_clause m.strict m.depth es) (After after_expr) (Passes (is t.WHERE))
   where_clause-exact es = sequence (mark-exact {F = Any} t.WHERE (some k.Where) refl) (λ r. sequence (expr-exact n) (λ a. nothing (parts.pushed es a)) (λ i f. f)) (λ i b. tt)
 
   -- clauses may stand behind an expression

@@ -13,6 +13,7 @@ use Rattle.wy_reading.proofs.Repetition.{repetition, repetition_before}
 use Rattle.wy_reading.proofs.Adapting.{adapt}
 use Rattle.wy_reading.proofs.Levels.{deeper}
 use Rattle.wy_reading.proofs.Closed.{closed, Declines, declines-then, declines-branch, declines-one}
+use Rattle.wy_reading.proofs.Turns.{loop-halts}
 use Rattle.wy_lex.specs.declared.token.Token.{Token}
 use Rattle.wy_lex.specs.declared.token.TokenKind.TheVariants as k
 use Rattle.wy_ast.specs.declared.types.TyKind.TheVariants as ty
@@ -208,7 +209,7 @@ tight_of-declines levels v =
     (declines-branch (is t.NAME) _ _ (declines-then name _ name_none)
     base_none)))
 
-tight-declines : (levels : ℕ) → Declines (has class.Type) (read.tight levels)
+pub tight-declines : (levels : ℕ) → Declines (has class.Type) (read.tight levels)
 unfolding read.tight
 tight-declines zero i h = rw h refl
 tight-declines (suc levels) i h = tight_of-declines levels (read.tight levels) i h
@@ -237,6 +238,21 @@ tight-exact zero s =
 tight-exact (suc d) s =
     let n : Mode = record { depth = d; strict = s } in
     deeper n (rule.Tight (suc d)) (λ m. read.tight m.depth) (tight_of-exact n (rule.Tight d) (λ m. read.tight m.depth) (tight-exact d s))
+
+-- `null` is read, and what begins no type is declined
+pub type-null : (levels : ℕ) (z : List Token) → 1 ≤ levels → AfterType z → read.type_term levels (null ∷ z) ≡ Ok (ty_node 0 (Low ty.Null 0), z)
+unfolding read.type_term read.union read.inter read.suffix read.suffixes read.inters read.unions
+type-null levels z h f =
+    rw (tight-null levels z h) (rw (loop-halts (is t.OPEN_BRACKET) (read.brackets levels) (length z) (ty_node 0 (Low ty.Null 0)) z (one_out t.OPEN_BRACKET joins_type z refl f))
+    (rw (loop-halts (is t.AMPERSAND) (read.and_suffix levels (read.tight levels)) (length z) (ty_node 0 (Low ty.Null 0)) z (one_out t.AMPERSAND joins_type z refl f))
+    (loop-halts (is t.BAR) (read.or_inter levels (read.tight levels)) (length z) (ty_node 0 (Low ty.Null 0)) z (one_out t.BAR joins_type z refl f))))
+
+pub type-declines : (levels : ℕ) → Declines (has class.Type) (read.type_term levels)
+unfolding read.type_term read.union read.inter read.suffix
+type-declines levels =
+    declines-then (read.inter levels (read.tight levels)) _
+    (declines-then (read.suffix levels (read.tight levels)) _
+    (declines-then (read.tight levels) _ (tight-declines levels)))
 
 pub type-exact : (n : Mode) → Exact n (rule.Type_ n.depth) (λ m. read.type_term m.depth) AfterType BeginsType
 unfolding read.type_term rule.Type_ read.union
