@@ -18,4 +18,5 @@ pub mod ExprReading
 pub mod StmtReading
 pub mod BlockReading
 pub mod ProgramReading
+pub mod Parsed
 pub mod Nests

@@ -101,10 +101,14 @@ next_decl s q c = capped (lax s has_place c.1) q >>= (λ d. pure (pushed c.0 d, 
 abbrev pub import : List (List ℕ × ℕ) → Q (List (List ℕ × ℕ))
 import ms = mark t.IMPORT >>= (λ _. name >>= (λ w. mark t.LINE_END >>= (λ _. pure (ms ++ (w.1, w.0) ∷ []))))
 
+unfoldable pub imports : Q (List (List ℕ × ℕ))
+imports = while (is t.IMPORT) import []
+
+unfoldable pub decls : Bool → ℕ → Q Counted
+decls s levels = while (has class.Declaration) (next_decl s (declaration s levels (nested s (inside levels)).block)) (none, 0)
+
 unfoldable pub program_in : Bool → ℕ → Q (Measured Program)
-program_in s levels =
-    while (is t.IMPORT) import [] >>= (λ ms. while (has class.Declaration) (next_decl s (declaration s levels (nested s (inside levels)).block)) (none, 0) >>= (λ c.
-    mark t.END >>= (λ _. pure (program_node ms c.0))))
+program_in s levels = imports >>= (λ ms. decls s levels >>= (λ c. mark t.END >>= (λ _. pure (program_node ms c.0))))
 
 unfoldable pub text : Mode → Q (Measured Program)
 text m = whole (program_in m.strict m.depth)

@@ -1,6 +1,13 @@
 //! Declarations.
+ghost use Rattle.std.specs.Prelude.{◌≡◌, true};
+ghost use Rattle.wy_reading.specs.Reader.{Reads};
+ghost use Rattle.wy_parse.specs.BlockReading.{block_at};
+ghost use Rattle.wy_parse.specs.DeclTrees as trees;
+ghost use Rattle.wy_parse.specs.ProgramReading as spec;
+ghost use Rattle.wy_parse.specs.Steps.{inside};
+
 use crate::blocks::block;
-use crate::cursor::{Read, inner, mark, name, next_in, next_is};
+use crate::cursor::{Read, mark, name, next_in, next_is};
 use crate::expressions::expr;
 use crate::measured::{Measured, both, pushed, some};
 use crate::nested::Stmts;
@@ -11,11 +18,10 @@ use crate::sort::{
 };
 use crate::types::{type_rest, type_term};
 use sqlite_items::Items;
-use std::alloc::{AllocError, Global};
-use wy_ast::{Alias, Decl, Expr, Function, Method, Param, Property, Stmt, Ty};
+use std::alloc::Global;
+use wy_ast::{Alias, Decl, Expr, Function, Method, Param, Property, Ty};
 use wy_data::Name;
 use wy_lex::Token;
-use wy_reading::Stop;
 
 /// How many levels there are where declarations stand, this one included: what stands in 100 pairs,
 /// operators and blocks together stands on the last.
@@ -31,7 +37,10 @@ type Clauses = Measured<Items<Expr>>;
 type Given = Measured<(Ty, Option<Name>)>;
 
 /// A declaration.
-pub fn declaration(alloc: Global, tokens: &[Token]) -> Read<'_, Measured<Decl>> {
+#[tactic(auto, unfolding(crate::specs::ProgramReading::declaration))]
+pub fn declaration(alloc: Global, tokens: &[Token]) -> Read<'_, Measured<Decl>>
+    ensures { Reads (spec.declaration true LEVELS (block_at (inside LEVELS)) tokens.now) result }
+{
     if next_is(tokens, TYPE) {
         return alias(alloc, tokens);
     }
@@ -45,33 +54,43 @@ pub fn declaration(alloc: Global, tokens: &[Token]) -> Read<'_, Measured<Decl>> 
 }
 
 // 'type' NAME 'is' ( type | '(' type NAME ')' where { where } ) LINE
-fn alias(alloc: Global, tokens: &[Token]) -> Read<'_, Measured<Decl>> {
+#[tactic(auto, unfolding(crate::specs::ProgramReading::alias_decl))]
+fn alias(alloc: Global, tokens: &[Token]) -> Read<'_, Measured<Decl>>
+    ensures { Reads (spec.alias_decl true LEVELS tokens.now) result }
+{
     let (at, rest) = mark(tokens, TYPE)?;
     let ((_, name), rest) = name(alloc, rest)?;
     let (_, rest) = mark(rest, IS)?;
     let ((ty, variable), rest) = named_type(alloc, rest)?;
-    let none = Measured::Low(Items::new(alloc), 0);
-    let (clauses, rest) = alias_clauses(alloc, none, variable.is_some(), rest)?;
+    let (clauses, rest) = alias_clauses(alloc, &variable, rest)?;
     let (_, rest) = mark(rest, LINE_END)?;
     Ok((alias_node(at, name, ty, variable, clauses), rest))
 }
 
 // What stands behind the type: clauses, at least one, where it has a variable, and else none.
+#[tactic(auto, unfolding(crate::specs::ProgramReading::alias_clauses))]
 fn alias_clauses<'a>(
     alloc: Global,
-    none: Clauses,
-    has_variable: bool,
+    variable: &Option<Name>,
     tokens: &'a [Token],
-) -> Read<'a, Clauses> {
-    if !has_variable {
-        return Ok((none, tokens));
+) -> Read<'a, Clauses>
+    ensures { Reads (spec.alias_clauses true LEVELS variable.now tokens.now) result }
+{
+    let none = Measured::Low(Items::new(alloc), 0);
+    match variable {
+        None => Ok((none, tokens)),
+        Some(_) => {
+            let (first, rest) = where_clause(alloc, none, tokens, LEVELS)?;
+            wheres(alloc, first, rest, LEVELS)
+        }
     }
-    let (first, rest) = where_clause(alloc, none, tokens, LEVELS)?;
-    wheres(alloc, first, rest, LEVELS)
 }
 
 // '(' type NAME ')' | type
-fn named_type(alloc: Global, tokens: &[Token]) -> Read<'_, (Measured<Ty>, Option<Name>)> {
+#[tactic(auto, unfolding(crate::specs::ProgramReading::named_type))]
+fn named_type(alloc: Global, tokens: &[Token]) -> Read<'_, (Measured<Ty>, Option<Name>)>
+    ensures { Reads (spec.named_type LEVELS tokens.now) result }
+{
     if !next_is(tokens, OPEN_PAREN) {
         let (ty, rest) = type_term(alloc, tokens, LEVELS)?;
         return Ok(((ty, None), rest));
@@ -81,7 +100,10 @@ fn named_type(alloc: Global, tokens: &[Token]) -> Read<'_, (Measured<Ty>, Option
 }
 
 // What stands behind the bracket: a type and a name, or a type and the rest of one that it begins.
-fn inner_type(alloc: Global, tokens: &[Token]) -> Read<'_, (Measured<Ty>, Option<Name>)> {
+#[tactic(auto, unfolding(crate::specs::ProgramReading::inner_type))]
+fn inner_type(alloc: Global, tokens: &[Token]) -> Read<'_, (Measured<Ty>, Option<Name>)>
+    ensures { Reads (spec.inner_type LEVELS tokens.now) result }
+{
     let (ty, rest) = type_term(alloc, tokens, LEVELS - 1)?;
     if next_is(rest, NAME) {
         let ((_, name), rest) = name(alloc, rest)?;
@@ -94,7 +116,10 @@ fn inner_type(alloc: Global, tokens: &[Token]) -> Read<'_, (Measured<Ty>, Option
 }
 
 // 'function' NAME params '->' result { spec } ':' block
-fn function(alloc: Global, tokens: &[Token]) -> Read<'_, Measured<Decl>> {
+#[tactic(auto, unfolding(crate::specs::ProgramReading::function_decl))]
+fn function(alloc: Global, tokens: &[Token]) -> Read<'_, Measured<Decl>>
+    ensures { Reads (spec.function_decl true LEVELS (block_at (inside LEVELS)) tokens.now) result }
+{
     let (at, rest) = mark(tokens, FUNCTION)?;
     let ((_, name), rest) = name(alloc, rest)?;
     let (params, rest) = params(alloc, rest)?;
@@ -108,7 +133,10 @@ fn function(alloc: Global, tokens: &[Token]) -> Read<'_, Measured<Decl>> {
 }
 
 // 'method' NAME params [ '->' ( '(' ')' | result ) ] { spec } ':' block
-fn method(alloc: Global, tokens: &[Token]) -> Read<'_, Measured<Decl>> {
+#[tactic(auto, unfolding(crate::specs::ProgramReading::method_decl))]
+fn method(alloc: Global, tokens: &[Token]) -> Read<'_, Measured<Decl>>
+    ensures { Reads (spec.method_decl true LEVELS (block_at (inside LEVELS)) tokens.now) result }
+{
     let (at, rest) = mark(tokens, METHOD)?;
     let ((_, name), rest) = name(alloc, rest)?;
     let (params, rest) = params(alloc, rest)?;
@@ -120,7 +148,10 @@ fn method(alloc: Global, tokens: &[Token]) -> Read<'_, Measured<Decl>> {
 }
 
 // [ '->' ( '(' ')' | result ) ]
-fn method_result(alloc: Global, tokens: &[Token]) -> Read<'_, Measured<Option<(Ty, Option<Name>)>>> {
+#[tactic(auto, unfolding(crate::specs::ProgramReading::method_result))]
+fn method_result(alloc: Global, tokens: &[Token]) -> Read<'_, Measured<Option<(Ty, Option<Name>)>>>
+    ensures { Reads (spec.method_result LEVELS tokens.now) result }
+{
     if !next_is(tokens, ARROW) {
         return Ok((Measured::Low(None, 0), tokens));
     }
@@ -139,7 +170,10 @@ fn method_result(alloc: Global, tokens: &[Token]) -> Read<'_, Measured<Option<(T
 }
 
 // 'property' NAME params where { where } LINE
-fn property(alloc: Global, tokens: &[Token]) -> Read<'_, Measured<Decl>> {
+#[tactic(auto, unfolding(crate::specs::ProgramReading::property_decl))]
+fn property(alloc: Global, tokens: &[Token]) -> Read<'_, Measured<Decl>>
+    ensures { Reads (spec.property_decl true LEVELS tokens.now) result }
+{
     let (at, rest) = mark(tokens, PROPERTY)?;
     let ((_, name), rest) = name(alloc, rest)?;
     let (params, rest) = params(alloc, rest)?;
@@ -151,14 +185,20 @@ fn property(alloc: Global, tokens: &[Token]) -> Read<'_, Measured<Decl>> {
 }
 
 // params = '(' [ type NAME { ',' type NAME } ] ')'
-fn params(alloc: Global, tokens: &[Token]) -> Read<'_, ParamList> {
+#[tactic(auto, unfolding(crate::specs::ProgramReading::parameters))]
+fn params(alloc: Global, tokens: &[Token]) -> Read<'_, ParamList>
+    ensures { Reads (spec.parameters LEVELS tokens.now) result }
+{
     let (_, rest) = mark(tokens, OPEN_PAREN)?;
     let (params, rest) = param_list(alloc, rest)?;
     let (_, rest) = mark(rest, CLOSE_PAREN)?;
     Ok((params, rest))
 }
 
-fn param_list(alloc: Global, tokens: &[Token]) -> Read<'_, ParamList> {
+#[tactic(auto, using(wy_reading::proofs::Turns::reader_steps), unfolding(crate::specs::ProgramReading::param_row))]
+fn param_list(alloc: Global, tokens: &[Token]) -> Read<'_, ParamList>
+    ensures { Reads (spec.param_row LEVELS tokens.now) result }
+{
     let none = Measured::Low(Items::new(alloc), 0);
     if !next_in(tokens, Class::Type) {
         return Ok((none, tokens));
@@ -175,17 +215,27 @@ fn param_list(alloc: Global, tokens: &[Token]) -> Read<'_, ParamList> {
     Ok((made, rest))
 }
 
-fn param<'a>(alloc: Global, params: ParamList, tokens: &'a [Token]) -> Read<'a, ParamList> {
+#[tactic(auto, unfolding(crate::specs::ProgramReading::one_param))]
+fn param<'a>(alloc: Global, params: ParamList, tokens: &'a [Token]) -> Read<'a, ParamList>
+    ensures { Reads (spec.one_param LEVELS params tokens.now) result }
+{
     let (ty, rest) = type_term(alloc, tokens, LEVELS - 1)?;
     let ((_, name), rest) = name(alloc, rest)?;
-    let param = match ty {
-        Measured::Low(ty, height) => Measured::Low(Param { ty, name }, height),
-        Measured::High(at) => Measured::High(at),
-    };
-    Ok((pushed(params, param)?, rest))
+    Ok((pushed(params, param_node(ty, name))?, rest))
 }
 
-fn next_param<'a>(alloc: Global, params: ParamList, tokens: &'a [Token]) -> Read<'a, ParamList> {
+fn param_node(ty: Measured<Ty>, name: Name) -> Measured<Param>
+    ensures { result ≡ trees.param ty name }
+{
+    match ty {
+        Measured::Low(ty, height) => Measured::Low(Param { ty, name }, height),
+        Measured::High(at) => Measured::High(at),
+    }
+}
+
+fn next_param<'a>(alloc: Global, params: ParamList, tokens: &'a [Token]) -> Read<'a, ParamList>
+    ensures { Reads (spec.next_param LEVELS params tokens.now) result }
+{
     let (_, rest) = mark(tokens, COMMA)?;
     param(alloc, params, rest)
 }
@@ -194,7 +244,10 @@ fn next_param<'a>(alloc: Global, params: ParamList, tokens: &'a [Token]) -> Read
 type Conditions = (Clauses, Clauses);
 
 // { 'requires' expr | 'ensures' expr }
-fn contract(alloc: Global, tokens: &[Token]) -> Read<'_, Conditions> {
+#[tactic(auto, using(wy_reading::proofs::Turns::reader_steps), unfolding(crate::specs::ProgramReading::contract_of))]
+fn contract(alloc: Global, tokens: &[Token]) -> Read<'_, Conditions>
+    ensures { Reads (spec.contract_of true LEVELS tokens.now) result }
+{
     let none = Measured::Low(Items::new(alloc), 0);
     let (mut made, mut rest) = ((none, Measured::Low(Items::new(alloc), 0)), tokens);
     for _turn in 0..tokens.len() {
@@ -208,7 +261,10 @@ fn contract(alloc: Global, tokens: &[Token]) -> Read<'_, Conditions> {
     Ok((made, rest))
 }
 
-fn clause<'a>(alloc: Global, contract: Conditions, tokens: &'a [Token]) -> Read<'a, Conditions> {
+#[tactic(auto, unfolding(crate::specs::ProgramReading::clause))]
+fn clause<'a>(alloc: Global, contract: Conditions, tokens: &'a [Token]) -> Read<'a, Conditions>
+    ensures { Reads (spec.clause true LEVELS contract tokens.now) result }
+{
     let (before, after) = contract;
     if next_is(tokens, REQUIRES) {
         let (_, rest) = mark(tokens, REQUIRES)?;
@@ -220,7 +276,9 @@ fn clause<'a>(alloc: Global, contract: Conditions, tokens: &'a [Token]) -> Read<
     Ok(((before, pushed(after, clause)?), rest))
 }
 
-fn outcome(ty: Measured<Ty>, name: Option<Name>) -> Given {
+fn outcome(ty: Measured<Ty>, name: Option<Name>) -> Given
+    ensures { result ≡ trees.given ty name }
+{
     match ty {
         Measured::Low(ty, height) => Measured::Low((ty, name), height),
         Measured::High(at) => Measured::High(at),
@@ -233,7 +291,9 @@ fn alias_node(
     ty: Measured<Ty>,
     variable: Option<Name>,
     clauses: Clauses,
-) -> Measured<Decl> {
+) -> Measured<Decl>
+    ensures { result ≡ trees.alias_node at name ty variable clauses }
+{
     match both(ty, clauses) {
         Measured::Low((ty, clauses), height) => Measured::Low(
             Decl::Alias(Alias {
@@ -256,7 +316,9 @@ fn function_node(
     given: Given,
     contract: Conditions,
     body: Stmts,
-) -> Measured<Decl> {
+) -> Measured<Decl>
+    ensures { result ≡ trees.function_node at name params given contract body }
+{
     let (before, after) = contract;
     match both(both(params, given), both(both(before, after), body)) {
         Measured::Low(((params, (result, result_name)), ((before, after), body)), height) => {
@@ -285,7 +347,9 @@ fn method_node(
     given: Measured<Option<(Ty, Option<Name>)>>,
     contract: Conditions,
     body: Stmts,
-) -> Measured<Decl> {
+) -> Measured<Decl>
+    ensures { result ≡ trees.method_node at name params given contract body }
+{
     let (before, after) = contract;
     match both(both(params, given), both(both(before, after), body)) {
         Measured::Low(((params, result), ((before, after), body)), height) => Measured::Low(
@@ -304,7 +368,9 @@ fn method_node(
     }
 }
 
-fn property_node(at: u32, name: Name, params: ParamList, clauses: Clauses) -> Measured<Decl> {
+fn property_node(at: u32, name: Name, params: ParamList, clauses: Clauses) -> Measured<Decl>
+    ensures { result ≡ trees.property_node at name params clauses }
+{
     match both(params, clauses) {
         Measured::Low((params, clauses), height) => Measured::Low(
             Decl::Property(Property {

@@ -1,6 +1,18 @@
 //! Whole programs.
+ghost use Rattle.std.specs.Prelude.{◌≡◌, true};
+ghost use Rattle.wy_reading.specs.Reader.{Reads, refused};
+ghost use Rattle.wy_parse.specs.BlockReading.{block_at};
+ghost use Rattle.wy_parse.specs.DeclTrees as trees;
+ghost use Rattle.wy_parse.specs.Derivation.{Answers, place_of, profile};
+ghost use Rattle.wy_parse.specs.Parsed as parsed;
+ghost use Rattle.wy_parse.specs.ProgramReading as spec;
+ghost use Rattle.wy_parse.specs.Sorts as sorts;
+ghost use Rattle.wy_parse.specs.Steps.{inside};
+ghost use Rattle.wy_parse.specs.declared.fault.Kind.TheVariants as kind;
+ghost use Rattle.wy_parse.specs.declared.sort.Class.TheVariants as class;
+
 use crate::cursor::{Read, mark, name, next_in, next_is};
-use crate::declarations::declaration;
+use crate::declarations::{LEVELS, declaration};
 use crate::fault::{Kind, ParseFault};
 use crate::measured::{Measured, pushed};
 use crate::sort::{Class, END, IMPORT, LINE_END};
@@ -18,16 +30,29 @@ const MOST: usize = 4096;
 /// nowhere else. The fault that stands first is given, and of several at one place the first of
 /// `ParseFault`. Linear in the number of tokens: no token is read twice. Recursion goes as deep as
 /// `Deep` lets nesting go, and what `Deep` doesn't count is read in a loop.
-pub fn parse(alloc: Global, tokens: &[Token]) -> Result<Program, ParseFault> {
-    match program(alloc, tokens) {
-        Ok((Measured::Low(program, _), _)) => Ok(program),
-        Ok((Measured::High(at), _)) => Err(ParseFault::Deep(at)),
+pub fn parse(alloc: Global, tokens: &[Token]) -> Result<Program, ParseFault>
+    ensures value { Answers (parsed.parsed tokens.now) result }
+{
+    match text(alloc, tokens) {
+        Ok((tree, _)) => low(tree),
         Err(stop) => Err(refusal(tokens, stop)),
     }
 }
 
+// A program that is low enough.
+fn low(tree: Measured<Program>) -> Result<Program, ParseFault>
+    ensures { result ≡ parsed.low tree }
+{
+    match tree {
+        Measured::Low(program, _) => Ok(program),
+        Measured::High(at) => Err(ParseFault::Deep(at)),
+    }
+}
+
 // The fault of a stop, at the place of the token where it stands.
-fn refusal(tokens: &[Token], stop: Stop<Kind>) -> ParseFault {
+fn refusal(tokens: &[Token], stop: Stop<Kind>) -> ParseFault
+    ensures { result ≡ parsed.fault_at tokens.now stop }
+{
     match stop {
         Stop::Unexpected(left) => ParseFault::Unexpected(place(tokens, left)),
         Stop::Fault(Kind::Mixed, left) => ParseFault::Mixed(place(tokens, left)),
@@ -38,32 +63,51 @@ fn refusal(tokens: &[Token], stop: Stop<Kind>) -> ParseFault {
 }
 
 // The place of the token behind which, itself included, so many are left.
-fn place(tokens: &[Token], left: usize) -> u32 {
-    match tokens.get(tokens.len().saturating_sub(left)) {
-        Some(token) => token.at,
-        None => 0,
+fn place(tokens: &[Token], left: usize) -> u32
+    ensures { result ≡ place_of tokens.now left }
+{
+    match &tokens[tokens.len().saturating_sub(left)..] {
+        [] => 0,
+        [first, ..] => first.at,
     }
 }
 
-// program = { import } { declaration }, and the end
-fn program(alloc: Global, tokens: &[Token]) -> Read<'_, Measured<Program>> {
-    let (imports, rest) = imports(alloc, tokens)?;
-    let ((decls, _), rest) = declarations(alloc, rest)?;
-    let (_, rest) = mark(rest, END)?;
+// A program, and nothing behind it.
+#[tactic(auto, unfolding(crate::specs::ProgramReading::text))]
+fn text(alloc: Global, tokens: &[Token]) -> Read<'_, Measured<Program>>
+    ensures { Reads (spec.text profile tokens.now) result }
+{
+    let (tree, rest) = program(alloc, tokens)?;
     if !rest.is_empty() {
         return Err(Stop::Unexpected(rest.len()));
     }
+    Ok((tree, rest))
+}
+
+// program = { import } { declaration }, and the token of the end
+#[tactic(auto, unfolding(crate::specs::ProgramReading::program_in))]
+fn program(alloc: Global, tokens: &[Token]) -> Read<'_, Measured<Program>>
+    ensures { Reads (spec.program_in true LEVELS tokens.now) result }
+{
+    let (imports, rest) = imports(alloc, tokens)?;
+    let ((decls, _), rest) = declarations(alloc, rest)?;
+    let (_, rest) = mark(rest, END)?;
     Ok((program_node(imports, decls), rest))
 }
 
-fn program_node(imports: Items<(Name, u32)>, decls: Measured<Items<Decl>>) -> Measured<Program> {
+fn program_node(imports: Items<(Name, u32)>, decls: Measured<Items<Decl>>) -> Measured<Program>
+    ensures { result ≡ trees.program_node imports decls }
+{
     match decls {
         Measured::Low(decls, height) => Measured::Low(Program { imports, decls }, height),
         Measured::High(at) => Measured::High(at),
     }
 }
 
-fn imports(alloc: Global, tokens: &[Token]) -> Read<'_, Items<(Name, u32)>> {
+#[tactic(auto, using(wy_reading::proofs::Turns::reader_steps), unfolding(crate::specs::ProgramReading::imports))]
+fn imports(alloc: Global, tokens: &[Token]) -> Read<'_, Items<(Name, u32)>>
+    ensures { Reads (spec.imports tokens.now) result }
+{
     let (mut made, mut rest) = (Items::new(alloc), tokens);
     for _turn in 0..tokens.len() {
         if !next_is(rest, IMPORT) {
@@ -81,7 +125,9 @@ fn import<'a>(
     alloc: Global,
     mut imports: Items<(Name, u32)>,
     tokens: &'a [Token],
-) -> Read<'a, Items<(Name, u32)>> {
+) -> Read<'a, Items<(Name, u32)>>
+    ensures { Reads (spec.import imports tokens.now) result }
+{
     let (_, rest) = mark(tokens, IMPORT)?;
     let ((at, name), rest) = name(alloc, rest)?;
     let (_, rest) = mark(rest, LINE_END)?;
@@ -92,7 +138,10 @@ fn import<'a>(
 /// Declarations, and how many they are.
 type Counted = (Measured<Items<Decl>>, usize);
 
-fn declarations(alloc: Global, tokens: &[Token]) -> Read<'_, Counted> {
+#[tactic(auto, using(wy_reading::proofs::Turns::reader_steps), unfolding(crate::specs::ProgramReading::decls))]
+fn declarations(alloc: Global, tokens: &[Token]) -> Read<'_, Counted>
+    ensures { Reads (spec.decls true LEVELS tokens.now) result }
+{
     let none = Measured::Low(Items::new(alloc), 0);
     let (mut made, mut rest) = ((none, 0), tokens);
     for _turn in 0..tokens.len() {
@@ -106,7 +155,9 @@ fn declarations(alloc: Global, tokens: &[Token]) -> Read<'_, Counted> {
     Ok((made, rest))
 }
 
-fn next_declaration<'a>(alloc: Global, decls: Counted, tokens: &'a [Token]) -> Read<'a, Counted> {
+fn next_declaration<'a>(alloc: Global, decls: Counted, tokens: &'a [Token]) -> Read<'a, Counted>
+    ensures { Reads (spec.next_decl true (spec.declaration true LEVELS (block_at (inside LEVELS))) decls tokens.now) result }
+{
     let (made, count) = decls;
     if count >= MOST {
         return full(tokens);
@@ -116,7 +167,9 @@ fn next_declaration<'a>(alloc: Global, decls: Counted, tokens: &'a [Token]) -> R
 }
 
 // There is no place for another declaration.
-fn full<T>(tokens: &[Token]) -> Read<'_, T> {
+fn full<T>(tokens: &[Token]) -> Read<'_, T>
+    ensures { Reads (refused (sorts.has class.Declaration) kind.TooMany tokens.now) result }
+{
     if next_in(tokens, Class::Declaration) {
         return Err(Stop::Fault(Kind::TooMany, tokens.len()));
     }
