@@ -14,3 +14,6 @@ pub mod StmtsExact
 pub mod BlocksExact
 pub mod SwitchExact
 pub mod NestLevels
+pub mod DeclsExact
+pub mod CappedExact
+pub mod ProgramExact
