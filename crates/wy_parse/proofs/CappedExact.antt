@@ -1,7 +1,6 @@
 -- Declarations, of which there may be so many, are read exactly.
-use Rattle.std.proofs.Common.{◌≡◌, ◌+◌, ◌<◌, ◌≤◌, ℕ, zero, suc, Bool, true, false, true≢false, cond, List, [], ◌∷◌, ◌++◌, ◌⊎◌, inl, inr, length, Ok, Err, refl, sym, ap, ◌∙◌, subst, arith, length-append}
+use Rattle.std.proofs.Common.{◌≡◌, ◌+◌, ◌<◌, ◌≤◌, ℕ, zero, suc, Bool, true, false, true≢false, cond, List, [], ◌∷◌, ◌++◌, ◌⊎◌, inl, inr, length, Ok, Err, refl, sym, ap, ◌∙◌, subst, arith, length-append, lt-ltb, le-ltb}
 use Rattle.std.specs.Bool.{⊤}
-use Rattle.std.specs.Prelude.{nat_lt}
 use Rattle.wy_reading.specs.declared.stop.Stop.{Stop}
 use Rattle.wy_reading.specs.declared.stop.Stop.TheVariants.{Unexpected, Fault}
 use Rattle.wy_reading.specs.Mode.{Mode, Looser}
@@ -44,20 +43,11 @@ pushed c d = (parts.pushed c.0 d, c.1 + 1)
 
 -- ---- where there is a place, and where there is none
 
-below-has : (n m : ℕ) → n < m → nat_lt n m ≡ true
-below-has n zero h = absurd (omega (arith, h))
-below-has zero (suc m) h = refl
-below-has (suc n) (suc m) h = below-has n m (omega (arith, h))
-
-itself-has : (n : ℕ) → nat_lt n n ≡ false
-itself-has zero = refl
-itself-has (suc n) = itself-has n
-
 place-left : (n k : ℕ) → n + suc k ≡ most → has_place n ≡ true
-place-left n k e = below-has n most (omega (arith, e))
+place-left n k e = lt-ltb n most (omega (arith, e))
 
 no-place : (n : ℕ) → n + zero ≡ most → has_place n ≡ false
-no-place n e = let same : n ≡ most = omega (arith, e) in ap (λ (m : ℕ). nat_lt m most) same ∙ itself-has most
+no-place n e = le-ltb n most (omega (arith, e))
 
 lax-place : (s : Bool) (n k : ℕ) → n + suc k ≡ most → lax s has_place n ≡ true
 lax-place true n k e = place-left n k e

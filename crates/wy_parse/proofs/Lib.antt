@@ -17,3 +17,4 @@ pub mod NestLevels
 pub mod DeclsExact
 pub mod CappedExact
 pub mod ProgramExact
+pub mod ParseRefusals
