@@ -17,6 +17,7 @@ mod expr_nodes;
 mod expressions;
 mod fault;
 mod labels;
+pub mod laws;
 mod literals;
 mod measured;
 mod nested;
