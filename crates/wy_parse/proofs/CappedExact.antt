@@ -109,29 +109,29 @@ module _ (rule : Mode → R D) (decl : Mode → Q D) (every : (m : Mode) → Exa
   row m zero c = fenced m.strict (has class.Declaration) TooMany (λ b. all b m) c
   row m (suc left) c = branch (has class.Declaration) (decl m >>= (λ d. row m left (pushed c d))) (pure c)
 
-  -- the loop stops where the row does
-  full : (s : Bool) (q : Q D) (f g : ℕ) (c : Counted) (i : List Token) → c.1 + zero ≡ most → length i ≤ f → length i ≤ g
-      → loop (has class.Declaration) (next_decl s q) f c i ≡ loop (has class.Declaration) (next_decl s q) g c i
-      → loop (has class.Declaration) (next_decl s q) f c i ≡ fenced s (has class.Declaration) TooMany (λ b j. loop (has class.Declaration) (next_decl s q) g b j) c i
-  full true q zero g c [] e le le' same = refl
-  full true q zero g c (t ∷ i) e le le' same = absurd (omega (arith, le))
-  full true q (suc f) g c i e le le' same = by (heads (has class.Declaration) i) refl
+  -- where no place is left, the loop stops as the row does
+  full : (s : Bool) (q : Q D) (f : ℕ) (c : Counted) (i : List Token) → c.1 + zero ≡ most → length i ≤ f
+      → loop (has class.Declaration) (next_decl s q) f c i ≡ while (has class.Declaration) (next_decl s q) c i
+      → loop (has class.Declaration) (next_decl s q) f c i ≡ fenced s (has class.Declaration) TooMany (λ b. while (has class.Declaration) (next_decl s q) b) c i
+  full true q zero c [] e le same = refl
+  full true q zero c (t ∷ i) e le same = absurd (omega (arith, le))
+  full true q (suc f) c i e le same = by (heads (has class.Declaration) i) refl
     where
       by : (b : Bool) → heads (has class.Declaration) i ≡ b
           → cond b (and_then (next_decl true q c i) (loop (has class.Declaration) (next_decl true q) f)) (Ok (c, i))
           ≡ cond b (refused (has class.Declaration) TooMany i) (Ok (c, i))
       by true h = rw (no-place c.1 e, h) refl
       by false h = refl
-  full false q f g c i e le le' same = by (heads (has class.Declaration) i) refl
+  full false q f c i e le same = by (heads (has class.Declaration) i) refl
     where
       by : (b : Bool) → heads (has class.Declaration) i ≡ b
-          → loop (has class.Declaration) (next_decl false q) f c i ≡ cond b (loop (has class.Declaration) (next_decl false q) g c i) (Ok (c, i))
+          → loop (has class.Declaration) (next_decl false q) f c i ≡ cond b (while (has class.Declaration) (next_decl false q) c i) (Ok (c, i))
       by true h = same
       by false h = loop-halts (has class.Declaration) (next_decl false q) f c i h
 
   row-is : (m : Mode) (left : ℕ) (c : Counted) (i : List Token) (f : ℕ) → c.1 + left ≡ most → length i ≤ f → next_loop m f c i ≡ row m left c i
   unfolding row
-  row-is m zero c i f e le = full m.strict (decl m) f (length i) c i e le (omega arith) (enough m f (length i) c i le (omega arith))
+  row-is m zero c i f e le = full m.strict (decl m) f c i e le (enough m f (length i) c i le (omega arith))
   row-is m (suc left) c [] zero e le = refl
   row-is m (suc left) c (s ∷ i) zero e le = absurd (omega (arith, le))
   row-is m (suc left) c i (suc f) e le =
@@ -174,7 +174,7 @@ module _ (rule : Mode → R D) (decl : Mode → Q D) (every : (m : Mode) → Exa
     to_turns zero c i b j e (inl h) = absurd h
     to_turns zero c i b j e (inr h) = stop h.0 h.1
     to_turns (suc left) c i b j e (inl h) =
-        more (pushed c h.0) h.1 (h.0, h.1, subst (λ (o : Bool). Reads o i h.0 h.1) (sym (place-left c.1 left e)) h.2, refl, refl)
+        more (pushed c h.0) h.1 (h.0, h.1, subst (λ (o : Bool). Reads o i h.0 h.1) (sym (place-left c.1 left e)) h.2, (refl, refl))
         (to_turns left (pushed c h.0) h.1 b j (omega (arith, e)) h.3)
     to_turns (suc left) c i b j e (inr h) = stop h.0 h.1
 
@@ -195,7 +195,7 @@ module _ (rule : Mode → R D) (decl : Mode → Q D) (every : (m : Mode) → Exa
     to_met (suc left) c i y l e (inl (inl h)) = (c, i, stop refl refl, inl (subst (λ (o : Bool). Meets o i y l) (sym (place-left c.1 left e)) h))
     to_met (suc left) c i y l e (inl (inr h)) =
         let later = to_met left (pushed c h.0) h.1 y l (omega (arith, e)) h.3 in
-        (later.0, later.1, more (pushed c h.0) h.1 (h.0, h.1, subst (λ (o : Bool). Reads o i h.0 h.1) (sym (place-left c.1 left e)) h.2, refl, refl) later.2, later.3)
+        (later.0, later.1, more (pushed c h.0) h.1 (h.0, h.1, subst (λ (o : Bool). Reads o i h.0 h.1) (sym (place-left c.1 left e)) h.2, (refl, refl)) later.2, later.3)
     to_met (suc left) c i y l e (inr h) = absurd h
 
     capped_met : (c : Counted) (j : List Token) (y : Kind) (l : ℕ) → (NextDecl true (rule strictly) c).meets j y l → Meets (has_place c.1) j y l

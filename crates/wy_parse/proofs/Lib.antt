@@ -18,3 +18,5 @@ pub mod DeclsExact
 pub mod CappedExact
 pub mod ProgramExact
 pub mod ParseRefusals
+pub mod EndLemmas
+pub mod EndFree

@@ -176,7 +176,7 @@ branch_refused s i h = rw h refl
 
 cases_refused : (s : Bool) (cs : CaseList) (i : List Token) → Passes (is t.CASE) i → (nested s zero).cases cs i ≡ Err (Fault Deep (length i))
 unfolding nested
-cases_refused s cs i h = rw (h, h) refl
+cases_refused s cs i h = rw h refl
 
 cases_fall : (s : Bool) (d : ℕ) (cs : CaseList) (i : List Token) → Lacks (is t.CASE) i
     → (nested s d).cases cs i ≡ branch (is t.DEFAULT) (read.default (nested s d).block cs) (read.last_out cs) i

@@ -1,5 +1,6 @@
 -- what the parser promises
 pub mod Derivation
+pub mod Fronts
 -- the grammar, line by line
 pub mod TypeGrammar
 pub mod ExprGrammar
