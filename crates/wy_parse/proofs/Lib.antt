@@ -20,3 +20,4 @@ pub mod ProgramExact
 pub mod ParseRefusals
 pub mod EndLemmas
 pub mod EndFree
+pub mod FrontLemmas

@@ -46,3 +46,11 @@ pub record IsEnded (tokens : List Token) : Type 0 where
   pub cut : tokens ≡ front ++ last ∷ []
   pub is_end : is END last ≡ true
   pub no_end : NoEnd front
+
+-- one of the tokens stands there
+pub record IsToken (tokens : List Token) (at : ℕ) : Type 0 where
+  pub front : List Token
+  pub token : Token
+  pub rest : List Token
+  pub cut : tokens ≡ front ++ token ∷ rest
+  pub place_is : at ≡ token.at

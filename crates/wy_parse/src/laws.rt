@@ -3,6 +3,7 @@ ghost use Rattle.std.specs.Prelude.{◌≡◌, ℕ, List};
 ghost use Rattle.wy_ast.specs.declared.declarations.Program.{Program};
 ghost use Rattle.wy_lex.specs.declared.token.Token.{Token};
 ghost use Rattle.wy_parse.specs.Derivation.{Derives, IsHigh, Leaves, Meets};
+ghost use Rattle.wy_parse.specs.Fronts.{FirstImpossible, IsEnded, IsToken};
 ghost use Rattle.wy_parse.specs.declared.fault.Kind.{Kind};
 
 /// Tokens derive one program.
@@ -29,4 +30,17 @@ pub fn a_high_node_is_the_only_fault()
     ensures meets { (tokens : List Token) (at : ℕ) (x : Kind) (place : ℕ) → IsHigh tokens at → Meets tokens x place → ⊥ }
     ensures leaves { (tokens : List Token) (at place : ℕ) → IsHigh tokens at → Leaves tokens place → ⊥ }
     ensures one { (tokens : List Token) (at place : ℕ) → IsHigh tokens at → IsHigh tokens place → at ≡ place }
+{}
+
+/// The grammar is left at the first token such that the tokens up to and including it begin no text in
+/// which `&&` and `||` may mix and nothing is bounded: how deep it nests, how high its trees are and how
+/// many declarations it has. Of the tokens of a source, `End` is the last and stands nowhere else.
+pub fn the_grammar_is_left_at_the_first_impossible_token()
+    ensures left { (tokens : List Token) (at : ℕ) → IsEnded tokens → Leaves tokens at → FirstImpossible tokens at }
+    ensures first { (tokens : List Token) (at : ℕ) → FirstImpossible tokens at → Leaves tokens at }
+{}
+
+/// A fault that is met stands at one of the tokens.
+pub fn a_fault_stands_at_a_token()
+    ensures { (tokens : List Token) (x : Kind) (at : ℕ) → Meets tokens x at → IsToken tokens at }
 {}
