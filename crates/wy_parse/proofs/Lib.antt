@@ -1,4 +1,7 @@
 -- for the code
+pub mod Shrinking
+pub mod BlockSizes
+pub mod OpenBlocks
 pub mod StepLemmas
 -- single tokens, and changes of readers
 pub mod TokenLemmas

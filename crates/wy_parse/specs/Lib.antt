@@ -18,6 +18,7 @@ pub mod TypeReading
 pub mod ExprReading
 pub mod StmtReading
 pub mod BlockReading
+pub mod OpenBlocks
 pub mod ProgramReading
 pub mod Parsed
 pub mod Nests
