@@ -308,3 +308,9 @@ nest-exact (suc d) s = let b = nest-exact d s in record { block_is = next-block 
 -- a block of each level, with anything behind it
 pub nested_block-exact : (n : Mode) → Exact n (rule.nest n.strict n.depth).block (λ m. (nest_read m).block) Any BeginsBlock
 nested_block-exact n = (nest-exact n.depth n.strict).block_is
+
+pub nested_branch-exact : (n : Mode) → Exact n (rule.nest n.strict n.depth).branch (λ m. (nest_read m).branch) NoElse (Passes (is t.IF))
+nested_branch-exact n = (nest-exact n.depth n.strict).branch_is
+
+pub nested_cases-exact : (n : Mode) (cs : CaseList) → Exact n ((rule.nest n.strict n.depth).cases cs) (λ m. (nest_read m).cases cs) Any Any
+nested_cases-exact n cs = (nest-exact n.depth n.strict).cases_is cs

@@ -60,7 +60,7 @@ inside_grows zero b h = omega arith
 inside_grows (suc a) zero h = absurd (omega (arith, h))
 inside_grows (suc a) (suc b) h = omega (arith, h)
 
-inside_reached : (d : ℕ) → 2 ≤ d → 1 ≤ inside d
+pub inside_reached : (d : ℕ) → 2 ≤ d → 1 ≤ inside d
 inside_reached zero h = absurd (omega (arith, h))
 inside_reached (suc d) h = omega (arith, h)
 
