@@ -9,6 +9,7 @@ use Rattle.wy_parse.specs.declared.sort.Class.TheVariants as class
 use Rattle.wy_parse.specs.Sorts as t
 use Rattle.wy_parse.specs.Sorts.{has, is}
 use Rattle.wy_parse.specs.Steps.{Q, mark, name}
+use Rattle.wy_parse.specs.Trees.{none}
 use Rattle.wy_parse.specs.ExprGrammar.{E, Args}
 use Rattle.wy_parse.specs.ExprReading.{readers, sum, product, factor, summand}
 use Rattle.wy_parse.specs.StmtTrees.{S, Stmts, Cases}
@@ -58,20 +59,20 @@ module _ (levels : ℕ) (block : Q Stmts) (b : Shrinks block) where
   while-eats : Eats (read.while_stmt true levels block)
   unfolding read.while_stmt
   while-eats =
-      after_mark t.WHILE _ (λ at. then-shrinks _ _ (expr-shrinks levels) (λ test. then-shrinks _ _ (wheres-shrinks levels _) (λ invariants. past t.COLON _ (λ x.
+      after_mark t.WHILE _ (λ at. then-shrinks _ _ (expr-shrinks levels) (λ test. then-shrinks _ _ (wheres-shrinks levels none) (λ invariants. past t.COLON _ (λ x.
       then-shrinks block _ b (λ body. pure-shrinks _)))))
 
   do-eats : Eats (read.do_stmt true levels block)
   unfolding read.do_stmt
   do-eats =
       after_mark t.DO _ (λ at. past t.COLON _ (λ x. then-shrinks block _ b (λ body. past t.WHILE _ (λ y. then-shrinks _ _ (expr-shrinks levels) (λ test.
-      then-shrinks _ _ (wheres-shrinks levels _) (λ invariants. past t.LINE_END _ (λ z. pure-shrinks _)))))))
+      then-shrinks _ _ (wheres-shrinks levels none) (λ invariants. past t.LINE_END _ (λ z. pure-shrinks _)))))))
 
   for-eats : Eats (read.for_stmt true levels block)
   unfolding read.for_stmt
   for-eats =
       after_mark t.FOR _ (λ at. then-shrinks _ _ name-shrinks (λ w. past t.IN _ (λ x. then-shrinks _ _ (sum-shrinks levels) (λ low. past t.RANGE _ (λ y.
-      then-shrinks _ _ (sum-shrinks levels) (λ high. then-shrinks _ _ (wheres-shrinks levels _) (λ invariants. past t.COLON _ (λ z.
+      then-shrinks _ _ (sum-shrinks levels) (λ high. then-shrinks _ _ (wheres-shrinks levels none) (λ invariants. past t.COLON _ (λ z.
       then-shrinks block _ b (λ body. pure-shrinks _)))))))))
 
   if-eats : (inner : Q S) → Shrinks inner → Eats (read.if_stmt true levels block inner)
@@ -104,7 +105,7 @@ module _ (levels : ℕ) (below : Nested) (sizes : Sizes below) where
   switch-eats alone e =
       after_mark t.SWITCH _ (λ at. then-shrinks _ _ (expr-shrinks levels) (λ value. past t.COLON _ (λ x. past t.LINE_END _ (λ y. past t.BLOCK_IN _ (λ z.
       then-shrinks _ _
-          (branch-shrinks (is t.CASE) _ _ (past t.CASE _ (λ u. then-shrinks _ _ (case_rest-shrinks below.block _ sizes.block) (λ cs. sizes.cases cs))) e)
+          (branch-shrinks (is t.CASE) _ _ (past t.CASE _ (λ u. then-shrinks _ _ (case_rest-shrinks below.block none sizes.block) (λ cs. sizes.cases cs))) e)
           (λ cs. pure-shrinks _))))))
 
   pub statement-eats : (alone : Q Cases) → Shrinks alone → Eats (read.statement true levels below alone)
@@ -134,12 +135,12 @@ module _ (levels : ℕ) (below : Nested) (sizes : Sizes below) where
   block_of-shrinks : (alone : Q Cases) → Shrinks alone → Shrinks (read.block_of true levels below alone)
   unfolding read.block_of
   block_of-shrinks alone e =
-      past t.LINE_END _ (λ x. past t.BLOCK_IN _ (λ y. then-shrinks _ _ (eats-shrinks _ (piece-eats alone _ e)) (λ ss. rest-shrinks alone ss e)))
+      past t.LINE_END _ (λ x. past t.BLOCK_IN _ (λ y. then-shrinks _ _ (eats-shrinks _ (piece-eats alone none e)) (λ ss. rest-shrinks alone ss e)))
 
   pub block-shrinks : (w : ℕ) → Shrinks (read.block true levels below w)
   unfolding read.block
   block-shrinks zero = block_of-shrinks _ (eats-shrinks _ (refused-eats (is t.DEFAULT) Deep))
-  block-shrinks (suc w) = block_of-shrinks _ (eats-shrinks _ (default-eats _ _ (block-shrinks w)))
+  block-shrinks (suc w) = block_of-shrinks _ (eats-shrinks _ (default-eats _ none (block-shrinks w)))
 
 shut-shrinks : Shrinks read.shut_block
 unfolding read.shut_block
@@ -169,7 +170,7 @@ nested-sizes (suc d) =
 pub alone-shrinks : (levels w : ℕ) → Shrinks (blocks.alone levels w)
 unfolding blocks.alone
 alone-shrinks levels zero = eats-shrinks _ (refused-eats (is t.DEFAULT) Deep)
-alone-shrinks levels (suc w) = eats-shrinks _ (default-eats _ _ (block-shrinks levels (blocks.below levels) (nested-sizes _) w))
+alone-shrinks levels (suc w) = eats-shrinks _ (default-eats _ none (block-shrinks levels (blocks.below levels) (nested-sizes _) w))
 
 pub piece_at-eats : (levels w : ℕ) (ss : Stmts) → Eats (read.piece true levels (blocks.below levels) (blocks.alone levels w) ss)
 piece_at-eats levels w ss = piece-eats levels (blocks.below levels) (nested-sizes _) (blocks.alone levels w) ss (alone-shrinks levels w)
@@ -189,4 +190,4 @@ pub with_cases-shrinks : (levels : ℕ) → Shrinks (blocks.with_cases levels)
 unfolding blocks.with_cases
 with_cases-shrinks levels =
     let s = nested-sizes _ in
-    past t.CASE _ (λ u. then-shrinks _ _ (case_rest-shrinks _ _ s.block) (λ cs. s.cases cs))
+    past t.CASE _ (λ u. then-shrinks _ _ (case_rest-shrinks _ none s.block) (λ cs. s.cases cs))

@@ -59,7 +59,7 @@ branch-eats test p q one two i a j h = by (if-cases (heads test i) (p i) (q i) (
 pub refuses : {A : Type 0} (left : ℕ) (a : A) (j : List Token) → (let r : Q A = λ x. Err (Unexpected left) in r [] ≡ Ok (a, j)) → ⊥
 refuses left a j h = absurd (cc)
 
-pub refused-eats : {A : Type 0} (test : Token → Bool) (x : Kind) → Eats {A} (refused test x)
+pub refused-eats : {A : Type 0} (test : Token → Bool) (x : Kind) → Eats {A = A} (refused test x)
 refused-eats {A} test x i a j h = by (if-cases (heads test i) _ _ _ h)
   where
     by : ((heads test i ≡ true) × (let r : Q A = λ k. Err (Fault x (length i)) in r [] ≡ Ok (a, j))) ⊎ ((heads test i ≡ false) × (let r : Q A = λ k. Err (Unexpected (length i)) in r [] ≡ Ok (a, j))) → length j < length i
@@ -79,7 +79,7 @@ module _ {A : Type 0} (test : Token → Bool) (turn : A → Q A) (each : (a : A)
   loop-shrinks (suc f) a i b j h = by (λ c k e. loop-shrinks f c k b j e) (if-cases (heads test i) _ _ _ h)
     where
       by : ((c : A) (k : List Token) → loop test turn f c k ≡ Ok (b, j) → length j ≤ length k)
-          → ((heads test i ≡ true) × (and_then (turn a i) (loop test turn f) ≡ Ok (b, j))) ⊎ ((heads test i ≡ false) × (pure a i ≡ Ok (b, j))) → length j ≤ length i
+          → ((heads test i ≡ true) × (and_then (turn a i) (loop test turn f) ≡ Ok (b, j))) ⊎ ((heads test i ≡ false) × (let r : Outcome Token Kind A = Ok (a, i) in r ≡ Ok (b, j))) → length j ≤ length i
       by ih (inl d) = let y = and_then-ok (turn a i) (loop test turn f) (b, j) d.1 in omega (arith, each a i y.0.0 y.0.1 y.1, ih y.0.0 y.0.1 y.2)
       by ih (inr d) = omega (arith, ap length (ok-parts a b i j d.1).1)
 

@@ -1,15 +1,21 @@
 -- Levels, by their numbers.
-use Rattle.std.proofs.Common.{◌≡◌, ℕ, zero, suc, ◌-◌, ◌<◌, Bool, true, false, List, refl, arith}
+use Rattle.std.proofs.Common.{◌≡◌, ◌≢◌, ℕ, zero, suc, ◌-◌, ◌<◌, Bool, true, false, List, Result, Err, refl, sym, subst, ◌∙◌, arith}
+use Rattle.wy_reading.specs.declared.stop.Stop.{Stop}
+use Rattle.wy_reading.specs.declared.stop.Stop.TheVariants.{NoMemory}
 use Rattle.wy_reading.specs.Rule.{heads}
-use Rattle.wy_reading.specs.Reader.{refused, ◌>>=◌}
+use Rattle.wy_reading.specs.Reader.{Outcome, Reads, loop, refused, ◌>>=◌}
+use Rattle.wy_reading.proofs.Turns.{loop-fails}
 use Rattle.wy_lex.specs.declared.token.Token.{Token}
+use Rattle.wy_parse.specs.declared.fault.Kind.{Kind}
 use Rattle.wy_parse.specs.declared.fault.Kind.TheVariants.{Deep}
-use Rattle.wy_parse.specs.Sorts.{is, NAME, IF, CASE, DEFAULT}
-use Rattle.wy_parse.specs.Steps.{mark, inner, name, inner_name, inside}
+use Rattle.wy_parse.specs.declared.sort.Class.TheVariants as class
+use Rattle.wy_parse.specs.Sorts.{is, has, NAME, IF, CASE, DEFAULT}
+use Rattle.wy_parse.specs.Steps.{Q, mark, inner, name, inner_name, inside}
 use Rattle.wy_parse.specs.TypeReading.{tight, tight_of}
 use Rattle.wy_parse.specs.ExprReading.{readers, unary_of, expr_of}
 use Rattle.wy_parse.specs.BlockGrammar.{CaseList}
 use Rattle.wy_parse.specs.BlockReading.{nested, if_stmt, case_rest, default, last_out}
+use denote.Ref.{Bor}
 
 pub inner_none : (n c : ℕ) (i : List Token) → n ≡ 0 → inner n c i ≡ refused (is c) Deep i
 unfolding inner
@@ -39,6 +45,12 @@ pub tight_next : (n m : ℕ) (i : List Token) → n ≡ suc m → tight n i ≡ 
 unfolding tight
 tight_next n m i e = rw e refl
 
+pub tight_none : (n : ℕ) (i : List Token) → n ≡ 0 → tight n i ≡ refused (has class.Type) Deep i
+unfolding tight
+tight_none n i e = rw e refl
+
+pub ruleset tight_steps = (tight_next, tight_none)
+
 pub unary_next : (s : Bool) (n m : ℕ) (i : List Token) → n ≡ suc m → (readers s n).unary i ≡ unary_of m (readers s m).unary (readers s m).expr i
 unfolding readers
 unary_next s n m i e = rw e refl
@@ -46,6 +58,17 @@ unary_next s n m i e = rw e refl
 pub expr_next : (s : Bool) (n m : ℕ) (i : List Token) → n ≡ suc m → (readers s n).expr i ≡ expr_of n (readers s n).unary s (readers s m).expr i
 unfolding readers
 expr_next s n m i e = rw e refl
+
+pub unary_none : (s : Bool) (n : ℕ) (i : List Token) → n ≡ 0 → (readers s n).unary i ≡ refused (has class.Expression) Deep i
+unfolding readers
+unary_none s n i e = rw e refl
+
+pub expr_none : (s : Bool) (n : ℕ) (i : List Token) → n ≡ 0 → (readers s n).expr i ≡ refused (has class.Expression) Deep i
+unfolding readers
+expr_none s n i e = rw e refl
+
+pub ruleset unary_steps = (unary_next, unary_none)
+pub ruleset expr_steps = (expr_next, expr_none)
 
 -- ---- statements with blocks on a level
 
@@ -73,3 +96,10 @@ cases_last zero cs i h g = rw (h, g) refl
 cases_last (suc n) cs i h g = rw (h, g) refl
 
 pub ruleset block_steps = (branch_next, branch_shut, cases_next, cases_default, cases_last)
+
+-- ---- a loop whose turn stops
+
+pub turn_stops : {A : Type 0} (test : Token → Bool) (turn : A → Q A) (f : ℕ) (a : A) (i : List Token) (wanted : Outcome Token Kind A) (e : Stop Kind) (r : Result (A × Bor (List Token)) (Stop Kind))
+    → r ≡ Err e → wanted ≡ loop test turn f a i → 0 < f → heads test i ≡ true → (e ≢ NoMemory → turn a i ≡ Err e) → Reads wanted r
+turn_stops {A} test turn f a i wanted e r re w le h stops =
+    subst (λ (x : Result (A × Bor (List Token)) (Stop Kind)). Reads wanted x) (sym re) (λ n. w ∙ loop-fails test turn f (f - 1) a i e (omega (arith, le)) h (stops n))

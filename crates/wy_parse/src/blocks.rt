@@ -100,6 +100,7 @@ fn statements<'a, B: Fn(Global, &[Token], usize) -> Result<(Stmts, &[Token]), St
 }
 
 // Whether the innermost block is at its end.
+#[tactic(auto, using(crate::proofs::OpenBlocks::block_levels))]
 fn halts(progress: &Progress, tokens: &[Token]) -> bool
     ensures { result ≡ (progress.now.begun && not (heads (sorts.has class.Statement) tokens.now)) }
 {
@@ -187,10 +188,10 @@ fn closed(alloc: Global, progress: Progress) -> Result<Progress, AllocError>
 }
 
 // The statements before a switch, with the switch, whose default has these.
-fn whole(alloc: Global, open: Open, body: Stmts) -> Result<Stmts, AllocError>
-    ensures { IfOk result (λ ss. ss ≡ open_blocks.closed open body) }
+fn whole(alloc: Global, last: Open, body: Stmts) -> Result<Stmts, AllocError>
+    ensures { IfOk result (λ ss. ss ≡ open_blocks.closed last body) }
 {
-    let Open { at, value, before } = open;
+    let Open { at, value, before } = last;
     let alone = both(Measured::Low(Items::new(alloc), 0), some(body));
     pushed(before, switch_node(at, value, alone))
 }

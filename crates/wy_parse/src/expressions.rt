@@ -380,7 +380,7 @@ impl<
 
 /// What may be an operand, where there are so many levels.
 #[cycle(levels)]
-#[tactic(auto, using(crate::proofs::StepLemmas::unary_next), unfolding(crate::specs::ExprReading::readers))]
+#[tactic(auto, using(crate::proofs::StepLemmas::unary_steps))]
 pub fn unary(alloc: Global, tokens: &[Token], levels: usize) -> Result<(Measured<Expr>, &[Token]), Stop<Kind>>
     ensures { Reads (spec.unary levels tokens.now) result }
 {
@@ -398,7 +398,7 @@ pub fn unary(alloc: Global, tokens: &[Token], levels: usize) -> Result<(Measured
 
 /// expr = logic [ '==>' expr ], where there are so many levels.
 #[cycle(levels)]
-#[tactic(auto, using(crate::proofs::StepLemmas::expr_next), unfolding(crate::specs::ExprReading::readers, crate::specs::ExprReading::expr_of))]
+#[tactic(auto, using(crate::proofs::StepLemmas::expr_steps), unfolding(crate::specs::ExprReading::expr_of))]
 pub fn expr(alloc: Global, tokens: &[Token], levels: usize) -> Result<(Measured<Expr>, &[Token]), Stop<Kind>>
     ensures { Reads (spec.expr levels tokens.now) result }
 {

@@ -232,7 +232,7 @@ fn brackets<'a>(
 }
 
 /// `tight` where there are so many levels.
-#[tactic(auto, using(crate::proofs::StepLemmas::tight_next))]
+#[tactic(auto, using(crate::proofs::StepLemmas::tight_steps))]
 fn tight(alloc: Global, tokens: &[Token], levels: usize) -> Result<(Measured<Ty>, &[Token]), Stop<Kind>>
     ensures { Reads (spec.tight levels tokens.now) result }
 {
