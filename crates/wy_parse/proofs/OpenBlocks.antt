@@ -1,5 +1,6 @@
 -- Steps of reading a block with a list of the switches that are open in it.
-use Rattle.std.proofs.Common.{◌≡◌, ◌≢◌, ℕ, zero, suc, ◌+◌, ◌-◌, ◌<◌, ◌≤◌, ◌^◌, Bool, true, false, ◌&&◌, not, true≢false, cond, List, [], ◌∷◌, ◌++◌, length, Ok, Err, ◌⊎◌, inl, inr, refl, sym, ap, ◌∙◌, arith, length-append}
+use Rattle.std.proofs.Common.{◌≡◌, ◌≢◌, ℕ, zero, suc, ◌+◌, ◌-◌, ◌<◌, ◌≤◌, ◌^◌, Bool, true, false, ◌&&◌, not, true≢false, cond, List, [], ◌∷◌, ◌++◌, length, Ok, Err, ◌⊎◌, inl, inr, refl, sym, ap, subst, ◌∙◌, arith, length-append}
+use Rattle.std.proofs.Math.Path.{fun_ext}
 use Rattle.wy_reading.specs.declared.stop.Stop.{Stop}
 use Rattle.wy_reading.specs.declared.stop.Stop.TheVariants.{Unexpected, Fault}
 use Rattle.wy_reading.specs.Rule.{heads}
@@ -142,10 +143,14 @@ no_default levels w i h = by (heads (is t.CASE) i) refl
     by false e = rw (e, alone-lacks levels w i h) (sym (with_cases-lacks levels i e))
 
 -- a default without cases
+default_shape : (g : Q Stmts) (i : List Token)
+    → default (mark t.LINE_END >>= (λ u. mark t.BLOCK_IN >>= (λ v. g))) none i ≡ and_then (lone_default i) (λ x. g >>= (λ body. mark t.BLOCK_OUT >>= (λ y. pure (both none (some body)))))
+unfolding default lone_default
+default_shape g i = simp bind-assoc
+
 default_begins : (levels w : ℕ) (i : List Token)
     → default (block true levels (below levels) w) none i ≡ and_then (lone_default i) (λ x. going levels w false none >>= (λ body. mark t.BLOCK_OUT >>= (λ y. pure (both none (some body)))))
-unfolding default lone_default
-default_begins levels w i = simp (block_goes, bind-assoc)
+default_begins levels w i = ap (λ (b : Q Stmts). default b none i) (fun_ext (block_goes levels w)) ∙ default_shape (going levels w false none) i
 
 alone_begins : (levels w v : ℕ) (i : List Token) → w ≡ suc v
     → alone levels w i ≡ and_then (lone_default i) (λ x. going levels v false none >>= (λ body. mark t.BLOCK_OUT >>= (λ y. pure (both none (some body)))))
@@ -208,121 +213,151 @@ last_of (o ∷ (p ∷ os)) h = let l = last_of (p ∷ os) (λ e. absurd (cc)) in
 
 -- ---- steps
 
--- a statement may follow where the block needn't end
-pub follows : (begun here : Bool) → (begun && not here) ≡ false → begun ≡ true → here ≡ true
+-- a statement may follow where the block isn't at its end
+follows : (begun here : Bool) → (begun && not here) ≡ false → begun ≡ true → here ≡ true
 follows true true e h = refl
 follows true false e h = absurd (cc)
 follows false here e h = absurd (cc)
+
+-- where it is
+at_end : (begun here : Bool) → (begun && not here) ≡ true → (begun ≡ true) × (here ≡ false)
+at_end true true e = absurd (cc)
+at_end true false e = (refl, refl)
+at_end false here e = absurd (cc)
 
 pub begins : (levels : ℕ) (p : Progress) (i : List Token) → p.switches ≡ [] → p.made ≡ none → p.begun ≡ false → going levels width false none i ≡ resumed levels width p i
 unfolding around
 begins levels p i s m b = let e : width - 0 ≡ width = omega arith in rw (s, m, b, e) refl
 
-pub statement-moves : (levels : ℕ) (p : Progress) (i : List Token) (st : S) (j : List Token) → Follows p.begun i → heads (is t.SWITCH) i ≡ false
-    → statement_but_switch levels i ≡ Ok (st, j) → Moves levels p i (with_stmt p st) j
-statement-moves levels p i st j f h e =
-    let w = width - length p.switches in
-    let read = but_switch levels w i h ∙ e in
-    let less = statement_at-eats levels w i st j read in
-    record {
-      same = around-at levels width p.switches _ _ i j (stmt-goes levels w p.begun p.made i st j f read);
-      shorter = less;
-      room = omega (arith, less);
-    }
+pub fits_width : (n : ℕ) → n < 2 ^ 64 → n < width
+unfolding width
+fits_width n h = h
 
-pub statement-stops : (levels : ℕ) (p : Progress) (i : List Token) (x : Stop Kind) → Follows p.begun i → heads (is t.SWITCH) i ≡ false
-    → statement_but_switch levels i ≡ Err x → resumed levels width p i ≡ Err x
-statement-stops levels p i x f h e =
-    let w = width - length p.switches in
-    around-err levels width p.switches _ i x (stmt-fails levels w p.begun p.made i x f (but_switch levels w i h ∙ e))
+module _ (levels : ℕ) (p : Progress) (i : List Token) where
+  module _ (open_end : (p.begun && not (heads (has class.Statement) i)) ≡ false) where
+    f : Follows p.begun i
+    f = follows p.begun (heads (has class.Statement) i) open_end
 
-pub cases-moves : (levels : ℕ) (p : Progress) (i : List Token) (place : ℕ) (value : E) (j : List Token) (cs : Cases) (k : List Token) → Follows p.begun i → heads (is t.SWITCH) i ≡ true
-    → header levels i ≡ Ok ((place, value), j) → heads (is t.DEFAULT) j ≡ false → with_cases levels j ≡ Ok (cs, k)
-    → Moves levels p i (with_stmt p (trees.switch_node place value cs)) k
-cases-moves levels p i place value j cs k f h e g d =
-    let w = width - length p.switches in
-    let one = header-eats levels i (place, value) j e in
-    let two = with_cases-shrinks levels j cs k d in
-    record {
-      same = around-at levels width p.switches _ _ i k (cases-goes levels w p.begun p.made i place value j cs k f (h, e) g d);
-      shorter = omega (arith, one, two);
-      room = omega (arith, one, two);
-    }
+    pub statement_moves : (p' : Progress) (st : S) (j : List Token) → heads (is t.SWITCH) i ≡ false → statement_but_switch levels i ≡ Ok (st, j) → p' ≡ with_stmt p st → Moves levels p i p' j
+    statement_moves p' st j h e same =
+        let w = width - length p.switches in
+        let read = but_switch levels w i h ∙ e in
+        let less = statement_at-eats levels w i st j read in
+        subst (λ (q : Progress). Moves levels p i q j) (sym same) (record {
+          same = around-at levels width p.switches (going levels w p.begun p.made) (going levels w true (pushed p.made st)) i j (stmt-goes levels w p.begun p.made i st j f read);
+          shorter = less;
+          room = omega (arith, less);
+        })
 
-pub cases-stops : (levels : ℕ) (p : Progress) (i : List Token) (place : ℕ) (value : E) (j : List Token) (x : Stop Kind) → Follows p.begun i → heads (is t.SWITCH) i ≡ true
-    → header levels i ≡ Ok ((place, value), j) → heads (is t.DEFAULT) j ≡ false → with_cases levels j ≡ Err x → resumed levels width p i ≡ Err x
-cases-stops levels p i place value j x f h e g d =
-    around-err levels width p.switches _ i x (cases-fails levels (width - length p.switches) p.begun p.made i place value j x f (h, e) g d)
+    pub statement_stops : (x : Stop Kind) → heads (is t.SWITCH) i ≡ false → statement_but_switch levels i ≡ Err x → resumed levels width p i ≡ Err x
+    statement_stops x h e =
+        let w = width - length p.switches in
+        around-err levels width p.switches (going levels w p.begun p.made) i x (stmt-fails levels w p.begun p.made i x f (but_switch levels w i h ∙ e))
 
-pub header-stops : (levels : ℕ) (p : Progress) (i : List Token) (x : Stop Kind) → Follows p.begun i → heads (is t.SWITCH) i ≡ true → header levels i ≡ Err x → resumed levels width p i ≡ Err x
-header-stops levels p i x f h e = around-err levels width p.switches _ i x (header-fails levels (width - length p.switches) p.begun p.made i x f h e)
+    module _ (h : heads (is t.SWITCH) i ≡ true) where
+      pub header_stops : (x : Stop Kind) → header levels i ≡ Err x → resumed levels width p i ≡ Err x
+      header_stops x e =
+          let w = width - length p.switches in
+          around-err levels width p.switches (going levels w p.begun p.made) i x (header-fails levels w p.begun p.made i x f h e)
 
-pub open-moves : (levels : ℕ) (p : Progress) (i : List Token) (place : ℕ) (value : E) (j k : List Token) (x : ℕ) → length p.switches + length i < width → Follows p.begun i → heads (is t.SWITCH) i ≡ true
-    → header levels i ≡ Ok ((place, value), j) → heads (is t.DEFAULT) j ≡ true → lone_default j ≡ Ok (x, k) → Moves levels p i (opened place value p) k
-open-moves levels p i place value j k x room f h e g d =
-    let o : Open = record { at = place; value = value; before = p.made } in
-    let w = width - length p.switches in
-    let v = width - length (p.switches ++ o ∷ []) in
-    let size : length (p.switches ++ o ∷ []) ≡ length p.switches + 1 = length-append p.switches (o ∷ []) in
-    let next : w ≡ suc v = omega (arith, room, size) in
-    let one = header-eats levels i (place, value) j e in
-    let two = lone_default-eats j x k d in
-    record {
-      same =
-          around-at levels width p.switches (going levels w p.begun p.made) (behind levels w o (going levels v false none)) i k
-              (open-goes levels w v p.begun p.made i place value j k x next f (h, e) g d)
-          ∙ sym (around-last levels width p.switches o (going levels v false none) k (omega (arith, room)));
-      shorter = omega (arith, one, two);
-      room = omega (arith, one, two, size);
-    }
+      module _ (place : ℕ) (value : E) (j : List Token) (e : header levels i ≡ Ok ((place, value), j)) where
+        pub cases_move : (p' : Progress) (cs : Cases) (k : List Token) → heads (is t.DEFAULT) j ≡ false → with_cases levels j ≡ Ok (cs, k)
+            → p' ≡ with_stmt p (trees.switch_node place value cs) → Moves levels p i p' k
+        cases_move p' cs k g d same =
+            let w = width - length p.switches in
+            let one = header-eats levels i (place, value) j e in
+            let two = with_cases-shrinks levels j cs k d in
+            subst (λ (q : Progress). Moves levels p i q k) (sym same) (record {
+              same = around-at levels width p.switches (going levels w p.begun p.made) (going levels w true (pushed p.made (trees.switch_node place value cs))) i k
+                  (cases-goes levels w p.begun p.made i place value j cs k f (h, e) g d);
+              shorter = omega (arith, one, two);
+              room = omega (arith, one, two);
+            })
 
-pub open-stops : (levels : ℕ) (p : Progress) (i : List Token) (place : ℕ) (value : E) (j : List Token) (x : Stop Kind) → length p.switches + length i < width → Follows p.begun i → heads (is t.SWITCH) i ≡ true
-    → header levels i ≡ Ok ((place, value), j) → heads (is t.DEFAULT) j ≡ true → lone_default j ≡ Err x → resumed levels width p i ≡ Err x
-open-stops levels p i place value j x room f h e g d =
-    let w = width - length p.switches in
-    let next : w ≡ suc (w - 1) = omega (arith, room) in
-    around-err levels width p.switches _ i x (open-fails levels w (w - 1) p.begun p.made i place value j x next f (h, e) g d)
+        pub cases_stop : (x : Stop Kind) → heads (is t.DEFAULT) j ≡ false → with_cases levels j ≡ Err x → resumed levels width p i ≡ Err x
+        cases_stop x g d =
+            let w = width - length p.switches in
+            around-err levels width p.switches (going levels w p.begun p.made) i x (cases-fails levels w p.begun p.made i place value j x f (h, e) g d)
 
-pub end-moves : (levels : ℕ) (p p' : Progress) (i : List Token) (a : ℕ) (j : List Token) (b : ℕ) (k : List Token) → length p.switches + length i < width → p.begun ≡ true
-    → heads (has class.Statement) i ≡ false → mark t.BLOCK_OUT i ≡ Ok (a, j) → mark t.BLOCK_OUT j ≡ Ok (b, k) → Closes p p' → Moves levels p i p' k
-end-moves levels p p' i a j b k room begun h e d c =
-    let size : length p.switches ≡ length p'.switches + 1 = ap length c.switches ∙ length-append p'.switches (c.last ∷ []) in
-    let w = width - length p'.switches in
-    let v = width - length p.switches in
-    let one = mark-eats t.BLOCK_OUT i a j e in
-    let two = mark-eats t.BLOCK_OUT j b k d in
-    let inner : behind levels w c.last (going levels v true p.made) i ≡ going levels w true (closed c.last p.made) k = ended levels w v c.last p.made i a j b k h e d in
-    record {
-      same =
-          ap (λ (s : Bool). around levels width p.switches (going levels v s p.made) i) begun
-          ∙ (ap (λ (os : List Open). around levels width os (going levels v true p.made) i) c.switches
-          ∙ (around-last levels width p'.switches c.last (going levels v true p.made) i (omega (arith, room, size))
-          ∙ (around-at levels width p'.switches (behind levels w c.last (going levels v true p.made)) (going levels w true (closed c.last p.made)) i k inner
-          ∙ (ap (λ (s : Bool). around levels width p'.switches (going levels w s (closed c.last p.made)) k) (sym (c.begun ∙ begun))
-          ∙ ap (λ (ss : Stmts). around levels width p'.switches (going levels w p'.begun ss) k) (sym c.made)))));
-      shorter = omega (arith, one, two);
-      room = omega (arith, one, two, size);
-    }
+        module _ (room : length p.switches + length i < width) (g : heads (is t.DEFAULT) j ≡ true) where
+          pub default_moves : (p' : Progress) (x : ℕ) (k : List Token) → lone_default j ≡ Ok (x, k) → p' ≡ opened place value p → Moves levels p i p' k
+          default_moves p' x k d same =
+              let o : Open = record { at = place; value = value; before = p.made } in
+              let w = width - length p.switches in
+              let v = width - length (p.switches ++ o ∷ []) in
+              let size : length (p.switches ++ o ∷ []) ≡ length p.switches + 1 = length-append p.switches (o ∷ []) in
+              let next : w ≡ suc v = omega (arith, room, size) in
+              let one = header-eats levels i (place, value) j e in
+              let two = lone_default-eats j x k d in
+              subst (λ (q : Progress). Moves levels p i q k) (sym same) (record {
+                same =
+                    around-at levels width p.switches (going levels w p.begun p.made) (behind levels w o (going levels v false none)) i k
+                        (open-goes levels w v p.begun p.made i place value j k x next f (h, e) g d)
+                    ∙ sym (around-last levels width p.switches o (going levels v false none) k (omega (arith, room)));
+                shorter = omega (arith, one, two);
+                room = omega (arith, one, two, size);
+              })
 
-pub end-stops : (levels : ℕ) (p : Progress) (i : List Token) (x : Stop Kind) → p.begun ≡ true → heads (has class.Statement) i ≡ false → mark t.BLOCK_OUT i ≡ Err x → resumed levels width p i ≡ Err x
-end-stops levels p i x begun h e =
-    let w = width - length p.switches in
-    around-err levels width p.switches _ i x (ap (λ (s : Bool). going levels w s p.made i) begun ∙ (halted levels w p.made i h ∙ rw e refl))
+          pub default_stops : (x : Stop Kind) → lone_default j ≡ Err x → resumed levels width p i ≡ Err x
+          default_stops x d =
+              let w = width - length p.switches in
+              let next : w ≡ suc (w - 1) = omega (arith, room) in
+              around-err levels width p.switches (going levels w p.begun p.made) i x (open-fails levels w (w - 1) p.begun p.made i place value j x next f (h, e) g d)
 
-pub end-stops-too : (levels : ℕ) (p : Progress) (i : List Token) (a : ℕ) (j : List Token) (x : Stop Kind) → length p.switches + length i < width → p.switches ≢ [] → p.begun ≡ true
-    → heads (has class.Statement) i ≡ false → mark t.BLOCK_OUT i ≡ Ok (a, j) → mark t.BLOCK_OUT j ≡ Err x → resumed levels width p i ≡ Err x
-end-stops-too levels p i a j x room some begun h e d =
-    let l = last_of p.switches some in
-    let size : length p.switches ≡ length l.0 + 1 = ap length l.2 ∙ length-append l.0 (l.1 ∷ []) in
-    let w = width - length l.0 in
-    let v = width - length p.switches in
-    ap (λ (s : Bool). around levels width p.switches (going levels v s p.made) i) begun
-    ∙ (ap (λ (os : List Open). around levels width os (going levels v true p.made) i) l.2
-    ∙ (around-last levels width l.0 l.1 (going levels v true p.made) i (omega (arith, room, size))
-    ∙ around-err levels width l.0 (behind levels w l.1 (going levels v true p.made)) i x (rw (halted levels v p.made i h, e, d) refl)))
+  module _ (ending : (p.begun && not (heads (has class.Statement) i)) ≡ true) where
+    begun : p.begun ≡ true
+    begun = (at_end p.begun (heads (has class.Statement) i) ending).0
 
--- the block is whole
-pub block-ends : (levels : ℕ) (p : Progress) (i : List Token) (a : ℕ) (j : List Token) → p.switches ≡ [] → p.begun ≡ true → heads (has class.Statement) i ≡ false
-    → mark t.BLOCK_OUT i ≡ Ok (a, j) → resumed levels width p i ≡ Ok (p.made, j)
-unfolding around
-block-ends levels p i a j s begun h e = rw (s, begun) (halted levels (width - 0) p.made i h ∙ rw e refl)
+    h : heads (has class.Statement) i ≡ false
+    h = (at_end p.begun (heads (has class.Statement) i) ending).1
+
+    -- the first OUT is missing
+    pub end_stops : (x : Stop Kind) → mark t.BLOCK_OUT i ≡ Err x → resumed levels width p i ≡ Err x
+    end_stops x e =
+        let w = width - length p.switches in
+        around-err levels width p.switches (going levels w p.begun p.made) i x (ap (λ (s : Bool). going levels w s p.made i) begun ∙ (halted levels w p.made i h ∙ rw e refl))
+
+    module _ (a : ℕ) (j : List Token) (e : mark t.BLOCK_OUT i ≡ Ok (a, j)) where
+      -- the block is whole
+      pub block_ends : p.switches ≡ [] → resumed levels width p i ≡ Ok (p.made, j)
+      unfolding around
+      block_ends none_open =
+          ap (λ (os : List Open). around levels width os (going levels (width - length os) p.begun p.made) i) none_open
+          ∙ (ap (λ (s : Bool). going levels (width - 0) s p.made i) begun ∙ (halted levels (width - 0) p.made i h ∙ rw e refl))
+
+      module _ (room : length p.switches + length i < width) where
+        pub end_moves : (p' : Progress) (b : ℕ) (k : List Token) → mark t.BLOCK_OUT j ≡ Ok (b, k) → Closes p p' → Moves levels p i p' k
+        end_moves p' b k d c =
+            let size : length p.switches ≡ length p'.switches + 1 = ap length c.switches ∙ length-append p'.switches (c.last ∷ []) in
+            let w = width - length p'.switches in
+            let v = width - length p.switches in
+            let one = mark-eats t.BLOCK_OUT i a j e in
+            let two = mark-eats t.BLOCK_OUT j b k d in
+            let inner : behind levels w c.last (going levels v true p.made) i ≡ going levels w true (closed c.last p.made) k = ended levels w v c.last p.made i a j b k h e d in
+            record {
+              same =
+                  ap (λ (s : Bool). around levels width p.switches (going levels v s p.made) i) begun
+                  ∙ (ap (λ (os : List Open). around levels width os (going levels v true p.made) i) c.switches
+                  ∙ (around-last levels width p'.switches c.last (going levels v true p.made) i (omega (arith, room, size))
+                  ∙ (around-at levels width p'.switches (behind levels w c.last (going levels v true p.made)) (going levels w true (closed c.last p.made)) i k inner
+                  ∙ (ap (λ (s : Bool). around levels width p'.switches (going levels w s (closed c.last p.made)) k) (sym (c.begun ∙ begun))
+                  ∙ ap (λ (ss : Stmts). around levels width p'.switches (going levels w p'.begun ss) k) (sym c.made)))));
+              shorter = omega (arith, one, two);
+              room = omega (arith, one, two, size);
+            }
+
+        -- the second OUT is missing
+        pub end_stops_too : (x : Stop Kind) → p.switches ≢ [] → mark t.BLOCK_OUT j ≡ Err x → resumed levels width p i ≡ Err x
+        end_stops_too x some d =
+            let l = last_of p.switches some in
+            let size : length p.switches ≡ length l.0 + 1 = ap length l.2 ∙ length-append l.0 (l.1 ∷ []) in
+            let w = width - length l.0 in
+            let v = width - length p.switches in
+            ap (λ (s : Bool). around levels width p.switches (going levels v s p.made) i) begun
+            ∙ (ap (λ (os : List Open). around levels width os (going levels v true p.made) i) l.2
+            ∙ (around-last levels width l.0 l.1 (going levels v true p.made) i (omega (arith, room, size))
+            ∙ around-err levels width l.0 (behind levels w l.1 (going levels v true p.made)) i x (rw (halted levels v p.made i h, e, d) refl)))
+
+pub ruleset piece_steps = (statement_moves, statement_stops)
+pub ruleset switch_steps = (header_stops, cases_move, cases_stop, default_moves, default_stops)
+pub ruleset end_steps = (end_stops, end_moves, end_stops_too)

@@ -96,12 +96,16 @@ module _ (levels : ℕ) (unary expr : Q E) where
   unfoldable pub range_list : Q Ranges
   range_list = range none >>= (λ rs. while (is t.COMMA) next_range rs)
 
+  -- behind the first item
+  unfoldable pub listed_rest : ℕ → E → Q E
+  listed_rest at a =
+      branch (is t.SEMICOLON) (mark t.SEMICOLON >>= (λ _. expr >>= (λ n. mark t.CLOSE_BRACKET >>= (λ _. pure (trees.repeat at a n)))))
+      (more_args (pushed none a) >>= (λ es. mark t.CLOSE_BRACKET >>= (λ _. pure (trees.list at es))))
+
   unfoldable pub listed : ℕ → Q E
   listed at =
       branch (is t.CLOSE_BRACKET) (inner levels t.CLOSE_BRACKET >>= (λ _. pure (trees.list at none)))
-      (expr >>= (λ a.
-      branch (is t.SEMICOLON) (mark t.SEMICOLON >>= (λ _. expr >>= (λ n. mark t.CLOSE_BRACKET >>= (λ _. pure (trees.repeat at a n)))))
-      (more_args (pushed none a) >>= (λ es. mark t.CLOSE_BRACKET >>= (λ _. pure (trees.list at es))))))
+      (expr >>= (λ a. listed_rest at a))
 
   unfoldable pub called : ℕ → List ℕ → Q E
   called at name =
@@ -113,15 +117,25 @@ module _ (levels : ℕ) (unary expr : Q E) where
       mark t.OPEN_BRACE >>= (λ _. range_list >>= (λ rs. mark t.BAR >>= (λ _. expr >>= (λ body. mark t.CLOSE_BRACE >>= (λ _.
       pure (trees.quant at all rs body))))))
 
+  -- what begins with '[', '{', 'all' or 'some'
+  unfoldable pub collected : Q E
+  collected =
+      branch (is t.OPEN_BRACKET) (mark t.OPEN_BRACKET >>= listed)
+      (branch (is t.OPEN_BRACE) (mark t.OPEN_BRACE >>= (λ at. field_list >>= (λ fs. inner levels t.CLOSE_BRACE >>= (λ _. pure (trees.fields at fs)))))
+      (quantifier >>= (λ q. quantified q.0 q.1)))
+
+  -- what begins with a bracket, a bar, 'all' or 'some'
+  unfoldable pub enclosed : Q E
+  enclosed =
+      branch (is t.OPEN_PAREN) (mark t.OPEN_PAREN >>= (λ _. expr >>= (λ a. mark t.CLOSE_PAREN >>= (λ _. pure a))))
+      (branch (is t.BAR) (mark t.BAR >>= (λ at. sum unary >>= (λ a. mark t.BAR >>= (λ _. pure (trees.len at a)))))
+      collected)
+
   unfoldable pub primary : Q E
   primary =
       branch (has class.Literal) literal
       (branch (is t.NAME) (name >>= (λ w. called w.0 w.1))
-      (branch (is t.OPEN_PAREN) (mark t.OPEN_PAREN >>= (λ _. expr >>= (λ a. mark t.CLOSE_PAREN >>= (λ _. pure a))))
-      (branch (is t.BAR) (mark t.BAR >>= (λ at. sum unary >>= (λ a. mark t.BAR >>= (λ _. pure (trees.len at a)))))
-      (branch (is t.OPEN_BRACKET) (mark t.OPEN_BRACKET >>= listed)
-      (branch (is t.OPEN_BRACE) (mark t.OPEN_BRACE >>= (λ at. field_list >>= (λ fs. inner levels t.CLOSE_BRACE >>= (λ _. pure (trees.fields at fs)))))
-      (quantifier >>= (λ q. quantified q.0 q.1)))))))
+      enclosed)
 
   unfoldable pub step : E → Q E
   step a =

@@ -87,6 +87,7 @@ fn statements<'a, B: Fn(Global, &[Token], usize) -> Result<(Stmts, &[Token]), St
         made: Measured::Low(Items::new(nested.alloc), 0),
         begun: false,
     };
+    let _size = tokens.len();
     let mut rest = tokens;
     'pieces: loop {
         if halts(&progress, rest) && progress.switches.is_empty() {
@@ -100,7 +101,6 @@ fn statements<'a, B: Fn(Global, &[Token], usize) -> Result<(Stmts, &[Token]), St
 }
 
 // Whether the innermost block is at its end.
-#[tactic(auto, using(crate::proofs::OpenBlocks::block_levels))]
 fn halts(progress: &Progress, tokens: &[Token]) -> bool
     ensures { result ≡ (progress.now.begun && not (heads (sorts.has class.Statement) tokens.now)) }
 {
@@ -108,6 +108,7 @@ fn halts(progress: &Progress, tokens: &[Token]) -> bool
 }
 
 // A statement, the begin of a switch without cases, or the end of one.
+#[tactic(auto, using(crate::proofs::OpenBlocks::piece_steps))]
 fn piece<'a, B: Fn(Global, &[Token], usize) -> Result<(Stmts, &[Token]), Stop<Kind>>>(
     nested: &Nested<B>,
     progress: Progress,
@@ -131,6 +132,7 @@ fn piece<'a, B: Fn(Global, &[Token], usize) -> Result<(Stmts, &[Token]), Stop<Ki
 }
 
 // OUT OUT: the innermost open switch is whole.
+#[tactic(auto, using(crate::proofs::OpenBlocks::end_steps))]
 fn end(alloc: Global, progress: Progress, tokens: &[Token]) -> Read<'_, Progress>
     requires some { progress.switches ≢ [] }
     requires halts { (progress.begun && not (heads (sorts.has class.Statement) tokens.now)) ≡ true }
@@ -212,6 +214,7 @@ fn with(progress: Progress, stmt: Measured<Stmt>) -> Result<Progress, AllocError
 }
 
 // 'switch' expr ':' LINE IN, and then its cases, or the begin of its default
+#[tactic(auto, using(crate::proofs::OpenBlocks::switch_steps))]
 fn switch<'a, B: Fn(Global, &[Token], usize) -> Result<(Stmts, &[Token]), Stop<Kind>>>(
     nested: &Nested<B>,
     progress: Progress,

@@ -158,6 +158,16 @@ impl<
             let ((at, name), rest) = name(self.alloc, tokens)?;
             return self.called(at, name, rest);
         }
+        self.enclosed(tokens)
+    }
+
+    // What begins with a bracket, a bar, 'all' or 'some'.
+    #[tactic(auto, unfolding(crate::specs::ExprReading::enclosed))]
+    fn enclosed<'a>(&self, tokens: &'a [Token]) -> Read<'a, Measured<Expr>>
+        requires unary { Nests spec.unary self.now.levels (U.pre self.now.unary) (U.post self.now.unary) }
+        requires expr { Nests spec.expr self.now.levels (E.pre self.now.expr) (E.post self.now.expr) }
+        ensures { Reads (spec.enclosed self.now.levels (spec.unary self.now.levels) (spec.expr self.now.levels) tokens.now) result }
+    {
         if next_is(tokens, OPEN_PAREN) {
             let (_, rest) = mark(tokens, OPEN_PAREN)?;
             let (inner, rest) = self.inner_expr(rest)?;
@@ -170,6 +180,16 @@ impl<
             let (_, rest) = mark(rest, BAR)?;
             return Ok((len_node(self.alloc, at, inner)?, rest));
         }
+        self.collected(tokens)
+    }
+
+    // What begins with '[', '{', 'all' or 'some'.
+    #[tactic(auto, unfolding(crate::specs::ExprReading::collected))]
+    fn collected<'a>(&self, tokens: &'a [Token]) -> Read<'a, Measured<Expr>>
+        requires unary { Nests spec.unary self.now.levels (U.pre self.now.unary) (U.post self.now.unary) }
+        requires expr { Nests spec.expr self.now.levels (E.pre self.now.expr) (E.post self.now.expr) }
+        ensures { Reads (spec.collected self.now.levels (spec.unary self.now.levels) (spec.expr self.now.levels) tokens.now) result }
+    {
         if next_is(tokens, OPEN_BRACKET) {
             let (at, rest) = mark(tokens, OPEN_BRACKET)?;
             return self.listed(at, rest);
@@ -258,19 +278,34 @@ impl<
         requires expr { Nests spec.expr self.now.levels (E.pre self.now.expr) (E.post self.now.expr) }
         ensures { Reads (spec.listed self.now.levels (spec.unary self.now.levels) (spec.expr self.now.levels) at tokens.now) result }
     {
-        let none = Measured::Low(Items::new(self.alloc), 0);
         if next_is(tokens, CLOSE_BRACKET) {
             let (_, rest) = inner(tokens, CLOSE_BRACKET, self.levels)?;
-            return Ok((list_node(at, none), rest));
+            return Ok((list_node(at, Measured::Low(Items::new(self.alloc), 0)), rest));
         }
         let (first, rest) = self.inner_expr(tokens)?;
-        if next_is(rest, SEMICOLON) {
-            let (_, rest) = mark(rest, SEMICOLON)?;
+        self.listed_rest(at, first, rest)
+    }
+
+    // What stands behind the first item: ';' expr ']' | { ',' expr } ']'
+    #[tactic(auto, unfolding(crate::specs::ExprReading::listed_rest))]
+    fn listed_rest<'a>(
+        &self,
+        at: u32,
+        first: Measured<Expr>,
+        tokens: &'a [Token],
+    ) -> Read<'a, Measured<Expr>>
+        requires unary { Nests spec.unary self.now.levels (U.pre self.now.unary) (U.post self.now.unary) }
+        requires expr { Nests spec.expr self.now.levels (E.pre self.now.expr) (E.post self.now.expr) }
+        ensures { Reads (spec.listed_rest self.now.levels (spec.unary self.now.levels) (spec.expr self.now.levels) at first tokens.now) result }
+    {
+        if next_is(tokens, SEMICOLON) {
+            let (_, rest) = mark(tokens, SEMICOLON)?;
             let (count, rest) = self.inner_expr(rest)?;
             let (_, rest) = mark(rest, CLOSE_BRACKET)?;
             return Ok((repeat_node(self.alloc, at, first, count)?, rest));
         }
-        let (items, rest) = self.more_args(pushed(none, first)?, rest)?;
+        let none = Measured::Low(Items::new(self.alloc), 0);
+        let (items, rest) = self.more_args(pushed(none, first)?, tokens)?;
         let (_, rest) = mark(rest, CLOSE_BRACKET)?;
         Ok((list_node(at, items), rest))
     }
