@@ -245,7 +245,7 @@ module _ (most d e : ℕ) (h : 2 ≤ e) (u w v x : Q E) (go_u : Goes most u w) (
   go-ranges = goes-then (go-range none) (λ rs. goes-while (is t.COMMA) rs (λ qs. goes-then (goes-mark t.COMMA) (λ r. go-range qs)))
 
   go-listed : (at : ℕ) → Goes most (exprs.listed d u v at) (exprs.listed e w x at)
-  unfolding exprs.listed
+  unfolding exprs.listed exprs.listed_rest
   go-listed at =
       goes-branch (is t.CLOSE_BRACKET) (goes-then (goes-inner d e t.CLOSE_BRACKET (omega (arith, h))) (λ r. goes-pure _))
       (goes-then go_v (λ a.
@@ -283,7 +283,7 @@ module _ (most d e : ℕ) (h : 2 ≤ e) (u w v x : Q E) (go_u : Goes most u w) (
   record_expr at = goes-then go-record_fields (λ fs. goes-then (goes-inner d e t.CLOSE_BRACE (omega (arith, h))) (λ r. goes-pure _))
 
   go-primary : Goes most (exprs.primary d u v) (exprs.primary e w x)
-  unfolding exprs.primary
+  unfolding exprs.primary exprs.enclosed exprs.collected
   go-primary =
       goes-branch (has class.Literal) go-literal
       (goes-branch (is t.NAME) (goes-then goes-name (λ n. go-called n.0 n.1))
@@ -320,7 +320,7 @@ module _ (most d e : ℕ) (h : 2 ≤ e) (u w v x : Q E) (go_u : Goes most u w) (
   primaries = members class.Literal ++ from_name
 
   take-primary : Takes primaries (exprs.primary e w x)
-  unfolding exprs.primary
+  unfolding exprs.primary exprs.enclosed exprs.collected
   take-primary =
       takes-class (members class.Literal) primaries from_name refl take-literal
       (takes-is t.NAME from_name from_paren refl (name-on (λ n. (go-called n.0 n.1).within))
