@@ -143,10 +143,24 @@ no_default levels w i h = by (heads (is t.CASE) i) refl
     by false e = rw (e, alone-lacks levels w i h) (sym (with_cases-lacks levels i e))
 
 -- a default without cases
+two_at : {A B : Type 0} (r : Outcome Token Kind ℕ) (n : Q ℕ) (g : Q A) (f : A → Q B) → and_then (and_then r (λ u. n >>= (λ v. g))) f ≡ and_then (and_then r (λ u. n)) (λ x. g >>= f)
+two_at (Ok y) n g f = bind-assoc (n y.1) (λ v. g) f
+two_at (Err e) n g f = refl
+
+three_at : {A B : Type 0} (r : Outcome Token Kind ℕ) (l n : Q ℕ) (g : Q A) (f : A → Q B)
+    → and_then r (λ b. (l >>= (λ u. n >>= (λ v. g))) >>= f) ≡ and_then (and_then r (λ b. l >>= (λ u. n))) (λ x. g >>= f)
+three_at (Ok y) l n g f = two_at (l y.1) n g f
+three_at (Err e) l n g f = refl
+
+four_at : {A B : Type 0} (r : Outcome Token Kind ℕ) (c l n : Q ℕ) (g : Q A) (f : A → Q B)
+    → and_then r (λ a. c >>= (λ b. (l >>= (λ u. n >>= (λ v. g))) >>= f)) ≡ and_then (and_then r (λ a. c >>= (λ b. l >>= (λ u. n)))) (λ x. g >>= f)
+four_at (Ok y) c l n g f = three_at (c y.1) l n g f
+four_at (Err e) c l n g f = refl
+
 default_shape : (g : Q Stmts) (i : List Token)
     → default (mark t.LINE_END >>= (λ u. mark t.BLOCK_IN >>= (λ v. g))) none i ≡ and_then (lone_default i) (λ x. g >>= (λ body. mark t.BLOCK_OUT >>= (λ y. pure (both none (some body)))))
 unfolding default lone_default
-default_shape g i = simp bind-assoc
+default_shape g i = four_at (mark t.DEFAULT i) (mark t.COLON) (mark t.LINE_END) (mark t.BLOCK_IN) g (λ body. mark t.BLOCK_OUT >>= (λ y. pure (both none (some body))))
 
 default_begins : (levels w : ℕ) (i : List Token)
     → default (block true levels (below levels) w) none i ≡ and_then (lone_default i) (λ x. going levels w false none >>= (λ body. mark t.BLOCK_OUT >>= (λ y. pure (both none (some body)))))
@@ -169,12 +183,23 @@ switch_at : (levels w : ℕ) (i : List Token) (place : ℕ) (value : E) (j : Lis
     → read.statement true levels (below levels) (alone levels w) i ≡ and_then (branch (is t.CASE) (with_cases levels) (alone levels w) j) (λ cs. pure (trees.switch_node place value cs))
 switch_at levels w i place value j b = the_switch levels w i b.0 ∙ rw b.1 refl
 
+flat_mark : (r : Outcome Token Kind ℕ) (cs : Cases) (st : Cases → S) (ss : S → Stmts) (rest : Stmts → Q Stmts)
+    → and_then (and_then (and_then (and_then r (λ y. pure cs)) (λ c. pure (st c))) (λ s. pure (ss s))) rest ≡ and_then r (λ y. rest (ss (st cs)))
+flat_mark (Ok y) cs st ss rest = refl
+flat_mark (Err e) cs st ss rest = refl
+
+flat : (r : Outcome Token Kind Stmts) (m : Q ℕ) (cs : Stmts → Cases) (st : Cases → S) (ss : S → Stmts) (rest : Stmts → Q Stmts)
+    → and_then (and_then (and_then (and_then r (λ body. m >>= (λ y. pure (cs body)))) (λ c. pure (st c))) (λ s. pure (ss s))) rest ≡ and_then r (λ body. m >>= (λ y. rest (ss (st (cs body)))))
+flat (Ok y) m cs st ss rest = flat_mark (m y.1) (cs y.0) st ss rest
+flat (Err e) m cs st ss rest = refl
+
 -- its default's block is read in its place
 open-goes : (levels w v : ℕ) (begun : Bool) (ss : Stmts) (i : List Token) (place : ℕ) (value : E) (j k : List Token) (x : ℕ) → w ≡ suc v → Follows begun i → Begun levels i place value j
     → heads (is t.DEFAULT) j ≡ true → lone_default j ≡ Ok (x, k)
     → going levels w begun ss i ≡ behind levels w (record { at = place; value = value; before = ss }) (going levels v false none) k
 open-goes levels w v begun ss i place value j k x e f b h d =
-    one_more levels w begun ss i f ∙ rw (switch_at levels w i place value j b, no_case j h, alone_begins levels w v j e, d) (simp bind-assoc)
+    one_more levels w begun ss i f ∙ rw (switch_at levels w i place value j b, no_case j h, alone_begins levels w v j e, d)
+        (flat (going levels v false none k) (mark t.BLOCK_OUT) (λ body. both none (some body)) (λ cs. trees.switch_node place value cs) (λ st. pushed ss st) (rest_at levels w))
 
 open-fails : (levels w v : ℕ) (begun : Bool) (ss : Stmts) (i : List Token) (place : ℕ) (value : E) (j : List Token) (x : Stop Kind) → w ≡ suc v → Follows begun i → Begun levels i place value j
     → heads (is t.DEFAULT) j ≡ true → lone_default j ≡ Err x → going levels w begun ss i ≡ Err x
