@@ -185,8 +185,12 @@ module _ (rule : Mode → R D) (decl : Mode → Q D) (every : (m : Mode) → Exa
     from_turns {c = c} {i = i} {b = b} {j = j} (more c' j' r rest) zero e = absurd (subst (λ (o : Bool). Reads o i r.0 r.1) (no-place c.1 e) r.2)
     from_turns {c = c} {i = i} {b = b} {j = j} (more c' j' r rest) (suc left) e =
         let later = from_turns rest left (omega (arith, e, ap (λ (x : Counted). x.1) r.3.0)) in
-        inl (r.0, r.1, subst (λ (o : Bool). Reads o i r.0 r.1) (place-left c.1 left e) r.2,
-            subst (λ (l : List Token). (Row left (pushed c r.0)).reads l b j) (sym r.3.1) (subst (λ (x : Counted). (Row left x).reads j' b j) r.3.0 later))
+        inl (
+          r.0,
+          r.1,
+          subst (λ (o : Bool). Reads o i r.0 r.1) (place-left c.1 left e) r.2,
+          subst (λ (l : List Token). (Row left (pushed c r.0)).reads l b j) (sym r.3.1) (subst (λ (x : Counted). (Row left x).reads j' b j) r.3.0 later),
+        )
 
     to_met : (left : ℕ) (c : Counted) (i : List Token) (y : Kind) (l : ℕ) → c.1 + left ≡ most → (Row left c).meets i y l → (Every c).meets i y l
     unfolding Row
@@ -215,8 +219,12 @@ module _ (rule : Mode → R D) (decl : Mode → Q D) (every : (m : Mode) → Exa
     from_met {c = c} {i = i} (more c' j' r rest) y l h zero e = absurd (subst (λ (o : Bool). Reads o i r.0 r.1) (no-place c.1 e) r.2)
     from_met {c = c} {i = i} (more c' j' r rest) y l h (suc left) e =
         let later = from_met rest y l h left (omega (arith, e, ap (λ (x : Counted). x.1) r.3.0)) in
-        inl (inr (r.0, r.1, subst (λ (o : Bool). Reads o i r.0 r.1) (place-left c.1 left e) r.2,
-            subst (λ (w : List Token). (Row left (pushed c r.0)).meets w y l) (sym r.3.1) (subst (λ (x : Counted). (Row left x).meets j' y l) r.3.0 later)))
+        inl (inr (
+          r.0,
+          r.1,
+          subst (λ (o : Bool). Reads o i r.0 r.1) (place-left c.1 left e) r.2,
+          subst (λ (w : List Token). (Row left (pushed c r.0)).meets w y l) (sym r.3.1) (subst (λ (x : Counted). (Row left x).meets j' y l) r.3.0 later),
+        ))
 
     strict-exact : (c : Counted) → c.1 + most ≡ most → Exact strictly (Every c) (all c) AfterDecls BeginsDecls
     strict-exact c e =
@@ -244,8 +252,8 @@ module _ (rule : Mode → R D) (decl : Mode → Q D) (every : (m : Mode) → Exa
     lax-exact : (c : Counted) → Exact laxly (Loop (NextDecl false (rule laxly)) c) (all c) AfterDecls BeginsDecls
     lax-exact c =
         adapt (same_readers (all c)
-            (repetition_before (has class.Declaration) grown-exact (λ i h. h) (λ i f. at t.END (members class.Declaration) i f) (λ i f. tt) (λ i h. tt) (some k.End ∷ []) refl c)
-            (λ m le i. uncapped m.strict m c i le.1))
+        (repetition_before (has class.Declaration) grown-exact (λ i h. h) (λ i f. at t.END (members class.Declaration) i f) (λ i f. tt) (λ i h. tt) (some k.End ∷ []) refl c)
+        (λ m le i. uncapped m.strict m c i le.1))
         (λ i f. f) (λ i b. elim b [ inl h ↦ inr h | inr h ↦ inl h ]) (λ a p. tt)
 
   by_checks : (s : Bool) (d : ℕ) (c : Counted) → c.1 + most ≡ most

@@ -78,18 +78,18 @@ module _ (n : Mode) where
   inner_type-exact =
       sequence inner-exact
       (λ ty. choice (is t.NAME)
-          (sequence (name-exact {F = Any}) (λ w. sequence (mark-exact {F = Any} t.CLOSE_PAREN (some k.CloseParen) refl) (λ r. nothing (ty, Some w.1)) (λ i b. tt)) (λ i b. tt))
-          (sequence (mark-exact {F = Any} t.CLOSE_PAREN (some k.CloseParen) refl) (λ r. sequence (type_rest-exact n ty) (λ whole. nothing (whole, None)) (λ i f. f)) (λ i b. tt))
-          (λ i h. h) (λ i h. at_other t.NAME t.CLOSE_PAREN i refl h))
+      (sequence (name-exact {F = Any}) (λ w. sequence (mark-exact {F = Any} t.CLOSE_PAREN (some k.CloseParen) refl) (λ r. nothing (ty, Some w.1)) (λ i b. tt)) (λ i b. tt))
+      (sequence (mark-exact {F = Any} t.CLOSE_PAREN (some k.CloseParen) refl) (λ r. sequence (type_rest-exact n ty) (λ whole. nothing (whole, None)) (λ i f. f)) (λ i b. tt))
+      (λ i h. h) (λ i h. at_other t.NAME t.CLOSE_PAREN i refl h))
       (λ i b. elim b [ inl h ↦ at t.NAME joins_type i h | inr h ↦ at t.CLOSE_PAREN joins_type i h ])
 
   named_type-exact : Exact n (rule.NamedType n.depth) (λ m. read.named_type m.depth) AfterType BeginsType
   unfolding read.named_type rule.NamedType
   named_type-exact =
       adapt (choice (is t.OPEN_PAREN)
-          (sequence (mark-exact {F = Any} t.OPEN_PAREN (some k.OpenParen) refl) (λ r. inner_type-exact) (λ i b. tt))
-          (sequence bare-exact (λ ty. nothing (ty, None)) (λ i f. f))
-          (λ i h. h) (λ i b. b.1))
+      (sequence (mark-exact {F = Any} t.OPEN_PAREN (some k.OpenParen) refl) (λ r. inner_type-exact) (λ i b. tt))
+      (sequence bare-exact (λ ty. nothing (ty, None)) (λ i f. f))
+      (λ i h. h) (λ i b. b.1))
       (λ i f. f) (λ i b. elim b [ inl h ↦ at t.OPEN_PAREN (members class.Type) i h | inr h ↦ h.0 ]) (λ a p. tt)
 
   method_result-exact : Exact n (rule.MethodResult n.depth) (λ m. read.method_result m.depth) (After after_result) (λ i. Passes (is t.ARROW) i ⊎ After after_result i)
@@ -97,17 +97,17 @@ module _ (n : Mode) where
   method_result-exact =
       choice (is t.ARROW)
       (sequence (mark-exact {F = Any} t.ARROW (some k.Arrow) refl)
-          (λ r. adapt {F' = After after_result} {B' = Any} (choice (is t.OPEN_PAREN)
-              (sequence (mark-exact {F = Any} t.OPEN_PAREN (some k.OpenParen) refl)
-                  (λ r. choice (is t.CLOSE_PAREN)
-                      (sequence (mark-exact {F = Any} t.CLOSE_PAREN (some k.CloseParen) refl) (λ r. nothing (Low None 0)) (λ i b. tt))
-                      (sequence inner_type-exact (λ p. nothing (parts.some (trees.given p.0 p.1))) (λ i f. f))
-                      (λ i h. h) (λ i h. no t.CLOSE_PAREN (members class.Type) i refl h))
-                  (λ i b. tt))
-              (sequence bare-exact (λ ty. nothing (parts.some (trees.given ty None))) (λ i f. f))
-              (λ i h. h) (λ i b. b.1))
-          (λ i f. fewer joins_type after_result i refl f) (λ i b. tt) (λ a p. tt))
-          (λ i b. tt))
+      (λ r. adapt {F' = After after_result} {B' = Any} (choice (is t.OPEN_PAREN)
+      (sequence (mark-exact {F = Any} t.OPEN_PAREN (some k.OpenParen) refl)
+      (λ r. choice (is t.CLOSE_PAREN)
+      (sequence (mark-exact {F = Any} t.CLOSE_PAREN (some k.CloseParen) refl) (λ r. nothing (Low None 0)) (λ i b. tt))
+      (sequence inner_type-exact (λ p. nothing (parts.some (trees.given p.0 p.1))) (λ i f. f))
+      (λ i h. h) (λ i h. no t.CLOSE_PAREN (members class.Type) i refl h))
+      (λ i b. tt))
+      (sequence bare-exact (λ ty. nothing (parts.some (trees.given ty None))) (λ i f. f))
+      (λ i h. h) (λ i b. b.1))
+      (λ i f. fewer joins_type after_result i refl f) (λ i b. tt) (λ a p. tt))
+      (λ i b. tt))
       (nothing (Low None 0)) (λ i h. h) (λ i f. one_out t.ARROW after_result i refl f)
 
   -- ---- parameters
@@ -135,8 +135,8 @@ module _ (n : Mode) where
   parameters-exact =
       sequence (mark-exact {F = Any} t.OPEN_PAREN (some k.OpenParen) refl)
       (λ r. sequence param_row-exact
-          (λ ps. sequence (mark-exact {F = Any} t.CLOSE_PAREN (some k.CloseParen) refl) (λ r. nothing ps) (λ i b. tt))
-          (λ i h. (at_other t.COMMA t.CLOSE_PAREN i refl h, at t.CLOSE_PAREN (members class.Type) i h)))
+      (λ ps. sequence (mark-exact {F = Any} t.CLOSE_PAREN (some k.CloseParen) refl) (λ r. nothing ps) (λ i b. tt))
+      (λ i h. (at_other t.COMMA t.CLOSE_PAREN i refl h, at t.CLOSE_PAREN (members class.Type) i h)))
       (λ i b. tt)
 
   -- ---- clauses
@@ -167,14 +167,14 @@ module _ (n : Mode) where
   alias_decl-exact =
       sequence (mark-exact {F = Any} t.TYPE (some k.TypeWord) refl)
       (λ place. sequence (name-exact {F = Any})
-          (λ w. sequence (mark-exact {F = Any} t.IS (some k.Is) refl)
-              (λ r. sequence named_type-exact
-                  (λ p. sequence (alias_clauses-exact p.1)
-                      (λ es. sequence (mark-exact {F = Any} t.LINE_END (some k.LineEnd) refl) (λ r. nothing (trees.alias_node place w.1 p.0 p.1 es)) (λ i b. tt))
-                      (λ i h. at t.LINE_END after_clauses i h))
-                  behind_type)
-              (λ i b. tt))
-          (λ i b. tt))
+      (λ w. sequence (mark-exact {F = Any} t.IS (some k.Is) refl)
+      (λ r. sequence named_type-exact
+      (λ p. sequence (alias_clauses-exact p.1)
+      (λ es. sequence (mark-exact {F = Any} t.LINE_END (some k.LineEnd) refl) (λ r. nothing (trees.alias_node place w.1 p.0 p.1 es)) (λ i b. tt))
+      (λ i h. at t.LINE_END after_clauses i h))
+      behind_type)
+      (λ i b. tt))
+      (λ i b. tt))
       (λ i b. tt)
 
   property_decl-exact : Exact n (rule.PropertyDecl n.strict n.depth) (λ m. read.property_decl m.strict m.depth) Any (Passes (is t.PROPERTY))
@@ -182,23 +182,23 @@ module _ (n : Mode) where
   property_decl-exact =
       sequence (mark-exact {F = Any} t.PROPERTY (some k.Property) refl)
       (λ place. sequence (name-exact {F = Any})
-          (λ w. sequence parameters-exact
-              (λ ps. sequence (where_clause-exact n parts.none)
-                  (λ es. sequence (wheres-exact n es)
-                      (λ all. sequence (mark-exact {F = Any} t.LINE_END (some k.LineEnd) refl) (λ r. nothing (trees.property_node place w.1 ps all)) (λ i b. tt))
-                      (λ i h. at t.LINE_END after_clauses i h))
-                  behind)
-              (λ i b. tt))
-          (λ i b. tt))
+      (λ w. sequence parameters-exact
+      (λ ps. sequence (where_clause-exact n parts.none)
+      (λ es. sequence (wheres-exact n es)
+      (λ all. sequence (mark-exact {F = Any} t.LINE_END (some k.LineEnd) refl) (λ r. nothing (trees.property_node place w.1 ps all)) (λ i b. tt))
+      (λ i h. at t.LINE_END after_clauses i h))
+      behind)
+      (λ i b. tt))
+      (λ i b. tt))
       (λ i b. tt)
 
   clause-exact : (c : Contract) → Exact n (rule.Clause n.strict n.depth c) (λ m. read.clause m.strict m.depth c) (After after_expr) (Passes (has class.Clause))
   unfolding read.clause
   clause-exact c =
       adapt (choice (is t.REQUIRES)
-          (sequence (mark-exact {F = Any} t.REQUIRES (some k.Requires) refl) (λ r. sequence (expr-exact n) (λ a. nothing (parts.pushed c.0 a, c.1)) (λ i f. f)) (λ i b. tt))
-          (sequence (mark-exact {F = Any} t.ENSURES (some k.Ensures) refl) (λ r. sequence (expr-exact n) (λ a. nothing (c.0, parts.pushed c.1 a)) (λ i f. f)) (λ i b. tt))
-          (λ i h. h) (λ i h. at_other t.REQUIRES t.ENSURES i refl h))
+      (sequence (mark-exact {F = Any} t.REQUIRES (some k.Requires) refl) (λ r. sequence (expr-exact n) (λ a. nothing (parts.pushed c.0 a, c.1)) (λ i f. f)) (λ i b. tt))
+      (sequence (mark-exact {F = Any} t.ENSURES (some k.Ensures) refl) (λ r. sequence (expr-exact n) (λ a. nothing (c.0, parts.pushed c.1 a)) (λ i f. f)) (λ i b. tt))
+      (λ i h. h) (λ i h. at_other t.REQUIRES t.ENSURES i refl h))
       (λ i f. f) (λ i b. elim b [ inl h ↦ member t.REQUIRES (members class.Clause) i refl h | inr h ↦ member t.ENSURES (members class.Clause) i refl h ]) (λ a p. tt)
 
   -- behind a result stand clauses, or the colon
@@ -206,7 +206,7 @@ module _ (n : Mode) where
   unfolding read.contract_of rule.ContractOf
   contract-exact =
       adapt (repetition_before (has class.Clause) clause-exact (λ i h. h) (λ i f. at t.COLON (members class.Clause) i f) (λ i f. at t.COLON after_expr i f)
-          (λ i h. apart (members class.Clause) after_expr i refl h) (some k.Colon ∷ []) refl (parts.none, parts.none))
+      (λ i h. apart (members class.Clause) after_expr i refl h) (some k.Colon ∷ []) refl (parts.none, parts.none))
       (λ i f. f) (λ i b. elim b [ inl h ↦ member t.COLON contract_begins i refl h | inr h ↦ wider (members class.Clause) contract_begins i refl h ])
       (λ a p. tt)
 
@@ -218,17 +218,17 @@ module _ (n : Mode) where
     function_decl-exact =
         sequence (mark-exact {F = Any} t.FUNCTION (some k.Function) refl)
         (λ place. sequence (name-exact {F = Any})
-            (λ w. sequence parameters-exact
-                (λ ps. sequence (mark-exact {F = Any} t.ARROW (some k.Arrow) refl)
-                    (λ r. sequence named_type-exact
-                        (λ p. sequence contract-exact
-                            (λ c. sequence (mark-exact {F = Any} t.COLON (some k.Colon) refl)
-                                (λ r. sequence block_is (λ body. nothing (trees.function_node place w.1 ps (trees.given p.0 p.1) c body)) (λ i f. tt)) (λ i b. tt))
-                            (λ i h. h))
-                        (λ i h. apart contract_begins joins_type i refl h))
-                    (λ i b. tt))
-                (λ i b. tt))
-            (λ i b. tt))
+        (λ w. sequence parameters-exact
+        (λ ps. sequence (mark-exact {F = Any} t.ARROW (some k.Arrow) refl)
+        (λ r. sequence named_type-exact
+        (λ p. sequence contract-exact
+        (λ c. sequence (mark-exact {F = Any} t.COLON (some k.Colon) refl)
+        (λ r. sequence block_is (λ body. nothing (trees.function_node place w.1 ps (trees.given p.0 p.1) c body)) (λ i f. tt)) (λ i b. tt))
+        (λ i h. h))
+        (λ i h. apart contract_begins joins_type i refl h))
+        (λ i b. tt))
+        (λ i b. tt))
+        (λ i b. tt))
         (λ i b. tt)
 
     method_decl-exact : Exact n (rule.MethodDecl n.strict n.depth B) (λ m. read.method_decl m.strict m.depth (b m)) Any (Passes (is t.METHOD))
@@ -236,15 +236,15 @@ module _ (n : Mode) where
     method_decl-exact =
         sequence (mark-exact {F = Any} t.METHOD (some k.Method) refl)
         (λ place. sequence (name-exact {F = Any})
-            (λ w. sequence parameters-exact
-                (λ ps. sequence method_result-exact
-                    (λ p. sequence contract-exact
-                        (λ c. sequence (mark-exact {F = Any} t.COLON (some k.Colon) refl)
-                            (λ r. sequence block_is (λ body. nothing (trees.method_node place w.1 ps p c body)) (λ i f. tt)) (λ i b. tt))
-                        (λ i h. h))
-                    (λ i h. apart contract_begins after_result i refl h))
-                (λ i b. tt))
-            (λ i b. tt))
+        (λ w. sequence parameters-exact
+        (λ ps. sequence method_result-exact
+        (λ p. sequence contract-exact
+        (λ c. sequence (mark-exact {F = Any} t.COLON (some k.Colon) refl)
+        (λ r. sequence block_is (λ body. nothing (trees.method_node place w.1 ps p c body)) (λ i f. tt)) (λ i b. tt))
+        (λ i h. h))
+        (λ i h. apart contract_begins after_result i refl h))
+        (λ i b. tt))
+        (λ i b. tt))
         (λ i b. tt)
 
     pub declaration-exact : Exact n (rule.Declaration n.strict n.depth B) (λ m. read.declaration m.strict m.depth (b m)) Any (Passes (has class.Declaration))

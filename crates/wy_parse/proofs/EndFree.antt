@@ -291,7 +291,7 @@ module _ (s : Bool) (levels : ℕ) where
 free-label : (ls : List Expr) → Free (stmts.Label ls)
 free-label ls =
     free-or (free-then (free-mark t.MINUS refl) (λ at.
-        free-then (free-or (free-then (free-touching at) (λ s. free-pure _)) (free-unless (touches at) (free-then (free-is t.NUMERAL refl) (λ s. free-pure _)))) (λ n. free-pure _)))
+    free-then (free-or (free-then (free-touching at) (λ s. free-pure _)) (free-unless (touches at) (free-then (free-is t.NUMERAL refl) (λ s. free-pure _)))) (λ n. free-pure _)))
     (free-then (free-then (free-has (members class.LabelWord) refl) (λ s. free-pure _)) (λ l. free-pure _))
 
 free-labels : Free stmts.Labels
@@ -325,8 +325,8 @@ module _ (s : Bool) (levels : ℕ) (B : R Stmts) (b : Free B) where
   free-if I i =
       free-then (free-mark t.IF refl) (λ at. free-then (free-expr s levels) (λ test. free-then (free-mark t.COLON refl) (λ r. free-then b (λ first.
       free-then (free-or
-          (free-then (free-mark t.ELSE refl) (λ r. free-or (free-then (free-mark t.COLON refl) (λ r. b)) (free-then i (λ st. free-pure _))))
-          (free-pure none))
+      (free-then (free-mark t.ELSE refl) (λ r. free-or (free-then (free-mark t.COLON refl) (λ r. b)) (free-then i (λ st. free-pure _))))
+      (free-pure none))
       (λ second. free-pure _)))))
 
 free-case_rest : (B : R Stmts) → Free B → (cs : CaseList) → Free (blocks.CaseRest B cs)
@@ -424,8 +424,8 @@ module _ (levels : ℕ) where
   unfolding decls.MethodResult
   free-method_result =
       free-or (free-then (free-mark t.ARROW refl) (λ r.
-          free-or (free-then (free-mark t.OPEN_PAREN refl) (λ r. free-or (free-then (free-mark t.CLOSE_PAREN refl) (λ r. free-pure _)) (free-then free-inner_type (λ p. free-pure _))))
-          (free-then (free-unless (is t.OPEN_PAREN) (free-type levels)) (λ ty. free-pure _))))
+      free-or (free-then (free-mark t.OPEN_PAREN refl) (λ r. free-or (free-then (free-mark t.CLOSE_PAREN refl) (λ r. free-pure _)) (free-then free-inner_type (λ p. free-pure _))))
+      (free-then (free-unless (is t.OPEN_PAREN) (free-type levels)) (λ ty. free-pure _))))
       (free-pure _)
 
   free-one_param : (ps : Params) → Free (decls.OneParam levels ps)

@@ -165,9 +165,9 @@ both-exact zero s =
     let n : Mode = record { depth = zero; strict = s } in
     record {
       unary_is = closed n (has class.Expression) Deep unary_read (After after_unary) (λ a. ⊤) (λ m i h. unary_none m.strict m.depth i h) (λ i h. rw h refl)
-          (record { text = null ∷ []; made = leaf 0 e.Null; wanted = tt; deep = 1; alive = λ m le deep z f. unary-null z m.strict m.depth deep f; starts = λ z f. refl; });
+          (record { text = null ∷ []; made = leaf 0 e.Null; wanted = tt; deep = 1; alive = λ m le deep z f. unary-null z m.strict m.depth deep f; starts = λ z f. refl });
       expr_is = closed n (has class.Expression) Deep expr_read (After after_expr) (λ a. ⊤) (λ m i h. expr_none m.strict m.depth i h) (λ i h. rw h refl)
-          (record { text = null ∷ []; made = leaf 0 e.Null; wanted = tt; deep = 1; alive = λ m le deep z f. expr-null z m.strict m.depth deep f; starts = λ z f. refl; });
+          (record { text = null ∷ []; made = leaf 0 e.Null; wanted = tt; deep = 1; alive = λ m le deep z f. expr-null z m.strict m.depth deep f; starts = λ z f. refl });
     }
 both-exact (suc d) s = let b = both-exact d s in record { unary_is = unary-step d s b; expr_is = expr-step d s b }
 

@@ -75,9 +75,9 @@ module _ (d : ℕ) (s : Bool) (U : R E) (u : Mode → Q E) (V : R E) (v : Mode �
     arg_list-exact =
         choice (has class.Expression)
         (sequence vexact
-            (λ a. repetition (is t.COMMA) next_arg-exact (λ i h. h) (λ i f. one_out t.COMMA after_args i refl f.0) (λ i f. fewer after_expr after_args i refl f.0)
-                (λ i h. at t.COMMA after_expr i h) (refl, refl) (pushed none a))
-            (λ i b. elim b [ inl f ↦ fewer after_expr after_args i refl f.0 | inr h ↦ at t.COMMA after_expr i h ]))
+        (λ a. repetition (is t.COMMA) next_arg-exact (λ i h. h) (λ i f. one_out t.COMMA after_args i refl f.0) (λ i f. fewer after_expr after_args i refl f.0)
+        (λ i h. at t.COMMA after_expr i h) (refl, refl) (pushed none a))
+        (λ i b. elim b [ inl f ↦ fewer after_expr after_args i refl f.0 | inr h ↦ at t.COMMA after_expr i h ]))
         (nothing none) (λ i h. h) (λ i f. f.1)
 
     items-exact : (es : Args) → Exact n (rule.MoreArgs d U V es) (λ m. read.more_args m.depth (u m) (v m) es) (Passes (is t.CLOSE_BRACKET))
@@ -104,9 +104,9 @@ module _ (d : ℕ) (s : Bool) (U : R E) (u : Mode → Q E) (V : R E) (v : Mode �
     field_list-exact =
         choice (is t.NAME)
         (sequence (field-exact none)
-            (λ fs. repetition (is t.COMMA) next_field-exact (λ i h. h) (λ i f. one_out t.COMMA after_args i refl f.0) (λ i f. fewer after_expr after_args i refl f.0)
-                (λ i h. at t.COMMA after_expr i h) (refl, refl) fs)
-            (λ i b. elim b [ inl f ↦ fewer after_expr after_args i refl f.0 | inr h ↦ at t.COMMA after_expr i h ]))
+        (λ fs. repetition (is t.COMMA) next_field-exact (λ i h. h) (λ i f. one_out t.COMMA after_args i refl f.0) (λ i f. fewer after_expr after_args i refl f.0)
+        (λ i h. at t.COMMA after_expr i h) (refl, refl) fs)
+        (λ i b. elim b [ inl f ↦ fewer after_expr after_args i refl f.0 | inr h ↦ at t.COMMA after_expr i h ]))
         (nothing none) (λ i h. h) (λ i f. f.1)
 
     range-exact : (rs : Ranges) → Exact n (rule.Range d U V rs) (λ m. read.range m.depth (u m) (v m) rs) (After after_sum) (Passes (is t.NAME))
@@ -114,10 +114,10 @@ module _ (d : ℕ) (s : Bool) (U : R E) (u : Mode → Q E) (V : R E) (v : Mode �
     range-exact rs =
         sequence (inner_name-exact {F = Any} d s)
         (λ w. sequence (mark-exact {F = Any} t.IN (some k.In) refl)
-            (λ r. sequence (sum-exact n U u uexact)
-                (λ a. sequence (mark-exact {F = Any} t.RANGE (some k.Range) refl)
-                    (λ r. sequence (sum-exact n U u uexact) (λ b. nothing (pushed rs (trees.range w.1 a b))) (λ i f. f)) (λ i b. tt))
-                (λ i h. at t.RANGE after_sum i h)) (λ i b. tt)) (λ i b. tt)
+        (λ r. sequence (sum-exact n U u uexact)
+        (λ a. sequence (mark-exact {F = Any} t.RANGE (some k.Range) refl)
+        (λ r. sequence (sum-exact n U u uexact) (λ b. nothing (pushed rs (trees.range w.1 a b))) (λ i f. f)) (λ i b. tt))
+        (λ i h. at t.RANGE after_sum i h)) (λ i b. tt)) (λ i b. tt)
 
     next_range-exact : (rs : Ranges) → Exact n (rule.NextRange d U V rs) (λ m. read.next_range m.depth (u m) (v m) rs) (After after_sum) (Passes (is t.COMMA))
     next_range-exact rs = sequence (mark-exact {F = Any} t.COMMA (some k.Comma) refl) (λ r. range-exact rs) (λ i b. tt)
@@ -127,7 +127,7 @@ module _ (d : ℕ) (s : Bool) (U : R E) (u : Mode → Q E) (V : R E) (v : Mode �
     range_list-exact =
         sequence (range-exact none)
         (λ rs. repetition (is t.COMMA) next_range-exact (λ i h. h) (λ i f. one_out t.COMMA after_ranges i refl f) (λ i f. fewer after_sum after_ranges i refl f)
-            (λ i h. at t.COMMA after_sum i h) refl rs)
+        (λ i h. at t.COMMA after_sum i h) refl rs)
         (λ i b. elim b [ inl f ↦ fewer after_sum after_ranges i refl f | inr h ↦ at t.COMMA after_sum i h ])
 
     -- a bracket that closes a pair which may be empty
@@ -140,16 +140,16 @@ module _ (d : ℕ) (s : Bool) (U : R E) (u : Mode → Q E) (V : R E) (v : Mode �
         choice (is t.CLOSE_BRACKET)
         (sequence (closing-exact {F = Any} t.CLOSE_BRACKET (some k.CloseBracket) refl) (λ r. nothing (trees.list place none)) (λ i b. tt))
         (sequence vexact
-            (λ a. choice (is t.SEMICOLON)
-                (sequence (mark-exact {F = Any} t.SEMICOLON (some k.Semicolon) refl)
-                    (λ r. sequence vexact
-                        (λ c. sequence (mark-exact {F = Any} t.CLOSE_BRACKET (some k.CloseBracket) refl) (λ r. nothing (trees.repeat place a c)) (λ i b. tt))
-                        (λ i h. at t.CLOSE_BRACKET after_expr i h)) (λ i b. tt))
-                (sequence (items-exact (pushed none a))
-                    (λ es. sequence (mark-exact {F = Any} t.CLOSE_BRACKET (some k.CloseBracket) refl) (λ r. nothing (trees.list place es)) (λ i b. tt)) (λ i h. h))
-                (λ i h. h)
-                (λ i b. elim b [ inl h ↦ at_other t.SEMICOLON t.CLOSE_BRACKET i refl h | inr h ↦ at_other t.SEMICOLON t.COMMA i refl h ]))
-            (λ i b. link i b))
+        (λ a. choice (is t.SEMICOLON)
+        (sequence (mark-exact {F = Any} t.SEMICOLON (some k.Semicolon) refl)
+        (λ r. sequence vexact
+        (λ c. sequence (mark-exact {F = Any} t.CLOSE_BRACKET (some k.CloseBracket) refl) (λ r. nothing (trees.repeat place a c)) (λ i b. tt))
+        (λ i h. at t.CLOSE_BRACKET after_expr i h)) (λ i b. tt))
+        (sequence (items-exact (pushed none a))
+        (λ es. sequence (mark-exact {F = Any} t.CLOSE_BRACKET (some k.CloseBracket) refl) (λ r. nothing (trees.list place es)) (λ i b. tt)) (λ i h. h))
+        (λ i h. h)
+        (λ i b. elim b [ inl h ↦ at_other t.SEMICOLON t.CLOSE_BRACKET i refl h | inr h ↦ at_other t.SEMICOLON t.COMMA i refl h ]))
+        (λ i b. link i b))
         (λ i h. h) (λ i h. no t.CLOSE_BRACKET (members class.Expression) i refl h)
       where
         link : (i : List Token) → Passes (is t.SEMICOLON) i ⊎ (Passes (is t.CLOSE_BRACKET) i ⊎ Passes (is t.COMMA) i) → After after_expr i
@@ -163,9 +163,9 @@ module _ (d : ℕ) (s : Bool) (U : R E) (u : Mode → Q E) (V : R E) (v : Mode �
     called-exact place w =
         choice (is t.OPEN_PAREN)
         (sequence (mark-exact {F = Any} t.OPEN_PAREN (some k.OpenParen) refl)
-            (λ r. sequence arg_list-exact
-                (λ es. sequence (closing-exact {F = Any} t.CLOSE_PAREN (some k.CloseParen) refl) (λ r. nothing (trees.call place w es)) (λ i b. tt))
-                (λ i h. (at t.CLOSE_PAREN after_args i h, at t.CLOSE_PAREN (members class.Expression) i h))) (λ i b. tt))
+        (λ r. sequence arg_list-exact
+        (λ es. sequence (closing-exact {F = Any} t.CLOSE_PAREN (some k.CloseParen) refl) (λ r. nothing (trees.call place w es)) (λ i b. tt))
+        (λ i h. (at t.CLOSE_PAREN after_args i h, at t.CLOSE_PAREN (members class.Expression) i h))) (λ i b. tt))
         (nothing (leaf place (e.Var w))) (λ i h. h) (λ i f. one_out t.OPEN_PAREN after_name i refl f)
 
     quantified-exact : (place : ℕ) (all : Bool) → Exact n (rule.Quantified d U V place all) (λ m. read.quantified m.depth (u m) (v m) place all) Any (Passes (is t.OPEN_BRACE))
@@ -173,11 +173,11 @@ module _ (d : ℕ) (s : Bool) (U : R E) (u : Mode → Q E) (V : R E) (v : Mode �
     quantified-exact place all =
         sequence (mark-exact {F = Any} t.OPEN_BRACE (some k.OpenBrace) refl)
         (λ r. sequence range_list-exact
-            (λ rs. sequence (mark-exact {F = Any} t.BAR (some k.Bar) refl)
-                (λ r. sequence vexact
-                    (λ body. sequence (mark-exact {F = Any} t.CLOSE_BRACE (some k.CloseBrace) refl) (λ r. nothing (trees.quant place all rs body)) (λ i b. tt))
-                    (λ i h. at t.CLOSE_BRACE after_expr i h)) (λ i b. tt))
-            (λ i h. at t.BAR after_ranges i h)) (λ i b. tt)
+        (λ rs. sequence (mark-exact {F = Any} t.BAR (some k.Bar) refl)
+        (λ r. sequence vexact
+        (λ body. sequence (mark-exact {F = Any} t.CLOSE_BRACE (some k.CloseBrace) refl) (λ r. nothing (trees.quant place all rs body)) (λ i b. tt))
+        (λ i h. at t.CLOSE_BRACE after_expr i h)) (λ i b. tt))
+        (λ i h. at t.BAR after_ranges i h)) (λ i b. tt)
 
     primary-exact : Exact n (rule.Primary d U V) (λ m. read.primary m.depth (u m) (v m)) (After after_name) (Passes (among_these primaries))
     unfolding read.primary read.enclosed read.collected
@@ -187,17 +187,17 @@ module _ (d : ℕ) (s : Bool) (U : R E) (u : Mode → Q E) (V : R E) (v : Mode �
         (sequence (name-exact {F = Any}) (λ w. called-exact w.0 w.1) (λ i b. tt))
         (choice_of t.OPEN_PAREN (t.BAR ∷ t.OPEN_BRACKET ∷ t.OPEN_BRACE ∷ t.ALL ∷ t.SOME ∷ []) (t.OPEN_PAREN ∷ t.BAR ∷ t.OPEN_BRACKET ∷ t.OPEN_BRACE ∷ t.ALL ∷ t.SOME ∷ [])
         (sequence (mark-exact {F = Any} t.OPEN_PAREN (some k.OpenParen) refl)
-            (λ r. sequence vexact (λ a. sequence (mark-exact {F = Any} t.CLOSE_PAREN (some k.CloseParen) refl) (λ r. nothing a) (λ i b. tt)) (λ i h. at t.CLOSE_PAREN after_expr i h)) (λ i b. tt))
+        (λ r. sequence vexact (λ a. sequence (mark-exact {F = Any} t.CLOSE_PAREN (some k.CloseParen) refl) (λ r. nothing a) (λ i b. tt)) (λ i h. at t.CLOSE_PAREN after_expr i h)) (λ i b. tt))
         (choice_of t.BAR (t.OPEN_BRACKET ∷ t.OPEN_BRACE ∷ t.ALL ∷ t.SOME ∷ []) (t.BAR ∷ t.OPEN_BRACKET ∷ t.OPEN_BRACE ∷ t.ALL ∷ t.SOME ∷ [])
         (sequence (mark-exact {F = Any} t.BAR (some k.Bar) refl)
-            (λ place. sequence (sum-exact n U u uexact) (λ a. sequence (mark-exact {F = Any} t.BAR (some k.Bar) refl) (λ r. nothing (trees.len place a)) (λ i b. tt)) (λ i h. at t.BAR after_sum i h)) (λ i b. tt))
+        (λ place. sequence (sum-exact n U u uexact) (λ a. sequence (mark-exact {F = Any} t.BAR (some k.Bar) refl) (λ r. nothing (trees.len place a)) (λ i b. tt)) (λ i h. at t.BAR after_sum i h)) (λ i b. tt))
         (choice_of t.OPEN_BRACKET (t.OPEN_BRACE ∷ t.ALL ∷ t.SOME ∷ []) (t.OPEN_BRACKET ∷ t.OPEN_BRACE ∷ t.ALL ∷ t.SOME ∷ [])
         (adapt (sequence (mark-exact {F = Any} t.OPEN_BRACKET (some k.OpenBracket) refl) listed-exact (λ i b. tt)) (λ i f. tt) (λ i b. b) (λ a p. tt))
         (choice_of t.OPEN_BRACE (t.ALL ∷ t.SOME ∷ []) (t.OPEN_BRACE ∷ t.ALL ∷ t.SOME ∷ [])
         (sequence (mark-exact {F = Any} t.OPEN_BRACE (some k.OpenBrace) refl)
-            (λ place. sequence field_list-exact
-                (λ fs. sequence (closing-exact {F = Any} t.CLOSE_BRACE (some k.CloseBrace) refl) (λ r. nothing (trees.fields place fs)) (λ i b. tt))
-                (λ i h. (at t.CLOSE_BRACE after_args i h, at_other t.NAME t.CLOSE_BRACE i refl h))) (λ i b. tt))
+        (λ place. sequence field_list-exact
+        (λ fs. sequence (closing-exact {F = Any} t.CLOSE_BRACE (some k.CloseBrace) refl) (λ r. nothing (trees.fields place fs)) (λ i b. tt))
+        (λ i h. (at t.CLOSE_BRACE after_args i h, at_other t.NAME t.CLOSE_BRACE i refl h))) (λ i b. tt))
         (adapt (sequence (quantifier-exact {F = Any}) (λ q. quantified-exact q.0 q.1) (λ i b. tt)) (λ i f. tt) (λ i b. b) (λ a p. tt))
         refl refl refl) refl refl refl) refl refl refl) refl refl refl) refl refl refl) refl refl refl
 
@@ -205,11 +205,11 @@ module _ (d : ℕ) (s : Bool) (U : R E) (u : Mode → Q E) (V : R E) (v : Mode �
     unfolding read.step
     step-exact a =
         adapt (choice (is t.OPEN_BRACKET)
-            (sequence (mark-exact {F = Any} t.OPEN_BRACKET (some k.OpenBracket) refl)
-                (λ place. sequence vexact (λ i. sequence (mark-exact {F = Any} t.CLOSE_BRACKET (some k.CloseBracket) refl) (λ r. nothing (trees.index place a i)) (λ i b. tt))
-                    (λ i h. at t.CLOSE_BRACKET after_expr i h)) (λ i b. tt))
-            (sequence (mark-exact {F = Any} t.DOT (some k.Dot) refl) (λ place. sequence (name-exact {F = Any}) (λ w. nothing (trees.field place a w.1)) (λ i b. tt)) (λ i b. tt))
-            (λ i h. h) (λ i h. at_other t.OPEN_BRACKET t.DOT i refl h))
+        (sequence (mark-exact {F = Any} t.OPEN_BRACKET (some k.OpenBracket) refl)
+        (λ place. sequence vexact (λ i. sequence (mark-exact {F = Any} t.CLOSE_BRACKET (some k.CloseBracket) refl) (λ r. nothing (trees.index place a i)) (λ i b. tt))
+        (λ i h. at t.CLOSE_BRACKET after_expr i h)) (λ i b. tt))
+        (sequence (mark-exact {F = Any} t.DOT (some k.Dot) refl) (λ place. sequence (name-exact {F = Any}) (λ w. nothing (trees.field place a w.1)) (λ i b. tt)) (λ i b. tt))
+        (λ i h. h) (λ i h. at_other t.OPEN_BRACKET t.DOT i refl h))
         (λ i f. f) (λ i b. elim b [ inl h ↦ member t.OPEN_BRACKET (members class.Step) i refl h | inr h ↦ member t.DOT (members class.Step) i refl h ]) (λ a p. tt)
 
     abbrev BeginsSteps : List Token → Type 0
@@ -245,7 +245,7 @@ module _ (d : ℕ) (s : Bool) (U : R E) (u : Mode → Q E) (V : R E) (v : Mode �
           choice (touches place)
           (sequence (glued-exact {F = Any} place) (λ c. steps-exact (leaf place (e.Int c))) (λ i b. tt))
           (sequence (unless-exact n (touches place) U u (λ a. After after_unary) BeginsExpr (λ a. ⊤) uexact sample (λ z f. refl) (λ a. refl) (λ h. absurd (true≢false (sym h))))
-              (λ a. nothing (trees.neg place a)) (λ i f. f))
+          (λ a. nothing (trees.neg place a)) (λ i f. f))
           (λ i h. h) (λ i h. h.1)
 
       after_minus-exact : (place : ℕ) → Exact n (rule.Negated d U V place) (λ m. read.negated m.depth (u m) (v m) place) (After after_unary) Any

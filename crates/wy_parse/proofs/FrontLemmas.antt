@@ -29,9 +29,12 @@ looser-text n m le i a h =
     let d = (text-exact n).done i a [] ((text-exact n).complete i a [] h refl) in
     subst (λ (l : List Token). IsText Text m l a) (sym d.cut) ((text-exact m).sound (d.front ++ []) a [] (d.again m le [] (inr refl)))
 
-to_front : (i : List Token) → CanGoOn Text profile i → IsFront i
-to_front i g =
+pub front_of : (n : Mode) (i : List Token) → CanGoOn Text n i → IsFront i
+front_of n i g =
     record { more = g.2; text = record { depth = g.0.depth; spelled = g.3; text = looser-text g.0 (loose g.0.depth) (omega arith, λ h. absurd (true≢false (sym h))) (i ++ g.2) g.3 g.4 } }
+
+to_front : (i : List Token) → CanGoOn Text profile i → IsFront i
+to_front i g = front_of profile i g
 
 from_front : (i : List Token) → IsFront i → CanGoOn Text profile i
 from_front i f =
@@ -45,7 +48,7 @@ place-behind front back =
     let before : length (front ++ back) - length back ≡ length front = omega (arith, length-append front back) in
     ap (λ (n : ℕ). place (drop n (front ++ back))) before ∙ ap place (drop-append_seam front back)
 
-place-cut : (tokens front back : List Token) (left : ℕ) → tokens ≡ front ++ back → left ≡ length back → place_of tokens left ≡ place back
+pub place-cut : (tokens front back : List Token) (left : ℕ) → tokens ≡ front ++ back → left ≡ length back → place_of tokens left ≡ place back
 place-cut tokens front back left cut left_is =
     ap (λ (l : List Token). place_of l left) cut ∙ (ap (λ (n : ℕ). place_of (front ++ back) n) left_is ∙ place-behind front back)
 
@@ -123,7 +126,7 @@ all_or_fewer (suc zero) zero h = inl refl
 all_or_fewer (suc (suc k)) zero h = absurd (omega (arith, h))
 all_or_fewer (suc k) (suc n) h = elim (all_or_fewer k n (omega (arith, h))) [ inl e ↦ inl (omega (arith, e)) | inr f ↦ inr (omega (arith, f)) ]
 
-cut-at : (i : List Token) (k : ℕ) → 1 ≤ k → k ≤ length i → Cut i k
+pub cut-at : (i : List Token) (k : ℕ) → 1 ≤ k → k ≤ length i → Cut i k
 cut-at [] k h g = absurd (omega (arith, h, g))
 cut-at (s ∷ i) k h g = by (λ x. cut-at i k h x) (all_or_fewer k (length i) g)
   where
@@ -132,7 +135,7 @@ cut-at (s ∷ i) k h g = by (λ x. cut-at i k h x) (all_or_fewer k (length i) g)
     by ih (inr f) = let d = ih f in (s ∷ d.0, d.1, d.2, ap (λ (l : List Token). s ∷ l) d.3, d.4)
 
 -- a fault that is met in a program stands at one of its tokens
-program-stands : (n : Mode) (i : List Token) (x : Kind) (k : ℕ) → (Text n).meets i x k → 1 ≤ k
+pub program-stands : (n : Mode) (i : List Token) (x : Kind) (k : ℕ) → (Text n).meets i x k → 1 ≤ k
 unfolding ProgramIn
 program-stands n i x k (inl h) = by h
   where

@@ -24,3 +24,7 @@ pub mod ParseRefusals
 pub mod EndLemmas
 pub mod EndFree
 pub mod FrontLemmas
+pub mod LooserLemmas
+pub mod LooserReaders
+pub mod LooserBlocks
+pub mod FaultLemmas

@@ -199,7 +199,7 @@ branch_unfolds s (suc d) i h = refl
 cases_unfolds : (s : Bool) (d : ℕ) (cs : CaseList) (i : List Token) → 1 ≤ d
     → (nested s d).cases cs i
     ≡ branch (is t.CASE) (mark t.CASE >>= (λ r. read.case_rest (nested s (pred d)).block cs >>= (nested s (pred d)).cases))
-        (branch (is t.DEFAULT) (read.default (read.block s d (nested s (pred d)) width) cs) (read.last_out cs)) i
+    (branch (is t.DEFAULT) (read.default (read.block s d (nested s (pred d)) width) cs) (read.last_out cs)) i
 unfolding nested
 cases_unfolds s zero cs i h = absurd (omega (arith, h))
 cases_unfolds s (suc d) cs i h = refl
@@ -227,18 +227,18 @@ module _ (s : Bool) where
   shut-block =
       same_readers (λ m. (nest_read m).block)
       (sequence (mark-exact {F = Any} t.LINE_END line refl)
-          (λ r. sequence (mark-exact {F = Any} t.BLOCK_IN block_in refl)
-              (λ r. closed bottom (has class.Statement) Deep (λ m. body_read m.strict m.depth) Any (λ a. ⊤) (λ m i h. body_read-none m.strict m.depth i h) (λ i h. body_refused s i h)
-                  (record {
-                    text = skip ∷ line ∷ block_out ∷ [];
-                    made = skipped;
-                    wanted = tt;
-                    deep = 1;
-                    alive = λ m le deep z f. body_read-skip m.strict m.depth z deep;
-                    starts = λ z f. refl;
-                  }))
-              (λ i b. tt))
-          (λ i b. tt))
+      (λ r. sequence (mark-exact {F = Any} t.BLOCK_IN block_in refl)
+      (λ r. closed bottom (has class.Statement) Deep (λ m. body_read m.strict m.depth) Any (λ a. ⊤) (λ m i h. body_read-none m.strict m.depth i h) (λ i h. body_refused s i h)
+      (record {
+        text = skip ∷ line ∷ block_out ∷ [];
+        made = skipped;
+        wanted = tt;
+        deep = 1;
+        alive = λ m le deep z f. body_read-skip m.strict m.depth z deep;
+        starts = λ z f. refl;
+      }))
+      (λ i b. tt))
+      (λ i b. tt))
       (λ m le i. nested-framed m.strict m.depth i)
 
   shut-branch : Exact bottom (Refused (is t.IF) Deep) (λ m. (nest_read m).branch) NoElse (Passes (is t.IF))
@@ -256,13 +256,13 @@ module _ (s : Bool) where
   shut-cases : (cs : CaseList) → Exact bottom (Or (Refused (is t.CASE) Deep) (Or (rule.Default rule.ShutBlock cs) (rule.LastOut cs))) (λ m. (nest_read m).cases cs) Any Any
   shut-cases cs =
       adapt (lowest bottom (is t.CASE) Deep (Or (rule.Default rule.ShutBlock cs) (rule.LastOut cs))
-          (λ m. branch (is t.DEFAULT) (read.default (nest_read m).block cs) (read.last_out cs)) (λ m. (nest_read m).cases cs) Any
-          (λ i. Passes (is t.DEFAULT) i ⊎ Passes (is t.BLOCK_OUT) i) (λ a. ⊤)
-          (choice (is t.DEFAULT)
-              (default-exact bottom rule.ShutBlock (λ m. (nest_read m).block) (λ F. adapt shut-block (λ i f. tt) (λ i b. b) (λ a p. tt)) cs)
-              (last_out-exact bottom cs) (λ i h. h) (λ i h. at_other t.DEFAULT t.BLOCK_OUT i refl h))
-          (λ i b. elim b [ inl h ↦ at_other t.CASE t.DEFAULT i refl h | inr h ↦ at_other t.CASE t.BLOCK_OUT i refl h ])
-          (λ m i h. cases_fall m.strict m.depth cs i h) (λ i h. cases_refused s cs i h))
+      (λ m. branch (is t.DEFAULT) (read.default (nest_read m).block cs) (read.last_out cs)) (λ m. (nest_read m).cases cs) Any
+      (λ i. Passes (is t.DEFAULT) i ⊎ Passes (is t.BLOCK_OUT) i) (λ a. ⊤)
+      (choice (is t.DEFAULT)
+      (default-exact bottom rule.ShutBlock (λ m. (nest_read m).block) (λ F. adapt shut-block (λ i f. tt) (λ i b. b) (λ a p. tt)) cs)
+      (last_out-exact bottom cs) (λ i h. h) (λ i h. at_other t.DEFAULT t.BLOCK_OUT i refl h))
+      (λ i b. elim b [ inl h ↦ at_other t.CASE t.DEFAULT i refl h | inr h ↦ at_other t.CASE t.BLOCK_OUT i refl h ])
+      (λ m i h. cases_fall m.strict m.depth cs i h) (λ i h. cases_refused s cs i h))
       (λ i f. f) (λ i b. tt) (λ a p. tt)
 
 -- over a level inside
@@ -308,3 +308,9 @@ nest-exact (suc d) s = let b = nest-exact d s in record { block_is = next-block 
 -- a block of each level, with anything behind it
 pub nested_block-exact : (n : Mode) → Exact n (rule.nest n.strict n.depth).block (λ m. (nest_read m).block) Any BeginsBlock
 nested_block-exact n = (nest-exact n.depth n.strict).block_is
+
+pub nested_branch-exact : (n : Mode) → Exact n (rule.nest n.strict n.depth).branch (λ m. (nest_read m).branch) NoElse (Passes (is t.IF))
+nested_branch-exact n = (nest-exact n.depth n.strict).branch_is
+
+pub nested_cases-exact : (n : Mode) (cs : CaseList) → Exact n ((rule.nest n.strict n.depth).cases cs) (λ m. (nest_read m).cases cs) Any Any
+nested_cases-exact n cs = (nest-exact n.depth n.strict).cases_is cs

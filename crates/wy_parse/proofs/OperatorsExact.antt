@@ -63,7 +63,7 @@ module _ (n : Mode) (U : R E) (u : Mode → Q E) (exact : Exact n U u (After aft
   unfolding read.product
   product-exact = sequence exact
       (λ a. repetition (has class.Factor) factor-exact (λ i h. h) (λ i f. fewer (members class.Factor) after_product i refl f) (λ i f. fewer after_unary after_product i refl f)
-          (λ i h. apart (members class.Factor) after_unary i refl h) refl a)
+      (λ i h. apart (members class.Factor) after_unary i refl h) refl a)
       (λ i b. elim b [ inl f ↦ fewer after_unary after_product i refl f | inr h ↦ apart (members class.Factor) after_unary i refl h ])
 
   summand-exact : (a : E) → Exact n (rule.Summand U a) (λ m. read.summand (u m) a) (After after_product) (Passes (has class.Summand))
@@ -73,7 +73,7 @@ module _ (n : Mode) (U : R E) (u : Mode → Q E) (exact : Exact n U u (After aft
   unfolding read.sum
   sum-exact = sequence product-exact
       (λ a. repetition (has class.Summand) summand-exact (λ i h. h) (λ i f. fewer (members class.Summand) after_sum i refl f) (λ i f. fewer after_product after_sum i refl f)
-          (λ i h. apart (members class.Summand) after_product i refl h) refl a)
+      (λ i h. apart (members class.Summand) after_product i refl h) refl a)
       (λ i b. elim b [ inl f ↦ fewer after_product after_sum i refl f | inr h ↦ apart (members class.Summand) after_product i refl h ])
 
   abbrev BeginsCompared : List Token → Type 0
@@ -84,10 +84,10 @@ module _ (n : Mode) (U : R E) (u : Mode → Q E) (exact : Exact n U u (After aft
   compared-exact a =
       choice (has class.Comparison)
       (sequence (operator-exact {F = Any} class.Comparison (some k.Less) refl)
-          (λ o. sequence sum-exact (λ b. nothing (binary o.0 o.1 a b)) (λ i f. fewer after_sum after_comparison i refl f)) (λ i b. tt))
+      (λ o. sequence sum-exact (λ b. nothing (binary o.0 o.1 a b)) (λ i f. fewer after_sum after_comparison i refl f)) (λ i b. tt))
       (choice (is t.IS)
       (sequence (mark-exact {F = Any} t.IS (some k.Is) refl)
-          (λ place. sequence (type-exact n) (λ ty. nothing (trees.is_expr place a ty)) (λ i f. fewer joins_type after_comparison i refl f)) (λ i b. tt))
+      (λ place. sequence (type-exact n) (λ ty. nothing (trees.is_expr place a ty)) (λ i f. fewer joins_type after_comparison i refl f)) (λ i b. tt))
       (nothing a) (λ i h. h) (λ i f. one_out t.IS after_comparison i refl f))
       (λ i h. h)
       (λ i b. elim b [ inl h ↦ at t.IS (members class.Comparison) i h | inr f ↦ fewer (members class.Comparison) after_comparison i refl f ])
@@ -124,6 +124,7 @@ module _ (n : Mode) (U : R E) (u : Mode → Q E) (exact : Exact n U u (After aft
       halts : (i : List Token) → AfterAnds i → Lacks (is t.AND) i
       halts i (inl h) = at_other t.AND t.OR i refl h
       halts i (inr f) = one_out t.AND after_logic i refl f
+
       weaken : (i : List Token) → AfterAnds i → After after_comparison i
       weaken i (inl h) = at t.OR after_comparison i h
       weaken i (inr f) = fewer after_comparison after_logic i refl f
@@ -137,6 +138,7 @@ module _ (n : Mode) (U : R E) (u : Mode → Q E) (exact : Exact n U u (After aft
       halts : (i : List Token) → AfterOrs i → Lacks (is t.OR) i
       halts i (inl h) = at_other t.OR t.AND i refl h
       halts i (inr f) = one_out t.OR after_logic i refl f
+
       weaken : (i : List Token) → AfterOrs i → After after_comparison i
       weaken i (inl h) = at t.AND after_comparison i h
       weaken i (inr f) = fewer after_comparison after_logic i refl f
@@ -152,14 +154,14 @@ module _ (n : Mode) (U : R E) (u : Mode → Q E) (exact : Exact n U u (After aft
   unfolding read.mix
   mix_and-exact a = sequence (and-exact a)
       (λ b. repetition (has class.Connective) either-exact (λ i h. h) (λ i f. fewer (members class.Connective) after_logic i refl f) (λ i f. fewer after_comparison after_logic i refl f)
-          (λ i h. apart (members class.Connective) after_comparison i refl h) refl b)
+      (λ i h. apart (members class.Connective) after_comparison i refl h) refl b)
       (λ i b. elim b [ inl f ↦ fewer after_comparison after_logic i refl f | inr h ↦ apart (members class.Connective) after_comparison i refl h ])
 
   mix_or-exact : (a : E) → Exact n (rule.Mix n.depth U t.OR a) (λ m. read.mix m.depth (u m) t.OR a) (After after_logic) (Passes (is t.OR))
   unfolding read.mix
   mix_or-exact a = sequence (or-exact a)
       (λ b. repetition (has class.Connective) either-exact (λ i h. h) (λ i f. fewer (members class.Connective) after_logic i refl f) (λ i f. fewer after_comparison after_logic i refl f)
-          (λ i h. apart (members class.Connective) after_comparison i refl h) refl b)
+      (λ i h. apart (members class.Connective) after_comparison i refl h) refl b)
       (λ i b. elim b [ inl f ↦ fewer after_comparison after_logic i refl f | inr h ↦ apart (members class.Connective) after_comparison i refl h ])
 
   abbrev BeginsMore : List Token → Type 0
@@ -171,12 +173,12 @@ module _ (n : Mode) (U : R E) (u : Mode → Q E) (exact : Exact n U u (After aft
       (λ a.
       choice (is t.AND)
       (sequence (ands-exact a)
-          (λ b. fenced-exact (is t.OR) Mixed (rule.Mix n.depth U t.OR) (λ m. read.mix m.depth (u m) t.OR) (After after_logic) (λ i f. one_out t.OR after_logic i refl f)
-              n.depth n.strict b (mix_or-exact b) (λ i h. h)) (λ i f. f))
+      (λ b. fenced-exact (is t.OR) Mixed (rule.Mix n.depth U t.OR) (λ m. read.mix m.depth (u m) t.OR) (After after_logic) (λ i f. one_out t.OR after_logic i refl f)
+      n.depth n.strict b (mix_or-exact b) (λ i h. h)) (λ i f. f))
       (choice (is t.OR)
       (sequence (ors-exact a)
-          (λ b. fenced-exact (is t.AND) Mixed (rule.Mix n.depth U t.AND) (λ m. read.mix m.depth (u m) t.AND) (After after_logic) (λ i f. one_out t.AND after_logic i refl f)
-              n.depth n.strict b (mix_and-exact b) (λ i h. h)) (λ i f. f))
+      (λ b. fenced-exact (is t.AND) Mixed (rule.Mix n.depth U t.AND) (λ m. read.mix m.depth (u m) t.AND) (After after_logic) (λ i f. one_out t.AND after_logic i refl f)
+      n.depth n.strict b (mix_and-exact b) (λ i h. h)) (λ i f. f))
       (nothing a) (λ i h. h) (λ i f. one_out t.OR after_logic i refl f))
       (λ i h. h) (λ i b. elim b [ inl h ↦ at_other t.AND t.OR i refl h | inr f ↦ one_out t.AND after_logic i refl f ]))
       (λ i b. link i b)

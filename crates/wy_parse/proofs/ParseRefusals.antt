@@ -42,8 +42,8 @@ module _ {S X A : Type 0} (R : Mode → Rule S X A) (n : Mode) where
       let behind : front ++ back ≡ alive ++ rest = cc in
       let g' : CanGoOn R n (before ++ t ∷ alive) = subst (λ (u : S). CanGoOn R n (before ++ u ∷ alive)) same g in
       let shorter = no-longer (before ++ t ∷ []) front back alive rest behind
-          (subst (λ (l : List S). IsDead R n l back) (sym (append_assoc before (t ∷ []) front)) dead)
-          (subst (λ (l : List S). CanGoOn R n l) (sym (append_assoc before (t ∷ []) alive)) g') in
+      (subst (λ (l : List S). IsDead R n l back) (sym (append_assoc before (t ∷ []) front)) dead)
+      (subst (λ (l : List S). CanGoOn R n l) (sym (append_assoc before (t ∷ []) alive)) g') in
       omega (arith, shorter)
 
   pub one_first_bad : (i : List S) (k l : ℕ) → FirstBad R n i k → FirstBad R n i l → k ≡ l

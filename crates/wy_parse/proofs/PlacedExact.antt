@@ -66,7 +66,7 @@ module _ {A : Type 0} (n : Mode) (rule : R A) (q : Mode → Q A) (F B : List Tok
       again = λ m le j' g.
           read-placed m (d.front ++ j') a.1 j' (d.again m le j' g)
           ∙ ap (λ (w : ℕ). Ok ((w, a.1), j'))
-              (place-front d.front j' j (taken d.front a.1 (λ l f. d.again n (same_mode n) l (inr f))) ∙ (ap place (sym d.cut) ∙ sym p.0));
+          (place-front d.front j' j (taken d.front a.1 (λ l f. d.again n (same_mode n) l (inr f))) ∙ (ap place (sym d.cut) ∙ sym p.0));
     };
     stuck = λ i k h. let d = e.stuck i k (stops i k h) in record {
       front = d.front;
@@ -81,8 +81,8 @@ module _ {A : Type 0} (n : Mode) (rule : R A) (q : Mode → Q A) (F B : List Tok
       alive = λ m le deep z f.
           read-placed m (d.front ++ (d.ending ++ z)) d.made z (d.alive m le deep z f)
           ∙ ap (λ (w : ℕ). Ok ((w, d.made), z))
-              (ap place (sym (append_assoc d.front d.ending z))
-              ∙ same-place (d.front ++ d.ending) z (begun-on (d.front ++ d.ending) (subst B (sym (append_assoc d.front d.ending [])) (d.starts [] empty))));
+          (ap place (sym (append_assoc d.front d.ending z))
+          ∙ same-place (d.front ++ d.ending) z (begun-on (d.front ++ d.ending) (subst B (sym (append_assoc d.front d.ending [])) (d.starts [] empty))));
       starts = d.starts;
     };
     sample = let t = e.sample in record {

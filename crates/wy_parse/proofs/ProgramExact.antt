@@ -59,7 +59,7 @@ module _ (n : Mode) where
   import-exact ms =
       sequence (mark-exact {F = Any} t.IMPORT (some k.Import) refl)
       (λ r. sequence (name-exact {F = Any})
-          (λ w. sequence (mark-exact {F = Any} t.LINE_END (some k.LineEnd) refl) (λ r. nothing (ms ++ (w.1, w.0) ∷ [])) (λ i b. tt)) (λ i b. tt))
+      (λ w. sequence (mark-exact {F = Any} t.LINE_END (some k.LineEnd) refl) (λ r. nothing (ms ++ (w.1, w.0) ∷ [])) (λ i b. tt)) (λ i b. tt))
       (λ i b. tt)
 
   imports-exact : Exact n (Loop rule.Import []) (λ m. read.imports) (Lacks (is t.IMPORT)) (λ i. Lacks (is t.IMPORT) i ⊎ Passes (is t.IMPORT) i)
@@ -70,9 +70,9 @@ module _ (n : Mode) where
   unfolding read.program_in rule.ProgramIn
   program-exact =
       adapt (sequence imports-exact
-          (λ ms. sequence (decls-exact n)
-              (λ c. sequence (mark-exact {F = Any} t.END (some k.End) refl) (λ r. nothing (program_node ms c.0)) (λ i b. tt)) (λ i h. h))
-          (λ i b. elim b [ inl h ↦ no t.IMPORT (members class.Declaration) i refl h | inr h ↦ at_other t.IMPORT t.END i refl h ]))
+      (λ ms. sequence (decls-exact n)
+      (λ c. sequence (mark-exact {F = Any} t.END (some k.End) refl) (λ r. nothing (program_node ms c.0)) (λ i b. tt)) (λ i h. h))
+      (λ i b. elim b [ inl h ↦ no t.IMPORT (members class.Declaration) i refl h | inr h ↦ at_other t.IMPORT t.END i refl h ]))
       (λ i f. f) (λ i b. tt) (λ a p. tt)
 
   pub text-exact : Exact n (rule.Text n) read.text AtEnd Any

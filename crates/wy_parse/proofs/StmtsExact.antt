@@ -47,11 +47,11 @@ module _ (n : Mode) where
   return_stmt-exact =
       sequence (mark-exact {F = Any} t.RETURN (some k.Return) refl)
       (λ place. choice (is t.LINE_END)
-          (sequence (mark-exact {F = Any} t.LINE_END (some k.LineEnd) refl) (λ r. nothing (trees.return_node place (Low None 0))) (λ i b. tt))
-          (sequence (expr-exact n)
-              (λ a. sequence (mark-exact {F = Any} t.LINE_END (some k.LineEnd) refl) (λ r. nothing (trees.return_node place (parts.some a))) (λ i b. tt))
-              (λ i h. at t.LINE_END after_expr i h))
-          (λ i h. h) (λ i h. no t.LINE_END (members class.Expression) i refl h))
+      (sequence (mark-exact {F = Any} t.LINE_END (some k.LineEnd) refl) (λ r. nothing (trees.return_node place (Low None 0))) (λ i b. tt))
+      (sequence (expr-exact n)
+      (λ a. sequence (mark-exact {F = Any} t.LINE_END (some k.LineEnd) refl) (λ r. nothing (trees.return_node place (parts.some a))) (λ i b. tt))
+      (λ i h. at t.LINE_END after_expr i h))
+      (λ i h. h) (λ i h. no t.LINE_END (members class.Expression) i refl h))
       (λ i b. tt)
 
   pub assert_stmt-exact : Exact n (rule.AssertStmt n.strict n.depth) (λ m. read.assert_stmt m.strict m.depth) Any (Passes (is t.ASSERT))
@@ -59,8 +59,8 @@ module _ (n : Mode) where
   assert_stmt-exact =
       sequence (mark-exact {F = Any} t.ASSERT (some k.Assert) refl)
       (λ place. sequence (expr-exact n)
-          (λ a. sequence (mark-exact {F = Any} t.LINE_END (some k.LineEnd) refl) (λ r. nothing (trees.assert_node place a)) (λ i b. tt))
-          (λ i h. at t.LINE_END after_expr i h))
+      (λ a. sequence (mark-exact {F = Any} t.LINE_END (some k.LineEnd) refl) (λ r. nothing (trees.assert_node place a)) (λ i b. tt))
+      (λ i h. at t.LINE_END after_expr i h))
       (λ i b. tt)
 
   pub declared-exact : (place : ℕ) (ty : T) → Exact n (rule.Declared n.strict n.depth place ty) (λ m. read.declared m.strict m.depth place ty) Any (Passes (is t.NAME))
@@ -68,13 +68,13 @@ module _ (n : Mode) where
   declared-exact place ty =
       sequence (name-exact {F = Any})
       (λ w. choice (is t.ASSIGN)
-          (sequence (mark-exact {F = Any} t.ASSIGN (some k.Assign) refl)
-              (λ r. sequence (expr-exact n)
-                  (λ a. sequence (mark-exact {F = Any} t.LINE_END (some k.LineEnd) refl) (λ r. nothing (trees.declare_node place ty w.1 (parts.some a))) (λ i b. tt))
-                  (λ i h. at t.LINE_END after_expr i h))
-              (λ i b. tt))
-          (sequence (mark-exact {F = Any} t.LINE_END (some k.LineEnd) refl) (λ r. nothing (trees.declare_node place ty w.1 (Low None 0))) (λ i b. tt))
-          (λ i h. h) (λ i h. at_other t.ASSIGN t.LINE_END i refl h))
+      (sequence (mark-exact {F = Any} t.ASSIGN (some k.Assign) refl)
+      (λ r. sequence (expr-exact n)
+      (λ a. sequence (mark-exact {F = Any} t.LINE_END (some k.LineEnd) refl) (λ r. nothing (trees.declare_node place ty w.1 (parts.some a))) (λ i b. tt))
+      (λ i h. at t.LINE_END after_expr i h))
+      (λ i b. tt))
+      (sequence (mark-exact {F = Any} t.LINE_END (some k.LineEnd) refl) (λ r. nothing (trees.declare_node place ty w.1 (Low None 0))) (λ i b. tt))
+      (λ i h. h) (λ i h. at_other t.ASSIGN t.LINE_END i refl h))
       (λ i b. tt)
 
   pub valued-exact : (place : ℕ) (w : List ℕ) (p : Path) → Exact n (rule.Valued n.strict n.depth place w p) (λ m. read.valued m.strict m.depth place w p) Any (Passes (is t.ASSIGN))
@@ -82,8 +82,8 @@ module _ (n : Mode) where
   valued-exact place w p =
       sequence (mark-exact {F = Any} t.ASSIGN (some k.Assign) refl)
       (λ r. sequence (expr-exact n)
-          (λ a. sequence (mark-exact {F = Any} t.LINE_END (some k.LineEnd) refl) (λ r. nothing (trees.assign_node place w p a)) (λ i b. tt))
-          (λ i h. at t.LINE_END after_expr i h))
+      (λ a. sequence (mark-exact {F = Any} t.LINE_END (some k.LineEnd) refl) (λ r. nothing (trees.assign_node place w p a)) (λ i b. tt))
+      (λ i h. at t.LINE_END after_expr i h))
       (λ i b. tt)
 
   pub declare_stmt-exact : Exact n (rule.DeclareStmt n.strict n.depth) (λ m. read.declare_stmt m.strict m.depth) Any BeginsType
@@ -97,9 +97,9 @@ module _ (n : Mode) where
   call_stmt-exact place w =
       sequence (mark-exact {F = Any} t.OPEN_PAREN (some k.OpenParen) refl)
       (λ r. sequence (inner_args-exact n)
-          (λ es. sequence (closing-exact {F = Any} n t.CLOSE_PAREN (some k.CloseParen) refl)
-              (λ r. sequence (mark-exact {F = Any} t.LINE_END (some k.LineEnd) refl) (λ r. nothing (trees.call_node place w es)) (λ i b. tt)) (λ i b. tt))
-          (λ i h. (at t.CLOSE_PAREN (t.COMMA ∷ after_expr) i h, at t.CLOSE_PAREN (members class.Expression) i h)))
+      (λ es. sequence (closing-exact {F = Any} n t.CLOSE_PAREN (some k.CloseParen) refl)
+      (λ r. sequence (mark-exact {F = Any} t.LINE_END (some k.LineEnd) refl) (λ r. nothing (trees.call_node place w es)) (λ i b. tt)) (λ i b. tt))
+      (λ i h. (at t.CLOSE_PAREN (t.COMMA ∷ after_expr) i h, at t.CLOSE_PAREN (members class.Expression) i h)))
       (λ i b. tt)
 
   field_step-exact : (p : Path) → Exact n (rule.FieldStep p) (λ m. read.field_step p) Any (Passes (is t.DOT))
@@ -111,20 +111,20 @@ module _ (n : Mode) where
   unfolding read.step
   step-exact p =
       adapt (choice (is t.OPEN_BRACKET)
-          (sequence (mark-exact {F = Any} t.OPEN_BRACKET (some k.OpenBracket) refl)
-              (λ place. sequence (inner_expr-exact n)
-                  (λ i. sequence (mark-exact {F = Any} t.CLOSE_BRACKET (some k.CloseBracket) refl) (λ r. nothing (parts.pushed p (trees.index_step place i))) (λ j b. tt))
-                  (λ i h. at t.CLOSE_BRACKET after_expr i h))
-              (λ i b. tt))
-          (field_step-exact p) (λ i h. h) (λ i h. at_other t.OPEN_BRACKET t.DOT i refl h))
+      (sequence (mark-exact {F = Any} t.OPEN_BRACKET (some k.OpenBracket) refl)
+      (λ place. sequence (inner_expr-exact n)
+      (λ i. sequence (mark-exact {F = Any} t.CLOSE_BRACKET (some k.CloseBracket) refl) (λ r. nothing (parts.pushed p (trees.index_step place i))) (λ j b. tt))
+      (λ i h. at t.CLOSE_BRACKET after_expr i h))
+      (λ i b. tt))
+      (field_step-exact p) (λ i h. h) (λ i h. at_other t.OPEN_BRACKET t.DOT i refl h))
       (λ i f. f) (λ i b. elim b [ inl h ↦ member t.OPEN_BRACKET (members class.Step) i refl h | inr h ↦ member t.DOT (members class.Step) i refl h ]) (λ a p. tt)
 
   assigned-exact : (place : ℕ) (w : List ℕ) (p : Path) → Exact n (rule.Assigned n.strict n.depth place w p) (λ m. read.assigned m.strict m.depth place w p) Any Any
   unfolding read.assigned rule.Assigned read.steps
   assigned-exact place w p =
       adapt (sequence
-          (repetition_before (has class.Step) step-exact (λ i h. h) (λ i f. at t.ASSIGN (members class.Step) i f) (λ i f. tt) (λ i h. tt) (some k.Assign ∷ []) refl p)
-          (λ q. valued-exact place w q) (λ i h. h))
+      (repetition_before (has class.Step) step-exact (λ i h. h) (λ i f. at t.ASSIGN (members class.Step) i f) (λ i f. tt) (λ i h. tt) (some k.Assign ∷ []) refl p)
+      (λ q. valued-exact place w q) (λ i h. h))
       (λ i f. f) (λ i b. tt) (λ a x. tt)
 
   bracket_stmt-exact : (place : ℕ) (w : List ℕ) → Exact n (rule.BracketStmt n.strict n.depth place w) (λ m. read.bracket_stmt m.strict m.depth place w) Any (Passes (is t.OPEN_BRACKET))
@@ -132,12 +132,12 @@ module _ (n : Mode) where
   bracket_stmt-exact place w =
       sequence (mark-exact {F = Any} t.OPEN_BRACKET (some k.OpenBracket) refl)
       (λ b. choice (is t.CLOSE_BRACKET)
-          (sequence (closing-exact {F = Any} n t.CLOSE_BRACKET (some k.CloseBracket) refl)
-              (λ r. sequence (type_rest-exact n (parts.array_ty b (parts.named_ty place w))) (λ ty. declared-exact place ty) (λ i h. at t.NAME joins_type i h)) (λ i b. tt))
-          (sequence (inner_expr-exact n)
-              (λ i. sequence (mark-exact {F = Any} t.CLOSE_BRACKET (some k.CloseBracket) refl) (λ r. assigned-exact place w (parts.pushed parts.none (trees.index_step b i))) (λ j b. tt))
-              (λ i h. at t.CLOSE_BRACKET after_expr i h))
-          (λ i h. h) (λ i h. no t.CLOSE_BRACKET (members class.Expression) i refl h))
+      (sequence (closing-exact {F = Any} n t.CLOSE_BRACKET (some k.CloseBracket) refl)
+      (λ r. sequence (type_rest-exact n (parts.array_ty b (parts.named_ty place w))) (λ ty. declared-exact place ty) (λ i h. at t.NAME joins_type i h)) (λ i b. tt))
+      (sequence (inner_expr-exact n)
+      (λ i. sequence (mark-exact {F = Any} t.CLOSE_BRACKET (some k.CloseBracket) refl) (λ r. assigned-exact place w (parts.pushed parts.none (trees.index_step b i))) (λ j b. tt))
+      (λ i h. at t.CLOSE_BRACKET after_expr i h))
+      (λ i h. h) (λ i h. no t.CLOSE_BRACKET (members class.Expression) i refl h))
       (λ i b. tt)
 
   pub named_stmt-exact : Exact n (rule.NamedStmt n.strict n.depth) (λ m. read.named_stmt m.strict m.depth) Any (Passes (is t.NAME))
@@ -145,16 +145,16 @@ module _ (n : Mode) where
   named_stmt-exact =
       sequence (name-exact {F = Any})
       (λ w. adapt {F' = Any} {B' = Any} (choice_of t.OPEN_PAREN (t.OPEN_BRACKET ∷ t.NAME ∷ t.BAR ∷ t.AMPERSAND ∷ t.DOT ∷ t.ASSIGN ∷ []) (t.OPEN_PAREN ∷ t.OPEN_BRACKET ∷ t.NAME ∷ t.BAR ∷ t.AMPERSAND ∷ t.DOT ∷ t.ASSIGN ∷ [])
-          (call_stmt-exact w.0 w.1)
-          (choice_of t.OPEN_BRACKET (t.NAME ∷ t.BAR ∷ t.AMPERSAND ∷ t.DOT ∷ t.ASSIGN ∷ []) (t.OPEN_BRACKET ∷ t.NAME ∷ t.BAR ∷ t.AMPERSAND ∷ t.DOT ∷ t.ASSIGN ∷ [])
-          (bracket_stmt-exact w.0 w.1)
-          (choice_among (members class.TypeGoesOn) (t.DOT ∷ t.ASSIGN ∷ []) (t.NAME ∷ t.BAR ∷ t.AMPERSAND ∷ t.DOT ∷ t.ASSIGN ∷ [])
-          (sequence (type_tail-exact n (parts.named_ty w.0 w.1)) (λ ty. declared-exact w.0 ty) (λ i h. h))
-          (choice_of t.DOT (t.ASSIGN ∷ []) (t.DOT ∷ t.ASSIGN ∷ [])
-          (sequence (field_step-exact parts.none) (λ p. assigned-exact w.0 w.1 p) (λ i b. tt))
-          (adapt (valued-exact w.0 w.1 parts.none) (λ i f. f) (λ i h. member t.ASSIGN (t.ASSIGN ∷ []) i refl h) (λ a x. tt)) refl refl refl)
-          refl refl refl) refl refl refl) refl refl refl)
-          (λ i f. f) (λ i b. any i) (λ a x. tt))
+      (call_stmt-exact w.0 w.1)
+      (choice_of t.OPEN_BRACKET (t.NAME ∷ t.BAR ∷ t.AMPERSAND ∷ t.DOT ∷ t.ASSIGN ∷ []) (t.OPEN_BRACKET ∷ t.NAME ∷ t.BAR ∷ t.AMPERSAND ∷ t.DOT ∷ t.ASSIGN ∷ [])
+      (bracket_stmt-exact w.0 w.1)
+      (choice_among (members class.TypeGoesOn) (t.DOT ∷ t.ASSIGN ∷ []) (t.NAME ∷ t.BAR ∷ t.AMPERSAND ∷ t.DOT ∷ t.ASSIGN ∷ [])
+      (sequence (type_tail-exact n (parts.named_ty w.0 w.1)) (λ ty. declared-exact w.0 ty) (λ i h. h))
+      (choice_of t.DOT (t.ASSIGN ∷ []) (t.DOT ∷ t.ASSIGN ∷ [])
+      (sequence (field_step-exact parts.none) (λ p. assigned-exact w.0 w.1 p) (λ i b. tt))
+      (adapt (valued-exact w.0 w.1 parts.none) (λ i f. f) (λ i h. member t.ASSIGN (t.ASSIGN ∷ []) i refl h) (λ a x. tt)) refl refl refl)
+      refl refl refl) refl refl refl) refl refl refl)
+      (λ i f. f) (λ i b. any i) (λ a x. tt))
       (λ i b. tt)
     where
       any : (i : List Token) → Any i

@@ -104,11 +104,11 @@ module _ (n : Mode) (below : rule.Nest) (inner : Mode → read.Nested)
     switch-exact =
         sequence (mark-exact {F = Any} t.SWITCH (some k.Switch) refl)
         (λ place. sequence (expr-exact n)
-            (λ value. sequence (mark-exact {F = Any} t.COLON (some k.Colon) refl)
-                (λ r. sequence (mark-exact {F = Any} t.LINE_END (some k.LineEnd) refl)
-                    (λ r. sequence (mark-exact {F = Any} t.BLOCK_IN (some k.BlockIn) refl)
-                        (λ r. sequence chosen (λ cs. nothing (trees.switch_node place value cs)) (λ i b. tt)) (λ i b. tt)) (λ i b. tt)) (λ i b. tt))
-            (λ i h. at t.COLON after_expr i h))
+        (λ value. sequence (mark-exact {F = Any} t.COLON (some k.Colon) refl)
+        (λ r. sequence (mark-exact {F = Any} t.LINE_END (some k.LineEnd) refl)
+        (λ r. sequence (mark-exact {F = Any} t.BLOCK_IN (some k.BlockIn) refl)
+        (λ r. sequence chosen (λ cs. nothing (trees.switch_node place value cs)) (λ i b. tt)) (λ i b. tt)) (λ i b. tt)) (λ i b. tt))
+        (λ i h. at t.COLON after_expr i h))
         (λ i b. tt)
 
     declare-sample : Sample n (λ m. reads.declare_stmt m.strict m.depth) (λ st. NoElse) BeginsType (λ st. ⊤)
@@ -125,7 +125,7 @@ module _ (n : Mode) (below : rule.Nest) (inner : Mode → read.Nested)
     unfolding declare-sample
     no_name-exact =
         adapt (unless-exact n (is t.NAME) (stmts.DeclareStmt n.strict n.depth) (λ m. reads.declare_stmt m.strict m.depth) (λ st. NoElse) BeginsType (λ st. ⊤)
-            (adapt (declare_stmt-exact n) (λ i f. tt) (λ i b. b) (λ a p. tt)) declare-sample (λ z f. refl) (λ st. refl) (λ h. absurd (true≢false (sym h))))
+        (adapt (declare_stmt-exact n) (λ i f. tt) (λ i b. b) (λ a p. tt)) declare-sample (λ z f. refl) (λ st. refl) (λ h. absurd (true≢false (sym h))))
         (λ i f. f) (λ i b. no_name i b.0 b.1) (λ a p. tt)
 
     abbrev for_on : List ℕ
@@ -180,7 +180,7 @@ module _ (n : Mode) (below : rule.Nest) (inner : Mode → read.Nested)
     rest-exact ss =
         sequence
         (repetition_before (has class.Statement) piece-exact (λ i h. h) (λ i f. at t.BLOCK_OUT (members class.Statement) i f) (λ i f. at_other t.ELSE t.BLOCK_OUT i refl f)
-            (λ i h. no t.ELSE (members class.Statement) i refl h) (some k.BlockOut ∷ []) refl ss)
+        (λ i h. no t.ELSE (members class.Statement) i refl h) (some k.BlockOut ∷ []) refl ss)
         (λ all. sequence (mark-exact {F = Any} t.BLOCK_OUT (some k.BlockOut) refl) (λ r. nothing all) (λ i b. tt)) (λ i b. b)
 
     -- the statements of a block, and its end
@@ -211,10 +211,10 @@ module _ (n : Mode) (below : rule.Nest) (inner : Mode → read.Nested)
   shut-exact : Exact n (Or (Cased parts.none) (Refused (is t.DEFAULT) Deep)) (λ m. branch (is t.CASE) (cased m parts.none) shut) Any Any
   shut-exact =
       adapt (same_rule
-          (lowest n (is t.DEFAULT) Deep (Cased parts.none) (λ m. cased m parts.none) (λ m. branch (is t.CASE) (cased m parts.none) shut) Any (Passes (is t.CASE)) (λ cs. ⊤)
-              (cased-exact parts.none) (λ i h. at_other t.DEFAULT t.CASE i refl h) falls (λ i h. rw (at_other t.CASE t.DEFAULT i refl h, h) refl))
-          (λ i a j h. elim h [ inl g ↦ inr g | inr g ↦ inl g ]) (λ i a j h. elim h [ inl g ↦ inr g | inr g ↦ inl g ])
-          (λ i y l h. elim h [ inl g ↦ inr g | inr g ↦ inl g ]) (λ i y l h. elim h [ inl g ↦ inr g | inr g ↦ inl g ]))
+      (lowest n (is t.DEFAULT) Deep (Cased parts.none) (λ m. cased m parts.none) (λ m. branch (is t.CASE) (cased m parts.none) shut) Any (Passes (is t.CASE)) (λ cs. ⊤)
+      (cased-exact parts.none) (λ i h. at_other t.DEFAULT t.CASE i refl h) falls (λ i h. rw (at_other t.CASE t.DEFAULT i refl h, h) refl))
+      (λ i a j h. elim h [ inl g ↦ inr g | inr g ↦ inl g ]) (λ i a j h. elim h [ inl g ↦ inr g | inr g ↦ inl g ])
+      (λ i y l h. elim h [ inl g ↦ inr g | inr g ↦ inl g ]) (λ i y l h. elim h [ inl g ↦ inr g | inr g ↦ inl g ]))
       (λ i f. f) (λ i b. tt) (λ a p. tt)
 
   pub block-exact : (w : ℕ) → Exact n (rule.Block n.strict n.depth below w) (λ m. read.block m.strict m.depth (inner m) w) Any BeginsBlock
@@ -224,8 +224,8 @@ module _ (n : Mode) (below : rule.Nest) (inner : Mode → read.Nested)
       let ih = block-exact w in
       block_of-exact (rule.Default (rule.Block n.strict n.depth below w) parts.none) (λ m. read.default (read.block m.strict m.depth (inner m) w) parts.none)
       (adapt (choice (is t.CASE) (cased-exact parts.none)
-          (default-exact n (rule.Block n.strict n.depth below w) (λ m. read.block m.strict m.depth (inner m) w) (λ F. adapt ih (λ i f. tt) (λ i b. b) (λ a p. tt)) parts.none)
-          (λ i h. h) (λ i h. at_other t.CASE t.DEFAULT i refl h))
+      (default-exact n (rule.Block n.strict n.depth below w) (λ m. read.block m.strict m.depth (inner m) w) (λ F. adapt ih (λ i f. tt) (λ i b. b) (λ a p. tt)) parts.none)
+      (λ i h. h) (λ i h. at_other t.CASE t.DEFAULT i refl h))
       (λ i f. f) (λ i b. tt) (λ a p. tt))
 
   -- the rest of a switch behind cases, whose default has the width w
@@ -233,8 +233,8 @@ module _ (n : Mode) (below : rule.Nest) (inner : Mode → read.Nested)
       (λ m. branch (is t.CASE) (cased m cs) (branch (is t.DEFAULT) (read.default (read.block m.strict m.depth (inner m) w) cs) (read.last_out cs))) Any Any
   cases-exact w cs =
       adapt (choice (is t.CASE) (cased-exact cs)
-          (choice (is t.DEFAULT)
-              (default-exact n (rule.Block n.strict n.depth below w) (λ m. read.block m.strict m.depth (inner m) w) (λ F. adapt (block-exact w) (λ i f. tt) (λ i b. b) (λ a p. tt)) cs)
-              (last_out-exact n cs) (λ i h. h) (λ i h. at_other t.DEFAULT t.BLOCK_OUT i refl h))
-          (λ i h. h) (λ i b. elim b [ inl h ↦ at_other t.CASE t.DEFAULT i refl h | inr h ↦ at_other t.CASE t.BLOCK_OUT i refl h ]))
+      (choice (is t.DEFAULT)
+      (default-exact n (rule.Block n.strict n.depth below w) (λ m. read.block m.strict m.depth (inner m) w) (λ F. adapt (block-exact w) (λ i f. tt) (λ i b. b) (λ a p. tt)) cs)
+      (last_out-exact n cs) (λ i h. h) (λ i h. at_other t.DEFAULT t.BLOCK_OUT i refl h))
+      (λ i h. h) (λ i b. elim b [ inl h ↦ at_other t.CASE t.DEFAULT i refl h | inr h ↦ at_other t.CASE t.BLOCK_OUT i refl h ]))
       (λ i f. f) (λ i b. tt) (λ a p. tt)

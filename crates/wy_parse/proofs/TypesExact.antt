@@ -60,7 +60,7 @@ inside_grows zero b h = omega arith
 inside_grows (suc a) zero h = absurd (omega (arith, h))
 inside_grows (suc a) (suc b) h = omega (arith, h)
 
-inside_reached : (d : ℕ) → 2 ≤ d → 1 ≤ inside d
+pub inside_reached : (d : ℕ) → 2 ≤ d → 1 ≤ inside d
 inside_reached zero h = absurd (omega (arith, h))
 inside_reached (suc d) h = omega (arith, h)
 
@@ -124,7 +124,7 @@ module _ (n : Mode) (V : R T) (v : Mode → Q T) (exact : Exact n V v Any Begins
   unfolding read.tail
   tail-exact a =
       adapt (sequence (inters-exact a) unions-exact
-          (λ i b. elim b [ inl f ↦ fewer joins_inter joins_type i refl f | inr h ↦ at t.BAR joins_inter i h ]))
+      (λ i b. elim b [ inl f ↦ fewer joins_inter joins_type i refl f | inr h ↦ at t.BAR joins_inter i h ]))
       (λ i f. f) (λ i b. begins i b) (λ a p. tt)
     where
       begins : (i : List Token) → AfterInter i ⊎ Passes (is t.AMPERSAND) i → BeginsTail i
@@ -174,14 +174,14 @@ module _ (n : Mode) (V : R T) (v : Mode → Q T) (exact : Exact n V v Any Begins
       (sequence (mark-exact {F = Any} t.NOT (some k.Not) refl) (λ place. sequence exact (λ ty. nothing (not_ty place ty)) (λ i b. tt)) (λ i b. tt))
       (choice_of t.OPEN_PAREN (t.OPEN_BRACE ∷ t.NAME ∷ members class.BaseType) (t.OPEN_PAREN ∷ t.OPEN_BRACE ∷ t.NAME ∷ members class.BaseType)
       (sequence (mark-exact {F = Any} t.OPEN_PAREN (some k.OpenParen) refl)
-          (λ r. sequence union-exact (λ ty. sequence (mark-exact {F = Any} t.CLOSE_PAREN (some k.CloseParen) refl) (λ r. nothing ty) (λ i b. tt))
-          (λ i h. at t.CLOSE_PAREN joins_type i h)) (λ i b. tt))
+      (λ r. sequence union-exact (λ ty. sequence (mark-exact {F = Any} t.CLOSE_PAREN (some k.CloseParen) refl) (λ r. nothing ty) (λ i b. tt))
+      (λ i h. at t.CLOSE_PAREN joins_type i h)) (λ i b. tt))
       (choice_of t.OPEN_BRACE (t.NAME ∷ members class.BaseType) (t.OPEN_BRACE ∷ t.NAME ∷ members class.BaseType)
       (sequence (mark-exact {F = Any} t.OPEN_BRACE (some k.OpenBrace) refl)
-          (λ place. sequence field_list-exact
-              (λ fs. sequence (inner-exact (λ d. d) 1 (λ a b h. h) (λ d h. h) t.CLOSE_BRACE (some k.CloseBrace) refl {F = Any} n) (λ r. nothing (record_ty place fs)) (λ i b. tt))
-              (λ i h. (at_other t.COMMA t.CLOSE_BRACE i refl h, at t.CLOSE_BRACE (members class.Type) i h)))
-          (λ i b. tt))
+      (λ place. sequence field_list-exact
+      (λ fs. sequence (inner-exact (λ d. d) 1 (λ a b h. h) (λ d h. h) t.CLOSE_BRACE (some k.CloseBrace) refl {F = Any} n) (λ r. nothing (record_ty place fs)) (λ i b. tt))
+      (λ i h. (at_other t.COMMA t.CLOSE_BRACE i refl h, at t.CLOSE_BRACE (members class.Type) i h)))
+      (λ i b. tt))
       (choice_of t.NAME (members class.BaseType) (t.NAME ∷ members class.BaseType) named-exact base-exact refl refl refl)
       refl refl refl)
       refl refl refl)
@@ -263,7 +263,7 @@ pub type_rest-exact : (n : Mode) (a : T) → Exact n (rule.TypeRest n.depth a) (
 unfolding read.type_rest rule.TypeRest read.rest read.tail
 type_rest-exact n a =
     adapt (sequence (suffixes-exact n a) (tail-exact n (rule.Tight n.depth) (λ m. read.tight m.depth) (tight-exact n.depth n.strict))
-        (λ i b. elim b [ inl f ↦ fewer joins_suffix joins_type i refl f | inr h ↦ apart (t.BAR ∷ t.AMPERSAND ∷ []) joins_suffix i refl h ]))
+    (λ i b. elim b [ inl f ↦ fewer joins_suffix joins_type i refl f | inr h ↦ apart (t.BAR ∷ t.AMPERSAND ∷ []) joins_suffix i refl h ]))
     (λ i f. f) (λ i b. tt) (λ x p. tt)
 
 -- a type that goes on behind a name, up to another one

@@ -41,15 +41,28 @@ alias_node at name ty variable clauses =
 abbrev pub function_node : ℕ → List ℕ → Params → Given → Contract → Stmts → D
 function_node at name params res contract body =
     made (λ p. decl.Function (record {
-      at = at; name = name; params = p.0.0; result = p.0.1.0; result_name = p.0.1.1;
-      preconditions = p.1.0.0; postconditions = p.1.0.1; body = p.1.1; }))
+      at = at;
+      name = name;
+      params = p.0.0;
+      result = p.0.1.0;
+      result_name = p.0.1.1;
+      preconditions = p.1.0.0;
+      postconditions = p.1.0.1;
+      body = p.1.1;
+    }))
     (both (both params res) (both (both contract.0 contract.1) body))
 
 abbrev pub method_node : ℕ → List ℕ → Params → Measured (Option (Ty × Option (List ℕ))) → Contract → Stmts → D
 method_node at name params res contract body =
     made (λ p. decl.Method (record {
-      at = at; name = name; params = p.0.0; result = p.0.1;
-      preconditions = p.1.0.0; postconditions = p.1.0.1; body = p.1.1; }))
+      at = at;
+      name = name;
+      params = p.0.0;
+      result = p.0.1;
+      preconditions = p.1.0.0;
+      postconditions = p.1.0.1;
+      body = p.1.1;
+    }))
     (both (both params res) (both (both contract.0 contract.1) body))
 
 abbrev pub property_node : ℕ → List ℕ → Params → Clauses → D

@@ -38,6 +38,10 @@ pub record Leaves (tokens : List Token) (at : ℕ) : Type 0 where
   pub place_is : at ≡ place_of tokens left
   pub bad : places.FirstBad Text profile tokens left
 
+-- no fault is met
+abbrev pub MeetsNone : List Token → Type 0
+MeetsNone tokens = (x : Kind) (at : ℕ) → Meets tokens x at → ⊥
+
 -- the tokens derive a program in which the first node stands there that is just one too high
 abbrev pub IsHigh : List Token → ℕ → Type 0
 IsHigh tokens at = places.IsText Text profile tokens (High at)

@@ -54,3 +54,12 @@ pub record IsToken (tokens : List Token) (at : ℕ) : Type 0 where
   pub rest : List Token
   pub cut : tokens ≡ front ++ token ∷ rest
   pub place_is : at ≡ token.at
+
+-- one of the tokens stands there, and with it what stands before it is a front still
+pub record IsPossible (tokens : List Token) (at : ℕ) : Type 0 where
+  pub front : List Token
+  pub token : Token
+  pub rest : List Token
+  pub cut : tokens ≡ front ++ token ∷ rest
+  pub place_is : at ≡ token.at
+  pub goes_on : IsFront (front ++ token ∷ [])

@@ -51,10 +51,10 @@ module _ (levels : ℕ) where
   unfoldable pub MethodResult : R (Measured (Option (Ty × Option (List ℕ))))
   MethodResult =
       Or (Then (Mark t.ARROW) (λ _.
-          Or (Then (Mark t.OPEN_PAREN) (λ _.
-              Or (Then (Mark t.CLOSE_PAREN) (λ _. Pure (Low None 0)))
-              (Then InnerType (λ p. Pure (some (given p.0 p.1))))))
-          (Then (Unless (is t.OPEN_PAREN) (Type_ levels)) (λ ty. Pure (some (given ty None))))))
+      Or (Then (Mark t.OPEN_PAREN) (λ _.
+      Or (Then (Mark t.CLOSE_PAREN) (λ _. Pure (Low None 0)))
+      (Then InnerType (λ p. Pure (some (given p.0 p.1))))))
+      (Then (Unless (is t.OPEN_PAREN) (Type_ levels)) (λ ty. Pure (some (given ty None))))))
       (Pure (Low None 0))
 
   abbrev pub OneParam : Params → R Params

@@ -36,10 +36,10 @@ module _ (levels : ℕ) where
   unfoldable pub method_result : Q (Measured (Option (Ty × Option (List ℕ))))
   method_result =
       branch (is t.ARROW) (mark t.ARROW >>= (λ _.
-          branch (is t.OPEN_PAREN) (mark t.OPEN_PAREN >>= (λ _.
-              branch (is t.CLOSE_PAREN) (mark t.CLOSE_PAREN >>= (λ _. pure (Low None 0)))
-              (inner_type >>= (λ p. pure (some (given p.0 p.1))))))
-          (unless (is t.OPEN_PAREN) (type_term levels) >>= (λ ty. pure (some (given ty None))))))
+      branch (is t.OPEN_PAREN) (mark t.OPEN_PAREN >>= (λ _.
+      branch (is t.CLOSE_PAREN) (mark t.CLOSE_PAREN >>= (λ _. pure (Low None 0)))
+      (inner_type >>= (λ p. pure (some (given p.0 p.1))))))
+      (unless (is t.OPEN_PAREN) (type_term levels) >>= (λ ty. pure (some (given ty None))))))
       (pure (Low None 0))
 
   unfoldable pub one_param : Params → Q Params

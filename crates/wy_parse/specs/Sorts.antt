@@ -9,146 +9,217 @@ use Rattle.wy_parse.specs.declared.sort.Class.TheVariants as class
 
 abbrev pub TYPE : ℕ
 TYPE = 1
+
 abbrev pub IS : ℕ
 IS = 2
+
 abbrev pub WHERE : ℕ
 WHERE = 3
+
 abbrev pub FUNCTION : ℕ
 FUNCTION = 4
+
 abbrev pub METHOD : ℕ
 METHOD = 5
+
 abbrev pub PROPERTY : ℕ
 PROPERTY = 6
+
 abbrev pub REQUIRES : ℕ
 REQUIRES = 7
+
 abbrev pub ENSURES : ℕ
 ENSURES = 8
+
 abbrev pub IF : ℕ
 IF = 9
+
 abbrev pub ELSE : ℕ
 ELSE = 10
+
 abbrev pub WHILE : ℕ
 WHILE = 11
+
 abbrev pub DO : ℕ
 DO = 12
+
 abbrev pub SWITCH : ℕ
 SWITCH = 13
+
 abbrev pub CASE : ℕ
 CASE = 14
+
 abbrev pub DEFAULT : ℕ
 DEFAULT = 15
+
 abbrev pub FOR : ℕ
 FOR = 16
+
 abbrev pub IN : ℕ
 IN = 17
+
 abbrev pub RETURN : ℕ
 RETURN = 18
+
 abbrev pub BREAK : ℕ
 BREAK = 19
+
 abbrev pub CONTINUE : ℕ
 CONTINUE = 20
+
 abbrev pub ASSERT : ℕ
 ASSERT = 21
+
 abbrev pub FAIL : ℕ
 FAIL = 22
+
 abbrev pub SKIP : ℕ
 SKIP = 23
+
 abbrev pub ALL : ℕ
 ALL = 24
+
 abbrev pub SOME : ℕ
 SOME = 25
+
 abbrev pub NULL : ℕ
 NULL = 26
+
 abbrev pub BOOL : ℕ
 BOOL = 27
+
 abbrev pub INT : ℕ
 INT = 28
+
 abbrev pub ANY : ℕ
 ANY = 29
+
 abbrev pub VOID : ℕ
 VOID = 30
+
 abbrev pub TRUE : ℕ
 TRUE = 31
+
 abbrev pub FALSE : ℕ
 FALSE = 32
+
 abbrev pub IMPORT : ℕ
 IMPORT = 33
+
 abbrev pub OPEN_PAREN : ℕ
 OPEN_PAREN = 34
+
 abbrev pub CLOSE_PAREN : ℕ
 CLOSE_PAREN = 35
+
 abbrev pub OPEN_BRACKET : ℕ
 OPEN_BRACKET = 36
+
 abbrev pub CLOSE_BRACKET : ℕ
 CLOSE_BRACKET = 37
+
 abbrev pub OPEN_BRACE : ℕ
 OPEN_BRACE = 38
+
 abbrev pub CLOSE_BRACE : ℕ
 CLOSE_BRACE = 39
+
 abbrev pub COMMA : ℕ
 COMMA = 40
+
 abbrev pub COLON : ℕ
 COLON = 41
+
 abbrev pub SEMICOLON : ℕ
 SEMICOLON = 42
+
 abbrev pub DOT : ℕ
 DOT = 43
+
 abbrev pub RANGE : ℕ
 RANGE = 44
+
 abbrev pub ARROW : ℕ
 ARROW = 45
+
 abbrev pub ASSIGN : ℕ
 ASSIGN = 46
+
 abbrev pub EQUAL : ℕ
 EQUAL = 47
+
 abbrev pub NOT_EQUAL : ℕ
 NOT_EQUAL = 48
+
 abbrev pub LESS : ℕ
 LESS = 49
+
 abbrev pub LESS_EQUAL : ℕ
 LESS_EQUAL = 50
+
 abbrev pub GREATER : ℕ
 GREATER = 51
+
 abbrev pub GREATER_EQUAL : ℕ
 GREATER_EQUAL = 52
+
 abbrev pub PLUS : ℕ
 PLUS = 53
+
 abbrev pub MINUS : ℕ
 MINUS = 54
+
 abbrev pub STAR : ℕ
 STAR = 55
+
 abbrev pub SLASH : ℕ
 SLASH = 56
+
 abbrev pub PERCENT : ℕ
 PERCENT = 57
+
 abbrev pub NOT : ℕ
 NOT = 58
+
 abbrev pub AND : ℕ
 AND = 59
+
 abbrev pub OR : ℕ
 OR = 60
+
 abbrev pub IMPLIES : ℕ
 IMPLIES = 61
+
 abbrev pub BAR : ℕ
 BAR = 62
+
 abbrev pub AMPERSAND : ℕ
 AMPERSAND = 63
+
 abbrev pub NAME : ℕ
 NAME = 64
+
 abbrev pub NUMERAL : ℕ
 NUMERAL = 65
+
 abbrev pub TEXT : ℕ
 TEXT = 66
+
 abbrev pub LINE_END : ℕ
 LINE_END = 67
+
 abbrev pub BLOCK_IN : ℕ
 BLOCK_IN = 68
+
 abbrev pub BLOCK_OUT : ℕ
 BLOCK_OUT = 69
+
 abbrev pub END : ℕ
 END = 70
+
 abbrev pub BEYOND : ℕ
 BEYOND = 71
+
 abbrev pub NO_NUMERAL : ℕ
 NO_NUMERAL = 72
 

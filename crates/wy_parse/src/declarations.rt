@@ -129,7 +129,10 @@ fn function(alloc: Global, tokens: &[Token]) -> Read<'_, Measured<Decl>>
     let (_, rest) = mark(rest, COLON)?;
     let (body, rest) = block(alloc, rest, LEVELS - 1)?;
     let result = outcome(ty, result_name);
-    Ok((function_node(at, name, params, result, contract, body), rest))
+    Ok((
+        function_node(at, name, params, result, contract, body),
+        rest,
+    ))
 }
 
 // 'method' NAME params [ '->' ( '(' ')' | result ) ] { spec } ':' block

@@ -1,9 +1,10 @@
 //! Laws of what tokens derive, and of where they are refused.
-ghost use Rattle.std.specs.Prelude.{◌≡◌, ℕ, List};
+ghost use Rattle.std.specs.Prelude.{◌≡◌, ◌≤◌, ℕ, List, length};
 ghost use Rattle.wy_ast.specs.declared.declarations.Program.{Program};
 ghost use Rattle.wy_lex.specs.declared.token.Token.{Token};
+ghost use Rattle.wy_parse.specs.BlockGrammar.{width};
 ghost use Rattle.wy_parse.specs.Derivation.{Derives, IsHigh, Leaves, Meets};
-ghost use Rattle.wy_parse.specs.Fronts.{FirstImpossible, IsEnded, IsToken};
+ghost use Rattle.wy_parse.specs.Fronts.{FirstImpossible, IsEnded, IsPossible, IsToken};
 ghost use Rattle.wy_parse.specs.declared.fault.Kind.{Kind};
 
 /// Tokens derive one program.
@@ -43,4 +44,11 @@ pub fn the_grammar_is_left_at_the_first_impossible_token()
 /// A fault that is met stands at one of the tokens.
 pub fn a_fault_stands_at_a_token()
     ensures { (tokens : List Token) (x : Kind) (at : ℕ) → Meets tokens x at → IsToken tokens at }
+{}
+
+/// A fault that is met stands before the first impossible token: the tokens up to and including the one
+/// where it stands still begin a text. So it is the least place, and `Unexpected` is never at the same.
+/// No list of tokens in memory is longer than 2^64.
+pub fn a_fault_stands_before_the_first_impossible_token()
+    ensures { (tokens : List Token) (x : Kind) (at : ℕ) → length tokens ≤ width → Meets tokens x at → IsPossible tokens at }
 {}

@@ -12,9 +12,7 @@ use crate::fault::Kind;
 use crate::labels::labels;
 use crate::measured::{Measured, both, pushed, some};
 use crate::simple::{stmt_node, wheres};
-use crate::sort::{
-    BLOCK_OUT, CASE, COLON, DEFAULT, DO, ELSE, FOR, IF, IN, LINE_END, RANGE, WHILE,
-};
+use crate::sort::{BLOCK_OUT, CASE, COLON, DEFAULT, DO, ELSE, FOR, IF, IN, LINE_END, RANGE, WHILE};
 use sqlite_items::Items;
 use std::alloc::{AllocError, Global};
 use wy_ast::{Case, Expr, Stmt, StmtKind};

@@ -1,14 +1,17 @@
 //! Whole programs.
-ghost use Rattle.std.specs.Prelude.{◌≡◌, true};
+ghost use Rattle.std.specs.Prelude.{◌≡◌, true, ℕ, Ok, Err, IfOk, IfErr};
+ghost use Rattle.wy_ast.specs.declared.declarations.Program.{Program};
 ghost use Rattle.wy_reading.specs.Reader.{Reads, refused};
 ghost use Rattle.wy_parse.specs.BlockReading.{block_at};
 ghost use Rattle.wy_parse.specs.DeclTrees as trees;
-ghost use Rattle.wy_parse.specs.Derivation.{Answers, place_of, profile};
+ghost use Rattle.wy_parse.specs.Derivation.{Answers, Derives, IsHigh, IsRefused, Leaves, Meets, MeetsNone, fault_of, place_of, profile};
 ghost use Rattle.wy_parse.specs.Parsed as parsed;
 ghost use Rattle.wy_parse.specs.ProgramReading as spec;
 ghost use Rattle.wy_parse.specs.Sorts as sorts;
 ghost use Rattle.wy_parse.specs.Steps.{inside};
+ghost use Rattle.wy_parse.specs.declared.fault.Kind.{Kind};
 ghost use Rattle.wy_parse.specs.declared.fault.Kind.TheVariants as kind;
+ghost use Rattle.wy_parse.specs.declared.fault.ParseFault.TheVariants.{Deep, Unexpected};
 ghost use Rattle.wy_parse.specs.declared.sort.Class.TheVariants as class;
 
 use crate::cursor::{Read, mark, name, next_in, next_is};
@@ -31,6 +34,18 @@ const MOST: usize = 4096;
 /// `ParseFault`. Linear in the number of tokens: no token is read twice. Recursion goes as deep as
 /// `Deep` lets nesting go, and what `Deep` doesn't count is read in a loop.
 pub fn parse(alloc: Global, tokens: &[Token]) -> Result<Program, ParseFault>
+    ensures spells { IfOk result (λ p. Derives tokens.now p) }
+    ensures reads { (p : Program) → Derives tokens.now p → Answers (Ok p) result }
+    ensures fault { IfErr result (IsRefused tokens.now) }
+    ensures exact { (x : Kind) (at : ℕ) → Meets tokens.now x at → Answers (Err (fault_of x at)) result }
+    ensures high { (at : ℕ) → IsHigh tokens.now at → Answers (Err (Deep at)) result }
+    ensures leaves { (at : ℕ) → Leaves tokens.now at → MeetsNone tokens.now → Answers (Err (Unexpected at)) result }
+{
+    read(alloc, tokens)
+}
+
+// What the reader answers.
+fn read(alloc: Global, tokens: &[Token]) -> Result<Program, ParseFault>
     ensures value { Answers (parsed.parsed tokens.now) result }
 {
     match text(alloc, tokens) {

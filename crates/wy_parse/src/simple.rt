@@ -80,24 +80,16 @@ fn assert_node(at: u32, test: Measured<Expr>) -> Measured<Stmt>
 }
 
 /// ( 'break' | 'continue' | 'skip' | 'fail' ) LINE
-#[tactic(auto, unfolding(crate::specs::StmtReading::word_stmt))]
+#[tactic(auto, unfolding(crate::specs::StmtReading::word_stmt, crate::specs::StmtReading::word))]
 pub fn word_stmt(tokens: &[Token]) -> Read<'_, Measured<Stmt>>
     ensures { Reads (spec.word_stmt tokens.now) result }
 {
-    let (stmt, rest) = word(tokens)?;
-    let (_, rest) = mark(rest, LINE_END)?;
-    Ok((stmt, rest))
-}
-
-#[tactic(auto, unfolding(crate::specs::StmtReading::word))]
-fn word(tokens: &[Token]) -> Read<'_, Measured<Stmt>>
-    ensures { Reads (spec.word tokens.now) result }
-{
     match tokens {
-        [first, rest @ ..] if has(Class::Word, sort(&first.kind)) => Ok((
-            stmt_node(first.at, Measured::Low(word_kind(&first.kind), 0)),
-            rest,
-        )),
+        [first, rest @ ..] if has(Class::Word, sort(&first.kind)) => {
+            let (_, rest) = mark(rest, LINE_END)?;
+            let kind = Measured::Low(word_kind(&first.kind), 0);
+            Ok((stmt_node(first.at, kind), rest))
+        }
         _ => Err(Stop::Unexpected(tokens.len())),
     }
 }
