@@ -3,7 +3,7 @@ ghost use Rattle.std.specs.Prelude.{◌≡◌, IfOk};
 ghost use Rattle.wy_parse.specs.Trees as trees;
 
 use crate::measured::{Measured, both, boxed, expr_node};
-use sqlite_items::Items;
+use sqlite_items::{Boxed, Items};
 use std::alloc::{AllocError, Global};
 use wy_ast::{Expr, ExprKind, Op, Ty};
 use wy_data::Name;
@@ -50,18 +50,14 @@ pub fn not_node(
 }
 
 /// `|x|`
-pub fn len_node(
-    alloc: Global,
-    at: u32,
-    operand: Measured<Expr>,
-) -> Result<Measured<Expr>, AllocError>
-    ensures { IfOk result (λ e. e ≡ trees.len at operand) }
+pub fn len_node(at: u32, operand: Measured<Boxed<Expr>>) -> Measured<Expr>
+    ensures { result ≡ trees.len at operand }
 {
-    let kind = match boxed(alloc, operand)? {
+    let kind = match operand {
         Measured::Low(operand, height) => Measured::Low(ExprKind::Len(operand), height),
         Measured::High(at) => Measured::High(at),
     };
-    Ok(expr_node(at, kind))
+    expr_node(at, kind)
 }
 
 pub fn binary_node(
@@ -98,35 +94,29 @@ pub fn is_node(
 }
 
 pub fn index_node(
-    alloc: Global,
     at: u32,
-    array: Measured<Expr>,
-    index: Measured<Expr>,
-) -> Result<Measured<Expr>, AllocError>
-    ensures { IfOk result (λ e. e ≡ trees.index at array index) }
+    array: Measured<Boxed<Expr>>,
+    index: Measured<Boxed<Expr>>,
+) -> Measured<Expr>
+    ensures { result ≡ trees.index at array index }
 {
-    let kind = match both(boxed(alloc, array)?, boxed(alloc, index)?) {
+    let kind = match both(array, index) {
         Measured::Low((array, index), height) => {
             Measured::Low(ExprKind::Index(array, index), height)
         }
         Measured::High(at) => Measured::High(at),
     };
-    Ok(expr_node(at, kind))
+    expr_node(at, kind)
 }
 
-pub fn field_node(
-    alloc: Global,
-    at: u32,
-    whole: Measured<Expr>,
-    name: Name,
-) -> Result<Measured<Expr>, AllocError>
-    ensures { IfOk result (λ e. e ≡ trees.field at whole name) }
+pub fn field_node(at: u32, whole: Measured<Boxed<Expr>>, name: Name) -> Measured<Expr>
+    ensures { result ≡ trees.field at whole name }
 {
-    let kind = match boxed(alloc, whole)? {
+    let kind = match whole {
         Measured::Low(whole, height) => Measured::Low(ExprKind::Field(whole, name), height),
         Measured::High(at) => Measured::High(at),
     };
-    Ok(expr_node(at, kind))
+    expr_node(at, kind)
 }
 
 pub fn call_node(at: u32, name: Name, args: Measured<Items<Expr>>) -> Measured<Expr>
@@ -150,20 +140,19 @@ pub fn list_node(at: u32, items: Measured<Items<Expr>>) -> Measured<Expr>
 }
 
 pub fn repeat_node(
-    alloc: Global,
     at: u32,
-    item: Measured<Expr>,
-    count: Measured<Expr>,
-) -> Result<Measured<Expr>, AllocError>
-    ensures { IfOk result (λ e. e ≡ trees.repeat at item count) }
+    item: Measured<Boxed<Expr>>,
+    count: Measured<Boxed<Expr>>,
+) -> Measured<Expr>
+    ensures { result ≡ trees.repeat at item count }
 {
-    let kind = match both(boxed(alloc, item)?, boxed(alloc, count)?) {
+    let kind = match both(item, count) {
         Measured::Low((item, count), height) => {
             Measured::Low(ExprKind::Repeat(item, count), height)
         }
         Measured::High(at) => Measured::High(at),
     };
-    Ok(expr_node(at, kind))
+    expr_node(at, kind)
 }
 
 pub fn record_node(at: u32, fields: Fields) -> Measured<Expr>
@@ -186,19 +175,18 @@ pub fn range(name: Name, from: Measured<Expr>, to: Measured<Expr>) -> Measured<(
 }
 
 pub fn quant_node(
-    alloc: Global,
     at: u32,
     all: bool,
     ranges: Ranges,
-    body: Measured<Expr>,
-) -> Result<Measured<Expr>, AllocError>
-    ensures { IfOk result (λ e. e ≡ trees.quant at all ranges body) }
+    body: Measured<Boxed<Expr>>,
+) -> Measured<Expr>
+    ensures { result ≡ trees.quant at all ranges body }
 {
-    let kind = match both(ranges, boxed(alloc, body)?) {
+    let kind = match both(ranges, body) {
         Measured::Low((ranges, body), height) => {
             Measured::Low(ExprKind::Quant(all, ranges, body), height)
         }
         Measured::High(at) => Measured::High(at),
     };
-    Ok(expr_node(at, kind))
+    expr_node(at, kind)
 }

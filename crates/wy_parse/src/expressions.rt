@@ -13,7 +13,7 @@ use crate::expr_nodes::{
 };
 use crate::fault::Kind;
 use crate::literals::{glued, literal, next_is_glued, quantifier};
-use crate::measured::{Measured, named, pushed};
+use crate::measured::{Measured, boxed, named, pushed};
 use crate::operators::Operators;
 use crate::sort::{
     BAR, CLOSE_BRACE, CLOSE_BRACKET, CLOSE_PAREN, COLON, COMMA, Class, DOT, IMPLIES, IN, MINUS,
@@ -131,19 +131,22 @@ impl<
         requires { (l : ℕ) → l ≤ self.now.levels → Nests spec.unary l (U.pre self.now.unary) (U.post self.now.unary) }
         ensures { Reads (spec.indexed self.now.levels (spec.unary self.now.levels) (spec.expr self.now.levels) whole tokens.now) result }
     {
+        let whole = boxed(self.alloc, whole)?;
         let (at, rest) = mark(tokens, OPEN_BRACKET)?;
         let (index, rest) = self.inner_expr(rest)?;
+        let index = boxed(self.alloc, index)?;
         let (_, rest) = mark(rest, CLOSE_BRACKET)?;
-        Ok((index_node(self.alloc, at, whole, index)?, rest))
+        Ok((index_node(at, whole, index), rest))
     }
 
     #[tactic(auto, unfolding(crate::specs::ExprReading::selected))]
     fn selected<'a>(&self, whole: Measured<Expr>, tokens: &'a [Token]) -> Read<'a, Measured<Expr>>
         ensures { Reads (spec.selected self.now.levels (spec.unary self.now.levels) (spec.expr self.now.levels) whole tokens.now) result }
     {
+        let whole = boxed(self.alloc, whole)?;
         let (at, rest) = mark(tokens, DOT)?;
         let ((_, name), rest) = name(self.alloc, rest)?;
-        Ok((field_node(self.alloc, at, whole, name)?, rest))
+        Ok((field_node(at, whole, name), rest))
     }
 
     // primary = NUMERAL | STRING | 'null' | 'true' | 'false' | NAME | NAME '(' args ')'
@@ -197,8 +200,9 @@ impl<
     {
         let (at, rest) = mark(tokens, BAR)?;
         let (inner, rest) = self.inner_sum(rest)?;
+        let inner = boxed(self.alloc, inner)?;
         let (_, rest) = mark(rest, BAR)?;
-        Ok((len_node(self.alloc, at, inner)?, rest))
+        Ok((len_node(at, inner), rest))
     }
 
     // What begins with '[', '{', 'all' or 'some'.
@@ -329,10 +333,12 @@ impl<
         requires { (l : ℕ) → l ≤ self.now.levels → Nests spec.unary l (U.pre self.now.unary) (U.post self.now.unary) }
         ensures { Reads (spec.repeated self.now.levels (spec.unary self.now.levels) (spec.expr self.now.levels) at first tokens.now) result }
     {
+        let first = boxed(self.alloc, first)?;
         let (_, rest) = mark(tokens, SEMICOLON)?;
         let (count, rest) = self.inner_expr(rest)?;
+        let count = boxed(self.alloc, count)?;
         let (_, rest) = mark(rest, CLOSE_BRACKET)?;
-        Ok((repeat_node(self.alloc, at, first, count)?, rest))
+        Ok((repeat_node(at, first, count), rest))
     }
 
     #[tactic(auto, unfolding(crate::specs::ExprReading::itemized))]
@@ -401,8 +407,9 @@ impl<
         let (ranges, rest) = self.ranges(rest)?;
         let (_, rest) = mark(rest, BAR)?;
         let (body, rest) = self.inner_expr(rest)?;
+        let body = boxed(self.alloc, body)?;
         let (_, rest) = mark(rest, CLOSE_BRACE)?;
-        Ok((quant_node(self.alloc, at, all, ranges, body)?, rest))
+        Ok((quant_node(at, all, ranges, body), rest))
     }
 
     #[tactic(auto, using(wy_reading::proofs::Turns::reader_steps), unfolding(crate::specs::ExprReading::range_list))]
