@@ -1,7 +1,7 @@
-//! Expressions. What stands inside of brackets, bars and prefix operators is read by function values
-//! one level deeper, so each reader is proved by itself, and `unary` and `expr` alone call
+//! Expressions. What stands inside of brackets, bars and prefix operators is read by a function value
+//! one level deeper, so each reader is proved by itself, and `unary` and `joined` alone call
 //! themselves.
-ghost use Rattle.std.specs.Prelude.{◌≡◌};
+ghost use Rattle.std.specs.Prelude.{◌≡◌, ◌≤◌, ℕ};
 ghost use Rattle.wy_reading.specs.Reader.{Reads};
 ghost use Rattle.wy_parse.specs.ExprReading as spec;
 ghost use Rattle.wy_parse.specs.Nests.{Nests};
@@ -28,39 +28,32 @@ use wy_reading::Stop;
 
 /// The readers of what has an inside, where there are so many levels inside.
 #[derive(Clone, Copy)]
-struct Inside<U, E> {
+struct Inside<U> {
     alloc: Global,
     levels: usize,
     /// Reads `unary` on a level.
     unary: U,
-    /// Reads `expr` on a level.
-    expr: E,
 }
 
-impl<
-    U: Fn(Global, &[Token], usize) -> Result<(Measured<Expr>, &[Token]), Stop<Kind>> + Copy,
-    E: Fn(Global, &[Token], usize) -> Result<(Measured<Expr>, &[Token]), Stop<Kind>>,
-> Inside<U, E>
+impl<U: Fn(Global, &[Token], usize) -> Result<(Measured<Expr>, &[Token]), Stop<Kind>> + Copy>
+    Inside<U>
 {
     fn inner_unary<'a>(&self, tokens: &'a [Token]) -> Read<'a, Measured<Expr>>
-        requires unary { Nests spec.unary self.now.levels (U.pre self.now.unary) (U.post self.now.unary) }
-        requires expr { Nests spec.expr self.now.levels (E.pre self.now.expr) (E.post self.now.expr) }
+        requires { (l : ℕ) → l ≤ self.now.levels → Nests spec.unary l (U.pre self.now.unary) (U.post self.now.unary) }
         ensures { Reads (spec.unary self.now.levels tokens.now) result }
     {
         (self.unary)(self.alloc, tokens, self.levels)
     }
 
     fn inner_expr<'a>(&self, tokens: &'a [Token]) -> Read<'a, Measured<Expr>>
-        requires unary { Nests spec.unary self.now.levels (U.pre self.now.unary) (U.post self.now.unary) }
-        requires expr { Nests spec.expr self.now.levels (E.pre self.now.expr) (E.post self.now.expr) }
+        requires { (l : ℕ) → l ≤ self.now.levels → Nests spec.unary l (U.pre self.now.unary) (U.post self.now.unary) }
         ensures { Reads (spec.expr self.now.levels tokens.now) result }
     {
-        (self.expr)(self.alloc, tokens, self.levels)
+        joined(self.alloc, tokens, self.levels, self.unary)
     }
 
     fn inner_sum<'a>(&self, tokens: &'a [Token]) -> Read<'a, Measured<Expr>>
-        requires unary { Nests spec.unary self.now.levels (U.pre self.now.unary) (U.post self.now.unary) }
-        requires expr { Nests spec.expr self.now.levels (E.pre self.now.expr) (E.post self.now.expr) }
+        requires { (l : ℕ) → l ≤ self.now.levels → Nests spec.unary l (U.pre self.now.unary) (U.post self.now.unary) }
         ensures { Reads (spec.sum (spec.unary self.now.levels) tokens.now) result }
     {
         let operators = Operators {
@@ -74,8 +67,7 @@ impl<
     // unary = '!' unary | '-' unary | postfix
     #[tactic(auto, unfolding(crate::specs::ExprReading::unary_of))]
     fn prefixed<'a>(&self, tokens: &'a [Token]) -> Read<'a, Measured<Expr>>
-        requires unary { Nests spec.unary self.now.levels (U.pre self.now.unary) (U.post self.now.unary) }
-        requires expr { Nests spec.expr self.now.levels (E.pre self.now.expr) (E.post self.now.expr) }
+        requires { (l : ℕ) → l ≤ self.now.levels → Nests spec.unary l (U.pre self.now.unary) (U.post self.now.unary) }
         ensures { Reads (spec.unary_of self.now.levels (spec.unary self.now.levels) (spec.expr self.now.levels) tokens.now) result }
     {
         if next_is(tokens, NOT) {
@@ -94,8 +86,7 @@ impl<
     // What stands behind a minus: a numeral that touches it makes a literal with it.
     #[tactic(auto, unfolding(crate::specs::ExprReading::negated))]
     fn negated<'a>(&self, at: u32, tokens: &'a [Token]) -> Read<'a, Measured<Expr>>
-        requires unary { Nests spec.unary self.now.levels (U.pre self.now.unary) (U.post self.now.unary) }
-        requires expr { Nests spec.expr self.now.levels (E.pre self.now.expr) (E.post self.now.expr) }
+        requires { (l : ℕ) → l ≤ self.now.levels → Nests spec.unary l (U.pre self.now.unary) (U.post self.now.unary) }
         ensures { Reads (spec.negated self.now.levels (spec.unary self.now.levels) (spec.expr self.now.levels) at tokens.now) result }
     {
         if next_is_glued(tokens, at) {
@@ -109,8 +100,7 @@ impl<
     // { '[' expr ']' | '.' NAME }, behind a primary
     #[tactic(auto, using(wy_reading::proofs::Turns::reader_steps), unfolding(crate::specs::ExprReading::steps))]
     fn steps<'a>(&self, first: Measured<Expr>, tokens: &'a [Token]) -> Read<'a, Measured<Expr>>
-        requires unary { Nests spec.unary self.now.levels (U.pre self.now.unary) (U.post self.now.unary) }
-        requires expr { Nests spec.expr self.now.levels (E.pre self.now.expr) (E.post self.now.expr) }
+        requires { (l : ℕ) → l ≤ self.now.levels → Nests spec.unary l (U.pre self.now.unary) (U.post self.now.unary) }
         ensures { Reads (spec.steps self.now.levels (spec.unary self.now.levels) (spec.expr self.now.levels) first tokens.now) result }
     {
         let (mut made, mut rest) = (first, tokens);
@@ -127,8 +117,7 @@ impl<
 
     #[tactic(auto, unfolding(crate::specs::ExprReading::step))]
     fn step<'a>(&self, whole: Measured<Expr>, tokens: &'a [Token]) -> Read<'a, Measured<Expr>>
-        requires unary { Nests spec.unary self.now.levels (U.pre self.now.unary) (U.post self.now.unary) }
-        requires expr { Nests spec.expr self.now.levels (E.pre self.now.expr) (E.post self.now.expr) }
+        requires { (l : ℕ) → l ≤ self.now.levels → Nests spec.unary l (U.pre self.now.unary) (U.post self.now.unary) }
         ensures { Reads (spec.step self.now.levels (spec.unary self.now.levels) (spec.expr self.now.levels) whole tokens.now) result }
     {
         if next_is(tokens, OPEN_BRACKET) {
@@ -147,8 +136,7 @@ impl<
     //         | '{' fields '}' | ( 'all' | 'some' ) '{' range { ',' range } '|' expr '}'
     #[tactic(auto, unfolding(crate::specs::ExprReading::primary))]
     fn primary<'a>(&self, tokens: &'a [Token]) -> Read<'a, Measured<Expr>>
-        requires unary { Nests spec.unary self.now.levels (U.pre self.now.unary) (U.post self.now.unary) }
-        requires expr { Nests spec.expr self.now.levels (E.pre self.now.expr) (E.post self.now.expr) }
+        requires { (l : ℕ) → l ≤ self.now.levels → Nests spec.unary l (U.pre self.now.unary) (U.post self.now.unary) }
         ensures { Reads (spec.primary self.now.levels (spec.unary self.now.levels) (spec.expr self.now.levels) tokens.now) result }
     {
         if next_in(tokens, Class::Literal) {
@@ -164,8 +152,7 @@ impl<
     // What begins with a bracket, a bar, 'all' or 'some'.
     #[tactic(auto, unfolding(crate::specs::ExprReading::enclosed))]
     fn enclosed<'a>(&self, tokens: &'a [Token]) -> Read<'a, Measured<Expr>>
-        requires unary { Nests spec.unary self.now.levels (U.pre self.now.unary) (U.post self.now.unary) }
-        requires expr { Nests spec.expr self.now.levels (E.pre self.now.expr) (E.post self.now.expr) }
+        requires { (l : ℕ) → l ≤ self.now.levels → Nests spec.unary l (U.pre self.now.unary) (U.post self.now.unary) }
         ensures { Reads (spec.enclosed self.now.levels (spec.unary self.now.levels) (spec.expr self.now.levels) tokens.now) result }
     {
         if next_is(tokens, OPEN_PAREN) {
@@ -186,8 +173,7 @@ impl<
     // What begins with '[', '{', 'all' or 'some'.
     #[tactic(auto, unfolding(crate::specs::ExprReading::collected))]
     fn collected<'a>(&self, tokens: &'a [Token]) -> Read<'a, Measured<Expr>>
-        requires unary { Nests spec.unary self.now.levels (U.pre self.now.unary) (U.post self.now.unary) }
-        requires expr { Nests spec.expr self.now.levels (E.pre self.now.expr) (E.post self.now.expr) }
+        requires { (l : ℕ) → l ≤ self.now.levels → Nests spec.unary l (U.pre self.now.unary) (U.post self.now.unary) }
         ensures { Reads (spec.collected self.now.levels (spec.unary self.now.levels) (spec.expr self.now.levels) tokens.now) result }
     {
         if next_is(tokens, OPEN_BRACKET) {
@@ -207,8 +193,7 @@ impl<
     // A variable, or a call of the name.
     #[tactic(auto, unfolding(crate::specs::ExprReading::called))]
     fn called<'a>(&self, at: u32, name: Name, tokens: &'a [Token]) -> Read<'a, Measured<Expr>>
-        requires unary { Nests spec.unary self.now.levels (U.pre self.now.unary) (U.post self.now.unary) }
-        requires expr { Nests spec.expr self.now.levels (E.pre self.now.expr) (E.post self.now.expr) }
+        requires { (l : ℕ) → l ≤ self.now.levels → Nests spec.unary l (U.pre self.now.unary) (U.post self.now.unary) }
         ensures { Reads (spec.called self.now.levels (spec.unary self.now.levels) (spec.expr self.now.levels) at name tokens.now) result }
     {
         if !next_is(tokens, OPEN_PAREN) {
@@ -223,8 +208,7 @@ impl<
     // args = [ expr { ',' expr } ]
     #[tactic(auto, unfolding(crate::specs::ExprReading::arg_list))]
     fn args<'a>(&self, tokens: &'a [Token]) -> Read<'a, Measured<Items<Expr>>>
-        requires unary { Nests spec.unary self.now.levels (U.pre self.now.unary) (U.post self.now.unary) }
-        requires expr { Nests spec.expr self.now.levels (E.pre self.now.expr) (E.post self.now.expr) }
+        requires { (l : ℕ) → l ≤ self.now.levels → Nests spec.unary l (U.pre self.now.unary) (U.post self.now.unary) }
         ensures { Reads (spec.arg_list self.now.levels (spec.unary self.now.levels) (spec.expr self.now.levels) tokens.now) result }
     {
         let none = Measured::Low(Items::new(self.alloc), 0);
@@ -241,8 +225,7 @@ impl<
         args: Measured<Items<Expr>>,
         tokens: &'a [Token],
     ) -> Read<'a, Measured<Items<Expr>>>
-        requires unary { Nests spec.unary self.now.levels (U.pre self.now.unary) (U.post self.now.unary) }
-        requires expr { Nests spec.expr self.now.levels (E.pre self.now.expr) (E.post self.now.expr) }
+        requires { (l : ℕ) → l ≤ self.now.levels → Nests spec.unary l (U.pre self.now.unary) (U.post self.now.unary) }
         ensures { Reads (spec.more_args self.now.levels (spec.unary self.now.levels) (spec.expr self.now.levels) args tokens.now) result }
     {
         let (mut made, mut rest) = (args, tokens);
@@ -262,8 +245,7 @@ impl<
         args: Measured<Items<Expr>>,
         tokens: &'a [Token],
     ) -> Read<'a, Measured<Items<Expr>>>
-        requires unary { Nests spec.unary self.now.levels (U.pre self.now.unary) (U.post self.now.unary) }
-        requires expr { Nests spec.expr self.now.levels (E.pre self.now.expr) (E.post self.now.expr) }
+        requires { (l : ℕ) → l ≤ self.now.levels → Nests spec.unary l (U.pre self.now.unary) (U.post self.now.unary) }
         ensures { Reads (spec.next_arg self.now.levels (spec.unary self.now.levels) (spec.expr self.now.levels) args tokens.now) result }
     {
         let (_, rest) = mark(tokens, COMMA)?;
@@ -274,8 +256,7 @@ impl<
     // What stands behind '[': a list, or an item and how often it stands.
     #[tactic(auto, unfolding(crate::specs::ExprReading::listed))]
     fn listed<'a>(&self, at: u32, tokens: &'a [Token]) -> Read<'a, Measured<Expr>>
-        requires unary { Nests spec.unary self.now.levels (U.pre self.now.unary) (U.post self.now.unary) }
-        requires expr { Nests spec.expr self.now.levels (E.pre self.now.expr) (E.post self.now.expr) }
+        requires { (l : ℕ) → l ≤ self.now.levels → Nests spec.unary l (U.pre self.now.unary) (U.post self.now.unary) }
         ensures { Reads (spec.listed self.now.levels (spec.unary self.now.levels) (spec.expr self.now.levels) at tokens.now) result }
     {
         if next_is(tokens, CLOSE_BRACKET) {
@@ -294,8 +275,7 @@ impl<
         first: Measured<Expr>,
         tokens: &'a [Token],
     ) -> Read<'a, Measured<Expr>>
-        requires unary { Nests spec.unary self.now.levels (U.pre self.now.unary) (U.post self.now.unary) }
-        requires expr { Nests spec.expr self.now.levels (E.pre self.now.expr) (E.post self.now.expr) }
+        requires { (l : ℕ) → l ≤ self.now.levels → Nests spec.unary l (U.pre self.now.unary) (U.post self.now.unary) }
         ensures { Reads (spec.listed_rest self.now.levels (spec.unary self.now.levels) (spec.expr self.now.levels) at first tokens.now) result }
     {
         if next_is(tokens, SEMICOLON) {
@@ -313,8 +293,7 @@ impl<
     // [ NAME ':' expr { ',' NAME ':' expr } ]
     #[tactic(auto, using(wy_reading::proofs::Turns::reader_steps), unfolding(crate::specs::ExprReading::field_list))]
     fn fields<'a>(&self, tokens: &'a [Token]) -> Read<'a, Fields>
-        requires unary { Nests spec.unary self.now.levels (U.pre self.now.unary) (U.post self.now.unary) }
-        requires expr { Nests spec.expr self.now.levels (E.pre self.now.expr) (E.post self.now.expr) }
+        requires { (l : ℕ) → l ≤ self.now.levels → Nests spec.unary l (U.pre self.now.unary) (U.post self.now.unary) }
         ensures { Reads (spec.field_list self.now.levels (spec.unary self.now.levels) (spec.expr self.now.levels) tokens.now) result }
     {
         let none = Measured::Low(Items::new(self.alloc), 0);
@@ -335,8 +314,7 @@ impl<
 
     #[tactic(auto, unfolding(crate::specs::ExprReading::field))]
     fn field<'a>(&self, fields: Fields, tokens: &'a [Token]) -> Read<'a, Fields>
-        requires unary { Nests spec.unary self.now.levels (U.pre self.now.unary) (U.post self.now.unary) }
-        requires expr { Nests spec.expr self.now.levels (E.pre self.now.expr) (E.post self.now.expr) }
+        requires { (l : ℕ) → l ≤ self.now.levels → Nests spec.unary l (U.pre self.now.unary) (U.post self.now.unary) }
         ensures { Reads (spec.field self.now.levels (spec.unary self.now.levels) (spec.expr self.now.levels) fields tokens.now) result }
     {
         let ((_, name), rest) = inner_name(self.alloc, tokens, self.levels)?;
@@ -346,8 +324,7 @@ impl<
     }
 
     fn next_field<'a>(&self, fields: Fields, tokens: &'a [Token]) -> Read<'a, Fields>
-        requires unary { Nests spec.unary self.now.levels (U.pre self.now.unary) (U.post self.now.unary) }
-        requires expr { Nests spec.expr self.now.levels (E.pre self.now.expr) (E.post self.now.expr) }
+        requires { (l : ℕ) → l ≤ self.now.levels → Nests spec.unary l (U.pre self.now.unary) (U.post self.now.unary) }
         ensures { Reads (spec.next_field self.now.levels (spec.unary self.now.levels) (spec.expr self.now.levels) fields tokens.now) result }
     {
         let (_, rest) = mark(tokens, COMMA)?;
@@ -357,8 +334,7 @@ impl<
     // What stands behind 'all' and 'some': '{' range { ',' range } '|' expr '}'
     #[tactic(auto, unfolding(crate::specs::ExprReading::quantified))]
     fn quantified<'a>(&self, at: u32, all: bool, tokens: &'a [Token]) -> Read<'a, Measured<Expr>>
-        requires unary { Nests spec.unary self.now.levels (U.pre self.now.unary) (U.post self.now.unary) }
-        requires expr { Nests spec.expr self.now.levels (E.pre self.now.expr) (E.post self.now.expr) }
+        requires { (l : ℕ) → l ≤ self.now.levels → Nests spec.unary l (U.pre self.now.unary) (U.post self.now.unary) }
         ensures { Reads (spec.quantified self.now.levels (spec.unary self.now.levels) (spec.expr self.now.levels) at all tokens.now) result }
     {
         let (_, rest) = mark(tokens, OPEN_BRACE)?;
@@ -371,8 +347,7 @@ impl<
 
     #[tactic(auto, using(wy_reading::proofs::Turns::reader_steps), unfolding(crate::specs::ExprReading::range_list))]
     fn ranges<'a>(&self, tokens: &'a [Token]) -> Read<'a, Ranges>
-        requires unary { Nests spec.unary self.now.levels (U.pre self.now.unary) (U.post self.now.unary) }
-        requires expr { Nests spec.expr self.now.levels (E.pre self.now.expr) (E.post self.now.expr) }
+        requires { (l : ℕ) → l ≤ self.now.levels → Nests spec.unary l (U.pre self.now.unary) (U.post self.now.unary) }
         ensures { Reads (spec.range_list self.now.levels (spec.unary self.now.levels) (spec.expr self.now.levels) tokens.now) result }
     {
         let none = Measured::Low(Items::new(self.alloc), 0);
@@ -391,8 +366,7 @@ impl<
     // range = NAME 'in' sum '..' sum
     #[tactic(auto, unfolding(crate::specs::ExprReading::range))]
     fn range<'a>(&self, ranges: Ranges, tokens: &'a [Token]) -> Read<'a, Ranges>
-        requires unary { Nests spec.unary self.now.levels (U.pre self.now.unary) (U.post self.now.unary) }
-        requires expr { Nests spec.expr self.now.levels (E.pre self.now.expr) (E.post self.now.expr) }
+        requires { (l : ℕ) → l ≤ self.now.levels → Nests spec.unary l (U.pre self.now.unary) (U.post self.now.unary) }
         ensures { Reads (spec.range self.now.levels (spec.unary self.now.levels) (spec.expr self.now.levels) ranges tokens.now) result }
     {
         let ((_, name), rest) = inner_name(self.alloc, tokens, self.levels)?;
@@ -404,8 +378,7 @@ impl<
     }
 
     fn next_range<'a>(&self, ranges: Ranges, tokens: &'a [Token]) -> Read<'a, Ranges>
-        requires unary { Nests spec.unary self.now.levels (U.pre self.now.unary) (U.post self.now.unary) }
-        requires expr { Nests spec.expr self.now.levels (E.pre self.now.expr) (E.post self.now.expr) }
+        requires { (l : ℕ) → l ≤ self.now.levels → Nests spec.unary l (U.pre self.now.unary) (U.post self.now.unary) }
         ensures { Reads (spec.next_range self.now.levels (spec.unary self.now.levels) (spec.expr self.now.levels) ranges tokens.now) result }
     {
         let (_, rest) = mark(tokens, COMMA)?;
@@ -413,28 +386,15 @@ impl<
     }
 }
 
-/// What may be an operand, where there are so many levels.
-#[cycle(levels)]
-#[tactic(auto, using(crate::proofs::StepLemmas::unary_steps))]
-pub fn unary(alloc: Global, tokens: &[Token], levels: usize) -> Result<(Measured<Expr>, &[Token]), Stop<Kind>>
-    ensures { Reads (spec.unary levels tokens.now) result }
-{
-    if levels == 0 {
-        return too_deep(tokens, Class::Expression);
-    }
-    let inside = Inside {
-        alloc,
-        levels: levels - 1,
-        unary,
-        expr,
-    };
-    inside.prefixed(tokens)
-}
-
-/// expr = logic [ '==>' expr ], where there are so many levels.
-#[cycle(levels)]
+// expr = logic [ '==>' expr ], where there are so many levels, over the reader of operands.
 #[tactic(auto, using(crate::proofs::StepLemmas::expr_steps), unfolding(crate::specs::ExprReading::expr_of))]
-pub fn expr(alloc: Global, tokens: &[Token], levels: usize) -> Result<(Measured<Expr>, &[Token]), Stop<Kind>>
+fn joined<'a, U: Fn(Global, &[Token], usize) -> Result<(Measured<Expr>, &[Token]), Stop<Kind>> + Copy>(
+    alloc: Global,
+    tokens: &'a [Token],
+    levels: usize,
+    unary: U,
+) -> Read<'a, Measured<Expr>>
+    requires { (l : ℕ) → l ≤ levels → Nests spec.unary l (U.pre unary) (U.post unary) }
     ensures { Reads (spec.expr levels tokens.now) result }
 {
     if levels == 0 {
@@ -450,8 +410,31 @@ pub fn expr(alloc: Global, tokens: &[Token], levels: usize) -> Result<(Measured<
         return Ok((left, rest));
     }
     let (at, rest) = mark(rest, IMPLIES)?;
-    let (right, rest) = expr(alloc, rest, levels - 1)?;
+    let (right, rest) = joined(alloc, rest, levels - 1, unary)?;
     Ok((binary_node(alloc, at, Op::Implies, left, right)?, rest))
+}
+
+/// What may be an operand, where there are so many levels.
+#[tactic(auto, using(crate::proofs::StepLemmas::unary_steps))]
+fn unary(alloc: Global, tokens: &[Token], levels: usize) -> Result<(Measured<Expr>, &[Token]), Stop<Kind>>
+    ensures { Reads (spec.unary levels tokens.now) result }
+{
+    if levels == 0 {
+        return too_deep(tokens, Class::Expression);
+    }
+    let inside = Inside {
+        alloc,
+        levels: levels - 1,
+        unary,
+    };
+    inside.prefixed(tokens)
+}
+
+/// An expression, where there are so many levels.
+pub fn expr(alloc: Global, tokens: &[Token], levels: usize) -> Read<'_, Measured<Expr>>
+    ensures { Reads (spec.expr levels tokens.now) result }
+{
+    joined(alloc, tokens, levels, unary)
 }
 
 /// A sum, where there are so many levels.
@@ -474,7 +457,6 @@ pub fn arguments(alloc: Global, tokens: &[Token], levels: usize) -> Read<'_, Mea
         alloc,
         levels,
         unary,
-        expr,
     };
     inside.args(tokens)
 }
