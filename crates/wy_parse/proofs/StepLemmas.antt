@@ -72,18 +72,24 @@ pub ruleset expr_steps = (expr_next, expr_none)
 
 -- ---- statements with blocks on a level
 
-pub branch_next : (n m : ℕ) (i : List Token) → n ≡ suc m → (nested true n).branch i ≡ if_stmt true n (nested true m).block (nested true m).branch i
+pub branch_more : (n : ℕ) (i : List Token) → 0 < n → (nested true n).branch i ≡ if_stmt true n (nested true (n - 1)).block (nested true (n - 1)).branch i
 unfolding nested
-branch_next n m i e = rw e refl
+branch_more zero i h = absurd (omega (arith, h))
+branch_more (suc n) i h = let e : suc n - 1 ≡ n = omega arith in rw e refl
 
 pub branch_shut : (n : ℕ) (i : List Token) → n ≡ 0 → (nested true n).branch i ≡ refused (is IF) Deep i
 unfolding nested
 branch_shut n i e = rw e refl
 
-pub cases_next : (n m : ℕ) (cs : CaseList) (i : List Token) → n ≡ suc m → heads (is CASE) i ≡ true
-    → (nested true n).cases cs i ≡ (mark CASE >>= (λ _. case_rest (nested true m).block cs >>= (nested true m).cases)) i
+pub cases_more : (n : ℕ) (cs : CaseList) (i : List Token) → 0 < n → heads (is CASE) i ≡ true
+    → (nested true n).cases cs i ≡ (mark CASE >>= (λ _. case_rest (nested true (n - 1)).block cs >>= (nested true (n - 1)).cases)) i
 unfolding nested
-cases_next n m cs i e h = rw (e, h) refl
+cases_more zero cs i h g = absurd (omega (arith, h))
+cases_more (suc n) cs i h g = let e : suc n - 1 ≡ n = omega arith in rw (e, g) refl
+
+pub cases_shut : (n : ℕ) (cs : CaseList) (i : List Token) → n ≡ 0 → heads (is CASE) i ≡ true → (nested true n).cases cs i ≡ refused (is CASE) Deep i
+unfolding nested
+cases_shut n cs i e h = rw (e, h) refl
 
 pub cases_default : (n : ℕ) (cs : CaseList) (i : List Token) → heads (is CASE) i ≡ false → heads (is DEFAULT) i ≡ true → (nested true n).cases cs i ≡ default (nested true n).block cs i
 unfolding nested
@@ -95,7 +101,19 @@ unfolding nested
 cases_last zero cs i h g = rw (h, g) refl
 cases_last (suc n) cs i h g = rw (h, g) refl
 
-pub ruleset block_steps = (branch_next, branch_shut, cases_next, cases_default, cases_last)
+pub ruleset block_steps = (branch_more, branch_shut, cases_more, cases_shut, cases_default, cases_last)
+
+-- the level inside, where a statement stands
+pub branch_inside : (n : ℕ) (i : List Token) → 0 < n → (nested true n).branch i ≡ if_stmt true n (nested true (inside n)).block (nested true (inside n)).branch i
+unfolding nested
+branch_inside zero i h = absurd (omega (arith, h))
+branch_inside (suc n) i h = refl
+
+pub inside_below : (n : ℕ) → 0 < n → inside n < n
+inside_below zero h = absurd (omega (arith, h))
+inside_below (suc n) h = omega arith
+
+pub ruleset statement_steps = (branch_inside, inside_below)
 
 -- ---- a loop whose turn stops
 

@@ -263,7 +263,7 @@ fn lone_default(tokens: &[Token]) -> Read<'_, u32>
 }
 
 // A case, and what follows it in its switch.
-#[tactic(auto, unfolding(crate::specs::OpenBlocks::with_cases))]
+#[tactic(auto, using(crate::proofs::StepLemmas::statement_steps), unfolding(crate::specs::OpenBlocks::with_cases))]
 fn with_cases<'a, B: Fn(Global, &[Token], usize) -> Result<(Stmts, &[Token]), Stop<Kind>>>(
     nested: &Nested<B>,
     tokens: &'a [Token],
@@ -280,7 +280,7 @@ fn with_cases<'a, B: Fn(Global, &[Token], usize) -> Result<(Stmts, &[Token]), St
 }
 
 // A statement that is no switch.
-#[tactic(auto, unfolding(crate::specs::OpenBlocks::statement_but_switch))]
+#[tactic(auto, using(crate::proofs::StepLemmas::statement_steps), unfolding(crate::specs::OpenBlocks::statement_but_switch))]
 fn statement<'a, B: Fn(Global, &[Token], usize) -> Result<(Stmts, &[Token]), Stop<Kind>>>(
     nested: &Nested<B>,
     tokens: &'a [Token],
