@@ -50,7 +50,7 @@ unfolding read.quantifier
 quantifier_none = declines-then (one (has class.Quantifier)) _ (declines-one (has class.Quantifier) (λ i h. fewer (members class.Quantifier) (members class.Expression) i refl h))
 
 primary_none : (d : ℕ) (u v : Q E) → NoExpr (read.primary d u v)
-unfolding read.primary read.enclosed read.collected
+unfolding read.primary read.enclosed read.grouped read.barred_in read.collected
 primary_none d u v =
     declines-branch (has class.Literal) _ _ literal_none
     (declines-branch (is t.NAME) _ _ (declines-then name _ name_none)
@@ -96,7 +96,7 @@ module _ (z : List Token) where
   Null q = q (null ∷ z) ≡ Ok (leaf 0 e.Null, z)
 
   unary-null : (s : Bool) (d : ℕ) → 1 ≤ d → After after_unary z → Null (readers s d).unary
-  unfolding readers read.unary_of read.primary read.enclosed read.collected read.literal read.steps
+  unfolding readers read.unary_of read.primary read.enclosed read.grouped read.barred_in read.collected read.literal read.steps
   unary-null s zero h f = absurd (omega (arith, h))
   unary-null s (suc d) h f = loop-halts (has class.Step) _ (length z) (leaf 0 e.Null) z (fewer (members class.Step) after_unary z refl f)
 
@@ -110,7 +110,7 @@ module _ (z : List Token) where
       rw (product-null u h (fewer after_product after_sum z refl f)) (loop-halts (has class.Summand) _ (length z) (leaf 0 e.Null) z (fewer (members class.Summand) after_sum z refl f))
 
   comparison-null : (d : ℕ) (u : Q E) → Null u → After after_comparison z → Null (read.comparison d u)
-  unfolding read.comparison read.compared
+  unfolding read.comparison read.compared read.related read.tested
   comparison-null d u h f =
       rw (sum-null u h (fewer after_sum after_comparison z refl f), fewer (members class.Comparison) after_comparison z refl f, one_out t.IS after_comparison z refl f) refl
 

@@ -135,7 +135,7 @@ module _ (d : ℕ) (s : Bool) (U : R E) (u : Mode → Q E) (V : R E) (v : Mode �
     closing-exact {F} c s' good = inner-exact (λ l. l) 1 (λ a b h. h) (λ l h. h) c s' good {F = F} n
 
     listed-exact : (place : ℕ) → Exact n (rule.Listed d U V place) (λ m. read.listed m.depth (u m) (v m) place) Any (λ i. Passes (is t.CLOSE_BRACKET) i ⊎ BeginsExpr i)
-    unfolding read.listed read.listed_rest
+    unfolding read.listed read.listed_rest read.repeated read.itemized
     listed-exact place =
         choice (is t.CLOSE_BRACKET)
         (sequence (closing-exact {F = Any} t.CLOSE_BRACKET (some k.CloseBracket) refl) (λ r. nothing (trees.list place none)) (λ i b. tt))
@@ -180,7 +180,7 @@ module _ (d : ℕ) (s : Bool) (U : R E) (u : Mode → Q E) (V : R E) (v : Mode �
         (λ i h. at t.BAR after_ranges i h)) (λ i b. tt)
 
     primary-exact : Exact n (rule.Primary d U V) (λ m. read.primary m.depth (u m) (v m)) (After after_name) (Passes (among_these primaries))
-    unfolding read.primary read.enclosed read.collected
+    unfolding read.primary read.enclosed read.grouped read.barred_in read.collected
     primary-exact =
         choice_among (members class.Literal) (t.NAME ∷ t.OPEN_PAREN ∷ t.BAR ∷ t.OPEN_BRACKET ∷ t.OPEN_BRACE ∷ t.ALL ∷ t.SOME ∷ []) primaries literal-exact
         (choice_of t.NAME (t.OPEN_PAREN ∷ t.BAR ∷ t.OPEN_BRACKET ∷ t.OPEN_BRACE ∷ t.ALL ∷ t.SOME ∷ []) (t.NAME ∷ t.OPEN_PAREN ∷ t.BAR ∷ t.OPEN_BRACKET ∷ t.OPEN_BRACE ∷ t.ALL ∷ t.SOME ∷ [])
@@ -202,7 +202,7 @@ module _ (d : ℕ) (s : Bool) (U : R E) (u : Mode → Q E) (V : R E) (v : Mode �
         refl refl refl) refl refl refl) refl refl refl) refl refl refl) refl refl refl) refl refl refl
 
     step-exact : (a : E) → Exact n (rule.Step d U V a) (λ m. read.step m.depth (u m) (v m) a) Any (Passes (has class.Step))
-    unfolding read.step
+    unfolding read.step read.indexed read.selected
     step-exact a =
         adapt (choice (is t.OPEN_BRACKET)
         (sequence (mark-exact {F = Any} t.OPEN_BRACKET (some k.OpenBracket) refl)

@@ -121,8 +121,8 @@ type-takes zero h = absurd (omega (arith, h))
 type-takes (suc e) h =
     let g : Goes 0 refuse (types.tight (suc e)) = goes-none (within-tight (suc e)) in
     takes-then (takes-then (takes-then (tight-takes e (omega (arith, h))) (λ a. (go-suffixes 0 0 (suc e) (omega (arith, h)) a).within))
-        (λ a. (go-inters 0 0 (suc e) (omega (arith, h)) refuse (types.tight (suc e)) g a).within))
-        (λ a. (go-unions 0 0 (suc e) (omega (arith, h)) refuse (types.tight (suc e)) g a).within)
+    (λ a. (go-inters 0 0 (suc e) (omega (arith, h)) refuse (types.tight (suc e)) g a).within))
+    (λ a. (go-unions 0 0 (suc e) (omega (arith, h)) refuse (types.tight (suc e)) g a).within)
 
 module _ (most : ℕ) where
   pub go-type : (d e : ℕ) → 3 + d ≤ e → Goes most (types.type_term d) (types.type_term e)
@@ -156,7 +156,7 @@ module _ (most : ℕ) where
 
     module _ (d e : ℕ) (h : 3 + d ≤ e) where
       go-compared : (a : E) → Goes most (exprs.compared d u a) (exprs.compared e w a)
-      unfolding exprs.compared
+      unfolding exprs.compared exprs.related exprs.tested
       go-compared a =
           goes-branch (has class.Comparison) (goes-then (goes-operator class.Comparison) (λ o. goes-then go-sum (λ b. goes-pure _)))
           (goes-branch (is t.IS) (goes-then (goes-mark t.IS) (λ at. goes-then (go-type d e h) (λ ty. goes-pure _)))
@@ -245,7 +245,7 @@ module _ (most d e : ℕ) (h : 2 ≤ e) (u w v x : Q E) (go_u : Goes most u w) (
   go-ranges = goes-then (go-range none) (λ rs. goes-while (is t.COMMA) rs (λ qs. goes-then (goes-mark t.COMMA) (λ r. go-range qs)))
 
   go-listed : (at : ℕ) → Goes most (exprs.listed d u v at) (exprs.listed e w x at)
-  unfolding exprs.listed exprs.listed_rest
+  unfolding exprs.listed exprs.listed_rest exprs.repeated exprs.itemized
   go-listed at =
       goes-branch (is t.CLOSE_BRACKET) (goes-then (goes-inner d e t.CLOSE_BRACKET (omega (arith, h))) (λ r. goes-pure _))
       (goes-then go_v (λ a.
@@ -283,7 +283,7 @@ module _ (most d e : ℕ) (h : 2 ≤ e) (u w v x : Q E) (go_u : Goes most u w) (
   record_expr at = goes-then go-record_fields (λ fs. goes-then (goes-inner d e t.CLOSE_BRACE (omega (arith, h))) (λ r. goes-pure _))
 
   go-primary : Goes most (exprs.primary d u v) (exprs.primary e w x)
-  unfolding exprs.primary exprs.enclosed exprs.collected
+  unfolding exprs.primary exprs.enclosed exprs.grouped exprs.barred_in exprs.collected
   go-primary =
       goes-branch (has class.Literal) go-literal
       (goes-branch (is t.NAME) (goes-then goes-name (λ n. go-called n.0 n.1))
@@ -320,7 +320,7 @@ module _ (most d e : ℕ) (h : 2 ≤ e) (u w v x : Q E) (go_u : Goes most u w) (
   primaries = members class.Literal ++ from_name
 
   take-primary : Takes primaries (exprs.primary e w x)
-  unfolding exprs.primary exprs.enclosed exprs.collected
+  unfolding exprs.primary exprs.enclosed exprs.grouped exprs.barred_in exprs.collected
   take-primary =
       takes-class (members class.Literal) primaries from_name refl take-literal
       (takes-is t.NAME from_name from_paren refl (name-on (λ n. (go-called n.0 n.1).within))
@@ -331,7 +331,7 @@ module _ (most d e : ℕ) (h : 2 ≤ e) (u w v x : Q E) (go_u : Goes most u w) (
       (takes-then take-quantifier (λ q. (go-quantified q.0 q.1).within)))))))
 
   go-step : (a : E) → Goes most (exprs.step d u v a) (exprs.step e w x a)
-  unfolding exprs.step
+  unfolding exprs.step exprs.indexed exprs.selected
   go-step a =
       goes-branch (is t.OPEN_BRACKET) (goes-then (goes-mark t.OPEN_BRACKET) (λ at. goes-then go_v (λ i. goes-then (goes-mark t.CLOSE_BRACKET) (λ r. goes-pure _))))
       (goes-then (goes-mark t.DOT) (λ at. goes-then goes-name (λ n. goes-pure _)))
@@ -385,7 +385,7 @@ unfolding exprs.expr_of exprs.logic exprs.comparison exprs.sum exprs.product
 expr_of-takes e h w x takes inside_w inside_x =
     let g : Goes 0 refuse w = goes-none inside_w in
     takes-then (takes-then (takes-then (takes-then (takes-then takes (λ a. (go-factors 0 refuse w g a).within)) (λ a. (go-summands 0 refuse w g a).within))
-        (λ a. (go-compared 0 refuse w g 0 e h a).within)) (λ a. (go-connectives 0 refuse w g 0 e h false a).within)) (λ a. (go-implied 0 refuse w g 0 e h refuse x (goes-none inside_x) a).within)
+    (λ a. (go-compared 0 refuse w g 0 e h a).within)) (λ a. (go-connectives 0 refuse w g 0 e h false a).within)) (λ a. (go-implied 0 refuse w g 0 e h refuse x (goes-none inside_x) a).within)
 
 expr-takes : (e : ℕ) → 2 ≤ e → Takes (members class.Expression) (readers false (suc e)).expr
 unfolding readers

@@ -80,7 +80,7 @@ module _ (n : Mode) (U : R E) (u : Mode → Q E) (exact : Exact n U u (After aft
   BeginsCompared i = Passes (has class.Comparison) i ⊎ (Passes (is t.IS) i ⊎ After after_comparison i)
 
   compared-exact : (a : E) → Exact n (rule.Compared n.depth U a) (λ m. read.compared m.depth (u m) a) (After after_comparison) BeginsCompared
-  unfolding read.compared
+  unfolding read.compared read.related read.tested
   compared-exact a =
       choice (has class.Comparison)
       (sequence (operator-exact {F = Any} class.Comparison (some k.Less) refl)

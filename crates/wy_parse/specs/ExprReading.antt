@@ -36,11 +36,14 @@ module _ (unary : Q E) where
   sum = product >>= (λ a. while (has class.Summand) summand a)
 
 module _ (levels : ℕ) (unary : Q E) where
+  unfoldable pub related : E → Q E
+  related a = operator class.Comparison >>= (λ o. sum unary >>= (λ b. pure (binary o.0 o.1 a b)))
+
+  unfoldable pub tested : E → Q E
+  tested a = mark t.IS >>= (λ at. type_term levels >>= (λ ty. pure (trees.is_expr at a ty)))
+
   unfoldable pub compared : E → Q E
-  compared a =
-      branch (has class.Comparison) (operator class.Comparison >>= (λ o. sum unary >>= (λ b. pure (binary o.0 o.1 a b))))
-      (branch (is t.IS) (mark t.IS >>= (λ at. type_term levels >>= (λ ty. pure (trees.is_expr at a ty))))
-      (pure a))
+  compared a = branch (has class.Comparison) (related a) (branch (is t.IS) (tested a) (pure a))
 
   unfoldable pub comparison : Q E
   comparison = sum unary >>= compared
@@ -96,11 +99,17 @@ module _ (levels : ℕ) (unary expr : Q E) where
   unfoldable pub range_list : Q Ranges
   range_list = range none >>= (λ rs. while (is t.COMMA) next_range rs)
 
+  -- behind the item: how often it stands
+  unfoldable pub repeated : ℕ → E → Q E
+  repeated at a = mark t.SEMICOLON >>= (λ _. expr >>= (λ n. mark t.CLOSE_BRACKET >>= (λ _. pure (trees.repeat at a n))))
+
+  -- behind the first items: the others
+  unfoldable pub itemized : ℕ → Args → Q E
+  itemized at items = more_args items >>= (λ es. mark t.CLOSE_BRACKET >>= (λ _. pure (trees.list at es)))
+
   -- behind the first item
   unfoldable pub listed_rest : ℕ → E → Q E
-  listed_rest at a =
-      branch (is t.SEMICOLON) (mark t.SEMICOLON >>= (λ _. expr >>= (λ n. mark t.CLOSE_BRACKET >>= (λ _. pure (trees.repeat at a n)))))
-      (more_args (pushed none a) >>= (λ es. mark t.CLOSE_BRACKET >>= (λ _. pure (trees.list at es))))
+  listed_rest at a = branch (is t.SEMICOLON) (repeated at a) (itemized at (pushed none a))
 
   unfoldable pub listed : ℕ → Q E
   listed at =
@@ -124,12 +133,15 @@ module _ (levels : ℕ) (unary expr : Q E) where
       (branch (is t.OPEN_BRACE) (mark t.OPEN_BRACE >>= (λ at. field_list >>= (λ fs. inner levels t.CLOSE_BRACE >>= (λ _. pure (trees.fields at fs)))))
       (quantifier >>= (λ q. quantified q.0 q.1)))
 
+  unfoldable pub grouped : Q E
+  grouped = mark t.OPEN_PAREN >>= (λ _. expr >>= (λ a. mark t.CLOSE_PAREN >>= (λ _. pure a)))
+
+  unfoldable pub barred_in : Q E
+  barred_in = mark t.BAR >>= (λ at. sum unary >>= (λ a. mark t.BAR >>= (λ _. pure (trees.len at a))))
+
   -- what begins with a bracket, a bar, 'all' or 'some'
   unfoldable pub enclosed : Q E
-  enclosed =
-      branch (is t.OPEN_PAREN) (mark t.OPEN_PAREN >>= (λ _. expr >>= (λ a. mark t.CLOSE_PAREN >>= (λ _. pure a))))
-      (branch (is t.BAR) (mark t.BAR >>= (λ at. sum unary >>= (λ a. mark t.BAR >>= (λ _. pure (trees.len at a)))))
-      collected)
+  enclosed = branch (is t.OPEN_PAREN) grouped (branch (is t.BAR) barred_in collected)
 
   unfoldable pub primary : Q E
   primary =
@@ -137,10 +149,14 @@ module _ (levels : ℕ) (unary expr : Q E) where
       (branch (is t.NAME) (name >>= (λ w. called w.0 w.1))
       enclosed)
 
+  unfoldable pub indexed : E → Q E
+  indexed a = mark t.OPEN_BRACKET >>= (λ at. expr >>= (λ i. mark t.CLOSE_BRACKET >>= (λ _. pure (trees.index at a i))))
+
+  unfoldable pub selected : E → Q E
+  selected a = mark t.DOT >>= (λ at. name >>= (λ w. pure (trees.field at a w.1)))
+
   unfoldable pub step : E → Q E
-  step a =
-      branch (is t.OPEN_BRACKET) (mark t.OPEN_BRACKET >>= (λ at. expr >>= (λ i. mark t.CLOSE_BRACKET >>= (λ _. pure (trees.index at a i)))))
-      (mark t.DOT >>= (λ at. name >>= (λ w. pure (trees.field at a w.1))))
+  step a = branch (is t.OPEN_BRACKET) (indexed a) (selected a)
 
   unfoldable pub steps : E → Q E
   steps a = while (has class.Step) step a

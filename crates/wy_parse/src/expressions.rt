@@ -35,9 +35,9 @@ struct Inside<U> {
     unary: U,
 }
 
-impl<U: Fn(Global, &[Token], usize) -> Result<(Measured<Expr>, &[Token]), Stop<Kind>> + Copy>
-    Inside<U>
-{
+impl<
+    U: Fn(Global, &[Token], usize) -> Result<(Measured<Expr>, &[Token]), Stop<Kind>> + Copy,
+> Inside<U> {
     fn inner_unary<'a>(&self, tokens: &'a [Token]) -> Read<'a, Measured<Expr>>
         requires { (l : ℕ) → l ≤ self.now.levels → Nests spec.unary l (U.pre self.now.unary) (U.post self.now.unary) }
         ensures { Reads (spec.unary self.now.levels tokens.now) result }
@@ -121,11 +121,26 @@ impl<U: Fn(Global, &[Token], usize) -> Result<(Measured<Expr>, &[Token]), Stop<K
         ensures { Reads (spec.step self.now.levels (spec.unary self.now.levels) (spec.expr self.now.levels) whole tokens.now) result }
     {
         if next_is(tokens, OPEN_BRACKET) {
-            let (at, rest) = mark(tokens, OPEN_BRACKET)?;
-            let (index, rest) = self.inner_expr(rest)?;
-            let (_, rest) = mark(rest, CLOSE_BRACKET)?;
-            return Ok((index_node(self.alloc, at, whole, index)?, rest));
+            return self.indexed(whole, tokens);
         }
+        self.selected(whole, tokens)
+    }
+
+    #[tactic(auto, unfolding(crate::specs::ExprReading::indexed))]
+    fn indexed<'a>(&self, whole: Measured<Expr>, tokens: &'a [Token]) -> Read<'a, Measured<Expr>>
+        requires { (l : ℕ) → l ≤ self.now.levels → Nests spec.unary l (U.pre self.now.unary) (U.post self.now.unary) }
+        ensures { Reads (spec.indexed self.now.levels (spec.unary self.now.levels) (spec.expr self.now.levels) whole tokens.now) result }
+    {
+        let (at, rest) = mark(tokens, OPEN_BRACKET)?;
+        let (index, rest) = self.inner_expr(rest)?;
+        let (_, rest) = mark(rest, CLOSE_BRACKET)?;
+        Ok((index_node(self.alloc, at, whole, index)?, rest))
+    }
+
+    #[tactic(auto, unfolding(crate::specs::ExprReading::selected))]
+    fn selected<'a>(&self, whole: Measured<Expr>, tokens: &'a [Token]) -> Read<'a, Measured<Expr>>
+        ensures { Reads (spec.selected self.now.levels (spec.unary self.now.levels) (spec.expr self.now.levels) whole tokens.now) result }
+    {
         let (at, rest) = mark(tokens, DOT)?;
         let ((_, name), rest) = name(self.alloc, rest)?;
         Ok((field_node(self.alloc, at, whole, name)?, rest))
@@ -156,18 +171,34 @@ impl<U: Fn(Global, &[Token], usize) -> Result<(Measured<Expr>, &[Token]), Stop<K
         ensures { Reads (spec.enclosed self.now.levels (spec.unary self.now.levels) (spec.expr self.now.levels) tokens.now) result }
     {
         if next_is(tokens, OPEN_PAREN) {
-            let (_, rest) = mark(tokens, OPEN_PAREN)?;
-            let (inner, rest) = self.inner_expr(rest)?;
-            let (_, rest) = mark(rest, CLOSE_PAREN)?;
-            return Ok((inner, rest));
+            return self.grouped(tokens);
         }
         if next_is(tokens, BAR) {
-            let (at, rest) = mark(tokens, BAR)?;
-            let (inner, rest) = self.inner_sum(rest)?;
-            let (_, rest) = mark(rest, BAR)?;
-            return Ok((len_node(self.alloc, at, inner)?, rest));
+            return self.barred_in(tokens);
         }
         self.collected(tokens)
+    }
+
+    #[tactic(auto, unfolding(crate::specs::ExprReading::grouped))]
+    fn grouped<'a>(&self, tokens: &'a [Token]) -> Read<'a, Measured<Expr>>
+        requires { (l : ℕ) → l ≤ self.now.levels → Nests spec.unary l (U.pre self.now.unary) (U.post self.now.unary) }
+        ensures { Reads (spec.grouped self.now.levels (spec.unary self.now.levels) (spec.expr self.now.levels) tokens.now) result }
+    {
+        let (_, rest) = mark(tokens, OPEN_PAREN)?;
+        let (inner, rest) = self.inner_expr(rest)?;
+        let (_, rest) = mark(rest, CLOSE_PAREN)?;
+        Ok((inner, rest))
+    }
+
+    #[tactic(auto, unfolding(crate::specs::ExprReading::barred_in))]
+    fn barred_in<'a>(&self, tokens: &'a [Token]) -> Read<'a, Measured<Expr>>
+        requires { (l : ℕ) → l ≤ self.now.levels → Nests spec.unary l (U.pre self.now.unary) (U.post self.now.unary) }
+        ensures { Reads (spec.barred_in self.now.levels (spec.unary self.now.levels) (spec.expr self.now.levels) tokens.now) result }
+    {
+        let (at, rest) = mark(tokens, BAR)?;
+        let (inner, rest) = self.inner_sum(rest)?;
+        let (_, rest) = mark(rest, BAR)?;
+        Ok((len_node(self.alloc, at, inner)?, rest))
     }
 
     // What begins with '[', '{', 'all' or 'some'.
@@ -261,7 +292,10 @@ impl<U: Fn(Global, &[Token], usize) -> Result<(Measured<Expr>, &[Token]), Stop<K
     {
         if next_is(tokens, CLOSE_BRACKET) {
             let (_, rest) = inner(tokens, CLOSE_BRACKET, self.levels)?;
-            return Ok((list_node(at, Measured::Low(Items::new(self.alloc), 0)), rest));
+            return Ok((
+                list_node(at, Measured::Low(Items::new(self.alloc), 0)),
+                rest,
+            ));
         }
         let (first, rest) = self.inner_expr(tokens)?;
         self.listed_rest(at, first, rest)
@@ -279,13 +313,39 @@ impl<U: Fn(Global, &[Token], usize) -> Result<(Measured<Expr>, &[Token]), Stop<K
         ensures { Reads (spec.listed_rest self.now.levels (spec.unary self.now.levels) (spec.expr self.now.levels) at first tokens.now) result }
     {
         if next_is(tokens, SEMICOLON) {
-            let (_, rest) = mark(tokens, SEMICOLON)?;
-            let (count, rest) = self.inner_expr(rest)?;
-            let (_, rest) = mark(rest, CLOSE_BRACKET)?;
-            return Ok((repeat_node(self.alloc, at, first, count)?, rest));
+            return self.repeated(at, first, tokens);
         }
         let none = Measured::Low(Items::new(self.alloc), 0);
-        let (items, rest) = self.more_args(pushed(none, first)?, tokens)?;
+        self.itemized(at, pushed(none, first)?, tokens)
+    }
+
+    #[tactic(auto, unfolding(crate::specs::ExprReading::repeated))]
+    fn repeated<'a>(
+        &self,
+        at: u32,
+        first: Measured<Expr>,
+        tokens: &'a [Token],
+    ) -> Read<'a, Measured<Expr>>
+        requires { (l : ℕ) → l ≤ self.now.levels → Nests spec.unary l (U.pre self.now.unary) (U.post self.now.unary) }
+        ensures { Reads (spec.repeated self.now.levels (spec.unary self.now.levels) (spec.expr self.now.levels) at first tokens.now) result }
+    {
+        let (_, rest) = mark(tokens, SEMICOLON)?;
+        let (count, rest) = self.inner_expr(rest)?;
+        let (_, rest) = mark(rest, CLOSE_BRACKET)?;
+        Ok((repeat_node(self.alloc, at, first, count)?, rest))
+    }
+
+    #[tactic(auto, unfolding(crate::specs::ExprReading::itemized))]
+    fn itemized<'a>(
+        &self,
+        at: u32,
+        items: Measured<Items<Expr>>,
+        tokens: &'a [Token],
+    ) -> Read<'a, Measured<Expr>>
+        requires { (l : ℕ) → l ≤ self.now.levels → Nests spec.unary l (U.pre self.now.unary) (U.post self.now.unary) }
+        ensures { Reads (spec.itemized self.now.levels (spec.unary self.now.levels) (spec.expr self.now.levels) at items tokens.now) result }
+    {
+        let (items, rest) = self.more_args(items, tokens)?;
         let (_, rest) = mark(rest, CLOSE_BRACKET)?;
         Ok((list_node(at, items), rest))
     }
@@ -388,12 +448,10 @@ impl<U: Fn(Global, &[Token], usize) -> Result<(Measured<Expr>, &[Token]), Stop<K
 
 // expr = logic [ '==>' expr ], where there are so many levels, over the reader of operands.
 #[tactic(auto, using(crate::proofs::StepLemmas::expr_steps), unfolding(crate::specs::ExprReading::expr_of))]
-fn joined<'a, U: Fn(Global, &[Token], usize) -> Result<(Measured<Expr>, &[Token]), Stop<Kind>> + Copy>(
-    alloc: Global,
-    tokens: &'a [Token],
-    levels: usize,
-    unary: U,
-) -> Read<'a, Measured<Expr>>
+fn joined<
+    'a,
+    U: Fn(Global, &[Token], usize) -> Result<(Measured<Expr>, &[Token]), Stop<Kind>> + Copy,
+>(alloc: Global, tokens: &'a [Token], levels: usize, unary: U) -> Read<'a, Measured<Expr>>
     requires { (l : ℕ) → l ≤ levels → Nests spec.unary l (U.pre unary) (U.post unary) }
     ensures { Reads (spec.expr levels tokens.now) result }
 {
@@ -416,7 +474,11 @@ fn joined<'a, U: Fn(Global, &[Token], usize) -> Result<(Measured<Expr>, &[Token]
 
 /// What may be an operand, where there are so many levels.
 #[tactic(auto, using(crate::proofs::StepLemmas::unary_steps))]
-fn unary(alloc: Global, tokens: &[Token], levels: usize) -> Result<(Measured<Expr>, &[Token]), Stop<Kind>>
+fn unary(
+    alloc: Global,
+    tokens: &[Token],
+    levels: usize,
+) -> Result<(Measured<Expr>, &[Token]), Stop<Kind>>
     ensures { Reads (spec.unary levels tokens.now) result }
 {
     if levels == 0 {

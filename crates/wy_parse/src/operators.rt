@@ -27,9 +27,9 @@ pub struct Operators<U> {
     pub unary: U,
 }
 
-impl<U: Fn(Global, &[Token], usize) -> Result<(Measured<Expr>, &[Token]), Stop<Kind>>>
-    Operators<U>
-{
+impl<U: Fn(Global, &[Token], usize) -> Result<(Measured<Expr>, &[Token]), Stop<Kind>>> Operators<
+    U,
+> {
     fn unary<'a>(&self, tokens: &'a [Token]) -> Read<'a, Measured<Expr>>
         requires { Nests spec.unary self.now.levels (U.pre self.now.unary) (U.post self.now.unary) }
         ensures { Reads (spec.unary self.now.levels tokens.now) result }
@@ -107,16 +107,31 @@ impl<U: Fn(Global, &[Token], usize) -> Result<(Measured<Expr>, &[Token]), Stop<K
         ensures { Reads (spec.compared self.now.levels (spec.unary self.now.levels) left tokens.now) result }
     {
         if next_in(tokens, Class::Comparison) {
-            let ((at, op), rest) = operator(tokens, Class::Comparison)?;
-            let (right, rest) = self.sum(rest)?;
-            return Ok((binary_node(self.alloc, at, op, left, right)?, rest));
+            return self.related(left, tokens);
         }
         if next_is(tokens, IS) {
-            let (at, rest) = mark(tokens, IS)?;
-            let (ty, rest) = type_term(self.alloc, rest, self.levels)?;
-            return Ok((is_node(self.alloc, at, left, ty)?, rest));
+            return self.tested(left, tokens);
         }
         Ok((left, tokens))
+    }
+
+    #[tactic(auto, unfolding(crate::specs::ExprReading::related))]
+    fn related<'a>(&self, left: Measured<Expr>, tokens: &'a [Token]) -> Read<'a, Measured<Expr>>
+        requires { Nests spec.unary self.now.levels (U.pre self.now.unary) (U.post self.now.unary) }
+        ensures { Reads (spec.related self.now.levels (spec.unary self.now.levels) left tokens.now) result }
+    {
+        let ((at, op), rest) = operator(tokens, Class::Comparison)?;
+        let (right, rest) = self.sum(rest)?;
+        Ok((binary_node(self.alloc, at, op, left, right)?, rest))
+    }
+
+    #[tactic(auto, unfolding(crate::specs::ExprReading::tested))]
+    fn tested<'a>(&self, left: Measured<Expr>, tokens: &'a [Token]) -> Read<'a, Measured<Expr>>
+        ensures { Reads (spec.tested self.now.levels (spec.unary self.now.levels) left tokens.now) result }
+    {
+        let (at, rest) = mark(tokens, IS)?;
+        let (ty, rest) = type_term(self.alloc, rest, self.levels)?;
+        Ok((is_node(self.alloc, at, left, ty)?, rest))
     }
 
     /// logic = comparison { '&&' comparison } | comparison { '||' comparison }

@@ -9,4 +9,4 @@ pub returns-in_err-more : goal.returns-in_err-more
 returns-in_err-more g c =
     let levels = c.args.self.now.levels in
     turn_stops (has class.Step) (spec.step levels (spec.unary levels) (spec.expr levels)) (length c.args.tokens.now - c.loop-turn._turn) c.loop-turn.made c.loop-turn.rest.now _ c.in_err-more.field-0.0 c.from_residual.result
-        (search rules) c.loop-turn.invariant (omega arith) (search rules) c.in_err-more.ensures
+    (search rules) c.loop-turn.invariant (omega arith) (search rules) c.in_err-more.ensures
