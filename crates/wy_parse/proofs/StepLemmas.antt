@@ -68,6 +68,7 @@ unfolding readers
 expr_none s n i e = rw e refl
 
 pub ruleset unary_steps = (unary_next, unary_none)
+
 pub ruleset expr_steps = (expr_next, expr_none)
 
 -- ---- statements with blocks on a level
@@ -102,6 +103,7 @@ cases_last zero cs i h g = rw (h, g) refl
 cases_last (suc n) cs i h g = rw (h, g) refl
 
 pub ruleset branch_steps = (branch_more, branch_shut)
+
 pub ruleset case_steps = (cases_more, cases_shut, cases_default, cases_last)
 
 -- the level inside, where a statement stands
