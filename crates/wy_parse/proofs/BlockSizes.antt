@@ -57,26 +57,26 @@ otherwise-shrinks block inner b e =
 
 module _ (levels : ℕ) (block : Q Stmts) (b : Shrinks block) where
   while-eats : Eats (read.while_stmt true levels block)
-  unfolding read.while_stmt
+  unfolding read.while_stmt read.while_rest
   while-eats =
       after_mark t.WHILE _ (λ at. then-shrinks _ _ (expr-shrinks levels) (λ test. then-shrinks _ _ (wheres-shrinks levels none) (λ invariants. past t.COLON _ (λ x.
       then-shrinks block _ b (λ body. pure-shrinks _)))))
 
   do-eats : Eats (read.do_stmt true levels block)
-  unfolding read.do_stmt
+  unfolding read.do_stmt read.do_rest
   do-eats =
       after_mark t.DO _ (λ at. past t.COLON _ (λ x. then-shrinks block _ b (λ body. past t.WHILE _ (λ y. then-shrinks _ _ (expr-shrinks levels) (λ test.
       then-shrinks _ _ (wheres-shrinks levels none) (λ invariants. past t.LINE_END _ (λ z. pure-shrinks _)))))))
 
   for-eats : Eats (read.for_stmt true levels block)
-  unfolding read.for_stmt
+  unfolding read.for_stmt read.for_range read.for_rest
   for-eats =
       after_mark t.FOR _ (λ at. then-shrinks _ _ name-shrinks (λ w. past t.IN _ (λ x. then-shrinks _ _ (sum-shrinks levels) (λ low. past t.RANGE _ (λ y.
       then-shrinks _ _ (sum-shrinks levels) (λ high. then-shrinks _ _ (wheres-shrinks levels none) (λ invariants. past t.COLON _ (λ z.
       then-shrinks block _ b (λ body. pure-shrinks _)))))))))
 
   if-eats : (inner : Q S) → Shrinks inner → Eats (read.if_stmt true levels block inner)
-  unfolding read.if_stmt
+  unfolding read.if_stmt read.if_rest
   if-eats inner e =
       after_mark t.IF _ (λ at. then-shrinks _ _ (expr-shrinks levels) (λ test. past t.COLON _ (λ x. then-shrinks block _ b (λ first.
       then-shrinks _ _ (otherwise-shrinks block inner b e) (λ second. pure-shrinks _)))))

@@ -109,7 +109,7 @@ labels-exact n =
 
 module _ (n : Mode) (B : R Stmts) (b : Mode → Q Stmts) (exact : (F : List Token → Type 0) → Exact n B b F BeginsBlock) where
   pub while_stmt-exact : Exact n (rule.WhileStmt n.strict n.depth B) (λ m. read.while_stmt m.strict m.depth (b m)) NoElse (Passes (is t.WHILE))
-  unfolding read.while_stmt rule.WhileStmt
+  unfolding read.while_stmt read.while_rest rule.WhileStmt
   while_stmt-exact =
       sequence (mark-exact {F = Any} t.WHILE (some k.While) refl)
       (λ place. sequence (expr-exact n)
@@ -121,7 +121,7 @@ module _ (n : Mode) (B : R Stmts) (b : Mode → Q Stmts) (exact : (F : List Toke
       (λ i h. tt)
 
   pub do_stmt-exact : Exact n (rule.DoStmt n.strict n.depth B) (λ m. read.do_stmt m.strict m.depth (b m)) NoElse (Passes (is t.DO))
-  unfolding read.do_stmt rule.DoStmt
+  unfolding read.do_stmt read.do_rest rule.DoStmt
   do_stmt-exact =
       sequence (mark-exact {F = Any} t.DO (some k.Do) refl)
       (λ place. sequence (mark-exact {F = Any} t.COLON (some k.Colon) refl)
@@ -139,7 +139,7 @@ module _ (n : Mode) (B : R Stmts) (b : Mode → Q Stmts) (exact : (F : List Toke
 
   pub if_stmt-exact : (I : R S) (inner : Mode → Q S) → Exact n I inner NoElse (Passes (is t.IF))
       → Exact n (rule.IfStmt n.strict n.depth B I) (λ m. read.if_stmt m.strict m.depth (b m) (inner m)) NoElse (Passes (is t.IF))
-  unfolding read.if_stmt rule.IfStmt read.otherwise rule.Otherwise
+  unfolding read.if_stmt read.if_rest rule.IfStmt read.otherwise rule.Otherwise
   if_stmt-exact I inner inner_exact =
       sequence (mark-exact {F = Any} t.IF (some k.If) refl)
       (λ place. sequence (expr-exact n)
@@ -161,7 +161,7 @@ module _ (n : Mode) (B : R Stmts) (b : Mode → Q Stmts) (exact : (F : List Toke
       (λ i h. tt)
 
   pub for_stmt-exact : Exact n (rule.ForStmt n.strict n.depth B) (λ m. read.for_stmt m.strict m.depth (b m)) NoElse (Passes (is t.FOR))
-  unfolding read.for_stmt rule.ForStmt SumIn
+  unfolding read.for_stmt read.for_range read.for_rest rule.ForStmt SumIn
   for_stmt-exact =
       sequence (mark-exact {F = Any} t.FOR (some k.For) refl)
       (λ place. sequence (name-exact {F = Any})

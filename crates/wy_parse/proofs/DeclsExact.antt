@@ -163,7 +163,7 @@ module _ (n : Mode) where
   alias_clauses-exact (Some variable) = adapt clauses-exact (λ i f. f) (λ i b. inr b) (λ a p. tt)
 
   alias_decl-exact : Exact n (rule.AliasDecl n.strict n.depth) (λ m. read.alias_decl m.strict m.depth) Any (Passes (is t.TYPE))
-  unfolding read.alias_decl rule.AliasDecl
+  unfolding read.alias_decl read.alias_rest rule.AliasDecl
   alias_decl-exact =
       sequence (mark-exact {F = Any} t.TYPE (some k.TypeWord) refl)
       (λ place. sequence (name-exact {F = Any})
@@ -178,7 +178,7 @@ module _ (n : Mode) where
       (λ i b. tt)
 
   property_decl-exact : Exact n (rule.PropertyDecl n.strict n.depth) (λ m. read.property_decl m.strict m.depth) Any (Passes (is t.PROPERTY))
-  unfolding read.property_decl rule.PropertyDecl
+  unfolding read.property_decl read.property_rest rule.PropertyDecl
   property_decl-exact =
       sequence (mark-exact {F = Any} t.PROPERTY (some k.Property) refl)
       (λ place. sequence (name-exact {F = Any})
@@ -214,7 +214,7 @@ module _ (n : Mode) where
 
   module _ (B : R Stmts) (b : Mode → Q Stmts) (block_is : Exact n B b Any BeginsBlock) where
     function_decl-exact : Exact n (rule.FunctionDecl n.strict n.depth B) (λ m. read.function_decl m.strict m.depth (b m)) Any (Passes (is t.FUNCTION))
-    unfolding read.function_decl rule.FunctionDecl
+    unfolding read.function_decl read.function_rest read.function_body rule.FunctionDecl
     function_decl-exact =
         sequence (mark-exact {F = Any} t.FUNCTION (some k.Function) refl)
         (λ place. sequence (name-exact {F = Any})
@@ -232,7 +232,7 @@ module _ (n : Mode) where
         (λ i b. tt)
 
     method_decl-exact : Exact n (rule.MethodDecl n.strict n.depth B) (λ m. read.method_decl m.strict m.depth (b m)) Any (Passes (is t.METHOD))
-    unfolding read.method_decl rule.MethodDecl
+    unfolding read.method_decl read.method_rest read.method_body rule.MethodDecl
     method_decl-exact =
         sequence (mark-exact {F = Any} t.METHOD (some k.Method) refl)
         (λ place. sequence (name-exact {F = Any})

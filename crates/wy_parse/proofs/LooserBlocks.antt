@@ -94,7 +94,7 @@ module _ (most : ℕ) (s : Bool) (d e : ℕ) (h : 4 + d ≤ e) where
   go-assigned at n p = goes-then (goes-while (has class.Step) p go-step) (λ q. go-valued at n q)
 
   go-bracket_stmt : (at : ℕ) (n : List ℕ) → Goes most (stmts.bracket_stmt s d at n) (stmts.bracket_stmt false e at n)
-  unfolding stmts.bracket_stmt
+  unfolding stmts.bracket_stmt stmts.array_stmt stmts.index_stmt
   go-bracket_stmt at n =
       goes-then (goes-mark t.OPEN_BRACKET) (λ b.
       goes-branch (is t.CLOSE_BRACKET)
@@ -102,7 +102,7 @@ module _ (most : ℕ) (s : Bool) (d e : ℕ) (h : 4 + d ≤ e) where
       (goes-then (go-expr most s (inside d) (inside e) deeper) (λ i. goes-then (goes-mark t.CLOSE_BRACKET) (λ r. go-assigned at n _))))
 
   go-named_stmt : Starts most t.NAME (stmts.named_stmt s d) (stmts.named_stmt false e)
-  unfolding stmts.named_stmt
+  unfolding stmts.named_stmt stmts.named_rest stmts.path_stmt
   go-named_stmt =
       starts-name (λ w.
       goes-branch (is t.OPEN_PAREN) (go-call_stmt w.0 w.1)
@@ -162,26 +162,26 @@ record GoNest (most : ℕ) (b c : Nested) : Type 0 where
 
 module _ (most : ℕ) (s : Bool) (d e : ℕ) (h : 4 + d ≤ e) (b c : Nested) (x : GoNest most b c) where
   go-while : Starts most t.WHILE (blocks.while_stmt s d b.block) (blocks.while_stmt false e c.block)
-  unfolding blocks.while_stmt
+  unfolding blocks.while_stmt blocks.while_rest
   go-while =
       starts t.WHILE (λ at. goes-then (go-expr most s d e (deep most s d e h)) (λ test. goes-then (go-wheres most s d e h none) (λ es.
       goes-then (goes-mark t.COLON) (λ r. goes-then x.block_is (λ body. goes-pure _)))))
 
   go-do : Starts most t.DO (blocks.do_stmt s d b.block) (blocks.do_stmt false e c.block)
-  unfolding blocks.do_stmt
+  unfolding blocks.do_stmt blocks.do_rest
   go-do =
       starts t.DO (λ at. goes-then (goes-mark t.COLON) (λ r. goes-then x.block_is (λ body. goes-then (goes-mark t.WHILE) (λ r.
       goes-then (go-expr most s d e (deep most s d e h)) (λ test. goes-then (go-wheres most s d e h none) (λ es. goes-then (goes-mark t.LINE_END) (λ r. goes-pure _)))))))
 
   go-for : Starts most t.FOR (blocks.for_stmt s d b.block) (blocks.for_stmt false e c.block)
-  unfolding blocks.for_stmt
+  unfolding blocks.for_stmt blocks.for_range blocks.for_rest
   go-for =
       starts t.FOR (λ at. goes-then goes-name (λ w. goes-then (goes-mark t.IN) (λ r. goes-then (go-sum_in most s d e (deep most s d e h)) (λ low.
       goes-then (goes-mark t.RANGE) (λ r. goes-then (go-sum_in most s d e (deep most s d e h)) (λ high. goes-then (go-wheres most s d e h none) (λ es.
       goes-then (goes-mark t.COLON) (λ r. goes-then x.block_is (λ body. goes-pure _)))))))))
 
   go-if : Starts most t.IF (blocks.if_stmt s d b.block b.branch) (blocks.if_stmt false e c.block c.branch)
-  unfolding blocks.if_stmt blocks.otherwise
+  unfolding blocks.if_stmt blocks.if_rest blocks.otherwise
   go-if =
       starts t.IF (λ at. goes-then (go-expr most s d e (deep most s d e h)) (λ test. goes-then (goes-mark t.COLON) (λ r. goes-then x.block_is (λ first.
       goes-then (goes-branch (is t.ELSE)
@@ -386,13 +386,13 @@ module _ (most : ℕ) (le : most ≤ width) (s : Bool) (d e : ℕ) (h : 5 + d �
   go-alias_clauses (Some variable) = goes-then (go-where most s d e room none) (λ es. go-wheres most s d e room es)
 
   go-alias : Starts most t.TYPE (decls.alias_decl s d) (decls.alias_decl false e)
-  unfolding decls.alias_decl
+  unfolding decls.alias_decl decls.alias_rest
   go-alias =
       starts t.TYPE (λ at. goes-then goes-name (λ w. goes-then (goes-mark t.IS) (λ r. goes-then go-named_type (λ p.
       goes-then (go-alias_clauses p.1) (λ es. goes-then (goes-mark t.LINE_END) (λ r. goes-pure _))))))
 
   go-property : Starts most t.PROPERTY (decls.property_decl s d) (decls.property_decl false e)
-  unfolding decls.property_decl
+  unfolding decls.property_decl decls.property_rest
   go-property =
       starts t.PROPERTY (λ at. goes-then goes-name (λ w. goes-then go-parameters (λ ps. goes-then (go-where most s d e room none) (λ es.
       goes-then (go-wheres most s d e room es) (λ all. goes-then (goes-mark t.LINE_END) (λ r. goes-pure _))))))
@@ -417,13 +417,13 @@ module _ (most : ℕ) (le : most ≤ width) (s : Bool) (d e : ℕ) (h : 5 + d �
   go-body = (go-nest s (inside d) (inside e) (inside-more 4 d e h) most le).block_is
 
   go-function : Starts most t.FUNCTION (decls.function_decl s d body) (decls.function_decl false e lax_body)
-  unfolding decls.function_decl
+  unfolding decls.function_decl decls.function_rest decls.function_body
   go-function =
       starts t.FUNCTION (λ at. goes-then goes-name (λ w. goes-then go-parameters (λ ps. goes-then (goes-mark t.ARROW) (λ r.
       goes-then go-named_type (λ p. goes-then go-contract (λ c. goes-then (goes-mark t.COLON) (λ r. goes-then go-body (λ all. goes-pure _))))))))
 
   go-method : Starts most t.METHOD (decls.method_decl s d body) (decls.method_decl false e lax_body)
-  unfolding decls.method_decl
+  unfolding decls.method_decl decls.method_rest decls.method_body
   go-method =
       starts t.METHOD (λ at. goes-then goes-name (λ w. goes-then go-parameters (λ ps. goes-then go-method_result (λ p.
       goes-then go-contract (λ c. goes-then (goes-mark t.COLON) (λ r. goes-then go-body (λ all. goes-pure _)))))))

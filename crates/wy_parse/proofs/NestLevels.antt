@@ -64,7 +64,7 @@ module _ (s : Bool) (levels : ℕ) (below : read.Nested) (alone : Q Cases) where
   no_name_none i h = rw (one_out t.NAME (members class.Statement) i refl h) (declare_none s levels i h)
 
   statement_none : NoStatement (read.statement s levels below alone)
-  unfolding read.statement read.switch reads.named_stmt reads.return_stmt reads.assert_stmt read.if_stmt read.while_stmt read.do_stmt read.for_stmt
+  unfolding read.statement read.switch reads.named_stmt reads.named_rest reads.path_stmt reads.return_stmt reads.assert_stmt read.if_stmt read.if_rest read.while_stmt read.while_rest read.do_stmt read.do_rest read.for_stmt read.for_range read.for_rest
   statement_none =
       declines-branch (is t.SWITCH) _ _ (declines-then (mark t.SWITCH) _ (mark_none t.SWITCH refl))
       (declines-branch (is t.NAME) _ _ (declines-then name _ name_none)
@@ -153,14 +153,14 @@ abbrev if_made : S
 if_made = trees.if_node 0 (parts.leaf 0 e.Null) skipped parts.none
 
 branch-skip : (s : Bool) (d : ℕ) (z : List Token) → 2 ≤ d → NoElse z → (nested s d).branch (if_text ++ z) ≡ Ok (if_made, z)
-unfolding nested read.if_stmt read.otherwise mark
+unfolding nested read.if_stmt read.if_rest read.otherwise mark
 branch-skip s zero z h f = absurd (omega (arith, h))
 branch-skip s (suc d) z h f =
     rw (expr-null (some k.Colon ∷ line ∷ block_in ∷ skip ∷ line ∷ block_out ∷ z) s (suc d) (omega arith) refl)
     (rw (nested-skip s d z (omega (arith, h))) (rw f refl))
 
 branch-none : (s : Bool) (d : ℕ) (i : List Token) → Lacks (is t.IF) i → (nested s d).branch i ≡ Err (Unexpected (length i))
-unfolding nested read.if_stmt
+unfolding nested read.if_stmt read.if_rest
 branch-none s zero i h = rw h refl
 branch-none s (suc d) i h = rw (mark_declines t.IF i h) refl
 

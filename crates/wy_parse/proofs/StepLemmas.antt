@@ -68,23 +68,24 @@ unfolding readers
 expr_none s n i e = rw e refl
 
 pub ruleset unary_steps = (unary_next, unary_none)
+
 pub ruleset expr_steps = (expr_next, expr_none)
 
 -- ---- statements with blocks on a level
 
-pub branch_more : (n : ℕ) (i : List Token) → 0 < n → (nested true n).branch i ≡ if_stmt true n (nested true (n - 1)).block (nested true (n - 1)).branch i
+pub branch_more : (n : ℕ) (i : List Token) → n ≢ 0 → (nested true n).branch i ≡ if_stmt true n (nested true (n - 1)).block (nested true (n - 1)).branch i
 unfolding nested
-branch_more zero i h = absurd (omega (arith, h))
+branch_more zero i h = absurd (h refl)
 branch_more (suc n) i h = let e : suc n - 1 ≡ n = omega arith in rw e refl
 
 pub branch_shut : (n : ℕ) (i : List Token) → n ≡ 0 → (nested true n).branch i ≡ refused (is IF) Deep i
 unfolding nested
 branch_shut n i e = rw e refl
 
-pub cases_more : (n : ℕ) (cs : CaseList) (i : List Token) → 0 < n → heads (is CASE) i ≡ true
+pub cases_more : (n : ℕ) (cs : CaseList) (i : List Token) → n ≢ 0 → heads (is CASE) i ≡ true
     → (nested true n).cases cs i ≡ (mark CASE >>= (λ _. case_rest (nested true (n - 1)).block cs >>= (nested true (n - 1)).cases)) i
 unfolding nested
-cases_more zero cs i h g = absurd (omega (arith, h))
+cases_more zero cs i h g = absurd (h refl)
 cases_more (suc n) cs i h g = let e : suc n - 1 ≡ n = omega arith in rw (e, g) refl
 
 pub cases_shut : (n : ℕ) (cs : CaseList) (i : List Token) → n ≡ 0 → heads (is CASE) i ≡ true → (nested true n).cases cs i ≡ refused (is CASE) Deep i
@@ -101,7 +102,9 @@ unfolding nested
 cases_last zero cs i h g = rw (h, g) refl
 cases_last (suc n) cs i h g = rw (h, g) refl
 
-pub ruleset block_steps = (branch_more, branch_shut, cases_more, cases_shut, cases_default, cases_last)
+pub ruleset branch_steps = (branch_more, branch_shut)
+
+pub ruleset case_steps = (cases_more, cases_shut, cases_default, cases_last)
 
 -- the level inside, where a statement stands
 pub branch_inside : (n : ℕ) (i : List Token) → 0 < n → (nested true n).branch i ≡ if_stmt true n (nested true (inside n)).block (nested true (inside n)).branch i

@@ -128,7 +128,7 @@ module _ (n : Mode) where
       (λ i f. f) (λ i b. tt) (λ a x. tt)
 
   bracket_stmt-exact : (place : ℕ) (w : List ℕ) → Exact n (rule.BracketStmt n.strict n.depth place w) (λ m. read.bracket_stmt m.strict m.depth place w) Any (Passes (is t.OPEN_BRACKET))
-  unfolding read.bracket_stmt rule.BracketStmt
+  unfolding read.bracket_stmt read.array_stmt read.index_stmt rule.BracketStmt
   bracket_stmt-exact place w =
       sequence (mark-exact {F = Any} t.OPEN_BRACKET (some k.OpenBracket) refl)
       (λ b. choice (is t.CLOSE_BRACKET)
@@ -141,7 +141,7 @@ module _ (n : Mode) where
       (λ i b. tt)
 
   pub named_stmt-exact : Exact n (rule.NamedStmt n.strict n.depth) (λ m. read.named_stmt m.strict m.depth) Any (Passes (is t.NAME))
-  unfolding read.named_stmt rule.NamedStmt
+  unfolding read.named_stmt read.named_rest read.path_stmt rule.NamedStmt
   named_stmt-exact =
       sequence (name-exact {F = Any})
       (λ w. adapt {F' = Any} {B' = Any} (choice_of t.OPEN_PAREN (t.OPEN_BRACKET ∷ t.NAME ∷ t.BAR ∷ t.AMPERSAND ∷ t.DOT ∷ t.ASSIGN ∷ []) (t.OPEN_PAREN ∷ t.OPEN_BRACKET ∷ t.NAME ∷ t.BAR ∷ t.AMPERSAND ∷ t.DOT ∷ t.ASSIGN ∷ [])

@@ -2,12 +2,15 @@
 use Rattle.std.specs.Prelude.{◌≡◌, ℕ, zero, suc, Bool, true, List, [], ◌∷◌, Option, None}
 use Rattle.wy_reading.specs.Reader.{◌>>=◌, pure, branch, while, refused, unless}
 use Rattle.wy_parse.specs.declared.fault.Kind.TheVariants.{Deep}
+use Rattle.wy_parse.specs.declared.measured.Measured.{Measured}
 use Rattle.wy_parse.specs.declared.measured.Measured.TheVariants.{Low}
 use Rattle.wy_parse.specs.declared.sort.Class.TheVariants as class
 use Rattle.wy_parse.specs.Sorts as t
 use Rattle.wy_parse.specs.Sorts.{has, is}
 use Rattle.wy_parse.specs.Steps.{Q, mark, name}
 use Rattle.wy_parse.specs.Trees.{pushed, none, some, both}
+use Rattle.wy_ast.specs.declared.expressions.Expr.{Expr}
+use Rattle.wy_parse.specs.ExprGrammar.{E}
 use Rattle.wy_parse.specs.ExprReading.{readers, sum}
 use Rattle.wy_parse.specs.StmtTrees as trees
 use Rattle.wy_parse.specs.StmtTrees.{S, Stmts, Cases}
@@ -19,27 +22,38 @@ otherwise block inner =
     branch (is t.ELSE) (mark t.ELSE >>= (λ _. branch (is t.COLON) (mark t.COLON >>= (λ _. block)) (inner >>= (λ st. pure (pushed none st)))))
     (pure none)
 
+unfoldable pub if_rest : Q Stmts → Q S → ℕ → E → Q S
+if_rest block inner at test = block >>= (λ first. otherwise block inner >>= (λ second. pure (trees.if_node at test first second)))
+
+unfoldable pub do_rest : Bool → ℕ → ℕ → Stmts → Q S
+do_rest s levels at body =
+    mark t.WHILE >>= (λ _. (readers s levels).expr >>= (λ test. wheres s levels none >>= (λ invariants. mark t.LINE_END >>= (λ _.
+    pure (trees.do_node at body test invariants)))))
+
 module _ (s : Bool) (levels : ℕ) (block : Q Stmts) where
+  unfoldable pub while_rest : ℕ → E → Q S
+  while_rest at test =
+      wheres s levels none >>= (λ invariants. mark t.COLON >>= (λ _. block >>= (λ body. pure (trees.while_node at test invariants body))))
+
   unfoldable pub while_stmt : Q S
-  while_stmt =
-      mark t.WHILE >>= (λ at. (readers s levels).expr >>= (λ test. wheres s levels none >>= (λ invariants. mark t.COLON >>= (λ _. block >>= (λ body.
-      pure (trees.while_node at test invariants body))))))
+  while_stmt = mark t.WHILE >>= (λ at. (readers s levels).expr >>= (λ test. while_rest at test))
 
   unfoldable pub do_stmt : Q S
-  do_stmt =
-      mark t.DO >>= (λ at. mark t.COLON >>= (λ _. block >>= (λ body. mark t.WHILE >>= (λ _. (readers s levels).expr >>= (λ test.
-      wheres s levels none >>= (λ invariants. mark t.LINE_END >>= (λ _. pure (trees.do_node at body test invariants))))))))
+  do_stmt = mark t.DO >>= (λ at. mark t.COLON >>= (λ _. block >>= (λ body. do_rest s levels at body)))
+
+  unfoldable pub for_rest : ℕ → List ℕ → Measured (Expr × Expr) → Q S
+  for_rest at name ends =
+      wheres s levels none >>= (λ invariants. mark t.COLON >>= (λ _. block >>= (λ body. pure (trees.for_node at name ends invariants body))))
+
+  unfoldable pub for_range : ℕ → List ℕ → Q S
+  for_range at name =
+      sum (readers s levels).unary >>= (λ from. mark t.RANGE >>= (λ _. sum (readers s levels).unary >>= (λ to. for_rest at name (both from to))))
 
   unfoldable pub for_stmt : Q S
-  for_stmt =
-      mark t.FOR >>= (λ at. name >>= (λ w. mark t.IN >>= (λ _. sum (readers s levels).unary >>= (λ from. mark t.RANGE >>= (λ _. sum (readers s levels).unary >>= (λ to.
-      wheres s levels none >>= (λ invariants. mark t.COLON >>= (λ _. block >>= (λ body.
-      pure (trees.for_node at w.1 (both from to) invariants body))))))))))
+  for_stmt = mark t.FOR >>= (λ at. name >>= (λ w. mark t.IN >>= (λ _. for_range at w.1)))
 
   unfoldable pub if_stmt : Q S → Q S
-  if_stmt inner =
-      mark t.IF >>= (λ at. (readers s levels).expr >>= (λ test. mark t.COLON >>= (λ _. block >>= (λ first. otherwise block inner >>= (λ second.
-      pure (trees.if_node at test first second))))))
+  if_stmt inner = mark t.IF >>= (λ at. (readers s levels).expr >>= (λ test. mark t.COLON >>= (λ _. if_rest block inner at test)))
 
 unfoldable pub case_rest : Q Stmts → CaseList → Q CaseList
 case_rest block cs = labels >>= (λ ls. mark t.COLON >>= (λ _. block >>= (λ body. pure (pushed cs (trees.case_node ls body)))))

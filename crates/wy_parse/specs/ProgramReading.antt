@@ -59,15 +59,19 @@ module _ (s : Bool) (levels : ℕ) where
   alias_clauses None = pure none
   alias_clauses (Some variable) = where_clause s levels none >>= (λ es. wheres s levels es)
 
+  unfoldable pub alias_rest : ℕ → List ℕ → Q D
+  alias_rest at name =
+      named_type levels >>= (λ p. alias_clauses p.1 >>= (λ es. mark t.LINE_END >>= (λ _. pure (alias_node at name p.0 p.1 es))))
+
   unfoldable pub alias_decl : Q D
-  alias_decl =
-      mark t.TYPE >>= (λ at. name >>= (λ w. mark t.IS >>= (λ _. named_type levels >>= (λ p. alias_clauses p.1 >>= (λ es.
-      mark t.LINE_END >>= (λ _. pure (alias_node at w.1 p.0 p.1 es)))))))
+  alias_decl = mark t.TYPE >>= (λ at. name >>= (λ w. mark t.IS >>= (λ _. alias_rest at w.1)))
+
+  unfoldable pub property_rest : ℕ → List ℕ → Params → Q D
+  property_rest at name ps =
+      where_clause s levels none >>= (λ es. wheres s levels es >>= (λ all. mark t.LINE_END >>= (λ _. pure (property_node at name ps all))))
 
   unfoldable pub property_decl : Q D
-  property_decl =
-      mark t.PROPERTY >>= (λ at. name >>= (λ w. parameters levels >>= (λ ps. where_clause s levels none >>= (λ es. wheres s levels es >>= (λ all.
-      mark t.LINE_END >>= (λ _. pure (property_node at w.1 ps all)))))))
+  property_decl = mark t.PROPERTY >>= (λ at. name >>= (λ w. parameters levels >>= (λ ps. property_rest at w.1 ps)))
 
   unfoldable pub clause : Contract → Q Contract
   clause c =
@@ -78,15 +82,25 @@ module _ (s : Bool) (levels : ℕ) where
   contract_of = while (has class.Clause) clause (none, none)
 
   module _ (block : Q Stmts) where
+    unfoldable pub function_body : ℕ → List ℕ → Params → Measured (Ty × Option (List ℕ)) → Q D
+    function_body at name ps r =
+        contract_of >>= (λ c. mark t.COLON >>= (λ _. block >>= (λ body. pure (function_node at name ps r c body))))
+
+    unfoldable pub function_rest : ℕ → List ℕ → Params → Q D
+    function_rest at name ps = mark t.ARROW >>= (λ _. named_type levels >>= (λ r. function_body at name ps (given r.0 r.1)))
+
     unfoldable pub function_decl : Q D
-    function_decl =
-        mark t.FUNCTION >>= (λ at. name >>= (λ w. parameters levels >>= (λ ps. mark t.ARROW >>= (λ _. named_type levels >>= (λ r.
-        contract_of >>= (λ c. mark t.COLON >>= (λ _. block >>= (λ body. pure (function_node at w.1 ps (given r.0 r.1) c body)))))))))
+    function_decl = mark t.FUNCTION >>= (λ at. name >>= (λ w. parameters levels >>= (λ ps. function_rest at w.1 ps)))
+
+    unfoldable pub method_body : ℕ → List ℕ → Params → Measured (Option (Ty × Option (List ℕ))) → Q D
+    method_body at name ps r =
+        contract_of >>= (λ c. mark t.COLON >>= (λ _. block >>= (λ body. pure (method_node at name ps r c body))))
+
+    unfoldable pub method_rest : ℕ → List ℕ → Params → Q D
+    method_rest at name ps = method_result levels >>= (λ r. method_body at name ps r)
 
     unfoldable pub method_decl : Q D
-    method_decl =
-        mark t.METHOD >>= (λ at. name >>= (λ w. parameters levels >>= (λ ps. method_result levels >>= (λ r.
-        contract_of >>= (λ c. mark t.COLON >>= (λ _. block >>= (λ body. pure (method_node at w.1 ps r c body))))))))
+    method_decl = mark t.METHOD >>= (λ at. name >>= (λ w. parameters levels >>= (λ ps. method_rest at w.1 ps)))
 
     unfoldable pub declaration : Q D
     declaration = branch (is t.TYPE) alias_decl (branch (is t.FUNCTION) function_decl (branch (is t.METHOD) method_decl property_decl))

@@ -76,20 +76,31 @@ module _ (s : Bool) (levels : ℕ) where
   unfoldable pub assigned : ℕ → List ℕ → Path → Q S
   assigned at name p = steps p >>= (λ q. valued at name q)
 
+  unfoldable pub array_stmt : ℕ → List ℕ → ℕ → Q S
+  array_stmt at name b =
+      inner (inside levels) t.CLOSE_BRACKET >>= (λ _. type_rest levels (array_ty b (named_ty at name)) >>= (λ ty. declared at ty))
+
+  unfoldable pub index_stmt : ℕ → List ℕ → ℕ → Q S
+  index_stmt at name b =
+      inner_expr >>= (λ i. mark t.CLOSE_BRACKET >>= (λ _. assigned at name (pushed none (trees.index_step b i))))
+
   unfoldable pub bracket_stmt : ℕ → List ℕ → Q S
-  bracket_stmt at name =
-      mark t.OPEN_BRACKET >>= (λ b.
-      branch (is t.CLOSE_BRACKET) (inner (inside levels) t.CLOSE_BRACKET >>= (λ _. type_rest levels (array_ty b (named_ty at name)) >>= (λ ty. declared at ty)))
-      (inner_expr >>= (λ i. mark t.CLOSE_BRACKET >>= (λ _. assigned at name (pushed none (trees.index_step b i))))))
+  bracket_stmt at name = mark t.OPEN_BRACKET >>= (λ b. branch (is t.CLOSE_BRACKET) (array_stmt at name b) (index_stmt at name b))
+
+  unfoldable pub path_stmt : ℕ → List ℕ → Q S
+  path_stmt at name = branch (is t.DOT) (field_step none >>= (λ p. assigned at name p)) (valued at name none)
+
+  unfoldable pub named_rest : ℕ → List ℕ → Q S
+  named_rest at name =
+      branch (has class.TypeGoesOn) (type_tail levels (named_ty at name) >>= (λ ty. declared at ty))
+      (path_stmt at name)
 
   unfoldable pub named_stmt : Q S
   named_stmt =
       name >>= (λ w.
       branch (is t.OPEN_PAREN) (call_stmt w.0 w.1)
       (branch (is t.OPEN_BRACKET) (bracket_stmt w.0 w.1)
-      (branch (has class.TypeGoesOn) (type_tail levels (named_ty w.0 w.1) >>= (λ ty. declared w.0 ty))
-      (branch (is t.DOT) (field_step none >>= (λ p. assigned w.0 w.1 p))
-      (valued w.0 w.1 none)))))
+      (named_rest w.0 w.1)))
 
   abbrev pub where_clause : Args → Q Args
   where_clause es = mark t.WHERE >>= (λ _. expr >>= (λ a. pure (pushed es a)))

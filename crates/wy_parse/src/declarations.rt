@@ -61,7 +61,20 @@ fn alias(alloc: Global, tokens: &[Token]) -> Read<'_, Measured<Decl>>
     let (at, rest) = mark(tokens, TYPE)?;
     let ((_, name), rest) = name(alloc, rest)?;
     let (_, rest) = mark(rest, IS)?;
-    let ((ty, variable), rest) = named_type(alloc, rest)?;
+    alias_rest(alloc, at, name, rest)
+}
+
+// What stands behind 'is'.
+#[tactic(auto, unfolding(crate::specs::ProgramReading::alias_rest))]
+fn alias_rest<'a>(
+    alloc: Global,
+    at: u32,
+    name: Name,
+    tokens: &'a [Token],
+) -> Read<'a, Measured<Decl>>
+    ensures { Reads (spec.alias_rest true LEVELS at name tokens.now) result }
+{
+    let ((ty, variable), rest) = named_type(alloc, tokens)?;
     let (clauses, rest) = alias_clauses(alloc, &variable, rest)?;
     let (_, rest) = mark(rest, LINE_END)?;
     Ok((alias_node(at, name, ty, variable, clauses), rest))
@@ -123,16 +136,41 @@ fn function(alloc: Global, tokens: &[Token]) -> Read<'_, Measured<Decl>>
     let (at, rest) = mark(tokens, FUNCTION)?;
     let ((_, name), rest) = name(alloc, rest)?;
     let (params, rest) = params(alloc, rest)?;
-    let (_, rest) = mark(rest, ARROW)?;
+    function_rest(alloc, at, name, params, rest)
+}
+
+// '->' result { spec } ':' block, behind the parameters
+#[tactic(auto, unfolding(crate::specs::ProgramReading::function_rest))]
+fn function_rest<'a>(
+    alloc: Global,
+    at: u32,
+    name: Name,
+    params: ParamList,
+    tokens: &'a [Token],
+) -> Read<'a, Measured<Decl>>
+    ensures { Reads (spec.function_rest true LEVELS (block_at (inside LEVELS)) at name params tokens.now) result }
+{
+    let (_, rest) = mark(tokens, ARROW)?;
     let ((ty, result_name), rest) = named_type(alloc, rest)?;
-    let (contract, rest) = contract(alloc, rest)?;
+    function_body(alloc, at, name, params, outcome(ty, result_name), rest)
+}
+
+// { spec } ':' block, behind the result
+#[tactic(auto, unfolding(crate::specs::ProgramReading::function_body))]
+fn function_body<'a>(
+    alloc: Global,
+    at: u32,
+    name: Name,
+    params: ParamList,
+    given: Given,
+    tokens: &'a [Token],
+) -> Read<'a, Measured<Decl>>
+    ensures { Reads (spec.function_body true LEVELS (block_at (inside LEVELS)) at name params given tokens.now) result }
+{
+    let (contract, rest) = contract(alloc, tokens)?;
     let (_, rest) = mark(rest, COLON)?;
     let (body, rest) = block(alloc, rest, LEVELS - 1)?;
-    let result = outcome(ty, result_name);
-    Ok((
-        function_node(at, name, params, result, contract, body),
-        rest,
-    ))
+    Ok((function_node(at, name, params, given, contract, body), rest))
 }
 
 // 'method' NAME params [ '->' ( '(' ')' | result ) ] { spec } ':' block
@@ -143,11 +181,40 @@ fn method(alloc: Global, tokens: &[Token]) -> Read<'_, Measured<Decl>>
     let (at, rest) = mark(tokens, METHOD)?;
     let ((_, name), rest) = name(alloc, rest)?;
     let (params, rest) = params(alloc, rest)?;
-    let (result, rest) = method_result(alloc, rest)?;
-    let (contract, rest) = contract(alloc, rest)?;
+    method_rest(alloc, at, name, params, rest)
+}
+
+// [ '->' ( '(' ')' | result ) ] { spec } ':' block, behind the parameters
+#[tactic(auto, unfolding(crate::specs::ProgramReading::method_rest))]
+fn method_rest<'a>(
+    alloc: Global,
+    at: u32,
+    name: Name,
+    params: ParamList,
+    tokens: &'a [Token],
+) -> Read<'a, Measured<Decl>>
+    ensures { Reads (spec.method_rest true LEVELS (block_at (inside LEVELS)) at name params tokens.now) result }
+{
+    let (given, rest) = method_result(alloc, tokens)?;
+    method_body(alloc, at, name, params, given, rest)
+}
+
+// { spec } ':' block, behind the result
+#[tactic(auto, unfolding(crate::specs::ProgramReading::method_body))]
+fn method_body<'a>(
+    alloc: Global,
+    at: u32,
+    name: Name,
+    params: ParamList,
+    given: Measured<Option<(Ty, Option<Name>)>>,
+    tokens: &'a [Token],
+) -> Read<'a, Measured<Decl>>
+    ensures { Reads (spec.method_body true LEVELS (block_at (inside LEVELS)) at name params given tokens.now) result }
+{
+    let (contract, rest) = contract(alloc, tokens)?;
     let (_, rest) = mark(rest, COLON)?;
     let (body, rest) = block(alloc, rest, LEVELS - 1)?;
-    Ok((method_node(at, name, params, result, contract, body), rest))
+    Ok((method_node(at, name, params, given, contract, body), rest))
 }
 
 // [ '->' ( '(' ')' | result ) ]
@@ -180,8 +247,22 @@ fn property(alloc: Global, tokens: &[Token]) -> Read<'_, Measured<Decl>>
     let (at, rest) = mark(tokens, PROPERTY)?;
     let ((_, name), rest) = name(alloc, rest)?;
     let (params, rest) = params(alloc, rest)?;
+    property_rest(alloc, at, name, params, rest)
+}
+
+// where { where } LINE, behind the parameters
+#[tactic(auto, unfolding(crate::specs::ProgramReading::property_rest))]
+fn property_rest<'a>(
+    alloc: Global,
+    at: u32,
+    name: Name,
+    params: ParamList,
+    tokens: &'a [Token],
+) -> Read<'a, Measured<Decl>>
+    ensures { Reads (spec.property_rest true LEVELS at name params tokens.now) result }
+{
     let none = Measured::Low(Items::new(alloc), 0);
-    let (first, rest) = where_clause(alloc, none, rest, LEVELS)?;
+    let (first, rest) = where_clause(alloc, none, tokens, LEVELS)?;
     let (clauses, rest) = wheres(alloc, first, rest, LEVELS)?;
     let (_, rest) = mark(rest, LINE_END)?;
     Ok((property_node(at, name, params, clauses), rest))

@@ -45,7 +45,7 @@ impl<B: Fn(Global, &[Token], usize) -> Result<(Stmts, &[Token]), Stop<Kind>>> Ne
     /// 'if' expr ':' block { 'else' 'if' expr ':' block } [ 'else' ':' block ], whose first token
     /// stands where there are so many levels. What is behind an `else` stands one level deeper.
     #[cycle(branches)]
-    #[tactic(auto, using(crate::proofs::StepLemmas::block_steps), unfolding(crate::specs::BlockReading::if_stmt))]
+    #[tactic(auto, using(crate::proofs::StepLemmas::branch_steps), unfolding(crate::specs::BlockReading::if_stmt))]
     pub fn if_stmt<'a>(&self, tokens: &'a [Token], levels: usize) -> Read<'a, Measured<Stmt>>
         requires { (l : ℕ) → l < levels → Nests spec.block_at l (B.pre self.now.block) (B.post self.now.block) }
         ensures { Reads (spec.branch_at levels tokens.now) result }
@@ -56,8 +56,24 @@ impl<B: Fn(Global, &[Token], usize) -> Result<(Stmts, &[Token]), Stop<Kind>>> Ne
         let (at, rest) = mark(tokens, IF)?;
         let (test, rest) = expr(self.alloc, rest, levels)?;
         let (_, rest) = mark(rest, COLON)?;
-        let (first, rest) = self.block(rest, levels - 1)?;
-        let (second, rest) = self.otherwise(rest, levels - 1)?;
+        self.if_rest(at, test, rest, levels - 1)
+    }
+
+    // What stands behind the test and its colon, where there are so many levels inside.
+    #[cycle(branches)]
+    #[tactic(auto, unfolding(crate::specs::BlockReading::if_rest))]
+    fn if_rest<'a>(
+        &self,
+        at: u32,
+        test: Measured<Expr>,
+        tokens: &'a [Token],
+        levels: usize,
+    ) -> Read<'a, Measured<Stmt>>
+        requires { (l : ℕ) → l ≤ levels → Nests spec.block_at l (B.pre self.now.block) (B.post self.now.block) }
+        ensures { Reads (spec.if_rest (spec.block_at levels) (spec.branch_at levels) at test tokens.now) result }
+    {
+        let (first, rest) = self.block(tokens, levels)?;
+        let (second, rest) = self.otherwise(rest, levels)?;
         Ok((if_node(at, test, first, second), rest))
     }
 
@@ -89,8 +105,23 @@ impl<B: Fn(Global, &[Token], usize) -> Result<(Stmts, &[Token]), Stop<Kind>>> Ne
     {
         let (at, rest) = mark(tokens, WHILE)?;
         let (test, rest) = expr(self.alloc, rest, levels)?;
+        self.while_rest(at, test, rest, levels)
+    }
+
+    // { where } ':' block, behind the test
+    #[tactic(auto, unfolding(crate::specs::BlockReading::while_rest))]
+    fn while_rest<'a>(
+        &self,
+        at: u32,
+        test: Measured<Expr>,
+        tokens: &'a [Token],
+        levels: usize,
+    ) -> Read<'a, Measured<Stmt>>
+        requires { Nests spec.block_at (steps.inside levels) (B.pre self.now.block) (B.post self.now.block) }
+        ensures { Reads (spec.while_rest true levels (spec.block_at (steps.inside levels)) at test tokens.now) result }
+    {
         let none = Measured::Low(Items::new(self.alloc), 0);
-        let (invariants, rest) = wheres(self.alloc, none, rest, levels)?;
+        let (invariants, rest) = wheres(self.alloc, none, tokens, levels)?;
         let (_, rest) = mark(rest, COLON)?;
         let (body, rest) = self.block(rest, inside(levels))?;
         Ok((while_node(at, test, invariants, body), rest))
@@ -105,12 +136,7 @@ impl<B: Fn(Global, &[Token], usize) -> Result<(Stmts, &[Token]), Stop<Kind>>> Ne
         let (at, rest) = mark(tokens, DO)?;
         let (_, rest) = mark(rest, COLON)?;
         let (body, rest) = self.block(rest, inside(levels))?;
-        let (_, rest) = mark(rest, WHILE)?;
-        let (test, rest) = expr(self.alloc, rest, levels)?;
-        let none = Measured::Low(Items::new(self.alloc), 0);
-        let (invariants, rest) = wheres(self.alloc, none, rest, levels)?;
-        let (_, rest) = mark(rest, LINE_END)?;
-        Ok((do_node(at, body, test, invariants), rest))
+        do_rest(self.alloc, at, body, rest, levels)
     }
 
     /// 'for' NAME 'in' sum '..' sum { where } ':' block
@@ -122,14 +148,45 @@ impl<B: Fn(Global, &[Token], usize) -> Result<(Stmts, &[Token]), Stop<Kind>>> Ne
         let (at, rest) = mark(tokens, FOR)?;
         let ((_, name), rest) = name(self.alloc, rest)?;
         let (_, rest) = mark(rest, IN)?;
-        let (from, rest) = sum(self.alloc, rest, levels)?;
+        self.for_range(at, name, rest, levels)
+    }
+
+    // sum '..' sum { where } ':' block, behind 'in'
+    #[tactic(auto, unfolding(crate::specs::BlockReading::for_range))]
+    fn for_range<'a>(
+        &self,
+        at: u32,
+        name: Name,
+        tokens: &'a [Token],
+        levels: usize,
+    ) -> Read<'a, Measured<Stmt>>
+        requires { Nests spec.block_at (steps.inside levels) (B.pre self.now.block) (B.post self.now.block) }
+        ensures { Reads (spec.for_range true levels (spec.block_at (steps.inside levels)) at name tokens.now) result }
+    {
+        let (from, rest) = sum(self.alloc, tokens, levels)?;
         let (_, rest) = mark(rest, RANGE)?;
         let (to, rest) = sum(self.alloc, rest, levels)?;
+        self.for_rest(at, name, both(from, to), rest, levels)
+    }
+
+    // { where } ':' block, behind the ends of the range
+    #[tactic(auto, unfolding(crate::specs::BlockReading::for_rest))]
+    fn for_rest<'a>(
+        &self,
+        at: u32,
+        name: Name,
+        ends: Measured<(Expr, Expr)>,
+        tokens: &'a [Token],
+        levels: usize,
+    ) -> Read<'a, Measured<Stmt>>
+        requires { Nests spec.block_at (steps.inside levels) (B.pre self.now.block) (B.post self.now.block) }
+        ensures { Reads (spec.for_rest true levels (spec.block_at (steps.inside levels)) at name ends tokens.now) result }
+    {
         let none = Measured::Low(Items::new(self.alloc), 0);
-        let (invariants, rest) = wheres(self.alloc, none, rest, levels)?;
+        let (invariants, rest) = wheres(self.alloc, none, tokens, levels)?;
         let (_, rest) = mark(rest, COLON)?;
         let (body, rest) = self.block(rest, inside(levels))?;
-        Ok((for_node(at, name, both(from, to), invariants, body), rest))
+        Ok((for_node(at, name, ends, invariants, body), rest))
     }
 
     /// label { ',' label } ':' block, behind 'case', whose block's statements stand where there are so
@@ -153,7 +210,7 @@ impl<B: Fn(Global, &[Token], usize) -> Result<(Stmts, &[Token]), Stop<Kind>>> Ne
     /// { case } [ 'default' ':' block ] OUT, behind the cases that were read, where the block of the
     /// last one stands on a level inside of which there are so many. Each further block stands one
     /// level deeper, and that of `default` on the level of the last one.
-    #[tactic(auto, using(crate::proofs::StepLemmas::block_steps), unfolding(crate::specs::BlockReading::default, crate::specs::BlockReading::last_out))]
+    #[tactic(auto, using(crate::proofs::StepLemmas::case_steps), unfolding(crate::specs::BlockReading::default, crate::specs::BlockReading::last_out))]
     pub fn cases<'a>(
         &self,
         cases: Measured<Items<Case>>,
@@ -181,6 +238,25 @@ impl<B: Fn(Global, &[Token], usize) -> Result<(Stmts, &[Token]), Stop<Kind>>> Ne
         let (_, rest) = mark(tokens, BLOCK_OUT)?;
         Ok((both(cases, Measured::Low(None, 0)), rest))
     }
+}
+
+// 'while' expr { where } LINE, behind the block
+#[tactic(auto, unfolding(crate::specs::BlockReading::do_rest))]
+fn do_rest<'a>(
+    alloc: Global,
+    at: u32,
+    body: Stmts,
+    tokens: &'a [Token],
+    levels: usize,
+) -> Read<'a, Measured<Stmt>>
+    ensures { Reads (spec.do_rest true levels at body tokens.now) result }
+{
+    let (_, rest) = mark(tokens, WHILE)?;
+    let (test, rest) = expr(alloc, rest, levels)?;
+    let none = Measured::Low(Items::new(alloc), 0);
+    let (invariants, rest) = wheres(alloc, none, rest, levels)?;
+    let (_, rest) = mark(rest, LINE_END)?;
+    Ok((do_node(at, body, test, invariants), rest))
 }
 
 fn if_node(at: u32, test: Measured<Expr>, first: Stmts, second: Stmts) -> Measured<Stmt>

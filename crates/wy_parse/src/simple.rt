@@ -177,16 +177,44 @@ pub fn named_stmt(alloc: Global, tokens: &[Token], levels: usize) -> Read<'_, Me
     if next_is(rest, OPEN_BRACKET) {
         return bracket_stmt(alloc, at, name, rest, levels);
     }
-    if next_in(rest, Class::TypeGoesOn) {
-        let (ty, rest) = type_tail(alloc, named_node(at, name), rest, levels)?;
+    named_rest(alloc, at, name, rest, levels)
+}
+
+// What goes on with neither bracket behind a name: a type, or a path or a value.
+#[tactic(auto, unfolding(crate::specs::StmtReading::named_rest))]
+fn named_rest<'a>(
+    alloc: Global,
+    at: u32,
+    name: Name,
+    tokens: &'a [Token],
+    levels: usize,
+) -> Read<'a, Measured<Stmt>>
+    ensures { Reads (spec.named_rest true levels at name tokens.now) result }
+{
+    if next_in(tokens, Class::TypeGoesOn) {
+        let (ty, rest) = type_tail(alloc, named_node(at, name), tokens, levels)?;
         return declared(alloc, at, ty, rest, levels);
     }
+    path_stmt(alloc, at, name, tokens, levels)
+}
+
+// [ '.' NAME { step } ] '=' expr LINE, behind the name
+#[tactic(auto, unfolding(crate::specs::StmtReading::path_stmt))]
+fn path_stmt<'a>(
+    alloc: Global,
+    at: u32,
+    name: Name,
+    tokens: &'a [Token],
+    levels: usize,
+) -> Read<'a, Measured<Stmt>>
+    ensures { Reads (spec.path_stmt true levels at name tokens.now) result }
+{
     let none = Measured::Low(Items::new(alloc), 0);
-    if next_is(rest, DOT) {
-        let (path, rest) = field_step(alloc, none, rest)?;
+    if next_is(tokens, DOT) {
+        let (path, rest) = field_step(alloc, none, tokens)?;
         return assigned(alloc, at, name, path, rest, levels);
     }
-    valued(alloc, at, name, none, rest, levels)
+    valued(alloc, at, name, none, tokens, levels)
 }
 
 // NAME '(' args ')' LINE, behind the name
@@ -230,12 +258,42 @@ fn bracket_stmt<'a>(
 {
     let (bracket, rest) = mark(tokens, OPEN_BRACKET)?;
     if next_is(rest, CLOSE_BRACKET) {
-        let (_, rest) = inner(rest, CLOSE_BRACKET, inside(levels))?;
-        let begun = array_node(alloc, bracket, named_node(at, name))?;
-        let (ty, rest) = type_rest(alloc, begun, rest, levels)?;
-        return declared(alloc, at, ty, rest, levels);
+        return array_stmt(alloc, at, name, bracket, rest, levels);
     }
-    let (index, rest) = expr(alloc, rest, inside(levels))?;
+    index_stmt(alloc, at, name, bracket, rest, levels)
+}
+
+// The rest of a declaration whose type begins with NAME '[' ']', behind the first bracket.
+#[tactic(auto, unfolding(crate::specs::StmtReading::array_stmt))]
+fn array_stmt<'a>(
+    alloc: Global,
+    at: u32,
+    name: Name,
+    bracket: u32,
+    tokens: &'a [Token],
+    levels: usize,
+) -> Read<'a, Measured<Stmt>>
+    ensures { Reads (spec.array_stmt true levels at name bracket tokens.now) result }
+{
+    let (_, rest) = inner(tokens, CLOSE_BRACKET, inside(levels))?;
+    let begun = array_node(alloc, bracket, named_node(at, name))?;
+    let (ty, rest) = type_rest(alloc, begun, rest, levels)?;
+    declared(alloc, at, ty, rest, levels)
+}
+
+// The rest of an assignment into NAME '[' expr ']', behind the first bracket.
+#[tactic(auto, unfolding(crate::specs::StmtReading::index_stmt))]
+fn index_stmt<'a>(
+    alloc: Global,
+    at: u32,
+    name: Name,
+    bracket: u32,
+    tokens: &'a [Token],
+    levels: usize,
+) -> Read<'a, Measured<Stmt>>
+    ensures { Reads (spec.index_stmt true levels at name bracket tokens.now) result }
+{
+    let (index, rest) = expr(alloc, tokens, inside(levels))?;
     let (_, rest) = mark(rest, CLOSE_BRACKET)?;
     let none = Measured::Low(Items::new(alloc), 0);
     let path = pushed(none, index_step(bracket, index))?;

@@ -1,4 +1,4 @@
-use Rattle.std.proofs.Common.{◌≡◌, ◌-◌, [], ◌∷◌}
+use Rattle.std.proofs.Common.{◌≡◌, ◌-◌, true}
 use Rattle.wy_reading.specs.Reader.{loop}
 use Rattle.wy_parse.specs.Sorts.{is, has}
 use Rattle.wy_parse.specs.Sorts as t
