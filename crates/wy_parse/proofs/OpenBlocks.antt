@@ -1,10 +1,10 @@
 -- Steps of reading a block with a list of the switches that are open in it.
-use Rattle.std.proofs.Common.{◌≡◌, ◌≢◌, ℕ, zero, suc, ◌+◌, ◌-◌, ◌<◌, ◌≤◌, ◌^◌, Bool, true, false, ◌&&◌, not, true≢false, cond, List, [], ◌∷◌, ◌++◌, length, Ok, Err, ◌⊎◌, inl, inr, refl, sym, ap, subst, ◌∙◌, arith, length-append}
+use Rattle.std.proofs.Common.{◌≡◌, ◌≢◌, ℕ, zero, suc, ◌+◌, ◌-◌, ◌<◌, ◌≤◌, ◌^◌, Bool, true, false, ◌&&◌, not, true≢false, cond, List, [], ◌∷◌, ◌++◌, length, Result, Ok, Err, ◌⊎◌, inl, inr, refl, sym, ap, subst, ◌∙◌, arith, length-append}
 use Rattle.std.proofs.Math.Path.{fun_ext}
 use Rattle.wy_reading.specs.declared.stop.Stop.{Stop}
-use Rattle.wy_reading.specs.declared.stop.Stop.TheVariants.{Unexpected, Fault}
+use Rattle.wy_reading.specs.declared.stop.Stop.TheVariants.{Unexpected, Fault, NoMemory}
 use Rattle.wy_reading.specs.Rule.{heads}
-use Rattle.wy_reading.specs.Reader.{◌>>=◌, Outcome, and_then, pure, branch, loop, while, unless, refused}
+use Rattle.wy_reading.specs.Reader.{◌>>=◌, Outcome, Reads, and_then, pure, branch, loop, while, unless, refused}
 use Rattle.wy_reading.proofs.Outcomes.{and_then-ok, ok-parts}
 use Rattle.wy_lex.specs.declared.token.Token.{Token}
 use Rattle.wy_parse.specs.declared.blocks.Open.{Open}
@@ -27,6 +27,7 @@ use Rattle.wy_reading.proofs.Turns.{loop-halts}
 use Rattle.wy_parse.proofs.TokenLemmas.{at_other}
 use Rattle.wy_parse.proofs.Shrinking.{Eats, while-turn, mark-eats, mark-lacks}
 use Rattle.wy_parse.proofs.BlockSizes.{piece_at-eats, statement_at-eats, header-eats, lone_default-eats, with_cases-shrinks}
+use denote.Ref.{Bor}
 
 -- ---- outcomes
 
@@ -253,6 +254,9 @@ at_end false here e = absurd (cc)
 pub begins : (levels : ℕ) (p : Progress) (i : List Token) → p.switches ≡ [] → p.made ≡ none → p.begun ≡ false → going levels width false none i ≡ resumed levels width p i
 unfolding around
 begins levels p i s m b = let e : width - 0 ≡ width = omega arith in rw (s, m, b, e) refl
+
+pub stops : {A : Type 0} (wanted : Outcome Token Kind A) (e : Stop Kind) (r : Result (A × Bor (List Token)) (Stop Kind)) → r ≡ Err e → (e ≢ NoMemory → wanted ≡ Err e) → Reads wanted r
+stops {A} wanted e r re h = subst (λ (x : Result (A × Bor (List Token)) (Stop Kind)). Reads wanted x) (sym re) h
 
 pub fits_width : (n : ℕ) → n < 2 ^ 64 → n < width
 unfolding width

@@ -87,7 +87,8 @@ fn statements<'a, B: Fn(Global, &[Token], usize) -> Result<(Stmts, &[Token]), St
         made: Measured::Low(Items::new(nested.alloc), 0),
         begun: false,
     };
-    let _size = tokens.len();
+    // Their number fits, and no more switches are open than tokens were read.
+    count(tokens);
     let mut rest = tokens;
     'pieces: loop {
         if halts(&progress, rest) && progress.switches.is_empty() {
@@ -98,6 +99,13 @@ fn statements<'a, B: Fn(Global, &[Token], usize) -> Result<(Stmts, &[Token]), St
         progress = more;
         rest = after;
     }
+}
+
+// How many tokens there are.
+fn count(tokens: &[Token]) -> usize
+    ensures { result ≡ length tokens.now }
+{
+    tokens.len()
 }
 
 // Whether the innermost block is at its end.

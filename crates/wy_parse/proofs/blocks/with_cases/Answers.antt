@@ -1,4 +1,3 @@
-use Rattle.std.proofs.Common.{◌<◌}
 use Rattle.wy_parse.proofs.StepLemmas.{inside_below}
 use Rattle.wy_parse.proofs.blocks.with_cases.Goals as goal
 
