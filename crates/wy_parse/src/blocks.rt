@@ -50,7 +50,11 @@ pub struct Progress {
 
 /// LINE IN stmt { stmt } OUT, whose statements stand where there are so many levels.
 #[tactic(auto, using(crate::proofs::OpenBlocks::block_levels))]
-pub fn block(alloc: Global, tokens: &[Token], levels: usize) -> Result<(Stmts, &[Token]), Stop<Kind>>
+pub fn block(
+    alloc: Global,
+    tokens: &[Token],
+    levels: usize,
+) -> Result<(Stmts, &[Token]), Stop<Kind>>
     ensures { Reads (block_at levels tokens.now) result }
 {
     if levels == 0 {
@@ -191,9 +195,17 @@ fn closed(alloc: Global, progress: Progress) -> Result<Progress, AllocError>
     match switches.pop() {
         Some(last) => {
             let made = whole(alloc, last, made)?;
-            Ok(Progress { switches, made, begun })
+            Ok(Progress {
+                switches,
+                made,
+                begun,
+            })
         }
-        None => Ok(Progress { switches, made, begun }),
+        None => Ok(Progress {
+            switches,
+            made,
+            begun,
+        }),
     }
 }
 
