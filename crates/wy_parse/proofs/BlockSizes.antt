@@ -105,8 +105,8 @@ module _ (levels : ℕ) (below : Nested) (sizes : Sizes below) where
   switch-eats alone e =
       after_mark t.SWITCH _ (λ at. then-shrinks _ _ (expr-shrinks levels) (λ value. past t.COLON _ (λ x. past t.LINE_END _ (λ y. past t.BLOCK_IN _ (λ z.
       then-shrinks _ _
-          (branch-shrinks (is t.CASE) _ _ (past t.CASE _ (λ u. then-shrinks _ _ (case_rest-shrinks below.block none sizes.block) (λ cs. sizes.cases cs))) e)
-          (λ cs. pure-shrinks _))))))
+      (branch-shrinks (is t.CASE) _ _ (past t.CASE _ (λ u. then-shrinks _ _ (case_rest-shrinks below.block none sizes.block) (λ cs. sizes.cases cs))) e)
+      (λ cs. pure-shrinks _))))))
 
   pub statement-eats : (alone : Q Cases) → Shrinks alone → Eats (read.statement true levels below alone)
   unfolding read.statement

@@ -1,10 +1,10 @@
 -- Steps of reading a block with a list of the switches that are open in it.
-use Rattle.std.proofs.Common.{◌≡◌, ◌≢◌, ℕ, zero, suc, ◌+◌, ◌-◌, ◌<◌, ◌≤◌, ◌^◌, Bool, true, false, ◌&&◌, not, true≢false, cond, List, [], ◌∷◌, ◌++◌, length, Ok, Err, ◌⊎◌, inl, inr, refl, sym, ap, subst, ◌∙◌, arith, length-append}
+use Rattle.std.proofs.Common.{◌≡◌, ◌≢◌, ℕ, zero, suc, ◌+◌, ◌-◌, ◌<◌, ◌≤◌, ◌^◌, Bool, true, false, ◌&&◌, not, true≢false, cond, List, [], ◌∷◌, ◌++◌, length, Result, Ok, Err, ◌⊎◌, inl, inr, refl, sym, ap, subst, ◌∙◌, arith, length-append}
 use Rattle.std.proofs.Math.Path.{fun_ext}
 use Rattle.wy_reading.specs.declared.stop.Stop.{Stop}
-use Rattle.wy_reading.specs.declared.stop.Stop.TheVariants.{Unexpected, Fault}
+use Rattle.wy_reading.specs.declared.stop.Stop.TheVariants.{Unexpected, Fault, NoMemory}
 use Rattle.wy_reading.specs.Rule.{heads}
-use Rattle.wy_reading.specs.Reader.{◌>>=◌, Outcome, and_then, pure, branch, loop, while, unless, refused}
+use Rattle.wy_reading.specs.Reader.{◌>>=◌, Outcome, Reads, and_then, pure, branch, loop, while, unless, refused}
 use Rattle.wy_reading.proofs.Outcomes.{and_then-ok, ok-parts}
 use Rattle.wy_lex.specs.declared.token.Token.{Token}
 use Rattle.wy_parse.specs.declared.blocks.Open.{Open}
@@ -27,6 +27,7 @@ use Rattle.wy_reading.proofs.Turns.{loop-halts}
 use Rattle.wy_parse.proofs.TokenLemmas.{at_other}
 use Rattle.wy_parse.proofs.Shrinking.{Eats, while-turn, mark-eats, mark-lacks}
 use Rattle.wy_parse.proofs.BlockSizes.{piece_at-eats, statement_at-eats, header-eats, lone_default-eats, with_cases-shrinks}
+use denote.Ref.{Bor}
 
 -- ---- outcomes
 
@@ -121,7 +122,7 @@ but_switch levels w i h = rw h refl
 -- a switch
 the_switch : (levels w : ℕ) (i : List Token) → heads (is t.SWITCH) i ≡ true
     → read.statement true levels (below levels) (alone levels w) i
-      ≡ and_then (header levels i) (λ h. branch (is t.CASE) (with_cases levels) (alone levels w) >>= (λ cs. pure (trees.switch_node h.0 h.1 cs)))
+    ≡ and_then (header levels i) (λ h. branch (is t.CASE) (with_cases levels) (alone levels w) >>= (λ cs. pure (trees.switch_node h.0 h.1 cs)))
 unfolding read.statement read.switch header with_cases
 the_switch levels w i h = rw h (simp bind-assoc)
 
@@ -199,7 +200,7 @@ open-goes : (levels w v : ℕ) (begun : Bool) (ss : Stmts) (i : List Token) (pla
     → going levels w begun ss i ≡ behind levels w (record { at = place; value = value; before = ss }) (going levels v false none) k
 open-goes levels w v begun ss i place value j k x e f b h d =
     one_more levels w begun ss i f ∙ rw (switch_at levels w i place value j b, no_case j h, alone_begins levels w v j e, d)
-        (flat (going levels v false none k) (mark t.BLOCK_OUT) (λ body. both none (some body)) (λ cs. trees.switch_node place value cs) (λ st. pushed ss st) (rest_at levels w))
+    (flat (going levels v false none k) (mark t.BLOCK_OUT) (λ body. both none (some body)) (λ cs. trees.switch_node place value cs) (λ st. pushed ss st) (rest_at levels w))
 
 open-fails : (levels w v : ℕ) (begun : Bool) (ss : Stmts) (i : List Token) (place : ℕ) (value : E) (j : List Token) (x : Stop Kind) → w ≡ suc v → Follows begun i → Begun levels i place value j
     → heads (is t.DEFAULT) j ≡ true → lone_default j ≡ Err x → going levels w begun ss i ≡ Err x
@@ -253,6 +254,9 @@ at_end false here e = absurd (cc)
 pub begins : (levels : ℕ) (p : Progress) (i : List Token) → p.switches ≡ [] → p.made ≡ none → p.begun ≡ false → going levels width false none i ≡ resumed levels width p i
 unfolding around
 begins levels p i s m b = let e : width - 0 ≡ width = omega arith in rw (s, m, b, e) refl
+
+pub stops : {A : Type 0} (wanted : Outcome Token Kind A) (e : Stop Kind) (r : Result (A × Bor (List Token)) (Stop Kind)) → r ≡ Err e → (e ≢ NoMemory → wanted ≡ Err e) → Reads wanted r
+stops {A} wanted e r re h = subst (λ (x : Result (A × Bor (List Token)) (Stop Kind)). Reads wanted x) (sym re) h
 
 pub fits_width : (n : ℕ) → n < 2 ^ 64 → n < width
 unfolding width
@@ -317,7 +321,7 @@ module _ (levels : ℕ) (p : Progress) (i : List Token) where
               subst (λ (q : Progress). Moves levels p i q k) (sym same) (record {
                 same =
                     around-at levels width p.switches (going levels w p.begun p.made) (behind levels w o (going levels v false none)) i k
-                        (open-goes levels w v p.begun p.made i place value j k x next f (h, e) g d)
+                    (open-goes levels w v p.begun p.made i place value j k x next f (h, e) g d)
                     ∙ sym (around-last levels width p.switches o (going levels v false none) k (omega (arith, room)));
                 shorter = omega (arith, one, two);
                 room = omega (arith, one, two, size);
@@ -384,5 +388,7 @@ module _ (levels : ℕ) (p : Progress) (i : List Token) where
             ∙ around-err levels width l.0 (behind levels w l.1 (going levels v true p.made)) i x (rw (halted levels v p.made i h, e, d) refl)))
 
 pub ruleset piece_steps = (statement_moves, statement_stops)
+
 pub ruleset switch_steps = (header_stops, cases_move, cases_stop, default_moves, default_stops)
+
 pub ruleset end_steps = (end_stops, end_moves, end_stops_too)

@@ -50,7 +50,11 @@ pub struct Progress {
 
 /// LINE IN stmt { stmt } OUT, whose statements stand where there are so many levels.
 #[tactic(auto, using(crate::proofs::OpenBlocks::block_levels))]
-pub fn block(alloc: Global, tokens: &[Token], levels: usize) -> Result<(Stmts, &[Token]), Stop<Kind>>
+pub fn block(
+    alloc: Global,
+    tokens: &[Token],
+    levels: usize,
+) -> Result<(Stmts, &[Token]), Stop<Kind>>
     ensures { Reads (block_at levels tokens.now) result }
 {
     if levels == 0 {
@@ -87,7 +91,8 @@ fn statements<'a, B: Fn(Global, &[Token], usize) -> Result<(Stmts, &[Token]), St
         made: Measured::Low(Items::new(nested.alloc), 0),
         begun: false,
     };
-    let _size = tokens.len();
+    // Their number fits, and no more switches are open than tokens were read.
+    count(tokens);
     let mut rest = tokens;
     'pieces: loop {
         if halts(&progress, rest) && progress.switches.is_empty() {
@@ -98,6 +103,13 @@ fn statements<'a, B: Fn(Global, &[Token], usize) -> Result<(Stmts, &[Token]), St
         progress = more;
         rest = after;
     }
+}
+
+// How many tokens there are.
+fn count(tokens: &[Token]) -> usize
+    ensures { result ≡ length tokens.now }
+{
+    tokens.len()
 }
 
 // Whether the innermost block is at its end.
@@ -183,9 +195,17 @@ fn closed(alloc: Global, progress: Progress) -> Result<Progress, AllocError>
     match switches.pop() {
         Some(last) => {
             let made = whole(alloc, last, made)?;
-            Ok(Progress { switches, made, begun })
+            Ok(Progress {
+                switches,
+                made,
+                begun,
+            })
         }
-        None => Ok(Progress { switches, made, begun }),
+        None => Ok(Progress {
+            switches,
+            made,
+            begun,
+        }),
     }
 }
 
