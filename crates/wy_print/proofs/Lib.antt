@@ -1,0 +1,4 @@
+pub mod WritingLemmas
+pub mod TypeLemmas
+pub mod ExprLemmas
+pub mod StmtLemmas

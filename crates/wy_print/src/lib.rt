@@ -1,0 +1,24 @@
+//! The printer: from a program to its one text.
+//!
+//! `printer` has the call, [`print`]: imports and declarations with blank lines between. `declarations`,
+//! `statements`, `expressions` and `types` have what each class of the grammar is written as, and
+//! `clauses` the lines of contracts and invariants. Each appends to one buffer. `levels` tells where an
+//! expression needs brackets, `edges` looks where a text begins or ends with a bar before it is
+//! written, and `pieces` has names, literals and margins.
+#![tactic(auto)]
+
+mod clauses;
+mod declarations;
+mod edges;
+mod expressions;
+mod fault;
+mod levels;
+mod pieces;
+mod printer;
+mod statements;
+#[cfg(test)]
+mod tests;
+mod types;
+
+pub use fault::NoMemory;
+pub use printer::print;

@@ -1,0 +1,4 @@
+mod expressions;
+mod programs;
+mod trees;
+mod types;
