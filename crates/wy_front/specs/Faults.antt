@@ -1,5 +1,5 @@
 -- What faults of a source are called, and where they stand.
-use Rattle.std.specs.Prelude.{ℕ, List, [], codes}
+use Rattle.std.specs.Prelude.{ℕ, Bool, true, false, List, [], codes}
 use Rattle.wy_front.specs.declared.fault.SourceFault.{SourceFault}
 use Rattle.wy_front.specs.declared.fault.SourceFault.TheVariants as source
 use Rattle.wy_lex.specs.declared.fault.LexFault.{LexFault}
@@ -36,6 +36,19 @@ offset (source.Mixed at) = at
 offset (source.Deep at) = at
 offset (source.TooMany at) = at
 offset source.NoMemory = 0
+
+-- whether memory ran out
+abbrev pub is_no_memory : SourceFault → Bool
+is_no_memory (source.NotUtf8 at) = false
+is_no_memory (source.BadChar at) = false
+is_no_memory (source.BadIndent at) = false
+is_no_memory (source.BadNumeral at) = false
+is_no_memory (source.OpenComment at) = false
+is_no_memory (source.Unexpected at) = false
+is_no_memory (source.Mixed at) = false
+is_no_memory (source.Deep at) = false
+is_no_memory (source.TooMany at) = false
+is_no_memory source.NoMemory = true
 
 -- the word for it
 abbrev pub word : SourceFault → List ℕ

@@ -79,6 +79,24 @@ pub fn offset(fault: SourceFault) -> u32
     }
 }
 
+/// Whether memory ran out, so that nothing is said of the source.
+pub fn is_no_memory(fault: SourceFault) -> bool
+    ensures value { result ≡ spec.is_no_memory fault }
+{
+    match fault {
+        SourceFault::NoMemory => true,
+        SourceFault::NotUtf8(_)
+        | SourceFault::BadChar(_)
+        | SourceFault::BadIndent(_)
+        | SourceFault::BadNumeral(_)
+        | SourceFault::OpenComment(_)
+        | SourceFault::Unexpected(_)
+        | SourceFault::Mixed(_)
+        | SourceFault::Deep(_)
+        | SourceFault::TooMany(_) => false,
+    }
+}
+
 /// The word for the fault, and no word for want of memory.
 pub fn word(fault: SourceFault) -> &'static str
     ensures value { result.now ≡ spec.word fault }

@@ -10,6 +10,6 @@ mod reading;
 #[cfg(test)]
 mod tests;
 
-pub use fault::{SourceFault, offset, word};
-pub use place::{Place, place};
+pub use fault::{SourceFault, is_no_memory, offset, word};
+pub use place::{Place, locate};
 pub use reading::read;

@@ -11,7 +11,7 @@ pub struct Place {
 
 /// The line and the column of an offset in the bytes. It takes no memory, and its time is linear in the
 /// offset.
-pub fn place(bytes: &[u8], at: u32) -> Place
+pub fn locate(bytes: &[u8], at: u32) -> Place
     ensures value { (result.line, result.column) ≡ place_of bytes.now at }
 {
     let before = bytes_before(bytes, at as usize);

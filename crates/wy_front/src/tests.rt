@@ -1,5 +1,5 @@
-// Places by line and column.
-use crate::place::place;
+// Lines and columns, and the fault of each kind of bad source.
+use crate::{locate, offset, read, word};
 
 const SOURCE: &[u8] = b"type T\n  is int\r\n\n$";
 
@@ -17,7 +17,27 @@ fn offsets_have_lines_and_columns(rt: HostRuntime) {
         (19, 4, 2),
     ];
     for (at, line, column) in cases {
-        let place = place(SOURCE, at);
+        let place = locate(SOURCE, at);
+        assert_eq!(rt; (place.line, place.column), (line, column));
+    }
+}
+
+#[test]
+fn faults_of_tokens_have_a_word_and_a_place(rt: HostRuntime) {
+    let cases: [(&[u8], &str, usize, usize); 5] = [
+        (b"type T is int\n\xff", "NotUtf8", 2, 1),
+        (b"type T is $\n", "BadChar", 1, 11),
+        (b"function f():\n    skip\n  skip\n", "BadIndent", 3, 3),
+        (b"type T is (int x)\nwhere 9x\n", "BadNumeral", 2, 7),
+        (b"type T is int\n /* a", "OpenComment", 2, 2),
+    ];
+    for (source, name, line, column) in cases {
+        let Err(fault) = read(rt.alloc(), source) else {
+            assert!(rt; false);
+            return;
+        };
+        assert_eq!(rt; word(fault), name);
+        let place = locate(source, offset(fault));
         assert_eq!(rt; (place.line, place.column), (line, column));
     }
 }

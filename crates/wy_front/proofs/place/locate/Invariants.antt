@@ -1,6 +1,6 @@
 use Rattle.std.proofs.Common.{◌≡◌, ◌≤◌, ◌+◌, drop}
 use Rattle.wy_front.specs.Places.{place_behind}
-use Rattle.wy_front.proofs.place.place.Given as goal
+use Rattle.wy_front.proofs.place.locate.Given as goal
 
 -- what is left leads on from here
 abbrev pub invariant-loop-byte : goal.invariant-loop-byte
