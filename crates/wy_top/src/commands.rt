@@ -8,12 +8,12 @@ ghost use Rattle.wy_top.specs.Steps.{setting, sinks};
 ghost use Rattle.wy_top.specs.Diagnostics.{refusal_status, refusal_text};
 ghost use Rattle.wy_top.specs.Reporting.{Reports, ReportsIfMemory};
 ghost use Rattle.wy_top.specs.Outcome.{returned, no_command, refused};
-ghost use Rattle.wy_top.specs.Formatting.{FormatCommand, Formats};
+ghost use Rattle.wy_top.specs.Formatting.{FormatCommand, Formats, IsNoFormat};
 ghost use Rattle.wy_top.specs.Run.{Runs};
 
 use crate::command_line::{Operands, read_words};
-use crate::fmt::{format, read_format};
 use crate::diagnostics::{WORDS_REFUSED, WORDS_STATUS, number_line, status, text};
+use crate::formatting::{format, read_format};
 use crate::refusal::Refusal;
 use crate::run::run;
 use crate::verdict::supplied_is_true;
@@ -86,7 +86,7 @@ pub fn run_words<F: Files, O: Sink, E: Sink>(
     out: &mut O,
     err: &mut E,
 ) -> u8
-    ensures runs { ((source : List ℕ) → FormatCommand (plain_words words.now) source → ⊥) → Runs (plain_words words.now)
+    ensures runs { IsNoFormat (plain_words words.now) → Runs (plain_words words.now)
         (setting (F.told files.old) (F.load_faults files.old) (F.load_faults files.new) (F.misses files.old) (F.misses files.new))
         result
         (sinks (O.taken out.old) (O.taken out.new) (O.faults out.old) (O.faults out.new) (E.taken err.old) (E.taken err.new) (E.faults err.old) (E.faults err.new)) }
