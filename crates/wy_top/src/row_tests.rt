@@ -47,11 +47,16 @@ fn file(alloc: Global, name: &str, text: &str) -> Result<(String, Vec<u8>), Allo
     ))
 }
 
-fn all_files(alloc: Global) -> Result<Vec<(String, Vec<u8>)>, AllocError> {
+fn short_files(alloc: Global) -> Result<Vec<(String, Vec<u8>)>, AllocError> {
     let mut files = Vec::new(alloc);
     for (name, text) in &FILES {
         files.push(file(alloc, name, text)?)?;
     }
+    Ok(files)
+}
+
+fn all_files(alloc: Global) -> Result<Vec<(String, Vec<u8>)>, AllocError> {
+    let mut files = short_files(alloc)?;
     let mut long = Vec::new(alloc);
     for _ in 0..1_048_577u32 {
         long.push(b'/')?;
@@ -383,7 +388,7 @@ const FAULT_ROWS: [FaultRow; 7] = [
 fn fault_rows(rt: HostRuntime) -> Result<(), Fail> {
     let alloc = rt.alloc();
     for row in &FAULT_ROWS {
-        let all = all_files(alloc)?;
+        let all = short_files(alloc)?;
         assert!(rt; have_different_names(&all));
         let mut fails = Vec::new(alloc);
         fails.push(row.load)?;
