@@ -1,0 +1,2 @@
+-- what passes over names owe to a cut table
+pub mod ScopeLemmas

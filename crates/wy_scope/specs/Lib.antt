@@ -1,0 +1,4 @@
+-- definitions of public contracts
+pub mod Faults
+pub mod Scope
+pub mod Declarations
