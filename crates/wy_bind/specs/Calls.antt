@@ -27,9 +27,9 @@ call_routine c for_value s count at found =
     at cause.Arity
 
 abbrev pub call_entry : Context → Bool → Entry → ℕ → ℕ → Found → Found
-call_entry c for_value (entry.Type n) count at found = noted found at cause.Unknown
+call_entry c for_value (entry.Type n decl) count at found = noted found at cause.Unknown
 call_entry c for_value (entry.Routine s) count at found = call_routine c for_value s count at found
-call_entry c for_value (entry.Property n arity) count at found =
+call_entry c for_value (entry.Property decl arity) count at found =
     if for_value then noted_where (not (count == arity)) found at cause.Arity else noted found at cause.Unknown
 call_entry c for_value (entry.Variable n) count at found = noted found at cause.Unknown
 
@@ -39,9 +39,9 @@ call c for_value None count at found = noted found at cause.Unknown
 call c for_value (Some e) count at found = call_entry c for_value e count at found
 
 abbrev pub variable_entry : Entry → Bool
-variable_entry (entry.Type n) = false
+variable_entry (entry.Type n decl) = false
 variable_entry (entry.Routine s) = false
-variable_entry (entry.Property n arity) = false
+variable_entry (entry.Property decl arity) = false
 variable_entry (entry.Variable n) = true
 
 -- the name stands for a variable
@@ -50,9 +50,9 @@ is_variable None = false
 is_variable (Some e) = variable_entry e
 
 abbrev pub type_entry : Entry → Bool
-type_entry (entry.Type n) = true
+type_entry (entry.Type n decl) = true
 type_entry (entry.Routine s) = false
-type_entry (entry.Property n arity) = false
+type_entry (entry.Property decl arity) = false
 type_entry (entry.Variable n) = false
 
 -- the name stands for a type

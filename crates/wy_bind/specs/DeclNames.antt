@@ -8,9 +8,10 @@ use Rattle.wy_ast.specs.declared.declarations.Method as rust_method
 use Rattle.wy_ast.specs.declared.declarations.Property as rust_property
 use Rattle.wy_scope.specs.declared.fault.Cause.TheVariants as cause
 use Rattle.wy_scope.specs.Faults.{Found, noted_where}
+use Rattle.wy_scope.specs.Places.{place_of_ty}
 use Rattle.wy_scope.specs.Scope.{Scope, has, with_name}
 use Rattle.wy_bind.specs.declared.context.Context.{Context}
-use Rattle.wy_bind.specs.TypeNames.{in_ty, place_of, just_a_name}
+use Rattle.wy_bind.specs.TypeNames.{in_ty, just_a_name}
 use Rattle.wy_bind.specs.ExprNames.{in_exprs}
 use Rattle.wy_bind.specs.StmtNames.{in_stmts}
 
@@ -38,16 +39,16 @@ with_params scope (p ∷ ps) = with_params (with_name scope p.name just_a_name) 
 abbrev pub in_params : Scope → List Param → Found → Found
 in_params scope [] found = found
 in_params scope (p ∷ ps) found =
-    in_params (with_name scope p.name just_a_name) ps (noted_where (has scope p.name) (in_ty scope p.ty found) (place_of p.ty) cause.Twice)
+    in_params (with_name scope p.name just_a_name) ps (noted_where (has scope p.name) (in_ty scope p.ty found) (place_of_ty p.ty) cause.Twice)
 
 abbrev pub in_alias : Scope → Alias → Found → Found
-in_alias scope a found = in_clauses clause_context scope (place_of a.ty) a.variable a.clauses (in_ty scope a.ty found)
+in_alias scope a found = in_clauses clause_context scope (place_of_ty a.ty) a.variable a.clauses (in_ty scope a.ty found)
 
 -- a function whose parameters are in scope: its result, its contract and its body
 abbrev pub inside_function : Scope → Function → Found → Found
 inside_function scope f found =
     in_stmts (routine_context true true false) scope f.body
-    (in_clauses (routine_context true true true) scope (place_of f.result) f.result_name f.postconditions
+    (in_clauses (routine_context true true true) scope (place_of_ty f.result) f.result_name f.postconditions
      (in_exprs (routine_context true true true) scope (exprs_of f.preconditions) (in_ty scope f.result found)))
 
 abbrev pub in_function : Scope → Function → Found → Found
@@ -59,7 +60,7 @@ in_outcome_of scope None preconditions postconditions found =
     in_exprs (routine_context false false true) scope (exprs_of postconditions)
     (in_exprs (routine_context false false true) scope (exprs_of preconditions) found)
 in_outcome_of scope (Some r) preconditions postconditions found =
-    in_clauses (routine_context false true true) scope (place_of r.0) r.1 postconditions
+    in_clauses (routine_context false true true) scope (place_of_ty r.0) r.1 postconditions
     (in_exprs (routine_context false true true) scope (exprs_of preconditions) (in_ty scope r.0 found))
 
 abbrev pub in_outcome : Scope → Method → Found → Found

@@ -4,34 +4,20 @@ use Rattle.wy_ast.specs.SurfaceTree.{Expr, Exprs, Fields, Ranges, NullExpr, Bool
 use Rattle.wy_scope.specs.declared.fault.Cause.TheVariants as cause
 use Rattle.wy_scope.specs.Faults.{Found, noted_where}
 use Rattle.wy_scope.specs.Scope.{Scope, entry_of, has, with_name}
+use Rattle.wy_scope.specs.Places.{place_of_expr}
 use Rattle.wy_bind.specs.declared.context.Context.{Context}
 use Rattle.wy_bind.specs.Calls.{contract, call, is_variable}
 use Rattle.wy_bind.specs.TypeNames.{in_ty, just_a_name}
-
--- the place of an expression
-abbrev pub place_of : Expr → ℕ
-place_of (NullExpr at) = at
-place_of (BoolExpr at b) = at
-place_of (IntExpr at z) = at
-place_of (TextExpr at bytes) = at
-place_of (VarExpr at name) = at
-place_of (CallExpr at name args) = at
-place_of (NegExpr at a) = at
-place_of (NotExpr at a) = at
-place_of (LenExpr at a) = at
-place_of (BinaryExpr at op a b) = at
-place_of (IsExpr at a t) = at
-place_of (IndexExpr at a b) = at
-place_of (FieldExpr at a name) = at
-place_of (ListExpr at items) = at
-place_of (RepeatExpr at a b) = at
-place_of (RecordExpr at fields) = at
-place_of (QuantExpr at all ranges body) = at
 
 -- how many expressions there are
 abbrev pub count_of : Exprs → ℕ
 count_of NoExprs = 0
 count_of (MoreExprs e rest) = count_of rest + 1
+
+-- the scope behind ranges
+abbrev pub with_ranges : Scope → Ranges → Scope
+with_ranges scope NoRanges = scope
+with_ranges scope (MoreRanges name from to rest) = with_ranges (with_name scope name just_a_name) rest
 
 abbrev mutual
   -- the faults of the expression, with those found before
@@ -51,8 +37,8 @@ abbrev mutual
   in_expr c scope (FieldExpr at a name) found = in_expr c scope a found
   in_expr c scope (ListExpr at items) found = in_exprs c scope items found
   in_expr c scope (RepeatExpr at a b) found = in_expr c scope b (in_expr c scope a found)
-  in_expr c scope (RecordExpr at fields) found = in_fields c scope [] fields found
-  in_expr c scope (QuantExpr at all ranges body) found = in_quant (contract c) scope at ranges body found
+  in_expr c scope (RecordExpr at fs) found = in_fields c scope [] fs found
+  in_expr c scope (QuantExpr at all rs body) found = in_expr (contract c) (with_ranges scope rs) body (in_ranges (contract c) scope at rs found)
 
   pub in_exprs : Context → Scope → Exprs → Found → Found
   in_exprs c scope NoExprs found = found
@@ -62,10 +48,10 @@ abbrev mutual
   pub in_fields : Context → Scope → Scope → Fields → Found → Found
   in_fields c scope seen NoFields found = found
   in_fields c scope seen (MoreFields name e rest) found =
-      in_fields c scope (with_name seen name just_a_name) rest (noted_where (has seen name) (in_expr c scope e found) (place_of e) cause.Twice)
+      in_fields c scope (with_name seen name just_a_name) rest (noted_where (has seen name) (in_expr c scope e found) (place_of_expr e) cause.Twice)
 
-  -- those of a quantifier: a range's variable is in scope behind it
-  pub in_quant : Context → Scope → ℕ → Ranges → Expr → Found → Found
-  in_quant c scope at NoRanges body found = in_expr c scope body found
-  in_quant c scope at (MoreRanges name from to rest) body found =
-      in_quant c (with_name scope name just_a_name) at rest body (noted_where (has scope name) (in_expr c scope to (in_expr c scope from found)) at cause.Twice)
+  -- those of the ranges of a quantifier: a range's variable is in scope behind it
+  pub in_ranges : Context → Scope → ℕ → Ranges → Found → Found
+  in_ranges c scope at NoRanges found = found
+  in_ranges c scope at (MoreRanges name from to rest) found =
+      in_ranges c (with_name scope name just_a_name) at rest (noted_where (has scope name) (in_expr c scope to (in_expr c scope from found)) at cause.Twice)

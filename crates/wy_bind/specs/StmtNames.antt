@@ -46,8 +46,8 @@ scope_behind scope (IfStmt at test first second) = scope
 scope_behind scope (WhileStmt at test invariants body) = scope
 scope_behind scope (DoStmt at body test invariants) = scope
 scope_behind scope (ForStmt at name from to invariants body) = scope
-scope_behind scope (SwitchStmt at value cases) = scope
-scope_behind scope (SwitchElseStmt at value cases default) = scope
+scope_behind scope (SwitchStmt at value cs) = scope
+scope_behind scope (SwitchElseStmt at value cs default) = scope
 
 abbrev mutual
   -- the faults of the statement, with those found before
@@ -72,8 +72,8 @@ abbrev mutual
       in_stmts (looped c) (with_name scope name just_a_name) body
       (in_exprs (contract c) (with_name scope name just_a_name) (exprs_of invariants)
        (noted_where (has scope name) (in_expr c scope to (in_expr c scope from found)) at cause.Twice))
-  in_stmt c scope (SwitchStmt at value cases) found = in_cases c scope cases (in_expr c scope value found)
-  in_stmt c scope (SwitchElseStmt at value cases default) found = in_stmts c scope default (in_cases c scope cases (in_expr c scope value found))
+  in_stmt c scope (SwitchStmt at value cs) found = in_cases c scope cs (in_expr c scope value found)
+  in_stmt c scope (SwitchElseStmt at value cs default) found = in_stmts c scope default (in_cases c scope cs (in_expr c scope value found))
 
   -- those of a block
   pub in_stmts : Context → Scope → Stmts → Found → Found
@@ -85,8 +85,7 @@ abbrev mutual
   in_cases c scope NoCases found = found
   in_cases c scope (MoreCases labels body rest) found = in_cases c scope rest (in_stmts c scope body (in_exprs c scope (exprs_of labels) found))
 
--- the invariants and the body of a `for`, with its variable in scope
-abbrev pub in_for : Context → Scope → List ℕ → List Expr → Stmts → Found → Found
-in_for c scope name invariants body found =
-    in_stmts (looped c) (with_name scope name just_a_name) body
-    (in_exprs (contract c) (with_name scope name just_a_name) (exprs_of invariants) found)
+-- the scope behind a block's statements, still within it
+abbrev pub with_stmts : Scope → Stmts → Scope
+with_stmts scope NoStmts = scope
+with_stmts scope (MoreStmts s rest) = with_stmts (scope_behind scope s) rest

@@ -8,21 +8,8 @@ use Rattle.wy_scope.specs.declared.table.Entry.TheVariants as entry
 use Rattle.wy_scope.specs.declared.fault.Cause.TheVariants as cause
 use Rattle.wy_scope.specs.Faults.{Found, noted_where}
 use Rattle.wy_scope.specs.Scope.{Scope, entry_of, has, with_name}
+use Rattle.wy_scope.specs.Places.{place_of_ty}
 use Rattle.wy_bind.specs.Calls.{is_type}
-
--- the place of a type
-abbrev pub place_of : Ty → ℕ
-place_of (NullTy at) = at
-place_of (BoolTy at) = at
-place_of (IntTy at) = at
-place_of (AnyTy at) = at
-place_of (VoidTy at) = at
-place_of (RecordTy at fields) = at
-place_of (ArrayTy at item) = at
-place_of (UnionTy at a b) = at
-place_of (InterTy at a b) = at
-place_of (NotTy at t) = at
-place_of (NamedTy at name) = at
 
 -- a name beside others of which only the names count
 abbrev pub just_a_name : Entry
@@ -36,7 +23,7 @@ abbrev mutual
   in_ty scope (IntTy at) found = found
   in_ty scope (AnyTy at) found = found
   in_ty scope (VoidTy at) found = found
-  in_ty scope (RecordTy at fields) found = in_fields scope [] fields found
+  in_ty scope (RecordTy at fs) found = in_fields scope [] fs found
   in_ty scope (ArrayTy at item) found = in_ty scope item found
   in_ty scope (UnionTy at a b) found = in_ty scope b (in_ty scope a found)
   in_ty scope (InterTy at a b) found = in_ty scope b (in_ty scope a found)
@@ -47,7 +34,7 @@ abbrev mutual
   pub in_fields : Scope → Scope → FieldTys → Found → Found
   in_fields scope seen NoFieldTys found = found
   in_fields scope seen (MoreFieldTys name t rest) found =
-      in_fields scope (with_name seen name just_a_name) rest (noted_where (has seen name) (in_ty scope t found) (place_of t) cause.Twice)
+      in_fields scope (with_name seen name just_a_name) rest (noted_where (has seen name) (in_ty scope t found) (place_of_ty t) cause.Twice)
 
 -- these fields
 abbrev pub seen_fields : List (List ℕ × rust.Ty) → FieldTys

@@ -55,7 +55,7 @@ pub fn call(
 {
     match callee {
         None => noted(found, at, Cause::Unknown),
-        Some(Entry::Type(_)) => noted(found, at, Cause::Unknown),
+        Some(Entry::Type(_, _)) => noted(found, at, Cause::Unknown),
         Some(Entry::Variable(_)) => noted(found, at, Cause::Unknown),
         Some(Entry::Property(_, arity)) => {
             if for_value {
@@ -103,7 +103,7 @@ pub fn is_type(entry: Option<Entry>) -> bool
     ensures value { result ≡ calls.is_type entry }
 {
     match entry {
-        Some(Entry::Type(_)) => true,
+        Some(Entry::Type(_, _)) => true,
         _ => false,
     }
 }

@@ -6,11 +6,11 @@ ghost use Rattle.wy_bind.specs.DeclNames as names;
 use crate::context::Context;
 use crate::expressions::in_exprs;
 use crate::statements::in_block;
-use crate::types::{in_ty, place_of};
+use crate::types::in_ty;
 use std::alloc::{AllocError, Global};
 use wy_ast::{Alias, Decl, Expr, Function, Method, Param, Property};
 use wy_data::Name;
-use wy_scope::{Cause, Entry, Fault, Table, noted_where};
+use wy_scope::{Cause, Entry, Fault, Table, noted_where, place_of_ty};
 
 /// The fault to be given, of those found before and those that the nodes of the declarations show by
 /// themselves: `Unknown`, `Twice`, `CallInContract`, `MethodInFunction`, `Arity` and `OutsideLoop`, each
@@ -83,12 +83,13 @@ fn in_alias(
     ensures value { IfOk result (λ f. f ≡ names.in_alias scope.old (names.seen_alias alias.now) found) }
 {
     let found = in_ty(alloc, scope, found, &alias.ty)?;
-    let at = place_of(&alias.ty);
+    let at = place_of_ty(&alias.ty);
     let clauses = alias.clauses.as_slice();
     in_clauses(alloc, clause_context(), scope, found, at, &alias.variable, clauses)
 }
 
 /// The clauses behind a variable that may be named, and whose type stands at the place.
+#[tactic(auto, using(crate::proofs::CutLemmas::kept_name))]
 fn in_clauses(
     alloc: Global,
     context: Context,
@@ -127,12 +128,13 @@ fn in_params(
     let mut found = found;
     for param in params {
         found = in_ty(alloc, scope, found, &param.ty)?;
-        found = noted_where(scope.has(&param.name), found, place_of(&param.ty), Cause::Twice);
+        found = noted_where(scope.has(&param.name), found, place_of_ty(&param.ty), Cause::Twice);
         scope.put(alloc, &param.name, Entry::Variable(0))?;
     }
     Ok(found)
 }
 
+#[tactic(auto, using(crate::proofs::CutLemmas::kept_params))]
 fn in_function(
     alloc: Global,
     scope: &mut Table,
@@ -145,7 +147,7 @@ fn in_function(
     let mark = scope.len();
     let found = in_params(alloc, scope, found, function.params.as_slice())?;
     let found = in_ty(alloc, scope, found, &function.result)?;
-    let at = place_of(&function.result);
+    let at = place_of_ty(&function.result);
     let clause = routine_context(true, true, true);
     let preconditions = function.preconditions.as_slice();
     let found = in_exprs(alloc, clause, scope, found, preconditions)?;
@@ -158,6 +160,7 @@ fn in_function(
     Ok(found)
 }
 
+#[tactic(auto, using(crate::proofs::CutLemmas::kept_params))]
 fn in_method(
     alloc: Global,
     scope: &mut Table,
@@ -198,11 +201,12 @@ fn in_outcome(
             let clause = routine_context(false, true, true);
             let found = in_ty(alloc, scope, found, ty)?;
             let found = in_exprs(alloc, clause, scope, found, preconditions)?;
-            in_clauses(alloc, clause, scope, found, place_of(ty), name, postconditions)
+            in_clauses(alloc, clause, scope, found, place_of_ty(ty), name, postconditions)
         }
     }
 }
 
+#[tactic(auto, using(crate::proofs::CutLemmas::kept_params))]
 fn in_property(
     alloc: Global,
     scope: &mut Table,

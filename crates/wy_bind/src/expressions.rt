@@ -9,10 +9,11 @@ use crate::types::in_ty;
 use std::alloc::{AllocError, Global};
 use wy_ast::{Expr, ExprKind};
 use wy_data::Name;
-use wy_scope::{Cause, Entry, Fault, Table, noted_where};
+use wy_scope::{Cause, Entry, Fault, Table, noted_where, place_of_expr};
 
 /// The faults of an expression. The scope is as before afterwards. Linear in the expression's size.
 #[cycle(expr)]
+#[tactic(auto, using(crate::proofs::CutLemmas::kept_ranges))]
 pub fn in_expr(
     alloc: Global,
     context: Context,
@@ -42,43 +43,34 @@ pub fn in_expr(
         ExprKind::Not(operand) => in_expr(alloc, context, scope, found, operand.get()),
         ExprKind::Len(operand) => in_expr(alloc, context, scope, found, operand.get()),
         ExprKind::Binary(_, left, right) => {
-            in_both(alloc, context, scope, found, left.get(), right.get())
+            let found = in_expr(alloc, context, scope, found, left.get())?;
+            in_expr(alloc, context, scope, found, right.get())
         }
         ExprKind::Is(operand, ty) => {
             let found = in_expr(alloc, context, scope, found, operand.get())?;
             in_ty(alloc, scope, found, ty)
         }
         ExprKind::Index(array, index) => {
-            in_both(alloc, context, scope, found, array.get(), index.get())
+            let found = in_expr(alloc, context, scope, found, array.get())?;
+            in_expr(alloc, context, scope, found, index.get())
         }
         ExprKind::Field(whole, _) => in_expr(alloc, context, scope, found, whole.get()),
         ExprKind::List(items) => in_exprs(alloc, context, scope, found, items.as_slice()),
         ExprKind::Repeat(item, count) => {
-            in_both(alloc, context, scope, found, item.get(), count.get())
+            let found = in_expr(alloc, context, scope, found, item.get())?;
+            in_expr(alloc, context, scope, found, count.get())
         }
         ExprKind::Record(fields) => in_fields(alloc, context, scope, found, fields.as_slice()),
         ExprKind::Quant(_, ranges, body) => {
+            let mark = scope.len();
             let inside = contract(context);
             let ranges = ranges.as_slice();
-            in_quant(alloc, inside, scope, found, expr.at, ranges, body.get())
+            let found = in_ranges(alloc, inside, scope, found, expr.at, ranges)?;
+            let found = in_expr(alloc, inside, scope, found, body.get())?;
+            scope.cut(mark);
+            Ok(found)
         }
     }
-}
-
-#[cycle(expr)]
-fn in_both(
-    alloc: Global,
-    context: Context,
-    scope: &mut Table,
-    found: Option<Fault>,
-    first: &Expr,
-    second: &Expr,
-) -> Result<Option<Fault>, AllocError>
-    ensures scope { OnOk result (scope.new ≡ scope.old) }
-    ensures value { IfOk result (λ f. f ≡ names.in_expr context scope.old (seen_expr second.now) (names.in_expr context scope.old (seen_expr first.now) found)) }
-{
-    let found = in_expr(alloc, context, scope, found, first)?;
-    in_expr(alloc, context, scope, found, second)
 }
 
 /// The faults of these expressions. The scope is as before afterwards.
@@ -115,65 +107,39 @@ fn in_fields(
     let mut found = found;
     for field in fields {
         found = in_expr(alloc, context, scope, found, &field.1)?;
-        found = noted_where(seen.has(&field.0), found, place_of(&field.1), Cause::Twice);
+        found = noted_where(seen.has(&field.0), found, place_of_expr(&field.1), Cause::Twice);
         seen.put(alloc, &field.0, Entry::Variable(0))?;
     }
     Ok(found)
 }
 
+/// The ranges of a quantifier, whose variables are in scope afterwards.
 #[cycle(expr)]
-fn in_quant(
+fn in_ranges(
     alloc: Global,
     context: Context,
     scope: &mut Table,
     found: Option<Fault>,
     at: u32,
     ranges: &[(Name, Expr, Expr)],
-    body: &Expr,
 ) -> Result<Option<Fault>, AllocError>
-    ensures scope { OnOk result (scope.new ≡ scope.old) }
-    ensures value { IfOk result (λ f. f ≡ names.in_quant context scope.old at (seen_ranges ranges.now) (seen_expr body.now) found) }
+    ensures scope { OnOk result (scope.new ≡ names.with_ranges scope.old (seen_ranges ranges.now)) }
+    ensures value { IfOk result (λ f. f ≡ names.in_ranges context scope.old at (seen_ranges ranges.now) found) }
 {
-    let mark = scope.len();
     let mut found = found;
     for range in ranges {
-        found = in_both(alloc, context, scope, found, &range.1, &range.2)?;
+        found = in_expr(alloc, context, scope, found, &range.1)?;
+        found = in_expr(alloc, context, scope, found, &range.2)?;
         found = noted_where(scope.has(&range.0), found, at, Cause::Twice);
         scope.put(alloc, &range.0, Entry::Variable(0))?;
     }
-    found = in_expr(alloc, context, scope, found, body)?;
-    scope.cut(mark);
     Ok(found)
 }
 
 /// How many expressions there are.
+#[tactic(auto, using(crate::proofs::SeenLemmas::count_seen))]
 pub fn count_of(exprs: &[Expr]) -> usize
     ensures value { result ≡ names.count_of (exprs_of (seen_exprs exprs.now)) }
 {
     exprs.len()
-}
-
-/// The place of an expression.
-pub fn place_of(expr: &Expr) -> u32
-    ensures value { result ≡ names.place_of (seen_expr expr.now) }
-{
-    match &expr.kind {
-        ExprKind::Null => expr.at,
-        ExprKind::Bool(_) => expr.at,
-        ExprKind::Int(_) => expr.at,
-        ExprKind::Text(_) => expr.at,
-        ExprKind::Var(_) => expr.at,
-        ExprKind::Call(_, _) => expr.at,
-        ExprKind::Neg(_) => expr.at,
-        ExprKind::Not(_) => expr.at,
-        ExprKind::Len(_) => expr.at,
-        ExprKind::Binary(_, _, _) => expr.at,
-        ExprKind::Is(_, _) => expr.at,
-        ExprKind::Index(_, _) => expr.at,
-        ExprKind::Field(_, _) => expr.at,
-        ExprKind::List(_) => expr.at,
-        ExprKind::Repeat(_, _) => expr.at,
-        ExprKind::Record(_) => expr.at,
-        ExprKind::Quant(_, _, _) => expr.at,
-    }
 }

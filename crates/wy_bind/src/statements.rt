@@ -9,11 +9,11 @@ use crate::expressions::{count_of, in_expr, in_exprs};
 use crate::types::in_ty;
 use std::alloc::{AllocError, Global};
 use wy_ast::{Case, Expr, Step, StepKind, Stmt, StmtKind};
-use wy_data::Name;
 use wy_scope::{Cause, Entry, Fault, Table, noted_where};
 
 /// The faults of a statement. A declaration puts its variable in scope.
 #[cycle(stmt)]
+#[tactic(auto, using(crate::proofs::CutLemmas::kept_name))]
 fn in_stmt(
     alloc: Global,
     context: Context,
@@ -85,8 +85,13 @@ fn in_stmt(
             let found = in_expr(alloc, context, scope, found, from)?;
             let found = in_expr(alloc, context, scope, found, to)?;
             let found = noted_where(scope.has(name), found, at, Cause::Twice);
+            let mark = scope.len();
+            scope.put(alloc, name, Entry::Variable(0))?;
             let invariants = invariants.as_slice();
-            in_for(alloc, context, scope, found, name, invariants, body.as_slice())
+            let found = in_exprs(alloc, contract(context), scope, found, invariants)?;
+            let found = in_block(alloc, looped(context), scope, found, body.as_slice())?;
+            scope.cut(mark);
+            Ok(found)
         }
         StmtKind::Switch(value, cases, default) => {
             let found = in_expr(alloc, context, scope, found, value)?;
@@ -99,30 +104,9 @@ fn in_stmt(
     }
 }
 
-/// The invariants and the body of a `for`, with its variable in scope.
-#[cycle(stmt)]
-fn in_for(
-    alloc: Global,
-    context: Context,
-    scope: &mut Table,
-    found: Option<Fault>,
-    name: &Name,
-    invariants: &[Expr],
-    body: &[Stmt],
-) -> Result<Option<Fault>, AllocError>
-    ensures scope { OnOk result (scope.new ≡ scope.old) }
-    ensures value { IfOk result (λ f. f ≡ names.in_for context scope.old name.now (seen_exprs invariants.now) (seen_block body.now) found) }
-{
-    let mark = scope.len();
-    scope.put(alloc, name, Entry::Variable(0))?;
-    let found = in_exprs(alloc, contract(context), scope, found, invariants)?;
-    let found = in_block(alloc, looped(context), scope, found, body)?;
-    scope.cut(mark);
-    Ok(found)
-}
-
 /// The faults of a block. The scope is as before afterwards.
 #[cycle(stmt)]
+#[tactic(auto, using(crate::proofs::CutLemmas::kept_stmts))]
 pub fn in_block(
     alloc: Global,
     context: Context,

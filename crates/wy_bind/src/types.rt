@@ -7,7 +7,7 @@ use crate::context::is_type;
 use std::alloc::{AllocError, Global};
 use wy_ast::{Ty, TyKind};
 use wy_data::Name;
-use wy_scope::{Cause, Entry, Fault, Table, noted_where};
+use wy_scope::{Cause, Entry, Fault, Table, noted_where, place_of_ty};
 
 /// The faults of a type: `Unknown` at a name that no type has, `Twice` at the type of a field whose
 /// name came before in its record. Linear in the type's size.
@@ -57,27 +57,8 @@ fn in_fields(
     let mut found = found;
     for field in fields {
         found = in_ty(alloc, scope, found, &field.1)?;
-        found = noted_where(seen.has(&field.0), found, place_of(&field.1), Cause::Twice);
+        found = noted_where(seen.has(&field.0), found, place_of_ty(&field.1), Cause::Twice);
         seen.put(alloc, &field.0, Entry::Variable(0))?;
     }
     Ok(found)
-}
-
-/// The place of a type.
-pub fn place_of(ty: &Ty) -> u32
-    ensures value { result ≡ names.place_of (seen_ty ty.now) }
-{
-    match &ty.kind {
-        TyKind::Null => ty.at,
-        TyKind::Bool => ty.at,
-        TyKind::Int => ty.at,
-        TyKind::Any => ty.at,
-        TyKind::Void => ty.at,
-        TyKind::Record(_) => ty.at,
-        TyKind::Array(_) => ty.at,
-        TyKind::Union(_, _) => ty.at,
-        TyKind::Inter(_, _) => ty.at,
-        TyKind::Not(_) => ty.at,
-        TyKind::Named(_) => ty.at,
-    }
 }

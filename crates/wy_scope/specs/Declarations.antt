@@ -33,17 +33,17 @@ place_of (PropertyDecl p) = p.at
 
 -- what the name stands for, behind the declarations counted
 abbrev pub entry_of : Decl → Counts → Entry
-entry_of (AliasDecl a) n = entry.Type n.types
+entry_of (AliasDecl a) n = entry.Type n.types n.decls
 entry_of (FunctionDecl f) n = entry.Routine (record { number = n.routines; arity = length f.params; is_method = false; has_result = true })
 entry_of (MethodDecl m) n = entry.Routine (record { number = n.routines; arity = length m.params; is_method = true; has_result = is_some m.result })
-entry_of (PropertyDecl p) n = entry.Property n.properties (length p.params)
+entry_of (PropertyDecl p) n = entry.Property n.decls (length p.params)
 
 -- the counts with one more declaration
 abbrev pub behind : Decl → Counts → Counts
-behind (AliasDecl a) n = record { types = n.types + 1; routines = n.routines; properties = n.properties }
-behind (FunctionDecl f) n = record { types = n.types; routines = n.routines + 1; properties = n.properties }
-behind (MethodDecl m) n = record { types = n.types; routines = n.routines + 1; properties = n.properties }
-behind (PropertyDecl p) n = record { types = n.types; routines = n.routines; properties = n.properties + 1 }
+behind (AliasDecl a) n = record { types = n.types + 1; routines = n.routines; decls = n.decls + 1 }
+behind (FunctionDecl f) n = record { types = n.types; routines = n.routines + 1; decls = n.decls + 1 }
+behind (MethodDecl m) n = record { types = n.types; routines = n.routines + 1; decls = n.decls + 1 }
+behind (PropertyDecl p) n = record { types = n.types; routines = n.routines; decls = n.decls + 1 }
 
 -- a built-in method: it takes one value and gives nothing back
 abbrev pub builtin : ℕ → Entry
@@ -60,4 +60,4 @@ declared_behind scope found n (d ∷ ds) =
     declared_behind (with_name scope (name_of d) (entry_of d n)) (noted_where (has scope (name_of d)) found (place_of d) cause.Twice) (behind d n) ds
 
 abbrev pub declared : List Decl → Scope × Found
-declared ds = declared_behind (builtins (routine_count ds)) None (record { types = 0; routines = 0; properties = 0 }) ds
+declared ds = declared_behind (builtins (routine_count ds)) None (record { types = 0; routines = 0; decls = 0 }) ds

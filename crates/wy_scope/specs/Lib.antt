@@ -2,3 +2,4 @@
 pub mod Faults
 pub mod Scope
 pub mod Declarations
+pub mod Places

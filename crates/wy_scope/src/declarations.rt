@@ -14,13 +14,12 @@ use wy_data::Name;
 struct Counts {
     types: u32,
     routines: u32,
-    properties: u32,
+    decls: u32,
 }
 
 /// The table of the declarations, behind the two built-in methods, and the fault to be given among
 /// those of names declared again: `Twice` at each declaration whose name came before. Types have the
-/// numbers from 0 in order, and so have functions and methods together, and properties; `print` and
-/// `print_int` have the two numbers behind the last function or method. Linear in the number of
+/// numbers from 0 in order, and so have functions and methods together; `print` and `print_int` have the two numbers behind the last function or method. Linear in the number of
 /// declarations. More than 2^32 - 3 of them are answered as want of memory.
 pub fn declare(alloc: Global, decls: &[Decl]) -> Result<(Table, Option<Fault>), AllocError>
     ensures value { IfOk result (λ r. (r.0, r.1) ≡ declarations.declared (map seen_decl decls.now)) }
@@ -30,7 +29,7 @@ pub fn declare(alloc: Global, decls: &[Decl]) -> Result<(Table, Option<Fault>), 
     let mut counts = Counts {
         types: 0,
         routines: 0,
-        properties: 0,
+        decls: 0,
     };
     for decl in decls {
         found = noted_where(table.has(name_of(decl)), found, place_of(decl), Cause::Twice);
@@ -120,7 +119,7 @@ fn entry_of(decl: &Decl, counts: Counts) -> Entry
     ensures value { result ≡ declarations.entry_of (seen_decl decl.now) counts }
 {
     match decl {
-        Decl::Alias(_) => Entry::Type(counts.types),
+        Decl::Alias(_) => Entry::Type(counts.types, counts.decls),
         Decl::Function(function) => Entry::Routine(Signature {
             number: counts.routines,
             arity: function.params.len(),
@@ -133,7 +132,7 @@ fn entry_of(decl: &Decl, counts: Counts) -> Entry
             is_method: true,
             has_result: method.result.is_some(),
         }),
-        Decl::Property(property) => Entry::Property(counts.properties, property.params.len()),
+        Decl::Property(property) => Entry::Property(counts.decls, property.params.len()),
     }
 }
 
@@ -141,26 +140,27 @@ fn entry_of(decl: &Decl, counts: Counts) -> Entry
 fn behind(decl: &Decl, counts: Counts) -> Result<Counts, AllocError>
     ensures value { IfOk result (λ n. n ≡ declarations.behind (seen_decl decl.now) counts) }
 {
+    let decls = one_more(counts.decls)?;
     match decl {
         Decl::Alias(_) => Ok(Counts {
             types: one_more(counts.types)?,
             routines: counts.routines,
-            properties: counts.properties,
+            decls,
         }),
         Decl::Function(_) => Ok(Counts {
             types: counts.types,
             routines: one_more(counts.routines)?,
-            properties: counts.properties,
+            decls,
         }),
         Decl::Method(_) => Ok(Counts {
             types: counts.types,
             routines: one_more(counts.routines)?,
-            properties: counts.properties,
+            decls,
         }),
         Decl::Property(_) => Ok(Counts {
             types: counts.types,
             routines: counts.routines,
-            properties: one_more(counts.properties)?,
+            decls,
         }),
     }
 }

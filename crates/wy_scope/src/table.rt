@@ -22,11 +22,11 @@ pub struct Signature {
 /// What a name stands for.
 #[derive(Clone, Copy, Debug, PartialEq, Eq)]
 pub enum Entry {
-    /// A declared type, by its number.
-    Type(u32),
+    /// A declared type: its number, and the index of its declaration.
+    Type(u32, u32),
     /// A function or method, a built-in one too.
     Routine(Signature),
-    /// A property, by its number, and how many parameters it has.
+    /// A property: the index of its declaration, and how many parameters it has.
     Property(u32, usize),
     /// A variable, by its number.
     Variable(u32),
