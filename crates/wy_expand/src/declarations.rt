@@ -50,7 +50,9 @@ fn in_decl(
             let clauses = alias.clauses.as_slice();
             Ok(each_whole(alloc, scope, none, expansions, false, found, clauses))
         }
-        Decl::Function(function) => Ok(in_function(alloc, scope, none, expansions, found, function)),
+        Decl::Function(function) => Ok(in_function(
+            alloc, scope, none, expansions, found, function,
+        )),
         Decl::Method(method) => Ok(in_method(alloc, scope, none, expansions, found, method)),
         Decl::Property(property) => in_property(alloc, scope, expansions, found, property),
     }
@@ -70,7 +72,14 @@ fn in_function(
     let found = each_whole(alloc, scope, none, expansions, false, found, before);
     let after = function.postconditions.as_slice();
     let found = each_whole(alloc, scope, none, expansions, false, found, after);
-    in_block(alloc, scope, none, expansions, found, function.body.as_slice())
+    in_block(
+        alloc,
+        scope,
+        none,
+        expansions,
+        found,
+        function.body.as_slice(),
+    )
 }
 
 fn in_method(
@@ -87,7 +96,14 @@ fn in_method(
     let found = each_whole(alloc, scope, none, expansions, false, found, before);
     let after = method.postconditions.as_slice();
     let found = each_whole(alloc, scope, none, expansions, false, found, after);
-    in_block(alloc, scope, none, expansions, found, method.body.as_slice())
+    in_block(
+        alloc,
+        scope,
+        none,
+        expansions,
+        found,
+        method.body.as_slice(),
+    )
 }
 
 fn in_property(

@@ -6,8 +6,8 @@ ghost use Rattle.wy_ast.specs.SurfaceTree.{exprs_of};
 ghost use Rattle.wy_expand.specs.Sizes as sizes;
 
 use crate::measure::{
-    Expansion, Measure, Spot, Use, argument, called, counted, counted_many, dropped, endless, expanded,
-    inside, quantified, used,
+    Expansion, Measure, Spot, Use, argument, called, counted, counted_many, dropped, endless,
+    expanded, inside, quantified, used,
 };
 use crate::numbers::many;
 use wy_ast::{Expr, ExprKind, Op, Ty, TyKind};
@@ -40,11 +40,41 @@ pub fn in_expr(
         ExprKind::Call(name, args) => {
             let callee = scope.get(name);
             let measure = call(expansions, callee, spot, expr.at, measure);
-            in_args(scope, params, expansions, spot, expr.at, callee, measure, args.as_slice())
+            in_args(
+                scope,
+                params,
+                expansions,
+                spot,
+                expr.at,
+                callee,
+                measure,
+                args.as_slice(),
+            )
         }
-        ExprKind::Neg(operand) => in_expr(scope, params, expansions, inside(spot), counted(measure, spot), operand.get()),
-        ExprKind::Not(operand) => in_expr(scope, params, expansions, inside(spot), counted(measure, spot), operand.get()),
-        ExprKind::Len(operand) => in_expr(scope, params, expansions, inside(spot), counted(measure, spot), operand.get()),
+        ExprKind::Neg(operand) => in_expr(
+            scope,
+            params,
+            expansions,
+            inside(spot),
+            counted(measure, spot),
+            operand.get(),
+        ),
+        ExprKind::Not(operand) => in_expr(
+            scope,
+            params,
+            expansions,
+            inside(spot),
+            counted(measure, spot),
+            operand.get(),
+        ),
+        ExprKind::Len(operand) => in_expr(
+            scope,
+            params,
+            expansions,
+            inside(spot),
+            counted(measure, spot),
+            operand.get(),
+        ),
         ExprKind::Binary(op, left, right) => {
             let measure = operator(*op, spot, measure);
             let first = left_of(*op, spot);
@@ -53,25 +83,81 @@ pub fn in_expr(
             in_expr(scope, params, expansions, second, measure, right.get())
         }
         ExprKind::Is(operand, ty) => {
-            let measure = in_expr(scope, params, expansions, inside(spot), counted(measure, spot), operand.get());
+            let measure = in_expr(
+                scope,
+                params,
+                expansions,
+                inside(spot),
+                counted(measure, spot),
+                operand.get(),
+            );
             in_ty(inside(spot), measure, ty)
         }
         ExprKind::Index(array, index) => {
-            let measure = in_expr(scope, params, expansions, inside(spot), counted(measure, spot), array.get());
-            in_expr(scope, params, expansions, inside(spot), measure, index.get())
+            let measure = in_expr(
+                scope,
+                params,
+                expansions,
+                inside(spot),
+                counted(measure, spot),
+                array.get(),
+            );
+            in_expr(
+                scope,
+                params,
+                expansions,
+                inside(spot),
+                measure,
+                index.get(),
+            )
         }
-        ExprKind::Field(whole, _) => in_expr(scope, params, expansions, inside(spot), counted(measure, spot), whole.get()),
+        ExprKind::Field(whole, _) => in_expr(
+            scope,
+            params,
+            expansions,
+            inside(spot),
+            counted(measure, spot),
+            whole.get(),
+        ),
         ExprKind::List(items) => {
             let measure = counted(measure, spot);
-            in_exprs(scope, params, expansions, inside(spot), measure, items.as_slice())
+            in_exprs(
+                scope,
+                params,
+                expansions,
+                inside(spot),
+                measure,
+                items.as_slice(),
+            )
         }
         ExprKind::Repeat(item, count) => {
-            let measure = in_expr(scope, params, expansions, inside(spot), counted(measure, spot), item.get());
-            in_expr(scope, params, expansions, inside(spot), measure, count.get())
+            let measure = in_expr(
+                scope,
+                params,
+                expansions,
+                inside(spot),
+                counted(measure, spot),
+                item.get(),
+            );
+            in_expr(
+                scope,
+                params,
+                expansions,
+                inside(spot),
+                measure,
+                count.get(),
+            )
         }
         ExprKind::Record(fields) => {
             let measure = counted(measure, spot);
-            in_fields(scope, params, expansions, inside(spot), measure, fields.as_slice())
+            in_fields(
+                scope,
+                params,
+                expansions,
+                inside(spot),
+                measure,
+                fields.as_slice(),
+            )
         }
         ExprKind::Quant(_, ranges, body) => {
             let outer = quantified(spot);

@@ -163,13 +163,7 @@ fn first_of(place: Option<u32>, at: u32) -> Option<u32>
 {
     match place {
         None => Some(at),
-        Some(other) => {
-            if other <= at {
-                Some(other)
-            } else {
-                Some(at)
-            }
-        }
+        Some(other) => { if other <= at { Some(other) } else { Some(at) } }
     }
 }
 

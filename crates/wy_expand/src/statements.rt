@@ -136,7 +136,9 @@ fn in_stmt(
 {
     let at = stmt.at;
     match &stmt.kind {
-        StmtKind::Declare(_, _, value) => whole_option(alloc, scope, params, expansions, found, value),
+        StmtKind::Declare(_, _, value) => whole_option(
+            alloc, scope, params, expansions, found, value,
+        ),
         StmtKind::Assign(_, path, value) => {
             let found = in_path(alloc, scope, params, expansions, found, path.as_slice());
             whole(alloc, scope, params, expansions, true, found, value)
@@ -164,7 +166,15 @@ fn in_stmt(
         StmtKind::Do(body, test, invariants) => {
             let found = in_block(alloc, scope, params, expansions, found, body.as_slice());
             let found = behind_first(alloc, scope, params, expansions, true, found, at, test);
-            each_behind_first(alloc, scope, params, expansions, found, at, invariants.as_slice())
+            each_behind_first(
+                alloc,
+                scope,
+                params,
+                expansions,
+                found,
+                at,
+                invariants.as_slice(),
+            )
         }
         StmtKind::For(_, from, to, invariants, body) => {
             let found = whole(alloc, scope, params, expansions, true, found, from);
@@ -175,7 +185,15 @@ fn in_stmt(
         }
         StmtKind::Switch(value, cases, default) => {
             let found = whole(alloc, scope, params, expansions, true, found, value);
-            let found = in_cases(alloc, scope, params, expansions, found, at, cases.as_slice());
+            let found = in_cases(
+                alloc,
+                scope,
+                params,
+                expansions,
+                found,
+                at,
+                cases.as_slice(),
+            );
             match default {
                 None => found,
                 Some(block) => in_block(alloc, scope, params, expansions, found, block.as_slice()),
@@ -218,8 +236,23 @@ fn in_cases(
 {
     let mut found = found;
     for case in cases {
-        found = in_test(alloc, scope, params, expansions, found, at, case.labels.as_slice());
-        found = in_block(alloc, scope, params, expansions, found, case.body.as_slice());
+        found = in_test(
+            alloc,
+            scope,
+            params,
+            expansions,
+            found,
+            at,
+            case.labels.as_slice(),
+        );
+        found = in_block(
+            alloc,
+            scope,
+            params,
+            expansions,
+            found,
+            case.body.as_slice(),
+        );
     }
     found
 }

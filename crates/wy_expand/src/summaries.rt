@@ -5,9 +5,7 @@ ghost use Rattle.wy_expand.specs.Sizes.{known};
 ghost use Rattle.wy_expand.specs.Summaries as spec;
 
 use crate::expressions::in_expr;
-use crate::measure::{
-    Expansion, Measure, Summary, Use, counted, deeper, inside, nothing, root,
-};
+use crate::measure::{Expansion, Measure, Summary, Use, counted, deeper, inside, nothing, root};
 use crate::numbers::many;
 use sqlite_items::Items;
 use std::alloc::{AllocError, Global};

@@ -118,9 +118,22 @@ fn in_function(
     let preconditions = in_exprs(alloc, scope, templates, &mut variables, before)?;
     let after = function.postconditions.as_slice();
     let output = (&function.result, &function.result_name);
-    let (output, postconditions) =
-        in_output(alloc, scope, templates, &mut variables, output, after)?;
-    let body = in_block(alloc, scope, templates, &mut variables, function.body.as_slice())?;
+    let (output, postconditions) = in_output(
+        alloc,
+        scope,
+        templates,
+        &mut variables,
+        output,
+        after,
+    )?;
+    let body = in_block(
+        alloc,
+        scope,
+        templates,
+        &mut variables,
+        Items::new(alloc),
+        function.body.as_slice(),
+    )?;
     scope.cut(mark);
     Ok(Routine {
         at: function.at,
@@ -148,14 +161,30 @@ fn in_method(
     let preconditions = in_exprs(alloc, scope, templates, &mut variables, before)?;
     let after = method.postconditions.as_slice();
     let (output, postconditions) = match &method.result {
-        None => (None, in_exprs(alloc, scope, templates, &mut variables, after)?),
+        None => (
+            None,
+            in_exprs(alloc, scope, templates, &mut variables, after)?,
+        ),
         Some((ty, name)) => {
-            let (output, clauses) =
-                in_output(alloc, scope, templates, &mut variables, (ty, name), after)?;
+            let (output, clauses) = in_output(
+                alloc,
+                scope,
+                templates,
+                &mut variables,
+                (ty, name),
+                after,
+            )?;
             (Some(output), clauses)
         }
     };
-    let body = in_block(alloc, scope, templates, &mut variables, method.body.as_slice())?;
+    let body = in_block(
+        alloc,
+        scope,
+        templates,
+        &mut variables,
+        Items::new(alloc),
+        method.body.as_slice(),
+    )?;
     scope.cut(mark);
     Ok(Routine {
         at: method.at,

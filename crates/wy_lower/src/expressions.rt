@@ -1,10 +1,11 @@
 //! Expressions of the core.
 use crate::instances::instance;
+use crate::nodes;
 use crate::nodes::{binary, denied, leaf, var};
 use crate::numbers::{declared, routine_of, variable_of};
 use crate::templates::Template;
 use crate::types::in_ty;
-use sqlite_items::{Boxed, Items};
+use sqlite_items::Items;
 use std::alloc::{AllocError, Global};
 use std::collections::BTreeMap;
 use wy_ast as surface;
@@ -36,7 +37,8 @@ pub fn in_expr(
                 Some(Entry::Property(index, _)) => match templates.get(index as usize) {
                     None => Ok(leaf(at, ExprKind::Null)),
                     Some(template) => {
-                        expansion(alloc, scope, templates, variables, at, template, args)
+                        let made = in_args(alloc, scope, templates, variables, template, args)?;
+                        expansion(alloc, variables, at, template, made.as_slice())
                     }
                 },
                 _ => {
@@ -46,16 +48,16 @@ pub fn in_expr(
             }
         }
         surface::ExprKind::Neg(a) => {
-            let a = boxed(alloc, scope, templates, variables, a.get())?;
-            Ok(leaf(at, ExprKind::Neg(a)))
+            let a = in_expr(alloc, scope, templates, variables, a.get())?;
+            nodes::neg(alloc, at, a)
         }
         surface::ExprKind::Not(a) => {
-            let a = boxed(alloc, scope, templates, variables, a.get())?;
-            Ok(leaf(at, ExprKind::Not(a)))
+            let a = in_expr(alloc, scope, templates, variables, a.get())?;
+            nodes::denied(alloc, at, a)
         }
         surface::ExprKind::Len(a) => {
-            let a = boxed(alloc, scope, templates, variables, a.get())?;
-            Ok(leaf(at, ExprKind::Len(a)))
+            let a = in_expr(alloc, scope, templates, variables, a.get())?;
+            nodes::len(alloc, at, a)
         }
         surface::ExprKind::Binary(op, a, b) => {
             let a = in_expr(alloc, scope, templates, variables, a.get())?;
@@ -63,26 +65,26 @@ pub fn in_expr(
             operator(alloc, at, *op, a, b)
         }
         surface::ExprKind::Is(a, ty) => {
-            let a = boxed(alloc, scope, templates, variables, a.get())?;
-            Ok(leaf(at, ExprKind::Is(a, in_ty(alloc, scope, ty)?)))
+            let a = in_expr(alloc, scope, templates, variables, a.get())?;
+            nodes::is(alloc, at, a, in_ty(alloc, scope, ty)?)
         }
         surface::ExprKind::Index(a, b) => {
-            let a = boxed(alloc, scope, templates, variables, a.get())?;
-            let b = boxed(alloc, scope, templates, variables, b.get())?;
-            Ok(leaf(at, ExprKind::Index(a, b)))
+            let a = in_expr(alloc, scope, templates, variables, a.get())?;
+            let b = in_expr(alloc, scope, templates, variables, b.get())?;
+            nodes::index(alloc, at, a, b)
         }
         surface::ExprKind::Field(a, name) => {
-            let a = boxed(alloc, scope, templates, variables, a.get())?;
-            Ok(leaf(at, ExprKind::Field(a, name.copy(alloc)?)))
+            let a = in_expr(alloc, scope, templates, variables, a.get())?;
+            nodes::field(alloc, at, a, name)
         }
         surface::ExprKind::List(items) => {
             let items = in_exprs(alloc, scope, templates, variables, items.as_slice())?;
             Ok(leaf(at, ExprKind::List(items)))
         }
         surface::ExprKind::Repeat(a, b) => {
-            let a = boxed(alloc, scope, templates, variables, a.get())?;
-            let b = boxed(alloc, scope, templates, variables, b.get())?;
-            Ok(leaf(at, ExprKind::Repeat(a, b)))
+            let a = in_expr(alloc, scope, templates, variables, a.get())?;
+            let b = in_expr(alloc, scope, templates, variables, b.get())?;
+            nodes::repeat(alloc, at, a, b)
         }
         surface::ExprKind::Record(fields) => {
             let fields = in_fields(alloc, scope, templates, variables, fields.as_slice())?;
@@ -90,25 +92,12 @@ pub fn in_expr(
         }
         surface::ExprKind::Quant(all, ranges, body) => {
             let mark = scope.len();
-            let ranges = ranges.as_slice();
-            let body = body.get();
-            let made = quant(alloc, scope, templates, variables, at, *all, ranges, body)?;
+            let heads = in_ranges(alloc, scope, templates, variables, ranges.as_slice())?;
+            let body = in_expr(alloc, scope, templates, variables, body.get())?;
             scope.cut(mark);
-            Ok(made)
+            quantified(alloc, at, *all, heads, body)
         }
     }
-}
-
-#[cycle(expr)]
-fn boxed(
-    alloc: Global,
-    scope: &mut Table,
-    templates: &[Template],
-    variables: &mut Items<Name>,
-    expr: &surface::Expr,
-) -> Result<Boxed<Expr>, AllocError> {
-    let made = in_expr(alloc, scope, templates, variables, expr)?;
-    Ok(Boxed::new(alloc, made)?)
 }
 
 /// The core of these expressions.
@@ -148,47 +137,61 @@ fn in_fields(
     Ok(items)
 }
 
-/// A quantifier of its first range over one of the others. Without a range it is its body.
+/// A range of a quantifier: its variable, its first number, and the number behind its last.
+#[derive(Drop)]
+struct Head {
+    variable: u32,
+    from: Expr,
+    to: Expr,
+}
+
+/// The ranges of a quantifier, whose variables are in scope afterwards.
 #[cycle(expr)]
-fn quant(
+fn in_ranges(
     alloc: Global,
     scope: &mut Table,
     templates: &[Template],
     variables: &mut Items<Name>,
-    at: u32,
-    all: bool,
     ranges: &[(Name, surface::Expr, surface::Expr)],
-    body: &surface::Expr,
-) -> Result<Expr, AllocError> {
+) -> Result<Items<Head>, AllocError> {
     let mut heads = Items::new(alloc);
     for range in ranges {
-        let from = boxed(alloc, scope, templates, variables, &range.1)?;
-        let to = boxed(alloc, scope, templates, variables, &range.2)?;
+        let from = in_expr(alloc, scope, templates, variables, &range.1)?;
+        let to = in_expr(alloc, scope, templates, variables, &range.2)?;
         let variable = declared(alloc, scope, variables, &range.0)?;
-        heads.push((variable, from, to))?;
+        heads.push(Head { variable, from, to })?;
     }
-    let mut made = in_expr(alloc, scope, templates, variables, body)?;
+    Ok(heads)
+}
+
+/// A quantifier of the first range over one of the others, and the body last.
+fn quantified(
+    alloc: Global,
+    at: u32,
+    all: bool,
+    heads: Items<Head>,
+    body: Expr,
+) -> Result<Expr, AllocError> {
+    let mut heads = heads;
+    let mut made = body;
     for _head in 0..heads.len() {
-        if let Some((variable, from, to)) = heads.pop() {
-            let inner = Boxed::new(alloc, made)?;
-            made = leaf(at, ExprKind::Quant(all, variable, from, to, inner));
+        if let Some(head) = heads.pop() {
+            made = nodes::quant(alloc, at, all, head.variable, head.from, head.to, made)?;
         }
     }
     Ok(made)
 }
 
-/// A property used at the place: its clauses, joined by `&&` from the left. An argument that no clause
-/// uses isn't lowered.
+/// The arguments of a property. One that no clause uses isn't lowered.
 #[cycle(expr)]
-fn expansion(
+fn in_args(
     alloc: Global,
     scope: &mut Table,
     templates: &[Template],
     variables: &mut Items<Name>,
-    at: u32,
     template: &Template,
     args: &[surface::Expr],
-) -> Result<Expr, AllocError> {
+) -> Result<Items<Expr>, AllocError> {
     let mut made = Items::new(alloc);
     for (i, arg) in args.iter().enumerate() {
         if template.uses(i) {
@@ -197,6 +200,18 @@ fn expansion(
             made.push(leaf(arg.at, ExprKind::Null))?;
         }
     }
+    Ok(made)
+}
+
+/// A property used at the place with these arguments: its clauses, joined by `&&` from the left, its
+/// other variables put behind those of the declaration.
+fn expansion(
+    alloc: Global,
+    variables: &mut Items<Name>,
+    at: u32,
+    template: &Template,
+    args: &[Expr],
+) -> Result<Expr, AllocError> {
     let base = variables.len();
     if base >= 4294967295 {
         return Err(AllocError);
@@ -204,7 +219,7 @@ fn expansion(
     for name in template.names.as_slice() {
         variables.push(name.copy(alloc)?)?;
     }
-    joined(alloc, at, made.as_slice(), base as u32, template.clauses.as_slice())
+    joined(alloc, at, args, base as u32, template.clauses.as_slice())
 }
 
 /// The clauses with these arguments, joined.
@@ -239,13 +254,7 @@ fn text(alloc: Global, at: u32, bytes: &[u8]) -> Result<Expr, AllocError> {
 }
 
 /// `a != b` is `!(a == b)`, and `a ==> b` is `!a || b`.
-fn operator(
-    alloc: Global,
-    at: u32,
-    op: surface::Op,
-    a: Expr,
-    b: Expr,
-) -> Result<Expr, AllocError> {
+fn operator(alloc: Global, at: u32, op: surface::Op, a: Expr, b: Expr) -> Result<Expr, AllocError> {
     match op {
         surface::Op::Add => binary(alloc, at, Op::Add, a, b),
         surface::Op::Sub => binary(alloc, at, Op::Sub, a, b),

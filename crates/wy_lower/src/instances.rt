@@ -1,5 +1,7 @@
 //! Clauses of a property, made once more for a use of it.
-use sqlite_items::{Boxed, Items};
+use crate::nodes;
+use crate::nodes::leaf;
+use sqlite_items::Items;
 use std::alloc::{AllocError, Global};
 use wy_core::{Expr, ExprKind};
 use wy_data::Name;
@@ -16,95 +18,80 @@ pub fn instance(
     clause: &Expr,
 ) -> Result<Expr, AllocError> {
     match &clause.kind {
-        ExprKind::Var(number) => match args.get(*number as usize) {
-            None => Ok(Expr {
-                at,
-                kind: ExprKind::Var(renumbered(args, base, *number)?),
-            }),
-            Some(arg) => arg.copy(alloc),
-        },
-        kind => Ok(Expr {
-            at,
-            kind: instance_kind(alloc, at, args, base, kind)?,
-        }),
+        ExprKind::Null => Ok(leaf(at, ExprKind::Null)),
+        ExprKind::Bool(truth) => Ok(leaf(at, ExprKind::Bool(*truth))),
+        ExprKind::Int(number) => Ok(leaf(at, ExprKind::Int(*number))),
+        ExprKind::Var(number) => variable(alloc, at, args, base, *number),
+        ExprKind::Call(routine, parts) => {
+            let parts = instances(alloc, at, args, base, parts.as_slice())?;
+            Ok(leaf(at, ExprKind::Call(*routine, parts)))
+        }
+        ExprKind::Neg(a) => nodes::neg(alloc, at, instance(alloc, at, args, base, a.get())?),
+        ExprKind::Not(a) => nodes::denied(alloc, at, instance(alloc, at, args, base, a.get())?),
+        ExprKind::Len(a) => nodes::len(alloc, at, instance(alloc, at, args, base, a.get())?),
+        ExprKind::Binary(op, a, b) => {
+            let a = instance(alloc, at, args, base, a.get())?;
+            let b = instance(alloc, at, args, base, b.get())?;
+            nodes::binary(alloc, at, *op, a, b)
+        }
+        ExprKind::Is(a, ty) => {
+            let a = instance(alloc, at, args, base, a.get())?;
+            nodes::is(alloc, at, a, ty.copy(alloc)?)
+        }
+        ExprKind::Index(a, b) => {
+            let a = instance(alloc, at, args, base, a.get())?;
+            let b = instance(alloc, at, args, base, b.get())?;
+            nodes::index(alloc, at, a, b)
+        }
+        ExprKind::Field(a, name) => {
+            let a = instance(alloc, at, args, base, a.get())?;
+            nodes::field(alloc, at, a, name)
+        }
+        ExprKind::List(items) => {
+            let items = instances(alloc, at, args, base, items.as_slice())?;
+            Ok(leaf(at, ExprKind::List(items)))
+        }
+        ExprKind::Repeat(a, b) => {
+            let a = instance(alloc, at, args, base, a.get())?;
+            let b = instance(alloc, at, args, base, b.get())?;
+            nodes::repeat(alloc, at, a, b)
+        }
+        ExprKind::Record(fields) => {
+            let fields = instance_fields(alloc, at, args, base, fields.as_slice())?;
+            Ok(leaf(at, ExprKind::Record(fields)))
+        }
+        ExprKind::Quant(all, number, from, to, body) => {
+            let number = renumbered(args, base, *number)?;
+            let from = instance(alloc, at, args, base, from.get())?;
+            let to = instance(alloc, at, args, base, to.get())?;
+            let body = instance(alloc, at, args, base, body.get())?;
+            nodes::quant(alloc, at, *all, number, from, to, body)
+        }
+    }
+}
+
+/// A parameter's argument, or another variable by its new number.
+fn variable(
+    alloc: Global,
+    at: u32,
+    args: &[Expr],
+    base: u32,
+    number: u32,
+) -> Result<Expr, AllocError> {
+    match args.get(number as usize) {
+        None => Ok(leaf(at, ExprKind::Var(renumbered(args, base, number)?))),
+        Some(arg) => arg.copy(alloc),
     }
 }
 
 /// The number of a variable that is no parameter.
 fn renumbered(args: &[Expr], base: u32, number: u32) -> Result<u32, AllocError> {
-    let own = (number as usize).saturating_sub(args.len()) as u32;
-    match base.checked_add(own) {
-        None => Err(AllocError),
-        Some(number) => Ok(number),
+    let own = (number as usize).saturating_sub(args.len());
+    let new = own.saturating_add(base as usize);
+    if new > 4294967295 {
+        return Err(AllocError);
     }
-}
-
-#[cycle(instance)]
-fn instance_kind(
-    alloc: Global,
-    at: u32,
-    args: &[Expr],
-    base: u32,
-    kind: &ExprKind,
-) -> Result<ExprKind, AllocError> {
-    match kind {
-        ExprKind::Null => Ok(ExprKind::Null),
-        ExprKind::Bool(truth) => Ok(ExprKind::Bool(*truth)),
-        ExprKind::Int(number) => Ok(ExprKind::Int(*number)),
-        ExprKind::Var(number) => Ok(ExprKind::Var(*number)),
-        ExprKind::Call(routine, parts) => {
-            let parts = instances(alloc, at, args, base, parts.as_slice())?;
-            Ok(ExprKind::Call(*routine, parts))
-        }
-        ExprKind::Neg(a) => Ok(ExprKind::Neg(boxed(alloc, at, args, base, a.get())?)),
-        ExprKind::Not(a) => Ok(ExprKind::Not(boxed(alloc, at, args, base, a.get())?)),
-        ExprKind::Len(a) => Ok(ExprKind::Len(boxed(alloc, at, args, base, a.get())?)),
-        ExprKind::Binary(op, a, b) => {
-            let a = boxed(alloc, at, args, base, a.get())?;
-            Ok(ExprKind::Binary(*op, a, boxed(alloc, at, args, base, b.get())?))
-        }
-        ExprKind::Is(a, ty) => {
-            let a = boxed(alloc, at, args, base, a.get())?;
-            Ok(ExprKind::Is(a, ty.copy(alloc)?))
-        }
-        ExprKind::Index(a, b) => {
-            let a = boxed(alloc, at, args, base, a.get())?;
-            Ok(ExprKind::Index(a, boxed(alloc, at, args, base, b.get())?))
-        }
-        ExprKind::Field(a, name) => {
-            let a = boxed(alloc, at, args, base, a.get())?;
-            Ok(ExprKind::Field(a, name.copy(alloc)?))
-        }
-        ExprKind::List(items) => {
-            Ok(ExprKind::List(instances(alloc, at, args, base, items.as_slice())?))
-        }
-        ExprKind::Repeat(a, b) => {
-            let a = boxed(alloc, at, args, base, a.get())?;
-            Ok(ExprKind::Repeat(a, boxed(alloc, at, args, base, b.get())?))
-        }
-        ExprKind::Record(fields) => {
-            Ok(ExprKind::Record(instance_fields(alloc, at, args, base, fields.as_slice())?))
-        }
-        ExprKind::Quant(all, variable, from, to, body) => {
-            let variable = renumbered(args, base, *variable)?;
-            let from = boxed(alloc, at, args, base, from.get())?;
-            let to = boxed(alloc, at, args, base, to.get())?;
-            let body = boxed(alloc, at, args, base, body.get())?;
-            Ok(ExprKind::Quant(*all, variable, from, to, body))
-        }
-    }
-}
-
-#[cycle(instance)]
-fn boxed(
-    alloc: Global,
-    at: u32,
-    args: &[Expr],
-    base: u32,
-    part: &Expr,
-) -> Result<Boxed<Expr>, AllocError> {
-    let part = instance(alloc, at, args, base, part)?;
-    Ok(Boxed::new(alloc, part)?)
+    Ok(new as u32)
 }
 
 #[cycle(instance)]

@@ -11,206 +11,254 @@ use wy_core::{Expr, ExprKind, Op, Step, StepKind, Stmt, StmtKind, TyKind};
 use wy_data::Name;
 use wy_scope::{Entry, Table};
 
-/// The core of a block. The scope is as before afterwards. Linear in the block and its expansion.
+/// The statements with the core of a block behind them. The scope is as before afterwards; variables
+/// that it declares are put behind the others. Linear in the block and its expansion.
 #[cycle(stmt)]
 pub fn in_block(
     alloc: Global,
     scope: &mut Table,
     templates: &[Template],
     variables: &mut Items<Name>,
+    before: Items<Stmt>,
     block: &[surface::Stmt],
 ) -> Result<Items<Stmt>, AllocError> {
-    let mut into = Items::new(alloc);
-    into_block(alloc, scope, templates, variables, &mut into, block)?;
+    let mark = scope.len();
+    let mut into = before;
+    for statement in block {
+        into = in_stmt(alloc, scope, templates, variables, into, statement)?;
+    }
+    scope.cut(mark);
     Ok(into)
 }
 
-/// Puts the core of a block behind other statements.
-#[cycle(stmt)]
-fn into_block(
-    alloc: Global,
-    scope: &mut Table,
-    templates: &[Template],
-    variables: &mut Items<Name>,
-    into: &mut Items<Stmt>,
-    block: &[surface::Stmt],
-) -> Result<(), AllocError> {
-    let mark = scope.len();
-    for statement in block {
-        in_stmt(alloc, scope, templates, variables, into, statement)?;
-    }
-    scope.cut(mark);
-    Ok(())
+fn with(before: Items<Stmt>, next: Stmt) -> Result<Items<Stmt>, AllocError> {
+    let mut into = before;
+    into.push(next)?;
+    Ok(into)
 }
 
-/// Puts the core of a statement behind others.
+fn with_all(before: Items<Stmt>, next: Items<Stmt>) -> Result<Items<Stmt>, AllocError> {
+    let mut into = before;
+    into.append(next)?;
+    Ok(into)
+}
+
+/// The statements with the core of one more behind them.
 #[cycle(stmt)]
 fn in_stmt(
     alloc: Global,
     scope: &mut Table,
     templates: &[Template],
     variables: &mut Items<Name>,
-    into: &mut Items<Stmt>,
+    before: Items<Stmt>,
     statement: &surface::Stmt,
-) -> Result<(), AllocError> {
+) -> Result<Items<Stmt>, AllocError> {
     let at = statement.at;
     match &statement.kind {
         surface::StmtKind::Declare(ty, name, value) => {
             let ty = in_ty(alloc, scope, ty)?;
             let value = in_option(alloc, scope, templates, variables, value)?;
             let variable = declared(alloc, scope, variables, name)?;
-            into.push(stmt(at, StmtKind::Declare(ty, variable, value)))
+            with(before, stmt(at, StmtKind::Declare(ty, variable, value)))
         }
         surface::StmtKind::Assign(name, path, value) => {
             let path = in_path(alloc, scope, templates, variables, path.as_slice())?;
             let value = in_expr(alloc, scope, templates, variables, value)?;
             let variable = variable_of(scope, name);
-            into.push(stmt(at, StmtKind::Assign(variable, path, value)))
+            with(before, stmt(at, StmtKind::Assign(variable, path, value)))
         }
         surface::StmtKind::Call(name, args) => {
             let args = in_exprs(alloc, scope, templates, variables, args.as_slice())?;
             let routine = routine_of(scope.get(name));
-            into.push(stmt(at, StmtKind::Call(routine, args)))
+            with(before, stmt(at, StmtKind::Call(routine, args)))
         }
         surface::StmtKind::Return(value) => {
             let value = in_option(alloc, scope, templates, variables, value)?;
-            into.push(stmt(at, StmtKind::Return(value)))
+            with(before, stmt(at, StmtKind::Return(value)))
         }
         surface::StmtKind::Assert(test) => {
             let test = in_expr(alloc, scope, templates, variables, test)?;
-            into.push(stmt(at, StmtKind::Assert(test)))
+            with(before, stmt(at, StmtKind::Assert(test)))
         }
-        surface::StmtKind::Break => into.push(stmt(at, StmtKind::Break)),
-        surface::StmtKind::Continue => into.push(stmt(at, StmtKind::Continue)),
-        surface::StmtKind::Skip => into.push(stmt(at, StmtKind::Skip)),
-        surface::StmtKind::Fail => into.push(stmt(at, StmtKind::Fail)),
+        surface::StmtKind::Break => with(before, stmt(at, StmtKind::Break)),
+        surface::StmtKind::Continue => with(before, stmt(at, StmtKind::Continue)),
+        surface::StmtKind::Skip => with(before, stmt(at, StmtKind::Skip)),
+        surface::StmtKind::Fail => with(before, stmt(at, StmtKind::Fail)),
         surface::StmtKind::If(test, first, second) => {
             let test = in_expr(alloc, scope, templates, variables, test)?;
-            let first = in_block(alloc, scope, templates, variables, first.as_slice())?;
-            let second = in_block(alloc, scope, templates, variables, second.as_slice())?;
-            into.push(stmt(at, StmtKind::If(test, first, second)))
+            let none = Items::new(alloc);
+            let first = in_block(alloc, scope, templates, variables, none, first.as_slice())?;
+            let none = Items::new(alloc);
+            let second = in_block(alloc, scope, templates, variables, none, second.as_slice())?;
+            with(before, stmt(at, StmtKind::If(test, first, second)))
         }
         surface::StmtKind::While(test, invariants, body) => {
             let test = in_expr(alloc, scope, templates, variables, test)?;
             let invariants = in_exprs(alloc, scope, templates, variables, invariants.as_slice())?;
-            let body = in_block(alloc, scope, templates, variables, body.as_slice())?;
-            into.push(stmt(at, StmtKind::While(test, invariants, body)))
+            let none = Items::new(alloc);
+            let body = in_block(alloc, scope, templates, variables, none, body.as_slice())?;
+            with(before, stmt(at, StmtKind::While(test, invariants, body)))
         }
         surface::StmtKind::Do(body, test, invariants) => {
-            let (body, invariants) = (body.as_slice(), invariants.as_slice());
-            in_do(alloc, scope, templates, variables, into, at, body, test, invariants)
+            let first = made(alloc, variables, "first")?;
+            let test = in_expr(alloc, scope, templates, variables, test)?;
+            let test = behind_first(alloc, at, first, test)?;
+            let invariants = invariants.as_slice();
+            let invariants = each_behind_first(
+                alloc, scope, templates, variables, at, first, invariants,
+            )?;
+            let turn = first_turn(alloc, at, first)?;
+            let body = in_block(alloc, scope, templates, variables, turn, body.as_slice())?;
+            let start = declare(at, TyKind::Bool, first, leaf(at, ExprKind::Bool(true)));
+            let repeat = stmt(at, StmtKind::While(test, invariants, body));
+            with(with(before, start)?, repeat)
         }
         surface::StmtKind::For(name, from, to, invariants, body) => {
+            let from = in_expr(alloc, scope, templates, variables, from)?;
+            let to = in_expr(alloc, scope, templates, variables, to)?;
+            let span = span(alloc, variables, name)?;
+            let invariants = invariants.as_slice();
+            let own = in_renamed(alloc, scope, templates, variables, name, span.t, invariants)?;
             let mark = scope.len();
-            let (invariants, body) = (invariants.as_slice(), body.as_slice());
-            let span = (from, to);
-            in_for(alloc, scope, templates, variables, into, at, name, span, invariants, body)?;
+            scope.put(alloc, name, Entry::Variable(span.i))?;
+            let turn = next_turn(alloc, at, span)?;
+            let body = in_block(alloc, scope, templates, variables, turn, body.as_slice())?;
             scope.cut(mark);
-            Ok(())
+            counted(alloc, at, before, span, from, to, own, body)
         }
         surface::StmtKind::Switch(value, cases, default) => {
             let value = in_expr(alloc, scope, templates, variables, value)?;
             let variable = made(alloc, variables, "t")?;
-            into.push(declare(at, TyKind::Any, variable, value))?;
             let cases = cases.as_slice();
-            let chain = in_cases(alloc, scope, templates, variables, at, variable, cases, default)?;
-            into_all(into, chain)
+            let arms = in_cases(alloc, scope, templates, variables, at, variable, cases)?;
+            let none = Items::new(alloc);
+            let last = match default {
+                None => none,
+                Some(block) => {
+                    in_block(alloc, scope, templates, variables, none, block.as_slice())?
+                }
+            };
+            let start = declare(at, TyKind::Any, variable, value);
+            with_all(with(before, start)?, chain(alloc, at, arms, last)?)
         }
     }
 }
 
-/// Moves statements behind others.
-fn into_all(into: &mut Items<Stmt>, more: Items<Stmt>) -> Result<(), AllocError> {
-    into.append(more)
+/// `first = false`
+fn first_turn(alloc: Global, at: u32, first: u32) -> Result<Items<Stmt>, AllocError> {
+    let done = leaf(at, ExprKind::Bool(false));
+    with(Items::new(alloc), assign(alloc, at, first, done))
 }
 
-/// `first = true; while first || c where first || v: first = false; B`
-#[cycle(stmt)]
-fn in_do(
+/// `first || e`
+fn behind_first(alloc: Global, at: u32, first: u32, expr: Expr) -> Result<Expr, AllocError> {
+    binary(alloc, at, Op::Or, var(at, first), expr)
+}
+
+/// `first || v` for each invariant.
+fn each_behind_first(
     alloc: Global,
     scope: &mut Table,
     templates: &[Template],
     variables: &mut Items<Name>,
-    into: &mut Items<Stmt>,
     at: u32,
-    body: &[surface::Stmt],
-    test: &surface::Expr,
-    invariants: &[surface::Expr],
-) -> Result<(), AllocError> {
-    let first = made(alloc, variables, "first")?;
-    into.push(declare(at, TyKind::Bool, first, leaf(at, ExprKind::Bool(true))))?;
-    let test = in_expr(alloc, scope, templates, variables, test)?;
-    let test = binary(alloc, at, Op::Or, var(at, first), test)?;
-    let mut clauses = Items::new(alloc);
-    for invariant in invariants {
-        let clause = in_expr(alloc, scope, templates, variables, invariant)?;
-        clauses.push(binary(alloc, at, Op::Or, var(at, first), clause)?)?;
+    first: u32,
+    exprs: &[surface::Expr],
+) -> Result<Items<Expr>, AllocError> {
+    let mut made = Items::new(alloc);
+    for expr in exprs {
+        let expr = in_expr(alloc, scope, templates, variables, expr)?;
+        made.push(behind_first(alloc, at, first, expr)?)?;
     }
-    let mut inner = Items::new(alloc);
-    inner.push(assign(alloc, at, first, leaf(at, ExprKind::Bool(false))))?;
-    into_block(alloc, scope, templates, variables, &mut inner, body)?;
-    into.push(stmt(at, StmtKind::While(test, clauses, inner)))
+    Ok(made)
 }
 
-/// `lo = a; hi = b; t = lo; while t < hi where lo <= t where t <= hi || hi < lo where v': i = t; t = t + 1; B`,
-/// with v' being v with t for i.
-#[cycle(stmt)]
-fn in_for(
-    alloc: Global,
-    scope: &mut Table,
-    templates: &[Template],
-    variables: &mut Items<Name>,
-    into: &mut Items<Stmt>,
-    at: u32,
-    name: &Name,
-    span: (&surface::Expr, &surface::Expr),
-    invariants: &[surface::Expr],
-    body: &[surface::Stmt],
-) -> Result<(), AllocError> {
-    let from = in_expr(alloc, scope, templates, variables, span.0)?;
+/// The variables of a `for`: its ends, the one that counts, and its own.
+#[derive(Clone, Copy)]
+struct Span {
+    lo: u32,
+    hi: u32,
+    t: u32,
+    i: u32,
+}
+
+fn span(alloc: Global, variables: &mut Items<Name>, name: &Name) -> Result<Span, AllocError> {
     let lo = made(alloc, variables, "lo")?;
-    into.push(declare(at, TyKind::Int, lo, from))?;
-    let to = in_expr(alloc, scope, templates, variables, span.1)?;
     let hi = made(alloc, variables, "hi")?;
-    into.push(declare(at, TyKind::Int, hi, to))?;
     let t = made(alloc, variables, "t")?;
-    into.push(declare(at, TyKind::Int, t, var(at, lo)))?;
-    let mut clauses = in_bounds(alloc, at, lo, hi, t)?;
-    let mark = scope.len();
-    scope.put(alloc, name, Entry::Variable(t))?;
-    for invariant in invariants {
-        clauses.push(in_expr(alloc, scope, templates, variables, invariant)?)?;
-    }
-    scope.cut(mark);
     let i = fresh(alloc, variables, name)?;
-    scope.put(alloc, name, Entry::Variable(i))?;
-    let mut inner = turn(alloc, at, t, i)?;
-    into_block(alloc, scope, templates, variables, &mut inner, body)?;
-    let test = binary(alloc, at, Op::Less, var(at, t), var(at, hi))?;
-    into.push(stmt(at, StmtKind::While(test, clauses, inner)))
+    Ok(Span { lo, hi, t, i })
+}
+
+/// Clauses in which the name stands for this variable.
+fn in_renamed(
+    alloc: Global,
+    scope: &mut Table,
+    templates: &[Template],
+    variables: &mut Items<Name>,
+    name: &Name,
+    variable: u32,
+    clauses: &[surface::Expr],
+) -> Result<Items<Expr>, AllocError> {
+    let mark = scope.len();
+    scope.put(alloc, name, Entry::Variable(variable))?;
+    let made = in_exprs(alloc, scope, templates, variables, clauses)?;
+    scope.cut(mark);
+    Ok(made)
+}
+
+/// `i = t; t = t + 1`, where i is declared.
+fn next_turn(alloc: Global, at: u32, span: Span) -> Result<Items<Stmt>, AllocError> {
+    let start = declare(at, TyKind::Int, span.i, var(at, span.t));
+    let one = leaf(at, ExprKind::Int(1));
+    let next = binary(alloc, at, Op::Add, var(at, span.t), one)?;
+    with(
+        with(Items::new(alloc), start)?,
+        assign(alloc, at, span.t, next),
+    )
+}
+
+/// `lo = a; hi = b; t = lo; while t < hi where lo <= t where t <= hi || hi < lo where v'` and the body,
+/// with v' being the loop's own invariants.
+fn counted(
+    alloc: Global,
+    at: u32,
+    before: Items<Stmt>,
+    span: Span,
+    from: Expr,
+    to: Expr,
+    own: Items<Expr>,
+    body: Items<Stmt>,
+) -> Result<Items<Stmt>, AllocError> {
+    let into = with(before, declare(at, TyKind::Int, span.lo, from))?;
+    let into = with(into, declare(at, TyKind::Int, span.hi, to))?;
+    let start = declare(at, TyKind::Int, span.t, var(at, span.lo));
+    let into = with(into, start)?;
+    let test = binary(alloc, at, Op::Less, var(at, span.t), var(at, span.hi))?;
+    let mut invariants = bounds(alloc, at, span)?;
+    invariants.append(own)?;
+    with(into, stmt(at, StmtKind::While(test, invariants, body)))
 }
 
 /// `lo <= t` and `t <= hi || hi < lo`
-fn in_bounds(alloc: Global, at: u32, lo: u32, hi: u32, t: u32) -> Result<Items<Expr>, AllocError> {
+fn bounds(alloc: Global, at: u32, span: Span) -> Result<Items<Expr>, AllocError> {
     let mut clauses = Items::new(alloc);
-    clauses.push(binary(alloc, at, Op::LessEqual, var(at, lo), var(at, t))?)?;
-    let within = binary(alloc, at, Op::LessEqual, var(at, t), var(at, hi))?;
-    let empty = binary(alloc, at, Op::Less, var(at, hi), var(at, lo))?;
+    let above = binary(alloc, at, Op::LessEqual, var(at, span.lo), var(at, span.t))?;
+    clauses.push(above)?;
+    let within = binary(alloc, at, Op::LessEqual, var(at, span.t), var(at, span.hi))?;
+    let empty = binary(alloc, at, Op::Less, var(at, span.hi), var(at, span.lo))?;
     clauses.push(binary(alloc, at, Op::Or, within, empty)?)?;
     Ok(clauses)
 }
 
-/// `i = t; t = t + 1`, where i is declared.
-fn turn(alloc: Global, at: u32, t: u32, i: u32) -> Result<Items<Stmt>, AllocError> {
-    let mut inner = Items::new(alloc);
-    inner.push(declare(at, TyKind::Int, i, var(at, t)))?;
-    let one = leaf(at, ExprKind::Int(1));
-    let next = binary(alloc, at, Op::Add, var(at, t), one)?;
-    inner.push(assign(alloc, at, t, next))?;
-    Ok(inner)
+/// A case: its test and its block.
+#[derive(Drop)]
+struct Arm {
+    test: Expr,
+    body: Items<Stmt>,
 }
 
-/// A chain of `if t == c1 || t == c2` for each case, and the block of `default` last.
+/// The cases of a `switch` at the place, whose value is the variable.
 #[cycle(stmt)]
 fn in_cases(
     alloc: Global,
@@ -220,42 +268,30 @@ fn in_cases(
     at: u32,
     variable: u32,
     cases: &[surface::Case],
-    default: &Option<Items<surface::Stmt>>,
-) -> Result<Items<Stmt>, AllocError> {
-    let mut heads = Items::new(alloc);
+) -> Result<Items<Arm>, AllocError> {
+    let mut arms = Items::new(alloc);
     for case in cases {
-        let labels = case.labels.as_slice();
-        let test = in_test(alloc, scope, templates, variables, at, variable, labels)?;
-        let body = in_block(alloc, scope, templates, variables, case.body.as_slice())?;
-        heads.push((test, body))?;
+        let labels = in_exprs(alloc, scope, templates, variables, case.labels.as_slice())?;
+        let test = is_one_of(alloc, at, variable, labels.as_slice())?;
+        let none = Items::new(alloc);
+        let body = in_block(
+            alloc,
+            scope,
+            templates,
+            variables,
+            none,
+            case.body.as_slice(),
+        )?;
+        arms.push(Arm { test, body })?;
     }
-    let mut chain = match default {
-        None => Items::new(alloc),
-        Some(block) => in_block(alloc, scope, templates, variables, block.as_slice())?,
-    };
-    for _head in 0..heads.len() {
-        if let Some((test, body)) = heads.pop() {
-            let mut outer = Items::new(alloc);
-            outer.push(stmt(at, StmtKind::If(test, body, chain)))?;
-            chain = outer;
-        }
-    }
-    Ok(chain)
+    Ok(arms)
 }
 
 /// `t == c` for each label, joined by `||` from the left.
-fn in_test(
-    alloc: Global,
-    scope: &mut Table,
-    templates: &[Template],
-    variables: &mut Items<Name>,
-    at: u32,
-    variable: u32,
-    labels: &[surface::Expr],
-) -> Result<Expr, AllocError> {
+fn is_one_of(alloc: Global, at: u32, variable: u32, labels: &[Expr]) -> Result<Expr, AllocError> {
     let mut made: Option<Expr> = None;
     for label in labels {
-        let value = in_expr(alloc, scope, templates, variables, label)?;
+        let value = label.copy(alloc)?;
         let equal = binary(alloc, at, Op::Equal, var(at, variable), value)?;
         made = match made {
             None => Some(equal),
@@ -266,6 +302,24 @@ fn in_test(
         None => Ok(leaf(at, ExprKind::Bool(false))),
         Some(made) => Ok(made),
     }
+}
+
+/// `if` for each case, each in the `else` of the one before it, and the last block in the last `else`.
+fn chain(
+    alloc: Global,
+    at: u32,
+    arms: Items<Arm>,
+    last: Items<Stmt>,
+) -> Result<Items<Stmt>, AllocError> {
+    let mut arms = arms;
+    let mut made = last;
+    for _arm in 0..arms.len() {
+        if let Some(arm) = arms.pop() {
+            let next = stmt(at, StmtKind::If(arm.test, arm.body, made));
+            made = with(Items::new(alloc), next)?;
+        }
+    }
+    Ok(made)
 }
 
 fn in_option(

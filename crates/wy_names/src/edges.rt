@@ -51,13 +51,7 @@ pub fn edges_of(alloc: Global, scope: &Table, decls: &[Decl]) -> Result<Items<Ed
     Ok(edges)
 }
 
-fn put(
-    edges: &mut Items<Edge>,
-    from: u32,
-    to: u32,
-    at: u32,
-    way: Way,
-) -> Result<(), AllocError> {
+fn put(edges: &mut Items<Edge>, from: u32, to: u32, at: u32, way: Way) -> Result<(), AllocError> {
     edges.push(Edge { from, to, at, way })
 }
 

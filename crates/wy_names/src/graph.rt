@@ -51,7 +51,12 @@ pub fn components(
     let along = graph(alloc, count, edges, ways, false)?;
     let first = walk(alloc, &along, numbers(alloc, count)?.as_slice(), count)?;
     let against = graph(alloc, count, edges, ways, true)?;
-    let second = walk(alloc, &against, reversed(alloc, first.order.as_slice())?.as_slice(), count)?;
+    let second = walk(
+        alloc,
+        &against,
+        reversed(alloc, first.order.as_slice())?.as_slice(),
+        count,
+    )?;
     Ok(Walk {
         order: first.order,
         roots: second.roots,

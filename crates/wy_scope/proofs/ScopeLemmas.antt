@@ -9,6 +9,7 @@ cut-with scope s name e h = by (has s name)
   where
     fits : length scope ≤ length s
     fits = let n = length-take (length scope) s in let m = ap length h in omega arith
+
     by : (b : Bool) → take (length scope) (cond b s (s ++ (name, e) ∷ [])) ≡ scope
     by true = h
     by false = take-append-le (length scope) s ((name, e) ∷ []) fits ∙ h

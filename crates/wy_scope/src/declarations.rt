@@ -32,7 +32,12 @@ pub fn declare(alloc: Global, decls: &[Decl]) -> Result<(Table, Option<Fault>), 
         decls: 0,
     };
     for decl in decls {
-        found = noted_where(table.has(name_of(decl)), found, place_of(decl), Cause::Twice);
+        found = noted_where(
+            table.has(name_of(decl)),
+            found,
+            place_of(decl),
+            Cause::Twice,
+        );
         table.put(alloc, name_of(decl), entry_of(decl, counts))?;
         counts = behind(decl, counts)?;
     }
