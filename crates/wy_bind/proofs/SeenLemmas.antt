@@ -6,7 +6,11 @@ use Rattle.wy_ast.specs.declared.expressions.Expr as e
 use Rattle.wy_ast.specs.declared.expressions.ExprKind as kind
 use Rattle.wy_ast.specs.declared.types.Ty as t
 use Rattle.wy_ast.specs.declared.types.TyKind as tykind
-use Rattle.wy_bind.specs.ExprNames.{count_of}
+use Rattle.wy_scope.specs.Faults.{Found}
+use Rattle.wy_scope.specs.Scope.{Scope}
+use Rattle.wy_bind.specs.declared.context.Context.{Context}
+use Rattle.wy_bind.specs.Calls.{contract}
+use Rattle.wy_bind.specs.ExprNames.{count_of, in_expr, in_ranges, with_ranges}
 use Rattle.wy_bind.specs.TypeNames as types
 
 pub seen_record : (x : e.Expr) (fs : List (List ℕ × e.Expr)) → x.kind ≡ kind.Record fs → seen_expr x ≡ tree.RecordExpr x.at (seen_fields fs)
@@ -22,3 +26,11 @@ seen_record_ty x fs is = search (rules, t.the_lemmas)
 pub count_seen : (es : List e.Expr) → count_of (tree.exprs_of (seen_exprs es)) ≡ length es
 count_seen [] = refl
 count_seen (x ∷ xs) = ap (λ n. n + 1) (count_seen xs) ∙ add-one (length xs)
+
+-- a quantifier where its parts are read again
+pub quant_value : (c : Context) (s : Scope) (x : e.Expr) (f : Found) (all : Bool) (rs rs2 : List (List ℕ × e.Expr × e.Expr)) (body body2 : e.Expr) → x.kind ≡ kind.Quant all rs body → rs2 ≡ rs → body2 ≡ body
+    → (inside : Context) → inside ≡ contract c → (s2 : Scope) → s2 ≡ with_ranges s (seen_ranges rs2) → (f2 : Found) → f2 ≡ in_ranges inside s x.at (seen_ranges rs2) f
+    → (f3 : Found) → f3 ≡ in_expr inside s2 (seen_expr body2) f2 → f3 ≡ in_expr c s (seen_expr x) f
+quant_value c s x f all rs rs2 body body2 is ranges_are body_is inside inside_is s2 s2_is f2 f2_is f3 f3_is =
+    let whole = ap (λ (y : tree.Expr). in_expr c s y f) (seen_quant x all rs body is) in
+    cc whole

@@ -32,20 +32,8 @@ pub fn in_expr(
         surface::ExprKind::Var(name) => Ok(var(at, variable_of(scope, name))),
         surface::ExprKind::Call(name, args) => {
             let callee = scope.get(name);
-            let args = args.as_slice();
-            match callee {
-                Some(Entry::Property(index, _)) => match templates.get(index as usize) {
-                    None => Ok(leaf(at, ExprKind::Null)),
-                    Some(template) => {
-                        let made = in_args(alloc, scope, templates, variables, template, args)?;
-                        expansion(alloc, variables, at, template, made.as_slice())
-                    }
-                },
-                _ => {
-                    let args = in_exprs(alloc, scope, templates, variables, args)?;
-                    Ok(leaf(at, ExprKind::Call(routine_of(callee), args)))
-                }
-            }
+            let args = in_args(alloc, scope, templates, variables, callee, args.as_slice())?;
+            called(alloc, templates, variables, at, callee, args)
         }
         surface::ExprKind::Neg(a) => {
             let a = in_expr(alloc, scope, templates, variables, a.get())?;
@@ -182,25 +170,54 @@ fn quantified(
     Ok(made)
 }
 
-/// The arguments of a property. One that no clause uses isn't lowered.
+/// The arguments of a call. One of a property that no clause uses isn't lowered.
 #[cycle(expr)]
 fn in_args(
     alloc: Global,
     scope: &mut Table,
     templates: &[Template],
     variables: &mut Items<Name>,
-    template: &Template,
+    callee: Option<Entry>,
     args: &[surface::Expr],
 ) -> Result<Items<Expr>, AllocError> {
     let mut made = Items::new(alloc);
     for (i, arg) in args.iter().enumerate() {
-        if template.uses(i) {
+        if is_used(templates, callee, i) {
             made.push(in_expr(alloc, scope, templates, variables, arg)?)?;
         } else {
             made.push(leaf(arg.at, ExprKind::Null))?;
         }
     }
     Ok(made)
+}
+
+/// Whether the callee uses the argument with this number.
+fn is_used(templates: &[Template], callee: Option<Entry>, number: usize) -> bool {
+    match callee {
+        Some(Entry::Property(index, _)) => match templates.get(index as usize) {
+            None => false,
+            Some(template) => template.uses(number),
+        },
+        _ => true,
+    }
+}
+
+/// A call with these arguments, or the expansion of a property.
+fn called(
+    alloc: Global,
+    templates: &[Template],
+    variables: &mut Items<Name>,
+    at: u32,
+    callee: Option<Entry>,
+    args: Items<Expr>,
+) -> Result<Expr, AllocError> {
+    match callee {
+        Some(Entry::Property(index, _)) => match templates.get(index as usize) {
+            None => Ok(leaf(at, ExprKind::Null)),
+            Some(template) => expansion(alloc, variables, at, template, args.as_slice()),
+        },
+        _ => Ok(leaf(at, ExprKind::Call(routine_of(callee), args))),
+    }
 }
 
 /// A property used at the place with these arguments: its clauses, joined by `&&` from the left, its
