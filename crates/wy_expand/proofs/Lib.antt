@@ -1,2 +1,0 @@
--- what lists of nodes stand for
-pub mod SeenLemmas
