@@ -9,6 +9,7 @@ pub mod Sorts
 pub mod Condition
 pub mod Scope
 pub mod Unfolding
+pub mod Substitution
 pub mod Nodes
 pub mod Numbers
 -- what functions inside owe each other

@@ -14,6 +14,7 @@ mod memory;
 mod node;
 mod parts;
 mod replace;
+mod subst;
 mod terms;
 #[cfg(test)]
 mod tests;

@@ -19,7 +19,7 @@ use std::collections::HashMap;
 
 /// How many quantifiers over short ranges, or that hide a name, are gone into one in another. Beyond it, memory is
 /// taken to be spent.
-const DEPTH: u32 = 1000;
+pub const DEPTH: u32 = 1000;
 
 // ---- what names stand for
 
@@ -101,7 +101,7 @@ fn span_at(terms: &Terms, from: u32, below: u32) -> Option<(i128, u32)>
 
 // What a term is, as far as names go.
 #[derive(Drop)]
-enum Shape {
+pub enum Shape {
     Name,
     // `all` or else `some`
     Quantifier(bool, Quantifier),
@@ -120,7 +120,7 @@ fn copied_quantifier(alloc: Global, q: &Quantifier) -> Result<Quantifier, NoMemo
     })
 }
 
-fn shape_at(terms: &Terms, t: u32) -> Result<Shape, NoMemory>
+pub fn shape_at(terms: &Terms, t: u32) -> Result<Shape, NoMemory>
     requires { t < length terms.now }
     ensures { IfOk result (IsShape terms.now t) }
 {
@@ -152,7 +152,7 @@ fn joined(terms: &mut Terms, all: bool, members: &[u32]) -> Result<u32, NoMemory
 }
 
 // A quantifier of this name with other bounds and another body.
-fn put_quantifier(
+pub fn put_quantifier(
     terms: &mut Terms,
     all: bool,
     q: &Quantifier,
@@ -180,7 +180,7 @@ fn put_quantifier(
 }
 
 // The name that a quantifier binds.
-fn bound_name(terms: &mut Terms, q: &Quantifier) -> Result<u32, NoMemory>
+pub fn bound_name(terms: &mut Terms, q: &Quantifier) -> Result<u32, NoMemory>
     ensures value { IfOk result (λ r. IsAt terms.new r (leaf (int_name q.now.word q.now.number))) }
     ensures keeps { Keeps terms.old terms.new }
 {

@@ -11,6 +11,7 @@ use crate::fold::{Folded, fold};
 use crate::memory::NoMemory;
 use crate::node::Node;
 use crate::replace::made;
+use crate::subst::substituted;
 use indexmap::IndexSet;
 use std::alloc::Global;
 use std::marker::Model;
@@ -141,6 +142,12 @@ impl Terms {
         ensures grows { length self.old ≤ length self.new }
     {
         copied(self, from, term)
+    }
+
+    /// The number of a term in which another is put for a name. Each quantifier that binds a name of that other term binds
+    /// a new name first.
+    pub fn subst(&mut self, root: u32, name: u32, term: u32) -> Result<u32, NoMemory> {
+        substituted(self, root, name, term)
     }
 
     /// Whether two numbers name equal terms, in constant time.

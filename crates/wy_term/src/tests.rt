@@ -220,6 +220,8 @@ fn constant(alloc: Global, word: &str) -> Result<Option<Node>, NoMemory>
         "x" => Node::ValName(name(alloc, "x")?, 0),
         "k" => Node::IntName(name(alloc, "k")?, 1),
         "j" => Node::IntName(name(alloc, "j")?, 2),
+        "k3" => Node::IntName(name(alloc, "k")?, 3),
+        "j4" => Node::IntName(name(alloc, "j")?, 4),
         "null" => Node::Null,
         "t" => Node::Bool(true),
         "f" => Node::Bool(false),
@@ -283,6 +285,8 @@ fn of_three(alloc: Global, word: &str, r: u32, s: u32, t: u32) -> Result<Option<
     let node = match word {
         "upd" => Node::Update(r, s, t),
         "allk" => Node::All(quantifier(name(alloc, "k")?, 1, r, s, t)),
+        "allk3" => Node::All(quantifier(name(alloc, "k")?, 3, r, s, t)),
+        "allj4" => Node::All(quantifier(name(alloc, "j")?, 4, r, s, t)),
         "allj" => Node::All(quantifier(name(alloc, "j")?, 2, r, s, t)),
         "somek" => Node::Some(quantifier(name(alloc, "k")?, 1, r, s, t)),
         "somej" => Node::Some(quantifier(name(alloc, "j")?, 2, r, s, t)),
@@ -332,4 +336,45 @@ fn copied_twice(alloc: Global) -> Result<(bool, usize, usize), NoMemory> {
     let after_copy = terms.len() - mark;
     let made = spelled(alloc, &mut terms, wanted)?;
     Ok((copy == made, after_copy, terms.len() - mark))
+}
+
+// Rows of a term, a name, the term that is put for it, and what comes of it.
+#[test]
+fn substitutes(rt: HostRuntime) -> Result<(), Fail> {
+    let rows: [(&str, &str, &str, &str); 9] = [
+        ("x num 3 le", "x", "t", "t num 3 le"),
+        ("x num 3 le", "x", "2 int", "true"),
+        ("x x eq not", "x", "t", "true not"),
+        ("k 3 le", "k", "4", "false"),
+        // a bound name isn't touched
+        ("0 x num k 3 le allk", "k", "7", "0 x num k 3 le allk"),
+        // a bound name of the term is renamed: no number of a name is above 2
+        (
+            "0 x num k j le allk",
+            "j",
+            "k 1 add",
+            "0 x num k3 k 1 add le allk3",
+        ),
+        // also where the name doesn't stand
+        ("0 x num k 3 le allk", "j", "k j add", "0 x num k3 3 le allk3"),
+        // outer ones first, from left to right
+        (
+            "0 x num 0 x num k j add 3 le allj allk",
+            "x",
+            "k j add int",
+            "0 k j add 0 k j add k3 j4 add 3 le allj4 allk3",
+        ),
+        // a range that becomes short
+        ("0 j k x num le allk", "j", "2", "0 x num le 1 x num le and"),
+    ];
+    for (text, of, put, want) in rows {
+        let mut terms = Terms::new(rt.alloc());
+        let root = spelled(rt.alloc(), &mut terms, text)?;
+        let name = spelled(rt.alloc(), &mut terms, of)?;
+        let term = spelled(rt.alloc(), &mut terms, put)?;
+        let made = terms.subst(root, name, term)?;
+        let wanted = spelled(rt.alloc(), &mut terms, want)?;
+        assert_eq!(rt; made, wanted, "{text}");
+    }
+    Ok(())
 }
