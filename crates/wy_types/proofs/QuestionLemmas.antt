@@ -6,8 +6,12 @@ use Rattle.wy_core.specs.Types.{Ty}
 use Rattle.wy_types.specs.declared.table.Node.{Node}
 use Rattle.wy_types.specs.declared.table.Definition.{Definition}
 use Rattle.wy_types.specs.declared.question.Question.{Question}
-use Rattle.wy_types.specs.Names.{Declared, shape_of, is_in_ty}
+use Rattle.wy_types.specs.Names.{Declared, shape_of, is_in_ty, is_in_normal}
+use Rattle.wy_types.specs.declared.conjuncts.Conjunct.{Conjunct}
+use Rattle.wy_types.specs.Membership as terms
 use Rattle.wy_types.specs.Membership.{member}
+use Rattle.wy_types.specs.Shape.{any_in}
+use Rattle.wy_types.specs.Reading.{ty_at, conjuncts_at}
 use Rattle.wy_types.specs.Ranked.{IsRanked}
 use Rattle.wy_types.specs.Nodes.{Keeps, AreOnce, AreGrounded}
 use Rattle.wy_types.specs.Numbering.{put_ty, put_declared}
@@ -18,6 +22,7 @@ use Rattle.wy_types.proofs.PutLemmas.{same_grows, grows_more}
 use Rattle.wy_types.proofs.StandLemmas.{stands_still, ty_put}
 use Rattle.wy_types.proofs.RankLemmas.{some_rank}
 use Rattle.wy_types.proofs.AgreeLemmas.{member_agrees}
+use Rattle.wy_types.proofs.ReadingLemmas.{conjuncts_say}
 
 -- ---- names
 
@@ -108,3 +113,8 @@ module _ (names : List Declared) (a b : Ty) (q : Question) (asked : IsAsked name
 
   pub second_agrees : (d : Datum) (up : Bool) → member q.table q.depth d up q.second ≡ is_in_ty names (shape_of names d) up b
   second_agrees d up = member_agrees q.table names recur.0 recur.1 asked.names_stand question_ranked.0 q.depth question_ranked.1 d up b q.second asked.second_stands
+
+  pub conjuncts_agree : (d : Datum) (cs : List (Conjunct ℕ)) → any_in (terms.shape_of q.table q.depth d) cs ≡ is_in_normal (shape_of names d) (conjuncts_at (ty_at q.table q.depth) cs)
+  conjuncts_agree d cs =
+      let P : ℕ → Type 0 = λ k. IsRanked q.table question_ranked.0 k → any_in (terms.shape_of q.table k d) cs ≡ is_in_normal (shape_of names d) (conjuncts_at (ty_at q.table k) cs) in
+      subst P (sym asked.deep) (λ ranked. conjuncts_say q.table names recur.0 recur.1 asked.names_stand asked.grounded question_ranked.0 ranked d cs) question_ranked.1

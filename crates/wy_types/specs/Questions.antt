@@ -1,13 +1,14 @@
 -- Questions about types, as parts over a table in which each term of the declared types and of the question has one number.
 use Rattle.std.specs.Prelude.{ℕ, suc, List, [], true, length}
-use Rattle.wy_core.specs.Types.{Ty}
+use Rattle.wy_core.specs.Types.{Ty, Conjuncts}
 use Rattle.wy_types.specs.declared.conjuncts.Signed.{Signed}
 use Rattle.wy_types.specs.declared.table.Node.{Node}
 use Rattle.wy_types.specs.declared.table.Definition.{Definition}
 use Rattle.wy_types.specs.declared.question.Question.{Question}
 use Rattle.wy_types.specs.Names.{Declared}
 use Rattle.wy_types.specs.Numbering.{put_ty, put_declared}
-use Rattle.wy_types.specs.Conjuncts.{with_sides}
+use Rattle.wy_types.specs.Conjuncts.{with_sides, dnf_part}
+use Rattle.wy_types.specs.Reading.{ty_at, conjuncts_at}
 use Rattle.wy_types.specs.Reach.{IsWide, outside}
 
 -- the terms of the declared types first, then those of the two types; no term is deeper than there are terms
@@ -41,3 +42,7 @@ IsWideAbout names t = let q = numbered names t t in IsWide q.table q.depth (firs
 -- the question whether the one type is within the other is wide
 abbrev pub IsWideWithin : List Declared → Ty → Ty → Type 0
 IsWideWithin names a b = let q = numbered names a b in IsWide q.table q.depth (outside_part q)
+
+-- the normal form of a type: the conjuncts of what is in it, in order
+abbrev pub normal_of : List Declared → Ty → Conjuncts
+normal_of names t = let q = numbered names t t in conjuncts_at (ty_at q.table q.depth) (dnf_part q.table q.depth (first_part q))

@@ -1,12 +1,16 @@
 //! The types of a question in a table.
-ghost use Rattle.std.specs.Prelude.{◌≡◌, ℕ, Bool, map, IfOk, OnOk};
+ghost use Rattle.std.specs.Prelude.{◌≡◌, ℕ, Bool, List, map, IfOk, OnOk};
 ghost use Rattle.wy_core.specs.CoreSeen.{seen_ty};
+ghost use Rattle.wy_types.specs.declared.conjuncts.Conjunct.{Conjunct};
+ghost use Rattle.wy_types.specs.Membership as terms;
 ghost use Rattle.wy_types.specs.Membership.{member};
-ghost use Rattle.wy_types.specs.Names.{shape_of, is_in_ty, seen_declared, types_of};
+ghost use Rattle.wy_types.specs.Names.{shape_of, is_in_ty, is_in_normal, seen_declared, types_of};
 ghost use Rattle.wy_types.specs.Numbering as numbering;
 ghost use Rattle.wy_types.specs.Questions.{numbered};
 ghost use Rattle.wy_types.specs.Ranked.{IsRanked};
+ghost use Rattle.wy_types.specs.Reading.{ty_at, conjuncts_at};
 ghost use Rattle.wy_types.specs.Recursion.{RecurThroughParts};
+ghost use Rattle.wy_types.specs.Shape.{any_in};
 ghost use Rattle.wy_value.specs.Datum.{Datum};
 
 use crate::names::{Declared, Names};
@@ -57,6 +61,7 @@ impl Names {
         ensures ranked { IfOk result (λ q. (rank : ℕ → ℕ) × IsRanked q.table rank q.depth) }
         ensures first { IfOk result (λ q. (d : Datum) (up : Bool) → member q.table q.depth d up q.first ≡ is_in_ty (types_of self.now) (shape_of (types_of self.now) d) up (seen_ty first.now)) }
         ensures second { IfOk result (λ q. (d : Datum) (up : Bool) → member q.table q.depth d up q.second ≡ is_in_ty (types_of self.now) (shape_of (types_of self.now) d) up (seen_ty second.now)) }
+        ensures conjuncts { IfOk result (λ q. (d : Datum) (cs : List (Conjunct ℕ)) → any_in (terms.shape_of q.table q.depth d) cs ≡ is_in_normal (shape_of (types_of self.now) d) (conjuncts_at (ty_at q.table q.depth) cs)) }
     {
         let mut nodes = Numbering::new(alloc);
         let definitions = put_declared(alloc, &mut nodes, self.declared.as_slice())?;

@@ -5,7 +5,7 @@ use Rattle.wy_types.specs.declared.table.Node.{Node}
 use Rattle.wy_types.specs.declared.question.Question.{Question}
 use Rattle.wy_types.specs.Names.{seen_declared, types_of}
 use Rattle.wy_types.specs.Numbering as numbering
-use Rattle.wy_types.proofs.QuestionLemmas.{numbered_by, asked_by, question_ranked, first_agrees, second_agrees}
+use Rattle.wy_types.proofs.QuestionLemmas.{numbered_by, asked_by, question_ranked, first_agrees, second_agrees, conjuncts_agree}
 use Rattle.wy_types.proofs.names.Names.number.Goals as goal
 
 pub returns-clause-value : goal.returns-clause-value
@@ -45,3 +45,11 @@ returns-clause-second c =
     let a = seen_ty c.args.first.now in
     let b = seen_ty c.args.second.now in
     second_agrees names a b q (asked_by names a b q (returns-clause-value c)) c.requires.recursion
+
+pub returns-clause-conjuncts : goal.returns-clause-conjuncts
+returns-clause-conjuncts c =
+    let q : Question = record { table = record { nodes = c.put_ty-2.new.nodes; definitions = c.in_ok-definitions.definitions }; depth = c.len.result + 1; first = c.in_ok-first.first; second = c.in_ok-second.second } in
+    let names = types_of c.args.self.now in
+    let a = seen_ty c.args.first.now in
+    let b = seen_ty c.args.second.now in
+    conjuncts_agree names a b q (asked_by names a b q (returns-clause-value c)) c.requires.recursion
