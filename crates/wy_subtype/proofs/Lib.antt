@@ -4,3 +4,6 @@ mod NarrowLemmas
 mod MarkLemmas
 mod ValueLemmas
 mod WayLemmas
+mod ValuedLemmas
+mod ElementLemmas
+mod UnionLemmas

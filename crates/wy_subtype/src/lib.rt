@@ -3,18 +3,27 @@
 //! What is in a type and not in another is a part, and the question is whether it has a value.
 //! `asks` has the parts whose values decide whether a conjunct has one, and `ways` counts them for a
 //! record. `reach` makes all conjuncts and parts that a question reaches, `marks` and `values` find
-//! those that have a value, and `inclusion` answers for terms of a table. `questions` has the
-//! questions about the types of a program.
+//! those that have a value, `valued` keeps these, and `inclusion` answers for terms of a table.
+//! `questions` has the questions about the types of a program, `normal_forms` their normal
+//! forms, and `array_items` what the items of arrays in them may be.
 #![tactic(auto)]
 
+mod array_items;
 mod asks;
 mod inclusion;
 mod marks;
+mod normal_forms;
 mod questions;
 mod reach;
+#[cfg(test)]
+mod tests;
+mod valued;
 mod values;
 mod ways;
 
+pub use array_items::{element, norm};
 pub use inclusion::{is_inhabited, is_within};
+pub use normal_forms::normal;
 pub use questions::{empty, subtype};
+pub use valued::valued_conjuncts;
 pub use values::has_value;

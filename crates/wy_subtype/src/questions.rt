@@ -13,8 +13,11 @@ use wy_canon::TypeFault;
 use wy_core::Ty;
 use wy_types::Names;
 
-/// Whether every value of `a` is in `b`, by upward readings of both. Wide exactly where the question
-/// is: `any & !(int[])` within `void` isn't.
+/// Whether every datum in `a` is in `b`, by upward readings of both. Wide exactly where the question
+/// is. The table of terms takes time linear in the size of the declared types and of both; then each
+/// part that the question reaches falls into conjuncts once, a look for an equal part or conjunct is
+/// linear in those reached before, and values are found in at most as many rounds as conjuncts are
+/// reached.
 pub fn subtype(alloc: Global, names: &Names, a: &Ty, b: &Ty) -> Result<bool, TypeFault>
     requires recursion { RecurThroughParts (types_of names.now) }
     ensures sound { IfOk result (λ yes. yes ≡ true → (d : Datum) → Up (types_of names.now) d (seen_ty a.now) ≡ true → Up (types_of names.now) d (seen_ty b.now) ≡ true) }
@@ -33,7 +36,8 @@ pub fn subtype(alloc: Global, names: &Names, a: &Ty, b: &Ty) -> Result<bool, Typ
     Ok(yes)
 }
 
-/// Whether no value is in the type, by its upward reading. Wide exactly where the question is.
+/// Whether no datum is in the type, by its upward reading. Wide exactly where the question is. The
+/// cost is that of `subtype`.
 pub fn empty(alloc: Global, names: &Names, ty: &Ty) -> Result<bool, TypeFault>
     requires recursion { RecurThroughParts (types_of names.now) }
     ensures sound { IfOk result (λ yes. yes ≡ true → (d : Datum) → Up (types_of names.now) d (seen_ty ty.now) ≡ false) }
