@@ -1,0 +1,19 @@
+-- how evaluations end, and what is done with data
+pub mod Meter
+pub mod Operations
+-- the value semantics
+pub mod Expressions
+pub mod TypeTests
+pub mod Statements
+pub mod Evaluation
+-- membership, and its two readings
+pub mod Membership
+pub mod Readings
+-- the precondition
+pub mod Precondition
+-- examples, which hold by computing
+pub mod Programs
+pub mod Forms
+-- relations of runs, by which laws are shown
+pub mod Relation
+pub mod Growth
