@@ -175,6 +175,79 @@ fn cell(trees: Trees, cut: bool) -> Result<Value, AllocError> {
     Ok(Value::Record(fields))
 }
 
+/// `type nat is (int x) where x >= 0` and `type ratio is (int x) where 6 / x is nat`, the division at 14,
+/// and three functions: `f(ratio x)` at 100 gives `x`, `g(any x)` gives `x is ratio`, and `h(any x)`
+/// gives `x` by `ratio y = x` at 5.
+fn ratios(trees: Trees) -> Result<Core, AllocError> {
+    let clause = trees.binary(10, Op::GreaterEqual, trees.var(0), trees.int(0))?;
+    let mut decls = trees.one(trees.alias(trees.ty(TyKind::Int), trees.one(clause)?)?)?;
+    let share = trees.binary(14, Op::Div, trees.int(6), trees.var(0))?;
+    let clause = trees.is(15, share, trees.ty(TyKind::Named(0)))?;
+    decls.push(trees.alias(trees.ty(TyKind::Int), trees.one(clause)?)?)?;
+    let declare = trees.declare(5, trees.ty(TyKind::Named(1)), 1, Some(trees.var(0)));
+    let rows = [
+        (
+            100,
+            TyKind::Named(1),
+            trees.one(trees.give(1, trees.var(0)))?,
+        ),
+        (
+            200,
+            TyKind::Any,
+            trees.one(trees.give(2, trees.is(3, trees.var(0), trees.ty(TyKind::Named(1)))?))?,
+        ),
+        (
+            300,
+            TyKind::Any,
+            trees.two(declare, trees.give(6, trees.var(1)))?,
+        ),
+    ];
+    for (at, kind, body) in rows {
+        let any = Some((trees.ty(TyKind::Any), None));
+        let params = trees.one(trees.ty(kind))?;
+        decls.push(trees.routine(at, params, any, (trees.none(), trees.none()), body)?)?;
+    }
+    Ok(trees.core(decls))
+}
+
+/// A clause that faults is a no where a contract asks, and its own fault where an `is` test asks.
+#[test]
+fn faults_in_clauses(rt: HostRuntime) -> Result<(), Fail> {
+    let alloc = rt.alloc();
+    let core = ratios(Trees { alloc })?;
+    assert_eq!(rt;
+        meets(alloc, &core, 0, &[Value::Int(2)], 100)?,
+        MeetsEnd::Met
+    );
+    assert_eq!(rt;
+        meets(alloc, &core, 0, &[Value::Int(0)], 100)?,
+        MeetsEnd::TypeFails(1)
+    );
+    assert_eq!(rt;
+        meets(alloc, &core, 0, &[Value::Int(-1)], 100)?,
+        MeetsEnd::TypeFails(1)
+    );
+    // ratio, int, and in its clause nat and int
+    assert_eq!(rt; meets(alloc, &core, 0, &[Value::Int(2)], 4)?, MeetsEnd::Met);
+    assert_eq!(rt;
+        meets(alloc, &core, 0, &[Value::Int(2)], 3)?,
+        MeetsEnd::TurnsSpent
+    );
+    let rows = [
+        (0, 2, "done 2"),
+        (0, 0, "fault member at 100"),
+        (1, 2, "done true"),
+        (1, -1, "done false"),
+        (1, 0, "fault divisor at 14"),
+        (2, 3, "done 3"),
+        (2, 0, "fault member at 5"),
+    ];
+    for (entry, arg, want) in rows {
+        runs(&rt, alloc, &core, entry, &[Value::Int(arg)], want)?;
+    }
+    Ok(())
+}
+
 #[test]
 fn preconditions(rt: HostRuntime) -> Result<(), Fail> {
     let alloc = rt.alloc();
