@@ -439,6 +439,7 @@ impl<
         let ((_, name), rest) = inner_name(self.alloc, tokens, self.levels)?;
         let (_, rest) = mark(rest, IN)?;
         let (from, rest) = self.inner_sum(rest)?;
+        let from = boxed(self.alloc, from)?;
         let (_, rest) = mark(rest, RANGE)?;
         let (to, rest) = self.inner_sum(rest)?;
         Ok((pushed(ranges, range(name, from, to))?, rest))
@@ -474,9 +475,11 @@ fn joined<
     if !next_is(rest, IMPLIES) {
         return Ok((left, rest));
     }
+    let left = boxed(alloc, left)?;
     let (at, rest) = mark(rest, IMPLIES)?;
     let (right, rest) = joined(alloc, rest, levels - 1, unary)?;
-    Ok((binary_node(alloc, at, Op::Implies, left, right)?, rest))
+    let right = boxed(alloc, right)?;
+    Ok((binary_node(at, Op::Implies, left, right), rest))
 }
 
 /// What may be an operand, where there are so many levels.

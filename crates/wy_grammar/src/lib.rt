@@ -15,8 +15,11 @@ mod expr_nodes;
 pub mod expressions;
 pub mod fault;
 pub mod labels;
+pub mod laws;
 mod literals;
 pub mod measured;
 mod operators;
 pub mod sort;
+#[cfg(test)]
+mod tests;
 pub mod types;
