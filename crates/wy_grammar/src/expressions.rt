@@ -42,7 +42,12 @@ impl<
         requires { (l : ℕ) → l ≤ self.now.levels → Nests spec.unary l (U.pre self.now.unary) (U.post self.now.unary) }
         ensures { Reads (spec.unary self.now.levels tokens.now) result }
     {
-        (self.unary)(self.alloc, tokens, self.levels)
+        let operators = Operators {
+            alloc: self.alloc,
+            levels: self.levels,
+            unary: self.unary,
+        };
+        operators.unary(tokens)
     }
 
     fn inner_expr<'a>(&self, tokens: &'a [Token]) -> Read<'a, Measured<Expr>>
@@ -455,7 +460,7 @@ impl<
 }
 
 // expr = logic [ '==>' expr ], where there are so many levels, over the reader of operands.
-#[tactic(auto, using(crate::proofs::StepLemmas::expr_steps), unfolding(crate::specs::ExprReading::expr_of))]
+#[tactic(auto, using(crate::proofs::StepLemmas::expr_steps))]
 fn joined<
     'a,
     U: Fn(Global, &[Token], usize) -> Result<(Measured<Expr>, &[Token]), Stop<Kind>> + Copy,

@@ -20,6 +20,4 @@ mod literals;
 pub mod measured;
 mod operators;
 pub mod sort;
-#[cfg(test)]
-mod tests;
 pub mod types;

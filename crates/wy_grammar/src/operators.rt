@@ -30,7 +30,8 @@ pub struct Operators<U> {
 impl<U: Fn(Global, &[Token], usize) -> Result<(Measured<Expr>, &[Token]), Stop<Kind>>> Operators<
     U,
 > {
-    fn unary<'a>(&self, tokens: &'a [Token]) -> Read<'a, Measured<Expr>>
+    /// An operand.
+    pub fn unary<'a>(&self, tokens: &'a [Token]) -> Read<'a, Measured<Expr>>
         requires { Nests spec.unary self.now.levels (U.pre self.now.unary) (U.post self.now.unary) }
         ensures { Reads (spec.unary self.now.levels tokens.now) result }
     {
