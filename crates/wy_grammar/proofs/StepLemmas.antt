@@ -3,7 +3,7 @@ use Rattle.std.proofs.Common.{◌≡◌, ◌≢◌, ℕ, zero, suc, ◌-◌, ◌
 use Rattle.wy_reading.specs.declared.stop.Stop.{Stop}
 use Rattle.wy_reading.specs.declared.stop.Stop.TheVariants.{NoMemory}
 use Rattle.wy_reading.specs.Rule.{heads}
-use Rattle.wy_reading.specs.Reader.{Outcome, Reads, loop, refused, ◌>>=◌}
+use Rattle.wy_reading.specs.Reader.{Outcome, Reads, loop, refused}
 use Rattle.wy_reading.proofs.Turns.{loop-fails}
 use Rattle.wy_ast.specs.declared.expressions.Op.TheVariants as op
 use Rattle.wy_lex.specs.declared.token.Token.{Token}

@@ -1,4 +1,4 @@
-use Rattle.std.proofs.Common.{◌≡◌, ◌∙◌, sym, rules}
+use Rattle.std.proofs.Common.{◌∙◌, sym, rules}
 use Rattle.wy_grammar.proofs.StepLemmas.{stops, left_stops, left_alone, mark_stops, right_stops, both_read}
 use Rattle.wy_grammar.proofs.expressions.+joined.Goals as goal
 

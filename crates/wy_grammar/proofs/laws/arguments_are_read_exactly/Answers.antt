@@ -1,4 +1,4 @@
-use Rattle.std.proofs.Common.{List, ◌⊎◌, refl}
+use Rattle.std.proofs.Common.{◌⊎◌, refl}
 use Rattle.wy_reading.specs.Rule.{Whole}
 use Rattle.wy_reading.specs.Reader.{whole}
 use Rattle.wy_reading.proofs.Theorem.{promise, whole_text, whole-closes}
