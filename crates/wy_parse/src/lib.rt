@@ -13,6 +13,7 @@ mod fault;
 pub mod laws;
 mod nested;
 mod parser;
+mod parts;
 mod simple;
 #[cfg(test)]
 mod tests;

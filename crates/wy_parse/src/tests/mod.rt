@@ -1,37 +1,30 @@
 mod faults;
 mod trees;
+mod vectors;
 mod written;
 
 use crate::{ParseFault, parse};
-use std::alloc::{AllocError, Global};
-use written::Page;
+use std::alloc::Global;
+use std::process::Abort;
+use wy_ast::Program;
 use wy_lex::tokens;
 
-/// What a source gives.
-#[derive(Drop)]
-pub enum Answered {
-    /// The tree, written.
-    Tree(String),
-    Fault(ParseFault),
-    NoTokens,
+// What the source is read as. None where it has no tokens.
+fn read(alloc: Global, source: &str) -> Option<Result<Program, ParseFault>> {
+    if source.len() >= 10_000_000 {
+        return None;
+    }
+    match tokens(alloc, source.as_bytes()) {
+        Ok(tokens) => Some(parse(alloc, tokens.as_slice())),
+        Err(_) => None,
+    }
 }
 
-// The tree of a source as a text.
-fn answer(alloc: Global, source: &str) -> Result<Answered, AllocError> {
-    if source.len() >= 10_000_000 {
-        return Ok(Answered::NoTokens);
-    }
-    let Ok(tokens) = tokens(alloc, source.as_bytes()) else {
-        return Ok(Answered::NoTokens);
-    };
-    match parse(alloc, tokens.as_slice()) {
-        Ok(tree) => {
-            let mut page = Page {
-                text: String::new(alloc),
-            };
-            written::program(&mut page, alloc, &tree)?;
-            Ok(Answered::Tree(page.text))
-        }
-        Err(fault) => Ok(Answered::Fault(fault)),
+// The source is refused so, or is a program.
+fn answers(rt: &impl Abort, alloc: Global, source: &str, want: Option<ParseFault>) {
+    match read(alloc, source) {
+        Some(Ok(_)) => assert_eq!(rt; None, want, "{}", source),
+        Some(Err(fault)) => assert_eq!(rt; Some(fault), want, "{}", source),
+        None => assert!(rt; false, "{}", source),
     }
 }

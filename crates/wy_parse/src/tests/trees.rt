@@ -1,16 +1,21 @@
 //! What is read, with the places of nodes.
-use crate::ParseFault;
-use crate::tests::{Answered, answer};
+use crate::tests::read;
+use crate::tests::written::{Page, program};
 use std::alloc::Global;
 use std::process::Abort;
 use std::test::Fail;
 
 // The source has the tree.
 fn reads(rt: &impl Abort, alloc: Global, source: &str, want: &str) -> Result<(), Fail> {
-    match answer(alloc, source)? {
-        Answered::Tree(tree) => assert_eq!(rt; tree.as_str(), want),
-        Answered::Fault(fault) => assert_eq!(rt; fault, ParseFault::NoMemory, "{}", source),
-        Answered::NoTokens => assert!(rt; false, "{}", source),
+    match read(alloc, source) {
+        Some(Ok(tree)) => {
+            let mut page = Page {
+                text: String::new(alloc),
+            };
+            program(&mut page, alloc, &tree)?;
+            assert_eq!(rt; page.text.as_str(), want);
+        }
+        _ => assert!(rt; false, "{}", source),
     }
     Ok(())
 }
