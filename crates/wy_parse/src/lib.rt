@@ -15,8 +15,6 @@ mod nested;
 mod parser;
 mod parts;
 mod simple;
-#[cfg(test)]
-mod tests;
 
 pub use fault::ParseFault;
 pub use parser::parse;

@@ -2,6 +2,7 @@
 ghost use Rattle.std.specs.Prelude.{◌≡◌, true, None};
 ghost use Rattle.wy_reading.specs.Reader.{Reads};
 ghost use Rattle.wy_grammar.specs.Steps as steps;
+ghost use Rattle.wy_parse.specs.StmtGrammar as grammar;
 ghost use Rattle.wy_parse.specs.StmtReading as spec;
 ghost use Rattle.wy_parse.specs.StmtTrees as trees;
 ghost use Rattle.wy_grammar.specs.Trees.{some};

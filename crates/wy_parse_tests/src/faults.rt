@@ -1,8 +1,8 @@
 //! What is refused, and where; and what stands at a limit.
-use crate::ParseFault;
-use crate::tests::answers;
+use crate::parsing::answers;
 use std::alloc::{AllocError, Global};
 use std::test::Fail;
+use wy_parse::ParseFault;
 
 // The text so many times, before the other and behind a first one.
 fn around(
@@ -174,11 +174,29 @@ fn blocks(rt: HostRuntime) -> Result<(), Fail> {
     // Lines of 6 characters, or of 10 and of 8, with from 1 to 100 or to 200 blanks before them.
     let cases = [
         ("if a:\n", "", 99, "skip\n", None),
-        ("if a:\n", "", 100, "skip\n", Some(ParseFault::Deep(12 + 600 + 5050 + 101))),
-        ("if a:\n", "", 99, "return (a)\n", Some(ParseFault::Deep(12 + 594 + 4950 + 100 + 8))),
+        (
+            "if a:\n",
+            "",
+            100,
+            "skip\n",
+            Some(ParseFault::Deep(12 + 600 + 5050 + 101)),
+        ),
+        (
+            "if a:\n",
+            "",
+            99,
+            "return (a)\n",
+            Some(ParseFault::Deep(12 + 594 + 4950 + 100 + 8)),
+        ),
         ("switch a:\n", "default:\n", 300, "skip\n", None),
         ("switch a:\n", "case 1:\n", 99, "skip\n", None),
-        ("switch a:\n", "case 1:\n", 100, "skip\n", Some(ParseFault::Deep(12 + 1800 + 20100 + 201))),
+        (
+            "switch a:\n",
+            "case 1:\n",
+            100,
+            "skip\n",
+            Some(ParseFault::Deep(12 + 1800 + 20100 + 201)),
+        ),
     ];
     for (header, second, times, last, want) in cases {
         let source = nested(alloc, header, second, times, last)?;
@@ -197,9 +215,21 @@ fn branches(rt: HostRuntime) -> Result<(), Fail> {
     let other = " else if a:\n  skip\n";
     let cases = [
         (switch, case, 99, "  default:\n   fail\n", None),
-        (switch, case, 100, "", Some(ParseFault::Deep(23 + 99 * 18 + 13))),
+        (
+            switch,
+            case,
+            100,
+            "",
+            Some(ParseFault::Deep(23 + 99 * 18 + 13)),
+        ),
         (first, other, 98, " else:\n  skip\n", None),
-        (first, other, 99, "", Some(ParseFault::Deep(26 + 98 * 19 + 14))),
+        (
+            first,
+            other,
+            99,
+            "",
+            Some(ParseFault::Deep(26 + 98 * 19 + 14)),
+        ),
     ];
     for (begin, text, times, end, want) in cases {
         let source = around(alloc, begin, text, times, end)?;
@@ -213,12 +243,42 @@ fn heights(rt: HostRuntime) -> Result<(), Fail> {
     let alloc = rt.alloc();
     let cases = [
         ("property p() where a", "+a", 99, "\n", None),
-        ("property p() where a", "+a", 100, "\n", Some(ParseFault::Deep(218))),
-        ("property p() where a", "+a", 5_000, "\n", Some(ParseFault::Deep(218))),
-        ("property p() where a", "+a", 100, ")\n", Some(ParseFault::Unexpected(220))),
+        (
+            "property p() where a",
+            "+a",
+            100,
+            "\n",
+            Some(ParseFault::Deep(218)),
+        ),
+        (
+            "property p() where a",
+            "+a",
+            5_000,
+            "\n",
+            Some(ParseFault::Deep(218)),
+        ),
+        (
+            "property p() where a",
+            "+a",
+            100,
+            ")\n",
+            Some(ParseFault::Unexpected(220)),
+        ),
         ("type T is int", "[]", 99, "\n", None),
-        ("type T is int", "[]", 100, "\n", Some(ParseFault::Deep(211))),
-        ("property p() where a is int", "[]", 99, "\n", Some(ParseFault::Deep(21))),
+        (
+            "type T is int",
+            "[]",
+            100,
+            "\n",
+            Some(ParseFault::Deep(211)),
+        ),
+        (
+            "property p() where a is int",
+            "[]",
+            99,
+            "\n",
+            Some(ParseFault::Deep(21)),
+        ),
     ];
     for (begin, text, times, end, want) in cases {
         let source = around(alloc, begin, text, times, end)?;
