@@ -116,22 +116,19 @@ loop_uses zero x k u H C s turn p end a sane st t r m c h = inl (x, p, c.1, uses
 loop_uses (suc n) x k u H C s turn p end a sane st t r m c h = either
     (λ e. inl (x, c.0, c.3, uses_more x k u (has (head s turn) x) c.0 m e))
     (λ e. either
-        (λ b. inr (hr, (x, c.1, Breaks, b.1, uses_more x k v (has (head s turn) x) c.1 mv e)))
+        (λ b. inr (hr, (x, c.1, Breaks, b.1, uses_more x k (unset_behind x u c.0) (has (head s turn) x) c.1 mv e)))
         (λ l. either
-            (λ b. inr (hr, (x, c.1, Leaves, b.1, uses_more x k v (has (head s turn) x) c.1 mv e)))
+            (λ b. inr (hr, (x, c.1, Leaves, b.1, uses_more x k (unset_behind x u c.0) (has (head s turn) x) c.1 mv e)))
             (λ b. either
                 (λ i. either
-                    (λ g. inr (hr, (x, b.0, Falls, g, uses_more x k v (has (head s turn) x) b.0 mv i)))
-                    (λ g. inr (hr, (x, b.0, Continues, g, uses_more x k v (has (head s turn) x) b.0 mv i))) b.3)
-                (λ i. loop_uses n x k (unset_behind x v b.0) H C s turn b.1 end a sane st t r
-                    (λ z. either mv (λ d. head_to (Some x) s turn sane st r (inr (turn_to (Some x) C turn (t (Some x)) b.0 b.3 d))) (split (Some x) v b.0 z)) b.4 i)
-                (uses_split x k v b.0 b.1 (subst (λ z. UsesUnset x k v z) b.2 e))) l)
+                    (λ g. inr (hr, (x, b.0, Falls, g, uses_more x k (unset_behind x u c.0) (has (head s turn) x) b.0 mv i)))
+                    (λ g. inr (hr, (x, b.0, Continues, g, uses_more x k (unset_behind x u c.0) (has (head s turn) x) b.0 mv i))) b.3)
+                (λ i. loop_uses n x k (unset_behind x (unset_behind x u c.0) b.0) H C s turn b.1 end a sane st t r
+                    (λ z. either mv (λ d. head_to (Some x) s turn sane st r (inr (turn_to (Some x) C turn (t (Some x)) b.0 b.3 d))) (split (Some x) (unset_behind x u c.0) b.0 z)) b.4 i)
+                (uses_split x k (unset_behind x u c.0) b.0 b.1 (subst (λ z. UsesUnset x k (unset_behind x u c.0) z) b.2 e))) l)
         c.4)
     (uses_split x k u c.0 c.1 (subst (λ z. UsesUnset x k u z) c.2 h))
   where
-    v : Bool
-    v = unset_behind x u c.0
-
     mv : unset_behind x u c.0 ≡ true → has (head s turn) x ≡ true
     mv z = m (behind_quiet (Some x) u c.0 (a.quiet c.0 c.3) z)
 

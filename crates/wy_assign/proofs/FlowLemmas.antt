@@ -196,14 +196,12 @@ either_tells w C D f g h sg sh t u = record {
 -- the second begins where the first falls
 next_of : (w : Option ℕ) (C D : Course) (f g : Flow) (end : End) → Tells w C f g → Tells None C f g → Comes w D g.here end → Comes w (InOrder C D) f.here end
 next_of w C D f g end t n d = by_truth (holds w g.here) (λ b. holds w g.here ≡ b → Comes w (InOrder C D) f.here end)
-    (λ _ e. with_path (t.here_of e) (λ c. let r : behind w true d.1.0 ≡ true = subst (λ z. behind w z d.1.0 ≡ true) e d.1.2 in subst (λ z. behind w z d.1.0 ≡ true) (sym c.1.2) r))
-    (λ _ e. with_path_none (n.here_of d.0) (let r : behind w false d.1.0 ≡ true = subst (λ z. behind w z d.1.0 ≡ true) e d.1.2 in r)) refl
+    (λ _ e. let c = t.here_of e in joint c.1.0 c.0 c.1.1 (subst (λ z. behind w z d.1.0 ≡ true) (e ∙ sym c.1.2) d.1.2))
+    (λ _ e. let c = n.here_of d.0 in
+        joint c.1.0 c.0 c.1.1 (behind_more w false (behind w (holds w f.here) c.1.0) d.1.0 (λ z. never z) (subst (λ z. behind w z d.1.0 ≡ true) e d.1.2))) refl
   where
-    with_path : (c : Comes w C f.here Falls) → (Comes w C f.here Falls → behind w (behind w (holds w f.here) c.1.0) d.1.0 ≡ true) → Comes w (InOrder C D) f.here end
-    with_path c h = (c.0, (c.1.0 ++ d.1.0, inr (c.1.0, d.1.0, refl, c.1.1, d.1.1), behind-append w (holds w f.here) c.1.0 d.1.0 ∙ h c))
-
-    with_path_none : Comes None C f.here Falls → behind w false d.1.0 ≡ true → Comes w (InOrder C D) f.here end
-    with_path_none c h = (c.0, (c.1.0 ++ d.1.0, inr (c.1.0, d.1.0, refl, c.1.1, d.1.1), behind-append w (holds w f.here) c.1.0 d.1.0 ∙ behind_more w false (behind w (holds w f.here) c.1.0) d.1.0 (λ e. never e) h))
+    joint : (q : List Event) → f.here.reached ≡ true → C q Falls → behind w (behind w (holds w f.here) q) d.1.0 ≡ true → Comes w (InOrder C D) f.here end
+    joint q r c h = (r, (q ++ d.1.0, inr (q, d.1.0, refl, c, d.1.1), behind-append w (holds w f.here) q d.1.0 ∙ h))
 
 next_to : (w : Option ℕ) (C D : Course) (f g : Flow) (end : End) (p q r : List Event) → Tells w C f g → Tells None C f g → f.here.reached ≡ true → p ≡ q ++ r → C q Falls → D r end
     → behind w (holds w f.here) p ≡ true → Comes w D g.here end

@@ -2,7 +2,7 @@
 use Rattle.std.proofs.Common.{◌≡◌, ◌⊎◌, inl, inr, ◌≤◌, ◌<◌, ℕ, Bool, true, false, nat_lt, cond, Option, Some, None, refl, sym, subst, arith}
 use Rattle.wy_assign.specs.Faults.{noted, noted_where}
 use Rattle.wy_assign.proofs.EventLemmas.{either, never}
-use Rattle.wy_assign.proofs.MarkLemmas.{by_truth, at_or_past}
+use Rattle.wy_assign.proofs.MarkLemmas.{by_truth, lt_true, lt_false}
 
 abbrev pub Least : (ℕ → Type 0) → Option ℕ → Type 0
 Least P None = (k : ℕ) → P k → ⊥
@@ -37,10 +37,10 @@ least_lesser P m at l = by_truth (nat_lt at m) (λ b. nat_lt at m ≡ b → Leas
     (λ _ h. (inl l.0, λ k q. either (λ p. l.1 k p) (λ e. at_most m k at (above h) e) q)) refl
   where
     below : (k : ℕ) → nat_lt at m ≡ true → m ≤ k → at ≤ k
-    below k h g = let lt : at < m = search arith in omega arith
+    below k h g = let lt = lt_true at m h in omega arith
 
     above : nat_lt at m ≡ false → m ≤ at
-    above h = search arith
+    above h = lt_false at m h
 
 pub least_noted : (P : ℕ → Type 0) (o : Option ℕ) (at : ℕ) → Least P o → Least (λ k. P k ⊎ (at ≡ k)) (noted o at)
 least_noted P None at l = (inr refl, λ k q. either (λ p. absurd (l k p)) (λ e. at_most at k at (omega arith) e) q)

@@ -1,3 +1,6 @@
+-- what the functions owe
+pub mod PutLemmas
+pub mod SeenLemmas
 -- events in order, and what a path of uses is
 mod EventLemmas
 mod CalmLemmas

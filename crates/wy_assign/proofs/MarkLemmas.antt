@@ -1,6 +1,6 @@
 -- What marks say behind an assignment, a declaration and a join.
 use Rattle.std.proofs.Common.{◌≡◌, ◌≢◌, ◌⊎◌, inl, inr, ◌+◌, ◌<◌, ◌≤◌, ℕ, zero, suc, Bool, true, false, not, ◌||◌, ◌==◌, nat_lt, cond, List, [], ◌∷◌, ◌++◌, length, get_or, Option, Some, None, refl, sym, ap, ◌∙◌, subst, arith, add-one, length-append}
-use Rattle.std.proofs.lemmas.Bool.Decides.{eqb_tells}
+use Rattle.std.proofs.lemmas.Bool.Decides.{eqb_tells, nat_tests}
 use Rattle.std.proofs.lemmas.List.{get_or_append_left, get_or_push, get_or_past}
 use Rattle.wy_assign.specs.Paths.{Event, Uses, Sets, Unsets}
 use Rattle.wy_assign.specs.Assigned.{unset_behind}
@@ -115,14 +115,20 @@ either_at a b (suc n) x d h = by_same x n (λ t. (x == n) ≡ t → get_or (eith
     (λ ne _. let l = length-either a b n in let lt : x < length (either_bits a b n) = omega arith in
         get_or_append_left (either_bits a b n) ((has a n || has b n) ∷ []) d x lt ∙ either_at a b n x d (omega arith)) refl
 
+pub lt_true : (a b : ℕ) → nat_lt a b ≡ true → a < b
+lt_true a b h = first_of (grind (arith, nat_tests), search arith)
+
+pub lt_false : (a b : ℕ) → nat_lt a b ≡ false → b ≤ a
+lt_false a b h = first_of (grind (arith, nat_tests), search arith)
+
 longer_left : (n m : ℕ) → n ≤ longer n m
-longer_left n m = search arith
+longer_left n m = by_truth (nat_lt n m) (λ t. nat_lt n m ≡ t → n ≤ cond t m n) (λ _ h. let lt = lt_true n m h in omega arith) (λ _ _. omega arith) refl
 
 longer_right : (n m : ℕ) → m ≤ longer n m
-longer_right n m = search arith
+longer_right n m = by_truth (nat_lt n m) (λ t. nat_lt n m ≡ t → m ≤ cond t m n) (λ _ _. omega arith) (λ _ h. lt_false n m h) refl
 
 pub at_or_past : (x n : ℕ) → (x < n) ⊎ (n ≤ x)
-at_or_past x n = by_truth (nat_lt x n) (λ t. nat_lt x n ≡ t → (x < n) ⊎ (n ≤ x)) (λ _ e. inl (search arith)) (λ _ e. inr (search arith)) refl
+at_or_past x n = by_truth (nat_lt x n) (λ t. nat_lt x n ≡ t → (x < n) ⊎ (n ≤ x)) (λ _ e. inl (lt_true x n e)) (λ _ e. inr (lt_false x n e)) refl
 
 abbrev both : Marks → Marks → Marks
 both a b = record { reached = true; others = a.others || b.others; bits = either_bits a b (longer (length a.bits) (length b.bits)) }

@@ -11,7 +11,7 @@ use Rattle.wy_assign.specs.declared.flow.Flow.{Flow}
 use Rattle.wy_assign.specs.declared.fault.AssignFault.{AssignFault}
 use Rattle.wy_assign.specs.declared.fault.AssignFault.TheVariants.{Unset, NoReturn, NoMemory}
 use Rattle.wy_assign.proofs.EventLemmas.{either, never}
-use Rattle.wy_assign.proofs.MarkLemmas.{by_truth, holds, Sane, sane_none, has-assigned, holds-assigned, or_cases, or_true}
+use Rattle.wy_assign.proofs.MarkLemmas.{by_truth, lt_true, lt_false, holds, Sane, sane_none, has-assigned, holds-assigned, or_cases, or_true}
 use Rattle.wy_assign.proofs.FlowLemmas.{Comes, Tells, Sound, sound_from}
 use Rattle.wy_assign.proofs.TellsLemmas.{tells_all}
 use Rattle.wy_assign.proofs.LeastLemmas.{Least, least_same, least_two, least_one, least_none, least_where}
@@ -102,22 +102,20 @@ ends_of r h =
         (or_cases g.breaks.reached g.continues.reached e))
     (or_cases g.here.reached (g.breaks.reached || g.continues.reached) h)
 
+ends_by : (r : tree.Routine ℕ) (p : List Event) (end : End) → StmtsPath r.body p end → leaves end ≡ false → is_open (flow_all r.body (from_here (entry r))) ≡ true
+ends_by r p Falls c n =
+    let f = from_here (entry r) in let g = flow_all r.body f in let t = tells_all r.body f (sound_from (entry r) (sane_entry r)) None in
+    or_true g.here.reached (g.breaks.reached || g.continues.reached) (inl (t.here_to (reached-entry r, (p, c, reached-entry r))))
+ends_by r p Breaks c n =
+    let f = from_here (entry r) in let g = flow_all r.body f in let t = tells_all r.body f (sound_from (entry r) (sane_entry r)) None in
+    or_true g.here.reached (g.breaks.reached || g.continues.reached) (inr (or_true g.breaks.reached g.continues.reached (inl (t.breaks_to (inr (reached-entry r, (p, c, reached-entry r)))))))
+ends_by r p Continues c n =
+    let f = from_here (entry r) in let g = flow_all r.body f in let t = tells_all r.body f (sound_from (entry r) (sane_entry r)) None in
+    or_true g.here.reached (g.breaks.reached || g.continues.reached) (inr (or_true g.breaks.reached g.continues.reached (inr (t.continues_to (inr (reached-entry r, (p, c, reached-entry r)))))))
+ends_by r p Leaves c n = never (sym n)
+
 ends_to : (r : tree.Routine ℕ) → Ends r.body → is_open (flow_all r.body (from_here (entry r))) ≡ true
-ends_to r e = by e.1 e.2 e.3
-  where
-    f : Flow
-    f = from_here (entry r)
-
-    t : Tells None (StmtsPath r.body) f (flow_all r.body f)
-    t = tells_all r.body f (sound_from (entry r) (sane_entry r)) None
-
-    by : (end : End) → StmtsPath r.body e.0 end → leaves end ≡ false → is_open (flow_all r.body (from_here (entry r))) ≡ true
-    by Falls c n = or_true (flow_all r.body f).here.reached ((flow_all r.body f).breaks.reached || (flow_all r.body f).continues.reached) (inl (t.here_to (reached-entry r, (e.0, c, reached-entry r))))
-    by Breaks c n = or_true (flow_all r.body f).here.reached ((flow_all r.body f).breaks.reached || (flow_all r.body f).continues.reached)
-        (inr (or_true (flow_all r.body f).breaks.reached (flow_all r.body f).continues.reached (inl (t.breaks_to (inr (reached-entry r, (e.0, c, reached-entry r)))))))
-    by Continues c n = or_true (flow_all r.body f).here.reached ((flow_all r.body f).breaks.reached || (flow_all r.body f).continues.reached)
-        (inr (or_true (flow_all r.body f).breaks.reached (flow_all r.body f).continues.reached (inr (t.continues_to (inr (reached-entry r, (e.0, c, reached-entry r)))))))
-    by Leaves c n = never (sym n)
+ends_to r e = ends_by r e.0 e.1 e.2 e.3
 
 and_left : (a b : Bool) → (a && b) ≡ true → a ≡ true
 and_left true b e = refl
@@ -165,8 +163,8 @@ judged core None None lu lo = record { set = lu; closed = lo }
 judged core (Some k) None lu lo = (lu.0, lu.1, λ m h. absurd (lo m h))
 judged core None (Some j) lu lo = (lo.0, (λ m h. absurd (lu m h)), lo.1)
 judged core (Some k) (Some j) lu lo = by_truth (nat_lt j k) (λ b. nat_lt j k ≡ b → IsFault core (cond b (NoReturn j) (Unset k)))
-    (λ _ e. (lo.0, (λ m h. let lt : j < k = search arith in let le = lu.1 m h in omega arith), lo.1))
-    (λ _ e. (lu.0, lu.1, (λ m h. let le : k ≤ j = search arith in let lf = lo.1 m h in omega arith))) refl
+    (λ _ e. (lo.0, (λ m h. let lt = lt_true j k e in let le = lu.1 m h in omega arith), lo.1))
+    (λ _ e. (lu.0, lu.1, (λ m h. let le = lt_false j k e in let lf = lo.1 m h in omega arith))) refl
 
 pub fault_judges : (core : Core ℕ) → Judges core (fault_of core)
 fault_judges core = judged core (core_faults core None) (core_open core None) (uses_least core) (opens_least core)
@@ -208,9 +206,15 @@ pub only_fault : (core : Core ℕ) (r : Result (Unit {0}) AssignFault) → Answe
 only_fault core (Ok t) a = tt
 only_fault core (Err e) a = λ n. judges_some core e (a n)
 
-pub accepts : (core : Core ℕ) (r : Result (Unit {0}) AssignFault) → Answers (fault_of core) r → IsAssigned core → IfErr r (λ e. (e ≢ NoMemory) → ⊥)
+-- all that is left is want of memory
+only_memory : (e : AssignFault) → ((e ≢ NoMemory) → ⊥) → e ≡ NoMemory
+only_memory (Unset at) h = absurd (h (λ q. absurd (cc)))
+only_memory (NoReturn at) h = absurd (h (λ q. absurd (cc)))
+only_memory NoMemory h = refl
+
+pub accepts : (core : Core ℕ) (r : Result (Unit {0}) AssignFault) → Answers (fault_of core) r → IsAssigned core → IfErr r (λ e. e ≡ NoMemory)
 accepts core (Ok t) a s = tt
-accepts core (Err e) a s = λ n. not_assigned core e (judges_some core e (a n)) s
+accepts core (Err e) a s = only_memory e (λ n. not_assigned core e (judges_some core e (a n)) s)
 
 pub refuses : (core : Core ℕ) (r : Result (Unit {0}) AssignFault) → Answers (fault_of core) r → (d : AssignFault) → IsFault core d → MatchResult r (λ t. ⊥) (λ e. e ≢ NoMemory → e ≡ d)
 refuses core (Ok t) a d f = not_assigned core d f (judges_none core a)

@@ -1,6 +1,6 @@
 -- Uses in expressions: the least place is exact.
 use Rattle.std.proofs.Common.{◌≡◌, ◌≢◌, ◌⊎◌, inl, inr, ℕ, zero, suc, Bool, true, false, ◌||◌, ◌==◌, cond, List, [], ◌∷◌, ◌++◌, Option, Some, None, refl, sym, ap, ◌∙◌, subst, arith}
-use Rattle.std.proofs.Math.Seq.{append-nil}
+use Rattle.std.proofs.lemmas.List.{append-nil}
 use Rattle.std.proofs.lemmas.Bool.Decides.{eqb_tells}
 use Rattle.wy_core.specs.CoreTree.{Expr, NullExpr, BoolExpr, IntExpr, VarExpr, CallExpr, NegExpr, NotExpr, LenExpr, BinaryExpr, IsExpr, IndexExpr, FieldExpr, ListExpr, RepeatExpr, RecordExpr, QuantExpr, Exprs, NoExprs, MoreExprs, Fields, NoFields, MoreFields, Step, IndexStep, FieldStep}
 use Rattle.wy_assign.specs.Paths.{Event, Uses, Sets, Unsets, Through, Nothing, One, Then, Maybe, Times, AnyTimes, is_early, ExprPath, ExprsPath, FieldsPath, ClausesPath, OptionPath, StepPath, StepsPath}
@@ -31,7 +31,7 @@ one_to : (u : ℕ → Bool) (at y : ℕ) → u y ≡ true → SomeUse (One (Uses
 one_to u at y h = (y, Uses at y ∷ [], refl, inl (h, itself, refl))
   where
     itself : (y == y) ≡ true
-    itself = search arith
+    itself = either (λ (t : ((y == y) ≡ true) × (y ≡ y)). t.0) (λ (t : ((y == y) ≡ false) × (y ≢ y)). absurd (t.1 refl)) (eqb_tells y y)
 
 then_of : (A B : Through) (u : ℕ → Bool) (k : ℕ) → Calm A → SomeUse (Then A B) u k → SomeUse A u k ⊎ SomeUse B u k
 then_of A B u k a s =

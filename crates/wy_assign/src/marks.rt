@@ -1,7 +1,6 @@
 //! What may be without a value at a point of the program.
 ghost use Rattle.std.specs.Prelude.{◌≡◌, IfOk, OnOk, length};
 ghost use Rattle.wy_assign.specs.Marks as spec;
-ghost use Rattle.wy_core.specs.CoreSeen.{seen_param};
 
 use std::alloc::{AllocError, Global};
 use std::marker::Model;
@@ -119,12 +118,20 @@ impl Marks {
     fn put(&mut self, index: usize, bit: bool) -> Result<(), AllocError>
         ensures value { OnOk result (self.new ≡ spec.put self.old index bit) }
     {
-        while self.bits.len() <= index {
-            self.bits.push(self.others)?;
-        }
-        self.bits[index] = bit;
-        Ok(())
+        put_bit(&mut self.bits, index, bit, self.others)
     }
+}
+
+/// The bit at this index is this, and those before it are the others where there were none.
+#[tactic(auto, using(crate::proofs::PutLemmas::put_pushed, crate::proofs::PutLemmas::put_within))]
+fn put_bit(bits: &mut Vec<bool>, index: usize, bit: bool, others: bool) -> Result<(), AllocError>
+    ensures value { OnOk result (bits.new.items ≡ spec.put_bit bits.old.items index bit others) }
+{
+    while bits.len() <= index {
+        bits.push(others)?;
+    }
+    bits[index] = bit;
+    Ok(())
 }
 
 /// Where the paths to two points meet. It is linear in the number of bits, and takes no memory where

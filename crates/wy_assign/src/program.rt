@@ -1,9 +1,11 @@
 //! Declarations, and the fault that is given.
-ghost use Rattle.std.specs.Prelude.{◌≡◌, IfOk, map, is_some, None};
+ghost use Rattle.std.specs.Prelude.{◌≡◌, ◌≢◌, IfOk, OnOk, IfErr, MatchResult, map, is_some, None};
 ghost use Rattle.wy_core.specs.CoreSeen.{seen_alias, seen_core, seen_decl, seen_output, seen_param, seen_routine};
 ghost use Rattle.wy_assign.specs.Faults as spec;
+ghost use Rattle.wy_assign.specs.Flows as flows;
 ghost use Rattle.wy_assign.specs.Marks as mark;
 ghost use Rattle.wy_assign.specs.Assigned as definition;
+ghost use Rattle.wy_assign.specs.declared.fault.AssignFault.{AssignFault};
 
 use crate::fault::AssignFault;
 use crate::flow::{Flow, Walk, from_here};
@@ -34,6 +36,17 @@ struct Places {
 /// It goes through each node once, and once more for each loop around it; each `if` and each loop
 /// copies and joins the bits of the variables.
 pub fn assigned(alloc: Global, core: &Core) -> Result<(), AssignFault>
+    ensures value { spec.Answers (spec.fault_of (seen_core core.now)) result }
+    ensures sound { OnOk result (definition.IsAssigned (seen_core core.now)) }
+    ensures complete { definition.IsAssigned (seen_core core.now) → IfErr result (λ e. e ≡ AssignFault.NoMemory) }
+    ensures fault { IfErr result (λ e. e ≢ AssignFault.NoMemory → definition.IsFault (seen_core core.now) e) }
+    ensures exact { (f : AssignFault) → definition.IsFault (seen_core core.now) f → MatchResult result (λ t. ⊥) (λ e. e ≢ AssignFault.NoMemory → e ≡ f) }
+{
+    judge(alloc, core)
+}
+
+/// The same by the plain function alone.
+fn judge(alloc: Global, core: &Core) -> Result<(), AssignFault>
     ensures value { spec.Answers (spec.fault_of (seen_core core.now)) result }
 {
     match least_places(alloc, core.decls.as_slice()) {
@@ -117,7 +130,7 @@ fn in_routine(alloc: Global, routine: &Routine, places: Places) -> Result<Places
 
 /// Whether a path gets past the statements that left this.
 fn is_open(flow: &Flow) -> bool
-    ensures value { result ≡ spec.is_open flow.now }
+    ensures value { result ≡ flows.is_open flow.now }
 {
     flow.here.is_reached() || flow.breaks.is_reached() || flow.continues.is_reached()
 }
