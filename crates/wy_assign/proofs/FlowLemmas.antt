@@ -97,7 +97,7 @@ falling w C f s only of to = record {
   continues_to = λ h. either (λ e. e) (λ (c : Comes w C f.here Continues). absurd (continues_falls (only c.1.0 Continues c.1.1))) h;
 }
 
-calm_tells : (w : Option ℕ) (A : Through) (f : Flow) → Calm A → Sane f.here → Tells w (Ending Falls A) f f
+pub calm_tells : (w : Option ℕ) (A : Through) (f : Flow) → Calm A → Sane f.here → Tells w (Ending Falls A) f f
 calm_tells w A f a sane = falling w (Ending Falls A) f f.here (λ p end c. c.0)
     (λ h. (sane w h, (a.some, (refl, a.is_some), behind_reads w (holds w f.here) a.some a.reads ∙ h)))
     (λ c. behind_quiet w (holds w f.here) c.1.0 (a.quiet c.1.0 c.1.1.1) c.1.2)
@@ -108,14 +108,14 @@ set_tells w x f sane = falling w (Ending Falls (One (Sets x))) f (assigned f.her
         (sane w (behind_quiet w (holds w f.here) (Sets x ∷ []) tt b), (Sets x ∷ [], (refl, refl), b)))
     (λ c. holds-assigned w f.here x ∙ subst (λ z. behind w (holds w f.here) z ≡ true) c.1.1.1 c.1.2)
 
-unset_tells : (w : Option ℕ) (x : ℕ) (f : Flow) → Sane f.here → Tells w (Ending Falls (One (Unsets x))) f (record f { here = declared f.here x })
+pub unset_tells : (w : Option ℕ) (x : ℕ) (f : Flow) → Sane f.here → Tells w (Ending Falls (One (Unsets x))) f (record f { here = declared f.here x })
 unset_tells w x f sane = falling w (Ending Falls (One (Unsets x))) f (declared f.here x) (λ p end c. c.0)
     (λ h. by_truth f.here.reached (λ t. f.here.reached ≡ t → Comes w (Ending Falls (One (Unsets x))) f.here Falls)
         (λ _ r. (r, (Unsets x ∷ [], (refl, refl), sym (holds-declared w f.here x r) ∙ h)))
         (λ _ r. never (sym (dead-declared w f.here x sane r) ∙ h)) refl)
     (λ c. holds-declared w f.here x c.0 ∙ subst (λ z. behind w (holds w f.here) z ≡ true) c.1.1.1 c.1.2)
 
-left_tells : (w : Option ℕ) (A : Through) (f : Flow) → Tells w (Ending Leaves A) f (left f)
+pub left_tells : (w : Option ℕ) (A : Through) (f : Flow) → Tells w (Ending Leaves A) f (left f)
 left_tells w A f = record {
   here_of = λ h. never (sym (holds-nowhere w) ∙ h);
   here_to = λ c. absurd (falls_leaves c.1.1.0);
@@ -125,7 +125,7 @@ left_tells w A f = record {
   continues_to = λ h. either (λ e. e) (λ (c : Comes w (Ending Leaves A) f.here Continues). absurd (continues_leaves c.1.1.0)) h;
 }
 
-broken_tells : (w : Option ℕ) (f : Flow) → Sound f → Tells w (Ending Breaks Nothing) f (broken f)
+pub broken_tells : (w : Option ℕ) (f : Flow) → Sound f → Tells w (Ending Breaks Nothing) f (broken f)
 broken_tells w f s = record {
   here_of = λ h. never (sym (holds-nowhere w) ∙ h);
   here_to = λ c. absurd (falls_breaks c.1.1.0);
@@ -136,7 +136,7 @@ broken_tells w f s = record {
   continues_to = λ h. either (λ e. e) (λ (c : Comes w (Ending Breaks Nothing) f.here Continues). absurd (continues_breaks c.1.1.0)) h;
 }
 
-continued_tells : (w : Option ℕ) (f : Flow) → Sound f → Tells w (Ending Continues Nothing) f (continued f)
+pub continued_tells : (w : Option ℕ) (f : Flow) → Sound f → Tells w (Ending Continues Nothing) f (continued f)
 continued_tells w f s = record {
   here_of = λ h. never (sym (holds-nowhere w) ∙ h);
   here_to = λ c. absurd (falls_continues c.1.1.0);
@@ -160,18 +160,18 @@ tells_map w C D f g of to t = record {
   continues_to = λ h. t.continues_to (either (λ e. inl e) (λ c. inr (to Continues c)) h);
 }
 
-before_tells : (w : Option ℕ) (A : Through) (C : Course) (f g : Flow) → Calm A → Tells w C f g → Tells w (Before A C) f g
+pub before_tells : (w : Option ℕ) (A : Through) (C : Course) (f g : Flow) → Calm A → Tells w C f g → Tells w (Before A C) f g
 before_tells w A C f g a t = tells_map w C (Before A C) f g
     (λ end c. (c.0, (a.some ++ c.1.0, (a.some, c.1.0, refl, a.is_some, c.1.1), add_reads w (holds w f.here) a.some c.1.0 a.reads c.1.2)))
     (λ end c. let s = c.1.1 in (c.0, (s.1, s.4, skip_quiet w (holds w f.here) c.1.0 s.0 s.1 s.2 (a.quiet s.0 s.3) c.1.2))) t
 
-value_tells : (w : Option ℕ) (A : Through) (x : ℕ) (f : Flow) → Calm A → Sane f.here → Tells w (Ending Falls (Then A (One (Sets x)))) f (record f { here = assigned f.here x })
+pub value_tells : (w : Option ℕ) (A : Through) (x : ℕ) (f : Flow) → Calm A → Sane f.here → Tells w (Ending Falls (Then A (One (Sets x)))) f (record f { here = assigned f.here x })
 value_tells w A x f a sane = tells_map w (Before A (Ending Falls (One (Sets x)))) (Ending Falls (Then A (One (Sets x)))) f (record f { here = assigned f.here x })
     (λ end c. let s = c.1.1 in (c.0, (c.1.0, (s.4.0, (s.0, s.1, s.2, s.3, s.4.1)), c.1.2)))
     (λ end c. let s = c.1.1 in (c.0, (c.1.0, (s.1.0, s.1.1, s.1.2, s.1.3, (s.0, s.1.4)), c.1.2)))
     (before_tells w A (Ending Falls (One (Sets x))) f (record f { here = assigned f.here x }) a (set_tells w x f sane))
 
-either_tells : (w : Option ℕ) (C D : Course) (f g h : Flow) → Sane g.here → Sane h.here → Tells w C f g → Tells w D (otherwise f.here g) h
+pub either_tells : (w : Option ℕ) (C D : Course) (f g h : Flow) → Sane g.here → Sane h.here → Tells w C f g → Tells w D (otherwise f.here g) h
     → Tells w (Either C D) f (rejoined g.here h)
 either_tells w C D f g h sg sh t u = record {
   here_of = λ e. either (λ k. in_first Falls (t.here_of k)) (λ k. in_second Falls (u.here_of k)) (joined_of w g.here h.here sg sh e);
@@ -208,7 +208,7 @@ next_to : (w : Option ℕ) (C D : Course) (f g : Flow) (end : End) (p q r : List
 next_to w C D f g end p q r t n reached e c d h = (n.here_to (reached, (q, c, reached)),
     (r, d, behind_more w (behind w (holds w f.here) q) (holds w g.here) r (λ k. t.here_to (reached, (q, c, k))) (cut w (holds w f.here) p q r e h)))
 
-in_order_tells : (w : Option ℕ) (C D : Course) (f g h : Flow) → Tells w C f g → Tells None C f g → Tells w D g h → Tells w (InOrder C D) f h
+pub in_order_tells : (w : Option ℕ) (C D : Course) (f g h : Flow) → Tells w C f g → Tells None C f g → Tells w D g h → Tells w (InOrder C D) f h
 in_order_tells w C D f g h t n u = record {
   here_of = λ e. next_of w C D f g Falls t n (u.here_of e);
   here_to = λ c. u.here_to (either (λ k. never (sym k.0)) (λ k. next_to w C D f g Falls c.1.0 k.0 k.1 t n c.0 k.2 k.3 k.4 c.1.2) c.1.1);

@@ -1,6 +1,7 @@
 -- what the functions owe
 pub mod PutLemmas
 pub mod SeenLemmas
+pub mod WalkLemmas
 -- events in order, and what a path of uses is
 mod EventLemmas
 mod CalmLemmas

@@ -4,7 +4,7 @@ use Rattle.wy_core.specs.CoreTree as tree
 use Rattle.wy_core.specs.CoreTree.{Expr, NullExpr, BoolExpr, IntExpr, VarExpr, CallExpr, NegExpr, NotExpr, LenExpr, BinaryExpr, IsExpr, IndexExpr, FieldExpr, ListExpr, RepeatExpr, RecordExpr, QuantExpr, Exprs, NoExprs, MoreExprs, Fields, NoFields, MoreFields, Step, IndexStep, FieldStep, Stmt, DeclareStmt, AssignStmt, CallStmt, ReturnStmt, AssertStmt, BreakStmt, ContinueStmt, SkipStmt, FailStmt, IfStmt, WhileStmt, Stmts, NoStmts, MoreStmts, Decl, AliasDecl, RoutineDecl, Core}
 use Rattle.wy_assign.specs.Assigned.{result_variable}
 use Rattle.wy_assign.specs.Marks.{Marks, has, none_set, with_params, with_option}
-use Rattle.wy_assign.specs.Flows.{from_here, alone, otherwise, head, flow, flow_all, is_open}
+use Rattle.wy_assign.specs.Flows.{from_here, alone, otherwise, rejoined, head, flow, flow_all, is_open}
 use Rattle.wy_assign.specs.declared.fault.AssignFault.{AssignFault}
 use Rattle.wy_assign.specs.declared.fault.AssignFault.TheVariants.{Unset, NoReturn, NoMemory}
 use Rattle.wy_assign.specs.declared.flow.Flow.{Flow}
@@ -101,6 +101,23 @@ walked st w = record { flow = flow st w.flow; found = faults st w.flow w.found }
 
 abbrev pub walked_all : Stmts ℕ → Walk → Walk
 walked_all ss w = record { flow = flow_all ss w.flow; found = faults_all ss w.flow w.found }
+
+-- behind the test of an `if`
+abbrev pub tested : Expr ℕ → Walk → Walk
+tested e w = record w { found = expr_faults w.flow.here [] e w.found }
+
+-- at the second block of an `if`
+abbrev pub begun_else : Marks → Walk → Walk
+begun_else s first = record first { flow = otherwise s first.flow }
+
+-- behind both blocks of an `if`
+abbrev pub ended_if : Marks → Walk → Walk
+ended_if s second = record second { flow = rejoined s second.flow }
+
+-- where the body of a loop begins
+abbrev pub begun_loop : Expr ℕ → List (Expr ℕ) → Stmts ℕ → Walk → Walk
+begun_loop e invariants body w =
+    let s = head w.flow.here (flow_all body alone) in record { flow = from_here s; found = expr_faults s [] e (clauses_faults s invariants w.found) }
 
 -- where the body begins
 abbrev pub entry : tree.Routine ℕ → Marks

@@ -119,6 +119,24 @@ pub fn continued(alloc: Global, flow: Flow) -> Result<Flow, AllocError>
     })
 }
 
+/// Where the second block of an `if` begins, and the marks with which the first one ended.
+pub fn otherwise(before: Marks, first: Flow) -> (Marks, Flow)
+    ensures ended { result.0 ≡ first.here }
+    ensures begun { result.1 ≡ spec.otherwise before first }
+{
+    let Flow {
+        here,
+        breaks,
+        continues,
+    } = first;
+    let begun = Flow {
+        here: before,
+        breaks,
+        continues,
+    };
+    (here, begun)
+}
+
 /// Behind both blocks of an `if`, of which the first ends with these marks.
 pub fn rejoined(alloc: Global, first: Marks, second: Flow) -> Result<Flow, AllocError>
     ensures value { IfOk result (λ f. f ≡ spec.rejoined first second) }
@@ -150,7 +168,7 @@ pub fn head(alloc: Global, before: Marks, turn: Flow) -> Result<(Marks, Marks), 
     Ok((before, breaks))
 }
 
-/// Behind a loop, whose head has these marks and whose `break`s leave those.
+/// Behind a loop whose head has these marks and whose `break`s leave those.
 pub fn exit(alloc: Global, head: Marks, breaks: Marks) -> Result<Marks, AllocError>
     ensures value { IfOk result (λ m. m ≡ spec.exit head breaks) }
 {

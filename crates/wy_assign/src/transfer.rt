@@ -3,7 +3,9 @@ ghost use Rattle.std.specs.Prelude.{◌≡◌, IfOk};
 ghost use Rattle.wy_core.specs.CoreSeen.{seen_block, seen_stmt};
 ghost use Rattle.wy_assign.specs.Flows as spec;
 
-use crate::flow::{Flow, assign, broken, continued, declare, exit, from_here, head, left, rejoined};
+use crate::flow::{
+    Flow, assign, broken, continued, declare, exit, from_here, head, left, otherwise, rejoined,
+};
 use crate::marks::Marks;
 use std::alloc::{AllocError, Global};
 use wy_core::{Stmt, StmtKind};
@@ -27,16 +29,7 @@ fn flow_stmt(alloc: Global, stmt: &Stmt, flow: Flow) -> Result<Flow, AllocError>
         StmtKind::If(_, first, second) => {
             let before = flow.here.copy(alloc)?;
             let first = flow_block(alloc, first.as_slice(), flow)?;
-            let Flow {
-                here,
-                breaks,
-                continues,
-            } = first;
-            let start = Flow {
-                here: before,
-                breaks,
-                continues,
-            };
+            let (here, start) = otherwise(before, first);
             let second = flow_block(alloc, second.as_slice(), start)?;
             rejoined(alloc, here, second)
         }
