@@ -31,8 +31,10 @@ ending_of E A s k b = let c = b.1 in (c.0, c.1, c.3.1, c.4)
 
 -- a value is given behind it
 pub value_to : (x : ℕ) (A : Through) (s : Marks) (k : ℕ) → Calm A → Sane s → SomeUse A (has s) k → Bad (Ending Falls (Then A (One (Sets x)))) s k
-value_to x A s k a sane h = (sane (Some h.0) (uses_quiet h.0 k (has s h.0) h.1 (a.quiet h.1 h.2) h.3),
-    (h.0, h.1 ++ Sets x ∷ [], Falls, (refl, (h.1, Sets x ∷ [], refl, h.2, refl)), uses_left h.0 k (has s h.0) h.1 (Sets x ∷ []) h.3))
+value_to x A s k a sane h = (
+  sane (Some h.0) (uses_quiet h.0 k (has s h.0) h.1 (a.quiet h.1 h.2) h.3),
+  (h.0, h.1 ++ Sets x ∷ [], Falls, (refl, (h.1, Sets x ∷ [], refl, h.2, refl)), uses_left h.0 k (has s h.0) h.1 (Sets x ∷ []) h.3),
+)
 
 pub value_of : (x : ℕ) (A : Through) (s : Marks) (k : ℕ) → Bad (Ending Falls (Then A (One (Sets x)))) s k → SomeUse A (has s) k
 value_of x A s k b =
@@ -55,8 +57,10 @@ before_of A C s k a b =
 
 pub before_to : (A : Through) (C : Course) (s : Marks) (k : ℕ) → Calm A → Sane s → HasPath C → SomeUse A (has s) k ⊎ Bad C s k → Bad (Before A C) s k
 before_to A C s k a sane way e = either
-    (λ (h : SomeUse A (has s) k). (sane (Some h.0) (uses_quiet h.0 k (has s h.0) h.1 (a.quiet h.1 h.2) h.3),
-        (h.0, h.1 ++ way.0, way.1, (h.1, way.0, refl, h.2, way.2), uses_left h.0 k (has s h.0) h.1 way.0 h.3)))
+    (λ (h : SomeUse A (has s) k). (
+      sane (Some h.0) (uses_quiet h.0 k (has s h.0) h.1 (a.quiet h.1 h.2) h.3),
+      (h.0, h.1 ++ way.0, way.1, (h.1, way.0, refl, h.2, way.2), uses_left h.0 k (has s h.0) h.1 way.0 h.3),
+    ))
     (λ (b : Bad C s k). let c = b.1 in (b.0, (c.0, a.some ++ c.1, c.2, (a.some, c.1, refl, a.is_some, c.3), after_reads c.0 k (has s c.0) A a c.1 c.4))) e
 
 pub either_of : (C D : Course) (s : Marks) (k : ℕ) → Bad (Either C D) s k → Bad C s k ⊎ Bad D s k
@@ -94,18 +98,27 @@ pub in_order_to : (C D : Course) (f g : Flow) (k : ℕ) → ((w : Option ℕ) �
 in_order_to C D f g k t d e = either
     (λ (b : Bad C f.here k). let c = b.1 in first_to C D f.here k c.0 c.1 c.2 d b.0 c.3 c.4)
     (λ (b : Bad D g.here k).
-        let c = b.1 in let q = leads C f g c.0 t b.0 in
-        (((t None).here_of b.0).0, (c.0, q.0 ++ c.1, c.2, inr (q.0, c.1, refl, q.1, c.3),
-        uses_right c.0 k (has f.here c.0) q.0 c.1 (uses_more c.0 k (has g.here c.0) (unset_behind c.0 (has f.here c.0) q.0) c.1 q.2 c.4)))) e
+    let c = b.1 in let q = leads C f g c.0 t b.0 in (
+      ((t None).here_of b.0).0,
+      (
+        c.0,
+        q.0 ++ c.1,
+        c.2,
+        inr (q.0, c.1, refl, q.1, c.3),
+        uses_right c.0 k (has f.here c.0) q.0 c.1 (uses_more c.0 k (has g.here c.0) (unset_behind c.0 (has f.here c.0) q.0) c.1 q.2 c.4),
+      ),
+    )) e
 
 pub in_order_of : (C D : Course) (f g : Flow) (k : ℕ) → ((w : Option ℕ) → Tells w C f g) → Bad (InOrder C D) f.here k → Bad C f.here k ⊎ Bad D g.here k
 in_order_of C D f g k t b =
     let c = b.1 in let u = has f.here c.0 in
     either (λ h. inl (b.0, (c.0, c.1, c.2, h.1, c.4)))
     (λ h. either (λ e. inl (b.0, (c.0, h.0, Falls, h.3, e)))
-        (λ e. inr ((t None).here_to (b.0, (h.0, h.3, b.0)),
-            (c.0, h.1, c.2, h.4, uses_more c.0 k (unset_behind c.0 u h.0) (has g.here c.0) h.1 (λ z. (t (Some c.0)).here_to (b.0, (h.0, h.3, z))) e)))
-        (uses_split c.0 k u h.0 h.1 (subst (λ p. UsesUnset c.0 k u p) h.2 c.4)))
+    (λ e. inr (
+      (t None).here_to (b.0, (h.0, h.3, b.0)),
+      (c.0, h.1, c.2, h.4, uses_more c.0 k (unset_behind c.0 u h.0) (has g.here c.0) h.1 (λ z. (t (Some c.0)).here_to (b.0, (h.0, h.3, z))) e),
+    ))
+    (uses_split c.0 k u h.0 h.1 (subst (λ p. UsesUnset c.0 k u p) h.2 c.4)))
     c.3
 
 -- ---- loops
@@ -116,17 +129,17 @@ loop_uses zero x k u H C s turn p end a sane st t r m c h = inl (x, p, c.1, uses
 loop_uses (suc n) x k u H C s turn p end a sane st t r m c h = either
     (λ e. inl (x, c.0, c.3, uses_more x k u (has (head s turn) x) c.0 m e))
     (λ e. either
-        (λ b. inr (hr, (x, c.1, Breaks, b.1, uses_more x k (unset_behind x u c.0) (has (head s turn) x) c.1 mv e)))
-        (λ l. either
-            (λ b. inr (hr, (x, c.1, Leaves, b.1, uses_more x k (unset_behind x u c.0) (has (head s turn) x) c.1 mv e)))
-            (λ b. either
-                (λ i. either
-                    (λ g. inr (hr, (x, b.0, Falls, g, uses_more x k (unset_behind x u c.0) (has (head s turn) x) b.0 mv i)))
-                    (λ g. inr (hr, (x, b.0, Continues, g, uses_more x k (unset_behind x u c.0) (has (head s turn) x) b.0 mv i))) b.3)
-                (λ i. loop_uses n x k (unset_behind x (unset_behind x u c.0) b.0) H C s turn b.1 end a sane st t r
-                    (λ z. either mv (λ d. head_to (Some x) s turn sane st r (inr (turn_to (Some x) C turn (t (Some x)) b.0 b.3 d))) (split (Some x) (unset_behind x u c.0) b.0 z)) b.4 i)
-                (uses_split x k (unset_behind x u c.0) b.0 b.1 (subst (λ z. UsesUnset x k (unset_behind x u c.0) z) b.2 e))) l)
-        c.4)
+    (λ b. inr (hr, (x, c.1, Breaks, b.1, uses_more x k (unset_behind x u c.0) (has (head s turn) x) c.1 mv e)))
+    (λ l. either
+    (λ b. inr (hr, (x, c.1, Leaves, b.1, uses_more x k (unset_behind x u c.0) (has (head s turn) x) c.1 mv e)))
+    (λ b. either
+    (λ i. either
+    (λ g. inr (hr, (x, b.0, Falls, g, uses_more x k (unset_behind x u c.0) (has (head s turn) x) b.0 mv i)))
+    (λ g. inr (hr, (x, b.0, Continues, g, uses_more x k (unset_behind x u c.0) (has (head s turn) x) b.0 mv i))) b.3)
+    (λ i. loop_uses n x k (unset_behind x (unset_behind x u c.0) b.0) H C s turn b.1 end a sane st t r
+    (λ z. either mv (λ d. head_to (Some x) s turn sane st r (inr (turn_to (Some x) C turn (t (Some x)) b.0 b.3 d))) (split (Some x) (unset_behind x u c.0) b.0 z)) b.4 i)
+    (uses_split x k (unset_behind x u c.0) b.0 b.1 (subst (λ z. UsesUnset x k (unset_behind x u c.0) z) b.2 e))) l)
+    c.4)
     (uses_split x k u c.0 c.1 (subst (λ z. UsesUnset x k u z) c.2 h))
   where
     mv : unset_behind x u c.0 ≡ true → has (head s turn) x ≡ true
@@ -172,9 +185,16 @@ turn_use H C s turn x k p end a f r c h = by end c
         (uses_more x k (has (head s turn) x) (unset_behind x (has s x) f.events) z f.unset e))
 
     again : Goes C p → Bad (Loop H C) s k
-    again g = (r, (x, f.events ++ (a.some ++ (p ++ a.some)), Falls,
+    again g = (
+      r,
+      (
+        x,
+        f.events ++ (a.some ++ (p ++ a.some)),
+        Falls,
         f.goes_on 1 (a.some ++ (p ++ a.some)) Falls (a.some, p ++ a.some, refl, a.is_some, inr (inr (p, a.some, refl, g, (refl, a.is_some)))),
-        begun (p ++ a.some) (uses_left x k (has (head s turn) x) p a.some h)))
+        begun (p ++ a.some) (uses_left x k (has (head s turn) x) p a.some h),
+      ),
+    )
 
     by : (how : End) → C p how → Bad (Loop H C) s k
     by Falls g = again (inl g)
@@ -186,10 +206,17 @@ pub loop_to : (H : Through) (C : Course) (s : Marks) (turn : Flow) (k : ℕ) →
     → SomeUse H (has (head s turn)) k ⊎ Bad C (head s turn) k → Bad (Loop H C) s k
 loop_to H C s turn k a sane st t e = either
     (λ (h : SomeUse H (has (head s turn)) k).
-        let r = head_reached None s turn sane (sane_head s turn sane st (Some h.0) (uses_quiet h.0 k (has (head s turn) h.0) h.1 (a.quiet h.1 h.2) h.3)) in
-        let f = prefix H C s turn h.0 a sane st (t (Some h.0)) r in
-        (r, (h.0, f.events ++ h.1, Falls, f.goes_on 0 h.1 Falls (refl, h.2),
-        uses_right h.0 k (has s h.0) f.events h.1 (uses_more h.0 k (has (head s turn) h.0) (unset_behind h.0 (has s h.0) f.events) h.1 f.unset h.3))))
+    let r = head_reached None s turn sane (sane_head s turn sane st (Some h.0) (uses_quiet h.0 k (has (head s turn) h.0) h.1 (a.quiet h.1 h.2) h.3)) in
+    let f = prefix H C s turn h.0 a sane st (t (Some h.0)) r in (
+      r,
+      (
+        h.0,
+        f.events ++ h.1,
+        Falls,
+        f.goes_on 0 h.1 Falls (refl, h.2),
+        uses_right h.0 k (has s h.0) f.events h.1 (uses_more h.0 k (has (head s turn) h.0) (unset_behind h.0 (has s h.0) f.events) h.1 f.unset h.3),
+      ),
+    ))
     (λ (b : Bad C (head s turn) k).
-        let c = b.1 in let r = head_reached None s turn sane b.0 in
-        turn_use H C s turn c.0 k c.1 c.2 a (prefix H C s turn c.0 a sane st (t (Some c.0)) r) r c.3 c.4) e
+    let c = b.1 in let r = head_reached None s turn sane b.0 in
+    turn_use H C s turn c.0 k c.1 c.2 a (prefix H C s turn c.0 a sane st (t (Some c.0)) r) r c.3 c.4) e

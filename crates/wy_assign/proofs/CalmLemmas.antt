@@ -66,7 +66,7 @@ mutual
   calm_expr (QuantExpr at all x a b body) =
       let turn = Then (One (Sets x)) (ExprPath body) in
       calm_then (ExprPath a) (Then (ExprPath b) (AnyTimes turn)) (calm_expr a)
-          (calm_then (ExprPath b) (AnyTimes turn) (calm_expr b) (calm_times turn (then_quiet (One (Sets x)) (ExprPath body) (set_quiet x) (calm_expr body).quiet)))
+      (calm_then (ExprPath b) (AnyTimes turn) (calm_expr b) (calm_times turn (then_quiet (One (Sets x)) (ExprPath body) (set_quiet x) (calm_expr body).quiet)))
 
   pub calm_exprs : (es : Exprs ℕ) → Calm (ExprsPath es)
   calm_exprs NoExprs = calm_nothing

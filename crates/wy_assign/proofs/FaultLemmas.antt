@@ -71,8 +71,8 @@ fault_assign at x (step ∷ steps) e s P o sane l =
     let S = StepsPath (step ∷ steps) in let V = ExprPath e in
     least_ending P Falls (Then (One (Uses at x)) (Then S V)) s o3 (calm_update at x (step ∷ steps) e) sane
     (least_then P (One (Uses at x)) (Then S V) (has s) o3 (calm_one at x) (calm_then S V (calm_steps (step ∷ steps)) (calm_expr e))
-        (least_then PU S V (has s) o3 (calm_steps (step ∷ steps)) (calm_expr e)
-            (fault_expr e s [] (λ k. PU k ⊎ SomeUse S (has s) k) o2 (fault_steps (step ∷ steps) s PU o1 (fault_use at x s P o l)))))
+    (least_then PU S V (has s) o3 (calm_steps (step ∷ steps)) (calm_expr e)
+    (fault_expr e s [] (λ k. PU k ⊎ SomeUse S (has s) k) o2 (fault_steps (step ∷ steps) s PU o1 (fault_use at x s P o l)))))
 
 -- an `if`: its test, and either block
 least_if : (P : ℕ → Type 0) (A : Through) (C D : Course) (s : Marks) (o : Option ℕ) → Calm A → Sane s → HasPath C
@@ -81,7 +81,7 @@ least_if P A C D s o a sane way l =
     least_two P (λ k. SomeUse A (has s) k) (λ k. Bad (Either C D) s k) (λ k. Bad (Before A (Either C D)) s k) o
     (λ k. before_to A (Either C D) s k a sane (way.0, way.1, inl way.2)) (λ k. before_of A (Either C D) s k a)
     (least_two (λ k. P k ⊎ SomeUse A (has s) k) (λ k. Bad C s k) (λ k. Bad D s k) (λ k. Bad (Either C D) s k) o
-        (λ k. either_to C D s k) (λ k. either_of C D s k) l)
+    (λ k. either_to C D s k) (λ k. either_of C D s k) l)
 
 mutual
   pub fault_stmt : (st : Stmt ℕ) (f : Flow) (P : ℕ → Type 0) (o : Option ℕ) → Sound f → Least P o → Least (λ k. P k ⊎ Bad (StmtPath st) f.here k) (faults st f o)
@@ -117,7 +117,7 @@ mutual
       (λ k. loop_to H (StmtsPath body) f.here turn k ch s.here st (tells_all body alone sound_alone))
       (λ k. loop_of H (StmtsPath body) f.here turn k ch s.here st (tells_all body alone sound_alone))
       (fault_all body (from_here h) (λ k. P k ⊎ SomeUse H (has h) k) o2 (sound_from h sh)
-          (least_then P I (ExprPath e) (has h) o2 ci (calm_expr e) (fault_expr e h [] (λ k. P k ⊎ SomeUse I (has h) k) o1 (fault_clauses invariants h P o l))))
+      (least_then P I (ExprPath e) (has h) o2 ci (calm_expr e) (fault_expr e h [] (λ k. P k ⊎ SomeUse I (has h) k) o1 (fault_clauses invariants h P o l))))
 
   pub fault_all : (ss : Stmts ℕ) (f : Flow) (P : ℕ → Type 0) (o : Option ℕ) → Sound f → Least P o → Least (λ k. P k ⊎ Bad (StmtsPath ss) f.here k) (faults_all ss f o)
   fault_all NoStmts f P o s l = least_idle P Falls f.here o l

@@ -105,14 +105,14 @@ calm_tells w A f a sane = falling w (Ending Falls A) f f.here (λ p end c. c.0)
 set_tells : (w : Option ℕ) (x : ℕ) (f : Flow) → Sane f.here → Tells w (Ending Falls (One (Sets x))) f (record f { here = assigned f.here x })
 set_tells w x f sane = falling w (Ending Falls (One (Sets x))) f (assigned f.here x) (λ p end c. c.0)
     (λ h. let b : behind w (holds w f.here) (Sets x ∷ []) ≡ true = sym (holds-assigned w f.here x) ∙ h in
-        (sane w (behind_quiet w (holds w f.here) (Sets x ∷ []) tt b), (Sets x ∷ [], (refl, refl), b)))
+    (sane w (behind_quiet w (holds w f.here) (Sets x ∷ []) tt b), (Sets x ∷ [], (refl, refl), b)))
     (λ c. holds-assigned w f.here x ∙ subst (λ z. behind w (holds w f.here) z ≡ true) c.1.1.1 c.1.2)
 
 pub unset_tells : (w : Option ℕ) (x : ℕ) (f : Flow) → Sane f.here → Tells w (Ending Falls (One (Unsets x))) f (record f { here = declared f.here x })
 unset_tells w x f sane = falling w (Ending Falls (One (Unsets x))) f (declared f.here x) (λ p end c. c.0)
     (λ h. by_truth f.here.reached (λ t. f.here.reached ≡ t → Comes w (Ending Falls (One (Unsets x))) f.here Falls)
-        (λ _ r. (r, (Unsets x ∷ [], (refl, refl), sym (holds-declared w f.here x r) ∙ h)))
-        (λ _ r. never (sym (dead-declared w f.here x sane r) ∙ h)) refl)
+    (λ _ r. (r, (Unsets x ∷ [], (refl, refl), sym (holds-declared w f.here x r) ∙ h)))
+    (λ _ r. never (sym (dead-declared w f.here x sane r) ∙ h)) refl)
     (λ c. holds-declared w f.here x c.0 ∙ subst (λ z. behind w (holds w f.here) z ≡ true) c.1.1.1 c.1.2)
 
 pub left_tells : (w : Option ℕ) (A : Through) (f : Flow) → Tells w (Ending Leaves A) f (left f)
@@ -198,15 +198,17 @@ next_of : (w : Option ℕ) (C D : Course) (f g : Flow) (end : End) → Tells w C
 next_of w C D f g end t n d = by_truth (holds w g.here) (λ b. holds w g.here ≡ b → Comes w (InOrder C D) f.here end)
     (λ _ e. let c = t.here_of e in joint c.1.0 c.0 c.1.1 (subst (λ z. behind w z d.1.0 ≡ true) (e ∙ sym c.1.2) d.1.2))
     (λ _ e. let c = n.here_of d.0 in
-        joint c.1.0 c.0 c.1.1 (behind_more w false (behind w (holds w f.here) c.1.0) d.1.0 (λ z. never z) (subst (λ z. behind w z d.1.0 ≡ true) e d.1.2))) refl
+    joint c.1.0 c.0 c.1.1 (behind_more w false (behind w (holds w f.here) c.1.0) d.1.0 (λ z. never z) (subst (λ z. behind w z d.1.0 ≡ true) e d.1.2))) refl
   where
     joint : (q : List Event) → f.here.reached ≡ true → C q Falls → behind w (behind w (holds w f.here) q) d.1.0 ≡ true → Comes w (InOrder C D) f.here end
     joint q r c h = (r, (q ++ d.1.0, inr (q, d.1.0, refl, c, d.1.1), behind-append w (holds w f.here) q d.1.0 ∙ h))
 
 next_to : (w : Option ℕ) (C D : Course) (f g : Flow) (end : End) (p q r : List Event) → Tells w C f g → Tells None C f g → f.here.reached ≡ true → p ≡ q ++ r → C q Falls → D r end
     → behind w (holds w f.here) p ≡ true → Comes w D g.here end
-next_to w C D f g end p q r t n reached e c d h = (n.here_to (reached, (q, c, reached)),
-    (r, d, behind_more w (behind w (holds w f.here) q) (holds w g.here) r (λ k. t.here_to (reached, (q, c, k))) (cut w (holds w f.here) p q r e h)))
+next_to w C D f g end p q r t n reached e c d h = (
+  n.here_to (reached, (q, c, reached)),
+  (r, d, behind_more w (behind w (holds w f.here) q) (holds w g.here) r (λ k. t.here_to (reached, (q, c, k))) (cut w (holds w f.here) p q r e h)),
+)
 
 pub in_order_tells : (w : Option ℕ) (C D : Course) (f g h : Flow) → Tells w C f g → Tells None C f g → Tells w D g h → Tells w (InOrder C D) f h
 in_order_tells w C D f g h t n u = record {

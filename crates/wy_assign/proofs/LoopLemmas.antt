@@ -27,7 +27,7 @@ head_of w s turn sane t = by_truth s.reached (λ b. holds w (cond b (joined (joi
 pub head_to : (w : Option ℕ) (s : Marks) (turn : Flow) → Sane s → Sound turn → s.reached ≡ true → (holds w s ≡ true) ⊎ Turned w turn → holds w (head s turn) ≡ true
 head_to w s turn sane t r h = ap (λ b. holds w (cond b (joined (joined s turn.here) turn.continues) s)) r
     ∙ joined_to w (joined s turn.here) turn.continues (sane_joined s turn.here sane t.here) t.continues
-        (either (λ k. inl (joined_to w s turn.here sane t.here (inl k))) (λ k. either (λ l. inl (joined_to w s turn.here sane t.here (inr l))) (λ l. inr l) k) h)
+    (either (λ k. inl (joined_to w s turn.here sane t.here (inl k))) (λ k. either (λ l. inl (joined_to w s turn.here sane t.here (inr l))) (λ l. inr l) k) h)
 
 pub sane_head : (s : Marks) (turn : Flow) → Sane s → Sound turn → Sane (head s turn)
 sane_head s turn sane t w h = head_to None s turn sane t (head_reached w s turn sane h) (inl (head_reached w s turn sane h))
@@ -72,10 +72,15 @@ pub loop_stay : (w : Option ℕ) (H : Through) (C : Course) (s : Marks) → Calm
 loop_stay w H C s a sane h = (sane w h, (a.some, (0, (refl, a.is_some)), behind_reads w (holds w s) a.some a.reads ∙ h))
 
 loop_turn : (w : Option ℕ) (H : Through) (C : Course) (s : Marks) → Calm H → s.reached ≡ true → (q : List Event) → Goes C q → behind w (holds w all_set) q ≡ true → Comes w (Loop H C) s Falls
-loop_turn w H C s a r q c h =
-    (r, (a.some ++ (q ++ a.some), (1, (a.some, q ++ a.some, refl, a.is_some, inr (inr (q, a.some, refl, c, (refl, a.is_some))))),
+loop_turn w H C s a r q c h = (
+  r,
+  (
+    a.some ++ (q ++ a.some),
+    (1, (a.some, q ++ a.some, refl, a.is_some, inr (inr (q, a.some, refl, c, (refl, a.is_some))))),
     add_reads w (holds w s) a.some (q ++ a.some) a.reads
-        (behind-append w (holds w s) q a.some ∙ behind_reads w (behind w (holds w s) q) a.some a.reads ∙ behind_more w (holds w all_set) (holds w s) q (at_least w s r) h)))
+        (behind-append w (holds w s) q a.some ∙ behind_reads w (behind w (holds w s) q) a.some a.reads ∙ behind_more w (holds w all_set) (holds w s) q (at_least w s r) h),
+  ),
+)
 
 loop_break : (w : Option ℕ) (H : Through) (C : Course) (s : Marks) → Calm H → s.reached ≡ true → (q : List Event) → C q Breaks → behind w (holds w all_set) q ≡ true → Comes w (Loop H C) s Falls
 loop_break w H C s a r q c h =
@@ -106,10 +111,10 @@ turns_to w (suc n) u H C turn p a t k h =
     either
     (λ b. either (λ e. inl e) (λ e. inr (inr (t.breaks_to (inr (refl, (k.1, b.1, e)))))) (split w u k.1 r))
     (λ m. either (λ l. absurd (falls_not_leaves l.0))
-        (λ l. either
-            (λ e. either (λ d. inl d) (λ d. inr (inl (turn_to w C turn t l.0 l.3 d))) (split w u l.0 e))
-            (λ e. inr e)
-            (turns_to w n (behind w u l.0) H C turn l.1 a t l.4 (cut w u k.1 l.0 l.1 l.2 r))) m)
+    (λ l. either
+    (λ e. either (λ d. inl d) (λ d. inr (inl (turn_to w C turn t l.0 l.3 d))) (split w u l.0 e))
+    (λ e. inr e)
+    (turns_to w n (behind w u l.0) H C turn l.1 a t l.4 (cut w u k.1 l.0 l.1 l.2 r))) m)
     k.4
   where
     falls_not_leaves : Falls ≡ Leaves → ⊥
@@ -123,10 +128,10 @@ loop_tells w H C f turn a sf st t =
           let e = exit_of w (head f.here turn) turn.breaks sh st.breaks h in
           let r = head_reached None f.here turn sf.here e.0 in
           either (λ k. either (λ l. loop_stay w H C f.here a sf.here l) (λ l. let q = turn_of w C turn t l in loop_turn w H C f.here a r q.0 q.1 q.2) (head_of w f.here turn sf.here st k))
-              (λ k. let q = break_of w C turn t k in loop_break w H C f.here a r q.0 q.1 q.2) e.1;
+          (λ k. let q = break_of w C turn t k in loop_break w H C f.here a r q.0 q.1 q.2) e.1;
       here_to = λ c. exit_to w (head f.here turn) turn.breaks sh st.breaks (head_to None f.here turn sf.here st c.0 (inl c.0))
           (either (λ e. inl (head_to w f.here turn sf.here st c.0 (inl e))) (λ e. either (λ d. inl (head_to w f.here turn sf.here st c.0 (inr d))) (λ d. inr d) e)
-              (turns_to w c.1.1.0 (holds w f.here) H C turn c.1.0 a t c.1.1.1 c.1.2));
+          (turns_to w c.1.1.0 (holds w f.here) H C turn c.1.0 a t c.1.1.1 c.1.2));
       breaks_of = λ h. inl h;
       breaks_to = λ h. either (λ e. e) (λ (c : Comes w (Loop H C) f.here Breaks). either (λ e. absurd (breaks_falls e)) (λ e. absurd (no_break e)) (turns_end c.1.1.0 H C c.1.0 Breaks c.1.1.1)) h;
       continues_of = λ h. inl h;

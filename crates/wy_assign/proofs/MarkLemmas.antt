@@ -91,8 +91,8 @@ or_not_false false = refl
 has-declared : (s : Marks) (x y : ℕ) → s.reached ≡ true → has (declared s y) x ≡ cond (x == y) true (has s x)
 has-declared s x y r = ap (λ t. has (cond (has s y || not t) s (put s y true)) x) r ∙ ap (λ t. has (cond t s (put s y true)) x) (or_not_true (has s y))
     ∙ by_truth (has s y) (λ t. has s y ≡ t → has (cond t s (put s y true)) x ≡ cond (x == y) true (has s x))
-        (λ _ h. by_same x y (λ t. has s x ≡ cond t true (has s x)) (λ e. ap (λ z. has s z) e ∙ h) (λ _. refl))
-        (λ _ _. has-put s x y true) refl
+    (λ _ h. by_same x y (λ t. has s x ≡ cond t true (has s x)) (λ e. ap (λ z. has s z) e ∙ h) (λ _. refl))
+    (λ _ _. has-put s x y true) refl
 
 pub holds-declared : (w : Option ℕ) (s : Marks) (y : ℕ) → s.reached ≡ true → holds w (declared s y) ≡ behind w (holds w s) (Unsets y ∷ [])
 holds-declared None s y r = reached-cond_not (has s y || not s.reached) s y true
@@ -113,7 +113,7 @@ either_at a b zero x d h = absurd (omega arith)
 either_at a b (suc n) x d h = by_same x n (λ t. (x == n) ≡ t → get_or (either_bits a b (suc n)) x d ≡ (has a x || has b x))
     (λ e _. subst (λ z. get_or (either_bits a b n ++ (has a n || has b n) ∷ []) z d ≡ (has a z || has b z)) (sym e) (get_or_push (either_bits a b n) (has a n || has b n) d n (length-either a b n)))
     (λ ne _. let l = length-either a b n in let lt : x < length (either_bits a b n) = omega arith in
-        get_or_append_left (either_bits a b n) ((has a n || has b n) ∷ []) d x lt ∙ either_at a b n x d (omega arith)) refl
+    get_or_append_left (either_bits a b n) ((has a n || has b n) ∷ []) d x lt ∙ either_at a b n x d (omega arith)) refl
 
 pub lt_true : (a b : ℕ) → nat_lt a b ≡ true → a < b
 lt_true a b h = first_of (grind (arith, nat_tests), search arith)
@@ -140,11 +140,11 @@ has-both a b x =
     let r = longer_right (length a.bits) (length b.bits) in
     either (λ (h : x < n). either_at a b n x (a.others || b.others) h)
     (λ (h : n ≤ x).
-        let la : length a.bits ≤ x = omega arith in
-        let lb : length b.bits ≤ x = omega arith in
-        let ln : length (either_bits a b n) ≤ x = (let e = length-either a b n in omega arith) in
-        get_or_past (either_bits a b n) x (a.others || b.others) ln
-        ∙ sym (ap (λ p. p || has b x) (get_or_past a.bits x a.others la) ∙ ap (λ p. a.others || p) (get_or_past b.bits x b.others lb)))
+    let la : length a.bits ≤ x = omega arith in
+    let lb : length b.bits ≤ x = omega arith in
+    let ln : length (either_bits a b n) ≤ x = (let e = length-either a b n in omega arith) in
+    get_or_past (either_bits a b n) x (a.others || b.others) ln
+    ∙ sym (ap (λ p. p || has b x) (get_or_past a.bits x a.others la) ∙ ap (λ p. a.others || p) (get_or_past b.bits x b.others lb)))
     (at_or_past x n)
 
 or_false : (b : Bool) → (b || false) ≡ b
@@ -154,7 +154,7 @@ or_false false = refl
 pub holds-joined : (w : Option ℕ) (a b : Marks) → Sane a → Sane b → holds w (joined a b) ≡ (holds w a || holds w b)
 holds-joined w a b sa sb = by_truth b.reached (λ t. b.reached ≡ t → holds w (cond t (cond a.reached (both a b) b) a) ≡ (holds w a || holds w b))
     (λ _ rb. by_truth a.reached (λ t. a.reached ≡ t → holds w (cond t (both a b) b) ≡ (holds w a || holds w b))
-        (λ _ ra. met w ra) (λ _ ra. sym (ap (λ p. p || holds w b) (dead w a sa ra))) refl)
+    (λ _ ra. met w ra) (λ _ ra. sym (ap (λ p. p || holds w b) (dead w a sa ra))) refl)
     (λ _ rb. sym (ap (λ p. holds w a || p) (dead w b sb rb) ∙ or_false (holds w a))) refl
   where
     met : (v : Option ℕ) → a.reached ≡ true → holds v (both a b) ≡ (holds v a || holds v b)

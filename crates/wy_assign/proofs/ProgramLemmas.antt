@@ -73,7 +73,7 @@ least_routine r P o l =
     let l1 : Least P1 o1 = from_start P (ClausesPath r.preconditions) s u o1 (has-entry r) (fault_clauses r.preconditions s P o l) in
     let l2 : Least P2 o2 = from_start P1 (ClausesPath r.postconditions) t v o2 (has-option s (result_variable r.result) u (has-entry r)) (fault_clauses r.postconditions t P1 o1 l1) in
     let l3 : Least (λ k. P2 k ⊎ Body k) (routine_faults r o) = least_one P2 (λ k. Bad (StmtsPath r.body) s k) Body (routine_faults r o) (body_to r) (body_of r)
-        (fault_all r.body (from_here s) P2 o2 (sound_from s (sane_entry r)) l2) in
+    (fault_all r.body (from_here s) P2 o2 (sound_from s (sane_entry r)) l2) in
     least_two P Pre (λ k. Post k ⊎ Body k) (UnsetInRoutine r) (routine_faults r o) (λ k h. h) (λ k h. h)
     (least_two P1 Post Body (λ k. Post k ⊎ Body k) (routine_faults r o) (λ k h. h) (λ k h. h) l3)
 
@@ -97,9 +97,9 @@ ends_of r h =
     either
     (λ e. let c = t.here_of e in (c.1.0, Falls, c.1.1, refl))
     (λ e. either
-        (λ d. either (λ z. never z) (λ (c : Comes None (StmtsPath r.body) (entry r) Breaks). (c.1.0, Breaks, c.1.1, refl)) (t.breaks_of d))
-        (λ d. either (λ z. never z) (λ (c : Comes None (StmtsPath r.body) (entry r) Continues). (c.1.0, Continues, c.1.1, refl)) (t.continues_of d))
-        (or_cases g.breaks.reached g.continues.reached e))
+    (λ d. either (λ z. never z) (λ (c : Comes None (StmtsPath r.body) (entry r) Breaks). (c.1.0, Breaks, c.1.1, refl)) (t.breaks_of d))
+    (λ d. either (λ z. never z) (λ (c : Comes None (StmtsPath r.body) (entry r) Continues). (c.1.0, Continues, c.1.1, refl)) (t.continues_of d))
+    (or_cases g.breaks.reached g.continues.reached e))
     (or_cases g.here.reached (g.breaks.reached || g.continues.reached) h)
 
 ends_by : (r : tree.Routine ℕ) (p : List Event) (end : End) → StmtsPath r.body p end → leaves end ≡ false → is_open (flow_all r.body (from_here (entry r))) ≡ true

@@ -79,9 +79,12 @@ times_use (suc n) x k y v A f p t h =
     either
     (λ e. (s.1, s.4, subst (λ z. UsesUnset x k v z) whole e))
     (λ e.
-        let more = times_use n x k y (unset_behind x v t.0) A f t.1 t.4 e in
-        (more.0, more.1, uses_more x k (cond (x == y) false (unset_behind x v t.0)) (cond (x == y) false v) more.0
-            (cond_more (x == y) false (unset_behind x v t.0) v (behind_quiet (Some x) v t.0 (then_quiet (One (Sets y)) A (set_quiet y) f t.0 s))) more.2))
+    let more = times_use n x k y (unset_behind x v t.0) A f t.1 t.4 e in (
+      more.0,
+      more.1,
+      uses_more x k (cond (x == y) false (unset_behind x v t.0)) (cond (x == y) false v) more.0
+          (cond_more (x == y) false (unset_behind x v t.0) v (behind_quiet (Some x) v t.0 (then_quiet (One (Sets y)) A (set_quiet y) f t.0 s))) more.2,
+    ))
     (uses_split x k v t.0 t.1 (subst (λ z. UsesUnset x k v z) t.2 h))
 
 quant_of : (A : Through) (u : ℕ → Bool) (y k : ℕ) → Calm A → SomeUse (AnyTimes (Turn y A)) u k → SomeUse A (given u y) k
@@ -140,8 +143,8 @@ mutual
       let u = may_be_unset s bound in let o1 = expr_faults s bound a o in let o2 = expr_faults s bound b o1 in let B = Maybe (is_early op) (ExprPath b) in
       least_then P (ExprPath a) B u o2 (calm_expr a) (calm_maybe (is_early op) (ExprPath b) (calm_expr b))
       (least_one (λ k. P k ⊎ SomeUse (ExprPath a) u k) (λ k. SomeUse (ExprPath b) u k) (λ k. SomeUse B u k) o2
-          (λ k. maybe_to (is_early op) (ExprPath b) u k) (λ k. maybe_of (is_early op) (ExprPath b) u k)
-          (fault_expr b s bound (λ k. P k ⊎ SomeUse (ExprPath a) u k) o1 (fault_expr a s bound P o l)))
+      (λ k. maybe_to (is_early op) (ExprPath b) u k) (λ k. maybe_of (is_early op) (ExprPath b) u k)
+      (fault_expr b s bound (λ k. P k ⊎ SomeUse (ExprPath a) u k) o1 (fault_expr a s bound P o l)))
   fault_expr (IsExpr at a ty) s bound P o l = fault_expr a s bound P o l
   fault_expr (IndexExpr at a b) s bound P o l =
       least_then P (ExprPath a) (ExprPath b) (may_be_unset s bound) (expr_faults s bound b (expr_faults s bound a o)) (calm_expr a) (calm_expr b)
@@ -159,8 +162,8 @@ mutual
       let ct = calm_times (Turn x (ExprPath body)) (then_quiet (One (Sets x)) (ExprPath body) (set_quiet x) (calm_expr body).quiet) in
       least_then P (ExprPath a) (Then (ExprPath b) T) u o3 (calm_expr a) (calm_then (ExprPath b) T (calm_expr b) ct)
       (least_then PA (ExprPath b) T u o3 (calm_expr b) ct
-          (least_quant PB (ExprPath body) s bound x o3 (calm_expr body)
-              (fault_expr body s (bound ++ x ∷ []) PB o2 (fault_expr b s bound PA o1 (fault_expr a s bound P o l)))))
+      (least_quant PB (ExprPath body) s bound x o3 (calm_expr body)
+      (fault_expr body s (bound ++ x ∷ []) PB o2 (fault_expr b s bound PA o1 (fault_expr a s bound P o l)))))
 
   pub fault_exprs : (es : Exprs ℕ) (s : Marks) (bound : List ℕ) (P : ℕ → Type 0) (o : Option ℕ) → Least P o → Least (λ k. P k ⊎ SomeUse (ExprsPath es) (may_be_unset s bound) k) (exprs_faults s bound es o)
   fault_exprs NoExprs s bound P o l = least_nothing P (may_be_unset s bound) o l

@@ -46,11 +46,19 @@ pub fn declare(flow: Flow, variable: u32, value: &Option<Expr>) -> Result<Flow, 
     match value {
         None => {
             here.declare(variable)?;
-            Ok(Flow { here, breaks, continues })
+            Ok(Flow {
+                here,
+                breaks,
+                continues,
+            })
         }
         Some(_) => {
             here.assign(variable)?;
-            Ok(Flow { here, breaks, continues })
+            Ok(Flow {
+                here,
+                breaks,
+                continues,
+            })
         }
     }
 }
@@ -67,7 +75,11 @@ pub fn assign(flow: Flow, variable: u32, path: &[Step]) -> Result<Flow, AllocErr
                 continues,
             } = flow;
             here.assign(variable)?;
-            Ok(Flow { here, breaks, continues })
+            Ok(Flow {
+                here,
+                breaks,
+                continues,
+            })
         }
         [_, ..] => Ok(flow),
     }
@@ -77,7 +89,11 @@ pub fn assign(flow: Flow, variable: u32, path: &[Step]) -> Result<Flow, AllocErr
 pub fn left(alloc: Global, flow: Flow) -> Flow
     ensures value { result ≡ spec.left flow }
 {
-    let Flow { breaks, continues, .. } = flow;
+    let Flow {
+        breaks,
+        continues,
+        ..
+    } = flow;
     Flow {
         here: Marks::nowhere(alloc),
         breaks,
@@ -147,7 +163,11 @@ pub fn rejoined(alloc: Global, first: Marks, second: Flow) -> Result<Flow, Alloc
         continues,
     } = second;
     let here = joined(alloc, first, here)?;
-    Ok(Flow { here, breaks, continues })
+    Ok(Flow {
+        here,
+        breaks,
+        continues,
+    })
 }
 
 /// The head of a loop, before the first turn and behind each, and what the loop's `break`s leave,

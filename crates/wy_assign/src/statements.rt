@@ -5,7 +5,8 @@ ghost use Rattle.wy_assign.specs.Faults as spec;
 ghost use Rattle.wy_assign.specs.Flows as flows;
 
 use crate::flow::{
-    Flow, Walk, assign, broken, continued, declare, exit, from_here, head, left, otherwise, rejoined,
+    Flow, Walk, assign, broken, continued, declare, exit, from_here, head, left, otherwise,
+    rejoined,
 };
 use crate::marks::Marks;
 use crate::transfer::flow_block;

@@ -18,13 +18,7 @@ pub fn noted_where(stands: bool, found: Option<u32>, at: u32) -> Option<u32>
     }
     match found {
         None => Some(at),
-        Some(other) => {
-            if at < other {
-                Some(at)
-            } else {
-                Some(other)
-            }
-        }
+        Some(other) => { if at < other { Some(at) } else { Some(other) } }
     }
 }
 
