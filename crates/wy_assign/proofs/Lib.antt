@@ -1,0 +1,19 @@
+-- what the functions owe
+pub mod PutLemmas
+pub mod SeenLemmas
+pub mod WalkLemmas
+-- events in order, and what a path of uses is
+mod EventLemmas
+mod CalmLemmas
+-- what may be without a value
+mod MarkLemmas
+mod FlowLemmas
+mod LoopLemmas
+mod TellsLemmas
+-- the least place of a use
+mod LeastLemmas
+mod UseLemmas
+mod BadLemmas
+mod FaultLemmas
+-- the answer
+pub mod ProgramLemmas
