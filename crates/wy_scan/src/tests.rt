@@ -8,7 +8,10 @@ fn naturals(rt: HostRuntime) -> Result<(), Fail> {
     let rows: [(&str, Option<(u128, usize)>); 8] = [
         ("0", Some((0, 0))),
         ("12)", Some((12, 1))),
-        ("170141183460469231731687303715884105727", Some((170141183460469231731687303715884105727, 0))),
+        (
+            "170141183460469231731687303715884105727",
+            Some((170141183460469231731687303715884105727, 0)),
+        ),
         ("170141183460469231731687303715884105728", None),
         ("00", None),
         ("01", None),
@@ -27,7 +30,10 @@ fn wholes(rt: HostRuntime) -> Result<(), Fail> {
     let rows: [(&str, Option<(i128, usize)>); 8] = [
         ("0", Some((0, 0))),
         ("-12, 3", Some((-12, 3))),
-        ("-170141183460469231731687303715884105728", Some((i128::MIN, 0))),
+        (
+            "-170141183460469231731687303715884105728",
+            Some((i128::MIN, 0)),
+        ),
         ("-170141183460469231731687303715884105729", None),
         ("-0", None),
         ("-", None),
@@ -64,7 +70,14 @@ fn words(rt: HostRuntime) -> Result<(), Fail> {
 
 #[test]
 fn fields(rt: HostRuntime) -> Result<(), Fail> {
-    let rows = [("", true), ("a", true), ("a b", true), ("b a", false), ("a a", false), ("a type", false)];
+    let rows = [
+        ("", true),
+        ("a", true),
+        ("a b", true),
+        ("b a", false),
+        ("a a", false),
+        ("a type", false),
+    ];
     for (text, want) in rows {
         let mut names = Vec::new(rt.alloc());
         for name in text.split_whitespace() {

@@ -11,5 +11,5 @@ returns-in_default-parse c = record { value = not_parsed _ _ c.in-Ok.front.now c
 pub returns : goal.returns
 returns c = record {
   value = signed_apart _ _ c.in-Ok.front.now c.as_bytes.result.now c.parse.result c.in-Ok-parse.number (first_of (search rules, cc)) c.in-Ok-parse.is c.parse.ensures.value.0 (first_of (search rules, cc, grind (arith, common_steps)))
-    (λ h. true_false c.same_bytes.result (from_true c.same_bytes.result (c.same_bytes.ensures.complete.1 (first_of (search rules, cc)))) (first_of (search rules, cc)));
+      (λ h. true_false c.same_bytes.result (from_true c.same_bytes.result (c.same_bytes.ensures.complete.1 (first_of (search rules, cc)))) (first_of (search rules, cc)));
 }

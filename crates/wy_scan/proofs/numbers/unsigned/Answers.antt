@@ -16,5 +16,5 @@ returns-then-number-ge170141183460469231731687303715884105728 c = record {
 pub returns : goal.returns
 returns c = record {
   value = written_apart _ _ c.in-Ok.front.now c.as_bytes.result.now c.parse.result c.in-Ok-parse.number (first_of (search rules, cc)) c.in-Ok-parse.is c.parse.ensures.value.0 (first_of (search rules, cc, grind (arith, common_steps)))
-    (λ h. true_false c.same_bytes.result (from_true c.same_bytes.result (c.same_bytes.ensures.complete.1 (first_of (search rules, cc)))) (first_of (search rules, cc)));
+      (λ h. true_false c.same_bytes.result (from_true c.same_bytes.result (c.same_bytes.ensures.complete.1 (first_of (search rules, cc)))) (first_of (search rules, cc)));
 }
