@@ -1,17 +1,17 @@
 -- Numbers in decimal digits: where they stand, and what parsing makes of them.
-use Rattle.std.proofs.Common.{◌≡◌, ℕ, zero, suc, ◌+◌, ◌<◌, ◌≤◌, ◌^◌, Bool, true, false, ◌⊎◌, inl, inr, List, [], ◌∷◌, ◌++◌, length, take, drop, get_or, ℤ, pos, negsuc, neg_ℤ, Result, Ok, Err, refl, sym, ap, ◌∙◌, subst, arith, add-one, length-append}
+use Rattle.std.proofs.Common.{◌≡◌, ℕ, zero, suc, ◌+◌, ◌<◌, ◌≤◌, ◌^◌, true, false, ◌⊎◌, inl, inr, List, [], ◌∷◌, ◌++◌, length, take, drop, ℤ, pos, negsuc, neg_ℤ, Result, Ok, Err, refl, sym, ap, ◌∙◌, subst, arith, add-one, length-append}
 use Rattle.std.specs.Fmt.{decimal, signed_decimal}
 use Rattle.std.specs.Str.{IsUtf8, IsAscii}
-use Rattle.std.specs.Str.Parse.{AllDigits, IsNumeral, digits_value, ParsesUnsigned, ParsesSigned}
+use Rattle.std.specs.Str.Parse.{AllDigits, IsNumeral, ParsesUnsigned, ParsesSigned}
 use Rattle.std.proofs.lemmas.Fmt.{decimal_is_IsNumeral_wide, parse-decimal_wide}
 use Rattle.std.proofs.lemmas.List.{take-append-drop}
 use Rattle.std.proofs.lemmas.Str.{IsUtf8-from_ascii}
 use Rattle.std.proofs.lemmas.Str.Parse.{digit_from_value, numerals_by_value, tells_digits, parse_signed_digits, parse_signed_minus}
 use Rattle.std.proofs.lemmas.Result.{Ok-from_Ok_iff}
-use mir.Syntax.{Width, w128}
+use mir.Syntax.{w128}
 use Rattle.wy_scan.specs.Front.{is_digit, heads, AllPass, IsRun}
 use Rattle.wy_scan.specs.Numbers.{IsNaturalAt, NoNatural, IsWholeAt, NoWhole, is_wide, is_minus, IsDecimal, NotDecimal, IsSigned, NotSigned, IsSignOrDigits, IsSignedRun}
-use Rattle.wy_scan.proofs.RunLemmas.{run_same, RunsSame, true_false}
+use Rattle.wy_scan.proofs.RunLemmas.{run_same, true_false}
 
 -- ---- digits
 

@@ -1,12 +1,12 @@
 -- A text begins with one number, one word, and one word with a number.
-use Rattle.std.proofs.Common.{◌≡◌, ℕ, zero, suc, ◌<◌, ◌≤◌, ◌^◌, Bool, true, false, List, [], ◌∷◌, ◌++◌, length, ℤ, pos, negsuc, refl, sym, ap, ◌∙◌, subst, arith}
+use Rattle.std.proofs.Common.{◌≡◌, ℕ, suc, ◌<◌, ◌≤◌, ◌^◌, true, false, List, [], ◌∷◌, ◌++◌, length, ℤ, pos, negsuc, refl, sym, ap, ◌∙◌, subst, arith}
 use Rattle.std.specs.Fmt.{decimal, signed_decimal}
 use Rattle.std.specs.Str.Parse.{digits_value}
 use Rattle.std.proofs.lemmas.Fmt.{decimal_is_IsNumeral_wide}
-use Rattle.wy_scan.specs.Front.{is_digit, is_word_byte, heads, AllPass}
+use Rattle.wy_scan.specs.Front.{is_digit, is_word_byte, AllPass}
 use Rattle.wy_scan.specs.Numbers.{IsNaturalAt, IsWholeAt, is_wide}
 use Rattle.wy_scan.specs.Words.{IsWordAt, IsNumberedAt}
-use Rattle.wy_scan.proofs.RunLemmas.{run_same, RunsSame, true_false}
+use Rattle.wy_scan.proofs.RunLemmas.{run_same, RunsSame}
 use Rattle.wy_scan.proofs.NumberLemmas.{decimal_passes, wide_pos, wide_neg, written_so, written_some, signed_same}
 
 append_cancel : (f r s : List ℕ) → f ++ r ≡ f ++ s → r ≡ s

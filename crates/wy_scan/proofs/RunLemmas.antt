@@ -1,6 +1,6 @@
 -- A text has one run of bytes that pass.
 use Rattle.std.proofs.Common.{◌≡◌, ℕ, Bool, true, false, List, [], ◌∷◌, ◌++◌, refl, sym, ap, ◌∙◌}
-use Rattle.wy_scan.specs.Front.{heads, AllPass, IsRun}
+use Rattle.wy_scan.specs.Front.{heads, AllPass}
 
 pub record RunsSame (f g r s : List ℕ) : Type 0 where
   pub front : f ≡ g

@@ -1,12 +1,12 @@
 -- Names of the language, and lists of them.
-use Rattle.std.proofs.Common.{◌≡◌, ◌↔◌, ℕ, zero, suc, ◌+◌, ◌-◌, ◌<◌, ◌≤◌, ◌^◌, Bool, true, false, IsTrue, List, [], ◌∷◌, ◌++◌, length, drop, get_or, refl, sym, ap, ◌∙◌, subst, arith, rules, add-one, drop-cons}
+use Rattle.std.proofs.Common.{◌≡◌, ◌↔◌, ℕ, zero, suc, ◌+◌, ◌<◌, ◌≤◌, Bool, true, false, IsTrue, List, [], ◌∷◌, ◌++◌, length, drop, get_or, refl, sym, ap, ◌∙◌, subst, arith, rules, add-one, drop-cons}
 use Rattle.std.proofs.lemmas.List.{append-nil, drop_all}
 use Rattle.std.specs.Fmt.{decimal}
 use Rattle.std.specs.Str.{IsUtf8, chars}
 use Rattle.wy_data.specs.Words.{IsName, is_word, is_part, all_parts, is_keyword}
 use Rattle.wy_scan.specs.Front.{is_digit, is_word_byte, heads, AllPass, IsRun, IsBehind, NotBehind}
 use Rattle.wy_scan.specs.Numbers.{IsNaturalAt, NoNatural}
-use Rattle.wy_scan.specs.Words.{IsWord, AreWords, precedes, rise_from, rises, AreFields, IsWordAt, NoWord, IsNumberedAt, NoNumbered}
+use Rattle.wy_scan.specs.Words.{IsWord, AreWords, precedes, rises, AreFields, IsWordAt, NoWord, IsNumberedAt, NoNumbered}
 use Rattle.wy_scan.proofs.RunLemmas.{run_same, RunsSame, true_false}
 
 -- ---- a name

@@ -3,7 +3,6 @@ use Rattle.std.proofs.Common.{◌≡◌, ◌<◌, ◌≤◌, ◌+◌, ℕ, zero,
 use Rattle.std.proofs.lemmas.List.{append-nil, drop_all, reverse-append}
 use Rattle.std.proofs.lemmas.List.Elements.{All-append, All-take, All-drop}
 use Rattle.wy_show.specs.declared.show.Piece.{Piece}
-use Rattle.wy_show.specs.declared.show.Piece.TheVariants as piece
 use Rattle.wy_term.specs.Term.{Term}
 use Rattle.wy_term.specs.Nodes.{parts_at}
 use Rattle.wy_show.specs.Text.{behind, labelled, text_of, texts_of}

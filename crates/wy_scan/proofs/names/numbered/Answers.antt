@@ -1,5 +1,3 @@
-use Rattle.std.proofs.Common.{◌∷◌, []}
-use Rattle.wy_scan.specs.Front.{NotBehind, IsBehind}
 use Rattle.wy_scan.specs.Numbers.{NoNatural}
 use Rattle.wy_scan.specs.Words.{IsWordAt}
 use Rattle.wy_scan.proofs.WordLemmas.{no_sign_there, no_number_there}

@@ -1,4 +1,4 @@
-use Rattle.std.proofs.Common.{◌≡◌, ◌-◌, ◌<◌, length, take, drop, map, All, subst, sym, ap, refl, arith, rules, string_bytes}
+use Rattle.std.proofs.Common.{◌≡◌, ◌-◌, ◌<◌, length, take, drop, map, All, subst, sym, refl, arith, rules, string_bytes}
 use Rattle.std.proofs.lemmas.Grind.{common_steps}
 use Rattle.wy_term.specs.Nodes.{tree_at}
 use Rattle.wy_show.proofs.TextLemmas.{fields_turn, push_below, field_below}

@@ -1,6 +1,5 @@
-use Rattle.std.proofs.Common.{◌≡◌, ◌<◌, ◌++◌, All, length, drop}
+use Rattle.std.proofs.Common.{◌≡◌, ◌++◌, All, length, drop}
 use Rattle.wy_term.specs.Nodes.{tree_at}
-use Rattle.wy_show.specs.Text.{text_of}
 use Rattle.wy_show.specs.TextView.{all_text, IsPieceBelow}
 use Rattle.wy_show.proofs.TextLemmas.{terms_behind}
 use Rattle.wy_show.proofs.show.neighbours.Given as goal
