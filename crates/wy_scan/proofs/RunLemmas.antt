@@ -1,0 +1,23 @@
+-- A text has one run of bytes that pass.
+use Rattle.std.proofs.Common.{◌≡◌, ℕ, Bool, true, false, List, [], ◌∷◌, ◌++◌, refl, sym, ap, ◌∙◌}
+use Rattle.wy_scan.specs.Front.{heads, AllPass}
+
+pub record RunsSame (f g r s : List ℕ) : Type 0 where
+  pub front : f ≡ g
+  pub rest : r ≡ s
+
+pub true_false : {A : Type 0} (b : Bool) → b ≡ true → b ≡ false → A
+true_false b t f = absurd (let e : true ≡ false = sym t ∙ f in cc)
+
+heads_of : (test : ℕ → Bool) (r s : List ℕ) → r ≡ s → heads test r ≡ heads test s
+heads_of test r s e = ap (heads test) e
+
+pub run_same : (test : ℕ → Bool) (f g r s : List ℕ) → AllPass test f → AllPass test g → heads test r ≡ false → heads test s ≡ false → f ++ r ≡ g ++ s → RunsSame f g r s
+run_same test [] [] r s pf pg hr hs e = record { front = refl; rest = e }
+run_same test [] (b ∷ g) r s pf pg hr hs e = true_false (test b) pg.0 (sym (heads_of test r (b ∷ (g ++ s)) e) ∙ hr)
+run_same test (a ∷ f) [] r s pf pg hr hs e = true_false (test a) pf.0 (heads_of test (a ∷ (f ++ r)) s e ∙ hs)
+run_same test (a ∷ f) (b ∷ g) r s pf pg hr hs e =
+    let first : a ≡ b = cc in
+    let others : f ++ r ≡ g ++ s = cc in
+    let k = run_same test f g r s pf.1 pg.1 hr hs others in
+    record { front = let x = k.front in cc; rest = k.rest }
