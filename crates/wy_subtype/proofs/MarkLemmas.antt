@@ -32,7 +32,7 @@ module _ (table : Table) (k : ℕ) (parts : List (List (Signed ℕ))) (marks : L
       by (inl f) rest = inl (sound n p f h.0)
       by (inr f) rest = inr (rest f)
 
-  each_marked-value : (ns : List (List ℕ)) (ps : List (List (List (Signed ℕ)))) → AreEachAt parts ns ps → each_marked marks ns ≡ true → EachOf (SomeOf (HasValue table k)) ps
+  pub each_marked-value : (ns : List (List ℕ)) (ps : List (List (List (Signed ℕ)))) → AreEachAt parts ns ps → each_marked marks ns ≡ true → EachOf (SomeOf (HasValue table k)) ps
   each_marked-value [] [] h e = tt
   each_marked-value [] (p ∷ ps) h e = absurd h
   each_marked-value (n ∷ ns) [] h e = absurd h

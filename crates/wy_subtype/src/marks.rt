@@ -27,7 +27,8 @@ pub fn any_marked(marks: &[bool], numbers: &[u32]) -> bool
     false
 }
 
-fn each_marked(marks: &[bool], lists: &[Items<u32>]) -> bool
+/// Whether each list has a number with a mark.
+pub fn each_marked(marks: &[bool], lists: &[Items<u32>]) -> bool
     ensures value { result ≡ marking.each_marked marks.now lists.now }
 {
     for numbers in lists {

@@ -95,9 +95,9 @@ fn value_round(
     Ok(value_pass(table, depth, first, reach, held.as_slice(), marks))
 }
 
-// The marks of all conjuncts with a value.
+/// The marks of all conjuncts with a value.
 #[tactic(auto, using(crate::proofs::ValueLemmas::none_are_sound))]
-fn values(
+pub fn values(
     alloc: Global,
     table: &Table,
     depth: u32,
