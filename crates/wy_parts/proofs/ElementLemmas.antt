@@ -18,7 +18,8 @@ use Rattle.wy_types.proofs.RankedLemmas.{has_laws}
 use Rattle.wy_types.proofs.TermLemmas.{same_term_is, any_in-dnf_part}
 use Rattle.wy_types.proofs.TruthLemmas.{or_assoc, or_false, both, two_true}
 use Rattle.wy_types.proofs.AskLemmas.{none_in-more}
-use Rattle.wy_subtype.specs.Valued.{HasDatum, AreValued, with_items, elements, IsItem}
+use Rattle.wy_subtype.specs.Valued.{HasDatum, AreValued}
+use Rattle.wy_parts.specs.Items.{with_items, elements, IsItem}
 use Rattle.wy_subtype.proofs.MarkLemmas.{or_left, or_right}
 use Rattle.wy_subtype.proofs.ValuedLemmas.{any_in-valued, valued_have}
 

@@ -5,7 +5,6 @@ use Rattle.wy_value.specs.Datum as datum
 use Rattle.wy_core.specs.Types.{Ty, NormalTy}
 use Rattle.wy_types.specs.declared.conjuncts.Conjunct.{Conjunct}
 use Rattle.wy_types.specs.declared.question.Question.{Question}
-use Rattle.wy_types.specs.Conjuncts.{dnf_part}
 use Rattle.wy_types.specs.Membership as terms
 use Rattle.wy_types.specs.Membership.{member}
 use Rattle.wy_types.specs.Names.{Declared, Up, shape_of, is_in_normal}
@@ -15,20 +14,18 @@ use Rattle.wy_types.specs.Reading.{ty_at, conjuncts_at}
 use Rattle.wy_types.specs.Shape.{any_in}
 use Rattle.wy_types.proofs.RankedLemmas.{has_laws}
 use Rattle.wy_types.proofs.TermLemmas.{any_in-dnf_part}
-use Rattle.wy_subtype.specs.Valued.{AreValued, narrow_elements, elements, IsElements, IsNorm, IsWideUnion, IsWideElement, IsItemIn}
+use Rattle.wy_subtype.specs.Valued.{AreValued}
+use Rattle.wy_parts.specs.Norms.{all_of, IsNorm}
+use Rattle.wy_parts.specs.Items.{narrow_elements, elements, IsElements, IsWideUnion, IsWideItems, IsWideElement, IsItemIn}
 use Rattle.wy_subtype.proofs.ValueLemmas.{part_in-inside}
 use Rattle.wy_subtype.proofs.ValuedLemmas.{any_in-valued, valued_one}
-use Rattle.wy_subtype.proofs.ElementLemmas.{elements_are}
-
--- the conjuncts of what is in the first type of a question
-abbrev pub all_of : Question → List (Conjunct ℕ)
-all_of q = dnf_part q.table q.depth (first_part q)
+use Rattle.wy_parts.proofs.ElementLemmas.{elements_are}
 
 module _ (names : List Declared) (t : Ty) (q : Question) (is : q ≡ numbered names t t) (ranked : (rank : ℕ → ℕ) × IsRanked q.table rank q.depth)
     (first : (d : Datum) → member q.table q.depth d true q.first ≡ Up names d t)
     (conjuncts : (d : Datum) (cs : List (Conjunct ℕ)) → any_in (terms.shape_of q.table q.depth d) cs ≡ is_in_normal (shape_of names d) (conjuncts_at (ty_at q.table q.depth) cs)) where
   -- all conjuncts say what the type does
-  all_say : (d : Datum) → any_in (terms.shape_of q.table q.depth d) (all_of q) ≡ Up names d t
+  pub all_say : (d : Datum) → any_in (terms.shape_of q.table q.depth d) (all_of q) ≡ Up names d t
   all_say d = any_in-dnf_part q.table q.depth (terms.shape_of q.table q.depth d) (has_laws q.table ranked.0 q.depth ranked.1 d) (first_part q) ∙ (part_in-inside q.table q.depth ranked d q.first ∙ first d)
 
   module _ (list : List (Conjunct ℕ)) (valued : AreValued q.table q.depth (all_of q) list) where
@@ -78,7 +75,10 @@ union_one names t a b x y =
     let one = valued_one q.table q.depth (all_of q) x.conjuncts y.conjuncts x.valued y.valued in
     x.whole ∙ (ap (λ (l : List (Conjunct ℕ)). NormalTy (conjuncts_at (ty_at q.table q.depth) (elements q.table q.depth [] l))) one ∙ sym y.whole)
 
-pub narrow_element : (names : List Declared) (t union : Ty) → IsElements names t union → ((IsWideAbout names t → ⊥) × (IsWideUnion names t → ⊥)) → (IsWideAbout names union → ⊥) → IsWideElement names t → ⊥
-narrow_element names t union is h g (inl w) = h.0 w
-narrow_element names t union is h g (inr (inl w)) = h.1 w
-narrow_element names t union is h g (inr (inr w)) = g (subst (IsWideAbout names) (union_one names t w.0 union w.1 is) w.2)
+pub narrow_items : (names : List Declared) (t : Ty) → (IsWideAbout names t → ⊥) → (IsWideUnion names t → ⊥) → IsWideItems names t → ⊥
+narrow_items names t h g (inl w) = h w
+narrow_items names t h g (inr w) = g w
+
+pub narrow_element : (names : List Declared) (t union : Ty) → IsElements names t union → (IsWideItems names t → ⊥) → (IsWideAbout names union → ⊥) → IsWideElement names t → ⊥
+narrow_element names t union is h g (inl w) = h w
+narrow_element names t union is h g (inr w) = g (subst (IsWideAbout names) (union_one names t w.0 union w.1 is) w.2)

@@ -83,6 +83,10 @@ pub record IsUnion (names : List Declared) (f : List ℕ) (t : Ty) (made : Ty) :
   pub parts : HasParts names f t true found
   pub whole : made ≡ NormalTy (conjuncts_at (ty_at (numbered names t t).table (numbered names t t).depth) (values_at (numbered names t t).table (numbered names t t).depth f [] found.ways))
 
+-- no type is that, since some value in the type has no such field
+abbrev pub HasNoUnion : List Declared → List ℕ → Ty → Type 0
+HasNoUnion names f t = (union : Ty) → IsUnion names f t union → ⊥
+
 -- the normal form of what the values at the field may be
 abbrev pub IsField : List Declared → List ℕ → Ty → Ty → Type 0
 IsField names f t made = (union : Ty) × IsUnion names f t union × IsNorm names union made

@@ -2,8 +2,8 @@
 ghost use Rattle.std.specs.Prelude.{◌≡◌, ◌↔◌, [], true, false, IfOk, IfSome, OnOk, Some, None};
 ghost use Rattle.wy_canon.specs.Width.{Exactly};
 ghost use Rattle.wy_core.specs.CoreSeen.{seen_ty};
-ghost use Rattle.wy_parts.specs.Fields as fields;
-ghost use Rattle.wy_parts.specs.Fields.{AllHave, IsField, IsUnion, IsValueIn, IsWideField, IsWideValues, SomeLacks};
+ghost use Rattle.wy_parts.specs.Fields as at_field;
+ghost use Rattle.wy_parts.specs.Fields.{AllHave, HasNoUnion, IsField, IsUnion, IsValueIn, IsWideField, IsWideValues, SomeLacks};
 ghost use Rattle.wy_subtype.specs.Known.{WideOnly};
 ghost use Rattle.wy_types.specs.Names.{Up, types_of};
 ghost use Rattle.wy_types.specs.Questions.{IsOver};
@@ -22,7 +22,7 @@ use wy_types::{Atom, Conjunct, Names, Part, Question, Table};
 
 // Whether one of the fields has the name.
 fn has_field(name: &Name, fields: &[(Name, Part<u32>)]) -> bool
-    ensures value { result ≡ fields.has_field name.now fields.now }
+    ensures value { result ≡ at_field.has_field name.now fields.now }
 {
     for field in fields {
         if field.0.is(name) {
@@ -34,7 +34,7 @@ fn has_field(name: &Name, fields: &[(Name, Part<u32>)]) -> bool
 
 // Whether the atom is of records with the field.
 fn atom_has(name: &Name, atom: &Atom<u32>) -> bool
-    ensures value { result ≡ fields.atom_has name.now atom.now }
+    ensures value { result ≡ at_field.atom_has name.now atom.now }
 {
     match atom {
         Atom::Record(fields) => has_field(name, fields.as_slice()),
@@ -44,7 +44,7 @@ fn atom_has(name: &Name, atom: &Atom<u32>) -> bool
 
 // Whether each conjunct is of records with the field.
 fn all_have(name: &Name, conjuncts: &[Conjunct<u32>]) -> bool
-    ensures value { result ≡ fields.all_have name.now conjuncts.now }
+    ensures value { result ≡ at_field.all_have name.now conjuncts.now }
 {
     for conjunct in conjuncts {
         if !atom_has(name, &conjunct.positive) {
@@ -63,8 +63,8 @@ fn with_value(
     made: Items<Conjunct<u32>>,
     way: &[(Name, Part<u32>)],
 ) -> Result<Items<Conjunct<u32>>, TypeFault>
-    ensures value { IfOk result (λ all. all ≡ fields.with_value table.now depth name.now made way.now) }
-    ensures width { Exactly result (fields.narrow_value table.now depth name.now way.now) }
+    ensures value { IfOk result (λ all. all ≡ at_field.with_value table.now depth name.now made way.now) }
+    ensures width { Exactly result (at_field.narrow_value table.now depth name.now way.now) }
 {
     match way {
         [] => Ok(made),
@@ -87,8 +87,8 @@ fn values_at(
     name: &Name,
     ways: &[Items<(Name, Part<u32>)>],
 ) -> Result<Items<Conjunct<u32>>, TypeFault>
-    ensures value { IfOk result (λ all. all ≡ fields.values_at table.now depth name.now [] ways.now) }
-    ensures width { Exactly result (fields.narrow_values table.now depth name.now ways.now) }
+    ensures value { IfOk result (λ all. all ≡ at_field.values_at table.now depth name.now [] ways.now) }
+    ensures width { Exactly result (at_field.narrow_values table.now depth name.now ways.now) }
 {
     let mut all = Items::new(alloc);
     for way in ways {
@@ -111,6 +111,7 @@ fn value_union(
     ensures set { IfOk result (λ made. IfSome made (λ union. (d : Datum) → (Up (types_of names.now) d (seen_ty union) ≡ true) ↔ IsValueIn (types_of names.now) name.now (seen_ty ty.now) d)) }
     ensures all { IfOk result (λ made. IfSome made (λ union. AllHave (types_of names.now) name.now (seen_ty ty.now))) }
     ensures lacks { IfOk result (λ made. made ≡ None → SomeLacks (types_of names.now) name.now (seen_ty ty.now)) }
+    ensures missing { IfOk result (λ made. made ≡ None → HasNoUnion (types_of names.now) name.now (seen_ty ty.now)) }
     ensures wide { WideOnly result (IsWideValues (types_of names.now) name.now (seen_ty ty.now)) }
     ensures narrow { IfOk result (λ made. IsWideValues (types_of names.now) name.now (seen_ty ty.now) → ⊥) }
     ensures over { OnOk result (IsOver (types_of names.now) question.new) }

@@ -180,6 +180,7 @@ fn types_have_items(rt: HostRuntime) -> Result<(), TypeFault> {
         ("i[n[&", "V"),
         ("in|[ib|[&", "i"),
         ("if[", "if"),
+        ("V[", "V"),
     ];
     for (text, want) in cases {
         let ty = read(alloc, text)?;
@@ -191,3 +192,39 @@ fn types_have_items(rt: HostRuntime) -> Result<(), TypeFault> {
     Ok(())
 }
 
+// What the values at a field may be, likewise; `-` where some value in the type has no such field.
+#[test]
+fn types_have_fields(rt: HostRuntime) -> Result<(), TypeFault> {
+    let alloc = rt.alloc();
+    let names = declared(alloc)?;
+    let cases = [
+        ("0", "f", "-"),
+        ("0n!&", "f", "i"),
+        ("0n!&", "g", "0"),
+        ("if", "g", "-"),
+        ("ifbg,", "g", "b"),
+        ("ifbf|", "f", "ib|"),
+        ("ifi|", "f", "-"),
+        ("in|fib|g,ifig,!&", "f", "in|"),
+        ("in|fig,ifig,!&", "f", "n"),
+        ("AfAg,ifAg,!&", "f", "i!"),
+        ("AfAg,ifAg,!&Afig,!&", "g", "i!"),
+        ("A", "f", "-"),
+        ("V", "f", "V"),
+        ("1", "f", "V"),
+        ("i!i[!&", "f", "-"),
+    ];
+    for (text, name, want) in cases {
+        let ty = read(alloc, text)?;
+        let name = Name::new(String::from_str(alloc, name)?);
+        match field(alloc, &names, &ty, &name)? {
+            None => assert_eq!(rt; want, "-", "{text}"),
+            Some(found) => {
+                let want = read(alloc, want)?;
+                assert_eq!(rt; subtype(alloc, &names, &found, &want)?, true, "{text}");
+                assert_eq!(rt; subtype(alloc, &names, &want, &found)?, true, "{text}");
+            }
+        }
+    }
+    Ok(())
+}

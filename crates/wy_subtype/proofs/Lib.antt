@@ -5,4 +5,5 @@ pub mod MarkLemmas
 pub mod ValueLemmas
 pub mod WayLemmas
 pub mod ValuedLemmas
+pub mod ClausalLemmas
 pub mod RefusalLemmas

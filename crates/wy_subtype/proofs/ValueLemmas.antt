@@ -18,21 +18,18 @@ use Rattle.wy_types.specs.Reach.{outside}
 use Rattle.wy_types.proofs.ClaimLemmas.{some_split, each_append, met_within}
 use Rattle.wy_types.proofs.RankedLemmas.{has_laws, is_lawful}
 use Rattle.wy_types.proofs.TermLemmas.{any_in-dnf_part, part_in-with_sides}
-use Rattle.wy_types.proofs.AskLemmas.{HasPiece, options_of-ask, options_of-value}
+use Rattle.wy_types.proofs.AskLemmas.{HasPiece, options_of-ask}
 use Rattle.wy_types.proofs.FoundLemmas.{found}
 use Rattle.wy_subtype.specs.declared.reach.Reach.{Reach}
 use Rattle.wy_subtype.specs.Numbers.{AreAt}
 use Rattle.wy_subtype.specs.Marks.{mark_at, any_marked, met, part_marks, HaveValues, AreSound, AreClosedBy}
 use Rattle.wy_subtype.specs.Known.{options_of, IsKnown, IsReach}
 use Rattle.wy_subtype.proofs.NumberLemmas.{get_within}
-use Rattle.wy_subtype.proofs.MarkLemmas.{or_left, or_right, met-value, met-at, IsMarked, IsPart, all_are_parts, mark_at-set, part_mark}
+use Rattle.wy_subtype.proofs.MarkLemmas.{or_left, or_right, met-at, IsMarked, IsPart, all_are_parts, part_mark}
 
 both : (a b : Bool) → (a && b) ≡ true → (a ≡ true) × (b ≡ true)
 both true b e = (refl, e)
 both false b e = absurd cc
-
-pub none_are_sound : (table : Table) (k : ℕ) (conjuncts : List (Conjunct ℕ)) (marks : List Bool) → ((n : ℕ) → mark_at marks n ≡ false) → AreSound table k conjuncts marks
-none_are_sound table k conjuncts marks h n c e f = absurd (let x = h n in cc (x, e))
 
 -- a marked conjunct among those of a part
 head_value : (table : Table) (k : ℕ) (conjuncts : List (Conjunct ℕ)) (marks : List Bool) → AreSound table k conjuncts marks → (h : List ℕ) (cs : List (Conjunct ℕ)) → AreAt conjuncts h cs → any_marked marks h ≡ true → (d : Datum) × (any_in (shape_of table k d) cs ≡ true)
@@ -55,16 +52,6 @@ module _ (table : Table) (k : ℕ) (ranked : (rank : ℕ → ℕ) × IsRanked ta
       let g = get_within r.heads n lt in
       let v = head_value table k r.conjuncts marks sound g.0 (dnf_part table k p) (known.headed n p g.0 at g.1) (sym (part_mark marks r.heads n g.0 g.1) ∙ e) in
       (v.0, sym (union v.0 p) ∙ v.1)
-
-  pub value_sound : (first : List (Signed ℕ)) (r : Reach) (held marks : List Bool) (i : ℕ) (a : List (List (List ℕ))) → IsKnown table k first r → HaveValues table k r.parts held → slice_get r.asks i ≡ Some a → met held a ≡ true → AreSound table k r.conjuncts marks
-      → AreSound table k r.conjuncts (set marks i true)
-  value_sound first r held marks i a known hs at m sound j c e f = by (mark_at-set marks i j e)
-    where
-      by : (j ≡ i) ⊎ (mark_at marks j ≡ true) → (d : Datum) × (conjunct_in (shape_of table k d) c ≡ true)
-      by (inl is) =
-          options_of-value table ranked.0 k ranked.1 c.positive c.negatives
-          (met-value table k r.parts held hs a (options_of table k c) (known.asked i c a (subst (λ (x : ℕ). slice_get r.conjuncts x ≡ Some c) is f) at) m)
-      by (inr old) = sound j c old f
 
   -- ---- every part with a value is marked
 

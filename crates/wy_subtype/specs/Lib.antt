@@ -4,4 +4,5 @@ pub mod Valued
 -- definitions for functions inside
 pub mod Numbers
 pub mod Marks
+pub mod Clausal
 pub mod Ways

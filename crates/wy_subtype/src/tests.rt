@@ -6,13 +6,14 @@ ghost use Rattle.std.specs.Prelude.{IfOk};
 ghost use Rattle.wy_types.specs.Names.{types_of};
 ghost use Rattle.wy_types.specs.Recursion.{RecurThroughParts};
 
-use crate::{empty, subtype};
+use crate::ways::few_ways;
+use crate::{empty, empty_in, subtype, subtype_in};
 use sqlite_items::{Boxed, Items};
 use std::alloc::{AllocError, Global};
 use wy_canon::TypeFault;
 use wy_core::{Ty, TyKind};
 use wy_data::Name;
-use wy_types::{Declared, Names};
+use wy_types::{Atom, Conjunct, Declared, Names, Part, Signed};
 
 fn popped(stack: &mut Items<Ty>) -> Ty {
     match stack.pop() {
@@ -202,6 +203,64 @@ fn wide_types_are_refused(rt: HostRuntime) -> Result<(), TypeFault> {
             Err(TypeFault::TypeWide) => assert!(rt; !answers),
             Err(TypeFault::NoMemory) => {}
         }
+    }
+    Ok(())
+}
+
+// One table serves for one question after another.
+#[test]
+fn questions_follow_one_another(rt: HostRuntime) -> Result<(), TypeFault> {
+    let alloc = rt.alloc();
+    let names = declared(alloc)?;
+    let list = read(alloc, "0n!&")?;
+    let record = read(alloc, "if0g,")?;
+    let mut question = names.question(alloc)?;
+    let within = subtype_in(alloc, &names, &mut question, &list, &record)?;
+    let without = empty_in(alloc, &names, &mut question, &list)?;
+    let turned = subtype_in(alloc, &names, &mut question, &record, &list)?;
+    assert_eq!(rt; within, true);
+    assert_eq!(rt; without, false);
+    assert_eq!(rt; turned, true);
+    Ok(())
+}
+
+// A record of one field, with so many terms there.
+fn record_of(alloc: Global, count: u32) -> Result<Atom<u32>, AllocError> {
+    let mut terms = Items::new(alloc);
+    for term in 0..count {
+        terms.push(Signed {
+            term,
+            up: true,
+            inside: true,
+        })?;
+    }
+    let mut fields = Items::new(alloc);
+    fields.push((Name::new(String::from_str(alloc, "f")?), Part { terms }))?;
+    Ok(Atom::Record(fields))
+}
+
+// 16,384 ways are few, and one negative with a term more makes too many.
+#[test]
+fn ways_are_counted(rt: HostRuntime) -> Result<(), TypeFault> {
+    let alloc = rt.alloc();
+    let cases = [
+        (128, 128, 1, true),
+        (128, 129, 1, false),
+        (16384, 1, 1, true),
+        (16385, 1, 1, false),
+        (16385, 16385, 0, true),
+        (16384, 16384, 16384, false),
+    ];
+    for (first, second, third, want) in cases {
+        let mut negatives = Items::new(alloc);
+        negatives.push(record_of(alloc, first)?)?;
+        negatives.push(record_of(alloc, second)?)?;
+        negatives.push(record_of(alloc, third)?)?;
+        let conjunct = Conjunct {
+            positive: record_of(alloc, 0)?,
+            negatives,
+        };
+        assert_eq!(rt; few_ways(&conjunct), want, "{first} {second} {third}");
     }
     Ok(())
 }

@@ -9,12 +9,13 @@ ghost use Rattle.wy_types.specs.Ranked.{IsRanked};
 ghost use Rattle.wy_types.specs.Reach.{IsWide};
 
 use crate::asks::ways_from;
-use crate::marks::{each_marked, mark_at, part_marks};
+use crate::marks::part_marks;
 use crate::reach::{Added, Reach, reach_of};
 use crate::values::values;
 use sqlite_items::Items;
 use std::alloc::{AllocError, Global};
 use wy_canon::{TypeFault, copy_conjunct, copy_fields, dnf_part};
+use wy_closure::{each_marked, mark_at};
 use wy_data::Name;
 use wy_types::{Atom, Conjunct, Part, Signed, Table};
 
