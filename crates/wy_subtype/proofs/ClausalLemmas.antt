@@ -119,7 +119,7 @@ any_shifted base marks (n ∷ ns) =
     ap (λ b. b || any_marked marks (shifted base ns)) (sym (mark_drop base marks n)) ∙ ap (λ b. mark_at (drop base marks) n || b) (any_shifted base marks ns)
 
 module _ (table : Table) (k : ℕ) (ranked : (rank : ℕ → ℕ) × IsRanked table rank k) (first : List (Signed ℕ)) (r : Reach) (known : IsKnown table k first r) (base : ℕ) (is_base : base ≡ length r.parts) where
-  all_clauses : List Clause
+  abbrev pub all_clauses : List Clause
   all_clauses = part_clauses base 0 r.heads ++ ask_clauses base 0 r.asks
 
   -- what is marked has a value
@@ -175,11 +175,11 @@ module _ (table : Table) (k : ℕ) (ranked : (rank : ℕ → ℕ) × IsRanked ta
       conjuncts j d (inr e) f = right.1 j d e f
 
   right_more : (marks : List Bool) (i : ℕ) (c : Clause) → IsRight marks → slice_get all_clauses i ≡ Some c → each_marked marks c.body ≡ true → IsRight (set marks c.head true)
-  right_more marks i c right at met = by (get_or_back (part_clauses base 0 r.heads) (ask_clauses base 0 r.asks) i c at)
+  right_more marks i c right at fits = by (get_or_back (part_clauses base 0 r.heads) (ask_clauses base 0 r.asks) i c at)
     where
       by : (slice_get (part_clauses base 0 r.heads) i ≡ Some c) ⊎ ((j : ℕ) × (slice_get (ask_clauses base 0 r.asks) j ≡ Some c)) → IsRight (set marks c.head true)
-      by (inl f) = right_part marks c right (part_clause_is base 0 r.heads i c f) met
-      by (inr f) = right_ask marks c right (ask_clause_is base 0 r.asks f.0 c f.1) met
+      by (inl f) = right_part marks c right (part_clause_is base 0 r.heads i c f) fits
+      by (inr f) = right_ask marks c right (ask_clause_is base 0 r.asks f.0 c f.1) fits
 
   reached_right : (marks : List Bool) → IsReached all_clauses marks → IsRight marks
   reached_right _ (from_none marks h) = (λ n p e f. absurd (let g = h n in cc (e, g)), λ j c e f. absurd (let g = h (base + j) in cc (e, g)))

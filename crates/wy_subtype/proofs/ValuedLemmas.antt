@@ -1,5 +1,5 @@
 -- The conjuncts that are marked are those with a value, and so are the ways of which all is held.
-use Rattle.std.proofs.Common.{◌≡◌, ℕ, ◌<◌, List, [], ◌∷◌, ◌++◌, length, Bool, true, false, cond, ◌||◌, inl, inr, Option, Some, refl, sym, ap, subst, ◌∙◌, arith}
+use Rattle.std.proofs.Common.{◌≡◌, ℕ, ◌<◌, List, [], ◌∷◌, ◌++◌, length, Bool, true, false, cond, ◌||◌, inl, inr, Option, Some, None, refl, sym, ap, subst, ◌∙◌, arith}
 use Rattle.std.specs.Prelude.{slice_get}
 use Rattle.std.specs.Option.{option_to_list}
 use Rattle.wy_value.specs.Datum.{Datum}
@@ -65,6 +65,13 @@ module _ (table : Table) (k : ℕ) where
   valued_have [] made h = subst (EachOf (HasDatum table k)) (sym h) tt
   valued_have (c ∷ cs) made (inl h) = subst (EachOf (HasDatum table k)) (sym h.2) (h.1, valued_have cs h.0 h.3)
   valued_have (c ∷ cs) made (inr h) = valued_have cs made h.1
+
+-- what is reached has the first part's conjuncts by number
+pub no_head : (table : Table) (k : ℕ) (first : List (Signed ℕ)) (r : Reach) (b : ℕ) → IsReach table k first r b → (let none : Option (List ℕ) = None in none ≡ slice_get r.heads b) → ⊥
+no_head table k first r b reach e =
+    let g = get_within r.heads b (let w = slice_get_within r.parts b first reach.begins in let f = reach.known.counted in omega (arith, w, f)) in
+    let at = g.1 in
+    cc (e, at)
 
 -- ---- ways
 

@@ -24,10 +24,14 @@ AreValued table k (c ∷ cs) made =
     ((rest : List (Conjunct ℕ)) × HasDatum table k c × (made ≡ c ∷ rest) × AreValued table k cs rest)
     ⊎ ((HasDatum table k c → ⊥) × AreValued table k cs made)
 
+-- the conjunct with this number, where it is marked
+abbrev pub marked_at : List Bool → List (Conjunct ℕ) → ℕ → List (Conjunct ℕ)
+marked_at marks conjuncts n = cond (mark_at marks n) (option_to_list (slice_get conjuncts n)) []
+
 -- those of the numbered conjuncts that are marked
 abbrev pub marked : List Bool → List (Conjunct ℕ) → List ℕ → List (Conjunct ℕ)
 marked marks conjuncts [] = []
-marked marks conjuncts (n ∷ ns) = cond (mark_at marks n) (option_to_list (slice_get conjuncts n)) [] ++ marked marks conjuncts ns
+marked marks conjuncts (n ∷ ns) = marked_at marks conjuncts n ++ marked marks conjuncts ns
 
 -- ---- the ways of records
 
@@ -73,11 +77,14 @@ abbrev pub held_of : Table → ℕ → List Bool → Option (Conjunct ℕ) → O
 held_of table k held (Some c) (Some a) = held_by table k held c.positive c.negatives a
 held_of table k held _ _ = []
 
--- so for those of the numbered conjuncts that are marked
+-- so for the conjunct with this number, where it is marked
+abbrev pub held_at : Table → ℕ → List Bool → List Bool → List (Conjunct ℕ) → List (List (List (List ℕ))) → ℕ → List (List (List ℕ × Part ℕ))
+held_at table k marks held conjuncts asks n = cond (mark_at marks n) (held_of table k held (slice_get conjuncts n) (slice_get asks n)) []
+
+-- so for each of the numbers
 abbrev pub held_all : Table → ℕ → List Bool → List Bool → List (Conjunct ℕ) → List (List (List (List ℕ))) → List ℕ → List (List (List ℕ × Part ℕ))
 held_all table k marks held conjuncts asks [] = []
-held_all table k marks held conjuncts asks (n ∷ ns) =
-    cond (mark_at marks n) (held_of table k held (slice_get conjuncts n) (slice_get asks n)) [] ++ held_all table k marks held conjuncts asks ns
+held_all table k marks held conjuncts asks (n ∷ ns) = held_at table k marks held conjuncts asks n ++ held_all table k marks held conjuncts asks ns
 
 -- the conjuncts of the part that have a value, and their ways in which every field's part has one
 pub record AreThose (table : Table) (k : ℕ) (cs : List (Conjunct ℕ)) (made : Inhabited) : Type 0 where

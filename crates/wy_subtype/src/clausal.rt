@@ -111,3 +111,13 @@ pub fn part_count(reach: &Reach) -> Result<u32, AllocError>
 {
     small(reach.parts.len())
 }
+
+/// The sum of two counts.
+pub fn total(a: usize, b: usize) -> Result<usize, AllocError>
+    ensures value { IfOk result (λ n. n ≡ a + b) }
+{
+    match a.checked_add(b) {
+        None => Err(AllocError),
+        Some(sum) => Ok(sum),
+    }
+}

@@ -1,6 +1,5 @@
 //! The conjuncts that have a value, and the ways of records that do.
-ghost use Rattle.std.specs.Prelude.{◌≡◌, ◌++◌, ◌∷◌, [], ℕ, List, IfOk};
-ghost use Rattle.std.specs.Option.{option_copied};
+ghost use Rattle.std.specs.Prelude.{◌≡◌, ℕ, IfOk, slice_get};
 ghost use Rattle.wy_subtype.specs.Known.{WideOnly};
 ghost use Rattle.wy_subtype.specs.Valued as valued;
 ghost use Rattle.wy_subtype.specs.Valued.{AreThose, AreValued};
@@ -12,7 +11,7 @@ use crate::asks::ways_from;
 use crate::marks::part_marks;
 use crate::reach::{Added, Reach, reach_of};
 use crate::values::values;
-use sqlite_items::Items;
+use sqlite_items::{Items, at};
 use std::alloc::{AllocError, Global};
 use wy_canon::{TypeFault, copy_conjunct, copy_fields, dnf_part};
 use wy_closure::{each_marked, mark_at};
@@ -27,6 +26,28 @@ pub struct Inhabited {
     pub ways: Items<Items<(Name, Part<u32>)>>,
 }
 
+// The conjunct with this number, where it is marked.
+fn marked_at(
+    alloc: Global,
+    marks: &[bool],
+    conjuncts: &[Conjunct<u32>],
+    number: usize,
+) -> Result<Items<Conjunct<u32>>, AllocError>
+    ensures value { IfOk result (λ made. made ≡ valued.marked_at marks.now conjuncts.now number) }
+{
+    let mut one = Items::new(alloc);
+    if !mark_at(marks, number) {
+        return Ok(one);
+    }
+    match at(conjuncts, number) {
+        None => Ok(one),
+        Some(conjunct) => {
+            one.push(copy_conjunct(alloc, conjunct)?)?;
+            Ok(one)
+        }
+    }
+}
+
 // Those of the numbered conjuncts that are marked.
 fn marked(
     alloc: Global,
@@ -38,12 +59,7 @@ fn marked(
 {
     let mut made = Items::new(alloc);
     for number in numbers {
-        if mark_at(marks, *number as usize) {
-            match conjuncts.get(*number as usize) {
-                None => {}
-                Some(conjunct) => made.push(copy_conjunct(alloc, conjunct)?)?,
-            }
-        }
+        made.append(marked_at(alloc, marks, conjuncts, *number as usize)?)?;
     }
     Ok(made)
 }
@@ -101,18 +117,36 @@ fn held_of(
     table: &Table,
     depth: u32,
     held: &[bool],
-    conjunct: Option<&Conjunct<u32>>,
-    asks: Option<&Items<Items<Items<u32>>>>,
+    reach: &Reach,
+    number: usize,
 ) -> Result<Items<Items<(Name, Part<u32>)>>, AllocError>
-    ensures value { IfOk result (λ made. made ≡ valued.held_of table.now depth held.now (option_copied conjunct) (option_copied asks)) }
+    ensures value { IfOk result (λ made. made ≡ valued.held_of table.now depth held.now (slice_get reach.now.conjuncts number) (slice_get reach.now.asks number)) }
 {
-    match conjunct {
+    match reach.conjuncts.get(number) {
         None => Ok(Items::new(alloc)),
-        Some(conjunct) => match asks {
+        Some(conjunct) => match reach.asks.get(number) {
             None => Ok(Items::new(alloc)),
             Some(asks) => held_by(alloc, table, depth, held, conjunct, asks.as_slice()),
         },
     }
+}
+
+// The same, where the conjunct is marked.
+fn held_at(
+    alloc: Global,
+    table: &Table,
+    depth: u32,
+    marks: &[bool],
+    held: &[bool],
+    reach: &Reach,
+    number: usize,
+) -> Result<Items<Items<(Name, Part<u32>)>>, AllocError>
+    ensures value { IfOk result (λ made. made ≡ valued.held_at table.now depth marks.now held.now reach.now.conjuncts reach.now.asks number) }
+{
+    if mark_at(marks, number) {
+        return held_of(alloc, table, depth, held, reach, number);
+    }
+    Ok(Items::new(alloc))
 }
 
 // The held ways of those of the numbered conjuncts that are marked.
@@ -129,11 +163,7 @@ fn held_all(
 {
     let mut made = Items::new(alloc);
     for number in numbers {
-        if mark_at(marks, *number as usize) {
-            let conjunct = reach.conjuncts.get(*number as usize);
-            let asks = reach.asks.get(*number as usize);
-            made.append(held_of(alloc, table, depth, held, conjunct, asks)?)?;
-        }
+        made.append(held_at(alloc, table, depth, marks, held, reach, *number as usize)?)?;
     }
     Ok(made)
 }
@@ -171,18 +201,17 @@ pub fn valued_conjuncts(
 {
     let Added { reach, number } = reach_of(alloc, table, depth, part)?;
     let marks = values(alloc, table, depth, part, &reach)?;
-    match reach.heads.get(number as usize) {
-        None => Ok(Items::new(alloc)),
-        Some(numbers) => {
-            let made = marked(
-                alloc,
-                marks.as_slice(),
-                reach.conjuncts.as_slice(),
-                numbers.as_slice(),
-            )?;
-            Ok(made)
-        }
-    }
+    let numbers = match reach.heads.get(number as usize) {
+        None => return Ok(Items::new(alloc)),
+        Some(numbers) => numbers,
+    };
+    let made = marked(
+        alloc,
+        marks.as_slice(),
+        reach.conjuncts.as_slice(),
+        numbers.as_slice(),
+    )?;
+    Ok(made)
 }
 
 /// The conjuncts of the part that have a value, and their ways in which every field's part has one,
@@ -202,28 +231,29 @@ pub fn inhabited_parts(
     let Added { reach, number } = reach_of(alloc, table, depth, part)?;
     let marks = values(alloc, table, depth, part, &reach)?;
     let held = part_marks(alloc, marks.as_slice(), reach.heads.as_slice())?;
-    match reach.heads.get(number as usize) {
-        None => Ok(Inhabited {
-            conjuncts: Items::new(alloc),
-            ways: Items::new(alloc),
-        }),
-        Some(numbers) => {
-            let conjuncts = marked(
-                alloc,
-                marks.as_slice(),
-                reach.conjuncts.as_slice(),
-                numbers.as_slice(),
-            )?;
-            let ways = held_all(
-                alloc,
-                table,
-                depth,
-                marks.as_slice(),
-                held.as_slice(),
-                &reach,
-                numbers.as_slice(),
-            )?;
-            Ok(Inhabited { conjuncts, ways })
+    let numbers = match reach.heads.get(number as usize) {
+        None => {
+            return Ok(Inhabited {
+                conjuncts: Items::new(alloc),
+                ways: Items::new(alloc),
+            });
         }
-    }
+        Some(numbers) => numbers,
+    };
+    let conjuncts = marked(
+        alloc,
+        marks.as_slice(),
+        reach.conjuncts.as_slice(),
+        numbers.as_slice(),
+    )?;
+    let ways = held_all(
+        alloc,
+        table,
+        depth,
+        marks.as_slice(),
+        held.as_slice(),
+        &reach,
+        numbers.as_slice(),
+    )?;
+    Ok(Inhabited { conjuncts, ways })
 }

@@ -9,7 +9,7 @@ ghost use Rattle.wy_types.specs.Reach.{IsWide};
 ghost use Rattle.wy_types.specs.Shape.{part_in};
 ghost use Rattle.wy_value.specs.Datum.{Datum};
 
-use crate::clausal::{clauses_of, part_count};
+use crate::clausal::{clauses_of, part_count, total};
 use crate::marks::{marks_from, part_marks};
 use crate::reach::{Added, Reach, reach_of};
 use sqlite_items::Items;
@@ -32,10 +32,7 @@ fn marks_of(
     ensures closed { IfOk result (λ marks. AreClosedBy (part_marks marks reach.now.heads) marks reach.now.asks (length reach.now.asks)) }
 {
     let base = part_count(reach)?;
-    let count = match (base as usize).checked_add(reach.asks.len()) {
-        None => return Err(AllocError),
-        Some(count) => count,
-    };
+    let count = total(base as usize, reach.asks.len())?;
     let clauses = clauses_of(alloc, base, reach)?;
     let all = close(alloc, count, clauses.as_slice())?;
     let marks = marks_from(alloc, all.as_slice(), base as usize)?;
