@@ -262,19 +262,19 @@ module _ (table : Table) (k : ℕ) (ranked : (rank : ℕ → ℕ) × IsRanked ta
   HasOther a ns = (d : Datum) × (has_value_at f d ≡ false) × ((atom_in (shape_of table k d) a && none_in (shape_of table k d) ns) ≡ true)
 
   no_record : (d : Datum) (a : Atom ℕ) (ns : List (Atom ℕ)) → ((fields : Fields) → atom_in (shape_of table k (datum.Record fields)) a ≡ true → ⊥) → (atom_in (shape_of table k d) a && none_in (shape_of table k d) ns) ≡ true → HasOther a ns
-  no_record (datum.Record fields) a ns no e = absurd (no fields (both (atom_in (shape_of table k (datum.Record fields)) a) (none_in (shape_of table k (datum.Record fields)) ns) e).0)
-  no_record datum.Null a ns no e = (datum.Null, refl, e)
-  no_record (datum.Truth b) a ns no e = (datum.Truth b, refl, e)
-  no_record (datum.Whole z) a ns no e = (datum.Whole z, refl, e)
-  no_record (datum.Array items) a ns no e = (datum.Array items, refl, e)
+  no_record (datum.Record fields) a ns lacks e = absurd (lacks fields (both (atom_in (shape_of table k (datum.Record fields)) a) (none_in (shape_of table k (datum.Record fields)) ns) e).0)
+  no_record datum.Null a ns lacks e = (datum.Null, refl, e)
+  no_record (datum.Truth b) a ns lacks e = (datum.Truth b, refl, e)
+  no_record (datum.Whole z) a ns lacks e = (datum.Whole z, refl, e)
+  no_record (datum.Array items) a ns lacks e = (datum.Array items, refl, e)
 
   other_record : (d : Datum) (fs : List (List ℕ × Part ℕ)) (ns : List (Atom ℕ)) → has_field f fs ≡ false → (atom_in (shape_of table k d) (atom.Record fs) && none_in (shape_of table k d) ns) ≡ true → HasOther (atom.Record fs) ns
-  other_record (datum.Record fields) fs ns no e =
-      (datum.Record fields, same_field fields fs (both (fields_in (names_of fields) (field_readers table k fields) fs) (none_in (shape_of table k (datum.Record fields)) ns) e).0 ∙ no, e)
-  other_record datum.Null fs ns no e = false_true e
-  other_record (datum.Truth b) fs ns no e = false_true e
-  other_record (datum.Whole z) fs ns no e = false_true e
-  other_record (datum.Array items) fs ns no e = false_true e
+  other_record (datum.Record fields) fs ns lacks e =
+      (datum.Record fields, same_field fields fs (both (fields_in (names_of fields) (field_readers table k fields) fs) (none_in (shape_of table k (datum.Record fields)) ns) e).0 ∙ lacks, e)
+  other_record datum.Null fs ns lacks e = false_true e
+  other_record (datum.Truth b) fs ns lacks e = false_true e
+  other_record (datum.Whole z) fs ns lacks e = false_true e
+  other_record (datum.Array items) fs ns lacks e = false_true e
 
   fresh_record : (d : Datum) (ns : List (Atom ℕ)) → (atom_in (shape_of table k d) atom.AnyRecord && none_in (shape_of table k d) ns) ≡ true → HasOther atom.AnyRecord ns
   fresh_record (datum.Record fields) ns e =
@@ -290,12 +290,12 @@ module _ (table : Table) (k : ℕ) (ranked : (rank : ℕ → ℕ) × IsRanked ta
   fresh_record (datum.Array items) ns e = false_true e
 
   has_other : (d : Datum) (a : Atom ℕ) (ns : List (Atom ℕ)) → atom_has f a ≡ false → (atom_in (shape_of table k d) a && none_in (shape_of table k d) ns) ≡ true → HasOther a ns
-  has_other d atom.Null ns no e = no_record d atom.Null ns (λ fields h. false_true h) e
-  has_other d atom.Bool ns no e = no_record d atom.Bool ns (λ fields h. false_true h) e
-  has_other d atom.Int ns no e = no_record d atom.Int ns (λ fields h. false_true h) e
-  has_other d (atom.Array p) ns no e = no_record d (atom.Array p) ns (λ fields h. false_true h) e
-  has_other d (atom.Record fs) ns no e = other_record d fs ns no e
-  has_other d atom.AnyRecord ns no e = fresh_record d ns e
+  has_other d atom.Null ns lacks e = no_record d atom.Null ns (λ fields h. false_true h) e
+  has_other d atom.Bool ns lacks e = no_record d atom.Bool ns (λ fields h. false_true h) e
+  has_other d atom.Int ns lacks e = no_record d atom.Int ns (λ fields h. false_true h) e
+  has_other d (atom.Array p) ns lacks e = no_record d (atom.Array p) ns (λ fields h. false_true h) e
+  has_other d (atom.Record fs) ns lacks e = other_record d fs ns lacks e
+  has_other d atom.AnyRecord ns lacks e = fresh_record d ns e
 
   abbrev pub SomeOther : List (Conjunct ℕ) → Type 0
   SomeOther cs = (d : Datum) × (has_value_at f d ≡ false) × (any_in (shape_of table k d) cs ≡ true)

@@ -1,5 +1,5 @@
 -- The values at a field, as types of a program.
-use Rattle.std.proofs.Common.{◌≡◌, ◌↔◌, ◌∙◌, ℕ, List, [], Bool, true, false, inl, inr, Some, sym, ap, subst}
+use Rattle.std.proofs.Common.{◌≡◌, ◌↔◌, ◌∙◌, ℕ, List, [], ◌∷◌, Bool, true, false, inl, inr, Some, sym, ap, subst}
 use Rattle.wy_value.specs.Datum.{Datum, Fields}
 use Rattle.wy_value.specs.Datum as datum
 use Rattle.wy_core.specs.Types.{Ty, NormalTy}
@@ -77,8 +77,8 @@ module _ (names : List Declared) (t : Ty) (q : Question) (is : q ≡ numbered na
   value_all has = λ d u. all_fields q.table q.depth ranked f d found.conjuncts has (they_say d ∙ u)
 
   pub value_lacks : all_have f found.conjuncts ≡ false → SomeLacks names f t
-  value_lacks no =
-      let o = some_other q.table q.depth ranked f found.conjuncts (valued_have q.table q.depth (all_of q) found.conjuncts those.conjuncts) no in
+  value_lacks lacks =
+      let o = some_other q.table q.depth ranked f found.conjuncts (valued_have q.table q.depth (all_of q) found.conjuncts those.conjuncts) lacks in
       (o.0, o.1, sym (they_say o.0) ∙ o.2)
 
   pub wide_values : all_have f found.conjuncts ≡ true → narrow_values q.table q.depth f found.ways ≡ false → IsWideUnion names f t
@@ -93,21 +93,21 @@ module _ (names : List Declared) (t : Ty) (q : Question) (is : q ≡ numbered na
       (those_one q.table q.depth (all_of q) w.0 found other those, subst (λ (x : Question). narrow_values x.table x.depth f w.0.ways ≡ false) (sym is) w.2)
 
   pub narrow_none : all_have f found.conjuncts ≡ false → IsWideUnion names f t → ⊥
-  narrow_none no w =
+  narrow_none lacks w =
       let has : all_have f found.conjuncts ≡ true = subst (λ (x : Inhabited). all_have f x.conjuncts ≡ true) (same_found w).0 w.1.whole in
-      cc (has, no)
+      cc (has, lacks)
 
   pub no_union : all_have f found.conjuncts ≡ false → HasNoUnion names f t
-  no_union no union u =
+  no_union lacks union u =
       let other : AreThose q.table q.depth (all_of q) u.found = subst (λ (x : Question). AreThose x.table x.depth (all_of x) u.found) (sym is) u.parts.those in
       let same : u.found ≡ found = those_one q.table q.depth (all_of q) u.found found other those in
       let has : all_have f found.conjuncts ≡ true = subst (λ (x : Inhabited). all_have f x.conjuncts ≡ true) same u.parts.whole in
-      cc (has, no)
+      cc (has, lacks)
 
   pub narrow_some : narrow_values q.table q.depth f found.ways ≡ true → IsWideUnion names f t → ⊥
   narrow_some e w =
-      let no : narrow_values q.table q.depth f found.ways ≡ false = subst (λ (x : Inhabited). narrow_values q.table q.depth f x.ways ≡ false) (same_found w).0 (same_found w).1 in
-      cc (e, no)
+      let lacks : narrow_values q.table q.depth f found.ways ≡ false = subst (λ (x : Inhabited). narrow_values q.table q.depth f x.ways ≡ false) (same_found w).0 (same_found w).1 in
+      cc (e, lacks)
 
 pub narrow_both : (names : List Declared) (f : List ℕ) (t : Ty) → (IsWideAbout names t → ⊥) → (IsWideUnion names f t → ⊥) → IsWideValues names f t → ⊥
 narrow_both names f t h g (inl w) = h w
@@ -119,5 +119,5 @@ narrow_field names f t union is h g (inr w) = g (subst (IsWideAbout names) (unio
 
 -- where some value has no such field, there is no union
 pub narrow_missing : (names : List Declared) (f : List ℕ) (t : Ty) → HasNoUnion names f t → (IsWideValues names f t → ⊥) → IsWideField names f t → ⊥
-narrow_missing names f t no h (inl w) = h w
-narrow_missing names f t no h (inr w) = no w.0 w.1
+narrow_missing names f t lacks h (inl w) = h w
+narrow_missing names f t lacks h (inr w) = lacks w.0 w.1

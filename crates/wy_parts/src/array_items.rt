@@ -10,7 +10,7 @@ ghost use Rattle.wy_types.specs.Questions.{IsOver, IsWideAbout};
 ghost use Rattle.wy_types.specs.Recursion.{RecurThroughParts};
 ghost use Rattle.wy_value.specs.Datum.{Datum};
 
-use crate::asking::first_part;
+use crate::asking::{first_part, normal_type};
 use crate::norms::norm_in;
 use sqlite_items::Items;
 use std::alloc::Global;
@@ -76,12 +76,12 @@ fn item_union(
     let part = first_part(alloc, question)?;
     let table = &question.table;
     let list = valued_conjuncts(alloc, table, question.depth, part.as_slice())?;
-    let all = elements(alloc, table, question.depth, list.as_slice())?;
+    let all = match elements(alloc, table, question.depth, list.as_slice()) {
+        Ok(all) => all,
+        Err(fault) => return Err(fault),
+    };
     let made = conjuncts_at(alloc, table, question.depth, ty.at, all.as_slice())?;
-    Ok(tree::Ty {
-        at: ty.at,
-        kind: tree::TyKind::Normal(made),
-    })
+    Ok(normal_type(ty.at, made))
 }
 
 /// What the items of arrays in the type may be, by its upward reading: exactly the data that are
@@ -103,8 +103,10 @@ pub fn element_in(
     ensures over { OnOk result (IsOver (types_of names.now) question.new) }
 {
     let union = item_union(alloc, names, question, ty)?;
-    let made = norm_in(alloc, names, question, &union)?;
-    Ok(made)
+    match norm_in(alloc, names, question, &union) {
+        Ok(made) => Ok(made),
+        Err(fault) => Err(fault),
+    }
 }
 
 /// The same for one type alone: the table is made for it, in time linear in the declared types.

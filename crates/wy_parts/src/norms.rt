@@ -8,7 +8,7 @@ ghost use Rattle.wy_types.specs.Questions.{IsOver, IsWideAbout};
 ghost use Rattle.wy_types.specs.Recursion.{RecurThroughParts};
 ghost use Rattle.wy_value.specs.Datum.{Datum};
 
-use crate::asking::first_part;
+use crate::asking::{first_part, normal_type};
 use std::alloc::Global;
 use wy_canon::{TypeFault, conjuncts_at};
 use wy_core as tree;
@@ -37,10 +37,7 @@ pub fn norm_in(
     let table = &question.table;
     let list = valued_conjuncts(alloc, table, question.depth, part.as_slice())?;
     let made = conjuncts_at(alloc, table, question.depth, ty.at, list.as_slice())?;
-    Ok(tree::Ty {
-        at: ty.at,
-        kind: tree::TyKind::Normal(made),
-    })
+    Ok(normal_type(ty.at, made))
 }
 
 /// The same for one type alone: the table is made for it, in time linear in the declared types.

@@ -10,7 +10,7 @@ ghost use Rattle.wy_types.specs.Questions.{IsOver};
 ghost use Rattle.wy_types.specs.Recursion.{RecurThroughParts};
 ghost use Rattle.wy_value.specs.Datum.{Datum};
 
-use crate::asking::first_part;
+use crate::asking::{first_part, normal_type};
 use crate::norms::norm_in;
 use sqlite_items::Items;
 use std::alloc::Global;
@@ -123,12 +123,12 @@ fn value_union(
     if !all_have(name, found.conjuncts.as_slice()) {
         return Ok(None);
     }
-    let all = values_at(alloc, table, question.depth, name, found.ways.as_slice())?;
+    let all = match values_at(alloc, table, question.depth, name, found.ways.as_slice()) {
+        Ok(all) => all,
+        Err(fault) => return Err(fault),
+    };
     let made = conjuncts_at(alloc, table, question.depth, ty.at, all.as_slice())?;
-    Ok(Some(tree::Ty {
-        at: ty.at,
-        kind: tree::TyKind::Normal(made),
-    }))
+    Ok(Some(normal_type(ty.at, made)))
 }
 
 /// What the values at the field may be, by the type's upward reading: exactly the data at this field
@@ -157,8 +157,10 @@ pub fn field_in(
         None => return Ok(None),
         Some(union) => union,
     };
-    let made = norm_in(alloc, names, question, &union)?;
-    Ok(Some(made))
+    match norm_in(alloc, names, question, &union) {
+        Ok(made) => Ok(Some(made)),
+        Err(fault) => Err(fault),
+    }
 }
 
 /// The same for one type alone: the table is made for it, in time linear in the declared types.

@@ -19,7 +19,7 @@ returns-clause-value c =
     let part : c.as_slice.result.now ≡ first_part q = c.as_slice.ensures ∙ c.in_ok-part.ensures.value in
     let valued = subst (λ (p : List (Signed ℕ)). AreValued q.table q.depth (dnf_part q.table q.depth p) c.in_ok-list.list) part c.in_ok-list.ensures.valued in
     is_norm (types_of c.args.names.now) (seen_ty c.args.ty.now) q e.value e.ranked (λ d. e.first d true) e.conjuncts c.in_ok-list.list valued _
-    (ap NormalTy (c.in_ok-made.ensures.value ∙ ap (conjuncts_at (ty_at q.table q.depth)) c.as_slice-2.ensures))
+    (c.normal_type.ensures.value ∙ ap NormalTy (c.in_ok-made.ensures.value ∙ ap (conjuncts_at (ty_at q.table q.depth)) c.as_slice-2.ensures))
 
 pub returns-clause-same : goal.returns-clause-same
 returns-clause-same c =
@@ -28,7 +28,7 @@ returns-clause-same c =
     let part : c.as_slice.result.now ≡ first_part q = c.as_slice.ensures ∙ c.in_ok-part.ensures.value in
     let valued = subst (λ (p : List (Signed ℕ)). AreValued q.table q.depth (dnf_part q.table q.depth p) c.in_ok-list.list) part c.in_ok-list.ensures.valued in
     norm_same (types_of c.args.names.now) (seen_ty c.args.ty.now) q e.value e.ranked (λ d. e.first d true) e.conjuncts c.in_ok-list.list valued _
-    (ap NormalTy (c.in_ok-made.ensures.value ∙ ap (conjuncts_at (ty_at q.table q.depth)) c.as_slice-2.ensures))
+    (c.normal_type.ensures.value ∙ ap NormalTy (c.in_ok-made.ensures.value ∙ ap (conjuncts_at (ty_at q.table q.depth)) c.as_slice-2.ensures))
 
 pub returns-clause-narrow : goal.returns-clause-narrow
 returns-clause-narrow c =
