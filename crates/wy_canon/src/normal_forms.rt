@@ -13,7 +13,8 @@ use std::alloc::{AllocError, Global};
 use wy_data::Name;
 use wy_types::{Atom, Conjunct, Definition, Node, Part, Signed, Table};
 
-fn node_of<'a>(table: &'a Table, term: u32, void: &'a Node) -> &'a Node
+/// The node of a term; `void` for a number that has none.
+pub fn node_of<'a>(table: &'a Table, term: u32, void: &'a Node) -> &'a Node
     requires { void.now ≡ Node.Void }
     ensures value { result.now ≡ terms.node_of table.now term }
 {

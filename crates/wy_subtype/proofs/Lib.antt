@@ -1,6 +1,9 @@
-mod NumberLemmas
-mod KnownLemmas
-mod NarrowLemmas
-mod MarkLemmas
-mod ValueLemmas
-mod WayLemmas
+pub mod NumberLemmas
+pub mod KnownLemmas
+pub mod NarrowLemmas
+pub mod MarkLemmas
+pub mod ValueLemmas
+pub mod WayLemmas
+pub mod ValuedLemmas
+pub mod ClausalLemmas
+pub mod RefusalLemmas

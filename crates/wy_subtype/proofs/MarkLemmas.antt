@@ -1,5 +1,5 @@
 -- Marks: what they meet, and a mark more.
-use Rattle.std.proofs.Common.{◌≡◌, ℕ, zero, suc, ◌<◌, List, [], ◌∷◌, ◌++◌, length, Bool, true, false, ◌||◌, Some, set, refl, ap, arith, inl, inr, ◌⊎◌}
+use Rattle.std.proofs.Common.{◌≡◌, ℕ, zero, suc, List, [], ◌∷◌, Bool, true, false, ◌||◌, Some, refl, ap, inl, inr, ◌⊎◌}
 use Rattle.std.specs.Prelude.{slice_get}
 use Rattle.std.proofs.lemmas.Bool.{or_cases}
 use Rattle.wy_types.specs.declared.conjuncts.Signed.{Signed}
@@ -8,7 +8,7 @@ use Rattle.wy_types.specs.Claims.{SomeOf, EachOf}
 use Rattle.wy_types.specs.Asks.{HasValue, IsMet}
 use Rattle.wy_types.proofs.TruthLemmas.{both, two_true}
 use Rattle.wy_subtype.specs.Numbers.{AreAt, AreEachAt, AreAllAt}
-use Rattle.wy_subtype.specs.Marks.{mark_at, any_marked, each_marked, met, part_marks, unmarked, HaveValues}
+use Rattle.wy_subtype.specs.Marks.{mark_at, any_marked, each_marked, met, part_marks, HaveValues}
 use Rattle.wy_subtype.proofs.NumberLemmas.{some_is}
 
 pub or_left : (a b : Bool) → a ≡ true → (a || b) ≡ true
@@ -32,7 +32,7 @@ module _ (table : Table) (k : ℕ) (parts : List (List (Signed ℕ))) (marks : L
       by (inl f) rest = inl (sound n p f h.0)
       by (inr f) rest = inr (rest f)
 
-  each_marked-value : (ns : List (List ℕ)) (ps : List (List (List (Signed ℕ)))) → AreEachAt parts ns ps → each_marked marks ns ≡ true → EachOf (SomeOf (HasValue table k)) ps
+  pub each_marked-value : (ns : List (List ℕ)) (ps : List (List (List (Signed ℕ)))) → AreEachAt parts ns ps → each_marked marks ns ≡ true → EachOf (SomeOf (HasValue table k)) ps
   each_marked-value [] [] h e = tt
   each_marked-value [] (p ∷ ps) h e = absurd h
   each_marked-value (n ∷ ns) [] h e = absurd h
@@ -99,27 +99,7 @@ all_are_parts parts [] (p ∷ ps) h = absurd h
 all_are_parts parts (n ∷ ns) [] h = absurd h
 all_are_parts parts (n ∷ ns) (p ∷ ps) h = (each_are_parts parts n p h.0, all_are_parts parts ns ps h.1)
 
--- ---- a mark more
-
-pub mark_at-set : (marks : List Bool) (i n : ℕ) → mark_at (set marks i true) n ≡ true → (n ≡ i) ⊎ (mark_at marks n ≡ true)
-mark_at-set [] i n e = inr e
-mark_at-set (m ∷ marks) zero zero e = inl refl
-mark_at-set (m ∷ marks) zero (suc n) e = inr e
-mark_at-set (m ∷ marks) (suc i) zero e = inr e
-mark_at-set (m ∷ marks) (suc i) (suc n) e = elim (mark_at-set marks i n e) [ inl f ↦ inl (ap suc f) | inr f ↦ inr f ]
-
-pub unmarked-set : (marks : List Bool) (i : ℕ) → i < length marks → mark_at marks i ≡ false → unmarked (set marks i true) < unmarked marks
-unmarked-set [] i lt e = absurd (omega (arith, lt))
-unmarked-set (false ∷ marks) zero lt e = omega arith
-unmarked-set (true ∷ marks) zero lt e = absurd cc
-unmarked-set (true ∷ marks) (suc i) lt e = unmarked-set marks i (omega (arith, lt)) e
-unmarked-set (false ∷ marks) (suc i) lt e = let h = unmarked-set marks i (omega (arith, lt)) e in omega (arith, h)
-
-pub no_mark_more : (marks : List Bool) → ((n : ℕ) → mark_at marks n ≡ false) → (n : ℕ) → mark_at (marks ++ false ∷ []) n ≡ false
-no_mark_more [] h zero = refl
-no_mark_more [] h (suc n) = refl
-no_mark_more (m ∷ marks) h zero = h zero
-no_mark_more (m ∷ marks) h (suc n) = no_mark_more marks (λ i. h (suc i)) n
+-- ---- the mark of a part
 
 pub part_mark : (marks : List Bool) (heads : List (List ℕ)) (n : ℕ) (h : List ℕ) → slice_get heads n ≡ Some h → mark_at (part_marks marks heads) n ≡ any_marked marks h
 part_mark marks [] n h e = absurd cc

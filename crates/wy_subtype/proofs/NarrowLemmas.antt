@@ -1,5 +1,5 @@
 -- What is reached in full shows that the question is narrow.
-use Rattle.std.proofs.Common.{◌≡◌, ℕ, ◌<◌, ◌≤◌, List, [], ◌∷◌, length, true, false, inl, inr, Some, sym, subst, arith}
+use Rattle.std.proofs.Common.{◌≡◌, ℕ, ◌<◌, ◌≤◌, List, [], ◌∷◌, length, true, false, inl, inr, Some, refl, sym, subst, arith}
 use Rattle.std.specs.Prelude.{slice_get}
 use Rattle.std.proofs.lemmas.Option.{slice_get_within}
 use Rattle.wy_types.specs.declared.conjuncts.Signed.{Signed}
@@ -97,3 +97,7 @@ module _ (table : Table) (k : ℕ) (first : List (Signed ℕ)) (r : Reach) (b : 
       (λ c p h a. let n = part_of c p h a in reach.known.narrow n.0 p n.1)
       (λ c h. let j = asks_of c h in reach.known.few j.0 c j.1 j.2 j.3)
       (λ c d p h a i. let n = part_of c p h a in heads_in n.0 p n.1 d i)
+
+-- a question whose own conjuncts are wide is wide
+pub wide_at_once : (table : Table) (k : ℕ) (p : List (Signed ℕ)) → narrow_part table k p ≡ false → IsWide table k p
+wide_at_once table k p e = inl (p, inl refl, e)

@@ -3,31 +3,33 @@ use Rattle.std.proofs.Common.{◌≡◌, ℕ, ◌<◌, List, [], ◌∷◌, leng
 use Rattle.std.specs.Prelude.{slice_get}
 use Rattle.std.proofs.lemmas.Bool.{or_cases}
 use Rattle.std.proofs.lemmas.Option.{slice_get_within}
-use Rattle.wy_value.specs.Datum.{Datum}
+use Rattle.wy_value.specs.Datum.{Datum, Data, Fields, no_items, item, no_fields, field}
+use Rattle.wy_value.specs.Datum as datum
 use Rattle.wy_types.specs.declared.conjuncts.Signed.{Signed}
 use Rattle.wy_types.specs.declared.conjuncts.Conjunct.{Conjunct}
 use Rattle.wy_types.specs.declared.table.Table.{Table}
-use Rattle.wy_types.specs.Shape.{part_in, conjunct_in, any_in}
+use Rattle.wy_types.specs.Shape.{part_in, atom_in, none_in, conjunct_in, any_in}
 use Rattle.wy_types.specs.Claims.{SomeOf, EachOf}
-use Rattle.wy_types.specs.Membership.{shape_of, member}
+use Rattle.wy_types.specs.Membership.{shape_of, item_readers, field_readers, member}
 use Rattle.wy_types.specs.Ranked.{IsRanked}
 use Rattle.wy_types.specs.Conjuncts.{dnf_part, with_sides}
 use Rattle.wy_types.specs.Asks.{all_options, options, HasValue, IsMet}
 use Rattle.wy_types.specs.Reach.{outside}
-use Rattle.wy_types.proofs.ClaimLemmas.{some_split, each_append}
+use Rattle.wy_types.proofs.ClaimLemmas.{some_split, each_append, met_within}
 use Rattle.wy_types.proofs.RankedLemmas.{has_laws, is_lawful}
 use Rattle.wy_types.proofs.TermLemmas.{any_in-dnf_part, part_in-with_sides}
-use Rattle.wy_types.proofs.AskLemmas.{options_of-value}
+use Rattle.wy_types.proofs.AskLemmas.{HasPiece, options_of-ask}
 use Rattle.wy_types.proofs.FoundLemmas.{found}
 use Rattle.wy_subtype.specs.declared.reach.Reach.{Reach}
 use Rattle.wy_subtype.specs.Numbers.{AreAt}
 use Rattle.wy_subtype.specs.Marks.{mark_at, any_marked, met, part_marks, HaveValues, AreSound, AreClosedBy}
 use Rattle.wy_subtype.specs.Known.{options_of, IsKnown, IsReach}
 use Rattle.wy_subtype.proofs.NumberLemmas.{get_within}
-use Rattle.wy_subtype.proofs.MarkLemmas.{or_left, or_right, met-value, met-at, IsMarked, IsPart, all_are_parts, mark_at-set, part_mark}
+use Rattle.wy_subtype.proofs.MarkLemmas.{or_left, or_right, met-at, IsMarked, IsPart, all_are_parts, part_mark}
 
-pub none_are_sound : (table : Table) (k : ℕ) (conjuncts : List (Conjunct ℕ)) (marks : List Bool) → ((n : ℕ) → mark_at marks n ≡ false) → AreSound table k conjuncts marks
-none_are_sound table k conjuncts marks h n c e f = absurd (let x = h n in cc (x, e))
+both : (a b : Bool) → (a && b) ≡ true → (a ≡ true) × (b ≡ true)
+both true b e = (refl, e)
+both false b e = absurd cc
 
 -- a marked conjunct among those of a part
 head_value : (table : Table) (k : ℕ) (conjuncts : List (Conjunct ℕ)) (marks : List Bool) → AreSound table k conjuncts marks → (h : List ℕ) (cs : List (Conjunct ℕ)) → AreAt conjuncts h cs → any_marked marks h ≡ true → (d : Datum) × (any_in (shape_of table k d) cs ≡ true)
@@ -50,16 +52,6 @@ module _ (table : Table) (k : ℕ) (ranked : (rank : ℕ → ℕ) × IsRanked ta
       let g = get_within r.heads n lt in
       let v = head_value table k r.conjuncts marks sound g.0 (dnf_part table k p) (known.headed n p g.0 at g.1) (sym (part_mark marks r.heads n g.0 g.1) ∙ e) in
       (v.0, sym (union v.0 p) ∙ v.1)
-
-  pub value_sound : (first : List (Signed ℕ)) (r : Reach) (held marks : List Bool) (i : ℕ) (a : List (List (List ℕ))) → IsKnown table k first r → HaveValues table k r.parts held → slice_get r.asks i ≡ Some a → met held a ≡ true → AreSound table k r.conjuncts marks
-      → AreSound table k r.conjuncts (set marks i true)
-  value_sound first r held marks i a known hs at m sound j c e f = by (mark_at-set marks i j e)
-    where
-      by : (j ≡ i) ⊎ (mark_at marks j ≡ true) → (d : Datum) × (conjunct_in (shape_of table k d) c ≡ true)
-      by (inl is) =
-          options_of-value table ranked.0 k ranked.1 c.positive c.negatives
-          (met-value table k r.parts held hs a (options_of table k c) (known.asked i c a (subst (λ (x : ℕ). slice_get r.conjuncts x ≡ Some c) is f) at) m)
-      by (inr old) = sound j c old f
 
   -- ---- every part with a value is marked
 
@@ -92,10 +84,10 @@ module _ (table : Table) (k : ℕ) (ranked : (rank : ℕ → ℕ) × IsRanked ta
           or_left (mark_at marks j) (any_marked marks js) (closed j lt g.0 g.1 (met-at r.parts held g.0 (options_of table k c) (reach.known.asked j c g.0 a.0 g.1) n))
       by (inr n) rest = or_right (mark_at marks j) (any_marked marks js) (rest n)
 
-  pub value_held : (first : List (Signed ℕ)) (r : Reach) (b : ℕ) → IsReach table k first r b → (marks : List Bool) → AreClosedBy (part_marks marks r.heads) marks r.asks (length r.asks) → (d : Datum) → part_in (member table k d) first ≡ true
-      → mark_at (part_marks marks r.heads) b ≡ true
-  value_held first r b reach marks closed d e =
-      found table ranked.0 k ranked.1 (IsPart r.parts) (IsMarked r.parts (part_marks marks r.heads)) within close d first (b, reach.begins) e b reach.begins
+  -- what is in a part that is reached marks it
+  pub value_found : (first : List (Signed ℕ)) (r : Reach) (b : ℕ) → IsReach table k first r b → (marks : List Bool) → AreClosedBy (part_marks marks r.heads) marks r.asks (length r.asks) → (d : Datum) (q : List (Signed ℕ)) → IsPart r.parts q → part_in (member table k d) q ≡ true
+      → IsMarked r.parts (part_marks marks r.heads) q
+  value_found first r b reach marks closed d q i e = found table ranked.0 k ranked.1 (IsPart r.parts) (IsMarked r.parts (part_marks marks r.heads)) within close d q i e
     where
       head_of : (n : ℕ) (p : List (Signed ℕ)) → slice_get r.parts n ≡ Some p → (h : List ℕ) × (slice_get r.heads n ≡ Some h)
       head_of n p at = get_within r.heads n (let w = slice_get_within r.parts n p at in let f = reach.known.counted in omega (arith, w, f))
@@ -107,6 +99,45 @@ module _ (table : Table) (k : ℕ) (ranked : (rank : ℕ → ℕ) × IsRanked ta
       close p i m n at =
           let g = head_of n p at in
           part_mark marks r.heads n g.0 g.1 ∙ head_marked first r b reach (part_marks marks r.heads) marks closed g.0 (dnf_part table k p) (reach.known.headed n p g.0 at g.1) m
+
+  pub value_held : (first : List (Signed ℕ)) (r : Reach) (b : ℕ) → IsReach table k first r b → (marks : List Bool) → AreClosedBy (part_marks marks r.heads) marks r.asks (length r.asks) → (d : Datum) → part_in (member table k d) first ≡ true
+      → mark_at (part_marks marks r.heads) b ≡ true
+  value_held first r b reach marks closed d e = value_found first r b reach marks closed d first (b, reach.begins) e b reach.begins
+
+  -- ---- every conjunct with a value is marked
+
+  piece_found : (first : List (Signed ℕ)) (r : Reach) (b : ℕ) → IsReach table k first r b → (marks : List Bool) → AreClosedBy (part_marks marks r.heads) marks r.asks (length r.asks) → (d : Datum) (q : List (Signed ℕ)) → IsPart r.parts q → HasPiece (shape_of table k d) q
+      → IsMarked r.parts (part_marks marks r.heads) q
+  piece_found first r b reach marks closed d q i s = by d s
+    where
+      in_items : (items : Data) → SomeOf (λ (f : Bool → ℕ → Bool). part_in f q ≡ true) (item_readers table k items) → IsMarked r.parts (part_marks marks r.heads) q
+      in_items no_items s = absurd s
+      in_items (item d rest) (inl e) = value_found first r b reach marks closed d q i e
+      in_items (item d rest) (inr s) = in_items rest s
+
+      in_fields : (fields : Fields) → SomeOf (λ (f : Bool → ℕ → Bool). part_in f q ≡ true) (field_readers table k fields) → IsMarked r.parts (part_marks marks r.heads) q
+      in_fields no_fields s = absurd s
+      in_fields (field name d rest) (inl e) = value_found first r b reach marks closed d q i e
+      in_fields (field name d rest) (inr s) = in_fields rest s
+
+      by : (d : Datum) → HasPiece (shape_of table k d) q → IsMarked r.parts (part_marks marks r.heads) q
+      by datum.Null s = absurd s
+      by (datum.Truth x) s = absurd s
+      by (datum.Whole z) s = absurd s
+      by (datum.Array items) s = in_items items s
+      by (datum.Record fields) s = in_fields fields s
+
+  pub conjunct_held : (first : List (Signed ℕ)) (r : Reach) (b : ℕ) → IsReach table k first r b → (marks : List Bool) → AreClosedBy (part_marks marks r.heads) marks r.asks (length r.asks) → (j : ℕ) (c : Conjunct ℕ) → slice_get r.conjuncts j ≡ Some c
+      → (d : Datum) → conjunct_in (shape_of table k d) c ≡ true → mark_at marks j ≡ true
+  conjunct_held first r b reach marks closed j c at d e =
+      let held = part_marks marks r.heads in
+      let lt : j < length r.asks = (let w = slice_get_within r.conjuncts j c at in let f = reach.full in omega (arith, w, f)) in
+      let g = get_within r.asks j lt in
+      let parts = reach.known.asked j c g.0 at g.1 in
+      let in_both = both (atom_in (shape_of table k d) c.positive) (none_in (shape_of table k d) c.negatives) e in
+      let asks = options_of-ask table k (shape_of table k d) (has_laws table ranked.0 k ranked.1 d) c.positive c.negatives in_both.0 in_both.1 in
+      let is_met = met_within (HasPiece (shape_of table k d)) (IsPart r.parts) (IsMarked r.parts held) (options_of table k c) (all_are_parts r.parts g.0 (options_of table k c) parts) (piece_found first r b reach marks closed d) asks in
+      closed j lt g.0 g.1 (met-at r.parts held g.0 (options_of table k c) parts is_met)
 
   -- ---- inclusion
 
@@ -133,7 +164,7 @@ module _ (table : Table) (k : ℕ) (ranked : (rank : ℕ → ℕ) × IsRanked ta
 
   -- ---- values of a term
 
-  part_in-inside : (d : Datum) (t : ℕ) → part_in (member table k d) (with_sides table k [] true true t) ≡ member table k d true t
+  pub part_in-inside : (d : Datum) (t : ℕ) → part_in (member table k d) (with_sides table k [] true true t) ≡ member table k d true t
   part_in-inside d t = part_in-with_sides table (member table k d) (is_lawful table ranked.0 k ranked.1 (shape_of table k d)) k [] true true t
 
   pub none_inside : (t : ℕ) → ((d : Datum) → part_in (member table k d) (with_sides table k [] true true t) ≡ true → ⊥) → (d : Datum) → member table k d true t ≡ false

@@ -1,5 +1,8 @@
+-- definitions of public contracts
+pub mod Known
+pub mod Valued
 -- definitions for functions inside
 pub mod Numbers
 pub mod Marks
-pub mod Known
+pub mod Clausal
 pub mod Ways

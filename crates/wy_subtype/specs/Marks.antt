@@ -1,6 +1,5 @@
 -- Marks of what has a value.
-use Rattle.std.specs.Prelude.{◌≡◌, ℕ, suc, ◌<◌, List, [], ◌∷◌, Bool, true, false, ◌&&◌, ◌||◌, Some, slice_get}
-use Rattle.std.specs.Option.{unwrap_or}
+use Rattle.std.specs.Prelude.{◌≡◌, ℕ, ◌<◌, List, [], ◌∷◌, Bool, true, false, ◌&&◌, ◌||◌, Some, slice_get}
 use Rattle.wy_value.specs.Datum.{Datum}
 use Rattle.wy_types.specs.declared.conjuncts.Signed.{Signed}
 use Rattle.wy_types.specs.declared.conjuncts.Conjunct.{Conjunct}
@@ -8,20 +7,7 @@ use Rattle.wy_types.specs.declared.table.Table.{Table}
 use Rattle.wy_types.specs.Shape.{conjunct_in}
 use Rattle.wy_types.specs.Membership.{shape_of}
 use Rattle.wy_types.specs.Asks.{HasValue}
-
--- the number has a mark
-abbrev pub mark_at : List Bool → ℕ → Bool
-mark_at marks n = unwrap_or (slice_get marks n) false
-
--- one of the numbers has a mark
-abbrev pub any_marked : List Bool → List ℕ → Bool
-any_marked marks [] = false
-any_marked marks (n ∷ ns) = mark_at marks n || any_marked marks ns
-
--- one of each list has a mark
-abbrev pub each_marked : List Bool → List (List ℕ) → Bool
-each_marked marks [] = true
-each_marked marks (ns ∷ more) = any_marked marks ns && each_marked marks more
+pub use Rattle.wy_closure.specs.Marks.{mark_at, any_marked, each_marked}
 
 -- one option is met by the marks
 abbrev pub met : List Bool → List (List (List ℕ)) → Bool
@@ -32,12 +18,6 @@ met marks (o ∷ os) = each_marked marks o || met marks os
 abbrev pub part_marks : List Bool → List (List ℕ) → List Bool
 part_marks marks [] = []
 part_marks marks (h ∷ hs) = any_marked marks h ∷ part_marks marks hs
-
--- how many are not marked
-abbrev pub unmarked : List Bool → ℕ
-unmarked [] = 0
-unmarked (true ∷ marks) = unmarked marks
-unmarked (false ∷ marks) = suc (unmarked marks)
 
 -- each marked part has a value
 abbrev pub HaveValues : Table → ℕ → List (List (Signed ℕ)) → List Bool → Type 0

@@ -1,9 +1,9 @@
 //! Questions about the types of a program.
-ghost use Rattle.std.specs.Prelude.{◌≡◌, true, false, IfOk};
+ghost use Rattle.std.specs.Prelude.{◌≡◌, true, false, IfOk, OnOk};
 ghost use Rattle.wy_core.specs.CoreSeen.{seen_ty};
 ghost use Rattle.wy_subtype.specs.Known.{WideOnly};
 ghost use Rattle.wy_types.specs.Names.{Up, types_of};
-ghost use Rattle.wy_types.specs.Questions.{IsWideAbout, IsWideWithin};
+ghost use Rattle.wy_types.specs.Questions.{IsOver, IsWideAbout, IsWideWithin};
 ghost use Rattle.wy_types.specs.Recursion.{RecurThroughParts};
 ghost use Rattle.wy_value.specs.Datum.{Datum};
 
@@ -11,18 +11,29 @@ use crate::inclusion::{is_inhabited, is_within};
 use std::alloc::Global;
 use wy_canon::TypeFault;
 use wy_core::Ty;
-use wy_types::Names;
+use wy_types::{Names, Question};
 
-/// Whether every value of `a` is in `b`, by upward readings of both. Wide exactly where the question
-/// is: `any & !(int[])` within `void` isn't.
-pub fn subtype(alloc: Global, names: &Names, a: &Ty, b: &Ty) -> Result<bool, TypeFault>
+/// Whether every datum in `a` is in `b`, by upward readings of both. Wide exactly where the question
+/// is. The question becomes this one, in time linear in the size of both types and of the two before;
+/// then each part that it reaches falls into conjuncts once, a look for an equal part or conjunct is
+/// linear in those reached before, and values are found in time linear in what is asked, each clause
+/// read once for each thing that it needs.
+pub fn subtype_in(
+    alloc: Global,
+    names: &Names,
+    question: &mut Question,
+    a: &Ty,
+    b: &Ty,
+) -> Result<bool, TypeFault>
     requires recursion { RecurThroughParts (types_of names.now) }
+    requires over { IsOver (types_of names.now) question.old }
     ensures sound { IfOk result (λ yes. yes ≡ true → (d : Datum) → Up (types_of names.now) d (seen_ty a.now) ≡ true → Up (types_of names.now) d (seen_ty b.now) ≡ true) }
     ensures complete { IfOk result (λ yes. yes ≡ false → (d : Datum) × ((Up (types_of names.now) d (seen_ty a.now) ≡ true) × (Up (types_of names.now) d (seen_ty b.now) ≡ false))) }
     ensures wide { WideOnly result (IsWideWithin (types_of names.now) (seen_ty a.now) (seen_ty b.now)) }
     ensures narrow { IfOk result (λ yes. IsWideWithin (types_of names.now) (seen_ty a.now) (seen_ty b.now) → ⊥) }
+    ensures over { OnOk result (IsOver (types_of names.now) question.new) }
 {
-    let question = names.number(alloc, a, b)?;
+    question.ask(alloc, names, a, b)?;
     let yes = is_within(
         alloc,
         &question.table,
@@ -33,7 +44,40 @@ pub fn subtype(alloc: Global, names: &Names, a: &Ty, b: &Ty) -> Result<bool, Typ
     Ok(yes)
 }
 
-/// Whether no value is in the type, by its upward reading. Wide exactly where the question is.
+/// The same for one question alone: the table is made for it, in time linear in the declared types.
+pub fn subtype(alloc: Global, names: &Names, a: &Ty, b: &Ty) -> Result<bool, TypeFault>
+    requires recursion { RecurThroughParts (types_of names.now) }
+    ensures sound { IfOk result (λ yes. yes ≡ true → (d : Datum) → Up (types_of names.now) d (seen_ty a.now) ≡ true → Up (types_of names.now) d (seen_ty b.now) ≡ true) }
+    ensures complete { IfOk result (λ yes. yes ≡ false → (d : Datum) × ((Up (types_of names.now) d (seen_ty a.now) ≡ true) × (Up (types_of names.now) d (seen_ty b.now) ≡ false))) }
+    ensures wide { WideOnly result (IsWideWithin (types_of names.now) (seen_ty a.now) (seen_ty b.now)) }
+    ensures narrow { IfOk result (λ yes. IsWideWithin (types_of names.now) (seen_ty a.now) (seen_ty b.now) → ⊥) }
+{
+    let mut question = names.question(alloc)?;
+    subtype_in(alloc, names, &mut question, a, b)
+}
+
+/// Whether no datum is in the type, by its upward reading. Wide exactly where the question is. The
+/// question becomes that about the type; the cost is that of `subtype_in`.
+pub fn empty_in(
+    alloc: Global,
+    names: &Names,
+    question: &mut Question,
+    ty: &Ty,
+) -> Result<bool, TypeFault>
+    requires recursion { RecurThroughParts (types_of names.now) }
+    requires over { IsOver (types_of names.now) question.old }
+    ensures sound { IfOk result (λ yes. yes ≡ true → (d : Datum) → Up (types_of names.now) d (seen_ty ty.now) ≡ false) }
+    ensures complete { IfOk result (λ yes. yes ≡ false → (d : Datum) × (Up (types_of names.now) d (seen_ty ty.now) ≡ true)) }
+    ensures wide { WideOnly result (IsWideAbout (types_of names.now) (seen_ty ty.now)) }
+    ensures narrow { IfOk result (λ yes. IsWideAbout (types_of names.now) (seen_ty ty.now) → ⊥) }
+    ensures over { OnOk result (IsOver (types_of names.now) question.new) }
+{
+    question.ask(alloc, names, ty, ty)?;
+    let found = is_inhabited(alloc, &question.table, question.depth, question.first)?;
+    Ok(!found)
+}
+
+/// The same for one question alone: the table is made for it, in time linear in the declared types.
 pub fn empty(alloc: Global, names: &Names, ty: &Ty) -> Result<bool, TypeFault>
     requires recursion { RecurThroughParts (types_of names.now) }
     ensures sound { IfOk result (λ yes. yes ≡ true → (d : Datum) → Up (types_of names.now) d (seen_ty ty.now) ≡ false) }
@@ -41,7 +85,6 @@ pub fn empty(alloc: Global, names: &Names, ty: &Ty) -> Result<bool, TypeFault>
     ensures wide { WideOnly result (IsWideAbout (types_of names.now) (seen_ty ty.now)) }
     ensures narrow { IfOk result (λ yes. IsWideAbout (types_of names.now) (seen_ty ty.now) → ⊥) }
 {
-    let question = names.number(alloc, ty, ty)?;
-    let found = is_inhabited(alloc, &question.table, question.depth, question.first)?;
-    Ok(!found)
+    let mut question = names.question(alloc)?;
+    empty_in(alloc, names, &mut question, ty)
 }

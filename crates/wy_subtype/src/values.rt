@@ -1,7 +1,7 @@
-//! Which conjuncts and parts have a value: marks that grow until none is added.
-ghost use Rattle.std.specs.Prelude.{◌≡◌, ◌<◌, ℕ, length, true, false, IfOk};
-ghost use Rattle.wy_subtype.specs.Known.{WideOnly, IsKnown, IsReach};
-ghost use Rattle.wy_subtype.specs.Marks.{part_marks, AreSound, HaveValues, IsClosedBy, AreClosedBy, unmarked};
+//! Which conjuncts and parts have a value: the least set that is closed under what they ask.
+ghost use Rattle.std.specs.Prelude.{◌≡◌, ℕ, length, true, false, IfOk};
+ghost use Rattle.wy_subtype.specs.Known.{WideOnly, IsKnown};
+ghost use Rattle.wy_subtype.specs.Marks.{part_marks, AreSound, AreClosedBy};
 ghost use Rattle.wy_types.specs.Asks.{HasValue};
 ghost use Rattle.wy_types.specs.Membership.{member};
 ghost use Rattle.wy_types.specs.Ranked.{IsRanked};
@@ -9,95 +9,38 @@ ghost use Rattle.wy_types.specs.Reach.{IsWide};
 ghost use Rattle.wy_types.specs.Shape.{part_in};
 ghost use Rattle.wy_value.specs.Datum.{Datum};
 
-use crate::marks::{mark_at, met, no_marks, part_marks};
+use crate::clausal::{clauses_of, part_count, total};
+use crate::marks::{marks_from, part_marks};
 use crate::reach::{Added, Reach, reach_of};
 use sqlite_items::Items;
 use std::alloc::{AllocError, Global};
 use wy_canon::TypeFault;
+use wy_closure::{close, mark_at};
 use wy_types::{Signed, Table};
 
-// Marks the conjunct with this number where what it asks is held: whether it wasn't marked.
-fn value_step(
+// The marks of all conjuncts with a value, by a work list over the clauses of what was reached.
+fn marks_of(
+    alloc: Global,
     _table: &Table,
     _depth: u32,
     _first: &[Signed<u32>],
     reach: &Reach,
-    held: &[bool],
-    marks: &mut Items<bool>,
-    i: usize,
-) -> bool
+) -> Result<Items<bool>, AllocError>
     requires ranked { (rank : ℕ → ℕ) × IsRanked _table.now rank _depth }
     requires known { IsKnown _table.now _depth _first.now reach.now }
-    requires held { HaveValues _table.now _depth reach.now.parts held.now }
-    requires within { i < length marks.old }
-    ensures count { length marks.new ≡ length marks.old }
-    ensures sound { AreSound _table.now _depth reach.now.conjuncts marks.old → AreSound _table.now _depth reach.now.conjuncts marks.new }
-    ensures fewer { result ≡ true → unmarked marks.new < unmarked marks.old }
-    ensures same { result ≡ false → marks.new ≡ marks.old }
-    ensures closed { result ≡ false → IsClosedBy held.now marks.new reach.now.asks i }
+    ensures sound { IfOk result (AreSound _table.now _depth reach.now.conjuncts) }
+    ensures closed { IfOk result (λ marks. AreClosedBy (part_marks marks reach.now.heads) marks reach.now.asks (length reach.now.asks)) }
 {
-    let options = match reach.asks.get(i) {
-        None => return false,
-        Some(options) => options,
-    };
-    if mark_at(marks.as_slice(), i) || !met(held, options.as_slice()) {
-        return false;
-    }
-    marks.set(i, true);
-    true
+    let base = part_count(reach)?;
+    let count = total(base as usize, reach.asks.len())?;
+    let clauses = clauses_of(alloc, base, reach)?;
+    let all = close(alloc, count, clauses.as_slice())?;
+    let marks = marks_from(alloc, all.as_slice(), base as usize)?;
+    Ok(marks)
 }
 
-// One pass over the conjuncts: whether a mark was added.
-fn value_pass(
-    table: &Table,
-    depth: u32,
-    first: &[Signed<u32>],
-    reach: &Reach,
-    held: &[bool],
-    marks: &mut Items<bool>,
-) -> bool
-    requires ranked { (rank : ℕ → ℕ) × IsRanked table.now rank depth }
-    requires known { IsKnown table.now depth first.now reach.now }
-    requires held { HaveValues table.now depth reach.now.parts held.now }
-    ensures count { length marks.new ≡ length marks.old }
-    ensures sound { AreSound table.now depth reach.now.conjuncts marks.old → AreSound table.now depth reach.now.conjuncts marks.new }
-    ensures fewer { result ≡ true → unmarked marks.new < unmarked marks.old }
-    ensures same { result ≡ false → marks.new ≡ marks.old }
-    ensures closed { result ≡ false → AreClosedBy held.now marks.new reach.now.asks (length marks.new) }
-{
-    let mut changed = false;
-    for i in 0..marks.len() {
-        if value_step(table, depth, first, reach, held, marks, i) {
-            changed = true;
-        }
-    }
-    changed
-}
-
-// One pass over what is held now: whether a mark was added.
-fn value_round(
-    alloc: Global,
-    table: &Table,
-    depth: u32,
-    first: &[Signed<u32>],
-    reach: &Reach,
-    marks: &mut Items<bool>,
-) -> Result<bool, AllocError>
-    requires ranked { (rank : ℕ → ℕ) × IsRanked table.now rank depth }
-    requires known { IsKnown table.now depth first.now reach.now }
-    requires sound { AreSound table.now depth reach.now.conjuncts marks.old }
-    ensures count { length marks.new ≡ length marks.old }
-    ensures sound { IfOk result (λ b. AreSound table.now depth reach.now.conjuncts marks.new) }
-    ensures fewer { IfOk result (λ b. b ≡ true → unmarked marks.new < unmarked marks.old) }
-    ensures closed { IfOk result (λ b. b ≡ false → AreClosedBy (part_marks marks.new reach.now.heads) marks.new reach.now.asks (length marks.new)) }
-{
-    let held = part_marks(alloc, marks.as_slice(), reach.heads.as_slice())?;
-    Ok(value_pass(table, depth, first, reach, held.as_slice(), marks))
-}
-
-// The marks of all conjuncts with a value.
-#[tactic(auto, using(crate::proofs::ValueLemmas::none_are_sound))]
-fn values(
+/// The marks of all conjuncts with a value.
+pub fn values(
     alloc: Global,
     table: &Table,
     depth: u32,
@@ -110,14 +53,9 @@ fn values(
     ensures closed { IfOk result (λ marks. AreClosedBy (part_marks marks reach.now.heads) marks reach.now.asks (length reach.now.asks)) }
     ensures wide { WideOnly result ⊥ }
 {
-    let mut marks = match no_marks(alloc, reach.asks.as_slice()) {
-        Ok(marks) => marks,
-        Err(_) => return Err(TypeFault::NoMemory),
-    };
-    'rounds: loop {
-        if !value_round(alloc, table, depth, first, reach, &mut marks)? {
-            return Ok(marks);
-        }
+    match marks_of(alloc, table, depth, first, reach) {
+        Ok(marks) => Ok(marks),
+        Err(_) => Err(TypeFault::NoMemory),
     }
 }
 

@@ -300,3 +300,7 @@ module _ (table : Table) (names : List Declared) (order : ℕ → ℕ) (ordered 
   -- a term says of a datum what its type does
   pub member_agrees : (d : Datum) (up : Bool) (t : Ty) (n : ℕ) → Stands table.nodes t n → member table k d up n ≡ is_in_ty names (names_of_types.shape_of names d) up t
   member_agrees d up t n s = is_in_agrees (shape_of table k d) (names_of_types.shape_of names d) (shapes_agree d) up t n s
+
+  -- a name says of a datum what it does among the types
+  pub named_agrees : (d : Datum) (up : Bool) (m : ℕ) → table_terms.named_in (is_in table k (shape_of table k d)) up (definition_of table m) ≡ is_in_ty names (names_of_types.shape_of names d) up (NamedTy m)
+  named_agrees d up m = name_agrees (shape_of table k d) (names_of_types.shape_of names d) (shapes_agree d) (length names) up m (all_bare names order ordered (NamedTy m))

@@ -96,7 +96,7 @@ or_and_true false = refl
 
 -- ---- a field with a name that no negative has: as many letters as they have bytes, and one more
 
-abbrev name_bound : List (Atom ℕ) → ℕ
+abbrev pub name_bound : List (Atom ℕ) → ℕ
 name_bound [] = 0
 name_bound (atom.Record [] ∷ others) = name_bound others
 name_bound (atom.Record (q ∷ qs) ∷ others) = length q.0 + name_bound others
@@ -106,23 +106,23 @@ name_bound (atom.Int ∷ others) = name_bound others
 name_bound (atom.Array p ∷ others) = name_bound others
 name_bound (atom.AnyRecord ∷ others) = name_bound others
 
-letters : ℕ → List ℕ
+pub letters : ℕ → List ℕ
 letters zero = []
 letters (suc n) = 97 ∷ letters n
 
-length-letters : (n : ℕ) → length (letters n) ≡ n
+pub length-letters : (n : ℕ) → length (letters n) ≡ n
 unfolding letters
 length-letters zero = refl
 length-letters (suc n) = let e = length-letters n in omega (arith, e)
 
-bytes_differ : (x y : List ℕ) → length y < length x → bytes_eq x y ≡ false
+pub bytes_differ : (x y : List ℕ) → length y < length x → bytes_eq x y ≡ false
 bytes_differ x y lt = by (bytes_eq x y) refl
   where
     by : (b : Bool) → bytes_eq x y ≡ b → bytes_eq x y ≡ false
     by true e = absurd (let h = ap length (bytes_are x y e) in omega (arith, h, lt))
     by false e = e
 
-fresh_name : (x : List ℕ) (r : Bool → ℕ → Bool) (negatives : List (Atom ℕ)) → name_bound negatives < length x → names_only negatives ≡ true → none_in (RecordShape (x ∷ []) (r ∷ [])) negatives ≡ true
+pub fresh_name : (x : List ℕ) (r : Bool → ℕ → Bool) (negatives : List (Atom ℕ)) → name_bound negatives < length x → names_only negatives ≡ true → none_in (RecordShape (x ∷ []) (r ∷ [])) negatives ≡ true
 fresh_name x r [] lt e = refl
 fresh_name x r (atom.Record [] ∷ others) lt e = fresh_name x r others lt e
 fresh_name x r (atom.Record (q ∷ qs) ∷ others) lt e =
@@ -135,7 +135,7 @@ fresh_name x r (atom.Int ∷ others) lt e = fresh_name x r others lt e
 fresh_name x r (atom.Array p ∷ others) lt e = fresh_name x r others lt e
 fresh_name x r (atom.AnyRecord ∷ others) lt e = absurd cc
 
-names_only-in : (ns : List (List ℕ)) (rs : List (Bool → ℕ → Bool)) (negatives : List (Atom ℕ)) → none_in (RecordShape ns rs) negatives ≡ true → names_only negatives ≡ true
+pub names_only-in : (ns : List (List ℕ)) (rs : List (Bool → ℕ → Bool)) (negatives : List (Atom ℕ)) → none_in (RecordShape ns rs) negatives ≡ true → names_only negatives ≡ true
 names_only-in ns rs [] e = refl
 names_only-in ns rs (atom.AnyRecord ∷ others) e = absurd cc
 names_only-in ns rs (atom.Record qs ∷ others) e = names_only-in ns rs others (both (not (fields_in ns rs qs)) _ e).1
@@ -410,10 +410,10 @@ module _ (table : Table) (k : ℕ) where
 -- ---- values from what is asked
 
 module _ (table : Table) (rank : ℕ → ℕ) (k : ℕ) (ranked : IsRanked table rank k) where
-  law_of : (d : Datum) → IsLawful table (member table k d)
+  pub law_of : (d : Datum) → IsLawful table (member table k d)
   law_of d = is_lawful table rank k ranked (shape_of table k d)
 
-  laws_of : (fields : Fields) → EachOf (IsLawful table) (field_readers table k fields)
+  pub laws_of : (fields : Fields) → EachOf (IsLawful table) (field_readers table k fields)
   laws_of no_fields = tt
   laws_of (field name d rest) = (law_of d, laws_of rest)
 
@@ -436,7 +436,7 @@ module _ (table : Table) (rank : ℕ → ℕ) (k : ℕ) (ranked : IsRanked table
   array-value p (atom.Record fs ∷ others) h = array-value p others h
   array-value p (atom.AnyRecord ∷ others) h = array-value p others h
 
-  way-value : (w : List (List ℕ × Part ℕ)) → EachOf (SomeOf (HasValue table k)) (alone w) → (fields : Fields) × (fields_in (names_of fields) (field_readers table k fields) w ≡ true)
+  pub way-value : (w : List (List ℕ × Part ℕ)) → EachOf (SomeOf (HasValue table k)) (alone w) → (fields : Fields) × (fields_in (names_of fields) (field_readers table k fields) w ≡ true)
   way-value [] h = (no_fields, refl)
   way-value (f ∷ fs) h =
       let rest = way-value fs h.1 in

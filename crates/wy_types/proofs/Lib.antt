@@ -14,3 +14,6 @@ pub mod RankLemmas
 pub mod AgreeLemmas
 pub mod QuestionLemmas
 mod SeenLemmas
+pub mod ReadingLemmas
+pub mod GuardLemmas
+pub mod OneNumberLemmas

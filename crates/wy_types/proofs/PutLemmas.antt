@@ -3,7 +3,7 @@ use Rattle.std.proofs.Common.{◌≡◌, ℕ, zero, suc, ◌+◌, List, [], ◌�
 use Rattle.std.specs.Prelude.{slice_get}
 use Rattle.std.specs.List.{list_any}
 use Rattle.wy_types.specs.declared.table.Node.{Node}
-use Rattle.wy_types.specs.Nodes.{same_node, place_of, AreOnce, IsAfterSides, AreGrounded}
+use Rattle.wy_types.specs.Nodes.{same_node, place_of, AreOnce, IsAfterParts, AreGrounded}
 use Rattle.wy_types.specs.Numbering.{put}
 use Rattle.wy_types.specs.Standing.{Grows}
 use Rattle.wy_types.specs.NodeLaws.{node_is, node_self}
@@ -74,10 +74,10 @@ once_push ns n nowhere once i j m at_i at_j = elim (last_or ns n m i at_i) as (�
   ]
 ]
 
-grounded_push : (ns : List Node) (n : Node) → IsAfterSides (length ns) n → AreGrounded ns → AreGrounded (ns ++ n ∷ [])
-grounded_push ns n after grounded i m at = elim (last_or ns n m i at) as (λ _. IsAfterSides i m) [
+grounded_push : (ns : List Node) (n : Node) → IsAfterParts (length ns) n → AreGrounded ns → AreGrounded (ns ++ n ∷ [])
+grounded_push ns n after grounded i m at = elim (last_or ns n m i at) as (λ _. IsAfterParts i m) [
   | inl a ↦ grounded i m a
-  | inr b ↦ subst (λ (x : Node). IsAfterSides i x) b.1 (subst (λ (j : ℕ). IsAfterSides j n) (sym b.0) after)
+  | inr b ↦ subst (λ (x : Node). IsAfterParts i x) b.1 (subst (λ (j : ℕ). IsAfterParts j n) (sym b.0) after)
 ]
 
 pub same_grows : (ns : List Node) → Grows ns ns
@@ -86,11 +86,11 @@ same_grows ns = record { keeps = λ i x e. e; once = λ e. e; grounded = λ e. e
 pub grows_more : (xs ys zs : List Node) → Grows xs ys → Grows ys zs → Grows xs zs
 grows_more xs ys zs f g = record { keeps = λ i x e. g.keeps i x (f.keeps i x e); once = λ e. g.once (f.once e); grounded = λ e. g.grounded (f.grounded e) }
 
-grown_by : (ns : List Node) (n : Node) → IsAfterSides (length ns) n → (b : Bool) → list_any (same_node n) ns ≡ b → Grows ns (cond b ns (ns ++ n ∷ []))
+grown_by : (ns : List Node) (n : Node) → IsAfterParts (length ns) n → (b : Bool) → list_any (same_node n) ns ≡ b → Grows ns (cond b ns (ns ++ n ∷ []))
 grown_by ns n after true e = same_grows ns
 grown_by ns n after false e = record { keeps = λ i x a. get_front ns (n ∷ []) i x a; once = once_push ns n (found_nowhere n ns e); grounded = grounded_push ns n after }
 
-pub put_grows : (ns : List Node) (n : Node) → IsAfterSides (length ns) n → Grows ns (put ns n).0
+pub put_grows : (ns : List Node) (n : Node) → IsAfterParts (length ns) n → Grows ns (put ns n).0
 put_grows ns n after = grown_by ns n after (list_any (same_node n) ns) refl
 
 placed_by : (ns : List Node) (n : Node) (b : Bool) → list_any (same_node n) ns ≡ b → slice_get (cond b ns (ns ++ n ∷ [])) (place_of ns n) ≡ Some n

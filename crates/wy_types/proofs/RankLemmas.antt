@@ -13,7 +13,7 @@ use Rattle.wy_types.specs.declared.table.Table.{Table}
 use Rattle.wy_types.specs.Names.{Declared}
 use Rattle.wy_types.specs.Membership.{node_of, definition_of}
 use Rattle.wy_types.specs.Ranked.{IsNameBelow, IsBelow, IsRanked}
-use Rattle.wy_types.specs.Nodes.{IsAfterSides, AreGrounded}
+use Rattle.wy_types.specs.Nodes.{IsAfterParts, AreGrounded}
 use Rattle.wy_types.specs.Standing.{Stands, NameStands, NamesStand}
 use Rattle.wy_types.specs.Recursion.{IsDeclaredBelow, HasBareBelow, IsOrdered}
 use Rattle.wy_types.proofs.StandLemmas.{stands_within}
@@ -89,7 +89,7 @@ level table order (suc k) t = node_level table order (level table order k) (node
 
 -- ---- numbers deeper than a term's own change nothing of its level
 
-sides_same : (table : Table) (order : ℕ → ℕ) (f g : ℕ → ℕ) (i : ℕ) (n : Node) → ((u : ℕ) → u < i → f u ≡ g u) → IsAfterSides i n → node_level table order f n ≡ node_level table order g n
+sides_same : (table : Table) (order : ℕ → ℕ) (f g : ℕ → ℕ) (i : ℕ) (n : Node) → ((u : ℕ) → u < i → f u ≡ g u) → IsAfterParts i n → node_level table order f n ≡ node_level table order g n
 unfolding node_level
 sides_same table order f g i node.Null e a = refl
 sides_same table order f g i node.Bool e a = refl
@@ -104,11 +104,11 @@ sides_same table order f g i (node.Not x) e a = e x a
 sides_same table order f g i (node.Named m) e a = refl
 sides_same table order f g i (node.Normal cs) e a = refl
 
-at_or_void : (o : Option Node) (i : ℕ) → ((n : Node) → o ≡ Some n → IsAfterSides i n) → IsAfterSides i (unwrap_or o node.Void)
+at_or_void : (o : Option Node) (i : ℕ) → ((n : Node) → o ≡ Some n → IsAfterParts i n) → IsAfterParts i (unwrap_or o node.Void)
 at_or_void None i h = tt
 at_or_void (Some n) i h = h n refl
 
-pub after_sides : (table : Table) → AreGrounded table.nodes → (t : ℕ) → IsAfterSides t (node_of table t)
+pub after_sides : (table : Table) → AreGrounded table.nodes → (t : ℕ) → IsAfterParts t (node_of table t)
 after_sides table grounded t = at_or_void (slice_get table.nodes t) t (grounded t)
 
 level_deeper : (table : Table) (order : ℕ → ℕ) → AreGrounded table.nodes → (k t : ℕ) → t < k → level table order k t ≡ level table order (suc k) t
@@ -198,7 +198,7 @@ module _ (table : Table) (names : List Declared) (order : ℕ → ℕ) (stand : 
       let low = level-below table names order stand size (order n) d.ty x.term (ordered n d g).1 s.1 in
       rank_less x.term t within (key_name x.term t within (omega (arith, above, low)))
 
-  node_below : (t : ℕ) → t < size → (n : Node) → level table order size t ≡ node_level table order (level table order size) n → IsAfterSides t n → IsBelow table rank (rank t) n
+  node_below : (t : ℕ) → t < size → (n : Node) → level table order size t ≡ node_level table order (level table order size) n → IsAfterParts t n → IsBelow table rank (rank t) n
   unfolding node_level
   node_below t lt node.Null e a = tt
   node_below t lt node.Bool e a = tt

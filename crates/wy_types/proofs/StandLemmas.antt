@@ -9,7 +9,7 @@ use Rattle.wy_types.specs.declared.conjuncts.Atom.TheVariants as atom
 use Rattle.wy_types.specs.declared.conjuncts.Conjunct as conjuncts
 use Rattle.wy_types.specs.declared.table.Node.{Node}
 use Rattle.wy_types.specs.declared.table.Node.TheVariants as node
-use Rattle.wy_types.specs.Nodes.{Keeps}
+use Rattle.wy_types.specs.Nodes.{Keeps, AreTermsBelow, ArePartsBelow, IsAtomBelow, AreAtomsBelow, AreConjunctsBelow, AreFieldsBelow}
 use Rattle.wy_types.specs.Numbering.{put, put_ty, put_fields, put_conjuncts, put_atoms, put_atom, put_parts, put_terms}
 use Rattle.wy_types.specs.Standing.{Stands, FieldsStand, ConjunctsStand, AtomsStand, AtomStands, PartsStand, TermsStand, Grows}
 use Rattle.wy_types.proofs.PutLemmas.{same_grows, grows_more, put_grows, put_at}
@@ -113,6 +113,74 @@ stands_within ns (NotTy a) n s = slice_get_within ns n (node.Not s.0) s.1.0
 stands_within ns (NamedTy m) n s = slice_get_within ns n (node.Named m) s
 stands_within ns (NormalTy cs) n s = slice_get_within ns n (node.Normal s.0) s.1.0
 
+fields_within : (ns : List Node) (fs : FieldTys) (ms : List (List ℕ × ℕ)) → FieldsStand ns fs ms → AreFieldsBelow (length ns) ms
+fields_within ns NoFieldTys [] s = tt
+fields_within ns NoFieldTys (m ∷ ms) s = absurd s
+fields_within ns (MoreFieldTys name t rest) [] s = absurd s
+fields_within ns (MoreFieldTys name t rest) (m ∷ ms) s = (stands_within ns t m.1 s.1.0, fields_within ns rest ms s.1.1)
+
+terms_within : (ns : List Node) (p : Part) (ms : List (signed.Signed ℕ)) → TermsStand ns p ms → AreTermsBelow (length ns) ms
+terms_within ns NoTerms [] s = tt
+terms_within ns NoTerms (m ∷ ms) s = absurd s
+terms_within ns (MoreTerms t up inside rest) [] s = absurd s
+terms_within ns (MoreTerms t up inside rest) (m ∷ ms) s = (stands_within ns t m.term s.0, terms_within ns rest ms s.1.1.1)
+
+parts_within : (ns : List Node) (ps : FieldParts) (ms : List (List ℕ × parts.Part ℕ)) → PartsStand ns ps ms → ArePartsBelow (length ns) ms
+parts_within ns NoFieldParts [] s = tt
+parts_within ns NoFieldParts (m ∷ ms) s = absurd s
+parts_within ns (MoreFieldParts name p rest) [] s = absurd s
+parts_within ns (MoreFieldParts name p rest) (m ∷ ms) s = (terms_within ns p m.1.terms s.1.0, parts_within ns rest ms s.1.1)
+
+atom_within : (ns : List Node) (a : Atom) (m : atoms.Atom ℕ) → AtomStands ns a m → IsAtomBelow (length ns) m
+atom_within ns NullAtom atom.Null s = tt
+atom_within ns NullAtom atom.Bool s = absurd s
+atom_within ns NullAtom atom.Int s = absurd s
+atom_within ns NullAtom (atom.Array x) s = absurd s
+atom_within ns NullAtom (atom.Record x) s = absurd s
+atom_within ns NullAtom atom.AnyRecord s = absurd s
+atom_within ns BoolAtom atom.Null s = absurd s
+atom_within ns BoolAtom atom.Bool s = tt
+atom_within ns BoolAtom atom.Int s = absurd s
+atom_within ns BoolAtom (atom.Array x) s = absurd s
+atom_within ns BoolAtom (atom.Record x) s = absurd s
+atom_within ns BoolAtom atom.AnyRecord s = absurd s
+atom_within ns IntAtom atom.Null s = absurd s
+atom_within ns IntAtom atom.Bool s = absurd s
+atom_within ns IntAtom atom.Int s = tt
+atom_within ns IntAtom (atom.Array x) s = absurd s
+atom_within ns IntAtom (atom.Record x) s = absurd s
+atom_within ns IntAtom atom.AnyRecord s = absurd s
+atom_within ns (ArrayAtom p) atom.Null s = absurd s
+atom_within ns (ArrayAtom p) atom.Bool s = absurd s
+atom_within ns (ArrayAtom p) atom.Int s = absurd s
+atom_within ns (ArrayAtom p) (atom.Array x) s = terms_within ns p x.terms s
+atom_within ns (ArrayAtom p) (atom.Record x) s = absurd s
+atom_within ns (ArrayAtom p) atom.AnyRecord s = absurd s
+atom_within ns (RecordAtom ps) atom.Null s = absurd s
+atom_within ns (RecordAtom ps) atom.Bool s = absurd s
+atom_within ns (RecordAtom ps) atom.Int s = absurd s
+atom_within ns (RecordAtom ps) (atom.Array x) s = absurd s
+atom_within ns (RecordAtom ps) (atom.Record x) s = parts_within ns ps x s
+atom_within ns (RecordAtom ps) atom.AnyRecord s = absurd s
+atom_within ns AnyRecordAtom atom.Null s = absurd s
+atom_within ns AnyRecordAtom atom.Bool s = absurd s
+atom_within ns AnyRecordAtom atom.Int s = absurd s
+atom_within ns AnyRecordAtom (atom.Array x) s = absurd s
+atom_within ns AnyRecordAtom (atom.Record x) s = absurd s
+atom_within ns AnyRecordAtom atom.AnyRecord s = tt
+
+atoms_within : (ns : List Node) (as' : Atoms) (ms : List (atoms.Atom ℕ)) → AtomsStand ns as' ms → AreAtomsBelow (length ns) ms
+atoms_within ns NoAtoms [] s = tt
+atoms_within ns NoAtoms (m ∷ ms) s = absurd s
+atoms_within ns (MoreAtoms a rest) [] s = absurd s
+atoms_within ns (MoreAtoms a rest) (m ∷ ms) s = (atom_within ns a m s.0, atoms_within ns rest ms s.1)
+
+conjuncts_within : (ns : List Node) (cs : Conjuncts) (ms : List (conjuncts.Conjunct ℕ)) → ConjunctsStand ns cs ms → AreConjunctsBelow (length ns) ms
+conjuncts_within ns NoConjuncts [] s = tt
+conjuncts_within ns NoConjuncts (m ∷ ms) s = absurd s
+conjuncts_within ns (MoreConjuncts p negatives rest) [] s = absurd s
+conjuncts_within ns (MoreConjuncts p negatives rest) (m ∷ ms) s = (atom_within ns p m.positive s.0, (atoms_within ns negatives m.negatives s.1.0, conjuncts_within ns rest ms s.1.1))
+
 -- ---- what is put in stands
 
 two_put : (ns xs ys : List Node) (a b : Ty) (x y : ℕ) → Grows ns xs × Stands xs a x → Grows xs ys × Stands ys b y → (Grows ns ys) × (Stands ys a x × Stands ys b y)
@@ -137,17 +205,17 @@ not_put ns xs a x f =
 
 array_put : (ns xs : List Node) (a : Ty) (x : ℕ) → Grows ns xs × Stands xs a x → Grows ns (put xs (node.Array x)).0 × Stands (put xs (node.Array x)).0 (ArrayTy a) (put xs (node.Array x)).1
 array_put ns xs a x f =
-    let h = put_grows xs (node.Array x) tt in
+    let h = put_grows xs (node.Array x) (stands_within xs a x f.1) in
     (grows_more ns xs (put xs (node.Array x)).0 f.0 h, (x, (put_at xs (node.Array x), stands_still xs (put xs (node.Array x)).0 h.keeps a x f.1)))
 
 record_put : (ns xs : List Node) (fs : FieldTys) (ms : List (List ℕ × ℕ)) → Grows ns xs × FieldsStand xs fs ms → Grows ns (put xs (node.Record ms)).0 × Stands (put xs (node.Record ms)).0 (RecordTy fs) (put xs (node.Record ms)).1
 record_put ns xs fs ms f =
-    let h = put_grows xs (node.Record ms) tt in
+    let h = put_grows xs (node.Record ms) (fields_within xs fs ms f.1) in
     (grows_more ns xs (put xs (node.Record ms)).0 f.0 h, (ms, (put_at xs (node.Record ms), fields_still xs (put xs (node.Record ms)).0 h.keeps fs ms f.1)))
 
 normal_put : (ns xs : List Node) (cs : Conjuncts) (ms : List (conjuncts.Conjunct ℕ)) → Grows ns xs × ConjunctsStand xs cs ms → Grows ns (put xs (node.Normal ms)).0 × Stands (put xs (node.Normal ms)).0 (NormalTy cs) (put xs (node.Normal ms)).1
 normal_put ns xs cs ms f =
-    let h = put_grows xs (node.Normal ms) tt in
+    let h = put_grows xs (node.Normal ms) (conjuncts_within xs cs ms f.1) in
     (grows_more ns xs (put xs (node.Normal ms)).0 f.0 h, (ms, (put_at xs (node.Normal ms), conjuncts_still xs (put xs (node.Normal ms)).0 h.keeps cs ms f.1)))
 
 field_put : (ns xs ys : List Node) (name : List ℕ) (t : Ty) (fs : FieldTys) (x : ℕ) (ms : List (List ℕ × ℕ)) → Grows ns xs × Stands xs t x → Grows xs ys × FieldsStand ys fs ms → Grows ns ys × FieldsStand ys (MoreFieldTys name t fs) ((name, x) ∷ ms)

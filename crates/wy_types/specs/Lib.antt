@@ -3,6 +3,7 @@ pub mod Shape
 pub mod Membership
 pub mod Ranked
 pub mod Names
+pub mod Aliases
 -- the conjuncts of a term
 pub mod Claims
 pub mod Same
@@ -19,4 +20,5 @@ pub mod Numbering
 pub mod Standing
 pub mod Recursion
 pub mod Agreement
+pub mod Reading
 pub mod Questions

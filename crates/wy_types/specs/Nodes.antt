@@ -3,6 +3,10 @@ use Rattle.std.specs.Prelude.{◌≡◌, ℕ, ◌<◌, List, [], ◌∷◌, ◌+
 use Rattle.std.specs.Hash as fed
 use Rattle.std.specs.List.{list_any, position_or_len}
 use Rattle.std.specs.Str.{bytes_eq}
+use Rattle.wy_types.specs.declared.conjuncts.Signed.{Signed}
+use Rattle.wy_types.specs.declared.conjuncts.Part.{Part}
+use Rattle.wy_types.specs.declared.conjuncts.Atom.{Atom}
+use Rattle.wy_types.specs.declared.conjuncts.Atom.TheVariants as atom
 use Rattle.wy_types.specs.declared.conjuncts.Conjunct.{Conjunct}
 use Rattle.wy_types.specs.declared.table.Node.{Node}
 use Rattle.wy_types.specs.declared.table.Node.TheVariants as node
@@ -81,13 +85,47 @@ Keeps {X} old new = (i : ℕ) (x : X) → slice_get old i ≡ Some x → slice_g
 abbrev pub AreOnce : List Node → Type 0
 AreOnce ns = (i j : ℕ) (n : Node) → slice_get ns i ≡ Some n → slice_get ns j ≡ Some n → i ≡ j
 
--- what the node uses bare stands before it
-abbrev pub IsAfterSides : ℕ → Node → Type 0
-IsAfterSides i (node.Union a b) = (a < i) × (b < i)
-IsAfterSides i (node.Inter a b) = (a < i) × (b < i)
-IsAfterSides i (node.Not a) = a < i
-IsAfterSides i _ = Unit {0}
+-- the terms have numbers below this one
+abbrev pub AreTermsBelow : ℕ → List (Signed ℕ) → Type 0
+AreTermsBelow i [] = Unit {0}
+AreTermsBelow i (s ∷ ss) = (s.term < i) × AreTermsBelow i ss
+
+-- so for the parts of a record
+abbrev pub ArePartsBelow : ℕ → List (List ℕ × Part ℕ) → Type 0
+ArePartsBelow i [] = Unit {0}
+ArePartsBelow i (f ∷ fs) = AreTermsBelow i f.1.terms × ArePartsBelow i fs
+
+-- so for an atom
+abbrev pub IsAtomBelow : ℕ → Atom ℕ → Type 0
+IsAtomBelow i (atom.Array p) = AreTermsBelow i p.terms
+IsAtomBelow i (atom.Record fs) = ArePartsBelow i fs
+IsAtomBelow i _ = Unit {0}
+
+-- so for atoms
+abbrev pub AreAtomsBelow : ℕ → List (Atom ℕ) → Type 0
+AreAtomsBelow i [] = Unit {0}
+AreAtomsBelow i (a ∷ more) = IsAtomBelow i a × AreAtomsBelow i more
+
+-- so for conjuncts
+abbrev pub AreConjunctsBelow : ℕ → List (Conjunct ℕ) → Type 0
+AreConjunctsBelow i [] = Unit {0}
+AreConjunctsBelow i (c ∷ cs) = IsAtomBelow i c.positive × (AreAtomsBelow i c.negatives × AreConjunctsBelow i cs)
+
+-- so for the fields of a record type
+abbrev pub AreFieldsBelow : ℕ → List (List ℕ × ℕ) → Type 0
+AreFieldsBelow i [] = Unit {0}
+AreFieldsBelow i (f ∷ fs) = (f.1 < i) × AreFieldsBelow i fs
+
+-- the parts of the node stand before it
+abbrev pub IsAfterParts : ℕ → Node → Type 0
+IsAfterParts i (node.Record fs) = AreFieldsBelow i fs
+IsAfterParts i (node.Array t) = t < i
+IsAfterParts i (node.Union a b) = (a < i) × (b < i)
+IsAfterParts i (node.Inter a b) = (a < i) × (b < i)
+IsAfterParts i (node.Not a) = a < i
+IsAfterParts i (node.Normal cs) = AreConjunctsBelow i cs
+IsAfterParts i _ = Unit {0}
 
 -- so for each node
 abbrev pub AreGrounded : List Node → Type 0
-AreGrounded ns = (i : ℕ) (n : Node) → slice_get ns i ≡ Some n → IsAfterSides i n
+AreGrounded ns = (i : ℕ) (n : Node) → slice_get ns i ≡ Some n → IsAfterParts i n

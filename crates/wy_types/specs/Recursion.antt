@@ -1,5 +1,5 @@
 -- Declared types whose recursion passes through records or arrays.
-use Rattle.std.specs.Prelude.{◌≡◌, ℕ, ◌<◌, List, length, Option, Some, None, slice_get}
+use Rattle.std.specs.Prelude.{◌≡◌, ℕ, ◌<◌, List, [], ◌∷◌, length, Bool, true, false, ◌&&◌, Option, Some, None, slice_get}
 use Rattle.wy_core.specs.Types.{Ty, NullTy, BoolTy, IntTy, AnyTy, VoidTy, RecordTy, ArrayTy, UnionTy, InterTy, NotTy, NamedTy, NormalTy}
 use Rattle.wy_types.specs.Names.{Declared}
 
@@ -30,3 +30,23 @@ IsOrdered names order = (n : ℕ) (d : Declared) → slice_get names n ≡ Some 
 -- the declared types can be put in an order in which bare names go back, so their recursion passes through records or arrays
 abbrev pub RecurThroughParts : List Declared → Type 0
 RecurThroughParts names = (order : ℕ → ℕ) × IsOrdered names order
+
+-- no name stands bare in the type
+abbrev pub is_guarded : Ty → Bool
+is_guarded NullTy = true
+is_guarded BoolTy = true
+is_guarded IntTy = true
+is_guarded AnyTy = true
+is_guarded VoidTy = true
+is_guarded (RecordTy fs) = true
+is_guarded (ArrayTy t) = true
+is_guarded (UnionTy a b) = is_guarded a && is_guarded b
+is_guarded (InterTy a b) = is_guarded a && is_guarded b
+is_guarded (NotTy a) = is_guarded a
+is_guarded (NamedTy n) = false
+is_guarded (NormalTy cs) = true
+
+-- so for each declared type
+abbrev pub are_guarded : List Declared → Bool
+are_guarded [] = true
+are_guarded (d ∷ ds) = is_guarded d.ty && are_guarded ds

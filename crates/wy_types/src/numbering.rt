@@ -1,5 +1,5 @@
 //! The terms of types, each with a number. Equal terms have one.
-ghost use Rattle.std.specs.Prelude.{◌≡◌, ◌<◌, ◌↔◌, [], length, slice_get, IsTrue, IfOk, OnOk, OnErr};
+ghost use Rattle.std.specs.Prelude.{◌≡◌, ◌<◌, ◌↔◌, [], length, slice_get, take, IsTrue, IfOk, OnOk, OnErr};
 ghost use Rattle.std.specs.Option.{option_copied};
 ghost use Rattle.wy_types.specs.Nodes.{with_node, place_of};
 
@@ -55,6 +55,13 @@ impl Numbering {
         ensures value { option_copied result ≡ slice_get self.now number }
     {
         self.nodes.get_index(number as usize)
+    }
+
+    /// Keeps the first so many nodes alone, in time linear in the others.
+    pub fn truncate(&mut self, count: usize)
+        ensures nodes { self.new ≡ take count self.old }
+    {
+        self.nodes.truncate(count);
     }
 
     /// How many nodes there are, at most 2^32 - 2.

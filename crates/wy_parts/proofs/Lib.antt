@@ -1,0 +1,4 @@
+mod ElementLemmas
+mod UnionLemmas
+mod FieldLemmas
+mod ValueUnionLemmas

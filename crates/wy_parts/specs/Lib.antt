@@ -1,0 +1,4 @@
+-- definitions of public contracts
+pub mod Norms
+pub mod Items
+pub mod Fields
