@@ -1,0 +1,19 @@
+-- for the code
+pub mod Shrinking
+pub mod BlockSizes
+pub mod OpenBlocks
+pub mod StepLemmas
+-- each line of the grammar is read exactly
+pub mod StmtsExact
+pub mod BlocksExact
+pub mod SwitchExact
+pub mod NestLevels
+pub mod DeclsExact
+pub mod CappedExact
+pub mod ProgramExact
+pub mod ParseRefusals
+pub mod EndLemmas
+pub mod EndFree
+pub mod FrontLemmas
+pub mod LooserBlocks
+pub mod FaultLemmas

@@ -1,0 +1,16 @@
+-- what the parser promises
+pub mod Derivation
+pub mod Fronts
+-- the grammar, line by line
+pub mod StmtGrammar
+pub mod BlockGrammar
+pub mod ProgramGrammar
+-- the trees that are made
+pub mod StmtTrees
+pub mod DeclTrees
+-- how the grammar is read, which functions inside owe each other
+pub mod StmtReading
+pub mod BlockReading
+pub mod OpenBlocks
+pub mod ProgramReading
+pub mod Parsed
