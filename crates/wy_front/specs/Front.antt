@@ -7,7 +7,7 @@ use Rattle.wy_lex.specs.declared.token.Token.{Token}
 use Rattle.wy_lex.specs.declared.fault.Kind.TheVariants as lex_kind
 use Rattle.wy_lex.specs.declared.fault.LexFault.TheVariants as lex
 use Rattle.wy_lex.specs.Source as source_of
-use Rattle.wy_parse.specs.declared.fault.Kind.TheVariants as kind
+use Rattle.wy_grammar.specs.declared.fault.Kind.TheVariants as kind
 use Rattle.wy_parse.specs.declared.fault.ParseFault.TheVariants as parse
 use Rattle.wy_parse.specs.Derivation as derivation
 use Rattle.wy_front.specs.declared.fault.SourceFault.{SourceFault}
