@@ -90,7 +90,11 @@ has_cause name s status k e h (inl whole) = subst (FormatCause name s) (sym whol
 has_cause name s status k e h (inr (inl front)) = subst (FormatCause name s) (sym front.answer) (at_five name s)
 has_cause name s status k e h (inr (inr nothing)) = subst (FormatCause name s) (sym nothing.answer) (at_nine name s)
 
-refused_not_five : (b : Bool) → (if b then 9 else 1) ≡ 5 → ⊥
+-- the status of a source that is refused
+abbrev refused_status : Bool → ℕ
+refused_status b = if b then 9 else 1
+
+refused_not_five : (b : Bool) → refused_status b ≡ 5 → ⊥
 refused_not_five true e = omega (arith, e)
 refused_not_five false e = omega (arith, e)
 

@@ -36,7 +36,10 @@ pub fn read_format(words: &[String]) -> Option<&str>
     let [command, source] = words else {
         return None;
     };
-    if command.as_str() != "fmt" || is_option(source) {
+    if command.as_str() != "fmt" {
+        return None;
+    }
+    if is_option(source) {
         return None;
     }
     Some(source)

@@ -23,8 +23,30 @@ const LOOSE: &str = "function  f( int x )->(int r) requires x>0&&x<9 : // c\n  r
 const LAID_OUT: &str =
     "function f(int x) -> (int r)\nrequires x > 0 && x < 9:\n    return x * (2 + -1)\n";
 
+// Bars that would touch, a unary minus, nested quantifiers, a chain of `else if`, a method without result.
+const FORMS: &str =
+    "import base\n\nfunction f(int[] xs, int y) -> (int r)\nrequires | |xs| - 1| > 0\nrequires all { i in 0..|xs| | some { j in 0..i | xs[i] == - xs[j] } }\nensures r >= -1:\n    if y < 0:\n        return - y\n    else if y == 0:\n        return 0\n    else:\n        return y - -1\n\nmethod m():\n    skip\n";
+
+const ORDERED: &str = "function g(int x) -> int\nrequires x > 0\nensures true:\n    return x\n";
+
+const MAX: &str =
+    "function max(int[] xs) -> (int r)\nrequires |xs| > 0\nensures all { k in 0..|xs| | r >= xs[k] }:\n    int m = xs[0]\n    int i = 1\n    while i < |xs|\n    where 1 <= i\n    where i <= |xs|\n    where all { k in 0..i | m >= xs[k] }:\n        if xs[i] > m:\n            m = xs[i]\n        i = i + 1\n    return m\n";
+
 /// The files of each row.
-const FILES: [(&str, &str); 10] = [
+const FILES: [(&str, &str); 14] = [
+    ("forms.wy", FORMS),
+    (
+        "order.wy",
+        "function g(int x) -> int ensures true requires(x>0):\n return((x))\n",
+    ),
+    (
+        "mix.wy",
+        "function h(bool a) -> bool:\n return a && a || a\n",
+    ),
+    (
+        "max.wy",
+        "// The greatest item of an array: a loop whose invariants speak of all items so far.\nfunction max(int[] xs) -> (int r)\nrequires |xs| > 0\nensures all { k in 0..|xs| | r >= xs[k] }:\n    int m = xs[0]\n    int i = 1\n    while i < |xs|\n    where 1 <= i\n    where i <= |xs|\n    where all { k in 0..i | m >= xs[k] }:\n        if xs[i] > m:\n            m = xs[i]\n        i = i + 1\n    return m\n",
+    ),
     ("loose.wy", LOOSE),
     (
         "tab.wy",
@@ -82,7 +104,31 @@ struct Row {
     err: &'static str,
 }
 
-const ROWS: [Row; 34] = [
+const ROWS: [Row; 38] = [
+    Row {
+        words: "fmt forms.wy",
+        status: 0,
+        out: FORMS,
+        err: "",
+    },
+    Row {
+        words: "fmt order.wy",
+        status: 0,
+        out: ORDERED,
+        err: "",
+    },
+    Row {
+        words: "fmt max.wy",
+        status: 0,
+        out: MAX,
+        err: "",
+    },
+    Row {
+        words: "fmt mix.wy",
+        status: 1,
+        out: "",
+        err: "mix.wy:2:16: Mixed\n",
+    },
     Row {
         words: "fmt loose.wy",
         status: 0,
