@@ -25,44 +25,19 @@ use Rattle.wy_top.proofs.EndLemmas.{with_taken-nil, took_nothing}
 
 -- ---- what is shown
 
--- a program whose text was written is an end
-pub written_ends : (name : List ℕ) (s : Setting) (p : Program) (status : ℕ) (before after : Option (List ℕ)) (f g : ℕ) (other : Option (List ℕ)) (h : ℕ)
-    → HasText s name p → ReportsIfMemory 0 (program_text p) status before after f g → FormatEnds name s status (sinks before after f g other other h h)
-written_ends name s p status before after f g other h text (inl (inl whole)) = record {
-  end_is = Ok p;
-  happens = text;
-  shown = inl (record { answer = whole.answer; out = whole.took; err = with_taken-nil other });
-}
-written_ends name s p status before after f g other h text (inl (inr front)) = record {
-  end_is = Ok p;
-  happens = text;
-  shown = inr (inl (record { answer = front.answer; fault = inl front.fault; out = front.took; err = took_nothing other }));
-}
-written_ends name s p status before after f g other h text (inr nothing) = record {
-  end_is = Ok p;
-  happens = text;
-  shown = inr (inr (record { answer = nothing.answer; out = nothing.took; err = refl }));
-}
+-- a program whose text was written is shown
+written_ends : (name : List ℕ) (p : Program) (status : ℕ) (before after : Option (List ℕ)) (f g : ℕ) (other : Option (List ℕ)) (h : ℕ)
+    → ReportsIfMemory 0 (program_text p) status before after f g → Shown name (Ok p) status (sinks before after f g other other h h)
+written_ends name p status before after f g other h (inl (inl whole)) = inl (record { answer = whole.answer; out = whole.took; err = with_taken-nil other })
+written_ends name p status before after f g other h (inl (inr front)) = inr (inl (record { answer = front.answer; fault = inl front.fault; out = front.took; err = took_nothing other }))
+written_ends name p status before after f g other h (inr nothing) = inr (inr (record { answer = nothing.answer; out = nothing.took; err = refl }))
 
--- a fault that was reported is an end
-pub faulted_ends : (name : List ℕ) (s : Setting) (fault : FormatFault) (status : ℕ) (before after : Option (List ℕ)) (f g : ℕ) (other : Option (List ℕ)) (h : ℕ)
-    → FormatFails s name fault → ReportsIfMemory (fault_status fault) (fault_text name fault) status before after f g
-    → FormatEnds name s status (sinks other other h h before after f g)
-faulted_ends name s fault status before after f g other h fails (inl (inl whole)) = record {
-  end_is = Err fault;
-  happens = fails;
-  shown = inl (record { answer = whole.answer; out = with_taken-nil other; err = whole.took });
-}
-faulted_ends name s fault status before after f g other h fails (inl (inr front)) = record {
-  end_is = Err fault;
-  happens = fails;
-  shown = inr (inl (record { answer = front.answer; fault = inr front.fault; out = took_nothing other; err = front.took }));
-}
-faulted_ends name s fault status before after f g other h fails (inr nothing) = record {
-  end_is = Err fault;
-  happens = fails;
-  shown = inr (inr (record { answer = nothing.answer; out = refl; err = nothing.took }));
-}
+-- a fault that was reported is shown
+faulted_ends : (name : List ℕ) (fault : FormatFault) (status : ℕ) (before after : Option (List ℕ)) (f g : ℕ) (other : Option (List ℕ)) (h : ℕ)
+    → ReportsIfMemory (fault_status fault) (fault_text name fault) status before after f g → Shown name (Err fault) status (sinks other other h h before after f g)
+faulted_ends name fault status before after f g other h (inl (inl whole)) = inl (record { answer = whole.answer; out = with_taken-nil other; err = whole.took })
+faulted_ends name fault status before after f g other h (inl (inr front)) = inr (inl (record { answer = front.answer; fault = inr front.fault; out = took_nothing other; err = front.took }))
+faulted_ends name fault status before after f g other h (inr nothing) = inr (inr (record { answer = nothing.answer; out = refl; err = nothing.took }))
 
 -- ---- the cause of each status
 
@@ -135,13 +110,26 @@ shown_or name status k e due (inr (inl front)) only = inr (inr (inl front.answer
 shown_or name status k e due (inr (inr nothing)) only = inr (inr (inr nothing.answer))
 
 -- where an end is shown, and no other is due, the whole statement holds
-pub formats : (name : List ℕ) (s : Setting) (status : ℕ) (k : Sinks) (ends : FormatEnds name s status k) → IsOnlyEnd s name ends.end_is → Formats name s status k
+formats : (name : List ℕ) (s : Setting) (status : ℕ) (k : Sinks) (ends : FormatEnds name s status k) → IsOnlyEnd s name ends.end_is → Formats name s status k
 formats name s status k ends only = record {
   ends = ends;
   cause = has_cause name s status k ends.end_is ends.happens ends.shown;
   sink_cause = sink_cause name status k ends.end_is ends.shown;
   exact = λ told due h. shown_or name status k ends.end_is due ends.shown (only told due h);
 }
+
+-- a program whose text was written is what the format comes to, where no other end is due
+pub written_formats : (name : List ℕ) (s : Setting) (p : Program) (status : ℕ) (before after : Option (List ℕ)) (f g : ℕ) (other : Option (List ℕ)) (h : ℕ)
+    → HasText s name p → ReportsIfMemory 0 (program_text p) status before after f g → IsOnlyEnd s name (Ok p) → Formats name s status (sinks before after f g other other h h)
+written_formats name s p status before after f g other h text reports only =
+    formats name s status (sinks before after f g other other h h) (record { end_is = Ok p; happens = text; shown = written_ends name p status before after f g other h reports }) only
+
+-- likewise a fault that was reported
+pub faulted_formats : (name : List ℕ) (s : Setting) (fault : FormatFault) (status : ℕ) (before after : Option (List ℕ)) (f g : ℕ) (other : Option (List ℕ)) (h : ℕ)
+    → FormatFails s name fault → ReportsIfMemory (fault_status fault) (fault_text name fault) status before after f g → IsOnlyEnd s name (Err fault)
+    → Formats name s status (sinks other other h h before after f g)
+faulted_formats name s fault status before after f g other h fails reports only =
+    formats name s status (sinks other other h h before after f g) (record { end_is = Err fault; happens = fails; shown = faulted_ends name fault status before after f g other h reports }) only
 
 -- ---- no other end is due
 
