@@ -1,5 +1,5 @@
 -- What is read from bytes, by what is read from their tokens.
-use Rattle.std.proofs.Common.{◌≡◌, ◌≢◌, ◌∙◌, ◌⊎◌, ℕ, List, Result, Ok, Err, ap, sym, subst, inl, inr}
+use Rattle.std.proofs.Common.{◌≡◌, ◌∙◌, ◌⊎◌, ℕ, List, Result, Ok, Err, ap, sym, subst, inl, inr}
 use Rattle.std.specs.Str.{IsValidUpTo}
 use Rattle.wy_ast.specs.declared.declarations.Program.{Program}
 use Rattle.wy_lex.specs.declared.token.Token.{Token}

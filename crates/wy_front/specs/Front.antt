@@ -1,5 +1,5 @@
 -- Which program the bytes of a source spell, and why they spell none.
-use Rattle.std.specs.Prelude.{ℕ, List, Result, Ok, Err, ⊤, ◌⊎◌}
+use Rattle.std.specs.Prelude.{ℕ, List, Result, ⊤, ◌⊎◌}
 use Rattle.std.specs.Str.{IsValidUpTo}
 use Rattle.wy_reading.specs.Places as places
 use Rattle.wy_ast.specs.declared.declarations.Program.{Program}
