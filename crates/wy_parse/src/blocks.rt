@@ -13,12 +13,12 @@ ghost use Rattle.wy_grammar.specs.Trees as parts;
 ghost use Rattle.wy_grammar.specs.declared.sort.Class.TheVariants as class;
 
 use crate::nested::{Cases, Nested, Stmts, switch_node};
+use crate::parts::{ExprPart, expr_part};
 use crate::simple::{assert_stmt, declare_stmt, named_stmt, return_stmt, word_stmt};
 use sqlite_items::Items;
 use std::alloc::{AllocError, Global};
-use wy_ast::{Expr, Stmt};
+use wy_ast::Stmt;
 use wy_grammar::cursor::{Read, inside, mark, next_in, next_is, too_deep};
-use wy_grammar::expressions::expr;
 use wy_grammar::fault::Kind;
 use wy_grammar::measured::{Measured, both, pushed, some};
 use wy_grammar::sort::{
@@ -32,7 +32,7 @@ use wy_reading::Stop;
 #[derive(Drop)]
 pub struct Open {
     pub at: u32,
-    pub value: Measured<Expr>,
+    pub value: ExprPart,
     /// The statements before it in its block.
     pub before: Stmts,
 }
@@ -160,7 +160,7 @@ fn end(alloc: Global, progress: Progress, tokens: &[Token]) -> Read<'_, Progress
 fn opened(
     alloc: Global,
     at: u32,
-    value: Measured<Expr>,
+    value: ExprPart,
     progress: Progress,
 ) -> Result<Progress, AllocError>
     ensures { IfOk result (λ p. p ≡ open_blocks.opened at value progress) }
@@ -260,11 +260,11 @@ fn switch<'a, B: Fn(Global, &[Token], usize) -> Result<(Stmts, &[Token]), Stop<K
 
 // 'switch' expr ':' LINE IN
 #[tactic(auto, unfolding(crate::specs::OpenBlocks::header))]
-fn header(alloc: Global, tokens: &[Token], levels: usize) -> Read<'_, (u32, Measured<Expr>)>
+fn header(alloc: Global, tokens: &[Token], levels: usize) -> Read<'_, (u32, ExprPart)>
     ensures { Reads (open_blocks.header levels tokens.now) result }
 {
     let (at, rest) = mark(tokens, SWITCH)?;
-    let (value, rest) = expr(alloc, rest, levels)?;
+    let (value, rest) = expr_part(alloc, rest, levels)?;
     let (_, rest) = mark(rest, COLON)?;
     let (_, rest) = mark(rest, LINE_END)?;
     let (_, rest) = mark(rest, BLOCK_IN)?;

@@ -8,8 +8,9 @@ ghost use Rattle.wy_grammar.specs.Steps.{inside};
 
 use crate::blocks::block;
 use crate::nested::Stmts;
+use crate::parts::{TypePart, type_part, type_part_rest};
 use crate::simple::{where_clause, wheres};
-use sqlite_items::Items;
+use sqlite_items::{Boxed, Items};
 use std::alloc::Global;
 use wy_ast::{Alias, Decl, Expr, Function, Method, Param, Property, Ty};
 use wy_data::Name;
@@ -20,7 +21,6 @@ use wy_grammar::sort::{
     ARROW, CLOSE_PAREN, COLON, COMMA, Class, ENSURES, FUNCTION, IS, LINE_END, METHOD, NAME,
     OPEN_PAREN, PROPERTY, REQUIRES, TYPE,
 };
-use wy_grammar::types::{type_rest, type_term};
 use wy_lex::Token;
 
 /// How many levels there are where declarations stand, this one included: what stands in 100 pairs,
@@ -34,7 +34,10 @@ type ParamList = Measured<Items<Param>>;
 type Clauses = Measured<Items<Expr>>;
 
 /// The result's type, and its name where it has one.
-type Given = Measured<(Ty, Option<Name>)>;
+type Given = Measured<(Boxed<Ty>, Option<Name>)>;
+
+/// The result of a method, which may have none.
+type MethodGiven = Measured<Option<(Boxed<Ty>, Option<Name>)>>;
 
 /// A declaration.
 #[tactic(auto, unfolding(crate::specs::ProgramReading::declaration))]
@@ -101,11 +104,11 @@ fn alias_clauses<'a>(
 
 // '(' type NAME ')' | type
 #[tactic(auto, unfolding(crate::specs::ProgramReading::named_type))]
-fn named_type(alloc: Global, tokens: &[Token]) -> Read<'_, (Measured<Ty>, Option<Name>)>
+fn named_type(alloc: Global, tokens: &[Token]) -> Read<'_, (TypePart, Option<Name>)>
     ensures { Reads (spec.named_type LEVELS tokens.now) result }
 {
     if !next_is(tokens, OPEN_PAREN) {
-        let (ty, rest) = type_term(alloc, tokens, LEVELS)?;
+        let (ty, rest) = type_part(alloc, tokens, LEVELS)?;
         return Ok(((ty, None), rest));
     }
     let (_, rest) = mark(tokens, OPEN_PAREN)?;
@@ -114,17 +117,17 @@ fn named_type(alloc: Global, tokens: &[Token]) -> Read<'_, (Measured<Ty>, Option
 
 // What stands behind the bracket: a type and a name, or a type and the rest of one that it begins.
 #[tactic(auto, unfolding(crate::specs::ProgramReading::inner_type))]
-fn inner_type(alloc: Global, tokens: &[Token]) -> Read<'_, (Measured<Ty>, Option<Name>)>
+fn inner_type(alloc: Global, tokens: &[Token]) -> Read<'_, (TypePart, Option<Name>)>
     ensures { Reads (spec.inner_type LEVELS tokens.now) result }
 {
-    let (ty, rest) = type_term(alloc, tokens, LEVELS - 1)?;
+    let (ty, rest) = type_part(alloc, tokens, LEVELS - 1)?;
     if next_is(rest, NAME) {
         let ((_, name), rest) = name(alloc, rest)?;
         let (_, rest) = mark(rest, CLOSE_PAREN)?;
         return Ok(((ty, Some(name)), rest));
     }
     let (_, rest) = mark(rest, CLOSE_PAREN)?;
-    let (ty, rest) = type_rest(alloc, ty, rest, LEVELS)?;
+    let (ty, rest) = type_part_rest(alloc, ty, rest, LEVELS)?;
     Ok(((ty, None), rest))
 }
 
@@ -206,7 +209,7 @@ fn method_body<'a>(
     at: u32,
     name: Name,
     params: ParamList,
-    given: Measured<Option<(Ty, Option<Name>)>>,
+    given: MethodGiven,
     tokens: &'a [Token],
 ) -> Read<'a, Measured<Decl>>
     ensures { Reads (spec.method_body true LEVELS (block_at (inside LEVELS)) at name params given tokens.now) result }
@@ -219,7 +222,7 @@ fn method_body<'a>(
 
 // [ '->' ( '(' ')' | result ) ]
 #[tactic(auto, unfolding(crate::specs::ProgramReading::method_result))]
-fn method_result(alloc: Global, tokens: &[Token]) -> Read<'_, Measured<Option<(Ty, Option<Name>)>>>
+fn method_result(alloc: Global, tokens: &[Token]) -> Read<'_, MethodGiven>
     ensures { Reads (spec.method_result LEVELS tokens.now) result }
 {
     if !next_is(tokens, ARROW) {
@@ -227,7 +230,7 @@ fn method_result(alloc: Global, tokens: &[Token]) -> Read<'_, Measured<Option<(T
     }
     let (_, rest) = mark(tokens, ARROW)?;
     if !next_is(rest, OPEN_PAREN) {
-        let (ty, rest) = type_term(alloc, rest, LEVELS)?;
+        let (ty, rest) = type_part(alloc, rest, LEVELS)?;
         return Ok((some(outcome(ty, None)), rest));
     }
     let (_, rest) = mark(rest, OPEN_PAREN)?;
@@ -303,16 +306,19 @@ fn param_list(alloc: Global, tokens: &[Token]) -> Read<'_, ParamList>
 fn param<'a>(alloc: Global, params: ParamList, tokens: &'a [Token]) -> Read<'a, ParamList>
     ensures { Reads (spec.one_param LEVELS params tokens.now) result }
 {
-    let (ty, rest) = type_term(alloc, tokens, LEVELS - 1)?;
+    let (ty, rest) = type_part(alloc, tokens, LEVELS - 1)?;
     let ((_, name), rest) = name(alloc, rest)?;
     Ok((pushed(params, param_node(ty, name))?, rest))
 }
 
-fn param_node(ty: Measured<Ty>, name: Name) -> Measured<Param>
+fn param_node(ty: TypePart, name: Name) -> Measured<Param>
     ensures { result ≡ trees.param ty name }
 {
     match ty {
-        Measured::Low(ty, height) => Measured::Low(Param { ty, name }, height),
+        Measured::Low(ty, height) => {
+            let ty = ty.into_inner();
+            Measured::Low(Param { ty, name }, height)
+        }
         Measured::High(at) => Measured::High(at),
     }
 }
@@ -360,7 +366,7 @@ fn clause<'a>(alloc: Global, contract: Conditions, tokens: &'a [Token]) -> Read<
     Ok(((before, pushed(after, clause)?), rest))
 }
 
-fn outcome(ty: Measured<Ty>, name: Option<Name>) -> Given
+fn outcome(ty: TypePart, name: Option<Name>) -> Given
     ensures { result ≡ trees.given ty name }
 {
     match ty {
@@ -372,7 +378,7 @@ fn outcome(ty: Measured<Ty>, name: Option<Name>) -> Given
 fn alias_node(
     at: u32,
     name: Name,
-    ty: Measured<Ty>,
+    ty: TypePart,
     variable: Option<Name>,
     clauses: Clauses,
 ) -> Measured<Decl>
@@ -383,7 +389,7 @@ fn alias_node(
             Decl::Alias(Alias {
                 at,
                 name,
-                ty,
+                ty: ty.into_inner(),
                 variable,
                 clauses,
             }),
@@ -411,7 +417,7 @@ fn function_node(
                     at,
                     name,
                     params,
-                    result,
+                    result: result.into_inner(),
                     result_name,
                     preconditions: before,
                     postconditions: after,
@@ -428,7 +434,7 @@ fn method_node(
     at: u32,
     name: Name,
     params: ParamList,
-    given: Measured<Option<(Ty, Option<Name>)>>,
+    given: MethodGiven,
     contract: Conditions,
     body: Stmts,
 ) -> Measured<Decl>
@@ -441,7 +447,7 @@ fn method_node(
                 at,
                 name,
                 params,
-                result,
+                result: unboxed_result(result),
                 preconditions: before,
                 postconditions: after,
                 body,
@@ -449,6 +455,15 @@ fn method_node(
             height,
         ),
         Measured::High(at) => Measured::High(at),
+    }
+}
+
+fn unboxed_result(given: Option<(Boxed<Ty>, Option<Name>)>) -> Option<(Ty, Option<Name>)>
+    ensures { result ≡ given }
+{
+    match given {
+        None => None,
+        Some((ty, name)) => Some((ty.into_inner(), name)),
     }
 }
 

@@ -13,9 +13,8 @@ mod fault;
 pub mod laws;
 mod nested;
 mod parser;
+mod parts;
 mod simple;
-#[cfg(test)]
-mod tests;
 
 pub use fault::ParseFault;
 pub use parser::parse;

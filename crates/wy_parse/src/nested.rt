@@ -6,13 +6,13 @@ ghost use Rattle.wy_grammar.specs.Nests.{Nests};
 ghost use Rattle.wy_grammar.specs.Steps as steps;
 ghost use Rattle.wy_parse.specs.StmtTrees as trees;
 
+use crate::parts::{ExprPart, expr_part, sum_part};
 use crate::simple::{stmt_node, wheres};
-use sqlite_items::Items;
+use sqlite_items::{Boxed, Items};
 use std::alloc::{AllocError, Global};
 use wy_ast::{Case, Expr, Stmt, StmtKind};
 use wy_data::Name;
 use wy_grammar::cursor::{Read, inside, mark, name, next_is, shut};
-use wy_grammar::expressions::{expr, sum};
 use wy_grammar::fault::Kind;
 use wy_grammar::labels::labels;
 use wy_grammar::measured::{Measured, both, pushed, some};
@@ -27,6 +27,9 @@ pub type Stmts = Measured<Items<Stmt>>;
 
 /// The cases of a switch, as far as they were read, and its default.
 pub type Cases = Measured<(Items<Case>, Option<Items<Stmt>>)>;
+
+/// The ends of a range.
+type Ends = Measured<(Boxed<Expr>, Boxed<Expr>)>;
 
 /// The readers of statements with blocks.
 #[derive(Clone, Copy)]
@@ -56,7 +59,7 @@ impl<B: Fn(Global, &[Token], usize) -> Result<(Stmts, &[Token]), Stop<Kind>>> Ne
             return shut(tokens, IF);
         }
         let (at, rest) = mark(tokens, IF)?;
-        let (test, rest) = expr(self.alloc, rest, levels)?;
+        let (test, rest) = expr_part(self.alloc, rest, levels)?;
         let (_, rest) = mark(rest, COLON)?;
         self.if_rest(at, test, rest, levels - 1)
     }
@@ -67,7 +70,7 @@ impl<B: Fn(Global, &[Token], usize) -> Result<(Stmts, &[Token]), Stop<Kind>>> Ne
     fn if_rest<'a>(
         &self,
         at: u32,
-        test: Measured<Expr>,
+        test: ExprPart,
         tokens: &'a [Token],
         levels: usize,
     ) -> Read<'a, Measured<Stmt>>
@@ -106,7 +109,7 @@ impl<B: Fn(Global, &[Token], usize) -> Result<(Stmts, &[Token]), Stop<Kind>>> Ne
         ensures { Reads (spec.while_stmt true levels (spec.block_at (steps.inside levels)) tokens.now) result }
     {
         let (at, rest) = mark(tokens, WHILE)?;
-        let (test, rest) = expr(self.alloc, rest, levels)?;
+        let (test, rest) = expr_part(self.alloc, rest, levels)?;
         self.while_rest(at, test, rest, levels)
     }
 
@@ -115,7 +118,7 @@ impl<B: Fn(Global, &[Token], usize) -> Result<(Stmts, &[Token]), Stop<Kind>>> Ne
     fn while_rest<'a>(
         &self,
         at: u32,
-        test: Measured<Expr>,
+        test: ExprPart,
         tokens: &'a [Token],
         levels: usize,
     ) -> Read<'a, Measured<Stmt>>
@@ -165,9 +168,9 @@ impl<B: Fn(Global, &[Token], usize) -> Result<(Stmts, &[Token]), Stop<Kind>>> Ne
         requires { Nests spec.block_at (steps.inside levels) (B.pre self.now.block) (B.post self.now.block) }
         ensures { Reads (spec.for_range true levels (spec.block_at (steps.inside levels)) at name tokens.now) result }
     {
-        let (from, rest) = sum(self.alloc, tokens, levels)?;
+        let (from, rest) = sum_part(self.alloc, tokens, levels)?;
         let (_, rest) = mark(rest, RANGE)?;
-        let (to, rest) = sum(self.alloc, rest, levels)?;
+        let (to, rest) = sum_part(self.alloc, rest, levels)?;
         self.for_rest(at, name, both(from, to), rest, levels)
     }
 
@@ -177,7 +180,7 @@ impl<B: Fn(Global, &[Token], usize) -> Result<(Stmts, &[Token]), Stop<Kind>>> Ne
         &self,
         at: u32,
         name: Name,
-        ends: Measured<(Expr, Expr)>,
+        ends: Ends,
         tokens: &'a [Token],
         levels: usize,
     ) -> Read<'a, Measured<Stmt>>
@@ -254,19 +257,19 @@ fn do_rest<'a>(
     ensures { Reads (spec.do_rest true levels at body tokens.now) result }
 {
     let (_, rest) = mark(tokens, WHILE)?;
-    let (test, rest) = expr(alloc, rest, levels)?;
+    let (test, rest) = expr_part(alloc, rest, levels)?;
     let none = Measured::Low(Items::new(alloc), 0);
     let (invariants, rest) = wheres(alloc, none, rest, levels)?;
     let (_, rest) = mark(rest, LINE_END)?;
     Ok((do_node(at, body, test, invariants), rest))
 }
 
-fn if_node(at: u32, test: Measured<Expr>, first: Stmts, second: Stmts) -> Measured<Stmt>
+fn if_node(at: u32, test: ExprPart, first: Stmts, second: Stmts) -> Measured<Stmt>
     ensures { result ≡ trees.if_node at test first second }
 {
     let kind = match both(test, both(first, second)) {
         Measured::Low((test, (first, second)), height) => {
-            Measured::Low(StmtKind::If(test, first, second), height)
+            Measured::Low(StmtKind::If(test.into_inner(), first, second), height)
         }
         Measured::High(at) => Measured::High(at),
     };
@@ -275,7 +278,7 @@ fn if_node(at: u32, test: Measured<Expr>, first: Stmts, second: Stmts) -> Measur
 
 fn while_node(
     at: u32,
-    test: Measured<Expr>,
+    test: ExprPart,
     invariants: Measured<Items<Expr>>,
     body: Stmts,
 ) -> Measured<Stmt>
@@ -283,7 +286,7 @@ fn while_node(
 {
     let kind = match both(test, both(invariants, body)) {
         Measured::Low((test, (invariants, body)), height) => {
-            Measured::Low(StmtKind::While(test, invariants, body), height)
+            Measured::Low(StmtKind::While(test.into_inner(), invariants, body), height)
         }
         Measured::High(at) => Measured::High(at),
     };
@@ -293,14 +296,14 @@ fn while_node(
 fn do_node(
     at: u32,
     body: Stmts,
-    test: Measured<Expr>,
+    test: ExprPart,
     invariants: Measured<Items<Expr>>,
 ) -> Measured<Stmt>
     ensures { result ≡ trees.do_node at body test invariants }
 {
     let kind = match both(body, both(test, invariants)) {
         Measured::Low((body, (test, invariants)), height) => {
-            Measured::Low(StmtKind::Do(body, test, invariants), height)
+            Measured::Low(StmtKind::Do(body, test.into_inner(), invariants), height)
         }
         Measured::High(at) => Measured::High(at),
     };
@@ -310,7 +313,7 @@ fn do_node(
 fn for_node(
     at: u32,
     name: Name,
-    ends: Measured<(Expr, Expr)>,
+    ends: Ends,
     invariants: Measured<Items<Expr>>,
     body: Stmts,
 ) -> Measured<Stmt>
@@ -318,6 +321,7 @@ fn for_node(
 {
     let kind = match both(ends, both(invariants, body)) {
         Measured::Low(((from, to), (invariants, body)), height) => {
+            let (from, to) = (from.into_inner(), to.into_inner());
             Measured::Low(StmtKind::For(name, from, to, invariants, body), height)
         }
         Measured::High(at) => Measured::High(at),
@@ -335,12 +339,12 @@ fn case_node(labels: Items<Expr>, body: Stmts) -> Measured<Case>
 }
 
 /// The node of a switch.
-pub fn switch_node(at: u32, value: Measured<Expr>, cases: Cases) -> Measured<Stmt>
+pub fn switch_node(at: u32, value: ExprPart, cases: Cases) -> Measured<Stmt>
     ensures { result ≡ trees.switch_node at value cases }
 {
     let kind = match both(value, cases) {
         Measured::Low((value, (cases, last)), height) => {
-            Measured::Low(StmtKind::Switch(value, cases, last), height)
+            Measured::Low(StmtKind::Switch(value.into_inner(), cases, last), height)
         }
         Measured::High(at) => Measured::High(at),
     };

@@ -1,22 +1,26 @@
 //! Statements without blocks.
-ghost use Rattle.std.specs.Prelude.{◌≡◌, true, IfOk};
+ghost use Rattle.std.specs.Prelude.{◌≡◌, true, None};
 ghost use Rattle.wy_reading.specs.Reader.{Reads};
 ghost use Rattle.wy_grammar.specs.Steps as steps;
+ghost use Rattle.wy_parse.specs.StmtGrammar as grammar;
 ghost use Rattle.wy_parse.specs.StmtReading as spec;
 ghost use Rattle.wy_parse.specs.StmtTrees as trees;
+ghost use Rattle.wy_grammar.specs.Trees.{some};
+ghost use Rattle.wy_grammar.specs.declared.measured.Measured.TheVariants.{Low};
 
+use crate::parts::{ExprPart, TypePart, expr_part, type_part};
 use sqlite_items::Items;
 use std::alloc::Global;
-use wy_ast::{Expr, Step, StepKind, Stmt, StmtKind, Ty};
+use wy_ast::{Expr, Step, StepKind, Stmt, StmtKind};
 use wy_data::Name;
 use wy_grammar::cursor::{Read, inner, inside, mark, name, next_in, next_is};
 use wy_grammar::expressions::{arguments, expr};
-use wy_grammar::measured::{Measured, both, pushed, some};
+use wy_grammar::measured::{Measured, both, boxed, pushed};
 use wy_grammar::sort::{
     ASSERT, ASSIGN, CLOSE_BRACKET, CLOSE_PAREN, Class, DOT, LINE_END, OPEN_BRACKET, OPEN_PAREN,
     RETURN, WHERE, has, sort,
 };
-use wy_grammar::types::{array_node, named_node, type_rest, type_tail, type_term};
+use wy_grammar::types::{array_node, named_node, type_rest, type_tail};
 use wy_lex::{Token, TokenKind};
 use wy_reading::Stop;
 
@@ -41,18 +45,26 @@ pub fn return_stmt(alloc: Global, tokens: &[Token], levels: usize) -> Read<'_, M
     let (at, rest) = mark(tokens, RETURN)?;
     if next_is(rest, LINE_END) {
         let (_, rest) = mark(rest, LINE_END)?;
-        return Ok((return_node(at, Measured::Low(None, 0)), rest));
+        return Ok((bare_return(at), rest));
     }
-    let (value, rest) = expr(alloc, rest, levels)?;
+    let (value, rest) = expr_part(alloc, rest, levels)?;
     let (_, rest) = mark(rest, LINE_END)?;
-    Ok((return_node(at, some(value)), rest))
+    Ok((return_node(at, value), rest))
 }
 
-fn return_node(at: u32, value: Measured<Option<Expr>>) -> Measured<Stmt>
-    ensures { result ≡ trees.return_node at value }
+fn bare_return(at: u32) -> Measured<Stmt>
+    ensures { result ≡ trees.return_node at (Low None 0) }
+{
+    stmt_node(at, Measured::Low(StmtKind::Return(None), 0))
+}
+
+fn return_node(at: u32, value: ExprPart) -> Measured<Stmt>
+    ensures { result ≡ trees.return_node at (some value) }
 {
     let kind = match value {
-        Measured::Low(value, height) => Measured::Low(StmtKind::Return(value), height),
+        Measured::Low(value, height) => {
+            Measured::Low(StmtKind::Return(Some(value.into_inner())), height)
+        }
         Measured::High(at) => Measured::High(at),
     };
     stmt_node(at, kind)
@@ -64,16 +76,18 @@ pub fn assert_stmt(alloc: Global, tokens: &[Token], levels: usize) -> Read<'_, M
     ensures { Reads (spec.assert_stmt true levels tokens.now) result }
 {
     let (at, rest) = mark(tokens, ASSERT)?;
-    let (test, rest) = expr(alloc, rest, levels)?;
+    let (test, rest) = expr_part(alloc, rest, levels)?;
     let (_, rest) = mark(rest, LINE_END)?;
     Ok((assert_node(at, test), rest))
 }
 
-fn assert_node(at: u32, test: Measured<Expr>) -> Measured<Stmt>
+fn assert_node(at: u32, test: ExprPart) -> Measured<Stmt>
     ensures { result ≡ trees.assert_node at test }
 {
     let kind = match test {
-        Measured::Low(test, height) => Measured::Low(StmtKind::Assert(test), height),
+        Measured::Low(test, height) => {
+            Measured::Low(StmtKind::Assert(test.into_inner()), height)
+        }
         Measured::High(at) => Measured::High(at),
     };
     stmt_node(at, kind)
@@ -111,7 +125,7 @@ pub fn declare_stmt(alloc: Global, tokens: &[Token], levels: usize) -> Read<'_, 
     ensures { Reads (spec.declare_stmt true levels tokens.now) result }
 {
     let at = place(tokens);
-    let (ty, rest) = type_term(alloc, tokens, levels)?;
+    let (ty, rest) = type_part(alloc, tokens, levels)?;
     declared(alloc, at, ty, rest, levels)
 }
 
@@ -130,7 +144,7 @@ fn place(tokens: &[Token]) -> u32
 fn declared<'a>(
     alloc: Global,
     at: u32,
-    ty: Measured<Ty>,
+    ty: TypePart,
     tokens: &'a [Token],
     levels: usize,
 ) -> Read<'a, Measured<Stmt>>
@@ -139,25 +153,33 @@ fn declared<'a>(
     let ((_, name), rest) = name(alloc, tokens)?;
     if next_is(rest, ASSIGN) {
         let (_, rest) = mark(rest, ASSIGN)?;
-        let (value, rest) = expr(alloc, rest, levels)?;
+        let (value, rest) = expr_part(alloc, rest, levels)?;
         let (_, rest) = mark(rest, LINE_END)?;
-        return Ok((declare_node(at, ty, name, some(value)), rest));
+        return Ok((declare_node(at, ty, name, value), rest));
     }
     let (_, rest) = mark(rest, LINE_END)?;
-    Ok((declare_node(at, ty, name, Measured::Low(None, 0)), rest))
+    Ok((bare_declare(at, ty, name), rest))
 }
 
-fn declare_node(
-    at: u32,
-    ty: Measured<Ty>,
-    name: Name,
-    value: Measured<Option<Expr>>,
-) -> Measured<Stmt>
-    ensures { result ≡ trees.declare_node at ty name value }
+fn bare_declare(at: u32, ty: TypePart, name: Name) -> Measured<Stmt>
+    ensures { result ≡ trees.declare_node at ty name (Low None 0) }
+{
+    let kind = match ty {
+        Measured::Low(ty, height) => {
+            Measured::Low(StmtKind::Declare(ty.into_inner(), name, None), height)
+        }
+        Measured::High(at) => Measured::High(at),
+    };
+    stmt_node(at, kind)
+}
+
+fn declare_node(at: u32, ty: TypePart, name: Name, value: ExprPart) -> Measured<Stmt>
+    ensures { result ≡ trees.declare_node at ty name (some value) }
 {
     let kind = match both(ty, value) {
         Measured::Low((ty, value), height) => {
-            Measured::Low(StmtKind::Declare(ty, name, value), height)
+            let value = Some(value.into_inner());
+            Measured::Low(StmtKind::Declare(ty.into_inner(), name, value), height)
         }
         Measured::High(at) => Measured::High(at),
     };
@@ -193,7 +215,7 @@ fn named_rest<'a>(
 {
     if next_in(tokens, Class::TypeGoesOn) {
         let (ty, rest) = type_tail(alloc, named_node(at, name), tokens, levels)?;
-        return declared(alloc, at, ty, rest, levels);
+        return declared(alloc, at, boxed(alloc, ty)?, rest, levels);
     }
     path_stmt(alloc, at, name, tokens, levels)
 }
@@ -278,7 +300,7 @@ fn array_stmt<'a>(
     let (_, rest) = inner(tokens, CLOSE_BRACKET, inside(levels))?;
     let begun = array_node(alloc, bracket, named_node(at, name))?;
     let (ty, rest) = type_rest(alloc, begun, rest, levels)?;
-    declared(alloc, at, ty, rest, levels)
+    declared(alloc, at, boxed(alloc, ty)?, rest, levels)
 }
 
 // The rest of an assignment into NAME '[' expr ']', behind the first bracket.
@@ -293,7 +315,7 @@ fn index_stmt<'a>(
 ) -> Read<'a, Measured<Stmt>>
     ensures { Reads (spec.index_stmt true levels at name bracket tokens.now) result }
 {
-    let (index, rest) = expr(alloc, tokens, inside(levels))?;
+    let (index, rest) = expr_part(alloc, tokens, inside(levels))?;
     let (_, rest) = mark(rest, CLOSE_BRACKET)?;
     let none = Measured::Low(Items::new(alloc), 0);
     let path = pushed(none, index_step(bracket, index))?;
@@ -329,17 +351,17 @@ fn valued<'a>(
     ensures { Reads (spec.valued true levels at name path tokens.now) result }
 {
     let (_, rest) = mark(tokens, ASSIGN)?;
-    let (value, rest) = expr(alloc, rest, levels)?;
+    let (value, rest) = expr_part(alloc, rest, levels)?;
     let (_, rest) = mark(rest, LINE_END)?;
     Ok((assign_node(at, name, path, value), rest))
 }
 
-fn assign_node(at: u32, name: Name, path: Path, value: Measured<Expr>) -> Measured<Stmt>
+fn assign_node(at: u32, name: Name, path: Path, value: ExprPart) -> Measured<Stmt>
     ensures { result ≡ trees.assign_node at name path value }
 {
     let kind = match both(path, value) {
         Measured::Low((path, value), height) => {
-            Measured::Low(StmtKind::Assign(name, path, value), height)
+            Measured::Low(StmtKind::Assign(name, path, value.into_inner()), height)
         }
         Measured::High(at) => Measured::High(at),
     };
@@ -368,7 +390,7 @@ fn step<'a>(alloc: Global, path: Path, tokens: &'a [Token], levels: usize) -> Re
 {
     if next_is(tokens, OPEN_BRACKET) {
         let (at, rest) = mark(tokens, OPEN_BRACKET)?;
-        let (index, rest) = expr(alloc, rest, inside(levels))?;
+        let (index, rest) = expr_part(alloc, rest, inside(levels))?;
         let (_, rest) = mark(rest, CLOSE_BRACKET)?;
         return Ok((pushed(path, index_step(at, index))?, rest));
     }
@@ -386,12 +408,12 @@ fn field_step<'a>(alloc: Global, path: Path, tokens: &'a [Token]) -> Read<'a, Pa
     Ok((pushed(path, Measured::Low(Step { at, kind }, 0))?, rest))
 }
 
-fn index_step(at: u32, index: Measured<Expr>) -> Measured<Step>
+fn index_step(at: u32, index: ExprPart) -> Measured<Step>
     ensures { result ≡ trees.index_step at index }
 {
     match index {
         Measured::Low(index, height) => {
-            let kind = StepKind::Index(index);
+            let kind = StepKind::Index(index.into_inner());
             Measured::Low(Step { at, kind }, height)
         }
         Measured::High(at) => Measured::High(at),

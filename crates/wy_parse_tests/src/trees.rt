@@ -1,16 +1,19 @@
 //! What is read, with the places of nodes.
-use crate::ParseFault;
-use crate::tests::{Answered, answer};
+use crate::parsing::read;
+use crate::written::program;
 use std::alloc::Global;
 use std::process::Abort;
 use std::test::Fail;
 
 // The source has the tree.
 fn reads(rt: &impl Abort, alloc: Global, source: &str, want: &str) -> Result<(), Fail> {
-    match answer(alloc, source)? {
-        Answered::Tree(tree) => assert_eq!(rt; tree.as_str(), want),
-        Answered::Fault(fault) => assert_eq!(rt; fault, ParseFault::NoMemory, "{}", source),
-        Answered::NoTokens => assert!(rt; false, "{}", source),
+    match read(alloc, source) {
+        Some(Ok(tree)) => {
+            let mut text = String::new(alloc);
+            program(&mut text, alloc, &tree)?;
+            assert_eq!(rt; text.as_str(), want);
+        }
+        _ => assert!(rt; false, "{}", source),
     }
     Ok(())
 }
@@ -45,11 +48,11 @@ fn expressions(rt: HostRuntime) -> Result<(), Fail> {
         ("{}", "record@19()"),
         (
             "all { i in 0..|xs|, j in 0..i | xs[i] > j }",
-            "all@19(i in@19(0@30,len@33(xs@34)),j in@19(0@44,i@47),>@57(index@53(xs@51,i@54),j@59))",
+            "all@19(i in(0@30,len@33(xs@34)),j in(0@44,i@47),>@57(index@53(xs@51,i@54),j@59))",
         ),
         (
             "some{i in 0..1|i is T}",
-            "some@19(i in@19(0@29,1@32),is@36(i@34,T@39))",
+            "some@19(i in(0@29,1@32),is@36(i@34,T@39))",
         ),
         ("\"a\\n\" == null", "==@25([97, 10]@19,null@28)"),
         ("f(1, true).g", ".@29(f@19(1@21,true@24,),g)"),

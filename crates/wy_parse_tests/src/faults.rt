@@ -1,27 +1,8 @@
 //! What is refused, and where; and what stands at a limit.
-use crate::ParseFault;
-use crate::tests::{Answered, answer};
+use crate::parsing::answers;
 use std::alloc::{AllocError, Global};
-use std::process::Abort;
 use std::test::Fail;
-
-fn refuses(rt: &impl Abort, alloc: Global, source: &str, want: ParseFault) -> Result<(), Fail> {
-    match answer(alloc, source)? {
-        Answered::Tree(_) => assert!(rt; false, "{}", source),
-        Answered::Fault(fault) => assert_eq!(rt; fault, want, "{}", source),
-        Answered::NoTokens => assert!(rt; false, "{}", source),
-    }
-    Ok(())
-}
-
-fn accepts(rt: &impl Abort, alloc: Global, source: &str) -> Result<(), Fail> {
-    match answer(alloc, source)? {
-        Answered::Tree(_) => (),
-        Answered::Fault(fault) => assert_eq!(rt; fault, ParseFault::NoMemory, "{}", source),
-        Answered::NoTokens => assert!(rt; false, "{}", source),
-    }
-    Ok(())
-}
+use wy_parse::ParseFault;
 
 // The text so many times, before the other and behind a first one.
 fn around(
@@ -102,7 +83,7 @@ fn faults(rt: HostRuntime) -> Result<(), Fail> {
         ),
     ];
     for (source, want) in cases {
-        refuses(&rt, alloc, source, want)?;
+        answers(&rt, alloc, source, Some(want));
     }
     Ok(())
 }
@@ -141,16 +122,23 @@ fn depth(rt: HostRuntime) -> Result<(), Fail> {
     ];
     for (text, times, last, want) in cases {
         let source = around(alloc, clause, text, times, last)?;
-        refuses(&rt, alloc, source.as_str(), want)?;
+        answers(&rt, alloc, source.as_str(), Some(want));
     }
+    Ok(())
+}
+
+#[test]
+fn prefixes(rt: HostRuntime) -> Result<(), Fail> {
+    let alloc = rt.alloc();
     let nots = around(alloc, "type T is ", "!", 101, "int\n")?;
-    refuses(&rt, alloc, nots.as_str(), ParseFault::Deep(111))?;
+    answers(&rt, alloc, nots.as_str(), Some(ParseFault::Deep(111)));
     // The last minus makes a literal, so no nesting is too deep; but the first one's node is too high.
-    let minuses = around(alloc, clause, "-", 101, "1\n")?;
-    refuses(&rt, alloc, minuses.as_str(), ParseFault::Deep(19))?;
-    let inner = around(alloc, clause, "(", 100, "a")?;
-    let whole = around(alloc, inner.as_str(), ")", 100, "\n")?;
-    accepts(&rt, alloc, whole.as_str())
+    let minuses = around(alloc, "property p() where ", "-", 101, "1\n")?;
+    answers(&rt, alloc, minuses.as_str(), Some(ParseFault::Deep(19)));
+    let open = around(alloc, "property p() where ", "(", 100, "a")?;
+    let shut = around(alloc, open.as_str(), ")", 100, "\n")?;
+    answers(&rt, alloc, shut.as_str(), None);
+    Ok(())
 }
 
 // A method with so many blocks in one another, and a statement in the last.
@@ -183,109 +171,134 @@ fn nested(
 #[test]
 fn blocks(rt: HostRuntime) -> Result<(), Fail> {
     let alloc = rt.alloc();
-    let deep = nested(alloc, "if a:\n", "", 99, "skip\n")?;
-    accepts(&rt, alloc, deep.as_str())?;
-    // The lines have 6 characters and from 1 to 100 blanks before them.
-    let deeper = nested(alloc, "if a:\n", "", 100, "skip\n")?;
-    refuses(
-        &rt,
-        alloc,
-        deeper.as_str(),
-        ParseFault::Deep(12 + 600 + 5050 + 101),
-    )?;
-    let inside = nested(alloc, "if a:\n", "", 99, "return (a)\n")?;
-    refuses(
-        &rt,
-        alloc,
-        inside.as_str(),
-        ParseFault::Deep(12 + 594 + 4950 + 100 + 8),
-    )?;
-    let uncounted = nested(alloc, "switch a:\n", "default:\n", 300, "skip\n")?;
-    accepts(&rt, alloc, uncounted.as_str())?;
-    let counted = nested(alloc, "switch a:\n", "case 1:\n", 99, "skip\n")?;
-    accepts(&rt, alloc, counted.as_str())?;
-    // Lines of 10 and of 8 characters, with from 1 to 200 blanks.
-    let one_more = nested(alloc, "switch a:\n", "case 1:\n", 100, "skip\n")?;
-    refuses(
-        &rt,
-        alloc,
-        one_more.as_str(),
-        ParseFault::Deep(12 + 1800 + 20100 + 201),
-    )?;
-    let cases = around(
-        alloc,
-        "method m():\n switch a:\n",
-        "  case 1:\n   skip\n",
-        99,
-        "  default:\n   fail\n",
-    )?;
-    accepts(&rt, alloc, cases.as_str())?;
-    let hundred = around(
-        alloc,
-        "method m():\n switch a:\n",
-        "  case 1:\n   skip\n",
-        100,
-        "",
-    )?;
-    refuses(
-        &rt,
-        alloc,
-        hundred.as_str(),
-        ParseFault::Deep(23 + 99 * 18 + 13),
-    )?;
-    let others = around(
-        alloc,
-        "method m():\n if a:\n  skip\n",
-        " else if a:\n  skip\n",
-        98,
-        " else:\n  skip\n",
-    )?;
-    accepts(&rt, alloc, others.as_str())?;
-    let other = around(
-        alloc,
-        "method m():\n if a:\n  skip\n",
-        " else if a:\n  skip\n",
-        99,
-        "",
-    )?;
-    refuses(
-        &rt,
-        alloc,
-        other.as_str(),
-        ParseFault::Deep(26 + 98 * 19 + 14),
-    )
+    // Lines of 6 characters, or of 10 and of 8, with from 1 to 100 or to 200 blanks before them.
+    let cases = [
+        ("if a:\n", "", 99, "skip\n", None),
+        (
+            "if a:\n",
+            "",
+            100,
+            "skip\n",
+            Some(ParseFault::Deep(12 + 600 + 5050 + 101)),
+        ),
+        (
+            "if a:\n",
+            "",
+            99,
+            "return (a)\n",
+            Some(ParseFault::Deep(12 + 594 + 4950 + 100 + 8)),
+        ),
+        ("switch a:\n", "default:\n", 300, "skip\n", None),
+        ("switch a:\n", "case 1:\n", 99, "skip\n", None),
+        (
+            "switch a:\n",
+            "case 1:\n",
+            100,
+            "skip\n",
+            Some(ParseFault::Deep(12 + 1800 + 20100 + 201)),
+        ),
+    ];
+    for (header, second, times, last, want) in cases {
+        let source = nested(alloc, header, second, times, last)?;
+        answers(&rt, alloc, source.as_str(), want);
+    }
+    Ok(())
+}
+
+// What stands in one switch, or behind one `if`.
+#[test]
+fn branches(rt: HostRuntime) -> Result<(), Fail> {
+    let alloc = rt.alloc();
+    let switch = "method m():\n switch a:\n";
+    let case = "  case 1:\n   skip\n";
+    let first = "method m():\n if a:\n  skip\n";
+    let other = " else if a:\n  skip\n";
+    let cases = [
+        (switch, case, 99, "  default:\n   fail\n", None),
+        (
+            switch,
+            case,
+            100,
+            "",
+            Some(ParseFault::Deep(23 + 99 * 18 + 13)),
+        ),
+        (first, other, 98, " else:\n  skip\n", None),
+        (
+            first,
+            other,
+            99,
+            "",
+            Some(ParseFault::Deep(26 + 98 * 19 + 14)),
+        ),
+    ];
+    for (begin, text, times, end, want) in cases {
+        let source = around(alloc, begin, text, times, end)?;
+        answers(&rt, alloc, source.as_str(), want);
+    }
+    Ok(())
 }
 
 #[test]
 fn heights(rt: HostRuntime) -> Result<(), Fail> {
     let alloc = rt.alloc();
-    let clause = "property p() where a";
-    let low = around(alloc, clause, "+a", 99, "\n")?;
-    accepts(&rt, alloc, low.as_str())?;
-    let high = around(alloc, clause, "+a", 100, "\n")?;
-    refuses(&rt, alloc, high.as_str(), ParseFault::Deep(218))?;
-    let long = around(alloc, clause, "+a", 5_000, "\n")?;
-    refuses(&rt, alloc, long.as_str(), ParseFault::Deep(218))?;
-    let wrong = around(alloc, clause, "+a", 100, ")\n")?;
-    refuses(&rt, alloc, wrong.as_str(), ParseFault::Unexpected(220))?;
-    let ty = around(alloc, "type T is int", "[]", 100, "\n")?;
-    refuses(&rt, alloc, ty.as_str(), ParseFault::Deep(211))?;
-    let test = around(alloc, "property p() where a is int", "[]", 99, "\n")?;
-    refuses(&rt, alloc, test.as_str(), ParseFault::Deep(21))
+    let cases = [
+        ("property p() where a", "+a", 99, "\n", None),
+        (
+            "property p() where a",
+            "+a",
+            100,
+            "\n",
+            Some(ParseFault::Deep(218)),
+        ),
+        (
+            "property p() where a",
+            "+a",
+            5_000,
+            "\n",
+            Some(ParseFault::Deep(218)),
+        ),
+        (
+            "property p() where a",
+            "+a",
+            100,
+            ")\n",
+            Some(ParseFault::Unexpected(220)),
+        ),
+        ("type T is int", "[]", 99, "\n", None),
+        (
+            "type T is int",
+            "[]",
+            100,
+            "\n",
+            Some(ParseFault::Deep(211)),
+        ),
+        (
+            "property p() where a is int",
+            "[]",
+            99,
+            "\n",
+            Some(ParseFault::Deep(21)),
+        ),
+    ];
+    for (begin, text, times, end, want) in cases {
+        let source = around(alloc, begin, text, times, end)?;
+        answers(&rt, alloc, source.as_str(), want);
+    }
+    Ok(())
 }
 
 #[test]
 fn number(rt: HostRuntime) -> Result<(), Fail> {
     let alloc = rt.alloc();
-    let most = around(alloc, "", "type T is int\n", 4096, "")?;
-    accepts(&rt, alloc, most.as_str())?;
-    let more = around(alloc, "", "type T is int\n", 4097, "type ]")?;
-    refuses(&rt, alloc, more.as_str(), ParseFault::TooMany(4096 * 14))?;
-    let other = around(alloc, "", "type T is int\n", 4096, "skip\n")?;
-    refuses(
-        &rt,
-        alloc,
-        other.as_str(),
-        ParseFault::Unexpected(4096 * 14),
-    )
+    let line = "type T is int\n";
+    let cases = [
+        (4096, "", None),
+        (4097, "type ]", Some(ParseFault::TooMany(4096 * 14))),
+        (4096, "skip\n", Some(ParseFault::Unexpected(4096 * 14))),
+    ];
+    for (times, end, want) in cases {
+        let source = around(alloc, "", line, times, end)?;
+        answers(&rt, alloc, source.as_str(), want);
+    }
+    Ok(())
 }
