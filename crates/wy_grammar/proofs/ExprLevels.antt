@@ -1,11 +1,10 @@
 -- Expressions of every level are read exactly.
-use Rattle.std.proofs.Common.{◌≡◌, ℕ, zero, suc, pred, ◌≤◌, Bool, true, false, List, [], ◌∷◌, ◌⊎◌, refl, sym, Ok, Err, length, arith, ◌∙◌}
+use Rattle.std.proofs.Common.{◌≡◌, ℕ, zero, suc, pred, ◌≤◌, Bool, true, List, [], ◌∷◌, ◌⊎◌, refl, Ok, length, arith}
 use Rattle.std.specs.Bool.{⊤}
-use Rattle.wy_reading.specs.declared.stop.Stop.TheVariants.{Unexpected, Fault}
-use Rattle.wy_reading.specs.Mode.{Mode, Looser}
-use Rattle.wy_reading.specs.Rule.{heads, among}
-use Rattle.wy_reading.specs.Reader.{Reader, ◌>>=◌, pure, one, while}
-use Rattle.wy_reading.proofs.Exactness.{Exact, Passes, Lacks, Any}
+use Rattle.wy_reading.specs.Mode.{Mode}
+use Rattle.wy_reading.specs.Rule.{among}
+use Rattle.wy_reading.specs.Reader.{one}
+use Rattle.wy_reading.proofs.Exactness.{Exact, Lacks}
 use Rattle.wy_reading.proofs.Adapting.{same_readers}
 use Rattle.wy_reading.proofs.Levels.{deeper, up}
 use Rattle.wy_reading.proofs.Closed.{closed, Declines, declines-then, declines-branch, declines-one}
@@ -13,7 +12,6 @@ use Rattle.wy_reading.proofs.Turns.{loop-halts}
 use Rattle.wy_ast.specs.declared.expressions.ExprKind.TheVariants as e
 use Rattle.wy_lex.specs.declared.token.Token.{Token}
 use Rattle.wy_lex.specs.declared.token.TokenKind.TheVariants as k
-use Rattle.wy_grammar.specs.declared.fault.Kind.{Kind}
 use Rattle.wy_grammar.specs.declared.fault.Kind.TheVariants.{Deep}
 use Rattle.wy_grammar.specs.declared.sort.Class.TheVariants as class
 use Rattle.wy_grammar.specs.Sorts as t
@@ -24,7 +22,7 @@ use Rattle.wy_grammar.specs.ExprGrammar as rule
 use Rattle.wy_grammar.specs.ExprGrammar.{E, Args}
 use Rattle.wy_grammar.specs.ExprReading as read
 use Rattle.wy_grammar.specs.ExprReading.{readers}
-use Rattle.wy_grammar.proofs.TokenLemmas.{among_these, some, one_out, fewer}
+use Rattle.wy_grammar.proofs.TokenLemmas.{some, one_out, fewer}
 use Rattle.wy_grammar.proofs.StepsExact.{mark_declines, name_declines}
 use Rattle.wy_grammar.proofs.OperatorsExact.{after_unary, after_product, after_sum, after_comparison, after_logic, after_expr, After, BeginsExpr, expr_of-exact}
 use Rattle.wy_grammar.proofs.ExprsExact.{unary_of-exact, arg_list-exact}

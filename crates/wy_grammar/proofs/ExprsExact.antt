@@ -1,9 +1,9 @@
 -- What has an inside is read exactly: a line for each rule.
-use Rattle.std.proofs.Common.{◌≡◌, ◌==◌, ◌+◌, ℕ, ℤ, pos, zero, suc, Bool, true, false, List, [], ◌∷◌, ◌++◌, ◌⊎◌, inl, inr, refl, sym, ap, ◌∙◌, ◌≤◌, true≢false, Ok, Err, length, eq-eqb}
+use Rattle.std.proofs.Common.{◌≡◌, ◌+◌, ℕ, pos, Bool, true, List, [], ◌∷◌, ◌⊎◌, inl, inr, refl, sym, ◌≤◌, true≢false, Ok, eq-eqb}
 use Rattle.std.specs.Bool.{⊤}
 use Rattle.wy_reading.specs.Mode.{Mode, Looser}
-use Rattle.wy_reading.specs.Rule.{Rule, heads, Pure, Then, among}
-use Rattle.wy_reading.specs.Reader.{Reader, ◌>>=◌, pure}
+use Rattle.wy_reading.specs.Rule.{Then}
+use Rattle.wy_reading.specs.Reader.{◌>>=◌}
 use Rattle.wy_reading.proofs.Exactness.{Exact, Passes, Lacks, Any, Sample}
 use Rattle.wy_reading.proofs.Single.{nothing}
 use Rattle.wy_reading.proofs.Sequence.{sequence}
@@ -14,17 +14,16 @@ use Rattle.wy_reading.proofs.Bars.{unless-exact}
 use Rattle.wy_ast.specs.declared.expressions.ExprKind.TheVariants as e
 use Rattle.wy_lex.specs.declared.token.Token.{Token}
 use Rattle.wy_lex.specs.declared.token.TokenKind.TheVariants as k
-use Rattle.wy_grammar.specs.declared.fault.Kind.{Kind}
 use Rattle.wy_grammar.specs.declared.sort.Class.TheVariants as class
 use Rattle.wy_grammar.specs.Sorts as t
 use Rattle.wy_grammar.specs.Sorts.{is, has, members}
-use Rattle.wy_grammar.specs.Steps.{R, Q, Name, name, Inner, inner}
+use Rattle.wy_grammar.specs.Steps.{R, Q, Inner, inner}
 use Rattle.wy_grammar.specs.Trees as trees
 use Rattle.wy_grammar.specs.Trees.{pushed, named, none, leaf}
 use Rattle.wy_grammar.specs.ExprGrammar as rule
 use Rattle.wy_grammar.specs.ExprGrammar.{E, Args, Fields, Ranges, literal_kind, touches, opposite, is_all}
 use Rattle.wy_grammar.specs.ExprReading as read
-use Rattle.wy_grammar.proofs.TokenLemmas.{among_these, some, at, at_other, no, one_out, fewer, apart, member, wider, choice_of, choice_among}
+use Rattle.wy_grammar.proofs.TokenLemmas.{among_these, some, at, at_other, no, one_out, fewer, apart, member, choice_of, choice_among}
 use Rattle.wy_grammar.proofs.StepsExact.{token-exact, mark-exact, name-exact, inner-exact, inner_name-exact}
 use Rattle.wy_grammar.proofs.OperatorsExact.{after_unary, after_sum, after_expr, After, BeginsExpr, sum-exact}
 

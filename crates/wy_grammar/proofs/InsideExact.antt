@@ -1,14 +1,9 @@
 -- What is read exactly on every level is read exactly one level deeper, and so is what is read with the place of its first token.
-use Rattle.std.proofs.Common.{◌≡◌, ℕ, zero, suc, ◌≤◌, Bool, true, false, true≢false, List, [], ◌∷◌, ◌++◌, ◌⊎◌, inl, inr, length, Ok, Err, refl, sym, ap, ◌∙◌, arith}
-use Rattle.std.specs.Bool.{⊤}
-use Rattle.wy_reading.specs.declared.stop.Stop.TheVariants.{Unexpected, Fault}
-use Rattle.wy_reading.specs.Mode.{Mode, Looser}
-use Rattle.wy_reading.specs.Rule.{Rule}
-use Rattle.wy_reading.proofs.Exactness.{Exact, ExactTo, SameHead, Instead, same_mode}
+use Rattle.std.proofs.Common.{ℕ, zero, suc, ◌≤◌, Bool, List, arith}
+use Rattle.wy_reading.specs.Mode.{Mode}
+use Rattle.wy_reading.proofs.Exactness.{Exact}
 use Rattle.wy_reading.proofs.Levels.{deeper}
-use Rattle.wy_reading.proofs.Outcomes.{and_then-ok, and_then-err, ok-parts}
 use Rattle.wy_lex.specs.declared.token.Token.{Token}
-use Rattle.wy_grammar.specs.declared.fault.Kind.{Kind}
 use Rattle.wy_grammar.specs.Steps.{R, Q, inside}
 
 -- the mode with one level fewer

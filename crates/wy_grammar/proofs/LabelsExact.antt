@@ -1,9 +1,8 @@
 -- The labels of cases are read exactly.
-use Rattle.std.proofs.Common.{◌≡◌, ◌==◌, ◌+◌, ℕ, ℤ, pos, Bool, true, false, true≢false, List, [], ◌∷◌, ◌++◌, refl, sym, Ok, arith, ne_eqb}
+use Rattle.std.proofs.Common.{◌≡◌, ◌+◌, ℕ, pos, true≢false, List, [], ◌∷◌, ◌++◌, refl, sym, Ok, arith, ne_eqb}
 use Rattle.std.specs.Bool.{⊤}
 use Rattle.wy_reading.specs.Mode.{Mode}
-use Rattle.wy_reading.specs.Rule.{heads}
-use Rattle.wy_reading.proofs.Exactness.{Exact, Passes, Lacks, Any, Sample}
+use Rattle.wy_reading.proofs.Exactness.{Exact, Passes, Lacks, Any}
 use Rattle.wy_reading.proofs.Single.{nothing}
 use Rattle.wy_reading.proofs.Sequence.{sequence}
 use Rattle.wy_reading.proofs.Choice.{choice}

@@ -1,6 +1,5 @@
 -- What a reader reads another one reads too, and where a fault stops the first, the other one goes on: for each way to make a reader.
-use Rattle.std.proofs.Common.{◌≡◌, ◌==◌, ◌<◌, ◌≤◌, ℕ, zero, suc, Bool, true, false, true≢false, cond, List, [], ◌∷◌, ◌++◌, ◌⊎◌, inl, inr, ◌||◌, length, Ok, Err, refl, sym, ap, ◌∙◌, subst, arith, length-append}
-use Rattle.wy_reading.specs.declared.stop.Stop.{Stop}
+use Rattle.std.proofs.Common.{◌≡◌, ◌==◌, ◌<◌, ◌≤◌, ℕ, zero, suc, Bool, true, false, true≢false, cond, List, [], ◌∷◌, inl, inr, ◌||◌, length, Ok, Err, refl, sym, ap, ◌∙◌, subst, arith, length-append}
 use Rattle.wy_reading.specs.declared.stop.Stop.TheVariants.{Unexpected, Fault, NoMemory}
 use Rattle.wy_reading.specs.Mode.{Mode}
 use Rattle.wy_reading.specs.Rule.{heads, among}

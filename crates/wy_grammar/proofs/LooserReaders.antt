@@ -1,16 +1,15 @@
 -- With a few more levels and without checks each reader reads what it does with them, and goes beyond each fault: a line for each.
-use Rattle.std.proofs.Common.{◌≡◌, ◌==◌, ◌<◌, ◌≤◌, ◌+◌, ℕ, zero, suc, Bool, true, false, List, [], ◌∷◌, ◌++◌, length, Option, Some, None, refl, arith}
+use Rattle.std.proofs.Common.{◌≡◌, ◌<◌, ◌≤◌, ◌+◌, ℕ, zero, suc, Bool, true, false, List, ◌∷◌, ◌++◌, length, refl, arith}
 use Rattle.wy_reading.specs.Mode.{Mode}
-use Rattle.wy_reading.specs.Rule.{heads, among, lax}
-use Rattle.wy_reading.specs.Reader.{◌>>=◌, pure, one, refuse, branch, refused, unless, while, fenced}
+use Rattle.wy_reading.specs.Rule.{heads}
+use Rattle.wy_reading.specs.Reader.{◌>>=◌, pure, refuse, branch, while, fenced}
 use Rattle.wy_lex.specs.declared.token.Token.{Token}
 use Rattle.wy_ast.specs.declared.expressions.Op.TheVariants as op
-use Rattle.wy_ast.specs.declared.expressions.Expr.{Expr}
-use Rattle.wy_grammar.specs.declared.fault.Kind.TheVariants.{Deep, Mixed, TooMany}
+use Rattle.wy_grammar.specs.declared.fault.Kind.TheVariants.{Deep, Mixed}
 use Rattle.wy_grammar.specs.declared.sort.Class.TheVariants as class
 use Rattle.wy_grammar.specs.Sorts as t
 use Rattle.wy_grammar.specs.Sorts.{is, has, members}
-use Rattle.wy_grammar.specs.Steps.{Q, mark, inner, name, inside}
+use Rattle.wy_grammar.specs.Steps.{Q, mark, inner, inside}
 use Rattle.wy_grammar.specs.Trees as trees
 use Rattle.wy_grammar.specs.Trees.{none}
 use Rattle.wy_grammar.specs.TypeGrammar.{T}
@@ -22,7 +21,7 @@ use Rattle.wy_grammar.specs.ExprReading as exprs
 use Rattle.wy_grammar.specs.ExprReading.{readers}
 use Rattle.wy_grammar.proofs.TypesExact.{tight-exact, inside_reached}
 use Rattle.wy_grammar.proofs.ExprLevels.{unary-exact, expr-exact}
-use Rattle.wy_grammar.proofs.LooserLemmas.{Goes, Within, Takes, left, goes-then, goes-pure, goes-one, goes-token, goes-mark, goes-name, goes-operator, goes-branch, goes-while, goes-unless, goes-refused, goes-none, goes-inner, goes-inner_name, goes-fenced, takes-is, takes-class, takes-one, takes-then, takes-mark, mark-on, name-on, left-then, exact-within}
+use Rattle.wy_grammar.proofs.LooserLemmas.{Goes, Within, Takes, left, goes-then, goes-pure, goes-token, goes-mark, goes-name, goes-operator, goes-branch, goes-while, goes-unless, goes-refused, goes-none, goes-inner, goes-inner_name, goes-fenced, takes-is, takes-class, takes-one, takes-then, mark-on, name-on, left-then, exact-within}
 
 -- ---- types
 

@@ -1,9 +1,6 @@
 -- What operators of two operands join is read exactly: a line for each rule.
-use Rattle.std.proofs.Common.{◌≡◌, ℕ, zero, suc, Bool, true, false, List, [], ◌∷◌, ◌⊎◌, inl, inr, refl, Ok, Err, length}
-use Rattle.std.specs.Bool.{⊤}
+use Rattle.std.proofs.Common.{ℕ, List, [], ◌∷◌, ◌⊎◌, inl, inr, refl}
 use Rattle.wy_reading.specs.Mode.{Mode}
-use Rattle.wy_reading.specs.Rule.{heads}
-use Rattle.wy_reading.specs.Reader.{Reader}
 use Rattle.wy_reading.proofs.Exactness.{Exact, Passes, Lacks, Any}
 use Rattle.wy_reading.proofs.Single.{nothing}
 use Rattle.wy_reading.proofs.Sequence.{sequence}
@@ -14,7 +11,6 @@ use Rattle.wy_reading.proofs.Bars.{fenced-exact}
 use Rattle.wy_ast.specs.declared.expressions.Op.TheVariants as op
 use Rattle.wy_lex.specs.declared.token.Token.{Token}
 use Rattle.wy_lex.specs.declared.token.TokenKind.TheVariants as k
-use Rattle.wy_grammar.specs.declared.fault.Kind.{Kind}
 use Rattle.wy_grammar.specs.declared.fault.Kind.TheVariants.{Mixed}
 use Rattle.wy_grammar.specs.declared.sort.Class.TheVariants as class
 use Rattle.wy_grammar.specs.Sorts as t
@@ -25,9 +21,9 @@ use Rattle.wy_grammar.specs.Trees.{binary}
 use Rattle.wy_grammar.specs.ExprGrammar as rule
 use Rattle.wy_grammar.specs.ExprGrammar.{E, joint}
 use Rattle.wy_grammar.specs.ExprReading as read
-use Rattle.wy_grammar.proofs.TokenLemmas.{among_these, some, at, at_other, no, one_out, fewer, apart, member}
+use Rattle.wy_grammar.proofs.TokenLemmas.{among_these, some, at, at_other, one_out, fewer, apart, member}
 use Rattle.wy_grammar.proofs.StepsExact.{mark-exact, operator-exact}
-use Rattle.wy_grammar.proofs.TypesExact.{type-exact, joins_type, AfterType, BeginsType}
+use Rattle.wy_grammar.proofs.TypesExact.{type-exact, joins_type}
 
 -- what may not follow
 abbrev pub after_unary : List ℕ

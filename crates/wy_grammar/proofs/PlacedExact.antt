@@ -1,9 +1,8 @@
 -- What is read with the place of its first token is read exactly.
-use Rattle.std.proofs.Common.{◌≡◌, ℕ, ◌≤◌, List, [], ◌∷◌, ◌++◌, ◌⊎◌, inl, inr, length, Ok, Err, refl, sym, ap, subst, ◌∙◌, append_assoc, append-nil}
-use Rattle.std.specs.Bool.{⊤}
+use Rattle.std.proofs.Common.{◌≡◌, ℕ, List, [], ◌∷◌, ◌++◌, inl, inr, length, Ok, Err, refl, sym, ap, subst, ◌∙◌, append_assoc, append-nil}
 use Rattle.wy_reading.specs.declared.stop.Stop.TheVariants.{Unexpected, Fault}
-use Rattle.wy_reading.specs.Mode.{Mode, Looser}
-use Rattle.wy_reading.proofs.Exactness.{Exact, SameHead, Instead, same_mode}
+use Rattle.wy_reading.specs.Mode.{Mode}
+use Rattle.wy_reading.proofs.Exactness.{Exact, same_mode}
 use Rattle.wy_reading.proofs.Outcomes.{and_then-ok, and_then-err, ok-parts}
 use Rattle.wy_lex.specs.declared.token.Token.{Token}
 use Rattle.wy_grammar.specs.declared.fault.Kind.{Kind}

@@ -1,22 +1,21 @@
 -- Single tokens are read exactly.
-use Rattle.std.proofs.Common.{◌≡◌, ◌==◌, ℕ, zero, suc, ◌≤◌, Bool, true, false, true≢false, List, [], ◌∷◌, ◌++◌, length, Ok, Err, refl, sym, ap, subst, ◌∙◌, arith}
+use Rattle.std.proofs.Common.{◌≡◌, ℕ, zero, suc, ◌≤◌, Bool, true, false, List, [], ◌∷◌, length, Ok, Err, refl, sym, subst, ◌∙◌, arith}
 use Rattle.std.specs.Bool.{⊤}
 use Rattle.wy_reading.specs.declared.stop.Stop.TheVariants.{Unexpected, Fault}
-use Rattle.wy_reading.specs.Mode.{Mode, Looser}
-use Rattle.wy_reading.specs.Rule.{Rule, heads, One, Pure, Then, Refused}
-use Rattle.wy_reading.specs.Reader.{Reader, ◌>>=◌, pure, one, refused}
+use Rattle.wy_reading.specs.Mode.{Mode}
+use Rattle.wy_reading.specs.Rule.{heads, One, Pure, Then}
+use Rattle.wy_reading.specs.Reader.{◌>>=◌, pure, one}
 use Rattle.wy_reading.proofs.Exactness.{Exact, Passes, Any}
 use Rattle.wy_reading.proofs.Single.{nothing, symbol}
 use Rattle.wy_reading.proofs.Sequence.{sequence}
 use Rattle.wy_reading.proofs.Adapting.{same_readers}
 use Rattle.wy_reading.proofs.Closed.{closed}
-use Rattle.wy_ast.specs.declared.expressions.Op.{Op}
 use Rattle.wy_lex.specs.declared.token.Token.{Token}
 use Rattle.wy_grammar.specs.declared.fault.Kind.{Kind}
 use Rattle.wy_grammar.specs.declared.fault.Kind.TheVariants.{Deep}
 use Rattle.wy_grammar.specs.declared.sort.Class.{Class}
 use Rattle.wy_grammar.specs.Sorts.{is, has, NAME}
-use Rattle.wy_grammar.specs.Steps.{R, Q, Mark, mark, Inner, inner, Name, name, InnerName, inner_name, name_of, op_of, Operator, operator}
+use Rattle.wy_grammar.specs.Steps.{Q, Mark, mark, Inner, inner, Name, name, InnerName, inner_name, name_of, op_of, Operator, operator}
 use Rattle.wy_lex.specs.declared.token.TokenKind.TheVariants as k
 use Rattle.wy_grammar.proofs.TokenLemmas.{some}
 

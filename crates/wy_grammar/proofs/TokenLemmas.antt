@@ -1,16 +1,14 @@
 -- Sets of tokens, by the numbers of their sorts. Premises on numbers alone are proved by `refl`.
-use Rattle.std.proofs.Common.{◌≡◌, ℕ, ◌==◌, Bool, true, false, not, true≢false, List, [], ◌∷◌, ◌⊎◌, inl, inr, refl, sym, ap, ◌∙◌, eqb-true, cond}
-use Rattle.std.specs.Bool.{⊤}
+use Rattle.std.proofs.Common.{◌≡◌, ℕ, ◌==◌, Bool, true, false, not, true≢false, List, inl, inr, refl, sym, ◌∙◌}
 use Rattle.wy_reading.specs.Mode.{Mode}
-use Rattle.wy_reading.specs.Rule.{Rule, heads, among, Or}
-use Rattle.wy_reading.specs.Reader.{Reader, branch}
+use Rattle.wy_reading.specs.Rule.{heads, among, Or}
+use Rattle.wy_reading.specs.Reader.{branch}
 use Rattle.wy_reading.proofs.Exactness.{Exact, Passes, Lacks}
 use Rattle.wy_reading.proofs.Choice.{choice}
 use Rattle.wy_reading.proofs.Adapting.{adapt}
 use Rattle.wy_reading.proofs.SymbolSets.{heads-at, heads-not, inside, outside, narrow, every}
 use Rattle.wy_lex.specs.declared.token.Token.{Token}
 use Rattle.wy_lex.specs.declared.token.TokenKind.{TokenKind}
-use Rattle.wy_grammar.specs.declared.fault.Kind.{Kind}
 use Rattle.wy_grammar.specs.Sorts.{sort, is}
 use Rattle.wy_grammar.specs.Steps.{R, Q}
 

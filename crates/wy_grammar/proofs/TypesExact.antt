@@ -1,10 +1,10 @@
 -- Types are read exactly: a line for each rule.
-use Rattle.std.proofs.Common.{◌≡◌, ℕ, zero, suc, ◌≤◌, Bool, true, false, List, [], ◌∷◌, ◌⊎◌, inl, inr, refl, Ok, Err, length, arith, ◌∙◌}
+use Rattle.std.proofs.Common.{◌≡◌, ℕ, zero, suc, ◌≤◌, Bool, true, false, List, [], ◌∷◌, ◌⊎◌, inl, inr, refl, Ok, Err, length, arith}
 use Rattle.std.specs.Bool.{⊤}
-use Rattle.wy_reading.specs.declared.stop.Stop.TheVariants.{Unexpected, Fault}
+use Rattle.wy_reading.specs.declared.stop.Stop.TheVariants.{Unexpected}
 use Rattle.wy_reading.specs.Mode.{Mode}
 use Rattle.wy_reading.specs.Rule.{heads, among, Pure, Then}
-use Rattle.wy_reading.specs.Reader.{Reader, ◌>>=◌, pure, one}
+use Rattle.wy_reading.specs.Reader.{◌>>=◌, pure, one}
 use Rattle.wy_reading.proofs.Exactness.{Exact, Passes, Lacks, Any}
 use Rattle.wy_reading.proofs.Single.{nothing}
 use Rattle.wy_reading.proofs.Sequence.{sequence}
@@ -17,7 +17,6 @@ use Rattle.wy_reading.proofs.Turns.{loop-halts}
 use Rattle.wy_lex.specs.declared.token.Token.{Token}
 use Rattle.wy_lex.specs.declared.token.TokenKind.TheVariants as k
 use Rattle.wy_ast.specs.declared.types.TyKind.TheVariants as ty
-use Rattle.wy_grammar.specs.declared.fault.Kind.{Kind}
 use Rattle.wy_grammar.specs.declared.fault.Kind.TheVariants.{Deep}
 use Rattle.wy_grammar.specs.declared.measured.Measured.TheVariants.{Low}
 use Rattle.wy_grammar.specs.declared.sort.Class.TheVariants as class
@@ -28,7 +27,7 @@ use Rattle.wy_grammar.specs.Trees.{pushed, named, none, ty_node, named_ty, array
 use Rattle.wy_grammar.specs.TypeGrammar as rule
 use Rattle.wy_grammar.specs.TypeGrammar.{T, Fields, base_kind}
 use Rattle.wy_grammar.specs.TypeReading as read
-use Rattle.wy_grammar.proofs.TokenLemmas.{among_these, some, at, at_other, no, one_out, fewer, apart, member, choice_of}
+use Rattle.wy_grammar.proofs.TokenLemmas.{among_these, some, at, at_other, one_out, fewer, apart, member, choice_of}
 use Rattle.wy_grammar.proofs.StepsExact.{token-exact, mark-exact, name-exact, inner-exact, mark_declines}
 
 -- what may not follow: brackets, what joins, and what joins more loosely

@@ -13,7 +13,7 @@
 --   args       = [ expr { ',' expr } ]
 -- What stands behind an opening bracket or bar, behind a prefix operator or behind '==>' stands one level deeper, a bracket that
 -- closes too. Where two ways begin alike, what they have in common is written once.
-use Rattle.std.specs.Prelude.{◌≡◌, ◌==◌, ◌&&◌, ◌+◌, nat_le, ℕ, ℤ, pos, neg_ℤ, zero, suc, Bool, true, false, List, [], ◌∷◌, if◌then◌else◌}
+use Rattle.std.specs.Prelude.{◌==◌, ◌&&◌, ◌+◌, nat_le, ℕ, ℤ, pos, neg_ℤ, zero, suc, Bool, true, false, List, [], ◌∷◌, if◌then◌else◌}
 use Rattle.wy_reading.specs.Rule.{One, Pure, Then, Loop, Or, Refused, Unless, Fenced, among}
 use Rattle.wy_ast.specs.declared.expressions.Op.{Op}
 use Rattle.wy_ast.specs.declared.expressions.Op.TheVariants as op

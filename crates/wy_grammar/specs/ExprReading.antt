@@ -1,5 +1,5 @@
 -- How expressions are read: the grammar's shapes as steps, with each choice made by the next token.
-use Rattle.std.specs.Prelude.{◌≡◌, ℕ, ℤ, zero, suc, Bool, true, false, List, [], ◌∷◌}
+use Rattle.std.specs.Prelude.{ℕ, ℤ, zero, suc, Bool, true, List}
 use Rattle.wy_reading.specs.Reader.{◌>>=◌, pure, one, branch, while, refused, unless, fenced}
 use Rattle.wy_ast.specs.declared.expressions.Op.TheVariants as op
 use Rattle.wy_ast.specs.declared.expressions.ExprKind.TheVariants as e

@@ -1,7 +1,7 @@
 -- The grammar of the labels of cases.
 --   labels = label { ',' label }
 --   label  = 'null' | 'true' | 'false' | NUMERAL | '-' NUMERAL
-use Rattle.std.specs.Prelude.{◌≡◌, ℕ, ℤ, List, [], ◌∷◌, ◌++◌}
+use Rattle.std.specs.Prelude.{ℕ, ℤ, List, [], ◌∷◌, ◌++◌}
 use Rattle.wy_reading.specs.Rule.{One, Pure, Then, Loop, Or, Unless}
 use Rattle.wy_ast.specs.declared.expressions.Expr.{Expr}
 use Rattle.wy_ast.specs.declared.expressions.ExprKind.TheVariants as e

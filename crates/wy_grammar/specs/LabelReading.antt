@@ -1,5 +1,5 @@
 -- How the labels of cases are read: each choice is made by the next token.
-use Rattle.std.specs.Prelude.{◌≡◌, ℕ, ℤ, List, [], ◌∷◌, ◌++◌}
+use Rattle.std.specs.Prelude.{ℕ, ℤ, List, [], ◌∷◌, ◌++◌}
 use Rattle.wy_reading.specs.Reader.{◌>>=◌, pure, one, branch, while, unless}
 use Rattle.wy_ast.specs.declared.expressions.Expr.{Expr}
 use Rattle.wy_ast.specs.declared.expressions.ExprKind.TheVariants as e

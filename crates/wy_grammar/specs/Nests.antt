@@ -1,5 +1,5 @@
 -- Function values that read what stands on a level.
-use Rattle.std.specs.Prelude.{ℕ, ◌<◌, List, Result}
+use Rattle.std.specs.Prelude.{ℕ, List, Result}
 use Rattle.std.specs.declared.alloc.Global.{Global}
 use Rattle.wy_reading.specs.declared.stop.Stop.{Stop}
 use Rattle.wy_reading.specs.Reader.{Reads}

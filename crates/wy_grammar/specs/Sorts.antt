@@ -1,5 +1,5 @@
 -- The sorts of tokens, each a number, and which sorts are in a class.
-use Rattle.std.specs.Prelude.{◌≡◌, ℕ, ℤ, pos, Bool, true, false, List, [], ◌∷◌, if◌then◌else◌, nat_le, ◌==◌}
+use Rattle.std.specs.Prelude.{ℕ, ℤ, pos, Bool, List, [], ◌∷◌, if◌then◌else◌, nat_le, ◌==◌}
 use Rattle.wy_reading.specs.Rule.{among}
 use Rattle.wy_lex.specs.declared.token.Token.{Token}
 use Rattle.wy_lex.specs.declared.token.TokenKind.{TokenKind}

@@ -10,7 +10,7 @@ use Rattle.wy_lex.specs.declared.token.TokenKind.TheVariants as k
 use Rattle.wy_grammar.specs.declared.fault.Kind.{Kind}
 use Rattle.wy_grammar.specs.declared.fault.Kind.TheVariants.{Deep}
 use Rattle.wy_grammar.specs.declared.sort.Class.{Class}
-use Rattle.wy_grammar.specs.Sorts.{sort, is, has, NAME}
+use Rattle.wy_grammar.specs.Sorts.{is, has, NAME}
 
 abbrev pub R : Type 0 → Type 1
 R A = Rule Token Kind A

@@ -1,5 +1,5 @@
 -- Parts of trees with their heights. What is too high is only known by a place.
-use Rattle.std.specs.Prelude.{◌≡◌, ℕ, ◌+◌, max, min, nat_lt, ℤ, Bool, List, [], ◌∷◌, ◌++◌, Option, Some, if◌then◌else◌}
+use Rattle.std.specs.Prelude.{ℕ, ◌+◌, max, min, nat_lt, Bool, List, [], ◌∷◌, ◌++◌, Option, Some, if◌then◌else◌}
 use Rattle.wy_ast.specs.declared.types.Ty.{Ty}
 use Rattle.wy_ast.specs.declared.types.TyKind.{TyKind}
 use Rattle.wy_ast.specs.declared.types.TyKind.TheVariants as ty

@@ -4,7 +4,7 @@
 --   suffix = tight { '[' ']' }
 --   tight  = '!' tight | 'null' | 'bool' | 'int' | 'any' | 'void' | NAME | '(' type ')' | '{' [ type NAME { ',' type NAME } ] '}'
 -- What stands behind '!', '(', '{' or '[' stands one level deeper, a bracket that closes too.
-use Rattle.std.specs.Prelude.{◌≡◌, ℕ, zero, suc, List, [], ◌∷◌}
+use Rattle.std.specs.Prelude.{ℕ, zero, suc, List}
 use Rattle.wy_reading.specs.Rule.{One, Pure, Then, Loop, Or, Refused}
 use Rattle.wy_ast.specs.declared.types.Ty.{Ty}
 use Rattle.wy_ast.specs.declared.types.TyKind.{TyKind}
@@ -15,7 +15,7 @@ use Rattle.wy_grammar.specs.declared.fault.Kind.TheVariants.{Deep}
 use Rattle.wy_grammar.specs.declared.measured.Measured.{Measured}
 use Rattle.wy_grammar.specs.declared.measured.Measured.TheVariants.{Low}
 use Rattle.wy_grammar.specs.declared.sort.Class.TheVariants as class
-use Rattle.wy_grammar.specs.Sorts.{has, is, NAME, NOT, BAR, AMPERSAND, COMMA, OPEN_PAREN, CLOSE_PAREN, OPEN_BRACKET, CLOSE_BRACKET, OPEN_BRACE, CLOSE_BRACE}
+use Rattle.wy_grammar.specs.Sorts.{has, NOT, BAR, AMPERSAND, COMMA, OPEN_PAREN, CLOSE_PAREN, OPEN_BRACKET, CLOSE_BRACKET, OPEN_BRACE, CLOSE_BRACE}
 use Rattle.wy_grammar.specs.Steps.{R, Mark, Inner, Name, inside}
 use Rattle.wy_grammar.specs.Trees.{pushed, named, none, ty_node, named_ty, array_ty, not_ty, union_ty, inter_ty, record_ty}
 

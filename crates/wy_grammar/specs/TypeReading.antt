@@ -1,5 +1,5 @@
 -- How types are read: the grammar's shapes as steps, with each choice made by the next token.
-use Rattle.std.specs.Prelude.{◌≡◌, ℕ, zero, suc, List, [], ◌∷◌}
+use Rattle.std.specs.Prelude.{ℕ, zero, suc}
 use Rattle.wy_reading.specs.Reader.{◌>>=◌, pure, one, branch, while, refused}
 use Rattle.wy_grammar.specs.declared.fault.Kind.TheVariants.{Deep}
 use Rattle.wy_grammar.specs.declared.measured.Measured.TheVariants.{Low}

@@ -61,37 +61,33 @@ pub fn len_node(at: u32, operand: Measured<Boxed<Expr>>) -> Measured<Expr>
     expr_node(at, kind)
 }
 
+/// An operator between two operands.
 pub fn binary_node(
-    alloc: Global,
     at: u32,
     op: Op,
-    left: Measured<Expr>,
-    right: Measured<Expr>,
-) -> Result<Measured<Expr>, AllocError>
-    ensures { IfOk result (λ e. e ≡ trees.binary at op left right) }
+    left: Measured<Boxed<Expr>>,
+    right: Measured<Boxed<Expr>>,
+) -> Measured<Expr>
+    ensures { result ≡ trees.binary at op left right }
 {
-    let kind = match both(boxed(alloc, left)?, boxed(alloc, right)?) {
+    let kind = match both(left, right) {
         Measured::Low((left, right), height) => {
             Measured::Low(ExprKind::Binary(op, left, right), height)
         }
         Measured::High(at) => Measured::High(at),
     };
-    Ok(expr_node(at, kind))
+    expr_node(at, kind)
 }
 
-pub fn is_node(
-    alloc: Global,
-    at: u32,
-    operand: Measured<Expr>,
-    ty: Measured<Ty>,
-) -> Result<Measured<Expr>, AllocError>
-    ensures { IfOk result (λ e. e ≡ trees.is_expr at operand ty) }
+/// `x is T`
+pub fn is_node(at: u32, operand: Measured<Boxed<Expr>>, ty: Measured<Ty>) -> Measured<Expr>
+    ensures { result ≡ trees.is_expr at operand ty }
 {
-    let kind = match both(boxed(alloc, operand)?, ty) {
+    let kind = match both(operand, ty) {
         Measured::Low((operand, ty), height) => Measured::Low(ExprKind::Is(operand, ty), height),
         Measured::High(at) => Measured::High(at),
     };
-    Ok(expr_node(at, kind))
+    expr_node(at, kind)
 }
 
 pub fn index_node(
@@ -166,11 +162,15 @@ pub fn record_node(at: u32, fields: Fields) -> Measured<Expr>
     expr_node(at, kind)
 }
 
-pub fn range(name: Name, from: Measured<Expr>, to: Measured<Expr>) -> Measured<(Name, Expr, Expr)>
+pub fn range(
+    name: Name,
+    from: Measured<Boxed<Expr>>,
+    to: Measured<Expr>,
+) -> Measured<(Name, Expr, Expr)>
     ensures { result ≡ trees.range name from to }
 {
     match both(from, to) {
-        Measured::Low((from, to), height) => Measured::Low((name, from, to), height),
+        Measured::Low((from, to), height) => Measured::Low((name, from.into_inner(), to), height),
         Measured::High(at) => Measured::High(at),
     }
 }

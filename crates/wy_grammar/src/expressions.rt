@@ -42,7 +42,12 @@ impl<
         requires { (l : ℕ) → l ≤ self.now.levels → Nests spec.unary l (U.pre self.now.unary) (U.post self.now.unary) }
         ensures { Reads (spec.unary self.now.levels tokens.now) result }
     {
-        (self.unary)(self.alloc, tokens, self.levels)
+        let operators = Operators {
+            alloc: self.alloc,
+            levels: self.levels,
+            unary: self.unary,
+        };
+        operators.unary(tokens)
     }
 
     fn inner_expr<'a>(&self, tokens: &'a [Token]) -> Read<'a, Measured<Expr>>
@@ -439,6 +444,7 @@ impl<
         let ((_, name), rest) = inner_name(self.alloc, tokens, self.levels)?;
         let (_, rest) = mark(rest, IN)?;
         let (from, rest) = self.inner_sum(rest)?;
+        let from = boxed(self.alloc, from)?;
         let (_, rest) = mark(rest, RANGE)?;
         let (to, rest) = self.inner_sum(rest)?;
         Ok((pushed(ranges, range(name, from, to))?, rest))
@@ -454,7 +460,7 @@ impl<
 }
 
 // expr = logic [ '==>' expr ], where there are so many levels, over the reader of operands.
-#[tactic(auto, using(crate::proofs::StepLemmas::expr_steps), unfolding(crate::specs::ExprReading::expr_of))]
+#[tactic(auto, using(crate::proofs::StepLemmas::expr_steps))]
 fn joined<
     'a,
     U: Fn(Global, &[Token], usize) -> Result<(Measured<Expr>, &[Token]), Stop<Kind>> + Copy,
@@ -474,9 +480,11 @@ fn joined<
     if !next_is(rest, IMPLIES) {
         return Ok((left, rest));
     }
+    let left = boxed(alloc, left)?;
     let (at, rest) = mark(rest, IMPLIES)?;
     let (right, rest) = joined(alloc, rest, levels - 1, unary)?;
-    Ok((binary_node(alloc, at, Op::Implies, left, right)?, rest))
+    let right = boxed(alloc, right)?;
+    Ok((binary_node(at, Op::Implies, left, right), rest))
 }
 
 /// What may be an operand, where there are so many levels.

@@ -15,6 +15,7 @@ mod expr_nodes;
 pub mod expressions;
 pub mod fault;
 pub mod labels;
+pub mod laws;
 mod literals;
 pub mod measured;
 mod operators;

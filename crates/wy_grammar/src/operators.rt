@@ -10,7 +10,7 @@ ghost use Rattle.wy_grammar.specs.declared.fault.Kind.TheVariants as kind;
 use crate::cursor::{Read, mark, next_in, next_is, operator};
 use crate::expr_nodes::{binary_node, is_node};
 use crate::fault::Kind;
-use crate::measured::Measured;
+use crate::measured::{Measured, boxed};
 use crate::sort::{AND, Class, IS, OR};
 use crate::types::type_term;
 use std::alloc::Global;
@@ -30,7 +30,8 @@ pub struct Operators<U> {
 impl<U: Fn(Global, &[Token], usize) -> Result<(Measured<Expr>, &[Token]), Stop<Kind>>> Operators<
     U,
 > {
-    fn unary<'a>(&self, tokens: &'a [Token]) -> Read<'a, Measured<Expr>>
+    /// An operand.
+    pub fn unary<'a>(&self, tokens: &'a [Token]) -> Read<'a, Measured<Expr>>
         requires { Nests spec.unary self.now.levels (U.pre self.now.unary) (U.post self.now.unary) }
         ensures { Reads (spec.unary self.now.levels tokens.now) result }
     {
@@ -59,9 +60,11 @@ impl<U: Fn(Global, &[Token], usize) -> Result<(Measured<Expr>, &[Token]), Stop<K
         requires { Nests spec.unary self.now.levels (U.pre self.now.unary) (U.post self.now.unary) }
         ensures { Reads (spec.factor (spec.unary self.now.levels) left tokens.now) result }
     {
+        let left = boxed(self.alloc, left)?;
         let ((at, op), rest) = operator(tokens, Class::Factor)?;
         let (right, rest) = self.unary(rest)?;
-        Ok((binary_node(self.alloc, at, op, left, right)?, rest))
+        let right = boxed(self.alloc, right)?;
+        Ok((binary_node(at, op, left, right), rest))
     }
 
     /// sum = product { ( '+' | '-' ) product }
@@ -86,9 +89,11 @@ impl<U: Fn(Global, &[Token], usize) -> Result<(Measured<Expr>, &[Token]), Stop<K
         requires { Nests spec.unary self.now.levels (U.pre self.now.unary) (U.post self.now.unary) }
         ensures { Reads (spec.summand (spec.unary self.now.levels) left tokens.now) result }
     {
+        let left = boxed(self.alloc, left)?;
         let ((at, op), rest) = operator(tokens, Class::Summand)?;
         let (right, rest) = self.product(rest)?;
-        Ok((binary_node(self.alloc, at, op, left, right)?, rest))
+        let right = boxed(self.alloc, right)?;
+        Ok((binary_node(at, op, left, right), rest))
     }
 
     // comparison = sum [ ( '==' | '!=' | '<' | '<=' | '>' | '>=' ) sum | 'is' type ]
@@ -120,18 +125,21 @@ impl<U: Fn(Global, &[Token], usize) -> Result<(Measured<Expr>, &[Token]), Stop<K
         requires { Nests spec.unary self.now.levels (U.pre self.now.unary) (U.post self.now.unary) }
         ensures { Reads (spec.related self.now.levels (spec.unary self.now.levels) left tokens.now) result }
     {
+        let left = boxed(self.alloc, left)?;
         let ((at, op), rest) = operator(tokens, Class::Comparison)?;
         let (right, rest) = self.sum(rest)?;
-        Ok((binary_node(self.alloc, at, op, left, right)?, rest))
+        let right = boxed(self.alloc, right)?;
+        Ok((binary_node(at, op, left, right), rest))
     }
 
     #[tactic(auto, unfolding(crate::specs::ExprReading::tested))]
     fn tested<'a>(&self, left: Measured<Expr>, tokens: &'a [Token]) -> Read<'a, Measured<Expr>>
         ensures { Reads (spec.tested self.now.levels (spec.unary self.now.levels) left tokens.now) result }
     {
+        let left = boxed(self.alloc, left)?;
         let (at, rest) = mark(tokens, IS)?;
         let (ty, rest) = type_term(self.alloc, rest, self.levels)?;
-        Ok((is_node(self.alloc, at, left, ty)?, rest))
+        Ok((is_node(at, left, ty), rest))
     }
 
     /// logic = comparison { '&&' comparison } | comparison { '||' comparison }
@@ -184,9 +192,11 @@ impl<U: Fn(Global, &[Token], usize) -> Result<(Measured<Expr>, &[Token]), Stop<K
         requires { Nests spec.unary self.now.levels (U.pre self.now.unary) (U.post self.now.unary) }
         ensures { Reads (spec.connected self.now.levels (spec.unary self.now.levels) sort left tokens.now) result }
     {
+        let left = boxed(self.alloc, left)?;
         let (at, rest) = mark(tokens, sort)?;
         let (right, rest) = self.comparison(rest)?;
-        Ok((binary_node(self.alloc, at, joint(sort), left, right)?, rest))
+        let right = boxed(self.alloc, right)?;
+        Ok((binary_node(at, joint(sort), left, right), rest))
     }
 }
 

@@ -14,7 +14,7 @@ use crate::sort::{
     AMPERSAND, BAR, CLOSE_BRACE, CLOSE_BRACKET, CLOSE_PAREN, COMMA, Class, NAME, NOT, OPEN_BRACE,
     OPEN_BRACKET, OPEN_PAREN, has, sort,
 };
-use sqlite_items::Items;
+use sqlite_items::{Boxed, Items};
 use std::alloc::{AllocError, Global};
 use wy_ast::{Ty, TyKind};
 use wy_data::Name;
@@ -72,9 +72,11 @@ impl<F: Fn(Global, &[Token], usize) -> Result<(Measured<Ty>, &[Token]), Stop<Kin
         requires { Nests spec.tight self.now.levels (F.pre self.now.tight) (F.post self.now.tight) }
         ensures { Reads (spec.or_inter self.now.levels (spec.tight self.now.levels) left tokens.now) result }
     {
+        let left = boxed(self.alloc, left)?;
         let (at, rest) = mark(tokens, BAR)?;
         let (right, rest) = self.inter(rest)?;
-        Ok((union_node(self.alloc, at, left, right)?, rest))
+        let right = boxed(self.alloc, right)?;
+        Ok((union_node(at, left, right), rest))
     }
 
     // inter = suffix { '&' suffix }
@@ -108,9 +110,11 @@ impl<F: Fn(Global, &[Token], usize) -> Result<(Measured<Ty>, &[Token]), Stop<Kin
         requires { Nests spec.tight self.now.levels (F.pre self.now.tight) (F.post self.now.tight) }
         ensures { Reads (spec.and_suffix self.now.levels (spec.tight self.now.levels) left tokens.now) result }
     {
+        let left = boxed(self.alloc, left)?;
         let (at, rest) = mark(tokens, AMPERSAND)?;
         let (right, rest) = self.suffix(rest)?;
-        Ok((inter_node(self.alloc, at, left, right)?, rest))
+        let right = boxed(self.alloc, right)?;
+        Ok((inter_node(at, left, right), rest))
     }
 
     // suffix = tight { '[' ']' }
@@ -226,9 +230,10 @@ fn brackets<'a>(
 ) -> Read<'a, Measured<Ty>>
     ensures { Reads (spec.brackets levels item tokens.now) result }
 {
+    let item = boxed(alloc, item)?;
     let (at, rest) = mark(tokens, OPEN_BRACKET)?;
     let (_, rest) = inner(rest, CLOSE_BRACKET, inside(levels))?;
-    Ok((array_node(alloc, at, item)?, rest))
+    Ok((array_of(at, item), rest))
 }
 
 /// `tight` where there are so many levels.
@@ -336,11 +341,17 @@ pub fn named_node(at: u32, name: Name) -> Measured<Ty>
 pub fn array_node(alloc: Global, at: u32, item: Measured<Ty>) -> Result<Measured<Ty>, AllocError>
     ensures { IfOk result (λ t. t ≡ trees.array_ty at item) }
 {
-    let kind = match boxed(alloc, item)? {
+    Ok(array_of(at, boxed(alloc, item)?))
+}
+
+fn array_of(at: u32, item: Measured<Boxed<Ty>>) -> Measured<Ty>
+    ensures { result ≡ trees.array_ty at item }
+{
+    let kind = match item {
         Measured::Low(item, height) => Measured::Low(TyKind::Array(item), height),
         Measured::High(at) => Measured::High(at),
     };
-    Ok(ty_node(at, kind))
+    ty_node(at, kind)
 }
 
 fn not_node(alloc: Global, at: u32, ty: Measured<Ty>) -> Result<Measured<Ty>, AllocError>
@@ -353,34 +364,24 @@ fn not_node(alloc: Global, at: u32, ty: Measured<Ty>) -> Result<Measured<Ty>, Al
     Ok(ty_node(at, kind))
 }
 
-fn union_node(
-    alloc: Global,
-    at: u32,
-    left: Measured<Ty>,
-    right: Measured<Ty>,
-) -> Result<Measured<Ty>, AllocError>
-    ensures { IfOk result (λ t. t ≡ trees.union_ty at left right) }
+fn union_node(at: u32, left: Measured<Boxed<Ty>>, right: Measured<Boxed<Ty>>) -> Measured<Ty>
+    ensures { result ≡ trees.union_ty at left right }
 {
-    let kind = match both(boxed(alloc, left)?, boxed(alloc, right)?) {
+    let kind = match both(left, right) {
         Measured::Low((left, right), height) => Measured::Low(TyKind::Union(left, right), height),
         Measured::High(at) => Measured::High(at),
     };
-    Ok(ty_node(at, kind))
+    ty_node(at, kind)
 }
 
-fn inter_node(
-    alloc: Global,
-    at: u32,
-    left: Measured<Ty>,
-    right: Measured<Ty>,
-) -> Result<Measured<Ty>, AllocError>
-    ensures { IfOk result (λ t. t ≡ trees.inter_ty at left right) }
+fn inter_node(at: u32, left: Measured<Boxed<Ty>>, right: Measured<Boxed<Ty>>) -> Measured<Ty>
+    ensures { result ≡ trees.inter_ty at left right }
 {
-    let kind = match both(boxed(alloc, left)?, boxed(alloc, right)?) {
+    let kind = match both(left, right) {
         Measured::Low((left, right), height) => Measured::Low(TyKind::Inter(left, right), height),
         Measured::High(at) => Measured::High(at),
     };
-    Ok(ty_node(at, kind))
+    ty_node(at, kind)
 }
 
 fn record_node(at: u32, fields: Fields) -> Measured<Ty>

@@ -1,15 +1,13 @@
-//! Tests of the parser and of the grammar below it: what sources are read as, and where they are
-//! refused. They stand in a crate of their own, since a crate with tests is proved twice.
+//! Tests of the parser: what sources are read as, and where they are refused. They stand in a crate of
+//! their own, since a crate with tests is proved twice.
 //!
 //! `trees` has sources with the trees that they spell, places included; `written` writes those trees.
 //! `faults` has a case for each fault and what stands at each limit, `vectors` refusals that an
-//! independent program gave, and `grammar` types, expressions and labels, read by themselves.
+//! independent program gave.
 #![tactic(auto)]
 
 #[cfg(test)]
 mod faults;
-#[cfg(test)]
-mod grammar;
 #[cfg(test)]
 mod parsing;
 #[cfg(test)]

@@ -1,9 +1,8 @@
-use Rattle.std.proofs.Common.{◌≡◌, ◌-◌, [], ◌∷◌}
+use Rattle.std.proofs.Common.{◌≡◌, ◌-◌}
 use Rattle.wy_reading.specs.Reader.{loop}
 use Rattle.wy_grammar.specs.Sorts.{is, has}
 use Rattle.wy_grammar.specs.Sorts as t
-use Rattle.wy_grammar.specs.declared.sort.Class.TheVariants as class
-use Rattle.wy_grammar.specs.StmtReading as spec
+use Rattle.wy_grammar.specs.LabelReading as spec
 use Rattle.wy_grammar.proofs.labels.labels.Given as goal
 
 -- what the loop still reads completes what it made

@@ -1,4 +1,4 @@
-use Rattle.std.proofs.Common.{◌≡◌, Err, ◌-◌, length, arith, rules}
+use Rattle.std.proofs.Common.{◌-◌, length, arith, rules}
 use Rattle.wy_grammar.specs.Sorts.{has}
 use Rattle.wy_grammar.specs.declared.sort.Class.TheVariants as class
 use Rattle.wy_grammar.specs.ExprReading as spec

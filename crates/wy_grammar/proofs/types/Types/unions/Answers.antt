@@ -1,4 +1,4 @@
-use Rattle.std.proofs.Common.{◌≡◌, Err, ◌-◌, length, arith, rules}
+use Rattle.std.proofs.Common.{◌-◌, length, arith, rules}
 use Rattle.wy_grammar.specs.Sorts.{is, BAR}
 use Rattle.wy_grammar.specs.TypeReading as spec
 use Rattle.wy_grammar.proofs.StepLemmas.{turn_stops}

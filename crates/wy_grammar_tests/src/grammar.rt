@@ -39,28 +39,44 @@ fn stopped(stop: Stop<Kind>) -> Result<Seen, AllocError> {
     }
 }
 
+fn expr_root(tree: Measured<Expr>, left: usize) -> Seen {
+    match tree {
+        Measured::Low(tree, height) => Seen::Root(tree.at, height, left),
+        Measured::High(at) => Seen::High(at, left),
+    }
+}
+
+fn type_root(tree: Measured<Ty>, left: usize) -> Seen {
+    match tree {
+        Measured::Low(tree, height) => Seen::Root(tree.at, height, left),
+        Measured::High(at) => Seen::High(at, left),
+    }
+}
+
+fn part_count(parts: Measured<Items<Expr>>, left: usize) -> Seen {
+    match parts {
+        Measured::Low(parts, height) => Seen::Parts(parts.len(), height, left),
+        Measured::High(at) => Seen::High(at, left),
+    }
+}
+
 fn seen_expr(read: Read<'_, Measured<Expr>>) -> Result<Seen, AllocError> {
     match read {
-        Ok((Measured::Low(tree, height), rest)) => Ok(Seen::Root(tree.at, height, rest.len())),
-        Ok((Measured::High(at), rest)) => Ok(Seen::High(at, rest.len())),
+        Ok((tree, rest)) => Ok(expr_root(tree, rest.len())),
         Err(stop) => stopped(stop),
     }
 }
 
 fn seen_type(read: Read<'_, Measured<Ty>>) -> Result<Seen, AllocError> {
     match read {
-        Ok((Measured::Low(tree, height), rest)) => Ok(Seen::Root(tree.at, height, rest.len())),
-        Ok((Measured::High(at), rest)) => Ok(Seen::High(at, rest.len())),
+        Ok((tree, rest)) => Ok(type_root(tree, rest.len())),
         Err(stop) => stopped(stop),
     }
 }
 
 fn seen_parts(read: Read<'_, Measured<Items<Expr>>>) -> Result<Seen, AllocError> {
     match read {
-        Ok((Measured::Low(parts, height), rest)) => {
-            Ok(Seen::Parts(parts.len(), height, rest.len()))
-        }
-        Ok((Measured::High(at), rest)) => Ok(Seen::High(at, rest.len())),
+        Ok((parts, rest)) => Ok(part_count(parts, rest.len())),
         Err(stop) => stopped(stop),
     }
 }
