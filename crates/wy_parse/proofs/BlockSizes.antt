@@ -1,17 +1,15 @@
 -- A statement takes a token, and so does a block.
-use Rattle.std.proofs.Common.{◌≡◌, ℕ, zero, suc, ◌<◌, ◌≤◌, Bool, true, false, List, [], ◌∷◌, length, Ok, Err, arith}
+use Rattle.std.proofs.Common.{ℕ, zero, suc, true}
 use Rattle.wy_reading.specs.Mode.{Mode}
-use Rattle.wy_reading.specs.Reader.{◌>>=◌, pure, branch, while, unless, refused}
-use Rattle.wy_ast.specs.declared.expressions.Expr.{Expr}
-use Rattle.wy_lex.specs.declared.token.Token.{Token}
+use Rattle.wy_reading.specs.Reader.{◌>>=◌}
 use Rattle.wy_grammar.specs.declared.fault.Kind.TheVariants.{Deep}
 use Rattle.wy_grammar.specs.declared.sort.Class.TheVariants as class
 use Rattle.wy_grammar.specs.Sorts as t
 use Rattle.wy_grammar.specs.Sorts.{has, is}
-use Rattle.wy_grammar.specs.Steps.{Q, mark, name}
+use Rattle.wy_grammar.specs.Steps.{Q, mark}
 use Rattle.wy_grammar.specs.Trees.{none}
-use Rattle.wy_grammar.specs.ExprGrammar.{E, Args}
-use Rattle.wy_grammar.specs.ExprReading.{readers, sum, product, factor, summand}
+use Rattle.wy_grammar.specs.ExprGrammar.{Args}
+use Rattle.wy_grammar.specs.ExprReading.{readers, sum}
 use Rattle.wy_parse.specs.StmtTrees.{S, Stmts, Cases}
 use Rattle.wy_grammar.specs.LabelReading.{labels}
 use Rattle.wy_parse.specs.StmtReading as stmts

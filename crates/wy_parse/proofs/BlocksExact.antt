@@ -1,39 +1,26 @@
 -- Statements with blocks are read exactly over blocks of the level inside: a line for each rule.
-use Rattle.std.proofs.Common.{◌≡◌, ◌==◌, ◌+◌, ℕ, ℤ, pos, Bool, true, false, true≢false, List, [], ◌∷◌, ◌++◌, ◌⊎◌, inl, inr, refl, sym, None, Ok, arith, ne_eqb}
-use Rattle.std.specs.Bool.{⊤}
+use Rattle.std.proofs.Common.{ℕ, List, ◌∷◌, ◌⊎◌, inl, inr, refl, None}
 use Rattle.wy_reading.specs.Mode.{Mode}
-use Rattle.wy_reading.specs.Rule.{heads}
-use Rattle.wy_reading.proofs.Exactness.{Exact, Passes, Lacks, Any, Sample}
+use Rattle.wy_reading.proofs.Exactness.{Exact, Passes, Lacks, Any}
 use Rattle.wy_reading.proofs.Single.{nothing}
 use Rattle.wy_reading.proofs.Sequence.{sequence}
 use Rattle.wy_reading.proofs.Choice.{choice}
-use Rattle.wy_reading.proofs.Repetition.{repetition}
-use Rattle.wy_reading.proofs.Adapting.{adapt}
-use Rattle.wy_ast.specs.declared.expressions.Expr.{Expr}
 use Rattle.wy_lex.specs.declared.token.Token.{Token}
 use Rattle.wy_lex.specs.declared.token.TokenKind.TheVariants as k
-use Rattle.wy_grammar.specs.declared.sort.Class.TheVariants as class
 use Rattle.wy_grammar.specs.Sorts as t
 use Rattle.wy_grammar.specs.Sorts.{is, has, members}
 use Rattle.wy_grammar.specs.Steps.{R, Q}
 use Rattle.wy_grammar.specs.Trees as parts
-use Rattle.wy_grammar.specs.ExprGrammar.{Args, SumIn, Unary}
-use Rattle.wy_grammar.specs.ExprReading.{readers, sum}
+use Rattle.wy_grammar.specs.ExprGrammar.{SumIn, Unary}
 use Rattle.wy_parse.specs.StmtTrees as trees
 use Rattle.wy_parse.specs.StmtTrees.{S, Stmts}
-use Rattle.wy_grammar.specs.ExprGrammar.{touches, opposite, literal_kind}
-use Rattle.wy_ast.specs.declared.expressions.ExprKind.TheVariants as e
 use Rattle.wy_grammar.specs.declared.measured.Measured.TheVariants.{Low}
-use Rattle.wy_parse.specs.StmtGrammar as stmts
-use Rattle.wy_parse.specs.StmtReading as reads
 use Rattle.wy_parse.specs.BlockGrammar as rule
 use Rattle.wy_parse.specs.BlockReading as read
-use Rattle.wy_grammar.proofs.TokenLemmas.{some, at, at_other, no, one_out, fewer}
+use Rattle.wy_grammar.proofs.TokenLemmas.{some, at, at_other, fewer}
 use Rattle.wy_grammar.proofs.StepsExact.{mark-exact, name-exact}
 use Rattle.wy_grammar.proofs.LabelsExact.{labels-exact}
-use Rattle.wy_grammar.proofs.ExprsExact.{glued-exact}
-use Rattle.wy_reading.proofs.Bars.{unless-exact}
-use Rattle.wy_grammar.proofs.OperatorsExact.{after_sum, after_expr, After, BeginsExpr, sum-exact}
+use Rattle.wy_grammar.proofs.OperatorsExact.{after_sum, after_expr, After, sum-exact}
 use Rattle.wy_grammar.proofs.ExprLevels.{expr-exact, unary-exact, unary_read}
 use Rattle.wy_parse.proofs.StmtsExact.{wheres-exact}
 

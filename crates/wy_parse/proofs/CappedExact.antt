@@ -1,13 +1,11 @@
 -- Declarations, of which there may be so many, are read exactly.
-use Rattle.std.proofs.Common.{◌≡◌, ◌+◌, ◌<◌, ◌≤◌, ℕ, zero, suc, Bool, true, false, true≢false, cond, List, [], ◌∷◌, ◌++◌, ◌⊎◌, inl, inr, length, Ok, Err, refl, sym, ap, ◌∙◌, subst, arith, length-append, lt-ltb, le-ltb}
-use Rattle.std.specs.Bool.{⊤}
-use Rattle.wy_reading.specs.declared.stop.Stop.{Stop}
+use Rattle.std.proofs.Common.{◌≡◌, ◌+◌, ◌<◌, ◌≤◌, ℕ, zero, suc, Bool, true, false, true≢false, cond, List, [], ◌∷◌, ◌++◌, ◌⊎◌, inl, inr, length, Ok, Err, refl, sym, ap, subst, arith, length-append, lt-ltb, le-ltb}
 use Rattle.wy_reading.specs.declared.stop.Stop.TheVariants.{Unexpected, Fault}
-use Rattle.wy_reading.specs.Mode.{Mode, Looser}
-use Rattle.wy_reading.specs.Rule.{Rule, heads, Then, Or, Pure, Loop, Turns, Refused, Barred, lax}
+use Rattle.wy_reading.specs.Mode.{Mode}
+use Rattle.wy_reading.specs.Rule.{heads, Then, Or, Pure, Loop, Turns, Barred, lax}
 use Rattle.wy_reading.specs.Rule.Turns.{stop, more}
-use Rattle.wy_reading.specs.Reader.{Reader, Outcome, and_then, ◌>>=◌, pure, branch, loop, while, fenced, refused}
-use Rattle.wy_reading.proofs.Exactness.{Exact, Passes, Lacks, Any, same_mode}
+use Rattle.wy_reading.specs.Reader.{Outcome, and_then, ◌>>=◌, pure, branch, loop, while, fenced, refused}
+use Rattle.wy_reading.proofs.Exactness.{Exact, Passes, Any, same_mode}
 use Rattle.wy_reading.proofs.Outcomes.{and_then-ok}
 use Rattle.wy_reading.proofs.Single.{nothing}
 use Rattle.wy_reading.proofs.Sequence.{sequence}
@@ -16,7 +14,6 @@ use Rattle.wy_reading.proofs.Repetition.{repetition_before}
 use Rattle.wy_reading.proofs.Adapting.{adapt, same_rule, same_readers}
 use Rattle.wy_reading.proofs.Bars.{fenced-strict}
 use Rattle.wy_reading.proofs.Turns.{loop-halts}
-use Rattle.wy_ast.specs.declared.declarations.Decl.{Decl}
 use Rattle.wy_lex.specs.declared.token.Token.{Token}
 use Rattle.wy_lex.specs.declared.token.TokenKind.TheVariants as k
 use Rattle.wy_grammar.specs.declared.fault.Kind.{Kind}

@@ -1,8 +1,8 @@
 -- Declarations are read exactly: a line for each rule.
-use Rattle.std.proofs.Common.{◌≡◌, ℕ, Bool, true, false, true≢false, List, [], ◌∷◌, ◌⊎◌, inl, inr, Option, Some, None, Ok, length, refl, sym}
+use Rattle.std.proofs.Common.{ℕ, true≢false, List, [], ◌∷◌, ◌⊎◌, inl, inr, Option, Some, None, refl, sym}
 use Rattle.std.specs.Bool.{⊤}
-use Rattle.wy_reading.specs.Mode.{Mode, Looser}
-use Rattle.wy_reading.specs.Rule.{heads, Unless, Then}
+use Rattle.wy_reading.specs.Mode.{Mode}
+use Rattle.wy_reading.specs.Rule.{Unless, Then}
 use Rattle.wy_reading.specs.Reader.{unless, ◌>>=◌}
 use Rattle.wy_reading.proofs.Exactness.{Exact, Passes, Lacks, Any, Sample}
 use Rattle.wy_reading.proofs.Single.{nothing}
@@ -20,7 +20,7 @@ use Rattle.wy_grammar.specs.Sorts as t
 use Rattle.wy_grammar.specs.Sorts.{is, has, members}
 use Rattle.wy_grammar.specs.Steps.{R, Q, inside}
 use Rattle.wy_grammar.specs.Trees as parts
-use Rattle.wy_grammar.specs.TypeGrammar.{T, Type_}
+use Rattle.wy_grammar.specs.TypeGrammar.{Type_}
 use Rattle.wy_grammar.specs.TypeReading.{type_term}
 use Rattle.wy_parse.specs.StmtTrees.{Stmts}
 use Rattle.wy_parse.specs.StmtGrammar as stmts

@@ -1,7 +1,6 @@
 -- What each rule reads has no `End` in it: a line for each rule.
-use Rattle.std.proofs.Common.{◌≡◌, ◌==◌, ℕ, zero, suc, Bool, true, false, true≢false, List, [], ◌∷◌, Option, Some, None, refl}
-use Rattle.wy_reading.specs.Rule.{Rule, heads, among, One, Pure, Then, Or, Loop, Refused}
-use Rattle.wy_lex.specs.declared.token.Token.{Token}
+use Rattle.std.proofs.Common.{◌≡◌, ◌==◌, ℕ, zero, suc, Bool, true, false, List, [], Option, Some, None, refl}
+use Rattle.wy_reading.specs.Rule.{One, Pure, Then, Loop, Refused}
 use Rattle.wy_ast.specs.declared.expressions.Expr.{Expr}
 use Rattle.wy_grammar.specs.declared.fault.Kind.TheVariants.{Deep, Mixed, TooMany}
 use Rattle.wy_grammar.specs.declared.sort.Class.TheVariants as class
@@ -20,8 +19,7 @@ use Rattle.wy_parse.specs.BlockGrammar as blocks
 use Rattle.wy_parse.specs.BlockGrammar.{CaseList}
 use Rattle.wy_parse.specs.DeclTrees.{D, Params}
 use Rattle.wy_parse.specs.ProgramGrammar as decls
-use Rattle.wy_grammar.proofs.TokenLemmas.{no}
-use Rattle.wy_parse.proofs.EndLemmas.{Free, free-one, free-pure, free-then, free-or, free-loop, free-refused, free-unless, free-fenced, free-placed, free-has, free-is, free-mark, free-inner, free-name, free-inner_name, free-operator, free-touching}
+use Rattle.wy_parse.proofs.EndLemmas.{Free, free-pure, free-then, free-or, free-loop, free-refused, free-unless, free-fenced, free-placed, free-has, free-is, free-mark, free-inner, free-name, free-inner_name, free-operator, free-touching}
 
 -- ---- types
 

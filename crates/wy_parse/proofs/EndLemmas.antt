@@ -1,9 +1,7 @@
 -- What a rule reads has no `End` in it, and each fault that it meets stands at a token: for each way to make a rule.
-use Rattle.std.proofs.Common.{◌≡◌, ◌==◌, ◌+◌, ◌&&◌, ℕ, zero, suc, Bool, true, false, true≢false, List, [], ◌∷◌, ◌++◌, ◌⊎◌, inl, inr, refl, sym, ap, ◌∙◌, append_assoc, ◌≤◌, length, arith}
-use Rattle.std.specs.Bool.{⊤}
-use Rattle.wy_reading.specs.Rule.{Rule, heads, among, One, Pure, Then, Or, Loop, Turns, Refused, Unless, Barred, Fenced}
+use Rattle.std.proofs.Common.{◌≡◌, ◌==◌, ◌+◌, ◌&&◌, ℕ, zero, suc, Bool, true, false, true≢false, List, [], ◌∷◌, ◌++◌, inl, inr, refl, sym, ap, ◌∙◌, append_assoc, ◌≤◌, length, arith}
+use Rattle.wy_reading.specs.Rule.{heads, among, One, Pure, Then, Or, Loop, Turns, Refused, Unless, Fenced}
 use Rattle.wy_reading.specs.Rule.Turns.{stop, more}
-use Rattle.wy_reading.proofs.SymbolSets.{every}
 use Rattle.wy_lex.specs.declared.token.Token.{Token}
 use Rattle.wy_grammar.specs.declared.fault.Kind.{Kind}
 use Rattle.wy_grammar.specs.declared.fault.Kind.TheVariants.{Deep}

@@ -1,6 +1,5 @@
 -- A fault that is met stands no later than the first token that is in no front: with it the tokens before it are one.
-use Rattle.std.proofs.Common.{◌≡◌, ◌<◌, ◌≤◌, ◌+◌, ℕ, zero, suc, Bool, true, false, List, [], ◌∷◌, ◌++◌, length, Ok, Err, ◌⊎◌, inl, inr, refl, sym, ap, ◌∙◌, subst, arith, append_assoc, append-nil, length-append}
-use Rattle.wy_reading.specs.declared.stop.Stop.{Stop}
+use Rattle.std.proofs.Common.{◌≡◌, ◌<◌, ◌≤◌, ◌+◌, ℕ, zero, suc, Bool, true, false, List, [], ◌∷◌, ◌++◌, length, Ok, Err, refl, sym, ap, ◌∙◌, subst, arith, append_assoc, append-nil, length-append}
 use Rattle.wy_reading.specs.declared.stop.Stop.TheVariants.{Unexpected, Fault, NoMemory}
 use Rattle.wy_reading.specs.Mode.{Mode}
 use Rattle.wy_reading.specs.Places.{IsText}
@@ -13,7 +12,7 @@ use Rattle.wy_parse.specs.BlockGrammar.{width}
 use Rattle.wy_parse.specs.ProgramGrammar.{Text}
 use Rattle.wy_parse.specs.ProgramReading.{text}
 use Rattle.wy_parse.specs.Derivation.{profile, Meets}
-use Rattle.wy_parse.specs.Fronts.{loose, IsLoose, IsFront, FirstImpossible, IsPossible}
+use Rattle.wy_parse.specs.Fronts.{loose, IsLoose, IsFront, IsPossible}
 use Rattle.wy_parse.proofs.ProgramExact.{promised}
 use Rattle.wy_parse.proofs.ProgramExact.{text-exact}
 use Rattle.wy_parse.proofs.FrontLemmas.{front_of, cut-at, place-cut, program-stands}

@@ -1,10 +1,9 @@
 -- Where the grammar is left stands the first token that is in no front, and each fault stands at a token.
-use Rattle.std.proofs.Common.{◌≡◌, ◌-◌, ◌≤◌, ℕ, zero, suc, max, Bool, true, false, true≢false, List, [], ◌∷◌, ◌++◌, length, drop, Ok, ◌⊎◌, inl, inr, refl, sym, ap, ◌∙◌, subst, arith, append_assoc, append-nil, length-append}
-use Rattle.std.specs.Bool.{⊤}
+use Rattle.std.proofs.Common.{◌≡◌, ◌-◌, ◌≤◌, ℕ, zero, suc, max, true, true≢false, List, [], ◌∷◌, ◌++◌, length, drop, ◌⊎◌, inl, inr, refl, sym, ap, ◌∙◌, subst, arith, append_assoc, append-nil, length-append}
 use Rattle.std.proofs.Math.Seq.{drop-append_seam}
 use Rattle.wy_reading.specs.Mode.{Mode, Looser}
-use Rattle.wy_reading.specs.Rule.{Rule, Loop, Then, Pure}
-use Rattle.wy_reading.specs.Places.{IsText, CanGoOn, IsDead, FirstBad}
+use Rattle.wy_reading.specs.Rule.{Then, Pure}
+use Rattle.wy_reading.specs.Places.{IsText, CanGoOn, IsDead}
 use Rattle.wy_lex.specs.declared.token.Token.{Token}
 use Rattle.wy_grammar.specs.declared.fault.Kind.{Kind}
 use Rattle.wy_grammar.specs.declared.measured.Measured.{Measured}
@@ -14,12 +13,11 @@ use Rattle.wy_grammar.specs.Sorts.{is}
 use Rattle.wy_grammar.specs.Steps.{Mark, place}
 use Rattle.wy_parse.specs.DeclTrees.{program_node}
 use Rattle.wy_parse.specs.ProgramGrammar.{Text, ProgramIn}
-use Rattle.wy_parse.specs.ProgramReading.{text}
 use Rattle.wy_parse.specs.Derivation.{profile, place_of, Leaves, Meets}
-use Rattle.wy_parse.specs.Fronts.{loose, IsLoose, IsFront, FirstImpossible, NoEnd, IsEnded, IsToken}
-use Rattle.wy_parse.proofs.EndLemmas.{Skips, skips-both, Free, free-then, free-mark}
+use Rattle.wy_parse.specs.Fronts.{loose, IsFront, FirstImpossible, NoEnd, IsEnded, IsToken}
+use Rattle.wy_parse.proofs.EndLemmas.{skips-both}
 use Rattle.wy_parse.proofs.EndFree.{free-imports, free-decls}
-use Rattle.wy_parse.proofs.ProgramExact.{text-exact, promised}
+use Rattle.wy_parse.proofs.ProgramExact.{text-exact}
 
 -- ---- what is a text in one mode is one in each looser mode
 

@@ -1,34 +1,32 @@
 -- Likewise of statements, blocks, declarations and programs: a line for each reader.
-use Rattle.std.proofs.Common.{◌≡◌, ◌==◌, ◌<◌, ◌≤◌, ◌+◌, ℕ, zero, suc, Bool, true, false, List, [], ◌∷◌, ◌++◌, length, Option, Some, None, Ok, Err, refl, arith}
+use Rattle.std.proofs.Common.{◌≤◌, ◌+◌, ℕ, zero, suc, Bool, true, false, List, [], ◌∷◌, Option, Some, None, refl, arith}
 use Rattle.wy_reading.specs.Mode.{Mode}
-use Rattle.wy_reading.specs.Rule.{heads, among, lax}
-use Rattle.wy_reading.specs.Reader.{◌>>=◌, pure, one, refuse, branch, refused, unless, while, whole, finish}
-use Rattle.wy_lex.specs.declared.token.Token.{Token}
+use Rattle.wy_reading.specs.Rule.{lax}
+use Rattle.wy_reading.specs.Reader.{◌>>=◌, refuse, refused}
 use Rattle.wy_ast.specs.declared.expressions.Expr.{Expr}
 use Rattle.wy_grammar.specs.declared.fault.Kind.TheVariants.{Deep, TooMany}
 use Rattle.wy_grammar.specs.declared.sort.Class.TheVariants as class
 use Rattle.wy_grammar.specs.Sorts as t
 use Rattle.wy_grammar.specs.Sorts.{is, has, members}
-use Rattle.wy_grammar.specs.Steps.{Q, mark, name, inside}
+use Rattle.wy_grammar.specs.Steps.{Q, mark, inside}
 use Rattle.wy_grammar.specs.Trees as trees
 use Rattle.wy_grammar.specs.Trees.{none}
 use Rattle.wy_grammar.specs.TypeGrammar.{T}
-use Rattle.wy_grammar.specs.TypeReading as types
 use Rattle.wy_grammar.specs.ExprGrammar.{Args, touches}
 use Rattle.wy_grammar.specs.ExprGrammar as expr_rules
 use Rattle.wy_grammar.specs.ExprReading as exprs
 use Rattle.wy_grammar.specs.ExprReading.{readers}
 use Rattle.wy_grammar.specs.LabelReading as labels
-use Rattle.wy_parse.specs.StmtTrees.{S, Stmts, Cases, Path}
+use Rattle.wy_parse.specs.StmtTrees.{Stmts, Cases, Path}
 use Rattle.wy_parse.specs.StmtReading as stmts
 use Rattle.wy_parse.specs.BlockGrammar.{CaseList, width}
 use Rattle.wy_parse.specs.BlockReading as blocks
 use Rattle.wy_parse.specs.BlockReading.{nested, Nested}
-use Rattle.wy_parse.specs.DeclTrees.{D, Params, Contract}
+use Rattle.wy_parse.specs.DeclTrees.{Params, Contract}
 use Rattle.wy_parse.specs.ProgramReading as decls
-use Rattle.wy_parse.specs.ProgramGrammar.{has_place, Counted}
+use Rattle.wy_parse.specs.ProgramGrammar.{has_place}
 use Rattle.wy_parse.proofs.NestLevels.{nested_block-exact, nested_branch-exact, nested_cases-exact}
-use Rattle.wy_grammar.proofs.LooserLemmas.{Goes, Within, Takes, left, goes-then, goes-pure, goes-one, goes-token, goes-mark, goes-name, goes-branch, goes-while, goes-unless, goes-refused, goes-none, goes-less, goes-after, goes-shut, goes-inner, goes-placed, Starts, starts, starts-name, starts-here, takes-fewer, takes-unless, takes-placed, takes-alone, goes-finish, takes-is, takes-class, takes-one, takes-then, mark-on, name-on, exact-within}
+use Rattle.wy_grammar.proofs.LooserLemmas.{Goes, Takes, goes-then, goes-pure, goes-token, goes-mark, goes-name, goes-branch, goes-while, goes-unless, goes-refused, goes-none, goes-less, goes-after, goes-shut, goes-inner, goes-placed, Starts, starts, starts-name, starts-here, takes-fewer, takes-unless, takes-placed, takes-alone, goes-finish, takes-is, takes-class, takes-one, takes-then, exact-within}
 use Rattle.wy_grammar.proofs.LooserReaders.{go-type, go-type_rest, go-type_tail, go-expr, go-sum_in, go-args, type-takes}
 
 inside-more : (k d e : ℕ) → suc k + d ≤ e → k + inside d ≤ inside e

@@ -1,12 +1,11 @@
 -- Blocks of every level are read exactly.
-use Rattle.std.proofs.Common.{◌≡◌, ℕ, zero, suc, pred, ◌≤◌, Bool, true, false, cond, List, [], ◌∷◌, ◌++◌, ◌⊎◌, inl, inr, length, Ok, Err, None, refl, sym, ap, ◌∙◌, arith}
+use Rattle.std.proofs.Common.{◌≡◌, ℕ, zero, suc, pred, ◌≤◌, Bool, true, List, [], ◌∷◌, ◌++◌, ◌⊎◌, inl, inr, length, Ok, Err, refl, ap, ◌∙◌, arith}
 use Rattle.std.specs.Bool.{⊤}
 use Rattle.wy_reading.specs.declared.stop.Stop.TheVariants.{Unexpected, Fault}
-use Rattle.wy_reading.specs.Mode.{Mode, Looser}
-use Rattle.wy_reading.specs.Rule.{heads, among, Or, Then, Pure, Refused}
-use Rattle.wy_reading.specs.Reader.{◌>>=◌, branch, refused, pure, one, unless}
-use Rattle.wy_reading.proofs.Exactness.{Exact, Passes, Lacks, Any, Sample}
-use Rattle.wy_reading.proofs.Single.{nothing}
+use Rattle.wy_reading.specs.Mode.{Mode}
+use Rattle.wy_reading.specs.Rule.{among, Or, Then, Refused}
+use Rattle.wy_reading.specs.Reader.{◌>>=◌, branch, refused, one, unless}
+use Rattle.wy_reading.proofs.Exactness.{Exact, Passes, Lacks, Any}
 use Rattle.wy_reading.proofs.Sequence.{sequence}
 use Rattle.wy_reading.proofs.Choice.{choice}
 use Rattle.wy_reading.proofs.Adapting.{adapt, same_readers}
@@ -16,24 +15,21 @@ use Rattle.wy_lex.specs.declared.token.Token.{Token}
 use Rattle.wy_lex.specs.declared.token.TokenKind.TheVariants as k
 use Rattle.wy_ast.specs.declared.expressions.ExprKind.TheVariants as e
 use Rattle.wy_ast.specs.declared.statements.StmtKind.TheVariants as stmt
-use Rattle.wy_grammar.specs.declared.fault.Kind.{Kind}
 use Rattle.wy_grammar.specs.declared.fault.Kind.TheVariants.{Deep}
 use Rattle.wy_grammar.specs.declared.measured.Measured.TheVariants.{Low}
 use Rattle.wy_grammar.specs.declared.sort.Class.TheVariants as class
 use Rattle.wy_grammar.specs.Sorts as t
 use Rattle.wy_grammar.specs.Sorts.{is, has, members}
-use Rattle.wy_grammar.specs.Steps.{R, Q, Mark, mark, name, placed}
+use Rattle.wy_grammar.specs.Steps.{Q, Mark, mark, name, placed}
 use Rattle.wy_grammar.specs.Trees as parts
 use Rattle.wy_parse.specs.StmtTrees as trees
 use Rattle.wy_parse.specs.StmtTrees.{S, Stmts, Cases}
-use Rattle.wy_grammar.specs.TypeReading.{type_term}
-use Rattle.wy_grammar.specs.ExprReading.{readers}
 use Rattle.wy_parse.specs.StmtReading as reads
 use Rattle.wy_parse.specs.BlockGrammar as rule
 use Rattle.wy_parse.specs.BlockGrammar.{CaseList, width}
 use Rattle.wy_parse.specs.BlockReading as read
 use Rattle.wy_parse.specs.BlockReading.{nested}
-use Rattle.wy_grammar.proofs.TokenLemmas.{among_these, some, at, at_other, one_out, fewer}
+use Rattle.wy_grammar.proofs.TokenLemmas.{some, at_other, one_out, fewer}
 use Rattle.wy_grammar.proofs.StepsExact.{mark-exact, mark_declines, name_declines}
 use Rattle.wy_grammar.proofs.TypesExact.{type-declines}
 use Rattle.wy_grammar.proofs.ExprLevels.{expr-null}

@@ -1,20 +1,18 @@
 -- Steps of reading a block with a list of the switches that are open in it.
-use Rattle.std.proofs.Common.{◌≡◌, ◌≢◌, ℕ, zero, suc, ◌+◌, ◌-◌, ◌<◌, ◌≤◌, ◌^◌, Bool, true, false, ◌&&◌, not, true≢false, cond, List, [], ◌∷◌, ◌++◌, length, Result, Ok, Err, ◌⊎◌, inl, inr, refl, sym, ap, subst, ◌∙◌, arith, length-append}
+use Rattle.std.proofs.Common.{◌≡◌, ◌≢◌, ℕ, zero, suc, ◌+◌, ◌-◌, ◌<◌, ◌^◌, Bool, true, false, ◌&&◌, not, List, [], ◌∷◌, ◌++◌, length, Result, Ok, Err, refl, sym, ap, subst, ◌∙◌, arith, length-append}
 use Rattle.std.proofs.Math.Path.{fun_ext}
 use Rattle.wy_reading.specs.declared.stop.Stop.{Stop}
-use Rattle.wy_reading.specs.declared.stop.Stop.TheVariants.{Unexpected, Fault, NoMemory}
+use Rattle.wy_reading.specs.declared.stop.Stop.TheVariants.{Unexpected, NoMemory}
 use Rattle.wy_reading.specs.Rule.{heads}
-use Rattle.wy_reading.specs.Reader.{◌>>=◌, Outcome, Reads, and_then, pure, branch, loop, while, unless, refused}
-use Rattle.wy_reading.proofs.Outcomes.{and_then-ok, ok-parts}
+use Rattle.wy_reading.specs.Reader.{◌>>=◌, Outcome, Reads, and_then, pure, branch, while}
 use Rattle.wy_lex.specs.declared.token.Token.{Token}
 use Rattle.wy_parse.specs.declared.blocks.Open.{Open}
 use Rattle.wy_parse.specs.declared.blocks.Progress.{Progress}
 use Rattle.wy_grammar.specs.declared.fault.Kind.{Kind}
-use Rattle.wy_grammar.specs.declared.fault.Kind.TheVariants.{Deep}
 use Rattle.wy_grammar.specs.declared.sort.Class.TheVariants as class
 use Rattle.wy_grammar.specs.Sorts as t
 use Rattle.wy_grammar.specs.Sorts.{has, is, members}
-use Rattle.wy_grammar.specs.Steps.{Q, mark, inside}
+use Rattle.wy_grammar.specs.Steps.{Q, mark}
 use Rattle.wy_grammar.specs.Trees.{pushed, none, some, both}
 use Rattle.wy_grammar.specs.ExprGrammar.{E}
 use Rattle.wy_parse.specs.StmtTrees as trees
@@ -25,7 +23,7 @@ use Rattle.wy_parse.specs.BlockReading.{nested, piece, rest, block, block_of, de
 use Rattle.wy_parse.specs.OpenBlocks.{lone_default, closed, opened, with_stmt, Closes, below, alone, rest_at, going, header, with_cases, statement_but_switch, around, resumed, Moves}
 use Rattle.wy_reading.proofs.Turns.{loop-halts}
 use Rattle.wy_grammar.proofs.TokenLemmas.{at_other}
-use Rattle.wy_parse.proofs.Shrinking.{Eats, while-turn, mark-eats, mark-lacks}
+use Rattle.wy_parse.proofs.Shrinking.{while-turn, mark-eats, mark-lacks}
 use Rattle.wy_parse.proofs.BlockSizes.{piece_at-eats, statement_at-eats, header-eats, lone_default-eats, with_cases-shrinks}
 use denote.Ref.{Bor}
 

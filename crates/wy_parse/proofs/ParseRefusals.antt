@@ -1,5 +1,5 @@
 -- What the parser answers agrees with the grammar, in both directions.
-use Rattle.std.proofs.Common.{◌≡◌, ◌≢◌, ℕ, zero, suc, ◌≤◌, Bool, List, [], ◌∷◌, ◌++◌, length, Result, Ok, Err, IfOk, IfErr, ◌⊎◌, inl, inr, refl, sym, ap, ◌∙◌, subst, arith, append_assoc, append-nil, length-append}
+use Rattle.std.proofs.Common.{◌≡◌, ℕ, ◌≤◌, List, [], ◌∷◌, ◌++◌, length, Result, Ok, Err, IfOk, IfErr, inl, inr, refl, sym, ap, ◌∙◌, subst, arith, append_assoc, append-nil, length-append}
 use Rattle.wy_reading.specs.declared.stop.Stop.{Stop}
 use Rattle.wy_reading.specs.declared.stop.Stop.TheVariants as stop
 use Rattle.wy_reading.specs.Mode.{Mode, Looser}

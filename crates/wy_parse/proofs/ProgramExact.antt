@@ -1,8 +1,7 @@
 -- Programs are read exactly, and so the parser keeps its promise.
-use Rattle.std.proofs.Common.{◌≡◌, ℕ, Bool, List, [], ◌∷◌, ◌++◌, ◌⊎◌, inl, inr, refl, sym}
-use Rattle.std.specs.Bool.{⊤}
+use Rattle.std.proofs.Common.{ℕ, List, [], ◌∷◌, ◌++◌, ◌⊎◌, inl, inr, refl}
 use Rattle.wy_reading.specs.Mode.{Mode}
-use Rattle.wy_reading.specs.Rule.{heads, Loop}
+use Rattle.wy_reading.specs.Rule.{Loop}
 use Rattle.wy_reading.specs.Promise.{Promise}
 use Rattle.wy_reading.proofs.Exactness.{Exact, Passes, Lacks, Any, AtEnd}
 use Rattle.wy_reading.proofs.Single.{nothing}
@@ -10,7 +9,6 @@ use Rattle.wy_reading.proofs.Sequence.{sequence}
 use Rattle.wy_reading.proofs.Repetition.{repetition}
 use Rattle.wy_reading.proofs.Adapting.{adapt}
 use Rattle.wy_reading.proofs.Theorem.{whole_text, whole-closes, promise}
-use Rattle.wy_lex.specs.declared.token.Token.{Token}
 use Rattle.wy_lex.specs.declared.token.TokenKind.TheVariants as k
 use Rattle.wy_grammar.specs.declared.sort.Class.TheVariants as class
 use Rattle.wy_grammar.specs.Sorts as t

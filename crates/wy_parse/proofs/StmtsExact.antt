@@ -1,10 +1,7 @@
 -- Statements without blocks are read exactly: a line for each rule.
-use Rattle.std.proofs.Common.{◌≡◌, ℕ, ℤ, Bool, true, false, true≢false, List, [], ◌∷◌, ◌++◌, ◌⊎◌, inl, inr, refl, sym, None}
-use Rattle.std.specs.Bool.{⊤}
+use Rattle.std.proofs.Common.{ℕ, true≢false, List, [], ◌∷◌, ◌⊎◌, inl, inr, refl, sym, None}
 use Rattle.wy_reading.specs.Mode.{Mode}
-use Rattle.wy_reading.specs.Rule.{heads, Loop}
-use Rattle.wy_reading.specs.Reader.{while}
-use Rattle.wy_reading.proofs.Exactness.{Exact, Passes, Lacks, Any}
+use Rattle.wy_reading.proofs.Exactness.{Exact, Passes, Any}
 use Rattle.wy_reading.proofs.Single.{nothing}
 use Rattle.wy_reading.proofs.Sequence.{sequence}
 use Rattle.wy_reading.proofs.Choice.{choice}
@@ -16,20 +13,19 @@ use Rattle.wy_grammar.specs.declared.measured.Measured.TheVariants.{Low}
 use Rattle.wy_grammar.specs.declared.sort.Class.TheVariants as class
 use Rattle.wy_grammar.specs.Sorts as t
 use Rattle.wy_grammar.specs.Sorts.{is, has, members}
-use Rattle.wy_grammar.specs.Steps.{R, Q, inside}
 use Rattle.wy_grammar.specs.Trees as parts
 use Rattle.wy_grammar.specs.TypeGrammar.{T, Type_}
 use Rattle.wy_grammar.specs.TypeReading.{type_term}
-use Rattle.wy_grammar.specs.ExprGrammar.{E, Args}
+use Rattle.wy_grammar.specs.ExprGrammar.{Args}
 use Rattle.wy_parse.specs.StmtTrees as trees
 use Rattle.wy_parse.specs.StmtTrees.{S, Path}
 use Rattle.wy_parse.specs.StmtGrammar as rule
 use Rattle.wy_parse.specs.StmtGrammar.{word_kind}
 use Rattle.wy_parse.specs.StmtReading as read
-use Rattle.wy_grammar.proofs.TokenLemmas.{among_these, some, at, at_other, no, one_out, fewer, apart, member, choice_of, choice_among}
+use Rattle.wy_grammar.proofs.TokenLemmas.{some, at, at_other, no, one_out, fewer, member, choice_of, choice_among}
 use Rattle.wy_grammar.proofs.StepsExact.{token-exact, mark-exact, name-exact}
 use Rattle.wy_grammar.proofs.TypesExact.{type-exact, type_rest-exact, type_tail-exact, closing-exact, joins_type, AfterType, BeginsType}
-use Rattle.wy_grammar.proofs.OperatorsExact.{after_expr, After, BeginsExpr}
+use Rattle.wy_grammar.proofs.OperatorsExact.{after_expr, After}
 use Rattle.wy_grammar.proofs.ExprLevels.{expr-exact, inner_expr-exact, inner_args-exact}
 use Rattle.wy_grammar.proofs.PlacedExact.{placed-exact}
 

@@ -1,10 +1,9 @@
 -- Switches, statements and blocks are read exactly over what stands on the level inside: a line for each rule.
-use Rattle.std.proofs.Common.{◌≡◌, ◌==◌, ℕ, zero, suc, ◌≤◌, Bool, true, false, true≢false, cond, List, [], ◌∷◌, ◌++◌, ◌⊎◌, inl, inr, length, Ok, Err, None, refl, sym, subst}
+use Rattle.std.proofs.Common.{◌≡◌, ◌==◌, ℕ, zero, suc, ◌≤◌, Bool, true, false, true≢false, cond, List, [], ◌∷◌, ◌++◌, ◌⊎◌, inl, inr, Ok, None, refl, sym, subst}
 use Rattle.std.specs.Bool.{⊤}
-use Rattle.wy_reading.specs.declared.stop.Stop.TheVariants.{Unexpected, Fault}
-use Rattle.wy_reading.specs.Mode.{Mode, Looser}
-use Rattle.wy_reading.specs.Rule.{Rule, heads, among, Or, Then, Pure, Refused, Loop, Unless}
-use Rattle.wy_reading.specs.Reader.{◌>>=◌, branch, refused, pure, unless}
+use Rattle.wy_reading.specs.Mode.{Mode}
+use Rattle.wy_reading.specs.Rule.{heads, among, Or, Then, Refused, Unless}
+use Rattle.wy_reading.specs.Reader.{◌>>=◌, branch, refused, unless}
 use Rattle.wy_reading.proofs.Exactness.{Exact, Passes, Lacks, Any, Sample}
 use Rattle.wy_reading.proofs.Single.{nothing}
 use Rattle.wy_reading.proofs.Sequence.{sequence}
@@ -16,7 +15,6 @@ use Rattle.wy_reading.proofs.Bars.{unless-exact}
 use Rattle.wy_lex.specs.declared.token.Token.{Token}
 use Rattle.wy_lex.specs.declared.token.TokenKind.TheVariants as k
 use Rattle.wy_ast.specs.declared.types.TyKind.TheVariants as ty
-use Rattle.wy_grammar.specs.declared.fault.Kind.{Kind}
 use Rattle.wy_grammar.specs.declared.fault.Kind.TheVariants.{Deep}
 use Rattle.wy_grammar.specs.declared.measured.Measured.TheVariants.{Low}
 use Rattle.wy_grammar.specs.declared.sort.Class.TheVariants as class
@@ -31,7 +29,7 @@ use Rattle.wy_parse.specs.StmtReading as reads
 use Rattle.wy_parse.specs.BlockGrammar as rule
 use Rattle.wy_parse.specs.BlockGrammar.{CaseList}
 use Rattle.wy_parse.specs.BlockReading as read
-use Rattle.wy_grammar.proofs.TokenLemmas.{among_these, some, at, at_other, no, one_out, fewer, member, choice_of, choice_among}
+use Rattle.wy_grammar.proofs.TokenLemmas.{among_these, some, at, at_other, no, choice_of, choice_among}
 use Rattle.wy_grammar.proofs.StepsExact.{mark-exact, mark_declines}
 use Rattle.wy_grammar.proofs.TypesExact.{BeginsType, type-null}
 use Rattle.wy_grammar.proofs.OperatorsExact.{after_expr}

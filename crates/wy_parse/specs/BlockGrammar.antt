@@ -8,10 +8,8 @@
 -- block of the k-th case of a switch stands k levels deeper, and the block of a default behind k cases likewise: without cases it
 -- stands on the level of its switch. How deep such blocks stand in one another is counted apart, by a width that is so great that no
 -- list of tokens reaches it.
-use Rattle.std.specs.Prelude.{◌≡◌, ℕ, ◌^◌, zero, suc, Bool, List, [], ◌∷◌, Option, None}
+use Rattle.std.specs.Prelude.{ℕ, ◌^◌, zero, suc, Bool, List, None}
 use Rattle.wy_reading.specs.Rule.{Pure, Then, Loop, Or, Refused, Unless}
-use Rattle.wy_ast.specs.declared.expressions.Expr.{Expr}
-use Rattle.wy_ast.specs.declared.statements.Stmt.{Stmt}
 use Rattle.wy_ast.specs.declared.statements.Case.{Case}
 use Rattle.wy_grammar.specs.declared.fault.Kind.TheVariants.{Deep}
 use Rattle.wy_grammar.specs.declared.measured.Measured.{Measured}

@@ -1,5 +1,5 @@
 -- How blocks are read: the grammar's shapes as steps, with each choice made by the next token.
-use Rattle.std.specs.Prelude.{◌≡◌, ℕ, zero, suc, Bool, true, List, [], ◌∷◌, Option, None}
+use Rattle.std.specs.Prelude.{ℕ, zero, suc, Bool, true, List, None}
 use Rattle.wy_reading.specs.Reader.{◌>>=◌, pure, branch, while, refused, unless}
 use Rattle.wy_grammar.specs.declared.fault.Kind.TheVariants.{Deep}
 use Rattle.wy_grammar.specs.declared.measured.Measured.{Measured}

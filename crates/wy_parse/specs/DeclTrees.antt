@@ -1,8 +1,7 @@
 -- Declarations and programs, of measured parts.
-use Rattle.std.specs.Prelude.{◌≡◌, ℕ, List, Option}
+use Rattle.std.specs.Prelude.{ℕ, List, Option}
 use Rattle.wy_ast.specs.declared.types.Ty.{Ty}
 use Rattle.wy_ast.specs.declared.expressions.Expr.{Expr}
-use Rattle.wy_ast.specs.declared.statements.Stmt.{Stmt}
 use Rattle.wy_ast.specs.declared.declarations.Param.{Param}
 use Rattle.wy_ast.specs.declared.declarations.Decl.{Decl}
 use Rattle.wy_ast.specs.declared.declarations.Decl.TheVariants as decl

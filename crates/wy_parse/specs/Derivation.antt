@@ -1,5 +1,5 @@
 -- What tokens derive, and where they are refused.
-use Rattle.std.specs.Prelude.{◌≡◌, ◌-◌, ℕ, List, [], ◌∷◌, length, drop, true, ⊤, ◌⊎◌, Result}
+use Rattle.std.specs.Prelude.{◌≡◌, ◌-◌, ℕ, List, length, drop, true, ⊤, ◌⊎◌, Result}
 use Rattle.wy_reading.specs.Mode.{Mode}
 use Rattle.wy_reading.specs.Places as places
 use Rattle.wy_ast.specs.declared.declarations.Program.{Program}
@@ -8,7 +8,6 @@ use Rattle.wy_grammar.specs.declared.fault.Kind.{Kind}
 use Rattle.wy_grammar.specs.declared.fault.Kind.TheVariants as kind
 use Rattle.wy_parse.specs.declared.fault.ParseFault.{ParseFault}
 use Rattle.wy_parse.specs.declared.fault.ParseFault.TheVariants.{Unexpected, Mixed, Deep, TooMany, NoMemory}
-use Rattle.wy_grammar.specs.declared.measured.Measured.{Measured}
 use Rattle.wy_grammar.specs.declared.measured.Measured.TheVariants.{Low, High}
 use Rattle.wy_grammar.specs.Steps.{place}
 use Rattle.wy_parse.specs.ProgramGrammar.{Text}

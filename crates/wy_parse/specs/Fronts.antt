@@ -1,5 +1,5 @@
 -- Where a list of tokens stops being one that a text could begin with.
-use Rattle.std.specs.Prelude.{◌≡◌, ℕ, Bool, true, false, List, [], ◌∷◌, ◌++◌, ⊤}
+use Rattle.std.specs.Prelude.{◌≡◌, ℕ, true, false, List, [], ◌∷◌, ◌++◌, ⊤}
 use Rattle.wy_reading.specs.Mode.{Mode}
 use Rattle.wy_reading.specs.Places as places
 use Rattle.wy_ast.specs.declared.declarations.Program.{Program}

@@ -1,5 +1,5 @@
 -- What the parser answers, by what its reader gives.
-use Rattle.std.specs.Prelude.{◌≡◌, List, Result, Ok, Err}
+use Rattle.std.specs.Prelude.{List, Result, Ok, Err}
 use Rattle.wy_reading.specs.Reader.{Outcome}
 use Rattle.wy_reading.specs.declared.stop.Stop.{Stop}
 use Rattle.wy_reading.specs.declared.stop.Stop.TheVariants as stop

@@ -8,7 +8,7 @@
 --   result  = '(' type NAME ')' | type, the first where it fits
 --   spec    = 'requires' expr | 'ensures' expr
 -- The declaration that is one more than may be is refused where it begins.
-use Rattle.std.specs.Prelude.{◌≡◌, ℕ, ◌+◌, nat_lt, zero, suc, Bool, true, false, List, [], ◌∷◌, ◌++◌, Option, Some, None}
+use Rattle.std.specs.Prelude.{ℕ, ◌+◌, nat_lt, Bool, true, false, List, [], ◌∷◌, ◌++◌, Option, Some, None}
 use Rattle.wy_reading.specs.Mode.{Mode}
 use Rattle.wy_reading.specs.Rule.{Pure, Then, Loop, Or, Refused, Unless, Whole, lax}
 use Rattle.wy_ast.specs.declared.types.Ty.{Ty}
@@ -28,7 +28,6 @@ use Rattle.wy_parse.specs.StmtTrees.{Stmts}
 use Rattle.wy_parse.specs.StmtGrammar.{Where, Wheres}
 use Rattle.wy_parse.specs.BlockGrammar.{nest}
 use Rattle.wy_parse.specs.DeclTrees.{Params, Clauses, Contract, D, param, given, alias_node, function_node, method_node, property_node, program_node}
-use Rattle.wy_parse.specs.DeclTrees as trees
 
 -- a type, and the name behind it where it has one
 abbrev pub Typed : Type 0

@@ -1,5 +1,5 @@
 -- How declarations and programs are read: the grammar's shapes as steps, with each choice made by the next token.
-use Rattle.std.specs.Prelude.{◌≡◌, ℕ, ◌+◌, zero, suc, Bool, true, false, List, [], ◌∷◌, ◌++◌, Option, Some, None}
+use Rattle.std.specs.Prelude.{ℕ, ◌+◌, Bool, true, false, List, [], ◌∷◌, ◌++◌, Option, Some, None}
 use Rattle.wy_reading.specs.Mode.{Mode}
 use Rattle.wy_reading.specs.Rule.{lax}
 use Rattle.wy_reading.specs.Reader.{◌>>=◌, pure, branch, while, refused, unless, whole}

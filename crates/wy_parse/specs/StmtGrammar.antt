@@ -2,13 +2,10 @@
 --   stmt = type NAME [ '=' expr ] LINE | NAME { '[' expr ']' | '.' NAME } '=' expr LINE | NAME '(' args ')' LINE
 --        | 'return' [ expr ] LINE | 'assert' expr LINE | ( 'break' | 'continue' | 'skip' | 'fail' ) LINE
 -- Three of these ways begin with a name: what they have in common is written once, so each choice is made by the next token.
-use Rattle.std.specs.Prelude.{◌≡◌, ℕ, ℤ, Bool, List, [], ◌∷◌, ◌++◌, None}
-use Rattle.wy_reading.specs.Rule.{Rule, One, Pure, Then, Loop, Or, Unless}
-use Rattle.wy_ast.specs.declared.expressions.Expr.{Expr}
-use Rattle.wy_ast.specs.declared.expressions.ExprKind.TheVariants as e
+use Rattle.std.specs.Prelude.{ℕ, Bool, List, None}
+use Rattle.wy_reading.specs.Rule.{One, Pure, Then, Loop, Or}
 use Rattle.wy_ast.specs.declared.statements.StmtKind.{StmtKind}
 use Rattle.wy_ast.specs.declared.statements.StmtKind.TheVariants as stmt
-use Rattle.wy_lex.specs.declared.token.Token.{Token}
 use Rattle.wy_lex.specs.declared.token.TokenKind.{TokenKind}
 use Rattle.wy_lex.specs.declared.token.TokenKind.TheVariants as k
 use Rattle.wy_grammar.specs.declared.measured.Measured.TheVariants.{Low}
@@ -16,9 +13,9 @@ use Rattle.wy_grammar.specs.declared.sort.Class.TheVariants as class
 use Rattle.wy_grammar.specs.Sorts as t
 use Rattle.wy_grammar.specs.Sorts.{has, is}
 use Rattle.wy_grammar.specs.Steps.{R, Mark, Inner, Name, Placed, inside}
-use Rattle.wy_grammar.specs.Trees.{pushed, none, some, both, named_ty, array_ty}
+use Rattle.wy_grammar.specs.Trees.{pushed, none, some, named_ty, array_ty}
 use Rattle.wy_grammar.specs.TypeGrammar.{T, Type_, TypeRest, TypeTail}
-use Rattle.wy_grammar.specs.ExprGrammar.{E, Args, touches, opposite, literal_kind, Glued, Expr_, ArgsIn}
+use Rattle.wy_grammar.specs.ExprGrammar.{Args, Expr_, ArgsIn}
 use Rattle.wy_parse.specs.StmtTrees as trees
 use Rattle.wy_parse.specs.StmtTrees.{S, Path}
 

@@ -3,13 +3,15 @@
 //!
 //! `trees` has sources with the trees that they spell, places included; `written` writes those trees.
 //! `faults` has a case for each fault and what stands at each limit, `vectors` refusals that an
-//! independent program gave.
+//! independent program gave, `programs` the sources that it took for programs.
 #![tactic(auto)]
 
 #[cfg(test)]
 mod faults;
 #[cfg(test)]
 mod parsing;
+#[cfg(test)]
+mod programs;
 #[cfg(test)]
 mod trees;
 #[cfg(test)]
