@@ -13,11 +13,11 @@ use Rattle.wy_top.specs.Run.{Ends}
 use Rattle.wy_top.specs.Steps.{sinks}
 
 -- what took nothing more is as before
-with_taken-nil : (known : Option (List ℕ)) → known ≡ with_taken known []
+pub with_taken-nil : (known : Option (List ℕ)) → known ≡ with_taken known []
 with_taken-nil None = refl
 with_taken-nil (Some bytes) = ap (λ (all : List ℕ). Some all) (sym (append-nil bytes))
 
-took_nothing : (known : Option (List ℕ)) → TookFront known known []
+pub took_nothing : (known : Option (List ℕ)) → TookFront known known []
 took_nothing known = record { count = 0; within = omega arith; took = with_taken-nil known }
 
 -- words that are no command and were reported so are an end

@@ -16,3 +16,4 @@ pub mod EndLemmas
 pub mod ExclusionLemmas
 pub mod SoundnessLemmas
 pub mod CauseLemmas
+pub mod FormatLemmas

@@ -15,3 +15,11 @@ five_words (v ∷ w ∷ []) a b c d e low high p q r s t = absurd (omega arith)
 five_words (v ∷ w ∷ x ∷ []) a b c d e low high p q r s t = absurd (omega arith)
 five_words (v ∷ w ∷ x ∷ y ∷ []) a b c d e low high p q r s t = absurd (omega arith)
 five_words (v ∷ w ∷ x ∷ y ∷ z ∷ u ∷ us) a b c d e low high p q r s t = absurd (omega arith)
+
+-- a list of two words has the words at its two places
+pub two_words : (ws : List (String Global)) (a b : String Global) → 2 ≤ length ws → length ws < 3 → a ≡ slice_index_or ws 0 a → b ≡ slice_index_or ws 1 b
+    → plain_words ws ≡ string_bytes a ∷ string_bytes b ∷ []
+two_words (v ∷ w ∷ []) a b low high p q = rw (p, q) refl
+two_words [] a b low high p q = absurd (omega arith)
+two_words (v ∷ []) a b low high p q = absurd (omega arith)
+two_words (v ∷ w ∷ u ∷ us) a b low high p q = absurd (omega arith)

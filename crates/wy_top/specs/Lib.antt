@@ -1,5 +1,6 @@
 -- ---- what contracts of public calls cite
 pub mod Run
+pub mod Formatting
 pub mod Outcome
 pub mod Diagnostics
 pub mod CommandLine

@@ -12,8 +12,8 @@ pub struct Operands<'a> {
     pub args: &'a str,
 }
 
-// Whether a word has the form of an option. No option is known yet.
-fn is_option(word: &str) -> bool
+/// Whether a word has the form of an option. No option is known yet.
+pub fn is_option(word: &str) -> bool
     ensures value { result ≡ has_option_form word.now }
 {
     match word.as_bytes() {

@@ -8,10 +8,12 @@ ghost use Rattle.wy_top.specs.Steps.{setting, sinks};
 ghost use Rattle.wy_top.specs.Diagnostics.{refusal_status, refusal_text};
 ghost use Rattle.wy_top.specs.Reporting.{Reports, ReportsIfMemory};
 ghost use Rattle.wy_top.specs.Outcome.{returned, no_command, refused};
+ghost use Rattle.wy_top.specs.Formatting.{FormatCommand, Formats, IsNoFormat};
 ghost use Rattle.wy_top.specs.Run.{Runs};
 
 use crate::command_line::{Operands, read_words};
 use crate::diagnostics::{WORDS_REFUSED, WORDS_STATUS, number_line, status, text};
+use crate::formatting::{format, read_format};
 use crate::refusal::Refusal;
 use crate::run::run;
 use crate::verdict::supplied_is_true;
@@ -22,10 +24,10 @@ use wy_port::{Files, Sink, write_whole};
 const SINK_FAILED: u8 = 5;
 
 /// The status where memory ran out.
-const NO_MEMORY: u8 = 9;
+pub const NO_MEMORY: u8 = 9;
 
-// Writes a text, and answers the status that goes with it.
-fn report<S: Sink>(sink: &mut S, text: &[u8], status: u8) -> u8
+/// Writes a text, and answers the status that goes with it.
+pub fn report<S: Sink>(sink: &mut S, text: &[u8], status: u8) -> u8
     ensures reports { Reports status text.now result (S.taken sink.old) (S.taken sink.new) (S.faults sink.old) (S.faults sink.new) }
     ensures count { S.faults sink.old ≤ S.faults sink.new }
 {
@@ -59,14 +61,16 @@ fn print<O: Sink>(alloc: Global, number: i128, out: &mut O) -> u8
 
 /// Does what `words` say, over `files`, and answers the exit status. Results go to `out`, refusals to `err`.
 ///
-/// The words are `run SOURCE CERT NAME ARGS`, without the program's own name. The steps are taken in this order, and
-/// the first that fails ends the call: the words, SOURCE is loaded and read, CERT is loaded and read unless it is the
-/// word `none`, the verdicts on the conditions, the entry NAME, the argument in ARGS, the requires clause.
+/// The words are `run SOURCE CERT NAME ARGS` or `fmt SOURCE`, without the program's own name. The steps are taken in
+/// this order, and the first that fails ends the call: the words, SOURCE is loaded and read, CERT is loaded and read
+/// unless it is the word `none`, the verdicts on the conditions, the entry NAME, the argument in ARGS, the requires
+/// clause. `fmt` loads and reads SOURCE alone and writes it anew: what it writes is the text of the program exactly
+/// where the source spells one.
 ///
 /// | status | when |
 /// |---|---|
-/// | 0 | the program was accepted and ran, and `out` took its result on a line |
-/// | 1 | the source is no thin program, or a condition has no valid certificate |
+/// | 0 | the program was accepted and ran, and `out` took its result on a line; or `out` took the source's new text |
+/// | 1 | the source is no program (for `run`: no thin one), or a condition has no valid certificate |
 /// | 2 | the words are no command |
 /// | 3, 4, 10 | a file is absent, was not loaded, or is too long |
 /// | 5 | a sink failed |
@@ -76,6 +80,33 @@ fn print<O: Sink>(alloc: Global, number: i128, out: &mut O) -> u8
 ///
 /// What a sink took is a front of the text that the end of the call has for it, and all of it unless the status is 5.
 pub fn run_words<F: Files, O: Sink, E: Sink>(
+    alloc: Global,
+    words: &[String],
+    files: &mut F,
+    out: &mut O,
+    err: &mut E,
+) -> u8
+    ensures runs { IsNoFormat (plain_words words.now) → Runs (plain_words words.now)
+        (setting (F.told files.old) (F.load_faults files.old) (F.load_faults files.new) (F.misses files.old) (F.misses files.new))
+        result
+        (sinks (O.taken out.old) (O.taken out.new) (O.faults out.old) (O.faults out.new) (E.taken err.old) (E.taken err.new) (E.faults err.old) (E.faults err.new)) }
+    ensures formats { (source : List ℕ) → FormatCommand (plain_words words.now) source → Formats source
+        (setting (F.told files.old) (F.load_faults files.old) (F.load_faults files.new) (F.misses files.old) (F.misses files.new))
+        result
+        (sinks (O.taken out.old) (O.taken out.new) (O.faults out.old) (O.faults out.new) (E.taken err.old) (E.taken err.new) (E.faults err.old) (E.faults err.new)) }
+
+    // No file is changed.
+    ensures save_count { F.save_faults files.new ≡ F.save_faults files.old }
+    ensures kept { (name : List ℕ) → F.told files.new name ≡ F.told files.old name }
+{
+    match read_format(words) {
+        Some(source) => format(alloc, source, files, out, err),
+        None => run_command(alloc, words, files, out, err),
+    }
+}
+
+// Runs a program, where the words are `run SOURCE CERT NAME ARGS`.
+fn run_command<F: Files, O: Sink, E: Sink>(
     alloc: Global,
     words: &[String],
     files: &mut F,

@@ -18,8 +18,8 @@ pub const WORDS_REFUSED: &[u8] = b"wy: words refused\n";
 /// The status for words that are no command.
 pub const WORDS_STATUS: u8 = 2;
 
-// The status where a file is not loaded.
-fn load_status(fault: LoadFault) -> u8
+/// The status where a file is not loaded.
+pub fn load_status(fault: LoadFault) -> u8
     ensures value { result ≡ status_of_load fault }
 {
     match fault {
@@ -47,8 +47,8 @@ pub fn status(refusal: &Refusal) -> u8
     }
 }
 
-// The line where a file is not loaded.
-fn load_line(alloc: Global, name: &str, fault: LoadFault) -> Result<String, AllocError>
+/// The line where a file is not loaded.
+pub fn load_line(alloc: Global, name: &str, fault: LoadFault) -> Result<String, AllocError>
     ensures value { IfOk result (λ s. string_bytes s ≡ load_text name.now fault) }
 {
     match fault {

@@ -18,8 +18,41 @@ const TAKE_CERT: &str =
 const ABS: &str =
     "function abs(int x) -> (int r)\nensures r >= 0:\n    if x < 0:\n        return -x\n    return x\n";
 
+const LOOSE: &str = "function  f( int x )->(int r) requires x>0&&x<9 : // c\n  return x*(2+-1)\n";
+
+const LAID_OUT: &str =
+    "function f(int x) -> (int r)\nrequires x > 0 && x < 9:\n    return x * (2 + -1)\n";
+
+// Bars that would touch, a unary minus, nested quantifiers, a chain of `else if`, a method without result.
+const FORMS: &str =
+    "import base\n\nfunction f(int[] xs, int y) -> (int r)\nrequires | |xs| - 1| > 0\nrequires all { i in 0..|xs| | some { j in 0..i | xs[i] == - xs[j] } }\nensures r >= -1:\n    if y < 0:\n        return - y\n    else if y == 0:\n        return 0\n    else:\n        return y - -1\n\nmethod m():\n    skip\n";
+
+const ORDERED: &str = "function g(int x) -> int\nrequires x > 0\nensures true:\n    return x\n";
+
+const MAX: &str =
+    "function max(int[] xs) -> (int r)\nrequires |xs| > 0\nensures all { k in 0..|xs| | r >= xs[k] }:\n    int m = xs[0]\n    int i = 1\n    while i < |xs|\n    where 1 <= i\n    where i <= |xs|\n    where all { k in 0..i | m >= xs[k] }:\n        if xs[i] > m:\n            m = xs[i]\n        i = i + 1\n    return m\n";
+
 /// The files of each row.
-const FILES: [(&str, &str); 7] = [
+const FILES: [(&str, &str); 14] = [
+    ("forms.wy", FORMS),
+    (
+        "order.wy",
+        "function g(int x) -> int ensures true requires(x>0):\n return((x))\n",
+    ),
+    (
+        "mix.wy",
+        "function h(bool a) -> bool:\n return a && a || a\n",
+    ),
+    (
+        "max.wy",
+        "// The greatest item of an array: a loop whose invariants speak of all items so far.\nfunction max(int[] xs) -> (int r)\nrequires |xs| > 0\nensures all { k in 0..|xs| | r >= xs[k] }:\n    int m = xs[0]\n    int i = 1\n    while i < |xs|\n    where 1 <= i\n    where i <= |xs|\n    where all { k in 0..i | m >= xs[k] }:\n        if xs[i] > m:\n            m = xs[i]\n        i = i + 1\n    return m\n",
+    ),
+    ("loose.wy", LOOSE),
+    (
+        "tab.wy",
+        "function f(int x) -> (int r):\n    int y = x\n\treturn y\n",
+    ),
+    ("chain.wy", "function f(int y) -> int:\n return y<1<2\n"),
     ("inc.wy", INC),
     ("inc.cert", INC_CERT),
     ("take.wy", TAKE),
@@ -36,11 +69,16 @@ fn file(alloc: Global, name: &str, text: &str) -> Result<(String, Vec<u8>), Allo
     ))
 }
 
-fn all_files(alloc: Global) -> Result<Vec<(String, Vec<u8>)>, AllocError> {
+fn short_files(alloc: Global) -> Result<Vec<(String, Vec<u8>)>, AllocError> {
     let mut files = Vec::new(alloc);
     for (name, text) in &FILES {
         files.push(file(alloc, name, text)?)?;
     }
+    Ok(files)
+}
+
+fn all_files(alloc: Global) -> Result<Vec<(String, Vec<u8>)>, AllocError> {
+    let mut files = short_files(alloc)?;
     let mut long = Vec::new(alloc);
     for _ in 0..1_048_577u32 {
         long.push(b'/')?;
@@ -66,7 +104,85 @@ struct Row {
     err: &'static str,
 }
 
-const ROWS: [Row; 25] = [
+const ROWS: [Row; 38] = [
+    Row {
+        words: "fmt forms.wy",
+        status: 0,
+        out: FORMS,
+        err: "",
+    },
+    Row {
+        words: "fmt order.wy",
+        status: 0,
+        out: ORDERED,
+        err: "",
+    },
+    Row {
+        words: "fmt max.wy",
+        status: 0,
+        out: MAX,
+        err: "",
+    },
+    Row {
+        words: "fmt mix.wy",
+        status: 1,
+        out: "",
+        err: "mix.wy:2:16: Mixed\n",
+    },
+    Row {
+        words: "fmt loose.wy",
+        status: 0,
+        out: LAID_OUT,
+        err: "",
+    },
+    Row {
+        words: "fmt inc.wy",
+        status: 0,
+        out: INC,
+        err: "",
+    },
+    Row {
+        words: "fmt tab.wy",
+        status: 1,
+        out: "",
+        err: "tab.wy:3:2: BadIndent\n",
+    },
+    Row {
+        words: "fmt chain.wy",
+        status: 1,
+        out: "",
+        err: "chain.wy:2:12: Unexpected\n",
+    },
+    Row {
+        words: "fmt absent.wy",
+        status: 3,
+        out: "",
+        err: "wy: absent.wy: absent\n",
+    },
+    Row {
+        words: "fmt long.wy",
+        status: 10,
+        out: "",
+        err: "wy: long.wy: too long\n",
+    },
+    Row {
+        words: "fmt",
+        status: 2,
+        out: "",
+        err: "wy: words refused\n",
+    },
+    Row {
+        words: "fmt --stats",
+        status: 2,
+        out: "",
+        err: "wy: words refused\n",
+    },
+    Row {
+        words: "fmt inc.wy none",
+        status: 2,
+        out: "",
+        err: "wy: words refused\n",
+    },
     Row {
         words: "run inc.wy inc.cert inc (5)",
         status: 0,
@@ -248,7 +364,34 @@ struct FaultRow {
     err: &'static str,
 }
 
-const FAULT_ROWS: [FaultRow; 4] = [
+const FAULT_ROWS: [FaultRow; 7] = [
+    FaultRow {
+        load: 0,
+        out_room: 99,
+        err_room: 99,
+        words: "fmt inc.wy",
+        status: 4,
+        out: "",
+        err: "wy: inc.wy: load failed\n",
+    },
+    FaultRow {
+        load: 9,
+        out_room: 3,
+        err_room: 99,
+        words: "fmt inc.wy",
+        status: 5,
+        out: "fun",
+        err: "",
+    },
+    FaultRow {
+        load: 9,
+        out_room: 99,
+        err_room: 4,
+        words: "fmt tab.wy",
+        status: 5,
+        out: "",
+        err: "tab.",
+    },
     FaultRow {
         load: 0,
         out_room: 9,
@@ -291,7 +434,7 @@ const FAULT_ROWS: [FaultRow; 4] = [
 fn fault_rows(rt: HostRuntime) -> Result<(), Fail> {
     let alloc = rt.alloc();
     for row in &FAULT_ROWS {
-        let all = all_files(alloc)?;
+        let all = short_files(alloc)?;
         assert!(rt; have_different_names(&all));
         let mut fails = Vec::new(alloc);
         fails.push(row.load)?;

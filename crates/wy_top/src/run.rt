@@ -20,7 +20,7 @@ use std::alloc::Global;
 use wy_port::Files;
 
 /// The most bytes of a source file.
-const SOURCE_LIMIT: u64 = 1_048_576;
+pub const SOURCE_LIMIT: u64 = 1_048_576;
 
 /// The most bytes of a certificate file.
 const CERTIFICATE_LIMIT: u64 = 16_777_216;

@@ -7,7 +7,7 @@ use Rattle.wy_top.specs.Run.{Ends}
 use Rattle.wy_top.specs.Steps.{setting, sinks}
 use Rattle.wy_top.proofs.EndLemmas.{words_end, printed_ends, refused_ends}
 use Rattle.wy_top.proofs.CauseLemmas.{runs}
-use Rattle.wy_top.proofs.commands.run_words.Goals as goal
+use Rattle.wy_top.proofs.commands.run_command.Goals as goal
 
 pub returns-in-None-clause-runs : goal.returns-in-None-clause-runs
 returns-in-None-clause-runs g c =
