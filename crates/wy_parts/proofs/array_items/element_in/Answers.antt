@@ -20,7 +20,7 @@ returns-in-Ok-clause-set c = λ d.
 pub returns-in-Ok-clause-narrow : goal.returns-in-Ok-clause-narrow
 returns-in-Ok-clause-narrow c = narrow_element (types_of c.args.names.now) (seen_ty c.args.ty.now) (seen_ty c.in_ok-union.union) c.in_ok-union.ensures.value c.in_ok-union.ensures.narrow c.in-Ok.ensures.narrow
 
-pub returns-in-Err-clause-wide : goal.returns-in-Err-clause-wide
-returns-in-Err-clause-wide c =
+pub returns-clause-wide : goal.returns-clause-wide
+returns-clause-wide c =
     let u = seen_ty c.in_ok-union.union in
     wide_map rust.Ty rust.Ty c.in-Err.fault (IsWideAbout (types_of c.args.names.now) u) (IsWideElement (types_of c.args.names.now) (seen_ty c.args.ty.now)) (λ w. inr (u, c.in_ok-union.ensures.value, w)) c.in-Err.ensures.wide

@@ -33,8 +33,8 @@ returns-in-Ok-clause-narrow c =
     let made = subst (λ (o : Option rust.Ty). IfSome o (λ (u : rust.Ty). IsUnion names c.args.name.now t (seen_ty u))) is c.in_ok-value_union.ensures.value in
     narrow_field names c.args.name.now t (seen_ty c.in-Some.union) made c.in_ok-value_union.ensures.narrow c.in-Ok.ensures.narrow
 
-pub returns-in-Err-clause-wide : goal.returns-in-Err-clause-wide
-returns-in-Err-clause-wide c =
+pub returns-clause-wide : goal.returns-clause-wide
+returns-clause-wide c =
     let names = types_of c.args.names.now in
     let t = seen_ty c.args.ty.now in
     let u = seen_ty c.in-Some.union in
