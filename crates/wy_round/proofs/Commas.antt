@@ -1,10 +1,9 @@
 -- Lists with commas: what was read of them is read again from their text.
 use Rattle.std.proofs.Common.{◌≡◌, ℕ, ◌+◌, ◌≤◌, ◌==◌, Bool, true, false, max, List, [], ◌∷◌, ◌++◌, map, codes, ◌⊎◌, inl, inr, refl, sym, ap, ap₂, ◌∙◌, subst, arith, append_assoc, append-nil}
-use Rattle.std.specs.Bool.{⊤}
 use lib.Utf8.{encode}
 use Rattle.wy_data.specs.Words.{is_part}
 use Rattle.wy_data.proofs.WordLemmas.{is_part-ascii}
-use Rattle.wy_reading.specs.Rule.{Rule, Pure, Then, Loop, Turns}
+use Rattle.wy_reading.specs.Rule.{Then, Loop, Turns}
 use Rattle.wy_reading.specs.Rule.Turns.{stop, more}
 use Rattle.wy_lex.specs.declared.token.Token.{Token}
 use Rattle.wy_lex.specs.declared.token.TokenKind.{TokenKind}
@@ -13,17 +12,16 @@ use Rattle.wy_lex.specs.declared.symbol.Character.{Character}
 use Rattle.wy_lex.specs.declared.symbol.Character.TheVariants as class
 use Rattle.wy_lex.specs.Layout.{token}
 use Rattle.wy_print.specs.Pieces.{listed, more_listed}
-use Rattle.wy_grammar.specs.declared.fault.Kind.{Kind}
 use Rattle.wy_grammar.specs.declared.measured.Measured.{Measured}
 use Rattle.wy_grammar.specs.declared.measured.Measured.TheVariants.{Low}
 use Rattle.wy_grammar.specs.Sorts as t
 use Rattle.wy_grammar.specs.Sorts.{is}
 use Rattle.wy_grammar.specs.Steps.{R, Mark}
-use Rattle.wy_round.proofs.Pieces.{Piece, letters, size, tokens_from, tokens-append, grows, IsMark, Linked, last_more}
+use Rattle.wy_round.proofs.Pieces.{Piece, letters, size, tokens_from, tokens-append, IsMark, last_more}
 use Rattle.wy_round.proofs.Pieces.Piece.{gap, mark}
-use Rattle.wy_round.proofs.Segments.{text_of, text-both, Segment, joined, IsClosed, closed-append, Before, After, after-item, before-blank, Leads, leads-append, Item}
+use Rattle.wy_round.proofs.Segments.{text_of, text-both, Segment, joined, IsClosed, closed-append, Before, After, after-item, before-blank, leads-append, Item}
 use Rattle.wy_grammar.specs.Trees.{pushed}
-use Rattle.wy_round.proofs.Heights.{same_part, same_height, Pushed, pushed-low}
+use Rattle.wy_round.proofs.Heights.{same_part, same_height, pushed-low}
 use Rattle.wy_round.proofs.Marked.{comma-mark}
 
 -- ---- rules on tokens that are made

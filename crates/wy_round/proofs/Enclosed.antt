@@ -1,6 +1,5 @@
 -- Pieces in brackets, and words, as items.
-use Rattle.std.proofs.Common.{◌≡◌, ℕ, zero, suc, ◌+◌, ◌≤◌, ◌<◌, ◌==◌, ◌&&◌, ◌||◌, Bool, true, false, true≢false, List, [], ◌∷◌, ◌++◌, codes, ◌⊎◌, inl, inr, refl, sym, ap, ◌∙◌, subst, arith, append-nil}
-use Rattle.std.specs.Bool.{⊤}
+use Rattle.std.proofs.Common.{◌≡◌, ℕ, zero, suc, ◌+◌, ◌≤◌, ◌<◌, ◌==◌, ◌&&◌, ◌||◌, Bool, true, false, true≢false, List, [], ◌∷◌, ◌++◌, ◌⊎◌, inl, inr, refl, sym, ap, ◌∙◌, subst, arith, append-nil}
 use Rattle.std.specs.Char.{is_ascii_alphabetic}
 use Rattle.std.specs.Str.{chars, encode_utf8_all}
 use Rattle.std.proofs.lemmas.Str.{encodes-chars}
@@ -18,9 +17,9 @@ use Rattle.wy_lex.specs.Layout.{token}
 use Rattle.wy_grammar.specs.Sorts.{is}
 use Rattle.wy_grammar.specs.Steps.{Inner, Name}
 use Rattle.wy_round.proofs.Pieces.{Piece, letters, size, tokens_from, grows, IsMark}
-use Rattle.wy_round.proofs.Pieces.Piece.{gap, mark}
+use Rattle.wy_round.proofs.Pieces.Piece.{mark}
 use Rattle.wy_round.proofs.Marks.{name-mark}
-use Rattle.wy_round.proofs.Segments.{text_of, text-both, Segment, joined, behind_less, before_more, Just, IsClosed, closed-nil, closed-append, opens, closes, closed-around, begins_item, Before, BeforeItem, After, after-item, before-nothing, before-is, Item}
+use Rattle.wy_round.proofs.Segments.{text_of, text-both, Segment, joined, behind_less, before_more, Just, IsClosed, closed-nil, closed-append, opens, closes, closed-around, begins_item, Before, After, after-item, before-nothing, before-is, Item}
 use Rattle.wy_round.proofs.Marked.{open_paren-mark, close_paren-mark, open_bracket-mark, close_bracket-mark, open_brace-mark, close_brace-mark}
 use Rattle.wy_round.proofs.Commas.{mark-reads, tokens-behind}
 

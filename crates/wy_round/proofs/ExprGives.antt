@@ -1,5 +1,5 @@
 -- What the rules of expressions give: whatever they read is read again from its text.
-use Rattle.std.proofs.Common.{◌≡◌, ℕ, zero, suc, ◌≤◌, Bool, true, false, List, arith, refl}
+use Rattle.std.proofs.Common.{ℕ, zero, suc, Bool, true, List, arith}
 use Rattle.wy_ast.specs.declared.expressions.ExprKind.TheVariants as e
 use Rattle.wy_grammar.specs.declared.fault.Kind.TheVariants.{Deep}
 use Rattle.wy_grammar.specs.declared.sort.Class.TheVariants as kinds

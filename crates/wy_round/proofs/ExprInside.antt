@@ -1,43 +1,33 @@
 -- What has expressions inside: calls, lists, records and quantifiers are read again.
-use Rattle.std.proofs.Common.{◌≡◌, ℕ, zero, suc, ◌+◌, ◌≤◌, ◌==◌, Bool, true, false, true≢false, nat_lt, max, List, [], ◌∷◌, ◌++◌, map, codes, ◌⊎◌, inl, inr, refl, sym, ap, ap₂, ◌∙◌, subst, arith, append_assoc, append-nil}
-use Rattle.std.specs.Bool.{⊤}
-use Rattle.std.specs.Str.{chars, encode_utf8_all}
+use Rattle.std.proofs.Common.{◌≡◌, ℕ, zero, suc, ◌+◌, ◌≤◌, true, false, nat_lt, max, List, [], ◌∷◌, ◌++◌, map, codes, ◌⊎◌, inl, inr, refl, sym, ap, ap₂, ◌∙◌, subst, arith, append_assoc}
+use Rattle.std.specs.Str.{chars}
 use lib.Utf8.{encode}
 use Rattle.wy_data.specs.Words.{IsName}
-use Rattle.wy_data.proofs.WordLemmas.{is_start-ascii, is_part-ascii}
-use Rattle.wy_reading.specs.Rule.{among, Pure, Then, Loop, Turns}
-use Rattle.wy_reading.specs.Rule.Turns.{stop, more}
-use Rattle.wy_ast.specs.SurfaceTree as tree
+use Rattle.wy_data.proofs.WordLemmas.{is_part-ascii}
+use Rattle.wy_reading.specs.Rule.{Pure, Then, Turns}
+use Rattle.wy_reading.specs.Rule.Turns.{stop}
 use Rattle.wy_ast.specs.declared.expressions.Expr.{Expr}
 use Rattle.wy_ast.specs.declared.expressions.ExprKind.TheVariants as e
 use Rattle.wy_lex.specs.declared.token.Token.{Token}
-use Rattle.wy_lex.specs.declared.token.TokenKind.{TokenKind}
 use Rattle.wy_lex.specs.declared.token.TokenKind.TheVariants as k
-use Rattle.wy_lex.specs.declared.symbol.Character.{Character}
-use Rattle.wy_lex.specs.declared.symbol.Character.TheVariants as class
 use Rattle.wy_lex.specs.Layout.{token}
-use Rattle.wy_print.specs.Pieces.{listed, quantifier_word}
-use Rattle.wy_print.specs.ExprText.{Shown, shown, plain, part, texts, called, field_text, range_text, range_line, quantified}
-use Rattle.wy_grammar.specs.declared.measured.Measured.{Measured}
+use Rattle.wy_print.specs.Pieces.{listed}
+use Rattle.wy_print.specs.ExprText.{shown, plain, texts, called}
 use Rattle.wy_grammar.specs.declared.measured.Measured.TheVariants.{Low}
-use Rattle.wy_grammar.specs.declared.sort.Class.TheVariants as kinds
 use Rattle.wy_grammar.specs.Sorts as t
 use Rattle.wy_grammar.specs.Sorts.{is, has, sort}
-use Rattle.wy_grammar.specs.Steps.{R, Mark, Inner, Name, InnerName}
-use Rattle.wy_grammar.specs.Trees.{highest, both, made, pushed, named, none, call, list, repeat}
-use Rattle.wy_grammar.specs.ExprGrammar as grammar
-use Rattle.wy_grammar.specs.ExprGrammar.{E, Args, Fields, Ranges, Literal, touches, Glued, is_all, Quantifier, Sum, NextArg, MoreArgs, ArgList, Field, NextField, FieldList, Range, NextRange, RangeList, Listed, Called, Quantified, Primary, Step, Steps, Negated, UnaryOf, ExprOf, Unary, Expr_}
-use Rattle.wy_round.proofs.Pieces.{Piece, letters, size, tokens_from, IsMark}
-use Rattle.wy_round.proofs.Pieces.Piece.{gap, mark}
-use Rattle.wy_round.proofs.Segments.{text_of, text-both, Segment, joined, behind_less, before_more, Just, IsClosed, closed-append, closed-around, Before, After, after-item, before-nothing, before-blank, leads-append, Item}
-use Rattle.wy_round.proofs.Heights.{OfExpr, expr_node-low, expr_node-is, Made, made-low, Both, both-low, same_part, same_height}
-use Rattle.wy_round.proofs.Marked.{in-mark, all-mark, some-mark, range-mark, colon-mark, semicolon-mark, bar-mark, open_brace-mark, close_brace-mark}
-use Rattle.wy_round.proofs.Gives.{Gives, gives-pure, gives-one, gives-then, gives-or, gives-loop, gives-refused, gives-unless, gives-less, Anything, gives-mark, gives-inner, gives-name, gives-inner_name, numeral-among}
+use Rattle.wy_grammar.specs.Steps.{R}
+use Rattle.wy_grammar.specs.Trees.{highest, both, made, pushed, none, call, list, repeat}
+use Rattle.wy_grammar.specs.ExprGrammar.{E, Args, NextArg, MoreArgs, ArgList, Unary, Expr_}
+use Rattle.wy_round.proofs.Pieces.{Piece, letters, size, tokens_from}
+use Rattle.wy_round.proofs.Segments.{text_of, text-both, joined, closed-append, After, after-item, Item}
+use Rattle.wy_round.proofs.Heights.{expr_node-low, expr_node-is, made-low, both-low, same_part, same_height}
+use Rattle.wy_round.proofs.Marked.{semicolon-mark}
 use Rattle.wy_round.proofs.Commas.{mark-reads, turns-end, tokens-behind, item-any, spaced, spaced-segment, item-spaced}
 use Rattle.wy_round.proofs.Commas as commas
-use Rattle.wy_round.proofs.Enclosed.{begins-letter, single-item, name_piece, name-item, name-text, name-reads, IsInside, inside-none, inside-item, parens, square, curly, enclosed, enclosed-segment, enclosed-closed, enclosed-item, enclosed-text, enclosed-tokens, inner-reads}
-use Rattle.wy_round.proofs.ExprShown.{View, view, shown_call, shown_list, shown_repeat, call_view, view_call, list_view, view_list, repeat_view, view_repeat}
-use Rattle.wy_round.proofs.ExprLines.{Postfix, Line, ReadsTo, Again, own-as, StandsBy, IsPart, part-by, From, whole-of, in-paren}
+use Rattle.wy_round.proofs.Enclosed.{name_piece, name-item, name-text, name-reads, IsInside, inside-none, inside-item, parens, square, enclosed, enclosed-segment, enclosed-closed, enclosed-item, enclosed-text, enclosed-tokens, inner-reads}
+use Rattle.wy_round.proofs.ExprShown.{view, shown_call, shown_list, shown_repeat, call_view, view_call, list_view, view_list, repeat_view, view_repeat}
+use Rattle.wy_round.proofs.ExprLines.{Postfix, ReadsTo, Again, StandsBy, IsPart, From, whole-of}
 use Rattle.wy_round.proofs.ExprUnary.{node-stands}
 
 -- ---- arguments

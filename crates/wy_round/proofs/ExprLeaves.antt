@@ -1,14 +1,13 @@
 -- Literals and variables are read again.
-use Rattle.std.proofs.Common.{◌≡◌, ℕ, zero, suc, ◌+◌, ◌≤◌, ◌==◌, ◌&&◌, Bool, true, false, cond, true≢false, nat_le, List, [], ◌∷◌, ◌++◌, codes, ◌⊎◌, inl, inr, refl, sym, ap, ◌∙◌, subst, arith, append-nil, ℤ, pos, negsuc}
+use Rattle.std.proofs.Common.{◌≡◌, ℕ, zero, suc, ◌+◌, ◌≤◌, ◌==◌, ◌&&◌, Bool, true, false, cond, true≢false, nat_le, List, [], ◌∷◌, ◌++◌, codes, inl, inr, refl, sym, ap, ◌∙◌, subst, arith, append-nil, pos, negsuc}
 use Rattle.std.specs.Prelude.{neg_ℤ}
-use Rattle.std.specs.Bool.{⊤}
 use Rattle.std.specs.Fmt.{decimal, signed_decimal}
 use Rattle.std.specs.Str.{encode_utf8_all}
 use lib.Utf8.{encode}
 use Rattle.wy_data.specs.Words.{IsName}
 use Rattle.wy_data.proofs.WordLemmas.{is_start-ascii}
-use Rattle.wy_reading.specs.Rule.{among, Turns}
-use Rattle.wy_reading.specs.Rule.Turns.{stop, more}
+use Rattle.wy_reading.specs.Rule.{among}
+use Rattle.wy_reading.specs.Rule.Turns.{stop}
 use Rattle.wy_ast.specs.SurfaceTree as tree
 use Rattle.wy_ast.specs.declared.expressions.Expr.{Expr}
 use Rattle.wy_ast.specs.declared.expressions.ExprKind.{ExprKind}
@@ -16,34 +15,30 @@ use Rattle.wy_ast.specs.declared.expressions.ExprKind.TheVariants as e
 use Rattle.wy_lex.specs.declared.token.Token.{Token}
 use Rattle.wy_lex.specs.declared.token.TokenKind.{TokenKind}
 use Rattle.wy_lex.specs.declared.token.TokenKind.TheVariants as k
-use Rattle.wy_lex.specs.declared.symbol.Character.{Character}
 use Rattle.wy_lex.specs.declared.symbol.Character.TheVariants as class
-use Rattle.wy_lex.specs.Symbols.{is_digit}
 use Rattle.wy_lex.specs.Kinds.{greatest}
 use Rattle.wy_lex.specs.Layout.{token}
 use Rattle.wy_lex.specs.Lists.{IsProper, AllText}
 use Rattle.wy_print.specs.Pieces.{quoted, all_escaped}
 use Rattle.wy_print.specs.ExprText.{Shown, shown, plain}
-use Rattle.wy_grammar.specs.declared.fault.Kind.TheVariants.{Deep}
 use Rattle.wy_grammar.specs.declared.measured.Measured.TheVariants.{Low}
 use Rattle.wy_grammar.specs.declared.sort.Class.TheVariants as kinds
 use Rattle.wy_grammar.specs.Sorts as t
 use Rattle.wy_grammar.specs.Sorts.{is, has, sort, numeral_sort}
-use Rattle.wy_grammar.specs.Steps.{R}
 use Rattle.wy_grammar.specs.Trees.{leaf}
-use Rattle.wy_grammar.specs.ExprGrammar.{E, literal_kind, Literal, touches, opposite, Glued, Unary, Expr_}
+use Rattle.wy_grammar.specs.ExprGrammar.{literal_kind, Literal, touches, opposite, Glued}
 use Rattle.wy_round.specs.Bare.{bare_expr}
 use Rattle.wy_round.proofs.Pieces.{Piece, tokens_from, size, IsMark}
-use Rattle.wy_round.proofs.Pieces.Piece.{gap, mark}
+use Rattle.wy_round.proofs.Pieces.Piece.{mark}
 use Rattle.wy_round.proofs.Marks.{numeral-mark, text-mark, Writes, decimal_writes, decimal-code, text-code}
-use Rattle.wy_round.proofs.Segments.{text_of, Item, IsClosed, After, begins_item, no_item-ascii}
-use Rattle.wy_round.proofs.Heights.{OfExpr, expr_node-low, same_part, same_height}
+use Rattle.wy_round.proofs.Segments.{text_of, Item, no_item-ascii}
+use Rattle.wy_round.proofs.Heights.{expr_node-low, same_part, same_height}
 use Rattle.wy_round.proofs.Marked.{null-mark, true-mark, false-mark, minus-mark}
-use Rattle.wy_round.proofs.Gives.{Gives, gives-one, gives-pure, gives-then, numeral-among}
+use Rattle.wy_round.proofs.Gives.{Gives, gives-one, gives-pure, gives-then}
 use Rattle.wy_round.proofs.Commas.{mark-reads}
 use Rattle.wy_round.proofs.Enclosed.{begins-sign, begins-letter, begins-digit, single-item, prefix-item, name_piece, name-item, name-text, name-reads}
 use Rattle.wy_round.proofs.ExprShown.{shown_null, bare_null, shown_bool, bare_bool, shown_int, bare_int, shown_text, bare_text, shown_var, viewed, view_int, view_var}
-use Rattle.wy_round.proofs.ExprLines.{Postfix, Line, ReadsTo, Again, Own, own-as, StandsBy, IsPart, From}
+use Rattle.wy_round.proofs.ExprLines.{Postfix, Line, ReadsTo, Again, own-as, StandsBy, IsPart, From}
 
 -- ---- leaves in general
 

@@ -1,12 +1,11 @@
 -- The lines of the grammar of expressions, by the levels of the printer; and expressions that are read again from their text.
-use Rattle.std.proofs.Common.{◌≡◌, ℕ, zero, suc, ◌+◌, ◌≤◌, Bool, true, false, List, [], ◌∷◌, ◌++◌, ◌⊎◌, inl, inr, refl, sym, ap, ◌∙◌, subst, arith}
-use Rattle.wy_reading.specs.Rule.{Rule, Pure, Then, Or, Loop, Refused, Turns}
+use Rattle.std.proofs.Common.{◌≡◌, ℕ, zero, suc, ◌+◌, ◌≤◌, Bool, true, false, List, [], ◌∷◌, ◌++◌, ◌⊎◌, inl, inr, refl, sym, subst, arith}
+use Rattle.wy_reading.specs.Rule.{Then, Or, Loop, Refused, Turns}
 use Rattle.wy_reading.specs.Rule.Turns.{stop, more}
 use Rattle.wy_ast.specs.declared.expressions.Expr.{Expr}
 use Rattle.wy_ast.specs.declared.expressions.ExprKind.TheVariants as e
 use Rattle.wy_lex.specs.declared.token.Token.{Token}
 use Rattle.wy_lex.specs.declared.token.TokenKind.TheVariants as k
-use Rattle.wy_lex.specs.declared.symbol.Character.TheVariants as class
 use Rattle.wy_lex.specs.Layout.{token}
 use Rattle.wy_print.specs.ExprText.{Shown, bracketed, shown}
 use Rattle.wy_grammar.specs.declared.fault.Kind.TheVariants.{Deep}
@@ -14,10 +13,10 @@ use Rattle.wy_grammar.specs.declared.measured.Measured.TheVariants.{Low}
 use Rattle.wy_grammar.specs.Sorts as t
 use Rattle.wy_grammar.specs.Steps.{R, Mark}
 use Rattle.wy_grammar.specs.Trees.{leaf}
-use Rattle.wy_grammar.specs.ExprGrammar.{E, Glued, Product, Sum, Comparison, Connected, Chain, Logic, ExprOf, Primary, Step, Steps, UnaryOf, level, Unary, Expr_}
+use Rattle.wy_grammar.specs.ExprGrammar.{E, Glued, Product, Sum, Comparison, Connected, Logic, Primary, Steps, level, Unary, Expr_}
 use Rattle.wy_round.proofs.Pieces.{Piece, letters, size, tokens_from}
 use Rattle.wy_round.proofs.Segments.{text_of, Item}
-use Rattle.wy_round.proofs.Commas.{mark-reads, turns-end, item-any}
+use Rattle.wy_round.proofs.Commas.{mark-reads, item-any}
 use Rattle.wy_round.proofs.ExprShown.{view}
 use Rattle.wy_round.proofs.Enclosed.{inside-item, parens, enclosed, enclosed-item, enclosed-text, enclosed-tokens}
 

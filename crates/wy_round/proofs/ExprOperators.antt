@@ -1,17 +1,12 @@
 -- Operators of two operands: what was read of them is read again.
-use Rattle.std.proofs.Common.{◌≡◌, ℕ, zero, suc, ◌+◌, ◌≤◌, ◌==◌, ◌&&◌, ◌||◌, Bool, true, false, cond, true≢false, nat_lt, max, List, [], ◌∷◌, ◌++◌, codes, ◌⊎◌, inl, inr, refl, sym, ap, ap₂, ◌∙◌, subst, arith}
-use Rattle.std.specs.Bool.{⊤}
-use Rattle.std.specs.Str.{encode_utf8_all}
+use Rattle.std.proofs.Common.{◌≡◌, ℕ, zero, suc, ◌+◌, ◌≤◌, ◌==◌, ◌&&◌, ◌||◌, Bool, true, false, true≢false, nat_lt, max, List, [], ◌∷◌, ◌++◌, codes, inl, inr, refl, sym, ap, ap₂, ◌∙◌, subst, arith}
 use lib.Utf8.{encode}
 use Rattle.wy_data.proofs.WordLemmas.{is_part-ascii}
-use Rattle.wy_reading.specs.Rule.{heads, among, Refused, Turns}
-use Rattle.wy_reading.specs.Rule.Turns.{stop, more}
-use Rattle.wy_ast.specs.SurfaceTree as tree
+use Rattle.wy_reading.specs.Rule.{heads, among, Refused}
 use Rattle.wy_ast.specs.declared.types.Ty.{Ty}
 use Rattle.wy_ast.specs.declared.expressions.Op.{Op}
 use Rattle.wy_ast.specs.declared.expressions.Op.TheVariants as op
 use Rattle.wy_ast.specs.declared.expressions.Expr.{Expr}
-use Rattle.wy_ast.specs.declared.expressions.ExprKind.{ExprKind}
 use Rattle.wy_ast.specs.declared.expressions.ExprKind.TheVariants as e
 use Rattle.wy_lex.specs.declared.token.Token.{Token}
 use Rattle.wy_lex.specs.declared.token.TokenKind.{TokenKind}
@@ -24,28 +19,26 @@ use Rattle.wy_print.specs.Levels.{level_of, lowest_left, lowest_right, is_or, ne
 use Rattle.wy_print.specs.TypeText.{ty_text}
 use Rattle.wy_print.specs.ExprText.{Shown, bracketed, shown, part, left_part, right_part, spaced, combined, continued}
 use Rattle.wy_grammar.specs.declared.fault.Kind.TheVariants.{Deep}
-use Rattle.wy_grammar.specs.declared.measured.Measured.{Measured}
 use Rattle.wy_grammar.specs.declared.measured.Measured.TheVariants.{Low}
 use Rattle.wy_grammar.specs.declared.sort.Class.{Class}
 use Rattle.wy_grammar.specs.declared.sort.Class.TheVariants as kinds
 use Rattle.wy_grammar.specs.Sorts as t
 use Rattle.wy_grammar.specs.Sorts.{is, has, sort}
-use Rattle.wy_grammar.specs.Steps.{R, Mark, Operator, op_of}
+use Rattle.wy_grammar.specs.Steps.{R, Operator, op_of}
 use Rattle.wy_grammar.specs.Trees.{highest, both, made, binary, is_expr}
 use Rattle.wy_grammar.specs.TypeGrammar.{T, Type_}
 use Rattle.wy_grammar.specs.ExprGrammar.{E, Factor, Product, Summand, Sum, Compared, Comparison, Connected, joint, Chain, Mix, Logic, ExprOf, Unary, Expr_}
-use Rattle.wy_round.specs.Bare.{bare_ty, bare_expr}
-use Rattle.wy_round.proofs.Pieces.{Piece, letters, size, tokens_from, depth_behind, grows, IsMark}
+use Rattle.wy_round.proofs.Pieces.{Piece, letters, size, tokens_from, grows, IsMark}
 use Rattle.wy_round.proofs.Pieces.Piece.{gap, mark}
 use Rattle.wy_round.proofs.Marks.{single-mark, double-mark, implies-mark, slash-mark}
 use Rattle.wy_round.proofs.Segments.{text_of, text-both, Segment, joined, IsClosed, closed-append, Before, After, after-item, before-blank, leads-append, Item}
-use Rattle.wy_round.proofs.Heights.{OfExpr, expr_node-low, expr_node-is, Made, made-low, Both, both-low}
+use Rattle.wy_round.proofs.Heights.{expr_node-low, expr_node-is, made-low, both-low}
 use Rattle.wy_round.proofs.Marked.{is-mark}
-use Rattle.wy_round.proofs.Gives.{Gives, gives-pure, gives-one, gives-then, gives-or, gives-loop, gives-fenced, gives-less, Anything, gives-mark, numeral-among}
+use Rattle.wy_round.proofs.Gives.{Gives, gives-pure, gives-one, gives-then, gives-or, gives-loop, gives-fenced, gives-mark, numeral-among}
 use Rattle.wy_round.proofs.Commas.{mark-reads, turns-end, tokens-behind}
 use Rattle.wy_round.proofs.TypeRound as types
 use Rattle.wy_round.proofs.ExprShown.{shown_binary, shown_is, binary_view, view_binary, is_view, view_is}
-use Rattle.wy_round.proofs.ExprLines.{ChainOf, Postfix, LogicIn, Line, lifted, to_and, to_or, to_logic, to_expr, ReadsTo, Again, own-as, again-by, StandsBy, IsPart, part-by, From, LeftOfOr, part-of, whole-of}
+use Rattle.wy_round.proofs.ExprLines.{LogicIn, Line, lifted, to_and, to_or, to_logic, to_expr, ReadsTo, Again, own-as, StandsBy, IsPart, part-by, From, LeftOfOr, part-of}
 
 -- ---- how operators are written
 

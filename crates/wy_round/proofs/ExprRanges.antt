@@ -1,37 +1,30 @@
 -- Records and quantifiers are read again.
-use Rattle.std.proofs.Common.{◌≡◌, ℕ, zero, suc, ◌+◌, ◌≤◌, ◌==◌, Bool, true, false, true≢false, nat_lt, max, List, [], ◌∷◌, ◌++◌, map, codes, ◌⊎◌, inl, inr, refl, sym, ap, ap₂, ◌∙◌, subst, arith, append_assoc, append-nil}
-use Rattle.std.specs.Bool.{⊤}
-use Rattle.std.specs.Str.{chars, encode_utf8_all}
+use Rattle.std.proofs.Common.{◌≡◌, ℕ, zero, suc, ◌+◌, ◌≤◌, Bool, true, false, nat_lt, max, List, [], ◌∷◌, ◌++◌, map, codes, ◌⊎◌, inl, inr, refl, sym, ap, ap₂, ◌∙◌, subst, arith, append_assoc}
+use Rattle.std.specs.Str.{chars}
 use lib.Utf8.{encode}
 use Rattle.wy_data.specs.Words.{IsName}
-use Rattle.wy_data.proofs.WordLemmas.{is_start-ascii, is_part-ascii}
-use Rattle.wy_reading.specs.Rule.{among, Then, Loop, Turns}
-use Rattle.wy_reading.specs.Rule.Turns.{stop, more}
-use Rattle.wy_ast.specs.SurfaceTree as tree
+use Rattle.wy_data.proofs.WordLemmas.{is_part-ascii}
+use Rattle.wy_reading.specs.Rule.Turns.{stop}
 use Rattle.wy_ast.specs.declared.expressions.Expr.{Expr}
 use Rattle.wy_ast.specs.declared.expressions.ExprKind.TheVariants as e
 use Rattle.wy_lex.specs.declared.token.Token.{Token}
 use Rattle.wy_lex.specs.declared.token.TokenKind.{TokenKind}
 use Rattle.wy_lex.specs.declared.token.TokenKind.TheVariants as k
-use Rattle.wy_lex.specs.declared.symbol.Character.{Character}
 use Rattle.wy_lex.specs.declared.symbol.Character.TheVariants as class
 use Rattle.wy_lex.specs.Layout.{token}
 use Rattle.wy_print.specs.Pieces.{listed, quantifier_word}
-use Rattle.wy_print.specs.ExprText.{Shown, shown, plain, part, field_text, range_text, range_line, quantified}
-use Rattle.wy_grammar.specs.declared.measured.Measured.{Measured}
+use Rattle.wy_print.specs.ExprText.{shown, plain, part, field_text, range_text, range_line, quantified}
 use Rattle.wy_grammar.specs.declared.measured.Measured.TheVariants.{Low}
-use Rattle.wy_grammar.specs.declared.sort.Class.TheVariants as kinds
 use Rattle.wy_grammar.specs.Sorts as t
 use Rattle.wy_grammar.specs.Sorts.{is, has, sort}
-use Rattle.wy_grammar.specs.Steps.{R, Mark, Inner, Name, InnerName}
-use Rattle.wy_grammar.specs.Trees.{highest, both, made, pushed, named, none, fields, range, quant}
-use Rattle.wy_grammar.specs.ExprGrammar.{E, Fields, Ranges, is_all, Quantifier, Sum, Field, FieldList, Range, RangeList, Unary, Expr_}
-use Rattle.wy_round.proofs.Pieces.{Piece, letters, size, tokens_from, grows, IsMark}
+use Rattle.wy_grammar.specs.Steps.{R, InnerName}
+use Rattle.wy_grammar.specs.Trees.{highest, both, made, pushed, named, fields, range, quant}
+use Rattle.wy_grammar.specs.ExprGrammar.{E, Fields, Ranges, Quantifier, Field, FieldList, Range, Unary, Expr_}
+use Rattle.wy_round.proofs.Pieces.{Piece, letters, size, tokens_from, grows}
 use Rattle.wy_round.proofs.Pieces.Piece.{gap, mark}
-use Rattle.wy_round.proofs.Segments.{text_of, text-both, Segment, joined, IsClosed, closed-append, closed-around, Before, After, after-item, before-nothing, before-blank, leads-append, Item}
-use Rattle.wy_round.proofs.Heights.{OfExpr, expr_node-low, expr_node-is, Made, made-low, Both, both-low}
-use Rattle.wy_round.proofs.Marked.{in-mark, all-mark, some-mark, range-mark, colon-mark, bar-mark, open_brace-mark, close_brace-mark}
-use Rattle.wy_round.proofs.Gives.{Gives, gives-pure, gives-one, gives-then, numeral-among}
+use Rattle.wy_round.proofs.Segments.{text_of, text-both, Segment, joined, closed-append, Before, After, after-item, before-nothing, before-blank, leads-append, Item}
+use Rattle.wy_round.proofs.Heights.{expr_node-low, expr_node-is, made-low, both-low}
+use Rattle.wy_round.proofs.Marked.{in-mark, all-mark, some-mark, range-mark, colon-mark, bar-mark}
 use Rattle.wy_round.proofs.Commas.{mark-reads, tokens-behind, item-any, spaced, spaced-segment, item-spaced}
 use Rattle.wy_round.proofs.Commas as commas
 use Rattle.wy_round.proofs.Enclosed.{begins-letter, single-item, name_piece, name-item, name-text, name-reads, IsInside, inside-none, inside-item, curly, enclosed, enclosed-item, enclosed-text, enclosed-tokens, inner-reads}

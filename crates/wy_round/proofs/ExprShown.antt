@@ -1,12 +1,12 @@
 -- What is shown of each expression, and what it is places aside.
-use Rattle.std.proofs.Common.{◌≡◌, ℕ, ℤ, Bool, true, false, List, [], ◌∷◌, ◌++◌, map, codes, refl, sym, ap, ap₂, ◌∙◌, rules}
+use Rattle.std.proofs.Common.{◌≡◌, ℕ, ℤ, Bool, List, ◌++◌, map, codes, sym, ap, ap₂, ◌∙◌, rules}
 use Rattle.std.specs.Fmt.{signed_decimal}
 use Rattle.wy_ast.specs.SurfaceTree as tree
 use Rattle.wy_ast.specs.declared.types.Ty.{Ty}
 use Rattle.wy_ast.specs.declared.expressions.Op.{Op}
 use Rattle.wy_ast.specs.declared.expressions.Expr.{Expr, the_lemmas}
 use Rattle.wy_ast.specs.declared.expressions.ExprKind.TheVariants as e
-use Rattle.wy_print.specs.Pieces.{listed, quoted, truth_word, quantifier_word}
+use Rattle.wy_print.specs.Pieces.{listed, quoted, truth_word}
 use Rattle.wy_print.specs.TypeText.{ty_text}
 use Rattle.wy_print.specs.ExprText.{Shown, shown, plain, part, left_part, right_part, prefixed, measured, combined, continued, called, quantified, texts, field_text, range_line}
 use Rattle.wy_round.specs.Bare.{bare_ty, bare_expr}

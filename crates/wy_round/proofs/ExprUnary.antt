@@ -1,34 +1,28 @@
 -- What has one operand, and steps: `!`, `-`, lengths, indices and fields are read again.
-use Rattle.std.proofs.Common.{◌≡◌, ℕ, zero, suc, ◌+◌, ◌≤◌, ◌==◌, ◌&&◌, Bool, true, false, true≢false, nat_lt, max, List, [], ◌∷◌, ◌++◌, codes, inl, inr, refl, sym, ap, ap₂, ◌∙◌, subst, arith, append_assoc}
-use Rattle.std.specs.Bool.{⊤}
-use Rattle.std.specs.Str.{chars, encode_utf8_all}
+use Rattle.std.proofs.Common.{◌≡◌, ℕ, zero, suc, ◌+◌, ◌≤◌, ◌==◌, ◌&&◌, Bool, true, false, true≢false, nat_lt, max, List, [], ◌∷◌, ◌++◌, codes, inl, inr, refl, sym, ap, ap₂, ◌∙◌, subst, arith}
 use lib.Utf8.{encode}
 use Rattle.wy_data.specs.Words.{IsName}
 use Rattle.wy_data.proofs.WordLemmas.{is_start-ascii, is_part-ascii}
-use Rattle.wy_reading.specs.Rule.{heads, among, Turns}
-use Rattle.wy_reading.specs.Rule.Turns.{stop, more}
-use Rattle.wy_ast.specs.SurfaceTree as tree
+use Rattle.wy_reading.specs.Rule.{heads, among}
+use Rattle.wy_reading.specs.Rule.Turns.{stop}
 use Rattle.wy_ast.specs.declared.expressions.Expr.{Expr}
 use Rattle.wy_ast.specs.declared.expressions.ExprKind.TheVariants as e
 use Rattle.wy_lex.specs.declared.token.Token.{Token}
-use Rattle.wy_lex.specs.declared.token.TokenKind.{TokenKind}
 use Rattle.wy_lex.specs.declared.token.TokenKind.TheVariants as k
 use Rattle.wy_lex.specs.declared.symbol.Character.{Character}
 use Rattle.wy_lex.specs.declared.symbol.Character.TheVariants as class
 use Rattle.wy_lex.specs.Layout.{token}
 use Rattle.wy_print.specs.Pieces.{space_if}
-use Rattle.wy_print.specs.ExprText.{Shown, bracketed, shown, part, prefixed, measured, continued}
+use Rattle.wy_print.specs.ExprText.{Shown, shown, part, prefixed, measured, continued}
 use Rattle.wy_grammar.specs.declared.measured.Measured.TheVariants.{Low}
 use Rattle.wy_grammar.specs.Sorts as t
 use Rattle.wy_grammar.specs.Sorts.{sort}
-use Rattle.wy_grammar.specs.Steps.{Name}
-use Rattle.wy_grammar.specs.Trees.{highest, both, made, expr_node, neg, not_expr, len, index, field}
+use Rattle.wy_grammar.specs.Trees.{highest, both, made, neg, not_expr, len, index, field}
 use Rattle.wy_grammar.specs.ExprGrammar.{E, touches, Step, Unary, Expr_}
-use Rattle.wy_round.specs.Bare.{bare_expr}
-use Rattle.wy_round.proofs.Pieces.{Piece, letters, size, tokens_from, grows, Linked}
+use Rattle.wy_round.proofs.Pieces.{Piece, letters, size, tokens_from, grows}
 use Rattle.wy_round.proofs.Pieces.Piece.{gap, mark}
-use Rattle.wy_round.proofs.Segments.{text_of, text-both, text-append, Segment, joined, behind_less, before_more, Just, IsClosed, closed-nil, closed-append, no_item-ascii, BeforeItem, Before, After, after-item, before-is, before-blank, Leads, leads-append, Item}
-use Rattle.wy_round.proofs.Heights.{OfExpr, expr_node-low, expr_node-is, Made, made-low, Both, both-low}
+use Rattle.wy_round.proofs.Segments.{text_of, text-both, Segment, joined, Just, IsClosed, closed-nil, closed-append, no_item-ascii, Before, After, after-item, before-is, before-blank, Leads, leads-append, Item}
+use Rattle.wy_round.proofs.Heights.{expr_node-low, expr_node-is, made-low, both-low}
 use Rattle.wy_round.proofs.Marked.{minus-mark, not-mark, bar-mark, dot-mark}
 use Rattle.wy_round.proofs.Commas.{mark-reads, turns-end, tokens-behind, item-any}
 use Rattle.wy_round.proofs.Enclosed.{begins-sign, prefix-item, name_piece, name-item, name-text, name-reads, inside-item, square, enclosed, enclosed-segment, enclosed-closed, enclosed-text, enclosed-tokens}

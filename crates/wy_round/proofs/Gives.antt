@@ -1,8 +1,7 @@
 -- What the rules of the grammar hand on where each token is proper: a calculus of a line a rule.
-use Rattle.std.proofs.Common.{◌≡◌, ℕ, zero, suc, ◌≤◌, arith, ◌==◌, Bool, true, false, cond, true≢false, nat_le, List, [], ◌∷◌, ◌⊎◌, inl, inr, refl, sym, ap, ◌∙◌, subst, ℤ, pos, negsuc}
-use Rattle.std.specs.Bool.{⊤}
+use Rattle.std.proofs.Common.{◌≡◌, ℕ, zero, suc, ◌≤◌, arith, ◌==◌, Bool, true, false, cond, true≢false, nat_le, List, ◌∷◌, inl, inr, refl, sym, ◌∙◌, subst, ℤ, pos, negsuc}
 use Rattle.wy_data.specs.Words.{IsName}
-use Rattle.wy_reading.specs.Rule.{Rule, heads, among, One, Pure, Then, Or, Loop, Refused, Unless, Fenced, Turns}
+use Rattle.wy_reading.specs.Rule.{among, One, Pure, Then, Or, Loop, Refused, Unless, Fenced}
 use Rattle.wy_lex.specs.declared.token.Token.{Token}
 use Rattle.wy_lex.specs.declared.token.TokenKind.{TokenKind}
 use Rattle.wy_lex.specs.declared.token.TokenKind.TheVariants as k

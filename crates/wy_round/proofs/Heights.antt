@@ -1,12 +1,12 @@
 -- What parts a tree that is low enough has.
-use Rattle.std.proofs.Common.{◌≡◌, ℕ, ◌+◌, Bool, true, false, cond, true≢false, nat_lt, max, List, [], ◌∷◌, ◌++◌, refl, sym, ap, ◌∙◌, subst}
+use Rattle.std.proofs.Common.{◌≡◌, ℕ, ◌+◌, Bool, true, false, cond, nat_lt, max, List, [], ◌∷◌, ◌++◌, refl, sym, ap, ◌∙◌, subst}
 use Rattle.wy_ast.specs.declared.types.Ty.{Ty}
 use Rattle.wy_ast.specs.declared.types.TyKind.{TyKind}
 use Rattle.wy_ast.specs.declared.expressions.Expr.{Expr}
 use Rattle.wy_ast.specs.declared.expressions.ExprKind.{ExprKind}
 use Rattle.wy_grammar.specs.declared.measured.Measured.{Measured}
 use Rattle.wy_grammar.specs.declared.measured.Measured.TheVariants.{Low, High}
-use Rattle.wy_grammar.specs.Trees.{highest, both, made, pushed, named, ty_node, expr_node}
+use Rattle.wy_grammar.specs.Trees.{highest, both, made, pushed, ty_node, expr_node}
 
 abbrev IsLow : {A : Type 0} → Measured A → Type 0
 IsLow (Low a h) = Unit {0}

@@ -1,17 +1,11 @@
 -- Each token as a piece.
-use Rattle.std.proofs.Common.{◌≡◌, ℕ, Bool, true, false, List, [], ◌∷◌, ◌++◌, codes, refl, ap, ◌∙◌, pos}
-use Rattle.std.specs.Fmt.{decimal}
-use Rattle.std.specs.Str.{chars}
-use Rattle.std.proofs.lemmas.Str.{encodes-chars}
+use Rattle.std.proofs.Common.{[], ◌∷◌, codes, refl}
 use lib.Utf8.{encode}
-use Rattle.wy_data.specs.Words.{IsName, keywords}
-use Rattle.wy_lex.specs.declared.token.TokenKind.{TokenKind}
 use Rattle.wy_lex.specs.declared.token.TokenKind.TheVariants as k
 use Rattle.wy_lex.specs.declared.symbol.Character.TheVariants as class
 use Rattle.wy_lex.specs.Kinds.{word_kind}
-use Rattle.wy_round.proofs.Pieces.{Piece, IsMark}
-use Rattle.wy_round.proofs.Pieces.Piece.{gap, mark}
-use Rattle.wy_round.proofs.Marks.{lower-mark, single-mark, double-mark, name-mark}
+use Rattle.wy_round.proofs.Pieces.{IsMark}
+use Rattle.wy_round.proofs.Marks.{lower-mark, single-mark, double-mark}
 
 -- ---- words
 

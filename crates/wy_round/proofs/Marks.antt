@@ -1,6 +1,5 @@
 -- How each token is written: words, numerals, strings and symbols are read as what they are.
-use Rattle.std.proofs.Common.{◌≡◌, ℕ, suc, ◌+◌, ◌-◌, ◌*◌, ◌/◌, ◌%◌, ◌<◌, ◌≤◌, ◌^◌, ◌==◌, Bool, true, false, not, cond, ◌&&◌, ◌||◌, nat_le, nat_lt, ltb-true, true≢false, List, [], ◌∷◌, ◌++◌, length, codes, slice_index_or, ◌⊎◌, inl, inr, refl, sym, ap, ap₂, ◌∙◌, subst, arith, eqb-true, append_assoc, append-nil, pos, Option, Some, None}
-use Rattle.std.specs.Bool.{⊤}
+use Rattle.std.proofs.Common.{◌≡◌, ℕ, suc, ◌+◌, ◌-◌, ◌*◌, ◌/◌, ◌%◌, ◌<◌, ◌≤◌, ◌^◌, ◌==◌, Bool, true, false, not, cond, ◌&&◌, ◌||◌, nat_le, nat_lt, ltb-true, true≢false, List, [], ◌∷◌, ◌++◌, length, codes, slice_index_or, inl, inr, refl, sym, ap, ap₂, ◌∙◌, subst, arith, eqb-true, append_assoc, append-nil, pos, Some}
 use Rattle.std.specs.Char.{is_ascii_alphabetic, is_ascii_alphanumeric, encode_utf8}
 use Rattle.std.specs.Fmt.{decimal}
 use Rattle.std.specs.Str.{encode_utf8_all, all_scalars, chars, bytes_eq}
@@ -10,14 +9,13 @@ use Rattle.std.proofs.lemmas.Bool.{leb-true}
 use lib.Utf8.{scalar, encode}
 use Rattle.wy_data.specs.Words.{is_start, is_part, is_word, all_parts, is_keyword, keywords, among, IsName}
 use Rattle.wy_data.proofs.WordLemmas.{is_start-ascii, is_part-ascii}
-use Rattle.wy_reading.specs.Rule.{Rule, heads, Pure, Then, Or, Word, Turns}
+use Rattle.wy_reading.specs.Rule.{Rule, Pure, Then, Or, Word, Turns}
 use Rattle.wy_reading.specs.Rule.Turns.{stop, more}
 use Rattle.wy_reading.proofs.Words.{IsWordOf, AllPass, word-of}
 use Rattle.wy_lex.specs.declared.fault.Kind.{Kind}
 use Rattle.wy_lex.specs.declared.token.TokenKind.{TokenKind}
 use Rattle.wy_lex.specs.declared.token.TokenKind.TheVariants as k
 use Rattle.wy_lex.specs.declared.symbol.Symbol.{Symbol}
-use Rattle.wy_lex.specs.declared.symbol.Character.{Character}
 use Rattle.wy_lex.specs.declared.symbol.Character.TheVariants as class
 use Rattle.wy_lex.specs.declared.lexeme.Lexeme.{Lexeme}
 use Rattle.wy_lex.specs.declared.comment.Solidus.TheVariants as solidus

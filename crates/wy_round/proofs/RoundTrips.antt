@@ -1,11 +1,9 @@
 -- Types and expressions that were read are read again from their texts.
-use Rattle.std.proofs.Common.{◌≡◌, ℕ, Bool, true, false, true≢false, List, [], ◌∷◌, ◌++◌, length, refl, sym, ap, subst, arith}
+use Rattle.std.proofs.Common.{◌≡◌, ℕ, Bool, true, false, List, refl, ap, subst, arith}
 use Rattle.wy_ast.specs.declared.types.Ty.{Ty}
 use Rattle.wy_ast.specs.declared.expressions.Expr.{Expr}
 use Rattle.wy_lex.specs.declared.token.Token.{Token}
-use Rattle.wy_lex.specs.declared.token.TokenKind.TheVariants as k
 use Rattle.wy_lex.specs.declared.symbol.Character.TheVariants as class
-use Rattle.wy_lex.specs.Layout.{token}
 use Rattle.wy_lex.specs.Lists.{Each, IsProper}
 use Rattle.wy_print.specs.TypeText.{ty_text}
 use Rattle.wy_print.specs.ExprText.{shown, expr_text}

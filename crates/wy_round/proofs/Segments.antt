@@ -1,20 +1,17 @@
 -- Pieces that are put together: what may stand before them, and what may stand behind.
-use Rattle.std.proofs.Common.{◌≡◌, ℕ, ◌+◌, ◌-◌, ◌==◌, Bool, true, false, cond, ◌&&◌, ◌||◌, true≢false, List, [], ◌∷◌, ◌++◌, length, ◌⊎◌, inl, inr, refl, sym, ap, ap₂, ◌∙◌, subst, arith, eqb-true}
+use Rattle.std.proofs.Common.{◌≡◌, ℕ, ◌+◌, ◌-◌, ◌==◌, Bool, true, false, ◌||◌, true≢false, List, [], ◌∷◌, ◌++◌, refl, sym, ap, ap₂, ◌∙◌, subst, arith, eqb-true}
 use Rattle.std.specs.Bool.{⊤}
 use Rattle.std.specs.Str.{encode_utf8_all}
 use Rattle.std.proofs.lemmas.Str.{encodes-append}
 use Rattle.wy_data.specs.Words.{is_start, is_part}
-use Rattle.wy_data.proofs.WordLemmas.{is_start-ascii, is_part-ascii}
-use Rattle.wy_reading.specs.Rule.{heads, among}
-use Rattle.wy_lex.specs.declared.token.Token.{Token}
+use Rattle.wy_data.proofs.WordLemmas.{is_start-ascii}
+use Rattle.wy_reading.specs.Rule.{among}
 use Rattle.wy_lex.specs.declared.token.TokenKind.{TokenKind}
-use Rattle.wy_lex.specs.declared.token.TokenKind.TheVariants as k
 use Rattle.wy_lex.specs.declared.symbol.Character.{Character}
 use Rattle.wy_lex.specs.declared.symbol.Character.TheVariants as class
-use Rattle.wy_lex.specs.Symbols.{has, is_digit}
+use Rattle.wy_lex.specs.Symbols.{is_digit}
 use Rattle.wy_lex.specs.Kinds.{depth_after}
-use Rattle.wy_lex.specs.Layout.{token}
-use Rattle.wy_round.proofs.Pieces.{Piece, letters, tokens_from, depth_behind, last_more, grows, letters-append, depth-append, more-append, IsMark, Linked, linked-append}
+use Rattle.wy_round.proofs.Pieces.{Piece, letters, depth_behind, last_more, grows, letters-append, depth-append, more-append, Linked, linked-append}
 use Rattle.wy_round.proofs.Pieces.Piece.{gap, mark}
 
 -- ---- texts

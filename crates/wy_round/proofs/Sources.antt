@@ -1,7 +1,7 @@
 -- Pieces as the whole of a source: a single line.
-use Rattle.std.proofs.Common.{◌≡◌, ℕ, suc, ◌+◌, ◌-◌, ◌==◌, Bool, true, false, cond, not, ◌&&◌, ◌||◌, true≢false, List, [], ◌∷◌, ◌++◌, length, inl, inr, refl, sym, ap, ◌∙◌, subst, arith, append-nil, append_assoc}
+use Rattle.std.proofs.Common.{◌≡◌, ℕ, ◌+◌, ◌==◌, Bool, true, false, cond, not, ◌&&◌, true≢false, List, [], ◌∷◌, ◌++◌, length, refl, sym, ap, ◌∙◌, subst, append-nil, append_assoc}
 use Rattle.std.specs.Char.{encode_utf8}
-use Rattle.std.specs.Str.{IsUtf8, encode_utf8_all, all_scalars, chars}
+use Rattle.std.specs.Str.{IsUtf8, encode_utf8_all, all_scalars}
 use Rattle.std.proofs.lemmas.Str.{chars-encodes}
 use lib.Utf8.{scalar}
 use Rattle.wy_reading.specs.Rule.{heads, Turns}
@@ -19,7 +19,7 @@ use Rattle.wy_lex.specs.Kinds.{depth_after, continues, is_colon}
 use Rattle.wy_lex.specs.Layout.{token, first_state, begun, added, placed, finished}
 use Rattle.wy_lex.specs.Grammar.{lengthens, Next}
 use Rattle.wy_lex.specs.Source.{Tokens}
-use Rattle.wy_round.proofs.Pieces.{Piece, letters, size, tokens_from, depth_behind, colon_behind, last_more, plain_from, plain-append, is_clean, all_clean, IsMark, Linked, leads, heads-first, within, runs}
+use Rattle.wy_round.proofs.Pieces.{Piece, letters, size, tokens_from, depth_behind, colon_behind, last_more, plain_from, plain-append, is_clean, all_clean, Linked, leads, heads-first, within, runs}
 use Rattle.wy_round.proofs.Pieces.Piece.{gap, mark}
 use Rattle.wy_round.proofs.Segments.{text_of, Leads}
 

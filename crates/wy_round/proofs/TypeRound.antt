@@ -1,14 +1,11 @@
 -- Types: one that was read is read again from its text, on as many levels, and has the same height.
-use Rattle.std.proofs.Common.{◌≡◌, ℕ, zero, suc, ◌+◌, ◌≤◌, ◌<◌, Bool, true, false, cond, ◌==◌, ◌&&◌, ◌||◌, true≢false, nat_lt, max, List, [], ◌∷◌, ◌++◌, map, codes, length, ◌⊎◌, inl, inr, refl, sym, ap, ap₂, ◌∙◌, subst, arith, append_assoc, append-nil, rules}
-use Rattle.std.specs.Bool.{⊤}
-use Rattle.std.specs.Char.{is_ascii_alphabetic}
-use Rattle.std.specs.Str.{chars, encode_utf8_all}
-use Rattle.std.proofs.lemmas.Str.{encodes-chars}
+use Rattle.std.proofs.Common.{◌≡◌, ℕ, zero, suc, ◌+◌, ◌≤◌, Bool, true, false, true≢false, nat_lt, max, List, [], ◌∷◌, ◌++◌, map, codes, ◌⊎◌, inl, inr, refl, sym, ap, ap₂, ◌∙◌, subst, arith, append-nil, rules}
+use Rattle.std.specs.Str.{encode_utf8_all}
 use lib.Utf8.{encode}
-use Rattle.wy_data.specs.Words.{IsName, is_start, is_part, is_word, all_parts}
+use Rattle.wy_data.specs.Words.{IsName, is_part}
 use Rattle.wy_data.proofs.WordLemmas.{is_start-ascii, is_part-ascii}
-use Rattle.wy_reading.specs.Rule.{Rule, heads, among, One, Pure, Then, Or, Loop, Turns}
-use Rattle.wy_reading.specs.Rule.Turns.{stop, more}
+use Rattle.wy_reading.specs.Rule.{among}
+use Rattle.wy_reading.specs.Rule.Turns.{stop}
 use Rattle.wy_ast.specs.SurfaceTree as tree
 use Rattle.wy_ast.specs.declared.types.Ty.{Ty, the_lemmas}
 use Rattle.wy_ast.specs.declared.types.TyKind.{TyKind}
@@ -16,30 +13,25 @@ use Rattle.wy_ast.specs.declared.types.TyKind.TheVariants as ty
 use Rattle.wy_lex.specs.declared.token.Token.{Token}
 use Rattle.wy_lex.specs.declared.token.TokenKind.{TokenKind}
 use Rattle.wy_lex.specs.declared.token.TokenKind.TheVariants as k
-use Rattle.wy_lex.specs.declared.symbol.Character.{Character}
 use Rattle.wy_lex.specs.declared.symbol.Character.TheVariants as class
-use Rattle.wy_lex.specs.Symbols.{is_digit}
 use Rattle.wy_lex.specs.Layout.{token}
-use Rattle.wy_lex.specs.Lists.{IsProper}
 use Rattle.wy_print.specs.Pieces.{listed}
 use Rattle.wy_print.specs.TypeText.{ShownTy, bracketed, part, typed, field_texts, shown_ty, ty_text}
 use Rattle.wy_grammar.specs.declared.fault.Kind.TheVariants.{Deep}
-use Rattle.wy_grammar.specs.declared.measured.Measured.{Measured}
-use Rattle.wy_grammar.specs.declared.measured.Measured.TheVariants.{Low, High}
+use Rattle.wy_grammar.specs.declared.measured.Measured.TheVariants.{Low}
 use Rattle.wy_grammar.specs.declared.sort.Class.TheVariants as kinds
 use Rattle.wy_grammar.specs.Sorts as t
 use Rattle.wy_grammar.specs.Sorts.{is, has, sort}
-use Rattle.wy_grammar.specs.Steps.{R, Mark, Inner, Name, inside}
+use Rattle.wy_grammar.specs.Steps.{R, inside}
 use Rattle.wy_grammar.specs.Trees.{highest, both, made, pushed, named, none, ty_node, named_ty, array_ty, not_ty, union_ty, inter_ty, record_ty}
-use Rattle.wy_grammar.specs.TypeGrammar.{T, Fields, base_kind, Base, Brackets, Suffixes, Suffix, AndSuffix, Inters, Inter, OrInter, Unions, Union, Tail, Rest, Field, NextField, FieldList, TightOf, Tight, Type_, TypeRest, TypeTail}
+use Rattle.wy_grammar.specs.TypeGrammar.{T, Fields, base_kind, Base, Brackets, Suffixes, Suffix, AndSuffix, Inters, Inter, OrInter, Unions, Union, Field, NextField, FieldList, TightOf, Tight, Type_, TypeRest, TypeTail}
 use Rattle.wy_round.specs.Bare.{bare_ty}
-use Rattle.wy_round.proofs.Pieces.{Piece, letters, size, tokens_from, depth_behind, last_more, grows, IsMark, Linked}
+use Rattle.wy_round.proofs.Pieces.{Piece, letters, size, tokens_from, IsMark}
 use Rattle.wy_round.proofs.Pieces.Piece.{gap, mark}
-use Rattle.wy_round.proofs.Marks.{name-mark}
-use Rattle.wy_round.proofs.Segments.{text_of, text-both, Segment, joined, behind_less, before_more, IsClosed, closed-nil, closed-append, closed-around, begins_item, no_item-ascii, BeforeItem, Before, After, after-item, before-nothing, before-is, before-blank, Leads, leads-append, Item}
-use Rattle.wy_round.proofs.Heights.{OfTy, ty_node-low, ty_node-is, Made, made-low, Both, both-low, Pushed, pushed-low, same_part, same_height}
-use Rattle.wy_round.proofs.Marked.{null-mark, bool-mark, int-mark, any-mark, void-mark, open_paren-mark, close_paren-mark, open_bracket-mark, close_bracket-mark, open_brace-mark, close_brace-mark, not-mark, ampersand-mark, bar-mark}
-use Rattle.wy_round.proofs.Gives.{Proper, Gives, gives-pure, gives-one, gives-then, gives-or, gives-loop, gives-refused, gives-less, Anything, gives-mark, gives-inner, gives-name, numeral-among}
+use Rattle.wy_round.proofs.Segments.{text_of, text-both, Segment, joined, IsClosed, closed-append, begins_item, no_item-ascii, Before, After, after-item, before-is, before-blank, leads-append, Item}
+use Rattle.wy_round.proofs.Heights.{ty_node-low, ty_node-is, made-low, both-low, same_part, same_height}
+use Rattle.wy_round.proofs.Marked.{null-mark, bool-mark, int-mark, any-mark, void-mark, open_bracket-mark, close_bracket-mark, not-mark, ampersand-mark, bar-mark}
+use Rattle.wy_round.proofs.Gives.{Gives, gives-pure, gives-one, gives-then, gives-or, gives-loop, gives-refused, gives-less, gives-mark, gives-inner, gives-name, numeral-among}
 use Rattle.wy_round.proofs.Commas.{mark-reads, turns-end, tokens-behind, item-any, comma}
 use Rattle.wy_round.proofs.Commas as commas
 use Rattle.wy_round.proofs.Enclosed.{begins-sign, begins-letter, single-item, name_piece, name-item, name-text, name-reads, IsInside, inside-none, inside-item, parens, curly, enclosed, enclosed-item, enclosed-text, enclosed-tokens, inner-reads}
