@@ -16,8 +16,6 @@ mod flow;
 mod marks;
 mod program;
 mod statements;
-#[cfg(test)]
-mod tests;
 mod transfer;
 mod uses;
 

@@ -4,10 +4,10 @@
 //! and `@` take a variable, for `@` an index, and a value; `!` asserts, `r` returns, `k` breaks, `n`
 //! continues, `s` skips, `f` fails. `{` opens a block; `?` closes two blocks behind a test, `w` one
 //! behind a test, and `v` one behind an invariant and a test. The function stands at 3.
-use crate::{AssignFault, assigned};
 use sqlite_items::{Boxed, Items};
 use std::alloc::{AllocError, Global};
 use std::test::Fail;
+use wy_assign::{AssignFault, assigned};
 use wy_core::{
     Core, Decl, Expr, ExprKind, Op, Output, Param, Routine, Step, StepKind, Stmt, StmtKind, Ty,
     TyKind,
@@ -159,6 +159,13 @@ fn body(alloc: Global, text: &str) -> Result<Items<Stmt>, AllocError> {
     reader.block()
 }
 
+// The block with the statement behind it.
+fn with(block: Items<Stmt>, stmt: Stmt) -> Result<Items<Stmt>, AllocError> {
+    let mut block = block;
+    block.push(stmt)?;
+    Ok(block)
+}
+
 impl Reader {
     fn read(&mut self, alloc: Global, at: u32, code: u8) -> Result<(), AllocError> {
         match code {
@@ -217,10 +224,17 @@ impl Reader {
         }
     }
 
+    // The innermost block with one more statement.
     fn put(&mut self, at: u32, kind: StmtKind) -> Result<(), AllocError> {
-        let mut block = self.block()?;
-        block.push(Stmt { at, kind })?;
+        let block = self.extended(Stmt { at, kind })?;
         self.blocks.push(block)
+    }
+
+    fn extended(&mut self, stmt: Stmt) -> Result<Items<Stmt>, AllocError> {
+        match self.blocks.pop() {
+            None => Err(AllocError),
+            Some(block) => with(block, stmt),
+        }
     }
 
     fn binary(&mut self, alloc: Global, at: u32, op: Op) -> Result<(), AllocError> {
