@@ -6,6 +6,7 @@
 //! behind a test, and `v` one behind an invariant and a test. The function stands at 3.
 use sqlite_items::{Boxed, Items};
 use std::alloc::{AllocError, Global};
+use std::mem::replace;
 use std::test::Fail;
 use wy_assign::{AssignFault, assigned};
 use wy_core::{
@@ -138,32 +139,27 @@ fn output(returns: bool) -> Option<Output> {
     })
 }
 
-// What is read: expressions, and blocks of statements, the innermost last.
+// What is read: expressions, the innermost block, and the blocks around and before it, the next last.
 #[derive(Drop)]
 struct Reader {
     exprs: Items<Expr>,
-    blocks: Items<Items<Stmt>>,
+    block: Items<Stmt>,
+    outer: Items<Items<Stmt>>,
 }
 
 fn body(alloc: Global, text: &str) -> Result<Items<Stmt>, AllocError> {
     let mut reader = Reader {
         exprs: Items::new(alloc),
-        blocks: Items::new(alloc),
+        block: Items::new(alloc),
+        outer: Items::new(alloc),
     };
-    reader.blocks.push(Items::new(alloc))?;
+    reader.begin(alloc)?;
     let mut at = 0u32;
     for code in text.as_bytes() {
         reader.read(alloc, at, *code)?;
         at = at.wrapping_add(1);
     }
-    reader.block()
-}
-
-// The block with the statement behind it.
-fn with(block: Items<Stmt>, stmt: Stmt) -> Result<Items<Stmt>, AllocError> {
-    let mut block = block;
-    block.push(stmt)?;
-    Ok(block)
+    reader.end()
 }
 
 impl Reader {
@@ -175,7 +171,7 @@ impl Reader {
             b'&' => self.binary(alloc, at, Op::And),
             b'|' => self.binary(alloc, at, Op::Or),
             b'Q' => self.quantifier(alloc, at),
-            b'{' => self.blocks.push(Items::new(alloc)),
+            b'{' => self.begin(alloc),
             _ => self.statement(alloc, at, code),
         }
     }
@@ -217,24 +213,20 @@ impl Reader {
         }
     }
 
-    fn block(&mut self) -> Result<Items<Stmt>, AllocError> {
-        match self.blocks.pop() {
-            Some(block) => Ok(block),
+    fn begin(&mut self, alloc: Global) -> Result<(), AllocError> {
+        let block = replace(&mut self.block, Items::new(alloc));
+        self.outer.push(block)
+    }
+
+    fn end(&mut self) -> Result<Items<Stmt>, AllocError> {
+        match self.outer.pop() {
+            Some(outer) => Ok(replace(&mut self.block, outer)),
             None => Err(AllocError),
         }
     }
 
-    // The innermost block with one more statement.
     fn put(&mut self, at: u32, kind: StmtKind) -> Result<(), AllocError> {
-        let block = self.extended(Stmt { at, kind })?;
-        self.blocks.push(block)
-    }
-
-    fn extended(&mut self, stmt: Stmt) -> Result<Items<Stmt>, AllocError> {
-        match self.blocks.pop() {
-            None => Err(AllocError),
-            Some(block) => with(block, stmt),
-        }
+        self.block.push(Stmt { at, kind })
     }
 
     fn binary(&mut self, alloc: Global, at: u32, op: Op) -> Result<(), AllocError> {
@@ -285,20 +277,20 @@ impl Reader {
     }
 
     fn choice(&mut self, at: u32) -> Result<(), AllocError> {
-        let second = self.block()?;
-        let first = self.block()?;
+        let second = self.end()?;
+        let first = self.end()?;
         let test = self.expr()?;
         self.put(at, StmtKind::If(test, first, second))
     }
 
     fn repetition(&mut self, alloc: Global, at: u32) -> Result<(), AllocError> {
-        let body = self.block()?;
+        let body = self.end()?;
         let test = self.expr()?;
         self.put(at, StmtKind::While(test, Items::new(alloc), body))
     }
 
     fn invariant(&mut self, alloc: Global, at: u32) -> Result<(), AllocError> {
-        let body = self.block()?;
+        let body = self.end()?;
         let test = self.expr()?;
         let mut invariants = Items::new(alloc);
         invariants.push(self.expr()?)?;
