@@ -11,8 +11,6 @@ mod asking;
 mod normal_forms;
 mod norms;
 mod record_fields;
-#[cfg(test)]
-mod tests;
 
 pub use array_items::{element, element_in};
 pub use normal_forms::{normal, normal_in};

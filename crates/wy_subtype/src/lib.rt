@@ -14,8 +14,6 @@ mod inclusion;
 mod marks;
 mod questions;
 mod reach;
-#[cfg(test)]
-mod tests;
 mod valued;
 mod values;
 mod ways;
