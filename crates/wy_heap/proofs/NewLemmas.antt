@@ -1,14 +1,15 @@
 -- Nodes at keys that had none: as many as a larger map has more, and none of them goes with what was there before.
-use Rattle.std.proofs.Common.{◌≡◌, ◌⊎◌, inl, inr, ℕ, zero, suc, ◌+◌, ◌*◌, ◌≤◌, List, [], ◌∷◌, ◌++◌, drop, replicate, Option, Some, None, IsSome, refl, sym, ◌∙◌, ap, subst, arith}
+use Rattle.std.proofs.Common.{◌≡◌, ◌≢◌, ◌⊎◌, inl, inr, ℕ, zero, suc, ◌+◌, ◌*◌, ◌≤◌, List, [], ◌∷◌, ◌++◌, drop, replicate, Option, Some, None, IsSome, refl, sym, ◌∙◌, ap, subst, arith}
 use Rattle.std.proofs.lemmas.Bool.{cases_eq}
 use Rattle.wy_heap.specs.declared.part.Part.{Part}
 use Rattle.wy_heap.specs.declared.part.Part.TheVariants.{Key}
 use Rattle.wy_heap.specs.declared.heap.Heap.{Heap}
-use Rattle.wy_heap.specs.Nodes.{Form, Body, Map, map_of, at, holds, held, slot_holds, inner, size, count_at}
+use Rattle.wy_heap.specs.Nodes.{Form, list_form, Body, Map, map_of, at, holds, held, slot_holds, inner, size, count_at}
 use Rattle.wy_heap.specs.Standing.{Counts}
-use Rattle.wy_heap.specs.Changing.{More, Lasts, Upholds, Upheld, Builds, HasRoom}
+use Rattle.wy_heap.specs.Changing.{More, Lasts, Upholds, Upheld, Joins, Builds, HasRoom}
+use Rattle.wy_heap.specs.Making.{IsNew, CanHave}
 use Rattle.wy_heap.specs.Copying.{new_at, news, raised, CopiesBeside, CopiesNew}
-use Rattle.wy_heap.proofs.CountLemmas.{holds_one, holds_is, holds-le-one}
+use Rattle.wy_heap.proofs.CountLemmas.{holds_one, holds_is, holds-le-one, slot-le-inner}
 use Rattle.wy_heap.proofs.ChangeLemmas.{some_or_none, not_there}
 use Rattle.wy_heap.proofs.LeadLemmas.{reordered}
 use Rattle.wy_heap.proofs.SizeLemmas.{size_same}
@@ -140,6 +141,40 @@ holds_in_times k (suc n) p some = elim (cases_eq (holds k p) 0) [
 ]
 
 -- the item can have so many holders more
-pub fill_room : (h : Heap) (n : ℕ) (p : Part) → ((k : ℕ) → p ≡ Key k → count_at h k + n ≤ h.cap) → HasRoom h (replicate n p)
+pub fill_room : (h : Heap) (n : ℕ) (p : Part) → CanHave h n p → HasRoom h (replicate n p)
 fill_room h n p below k some =
     omega (arith, held-times k n p, below k (holds_is k p (holds_in_times k n p some)))
+
+holds-times : (k n : ℕ) (p : Part) → 1 ≤ n → holds k p ≤ held k (replicate n p)
+holds-times k zero p some = absurd (omega (arith, some))
+holds-times k (suc n) p some = omega arith
+
+-- the array is all that is new where it takes no key past the cap
+pub fill_new : (h n o : Heap) (many made : ℕ) (item : Part) (others : List Part) → 1 ≤ many → Joins h n made list_form (replicate many item) → Builds h n list_form (replicate many item) made → Counts h (item ∷ others) → Lasts (map_of n) (map_of o) → Upheld n (map_of o) item → IsNew (map_of h) (map_of o) (Key made) list_form (replicate many item)
+fill_new h n o many made item others some joins builds counts lasts upheld =
+    let after = builds.counts (item ∷ others) counts in
+    let swapped = reordered (count_at n) (map_of n) (Key made ∷ item ∷ others) (item ∷ Key made ∷ others) (λ j. omega arith) after in
+    let upholds : Upholds (map_of n) (Key made ∷ others) = λ k b was.
+    omega (
+      arith,
+      after.counted k,
+      after.alive k (subst IsSome (sym was) refl),
+      holds-times k many item some,
+      slot-le-inner k (map_of n) made,
+      ap (slot_holds k) joins.is,
+    ) in
+    let stay = upheld (map_of n) (Key made ∷ others) swapped upholds (λ k b was. was) in
+    let same : (k : ℕ) → at (map_of o) k ≡ at (map_of n) k = λ k. elim (lasts k) [
+      | inr as_before ↦ as_before
+      | inl gone ↦ elim (some_or_none (at (map_of n) k)) [
+        | inl found ↦ stay k found.0 found.1 ∙ sym found.1
+        | inr none ↦ gone ∙ sym none
+      ]
+    ] in
+    record {
+      key = made;
+      is_key = refl;
+      vacant = joins.vacant;
+      is = same made ∙ joins.is;
+      others = λ k differ. same k ∙ joins.others k differ;
+    }

@@ -9,6 +9,9 @@ use Rattle.wy_value.specs.Seen.{seen, seen_items}
 use Rattle.wy_value.specs.Values.{IsDatum, AreData, AreFields, IsValue, AreValues, AreValueFields}
 use Rattle.wy_heap.specs.declared.part.Part.{Part}
 use Rattle.wy_heap.specs.declared.heap.Heap.{Heap}
+use Rattle.wy_heap.specs.declared.part.Kind as kind
+use Rattle.wy_heap.specs.declared.part.Kind.TheVariants as is
+use Rattle.wy_heap.specs.Parts.{IsKind}
 use Rattle.wy_heap.specs.Meaning.{Means, IsMeant}
 use Rattle.wy_heap.specs.Nodes.{map_of, count_at, holds, held}
 use Rattle.wy_heap.specs.Standing.{Stands, IsAsBefore, SameTable}
@@ -59,6 +62,19 @@ two_out h (x ∷ y ∷ ps) p q d e first second two stands =
 pub with_scalar : (h : Heap) (p s : Part) (ps : List Part) → ((k : ℕ) → holds k s ≡ 0) → Stands h (p ∷ ps) → Stands h (p ∷ s ∷ ps)
 with_scalar h p s ps none stands = restood h (p ∷ ps) (p ∷ s ∷ ps) (λ k. omega (arith, none k)) stands
 
+-- a place whose kind is array stands for an array
+array_from : (h : Heap) (p : Part) (d : Datum) (k : kind.Kind) → Means (map_of h) d p → IsKind h.shapes d k → k ≡ is.Array → (items : Data) × Means (map_of h) (datum.Array items) p
+array_from h p datum.Null k means of same = absurd (cc)
+array_from h p (datum.Truth b) k means of same = absurd (cc)
+array_from h p (datum.Whole z) k means of same = absurd (cc)
+array_from h p (datum.Array items) k means of same = (items, means)
+array_from h p (datum.Record fs) k means of same = absurd (let e = of.1 in cc)
+
+pub array_there : (h : Heap) (p : Part) (others : List Part) (k : kind.Kind) → Stands h (p ∷ others) → ((d : Datum) → Means (map_of h) d p → IsKind h.shapes d k) → k ≡ is.Array → (items : Data) × Means (map_of h) (datum.Array items) p
+array_there h p others k stands of same =
+    let d = among_meant h (p ∷ others) p stands.counts (among_first p others) in
+    array_from h p d.0 k d.1 (of d.0 d.1) same
+
 -- a value's datum
 abbrev mutual
   datum_from : (d : Datum) → IsValue d → IsDatum d
@@ -102,3 +118,7 @@ beside_out h ps i p d new is below stands =
 
 pub first_meant : (h : Heap) (p : Part) (others : List Part) → Stands h (p ∷ others) → IsMeant (map_of h) p
 first_meant h p others stands = among_meant h (p ∷ others) p stands.counts (among_first p others)
+
+-- a scalar before the places
+pub first_scalar : (h : Heap) (s : Part) (ps : List Part) → ((k : ℕ) → holds k s ≡ 0) → Stands h ps → Stands h (s ∷ ps)
+first_scalar h s ps none stands = restood h ps (s ∷ ps) (λ k. omega (arith, none k)) stands

@@ -5,11 +5,11 @@ ghost use Rattle.wy_value.specs.Datum.{Datum, Data, Fields};
 ghost use Rattle.wy_value.specs.Shapes.{named};
 ghost use Rattle.wy_heap.specs.declared.part.Part.{Part};
 ghost use Rattle.wy_heap.specs.declared.part.Part.TheVariants.{Key};
-ghost use Rattle.wy_heap.specs.Nodes.{map_of, at, form_of, parts_in, held, count_at};
+ghost use Rattle.wy_heap.specs.Nodes.{list_form, record_of, map_of, at, form_of, parts_in, held, count_at};
 ghost use Rattle.wy_heap.specs.Meaning.{Means, MeanAll, IsNode};
 ghost use Rattle.wy_heap.specs.Standing.{Stands, Counts, IsWithin, AreHeld, Acts, SameTable, IsAsBefore};
 ghost use Rattle.wy_heap.specs.Slots.{joined};
-ghost use Rattle.wy_heap.specs.Making.{repeated, HasShape};
+ghost use Rattle.wy_heap.specs.Making.{repeated, HasShape, IsNew, CanHave};
 ghost use Rattle.wy_heap.specs.Copying.{CopiesBeside, CopiesNew};
 ghost use Rattle.wy_heap.specs.Changing.{SameRest, SameNodes, Leads, Adds, Joins, JoinsAlone, HasRoom, AreThere, Fits, Builds};
 
@@ -24,6 +24,7 @@ impl Heap {
         requires held { AreHeld self.old items.items }
         ensures acts { IfOk result (λ made. (others : List Part) → Stands self.old (items.items ++ others) → Acts self.old self.new (made ∷ []) others) }
         ensures value { IfOk result (λ made. (ds : Data) → MeanAll (map_of self.old) ds items.items → Means (map_of self.new) (Datum.Array ds) made) }
+        ensures new { IfOk result (λ made. IsNew (map_of self.old) (map_of self.new) made list_form items.items) }
         ensures back { IfErr result (λ back. back ≡ items) }
         ensures no_memory { OnErr result (IsAsBefore self.old self.new) }
         ensures kept { SameTable self.old self.new }
@@ -39,6 +40,7 @@ impl Heap {
         requires shape { HasShape self.old.shapes shape (length items.items) }
         ensures acts { IfOk result (λ made. (others : List Part) → Stands self.old (items.items ++ others) → Acts self.old self.new (made ∷ []) others) }
         ensures value { IfOk result (λ made. (list : List ℕ) (ds : Data) → slice_get self.old.shapes.lists shape ≡ Some list → MeanAll (map_of self.old) ds items.items → Means (map_of self.new) (Datum.Record (joined (named self.old.shapes.names list) ds)) made) }
+        ensures new { IfOk result (λ made. IsNew (map_of self.old) (map_of self.new) made (record_of self.old.shapes.names (slice_get self.old.shapes.lists shape)) items.items) }
         ensures back { IfErr result (λ back. back ≡ items) }
         ensures no_memory { OnErr result (IsAsBefore self.old self.new) }
         ensures kept { SameTable self.old self.new }
@@ -56,6 +58,7 @@ impl Heap {
         requires fits { Fits (map_of self.old) (form_of self.old.shapes shape) items.items }
         ensures acts { IfOk result (λ made. (others : List Part) → Stands self.old (items.items ++ others) → Acts self.old self.new (made ∷ []) others) }
         ensures node { IfOk result (λ made. (ds : Data) → MeanAll (map_of self.old) ds items.items → IsNode (map_of self.new) made (form_of self.old.shapes shape) ds) }
+        ensures new { IfOk result (λ made. IsNew (map_of self.old) (map_of self.new) made (form_of self.old.shapes shape) items.items) }
         ensures back { IfErr result (λ back. back ≡ items) }
         ensures no_memory { OnErr result (IsAsBefore self.old self.new) }
         ensures rest { SameRest self.old self.new }
@@ -111,7 +114,8 @@ impl Heap {
         ensures no_memory { OnErr result (IsAsBefore self.old self.new) }
         ensures kept { SameTable self.old self.new }
         ensures copies { IfOk result (λ made. CopiesNew 1 self.old self.new) }
-        ensures below { ((k : ℕ) → item ≡ Key k → count_at self.old k + n ≤ self.old.cap) → self.new.copies ≡ self.old.copies }
+        ensures below { CanHave self.old n item → self.new.copies ≡ self.old.copies }
+        ensures new { IfOk result (λ made. 1 ≤ n → CanHave self.old n item → IsNew (map_of self.old) (map_of self.new) made list_form (replicate n item)) }
         ensures others { IfOk result (λ made. (k : ℕ) → IsSome (at (map_of self.old) k) → (at (map_of self.new) k ≡ None) ⊎ (at (map_of self.new) k ≡ at (map_of self.old) k)) }
     {
         let before = self.copies;

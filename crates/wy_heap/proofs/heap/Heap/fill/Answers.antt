@@ -1,14 +1,14 @@
 use Rattle.std.proofs.Common.{◌≡◌, ◌∷◌, [], List, replicate, sym, subst, ◌∙◌, ap}
 use Rattle.wy_value.specs.Datum as datum
-use Rattle.wy_heap.specs.Making.{repeated}
+use Rattle.wy_heap.specs.Making.{repeated, IsNew}
 use Rattle.wy_heap.specs.declared.part.Part.{Part}
 use Rattle.wy_heap.specs.declared.part.Part.TheVariants.{Key}
 use Rattle.wy_heap.specs.Nodes.{list_form, map_of}
 use Rattle.wy_heap.specs.Meaning.{Means}
 use Rattle.wy_heap.specs.Standing.{Counts, Acts}
-use Rattle.wy_heap.specs.Changing.{AreThere, Fits, Builds, HasRoom, Upheld}
+use Rattle.wy_heap.specs.Changing.{AreThere, Fits, Joins, Builds, HasRoom, Upheld}
 use Rattle.wy_heap.proofs.BuildLemmas.{fill_there, fill_fits, fill_free, fill_acts, fill_means}
-use Rattle.wy_heap.proofs.NewLemmas.{fill_copies, fill_others, fill_room}
+use Rattle.wy_heap.proofs.NewLemmas.{fill_copies, fill_others, fill_room, fill_new}
 use Rattle.wy_heap.proofs.heap.Heap.fill.Goals as goal
 
 pub build-requires-clause-there : goal.build-requires-clause-there
@@ -70,3 +70,16 @@ returns-clause-below c below =
 pub returns-clause-others : goal.returns-clause-others
 returns-clause-others c k is =
     fill_others c.args.self.now c.build.new.self c.free.new.self _ _ c.in-Ok-build.key c.in-Ok-build.ensures.builds c.free.ensures.lasts k is
+
+pub returns-clause-new : goal.returns-clause-new
+returns-clause-new c some below =
+    let h = c.args.self.now in
+    let n = c.build.new.self in
+    let o = c.free.new.self in
+    let words : c.in-Ok.words.items ≡ replicate c.args.n c.args.item = c.in-Ok.ensures ∙ ap (replicate c.args.n) c.part.ensures in
+    let alone = c.in-Ok-build.ensures.room (subst (HasRoom h) (sym words) (fill_room h c.args.n c.args.item below)) in
+    subst (λ (p : Part). IsNew (map_of h) (map_of o) p list_form (replicate c.args.n c.args.item)) (sym c.of.ensures)
+    (fill_new h n o c.args.n c.in-Ok-build.key c.args.item c.requires.held.0 some
+    (subst (Joins h n c.in-Ok-build.key list_form) words alone.joins)
+    (subst (λ (ps : List Part). Builds h n list_form ps c.in-Ok-build.key) words c.in-Ok-build.ensures.builds)
+    c.requires.held.1.counts c.free.ensures.lasts (subst (Upheld n (map_of o)) c.spent-part.ensures c.free.ensures.upheld))

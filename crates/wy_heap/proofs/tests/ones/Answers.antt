@@ -1,7 +1,7 @@
 use Rattle.std.proofs.Common.{sym, subst, rules}
 use Rattle.wy_heap.specs.Standing.{Stands}
 use Rattle.wy_heap.proofs.RowLemmas.{last_in}
-use Rattle.wy_heap.proofs.tests.steps.ones.Goals as goal
+use Rattle.wy_heap.proofs.tests.ones.Goals as goal
 
 pub returns-in_ok-keep-in-Ok : goal.returns-in_ok-keep-in-Ok
 returns-in_ok-keep-in-Ok c =

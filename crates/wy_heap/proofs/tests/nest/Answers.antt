@@ -2,7 +2,7 @@ use Rattle.std.proofs.Common.{◌∷◌, [], ◌++◌, List, take, drop, suc, sy
 use Rattle.wy_heap.specs.declared.part.Part.{Part}
 use Rattle.wy_heap.specs.Standing.{Stands}
 use Rattle.wy_heap.proofs.RowLemmas.{first_out, last_in}
-use Rattle.wy_heap.proofs.tests.steps.nest.Goals as goal
+use Rattle.wy_heap.proofs.tests.nest.Goals as goal
 
 pub fill-requires : goal.fill-requires
 fill-requires c =

@@ -2,7 +2,7 @@ use Rattle.std.proofs.Common.{◌≡◌, ◌∷◌, [], ◌++◌, subst, ap, ◌
 use Rattle.wy_heap.specs.declared.part.Part.{Part}
 use Rattle.wy_heap.specs.Standing.{Stands}
 use Rattle.wy_heap.proofs.RowLemmas.{last_out}
-use Rattle.wy_heap.proofs.tests.places.release_all.Goals as goal
+use Rattle.wy_heap.proofs.tests.release_all.Goals as goal
 
 pub release-requires : goal.release-requires
 release-requires c =

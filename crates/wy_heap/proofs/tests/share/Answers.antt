@@ -1,7 +1,7 @@
 use Rattle.std.proofs.Common.{◌++◌, take, drop, suc, sym, subst}
 use Rattle.wy_heap.specs.Standing.{Stands}
 use Rattle.wy_heap.proofs.RowLemmas.{first_out, shared_in}
-use Rattle.wy_heap.proofs.tests.steps.share.Goals as goal
+use Rattle.wy_heap.proofs.tests.share.Goals as goal
 
 pub share-requires : goal.share-requires
 share-requires c =

@@ -1,6 +1,6 @@
 use Rattle.std.proofs.Common.{◌<◌, ◌++◌, take, drop, suc, length, rules}
 use Rattle.wy_heap.proofs.RowLemmas.{first_out}
-use Rattle.wy_heap.proofs.tests.places.write_texts.Goals as goal
+use Rattle.wy_heap.proofs.tests.write_texts.Goals as goal
 
 pub text-requires : goal.text-requires
 text-requires c =

@@ -1,7 +1,7 @@
 use Rattle.std.proofs.Common.{◌++◌, take, drop, suc, sym, subst}
 use Rattle.wy_heap.specs.Standing.{Stands}
 use Rattle.wy_heap.proofs.RowLemmas.{first_out}
-use Rattle.wy_heap.proofs.tests.steps.release.Goals as goal
+use Rattle.wy_heap.proofs.tests.release.Goals as goal
 
 pub release-requires : goal.release-requires
 release-requires c =
