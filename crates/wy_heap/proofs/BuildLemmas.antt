@@ -60,7 +60,7 @@ array_fits h items others counts =
     let all = parts_meant (map_of h) items (λ k some. held_meant h (items ++ others) counts k (omega (arith, held-append k items others, some))) in
     (all.0, all.1, datum.Array all.0, (refl, refl))
 
-length-named : (names : List (List ℕ)) (list : List ℕ) → length (named names list) ≡ length list
+pub length-named : (names : List (List ℕ)) (list : List ℕ) → length (named names list) ≡ length list
 length-named names [] = refl
 length-named names (n ∷ ns) = omega (arith, length-named names ns)
 

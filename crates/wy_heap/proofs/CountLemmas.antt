@@ -16,7 +16,7 @@ holds_one k = grind arith
 pub holds_other : (j k : ℕ) → j ≢ k → holds k (Key j) ≡ 0
 holds_other j k differ = grind (arith, differ)
 
-holds-le-one : (k : ℕ) (p : Part) → holds k p ≤ 1
+pub holds-le-one : (k : ℕ) (p : Part) → holds k p ≤ 1
 holds-le-one k Null = omega arith
 holds-le-one k (Bool b) = omega arith
 holds-le-one k (Int n) = omega arith

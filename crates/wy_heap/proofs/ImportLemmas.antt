@@ -1,7 +1,10 @@
 -- What imports keep.
-use Rattle.std.proofs.Common.{◌≡◌, ◌≢◌, ◌⊎◌, inl, inr, ℕ, zero, suc, ◌+◌, ◌*◌, ◌≤◌, ◌<◌, List, [], ◌∷◌, ◌++◌, set, get_or, length, Option, Some, None, IsSome, refl, sym, ◌∙◌, ap, subst, arith, slice_get, append_assoc, length-set, replicate}
+use Rattle.std.proofs.Common.{◌≡◌, ◌≢◌, ◌⊎◌, inl, inr, ℕ, zero, suc, ◌+◌, ◌-◌, ◌*◌, ◌≤◌, ◌<◌, List, [], ◌∷◌, ◌++◌, set, get_or, length, Option, Some, None, IsSome, refl, sym, ◌∙◌, ap, subst, arith, slice_get, append_assoc, take, drop, map, reverse, MatchOption}
+use Rattle.std.proofs.Math.Seq.{take-append_seam, drop-append_seam}
+use Rattle.std.proofs.Math.Numerals.{add-one}
+use Rattle.std.proofs.lemmas.List.{append-nil, length-append, reverse-append}
+use Rattle.std.specs.Borrow.{Bor}
 use Rattle.std.proofs.lemmas.Bool.{cases_eq, cases_lt}
-use Rattle.std.proofs.lemmas.List.{get_or-set_same, get_or-set_other}
 use Rattle.std.proofs.lemmas.Option.{slice_get_within, get_or_from_slice_get}
 use Rattle.slab.specs.Slab.{get}
 use Rattle.wy_value.specs.declared.shapes.Shapes.{Shapes}
@@ -24,8 +27,8 @@ use Rattle.wy_heap.specs.Meaning.{data_in, Means, MeanAll, MeanFields, IsNode, I
 use Rattle.wy_heap.specs.Standing.{Counts, IsWithin, Stands, Acts}
 use Rattle.wy_heap.specs.Slots.{nth}
 use Rattle.wy_heap.specs.Extending.{Extends, HasNames}
-use Rattle.wy_heap.specs.Importing.{Imports, Grew}
-use Rattle.wy_heap.specs.Changing.{SameNodes, Leads, Adopts, Drops, Adds, Fits, More, Upholds}
+use Rattle.wy_heap.specs.Importing.{Carries, Grew, kids, IsKid, front_of, rest_of, Job, job_of, jobs_of, IsBegun, Ready, job_work, works, LastFit, Gathers, HasKids, Finishes}
+use Rattle.wy_heap.specs.Changing.{SameNodes, Leads, Adopts, Adds, Fits, More, Upholds}
 use Rattle.wy_heap.proofs.CountLemmas.{held-append, held-set, holds_one}
 use Rattle.wy_heap.proofs.ChangeLemmas.{at-map_of}
 use Rattle.wy_heap.proofs.MeaningLemmas.{Each, means_kept, mean_all-length, fields_from_data, means_from_node}
@@ -34,7 +37,8 @@ use Rattle.wy_heap.proofs.WriteLemmas.{added_leads, added_node, added_stays}
 use Rattle.wy_heap.proofs.SlotLemmas.{Held_node, held_node, node_form, split_known, record_known}
 use Rattle.wy_heap.proofs.ReachLemmas.{restored}
 use Rattle.wy_heap.proofs.CompareLemmas.{numbers_in}
-use Rattle.wy_heap.proofs.WeighLemmas.{tree, trees, trees-data_in, tree-nth}
+use Rattle.wy_heap.specs.Weighing.{tree, trees}
+use Rattle.wy_heap.proofs.WeighLemmas.{trees-data_in, tree-nth}
 
 pub upholds_more : (base : Map) (ps others : List Part) → Upholds base others → Upholds base (ps ++ others)
 upholds_more base ps others upholds k b was = omega (arith, upholds k b was, held-append k ps others)
@@ -58,43 +62,52 @@ mean_all_more m n more no_items ps mean = mean
 mean_all_more m n more (item d ds) [] mean = mean
 mean_all_more m n more (item d ds) (p ∷ ps) mean = (means_more m n more d p mean.0, mean_all_more m n more ds ps mean.1)
 
--- ---- imports follow each other
+-- ---- carries follow each other
 
-pub imports_scalar : (h : Heap) (p : Part) → ((k : ℕ) → holds k p ≡ 0) → Imports h h (p ∷ [])
-imports_scalar h p none = record {
-  counts = λ others counts. reordered (count_at h) (map_of h) others (p ∷ others) (λ k. omega (arith, none k)) counts;
+pub carries_refl : (h : Heap) (done : List Part) → Carries h h done done
+carries_refl h done = record { counts = λ others counts. counts; more = λ k b was. was }
+
+pub carries_trans : (a b c : Heap) (ps qs rs : List Part) → Carries a b ps qs → Carries b c qs rs → Carries a c ps rs
+carries_trans a b c ps qs rs first second = record {
+  counts = λ others counts. second.counts others (first.counts others counts);
+  more = λ k body was. second.more k body (first.more k body was);
+}
+
+pub carries_same : (a b : Heap) (done : List Part) → SameNodes a b → Carries a b done done
+carries_same a b done same = record {
+  counts = λ others counts. counts_same a b (done ++ others) same counts;
+  more = λ k body was. same.nodes k ∙ was;
+}
+
+-- a part that holds nothing
+pub carries_scalar : (h : Heap) (done : List Part) (p : Part) → ((k : ℕ) → holds k p ≡ 0) → Carries h h done (done ++ p ∷ [])
+carries_scalar h done p none = record {
+  counts = λ others counts. reordered (count_at h) (map_of h) (done ++ others) ((done ++ p ∷ []) ++ others)
+      (λ k. omega (arith, none k, held-append k (done ++ p ∷ []) others, held-append k done (p ∷ []), held-append k done others)) counts;
   more = λ k b was. was;
 }
 
-pub imports_adopts : (a b c : Heap) (form : Form) (parts : List Part) (made : Part) → Imports a b parts → Adopts b c form parts made → Imports a c (made ∷ [])
-imports_adopts a b c form parts made imports adopts = record {
-  counts = λ others counts. adopts.counts others (imports.counts others counts);
-  more = λ k body was. adopts.more k body (imports.more k body was);
-}
-
--- parts that were imported and let go of leave the nodes as before
-pub imports_dropped : (a b c : Heap) (parts places : List Part) → Counts a places → Imports a b parts → Drops b c parts → SameNodes a c
-imports_dropped a b c parts places counts imports drops =
-    restored a c places counts (drops.counts places (imports.counts places counts))
-    (drops.upheld (map_of a) places (imports.counts places counts)
-    (λ k body was. omega (arith, counts.counted k, counts.alive k (subst IsSome (sym was) refl)))
-    imports.more)
-
-pub same_imports : (a b c : Heap) (parts : List Part) → SameNodes a b → Imports b c parts → Imports a c parts
-same_imports a b c parts same imports = record {
-  counts = λ others counts. imports.counts others (counts_same a b others same counts);
-  more = λ k body was. imports.more k body (same.nodes k ∙ was);
-}
-
--- one part more
-pub imports_set : (a b c : Heap) (parts : List Part) (i : ℕ) (part : Part) → Imports a b parts → Imports b c (part ∷ []) → i < length parts → get_or parts i Null ≡ Null → Imports a c (set parts i part)
-imports_set a b c parts i part first second below null = record {
+-- a node takes the holds of the last parts
+pub carries_adopts : (a b : Heap) (lower front : List Part) (form : Form) (part : Part) → Adopts a b form front part → Carries a b (lower ++ front) (lower ++ part ∷ [])
+carries_adopts a b lower front form part adopts = record {
   counts = λ others counts.
-      reordered (count_at c) (map_of c) (part ∷ parts ++ others) (set parts i part ++ others)
-      (λ k. omega (arith, held-append k (set parts i part) others, held-append k parts others, held-set k parts i part below, ap (holds k) null))
-      (second.counts (parts ++ others) (first.counts others counts));
-  more = λ k body was. second.more k body (first.more k body was);
+      reordered (count_at b) (map_of b) (part ∷ (lower ++ others)) ((lower ++ part ∷ []) ++ others)
+      (λ k. omega (arith, held-append k (lower ++ part ∷ []) others, held-append k lower (part ∷ []), held-append k lower others))
+      (adopts.counts (lower ++ others)
+      (reordered (count_at a) (map_of a) ((lower ++ front) ++ others) (front ++ (lower ++ others))
+      (λ k. omega (arith, held-append k (lower ++ front) others, held-append k lower front, held-append k front (lower ++ others), held-append k lower others))
+      counts));
+  more = adopts.more;
 }
+
+-- parts that are let go of again leave the nodes as before
+pub carries_failed : (a b d : Heap) (done places : List Part) → Counts a places → Carries a b [] done → ((others : List Part) → Counts b (done ++ others) → Counts d others) → ((base : Map) (others : List Part) → Counts b (done ++ others) → Upholds base others → More base (map_of b) → More base (map_of d)) → SameNodes a d
+carries_failed a b d done places counts carries frees upheld =
+    let still = carries.counts places counts in
+    restored a d places counts (frees places still)
+    (upheld (map_of a) places still
+    (λ k body was. omega (arith, counts.counted k, counts.alive k (subst IsSome (sym was) refl)))
+    carries.more)
 
 -- ---- the table grows
 
@@ -217,14 +230,6 @@ adopted h room n key s parts slots shapes adds fits =
       node = λ ds mean. subst (λ (f : Form). IsNode (map_of n) (Key key) f ds) forms (added_node room n key s parts adds ds (moved ds parts mean));
     }
 
-pub reserved_drops : (h room n : Heap) (parts : List Part) → room.nodes.slots ≡ h.nodes.slots → room.shapes ≡ h.shapes → ((others : List Part) → Counts room (parts ++ others) → Counts n others) → ((base : Map) (others : List Part) → Counts room (parts ++ others) → Upholds base others → More base (map_of room) → More base (map_of n)) → Drops h n parts
-reserved_drops h room n parts slots shapes frees upheld =
-    let same = same_slots h room slots shapes in
-    record {
-      counts = λ others counts. frees others (counts_same h room (parts ++ others) same counts);
-      upheld = λ base others counts upholds more. upheld base others (counts_same h room (parts ++ others) same counts) upholds (λ k b was. same.nodes k ∙ more k b was);
-    }
-
 -- ---- one layer of a value
 
 pub array_datum : (v : Value) (vs items : List Value) → v ≡ value.Array items → vs ≡ items → IsDatum (seen v) → AreData (seen_items vs)
@@ -255,59 +260,193 @@ pub names_extend : (t u : Shapes) (n : ℕ) (names : List (List ℕ)) → IsShap
 names_extend t u n names table extends has =
     (has.0, extends.lists n has.0 has.1, named_extends t u has.0 extends (numbers_in t n has.0 table has.1) ∙ has.2)
 
--- ---- nothing yet, and a failure
+-- ---- the whole
 
-pub get_or-nulls : (n k : ℕ) → get_or (replicate n Null) k Null ≡ Null
-get_or-nulls zero k = refl
-get_or-nulls (suc n) zero = refl
-get_or-nulls (suc n) (suc k) = get_or-nulls n k
-
-pub length-replicate : (n : ℕ) (p : Part) → length (replicate n p) ≡ n
-length-replicate zero p = refl
-length-replicate (suc n) p = omega (arith, length-replicate n p)
-
-held-nulls : (k n : ℕ) → held k (replicate n Null) ≡ 0
-held-nulls k zero = refl
-held-nulls k (suc n) = omega (arith, held-nulls k n)
-
-pub imports_nulls : (h : Heap) (n : ℕ) → Imports h h (replicate n Null)
-imports_nulls h n = record {
-  counts = λ others counts. reordered (count_at h) (map_of h) others (replicate n Null ++ others) (λ k. omega (arith, held-append k (replicate n Null) others, held-nulls k n)) counts;
-  more = λ k b was. was;
-}
-
-pub imports_failed : (a b c d : Heap) (parts places : List Part) → Counts a places → Imports a b parts → SameNodes b c → ((others : List Part) → Counts c (parts ++ others) → Counts d others) → ((base : Map) (others : List Part) → Counts c (parts ++ others) → Upholds base others → More base (map_of c) → More base (map_of d)) → SameNodes a d
-imports_failed a b c d parts places counts imports same frees upheld =
-    let still = counts_same b c (parts ++ places) same (imports.counts places counts) in
-    restored a d places counts (frees places still)
-    (upheld (map_of a) places still
-    (λ k body was. omega (arith, counts.counted k, counts.alive k (subst IsSome (sym was) refl)))
-    (λ k body was. same.nodes k ∙ imports.more k body was))
-
-pub import_acts : (a b : Heap) (part : Part) (others : List Part) → Stands a others → Imports a b (part ∷ []) → Grew a b → Acts a b (part ∷ []) others
-import_acts a b part others stands imports grew = record {
+pub import_acts : (a b : Heap) (part : Part) (others : List Part) → Stands a others → Carries a b [] (part ∷ []) → Grew a b → Acts a b (part ∷ []) others
+import_acts a b part others stands carries grew = record {
   stands = record {
-    counts = imports.counts others stands.counts;
+    counts = carries.counts others stands.counts;
     within = grew.within stands.within;
     some = omega (arith, grew.cap, stands.some);
     table = grew.table;
   };
-  keeps = λ q d among means. means_more (map_of a) (map_of b) imports.more d q means;
+  keeps = λ q d among means. means_more (map_of a) (map_of b) carries.more d q means;
 }
 
--- ---- what is inside is smaller
+-- ---- what is right inside a datum
 
-pub item_falls : (vs : List Value) (i : ℕ) (v : Value) → i < length vs → get_or vs i v ≡ v → 2 * tree (seen v) < 2 * trees (seen_items vs) + 1
-item_falls vs i v below is =
-    omega (arith, tree-nth (seen_items vs) i (omega (arith, below, length-seen_items vs)), ap tree (seen_item vs i v below is))
+pub kid_array : (v : Value) (vs items : List Value) → v ≡ value.Array items → vs ≡ items → kids (seen v) ≡ seen_items vs
+kid_array v vs items is same = ap (λ (w : Value). kids (seen w)) is ∙ ap kids (seen_array items) ∙ ap seen_items (sym same)
 
-pub field_falls : (fs : List (List ℕ × Value)) (i : ℕ) (f : List ℕ × Value) → i < length fs → get_or fs i f ≡ f → 2 * tree (seen ((get_or fs i f).1)) < 2 * trees (data_in (seen_fields fs)) + 1
-field_falls fs i f below is =
-    omega (arith, tree-nth (data_in (seen_fields fs)) i (omega (arith, below, length-seen_fields fs)), ap tree (seen_field fs i f below is), ap (λ (g : List ℕ × Value). tree (seen g.1)) is)
+pub kid_record : (v : Value) (fs fields : List (List ℕ × Value)) → v ≡ value.Record fields → fs ≡ fields → kids (seen v) ≡ data_in (seen_fields fs)
+kid_record v fs fields is same = ap (λ (w : Value). kids (seen w)) is ∙ ap kids (seen_record fields) ∙ ap (λ (l : List (List ℕ × Value)). data_in (seen_fields l)) (sym same)
 
-pub array_falls : (v : Value) (vs items : List Value) → v ≡ value.Array items → vs ≡ items → 2 * trees (seen_items vs) + 1 < 2 * tree (seen v)
-array_falls v vs items is same = omega (arith, ap tree (ap seen is ∙ seen_array items), ap (λ (l : List Value). trees (seen_items l)) same)
+pub kid_of : (v : Value) (ds : Data) (many place most : ℕ) (r : Option (Bor Value)) → kids (seen v) ≡ ds → length_of ds ≡ many → MatchOption r (many ≤ place) (λ kid. (place < most) × (place < many) × (nth ds place ≡ seen kid.now)) → MatchOption r (length_of (kids (seen v)) ≤ place) (λ kid. (place < most) × IsKid (seen v) place (seen kid.now))
+kid_of v ds many place most None is long none = omega (arith, none, long, ap length_of is)
+kid_of v ds many place most (Some kid) is long some = (
+  some.0,
+  record {
+    below = omega (arith, some.1, long, ap length_of is);
+    is = ap (λ (l : Data). nth l place) is ∙ some.2;
+  },
+)
 
-pub record_falls : (v : Value) (fs fields : List (List ℕ × Value)) → v ≡ value.Record fields → fs ≡ fields → 2 * trees (data_in (seen_fields fs)) + 1 < 2 * tree (seen v)
-record_falls v fs fields is same =
-    omega (arith, ap tree (ap seen is ∙ seen_record fields), ap (λ (l : List (List ℕ × Value)). trees (data_in (seen_fields l))) same, trees-data_in (seen_fields fields))
+fields_data : (fs : Fields) → AreFields fs → AreData (data_in fs)
+fields_data no_fields all = tt
+fields_data (field n d fs) all = (all.1, fields_data fs all.2)
+
+kids_data : (d : Datum) → IsDatum d → AreData (kids d)
+kids_data datum.Null is = tt
+kids_data (datum.Truth b) is = tt
+kids_data (datum.Whole z) is = tt
+kids_data (datum.Array items) is = is
+kids_data (datum.Record fs) is = fields_data fs is.1
+
+nth_datum : (ds : Data) (i : ℕ) → i < length_of ds → AreData ds → IsDatum (nth ds i)
+nth_datum no_items i below all = absurd (omega arith)
+nth_datum (item d ds) zero below all = all.0
+nth_datum (item d ds) (suc i) below all = nth_datum ds i (omega arith) all.1
+
+trees-kids : (d : Datum) → tree d ≡ 1 + trees (kids d)
+trees-kids datum.Null = refl
+trees-kids (datum.Truth b) = refl
+trees-kids (datum.Whole z) = refl
+trees-kids (datum.Array items) = refl
+trees-kids (datum.Record fs) = omega (arith, trees-data_in fs)
+
+trees-rest : (ds : Data) (i : ℕ) → i < length_of ds → trees (rest_of i ds) ≡ tree (nth ds i) + trees (rest_of (suc i) ds)
+trees-rest no_items i below = absurd (omega arith)
+trees-rest (item d ds) zero below = refl
+trees-rest (item d ds) (suc i) below = trees-rest ds i (omega arith)
+
+mean_front_more : (m : Map) (ds : Data) (i : ℕ) (ps : List Part) (p : Part) → i < length_of ds → MeanAll m (front_of i ds) ps → Means m (nth ds i) p → MeanAll m (front_of (suc i) ds) (ps ++ p ∷ [])
+mean_front_more m no_items i ps p below mean means = absurd (omega arith)
+mean_front_more m (item d ds) zero [] p below mean means = (means, refl)
+mean_front_more m (item d ds) zero (q ∷ qs) p below mean means = absurd (cc)
+mean_front_more m (item d ds) (suc i) [] p below mean means = absurd mean
+mean_front_more m (item d ds) (suc i) (q ∷ qs) p below mean means = (mean.0, mean_front_more m ds i qs p (omega arith) mean.1 means)
+
+front-all : (ds : Data) (i : ℕ) → length_of ds ≤ i → front_of i ds ≡ ds
+front-all no_items zero past = refl
+front-all no_items (suc i) past = refl
+front-all (item d ds) zero past = absurd (omega arith)
+front-all (item d ds) (suc i) past = ap (item d) (front-all ds i (omega arith))
+
+-- ---- what is left to do
+
+pub ready_first : (m : Map) (d : Datum) → IsDatum d → Ready m d ((d, 0) ∷ []) []
+ready_first m d is = record {
+  lower = [];
+  front = [];
+  is = refl;
+  many = omega arith;
+  mean = refl;
+  is_datum = is;
+  goes_on = λ n part more means. (part, refl, means);
+}
+
+-- the next datum in the first job is begun
+pub ready_kid : (m : Map) (d u w : Datum) (i : ℕ) (jobs : List Job) (done : List Part) → IsKid u i w → Ready m d ((u, i) ∷ jobs) done → Ready m d ((w, 0) ∷ (u, i + 1) ∷ jobs) done
+ready_kid m d u w i jobs done kid ready = record {
+  lower = done;
+  front = [];
+  is = sym (append-nil done);
+  many = omega arith;
+  mean = refl;
+  is_datum = subst IsDatum kid.is (nth_datum (kids u) i kid.below (kids_data u ready.is_datum));
+  goes_on = λ n part more means. record {
+    lower = ready.lower;
+    front = ready.front ++ part ∷ [];
+    is = ap (λ (l : List Part). l ++ part ∷ []) ready.is ∙ append_assoc ready.lower ready.front (part ∷ []);
+    many = omega (arith, kid.below);
+    mean = subst (λ (j : ℕ). MeanAll n (front_of j (kids u)) (ready.front ++ part ∷ [])) (sym (add-one i))
+        (mean_front_more n (kids u) i ready.front part kid.below (mean_all_more m n more (front_of i (kids u)) ready.front ready.mean) (subst (λ (e : Datum). Means n e part) (sym kid.is) means));
+    is_datum = ready.is_datum;
+    goes_on = λ k q more_still means_whole. ready.goes_on k q (λ key b was. more_still key b (more key b was)) means_whole;
+  };
+}
+
+pub less_kid : (u w : Datum) (i : ℕ) (jobs : List Job) → IsKid u i w → works ((w, 0) ∷ (u, i + 1) ∷ jobs) < works ((u, i) ∷ jobs)
+less_kid u w i jobs kid =
+    omega (arith, trees-kids w, trees-rest (kids u) i kid.below, ap tree kid.is, ap (λ (j : ℕ). trees (rest_of j (kids u))) (add-one i))
+
+-- all that is in the first job's datum is done
+pub ready_kids : (m : Map) (d u : Datum) (i : ℕ) (jobs : List Job) (done : List Part) → length_of (kids u) ≤ i → Ready m d ((u, i) ∷ jobs) done → HasKids m u done i
+ready_kids m d u i jobs done past ready =
+    let all : MeanAll m (kids u) ready.front = subst (λ (l : Data). MeanAll m l ready.front) (front-all (kids u) i past) ready.mean in
+    (ready.lower, ready.front, ready.is, omega (arith, mean_all-length m (kids u) ready.front all, ready.many), all)
+
+pub ready_finished : (m n : Map) (d u : Datum) (i : ℕ) (jobs : List Job) (done after : List Part) → length_of (kids u) ≤ i → More m n → Finishes m n u done after i → Ready m d ((u, i) ∷ jobs) done → Ready n d jobs after
+ready_finished m n d u i jobs done after past more finishes ready =
+    let all : MeanAll m (kids u) ready.front = subst (λ (l : Data). MeanAll m l ready.front) (front-all (kids u) i past) ready.mean in
+    let long : length ready.front ≡ i = omega (arith, mean_all-length m (kids u) ready.front all, ready.many) in
+    let made = finishes ready.lower ready.front ready.is long all in
+    subst (Ready n d jobs) (sym made.1) (ready.goes_on n made.0 more made.2)
+
+pub jobs-push : (todo : List (Bor Value × ℕ)) (job : Bor Value × ℕ) → jobs_of (todo ++ job ∷ []) ≡ job_of job ∷ jobs_of todo
+jobs-push todo job = ap (map job_of) (reverse-append todo (job ∷ []))
+
+-- ---- the end of a datum
+
+pub scalar_finished : (m : Map) (v : Value) (d : Datum) (before after : List Part) (many : ℕ) (p : Part) → seen v ≡ d → kids d ≡ no_items → Means m d p → after ≡ before ++ p ∷ [] → Finishes m m (seen v) before after many
+scalar_finished m v d before after many p is none means pushed lower front whole long mean =
+    let empty : front ≡ [] = subst (λ (l : Data). MeanAll m l front) (ap kids is ∙ none) mean in (
+      p,
+      pushed ∙ ap (λ (l : List Part). l ++ p ∷ []) (whole ∙ ap (λ (l : List Part). lower ++ l) empty ∙ append-nil lower),
+      subst (λ (e : Datum). Means m e p) (sym is) means,
+    )
+
+pub array_fits : (m : Map) (v : Value) (done : List Part) (many : ℕ) (items : List Value) → v ≡ value.Array items → HasKids m (seen v) done many → LastFit m list_form done many
+array_fits m v done many items is has =
+    (has.0, has.1, has.2, has.3, (kids (seen v), has.4, datum.Array (kids (seen v)), (refl, refl)))
+
+pub array_finished : (a b : Heap) (v : Value) (before after : List Part) (many : ℕ) (items : List Value) → v ≡ value.Array items → Gathers a b list_form before after many → Finishes (map_of a) (map_of b) (seen v) before after many
+array_finished a b v before after many items is gathers lower front whole long mean =
+    let made = gathers lower front whole long in
+    let inside : kids (seen v) ≡ seen_items items = kid_array v items items is refl in
+    (made.0, made.1, array_imported (map_of b) v items items made.0 is refl (made.2.node (seen_items items) (subst (λ (l : Data). MeanAll (map_of a) l front) inside mean)))
+
+pub record_fits : (m : Map) (t : Shapes) (n : ℕ) (v : Value) (done : List Part) (many : ℕ) (fs fields : List (List ℕ × Value)) → v ≡ value.Record fields → fs ≡ fields → HasNames t n (names_of (seen_fields fs)) → HasKids m (seen v) done many → LastFit m (form_of t (shape.Record n)) done many
+record_fits m t n v done many fs fields is same names has =
+    let inside : kids (seen v) ≡ data_in (seen_fields fs) = kid_record v fs fields is same in
+    (has.0, has.1, has.2, has.3, (data_in (seen_fields fs), subst (λ (l : Data). MeanAll m l has.1) inside has.4, datum.Record (seen_fields fs), record_split t n fs names))
+
+pub record_finished : (a b : Heap) (t : Shapes) (n : ℕ) (v : Value) (before after : List Part) (many : ℕ) (fs fields : List (List ℕ × Value)) → v ≡ value.Record fields → fs ≡ fields → HasNames t n (names_of (seen_fields fs)) → Gathers a b (form_of t (shape.Record n)) before after many → Finishes (map_of a) (map_of b) (seen v) before after many
+record_finished a b t n v before after many fs fields is same names gathers lower front whole long mean =
+    let made = gathers lower front whole long in
+    let inside : kids (seen v) ≡ data_in (seen_fields fs) = kid_record v fs fields is same in
+    (made.0, made.1, record_imported (map_of b) t n v fs fields made.0 is same names (made.2.node (data_in (seen_fields fs)) (subst (λ (l : Data). MeanAll (map_of a) l front) inside mean)))
+
+-- the same nodes have the same parts last
+pub has_kids_same : (a b : Map) (d : Datum) (done : List Part) (many : ℕ) → ((k : ℕ) → at b k ≡ at a k) → HasKids a d done many → HasKids b d done many
+has_kids_same a b d done many same has =
+    (has.0, has.1, has.2, has.3, mean_all_more a b (λ k body was. same k ∙ was) (kids d) has.1 has.4)
+
+-- the heap in which the table grew finishes as the old one does
+pub finishes_same : (a b c : Map) (d : Datum) (before after : List Part) (many : ℕ) → ((k : ℕ) → at b k ≡ at a k) → Finishes b c d before after many → Finishes a c d before after many
+finishes_same a b c d before after many same finishes lower front whole long mean =
+    finishes lower front whole long (mean_all_more a b (λ k body was. same k ∙ was) (kids d) front mean)
+
+-- a node that takes the last parts
+pub gathered : (h room n : Heap) (key : ℕ) (s : Shape) (before after rest parts : List Part) (many : ℕ) → room.nodes.slots ≡ h.nodes.slots → room.shapes ≡ h.shapes → many ≤ length before → rest ≡ take (length before - many) before → parts ≡ drop (length before - many) before → Adds room n key s parts → LastFit (map_of h) (form_of h.shapes s) before many → after ≡ rest ++ Key key ∷ [] → Gathers h n (form_of h.shapes s) before after many
+gathered h room n key s before after rest parts many slots shapes enough rest_is parts_are adds fit pushed lower front whole long =
+    let cut : length before - many ≡ length lower = omega (arith, ap length whole, length-append lower front, long) in
+    let low : rest ≡ lower = rest_is ∙ ap (λ (i : ℕ). take i before) cut ∙ ap (take (length lower)) whole ∙ take-append_seam lower front in
+    let high : parts ≡ front = parts_are ∙ ap (λ (i : ℕ). drop i before) cut ∙ ap (drop (length lower)) whole ∙ drop-append_seam lower front in
+    let fit_cut : length before - many ≡ length fit.0 = omega (arith, ap length fit.2, length-append fit.0 fit.1, fit.3) in
+    let fit_high : parts ≡ fit.1 = parts_are ∙ ap (λ (i : ℕ). drop i before) fit_cut ∙ ap (drop (length fit.0)) fit.2 ∙ drop-append_seam fit.0 fit.1 in
+    let fits : Fits (map_of h) (form_of h.shapes s) parts = subst (Fits (map_of h) (form_of h.shapes s)) (sym fit_high) fit.4 in (
+      Key key,
+      pushed ∙ ap (λ (l : List Part). l ++ Key key ∷ []) low,
+      subst (λ (l : List Part). Adopts h n (form_of h.shapes s) l (Key key)) high (adopted h room n key s parts slots shapes adds fits),
+    )
+
+pub gather_carries : (h n : Heap) (form : Form) (before after : List Part) (many : ℕ) → Gathers h n form before after many → LastFit (map_of h) form before many → Carries h n before after
+gather_carries h n form before after many gathers fit =
+    let made = gathers fit.0 fit.1 fit.2 fit.3 in
+    subst (λ (l : List Part). Carries h n l after) (sym fit.2)
+    (subst (λ (l : List Part). Carries h n (fit.0 ++ fit.1) l) (sym made.1) (carries_adopts h n fit.0 fit.1 form made.0 made.2))
+
+pub reserved_carries : (h n : Heap) (done after : List Part) → n.nodes.slots ≡ h.nodes.slots → n.shapes ≡ h.shapes → after ≡ done → Carries h n done after
+reserved_carries h n done after slots shapes same =
+    subst (Carries h n done) (sym same) (carries_same h n done (same_slots h n slots shapes))

@@ -1,6 +1,7 @@
 pub mod CountLemmas
 pub mod ChangeLemmas
 pub mod MeaningLemmas
+pub mod NewLemmas
 pub mod FreeLemmas
 pub mod LeadLemmas
 pub mod WriteLemmas
@@ -12,7 +13,11 @@ pub mod PathLemmas
 pub mod PlaceLemmas
 pub mod CompareLemmas
 pub mod ShowLemmas
+pub mod SizeLemmas
+pub mod SplitLemmas
 pub mod SettleLemmas
+pub mod LookLemmas
+pub mod SettledLemmas
 pub mod PutLemmas
 pub mod PutLevelLemmas
 pub mod LawLemmas

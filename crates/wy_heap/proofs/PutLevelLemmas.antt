@@ -15,7 +15,7 @@ use Rattle.wy_heap.proofs.CountLemmas.{holds_one, holds_is, slot-le-inner}
 use Rattle.wy_heap.proofs.ChangeLemmas.{not_there, some_or_none}
 use Rattle.wy_heap.proofs.PathLemmas.{Level, level_inside}
 use Rattle.wy_heap.proofs.PlaceLemmas.{part_free}
-use Rattle.wy_heap.proofs.SettleLemmas.{copies_none, copies_trans, size_same, size_swapped, raised-raised}
+use Rattle.wy_heap.proofs.SizeLemmas.{copies_none, copies_trans, size_same, size_swapped, raised-raised}
 use Rattle.wy_heap.proofs.PutLemmas.{SamePath, same_path, copied_along-same, copied_level, room_level, copied_held, Avoids, avoids, same_avoids, all_sole-same, room_along-same, in_place-same, in_place-avoids, put_along-same}
 
 -- ---- nothing was done

@@ -8,13 +8,13 @@ use Rattle.wy_heap.specs.declared.heap.Heap.{Heap}
 use Rattle.wy_heap.specs.Nodes.{Body, Map, map_of, at, holds, held, slot_holds, inner}
 use Rattle.wy_heap.specs.Meaning.{Means, MeanAll}
 use Rattle.wy_heap.specs.Standing.{Counts}
-use Rattle.wy_heap.specs.Weighing.{weight}
+use Rattle.wy_heap.specs.Weighing.{weight, tree, trees}
 use Rattle.wy_heap.specs.Reaching.{Reach, root, part}
 use Rattle.wy_heap.specs.Changing.{SameNodes, More}
 use Rattle.wy_heap.proofs.CountLemmas.{holds_is, inner_part, inner_same}
 use Rattle.wy_heap.proofs.ChangeLemmas.{some_or_none, not_there}
 use Rattle.wy_heap.proofs.MeaningLemmas.{means_unique}
-use Rattle.wy_heap.proofs.WeighLemmas.{tree, trees, weight-tree, tree-split}
+use Rattle.wy_heap.proofs.WeighLemmas.{weight-tree, tree-split}
 use Rattle.wy_heap.proofs.SlotLemmas.{held_node}
 
 -- a slot that holds the key

@@ -9,26 +9,9 @@ use Rattle.wy_heap.specs.declared.part.Part.TheVariants.{Null, Bool, Int, Key}
 use Rattle.wy_heap.specs.Nodes.{Form, Body, Map, parts_in, size}
 use Rattle.wy_heap.specs.Meaning.{data_in, Means, MeanAll, MeanFields, IsSplit}
 use Rattle.wy_heap.specs.Slots.{nth}
-use Rattle.wy_heap.specs.Weighing.{total, weight_to, weight}
+use Rattle.wy_heap.specs.Weighing.{total, weight_to, weight, tree, trees, tree_fields}
 use Rattle.wy_heap.proofs.CountLemmas.{size-set}
 use Rattle.wy_heap.proofs.MeaningLemmas.{means_unique}
-
--- how many arrays, records and scalars a datum has
-abbrev mutual
-  pub tree : Datum → ℕ
-  tree datum.Null = 1
-  tree (datum.Truth b) = 1
-  tree (datum.Whole z) = 1
-  tree (datum.Array items) = 1 + trees items
-  tree (datum.Record fs) = 1 + tree_fields fs
-
-  pub trees : Data → ℕ
-  trees no_items = 0
-  trees (item d ds) = tree d + trees ds
-
-  pub tree_fields : Fields → ℕ
-  tree_fields no_fields = 0
-  tree_fields (field n d fs) = tree d + tree_fields fs
 
 pub trees-data_in : (fs : Fields) → trees (data_in fs) ≡ tree_fields fs
 trees-data_in no_fields = refl

@@ -16,6 +16,7 @@ use Rattle.wy_heap.specs.Nodes.{Form, record_form, form_of, Body, Map, body_of, 
 use Rattle.wy_heap.specs.Meaning.{data_in, Means, MeanAll, IsNode, IsSplit, IsMeant}
 use Rattle.wy_heap.specs.Standing.{IsCounted, Counts, Keeps}
 use Rattle.wy_heap.specs.Slots.{put_nth, put_field, part_of}
+use Rattle.wy_heap.specs.Making.{IsNew}
 use Rattle.wy_heap.specs.Changing.{Leads, Changes, Adds, Joins, Swaps, IsNodeSlot, AreThere, Fits, Builds}
 use Rattle.wy_heap.proofs.CountLemmas.{held-append, held-le-length, held-set, holds-get_or, holds_one, holds_other, holds_is, inner_updated, slot-le-inner, inner_part}
 use Rattle.wy_heap.proofs.ChangeLemmas.{at-map_of, at_changed, at_others, count_changed, count_others, contains_from_at, at_from_contains, count_there, count_none, at_none}
@@ -107,6 +108,9 @@ module _ (h n : Heap) (key : ℕ) (shape : Shape) (parts : List Part) (adds : Ad
     counts = count_others h n key (Some adds.node) adds.changes;
     others = at_others h n key (Some adds.node) adds.changes;
   }
+
+  pub added_new : IsNew (map_of h) (map_of n) (Key key) (form_of h.shapes shape) parts
+  added_new = record { key = key; is_key = refl; vacant = added_grows.none; is = added_grows.is; others = added_grows.others }
 
   pub added_node : (ds : Data) → MeanAll (map_of h) ds parts → IsNode (map_of n) (Key key) (form_of h.shapes shape) ds
   added_node = grown_node (count_at h) (map_of h) n key (form_of h.shapes shape) parts added_grows

@@ -137,8 +137,3 @@ pub record Adopts (old new : Heap) (form : Form) (parts : List Part) (made : Par
   pub counts : (others : List Part) → Counts old (parts ++ others) → Counts new (made ∷ others)
   pub more : More (map_of old) (map_of new)
   pub node : (ds : Data) → MeanAll (map_of old) ds parts → IsNode (map_of new) made form ds
-
--- the parts were let go of
-pub record Drops (old new : Heap) (parts : List Part) : Type 0 where
-  pub counts : (others : List Part) → Counts old (parts ++ others) → Counts new others
-  pub upheld : (base : Map) (others : List Part) → Counts old (parts ++ others) → Upholds base others → More base (map_of old) → More base (map_of new)

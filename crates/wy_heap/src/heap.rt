@@ -46,7 +46,7 @@ impl Heap {
         }
     }
 
-    /// What a place holds. It takes no memory.
+    /// What a place holds, in constant time. It takes no memory.
     pub fn kind(&self, p: &Place) -> Kind
         requires held { AreHeld self.now (p.now ∷ []) }
         ensures value { (d : Datum) → Means (map_of self.now) d p.now → IsKind self.now.shapes d result }
@@ -62,7 +62,7 @@ impl Heap {
         }
     }
 
-    /// How many nodes there are. It takes no memory.
+    /// How many nodes there are, in constant time. It takes no memory.
     pub fn live(&self) -> u64
         ensures value { result ≡ size (map_of self.now) }
     {
@@ -71,7 +71,7 @@ impl Heap {
 
     /// How many nodes were copied: those of a path that `set` copied, and those that `share`, `get`, `fill`
     /// and `set` copied at the cap. Each of these calls says in its clauses by how much it rose. At 2^64 - 1
-    /// it rises no more. It takes no memory.
+    /// it rises no more. It takes constant time and no memory.
     pub fn copies(&self) -> u64
         ensures value { result ≡ self.now.copies }
     {

@@ -17,8 +17,9 @@ use std::alloc::AllocError;
 
 impl Heap {
     /// A second hold on what a place holds. It takes no memory where the place holds no node, or one
-    /// with fewer holders than the cap. At the cap the new place holds a copy, whose parts are shared, or
-    /// copied in turn where they are at the cap.
+    /// with fewer holders than the cap, and its cost is constant then. At the cap the new place holds a copy,
+    /// whose parts are shared, or copied in turn where they are at the cap, by a list of new nodes; that is
+    /// linear in the parts of what is copied.
     pub fn share(&mut self, p: &Place) -> Result<Place, NoMemory>
         requires held { AreHeld self.old (p.now ∷ []) }
         ensures acts { IfOk result (λ made. (others : List Part) → Stands self.old (p.now ∷ others) → Acts self.old self.new (made ∷ []) (p.now ∷ others)) }

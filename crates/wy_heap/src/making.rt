@@ -1,17 +1,17 @@
 //! New nodes: arrays and records of places, and nodes that share the parts of others.
-ghost use Rattle.std.specs.Prelude.{◌≡◌, ◌≤◌, ◌<◌, ◌∷◌, [], ◌++◌, ℕ, List, IfOk, IfErr, OnErr, replicate, length, slice_get, Some, ◌+◌};
+ghost use Rattle.std.specs.Prelude.{◌≡◌, ◌≤◌, ◌<◌, ◌∷◌, [], ◌++◌, ℕ, List, IfOk, IfErr, OnErr, replicate, length, slice_get, Some, None, IsSome, ◌+◌, ◌⊎◌};
 ghost use Rattle.slab.specs.Slab.{HasRoomFor, ContainsKey};
 ghost use Rattle.wy_value.specs.Datum.{Datum, Data, Fields};
 ghost use Rattle.wy_value.specs.Shapes.{named};
 ghost use Rattle.wy_heap.specs.declared.part.Part.{Part};
 ghost use Rattle.wy_heap.specs.declared.part.Part.TheVariants.{Key};
-ghost use Rattle.wy_heap.specs.Nodes.{map_of, at, form_of, parts_in, held, count_at};
+ghost use Rattle.wy_heap.specs.Nodes.{list_form, record_of, map_of, at, form_of, parts_in, held, count_at};
 ghost use Rattle.wy_heap.specs.Meaning.{Means, MeanAll, IsNode};
 ghost use Rattle.wy_heap.specs.Standing.{Stands, Counts, IsWithin, AreHeld, Acts, SameTable, IsAsBefore};
 ghost use Rattle.wy_heap.specs.Slots.{joined};
-ghost use Rattle.wy_heap.specs.Making.{repeated, HasShape};
-ghost use Rattle.wy_heap.specs.Copying.{CopiesBeside};
-ghost use Rattle.wy_heap.specs.Changing.{SameRest, SameNodes, Leads, Adds, Joins, JoinsAlone, HasRoom, AreThere, Fits, Builds, Adopts, Drops};
+ghost use Rattle.wy_heap.specs.Making.{repeated, HasShape, IsNew, CanHave};
+ghost use Rattle.wy_heap.specs.Copying.{CopiesBeside, CopiesNew};
+ghost use Rattle.wy_heap.specs.Changing.{SameRest, SameNodes, Leads, Adds, Joins, JoinsAlone, HasRoom, AreThere, Fits, Builds};
 
 use crate::heap::Heap;
 use crate::node::{Node, Shape};
@@ -19,11 +19,12 @@ use crate::part::{Part, Place, spend};
 use std::alloc::AllocError;
 
 impl Heap {
-    /// An array of these. At want of memory they are handed back.
+    /// An array of these, in time linear in their number. At want of memory they are handed back.
     pub fn array(&mut self, items: Vec<Place>) -> Result<Place, Vec<Place>>
         requires held { AreHeld self.old items.items }
         ensures acts { IfOk result (λ made. (others : List Part) → Stands self.old (items.items ++ others) → Acts self.old self.new (made ∷ []) others) }
         ensures value { IfOk result (λ made. (ds : Data) → MeanAll (map_of self.old) ds items.items → Means (map_of self.new) (Datum.Array ds) made) }
+        ensures new { IfOk result (λ made. IsNew (map_of self.old) (map_of self.new) made list_form items.items) }
         ensures back { IfErr result (λ back. back ≡ items) }
         ensures no_memory { OnErr result (IsAsBefore self.old self.new) }
         ensures kept { SameTable self.old self.new }
@@ -33,12 +34,13 @@ impl Heap {
     }
 
     /// A record of the shape with this number, with these for its fields in the order of the shape's
-    /// list. At want of memory they are handed back.
+    /// list, in time linear in their number. At want of memory they are handed back.
     pub fn record(&mut self, shape: u32, items: Vec<Place>) -> Result<Place, Vec<Place>>
         requires held { AreHeld self.old items.items }
         requires shape { HasShape self.old.shapes shape (length items.items) }
         ensures acts { IfOk result (λ made. (others : List Part) → Stands self.old (items.items ++ others) → Acts self.old self.new (made ∷ []) others) }
         ensures value { IfOk result (λ made. (list : List ℕ) (ds : Data) → slice_get self.old.shapes.lists shape ≡ Some list → MeanAll (map_of self.old) ds items.items → Means (map_of self.new) (Datum.Record (joined (named self.old.shapes.names list) ds)) made) }
+        ensures new { IfOk result (λ made. IsNew (map_of self.old) (map_of self.new) made (record_of self.old.shapes.names (slice_get self.old.shapes.lists shape)) items.items) }
         ensures back { IfErr result (λ back. back ≡ items) }
         ensures no_memory { OnErr result (IsAsBefore self.old self.new) }
         ensures kept { SameTable self.old self.new }
@@ -56,6 +58,7 @@ impl Heap {
         requires fits { Fits (map_of self.old) (form_of self.old.shapes shape) items.items }
         ensures acts { IfOk result (λ made. (others : List Part) → Stands self.old (items.items ++ others) → Acts self.old self.new (made ∷ []) others) }
         ensures node { IfOk result (λ made. (ds : Data) → MeanAll (map_of self.old) ds items.items → IsNode (map_of self.new) made (form_of self.old.shapes shape) ds) }
+        ensures new { IfOk result (λ made. IsNew (map_of self.old) (map_of self.new) made (form_of self.old.shapes shape) items.items) }
         ensures back { IfErr result (λ back. back ≡ items) }
         ensures no_memory { OnErr result (IsAsBefore self.old self.new) }
         ensures rest { SameRest self.old self.new }
@@ -68,31 +71,6 @@ impl Heap {
         };
         spend(items);
         Ok(Place::of(Part::Key(key)))
-    }
-
-    // a node of these parts, whose holds go over to it; at want of memory they are let go of
-    pub(crate) fn adopt(&mut self, shape: Shape, parts: Vec<Part>) -> Result<Part, AllocError>
-        requires held { (others : List Part) × Counts self.old (parts.items ++ others) }
-        requires fits { Fits (map_of self.old) (form_of self.old.shapes shape) parts.items }
-        ensures adopts { IfOk result (λ part. Adopts self.old self.new (form_of self.old.shapes shape) parts.items part) }
-        ensures frees { OnErr result (Drops self.old self.new parts.items) }
-        ensures within { 1 ≤ self.old.cap → IsWithin self.old → IsWithin self.new }
-        ensures rest { SameRest self.old self.new }
-    {
-        match self.nodes.reserve(1) {
-            Ok(()) => Ok(Part::Key(
-                self.nodes.insert_reserved(Node {
-                    count: 1,
-                    next: None,
-                    shape,
-                    parts,
-                }),
-            )),
-            Err(error) => {
-                self.free_all(&parts);
-                Err(error)
-            }
-        }
     }
 
     // the parts of these places
@@ -124,7 +102,10 @@ impl Heap {
         Ok(key)
     }
 
-    /// An array of so many times the item. At want of memory the item is handed back.
+    /// An array of so many times the item. Each slot takes a hold before the item's own goes; where that
+    /// would pass the cap some slots get a copy, and `copies` rises by as many nodes as came beside the array.
+    /// It is linear in the number of items and the parts of what is copied. At want of memory the item is
+    /// handed back.
     pub fn fill(&mut self, item: Place, n: u64) -> Result<Place, Place>
         requires held { AreHeld self.old (item ∷ []) }
         ensures acts { IfOk result (λ made. (others : List Part) → Stands self.old (item ∷ others) → Acts self.old self.new (made ∷ []) others) }
@@ -132,6 +113,10 @@ impl Heap {
         ensures back { IfErr result (λ back. back ≡ item) }
         ensures no_memory { OnErr result (IsAsBefore self.old self.new) }
         ensures kept { SameTable self.old self.new }
+        ensures copies { IfOk result (λ made. CopiesNew 1 self.old self.new) }
+        ensures below { CanHave self.old n item → self.new.copies ≡ self.old.copies }
+        ensures new { IfOk result (λ made. 1 ≤ n → CanHave self.old n item → IsNew (map_of self.old) (map_of self.new) made list_form (replicate n item)) }
+        ensures others { IfOk result (λ made. (k : ℕ) → IsSome (at (map_of self.old) k) → (at (map_of self.new) k ≡ None) ⊎ (at (map_of self.new) k ≡ at (map_of self.old) k)) }
     {
         let before = self.copies;
         let Ok(words) = self.times(item.part(), n as usize) else {

@@ -38,7 +38,7 @@ impl Heap {
         Ok(Place::of(part))
     }
 
-    /// How many items an array has. It takes no memory.
+    /// How many items an array has, in constant time. It takes no memory.
     pub fn len(&self, p: &Place) -> u64
         requires held { AreHeld self.now (p.now ∷ []) }
         requires array { (items : Data) × Means (map_of self.now) (Datum.Array items) p.now }
@@ -111,7 +111,7 @@ impl Heap {
 }
 
 // where the number stands in the list, and its length where it isn't there
-fn number_place(list: &[u32], number: u32) -> usize
+pub(crate) fn number_place(list: &[u32], number: u32) -> usize
     ensures { result ≡ number_position number list.now }
 {
     for (i, other) in list.iter().enumerate() {

@@ -2,7 +2,7 @@ use Rattle.std.proofs.Common.{◌∷◌, arith}
 use Rattle.wy_heap.specs.declared.part.Part.TheVariants.{Key}
 use Rattle.wy_heap.specs.Nodes.{form_of}
 use Rattle.wy_heap.proofs.WriteLemmas.{joined_builds}
-use Rattle.wy_heap.proofs.SettleLemmas.{settled_builds, joined_copies, settled_copies, unsettled}
+use Rattle.wy_heap.proofs.SettledLemmas.{settled_builds, joined_copies, settled_copies, unsettled}
 use Rattle.wy_heap.proofs.heap.Heap.build.Goals as goal
 
 pub join-requires-clause-below : goal.join-requires-clause-below

@@ -5,7 +5,8 @@ use Rattle.wy_heap.specs.Changing.{AreThere, Fits, Builds}
 use Rattle.wy_heap.proofs.SlotLemmas.{body-node}
 use Rattle.wy_heap.proofs.WriteLemmas.{node_parts_there}
 use Rattle.wy_heap.proofs.BuildLemmas.{recopied}
-use Rattle.wy_heap.proofs.SettleLemmas.{whole_fits, counted_copies}
+use Rattle.wy_heap.proofs.SplitLemmas.{whole_fits}
+use Rattle.wy_heap.proofs.SettledLemmas.{counted_copies}
 use Rattle.wy_heap.proofs.heap.Heap.copy_node.Goals as goal
 
 pub build-requires-clause-there : goal.build-requires-clause-there

@@ -1,7 +1,7 @@
 use Rattle.std.proofs.Common.{subst}
 use Rattle.wy_heap.specs.Nodes.{map_of}
 use Rattle.wy_heap.specs.Meaning.{Means}
-use Rattle.wy_heap.proofs.SettleLemmas.{copy_means}
+use Rattle.wy_heap.proofs.SettledLemmas.{copy_means}
 use Rattle.wy_heap.proofs.heap.Heap.copy_of.Goals as goal
 
 pub returns-in-Ok-clause-value : goal.returns-in-Ok-clause-value

@@ -6,7 +6,7 @@ use Rattle.wy_heap.specs.Changing.{HasRoom, JoinsAlone, AreThere, Fits, Builds}
 use Rattle.wy_heap.proofs.SlotLemmas.{body-node}
 use Rattle.wy_heap.proofs.WriteLemmas.{set_parts_there}
 use Rattle.wy_heap.proofs.BuildLemmas.{set_fits, recopied}
-use Rattle.wy_heap.proofs.SettleLemmas.{counted_copies}
+use Rattle.wy_heap.proofs.SettledLemmas.{counted_copies}
 use Rattle.wy_heap.proofs.PutLemmas.{recounted}
 use Rattle.wy_heap.proofs.heap.Heap.copy_without.Goals as goal
 

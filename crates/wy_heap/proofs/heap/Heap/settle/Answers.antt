@@ -1,7 +1,8 @@
 use Rattle.std.proofs.Common.{◌≡◌, ◌<◌, ◌++◌, ◌∷◌, [], ℕ, List, Option, option_to_list, subst, ap, ◌∙◌, arith}
 use Rattle.wy_heap.specs.Nodes.{map_of}
 use Rattle.wy_heap.specs.Settling.{loads, Spares, SettlesNode}
-use Rattle.wy_heap.proofs.SettleLemmas.{Settled, settles_trans, settled_first, settled_todo, settled_there, settled_next, settled_less, settled_fails}
+use Rattle.wy_heap.proofs.SettleLemmas.{settles_trans}
+use Rattle.wy_heap.proofs.SettledLemmas.{Settled, settled_first, settled_todo, settled_there, settled_next, settled_less, settled_fails}
 use Rattle.wy_heap.proofs.heap.Heap.settle.Goals as goal
 
 pub settle_node-requires-in-Some-clause-there : goal.settle_node-requires-in-Some-clause-there

@@ -1,6 +1,6 @@
 use Rattle.wy_heap.specs.Nodes.{map_of}
 use Rattle.wy_heap.specs.Settling.{loads}
-use Rattle.wy_heap.proofs.SettleLemmas.{Settled}
+use Rattle.wy_heap.proofs.SettledLemmas.{Settled}
 use Rattle.wy_heap.proofs.heap.Heap.settle.Given as goal
 
 abbrev pub invariant-nodes : goal.invariant-nodes

@@ -2,7 +2,8 @@ use Rattle.std.proofs.Common.{length, ap, sym, ◌∙◌, rules}
 use Rattle.wy_heap.specs.Nodes.{parts_in}
 use Rattle.wy_heap.proofs.ChangeLemmas.{contains_from_at}
 use Rattle.wy_heap.proofs.SlotLemmas.{body-node}
-use Rattle.wy_heap.proofs.SettleLemmas.{looked_first, looked_next, looked_all, settles_trans}
+use Rattle.wy_heap.proofs.SettleLemmas.{settles_trans}
+use Rattle.wy_heap.proofs.LookLemmas.{looked_first, looked_next, looked_all}
 use Rattle.wy_heap.proofs.heap.Heap.settle_node.Goals as goal
 
 pub index-requires : goal.index-requires

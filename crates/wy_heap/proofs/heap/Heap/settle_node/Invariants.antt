@@ -1,4 +1,4 @@
-use Rattle.wy_heap.proofs.SettleLemmas.{Looked}
+use Rattle.wy_heap.proofs.LookLemmas.{Looked}
 use Rattle.wy_heap.proofs.heap.Heap.settle_node.Given as goal
 
 abbrev pub invariant-loop-place : goal.invariant-loop-place

@@ -1,5 +1,6 @@
 use Rattle.std.proofs.Common.{◌∙◌, sym}
-use Rattle.wy_heap.proofs.SettleLemmas.{settles_same, splits_spares, slot_key_there}
+use Rattle.wy_heap.proofs.SettleLemmas.{settles_same, splits_spares}
+use Rattle.wy_heap.proofs.SettledLemmas.{slot_key_there}
 use Rattle.wy_heap.proofs.heap.Heap.settle_place.Goals as goal
 
 pub index-requires : goal.index-requires

@@ -9,7 +9,7 @@ use Rattle.wy_heap.specs.Copying.{raised}
 use Rattle.wy_heap.proofs.SlotLemmas.{body-node}
 use Rattle.wy_heap.proofs.LeadLemmas.{counted_freeing}
 use Rattle.wy_heap.proofs.WriteLemmas.{node_parts_there}
-use Rattle.wy_heap.proofs.SettleLemmas.{split_slot, split_counts, split_splits, let_go_counts, many_still}
+use Rattle.wy_heap.proofs.SplitLemmas.{split_slot, split_counts, split_splits, let_go_counts, many_still}
 use Rattle.wy_heap.proofs.heap.Heap.split.Goals as goal
 
 pub can_hold_all-requires : goal.can_hold_all-requires
