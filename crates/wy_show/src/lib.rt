@@ -5,7 +5,5 @@
 #![tactic(auto)]
 
 mod show;
-#[cfg(test)]
-mod tests;
 
 pub use show::{show_formula, show_term};

@@ -1,11 +1,11 @@
 //! Terms and formulas of each form, and how they are written.
-ghost use Rattle.std.specs.Prelude.{◌≡◌, ◌<◌, [], ◌∷◌, All, map, length, IfOk, IfSome};
+ghost use Rattle.std.specs.Prelude.{◌≡◌, ◌<◌, [], ◌∷◌, map, length, IfOk, IfSome};
 ghost use Rattle.wy_term.specs.Nodes.{plain};
 
-use crate::{show_formula, show_term};
 use std::alloc::Global;
 use std::test::Fail;
 use wy_data::Name;
+use wy_show::{show_formula, show_term};
 use wy_term::{Kind, NoMemory, Node, Quantifier, Terms};
 
 fn name(alloc: Global, text: &str) -> Result<Name, NoMemory> {
@@ -81,7 +81,18 @@ fn spelled(alloc: Global, terms: &mut Terms, text: &str) -> Result<u32, NoMemory
         let term = word_of(alloc, terms, &mut made, word)?;
         made.push(term)?;
     }
-    made.pop().ok_or(NoMemory)
+    popped(terms, &mut made)
+}
+
+// The last term of the list, where it is one.
+fn popped(terms: &Terms, made: &mut Vec<u32>) -> Result<u32, NoMemory>
+    ensures { IfOk result (λ t. t < length terms.now) }
+{
+    let term = made.pop().ok_or(NoMemory)?;
+    if (term as usize) < terms.len() {
+        return Ok(term);
+    }
+    Err(NoMemory)
 }
 
 fn word_of(
@@ -89,24 +100,34 @@ fn word_of(
     terms: &mut Terms,
     made: &mut Vec<u32>,
     word: &str,
-) -> Result<u32, NoMemory>
-    requires { All (λ k. k < length terms.old) made.old.items }
-    ensures made { All (λ k. k < length terms.new) made.new.items }
-    ensures within { IfOk result (λ t. t < length terms.new) }
-{
+) -> Result<u32, NoMemory> {
     if let Some(node) = constant(alloc, word)? {
         return terms.intern(node);
     }
-    let t = made.pop().ok_or(NoMemory)?;
-    if let Some(node) = of_one(alloc, word, t)? {
+    let last = popped(terms, made)?;
+    if let Some(node) = of_one(alloc, word, last)? {
         return terms.intern(node);
     }
-    let s = made.pop().ok_or(NoMemory)?;
-    if let Some(node) = of_two(alloc, word, s, t)? {
+    let first = popped(terms, made)?;
+    if let Some(node) = of_two(alloc, word, first, last)? {
         return terms.intern(node);
     }
-    let r = made.pop().ok_or(NoMemory)?;
-    match of_three(alloc, word, r, s, t)? {
+    of_more(alloc, terms, made, word, first, last)
+}
+
+fn of_more(
+    alloc: Global,
+    terms: &mut Terms,
+    made: &mut Vec<u32>,
+    word: &str,
+    second: u32,
+    last: u32,
+) -> Result<u32, NoMemory>
+    requires { second < length terms.old }
+    requires { last < length terms.old }
+{
+    let first = popped(terms, made)?;
+    match of_three(alloc, word, first, second, last)? {
         Some(node) => terms.intern(node),
         None => Err(NoMemory),
     }
