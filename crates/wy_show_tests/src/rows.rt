@@ -123,8 +123,8 @@ fn of_more(
     second: u32,
     last: u32,
 ) -> Result<u32, NoMemory>
-    requires { second < length terms.old }
-    requires { last < length terms.old }
+    requires second_within { second < length terms.old }
+    requires last_within { last < length terms.old }
 {
     let first = popped(terms, made)?;
     match of_three(alloc, word, first, second, last)? {
