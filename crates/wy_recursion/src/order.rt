@@ -4,7 +4,7 @@ ghost use Rattle.wy_ast.specs.SurfaceSeen.{seen_decl};
 ghost use Rattle.wy_recursion.specs.Endings.{IsOrder};
 
 use crate::positions::holds;
-use crate::search::{Candidate, candidate};
+use crate::search::{Candidate, proposed};
 use sqlite_items::Items;
 use std::alloc::{AllocError, Global};
 use wy_ast::Decl;
@@ -16,7 +16,7 @@ use wy_uses::Edge;
 pub fn order_of(alloc: Global, decls: &[Decl], edges: &[Edge]) -> Result<Items<usize>, AllocError>
     ensures value { IfOk result (λ order. IsOrder (map seen_decl decls.now) edges.now order) }
 {
-    let found = candidate(alloc, decls, edges)?;
+    let found = proposed(alloc, decls, edges)?;
     if !holds(decls, edges, &found) {
         return Err(AllocError);
     }

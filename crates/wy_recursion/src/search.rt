@@ -17,7 +17,7 @@ pub struct Candidate {
 
 /// The order in which a walk in depth along the uses leaves the properties, without those that use one
 /// which isn't in the order before them. Linear in declarations and uses.
-pub fn candidate(alloc: Global, decls: &[Decl], edges: &[Edge]) -> Result<Candidate, AllocError> {
+pub fn proposed(alloc: Global, decls: &[Decl], edges: &[Edge]) -> Result<Candidate, AllocError> {
     let count = decls.len();
     let arrows = use_arrows(alloc, edges)?;
     let arrows = arrows.as_slice();
