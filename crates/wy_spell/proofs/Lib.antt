@@ -1,0 +1,9 @@
+pub mod FrontLemmas
+pub mod LaidLemmas
+pub mod IntHeads
+pub mod ValHeads
+pub mod FormulaHeads
+pub mod GoesLemmas
+pub mod CodeLemmas
+pub mod DoneLemmas
+pub mod ReadLemmas

@@ -1,0 +1,19 @@
+-- The terms that are done, by their numbers in a list.
+use Rattle.std.specs.Prelude.{◌≡◌, ℕ, List, [], ◌∷◌, ◌++◌, length, map, take, drop}
+use Rattle.wy_term.specs.Term.{Symbol, Term, Of}
+use Rattle.wy_term.specs.Folding.{folded}
+use Rattle.wy_term.specs.Nodes.{Plain, tree_at}
+use Rattle.wy_spell.specs.Todo.{arity, Has, as_parts}
+
+abbrev pub trees : List Plain → List ℕ → List Term
+trees nodes ks = map (tree_at nodes) ks
+
+-- the terms from this number on were put together to one
+pub record IsMade (symbol : Symbol) (base : ℕ) (old new : List Term) : Type 0 where
+  pub has : Has (arity symbol) (length (drop base old))
+  pub is : new ≡ take base old ++ folded (Of symbol (as_parts (drop base old))) ∷ []
+
+-- nothing is left to be read, and this is the only term that is done
+pub record IsEnded (i done : List ℕ) (t : ℕ) : Type 0 where
+  pub ends : i ≡ []
+  pub one : done ≡ t ∷ []
