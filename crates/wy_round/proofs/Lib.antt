@@ -17,3 +17,13 @@ pub mod ExprInside
 pub mod ExprRanges
 pub mod ExprGives
 pub mod RoundTrips
+pub mod Lines
+pub mod LineRuns
+pub mod StmtShown
+pub mod StmtLines
+pub mod StmtOne
+pub mod StmtNamed
+pub mod StmtCalls
+pub mod StmtHeads
+pub mod StmtBlocks
+pub mod StmtNests
