@@ -12,8 +12,6 @@ mod lists;
 mod meets;
 mod normal_forms;
 mod outs;
-#[cfg(test)]
-mod tests;
 mod trees;
 
 pub use copies::{copy_atom, copy_conjunct, copy_fields, copy_part, copy_terms};

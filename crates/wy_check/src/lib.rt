@@ -15,8 +15,6 @@ mod literal;
 mod memory;
 mod stop;
 mod sum;
-#[cfg(test)]
-mod tests;
 
 pub use cert::{Cert, Step};
 pub use checker::{Checked, check};

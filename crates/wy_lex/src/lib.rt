@@ -20,8 +20,6 @@ mod lexeme;
 mod pieces;
 mod source;
 mod symbol;
-#[cfg(test)]
-mod tests;
 mod token;
 mod words;
 

@@ -16,8 +16,6 @@ mod levels;
 mod pieces;
 mod printer;
 mod statements;
-#[cfg(test)]
-mod tests;
 mod types;
 
 pub use fault::NoMemory;

@@ -15,8 +15,6 @@ mod node;
 mod parts;
 mod replace;
 mod terms;
-#[cfg(test)]
-mod tests;
 
 pub use cond::{Cond, CondKind, Conds, Unfold};
 pub use law::folding_keeps_meaning;

@@ -13,8 +13,6 @@ mod laws;
 mod nested;
 mod printer;
 mod shapes;
-#[cfg(test)]
-mod tests;
 mod text;
 mod value;
 

@@ -1,5 +1,5 @@
-use crate::{Value, ValueFault, read_values, show};
 use std::alloc::{AllocError, Global};
+use wy_value::{Value, ValueFault, read_values, show};
 
 // The text of the values that an argument text spells, each behind a space; or its fault.
 fn answer(alloc: Global, text: &str) -> Result<Result<String, ValueFault>, AllocError> {

@@ -1,8 +1,8 @@
 //! Brackets, bars and minus signs.
 use super::trees::{all_below, binary, clause_text, index, length, negated, var};
-use crate::fault::NoMemory;
 use std::alloc::{AllocError, Global};
 use wy_ast::{ExprKind, Op};
+use wy_print::NoMemory;
 
 // `x op x`
 fn pair(alloc: Global, op: Op) -> Result<ExprKind, AllocError> {

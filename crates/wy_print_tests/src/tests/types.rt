@@ -1,8 +1,8 @@
 //! Brackets in types.
 use super::trees::{boxed, boxed_ty, clause_text, ty, var};
-use crate::fault::NoMemory;
 use std::alloc::{AllocError, Global};
 use wy_ast::{ExprKind, TyKind};
+use wy_print::NoMemory;
 
 fn array(alloc: Global, item: TyKind) -> Result<TyKind, AllocError> {
     Ok(TyKind::Array(boxed_ty(alloc, item)?))

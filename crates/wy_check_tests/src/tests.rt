@@ -2,8 +2,8 @@
 ghost use Rattle.std.specs.Prelude.{length, IfOk};
 ghost use Rattle.wy_check.specs.Seen.{IsOf};
 
-use crate::{Cert, Checked, NoMemory, Step, check};
 use std::alloc::Global;
+use wy_check::{Cert, Checked, NoMemory, Step, check};
 use wy_data::Name;
 use wy_term::{Cond, CondKind, Kind, Node, Terms, Unfold};
 

@@ -1,7 +1,7 @@
-use crate::{LexFault, Token, TokenKind, tokens};
 use std::alloc::Global;
 use std::process::Abort;
 use std::test::Fail;
+use wy_lex::{LexFault, Token, TokenKind, tokens};
 
 // The tokens with their places, as `Name(x)@0 Plus@2 End@3`.
 fn written(alloc: Global, tokens: &[Token]) -> Result<String, Fail> {

@@ -2,10 +2,10 @@
 ghost use Rattle.std.specs.Prelude.{◌≡◌, ◌<◌, [], ◌∷◌, All, map, length, IfOk, IfSome};
 ghost use Rattle.wy_term.specs.Nodes.{plain};
 
-use crate::{Cond, CondKind, Kind, NoMemory, Node, Quantifier, Terms, Unfold};
 use std::alloc::Global;
 use std::test::Fail;
 use wy_data::Name;
+use wy_term::{Cond, CondKind, Kind, NoMemory, Node, Quantifier, Terms, Unfold};
 
 fn name(alloc: Global, text: &str) -> Result<Name, NoMemory> {
     Ok(Name::new(String::from_str(alloc, text)?))

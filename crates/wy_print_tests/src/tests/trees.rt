@@ -1,10 +1,9 @@
 //! Small trees, built by hand. No place is looked at.
-use crate::fault::NoMemory;
-use crate::printer::print;
 use sqlite_items::{Boxed, Items};
 use std::alloc::{AllocError, Global};
 use wy_ast::{Decl, Expr, ExprKind, Op, Program, Property, Stmt, StmtKind, Ty, TyKind};
 use wy_data::Name;
+use wy_print::{NoMemory, print};
 
 pub fn name(alloc: Global, text: &str) -> Result<Name, AllocError> {
     Ok(Name::new(String::from_str(alloc, text)?))
