@@ -101,11 +101,7 @@ fn or_void(alloc: Global, at: u32, ty: Option<Shared>) -> Result<Shared, AllocEr
     }
 }
 
-fn with_change(
-    latest: Shared,
-    change: &(u32, Shared),
-    variable: u32,
-) -> Result<Shared, AllocError>
+fn with_change(latest: Shared, change: &(u32, Shared), variable: u32) -> Result<Shared, AllocError>
     ensures value { IfOk result (λ t. seen_ty t ≡ spec.with_change (seen_ty latest) (seen_change change.now) variable) }
 {
     if change.0 == variable {

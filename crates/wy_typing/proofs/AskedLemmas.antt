@@ -57,14 +57,14 @@ norm_one : (names : List Declared) (t a b : Ty) → IsNorm names t a → IsNorm 
 norm_one names t a b p q =
     p.whole
     ∙ ap (λ (cs : List (Conjunct ℕ)). NormalTy (conjuncts_at (ty_at (numbered names t t).table (numbered names t t).depth) cs))
-      (valued_one (numbered names t t).table (numbered names t t).depth (all_of (numbered names t t)) p.conjuncts q.conjuncts p.valued q.valued)
+    (valued_one (numbered names t t).table (numbered names t t).depth (all_of (numbered names t t)) p.conjuncts q.conjuncts p.valued q.valued)
     ∙ sym q.whole
 
 elements_one : (names : List Declared) (t a b : Ty) → IsElements names t a → IsElements names t b → a ≡ b
 elements_one names t a b p q =
     p.whole
     ∙ ap (λ (cs : List (Conjunct ℕ)). NormalTy (conjuncts_at (ty_at (numbered names t t).table (numbered names t t).depth) (items.elements (numbered names t t).table (numbered names t t).depth [] cs)))
-      (valued_one (numbered names t t).table (numbered names t t).depth (all_of (numbered names t t)) p.conjuncts q.conjuncts p.valued q.valued)
+    (valued_one (numbered names t t).table (numbered names t t).depth (all_of (numbered names t t)) p.conjuncts q.conjuncts p.valued q.valued)
     ∙ sym q.whole
 
 element_one : (names : List Declared) (t a b : Ty) → IsElement names t a → IsElement names t b → a ≡ b
@@ -74,7 +74,7 @@ union_one : (names : List Declared) (f : List ℕ) (t a b : Ty) → IsUnion name
 union_one names f t a b p q =
     p.whole
     ∙ ap (λ (ws : List (List (List ℕ × Part ℕ))). NormalTy (conjuncts_at (ty_at (numbered names t t).table (numbered names t t).depth) (fields.values_at (numbered names t t).table (numbered names t t).depth f [] ws)))
-      (ways_one (numbered names t t).table (numbered names t t).depth (all_of (numbered names t t)) p.found q.found p.parts.those q.parts.those)
+    (ways_one (numbered names t t).table (numbered names t t).depth (all_of (numbered names t t)) p.found q.found p.parts.those q.parts.those)
     ∙ sym q.whole
 
 field_one : (names : List Declared) (f : List ℕ) (t a b : Ty) → IsField names f t a → IsField names f t b → a ≡ b
@@ -84,7 +84,7 @@ with_one : (names : List Declared) (f : List ℕ) (t value a b : Ty) → IsWith 
 with_one names f t value a b p q =
     p.whole
     ∙ ap (λ (ws : List (List (List ℕ × Part ℕ))). NormalTy (conjuncts_at (ty_at (numbered names t value).table (numbered names t value).depth) (records_of f (second_part (numbered names t value)) [] ws)))
-      (ways_one (numbered names t value).table (numbered names t value).depth (updates.all_of (numbered names t value)) p.found q.found p.those q.those)
+    (ways_one (numbered names t value).table (numbered names t value).depth (updates.all_of (numbered names t value)) p.found q.found p.those q.those)
     ∙ sym q.whole
 
 -- ---- questions
