@@ -15,7 +15,7 @@ use Rattle.wy_uses.specs.DeclUses.{edges_of}
 use Rattle.wy_expand.specs.declared.measure.Expansion.{Expansion}
 use Rattle.wy_expand.specs.declared.measure.Expansion.TheVariants as expansion
 use Rattle.wy_expand.specs.Summaries.{summary, set_at, with_option, summed_up, without_end, summaries}
-use Rattle.wy_order.specs.Endings.{is_property, is_use_way, is_use, Ends, ends, IsOrder}
+use Rattle.wy_recursion.specs.Endings.{is_property, is_use_way, is_use, Ends, ends, IsOrder}
 use Rattle.wy_order.proofs.UseLemmas.{Each, of_decl}
 use Rattle.wy_order.proofs.SizeLemmas.{Alike, same_summary}
 

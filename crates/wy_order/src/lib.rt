@@ -7,7 +7,7 @@
 ghost use Rattle.std.specs.Prelude.{◌≡◌, ℕ, List};
 ghost use Rattle.wy_ast.specs.SurfaceTree.{Decl};
 ghost use Rattle.wy_expand.specs.Summaries.{summaries};
-ghost use Rattle.wy_order.specs.Endings.{IsOrder};
+ghost use Rattle.wy_recursion.specs.Endings.{IsOrder};
 ghost use Rattle.wy_scope.specs.Scope.{Scope};
 ghost use Rattle.wy_uses.specs.DeclUses.{edges_of};
 
