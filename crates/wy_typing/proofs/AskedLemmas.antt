@@ -1,15 +1,14 @@
 -- Each question has one answer.
-use Rattle.std.proofs.Common.{◌≡◌, ◌∙◌, ◌≢◌, ◌⊎◌, inl, inr, ℕ, List, [], ◌∷◌, Bool, true, false, refl, ap, sym, subst}
+use Rattle.std.proofs.Common.{◌≡◌, ◌∙◌, inl, inr, ℕ, List, [], ◌∷◌, Bool, true, false, refl, ap, sym, subst}
 use Rattle.wy_core.specs.Types.{Ty, NormalTy, IntTy, BoolTy, AnyTy, ArrayTy}
 use Rattle.wy_types.specs.declared.conjuncts.Part.{Part}
 use Rattle.wy_types.specs.declared.conjuncts.Conjunct.{Conjunct}
-use Rattle.wy_types.specs.declared.question.Question.{Question}
 use Rattle.wy_types.specs.declared.table.Table.{Table}
-use Rattle.wy_types.specs.Names.{Declared, Up}
-use Rattle.wy_types.specs.Questions.{numbered, first_part}
+use Rattle.wy_types.specs.Names.{Declared}
+use Rattle.wy_types.specs.Questions.{numbered}
 use Rattle.wy_types.specs.Reading.{ty_at, conjuncts_at}
 use Rattle.wy_subtype.specs.declared.valued.Inhabited.{Inhabited}
-use Rattle.wy_subtype.specs.Valued.{HasDatum, AreValued, IsInhabited, AreInhabited, AreThose, all_ways}
+use Rattle.wy_subtype.specs.Valued.{AreValued, AreInhabited, AreThose, all_ways}
 use Rattle.wy_parts.specs.Norms.{IsNorm, all_of}
 use Rattle.wy_parts.specs.Items as items
 use Rattle.wy_parts.specs.Items.{IsElements, IsElement}
@@ -19,7 +18,7 @@ use Rattle.wy_updates.specs.Updates as updates
 use Rattle.wy_updates.specs.Updates.{IsWith, records_of, second_part}
 use Rattle.wy_typing.specs.declared.fault.FlowFault.{FlowFault}
 use Rattle.wy_typing.specs.declared.fault.FlowFault.TheVariants.{NotArray, NotBool, NotInt}
-use Rattle.wy_typing.specs.Outcomes.{Outcome, Gives, Fails}
+use Rattle.wy_typing.specs.Outcomes.{Gives, Fails}
 use Rattle.wy_typing.specs.Asked.{Within, IsInt, IsBool, IsArray, Norm, Element, Field, WithField}
 use Rattle.wy_typing.proofs.SingleLemmas.{IsSingle}
 

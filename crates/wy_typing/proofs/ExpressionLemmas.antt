@@ -3,7 +3,7 @@ use Rattle.std.proofs.Common.{ℕ, List, [], ◌∷◌, ◌++◌}
 use Rattle.wy_core.specs.Types.{Ty}
 use Rattle.wy_core.specs.CoreTree.{Expr, NullExpr, BoolExpr, IntExpr, VarExpr, CallExpr, NegExpr, NotExpr, LenExpr, BinaryExpr, IsExpr, IndexExpr, FieldExpr, ListExpr, RepeatExpr, RecordExpr, QuantExpr, Exprs, NoExprs, MoreExprs, Fields, NoFields, MoreFields}
 use Rattle.wy_environment.specs.Variables.{Environment, Changes, int_type, null_type, type_of}
-use Rattle.wy_typing.specs.Contexts.{Program, Found, FoundAll, FoundFields}
+use Rattle.wy_typing.specs.Contexts.{Program, FoundAll, FoundFields}
 use Rattle.wy_typing.specs.Operators.{right_side}
 use Rattle.wy_typing.specs.Expressions.{TypedExpr, TypedExprs, TypedFields, none_yet, no_field_yet, one_more, field_more}
 use Rattle.wy_typing.proofs.SingleLemmas.{IsSingle, single_give, single_then}

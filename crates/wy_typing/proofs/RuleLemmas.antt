@@ -1,5 +1,5 @@
 -- Each rule leads to one outcome.
-use Rattle.std.proofs.Common.{◌≡◌, ◌∙◌, ◌≢◌, ◌⊎◌, inl, inr, ℕ, List, [], ◌∷◌, ◌++◌, Option, Some, None, true, slice_get, refl, ap, sym}
+use Rattle.std.proofs.Common.{◌∙◌, inl, inr, ℕ, List, [], ◌∷◌, ◌++◌, Option, Some, None, true, slice_get, sym}
 use Rattle.wy_core.specs.Types.{Ty, UnionTy, InterTy, NotTy, ArrayTy, RecordTy}
 use Rattle.wy_core.specs.CoreTree.{Expr, NullExpr, BoolExpr, IntExpr, VarExpr, CallExpr, NegExpr, NotExpr, LenExpr, BinaryExpr, IsExpr, IndexExpr, FieldExpr, ListExpr, RepeatExpr, RecordExpr, QuantExpr}
 use Rattle.wy_core.specs.CoreSeen.{field_tys_of}
@@ -8,9 +8,7 @@ use Rattle.wy_core.specs.declared.expressions.Op.TheVariants as op
 use Rattle.wy_types.specs.Names.{Declared}
 use Rattle.wy_environment.specs.Variables.{Environment, Changes, bool_type, int_type, void_type, type_of}
 use Rattle.wy_typing.specs.declared.fault.FlowFault.TheVariants.{NotSubtype}
-use Rattle.wy_typing.specs.Outcomes.{Outcome, Gives, Give, Then}
-use Rattle.wy_typing.specs.Asked.{Within, IsInt, IsBool, IsArray, Norm, Element, Field}
-use Rattle.wy_typing.specs.Joins.{JoinedType, JoinedSlot, JoinedSlots, JoinedTypes, Joined}
+use Rattle.wy_typing.specs.Joins.{JoinedType, JoinedSlot, JoinedSlots, Joined}
 use Rattle.wy_typing.specs.Contexts.{Program, Signature, Found, FoundAll, FoundFields}
 use Rattle.wy_typing.specs.Leaves.{found, OfType, Number, Truth}
 use Rattle.wy_typing.specs.Narrowing.{with_variables, EitherAll, Either, IsVariable, IsTest}

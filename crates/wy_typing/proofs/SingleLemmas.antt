@@ -1,5 +1,5 @@
 -- Steps that lead to one outcome alone.
-use Rattle.std.proofs.Common.{◌≡◌, ◌∙◌, ◌≢◌, ◌⊎◌, inl, inr, ℕ, List, [], ◌∷◌, Option, Some, None, Bool, true, false, cond, refl, ap, sym, subst}
+use Rattle.std.proofs.Common.{◌≡◌, ◌∙◌, Bool, true, false, cond, ap, sym, subst}
 use Rattle.wy_typing.specs.declared.fault.FlowFault.{FlowFault}
 use Rattle.wy_typing.specs.Outcomes.{Outcome, Gives, Fails, Give, Then, gave, stopped}
 

@@ -7,14 +7,14 @@ use Rattle.wy_types.specs.Names.{Declared}
 use Rattle.wy_environment.specs.Slots.{slot_at}
 use Rattle.wy_environment.specs.Variables.{Environment, changed, given, nothing_known, type_of}
 use Rattle.wy_typing.specs.declared.fault.FlowFault.TheVariants.{NotSubtype}
-use Rattle.wy_typing.specs.Contexts.{Program, Found, FoundAll}
+use Rattle.wy_typing.specs.Contexts.{Program, FoundAll}
 use Rattle.wy_typing.specs.Expressions.{none_yet}
 use Rattle.wy_typing.specs.Places.{place_of}
 use Rattle.wy_typing.specs.States.{State, left, broken, declare, with_flow, with_env, Fits, GiveNormal, ComesInto, Tested}
-use Rattle.wy_typing.specs.Paths.{Reached, StepType, step_more, PathTypes, StepUpdated, Updated}
+use Rattle.wy_typing.specs.Paths.{StepType, step_more, PathTypes, StepUpdated, Updated}
 use Rattle.wy_typing.specs.Assigned.{assigned_in}
-use Rattle.wy_typing.specs.Loops.{Renewed, RenewedAll, Head, Exit, ClauseTyped, ClausesTyped, Begun, begun, BeginLoop, EndLoop}
-use Rattle.wy_typing.specs.Statements.{DeclareTyped, IntoDeclared, WholeTyped, NewDeclared, PartTyped, AssignTyped, CallTyped, FitsResult, ReturnTyped, AssertTyped, branches, BeginIf, EndIf, TypedStmt, TypedBlock}
+use Rattle.wy_typing.specs.Loops.{Renewed, RenewedAll, Head, Exit, ClausesTyped, begun, BeginLoop, EndLoop}
+use Rattle.wy_typing.specs.Statements.{DeclareTyped, IntoDeclared, NewDeclared, AssignTyped, CallTyped, FitsResult, ReturnTyped, branches, TypedStmt, TypedBlock}
 use Rattle.wy_typing.specs.Programs.{result_type, program_of, WithVariable, WithParams, WithNamed, WithResult, entry, RoutineTyped, AliasTyped, DeclTyped, DeclsTyped, CoreTyped}
 use Rattle.wy_typing.proofs.SingleLemmas.{IsSingle, single_give, single_then, single_cond}
 use Rattle.wy_typing.proofs.AskedLemmas.{single_within, single_bool, single_norm, single_field, single_with}

@@ -2,7 +2,7 @@
 use Rattle.std.specs.Prelude.{ℕ, List, Option}
 use Rattle.wy_core.specs.Types.{Ty}
 use Rattle.wy_types.specs.Names.{Declared}
-use Rattle.wy_environment.specs.Variables.{Environment, Changes}
+use Rattle.wy_environment.specs.Variables.{Changes}
 
 -- what a call must meet, and the type of its result where it has one
 pub record Signature : Type 0 where

@@ -1,9 +1,9 @@
 -- Where two paths meet: each variable has the union of its types, and one that has no type on either path has none.
-use Rattle.std.specs.Prelude.{◌≡◌, ◌≢◌, ◌⊎◌, ℕ, true, false, cond, List, [], ◌∷◌, ◌++◌, Option, Some, None}
+use Rattle.std.specs.Prelude.{◌≡◌, ◌≢◌, ◌⊎◌, ℕ, true, cond, List, [], ◌∷◌, ◌++◌, Option, Some, None}
 use Rattle.wy_core.specs.Types.{Ty, UnionTy}
 use Rattle.wy_types.specs.Names.{Declared}
 use Rattle.wy_environment.specs.Variables.{Environment}
-use Rattle.wy_typing.specs.Outcomes.{Outcome, Gives, Give, Then}
+use Rattle.wy_typing.specs.Outcomes.{Outcome, Give, Then}
 use Rattle.wy_typing.specs.Asked.{Norm}
 
 -- the union of two types; of a type with itself it is the type, and nothing is asked

@@ -1,7 +1,7 @@
 -- Expressions without parts, and the end of every expression: its type is put behind those so far.
-use Rattle.std.specs.Prelude.{ℕ, List, [], ◌∷◌, ◌++◌}
+use Rattle.std.specs.Prelude.{List, [], ◌∷◌, ◌++◌}
 use Rattle.wy_core.specs.Types.{Ty}
-use Rattle.wy_environment.specs.Variables.{Environment, Changes, bool_type, int_type, null_type, type_of}
+use Rattle.wy_environment.specs.Variables.{Changes, bool_type, int_type}
 use Rattle.wy_typing.specs.Outcomes.{Outcome, Give}
 use Rattle.wy_typing.specs.Contexts.{Found}
 

@@ -1,5 +1,5 @@
 -- The heads and the ends of loops.
-use Rattle.std.specs.Prelude.{ℕ, true, cond, List, [], ◌∷◌, Option, Some, None}
+use Rattle.std.specs.Prelude.{ℕ, cond, List, [], ◌∷◌, Option, Some, None}
 use Rattle.wy_core.specs.Types.{Ty}
 use Rattle.wy_core.specs.CoreTree.{Expr, Stmts}
 use Rattle.wy_typing.specs.Places.{place_of}

@@ -1,5 +1,5 @@
 -- Changes of variables by tests. Only a variable that is itself tested by `is` is changed.
-use Rattle.std.specs.Prelude.{ℕ, Bool, true, false, ◌==◌, ◌||◌, cond, List, [], ◌∷◌, ◌++◌}
+use Rattle.std.specs.Prelude.{ℕ, Bool, false, ◌==◌, ◌||◌, cond, List, [], ◌∷◌, ◌++◌}
 use Rattle.wy_core.specs.Types.{Ty, InterTy, NotTy}
 use Rattle.wy_core.specs.CoreTree.{Expr, NullExpr, BoolExpr, IntExpr, VarExpr, CallExpr, NegExpr, NotExpr, LenExpr, BinaryExpr, IsExpr, IndexExpr, FieldExpr, ListExpr, RepeatExpr, RecordExpr, QuantExpr}
 use Rattle.wy_types.specs.Names.{Declared}
@@ -7,7 +7,7 @@ use Rattle.wy_environment.specs.Variables.{Environment, Changes, type_of}
 use Rattle.wy_typing.specs.Outcomes.{Outcome, Give, Then}
 use Rattle.wy_typing.specs.Asked.{Norm}
 use Rattle.wy_typing.specs.Joins.{JoinedType}
-use Rattle.wy_typing.specs.Contexts.{Program, Found}
+use Rattle.wy_typing.specs.Contexts.{Found}
 use Rattle.wy_typing.specs.Leaves.{Truth}
 
 -- ---- either of two

@@ -1,5 +1,5 @@
 -- Operators. What was found of the operands stands first, then the checks of the node, then its type.
-use Rattle.std.specs.Prelude.{ℕ, List, [], ◌∷◌, ◌++◌}
+use Rattle.std.specs.Prelude.{ℕ, List, [], ◌++◌}
 use Rattle.wy_core.specs.Types.{Ty}
 use Rattle.wy_core.specs.declared.expressions.Op.{Op}
 use Rattle.wy_core.specs.declared.expressions.Op.TheVariants as op

@@ -6,7 +6,7 @@ use Rattle.wy_types.specs.Names.{Declared}
 use Rattle.wy_environment.specs.Variables.{Environment}
 use Rattle.wy_typing.specs.Outcomes.{Outcome, Give, Then}
 use Rattle.wy_typing.specs.Asked.{Field, WithField}
-use Rattle.wy_typing.specs.Contexts.{Program, Found, FoundAll}
+use Rattle.wy_typing.specs.Contexts.{Program, FoundAll}
 use Rattle.wy_typing.specs.Parts.{ItemOf}
 use Rattle.wy_typing.specs.Expressions.{TypedExpr}
 

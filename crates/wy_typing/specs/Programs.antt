@@ -1,5 +1,5 @@
 -- The walk through the declarations, in the order of the source.
-use Rattle.std.specs.Prelude.{◌≡◌, ℕ, List, [], ◌∷◌, ◌++◌, map, Option, Some, None}
+use Rattle.std.specs.Prelude.{ℕ, List, [], ◌∷◌, ◌++◌, Option, Some, None}
 use Rattle.wy_core.specs.Types.{Ty, ArrayTy, IntTy}
 use Rattle.wy_core.specs.CoreTree as tree
 use Rattle.wy_core.specs.CoreTree.{Decl, AliasDecl, RoutineDecl, Core, routines_of}

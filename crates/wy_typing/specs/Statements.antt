@@ -6,7 +6,7 @@ use Rattle.wy_types.specs.Names.{Declared}
 use Rattle.wy_environment.specs.Slots.{slot_at}
 use Rattle.wy_environment.specs.Variables.{Environment, changed, type_of}
 use Rattle.wy_typing.specs.Outcomes.{Outcome, Give, Then}
-use Rattle.wy_typing.specs.Contexts.{Program, Found, FoundAll}
+use Rattle.wy_typing.specs.Contexts.{Program, Found}
 use Rattle.wy_typing.specs.Joins.{Joined}
 use Rattle.wy_typing.specs.Calls.{FitCall}
 use Rattle.wy_typing.specs.Expressions.{TypedExpr, TypedExprs, none_yet}

@@ -1,9 +1,9 @@
 -- What is known at a point of a body.
-use Rattle.std.specs.Prelude.{◌≡◌, ℕ, true, false, cond, List, [], ◌∷◌, ◌++◌, Option, Some, None}
+use Rattle.std.specs.Prelude.{ℕ, cond, List, [], ◌∷◌, ◌++◌, Option}
 use Rattle.wy_core.specs.Types.{Ty, InterTy}
 use Rattle.wy_core.specs.CoreTree.{Expr}
 use Rattle.wy_types.specs.Names.{Declared}
-use Rattle.wy_environment.specs.Slots.{slot_at, put_slot}
+use Rattle.wy_environment.specs.Slots.{put_slot}
 use Rattle.wy_environment.specs.Variables.{Environment, unreached, given}
 use Rattle.wy_typing.specs.declared.fault.FlowFault.TheVariants.{NotSubtype}
 use Rattle.wy_typing.specs.Outcomes.{Outcome, Give, Then}

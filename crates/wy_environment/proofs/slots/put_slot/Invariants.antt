@@ -1,5 +1,5 @@
 use Rattle.wy_core.specs.CoreSeen.{seen_ty}
-use Rattle.wy_environment.specs.Seen.{seen_slots, seen_changes, seen_environment}
+use Rattle.wy_environment.specs.Seen.{seen_slots}
 use Rattle.std.proofs.Common.{◌≡◌, ◌+◌, ◌-◌, length}
 use Rattle.wy_environment.specs.Slots as spec
 use Rattle.wy_environment.proofs.slots.put_slot.Given as goal

@@ -1,5 +1,4 @@
-use Rattle.wy_core.specs.CoreSeen.{seen_ty}
-use Rattle.wy_environment.specs.Seen.{seen_slots, seen_changes, seen_environment}
+use Rattle.wy_environment.specs.Seen.{seen_changes, seen_environment}
 use Rattle.std.proofs.Common.{◌≡◌, drop}
 use Rattle.wy_environment.specs.Variables as spec
 use Rattle.wy_environment.proofs.environment.Environment.change.Given as goal

@@ -1,5 +1,5 @@
 use Rattle.wy_core.specs.CoreSeen.{seen_ty}
-use Rattle.wy_environment.specs.Seen.{seen_slots, seen_changes, seen_environment}
+use Rattle.wy_environment.specs.Seen.{seen_slots, seen_changes}
 use Rattle.std.proofs.Common.{◌≡◌, drop}
 use Rattle.wy_environment.specs.Variables as spec
 use Rattle.wy_environment.specs.Slots.{slot_at}
