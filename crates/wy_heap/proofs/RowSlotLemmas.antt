@@ -1,7 +1,6 @@
 -- Slots that a row's tests found there are there.
-use Rattle.std.proofs.Common.{◌≡◌, inl, inr, ℕ, zero, suc, ◌+◌, ◌<◌, ◌==◌, List, [], ◌∷◌, length, get_or, Some, refl, sym, ◌∙◌, ap, subst, arith, slice_get}
+use Rattle.std.proofs.Common.{◌≡◌, inl, inr, ℕ, zero, suc, ◌<◌, List, [], ◌∷◌, length, get_or, Some, refl, sym, ◌∙◌, ap, subst, arith, slice_get}
 use Rattle.std.proofs.lemmas.Bool.{cases_eq}
-use Rattle.std.proofs.lemmas.Option.{get_or_from_slice_get}
 use Rattle.slab.specs.Slab.{get}
 use Rattle.wy_value.specs.Shapes.{named, IsShapes}
 use Rattle.wy_value.specs.Datum.{Datum}
@@ -14,7 +13,7 @@ use Rattle.wy_heap.specs.declared.part.Slot.TheVariants.{Item, Field}
 use Rattle.wy_heap.specs.declared.node.Shape.TheVariants as shape
 use Rattle.wy_heap.specs.declared.node.Node.{Node}
 use Rattle.wy_heap.specs.declared.heap.Heap.{Heap}
-use Rattle.wy_heap.specs.Nodes.{Form, list_form, record_form, record_of, form_of, map_of}
+use Rattle.wy_heap.specs.Nodes.{list_form, record_form, record_of, form_of, map_of}
 use Rattle.wy_heap.specs.Meaning.{Means, IsMeant}
 use Rattle.wy_heap.specs.Slots.{item_at, field_step, step_of, steps_of, position_of, HasStep, HasPath, child, part_at, IsSlot, IsPath}
 use Rattle.wy_heap.specs.Numbering.{number_position}

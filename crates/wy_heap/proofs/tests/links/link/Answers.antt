@@ -1,4 +1,4 @@
-use Rattle.std.proofs.Common.{◌≡◌, ◌∷◌, [], ◌++◌, List, length, sym, subst}
+use Rattle.std.proofs.Common.{◌++◌, List, length, sym, subst}
 use Rattle.wy_heap.specs.declared.part.Part.{Part}
 use Rattle.wy_heap.specs.Standing.{Stands}
 use Rattle.wy_heap.specs.Making.{HasShape}

@@ -1,8 +1,6 @@
-use Rattle.std.proofs.Common.{◌≡◌, ◌∷◌, ℕ, List, sym, subst, ap, ◌∙◌, arith, refl}
+use Rattle.std.proofs.Common.{sym, subst, ap, ◌∙◌, refl}
 use Rattle.wy_value.specs.declared.shapes.Shapes.{Shapes}
-use Rattle.wy_heap.specs.declared.part.Part.{Part}
 use Rattle.wy_heap.specs.Nodes.{holds}
-use Rattle.wy_heap.specs.Standing.{Stands}
 use Rattle.wy_heap.specs.Making.{HasShape}
 use Rattle.wy_heap.proofs.RowLemmas.{first_scalar}
 use Rattle.wy_heap.proofs.tests.links.list_of.Goals as goal

@@ -1,4 +1,4 @@
-use Rattle.std.proofs.Common.{◌<◌, ◌++◌, take, drop, suc, length, rules}
+use Rattle.std.proofs.Common.{◌<◌, ◌++◌, take, drop, length, rules}
 use Rattle.wy_heap.proofs.RowLemmas.{first_out}
 use Rattle.wy_heap.proofs.tests.links.long.Goals as goal
 

@@ -1,4 +1,4 @@
-use Rattle.std.proofs.Common.{◌≡◌, ◌<◌, length, sym, subst, rules, refl}
+use Rattle.std.proofs.Common.{◌<◌, length, sym, subst, rules}
 use Rattle.std.proofs.lemmas.Option.{slice_get_within}
 use Rattle.wy_heap.specs.declared.part.Part.TheVariants.{Key}
 use Rattle.wy_heap.specs.Slots.{IsSlot}

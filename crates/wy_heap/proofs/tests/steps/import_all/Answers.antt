@@ -1,4 +1,3 @@
-use Rattle.std.proofs.Common.{sym}
 use Rattle.wy_heap.proofs.RowLemmas.{value_datum}
 use Rattle.wy_heap.proofs.tests.steps.import_all.Goals as goal
 
