@@ -1,11 +1,10 @@
 -- What imports keep.
-use Rattle.std.proofs.Common.{◌≡◌, ◌≢◌, ◌⊎◌, inl, inr, ℕ, zero, suc, ◌+◌, ◌-◌, ◌*◌, ◌≤◌, ◌<◌, List, [], ◌∷◌, ◌++◌, set, get_or, length, Option, Some, None, IsSome, refl, sym, ◌∙◌, ap, subst, arith, slice_get, append_assoc, take, drop, map, reverse, MatchOption}
+use Rattle.std.proofs.Common.{◌≡◌, ℕ, zero, suc, ◌+◌, ◌-◌, ◌≤◌, ◌<◌, List, [], ◌∷◌, ◌++◌, get_or, length, Option, Some, None, IsSome, refl, sym, ◌∙◌, ap, subst, arith, slice_get, append_assoc, take, drop, map, MatchOption}
 use Rattle.std.proofs.Math.Seq.{take-append_seam, drop-append_seam}
 use Rattle.std.proofs.Math.Numerals.{add-one}
 use Rattle.std.proofs.lemmas.List.{append-nil, length-append, reverse-append}
 use Rattle.std.specs.Borrow.{Bor}
-use Rattle.std.proofs.lemmas.Bool.{cases_eq, cases_lt}
-use Rattle.std.proofs.lemmas.Option.{slice_get_within, get_or_from_slice_get}
+use Rattle.std.proofs.lemmas.Option.{get_or_from_slice_get}
 use Rattle.slab.specs.Slab.{get}
 use Rattle.wy_value.specs.declared.shapes.Shapes.{Shapes}
 use Rattle.wy_value.specs.declared.value.Value.{Value}
@@ -17,28 +16,28 @@ use Rattle.wy_value.specs.Seen.{seen, seen_items, seen_fields}
 use Rattle.wy_value.proofs.SeenLemmas.{seen_array, seen_record}
 use Rattle.wy_value.specs.Values.{names_of, length_of, Rise, IsDatum, AreData, AreFields}
 use Rattle.wy_heap.specs.declared.part.Part.{Part}
-use Rattle.wy_heap.specs.declared.part.Part.TheVariants.{Null, Bool, Int, Key}
+use Rattle.wy_heap.specs.declared.part.Part.TheVariants.{Null, Key}
 use Rattle.wy_heap.specs.declared.node.Shape.{Shape}
 use Rattle.wy_heap.specs.declared.node.Shape.TheVariants as shape
 use Rattle.wy_heap.specs.declared.node.Node.{Node}
 use Rattle.wy_heap.specs.declared.heap.Heap.{Heap}
-use Rattle.wy_heap.specs.Nodes.{Form, list_form, record_form, record_of, form_of, no_form, Body, Map, map_of, body_of, at, holds, held, inner, count_at}
-use Rattle.wy_heap.specs.Meaning.{data_in, Means, MeanAll, MeanFields, IsNode, IsSplit, IsMeant}
+use Rattle.wy_heap.specs.Nodes.{Form, list_form, record_form, record_of, form_of, no_form, Map, map_of, body_of, at, holds, count_at}
+use Rattle.wy_heap.specs.Meaning.{data_in, Means, MeanAll, IsNode, IsSplit}
 use Rattle.wy_heap.specs.Standing.{Counts, IsWithin, Stands, Acts}
 use Rattle.wy_heap.specs.Slots.{nth}
 use Rattle.wy_heap.specs.Extending.{Extends, HasNames}
-use Rattle.wy_heap.specs.Importing.{Carries, Grew, kids, IsKid, front_of, rest_of, Job, job_of, jobs_of, IsBegun, Ready, job_work, works, LastFit, Gathers, HasKids, Finishes}
-use Rattle.wy_heap.specs.Changing.{SameNodes, Leads, Adopts, Adds, Fits, More, Upholds}
-use Rattle.wy_heap.proofs.CountLemmas.{held-append, held-set, holds_one}
+use Rattle.wy_heap.specs.Importing.{Carries, Grew, kids, IsKid, front_of, rest_of, Job, job_of, jobs_of, Ready, works, LastFit, Gathers, HasKids, Finishes}
+use Rattle.wy_heap.specs.Changing.{SameNodes, Adopts, Adds, Fits, More, Upholds}
+use Rattle.wy_heap.proofs.CountLemmas.{held-append}
 use Rattle.wy_heap.proofs.ChangeLemmas.{at-map_of}
-use Rattle.wy_heap.proofs.MeaningLemmas.{Each, means_kept, mean_all-length, fields_from_data, means_from_node}
-use Rattle.wy_heap.proofs.LeadLemmas.{reordered, counts_same, means_same, acts_from, same_slots}
+use Rattle.wy_heap.proofs.MeaningLemmas.{Each, means_kept, mean_all-length, means_from_node}
+use Rattle.wy_heap.proofs.LeadLemmas.{reordered, counts_same, same_slots}
 use Rattle.wy_heap.proofs.WriteLemmas.{added_leads, added_node, added_stays}
-use Rattle.wy_heap.proofs.SlotLemmas.{Held_node, held_node, node_form, split_known, record_known}
+use Rattle.wy_heap.proofs.SlotLemmas.{held_node, node_form, split_known, record_known}
 use Rattle.wy_heap.proofs.ReachLemmas.{restored}
 use Rattle.wy_heap.proofs.CompareLemmas.{numbers_in}
 use Rattle.wy_heap.specs.Weighing.{tree, trees}
-use Rattle.wy_heap.proofs.WeighLemmas.{trees-data_in, tree-nth}
+use Rattle.wy_heap.proofs.WeighLemmas.{trees-data_in}
 
 pub upholds_more : (base : Map) (ps others : List Part) → Upholds base others → Upholds base (ps ++ others)
 upholds_more base ps others upholds k b was = omega (arith, upholds k b was, held-append k ps others)

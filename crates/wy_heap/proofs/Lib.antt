@@ -22,5 +22,6 @@ pub mod PutLemmas
 pub mod PutLevelLemmas
 pub mod LawLemmas
 pub mod RowLemmas
+pub mod RowSlotLemmas
 pub mod ImportLemmas
 pub mod TableLemmas

@@ -1,5 +1,5 @@
 -- Nodes at keys that had none: as many as a larger map has more, and none of them goes with what was there before.
-use Rattle.std.proofs.Common.{◌≡◌, ◌≢◌, ◌⊎◌, inl, inr, ℕ, zero, suc, ◌+◌, ◌*◌, ◌≤◌, List, [], ◌∷◌, ◌++◌, drop, replicate, Option, Some, None, IsSome, refl, sym, ◌∙◌, ap, subst, arith}
+use Rattle.std.proofs.Common.{◌≡◌, ◌⊎◌, inl, inr, ℕ, zero, suc, ◌+◌, ◌≤◌, List, [], ◌∷◌, drop, replicate, Option, Some, None, IsSome, refl, sym, ◌∙◌, ap, subst, arith}
 use Rattle.std.proofs.lemmas.Bool.{cases_eq}
 use Rattle.wy_heap.specs.declared.part.Part.{Part}
 use Rattle.wy_heap.specs.declared.part.Part.TheVariants.{Key}
@@ -8,8 +8,8 @@ use Rattle.wy_heap.specs.Nodes.{Form, list_form, Body, Map, map_of, at, holds, h
 use Rattle.wy_heap.specs.Standing.{Counts}
 use Rattle.wy_heap.specs.Changing.{More, Lasts, Upholds, Upheld, Joins, Builds, HasRoom}
 use Rattle.wy_heap.specs.Making.{IsNew, CanHave}
-use Rattle.wy_heap.specs.Copying.{new_at, news, raised, CopiesBeside, CopiesNew}
-use Rattle.wy_heap.proofs.CountLemmas.{holds_one, holds_is, holds-le-one, slot-le-inner}
+use Rattle.wy_heap.specs.Copying.{new_at, news, CopiesBeside, CopiesNew}
+use Rattle.wy_heap.proofs.CountLemmas.{holds_is, holds-le-one, slot-le-inner}
 use Rattle.wy_heap.proofs.ChangeLemmas.{some_or_none, not_there}
 use Rattle.wy_heap.proofs.LeadLemmas.{reordered}
 use Rattle.wy_heap.proofs.SizeLemmas.{size_same}

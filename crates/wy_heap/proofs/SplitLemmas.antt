@@ -1,8 +1,7 @@
 -- A copy comes into a slot in place of the node that it held.
-use Rattle.std.proofs.Common.{◌≡◌, ◌≢◌, inl, inr, ℕ, zero, suc, ◌+◌, ◌≤◌, ◌<◌, min, List, [], ◌∷◌, ◌++◌, set, get_or, take, drop, length, Option, Some, None, IsSome, refl, sym, ◌∙◌, ap, subst, arith, length-set}
+use Rattle.std.proofs.Common.{◌≡◌, ◌≢◌, inl, inr, ℕ, zero, suc, ◌+◌, ◌≤◌, ◌<◌, List, [], ◌∷◌, set, get_or, length, Option, Some, None, IsSome, refl, sym, ◌∙◌, ap, subst, arith}
 use Rattle.std.proofs.lemmas.Bool.{cases_eq}
-use Rattle.std.proofs.lemmas.List.{get_or-set_other, take_all, drop_more, take_more}
-use Rattle.slab.specs.Slab.{get, ContainsKey}
+use Rattle.slab.specs.Slab.{get}
 use Rattle.wy_value.specs.Datum.{Datum, Data, no_items, item, Fields, no_fields, field}
 use Rattle.wy_value.specs.Datum as datum
 use Rattle.wy_value.specs.Values.{names_of, length_of}
@@ -10,23 +9,21 @@ use Rattle.wy_heap.specs.declared.part.Part.{Part}
 use Rattle.wy_heap.specs.declared.part.Part.TheVariants.{Null, Key}
 use Rattle.wy_heap.specs.declared.node.Node.{Node}
 use Rattle.wy_heap.specs.declared.heap.Heap.{Heap}
-use Rattle.wy_heap.specs.Nodes.{Form, list_form, record_form, form_of, Body, Map, map_of, at, holds, held, slot_holds, inner, count_at, size, parts_in, form_in}
-use Rattle.wy_heap.specs.Meaning.{data_in, Means, MeanAll, IsNode, IsSplit, IsMeant}
-use Rattle.wy_heap.specs.Standing.{Counts, IsWithin, SameTable}
+use Rattle.wy_heap.specs.Nodes.{Form, list_form, record_form, form_of, Body, Map, map_of, at, holds, held, slot_holds, inner, count_at, size, parts_in}
+use Rattle.wy_heap.specs.Meaning.{data_in, Means, MeanAll, IsNode, IsSplit}
+use Rattle.wy_heap.specs.Standing.{Counts}
 use Rattle.wy_heap.specs.Slots.{nth, part_of}
-use Rattle.wy_heap.specs.Weighing.{total, weight, tree, trees}
-use Rattle.wy_heap.specs.Freeing.{times, Frees}
-use Rattle.wy_heap.specs.Changing.{SameNodes, Leads, HasRoom, Joins, Swaps, IsNodeSlot, Fits, Builds, More, Upheld}
-use Rattle.wy_heap.specs.Copying.{raised, CopiesAsMany, CopiesBeside}
-use Rattle.wy_heap.specs.Settling.{owing, loads, Settles, Splits, SettlesPlace, AreTodo, Lacks, Spares, SettlesNode}
-use Rattle.wy_heap.proofs.CountLemmas.{held-set, inner_updated, slot-le-inner, inner_part, inner_same, holds_one, holds_other, holds_is, holds-get_or}
-use Rattle.wy_heap.proofs.ChangeLemmas.{count_there, contains_from_at, count_none, at_from_contains, not_there, some_or_none}
-use Rattle.wy_heap.proofs.MeaningLemmas.{mean_all-length, mean_all-nth, means_unique, data_unique, node_from_means, means_from_node, same_form}
-use Rattle.wy_heap.proofs.LeadLemmas.{counts_same, means_same}
+use Rattle.wy_heap.specs.Weighing.{tree, trees}
+use Rattle.wy_heap.specs.Freeing.{Frees}
+use Rattle.wy_heap.specs.Changing.{Joins, Swaps, IsNodeSlot, Fits, Builds}
+use Rattle.wy_heap.specs.Copying.{raised}
+use Rattle.wy_heap.specs.Settling.{Splits}
+use Rattle.wy_heap.proofs.CountLemmas.{held-set, inner_updated, slot-le-inner, holds_one, holds_other}
+use Rattle.wy_heap.proofs.ChangeLemmas.{count_there, at_from_contains, not_there}
+use Rattle.wy_heap.proofs.MeaningLemmas.{mean_all-length, mean_all-nth, means_unique, node_from_means, means_from_node, same_form}
 use Rattle.wy_heap.proofs.SlotLemmas.{held_node, node_form, node_parts, body-node}
-use Rattle.wy_heap.proofs.WeighLemmas.{trees-data_in, tree-nth, tree-split, weight-tree, total-trees}
+use Rattle.wy_heap.proofs.WeighLemmas.{trees-data_in, tree-nth}
 use Rattle.wy_heap.proofs.WriteLemmas.{joined_builds, node_parts_there}
-use Rattle.wy_heap.proofs.ReachLemmas.{restored}
 use Rattle.wy_heap.proofs.SizeLemmas.{size_joined, size_swapped}
 
 -- ---- a write of a part that stands for what was there

@@ -1,6 +1,5 @@
 -- A table of shapes with a name or a list more.
-use Rattle.std.proofs.Common.{◌≡◌, ◌≢◌, ◌⊎◌, inl, inr, ℕ, zero, suc, ◌+◌, ◌≤◌, ◌<◌, List, [], ◌∷◌, ◌++◌, get_or, length, take, Option, Some, None, refl, sym, ◌∙◌, ap, subst, arith, slice_get, length-append}
-use Rattle.std.proofs.lemmas.Bool.{cases_lt}
+use Rattle.std.proofs.Common.{◌≡◌, ◌⊎◌, inl, inr, ℕ, zero, suc, ◌+◌, ◌<◌, List, [], ◌∷◌, ◌++◌, get_or, length, take, Option, Some, None, refl, sym, ◌∙◌, ap, subst, arith, slice_get, length-append}
 use Rattle.std.proofs.lemmas.Option.{slice_get_within, get_or_from_slice_get}
 use Rattle.std.specs.List.{All}
 use Rattle.std.specs.Option.{MatchOption}
@@ -8,10 +7,10 @@ use Rattle.wy_data.specs.Words.{IsName}
 use Rattle.wy_value.specs.declared.shapes.Shapes.{Shapes}
 use Rattle.wy_value.specs.declared.value.Value.{Value}
 use Rattle.wy_value.specs.Shapes.{named, AreApart, IsShapes}
-use Rattle.wy_value.specs.Seen.{seen, seen_fields}
+use Rattle.wy_value.specs.Seen.{seen_fields}
 use Rattle.wy_value.specs.Values.{names_of, Rise, AreFields}
-use Rattle.wy_heap.specs.Extending.{Extends, IsAbsent, AreNamed, HasNames}
-use Rattle.wy_heap.proofs.ImportLemmas.{named_extends, extends_refl}
+use Rattle.wy_heap.specs.Extending.{Extends, IsAbsent, AreNamed}
+use Rattle.wy_heap.proofs.ImportLemmas.{named_extends}
 
 -- ---- a list with one more at its end
 

@@ -1,5 +1,5 @@
 -- How many nodes were copied, and counted as copies.
-use Rattle.std.specs.Prelude.{◌≡◌, ℕ, zero, suc, ◌+◌, ◌-◌, ◌^◌, min, List, [], ◌∷◌, drop, Option, Some, None}
+use Rattle.std.specs.Prelude.{◌≡◌, ℕ, zero, suc, ◌+◌, ◌-◌, ◌^◌, min, [], ◌∷◌, drop, Option, Some, None}
 use Rattle.wy_heap.specs.declared.heap.Heap.{Heap}
 use Rattle.wy_heap.specs.Nodes.{Body, Map, at, map_of, size}
 

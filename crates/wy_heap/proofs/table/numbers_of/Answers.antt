@@ -1,4 +1,4 @@
-use Rattle.std.proofs.Common.{◌≡◌, ◌<◌, ◌+◌, ◌++◌, ◌∷◌, [], ℕ, List, length, take, get_or, sym, subst, ap, ◌∙◌, rules}
+use Rattle.std.proofs.Common.{◌<◌, ◌+◌, ◌++◌, ◌∷◌, [], ℕ, List, length, take, sym, subst, rules}
 use Rattle.wy_value.specs.Seen.{seen_fields}
 use Rattle.wy_value.specs.Values.{names_of}
 use Rattle.wy_heap.specs.Extending.{AreNamed}

@@ -1,15 +1,12 @@
 -- A scalar is its own part; an array and a record are nodes of the last parts.
-use Rattle.std.proofs.Common.{◌≡◌, ◌++◌, ◌∷◌, [], ℕ, List, refl, sym, subst, ap, ◌∙◌}
+use Rattle.std.proofs.Common.{◌++◌, refl, sym, subst}
 use Rattle.wy_value.specs.Seen.{seen}
-use Rattle.wy_value.specs.Datum as datum
-use Rattle.wy_heap.specs.declared.part.Part.{Part}
-use Rattle.wy_heap.specs.declared.part.Part.TheVariants.{Null, Bool, Int}
-use Rattle.wy_heap.specs.declared.node.Shape.TheVariants as shape
+use Rattle.wy_heap.specs.declared.part.Part.TheVariants.{Null}
 use Rattle.wy_heap.specs.declared.heap.Heap.{Heap}
-use Rattle.wy_heap.specs.Nodes.{map_of, form_of, list_form}
+use Rattle.wy_heap.specs.Nodes.{map_of}
 use Rattle.wy_heap.specs.Importing.{Carries}
 use Rattle.wy_heap.proofs.LeadLemmas.{counts_same}
-use Rattle.wy_heap.proofs.ImportLemmas.{array_fits, array_finished, record_fits, record_finished, record_datum, scalar_finished, carries_scalar, carries_same, carries_trans, tabled, has_kids_same, finishes_same}
+use Rattle.wy_heap.proofs.ImportLemmas.{array_fits, record_fits, record_finished, record_datum, carries_scalar, carries_same, carries_trans, tabled, has_kids_same, finishes_same}
 use Rattle.wy_heap.proofs.heap.Heap.finish.Goals as goal
 
 pub gather-requires-clause-fits : goal.gather-requires-clause-fits

@@ -1,9 +1,8 @@
-use Rattle.std.proofs.Common.{◌≡◌, ◌≤◌, ◌<◌, ◌+◌, ◌++◌, ◌∷◌, List, length, drop, subst, sym, ap, arith, rules}
+use Rattle.std.proofs.Common.{◌≤◌, ◌<◌, ◌+◌, ◌++◌, List, length, drop, subst, arith, rules}
 use Rattle.std.proofs.lemmas.List.{drop_more, drop_all}
 use Rattle.wy_heap.specs.declared.part.Part.{Part}
 use Rattle.wy_heap.specs.declared.part.Part.TheVariants.{Null}
 use Rattle.wy_heap.specs.Standing.{Counts}
-use Rattle.wy_heap.proofs.CountLemmas.{held-append}
 use Rattle.wy_heap.proofs.ImportLemmas.{upholds_more}
 use Rattle.wy_heap.proofs.heap.Heap.free_all.Goals as goal
 

@@ -1,4 +1,4 @@
-use Rattle.std.proofs.Common.{◌≡◌, ◌≤◌, ◌++◌, ℕ, List, drop}
+use Rattle.std.proofs.Common.{◌≤◌, ◌++◌, ℕ, List, drop}
 use Rattle.wy_heap.specs.declared.part.Part.{Part}
 use Rattle.wy_heap.specs.Nodes.{Map, map_of, count_at}
 use Rattle.wy_heap.specs.Standing.{Counts}

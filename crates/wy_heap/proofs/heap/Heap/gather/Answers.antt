@@ -1,12 +1,10 @@
-use Rattle.std.proofs.Common.{◌≡◌, ◌+◌, ◌-◌, ◌≤◌, ◌++◌, ℕ, List, length, take, drop, None, refl, sym, ap, ◌∙◌, arith}
+use Rattle.std.proofs.Common.{◌≡◌, ◌-◌, ◌≤◌, ℕ, length, take, drop, None, refl, ap, ◌∙◌, arith}
 use Rattle.std.proofs.lemmas.List.{length-append}
-use Rattle.wy_heap.specs.declared.part.Part.{Part}
 use Rattle.wy_heap.specs.declared.node.Node.{Node}
 use Rattle.wy_heap.specs.declared.heap.Heap.{Heap}
 use Rattle.wy_heap.specs.Nodes.{form_of}
 use Rattle.wy_heap.specs.Changing.{Adds}
-use Rattle.wy_heap.specs.Importing.{Gathers}
-use Rattle.wy_heap.proofs.ImportLemmas.{gathered, gather_carries, reserved_carries}
+use Rattle.wy_heap.proofs.ImportLemmas.{gathered, gather_carries}
 use Rattle.wy_heap.proofs.heap.Heap.gather.Goals as goal
 
 pub returns-clause-gathers : goal.returns-clause-gathers
