@@ -1,7 +1,7 @@
 //! Texts of each form.
-use wy_spell::{read_formula, read_term};
 use std::test::Fail;
 use wy_show::{show_formula, show_term};
+use wy_spell::{read_formula, read_term};
 use wy_term::Terms;
 
 #[test]
