@@ -39,12 +39,18 @@ fn twice(alloc: Global) -> Result<Expr, AllocError> {
 }
 
 #[test]
-fn sizes_end_at_the_limits(rt: HostRuntime) -> Result<(), AllocError> {
+fn heights_end_at_the_limit(rt: HostRuntime) -> Result<(), AllocError> {
     let alloc = rt.alloc();
     let high = fault_of(alloc, truth(), negated(alloc, 399)?, &[0])?;
     assert!(rt; high == None);
     let higher = fault_of(alloc, truth(), negated(alloc, 400)?, &[0])?;
     assert!(rt; higher == found(ROOT, Cause::TooLarge));
+    Ok(())
+}
+
+#[test]
+fn sizes_end_at_the_limit(rt: HostRuntime) -> Result<(), AllocError> {
+    let alloc = rt.alloc();
     let wide = fault_of(alloc, truth(), numbers(alloc, 4095)?, &[0])?;
     assert!(rt; wide == None);
     let wider = fault_of(alloc, truth(), numbers(alloc, 4096)?, &[0])?;
