@@ -1,0 +1,12 @@
+pub mod FrontLemmas
+pub mod LaidLemmas
+pub mod IntHeads
+pub mod ValHeads
+pub mod FormulaHeads
+pub mod GoesLemmas
+pub mod GoesUp
+pub mod KindUp
+pub mod OneSort
+pub mod CodeLemmas
+pub mod DoneLemmas
+pub mod ReadLemmas

@@ -1,0 +1,16 @@
+use Rattle.std.proofs.Common.{◌≡◌, ℕ, ◌<◌, ◌≤◌, All, [], ◌∷◌, length, map, reverse}
+use Rattle.wy_term.specs.Term.{Term}
+use Rattle.wy_term.specs.Nodes.{tree_at}
+use Rattle.wy_spell.specs.Todo.{a_term, Goes}
+use Rattle.wy_spell.specs.Done.{trees}
+use Rattle.wy_spell.specs.View.{seen, sort_seen}
+use Rattle.wy_spell.proofs.read.read.Given as goal
+
+abbrev pub invariant-loop-_turn : goal.invariant-loop-_turn
+invariant-loop-_turn l = record {
+  sound : (r : Term) → Goes (map seen (reverse l.todo.items)) l.rest (trees l.terms l.done.items) r → Goes (a_term (sort_seen l.fn.sort) ∷ []) l.fn.text [] r;
+  complete : (r : Term) → Goes (a_term (sort_seen l.fn.sort) ∷ []) l.fn.text [] r → Goes (map seen (reverse l.todo.items)) l.rest (trees l.terms l.done.items) r;
+  below : All (λ k. k < length l.terms) l.done.items;
+  kept : (t : ℕ) → t < length l.initial.terms → tree_at l.terms t ≡ tree_at l.initial.terms t;
+  grows : length l.initial.terms ≤ length l.terms;
+}

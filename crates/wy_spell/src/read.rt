@@ -1,0 +1,116 @@
+//! Terms and formulas read from their texts.
+ghost use Rattle.std.specs.Prelude.{◌≡◌, ◌<◌, ◌≤◌, ◌⊎◌, ℕ, IfOk, IfSome, MatchOption, OnErr, IfNone, length};
+ghost use Rattle.wy_term.specs.Nodes.{tree_at};
+ghost use Rattle.wy_term.specs.Sorts.{int_sort, val_sort, formula_sort};
+ghost use Rattle.wy_spell.specs.Made.{IsSpelled, SpellsNone, IsOnly, SpellsNoTerm, IsOnlyTerm};
+ghost use Rattle.wy_spell.specs.Done.{IsEnded, NotEnded};
+ghost use Rattle.wy_spell.specs.View.{sort_seen};
+
+use crate::expand::expanded;
+use crate::root::make;
+use crate::work::{Sort, Task};
+use wy_term::{NoMemory, Terms};
+
+/// The Int term or Val term that the text spells, each node folded as it is made, and None exactly where the text spells
+/// neither. It takes time linear in the text, beside what folding takes. Older numbers name what they named, and at any
+/// other answer the list is as it was.
+#[tactic(auto, using(crate::proofs::OneSort::sort_steps))]
+pub fn read_term(terms: &mut Terms, text: &[u8]) -> Result<Option<u32>, NoMemory>
+    ensures spells { IfOk result (λ o. IfSome o (λ t. IsSpelled int_sort text.now (tree_at terms.new t) ⊎ IsSpelled val_sort text.now (tree_at terms.new t))) }
+    ensures exact { IfOk result (λ o. MatchOption o (SpellsNoTerm text.now) (λ t. IsOnlyTerm text.now (tree_at terms.new t))) }
+    ensures within { IfOk result (λ o. IfSome o (λ t. t < length terms.new)) }
+    ensures kept { (t : ℕ) → t < length terms.old → tree_at terms.new t ≡ tree_at terms.old t }
+    ensures grows { length terms.old ≤ length terms.new }
+    ensures refused { IfOk result (λ o. IfNone o (length terms.new ≡ length terms.old)) }
+    ensures no_memory { OnErr result (length terms.new ≡ length terms.old) }
+{
+    match spelled(terms, Sort::Int, text)? {
+        Some(term) => Ok(Some(term)),
+        None => match spelled(terms, Sort::Val, text)? {
+            Some(term) => Ok(Some(term)),
+            None => Ok(None),
+        },
+    }
+}
+
+/// The formula that the text spells; likewise.
+pub fn read_formula(terms: &mut Terms, text: &[u8]) -> Result<Option<u32>, NoMemory>
+    ensures spells { IfOk result (λ o. IfSome o (λ t. IsSpelled formula_sort text.now (tree_at terms.new t))) }
+    ensures exact { IfOk result (λ o. MatchOption o (SpellsNone formula_sort text.now) (λ t. IsOnly formula_sort text.now (tree_at terms.new t))) }
+    ensures within { IfOk result (λ o. IfSome o (λ t. t < length terms.new)) }
+    ensures kept { (t : ℕ) → t < length terms.old → tree_at terms.new t ≡ tree_at terms.old t }
+    ensures grows { length terms.old ≤ length terms.new }
+    ensures refused { IfOk result (λ o. IfNone o (length terms.new ≡ length terms.old)) }
+    ensures no_memory { OnErr result (length terms.new ≡ length terms.old) }
+{
+    spelled(terms, Sort::Formula, text)
+}
+
+// The term of a sort that the text spells. At any other answer the list is as it was.
+fn spelled(terms: &mut Terms, sort: Sort, text: &[u8]) -> Result<Option<u32>, NoMemory>
+    ensures spells { IfOk result (λ o. IfSome o (λ t. IsSpelled (sort_seen sort) text.now (tree_at terms.new t))) }
+    ensures exact { IfOk result (λ o. MatchOption o (SpellsNone (sort_seen sort) text.now) (λ t. IsOnly (sort_seen sort) text.now (tree_at terms.new t))) }
+    ensures within { IfOk result (λ o. IfSome o (λ t. t < length terms.new)) }
+    ensures kept { (t : ℕ) → t < length terms.old → tree_at terms.new t ≡ tree_at terms.old t }
+    ensures grows { length terms.old ≤ length terms.new }
+    ensures refused { IfOk result (λ o. IfNone o (length terms.new ≡ length terms.old)) }
+    ensures no_memory { OnErr result (length terms.new ≡ length terms.old) }
+{
+    let mark = terms.mark();
+    match read(terms, sort, text) {
+        Ok(Some(term)) => Ok(Some(term)),
+        Ok(None) => {
+            terms.back_to(mark);
+            Ok(None)
+        }
+        Err(e) => {
+            terms.back_to(mark);
+            Err(e)
+        }
+    }
+}
+
+// The same, but the terms that were made stay. It works on a list of what is still to be read.
+#[tactic(auto, using(crate::proofs::ReadLemmas::read_steps, crate::proofs::ReadLemmas::read_covers))]
+fn read(terms: &mut Terms, sort: Sort, text: &[u8]) -> Result<Option<u32>, NoMemory>
+    ensures spells { IfOk result (λ o. IfSome o (λ t. IsSpelled (sort_seen sort) text.now (tree_at terms.new t))) }
+    ensures exact { IfOk result (λ o. MatchOption o (SpellsNone (sort_seen sort) text.now) (λ t. IsOnly (sort_seen sort) text.now (tree_at terms.new t))) }
+    ensures within { IfOk result (λ o. IfSome o (λ t. t < length terms.new)) }
+    ensures kept { (t : ℕ) → t < length terms.old → tree_at terms.new t ≡ tree_at terms.old t }
+    ensures grows { length terms.old ≤ length terms.new }
+{
+    let alloc = terms.allocator();
+    let mut todo = Vec::new(alloc);
+    let mut done = Vec::new(alloc);
+    let mut rest = text;
+    todo.push(Task::Term(sort))?;
+    for _turn in 0..u64::MAX {
+        match todo.pop() {
+            None => return Ok(ended(rest, &done)),
+            Some(Task::Root(root, base)) => {
+                if !make(terms, &mut done, root, base)? {
+                    return Ok(None);
+                }
+            }
+            Some(task) => match expanded(alloc, task, rest, done.len())? {
+                None => return Ok(None),
+                Some((mut tasks, left)) => {
+                    tasks.reverse();
+                    todo.append(&mut tasks)?;
+                    rest = left;
+                }
+            },
+        }
+    }
+    Err(NoMemory)
+}
+
+// The one term that is done, where the text is at its end.
+fn ended(rest: &[u8], done: &[u32]) -> Option<u32>
+    ensures value { MatchOption result (NotEnded rest.now done.now) (λ t. IsEnded rest.now done.now t) }
+{
+    match (rest, done) {
+        ([], [term]) => Some(*term),
+        _ => None,
+    }
+}
