@@ -1,5 +1,5 @@
 -- The kind that is named, and the names of a record's fields: what stands for them covers all that may come.
-use Rattle.std.proofs.Common.{◌≡◌, ◌↔◌, ℕ, zero, suc, Bool, true, false, List, [], ◌∷◌, ◌++◌, codes, refl, sym, ap, ◌∙◌, subst, arith, rules, length, append_assoc, ◌==◌, IsTrue}
+use Rattle.std.proofs.Common.{◌≡◌, ◌↔◌, ℕ, zero, suc, Bool, true, false, List, [], ◌∷◌, ◌++◌, codes, refl, sym, ap, ◌∙◌, subst, arith, rules, length, append_assoc, ◌==◌, IsTrue, Option, Some, None, Result, Ok, Err, IfOk, MatchOption, Vec, Bor, map}
 use Rattle.std.proofs.lemmas.List.{append-nil}
 use Rattle.wy_scan.specs.Front.{IsBehind, NotBehind, heads, is_word_byte}
 use Rattle.wy_scan.specs.Words.{IsWord, IsWordAt, NoWord, AreFields}
@@ -10,6 +10,10 @@ use Rattle.wy_term.specs.Term as term
 use Rattle.wy_spell.specs.Grammar.{more_names, field_list, kind_before, IsKind}
 use Rattle.wy_spell.specs.Todo.{Work, root, kind_name, kind_fields, Rooted, Goes, Covers, Refuses}
 use Rattle.wy_spell.specs.Fields.{IsKindFieldRead}
+use Rattle.wy_spell.specs.View.{seen}
+use Rattle.wy_spell.specs.declared.work.Task.{Task}
+use Rattle.wy_term.specs.declared.memory.NoMemory.{NoMemory}
+use Rattle.std.specs.declared.alloc.Global.{Global}
 use Rattle.wy_spell.proofs.GoesUp.{apart, no_word_byte, word_is, covers, tail_of, tail_word}
 
 -- ---- kinds by what stands there
@@ -197,5 +201,21 @@ refuse_kind_more names b base i a none comma neither = record { none = by }
     by rest done r is ([], l, range, e, h) = none l (record { is = e })
     by rest done r is (n ∷ ns, l, range, e, h) =
         neither n (more_names ns (125 ∷ 41 ∷ l)) (record { is = sym (tail_of (codes ", ") i a (n ++ more_names ns (125 ∷ 41 ∷ l)) comma e); word = tail_word names n ns range; ends = names_end ns l })
+
+-- the same for what the function that reads a name answers
+
+pub kind_fields_first : (b : ℕ) (i a c : List ℕ) (names : List (List ℕ)) (o : Result (Option (Vec Task Global × Bor (List ℕ))) NoMemory) → names ≡ [] → IsBehind (codes ", ") i a → NotBehind (codes "{})") a → IsBehind (codes "{") a c
+    → IfOk o (λ r. MatchOption r (NoWord c) (λ p. IsKindFieldRead names b c (map seen p.0.items) p.1.now))
+    → IfOk o (λ r. MatchOption r ((n : ℕ) → Refuses (kind_name b) i n) (λ p. (n : ℕ) → Covers (kind_name b) i n (map seen p.0.items) p.1.now))
+kind_fields_first b i a c names (Err e) empty comma none brace read = tt
+kind_fields_first b i a c names (Ok None) empty comma none brace read = λ n. refuse_kind_first b n i a c comma none brace read
+kind_fields_first b i a c names (Ok (Some p)) empty comma none brace read = λ n. cover_kind_first b n i a c p.1.now names (map seen p.0.items) empty comma none brace read
+
+pub kind_fields_more : (names : List (List ℕ)) (b : ℕ) (i a : List ℕ) (o : Result (Option (Vec Task Global × Bor (List ℕ))) NoMemory) → NotBehind (codes "})") i → IsBehind (codes ", ") i a
+    → IfOk o (λ r. MatchOption r (NoWord a) (λ p. IsKindFieldRead names b a (map seen p.0.items) p.1.now))
+    → IfOk o (λ r. MatchOption r ((n : ℕ) → Refuses (kind_fields names b) i n) (λ p. (n : ℕ) → Covers (kind_fields names b) i n (map seen p.0.items) p.1.now))
+kind_fields_more names b i a (Err e) none comma read = tt
+kind_fields_more names b i a (Ok None) none comma read = λ n. refuse_kind_more names b n i a none comma read
+kind_fields_more names b i a (Ok (Some p)) none comma read = λ n. cover_kind_more names b n i a p.1.now (map seen p.0.items) comma read
 
 pub ruleset kind_covers = (cover_kind_null, cover_kind_bool, cover_kind_int, cover_kind_array, cover_no_kind_fields, cover_kind_first, refuse_kind_comma, refuse_kind, refuse_kind_first, cover_last_kind_field, refuse_last_kind_field, cover_kind_more, refuse_kind_fields_here, refuse_kind_more)

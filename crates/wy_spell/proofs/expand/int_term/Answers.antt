@@ -1,0 +1,16 @@
+use Rattle.std.proofs.Common.{rules, arith, ◌≡◌, ◌↔◌, ◌≤◌, ◌^◌, Bool, false, IsTrue, [], ◌∷◌, codes, map}
+use Rattle.wy_spell.specs.View.{seen}
+use Rattle.wy_term.specs.Term as term
+use Rattle.wy_scan.specs.Numbers.{IsWholeAt}
+use Rattle.wy_spell.specs.Todo.{root}
+use Rattle.wy_spell.proofs.GoesLemmas.{of_number}
+use Rattle.wy_spell.proofs.GoesUp.{cover_number}
+use Rattle.wy_spell.proofs.expand.int_term.Goals as goal
+
+pub returns-in_ok-alone-in-Some-clause-sound : goal.returns-in_ok-alone-in-Some-clause-sound
+returns-in_ok-alone-in-Some-clause-sound c =
+    search (rules, of_number)
+
+pub returns-in_ok-alone-in-Some-clause-complete : goal.returns-in_ok-alone-in-Some-clause-complete
+returns-in_ok-alone-in-Some-clause-complete c =
+    search (rules, cover_number)
