@@ -8,7 +8,7 @@ use Rattle.wy_spell.specs.Todo.{arity, Has, as_parts}
 use Rattle.wy_spell.specs.Done.{trees, IsMade, CannotBe}
 use Rattle.wy_scan.proofs.RunLemmas.{true_false}
 use Rattle.wy_scan.proofs.WordLemmas.{from_true}
-use Rattle.std.proofs.lemmas.List.{length-drop}
+use Rattle.std.proofs.lemmas.List.{length-drop, take_all}
 
 pub parts_at-trees : (nodes : List Plain) (ks : List ℕ) → parts_at (tree_at nodes) ks ≡ as_parts (trees nodes ks)
 parts_at-trees nodes [] = refl
@@ -28,7 +28,7 @@ trees-append : (nodes : List Plain) (ks : List ℕ) (t : ℕ) → trees nodes (k
 trees-append nodes [] t = refl
 trees-append nodes (k ∷ ks) t = ap (λ (x : List Term). tree_at nodes k ∷ x) (trees-append nodes ks t)
 
-trees_length : (nodes : List Plain) (ks : List ℕ) → length (trees nodes ks) ≡ length ks
+pub trees_length : (nodes : List Plain) (ks : List ℕ) → length (trees nodes ks) ≡ length ks
 trees_length nodes [] = refl
 trees_length nodes (k ∷ ks) = ap suc (trees_length nodes ks)
 
@@ -62,14 +62,18 @@ made_of old new ks symbol base t n plain below kept within has is = record {
       ∙ ap (λ (x : Term). take base (trees old ks) ++ x ∷ []) (is ∙ ap (λ (m : Plain). folded (grown (tree_at old) m)) plain ∙ ap (λ (x : Parts). folded (Of symbol x)) (parts_at-trees old (drop base ks) ∙ ap as_parts (sym (trees-drop old base ks))));
 }
 
+-- what a slice to the end holds
+pub sliced : (raw ks : List ℕ) (base : ℕ) → raw ≡ ks → take (length raw - base) (drop base raw) ≡ drop base ks
+sliced raw ks base same = take_all (length raw - base) (drop base raw) (omega (arith, length-drop base raw)) ∙ ap (drop base) same
+
 -- too few terms are done
 pub cannot_short : (nodes : List Plain) (ks : List ℕ) (symbol : Symbol) (base : ℕ) → length ks < base → CannotBe symbol base (trees nodes ks)
 cannot_short nodes ks symbol base short = record { none = λ within has. absurd (omega (arith, short, within, trees_length nodes ks)) }
 
 -- or another number of them
 pub cannot_count : (nodes : List Plain) (ks : List ℕ) (symbol : Symbol) (base : ℕ) (b : Bool) → (IsTrue b ↔ Has (arity symbol) (length ks - base)) → b ≡ false → CannotBe symbol base (trees nodes ks)
-cannot_count nodes ks symbol base b fits no = record {
-  none = λ within has. true_false b (from_true b (fits.1 (subst (Has (arity symbol)) (length-drop base (trees nodes ks) ∙ ap (λ n. n - base) (trees_length nodes ks)) has))) no;
+cannot_count nodes ks symbol base b fits fails = record {
+  none = λ within has. true_false b (from_true b (fits.1 (subst (Has (arity symbol)) (length-drop base (trees nodes ks) ∙ ap (λ n. n - base) (trees_length nodes ks)) has))) fails;
 }
 
 pub ruleset make_steps = (made_of, below_parts, below_push)

@@ -9,4 +9,5 @@ pub mod KindUp
 pub mod OneSort
 pub mod CodeLemmas
 pub mod DoneLemmas
+pub mod TurnLemmas
 pub mod ReadLemmas

@@ -1,14 +1,16 @@
 //! Terms and formulas read from their texts.
-ghost use Rattle.std.specs.Prelude.{◌≡◌, ◌<◌, ◌≤◌, ◌⊎◌, ℕ, IfOk, IfSome, MatchOption, OnErr, IfNone, length};
+ghost use Rattle.std.specs.Prelude.{◌≡◌, ◌<◌, ◌≤◌, ◌⊎◌, ℕ, IfOk, IfSome, MatchOption, OnErr, IfNone, length, All, map, reverse};
 ghost use Rattle.wy_term.specs.Nodes.{tree_at};
 ghost use Rattle.wy_term.specs.Sorts.{int_sort, val_sort, formula_sort};
 ghost use Rattle.wy_spell.specs.Made.{IsSpelled, SpellsNone, IsOnly, SpellsNoTerm, IsOnlyTerm};
-ghost use Rattle.wy_spell.specs.Done.{IsEnded, NotEnded};
-ghost use Rattle.wy_spell.specs.View.{sort_seen};
+ghost use Rattle.wy_spell.specs.Todo.{Refuses};
+ghost use Rattle.wy_spell.specs.Done.{IsEnded, NotEnded, trees, Blocks, Turns, Puts};
+ghost use Rattle.wy_spell.specs.View.{seen, sort_seen};
 
 use crate::expand::expanded;
 use crate::root::make;
 use crate::work::{Sort, Task};
+use std::alloc::Global;
 use wy_term::{NoMemory, Terms};
 
 /// The Int term or Val term that the text spells, each node folded as it is made, and None exactly where the text spells
@@ -71,7 +73,6 @@ fn spelled(terms: &mut Terms, sort: Sort, text: &[u8]) -> Result<Option<u32>, No
 }
 
 // The same, but the terms that were made stay. It works on a list of what is still to be read.
-#[tactic(auto, using(crate::proofs::ReadLemmas::read_steps, crate::proofs::ReadLemmas::read_covers))]
 fn read(terms: &mut Terms, sort: Sort, text: &[u8]) -> Result<Option<u32>, NoMemory>
     ensures spells { IfOk result (λ o. IfSome o (λ t. IsSpelled (sort_seen sort) text.now (tree_at terms.new t))) }
     ensures exact { IfOk result (λ o. MatchOption o (SpellsNone (sort_seen sort) text.now) (λ t. IsOnly (sort_seen sort) text.now (tree_at terms.new t))) }
@@ -85,24 +86,64 @@ fn read(terms: &mut Terms, sort: Sort, text: &[u8]) -> Result<Option<u32>, NoMem
     let mut rest = text;
     todo.push(Task::Term(sort))?;
     for _turn in 0..u64::MAX {
-        match todo.pop() {
-            None => return Ok(ended(rest, &done)),
-            Some(Task::Root(root, base)) => {
-                if !make(terms, &mut done, root, base)? {
-                    return Ok(None);
-                }
-            }
-            Some(task) => match expanded(alloc, task, rest, done.len())? {
-                None => return Ok(None),
-                Some((mut tasks, left)) => {
-                    tasks.reverse();
-                    todo.append(&mut tasks)?;
-                    rest = left;
-                }
-            },
+        let Some(task) = todo.pop() else {
+            return Ok(ended(rest, &done));
+        };
+        match turn(terms, &mut todo, &mut done, rest, task)? {
+            None => return Ok(None),
+            Some(left) => rest = left,
         }
     }
     Err(NoMemory)
+}
+
+// Does the thing that comes first, and gives the text that is left; None where it can't be done.
+#[tactic(auto, using(crate::proofs::TurnLemmas::turn_steps))]
+fn turn<'a>(
+    terms: &mut Terms,
+    todo: &mut Vec<Task>,
+    done: &mut Vec<u32>,
+    text: &'a [u8],
+    task: Task,
+) -> Result<Option<&'a [u8]>, NoMemory>
+    requires { All (λ k. k < length terms.old) done.old.items }
+    ensures value { IfOk result (λ o. MatchOption o (Blocks (seen task) text.now (trees terms.old done.old.items) (map seen (reverse todo.old.items)))
+        (λ left. Turns (seen task) text.now (trees terms.old done.old.items) (map seen (reverse todo.old.items)) (map seen (reverse todo.new.items)) left.now (trees terms.new done.new.items))) }
+    ensures below { IfOk result (λ o. IfSome o (λ left. All (λ k. k < length terms.new) done.new.items)) }
+    ensures kept { (t : ℕ) → t < length terms.old → tree_at terms.new t ≡ tree_at terms.old t }
+    ensures grows { length terms.old ≤ length terms.new }
+{
+    match task {
+        Task::Root(root, base) => {
+            if !make(terms, done, root, base)? {
+                return Ok(None);
+            }
+            Ok(Some(text))
+        }
+        task => put(terms.allocator(), todo, task, text, done.len()),
+    }
+}
+
+// Puts what stands for a thing, where so many terms are done, on the list in its place.
+#[tactic(auto, using(crate::proofs::TurnLemmas::put_steps))]
+fn put<'a>(
+    alloc: Global,
+    todo: &mut Vec<Task>,
+    task: Task,
+    text: &'a [u8],
+    done: usize,
+) -> Result<Option<&'a [u8]>, NoMemory>
+    ensures value { IfOk result (λ o. MatchOption o (Refuses (seen task) text.now done)
+        (λ left. Puts (seen task) text.now done (map seen (reverse todo.old.items)) (map seen (reverse todo.new.items)) left.now)) }
+{
+    match expanded(alloc, task, text, done)? {
+        None => Ok(None),
+        Some((mut tasks, left)) => {
+            tasks.reverse();
+            todo.append(&mut tasks)?;
+            Ok(Some(left))
+        }
+    }
 }
 
 // The one term that is done, where the text is at its end.

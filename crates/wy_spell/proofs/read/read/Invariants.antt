@@ -6,8 +6,8 @@ use Rattle.wy_spell.specs.Done.{trees}
 use Rattle.wy_spell.specs.View.{seen, sort_seen}
 use Rattle.wy_spell.proofs.read.read.Given as goal
 
-abbrev pub invariant-loop-_turn : goal.invariant-loop-_turn
-invariant-loop-_turn l = record {
+abbrev pub invariant-loop-turn : goal.invariant-loop-turn
+invariant-loop-turn l = record {
   sound : (r : Term) → Goes (map seen (reverse l.todo.items)) l.rest (trees l.terms l.done.items) r → Goes (a_term (sort_seen l.fn.sort) ∷ []) l.fn.text [] r;
   complete : (r : Term) → Goes (a_term (sort_seen l.fn.sort) ∷ []) l.fn.text [] r → Goes (map seen (reverse l.todo.items)) l.rest (trees l.terms l.done.items) r;
   below : All (λ k. k < length l.terms) l.done.items;
