@@ -1,11 +1,10 @@
 -- What the code finds at the front of a text is what the definitions say.
-use Rattle.std.proofs.Common.{◌≡◌, ℕ, zero, suc, ◌<◌, ◌≤◌, ◌+◌, Bool, true, false, List, [], ◌∷◌, ◌++◌, Option, Some, None, length, map, drop, get_or, refl, sym, ap, ◌∙◌, subst, arith, add-one, drop-cons, Bor, ◌==◌, if◌then◌else◌, eq-eqb, eqb-true}
+use Rattle.std.proofs.Common.{◌≡◌, ℕ, ◌<◌, ◌≤◌, ◌+◌, Bool, true, false, List, [], ◌∷◌, ◌++◌, Option, Some, None, length, map, drop, get_or, refl, sym, ap, ◌∙◌, subst, add-one, drop-cons, Bor, ◌==◌, if◌then◌else◌, eq-eqb, eqb-true}
 use Rattle.std.proofs.lemmas.List.{drop_all}
-use Rattle.wy_scan.specs.Front.{is_digit, is_word_byte, heads, AllPass, IsRun, IsBehind, NotBehind}
+use Rattle.wy_scan.specs.Front.{is_word_byte, heads, IsRun, IsBehind, NotBehind}
 use Rattle.wy_spell.specs.declared.lead.Lead.{Lead}
-use Rattle.wy_spell.specs.declared.lead.Class.{Class}
 use Rattle.wy_spell.specs.declared.lead.Class.TheVariants as class
-use Rattle.wy_spell.specs.Heads.{behind_word, row_or, lead_in, leads, lead_at, class_at, by_sign, behind_run, is_number_byte}
+use Rattle.wy_spell.specs.Heads.{behind_word, row_or, lead_in, class_at, by_sign, behind_run, is_number_byte}
 use Rattle.wy_spell.proofs.FrontLemmas.{behind_run_of}
 
 pub behind_word_some : (w i k : List ℕ) → IsBehind w i k → behind_word w i ≡ Some k

@@ -1,7 +1,7 @@
 -- Terms by number while the list grows.
-use Rattle.std.proofs.Common.{◌≡◌, ◌↔◌, Bool, true, false, IsTrue, ℕ, zero, suc, ◌+◌, ◌-◌, ◌<◌, ◌≤◌, List, [], ◌∷◌, ◌++◌, All, length, map, take, drop, get_or, refl, sym, ap, ◌∙◌, subst, arith, rules}
+use Rattle.std.proofs.Common.{◌≡◌, ◌↔◌, Bool, false, IsTrue, ℕ, zero, suc, ◌-◌, ◌<◌, ◌≤◌, List, [], ◌∷◌, ◌++◌, All, length, take, drop, refl, sym, ap, ◌∙◌, subst, arith}
 use Rattle.std.proofs.lemmas.List.Elements.{All-append, All-take, All-drop}
-use Rattle.wy_term.specs.Term.{Symbol, Term, Of, Parts, no_parts, part}
+use Rattle.wy_term.specs.Term.{Symbol, Term, Of, Parts, part}
 use Rattle.wy_term.specs.Folding.{folded}
 use Rattle.wy_term.specs.Nodes.{Plain, tree_at, parts_at, grown, of, HasPartsBelow}
 use Rattle.wy_spell.specs.Todo.{arity, Has, as_parts}

@@ -1,10 +1,7 @@
 -- A formula, by the front of the text.
-use Rattle.std.proofs.Common.{◌≡◌, ℕ, zero, suc, Bool, true, false, ◌⊎◌, inl, inr, List, [], ◌∷◌, ◌++◌, Option, Some, None, codes, refl, sym, ap, ◌∙◌, subst, arith, rules, length, ◌==◌, if◌then◌else◌, eqb-true, append_assoc}
-use Rattle.std.proofs.lemmas.List.{append-nil}
-use Rattle.std.specs.Fmt.{decimal, signed_decimal}
-use Rattle.wy_scan.specs.Front.{is_digit, is_word_byte, heads}
-use Rattle.wy_scan.specs.Numbers.{is_wide, IsWholeAt}
-use Rattle.wy_scan.specs.Words.{IsWord, IsNumberedAt, AreFields}
+use Rattle.std.proofs.Common.{◌≡◌, ℕ, Bool, true, false, inl, inr, List, [], ◌∷◌, ◌++◌, Option, Some, None, codes, refl, sym, ap, ◌∙◌, subst, length, ◌==◌, if◌then◌else◌, eqb-true}
+use Rattle.std.specs.Fmt.{decimal}
+use Rattle.wy_scan.specs.Front.{is_word_byte, heads}
 use Rattle.wy_term.specs.Term.{DataKind, Symbol, Term, Of, Parts, no_parts, part, leaf}
 use Rattle.wy_term.specs.Term as term
 use Rattle.wy_term.specs.Sorts.{Sort, int_sort, val_sort, formula_sort}
@@ -13,12 +10,12 @@ use Rattle.wy_spell.specs.declared.lead.Lead.{Lead}
 use Rattle.wy_spell.specs.declared.lead.Lead.TheVariants as lead
 use Rattle.wy_spell.specs.declared.lead.Class.{Class}
 use Rattle.wy_spell.specs.declared.lead.Class.TheVariants as class
-use Rattle.wy_spell.specs.Grammar.{Spans, Laid, texts, gapped, worded, field_gaps, goes_on, goes_on_or_space, elements, members, IsNumbered, bounds}
-use Rattle.wy_spell.specs.Made.{made, made_parts}
-use Rattle.wy_spell.specs.Todo.{Work, Ways, Rooted, OneTerm, All, Has, arity, listed}
-use Rattle.wy_spell.specs.Heads.{class_at, lead_at, begins_with, by_sign, behind_run, IntBy, ValBy, FormulaBy, ByLead, ByWorks, int_works, val_works, formula_works, parted, blocked, sort_by}
+use Rattle.wy_spell.specs.Grammar.{Spans, goes_on_or_space}
+use Rattle.wy_spell.specs.Made.{made}
+use Rattle.wy_spell.specs.Todo.{Ways, Rooted, OneTerm, All}
+use Rattle.wy_spell.specs.Heads.{class_at, lead_at, begins_with, by_sign, behind_run, FormulaBy, ByLead, ByWorks, formula_works, parted, blocked, sort_by}
 use Rattle.wy_spell.proofs.FrontLemmas.{class_of_name, class_of_number, lead_word, lead_is}
-use Rattle.wy_spell.proofs.LaidLemmas.{from_laid, to_laid, Parted, rooted_up, rooted_down, laid_count, parts_count, fields_count, leaf_up, leaf_down, Led, led_up, led_down}
+use Rattle.wy_spell.proofs.LaidLemmas.{rooted_up, rooted_down, leaf_up, leaf_down, led_up, led_down}
 
 -- behind `true` and `false` as formulas
 after_formula : (l : List ℕ) → heads goes_on_or_space l ≡ false → by_sign (behind_run l) ≡ class.Lead

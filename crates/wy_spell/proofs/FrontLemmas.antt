@@ -1,12 +1,10 @@
 -- What the front of a text says of names and leads.
-use Rattle.std.proofs.Common.{◌≡◌, ℕ, zero, suc, Bool, true, false, List, [], ◌∷◌, ◌++◌, Option, Some, None, codes, refl, sym, ap, ◌∙◌, subst, arith, rules, ℤ, pos, negsuc, ◌<◌, ◌^◌, length, ◌==◌, if◌then◌else◌, eqb-true}
+use Rattle.std.proofs.Common.{◌≡◌, ℕ, Bool, true, false, List, [], ◌∷◌, ◌++◌, Option, Some, None, codes, refl, ap, ◌∙◌, arith, ℤ, pos, negsuc, ◌<◌, length, ◌==◌, if◌then◌else◌, eqb-true}
 use Rattle.std.specs.Fmt.{decimal, signed_decimal}
-use Rattle.wy_scan.specs.Front.{is_digit, is_word_byte, heads, AllPass, IsRun}
-use Rattle.wy_scan.specs.Numbers.{is_wide, IsWholeAt}
-use Rattle.wy_scan.specs.Words.{IsWord, IsNumberedAt}
-use Rattle.wy_scan.proofs.RunLemmas.{true_false}
-use Rattle.wy_scan.proofs.NumberLemmas.{decimal_passes, wide_pos, wide_neg, numeral}
-use Rattle.wy_spell.specs.declared.lead.Class.{Class}
+use Rattle.wy_scan.specs.Front.{is_digit, is_word_byte, heads, AllPass}
+use Rattle.wy_scan.specs.Numbers.{is_wide}
+use Rattle.wy_scan.specs.Words.{IsWord}
+use Rattle.wy_scan.proofs.NumberLemmas.{decimal_passes, wide_pos, numeral}
 use Rattle.wy_spell.specs.declared.lead.Class.TheVariants as class
 use Rattle.wy_spell.specs.declared.lead.Lead.{Lead}
 use Rattle.wy_spell.specs.declared.lead.Lead.TheVariants as lead

@@ -1,19 +1,19 @@
 -- What stands for a thing to be read comes of no less than it.
-use Rattle.std.proofs.Common.{◌≡◌, ℕ, zero, suc, Bool, true, false, List, [], ◌∷◌, ◌++◌, Option, Some, None, codes, refl, sym, ap, ◌∙◌, subst, arith, rules, length, ◌<◌, ◌^◌, ℤ, append_assoc, if◌then◌else◌}
+use Rattle.std.proofs.Common.{◌≡◌, ℕ, Bool, true, false, List, [], ◌∷◌, ◌++◌, Option, Some, None, codes, refl, sym, ap, ◌∙◌, subst, length, ◌<◌, ◌^◌, ℤ, append_assoc, if◌then◌else◌}
 use Rattle.std.proofs.lemmas.List.{append-nil}
 use Rattle.std.specs.Fmt.{decimal}
 use Rattle.wy_scan.specs.Front.{IsBehind}
 use Rattle.wy_scan.specs.Numbers.{IsWholeAt, IsNaturalAt}
-use Rattle.wy_scan.specs.Words.{IsWord, IsWordAt, IsNumberedAt, AreFields}
+use Rattle.wy_scan.specs.Words.{IsWordAt, IsNumberedAt, AreFields}
 use Rattle.wy_term.specs.Term.{DataKind, null_kind, bool_kind, int_kind, array_kind, record_kind, Symbol, Term, Of, Parts, no_parts, part}
 use Rattle.wy_term.specs.Term as term
 use Rattle.wy_term.specs.Sorts.{Sort, int_sort, val_sort, formula_sort}
 use Rattle.wy_term.specs.Folding.{binder}
 use Rattle.wy_spell.specs.declared.lead.Lead.{Lead}
 use Rattle.wy_spell.specs.declared.lead.Class.TheVariants as class
-use Rattle.wy_spell.specs.Grammar.{Series, Spans, Laid, gapped, first_of, more_of, field_gaps, closing, between, sort_in, more_names, IsKind, IsNumbered}
+use Rattle.wy_spell.specs.Grammar.{Series, Spans, Laid, gapped, field_gaps, closing, between, sort_in}
 use Rattle.wy_spell.specs.Made.{made, made_parts}
-use Rattle.wy_spell.specs.Todo.{Work, word, a_term, root, first, more, first_field, more_fields, field_name, set_field_name, kind_name, kind_fields, type_number, bind, listed, Ways, Rooted, OneTerm, InLayout, FieldsBehind, Does, All, Goes, Replaces}
+use Rattle.wy_spell.specs.Todo.{Work, word, a_term, root, first, more, first_field, more_fields, field_name, set_field_name, kind_name, kind_fields, type_number, bind, listed, Ways, Rooted, FieldsBehind, Does, All, Goes, Replaces}
 use Rattle.wy_spell.specs.Fields.{IsFieldRead, IsKindFieldRead}
 use Rattle.wy_spell.specs.Heads.{lead_at, led_at, led_by, with_rest, works_of, blocked, parted, ByLead, ByWorks}
 use Rattle.wy_spell.proofs.IntHeads.{int_down}

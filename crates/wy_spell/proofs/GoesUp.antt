@@ -1,5 +1,5 @@
 -- What stands for a thing to be read covers all that may come of it, and where nothing stands for it nothing may come.
-use Rattle.std.proofs.Common.{◌≡◌, ◌↔◌, ℕ, zero, suc, Bool, true, false, List, [], ◌∷◌, ◌++◌, Option, Some, None, codes, refl, sym, ap, ◌∙◌, subst, arith, rules, length, ◌<◌, ◌≤◌, ◌^◌, ℤ, append_assoc, if◌then◌else◌, ◌==◌, eq-eqb, IsTrue}
+use Rattle.std.proofs.Common.{◌≡◌, ◌↔◌, ℕ, Bool, true, false, List, [], ◌∷◌, ◌++◌, Option, Some, None, codes, refl, sym, ap, ◌∙◌, subst, arith, length, ◌≤◌, ◌^◌, ℤ, append_assoc, if◌then◌else◌, ◌==◌, eq-eqb, IsTrue}
 use Rattle.std.proofs.lemmas.List.{append-nil}
 use Rattle.std.specs.Fmt.{decimal}
 use Rattle.std.specs.Str.{chars}
@@ -9,7 +9,7 @@ use Rattle.wy_scan.specs.Numbers.{IsWholeAt, IsNaturalAt, NoWhole, NoNatural}
 use Rattle.wy_scan.specs.Words.{IsWord, IsWordAt, NoWord, IsNumberedAt, NoNumbered, AreFields, AreWords}
 use Rattle.wy_scan.proofs.RunLemmas.{true_false, RunsSame}
 use Rattle.wy_scan.proofs.WordLemmas.{from_true}
-use Rattle.wy_scan.proofs.OneReading.{one_natural, one_whole, one_word, one_numbered, OneNatural, OneWhole, OneNumbered}
+use Rattle.wy_scan.proofs.OneReading.{one_natural, one_whole, one_word, one_numbered}
 use Rattle.wy_term.specs.Term.{DataKind, null_kind, bool_kind, int_kind, array_kind, record_kind, Symbol, Term, Of, Parts, no_parts, part}
 use Rattle.wy_term.specs.Term as term
 use Rattle.wy_term.specs.Sorts.{Sort, int_sort, val_sort, formula_sort}
@@ -17,11 +17,11 @@ use Rattle.wy_term.specs.Folding.{binder}
 use Rattle.wy_spell.specs.declared.lead.Lead.{Lead}
 use Rattle.wy_spell.specs.declared.lead.Class.{Class}
 use Rattle.wy_spell.specs.declared.lead.Class.TheVariants as class
-use Rattle.wy_spell.specs.Grammar.{Series, elements, members, Spans, Laid, gapped, first_of, more_of, field_gaps, closing, between, sort_in, more_names, field_list, kind_before, IsKind, IsNumbered}
+use Rattle.wy_spell.specs.Grammar.{Series, elements, members, Spans, Laid, gapped, more_of, field_gaps, closing, between, sort_in}
 use Rattle.wy_spell.specs.Made.{made, made_parts}
-use Rattle.wy_spell.specs.Todo.{Work, word, a_term, root, first, more, first_field, more_fields, field_name, set_field_name, kind_name, kind_fields, type_number, bind, listed, Ways, Rooted, OneTerm, InLayout, FieldsBehind, Does, All, Goes, Covers, Refuses}
-use Rattle.wy_spell.specs.Fields.{IsFieldRead, IsKindFieldRead, NoField}
-use Rattle.wy_spell.specs.Heads.{lead_at, class_at, begins_with, led_at, led_by, with_rest, works_of, blocked, parted, IntBy, ValBy, FormulaBy, ByLead, ByWorks}
+use Rattle.wy_spell.specs.Todo.{Work, word, a_term, root, first, more, first_field, more_fields, field_name, set_field_name, type_number, bind, listed, Ways, Rooted, FieldsBehind, All, Goes, Covers, Refuses}
+use Rattle.wy_spell.specs.Fields.{IsFieldRead, NoField}
+use Rattle.wy_spell.specs.Heads.{lead_at, class_at, begins_with, led_at, led_by, with_rest, works_of, parted, IntBy, ValBy, FormulaBy, ByLead, ByWorks}
 use Rattle.wy_spell.proofs.IntHeads.{int_up}
 use Rattle.wy_spell.proofs.ValHeads.{val_up}
 use Rattle.wy_spell.proofs.FormulaHeads.{formula_up}

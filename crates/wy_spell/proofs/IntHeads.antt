@@ -1,23 +1,19 @@
 -- An Int term, by the front of the text.
-use Rattle.std.proofs.Common.{◌≡◌, ℕ, zero, suc, Bool, true, false, ◌⊎◌, inl, inr, List, [], ◌∷◌, ◌++◌, Option, Some, None, codes, refl, sym, ap, ◌∙◌, subst, arith, rules, length}
-use Rattle.std.proofs.lemmas.List.{append-nil}
+use Rattle.std.proofs.Common.{◌≡◌, ℕ, inl, inr, List, [], ◌∷◌, ◌++◌, Option, Some, None, refl, sym, ap, ◌∙◌, subst, length}
 use Rattle.std.specs.Fmt.{decimal, signed_decimal}
-use Rattle.wy_scan.specs.Front.{is_digit, is_word_byte, heads}
-use Rattle.wy_scan.specs.Numbers.{is_wide, IsWholeAt}
-use Rattle.wy_scan.specs.Words.{IsWord, IsNumberedAt, AreFields}
 use Rattle.wy_term.specs.Term.{DataKind, Symbol, Term, Of, Parts, no_parts, part, leaf}
 use Rattle.wy_term.specs.Term as term
-use Rattle.wy_term.specs.Sorts.{Sort, int_sort, val_sort, formula_sort}
+use Rattle.wy_term.specs.Sorts.{int_sort}
 use Rattle.wy_spell.specs.declared.lead.Lead.{Lead}
 use Rattle.wy_spell.specs.declared.lead.Lead.TheVariants as lead
 use Rattle.wy_spell.specs.declared.lead.Class.{Class}
 use Rattle.wy_spell.specs.declared.lead.Class.TheVariants as class
-use Rattle.wy_spell.specs.Grammar.{Spans, Laid, texts, gapped, worded, field_gaps, goes_on, goes_on_or_space, elements, members, IsNumbered, bounds}
-use Rattle.wy_spell.specs.Made.{made, made_parts}
-use Rattle.wy_spell.specs.Todo.{Work, Ways, Rooted, OneTerm, All, Has, arity, listed}
-use Rattle.wy_spell.specs.Heads.{class_at, lead_at, begins_with, by_sign, behind_run, IntBy, ValBy, FormulaBy, ByLead, ByWorks, int_works, val_works, formula_works, parted}
+use Rattle.wy_spell.specs.Grammar.{Spans}
+use Rattle.wy_spell.specs.Made.{made}
+use Rattle.wy_spell.specs.Todo.{Ways, OneTerm}
+use Rattle.wy_spell.specs.Heads.{class_at, lead_at, IntBy, ByLead, ByWorks, int_works}
 use Rattle.wy_spell.proofs.FrontLemmas.{class_of_name, class_of_number, lead_word, lead_is}
-use Rattle.wy_spell.proofs.LaidLemmas.{from_laid, to_laid, Parted, rooted_up, rooted_down, laid_count, parts_count, fields_count, leaf_up, leaf_down, Led, led_up, led_down}
+use Rattle.wy_spell.proofs.LaidLemmas.{leaf_up, leaf_down, led_up, led_down}
 
 -- what may come of an Int term comes of what stands at the front
 pub int_up : (symbol : Symbol) (ps : Parts) (base : ℕ) (next : Ways) (i k : List ℕ) (done : List Term) (r : Term) → length done ≡ base → Spans (Of symbol ps) int_sort i k → next k (done ++ made (Of symbol ps) ∷ []) r → IntBy (class_at i) base i next done r

@@ -1,13 +1,13 @@
 -- The kind that is named, and the names of a record's fields: what stands for them covers all that may come.
-use Rattle.std.proofs.Common.{◌≡◌, ◌↔◌, ℕ, zero, suc, Bool, true, false, List, [], ◌∷◌, ◌++◌, codes, refl, sym, ap, ◌∙◌, subst, arith, rules, length, append_assoc, ◌==◌, IsTrue, Option, Some, None, Result, Ok, Err, IfOk, MatchOption, Vec, Bor, map}
+use Rattle.std.proofs.Common.{◌≡◌, ◌↔◌, ℕ, Bool, false, List, [], ◌∷◌, ◌++◌, codes, refl, sym, ap, ◌∙◌, subst, length, append_assoc, IsTrue, Option, Some, None, Result, Ok, Err, IfOk, MatchOption, Vec, Bor, map}
 use Rattle.std.proofs.lemmas.List.{append-nil}
 use Rattle.wy_scan.specs.Front.{IsBehind, NotBehind, heads, is_word_byte}
-use Rattle.wy_scan.specs.Words.{IsWord, IsWordAt, NoWord, AreFields}
-use Rattle.wy_scan.proofs.RunLemmas.{true_false, RunsSame}
+use Rattle.wy_scan.specs.Words.{NoWord, AreFields}
+use Rattle.wy_scan.proofs.RunLemmas.{true_false}
 use Rattle.wy_scan.proofs.WordLemmas.{from_true}
 use Rattle.wy_term.specs.Term.{DataKind, null_kind, bool_kind, int_kind, array_kind, record_kind, Term}
 use Rattle.wy_term.specs.Term as term
-use Rattle.wy_spell.specs.Grammar.{more_names, field_list, kind_before, IsKind}
+use Rattle.wy_spell.specs.Grammar.{more_names, kind_before, IsKind}
 use Rattle.wy_spell.specs.Todo.{Work, root, kind_name, kind_fields, Rooted, Goes, Covers, Refuses}
 use Rattle.wy_spell.specs.Fields.{IsKindFieldRead}
 use Rattle.wy_spell.specs.View.{seen}

@@ -1,13 +1,13 @@
 -- Parts with fixed texts between them, as a layout and as a list of things to be read.
-use Rattle.std.proofs.Common.{◌≡◌, ◌↔◌, ℕ, zero, suc, ◌+◌, ◌≤◌, List, [], ◌∷◌, ◌++◌, Option, Some, None, length, take, drop, refl, sym, ap, ◌∙◌, subst, arith, append_assoc}
+use Rattle.std.proofs.Common.{◌≡◌, ℕ, suc, List, [], ◌∷◌, ◌++◌, Some, length, take, drop, refl, sym, ap, ◌∙◌, subst, arith, append_assoc}
 use Rattle.std.proofs.lemmas.List.{append-nil, length-append}
 use Rattle.std.proofs.Math.Seq.{drop-append_seam, take-append_seam}
 use Rattle.wy_term.specs.Term.{Symbol, Term, Of, Parts, no_parts, part, leaf}
 use Rattle.wy_term.specs.Sorts.{Sort}
 use Rattle.wy_term.specs.Folding.{folded}
-use Rattle.wy_spell.specs.Grammar.{Layout, gapped, worded, texts, field_gaps, Spans, Laid}
+use Rattle.wy_spell.specs.Grammar.{gapped, worded, texts, field_gaps, Spans, Laid}
 use Rattle.wy_spell.specs.Made.{made, made_parts}
-use Rattle.wy_spell.specs.Todo.{Work, root, listed, as_parts, arity, Has, Ways, Rooted, OneTerm, Bytes, Does, All, gap_works}
+use Rattle.wy_spell.specs.Todo.{root, listed, as_parts, arity, Has, Ways, Rooted, All, gap_works}
 
 pub as_parts-listed : (ps : Parts) → as_parts (listed ps) ≡ ps
 as_parts-listed no_parts = refl

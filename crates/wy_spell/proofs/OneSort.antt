@@ -1,12 +1,12 @@
 -- No text spells an Int term and a Val term.
-use Rattle.std.proofs.Common.{◌≡◌, ℕ, List, [], ◌∷◌, Option, Some, None, refl}
+use Rattle.std.proofs.Common.{ℕ, List, [], Option, Some, None, refl}
 use Rattle.wy_term.specs.Term.{Term}
 use Rattle.wy_term.specs.Sorts.{int_sort, val_sort}
 use Rattle.wy_spell.specs.declared.lead.Lead.{Lead}
 use Rattle.wy_spell.specs.declared.lead.Lead.TheVariants as lead
 use Rattle.wy_spell.specs.declared.lead.Class.{Class}
 use Rattle.wy_spell.specs.declared.lead.Class.TheVariants as class
-use Rattle.wy_spell.specs.Grammar.{Spans, Spells}
+use Rattle.wy_spell.specs.Grammar.{Spells}
 use Rattle.wy_spell.specs.Made.{IsSpelled, SpellsNone, IsOnly, SpellsNoTerm, IsOnlyTerm}
 use Rattle.wy_spell.specs.Heads.{class_at, lead_at, IntBy, ValBy, ByLead, ByWorks, int_works, val_works}
 use Rattle.wy_spell.proofs.GoesUp.{Anything, int_front, val_front}

@@ -1,8 +1,7 @@
 -- The list of what is still to be read, turn by turn.
-use Rattle.std.proofs.Common.{◌≡◌, ℕ, zero, suc, ◌<◌, ◌≤◌, List, [], ◌∷◌, ◌++◌, All, length, map, reverse, take, drop, Option, Some, None, MatchOption, IfSome, refl, sym, ap, ◌∙◌, subst, arith}
-use Rattle.std.proofs.lemmas.List.{append-nil, reverse-append, reverse-reverse, map-append}
-use Rattle.wy_term.specs.Term.{Symbol, Term, Of}
-use Rattle.wy_term.specs.Folding.{folded}
+use Rattle.std.proofs.Common.{◌≡◌, ℕ, ◌<◌, List, [], ◌∷◌, ◌++◌, All, length, map, reverse, Option, Some, None, MatchOption, IfSome, refl, sym, ap, ◌∙◌, subst, arith}
+use Rattle.std.proofs.lemmas.List.{reverse-append}
+use Rattle.wy_term.specs.Term.{Term}
 use Rattle.wy_term.specs.Sorts.{Sort}
 use Rattle.wy_term.specs.Nodes.{Plain, tree_at}
 use Rattle.wy_spell.specs.declared.work.Task.{Task}

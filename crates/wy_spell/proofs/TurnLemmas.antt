@@ -1,12 +1,11 @@
 -- A turn of the reader.
-use Rattle.std.proofs.Common.{◌≡◌, ℕ, ◌<◌, List, [], ◌∷◌, ◌++◌, Bool, true, false, All, length, map, reverse, take, drop, Option, Some, None, Result, Ok, Err, IfOk, MatchOption, Bor, refl, sym, ap, ◌∙◌, subst}
+use Rattle.std.proofs.Common.{◌≡◌, ℕ, List, ◌∷◌, ◌++◌, length, map, reverse, Option, Some, None, Result, Ok, Err, IfOk, MatchOption, Bor, sym, ap, ◌∙◌, subst}
 use Rattle.std.proofs.lemmas.List.{reverse-append, reverse-reverse, map-append}
-use Rattle.wy_term.specs.Term.{Symbol, Term, Of}
-use Rattle.wy_term.specs.Folding.{folded}
+use Rattle.wy_term.specs.Term.{Symbol, Term}
 use Rattle.wy_term.specs.Nodes.{Plain}
 use Rattle.wy_term.specs.declared.memory.NoMemory.{NoMemory}
 use Rattle.wy_spell.specs.declared.work.Task.{Task}
-use Rattle.wy_spell.specs.Todo.{Work, root, as_parts, Goes, Replaces, Covers, Refuses}
+use Rattle.wy_spell.specs.Todo.{Work, root, Goes, Replaces, Covers, Refuses}
 use Rattle.wy_spell.specs.Done.{trees, IsMade, CannotBe, Turns, Blocks, Puts}
 use Rattle.wy_spell.specs.View.{seen}
 use Rattle.wy_spell.proofs.DoneLemmas.{trees_length}

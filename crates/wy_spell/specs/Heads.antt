@@ -11,8 +11,7 @@ use Rattle.wy_spell.specs.declared.lead.Lead.TheVariants as lead
 use Rattle.wy_spell.specs.declared.lead.Class.{Class}
 use Rattle.wy_spell.specs.declared.lead.Class.TheVariants as class
 use Rattle.wy_spell.specs.Grammar.{elements, members, texts, goes_on, goes_on_or_space}
-use Rattle.wy_spell.specs.Todo.{Work, a_term, root, first, first_field, field_name, set_field_name, kind_name, type_number, bind, gap_works, Ways, Does, All, Rooted}
-use Rattle.wy_spell.specs.Todo as todo
+use Rattle.wy_spell.specs.Todo.{Work, a_term, root, first, first_field, field_name, set_field_name, kind_name, type_number, bind, gap_works, Ways, All, Rooted}
 
 -- ---- words at the front
 

@@ -1,5 +1,5 @@
 -- The term that comes of a term when it is made from the leaves up, each node folded.
-use Rattle.std.specs.Prelude.{◌≡◌, ℕ, List, []}
+use Rattle.std.specs.Prelude.{◌≡◌, ℕ, List}
 use Rattle.wy_term.specs.Term.{Term, Of, Parts, no_parts, part}
 use Rattle.wy_term.specs.Folding.{folded}
 use Rattle.wy_term.specs.Sorts.{Sort, int_sort, val_sort}

@@ -1,12 +1,12 @@
 -- What a list of things that are still to be read stands for: which terms may come of it with the text that is left.
-use Rattle.std.specs.Prelude.{◌≡◌, ℕ, ◌<◌, ◌≤◌, ◌^◌, List, [], ◌∷◌, ◌++◌, Bool, true, false, codes, length, take, drop, Option, Some, None}
+use Rattle.std.specs.Prelude.{◌≡◌, ℕ, ◌<◌, ◌≤◌, ◌^◌, List, [], ◌∷◌, ◌++◌, Bool, codes, length, take, drop, Option, Some, None}
 use Rattle.std.specs.Fmt.{decimal}
 use Rattle.wy_scan.specs.Words.{IsWord, AreFields}
 use Rattle.wy_term.specs.Term.{DataKind, record_kind, Symbol, Term, Of, Parts, no_parts, part}
 use Rattle.wy_term.specs.Term as term
 use Rattle.wy_term.specs.Sorts.{Sort, int_sort, val_sort, formula_sort}
 use Rattle.wy_term.specs.Folding.{folded, binder}
-use Rattle.wy_spell.specs.Grammar.{Series, Layout, gapped, first_of, more_of, Spans, Laid, field_gaps, kind_before, more_names, IsKind, IsNumbered, bounds}
+use Rattle.wy_spell.specs.Grammar.{Series, Layout, gapped, first_of, more_of, Spans, Laid, field_gaps, kind_before, more_names, IsKind, IsNumbered}
 use Rattle.wy_spell.specs.Made.{made, made_parts}
 
 -- something that is still to be read or made; a number says how many terms were done before the first part

@@ -1,5 +1,4 @@
 -- Tasks, roots and sorts of the code as plain data.
-use Rattle.std.specs.Prelude.{ℕ, List, [], ◌∷◌, map, true, false}
 use Rattle.wy_term.specs.Term.{Symbol}
 use Rattle.wy_term.specs.Term as term
 use Rattle.wy_term.specs.Nodes.{plain_kind}

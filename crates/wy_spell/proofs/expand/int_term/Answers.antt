@@ -1,8 +1,4 @@
-use Rattle.std.proofs.Common.{rules, arith, ◌≡◌, ◌↔◌, ◌≤◌, ◌^◌, Bool, false, IsTrue, [], ◌∷◌, codes, map}
-use Rattle.wy_spell.specs.View.{seen}
-use Rattle.wy_term.specs.Term as term
-use Rattle.wy_scan.specs.Numbers.{IsWholeAt}
-use Rattle.wy_spell.specs.Todo.{root}
+use Rattle.std.proofs.Common.{rules}
 use Rattle.wy_spell.proofs.GoesLemmas.{of_number}
 use Rattle.wy_spell.proofs.GoesUp.{cover_number}
 use Rattle.wy_spell.proofs.expand.int_term.Goals as goal

@@ -1,5 +1,4 @@
-use Rattle.std.proofs.Common.{rules, arith, ◌≡◌, ◌↔◌, ◌≤◌, ◌^◌, Bool, false, IsTrue, [], ◌∷◌, codes, map}
-use Rattle.wy_scan.specs.Front.{IsBehind, NotBehind}
+use Rattle.std.proofs.Common.{rules, ◌≡◌, ◌↔◌, false, IsTrue}
 use Rattle.wy_scan.specs.Words.{AreFields}
 use Rattle.wy_spell.proofs.KindUp.{refuse_last_kind_field, kind_fields_more}
 use Rattle.wy_spell.proofs.expand.kind_fields.Goals as goal

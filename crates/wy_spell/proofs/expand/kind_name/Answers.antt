@@ -1,5 +1,4 @@
-use Rattle.std.proofs.Common.{rules, arith, ◌≡◌, ◌↔◌, ◌≤◌, ◌^◌, Bool, false, IsTrue, [], ◌∷◌, codes, map}
-use Rattle.wy_scan.specs.Front.{IsBehind, NotBehind}
+use Rattle.std.proofs.Common.{rules, ◌≡◌, [], ◌∷◌, map}
 use Rattle.wy_spell.specs.View.{seen}
 use Rattle.wy_term.specs.Term as term
 use Rattle.wy_term.specs.Term.{record_kind}

@@ -1,4 +1,4 @@
-use Rattle.std.proofs.Common.{rules, arith, ◌<◌, length}
+use Rattle.std.proofs.Common.{arith, ◌<◌, length}
 use Rattle.wy_spell.specs.Heads.{lead_at}
 use Rattle.wy_spell.proofs.CodeLemmas.{row_found, row_passed}
 use Rattle.wy_spell.proofs.lead.lead_of.Goals as goal

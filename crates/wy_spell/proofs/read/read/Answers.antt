@@ -1,4 +1,4 @@
-use Rattle.std.proofs.Common.{rules, arith, ◌≡◌, ◌<◌, ◌≤◌, ℕ, List, [], ◌∷◌, ◌++◌, ◌∙◌, All, MatchOption, subst, length, map, reverse}
+use Rattle.std.proofs.Common.{rules, arith, ◌≡◌, ℕ, List, [], ◌∷◌, ◌∙◌, MatchOption, subst, length, map, reverse}
 use Rattle.wy_term.specs.Term.{Term}
 use Rattle.wy_spell.specs.Todo.{a_term, Goes}
 use Rattle.wy_spell.specs.Done.{trees, IsEnded, NotEnded, Turns, Blocks}

@@ -1,5 +1,4 @@
 use Rattle.std.proofs.Common.{rules, arith, ◌≡◌, ◌↔◌, ◌-◌, ◌<◌, ◌≤◌, ℕ, List, [], ◌∷◌, ◌++◌, false, IsTrue, refl, sym, ap, ◌∙◌, subst, length, take, drop}
-use Rattle.std.proofs.lemmas.List.{length-drop}
 use Rattle.wy_term.specs.Nodes.{plain, of}
 use Rattle.wy_spell.specs.Todo.{arity, Has}
 use Rattle.wy_spell.specs.Done.{trees, IsMade}
