@@ -1,1 +1,4 @@
--- certificates
+-- what public contracts cite
+pub mod Steps
+pub mod Lines
+pub mod File

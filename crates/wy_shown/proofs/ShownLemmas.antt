@@ -1,6 +1,7 @@
 -- Each term's text is a spelling of it.
 use Rattle.std.proofs.Common.{◌≡◌, ℕ, List, [], ◌∷◌, ◌++◌, Bool, true, false, ◌⊎◌, inl, inr, codes, refl, sym, ap, ◌∙◌, subst}
 use Rattle.std.proofs.lemmas.List.{append-nil}
+use Rattle.std.specs.Fmt.{decimal}
 use Rattle.wy_scan.specs.Front.{is_digit, heads}
 use Rattle.wy_term.specs.Term.{Symbol, Term, Of, Parts, no_parts, part}
 use Rattle.wy_term.specs.Term as term
@@ -80,13 +81,13 @@ more_follows members [] j = (refl, refl, refl)
 more_follows members (x ∷ xs) j = (refl, refl, refl)
 
 -- a term without parts ends there
-stops : (symbol : Symbol) (j : List ℕ) → CanFollow (sort_of symbol) j → Stops symbol j
-stops (term.number z) j f = f
-stops (term.int_name word n) j f = f
-stops (term.val_name word n) j f = f.0
-stops term.null j f = f.1
-stops (term.truth b) j f = f.1
-stops symbol j f = tt
+leaf_ends : (symbol : Symbol) (j : List ℕ) → CanFollow (sort_of symbol) j → Stops symbol j
+leaf_ends (term.number z) j f = f
+leaf_ends (term.int_name word n) j f = f
+leaf_ends (term.val_name word n) j f = f.0
+leaf_ends term.null j f = f.1
+leaf_ends (term.truth b) j f = f.1
+leaf_ends symbol j f = tt
 
 -- ---- parts by their number
 
@@ -149,7 +150,7 @@ same_text term.at_most ps j of a o = two_shape ps _ _ of (SameText term.at_most 
 same_text term.equal ps j of a o = two_shape ps _ _ of (SameText term.equal j) (λ x y. compared_text (codes " = ") x y j)
 same_text (term.of_kind kind) ps j of a o =
     one_shape ps _ of (SameText (term.of_kind kind) j) (λ x. two_text (codes "kind") x (kind_text kind) j ∙ ap (λ r. codes "kind(" ++ (x ++ (codes ", " ++ r))) (kind_is_written kind (codes ")" ++ j)))
-same_text (term.in_type n) ps j of a o = one_shape ps _ of (SameText (term.in_type n) j) (λ x. two_text (codes "in") x _ j)
+same_text (term.in_type n) ps j of a o = one_shape ps _ of (SameText (term.in_type n) j) (λ x. two_text (codes "in") x (decimal n) j)
 same_text (term.every word n) ps j of a o = three_shape ps _ _ _ of (SameText (term.every word n) j) (λ x y z. bound_text (codes "all ") word n x y z j)
 same_text (term.exists word n) ps j of a o = three_shape ps _ _ _ of (SameText (term.exists word n) j) (λ x y z. bound_text (codes "some ") word n x y z j)
 same_text term.denied ps j of a o = one_shape ps _ of (SameText term.denied j) (λ x. refl)
@@ -161,7 +162,7 @@ same_text term.any_of (part t ps) j of a o = ap (λ r. codes "or(" ++ r) (series
 -- ---- terms
 
 by_layout : (symbol : Symbol) (ps : Parts) (sort : Sort) (j : List ℕ) → sort_of symbol ≡ sort → IsInRange symbol → CanFollow (sort_of symbol) j → SameText symbol j (texts_of ps) → Laid ps (layout symbol) (layout_text (layout symbol) (texts_of ps) j) j → Spans (Of symbol ps) sort (written symbol (texts_of ps) ++ j) j
-by_layout symbol ps sort j is range f same laid = (is, range, inr (layout_text (layout symbol) (texts_of ps) j, same, laid, stops symbol j f))
+by_layout symbol ps sort j is range f same laid = (is, range, inr (layout_text (layout symbol) (texts_of ps) j, same, laid, leaf_ends symbol j f))
 
 by_symbol : (symbol : Symbol) (ps : Parts) (sort : Sort) (j : List ℕ) → sort_of symbol ≡ sort → IsInRange symbol → AreOf ps (layout symbol) → CanFollow (sort_of symbol) j → Laid ps (layout symbol) (layout_text (layout symbol) (texts_of ps) j) j → Spans (Of symbol ps) sort (written symbol (texts_of ps) ++ j) j
 by_symbol term.all_of no_parts sort j is range of f laid = (is, range, inl (refl, f.2))
