@@ -1,4 +1,10 @@
 //! Lines of single steps.
+ghost use Rattle.std.specs.Prelude.{◌≡◌, ◌<◌, ◌≤◌, ◌∷◌, [], ◌++◌, ℕ, List, All, true, IfOk, IfSome, MatchOption, length, map, codes};
+ghost use Rattle.wy_scan.specs.Front.{IsBehind, NotBehind};
+ghost use Rattle.wy_term.specs.Nodes.{tree_at};
+ghost use Rattle.wy_cert.specs.Steps.{written};
+ghost use Rattle.wy_cert.specs.Lines.{IsPlaceAt, NoPlace, IsMultiplierAt, NoMultiplier, ArePairs, IsCut, NoCut, IsArgument, AreArguments, IsStep, NoStep};
+
 use crate::step::Step;
 use std::alloc::Global;
 use wy_scan::{behind, natural};
@@ -6,7 +12,9 @@ use wy_spell::{read_formula, read_term};
 use wy_term::{NoMemory, Terms};
 
 // A number from 1 to 2^32 - 1, and what follows.
-pub(crate) fn place(alloc: Global, text: &[u8]) -> Result<Option<(u32, &[u8])>, NoMemory> {
+pub(crate) fn place(alloc: Global, text: &[u8]) -> Result<Option<(u32, &[u8])>, NoMemory>
+    ensures value { IfOk result (λ o. MatchOption o (NoPlace text.now) (λ p. IsPlaceAt text.now p.0 p.1.now)) }
+{
     match natural(alloc, text)? {
         None => Ok(None),
         Some((n, rest)) => {
@@ -19,7 +27,9 @@ pub(crate) fn place(alloc: Global, text: &[u8]) -> Result<Option<(u32, &[u8])>, 
 }
 
 // A number from 1 on, and what follows.
-fn multiplier(alloc: Global, text: &[u8]) -> Result<Option<(u128, &[u8])>, NoMemory> {
+fn multiplier(alloc: Global, text: &[u8]) -> Result<Option<(u128, &[u8])>, NoMemory>
+    ensures value { IfOk result (λ o. MatchOption o (NoMultiplier text.now) (λ p. IsMultiplierAt text.now p.0 p.1.now)) }
+{
     match natural(alloc, text)? {
         None => Ok(None),
         Some((n, rest)) => {
@@ -32,7 +42,9 @@ fn multiplier(alloc: Global, text: &[u8]) -> Result<Option<(u128, &[u8])>, NoMem
 }
 
 // Pairs of a multiplier and a literal with single spaces between, to the end of the line.
-fn pairs(alloc: Global, text: &[u8]) -> Result<Option<Vec<(u128, u32)>>, NoMemory> {
+fn pairs(alloc: Global, text: &[u8]) -> Result<Option<Vec<(u128, u32)>>, NoMemory>
+    ensures value { IfOk result (λ o. MatchOption o ((ps : List (ℕ × ℕ)) → ArePairs text.now ps → ⊥) (λ ps. ArePairs text.now ps.items)) }
+{
     let mut pairs = Vec::new(alloc);
     let mut rest = text;
     for _turn in 0..u64::MAX {
@@ -58,7 +70,9 @@ fn pairs(alloc: Global, text: &[u8]) -> Result<Option<Vec<(u128, u32)>>, NoMemor
 }
 
 // The bytes before the first ` ; `, and those behind it if there is one.
-fn cut_first(text: &[u8]) -> (&[u8], Option<&[u8]>) {
+fn cut_first(text: &[u8]) -> (&[u8], Option<&[u8]>)
+    ensures value { MatchOption result.1 (NoCut text.now × (result.0.now ≡ text.now)) (λ rest. IsCut text.now result.0.now rest.now) }
+{
     for end in 0..text.len() {
         if let Some(rest) = behind(&text[end..], b" ; ") {
             return (&text[..end], Some(rest));
