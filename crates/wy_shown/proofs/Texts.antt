@@ -1,10 +1,10 @@
 -- How a term is written, with what follows it, as the grammar spells it.
-use Rattle.std.proofs.Common.{◌≡◌, ℕ, List, [], ◌∷◌, ◌++◌, codes, refl, sym, ap, ◌∙◌, subst, append_assoc}
+use Rattle.std.proofs.Common.{◌≡◌, ℕ, List, [], ◌∷◌, ◌++◌, codes, refl, ap, ◌∙◌, append_assoc}
 use Rattle.std.proofs.lemmas.List.{append-nil}
 use Rattle.std.specs.Fmt.{decimal}
 use Rattle.wy_term.specs.Term.{DataKind, null_kind, bool_kind, int_kind, array_kind, record_kind}
 use Rattle.wy_show.specs.Text.{behind, separated, labelled, number_name, datum_name, kind_text, applied, compared, bound}
-use Rattle.wy_spell.specs.Grammar.{Gap, Series, elements, members, between, closing, more_names, field_list, kind_before, binding, field_gaps}
+use Rattle.wy_spell.specs.Grammar.{Gap, Series, between, closing, more_names, field_list, kind_before, binding, field_gaps}
 
 -- the texts of parts with the gaps behind them, and what follows
 abbrev pub gap_text : List Gap → List (List ℕ) → List ℕ → List ℕ

@@ -1,8 +1,8 @@
 -- Terms that can be written: each part is of the sort that its place wants, and names and numbers are within their ranges.
-use Rattle.std.specs.Prelude.{◌≡◌, ℕ, List, [], ◌∷◌, Option, Some, None}
-use Rattle.wy_term.specs.Term.{Symbol, Term, Of, Parts, no_parts, part}
+use Rattle.std.specs.Prelude.{◌≡◌, [], ◌∷◌, Option, Some, None}
+use Rattle.wy_term.specs.Term.{Term, Of, Parts, no_parts, part}
 use Rattle.wy_term.specs.Sorts.{Sort, sort_of}
-use Rattle.wy_spell.specs.Grammar.{Layout, gapped, first_of, more_of, Gap, Place, IsInRange, layout, next_place}
+use Rattle.wy_spell.specs.Grammar.{Layout, gapped, first_of, more_of, Place, IsInRange, layout, next_place}
 
 -- no part has to come any more
 abbrev pub MayEnd : Layout → Type 0
