@@ -1,0 +1,115 @@
+//! Small trees: a function `f` with one parameter `x`, whose body is one statement.
+use sqlite_items::{Boxed, Items};
+use std::alloc::{AllocError, Global};
+use wy_ast::{Case, Decl, Expr, ExprKind, Function, Param, Stmt, StmtKind, Ty, TyKind};
+use wy_data::Name;
+
+/// Where each statement of a row stands, and each expression at its root.
+pub const STMT: u32 = 10;
+
+pub const EXPR: u32 = 20;
+
+pub fn name(alloc: Global, text: &str) -> Result<Name, AllocError> {
+    Ok(Name::new(String::from_str(alloc, text)?))
+}
+
+pub fn expr(kind: ExprKind) -> Expr {
+    Expr { at: EXPR, kind }
+}
+
+pub fn stmt(kind: StmtKind) -> Stmt {
+    Stmt { at: STMT, kind }
+}
+
+pub fn only<T: Drop>(alloc: Global, item: T) -> Result<Items<T>, AllocError> {
+    let mut items = Items::new(alloc);
+    items.push(item)?;
+    Ok(items)
+}
+
+pub fn var(alloc: Global, text: &str) -> Result<Expr, AllocError> {
+    Ok(expr(ExprKind::Var(name(alloc, text)?)))
+}
+
+/// A call with no arguments, or with `x`.
+pub fn call(alloc: Global, text: &str, has_arg: bool) -> Result<Expr, AllocError> {
+    let mut args = Items::new(alloc);
+    if has_arg {
+        args.push(var(alloc, "x")?)?;
+    }
+    Ok(expr(ExprKind::Call(name(alloc, text)?, args)))
+}
+
+/// `{a: 1, a: 2}`, whose second value stands one further.
+pub fn record(alloc: Global) -> Result<Expr, AllocError> {
+    let mut fields = Items::new(alloc);
+    fields.push((name(alloc, "a")?, expr(ExprKind::Int(1))))?;
+    let second = Expr {
+        at: EXPR + 1,
+        kind: ExprKind::Int(2),
+    };
+    fields.push((name(alloc, "a")?, second))?;
+    Ok(expr(ExprKind::Record(fields)))
+}
+
+/// `all { i in 0..to | true }`
+pub fn all_below(alloc: Global, variable: &str, to: Expr) -> Result<Expr, AllocError> {
+    let range = (name(alloc, variable)?, expr(ExprKind::Int(0)), to);
+    let ranges = only(alloc, range)?;
+    let body = Boxed::new(alloc, expr(ExprKind::Bool(true)))?;
+    Ok(expr(ExprKind::Quant(true, ranges, body)))
+}
+
+/// `switch x` with one case, whose block is the statement.
+pub fn switch(alloc: Global, inner: Stmt) -> Result<Stmt, AllocError> {
+    let labels = only(alloc, expr(ExprKind::Int(1)))?;
+    let body = only(alloc, inner)?;
+    let cases = only(alloc, Case { labels, body })?;
+    Ok(stmt(StmtKind::Switch(var(alloc, "x")?, cases, None)))
+}
+
+/// `while true`, whose block is the statement.
+pub fn turn(alloc: Global, inner: Stmt) -> Result<Stmt, AllocError> {
+    let body = only(alloc, inner)?;
+    let test = expr(ExprKind::Bool(true));
+    Ok(stmt(StmtKind::While(test, Items::new(alloc), body)))
+}
+
+/// `for NAME in 0..1`
+pub fn count(alloc: Global, variable: &str) -> Result<Stmt, AllocError> {
+    let body = only(alloc, stmt(StmtKind::Skip))?;
+    let (from, to) = (expr(ExprKind::Int(0)), expr(ExprKind::Int(1)));
+    let variable = name(alloc, variable)?;
+    Ok(stmt(StmtKind::For(variable, from, to, Items::new(alloc), body)))
+}
+
+fn int() -> Ty {
+    Ty {
+        at: 2,
+        kind: TyKind::Int,
+    }
+}
+
+/// `int NAME`
+pub fn declared(alloc: Global, variable: &str) -> Result<Stmt, AllocError> {
+    Ok(stmt(StmtKind::Declare(int(), name(alloc, variable)?, None)))
+}
+
+/// `function f(int x) -> int:` with this statement.
+pub fn program(alloc: Global, body: Stmt) -> Result<Items<Decl>, AllocError> {
+    let param = Param {
+        ty: int(),
+        name: name(alloc, "x")?,
+    };
+    let function = Function {
+        at: 0,
+        name: name(alloc, "f")?,
+        params: only(alloc, param)?,
+        result: int(),
+        result_name: None,
+        preconditions: Items::new(alloc),
+        postconditions: Items::new(alloc),
+        body: only(alloc, body)?,
+    };
+    only(alloc, Decl::Function(function))
+}

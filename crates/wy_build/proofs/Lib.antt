@@ -1,0 +1,2 @@
+-- lists of nodes, one node at a time
+pub mod ListLemmas

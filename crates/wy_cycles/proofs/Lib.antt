@@ -1,0 +1,2 @@
+-- labels that a certificate shows to be right
+pub mod CycleLemmas

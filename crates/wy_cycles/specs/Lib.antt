@@ -1,0 +1,4 @@
+-- labels and cycles
+pub mod Cycles
+-- the test of a certificate
+pub mod Certificates

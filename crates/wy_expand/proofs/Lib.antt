@@ -1,0 +1,2 @@
+-- what lists of nodes stand for
+pub mod SeenLemmas

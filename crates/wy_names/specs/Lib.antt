@@ -1,0 +1,4 @@
+-- a fault by its cause
+pub mod NameFaults
+-- the core of a program, or its fault
+pub mod Named

@@ -1,0 +1,18 @@
+//! Names and lowering: from a program as it is written to its core, or to the fault for which it is
+//! refused.
+//!
+//! `resolver` is the order of the passes. The names of declarations are put into a table (`wy_scope`), and
+//! each use is bound (`wy_bind`). Which types and properties use which is listed (`wy_uses`), and what uses
+//! itself is found (`wy_recursion`): types that recur where they may not, and properties whose expansion has
+//! no end. The sizes of expansions are found before anything is expanded (`wy_expand`). Only where no pass
+//! has a fault is the core made (`wy_lower`). Each pass goes on behind a fault, and the one at the least
+//! place is given, of several at one place the first of `NameFault`.
+#![tactic(auto)]
+
+mod name_fault;
+mod resolver;
+#[cfg(test)]
+mod tests;
+
+pub use name_fault::NameFault;
+pub use resolver::resolve;

@@ -1,0 +1,4 @@
+-- labels mark exactly the uses that recur
+pub mod MarkLemmas
+-- a settled order is one
+pub mod OrderLemmas

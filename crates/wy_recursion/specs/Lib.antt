@@ -1,0 +1,5 @@
+-- the arrows of uses, and which of them recur
+pub mod Arrows
+pub mod Recursion
+-- properties in order
+pub mod Endings

@@ -1,0 +1,2 @@
+-- what nodes with a list of pairs stand for
+pub mod SeenLemmas
