@@ -9,10 +9,10 @@
 //! place is given, of several at one place the first of `NameFault`.
 #![tactic(auto)]
 
+mod laws;
 mod name_fault;
 mod resolver;
-#[cfg(test)]
-mod tests;
 
+pub use laws::the_least_fault_is_left;
 pub use name_fault::NameFault;
 pub use resolver::resolve;

@@ -9,17 +9,17 @@ use Rattle.std.proofs.Math.Dec.{eqb}
 use Rattle.wy_ast.specs.SurfaceTree.{Decl}
 use Rattle.wy_uses.specs.declared.edges.Edge.{Edge}
 use Rattle.wy_uses.specs.Uses.{Edges}
-use Rattle.wy_recursion.specs.Endings.{is_use, Ends, ends, is_property, StandsAt, IsOrder, number_at, is_at, stands, opens, is_settled, is_before, falls, each_falls, each_placed}
+use Rattle.wy_recursion.specs.Endings.{is_use, is_use_way, Ends, ends, is_property, StandsAt, IsOrder, number_at, is_at, stands, opens, is_settled, is_before, falls, each_falls, each_placed}
 
-both : (a b : Bool) → (a && b) ≡ true → (a ≡ true) × (b ≡ true)
+pub both : (a b : Bool) → (a && b) ≡ true → (a ≡ true) × (b ≡ true)
 both true b h = (refl, h)
 both false b h = absurd (cc)
 
-one_of : (a b : Bool) → (a || b) ≡ true → (a ≡ true) ⊎ (b ≡ true)
+pub one_of : (a b : Bool) → (a || b) ≡ true → (a ≡ true) ⊎ (b ≡ true)
 one_of true b h = inl refl
 one_of false b h = inr h
 
-refuted : (b : Bool) → not b ≡ true → b ≡ true → ⊥
+pub refuted : (b : Bool) → not b ≡ true → b ≡ true → ⊥
 refuted true h k = absurd (cc)
 refuted false h k = absurd (cc)
 
@@ -45,11 +45,11 @@ placed_at ds positions base (x ∷ xs) h (suc k) p e =
     (rest.0, omega arith)
 
 -- each used of the list falls
-falls_at : (order positions : List ℕ) (es : Edges) → each_falls order positions es ≡ true → (i : ℕ) (e : Edge) → slice_get es i ≡ Some e → falls order positions e ≡ true
-falls_at order positions [] h i e at = absurd (cc)
-falls_at order positions (x ∷ xs) h zero e at =
-    let same : x ≡ e = cc in subst (λ (y : Edge). falls order positions y ≡ true) same (both (falls order positions x) (each_falls order positions xs) h).0
-falls_at order positions (x ∷ xs) h (suc i) e at = falls_at order positions xs (both (falls order positions x) (each_falls order positions xs) h).1 i e at
+falls_at : (ds : List Decl) (order positions : List ℕ) (es : Edges) → each_falls ds order positions es ≡ true → (i : ℕ) (e : Edge) → slice_get es i ≡ Some e → falls ds order positions e ≡ true
+falls_at ds order positions [] h i e at = absurd (cc)
+falls_at ds order positions (x ∷ xs) h zero e at =
+    let same : x ≡ e = cc in subst (λ (y : Edge). falls ds order positions y ≡ true) same (both (falls ds order positions x) (each_falls ds order positions xs) h).0
+falls_at ds order positions (x ∷ xs) h (suc i) e at = falls_at ds order positions xs (both (falls ds order positions x) (each_falls ds order positions xs) h).1 i e at
 
 is_there : (o : Option ℕ) (p : ℕ) → is_at o p ≡ true → o ≡ Some p
 is_there None p h = absurd (cc)
@@ -71,34 +71,34 @@ before_parts order positions e h =
       at = is_there (slice_get order (number_at positions e.to - 1)) e.to second.1;
     }
 
-before_of : (order positions : List ℕ) (e : Edge) → falls order positions e ≡ true → is_use e ≡ true → 0 < number_at positions e.from → Before order positions e
-before_of order positions e h used some = by (one_of (not (is_use e)) ((number_at positions e.from == 0) || is_before order positions e) h)
+before_of : (ds : List Decl) (order positions : List ℕ) (e : Edge) → falls ds order positions e ≡ true → is_use ds e ≡ true → 0 < number_at positions e.from → Before order positions e
+before_of ds order positions e h used some = by (one_of (not (is_use ds e)) ((number_at positions e.from == 0) || is_before order positions e) h)
   where
     second : (number_at positions e.from == 0) ≡ true ⊎ (is_before order positions e ≡ true) → Before order positions e
     second (inl none) = let zero_is : number_at positions e.from ≡ 0 = eqb-true (number_at positions e.from) 0 none in absurd (omega arith)
     second (inr b) = before_parts order positions e b
 
-    by : (not (is_use e) ≡ true) ⊎ (((number_at positions e.from == 0) || is_before order positions e) ≡ true) → Before order positions e
-    by (inl none) = absurd (refuted (is_use e) none used)
+    by : (not (is_use ds e) ≡ true) ⊎ (((number_at positions e.from == 0) || is_before order positions e) ≡ true) → Before order positions e
+    by (inl none) = absurd (refuted (is_use ds e) none used)
     by (inr k) = second (one_of (number_at positions e.from == 0) (is_before order positions e) k)
 
 -- an order that passes its test
 record Passed (ds : List Decl) (es : Edges) (order positions witnesses : List ℕ) : Type 0 where
   settled : (p : ℕ) → p < length ds → is_settled ds es order positions witnesses p ≡ true
-  falling : each_falls order positions es ≡ true
+  falling : each_falls ds order positions es ≡ true
   placed : each_placed ds positions 0 order ≡ true
 
 position_in : (ds : List Decl) (es : Edges) (order positions witnesses : List ℕ) → Passed ds es order positions witnesses → (k p : ℕ) → StandsAt order k p → number_at positions p ≡ k + 1
 position_in ds es order positions witnesses t k p at = let own : number_at positions p ≡ 0 + k + 1 = (placed_at ds positions 0 order t.placed k p at).1 in omega arith
 
 before_in : (ds : List Decl) (es : Edges) (order positions witnesses : List ℕ) → Passed ds es order positions witnesses
-    → (k : ℕ) (i : ℕ) (e : Edge) → slice_get es i ≡ Some e → is_use e ≡ true → StandsAt order k e.from → Before order positions e
+    → (k : ℕ) (i : ℕ) (e : Edge) → slice_get es i ≡ Some e → is_use ds e ≡ true → StandsAt order k e.from → Before order positions e
 before_in ds es order positions witnesses t k i e at used from =
     let own : number_at positions e.from ≡ k + 1 = position_in ds es order positions witnesses t k e.from from in
-    before_of order positions e (falls_at order positions es t.falling i e at) used (omega arith)
+    before_of ds order positions e (falls_at ds order positions es t.falling i e at) used (omega arith)
 
 ending_step : (ds : List Decl) (es : Edges) (order positions witnesses : List ℕ) → Passed ds es order positions witnesses → (n k p : ℕ) → k < suc n → StandsAt order k p
-    → ((j q : ℕ) → j < n → StandsAt order j q → Ends es q) → (i : ℕ) (e : Edge) → slice_get es i ≡ Some e → is_use e ≡ true → e.from ≡ p → Ends es e.to
+    → ((j q : ℕ) → j < n → StandsAt order j q → Ends ds es q) → (i : ℕ) (e : Edge) → slice_get es i ≡ Some e → is_use ds e ≡ true → e.from ≡ p → Ends ds es e.to
 ending_step ds es order positions witnesses t n k p less at go i e h used from =
     let stands_there : StandsAt order k e.from = subst (λ (q : ℕ). StandsAt order k q) (sym from) at in
     let own : number_at positions e.from ≡ k + 1 = position_in ds es order positions witnesses t k e.from stands_there in
@@ -107,7 +107,7 @@ ending_step ds es order positions witnesses t n k p less at go i e h used from =
     let nearer : number_at positions e.to < number_at positions e.from = b.less in
     go (number_at positions e.to - 1) e.to (omega arith) b.at
 
-ending_below : (ds : List Decl) (es : Edges) (order positions witnesses : List ℕ) → Passed ds es order positions witnesses → (n k p : ℕ) → k < n → StandsAt order k p → Ends es p
+ending_below : (ds : List Decl) (es : Edges) (order positions witnesses : List ℕ) → Passed ds es order positions witnesses → (n k p : ℕ) → k < n → StandsAt order k p → Ends ds es p
 ending_below ds es order positions witnesses t zero k p less at = absurd (omega arith)
 ending_below ds es order positions witnesses t (suc n) k p less at =
     ends (ending_step ds es order positions witnesses t n k p less at (ending_below ds es order positions witnesses t n))
@@ -133,7 +133,7 @@ record Opens (ds : List Decl) (es : Edges) (positions : List ℕ) (q : ℕ) : Ty
   at : ℕ
   edge : Edge
   is : slice_get es at ≡ Some edge
-  used : is_use edge ≡ true
+  used : is_use ds edge ≡ true
   from : edge.from ≡ q
   property : is_property (slice_get ds edge.to) ≡ true
   none : number_at positions edge.to ≡ 0
@@ -141,10 +141,10 @@ record Opens (ds : List Decl) (es : Edges) (positions : List ℕ) (q : ℕ) : Ty
 opens_parts : (ds : List Decl) (es : Edges) (positions : List ℕ) (q i : ℕ) (o : Option Edge) → slice_get es i ≡ o → opens ds positions q o ≡ true → Opens ds es positions q
 opens_parts ds es positions q i None at h = absurd (cc)
 opens_parts ds es positions q i (Some e) at h =
-    let a = both (is_use e) ((e.from == q) && (is_property (slice_get ds e.to) && (number_at positions e.to == 0))) h in
-    let b = both (e.from == q) (is_property (slice_get ds e.to) && (number_at positions e.to == 0)) a.1 in
-    let d = both (is_property (slice_get ds e.to)) (number_at positions e.to == 0) b.1 in
-    record { at = i; edge = e; is = at; used = a.0; from = eqb-true e.from q b.0; property = d.0; none = eqb-true (number_at positions e.to) 0 d.1 }
+    let a = both (is_use ds e) ((e.from == q) && (number_at positions e.to == 0)) h in
+    let b = both (e.from == q) (number_at positions e.to == 0) a.1 in
+    let d = both (is_use_way e.way) (is_property (slice_get ds e.to)) a.0 in
+    record { at = i; edge = e; is = at; used = a.0; from = eqb-true e.from q b.0; property = d.1; none = eqb-true (number_at positions e.to) 0 b.1 }
 
 opened : (ds : List Decl) (es : Edges) (order positions witnesses : List ℕ) → Passed ds es order positions witnesses → (q : ℕ) → is_property (slice_get ds q) ≡ true → number_at positions q ≡ 0 → Opens ds es positions q
 opened ds es order positions witnesses t q is none =
@@ -153,7 +153,7 @@ opened ds es order positions witnesses t q is none =
     (t.settled q (within ds (slice_get ds q) q refl is)) none is)
 
 -- a property without a position uses another one without one, so its expansion has no end
-never : (ds : List Decl) (es : Edges) (order positions witnesses : List ℕ) → Passed ds es order positions witnesses → (q : ℕ) → Ends es q → is_property (slice_get ds q) ≡ true → number_at positions q ≡ 0 → ⊥
+never : (ds : List Decl) (es : Edges) (order positions witnesses : List ℕ) → Passed ds es order positions witnesses → (q : ℕ) → Ends ds es q → is_property (slice_get ds q) ≡ true → number_at positions q ≡ 0 → ⊥
 never ds es order positions witnesses t q (ends f) is none =
     let o : Opens ds es positions q = opened ds es order positions witnesses t q is none in
     never ds es order positions witnesses t o.edge.to (f o.at o.edge o.is o.used o.from) o.property o.none
@@ -162,7 +162,7 @@ zero_or_more : (n : ℕ) → (n ≡ 0) ⊎ (0 < n)
 zero_or_more zero = inl refl
 zero_or_more (suc n) = inr (omega arith)
 
-whole_in : (ds : List Decl) (es : Edges) (order positions witnesses : List ℕ) → Passed ds es order positions witnesses → (p : ℕ) → is_property (slice_get ds p) ≡ true → Ends es p → (k : ℕ) × StandsAt order k p
+whole_in : (ds : List Decl) (es : Edges) (order positions witnesses : List ℕ) → Passed ds es order positions witnesses → (p : ℕ) → is_property (slice_get ds p) ≡ true → Ends ds es p → (k : ℕ) × StandsAt order k p
 whole_in ds es order positions witnesses t p is ending = by (zero_or_more (number_at positions p))
   where
     by : (number_at positions p ≡ 0) ⊎ (0 < number_at positions p) → (k : ℕ) × StandsAt order k p
@@ -175,7 +175,7 @@ whole_in ds es order positions witnesses t p is ending = by (zero_or_more (numbe
     )
 
 behind_in : (ds : List Decl) (es : Edges) (order positions witnesses : List ℕ) → Passed ds es order positions witnesses
-    → (k : ℕ) (i : ℕ) (e : Edge) → slice_get es i ≡ Some e → is_use e ≡ true → StandsAt order k e.from → (j : ℕ) × (j < k) × StandsAt order j e.to
+    → (k : ℕ) (i : ℕ) (e : Edge) → slice_get es i ≡ Some e → is_use ds e ≡ true → StandsAt order k e.from → (j : ℕ) × (j < k) × StandsAt order j e.to
 behind_in ds es order positions witnesses t k i e at used from =
     let b : Before order positions e = before_in ds es order positions witnesses t k i e at used from in
     let own : number_at positions e.from ≡ k + 1 = position_in ds es order positions witnesses t k e.from from in
@@ -184,8 +184,9 @@ behind_in ds es order positions witnesses t k i e at used from =
     let less : number_at positions e.to - 1 < k = omega arith in
     (number_at positions e.to - 1, less, b.at)
 
+-- the same, from what the test says
 pub passed_order : (ds : List Decl) (es : Edges) (order positions witnesses : List ℕ) → ((p : ℕ) → p < length ds → is_settled ds es order positions witnesses p ≡ true)
-    → each_falls order positions es ≡ true → each_placed ds positions 0 order ≡ true → IsOrder ds es order
+    → each_falls ds order positions es ≡ true → each_placed ds positions 0 order ≡ true → IsOrder ds es order
 passed_order ds es order positions witnesses settled falling placed =
     let t : Passed ds es order positions witnesses = record { settled = settled; falling = falling; placed = placed } in
     record {

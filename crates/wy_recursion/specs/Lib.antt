@@ -3,3 +3,4 @@ pub mod Arrows
 pub mod Recursion
 -- properties in order
 pub mod Endings
+pub mod Rounds

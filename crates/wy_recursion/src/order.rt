@@ -4,6 +4,7 @@ ghost use Rattle.wy_ast.specs.SurfaceSeen.{seen_decl};
 ghost use Rattle.wy_recursion.specs.Endings.{IsOrder};
 
 use crate::positions::holds;
+use crate::rounds::by_rounds;
 use crate::search::{Candidate, proposed};
 use sqlite_items::Items;
 use std::alloc::{AllocError, Global};
@@ -11,14 +12,15 @@ use wy_ast::Decl;
 use wy_uses::Edge;
 
 /// The indices of exactly the properties whose expansion ends, each behind those that it uses. Linear in
-/// declarations and uses. Where what the search found is no such order, which no test has seen, the answer
-/// is want of memory.
+/// declarations and uses. Where what the search found were no such order, which no test has seen, it is
+/// found by rounds.
+#[tactic(auto, using(crate::proofs::OrderLemmas::passed_order))]
 pub fn order_of(alloc: Global, decls: &[Decl], edges: &[Edge]) -> Result<Items<usize>, AllocError>
     ensures value { IfOk result (λ order. IsOrder (map seen_decl decls.now) edges.now order) }
 {
     let found = proposed(alloc, decls, edges)?;
     if !holds(decls, edges, &found) {
-        return Err(AllocError);
+        return by_rounds(alloc, decls, edges);
     }
     let Candidate { order, .. } = found;
     Ok(order)

@@ -9,11 +9,11 @@ use sqlite_items::at;
 use wy_ast::Decl;
 use wy_uses::{Edge, Way};
 
-/// Whether it is the use of a property.
-fn is_use(edge: Edge) -> bool
-    ensures value { result ≡ spec.is_use edge }
+/// Whether a declaration is used by a clause.
+fn is_use_way(way: Way) -> bool
+    ensures value { result ≡ spec.is_use_way way }
 {
-    match edge.way {
+    match way {
         Way::Bare => false,
         Way::Guarded => false,
         Way::Mention => false,
@@ -21,7 +21,15 @@ fn is_use(edge: Edge) -> bool
     }
 }
 
-fn is_property(decl: Option<&Decl>) -> bool
+/// Whether it is the use of a property.
+pub fn is_use(decls: &[Decl], edge: Edge) -> bool
+    ensures value { result ≡ spec.is_use (map seen_decl decls.now) edge }
+{
+    is_use_way(edge.way) && is_property_at(decls, edge.to as usize)
+}
+
+/// Whether it is a property.
+pub fn is_property(decl: Option<&Decl>) -> bool
     ensures value { result ≡ spec.is_property (option_map seen_decl (option_copied decl)) }
 {
     match decl {
@@ -80,10 +88,8 @@ fn opens(decls: &[Decl], positions: &[usize], index: usize, edge: Option<Edge>) 
     match edge {
         None => false,
         Some(edge) => {
-            let to = edge.to as usize;
-            is_use(edge)
-                && (edge.from as usize == index
-                    && (is_property_at(decls, to) && number_at(positions, to) == 0))
+            is_use(decls, edge)
+                && (edge.from as usize == index && number_at(positions, edge.to as usize) == 0)
         }
     }
 }
@@ -114,11 +120,11 @@ fn each_settled(decls: &[Decl], edges: &[Edge], candidate: &Candidate) -> bool
 }
 
 /// Whether what is used stands before what uses it.
-fn falls(order: &[usize], positions: &[usize], edge: Edge) -> bool
-    ensures value { result ≡ spec.falls order.now positions.now edge }
+fn falls(decls: &[Decl], order: &[usize], positions: &[usize], edge: Edge) -> bool
+    ensures value { result ≡ spec.falls (map seen_decl decls.now) order.now positions.now edge }
 {
     let from = number_at(positions, edge.from as usize);
-    !is_use(edge) || (from == 0 || is_before(order, positions, edge))
+    !is_use(decls, edge) || (from == 0 || is_before(order, positions, edge))
 }
 
 fn is_before(order: &[usize], positions: &[usize], edge: Edge) -> bool
@@ -129,11 +135,11 @@ fn is_before(order: &[usize], positions: &[usize], edge: Edge) -> bool
     to != 0 && (to < from && stands(order, positions, edge.to as usize))
 }
 
-fn each_falls(order: &[usize], positions: &[usize], edges: &[Edge]) -> bool
-    ensures value { result ≡ spec.each_falls order.now positions.now edges.now }
+fn each_falls(decls: &[Decl], order: &[usize], positions: &[usize], edges: &[Edge]) -> bool
+    ensures value { result ≡ spec.each_falls (map seen_decl decls.now) order.now positions.now edges.now }
 {
     for edge in edges {
-        if !falls(order, positions, *edge) {
+        if !falls(decls, order, positions, *edge) {
             return false;
         }
     }
@@ -161,11 +167,11 @@ fn each_placed(decls: &[Decl], positions: &[usize], order: &[usize]) -> bool
 /// Whether it is an order of the properties whose expansion ends. Linear in declarations and uses.
 pub fn holds(decls: &[Decl], edges: &[Edge], candidate: &Candidate) -> bool
     ensures settled { IsTrue result → (p : ℕ) → p < length decls.now → spec.is_settled (map seen_decl decls.now) edges.now candidate.now.order candidate.now.positions candidate.now.witnesses p ≡ true }
-    ensures falling { IsTrue result → spec.each_falls candidate.now.order candidate.now.positions edges.now ≡ true }
+    ensures falling { IsTrue result → spec.each_falls (map seen_decl decls.now) candidate.now.order candidate.now.positions edges.now ≡ true }
     ensures placed { IsTrue result → spec.each_placed (map seen_decl decls.now) candidate.now.positions 0 candidate.now.order ≡ true }
 {
     let order = candidate.order.as_slice();
     let positions = candidate.positions.as_slice();
     each_settled(decls, edges, candidate)
-        && (each_falls(order, positions, edges) && each_placed(decls, positions, order))
+        && (each_falls(decls, order, positions, edges) && each_placed(decls, positions, order))
 }

@@ -1,0 +1,2 @@
+-- the least fault is left
+pub mod LeastLemmas
