@@ -1,5 +1,5 @@
 -- Names put last leave what stood before, so a scope is cut back to what it was.
-use Rattle.std.proofs.Common.{◌≡◌, ℕ, List, [], ◌∷◌, length, take, refl}
+use Rattle.std.proofs.Common.{◌≡◌, ℕ, List, [], ◌∷◌, length, take}
 use Rattle.std.proofs.Math.Seq.{take-length}
 use Rattle.wy_ast.specs.SurfaceTree.{Param, Ranges, NoRanges, MoreRanges, Stmt, Stmts, NoStmts, MoreStmts, DeclareStmt, AssignStmt, CallStmt, ReturnStmt, AssertStmt, BreakStmt, ContinueStmt, SkipStmt, FailStmt, IfStmt, WhileStmt, DoStmt, ForStmt, SwitchStmt, SwitchElseStmt}
 use Rattle.wy_scope.specs.Scope.{Scope, with_name}

@@ -1,6 +1,6 @@
 -- The faults of names in declarations.
 use Rattle.std.specs.Prelude.{ℕ, Bool, true, false, List, [], ◌∷◌, map, Option, Some, None, is_some}
-use Rattle.wy_ast.specs.SurfaceTree.{Ty, Expr, Stmts, Param, Alias, Function, Method, Property, Decl, AliasDecl, FunctionDecl, MethodDecl, PropertyDecl, exprs_of}
+use Rattle.wy_ast.specs.SurfaceTree.{Ty, Expr, Param, Alias, Function, Method, Property, Decl, AliasDecl, FunctionDecl, MethodDecl, PropertyDecl, exprs_of}
 use Rattle.wy_ast.specs.SurfaceSeen.{seen_ty, seen_exprs, seen_block, seen_param, seen_result}
 use Rattle.wy_ast.specs.declared.declarations.Alias as rust_alias
 use Rattle.wy_ast.specs.declared.declarations.Function as rust_function

@@ -1,5 +1,5 @@
 -- The faults of names in expressions.
-use Rattle.std.specs.Prelude.{ℕ, ◌+◌, not, true, List, []}
+use Rattle.std.specs.Prelude.{ℕ, ◌+◌, not, true, []}
 use Rattle.wy_ast.specs.SurfaceTree.{Expr, Exprs, Fields, Ranges, NullExpr, BoolExpr, IntExpr, TextExpr, VarExpr, CallExpr, NegExpr, NotExpr, LenExpr, BinaryExpr, IsExpr, IndexExpr, FieldExpr, ListExpr, RepeatExpr, RecordExpr, QuantExpr, NoExprs, MoreExprs, NoFields, MoreFields, NoRanges, MoreRanges}
 use Rattle.wy_scope.specs.declared.fault.Cause.TheVariants as cause
 use Rattle.wy_scope.specs.Faults.{Found, noted_where}

@@ -1,5 +1,5 @@
 -- The faults of names in statements.
-use Rattle.std.specs.Prelude.{ℕ, Bool, true, false, not, ◌==◌, List, [], ◌∷◌, Option, Some, None, is_some, if◌then◌else◌}
+use Rattle.std.specs.Prelude.{ℕ, Bool, true, false, not, List, [], ◌∷◌, Option, Some, None, is_some}
 use Rattle.wy_ast.specs.SurfaceTree.{Expr, Step, IndexStep, FieldStep, Stmt, Stmts, Cases, DeclareStmt, AssignStmt, CallStmt, ReturnStmt, AssertStmt, BreakStmt, ContinueStmt, SkipStmt, FailStmt, IfStmt, WhileStmt, DoStmt, ForStmt, SwitchStmt, SwitchElseStmt, NoStmts, MoreStmts, NoCases, MoreCases, exprs_of}
 use Rattle.wy_ast.specs.SurfaceSeen.{SeenCase, stmt_kind_layer, case_layer, stmt_layer}
 use Rattle.wy_ast.specs.declared.statements.Case.{Case, fold-Case}

@@ -1,5 +1,5 @@
 -- The faults of names in types.
-use Rattle.std.specs.Prelude.{ℕ, not, List, [], ◌∷◌, map}
+use Rattle.std.specs.Prelude.{ℕ, not, List, [], map}
 use Rattle.wy_ast.specs.SurfaceTree.{Ty, FieldTys, NullTy, BoolTy, IntTy, AnyTy, VoidTy, RecordTy, ArrayTy, UnionTy, InterTy, NotTy, NamedTy, NoFieldTys, MoreFieldTys, field_tys_of}
 use Rattle.wy_ast.specs.SurfaceSeen.{seen_ty}
 use Rattle.wy_ast.specs.declared.types.Ty as rust

@@ -12,8 +12,6 @@ mod context;
 mod declarations;
 mod expressions;
 mod statements;
-#[cfg(test)]
-mod tests;
 mod types;
 
 pub use declarations::bind;

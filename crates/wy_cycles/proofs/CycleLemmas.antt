@@ -1,5 +1,5 @@
 -- Labels that a certificate shows to be right tell which arrows lie on a cycle.
-use Rattle.std.proofs.Common.{◌≡◌, ◌≢◌, ◌+◌, ◌<◌, ◌≤◌, ◌↔◌, ◌⊎◌, inl, inr, ℕ, zero, suc, Bool, true, false, not, ◌&&◌, ◌||◌, ◌==◌, List, [], ◌∷◌, Option, Some, None, refl, sym, ap, subst, ◌∙◌, arith}
+use Rattle.std.proofs.Common.{◌≡◌, ◌≢◌, ◌+◌, ◌<◌, ◌≤◌, ◌↔◌, ◌⊎◌, inl, inr, ℕ, zero, suc, Bool, true, false, not, ◌&&◌, ◌||◌, ◌==◌, List, [], ◌∷◌, Option, Some, None, refl, sym, ap, subst, arith}
 use Rattle.std.specs.List.{slice_get}
 use Rattle.std.specs.Bool.{nat_lt}
 use Rattle.std.proofs.Math.Dec.{eqb}
@@ -45,7 +45,7 @@ risen_facts labels count a h =
       order = ltb-false (number_at labels a.to) (number_at labels a.from) (refuted (nat_lt (number_at labels a.to) (number_at labels a.from)) second.1);
     }
 
-leads_on : (arrows : List Arrow) (a b d : ℕ) → Leads arrows a b → Leads arrows b d → Leads arrows a d
+pub leads_on : (arrows : List Arrow) (a b d : ℕ) → Leads arrows a b → Leads arrows b d → Leads arrows a d
 leads_on arrows a b d (stays e) q = subst (λ (x : ℕ). Leads arrows x d) (sym e) q
 leads_on arrows a b d (goes i arrow e f rest) q = goes i arrow e f (leads_on arrows arrow.to b d rest q)
 

@@ -2,33 +2,37 @@
 ghost use Rattle.std.specs.Prelude.{◌≡◌, IfOk};
 ghost use Rattle.wy_cycles.specs.Cycles as spec;
 
+use crate::ancestors::{labels_by_ancestors, node_count};
 use crate::certificate::{Certificate, Hangs, holds};
 use crate::graph::{Arrow, adjacency_of};
 use crate::walks::{Forest, walk};
 use sqlite_items::Items;
 use std::alloc::{AllocError, Global};
 
-/// The label of each node, and one node of each label.
+/// The label of each node.
 #[derive(Drop)]
 pub struct Labels {
     pub labels: Items<usize>,
-    pub roots: Items<usize>,
 }
 
-/// Labels of the nodes below the count, such that an arrow lies on a cycle exactly where its ends have one
-/// label; they rise along each arrow. Linear in nodes and arrows. An arrow whose end is no node is answered
-/// as want of memory, and so are labels of which the certificate doesn't hold.
+/// Labels of the nodes, such that an arrow lies on a cycle exactly where its ends have one label; they rise
+/// along each arrow. The nodes are those below the count, and all up to the greatest end of an arrow. Linear
+/// in nodes and arrows where two walks in depth find labels that their certificate shows to be right, as in
+/// all that was tested; else the nodes that lead to each node are counted, with a walk over all nodes and
+/// arrows for each node.
 #[tactic(auto, using(crate::proofs::CycleLemmas::certified_cycles, crate::proofs::CycleLemmas::certified_rise))]
 pub fn components(alloc: Global, count: usize, arrows: &[Arrow]) -> Result<Labels, AllocError>
     ensures cycles { IfOk result (λ c. spec.TellCycles arrows.now c.labels) }
     ensures rising { IfOk result (λ c. spec.Rise arrows.now c.labels) }
 {
-    let certificate = certified(alloc, count, arrows)?;
-    if !holds(arrows, &certificate, count) {
-        return Err(AllocError);
+    let nodes = node_count(count, arrows);
+    let certificate = certified(alloc, nodes, arrows)?;
+    if holds(arrows, &certificate, nodes) {
+        let Certificate { labels, .. } = certificate;
+        return Ok(Labels { labels });
     }
-    let Certificate { labels, roots, .. } = certificate;
-    Ok(Labels { labels, roots })
+    let labels = labels_by_ancestors(alloc, arrows)?;
+    Ok(Labels { labels })
 }
 
 /// Labels with a certificate: a walk in depth along the arrows, and one against them from the nodes that

@@ -16,11 +16,9 @@ mod numbers;
 mod quantifiers;
 mod statements;
 mod templates;
-#[cfg(test)]
-mod tests;
 mod types;
 mod uses;
 
 pub use declarations::core_of;
-pub use templates::templates;
+pub use templates::templates_of;
 pub use uses::Template;

@@ -18,7 +18,7 @@ use wy_scope::Table;
 /// The template of each declaration, by its index. The order has the indices of the properties whose
 /// expansions end, each behind those that it uses. The scope holds the names of all declarations, and
 /// is as before afterwards. Linear in the properties and their expansion.
-pub fn templates(
+pub fn templates_of(
     alloc: Global,
     scope: &mut Table,
     decls: &[Decl],
@@ -61,7 +61,7 @@ fn with_option(
     decl: Option<&Decl>,
 ) -> Result<Items<Template>, AllocError>
     ensures scope { OnOk result (scope.new ≡ scope.old) }
-    ensures value { IfOk result (λ ts. seen_templates ts ≡ spec.with_option scope.old (seen_templates templates) used place (option_map seen_decl (option_copied decl))) }
+    ensures value { IfOk result (λ ts. seen_templates ts ≡ spec.with_option scope.old (seen_templates templates) used place (option_map seen_decl (option_copied decl.entry))) }
 {
     match decl {
         None => Ok(templates),
@@ -86,7 +86,7 @@ fn set_at(templates: Items<Template>, place: usize, template: Template) -> Items
 }
 
 fn used_of(alloc: Global, expansion: Option<&Expansion>) -> Result<Items<bool>, AllocError>
-    ensures value { IfOk result (λ used. used ≡ spec.used_of (option_copied expansion)) }
+    ensures value { IfOk result (λ used. used ≡ spec.used_of (option_copied expansion.entry)) }
 {
     match expansion {
         None => Ok(Items::new(alloc)),

@@ -44,7 +44,7 @@ fn template_at(templates: &[Template], index: u32) -> Option<&Template>
 }
 
 fn used_by(template: Option<&Template>, number: usize) -> bool
-    ensures value { result ≡ spec.used_by (spec.seen_maybe (option_copied template)) number }
+    ensures value { result ≡ spec.used_by (spec.seen_maybe (option_copied template.entry)) number }
 {
     match template {
         None => false,
@@ -53,7 +53,7 @@ fn used_by(template: Option<&Template>, number: usize) -> bool
 }
 
 fn or_not(used: Option<&bool>) -> bool
-    ensures value { result ≡ spec.or_not (option_copied used) }
+    ensures value { result ≡ spec.or_not (option_copied used.entry) }
 {
     match used {
         None => false,
@@ -97,8 +97,8 @@ fn expansion(
     place: u32,
     args: &[Expr],
 ) -> Result<Expr, AllocError>
-    ensures variables { OnOk result (variables.new ≡ (spec.expansion place (spec.seen_maybe (option_copied template)) variables.old (seen_exprs args.now)).0) }
-    ensures value { IfOk result (λ e. seen_expr e ≡ (spec.expansion place (spec.seen_maybe (option_copied template)) variables.old (seen_exprs args.now)).1) }
+    ensures variables { OnOk result (variables.new ≡ (spec.expansion place (spec.seen_maybe (option_copied template.entry)) variables.old (seen_exprs args.now)).0) }
+    ensures value { IfOk result (λ e. seen_expr e ≡ (spec.expansion place (spec.seen_maybe (option_copied template.entry)) variables.old (seen_exprs args.now)).1) }
 {
     match template {
         None => Ok(null(place)),

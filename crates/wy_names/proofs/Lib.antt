@@ -1,2 +1,4 @@
 -- the least fault is left
 pub mod LeastLemmas
+-- what the passes find, put together
+pub mod NamedLemmas

@@ -11,7 +11,7 @@ use wy_ast::{Decl, Program};
 use wy_bind::bind;
 use wy_core::Core;
 use wy_expand::{Expansion, in_decls, summaries};
-use wy_lower::{core_of, templates};
+use wy_lower::{core_of, templates_of};
 use wy_recursion::{noted_recursion, order_of};
 use wy_scope::{Fault, Table, declare};
 use wy_uses::edges_of;
@@ -69,7 +69,7 @@ fn lowered(alloc: Global, decls: &[Decl], judgement: Judgement) -> Result<Core, 
         expansions,
         ..
     } = judgement;
-    let templates = templates(
+    let templates = templates_of(
         alloc,
         &mut scope,
         decls,

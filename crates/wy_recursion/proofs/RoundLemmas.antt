@@ -320,7 +320,12 @@ grown_round ds es order rest order2 rest2 before after g o r n =
 
 property_left : (k : ℕ) (ds : List Decl) (i : ℕ) → is_property (slice_get ds i) ≡ true → Has (properties k ds) (k + i)
 property_left k [] i h = absurd (cc)
-property_left k (d ∷ ds) zero h = rw h (or_left (k == (k + 0)) (has (properties (k + 1) ds) (k + 0)) (eq-eqb k (k + 0) (omega arith)))
+property_left k (d ∷ ds) zero h = by (is_property (Some d)) h
+  where
+    by : (b : Bool) → b ≡ true → Has (cond b (k ∷ properties (k + 1) ds) (properties (k + 1) ds)) (k + 0)
+    by true e = or_left (k == (k + 0)) (has (properties (k + 1) ds) (k + 0)) (eq-eqb k (k + 0) (omega arith))
+    by false e = absurd (cc)
+
 property_left k (d ∷ ds) (suc i) h = by (is_property (Some d))
   where
     moved : k + 1 + i ≡ k + suc i

@@ -13,8 +13,6 @@ mod positions;
 mod recursion;
 mod rounds;
 mod search;
-#[cfg(test)]
-mod tests;
 
 pub use order::order_of;
 pub use recursion::noted_recursion;

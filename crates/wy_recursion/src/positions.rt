@@ -30,7 +30,7 @@ pub fn is_use(decls: &[Decl], edge: Edge) -> bool
 
 /// Whether it is a property.
 pub fn is_property(decl: Option<&Decl>) -> bool
-    ensures value { result ≡ spec.is_property (option_map seen_decl (option_copied decl)) }
+    ensures value { result ≡ spec.is_property (option_map seen_decl (option_copied decl.entry)) }
 {
     match decl {
         None => false,
@@ -65,7 +65,7 @@ fn edge_at(edges: &[Edge], index: usize) -> Option<Edge>
 }
 
 fn is_at(place: Option<&usize>, index: usize) -> bool
-    ensures value { result ≡ spec.is_at (option_copied place) index }
+    ensures value { result ≡ spec.is_at (option_copied place.entry) index }
 {
     match place {
         None => false,

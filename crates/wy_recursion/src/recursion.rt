@@ -14,8 +14,7 @@ use wy_uses::{Edge, Way};
 
 /// The fault to be given, of the one found before and those of types that recur: `BareRecursion` at a bare
 /// use on a cycle of bare uses, mentions and properties, and at a mention, or the use of a property, in a
-/// type's clause on any cycle. Linear in declarations and uses. Where the labels of the cycles could not be
-/// certified, which no test has seen, the answer is want of memory.
+/// type's clause on any cycle. Linear in declarations and uses, as far as the labels of cycles are.
 #[tactic(auto, using(crate::proofs::MarkLemmas::exactly_noted))]
 pub fn noted_recursion(
     alloc: Global,
@@ -79,7 +78,7 @@ fn label(labels: &[usize], node: u32) -> usize
 }
 
 fn is_type(decl: Option<&Decl>) -> bool
-    ensures value { result ≡ spec.is_type (option_map seen_decl (option_copied decl)) }
+    ensures value { result ≡ spec.is_type (option_map seen_decl (option_copied decl.entry)) }
 {
     match decl {
         None => false,

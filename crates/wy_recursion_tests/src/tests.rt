@@ -1,10 +1,9 @@
 //! Uses among declarations, by hand: which of them recur, and which properties' expansions end.
-use crate::order::order_of;
-use crate::recursion::noted_recursion;
 use sqlite_items::Items;
 use std::alloc::{AllocError, Global};
 use wy_ast::{Alias, Decl, Property, Ty, TyKind};
 use wy_data::Name;
+use wy_recursion::{noted_recursion, order_of};
 use wy_scope::{Cause, Fault};
 use wy_uses::{Edge, Way};
 
