@@ -1,5 +1,5 @@
 -- The faults that expansions bring to declarations.
-use Rattle.std.specs.Prelude.{Bool, false, List, [], ◌∷◌}
+use Rattle.std.specs.Prelude.{false, List, [], ◌∷◌}
 use Rattle.wy_ast.specs.SurfaceTree.{Expr, Stmts, Param, Decl, AliasDecl, FunctionDecl, MethodDecl, PropertyDecl}
 use Rattle.wy_scope.specs.Faults.{Found}
 use Rattle.wy_scope.specs.Scope.{Scope}

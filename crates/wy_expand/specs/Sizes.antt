@@ -1,5 +1,5 @@
 -- The nodes of an expression in the core, its properties expanded. They are counted in the source: inside an argument of a property, as often and as deep as the property's clauses put it.
-use Rattle.std.specs.Prelude.{ℕ, ◌+◌, min, Bool, List, [], ◌∷◌, length, map, Option, Some, None, slice_get}
+use Rattle.std.specs.Prelude.{ℕ, ◌+◌, min, List, length, map, Option, Some, None, slice_get}
 use Rattle.wy_ast.specs.SurfaceTree.{Ty, FieldTys, NullTy, BoolTy, IntTy, AnyTy, VoidTy, RecordTy, ArrayTy, UnionTy, InterTy, NotTy, NamedTy, NoFieldTys, MoreFieldTys, field_tys_of}
 use Rattle.wy_ast.specs.SurfaceTree.{Expr, Exprs, Fields, Ranges, NullExpr, BoolExpr, IntExpr, TextExpr, VarExpr, CallExpr, NegExpr, NotExpr, LenExpr, BinaryExpr, IsExpr, IndexExpr, FieldExpr, ListExpr, RepeatExpr, RecordExpr, QuantExpr, NoExprs, MoreExprs, NoFields, MoreFields, NoRanges, MoreRanges}
 use Rattle.wy_ast.specs.SurfaceSeen.{seen_ty}
@@ -15,7 +15,7 @@ use Rattle.wy_expand.specs.declared.measure.Use.{Use}
 use Rattle.wy_expand.specs.declared.measure.Expansion.{Expansion}
 use Rattle.wy_expand.specs.declared.measure.Expansion.TheVariants as expansion
 pub use Rattle.wy_expand.specs.Measures.{inside, counted}
-use Rattle.wy_expand.specs.Measures.{deeper, quantified, dropped, argument, counted_many, called, expanded, endless, used}
+use Rattle.wy_expand.specs.Measures.{quantified, dropped, argument, counted_many, called, expanded, endless, used}
 
 -- what the walk looks up: the names of declarations, the parameters of the property whose clause it is, and what each declaration expands to
 pub record Known : Type 0 where

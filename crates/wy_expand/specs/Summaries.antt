@@ -1,5 +1,5 @@
 -- What properties come to, summed up.
-use Rattle.std.specs.Prelude.{ℕ, ◌+◌, min, Bool, true, false, List, [], ◌∷◌, length, map, Option, Some, None, nat_lt, if◌then◌else◌, slice_get, slice_set}
+use Rattle.std.specs.Prelude.{ℕ, ◌+◌, min, Bool, true, false, List, [], ◌∷◌, length, Option, Some, None, nat_lt, if◌then◌else◌, slice_get, slice_set}
 use Rattle.wy_ast.specs.SurfaceTree.{Expr, Param, Decl, AliasDecl, FunctionDecl, MethodDecl, PropertyDecl}
 use Rattle.wy_scope.specs.Scope.{Scope, with_name}
 use Rattle.wy_scope.specs.declared.table.Entry.TheVariants as entry

@@ -5,8 +5,8 @@ ghost use Rattle.wy_expand.specs.Sizes.{known};
 ghost use Rattle.wy_expand.specs.Faults as faults;
 
 use crate::measure::Expansion;
+use crate::properties::params_of;
 use crate::statements::{each_whole, in_block};
-use crate::summaries::params_of;
 use std::alloc::{AllocError, Global};
 use wy_ast::{Decl, Function, Method, Property};
 use wy_scope::{Fault, Table};

@@ -1,6 +1,5 @@
 //! The nodes of an expression and of what its properties expand to.
 ghost use Rattle.std.specs.Prelude.{◌≡◌};
-ghost use Rattle.std.specs.Option.{option_copied};
 ghost use Rattle.wy_ast.specs.SurfaceSeen.{seen_ty, seen_expr, seen_exprs, seen_fields, seen_ranges};
 ghost use Rattle.wy_ast.specs.SurfaceTree.{exprs_of};
 ghost use Rattle.wy_expand.specs.Sizes as sizes;
@@ -315,17 +314,21 @@ fn arg_spot(
         Some(Entry::Property(declared, _)) => match expansions.get(declared as usize) {
             None => dropped(spot),
             Some(Expansion::Endless) => dropped(spot),
-            Some(Expansion::Finite(summary)) => use_spot(spot, at, summary.uses.get(index)),
+            Some(Expansion::Finite(summary)) => use_spot(
+                spot,
+                at,
+                summary.uses.get(index).copied(),
+            ),
         },
     }
 }
 
-fn use_spot(spot: Spot, at: u32, parameter: Option<&Use>) -> Spot
-    ensures value { result ≡ sizes.use_spot spot at (option_copied parameter) }
+fn use_spot(spot: Spot, at: u32, parameter: Option<Use>) -> Spot
+    ensures value { result ≡ sizes.use_spot spot at parameter }
 {
     match parameter {
         None => dropped(spot),
-        Some(parameter) => argument(spot, at, *parameter),
+        Some(parameter) => argument(spot, at, parameter),
     }
 }
 

@@ -1,5 +1,5 @@
 //! The faults that expansions bring to statements.
-ghost use Rattle.std.specs.Prelude.{◌≡◌, map};
+ghost use Rattle.std.specs.Prelude.{◌≡◌, true, map};
 ghost use Rattle.wy_ast.specs.SurfaceSeen.{seen_expr, seen_exprs, seen_stmt, seen_block, seen_option, seen_step};
 ghost use Rattle.wy_ast.specs.SurfaceTree.{cases_of, exprs_of};
 ghost use Rattle.wy_expand.specs.Sizes.{known};

@@ -261,20 +261,40 @@ abbrev mutual
       more (record { test = is_one_of at t (in_clauses ts s vs labels).1; body = (in_stmts ts s (in_clauses ts s vs labels).0 body).1 })
       (in_cases ts s (in_stmts ts s (in_clauses ts s vs labels).0 body).0 at t rest)
 
--- the same for the statements that the core lacks; nothing for others
-abbrev pub rewritten : List Template → Scope → Variables → surface.Stmt → With (List (Stmt ℕ))
-rewritten ts s vs (surface.DoStmt at body test invariants) =
+-- the test of an `if`, its first block, and the whole
+abbrev pub if_test : List Template → Scope → Variables → surface.Expr → With (Expr ℕ)
+if_test ts s vs test = in_expr ts s vs test
+
+abbrev pub if_first : List Template → Scope → Variables → surface.Expr → surface.Stmts → With (List (Stmt ℕ))
+if_first ts s vs test first = in_stmts ts s (if_test ts s vs test).0 first
+
+abbrev pub if_of : ℕ → Expr ℕ → List (Stmt ℕ) → List (Stmt ℕ) → List (Stmt ℕ)
+if_of at test first second = alone (IfStmt at test (stmts_of first) (stmts_of second))
+
+-- a `while`, a `do` and a `for`, by their parts
+abbrev pub while_stmt : List Template → Scope → Variables → ℕ → surface.Expr → List surface.Expr → surface.Stmts → With (List (Stmt ℕ))
+while_stmt ts s vs at test invariants body =
+    one (λ b. alone (WhileStmt at (in_expr ts s vs test).1 (in_clauses ts s (in_expr ts s vs test).0 invariants).1 (stmts_of b)))
+    (in_stmts ts s (in_clauses ts s (in_expr ts s vs test).0 invariants).0 body)
+
+abbrev pub do_stmt : List Template → Scope → Variables → ℕ → surface.Expr → List surface.Expr → surface.Stmts → With (List (Stmt ℕ))
+do_stmt ts s vs at test invariants body =
     one (repeated at (length vs) (do_test ts s vs test).1 (do_invariants ts s vs test invariants).1)
     (in_stmts ts s (do_invariants ts s vs test invariants).0 body)
-rewritten ts s vs (surface.ForStmt at name from to invariants body) =
+
+abbrev pub for_stmt : List Template → Scope → Variables → ℕ → List ℕ → surface.Expr → surface.Expr → List surface.Expr → surface.Stmts → With (List (Stmt ℕ))
+for_stmt ts s vs at name from to invariants body =
     one (counted at (for_span ts s vs from to) (for_from ts s vs from).1 (for_to ts s vs from to).1 (for_invariants ts s vs name from to invariants).1)
     (in_stmts ts (renamed s name (for_span ts s vs from to).i) (for_invariants ts s vs name from to invariants).0 body)
-rewritten ts s vs (surface.SwitchStmt at value cs) =
+
+-- a `switch`; nothing for other statements
+abbrev pub switch_stmt : List Template → Scope → Variables → surface.Stmt → With (List (Stmt ℕ))
+switch_stmt ts s vs (surface.SwitchStmt at value cs) =
     one (λ arms. switched at (switch_number ts s vs value) (switch_value ts s vs value).1 arms [])
     (in_cases ts s (switch_variables ts s vs value) at (switch_number ts s vs value) cs)
-rewritten ts s vs (surface.SwitchElseStmt at value cs default) =
+switch_stmt ts s vs (surface.SwitchElseStmt at value cs default) =
     one
     (switched at (switch_number ts s vs value) (switch_value ts s vs value).1
     (in_cases ts s (switch_variables ts s vs value) at (switch_number ts s vs value) cs).1)
     (in_stmts ts s (in_cases ts s (switch_variables ts s vs value) at (switch_number ts s vs value) cs).0 default)
-rewritten ts s vs statement = (vs, [])
+switch_stmt ts s vs statement = (vs, [])

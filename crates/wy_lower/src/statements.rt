@@ -103,32 +103,224 @@ fn in_stmt(
         surface::StmtKind::Skip => one(alloc, skip_stmt(at)),
         surface::StmtKind::Fail => one(alloc, fail_stmt(at)),
         surface::StmtKind::If(test, first, second) => {
-            let test = in_expr(alloc, scope, templates, variables, test)?;
-            let first = in_block(alloc, scope, templates, variables, first.as_slice())?;
+            let head = in_tested(
+                alloc,
+                scope,
+                templates,
+                variables,
+                first.as_slice(),
+                test,
+            )?;
             let second = in_block(alloc, scope, templates, variables, second.as_slice())?;
-            one(alloc, if_stmt(at, test, first, second))
+            either_of(alloc, at, head, second)
         }
         surface::StmtKind::While(test, invariants, body) => {
-            let test = in_expr(alloc, scope, templates, variables, test)?;
-            let invariants = in_exprs(alloc, scope, templates, variables, invariants.as_slice())?;
-            let body = in_block(alloc, scope, templates, variables, body.as_slice())?;
-            one(alloc, while_stmt(at, test, invariants, body))
+            let invariants = invariants.as_slice();
+            in_while(
+                alloc,
+                scope,
+                templates,
+                variables,
+                body.as_slice(),
+                at,
+                test,
+                invariants,
+            )
         }
-        surface::StmtKind::Do(_, _, _) => rewritten(alloc, scope, templates, variables, statement),
-        surface::StmtKind::For(_, _, _, _, _) => {
-            rewritten(alloc, scope, templates, variables, statement)
+        surface::StmtKind::Do(body, test, invariants) => {
+            let invariants = invariants.as_slice();
+            in_do_stmt(
+                alloc,
+                scope,
+                templates,
+                variables,
+                body.as_slice(),
+                at,
+                test,
+                invariants,
+            )
+        }
+        surface::StmtKind::For(name, from, to, invariants, body) => {
+            let invariants = invariants.as_slice();
+            in_for_stmt(
+                alloc,
+                scope,
+                templates,
+                variables,
+                body.as_slice(),
+                at,
+                name,
+                from,
+                to,
+                invariants,
+            )
         }
         surface::StmtKind::Switch(_, _, default) => match default {
-            None => rewritten(alloc, scope, templates, variables, statement),
-            Some(_) => rewritten(alloc, scope, templates, variables, statement),
+            None => in_switch_stmt(alloc, scope, templates, variables, statement),
+            Some(_) => in_switch_stmt(alloc, scope, templates, variables, statement),
         },
     }
 }
 
-/// The same for the statements that the core lacks; nothing for others.
+/// The test of an `if` and its first block.
+#[derive(Drop)]
+struct IfHead {
+    test: Expr,
+    first: Items<Stmt>,
+}
+
+/// The test of an `if` and its first block, the block first.
+#[cycle(stmt)]
+fn in_tested(
+    alloc: Global,
+    scope: &mut Table,
+    templates: &[Template],
+    variables: &mut Items<Name>,
+    first: &[surface::Stmt],
+    test: &surface::Expr,
+) -> Result<IfHead, AllocError>
+    ensures scope { OnOk result (scope.new ≡ scope.old) }
+    ensures variables { OnOk result (variables.new ≡ (lowered.if_first (seen_templates templates.now) scope.old variables.old (surface_seen.seen_expr test.now) (surface_seen.seen_block first.now)).0) }
+    ensures test { IfOk result (λ h. seen_expr h.test ≡ (lowered.if_test (seen_templates templates.now) scope.old variables.old (surface_seen.seen_expr test.now)).1) }
+    ensures first { IfOk result (λ h. map seen_stmt h.first ≡ (lowered.if_first (seen_templates templates.now) scope.old variables.old (surface_seen.seen_expr test.now) (surface_seen.seen_block first.now)).1) }
+{
+    let test = in_expr(alloc, scope, templates, variables, test)?;
+    let first = in_block(alloc, scope, templates, variables, first)?;
+    Ok(IfHead { test, first })
+}
+
+/// An `if` of these parts.
+fn either_of(
+    alloc: Global,
+    at: u32,
+    head: IfHead,
+    second: Items<Stmt>,
+) -> Result<Items<Stmt>, AllocError>
+    ensures value { IfOk result (λ made. map seen_stmt made ≡ lowered.if_of at (seen_expr head.test) (map seen_stmt head.first) (map seen_stmt second)) }
+{
+    let IfHead { test, first } = head;
+    one(alloc, if_stmt(at, test, first, second))
+}
+
+/// `while`, its body first.
+#[cycle(stmt)]
+fn in_while(
+    alloc: Global,
+    scope: &mut Table,
+    templates: &[Template],
+    variables: &mut Items<Name>,
+    body: &[surface::Stmt],
+    at: u32,
+    test: &surface::Expr,
+    invariants: &[surface::Expr],
+) -> Result<Items<Stmt>, AllocError>
+    ensures scope { OnOk result (scope.new ≡ scope.old) }
+    ensures variables { OnOk result (variables.new ≡ (lowered.while_stmt (seen_templates templates.now) scope.old variables.old at (surface_seen.seen_expr test.now) (surface_seen.seen_exprs invariants.now) (surface_seen.seen_block body.now)).0) }
+    ensures value { IfOk result (λ made. map seen_stmt made ≡ (lowered.while_stmt (seen_templates templates.now) scope.old variables.old at (surface_seen.seen_expr test.now) (surface_seen.seen_exprs invariants.now) (surface_seen.seen_block body.now)).1) }
+{
+    let test = in_expr(alloc, scope, templates, variables, test)?;
+    let invariants = in_exprs(alloc, scope, templates, variables, invariants)?;
+    let body = in_block(alloc, scope, templates, variables, body)?;
+    one(alloc, while_stmt(at, test, invariants, body))
+}
+
+/// `do`, its body first.
+#[cycle(stmt)]
+fn in_do_stmt(
+    alloc: Global,
+    scope: &mut Table,
+    templates: &[Template],
+    variables: &mut Items<Name>,
+    body: &[surface::Stmt],
+    at: u32,
+    test: &surface::Expr,
+    invariants: &[surface::Expr],
+) -> Result<Items<Stmt>, AllocError>
+    ensures scope { OnOk result (scope.new ≡ scope.old) }
+    ensures variables { OnOk result (variables.new ≡ (lowered.do_stmt (seen_templates templates.now) scope.old variables.old at (surface_seen.seen_expr test.now) (surface_seen.seen_exprs invariants.now) (surface_seen.seen_block body.now)).0) }
+    ensures value { IfOk result (λ made. map seen_stmt made ≡ (lowered.do_stmt (seen_templates templates.now) scope.old variables.old at (surface_seen.seen_expr test.now) (surface_seen.seen_exprs invariants.now) (surface_seen.seen_block body.now)).1) }
+{
+    let head = in_do(alloc, scope, templates, variables, at, test, invariants)?;
+    let body = in_block(alloc, scope, templates, variables, body)?;
+    done(alloc, at, head, body)
+}
+
+/// The statements of a `do`.
+fn done(alloc: Global, at: u32, head: DoHead, body: Items<Stmt>) -> Result<Items<Stmt>, AllocError>
+    ensures value { IfOk result (λ made. map seen_stmt made ≡ lowered.repeated_behind at head.first (seen_expr head.test) (seen_exprs head.invariants) (map seen_stmt body)) }
+{
+    let DoHead {
+        first,
+        test,
+        invariants,
+    } = head;
+    repeated(alloc, at, first, test, invariants, body)
+}
+
+/// `for`, its body first.
+#[cycle(stmt)]
+fn in_for_stmt(
+    alloc: Global,
+    scope: &mut Table,
+    templates: &[Template],
+    variables: &mut Items<Name>,
+    body: &[surface::Stmt],
+    at: u32,
+    name: &Name,
+    from: &surface::Expr,
+    to: &surface::Expr,
+    invariants: &[surface::Expr],
+) -> Result<Items<Stmt>, AllocError>
+    ensures scope { OnOk result (scope.new ≡ scope.old) }
+    ensures variables { OnOk result (variables.new ≡ (lowered.for_stmt (seen_templates templates.now) scope.old variables.old at name.now (surface_seen.seen_expr from.now) (surface_seen.seen_expr to.now) (surface_seen.seen_exprs invariants.now) (surface_seen.seen_block body.now)).0) }
+    ensures value { IfOk result (λ made. map seen_stmt made ≡ (lowered.for_stmt (seen_templates templates.now) scope.old variables.old at name.now (surface_seen.seen_expr from.now) (surface_seen.seen_expr to.now) (surface_seen.seen_exprs invariants.now) (surface_seen.seen_block body.now)).1) }
+{
+    let head = in_for(
+        alloc, scope, templates, variables, name, from, to, invariants,
+    )?;
+    let body = in_named_block(alloc, scope, templates, variables, body, name, head.span.i)?;
+    run(alloc, at, head, body)
+}
+
+/// The statements of a `for`.
+fn run(alloc: Global, at: u32, head: ForHead, body: Items<Stmt>) -> Result<Items<Stmt>, AllocError>
+    ensures value { IfOk result (λ made. map seen_stmt made ≡ lowered.counted at (seen_span head.span) (seen_expr head.from) (seen_expr head.to) (seen_exprs head.invariants) (map seen_stmt body)) }
+{
+    let ForHead {
+        span,
+        from,
+        to,
+        invariants,
+    } = head;
+    counted(alloc, at, span, from, to, invariants, body)
+}
+
+/// The core of a block in which the name stands for this variable.
 #[cycle(stmt)]
 #[tactic(auto, using(crate::proofs::KeptLemmas::kept_name))]
-fn rewritten(
+fn in_named_block(
+    alloc: Global,
+    scope: &mut Table,
+    templates: &[Template],
+    variables: &mut Items<Name>,
+    body: &[surface::Stmt],
+    name: &Name,
+    variable: u32,
+) -> Result<Items<Stmt>, AllocError>
+    ensures scope { OnOk result (scope.new ≡ scope.old) }
+    ensures variables { OnOk result (variables.new ≡ (lowered.in_stmts (seen_templates templates.now) (lowered.renamed scope.old name.now variable) variables.old (surface_seen.seen_block body.now)).0) }
+    ensures value { IfOk result (λ made. map seen_stmt made ≡ (lowered.in_stmts (seen_templates templates.now) (lowered.renamed scope.old name.now variable) variables.old (surface_seen.seen_block body.now)).1) }
+{
+    let mark = scope.len();
+    scope.put(alloc, name, Entry::Variable(variable))?;
+    let body = in_block(alloc, scope, templates, variables, body)?;
+    scope.cut(mark);
+    Ok(body)
+}
+
+/// `switch`; nothing for other statements.
+#[cycle(stmt)]
+fn in_switch_stmt(
     alloc: Global,
     scope: &mut Table,
     templates: &[Template],
@@ -136,8 +328,8 @@ fn rewritten(
     statement: &surface::Stmt,
 ) -> Result<Items<Stmt>, AllocError>
     ensures scope { OnOk result (scope.new ≡ scope.old) }
-    ensures variables { OnOk result (variables.new ≡ (lowered.rewritten (seen_templates templates.now) scope.old variables.old (surface_seen.seen_stmt statement.now)).0) }
-    ensures value { IfOk result (λ made. map seen_stmt made ≡ (lowered.rewritten (seen_templates templates.now) scope.old variables.old (surface_seen.seen_stmt statement.now)).1) }
+    ensures variables { OnOk result (variables.new ≡ (lowered.switch_stmt (seen_templates templates.now) scope.old variables.old (surface_seen.seen_stmt statement.now)).0) }
+    ensures value { IfOk result (λ made. map seen_stmt made ≡ (lowered.switch_stmt (seen_templates templates.now) scope.old variables.old (surface_seen.seen_stmt statement.now)).1) }
 {
     let at = statement.at;
     match &statement.kind {
@@ -152,46 +344,17 @@ fn rewritten(
         surface::StmtKind::Fail => Ok(Items::new(alloc)),
         surface::StmtKind::If(_, _, _) => Ok(Items::new(alloc)),
         surface::StmtKind::While(_, _, _) => Ok(Items::new(alloc)),
-        surface::StmtKind::Do(body, test, invariants) => {
-            let invariants = invariants.as_slice();
-            let head = in_do(alloc, scope, templates, variables, at, test, invariants)?;
-            let body = in_block(alloc, scope, templates, variables, body.as_slice())?;
-            let DoHead {
-                first,
-                test,
-                invariants,
-            } = head;
-            repeated(alloc, at, first, test, invariants, body)
-        }
-        surface::StmtKind::For(name, from, to, invariants, body) => {
-            let invariants = invariants.as_slice();
-            let head = in_for(
-                alloc, scope, templates, variables, name, from, to, invariants,
-            )?;
-            let mark = scope.len();
-            scope.put(alloc, name, Entry::Variable(head.span.i))?;
-            let body = in_block(alloc, scope, templates, variables, body.as_slice())?;
-            scope.cut(mark);
-            counted(
-                alloc,
-                at,
-                head.span,
-                head.from,
-                head.to,
-                head.invariants,
-                body,
-            )
-        }
+        surface::StmtKind::Do(_, _, _) => Ok(Items::new(alloc)),
+        surface::StmtKind::For(_, _, _, _, _) => Ok(Items::new(alloc)),
         surface::StmtKind::Switch(value, cases, default) => {
             let head = in_switch(alloc, scope, templates, variables, value)?;
-            let SwitchHead { variable, value } = head;
-            let cases = cases.as_slice();
+            let (cases, variable) = (cases.as_slice(), head.variable);
             let arms = in_cases(alloc, scope, templates, variables, at, variable, cases)?;
             match default {
-                None => switched(alloc, at, variable, value, arms, Items::new(alloc)),
+                None => switched(alloc, at, variable, head.value, arms, Items::new(alloc)),
                 Some(block) => {
                     let last = in_block(alloc, scope, templates, variables, block.as_slice())?;
-                    switched(alloc, at, variable, value, arms, last)
+                    switched(alloc, at, variable, head.value, arms, last)
                 }
             }
         }

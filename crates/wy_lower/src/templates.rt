@@ -75,13 +75,15 @@ fn with_option(
     }
 }
 
+#[tactic(auto, using(crate::proofs::UseLemmas::set_within, crate::proofs::UseLemmas::set_beyond))]
 fn set_at(templates: Items<Template>, place: usize, template: Template) -> Items<Template>
     ensures value { seen_templates result ≡ spec.set_at (seen_templates templates) place (seen_template template) }
 {
     let mut templates = templates;
-    if place < templates.len() {
-        templates.set(place, template);
+    if place >= templates.len() {
+        return templates;
     }
+    templates.set(place, template);
     templates
 }
 

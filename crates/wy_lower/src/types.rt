@@ -71,8 +71,9 @@ fn in_fields(
 {
     let mut map = BTreeMap::new(alloc);
     for field in fields {
+        let name = field.0.copy(alloc)?;
         let ty = in_ty(alloc, scope, &field.1)?;
-        map.insert(field.0.copy(alloc)?, ty)?;
+        map.insert(name, ty)?;
     }
     listed(alloc, map)
 }

@@ -2,3 +2,5 @@
 pub mod LeastLemmas
 -- what the passes find, put together
 pub mod NamedLemmas
+-- the fault is one
+pub mod OnceLemmas

@@ -1,5 +1,5 @@
 -- Labels of cycles mark exactly the uses by which a type recurs.
-use Rattle.std.proofs.Common.{◌≡◌, ◌↔◌, ℕ, zero, suc, Bool, true, false, ◌&&◌, ◌==◌, List, [], ◌∷◌, map, cond, Option, Some, None, refl, sym, ap, subst, ◌∙◌}
+use Rattle.std.proofs.Common.{◌≡◌, ◌↔◌, ℕ, zero, suc, Bool, true, false, ◌&&◌, ◌==◌, List, [], ◌∷◌, length, map, cond, Option, Some, None, refl, sym, ap, subst, ◌∙◌}
 use Rattle.std.specs.List.{slice_get}
 use Rattle.std.specs.Option.{option_map}
 use Rattle.std.proofs.lemmas.Option.{slice_get-map}
@@ -19,6 +19,10 @@ use Rattle.wy_recursion.specs.Recursion.{is_type, label, has_one_label, recurs_b
 
 pub decl_found : (ds : List Decl) (i : ℕ) → slice_get (map seen_decl ds) i ≡ option_map seen_decl (slice_get ds i)
 decl_found ds i = slice_get-map seen_decl ds i
+
+pub decls_seen : (ds : List Decl) → length (map seen_decl ds) ≡ length ds
+decls_seen [] = refl
+decls_seen (d ∷ ds) = ap (λ n. suc n) (decls_seen ds)
 
 both : (a b : Bool) → (a && b) ≡ true → (a ≡ true) × (b ≡ true)
 both true b h = (refl, h)

@@ -3,7 +3,7 @@ use Rattle.std.proofs.Common.{◌≡◌, ◌≢◌, ◌+◌, ◌-◌, ◌<◌, �
 use Rattle.std.specs.List.{slice_get}
 use Rattle.std.specs.Bool.{nat_lt}
 use Rattle.std.proofs.lemmas.Option.{slice_get_within}
-use Rattle.std.proofs.lemmas.Bool.{eqb-true, ltb-true}
+use Rattle.std.proofs.lemmas.Bool.{eqb-true, eq-eqb, ltb-true}
 use Rattle.std.proofs.lemmas.Bool.Decides.{eqb_tells}
 use Rattle.std.proofs.Math.Dec.{eqb}
 use Rattle.wy_ast.specs.SurfaceTree.{Decl}
@@ -55,7 +55,7 @@ is_there : (o : Option ℕ) (p : ℕ) → is_at o p ≡ true → o ≡ Some p
 is_there None p h = absurd (cc)
 is_there (Some q) p h = ap Some (eqb-true q p h)
 
--- what a used by a property in the order says: what is used stands before it
+-- what the use by a property in the order says: what is used stands before it
 record Before (order positions : List ℕ) (e : Edge) : Type 0 where
   there : 0 < number_at positions e.to
   less : number_at positions e.to < number_at positions e.from
@@ -117,18 +117,24 @@ within ds None p at is = absurd (cc)
 within ds (Some d) p at is = slice_get_within ds p d at
 
 settled_open : (b c : Bool) (n : ℕ) (d : Bool) → cond (n == 0) (not b || c) d ≡ true → n ≡ 0 → b ≡ true → c ≡ true
-settled_open b c zero d h none is = by (one_of (not b) c h)
+settled_open b c n d h none is = by (n == 0) (eq-eqb n 0 none) h
   where
-    by : (not b ≡ true) ⊎ (c ≡ true) → c ≡ true
-    by (inl no) = absurd (refuted b no is)
-    by (inr k) = k
-settled_open b c (suc n) d h none is = absurd (omega arith)
+    second : (not b ≡ true) ⊎ (c ≡ true) → c ≡ true
+    second (inl denied) = absurd (refuted b denied is)
+    second (inr k) = k
+
+    by : (x : Bool) → x ≡ true → cond x (not b || c) d ≡ true → c ≡ true
+    by true e k = second (one_of (not b) c k)
+    by false e k = absurd (cc)
 
 settled_stands : (b : Bool) (n : ℕ) (d : Bool) → cond (n == 0) b d ≡ true → 0 < n → d ≡ true
-settled_stands b zero d h some = absurd (omega arith)
-settled_stands b (suc n) d h some = h
+settled_stands b n d h some = by (n == 0) refl h
+  where
+    by : (x : Bool) → (n == 0) ≡ x → cond x b d ≡ true → d ≡ true
+    by true e k = let z : n ≡ 0 = eqb-true n 0 e in absurd (omega arith)
+    by false e k = k
 
--- a used of another property without a position
+-- the use of another property without a position
 record Opens (ds : List Decl) (es : Edges) (positions : List ℕ) (q : ℕ) : Type 0 where
   at : ℕ
   edge : Edge

@@ -22,11 +22,11 @@ or_right false b h = h
 
 has_more : (xs : List ℕ) (x p : ℕ) → Has xs p → Has (xs ++ x ∷ []) p
 has_more [] x p h = absurd (cc)
-has_more (y ∷ ys) x p h = by (one_of (y == p) (has ys p) h)
+has_more (y ∷ ys) x p h = by (one_of (y == p) (has ys p) h) (has_more ys x p)
   where
-    by : ((y == p) ≡ true) ⊎ Has ys p → Has (y ∷ (ys ++ x ∷ [])) p
-    by (inl same) = or_left (y == p) (has (ys ++ x ∷ []) p) same
-    by (inr rest) = or_right (y == p) (has (ys ++ x ∷ []) p) (has_more ys x p rest)
+    by : ((y == p) ≡ true) ⊎ Has ys p → (Has ys p → Has (ys ++ x ∷ []) p) → Has (y ∷ (ys ++ x ∷ [])) p
+    by (inl same) go = or_left (y == p) (has (ys ++ x ∷ []) p) same
+    by (inr rest) go = or_right (y == p) (has (ys ++ x ∷ []) p) (go rest)
 
 has_last : (xs : List ℕ) (x p : ℕ) → (x == p) ≡ true → Has (xs ++ x ∷ []) p
 has_last [] x p h = or_left (x == p) false h
@@ -43,11 +43,11 @@ next_place x xs p k = let less : k.at < length xs = k.within in record { at = su
 
 place_of : (xs : List ℕ) (p : ℕ) → Has xs p → Place xs p
 place_of [] p h = absurd (cc)
-place_of (x ∷ xs) p h = by (one_of (x == p) (has xs p) h)
+place_of (x ∷ xs) p h = by (one_of (x == p) (has xs p) h) (place_of xs p)
   where
-    by : ((x == p) ≡ true) ⊎ Has xs p → Place (x ∷ xs) p
-    by (inl same) = record { at = zero; within = omega arith; is = ap Some (eqb-true x p same) }
-    by (inr rest) = next_place x xs p (place_of xs p rest)
+    by : ((x == p) ≡ true) ⊎ Has xs p → (Has xs p → Place xs p) → Place (x ∷ xs) p
+    by (inl same) go = record { at = zero; within = omega arith; is = ap Some (eqb-true x p same) }
+    by (inr rest) go = next_place x xs p (go rest)
 
 stands_has : (xs : List ℕ) (k p : ℕ) → slice_get xs k ≡ Some p → Has xs p
 stands_has [] k p h = absurd (cc)
@@ -112,14 +112,14 @@ either_fails false b h = inr h
 
 blocked : (ds : List Decl) (order : List ℕ) (p : ℕ) (es : Edges) → is_ready ds order p es ≡ false → Blocked ds order p es
 blocked ds order p [] r = absurd (cc)
-blocked ds order p (x ∷ xs) r = by (either_fails (blocks ds order p x) (is_ready ds order p xs) r)
+blocked ds order p (x ∷ xs) r = by (either_fails (blocks ds order p x) (is_ready ds order p xs) r) (blocked ds order p xs)
   where
-    by : (blocks ds order p x ≡ true) ⊎ (is_ready ds order p xs ≡ false) → Blocked ds order p (x ∷ xs)
-    by (inl h) =
+    by : (blocks ds order p x ≡ true) ⊎ (is_ready ds order p xs ≡ false) → (is_ready ds order p xs ≡ false → Blocked ds order p xs) → Blocked ds order p (x ∷ xs)
+    by (inl h) go =
         let a = both (is_use ds x) ((x.from == p) && not (has order x.to)) h in
         let b = both (x.from == p) (not (has order x.to)) a.1 in
         record { at = zero; edge = x; is = refl; used = a.0; from = eqb-true x.from p b.0; lacks = denied (has order x.to) b.1 }
-    by (inr h) = next_blocked ds order p x xs (blocked ds order p xs h)
+    by (inr h) go = next_blocked ds order p x xs (go h)
 
 -- ---- an order that is sound so far stays so
 
@@ -127,7 +127,7 @@ record Sound (ds : List Decl) (es : Edges) (order : List ℕ) : Type 0 where
   property : (k p : ℕ) → StandsAt order k p → is_property (slice_get ds p) ≡ true
   behind : (k : ℕ) (i : ℕ) (e : Edge) → slice_get es i ≡ Some e → is_use ds e ≡ true → StandsAt order k e.from → (j : ℕ) × (j < k) × StandsAt order j e.to
 
-AllProperties : List Decl → List ℕ → Type 0
+abbrev AllProperties : List Decl → List ℕ → Type 0
 AllProperties ds rest = (p : ℕ) → Has rest p → is_property (slice_get ds p) ≡ true
 
 pushed_property : (ds : List Decl) (es : Edges) (order : List ℕ) → Sound ds es order → (x : ℕ) → is_property (slice_get ds x) ≡ true
@@ -211,13 +211,14 @@ first_stands ds es x p xs order same false r = inr (or_left (x == p) (has (rest_
 
 rest_kept : (ds : List Decl) (es : Edges) (rest order : List ℕ) (p : ℕ) → Has rest p → Has (order_behind ds es order rest) p ⊎ Has (rest_behind ds es order rest) p
 rest_kept ds es [] order p h = absurd (cc)
-rest_kept ds es (x ∷ xs) order p h = by (one_of (x == p) (has xs p) h)
+rest_kept ds es (x ∷ xs) order p h = by (one_of (x == p) (has xs p) h) (rest_kept ds es xs (with_ready (is_ready ds order x es) order x) p)
   where
-    by : ((x == p) ≡ true) ⊎ Has xs p → Has (order_behind ds es order (x ∷ xs)) p ⊎ Has (rest_behind ds es order (x ∷ xs)) p
-    by (inl same) = first_stands ds es x p xs order same (is_ready ds order x es) refl
-    by (inr later) =
-        or_more_left (is_ready ds order x es) x p (order_behind ds es order (x ∷ xs)) (rest_behind ds es (with_ready (is_ready ds order x es) order x) xs)
-        (rest_kept ds es xs (with_ready (is_ready ds order x es) order x) p later)
+    by : ((x == p) ≡ true) ⊎ Has xs p
+        → (Has xs p → Has (order_behind ds es (with_ready (is_ready ds order x es) order x) xs) p ⊎ Has (rest_behind ds es (with_ready (is_ready ds order x es) order x) xs) p)
+        → Has (order_behind ds es order (x ∷ xs)) p ⊎ Has (rest_behind ds es order (x ∷ xs)) p
+    by (inl same) go = first_stands ds es x p xs order same (is_ready ds order x es) refl
+    by (inr later) go =
+        or_more_left (is_ready ds order x es) x p (order_behind ds es order (x ∷ xs)) (rest_behind ds es (with_ready (is_ready ds order x es) order x) xs) (go later)
 
 -- ---- a round that takes none
 
@@ -232,22 +233,22 @@ rest_fits ds es (x ∷ xs) order =
     left_fits (is_ready ds order x es) x (rest_behind ds es more xs) (length xs) (rest_fits ds es xs more)
 
 clash : (b : Bool) → b ≡ true → b ≡ false → ⊥
-clash true yes no = absurd (cc)
-clash false yes no = absurd (cc)
+clash true h k = absurd (cc)
+clash false h k = absurd (cc)
 
 not_equal : (a b : ℕ) → (a == b) ≡ false → a ≢ b
 not_equal a b h = λ (k : a ≡ b). clash (a == b) (eq-eqb a b k) h
 
 -- a round leaves fewer, or it is the last
 pub round_smaller : (before after n : ℕ) (was is : Bool) → after ≤ before → n ≡ before → was ≡ false → is ≡ (after == n) → after + cond is 0 1 < before + cond was 0 1
-round_smaller before after n was is fits same no e = rw (no, e) (by (after == n) refl)
+round_smaller before after n was is fits same begun e = rw (begun, e) (by (after == n) refl)
   where
     by : (b : Bool) → (after == n) ≡ b → after + cond b 0 1 < before + 1
     by true h = omega arith
     by false h = let other : after ≢ n = not_equal after n h in omega arith
 
 -- none of these is ready
-AllBlocked : List Decl → Edges → List ℕ → List ℕ → Type 0
+abbrev AllBlocked : List Decl → Edges → List ℕ → List ℕ → Type 0
 AllBlocked ds es order rest = (p : ℕ) → Has rest p → is_ready ds order p es ≡ false
 
 record Stuck (ds : List Decl) (es : Edges) (order rest : List ℕ) : Type 0 where
@@ -316,6 +317,17 @@ grown_round ds es order rest order2 rest2 before after g o r n =
           (subst (λ (x : List ℕ). AllBlocked ds es (order_behind ds es order rest) x) (sym r) (none_behind ds es rest order (ap length (sym r) ∙ n d)));
     }
 
+-- a round, where what was left and what is left have the same length exactly at the end
+pub grown_turn : (ds : List Decl) (es : Edges) (order rest order2 rest2 : List ℕ) (before : ℕ) (was is : Bool) → Grown ds es order rest was → before ≡ length rest
+    → order2 ≡ order_behind ds es order rest → rest2 ≡ rest_behind ds es order rest → is ≡ (length rest2 == before) → Grown ds es order2 rest2 is
+grown_turn ds es order rest order2 rest2 before was is g counted o r e =
+    grown_round ds es order rest order2 rest2 was is g o r (λ (d : is ≡ true). eqb-true (length rest2) before (sym e ∙ d) ∙ counted)
+
+pub turn_smaller : (ds : List Decl) (es : Edges) (order rest rest2 : List ℕ) (before : ℕ) (was is : Bool) → before ≡ length rest → rest2 ≡ rest_behind ds es order rest → was ≡ false → is ≡ (length rest2 == before)
+    → length rest2 + cond is 0 1 < length rest + cond was 0 1
+turn_smaller ds es order rest rest2 before was is counted r begun e =
+    round_smaller (length rest) (length rest2) before was is (subst (λ (x : List ℕ). length x ≤ length rest) (sym r) (rest_fits ds es rest order)) counted begun e
+
 -- ---- the first round
 
 property_left : (k : ℕ) (ds : List Decl) (i : ℕ) → is_property (slice_get ds i) ≡ true → Has (properties k ds) (k + i)
@@ -326,17 +338,12 @@ property_left k (d ∷ ds) zero h = by (is_property (Some d)) h
     by true e = or_left (k == (k + 0)) (has (properties (k + 1) ds) (k + 0)) (eq-eqb k (k + 0) (omega arith))
     by false e = absurd (cc)
 
-property_left k (d ∷ ds) (suc i) h = by (is_property (Some d))
+property_left k (d ∷ ds) (suc i) h =
+    let moved : k + 1 + i ≡ k + suc i = omega arith in by (is_property (Some d)) (subst (λ (n : ℕ). Has (properties (k + 1) ds) n) moved (property_left (k + 1) ds i h))
   where
-    moved : k + 1 + i ≡ k + suc i
-    moved = omega arith
-
-    later : Has (properties (k + 1) ds) (k + suc i)
-    later = subst (λ (n : ℕ). Has (properties (k + 1) ds) n) moved (property_left (k + 1) ds i h)
-
-    by : (b : Bool) → Has (cond b (k ∷ properties (k + 1) ds) (properties (k + 1) ds)) (k + suc i)
-    by true = or_right (k == (k + suc i)) (has (properties (k + 1) ds) (k + suc i)) later
-    by false = later
+    by : (b : Bool) → Has (properties (k + 1) ds) (k + suc i) → Has (cond b (k ∷ properties (k + 1) ds) (properties (k + 1) ds)) (k + suc i)
+    by true later = or_right (k == (k + suc i)) (has (properties (k + 1) ds) (k + suc i)) later
+    by false later = later
 
 -- an index among those of the properties is one of a property
 record IsPropertyBehind (k : ℕ) (ds : List Decl) (p : ℕ) : Type 0 where
@@ -349,15 +356,15 @@ later_property k d ds p i = let m : p ≡ k + 1 + i.at = i.moved in record { at 
 
 left_property : (k : ℕ) (ds : List Decl) (p : ℕ) → Has (properties k ds) p → IsPropertyBehind k ds p
 left_property k [] p h = absurd (cc)
-left_property k (d ∷ ds) p h = by (is_property (Some d)) refl h
+left_property k (d ∷ ds) p h = by (is_property (Some d)) refl h (left_property (k + 1) ds p)
   where
-    here : is_property (Some d) ≡ true → ((k == p) ≡ true) ⊎ Has (properties (k + 1) ds) p → IsPropertyBehind k (d ∷ ds) p
-    here is (inl same) = let e : k ≡ p = eqb-true k p same in record { at = zero; moved = omega arith; is = is }
-    here is (inr later) = later_property k d ds p (left_property (k + 1) ds p later)
+    here : is_property (Some d) ≡ true → ((k == p) ≡ true) ⊎ Has (properties (k + 1) ds) p → (Has (properties (k + 1) ds) p → IsPropertyBehind (k + 1) ds p) → IsPropertyBehind k (d ∷ ds) p
+    here is (inl same) go = let e : k ≡ p = eqb-true k p same in record { at = zero; moved = omega arith; is = is }
+    here is (inr later) go = later_property k d ds p (go later)
 
-    by : (b : Bool) → is_property (Some d) ≡ b → Has (cond b (k ∷ properties (k + 1) ds) (properties (k + 1) ds)) p → IsPropertyBehind k (d ∷ ds) p
-    by true is h2 = here is (one_of (k == p) (has (properties (k + 1) ds) p) h2)
-    by false is h2 = later_property k d ds p (left_property (k + 1) ds p h2)
+    by : (b : Bool) → is_property (Some d) ≡ b → Has (cond b (k ∷ properties (k + 1) ds) (properties (k + 1) ds)) p → (Has (properties (k + 1) ds) p → IsPropertyBehind (k + 1) ds p) → IsPropertyBehind k (d ∷ ds) p
+    by true is h2 go = here is (one_of (k == p) (has (properties (k + 1) ds) p) h2) go
+    by false is h2 go = later_property k d ds p (go h2)
 
 pub grown_start : (ds : List Decl) (es : Edges) (rest : List ℕ) → rest ≡ properties 0 ds → Grown ds es [] rest false
 grown_start ds es rest r = record {
@@ -367,7 +374,10 @@ grown_start ds es rest r = record {
       let i : IsPropertyBehind 0 ds p = left_property 0 ds p (subst (λ (x : List ℕ). Has x p) r h) in
       let m : i.at ≡ p = omega (arith, i.moved) in
       subst (λ (q : ℕ). is_property (slice_get ds q) ≡ true) m i.is;
-  whole = λ (p : ℕ) (is : is_property (slice_get ds p) ≡ true). inr (subst (λ (x : List ℕ). Has x p) (sym r) (property_left 0 ds p is));
+  whole = λ (p : ℕ) (is : is_property (slice_get ds p) ≡ true).
+      let moved : 0 + p ≡ p = omega arith in
+      let stands : Has (properties 0 ds) p = subst (λ (q : ℕ). Has (properties 0 ds) q) moved (property_left 0 ds p is) in
+      inr (subst (λ (x : List ℕ). Has x p) (sym r) stands);
   none = λ (d : false ≡ true). absurd (cc);
 }
 
@@ -384,13 +394,9 @@ ending_below : (ds : List Decl) (es : Edges) (order rest : List ℕ) (done : Boo
 ending_below ds es order rest done g zero k p less at = absurd (omega arith)
 ending_below ds es order rest done g (suc n) k p less at = ends (ending_step ds es order rest done g n k p less at (ending_below ds es order rest done g n))
 
-lacks : (b : Bool) → b ≡ false → b ≡ true → ⊥
-lacks true h k = absurd (cc)
-lacks false h k = absurd (cc)
-
 left_only : (order rest : List ℕ) (p : ℕ) → has order p ≡ false → Has order p ⊎ Has rest p → Has rest p
-left_only order rest p no (inl h) = absurd (lacks (has order p) no h)
-left_only order rest p no (inr h) = h
+left_only order rest p absent (inl h) = absurd (clash (has order p) h absent)
+left_only order rest p absent (inr h) = h
 
 -- a property that is left behind the last round uses another one that is left, so its expansion has no end
 never : (ds : List Decl) (es : Edges) (order rest : List ℕ) → Grown ds es order rest true → (p : ℕ) → Ends ds es p → Has rest p → ⊥
@@ -403,10 +409,11 @@ whole_in : (ds : List Decl) (es : Edges) (order rest : List ℕ) → Grown ds es
 whole_in ds es order rest g p ending (inl h) = let q : Place order p = place_of order p h in (q.at, q.is)
 whole_in ds es order rest g p ending (inr h) = absurd (never ds es order rest g p ending h)
 
-pub grown_order : (ds : List Decl) (es : Edges) (order rest : List ℕ) → Grown ds es order rest true → IsOrder ds es order
-grown_order ds es order rest g = record {
+pub grown_order : (ds : List Decl) (es : Edges) (order rest : List ℕ) (is_done : Bool) → Grown ds es order rest is_done → is_done ≡ true → IsOrder ds es order
+grown_order ds es order rest true g h = record {
   property = g.property;
   ending = λ (k p : ℕ) (at : StandsAt order k p). ending_below ds es order rest true g (suc k) k p (omega arith) at;
   whole = λ (p : ℕ) (is : is_property (slice_get ds p) ≡ true) (ending : Ends ds es p). whole_in ds es order rest g p ending (g.whole p is);
   behind = g.behind;
 }
+grown_order ds es order rest false g h = absurd (cc)

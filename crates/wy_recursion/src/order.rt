@@ -14,7 +14,6 @@ use wy_uses::Edge;
 /// The indices of exactly the properties whose expansion ends, each behind those that it uses. Linear in
 /// declarations and uses. Where what the search found were no such order, which no test has seen, it is
 /// found by rounds.
-#[tactic(auto, using(crate::proofs::OrderLemmas::passed_order))]
 pub fn order_of(alloc: Global, decls: &[Decl], edges: &[Edge]) -> Result<Items<usize>, AllocError>
     ensures value { IfOk result (λ order. IsOrder (map seen_decl decls.now) edges.now order) }
 {

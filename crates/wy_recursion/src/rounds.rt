@@ -48,7 +48,7 @@ struct Round {
 }
 
 /// The order with those of the rest that are ready in their turn.
-fn round(
+fn taken(
     alloc: Global,
     decls: &[Decl],
     edges: &[Edge],
@@ -93,7 +93,7 @@ pub fn by_rounds(alloc: Global, decls: &[Decl], edges: &[Edge]) -> Result<Items<
     let mut is_done = false;
     while !is_done {
         let before = rest.len();
-        let next = round(alloc, decls, edges, order, rest.as_slice())?;
+        let next = taken(alloc, decls, edges, order, rest.as_slice())?;
         let Round { order: more, left } = next;
         order = more;
         rest = left;

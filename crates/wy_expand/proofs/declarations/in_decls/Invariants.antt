@@ -1,4 +1,4 @@
-use Rattle.std.proofs.Common.{◌≡◌, [], drop, map}
+use Rattle.std.proofs.Common.{◌≡◌, drop, map}
 use Rattle.wy_ast.specs.SurfaceSeen.{seen_decl}
 use Rattle.wy_expand.specs.Faults.{in_decls}
 use Rattle.wy_expand.proofs.declarations.in_decls.Given as goal

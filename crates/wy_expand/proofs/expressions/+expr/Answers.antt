@@ -1,4 +1,3 @@
-use Rattle.std.proofs.Common.{◌≡◌, ◌∙◌, sym, ap}
 use Rattle.wy_expand.specs.Sizes.{known}
 use Rattle.wy_expand.proofs.SeenLemmas.{record_size, quant_size}
 use Rattle.wy_expand.proofs.expressions.+expr.Goals as goal

@@ -1,4 +1,3 @@
-use Rattle.std.proofs.Common.{◌≡◌}
 use Rattle.wy_expand.proofs.SeenLemmas.{record_ty_size}
 use Rattle.wy_expand.proofs.expressions.+ty.Goals as goal
 

@@ -1,7 +1,7 @@
 use Rattle.std.proofs.Common.{◌≡◌, ◌++◌, drop, map}
 use Rattle.wy_ast.specs.SurfaceSeen.{seen_decl}
 use Rattle.wy_recursion.specs.Rounds.{order_behind, rest_behind}
-use Rattle.wy_recursion.proofs.rounds.round.Given as goal
+use Rattle.wy_recursion.proofs.rounds.taken.Given as goal
 
 abbrev pub invariant-loop-index : goal.invariant-loop-index
 invariant-loop-index l = record {

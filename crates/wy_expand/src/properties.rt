@@ -1,5 +1,5 @@
 //! What properties come to, summed up.
-ghost use Rattle.std.specs.Prelude.{◌≡◌, map, IfOk};
+ghost use Rattle.std.specs.Prelude.{◌≡◌, true, map, slice_get, IfOk, OnOk};
 ghost use Rattle.wy_ast.specs.SurfaceSeen.{seen_decl, seen_exprs, seen_param};
 ghost use Rattle.wy_expand.specs.Sizes.{known};
 ghost use Rattle.wy_expand.specs.Summaries as spec;
@@ -7,7 +7,7 @@ ghost use Rattle.wy_expand.specs.Summaries as spec;
 use crate::expressions::in_expr;
 use crate::measure::{Expansion, Measure, Summary, Use, counted, deeper, inside, nothing, root};
 use crate::numbers::many;
-use sqlite_items::Items;
+use sqlite_items::{Items, at};
 use std::alloc::{AllocError, Global};
 use wy_ast::{Decl, Expr, Param, Property};
 use wy_scope::{Entry, Table};
@@ -25,18 +25,56 @@ pub fn summaries(
 {
     let mut expansions = without_end(alloc, decls)?;
     for index in order {
-        let at = *index;
-        match decls.get(at) {
-            Some(Decl::Property(property)) => {
-                let summary = summary(alloc, scope, expansions.as_slice(), property)?;
-                if at < expansions.len() {
-                    expansions.set(at, Expansion::Finite(summary));
-                }
-            }
-            _ => {}
-        }
+        with_index(alloc, scope, decls, &mut expansions, *index)?;
     }
     Ok(expansions)
+}
+
+/// With the summary of the declaration with this index, where it is a property.
+#[tactic(auto, using(crate::proofs::SeenLemmas::seen_at, crate::proofs::SeenLemmas::seen_none))]
+fn with_index(
+    alloc: Global,
+    scope: &Table,
+    decls: &[Decl],
+    expansions: &mut Items<Expansion>,
+    index: usize,
+) -> Result<(), AllocError>
+    ensures value { OnOk result (expansions.new ≡ spec.with_option scope.now expansions.old index (slice_get (map seen_decl decls.now) index)) }
+{
+    match at(decls, index) {
+        None => Ok(()),
+        Some(decl) => with_decl(alloc, scope, expansions, index, decl),
+    }
+}
+
+fn with_decl(
+    alloc: Global,
+    scope: &Table,
+    expansions: &mut Items<Expansion>,
+    index: usize,
+    decl: &Decl,
+) -> Result<(), AllocError>
+    ensures value { OnOk result (expansions.new ≡ spec.with_decl scope.now expansions.old index (seen_decl decl.now)) }
+{
+    match decl {
+        Decl::Alias(_) => Ok(()),
+        Decl::Function(_) => Ok(()),
+        Decl::Method(_) => Ok(()),
+        Decl::Property(property) => {
+            let summary = summary(alloc, scope, expansions.as_slice(), property)?;
+            put(expansions, index, Expansion::Finite(summary));
+            Ok(())
+        }
+    }
+}
+
+/// Puts an expansion at the index, where there is one.
+fn put(expansions: &mut Items<Expansion>, index: usize, expansion: Expansion)
+    ensures value { expansions.new ≡ spec.set_at expansions.old index expansion }
+{
+    if index < expansions.len() {
+        expansions.set(index, expansion);
+    }
 }
 
 fn without_end(alloc: Global, decls: &[Decl]) -> Result<Items<Expansion>, AllocError>

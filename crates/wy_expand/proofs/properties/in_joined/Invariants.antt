@@ -2,7 +2,7 @@ use Rattle.std.proofs.Common.{◌≡◌, drop, length, true}
 use Rattle.wy_ast.specs.SurfaceSeen.{seen_exprs}
 use Rattle.wy_expand.specs.Sizes.{known}
 use Rattle.wy_expand.specs.Summaries.{in_joined}
-use Rattle.wy_expand.proofs.summaries.in_joined.Given as goal
+use Rattle.wy_expand.proofs.properties.in_joined.Given as goal
 
 abbrev pub invariant-loop-clause : goal.invariant-loop-clause
 invariant-loop-clause l = record {
