@@ -76,9 +76,9 @@ quant_value ts s s2 vs vs2 heads made y x all rs rs2 body body2 is ranges_are bo
     (value ∙ ap (λ (z : Scope). (in_expr ts z vs2 (surface.seen_expr body2)).1) scope
     ∙ ap (λ (z : Variables). (in_expr ts (in_ranges ts s vs (surface.seen_ranges rs2)).0 z (surface.seen_expr body2)).1) variables)
     ∙ ap (λ (l : List (List ℕ × e.Expr × e.Expr)).
-        quantified x.at all (in_ranges ts s vs (surface.seen_ranges l)).2
-        (in_expr ts (in_ranges ts s vs (surface.seen_ranges l)).0 (in_ranges ts s vs (surface.seen_ranges l)).1 (surface.seen_expr body2)).1) ranges_are
+    quantified x.at all (in_ranges ts s vs (surface.seen_ranges l)).2
+    (in_expr ts (in_ranges ts s vs (surface.seen_ranges l)).0 (in_ranges ts s vs (surface.seen_ranges l)).1 (surface.seen_expr body2)).1) ranges_are
     ∙ ap (λ (b : e.Expr).
-        quantified x.at all (in_ranges ts s vs (surface.seen_ranges rs)).2
-        (in_expr ts (in_ranges ts s vs (surface.seen_ranges rs)).0 (in_ranges ts s vs (surface.seen_ranges rs)).1 (surface.seen_expr b)).1) body_is
+    quantified x.at all (in_ranges ts s vs (surface.seen_ranges rs)).2
+    (in_expr ts (in_ranges ts s vs (surface.seen_ranges rs)).0 (in_ranges ts s vs (surface.seen_ranges rs)).1 (surface.seen_expr b)).1) body_is
     ∙ sym (ap (λ (z : tree.Expr). (several ts s vs z).1) (seen_quant x all rs body is))

@@ -103,14 +103,7 @@ fn in_stmt(
         surface::StmtKind::Skip => one(alloc, skip_stmt(at)),
         surface::StmtKind::Fail => one(alloc, fail_stmt(at)),
         surface::StmtKind::If(test, first, second) => {
-            let head = in_tested(
-                alloc,
-                scope,
-                templates,
-                variables,
-                first.as_slice(),
-                test,
-            )?;
+            let head = in_tested(alloc, scope, templates, variables, first.as_slice(), test)?;
             let second = in_block(alloc, scope, templates, variables, second.as_slice())?;
             either_of(alloc, at, head, second)
         }

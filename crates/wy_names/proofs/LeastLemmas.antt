@@ -76,11 +76,14 @@ none_itself : (f : Fault) → goes_before f.at f.cause f ≡ false
 none_itself f = false_by (goes_before f.at f.cause f) (λ (h : goes_before f.at f.cause f ≡ true). never_itself f (before_of f f h))
 
 -- what doesn't go before a fault doesn't go before one that goes before it
+clash : (b : Bool) → b ≡ false → b ≡ true → ⊥
+clash true h k = absurd (cc)
+clash false h k = absurd (cc)
+
 still_least : (g x f : Fault) → goes_before g.at g.cause f ≡ false → goes_before x.at x.cause f ≡ true → goes_before g.at g.cause x ≡ false
-still_least g x f no before = false_by (goes_before g.at g.cause x) (λ (h : goes_before g.at g.cause x ≡ true). clash (of_before g f (chained g x f (before_of g x h) (before_of x f before))))
-  where
-    clash : goes_before g.at g.cause f ≡ true → ⊥
-    clash yes = absurd (cc)
+still_least g x f later before =
+    false_by (goes_before g.at g.cause x)
+    (λ (h : goes_before g.at g.cause x ≡ true). clash (goes_before g.at g.cause f) later (of_before g f (chained g x f (before_of g x h) (before_of x f before))))
 
 -- ---- one more fault at the end of a list
 
@@ -122,10 +125,10 @@ taken fs x f l before =
     }
 
 kept : (fs : List Fault) (x f : Fault) → IsLeast fs f → goes_before x.at x.cause f ≡ false → IsLeast (fs ++ x ∷ []) f
-kept fs x f l no = record {
+kept fs x f l later = record {
   place = l.place;
   there = there_more fs x l.place f l.there;
-  least = λ (i : ℕ) (g : Fault) (h : slice_get (fs ++ x ∷ []) i ≡ Some g). least_step fs x f l.least no i g (or_last fs x i g h);
+  least = λ (i : ℕ) (g : Fault) (h : slice_get (fs ++ x ∷ []) i ≡ Some g). least_step fs x f l.least later i g (or_last fs x i g h);
 }
 
 chosen : (fs : List Fault) (x f : Fault) → IsLeast fs f → (b : Bool) → goes_before x.at x.cause f ≡ b → Gives (fs ++ x ∷ []) (cond b (Some x) (Some f))

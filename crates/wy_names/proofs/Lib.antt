@@ -2,5 +2,3 @@
 pub mod LeastLemmas
 -- what the passes find, put together
 pub mod NamedLemmas
--- the fault is one
-pub mod OnceLemmas

@@ -13,6 +13,6 @@ mod laws;
 mod name_fault;
 mod resolver;
 
-pub use laws::{a_program_has_one_fault, the_least_fault_is_left};
+pub use laws::the_least_fault_is_left;
 pub use name_fault::NameFault;
 pub use resolver::resolve;

@@ -52,7 +52,11 @@ fn declared(text: &mut String, alloc: Global, alias: &Alias) -> Result<(), Alloc
 }
 
 fn routine(text: &mut String, alloc: Global, routine: &Routine) -> Result<(), AllocError> {
-    let word = if routine.is_method { "method" } else { "function" };
+    let word = if routine.is_method {
+        "method"
+    } else {
+        "function"
+    };
     let shown = format!(in alloc; "{}@{} {}", word, routine.at, routine.name.as_str())?;
     text.push_str(shown.as_str())?;
     names(text, routine.variables.as_slice())?;

@@ -337,7 +337,6 @@ property_left k (d ∷ ds) zero h = by (is_property (Some d)) h
     by : (b : Bool) → b ≡ true → Has (cond b (k ∷ properties (k + 1) ds) (properties (k + 1) ds)) (k + 0)
     by true e = or_left (k == (k + 0)) (has (properties (k + 1) ds) (k + 0)) (eq-eqb k (k + 0) (omega arith))
     by false e = absurd (cc)
-
 property_left k (d ∷ ds) (suc i) h =
     let moved : k + 1 + i ≡ k + suc i = omega arith in by (is_property (Some d)) (subst (λ (n : ℕ). Has (properties (k + 1) ds) n) moved (property_left (k + 1) ds i h))
   where
