@@ -37,7 +37,7 @@ notes_once ds es found f g a b =
     a.noted
     ∙ same_noted a.mark b.mark es found
     (λ (i : ℕ) (e : Edge) (h : slice_get es i ≡ Some e).
-        same_mark (a.mark e) (b.mark e) (λ (k : a.mark e ≡ true). (b.exact i e h).1 ((a.exact i e h).0 k)) (λ (k : b.mark e ≡ true). (a.exact i e h).1 ((b.exact i e h).0 k)))
+    same_mark (a.mark e) (b.mark e) (λ (k : a.mark e ≡ true). (b.exact i e h).1 ((a.exact i e h).0 k)) (λ (k : b.mark e ≡ true). (a.exact i e h).1 ((b.exact i e h).0 k)))
     ∙ sym b.noted
 
 before_once : (ds : List Decl) (first second : List ℕ) → IsOrder ds (uses_of ds) first → IsOrder ds (uses_of ds) second → found_before ds first ≡ found_before ds second

@@ -8,4 +8,7 @@
 
 mod laws;
 
-pub use laws::{a_named_program_is_not_refused, a_program_has_one_core, a_program_has_one_fault, a_program_has_one_refusal, a_refused_program_has_its_fault};
+pub use laws::{
+    a_named_program_is_not_refused, a_program_has_one_core, a_program_has_one_fault,
+    a_program_has_one_refusal, a_refused_program_has_its_fault,
+};
