@@ -1,0 +1,4 @@
+pub mod AnswerLemmas
+pub mod StepLemmas
+pub mod JoinLemmas
+pub mod KindLemmas

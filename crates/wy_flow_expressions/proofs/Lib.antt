@@ -1,0 +1,4 @@
+mod KindLemmas
+mod FormLemmas
+mod LoopLemmas
+mod FoundLemmas
