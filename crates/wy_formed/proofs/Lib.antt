@@ -1,0 +1,2 @@
+-- more variables in scope
+pub mod MoveLemmas

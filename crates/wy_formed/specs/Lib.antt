@@ -1,0 +1,10 @@
+-- what a program offers to the uses of its names
+pub mod Offers
+-- where the names of a core lead
+pub mod Bound
+-- more variables in scope
+pub mod Moves
+-- where calls stand
+pub mod Calls
+-- which numbers stand in it
+pub mod Literals
