@@ -8,3 +8,5 @@ pub mod Moves
 pub mod Calls
 -- which numbers stand in it
 pub mod Literals
+-- where the recursion of its types passes
+pub mod Recursion
