@@ -1,6 +1,7 @@
 -- The core of a program without a fault is bound.
-use Rattle.std.proofs.Common.{◌≡◌, ◌∙◌, ℕ, Bool, List, [], ◌∷◌, None, sym, subst}
-use Rattle.wy_ast.specs.SurfaceTree.{Decl}
+use Rattle.std.proofs.Common.{arith, ◌≤◌, length, ◌≡◌, ◌∙◌, ℕ, Bool, List, [], ◌∷◌, None, sym, subst}
+use Rattle.wy_ast.specs.SurfaceTree.{Decl, AliasDecl, FunctionDecl, MethodDecl, PropertyDecl}
+use Rattle.wy_scope.specs.Scope.{Scope}
 use Rattle.wy_core.specs.CoreTree as core
 use Rattle.wy_core.specs.CoreSeen.{seen_core}
 use Rattle.wy_core.specs.declared.declarations.Core.{Core}
@@ -23,7 +24,7 @@ use Rattle.wy_resolved.proofs.ExpandLemmas.{before_decls}
 use Rattle.wy_resolved.proofs.DeclLemmas.{bound_decls}
 use Rattle.wy_resolved.proofs.OfferLemmas.{offered, all_offered, scope_leads, scope_plain, templates_lead}
 
-before_marked : (mark : Edge → Bool) (es : Edges) (found : Found) → noted_marked mark es found ≡ None → found ≡ None
+pub before_marked : (mark : Edge → Bool) (es : Edges) (found : Found) → noted_marked mark es found ≡ None → found ≡ None
 before_marked mark [] found h = h
 before_marked mark (e ∷ es) found h = (noted_none (mark e) found e.at cause.BareRecursion (before_marked mark es (noted_where (mark e) found e.at cause.BareRecursion) h)).0
 
@@ -40,3 +41,17 @@ core_bound ds x order k =
 
 pub named_bound : (ds : List Decl) (c : Core) → IsNamed ds c → Bound (seen_core c)
 named_bound ds c h = subst (λ (z : core.Core ℕ). Bound z) (sym h.core) (core_bound ds (expansions_of ds h.order) h.order (nothing_bound ds h.order h.faultless))
+
+-- no more declarations than the source has
+decl_count : (ts : List Template) (s : Scope) (ds : List Decl) → length (in_decls ts s ds) ≤ length ds
+decl_count ts s [] = omega arith
+decl_count ts s (AliasDecl a ∷ ds) = let rest = decl_count ts s ds in omega (arith, rest)
+decl_count ts s (FunctionDecl f ∷ ds) = let rest = decl_count ts s ds in omega (arith, rest)
+decl_count ts s (MethodDecl m ∷ ds) = let rest = decl_count ts s ds in omega (arith, rest)
+decl_count ts s (PropertyDecl p ∷ ds) = let rest = decl_count ts s ds in omega (arith, rest)
+
+pub named_few : (ds : List Decl) (c : Core) → IsNamed ds c → length (seen_core c) ≤ length ds
+named_few ds c h =
+    let x : List Expansion = expansions_of ds h.order in
+    let ts : List Template = templates (scope_of ds) ds x h.order in
+    subst (λ (z : core.Core ℕ). length z ≤ length ds) (sym h.core) (decl_count ts (scope_of ds) ds)

@@ -26,3 +26,7 @@ pub mod CallStmtLemmas
 pub mod CallDeclLemmas
 -- which numbers stand in it
 pub mod LiteralLemmas
+-- where the recursion of its types passes
+pub mod TypeUseLemmas
+pub mod MentionLemmas
+pub mod RecursionLemmas

@@ -7,5 +7,6 @@
 mod laws;
 
 pub use laws::{
-    a_named_core_calls_what_it_may, a_named_core_has_ints_alone, a_named_core_is_bound,
+    a_named_core_calls_what_it_may, a_named_core_declares_no_more, a_named_core_has_ints_alone,
+    a_named_core_is_bound, a_named_core_recurs_through_parts,
 };
