@@ -1,3 +1,5 @@
+-- what a formed core is
+pub mod Formed
 -- what a program offers to the uses of its names
 pub mod Offers
 -- where the names of a core lead
@@ -10,3 +12,8 @@ pub mod Calls
 pub mod Literals
 -- where the recursion of its types passes
 pub mod Recursion
+-- what is said of each whole expression, and its size
+pub mod Wholes
+pub mod Sizes
+-- an order of its types
+pub mod Ranks
