@@ -1,8 +1,8 @@
 -- Where no fault of names is left behind a node, none was found before it.
-use Rattle.std.proofs.Common.{◌≡◌, ℕ, Bool, true, false, not, ◌&&◌, ◌==◌, List, [], ◌∷◌, length, Option, Some, None, refl, is_some, if◌then◌else◌}
+use Rattle.std.proofs.Common.{◌≡◌, ℕ, Bool, true, false, not, ◌&&◌, ◌==◌, List, [], ◌∷◌, Option, Some, None, is_some, if◌then◌else◌}
 use Rattle.wy_ast.specs.SurfaceTree.{Ty, FieldTys, NullTy, BoolTy, IntTy, AnyTy, VoidTy, RecordTy, ArrayTy, UnionTy, InterTy, NotTy, NamedTy, NoFieldTys, MoreFieldTys}
 use Rattle.wy_ast.specs.SurfaceTree.{Expr, Exprs, Fields, Ranges, NullExpr, BoolExpr, IntExpr, TextExpr, VarExpr, CallExpr, NegExpr, NotExpr, LenExpr, BinaryExpr, IsExpr, IndexExpr, FieldExpr, ListExpr, RepeatExpr, RecordExpr, QuantExpr, NoExprs, MoreExprs, NoFields, MoreFields, NoRanges, MoreRanges}
-use Rattle.wy_ast.specs.SurfaceTree.{Step, IndexStep, FieldStep, Stmt, Stmts, Cases, DeclareStmt, AssignStmt, CallStmt, ReturnStmt, AssertStmt, BreakStmt, ContinueStmt, SkipStmt, FailStmt, IfStmt, WhileStmt, DoStmt, ForStmt, SwitchStmt, SwitchElseStmt, NoStmts, MoreStmts, NoCases, MoreCases, exprs_of, Param}
+use Rattle.wy_ast.specs.SurfaceTree.{Step, IndexStep, FieldStep, Stmt, Stmts, Cases, DeclareStmt, AssignStmt, CallStmt, ReturnStmt, AssertStmt, BreakStmt, ContinueStmt, SkipStmt, FailStmt, IfStmt, WhileStmt, DoStmt, ForStmt, SwitchStmt, SwitchElseStmt, NoStmts, MoreStmts, NoCases, MoreCases, exprs_of}
 use Rattle.wy_scope.specs.declared.fault.Cause.TheVariants as cause
 use Rattle.wy_scope.specs.declared.table.Entry.{Entry}
 use Rattle.wy_scope.specs.declared.table.Entry.TheVariants as entry
@@ -11,14 +11,14 @@ use Rattle.wy_scope.specs.Faults.{Found, noted, noted_where}
 use Rattle.wy_scope.specs.Places.{place_of_ty, place_of_expr}
 use Rattle.wy_scope.specs.Scope.{Scope, entry_of, has, with_name}
 use Rattle.wy_bind.specs.declared.context.Context.{Context}
-use Rattle.wy_bind.specs.Calls.{contract, looped, call, call_entry, call_routine, is_variable, is_type}
+use Rattle.wy_bind.specs.Calls.{contract, looped, call, call_routine, is_variable, is_type}
 use Rattle.wy_bind.specs.TypeNames as types
 use Rattle.wy_bind.specs.TypeNames.{just_a_name}
 use Rattle.wy_bind.specs.ExprNames as exprs
 use Rattle.wy_bind.specs.ExprNames.{count_of, with_ranges}
 use Rattle.wy_bind.specs.StmtNames as stmts
 use Rattle.wy_bind.specs.StmtNames.{scope_behind, differ}
-use Rattle.wy_resolved.proofs.NotedLemmas.{none_noted, noted_none, not_false}
+use Rattle.wy_resolved.proofs.NotedLemmas.{none_noted, noted_none}
 
 mutual
   pub before_ty : (b : Scope) (t : Ty) (found : Found) → types.in_ty b t found ≡ None → found ≡ None

@@ -1,9 +1,7 @@
 -- Blocks that are put together are bound, each part behind those before it.
-use Rattle.std.proofs.Common.{◌≡◌, ◌<◌, ◌≤◌, ◌⊎◌, inl, inr, ℕ, ◌+◌, pos, Bool, true, false, List, [], ◌∷◌, ◌++◌, Some, None, refl, arith}
-use Rattle.wy_core.specs.Types.{BoolTy, IntTy, AnyTy}
-use Rattle.wy_core.specs.CoreTree.{Expr, BoolExpr, IntExpr, VarExpr, BinaryExpr, Stmt, DeclareStmt, AssignStmt, CallStmt, ReturnStmt, AssertStmt, BreakStmt, ContinueStmt, SkipStmt, FailStmt, IfStmt, WhileStmt, stmts_of}
-use Rattle.wy_core.specs.declared.expressions.Op.TheVariants as op
-use Rattle.wy_lower.specs.StmtsLowered.{or_of, behind_first, each_behind_first, equals, either, or_labels, is_one_of, Arm, choice, chain, Span, bounds, next_turn, starts, turns, counted, repeated, repeated_behind, switched}
+use Rattle.std.proofs.Common.{◌<◌, ◌≤◌, inl, inr, ℕ, ◌+◌, Bool, true, false, List, [], ◌∷◌, ◌++◌, refl, arith}
+use Rattle.wy_core.specs.CoreTree.{Expr, BoolExpr, Stmt, DeclareStmt, AssignStmt, CallStmt, ReturnStmt, AssertStmt, BreakStmt, ContinueStmt, SkipStmt, FailStmt, IfStmt, WhileStmt, stmts_of}
+use Rattle.wy_lower.specs.StmtsLowered.{or_of, each_behind_first, equals, or_labels, is_one_of, Arm, chain, bounds, next_turn, turns, counted, repeated, switched}
 use Rattle.wy_formed.specs.Offers.{Offers}
 use Rattle.wy_formed.specs.Bound.{Scope, Has, IsNew, Around, looped, behind, BoundExpr, BoundClauses, BoundStmt, BoundStmts}
 use Rattle.wy_resolved.proofs.ScopeLemmas.{Keeps, Below, below_more}

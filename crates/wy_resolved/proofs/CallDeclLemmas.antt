@@ -9,7 +9,6 @@ use Rattle.wy_core.specs.CoreSeen.{seen_core}
 use Rattle.wy_core.specs.declared.declarations.Core.{Core}
 use Rattle.wy_scope.specs.Declarations.{declared}
 use Rattle.wy_scope.specs.declared.fault.Cause.TheVariants as cause
-use Rattle.wy_scope.specs.declared.table.Signature.{Signature}
 use Rattle.wy_scope.specs.Faults.{Found, noted_where}
 use Rattle.wy_scope.specs.Places.{place_of_ty}
 use Rattle.wy_scope.specs.Scope.{Scope, has, with_name}
@@ -25,15 +24,15 @@ use Rattle.wy_lower.specs.Variables.{Variables, named}
 use Rattle.wy_lower.specs.Variables as variables
 use Rattle.wy_lower.specs.Uses.{Template}
 use Rattle.wy_lower.specs.Templates.{params_scope, params_named, used_of, template, with_option, filled, without_uses, templates}
-use Rattle.wy_lower.specs.DeclsLowered.{named_clauses, in_params, Parts, before, after, in_routine, function_parts, in_decl, with_first, in_decls}
+use Rattle.wy_lower.specs.DeclsLowered.{named_clauses, in_params, Parts, before, after, in_routine, in_decl, with_first, in_decls}
 use Rattle.wy_formed.specs.Offers as offers
 use Rattle.wy_formed.specs.Offers.{Offers, offers_of}
 use Rattle.wy_formed.specs.Bound as formed
-use Rattle.wy_formed.specs.Calls.{CallsClauses, Nothing, IsNoMethod, MayCall, CallsRoutine, CallsDecls, Calls}
+use Rattle.wy_formed.specs.Calls.{CallsClauses, Nothing, MayCall, CallsRoutine, CallsDecls, Calls}
 use Rattle.wy_names.specs.Named.{scope_of, expansions_of, core_by, IsNamed}
-use Rattle.wy_resolved.proofs.BindLemmas.{Owed, before_exprs, before_stmts}
+use Rattle.wy_resolved.proofs.BindLemmas.{before_exprs, before_stmts}
 use Rattle.wy_resolved.proofs.ScopeLemmas.{erased, erased_more, signature, Leads, leads_more}
-use Rattle.wy_resolved.proofs.DeclLemmas.{before_named, before_decl, before_decls, params_erased, params_lead}
+use Rattle.wy_resolved.proofs.DeclLemmas.{before_named, before_decls, params_erased, params_lead}
 use Rattle.wy_resolved.proofs.OfferLemmas.{offered, all_offered, scope_leads, scope_plain, of_property, set_holds, blank_leads, AllLead, from_zero, option_leads, templates_lead}
 use Rattle.wy_resolved.proofs.CallLemmas.{Permits, FreeTemplate, FreeTemplates, calls_exprs}
 use Rattle.wy_resolved.proofs.CallStmtLemmas.{calls_stmts}

@@ -1,12 +1,12 @@
 -- The expressions of a program without a fault of names call what they may.
-use Rattle.std.proofs.Common.{◌≡◌, ◌∙◌, ℕ, zero, suc, ◌+◌, Bool, true, false, not, ◌&&◌, ◌==◌, List, [], ◌∷◌, length, Option, Some, None, refl, sym, ap, subst}
+use Rattle.std.proofs.Common.{◌≡◌, ◌∙◌, ℕ, zero, suc, ◌+◌, Bool, true, false, List, [], ◌∷◌, length, Option, Some, None, refl, sym, ap, subst}
 use Rattle.std.specs.List.{slice_get}
 use Rattle.wy_ast.specs.SurfaceTree as surface
 use Rattle.wy_ast.specs.declared.expressions.Op as surface_op
 use Rattle.wy_ast.specs.declared.expressions.Op.TheVariants as sop
 use Rattle.wy_core.specs.CoreTree.{Expr, NullExpr, BoolExpr, IntExpr, VarExpr, CallExpr, NegExpr, NotExpr, LenExpr, BinaryExpr, IsExpr, IndexExpr, FieldExpr, ListExpr, RepeatExpr, RecordExpr, QuantExpr, Exprs, NoExprs, MoreExprs, Fields, NoFields, MoreFields, exprs_of, fields_of}
 use Rattle.wy_core.specs.declared.expressions.Op.TheVariants as op
-use Rattle.wy_build.specs.Instances.{renumbered, argument_or, variable, instance_of, instances, instance_fields, joined_behind, joined}
+use Rattle.wy_build.specs.Instances.{renumbered, argument_or, variable, instance_of, instances, instance_fields, joined_behind}
 use Rattle.wy_scope.specs.declared.fault.Cause.TheVariants as cause
 use Rattle.wy_scope.specs.declared.table.Entry.{Entry}
 use Rattle.wy_scope.specs.declared.table.Entry.TheVariants as entry
@@ -22,7 +22,7 @@ use Rattle.wy_bind.specs.ExprNames.{with_ranges}
 use Rattle.wy_lower.specs.Variables.{Variables, declared, named}
 use Rattle.wy_lower.specs.Uses.{With, Template, is_used, expansion, called}
 use Rattle.wy_lower.specs.TypesLowered.{placed}
-use Rattle.wy_lower.specs.ExprsLowered.{operator, text, Head, quantified, kept, in_expr, in_exprs, in_args, in_fields, in_ranges}
+use Rattle.wy_lower.specs.ExprsLowered.{operator, text, quantified, kept, in_expr, in_exprs, in_args, in_fields, in_ranges}
 use Rattle.wy_formed.specs.Offers.{Offers}
 use Rattle.wy_formed.specs.Bound as formed
 use Rattle.wy_formed.specs.Calls.{CallsExpr, CallsExprs, CallsFields, CallsClauses, Nothing}

@@ -1,6 +1,5 @@
 -- The statements of a program without a fault of names call what they may.
-use Rattle.std.proofs.Common.{◌≡◌, ◌∙◌, inl, inr, refl, ℕ, ◌+◌, Bool, true, false, not, List, [], ◌∷◌, ◌++◌, length, Option, Some, None, is_some, sym, ap, codes}
-use Rattle.std.specs.List.{slice_get}
+use Rattle.std.proofs.Common.{◌≡◌, ◌∙◌, inl, refl, ℕ, ◌+◌, Bool, true, false, not, List, [], ◌∷◌, ◌++◌, length, Option, Some, None, is_some, sym, ap, codes}
 use Rattle.wy_ast.specs.SurfaceTree.{Expr}
 use Rattle.wy_ast.specs.SurfaceTree.{Step, IndexStep, FieldStep, Stmt, Stmts, Cases, DeclareStmt, AssignStmt, CallStmt, ReturnStmt, AssertStmt, BreakStmt, ContinueStmt, SkipStmt, FailStmt, IfStmt, WhileStmt, DoStmt, ForStmt, SwitchStmt, SwitchElseStmt, NoStmts, MoreStmts, NoCases, MoreCases, exprs_of}
 use Rattle.wy_core.specs.CoreTree as core
@@ -18,15 +17,15 @@ use Rattle.wy_bind.specs.ExprNames as exprs
 use Rattle.wy_bind.specs.StmtNames as bind
 use Rattle.wy_bind.specs.StmtNames.{differ}
 use Rattle.wy_lower.specs.Variables.{Variables, named, routine_of}
-use Rattle.wy_lower.specs.Uses.{With, Template}
+use Rattle.wy_lower.specs.Uses.{Template}
 use Rattle.wy_lower.specs.ExprsLowered.{in_expr, in_exprs}
-use Rattle.wy_lower.specs.StmtsLowered.{in_option, in_path, in_clauses, in_stmt, in_stmts, in_cases, scope_behind, each_behind_first, equals, or_of, or_labels, is_one_of, Arm, chain, bounds, do_test, do_invariants, for_from, for_to, for_span, for_invariants, renamed, with_span, switch_value, switch_variables, switch_number}
+use Rattle.wy_lower.specs.StmtsLowered.{in_option, in_path, in_clauses, in_stmt, in_stmts, in_cases, scope_behind, each_behind_first, equals, or_of, or_labels, Arm, chain, bounds, do_test, do_invariants, for_from, for_to, for_span, for_invariants, renamed, with_span, switch_variables, switch_number}
 use Rattle.wy_formed.specs.Offers.{Offers}
 use Rattle.wy_formed.specs.Bound as formed
 use Rattle.wy_formed.specs.Bound.{Has}
-use Rattle.wy_formed.specs.Calls.{CallsExpr, CallsExprs, CallsClauses, CallsOption, CallsPath, Nothing, CallsStmts}
+use Rattle.wy_formed.specs.Calls.{CallsExpr, CallsClauses, CallsOption, CallsPath, Nothing, CallsStmts}
 use Rattle.wy_resolved.proofs.NotedLemmas.{none_noted, noted_none}
-use Rattle.wy_resolved.proofs.BindLemmas.{of_routine, before_expr, before_exprs, before_option, before_path, before_stmts, before_cases}
+use Rattle.wy_resolved.proofs.BindLemmas.{of_routine, before_expr, before_exprs, before_path, before_stmts, before_cases}
 use Rattle.wy_resolved.proofs.ScopeLemmas.{erased, erased_option, seen_entry, erased_more, Leads, entry_leads, leads_with}
 use Rattle.wy_resolved.proofs.BlockLemmas.{behind_all, spanned}
 use Rattle.wy_resolved.proofs.StmtLemmas.{leads_behind, erased_behind, leads_made, leads_span}

@@ -1,5 +1,5 @@
 -- The core of a program without a fault is bound.
-use Rattle.std.proofs.Common.{arith, ◌≤◌, length, ◌≡◌, ◌∙◌, ℕ, Bool, List, [], ◌∷◌, None, sym, subst}
+use Rattle.std.proofs.Common.{arith, ◌≤◌, length, ◌≡◌, ℕ, Bool, List, [], ◌∷◌, None, sym, subst}
 use Rattle.wy_ast.specs.SurfaceTree.{Decl, AliasDecl, FunctionDecl, MethodDecl, PropertyDecl}
 use Rattle.wy_scope.specs.Scope.{Scope}
 use Rattle.wy_core.specs.CoreTree as core
@@ -16,7 +16,7 @@ use Rattle.wy_expand.specs.declared.measure.Expansion.{Expansion}
 use Rattle.wy_lower.specs.Uses.{Template}
 use Rattle.wy_lower.specs.Templates.{templates}
 use Rattle.wy_lower.specs.DeclsLowered.{in_decls}
-use Rattle.wy_formed.specs.Offers.{Offers, offers_of}
+use Rattle.wy_formed.specs.Offers.{Offers}
 use Rattle.wy_formed.specs.Bound.{BoundDecls, Bound}
 use Rattle.wy_names.specs.Named.{scope_of, uses_of, expansions_of, found_before, Judges, core_by, IsNamed}
 use Rattle.wy_resolved.proofs.NotedLemmas.{noted_none}

@@ -1,10 +1,9 @@
 -- The declarations of a program without a fault of names are bound.
-use Rattle.std.proofs.Common.{◌≡◌, ◌∙◌, ◌<◌, ◌≤◌, ℕ, zero, suc, ◌+◌, Bool, true, false, List, [], ◌∷◌, length, drop, Option, Some, None, is_some, refl, sym, ap, subst, arith}
+use Rattle.std.proofs.Common.{◌≡◌, ◌∙◌, ◌≤◌, ℕ, zero, suc, ◌+◌, Bool, true, false, List, [], ◌∷◌, length, drop, Option, Some, None, is_some, refl, sym, ap, subst, arith}
 use Rattle.wy_ast.specs.SurfaceTree as surface
 use Rattle.wy_ast.specs.SurfaceTree.{exprs_of}
 use Rattle.wy_core.specs.CoreTree.{Decl, stmts_of}
 use Rattle.wy_scope.specs.declared.fault.Cause.TheVariants as cause
-use Rattle.wy_scope.specs.declared.table.Entry.TheVariants as entry
 use Rattle.wy_scope.specs.Faults.{Found, noted_where}
 use Rattle.wy_scope.specs.Places.{place_of_ty}
 use Rattle.wy_scope.specs.Scope.{Scope, has, with_name}
@@ -17,10 +16,8 @@ use Rattle.wy_bind.specs.DeclNames as bind
 use Rattle.wy_bind.specs.DeclNames.{clause_context, routine_context}
 use Rattle.wy_lower.specs.Variables.{Variables, declared, named}
 use Rattle.wy_lower.specs.Uses.{Template}
-use Rattle.wy_lower.specs.StmtsLowered.{in_clauses, in_stmts}
-use Rattle.wy_lower.specs.TypesLowered.{in_ty}
 use Rattle.wy_lower.specs.Templates.{params_scope, params_named, clauses_of, template}
-use Rattle.wy_lower.specs.DeclsLowered.{name_scope, name_named, name_number, named_clauses, in_alias, in_params, result_clauses, Parts, before, after, block, in_routine, function_parts, method_parts, in_decl, with_first, in_decls}
+use Rattle.wy_lower.specs.DeclsLowered.{name_number, named_clauses, in_alias, in_params, Parts, before, after, block, in_routine, function_parts, in_decl, with_first, in_decls}
 use Rattle.wy_formed.specs.Offers.{Offers}
 use Rattle.wy_formed.specs.Bound as formed
 use Rattle.wy_formed.specs.Bound.{BoundClauses, BoundParams, IsNewOption, with_option, with_params, Around, BoundStmts, BoundAlias, BoundRoutine, BoundDecls}

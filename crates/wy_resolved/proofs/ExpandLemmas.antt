@@ -10,7 +10,7 @@ use Rattle.wy_ast.specs.declared.expressions.Op.TheVariants as op
 use Rattle.wy_scope.specs.declared.fault.Cause.TheVariants as cause
 use Rattle.wy_scope.specs.declared.table.Entry.{Entry}
 use Rattle.wy_scope.specs.declared.table.Entry.TheVariants as entry
-use Rattle.wy_scope.specs.Faults.{Found, noted}
+use Rattle.wy_scope.specs.Faults.{Found}
 use Rattle.wy_scope.specs.Places.{place_of_expr}
 use Rattle.wy_scope.specs.Scope.{Scope, entry_of}
 use Rattle.wy_expand.specs.declared.measure.Measure.{Measure}
@@ -18,7 +18,7 @@ use Rattle.wy_expand.specs.declared.measure.Spot.{Spot}
 use Rattle.wy_expand.specs.declared.measure.Expansion.{Expansion}
 use Rattle.wy_expand.specs.declared.measure.Expansion.TheVariants as expansion
 use Rattle.wy_expand.specs.Measures.{nothing, root, deeper, inside, quantified, counted, counted_many, with_call, called, limited, plus, times, reached}
-use Rattle.wy_expand.specs.Sizes.{Known, known, variable, property, call, arg_spot, operator, left_of, right_of, in_ty, in_field_tys, behind_ranges, in_expr, in_exprs, in_args, in_fields, in_ranges, in_label}
+use Rattle.wy_expand.specs.Sizes.{Known, known, variable, property, call, arg_spot, operator, left_of, right_of, in_ty, in_field_tys, behind_ranges, in_expr, in_exprs, in_args, in_fields, in_ranges}
 use Rattle.wy_expand.specs.Summaries.{params_of}
 use Rattle.wy_expand.specs.Wholes as wholes
 use Rattle.wy_expand.specs.Faults as faults

@@ -1,5 +1,5 @@
 -- The expressions of a program without a fault of names are bound.
-use Rattle.std.proofs.Common.{◌≡◌, ◌∙◌, ◌<◌, ◌≤◌, ◌⊎◌, inl, inr, ℕ, zero, suc, ◌+◌, pos, Bool, true, false, not, ◌&&◌, ◌==◌, List, [], ◌∷◌, length, Option, Some, None, refl, sym, ap, subst, arith}
+use Rattle.std.proofs.Common.{◌≡◌, ◌∙◌, ◌<◌, ◌≤◌, ◌⊎◌, inl, inr, ℕ, ◌+◌, Bool, true, false, not, ◌&&◌, ◌==◌, List, [], ◌∷◌, length, Option, Some, None, refl, sym, ap, subst, arith}
 use Rattle.std.specs.List.{slice_get}
 use Rattle.std.proofs.Math.Dec.{eqb}
 use Rattle.std.proofs.lemmas.Bool.Decides.{eqb_tells}
@@ -11,29 +11,27 @@ use Rattle.wy_scope.specs.declared.fault.Cause.TheVariants as cause
 use Rattle.wy_scope.specs.declared.table.Entry.{Entry}
 use Rattle.wy_scope.specs.declared.table.Entry.TheVariants as entry
 use Rattle.wy_scope.specs.declared.table.Signature.{Signature}
-use Rattle.wy_scope.specs.Faults.{Found, noted, noted_where}
+use Rattle.wy_scope.specs.Faults.{Found, noted_where}
 use Rattle.wy_scope.specs.Places.{place_of_expr}
 use Rattle.wy_scope.specs.Scope.{Scope, entry_of, has, with_name}
 use Rattle.wy_bind.specs.declared.context.Context.{Context}
-use Rattle.wy_bind.specs.Calls.{contract, call, call_entry, call_routine, is_variable}
-use Rattle.wy_bind.specs.TypeNames as types
+use Rattle.wy_bind.specs.Calls.{contract, call, is_variable}
 use Rattle.wy_bind.specs.TypeNames.{just_a_name}
 use Rattle.wy_bind.specs.ExprNames as bind
 use Rattle.wy_bind.specs.ExprNames.{with_ranges}
 use Rattle.wy_lower.specs.Variables.{Variables, declared, named, variable_of}
 use Rattle.wy_lower.specs.Uses.{With, Template, is_used, expansion, called}
-use Rattle.wy_lower.specs.TypesLowered.{placed, in_ty}
+use Rattle.wy_lower.specs.TypesLowered.{placed}
 use Rattle.wy_lower.specs.ExprsLowered.{operator, text, Head, quantified, kept, in_expr, in_exprs, in_args, in_fields, in_ranges}
-use Rattle.wy_formed.specs.Offers as offers
 use Rattle.wy_formed.specs.Offers.{Offers, IsCall}
 use Rattle.wy_formed.specs.Bound as formed
 use Rattle.wy_formed.specs.Bound.{Has, Rise, names_of, count_of, BoundExpr, BoundExprs, BoundFields, BoundClauses}
 use Rattle.wy_formed.specs.Moves.{Moves}
 use Rattle.wy_formed.proofs.MoveLemmas.{moved_expr}
 use Rattle.wy_resolved.proofs.NotedLemmas.{none_noted, noted_none, not_false}
-use Rattle.wy_resolved.proofs.BindLemmas.{Owed, of_routine, before_ty, before_expr, before_exprs, field_value, before_ranges, range_ends}
+use Rattle.wy_resolved.proofs.BindLemmas.{Owed, of_routine, before_ty, before_expr, before_exprs, field_value, range_ends}
 use Rattle.wy_resolved.proofs.ScopeLemmas.{erased, erased_option, seen_entry, erased_more, signature, TemplateLeads, Leads, entry_leads, leads_more, Below, below_later, below_more, is_new}
-use Rattle.wy_resolved.proofs.GrowLemmas.{through, length_more, length_named, grows_named, grows_called, grows_expr, grows_exprs, grows_args, grows_fields, grows_ranges}
+use Rattle.wy_resolved.proofs.GrowLemmas.{through, length_more, length_named, grows_expr, grows_exprs, grows_args, grows_fields, grows_ranges}
 use Rattle.wy_resolved.proofs.FieldLemmas.{keys, Each, rise_placed, each_placed, names_exprs, each_expr}
 use Rattle.wy_resolved.proofs.TypeLemmas.{bound_ty}
 use Rattle.wy_resolved.proofs.InstanceLemmas.{expansion_bound}

@@ -1,5 +1,5 @@
 -- A property's clauses at a use of it are bound where the use stands: its parameters are what is given for them, and its own variables have new numbers there.
-use Rattle.std.proofs.Common.{◌≡◌, ◌∙◌, ◌<◌, ◌≤◌, ◌⊎◌, inl, inr, ℕ, zero, suc, ◌+◌, ◌-◌, Bool, true, false, List, [], ◌∷◌, length, Option, Some, None, refl, sym, ap, subst, arith}
+use Rattle.std.proofs.Common.{◌≡◌, ◌<◌, ◌≤◌, inl, inr, ℕ, zero, suc, ◌+◌, ◌-◌, Bool, true, false, List, [], ◌∷◌, length, Option, Some, None, refl, sym, ap, subst, arith}
 use Rattle.std.specs.List.{slice_get}
 use Rattle.wy_core.specs.CoreTree.{Expr, NullExpr, BoolExpr, IntExpr, VarExpr, CallExpr, NegExpr, NotExpr, LenExpr, BinaryExpr, IsExpr, IndexExpr, FieldExpr, ListExpr, RepeatExpr, RecordExpr, QuantExpr, Exprs, NoExprs, MoreExprs, Fields, NoFields, MoreFields}
 use Rattle.wy_core.specs.declared.expressions.Op.TheVariants as op
@@ -11,7 +11,6 @@ use Rattle.wy_formed.specs.Bound.{Scope, Has, IsNew, Rise, names_of, count_of, B
 use Rattle.wy_formed.specs.Moves.{Moves}
 use Rattle.wy_formed.proofs.MoveLemmas.{moved_expr}
 use Rattle.wy_resolved.proofs.ScopeLemmas.{below, has_below, below_has, TemplateLeads, Below}
-use Rattle.wy_resolved.proofs.GrowLemmas.{length_more}
 
 -- clauses that name n variables, of which the first k are parameters, fit in where m are named, those from base on for them
 pub record Fits (k n base m : ℕ) (given vs ws : Scope) : Type 0 where

@@ -1,5 +1,5 @@
 -- Each number of the core is one of the source, a byte of a text, or made by lowering.
-use Rattle.std.proofs.Common.{◌≡◌, ◌<◌, ◌≤ℤ◌, ℕ, zero, suc, ◌+◌, pos, Bool, true, false, List, [], ◌∷◌, ◌++◌, length, codes, Option, Some, None, refl, sym, ap, subst, arith, if◌then◌else◌, nat_lt}
+use Rattle.std.proofs.Common.{◌≡◌, ◌<◌, ℕ, zero, suc, ◌+◌, pos, Bool, true, false, List, [], ◌∷◌, ◌++◌, length, codes, Option, Some, None, refl, sym, subst, arith, if◌then◌else◌, nat_lt}
 use Rattle.std.specs.List.{slice_get}
 use Rattle.std.specs.Prelude.{slice_set}
 use Rattle.wy_ast.specs.SurfaceTree as surface
@@ -11,7 +11,7 @@ use Rattle.wy_core.specs.CoreTree.{Expr, NullExpr, BoolExpr, IntExpr, VarExpr, C
 use Rattle.wy_core.specs.declared.expressions.Op.TheVariants as op
 use Rattle.wy_core.specs.CoreSeen.{seen_core}
 use Rattle.wy_core.specs.declared.declarations.Core.{Core}
-use Rattle.wy_build.specs.Instances.{renumbered, argument_or, variable, instance_of, instances, instance_fields, joined_behind, joined}
+use Rattle.wy_build.specs.Instances.{renumbered, argument_or, variable, instance_of, instances, instance_fields, joined_behind}
 use Rattle.wy_scope.specs.declared.table.Entry.{Entry}
 use Rattle.wy_scope.specs.declared.table.Entry.TheVariants as entry
 use Rattle.wy_scope.specs.Scope.{Scope, entry_of}
@@ -19,10 +19,10 @@ use Rattle.wy_expand.specs.declared.measure.Expansion.{Expansion}
 use Rattle.wy_lower.specs.Variables.{Variables, declared, named}
 use Rattle.wy_lower.specs.Uses.{With, Template, is_used, expansion, called}
 use Rattle.wy_lower.specs.TypesLowered.{placed}
-use Rattle.wy_lower.specs.ExprsLowered.{operator, text, Head, quantified, kept, in_expr, in_exprs, in_args, in_fields, in_ranges}
-use Rattle.wy_lower.specs.StmtsLowered.{in_option, in_path, in_clauses, in_stmt, in_stmts, in_cases, scope_behind, each_behind_first, equals, or_of, or_labels, Arm, chain, bounds, do_test, do_invariants, for_from, for_to, for_span, for_invariants, renamed, with_span, switch_value, switch_variables, switch_number}
+use Rattle.wy_lower.specs.ExprsLowered.{operator, text, quantified, kept, in_expr, in_exprs, in_args, in_fields, in_ranges}
+use Rattle.wy_lower.specs.StmtsLowered.{in_option, in_path, in_clauses, in_stmt, in_stmts, in_cases, scope_behind, each_behind_first, equals, or_of, or_labels, Arm, chain, bounds, do_test, do_invariants, for_from, for_to, for_span, for_invariants, renamed, with_span, switch_variables, switch_number}
 use Rattle.wy_lower.specs.Templates.{params_scope, params_named, used_of, template, with_option, filled, without_uses, templates}
-use Rattle.wy_lower.specs.DeclsLowered.{named_clauses, Parts, before, after, in_routine, function_parts, method_parts, result_clauses, in_decl, with_first, in_decls}
+use Rattle.wy_lower.specs.DeclsLowered.{named_clauses, Parts, before, after, in_routine, function_parts, method_parts, result_clauses, in_decls}
 use Rattle.wy_names.specs.Named.{scope_of, expansions_of, IsNamed}
 use Rattle.wy_formed.specs.Literals.{IsInt, IntsExpr, IntsExprs, IntsFields, IntsClauses, IntsOption, IntsPath, IntsStmts, IntsRoutine, Ints}
 use Rattle.wy_resolved.specs.SourceLiterals.{Bytes, SourceExpr, SourceExprs, SourceFields, SourceRanges, SourceClauses, SourceOption, SourcePath, SourceStmt, SourceStmts, SourceCases, SourceDecl, SourceInts}

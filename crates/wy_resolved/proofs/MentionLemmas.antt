@@ -1,12 +1,12 @@
 -- Each type that a lowered expression mentions is mentioned in the source, there or in a property that is used there.
-use Rattle.std.proofs.Common.{◌≡◌, ◌∙◌, ◌⊎◌, inl, inr, ℕ, zero, suc, ◌+◌, Bool, true, false, List, [], ◌∷◌, length, Option, Some, None, refl, sym, ap, subst}
+use Rattle.std.proofs.Common.{◌≡◌, ◌⊎◌, inl, inr, ℕ, zero, suc, ◌+◌, Bool, true, false, List, [], ◌∷◌, length, Option, Some, None, refl, sym, subst}
 use Rattle.std.specs.List.{slice_get}
 use Rattle.wy_ast.specs.SurfaceTree as surface
 use Rattle.wy_ast.specs.declared.expressions.Op as surface_op
 use Rattle.wy_ast.specs.declared.expressions.Op.TheVariants as sop
 use Rattle.wy_core.specs.CoreTree.{Expr, NullExpr, BoolExpr, IntExpr, VarExpr, CallExpr, NegExpr, NotExpr, LenExpr, BinaryExpr, IsExpr, IndexExpr, FieldExpr, ListExpr, RepeatExpr, RecordExpr, QuantExpr, Exprs, NoExprs, MoreExprs, Fields, NoFields, MoreFields, exprs_of, fields_of}
 use Rattle.wy_core.specs.declared.expressions.Op.TheVariants as op
-use Rattle.wy_build.specs.Instances.{renumbered, argument_or, variable, instance_of, instances, instance_fields, joined_behind, joined}
+use Rattle.wy_build.specs.Instances.{renumbered, argument_or, variable, instance_of, instances, instance_fields, joined_behind}
 use Rattle.wy_scope.specs.declared.fault.Cause.TheVariants as cause
 use Rattle.wy_scope.specs.declared.table.Entry.{Entry}
 use Rattle.wy_scope.specs.declared.table.Entry.TheVariants as entry
@@ -27,7 +27,7 @@ use Rattle.wy_order.proofs.UseLemmas.{Each, of_last, before_ty, before_expr, bef
 use Rattle.wy_lower.specs.Variables.{Variables, declared, named}
 use Rattle.wy_lower.specs.Uses.{With, Template, is_used, expansion, called}
 use Rattle.wy_lower.specs.TypesLowered.{placed, in_ty}
-use Rattle.wy_lower.specs.ExprsLowered.{operator, text, Head, quantified, kept, in_expr, in_exprs, in_args, in_fields, in_ranges}
+use Rattle.wy_lower.specs.ExprsLowered.{operator, text, quantified, kept, in_expr, in_exprs, in_args, in_fields, in_ranges}
 use Rattle.wy_formed.specs.Recursion.{NamesIn, Mentions, MentionsIn, MentionsInFields, ClausesMention}
 use Rattle.wy_resolved.proofs.BindLemmas as before
 use Rattle.wy_resolved.proofs.BindLemmas.{field_value, range_ends}

@@ -1,7 +1,6 @@
 -- Where no fault is left, none was noted.
-use Rattle.std.proofs.Common.{◌≡◌, ℕ, Bool, true, false, not, ◌||◌, ◌&&◌, Option, Some, None, refl, nat_lt, ◌==◌, if◌then◌else◌}
+use Rattle.std.proofs.Common.{◌≡◌, ℕ, Bool, true, false, not, Some, None, refl, if◌then◌else◌}
 use Rattle.wy_scope.specs.declared.fault.Cause.{Cause}
-use Rattle.wy_scope.specs.declared.fault.Fault.{Fault}
 use Rattle.wy_scope.specs.Faults.{Found, goes_before, noted, noted_where}
 
 -- a fault that is noted leaves one

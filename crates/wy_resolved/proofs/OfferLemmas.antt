@@ -1,13 +1,11 @@
 -- The names of a program's declarations lead to what its core offers.
-use Rattle.std.proofs.Common.{◌≡◌, ◌∙◌, ◌<◌, ◌≤◌, ℕ, zero, suc, ◌+◌, Bool, true, false, List, [], ◌∷◌, ◌++◌, length, codes, Option, Some, None, is_some, refl, sym, ap, subst, arith, if◌then◌else◌, nat_lt}
+use Rattle.std.proofs.Common.{◌≡◌, ◌∙◌, ◌≤◌, ℕ, zero, suc, ◌+◌, Bool, true, false, List, [], ◌∷◌, ◌++◌, length, Option, Some, None, is_some, refl, sym, ap, subst, arith, if◌then◌else◌, nat_lt}
 use Rattle.std.specs.List.{slice_get}
 use Rattle.std.specs.Prelude.{slice_set}
 use Rattle.wy_ast.specs.SurfaceTree as surface
 use Rattle.wy_ast.specs.SurfaceTree.{AliasDecl, FunctionDecl, MethodDecl, PropertyDecl}
-use Rattle.wy_core.specs.CoreTree as core
 use Rattle.wy_core.specs.CoreTree.{aliases_of}
 use Rattle.wy_scope.specs.declared.table.Entry.{Entry}
-use Rattle.wy_scope.specs.declared.table.Entry.TheVariants as entry
 use Rattle.wy_scope.specs.declared.fault.Cause.TheVariants as cause
 use Rattle.wy_scope.specs.Declarations.{routine_count, name_of, place_of, entry_of, behind, builtins, declared_behind, declared}
 use Rattle.wy_scope.specs.Faults.{Found, noted_where}
@@ -17,10 +15,10 @@ use Rattle.wy_expand.specs.declared.measure.Expansion.{Expansion}
 use Rattle.wy_lower.specs.Variables.{Variables}
 use Rattle.wy_lower.specs.Variables as variables
 use Rattle.wy_lower.specs.Uses.{Template}
-use Rattle.wy_lower.specs.Templates.{params_scope, used_of, template, set_at, with_option, filled, without_uses, templates}
+use Rattle.wy_lower.specs.Templates.{params_scope, used_of, template, with_option, filled, without_uses, templates}
 use Rattle.wy_lower.specs.DeclsLowered as lowered
 use Rattle.wy_lower.specs.DeclsLowered.{in_decls}
-use Rattle.wy_formed.specs.Offers.{Signature, Offers, builtin, signature_of, signatures_of, offers_of}
+use Rattle.wy_formed.specs.Offers.{Signature, Offers, builtin, signatures_of, offers_of}
 use Rattle.wy_resolved.proofs.ScopeLemmas.{erased_entry, erased, erased_last, TemplateLeads, EntryLeads, Leads, leads_with}
 use Rattle.wy_resolved.proofs.DeclLemmas.{before_decls, template_leads}
 

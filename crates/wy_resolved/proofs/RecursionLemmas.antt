@@ -1,5 +1,5 @@
 -- The recursion of the types of a core passes through records or arrays, and through no test of a clause.
-use Rattle.std.proofs.Common.{◌≡◌, ◌∙◌, ◌⊎◌, inl, inr, ℕ, zero, suc, ◌+◌, Bool, true, false, List, [], ◌∷◌, ◌++◌, length, cond, Option, Some, None, refl, sym, ap, subst, arith, if◌then◌else◌, nat_lt}
+use Rattle.std.proofs.Common.{◌≡◌, ◌∙◌, inl, inr, ℕ, zero, suc, ◌+◌, Bool, true, false, List, [], ◌∷◌, ◌++◌, length, cond, Option, Some, None, refl, sym, ap, subst, arith, if◌then◌else◌, nat_lt}
 use Rattle.std.specs.List.{slice_get}
 use Rattle.std.specs.Prelude.{slice_set}
 use Rattle.std.specs.Str.{bytes_eq}
@@ -38,13 +38,13 @@ use Rattle.wy_lower.specs.Variables as variables
 use Rattle.wy_lower.specs.Variables.{Variables}
 use Rattle.wy_lower.specs.Uses.{Template}
 use Rattle.wy_lower.specs.TypesLowered.{in_ty}
-use Rattle.wy_lower.specs.Templates.{params_scope, params_named, used_of, template, clauses_of, with_option, filled, without_uses, templates}
+use Rattle.wy_lower.specs.Templates.{params_scope, params_named, used_of, template, with_option, filled, without_uses, templates}
 use Rattle.wy_lower.specs.DeclsLowered.{in_alias, named_clauses, in_decls}
-use Rattle.wy_names.specs.Named.{scope_of, uses_of, expansions_of, found_before, core_by, Judges, IsNamed}
+use Rattle.wy_names.specs.Named.{scope_of, expansions_of, found_before, IsNamed}
 use Rattle.wy_formed.specs.Recursion.{NamesIn, ClausesMention, UsesType, Reaches, RecursWell, Recursion}
 use Rattle.wy_formed.specs.Recursion as formed
 use Rattle.wy_resolved.proofs.NotedLemmas.{noted_none}
-use Rattle.wy_resolved.proofs.ScopeLemmas.{erased, erased_more}
+use Rattle.wy_resolved.proofs.ScopeLemmas.{erased_more}
 use Rattle.wy_resolved.proofs.DeclLemmas.{before_named, before_decls, params_erased}
 use Rattle.wy_resolved.proofs.OfferLemmas.{scope_plain, of_property, set_holds}
 use Rattle.wy_resolved.proofs.CoreLemmas.{before_marked, nothing_bound}

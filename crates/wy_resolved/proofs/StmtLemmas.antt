@@ -1,12 +1,12 @@
 -- The statements of a program without a fault of names are bound.
-use Rattle.std.proofs.Common.{◌≡◌, ◌∙◌, ◌<◌, ◌≤◌, ◌⊎◌, inl, inr, ℕ, ◌+◌, Bool, true, false, not, List, [], ◌∷◌, ◌++◌, length, Option, Some, None, is_some, refl, sym, ap, subst, arith, codes}
+use Rattle.std.proofs.Common.{◌≡◌, ◌∙◌, ◌<◌, ◌≤◌, inl, inr, ℕ, ◌+◌, Bool, true, false, not, List, [], ◌∷◌, length, Option, Some, None, is_some, refl, sym, ap, subst, arith, codes}
 use Rattle.wy_ast.specs.SurfaceTree.{Expr, Exprs, NoExprs, MoreExprs}
 use Rattle.wy_ast.specs.SurfaceTree.{Step, IndexStep, FieldStep, Stmt, Stmts, Cases, DeclareStmt, AssignStmt, CallStmt, ReturnStmt, AssertStmt, BreakStmt, ContinueStmt, SkipStmt, FailStmt, IfStmt, WhileStmt, DoStmt, ForStmt, SwitchStmt, SwitchElseStmt, NoStmts, MoreStmts, NoCases, MoreCases, exprs_of}
 use Rattle.wy_core.specs.CoreTree as core
 use Rattle.wy_scope.specs.declared.fault.Cause.TheVariants as cause
 use Rattle.wy_scope.specs.declared.table.Entry.{Entry}
 use Rattle.wy_scope.specs.declared.table.Entry.TheVariants as entry
-use Rattle.wy_scope.specs.Faults.{Found, noted, noted_where}
+use Rattle.wy_scope.specs.Faults.{Found, noted_where}
 use Rattle.wy_scope.specs.Scope.{Scope, entry_of, has, with_name}
 use Rattle.wy_bind.specs.declared.context.Context.{Context}
 use Rattle.wy_bind.specs.Calls.{contract, looped, call, is_variable}
@@ -15,19 +15,19 @@ use Rattle.wy_bind.specs.TypeNames.{just_a_name}
 use Rattle.wy_bind.specs.ExprNames as exprs
 use Rattle.wy_bind.specs.StmtNames as bind
 use Rattle.wy_bind.specs.StmtNames.{differ}
-use Rattle.wy_lower.specs.Variables.{Variables, declared, named, routine_of}
-use Rattle.wy_lower.specs.Uses.{With, Template}
+use Rattle.wy_lower.specs.Variables.{Variables, named, routine_of}
+use Rattle.wy_lower.specs.Uses.{Template}
 use Rattle.wy_lower.specs.ExprsLowered.{in_expr, in_exprs}
-use Rattle.wy_lower.specs.StmtsLowered.{in_option, in_step, in_path, in_clauses, in_stmt, in_stmts, in_cases, scope_behind, do_test, do_invariants, for_from, for_to, for_span, for_invariants, renamed, with_span, switch_value, switch_variables, switch_number, is_one_of}
+use Rattle.wy_lower.specs.StmtsLowered.{in_option, in_path, in_clauses, in_stmt, in_stmts, in_cases, scope_behind, do_test, do_invariants, for_from, for_to, for_invariants, renamed, with_span, switch_value, switch_variables}
 use Rattle.wy_formed.specs.Offers.{Offers, IsCall}
 use Rattle.wy_formed.specs.Bound as formed
 use Rattle.wy_formed.specs.Bound.{Has, IsNew, Around, count_of, BoundExpr, BoundExprs, BoundClauses, BoundOption, BoundPath, BoundStmt}
 use Rattle.wy_formed.specs.Moves.{Moves}
 use Rattle.wy_formed.proofs.MoveLemmas.{moved_expr}
 use Rattle.wy_resolved.proofs.NotedLemmas.{none_noted, noted_none, not_false}
-use Rattle.wy_resolved.proofs.BindLemmas.{of_routine, before_ty, before_expr, before_exprs, before_option, before_path, before_stmt, before_stmts, before_cases}
-use Rattle.wy_resolved.proofs.ScopeLemmas.{erased, erased_option, seen_entry, erased_more, Leads, entry_leads, leads_kept, leads_with, leads_more, Keeps, Below, below_later, below_more, is_new}
-use Rattle.wy_resolved.proofs.GrowLemmas.{through, length_named, grows_named, length_span, grows_expr, grows_exprs, grows_option, grows_step, grows_path, grows_clauses, grows_stmt, grows_stmts, grows_cases}
+use Rattle.wy_resolved.proofs.BindLemmas.{of_routine, before_expr, before_exprs, before_option, before_path, before_stmts, before_cases}
+use Rattle.wy_resolved.proofs.ScopeLemmas.{erased, erased_option, seen_entry, erased_more, Leads, entry_leads, leads_kept, leads_with, leads_more, Below, below_later, below_more, is_new}
+use Rattle.wy_resolved.proofs.GrowLemmas.{through, length_named, length_span, grows_expr, grows_option, grows_path, grows_clauses, grows_stmt, grows_stmts, grows_cases}
 use Rattle.wy_resolved.proofs.TypeLemmas.{bound_ty}
 use Rattle.wy_resolved.proofs.ExprLemmas.{exprs_bound, count_exprs, is_call, variable_bound, bound_expr, bound_exprs}
 use Rattle.wy_resolved.proofs.BlockLemmas.{Block, behind_all, kept_all, below_all, both_blocks, repeated_bound, spanned, counted_bound, one_of_bound, Arms, switched_bound}

@@ -1,5 +1,5 @@
 -- The types of a program without a fault of names are bound.
-use Rattle.std.proofs.Common.{◌≡◌, ◌∙◌, ◌<◌, ℕ, Bool, true, false, not, List, [], ◌∷◌, Option, Some, None, refl, sym, ap, subst}
+use Rattle.std.proofs.Common.{◌≡◌, ◌∙◌, ◌<◌, ℕ, true, not, List, [], Option, Some, None, refl, sym, ap, subst}
 use Rattle.wy_ast.specs.SurfaceTree.{Ty, FieldTys, NullTy, BoolTy, IntTy, AnyTy, VoidTy, RecordTy, ArrayTy, UnionTy, InterTy, NotTy, NamedTy, NoFieldTys, MoreFieldTys}
 use Rattle.wy_core.specs.Types as core
 use Rattle.wy_core.specs.CoreSeen.{field_tys_of}
@@ -19,8 +19,8 @@ use Rattle.wy_formed.specs.Offers.{Offers}
 use Rattle.wy_formed.specs.Bound as formed
 use Rattle.wy_formed.specs.Bound.{Rise, BoundTy}
 use Rattle.wy_resolved.proofs.NotedLemmas.{noted_none, not_false}
-use Rattle.wy_resolved.proofs.BindLemmas.{before_ty, before_field_tys, field_ty}
-use Rattle.wy_resolved.proofs.ScopeLemmas.{erased, erased_option, seen_entry, Leads, EntryLeads, entry_leads}
+use Rattle.wy_resolved.proofs.BindLemmas.{before_ty, field_ty}
+use Rattle.wy_resolved.proofs.ScopeLemmas.{erased, erased_option, seen_entry, Leads, entry_leads}
 use Rattle.wy_resolved.proofs.FieldLemmas.{keys, Each, rise_placed, each_placed, names_tys, each_ty}
 
 module _ (o : Offers) (ts : List Template) (vs : formed.Scope) where
