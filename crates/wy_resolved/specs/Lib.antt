@@ -1,0 +1,2 @@
+-- what a program as it is written brings along
+pub mod SourceLiterals
