@@ -1,0 +1,5 @@
+//! Tests of wy_facts. They stand in a crate of their own, since they read and write terms by their texts.
+#![tactic(auto)]
+
+#[cfg(test)]
+mod rows;
