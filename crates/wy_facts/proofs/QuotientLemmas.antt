@@ -54,7 +54,7 @@ unless_zero a m false e = refl
 
 nonzero : (m : ℕ) → (pos m ≡ pos 0 → ⊥) → eqb m 0 ≡ false
 nonzero zero h = absurd (h refl)
-nonzero (suc m) h = refl
+nonzero (suc m) h = grind arith
 
 positive : (m : ℕ) → (pos m ≡ pos 0 → ⊥) → 0 < m
 positive zero h = absurd (h refl)

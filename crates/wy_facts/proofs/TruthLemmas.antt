@@ -1,5 +1,5 @@
 -- What each schema states holds.
-use Rattle.std.proofs.Common.{◌≡◌, ℕ, List, [], ◌∷◌, Bool, true, false, cond, not, eqb, ℤ, pos, ◌+ℤ◌, ◌-ℤ◌, ◌*ℤ◌, ◌≤ℤ◌, ◌<ℤ◌, neg_ℤ, Option, Some, None, refl, sym, ap, subst, ◌∙◌, arith}
+use Rattle.std.proofs.Common.{inl, inr, ◌≡◌, ℕ, List, [], ◌∷◌, Bool, true, false, cond, not, eqb, ℤ, pos, ◌+ℤ◌, ◌-ℤ◌, ◌*ℤ◌, ◌≤ℤ◌, ◌<ℤ◌, neg_ℤ, Option, Some, None, refl, sym, ap, subst, ◌∙◌, arith}
 use Rattle.std.proofs.lemmas.Int.{ints}
 use Rattle.std.specs.Prelude.{bytes_eq, ◌⊎◌}
 use Rattle.std.proofs.lemmas.Slice.Eq.{bytes_eq-Decides}
@@ -325,3 +325,7 @@ pub facts_are_true : FactsAreTrue
 facts_are_true n args f e names =
     let i = bind_some (instance_of n args) (λ i. Some (stated i.schema i.parts)) f e in
     subst (λ (g : Term). tru_of names g ≡ true) (some_is (stated i.0.schema i.0.parts) f i.2) (instance_of_holds names n args i.0 i.1)
+
+-- the same of what a call answered
+pub fact_holds : (n : ℕ) (args : List Term) (f : Term) → some f ≡ fact_of n args → AlwaysHolds f
+fact_holds n args f e = facts_are_true n args f (sym e)

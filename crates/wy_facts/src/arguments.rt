@@ -1,7 +1,8 @@
 //! Whether terms are such as a schema takes, and which parts they have.
 ghost use Rattle.std.specs.Prelude.{◌≡◌, ◌<◌, length, option_map, Some, IfOk, IfSome};
-ghost use Rattle.wy_term.specs.Nodes.{tree_at};
-ghost use Rattle.wy_facts.specs.Schema.{is_val, length_is_natural, length_of_copies, length_of_updated, element_of_array, element_of_copies, element_updated, element_elsewhere, elements_at_one_index, field_updated, equal_numbers, datum_by_kind, as_updated, as_element, as_copies, as_number, numbered_in, set_to};
+ghost use Rattle.wy_term.specs.Nodes.{parts_at, tree_at};
+ghost use Rattle.wy_term.specs.Rewriting.{as_number};
+ghost use Rattle.wy_facts.specs.Schema.{is_val, length_is_natural, length_of_copies, length_of_updated, element_of_array, element_of_copies, element_updated, element_elsewhere, elements_at_one_index, field_updated, equal_numbers, datum_by_kind, as_updated, as_element, as_copies, element_numbered, numbered_in, set_to};
 ghost use Rattle.wy_facts.specs.Seen.{seen_instance, terms_at, AreBelow};
 
 use crate::memory::NoMemory;
@@ -106,19 +107,30 @@ pub fn length_of_updated(terms: &Terms, t: u32) -> Result<Option<Instance>, NoMe
     }
 }
 
-// The element of a written out array with this number.
+// The element with this number of an array that is written out.
+#[tactic(auto, using(crate::proofs::StepLemmas::numbered_low))]
+fn part_numbered(_terms: &Terms, elements: &[u32], place: i128) -> Option<u32>
+    requires { AreBelow (length _terms.now) elements.now }
+    ensures value { option_map (tree_at _terms.now) result ≡ element_numbered (parts_at (tree_at _terms.now) elements.now) place }
+    ensures within { IfSome result (λ v. v < length _terms.now) }
+{
+    if place < 0 {
+        return None;
+    }
+    if elements.len() as i128 <= place {
+        return None;
+    }
+    Some(elements[place as usize])
+}
+
+// The element with this number of a term that is an array that is written out.
 fn element_numbered(terms: &Terms, a: u32, z: i128) -> Option<u32>
     requires { a < length terms.now }
     ensures value { option_map (tree_at terms.now) result ≡ numbered_in (tree_at terms.now a) z }
     ensures within { IfSome result (λ v. v < length terms.now) }
 {
     match terms.node(a) {
-        Node::Array(elements) => {
-            if z < 0 || elements.len() as i128 <= z {
-                return None;
-            }
-            Some(elements[z as usize])
-        }
+        Node::Array(elements) => part_numbered(terms, elements, z),
         _ => None,
     }
 }

@@ -1,5 +1,5 @@
 //! A formula, made of the parts of an instance by a list of instructions.
-ghost use Rattle.std.specs.Prelude.{◌≡◌, ◌<◌, ◌∷◌, [], ℕ, length, option_map, IfOk, IfSome};
+ghost use Rattle.std.specs.Prelude.{◌≡◌, ◌<◌, ◌-◌, ◌∷◌, [], ℕ, length, option_map, slice_index_or, IfOk, IfSome};
 ghost use Rattle.wy_term.specs.Term.{Term, all_of};
 ghost use Rattle.wy_facts.specs.declared.program.Instruction.TheVariants.{Part};
 ghost use Rattle.wy_term.specs.Folding.{folded};
@@ -231,6 +231,14 @@ fn step(
     }
 }
 
+// The instruction with a number, from 0, counted from the end.
+fn instruction_at(program: &[Instruction], k: usize) -> Instruction
+    requires { k < length program.now }
+    ensures value { result ≡ slice_index_or program.now (length program.now - 1 - k) result }
+{
+    program[program.len() - 1 - k]
+}
+
 /// What a list of instructions, which is read from its end, makes of these parts. It takes the time of as many calls of
 /// `intern` as there are instructions.
 pub fn made_of(
@@ -245,7 +253,7 @@ pub fn made_of(
 {
     let mut made = VecDeque::new(terms.allocator());
     for k in 0..program.len() {
-        match step(terms, parts, made, program[program.len() - 1 - k])? {
+        match step(terms, parts, made, instruction_at(program, k))? {
             Some(more) => {
                 made = more;
             }

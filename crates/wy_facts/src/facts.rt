@@ -3,7 +3,7 @@ ghost use Rattle.std.specs.Prelude.{◌≡◌, ◌<◌, ◌≤◌, ◌∷◌, []
 ghost use Rattle.wy_term.specs.Term.{Term};
 ghost use Rattle.wy_term.specs.Folding.{folded};
 ghost use Rattle.wy_term.specs.Nodes.{plain, grown, tree_at, HasPartsBelow};
-ghost use Rattle.wy_facts.specs.Schema.{◌>>=◌, instance, by_one, by_two, plain_by_one, instance_of, fact_of, stated, division};
+ghost use Rattle.wy_facts.specs.Schema.{◌>>=◌ as bind, instance, by_one, by_two, plain_by_one, instance_of, fact_of, stated, division};
 ghost use Rattle.wy_facts.specs.Program.{arity};
 ghost use Rattle.wy_facts.specs.Truth.{AlwaysHolds};
 ghost use Rattle.wy_facts.specs.Seen.{seen_instance, terms_at, AreBelow, Stays};
@@ -30,7 +30,7 @@ fn with_made(
 ) -> Result<Option<Instance>, NoMemory>
     requires term { t < length terms.old }
     requires node { IfSome node (λ n. HasPartsBelow (length terms.old) (plain n)) }
-    ensures value { IfOk result (λ o. option_map (seen_instance terms.new) o ≡ (option_map (λ n. grown (tree_at terms.old) (plain n)) node >>= λ u. instance schema (tree_at terms.old t ∷ folded u ∷ []))) }
+    ensures value { IfOk result (λ o. option_map (seen_instance terms.new) o ≡ bind (option_map (λ n. grown (tree_at terms.old) (plain n)) node) (λ u. instance schema (tree_at terms.old t ∷ folded u ∷ []))) }
     ensures within { IfOk result (λ o. IfSome o (λ i. AreBelow (length terms.new) i.parts.items)) }
     ensures stays { Stays terms.old terms.new }
 {

@@ -1,111 +1,97 @@
-//! The formula of each schema, and arguments that don't match one.
-ghost use Rattle.std.specs.Prelude.{IfOk, IfSome, length, ◌<◌};
-ghost use Rattle.wy_facts.specs.Seen.{AreBelow};
-
+//! The formulas of schemas, and arguments that a schema doesn't take.
+use crate::words::spelled;
 use std::alloc::Global;
 use std::test::Fail;
 use wy_facts::fact;
-use wy_show::show_formula;
-use wy_spell::{read_formula, read_term};
 use wy_term::{NoMemory, Terms};
 
-// The number of the term or formula that a text spells, or of `null`.
-fn read(terms: &mut Terms, text: &str) -> Result<Option<u32>, NoMemory>
-    ensures { IfOk result (λ o. IfSome o (λ t. t < length terms.new)) }
-{
-    match read_term(terms, text.as_bytes())? {
-        Some(term) => Ok(Some(term)),
-        None => read_formula(terms, text.as_bytes()),
-    }
-}
-
-fn shown(alloc: Global, terms: &mut Terms, schema: u32, args: &[u32]) -> Result<String, NoMemory>
-    requires { AreBelow (length terms.old) args.now }
-{
-    let mut text = String::new(alloc);
-    match fact(terms, schema, args) {
-        Ok(Some(f)) => {
-            for byte in &show_formula(terms, f)? {
-                text.push(char::from(*byte))?;
-            }
-        }
-        Ok(None) => text.push_str("none")?,
-        Err(_) => return Err(NoMemory),
-    }
-    Ok(text)
-}
-
-// The fact of a schema on one argument, as a text.
-fn on_one(alloc: Global, schema: u32, argument: &str) -> Result<String, NoMemory> {
+// Whether a schema states of one argument the formula that a text names.
+fn states(alloc: Global, schema: u32, argument: &str, want: &str) -> Result<bool, NoMemory> {
     let mut terms = Terms::new(alloc);
-    match read(&mut terms, argument)? {
-        Some(t) => shown(alloc, &mut terms, schema, &[t]),
-        None => Ok(String::from_str(alloc, "no term")?),
-    }
+    let t = spelled(alloc, &mut terms, argument)?;
+    let made = fact(&mut terms, schema, &[t]).map_err(|_| NoMemory)?;
+    let wanted = spelled(alloc, &mut terms, want)?;
+    Ok(made == Some(wanted))
 }
 
 #[test]
-fn states_facts_of_one_argument(rt: HostRuntime) -> Result<(), Fail> {
+fn facts_of_one_argument(rt: HostRuntime) -> Result<(), Fail> {
     let rows = [
-        (1, "x.0", "0 <= len(x.0)"),
-        (1, "k#1", "none"),
-        (2, "rep(x.0, k#1)", "or(not 0 <= k#1; and(len(rep(x.0, k#1)) <= k#1; k#1 <= len(rep(x.0, k#1))))"),
-        (2, "x.0", "none"),
-        (3, "upd(x.0, k#1, y.1)", "and(len(upd(x.0, k#1, y.1)) <= len(x.0); len(x.0) <= len(upd(x.0, k#1, y.1)))"),
-        (3, "get(x.0, k#1)", "none"),
-        (5, "get(rep(x.0, k#1), k#2)", "or(not and(0 <= k#2; not k#1 <= k#2); get(rep(x.0, k#1), k#2) = x.0)"),
-        (6, "get(upd(x.0, k#1, y.1), k#2)", "or(not and(k#1 <= k#2; k#2 <= k#1; 0 <= k#1; not len(x.0) <= k#1); get(upd(x.0, k#1, y.1), k#2) = y.1)"),
-        (7, "get(upd(x.0, k#1, y.1), k#2)", "or(not or(not k#2 <= k#1; not k#1 <= k#2); get(upd(x.0, k#1, y.1), k#2) = get(x.0, k#2))"),
-        (9, "fld(setf(x.0, a, y.1), a)", "fld(setf(x.0, a, y.1), a) = y.1"),
-        (9, "fld(setf(x.0, a, y.1), b)", "none"),
-        (10, "fld(setf(x.0, a, y.1), b)", "fld(setf(x.0, a, y.1), b) = fld(x.0, b)"),
-        (10, "fld(setf(x.0, a, y.1), a)", "none"),
-        (11, "x.0 = y.1", "or(not x.0 = y.1; and(num(x.0) <= num(y.1); num(y.1) <= num(x.0)))"),
-        (11, "k#1 <= 2", "none"),
-        (12, "kind(upd(x.0, k#1, y.1), array)", "and(or(not kind(upd(x.0, k#1, y.1), array); kind(x.0, array)); or(not kind(x.0, array); kind(upd(x.0, k#1, y.1), array)))"),
-        (13, "kind(setf(x.0, a, y.1), {a, b})", "or(not kind(x.0, {a, b}); kind(setf(x.0, a, y.1), {a, b}))"),
-        (13, "kind(setf(x.0, c, y.1), {a, b})", "none"),
-        (14, "x.0", "and(or(not kind(x.0, null); x.0 = null); or(not kind(x.0, bool); or(x.0 = true; x.0 = false)); or(not kind(x.0, int); x.0 = int(num(x.0))))"),
-        (14, "bool(kind(x.0, int))", "or(and(kind(x.0, int); kind(x.0, int)); and(not kind(x.0, int); bool(kind(x.0, int)) = false))"),
-        (14, "k#1", "none"),
-        (15, "div(k#1, k#2)", "or(and(k#2 <= 0; 0 <= k#2); and(and(k#1 <= add(mul(k#2, div(k#1, k#2)), mod(k#1, k#2)); add(mul(k#2, div(k#1, k#2)), mod(k#1, k#2)) <= k#1); 0 <= mod(k#1, k#2); or(k#2 <= 0; not k#2 <= mod(k#1, k#2)); or(0 <= k#2; not neg(k#2) <= mod(k#1, k#2))))"),
-        (4, "get(x.0, k#1)", "none"),
-        (16, "x.0", "none"),
-        (0, "x.0", "none"),
+        (1, "x", "0 x len le"),
+        (2, "x k rep", "0 k le not x k rep len k le k x k rep len le and or"),
+        (3, "x k y upd", "x k y upd len x len le x len x k y upd len le and"),
+        (5, "x k rep j get", "0 j le k j le not and not x k rep j get x eq or"),
+        (7, "x k y upd j get", "j k le not k j le not or not x k y upd j get x j get eq or"),
+        (9, "x y seta a", "x y seta a y eq"),
+        (10, "x y seta b", "x y seta b x b eq"),
+        (11, "x y eq", "x y eq not x num y num le y num x num le and or"),
+        (12, "x k y upd isarr", "x k y upd isarr not x isarr or x isarr not x k y upd isarr or and"),
+        (13, "x y seta isab", "x isab not x y seta isab or"),
+        (14, "x isarr bool", "x isarr x isarr and x isarr not x isarr bool f eq and or"),
     ];
     for (schema, argument, want) in rows {
-        let got = on_one(rt.alloc(), schema, argument)?;
-        assert_eq!(rt; got.as_str(), want, "{schema} {argument}");
+        assert!(rt; states(rt.alloc(), schema, argument, want)?, "{schema}");
     }
     Ok(())
 }
 
-// The fact of a schema on two arguments, as a text.
-fn on_two(alloc: Global, schema: u32, first: &str, second: &str) -> Result<String, NoMemory> {
+// Whether a schema states nothing of one argument.
+fn states_nothing(alloc: Global, schema: u32, argument: &str) -> Result<bool, NoMemory> {
     let mut terms = Terms::new(alloc);
-    let Some(s) = read(&mut terms, first)? else {
-        return Ok(String::from_str(alloc, "no term")?);
-    };
-    let Some(t) = read(&mut terms, second)? else {
-        return Ok(String::from_str(alloc, "no term")?);
-    };
-    shown(alloc, &mut terms, schema, &[s, t])
+    let t = spelled(alloc, &mut terms, argument)?;
+    let before = terms.len();
+    let made = fact(&mut terms, schema, &[t]).map_err(|_| NoMemory)?;
+    Ok(made.is_none() && terms.len() == before)
 }
 
 #[test]
-fn states_facts_of_two_arguments(rt: HostRuntime) -> Result<(), Fail> {
+fn other_arguments(rt: HostRuntime) -> Result<(), Fail> {
     let rows = [
-        (4, "get(arr[x.0, y.1], k#1)", "1", "or(not 1 <= k#1; not k#1 <= 1; get(arr[x.0, y.1], k#1) = y.1)"),
-        (4, "get(arr[x.0, y.1], k#1)", "2", "none"),
-        (4, "get(arr[x.0, y.1], k#1)", "-1", "none"),
-        (4, "get(arr[x.0, y.1], k#1)", "k#2", "none"),
-        (8, "get(x.0, k#1)", "get(x.0, k#2)", "or(not k#2 <= k#1; not k#1 <= k#2; get(x.0, k#1) = get(x.0, k#2))"),
-        (8, "get(x.0, k#1)", "get(y.0, k#2)", "none"),
-        (1, "x.0", "x.0", "none"),
+        (0, "x"),
+        (1, "k"),
+        (2, "x"),
+        (3, "x k get"),
+        (4, "x k get"),
+        (5, "x k get"),
+        (9, "x y seta b"),
+        (10, "x y seta a"),
+        (11, "k j le"),
+        (12, "x isarr"),
+        (13, "x y setc isab"),
+        (14, "k"),
+        (16, "x"),
     ];
-    for (schema, first, second, want) in rows {
-        let got = on_two(rt.alloc(), schema, first, second)?;
-        assert_eq!(rt; got.as_str(), want, "{schema} {first}");
+    for (schema, argument) in rows {
+        assert!(rt; states_nothing(rt.alloc(), schema, argument)?, "{schema}");
     }
+    Ok(())
+}
+
+// What a schema states of two arguments, and the formula that a text names.
+fn of_two(
+    alloc: Global,
+    schema: u32,
+    first: &str,
+    second: &str,
+    want: &str,
+) -> Result<(Option<u32>, u32), NoMemory> {
+    let mut terms = Terms::new(alloc);
+    let s = spelled(alloc, &mut terms, first)?;
+    let t = spelled(alloc, &mut terms, second)?;
+    let made = fact(&mut terms, schema, &[s, t]).map_err(|_| NoMemory)?;
+    let wanted = spelled(alloc, &mut terms, want)?;
+    Ok((made, wanted))
+}
+
+#[test]
+fn facts_of_two_arguments(rt: HostRuntime) -> Result<(), Fail> {
+    let element = of_two(rt.alloc(), 4, "x y arr k get", "1", "1 k le not k 1 le not x y arr k get y eq or3")?;
+    assert_eq!(rt; element.0, Some(element.1));
+    let beyond = of_two(rt.alloc(), 4, "x y arr k get", "2", "1")?;
+    assert_eq!(rt; beyond.0, None);
+    let same = of_two(rt.alloc(), 8, "x k get", "x j get", "j k le not k j le not x k get x j get eq or3")?;
+    assert_eq!(rt; same.0, Some(same.1));
+    let other = of_two(rt.alloc(), 8, "x k get", "y j get", "1")?;
+    assert_eq!(rt; other.0, None);
     Ok(())
 }

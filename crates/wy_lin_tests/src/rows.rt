@@ -1,108 +1,168 @@
 //! Forms of literals and of terms, and sums of them, worked out by hand.
-ghost use Rattle.std.specs.Prelude.{All, IfOk, IfSome, length, ◌<◌};
-ghost use Rattle.wy_lin.specs.Seen.{IsOver, linear_form};
+ghost use Rattle.std.specs.Prelude.{IfOk, IfSome, length, ◌<◌};
 
+use crate::words::spelled;
 use std::alloc::Global;
 use std::test::Fail;
 use wy_lin::{Form, combine, form, term_form};
-use wy_show::show_term;
-use wy_spell::{read_formula, read_term};
 use wy_term::{NoMemory, Terms};
 
-// A form as its parts, each a coefficient and a term, and its number.
-fn written(alloc: Global, terms: &Terms, form: &Form) -> Result<String, NoMemory>
-    requires { IsOver (length terms.now) (linear_form form.now) }
-{
-    let mut text = String::new(alloc);
-    for part in &form.parts {
-        let coefficient = format!(in alloc; "{}", part.0)?;
-        text.push_str(&coefficient)?;
-        text.push(' ')?;
-        let term = show_term(terms, part.1)?;
-        for byte in &term {
-            text.push(char::from(*byte))?;
-        }
-        text.push_str(", ")?;
+// Whether a form has these parts, each a coefficient and the text of a variable, and this number.
+fn is_form(
+    alloc: Global,
+    terms: &mut Terms,
+    form: &Form,
+    parts: &[(i128, &str)],
+    constant: i128,
+) -> Result<bool, NoMemory> {
+    if form.parts.len() != parts.len() || form.constant != constant {
+        return Ok(false);
     }
-    let constant = format!(in alloc; "{}", form.constant)?;
-    text.push_str(&constant)?;
-    Ok(text)
+    for (k, part) in parts.iter().enumerate() {
+        let variable = spelled(alloc, terms, part.1)?;
+        if form.parts[k].0 != part.0 || form.parts[k].1 != variable {
+            return Ok(false);
+        }
+    }
+    Ok(true)
 }
 
-// The form of the literal that a text spells, or `none`.
-fn of_literal(alloc: Global, text: &str) -> Result<String, NoMemory> {
+// Whether the literal that a text names has this form.
+fn has_form(
+    alloc: Global,
+    text: &str,
+    parts: &[(i128, &str)],
+    constant: i128,
+) -> Result<bool, NoMemory> {
     let mut terms = Terms::new(alloc);
-    let Some(literal) = read_formula(&mut terms, text.as_bytes())? else {
-        return Ok(String::from_str(alloc, "no formula")?);
-    };
+    let literal = spelled(alloc, &mut terms, text)?;
     match form(alloc, &terms, literal) {
-        Ok(Some(form)) => written(alloc, &terms, &form),
-        Ok(None) => Ok(String::from_str(alloc, "none")?),
+        Ok(Some(form)) => is_form(alloc, &mut terms, &form, parts, constant),
+        Ok(None) => Ok(false),
         Err(_) => Err(NoMemory),
     }
 }
 
 #[test]
 fn forms_of_literals(rt: HostRuntime) -> Result<(), Fail> {
-    let rows = [
-        ("num(x.0) <= 5", "-1 num(x.0), 5"),
-        ("5 <= num(x.0)", "1 num(x.0), -5"),
-        ("not num(x.0) <= 5", "1 num(x.0), -6"),
-        ("not num(x.0) <= len(y.1)", "1 num(x.0), -1 len(y.1), -1"),
-        ("num(x.0) <= len(y.1)", "-1 num(x.0), 1 len(y.1), 0"),
-        ("add(k#1, k#2) <= add(k#2, k#3)", "-1 k#1, 0 k#2, 1 k#3, 0"),
-        ("0 <= sub(k#1, mul(3, add(k#2, 4)))", "1 k#1, -3 k#2, -12"),
-        ("0 <= mul(k#1, -2)", "-2 k#1, 0"),
-        ("0 <= neg(sub(k#1, 7))", "-1 k#1, 7"),
-        ("0 <= mul(k#1, k#2)", "1 mul(k#1, k#2), 0"),
-        ("0 <= mul(sub(k#1, k#1), k#2)", "1 mul(sub(k#1, k#1), k#2), 0"),
-        ("0 <= add(div(k#1, 2), mod(k#1, 2))", "1 div(k#1, 2), 1 mod(k#1, 2), 0"),
-        ("0 <= mul(0, k#1)", "0 k#1, 0"),
-        ("num(x.0) <= -170141183460469231731687303715884105728", "-1 num(x.0), -170141183460469231731687303715884105728"),
-        ("-170141183460469231731687303715884105728 <= num(x.0)", "none"),
-        ("not -170141183460469231731687303715884105728 <= num(x.0)", "none"),
-        ("0 <= neg(mul(k#1, -170141183460469231731687303715884105728))", "none"),
-        ("mul(k#1, -170141183460469231731687303715884105728) <= mul(-1, k#1)", "170141183460469231731687303715884105727 k#1, 0"),
-        ("0 <= mul(170141183460469231731687303715884105727, mul(2, k#1))", "none"),
-        ("x.0 = true", "none"),
-        ("not x.0 = true", "none"),
-        ("and(k#1 <= 1; k#2 <= 2)", "none"),
-        ("kind(x.0, int)", "none"),
+    let rows: [(&str, &[(i128, &str)], i128); 13] = [
+        ("x num 5 le", &[(-1, "x num")], 5),
+        ("5 x num le", &[(1, "x num")], -5),
+        ("x num 5 le not", &[(1, "x num")], -6),
+        ("x num x len le", &[(-1, "x num"), (1, "x len")], 0),
+        ("x num x len le not", &[(1, "x num"), (-1, "x len")], -1),
+        ("k j add j i add le", &[(-1, "k"), (0, "j"), (1, "i")], 0),
+        ("0 k 3 j 4 add mul sub le", &[(1, "k"), (-3, "j")], -12),
+        ("0 k -2 mul le", &[(-2, "k")], 0),
+        ("0 k 7 sub neg le", &[(-1, "k")], 7),
+        ("0 k j mul le", &[(1, "k j mul")], 0),
+        ("0 k k sub j mul le", &[(1, "k k sub j mul")], 0),
+        ("0 k 2 div k 2 mod add le", &[(1, "k 2 div"), (1, "k 2 mod")], 0),
+        ("k min mul -1 k mul le", &[(i128::MAX, "k")], 0),
     ];
-    for (text, want) in rows {
-        let got = of_literal(rt.alloc(), text)?;
-        assert_eq!(rt; got.as_str(), want, "{text}");
+    for (text, parts, constant) in rows {
+        assert!(rt; has_form(rt.alloc(), text, parts, constant)?, "{text}");
     }
     Ok(())
 }
 
-// The form of the term that a text spells, or `none`.
-fn of_term(alloc: Global, text: &str) -> Result<String, NoMemory> {
+// Whether the formula that a text names has no form.
+fn has_none(alloc: Global, text: &str) -> Result<bool, NoMemory> {
     let mut terms = Terms::new(alloc);
-    let Some(term) = read_term(&mut terms, text.as_bytes())? else {
-        return Ok(String::from_str(alloc, "no term")?);
-    };
+    let literal = spelled(alloc, &mut terms, text)?;
+    match form(alloc, &terms, literal) {
+        Ok(Some(_)) => Ok(false),
+        Ok(None) => Ok(true),
+        Err(_) => Err(NoMemory),
+    }
+}
+
+#[test]
+fn formulas_without_a_form(rt: HostRuntime) -> Result<(), Fail> {
+    let rows = [
+        "min x num le",
+        "0 k min mul neg le",
+        "0 max 2 k mul mul le",
+        "0 max k 1 add add le",
+        "k min le not",
+        "k k le",
+        "x num 5 le x num 6 le and",
+    ];
+    for text in rows {
+        assert!(rt; has_none(rt.alloc(), text)?, "{text}");
+    }
+    Ok(())
+}
+
+// Whether the term that a text names has this form.
+fn is_of_term(
+    alloc: Global,
+    text: &str,
+    parts: &[(i128, &str)],
+    constant: i128,
+) -> Result<bool, NoMemory> {
+    let mut terms = Terms::new(alloc);
+    let term = spelled(alloc, &mut terms, text)?;
     match term_form(alloc, &terms, term) {
-        Ok(Some(form)) => written(alloc, &terms, &form),
-        Ok(None) => Ok(String::from_str(alloc, "none")?),
+        Ok(Some(form)) => is_form(alloc, &mut terms, &form, parts, constant),
+        Ok(None) => Ok(false),
         Err(_) => Err(NoMemory),
     }
 }
 
 #[test]
 fn forms_of_terms(rt: HostRuntime) -> Result<(), Fail> {
-    let rows = [
-        ("7", "7"),
-        ("k#1", "1 k#1, 0"),
-        ("add(k#1, add(k#2, k#1))", "2 k#1, 1 k#2, 0"),
-        ("sub(sub(k#1, k#2), k#1)", "0 k#1, -1 k#2, 0"),
-        ("mul(2, mul(3, k#1))", "6 k#1, 0"),
-        ("add(170141183460469231731687303715884105727, add(k#1, 1))", "none"),
-        ("sub(add(170141183460469231731687303715884105727, k#1), 1)", "1 k#1, 170141183460469231731687303715884105726"),
+    let rows: [(&str, &[(i128, &str)], i128); 5] = [
+        ("7", &[], 7),
+        ("k j k add add", &[(2, "k"), (1, "j")], 0),
+        ("k j sub k sub", &[(0, "k"), (-1, "j")], 0),
+        ("2 3 k mul mul", &[(6, "k")], 0),
+        ("max k add 1 sub", &[(1, "k")], i128::MAX - 1),
     ];
-    for (text, want) in rows {
-        let got = of_term(rt.alloc(), text)?;
-        assert_eq!(rt; got.as_str(), want, "{text}");
+    for (text, parts, constant) in rows {
+        assert!(rt; is_of_term(rt.alloc(), text, parts, constant)?, "{text}");
+    }
+    Ok(())
+}
+
+// The forms of two literals, and their sum with these multipliers.
+fn sum_of(
+    alloc: Global,
+    first: &str,
+    second: &str,
+    m: u128,
+    n: u128,
+) -> Result<Option<Form>, NoMemory> {
+    let mut terms = Terms::new(alloc);
+    let s = spelled(alloc, &mut terms, first)?;
+    let t = spelled(alloc, &mut terms, second)?;
+    let mut forms = Vec::new(alloc);
+    for literal in [s, t] {
+        match form(alloc, &terms, literal) {
+            Ok(Some(form)) => forms.push(form)?,
+            _ => return Err(NoMemory),
+        }
+    }
+    if forms.len() != 2 {
+        return Err(NoMemory);
+    }
+    combine(alloc, &forms, &[(m, 0), (n, 1)]).map_err(|_| NoMemory)
+}
+
+#[test]
+fn sums(rt: HostRuntime) -> Result<(), Fail> {
+    let rows: [(&str, &str, u128, u128, Option<(usize, i128)>); 6] = [
+        ("x num 5 le", "6 x num le", 1, 1, Some((1, -1))),
+        ("x num 5 le", "k x num le", 2, 3, Some((2, 10))),
+        ("x num 5 le", "k x num le", 0, 0, Some((2, 0))),
+        ("x num 0 le", "k x num le", 1 << 127, 1, Some((2, 0))),
+        ("0 x num le", "k x num le", 1 << 127, 1, None),
+        ("x num 0 le", "0 x num le", (1 << 127) - 1, 1, Some((1, 0))),
+    ];
+    for (first, second, m, n, want) in rows {
+        let sum = sum_of(rt.alloc(), first, second, m, n)?;
+        let got = sum.map(|form| (form.parts.len(), form.constant));
+        assert_eq!(rt; got, want, "{first}");
     }
     Ok(())
 }

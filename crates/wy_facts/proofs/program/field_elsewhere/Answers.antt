@@ -1,7 +1,7 @@
 use Rattle.std.proofs.Common.{refl}
 use Rattle.wy_facts.specs.declared.schema.Schema.TheVariants.{FieldElsewhere}
-use Rattle.wy_facts.proofs.PartsLemmas.{Stated, two_terms, program_states}
+use Rattle.wy_facts.proofs.PartsLemmas.{states_of_two}
 use Rattle.wy_facts.proofs.program.field_elsewhere.Goals as goal
 
 pub returns : goal.returns
-returns c = record { states = program_states c.from_slice.result _ FieldElsewhere c.from_slice.ensures.ok (two_terms (Stated _ FieldElsewhere) (λ a b. refl)) }
+returns c = record { states = states_of_two c.from_slice.result _ FieldElsewhere c.from_slice.ensures.items refl (λ a b. refl) }
