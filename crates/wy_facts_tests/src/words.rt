@@ -134,28 +134,6 @@ fn of_three(alloc: Global, word: &str, r: u32, s: u32, t: u32) -> Result<Option<
     Ok(Some(node))
 }
 
-#[test]
-fn copies(rt: HostRuntime) {
-    assert_eq!(rt; copied_twice(rt.alloc()), Ok((true, 5, 5)));
-}
-
-// A formula with a term that stands in it twice, in two lists: whether its copy is the number that is made there
-// by itself, and how many terms the new list has after each of the two.
-fn copied_twice(alloc: Global) -> Result<(bool, usize, usize), NoMemory> {
-    let mut from = Terms::new(alloc);
-    from.intern(Node::Null)?;
-    let wanted = "x num 3 le x num 3 le not or";
-    let term = spelled(alloc, &mut from, wanted)?;
-    let mut terms = Terms::new(alloc);
-    terms.intern(Node::Bool(true))?;
-    terms.intern(Node::Number(3))?;
-    let mark = terms.len();
-    let copy = terms.copy(&from, term)?;
-    let after_copy = terms.len().saturating_sub(mark);
-    let made = spelled(alloc, &mut terms, wanted)?;
-    Ok((copy == made, after_copy, terms.len().saturating_sub(mark)))
-}
-
 // The kind of records with the fields a and b.
 fn of_a_and_b(alloc: Global) -> Result<Kind, NoMemory> {
     let mut names = Vec::new(alloc);

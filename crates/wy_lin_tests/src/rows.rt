@@ -57,7 +57,11 @@ fn forms_of_literals(rt: HostRuntime) -> Result<(), Fail> {
         ("0 k 7 sub neg le", &[(-1, "k")], 7),
         ("0 k j mul le", &[(1, "k j mul")], 0),
         ("0 k k sub j mul le", &[(1, "k k sub j mul")], 0),
-        ("0 k 2 div k 2 mod add le", &[(1, "k 2 div"), (1, "k 2 mod")], 0),
+        (
+            "0 k 2 div k 2 mod add le",
+            &[(1, "k 2 div"), (1, "k 2 mod")],
+            0,
+        ),
         ("k min mul -1 k mul le", &[(i128::MAX, "k")], 0),
     ];
     for (text, parts, constant) in rows {
