@@ -1,0 +1,7 @@
+-- what public contracts cite
+pub mod Made
+pub mod Schema
+pub mod Truth
+-- what functions inside owe each other
+pub mod Program
+pub mod Seen

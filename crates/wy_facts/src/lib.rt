@@ -1,0 +1,19 @@
+//! Facts: formulas about lengths, elements, fields, kinds and quotients that hold of all data.
+//!
+//! A schema (`schema`) states a formula of the parts of its arguments. `arguments` tells whether terms are such as a
+//! schema takes, and which parts they have; `program` has the formula of each schema as a list of instructions, and
+//! `building` makes it of the parts. `facts` puts these together, and `law` says that facts are true.
+#![tactic(auto)]
+
+mod arguments;
+mod building;
+mod facts;
+mod law;
+mod memory;
+mod program;
+mod schema;
+mod shapes;
+
+pub use facts::fact;
+pub use law::facts_are_true;
+pub use memory::NoMemory;
