@@ -1,7 +1,7 @@
 -- What a term is made of: the tests of its symbols, and of those of the terms that are listed.
 use Rattle.std.proofs.Common.{◌≡◌, ◌<◌, ◌≤◌, ◌+◌, ◌&&◌, ◌||◌, ℕ, zero, suc, List, [], ◌∷◌, ◌++◌, All, length, Bool, true, false, cond, eqb, Option, Some, None, Result, Ok, Err, refl, sym, ap, ◌∙◌, subst, arith}
 use Rattle.std.proofs.lemmas.Bool.{eqb-true}
-use Rattle.std.specs.Prelude.{option_to_list, unwrap_or}
+use Rattle.std.specs.Prelude.{option_to_list, unwrap_or, if◌then◌else◌}
 use Rattle.wy_term.specs.Term.{Symbol, Term, Of, Parts, part, no_parts}
 use Rattle.wy_term.specs.Nodes.{Plain, grown, tree_at, parts_at, HasPartsBelow}
 use Rattle.wy_subst.specs.Names.{any_symbol, any_in_parts}
@@ -82,7 +82,7 @@ nothing_listed nodes root noted none = record {
   below = tt;
   inside = λ test e. absurd cc;
   whole = λ q e. let no : true ≡ false = sym e ∙ none q in absurd cc;
-  todo = tt;
+  left = tt;
 }
 
 -- one more
@@ -91,7 +91,7 @@ one_listed nodes root t n ks all more noted after todo lt inside tree parts read
   below = subst (AreInside nodes root) (sym pushed) (inside_append nodes root all (t ∷ []) listed.below ((lt, inside), tt));
   inside = λ test e. or_cases (any_at nodes test all) (any_at nodes test (t ∷ [])) (sym (any_append nodes test all (t ∷ [])) ∙ (sym (ap (any_at nodes test) pushed) ∙ e)) (listed.inside test) (λ f. inside test (any_of_node nodes t n test tree ∙ or_cases (test (symbol_at nodes t)) false f (λ g. or_left (test (symbol_at nodes t)) (any_in_parts test (parts_at (tree_at nodes) n.parts)) g) (λ g. absurd cc)));
   whole = λ q e test f. either q (eqb t q) refl (sym (puts q) ∙ e) test f;
-  todo = listed.todo;
+  left = listed.left;
 }
   where
     longer : (test : Symbol → Bool) → any_at nodes test all ≡ true → any_at nodes test more ≡ true
@@ -108,12 +108,12 @@ one_listed nodes root t n ks all more noted after todo lt inside tree parts read
 pub parts_first : (nodes : List Plain) (root t : ℕ) (n : Plain) (ks all : List ℕ) (noted : ℕ → Bool) (todo one both : List ℕ) → t < length nodes → ((test : Symbol → Bool) → any_symbol test (tree_at nodes t) ≡ true → any_symbol test (tree_at nodes root) ≡ true) → tree_at nodes t ≡ grown (tree_at nodes) n → HasPartsBelow t n → ks ≡ n.parts → one ≡ todo ++ t ∷ [] → both ≡ one ++ ks → IsListed nodes root all noted todo → IsListed nodes root all noted both
 parts_first nodes root t n ks all noted todo one both lt inside tree low parts pushed joined listed =
     let here : AreInside nodes root n.parts = parts_inside nodes root t n.parts (omega arith) low (λ test e. inside test (any_of_node nodes t n test tree ∙ or_true (test (symbol_at nodes t)) (any_in_parts test (parts_at (tree_at nodes) n.parts)) e)) in
-    let first : AreInside nodes root one = subst (AreInside nodes root) (sym pushed) (inside_append nodes root todo (t ∷ []) listed.todo ((lt, inside), tt)) in
+    let first : AreInside nodes root one = subst (AreInside nodes root) (sym pushed) (inside_append nodes root todo (t ∷ []) listed.left ((lt, inside), tt)) in
     record {
       below = listed.below;
       inside = listed.inside;
       whole = listed.whole;
-      todo = subst (AreInside nodes root) (sym joined) (inside_append nodes root one ks first (subst (AreInside nodes root) (sym parts) here));
+      left = subst (AreInside nodes root) (sym joined) (inside_append nodes root one ks first (subst (AreInside nodes root) (sym parts) here));
     }
 
 -- what is taken from the end
@@ -126,7 +126,7 @@ rest_listed nodes root all noted old new o e listed = record {
   below = listed.below;
   inside = listed.inside;
   whole = listed.whole;
-  todo = (inside_front nodes root new (option_to_list o) (subst (AreInside nodes root) e listed.todo)).0;
+  left = (inside_front nodes root new (option_to_list o) (subst (AreInside nodes root) e listed.left)).0;
 }
 
 -- where the root is noted, its symbols are those of what is listed

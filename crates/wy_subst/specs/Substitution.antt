@@ -1,5 +1,5 @@
 -- Which term comes of a term where another is put for a name. Each quantifier that binds a name of the other term binds a new name, in the order in which they are written, outer ones first.
-use Rattle.std.specs.Prelude.{ℕ, ◌+◌, List, [], ◌∷◌, ◌++◌, Bool, true, false, nat_lt, if◌then◌else◌}
+use Rattle.std.specs.Prelude.{ℕ, ◌+◌, List, [], ◌∷◌, ◌++◌, Option, Some, None, nat_lt, if◌then◌else◌}
 use Rattle.wy_term.specs.Term.{Symbol, Term, Of, Parts, no_parts, part, leaf, int_name, val_name, every, exists}
 use Rattle.wy_term.specs.Folding.{found, found_or, hidden, folded}
 use Rattle.wy_subst.specs.Names.{stands_in, numbers_in, new_number}
@@ -26,10 +26,18 @@ bound_by t word n env taken =
     then with_new_name word n (new_number taken) env taken
     else record { number = n; inner = hidden (found env (leaf (int_name word n))) (leaf (int_name word n)) env; taken = taken }
 
+-- the word and the number of the Int name that a symbol binds
+abbrev pub binder_of : Symbol → Option (List ℕ × ℕ)
+binder_of (every word n) = Some (word, n)
+binder_of (exists word n) = Some (word, n)
+binder_of symbol = None
+
+abbrev pub entered_by : Term → Option (List ℕ × ℕ) → List (Term × Term) → List ℕ → Entered
+entered_by t None env taken = record { number = 0; inner = env; taken = taken }
+entered_by t (Some name) env taken = bound_by t name.0 name.1 env taken
+
 abbrev pub entered : Term → Symbol → List (Term × Term) → List ℕ → Entered
-entered t (every word n) env taken = bound_by t word n env taken
-entered t (exists word n) env taken = bound_by t word n env taken
-entered t symbol env taken = record { number = 0; inner = env; taken = taken }
+entered t symbol env taken = entered_by t (binder_of symbol) env taken
 
 -- the first two parts of a quantifier are its bounds, in which its name isn't bound
 abbrev pub env_at : ℕ → List (Term × Term) → List (Term × Term) → List (Term × Term)
@@ -53,6 +61,9 @@ finished symbol env m ps = folded (Of (renumbered symbol m) ps)
 pub record Put : Type 0 where
   pub term : Term
   pub taken : List ℕ
+
+abbrev pub put_of : Term → List ℕ → Put
+put_of term taken = record { term = term; taken = taken }
 
 pub record PutParts : Type 0 where
   pub parts : Parts

@@ -43,7 +43,7 @@ pub record IsListed (nodes : List Plain) (root : ℕ) (all : List ℕ) (noted : 
   pub below : AreInside nodes root all
   pub inside : (test : Symbol → Bool) → any_at nodes test all ≡ true → any_symbol test (tree_at nodes root) ≡ true
   pub whole : (q : ℕ) → noted q ≡ true → (test : Symbol → Bool) → any_symbol test (tree_at nodes q) ≡ true → any_at nodes test all ≡ true
-  pub todo : AreInside nodes root todo
+  pub left : AreInside nodes root todo
 
 -- ---- numbers
 

@@ -1,5 +1,5 @@
 //! Which names stand in a term, and which numbers are taken.
-ghost use Rattle.std.specs.Prelude.{nat_eq, bytes_eq, ◌≡◌, ◌<◌, ◌+◌, ◌∷◌, ◌++◌, ◌&&◌, ◌||◌, ℕ, List, All, length, option_to_list, IfOk, OnOk};
+ghost use Rattle.std.specs.Prelude.{[], nat_eq, bytes_eq, ◌≡◌, ◌<◌, ◌+◌, ◌∷◌, ◌++◌, ◌&&◌, ◌||◌, ℕ, List, All, length, option_to_list, IfOk, OnOk};
 ghost use Rattle.std.specs.HashSet.{contains};
 ghost use Rattle.wy_term.specs.Nodes.{plain, tree_at};
 ghost use Rattle.wy_subst.specs.Names.{names_it, numbers_by, top, first_free, new_number};

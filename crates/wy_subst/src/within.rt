@@ -1,5 +1,5 @@
 //! What a term is made of.
-ghost use Rattle.std.specs.Prelude.{nat_eq, ◌≡◌, ◌<◌, All, Bool, length, IfOk, OnOk};
+ghost use Rattle.std.specs.Prelude.{nat_eq, ◌≡◌, ◌<◌, All, Bool, true, length, IfOk, OnOk};
 ghost use Rattle.std.specs.HashSet.{contains};
 ghost use Rattle.wy_term.specs.Term.{Symbol};
 ghost use Rattle.wy_term.specs.Nodes.{tree_at};
@@ -38,13 +38,13 @@ fn list(
     ensures listed { OnOk result (IsListed terms.now _root all.new.items (contains nat_eq noted.new) todo.new.items) }
 {
     let parts = parts_of(terms.allocator(), terms.node(t))?;
-    if all_noted(noted, &parts) {
-        all.push(t)?;
-        noted.insert(t)?;
-    } else {
+    if !all_noted(noted, &parts) {
         todo.push(t)?;
         todo.extend_from_slice(&parts)?;
+        return Ok(());
     }
+    all.push(t)?;
+    noted.insert(t)?;
     Ok(())
 }
 
