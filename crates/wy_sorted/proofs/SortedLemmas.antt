@@ -7,7 +7,7 @@ use Rattle.wy_value.specs.Datum.{Datum}
 use Rattle.wy_value.specs.Datum as datum
 use Rattle.wy_term.specs.Term as term
 use Rattle.wy_term.specs.Term.{Symbol, Term, Of, Parts, no_parts, part, leaf, Number, int_name, val_name, every, exists}
-use Rattle.wy_term.specs.Data as data
+use Rattle.wy_term.specs.Data as shapes
 use Rattle.wy_term.specs.Same.{same_term}
 use Rattle.wy_term.specs.Meaning.{Names, with_number, Sense, sense, sense_of, senses_of, distance, each_from, any_from, all_hold, any_holds, number_at, datum_at, truth_at, data_in}
 use Rattle.wy_term.specs.Meaning as meaning
@@ -57,6 +57,7 @@ found_fine (p ∷ ps) x are = either (same_term p.0 x) refl (found_fine ps x are
     stands : p.0 ≡ x → ((z : ℤ) × (p.1 ≡ Number z)) ⊎ (p.1 ≡ p.0) → ((z : ℤ) × (p.1 ≡ Number z)) ⊎ (p.1 ≡ x)
     stands e (inl n) = inl n
     stands e (inr s) = inr (s ∙ e)
+
     either : (b : Bool) → same_term p.0 x ≡ b → IsFine x (found ps x) → IsFine x (cond b (Some p.1) (found ps x))
     either true e rest = stands (terms_are p.0 x e) are.0.stands
     either false e rest = rest
@@ -90,6 +91,7 @@ name_test w v n m = same_bools (same_term (leaf (int_name w n)) (leaf (int_name 
         let h = both (bytes_eq w v && eqb n m) true e in
         let g = both (bytes_eq w v) (eqb n m) h.0 in
         rw (bytes_are w v g.0, eqb-true n m g.1, bytes_self v, eqb_self m) refl
+
     back : (bytes_eq v w && eqb m n) ≡ true → ((bytes_eq w v && eqb n m) && true) ≡ true
     back e =
         let g = both (bytes_eq v w) (eqb m n) e in
@@ -101,62 +103,80 @@ named names others d e f =
     ∙ (ap (λ (g : List ℕ → ℕ → ℤ). let r : Names = record { datum_of = others.datum_of; number_of = g; is_member = names.is_member } in r) e
     ∙ ap (λ (g : ℕ → Datum → Bool). let r : Names = record { datum_of = others.datum_of; number_of = others.number_of; is_member = g } in r) f)
 
+number_choice : (env : List (Term × Term)) (names : Names) (v : List ℕ) (m : ℕ) (z : ℤ) (b : Bool) → (sense names (found_or (cond b (Some (Number z)) (found env (leaf (int_name v m)))) (leaf (int_name v m)))).number ≡ cond b z ((under env names).number_of v m)
+number_choice env names v m z true = refl
+number_choice env names v m z false = refl
+
 -- a name that stands for a number
 at_number : (env : List (Term × Term)) (names : Names) (w : List ℕ) (n : ℕ) (z : ℤ) → under ((leaf (int_name w n), Number z) ∷ env) names ≡ with_number (under env names) w n z
-at_number env names w n z = named (under ((leaf (int_name w n), Number z) ∷ env) names) (with_number (under env names) w n z) refl (fun_ext (λ v. fun_ext (λ m. here v m))) refl
+at_number env names w n z =
+    named (under ((leaf (int_name w n), Number z) ∷ env) names) (with_number (under env names) w n z) refl (fun_ext (λ v. fun_ext (λ m. here v m))) refl
   where
-    either : (v : List ℕ) (m : ℕ) (b : Bool) → (sense names (found_or (cond b (Some (Number z)) (found env (leaf (int_name v m)))) (leaf (int_name v m)))).number ≡ cond b z (sense names (found_or (found env (leaf (int_name v m))) (leaf (int_name v m)))).number
-    either v m true = refl
-    either v m false = refl
-    here : (v : List ℕ) (m : ℕ) → (under ((leaf (int_name w n), Number z) ∷ env) names).number_of v m ≡ (with_number (under env names) w n z).number_of v m
+    here : (v : List ℕ) (m : ℕ) → (under ((leaf (int_name w n), Number z) ∷ env) names).number_of v m ≡ cond (bytes_eq v w && eqb m n) z ((under env names).number_of v m)
     here v m =
         ap (λ (b : Bool). (sense names (found_or (cond b (Some (Number z)) (found env (leaf (int_name v m)))) (leaf (int_name v m)))).number) (name_test w v n m)
-        ∙ either v m (bytes_eq v w && eqb m n)
+        ∙ number_choice env names v m z (bytes_eq v w && eqb m n)
+
+-- the name itself, where it has another number
+own_number : (names : Names) (w : List ℕ) (n : ℕ) (z : ℤ) → (with_number names w n z).number_of w n ≡ z
+own_number names w n z = rw (bytes_self w, eqb_self n) refl
+
+own_test : (w : List ℕ) (n : ℕ) → same_term (leaf (int_name w n)) (leaf (int_name w n)) ≡ true
+own_test w n = name_test w w n n ∙ rw (bytes_self w, eqb_self n) refl
+
+-- what it stands for in a body in which it stands for itself
+own_hidden : (env : List (Term × Term)) (names : Names) (w : List ℕ) (n : ℕ) (z : ℤ) (u : Term) (b : Bool) → found env (leaf (int_name w n)) ≡ Some u → same_term u (leaf (int_name w n)) ≡ b → (sense (with_number names w n z) (found_or (found (cond b env ((leaf (int_name w n), leaf (int_name w n)) ∷ env)) (leaf (int_name w n))) (leaf (int_name w n)))).number ≡ z
+own_hidden env names w n z u true e g =
+    ap (λ (o : Option Term). (sense (with_number names w n z) (found_or o (leaf (int_name w n)))).number) e
+    ∙ (ap (λ (t : Term). (sense (with_number names w n z) t).number) (terms_are u (leaf (int_name w n)) g) ∙ own_number names w n z)
+own_hidden env names w n z u false e g =
+    ap (λ (b : Bool). (sense (with_number names w n z) (found_or (cond b (Some (leaf (int_name w n))) (found env (leaf (int_name w n)))) (leaf (int_name w n)))).number) (own_test w n) ∙ own_number names w n z
+
+own : (env : List (Term × Term)) (names : Names) (w : List ℕ) (n : ℕ) (z : ℤ) (o : Option Term) → found env (leaf (int_name w n)) ≡ o → (sense (with_number names w n z) (found_or (found (hidden o (leaf (int_name w n)) env) (leaf (int_name w n))) (leaf (int_name w n)))).number ≡ z
+own env names w n z None e = ap (λ (o : Option Term). (sense (with_number names w n z) (found_or o (leaf (int_name w n)))).number) e ∙ own_number names w n z
+own env names w n z (Some u) e = own_hidden env names w n z u (same_term u (leaf (int_name w n))) e refl
+
+-- another name stands there for what it stood for
+other_hidden : (env : List (Term × Term)) (w v : List ℕ) (n m : ℕ) (b : Bool) → (bytes_eq v w && eqb m n) ≡ false → found (cond b env ((leaf (int_name w n), leaf (int_name w n)) ∷ env)) (leaf (int_name v m)) ≡ found env (leaf (int_name v m))
+other_hidden env w v n m true e = refl
+other_hidden env w v n m false e = ap (λ (b : Bool). cond b (Some (leaf (int_name w n))) (found env (leaf (int_name v m)))) (name_test w v n m ∙ e)
+
+other : (env : List (Term × Term)) (w v : List ℕ) (n m : ℕ) (o : Option Term) → (bytes_eq v w && eqb m n) ≡ false → found (hidden o (leaf (int_name w n)) env) (leaf (int_name v m)) ≡ found env (leaf (int_name v m))
+other env w v n m None e = refl
+other env w v n m (Some u) e = other_hidden env w v n m (same_term u (leaf (int_name w n))) e
+
+other_number : (names : Names) (w v : List ℕ) (n m : ℕ) (z : ℤ) → (bytes_eq v w && eqb m n) ≡ false → (with_number names w n z).number_of v m ≡ names.number_of v m
+other_number names w v n m z e = ap (λ (b : Bool). cond b z (names.number_of v m)) e
+
+other_sense : (names : Names) (w v : List ℕ) (n m : ℕ) (z : ℤ) (o : Option Term) → (bytes_eq v w && eqb m n) ≡ false → IsFine (leaf (int_name v m)) o → (sense (with_number names w n z) (found_or o (leaf (int_name v m)))).number ≡ (sense names (found_or o (leaf (int_name v m)))).number
+other_sense names w v n m z None e f = other_number names w v n m z e
+other_sense names w v n m z (Some u) e (inl y) = ap (λ (t : Term). (sense (with_number names w n z) t).number) y.1 ∙ sym (ap (λ (t : Term). (sense names t).number) y.1)
+other_sense names w v n m z (Some u) e (inr g) = ap (λ (t : Term). (sense (with_number names w n z) t).number) g ∙ (other_number names w v n m z e ∙ sym (ap (λ (t : Term). (sense names t).number) g))
+
+itself_number : (env : List (Term × Term)) (names : Names) (w v : List ℕ) (n m : ℕ) (z : ℤ) (b : Bool) → ArePairs env → (bytes_eq v w && eqb m n) ≡ b → (under (hidden (found env (leaf (int_name w n))) (leaf (int_name w n)) env) (with_number names w n z)).number_of v m ≡ cond b z ((under env names).number_of v m)
+itself_number env names w v n m z true are e =
+    let g = both (bytes_eq v w) (eqb m n) e in
+    let word : v ≡ w = bytes_are v w g.0 in
+    let number : m ≡ n = eqb-true m n g.1 in
+    ap (λ (v' : List ℕ). (under (hidden (found env (leaf (int_name w n))) (leaf (int_name w n)) env) (with_number names w n z)).number_of v' m) word
+    ∙ (ap (λ (m' : ℕ). (under (hidden (found env (leaf (int_name w n))) (leaf (int_name w n)) env) (with_number names w n z)).number_of w m') number
+    ∙ own env names w n z (found env (leaf (int_name w n))) refl)
+itself_number env names w v n m z false are e =
+    ap (λ (o : Option Term). (sense (with_number names w n z) (found_or o (leaf (int_name v m)))).number) (other env w v n m (found env (leaf (int_name w n))) e)
+    ∙ other_sense names w v n m z (found env (leaf (int_name v m))) e (found_fine env (leaf (int_name v m)) are)
+
+itself_datum : (env : List (Term × Term)) (names : Names) (w v : List ℕ) (n m : ℕ) (z : ℤ) → ArePairs env → (under (hidden (found env (leaf (int_name w n))) (leaf (int_name w n)) env) (with_number names w n z)).datum_of v m ≡ (under env names).datum_of v m
+itself_datum env names w v n m z are =
+    ap (λ (o : Option Term). (sense (with_number names w n z) (found_or o (leaf (val_name v m)))).datum) (found_val (hidden (found env (leaf (int_name w n))) (leaf (int_name w n)) env) v m (hidden_pairs (found env (leaf (int_name w n))) w n env are))
+    ∙ sym (ap (λ (o : Option Term). (sense names (found_or o (leaf (val_name v m)))).datum) (found_val env v m are))
 
 -- a name that stands for itself
 at_itself : (env : List (Term × Term)) (names : Names) (w : List ℕ) (n : ℕ) (z : ℤ) → ArePairs env → under (hidden (found env (leaf (int_name w n))) (leaf (int_name w n)) env) (with_number names w n z) ≡ with_number (under env names) w n z
-at_itself env names w n z are = named (under (hidden (found env (leaf (int_name w n))) (leaf (int_name w n)) env) (with_number names w n z)) (with_number (under env names) w n z) (fun_ext (λ v. fun_ext (λ m. data v m))) (fun_ext (λ v. fun_ext (λ m. here v m))) refl
-  where
-    data : (v : List ℕ) (m : ℕ) → (under (hidden (found env (leaf (int_name w n))) (leaf (int_name w n)) env) (with_number names w n z)).datum_of v m ≡ (with_number (under env names) w n z).datum_of v m
-    data v m =
-        ap (λ (o : Option Term). (sense (with_number names w n z) (found_or o (leaf (val_name v m)))).datum) (found_val (hidden (found env (leaf (int_name w n))) (leaf (int_name w n)) env) v m (hidden_pairs (found env (leaf (int_name w n))) w n env are))
-        ∙ ap (λ (o : Option Term). (sense names (found_or o (leaf (val_name v m)))).datum) (sym (found_val env v m are))
-    -- what the name itself stands for in the body
-    own : (o : Option Term) → found env (leaf (int_name w n)) ≡ o → IsFine (leaf (int_name w n)) o → (sense (with_number names w n z) (found_or (found (hidden o (leaf (int_name w n)) env) (leaf (int_name w n))) (leaf (int_name w n)))).number ≡ z
-    own None e f = ap (λ (o : Option Term). (sense (with_number names w n z) (found_or o (leaf (int_name w n)))).number) e ∙ mine
-    own (Some u) e f = own_some (same_term u (leaf (int_name w n))) refl
-      where
-        own_some : (b : Bool) → same_term u (leaf (int_name w n)) ≡ b → (sense (with_number names w n z) (found_or (found (cond b env ((leaf (int_name w n), leaf (int_name w n)) ∷ env)) (leaf (int_name w n))) (leaf (int_name w n)))).number ≡ z
-        own_some true g = ap (λ (o : Option Term). (sense (with_number names w n z) (found_or o (leaf (int_name w n)))).number) e ∙ (ap (λ (t : Term). (sense (with_number names w n z) t).number) (terms_are u (leaf (int_name w n)) g) ∙ mine)
-        own_some false g = ap (λ (b : Bool). (sense (with_number names w n z) (found_or (cond b (Some (leaf (int_name w n))) (found env (leaf (int_name w n)))) (leaf (int_name w n)))).number) (name_test w w n n ∙ rw (bytes_self w, eqb_self n) refl) ∙ mine
-    mine : (with_number names w n z).number_of w n ≡ z
-    mine = rw (bytes_self w, eqb_self n) refl
-    here : (v : List ℕ) (m : ℕ) → (under (hidden (found env (leaf (int_name w n))) (leaf (int_name w n)) env) (with_number names w n z)).number_of v m ≡ (with_number (under env names) w n z).number_of v m
-    here v m = either (bytes_eq v w && eqb m n) refl
-      where
-        -- the body under another name
-        other : (o : Option Term) → (bytes_eq v w && eqb m n) ≡ false → found (hidden o (leaf (int_name w n)) env) (leaf (int_name v m)) ≡ found env (leaf (int_name v m))
-        other None e = refl
-        other (Some u) e = or_not (same_term u (leaf (int_name w n)))
-          where
-            or_not : (b : Bool) → found (cond b env ((leaf (int_name w n), leaf (int_name w n)) ∷ env)) (leaf (int_name v m)) ≡ found env (leaf (int_name v m))
-            or_not true = refl
-            or_not false = ap (λ (b : Bool). cond b (Some (leaf (int_name w n))) (found env (leaf (int_name v m)))) (name_test w v n m ∙ e)
-        apart : (bytes_eq v w && eqb m n) ≡ false → (with_number names w n z).number_of v m ≡ names.number_of v m
-        apart e = ap (λ (b : Bool). cond b z (names.number_of v m)) e
-        same : (o : Option Term) → (bytes_eq v w && eqb m n) ≡ false → IsFine (leaf (int_name v m)) o → (sense (with_number names w n z) (found_or o (leaf (int_name v m)))).number ≡ (sense names (found_or o (leaf (int_name v m)))).number
-        same None e f = apart e
-        same (Some u) e (inl y) = ap (λ (t : Term). (sense (with_number names w n z) t).number) y.1 ∙ sym (ap (λ (t : Term). (sense names t).number) y.1)
-        same (Some u) e (inr g) = ap (λ (t : Term). (sense (with_number names w n z) t).number) g ∙ (apart e ∙ sym (ap (λ (t : Term). (sense names t).number) g))
-        either : (b : Bool) → (bytes_eq v w && eqb m n) ≡ b → (under (hidden (found env (leaf (int_name w n))) (leaf (int_name w n)) env) (with_number names w n z)).number_of v m ≡ cond b z (under env names).number_of v m
-        either true e =
-            let g = both (bytes_eq v w) (eqb m n) e in
-            let word : v ≡ w = bytes_are v w g.0 in
-            let number : m ≡ n = eqb-true m n g.1 in
-            subst (λ (v' : List ℕ). (under (hidden (found env (leaf (int_name w n))) (leaf (int_name w n)) env) (with_number names w n z)).number_of v' m ≡ z) (sym word) (subst (λ (m' : ℕ). (under (hidden (found env (leaf (int_name w n))) (leaf (int_name w n)) env) (with_number names w n z)).number_of w m' ≡ z) (sym number) (own (found env (leaf (int_name w n))) refl (found_fine env (leaf (int_name w n)) are)))
-        either false e =
-            ap (λ (o : Option Term). (sense (with_number names w n z) (found_or o (leaf (int_name v m)))).number) (other (found env (leaf (int_name w n))) e)
-            ∙ same (found env (leaf (int_name v m))) e (found_fine env (leaf (int_name v m)) are)
+at_itself env names w n z are =
+    named (under (hidden (found env (leaf (int_name w n))) (leaf (int_name w n)) env) (with_number names w n z)) (with_number (under env names) w n z)
+    (fun_ext (λ v. fun_ext (λ m. itself_datum env names w v n m z are)))
+    (fun_ext (λ v. fun_ext (λ m. itself_number env names w v n m z (bytes_eq v w && eqb m n) are refl)))
+    refl
 
 -- ---- ranges
 
@@ -208,29 +228,28 @@ binder_holds false w n names s u f = refl
 abbrev Means : (List (Term × Term) → Term) → Term → Type 0
 Means body f = (env : List (Term × Term)) → ArePairs env → (names : Names) → truth_of names (body env) ≡ truth_of (under env names) f
 
+-- the instances of a body mean what the quantifier means
+counted : (all : Bool) (names : Names) (s u : Term) (test : ℤ → Bool) (m : ℕ) (a b : ℤ) → as_number s ≡ Some a → as_number u ≡ Some b → span (b -ℤ a) ≡ Some m → range_test all a m test ≡ range_test all (number_of names s) (distance (number_of names u -ℤ number_of names s)) test
+counted all names s u test m a b p q r =
+    ap (λ (k : ℕ). range_test all a k test) (sym (span_counts (b -ℤ a) m r))
+    ∙ (ap (λ (y : ℤ). range_test all y (distance (b -ℤ y)) test) (sym (as_number_is names s a p))
+    ∙ ap (λ (y : ℤ). range_test all (number_of names s) (distance (y -ℤ number_of names s)) test) (sym (as_number_is names u b q)))
+
+instances_kept : (all : Bool) (w : List ℕ) (n : ℕ) (body : List (Term × Term) → Term) (f : Term) (env : List (Term × Term)) (names : Names) (s u : Term) (m : ℕ) (a b : Option ℤ) → as_number s ≡ a → as_number u ≡ b → span_of a b ≡ Some m → Means body f → ArePairs env → truth_of names (joined_by all (instances body (leaf (int_name w n)) env (number_or_zero a) m)) ≡ range_test all (number_of names s) (distance (number_of names u -ℤ number_of names s)) (λ z. truth_of (with_number (under env names) w n z) f)
+instances_kept all w n body f env names s u m None b p q r means are = absurd cc
+instances_kept all w n body f env names s u m (Some a) None p q r means are = absurd cc
+instances_kept all w n body f env names s u m (Some a) (Some b) p q r means are =
+    let inside : range_test all a m (λ y. truth_of names (body ((leaf (int_name w n), Number y) ∷ env))) ≡ range_test all a m (λ z. truth_of (with_number (under env names) w n z) f) = ap (range_test all a m) (fun_ext (λ y. means ((leaf (int_name w n), Number y) ∷ env) (record { word = w; number = n; name = refl; stands = inl (y, refl) }, are) names ∙ ap (λ (ns : Names). truth_of ns f) (at_number env names w n y))) in
+    joined_holds all names (instances body (leaf (int_name w n)) env a m)
+    ∙ (instances_hold all names body (leaf (int_name w n)) env a m ∙ (inside ∙ counted all names s u (λ z. truth_of (with_number (under env names) w n z) f) m a b p q r))
+
 quantified_kept : (all : Bool) (w : List ℕ) (n : ℕ) (body : List (Term × Term) → Term) (f : Term) (env : List (Term × Term)) (names : Names) (s u : Term) (o : Option ℕ) → span_of (as_number s) (as_number u) ≡ o → Means body f → ArePairs env → truth_of names (quantified all w n body env s u o) ≡ range_test all (number_of names s) (distance (number_of names u -ℤ number_of names s)) (λ z. truth_of (with_number (under env names) w n z) f)
 quantified_kept all w n body f env names s u None e means are =
     let henv = hidden (found env (leaf (int_name w n))) (leaf (int_name w n)) env in
     let below : ArePairs henv = hidden_pairs (found env (leaf (int_name w n))) w n env are in
     let same : (λ (z : ℤ). truth_of (with_number names w n z) (body henv)) ≡ (λ (z : ℤ). truth_of (with_number (under env names) w n z) f) = fun_ext (λ z. means henv below (with_number names w n z) ∙ ap (λ (ns : Names). truth_of ns f) (at_itself env names w n z are)) in
     binder_holds all w n names s u (body henv) ∙ ap (range_test all (number_of names s) (distance (number_of names u -ℤ number_of names s))) same
-quantified_kept all w n body f env names s u (Some m) e means are = whole (as_number s) (as_number u) refl refl e
-  where
-    x : Term
-    x = leaf (int_name w n)
-    inside : (a : ℤ) → range_test all a m (λ y. truth_of names (body ((leaf (int_name w n), Number y) ∷ env))) ≡ range_test all a m (λ z. truth_of (with_number (under env names) w n z) f)
-    inside a = ap (range_test all a m) (fun_ext (λ y. means ((leaf (int_name w n), Number y) ∷ env) (record { word = w; number = n; name = refl; stands = inl (y, refl) }, are) names ∙ ap (λ (ns : Names). truth_of ns f) (at_number env names w n y)))
-    counted : (a b : ℤ) → as_number s ≡ Some a → as_number u ≡ Some b → span (b -ℤ a) ≡ Some m → range_test all a m (λ z. truth_of (with_number (under env names) w n z) f) ≡ range_test all (number_of names s) (distance (number_of names u -ℤ number_of names s)) (λ z. truth_of (with_number (under env names) w n z) f)
-    counted a b p q r =
-        ap (λ (k : ℕ). range_test all a k (λ z. truth_of (with_number (under env names) w n z) f)) (sym (span_counts (b -ℤ a) m r))
-        ∙ (ap (λ (y : ℤ). range_test all y (distance (b -ℤ y)) (λ z. truth_of (with_number (under env names) w n z) f)) (sym (as_number_is names s a p))
-        ∙ ap (λ (y : ℤ). range_test all (number_of names s) (distance (y -ℤ number_of names s)) (λ z. truth_of (with_number (under env names) w n z) f)) (sym (as_number_is names u b q)))
-    whole : (a b : Option ℤ) → as_number s ≡ a → as_number u ≡ b → span_of a b ≡ Some m → truth_of names (joined_by all (instances body (leaf (int_name w n)) env (number_or_zero a) m)) ≡ range_test all (number_of names s) (distance (number_of names u -ℤ number_of names s)) (λ z. truth_of (with_number (under env names) w n z) f)
-    whole None b p q r = absurd cc
-    whole (Some a) None p q r = absurd cc
-    whole (Some a) (Some b) p q r =
-        joined_holds all names (instances body (leaf (int_name w n)) env a m)
-        ∙ (instances_hold all names body (leaf (int_name w n)) env a m ∙ (inside a ∙ counted a b p q r))
+quantified_kept all w n body f env names s u (Some m) e means are = instances_kept all w n body f env names s u m (as_number s) (as_number u) refl refl e means are
 
 -- ---- terms whose parts mean the same
 
@@ -329,27 +348,27 @@ alike term.add names others qs ps m e f = two_same (λ (a b : ℤ). a +ℤ b) _ 
 alike term.sub names others qs ps m e f = two_same (λ (a b : ℤ). a -ℤ b) _ _ _ _ (number_same names others (places term.sub) 0 qs ps refl f) (number_same names others (places term.sub) 1 qs ps refl f)
 alike term.neg names others qs ps m e f = ap neg_ℤ (number_same names others (places term.neg) 0 qs ps refl f)
 alike term.mul names others qs ps m e f = two_same (λ (a b : ℤ). a *ℤ b) _ _ _ _ (number_same names others (places term.mul) 0 qs ps refl f) (number_same names others (places term.mul) 1 qs ps refl f)
-alike term.div names others qs ps m e f = two_same data.quotient _ _ _ _ (number_same names others (places term.div) 0 qs ps refl f) (number_same names others (places term.div) 1 qs ps refl f)
-alike term.rem names others qs ps m e f = two_same data.remainder _ _ _ _ (number_same names others (places term.rem) 0 qs ps refl f) (number_same names others (places term.rem) 1 qs ps refl f)
-alike term.num names others qs ps m e f = ap data.number_in (datum_same names others (places term.num) 0 qs ps refl f)
-alike term.len names others qs ps m e f = ap data.length_in (datum_same names others (places term.len) 0 qs ps refl f)
+alike term.div names others qs ps m e f = two_same shapes.quotient _ _ _ _ (number_same names others (places term.div) 0 qs ps refl f) (number_same names others (places term.div) 1 qs ps refl f)
+alike term.rem names others qs ps m e f = two_same shapes.remainder _ _ _ _ (number_same names others (places term.rem) 0 qs ps refl f) (number_same names others (places term.rem) 1 qs ps refl f)
+alike term.num names others qs ps m e f = ap shapes.number_in (datum_same names others (places term.num) 0 qs ps refl f)
+alike term.len names others qs ps m e f = ap shapes.length_in (datum_same names others (places term.len) 0 qs ps refl f)
 alike (val_name w n) names others qs ps m e f = absurd cc
 alike term.null names others qs ps m e f = refl
 alike (term.truth b) names others qs ps m e f = refl
 alike term.int names others qs ps m e f = ap datum.Whole (number_same names others (places term.int) 0 qs ps refl f)
 alike term.bool names others qs ps m e f = ap datum.Truth (truth_same names others (places term.bool) 0 qs ps refl f)
-alike term.array names others qs ps m e f = ap (λ (ds : List Datum). datum.Array (data.items_with ds)) (data_same names others qs ps f)
-alike term.repeat names others qs ps m e f = two_same data.repeated _ _ _ _ (datum_same names others (places term.repeat) 0 qs ps refl f) (number_same names others (places term.repeat) 1 qs ps refl f)
+alike term.array names others qs ps m e f = ap (λ (ds : List Datum). datum.Array (shapes.items_with ds)) (data_same names others qs ps f)
+alike term.repeat names others qs ps m e f = two_same shapes.repeated _ _ _ _ (datum_same names others (places term.repeat) 0 qs ps refl f) (number_same names others (places term.repeat) 1 qs ps refl f)
 alike term.update names others qs ps m e f =
-    two_same (λ (d : Datum) (k : ℤ). data.with_element d k (datum_at (senses_of qs) 2 names)) _ _ _ _ (datum_same names others (places term.update) 0 qs ps refl f) (number_same names others (places term.update) 1 qs ps refl f)
-    ∙ ap (λ (d : Datum). data.with_element (datum_at (senses_of ps) 0 others) (number_at (senses_of ps) 1 others) d) (datum_same names others (places term.update) 2 qs ps refl f)
-alike term.get names others qs ps m e f = two_same data.element _ _ _ _ (datum_same names others (places term.get) 0 qs ps refl f) (number_same names others (places term.get) 1 qs ps refl f)
-alike (term.fields ns) names others qs ps m e f = ap (λ (ds : List Datum). datum.Record (data.fields_with ns ds)) (data_same names others qs ps f)
-alike (term.field name) names others qs ps m e f = ap (λ (d : Datum). data.field_in d name) (datum_same names others (places (term.field name)) 0 qs ps refl f)
-alike (term.set_field name) names others qs ps m e f = two_same (λ (a b : Datum). data.with_field a name b) _ _ _ _ (datum_same names others (places (term.set_field name)) 0 qs ps refl f) (datum_same names others (places (term.set_field name)) 1 qs ps refl f)
+    two_same (λ (d : Datum) (k : ℤ). shapes.with_element d k (datum_at (senses_of qs) 2 names)) _ _ _ _ (datum_same names others (places term.update) 0 qs ps refl f) (number_same names others (places term.update) 1 qs ps refl f)
+    ∙ ap (λ (d : Datum). shapes.with_element (datum_at (senses_of ps) 0 others) (number_at (senses_of ps) 1 others) d) (datum_same names others (places term.update) 2 qs ps refl f)
+alike term.get names others qs ps m e f = two_same shapes.element _ _ _ _ (datum_same names others (places term.get) 0 qs ps refl f) (number_same names others (places term.get) 1 qs ps refl f)
+alike (term.fields ns) names others qs ps m e f = ap (λ (ds : List Datum). datum.Record (shapes.fields_with ns ds)) (data_same names others qs ps f)
+alike (term.field name) names others qs ps m e f = ap (λ (d : Datum). shapes.field_in d name) (datum_same names others (places (term.field name)) 0 qs ps refl f)
+alike (term.set_field name) names others qs ps m e f = two_same (λ (a b : Datum). shapes.with_field a name b) _ _ _ _ (datum_same names others (places (term.set_field name)) 0 qs ps refl f) (datum_same names others (places (term.set_field name)) 1 qs ps refl f)
 alike term.at_most names others qs ps m e f = two_same meaning.at_most _ _ _ _ (number_same names others (places term.at_most) 0 qs ps refl f) (number_same names others (places term.at_most) 1 qs ps refl f)
-alike term.equal names others qs ps m e f = two_same data.same_datum _ _ _ _ (datum_same names others (places term.equal) 0 qs ps refl f) (datum_same names others (places term.equal) 1 qs ps refl f)
-alike (term.of_kind kind) names others qs ps m e f = ap (data.is_of_kind kind) (datum_same names others (places (term.of_kind kind)) 0 qs ps refl f)
+alike term.equal names others qs ps m e f = two_same shapes.same_datum _ _ _ _ (datum_same names others (places term.equal) 0 qs ps refl f) (datum_same names others (places term.equal) 1 qs ps refl f)
+alike (term.of_kind kind) names others qs ps m e f = ap (shapes.is_of_kind kind) (datum_same names others (places (term.of_kind kind)) 0 qs ps refl f)
 alike (term.in_type n) names others qs ps m e f = ap (λ (g : ℕ → Datum → Bool). g n (datum_at (senses_of qs) 0 names)) m ∙ ap (others.is_member n) (datum_same names others (places (term.in_type n)) 0 qs ps refl f)
 alike (every w n) names others qs ps m e f = absurd cc
 alike (exists w n) names others qs ps m e f = absurd cc

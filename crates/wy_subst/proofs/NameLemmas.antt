@@ -55,8 +55,10 @@ in_below n (m ∷ ns) e = either (eqb m n) refl e (λ f. in_below n ns f)
   where
     above : m ≤ top (m ∷ ns)
     above = grind (arith, nat_tests)
+
     rest_above : top ns ≤ top (m ∷ ns)
     rest_above = grind (arith, nat_tests)
+
     either : (b : Bool) → eqb m n ≡ b → (b || is_in n ns) ≡ true → (is_in n ns ≡ true → n ≤ top ns) → n ≤ top (m ∷ ns)
     either true same f g = let is : m ≡ n = eqb-true m n same in omega (arith, is, above)
     either false same f g = let le = g f in omega (arith, le, rest_above)
@@ -101,6 +103,7 @@ counts_both taken nodes f t in_f in_t all_f all_t counts = counts_same taken (no
     or_none : (b : Bool) → (b || false) ≡ b
     or_none true = refl
     or_none false = refl
+
     same : (n : ℕ) → is_in n (noted_numbers nodes in_f (noted_numbers nodes in_t [])) ≡ is_in n (numbers_in f ++ numbers_in t)
     same n =
         is_in-noted nodes n in_f (noted_numbers nodes in_t [])

@@ -6,6 +6,7 @@ use Rattle.wy_term.specs.Term.{Symbol, Term, Of, Parts, part, no_parts, leaf, in
 use Rattle.wy_term.specs.Nodes.{Plain, grown, tree_at, parts_at, HasPartsBelow}
 use Rattle.wy_term.specs.Folding.{found, hidden}
 use Rattle.wy_term.specs.ReplacingView.{seen_pairs, AreBelow, is_name}
+use Rattle.wy_subst.specs.declared.names.Taken.{Taken}
 use Rattle.wy_subst.specs.declared.scope.Scope.{Scope}
 use Rattle.wy_subst.specs.declared.walk.Open.{Open}
 use Rattle.wy_subst.specs.declared.walk.Walk.{Walk}
@@ -64,10 +65,13 @@ opened_is old new m o p k lt other tree low parts none outer inner = open_kept o
   where
     symbol : symbol_at old o.term ≡ p.symbol
     symbol = ap symbol_in tree
+
     nothing : All (λ j. j < length old) []
     nothing i d lt' = absurd (omega arith)
+
     few : length o.images.items ≡ 0
     few = ap (λ (ks : List ℕ). length ks) none
+
     here : IsOpen old m o
     here = record {
       term = lt;
@@ -127,3 +131,43 @@ waits_enlarged old new w v s u base first ask k f e waits = rw e.waiting (waits_
 
 pub remembers_enlarged : (old new : List Plain) (w v : Walk) (s : ℕ) (u : Term) → Kept old new → Fits old w → Enlarges new w v s → Remembers old w.scopes.items u (get same_place w.made) → Remembers new v.scopes.items u (get same_place v.made)
 remembers_enlarged old new w v s u k f e are = rw e.made (remembers_kept old new w.scopes.items v.scopes.items u (get same_place w.made) k e.grows f.scopes f.made are)
+
+-- ---- the first step
+
+pub begins_env : (nodes : List Plain) (scope : Scope) (taken : Taken) (w : Walk) → Begins scope taken w → env_in nodes w.scopes.items 0 ≡ seen_pairs (tree_at nodes) scope.pairs.items
+begins_env nodes scope taken w b = ap (λ (ss : List Scope). env_in nodes ss 0) b.scopes
+
+pub begins_fits : (nodes : List Plain) (scope : Scope) (taken : Taken) (w : Walk) → Begins scope taken w → AreBelow (length nodes) scope.pairs.items → Fits nodes w
+begins_fits nodes scope taken w b below = record {
+  scopes = subst (AreScopes (length nodes)) (sym b.scopes) (below, tt);
+  waiting = subst (λ (os : List Open). AreWaiting nodes (length w.scopes.items) os) (sym b.waiting) tt;
+  made = λ q s r e. let no : None ≡ Some r = sym (b.made (q, s)) ∙ e in absurd cc;
+}
+
+pub begins_scope : (scope : Scope) (taken : Taken) (w : Walk) → Begins scope taken w → 0 < length w.scopes.items
+begins_scope scope taken w b = omega (arith, ap (λ (ss : List Scope). length ss) b.scopes)
+
+pub begins_remembers : (nodes : List Plain) (scope : Scope) (taken : Taken) (w : Walk) (u : Term) → Begins scope taken w → Remembers nodes w.scopes.items u (get same_place w.made)
+begins_remembers nodes scope taken w u b q s r e = let no : None ≡ Some r = sym (b.made (q, s)) ∙ e in absurd cc
+
+pub begins_count : (scope : Scope) (taken : Taken) (w : Walk) (ns : List ℕ) → Begins scope taken w → length ns ≡ length ns + w.new_names
+begins_count scope taken w ns b = omega (arith, b.new_names)
+
+pub begins_counts : (scope : Scope) (taken : Taken) (w : Walk) (ns : List ℕ) → Begins scope taken w → Counts taken ns → Counts w.taken ns
+begins_counts scope taken w ns b counts = subst (λ (t : Taken). Counts t ns) (sym b.taken) counts
+
+-- what the first term that is gone into leads to
+pub begins_goes : (old new : List Plain) (scope : Scope) (taken : Taken) (w v : Walk) (s : ℕ) (u : Term) (base : ℕ) (o : Open) (ask : Ask) → Begins scope taken w → Kept old new → Fits old w → Enlarges new w v s → Opens new v u base o ask → GoesOn new v u base ask o
+begins_goes old new scope taken w v s u base o ask b k f e opens =
+    let none : Waits old w.scopes.items u base w.waiting.items ask ask = subst (λ (os : List Open). Waits old w.scopes.items u base os ask ask) (sym b.waiting) refl in
+    record {
+      ask = ask;
+      now = opens.now;
+      stands = record {
+        counts = opens.counts;
+        count = opens.count;
+        waits = waits_enlarged old new w v s u base ask ask k f e none;
+        remembers = remembers_enlarged old new w v s u k f e (begins_remembers old scope taken w u b);
+      };
+      answers = opens.answers;
+    }

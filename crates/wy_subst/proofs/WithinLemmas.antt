@@ -31,7 +31,6 @@ same_bools false false f g = refl
 
 -- ---- lists
 
-
 any_append : (nodes : List Plain) (test : Symbol → Bool) (ks js : List ℕ) → any_at nodes test (ks ++ js) ≡ (any_at nodes test ks || any_at nodes test js)
 any_append nodes test [] js = refl
 any_append nodes test (k ∷ ks) js = ap (λ (b : Bool). test (symbol_at nodes k) || b) (any_append nodes test ks js) ∙ assoc (test (symbol_at nodes k)) (any_at nodes test ks) (any_at nodes test js)
@@ -96,8 +95,10 @@ one_listed nodes root t n ks all more noted after todo lt inside tree parts read
   where
     longer : (test : Symbol → Bool) → any_at nodes test all ≡ true → any_at nodes test more ≡ true
     longer test e = ap (any_at nodes test) pushed ∙ (any_append nodes test all (t ∷ []) ∙ or_left (any_at nodes test all) (any_at nodes test (t ∷ [])) e)
+
     here : (test : Symbol → Bool) → test (symbol_at nodes t) ≡ true → any_at nodes test more ≡ true
     here test e = ap (any_at nodes test) pushed ∙ (any_append nodes test all (t ∷ []) ∙ or_true (any_at nodes test all) (any_at nodes test (t ∷ [])) (or_left (test (symbol_at nodes t)) false e))
+
     either : (q : ℕ) (b : Bool) → eqb t q ≡ b → cond b true (noted q) ≡ true → (test : Symbol → Bool) → any_symbol test (tree_at nodes q) ≡ true → any_at nodes test more ≡ true
     either q true same e test f =
         let g : any_symbol test (tree_at nodes t) ≡ true = ap (λ (k : ℕ). any_symbol test (tree_at nodes k)) (eqb-true t q same) ∙ f in

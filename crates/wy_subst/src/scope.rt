@@ -41,11 +41,7 @@ pub fn is_hidden(terms: &Terms, pairs: &[(u32, u32)], name: u32) -> bool
 }
 
 /// The pairs, and before them another.
-pub fn with_pair(
-    alloc: Global,
-    pair: (u32, u32),
-    pairs: &[(u32, u32)],
-) -> Result<Scope, NoMemory>
+pub fn with_pair(alloc: Global, pair: (u32, u32), pairs: &[(u32, u32)]) -> Result<Scope, NoMemory>
     ensures value { IfOk result (λ scope. scope.pairs.items ≡ pair ∷ pairs.now) }
 {
     let mut all = Vec::new(alloc);

@@ -79,12 +79,7 @@ fn enter(
 }
 
 // The scope in which a name stands for itself.
-fn hide(
-    terms: &Terms,
-    scopes: &mut Vec<Scope>,
-    scope: usize,
-    name: u32,
-) -> Result<usize, NoMemory>
+fn hide(terms: &Terms, scopes: &mut Vec<Scope>, scope: usize, name: u32) -> Result<usize, NoMemory>
     requires scope { scope < length scopes.old.items }
     requires name { name < length terms.now }
     requires scopes { AreScopes (length terms.now) scopes.old.items }
@@ -317,7 +312,12 @@ fn closed(terms: &mut Terms, _scopes: &[Scope], current: &Open) -> Result<u32, N
     ensures value { (env : List (Term × Term)) → IfOk result (λ r. tree_at terms.new r ≡ finished (symbol_at terms.old current.now.term) env current.now.number (parts_at (tree_at terms.old) current.now.images.items)) }
 {
     let alloc = terms.allocator();
-    let node = with_parts(alloc, terms.node(current.term), current.number, &current.images)?;
+    let node = with_parts(
+        alloc,
+        terms.node(current.term),
+        current.number,
+        &current.images,
+    )?;
     terms.intern(node)
 }
 
@@ -430,12 +430,7 @@ fn step(
 }
 
 // Goes on until the whole is made.
-fn run(
-    terms: &mut Terms,
-    avoided: &IntNames,
-    walk: &mut Walk,
-    first: Open,
-) -> Result<u32, NoMemory>
+fn run(terms: &mut Terms, avoided: &IntNames, walk: &mut Walk, first: Open) -> Result<u32, NoMemory>
     requires fits { Fits terms.old walk.old }
     requires current { IsOpen terms.old (length walk.old.scopes.items) first }
     ensures kept { Kept terms.old terms.new }

@@ -8,12 +8,7 @@ use wy_subst::subst;
 use wy_term::{NoMemory, Terms};
 
 // The text of the formula that comes of a text where a term is put for a name.
-fn put(
-    alloc: Global,
-    formula: &str,
-    name: &str,
-    term: &str,
-) -> Result<Option<Vec<u8>>, NoMemory> {
+fn put(alloc: Global, formula: &str, name: &str, term: &str) -> Result<Option<Vec<u8>>, NoMemory> {
     let mut terms = Terms::new(alloc);
     let Some(f) = read_formula(&mut terms, formula.as_bytes())? else {
         return Ok(None);
@@ -28,11 +23,7 @@ fn put(
     Ok(Some(show_formula(&terms, made)?))
 }
 
-fn check(
-    rt: &impl Abort,
-    alloc: Global,
-    rows: &[(&str, &str, &str, &str)],
-) -> Result<(), Fail> {
+fn check(rt: &impl Abort, alloc: Global, rows: &[(&str, &str, &str, &str)]) -> Result<(), Fail> {
     for (formula, name, term, want) in rows {
         match put(alloc, formula, name, term)? {
             Some(text) => assert_eq!(rt; text.as_slice(), want.as_bytes(), "{formula}"),

@@ -31,8 +31,8 @@ returns-clause-leads c = λ u base first g.
     let kept = c.in_ok-image.ensures.kept in
     let image = c.in_ok-image.image in
     let value : answer u g.ask ≡ put_of (tree_at new image) g.now =
-        g.answers.value
-        ∙ (outcome_whole old ss u current g.now c.requires.full ∙ ap (λ (t : Term). put_of t g.now) (sym (c.in_ok-image.ensures.value (env_in old ss current.outer)))) in
+    g.answers.value
+    ∙ (outcome_whole old ss u current g.now c.requires.full ∙ ap (λ (t : Term). put_of t g.now) (sym (c.in_ok-image.ensures.value (env_in old ss current.outer)))) in
     let waits = waits_kept old new ss ss u base w.waiting.items first g.ask kept (grows_self ss) c.requires.fits.scopes c.requires.fits.waiting g.stands.waits in
     let had = remembers_kept old new ss ss u (get same_place w.made) kept (grows_self ss) c.requires.fits.scopes c.requires.fits.made g.stands.remembers in
     let remembers = c.in_ok-note.ensures.remembers u base g.ask g.now value (g.answers.term ∙ sym (kept.trees current.term c.requires.current.term)) (g.answers.env ∙ sym (env_kept old new ss ss current.outer kept c.requires.fits.scopes (grows_self ss) c.requires.current.outer)) g.answers.count g.stands.count had in

@@ -17,6 +17,6 @@ returns-clause-remembers c = λ u base ask now value is_term is_env count long a
     let ss = c.args.walk.now.scopes.items in
     let same : length now ≡ length ask.taken = omega (arith, count, long) in
     let still : IsStill nodes u (tree_at nodes c.args.current.now.term) (env_in nodes ss c.args.current.now.outer) c.args.image = λ ms.
-        ap (λ (f : Term). put u f (env_in nodes ss c.args.current.now.outer) ms) (sym is_term)
-        ∙ (ap (λ (env : List (Term × Term)). put u ask.term env ms) (sym is_env) ∙ still_from u ask.term ask.env ask.taken now (tree_at nodes c.args.image) value same ms) in
+    ap (λ (f : Term). put u f (env_in nodes ss c.args.current.now.outer) ms) (sym is_term)
+    ∙ (ap (λ (env : List (Term × Term)). put u ask.term env ms) (sym is_env) ∙ still_from u ask.term ask.env ask.taken now (tree_at nodes c.args.image) value same ms) in
     remembers_more nodes ss u c.args.current.now.term c.args.current.now.outer c.args.image (get same_place c.args.walk.now.made) (get same_place c.insert.new.self) still c.in_ok-insert.ensures.updates.0 are
