@@ -3,7 +3,7 @@ use Rattle.std.proofs.Common.{◌≡◌, ◌<◌, ◌≤◌, ◌+◌, ◌-◌, �
 use Rattle.std.proofs.lemmas.Bool.{eqb-true}
 use Rattle.std.proofs.lemmas.Bool.Decides.{nat_tests}
 use Rattle.std.proofs.lemmas.List.{take_more, append-nil}
-use Rattle.std.specs.Prelude.{bytes_eq, option_to_list, nat_lt, OnOk}
+use Rattle.std.specs.Prelude.{bytes_eq, option_to_list, nat_lt, OnOk, ◌^◌}
 use Rattle.wy_term.specs.Term.{Symbol, Term, Of, Parts, part, no_parts}
 use Rattle.wy_term.specs.Nodes.{Plain, tree_at}
 use Rattle.wy_subst.specs.declared.names.Taken.{Taken}
@@ -155,3 +155,19 @@ free_here ns (suc k) n e = ap (λ (b : Bool). cond b (first_free k (n + 1) ns) n
 
 pub free_first : (ns : List ℕ) → first_free (top ns + 1 - 0) 0 ns ≡ first_free (top ns + 1) 0 ns
 free_first ns = let e : top ns + 1 - 0 ≡ top ns + 1 = omega arith in ap (λ (k : ℕ). first_free k 0 ns) e
+
+first_free-new : (k n : ℕ) (ns : List ℕ) → top ns < n + k → is_in (first_free k n ns) ns ≡ false
+first_free-new zero n ns lt = above_free n ns (omega arith)
+first_free-new (suc k) n ns lt = either (is_in n ns) refl (first_free-new k (n + 1) ns (omega arith))
+  where
+    either : (b : Bool) → is_in n ns ≡ b → is_in (first_free k (n + 1) ns) ns ≡ false → is_in (cond b (first_free k (n + 1) ns) n) ns ≡ false
+    either true e rest = rest
+    either false e rest = e
+
+-- a new number is none of those that are taken
+pub new_number-new : (ns : List ℕ) → is_in (new_number ns) ns ≡ false
+new_number-new ns = either (ltb (top ns + 1) (2 ^ 127))
+  where
+    either : (b : Bool) → is_in (cond b (top ns + 1) (first_free (top ns + 1) 0 ns)) ns ≡ false
+    either true = above_free (top ns + 1) ns (omega arith)
+    either false = first_free-new (top ns + 1) 0 ns (omega arith)

@@ -5,6 +5,7 @@
 //! which term that is.
 #![tactic(auto)]
 
+mod law;
 mod names;
 mod parts;
 mod scope;
@@ -12,4 +13,5 @@ mod substitution;
 mod walk;
 mod within;
 
+pub use law::new_numbers_are_new;
 pub use substitution::subst;
