@@ -200,11 +200,11 @@ rewritten_sorted t f = (f, refl)
 -- ---- what names stand for
 
 -- each name stands for a term of its sort
-abbrev ArePairs : List (Term × Term) → Type 0
+abbrev pub ArePairs : List (Term × Term) → Type 0
 ArePairs [] = Unit {0}
 ArePairs (p ∷ ps) = HasSort p.1 (sort_in p.0) × ArePairs ps
 
-found_sorted : (env : List (Term × Term)) (x : Term) → IsSorted x → ArePairs env → HasSort (found_or (found env x) x) (sort_in x)
+pub found_sorted : (env : List (Term × Term)) (x : Term) → IsSorted x → ArePairs env → HasSort (found_or (found env x) x) (sort_in x)
 found_sorted [] x f are = (f, refl)
 found_sorted (p ∷ ps) x f are = either (same_term p.0 x) refl (found_sorted ps x f are.1)
   where
@@ -302,7 +302,7 @@ folded_sorted t h = rewritten_sorted t h
 
 -- ---- a term put for a name
 
-entered_sorted : (t : Term) (o : Option (List ℕ × ℕ)) (env : List (Term × Term)) (ns : List ℕ) → ArePairs env → ArePairs (entered_by t o env ns).inner
+pub entered_sorted : (t : Term) (o : Option (List ℕ × ℕ)) (env : List (Term × Term)) (ns : List ℕ) → ArePairs env → ArePairs (entered_by t o env ns).inner
 entered_sorted t None env ns are = are
 entered_sorted t (Some name) env ns are = either (stands_in name.0 name.1 t)
   where
@@ -320,7 +320,7 @@ finished_sorted (every w m) env n ps are sorted = folded_sorted (Of (every w n) 
 finished_sorted (exists w m) env n ps are sorted = folded_sorted (Of (exists w n) ps) sorted
 finished_sorted symbol env n ps are sorted = folded_sorted (Of symbol ps) sorted
 
-env_at_sorted : (k : ℕ) (env inner : List (Term × Term)) → ArePairs env → ArePairs inner → ArePairs (env_at k env inner)
+pub env_at_sorted : (k : ℕ) (env inner : List (Term × Term)) → ArePairs env → ArePairs inner → ArePairs (env_at k env inner)
 env_at_sorted k env inner are also = either (nat_lt k 2)
   where
     either : (b : Bool) → ArePairs (cond b env inner)
@@ -328,12 +328,12 @@ env_at_sorted k env inner are also = either (nat_lt k 2)
     either false = also
 
 mutual
-  put_sorted : (t f : Term) (env : List (Term × Term)) (ns : List ℕ) → IsSorted f → ArePairs env → HasSort (put t f env ns).term (sort_in f)
+  pub put_sorted : (t f : Term) (env : List (Term × Term)) (ns : List ℕ) → IsSorted f → ArePairs env → HasSort (put t f env ns).term (sort_in f)
   put_sorted t (Of symbol ps) env ns sorted are =
       let e = entered t symbol env ns in
       finished_sorted symbol env e.number (put_parts t ps 0 env e.inner e.taken).parts are (put_parts_sorted t ps 0 env e.inner e.taken (places symbol) sorted are (entered_sorted t (binder_of symbol) env ns are))
 
-  put_parts_sorted : (t : Term) (ps : Parts) (k : ℕ) (env inner : List (Term × Term)) (ns : List ℕ) (wanted : Places) → AreSorted ps wanted → ArePairs env → ArePairs inner → AreSorted (put_parts t ps k env inner ns).parts wanted
+  pub put_parts_sorted : (t : Term) (ps : Parts) (k : ℕ) (env inner : List (Term × Term)) (ns : List ℕ) (wanted : Places) → AreSorted ps wanted → ArePairs env → ArePairs inner → AreSorted (put_parts t ps k env inner ns).parts wanted
   put_parts_sorted t no_parts k env inner ns wanted sorted are also = sorted
   put_parts_sorted t (part f ps) k env inner ns wanted sorted are also =
       let first = put t f (env_at k env inner) ns in

@@ -18,16 +18,16 @@ use Rattle.wy_term.proofs.SameLemmas.{terms_are, bytes_are, bytes_self, eqb_self
 use Rattle.wy_term.proofs.FoldingLemmas.{folding_keeps_meaning}
 use Rattle.wy_sorted.specs.Sorted.{Places, these, each, places, MayEnd, MayCome, behind, IsSorted, AreSorted}
 
-abbrev truth_of : Names → Term → Bool
+abbrev pub truth_of : Names → Term → Bool
 truth_of names t = (sense names t).truth
 
-abbrev number_of : Names → Term → ℤ
+abbrev pub number_of : Names → Term → ℤ
 number_of names t = (sense names t).number
 
 -- ---- names
 
 -- what names stand for where some of them stand for terms
-abbrev under : List (Term × Term) → Names → Names
+abbrev pub under : List (Term × Term) → Names → Names
 under env names = record {
   datum_of = λ w n. (sense names (found_or (found env (leaf (val_name w n))) (leaf (val_name w n)))).datum;
   number_of = λ w n. (sense names (found_or (found env (leaf (int_name w n))) (leaf (int_name w n)))).number;
@@ -77,13 +77,13 @@ hidden_pairs (Some u) w n env are = either (same_term u (leaf (int_name w n)))
     either true = are
     either false = (record { word = w; number = n; name = refl; stands = inr refl }, are)
 
-same_bools : (a b : Bool) → (a ≡ true → b ≡ true) → (b ≡ true → a ≡ true) → a ≡ b
+pub same_bools : (a b : Bool) → (a ≡ true → b ≡ true) → (b ≡ true → a ≡ true) → a ≡ b
 same_bools true b f g = sym (f refl)
 same_bools false true f g = g refl
 same_bools false false f g = refl
 
 -- both tests of two names answer alike
-name_test : (w v : List ℕ) (n m : ℕ) → same_term (leaf (int_name w n)) (leaf (int_name v m)) ≡ (bytes_eq v w && eqb m n)
+pub name_test : (w v : List ℕ) (n m : ℕ) → same_term (leaf (int_name w n)) (leaf (int_name v m)) ≡ (bytes_eq v w && eqb m n)
 name_test w v n m = same_bools (same_term (leaf (int_name w n)) (leaf (int_name v m))) (bytes_eq v w && eqb m n) there back
   where
     there : ((bytes_eq w v && eqb n m) && true) ≡ true → (bytes_eq v w && eqb m n) ≡ true
@@ -97,7 +97,7 @@ name_test w v n m = same_bools (same_term (leaf (int_name w n)) (leaf (int_name 
         let g = both (bytes_eq v w) (eqb m n) e in
         rw (bytes_are v w g.0, eqb-true m n g.1, bytes_self w, eqb_self n) refl
 
-named : (names others : Names) → names.datum_of ≡ others.datum_of → names.number_of ≡ others.number_of → names.is_member ≡ others.is_member → names ≡ others
+pub named : (names others : Names) → names.datum_of ≡ others.datum_of → names.number_of ≡ others.number_of → names.is_member ≡ others.is_member → names ≡ others
 named names others d e f =
     ap (λ (g : List ℕ → ℕ → Datum). let r : Names = record { datum_of = g; number_of = names.number_of; is_member = names.is_member } in r) d
     ∙ (ap (λ (g : List ℕ → ℕ → ℤ). let r : Names = record { datum_of = others.datum_of; number_of = g; is_member = names.is_member } in r) e
@@ -121,7 +121,7 @@ at_number env names w n z =
 own_number : (names : Names) (w : List ℕ) (n : ℕ) (z : ℤ) → (with_number names w n z).number_of w n ≡ z
 own_number names w n z = rw (bytes_self w, eqb_self n) refl
 
-own_test : (w : List ℕ) (n : ℕ) → same_term (leaf (int_name w n)) (leaf (int_name w n)) ≡ true
+pub own_test : (w : List ℕ) (n : ℕ) → same_term (leaf (int_name w n)) (leaf (int_name w n)) ≡ true
 own_test w n = name_test w w n n ∙ rw (bytes_self w, eqb_self n) refl
 
 -- what it stands for in a body in which it stands for itself
@@ -141,7 +141,7 @@ other_hidden : (env : List (Term × Term)) (w v : List ℕ) (n m : ℕ) (b : Boo
 other_hidden env w v n m true e = refl
 other_hidden env w v n m false e = ap (λ (b : Bool). cond b (Some (leaf (int_name w n))) (found env (leaf (int_name v m)))) (name_test w v n m ∙ e)
 
-other : (env : List (Term × Term)) (w v : List ℕ) (n m : ℕ) (o : Option Term) → (bytes_eq v w && eqb m n) ≡ false → found (hidden o (leaf (int_name w n)) env) (leaf (int_name v m)) ≡ found env (leaf (int_name v m))
+pub other : (env : List (Term × Term)) (w v : List ℕ) (n m : ℕ) (o : Option Term) → (bytes_eq v w && eqb m n) ≡ false → found (hidden o (leaf (int_name w n)) env) (leaf (int_name v m)) ≡ found env (leaf (int_name v m))
 other env w v n m None e = refl
 other env w v n m (Some u) e = other_hidden env w v n m (same_term u (leaf (int_name w n))) e
 
@@ -200,11 +200,11 @@ span_counts (negsuc n) m e = either (nat_le n 255) e
     either false e = absurd cc
 
 -- the test holds of each, or of one, of so many numbers
-abbrev range_test : Bool → ℤ → ℕ → (ℤ → Bool) → Bool
+abbrev pub range_test : Bool → ℤ → ℕ → (ℤ → Bool) → Bool
 range_test true z n test = each_from z n test
 range_test false z n test = any_from z n test
 
-abbrev range_hold : Bool → List (Names → Sense) → Names → Bool
+abbrev pub range_hold : Bool → List (Names → Sense) → Names → Bool
 range_hold true fs names = all_hold fs names
 range_hold false fs names = any_holds fs names
 
@@ -218,7 +218,7 @@ joined_holds : (all : Bool) (names : Names) (fs : Parts) → truth_of names (joi
 joined_holds true names fs = folding_keeps_meaning (Of term.all_of fs) names tt
 joined_holds false names fs = folding_keeps_meaning (Of term.any_of fs) names tt
 
-binder_holds : (all : Bool) (w : List ℕ) (n : ℕ) (names : Names) (s u f : Term) → truth_of names (Of (binder all w n) (part s (part u (part f no_parts)))) ≡ range_test all (number_of names s) (distance (number_of names u -ℤ number_of names s)) (λ z. truth_of (with_number names w n z) f)
+pub binder_holds : (all : Bool) (w : List ℕ) (n : ℕ) (names : Names) (s u f : Term) → truth_of names (Of (binder all w n) (part s (part u (part f no_parts)))) ≡ range_test all (number_of names s) (distance (number_of names u -ℤ number_of names s)) (λ z. truth_of (with_number names w n z) f)
 binder_holds true w n names s u f = refl
 binder_holds false w n names s u f = refl
 
@@ -253,17 +253,17 @@ quantified_kept all w n body f env names s u (Some m) e means are = instances_ke
 
 -- ---- terms whose parts mean the same
 
-abbrev first : Places → Option Sort
+abbrev pub first : Places → Option Sort
 first (these []) = None
 first (these (s ∷ ss)) = Some s
 first (each s) = Some s
 
-abbrev AgreeAt : Option Sort → Sense → Sense → Type 0
+abbrev pub AgreeAt : Option Sort → Sense → Sense → Type 0
 AgreeAt None a b = Unit {0}
 AgreeAt (Some s) a b = Agree s a b
 
 -- each part agrees as far as its place asks
-abbrev AgreeAll : Names → Names → Places → Parts → Parts → Type 0
+abbrev pub AgreeAll : Names → Names → Places → Parts → Parts → Type 0
 AgreeAll names others wanted no_parts no_parts = Unit {0}
 AgreeAll names others wanted no_parts (part p ps) = ⊥
 AgreeAll names others wanted (part q qs) no_parts = ⊥
@@ -330,7 +330,7 @@ any_same names others no_parts (part p ps) f = absurd f
 any_same names others (part q qs) no_parts f = absurd f
 any_same names others (part q qs) (part p ps) f = ap (λ (b : Bool). b || any_holds (senses_of qs) names) f.0 ∙ ap (λ (b : Bool). truth_of others p || b) (any_same names others qs ps f.1)
 
-two_same : {A B C : Type 0} (f : A → B → C) (a c : A) (b d : B) → a ≡ c → b ≡ d → f a b ≡ f c d
+pub two_same : {A B C : Type 0} (f : A → B → C) (a c : A) (b d : B) → a ≡ c → b ≡ d → f a b ≡ f c d
 two_same f a c b d p q = ap (λ x. f x b) p ∙ ap (f c) q
 
 abbrev binds_or_names : Symbol → Bool
@@ -341,7 +341,7 @@ binds_or_names (exists w n) = true
 binds_or_names symbol = false
 
 -- terms of one symbol, whose parts mean the same, mean the same
-alike : (symbol : Symbol) (names others : Names) (qs ps : Parts) → names.is_member ≡ others.is_member → binds_or_names symbol ≡ false → AgreeAll names others (places symbol) qs ps → Agree (sort_of symbol) (sense names (Of symbol qs)) (sense others (Of symbol ps))
+pub alike : (symbol : Symbol) (names others : Names) (qs ps : Parts) → names.is_member ≡ others.is_member → binds_or_names symbol ≡ false → AgreeAll names others (places symbol) qs ps → Agree (sort_of symbol) (sense names (Of symbol qs)) (sense others (Of symbol ps))
 alike (term.number z) names others qs ps m e f = refl
 alike (int_name w n) names others qs ps m e f = absurd cc
 alike term.add names others qs ps m e f = two_same (λ (a b : ℤ). a +ℤ b) _ _ _ _ (number_same names others (places term.add) 0 qs ps refl f) (number_same names others (places term.add) 1 qs ps refl f)
@@ -378,7 +378,7 @@ alike term.any_of names others qs ps m e f = any_same names others qs ps f
 
 -- ---- terms where names stand for others
 
-agree_on : (s : Sort) (a b c : Sense) → Agree s a b → Agree s b c → Agree s a c
+pub agree_on : (s : Sort) (a b c : Sense) → Agree s a b → Agree s b c → Agree s a c
 agree_on int_sort a b c p q = p ∙ q
 agree_on val_sort a b c p q = p ∙ q
 agree_on formula_sort a b c p q = p ∙ q
@@ -391,7 +391,7 @@ abbrev AreKept : Parts → Type 0
 AreKept no_parts = Unit {0}
 AreKept (part t ps) = IsKept t × AreKept ps
 
-come_agree : (wanted : Places) (s : Sort) (a b : Sense) → MayCome wanted s → Agree s a b → AgreeAt (first wanted) a b
+pub come_agree : (wanted : Places) (s : Sort) (a b : Sense) → MayCome wanted s → Agree s a b → AgreeAt (first wanted) a b
 come_agree (these []) s a b e f = absurd e
 come_agree (these (r ∷ rs)) s a b e f = subst (λ (x : Sort). Agree x a b) e f
 come_agree (each r) s a b e f = subst (λ (x : Sort). Agree x a b) e f

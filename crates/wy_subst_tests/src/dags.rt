@@ -1,16 +1,25 @@
 //! Terms whose trees are far larger than what they are made of.
+ghost use Rattle.std.specs.Prelude.{◌<◌, ◌≤◌, length, IfOk};
+
 use std::alloc::Global;
 use wy_data::Name;
 use wy_subst::subst;
 use wy_term::{NoMemory, Node, Quantifier, Terms};
 
-fn int_name(terms: &mut Terms, number: u128) -> Result<u32, NoMemory> {
+fn int_name(terms: &mut Terms, number: u128) -> Result<u32, NoMemory>
+    ensures within { IfOk result (λ r. r < length terms.new) }
+    ensures grows { length terms.old ≤ length terms.new }
+{
     let word = Name::new(String::from_str(terms.allocator(), "k")?);
     terms.intern(Node::IntName(word, number))
 }
 
 // The sum of a term and itself, and of that and itself, and so on, compared with 0.
-fn doubled(terms: &mut Terms, t: u32) -> Result<u32, NoMemory> {
+fn doubled(terms: &mut Terms, t: u32) -> Result<u32, NoMemory>
+    requires { t < length terms.old }
+    ensures within { IfOk result (λ r. r < length terms.new) }
+    ensures grows { length terms.old ≤ length terms.new }
+{
     let mut sum = t;
     for _turn in 0..200 {
         sum = terms.intern(Node::Add(sum, sum))?;
@@ -20,7 +29,12 @@ fn doubled(terms: &mut Terms, t: u32) -> Result<u32, NoMemory> {
 }
 
 // A formula for each `k#1` from 0 on and below another name.
-fn for_each(terms: &mut Terms, below: u32, body: u32) -> Result<u32, NoMemory> {
+fn for_each(terms: &mut Terms, below: u32, body: u32) -> Result<u32, NoMemory>
+    requires below { below < length terms.old }
+    requires body { body < length terms.old }
+    ensures within { IfOk result (λ r. r < length terms.new) }
+    ensures grows { length terms.old ≤ length terms.new }
+{
     let word = Name::new(String::from_str(terms.allocator(), "k")?);
     let from = terms.intern(Node::Number(0))?;
     terms.intern(Node::All(Quantifier {
@@ -32,16 +46,28 @@ fn for_each(terms: &mut Terms, below: u32, body: u32) -> Result<u32, NoMemory> {
     }))
 }
 
+// That comparison, or the formula that it holds for each `k#1`.
+fn formula(terms: &mut Terms, x: u32, below: u32, bound: bool) -> Result<u32, NoMemory>
+    requires name { x < length terms.old }
+    requires below { below < length terms.old }
+    ensures within { IfOk result (λ r. r < length terms.new) }
+    ensures grows { length terms.old ≤ length terms.new }
+{
+    let f = doubled(terms, x)?;
+    if bound {
+        for_each(terms, below, f)
+    } else {
+        Ok(f)
+    }
+}
+
 // How many terms are added where `k#1` is put for `k#0`.
 fn added(alloc: Global, bound: bool) -> Result<usize, NoMemory> {
     let mut terms = Terms::new(alloc);
     let x = int_name(&mut terms, 0)?;
     let t = int_name(&mut terms, 1)?;
     let below = int_name(&mut terms, 5)?;
-    let mut f = doubled(&mut terms, x)?;
-    if bound {
-        f = for_each(&mut terms, below, f)?;
-    }
+    let f = formula(&mut terms, x, below, bound)?;
     let before = terms.len();
     subst(&mut terms, f, x, t)?;
     Ok(terms.len() - before)
