@@ -1,0 +1,1 @@
+-- this crate has no definitions of its own

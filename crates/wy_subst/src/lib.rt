@@ -1,0 +1,17 @@
+//! A term put for a name.
+//!
+//! `substitution` has the one call. It lists what the two terms are made of (`within`), notes the names that stand in them
+//! (`names`), and then makes the term anew (`walk`) from its leaves up, each part by `parts`. `specs/Substitution.antt` says
+//! which term that is.
+#![tactic(auto)]
+
+mod law;
+mod names;
+mod parts;
+mod scope;
+mod substitution;
+mod walk;
+mod within;
+
+pub use law::new_numbers_are_new;
+pub use substitution::subst;
