@@ -1,5 +1,6 @@
 -- The arguments of a line, one after the other.
-use Rattle.std.proofs.Common.{◌≡◌, ℕ, ◌<◌, ◌≤◌, List, [], ◌∷◌, ◌++◌, Bool, All, length, map, Option, Some, None, refl, sym, ap, ◌∙◌, subst, arith, append_assoc}
+use Rattle.std.proofs.Common.{◌≡◌, ℕ, ◌<◌, ◌≤◌, List, [], ◌∷◌, ◌++◌, Bool, All, length, map, Option, Some, None, MatchOption, refl, sym, ap, ◌∙◌, subst, arith, append_assoc}
+use denote.Ref.{Bor}
 use Rattle.std.proofs.lemmas.List.{append-nil}
 use Rattle.std.proofs.lemmas.List.Elements.{All-head, All-tail}
 use Rattle.wy_term.specs.Term.{Term}
@@ -68,3 +69,24 @@ map_kept new old n (k ∷ ks) below kept =
     let first : new k ≡ old k = kept k (All-head (λ j. j < n) k ks below) in
     let others : map new ks ≡ map old ks = map_kept new old n ks (All-tail (λ j. j < n) k ks below) kept in
     cc
+
+map_push : {X : Type 0} (f : ℕ → X) (ks : List ℕ) (t : ℕ) → map f (ks ++ t ∷ []) ≡ map f ks ++ f t ∷ []
+map_push f [] t = refl
+map_push f (k ∷ ks) t = ap (λ ys. f k ∷ ys) (map_push f ks t)
+
+-- the terms of the numbers, with one more, where the list of terms has grown
+pub pushed : {X : Type 0} (new old : ℕ → X) (n : ℕ) (all more : List ℕ) (t : ℕ) → more ≡ all ++ t ∷ [] → All (λ k. k < n) all → ((k : ℕ) → k < n → new k ≡ old k) → map new more ≡ map old all ++ new t ∷ []
+pushed new old n all more t is below kept = ap (map new) is ∙ map_push new all t ∙ ap (λ ys. ys ++ new t ∷ []) (map_kept new old n all below kept)
+
+-- ---- what `cut_first` gives
+
+pub cut_of : (text front : List ℕ) (r : Option (Bor (List ℕ))) (b : Bor (List ℕ)) → r ≡ Some b → MatchOption r (NoCut text × (front ≡ text)) (λ rest. IsCut text front rest.now) → IsCut text front b.now
+cut_of text front r b e h = subst (λ (o : Option (Bor (List ℕ))). MatchOption o (NoCut text × (front ≡ text)) (λ rest. IsCut text front rest.now)) e h
+
+pub uncut_of : (text front : List ℕ) (r : Option (Bor (List ℕ))) → r ≡ None → MatchOption r (NoCut text × (front ≡ text)) (λ rest. IsCut text front rest.now) → NoCut text × (front ≡ text)
+uncut_of text front r e h = subst (λ (o : Option (Bor (List ℕ))). MatchOption o (NoCut text × (front ≡ text)) (λ rest. IsCut text front rest.now)) e h
+
+pub arguments_none_at : (formulas : Bool) (text rest front : List ℕ) (r : Option (Bor (List ℕ))) (done : List Term) → MatchOption r (NoCut rest × (front ≡ rest)) (λ b. IsCut rest front b.now) → HasNone (IsArgument formulas front)
+    → GoesOn done (AreArguments formulas rest) (AreArguments formulas text) → HasNone (AreArguments formulas text)
+arguments_none_at formulas text rest front None done piece never goes = arguments_none formulas text rest front None done piece never goes
+arguments_none_at formulas text rest front (Some b) done piece never goes = arguments_none formulas text rest front (Some b.now) done piece never goes

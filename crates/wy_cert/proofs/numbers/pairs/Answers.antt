@@ -17,4 +17,6 @@ returns-in_default c =
     record { value = pairs_none c.args.text.now c.loop-turn.rest.now c.loop-turn.pairs.items some never c.loop-turn.invariant }
 
 pub loop-turn-preserved : goal.loop-turn-preserved
-loop-turn-preserved c = ?
+loop-turn-preserved c =
+    let here : IsPairAt c.loop-turn.rest.now c.in-Some.m c.in-Some.i c.in-Some.more.now = search rules in
+    rw c.in_ok-push.ensures.items (pairs_turn c.args.text.now c.loop-turn.rest.now c.in-Some.more.now c.loop-turn.pairs.items c.in-Some.m c.in-Some.i here c.loop-turn.invariant)
