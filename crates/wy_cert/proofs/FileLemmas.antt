@@ -1,5 +1,10 @@
 -- Certificates, one after the other.
-use Rattle.std.proofs.Common.{◌≡◌, ◌≢◌, ℕ, ◌+◌, ◌<◌, ◌≤◌, List, [], ◌∷◌, ◌++◌, Bool, true, false, codes, length, map, Option, Some, None, MatchOption, IfOk, Result, Ok, Err, refl, sym, ap, ◌∙◌, subst, arith}
+use Rattle.std.proofs.Common.{◌≡◌, ◌≢◌, ℕ, ◌+◌, ◌<◌, ◌≤◌, List, [], ◌∷◌, ◌++◌, Bool, true, false, cond, codes, length, get_or, map, Option, Some, None, MatchOption, IfOk, Result, Ok, Err, refl, sym, ap, ◌∙◌, subst, arith}
+use Rattle.std.specs.Prelude.{◌==◌, ◌||◌, nat_lt}
+use Rattle.std.specs.Ordering.{nat_cmp, is_eq}
+use Rattle.std.specs.declared.cmp.Ordering.TheVariants.{Less, Equal, Greater}
+use Rattle.std.specs.BTreeSet.{BTreeSet, contains}
+use Rattle.std.proofs.lemmas.Bool.Decides.{nat_tests}
 use Rattle.wy_scan.specs.Front.{IsBehind, NotBehind}
 use Rattle.wy_scan.proofs.RunLemmas.{true_false}
 use Rattle.wy_cert.specs.declared.fault.CertFault.{CertFault}
@@ -211,10 +216,45 @@ module _ (products : Bool) (conds : ℕ) where
     back = λ out h. (opened done n text line rest c out here the (same.back out h)).good tree listed small reads;
   }
 
+-- ---- conditions that are listed
+
+pub lt_apart : (k q : ℕ) → nat_lt k q ≡ true → (k == q) ≡ false
+lt_apart k q t = grind (arith, nat_tests, t)
+
+pub at_same : (k q : ℕ) → is_eq (nat_cmp k q) ≡ (k == q)
+at_same k q = by (nat_lt k q) (k == q) (lt_apart k q)
+  where
+    by : (less same : Bool) → (less ≡ true → same ≡ false) → is_eq (cond less Less (cond same Equal Greater)) ≡ same
+    by true same h = sym (h refl)
+    by false true h = refl
+    by false false h = refl
+
+pub listed_push : (cs : Certificates) (k : ℕ) (s : List Written) (q : ℕ) → is_listed (cs ++ (k, s) ∷ []) q ≡ cond (k == q) true (is_listed cs q)
+listed_push [] k s q = by (k == q)
+  where
+    by : (b : Bool) → (b || false) ≡ cond b true false
+    by true = refl
+    by false = refl
+listed_push (d ∷ ds) k s q = ap (λ b. (d.0 == q) || b) (listed_push ds k s q) ∙ by (d.0 == q) (k == q) (is_listed ds q)
+  where
+    by : (a b c : Bool) → (a || cond b true c) ≡ cond b true (a || c)
+    by true true c = refl
+    by true false c = refl
+    by false true c = refl
+    by false false c = refl
+
+-- the set with one number more is that of the list with it
+pub seen_more : (old new : BTreeSet ℕ) (cs : Certificates) (k : ℕ) (s : List Written) → ((q : ℕ) → contains nat_cmp new q ≡ cond (is_eq (nat_cmp k q)) true (contains nat_cmp old q)) → ((q : ℕ) → contains nat_cmp old q ≡ is_listed cs q)
+    → (q : ℕ) → contains nat_cmp new q ≡ is_listed (cs ++ (k, s) ∷ []) q
+seen_more old new cs k s more same q = more q ∙ ap (λ b. cond b true (contains nat_cmp old q)) (at_same k q) ∙ ap (λ b. cond (k == q) true b) (same q) ∙ sym (listed_push cs k s q)
+
 -- ---- headers
 
 pub headers_apart : (bytes r s : List ℕ) → IsBehind (codes "wycert 1\n") bytes r → IsBehind (codes "wycert 2\n") bytes s → ⊥
-headers_apart bytes r s a b = absurd (let e : codes "wycert 1\n" ++ r ≡ codes "wycert 2\n" ++ s = sym a.is ∙ b.is in cc)
+headers_apart bytes r s a b =
+    let e : codes "wycert 1\n" ++ r ≡ codes "wycert 2\n" ++ s = sym a.is ∙ b.is in
+    let digit : 49 ≡ 50 = ap (λ (i : List ℕ). get_or i 7 0) e in
+    absurd (omega (arith, digit))
 
 -- under the first header the file is read as its lines are
 pub file_first : (conds : ℕ) (bytes rest : List ℕ) → IsBehind (codes "wycert 1\n") bytes rest → AreSame (ReadsCerts false conds [] 2 rest) (ReadsFile conds bytes)

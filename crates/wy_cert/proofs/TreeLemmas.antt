@@ -7,7 +7,7 @@ use Rattle.wy_cert.specs.declared.fault.CertFault.TheVariants.{BadStep, Truncate
 use Rattle.wy_cert.specs.declared.step.Step.{Step}
 use Rattle.wy_cert.specs.declared.step.Step.TheVariants as step
 use Rattle.wy_cert.specs.Only.{IsTheOne, HasNone, AreSame}
-use Rattle.wy_cert.specs.Steps.{Written, written, IsBelow, children, chain, fact}
+use Rattle.wy_cert.specs.Steps.{Written, written, IsBelow, children, split, shut, chain, clash, sum_of, cut, inst, wit, fact, prod}
 use Rattle.wy_cert.specs.Lines.{IsStep}
 use Rattle.wy_cert.specs.File.{IsLine, NoLine, Tree, ReadsTree, whole_tree, tree_ends_early, no_step, one_step}
 use Rattle.wy_cert.proofs.OneLemmas.{the_same}
@@ -123,3 +123,23 @@ below_more m n (step.Prod i j p) le below = omega (arith, le, below)
 
 pub all_below_more : (m n : ℕ) (ss : List Step) → m ≤ n → All (IsBelow m) ss → All (IsBelow n) ss
 all_below_more m n ss le below k d lt = below_more m n _ le (below k d lt)
+
+written_push : (at : ℕ → Term) (ss : List Step) (s : Step) → map (written at) (ss ++ s ∷ []) ≡ map (written at) ss ++ written at s ∷ []
+written_push at [] s = refl
+written_push at (x ∷ ss) s = ap (λ ys. written at x ∷ ys) (written_push at ss s)
+
+-- the steps, with one more, where the list of terms has grown
+pub steps_pushed : (new old : ℕ → Term) (n : ℕ) (ss more : List Step) (s : Step) → more ≡ ss ++ s ∷ [] → All (IsBelow n) ss → ((k : ℕ) → k < n → new k ≡ old k) → map (written new) more ≡ map (written old) ss ++ written new s ∷ []
+steps_pushed new old n ss more s is below kept = ap (map (written new)) is ∙ written_push new ss s ∙ ap (λ ys. ys ++ written new s ∷ []) (all_kept new old n ss below kept)
+
+pub children_small : (w : Written) → children w ≤ 2
+children_small (split f) = omega arith
+children_small shut = omega arith
+children_small (chain ts) = omega arith
+children_small (clash i other) = omega arith
+children_small (sum_of pairs) = omega arith
+children_small (cut d pairs) = omega arith
+children_small (inst i t) = omega arith
+children_small (wit i) = omega arith
+children_small (fact n ts) = omega arith
+children_small (prod i j p) = omega arith

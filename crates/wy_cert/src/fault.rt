@@ -1,6 +1,8 @@
 //! Why bytes are no certificates.
+ghost use Rattle.std.specs.Prelude.{◌≡◌};
+ghost use Rattle.wy_cert.specs.declared.fault.CertFault.TheVariants.{NoMemory};
+
 use std::alloc::{AllocError, AllocFailed};
-use wy_term::NoMemory;
 
 /// Why bytes are no certificates. Each fault has the line where it stands, from 1. The fault at the least line is given,
 /// and of several at a line the first of these, but that `Truncated` goes before `BadStep` on a last line without its end.
@@ -21,19 +23,25 @@ pub enum CertFault {
 }
 
 impl From<AllocError> for CertFault {
+    ghost from_gives = { λ _ e. e ≡ NoMemory };
+
     fn from(_: AllocError) -> Self {
         CertFault::NoMemory
     }
 }
 
 impl<T: Drop> From<AllocFailed<T>> for CertFault {
+    ghost from_gives = { λ _ e. e ≡ NoMemory };
+
     fn from(_: AllocFailed<T>) -> Self {
         CertFault::NoMemory
     }
 }
 
-impl From<NoMemory> for CertFault {
-    fn from(_: NoMemory) -> Self {
+impl From<wy_term::NoMemory> for CertFault {
+    ghost from_gives = { λ _ e. e ≡ NoMemory };
+
+    fn from(_: wy_term::NoMemory) -> Self {
         CertFault::NoMemory
     }
 }

@@ -76,7 +76,10 @@ fn certificates(
         if number > conds {
             return Err(CertFault::NoSuchCond(line));
         }
-        let (cert, behind, after) = tree(alloc, more, line + 1, products)?;
+        let (cert, behind, after) = match tree(alloc, more, line + 1, products) {
+            Ok(tree) => tree,
+            Err(fault) => return Err(fault),
+        };
         seen.insert(number)?;
         list.push((number, cert))?;
         rest = behind;
