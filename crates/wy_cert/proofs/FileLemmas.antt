@@ -248,6 +248,13 @@ pub seen_more : (old new : BTreeSet ℕ) (cs : Certificates) (k : ℕ) (s : List
     → (q : ℕ) → contains nat_cmp new q ≡ is_listed (cs ++ (k, s) ∷ []) q
 seen_more old new cs k s more same q = more q ∙ ap (λ b. cond b true (contains nat_cmp old q)) (at_same k q) ∙ ap (λ b. cond (k == q) true b) (same q) ∙ sym (listed_push cs k s q)
 
+pub map_more : {A B : Type 0} (f : A → B) (xs : List A) (x : A) → map f (xs ++ x ∷ []) ≡ map f xs ++ f x ∷ []
+map_more f [] x = refl
+map_more f (y ∷ xs) x = ap (λ zs. f y ∷ zs) (map_more f xs x)
+
+pub mapped : {A B : Type 0} (f : A → B) (xs more : List A) (x : A) → more ≡ xs ++ x ∷ [] → map f more ≡ map f xs ++ f x ∷ []
+mapped f xs more x is = ap (map f) is ∙ map_more f xs x
+
 -- ---- headers
 
 pub headers_apart : (bytes r s : List ℕ) → IsBehind (codes "wycert 1\n") bytes r → IsBehind (codes "wycert 2\n") bytes s → ⊥

@@ -76,14 +76,15 @@ fn certificates(
         if number > conds {
             return Err(CertFault::NoSuchCond(line));
         }
-        let (cert, behind, after) = match tree(alloc, more, line + 1, products) {
-            Ok(tree) => tree,
+        match tree(alloc, more, line + 1, products) {
             Err(fault) => return Err(fault),
-        };
-        seen.insert(number)?;
-        list.push((number, cert))?;
-        rest = behind;
-        line = after;
+            Ok((cert, behind, after)) => {
+                seen.insert(number)?;
+                list.push((number, cert))?;
+                rest = behind;
+                line = after;
+            }
+        }
     }
     Err(CertFault::NoMemory)
 }

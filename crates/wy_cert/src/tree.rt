@@ -36,6 +36,7 @@ pub(crate) fn tree(
     ensures value { Answers (ReadsTree products [] 1 line text.now) tree_of result }
     ensures names { IfOk result (λ p. NamesItsTerms p.0) }
     ensures within { IfOk result (λ p. p.2 + length p.1.now ≤ line + length text.now) }
+    ensures counts { IfOk result (λ p. 0 < p.2) }
 {
     let mut terms = Terms::new(alloc);
     let mut steps = Vec::new(alloc);
