@@ -1,7 +1,6 @@
 -- The arguments of a line, one after the other.
-use Rattle.std.proofs.Common.{◌≡◌, ℕ, ◌<◌, ◌≤◌, List, [], ◌∷◌, ◌++◌, Bool, All, length, map, Option, Some, None, MatchOption, refl, sym, ap, ◌∙◌, subst, arith, append_assoc}
+use Rattle.std.proofs.Common.{◌≡◌, ℕ, ◌<◌, List, [], ◌∷◌, ◌++◌, Bool, All, map, Option, Some, None, MatchOption, refl, sym, ap, ◌∙◌, subst, append_assoc}
 use denote.Ref.{Bor}
-use Rattle.std.proofs.lemmas.List.{append-nil}
 use Rattle.std.proofs.lemmas.List.Elements.{All-head, All-tail}
 use Rattle.wy_term.specs.Term.{Term}
 use Rattle.wy_cert.specs.Only.{IsTheOne, HasNone, IsBehind, GoesOn}

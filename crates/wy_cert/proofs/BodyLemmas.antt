@@ -1,12 +1,12 @@
 -- What follows the word of a step: there is one step of it, or none.
-use Rattle.std.proofs.Common.{◌≡◌, ◌≢◌, ℕ, ◌<◌, ◌≤◌, List, [], ◌∷◌, ◌++◌, Bool, true, false, Option, Some, None, length, map, All, codes, refl, sym, ap, ◌∙◌, subst, arith}
+use Rattle.std.proofs.Common.{◌≡◌, ℕ, ◌<◌, ◌≤◌, List, [], ◌∷◌, Bool, true, false, Option, Some, None, length, codes, refl, ap, ◌∙◌, subst, arith}
 use Rattle.wy_scan.specs.Front.{IsBehind, NotBehind}
 use Rattle.wy_term.specs.Term.{Term}
 use Rattle.wy_term.specs.Sorts.{formula_sort}
 use Rattle.wy_spell.specs.Made.{IsSpelled, SpellsNone, IsOnly}
 use Rattle.wy_cert.specs.declared.verb.Verb.TheVariants as verb
 use Rattle.wy_cert.specs.Only.{IsTheOne, HasNone}
-use Rattle.wy_cert.specs.Steps.{Written, split, shut, chain, clash, sum_of, cut, inst, wit, fact, prod}
+use Rattle.wy_cert.specs.Steps.{split, shut, chain, clash, sum_of, cut, inst, wit, fact, prod}
 use Rattle.wy_cert.specs.Numbers.{IsPlaceAt, NoPlace, NoSpacedPlace, NoLastPlace, IsMultiplierAt, NoMultiplier, ArePairs}
 use Rattle.wy_cert.specs.Arguments.{IsTerm, AreArguments}
 use Rattle.wy_cert.specs.Lines.{IsSplit, IsShut, IsChain, IsOther, IsClash, IsSum, IsCutStep, IsInst, IsWit, IsFact, IsProd, IsBody}
@@ -94,11 +94,11 @@ pub clash_here : (text rest : List ℕ) (i : ℕ) (o : Option ℕ) → IsPlaceAt
 clash_here text rest i o here other = record {
   holds = record { first = i; rest = rest; second = o; literal = here; other = other.holds; is = refl };
   only = λ w h.
-    let one = one_place text h.first i h.rest rest h.literal here in
-    let second : h.second ≡ o = other.only h.second (subst (λ r. IsOther r h.second) one.rest h.other) in
-    let first : h.first ≡ i = one.number in
-    let is : w ≡ clash h.first h.second = h.is in
-    cc;
+      let one = one_place text h.first i h.rest rest h.literal here in
+      let second : h.second ≡ o = other.only h.second (subst (λ r. IsOther r h.second) one.rest h.other) in
+      let first : h.first ≡ i = one.number in
+      let is : w ≡ clash h.first h.second = h.is in
+      cc;
 }
 
 pub ruleset clash_steps = (clash_no_place, clash_no_other, clash_here)
@@ -133,19 +133,19 @@ cut_no_pairs text rest d here never = record { none = λ w h. never.none h.pairs
 pub cut_empty : (text rest : List ℕ) (d : ℕ) (ps : List (ℕ × ℕ)) → IsMultiplierAt text d rest → IsTheOne (ArePairs rest) ps → length ps ≡ 0 → HasNone (IsCutStep text)
 cut_empty text rest d ps here pairs empty = record {
   none = λ w h.
-    let e : h.pairs ≡ ps = pairs.only h.pairs (subst (λ r. ArePairs r h.pairs) (one_multiplier text h.divisor d h.rest rest h.number here).rest h.spelled) in
-    absurd (omega (arith, h.some, ap length e, empty));
+      let e : h.pairs ≡ ps = pairs.only h.pairs (subst (λ r. ArePairs r h.pairs) (one_multiplier text h.divisor d h.rest rest h.number here).rest h.spelled) in
+      absurd (omega (arith, h.some, ap length e, empty));
 }
 
 pub cut_here : (text rest : List ℕ) (d : ℕ) (ps : List (ℕ × ℕ)) → IsMultiplierAt text d rest → 2 ≤ d → IsTheOne (ArePairs rest) ps → 0 < length ps → IsTheOne (IsCutStep text) (cut d ps)
 cut_here text rest d ps here large pairs some = record {
   holds = record { divisor = d; rest = rest; pairs = ps; number = here; large = large; spelled = pairs.holds; some = some; is = refl };
   only = λ w h.
-    let one = one_multiplier text h.divisor d h.rest rest h.number here in
-    let second : h.pairs ≡ ps = pairs.only h.pairs (subst (λ r. ArePairs r h.pairs) one.rest h.spelled) in
-    let first : h.divisor ≡ d = one.number in
-    let is : w ≡ cut h.divisor h.pairs = h.is in
-    cc;
+      let one = one_multiplier text h.divisor d h.rest rest h.number here in
+      let second : h.pairs ≡ ps = pairs.only h.pairs (subst (λ r. ArePairs r h.pairs) one.rest h.spelled) in
+      let first : h.divisor ≡ d = one.number in
+      let is : w ≡ cut h.divisor h.pairs = h.is in
+      cc;
 }
 
 pub ruleset cut_steps = (cut_no_divisor, cut_small, cut_no_pairs, cut_empty, cut_here)
@@ -165,10 +165,10 @@ pub inst_here : (text rest : List ℕ) (i : ℕ) (t : Term) → IsPlaceAt text i
 inst_here text rest i t here term = record {
   holds = record { first = i; rest = rest; term = t; literal = here; spelled = term.holds; is = refl };
   only = λ w h.
-    let first : h.first ≡ i = (one_place text h.first i (32 ∷ h.rest) (32 ∷ rest) h.literal here).number in
-    let second : h.term ≡ t = term.only h.term (subst (λ r. IsTerm r h.term) (rest_same text h.rest rest h.first i h.literal here) h.spelled) in
-    let is : w ≡ inst h.first h.term = h.is in
-    cc;
+      let first : h.first ≡ i = (one_place text h.first i (32 ∷ h.rest) (32 ∷ rest) h.literal here).number in
+      let second : h.term ≡ t = term.only h.term (subst (λ r. IsTerm r h.term) (rest_same text h.rest rest h.first i h.literal here) h.spelled) in
+      let is : w ≡ inst h.first h.term = h.is in
+      cc;
 }
 
 pub ruleset inst_steps = (inst_no_place, inst_no_term, inst_here)
@@ -203,10 +203,10 @@ pub fact_here : (text rest : List ℕ) (n : ℕ) (ts : List Term) → IsPlaceAt 
 fact_here text rest n ts here small arguments = record {
   holds = record { schema = n; rest = rest; arguments = ts; number = here; small = small; spelled = arguments.holds; is = refl };
   only = λ w h.
-    let first : h.schema ≡ n = (one_place text h.schema n (32 ∷ h.rest) (32 ∷ rest) h.number here).number in
-    let second : h.arguments ≡ ts = arguments.only h.arguments (subst (λ r. AreArguments true r h.arguments) (rest_same text h.rest rest h.schema n h.number here) h.spelled) in
-    let is : w ≡ fact h.schema h.arguments = h.is in
-    cc;
+      let first : h.schema ≡ n = (one_place text h.schema n (32 ∷ h.rest) (32 ∷ rest) h.number here).number in
+      let second : h.arguments ≡ ts = arguments.only h.arguments (subst (λ r. AreArguments true r h.arguments) (rest_same text h.rest rest h.schema n h.number here) h.spelled) in
+      let is : w ≡ fact h.schema h.arguments = h.is in
+      cc;
 }
 
 pub ruleset fact_steps = (fact_no_place, fact_large, fact_no_arguments, fact_here)
@@ -224,20 +224,20 @@ product_no_second text between i here never = record {
 pub product_no_term : (text between rest : List ℕ) (i j : ℕ) → IsPlaceAt text i (32 ∷ between) → IsPlaceAt between j (32 ∷ rest) → HasNone (IsTerm rest) → HasNone (IsProd true text)
 product_no_term text between rest i j here other never = record {
   none = λ w h.
-    let second = subst (λ r. IsPlaceAt r h.second (32 ∷ h.rest)) (rest_same text h.between between h.first i h.literal here) h.other in
-    never.none h.term (subst (λ r. IsTerm r h.term) (rest_same between h.rest rest h.second j second other) h.spelled);
+      let second = subst (λ r. IsPlaceAt r h.second (32 ∷ h.rest)) (rest_same text h.between between h.first i h.literal here) h.other in
+      never.none h.term (subst (λ r. IsTerm r h.term) (rest_same between h.rest rest h.second j second other) h.spelled);
 }
 
 pub product_here : (text between rest : List ℕ) (i j : ℕ) (p : Term) → IsPlaceAt text i (32 ∷ between) → IsPlaceAt between j (32 ∷ rest) → IsTheOne (IsTerm rest) p → IsTheOne (IsProd true text) (prod i j p)
 product_here text between rest i j p here other term = record {
   holds = record { first = i; between = between; second = j; rest = rest; term = p; allowed = refl; literal = here; other = other; spelled = term.holds; is = refl };
   only = λ w h.
-    let there : IsPlaceAt between h.second (32 ∷ h.rest) = subst (λ r. IsPlaceAt r h.second (32 ∷ h.rest)) (rest_same text h.between between h.first i h.literal here) h.other in
-    let first : h.first ≡ i = (one_place text h.first i (32 ∷ h.between) (32 ∷ between) h.literal here).number in
-    let second : h.second ≡ j = (one_place between h.second j (32 ∷ h.rest) (32 ∷ rest) there other).number in
-    let third : h.term ≡ p = term.only h.term (subst (λ r. IsTerm r h.term) (rest_same between h.rest rest h.second j there other) h.spelled) in
-    let is : w ≡ prod h.first h.second h.term = h.is in
-    cc;
+      let there : IsPlaceAt between h.second (32 ∷ h.rest) = subst (λ r. IsPlaceAt r h.second (32 ∷ h.rest)) (rest_same text h.between between h.first i h.literal here) h.other in
+      let first : h.first ≡ i = (one_place text h.first i (32 ∷ h.between) (32 ∷ between) h.literal here).number in
+      let second : h.second ≡ j = (one_place between h.second j (32 ∷ h.rest) (32 ∷ rest) there other).number in
+      let third : h.term ≡ p = term.only h.term (subst (λ r. IsTerm r h.term) (rest_same between h.rest rest h.second j there other) h.spelled) in
+      let is : w ≡ prod h.first h.second h.term = h.is in
+      cc;
 }
 
 pub ruleset product_steps = (product_no_first, product_no_second, product_no_term, product_here)

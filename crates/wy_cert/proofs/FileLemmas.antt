@@ -14,7 +14,7 @@ use Rattle.wy_cert.specs.Steps.{Written, Certificates}
 use Rattle.wy_cert.specs.Numbers.{IsPlaceAt, NoLastPlace}
 use Rattle.wy_cert.specs.File.{IsLine, NoLine, Tree, ReadsTree, IsCondition, is_listed, ReadsCerts, ends_early, complete, goes_behind_end, outside, twice, absent, bad_tree, goes_on, ReadsFile, first, second, no_header}
 use Rattle.wy_cert.proofs.OneLemmas.{the_same}
-use Rattle.wy_cert.proofs.FirstLine.{OneLine, one_line, no_line}
+use Rattle.wy_cert.proofs.FirstLine.{one_line, no_line}
 use Rattle.wy_cert.proofs.NumberLemmas.{one_place, length_none}
 use Rattle.wy_cert.proofs.VerbLemmas.{append_cancel}
 
@@ -159,9 +159,9 @@ module _ (products : Bool) (conds : ℕ) where
     large = λ f large. absurd (omega (arith, below, large));
     bad = λ fault f small bad. absurd (let s : Ok tree ≡ Err fault = bad.only (Ok tree) reads in cc);
     good = λ other f small good.
-      let s : Ok tree ≡ Ok other = good.only (Ok tree) reads in
-      let q : tree ≡ other = cc in
-      subst (λ (t : Tree). ReadsCerts products conds (done ++ (c, t.steps) ∷ []) t.line t.rest out) q more;
+        let s : Ok tree ≡ Ok other = good.only (Ok tree) reads in
+        let q : tree ≡ other = cc in
+        subst (λ (t : Tree). ReadsCerts products conds (done ++ (c, t.steps) ∷ []) t.line t.rest out) q more;
   }
 
   moved : (done : Certificates) (n : ℕ) (r rest : List ℕ) (b c : ℕ) (out : Out) → r ≡ rest → b ≡ c → Opened done n r b out → Opened done n rest c out

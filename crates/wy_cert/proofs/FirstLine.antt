@@ -1,10 +1,10 @@
 -- The first line of a text.
-use Rattle.std.proofs.Common.{◌≡◌, ℕ, zero, suc, ◌+◌, ◌<◌, ◌≤◌, Bool, true, false, List, [], ◌∷◌, ◌++◌, length, take, drop, get_or, refl, sym, ap, ◌∙◌, subst, arith, add-one}
+use Rattle.std.proofs.Common.{◌≡◌, ℕ, zero, suc, ◌+◌, ◌<◌, ◌≤◌, true, false, List, [], ◌∷◌, ◌++◌, length, take, drop, get_or, refl, sym, ap, ◌∙◌, subst, arith, add-one}
 use Rattle.std.specs.Prelude.{not, ◌==◌}
 use Rattle.std.proofs.lemmas.List.{take-append-drop, take_all}
 use Rattle.std.proofs.lemmas.List.{length-append}
-use Rattle.wy_scan.specs.Front.{IsRun, AllPass, heads}
-use Rattle.wy_scan.proofs.RunLemmas.{RunsSame, run_same, true_false}
+use Rattle.wy_scan.specs.Front.{AllPass}
+use Rattle.wy_scan.proofs.RunLemmas.{run_same, true_false}
 use Rattle.wy_scan.proofs.FrontLemmas.{pass_more}
 use Rattle.wy_cert.specs.File.{is_inside, IsLine, NoLine}
 

@@ -1,8 +1,8 @@
 -- A line is a word and what follows it.
-use Rattle.std.proofs.Common.{◌≡◌, ℕ, List, Bool, refl, sym, subst}
+use Rattle.std.proofs.Common.{ℕ, List, Bool, subst}
 use Rattle.wy_scan.specs.Front.{IsBehind, NotBehind}
 use Rattle.wy_cert.specs.declared.verb.Verb.{Verb}
-use Rattle.wy_cert.specs.Only.{IsTheOne, HasNone, AreSame}
+use Rattle.wy_cert.specs.Only.{HasNone, AreSame}
 use Rattle.wy_cert.specs.Steps.{Written}
 use Rattle.wy_cert.specs.Lines.{word_of, IsBody, IsStep}
 use Rattle.wy_cert.proofs.VerbLemmas.{one_verb}

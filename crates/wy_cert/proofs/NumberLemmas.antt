@@ -1,5 +1,5 @@
 -- Numbers of a line: there is one, or none.
-use Rattle.std.proofs.Common.{◌≡◌, ◌≢◌, ℕ, ◌<◌, ◌≤◌, ◌-◌, ◌^◌, List, [], ◌∷◌, ◌++◌, length, codes, refl, sym, ap, ◌∙◌, subst, arith}
+use Rattle.std.proofs.Common.{◌≡◌, ℕ, ◌<◌, ◌-◌, ◌^◌, List, [], ◌∷◌, length, codes, refl, sym, ap, ◌∙◌, subst, arith}
 use Rattle.wy_scan.specs.Front.{IsBehind, NotBehind}
 use Rattle.wy_scan.specs.Numbers.{IsNaturalAt, NoNatural}
 use Rattle.wy_scan.proofs.OneReading.{OneNatural, one_natural}
@@ -70,7 +70,6 @@ start_same text start other a e = let f : text ≡ 32 ∷ start = a.is in cc
 
 pub pair_no_multiplier : (text start : List ℕ) → IsBehind (codes " ") text start → NoMultiplier start → NoPair text
 pair_no_multiplier text start space never = record { none = λ m i rest p. never.none m (32 ∷ p.between) (subst (λ t. IsMultiplierAt t m (32 ∷ p.between)) (start_same text start p.start space p.space) p.multiplier) }
-
 
 pub starts : (text start rest : List ℕ) (m n i : ℕ) (more : List ℕ) → IsBehind (codes " ") text start → IsMultiplierAt start m rest → (p : IsPairAt text n i more) → OneNatural n m (32 ∷ p.between) rest
 starts text start rest m n i more space here p =

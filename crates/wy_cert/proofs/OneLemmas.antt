@@ -1,5 +1,5 @@
 -- The one thing that has a property, carried over to the same property.
-use Rattle.std.proofs.Common.{◌≡◌, Option, Some, None, Result, Ok, Err, IfOk, MatchOption, refl, sym, ap, ◌∙◌}
+use Rattle.std.proofs.Common.{◌≡◌, Option, Some, None, Result, Ok, Err, IfOk, MatchOption}
 use Rattle.std.specs.Prelude.{IsErrAnd}
 use Rattle.wy_cert.specs.declared.fault.CertFault.{CertFault}
 use Rattle.wy_cert.specs.declared.fault.CertFault.TheVariants.{NoMemory}

@@ -1,5 +1,5 @@
 -- Terms and formulas of a line: there is one, or none.
-use Rattle.std.proofs.Common.{◌≡◌, ℕ, List, Bool, true, false, Option, Some, None, Result, Ok, Err, IfOk, IfSome, MatchOption, ◌⊎◌, inl, inr, refl, sym, ap, ◌∙◌, subst}
+use Rattle.std.proofs.Common.{◌≡◌, ℕ, List, Bool, true, false, Option, Some, None, Result, Ok, Err, IfOk, IfSome, MatchOption, inl, inr, ◌∙◌}
 use Rattle.wy_term.specs.Term.{Term}
 use Rattle.wy_term.specs.Sorts.{Sort, int_sort, val_sort, formula_sort}
 use Rattle.wy_spell.specs.Made.{IsSpelled, SpellsNone, IsOnly, SpellsNoTerm, IsOnlyTerm}

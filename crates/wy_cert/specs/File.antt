@@ -1,5 +1,5 @@
 -- What a file of certificates is read as: the certificates, or the first fault and its line.
-use Rattle.std.specs.Prelude.{◌≡◌, ◌≢◌, ℕ, ◌+◌, ◌-◌, ◌<◌, ◌≤◌, ◌==◌, ◌||◌, List, [], ◌∷◌, ◌++◌, Bool, true, false, not, codes, length, map, Result, Ok, Err, ◌⊎◌}
+use Rattle.std.specs.Prelude.{◌≡◌, ◌≢◌, ℕ, ◌+◌, ◌-◌, ◌<◌, ◌≤◌, ◌==◌, ◌||◌, List, [], ◌∷◌, ◌++◌, Bool, true, false, not, codes, length, Result, Ok, Err}
 use Rattle.wy_scan.specs.Front.{IsBehind, NotBehind, IsRun, AllPass}
 use denote.Ref.{Bor}
 use Rattle.wy_cert.specs.declared.step.Cert.{Cert}

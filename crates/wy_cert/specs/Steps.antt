@@ -1,5 +1,5 @@
 -- Steps by the terms that they name.
-use Rattle.std.specs.Prelude.{ℕ, ◌<◌, List, [], ◌∷◌, length, map, All, Option, Some, None}
+use Rattle.std.specs.Prelude.{ℕ, ◌<◌, List, length, map, All, Option}
 use Rattle.wy_term.specs.Term.{Term}
 use Rattle.wy_term.specs.Nodes.{tree_at}
 use Rattle.wy_cert.specs.declared.step.Step.{Step}

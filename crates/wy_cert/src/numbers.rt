@@ -28,10 +28,7 @@ pub(crate) fn place(alloc: Global, text: &[u8]) -> Result<Option<(u32, &[u8])>, 
 
 /// The same, where a space has to follow it, and what follows the space.
 #[tactic(auto, using(crate::proofs::NumberLemmas::spaced_steps))]
-pub(crate) fn spaced_place(
-    alloc: Global,
-    text: &[u8],
-) -> Result<Option<(u32, &[u8])>, NoMemory>
+pub(crate) fn spaced_place(alloc: Global, text: &[u8]) -> Result<Option<(u32, &[u8])>, NoMemory>
     ensures value { IfOk result (λ o. MatchOption o (NoSpacedPlace text.now) (λ p. IsPlaceAt text.now p.0 (32 ∷ p.1.now))) }
 {
     match place(alloc, text)? {

@@ -43,12 +43,7 @@ fn condition(alloc: Global, line: &[u8]) -> Result<Option<u32>, NoMemory>
 }
 
 // The lines behind the header.
-fn certificates(
-    alloc: Global,
-    text: &[u8],
-    conds: u32,
-    products: bool,
-) -> Result<Certs, CertFault>
+fn certificates(alloc: Global, text: &[u8], conds: u32, products: bool) -> Result<Certs, CertFault>
     requires { length text.now < 2 ^ 63 }
     ensures value { Answers (ReadsCerts products conds [] 2 text.now) certificates_of result }
     ensures names { IfOk result NameTheirTerms }

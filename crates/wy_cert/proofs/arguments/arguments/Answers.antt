@@ -1,4 +1,4 @@
-use Rattle.std.proofs.Common.{rules, arith, ◌≡◌, ℕ, ◌<◌, ◌++◌, ◌∷◌, [], List, All, length, map, sym, ◌∙◌, subst}
+use Rattle.std.proofs.Common.{rules, arith, List, length, map, sym, ◌∙◌, subst}
 use Rattle.wy_term.specs.Term.{Term}
 use Rattle.wy_term.specs.Nodes.{tree_at}
 use Rattle.wy_cert.specs.Only.{IsTheOne, HasNone, GoesOn}

@@ -1,8 +1,7 @@
 use Rattle.std.proofs.Common.{rules, arith, ◌≡◌, ◌<◌, length}
 use Rattle.std.proofs.lemmas.Grind.{common_steps}
 use Rattle.wy_cert.specs.Numbers.{IsPairAt, NoPair}
-use Rattle.wy_cert.proofs.PairLemmas.{goes_start, pairs_turn, pairs_end, pairs_none}
-use Rattle.wy_cert.specs.Numbers.{ArePairs}
+use Rattle.wy_cert.proofs.PairLemmas.{pairs_turn, pairs_end, pairs_none}
 use Rattle.wy_cert.proofs.numbers.pairs.Goals as goal
 
 pub returns-then-is_empty : goal.returns-then-is_empty

@@ -1,4 +1,4 @@
-use Rattle.std.proofs.Common.{rules, arith, ◌≡◌, ◌≢◌, ◌<◌, ◌≤◌, ◌+◌, ◌++◌, ◌∷◌, [], ℕ, List, true, false, codes, length, map, Ok, Err, sym, ◌∙◌, subst}
+use Rattle.std.proofs.Common.{rules, arith, ◌≡◌, ◌≢◌, ◌<◌, ◌≤◌, ◌+◌, ◌++◌, ◌∷◌, [], true, false, codes, length, map, Ok, sym, ◌∙◌, subst}
 use Rattle.std.proofs.lemmas.Grind.{common_steps}
 use Rattle.std.proofs.lemmas.List.Elements.{All-push}
 use Rattle.std.specs.Ordering.{nat_cmp}
