@@ -1,0 +1,12 @@
+pub mod OneLemmas
+pub mod VerbLemmas
+pub mod NumberLemmas
+pub mod PairLemmas
+pub mod CutLemmas
+pub mod TermLemmas
+pub mod ArgumentLemmas
+pub mod BodyLemmas
+pub mod LineLemmas
+pub mod FirstLine
+pub mod TreeLemmas
+pub mod FileLemmas

@@ -1,0 +1,7 @@
+use Rattle.std.proofs.Common.{take}
+use Rattle.wy_scan.specs.Front.{AllPass}
+use Rattle.wy_cert.specs.File.{is_inside}
+use Rattle.wy_cert.proofs.tree.first_line.Given as goal
+
+abbrev pub invariant-loop-end : goal.invariant-loop-end
+invariant-loop-end l = AllPass is_inside (take l.end l.text)
