@@ -1,9 +1,9 @@
 -- The code of a program.
-use Rattle.std.specs.Prelude.{ℕ, zero, suc, ◌+◌, max, List, [], ◌∷◌, ◌++◌, length, Bool, true, false, cond, ◌==◌, Option, Some, None}
+use Rattle.std.specs.Prelude.{ℕ, zero, suc, ◌+◌, max, List, [], ◌∷◌, ◌++◌, length, cond, Option, Some, None}
 use Rattle.wy_core.specs.CoreTree as tree
 use Rattle.wy_core.specs.CoreTree.{Expr, Core, aliases_of, routines_of}
-use Rattle.wy_live.specs.Sets.{Variables, has}
-use Rattle.wy_live.specs.Walks.{before_all, live_all, nothing}
+use Rattle.wy_live.specs.Sets.{Variables, has, with}
+use Rattle.wy_live.specs.Walks.{live_all, nothing}
 use Rattle.wy_code.specs.declared.instructions.Instr.TheVariants as instr
 use Rattle.wy_code.specs.declared.routines.Routine.{Routine}
 use Rattle.wy_code.specs.declared.routines.Code.{Code}
@@ -13,7 +13,7 @@ use Rattle.wy_gen.specs.declared.steps.Step.TheVariants.{Does}
 use Rattle.wy_gen.specs.Steps.{clear, dropped, fork, placed, room}
 use Rattle.wy_gen.specs.Tables.{context_of}
 use Rattle.wy_gen.specs.TypeTests.{test}
-use Rattle.wy_gen.specs.Expressions.{released, code}
+use Rattle.wy_gen.specs.Expressions.{code}
 use Rattle.wy_gen.specs.Statements.{gives_null, stmts_code}
 
 -- a routine with so many parameters, and as many registers as it needs
@@ -38,18 +38,10 @@ body_routine c r = routine_of (length r.params) (body_steps c r)
 
 -- ---- tests of types
 
--- the clauses of a type, one behind the other up to the first that is false; what they say comes into r
-abbrev pub clauses_steps : Context → List (Expr ℕ) → ℕ → List Step
-clauses_steps c [] r = []
-clauses_steps c (e ∷ []) r = code c e [] r
-clauses_steps c (e ∷ f ∷ es) r =
-    let later = before_all (tree.exprs_of (f ∷ es)) [] in code c e later r ++ fork r (clauses_steps c (f ∷ es) r) (released later [])
-
--- the value is in the definition: the clauses are asked, where there are any; else it is released
-abbrev pub type_ends : Context → List (Expr ℕ) → ℕ → ℕ → List Step
-type_ends c [] x n = dropped x (suc n)
-type_ends c (e ∷ es) x n =
-    fork n (cond (has (before_all (tree.exprs_of (e ∷ es)) []) x) [] (clear (x ∷ [])) ++ clauses_steps c (e ∷ es) n) (dropped x (suc n))
+-- the clauses of a type, one behind the other up to the first that is false, each of which leaves the variable live; what they say comes into r
+abbrev pub clauses_steps : Context → List (Expr ℕ) → Variables → ℕ → List Step
+clauses_steps c [] s r = []
+clauses_steps c (e ∷ es) s r = code c e s r ++ fork r (clauses_steps c es s r) []
 
 abbrev pub variable_of : Option ℕ → ℕ
 variable_of None = 0
@@ -60,9 +52,9 @@ abbrev pub taken : ℕ → List Step
 taken zero = []
 taken (suc x) = Does (instr.Move (suc x) 0) ∷ []
 
--- the value is in x, and n is the first free register
+-- the value is in x, and n is the first free register: the definition is asked, and where it says yes, the clauses; then the value is released
 abbrev pub type_steps_at : Context → tree.Alias ℕ → ℕ → ℕ → List Step
-type_steps_at c a x n = taken x ++ (test c a.ty x n (suc n) ++ (type_ends c a.clauses x n ++ Does (instr.Return n) ∷ []))
+type_steps_at c a x n = taken x ++ (test c a.ty x n (suc n) ++ (fork n (clauses_steps c a.clauses (with [] x) n) [] ++ (dropped x (suc n) ++ Does (instr.Return n) ∷ [])))
 
 abbrev pub type_routine : Context → tree.Alias ℕ → Routine
 type_routine c a = routine_of 1 (type_steps_at c a (variable_of a.variable) (max 1 (length a.variables)))

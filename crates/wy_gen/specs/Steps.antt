@@ -32,6 +32,11 @@ abbrev pub fork : ℕ → List Step → List Step → List Step
 fork r first [] = where_true r first
 fork r first (s ∷ second) = GoesOnUnless r (length first + 1) ∷ (first ++ GoesOn (length (s ∷ second)) ∷ s ∷ second)
 
+-- the second code of a fork, before which it is gone over, and then these
+abbrev pub jumped : List Step → List Step → List Step
+jumped [] old = old
+jumped (s ∷ second) old = GoesOn (length (s ∷ second)) ∷ ((s ∷ second) ++ old)
+
 -- how many steps follow the first code of a fork, where this is the second
 abbrev pub over : List Step → ℕ
 over [] = 0

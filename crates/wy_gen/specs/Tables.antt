@@ -70,6 +70,9 @@ abbrev mutual
   field_tys_table NoFieldTys t = t
   field_tys_table (MoreFieldTys name a fs) t = field_tys_table fs (ty_table a t)
 
+abbrev pub record_table : FieldTys → Table → Table
+record_table fs t = with_shape (ty_names_in fs) (field_tys_table fs t)
+
 abbrev mutual
   -- those of an expression
   pub expr_table : Expr ℕ → Table → Table
@@ -126,10 +129,13 @@ abbrev mutual
   stmts_table NoStmts t = t
   stmts_table (MoreStmts st rest) t = stmts_table rest (stmt_table st t)
 
+abbrev pub decl_table : Decl ℕ → Table → Table
+decl_table (AliasDecl a) t = exprs_table (tree.exprs_of a.clauses) (ty_table a.ty t)
+decl_table (RoutineDecl r) t = stmts_table r.body t
+
 abbrev pub decls_table : Core ℕ → Table → Table
 decls_table [] t = t
-decls_table (AliasDecl a ∷ ds) t = decls_table ds (exprs_table (tree.exprs_of a.clauses) (ty_table a.ty t))
-decls_table (RoutineDecl r ∷ ds) t = decls_table ds (stmts_table r.body t)
+decls_table (d ∷ ds) t = decls_table ds (decl_table d t)
 
 abbrev pub table_of : Core ℕ → Table
 table_of core = decls_table core (record { names = []; lists = [] })

@@ -1,6 +1,7 @@
 //! Code whose jumps say how far they go.
-ghost use Rattle.std.specs.Prelude.{◌≡◌, ◌-◌, [], ◌∷◌, ◌++◌, IfOk, length, suc};
+ghost use Rattle.std.specs.Prelude.{◌≡◌, ◌-◌, [], ◌∷◌, ◌++◌, IfOk, List, length, reverse, suc};
 ghost use Rattle.wy_gen.specs.Steps as spec;
+ghost use Rattle.wy_gen.specs.declared.steps.Step.{Step};
 
 use crate::fault::NoMemory;
 use sqlite_items::Items;
@@ -51,6 +52,14 @@ impl Steps {
         ensures value { result ≡ length self.now }
     {
         self.backwards.len()
+    }
+
+    /// The steps, the last one first.
+    pub fn into_backwards(self) -> Vec<Step>
+        ensures value { reverse result.items ≡ self }
+    {
+        let Steps { backwards } = self;
+        backwards
     }
 
     /// How many there are more than so many.
@@ -128,4 +137,55 @@ pub fn registers_from(alloc: Global, register: u32, count: usize) -> Result<Item
         here = next(here)?;
     }
     Ok(registers)
+}
+
+/// The steps behind so many others are gone over, where there are any.
+pub fn jump_over(end: usize, steps: Steps) -> Result<Steps, NoMemory>
+    ensures value { (second old : List Step) → steps ≡ second ++ old → length old ≡ end → IfOk result (λ s. s ≡ spec.jumped second old) }
+{
+    let count = steps.since(end)?;
+    if count == 0 {
+        return Ok(steps);
+    }
+    before(Step::GoesOn(count), steps)
+}
+
+/// A fork before the first code of it, which begins behind `mid` steps: the second code, which is
+/// gone over, ends behind `end` steps.
+pub fn fork(register: u32, end: usize, mid: usize, steps: Steps) -> Result<Steps, NoMemory>
+    ensures value { (first second old : List Step) → steps ≡ first ++ spec.jumped second old → length old ≡ end → length (spec.jumped second old) ≡ mid → IfOk result (λ s. s ≡ spec.fork register first second ++ old) }
+{
+    let count = steps.since(mid)?;
+    if mid > end {
+        let Some(count) = count.checked_add(1) else {
+            return Err(NoMemory);
+        };
+        return before(Step::GoesOnUnless(register, count), steps);
+    }
+    if count == 0 {
+        return Ok(steps);
+    }
+    before(Step::GoesOnUnless(register, count), steps)
+}
+
+/// The code behind so many others is run where the register is true.
+pub fn where_true(register: u32, end: usize, steps: Steps) -> Result<Steps, NoMemory>
+    ensures value { (first old : List Step) → steps ≡ first ++ old → length old ≡ end → IfOk result (λ s. s ≡ spec.fork register first [] ++ old) }
+{
+    fork(register, end, end, steps)
+}
+
+/// The step back that stands behind `at` others goes to the first step.
+pub fn goes_back(at: usize, steps: Steps) -> Result<Steps, NoMemory>
+    ensures value { (first old : List Step) (s : Step) → steps ≡ first ++ s ∷ old → length old ≡ at → IfOk result (λ r. r ≡ first ++ Step.GoesBack (length first) ∷ old) }
+{
+    let Some(behind) = at.checked_add(1) else {
+        return Err(NoMemory);
+    };
+    let count = steps.since(behind)?;
+    let Steps { mut backwards } = steps;
+    if at < backwards.len() {
+        backwards[at] = Step::GoesBack(count);
+    }
+    Ok(Steps { backwards })
 }

@@ -1,5 +1,6 @@
 -- what the functions owe
 pub mod PutLemmas
+pub mod WalkLemmas
 -- sets, and what is live
 mod SetLemmas
 mod UseLemmas

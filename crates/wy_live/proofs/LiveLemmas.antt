@@ -108,12 +108,9 @@ mutual
   of_path (FailStmt at) s ends x p = absurd p
   of_path (IfStmt at e first second) s ends x p = forked_of e (live_all first s ends) (live_all second s ends) x
       (either (λ u. inl u) (λ q. inr (either (λ l. inl (of_paths first s ends x l)) (λ r. inr (of_paths second s ends x r)) q)) p)
-  of_path (WhileStmt at e invariants body) s ends x p = head_of e body s x p.0 p.1
-
-  head_of : (e : Expr ℕ) (body : Stmts ℕ) (s : Variables) (x n : ℕ) → Turns n (occurs e x) (λ next. AreLive body x next (In s x) next) (In s x) → In (before e (joined (live_all body [] (alone s)) s)) x
-  head_of e body s x n p = forked_of e (live_all body [] (alone s)) s x
+  of_path (WhileStmt at e invariants body) s ends x p = forked_of e (live_all body [] (alone s)) s x
       (either (λ q. either (λ u. inl u) (λ b. inr (inl (of_paths body [] (alone s) x
-      (lives_more body x ⊥ (In [] x) (In s x) (In s x) ⊥ (In [] x) (λ z. absurd z) (λ z. z) (λ z. absurd z) b)))) q) (λ a. inr (inr a)) (one_turn n e body x (In s x) p))
+      (lives_more body x ⊥ (In [] x) (In s x) (In s x) ⊥ (In [] x) (λ z. absurd z) (λ z. z) (λ z. absurd z) b)))) q) (λ a. inr (inr a)) (one_turn p.0 e body x (In s x) p.1))
 
   pub of_paths : (ss : Stmts ℕ) (s : Variables) (ends : Ends) (x : ℕ) → AreLive ss x (In s x) (In ends.exit x) (In ends.again x) → In (live_all ss s ends) x
   of_paths NoStmts s ends x p = p
@@ -134,10 +131,7 @@ mutual
   to_path (FailStmt at) s ends x p = never p
   to_path (IfStmt at e first second) s ends x p =
       either (λ u. inl u) (λ q. inr (either (λ l. inl (to_paths first s ends x l)) (λ r. inr (to_paths second s ends x r)) q)) (forked_to e (live_all first s ends) (live_all second s ends) x p)
-  to_path (WhileStmt at e invariants body) s ends x p = head_to e body s x p
-
-  head_to : (e : Expr ℕ) (body : Stmts ℕ) (s : Variables) (x : ℕ) → In (before e (joined (live_all body [] (alone s)) s)) x → (n : ℕ) × Turns n (occurs e x) (λ next. AreLive body x next (In s x) next) (In s x)
-  head_to e body s x p = either (λ u. (0, inl u)) (λ q. either
+  to_path (WhileStmt at e invariants body) s ends x p = either (λ u. (0, inl u)) (λ q. either
       (λ b. (
         1,
         inr (lives_more body x (In [] x) (Used (occurs e x) (In s x)) (In s x) (In s x) (In [] x) (Used (occurs e x) (In s x)) (λ z. never z) (λ z. z) (λ z. never z)

@@ -153,6 +153,9 @@ last_is : (b : Bool) (A : Type 0) → (b ≡ true → A) × (A → b ≡ true) �
 last_is true A h = ((λ e a. never e), (λ none. absurd (none (h.0 refl))))
 last_is false A h = ((λ e a. never (h.1 a)), (λ none. refl))
 
+tells_before : (e : Expr ℕ) (w : Walk) (after : Later) → Tells w.live after → Tells (marked e w).live (then_later (occurs e) after)
+tells_before e w after h = tells_as (marked e w).live (before e w.live) (then_later (occurs e) after) (live-marked e w) (tells_used (occurs e) w.live (before e w.live) after (has-before e w.live) h)
+
 mutual
   expr_marks : (e : Expr ℕ) (w : Walk) (after : Later) → Tells w.live after → ExprMarks e after (marked e w).marks w.marks
   expr_marks (NullExpr at) w after h = refl
@@ -178,9 +181,6 @@ mutual
         expr_marks b v (turn_later x body after) t,
         expr_marks body (with_live (turned x body w.live) w) (turn_later x body after) t,
       )
-
-  tells_before : (e : Expr ℕ) (w : Walk) (after : Later) → Tells w.live after → Tells (marked e w).live (then_later (occurs e) after)
-  tells_before e w after h = tells_as (marked e w).live (before e w.live) (then_later (occurs e) after) (live-marked e w) (tells_used (occurs e) w.live (before e w.live) after (has-before e w.live) h)
 
   exprs_marks : (es : Exprs ℕ) (w : Walk) (after : Later) → Tells w.live after → ExprsMarks es after (marked_all es w).marks w.marks
   exprs_marks NoExprs w after h = refl

@@ -134,8 +134,9 @@ abbrev mutual
   live_all NoStmts s ends = s
   live_all (MoreStmts st rest) s ends = live st (live_all rest s ends) ends
 
-abbrev pub if_live : Expr ℕ → Stmts ℕ → Stmts ℕ → Variables → Ends → Variables
-if_live e first second s ends = before e (joined (live_all first s ends) (live_all second s ends))
+-- before a test, behind which one of two is live
+abbrev pub fork_live : Expr ℕ → Variables → Variables → Variables
+fork_live e s t = before e (joined s t)
 
 -- at the head of a loop: one turn is enough
 abbrev pub head_live : Expr ℕ → Stmts ℕ → Variables → Variables
@@ -191,14 +192,13 @@ abbrev mutual
 abbrev pub assert_walked : Expr ℕ → Walk → Walk
 assert_walked e w = with_marks (unused e w.marks) w
 
-abbrev pub if_walked : Expr ℕ → Stmts ℕ → Stmts ℕ → Ends → Walk → Walk
-if_walked e first second ends w =
-    marked e (forked (walked_all first ends (with_live w.live (walked_all second ends w))) (walked_all second ends w))
+-- before the test of an `if`, whose first block begins so, and where this is live at the second
+abbrev pub if_ended : Expr ℕ → Walk → Variables → Walk
+if_ended e first s = marked e (record first { live = joined first.live s })
 
-abbrev pub while_walked : Expr ℕ → List (Expr ℕ) → Stmts ℕ → Walk → Walk
-while_walked e invariants body w =
-    with_live (head_live e body w.live)
-    (marked e (entered invariants w.live (walked_all body (around w.live (head_live e body w.live)) (with_live (head_live e body w.live) w))))
+-- before a loop, whose body begins so
+abbrev pub loop_ended : Expr ℕ → List (Expr ℕ) → Ends → Walk → Walk
+loop_ended e invariants ends inside = with_live ends.again (marked e (entered invariants ends.exit inside))
 
 -- ---- programs
 

@@ -33,16 +33,17 @@ fn live_stmt(
         StmtKind::Skip => Ok(behind),
         StmtKind::Fail => Ok(Variables::none(alloc)),
         StmtKind::If(test, first, second) => {
-            live_if(
-                alloc,
-                test,
-                first.as_slice(),
-                second.as_slice(),
-                behind,
-                ends,
-            )
+            let again = behind.copy(alloc)?;
+            let first = live_block(alloc, first.as_slice(), again, ends)?;
+            let second = live_block(alloc, second.as_slice(), behind, ends)?;
+            fork(alloc, test, &first, &second)
         }
-        StmtKind::While(test, _, body) => head_live(alloc, test, body.as_slice(), &behind),
+        StmtKind::While(test, _, body) => {
+            let alone = alone(alloc, &behind)?;
+            let none = Variables::none(alloc);
+            let inside = live_block(alloc, body.as_slice(), none, &alone)?;
+            fork(alloc, test, &inside, &behind)
+        }
     }
 }
 
@@ -65,27 +66,8 @@ pub fn live_block(
     Ok(live)
 }
 
-#[cycle(live)]
-fn live_if(
-    alloc: Global,
-    test: &Expr,
-    first: &[Stmt],
-    second: &[Stmt],
-    behind: Variables,
-    ends: &Ends,
-) -> Result<Variables, AllocError>
-    ensures value { IfOk result (λ s. s ≡ spec.if_live (seen_expr test.now) (seen_block first.now) (seen_block second.now) behind ends.now) }
-{
-    let again = behind.copy(alloc)?;
-    let first = live_block(alloc, first, again, ends)?;
-    let second = live_block(alloc, second, behind, ends)?;
-    let both = joined(alloc, &first, &second)?;
-    before(test, both)
-}
-
 /// What is live at the head of a loop: a path through it uses a variable before it assigns it exactly
 /// where one does that goes through the body at most once.
-#[cycle(live)]
 pub fn head_live(
     alloc: Global,
     test: &Expr,
@@ -94,12 +76,31 @@ pub fn head_live(
 ) -> Result<Variables, AllocError>
     ensures value { IfOk result (λ s. s ≡ spec.head_live (seen_expr test.now) (seen_block body.now) behind.now) }
 {
-    let alone = Ends {
+    let alone = alone(alloc, behind)?;
+    let inside = live_block(alloc, body, Variables::none(alloc), &alone)?;
+    fork(alloc, test, &inside, behind)
+}
+
+/// In a loop behind which this is live, where nothing is known of its head.
+fn alone(alloc: Global, behind: &Variables) -> Result<Ends, AllocError>
+    ensures value { IfOk result (λ e. e ≡ spec.alone behind.now) }
+{
+    Ok(Ends {
         exit: behind.copy(alloc)?,
         again: Variables::none(alloc),
-    };
-    let inside = live_block(alloc, body, Variables::none(alloc), &alone)?;
-    let both = joined(alloc, &inside, behind)?;
+    })
+}
+
+/// What is live before a test, behind which one of two is live.
+fn fork(
+    alloc: Global,
+    test: &Expr,
+    first: &Variables,
+    second: &Variables,
+) -> Result<Variables, AllocError>
+    ensures value { IfOk result (λ s. s ≡ spec.fork_live (seen_expr test.now) first.now second.now) }
+{
+    let both = joined(alloc, first, second)?;
     before(test, both)
 }
 

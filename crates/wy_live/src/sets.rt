@@ -1,5 +1,5 @@
 //! Sets of variables.
-ghost use Rattle.std.specs.Prelude.{◌≡◌, [], IfOk, OnOk};
+ghost use Rattle.std.specs.Prelude.{◌≡◌, [], IfOk, OnOk, length};
 ghost use Rattle.wy_live.specs.Sets as spec;
 
 use std::alloc::{AllocError, Global};
@@ -27,6 +27,13 @@ impl Variables {
         Variables {
             bits: Vec::new(alloc),
         }
+    }
+
+    /// How many bits there are; no greater variable is in the set.
+    pub fn len(&self) -> usize
+        ensures value { result ≡ length self.now }
+    {
+        self.bits.len()
     }
 
     /// Whether the variable is in the set, in constant time.

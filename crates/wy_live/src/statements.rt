@@ -35,10 +35,17 @@ fn walk_stmt(alloc: Global, stmt: &Stmt, ends: &Ends, walk: Walk) -> Result<Walk
         StmtKind::Skip => Ok(walk),
         StmtKind::Fail => Ok(with_live(Variables::none(alloc), walk)),
         StmtKind::If(test, first, second) => {
-            walk_if(alloc, test, first.as_slice(), second.as_slice(), ends, walk)
+            let again = walk.live.copy(alloc)?;
+            let second = walk_block(alloc, second.as_slice(), ends, walk)?;
+            let (live, start) = begin_first(again, second);
+            let first = walk_block(alloc, first.as_slice(), ends, start)?;
+            end_if(alloc, test, first, &live)
         }
         StmtKind::While(test, invariants, body) => {
-            walk_while(alloc, test, invariants.as_slice(), body.as_slice(), walk)
+            let body = body.as_slice();
+            let (around, start) = begin_loop(alloc, test, body, walk)?;
+            let inside = walk_block(alloc, body, &around, start)?;
+            end_loop(alloc, test, invariants.as_slice(), around, inside)
         }
     }
 }
@@ -62,34 +69,36 @@ pub fn walk_block(
     Ok(walk)
 }
 
-#[cycle(walk)]
-fn walk_if(
-    alloc: Global,
-    test: &Expr,
-    first: &[Stmt],
-    second: &[Stmt],
-    ends: &Ends,
-    walk: Walk,
-) -> Result<Walk, AllocError>
-    ensures value { IfOk result (λ w. w ≡ spec.if_walked (seen_expr test.now) (seen_block first.now) (seen_block second.now) ends.now walk) }
+/// What is live at the second block of an `if`, and the walk behind the first.
+fn begin_first(behind: Variables, second: Walk) -> (Variables, Walk)
+    ensures live { result.0 ≡ second.live }
+    ensures begun { result.1 ≡ spec.with_live behind second }
 {
-    let again = walk.live.copy(alloc)?;
-    let Walk { live, marks } = walk_block(alloc, second, ends, walk)?;
-    let start = Walk { live: again, marks };
-    let begun = walk_block(alloc, first, ends, start)?;
-    let both = joined(alloc, &begun.live, &live)?;
-    mark(alloc, test, with_live(both, begun))
+    let Walk { live, marks } = second;
+    let begun = Walk {
+        live: behind,
+        marks,
+    };
+    (live, begun)
 }
 
-#[cycle(walk)]
-fn walk_while(
+/// Before the test of an `if`, whose first block begins so, and where this is live at the second.
+fn end_if(alloc: Global, test: &Expr, first: Walk, second: &Variables) -> Result<Walk, AllocError>
+    ensures value { IfOk result (λ w. w ≡ spec.if_ended (seen_expr test.now) first second.now) }
+{
+    let Walk { live, marks } = first;
+    let live = joined(alloc, &live, second)?;
+    mark(alloc, test, Walk { live, marks })
+}
+
+/// What is live behind a loop and at its head, and the walk behind its body.
+fn begin_loop(
     alloc: Global,
     test: &Expr,
-    invariants: &[Expr],
     body: &[Stmt],
     walk: Walk,
-) -> Result<Walk, AllocError>
-    ensures value { IfOk result (λ w. w ≡ spec.while_walked (seen_expr test.now) (seen_exprs invariants.now) (seen_block body.now) walk) }
+) -> Result<(Ends, Walk), AllocError>
+    ensures value { IfOk result (λ r. (r.0 ≡ spec.around walk.live (spec.head_live (seen_expr test.now) (seen_block body.now) walk.live)) × (r.1 ≡ spec.with_live (spec.head_live (seen_expr test.now) (seen_block body.now) walk.live) walk)) }
 {
     let Walk { live, marks } = walk;
     let head = head_live(alloc, test, body, &live)?;
@@ -101,7 +110,19 @@ fn walk_while(
         exit: live,
         again: head,
     };
-    let inside = walk_block(alloc, body, &around, start)?;
+    Ok((around, start))
+}
+
+/// Before a loop, whose body begins so.
+fn end_loop(
+    alloc: Global,
+    test: &Expr,
+    invariants: &[Expr],
+    around: Ends,
+    inside: Walk,
+) -> Result<Walk, AllocError>
+    ensures value { IfOk result (λ w. w ≡ spec.loop_ended (seen_expr test.now) (seen_exprs invariants.now) around inside) }
+{
     let Ends { exit, again } = around;
     let begun = enter(alloc, invariants, &exit, inside)?;
     let begun = mark(alloc, test, begun)?;

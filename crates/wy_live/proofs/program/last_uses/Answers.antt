@@ -6,8 +6,9 @@ use Rattle.wy_live.proofs.MarkLemmas.{are_last}
 use Rattle.wy_live.proofs.UniqueLemmas.{one_list}
 use Rattle.wy_live.proofs.program.last_uses.Goals as goal
 
-pub returns-in_ok-last : goal.returns-in_ok-last
-returns-in_ok-last c = record {
-  sound = subst (λ (ms : List Bool). AreLast (seen_core c.args.core.now) ms) (sym c.in_ok-last.ensures.value) (are_last (seen_core c.args.core.now));
-  complete = λ marks h. one_list (seen_core c.args.core.now) marks c.in_ok-last.last h (subst (λ (ms : List Bool). AreLast (seen_core c.args.core.now) ms) (sym c.in_ok-last.ensures.value) (are_last (seen_core c.args.core.now)));
-}
+pub returns-clause-sound : goal.returns-clause-sound
+returns-clause-sound c = subst (λ (ms : List Bool). AreLast (seen_core c.args.core.now) ms) (sym c.in_ok-last.ensures.value) (are_last (seen_core c.args.core.now))
+
+pub returns-clause-complete : goal.returns-clause-complete
+returns-clause-complete c =
+    λ marks h. one_list (seen_core c.args.core.now) marks c.in_ok-last.last h (subst (λ (ms : List Bool). AreLast (seen_core c.args.core.now) ms) (sym c.in_ok-last.ensures.value) (are_last (seen_core c.args.core.now)))
