@@ -161,7 +161,7 @@ mutual
   expr_marks (NullExpr at) w after h = refl
   expr_marks (BoolExpr at truth) w after h = refl
   expr_marks (IntExpr at number) w after h = refl
-  expr_marks (VarExpr at x) w after h = (not (has w.live x), refl, last_is (has w.live x) (after x) (h x))
+  expr_marks (VarExpr at x) w after h = let p = last_is (has w.live x) (after x) (h x) in (not (has w.live x), refl, p.0, p.1)
   expr_marks (CallExpr at routine args) w after h = exprs_marks args w after h
   expr_marks (NegExpr at a) w after h = expr_marks a w after h
   expr_marks (NotExpr at a) w after h = expr_marks a w after h
