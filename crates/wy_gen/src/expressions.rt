@@ -131,7 +131,7 @@ pub fn code(
             code(alloc, context, operand.get(), register, behind)
         }
         ExprKind::Binary(op, left, right) => {
-            let behind = operate(alloc, context, *op, right.get(), register, behind)?;
+            let behind = right_side(alloc, context, *op, right.get(), register, behind)?;
             code(alloc, context, left.get(), register, behind)
         }
         ExprKind::Is(operand, ty) => {
@@ -234,7 +234,7 @@ fn is_test(
 
 /// The right side of an operator, and the operator.
 #[cycle(code)]
-fn operate(
+fn right_side(
     alloc: Global,
     context: &Context,
     op: Op,
@@ -243,104 +243,87 @@ fn operate(
     behind: Made,
 ) -> Result<Made, NoMemory> {
     match op {
-        Op::Add => arith(alloc, context, Arithmetic::Add, right, register, behind),
-        Op::Sub => arith(alloc, context, Arithmetic::Sub, right, register, behind),
-        Op::Mul => arith(alloc, context, Arithmetic::Mul, right, register, behind),
-        Op::Div => arith(alloc, context, Arithmetic::Div, right, register, behind),
-        Op::Mod => arith(alloc, context, Arithmetic::Mod, right, register, behind),
-        Op::Equal => equal(alloc, context, right, register, behind),
-        Op::Less => compare(alloc, context, Comparison::Less, right, register, behind),
-        Op::LessEqual => compare(alloc, context, Comparison::LessEqual, right, register, behind),
-        Op::Greater => compare(alloc, context, Comparison::Greater, right, register, behind),
-        Op::GreaterEqual => {
-            compare(alloc, context, Comparison::GreaterEqual, right, register, behind)
+        Op::And => {
+            let end = behind.steps.len();
+            let start = begin_and(alloc, right, end, behind)?;
+            let mid = start.steps.len();
+            let made = code(alloc, context, right, register, start)?;
+            end_and(register, end, mid, made)
         }
-        Op::And => and_also(alloc, context, right, register, behind),
-        Op::Or => or_else(alloc, context, right, register, behind),
+        Op::Or => {
+            let end = behind.steps.len();
+            let after = behind.live.copy(alloc)?;
+            let made = code(alloc, context, right, register, behind)?;
+            end_or(alloc, &after, register, end, made)
+        }
+        _ => {
+            let free = next(register)?;
+            let behind = operator(alloc, op, is_plain(right), register, free, behind)?;
+            code(alloc, context, right, free, behind)
+        }
     }
 }
 
-#[cycle(code)]
-fn arith(
-    alloc: Global,
-    context: &Context,
-    op: Arithmetic,
-    right: &Expr,
-    register: u32,
-    behind: Made,
-) -> Result<Made, NoMemory> {
-    let free = next(register)?;
-    let behind = plain(Instr::Arith(register, op, register, free), behind)?;
-    code(alloc, context, right, free, behind)
-}
-
-#[cycle(code)]
-fn compare(
-    alloc: Global,
-    context: &Context,
-    op: Comparison,
-    right: &Expr,
-    register: u32,
-    behind: Made,
-) -> Result<Made, NoMemory> {
-    let free = next(register)?;
-    let behind = plain(Instr::Compare(register, op, register, free), behind)?;
-    code(alloc, context, right, free, behind)
-}
-
-#[cycle(code)]
-fn equal(
-    alloc: Global,
-    context: &Context,
-    right: &Expr,
-    register: u32,
-    behind: Made,
-) -> Result<Made, NoMemory> {
-    let free = next(register)?;
+/// Where `&&` leaves out its right side, what that side alone uses is released.
+fn begin_and(alloc: Global, right: &Expr, end: usize, behind: Made) -> Result<Made, NoMemory> {
     let Made { live, steps } = behind;
-    let steps = release_unless(alloc, is_plain(right), free, steps)?;
-    let steps = does(Instr::Equal(register, register, free), steps)?;
-    code(alloc, context, right, free, Made { live, steps })
-}
-
-/// `&&`: the right side where the left one is true; else what the right side alone uses is released.
-#[cycle(code)]
-fn and_also(
-    alloc: Global,
-    context: &Context,
-    right: &Expr,
-    register: u32,
-    behind: Made,
-) -> Result<Made, NoMemory> {
-    let Made { live, steps } = behind;
-    let end = steps.len();
     let both = wy_live::before(right, live.copy(alloc)?)?;
     let steps = released(alloc, &both, &live, steps)?;
     let steps = jump_over(end, steps)?;
-    let mid = steps.len();
-    let Made { live, steps } = code(alloc, context, right, register, Made { live, steps })?;
+    Ok(Made { live, steps })
+}
+
+/// The right side of `&&` where the left one is true.
+fn end_and(register: u32, end: usize, mid: usize, right: Made) -> Result<Made, NoMemory> {
+    let Made { live, steps } = right;
     let steps = fork(register, end, mid, steps)?;
     Ok(Made { live, steps })
 }
 
-/// `||`: the right side where the left one is false.
-#[cycle(code)]
-fn or_else(
+/// The right side of `||` where the left one is false; else what that side alone uses is released.
+fn end_or(
     alloc: Global,
-    context: &Context,
-    right: &Expr,
+    after: &Variables,
     register: u32,
-    behind: Made,
+    end: usize,
+    right: Made,
 ) -> Result<Made, NoMemory> {
-    let Made { live, steps } = behind;
-    let end = steps.len();
-    let after = live.copy(alloc)?;
-    let Made { live, steps } = code(alloc, context, right, register, Made { live, steps })?;
+    let Made { live, steps } = right;
     let steps = jump_over(end, steps)?;
     let mid = steps.len();
-    let steps = released(alloc, &live, &after, steps)?;
+    let steps = released(alloc, &live, after, steps)?;
     let steps = fork(register, end, mid, steps)?;
     Ok(Made { live, steps })
+}
+
+/// An operator that evaluates both sides.
+fn operator(
+    alloc: Global,
+    op: Op,
+    is_plain: bool,
+    left: u32,
+    right: u32,
+    behind: Made,
+) -> Result<Made, NoMemory> {
+    match op {
+        Op::Add => plain(Instr::Arith(left, Arithmetic::Add, left, right), behind),
+        Op::Sub => plain(Instr::Arith(left, Arithmetic::Sub, left, right), behind),
+        Op::Mul => plain(Instr::Arith(left, Arithmetic::Mul, left, right), behind),
+        Op::Div => plain(Instr::Arith(left, Arithmetic::Div, left, right), behind),
+        Op::Mod => plain(Instr::Arith(left, Arithmetic::Mod, left, right), behind),
+        Op::Less => plain(Instr::Compare(left, Comparison::Less, left, right), behind),
+        Op::LessEqual => plain(Instr::Compare(left, Comparison::LessEqual, left, right), behind),
+        Op::Greater => plain(Instr::Compare(left, Comparison::Greater, left, right), behind),
+        Op::GreaterEqual => {
+            plain(Instr::Compare(left, Comparison::GreaterEqual, left, right), behind)
+        }
+        Op::Equal | Op::And | Op::Or => {
+            let Made { live, steps } = behind;
+            let steps = release_unless(alloc, is_plain, right, steps)?;
+            let steps = does(Instr::Equal(left, left, right), steps)?;
+            Ok(Made { live, steps })
+        }
+    }
 }
 
 /// The values of a record, and the record.

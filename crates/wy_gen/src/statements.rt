@@ -61,11 +61,21 @@ fn stmt_code(
         StmtKind::Skip => Ok(behind),
         StmtKind::Fail => gives_null(alloc, free, behind),
         StmtKind::If(test, first, second) => {
-            let (first, second) = (first.as_slice(), second.as_slice());
-            choice(alloc, context, test, first, second, around, free, behind)
+            let first = first.as_slice();
+            let end = behind.steps.len();
+            let again = behind.live.copy(alloc)?;
+            let second = block_code(alloc, context, second.as_slice(), around, free, behind)?;
+            let choice = begin_first(alloc, first, &around.ends, again, end, second)?;
+            let Choice { both, mid, start } = choice;
+            let made = block_code(alloc, context, first, around, free, start)?;
+            end_choice(alloc, context, test, both, end, mid, free, made)
         }
         StmtKind::While(test, _, body) => {
-            repetition(alloc, context, test, body.as_slice(), free, behind)
+            let body = body.as_slice();
+            let start = begin_loop(alloc, test, body, behind)?;
+            let Loop { both, inside, head, around, start } = start;
+            let made = block_code(alloc, context, body, &around, free, start)?;
+            end_loop(alloc, context, test, both, &inside, head, around.again, free, made)
         }
     }
 }
@@ -92,43 +102,72 @@ pub fn block_code(
     Ok(made)
 }
 
-/// The test of an `if` and both blocks, each of which first releases what only the other one uses.
-#[cycle(stmt)]
-fn choice(
+/// An `if` whose second block is made: what is live behind its test, how many steps stand behind
+/// the first block and the step over the second one, and where the first block ends.
+#[derive(Drop)]
+struct Choice {
+    both: Variables,
+    mid: usize,
+    start: Made,
+}
+
+/// What only the first block uses is released before the second one.
+fn begin_first(
+    alloc: Global,
+    first: &[Stmt],
+    ends: &Ends,
+    behind: Variables,
+    end: usize,
+    second: Made,
+) -> Result<Choice, NoMemory> {
+    let one = wy_live::live_block(alloc, first, behind.copy(alloc)?, ends)?;
+    let both = joined(alloc, &one, &second.live)?;
+    let steps = released(alloc, &both, &second.live, second.steps)?;
+    let steps = jump_over(end, steps)?;
+    Ok(Choice {
+        both,
+        mid: steps.len(),
+        start: Made {
+            live: behind,
+            steps,
+        },
+    })
+}
+
+/// What only the second block uses is released before the first one; then the test before both.
+fn end_choice(
     alloc: Global,
     context: &Context,
     test: &Expr,
-    first: &[Stmt],
-    second: &[Stmt],
-    around: &Around,
+    both: Variables,
+    end: usize,
+    mid: usize,
     free: u32,
-    behind: Made,
+    first: Made,
 ) -> Result<Made, NoMemory> {
-    let Made { live, steps } = behind;
-    let end = steps.len();
-    let again = live.copy(alloc)?;
-    let one = wy_live::live_block(alloc, first, live.copy(alloc)?, &around.ends)?;
-    let two = block_code(alloc, context, second, around, free, Made { live, steps })?;
-    let both = joined(alloc, &one, &two.live)?;
-    let steps = released(alloc, &both, &two.live, two.steps)?;
-    let steps = jump_over(end, steps)?;
-    let mid = steps.len();
-    let one = block_code(alloc, context, first, around, free, Made { live: again, steps })?;
-    let steps = released(alloc, &both, &one.live, one.steps)?;
+    let steps = released(alloc, &both, &first.live, first.steps)?;
     let steps = fork(free, end, mid, steps)?;
     code(alloc, context, test, free, Made { live: both, steps })
 }
 
-/// The test of a loop, its body, and the step back. What only the loop uses is released behind it.
-#[cycle(stmt)]
-fn repetition(
+/// A loop before its body: what is live behind its test, at the start of its body and at its head,
+/// what the body stands in, and where the body ends.
+#[derive(Drop)]
+struct Loop {
+    both: Variables,
+    inside: Variables,
+    head: Variables,
+    around: Around,
+    start: Made,
+}
+
+/// What only the loop uses is released behind it, and the step back stands behind the body.
+fn begin_loop(
     alloc: Global,
-    context: &Context,
     test: &Expr,
     body: &[Stmt],
-    free: u32,
     behind: Made,
-) -> Result<Made, NoMemory> {
+) -> Result<Loop, NoMemory> {
     let Made { live, steps } = behind;
     let exit = steps.len();
     let head = head_live(alloc, test, body, &live)?;
@@ -139,19 +178,35 @@ fn repetition(
     let inside = wy_live::live_block(alloc, body, head.copy(alloc)?, &ends)?;
     let both = joined(alloc, &inside, &live)?;
     let steps = released(alloc, &both, &live, steps)?;
-    let done = steps.len();
     let steps = before(Step::GoesBack(0), steps)?;
-    let around = Around {
-        ends,
-        exit,
-        again: steps.len(),
-    };
     let start = Made {
         live: head.copy(alloc)?,
         steps,
     };
-    let made = block_code(alloc, context, body, &around, free, start)?;
-    let steps = released(alloc, &both, &inside, made.steps)?;
+    let again = start.steps.len();
+    Ok(Loop {
+        both,
+        inside,
+        head,
+        around: Around { ends, exit, again },
+        start,
+    })
+}
+
+/// The test of a loop before its body.
+fn end_loop(
+    alloc: Global,
+    context: &Context,
+    test: &Expr,
+    both: Variables,
+    inside: &Variables,
+    head: Variables,
+    again: usize,
+    free: u32,
+    body: Made,
+) -> Result<Made, NoMemory> {
+    let done = again.saturating_sub(1);
+    let steps = released(alloc, &both, inside, body.steps)?;
     let over = steps.since(done)?;
     let steps = before(Step::GoesOnUnless(free, over), steps)?;
     let made = code(alloc, context, test, free, Made { live: both, steps })?;

@@ -1,11 +1,11 @@
 //! Code whose jumps say how far they go.
-ghost use Rattle.std.specs.Prelude.{◌≡◌, ◌-◌, [], ◌∷◌, ◌++◌, IfOk, List, length, reverse, suc};
+ghost use Rattle.std.specs.Prelude.{◌≡◌, ◌-◌, [], ◌∷◌, ◌++◌, IfOk, OnOk, List, length, reverse, suc};
 ghost use Rattle.wy_gen.specs.Steps as spec;
 ghost use Rattle.wy_gen.specs.declared.steps.Step.{Step};
 
 use crate::fault::NoMemory;
 use sqlite_items::Items;
-use std::alloc::Global;
+use std::alloc::{AllocError, Global};
 use std::marker::Model;
 use wy_code::Instr;
 
@@ -78,8 +78,15 @@ pub fn before(step: Step, steps: Steps) -> Result<Steps, NoMemory>
     ensures value { IfOk result (λ s. s ≡ step ∷ steps) }
 {
     let Steps { mut backwards } = steps;
-    backwards.push(step)?;
+    push(&mut backwards, step)?;
     Ok(Steps { backwards })
+}
+
+fn push(steps: &mut Vec<Step>, step: Step) -> Result<(), AllocError>
+    ensures value { OnOk result (steps.new.items ≡ steps.old.items ++ step ∷ []) }
+{
+    steps.push(step)?;
+    Ok(())
 }
 
 /// An instruction before the others.

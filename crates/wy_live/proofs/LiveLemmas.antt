@@ -1,9 +1,9 @@
 -- What is live before a statement is what some path from there on uses before it assigns it.
 use Rattle.std.proofs.Common.{◌≡◌, ◌⊎◌, inl, inr, ℕ, Bool, true, false, not, ◌&&◌, ◌||◌, ◌==◌, List, [], ◌∷◌, Option, Some, None, refl, sym, ap, ◌∙◌}
 use Rattle.wy_core.specs.CoreTree.{Expr, Step, Stmt, DeclareStmt, AssignStmt, CallStmt, ReturnStmt, AssertStmt, BreakStmt, ContinueStmt, SkipStmt, FailStmt, IfStmt, WhileStmt, Stmts, NoStmts, MoreStmts}
-use Rattle.wy_live.specs.Paths.{occurs, any_occurs, any_step_occurs, Used, UsedOrKept, DeclareLive, AssignLive, ReturnLive, Turns, IsLive, AreLive}
+use Rattle.wy_live.specs.Paths.{occurs, any_occurs, any_step_occurs, Used, UsedOrKept, DeclareLive, AssignLive, ReturnLive, IsLive, AreLive}
 use Rattle.wy_live.specs.Sets.{Variables, has, with, without, joined}
-use Rattle.wy_live.specs.Walks.{before, before_all, before_steps, declare_live, assign_live, return_live, alone, live, live_all, head_live}
+use Rattle.wy_live.specs.Walks.{before, before_all, before_steps, declare_live, assign_live, return_live, alone, live, live_all}
 use Rattle.wy_live.specs.declared.walk.Ends.{Ends}
 use Rattle.wy_live.proofs.SetLemmas.{either, never, has-with, has-without, has-joined}
 use Rattle.wy_live.proofs.UseLemmas.{has-before, has-before_all, has-before_steps}

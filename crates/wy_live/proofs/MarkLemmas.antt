@@ -2,10 +2,10 @@
 use Rattle.std.proofs.Common.{◌≡◌, ◌⊎◌, inl, inr, ℕ, Bool, true, false, not, ◌&&◌, ◌||◌, ◌==◌, List, [], ◌∷◌, Option, Some, None, refl, sym, ap, ◌∙◌, subst}
 use Rattle.wy_core.specs.CoreTree as tree
 use Rattle.wy_core.specs.CoreTree.{Expr, NullExpr, BoolExpr, IntExpr, VarExpr, CallExpr, NegExpr, NotExpr, LenExpr, BinaryExpr, IsExpr, IndexExpr, FieldExpr, ListExpr, RepeatExpr, RecordExpr, QuantExpr, Exprs, NoExprs, MoreExprs, Fields, NoFields, MoreFields, Step, IndexStep, FieldStep, Stmt, DeclareStmt, AssignStmt, CallStmt, ReturnStmt, AssertStmt, BreakStmt, ContinueStmt, SkipStmt, FailStmt, IfStmt, WhileStmt, Stmts, NoStmts, MoreStmts, Decl, AliasDecl, RoutineDecl, Core}
-use Rattle.wy_live.specs.Paths.{occurs, any_occurs, any_field_occurs, step_occurs, any_step_occurs, Used, IsLive, AreLive}
-use Rattle.wy_live.specs.LastUses.{Later, then_later, assigned_later, updated_later, turn_later, Marked, ExprMarks, ExprsMarks, FieldsMarks, StepMarks, StepsMarks, DeclareMarks, AssignMarks, ReturnMarks, nothing_later, if_later, head_later, test_later, StmtMarks, StmtsMarks, DeclMarks, DeclsMarks, AreLast}
+use Rattle.wy_live.specs.Paths.{occurs, any_occurs, any_field_occurs, any_step_occurs, IsLive, AreLive}
+use Rattle.wy_live.specs.LastUses.{Later, then_later, assigned_later, updated_later, turn_later, ExprMarks, ExprsMarks, FieldsMarks, StepMarks, StepsMarks, DeclareMarks, AssignMarks, ReturnMarks, nothing_later, if_later, head_later, test_later, StmtMarks, StmtsMarks, DeclMarks, DeclsMarks, AreLast}
 use Rattle.wy_live.specs.Sets.{Variables, has, with, without, joined}
-use Rattle.wy_live.specs.Walks.{before, before_all, before_fields, before_step, before_steps, turned, used, with_live, marked, marked_all, marked_fields, marked_step, marked_steps, body_marked, live, live_all, head_live, declare_live, assign_live, return_live, declare_walked, assign_walked, return_walked, around, forked, entered, walked, walked_all, nothing, ended, decl_walked, decls_walked, last_of}
+use Rattle.wy_live.specs.Walks.{before, before_all, before_fields, before_step, before_steps, turned, with_live, marked, marked_all, marked_fields, marked_step, marked_steps, body_marked, live, live_all, head_live, declare_live, assign_live, return_live, declare_walked, assign_walked, return_walked, around, forked, entered, walked, walked_all, nothing, ended, decl_walked, decls_walked, last_of}
 use Rattle.wy_live.specs.declared.walk.Ends.{Ends}
 use Rattle.wy_live.specs.declared.walk.Walk.{Walk}
 use Rattle.wy_live.proofs.SetLemmas.{either, never, has-with, has-without, has-joined}

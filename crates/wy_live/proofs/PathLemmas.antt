@@ -1,7 +1,7 @@
 -- Paths through statements: what follows may be replaced and taken out, and one turn of a loop is enough.
-use Rattle.std.proofs.Common.{◌≡◌, ◌⊎◌, inl, inr, ℕ, zero, suc, Bool, true, false, ◌||◌, ◌==◌, List, [], ◌∷◌, Option, Some, None}
+use Rattle.std.proofs.Common.{◌⊎◌, inl, inr, ℕ, zero, suc, Bool, ◌||◌, ◌==◌, List, [], ◌∷◌, Option, Some, None}
 use Rattle.wy_core.specs.CoreTree.{Expr, Step, Stmt, DeclareStmt, AssignStmt, CallStmt, ReturnStmt, AssertStmt, BreakStmt, ContinueStmt, SkipStmt, FailStmt, IfStmt, WhileStmt, Stmts, NoStmts, MoreStmts}
-use Rattle.wy_live.specs.Paths.{occurs, any_occurs, any_step_occurs, Used, UsedOrKept, DeclareLive, AssignLive, ReturnLive, Turns, IsLive, AreLive}
+use Rattle.wy_live.specs.Paths.{occurs, any_occurs, any_step_occurs, Used, UsedOrKept, DeclareLive, AssignLive, Turns, IsLive, AreLive}
 use Rattle.wy_live.proofs.SetLemmas.{either}
 
 -- what a body says of its end, of each `continue`, and of what follows the loop

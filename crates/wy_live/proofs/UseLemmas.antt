@@ -1,10 +1,10 @@
 -- What is live before an expression: what stands in it, and what is live behind it.
-use Rattle.std.proofs.Common.{◌≡◌, ◌≢◌, ◌⊎◌, inl, inr, ℕ, Bool, true, false, not, ◌&&◌, ◌||◌, ◌==◌, List, [], ◌∷◌, refl, sym, ap, ◌∙◌, subst}
+use Rattle.std.proofs.Common.{◌≡◌, ℕ, Bool, true, false, not, ◌&&◌, ◌||◌, ◌==◌, List, [], ◌∷◌, refl, sym, ap, ◌∙◌}
 use Rattle.wy_core.specs.CoreTree.{Expr, NullExpr, BoolExpr, IntExpr, VarExpr, CallExpr, NegExpr, NotExpr, LenExpr, BinaryExpr, IsExpr, IndexExpr, FieldExpr, ListExpr, RepeatExpr, RecordExpr, QuantExpr, Exprs, NoExprs, MoreExprs, Fields, NoFields, MoreFields, Step, IndexStep, FieldStep}
 use Rattle.wy_live.specs.Paths.{occurs, any_occurs, any_field_occurs, step_occurs, any_step_occurs}
-use Rattle.wy_live.specs.Sets.{Variables, has, with, without, restored}
+use Rattle.wy_live.specs.Sets.{Variables, has, restored}
 use Rattle.wy_live.specs.Walks.{before, before_all, before_fields, before_step, before_steps, turned}
-use Rattle.wy_live.proofs.SetLemmas.{never, by_same, by_truth, has-with, has-without}
+use Rattle.wy_live.proofs.SetLemmas.{by_same, by_truth, has-with, has-without}
 
 or_assoc : (a b c : Bool) → (a || (b || c)) ≡ ((a || b) || c)
 or_assoc true b c = refl

@@ -17,7 +17,7 @@ use Rattle.wy_code.specs.declared.instructions.Arithmetic.TheVariants.{Add, Sub,
 use Rattle.wy_code.specs.declared.instructions.Comparison.{Comparison}
 use Rattle.wy_code.specs.declared.instructions.Comparison.TheVariants.{Less, LessEqual, Greater, GreaterEqual}
 use Rattle.wy_code.specs.declared.instructions.Slot as code
-use Rattle.wy_code.specs.declared.instructions.Slot.TheVariants as step
+use Rattle.wy_code.specs.declared.instructions.Slot.TheVariants as path_step
 use Rattle.wy_code.specs.declared.instructions.Kind.{Kind}
 use Rattle.wy_code.specs.declared.instructions.Kind.TheVariants as kind
 use Rattle.wy_code.specs.declared.instructions.Instr.{Instr}
@@ -176,8 +176,8 @@ has_names (field n d fs) (m ∷ ms) = bytes_eq n m && has_names fs ms
 -- the parts that the steps of a path name
 abbrev pub slots_of : Shapes → Store → List code.Slot → (List Slot → Effect) → Effect
 slots_of shapes s [] next = next []
-slots_of shapes s (step.Item r ∷ path) next = held s r (λ v. as_number v (λ i. where_so (int_le (pos 0) i) (slots_of shapes s path (λ slots. next (ItemSlot (nat_of i) ∷ slots)))))
-slots_of shapes s (step.Field f ∷ path) next = there (slice_get shapes.names f) (λ name. slots_of shapes s path (λ slots. next (FieldSlot name ∷ slots)))
+slots_of shapes s (path_step.Item r ∷ path) next = held s r (λ v. as_number v (λ i. where_so (int_le (pos 0) i) (slots_of shapes s path (λ slots. next (ItemSlot (nat_of i) ∷ slots)))))
+slots_of shapes s (path_step.Field f ∷ path) next = there (slice_get shapes.names f) (λ name. slots_of shapes s path (λ slots. next (FieldSlot name ∷ slots)))
 
 -- the value has such a part
 abbrev pub has_part : Slot → Datum → Bool

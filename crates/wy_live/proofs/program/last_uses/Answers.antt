@@ -1,5 +1,5 @@
 -- The marks of the walk are right, and no others are.
-use Rattle.std.proofs.Common.{List, Bool, IfOk, subst, sym}
+use Rattle.std.proofs.Common.{List, Bool, subst, sym}
 use Rattle.wy_core.specs.CoreSeen.{seen_core}
 use Rattle.wy_live.specs.LastUses.{AreLast}
 use Rattle.wy_live.proofs.MarkLemmas.{are_last}
