@@ -81,7 +81,10 @@ fn operators(rt: HostRuntime) -> Result<(), Fail> {
         (Comparison::Less, "routine 0\n  Compare r2 < r3 r4\n"),
         (Comparison::LessEqual, "routine 0\n  Compare r2 <= r3 r4\n"),
         (Comparison::Greater, "routine 0\n  Compare r2 > r3 r4\n"),
-        (Comparison::GreaterEqual, "routine 0\n  Compare r2 >= r3 r4\n"),
+        (
+            Comparison::GreaterEqual,
+            "routine 0\n  Compare r2 >= r3 r4\n",
+        ),
     ];
     for (op, want) in tests {
         assert_eq!(rt; written(alloc, Instr::Compare(2, op, 3, 4))?.as_str(), want);
@@ -173,7 +176,10 @@ fn lists(rt: HostRuntime) -> Result<(), Fail> {
         assert_eq!(rt; written(alloc, instr)?.as_str(), want);
     }
     let none = listed(alloc, 1, &[])?;
-    assert_eq!(rt; written(alloc, none)?.as_str(), "routine 0\n  Array r4 []\n");
+    assert_eq!(rt;
+        written(alloc, none)?.as_str(),
+        "routine 0\n  Array r4 []\n"
+    );
     Ok(())
 }
 
@@ -185,7 +191,10 @@ fn paths(rt: HostRuntime) -> Result<(), Fail> {
     path.push(Slot::Field(1))?;
     path.push(Slot::Item(12))?;
     let instr = Instr::Put(0, path, 5);
-    assert_eq!(rt; written(alloc, instr)?.as_str(), "routine 0\n  Put r0 [[r3], .1, [r12]] r5\n");
+    assert_eq!(rt;
+        written(alloc, instr)?.as_str(),
+        "routine 0\n  Put r0 [[r3], .1, [r12]] r5\n"
+    );
     Ok(())
 }
 
@@ -203,6 +212,10 @@ fn routines(rt: HostRuntime) -> Result<(), Fail> {
         Ok(text) => text,
         Err(_) => return Err(Fail::from(AllocError)),
     };
-    assert_eq!(rt; text.as_slice(), b"routine 0\n  Share r1 r0\n  Return r1\nroutine 1\n");
+    let text = String::from_utf8_lossy(alloc, text.as_slice())?;
+    assert_eq!(rt;
+        text.as_str(),
+        "routine 0\n  Share r1 r0\n  Return r1\nroutine 1\n"
+    );
     Ok(())
 }

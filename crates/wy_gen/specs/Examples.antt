@@ -33,8 +33,8 @@ absolute_value = function (codes "x" ∷ []) (MoreStmts (IfStmt 0 (BinaryExpr 0 
 abbrev pub counting : Core ℕ
 counting = function (codes "xs" ∷ codes "i" ∷ []) (MoreStmts (DeclareStmt 0 IntTy 1 (Some (IntExpr 0 (pos 0))))
     (MoreStmts (WhileStmt 0 (BinaryExpr 0 Less (VarExpr 0 1) (LenExpr 0 (VarExpr 0 0))) []
-      (MoreStmts (AssignStmt 0 0 (IndexStep 0 (VarExpr 0 1) ∷ []) (VarExpr 0 1))
-      (MoreStmts (AssignStmt 0 1 [] (BinaryExpr 0 Add (VarExpr 0 1) (IntExpr 0 (pos 1)))) NoStmts)))
+    (MoreStmts (AssignStmt 0 0 (IndexStep 0 (VarExpr 0 1) ∷ []) (VarExpr 0 1))
+    (MoreStmts (AssignStmt 0 1 [] (BinaryExpr 0 Add (VarExpr 0 1) (IntExpr 0 (pos 1)))) NoStmts)))
     (MoreStmts (ReturnStmt 0 (Some (VarExpr 0 1))) NoStmts)))
 
 -- type list is null | {int head, list tail}; return x is list

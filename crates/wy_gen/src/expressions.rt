@@ -118,7 +118,10 @@ pub fn code(
         }
         ExprKind::Neg(operand) => {
             let free = next(register)?;
-            let behind = plain(Instr::Arith(register, Arithmetic::Sub, free, register), behind)?;
+            let behind = plain(
+                Instr::Arith(register, Arithmetic::Sub, free, register),
+                behind,
+            )?;
             let behind = plain(Instr::Const(free, Scalar::Int(0)), behind)?;
             code(alloc, context, operand.get(), register, behind)
         }
@@ -312,10 +315,19 @@ fn operator(
         Op::Div => plain(Instr::Arith(left, Arithmetic::Div, left, right), behind),
         Op::Mod => plain(Instr::Arith(left, Arithmetic::Mod, left, right), behind),
         Op::Less => plain(Instr::Compare(left, Comparison::Less, left, right), behind),
-        Op::LessEqual => plain(Instr::Compare(left, Comparison::LessEqual, left, right), behind),
-        Op::Greater => plain(Instr::Compare(left, Comparison::Greater, left, right), behind),
+        Op::LessEqual => plain(
+            Instr::Compare(left, Comparison::LessEqual, left, right),
+            behind,
+        ),
+        Op::Greater => plain(
+            Instr::Compare(left, Comparison::Greater, left, right),
+            behind,
+        ),
         Op::GreaterEqual => {
-            plain(Instr::Compare(left, Comparison::GreaterEqual, left, right), behind)
+            plain(
+                Instr::Compare(left, Comparison::GreaterEqual, left, right),
+                behind,
+            )
         }
         Op::Equal | Op::And | Op::Or => {
             let Made { live, steps } = behind;
@@ -345,7 +357,13 @@ fn record(
     let mut left = fields.len();
     while left > 0 {
         left -= 1;
-        made = code(alloc, context, &fields[left].1, register_at(register, left)?, made)?;
+        made = code(
+            alloc,
+            context,
+            &fields[left].1,
+            register_at(register, left)?,
+            made,
+        )?;
     }
     Ok(made)
 }
@@ -365,7 +383,13 @@ pub fn codes(
     let mut left = exprs.len();
     while left > 0 {
         left -= 1;
-        made = code(alloc, context, &exprs[left], register_at(register, left)?, made)?;
+        made = code(
+            alloc,
+            context,
+            &exprs[left],
+            register_at(register, left)?,
+            made,
+        )?;
     }
     Ok(made)
 }
@@ -406,11 +430,18 @@ fn quantify(
     let steps = released(alloc, &inside, &live, steps)?;
     let done = steps.len();
     let steps = before(Step::GoesBack(0), steps)?;
-    let steps = does(Instr::Arith(register, Arithmetic::Add, register, free), steps)?;
+    let steps = does(
+        Instr::Arith(register, Arithmetic::Add, register, free),
+        steps,
+    )?;
     let steps = does(Instr::Const(free, Scalar::Int(1)), steps)?;
     let over = steps.since(last)?;
     let steps = before(Step::GoesOnUnless(free, over), steps)?;
-    let steps = if all { steps } else { does(Instr::Not(free, free), steps)? };
+    let steps = if all {
+        steps
+    } else {
+        does(Instr::Not(free, free), steps)?
+    };
     let start = Made {
         live: inside.copy(alloc)?,
         steps,

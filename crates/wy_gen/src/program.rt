@@ -48,11 +48,7 @@ pub fn generate(alloc: Global, core: &Core) -> Result<Code, NoMemory>
     })
 }
 
-fn body_routine(
-    alloc: Global,
-    context: &Context,
-    routine: &Routine,
-) -> Result<Compiled, NoMemory> {
+fn body_routine(alloc: Global, context: &Context, routine: &Routine) -> Result<Compiled, NoMemory> {
     let Ok(free) = u32::try_from(routine.variables.len()) else {
         return Err(NoMemory);
     };
@@ -73,7 +69,11 @@ fn body_routine(
 }
 
 /// The parameters that no path uses.
-fn unused_params(alloc: Global, live: &Variables, params: &[Param]) -> Result<Items<u32>, NoMemory> {
+fn unused_params(
+    alloc: Global,
+    live: &Variables,
+    params: &[Param],
+) -> Result<Items<u32>, NoMemory> {
     let mut unused = Items::new(alloc);
     for param in params {
         if !live.has(param.variable) {
@@ -93,7 +93,14 @@ fn type_routine(alloc: Global, context: &Context, alias: &Alias) -> Result<Compi
     let free = next(answer)?;
     let steps = does(Instr::Return(answer), Steps::none(alloc))?;
     let steps = dropped(alloc, variable, free, steps)?;
-    let steps = clauses_code(alloc, context, alias.clauses.as_slice(), variable, answer, steps)?;
+    let steps = clauses_code(
+        alloc,
+        context,
+        alias.clauses.as_slice(),
+        variable,
+        answer,
+        steps,
+    )?;
     let steps = test(alloc, context, &alias.ty, variable, answer, free, steps)?;
     let steps = if variable == 0 {
         steps

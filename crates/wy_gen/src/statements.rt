@@ -47,7 +47,15 @@ fn stmt_code(
             declare(alloc, context, *variable, value, free, behind)
         }
         StmtKind::Assign(variable, path, value) => {
-            assign(alloc, context, *variable, path.as_slice(), value, free, behind)
+            assign(
+                alloc,
+                context,
+                *variable,
+                path.as_slice(),
+                value,
+                free,
+                behind,
+            )
         }
         StmtKind::Call(routine, args) => {
             let args = args.as_slice();
@@ -73,9 +81,25 @@ fn stmt_code(
         StmtKind::While(test, _, body) => {
             let body = body.as_slice();
             let start = begin_loop(alloc, test, body, behind)?;
-            let Loop { both, inside, head, around, start } = start;
+            let Loop {
+                both,
+                inside,
+                head,
+                around,
+                start,
+            } = start;
             let made = block_code(alloc, context, body, &around, free, start)?;
-            end_loop(alloc, context, test, both, &inside, head, around.again, free, made)
+            end_loop(
+                alloc,
+                context,
+                test,
+                both,
+                &inside,
+                head,
+                around.again,
+                free,
+                made,
+            )
         }
     }
 }
@@ -162,12 +186,7 @@ struct Loop {
 }
 
 /// What only the loop uses is released behind it, and the step back stands behind the body.
-fn begin_loop(
-    alloc: Global,
-    test: &Expr,
-    body: &[Stmt],
-    behind: Made,
-) -> Result<Loop, NoMemory> {
+fn begin_loop(alloc: Global, test: &Expr, body: &[Stmt], behind: Made) -> Result<Loop, NoMemory> {
     let Made { live, steps } = behind;
     let exit = steps.len();
     let head = head_live(alloc, test, body, &live)?;

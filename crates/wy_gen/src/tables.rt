@@ -9,9 +9,7 @@ use crate::fault::NoMemory;
 use crate::steps::next;
 use sqlite_items::Items;
 use std::alloc::Global;
-use wy_core::{
-    Core, Decl, Expr, ExprKind, Output, Step, StepKind, Stmt, StmtKind, Ty, TyKind,
-};
+use wy_core::{Core, Decl, Expr, ExprKind, Output, Step, StepKind, Stmt, StmtKind, Ty, TyKind};
 use wy_data::Name;
 use wy_value::Shapes;
 

@@ -37,7 +37,15 @@ pub fn test(
         TyKind::Any => does(Instr::Const(answer, Scalar::Bool(true)), steps),
         TyKind::Void => does(Instr::Const(answer, Scalar::Bool(false)), steps),
         TyKind::Record(fields) => {
-            test_record(alloc, context, fields.as_slice(), value, answer, free, steps)
+            test_record(
+                alloc,
+                context,
+                fields.as_slice(),
+                value,
+                answer,
+                free,
+                steps,
+            )
         }
         TyKind::Array(item) => test_array(alloc, context, item.get(), value, answer, free, steps),
         TyKind::Union(left, right) => {

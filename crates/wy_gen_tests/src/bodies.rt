@@ -17,14 +17,20 @@ use wy_data::Name;
 use wy_gen::generate;
 
 #[test]
-fn expressions(rt: HostRuntime) {
+fn expressions(rt: HostRuntime) -> Result<(), Fail> {
     let alloc = rt.alloc();
     for (text, want) in [
         ("ar", "Move r5 r0;Return r5;"),
         ("aa+r", "Share r5 r0;Move r6 r0;Arith r5 + r5 r6;Return r5;"),
         ("0r", "Clear [r0];Const r5 0;Return r5;"),
-        ("ab&r", "Move r5 r0;Branch r5 4;Move r5 r1;Jump 5;Clear [r1];Return r5;"),
-        ("ab|r", "Move r5 r0;Branch r5 4;Clear [r1];Jump 5;Move r5 r1;Return r5;"),
+        (
+            "ab&r",
+            "Move r5 r0;Branch r5 4;Move r5 r1;Jump 5;Clear [r1];Return r5;",
+        ),
+        (
+            "ab|r",
+            "Move r5 r0;Branch r5 4;Clear [r1];Jump 5;Move r5 r1;Return r5;",
+        ),
         ("b!ar", "Move r5 r0;Return r5;"),
         (
             "c0acQr",
@@ -33,20 +39,34 @@ fn expressions(rt: HostRuntime) {
     ] {
         assert_eq!(rt; code(alloc, text)?.as_str(), want, "{text}");
     }
+    Ok(())
 }
 
 #[test]
-fn statements(rt: HostRuntime) {
+fn statements(rt: HostRuntime) -> Result<(), Fail> {
     let alloc = rt.alloc();
     for (text, want) in [
-        ("ab0@ar", "Move r5 r1;Const r6 0;Put r0 [[r5]] r6;Move r5 r0;Return r5;"),
+        (
+            "ab0@ar",
+            "Move r5 r1;Const r6 0;Put r0 [[r5]] r6;Move r5 r0;Return r5;",
+        ),
         ("ba=0r", "Move r5 r0;Clear [r5];Const r5 0;Return r5;"),
-        ("a{br{cr?", "Move r5 r0;Branch r5 6;Clear [r2];Move r5 r1;Return r5;Jump 9;Clear [r1];Move r5 r2;Return r5;"),
-        ("b0=a{kwbr", "Const r5 0;Move r1 r5;Move r5 r0;Branch r5 6;Jump 6;Jump 2;Move r5 r1;Return r5;"),
-        ("a{nw0r", "Share r5 r0;Branch r5 4;Jump 3;Jump 0;Clear [r0];Const r5 0;Return r5;"),
+        (
+            "a{br{cr?",
+            "Move r5 r0;Branch r5 6;Clear [r2];Move r5 r1;Return r5;Jump 9;Clear [r1];Move r5 r2;Return r5;",
+        ),
+        (
+            "b0=a{kwbr",
+            "Const r5 0;Move r1 r5;Move r5 r0;Branch r5 6;Jump 6;Jump 2;Move r5 r1;Return r5;",
+        ),
+        (
+            "a{nw0r",
+            "Share r5 r0;Branch r5 4;Jump 3;Jump 0;Clear [r0];Const r5 0;Return r5;",
+        ),
     ] {
         assert_eq!(rt; code(alloc, text)?.as_str(), want, "{text}");
     }
+    Ok(())
 }
 
 // The code of a function with this body, without the two instructions at its end.

@@ -16,7 +16,7 @@ use wy_data::Name;
 use wy_live::last_uses;
 
 #[test]
-fn expressions(rt: HostRuntime) {
+fn expressions(rt: HostRuntime) -> Result<(), Fail> {
     let alloc = rt.alloc();
     for (text, want) in [
         ("ar", "1"),
@@ -36,10 +36,11 @@ fn expressions(rt: HostRuntime) {
     ] {
         assert_eq!(rt; marks(alloc, text)?.as_str(), want, "{text}");
     }
+    Ok(())
 }
 
 #[test]
-fn statements(rt: HostRuntime) {
+fn statements(rt: HostRuntime) -> Result<(), Fail> {
     let alloc = rt.alloc();
     for (text, want) in [
         ("ab0@ar", "11"),
@@ -54,10 +55,11 @@ fn statements(rt: HostRuntime) {
     ] {
         assert_eq!(rt; marks(alloc, text)?.as_str(), want, "{text}");
     }
+    Ok(())
 }
 
 #[test]
-fn loops(rt: HostRuntime) {
+fn loops(rt: HostRuntime) -> Result<(), Fail> {
     let alloc = rt.alloc();
     for (text, want) in [
         ("a{sw0r", "0"),
@@ -74,6 +76,7 @@ fn loops(rt: HostRuntime) {
     ] {
         assert_eq!(rt; marks(alloc, text)?.as_str(), want, "{text}");
     }
+    Ok(())
 }
 
 // The clauses of a type are run one behind the other; those of a contract are not run.

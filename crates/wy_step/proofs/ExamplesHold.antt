@@ -1,10 +1,11 @@
 -- Each line holds by computing.
 use Rattle.std.proofs.Common.{refl}
 use Rattle.std.specs.Fmt.{digits}
+use Rattle.wy_sem.specs.Operations as operations
 use Rattle.wy_step.specs.Examples.{RoutinesDo}
 
 pub routines_do : RoutinesDo
-unfolding digits
+unfolding digits operations.longest
 routines_do = record {
   a_constant = refl;
   a_move = refl;
