@@ -1,0 +1,2 @@
+-- how code is written
+pub mod Listing

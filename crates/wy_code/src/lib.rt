@@ -1,0 +1,16 @@
+//! Instructions: what the machine runs.
+//!
+//! `instructions` has one instruction of each kind, `routines` the code of a program, and `listing`
+//! writes it as text; how is defined in `specs/Listing`. All go by the order of the kinds. ORDER
+//! Instr.
+#![tactic(auto)]
+
+mod fault;
+mod instructions;
+mod listing;
+mod routines;
+
+pub use fault::NoMemory;
+pub use instructions::{Arithmetic, Comparison, Instr, Kind, Scalar, Slot};
+pub use listing::show_code;
+pub use routines::{Code, Routine};

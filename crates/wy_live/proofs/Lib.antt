@@ -1,0 +1,11 @@
+-- what the functions owe
+pub mod PutLemmas
+pub mod WalkLemmas
+-- sets, and what is live
+mod SetLemmas
+mod UseLemmas
+mod PathLemmas
+mod LiveLemmas
+-- the marks
+pub mod MarkLemmas
+pub mod UniqueLemmas

@@ -1,0 +1,6 @@
+-- the definition: paths, and which uses are last
+pub mod Paths
+pub mod LastUses
+-- the reading: what is live at each point, and the marks
+pub mod Sets
+pub mod Walks
