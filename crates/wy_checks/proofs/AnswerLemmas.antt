@@ -7,15 +7,13 @@ use Rattle.wy_core.specs.Types as ty
 use Rattle.wy_core.specs.declared.types.Ty.{Ty}
 use Rattle.wy_core.specs.CoreSeen.{seen_ty}
 use Rattle.wy_types.specs.Names.{Declared}
-use Rattle.wy_types.specs.Questions.{IsWideAbout, IsWideWithin}
-use Rattle.wy_parts.specs.Items.{IsWideElement}
+use Rattle.wy_types.specs.Questions.{IsWideWithin}
 use Rattle.wy_parts.specs.Fields.{AllHave, IsField, IsWideField, SomeLacks}
-use Rattle.wy_updates.specs.Updates.{IsWideWith}
 use Rattle.wy_subtype.specs.Known.{WideOnly}
 use Rattle.wy_typing.specs.declared.fault.FlowFault.{FlowFault}
 use Rattle.wy_typing.specs.declared.fault.FlowFault.TheVariants.{NoField, TypeWide, NoMemory}
 use Rattle.wy_typing.specs.Outcomes.{Outcome, Gives, Fails, Meets}
-use Rattle.wy_typing.specs.Asked.{IsInside, HasOutside, Within, Norm, Element, Field, WithField}
+use Rattle.wy_typing.specs.Asked.{IsInside, HasOutside, Within, Field}
 use Rattle.wy_checks.specs.Refusals.{asked_at, verdict}
 
 -- what stands where a question is refused

@@ -2,7 +2,7 @@
 ghost use Rattle.std.specs.Prelude.{◌≡◌, IfOk, map};
 ghost use Rattle.wy_core.specs.CoreSeen.{field_tys_of, seen_ty};
 ghost use Rattle.wy_core.specs.Types as types;
-ghost use Rattle.wy_types.specs.SeenTypes.{seen_fields, seen_kind};
+ghost use Rattle.wy_types.specs.SeenTypes.{seen_kind};
 
 use sqlite_items::{Boxed, Items};
 use std::alloc::{AllocError, Global};

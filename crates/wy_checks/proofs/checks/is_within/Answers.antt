@@ -1,4 +1,4 @@
-use Rattle.std.proofs.Common.{◌≡◌, Bool, inl, refl}
+use Rattle.std.proofs.Common.{Bool, inl, refl}
 use Rattle.wy_core.specs.CoreSeen.{seen_ty}
 use Rattle.wy_types.specs.Names.{types_of}
 use Rattle.wy_types.specs.Questions.{IsWideWithin}

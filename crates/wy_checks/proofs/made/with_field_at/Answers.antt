@@ -1,4 +1,4 @@
-use Rattle.std.proofs.Common.{◌≡◌, ◌⊎◌, inl, inr, Option, refl}
+use Rattle.std.proofs.Common.{refl}
 use Rattle.wy_core.specs.CoreSeen.{seen_ty}
 use Rattle.wy_core.specs.declared.types.Ty.{Ty}
 use Rattle.wy_types.specs.Names.{types_of}
