@@ -1,5 +1,5 @@
 -- From the end of a path to its begin: what a turn makes of the types along it, and where one fails.
-use Rattle.std.proofs.Common.{◌≡◌, ◌≢◌, ◌+◌, ◌<◌, ◌≤◌, ℕ, zero, suc, List, [], ◌∷◌, length, map, drop, get_or, refl, sym, ap, ◌∙◌, subst, arith, rules}
+use Rattle.std.proofs.Common.{◌≡◌, ◌+◌, ◌<◌, ◌≤◌, ℕ, zero, suc, List, ◌∷◌, length, map, drop, get_or, refl, sym, subst, arith}
 use Rattle.std.proofs.lemmas.List.{drop_more, drop_all}
 use Rattle.wy_core.specs.CoreSeen.{seen_step, seen_ty}
 use Rattle.wy_core.specs.Types as ty

@@ -1,5 +1,5 @@
 -- A program has one outcome, so the answer of `check` is that one.
-use Rattle.std.proofs.Common.{◌≡◌, ◌≢◌, ◌⊎◌, inl, inr, ℕ, List, [], map, Result, Ok, Err, IfOk, IfErr, refl, sym, ap, ◌∙◌, subst}
+use Rattle.std.proofs.Common.{◌≡◌, ◌≢◌, ◌⊎◌, inl, inr, ℕ, List, Result, Ok, Err, IfErr, refl, sym, ap, ◌∙◌, subst}
 use Rattle.std.specs.Prelude.{IsErrAnd, MatchResult}
 use Rattle.wy_core.specs.CoreTree.{Core}
 use Rattle.wy_core.specs.Types.{Ty}
@@ -7,10 +7,9 @@ use Rattle.wy_types.specs.Names.{Declared, names_in}
 use Rattle.wy_typing.specs.declared.fault.FlowFault.{FlowFault}
 use Rattle.wy_typing.specs.declared.fault.FlowFault.TheVariants.{NotSubtype, NotArray, NoField, NotBool, NotInt, TypeWide, NoMemory}
 use Rattle.wy_typing.specs.Contexts.{Program, Signature}
-use Rattle.wy_typing.specs.Outcomes.{Outcome, Gives, Fails, Meets}
-use Rattle.wy_typing.specs.Programs.{program_of, CoreTyped, DeclsTyped, IsTyped}
-use Rattle.wy_typing.specs.TypedPrograms.{Triple, core_of, flow_of}
-use Rattle.wy_typing.proofs.SingleLemmas.{given_or, no_fault, no_value}
+use Rattle.wy_typing.specs.Outcomes.{Outcome, Gives, Fails}
+use Rattle.wy_typing.specs.Programs.{program_of, CoreTyped, IsTyped}
+use Rattle.wy_typing.proofs.SingleLemmas.{given_or, no_fault}
 use Rattle.wy_typing.proofs.StatementLemmas.{single_core}
 
 -- ---- what was made is the program's

@@ -1,5 +1,5 @@
 -- What nodes stand for.
-use Rattle.std.proofs.Common.{◌≡◌, ℕ, List, Option, map, refl, ap, ◌∙◌, rules}
+use Rattle.std.proofs.Common.{◌≡◌, ℕ, List, Option, map, refl, rules}
 use Rattle.wy_core.specs.CoreSeen.{seen_block, seen_expr, seen_exprs, seen_option, seen_step, seen_stmt, seen_ty, expr_kind_layer}
 use Rattle.wy_core.specs.CoreTree as tree
 use Rattle.wy_core.specs.declared.expressions.Expr as e
