@@ -1,0 +1,19 @@
+use Rattle.std.proofs.Common.{ap, ◌∙◌}
+use Rattle.wy_environment.specs.Seen.{seen_changes, seen_environment}
+use Rattle.wy_environment.specs.Variables as variables
+use Rattle.wy_flow.specs.States.{seen_state}
+use Rattle.wy_flow_expressions.specs.Seen.{seen_flow, seen_found}
+use Rattle.wy_typing.specs.Outcomes.{Gives, gave}
+use Rattle.wy_typing.specs.States as states
+use Rattle.wy_checks.proofs.StepLemmas.{first_refused}
+use Rattle.wy_flow.proofs.branches.asserted.Goals as goal
+
+pub returns-in_err-found-clause-value : goal.returns-in_err-found-clause-value
+returns-in_err-found-clause-value c =
+    first_refused _ _ _ _ _ c.in_err-found.ensures.value c.from_residual.ensures.1
+
+pub returns-clause-value : goal.returns-clause-value
+returns-clause-value c =
+    gave (seen_found (seen_flow c.tested.new.walk) c.in_ok-found.found) _ c.in_ok-found.ensures.value
+    (ap (λ e. Gives (states.with_env e (seen_state (seen_flow c.tested.new.walk) c.args.state)))
+    (c.in_ok-change.ensures.value ∙ ap (λ l. variables.changed (seen_environment c.args.state.env) (seen_changes l)) c.as_slice.ensures))
