@@ -1,11 +1,10 @@
 -- What arrays, records and quotients are after a change.
-use Rattle.std.proofs.Common.{inl, inr, ◌≡◌, ◌<◌, ◌≤◌, ℕ, zero, suc, List, [], ◌∷◌, length, map, Bool, true, false, cond, ℤ, pos, negsuc, ◌+ℤ◌, ◌-ℤ◌, ◌*ℤ◌, ◌≤ℤ◌, ◌<ℤ◌, Option, Some, None, refl, sym, ap, ◌∙◌, arith}
+use Rattle.std.proofs.Common.{inl, inr, ◌≡◌, ◌<◌, ℕ, zero, suc, true, false, ℤ, pos, negsuc, ◌≤ℤ◌, ◌<ℤ◌, Option, Some, refl, ap, arith}
 use Rattle.std.specs.Prelude.{◌⊎◌}
 use Rattle.std.proofs.lemmas.Bool.Decides.{Decides-int_eq}
 use Rattle.std.proofs.lemmas.Int.{ints}
-use Rattle.wy_value.specs.Datum.{Datum, Null, Truth, Whole, Array, Record, Data, no_items, item, Fields, no_fields}
-use Rattle.wy_value.specs.Datum as datum
-use Rattle.wy_term.specs.Term.{DataKind, null_kind, bool_kind, int_kind, array_kind, record_kind, Term, Of, Parts, no_parts, part, array}
+use Rattle.wy_value.specs.Datum.{Datum, Null, Truth, Whole, Array, Record, Data, no_items, item}
+use Rattle.wy_term.specs.Term.{DataKind, null_kind, bool_kind, int_kind, array_kind, record_kind, Term, Parts, no_parts, part}
 use Rattle.wy_term.specs.Meaning.{Names, sense, senses_of, data_in}
 use Rattle.wy_term.specs.Data.{number_in, length_of, length_in, nth, item_at, element, with_nth, with_item_at, with_element, copies, repeated, items_with, is_of_kind, same_datum}
 use Rattle.wy_facts.specs.Schema.{nth_of, element_numbered}

@@ -1,9 +1,8 @@
 -- Each instance has as many parts as its schema takes.
-use Rattle.std.proofs.Common.{◌≡◌, ℕ, suc, List, [], ◌∷◌, Bool, true, false, cond, eqb, not, length, map, Option, Some, None, refl, sym, ap, subst, ◌∙◌}
-use Rattle.std.specs.Prelude.{bytes_eq, option_map}
+use Rattle.std.proofs.Common.{◌≡◌, ℕ, suc, List, [], ◌∷◌, Bool, true, false, cond, eqb, length, Option, Some, None, refl, sym, ap, subst, ◌∙◌}
 use Rattle.wy_term.specs.Term.{Term, field}
 use Rattle.wy_term.specs.Term as term
-use Rattle.wy_term.specs.Nodes.{Plain, tree_at}
+use Rattle.wy_term.specs.Nodes.{Plain}
 use Rattle.wy_term.specs.Same.{same_term}
 use Rattle.wy_term.specs.Rewriting.{as_number, as_bool}
 use Rattle.wy_term.specs.Folding.{folded}
@@ -12,7 +11,7 @@ use Rattle.wy_facts.specs.declared.schema.Schema.TheVariants as schema
 use Rattle.wy_facts.specs.declared.schema.Instance.{Instance as Made}
 use Rattle.wy_facts.specs.Made.{made_two}
 use Rattle.wy_facts.specs.Program.{arity}
-use Rattle.wy_facts.specs.Schema.{◌>>=◌, is_val, as_copies, as_updated, as_element, as_equation, as_division, Instance, instance, only_if, length_is_natural, length_of_copies, length_of_updated, numbered_in, element_of_array, element_of_copies, element_updated, element_elsewhere, elements_at_one_index, set_to, field_updated, field_before, field_elsewhere, equal_numbers, kind_before_update, kind_of_updated, kind_before_set, kind_of_field_updated, datum_by, datum_by_kind, division, plain_by_one, by_one, by_two, instance_of}
+use Rattle.wy_facts.specs.Schema.{◌>>=◌, is_val, as_copies, as_updated, as_element, as_equation, as_division, Instance, instance, only_if, numbered_in, element_of_array, elements_at_one_index, set_to, field_before, kind_before_update, kind_before_set, datum_by, plain_by_one, by_one, instance_of}
 use Rattle.wy_facts.specs.Seen.{terms_at, seen_instance}
 
 abbrev some : {A : Type 0} → A → Option A

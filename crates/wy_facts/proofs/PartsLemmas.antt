@@ -1,5 +1,5 @@
 -- A list of so many terms, and that a program makes of each such list what a schema states.
-use Rattle.std.proofs.Common.{◌≡◌, ℕ, List, [], ◌∷◌, length, Some, Result, Ok, Err, IfOk, Vec, sym, subst, ◌∙◌, arith}
+use Rattle.std.proofs.Common.{◌≡◌, List, [], ◌∷◌, length, Some, Result, Ok, Err, IfOk, Vec, sym, subst, ◌∙◌, arith}
 use Rattle.std.specs.declared.alloc.Global.{Global}
 use Rattle.wy_term.specs.Term.{Term}
 use Rattle.wy_facts.specs.declared.program.Instruction.{Instruction}

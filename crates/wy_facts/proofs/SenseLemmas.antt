@@ -1,20 +1,16 @@
 -- What made formulas mean, and when they hold.
-use Rattle.std.proofs.Common.{◌≡◌, ℕ, List, [], ◌∷◌, Bool, true, false, not, ◌&&◌, ◌||◌, ℤ, pos, ◌≤ℤ◌, ◌<ℤ◌, refl, sym, ap, ◌∙◌, arith}
+use Rattle.std.proofs.Common.{◌≡◌, Bool, true, false, not, ◌&&◌, ◌||◌, ℤ, ◌≤ℤ◌, ◌<ℤ◌, refl, sym, ap, ◌∙◌, arith}
 use Rattle.std.proofs.lemmas.Int.{ints}
 use Rattle.std.proofs.lemmas.Bool.Decides.{Decides-int_eq}
 use Rattle.std.proofs.lemmas.Slice.Eq.{bytes_eq-Decides}
-use Rattle.std.specs.Prelude.{bytes_eq}
-use Rattle.std.specs.Ordering.{int_eq}
-use Rattle.std.specs.Bool.{beq}
 use Rattle.wy_value.specs.Datum.{Datum, Null, Truth, Whole, Array, Record, Data, no_items, item, Fields, no_fields}
 use Rattle.wy_value.specs.Datum as datum
 use Rattle.wy_term.specs.Data.{same_datum, same_data, same_fields, length_in, number_in, is_of_kind, element}
-use Rattle.wy_term.specs.Term.{DataKind, Symbol, Term, Of, no_parts, part, one, two, at_most, equal, of_kind, denied, all_of, any_of, len, num, get}
+use Rattle.wy_term.specs.Term.{DataKind, Term, Of, no_parts, part, one, two, at_most, equal, of_kind, denied, all_of, any_of, len, num, get}
 use Rattle.wy_term.specs.Meaning.{Names, sense}
 use Rattle.wy_term.specs.Meaning as meaning
-use Rattle.wy_term.specs.Folding.{folded}
 use Rattle.wy_term.proofs.FoldingLemmas.{folding_keeps_meaning}
-use Rattle.wy_facts.specs.Made.{made_one, made_two, is_at_most, is_equal, denial, is_below, both, all_three, all_four, either, one_of_three, implies, exactly_where, same_number}
+use Rattle.wy_facts.specs.Made.{made_one, made_two, is_at_most, is_equal, denial, is_below, both, all_three, all_four, either, one_of_three, implies, same_number}
 use Rattle.wy_facts.specs.Schema.{length_of, number_in as number_term}
 
 -- ---- truth values

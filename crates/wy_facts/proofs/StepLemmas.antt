@@ -1,5 +1,5 @@
 -- What numbers name as terms are made, and the loops over names and instructions.
-use Rattle.std.proofs.Common.{◌≡◌, ◌<◌, ◌≤◌, ◌+◌, ◌-◌, ℕ, zero, suc, List, [], ◌∷◌, All, length, get_or, map, drop, true, ℤ, pos, negsuc, nat_abs, ◌≤ℤ◌, ◌<ℤ◌, Option, Some, None, refl, sym, ap, subst, ◌∙◌, arith}
+use Rattle.std.proofs.Common.{◌≡◌, ◌<◌, ◌≤◌, ◌+◌, ◌-◌, ℕ, zero, suc, List, [], ◌∷◌, All, length, get_or, drop, true, ℤ, pos, negsuc, nat_abs, ◌≤ℤ◌, ◌<ℤ◌, Option, Some, None, refl, sym, ap, subst, ◌∙◌, arith}
 use Rattle.std.proofs.lemmas.Int.{ints}
 use Rattle.std.proofs.lemmas.List.{drop_more}
 use Rattle.wy_term.specs.Term.{Symbol, Term}

@@ -3,26 +3,26 @@ use Rattle.std.proofs.Common.{inl, inr, ◌≡◌, ℕ, List, [], ◌∷◌, Boo
 use Rattle.std.proofs.lemmas.Int.{ints}
 use Rattle.std.specs.Prelude.{bytes_eq, ◌⊎◌}
 use Rattle.std.proofs.lemmas.Slice.Eq.{bytes_eq-Decides}
-use Rattle.wy_value.specs.Datum.{Datum, Null, Truth, Whole, Array, Record}
-use Rattle.wy_term.specs.Data.{quotient, remainder, number_in, length_in, element, with_element, repeated, field_in, with_field, items_with, is_of_kind, same_datum}
+use Rattle.wy_value.specs.Datum.{Datum, Truth, Whole, Array}
+use Rattle.wy_term.specs.Data.{quotient, remainder, length_in, element, with_element, repeated, field_in, with_field, items_with, is_of_kind, same_datum}
 use Rattle.wy_term.specs.Term.{DataKind, null_kind, bool_kind, int_kind, Term, Of, Parts, no_parts, part, leaf, one, two, Number}
 use Rattle.wy_term.specs.Term as term
 use Rattle.wy_term.specs.Same.{same_term}
 use Rattle.wy_term.specs.Rewriting.{as_number, as_array, as_bool}
-use Rattle.wy_term.specs.Meaning.{Names, sense, senses_of, data_in}
+use Rattle.wy_term.specs.Meaning.{Names, senses_of, data_in}
 use Rattle.wy_term.specs.Folding.{folded}
 use Rattle.wy_term.proofs.SameLemmas.{terms_are}
 use Rattle.wy_term.proofs.FoldingLemmas.{folding_keeps_meaning}
 use Rattle.wy_facts.specs.declared.schema.Schema.{Schema}
 use Rattle.wy_facts.specs.declared.schema.Schema.TheVariants as schema
-use Rattle.wy_facts.specs.Made.{made_one, made_two, is_at_most, is_equal, denial, is_below, both, all_three, all_four, either, one_of_three, implies, exactly_where, same_number}
+use Rattle.wy_facts.specs.Made.{made_one, made_two, is_at_most, is_equal, denial, is_below, both, all_four, either, implies, same_number}
 use Rattle.wy_facts.specs.Schema.{◌>>=◌, whole, length_of, zero_term, stated, is_val, as_copies, as_updated, as_element, as_field_updated, as_field, as_equation, as_kind_test, as_division, element_numbered, has_field, Instance, instance, only_if, length_is_natural, length_of_copies, length_of_updated, numbered_in, element_of_array, element_of_copies, element_updated, element_elsewhere, elements_at_one_index, set_to, field_updated, field_before, field_elsewhere, equal_numbers, kind_before_update, kind_of_updated, kind_before_set, kind_of_field_updated, datum_by, datum_by_kind, division, plain_by_one, by_one, by_two, instance_of, fact_of}
 use Rattle.wy_facts.specs.Schema as schemas
 use Rattle.wy_facts.specs.Truth.{AlwaysHolds, FactsAreTrue}
-use Rattle.wy_facts.proofs.SenseLemmas.{num_of, dat_of, tru_of, kind_means, length_means, number_means, element_means, at_most_holds, at_most_says, not_at_most_says, below_holds, below_says, not_below_says, equal_holds, equal_says, denial_holds, both_hold, three_hold, four_hold, both_say, four_say, either_holds, either_first, either_second, one_of_three_holds, implies_holds, either_says, same_number_holds}
+use Rattle.wy_facts.proofs.SenseLemmas.{num_of, dat_of, tru_of, kind_means, length_means, number_means, element_means, at_most_holds, at_most_says, not_at_most_says, below_holds, below_says, not_below_says, equal_holds, denial_holds, both_hold, three_hold, four_hold, both_say, four_say, either_holds, either_first, either_second, one_of_three_holds, implies_holds, either_says, same_number_holds}
 use Rattle.wy_facts.proofs.DataLemmas.{length_natural, length-repeated, length-with_element, element-repeated, element-with_element, element-elsewhere, element-items, kind-with_element, number_same, is_null, is_bool, is_int}
 use Rattle.wy_facts.proofs.FieldLemmas.{field_in-set, field_in-other, kind-with_field}
-use Rattle.wy_facts.proofs.QuotientLemmas.{Divides, divides}
+use Rattle.wy_facts.proofs.QuotientLemmas.{divides}
 
 abbrev some : {A : Type 0} → A → Option A
 some x = Some x

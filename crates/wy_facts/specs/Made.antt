@@ -1,5 +1,5 @@
 -- Terms and formulas as they are made: folded, from their parts up.
-use Rattle.wy_term.specs.Term.{DataKind, Symbol, Term, Of, Parts, no_parts, part, leaf, one, two, at_most, equal, of_kind, denied, all_of, any_of, truth, null}
+use Rattle.wy_term.specs.Term.{Symbol, Term, Of, no_parts, part, one, two, at_most, equal, denied, all_of, any_of}
 use Rattle.wy_term.specs.Folding.{folded}
 
 -- a term of one part

@@ -1,10 +1,10 @@
 -- What answers that are known say of their parts.
-use Rattle.std.proofs.Common.{◌≡◌, Bool, true, false, cond, ℤ, Option, Some, None, Result, Ok, Err, refl, sym, ap, ◌∙◌}
+use Rattle.std.proofs.Common.{◌≡◌, Bool, true, false, cond, ℤ, Option, Some, None, refl}
 use Rattle.wy_term.specs.Rewriting.{fits, fitted}
 use Rattle.wy_lin.specs.declared.stop.Stop.{Stop}
 use Rattle.wy_lin.specs.declared.stop.Stop.TheVariants.{Undefined, NoMemory}
 use Rattle.wy_lin.specs.Linear.{◌>>=◌}
-use Rattle.wy_lin.specs.Seen.{Gives, Stops}
+use Rattle.wy_lin.specs.Seen.{Stops}
 
 abbrev pub some : {A : Type 0} → A → Option A
 some x = Some x

@@ -1,5 +1,5 @@
 -- Forms over numbers, seen as forms over the terms that the numbers name: sums of them agree.
-use Rattle.std.proofs.Common.{◌≡◌, ◌<◌, ℕ, zero, suc, List, [], ◌∷◌, All, length, get_or, map, Bool, true, false, cond, eqb, ℤ, pos, Option, Some, None, Result, Ok, Err, refl, sym, ap, subst, ◌∙◌, arith}
+use Rattle.std.proofs.Common.{◌≡◌, ◌<◌, ℕ, zero, suc, List, [], ◌∷◌, All, map, Bool, true, false, cond, eqb, ℤ, Option, Some, None, Result, Ok, Err, refl, sym, ap, subst, ◌∙◌, arith}
 use Rattle.std.specs.Prelude.{IfOk}
 use Rattle.wy_term.specs.Term.{Term}
 use Rattle.wy_term.specs.Same.{same_term}
@@ -7,10 +7,9 @@ use Rattle.wy_lin.specs.declared.arithmetic.Factor.{Factor}
 use Rattle.wy_lin.specs.declared.stop.Stop.{Stop}
 use Rattle.wy_lin.specs.declared.stop.Stop.TheVariants.{Undefined, NoMemory}
 use Rattle.wy_lin.specs.declared.sum.Sum.{Sum}
-use Rattle.wy_lin.specs.declared.linear.Form.{Form}
 use Rattle.wy_lin.specs.Linear.{◌>>=◌, more, Linear, coefficient, with_coefficient, plus_part, plus_parts, plus}
 use Rattle.wy_lin.specs.TermForm.{with}
-use Rattle.wy_lin.specs.Seen.{Gives, Stops, IsOver, linear_sum, linear_form, seen, seen_part, seen_sum, seen_form}
+use Rattle.wy_lin.specs.Seen.{Gives, IsOver, linear_sum, seen, seen_part, seen_sum}
 use Rattle.wy_lin.proofs.OptionLemmas.{some, bind_some, some_is}
 use Rattle.wy_term.proofs.SameLemmas.{terms_are, terms_self, eqb_self}
 use Rattle.std.proofs.lemmas.Bool.{eqb-true}

@@ -1,7 +1,7 @@
 -- What a task leads to is what the tasks that stand in its place lead to.
 use Rattle.std.proofs.Common.{◌≡◌, ◌<◌, ℕ, zero, suc, List, [], ◌∷◌, length, get_or, map, ℤ, Option, Some, None, Result, Ok, Err, refl, sym, ap, subst, ◌∙◌, arith}
 use Rattle.std.specs.Prelude.{IfOk, IfSome, option_map, slice_get}
-use Rattle.wy_term.specs.Term.{Term, Of, no_parts, part, two, one, number, add, sub, neg, mul}
+use Rattle.wy_term.specs.Term.{Term, two, one, add, sub, neg, mul}
 use Rattle.wy_term.specs.Rewriting.{as_number}
 use Rattle.wy_lin.specs.declared.arithmetic.Factor.{Factor}
 use Rattle.wy_lin.specs.declared.arithmetic.Factor.TheVariants.{Times, Scale, Minus}
@@ -12,11 +12,11 @@ use Rattle.wy_lin.specs.declared.linear.Form.{Form}
 use Rattle.wy_lin.specs.declared.work.Task.{Task}
 use Rattle.wy_lin.specs.declared.work.Task.TheVariants as task
 use Rattle.wy_lin.specs.declared.work.Work.{Work}
-use Rattle.wy_lin.specs.Linear.{◌>>=◌, Linear, number_form, variable_form}
+use Rattle.wy_lin.specs.Linear.{◌>>=◌, Linear, variable_form}
 use Rattle.wy_lin.specs.TermForm.{with, multiple, form_of, form_of_product}
 use Rattle.wy_lin.specs.Combination.{form_at}
 use Rattle.wy_lin.specs.Seen.{Gives, Stops, IsOver, IsAnswer, linear_sum, linear_form, seen, seen_sum, seen_form}
-use Rattle.wy_lin.specs.Work.{joined, scaled, run, seen_sums, outcome, outcome_after, IsTaskOver, AreSumsOver, IsWorkOver}
+use Rattle.wy_lin.specs.Work.{joined, scaled, run, seen_sums, outcome, outcome_after, AreSumsOver}
 use Rattle.wy_lin.proofs.OptionLemmas.{some, some_is}
 use Rattle.wy_lin.proofs.SeenLemmas.{first_of, rest_of, all_more}
 

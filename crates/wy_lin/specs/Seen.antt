@@ -1,5 +1,5 @@
 -- What the code's forms and answers stand for.
-use Rattle.std.specs.Prelude.{◌≡◌, ◌<◌, ℕ, List, map, All, ℤ, Option, Some, None, Result, Ok, Err}
+use Rattle.std.specs.Prelude.{◌≡◌, ◌<◌, ℕ, map, All, ℤ, Option, Some, None, Result, Ok, Err}
 use Rattle.wy_term.specs.Term.{Term}
 use Rattle.wy_lin.specs.declared.linear.Form.{Form}
 use Rattle.wy_lin.specs.declared.sum.Sum.{Sum}

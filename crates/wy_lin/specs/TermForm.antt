@@ -1,5 +1,5 @@
 -- Which linear form an Int term has, and which form is at least 0 exactly where a literal holds.
-use Rattle.std.specs.Prelude.{List, [], ◌∷◌, ℤ, pos, Option, Some, None}
+use Rattle.std.specs.Prelude.{ℤ, pos, Option, Some, None}
 use Rattle.wy_term.specs.Term.{Term, Of, no_parts, part, two, number, add, sub, neg, mul, at_most, denied}
 use Rattle.wy_term.specs.Same.{same_term}
 use Rattle.wy_term.specs.Rewriting.{as_number}

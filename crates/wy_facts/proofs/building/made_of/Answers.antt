@@ -1,4 +1,4 @@
-use Rattle.std.proofs.Common.{◌≡◌, None, Some, rules}
+use Rattle.std.proofs.Common.{◌≡◌, Some, rules}
 use Rattle.wy_facts.specs.Program.{after}
 use Rattle.wy_facts.specs.Seen.{terms_at}
 use Rattle.wy_facts.proofs.StepLemmas.{no_terms, step_goes, step_stops, stays_on}

@@ -1,4 +1,4 @@
-use Rattle.std.proofs.Common.{◌≡◌, ◌≤◌, ◌-◌, length, drop, Some}
+use Rattle.std.proofs.Common.{◌≡◌, ◌-◌, length, drop, Some}
 use Rattle.wy_facts.specs.Program.{ran}
 use Rattle.wy_facts.specs.Seen.{terms_at, AreBelow, Stays}
 use Rattle.wy_facts.proofs.building.made_of.Given as goal

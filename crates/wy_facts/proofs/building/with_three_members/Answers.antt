@@ -1,4 +1,4 @@
-use Rattle.std.proofs.Common.{◌<◌, length}
+use Rattle.std.proofs.Common.{length}
 use Rattle.wy_facts.specs.Seen.{AreBelow}
 use Rattle.wy_facts.proofs.StepLemmas.{popped_below, popped_first, three_below}
 use Rattle.wy_facts.proofs.building.with_three_members.Goals as goal

@@ -1,5 +1,4 @@
-use Rattle.std.proofs.Common.{◌<◌, length}
-use Rattle.wy_facts.specs.Seen.{AreBelow}
+use Rattle.std.proofs.Common.{length}
 use Rattle.wy_facts.proofs.StepLemmas.{popped_below}
 use Rattle.wy_facts.proofs.building.with_unary.Goals as goal
 

@@ -1,9 +1,9 @@
-use Rattle.std.proofs.Common.{◌≡◌, ◌∷◌, Some, sym, rules}
-use Rattle.wy_term.specs.Term.{two, one, add, sub, neg, mul}
+use Rattle.std.proofs.Common.{◌≡◌, ◌∷◌, Some, rules}
+use Rattle.wy_term.specs.Term.{two, mul}
 use Rattle.wy_term.specs.Nodes.{tree_at}
 use Rattle.wy_term.specs.Rewriting.{as_number}
-use Rattle.wy_lin.specs.declared.arithmetic.Factor.TheVariants.{Times, Scale, Minus}
-use Rattle.wy_lin.specs.declared.work.Task.TheVariants.{Term, Join, Multiply}
+use Rattle.wy_lin.specs.declared.arithmetic.Factor.TheVariants.{Scale}
+use Rattle.wy_lin.specs.declared.work.Task.TheVariants.{Term, Multiply}
 use Rattle.wy_lin.specs.Work.{seen_sums}
 use Rattle.wy_lin.proofs.WorkLemmas.{run-first_number, run-second_number, leads_by_tasks}
 use Rattle.wy_lin.proofs.work.take_product.Goals as goal

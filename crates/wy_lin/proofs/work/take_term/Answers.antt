@@ -1,8 +1,7 @@
-use Rattle.std.proofs.Common.{◌≡◌, ◌∷◌, Some, sym, rules}
-use Rattle.wy_term.specs.Term.{two, one, add, sub, neg, mul}
+use Rattle.std.proofs.Common.{◌≡◌, ◌∷◌, rules}
+use Rattle.wy_term.specs.Term.{two, one, add, sub, neg}
 use Rattle.wy_term.specs.Nodes.{tree_at}
-use Rattle.wy_term.specs.Rewriting.{as_number}
-use Rattle.wy_lin.specs.declared.arithmetic.Factor.TheVariants.{Times, Scale, Minus}
+use Rattle.wy_lin.specs.declared.arithmetic.Factor.TheVariants.{Times, Minus}
 use Rattle.wy_lin.specs.declared.work.Task.TheVariants.{Term, Join, Multiply}
 use Rattle.wy_lin.specs.Work.{seen_sums}
 use Rattle.wy_lin.proofs.WorkLemmas.{run-sum, run-difference, run-opposite, leads_by_tasks}
