@@ -1,5 +1,5 @@
 -- Uses that are listed lead along arrows.
-use Rattle.std.proofs.Common.{◌≡◌, ◌∙◌, inl, inr, ℕ, zero, suc, ◌+◌, Bool, true, false, List, [], ◌∷◌, ◌++◌, length, cond, Option, Some, None, refl, sym, ap, subst, arith, if◌then◌else◌, nat_lt}
+use Rattle.std.proofs.Common.{◌≡◌, ◌∙◌, ℕ, zero, suc, Bool, true, false, List, [], ◌∷◌, Some, refl, sym, ap, subst, if◌then◌else◌}
 use Rattle.std.specs.List.{slice_get}
 use Rattle.wy_cycles.specs.declared.graph.Arrow.{Arrow}
 use Rattle.wy_cycles.specs.Cycles.{Leads, stays, goes}

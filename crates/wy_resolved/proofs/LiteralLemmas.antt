@@ -1,5 +1,5 @@
 -- Each number of the core is one of the source, a byte of a text, or made by lowering.
-use Rattle.std.proofs.Common.{◌≡◌, ◌<◌, ℕ, zero, suc, ◌+◌, pos, Bool, true, false, List, [], ◌∷◌, ◌++◌, length, codes, Option, Some, None, refl, sym, subst, arith, if◌then◌else◌, nat_lt}
+use Rattle.std.proofs.Common.{◌≡◌, ℕ, zero, suc, ◌+◌, pos, Bool, true, false, List, [], ◌∷◌, length, codes, Option, Some, None, refl, sym, subst, arith, if◌then◌else◌, nat_lt}
 use Rattle.std.specs.List.{slice_get}
 use Rattle.std.specs.Prelude.{slice_set}
 use Rattle.wy_ast.specs.SurfaceTree as surface
@@ -15,7 +15,7 @@ use Rattle.wy_expand.specs.declared.measure.Expansion.{Expansion}
 use Rattle.wy_lower.specs.Variables.{Variables, declared, named}
 use Rattle.wy_lower.specs.Uses.{With, Template, is_used, expansion, called}
 use Rattle.wy_lower.specs.TypesLowered.{placed}
-use Rattle.wy_lower.specs.ExprsLowered.{text, quantified, kept, in_expr, in_exprs, in_args, in_fields, in_ranges}
+use Rattle.wy_lower.specs.ExprsLowered.{quantified, kept, in_expr, in_exprs, in_args, in_fields, in_ranges}
 use Rattle.wy_lower.specs.StmtsLowered.{in_option, in_path, in_clauses, in_stmt, in_stmts, in_cases, scope_behind, bounds, do_test, do_invariants, for_from, for_to, for_span, for_invariants, renamed, with_span, switch_variables, switch_number}
 use Rattle.wy_lower.specs.Templates.{params_scope, params_named, used_of, template, with_option, filled, without_uses, templates}
 use Rattle.wy_lower.specs.DeclsLowered.{named_clauses, Parts, before, after, in_routine, function_parts, method_parts, result_clauses, in_decls}
