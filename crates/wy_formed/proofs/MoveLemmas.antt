@@ -1,8 +1,8 @@
 -- What is bound among some variables is bound among more of them, where those are new.
-use Rattle.std.proofs.Common.{◌≡◌, ◌⊎◌, inl, inr, ◌<◌, ◌≤◌, ℕ, List, [], ◌∷◌, arith, subst}
+use Rattle.std.proofs.Common.{inl, inr, ◌<◌, ◌≤◌, ℕ, ◌∷◌, arith}
 use Rattle.wy_core.specs.CoreTree.{Expr, NullExpr, BoolExpr, IntExpr, VarExpr, CallExpr, NegExpr, NotExpr, LenExpr, BinaryExpr, IsExpr, IndexExpr, FieldExpr, ListExpr, RepeatExpr, RecordExpr, QuantExpr, Exprs, NoExprs, MoreExprs, Fields, NoFields, MoreFields}
 use Rattle.wy_formed.specs.Offers.{Offers}
-use Rattle.wy_formed.specs.Bound.{Scope, Has, IsNew, BoundExpr, BoundExprs, BoundFields}
+use Rattle.wy_formed.specs.Bound.{Scope, Has, BoundExpr, BoundExprs, BoundFields}
 use Rattle.wy_formed.specs.Moves.{Moves}
 
 pub moves_more : {n m : ℕ} {vs ws : Scope} (v : ℕ) → Moves n m vs ws → Moves n m (v ∷ vs) (v ∷ ws)

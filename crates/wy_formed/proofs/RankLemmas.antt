@@ -1,5 +1,5 @@
 -- Types that recur through records and arrays alone can be put in an order: by the longest way along names outside of them.
-use Rattle.std.proofs.Common.{◌≡◌, ◌∙◌, ◌<◌, ◌≤◌, ◌⊎◌, inl, inr, ℕ, zero, suc, ◌+◌, max, Bool, true, false, ◌||◌, List, [], ◌∷◌, length, Option, Some, None, refl, sym, ap, subst, arith}
+use Rattle.std.proofs.Common.{◌≡◌, ◌∙◌, ◌<◌, ◌≤◌, ◌⊎◌, inl, inr, ℕ, zero, suc, max, Bool, true, false, ◌||◌, List, [], ◌∷◌, length, Option, Some, None, refl, sym, ap, subst, arith}
 use Rattle.std.specs.List.{slice_get, AllByRecursion, IsDistinct, list_any}
 use Rattle.std.proofs.Math.Dec.{eqb}
 use Rattle.std.proofs.lemmas.Bool.Decides.{eqb_tells}
@@ -8,7 +8,7 @@ use Rattle.wy_core.specs.Types.{Ty, NullTy, BoolTy, IntTy, AnyTy, VoidTy, Record
 use Rattle.wy_core.specs.CoreTree.{Alias, Decl, AliasDecl, RoutineDecl, Core, aliases_of}
 use Rattle.wy_formed.specs.Offers.{Offers, offers_of}
 use Rattle.wy_formed.specs.Bound.{BoundTy, BoundAlias, BoundDecls, Bound}
-use Rattle.wy_formed.specs.Recursion.{NamesIn, UsesType, Reaches, stays, goes, RecursWell, Recursion}
+use Rattle.wy_formed.specs.Recursion.{NamesIn, Reaches, stays, goes, RecursWell, Recursion}
 use Rattle.wy_formed.specs.Ranks.{Ranked}
 
 -- one more than the greatest of the numbers of bare names

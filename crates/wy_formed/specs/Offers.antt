@@ -1,5 +1,5 @@
 -- What a program offers to the uses of its names: its types, and what its functions and methods ask and give.
-use Rattle.std.specs.Prelude.{◌≡◌, ℕ, Bool, true, false, List, [], ◌∷◌, ◌++◌, length, Some, is_some, slice_get}
+use Rattle.std.specs.Prelude.{◌≡◌, ℕ, Bool, true, false, List, [], ◌∷◌, length, Some, is_some, slice_get}
 use Rattle.wy_core.specs.CoreTree.{Decl, AliasDecl, RoutineDecl, Routine, Core, aliases_of}
 
 -- how many values a function or method takes, whether it is a method, and whether it gives a value back

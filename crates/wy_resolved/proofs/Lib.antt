@@ -25,8 +25,11 @@ pub mod CallLemmas
 pub mod CallStmtLemmas
 pub mod CallDeclLemmas
 -- which numbers stand in it
+pub mod NumberLemmas
 pub mod LiteralLemmas
 -- where the recursion of its types passes
 pub mod TypeUseLemmas
 pub mod MentionLemmas
+pub mod IndexLemmas
+pub mod ArrowLemmas
 pub mod RecursionLemmas

@@ -1,8 +1,7 @@
 -- The recursion of the types of a core passes through records or arrays, and through no test of a clause.
-use Rattle.std.proofs.Common.{◌≡◌, ◌∙◌, inl, inr, ℕ, zero, suc, ◌+◌, Bool, true, false, List, [], ◌∷◌, ◌++◌, length, cond, Option, Some, None, refl, sym, ap, subst, arith, if◌then◌else◌, nat_lt}
+use Rattle.std.proofs.Common.{◌≡◌, ◌∙◌, inl, inr, ℕ, zero, suc, Bool, true, false, List, [], ◌∷◌, length, Option, Some, None, refl, sym, ap, subst, arith, if◌then◌else◌, nat_lt}
 use Rattle.std.specs.List.{slice_get}
 use Rattle.std.specs.Prelude.{slice_set}
-use Rattle.std.specs.Str.{bytes_eq}
 use Rattle.wy_ast.specs.SurfaceTree as surface
 use Rattle.wy_ast.specs.SurfaceTree.{AliasDecl, FunctionDecl, MethodDecl, PropertyDecl, exprs_of}
 use Rattle.wy_core.specs.CoreTree as core
@@ -10,19 +9,15 @@ use Rattle.wy_core.specs.CoreTree.{aliases_of}
 use Rattle.wy_core.specs.CoreSeen.{seen_core}
 use Rattle.wy_core.specs.declared.declarations.Core.{Core}
 use Rattle.wy_scope.specs.declared.fault.Cause.TheVariants as cause
-use Rattle.wy_scope.specs.declared.table.Entry.{Entry}
-use Rattle.wy_scope.specs.declared.table.Entry.TheVariants as entry
-use Rattle.wy_scope.specs.Declarations.{routine_count, name_of, place_of, entry_of, builtins, declared_behind, declared}
+use Rattle.wy_scope.specs.Declarations.{declared}
 use Rattle.wy_scope.specs.Faults.{Found, noted_where}
 use Rattle.wy_scope.specs.Places.{place_of_ty}
-use Rattle.wy_scope.specs.Scope as scopes
 use Rattle.wy_scope.specs.Scope.{Scope, has, with_name}
 use Rattle.wy_bind.specs.TypeNames as bind_types
 use Rattle.wy_bind.specs.TypeNames.{just_a_name}
 use Rattle.wy_bind.specs.DeclNames as bind
 use Rattle.wy_bind.specs.DeclNames.{clause_context}
-use Rattle.wy_cycles.specs.declared.graph.Arrow.{Arrow}
-use Rattle.wy_cycles.specs.Cycles.{Leads, stays, goes}
+use Rattle.wy_cycles.specs.Cycles.{Leads, stays}
 use Rattle.wy_uses.specs.declared.edges.Edge.{Edge}
 use Rattle.wy_uses.specs.declared.edges.Way.{Way}
 use Rattle.wy_uses.specs.declared.edges.Way.TheVariants as way
@@ -31,7 +26,7 @@ use Rattle.wy_uses.specs.DeclUses.{edges_of}
 use Rattle.wy_uses.specs.TypeUses as type_uses
 use Rattle.wy_uses.specs.ExprUses as uses_in
 use Rattle.wy_order.proofs.UseLemmas.{Each, before_exprs, of_decl}
-use Rattle.wy_recursion.specs.Arrows.{counts, arrow_of, arrows_of}
+use Rattle.wy_recursion.specs.Arrows.{counts, arrows_of}
 use Rattle.wy_recursion.specs.Recursion.{is_type, Recurs, noted_marked, NotesRecursion}
 use Rattle.wy_expand.specs.declared.measure.Expansion.{Expansion}
 use Rattle.wy_lower.specs.Variables as variables
@@ -50,174 +45,8 @@ use Rattle.wy_resolved.proofs.OfferLemmas.{scope_plain, of_property, set_holds}
 use Rattle.wy_resolved.proofs.CoreLemmas.{before_marked, nothing_bound}
 use Rattle.wy_resolved.proofs.TypeUseLemmas.{Nests, nests_itself, nests_more, edge_of, Ways, UsedBy, type_used}
 use Rattle.wy_resolved.proofs.MentionLemmas.{Mentioned, TemplateMentions, told_exprs}
-
--- ---- the declaration of a type, by its number
-
-abbrev pub alias_index : List surface.Decl → ℕ → ℕ
-alias_index [] n = 0
-alias_index (AliasDecl a ∷ ds) zero = 0
-alias_index (AliasDecl a ∷ ds) (suc n) = suc (alias_index ds n)
-alias_index (FunctionDecl f ∷ ds) n = suc (alias_index ds n)
-alias_index (MethodDecl m ∷ ds) n = suc (alias_index ds n)
-alias_index (PropertyDecl p ∷ ds) n = suc (alias_index ds n)
-
-record AliasAt (ts : List Template) (s : Scope) (ds : List surface.Decl) (a : ℕ) (x : core.Alias ℕ) : Type 0 where
-  it : surface.Alias
-  there : slice_get ds (alias_index ds a) ≡ Some (AliasDecl it)
-  same : in_alias ts s it ≡ x
-
-some_alias : (x y : core.Alias ℕ) → Some x ≡ Some y → x ≡ y
-some_alias x y e = cc
-
-alias_at : (ts : List Template) (s : Scope) (ds : List surface.Decl) (a : ℕ) (x : core.Alias ℕ) → slice_get (aliases_of (in_decls ts s ds)) a ≡ Some x → AliasAt ts s ds a x
-alias_at ts s [] a x h = absurd (cc)
-alias_at ts s (AliasDecl y ∷ ds) zero x h = record { it = y; there = refl; same = some_alias (in_alias ts s y) x h }
-alias_at ts s (AliasDecl y ∷ ds) (suc a) x h = let r = alias_at ts s ds a x h in record { it = r.it; there = r.there; same = r.same }
-alias_at ts s (FunctionDecl f ∷ ds) a x h = let r = alias_at ts s ds a x h in record { it = r.it; there = r.there; same = r.same }
-alias_at ts s (MethodDecl m ∷ ds) a x h = let r = alias_at ts s ds a x h in record { it = r.it; there = r.there; same = r.same }
-alias_at ts s (PropertyDecl p ∷ ds) a x h = let r = alias_at ts s ds a x h in record { it = r.it; there = r.there; same = r.same }
-
--- the entries of types have the indices of their declarations
-abbrev IndexedEntry : (ℕ → ℕ) → Entry → Type 0
-IndexedEntry index (entry.Type n d) = d ≡ index n
-IndexedEntry index (entry.Routine r) = Unit {0}
-IndexedEntry index (entry.Property d arity) = Unit {0}
-IndexedEntry index (entry.Variable v) = Unit {0}
-
-abbrev Indexed : (ℕ → ℕ) → Scope → Type 0
-Indexed index [] = Unit {0}
-Indexed index (e ∷ s) = IndexedEntry index e.1 × Indexed index s
-
-some_entry : (x y : Entry) → Some x ≡ Some y → x ≡ y
-some_entry x y e = cc
-
-indexed_entry : (index : ℕ → ℕ) (s : Scope) (name : List ℕ) (e : Entry) → Indexed index s → scopes.entry_of s name ≡ Some e → IndexedEntry index e
-indexed_entry index [] name e h is = absurd (cc)
-indexed_entry index (x ∷ s) name e h is = by (bytes_eq name x.0) (λ k. indexed_entry index s name e h.1 k) is
-  where
-    by : (b : Bool) → (scopes.entry_of s name ≡ Some e → IndexedEntry index e) → cond b (Some x.1) (scopes.entry_of s name) ≡ Some e → IndexedEntry index e
-    by true next k = subst (λ (z : Entry). IndexedEntry index z) (some_entry x.1 e k) h.0
-    by false next k = next k
-
-indexed_last : (index : ℕ → ℕ) (s : Scope) (name : List ℕ) (e : Entry) → Indexed index s → IndexedEntry index e → Indexed index (s ++ (name, e) ∷ [])
-indexed_last index [] name e h k = (k, tt)
-indexed_last index (x ∷ s) name e h k = (h.0, indexed_last index s name e h.1 k)
-
-indexed_with : (index : ℕ → ℕ) (s : Scope) (name : List ℕ) (e : Entry) → Indexed index s → IndexedEntry index e → Indexed index (with_name s name e)
-indexed_with index s name e h k = by (has s name)
-  where
-    by : (b : Bool) → Indexed index (if b then s else s ++ (name, e) ∷ [])
-    by true = h
-    by false = indexed_last index s name e h k
-
--- the entry of a declaration behind so many types, functions and methods, and declarations
-abbrev entry_behind : surface.Decl → ℕ → ℕ → ℕ → Entry
-entry_behind d t r i = entry_of d (record { types = t; routines = r; decls = i })
-
-abbrev scope_more : Scope → surface.Decl → ℕ → ℕ → ℕ → Scope
-scope_more scope d t r i = with_name scope (name_of d) (entry_behind d t r i)
-
-abbrev found_more : Scope → Found → surface.Decl → Found
-found_more scope found d = noted_where (has scope (name_of d)) found (place_of d) cause.Twice
-
--- the types from this number on stand among the declarations from this index on
-abbrev Continues : (ℕ → ℕ) → ℕ → ℕ → List surface.Decl → Type 0
-Continues index t i ds = (n : ℕ) → index (t + n) ≡ i + alias_index ds n
-
-first_index : (index : ℕ → ℕ) (t i : ℕ) (a : surface.Alias) (ds : List surface.Decl) → Continues index t i (AliasDecl a ∷ ds) → i ≡ index t
-first_index index t i a ds h = let e : index (t + 0) ≡ i + 0 = h 0 in let z : i ≡ i + 0 = omega arith in z ∙ sym e ∙ ap index {x = t + 0} {y = t} (omega arith)
-
-next_alias : (index : ℕ → ℕ) (t i : ℕ) (a : surface.Alias) (ds : List surface.Decl) → Continues index t i (AliasDecl a ∷ ds) → Continues index (t + 1) (i + 1) ds
-next_alias index t i a ds h n =
-    let z : i + suc (alias_index ds n) ≡ (i + 1) + alias_index ds n = omega arith in
-    ap index {x = (t + 1) + n} {y = t + suc n} (omega arith) ∙ h (suc n) ∙ z
-
-next_other : (index : ℕ → ℕ) (t i : ℕ) (ds : List surface.Decl) → ((n : ℕ) → index (t + n) ≡ i + suc (alias_index ds n)) → Continues index t (i + 1) ds
-next_other index t i ds h n = let z : i + suc (alias_index ds n) ≡ (i + 1) + alias_index ds n = omega arith in h n ∙ z
-
-declared_indexed : (index : ℕ → ℕ) (scope : Scope) (found : Found) (t r i : ℕ) (ds : List surface.Decl) → Indexed index scope → Continues index t i ds
-    → Indexed index (declared_behind scope found (record { types = t; routines = r; decls = i }) ds).0
-declared_indexed index scope found t r i [] l h = l
-declared_indexed index scope found t r i (AliasDecl a ∷ ds) l h =
-    declared_indexed index (scope_more scope (AliasDecl a) t r i) (found_more scope found (AliasDecl a)) (t + 1) r (i + 1) ds
-    (indexed_with index scope a.name (entry_behind (AliasDecl a) t r i) l (first_index index t i a ds h)) (next_alias index t i a ds h)
-declared_indexed index scope found t r i (FunctionDecl f ∷ ds) l h =
-    declared_indexed index (scope_more scope (FunctionDecl f) t r i) (found_more scope found (FunctionDecl f)) t (r + 1) (i + 1) ds
-    (indexed_with index scope f.name (entry_behind (FunctionDecl f) t r i) l tt) (next_other index t i ds h)
-declared_indexed index scope found t r i (MethodDecl m ∷ ds) l h =
-    declared_indexed index (scope_more scope (MethodDecl m) t r i) (found_more scope found (MethodDecl m)) t (r + 1) (i + 1) ds
-    (indexed_with index scope m.name (entry_behind (MethodDecl m) t r i) l tt) (next_other index t i ds h)
-declared_indexed index scope found t r i (PropertyDecl p ∷ ds) l h =
-    declared_indexed index (scope_more scope (PropertyDecl p) t r i) (found_more scope found (PropertyDecl p)) t r (i + 1) ds
-    (indexed_with index scope p.name (entry_behind (PropertyDecl p) t r i) l tt) (next_other index t i ds h)
-
-all_continue : (ds : List surface.Decl) → Continues (alias_index ds) 0 0 ds
-all_continue ds n = let z : alias_index ds n ≡ 0 + alias_index ds n = omega arith in ap (alias_index ds) {x = 0 + n} {y = n} (omega arith) ∙ z
-
-scope_indexed : (ds : List surface.Decl) (name : List ℕ) (n d : ℕ) → scopes.entry_of (declared ds).0 name ≡ Some (entry.Type n d) → d ≡ alias_index ds n
-scope_indexed ds name n d is =
-    indexed_entry (alias_index ds) (declared ds).0 name (entry.Type n d) (declared_indexed (alias_index ds) (builtins (routine_count ds)) None 0 0 0 ds (tt, (tt, tt)) (all_continue ds)) is
-
--- ---- arrows
-
-some_edge : (x y : Edge) → Some x ≡ Some y → x ≡ y
-some_edge x y e = cc
-
-abbrev HasArrow : Bool → Edges → Arrow → Type 0
-HasArrow all es arrow = (j : ℕ) × (slice_get (arrows_of all es) j ≡ Some arrow)
-
-arrow_in : (all : Bool) (es : Edges) (i : ℕ) (e : Edge) → slice_get es i ≡ Some e → counts all e.way ≡ true → HasArrow all es (arrow_of e)
-arrow_in all [] i e h c = absurd (cc)
-arrow_in all (x ∷ es) zero e h c = by (counts all x.way) (ap (λ (y : Edge). counts all y.way) same ∙ c)
-  where
-    same : x ≡ e
-    same = some_edge x e h
-
-    by : (b : Bool) → b ≡ true → (j : ℕ) × (slice_get (if b then arrow_of x ∷ arrows_of all es else arrows_of all es) j ≡ Some (arrow_of e))
-    by true k = (0, ap (λ (y : Edge). Some (arrow_of y)) same)
-    by false k = absurd (cc)
-arrow_in all (x ∷ es) (suc i) e h c = by (counts all x.way) (arrow_in all es i e h c)
-  where
-    by : (b : Bool) → HasArrow all es (arrow_of e) → (j : ℕ) × (slice_get (if b then arrow_of x ∷ arrows_of all es else arrows_of all es) j ≡ Some (arrow_of e))
-    by true r = (suc r.0, r.1)
-    by false r = r
-
-leads_on : (arrows : List Arrow) (a b d : ℕ) → Leads arrows a b → Leads arrows b d → Leads arrows a d
-leads_on arrows a b d (stays e) k = subst (λ (z : ℕ). Leads arrows z d) (sym e) k
-leads_on arrows a b d (goes i arrow at is rest) k = goes i arrow at is (leads_on arrows arrow.to b d rest k)
-
-abbrev Member : Edges → Edge → Type 0
-Member es e = (i : ℕ) × (slice_get es i ≡ Some e)
-
-edge_leads : (all : Bool) (es : Edges) (e : Edge) → Member es e → counts all e.way ≡ true → Leads (arrows_of all es) e.from e.to
-edge_leads all es e m c = let r = arrow_in all es m.0 e m.1 c in goes r.0 (arrow_of e) r.1 refl (stays refl)
-
-every_way : (w : Way) → counts true w ≡ true
-every_way way.Bare = refl
-every_way way.Guarded = refl
-every_way way.Mention = refl
-every_way way.Use = refl
-
--- an arrow of the fewer is one of all
-arrow_among : (es : Edges) (j : ℕ) (arrow : Arrow) → slice_get (arrows_of false es) j ≡ Some arrow → HasArrow true es arrow
-arrow_among [] j arrow h = absurd (cc)
-arrow_among (x ∷ es) j arrow h = by (counts false x.way) (counts true x.way) (every_way x.way) j (λ (k : ℕ) (q : slice_get (arrows_of false es) k ≡ Some arrow). arrow_among es k arrow q) h
-  where
-    by : (b c : Bool) → c ≡ true → (k : ℕ) → ((n : ℕ) → slice_get (arrows_of false es) n ≡ Some arrow → HasArrow true es arrow)
-        → slice_get (if b then arrow_of x ∷ arrows_of false es else arrows_of false es) k ≡ Some arrow
-        → (n : ℕ) × (slice_get (if c then arrow_of x ∷ arrows_of true es else arrows_of true es) n ≡ Some arrow)
-    by b false e k next q = absurd (cc)
-    by true true e zero next q = (0, q)
-    by true true e (suc k) next q = let r = next k q in (suc r.0, r.1)
-    by false true e k next q = let r = next k q in (suc r.0, r.1)
-
-among : (es : Edges) (a b : ℕ) → Leads (arrows_of false es) a b → Leads (arrows_of true es) a b
-among es a b (stays e) = stays e
-among es a b (goes i arrow at is rest) = let r = arrow_among es i arrow at in goes r.0 arrow r.1 is (among es arrow.to b rest)
-
-lifted : (all : Bool) (es : Edges) (a b : ℕ) → Leads (arrows_of false es) a b → Leads (arrows_of all es) a b
-lifted true es a b h = among es a b h
-lifted false es a b h = h
+use Rattle.wy_resolved.proofs.IndexLemmas.{alias_index, alias_at, scope_indexed}
+use Rattle.wy_resolved.proofs.ArrowLemmas.{some_edge, leads_on, Member, edge_leads, every_way, among, lifted}
 
 -- ---- uses that don't recur
 
