@@ -1,5 +1,5 @@
 -- Folding and putting a term for a name keep sorts.
-use Rattle.std.proofs.Common.{◌≡◌, ℕ, zero, suc, ◌+◌, List, [], ◌∷◌, ◌++◌, Bool, true, false, cond, ℤ, pos, negsuc, neg_ℤ, ◌+ℤ◌, ◌-ℤ◌, ◌*ℤ◌, Option, Some, None, refl, sym, ap, ◌∙◌, subst}
+use Rattle.std.proofs.Common.{◌≡◌, ℕ, zero, suc, ◌+◌, List, [], ◌∷◌, ◌++◌, Bool, true, false, cond, ℤ, pos, negsuc, neg_ℤ, ◌+ℤ◌, ◌-ℤ◌, ◌*ℤ◌, Option, Some, None, refl, sym, subst}
 use Rattle.std.specs.Prelude.{bytes_eq, nat_lt}
 use Rattle.wy_value.specs.Datum.{Datum}
 use Rattle.wy_term.specs.Term as term
@@ -8,12 +8,12 @@ use Rattle.wy_term.specs.Data.{same_datum}
 use Rattle.wy_term.specs.Same.{same_kind, same_term}
 use Rattle.wy_term.specs.Meaning as meaning
 use Rattle.wy_term.specs.Rewriting.{as_number, as_int, as_bool, as_array, as_denied, as_record, as_constant, is_true, is_false, is_truth, True, False, decided, number_or, on_one, on_two, fold_num, count, fold_len, nth_part, part_at, fold_get, fold_order, fold_at_most, fold_not, has_false, has_true, without_true, without_false, joined, fold_and, fold_or, field_part, fold_field, kind_given, fold_kind, fold_bool, fold_apart, fold_equal, rewritten}
-use Rattle.wy_term.specs.Folding.{found, found_or, hidden, span_of, instances, number_or_zero, binder, joined_by, quantified, part_of, parts_of, quantifier_of, remade, replaced, replacers, fold_range, folded}
+use Rattle.wy_term.specs.Folding.{found, found_or, hidden, span_of, instances, number_or_zero, binder, joined_by, quantified, parts_of, replaced, replacers, fold_range, folded}
 use Rattle.wy_term.specs.Sorts.{Sort, int_sort, val_sort, formula_sort, sort_of, sort_in}
 use Rattle.wy_term.proofs.SameLemmas.{terms_are}
-use Rattle.wy_sorted.specs.Sorted.{Places, these, each, places, MayEnd, MayCome, behind, IsSorted, AreSorted}
+use Rattle.wy_sorted.specs.Sorted.{Places, each, places, MayCome, behind, IsSorted, AreSorted}
 use Rattle.wy_subst.specs.Names.{stands_in, numbers_in, new_number}
-use Rattle.wy_subst.specs.Substitution.{Entered, with_new_name, bound_by, binder_of, entered_by, entered, env_at, renumbered, finished, Put, PutParts, put, put_parts, substituted}
+use Rattle.wy_subst.specs.Substitution.{with_new_name, binder_of, entered_by, entered, env_at, finished, put, put_parts, substituted}
 use Rattle.wy_kept_sorts.specs.SortKept.{HasSort}
 
 -- ---- leaves

@@ -1,5 +1,5 @@
 -- Folding a quantifier over a short range keeps what it means.
-use Rattle.std.proofs.Common.{◌≡◌, ℕ, zero, suc, List, [], ◌∷◌, Bool, true, false, cond, eqb, not, ◌&&◌, ◌||◌, ℤ, pos, negsuc, neg_ℤ, ◌+ℤ◌, ◌-ℤ◌, ◌*ℤ◌, Option, Some, None, ◌⊎◌, inl, inr, refl, sym, ap, ◌∙◌, subst, map}
+use Rattle.std.proofs.Common.{◌≡◌, ℕ, zero, suc, List, [], ◌∷◌, Bool, true, false, cond, eqb, not, ◌&&◌, ◌||◌, ℤ, pos, negsuc, neg_ℤ, ◌+ℤ◌, ◌-ℤ◌, ◌*ℤ◌, Option, Some, None, ◌⊎◌, inl, inr, refl, sym, ap, ◌∙◌, subst}
 use mathlib.Core.Path.{fun_ext}
 use Rattle.std.proofs.lemmas.Bool.{eqb-true}
 use Rattle.std.specs.Prelude.{bytes_eq, nat_le}
@@ -16,7 +16,7 @@ use Rattle.wy_term.specs.Folding.{found, found_or, hidden, span, span_of, instan
 use Rattle.wy_term.specs.Sorts.{Sort, int_sort, val_sort, formula_sort, sort_of, sort_in, Agree}
 use Rattle.wy_term.proofs.SameLemmas.{terms_are, bytes_are, bytes_self, eqb_self, both}
 use Rattle.wy_term.proofs.FoldingLemmas.{folding_keeps_meaning}
-use Rattle.wy_sorted.specs.Sorted.{Places, these, each, places, MayEnd, MayCome, behind, IsSorted, AreSorted}
+use Rattle.wy_sorted.specs.Sorted.{Places, these, each, places, MayCome, behind, IsSorted, AreSorted}
 
 abbrev pub truth_of : Names → Term → Bool
 truth_of names t = (sense names t).truth

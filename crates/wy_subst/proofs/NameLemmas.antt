@@ -1,13 +1,13 @@
 -- Numbers that are taken, and names that stand in terms.
-use Rattle.std.proofs.Common.{◌≡◌, ◌<◌, ◌≤◌, ◌+◌, ◌-◌, ◌&&◌, ◌||◌, ℕ, zero, suc, List, [], ◌∷◌, ◌++◌, All, length, get_or, take, drop, Bool, true, false, cond, eqb, ltb, Option, Some, None, Result, Ok, Err, refl, sym, ap, ◌∙◌, subst, arith, append_assoc}
+use Rattle.std.proofs.Common.{◌≡◌, ◌<◌, ◌≤◌, ◌+◌, ◌-◌, ◌||◌, ℕ, zero, suc, List, [], ◌∷◌, ◌++◌, length, get_or, take, Bool, true, false, cond, eqb, ltb, refl, sym, ap, ◌∙◌, arith}
 use Rattle.std.proofs.lemmas.Bool.{eqb-true}
 use Rattle.std.proofs.lemmas.Bool.Decides.{nat_tests}
-use Rattle.std.proofs.lemmas.List.{take_more, append-nil}
-use Rattle.std.specs.Prelude.{bytes_eq, option_to_list, nat_lt, OnOk, ◌^◌}
+use Rattle.std.proofs.lemmas.List.{take_more}
+use Rattle.std.specs.Prelude.{◌^◌}
 use Rattle.wy_term.specs.Term.{Symbol, Term, Of, Parts, part, no_parts}
-use Rattle.wy_term.specs.Nodes.{Plain, tree_at}
+use Rattle.wy_term.specs.Nodes.{Plain}
 use Rattle.wy_subst.specs.declared.names.Taken.{Taken}
-use Rattle.wy_subst.specs.Names.{any_symbol, any_in_parts, names_it, numbers_by, numbers_in, numbers_in_parts, is_in, top, first_free, new_number}
+use Rattle.wy_subst.specs.Names.{any_symbol, any_in_parts, numbers_by, numbers_in, numbers_in_parts, is_in, top, first_free, new_number}
 use Rattle.wy_subst.specs.View.{symbol_at, any_at, noted_numbers, Counts}
 
 -- ---- numbers

@@ -1,7 +1,6 @@
 -- Scopes, as they grow and as the list of nodes does.
-use Rattle.std.proofs.Common.{◌≡◌, ◌<◌, ◌≤◌, ◌+◌, ℕ, zero, suc, List, [], ◌∷◌, ◌++◌, All, length, get_or, map, drop, Bool, true, false, cond, Option, Some, None, Result, Ok, Err, refl, sym, ap, ◌∙◌, subst, arith, append_assoc, length-append}
+use Rattle.std.proofs.Common.{◌≡◌, ◌<◌, ◌≤◌, ℕ, zero, suc, List, [], ◌∷◌, ◌++◌, All, length, get_or, map, refl, sym, ap, ◌∙◌, subst, arith, length-append}
 use Rattle.std.proofs.lemmas.List.{append-nil}
-use Rattle.wy_term.specs.Term.{Symbol, Term, Of, Parts, part, no_parts}
 use Rattle.wy_term.specs.Nodes.{Plain, tree_at, parts_at}
 use Rattle.wy_term.specs.ReplacingView.{seen_pairs, AreBelow}
 use Rattle.wy_subst.specs.declared.scope.Scope.{Scope}

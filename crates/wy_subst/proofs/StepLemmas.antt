@@ -1,8 +1,8 @@
 -- What each step of the walk keeps.
-use Rattle.std.proofs.Common.{◌≡◌, ◌<◌, ◌≤◌, ◌+◌, ℕ, zero, suc, List, [], ◌∷◌, ◌++◌, All, length, map, drop, Bool, true, false, cond, Option, Some, None, Result, Ok, Err, refl, sym, ap, ◌∙◌, subst, arith}
+use Rattle.std.proofs.Common.{◌≡◌, ◌<◌, ◌≤◌, ◌+◌, ℕ, List, [], ◌∷◌, All, length, map, drop, Bool, true, false, cond, Some, None, refl, sym, ap, ◌∙◌, subst, arith}
 use Rattle.std.specs.Prelude.{nat_lt, if◌then◌else◌}
 use Rattle.std.specs.HashMap.{get}
-use Rattle.wy_term.specs.Term.{Symbol, Term, Of, Parts, part, no_parts, leaf, int_name}
+use Rattle.wy_term.specs.Term.{Symbol, Term, Of, Parts, leaf, int_name}
 use Rattle.wy_term.specs.Nodes.{Plain, grown, tree_at, parts_at, HasPartsBelow}
 use Rattle.wy_term.specs.Folding.{found, hidden}
 use Rattle.wy_term.specs.ReplacingView.{seen_pairs, AreBelow, is_name}
@@ -12,10 +12,10 @@ use Rattle.wy_subst.specs.declared.walk.Open.{Open}
 use Rattle.wy_subst.specs.declared.walk.Walk.{Walk}
 use Rattle.wy_subst.specs.Names.{stands_in, new_number}
 use Rattle.wy_subst.specs.View.{Kept, symbol_at, symbol_in, Counts}
-use Rattle.wy_subst.specs.Substitution.{Entered, with_new_name, bound_by, binder_of, entered_by, entered, env_at, Put, put_of, put, put_parts}
-use Rattle.wy_subst.specs.Walk.{pairs_in, env_in, AreScopes, Grows, Enters, next_of, IsOpen, AreWaiting, completed, outcome, Ask, ask_of, answer, next_ask, Answers, Waits, IsStill, same_place, AreMadeBelow, Remembers, Fits, Stands, Bounds, GoesOn, Enlarges, Opens, Begins}
-use Rattle.wy_subst.proofs.ScopeLemmas.{grows_self, grows_length, AreBelow_up, AreBelow_cons, AreScopes_up, AreScopes-at, seen_kept, env_kept, parts_kept, all_up}
-use Rattle.wy_subst.proofs.WalkLemmas.{symbol_kept, open_kept, waiting_kept, waiting_push, answers_kept, next_kept, waits_kept, remembers_kept, made_below_kept, waits_push, completed_same}
+use Rattle.wy_subst.specs.Substitution.{Entered, with_new_name, bound_by, entered, env_at, put}
+use Rattle.wy_subst.specs.Walk.{pairs_in, env_in, AreScopes, Grows, Enters, IsOpen, AreWaiting, completed, Ask, ask_of, Waits, same_place, Remembers, Fits, Bounds, GoesOn, Enlarges, Opens, Begins}
+use Rattle.wy_subst.proofs.ScopeLemmas.{grows_length, AreBelow_up, AreBelow_cons, AreScopes_up, AreScopes-at, seen_kept, env_kept, all_up}
+use Rattle.wy_subst.proofs.WalkLemmas.{symbol_kept, open_kept, waiting_kept, waits_kept, remembers_kept, made_below_kept, completed_same}
 
 -- ---- scopes
 

@@ -1,11 +1,10 @@
 -- Where no name was made, the numbers that are taken make no difference.
-use Rattle.std.proofs.Common.{◌≡◌, ◌<◌, ◌≤◌, ◌+◌, ◌-◌, ◌||◌, ℕ, zero, suc, List, [], ◌∷◌, ◌++◌, length, Bool, true, false, cond, Option, Some, None, refl, sym, ap, ◌∙◌, subst, arith}
-use Rattle.wy_term.specs.Term.{Symbol, Term, Of, Parts, part, no_parts, leaf, int_name, val_name}
-use Rattle.wy_term.specs.Term as term
+use Rattle.std.proofs.Common.{◌≡◌, ◌+◌, ℕ, List, length, Bool, true, false, cond, Option, Some, None, refl, sym, ap, ◌∙◌, arith}
+use Rattle.wy_term.specs.Term.{Term, Of, Parts, part, no_parts, leaf, int_name, val_name}
 use Rattle.wy_term.specs.Folding.{found, found_or, hidden}
 use Rattle.wy_term.specs.ReplacingView.{IsName}
 use Rattle.wy_subst.specs.Names.{stands_in, new_number}
-use Rattle.wy_subst.specs.Substitution.{Entered, with_new_name, bound_by, binder_of, entered_by, entered, env_at, finished, Put, PutParts, put_of, put, put_parts}
+use Rattle.wy_subst.specs.Substitution.{Entered, with_new_name, binder_of, entered_by, entered, env_at, finished, Put, PutParts, put_of, put, put_parts}
 
 abbrev parts_of : Parts → List ℕ → PutParts
 parts_of parts taken = record { parts = parts; taken = taken }

@@ -1,11 +1,11 @@
 -- Open terms and the walk, as lists grow and as parts are made.
-use Rattle.std.proofs.Common.{◌≡◌, ◌<◌, ◌≤◌, ◌+◌, ◌-◌, ℕ, zero, suc, List, [], ◌∷◌, ◌++◌, All, length, get_or, map, take, drop, Bool, true, false, cond, eqb, ◌&&◌, Option, Some, None, Result, Ok, Err, refl, sym, ap, ◌∙◌, subst, arith, append_assoc, length-append, drop-cons, add-one}
+use Rattle.std.proofs.Common.{◌≡◌, ◌<◌, ◌≤◌, ◌+◌, ℕ, zero, suc, List, [], ◌∷◌, ◌++◌, All, length, get_or, map, drop, Bool, true, false, cond, eqb, ◌&&◌, Option, Some, Result, Ok, Err, refl, sym, ap, ◌∙◌, subst, arith, length-append, drop-cons, add-one}
 use Rattle.std.proofs.lemmas.Bool.{eqb-true}
-use Rattle.std.specs.Prelude.{nat_eq, nat_lt, IfOk}
+use Rattle.std.specs.Prelude.{IfOk}
 use Rattle.std.specs.HashMap.{get}
 use Rattle.wy_term.specs.Term.{Symbol, Term, Of, Parts, part, no_parts}
 use Rattle.wy_term.specs.Term as term
-use Rattle.wy_term.specs.Nodes.{Plain, of, grown, tree_at, parts_at, HasPartsBelow}
+use Rattle.wy_term.specs.Nodes.{Plain, of, grown, tree_at, parts_at}
 use Rattle.wy_term.specs.Folding.{folded}
 use Rattle.wy_term.specs.Rewriting.{count}
 use Rattle.wy_term.specs.ReplacingView.{is_name}
@@ -14,9 +14,9 @@ use Rattle.wy_subst.specs.declared.scope.Scope.{Scope}
 use Rattle.wy_subst.specs.declared.walk.Open.{Open}
 use Rattle.wy_subst.specs.declared.walk.Walk.{Walk}
 use Rattle.wy_subst.specs.View.{Kept, symbol_at, symbol_in, Counts}
-use Rattle.wy_subst.specs.Substitution.{env_at, renumbered, finished, Put, PutParts, put_of, put, put_parts}
-use Rattle.wy_subst.specs.Walk.{env_in, AreScopes, Grows, next_of, IsOpen, AreWaiting, followed_by, completed, outcome, Ask, ask_of, answer, next_ask, Answers, Waits, IsStill, same_place, AreMadeBelow, Remembers, Fits, Stands}
-use Rattle.wy_subst.proofs.ScopeLemmas.{grows_length, env_kept, parts_kept, trees_kept, all_up}
+use Rattle.wy_subst.specs.Substitution.{env_at, renumbered, finished, Put, put_of, put, put_parts}
+use Rattle.wy_subst.specs.Walk.{env_in, AreScopes, Grows, next_of, IsOpen, AreWaiting, followed_by, completed, outcome, Ask, ask_of, next_ask, Answers, Waits, IsStill, same_place, AreMadeBelow, Remembers, Fits, Stands}
+use Rattle.wy_subst.proofs.ScopeLemmas.{env_kept, parts_kept, trees_kept, all_up}
 
 -- ---- growing
 

@@ -1,8 +1,8 @@
 -- What a term is made of: the tests of its symbols, and of those of the terms that are listed.
-use Rattle.std.proofs.Common.{◌≡◌, ◌<◌, ◌≤◌, ◌+◌, ◌&&◌, ◌||◌, ℕ, zero, suc, List, [], ◌∷◌, ◌++◌, All, length, Bool, true, false, cond, eqb, Option, Some, None, Result, Ok, Err, refl, sym, ap, ◌∙◌, subst, arith}
+use Rattle.std.proofs.Common.{◌≡◌, ◌<◌, ◌≤◌, ◌&&◌, ◌||◌, ℕ, zero, suc, List, [], ◌∷◌, ◌++◌, All, length, Bool, true, false, cond, eqb, Option, Some, None, refl, sym, ap, ◌∙◌, subst, arith}
 use Rattle.std.proofs.lemmas.Bool.{eqb-true}
 use Rattle.std.specs.Prelude.{option_to_list, unwrap_or, if◌then◌else◌}
-use Rattle.wy_term.specs.Term.{Symbol, Term, Of, Parts, part, no_parts}
+use Rattle.wy_term.specs.Term.{Symbol}
 use Rattle.wy_term.specs.Nodes.{Plain, grown, tree_at, parts_at, HasPartsBelow}
 use Rattle.wy_subst.specs.Names.{any_symbol, any_in_parts}
 use Rattle.wy_subst.specs.View.{symbol_at, any_at, all_noted, IsInside, AreInside, IsListed}

@@ -1,5 +1,5 @@
 -- Which names stand in a term, free or bound, and which number a new name takes.
-use Rattle.std.specs.Prelude.{ℕ, zero, suc, ◌+◌, ◌^◌, List, [], ◌∷◌, ◌++◌, Bool, true, false, ◌&&◌, ◌||◌, ◌==◌, bytes_eq, nat_lt, if◌then◌else◌}
+use Rattle.std.specs.Prelude.{ℕ, zero, suc, ◌+◌, ◌^◌, List, [], ◌∷◌, ◌++◌, Bool, false, ◌&&◌, ◌||◌, ◌==◌, bytes_eq, nat_lt, if◌then◌else◌}
 use Rattle.wy_term.specs.Term.{Symbol, Term, Of, Parts, no_parts, part, int_name, val_name, every, exists}
 
 abbrev mutual

@@ -1,5 +1,5 @@
 -- How the code keeps what a term is made of, and the names and numbers in it.
-use Rattle.std.specs.Prelude.{◌≡◌, ℕ, ◌<◌, ◌≤◌, List, [], ◌∷◌, ◌++◌, All, length, Bool, true, false, ◌&&◌, ◌||◌, bytes_eq, nat_eq}
+use Rattle.std.specs.Prelude.{◌≡◌, ℕ, ◌<◌, ◌≤◌, List, [], ◌∷◌, ◌++◌, length, Bool, true, false, ◌&&◌, ◌||◌, bytes_eq, nat_eq}
 use Rattle.std.specs.HashSet.{contains}
 use Rattle.wy_term.specs.Term.{Symbol, Term, Of}
 use Rattle.wy_term.specs.Nodes.{Plain, tree_at}

@@ -1,8 +1,8 @@
 -- Where a walk is, and what it has made already.
-use Rattle.std.specs.Prelude.{◌≡◌, ℕ, zero, suc, ◌+◌, ◌<◌, ◌≤◌, List, [], ◌∷◌, ◌++◌, All, length, map, drop, Bool, true, false, ◌&&◌, Option, Some, None, nat_eq, nat_lt, if◌then◌else◌, slice_index_or}
+use Rattle.std.specs.Prelude.{◌≡◌, ℕ, zero, suc, ◌+◌, ◌<◌, ◌≤◌, List, [], ◌∷◌, ◌++◌, All, length, map, drop, Bool, false, ◌&&◌, Option, Some, None, nat_eq, slice_index_or}
 use Rattle.std.specs.HashSet.{contains}
 use Rattle.std.specs.HashMap.{get}
-use Rattle.wy_term.specs.Term.{Symbol, Term, Of, Parts, no_parts, part}
+use Rattle.wy_term.specs.Term.{Symbol, Term, Of, Parts, part}
 use Rattle.wy_term.specs.Nodes.{Plain, tree_at, parts_at}
 use Rattle.wy_term.specs.ReplacingView.{seen_pairs, AreBelow, is_name}
 use Rattle.wy_subst.specs.declared.names.IntNames.{IntNames}

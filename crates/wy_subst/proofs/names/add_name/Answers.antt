@@ -1,4 +1,4 @@
-use Rattle.std.proofs.Common.{◌≡◌, ◌∙◌, ◌||◌, cond, Bool, true, false, refl, List, ℕ}
+use Rattle.std.proofs.Common.{◌≡◌, ◌∙◌, ◌||◌, cond, Bool, true, false, refl}
 use Rattle.wy_subst.specs.View.{same_name}
 use Rattle.wy_subst.proofs.names.add_name.Goals as goal
 

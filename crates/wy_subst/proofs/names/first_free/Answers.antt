@@ -1,7 +1,7 @@
 use Rattle.std.proofs.Common.{◌≡◌, ◌∙◌, ◌+◌, ◌-◌, ℕ, sym, ap, true, false, nat_eq, rules}
 use Rattle.std.specs.HashSet.{contains}
 use Rattle.wy_subst.specs.Names.{top, is_in}
-use Rattle.wy_subst.proofs.NameLemmas.{free_more, free_here, free_first}
+use Rattle.wy_subst.proofs.NameLemmas.{free_more, free_here}
 use Rattle.wy_subst.proofs.names.first_free.Goals as goal
 
 pub loop-least-preserved : goal.loop-least-preserved

@@ -1,4 +1,4 @@
-use Rattle.std.proofs.Common.{◌≡◌, ◌∙◌, sym, ap, length, List, ℕ, rules}
+use Rattle.std.proofs.Common.{◌≡◌, ◌∙◌, ap, length, List, ℕ, rules}
 use Rattle.wy_term.specs.Nodes.{of, plain}
 use Rattle.wy_subst.specs.Substitution.{renumbered}
 use Rattle.wy_subst.specs.View.{symbol_at}

@@ -1,11 +1,11 @@
-use Rattle.std.proofs.Common.{◌≡◌, ◌≤◌, ◌∙◌, sym, ap, length, arith}
+use Rattle.std.proofs.Common.{◌≡◌, ◌∙◌, sym, ap, length, arith}
 use Rattle.std.specs.HashMap.{get}
 use Rattle.wy_term.specs.Term.{Term}
 use Rattle.wy_term.specs.Nodes.{tree_at}
 use Rattle.wy_subst.specs.Substitution.{put_of}
 use Rattle.wy_subst.specs.Walk.{env_in, same_place, answer}
 use Rattle.wy_subst.proofs.ScopeLemmas.{grows_self, env_kept, AreScopes_up}
-use Rattle.wy_subst.proofs.WalkLemmas.{open_kept, waiting_kept, waits_kept, remembers_kept, made_below_kept, outcome_whole, fits_same, stands_same}
+use Rattle.wy_subst.proofs.WalkLemmas.{open_kept, waiting_kept, waits_kept, remembers_kept, outcome_whole, fits_same, stands_same}
 use Rattle.wy_subst.proofs.walk.finish.Goals as goal
 
 pub note-requires-clause-current : goal.note-requires-clause-current

@@ -1,4 +1,4 @@
-use Rattle.std.proofs.Common.{◌≡◌, ◌++◌, ◌∙◌, [], ◌∷◌, List, refl, sym, ap, subst, length, rules}
+use Rattle.std.proofs.Common.{◌≡◌, ◌++◌, ◌∙◌, [], ◌∷◌, List, refl, ap, subst, length, rules}
 use Rattle.wy_subst.specs.declared.walk.Open.{Open}
 use Rattle.wy_subst.specs.Walk.{AreWaiting, Waits, answer}
 use Rattle.wy_subst.proofs.WalkLemmas.{waiting_pop, waits_pop, answers_more, open_more}

@@ -1,4 +1,4 @@
-use Rattle.std.proofs.Common.{◌≡◌, ◌∙◌, sym, ap, subst, length, List, ℕ}
+use Rattle.std.proofs.Common.{◌∙◌, sym, ap, subst, length, List, ℕ}
 use Rattle.wy_term.specs.ReplacingView.{AreBelow}
 use Rattle.wy_subst.specs.declared.scope.Scope.{Scope}
 use Rattle.wy_subst.specs.Walk.{pairs_in}

@@ -1,4 +1,4 @@
-use Rattle.std.proofs.Common.{◌≡◌, ◌∙◌, refl, sym, ap, length, arith}
+use Rattle.std.proofs.Common.{◌∙◌, refl, length}
 use Rattle.wy_term.specs.Term.{leaf, int_name}
 use Rattle.wy_subst.proofs.ScopeLemmas.{AreScopes_up, env_kept, grows_self}
 use Rattle.wy_subst.proofs.StepLemmas.{hidden_same}

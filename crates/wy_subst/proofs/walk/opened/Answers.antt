@@ -1,4 +1,4 @@
-use Rattle.std.proofs.Common.{◌≡◌, ◌<◌, refl, length, arith}
+use Rattle.std.proofs.Common.{◌<◌, refl, length, arith}
 use Rattle.wy_term.specs.Nodes.{plain}
 use Rattle.wy_subst.proofs.ScopeLemmas.{grows_length}
 use Rattle.wy_subst.proofs.StepLemmas.{opened_is, opened_value}

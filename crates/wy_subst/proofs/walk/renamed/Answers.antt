@@ -1,8 +1,7 @@
-use Rattle.std.proofs.Common.{◌≡◌, ◌<◌, ◌+◌, ◌∷◌, ◌∙◌, ℕ, List, sym, ap, subst, length, arith, rules}
+use Rattle.std.proofs.Common.{◌≡◌, ◌<◌, ◌∷◌, ◌∙◌, ℕ, ap, subst, length, arith, rules}
 use Rattle.wy_term.specs.Term.{leaf, int_name}
 use Rattle.wy_term.specs.Nodes.{tree_at}
-use Rattle.wy_subst.specs.View.{Kept, Counts}
-use Rattle.wy_subst.specs.Walk.{Enters, pairs_in}
+use Rattle.wy_subst.specs.View.{Counts}
 use Rattle.wy_subst.proofs.ScopeLemmas.{kept_on}
 use Rattle.wy_subst.proofs.StepLemmas.{enters_below, env_by}
 use Rattle.wy_subst.proofs.walk.renamed.Goals as goal

@@ -1,6 +1,6 @@
 use Rattle.std.proofs.Common.{nat_eq}
 use Rattle.std.specs.HashSet.{contains}
-use Rattle.wy_subst.proofs.WithinLemmas.{below_from_inside, taken_inside, rest_listed, all_listed}
+use Rattle.wy_subst.proofs.WithinLemmas.{below_from_inside, taken_inside, rest_listed}
 use Rattle.wy_subst.proofs.within.made_of.Goals as goal
 
 pub returns-then-contains-clause-below : goal.returns-then-contains-clause-below
