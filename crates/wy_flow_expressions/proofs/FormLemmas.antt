@@ -1,5 +1,5 @@
 -- Tests of variables, and operators, by the form of the node.
-use Rattle.std.proofs.Common.{◌≡◌, ℕ, List, [], Option, Some, None, Result, refl, subst}
+use Rattle.std.proofs.Common.{◌≡◌, ℕ, List, [], Some, None, Result, refl, subst}
 use Rattle.wy_core.specs.Types.{Ty}
 use Rattle.wy_core.specs.CoreTree.{Expr, NullExpr, BoolExpr, IntExpr, VarExpr, CallExpr, NegExpr, NotExpr, LenExpr, BinaryExpr, IsExpr, IndexExpr, FieldExpr, ListExpr, RepeatExpr, RecordExpr, QuantExpr}
 use Rattle.wy_core.specs.declared.expressions.Op.{Op}
@@ -11,7 +11,7 @@ use Rattle.wy_typing.specs.Contexts as typing
 use Rattle.wy_typing.specs.Leaves.{Truth}
 use Rattle.wy_typing.specs.Narrowing.{IsVariable, IsTest}
 use Rattle.wy_typing.specs.Operators.{Binary, right_side}
-use Rattle.wy_typing.specs.Outcomes.{Outcome, Meets}
+use Rattle.wy_typing.specs.Outcomes.{Meets}
 use Rattle.wy_flow_expressions.specs.declared.walk.Found.{Found}
 use Rattle.wy_flow_expressions.specs.Seen.{seen_found}
 use Rattle.wy_flow_expressions.specs.Tested.{tested}

@@ -1,14 +1,13 @@
 //! Calls.
 ghost use Rattle.std.specs.Prelude.{◌≡◌, OnOk, slice_get};
 ghost use Rattle.wy_core.specs.CoreSeen.{seen_ty};
-ghost use Rattle.wy_environment.specs.Seen.{seen_changes, seen_environment};
-ghost use Rattle.wy_flow_expressions.specs.Seen.{seen_all, seen_all_fields, seen_flow, seen_found, seen_program, seen_types};
+ghost use Rattle.wy_flow_expressions.specs.Seen.{seen_all, seen_flow, seen_found, seen_program, seen_types};
 ghost use Rattle.wy_types.specs.Names.{types_of};
 ghost use Rattle.wy_types.specs.Questions.{IsOver};
 ghost use Rattle.wy_types.specs.Recursion.{RecurThroughParts};
 ghost use Rattle.wy_typing.specs.Outcomes.{Meets};
 ghost use Rattle.wy_typing.specs.Calls as rule;
-ghost use Rattle.wy_flow_expressions.specs.Seen.{seen_result, seen_signature};
+ghost use Rattle.wy_flow_expressions.specs.Seen.{seen_signature};
 
 use crate::signatures::Signature;
 use crate::walk::{Found, Program, Walk, of_type};

@@ -1,8 +1,8 @@
 //! Expressions.
-ghost use Rattle.std.specs.Prelude.{◌≡◌, ◌++◌, ◌∷◌, [], map, IfOk, OnOk};
+ghost use Rattle.std.specs.Prelude.{◌≡◌, ◌++◌, ◌∷◌, [], IfOk, OnOk};
 ghost use Rattle.wy_core.specs.CoreSeen.{seen_expr, seen_exprs, seen_fields};
 ghost use Rattle.wy_environment.specs.Seen.{seen_changes, seen_environment};
-ghost use Rattle.wy_flow_expressions.specs.Seen.{seen_all, seen_all_fields, seen_flow, seen_found, seen_program, seen_types};
+ghost use Rattle.wy_flow_expressions.specs.Seen.{seen_all, seen_all_fields, seen_flow, seen_found, seen_program};
 ghost use Rattle.wy_types.specs.Names.{types_of};
 ghost use Rattle.wy_types.specs.Questions.{IsOver};
 ghost use Rattle.wy_types.specs.Recursion.{RecurThroughParts};
