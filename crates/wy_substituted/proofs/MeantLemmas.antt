@@ -1,10 +1,8 @@
 -- A term put for a name keeps what is meant.
-use Rattle.std.proofs.Common.{◌≡◌, ℕ, zero, suc, ◌+◌, List, [], ◌∷◌, ◌++◌, Bool, true, false, cond, eqb, ◌&&◌, ◌||◌, ℤ, pos, ◌-ℤ◌, Option, Some, None, refl, sym, ap, ◌∙◌, subst}
+use Rattle.std.proofs.Common.{◌≡◌, ℕ, ◌+◌, List, [], ◌∷◌, ◌++◌, Bool, true, false, cond, eqb, ◌&&◌, ◌||◌, ℤ, ◌-ℤ◌, Option, Some, None, refl, sym, ap, ◌∙◌, subst}
 use mathlib.Core.Path.{fun_ext}
 use Rattle.std.proofs.lemmas.Bool.{eqb-true}
 use Rattle.std.specs.Prelude.{bytes_eq, nat_lt}
-use Rattle.wy_value.specs.Datum.{Datum}
-use Rattle.wy_term.specs.Term as term
 use Rattle.wy_term.specs.Term.{Symbol, Term, Of, Parts, no_parts, part, leaf, int_name, val_name, every, exists}
 use Rattle.wy_term.specs.Same.{same_term}
 use Rattle.wy_term.specs.Meaning.{Names, with_number, Sense, sense, distance}
@@ -12,9 +10,9 @@ use Rattle.wy_term.specs.Folding.{found, found_or, hidden, binder, folded}
 use Rattle.wy_term.specs.Sorts.{Sort, int_sort, val_sort, formula_sort, sort_of, sort_in, Agree}
 use Rattle.wy_term.proofs.SameLemmas.{terms_are, terms_self, bytes_are, bytes_self, eqb_self, both}
 use Rattle.wy_subst.specs.Names.{any_symbol, any_in_parts, names_it, stands_in, numbers_by, numbers_in, numbers_in_parts, is_in, new_number}
-use Rattle.wy_subst.specs.Substitution.{Entered, with_new_name, bound_by, binder_of, entered_by, entered, env_at, finished, Put, put, put_parts, substituted}
+use Rattle.wy_subst.specs.Substitution.{with_new_name, binder_of, entered_by, entered, env_at, put, put_parts, substituted}
 use Rattle.wy_subst.proofs.NameLemmas.{has_number, is_in-append, new_number-new}
-use Rattle.wy_sorted.specs.Sorted.{Places, places, MayCome, behind, IsSorted, AreSorted}
+use Rattle.wy_sorted.specs.Sorted.{Places, places, behind, IsSorted, AreSorted}
 use Rattle.wy_sorted.proofs.SortedLemmas.{truth_of, number_of, under, range_test, binder_holds, AgreeAll, alike, agree_on, come_agree, name_test, other, folding_kept}
 use Rattle.wy_kept_sorts.specs.SortKept.{HasSort}
 use Rattle.wy_kept_sorts.proofs.SortLemmas.{ArePairs, found_sorted, put_parts_sorted, entered_sorted}
