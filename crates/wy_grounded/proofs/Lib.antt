@@ -1,0 +1,3 @@
+pub mod UniqueLemmas
+pub mod ReadingLemmas
+pub mod TruthLemmas
