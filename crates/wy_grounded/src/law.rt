@@ -1,11 +1,12 @@
 //! What grounded types settle.
-ghost use Rattle.std.specs.Prelude.{ℕ, List, [], Bool};
+ghost use Rattle.std.specs.Prelude.{ℕ, nat_lt, List, [], Bool};
 ghost use Rattle.wy_value.specs.Datum.{Datum};
 ghost use Rattle.wy_term.specs.Term.{leaf, any_of};
 ghost use Rattle.wy_term.specs.Meaning.{Names};
 ghost use Rattle.wy_term.specs.Condition.{Entry, Condition, AreUnfolded, HoldsAlways};
-ghost use Rattle.wy_term.specs.Unfolding.{AreGrounded};
+ghost use Rattle.wy_term.specs.Unfolding.{Question, IsFounded, AreGrounded};
 ghost use Rattle.wy_grounded.specs.Readings.{IsReading, AlikeOn, HoldsByReadings};
+ghost use Rattle.wy_grounded.specs.Chains.{chains};
 
 /// Whatever the names stand for, the listed types have a reading: sets of data that meet their formulas, while each type
 /// that isn't listed keeps the set that it has.
@@ -29,4 +30,14 @@ pub fn truth_is_by_readings()
 /// The listed types make no false formula true: `or` of nothing, without hypotheses, is no true condition.
 pub fn nothing_false_holds_always()
     ensures { (types : List Entry) → AreGrounded types → HoldsAlways (record { hyps = []; goal = leaf any_of; types = types }) → ⊥ }
+{}
+
+/// Where each question has a number, the order by these numbers has no endless descents.
+pub fn orders_by_number_are_founded()
+    ensures { (number : Question → ℕ) (q : Question) → IsFounded (λ p r. nat_lt (number p) (number r)) q }
+{}
+
+/// Recursive types can be grounded: the example's data are `null` and the records that lead on to a datum of the type.
+pub fn a_recursive_type_is_grounded()
+    ensures { AreGrounded chains }
 {}

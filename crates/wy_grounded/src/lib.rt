@@ -7,6 +7,6 @@
 mod law;
 
 pub use law::{
-    formulas_leave_one_reading, listed_types_have_a_reading, nothing_false_holds_always,
-    truth_is_by_readings,
+    a_recursive_type_is_grounded, formulas_leave_one_reading, listed_types_have_a_reading,
+    nothing_false_holds_always, orders_by_number_are_founded, truth_is_by_readings,
 };
