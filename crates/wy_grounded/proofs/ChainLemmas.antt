@@ -10,7 +10,7 @@ use Rattle.wy_term.specs.Meaning.{Names}
 use Rattle.wy_term.specs.Condition.{Entry, says}
 use Rattle.wy_term.specs.Unfolding.{Question, AnswerAlikeBefore, AreGrounded}
 use Rattle.wy_term.proofs.SameLemmas.{bytes_self, eqb_self}
-use Rattle.wy_grounded.specs.Chains.{x, next, is_chain, chains}
+use Rattle.wy_grounded.specs.Chains.{chain_name, next, is_chain, chains}
 use Rattle.wy_grounded.proofs.UniqueLemmas.{ask}
 use Rattle.wy_grounded.proofs.NumberLemmas.{founded_by_number}
 
@@ -46,7 +46,7 @@ abbrev lesser : Question → Question → Bool
 lesser p q = nat_lt (size p.datum) (size q.datum)
 
 abbrev chain : Entry
-chain = record { type_number = 0; name = x; formula = is_chain }
+chain = record { type_number = 0; name = chain_name; formula = is_chain }
 
 abbrev chain_says : Names → Datum → Bool
 chain_says names d = is_of_kind null_kind d || ((is_of_kind (record_kind (next ∷ [])) d && (names.is_member 0 (field_in d next) && true)) || false)
