@@ -68,7 +68,7 @@ abbrev mutual
   nodes_of_ty name (InterTy s t) = 1 + nodes_of_ty name s + nodes_of_ty name t
   nodes_of_ty name (NotTy t) = 1 + nodes_of_ty name t
   nodes_of_ty name (NamedTy n) = name n
-  nodes_of_ty name (NormalTy conjuncts) = 1
+  nodes_of_ty name (NormalTy union) = 1
 
   pub nodes_of_fields : (ℕ → ℕ) → FieldTys → ℕ
   nodes_of_fields name NoFieldTys = 0

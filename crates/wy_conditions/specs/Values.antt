@@ -92,7 +92,7 @@ abbrev mutual
       let first = holds named s v n in let second = holds named t v first.count in valued second.count (all_of (first.term ∷ second.term ∷ []))
   holds named (NotTy t) v n = let inside = holds named t v n in valued inside.count (denied inside.term)
   holds named (NamedTy number) v n = named number v n
-  holds named (NormalTy conjuncts) v n = valued n falsehood
+  holds named (NormalTy union) v n = valued n falsehood
 
   -- each field of the datum is in its type
   pub fields_hold : Naming → FieldTys → Term → ℕ → ValuedAll
