@@ -1,21 +1,18 @@
 -- Templates by their indices.
 use Rattle.std.proofs.Common.{◌≡◌, ◌+◌, ◌<◌, ◌≤◌, ℕ, zero, suc, Bool, true, false, cond, List, [], ◌∷◌, length, map, drop, Option, refl, sym, ap, ◌∙◌, arith}
-use Rattle.std.specs.List.{slice_get}
-use Rattle.std.specs.Prelude.{slice_set}
-use Rattle.std.specs.Bool.{nat_lt}
-use Rattle.std.specs.Option.{option_map}
 use Rattle.std.proofs.lemmas.Option.{slice_get-map}
+use Rattle.std.specs.Option.{option_map}
+use Rattle.std.specs.Bool.{nat_lt}
+use Rattle.std.specs.Prelude.{slice_set}
+use Rattle.std.specs.List.{slice_get}
 use Rattle.std.proofs.lemmas.Bool.{lt-ltb, ltb-true}
 use Rattle.wy_ast.specs.SurfaceSeen.{seen_decl}
 use Rattle.wy_ast.specs.declared.declarations.Decl.{Decl}
-use Rattle.wy_lower.specs.declared.uses.Template as rust
-use Rattle.wy_lower.specs.Uses.{Template, seen_template, seen_templates, seen_maybe}
+use Rattle.wy_lower_expressions.specs.declared.uses.Template as rust
+use Rattle.wy_lower_expressions.specs.Uses.{Template, seen_template, seen_templates}
 use Rattle.wy_scope.specs.Scope.{Scope}
 use Rattle.wy_expand.specs.declared.measure.Expansion.{Expansion}
 use Rattle.wy_lower.specs.Templates.{set_at, used_of, with_option, filled}
-
-pub template_found : (ts : List rust.Template) (i : ℕ) → slice_get (seen_templates ts) i ≡ seen_maybe (slice_get ts i)
-template_found ts i = slice_get-map seen_template ts i
 
 pub decl_found : (ds : List Decl) (i : ℕ) → slice_get (map seen_decl ds) i ≡ option_map seen_decl (slice_get ds i)
 decl_found ds i = slice_get-map seen_decl ds i

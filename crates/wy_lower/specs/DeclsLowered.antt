@@ -4,10 +4,10 @@ use Rattle.wy_ast.specs.SurfaceTree as surface
 use Rattle.wy_core.specs.CoreTree.{Expr, Stmt, Param, Output, Alias, Routine, Decl, AliasDecl, RoutineDecl, Core, stmts_of}
 use Rattle.wy_scope.specs.Scope.{Scope}
 use Rattle.wy_scope.specs.Places.{place_of_ty}
-use Rattle.wy_lower.specs.Variables.{Variables, named, declared}
-use Rattle.wy_lower.specs.Uses.{With, Template}
-use Rattle.wy_lower.specs.TypesLowered.{in_ty}
-use Rattle.wy_lower.specs.StmtsLowered.{in_clauses, in_stmts}
+use Rattle.wy_lower_expressions.specs.Variables.{Variables, named, declared}
+use Rattle.wy_lower_expressions.specs.Uses.{With, Template}
+use Rattle.wy_lower_expressions.specs.TypesLowered.{in_ty}
+use Rattle.wy_lower_statements.specs.StmtsLowered.{in_clauses, in_stmts}
 use Rattle.wy_lower.specs.Templates.{params_scope, params_named}
 
 -- a variable that may be named: the scope and the variables behind it, and its number

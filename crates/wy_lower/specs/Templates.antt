@@ -6,9 +6,9 @@ use Rattle.wy_scope.specs.Scope.{Scope}
 use Rattle.wy_expand.specs.declared.measure.Use.{Use}
 use Rattle.wy_expand.specs.declared.measure.Expansion.{Expansion}
 use Rattle.wy_expand.specs.declared.measure.Expansion.TheVariants as expansion
-use Rattle.wy_lower.specs.Variables.{Variables, named, declared}
-use Rattle.wy_lower.specs.Uses.{With, Template}
-use Rattle.wy_lower.specs.StmtsLowered.{in_clauses}
+use Rattle.wy_lower_expressions.specs.Variables.{Variables, named, declared}
+use Rattle.wy_lower_expressions.specs.Uses.{With, Template}
+use Rattle.wy_lower_statements.specs.StmtsLowered.{in_clauses}
 
 -- the scope and the variables behind parameters
 abbrev pub params_scope : Scope → Variables → List Param → Scope

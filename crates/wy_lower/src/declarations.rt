@@ -6,18 +6,15 @@ ghost use Rattle.wy_core.specs.CoreSeen.{seen_core, seen_alias as core_alias, se
 ghost use Rattle.wy_lower.specs.DeclsLowered as lowered;
 ghost use Rattle.wy_lower.specs.Templates as params_spec;
 ghost use Rattle.wy_lower.specs.SeenDecls.{seen_alias, seen_function, seen_method};
-ghost use Rattle.wy_lower.specs.Uses.{seen_templates};
+ghost use Rattle.wy_lower_expressions.specs.Uses.{seen_templates};
 
-use crate::expressions::in_exprs;
-use crate::numbers::declared;
-use crate::statements::in_block;
-use crate::types::in_ty;
-use crate::uses::Template;
 use sqlite_items::Items;
 use std::alloc::{AllocError, Global};
 use wy_ast as surface;
 use wy_core::{Alias, Core, Decl, Expr, Output, Param, Routine};
 use wy_data::Name;
+use wy_lower_expressions::{Template, declared, in_exprs, in_ty};
+use wy_lower_statements::in_block;
 use wy_scope::Table;
 
 /// The core of the declarations, whose names are bound. The scope holds the names of all of them, and is

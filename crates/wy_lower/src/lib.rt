@@ -1,24 +1,14 @@
 //! From the surface tree of a program whose names are bound to the core tree.
 //!
-//! Names become numbers, records' fields rise, and the forms that the core lacks are written by
-//! others. `numbers` gives variables their numbers, and `types`, `expressions`, `statements` and
-//! `declarations` have the walk, each file that of one class of the grammar; `loops` and `choices` write
-//! `do`, `for` and `switch` by the statements of the core. A use of a property is its clauses with the
-//! arguments put in (`uses`): `templates` lowers each property's clauses once, those that it uses first. So
-//! nothing recurses on declarations, and the work is linear in the program and its expansion.
+//! Names become numbers, records' fields rise, and the forms that the core lacks are written by others
+//! (`wy_lower_expressions`, `wy_lower_statements`). `declarations` goes through the declarations. A use of a
+//! property is its clauses with the arguments put in: `templates` lowers each property's clauses once, those
+//! that it uses first. So nothing recurses on declarations, and the work is linear in the program and its
+//! expansion.
 #![tactic(auto)]
 
-mod choices;
 mod declarations;
-mod expressions;
-mod loops;
-mod numbers;
-mod quantifiers;
-mod statements;
 mod templates;
-mod types;
-mod uses;
 
 pub use declarations::core_of;
 pub use templates::templates_of;
-pub use uses::Template;

@@ -2,17 +2,15 @@
 ghost use Rattle.std.specs.Prelude.{◌≡◌, map, drop, IfOk, OnOk};
 ghost use Rattle.std.specs.Option.{option_copied, option_map};
 ghost use Rattle.wy_ast.specs.SurfaceSeen.{seen_decl, seen_param, seen_exprs};
-ghost use Rattle.wy_lower.specs.Uses.{seen_template, seen_templates};
+ghost use Rattle.wy_lower_expressions.specs.Uses.{seen_template, seen_templates};
 ghost use Rattle.wy_lower.specs.Templates as spec;
 
-use crate::expressions::in_exprs;
-use crate::numbers::declared;
-use crate::uses::Template;
 use sqlite_items::{Items, at};
 use std::alloc::{AllocError, Global};
 use wy_ast::{Decl, Param, Property};
 use wy_data::Name;
 use wy_expand::{Expansion, Use};
+use wy_lower_expressions::{Template, declared, in_exprs};
 use wy_scope::Table;
 
 /// The template of each declaration, by its index. The order has the indices of the properties whose

@@ -13,11 +13,11 @@ use Rattle.wy_uses.specs.Uses.{Edges, property_named}
 use Rattle.wy_uses.specs.ExprUses as exprs
 use Rattle.wy_order.proofs.UseLemmas.{Each, of_last, before_ty, before_expr, before_exprs, before_values, before_ranges}
 use Rattle.wy_order.proofs.SizeLemmas.{use_of}
-use Rattle.wy_lower.specs.Variables.{Variables, declared, named}
-use Rattle.wy_lower.specs.Uses.{With, Template, used_by, is_used, expansion, called}
-use Rattle.wy_lower.specs.TypesLowered.{in_ty, placed}
-use Rattle.wy_lower.specs.ExprsLowered.{operator, quantified, one, more, kept, Head, Ranged, more_heads}
-use Rattle.wy_lower.specs.ExprsLowered as lowered
+use Rattle.wy_lower_expressions.specs.Variables.{Variables, declared, named}
+use Rattle.wy_lower_expressions.specs.Uses.{With, Template, used_by, is_used, expansion, called}
+use Rattle.wy_lower_expressions.specs.TypesLowered.{in_ty, placed}
+use Rattle.wy_lower_expressions.specs.ExprsLowered.{operator, quantified, one, more, kept, Head, Ranged, more_heads}
+use Rattle.wy_lower_expressions.specs.ExprsLowered as lowered
 use Rattle.wy_lower.specs.Templates.{params_scope, params_named, template}
 use Rattle.wy_named.proofs.NestedLemmas.{Nested, nested_itself, nested_more, nested_params, nested_ranges}
 

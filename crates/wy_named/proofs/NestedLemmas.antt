@@ -4,9 +4,9 @@ use Rattle.std.specs.Str.{bytes_eq}
 use Rattle.wy_ast.specs.SurfaceTree.{Ranges, NoRanges, MoreRanges, Param}
 use Rattle.wy_scope.specs.Scope.{Scope, entry_of, has}
 use Rattle.wy_scope.specs.declared.table.Entry.TheVariants as entry
-use Rattle.wy_lower.specs.Variables.{Variables, declared, named}
-use Rattle.wy_lower.specs.Uses.{Template}
-use Rattle.wy_lower.specs.ExprsLowered as lowered
+use Rattle.wy_lower_expressions.specs.Variables.{Variables, declared, named}
+use Rattle.wy_lower_expressions.specs.Uses.{Template}
+use Rattle.wy_lower_expressions.specs.ExprsLowered as lowered
 use Rattle.wy_lower.specs.Templates.{params_scope}
 
 -- each property of the nested scope is one of the outer scope

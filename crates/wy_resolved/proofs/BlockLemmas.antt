@@ -3,7 +3,7 @@ use Rattle.std.proofs.Common.{◌≡◌, ◌<◌, ◌≤◌, ◌⊎◌, inl, inr
 use Rattle.wy_core.specs.Types.{BoolTy, IntTy, AnyTy}
 use Rattle.wy_core.specs.CoreTree.{Expr, BoolExpr, IntExpr, VarExpr, BinaryExpr, Stmt, DeclareStmt, AssignStmt, CallStmt, ReturnStmt, AssertStmt, BreakStmt, ContinueStmt, SkipStmt, FailStmt, IfStmt, WhileStmt, stmts_of}
 use Rattle.wy_core.specs.declared.expressions.Op.TheVariants as op
-use Rattle.wy_lower.specs.StmtsLowered.{or_of, behind_first, each_behind_first, equals, either, or_labels, is_one_of, Arm, choice, chain, Span, bounds, next_turn, starts, turns, counted, repeated, repeated_behind, switched}
+use Rattle.wy_lower_statements.specs.StmtsLowered.{or_of, behind_first, each_behind_first, equals, either, or_labels, is_one_of, Arm, choice, chain, Span, bounds, next_turn, starts, turns, counted, repeated, repeated_behind, switched}
 use Rattle.wy_formed.specs.Offers.{Offers}
 use Rattle.wy_formed.specs.Bound.{Scope, Has, IsNew, Around, looped, behind, BoundExpr, BoundClauses, BoundStmt, BoundStmts}
 use Rattle.wy_resolved.proofs.ScopeLemmas.{Keeps, Below, below_more}

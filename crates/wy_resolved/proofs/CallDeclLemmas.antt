@@ -21,9 +21,9 @@ use Rattle.wy_bind.specs.StmtNames as stmts
 use Rattle.wy_bind.specs.DeclNames as bind
 use Rattle.wy_bind.specs.DeclNames.{clause_context, routine_context}
 use Rattle.wy_expand.specs.declared.measure.Expansion.{Expansion}
-use Rattle.wy_lower.specs.Variables.{Variables, named}
-use Rattle.wy_lower.specs.Variables as variables
-use Rattle.wy_lower.specs.Uses.{Template}
+use Rattle.wy_lower_expressions.specs.Variables.{Variables, named}
+use Rattle.wy_lower_expressions.specs.Variables as variables
+use Rattle.wy_lower_expressions.specs.Uses.{Template}
 use Rattle.wy_lower.specs.Templates.{params_scope, params_named, used_of, template, with_option, filled, without_uses, templates}
 use Rattle.wy_lower.specs.DeclsLowered.{named_clauses, in_params, Parts, before, after, in_routine, function_parts, in_decl, with_first, in_decls}
 use Rattle.wy_formed.specs.Offers as offers

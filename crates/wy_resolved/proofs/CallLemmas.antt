@@ -19,10 +19,10 @@ use Rattle.wy_bind.specs.Calls.{contract, call}
 use Rattle.wy_bind.specs.TypeNames.{just_a_name}
 use Rattle.wy_bind.specs.ExprNames as bind
 use Rattle.wy_bind.specs.ExprNames.{with_ranges}
-use Rattle.wy_lower.specs.Variables.{Variables, declared, named}
-use Rattle.wy_lower.specs.Uses.{With, Template, is_used, expansion, called}
-use Rattle.wy_lower.specs.TypesLowered.{placed}
-use Rattle.wy_lower.specs.ExprsLowered.{operator, text, Head, quantified, kept, in_expr, in_exprs, in_args, in_fields, in_ranges}
+use Rattle.wy_lower_expressions.specs.Variables.{Variables, declared, named}
+use Rattle.wy_lower_expressions.specs.Uses.{With, Template, is_used, expansion, called}
+use Rattle.wy_lower_expressions.specs.TypesLowered.{placed}
+use Rattle.wy_lower_expressions.specs.ExprsLowered.{operator, text, Head, quantified, kept, in_expr, in_exprs, in_args, in_fields, in_ranges}
 use Rattle.wy_formed.specs.Offers.{Offers}
 use Rattle.wy_formed.specs.Bound as formed
 use Rattle.wy_formed.specs.Calls.{CallsExpr, CallsExprs, CallsFields, CallsClauses, Nothing}

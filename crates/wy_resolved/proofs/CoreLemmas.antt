@@ -13,7 +13,7 @@ use Rattle.wy_uses.specs.declared.edges.Edge.{Edge}
 use Rattle.wy_uses.specs.Uses.{Edges}
 use Rattle.wy_recursion.specs.Recursion.{noted_marked}
 use Rattle.wy_expand.specs.declared.measure.Expansion.{Expansion}
-use Rattle.wy_lower.specs.Uses.{Template}
+use Rattle.wy_lower_expressions.specs.Uses.{Template}
 use Rattle.wy_lower.specs.Templates.{templates}
 use Rattle.wy_lower.specs.DeclsLowered.{in_decls}
 use Rattle.wy_formed.specs.Offers.{Offers, offers_of}

@@ -15,10 +15,10 @@ use Rattle.wy_bind.specs.ExprNames as exprs
 use Rattle.wy_bind.specs.StmtNames as stmts
 use Rattle.wy_bind.specs.DeclNames as bind
 use Rattle.wy_bind.specs.DeclNames.{clause_context, routine_context}
-use Rattle.wy_lower.specs.Variables.{Variables, declared, named}
-use Rattle.wy_lower.specs.Uses.{Template}
-use Rattle.wy_lower.specs.StmtsLowered.{in_clauses, in_stmts}
-use Rattle.wy_lower.specs.TypesLowered.{in_ty}
+use Rattle.wy_lower_expressions.specs.Variables.{Variables, declared, named}
+use Rattle.wy_lower_expressions.specs.Uses.{Template}
+use Rattle.wy_lower_statements.specs.StmtsLowered.{in_clauses, in_stmts}
+use Rattle.wy_lower_expressions.specs.TypesLowered.{in_ty}
 use Rattle.wy_lower.specs.Templates.{params_scope, params_named, clauses_of, template}
 use Rattle.wy_lower.specs.DeclsLowered.{name_scope, name_named, name_number, named_clauses, in_alias, in_params, result_clauses, Parts, before, after, block, in_routine, function_parts, method_parts, in_decl, with_first, in_decls}
 use Rattle.wy_formed.specs.Offers.{Offers}

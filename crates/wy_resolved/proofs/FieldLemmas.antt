@@ -5,7 +5,7 @@ use Rattle.std.specs.Ordering.{match_ordering, ordering_reverse}
 use Rattle.wy_core.specs.Types as types
 use Rattle.wy_core.specs.CoreTree.{Expr, fields_of}
 use Rattle.wy_core.specs.CoreSeen.{field_tys_of}
-use Rattle.wy_lower.specs.TypesLowered.{placed}
+use Rattle.wy_lower_expressions.specs.TypesLowered.{placed}
 use Rattle.wy_formed.specs.Offers.{Offers}
 use Rattle.wy_formed.specs.Bound.{GoesBefore, Rise, names_of_tys, names_of, Scope, BoundTy, BoundFieldTys, BoundExpr, BoundFields}
 

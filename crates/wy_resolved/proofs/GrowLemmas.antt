@@ -7,11 +7,11 @@ use Rattle.wy_core.specs.CoreTree as core
 use Rattle.wy_scope.specs.declared.table.Entry.{Entry}
 use Rattle.wy_scope.specs.declared.table.Entry.TheVariants as entry
 use Rattle.wy_scope.specs.Scope.{Scope, entry_of}
-use Rattle.wy_lower.specs.Variables.{Variables, declared, named}
-use Rattle.wy_lower.specs.Uses.{With, Template, is_used, expansion, called}
-use Rattle.wy_lower.specs.ExprsLowered.{kept, in_expr, in_exprs, in_args, in_fields, in_ranges}
-use Rattle.wy_lower.specs.TypesLowered.{placed}
-use Rattle.wy_lower.specs.StmtsLowered.{in_option, in_step, in_path, in_stmt, in_stmts, in_cases, in_clauses, scope_behind, do_test, do_invariants, for_from, for_to, for_span, for_invariants, renamed, with_span, switch_value, switch_variables, switch_number}
+use Rattle.wy_lower_expressions.specs.Variables.{Variables, declared, named}
+use Rattle.wy_lower_expressions.specs.Uses.{With, Template, is_used, expansion, called}
+use Rattle.wy_lower_expressions.specs.ExprsLowered.{kept, in_expr, in_exprs, in_args, in_fields, in_ranges}
+use Rattle.wy_lower_expressions.specs.TypesLowered.{placed}
+use Rattle.wy_lower_statements.specs.StmtsLowered.{in_option, in_step, in_path, in_stmt, in_stmts, in_cases, in_clauses, scope_behind, do_test, do_invariants, for_from, for_to, for_span, for_invariants, renamed, with_span, switch_value, switch_variables, switch_number}
 
 pub through : {a b c : ℕ} → a ≤ b → b ≤ c → a ≤ c
 through h k = omega (arith, h, k)

@@ -4,8 +4,8 @@ use Rattle.std.specs.List.{slice_get}
 use Rattle.wy_core.specs.CoreTree.{Expr, NullExpr, BoolExpr, IntExpr, VarExpr, CallExpr, NegExpr, NotExpr, LenExpr, BinaryExpr, IsExpr, IndexExpr, FieldExpr, ListExpr, RepeatExpr, RecordExpr, QuantExpr, Exprs, NoExprs, MoreExprs, Fields, NoFields, MoreFields}
 use Rattle.wy_core.specs.declared.expressions.Op.TheVariants as op
 use Rattle.wy_build.specs.Instances.{renumbered, argument_or, variable, instance_of, instances, instance_fields, joined_behind, joined}
-use Rattle.wy_lower.specs.Uses.{Template}
-use Rattle.wy_lower.specs.Variables.{Variables}
+use Rattle.wy_lower_expressions.specs.Uses.{Template}
+use Rattle.wy_lower_expressions.specs.Variables.{Variables}
 use Rattle.wy_formed.specs.Offers.{Offers, IsCall}
 use Rattle.wy_formed.specs.Bound.{Scope, Has, IsNew, Rise, names_of, count_of, BoundExpr, BoundExprs, BoundFields, BoundClauses}
 use Rattle.wy_formed.specs.Moves.{Moves}

@@ -16,11 +16,11 @@ use Rattle.wy_scope.specs.declared.table.Entry.{Entry}
 use Rattle.wy_scope.specs.declared.table.Entry.TheVariants as entry
 use Rattle.wy_scope.specs.Scope.{Scope, entry_of}
 use Rattle.wy_expand.specs.declared.measure.Expansion.{Expansion}
-use Rattle.wy_lower.specs.Variables.{Variables, declared, named}
-use Rattle.wy_lower.specs.Uses.{With, Template, is_used, expansion, called}
-use Rattle.wy_lower.specs.TypesLowered.{placed}
-use Rattle.wy_lower.specs.ExprsLowered.{operator, text, Head, quantified, kept, in_expr, in_exprs, in_args, in_fields, in_ranges}
-use Rattle.wy_lower.specs.StmtsLowered.{in_option, in_path, in_clauses, in_stmt, in_stmts, in_cases, scope_behind, each_behind_first, equals, or_of, or_labels, Arm, chain, bounds, do_test, do_invariants, for_from, for_to, for_span, for_invariants, renamed, with_span, switch_value, switch_variables, switch_number}
+use Rattle.wy_lower_expressions.specs.Variables.{Variables, declared, named}
+use Rattle.wy_lower_expressions.specs.Uses.{With, Template, is_used, expansion, called}
+use Rattle.wy_lower_expressions.specs.TypesLowered.{placed}
+use Rattle.wy_lower_expressions.specs.ExprsLowered.{operator, text, Head, quantified, kept, in_expr, in_exprs, in_args, in_fields, in_ranges}
+use Rattle.wy_lower_statements.specs.StmtsLowered.{in_option, in_path, in_clauses, in_stmt, in_stmts, in_cases, scope_behind, each_behind_first, equals, or_of, or_labels, Arm, chain, bounds, do_test, do_invariants, for_from, for_to, for_span, for_invariants, renamed, with_span, switch_value, switch_variables, switch_number}
 use Rattle.wy_lower.specs.Templates.{params_scope, params_named, used_of, template, with_option, filled, without_uses, templates}
 use Rattle.wy_lower.specs.DeclsLowered.{named_clauses, Parts, before, after, in_routine, function_parts, method_parts, result_clauses, in_decl, with_first, in_decls}
 use Rattle.wy_names.specs.Named.{scope_of, expansions_of, IsNamed}

@@ -24,10 +24,10 @@ use Rattle.wy_uses.specs.declared.edges.Way.TheVariants as way
 use Rattle.wy_uses.specs.Uses.{Edges, property_named}
 use Rattle.wy_uses.specs.ExprUses as uses
 use Rattle.wy_order.proofs.UseLemmas.{Each, of_last, before_ty, before_expr, before_exprs, before_values, before_ranges}
-use Rattle.wy_lower.specs.Variables.{Variables, declared, named}
-use Rattle.wy_lower.specs.Uses.{With, Template, is_used, expansion, called}
-use Rattle.wy_lower.specs.TypesLowered.{placed, in_ty}
-use Rattle.wy_lower.specs.ExprsLowered.{operator, text, Head, quantified, kept, in_expr, in_exprs, in_args, in_fields, in_ranges}
+use Rattle.wy_lower_expressions.specs.Variables.{Variables, declared, named}
+use Rattle.wy_lower_expressions.specs.Uses.{With, Template, is_used, expansion, called}
+use Rattle.wy_lower_expressions.specs.TypesLowered.{placed, in_ty}
+use Rattle.wy_lower_expressions.specs.ExprsLowered.{operator, text, Head, quantified, kept, in_expr, in_exprs, in_args, in_fields, in_ranges}
 use Rattle.wy_formed.specs.Recursion.{NamesIn, Mentions, MentionsIn, MentionsInFields, ClausesMention}
 use Rattle.wy_resolved.proofs.BindLemmas as before
 use Rattle.wy_resolved.proofs.BindLemmas.{field_value, range_ends}

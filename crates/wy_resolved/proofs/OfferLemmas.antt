@@ -14,9 +14,9 @@ use Rattle.wy_scope.specs.Faults.{Found, noted_where}
 use Rattle.wy_scope.specs.Scope.{Scope, has, with_name}
 use Rattle.wy_bind.specs.DeclNames as bind
 use Rattle.wy_expand.specs.declared.measure.Expansion.{Expansion}
-use Rattle.wy_lower.specs.Variables.{Variables}
-use Rattle.wy_lower.specs.Variables as variables
-use Rattle.wy_lower.specs.Uses.{Template}
+use Rattle.wy_lower_expressions.specs.Variables.{Variables}
+use Rattle.wy_lower_expressions.specs.Variables as variables
+use Rattle.wy_lower_expressions.specs.Uses.{Template}
 use Rattle.wy_lower.specs.Templates.{params_scope, used_of, template, set_at, with_option, filled, without_uses, templates}
 use Rattle.wy_lower.specs.DeclsLowered as lowered
 use Rattle.wy_lower.specs.DeclsLowered.{in_decls}

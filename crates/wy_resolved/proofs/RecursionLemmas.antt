@@ -34,10 +34,10 @@ use Rattle.wy_order.proofs.UseLemmas.{Each, before_exprs, of_decl}
 use Rattle.wy_recursion.specs.Arrows.{counts, arrow_of, arrows_of}
 use Rattle.wy_recursion.specs.Recursion.{is_type, Recurs, noted_marked, NotesRecursion}
 use Rattle.wy_expand.specs.declared.measure.Expansion.{Expansion}
-use Rattle.wy_lower.specs.Variables as variables
-use Rattle.wy_lower.specs.Variables.{Variables}
-use Rattle.wy_lower.specs.Uses.{Template}
-use Rattle.wy_lower.specs.TypesLowered.{in_ty}
+use Rattle.wy_lower_expressions.specs.Variables as variables
+use Rattle.wy_lower_expressions.specs.Variables.{Variables}
+use Rattle.wy_lower_expressions.specs.Uses.{Template}
+use Rattle.wy_lower_expressions.specs.TypesLowered.{in_ty}
 use Rattle.wy_lower.specs.Templates.{params_scope, params_named, used_of, template, clauses_of, with_option, filled, without_uses, templates}
 use Rattle.wy_lower.specs.DeclsLowered.{in_alias, named_clauses, in_decls}
 use Rattle.wy_names.specs.Named.{scope_of, uses_of, expansions_of, found_before, core_by, Judges, IsNamed}

@@ -15,10 +15,10 @@ use Rattle.wy_bind.specs.TypeNames.{just_a_name}
 use Rattle.wy_bind.specs.ExprNames as exprs
 use Rattle.wy_bind.specs.StmtNames as bind
 use Rattle.wy_bind.specs.StmtNames.{differ}
-use Rattle.wy_lower.specs.Variables.{Variables, declared, named, routine_of}
-use Rattle.wy_lower.specs.Uses.{With, Template}
-use Rattle.wy_lower.specs.ExprsLowered.{in_expr, in_exprs}
-use Rattle.wy_lower.specs.StmtsLowered.{in_option, in_step, in_path, in_clauses, in_stmt, in_stmts, in_cases, scope_behind, do_test, do_invariants, for_from, for_to, for_span, for_invariants, renamed, with_span, switch_value, switch_variables, switch_number, is_one_of}
+use Rattle.wy_lower_expressions.specs.Variables.{Variables, declared, named, routine_of}
+use Rattle.wy_lower_expressions.specs.Uses.{With, Template}
+use Rattle.wy_lower_expressions.specs.ExprsLowered.{in_expr, in_exprs}
+use Rattle.wy_lower_statements.specs.StmtsLowered.{in_option, in_step, in_path, in_clauses, in_stmt, in_stmts, in_cases, scope_behind, do_test, do_invariants, for_from, for_to, for_span, for_invariants, renamed, with_span, switch_value, switch_variables, switch_number, is_one_of}
 use Rattle.wy_formed.specs.Offers.{Offers, IsCall}
 use Rattle.wy_formed.specs.Bound as formed
 use Rattle.wy_formed.specs.Bound.{Has, IsNew, Around, count_of, BoundExpr, BoundExprs, BoundClauses, BoundOption, BoundPath, BoundStmt}

@@ -12,9 +12,9 @@ use Rattle.wy_scope.specs.Scope.{Scope, entry_of, has, with_name}
 use Rattle.wy_bind.specs.Calls.{is_type}
 use Rattle.wy_bind.specs.TypeNames as bind
 use Rattle.wy_bind.specs.TypeNames.{just_a_name}
-use Rattle.wy_lower.specs.Uses.{Template}
-use Rattle.wy_lower.specs.Variables.{type_of}
-use Rattle.wy_lower.specs.TypesLowered.{placed, in_ty, in_fields}
+use Rattle.wy_lower_expressions.specs.Uses.{Template}
+use Rattle.wy_lower_expressions.specs.Variables.{type_of}
+use Rattle.wy_lower_expressions.specs.TypesLowered.{placed, in_ty, in_fields}
 use Rattle.wy_formed.specs.Offers.{Offers}
 use Rattle.wy_formed.specs.Bound as formed
 use Rattle.wy_formed.specs.Bound.{Rise, BoundTy}

@@ -19,8 +19,8 @@ use Rattle.wy_uses.specs.declared.edges.Way.TheVariants as way
 use Rattle.wy_uses.specs.Uses.{Edges, guarded, type_named}
 use Rattle.wy_uses.specs.TypeUses as uses
 use Rattle.wy_order.proofs.UseLemmas.{Each, of_last, before_ty}
-use Rattle.wy_lower.specs.Variables.{type_of}
-use Rattle.wy_lower.specs.TypesLowered.{placed, in_ty, in_fields}
+use Rattle.wy_lower_expressions.specs.Variables.{type_of}
+use Rattle.wy_lower_expressions.specs.TypesLowered.{placed, in_ty, in_fields}
 use Rattle.wy_formed.specs.Recursion.{Inside, NamesIn, NamesInFields}
 use Rattle.wy_resolved.proofs.NotedLemmas.{noted_none, not_false}
 use Rattle.wy_resolved.proofs.BindLemmas as names

@@ -2,7 +2,7 @@ use Rattle.std.proofs.Common.{◌≡◌, ◌++◌, drop, map}
 use Rattle.wy_ast.specs.SurfaceSeen as surface
 use Rattle.wy_core.specs.CoreSeen.{seen_decl}
 use Rattle.wy_lower.specs.DeclsLowered.{in_decls}
-use Rattle.wy_lower.specs.Uses.{seen_templates}
+use Rattle.wy_lower_expressions.specs.Uses.{seen_templates}
 use Rattle.wy_lower.proofs.declarations.core_of.Given as goal
 
 abbrev pub invariant-loop-decl : goal.invariant-loop-decl

@@ -1,7 +1,7 @@
 use Rattle.std.proofs.Common.{◌≡◌, drop, map}
 use Rattle.wy_ast.specs.SurfaceSeen.{seen_decl}
 use Rattle.wy_lower.specs.Templates.{filled, templates}
-use Rattle.wy_lower.specs.Uses.{seen_templates}
+use Rattle.wy_lower_expressions.specs.Uses.{seen_templates}
 use Rattle.wy_lower.proofs.templates.templates_of.Given as goal
 
 abbrev pub invariant-loop-index : goal.invariant-loop-index

@@ -1,7 +1,7 @@
 use Rattle.std.proofs.Common.{◌≡◌, ◌++◌, drop, map}
 use Rattle.wy_ast.specs.SurfaceSeen.{seen_decl}
 use Rattle.wy_lower.specs.Templates.{without_uses}
-use Rattle.wy_lower.specs.Uses.{seen_templates}
+use Rattle.wy_lower_expressions.specs.Uses.{seen_templates}
 use Rattle.wy_lower.proofs.templates.without_uses.Given as goal
 
 abbrev pub invariant-loop-decl : goal.invariant-loop-decl

@@ -1,0 +1,6 @@
+-- a scope is cut back to what it was
+pub mod KeptLemmas
+-- lists that grow at their end
+pub mod ListLemmas
+-- lists that are taken from their end
+pub mod PopLemmas

@@ -1,0 +1,5 @@
+-- the walk
+pub mod StmtsLowered
+-- what lists of nodes stand for
+pub mod SeenArms
+pub mod SeenSpans

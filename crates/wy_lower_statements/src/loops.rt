@@ -1,0 +1,129 @@
+//! `do` and `for`, written by the statements of the core.
+ghost use Rattle.std.specs.Prelude.{◌≡◌, ◌++◌, map, IfOk};
+ghost use Rattle.wy_core.specs.CoreSeen.{seen_expr, seen_exprs, seen_stmt};
+ghost use Rattle.wy_lower_statements.specs.StmtsLowered as lowered;
+ghost use Rattle.wy_lower_statements.specs.SeenSpans.{seen_span};
+
+use crate::choices::one;
+use sqlite_items::Items;
+use std::alloc::{AllocError, Global};
+use wy_build::{assign, binary, bool_ty, declare, int, int_ty, truth, var, while_stmt};
+use wy_core::{Expr, Op, Stmt};
+
+/// `first || e`
+pub fn behind_first(alloc: Global, at: u32, first: u32, expr: Expr) -> Result<Expr, AllocError>
+    ensures value { IfOk result (λ e. seen_expr e ≡ lowered.behind_first at first (seen_expr expr)) }
+{
+    binary(alloc, at, Op::Or, var(at, first), expr)
+}
+
+/// `first = true; while first || c where first || v: first = false; B`, where `first ||` stands in the
+/// test and the invariants already.
+pub fn repeated(
+    alloc: Global,
+    at: u32,
+    first: u32,
+    test: Expr,
+    invariants: Items<Expr>,
+    body: Items<Stmt>,
+) -> Result<Items<Stmt>, AllocError>
+    ensures value { IfOk result (λ made. map seen_stmt made ≡ lowered.repeated_behind at first (seen_expr test) (seen_exprs invariants) (map seen_stmt body)) }
+{
+    let start = declare(at, bool_ty(at), first, Some(truth(at, true)));
+    let mut made = one(alloc, start)?;
+    let done = assign(at, first, Items::new(alloc), truth(at, false));
+    let mut turn = one(alloc, done)?;
+    turn.append(body)?;
+    made.push(while_stmt(at, test, invariants, turn))?;
+    Ok(made)
+}
+
+/// The variables of a `for`: its ends, the one that counts, and its own.
+#[derive(Clone, Copy)]
+pub struct Span {
+    pub lo: u32,
+    pub hi: u32,
+    pub t: u32,
+    pub i: u32,
+}
+
+/// `i = t; t = t + 1`, where i is declared.
+fn next_turn(alloc: Global, at: u32, span: Span) -> Result<Items<Stmt>, AllocError>
+    ensures value { IfOk result (λ made. map seen_stmt made ≡ lowered.next_turn at (seen_span span)) }
+{
+    let start = declare(at, int_ty(at), span.i, Some(var(at, span.t)));
+    let mut made = one(alloc, start)?;
+    let next = binary(alloc, at, Op::Add, var(at, span.t), int(at, 1))?;
+    made.push(assign(at, span.t, Items::new(alloc), next))?;
+    Ok(made)
+}
+
+/// `lo <= t` and `t <= hi || hi < lo`
+fn bounds(alloc: Global, at: u32, span: Span) -> Result<Items<Expr>, AllocError>
+    ensures value { IfOk result (λ made. seen_exprs made ≡ lowered.bounds at (seen_span span)) }
+{
+    let mut made = Items::new(alloc);
+    let above = binary(alloc, at, Op::LessEqual, var(at, span.lo), var(at, span.t))?;
+    made.push(above)?;
+    let within = binary(alloc, at, Op::LessEqual, var(at, span.t), var(at, span.hi))?;
+    let empty = binary(alloc, at, Op::Less, var(at, span.hi), var(at, span.lo))?;
+    let below = binary(alloc, at, Op::Or, within, empty)?;
+    made.push(below)?;
+    Ok(made)
+}
+
+/// `lo = a; hi = b; t = lo`
+fn starts(
+    alloc: Global,
+    at: u32,
+    span: Span,
+    from: Expr,
+    to: Expr,
+) -> Result<Items<Stmt>, AllocError>
+    ensures value { IfOk result (λ made. map seen_stmt made ≡ lowered.starts at (seen_span span) (seen_expr from) (seen_expr to)) }
+{
+    let lo = declare(at, int_ty(at), span.lo, Some(from));
+    let mut made = one(alloc, lo)?;
+    let hi = declare(at, int_ty(at), span.hi, Some(to));
+    made.push(hi)?;
+    let t = declare(at, int_ty(at), span.t, Some(var(at, span.lo)));
+    made.push(t)?;
+    Ok(made)
+}
+
+/// `while t < hi where lo <= t where t <= hi || hi < lo where v': i = t; t = t + 1; B`, with v' being
+/// the loop's own invariants.
+fn turns(
+    alloc: Global,
+    at: u32,
+    span: Span,
+    own: Items<Expr>,
+    body: Items<Stmt>,
+) -> Result<Stmt, AllocError>
+    ensures value { IfOk result (λ s. seen_stmt s ≡ lowered.turns at (seen_span span) (seen_exprs own) (map seen_stmt body)) }
+{
+    let test = binary(alloc, at, Op::Less, var(at, span.t), var(at, span.hi))?;
+    let mut invariants = bounds(alloc, at, span)?;
+    invariants.append(own)?;
+    let mut turn = next_turn(alloc, at, span)?;
+    turn.append(body)?;
+    Ok(while_stmt(at, test, invariants, turn))
+}
+
+/// The whole of a `for`.
+pub fn counted(
+    alloc: Global,
+    at: u32,
+    span: Span,
+    from: Expr,
+    to: Expr,
+    own: Items<Expr>,
+    body: Items<Stmt>,
+) -> Result<Items<Stmt>, AllocError>
+    ensures value { IfOk result (λ made. map seen_stmt made ≡ lowered.counted at (seen_span span) (seen_expr from) (seen_expr to) (seen_exprs own) (map seen_stmt body)) }
+{
+    let mut made = starts(alloc, at, span, from, to)?;
+    let repeat = turns(alloc, at, span, own, body)?;
+    made.push(repeat)?;
+    Ok(made)
+}
