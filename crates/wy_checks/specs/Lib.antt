@@ -1,0 +1,2 @@
+-- refusals of questions as faults of a node
+pub mod Refusals

@@ -1,0 +1,3 @@
+-- what the walk of the code stands for
+pub mod States
+pub mod Paths

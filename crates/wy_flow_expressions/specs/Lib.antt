@@ -1,0 +1,2 @@
+-- what the walk of the code stands for
+pub mod Seen
