@@ -11,7 +11,7 @@ use wy_term::{CondKind, Node};
 use wy_vc_expressions::{
     VcFault, Walk, assume_in_type, owe_clause, owe_index, owe_member, walked, walked_all, call,
 };
-use wy_vc_names::{Called, Program, exprs_in, exprs_in_all, exprs_in_block, exprs_in_stmt};
+use wy_vc_names::{Called, Program, exprs_in, exprs_in_stmt, total};
 use wy_vc_terms::{
     denied, falsehood, field, formula, index, put, updated, updated_field, variable,
 };
@@ -303,7 +303,7 @@ fn exec_while(
 ) -> Result<bool, VcFault> {
     let words = routine.variables.as_slice();
     let start = walk.maker.node;
-    let first = start + exprs_in(test);
+    let first = total(start, exprs_in(test)?)?;
     owe_invariants(
         alloc,
         core,
@@ -599,7 +599,8 @@ pub fn exec_block(
                 alloc, core, program, routine, frame, walk, here, round, invariants, breaks, stmt,
             )?;
         } else {
-            walk.maker.node += exprs_in_stmt(stmt);
+            let passed = exprs_in_stmt(stmt)?;
+            walk.maker.pass(passed)?;
         }
     }
     Ok(reached)

@@ -24,8 +24,7 @@ pub fn owe_clause(
         ExprKind::Binary(Op::And, a, b) => {
             owe_clause(alloc, core, program, words, walk, vars, kind, at, a.get())?;
             owe_clause(alloc, core, program, words, walk, vars, kind, at, b.get())?;
-            walk.maker.node += 1;
-            Ok(())
+            Ok(walk.maker.pass(1)?)
         }
         _ => {
             let depth = program.types.len();

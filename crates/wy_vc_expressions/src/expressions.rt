@@ -231,7 +231,7 @@ pub fn walked(
             quantified(alloc, &mut walk.maker, *all, &word, number, v, w, u)?
         }
     };
-    walk.maker.node += 1;
+    walk.maker.pass(1)?;
     Ok(made)
 }
 

@@ -7,10 +7,12 @@
 #![tactic(auto)]
 
 mod declared;
+mod lists;
 mod mentions;
 mod program;
 mod sizes;
 
 pub use declared::{Declared, is_constrained};
+pub use lists::small;
 pub use program::{Callee, Program, Called};
-pub use sizes::{exprs_in, exprs_in_all, exprs_in_block, exprs_in_stmt};
+pub use sizes::{exprs_in, exprs_in_all, exprs_in_block, exprs_in_list, exprs_in_stmt, total};

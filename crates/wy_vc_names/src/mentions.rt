@@ -74,8 +74,8 @@ fn names_in_values(fields: &[(Name, Expr)], names: &mut Vec<u32>) -> Result<(), 
 /// More nodes than a name that is written out has.
 pub const TOO_LARGE: usize = 65;
 
-// The sum, and at most `TOO_LARGE`.
-fn added(a: usize, b: usize) -> usize {
+/// The sum, and at most `TOO_LARGE`.
+pub fn added(a: usize, b: usize) -> usize {
     if a < TOO_LARGE && b < TOO_LARGE && a + b < TOO_LARGE {
         a + b
     } else {

@@ -1,6 +1,6 @@
 //! A program as its conditions see it.
 use crate::declared::{Declared, alias_at, declared};
-use crate::sizes::{exprs_in_all, exprs_in_block};
+use crate::sizes::{exprs_in_block, exprs_in_list, total};
 use std::alloc::{AllocError, Global};
 use wy_core::{Alias, Atom, Conjunct, Core, Decl, Routine, Ty, TyKind};
 use wy_typing::Typed;
@@ -67,18 +67,20 @@ impl Program {
                 Decl::Alias(alias) => {
                     decls.push(number)?;
                     first.push(next)?;
-                    next += exprs_in_all(alias.clauses.as_slice());
+                    next = total(next, exprs_in_list(alias.clauses.as_slice())?)?;
                 }
                 Decl::Routine(routine) => {
-                    let postconditions = next + exprs_in_all(routine.preconditions.as_slice());
-                    let body = postconditions + exprs_in_all(routine.postconditions.as_slice());
+                    let postconditions =
+                        total(next, exprs_in_list(routine.preconditions.as_slice())?)?;
+                    let body =
+                        total(postconditions, exprs_in_list(routine.postconditions.as_slice())?)?;
                     routines.push(Called {
                         decl: number,
                         preconditions: next,
                         postconditions,
                         body,
                     })?;
-                    next = body + exprs_in_block(routine.body.as_slice());
+                    next = total(body, exprs_in_block(routine.body.as_slice())?)?;
                 }
             }
         }

@@ -1,6 +1,7 @@
 //! Terms and new names.
 use std::alloc::Global;
 use wy_term::{NoMemory, Node, Terms};
+use wy_vc_names::total;
 
 /// Terms, the number of names made so far by the pass, and the number that the next expression has in the walk of flow typing.
 #[derive(Drop)]
@@ -28,6 +29,12 @@ impl Maker {
         }
         self.count = number + 1;
         Ok(number)
+    }
+
+    /// So many expressions were passed. A number that is too large is want of memory.
+    pub fn pass(&mut self, exprs: usize) -> Result<(), NoMemory> {
+        self.node = total(self.node, exprs)?;
+        Ok(())
     }
 
     /// The number of the term with this node.

@@ -229,7 +229,8 @@ pub fn value(
         ExprKind::Int(z) => whole(maker, *z)?,
         ExprKind::Var(x) => variable(maker, vars.as_slice(), *x)?,
         ExprKind::Call(_, args) => {
-            maker.node += exprs_in_all(args.as_slice());
+            let passed = exprs_in_all(args.as_slice())?;
+            maker.pass(passed)?;
             null(maker)?
         }
         ExprKind::Neg(a) => {
@@ -300,7 +301,7 @@ pub fn value(
             quantified(alloc, maker, *all, &word, number, v, w, u)?
         }
     };
-    maker.node += 1;
+    maker.pass(1)?;
     Ok(made)
 }
 

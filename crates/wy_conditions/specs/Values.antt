@@ -7,10 +7,10 @@ use Rattle.wy_term.specs.Term.{Term, null_kind, bool_kind, int_kind, array_kind,
 use Rattle.wy_value.specs.declared.bounds.TheConstants.{INT_MIN, INT_MAX}
 use Rattle.wy_sem.specs.Expressions.{node}
 use Rattle.wy_sem.specs.TypeTests.{alias_at}
-use Rattle.wy_vc_names.specs.Named.{is_written}
-use Rattle.wy_vc_terms.specs.Making.{number_of, int_name, val_name, num, len, get, field, null, truth, int, value_of, all_of, any_of, falsehood, denied, at_most, of_kind, in_type, formula, bound}
-use Rattle.wy_vc_terms.specs.Variables.{Vars, slot_at, put, put_if}
-use Rattle.wy_vc_terms.specs.Operations as op
+use Rattle.wy_conditions.specs.Named.{is_written}
+use Rattle.wy_conditions.specs.Making.{number_of, int_name, val_name, num, len, get, field, null, truth, int, value_of, all_of, any_of, falsehood, denied, at_most, of_kind, in_type, formula, bound}
+use Rattle.wy_conditions.specs.Variables.{Vars, slot_at, put, put_if}
+use Rattle.wy_conditions.specs.Operations as op
 
 -- a term or formula, and how many names were made up to it
 pub record Valued : Type 0 where

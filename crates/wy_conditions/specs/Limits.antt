@@ -2,8 +2,9 @@
 use Rattle.std.specs.Prelude.{ℕ, zero, suc, ◌+◌, List, [], ◌∷◌, ◌++◌, length, map, Bool, true, false, ◌||◌, ◌==◌, nat_le, nat_lt, if◌then◌else◌}
 use Rattle.wy_term.specs.Term.{Term, Of, Parts, no_parts, part, in_type}
 use Rattle.wy_term.specs.Same.{same_term}
-use Rattle.wy_vc_terms.specs.Values.{Setting, test_name, test_formula}
-use Rattle.wy_vc_expressions.specs.Owed.{Owed}
+use Rattle.wy_term.specs.Condition.{Entry}
+use Rattle.wy_conditions.specs.Values.{Setting, test_name, test_formula}
+use Rattle.wy_conditions.specs.Owed.{Owed}
 
 -- ---- the named types that a condition mentions
 
@@ -45,15 +46,10 @@ abbrev pub types_of : {N : Type 0} → Setting N → Owed → List ℕ
 types_of s c = rising_among (mentioned s (length s.types) (tests_in_all (c.hyps ++ c.goal ∷ []))) 0 (length s.types)
 
 -- what the test of a type stands for
-pub record Unfolded : Type 0 where
-  pub number : ℕ
-  pub name : Term
-  pub formula : Term
+abbrev pub unfolded : {N : Type 0} → Setting N → ℕ → Entry
+unfolded s n = record { type_number = n; name = test_name s n; formula = test_formula s n }
 
-abbrev pub unfolded : {N : Type 0} → Setting N → ℕ → Unfolded
-unfolded s n = record { number = n; name = test_name s n; formula = test_formula s n }
-
-abbrev pub unfold_of : {N : Type 0} → Setting N → Owed → List Unfolded
+abbrev pub unfold_of : {N : Type 0} → Setting N → Owed → List Entry
 unfold_of s c = map (unfolded s) (types_of s c)
 
 -- ---- the terms of a condition
@@ -71,7 +67,7 @@ abbrev pub terms_in_all : List Term → List Term
 terms_in_all [] = []
 terms_in_all (f ∷ fs) = terms_in f ++ terms_in_all fs
 
-abbrev pub terms_of_unfold : List Unfolded → List Term
+abbrev pub terms_of_unfold : List Entry → List Term
 terms_of_unfold [] = []
 terms_of_unfold (u ∷ us) = terms_in u.name ++ (terms_in u.formula ++ terms_of_unfold us)
 

@@ -9,9 +9,9 @@ use Rattle.wy_term.specs.declared.cond.CondKind.{CondKind}
 use Rattle.wy_term.specs.declared.cond.CondKind.TheVariants as kind
 use Rattle.wy_term.specs.Term.{Term}
 use Rattle.wy_sem.specs.TypeTests.{is_constrained}
-use Rattle.wy_vc_terms.specs.Values.{Setting, Valued, valued, ValuedAll, valued_all, Naming, named_in, holds, clause_formula}
-use Rattle.wy_vc_terms.specs.Variables.{Vars}
-use Rattle.wy_vc_expressions.specs.Owed.{Owed, assume, assume_all, owe}
+use Rattle.wy_conditions.specs.Values.{Setting, Valued, valued, ValuedAll, valued_all, Naming, named_in, holds, clause_formula}
+use Rattle.wy_conditions.specs.Variables.{Vars}
+use Rattle.wy_conditions.specs.Owed.{Owed, assume, assume_all, owe}
 
 -- how many names are made, what is assumed, and what was owed on the way
 pub record Passed : Type 0 where

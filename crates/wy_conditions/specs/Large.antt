@@ -1,9 +1,9 @@
 -- Which terms are too large to stand for a variable.
 use Rattle.std.specs.Prelude.{ℕ, suc, ◌+◌, List, Bool, true, false, ◌||◌, ◌&&◌, nat_lt, if◌then◌else◌}
 use Rattle.wy_term.specs.Term.{Symbol, Term, Of, Parts, no_parts, part, int_name, val_name}
-use Rattle.wy_vc_terms.specs.Making.{val_name as name_term, equal}
-use Rattle.wy_vc_terms.specs.Values.{word_at}
-use Rattle.wy_vc_expressions.specs.Owed.{assume}
+use Rattle.wy_conditions.specs.Making.{val_name as name_term, equal}
+use Rattle.wy_conditions.specs.Values.{word_at}
+use Rattle.wy_conditions.specs.Owed.{assume}
 
 abbrev mutual
   -- the nodes of a term as a tree, each once per place

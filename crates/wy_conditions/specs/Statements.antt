@@ -6,18 +6,18 @@ use Rattle.wy_core.specs.CoreTree.{Expr, Step, IndexStep, FieldStep, Stmt, Decla
 use Rattle.wy_term.specs.declared.cond.CondKind.TheVariants as kind
 use Rattle.wy_term.specs.Term.{Term}
 use Rattle.wy_sem.specs.Statements.{type_at}
-use Rattle.wy_vc_terms.specs.Making.{val_name, field, falsehood, denied, formula}
-use Rattle.wy_vc_terms.specs.Operations as op
-use Rattle.wy_vc_terms.specs.Variables.{Vars, put, put_if}
-use Rattle.wy_vc_terms.specs.Values.{Valued, valued, word_at, variable}
-use Rattle.wy_vc_expressions.specs.Owed.{Owed, assume, assume_all, owe}
-use Rattle.wy_vc_expressions.specs.Clauses.{Passed, passed, after, one_goal, pass_goals, owe_clauses, assume_in_type, owe_member}
-use Rattle.wy_vc_expressions.specs.Calls.{Walked, call_walk}
-use Rattle.wy_vc_expressions.specs.Walks.{Program, WalkedAll, walk_all, walk_expr, index_goals}
-use Rattle.wy_vc.specs.Spots.{Spot, Flow, goes, stops, leaves, and_then, as_list, is_set, assign, declare, with_hyps}
-use Rattle.wy_vc.specs.Sizes.{Named, named}
-use Rattle.wy_vc.specs.Joins.{Met, meet}
-use Rattle.wy_vc.specs.Assigned.{assigns_in, bound_in}
+use Rattle.wy_conditions.specs.Making.{val_name, field, falsehood, denied, formula}
+use Rattle.wy_conditions.specs.Operations as op
+use Rattle.wy_conditions.specs.Variables.{Vars, put, put_if}
+use Rattle.wy_conditions.specs.Values.{Valued, valued, word_at, variable}
+use Rattle.wy_conditions.specs.Owed.{Owed, assume, assume_all, owe}
+use Rattle.wy_conditions.specs.Clauses.{Passed, passed, after, one_goal, pass_goals, owe_clauses, assume_in_type, owe_member}
+use Rattle.wy_conditions.specs.Calls.{Walked, call_walk}
+use Rattle.wy_conditions.specs.Walks.{Program, WalkedAll, walk_all, walk_expr, index_goals}
+use Rattle.wy_conditions.specs.Spots.{Spot, Flow, goes, stops, leaves, and_then, as_list, is_set, assign, declare, with_hyps}
+use Rattle.wy_conditions.specs.Large.{Named, named}
+use Rattle.wy_conditions.specs.Joins.{Met, meet}
+use Rattle.wy_conditions.specs.Assigned.{assigns_in, bound_in}
 
 -- what the statements of a body go by: the program, the function or method, the declared types of its variables, and the terms of its parameters at entry
 pub record Body (N : Type 0) : Type 0 where

@@ -1,8 +1,8 @@
 -- What is known at a point of a body, and how statements end.
 use Rattle.std.specs.Prelude.{ℕ, zero, suc, List, [], ◌∷◌, ◌++◌, Bool, true, false, Option, Some, None}
 use Rattle.wy_term.specs.Term.{Term}
-use Rattle.wy_vc_terms.specs.Variables.{Vars, put}
-use Rattle.wy_vc_expressions.specs.Owed.{Owed}
+use Rattle.wy_conditions.specs.Variables.{Vars, put}
+use Rattle.wy_conditions.specs.Owed.{Owed}
 
 -- what is assumed, the terms of variables, and which variables have a value on each path to here
 pub record Spot : Type 0 where

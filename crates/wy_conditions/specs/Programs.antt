@@ -5,16 +5,16 @@ use Rattle.wy_core.specs.CoreTree as tree
 use Rattle.wy_core.specs.CoreTree.{Param, Alias, Routine, Decl, AliasDecl, RoutineDecl, Core, aliases_of, routines_of}
 use Rattle.wy_term.specs.Term.{Term}
 use Rattle.wy_sem.specs.Programs.{types_of}
-use Rattle.wy_vc_names.specs.Named.{is_number_type}
-use Rattle.wy_vc_names.specs.Numbered.{Node, numbered_core}
-use Rattle.wy_vc_terms.specs.Making.{val_name}
-use Rattle.wy_vc_terms.specs.Variables.{Vars, put, put_if}
-use Rattle.wy_vc_terms.specs.Values.{Setting, word_at, word_if, variable}
-use Rattle.wy_vc_expressions.specs.Owed.{Owed}
-use Rattle.wy_vc_expressions.specs.Clauses.{Passed, passed, after, assume_clauses, assume_in_type}
-use Rattle.wy_vc_expressions.specs.Walks.{Program}
-use Rattle.wy_vc.specs.Spots.{Spot, spot, assign, with_hyps, Flow}
-use Rattle.wy_vc.specs.Statements.{Body, Renewed, renewed, walk_clauses, leave, exec_all}
+use Rattle.wy_conditions.specs.Named.{is_number_type}
+use Rattle.wy_conditions.specs.Numbered.{Node, numbered_core}
+use Rattle.wy_conditions.specs.Making.{val_name}
+use Rattle.wy_conditions.specs.Variables.{Vars, put, put_if}
+use Rattle.wy_conditions.specs.Values.{Setting, word_at, word_if, variable}
+use Rattle.wy_conditions.specs.Owed.{Owed}
+use Rattle.wy_conditions.specs.Clauses.{Passed, passed, after, assume_clauses, assume_in_type}
+use Rattle.wy_conditions.specs.Walks.{Program}
+use Rattle.wy_conditions.specs.Spots.{Spot, spot, assign, with_hyps, Flow}
+use Rattle.wy_conditions.specs.Statements.{Body, Renewed, renewed, walk_clauses, leave, exec_all}
 
 -- ---- types
 

@@ -2,11 +2,11 @@
 use Rattle.std.specs.Prelude.{ℕ, zero, suc, List, [], ◌∷◌, ◌++◌, length, drop, map, Bool, true, false, not, ◌&&◌, if◌then◌else◌, Option, Some, None}
 use Rattle.wy_term.specs.Term.{Term}
 use Rattle.wy_term.specs.Same.{same_term}
-use Rattle.wy_vc_terms.specs.Making.{val_name, equal, all_of, any_of}
-use Rattle.wy_vc_terms.specs.Variables.{Vars, slot_at}
-use Rattle.wy_vc_terms.specs.Values.{word_at}
-use Rattle.wy_vc_expressions.specs.Owed.{assume}
-use Rattle.wy_vc.specs.Spots.{Spot, spot, is_set}
+use Rattle.wy_conditions.specs.Making.{val_name, equal, all_of, any_of}
+use Rattle.wy_conditions.specs.Variables.{Vars, slot_at}
+use Rattle.wy_conditions.specs.Values.{word_at}
+use Rattle.wy_conditions.specs.Owed.{assume}
+use Rattle.wy_conditions.specs.Spots.{Spot, spot, is_set}
 
 -- a path with what it assumed since the paths parted, and behind that the equations of new names
 pub record Path : Type 0 where

@@ -5,11 +5,11 @@ use Rattle.wy_core.specs.CoreTree.{Param, Routine}
 use Rattle.wy_term.specs.declared.cond.CondKind.TheVariants as kind
 use Rattle.wy_term.specs.Term.{Term}
 use Rattle.wy_sem.specs.Programs.{Callee, Declared, Print, PrintInt, Undeclared, callee}
-use Rattle.wy_vc_terms.specs.Making.{number_of, int_name, val_name, num, len, get, null, at_most, all_of, bound}
-use Rattle.wy_vc_terms.specs.Variables.{Vars, put, put_if}
-use Rattle.wy_vc_terms.specs.Values.{Setting, valued, k_word}
-use Rattle.wy_vc_expressions.specs.Owed.{Owed}
-use Rattle.wy_vc_expressions.specs.Clauses.{Passed, passed, after, one_goal, pass_goals, owe_clauses, assume_clauses, assume_in_type, owe_member}
+use Rattle.wy_conditions.specs.Making.{number_of, int_name, val_name, num, len, get, null, at_most, all_of, bound}
+use Rattle.wy_conditions.specs.Variables.{Vars, put, put_if}
+use Rattle.wy_conditions.specs.Values.{Setting, valued, k_word}
+use Rattle.wy_conditions.specs.Owed.{Owed}
+use Rattle.wy_conditions.specs.Clauses.{Passed, passed, after, one_goal, pass_goals, owe_clauses, assume_clauses, assume_in_type, owe_member}
 
 -- a term, how many names are made, what is assumed, and what was owed on the way
 pub record Walked : Type 0 where

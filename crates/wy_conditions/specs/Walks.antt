@@ -8,13 +8,13 @@ use Rattle.wy_term.specs.declared.cond.CondKind.TheVariants as kind
 use Rattle.wy_term.specs.Term.{Term}
 use Rattle.wy_value.specs.declared.bounds.TheConstants.{INT_MIN, INT_MAX}
 use Rattle.wy_sem.specs.Expressions.{node}
-use Rattle.wy_vc_terms.specs.Making.{number_of, int_name, num, len, field, null, truth, int, value_of, any_of, at_most, less_than, denied, formula}
-use Rattle.wy_vc_terms.specs.Variables.{Vars, put}
-use Rattle.wy_vc_terms.specs.Operations as op
-use Rattle.wy_vc_terms.specs.Values.{Setting, longest, word_at, variable, field_names}
-use Rattle.wy_vc_expressions.specs.Owed.{Owed, assume, assume_all, owe}
-use Rattle.wy_vc_expressions.specs.Clauses.{in_type}
-use Rattle.wy_vc_expressions.specs.Calls.{Walked, call_walk}
+use Rattle.wy_conditions.specs.Making.{number_of, int_name, num, len, field, null, truth, int, value_of, any_of, at_most, less_than, denied, formula}
+use Rattle.wy_conditions.specs.Variables.{Vars, put}
+use Rattle.wy_conditions.specs.Operations as op
+use Rattle.wy_conditions.specs.Values.{Setting, longest, word_at, variable, field_names}
+use Rattle.wy_conditions.specs.Owed.{Owed, assume, assume_all, owe}
+use Rattle.wy_conditions.specs.Clauses.{in_type}
+use Rattle.wy_conditions.specs.Calls.{Walked, call_walk}
 
 pub record WalkedAll : Type 0 where
   pub count : ℕ

@@ -42,11 +42,15 @@ abbrev pub exprs_in_option : {N : Type 0} → Option (Expr N) → ℕ
 exprs_in_option None = 0
 exprs_in_option (Some e) = exprs_in e
 
+-- in a step of a path
+abbrev pub exprs_in_step : {N : Type 0} → Step N → ℕ
+exprs_in_step (IndexStep at e) = exprs_in e
+exprs_in_step (FieldStep at name) = 0
+
 -- in the indices of a path
 abbrev pub exprs_in_path : {N : Type 0} → List (Step N) → ℕ
 exprs_in_path [] = 0
-exprs_in_path (IndexStep at e ∷ steps) = exprs_in e + exprs_in_path steps
-exprs_in_path (FieldStep at name ∷ steps) = exprs_in_path steps
+exprs_in_path (step ∷ steps) = exprs_in_step step + exprs_in_path steps
 
 abbrev mutual
   -- in a statement

@@ -1,0 +1,2 @@
+-- what small programs owe
+mod ExamplesHold

@@ -1,0 +1,2 @@
+-- what sums and records come to
+mod SizeLemmas
