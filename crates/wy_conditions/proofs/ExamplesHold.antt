@@ -13,4 +13,8 @@ programs_owe = record {
   nested_owes = refl;
   shift_owes = refl;
   narrowed_owes = refl;
+  push_unfolds = refl;
+  nested_unfolds = refl;
+  push_mentions = refl;
+  inc_is_within = refl;
 }

@@ -1,5 +1,6 @@
 -- Which variables statements assign.
-use Rattle.std.specs.Prelude.{ℕ, zero, suc, List, [], ◌∷◌, Bool, true, false, ◌||◌, ◌==◌, Option, Some, None}
+use Rattle.std.specs.Prelude.{ℕ, suc, Bool, false, ◌||◌, ◌==◌, Some, None}
+use Rattle.wy_conditions.specs.Joins.{max}
 use Rattle.wy_core.specs.CoreTree.{Stmt, DeclareStmt, AssignStmt, CallStmt, ReturnStmt, AssertStmt, BreakStmt, ContinueStmt, SkipStmt, FailStmt, IfStmt, WhileStmt, Stmts, NoStmts, MoreStmts}
 
 abbrev mutual
@@ -23,11 +24,6 @@ abbrev mutual
   assigns_in x (MoreStmts first rest) = assigns x first || assigns_in x rest
 
 -- ---- how many variables there are, by the greatest number that is assigned
-
-abbrev pub max : ℕ → ℕ → ℕ
-max zero n = n
-max (suc m) zero = suc m
-max (suc m) (suc n) = suc (max m n)
 
 abbrev mutual
   pub bound_of : {N : Type 0} → Stmt N → ℕ

@@ -4,7 +4,7 @@ use Rattle.wy_core.specs.CoreTree as tree
 use Rattle.wy_core.specs.CoreTree.{Param, Routine}
 use Rattle.wy_term.specs.declared.cond.CondKind.TheVariants as kind
 use Rattle.wy_term.specs.Term.{Term}
-use Rattle.wy_sem.specs.Programs.{Callee, Declared, Print, PrintInt, Undeclared, callee}
+use Rattle.wy_sem.specs.Evaluation.{Callee, Declared, Print, PrintInt, Undeclared, callee}
 use Rattle.wy_conditions.specs.Making.{number_of, int_name, val_name, num, len, get, null, at_most, all_of, bound}
 use Rattle.wy_conditions.specs.Variables.{Vars, put, put_if}
 use Rattle.wy_conditions.specs.Values.{Setting, valued, k_word}

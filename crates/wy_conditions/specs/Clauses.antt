@@ -1,15 +1,14 @@
 -- Clauses and types of data that are owed or assumed. What a clause itself owes is owed at its declaration, or at the head of its loop; where it is only
 -- used, it is walked again for its formula alone.
-use Rattle.std.specs.Prelude.{ℕ, List, [], ◌∷◌, ◌++◌, Bool, true, false, if◌then◌else◌}
+use Rattle.std.specs.Prelude.{ℕ, List, [], ◌∷◌, ◌++◌, if◌then◌else◌}
 use Rattle.wy_core.specs.Types.{Ty}
-use Rattle.wy_core.specs.CoreTree.{Expr, NullExpr, BoolExpr, IntExpr, VarExpr, CallExpr, NegExpr, NotExpr, LenExpr, BinaryExpr, IsExpr, IndexExpr, FieldExpr, ListExpr, RepeatExpr, RecordExpr, QuantExpr}
-use Rattle.wy_core.specs.declared.expressions.Op.{Op}
+use Rattle.wy_core.specs.CoreTree.{Expr, BinaryExpr}
 use Rattle.wy_core.specs.declared.expressions.Op.TheVariants as op
 use Rattle.wy_term.specs.declared.cond.CondKind.{CondKind}
 use Rattle.wy_term.specs.declared.cond.CondKind.TheVariants as kind
 use Rattle.wy_term.specs.Term.{Term}
 use Rattle.wy_sem.specs.TypeTests.{is_constrained}
-use Rattle.wy_conditions.specs.Values.{Setting, Valued, valued, ValuedAll, valued_all, Naming, named_in, holds, clause_formula}
+use Rattle.wy_conditions.specs.Values.{Setting, Valued, ValuedAll, valued_all, named_in, holds, clause_formula}
 use Rattle.wy_conditions.specs.Variables.{Vars}
 use Rattle.wy_conditions.specs.Owed.{Owed, assume, assume_all, owe}
 

@@ -25,4 +25,8 @@ pub mod Assigned
 pub mod Statements
 pub mod Programs
 -- what small programs owe
+pub mod ExampleParts
+pub mod CallExamples
+pub mod LoopExamples
+pub mod TypeExamples
 pub mod Examples

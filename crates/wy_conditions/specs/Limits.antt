@@ -1,5 +1,5 @@
 -- What the tests of named types in a condition stand for, and when a list of conditions passes a limit.
-use Rattle.std.specs.Prelude.{ℕ, zero, suc, ◌+◌, List, [], ◌∷◌, ◌++◌, length, map, Bool, true, false, ◌||◌, ◌==◌, nat_le, nat_lt, if◌then◌else◌}
+use Rattle.std.specs.Prelude.{ℕ, zero, suc, List, [], ◌∷◌, ◌++◌, length, map, Bool, true, false, ◌||◌, ◌==◌, nat_lt, if◌then◌else◌}
 use Rattle.wy_term.specs.Term.{Term, Of, Parts, no_parts, part, in_type}
 use Rattle.wy_term.specs.Same.{same_term}
 use Rattle.wy_term.specs.Condition.{Entry}

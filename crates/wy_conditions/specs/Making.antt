@@ -1,5 +1,5 @@
 -- Terms and formulas, each folded as it is made.
-use Rattle.std.specs.Prelude.{ℕ, List, [], ◌∷◌, Bool, true, false, ℤ, pos}
+use Rattle.std.specs.Prelude.{ℕ, List, [], ◌∷◌, Bool, true, false, ℤ}
 use Rattle.wy_term.specs.Term.{DataKind, Symbol, Term, Of, Parts, no_parts, part}
 use Rattle.wy_term.specs.Term as term
 use Rattle.wy_term.specs.Folding.{folded}

@@ -1,8 +1,7 @@
 -- Expressions with the numbers that they have in the walk of flow typing: from 0, each behind its parts, declarations in the order of the source.
 use Rattle.std.specs.Prelude.{ℕ, ◌+◌, List, [], ◌∷◌, Option, Some, None}
-use Rattle.wy_core.specs.CoreTree as tree
 use Rattle.wy_core.specs.CoreTree.{Expr, NullExpr, BoolExpr, IntExpr, VarExpr, CallExpr, NegExpr, NotExpr, LenExpr, BinaryExpr, IsExpr, IndexExpr, FieldExpr, ListExpr, RepeatExpr, RecordExpr, QuantExpr, Exprs, NoExprs, MoreExprs, Fields, NoFields, MoreFields, Step, IndexStep, FieldStep, Stmt, DeclareStmt, AssignStmt, CallStmt, ReturnStmt, AssertStmt, BreakStmt, ContinueStmt, SkipStmt, FailStmt, IfStmt, WhileStmt, Stmts, NoStmts, MoreStmts, Alias, Routine, Decl, AliasDecl, RoutineDecl, Core}
-use Rattle.wy_conditions.specs.Sizes.{exprs_in, exprs_in_all, exprs_in_fields, exprs_in_list, exprs_in_option, exprs_in_path, exprs_in_stmt, exprs_in_block}
+use Rattle.wy_conditions.specs.Sizes.{exprs_in, exprs_in_all, exprs_in_fields, exprs_in_list, exprs_in_path, exprs_in_stmt, exprs_in_block}
 
 -- where an expression stands, and its number
 pub record Node : Type 0 where

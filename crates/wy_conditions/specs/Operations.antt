@@ -4,7 +4,7 @@ use Rattle.wy_core.specs.declared.expressions.Op.{Op}
 use Rattle.wy_core.specs.declared.expressions.Op.TheVariants.{Add, Sub, Mul, Div, Mod, Equal, Less, LessEqual, Greater, GreaterEqual, And, Or}
 use Rattle.wy_term.specs.Term.{Term}
 use Rattle.wy_term.specs.Term as term
-use Rattle.wy_conditions.specs.Making.{of_one, of_two, of_three, of_all, num, int, len, get, value_of, all_of, any_of, denied, at_most, less_than, equal, formula, bound, field}
+use Rattle.wy_conditions.specs.Making.{of_one, of_two, of_three, of_all, num, int, len, get, value_of, all_of, any_of, denied, at_most, less_than, equal, formula, bound}
 
 abbrev pub negated : Term → Term
 negated v = int (of_one term.neg (num v))

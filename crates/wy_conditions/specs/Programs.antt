@@ -1,19 +1,19 @@
 -- What declarations owe, and the conditions of a program.
-use Rattle.std.specs.Prelude.{ℕ, zero, suc, List, [], ◌∷◌, ◌++◌, Bool, true, false, if◌then◌else◌, Option, Some, None, slice_index_or}
+use Rattle.std.specs.Prelude.{ℕ, suc, List, [], ◌∷◌, ◌++◌, Bool, Option, Some, None, slice_index_or}
 use Rattle.wy_core.specs.Types.{Ty, VoidTy}
 use Rattle.wy_core.specs.CoreTree as tree
 use Rattle.wy_core.specs.CoreTree.{Param, Alias, Routine, Decl, AliasDecl, RoutineDecl, Core, aliases_of, routines_of}
 use Rattle.wy_term.specs.Term.{Term}
-use Rattle.wy_sem.specs.Programs.{types_of}
+use Rattle.wy_sem.specs.Evaluation.{types_of}
 use Rattle.wy_conditions.specs.Named.{is_number_type}
 use Rattle.wy_conditions.specs.Numbered.{Node, numbered_core}
 use Rattle.wy_conditions.specs.Making.{val_name}
 use Rattle.wy_conditions.specs.Variables.{Vars, put, put_if}
 use Rattle.wy_conditions.specs.Values.{Setting, word_at, word_if, variable}
 use Rattle.wy_conditions.specs.Owed.{Owed}
-use Rattle.wy_conditions.specs.Clauses.{Passed, passed, after, assume_clauses, assume_in_type}
+use Rattle.wy_conditions.specs.Clauses.{assume_clauses, assume_in_type}
 use Rattle.wy_conditions.specs.Walks.{Program}
-use Rattle.wy_conditions.specs.Spots.{Spot, spot, assign, with_hyps, Flow}
+use Rattle.wy_conditions.specs.Spots.{Spot, spot, assign, with_hyps}
 use Rattle.wy_conditions.specs.Statements.{Body, Renewed, renewed, walk_clauses, leave, exec_all}
 
 -- ---- types

@@ -1,5 +1,5 @@
 -- What statements owe.
-use Rattle.std.specs.Prelude.{ℕ, zero, suc, List, [], ◌∷◌, ◌++◌, Bool, true, false, ◌&&◌, if◌then◌else◌, Option, Some, None}
+use Rattle.std.specs.Prelude.{ℕ, zero, suc, List, [], ◌∷◌, ◌++◌, ◌&&◌, if◌then◌else◌, Option, Some, None}
 use Rattle.wy_core.specs.Types.{Ty}
 use Rattle.wy_core.specs.CoreTree as tree
 use Rattle.wy_core.specs.CoreTree.{Expr, Step, IndexStep, FieldStep, Stmt, DeclareStmt, AssignStmt, CallStmt, ReturnStmt, AssertStmt, BreakStmt, ContinueStmt, SkipStmt, FailStmt, IfStmt, WhileStmt, Stmts, NoStmts, MoreStmts, Routine}
@@ -9,14 +9,14 @@ use Rattle.wy_sem.specs.Statements.{type_at}
 use Rattle.wy_conditions.specs.Making.{val_name, field, falsehood, denied, formula}
 use Rattle.wy_conditions.specs.Operations as op
 use Rattle.wy_conditions.specs.Variables.{Vars, put, put_if}
-use Rattle.wy_conditions.specs.Values.{Valued, valued, word_at, variable}
+use Rattle.wy_conditions.specs.Values.{valued, word_at, variable}
 use Rattle.wy_conditions.specs.Owed.{Owed, assume, assume_all, owe}
 use Rattle.wy_conditions.specs.Clauses.{Passed, passed, after, one_goal, pass_goals, owe_clauses, assume_in_type, owe_member}
 use Rattle.wy_conditions.specs.Calls.{Walked, call_walk}
-use Rattle.wy_conditions.specs.Walks.{Program, WalkedAll, walk_all, walk_expr, index_goals}
+use Rattle.wy_conditions.specs.Walks.{Program, walk_all, walk_expr, index_goals}
 use Rattle.wy_conditions.specs.Spots.{Spot, Flow, goes, stops, leaves, and_then, as_list, is_set, assign, declare, with_hyps}
-use Rattle.wy_conditions.specs.Large.{Named, named}
-use Rattle.wy_conditions.specs.Joins.{Met, meet}
+use Rattle.wy_conditions.specs.Large.{named}
+use Rattle.wy_conditions.specs.Joins.{meet}
 use Rattle.wy_conditions.specs.Assigned.{assigns_in, bound_in}
 
 -- what the statements of a body go by: the program, the function or method, the declared types of its variables, and the terms of its parameters at entry
