@@ -1,4 +1,7 @@
 //! What declarations owe.
+ghost use Rattle.wy_typing.specs.TypedPrograms.{core_of, flow_of};
+ghost use Rattle.wy_vc.specs.Listed.{Answers};
+
 use crate::here::Here;
 use crate::naming::new_name;
 use crate::statements::{Frame, exec_block, leave};
@@ -10,7 +13,8 @@ use wy_term::Conds;
 use wy_typing::Typed;
 use wy_vc_expressions::{VcFault, Walk, assume_clause, assume_in_type, walked};
 use wy_vc_names::{Called, Program};
-use wy_vc_terms::{formula, put, type_formula, val_name};
+use wy_vc_operations::{formula, put, val_name};
+use wy_vc_terms::{type_formula};
 
 // Nothing is assumed and no name is made.
 fn begin(walk: &mut Walk, node: usize) {
@@ -31,7 +35,7 @@ fn owe_in_clauses(
 ) -> Result<(), VcFault> {
     for clause in clauses {
         let value = walked(alloc, core, program, words, walk, vars, clause)?;
-        let formula = formula(&mut walk.maker, value)?;
+        let formula = formula(&mut walk.maker.terms, value)?;
         walk.assume(alloc, formula)?;
     }
     Ok(())
@@ -109,7 +113,7 @@ fn enter_result(
                     wy_vc_terms::word_of(alloc, routine.variables.as_slice(), variable)?
                 }
             };
-            let name = val_name(alloc, &mut walk.maker, &word, number)?;
+            let name = val_name(alloc, &mut walk.maker.terms, &word, number)?;
             if let Some(variable) = output.variable {
                 here.assign(variable, name)?;
             }
@@ -265,7 +269,9 @@ fn decl_conditions(
 /// The conditions that a typed program owes, in order. Besides the walk over the program it takes time linear in the conditions with
 /// their lists of hypotheses; the terms of the hypotheses that a condition has in common with the one before it are neither made nor
 /// counted again.
-pub fn conditions(alloc: Global, typed: &Typed) -> Result<Conds, VcFault> {
+pub fn conditions(alloc: Global, typed: &Typed) -> Result<Conds, VcFault>
+    ensures value { Answers (core_of typed.now) (flow_of typed.now) result }
+{
     let core = typed.core();
     let program = Program::of(alloc, typed)?;
     let mut walk = Walk::new(alloc);

@@ -1,6 +1,6 @@
 //! What is known of variables at a point of a body.
 use std::alloc::{AllocError, Global};
-use wy_vc_terms::put;
+use wy_vc_operations::{put};
 
 /// The term of each variable, and whether it has a value on each path to here.
 #[derive(Drop)]

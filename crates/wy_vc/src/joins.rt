@@ -5,7 +5,7 @@ use std::alloc::Global;
 use wy_data::Name;
 use wy_term::Node;
 use wy_vc_expressions::{VcFault, Walk};
-use wy_vc_terms::{conjunction, equal, slot_at};
+use wy_vc_operations::{conjunction, equal, slot_at};
 
 fn most_vars(spots: &[Spot]) -> usize {
     let mut most = 0;
@@ -66,7 +66,7 @@ fn equate(
     for place in 0..spots.len() {
         let spot = &mut spots[place];
         if let Some(term) = slot_at(spot.here.vars.as_slice(), variable) {
-            let equation = equal(&mut walk.maker, name, term)?;
+            let equation = equal(&mut walk.maker.terms, name, term)?;
             spot.since.push(equation)?;
         }
     }
@@ -78,7 +78,7 @@ fn assume_one(alloc: Global, walk: &mut Walk, spots: Vec<Spot>) -> Result<(), Vc
     let mut members = Vec::new(alloc);
     for spot in spots {
         let Spot { since, .. } = spot;
-        members.push(conjunction(&mut walk.maker, since)?)?;
+        members.push(conjunction(&mut walk.maker.terms, since)?)?;
     }
     let one = walk.maker.put(Node::Or(members))?;
     walk.assume(alloc, one)

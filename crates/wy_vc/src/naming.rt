@@ -3,7 +3,8 @@ use std::alloc::Global;
 use wy_data::Name;
 use wy_term::{Node, Terms};
 use wy_vc_expressions::{VcFault, Walk, push_parts};
-use wy_vc_terms::{equal, val_name, word_of};
+use wy_vc_operations::{equal, val_name};
+use wy_vc_terms::{word_of};
 
 /// The most nodes of a term that a variable stands for.
 const MOST_NODES: usize = 1024;
@@ -41,7 +42,7 @@ pub fn new_name(
 ) -> Result<u32, VcFault> {
     let word = word_of(alloc, words, variable)?;
     let number = walk.maker.name()?;
-    Ok(val_name(alloc, &mut walk.maker, &word, number)?)
+    Ok(val_name(alloc, &mut walk.maker.terms, &word, number)?)
 }
 
 /// The term that a variable is to stand for, of a value given to it: the value's, or a new name that equals it where that is too large.
@@ -56,7 +57,7 @@ pub fn named(
         return Ok(value);
     }
     let name = new_name(alloc, walk, words, variable)?;
-    let equation = equal(&mut walk.maker, name, value)?;
+    let equation = equal(&mut walk.maker.terms, name, value)?;
     walk.assume(alloc, equation)?;
     Ok(name)
 }

@@ -12,9 +12,8 @@ use wy_vc_expressions::{
     VcFault, Walk, assume_in_type, owe_clause, owe_index, owe_member, walked, walked_all, call,
 };
 use wy_vc_names::{Called, Program, exprs_in, exprs_in_stmt, total};
-use wy_vc_terms::{
-    denied, falsehood, field, formula, index, put, updated, updated_field, variable,
-};
+use wy_vc_operations::{denied, falsehood, field, formula, index, put, updated, updated_field};
+use wy_vc_terms::{variable};
 
 /// What the statements of a body go by: where the function or method stands among the expressions, the declared types of its variables,
 /// and the terms of its parameters at entry.
@@ -127,11 +126,11 @@ fn parts_along(
                 let place = walked(alloc, core, program, words, walk, vars, expr)?;
                 owe_index(alloc, walk, step.at, part, place)?;
                 parts.push((part, place))?;
-                part = index(&mut walk.maker, part, place)?;
+                part = index(&mut walk.maker.terms, part, place)?;
             }
             StepKind::Field(name) => {
                 parts.push((part, part))?;
-                part = field(alloc, &mut walk.maker, part, name)?;
+                part = field(alloc, &mut walk.maker.terms, part, name)?;
             }
         }
     }
@@ -153,9 +152,9 @@ fn rebuilt(
         if left < parts.len() {
             let (part, place) = parts[left];
             value = match &path[left].kind {
-                StepKind::Index(_) => updated(&mut walk.maker, part, place, value)?,
+                StepKind::Index(_) => updated(&mut walk.maker.terms, part, place, value)?,
                 StepKind::Field(name) => {
-                    updated_field(alloc, &mut walk.maker, part, name, value)?
+                    updated_field(alloc, &mut walk.maker.terms, part, name, value)?
                 }
             };
         }
@@ -280,7 +279,7 @@ fn assume_invariants(
     for clause in invariants {
         let words = routine.variables.as_slice();
         let value = walked(alloc, core, program, words, walk, vars, clause)?;
-        let formula = formula(&mut walk.maker, value)?;
+        let formula = formula(&mut walk.maker.terms, value)?;
         walk.assume(alloc, formula)?;
     }
     Ok(())
@@ -330,8 +329,8 @@ fn exec_while(
     let inside = walk.maker.node;
     walk.maker.node = start;
     let value = walked(alloc, core, program, words, walk, &mut here.vars, test)?;
-    let condition = formula(&mut walk.maker, value)?;
-    let denied = denied(&mut walk.maker, condition)?;
+    let condition = formula(&mut walk.maker.terms, value)?;
+    let denied = denied(&mut walk.maker.terms, condition)?;
     let base = walk.hyps.len();
     walk.assume(alloc, denied)?;
     let mut spots = Vec::new(alloc);
@@ -400,8 +399,8 @@ fn exec_if(
 ) -> Result<bool, VcFault> {
     let words = routine.variables.as_slice();
     let value = walked(alloc, core, program, words, walk, &mut here.vars, test)?;
-    let condition = formula(&mut walk.maker, value)?;
-    let denied = denied(&mut walk.maker, condition)?;
+    let condition = formula(&mut walk.maker.terms, value)?;
+    let denied = denied(&mut walk.maker.terms, condition)?;
     let base = walk.hyps.len();
     let mut other = here.copy(alloc)?;
     let mut spots = Vec::new(alloc);
@@ -514,7 +513,7 @@ pub fn exec(
         }
         StmtKind::Assert(expr) => {
             let value = walked(alloc, core, program, words, walk, &mut here.vars, expr)?;
-            let goal = formula(&mut walk.maker, value)?;
+            let goal = formula(&mut walk.maker.terms, value)?;
             walk.owe(alloc, CondKind::Assert, at, goal)?;
             Ok(true)
         }
@@ -541,7 +540,7 @@ pub fn exec(
         }
         StmtKind::Skip => Ok(true),
         StmtKind::Fail => {
-            let goal = falsehood(alloc, &mut walk.maker)?;
+            let goal = falsehood(alloc, &mut walk.maker.terms)?;
             walk.owe(alloc, CondKind::Fail, at, goal)?;
             Ok(false)
         }

@@ -7,9 +7,7 @@ use wy_core::{Core, Param, Routine};
 use wy_data::Name;
 use wy_term::{CondKind, Node, Quantifier};
 use wy_vc_names::{Called, Callee, Program};
-use wy_vc_terms::{
-    at_most, conjunction, null, number_name, number_of, put, val_name,
-};
+use wy_vc_operations::{at_most, conjunction, null, number_name, number_of, put, val_name};
 
 // Each argument is in the type of its parameter, from left to right.
 fn owe_arguments(
@@ -54,10 +52,10 @@ fn result_of(
     vars: &mut Vec<Option<u32>>,
 ) -> Result<u32, VcFault> {
     match &routine.result {
-        None => Ok(null(&mut walk.maker)?),
+        None => Ok(null(&mut walk.maker.terms)?),
         Some(output) => {
             let number = walk.maker.name()?;
-            let name = val_name(alloc, &mut walk.maker, &routine.name, number)?;
+            let name = val_name(alloc, &mut walk.maker.terms, &routine.name, number)?;
             assume_in_type(alloc, core, program, walk, name, &output.ty)?;
             if let Some(variable) = output.variable {
                 put(vars, variable, name)?;
@@ -116,14 +114,14 @@ fn call_print(
         let maker = &mut walk.maker;
         let number = maker.name()?;
         let word = Name::new(String::from_str(alloc, "k")?);
-        let name = number_name(alloc, maker, &word, number)?;
+        let name = number_name(alloc, &mut maker.terms, &word, number)?;
         let item = maker.put(Node::Get(*text, name))?;
         let code = maker.put(Node::Num(item))?;
-        let zero = number_of(maker, 0)?;
-        let last = number_of(maker, 127)?;
-        let above = at_most(maker, zero, code)?;
-        let below = at_most(maker, code, last)?;
-        let body = conjunction(maker, Vec::from_slice(alloc, &[above, below])?)?;
+        let zero = number_of(&mut maker.terms, 0)?;
+        let last = number_of(&mut maker.terms, 127)?;
+        let above = at_most(&mut maker.terms, zero, code)?;
+        let below = at_most(&mut maker.terms, code, last)?;
+        let body = conjunction(&mut maker.terms, Vec::from_slice(alloc, &[above, below])?)?;
         let length = maker.put(Node::Len(*text))?;
         let goal = maker.put(Node::All(Quantifier {
             word,
@@ -134,7 +132,7 @@ fn call_print(
         }))?;
         walk.owe(alloc, CondKind::Requires, at, goal)?;
     }
-    Ok(null(&mut walk.maker)?)
+    Ok(null(&mut walk.maker.terms)?)
 }
 
 /// A call at a place with these arguments: the term of its result, `null` where it has none.
@@ -152,6 +150,6 @@ pub fn call(
             call_declared(alloc, core, program, walk, at, declared, called, args)
         }
         Callee::Print => call_print(alloc, walk, at, args),
-        _ => Ok(null(&mut walk.maker)?),
+        _ => Ok(null(&mut walk.maker.terms)?),
     }
 }

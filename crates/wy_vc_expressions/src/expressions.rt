@@ -8,29 +8,26 @@ use wy_data::Name;
 use wy_term::{CondKind, Node};
 use wy_value::{INT_MAX, INT_MIN};
 use wy_vc_names::Program;
-use wy_vc_terms::{
-    LENGTH_MAX, Maker, at_most, denied, field, formula, holds, index, is_number, is_number_name,
-    length, less_than, list, negated, null, number_name, number_of, operated, put, put_back,
-    quantified, record, repeated, slot_at, truth, value_of, variable, whole, with_denial, word_of,
-};
+use wy_vc_operations::{at_most, denied, field, formula, index, is_number_name, length, less_than, list, negated, null, number_name, number_of, operated, put, put_back, quantified, record, repeated, slot_at, truth, value_of, whole, with_denial};
+use wy_vc_terms::{LENGTH_MAX, Maker, holds, is_number, variable, word_of};
 
 // The number is an `int`.
 fn owe_range(alloc: Global, walk: &mut Walk, at: u32, v: u32) -> Result<(), VcFault> {
     let number = walk.maker.put(Node::Num(v))?;
-    let least = number_of(&mut walk.maker, INT_MIN)?;
-    let above = at_most(&mut walk.maker, least, number)?;
+    let least = number_of(&mut walk.maker.terms, INT_MIN)?;
+    let above = at_most(&mut walk.maker.terms, least, number)?;
     walk.owe(alloc, CondKind::Range, at, above)?;
-    let greatest = number_of(&mut walk.maker, INT_MAX)?;
-    let below = at_most(&mut walk.maker, number, greatest)?;
+    let greatest = number_of(&mut walk.maker.terms, INT_MAX)?;
+    let below = at_most(&mut walk.maker.terms, number, greatest)?;
     walk.owe(alloc, CondKind::Range, at, below)
 }
 
 // The divisor isn't 0: it is above or below.
 fn owe_divisor(alloc: Global, walk: &mut Walk, at: u32, v: u32) -> Result<(), VcFault> {
     let number = walk.maker.put(Node::Num(v))?;
-    let zero = number_of(&mut walk.maker, 0)?;
-    let above = less_than(&mut walk.maker, zero, number)?;
-    let below = less_than(&mut walk.maker, number, zero)?;
+    let zero = number_of(&mut walk.maker.terms, 0)?;
+    let above = less_than(&mut walk.maker.terms, zero, number)?;
+    let below = less_than(&mut walk.maker.terms, number, zero)?;
     let parts = Vec::from_slice(alloc, &[above, below])?;
     let goal = walk.maker.put(Node::Or(parts))?;
     walk.owe(alloc, CondKind::Divisor, at, goal)
@@ -45,22 +42,22 @@ pub fn owe_index(
     index: u32,
 ) -> Result<(), VcFault> {
     let number = walk.maker.put(Node::Num(index))?;
-    let zero = number_of(&mut walk.maker, 0)?;
-    let above = at_most(&mut walk.maker, zero, number)?;
+    let zero = number_of(&mut walk.maker.terms, 0)?;
+    let above = at_most(&mut walk.maker.terms, zero, number)?;
     walk.owe(alloc, CondKind::Index, at, above)?;
     let count = walk.maker.put(Node::Len(array))?;
-    let below = less_than(&mut walk.maker, number, count)?;
+    let below = less_than(&mut walk.maker.terms, number, count)?;
     walk.owe(alloc, CondKind::Index, at, below)
 }
 
 // The length is one that an array can have.
 fn owe_length(alloc: Global, walk: &mut Walk, at: u32, count: u32) -> Result<(), VcFault> {
     let number = walk.maker.put(Node::Num(count))?;
-    let zero = number_of(&mut walk.maker, 0)?;
-    let above = at_most(&mut walk.maker, zero, number)?;
+    let zero = number_of(&mut walk.maker.terms, 0)?;
+    let above = at_most(&mut walk.maker.terms, zero, number)?;
     walk.owe(alloc, CondKind::Length, at, above)?;
-    let longest = number_of(&mut walk.maker, LENGTH_MAX)?;
-    let below = at_most(&mut walk.maker, number, longest)?;
+    let longest = number_of(&mut walk.maker.terms, LENGTH_MAX)?;
+    let below = at_most(&mut walk.maker.terms, number, longest)?;
     walk.owe(alloc, CondKind::Length, at, below)
 }
 
@@ -88,12 +85,12 @@ fn owe_operation(
 fn assume_left(alloc: Global, walk: &mut Walk, op: Op, left: u32) -> Result<(), VcFault> {
     match op {
         Op::And => {
-            let formula = formula(&mut walk.maker, left)?;
+            let formula = formula(&mut walk.maker.terms, left)?;
             walk.assume(alloc, formula)
         }
         Op::Or => {
-            let formula = formula(&mut walk.maker, left)?;
-            let denied = denied(&mut walk.maker, formula)?;
+            let formula = formula(&mut walk.maker.terms, left)?;
+            let denied = denied(&mut walk.maker.terms, formula)?;
             walk.assume(alloc, denied)
         }
         _ => Ok(()),
@@ -118,9 +115,9 @@ fn assume_between(
 ) -> Result<(), VcFault> {
     let from = walk.maker.put(Node::Num(from))?;
     let below = walk.maker.put(Node::Num(below))?;
-    let above = at_most(&mut walk.maker, from, name)?;
+    let above = at_most(&mut walk.maker.terms, from, name)?;
     walk.assume(alloc, above)?;
-    let under = less_than(&mut walk.maker, name, below)?;
+    let under = less_than(&mut walk.maker.terms, name, below)?;
     walk.assume(alloc, under)
 }
 
@@ -134,7 +131,7 @@ fn tested(
 ) -> Result<u32, VcFault> {
     let depth = program.types.len();
     let holds = holds(alloc, core, program, depth, maker, v, ty)?;
-    Ok(value_of(maker, holds)?)
+    Ok(value_of(&mut maker.terms, holds)?)
 }
 
 /// The term of what an expression evaluates to, where variables stand for these terms; the walk owes what the expression does.
@@ -150,9 +147,9 @@ pub fn walked(
 ) -> Result<u32, VcFault> {
     let at = expr.at;
     let made = match &expr.kind {
-        ExprKind::Null => null(&mut walk.maker)?,
-        ExprKind::Bool(b) => truth(&mut walk.maker, *b)?,
-        ExprKind::Int(z) => whole(&mut walk.maker, *z)?,
+        ExprKind::Null => null(&mut walk.maker.terms)?,
+        ExprKind::Bool(b) => truth(&mut walk.maker.terms, *b)?,
+        ExprKind::Int(z) => whole(&mut walk.maker.terms, *z)?,
         ExprKind::Var(x) => variable(&mut walk.maker, vars.as_slice(), *x)?,
         ExprKind::Call(routine, args) => {
             let args = walked_all(alloc, core, program, words, walk, vars, args.as_slice())?;
@@ -160,17 +157,17 @@ pub fn walked(
         }
         ExprKind::Neg(a) => {
             let v = walked(alloc, core, program, words, walk, vars, a.get())?;
-            let result = negated(&mut walk.maker, v)?;
+            let result = negated(&mut walk.maker.terms, v)?;
             owe_range(alloc, walk, at, result)?;
             result
         }
         ExprKind::Not(a) => {
             let v = walked(alloc, core, program, words, walk, vars, a.get())?;
-            with_denial(&mut walk.maker, v)?
+            with_denial(&mut walk.maker.terms, v)?
         }
         ExprKind::Len(a) => {
             let v = walked(alloc, core, program, words, walk, vars, a.get())?;
-            length(&mut walk.maker, v)?
+            length(&mut walk.maker.terms, v)?
         }
         ExprKind::Binary(op, a, b) => {
             let v = walked(alloc, core, program, words, walk, vars, a.get())?;
@@ -180,7 +177,7 @@ pub fn walked(
             let w = walked(alloc, core, program, words, walk, vars, b.get())?;
             let second = is_number(program, &walk.maker);
             forget_right(walk, *op, count);
-            let result = operated(alloc, &mut walk.maker, *op, first && second, v, w)?;
+            let result = operated(alloc, &mut walk.maker.terms, *op, first && second, v, w)?;
             owe_operation(alloc, walk, at, *op, w, result)?;
             result
         }
@@ -192,43 +189,43 @@ pub fn walked(
             let v = walked(alloc, core, program, words, walk, vars, a.get())?;
             let w = walked(alloc, core, program, words, walk, vars, b.get())?;
             owe_index(alloc, walk, at, v, w)?;
-            index(&mut walk.maker, v, w)?
+            index(&mut walk.maker.terms, v, w)?
         }
         ExprKind::Field(a, name) => {
             let v = walked(alloc, core, program, words, walk, vars, a.get())?;
-            field(alloc, &mut walk.maker, v, name)?
+            field(alloc, &mut walk.maker.terms, v, name)?
         }
         ExprKind::List(items) => {
             let items = walked_all(alloc, core, program, words, walk, vars, items.as_slice())?;
-            list(&mut walk.maker, items)?
+            list(&mut walk.maker.terms, items)?
         }
         ExprKind::Repeat(a, b) => {
             let v = walked(alloc, core, program, words, walk, vars, a.get())?;
             let w = walked(alloc, core, program, words, walk, vars, b.get())?;
             owe_length(alloc, walk, at, w)?;
-            repeated(&mut walk.maker, v, w)?
+            repeated(&mut walk.maker.terms, v, w)?
         }
         ExprKind::Record(fields) => {
             let fields =
                 walked_fields(alloc, core, program, words, walk, vars, fields.as_slice())?;
-            record(&mut walk.maker, fields)?
+            record(&mut walk.maker.terms, fields)?
         }
         ExprKind::Quant(all, x, a, b, body) => {
             let v = walked(alloc, core, program, words, walk, vars, a.get())?;
             let w = walked(alloc, core, program, words, walk, vars, b.get())?;
             let word = word_of(alloc, words, *x)?;
             let number = walk.maker.name()?;
-            let name = number_name(alloc, &mut walk.maker, &word, number)?;
+            let name = number_name(alloc, &mut walk.maker.terms, &word, number)?;
             let hyps = walk.hyps.len();
             assume_between(alloc, walk, name, v, w)?;
-            let bound = is_number_name(&mut walk.maker, name)?;
+            let bound = is_number_name(&mut walk.maker.terms, name)?;
             let old = slot_at(vars.as_slice(), *x);
             let count = vars.len();
             put(vars, *x, bound)?;
             let u = walked(alloc, core, program, words, walk, vars, body.get())?;
             put_back(vars, *x, old, count);
             walk.back_to(hyps);
-            quantified(alloc, &mut walk.maker, *all, &word, number, v, w, u)?
+            quantified(alloc, &mut walk.maker.terms, *all, &word, number, v, w, u)?
         }
     };
     walk.maker.pass(1)?;

@@ -3,7 +3,7 @@ use crate::fault::VcFault;
 use crate::held::{Held, HeldMark};
 use std::alloc::Global;
 use wy_term::{Cond, CondKind, Node, Unfold};
-use wy_vc_terms::Maker;
+use wy_vc_terms::{Maker};
 
 /// The most conditions of a program.
 pub const MOST_CONDS: usize = 16384;

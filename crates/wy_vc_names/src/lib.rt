@@ -1,6 +1,6 @@
 //! What the conditions of a program ask of its declarations.
 //!
-//! `sizes` counts the nodes of expressions, statements and types. `mentions` finds the named types that a type or an
+//! `mentions` finds the named types that a type or an
 //! expression mentions. `declared` tells of each named type whether a formula writes it out, and whether a type with a
 //! clause is reached from it. `program` puts these together with the numbers that expressions have in the walk of flow
 //! typing, and with what this walk says of them: whether an expression is a number.
@@ -10,9 +10,8 @@ mod declared;
 mod lists;
 mod mentions;
 mod program;
-mod sizes;
 
 pub use declared::{Declared, is_constrained};
 pub use lists::small;
 pub use program::{Callee, Program, Called};
-pub use sizes::{exprs_in, exprs_in_all, exprs_in_block, exprs_in_list, exprs_in_stmt, total};
+pub use wy_vc_sizes::{exprs_in, exprs_in_all, exprs_in_block, exprs_in_list, exprs_in_stmt, total};

@@ -1,9 +1,9 @@
 //! A program as its conditions see it.
 use crate::declared::{Declared, alias_at, declared};
-use crate::sizes::{exprs_in_block, exprs_in_list, total};
 use std::alloc::{AllocError, Global};
 use wy_core::{Alias, Atom, Conjunct, Core, Decl, Routine, Ty, TyKind};
 use wy_typing::Typed;
+use wy_vc_sizes::{exprs_in_block, exprs_in_list, total};
 
 /// A function or method: the number of its declaration, and of the first expression of its requires clauses, its ensures clauses and its
 /// body, in the walk of flow typing.

@@ -5,15 +5,7 @@
 #![tactic(auto)]
 
 mod maker;
-mod operations;
-mod slots;
 mod values;
 
 pub use maker::Maker;
-pub use operations::{
-    conjunction, denied, equal, falsehood, field, formula, index, is_number_name, length,
-    less_than, at_most, list, negated, null, number_name, number_of, operated, quantified, record,
-    repeated, truth, updated, updated_field, val_name, value_of, whole, with_denial,
-};
-pub use slots::{put, put_back, slot_at};
 pub use values::{LENGTH_MAX, holds, is_number, type_formula, value, value_formula, variable, word_of};

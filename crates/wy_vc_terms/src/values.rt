@@ -1,16 +1,11 @@
 //! What an expression of a contract evaluates to, and what it says of a datum that it is in a type.
 use crate::maker::Maker;
-use crate::operations::{
-    at_most, conjunction, denied, falsehood, field, formula, index, is_number_name, length, list,
-    negated, null, number_name, number_of, operated, quantified, record, repeated, truth, val_name,
-    value_of, whole, with_denial,
-};
-use crate::slots::{put, put_back, slot_at};
 use std::alloc::Global;
 use wy_core::{Alias, Core, Expr, ExprKind, Ty, TyKind};
 use wy_data::Name;
 use wy_term::{Kind, NoMemory, Node, Quantifier};
 use wy_value::{INT_MAX, INT_MIN};
+use wy_vc_operations::{at_most, conjunction, denied, falsehood, field, formula, index, is_number_name, length, list, negated, null, number_name, number_of, operated, put, put_back, quantified, record, repeated, slot_at, truth, val_name, value_of, whole, with_denial};
 use wy_vc_names::{Declared, Program, exprs_in_all};
 
 /// The most elements that an array has.
@@ -40,11 +35,11 @@ fn kind(maker: &mut Maker, v: u32, kind: Kind) -> Result<u32, NoMemory> {
 fn is_int(alloc: Global, maker: &mut Maker, v: u32) -> Result<u32, NoMemory> {
     let is_number = kind(maker, v, Kind::Int)?;
     let number = maker.put(Node::Num(v))?;
-    let least = number_of(maker, INT_MIN)?;
-    let greatest = number_of(maker, INT_MAX)?;
-    let above = at_most(maker, least, number)?;
-    let below = at_most(maker, number, greatest)?;
-    conjunction(maker, Vec::from_slice(alloc, &[is_number, above, below])?)
+    let least = number_of(&mut maker.terms, INT_MIN)?;
+    let greatest = number_of(&mut maker.terms, INT_MAX)?;
+    let above = at_most(&mut maker.terms, least, number)?;
+    let below = at_most(&mut maker.terms, number, greatest)?;
+    conjunction(&mut maker.terms, Vec::from_slice(alloc, &[is_number, above, below])?)
 }
 
 /// The term of a variable, `null` where it has none.
@@ -54,7 +49,7 @@ pub fn variable(
     variable: u32,
 ) -> Result<u32, NoMemory> {
     match slot_at(vars, variable) {
-        None => null(maker),
+        None => null(&mut maker.terms),
         Some(term) => Ok(term),
     }
 }
@@ -75,8 +70,8 @@ pub fn holds(
         TyKind::Null => kind(maker, v, Kind::Null),
         TyKind::Bool => kind(maker, v, Kind::Bool),
         TyKind::Int => is_int(alloc, maker, v),
-        TyKind::Any => conjunction(maker, Vec::new(alloc)),
-        TyKind::Void => falsehood(alloc, maker),
+        TyKind::Any => conjunction(&mut maker.terms, Vec::new(alloc)),
+        TyKind::Void => falsehood(alloc, &mut maker.terms),
         TyKind::Record(fields) => {
             fields_hold(alloc, core, program, depth, maker, v, fields.as_slice())
         }
@@ -89,14 +84,14 @@ pub fn holds(
         TyKind::Inter(left, right) => {
             let first = holds(alloc, core, program, depth, maker, v, left.get())?;
             let second = holds(alloc, core, program, depth, maker, v, right.get())?;
-            conjunction(maker, Vec::from_slice(alloc, &[first, second])?)
+            conjunction(&mut maker.terms, Vec::from_slice(alloc, &[first, second])?)
         }
         TyKind::Not(ty) => {
             let inside = holds(alloc, core, program, depth, maker, v, ty.get())?;
-            denied(maker, inside)
+            denied(&mut maker.terms, inside)
         }
         TyKind::Named(number) => named_holds(alloc, core, program, depth, maker, v, *number),
-        TyKind::Normal(_) => falsehood(alloc, maker),
+        TyKind::Normal(_) => falsehood(alloc, &mut maker.terms),
     }
 }
 
@@ -118,10 +113,10 @@ fn fields_hold(
     let mut parts = Vec::new(alloc);
     parts.push(kind(maker, v, Kind::Record(names))?)?;
     for (name, ty) in fields {
-        let part = field(alloc, maker, v, name)?;
+        let part = field(alloc, &mut maker.terms, v, name)?;
         parts.push(holds(alloc, core, program, depth, maker, part, ty)?)?;
     }
-    conjunction(maker, parts)
+    conjunction(&mut maker.terms, parts)
 }
 
 // The kind of an array, how long it may be, and what each of its elements is in.
@@ -137,14 +132,14 @@ fn items_hold(
 ) -> Result<u32, NoMemory> {
     let is_array = kind(maker, v, Kind::Array)?;
     let count = maker.put(Node::Len(v))?;
-    let longest = number_of(maker, LENGTH_MAX)?;
-    let short = at_most(maker, count, longest)?;
+    let longest = number_of(&mut maker.terms, LENGTH_MAX)?;
+    let short = at_most(&mut maker.terms, count, longest)?;
     let word = k_word(alloc)?;
     let number = maker.name()?;
-    let name = number_name(alloc, maker, &word, number)?;
+    let name = number_name(alloc, &mut maker.terms, &word, number)?;
     let part = maker.put(Node::Get(v, name))?;
     let body = holds(alloc, core, program, depth, maker, part, item)?;
-    let from = number_of(maker, 0)?;
+    let from = number_of(&mut maker.terms, 0)?;
     let each = maker.put(Node::All(Quantifier {
         word,
         number: number as u128,
@@ -152,7 +147,7 @@ fn items_hold(
         below: count,
         body,
     }))?;
-    conjunction(maker, Vec::from_slice(alloc, &[is_array, short, each])?)
+    conjunction(&mut maker.terms, Vec::from_slice(alloc, &[is_array, short, each])?)
 }
 
 // A name: its definition and its clauses, or the test of the name.
@@ -205,10 +200,10 @@ fn defined(
             &mut vars,
             clause,
         )?;
-        parts.push(formula(maker, value)?)?;
+        parts.push(formula(&mut maker.terms, value)?)?;
     }
     maker.node = node;
-    conjunction(maker, parts)
+    conjunction(&mut maker.terms, parts)
 }
 
 /// The term of what an expression of a contract evaluates to, where variables stand for these terms. Each quantifier takes a new name.
@@ -224,59 +219,59 @@ pub fn value(
     expr: &Expr,
 ) -> Result<u32, NoMemory> {
     let made = match &expr.kind {
-        ExprKind::Null => null(maker)?,
-        ExprKind::Bool(b) => truth(maker, *b)?,
-        ExprKind::Int(z) => whole(maker, *z)?,
+        ExprKind::Null => null(&mut maker.terms)?,
+        ExprKind::Bool(b) => truth(&mut maker.terms, *b)?,
+        ExprKind::Int(z) => whole(&mut maker.terms, *z)?,
         ExprKind::Var(x) => variable(maker, vars.as_slice(), *x)?,
         ExprKind::Call(_, args) => {
             let passed = exprs_in_all(args.as_slice())?;
             maker.pass(passed)?;
-            null(maker)?
+            null(&mut maker.terms)?
         }
         ExprKind::Neg(a) => {
             let v = value(alloc, core, program, words, depth, maker, vars, a.get())?;
-            negated(maker, v)?
+            negated(&mut maker.terms, v)?
         }
         ExprKind::Not(a) => {
             let v = value(alloc, core, program, words, depth, maker, vars, a.get())?;
-            with_denial(maker, v)?
+            with_denial(&mut maker.terms, v)?
         }
         ExprKind::Len(a) => {
             let v = value(alloc, core, program, words, depth, maker, vars, a.get())?;
-            length(maker, v)?
+            length(&mut maker.terms, v)?
         }
         ExprKind::Binary(op, a, b) => {
             let v = value(alloc, core, program, words, depth, maker, vars, a.get())?;
             let first = is_number(program, maker);
             let w = value(alloc, core, program, words, depth, maker, vars, b.get())?;
             let second = is_number(program, maker);
-            operated(alloc, maker, *op, first && second, v, w)?
+            operated(alloc, &mut maker.terms, *op, first && second, v, w)?
         }
         ExprKind::Is(a, ty) => {
             let v = value(alloc, core, program, words, depth, maker, vars, a.get())?;
             let holds = holds(alloc, core, program, depth, maker, v, ty)?;
-            value_of(maker, holds)?
+            value_of(&mut maker.terms, holds)?
         }
         ExprKind::Index(a, b) => {
             let v = value(alloc, core, program, words, depth, maker, vars, a.get())?;
             let w = value(alloc, core, program, words, depth, maker, vars, b.get())?;
-            index(maker, v, w)?
+            index(&mut maker.terms, v, w)?
         }
         ExprKind::Field(a, name) => {
             let v = value(alloc, core, program, words, depth, maker, vars, a.get())?;
-            field(alloc, maker, v, name)?
+            field(alloc, &mut maker.terms, v, name)?
         }
         ExprKind::List(items) => {
             let mut made = Vec::new(alloc);
             for item in items.as_slice() {
                 made.push(value(alloc, core, program, words, depth, maker, vars, item)?)?;
             }
-            list(maker, made)?
+            list(&mut maker.terms, made)?
         }
         ExprKind::Repeat(a, b) => {
             let v = value(alloc, core, program, words, depth, maker, vars, a.get())?;
             let w = value(alloc, core, program, words, depth, maker, vars, b.get())?;
-            repeated(maker, v, w)?
+            repeated(&mut maker.terms, v, w)?
         }
         ExprKind::Record(fields) => {
             let mut made = Vec::new(alloc);
@@ -284,21 +279,21 @@ pub fn value(
                 let v = value(alloc, core, program, words, depth, maker, vars, item)?;
                 made.push((name.copy(alloc)?, v))?;
             }
-            record(maker, made)?
+            record(&mut maker.terms, made)?
         }
         ExprKind::Quant(all, x, a, b, body) => {
             let v = value(alloc, core, program, words, depth, maker, vars, a.get())?;
             let w = value(alloc, core, program, words, depth, maker, vars, b.get())?;
             let word = word_of(alloc, words, *x)?;
             let number = maker.name()?;
-            let name = number_name(alloc, maker, &word, number)?;
-            let bound = is_number_name(maker, name)?;
+            let name = number_name(alloc, &mut maker.terms, &word, number)?;
+            let bound = is_number_name(&mut maker.terms, name)?;
             let old = slot_at(vars.as_slice(), *x);
             let count = vars.len();
             put(vars, *x, bound)?;
             let u = value(alloc, core, program, words, depth, maker, vars, body.get())?;
             put_back(vars, *x, old, count);
-            quantified(alloc, maker, *all, &word, number, v, w, u)?
+            quantified(alloc, &mut maker.terms, *all, &word, number, v, w, u)?
         }
     };
     maker.pass(1)?;
@@ -325,7 +320,7 @@ pub fn value_formula(
     clause: &Expr,
 ) -> Result<u32, NoMemory> {
     let value = value(alloc, core, program, words, depth, maker, vars, clause)?;
-    formula(maker, value)
+    formula(&mut maker.terms, value)
 }
 
 /// The Val name and the formula that the test of a named type stands for: the definition and the clauses, of the name with the number 0;
@@ -344,7 +339,7 @@ pub fn type_formula(
     };
     let count = maker.count;
     maker.count = 1;
-    let name = val_name(alloc, maker, &word, 0)?;
+    let name = val_name(alloc, &mut maker.terms, &word, 0)?;
     let depth = program.types.len();
     let formula = defined(alloc, core, program, depth, maker, name, alias, declared)?;
     maker.count = count;

@@ -1,7 +1,7 @@
 use Rattle.std.proofs.Common.{◌≡◌, ◌+◌, drop, map}
 use Rattle.wy_core.specs.CoreSeen.{seen_step}
 use Rattle.wy_conditions.specs.Sizes.{exprs_in_path as size}
-use Rattle.wy_vc_names.proofs.sizes.exprs_in_path.Given as goal
+use Rattle.wy_vc_sizes.proofs.counts.exprs_in_path.Given as goal
 
 -- those passed and those left are all
 abbrev pub invariant-loop-step : goal.invariant-loop-step

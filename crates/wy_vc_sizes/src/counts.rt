@@ -61,7 +61,7 @@ pub fn exprs_in(expr: &Expr) -> Result<usize, AllocError>
         ExprKind::Field(a, _) => with_one(exprs_in(a.get())?),
         ExprKind::List(items) => with_one(exprs_in_all(items.as_slice())?),
         ExprKind::Repeat(a, b) => with_two(exprs_in(a.get())?, exprs_in(b.get())?),
-        ExprKind::Record(fields) => with_one(exprs_in_fields(fields.as_slice())?),
+        ExprKind::Record(fields) => exprs_in_record(fields.as_slice()),
         ExprKind::Quant(_, _, a, b, c) => with_three(
             exprs_in(a.get())?,
             exprs_in(b.get())?,
@@ -80,6 +80,14 @@ pub fn exprs_in_all(exprs: &[Expr]) -> Result<usize, AllocError>
         count = total(count, exprs_in(expr)?)?;
     }
     Ok(count)
+}
+
+// A record of these fields.
+#[cycle(sizes)]
+fn exprs_in_record(fields: &[(Name, Expr)]) -> Result<usize, AllocError>
+    ensures value { IfOk result (λ n. n ≡ 1 + spec.exprs_in_fields (seen_fields fields.now)) }
+{
+    with_one(exprs_in_fields(fields)?)
 }
 
 #[cycle(sizes)]

@@ -1,8 +1,13 @@
 //! The term of each variable that has one.
+ghost use Rattle.std.specs.Prelude.{◌≡◌, OnOk};
+ghost use Rattle.wy_conditions.specs.Variables as spec;
+
 use std::alloc::AllocError;
 
 /// The term of the variable, if it has one.
-pub fn slot_at(vars: &[Option<u32>], variable: u32) -> Option<u32> {
+pub fn slot_at(vars: &[Option<u32>], variable: u32) -> Option<u32>
+    ensures value { result ≡ spec.slot_at vars.now variable }
+{
     match vars.get(variable as usize) {
         None => None,
         Some(slot) => *slot,
@@ -10,7 +15,9 @@ pub fn slot_at(vars: &[Option<u32>], variable: u32) -> Option<u32> {
 }
 
 /// The variable stands for this term from now on. Linear in the variables before it that have no slot yet.
-pub fn put(vars: &mut Vec<Option<u32>>, variable: u32, term: u32) -> Result<(), AllocError> {
+pub fn put(vars: &mut Vec<Option<u32>>, variable: u32, term: u32) -> Result<(), AllocError>
+    ensures value { OnOk result (vars.new.items ≡ spec.put vars.old.items variable term) }
+{
     let index = variable as usize;
     while vars.len() <= index {
         vars.push(None)?;

@@ -2,7 +2,7 @@ use Rattle.std.proofs.Common.{◌≡◌, ◌+◌, drop}
 use Rattle.wy_core.specs.CoreSeen.{seen_exprs, seen_fields}
 use Rattle.wy_core.specs.CoreTree.{exprs_of}
 use Rattle.wy_conditions.specs.Sizes.{exprs_in_all, exprs_in_fields}
-use Rattle.wy_vc_names.proofs.sizes.+sizes.Given as goal
+use Rattle.wy_vc_sizes.proofs.counts.+sizes.Given as goal
 
 -- those passed and those left are all
 abbrev pub invariant-exprs_in_all-loop-expr : goal.invariant-exprs_in_all-loop-expr

@@ -1,7 +1,7 @@
 use Rattle.std.proofs.Common.{◌≡◌, ◌+◌, drop}
 use Rattle.wy_core.specs.CoreSeen.{seen_block}
 use Rattle.wy_conditions.specs.Sizes.{exprs_in_block as size}
-use Rattle.wy_vc_names.proofs.sizes.+block_sizes.Given as goal
+use Rattle.wy_vc_sizes.proofs.counts.+block_sizes.Given as goal
 
 -- those passed and those left are all
 abbrev pub invariant-exprs_in_block-loop-stmt : goal.invariant-exprs_in_block-loop-stmt

@@ -1,2 +1,0 @@
--- what sums and records come to
-mod SizeLemmas

@@ -1,0 +1,2 @@
+-- what a record stands for
+pub mod SizeLemmas

@@ -1,0 +1,2 @@
+-- marks of names
+pub mod Marks
