@@ -6,6 +6,7 @@ pub programs_owe : SmallProgramsOwe
 programs_owe = record {
   inc_owes = refl;
   again_owes = refl;
+  divided_owes = refl;
   push_owes = refl;
   lazy_owes = refl;
   twice_owes = refl;

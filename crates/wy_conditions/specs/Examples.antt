@@ -8,7 +8,7 @@ use Rattle.wy_conditions.specs.Values.{Setting}
 use Rattle.wy_conditions.specs.Limits.{types_of, unfolded, passing, Within}
 use Rattle.wy_conditions.specs.Programs.{conditions_of, setting_of}
 use Rattle.wy_conditions.specs.CallExamples.{inc, inc_numbers, inc_conditions, push, push_numbers, push_conditions, twice, twice_numbers, twice_conditions, push_test}
-use Rattle.wy_conditions.specs.LoopExamples.{again, again_numbers, again_conditions, lazy, lazy_numbers, lazy_conditions, shift, shift_numbers, shift_conditions}
+use Rattle.wy_conditions.specs.LoopExamples.{again, again_numbers, again_conditions, divided, divided_numbers, divided_conditions, lazy, lazy_numbers, lazy_conditions, shift, shift_numbers, shift_conditions}
 use Rattle.wy_conditions.specs.TypeExamples.{quantified, quantified_numbers, quantified_conditions, nested, nested_numbers, nested_conditions, narrowed, narrowed_numbers, narrowed_conditions, nested_test}
 
 abbrev pub settings : Core ℕ → List Ty → Setting Node
@@ -17,6 +17,7 @@ settings core flow = setting_of (numbered_core core) flow
 pub record SmallProgramsOwe : Type 0 where
   pub inc_owes : conditions_of inc inc_numbers ≡ inc_conditions
   pub again_owes : conditions_of again again_numbers ≡ again_conditions
+  pub divided_owes : conditions_of divided divided_numbers ≡ divided_conditions
   pub push_owes : conditions_of push push_numbers ≡ push_conditions
   pub lazy_owes : conditions_of lazy lazy_numbers ≡ lazy_conditions
   pub twice_owes : conditions_of twice twice_numbers ≡ twice_conditions

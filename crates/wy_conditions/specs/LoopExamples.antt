@@ -1,10 +1,10 @@
--- What programs with loops owe.
-use Rattle.std.specs.Prelude.{ℕ, List, [], ◌∷◌, false, Some, None, pos, negsuc}
-use Rattle.wy_core.specs.Types.{Ty, BoolTy, IntTy}
-use Rattle.wy_core.specs.CoreTree.{IntExpr, VarExpr, BinaryExpr, DeclareStmt, AssignStmt, ReturnStmt, BreakStmt, ContinueStmt, SkipStmt, IfStmt, WhileStmt, NoStmts, MoreStmts, RoutineDecl, Core}
+-- What programs with loops and with each kind of operation owe.
+use Rattle.std.specs.Prelude.{ℕ, List, [], ◌∷◌, true, false, Some, None, pos, negsuc}
+use Rattle.wy_core.specs.Types.{Ty, BoolTy, IntTy, ArrayTy}
+use Rattle.wy_core.specs.CoreTree.{IntExpr, VarExpr, LenExpr, BinaryExpr, ListExpr, RepeatExpr, NoExprs, MoreExprs, DeclareStmt, AssignStmt, CallStmt, ReturnStmt, AssertStmt, BreakStmt, ContinueStmt, SkipStmt, FailStmt, IfStmt, WhileStmt, NoStmts, MoreStmts, RoutineDecl, Core}
 use Rattle.wy_core.specs.declared.expressions.Op.TheVariants as op
 use Rattle.wy_term.specs.declared.cond.CondKind.TheVariants as kind
-use Rattle.wy_term.specs.Term.{Term, Of, no_parts, part, leaf, one, two, number, add, sub, num, val_name, int, bool, at_most, equal, of_kind, denied, all_of, any_of, int_kind}
+use Rattle.wy_term.specs.Term.{Term, Of, no_parts, part, leaf, one, two, number, add, sub, div, rem, num, len, val_name, int, bool, repeat, at_most, equal, of_kind, denied, all_of, any_of, int_kind}
 use Rattle.wy_conditions.specs.Owed.{Owed}
 use Rattle.wy_conditions.specs.ExampleParts.{owed, number_type, other}
 
@@ -77,6 +77,80 @@ again_16 = two at_most (one num (leaf (val_name (110 ∷ []) 0))) (one num (leaf
 
 abbrev pub again_conditions : List Owed
 again_conditions = (owed kind.Entry 83 (again_0 ∷ again_1 ∷ again_2 ∷ again_3 ∷ []) again_4 ∷ owed kind.Range 123 (again_0 ∷ again_1 ∷ again_2 ∷ again_3 ∷ again_5 ∷ again_6 ∷ again_7 ∷ again_8 ∷ again_9 ∷ []) again_10 ∷ owed kind.Range 123 (again_0 ∷ again_1 ∷ again_2 ∷ again_3 ∷ again_5 ∷ again_6 ∷ again_7 ∷ again_8 ∷ again_9 ∷ again_10 ∷ []) again_11 ∷ owed kind.Keep 158 (again_0 ∷ again_1 ∷ again_2 ∷ again_3 ∷ again_5 ∷ again_6 ∷ again_7 ∷ again_8 ∷ again_9 ∷ again_10 ∷ again_11 ∷ again_12 ∷ again_13 ∷ []) again_14 ∷ owed kind.Keep 83 (again_0 ∷ again_1 ∷ again_2 ∷ again_3 ∷ again_5 ∷ again_6 ∷ again_7 ∷ again_8 ∷ again_9 ∷ again_10 ∷ again_11 ∷ again_15 ∷ []) again_14 ∷ owed kind.Ensures 184 (again_0 ∷ again_1 ∷ again_2 ∷ again_3 ∷ again_5 ∷ again_6 ∷ again_7 ∷ again_8 ∷ again_16 ∷ []) again_8 ∷ [])
+
+-- method divided(int n, int d) -> (int r)
+-- requires 0 <= n:
+--     int[] a = [d; n]
+--     print([104, 105])
+--     if d == 0:
+--         fail
+--     assert |a| >= 0
+--     return n / d + n % d
+abbrev pub divided : Core ℕ
+divided = RoutineDecl (record { at = 0; name = (100 ∷ 105 ∷ 118 ∷ 105 ∷ 100 ∷ 101 ∷ 100 ∷ []); is_method = true; variables = ((110 ∷ []) ∷ (100 ∷ []) ∷ (114 ∷ []) ∷ (97 ∷ []) ∷ []); params = ((record { at = 0; ty = IntTy; variable = 0 }) ∷ (record { at = 0; ty = IntTy; variable = 1 }) ∷ []); result = (Some (record { at = 0; ty = IntTy; variable = (Some 2) })); preconditions = ((BinaryExpr 51 op.LessEqual (IntExpr 49 (pos 0)) (VarExpr 54 0)) ∷ []); postconditions = ([]); body = (MoreStmts (DeclareStmt 61 (ArrayTy IntTy) 3 (Some (RepeatExpr 71 (VarExpr 72 1) (VarExpr 75 0)))) (MoreStmts (CallStmt 82 1 (MoreExprs (ListExpr 88 (MoreExprs (IntExpr 89 (pos 104)) (MoreExprs (IntExpr 94 (pos 105)) NoExprs))) NoExprs)) (MoreStmts (IfStmt 104 (BinaryExpr 109 op.Equal (VarExpr 107 1) (IntExpr 112 (pos 0))) (MoreStmts (FailStmt 123) NoStmts) NoStmts) (MoreStmts (AssertStmt 132 (BinaryExpr 143 op.GreaterEqual (LenExpr 139 (VarExpr 140 3)) (IntExpr 146 (pos 0)))) (MoreStmts (ReturnStmt 152 (Some (BinaryExpr 165 op.Add (BinaryExpr 161 op.Div (VarExpr 159 0) (VarExpr 163 1)) (BinaryExpr 169 op.Mod (VarExpr 167 0) (VarExpr 171 1))))) NoStmts))))) }) ∷ []
+
+abbrev pub divided_numbers : List Ty
+divided_numbers = (number_type ∷ number_type ∷ other ∷ number_type ∷ number_type ∷ other ∷ number_type ∷ number_type ∷ other ∷ number_type ∷ number_type ∷ other ∷ other ∷ number_type ∷ number_type ∷ other ∷ number_type ∷ number_type ∷ number_type ∷ number_type ∷ number_type ∷ number_type ∷ number_type ∷ [])
+
+abbrev pub divided_0 : Term
+divided_0 = one (of_kind int_kind) (leaf (val_name (110 ∷ []) 0))
+
+abbrev pub divided_1 : Term
+divided_1 = two at_most (leaf (number (negsuc 39614081257132168796771975167))) (one num (leaf (val_name (110 ∷ []) 0)))
+
+abbrev pub divided_2 : Term
+divided_2 = two at_most (one num (leaf (val_name (110 ∷ []) 0))) (leaf (number (pos 39614081257132168796771975167)))
+
+abbrev pub divided_3 : Term
+divided_3 = one (of_kind int_kind) (leaf (val_name (100 ∷ []) 1))
+
+abbrev pub divided_4 : Term
+divided_4 = two at_most (leaf (number (negsuc 39614081257132168796771975167))) (one num (leaf (val_name (100 ∷ []) 1)))
+
+abbrev pub divided_5 : Term
+divided_5 = two at_most (one num (leaf (val_name (100 ∷ []) 1))) (leaf (number (pos 39614081257132168796771975167)))
+
+abbrev pub divided_6 : Term
+divided_6 = two at_most (leaf (number (pos 0))) (one num (leaf (val_name (110 ∷ []) 0)))
+
+abbrev pub divided_7 : Term
+divided_7 = two at_most (one num (leaf (val_name (110 ∷ []) 0))) (leaf (number (pos 9223372036854775807)))
+
+abbrev pub divided_8 : Term
+divided_8 = leaf all_of
+
+abbrev pub divided_9 : Term
+divided_9 = two at_most (one num (leaf (val_name (100 ∷ []) 1))) (leaf (number (pos 0)))
+
+abbrev pub divided_10 : Term
+divided_10 = two at_most (leaf (number (pos 0))) (one num (leaf (val_name (100 ∷ []) 1)))
+
+abbrev pub divided_11 : Term
+divided_11 = leaf any_of
+
+abbrev pub divided_12 : Term
+divided_12 = one denied (Of all_of (part (two at_most (one num (leaf (val_name (100 ∷ []) 1))) (leaf (number (pos 0)))) (part (two at_most (leaf (number (pos 0))) (one num (leaf (val_name (100 ∷ []) 1)))) no_parts)))
+
+abbrev pub divided_13 : Term
+divided_13 = two at_most (leaf (number (pos 0))) (one len (two repeat (leaf (val_name (100 ∷ []) 1)) (one num (leaf (val_name (110 ∷ []) 0)))))
+
+abbrev pub divided_14 : Term
+divided_14 = Of any_of (part (one denied (two at_most (one num (leaf (val_name (100 ∷ []) 1))) (leaf (number (pos 0))))) (part (one denied (two at_most (leaf (number (pos 0))) (one num (leaf (val_name (100 ∷ []) 1))))) no_parts))
+
+abbrev pub divided_15 : Term
+divided_15 = two at_most (leaf (number (negsuc 39614081257132168796771975167))) (two div (one num (leaf (val_name (110 ∷ []) 0))) (one num (leaf (val_name (100 ∷ []) 1))))
+
+abbrev pub divided_16 : Term
+divided_16 = two at_most (two div (one num (leaf (val_name (110 ∷ []) 0))) (one num (leaf (val_name (100 ∷ []) 1)))) (leaf (number (pos 39614081257132168796771975167)))
+
+abbrev pub divided_17 : Term
+divided_17 = two at_most (leaf (number (negsuc 39614081257132168796771975167))) (two add (two div (one num (leaf (val_name (110 ∷ []) 0))) (one num (leaf (val_name (100 ∷ []) 1)))) (two rem (one num (leaf (val_name (110 ∷ []) 0))) (one num (leaf (val_name (100 ∷ []) 1)))))
+
+abbrev pub divided_18 : Term
+divided_18 = two at_most (two add (two div (one num (leaf (val_name (110 ∷ []) 0))) (one num (leaf (val_name (100 ∷ []) 1)))) (two rem (one num (leaf (val_name (110 ∷ []) 0))) (one num (leaf (val_name (100 ∷ []) 1))))) (leaf (number (pos 39614081257132168796771975167)))
+
+abbrev pub divided_conditions : List Owed
+divided_conditions = (owed kind.Length 71 (divided_0 ∷ divided_1 ∷ divided_2 ∷ divided_3 ∷ divided_4 ∷ divided_5 ∷ divided_6 ∷ []) divided_6 ∷ owed kind.Length 71 (divided_0 ∷ divided_1 ∷ divided_2 ∷ divided_3 ∷ divided_4 ∷ divided_5 ∷ divided_6 ∷ divided_6 ∷ []) divided_7 ∷ owed kind.Requires 82 (divided_0 ∷ divided_1 ∷ divided_2 ∷ divided_3 ∷ divided_4 ∷ divided_5 ∷ divided_6 ∷ divided_6 ∷ divided_7 ∷ []) divided_8 ∷ owed kind.Fail 123 (divided_0 ∷ divided_1 ∷ divided_2 ∷ divided_3 ∷ divided_4 ∷ divided_5 ∷ divided_6 ∷ divided_6 ∷ divided_7 ∷ divided_9 ∷ divided_10 ∷ []) divided_11 ∷ owed kind.Assert 132 (divided_0 ∷ divided_1 ∷ divided_2 ∷ divided_3 ∷ divided_4 ∷ divided_5 ∷ divided_6 ∷ divided_6 ∷ divided_7 ∷ divided_12 ∷ []) divided_13 ∷ owed kind.Divisor 161 (divided_0 ∷ divided_1 ∷ divided_2 ∷ divided_3 ∷ divided_4 ∷ divided_5 ∷ divided_6 ∷ divided_6 ∷ divided_7 ∷ divided_12 ∷ divided_13 ∷ []) divided_14 ∷ owed kind.Range 161 (divided_0 ∷ divided_1 ∷ divided_2 ∷ divided_3 ∷ divided_4 ∷ divided_5 ∷ divided_6 ∷ divided_6 ∷ divided_7 ∷ divided_12 ∷ divided_13 ∷ divided_14 ∷ []) divided_15 ∷ owed kind.Range 161 (divided_0 ∷ divided_1 ∷ divided_2 ∷ divided_3 ∷ divided_4 ∷ divided_5 ∷ divided_6 ∷ divided_6 ∷ divided_7 ∷ divided_12 ∷ divided_13 ∷ divided_14 ∷ divided_15 ∷ []) divided_16 ∷ owed kind.Divisor 169 (divided_0 ∷ divided_1 ∷ divided_2 ∷ divided_3 ∷ divided_4 ∷ divided_5 ∷ divided_6 ∷ divided_6 ∷ divided_7 ∷ divided_12 ∷ divided_13 ∷ divided_14 ∷ divided_15 ∷ divided_16 ∷ []) divided_14 ∷ owed kind.Range 165 (divided_0 ∷ divided_1 ∷ divided_2 ∷ divided_3 ∷ divided_4 ∷ divided_5 ∷ divided_6 ∷ divided_6 ∷ divided_7 ∷ divided_12 ∷ divided_13 ∷ divided_14 ∷ divided_15 ∷ divided_16 ∷ divided_14 ∷ []) divided_17 ∷ owed kind.Range 165 (divided_0 ∷ divided_1 ∷ divided_2 ∷ divided_3 ∷ divided_4 ∷ divided_5 ∷ divided_6 ∷ divided_6 ∷ divided_7 ∷ divided_12 ∷ divided_13 ∷ divided_14 ∷ divided_15 ∷ divided_16 ∷ divided_14 ∷ divided_17 ∷ []) divided_18 ∷ [])
 
 -- function lazy(int n) -> (int r)
 -- requires 0 <= n && n < 100
