@@ -47,6 +47,7 @@ routines_do = record {
   a_call = refl;
   a_call_moves = refl;
   an_argument_too_few = refl;
+  an_argument_too_many = refl;
   no_such_routine = refl;
   text = refl;
   no_text = refl;

@@ -86,6 +86,7 @@ pub record RoutinesDo : Type 0 where
   pub a_call : on_two (Call 3 1 (0 ∷ 1 ∷ []) ∷ Return 3 ∷ []) three three ≡ Ended (Whole (pos 6)) []
   pub a_call_moves : on_two (Call 3 1 (0 ∷ 1 ∷ []) ∷ Return 0 ∷ []) three three ≡ Stuck
   pub an_argument_too_few : on_one (Call 3 1 (0 ∷ []) ∷ Return 3 ∷ []) three ≡ Stuck
+  pub an_argument_too_many : on_two (Share 2 0 ∷ Call 3 1 (0 ∷ 1 ∷ 2 ∷ []) ∷ Return 3 ∷ []) three three ≡ Stuck
   pub no_such_routine : on_two (Call 3 2 (0 ∷ 1 ∷ []) ∷ Return 3 ∷ []) three three ≡ Stuck
   pub text : on_one (Print 0 ∷ Return 0 ∷ []) (Array (item (Whole (pos 104)) (item (Whole (pos 105)) no_items))) ≡ Ended (Array (item (Whole (pos 104)) (item (Whole (pos 105)) no_items))) (104 ∷ 105 ∷ [])
   pub no_text : on_one (Print 0 ∷ Return 0 ∷ []) (Array (item (Whole (pos 128)) no_items)) ≡ Stuck
