@@ -4,7 +4,6 @@
 //! and `@` take a variable, for `@` an index, and a value; `!` asserts, `r` returns, `k` breaks, `n`
 //! continues, `s` skips, `f` fails. `{` opens a block; `?` closes two blocks behind a test, `w` one
 //! behind a test, and `v` one behind an invariant and a test. The function stands at 3.
-use sqlite_items::{Boxed, Items};
 use std::alloc::{AllocError, Global};
 use std::mem::replace;
 use std::test::Fail;
@@ -14,6 +13,7 @@ use wy_core::{
     TyKind,
 };
 use wy_data::Name;
+use wy_items::{Boxed, Items};
 
 #[test]
 fn uses(rt: HostRuntime) {

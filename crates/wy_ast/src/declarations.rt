@@ -2,8 +2,8 @@
 use crate::expressions::Expr;
 use crate::statements::Stmt;
 use crate::types::Ty;
-use sqlite_items::Items;
 use wy_data::Name;
+use wy_items::Items;
 
 /// A source file.
 #[derive(Drop)]

@@ -1,7 +1,7 @@
 //! Expressions as they are written.
 use crate::types::Ty;
-use sqlite_items::{Boxed, Items};
 use wy_data::{Bytes, Name};
+use wy_items::{Boxed, Items};
 
 /// The operator of two operands.
 #[derive(Clone, Copy, PartialEq, Eq)]

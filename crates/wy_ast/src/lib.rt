@@ -2,8 +2,8 @@
 //!
 //! `types`, `expressions`, `statements` and `declarations` have the nodes, each file those of one
 //! class of the grammar, and `copies` makes a tree once more. Every node has the place where it
-//! stands, a byte offset in its source. The parts of a node are lists (`sqlite_items::Items`) and
-//! boxes (`sqlite_items::Boxed`), which a clause sees as what they hold, so `≡` between two trees
+//! stands, a byte offset in its source. The parts of a node are lists (`wy_items::Items`) and
+//! boxes (`wy_items::Boxed`), which a clause sees as what they hold, so `≡` between two trees
 //! says that they are equal, places included. A definition by clauses goes over the plain data of
 //! `specs/SurfaceTree`, to which `specs/SurfaceSeen` leads.
 //!

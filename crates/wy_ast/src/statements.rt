@@ -1,8 +1,8 @@
 //! Statements as they are written.
 use crate::expressions::Expr;
 use crate::types::Ty;
-use sqlite_items::Items;
 use wy_data::Name;
+use wy_items::Items;
 
 /// A statement, with the byte offset of its first token.
 #[cycle(stmt)]

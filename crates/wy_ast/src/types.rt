@@ -1,6 +1,6 @@
 //! Types as they are written.
-use sqlite_items::{Boxed, Items};
 use wy_data::Name;
+use wy_items::{Boxed, Items};
 
 /// A type, with the byte offset where it stands.
 #[cycle(ty)]

@@ -3,10 +3,10 @@ ghost use Rattle.std.specs.Prelude.{◌≡◌, IfOk};
 ghost use Rattle.wy_core.specs.CoreSeen.{seen_expr, seen_exprs, seen_fields, seen_ty};
 ghost use Rattle.wy_core.specs.CoreTree as tree;
 
-use sqlite_items::{Boxed, Items};
 use std::alloc::{AllocError, Global};
 use wy_core::{Expr, ExprKind, Op, Ty};
 use wy_data::Name;
+use wy_items::{Boxed, Items};
 
 /// `null`
 pub fn null(at: u32) -> Expr

@@ -8,10 +8,10 @@ use crate::expressions::{
     binary, binary_of, call, denied, field, index, int, is, len, list, neg, null, quant, record,
     repeat, truth, var,
 };
-use sqlite_items::{Boxed, Items};
 use std::alloc::{AllocError, Global};
 use wy_core::{Expr, ExprKind, Op};
 use wy_data::Name;
+use wy_items::{Boxed, Items};
 
 /// The clause once more, all its nodes at the place of the use: each parameter is its argument, a copy
 /// of it with its own places, and the other variables have new numbers, from `base` on. A variable that

@@ -3,9 +3,9 @@ ghost use Rattle.std.specs.Prelude.{◌≡◌, map};
 ghost use Rattle.wy_core.specs.CoreSeen.{seen_expr, seen_exprs, seen_ty, seen_stmt, seen_block, seen_step, seen_option};
 ghost use Rattle.wy_core.specs.CoreTree as tree;
 
-use sqlite_items::Items;
 use wy_core::{Expr, Step, StepKind, Stmt, StmtKind, Ty};
 use wy_data::Name;
+use wy_items::Items;
 
 /// A declaration of a variable.
 pub fn declare(at: u32, ty: Ty, variable: u32, value: Option<Expr>) -> Stmt

@@ -4,10 +4,10 @@ ghost use Rattle.wy_core.specs.CoreSeen.{seen_ty, place_of_ty};
 ghost use Rattle.wy_core.specs.Types as tree;
 ghost use Rattle.wy_build.specs.SeenFields.{seen_field_tys};
 
-use sqlite_items::{Boxed, Items};
 use std::alloc::{AllocError, Global};
 use wy_core::{Ty, TyKind};
 use wy_data::Name;
+use wy_items::{Boxed, Items};
 
 /// `null`
 pub fn null_ty(at: u32) -> Ty

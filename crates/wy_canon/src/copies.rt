@@ -1,9 +1,9 @@
 //! Copies of conjuncts of numbers.
 ghost use Rattle.std.specs.Prelude.{◌≡◌, IfOk};
 
-use sqlite_items::Items;
 use std::alloc::{AllocError, Global};
 use wy_data::Name;
+use wy_items::Items;
 use wy_types::{Atom, Conjunct, Part, Signed};
 
 /// The same once more.

@@ -4,8 +4,8 @@ ghost use Rattle.wy_types.specs.Conjuncts.{same_term};
 ghost use Rattle.wy_types.specs.Same as same;
 
 use crate::copies::{copy_atom, copy_conjunct, copy_signed};
-use sqlite_items::Items;
 use std::alloc::{AllocError, Global};
+use wy_items::Items;
 use wy_types::{Atom, Conjunct, Signed, has_atom, has_conjunct, has_signed};
 
 /// The terms, and this one if it isn't there.

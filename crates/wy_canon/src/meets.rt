@@ -8,9 +8,9 @@ ghost use Rattle.wy_types.specs.Merge as merging;
 use crate::copies::{copy_atom, copy_atoms, copy_fields, copy_part, copy_terms};
 use crate::fault::TypeFault;
 use crate::lists::{united, united_atoms, united_conjuncts, with_conjunct};
-use sqlite_items::Items;
 use std::alloc::{AllocError, Global};
 use wy_data::Name;
+use wy_items::Items;
 use wy_types::{Atom, Conjunct, Part};
 
 /// How many pairs a merge may have, and how many conjuncts a question may reach.

@@ -8,9 +8,9 @@ use crate::fault::TypeFault;
 use crate::lists::with_signed;
 use crate::meets::{either, merge};
 use crate::outs::{all_or_nothing, atom_or_out, normal_or_out, nothing_or_all};
-use sqlite_items::Items;
 use std::alloc::{AllocError, Global};
 use wy_data::Name;
+use wy_items::Items;
 use wy_types::{Atom, Conjunct, Definition, Node, Part, Signed, Table};
 
 /// The node of a term; `void` for a number that has none.

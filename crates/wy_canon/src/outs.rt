@@ -8,8 +8,8 @@ use crate::copies::copy_atom;
 use crate::fault::TypeFault;
 use crate::lists::{united_conjuncts, with_conjunct};
 use crate::meets::merge;
-use sqlite_items::Items;
 use std::alloc::{AllocError, Global};
+use wy_items::Items;
 use wy_types::{Atom, Conjunct, Part};
 
 fn all_arrays(alloc: Global) -> Atom<u32>

@@ -5,10 +5,10 @@ ghost use Rattle.wy_types.specs.Reading as reading;
 ghost use Rattle.wy_types.specs.SeenTypes.{seen_kind, seen_fields, seen_conjuncts, seen_atoms, seen_parts};
 
 use crate::normal_forms::node_of;
-use sqlite_items::{Boxed, Items};
 use std::alloc::{AllocError, Global};
 use wy_core as tree;
 use wy_data::Name;
+use wy_items::{Boxed, Items};
 use wy_types::{Atom, Conjunct, Node, Part, Signed, Table};
 
 /// The type for which the number stands, no deeper than `depth`, each node at `at`.

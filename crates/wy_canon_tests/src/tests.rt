@@ -1,7 +1,7 @@
 //! Normal forms in a table: a letter for each conjunct's kind, and how many negatives it has.
-use sqlite_items::Items;
 use std::alloc::Global;
 use wy_canon::{TypeFault, dnf_part};
+use wy_items::Items;
 use wy_types::{Atom, Conjunct, Definition, Node, Numbering, Signed, Table};
 
 // Terms by number; the last are those of the rows. The name 0 is `int` with a clause.

@@ -10,9 +10,9 @@ ghost use Rattle.wy_typing.specs.Joins as join;
 
 use crate::made::norm_at;
 use crate::terms::union_of;
-use sqlite_items::{Items, at as item_at};
 use std::alloc::Global;
 use wy_environment::{Environment, Shared};
+use wy_items::{Items, at as item_at};
 use wy_same::same_ty;
 use wy_types::{Names, Question};
 use wy_typing::FlowFault;

@@ -4,11 +4,11 @@ ghost use Rattle.wy_core.specs.CoreSeen.{field_tys_of, seen_ty};
 ghost use Rattle.wy_core.specs.Types as types;
 ghost use Rattle.wy_types.specs.SeenTypes.{seen_kind};
 
-use sqlite_items::{Boxed, Items};
 use std::alloc::{AllocError, Global};
 use wy_core::{Ty, TyKind};
 use wy_data::Name;
 use wy_environment::Shared;
+use wy_items::{Boxed, Items};
 
 /// A type without parts, at this place.
 pub fn plain(at: u32, kind: TyKind) -> Ty

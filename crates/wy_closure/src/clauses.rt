@@ -1,5 +1,5 @@
 //! Clauses.
-use sqlite_items::Items;
+use wy_items::Items;
 
 /// The head is in the set where of each list of the body some number is.
 #[derive(Drop)]

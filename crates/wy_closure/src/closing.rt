@@ -7,8 +7,8 @@ ghost use Rattle.wy_closure.specs.Work.{below};
 use crate::clauses::Clause;
 use crate::index::index_of;
 use crate::marks::{each_marked, mark_at, no_marks};
-use sqlite_items::{Items, at};
 use std::alloc::{AllocError, Global};
+use wy_items::{Items, at};
 
 // The numbers below this one.
 fn numbers_below(alloc: Global, count: usize) -> Result<Items<usize>, AllocError>

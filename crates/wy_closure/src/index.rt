@@ -4,8 +4,8 @@ ghost use Rattle.wy_closure.specs.Index as index;
 ghost use Rattle.wy_closure.specs.Index.{IsIndex};
 
 use crate::clauses::Clause;
-use sqlite_items::Items;
 use std::alloc::{AllocError, Global};
+use wy_items::Items;
 
 // So many lists, all empty.
 fn no_lists(alloc: Global, count: usize) -> Result<Vec<Items<usize>>, AllocError>

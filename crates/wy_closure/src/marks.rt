@@ -2,8 +2,8 @@
 ghost use Rattle.std.specs.Prelude.{◌≡◌, ℕ, false, length, IfOk};
 ghost use Rattle.wy_closure.specs.Marks as marking;
 
-use sqlite_items::Items;
 use std::alloc::{AllocError, Global};
+use wy_items::Items;
 
 /// Whether the number has a mark.
 pub fn mark_at(marks: &[bool], number: usize) -> bool

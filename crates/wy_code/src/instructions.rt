@@ -1,5 +1,5 @@
 //! The instructions. ORDER Instr.
-use sqlite_items::Items;
+use wy_items::Items;
 
 /// What a `Const` puts into a register.
 #[derive(Clone, Copy, Debug, PartialEq, Eq)]

@@ -1,6 +1,6 @@
 //! The code of a program.
 use crate::instructions::Instr;
-use sqlite_items::Items;
+use wy_items::Items;
 use wy_value::Shapes;
 
 /// The code of a program. The function or method with the number k has the routine k, and the

@@ -1,8 +1,8 @@
 //! Instructions and their text.
-use sqlite_items::Items;
 use std::alloc::{AllocError, Global};
 use std::test::Fail;
 use wy_code::{Arithmetic, Code, Comparison, Instr, Kind, Routine, Scalar, Slot, show_code};
+use wy_items::Items;
 use wy_value::Shapes;
 
 // Registers by their numbers.

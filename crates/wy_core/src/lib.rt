@@ -7,8 +7,8 @@
 //!
 //! `types`, `expressions`, `statements` and `declarations` have the nodes, each file those of one
 //! class of the grammar, and `copies` makes a tree once more. `types` also has the normal forms of
-//! types, which no source spells. The parts of a node are lists (`sqlite_items::Items`) and boxes
-//! (`sqlite_items::Boxed`), which a clause sees as what they hold, so `≡` between two trees says
+//! types, which no source spells. The parts of a node are lists (`wy_items::Items`) and boxes
+//! (`wy_items::Boxed`), which a clause sees as what they hold, so `≡` between two trees says
 //! that they are equal, places included. A definition by clauses goes over the plain data of
 //! `specs/Types` and `specs/CoreTree`, to which `specs/CoreSeen` leads.
 #![tactic(auto)]

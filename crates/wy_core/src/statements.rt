@@ -1,8 +1,8 @@
 //! Statements of the core.
 use crate::expressions::Expr;
 use crate::types::Ty;
-use sqlite_items::Items;
 use wy_data::Name;
+use wy_items::Items;
 
 /// A statement, with the byte offset of its first token in the source. A statement that lowering
 /// made has the place of the one for which it was made.

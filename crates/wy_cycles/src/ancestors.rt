@@ -4,9 +4,9 @@ ghost use Rattle.wy_cycles.specs.Ancestors as spec;
 ghost use Rattle.wy_cycles.specs.Cycles as cycles;
 
 use crate::graph::Arrow;
-use sqlite_items::Items;
 use std::alloc::{AllocError, Global};
 use wy_closure::{Clause, close};
+use wy_items::Items;
 
 /// The greatest node at which an arrow begins or ends, or 0.
 fn last_node(arrows: &[Arrow]) -> u32

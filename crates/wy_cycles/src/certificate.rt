@@ -3,7 +3,7 @@ ghost use Rattle.std.specs.Prelude.{◌≡◌, ◌<◌, ℕ, true, IsTrue, slice
 ghost use Rattle.wy_cycles.specs.Certificates as spec;
 
 use crate::graph::Arrow;
-use sqlite_items::Items;
+use wy_items::Items;
 
 /// How each node hangs on another one of its label: by which arrow, and at which rank. Ranks fall on the
 /// way to the label's root.

@@ -1,7 +1,7 @@
 //! The arrows of a graph, by the nodes at which they begin.
 
-use sqlite_items::Items;
 use std::alloc::{AllocError, Global};
+use wy_items::Items;
 
 /// An arrow from one node to another.
 #[derive(Clone, Copy, Debug, PartialEq, Eq)]

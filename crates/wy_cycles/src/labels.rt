@@ -6,8 +6,8 @@ use crate::ancestors::{labels_by_ancestors, node_count};
 use crate::certificate::{Certificate, Hangs, holds};
 use crate::graph::{Arrow, adjacency_of};
 use crate::walks::{Forest, walk};
-use sqlite_items::Items;
 use std::alloc::{AllocError, Global};
+use wy_items::Items;
 
 /// The label of each node.
 #[derive(Drop)]

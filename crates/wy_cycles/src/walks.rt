@@ -1,7 +1,7 @@
 //! A walk in depth over a graph.
 use crate::graph::{Adjacency, Arrow, at, ends, filled, set};
-use sqlite_items::Items;
 use std::alloc::{AllocError, Global};
+use wy_items::Items;
 
 /// What a walk found: the nodes in the order in which they were left, the nodes at which it began anew, and
 /// for each node the number of its tree, the arrow by which it was reached, and when.

@@ -1,7 +1,7 @@
 //! Small graphs: cycles of several nodes, of one, and none.
-use sqlite_items::Items;
 use std::alloc::{AllocError, Global};
 use wy_cycles::{Arrow, components};
+use wy_items::Items;
 
 // The arrows among five nodes, and whether each lies on a cycle.
 const ROWS: [(u32, u32, bool); 7] = [

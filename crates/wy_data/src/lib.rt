@@ -3,7 +3,7 @@
 //! A clause sees a `String` or a `Vec` with its allocator and its capacity, so two that spell the
 //! same are not equal there. `name` has the names of variables, fields and declarations, and `bytes`
 //! the texts of literals: a clause sees both as the list of their bytes, and in a tree of them, of
-//! lists (`sqlite_items::Items`) and of boxes (`sqlite_items::Boxed`), `≡` says what it means.
+//! lists (`wy_items::Items`) and of boxes (`wy_items::Boxed`), `≡` says what it means.
 #![tactic(auto)]
 
 mod bytes;

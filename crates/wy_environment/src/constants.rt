@@ -5,9 +5,9 @@ ghost use Rattle.wy_core.specs.Types.{NoAtoms, NormalTy};
 ghost use Rattle.wy_environment.specs.Variables as spec;
 
 use crate::shared::Shared;
-use sqlite_items::Items;
 use std::alloc::{AllocError, Global};
 use wy_core::{Atom, Conjunct, Ty, TyKind};
+use wy_items::Items;
 
 fn normal(at: u32, conjuncts: Items<Conjunct>) -> Ty
     ensures value { seen_ty result ≡ NormalTy (conjuncts_of (map seen_conjunct conjuncts)) }

@@ -7,8 +7,8 @@ ghost use Rattle.wy_environment.specs.Variables as spec;
 use crate::constants::void_type;
 use crate::shared::Shared;
 use crate::slots::{copy_slots, put_slot, slot_at};
-use sqlite_items::Items;
 use std::alloc::{AllocError, Global};
+use wy_items::Items;
 
 /// The types of the variables at a point of a program, by their numbers. Where no path gets to the
 /// point, each variable is `void`.

@@ -5,8 +5,8 @@ ghost use Rattle.wy_environment.specs.Slots as spec;
 ghost use Rattle.wy_environment.specs.Seen.{seen_slot, seen_slots};
 
 use crate::shared::Shared;
-use sqlite_items::{Items, at};
 use std::alloc::{AllocError, Global};
+use wy_items::{Items, at};
 
 /// The type of the variable with this number, if it has one.
 pub fn slot_at(slots: &[Option<Shared>], variable: u32) -> Result<Option<Shared>, AllocError>

@@ -3,8 +3,8 @@ ghost use Rattle.std.specs.Prelude.{◌≡◌, []};
 ghost use Rattle.wy_expand.specs.Measures as measures;
 
 use crate::numbers::{plus, times};
-use sqlite_items::Items;
 use std::alloc::Global;
+use wy_items::Items;
 use wy_scope::{Cause, Fault, noted, noted_where};
 
 /// How a property's clauses use a parameter.

@@ -7,9 +7,9 @@ ghost use Rattle.wy_expand.specs.Summaries as spec;
 use crate::expressions::in_expr;
 use crate::measure::{Expansion, Measure, Summary, Use, counted, deeper, inside, nothing, root};
 use crate::numbers::many;
-use sqlite_items::{Items, at};
 use std::alloc::{AllocError, Global};
 use wy_ast::{Decl, Expr, Param, Property};
+use wy_items::{Items, at};
 use wy_scope::{Entry, Table};
 
 /// What each declaration expands to, by its index. The order has the indices of the properties whose

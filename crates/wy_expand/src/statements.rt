@@ -8,9 +8,9 @@ ghost use Rattle.wy_expand.specs.Wholes as wholes;
 use crate::expressions::{in_expr, in_label};
 use crate::measure::{Expansion, Measure, counted, deeper, inside, limited, nothing, root};
 use crate::numbers::many;
-use sqlite_items::Items;
 use std::alloc::Global;
 use wy_ast::{Case, Expr, Step, StepKind, Stmt, StmtKind};
+use wy_items::Items;
 use wy_scope::{Fault, Table, place_of_expr};
 
 /// The faults of a whole expression, with those found before: those of uses in it, and `TooLarge` at

@@ -4,9 +4,9 @@ ghost use Rattle.wy_core.specs.CoreSeen.{seen_block, seen_stmt};
 ghost use Rattle.wy_typing.specs.Assigned as spec;
 ghost use Rattle.wy_typing.specs.Narrowing as rule;
 
-use sqlite_items::Items;
 use std::alloc::{AllocError, Global};
 use wy_core::{Stmt, StmtKind};
+use wy_items::Items;
 
 fn is_among(variables: &[u32], variable: u32) -> bool
     ensures value { result ≡ rule.is_among variables.now variable }

@@ -13,12 +13,12 @@ ghost use Rattle.wy_typing.specs.Loops as spec;
 use crate::assigned::assigned_variables;
 use crate::branches::{clauses, sides, tested};
 use crate::state::{State, declared_type};
-use sqlite_items::Items;
 use std::alloc::Global;
 use wy_checks::{joined, norm_at};
 use wy_core::{Expr, Stmt};
 use wy_environment::{Environment, Shared};
 use wy_flow_expressions::{Program, Walk};
+use wy_items::Items;
 use wy_typing::FlowFault;
 
 // The variable has its declared type.

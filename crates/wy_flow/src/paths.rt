@@ -12,12 +12,12 @@ ghost use Rattle.wy_core.specs.Types.{ArrayTy, UnionTy};
 ghost use Rattle.wy_flow.specs.Paths.{seen_reached};
 ghost use Rattle.wy_typing.specs.Paths as spec;
 
-use sqlite_items::{Boxed, Items};
 use std::alloc::{AllocError, Global};
 use wy_checks::{field_at, with_field_at};
 use wy_core::{Step, StepKind, Ty, TyKind};
 use wy_environment::{Environment, Shared};
 use wy_flow_expressions::{Program, Walk, item_of, typed};
+use wy_items::{Boxed, Items};
 use wy_typing::FlowFault;
 
 // What the step leads to in values of the type.

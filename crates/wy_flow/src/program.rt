@@ -17,12 +17,12 @@ ghost use Rattle.wy_typing.specs.declared.fault.FlowFault.TheVariants.{NoMemory}
 use crate::branches::clauses;
 use crate::state::State;
 use crate::statements::block_typed;
-use sqlite_items::Items;
 use std::alloc::{AllocError, Global};
 use wy_checks::norm_at;
 use wy_core::{Alias, Core, Decl, Output, Param, Routine, Ty};
 use wy_environment::{Environment, Shared, put_slot};
 use wy_flow_expressions::{Program, Walk, result_of, signatures_of};
+use wy_items::Items;
 use wy_types::Names;
 use wy_typing::{FlowFault, Typed};
 

@@ -6,10 +6,10 @@ ghost use Rattle.wy_environment.specs.Slots.{slot_at as slot};
 ghost use Rattle.wy_flow.specs.States.{seen_state};
 ghost use Rattle.wy_typing.specs.States as spec;
 
-use sqlite_items::Items;
 use std::alloc::{AllocError, Global};
 use wy_core::Ty;
 use wy_environment::{Environment, Shared, put_slot, slot_at};
+use wy_items::Items;
 
 /// The types of variables at a point, the declared types of those declared so far, and the types of
 /// variables at each `break` so far out of the innermost loop.

@@ -11,11 +11,11 @@ ghost use Rattle.wy_flow_expressions.specs.Seen.{seen_signature};
 
 use crate::signatures::Signature;
 use crate::walk::{Found, Program, Walk, of_type};
-use sqlite_items::{Items, at as item_at};
 use std::alloc::Global;
 use wy_checks::{is_within, norm_at};
 use wy_core::Ty;
 use wy_environment::{Shared, void_type};
+use wy_items::{Items, at as item_at};
 use wy_types::{Names, Question};
 use wy_typing::FlowFault;
 

@@ -16,11 +16,11 @@ use crate::narrowing::{behind, is};
 use crate::operators::{binary, len, neg, not, right_side};
 use crate::parts::{field, index, list, quant, record, repeat};
 use crate::walk::{Found, Program, Walk, number, of_type, truth};
-use sqlite_items::Items;
 use std::alloc::{AllocError, Global};
 use wy_core::{Expr, ExprKind};
 use wy_data::Name;
 use wy_environment::{Environment, Shared, int_type, null_type};
+use wy_items::Items;
 use wy_typing::FlowFault;
 
 /// The type of an expression where these changes lie on the types of variables, and those that it

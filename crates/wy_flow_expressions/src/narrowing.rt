@@ -15,11 +15,11 @@ ghost use Rattle.wy_flow_expressions.specs.Tested.{tested};
 ghost use Rattle.wy_typing.specs.Narrowing as rule;
 
 use crate::walk::{Found, Program, Walk, truth};
-use sqlite_items::Items;
 use std::alloc::{AllocError, Global};
 use wy_checks::{inter_of, joined_type, norm_at, not_of};
 use wy_core::{Expr, ExprKind, Ty};
 use wy_environment::{Environment, Shared};
+use wy_items::Items;
 use wy_typing::FlowFault;
 
 fn copy_change(change: &(u32, Shared)) -> Result<(u32, Shared), AllocError>

@@ -11,11 +11,11 @@ ghost use Rattle.wy_typing.specs.Operators as rule;
 
 use crate::narrowing::{behind, either};
 use crate::walk::{Found, Program, Walk, number, truth};
-use sqlite_items::Items;
 use std::alloc::{AllocError, Global};
 use wy_checks::{is_array, is_bool, is_int};
 use wy_core::Op;
 use wy_environment::{Environment, Shared};
+use wy_items::Items;
 use wy_typing::FlowFault;
 
 /// `- x`

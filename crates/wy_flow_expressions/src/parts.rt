@@ -10,7 +10,6 @@ ghost use Rattle.wy_core.specs.Types.{UnionTy};
 ghost use Rattle.wy_typing.specs.Parts as rule;
 
 use crate::walk::{Found, Program, Walk, of_type, truth};
-use sqlite_items::{Boxed, Items};
 use std::alloc::{AllocError, Global};
 use wy_checks::{
     array_of, element_at, field_at, is_array, is_bool, is_int, norm_at, plain, record_of,
@@ -18,6 +17,7 @@ use wy_checks::{
 use wy_core::{Ty, TyKind};
 use wy_data::Name;
 use wy_environment::Shared;
+use wy_items::{Boxed, Items};
 use wy_typing::FlowFault;
 
 // The union of the types, from left to right; `void` where there is none.

@@ -5,10 +5,10 @@ ghost use Rattle.wy_core.specs.CoreTree.{routines_of};
 ghost use Rattle.wy_flow_expressions.specs.Seen.{seen_result, seen_signature, seen_types};
 ghost use Rattle.wy_typing.specs.Programs as spec;
 
-use sqlite_items::Items;
 use std::alloc::{AllocError, Global};
 use wy_checks::{array_of, plain};
 use wy_core::{Core, Decl, Output, Param, Routine, Ty, TyKind};
+use wy_items::Items;
 
 /// The types of the parameters of a function or method, and that of its result where it has one.
 #[derive(Drop)]

@@ -7,9 +7,9 @@ ghost use Rattle.wy_typing.specs.Leaves as rule;
 ghost use Rattle.wy_typing.specs.Outcomes.{Meets};
 
 use crate::signatures::Signature;
-use sqlite_items::Items;
 use std::alloc::Global;
 use wy_environment::{Shared, bool_type, int_type};
+use wy_items::Items;
 use wy_types::{Names, Question};
 use wy_typing::FlowFault;
 

@@ -3,10 +3,10 @@ ghost use Rattle.std.specs.Prelude.{◌≡◌, IfOk};
 ghost use Rattle.wy_grammar.specs.Trees as trees;
 
 use crate::measured::{Measured, both, boxed, expr_node};
-use sqlite_items::{Boxed, Items};
 use std::alloc::{AllocError, Global};
 use wy_ast::{Expr, ExprKind, Op, Ty};
 use wy_data::Name;
+use wy_items::{Boxed, Items};
 
 /// A field's name and value, or a bound name and the ends of its range, as many as were read.
 pub type Fields = Measured<Items<(Name, Expr)>>;

@@ -19,10 +19,10 @@ use crate::sort::{
     BAR, CLOSE_BRACE, CLOSE_BRACKET, CLOSE_PAREN, COLON, COMMA, Class, DOT, IMPLIES, IN, MINUS,
     NAME, NOT, OPEN_BRACE, OPEN_BRACKET, OPEN_PAREN, RANGE, SEMICOLON,
 };
-use sqlite_items::Items;
 use std::alloc::Global;
 use wy_ast::{Expr, ExprKind, Op};
 use wy_data::Name;
+use wy_items::Items;
 use wy_lex::Token;
 use wy_reading::Stop;
 

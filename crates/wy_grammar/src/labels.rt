@@ -6,9 +6,9 @@ ghost use Rattle.wy_grammar.specs.LabelReading as spec;
 use crate::cursor::{Read, mark, next_is};
 use crate::literals::{glued, literal_kind, next_is_glued, opposed};
 use crate::sort::{COMMA, Class, MINUS, has, sort};
-use sqlite_items::Items;
 use std::alloc::Global;
 use wy_ast::{Expr, ExprKind};
+use wy_items::Items;
 use wy_lex::Token;
 use wy_reading::Stop;
 

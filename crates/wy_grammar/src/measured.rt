@@ -3,9 +3,9 @@
 ghost use Rattle.std.specs.Prelude.{◌≡◌, IfOk};
 ghost use Rattle.wy_grammar.specs.Trees as trees;
 
-use sqlite_items::{Boxed, Items};
 use std::alloc::{AllocError, Global};
 use wy_ast::{Expr, ExprKind, Ty, TyKind};
+use wy_items::{Boxed, Items};
 
 /// How high an expression or a type may be. A node without parts has the height 1.
 pub const HIGHEST: u32 = 100;

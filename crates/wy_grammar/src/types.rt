@@ -14,10 +14,10 @@ use crate::sort::{
     AMPERSAND, BAR, CLOSE_BRACE, CLOSE_BRACKET, CLOSE_PAREN, COMMA, Class, NAME, NOT, OPEN_BRACE,
     OPEN_BRACKET, OPEN_PAREN, has, sort,
 };
-use sqlite_items::{Boxed, Items};
 use std::alloc::{AllocError, Global};
 use wy_ast::{Ty, TyKind};
 use wy_data::Name;
+use wy_items::{Boxed, Items};
 use wy_lex::{Token, TokenKind};
 use wy_reading::Stop;
 

@@ -1,5 +1,4 @@
 //! What is read, by the place of its root, its height and the tokens that are left, and what is refused.
-use sqlite_items::Items;
 use std::alloc::{AllocError, Global};
 use std::process::Abort;
 use std::test::Fail;
@@ -11,6 +10,7 @@ use wy_grammar::fault::Kind;
 use wy_grammar::labels::labels;
 use wy_grammar::measured::Measured;
 use wy_grammar::types::{named_node, type_rest, type_tail, type_term};
+use wy_items::Items;
 use wy_lex::{Token, tokens};
 use wy_reading::Stop;
 

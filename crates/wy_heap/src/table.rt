@@ -6,9 +6,9 @@ ghost use Rattle.wy_value.specs.Values.{names_of, Rise, AreFields};
 ghost use Rattle.wy_value.specs.Shapes.{IsShapes, named};
 ghost use Rattle.wy_heap.specs.Extending.{Extends, IsAbsent, AreNamed, HasNames};
 
-use sqlite_items::Items;
 use std::alloc::{AllocError, Global};
 use wy_data::Name;
+use wy_items::Items;
 use wy_value::{Shapes, Value};
 
 // the number of the shape with the names of these fields, which the table gets where it lacks it

@@ -6,9 +6,9 @@ use crate::blocks::Blocks;
 use crate::symbol::Character;
 use crate::token::{Token, TokenKind};
 use crate::words::{continues, depth_after, is_colon};
-use sqlite_items::Items;
 use std::alloc::{AllocError, Global};
 use wy_data::Bytes;
+use wy_items::Items;
 
 /// How far the line has come that tokens stand in.
 #[derive(Clone, Copy, Debug, PartialEq, Eq)]

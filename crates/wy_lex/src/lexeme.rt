@@ -10,9 +10,9 @@ use crate::fault::Kind;
 use crate::symbol::{Character, Symbol};
 use crate::token::TokenKind;
 use crate::words::{double, escaped, second, single, third};
-use sqlite_items::Items;
 use std::alloc::{AllocError, Global};
 use wy_data::Bytes;
+use wy_items::Items;
 use wy_reading::{Stop, next_is, one, word};
 
 /// A token that was read, and what would lengthen it.

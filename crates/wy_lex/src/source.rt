@@ -15,9 +15,9 @@ use crate::lexeme::{place, spelled};
 use crate::pieces::{blanks, pieces};
 use crate::symbol::Symbol;
 use crate::token::Token;
-use sqlite_items::Items;
 use std::alloc::{AllocError, Global};
 use wy_data::Bytes;
+use wy_items::Items;
 use wy_reading::Stop;
 
 /// The tokens of a source, the last of which is `End`. Bytes that aren't UTF-8 are refused first, and of

@@ -9,9 +9,9 @@ use crate::sets::Variables;
 use crate::statements::walk_block;
 use crate::uses::{mark_all, skip_clauses};
 use crate::walk::{Marks, Walk, nothing};
-use sqlite_items::Items;
 use std::alloc::{AllocError, Global};
 use wy_core::{Alias, Core, Decl, Routine};
+use wy_items::Items;
 
 /// The marks of a program's uses.
 #[derive(Drop)]

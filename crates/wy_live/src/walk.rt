@@ -3,9 +3,9 @@ ghost use Rattle.std.specs.Prelude.{◌≡◌, [], ◌∷◌, OnOk};
 ghost use Rattle.wy_live.specs.Walks as spec;
 
 use crate::sets::Variables;
-use sqlite_items::Items;
 use std::alloc::{AllocError, Global};
 use std::marker::Model;
+use wy_items::Items;
 
 /// The marks of the uses behind a point, the first one last.
 #[derive(Drop)]

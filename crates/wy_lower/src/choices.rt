@@ -4,10 +4,10 @@ ghost use Rattle.wy_core.specs.CoreSeen.{seen_expr, seen_exprs, seen_stmt};
 ghost use Rattle.wy_lower.specs.StmtsLowered as lowered;
 ghost use Rattle.wy_lower.specs.SeenPairs.{seen_arm};
 
-use sqlite_items::Items;
 use std::alloc::{AllocError, Global};
 use wy_build::{any_ty, binary, declare, if_stmt, truth, var};
 use wy_core::{Expr, Op, Stmt};
+use wy_items::Items;
 
 /// A case: its test and its block.
 #[derive(Drop)]

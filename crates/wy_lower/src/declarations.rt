@@ -13,11 +13,11 @@ use crate::numbers::declared;
 use crate::statements::in_block;
 use crate::types::in_ty;
 use crate::uses::Template;
-use sqlite_items::Items;
 use std::alloc::{AllocError, Global};
 use wy_ast as surface;
 use wy_core::{Alias, Core, Decl, Expr, Output, Param, Routine};
 use wy_data::Name;
+use wy_items::Items;
 use wy_scope::Table;
 
 /// The core of the declarations, whose names are bound. The scope holds the names of all of them, and is

@@ -13,7 +13,6 @@ use crate::numbers::{declared, variable_of};
 use crate::quantifiers::{Head, quantified};
 use crate::types::in_ty;
 use crate::uses::{Template, called, is_used};
-use sqlite_items::{Boxed, Items};
 use std::alloc::{AllocError, Global};
 use std::collections::BTreeMap;
 use wy_ast as surface;
@@ -22,6 +21,7 @@ use wy_build::{
 };
 use wy_core::{Expr, Op};
 use wy_data::Name;
+use wy_items::{Boxed, Items};
 use wy_scope::{Entry, Table};
 
 /// The core of an expression, its properties expanded. The scope is as before afterwards; variables

@@ -5,10 +5,10 @@ ghost use Rattle.wy_lower.specs.StmtsLowered as lowered;
 ghost use Rattle.wy_lower.specs.SeenSpans.{seen_span};
 
 use crate::choices::one;
-use sqlite_items::Items;
 use std::alloc::{AllocError, Global};
 use wy_build::{assign, binary, bool_ty, declare, int, int_ty, truth, var, while_stmt};
 use wy_core::{Expr, Op, Stmt};
+use wy_items::Items;
 
 /// `first || e`
 pub fn behind_first(alloc: Global, at: u32, first: u32, expr: Expr) -> Result<Expr, AllocError>

@@ -2,9 +2,9 @@
 ghost use Rattle.std.specs.Prelude.{◌≡◌, length, string_bytes, IfOk, OnOk};
 ghost use Rattle.wy_lower.specs.Variables as spec;
 
-use sqlite_items::Items;
 use std::alloc::{AllocError, Global};
 use wy_data::Name;
+use wy_items::Items;
 use wy_scope::{Entry, Table};
 
 /// The number of a new variable, whose name is put last. More than 2^32 - 1 of them are answered as

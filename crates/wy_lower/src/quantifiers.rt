@@ -4,10 +4,10 @@ ghost use Rattle.wy_core.specs.CoreSeen.{seen_expr};
 ghost use Rattle.wy_lower.specs.ExprsLowered as lowered;
 ghost use Rattle.wy_lower.specs.SeenPairs.{seen_head};
 
-use sqlite_items::{Boxed, Items};
 use std::alloc::{AllocError, Global};
 use wy_build::quant;
 use wy_core::Expr;
+use wy_items::{Boxed, Items};
 
 /// A range of a quantifier: its variable, its first number, and the number behind its last.
 #[derive(Drop)]

@@ -15,7 +15,6 @@ use crate::loops::{Span, behind_first, counted, repeated};
 use crate::numbers::{declared, fresh, made, routine_of, variable_of};
 use crate::types::in_ty;
 use crate::uses::Template;
-use sqlite_items::Items;
 use std::alloc::{AllocError, Global};
 use wy_ast as surface;
 use wy_build::{
@@ -24,6 +23,7 @@ use wy_build::{
 };
 use wy_core::{Expr, Step, Stmt};
 use wy_data::Name;
+use wy_items::Items;
 use wy_scope::{Entry, Table};
 
 /// The core of a block. The scope is as before afterwards; variables that it declares are put behind

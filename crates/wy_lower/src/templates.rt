@@ -8,11 +8,11 @@ ghost use Rattle.wy_lower.specs.Templates as spec;
 use crate::expressions::in_exprs;
 use crate::numbers::declared;
 use crate::uses::Template;
-use sqlite_items::{Items, at};
 use std::alloc::{AllocError, Global};
 use wy_ast::{Decl, Param, Property};
 use wy_data::Name;
 use wy_expand::{Expansion, Use};
+use wy_items::{Items, at};
 use wy_scope::Table;
 
 /// The template of each declaration, by its index. The order has the indices of the properties whose

@@ -7,7 +7,6 @@ ghost use Rattle.wy_lower.specs.TypesLowered as lowered;
 ghost use Rattle.wy_lower.specs.SeenPairs.{surface_field_tys, typed_pairs};
 
 use crate::numbers::type_of;
-use sqlite_items::Items;
 use std::alloc::{AllocError, Global};
 use std::collections::BTreeMap;
 use wy_ast as surface;
@@ -17,6 +16,7 @@ use wy_build::{
 };
 use wy_core::Ty;
 use wy_data::Name;
+use wy_items::Items;
 use wy_scope::Table;
 
 /// The type with numbers for its names and its fields rising. Linear in its size, beside the order of

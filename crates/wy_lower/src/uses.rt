@@ -4,11 +4,11 @@ ghost use Rattle.std.specs.Option.{option_copied};
 ghost use Rattle.wy_core.specs.CoreSeen.{seen_expr, seen_exprs};
 ghost use Rattle.wy_lower.specs.Uses as spec;
 
-use sqlite_items::{Items, at};
 use std::alloc::{AllocError, Global};
 use wy_build::{call, joined, null};
 use wy_core::Expr;
 use wy_data::Name;
+use wy_items::{Items, at};
 use wy_scope::Entry;
 
 /// What a use of a property is made of.

@@ -5,12 +5,12 @@ ghost use Rattle.wy_core.specs.CoreSeen.{seen_core};
 ghost use Rattle.wy_names.specs.Named as spec;
 
 use crate::name_fault::{NameFault, fault_named};
-use sqlite_items::Items;
 use std::alloc::{AllocError, Global};
 use wy_ast::{Decl, Program};
 use wy_bind::bind;
 use wy_core::Core;
 use wy_expand::{Expansion, in_decls, summaries};
+use wy_items::Items;
 use wy_lower::{core_of, templates_of};
 use wy_recursion::{noted_recursion, order_of};
 use wy_scope::{Fault, Table, declare};

@@ -15,7 +15,6 @@ ghost use Rattle.wy_grammar.specs.declared.sort.Class.TheVariants as class;
 use crate::nested::{Cases, Nested, Stmts, switch_node};
 use crate::parts::{ExprPart, expr_part};
 use crate::simple::{assert_stmt, declare_stmt, named_stmt, return_stmt, word_stmt};
-use sqlite_items::Items;
 use std::alloc::{AllocError, Global};
 use wy_ast::Stmt;
 use wy_grammar::cursor::{Read, inside, mark, next_in, next_is, too_deep};
@@ -25,6 +24,7 @@ use wy_grammar::sort::{
     ASSERT, BLOCK_IN, BLOCK_OUT, CASE, COLON, Class, DEFAULT, DO, FOR, IF, LINE_END, NAME, RETURN,
     SWITCH, WHILE,
 };
+use wy_items::Items;
 use wy_lex::Token;
 use wy_reading::Stop;
 

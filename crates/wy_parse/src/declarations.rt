@@ -10,7 +10,6 @@ use crate::blocks::block;
 use crate::nested::Stmts;
 use crate::parts::{TypePart, type_part, type_part_rest};
 use crate::simple::{where_clause, wheres};
-use sqlite_items::{Boxed, Items};
 use std::alloc::Global;
 use wy_ast::{Alias, Decl, Expr, Function, Method, Param, Property, Ty};
 use wy_data::Name;
@@ -21,6 +20,7 @@ use wy_grammar::sort::{
     ARROW, CLOSE_PAREN, COLON, COMMA, Class, ENSURES, FUNCTION, IS, LINE_END, METHOD, NAME,
     OPEN_PAREN, PROPERTY, REQUIRES, TYPE,
 };
+use wy_items::{Boxed, Items};
 use wy_lex::Token;
 
 /// How many levels there are where declarations stand, this one included: what stands in 100 pairs,

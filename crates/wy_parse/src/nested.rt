@@ -8,7 +8,6 @@ ghost use Rattle.wy_parse.specs.StmtTrees as trees;
 
 use crate::parts::{ExprPart, expr_part, sum_part};
 use crate::simple::{stmt_node, wheres};
-use sqlite_items::{Boxed, Items};
 use std::alloc::{AllocError, Global};
 use wy_ast::{Case, Expr, Stmt, StmtKind};
 use wy_data::Name;
@@ -19,6 +18,7 @@ use wy_grammar::measured::{Measured, both, pushed, some};
 use wy_grammar::sort::{
     BLOCK_OUT, CASE, COLON, DEFAULT, DO, ELSE, FOR, IF, IN, LINE_END, RANGE, WHILE,
 };
+use wy_items::{Boxed, Items};
 use wy_lex::Token;
 use wy_reading::Stop;
 

@@ -16,7 +16,6 @@ ghost use Rattle.wy_grammar.specs.declared.sort.Class.TheVariants as class;
 
 use crate::declarations::{LEVELS, declaration};
 use crate::fault::ParseFault;
-use sqlite_items::Items;
 use std::alloc::Global;
 use wy_ast::{Decl, Program};
 use wy_data::Name;
@@ -24,6 +23,7 @@ use wy_grammar::cursor::{Read, mark, name, next_in, next_is};
 use wy_grammar::fault::Kind;
 use wy_grammar::measured::{Measured, pushed};
 use wy_grammar::sort::{Class, END, IMPORT, LINE_END};
+use wy_items::Items;
 use wy_lex::Token;
 use wy_reading::Stop;
 

@@ -5,13 +5,13 @@ ghost use Rattle.wy_reading.specs.Reader.{Reads};
 ghost use Rattle.wy_grammar.specs.ExprReading as exprs;
 ghost use Rattle.wy_grammar.specs.TypeReading as types;
 
-use sqlite_items::Boxed;
 use std::alloc::Global;
 use wy_ast::{Expr, Ty};
 use wy_grammar::cursor::Read;
 use wy_grammar::expressions::{expr, sum};
 use wy_grammar::measured::{Measured, boxed};
 use wy_grammar::types::{type_rest, type_term};
+use wy_items::Boxed;
 use wy_lex::Token;
 
 /// An expression as it is kept.

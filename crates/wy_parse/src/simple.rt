@@ -9,7 +9,6 @@ ghost use Rattle.wy_grammar.specs.Trees.{some};
 ghost use Rattle.wy_grammar.specs.declared.measured.Measured.TheVariants.{Low};
 
 use crate::parts::{ExprPart, TypePart, expr_part, type_part};
-use sqlite_items::Items;
 use std::alloc::Global;
 use wy_ast::{Expr, Step, StepKind, Stmt, StmtKind};
 use wy_data::Name;
@@ -21,6 +20,7 @@ use wy_grammar::sort::{
     RETURN, WHERE, has, sort,
 };
 use wy_grammar::types::{array_node, named_node, type_rest, type_tail};
+use wy_items::Items;
 use wy_lex::{Token, TokenKind};
 use wy_reading::Stop;
 

@@ -12,10 +12,10 @@ ghost use Rattle.wy_value.specs.Datum.{Datum};
 
 use crate::asking::{first_part, normal_type};
 use crate::norms::norm_in;
-use sqlite_items::Items;
 use std::alloc::Global;
 use wy_canon::{TypeFault, conjuncts_at, dnf_part, united_conjuncts};
 use wy_core as tree;
+use wy_items::Items;
 use wy_subtype::valued_conjuncts;
 use wy_types::{Atom, Conjunct, Names, Question, Table};
 

@@ -5,10 +5,10 @@ ghost use Rattle.wy_core.specs.Types.{NormalTy};
 ghost use Rattle.wy_types.specs.Questions as questions;
 ghost use Rattle.wy_types.specs.SeenTypes.{seen_conjuncts, seen_kind};
 
-use sqlite_items::Items;
 use std::alloc::{AllocError, Global};
 use wy_canon::with_sides;
 use wy_core as tree;
+use wy_items::Items;
 use wy_types::{Question, Signed};
 
 /// What is in the first type of the question.

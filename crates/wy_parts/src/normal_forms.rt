@@ -9,10 +9,10 @@ ghost use Rattle.wy_types.specs.SeenTypes.{seen_conjuncts};
 ghost use Rattle.wy_value.specs.Datum.{Datum};
 
 use crate::asking::first_part;
-use sqlite_items::Items;
 use std::alloc::Global;
 use wy_canon::{TypeFault, conjuncts_at};
 use wy_core as tree;
+use wy_items::Items;
 use wy_subtype::narrow_conjuncts;
 use wy_types::{Names, Question};
 

@@ -13,8 +13,8 @@ ghost use Rattle.wy_reading.specs.Reader.{Reads};
 
 use crate::stop::Stop;
 use crate::symbols::{Class, next_is, one, word};
-use sqlite_items::Items;
 use std::alloc::Global;
+use wy_items::Items;
 
 /// What a rule of the grammar refuses.
 #[derive(Clone, Copy, Debug, PartialEq, Eq)]

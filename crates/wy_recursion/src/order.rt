@@ -6,9 +6,9 @@ ghost use Rattle.wy_recursion.specs.Endings.{IsOrder};
 use crate::positions::holds;
 use crate::rounds::by_rounds;
 use crate::search::{Candidate, proposed};
-use sqlite_items::Items;
 use std::alloc::{AllocError, Global};
 use wy_ast::Decl;
+use wy_items::Items;
 use wy_uses::Edge;
 
 /// The indices of exactly the properties whose expansion ends, each behind those that it uses. Linear in

@@ -5,8 +5,8 @@ ghost use Rattle.wy_ast.specs.SurfaceSeen.{seen_decl};
 ghost use Rattle.wy_recursion.specs.Endings as spec;
 
 use crate::search::Candidate;
-use sqlite_items::at;
 use wy_ast::Decl;
+use wy_items::at;
 use wy_uses::{Edge, Way};
 
 /// Whether a declaration is used by a clause.

@@ -5,10 +5,10 @@ ghost use Rattle.wy_ast.specs.SurfaceSeen.{seen_decl};
 ghost use Rattle.wy_recursion.specs.Recursion as spec;
 
 use crate::arrows::arrows_of;
-use sqlite_items::at;
 use std::alloc::{AllocError, Global};
 use wy_ast::Decl;
 use wy_cycles::components;
+use wy_items::at;
 use wy_scope::{Cause, Fault, noted_where};
 use wy_uses::{Edge, Way};
 

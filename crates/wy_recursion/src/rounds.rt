@@ -5,9 +5,9 @@ ghost use Rattle.wy_recursion.specs.Endings.{IsOrder};
 ghost use Rattle.wy_recursion.specs.Rounds as spec;
 
 use crate::positions::{is_property, is_use};
-use sqlite_items::Items;
 use std::alloc::{AllocError, Global};
 use wy_ast::Decl;
+use wy_items::Items;
 use wy_uses::Edge;
 
 fn has(list: &[usize], index: usize) -> bool

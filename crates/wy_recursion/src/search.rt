@@ -1,9 +1,9 @@
 //! A search for the order of properties, on which no answer rests.
 use crate::arrows::arrow_of;
-use sqlite_items::Items;
 use std::alloc::{AllocError, Global};
 use wy_ast::Decl;
 use wy_cycles::{Adjacency, Arrow, adjacency_of, walk};
+use wy_items::Items;
 use wy_uses::{Edge, Way};
 
 /// An order of properties, the position of each declaration in it, which is one more than its place and 0

@@ -1,8 +1,8 @@
 //! A small program beside its copy, and beside those that differ in one thing.
-use sqlite_items::Items;
 use std::alloc::{AllocError, Global};
 use wy_core::{Core, Decl, Expr, ExprKind, Routine, Stmt, StmtKind};
 use wy_data::Name;
+use wy_items::Items;
 use wy_same_core::same_core;
 
 // A method `a` whose body returns the number, at the place.

@@ -1,9 +1,9 @@
 //! A small program beside its copy, and beside one that differs in a place.
 use crate::same_program;
-use sqlite_items::Items;
 use std::alloc::{AllocError, Global};
 use wy_ast::{Decl, Method, Program, Stmt, StmtKind};
 use wy_data::Name;
+use wy_items::Items;
 
 // `import a`, and a method of that name whose body skips, at a place.
 fn sample(alloc: Global, at: u32) -> Result<Program, AllocError> {

@@ -3,10 +3,10 @@ ghost use Rattle.std.specs.Prelude.{◌≡◌, ◌++◌, ◌∷◌, [], ℕ, IfO
 ghost use Rattle.wy_types.specs.Asks as asks;
 ghost use Rattle.wy_types.specs.Shape.{BoolShape, IntShape, NullShape, none_in};
 
-use sqlite_items::Items;
 use std::alloc::{AllocError, Global};
 use wy_canon::{copy_fields, copy_terms, same_names, with_sides};
 use wy_data::Name;
+use wy_items::Items;
 use wy_types::{Atom, Part, Signed, Table};
 
 // The part, and the other sign of a term.

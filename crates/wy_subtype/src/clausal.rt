@@ -3,9 +3,9 @@ ghost use Rattle.std.specs.Prelude.{◌≡◌, ◌+◌, ◌++◌, ◌∷◌, [],
 ghost use Rattle.wy_subtype.specs.Clausal as clausal;
 
 use crate::reach::Reach;
-use sqlite_items::Items;
 use std::alloc::{AllocError, Global};
 use wy_closure::Clause;
+use wy_items::Items;
 
 fn small(number: usize) -> Result<u32, AllocError>
     ensures value { IfOk result (λ n. n ≡ number) }

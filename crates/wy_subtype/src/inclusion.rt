@@ -8,9 +8,9 @@ ghost use Rattle.wy_types.specs.Reach.{IsWide, outside};
 ghost use Rattle.wy_value.specs.Datum.{Datum};
 
 use crate::values::has_value;
-use sqlite_items::Items;
 use std::alloc::{AllocError, Global};
 use wy_canon::{TypeFault, with_sides};
+use wy_items::Items;
 use wy_types::{Signed, Table};
 
 // What is in `a` and not in `b`.

@@ -2,9 +2,9 @@
 ghost use Rattle.std.specs.Prelude.{◌≡◌, IfOk, drop};
 ghost use Rattle.wy_subtype.specs.Marks as marking;
 
-use sqlite_items::Items;
 use std::alloc::{AllocError, Global};
 use wy_closure::any_marked;
+use wy_items::Items;
 
 /// The parts with a marked conjunct.
 pub fn part_marks(

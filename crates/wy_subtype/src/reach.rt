@@ -9,9 +9,9 @@ ghost use Rattle.wy_types.specs.Same as same;
 
 use crate::asks::options_of;
 use crate::ways::few_ways;
-use sqlite_items::Items;
 use std::alloc::{AllocError, Global};
 use wy_canon::{LIMIT, TypeFault, copy_conjunct, copy_terms, dnf_part};
+use wy_items::Items;
 use wy_types::{Conjunct, Signed, Table, same_conjunct, same_terms};
 
 /// Conjuncts, with the number of one of them.

@@ -11,11 +11,11 @@ use crate::asks::ways_from;
 use crate::marks::part_marks;
 use crate::reach::{Added, Reach, reach_of};
 use crate::values::values;
-use sqlite_items::{Items, at};
 use std::alloc::{AllocError, Global};
 use wy_canon::{TypeFault, copy_conjunct, copy_fields, dnf_part};
 use wy_closure::{each_marked, mark_at};
 use wy_data::Name;
+use wy_items::{Items, at};
 use wy_types::{Atom, Conjunct, Part, Signed, Table};
 
 /// Conjuncts that have a value, and of the records among them the ways in which every field's part

@@ -12,10 +12,10 @@ ghost use Rattle.wy_value.specs.Datum.{Datum};
 use crate::clausal::{clauses_of, part_count, total};
 use crate::marks::{marks_from, part_marks};
 use crate::reach::{Added, Reach, reach_of};
-use sqlite_items::Items;
 use std::alloc::{AllocError, Global};
 use wy_canon::TypeFault;
 use wy_closure::{close, mark_at};
+use wy_items::Items;
 use wy_types::{Signed, Table};
 
 // The marks of all conjuncts with a value, by a work list over the clauses of what was reached.

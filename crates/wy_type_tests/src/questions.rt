@@ -1,11 +1,11 @@
 //! Inclusion and emptiness: questions within the limits, one table for several, and a merge at its
 //! limit.
 use crate::reading::{declared, named, read};
-use sqlite_items::Boxed;
 use std::alloc::{AllocError, Global};
 use std::test::Fail;
 use wy_canon::TypeFault;
 use wy_core::{Ty, TyKind};
+use wy_items::Boxed;
 use wy_subtype::{empty, empty_in, subtype, subtype_in};
 
 #[test]

@@ -6,11 +6,11 @@ ghost use Rattle.std.specs.Prelude.{IfOk};
 ghost use Rattle.wy_types.specs.Names.{types_of};
 ghost use Rattle.wy_types.specs.Recursion.{RecurThroughParts};
 
-use sqlite_items::{Boxed, Items};
 use std::alloc::{AllocError, Global};
 use wy_canon::TypeFault;
 use wy_core::{Ty, TyKind};
 use wy_data::Name;
+use wy_items::{Boxed, Items};
 use wy_types::{Declared, Names};
 
 fn popped(stack: &mut Items<Ty>) -> Ty {

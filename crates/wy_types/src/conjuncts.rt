@@ -1,6 +1,6 @@
 //! Conjuncts over terms of any kind: a term is a type, or the number of one in a table.
-use sqlite_items::Items;
 use wy_data::Name;
+use wy_items::Items;
 
 /// The values of the positive atom that are in none of the negative ones.
 #[derive(Drop)]

@@ -4,9 +4,9 @@ ghost use Rattle.std.specs.Option.{option_copied};
 ghost use Rattle.wy_core.specs.CoreSeen.{seen_core, seen_decl};
 ghost use Rattle.wy_types.specs.Names.{names_in, seen_declared, types_of};
 
-use sqlite_items::Items;
 use std::alloc::{AllocError, Global};
 use wy_core::{Core, Decl, Ty};
+use wy_items::Items;
 
 /// What a declared type stands for.
 #[derive(Drop)]

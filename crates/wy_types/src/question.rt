@@ -17,9 +17,9 @@ use crate::names::{Declared, Names};
 use crate::numbering::Numbering;
 use crate::table::{Definition, Table};
 use crate::tree_numbers::put_ty;
-use sqlite_items::Items;
 use std::alloc::{AllocError, Global};
 use wy_core::Ty;
+use wy_items::Items;
 
 /// Two types by their numbers in a table that has the declared types too, and a number above the
 /// depth to which bare names in them go. The table serves for one question after another.

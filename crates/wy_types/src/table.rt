@@ -1,8 +1,8 @@
 //! Terms of types by number: a table in which equal terms have one number.
 use crate::conjuncts::Conjunct;
 use crate::numbering::Numbering;
-use sqlite_items::Items;
 use wy_data::Name;
+use wy_items::Items;
 
 /// What a term is, its parts as numbers of terms.
 #[derive(Drop)]

@@ -7,10 +7,10 @@ ghost use Rattle.wy_types.specs.SeenTypes.{seen_kind, seen_fields, seen_conjunct
 use crate::conjuncts::{Atom, Conjunct, Part, Signed};
 use crate::numbering::Numbering;
 use crate::table::Node;
-use sqlite_items::Items;
 use std::alloc::{AllocError, Global};
 use wy_core as tree;
 use wy_data::Name;
+use wy_items::Items;
 
 /// The number of a type, whose terms are put into the numbering where they aren't there, in time
 /// linear in its size.

@@ -5,10 +5,10 @@ ghost use Rattle.wy_types.specs.Names.{names_in, types_of};
 ghost use Rattle.wy_typing.specs.Programs.{IsTyped};
 ghost use Rattle.wy_typing.specs.TypedPrograms.{core_of, flow_of, names_of};
 
-use sqlite_items::Items;
 use std::marker::Model;
 use wy_core::{Core, Ty};
 use wy_environment::Shared;
+use wy_items::Items;
 use wy_types::Names;
 
 /// A program with the flow type of each expression. It is well typed, and these are its types.

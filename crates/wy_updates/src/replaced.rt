@@ -2,10 +2,10 @@
 ghost use Rattle.std.specs.Prelude.{◌≡◌, [], IfOk};
 ghost use Rattle.wy_updates.specs.Updates as spec;
 
-use sqlite_items::Items;
 use std::alloc::{AllocError, Global};
 use wy_canon::{copy_part, copy_terms, united_conjuncts};
 use wy_data::Name;
+use wy_items::Items;
 use wy_types::{Atom, Conjunct, Part, Signed};
 
 // The part of a field, or the terms where it is the field that is replaced.

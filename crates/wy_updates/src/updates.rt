@@ -11,11 +11,11 @@ ghost use Rattle.wy_core.specs.Types.{NormalTy};
 ghost use Rattle.wy_updates.specs.Updates.{IsWith, IsWideWith, second_part};
 
 use crate::replaced::records_of;
-use sqlite_items::Items;
 use std::alloc::{AllocError, Global};
 use wy_canon::{TypeFault, conjuncts_at, with_sides};
 use wy_core as tree;
 use wy_data::Name;
+use wy_items::Items;
 use wy_subtype::inhabited_parts;
 use wy_types::{Names, Question, Signed};
 

@@ -6,9 +6,9 @@ ghost use Rattle.wy_uses.specs.DeclUses as spec;
 
 use crate::expressions::in_exprs;
 use crate::types::in_ty;
-use sqlite_items::Items;
 use std::alloc::{AllocError, Global};
 use wy_ast::Decl;
+use wy_items::Items;
 use wy_scope::Table;
 
 /// How a declaration is used.

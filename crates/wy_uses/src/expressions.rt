@@ -7,10 +7,10 @@ ghost use Rattle.wy_uses.specs.ExprUses as spec;
 
 use crate::edges::{Edge, Way, put};
 use crate::types::in_ty;
-use sqlite_items::Items;
 use std::alloc::AllocError;
 use wy_ast::{Expr, ExprKind};
 use wy_data::Name;
+use wy_items::Items;
 use wy_scope::{Entry, Table};
 
 /// Puts the uses in an expression behind the others. Linear in its size.

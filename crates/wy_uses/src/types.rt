@@ -5,10 +5,10 @@ ghost use Rattle.wy_uses.specs.Uses as uses;
 ghost use Rattle.wy_uses.specs.TypeUses as spec;
 
 use crate::edges::{Edge, Way, put};
-use sqlite_items::Items;
 use std::alloc::AllocError;
 use wy_ast::{Ty, TyKind};
 use wy_data::Name;
+use wy_items::Items;
 use wy_scope::{Entry, Table};
 
 /// Puts the types that the type uses behind the others. Linear in its size.

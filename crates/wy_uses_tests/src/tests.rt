@@ -1,8 +1,8 @@
 //! Each way in which one declaration uses another, at its place.
-use sqlite_items::{Boxed, Items};
 use std::alloc::{AllocError, Global};
 use wy_ast::{Alias, Decl, Expr, ExprKind, Param, Property, Ty, TyKind};
 use wy_data::Name;
+use wy_items::{Boxed, Items};
 use wy_scope::declare;
 use wy_uses::{Edge, Way, edges_of};
 

@@ -3,11 +3,11 @@ ghost use Rattle.std.specs.Prelude.{◌≡◌, [], false, IfOk, OnOk};
 ghost use Rattle.wy_value.specs.Grammar.{given, placed};
 
 use crate::value::Value;
-use sqlite_items::Items;
 use std::alloc::{AllocError, Global};
 use std::collections::BTreeMap;
 use std::marker::Model;
 use wy_data::Name;
+use wy_items::Items;
 
 /// Fields by rising names, no name twice. A new one takes its place in logarithmic time.
 #[derive(Drop)]

@@ -8,8 +8,8 @@ use crate::fault::Kind;
 use crate::fields::FieldMap;
 use crate::flat::{flat, mark, new_name, spaces};
 use crate::value::Value;
-use sqlite_items::Items;
 use std::alloc::Global;
+use wy_items::Items;
 use wy_reading::{Stop, next_is, one};
 
 /// A value with brackets nested at most `depth` deep.

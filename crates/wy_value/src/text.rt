@@ -13,8 +13,8 @@ use crate::fault::{Kind, ValueFault};
 use crate::flat::mark;
 use crate::nested::elems;
 use crate::value::Value;
-use sqlite_items::Items;
 use std::alloc::{AllocError, Global};
+use wy_items::Items;
 use wy_reading::{Stop, one};
 
 /// The values that an argument text spells, as `(1, [true, null], {x: -5})`. Between tokens spaces may

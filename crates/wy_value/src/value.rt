@@ -1,9 +1,9 @@
 //! Values.
 ghost use Rattle.std.specs.Prelude.{◌≡◌, IfOk, IsTrue, ◌↔◌};
 
-use sqlite_items::Items;
 use std::alloc::{AllocError, Global};
 use wy_data::Name;
+use wy_items::Items;
 
 /// What a program computes with. The fields of a record stand by rising bytes of their names.
 #[cycle(value)]

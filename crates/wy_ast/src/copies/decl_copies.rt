@@ -6,9 +6,9 @@ use crate::copies::stmt_copies::copy_stmts;
 use crate::declarations::{Alias, Decl, Function, Method, Param, Program, Property};
 use crate::expressions::Expr;
 use crate::types::Ty;
-use sqlite_items::Items;
 use std::alloc::{AllocError, Global};
 use wy_data::Name;
+use wy_items::Items;
 
 impl Program {
     /// The same once more, places included, in time linear in its size.

@@ -5,9 +5,9 @@ use crate::copies::expr_copies::{copy_exprs, copy_option};
 use crate::expressions::Expr;
 use crate::statements::{Case, Step, StepKind, Stmt, StmtKind};
 use crate::types::Ty;
-use sqlite_items::Items;
 use std::alloc::{AllocError, Global};
 use wy_data::Name;
+use wy_items::Items;
 
 impl Stmt {
     /// The same once more, places included, in time linear in its size.

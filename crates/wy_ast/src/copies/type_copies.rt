@@ -2,9 +2,9 @@
 ghost use Rattle.std.specs.Prelude.{◌≡◌, IfOk};
 
 use crate::types::{Ty, TyKind};
-use sqlite_items::{Boxed, Items};
 use std::alloc::{AllocError, Global};
 use wy_data::Name;
+use wy_items::{Boxed, Items};
 
 impl Ty {
     /// The same once more, places included, in time linear in its size.

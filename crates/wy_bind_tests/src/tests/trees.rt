@@ -1,8 +1,8 @@
 //! Small trees: a function `f` with one parameter `x`, whose body is one statement.
-use sqlite_items::{Boxed, Items};
 use std::alloc::{AllocError, Global};
 use wy_ast::{Case, Decl, Expr, ExprKind, Function, Param, Stmt, StmtKind, Ty, TyKind};
 use wy_data::Name;
+use wy_items::{Boxed, Items};
 
 /// Where each statement of a row stands, and each expression at its root.
 pub const STMT: u32 = 10;

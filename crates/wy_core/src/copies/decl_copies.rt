@@ -4,9 +4,9 @@ ghost use Rattle.std.specs.Prelude.{◌≡◌, IfOk};
 use crate::copies::expr_copies::copy_exprs;
 use crate::copies::stmt_copies::copy_stmts;
 use crate::declarations::{Alias, Core, Decl, Output, Param, Routine};
-use sqlite_items::Items;
 use std::alloc::{AllocError, Global};
 use wy_data::Name;
+use wy_items::Items;
 
 impl Core {
     /// The same once more, places included, in time linear in its size.

@@ -5,8 +5,8 @@ use crate::copies::expr_copies::{copy_exprs, copy_option};
 use crate::expressions::Expr;
 use crate::statements::{Step, StepKind, Stmt, StmtKind};
 use crate::types::Ty;
-use sqlite_items::Items;
 use std::alloc::{AllocError, Global};
+use wy_items::Items;
 
 impl Stmt {
     /// The same once more, places included, in time linear in its size.

@@ -2,10 +2,10 @@
 use super::trees::{
     CALL, ROOT, all_of, binary, call, expr, function, negated, numbers, property, var,
 };
-use sqlite_items::Items;
 use std::alloc::{AllocError, Global};
 use wy_ast::{Decl, Expr, ExprKind, Op};
 use wy_expand::{in_decls, summaries};
+use wy_items::Items;
 use wy_scope::{Cause, Fault, declare};
 
 // The fault of a property `p` with this clause and a function that gives the value back. The order says

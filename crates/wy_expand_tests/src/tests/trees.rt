@@ -1,8 +1,8 @@
 //! Small trees: properties, and a function whose body gives an expression back.
-use sqlite_items::{Boxed, Items};
 use std::alloc::{AllocError, Global};
 use wy_ast::{Decl, Expr, ExprKind, Function, Op, Param, Property, Stmt, StmtKind, Ty, TyKind};
 use wy_data::Name;
+use wy_items::{Boxed, Items};
 
 /// Where the root of the returned expression stands, and a call in it.
 pub const ROOT: u32 = 20;

@@ -3,8 +3,8 @@ ghost use Rattle.std.specs.Prelude.{◌≡◌, ◌≤◌, ◌<◌, ◌∷◌, []
 ghost use Rattle.wy_heap.specs.Standing.{Stands};
 
 use crate::{Heap, NoMemory, Place};
-use sqlite_items::Items;
 use std::alloc::Global;
+use wy_items::Items;
 use wy_value::Shapes;
 
 // a heap without shapes

@@ -8,8 +8,8 @@ use super::places::{forget, keep};
 use super::slots::{has_path, has_slot, slot_of, slots_of};
 use crate::part::spend;
 use crate::{Heap, Kind, NoMemory, Place, Slot};
-use sqlite_items::Items;
 use std::alloc::Global;
+use wy_items::Items;
 use wy_value::{Value, read_values};
 
 #[derive(Clone, Copy)]

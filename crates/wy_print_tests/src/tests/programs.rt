@@ -1,8 +1,8 @@
 //! Layout: imports, contracts, blocks and `else if`.
 use super::trees::{binary, expr, name, only, stmt, ty, var};
-use sqlite_items::Items;
 use std::alloc::{AllocError, Global};
 use wy_ast::{Alias, Decl, ExprKind, Function, Method, Op, Param, Program, Stmt, StmtKind, TyKind};
+use wy_items::Items;
 use wy_print::{NoMemory, print};
 
 // `x * (2 + -1)`

@@ -1,8 +1,8 @@
 //! Small trees, built by hand. No place is looked at.
-use sqlite_items::{Boxed, Items};
 use std::alloc::{AllocError, Global};
 use wy_ast::{Decl, Expr, ExprKind, Op, Program, Property, Stmt, StmtKind, Ty, TyKind};
 use wy_data::Name;
+use wy_items::{Boxed, Items};
 use wy_print::{NoMemory, print};
 
 pub fn name(alloc: Global, text: &str) -> Result<Name, AllocError> {

@@ -1,8 +1,8 @@
 //! Copies of a whole program.
-use sqlite_items::Items;
 use std::alloc::{AllocError, Global};
 use wy_ast::{Decl, Program, Property};
 use wy_data::Name;
+use wy_items::Items;
 
 fn name(alloc: Global, text: &str) -> Result<Name, AllocError> {
     Ok(Name::new(String::from_str(alloc, text)?))

@@ -4,10 +4,10 @@ ghost use Rattle.wy_same.specs.Begin as spec;
 ghost use Rattle.wy_same.specs.Nodes as size;
 
 use crate::surface::same_expr;
-use sqlite_items::{Boxed, Items};
 use std::alloc::{AllocError, Global};
 use wy_ast::{Expr, ExprKind, Op};
 use wy_data::Name;
+use wy_items::{Boxed, Items};
 
 /// The byte offset of the first token of an expression, brackets aside.
 fn begin(expr: &Expr) -> u32
