@@ -15,8 +15,6 @@ mod laws;
 mod plan;
 mod seat;
 mod steps;
-#[cfg(test)]
-mod tests;
 
 pub use claims::{Claims, MAX_PIECES, MAX_SEATS, NoMemory};
 pub use laws::{always_agree, never_twice, never_wraps};

@@ -1,5 +1,5 @@
 use Rattle.std.proofs.Common.{◌≡◌, false, All, vec_len}
-use Rattle.wy_claim.proofs.tests.one_piece_each.Given as goal
+use Rattle.wy_claim_tests.proofs.tests.one_piece_each.Given as goal
 
 abbrev pub invariant-loop-seat : goal.invariant-loop-seat
 invariant-loop-seat l = record {

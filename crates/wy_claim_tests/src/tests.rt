@@ -2,10 +2,10 @@
 ghost use Rattle.std.specs.Prelude.{◌≡◌, ◌≤◌, false, IfOk, All};
 ghost use Rattle.std.specs.Thread.{IsSync};
 
-use crate::{Claims, MAX_SEATS, NoMemory, Seat};
 use std::alloc::Global;
 use std::test::Fail;
 use std::thread::{Threads, join};
+use wy_claim::{Claims, MAX_SEATS, NoMemory, Seat};
 
 // A seat that has ended, and what it drew.
 type Drawn = Result<(Seat, Vec<u32>), NoMemory>;

@@ -1,5 +1,5 @@
 use Rattle.std.proofs.Common.{◌≡◌, ◌-◌, length, false}
-use Rattle.wy_claim.proofs.tests.draw_all.Given as goal
+use Rattle.wy_claim_tests.proofs.tests.draw_all.Given as goal
 
 abbrev pub invariant-loop-piece : goal.invariant-loop-piece
 invariant-loop-piece l = record {

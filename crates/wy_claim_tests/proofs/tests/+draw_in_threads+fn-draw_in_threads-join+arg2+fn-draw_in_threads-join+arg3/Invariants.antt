@@ -1,5 +1,5 @@
 use Rattle.std.proofs.Common.{◌+◌, ◌*◌}
-use Rattle.wy_claim.proofs.tests.+draw_in_threads+fn-draw_in_threads-join+arg2+fn-draw_in_threads-join+arg3.Given as goal
+use Rattle.wy_claim_tests.proofs.tests.+draw_in_threads+fn-draw_in_threads-join+arg2+fn-draw_in_threads-join+arg3.Given as goal
 
 abbrev pub decreases-draw_in_threads : goal.decreases-draw_in_threads
 decreases-draw_in_threads g l = 2 * l.threads
