@@ -1,0 +1,17 @@
+pub mod Basics
+pub mod FormLemmas
+pub mod CutLemmas
+pub mod ProductLemmas
+pub mod ChainLemmas
+pub mod KindLemmas
+pub mod FreeLemmas
+pub mod FreshLemmas
+pub mod PutLemmas
+pub mod RangeLemmas
+pub mod MemberLemmas
+pub mod MadeLemmas
+pub mod FactLemmas
+pub mod NodeLemmas
+pub mod FormSortLemmas
+pub mod StepLemmas
+pub mod SoundLemmas

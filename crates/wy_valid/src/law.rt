@@ -1,0 +1,13 @@
+//! What is true of validity.
+ghost use Rattle.wy_valid.specs.Plain.{PlainIsUnchanged};
+ghost use Rattle.wy_valid.specs.Examples.{SmallCertificates};
+
+/// A certificate without products is valid, or has its first bad step, exactly as if there were no products.
+pub fn plain_certificates_are_unchanged()
+    ensures unchanged { PlainIsUnchanged }
+{}
+
+/// One valid certificate and one that isn't, with the number of its first bad step, for each kind of step.
+pub fn small_certificates_are_judged()
+    ensures rows { SmallCertificates }
+{}
