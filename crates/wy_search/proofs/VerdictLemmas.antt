@@ -1,8 +1,8 @@
 -- Two numbers of turns that are enough give one verdict.
-use Rattle.std.proofs.Common.{◌≡◌, ℕ, zero, suc, List, [], ◌∷◌, ◌==◌, Bool, true, false, cond, Option, Some, None, refl, sym, ap, ◌∙◌}
+use Rattle.std.proofs.Common.{◌≡◌, ℕ, zero, suc, List, [], ◌∷◌, ◌==◌, Bool, true, false, cond, Option, Some, sym, ◌∙◌}
 use Rattle.wy_term.specs.Condition.{Entry, Condition}
 use Rattle.wy_search.specs.Expansion.{Spot}
-use Rattle.wy_search.specs.Tree.{Next, closed, stays_open, splits, goes_on, next, Verdict, found, open_leaf, spent, follows, one_turn, searched, first_spot, IsVerdict}
+use Rattle.wy_search.specs.Tree.{Next, closed, stays_open, splits, goes_on, next, Verdict, spent, follows, one_turn, searched, first_spot, IsVerdict}
 
 abbrev some : Verdict → Option Verdict
 some v = Some v

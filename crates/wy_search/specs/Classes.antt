@@ -1,5 +1,5 @@
 -- The classes of the least congruence that has a node's equations, and when they clash.
-use Rattle.std.specs.Prelude.{ℕ, zero, suc, List, [], ◌∷◌, ◌++◌, map, length, ◌==◌, Bool, true, false, ◌&&◌, ◌||◌, not, if◌then◌else◌, Option, Some, None, slice_index}
+use Rattle.std.specs.Prelude.{ℕ, zero, suc, List, [], ◌∷◌, ◌++◌, map, length, ◌==◌, Bool, true, false, ◌&&◌, ◌||◌, if◌then◌else◌, Option, Some, None, slice_index}
 use Rattle.wy_term.specs.Term.{DataKind, Term, Of, Parts, no_parts, part, equal, of_kind}
 use Rattle.wy_term.specs.Same.{same_symbol, same_term}
 use Rattle.wy_term.specs.Rewriting.{as_constant, kind_given}

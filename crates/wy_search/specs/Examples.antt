@@ -1,5 +1,5 @@
 -- Small conditions, and how their searches end.
-use Rattle.std.specs.Prelude.{◌≡◌, ℕ, ◌+◌, ◌^◌, List, [], ◌∷◌, true, codes, ℤ, pos, negsuc, Some}
+use Rattle.std.specs.Prelude.{◌≡◌, ◌+◌, ◌^◌, List, [], ◌∷◌, true, codes, ℤ, pos, negsuc, Some}
 use Rattle.wy_term.specs.Term.{Term, Of, no_parts, part, leaf, one, two, Number, Not, int_name, val_name, num, len, get, mul, add, at_most, equal, every, exists, any_of}
 use Rattle.wy_term.specs.Condition.{Condition}
 use Rattle.wy_judge.specs.Node.{Literal}

@@ -1,7 +1,7 @@
 -- What one round of expansion adds to a node.
-use Rattle.std.specs.Prelude.{ℕ, zero, suc, ◌+◌, ◌==◌, List, [], ◌∷◌, ◌++◌, map, Bool, true, false, ◌&&◌, ◌||◌, not, if◌then◌else◌, ℤ, pos, negsuc, ◌-ℤ◌, ◌*ℤ◌, neg_ℤ, unsigned_abs, int_lt, Option, Some, None, is_some}
+use Rattle.std.specs.Prelude.{ℕ, zero, suc, ◌==◌, List, [], ◌∷◌, ◌++◌, Bool, true, false, ◌&&◌, ◌||◌, not, if◌then◌else◌, ℤ, pos, unsigned_abs, int_lt, Option, Some, None, is_some}
 use Rattle.std.specs.Bool.{beq}
-use Rattle.wy_term.specs.Term.{DataKind, null_kind, bool_kind, int_kind, array_kind, record_kind, Symbol, Term, Of, Parts, no_parts, part, leaf, one, Number, int_name, num, len, mul, bool, array, update, get, int, equal, of_kind, truth, null}
+use Rattle.wy_term.specs.Term.{DataKind, null_kind, bool_kind, int_kind, array_kind, record_kind, Symbol, Term, Of, Parts, no_parts, part, leaf, one, Number, num, len, bool, array, update, get, int, of_kind, truth, null}
 use Rattle.wy_term.specs.Data.{quotient_down}
 use Rattle.wy_term.specs.Same.{same_term}
 use Rattle.wy_term.specs.Condition.{Entry}
@@ -10,7 +10,7 @@ use Rattle.wy_lin.specs.TermForm.{form_of, form_of_literal}
 use Rattle.wy_facts.specs.Made.{is_equal, implies, either}
 use Rattle.wy_facts.specs.Schema.{as_equation}
 use Rattle.wy_judge.specs.Node.{Literal, Node, has_literal, has_formula, added, with_formulas}
-use Rattle.wy_valid.specs.Literals.{only_if, formula_of}
+use Rattle.wy_valid.specs.Literals.{formula_of}
 use Rattle.wy_valid.specs.Ranges.{Range, of_each, of_one, instance_at, witness, witnessed_at}
 use Rattle.wy_valid.specs.Membership.{fact_among}
 use Rattle.wy_valid.specs.Sums.{all_zero}

@@ -1,5 +1,5 @@
 -- Conditions of programs, and the open leaves at which their searches end.
-use Rattle.std.specs.Prelude.{◌≡◌, ℕ, ◌-◌, ◌^◌, List, [], ◌∷◌, ◌++◌, true, false, codes, pos, negsuc, Some}
+use Rattle.std.specs.Prelude.{◌≡◌, ◌-◌, ◌^◌, List, [], ◌∷◌, ◌++◌, true, false, codes, pos, negsuc, Some}
 use Rattle.wy_term.specs.Term.{DataKind, int_kind, bool_kind, array_kind, Term, Of, no_parts, part, leaf, one, two, Number, Not, int_name, val_name, truth, num, len, get, sub, mul, at_most, equal, of_kind, every, all_of, any_of}
 use Rattle.wy_judge.specs.Node.{Literal}
 use Rattle.wy_search.specs.Tree.{still, open_leaf, searched, first_spot}

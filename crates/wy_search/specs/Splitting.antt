@@ -3,7 +3,7 @@ use Rattle.std.specs.Prelude.{List, [], ◌∷◌, ◌++◌, Bool, true, false, 
 use Rattle.wy_term.specs.Term.{Symbol, Term, Of, Parts, no_parts, part, denied, all_of, any_of}
 use Rattle.wy_judge.specs.declared.verdict.Verdict.{Verdict}
 use Rattle.wy_judge.specs.declared.verdict.Verdict.TheVariants.{Yes, No, Open}
-use Rattle.wy_judge.specs.Node.{Literal, Node}
+use Rattle.wy_judge.specs.Node.{Node}
 use Rattle.wy_judge.specs.Judgement.{of_atom, judged}
 use Rattle.wy_valid.specs.Literals.{any_no}
 

@@ -1,5 +1,5 @@
 -- The tree of the search, and its verdict.
-use Rattle.std.specs.Prelude.{◌≡◌, ℕ, zero, suc, ◌+◌, List, [], ◌∷◌, ◌++◌, length, ◌==◌, nat_lt, Bool, true, false, ◌&&◌, ◌||◌, if◌then◌else◌, Option, Some, None}
+use Rattle.std.specs.Prelude.{◌≡◌, ℕ, zero, suc, List, [], ◌∷◌, length, ◌==◌, nat_lt, Bool, ◌||◌, if◌then◌else◌, Option, Some, None}
 use Rattle.wy_term.specs.Term.{Term}
 use Rattle.wy_term.specs.Condition.{Entry, Condition}
 use Rattle.wy_judge.specs.Node.{Literal, Node, added, denied_one, first_node}
