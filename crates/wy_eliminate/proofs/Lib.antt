@@ -1,0 +1,6 @@
+pub mod PlaceLemmas
+pub mod DivisionLemmas
+pub mod TallyLemmas
+pub mod StartLemmas
+pub mod ValidityLemmas
+pub mod TurnLemmas

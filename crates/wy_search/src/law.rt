@@ -1,0 +1,19 @@
+//! What the definition says.
+ghost use Rattle.wy_search.specs.Examples.{SmallSearches};
+ghost use Rattle.wy_search.specs.Programs.{OpenLeaves};
+ghost use Rattle.wy_search.specs.Tree.{OneVerdict};
+
+/// A search has one verdict.
+pub fn one_verdict()
+    ensures { OneVerdict }
+{}
+
+/// Small conditions end so.
+pub fn small_searches_end_so()
+    ensures { SmallSearches }
+{}
+
+/// Conditions of programs that stay open do so at these leaves.
+pub fn open_leaves_are_these()
+    ensures { OpenLeaves }
+{}
