@@ -7,3 +7,4 @@ pub mod TruthLemmas
 pub mod PartsLemmas
 pub mod StepLemmas
 pub mod FullLemmas
+mod MembershipLemmas

@@ -1,10 +1,10 @@
 //! Facts: what a schema states of its arguments.
-ghost use Rattle.std.specs.Prelude.{◌≡◌, ◌<◌, ◌≤◌, ◌∷◌, [], ℕ, length, option_map, IfOk, IfSome, IfNone, OnErr};
-ghost use Rattle.wy_term.specs.Term.{Term};
+ghost use Rattle.std.specs.Prelude.{◌≡◌, ◌≢◌, ◌<◌, ◌≤◌, ◌∷◌, [], ℕ, length, option_map, IfOk, IfSome, IfNone, OnErr};
 ghost use Rattle.wy_term.specs.Folding.{folded};
 ghost use Rattle.wy_term.specs.Nodes.{plain, grown, tree_at, HasPartsBelow};
-ghost use Rattle.wy_facts.specs.Schema.{◌>>=◌ as bind, instance, by_one, by_two, plain_by_one, instance_of, fact_of, stated, division};
-ghost use Rattle.wy_facts.specs.Program.{arity};
+ghost use Rattle.wy_term.specs.Condition.{condition_of};
+ghost use Rattle.wy_facts.specs.Schema.{◌>>=◌ as bind, instance, by_one, by_two, plain_by_one, instance_of, fact_of, division};
+ghost use Rattle.wy_facts.specs.Membership.{membership_of, fact_in, AreTypesBelow};
 ghost use Rattle.wy_facts.specs.Truth.{AlwaysHolds};
 ghost use Rattle.wy_facts.specs.Seen.{seen_instance, terms_at, AreBelow, Stays};
 
@@ -13,13 +13,12 @@ use crate::arguments::{
     elements_at_one_index, equal_numbers, field_updated, length_is_natural, length_of_copies,
     length_of_updated, of_parts,
 };
-use crate::building::made_of;
+use crate::membership::membership;
 use crate::memory::NoMemory;
-use crate::program::program;
 use crate::schema::{Instance, Schema};
 use crate::shapes::{division_at, field_before, kind_before_set, kind_before_update};
-use std::collections::VecDeque;
-use wy_term::{Node, Terms};
+use crate::stating::stated_of;
+use wy_term::{Cond, Node, Terms};
 
 // A schema, stated of a term and of the term of a node that is made, where there is one.
 fn with_made(
@@ -132,37 +131,8 @@ fn instance_of(terms: &mut Terms, n: u32, args: &[u32]) -> Result<Option<Instanc
     }
 }
 
-// The term that was made last.
-#[tactic(auto, using(crate::proofs::StepLemmas::front_is))]
-fn last_made(_terms: &Terms, made: VecDeque<u32>) -> Result<u32, NoMemory>
-    requires { AreBelow (length _terms.now) made.items }
-    ensures value { (t : Term) → terms_at _terms.now made.items ≡ t ∷ [] → IfOk result (λ f. tree_at _terms.now f ≡ t) }
-    ensures within { IfOk result (λ f. f < length _terms.now) }
-{
-    let mut made = made;
-    match made.pop_front() {
-        Some(f) => Ok(f),
-        None => Err(NoMemory),
-    }
-}
-
-// The formula that a schema states of these parts.
-fn stated_of(terms: &mut Terms, instance: &Instance) -> Result<u32, NoMemory>
-    requires parts { AreBelow (length terms.old) instance.now.parts.items }
-    requires full { length instance.now.parts.items ≡ arity instance.now.schema }
-    ensures value { IfOk result (λ f. tree_at terms.new f ≡ stated instance.now.schema (terms_at terms.old instance.now.parts.items)) }
-    ensures within { IfOk result (λ f. f < length terms.new) }
-    ensures stays { Stays terms.old terms.new }
-{
-    let program = program(terms.allocator(), instance.schema)?;
-    match made_of(terms, &instance.parts, &program)? {
-        Some(made) => last_made(terms, made),
-        None => Err(NoMemory),
-    }
-}
-
-// The formula that a schema states, where the arguments are such as it takes.
-fn fact_made(terms: &mut Terms, n: u32, args: &[u32]) -> Result<Option<u32>, NoMemory>
+// The formula that a schema states without a condition, where the arguments are such as it takes.
+fn plain_made(terms: &mut Terms, n: u32, args: &[u32]) -> Result<Option<u32>, NoMemory>
     requires { AreBelow (length terms.old) args.now }
     ensures value { IfOk result (λ o. option_map (tree_at terms.new) o ≡ fact_of n (terms_at terms.old args.now)) }
     ensures within { IfOk result (λ o. IfSome o (λ f. f < length terms.new)) }
@@ -177,14 +147,51 @@ fn fact_made(terms: &mut Terms, n: u32, args: &[u32]) -> Result<Option<u32>, NoM
     }
 }
 
-/// The formula that a schema, by its number from 1 to 15, states of these arguments; none exactly where the arguments are
-/// not such as it takes. The formula holds of all data. It takes a number of calls of `intern` that depends on the schema
-/// alone, and the time to compare and copy the names in an argument. Older numbers name what they named, and where there
-/// is no answer the terms are as before.
-pub fn fact(terms: &mut Terms, schema: u32, args: &[u32]) -> Result<Option<u32>, NoMemory>
-    requires { AreBelow (length terms.old) args.now }
-    ensures value { IfOk result (λ o. option_map (tree_at terms.new) o ≡ fact_of schema (terms_at terms.old args.now)) }
-    ensures holds { IfOk result (λ o. IfSome o (λ f. AlwaysHolds (tree_at terms.new f))) }
+// The formula that is stated of tests of named types, where the argument is one.
+fn membership_made(terms: &mut Terms, cond: &Cond, args: &[u32]) -> Result<Option<u32>, NoMemory>
+    requires args { AreBelow (length terms.old) args.now }
+    requires types { AreTypesBelow (length terms.old) cond.now }
+    ensures value { IfOk result (λ o. option_map (tree_at terms.new) o ≡ membership_of (condition_of terms.old cond.now).types (terms_at terms.old args.now)) }
+    ensures within { IfOk result (λ o. IfSome o (λ f. f < length terms.new)) }
+    ensures stays { Stays terms.old terms.new }
+{
+    match args {
+        [t] => membership(terms, cond, *t),
+        _ => Ok(None),
+    }
+}
+
+// The formula that a schema states, where the arguments are such as it takes.
+fn fact_made(terms: &mut Terms, cond: &Cond, n: u32, args: &[u32]) -> Result<Option<u32>, NoMemory>
+    requires args { AreBelow (length terms.old) args.now }
+    requires types { AreTypesBelow (length terms.old) cond.now }
+    ensures value { IfOk result (λ o. option_map (tree_at terms.new) o ≡ fact_in (condition_of terms.old cond.now).types n (terms_at terms.old args.now)) }
+    ensures within { IfOk result (λ o. IfSome o (λ f. f < length terms.new)) }
+    ensures stays { Stays terms.old terms.new }
+{
+    if n == 16 {
+        membership_made(terms, cond, args)
+    } else {
+        plain_made(terms, n, args)
+    }
+}
+
+/// The formula that a schema, by its number from 1 to 16, states of these arguments; none exactly where the arguments are
+/// not such as it takes. It holds of all data, where `in` of each of the condition's types means the type's formula; those
+/// of schemas 1 to 15 rest on no condition. It takes a number of calls of `intern` that depends on the schema alone, and
+/// the time to compare and copy the names in an argument; schema 16 takes the time to find the type among the condition's
+/// and to put the datum into its formula. Older numbers name what they named, and where there is no answer the terms are as
+/// before.
+pub fn fact(
+    terms: &mut Terms,
+    cond: &Cond,
+    schema: u32,
+    args: &[u32],
+) -> Result<Option<u32>, NoMemory>
+    requires args { AreBelow (length terms.old) args.now }
+    requires types { AreTypesBelow (length terms.old) cond.now }
+    ensures value { IfOk result (λ o. option_map (tree_at terms.new) o ≡ fact_in (condition_of terms.old cond.now).types schema (terms_at terms.old args.now)) }
+    ensures holds { schema ≢ 16 → IfOk result (λ o. IfSome o (λ f. AlwaysHolds (tree_at terms.new f))) }
     ensures within { IfOk result (λ o. IfSome o (λ f. f < length terms.new)) }
     ensures kept { (t : ℕ) → t < length terms.old → tree_at terms.new t ≡ tree_at terms.old t }
     ensures grows { length terms.old ≤ length terms.new }
@@ -192,7 +199,7 @@ pub fn fact(terms: &mut Terms, schema: u32, args: &[u32]) -> Result<Option<u32>,
     ensures no_memory { OnErr result (length terms.new ≡ length terms.old) }
 {
     let mark = terms.mark();
-    match fact_made(terms, schema, args) {
+    match fact_made(terms, cond, schema, args) {
         Ok(Some(f)) => Ok(Some(f)),
         Ok(None) => {
             terms.back_to(mark);

@@ -2,7 +2,7 @@ use Rattle.std.proofs.Common.{◌≡◌, Some, rules}
 use Rattle.wy_facts.specs.Schema.{instance_of}
 use Rattle.wy_facts.specs.Seen.{terms_at, seen_instance}
 use Rattle.wy_facts.proofs.FullLemmas.{made_full}
-use Rattle.wy_facts.proofs.facts.fact_made.Goals as goal
+use Rattle.wy_facts.proofs.facts.plain_made.Goals as goal
 
 pub stated_of-requires-clause-full : goal.stated_of-requires-clause-full
 stated_of-requires-clause-full c =

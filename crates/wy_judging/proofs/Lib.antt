@@ -1,0 +1,4 @@
+pub mod NameLemmas
+pub mod BranchLemmas
+pub mod AddingLemmas
+pub mod JudgingLemmas

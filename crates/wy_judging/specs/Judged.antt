@@ -1,0 +1,29 @@
+-- What is known of formulas, and which pending formulas fail.
+use Rattle.std.specs.Prelude.{◌≡◌, ℕ, List, [], ◌∷◌, ◌||◌, Bool, true, false, not, Some, nat_eq}
+use Rattle.std.specs.HashMap.{get}
+use Rattle.wy_term.specs.Term.{Term}
+use Rattle.wy_judge.specs.declared.verdict.Verdict.{Verdict}
+use Rattle.wy_judge.specs.declared.verdict.Verdict.TheVariants.{Yes, No, Open}
+use Rattle.wy_judge.specs.Node.{Literal}
+use Rattle.wy_judge.specs.Judgement.{judged}
+use Rattle.wy_judging.specs.declared.judging.Known.{Known}
+
+-- what is noted is what the literals say
+abbrev pub Knows : (ℕ → Term) → List Literal → Known → Type 0
+Knows at ls known = (f : ℕ) (v : Verdict) → get nat_eq known.verdicts f ≡ Some v → v ≡ judged ls (at f)
+
+-- a formula with this verdict, or its denial, is judged no
+abbrev pub fails : Verdict → Bool → Bool
+fails Yes holds = not holds
+fails No holds = holds
+fails Open holds = false
+
+abbrev pub is_no : Verdict → Bool
+is_no Yes = false
+is_no No = true
+is_no Open = false
+
+-- one of the formulas is judged no
+abbrev pub is_any_refuted : List Literal → List Term → Bool
+is_any_refuted ls [] = false
+is_any_refuted ls (f ∷ fs) = is_no (judged ls f) || is_any_refuted ls fs

@@ -1,0 +1,5 @@
+-- what public contracts cite
+pub mod Seen
+-- what functions inside owe each other
+pub mod Tasks
+pub mod Judged

@@ -1,0 +1,264 @@
+//! What literals say of a formula.
+ghost use Rattle.std.specs.Prelude.{◌≡◌, ◌<◌, nat_eq, ℕ, List, Some, length, slice_get, IfOk, IfSome, OnOk};
+ghost use Rattle.std.specs.HashMap.{get};
+ghost use Rattle.wy_term.specs.Term.{Term};
+ghost use Rattle.wy_term.specs.Nodes.{tree_at, parts_at};
+ghost use Rattle.wy_judge.specs.Node.{Literal};
+ghost use Rattle.wy_judge.specs.Judgement.{turned, both, either, of_atom, judged, judged_all, judged_any};
+ghost use Rattle.wy_judging.specs.Seen.{seen_branch, IsBranch, AreBelow};
+ghost use Rattle.wy_judging.specs.Judged.{Knows, fails, is_any_refuted};
+
+use crate::branch::{Branch, has_literal};
+use std::alloc::Global;
+use std::collections::HashMap;
+use wy_judge::Verdict;
+use wy_term::{NoMemory, Node, Terms};
+
+/// What a node's literals are known to say of formulas, by their numbers.
+#[derive(Drop)]
+pub struct Known {
+    pub verdicts: HashMap<u32, Verdict>,
+}
+
+/// Nothing yet. It takes no memory.
+pub fn nothing_known(alloc: Global) -> Known
+    ensures { (at : ℕ → Term) (ls : List Literal) → Knows at ls result }
+{
+    Known {
+        verdicts: HashMap::new(alloc),
+    }
+}
+
+// ---- three values
+
+fn turn(v: Verdict) -> Verdict
+    ensures { result ≡ turned v }
+{
+    match v {
+        Verdict::Yes => Verdict::No,
+        Verdict::No => Verdict::Yes,
+        Verdict::Open => Verdict::Open,
+    }
+}
+
+fn meet(v: Verdict, w: Verdict) -> Verdict
+    ensures { result ≡ both v w }
+{
+    match (v, w) {
+        (Verdict::No, _) | (Verdict::Open, Verdict::No) => Verdict::No,
+        (Verdict::Yes, other) => other,
+        (Verdict::Open, _) => Verdict::Open,
+    }
+}
+
+fn join(v: Verdict, w: Verdict) -> Verdict
+    ensures { result ≡ either v w }
+{
+    match (v, w) {
+        (Verdict::Yes, _) | (Verdict::Open, Verdict::Yes) => Verdict::Yes,
+        (Verdict::No, other) => other,
+        (Verdict::Open, _) => Verdict::Open,
+    }
+}
+
+// ---- what is known
+
+// What is known of a formula.
+fn known_at(known: &Known, f: u32) -> Option<Verdict>
+    ensures { result ≡ get nat_eq known.now.verdicts f }
+{
+    known.verdicts.get(&f).copied()
+}
+
+// Notes what the literals say of a formula.
+fn note(known: &mut Known, f: u32, verdict: Verdict) -> Result<(), NoMemory>
+    ensures { (at : ℕ → Term) (ls : List Literal) → Knows at ls known.old → verdict ≡ judged ls (at f) → OnOk result (Knows at ls known.new) }
+{
+    known.verdicts.insert(f, verdict)?;
+    Ok(())
+}
+
+// What the literals of a node say of an atom.
+fn of_atom(terms: &Terms, branch: &Branch, atom: u32) -> Verdict
+    requires atom { atom < length terms.now }
+    requires branch { IsBranch terms.now branch.now }
+    ensures { result ≡ of_atom (seen_branch (tree_at terms.now) branch.now).literals (tree_at terms.now atom) }
+{
+    if has_literal(terms, branch, atom, true) {
+        Verdict::Yes
+    } else if has_literal(terms, branch, atom, false) {
+        Verdict::No
+    } else {
+        Verdict::Open
+    }
+}
+
+// What the literals say of the `and` of these formulas, where it is known of each.
+fn of_all(known: &Known, members: &[u32]) -> Option<Verdict>
+    ensures { (at : ℕ → Term) (ls : List Literal) → Knows at ls known.now → IfSome result (λ v. v ≡ judged_all ls (parts_at at members.now)) }
+{
+    let mut verdict = Verdict::Yes;
+    let mut left = members.len();
+    while left > 0 {
+        left -= 1;
+        let Some(v) = known_at(known, members[left]) else {
+            return None;
+        };
+        verdict = meet(v, verdict);
+    }
+    Some(verdict)
+}
+
+// What the literals say of the `or` of these formulas, where it is known of each.
+fn of_any(known: &Known, members: &[u32]) -> Option<Verdict>
+    ensures { (at : ℕ → Term) (ls : List Literal) → Knows at ls known.now → IfSome result (λ v. v ≡ judged_any ls (parts_at at members.now)) }
+{
+    let mut verdict = Verdict::No;
+    let mut left = members.len();
+    while left > 0 {
+        left -= 1;
+        let Some(v) = known_at(known, members[left]) else {
+            return None;
+        };
+        verdict = join(v, verdict);
+    }
+    Some(verdict)
+}
+
+// What the literals say of the denial of a formula, where it is known of the formula.
+fn of_denial(known: &Known, f: u32) -> Option<Verdict>
+    ensures { (at : ℕ → Term) (ls : List Literal) → Knows at ls known.now → IfSome result (λ v. v ≡ turned (judged ls (at f))) }
+{
+    match known_at(known, f) {
+        Some(v) => Some(turn(v)),
+        None => None,
+    }
+}
+
+// What the literals say of a formula, where it is known of each of its parts.
+fn by_parts(terms: &Terms, branch: &Branch, known: &Known, f: u32) -> Option<Verdict>
+    requires formula { f < length terms.now }
+    requires branch { IsBranch terms.now branch.now }
+    requires known { Knows (tree_at terms.now) (seen_branch (tree_at terms.now) branch.now).literals known.now }
+    ensures { IfSome result (λ v. v ≡ judged (seen_branch (tree_at terms.now) branch.now).literals (tree_at terms.now f)) }
+{
+    match terms.node(f) {
+        Node::Not(g) => of_denial(known, *g),
+        Node::And(members) => of_all(known, members),
+        Node::Or(members) => of_any(known, members),
+        _ => Some(of_atom(terms, branch, f)),
+    }
+}
+
+// ---- the work list
+
+// A formula is to be judged once its parts are.
+fn with_parts(terms: &Terms, todo: &mut Vec<u32>, f: u32) -> Result<(), NoMemory>
+    requires formula { f < length terms.now }
+    requires todo { AreBelow (length terms.now) todo.old.items }
+    ensures todo { OnOk result (AreBelow (length terms.now) todo.new.items) }
+{
+    todo.push(f)?;
+    match terms.node(f) {
+        Node::Not(g) => {
+            todo.push(*g)?;
+            Ok(())
+        }
+        Node::And(members) => {
+            todo.extend_from_slice(members)?;
+            Ok(())
+        }
+        Node::Or(members) => {
+            todo.extend_from_slice(members)?;
+            Ok(())
+        }
+        _ => Ok(()),
+    }
+}
+
+// Judges a formula, or puts it back behind its parts.
+fn step(
+    terms: &Terms,
+    branch: &Branch,
+    known: &mut Known,
+    todo: &mut Vec<u32>,
+    f: u32,
+) -> Result<(), NoMemory>
+    requires formula { f < length terms.now }
+    requires branch { IsBranch terms.now branch.now }
+    requires known { Knows (tree_at terms.now) (seen_branch (tree_at terms.now) branch.now).literals known.old }
+    requires todo { AreBelow (length terms.now) todo.old.items }
+    ensures known { OnOk result (Knows (tree_at terms.now) (seen_branch (tree_at terms.now) branch.now).literals known.new) }
+    ensures todo { OnOk result (AreBelow (length terms.now) todo.new.items) }
+{
+    match by_parts(terms, branch, known, f) {
+        Some(verdict) => note(known, f, verdict),
+        None => with_parts(terms, todo, f),
+    }
+}
+
+/// What the literals of a node say of a formula: of an atom by whether it or its denial stands among them, of other formulas
+/// by the connectives of three values. What is found of its parts is noted, so that it is known for other formulas too. It
+/// works on a list of what is still to be judged, and takes time linear in how many formulas the formula is made of that
+/// aren't known yet, and their members.
+pub fn judge(terms: &Terms, branch: &Branch, known: &mut Known, f: u32) -> Result<Verdict, NoMemory>
+    requires formula { f < length terms.now }
+    requires branch { IsBranch terms.now branch.now }
+    requires known { Knows (tree_at terms.now) (seen_branch (tree_at terms.now) branch.now).literals known.old }
+    ensures value { IfOk result (λ v. v ≡ judged (seen_branch (tree_at terms.now) branch.now).literals (tree_at terms.now f)) }
+    ensures known { OnOk result (Knows (tree_at terms.now) (seen_branch (tree_at terms.now) branch.now).literals known.new) }
+{
+    let mut todo = Vec::new(terms.allocator());
+    for _turn in 0..u64::MAX {
+        if let Some(verdict) = known_at(known, f) {
+            return Ok(verdict);
+        }
+        let t = todo.pop().unwrap_or(f);
+        if known_at(known, t).is_some() {
+            continue;
+        }
+        step(terms, branch, known, &mut todo, t)?;
+    }
+    Err(NoMemory)
+}
+
+// ---- pending formulas
+
+// Whether a formula fails, or its denial does.
+fn fails(verdict: Verdict, holds: bool) -> bool
+    ensures { result ≡ fails verdict holds }
+{
+    match verdict {
+        Verdict::Yes => !holds,
+        Verdict::No => holds,
+        Verdict::Open => false,
+    }
+}
+
+// The pending formula with a number, from 0.
+fn pending_at(branch: &Branch, i: usize) -> (u32, bool)
+    requires { i < length branch.now.pending.keys }
+    ensures { slice_get branch.now.pending.keys i ≡ Some result }
+{
+    match branch.pending.get_index(i) {
+        Some(p) => *p,
+        None => (0, false),
+    }
+}
+
+/// Whether a pending formula of a node is judged no. It takes time linear in how many formulas the pending ones are made of,
+/// each counted once, and their members.
+pub fn is_refuted(terms: &Terms, branch: &Branch) -> Result<bool, NoMemory>
+    requires { IsBranch terms.now branch.now }
+    ensures value { IfOk result (λ yes. yes ≡ is_any_refuted (seen_branch (tree_at terms.now) branch.now).literals (seen_branch (tree_at terms.now) branch.now).pending) }
+{
+    let mut known = nothing_known(terms.allocator());
+    for i in 0..branch.pending.len() {
+        let (f, holds) = pending_at(branch, i);
+        let verdict = judge(terms, branch, &mut known, f)?;
+        if fails(verdict, holds) {
+            return Ok(true);
+        }
+    }
+    Ok(false)
+}
