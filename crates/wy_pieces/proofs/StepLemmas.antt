@@ -48,7 +48,7 @@ pub put_back : (xs first old : List Step) (at : ℕ) (s new : Step) → reverse 
 put_back xs first old at s new h e =
     let a : xs ≡ reverse old ++ s ∷ reverse first = sym (reverse-reverse xs) ∙ ap reverse h ∙ reverse-append first (s ∷ old) ∙ turned s in
     let b : set (reverse old ++ s ∷ reverse first) at new ≡ reverse old ++ new ∷ reverse first =
-        ap (λ (k : ℕ). set (reverse old ++ s ∷ reverse first) k new) (sym e ∙ sym (length-reverse old)) ∙ set-append_seam (reverse old) s (reverse first) new in
+    ap (λ (k : ℕ). set (reverse old ++ s ∷ reverse first) k new) (sym e ∙ sym (length-reverse old)) ∙ set-append_seam (reverse old) s (reverse first) new in
     let d : reverse (set xs at new) ≡ reverse (reverse old ++ new ∷ reverse first) = ap reverse (ap (λ (l : List Step). set l at new) a ∙ b) in
     d ∙ ap reverse (sym (turned new)) ∙ ap reverse (sym (reverse-append first (new ∷ old))) ∙ reverse-reverse (first ++ new ∷ old)
   where

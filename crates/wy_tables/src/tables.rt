@@ -107,11 +107,7 @@ fn record_table(alloc: Global, fields: &[(Name, Ty)], table: Shapes) -> Result<S
 }
 
 #[cycle(types)]
-fn field_tys_table(
-    alloc: Global,
-    fields: &[(Name, Ty)],
-    table: Shapes,
-) -> Result<Shapes, NoMemory>
+fn field_tys_table(alloc: Global, fields: &[(Name, Ty)], table: Shapes) -> Result<Shapes, NoMemory>
     ensures value { IfOk result (λ t. t ≡ spec.field_tys_table (field_tys_of (map (λ f. (f.0, seen_ty f.1)) fields.now)) table) }
 {
     let mut table = table;
@@ -160,11 +156,7 @@ pub fn name_number(name: &Name, names: &[Name]) -> Result<u32, NoMemory>
 }
 
 /// The shape of these fields is in the table, and so are their names.
-fn with_shape_of<T>(
-    alloc: Global,
-    fields: &[(Name, T)],
-    table: Shapes,
-) -> Result<Shapes, NoMemory>
+fn with_shape_of<T>(alloc: Global, fields: &[(Name, T)], table: Shapes) -> Result<Shapes, NoMemory>
     ensures value { IfOk result (λ t. t ≡ spec.with_shape (map (λ f. f.0) fields.now) table) }
 {
     let table = with_names(alloc, fields, table)?;
@@ -222,11 +214,7 @@ fn has_shape(list: &[u32], lists: &[Items<u32>]) -> bool
 
 /// The number of the shape of these fields, and the number of shapes where it isn't there. It goes
 /// through the shapes of the table.
-pub fn shape_number<T>(
-    alloc: Global,
-    fields: &[(Name, T)],
-    table: &Shapes,
-) -> Result<u32, NoMemory>
+pub fn shape_number<T>(alloc: Global, fields: &[(Name, T)], table: &Shapes) -> Result<u32, NoMemory>
     ensures value { IfOk result (λ n. n ≡ spec.shape_number table.now (map (λ f. f.0) fields.now)) }
 {
     let list = numbers_of(alloc, fields, table.names.as_slice())?;
