@@ -6,7 +6,6 @@ use Rattle.wy_core.specs.declared.expressions.Op.{Op}
 use Rattle.wy_core.specs.declared.expressions.Op.TheVariants as op
 use Rattle.wy_live.specs.Sets.{Variables, has}
 use Rattle.wy_live.specs.Walks.{before, before_all, before_fields, turned}
-use Rattle.wy_code.specs.declared.instructions.Instr.{Instr}
 use Rattle.wy_code.specs.declared.instructions.Instr.TheVariants as instr
 use Rattle.wy_code.specs.declared.instructions.Comparison.TheVariants as comparison
 use Rattle.wy_code.specs.declared.instructions.Scalar.TheVariants as scalar

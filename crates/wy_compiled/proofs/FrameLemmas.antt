@@ -1,5 +1,5 @@
 -- The frame of a routine has each register that its instructions name.
-use Rattle.std.proofs.Common.{◌≤◌, ◌<◌, ℕ, suc, max, List, [], ◌∷◌, arith}
+use Rattle.std.proofs.Common.{◌≤◌, ◌<◌, ℕ, List, [], ◌∷◌, arith}
 use Rattle.std.specs.List.{All}
 use Rattle.std.proofs.lemmas.List.Elements.{All-nil, All-cons}
 use Rattle.wy_code.specs.declared.instructions.Instr.{Instr}

@@ -1,5 +1,5 @@
 -- The jumps in the code of tests of types and of expressions stay within it.
-use Rattle.std.proofs.Common.{◌≡◌, ◌≤◌, ◌+◌, ℕ, suc, List, [], ◌∷◌, ◌++◌, length, Bool, true, false, not, cond, pos, refl, length-append, arith}
+use Rattle.std.proofs.Common.{◌≤◌, ◌+◌, ℕ, suc, List, [], ◌∷◌, ◌++◌, length, Bool, true, false, not, cond, pos, refl, length-append, arith}
 use Rattle.wy_core.specs.Types.{Ty, NullTy, BoolTy, IntTy, AnyTy, VoidTy, RecordTy, ArrayTy, UnionTy, InterTy, NotTy, NamedTy, NormalTy, FieldTys, NoFieldTys, MoreFieldTys}
 use Rattle.wy_core.specs.CoreTree.{Expr, NullExpr, BoolExpr, IntExpr, VarExpr, CallExpr, NegExpr, NotExpr, LenExpr, BinaryExpr, IsExpr, IndexExpr, FieldExpr, ListExpr, RepeatExpr, RecordExpr, QuantExpr, Exprs, NoExprs, MoreExprs, Fields, NoFields, MoreFields}
 use Rattle.wy_core.specs.declared.expressions.Op.{Op}
@@ -10,16 +10,15 @@ use Rattle.wy_code.specs.declared.instructions.Comparison.TheVariants as compari
 use Rattle.wy_code.specs.declared.instructions.Scalar.TheVariants as scalar
 use Rattle.wy_code.specs.declared.instructions.Instr.TheVariants as instr
 use Rattle.wy_pieces.specs.declared.steps.Step.{Step}
-use Rattle.wy_pieces.specs.declared.steps.Step.TheVariants.{Does, GoesOn, GoesBack, GoesOnUnless}
-use Rattle.wy_pieces.specs.Steps.{clear, dropped, fork, turns}
+use Rattle.wy_pieces.specs.declared.steps.Step.TheVariants.{Does, GoesOn}
+use Rattle.wy_pieces.specs.Steps.{dropped, fork}
 use Rattle.wy_tables.specs.declared.context.Context.{Context}
 use Rattle.wy_tables.specs.declared.targets.Target.{Target}
 use Rattle.wy_tables.specs.declared.targets.Target.TheVariants.{Declared, Prints, PrintsInt, Nothing}
-use Rattle.wy_tables.specs.Tables.{target, shape_number, ty_names_in}
+use Rattle.wy_tables.specs.Tables.{target}
 use Rattle.wy_compiled.specs.TypeTests as test
 use Rattle.wy_compiled.specs.Expressions as spec
-use Rattle.wy_compiled.specs.Ranges.{targets_in}
-use Rattle.wy_compiled.proofs.WithinLemmas.{Within, within_append, within_more, clear_within, dropped_within, fork_inside, turns_within}
+use Rattle.wy_compiled.proofs.WithinLemmas.{Within, within_append, clear_within, dropped_within, fork_inside, turns_within}
 
 -- ---- tests of types
 

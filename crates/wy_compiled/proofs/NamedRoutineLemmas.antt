@@ -1,5 +1,5 @@
 -- Each routine names shapes and names of fields that stand in the table of the program.
-use Rattle.std.proofs.Common.{◌≡◌, ◌<◌, ◌+◌, ℕ, zero, suc, max, List, [], ◌∷◌, ◌++◌, length, Bool, true, false, cond, Option, Some, None}
+use Rattle.std.proofs.Common.{◌<◌, ◌+◌, ℕ, zero, suc, max, List, [], ◌∷◌, ◌++◌, length, Bool, true, false, cond, Option, Some, None}
 use Rattle.std.specs.List.{All}
 use Rattle.std.proofs.lemmas.List.Elements.{All-nil, All-cons, All-append}
 use Rattle.wy_value.specs.declared.shapes.Shapes.{Shapes}
@@ -8,11 +8,8 @@ use Rattle.wy_core.specs.CoreTree.{Expr, Exprs, Step, IndexStep, FieldStep, Stmt
 use Rattle.wy_live.specs.Sets.{Variables, has, with, without}
 use Rattle.wy_live.specs.Walks.{before, before_steps, live_all, head_live, around, nothing}
 use Rattle.wy_live.specs.declared.walk.Ends.{Ends}
-use Rattle.wy_code.specs.declared.instructions.Slot.{Slot}
-use Rattle.wy_code.specs.declared.instructions.Slot.TheVariants as slot
 use Rattle.wy_code.specs.declared.instructions.Instr.{Instr}
 use Rattle.wy_code.specs.declared.instructions.Instr.TheVariants as instr
-use Rattle.wy_code.specs.declared.routines.Routine.{Routine}
 use Rattle.wy_pieces.specs.declared.steps.Step as steps
 use Rattle.wy_pieces.specs.declared.steps.Step.TheVariants.{Does, GoesOn, GoesBack, GoesOnUnless}
 use Rattle.wy_pieces.specs.Steps.{clear, dropped, fork, over, turns}
@@ -20,14 +17,14 @@ use Rattle.wy_pieces.specs.Placing.{placed, routine_of}
 use Rattle.wy_tables.specs.declared.context.Context.{Context}
 use Rattle.wy_tables.specs.declared.targets.Target.{Target}
 use Rattle.wy_tables.specs.declared.targets.Target.TheVariants.{Declared, Prints, PrintsInt, Nothing}
-use Rattle.wy_tables.specs.Tables.{stands, number_of, target, context_of, table_of}
+use Rattle.wy_tables.specs.Tables.{target, context_of}
 use Rattle.wy_compiled.specs.TypeTests as types
 use Rattle.wy_compiled.specs.Expressions.{released, release_unless, is_plain, count_of, code, codes}
 use Rattle.wy_compiled.specs.Statements as spec
 use Rattle.wy_compiled.specs.Programs as programs
 use Rattle.wy_compiled.specs.Ranges.{shapes_in, fields_in, slot_fields, IsNamed}
-use Rattle.wy_compiled.proofs.TableLemmas.{StandsTy, StandsExpr, StandExprs, StandsOption, StandsPath, StandsStmt, StandStmts, StandsDecl, StandDecls, number_within, core_stands}
-use Rattle.wy_compiled.proofs.NamedLemmas.{Below, Names, AllName, names_append, clear_names, dropped_names, fork_names, turns_names, released_names, unless_names, test_names, code_names, codes_names}
+use Rattle.wy_compiled.proofs.TableLemmas.{StandsTy, StandsExpr, StandExprs, StandsOption, StandsPath, StandsStmt, StandStmts, StandDecls, number_within, core_stands}
+use Rattle.wy_compiled.proofs.NamedLemmas.{Below, AllName, names_append, clear_names, dropped_names, fork_names, turns_names, released_names, unless_names, test_names, code_names, codes_names}
 
 -- ---- statements
 

@@ -1,5 +1,5 @@
 -- Each routine is framed.
-use Rattle.std.proofs.Common.{◌≡◌, ◌∙◌, ◌≤◌, ◌<◌, ◌+◌, ℕ, zero, suc, max, List, [], ◌∷◌, ◌++◌, length, Option, refl, ap, subst, sym, append_assoc, length-append, arith}
+use Rattle.std.proofs.Common.{◌≡◌, ◌∙◌, ◌≤◌, ◌<◌, ℕ, zero, suc, max, List, [], ◌∷◌, ◌++◌, length, refl, ap, subst, sym, append_assoc, length-append, arith}
 use Rattle.std.specs.List.{All}
 use Rattle.std.proofs.lemmas.List.Elements.{All-nil, All-cons, All-append, All-weaker}
 use Rattle.wy_core.specs.CoreTree as tree
@@ -9,7 +9,6 @@ use Rattle.wy_live.specs.Walks.{live_all, nothing}
 use Rattle.wy_code.specs.declared.instructions.Instr.{Instr}
 use Rattle.wy_code.specs.declared.instructions.Instr.TheVariants as instr
 use Rattle.wy_code.specs.declared.instructions.Scalar.TheVariants as scalar
-use Rattle.wy_code.specs.declared.routines.Routine.{Routine}
 use Rattle.wy_pieces.specs.declared.steps.Step.{Step}
 use Rattle.wy_pieces.specs.declared.steps.Step.TheVariants.{Does}
 use Rattle.wy_pieces.specs.Steps.{clear, dropped, fork}
@@ -18,7 +17,7 @@ use Rattle.wy_tables.specs.declared.context.Context.{Context}
 use Rattle.wy_tables.specs.Tables.{context_of}
 use Rattle.wy_compiled.specs.TypeTests as types
 use Rattle.wy_compiled.specs.Expressions.{code}
-use Rattle.wy_compiled.specs.Statements.{stmts_code, gives_null}
+use Rattle.wy_compiled.specs.Statements.{stmts_code}
 use Rattle.wy_compiled.specs.Programs as spec
 use Rattle.wy_compiled.specs.Ranges.{targets_in, IsFramed}
 use Rattle.wy_compiled.proofs.FrameLemmas.{room_holds}

@@ -1,6 +1,6 @@
 -- The table of a program meets what the heap asks of one.
-use Rattle.std.proofs.Common.{◌≡◌, ◌∙◌, ◌⊎◌, inl, inr, ◌<◌, ◌+◌, ℕ, zero, suc, List, [], ◌∷◌, ◌++◌, length, get_or, Bool, true, false, cond, ◌||◌, Option, Some, None, refl, ap, subst, sym, length-append, arith}
-use Rattle.std.specs.Prelude.{bytes_eq, ◌≢◌}
+use Rattle.std.proofs.Common.{◌≡◌, ◌∙◌, ◌⊎◌, inl, inr, ◌<◌, ◌+◌, ℕ, zero, suc, List, [], ◌∷◌, ◌++◌, length, get_or, Bool, true, false, cond, ◌||◌, Option, Some, None, refl, subst, sym, length-append, arith}
+use Rattle.std.specs.Prelude.{bytes_eq}
 use Rattle.std.specs.List.{All}
 use Rattle.std.proofs.lemmas.Slice.Eq.{bytes_eq-Decides}
 use Rattle.std.proofs.lemmas.List.Elements.{All-nil, All-cons, All-push}
@@ -10,9 +10,9 @@ use Rattle.wy_value.specs.Shapes.{IsShapes, AreApart, named}
 use Rattle.wy_core.specs.Types.{Ty, NullTy, BoolTy, IntTy, AnyTy, VoidTy, RecordTy, ArrayTy, UnionTy, InterTy, NotTy, NamedTy, NormalTy, FieldTys, NoFieldTys, MoreFieldTys}
 use Rattle.wy_core.specs.CoreTree as tree
 use Rattle.wy_core.specs.CoreTree.{Expr, NullExpr, BoolExpr, IntExpr, VarExpr, CallExpr, NegExpr, NotExpr, LenExpr, BinaryExpr, IsExpr, IndexExpr, FieldExpr, ListExpr, RepeatExpr, RecordExpr, QuantExpr, Exprs, NoExprs, MoreExprs, Fields, NoFields, MoreFields, Step, IndexStep, FieldStep, Stmt, DeclareStmt, AssignStmt, CallStmt, ReturnStmt, AssertStmt, BreakStmt, ContinueStmt, SkipStmt, FailStmt, IfStmt, WhileStmt, Stmts, NoStmts, MoreStmts, Decl, AliasDecl, RoutineDecl, Core}
-use Rattle.wy_tables.specs.Tables.{Table, stands, number_of, numbers_of, with_one, with_name, with_names, with_shape, names_in, ty_names_in, ty_table, field_tys_table, expr_table, exprs_table, fields_table, option_table, path_table, stmt_table, stmts_table, decl_table, decls_table, table_of}
+use Rattle.wy_tables.specs.Tables.{Table, stands, number_of, numbers_of, with_name, with_names, with_shape, names_in, ty_names_in, ty_table, field_tys_table, expr_table, exprs_table, fields_table, option_table, path_table, stmt_table, stmts_table, decl_table, decls_table, table_of}
 use Rattle.wy_compiled.specs.Fields.{AreNames, AreFields, NamesTy, NameFieldTys, NamesExpr, NameExprs, NameFields, NamesOption, NamesPath, NamesStmt, NameStmts, NamesDecl, HasFields}
-use Rattle.wy_compiled.proofs.TableLemmas.{Extends, Listed, number_within, listed, same}
+use Rattle.wy_compiled.proofs.TableLemmas.{Listed, number_within, listed, same}
 
 -- ---- lists with one more
 

@@ -1,12 +1,11 @@
 -- The jumps in the code of statements stay within it, the loop around and what stands behind.
 use Rattle.std.proofs.Common.{◌≤◌, ◌+◌, ℕ, suc, List, [], ◌∷◌, ◌++◌, length, Bool, true, false, cond, Option, Some, None, refl, arith}
-use Rattle.wy_core.specs.CoreTree.{Expr, Exprs, Step, IndexStep, FieldStep, Stmt, DeclareStmt, AssignStmt, CallStmt, ReturnStmt, AssertStmt, BreakStmt, ContinueStmt, SkipStmt, FailStmt, IfStmt, WhileStmt, Stmts, NoStmts, MoreStmts}
+use Rattle.wy_core.specs.CoreTree.{Expr, Step, IndexStep, FieldStep, Stmt, DeclareStmt, AssignStmt, CallStmt, ReturnStmt, AssertStmt, BreakStmt, ContinueStmt, SkipStmt, FailStmt, IfStmt, WhileStmt, Stmts, NoStmts, MoreStmts}
 use Rattle.wy_live.specs.Sets.{Variables, has, with, without}
 use Rattle.wy_live.specs.Walks.{before, before_steps, live_all, head_live, around}
 use Rattle.wy_live.specs.declared.walk.Ends.{Ends}
 use Rattle.wy_code.specs.declared.instructions.Instr.TheVariants as instr
-use Rattle.wy_pieces.specs.declared.steps.Step as steps
-use Rattle.wy_pieces.specs.declared.steps.Step.TheVariants.{Does, GoesOn, GoesBack, GoesOnUnless}
+use Rattle.wy_pieces.specs.declared.steps.Step.TheVariants.{Does}
 use Rattle.wy_pieces.specs.Steps.{clear, fork, over, turns}
 use Rattle.wy_tables.specs.declared.context.Context.{Context}
 use Rattle.wy_tables.specs.declared.targets.Target.{Target}
@@ -14,8 +13,7 @@ use Rattle.wy_tables.specs.declared.targets.Target.TheVariants.{Declared, Prints
 use Rattle.wy_tables.specs.Tables.{target}
 use Rattle.wy_compiled.specs.Expressions.{released, release_unless, is_plain, count_of, code, codes}
 use Rattle.wy_compiled.specs.Statements as spec
-use Rattle.wy_compiled.specs.Ranges.{targets_in}
-use Rattle.wy_compiled.proofs.WithinLemmas.{Within, within_append, within_more, clear_within, fork_within, turns_within}
+use Rattle.wy_compiled.proofs.WithinLemmas.{Within, within_append, fork_within, turns_within}
 use Rattle.wy_compiled.proofs.JumpLemmas.{code_within, codes_within, released_within, unless_within}
 
 store_within : (x : ℕ) (s : Variables) (r : ℕ) (plain : Bool) (b : ℕ) → Within b (spec.store x s r plain)

@@ -1,8 +1,8 @@
 -- The code of small programs, as text.
-use Rattle.std.specs.Prelude.{◌≡◌, ℕ, List, [], ◌∷◌, ◌++◌, true, false, Some, None, pos, codes}
-use Rattle.wy_core.specs.Types.{Ty, NullTy, IntTy, AnyTy, ArrayTy, UnionTy, RecordTy, NoFieldTys, MoreFieldTys, NamedTy}
-use Rattle.wy_core.specs.CoreTree.{Expr, IntExpr, VarExpr, NegExpr, LenExpr, BinaryExpr, IsExpr, IndexExpr, FieldExpr, IndexStep, Stmt, DeclareStmt, AssignStmt, ReturnStmt, BreakStmt, IfStmt, WhileStmt, Stmts, NoStmts, MoreStmts, Core, AliasDecl, RoutineDecl}
-use Rattle.wy_core.specs.declared.expressions.Op.TheVariants.{Add, Less, GreaterEqual, And}
+use Rattle.std.specs.Prelude.{◌≡◌, ℕ, List, [], ◌∷◌, false, Some, None, pos, codes}
+use Rattle.wy_core.specs.Types.{NullTy, IntTy, AnyTy, UnionTy, RecordTy, NoFieldTys, MoreFieldTys, NamedTy}
+use Rattle.wy_core.specs.CoreTree.{IntExpr, VarExpr, NegExpr, LenExpr, BinaryExpr, IsExpr, IndexStep, DeclareStmt, AssignStmt, ReturnStmt, IfStmt, WhileStmt, Stmts, NoStmts, MoreStmts, Core, AliasDecl, RoutineDecl}
+use Rattle.wy_core.specs.declared.expressions.Op.TheVariants.{Add, Less}
 use Rattle.wy_code.specs.Listing.{code_text}
 use Rattle.wy_compiled.specs.Programs.{code_of}
 

@@ -1,5 +1,5 @@
 -- The code of a program.
-use Rattle.std.specs.Prelude.{ℕ, zero, suc, ◌+◌, max, List, [], ◌∷◌, ◌++◌, length, cond, Option, Some, None}
+use Rattle.std.specs.Prelude.{ℕ, zero, suc, max, List, [], ◌∷◌, ◌++◌, length, cond, Option, Some, None}
 use Rattle.wy_core.specs.CoreTree as tree
 use Rattle.wy_core.specs.CoreTree.{Expr, Core, aliases_of, routines_of}
 use Rattle.wy_live.specs.Sets.{Variables, has, with}
