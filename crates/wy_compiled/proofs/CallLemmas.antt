@@ -1,0 +1,202 @@
+-- Each instruction calls a routine of the program.
+use Rattle.std.proofs.Common.{◌≡◌, ◌<◌, ◌+◌, ℕ, zero, suc, List, [], ◌∷◌, ◌++◌, length, Bool, true, false, not, cond, pos, refl, arith}
+use Rattle.wy_core.specs.Types.{Ty, NullTy, BoolTy, IntTy, AnyTy, VoidTy, RecordTy, ArrayTy, UnionTy, InterTy, NotTy, NamedTy, NormalTy, FieldTys, NoFieldTys, MoreFieldTys}
+use Rattle.wy_core.specs.CoreTree.{Expr, NullExpr, BoolExpr, IntExpr, VarExpr, CallExpr, NegExpr, NotExpr, LenExpr, BinaryExpr, IsExpr, IndexExpr, FieldExpr, ListExpr, RepeatExpr, RecordExpr, QuantExpr, Exprs, NoExprs, MoreExprs, Fields, NoFields, MoreFields}
+use Rattle.wy_core.specs.declared.expressions.Op.{Op}
+use Rattle.wy_core.specs.declared.expressions.Op.TheVariants as op
+use Rattle.wy_live.specs.Sets.{Variables, has}
+use Rattle.wy_live.specs.Walks.{before, before_all, before_fields, turned}
+use Rattle.wy_code.specs.declared.instructions.Instr.TheVariants as instr
+use Rattle.wy_code.specs.declared.instructions.Comparison.TheVariants as comparison
+use Rattle.wy_code.specs.declared.instructions.Scalar.TheVariants as scalar
+use Rattle.wy_pieces.specs.declared.steps.Step.{Step}
+use Rattle.wy_pieces.specs.declared.steps.Step.TheVariants.{Does, GoesOn, GoesBack, GoesOnUnless}
+use Rattle.wy_pieces.specs.Steps.{clear, dropped, fork, turns, where_true}
+use Rattle.wy_tables.specs.declared.context.Context.{Context}
+use Rattle.wy_tables.specs.declared.targets.Target.{Target}
+use Rattle.wy_tables.specs.declared.targets.Target.TheVariants.{Declared, Prints, PrintsInt, Nothing}
+use Rattle.wy_tables.specs.Tables.{target}
+use Rattle.wy_compiled.specs.TypeTests as test
+use Rattle.wy_compiled.specs.Expressions as spec
+use Rattle.wy_formed.specs.Offers.{Offers}
+use Rattle.wy_formed.specs.Bound.{Scope, BoundTy, BoundFieldTys, BoundExpr, BoundExprs, BoundFields}
+use Rattle.wy_compiled.specs.Ranges.{routines_in}
+
+-- each is below
+abbrev pub Below : ℕ → List ℕ → Type 0
+Below n [] = Unit {0}
+Below n (x ∷ xs) = (x < n) × Below n xs
+
+-- each instruction of the code
+abbrev pub AllCall : ℕ → List Step → Type 0
+AllCall t [] = Unit {0}
+AllCall t (Does i ∷ steps) = Below t (routines_in i) × AllCall t steps
+AllCall t (GoesOn n ∷ steps) = AllCall t steps
+AllCall t (GoesBack n ∷ steps) = AllCall t steps
+AllCall t (GoesOnUnless r n ∷ steps) = AllCall t steps
+
+pub calls_append : (t : ℕ) (xs ys : List Step) → AllCall t xs → AllCall t ys → AllCall t (xs ++ ys)
+calls_append t [] ys a b = b
+calls_append t (Does i ∷ xs) ys a b = (a.0, calls_append t xs ys a.1 b)
+calls_append t (GoesOn n ∷ xs) ys a b = calls_append t xs ys a b
+calls_append t (GoesBack n ∷ xs) ys a b = calls_append t xs ys a b
+calls_append t (GoesOnUnless r n ∷ xs) ys a b = calls_append t xs ys a b
+
+pub clear_calls : (t : ℕ) (rs : List ℕ) → AllCall t (clear rs)
+clear_calls t [] = tt
+clear_calls t (r ∷ rs) = (tt, tt)
+
+pub dropped_calls : (t : ℕ) (r f : ℕ) → AllCall t (dropped r f)
+dropped_calls t r f = (tt, (tt, tt))
+
+pub where_calls : (t : ℕ) (r : ℕ) (first : List Step) → AllCall t first → AllCall t (where_true r first)
+where_calls t r [] a = tt
+where_calls t r (s ∷ first) a = a
+
+pub fork_calls : (t : ℕ) (r : ℕ) (first second : List Step) → AllCall t first → AllCall t second → AllCall t (fork r first second)
+fork_calls t r first [] a b = where_calls t r first a
+fork_calls t r first (s ∷ second) a b = calls_append t first (GoesOn (length (s ∷ second)) ∷ s ∷ second) a b
+
+pub turns_calls : (t : ℕ) (test : List Step) (r : ℕ) (body : List Step) → AllCall t test → AllCall t body → AllCall t (turns test r body)
+turns_calls t test r body a b = calls_append t test _ a (calls_append t body _ b tt)
+
+-- ---- tests of types, where there are k of them that are declared
+
+item_turns_calls : (t : ℕ) (v r f : ℕ) (rest : List Step) → AllCall t rest → AllCall t (test.item_turns v r f rest)
+item_turns_calls t v r f rest a = turns_calls t (Does (instr.Compare r comparison.Less (suc f) f) ∷ []) r (Does (instr.Get (suc (suc f)) v (suc f)) ∷ rest) (tt, tt) (tt, a)
+
+mutual
+  pub test_calls : (c : Context) (k : ℕ) (t : Ty) (v r f : ℕ) → BoundTy k t → AllCall (length c.results + k) (test.test c t v r f)
+  test_calls c k NullTy v r f h = (tt, tt)
+  test_calls c k BoolTy v r f h = (tt, tt)
+  test_calls c k IntTy v r f h = (tt, tt)
+  test_calls c k AnyTy v r f h = (tt, tt)
+  test_calls c k VoidTy v r f h = (tt, tt)
+  test_calls c k (RecordTy fs) v r f h = (tt, fork_calls (length c.results + k) r (test.fields_test c fs v r f) [] (fields_calls c k fs v r f h.1) tt)
+  test_calls c k (ArrayTy t) v r f h =
+      let one = test.test c t (suc (suc f)) r (suc (suc (suc f))) in
+      let turn : AllCall (length c.results + k) (one ++ test.item_end r f) = calls_append (length c.results + k) one (test.item_end r f) (test_calls c k t (suc (suc f)) r (suc (suc (suc f))) h) (tt, (tt, (tt, (tt, tt)))) in
+      let items : AllCall (length c.results + k) (test.items_test v r f one) = calls_append (length c.results + k) (test.item_turns v r f (one ++ test.item_end r f)) (test.yes r) (item_turns_calls (length c.results + k) v r f (one ++ test.item_end r f) turn) (tt, tt) in
+      (tt, fork_calls (length c.results + k) r (Does (instr.Len f v) ∷ Does (instr.Const (suc f) (scalar.Int (pos 0))) ∷ test.items_test v r f one) [] (tt, (tt, items)) tt)
+  test_calls c k (UnionTy s t) v r f h = calls_append (length c.results + k) (test.test c s v r f) (fork r [] (test.test c t v r f)) (test_calls c k s v r f h.0) (fork_calls (length c.results + k) r [] (test.test c t v r f) tt (test_calls c k t v r f h.1))
+  test_calls c k (InterTy s t) v r f h = calls_append (length c.results + k) (test.test c s v r f) (fork r (test.test c t v r f) []) (test_calls c k s v r f h.0) (fork_calls (length c.results + k) r (test.test c t v r f) [] (test_calls c k t v r f h.1) tt)
+  test_calls c k (NotTy t) v r f h = calls_append (length c.results + k) (test.test c t v r f) _ (test_calls c k t v r f h) (tt, tt)
+  test_calls c k (NamedTy n) v r f h = (tt, ((omega arith, tt), tt))
+  test_calls c k (NormalTy union) v r f h = absurd h
+
+  fields_calls : (c : Context) (k : ℕ) (fs : FieldTys) (v r f : ℕ) → BoundFieldTys k fs → AllCall (length c.results + k) (test.fields_test c fs v r f)
+  fields_calls c k NoFieldTys v r f h = tt
+  fields_calls c k (MoreFieldTys name t fs) v r f h = (
+    tt,
+    calls_append (length c.results + k) (test.test c t f r (suc f)) (test.field_end r f (test.fields_test c fs v r f)) (test_calls c k t f r (suc f) h.0)
+        (calls_append (length c.results + k) (dropped f (suc f)) (fork r (test.fields_test c fs v r f) []) (dropped_calls (length c.results + k) f (suc f)) (fork_calls (length c.results + k) r (test.fields_test c fs v r f) [] (fields_calls c k fs v r f h.1) tt)),
+  )
+
+-- ---- pieces of expressions
+
+pub released_calls : (t : ℕ) (s u : Variables) → AllCall t (spec.released s u)
+released_calls t s u = clear_calls t (spec.lost s u)
+
+pub unless_calls : (t : ℕ) (plain : Bool) (r : ℕ) → AllCall t (spec.release_unless plain r)
+unless_calls t true r = tt
+unless_calls t false r = (tt, tt)
+
+operator_calls : (t : ℕ) (o : Op) (d : ℕ) (plain : Bool) → AllCall t (spec.operator o d plain)
+operator_calls t op.Add d plain = (tt, tt)
+operator_calls t op.Sub d plain = (tt, tt)
+operator_calls t op.Mul d plain = (tt, tt)
+operator_calls t op.Div d plain = (tt, tt)
+operator_calls t op.Mod d plain = (tt, tt)
+operator_calls t op.Equal d plain = (tt, unless_calls t plain (suc d))
+operator_calls t op.Less d plain = (tt, tt)
+operator_calls t op.LessEqual d plain = (tt, tt)
+operator_calls t op.Greater d plain = (tt, tt)
+operator_calls t op.GreaterEqual d plain = (tt, tt)
+operator_calls t op.And d plain = tt
+operator_calls t op.Or d plain = tt
+
+operate_calls : (t : ℕ) (o : Op) (d : ℕ) (right skipped : List Step) (plain : Bool) → AllCall t right → AllCall t skipped → AllCall t (spec.operate o d right skipped plain)
+operate_calls t op.Add d right skipped plain h k = calls_append t right _ h (operator_calls t op.Add d plain)
+operate_calls t op.Sub d right skipped plain h k = calls_append t right _ h (operator_calls t op.Sub d plain)
+operate_calls t op.Mul d right skipped plain h k = calls_append t right _ h (operator_calls t op.Mul d plain)
+operate_calls t op.Div d right skipped plain h k = calls_append t right _ h (operator_calls t op.Div d plain)
+operate_calls t op.Mod d right skipped plain h k = calls_append t right _ h (operator_calls t op.Mod d plain)
+operate_calls t op.Equal d right skipped plain h k = calls_append t right _ h (operator_calls t op.Equal d plain)
+operate_calls t op.Less d right skipped plain h k = calls_append t right _ h (operator_calls t op.Less d plain)
+operate_calls t op.LessEqual d right skipped plain h k = calls_append t right _ h (operator_calls t op.LessEqual d plain)
+operate_calls t op.Greater d right skipped plain h k = calls_append t right _ h (operator_calls t op.Greater d plain)
+operate_calls t op.GreaterEqual d right skipped plain h k = calls_append t right _ h (operator_calls t op.GreaterEqual d plain)
+operate_calls t op.And d right skipped plain h k = fork_calls t d right skipped h k
+operate_calls t op.Or d right skipped plain h k = fork_calls t d skipped right k h
+
+pub called_within : (results : List Bool) (f : ℕ) (gives : Bool) → target results f ≡ Declared gives → f < length results
+called_within [] zero gives h = cc
+called_within [] (suc zero) gives h = cc
+called_within [] (suc (suc f)) gives h = cc
+called_within (b ∷ bs) zero gives h = omega arith
+called_within (b ∷ bs) (suc f) gives h = let l : f < length bs = called_within bs f gives h in omega arith
+
+call_calls : (results : List Bool) (k f d count : ℕ) → AllCall (length results + k) (spec.call (target results f) f d count)
+call_calls results k f d count = go (target results f) (λ gives is. called_within results f gives is)
+  where
+    go : (to : Target) → ((gives : Bool) → to ≡ Declared gives → f < length results) → AllCall (length results + k) (spec.call to f d count)
+    go (Declared gives) h = let l : f < length results = h gives refl in ((omega arith, tt), tt)
+    go Prints h = (tt, (tt, tt))
+    go PrintsInt h = (tt, (tt, tt))
+    go Nothing h = (tt, tt)
+
+use_calls : (t : ℕ) (shared : Bool) (d x : ℕ) → AllCall t (Does (cond shared (instr.Share d x) (instr.Move d x)) ∷ [])
+use_calls t true d x = (tt, tt)
+use_calls t false d x = (tt, tt)
+
+said_calls : (t : ℕ) (d : ℕ) (truth : Bool) (gone : List Step) → AllCall t gone → AllCall t (spec.said d truth gone)
+said_calls t d truth gone h = calls_append t gone _ h (tt, tt)
+
+turn_end_calls : (t : ℕ) (all : Bool) (d : ℕ) (gone : List Step) → AllCall t (spec.turn_end all d gone)
+turn_end_calls t true d gone = (tt, (tt, tt))
+turn_end_calls t false d gone = (tt, (tt, (tt, tt)))
+
+number_turns_calls : (t : ℕ) (x d : ℕ) (rest : List Step) → AllCall t rest → AllCall t (spec.number_turns x d rest)
+number_turns_calls t x d rest a =
+    turns_calls t (Does (instr.Compare (suc (suc d)) comparison.Less d (suc d)) ∷ []) (suc (suc d)) (Does (instr.Share x d) ∷ rest) (tt, tt) (tt, a)
+
+quantify_calls : (t : ℕ) (all : Bool) (x d : ℕ) (body gone : List Step) → AllCall t body → AllCall t gone → AllCall t (spec.quantify all x d body gone)
+quantify_calls t all x d body gone h k =
+    calls_append t (spec.number_turns x d (body ++ spec.turn_end all d gone)) (spec.ends all d gone)
+    (number_turns_calls t x d (body ++ spec.turn_end all d gone) (calls_append t body (spec.turn_end all d gone) h (turn_end_calls t all d gone)))
+    (calls_append t gone _ k (tt, said_calls t d (not all) gone k))
+
+-- ---- expressions
+
+mutual
+  pub code_calls : (c : Context) (o : Offers) (n : ℕ) (vs : Scope) (e : Expr ℕ) (s : Variables) (d : ℕ) → BoundExpr o n vs e → AllCall (length c.results + o.types) (spec.code c e s d)
+  code_calls c o n vs (NullExpr at) s d h = (tt, tt)
+  code_calls c o n vs (BoolExpr at truth) s d h = (tt, tt)
+  code_calls c o n vs (IntExpr at number) s d h = (tt, tt)
+  code_calls c o n vs (VarExpr at x) s d h = use_calls (length c.results + o.types) (has s x) d x
+  code_calls c o n vs (CallExpr at f args) s d h = calls_append (length c.results + o.types) (spec.codes c args s d) _ (codes_calls c o n vs args s d h.1) (call_calls c.results o.types f d (spec.count_of args))
+  code_calls c o n vs (NegExpr at a) s d h = calls_append (length c.results + o.types) (spec.code c a s d) _ (code_calls c o n vs a s d h) (tt, (tt, tt))
+  code_calls c o n vs (NotExpr at a) s d h = calls_append (length c.results + o.types) (spec.code c a s d) _ (code_calls c o n vs a s d h) (tt, tt)
+  code_calls c o n vs (LenExpr at a) s d h = calls_append (length c.results + o.types) (spec.code c a s d) _ (code_calls c o n vs a s d h) (tt, tt)
+  code_calls c o n vs (BinaryExpr at w x y) s d h =
+      calls_append (length c.results + o.types) (spec.code c x (before y s) d) _ (code_calls c o n vs x (before y s) d h.0)
+      (operate_calls (length c.results + o.types) w d (spec.code c y s (spec.right_register w d)) (spec.released (before y s) s) (spec.is_plain y) (code_calls c o n vs y s (spec.right_register w d) h.1) (released_calls (length c.results + o.types) (before y s) s))
+  code_calls c o n vs (IsExpr at a ty) s d h =
+      calls_append (length c.results + o.types) (spec.code c a s d) (spec.is_test c ty d) (code_calls c o n vs a s d h.0) (calls_append (length c.results + o.types) (test.test c ty d (suc d) (suc (suc d))) _ (test_calls c o.types ty d (suc d) (suc (suc d)) h.1) (tt, (tt, (tt, tt))))
+  code_calls c o n vs (IndexExpr at x y) s d h = calls_append (length c.results + o.types) (spec.code c x (before y s) d) _ (code_calls c o n vs x (before y s) d h.0) (calls_append (length c.results + o.types) (spec.code c y s (suc d)) _ (code_calls c o n vs y s (suc d) h.1) (tt, tt))
+  code_calls c o n vs (FieldExpr at a name) s d h = calls_append (length c.results + o.types) (spec.code c a s d) _ (code_calls c o n vs a s d h) (tt, tt)
+  code_calls c o n vs (ListExpr at items) s d h = calls_append (length c.results + o.types) (spec.codes c items s d) _ (codes_calls c o n vs items s d h) (tt, tt)
+  code_calls c o n vs (RepeatExpr at x y) s d h = calls_append (length c.results + o.types) (spec.code c x (before y s) d) _ (code_calls c o n vs x (before y s) d h.0) (calls_append (length c.results + o.types) (spec.code c y s (suc d)) _ (code_calls c o n vs y s (suc d) h.1) (tt, tt))
+  code_calls c o n vs (RecordExpr at fs) s d h = calls_append (length c.results + o.types) (spec.field_codes c fs s d) _ (field_codes_calls c o n vs fs s d h.1) (tt, tt)
+  code_calls c o n vs (QuantExpr at all x from to body) s d h =
+      calls_append (length c.results + o.types) (spec.code c from (before to (turned x body s)) d) _ (code_calls c o n vs from (before to (turned x body s)) d h.1)
+      (calls_append (length c.results + o.types) (spec.code c to (turned x body s) (suc d)) _ (code_calls c o n vs to (turned x body s) (suc d) h.2)
+      (quantify_calls (length c.results + o.types) all x d (spec.code c body (turned x body s) (suc (suc d))) (spec.released (turned x body s) s) (code_calls c o n (x ∷ vs) body (turned x body s) (suc (suc d)) h.3) (released_calls (length c.results + o.types) (turned x body s) s)))
+
+  pub codes_calls : (c : Context) (o : Offers) (n : ℕ) (vs : Scope) (es : Exprs ℕ) (s : Variables) (d : ℕ) → BoundExprs o n vs es → AllCall (length c.results + o.types) (spec.codes c es s d)
+  codes_calls c o n vs NoExprs s d h = tt
+  codes_calls c o n vs (MoreExprs e es) s d h = calls_append (length c.results + o.types) (spec.code c e (before_all es s) d) _ (code_calls c o n vs e (before_all es s) d h.0) (codes_calls c o n vs es s (suc d) h.1)
+
+  field_codes_calls : (c : Context) (o : Offers) (n : ℕ) (vs : Scope) (fs : Fields ℕ) (s : Variables) (d : ℕ) → BoundFields o n vs fs → AllCall (length c.results + o.types) (spec.field_codes c fs s d)
+  field_codes_calls c o n vs NoFields s d h = tt
+  field_codes_calls c o n vs (MoreFields name e fs) s d h = calls_append (length c.results + o.types) (spec.code c e (before_fields fs s) d) _ (code_calls c o n vs e (before_fields fs s) d h.0) (field_codes_calls c o n vs fs s (suc d) h.1)

@@ -1,0 +1,12 @@
+-- Each line holds by computing.
+use Rattle.std.proofs.Common.{refl}
+use Rattle.std.specs.Fmt.{digits}
+use Rattle.wy_compiled.specs.Examples.{ProgramsHave}
+
+pub programs_have : ProgramsHave
+unfolding digits
+programs_have = record {
+  absolute = refl;
+  a_loop = refl;
+  a_type = refl;
+}

@@ -1,0 +1,9 @@
+-- the code of tests of types, of expressions, of statements, and of programs
+pub mod TypeTests
+pub mod Expressions
+pub mod Statements
+pub mod Programs
+pub mod Examples
+-- what its numbers name
+pub mod Ranges
+pub mod Fields

@@ -1,0 +1,14 @@
+//! The names of fields and the shapes of records in a program, and their numbers.
+//!
+//! `tables` meets them in the order of the source, and `context` is what code is made by;
+//! `targets` says what the number of a routine calls. What the table of a program is stands in
+//! `specs/Tables`.
+#![tactic(auto)]
+
+mod context;
+mod tables;
+mod targets;
+
+pub use context::Context;
+pub use tables::{context_of, name_number, shape_number};
+pub use targets::{Target, called};
