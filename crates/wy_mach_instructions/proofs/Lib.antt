@@ -1,0 +1,12 @@
+pub mod EffectLemmas
+pub mod RegisterLemmas
+pub mod OperandLemmas
+pub mod SameLemmas
+pub mod MoveLemmas
+pub mod NumberLemmas
+pub mod EqualLemmas
+pub mod LookLemmas
+pub mod TakeLemmas
+pub mod MakeLemmas
+pub mod FieldLemmas
+pub mod ItemLemmas

@@ -1,0 +1,4 @@
+pub mod Showing
+pub mod Operands
+pub mod Looking
+pub mod Taking
