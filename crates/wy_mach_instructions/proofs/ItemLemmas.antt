@@ -1,7 +1,7 @@
 -- An item of what a register holds comes into another one.
-use Rattle.std.proofs.Common.{◌≡◌, ℕ, ◌<◌, ◌≤◌, List, [], ◌∷◌, length, get_or, set, Bool, true, false, Option, Some, None, ℤ, pos, negsuc, refl, sym, ◌∙◌, ap, subst, arith}
+use Rattle.std.proofs.Common.{◌≡◌, ℕ, zero, suc, ◌<◌, ◌≤◌, List, [], ◌∷◌, length, get_or, set, Bool, true, false, Option, Some, None, ℤ, pos, negsuc, refl, sym, ◌∙◌, ap, subst, arith}
 use Rattle.std.proofs.lemmas.Bool.Decides.{nat_tests}
-use Rattle.wy_value.specs.Datum.{Datum, Null, Truth, Whole, Array, Record, Data}
+use Rattle.wy_value.specs.Datum.{Datum, Null, Truth, Whole, Array, Record, Data, no_items, item}
 use Rattle.wy_value.specs.Values.{length_of}
 use Rattle.wy_heap.specs.declared.part.Part.{Part}
 use Rattle.wy_heap.specs.declared.part.Part.TheVariants as part
@@ -9,7 +9,7 @@ use Rattle.wy_heap.specs.declared.heap.Heap.{Heap}
 use Rattle.wy_heap.specs.Nodes.{map_of}
 use Rattle.wy_heap.specs.Meaning.{Means}
 use Rattle.wy_heap.specs.Slots as slots
-use Rattle.wy_heap.specs.Slots.{HasStep, child}
+use Rattle.wy_heap.specs.Slots.{nth, HasStep, child}
 use Rattle.wy_heap.specs.Standing.{Stands}
 use Rattle.wy_heap.proofs.RowLemmas.{first_meant}
 use Rattle.wy_sem.specs.Operations.{item_at, nat_of, is_index}
@@ -22,7 +22,6 @@ use Rattle.wy_mach_instructions.specs.Operands.{number_in, Reads}
 use Rattle.wy_mach_instructions.specs.Looking.{length_in, IsItem}
 use Rattle.wy_mach_instructions.proofs.RegisterLemmas.{shows_slot, slot_within}
 use Rattle.wy_mach_instructions.proofs.MoveLemmas.{Seconds, second_shows}
-use Rattle.wy_mach_instructions.proofs.FieldLemmas.{nth-item_at}
 
 -- ---- whether an item is there
 
@@ -55,6 +54,11 @@ pub item_somewhere : (h : Heap) (p : Part) (i : ℕ) → ((d : Datum) → Means 
 item_somewhere h p i of there_is = let long = item_length there_is.0 i None there_is.2 (of there_is.0 there_is.1) in let e = long.1 in cc
 
 -- ---- the effect of `Get`
+
+pub nth-item_at : (ds : Data) (i : ℕ) → nth ds i ≡ item_at ds i
+nth-item_at no_items i = refl
+nth-item_at (item d ds) zero = refl
+nth-item_at (item d ds) (suc i) = nth-item_at ds i
 
 by_where : (P : Effect → Type 0) (b : Bool) (next : Effect) → P Fails → (b ≡ true → P next) → P (where_so b next)
 by_where P true next fails goes = goes refl

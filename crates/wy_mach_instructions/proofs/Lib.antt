@@ -8,5 +8,6 @@ pub mod EqualLemmas
 pub mod LookLemmas
 pub mod TakeLemmas
 pub mod MakeLemmas
-pub mod FieldLemmas
 pub mod ItemLemmas
+pub mod FillLemmas
+pub mod RecordLemmas
