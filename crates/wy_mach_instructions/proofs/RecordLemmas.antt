@@ -35,7 +35,7 @@ record_none [] (d ∷ ds) differ = refl
 record_none (n ∷ ns) [] differ = refl
 record_none (n ∷ ns) (d ∷ ds) differ = ap (behind_field n d) (record_none ns ds (λ e. differ (ap (λ (k : ℕ). suc k) e)))
 
-length-data_of : (ds : List Datum) → length_of (data_of ds) ≡ length ds
+pub length-data_of : (ds : List Datum) → length_of (data_of ds) ≡ length ds
 length-data_of [] = refl
 length-data_of (d ∷ ds) = omega (arith, length-data_of ds)
 
