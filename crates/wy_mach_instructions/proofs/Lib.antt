@@ -1,0 +1,15 @@
+pub mod EffectLemmas
+pub mod RegisterLemmas
+pub mod OperandLemmas
+pub mod SameLemmas
+pub mod MoveLemmas
+pub mod NumberLemmas
+pub mod EqualLemmas
+pub mod LookLemmas
+pub mod TakeLemmas
+pub mod MakeLemmas
+pub mod ItemLemmas
+pub mod FillLemmas
+pub mod RecordLemmas
+pub mod KindLemmas
+pub mod EntryLemmas
