@@ -1,8 +1,9 @@
 -- Conditions of programs, and the open leaves at which their searches end.
 use Rattle.std.specs.Prelude.{◌≡◌, ◌-◌, ◌^◌, List, [], ◌∷◌, ◌++◌, true, false, codes, pos, negsuc, Some}
 use Rattle.wy_term.specs.Term.{DataKind, int_kind, bool_kind, array_kind, Term, Of, no_parts, part, leaf, one, two, Number, Not, int_name, val_name, truth, num, len, get, sub, mul, at_most, equal, of_kind, every, all_of, any_of}
+use Rattle.wy_term.specs.Condition.{Condition}
 use Rattle.wy_judge.specs.Node.{Literal}
-use Rattle.wy_search.specs.Tree.{still, open_leaf, searched, first_spot}
+use Rattle.wy_search.specs.Tree.{still, found, open_leaf, spent, searched, first_spot}
 use Rattle.wy_search.specs.Examples.{condition, zero_term, one_term}
 
 abbrev pub least : Term
@@ -94,3 +95,32 @@ pub record OpenLeaves : Type 0 where
   pub twice_stays : twice_is_open
   pub empty_stays : empty_is_open
   pub loop_stays : loop_is_open
+
+-- the opposite of a number above the least `int`, as a product with -1
+abbrev pub x : Term
+x = leaf (val_name (codes "x") 0)
+
+abbrev pub r : Term
+r = leaf (val_name (codes "r") 1)
+
+abbrev pub above_least : Term
+above_least = Not (two at_most (number_of x) least)
+
+abbrev pub opposite_of : Term
+opposite_of = two sub zero_term (number_of x)
+
+abbrev pub minus_once : Term
+minus_once = two mul (number_of x) (Number (negsuc 0))
+
+abbrev pub in_range : Condition
+in_range = condition (whole x ++ above_least ∷ [] ++ whole r ++ two at_most least opposite_of ∷ []) (two at_most opposite_of greatest)
+
+abbrev pub are_equal : Condition
+are_equal = condition (whole x ++ above_least ∷ two at_most least minus_once ∷ two at_most minus_once greatest ∷ []) (Of all_of (part (two at_most minus_once opposite_of) (part (two at_most opposite_of minus_once) no_parts)))
+
+-- the first is found with one leaf; the second has one leaf where both bounds hold, and one where each fails
+pub record FoundWithin : Type 0 where
+  pub range_is_found : searched [] 1 3 0 (first_spot in_range ∷ []) ≡ Some (found 1)
+  pub equality_is_spent_at_one : searched [] 1 9 0 (first_spot are_equal ∷ []) ≡ Some spent
+  pub equality_is_spent_at_two : searched [] 2 9 0 (first_spot are_equal ∷ []) ≡ Some spent
+  pub equality_is_found : searched [] 3 9 0 (first_spot are_equal ∷ []) ≡ Some (found 3)

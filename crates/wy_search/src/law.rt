@@ -1,6 +1,6 @@
 //! What the definition says.
 ghost use Rattle.wy_search.specs.Examples.{SmallSearches};
-ghost use Rattle.wy_search.specs.Programs.{OpenLeaves};
+ghost use Rattle.wy_search.specs.Programs.{FoundWithin, OpenLeaves};
 ghost use Rattle.wy_search.specs.Tree.{OneVerdict};
 
 /// A search has one verdict.
@@ -16,4 +16,9 @@ pub fn small_searches_end_so()
 /// Conditions of programs that stay open do so at these leaves.
 pub fn open_leaves_are_these()
     ensures { OpenLeaves }
+{}
+
+/// Conditions of a program that are found end with so many leaves, and at a lesser budget it is spent.
+pub fn leaves_are_these()
+    ensures { FoundWithin }
 {}

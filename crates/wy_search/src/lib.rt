@@ -6,4 +6,4 @@
 
 mod law;
 
-pub use law::{one_verdict, open_leaves_are_these, small_searches_end_so};
+pub use law::{leaves_are_these, one_verdict, open_leaves_are_these, small_searches_end_so};
