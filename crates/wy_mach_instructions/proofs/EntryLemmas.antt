@@ -1,8 +1,7 @@
 -- What the registers of a frame show at entry.
-use Rattle.std.proofs.Common.{◌≡◌, ℕ, zero, suc, ◌-◌, List, [], ◌∷◌, ◌++◌, length, refl, sym, ◌∙◌, ap, subst, arith, append_assoc, append-nil}
+use Rattle.std.proofs.Common.{◌≡◌, ℕ, zero, suc, ◌-◌, List, [], ◌∷◌, ◌++◌, length, refl, sym, ◌∙◌, ap, subst, arith, append-nil}
 use Rattle.wy_value.specs.Datum.{Datum}
 use Rattle.wy_heap.specs.declared.part.Part.{Part}
-use Rattle.wy_heap.specs.declared.part.Part.TheVariants.{Null}
 use Rattle.wy_heap.specs.Nodes.{Map}
 use Rattle.wy_heap.specs.Meaning.{MeanAll}
 use Rattle.wy_heap.proofs.MeaningLemmas.{mean_all-length}
@@ -32,11 +31,6 @@ entry_shows m vs ps all many is mean =
     let as_many : length ps ≡ length vs = omega (arith, mean_all-length m (data_of vs) ps mean, length-data_of vs) in
     subst (Shows m (holding vs ++ empties (many - length vs))) (sym (is ∙ ap (λ (n : ℕ). ps ++ nulls (many - n)) as_many))
     (shows_append m (holding vs) (empties (many - length vs)) ps (nulls (many - length vs)) (holding_shows m vs ps mean) (empties_show m (many - length vs)))
-
--- a null more, of those that are left
-pub null_more : (all whole : List Part) (p : Part) (more less : ℕ) → p ≡ Null → more ≡ suc less → all ++ nulls more ≡ whole → (all ++ p ∷ []) ++ nulls less ≡ whole
-null_more all whole p more less null is left =
-    append_assoc all (p ∷ []) (nulls less) ∙ ap (λ (q : Part). all ++ (q ∷ nulls less)) null ∙ ap (λ (n : ℕ). all ++ nulls n) (sym is) ∙ left
 
 pub no_more : (all whole : List Part) (more : ℕ) → more ≡ 0 → all ++ nulls more ≡ whole → all ≡ whole
 no_more all whole more none left = sym (append-nil all) ∙ ap (λ (n : ℕ). all ++ nulls n) (sym none) ∙ left
