@@ -1,0 +1,2 @@
+-- what numbers name
+pub mod DescribedLemmas

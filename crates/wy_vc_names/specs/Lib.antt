@@ -1,0 +1,2 @@
+-- what is known of a program's declarations
+pub mod Described

@@ -1,0 +1,6 @@
+use Rattle.wy_term.specs.Term as term
+use Rattle.wy_vc_operations.proofs.GrowingLemmas.{by_one}
+use Rattle.wy_vc_operations.proofs.making.len.Goals as goal
+
+pub returns-clause-made : goal.returns-clause-made
+returns-clause-made c = λ v hv. by_one c.put.result c.args.terms.now c.put.new.terms term.len c.args.value v c.put.ensures.made hv

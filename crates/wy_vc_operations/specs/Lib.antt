@@ -1,0 +1,2 @@
+-- lists of terms that grow
+pub mod Growing
