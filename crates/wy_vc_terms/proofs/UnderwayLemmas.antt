@@ -1,6 +1,6 @@
 -- Loops over fields, expressions and clauses: what was made and what is left are all.
-use Rattle.std.proofs.Common.{◌≡◌, ◌<◌, ◌≤◌, ◌+◌, ℕ, zero, suc, List, [], ◌∷◌, ◌++◌, length, map, drop, get_or, refl, ◌∙◌, ap, subst, sym, append_assoc, arith}
-use Rattle.std.proofs.lemmas.List.{append-nil, drop_all, drop_more}
+use Rattle.std.proofs.Common.{◌≡◌, ◌<◌, ◌≤◌, ◌+◌, ℕ, zero, suc, List, [], ◌∷◌, ◌++◌, length, map, drop, take, get_or, refl, ◌∙◌, ap, subst, sym, append_assoc, arith}
+use Rattle.std.proofs.lemmas.List.{append-nil, drop_all, drop_more, take_all, take_more, map_push}
 use Rattle.std.proofs.lemmas.List.Elements.{All-nil, All-cons, All-append}
 use Rattle.wy_core.specs.Types as ty
 use Rattle.wy_core.specs.CoreTree as tree
@@ -12,13 +12,13 @@ use Rattle.wy_term.specs.Term.{Term}
 use Rattle.wy_term.specs.Nodes.{Plain, tree_at}
 use Rattle.wy_term.specs.Numbers.{IsAt}
 use Rattle.wy_conditions.specs.Numbered.{Node, numbered, numbered_all, numbered_fields, numbered_list}
-use Rattle.wy_conditions.specs.Sizes.{exprs_in, exprs_in_all}
+use Rattle.wy_conditions.specs.Sizes.{exprs_in, exprs_in_all, exprs_in_fields}
 use Rattle.wy_conditions.specs.Making as made
 use Rattle.wy_conditions.specs.Values.{Setting, Naming, Valued, ValuedAll, valued, valued_all, holds, fields_hold, value, values, field_values, field_names, clause_formulas}
 use Rattle.wy_conditions.specs.Variables.{Vars}
 use Rattle.wy_vc_operations.specs.Growing.{Kept, Makes, AreAt, AreBelow}
 use Rattle.wy_vc_operations.proofs.GrowingLemmas.{kept_on, onward, all_kept, none_at, more_at, below_on, below_head, below_tail}
-use Rattle.wy_vc_terms.specs.Made.{IsMade, AreMade, IsUnderway}
+use Rattle.wy_vc_terms.specs.Made.{IsMadeAt, AreMade, IsUnderway}
 use Rattle.wy_vc_terms.specs.Wholes.{tys_of}
 
 -- ---- lists
@@ -83,7 +83,7 @@ arrived {a} {b} {ks} {n} {all} u = record {
 pub field_turn : (named : Naming) (t : Term) {old a b c : List Plain} {ks : List ℕ} {part r n m : ℕ} {all : ValuedAll} (fields : List (List ℕ × rust.Ty)) (i : ℕ) (f : List ℕ × rust.Ty)
     → i < length fields → f ≡ get_or fields i f
     → IsUnderway old a ks (fields_hold named (tys_of (drop i fields)) t n) all
-    → Makes a b part (made.field f.0 t) → IsMade b c r m (holds named (seen_ty f.1) (made.field f.0 t) n)
+    → Makes a b part (made.field f.0 t) → IsMadeAt b c r m (holds named (seen_ty f.1) (made.field f.0 t) n)
     → IsUnderway old c (ks ++ r ∷ []) (fields_hold named (tys_of (drop (i + 1) fields)) t m) all
 field_turn named t {old} {a} {b} {c} {ks} {part} {r} {n} {m} {all} fields i f within is u p h =
     let here = at_item (λ (l : List (List ℕ × rust.Ty)). IsUnderway old a ks (fields_hold named (tys_of l) t n) all) fields i f within is u in
@@ -91,7 +91,7 @@ field_turn named t {old} {a} {b} {c} {ks} {part} {r} {n} {m} {all} fields i f wi
     subst (λ (z : ℕ). IsUnderway old c (ks ++ r ∷ []) (fields_hold named (tys_of (drop (i + 1) fields)) t z) all) (sym h.names) next
 
 pub fields_end : (named : Naming) (t : Term) {old a b : List Plain} {ks : List ℕ} {r n : ℕ} (all : ValuedAll) (fields : List (List ℕ × rust.Ty)) (i : ℕ)
-    → length fields ≤ i → IsUnderway old a ks (fields_hold named (tys_of (drop i fields)) t n) all → (AreAt a ks all.terms → Makes a b r (made.all_of all.terms)) → IsMade old b r n (valued all.count (made.all_of all.terms))
+    → length fields ≤ i → IsUnderway old a ks (fields_hold named (tys_of (drop i fields)) t n) all → (AreAt a ks all.terms → Makes a b r (made.all_of all.terms)) → IsMadeAt old b r n (valued all.count (made.all_of all.terms))
 fields_end named t {old} {a} {b} {ks} {r} {n} all fields i over u m =
     let z : AreMade old a ks n all = arrived (at_end (λ (l : List (List ℕ × rust.Ty)). IsUnderway old a ks (fields_hold named (tys_of l) t n) all) fields i over u) in
     record { term = onward z.kept (m z.terms); names = z.names }
@@ -101,7 +101,7 @@ fields_end named t {old} {a} {b} {ks} {r} {n} all fields i over u m =
 pub value_turn : (s : Setting Node) (named : Naming) (words : List (List ℕ)) (vars : Vars) {old a b : List Plain} {ks : List ℕ} {r n m k j : ℕ} {all : ValuedAll} (items : List e.Expr) (i : ℕ) (x : e.Expr)
     → i < length items → x ≡ get_or items i x
     → IsUnderway old a ks (values s named words (numbered_all (exprs_of (seen_exprs (drop i items))) k) vars n) all
-    → IsMade a b r m (value s named words (numbered (seen_expr x) k) vars n) → j ≡ k + exprs_in (seen_expr x)
+    → IsMadeAt a b r m (value s named words (numbered (seen_expr x) k) vars n) → j ≡ k + exprs_in (seen_expr x)
     → IsUnderway old b (ks ++ r ∷ []) (values s named words (numbered_all (exprs_of (seen_exprs (drop (i + 1) items))) j) vars m) all
 value_turn s named words vars {old} {a} {b} {ks} {r} {n} {m} {k} {j} {all} items i x within is u h numbered_so =
     let here = at_item (λ (l : List e.Expr). IsUnderway old a ks (values s named words (numbered_all (exprs_of (seen_exprs l)) k) vars n) all) items i x within is u in
@@ -112,7 +112,7 @@ value_turn s named words vars {old} {a} {b} {ks} {r} {n} {m} {k} {j} {all} items
 pub field_value_turn : (s : Setting Node) (named : Naming) (words : List (List ℕ)) (vars : Vars) {old a b : List Plain} {ks : List ℕ} {r n m k j : ℕ} {all : ValuedAll} (items : List (List ℕ × e.Expr)) (i : ℕ) (x : List ℕ × e.Expr)
     → i < length items → x ≡ get_or items i x
     → IsUnderway old a ks (field_values s named words (numbered_fields (seen_fields (drop i items)) k) vars n) all
-    → IsMade a b r m (value s named words (numbered (seen_expr x.1) k) vars n) → j ≡ k + exprs_in (seen_expr x.1)
+    → IsMadeAt a b r m (value s named words (numbered (seen_expr x.1) k) vars n) → j ≡ k + exprs_in (seen_expr x.1)
     → IsUnderway old b (ks ++ r ∷ []) (field_values s named words (numbered_fields (seen_fields (drop (i + 1) items)) j) vars m) all
 field_value_turn s named words vars {old} {a} {b} {ks} {r} {n} {m} {k} {j} {all} items i x within is u h numbered_so =
     let here = at_item (λ (l : List (List ℕ × e.Expr)). IsUnderway old a ks (field_values s named words (numbered_fields (seen_fields l) k) vars n) all) items i x within is u in
@@ -125,7 +125,7 @@ field_value_turn s named words vars {old} {a} {b} {ks} {r} {n} {m} {k} {j} {all}
 pub clause_turn : (s : Setting Node) (named : Naming) (words : List (List ℕ)) (vars : Vars) {old a b c : List Plain} {ks : List ℕ} {v r n m k j : ℕ} {all : ValuedAll} (items : List e.Expr) (i : ℕ) (x : e.Expr)
     → i < length items → x ≡ get_or items i x
     → IsUnderway old a ks (clause_formulas s named words (numbered_list (seen_exprs (drop i items)) k) vars n) all
-    → IsMade a b v m (value s named words (numbered (seen_expr x) k) vars n) → j ≡ k + exprs_in (seen_expr x)
+    → IsMadeAt a b v m (value s named words (numbered (seen_expr x) k) vars n) → j ≡ k + exprs_in (seen_expr x)
     → Makes b c r (made.formula (value s named words (numbered (seen_expr x) k) vars n).term)
     → IsUnderway old c (ks ++ r ∷ []) (clause_formulas s named words (numbered_list (seen_exprs (drop (i + 1) items)) j) vars m) all
 clause_turn s named words vars {old} {a} {b} {c} {ks} {v} {r} {n} {m} {k} {j} {all} items i x within is u h numbered_so f =
@@ -135,7 +135,7 @@ clause_turn s named words vars {old} {a} {b} {c} {ks} {v} {r} {n} {m} {k} {j} {a
     subst (λ (z : ℕ). IsUnderway old c (ks ++ r ∷ []) (clause_formulas s named words (numbered_list (seen_exprs (drop (i + 1) items)) z) vars m) all) (sym numbered_so) named_so
 
 pub clauses_end : (s : Setting Node) (named : Naming) (words : List (List ℕ)) (vars : Vars) {old a b : List Plain} {ks : List ℕ} {r n k : ℕ} (all : ValuedAll) (items : List e.Expr) (i : ℕ)
-    → length items ≤ i → IsUnderway old a ks (clause_formulas s named words (numbered_list (seen_exprs (drop i items)) k) vars n) all → (AreAt a ks all.terms → Makes a b r (made.all_of all.terms)) → IsMade old b r n (valued all.count (made.all_of all.terms))
+    → length items ≤ i → IsUnderway old a ks (clause_formulas s named words (numbered_list (seen_exprs (drop i items)) k) vars n) all → (AreAt a ks all.terms → Makes a b r (made.all_of all.terms)) → IsMadeAt old b r n (valued all.count (made.all_of all.terms))
 clauses_end s named words vars {old} {a} {b} {ks} {r} {n} {k} all items i over u m =
     let z : AreMade old a ks n all = arrived (at_end (λ (l : List e.Expr). IsUnderway old a ks (clause_formulas s named words (numbered_list (seen_exprs l) k) vars n) all) items i over u) in
     record { term = onward z.kept (m z.terms); names = z.names }
@@ -166,3 +166,21 @@ pub next_node : (items : List e.Expr) (i : ℕ) (x : e.Expr) → i < length item
 next_node items i x within is n m all so counted =
     let h : n + exprs_in_all (exprs_of (seen_exprs (x ∷ drop (i + 1) items))) ≡ all = at_item (λ (l : List e.Expr). n + exprs_in_all (exprs_of (seen_exprs l)) ≡ all) items i x within is so in
     omega (arith, h, counted)
+
+pub next_field_node : (items : List (List ℕ × e.Expr)) (i : ℕ) (x : List ℕ × e.Expr) → i < length items → x ≡ get_or items i x → (n m all : ℕ) → n + exprs_in_fields (seen_fields (drop i items)) ≡ all → m ≡ n + exprs_in (seen_expr x.1) → m + exprs_in_fields (seen_fields (drop (i + 1) items)) ≡ all
+next_field_node items i x within is n m all so counted =
+    let h : n + exprs_in_fields (seen_fields (x ∷ drop (i + 1) items)) ≡ all = at_item (λ (l : List (List ℕ × e.Expr)). n + exprs_in_fields (seen_fields l) ≡ all) items i x within is so in
+    omega (arith, h, counted)
+
+-- the names so far, and one more
+pub names_turn : (items : List (List ℕ × e.Expr)) (i : ℕ) (x : List ℕ × e.Expr) (name : List ℕ) (names : List (List ℕ)) → i < length items → x ≡ get_or items i x → name ≡ x.0 → names ≡ map (λ f. f.0) (take i items) → names ++ name ∷ [] ≡ map (λ f. f.0) (take (i + 1) items)
+names_turn items i x name names within is named so =
+    let more : take (i + 1) items ≡ take i items ++ x ∷ [] = take_more items i x within ∙ ap (λ (y : List ℕ × e.Expr). take i items ++ y ∷ []) (sym is) in
+    ap (λ (l : List (List ℕ)). l ++ name ∷ []) so ∙ (ap (λ (n : List ℕ). map (λ f. f.0) (take i items) ++ n ∷ []) named ∙ (sym (map_push (λ (f : List ℕ × e.Expr). f.0) (take i items) x) ∙ ap (λ (l : List (List ℕ × e.Expr)). map (λ f. f.0) l) (sym more)))
+
+names_seen : (items : List (List ℕ × e.Expr)) → map (λ f. f.0) items ≡ field_names (seen_fields items)
+names_seen [] = refl
+names_seen (f ∷ fs) = ap (λ (l : List (List ℕ)). f.0 ∷ l) (names_seen fs)
+
+pub names_end : (items : List (List ℕ × e.Expr)) (i : ℕ) (names : List (List ℕ)) → length items ≤ i → names ≡ map (λ f. f.0) (take i items) → names ≡ field_names (seen_fields items)
+names_end items i names over so = so ∙ (ap (λ (l : List (List ℕ × e.Expr)). map (λ f. f.0) l) (take_all i items over) ∙ names_seen items)

@@ -36,7 +36,7 @@ pub fn holds(
     ensures within { IfOk result (λ r. r < count_of maker.new.terms) }
     ensures grows { OnOk result (count_of maker.old.terms ≤ count_of maker.new.terms) }
     ensures node { OnOk result (maker.new.node ≡ maker.old.node) }
-    ensures made { IsDescribed core.now program.now → (t : Term) → IsAt maker.old.terms v t → IfOk result (λ r. IsMade maker.old.terms maker.new.terms r maker.new.count (spec.holds (spec.named_in (setting core.now program.now)) (seen_ty ty.now) t maker.old.count)) }
+    ensures made { IsDescribed core.now program.now → (t : Term) → IsAt maker.old.terms v t → IfOk result (λ r. IsMade maker.old maker.new r (spec.holds (spec.named_in (setting core.now program.now)) (seen_ty ty.now) t maker.old.count)) }
 {
     let depth = program.types.len();
     let count = maker.count;
@@ -62,7 +62,7 @@ pub fn value_formula(
     ensures grows { OnOk result (count_of maker.old.terms ≤ count_of maker.new.terms) }
     ensures node { OnOk result (maker.new.node ≡ maker.old.node + exprs_in (seen_expr clause.now)) }
     ensures vars { OnOk result (vars.new.items ≡ vars.old.items) }
-    ensures made { IsDescribed core.now program.now → (slots : Vars) → AreSlotsAt maker.old.terms vars.old.items slots → IfOk result (λ r. IsMade maker.old.terms maker.new.terms r maker.new.count (spec.clause_formula (setting core.now program.now) (spec.named_in (setting core.now program.now)) words.now (numbered (seen_expr clause.now) maker.old.node) slots maker.old.count)) }
+    ensures made { IsDescribed core.now program.now → (slots : Vars) → AreSlotsAt maker.old.terms vars.old.items slots → IfOk result (λ r. IsMade maker.old maker.new r (spec.clause_formula (setting core.now program.now) (spec.named_in (setting core.now program.now)) words.now (numbered (seen_expr clause.now) maker.old.node) slots maker.old.count)) }
 {
     let depth = program.types.len();
     let count = maker.count;

@@ -19,7 +19,7 @@ ghost use Rattle.wy_conditions.specs.Values as spec;
 ghost use Rattle.wy_conditions.specs.Variables.{Vars, put as spec_put, put_if};
 ghost use Rattle.wy_vc_names.specs.Described.{IsDescribed, is_number_in, setting, types_of};
 ghost use Rattle.wy_vc_operations.specs.Growing.{AreBelow, AreSlotsAt};
-ghost use Rattle.wy_vc_terms.specs.Made.{AreMade, IsMade};
+ghost use Rattle.wy_vc_terms.specs.Made.{AreMade, IsMadeAt};
 ghost use Rattle.wy_vc_terms.specs.Wholes.{with_clauses};
 
 use crate::parts::{anything, element, is_array, is_int, is_record, next_name};
@@ -84,7 +84,7 @@ pub fn holds_to(
     requires { v < count_of terms.old }
     ensures within { IfOk result (λ m. m.term < count_of terms.new) }
     ensures grows { OnOk result (count_of terms.old ≤ count_of terms.new) }
-    ensures made { IsDescribed core.now program.now → (t : Term) → IsAt terms.old v t → IfOk result (λ m. IsMade terms.old terms.new m.term m.count (spec.holds (spec.named_to (setting core.now program.now) depth) (seen_ty ty.now) t count)) }
+    ensures made { IsDescribed core.now program.now → (t : Term) → IsAt terms.old v t → IfOk result (λ m. IsMadeAt terms.old terms.new m.term m.count (spec.holds (spec.named_to (setting core.now program.now) depth) (seen_ty ty.now) t count)) }
 {
     if left == 0 {
         return Err(NoMemory);
@@ -181,7 +181,7 @@ fn fields_hold(
     requires { v < count_of terms.old }
     ensures within { IfOk result (λ m. m.term < count_of terms.new) }
     ensures grows { OnOk result (count_of terms.old ≤ count_of terms.new) }
-    ensures made { IsDescribed core.now program.now → (t : Term) → IsAt terms.old v t → IfOk result (λ m. IsMade terms.old terms.new m.term m.count (spec.holds (spec.named_to (setting core.now program.now) depth) (ty.RecordTy (field_tys_of (map (λ f. (f.0, seen_ty f.1)) fields.now))) t count)) }
+    ensures made { IsDescribed core.now program.now → (t : Term) → IsAt terms.old v t → IfOk result (λ m. IsMadeAt terms.old terms.new m.term m.count (spec.holds (spec.named_to (setting core.now program.now) depth) (ty.RecordTy (field_tys_of (map (λ f. (f.0, seen_ty f.1)) fields.now))) t count)) }
 {
     if left == 0 {
         return Err(NoMemory);
@@ -217,7 +217,7 @@ fn named_to(
     requires { v < count_of terms.old }
     ensures within { IfOk result (λ m. m.term < count_of terms.new) }
     ensures grows { OnOk result (count_of terms.old ≤ count_of terms.new) }
-    ensures made { IsDescribed core.now program.now → (t : Term) → IsAt terms.old v t → IfOk result (λ m. IsMade terms.old terms.new m.term m.count (spec.named_to (setting core.now program.now) depth number t count)) }
+    ensures made { IsDescribed core.now program.now → (t : Term) → IsAt terms.old v t → IfOk result (λ m. IsMadeAt terms.old terms.new m.term m.count (spec.named_to (setting core.now program.now) depth number t count)) }
 {
     if left == 0 {
         return Err(NoMemory);
@@ -241,7 +241,7 @@ fn tested(terms: &mut Terms, v: u32, number: u32, count: u64) -> Result<Made, No
     requires { v < count_of terms.old }
     ensures within { IfOk result (λ m. m.term < count_of terms.new) }
     ensures grows { OnOk result (count_of terms.old ≤ count_of terms.new) }
-    ensures made { (t : Term) → IsAt terms.old v t → IfOk result (λ m. IsMade terms.old terms.new m.term m.count (spec.valued count (made.in_type number t))) }
+    ensures made { (t : Term) → IsAt terms.old v t → IfOk result (λ m. IsMadeAt terms.old terms.new m.term m.count (spec.valued count (made.in_type number t))) }
 {
     let term = in_type(terms, v, number)?;
     Ok(Made { term, count })
@@ -251,7 +251,7 @@ fn tested(terms: &mut Terms, v: u32, number: u32, count: u64) -> Result<Made, No
 fn nothing(alloc: Global, terms: &mut Terms, count: u64) -> Result<Made, NoMemory>
     ensures within { IfOk result (λ m. m.term < count_of terms.new) }
     ensures grows { OnOk result (count_of terms.old ≤ count_of terms.new) }
-    ensures made { IfOk result (λ m. IsMade terms.old terms.new m.term m.count (spec.valued count (made.all_of (made.falsehood ∷ [])))) }
+    ensures made { IfOk result (λ m. IsMadeAt terms.old terms.new m.term m.count (spec.valued count (made.all_of (made.falsehood ∷ [])))) }
 {
     let none = falsehood(alloc, terms)?;
     let parts = Vec::from_slice(alloc, &[none])?;
@@ -275,7 +275,7 @@ pub fn defined_to(
     requires { v < count_of terms.old }
     ensures within { IfOk result (λ m. m.term < count_of terms.new) }
     ensures grows { OnOk result (count_of terms.old ≤ count_of terms.new) }
-    ensures made { IsDescribed core.now program.now → (t : Term) → IsAt terms.old v t → IfOk result (λ m. IsMade terms.old terms.new m.term m.count (spec.defined (setting core.now program.now) (spec.named_to (setting core.now program.now) depth) (alias_at (types_of core.now) number) t count)) }
+    ensures made { IsDescribed core.now program.now → (t : Term) → IsAt terms.old v t → IfOk result (λ m. IsMadeAt terms.old terms.new m.term m.count (spec.defined (setting core.now program.now) (spec.named_to (setting core.now program.now) depth) (alias_at (types_of core.now) number) t count)) }
 {
     if left == 0 {
         return Err(NoMemory);
@@ -326,7 +326,7 @@ fn alias_to(
     requires { v < count_of terms.old }
     ensures within { IfOk result (λ m. m.term < count_of terms.new) }
     ensures grows { OnOk result (count_of terms.old ≤ count_of terms.new) }
-    ensures made { IsDescribed core.now program.now → (t : Term) → IsAt terms.old v t → IfOk result (λ m. IsMade terms.old terms.new m.term m.count (spec.defined (setting core.now program.now) (spec.named_to (setting core.now program.now) depth) (numbered_alias (seen_alias alias.now) first) t count)) }
+    ensures made { IsDescribed core.now program.now → (t : Term) → IsAt terms.old v t → IfOk result (λ m. IsMadeAt terms.old terms.new m.term m.count (spec.defined (setting core.now program.now) (spec.named_to (setting core.now program.now) depth) (numbered_alias (seen_alias alias.now) first) t count)) }
 {
     if left == 0 {
         return Err(NoMemory);
@@ -369,7 +369,7 @@ fn clauses_hold(
     requires { whole < count_of terms.old }
     ensures within { IfOk result (λ m. m.term < count_of terms.new) }
     ensures grows { OnOk result (count_of terms.old ≤ count_of terms.new) }
-    ensures made { IsDescribed core.now program.now → (slots : Vars) (f : Term) → AreSlotsAt terms.old vars.old.items slots → IsAt terms.old whole f → IfOk result (λ m. IsMade terms.old terms.new m.term m.count (with_clauses (setting core.now program.now) (spec.named_to (setting core.now program.now) depth) words.now clauses.now node slots f count)) }
+    ensures made { IsDescribed core.now program.now → (slots : Vars) (f : Term) → AreSlotsAt terms.old vars.old.items slots → IsAt terms.old whole f → IfOk result (λ m. IsMadeAt terms.old terms.new m.term m.count (with_clauses (setting core.now program.now) (spec.named_to (setting core.now program.now) depth) words.now clauses.now node slots f count)) }
 {
     if left == 0 {
         return Err(NoMemory);
@@ -410,7 +410,7 @@ pub fn value_to(
     ensures grows { OnOk result (count_of terms.old ≤ count_of terms.new) }
     ensures node { IfOk result (λ m. m.next ≡ node + exprs_in (seen_expr expr.now)) }
     ensures vars { OnOk result (vars.new.items ≡ vars.old.items) }
-    ensures made { IsDescribed core.now program.now → (slots : Vars) → AreSlotsAt terms.old vars.old.items slots → IfOk result (λ m. IsMade terms.old terms.new m.term m.count (spec.value (setting core.now program.now) (spec.named_to (setting core.now program.now) depth) words.now (numbered (seen_expr expr.now) node) slots count)) }
+    ensures made { IsDescribed core.now program.now → (slots : Vars) → AreSlotsAt terms.old vars.old.items slots → IfOk result (λ m. IsMadeAt terms.old terms.new m.term m.count (spec.value (setting core.now program.now) (spec.named_to (setting core.now program.now) depth) words.now (numbered (seen_expr expr.now) node) slots count)) }
 {
     if left == 0 {
         return Err(NoMemory);
@@ -510,12 +510,14 @@ pub fn value_to(
             Ok(Valued { term, count: v.count, next })
         }
         ExprKind::List(items) => {
-            let ValuedAll { terms: made, count: made_count, next: behind } = values_to(
+            let all = values_to(
                 alloc, core, program, words, depth, left - 1, terms, vars, items.as_slice(), count, node,
             )?;
-            let term = list(terms, made)?;
+            let names = all.count;
+            let behind = all.next;
+            let term = list(terms, all.terms)?;
             let next = total(behind, 1)?;
-            Ok(Valued { term, count: made_count, next })
+            Ok(Valued { term, count: names, next })
         }
         ExprKind::Repeat(a, b) => {
             let v = value_to(
@@ -529,12 +531,14 @@ pub fn value_to(
             Ok(Valued { term, count: w.count, next })
         }
         ExprKind::Record(fields) => {
-            let ValuedFields { fields: made, count: made_count, next: behind } = field_values_to(
+            let all = field_values_to(
                 alloc, core, program, words, depth, left - 1, terms, vars, fields.as_slice(), count, node,
             )?;
-            let term = record(terms, made)?;
+            let names = all.count;
+            let behind = all.next;
+            let term = record(terms, all.fields)?;
             let next = total(behind, 1)?;
-            Ok(Valued { term, count: made_count, next })
+            Ok(Valued { term, count: names, next })
         }
         ExprKind::Quant(all, x, a, b, body) => {
             let v = value_to(
@@ -581,7 +585,7 @@ fn body_to(
     ensures grows { OnOk result (count_of terms.old ≤ count_of terms.new) }
     ensures node { IfOk result (λ m. m.next ≡ node + exprs_in (seen_expr body.now)) }
     ensures vars { OnOk result (vars.new.items ≡ vars.old.items) }
-    ensures made { IsDescribed core.now program.now → (slots : Vars) → AreSlotsAt terms.old vars.old.items slots → IfOk result (λ m. IsMade terms.old terms.new m.term m.count (spec.value (setting core.now program.now) (spec.named_to (setting core.now program.now) depth) words.now (numbered (seen_expr body.now) node) (spec_put slots variable (made.int (made.int_name (spec.word_at words.now variable) count))) (suc count))) }
+    ensures made { IsDescribed core.now program.now → (slots : Vars) → AreSlotsAt terms.old vars.old.items slots → IfOk result (λ m. IsMadeAt terms.old terms.new m.term m.count (spec.value (setting core.now program.now) (spec.named_to (setting core.now program.now) depth) words.now (numbered (seen_expr body.now) node) (spec_put slots variable (made.int (made.int_name (spec.word_at words.now variable) count))) (suc count))) }
 {
     if left == 0 {
         return Err(NoMemory);
@@ -674,7 +678,8 @@ fn field_values_to(
         let v = value_to(
             alloc, core, program, words, depth, left - 1, terms, vars, &item.1, names, next,
         )?;
-        made.push((item.0.copy(alloc)?, v.term))?;
+        let name = item.0.copy(alloc)?;
+        made.push((name, v.term))?;
         names = v.count;
         next = v.next;
     }
