@@ -1,5 +1,5 @@
 //! A program as its conditions see it.
-ghost use Rattle.std.specs.Prelude.{◌≡◌, slice_get, slice_index_or, false};
+ghost use Rattle.std.specs.Prelude.{◌≡◌, [], slice_get, slice_index_or, false};
 ghost use Rattle.std.specs.Option.{option_copied};
 ghost use Rattle.wy_core.specs.CoreSeen.{seen_core, seen_ty};
 ghost use Rattle.wy_core.specs.CoreTree as tree;
@@ -77,6 +77,19 @@ fn declared_callee(core: &Core, called: Called) -> Callee<'_>
     }
 }
 
+// What has a number this far behind the functions and methods.
+fn built_in<'a>(behind: usize) -> Callee<'a>
+    ensures value { IsFound (callee [] behind) result }
+{
+    if behind == 0 {
+        return Callee::Print;
+    }
+    if behind == 1 {
+        return Callee::PrintInt;
+    }
+    Callee::Unknown
+}
+
 impl Program {
     /// Whether the expression with this number is a number. Constant time.
     pub fn is_number_at(&self, node: usize) -> bool
@@ -123,17 +136,11 @@ impl Program {
         ensures value { IsDescribed core.now self.now → IsFound (callee (routines_of (numbered_core (seen_core core.now))) number) result }
     {
         let index = number as usize;
-        let count = self.routines.len();
-        if index < count {
-            let called = self.routines[index];
-            return declared_callee(core, called);
-        }
-        if index == count {
-            Callee::Print
-        } else if index - count == 1 {
-            Callee::PrintInt
-        } else {
-            Callee::Unknown
+        let routines = self.routines.as_slice();
+        let count = routines.len();
+        match routines.get(index) {
+            Some(called) => declared_callee(core, *called),
+            None => built_in(index - count),
         }
     }
 

@@ -45,8 +45,8 @@ by_two r old new symbol v w t u made at also =
 pub by_three : {E : Type 0} (r : Result ℕ E) (old new : List Plain) (symbol : Symbol) (v w x : ℕ) (t u s : Term) → IfOk r (λ k. Makes old new k (of_three symbol (tree_at old v) (tree_at old w) (tree_at old x))) → IsAt old v t → IsAt old w u → IsAt old x s → IfOk r (λ k. Makes old new k (of_three symbol t u s))
 by_three r old new symbol v w x t u s made at also third =
     subst (λ (z : Term). IfOk r (λ k. Makes old new k (of_three symbol t u z))) third.is
-        (subst (λ (y : Term). IfOk r (λ k. Makes old new k (of_three symbol t y (tree_at old x)))) also.is
-            (subst (λ (z : Term). IfOk r (λ k. Makes old new k (of_three symbol z (tree_at old w) (tree_at old x)))) at.is made))
+    (subst (λ (y : Term). IfOk r (λ k. Makes old new k (of_three symbol t y (tree_at old x)))) also.is
+    (subst (λ (z : Term). IfOk r (λ k. Makes old new k (of_three symbol z (tree_at old w) (tree_at old x)))) at.is made))
 
 -- ---- terms in order
 

@@ -1,5 +1,5 @@
 -- Terms of variables.
-use Rattle.std.proofs.Common.{◌≡◌, ◌<◌, ◌≤◌, ℕ, zero, suc, List, [], ◌∷◌, ◌++◌, length, map, take, All, Option, Some, None, option_map, IfSome, slice_set, slice_get, refl, ◌∙◌, ap, subst, sym, arith}
+use Rattle.std.proofs.Common.{◌≡◌, ◌<◌, ◌≤◌, ℕ, zero, suc, List, [], ◌∷◌, ◌++◌, length, map, take, All, Option, Some, None, option_map, slice_set, slice_index_or, refl, ◌∙◌, ap, subst, sym, arith}
 use Rattle.wy_term.specs.Term.{Term}
 use Rattle.wy_term.specs.Nodes.{Plain, tree_at}
 use Rattle.wy_term.specs.Numbers.{IsAt}
@@ -44,15 +44,10 @@ put_taken_back before old mid new x t count slot was slot_was count_was set cut 
 
 -- ---- the slot at a place
 
-pub slot_none : (vars : List (Option ℕ)) (x : ℕ) → slice_get vars x ≡ None → slot_at vars x ≡ None
-slot_none [] x e = refl
-slot_none (v ∷ vs) zero e = absurd cc
-slot_none (v ∷ vs) (suc x) e = slot_none vs x e
-
-pub slot_some : (vars : List (Option ℕ)) (x : ℕ) (slot : Option ℕ) → slice_get vars x ≡ Some slot → slot_at vars x ≡ slot
-slot_some [] x slot e = absurd cc
-slot_some (v ∷ vs) zero slot e = cc
-slot_some (v ∷ vs) (suc x) slot e = slot_some vs x slot e
+pub slot_or : (vars : List (Option ℕ)) (x : ℕ) → slice_index_or vars x None ≡ slot_at vars x
+slot_or [] x = refl
+slot_or (v ∷ vs) zero = refl
+slot_or (v ∷ vs) (suc x) = slot_or vs x
 
 -- ---- terms by slots
 

@@ -9,8 +9,8 @@ mod operations;
 mod slots;
 
 pub use making::{
-    at_most, conjunction, denied, disjunction, equal, every, exists, field, get, in_type, int, kind,
-    len, list, null, num, number_name, number_of, record, truth, val_name, value_of,
+    at_most, conjunction, denied, disjunction, equal, every, exists, field, get, in_type, int,
+    kind, len, list, null, num, number_name, number_of, record, truth, val_name, value_of,
 };
 pub use operations::{
     both, each_of_three, either, falsehood, formula, index, length, less_than, negated, operated,

@@ -61,7 +61,12 @@ pub fn val_name(alloc: Global, terms: &mut Terms, word: &Name, number: u64) -> R
 }
 
 /// The Int name of this word with a number.
-pub fn number_name(alloc: Global, terms: &mut Terms, word: &Name, number: u64) -> Result<u32, NoMemory>
+pub fn number_name(
+    alloc: Global,
+    terms: &mut Terms,
+    word: &Name,
+    number: u64,
+) -> Result<u32, NoMemory>
     ensures within { IfOk result (λ r. r < count_of terms.new) }
     ensures grows { OnOk result (count_of terms.old ≤ count_of terms.new) }
     ensures made { IfOk result (λ r. Makes terms.old terms.new r (made.int_name word.now number)) }
@@ -205,7 +210,15 @@ pub fn disjunction(terms: &mut Terms, formulas: Vec<u32>) -> Result<u32, NoMemor
 }
 
 /// `all` of an Int name from one Int term on and below another.
-pub fn every(alloc: Global, terms: &mut Terms, word: &Name, number: u64, from: u32, below: u32, body: u32) -> Result<u32, NoMemory>
+pub fn every(
+    alloc: Global,
+    terms: &mut Terms,
+    word: &Name,
+    number: u64,
+    from: u32,
+    below: u32,
+    body: u32,
+) -> Result<u32, NoMemory>
     requires first { from < count_of terms.old }
     requires second { below < count_of terms.old }
     requires third { body < count_of terms.old }
@@ -216,7 +229,7 @@ pub fn every(alloc: Global, terms: &mut Terms, word: &Name, number: u64, from: u
     let word = word.copy(alloc)?;
     let quantifier = Quantifier {
         word,
-        number: u128::from(number),
+        number: number as u128,
         from,
         below,
         body,
@@ -225,7 +238,15 @@ pub fn every(alloc: Global, terms: &mut Terms, word: &Name, number: u64, from: u
 }
 
 /// `some` of an Int name from one Int term on and below another.
-pub fn exists(alloc: Global, terms: &mut Terms, word: &Name, number: u64, from: u32, below: u32, body: u32) -> Result<u32, NoMemory>
+pub fn exists(
+    alloc: Global,
+    terms: &mut Terms,
+    word: &Name,
+    number: u64,
+    from: u32,
+    below: u32,
+    body: u32,
+) -> Result<u32, NoMemory>
     requires first { from < count_of terms.old }
     requires second { below < count_of terms.old }
     requires third { body < count_of terms.old }
@@ -236,7 +257,7 @@ pub fn exists(alloc: Global, terms: &mut Terms, word: &Name, number: u64, from: 
     let word = word.copy(alloc)?;
     let quantifier = Quantifier {
         word,
-        number: u128::from(number),
+        number: number as u128,
         from,
         below,
         body,
@@ -333,7 +354,13 @@ pub(crate) fn update(terms: &mut Terms, array: u32, index: u32, value: u32) -> R
 }
 
 /// The record with another value of a field.
-pub(crate) fn set_field(alloc: Global, terms: &mut Terms, whole: u32, name: &Name, value: u32) -> Result<u32, NoMemory>
+pub(crate) fn set_field(
+    alloc: Global,
+    terms: &mut Terms,
+    whole: u32,
+    name: &Name,
+    value: u32,
+) -> Result<u32, NoMemory>
     requires first { whole < count_of terms.old }
     requires second { value < count_of terms.old }
     ensures within { IfOk result (λ r. r < count_of terms.new) }

@@ -132,7 +132,13 @@ pub fn updated(terms: &mut Terms, array: u32, index: u32, value: u32) -> Result<
 }
 
 /// The record with another value of a field.
-pub fn updated_field(alloc: Global, terms: &mut Terms, whole: u32, name: &Name, value: u32) -> Result<u32, NoMemory>
+pub fn updated_field(
+    alloc: Global,
+    terms: &mut Terms,
+    whole: u32,
+    name: &Name,
+    value: u32,
+) -> Result<u32, NoMemory>
     requires first { whole < count_of terms.old }
     requires second { value < count_of terms.old }
     ensures within { IfOk result (λ r. r < count_of terms.new) }
@@ -165,7 +171,13 @@ pub fn either(alloc: Global, terms: &mut Terms, first: u32, second: u32) -> Resu
 }
 
 /// Each of these three formulas.
-pub fn each_of_three(alloc: Global, terms: &mut Terms, first: u32, second: u32, third: u32) -> Result<u32, NoMemory>
+pub fn each_of_three(
+    alloc: Global,
+    terms: &mut Terms,
+    first: u32,
+    second: u32,
+    third: u32,
+) -> Result<u32, NoMemory>
     requires first { first < count_of terms.old }
     requires second { second < count_of terms.old }
     requires third { third < count_of terms.old }
@@ -205,7 +217,13 @@ fn equal_data(terms: &mut Terms, first: u32, second: u32) -> Result<u32, NoMemor
 }
 
 // Whether two data are equal, as a datum: numbers by two comparisons.
-fn equality(alloc: Global, terms: &mut Terms, are_numbers: bool, first: u32, second: u32) -> Result<u32, NoMemory>
+fn equality(
+    alloc: Global,
+    terms: &mut Terms,
+    are_numbers: bool,
+    first: u32,
+    second: u32,
+) -> Result<u32, NoMemory>
     requires first { first < count_of terms.old }
     requires second { second < count_of terms.old }
     ensures within { IfOk result (λ r. r < count_of terms.new) }
@@ -346,7 +364,14 @@ fn remainder(terms: &mut Terms, first: u32, second: u32) -> Result<u32, NoMemory
 }
 
 /// An operator of two data. Numbers are tested for equality by two comparisons.
-pub fn operated(alloc: Global, terms: &mut Terms, op: Op, are_numbers: bool, first: u32, second: u32) -> Result<u32, NoMemory>
+pub fn operated(
+    alloc: Global,
+    terms: &mut Terms,
+    op: Op,
+    are_numbers: bool,
+    first: u32,
+    second: u32,
+) -> Result<u32, NoMemory>
     requires first { first < count_of terms.old }
     requires second { second < count_of terms.old }
     ensures within { IfOk result (λ r. r < count_of terms.new) }
@@ -370,7 +395,16 @@ pub fn operated(alloc: Global, terms: &mut Terms, op: Op, are_numbers: bool, fir
 }
 
 // `all` or `some` of an Int name.
-fn bound(alloc: Global, terms: &mut Terms, all: bool, word: &Name, number: u64, from: u32, below: u32, body: u32) -> Result<u32, NoMemory>
+fn bound(
+    alloc: Global,
+    terms: &mut Terms,
+    all: bool,
+    word: &Name,
+    number: u64,
+    from: u32,
+    below: u32,
+    body: u32,
+) -> Result<u32, NoMemory>
     requires first { from < count_of terms.old }
     requires second { below < count_of terms.old }
     requires third { body < count_of terms.old }
@@ -386,7 +420,16 @@ fn bound(alloc: Global, terms: &mut Terms, all: bool, word: &Name, number: u64, 
 }
 
 /// `all` or `some` of a new name, whose bounds and body are data.
-pub fn quantified(alloc: Global, terms: &mut Terms, all: bool, word: &Name, number: u64, from: u32, below: u32, body: u32) -> Result<u32, NoMemory>
+pub fn quantified(
+    alloc: Global,
+    terms: &mut Terms,
+    all: bool,
+    word: &Name,
+    number: u64,
+    from: u32,
+    below: u32,
+    body: u32,
+) -> Result<u32, NoMemory>
     requires first { from < count_of terms.old }
     requires second { below < count_of terms.old }
     requires third { body < count_of terms.old }

@@ -96,7 +96,7 @@ pub body_from : (s : Setting Node) (named : Naming) (words : List (List ℕ)) (x
     → IsMadeAt a b r m (value s named words (numbered x j) (put vars v (int (int_name (word_at words v) i))) (suc i))
 body_from s named words x vars v {a} {b} {r} {m} {k} {j} {n} {i} same also made =
     subst (λ (z : ℕ). IsMadeAt a b r m (value s named words (numbered x j) (put vars v (int (int_name (word_at words v) z))) (suc z))) also
-        (subst (λ (z : ℕ). IsMadeAt a b r m (value s named words (numbered x z) (put vars v (int (int_name (word_at words v) n))) (suc n))) same made)
+    (subst (λ (z : ℕ). IsMadeAt a b r m (value s named words (numbered x z) (put vars v (int (int_name (word_at words v) n))) (suc n))) same made)
 
 -- the same by the variable's word, and the number of the next name
 pub body_by : (s : Setting Node) (named : Naming) (words : List (List ℕ)) (x : Expr ℕ) (vars : Vars) (v k n : ℕ) {a b c : List Plain} {r m next : ℕ} {word : List ℕ} → word ≡ word_at words v → next ≡ suc n → Kept a b
@@ -104,9 +104,9 @@ pub body_by : (s : Setting Node) (named : Naming) (words : List (List ℕ)) (x :
     → IsMadeAt a c r m (value s named words (numbered x k) (put vars v (int (int_name (word_at words v) n))) (suc n))
 body_by s named words x vars v k n {a} {b} {c} {r} {m} {next} {word} spelled counted kept made =
     let one : IsMadeAt b c r m (value s named words (numbered x k) (put vars v (int (int_name (word_at words v) n))) next) =
-        subst (λ (w : List ℕ). IsMadeAt b c r m (value s named words (numbered x k) (put vars v (int (int_name w n))) next)) spelled made in
+    subst (λ (w : List ℕ). IsMadeAt b c r m (value s named words (numbered x k) (put vars v (int (int_name w n))) next)) spelled made in
     let two : IsMadeAt b c r m (value s named words (numbered x k) (put vars v (int (int_name (word_at words v) n))) (suc n)) =
-        subst (λ (z : ℕ). IsMadeAt b c r m (value s named words (numbered x k) (put vars v (int (int_name (word_at words v) n))) z)) counted one in
+    subst (λ (z : ℕ). IsMadeAt b c r m (value s named words (numbered x k) (put vars v (int (int_name (word_at words v) n))) z)) counted one in
     record { term = onward kept two.term; names = two.names }
 
 pub quantified_from : (all : Bool) {word spelled : List ℕ} {n i : ℕ} {a b d : List Plain} {r m c : ℕ} {v w u : Term} → word ≡ spelled → n ≡ i → Kept a b → m ≡ c → Makes b d r (op.quantified all word n v w u) → IsMadeAt a d r m (valued c (op.quantified all spelled i v w u))
@@ -132,7 +132,7 @@ named_written s zero number t n above is made = absurd (above refl)
 named_written s (suc depth) number t n {a} {b} {r} {m} above is made =
     let back : suc depth - 1 ≡ depth = omega arith in
     subst (λ (w : Bool). IsMadeAt a b r m (if w then defined s (named_to s depth) (alias_at s.types number) t n else valued n (in_type number t))) (sym is)
-        (subst (λ (j : ℕ). IsMadeAt a b r m (defined s (named_to s j) (alias_at s.types number) t n)) back made)
+    (subst (λ (j : ℕ). IsMadeAt a b r m (defined s (named_to s j) (alias_at s.types number) t n)) back made)
 
 -- the definition and then the clauses
 pub defined_by : (s : Setting Node) (named : Naming) (alias : rust.Alias) (first : ℕ) (t : Term) (n : ℕ) {a b c : List Plain} {whole m r k : ℕ} {words : List (List ℕ)} {clauses : List e.Expr}
@@ -142,11 +142,11 @@ pub defined_by : (s : Setting Node) (named : Naming) (alias : rust.Alias) (first
     → IsMadeAt a c r k (defined s named (numbered_alias (seen_alias alias) first) t n)
 defined_by s named alias first t n {a} {b} {c} {whole} {m} {r} {k} {words} {clauses} same also base made =
     let one : IsMadeAt b c r k (with_clauses s named alias.variables clauses first (put_if [] alias.variable t) (holds named (seen_ty alias.ty) t n).term m) =
-        subst (λ (l : List (List ℕ)). IsMadeAt b c r k (with_clauses s named l clauses first (put_if [] alias.variable t) (holds named (seen_ty alias.ty) t n).term m)) same made in
+    subst (λ (l : List (List ℕ)). IsMadeAt b c r k (with_clauses s named l clauses first (put_if [] alias.variable t) (holds named (seen_ty alias.ty) t n).term m)) same made in
     let two : IsMadeAt b c r k (with_clauses s named alias.variables alias.clauses first (put_if [] alias.variable t) (holds named (seen_ty alias.ty) t n).term m) =
-        subst (λ (l : List e.Expr). IsMadeAt b c r k (with_clauses s named alias.variables l first (put_if [] alias.variable t) (holds named (seen_ty alias.ty) t n).term m)) also one in
+    subst (λ (l : List e.Expr). IsMadeAt b c r k (with_clauses s named alias.variables l first (put_if [] alias.variable t) (holds named (seen_ty alias.ty) t n).term m)) also one in
     let three : IsMadeAt b c r k (with_clauses s named alias.variables alias.clauses first (put_if [] alias.variable t) (holds named (seen_ty alias.ty) t n).term (holds named (seen_ty alias.ty) t n).count) =
-        subst (λ (z : ℕ). IsMadeAt b c r k (with_clauses s named alias.variables alias.clauses first (put_if [] alias.variable t) (holds named (seen_ty alias.ty) t n).term z)) base.names two in
+    subst (λ (z : ℕ). IsMadeAt b c r k (with_clauses s named alias.variables alias.clauses first (put_if [] alias.variable t) (holds named (seen_ty alias.ty) t n).term z)) base.names two in
     record { term = onward base.term.kept three.term; names = three.names }
 
 -- the same named type
@@ -204,4 +204,4 @@ pub test_made : (core : Core) (p : Program) (depth number : ℕ) → IsDescribed
     → IsAt ns k (defined (setting core p) (named_to (setting core p) depth) (alias_at (types_of core) number) (val_name word 0) 1).term → IsAt ns k (test_formula (setting core p) number)
 test_made core p depth number d is {ns} {k} {word} same at =
     subst (λ (w : List ℕ). IsAt ns k (defined (setting core p) (named_in (setting core p)) (alias_at (types_of core) number) (val_name w 0) 1).term) same
-        (subst (λ (named : Naming). IsAt ns k (defined (setting core p) named (alias_at (types_of core) number) (val_name word 0) 1).term) (all_deep core p depth d is) at)
+    (subst (λ (named : Naming). IsAt ns k (defined (setting core p) named (alias_at (types_of core) number) (val_name word 0) 1).term) (all_deep core p depth d is) at)

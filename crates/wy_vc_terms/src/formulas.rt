@@ -41,7 +41,15 @@ pub fn holds(
     let depth = program.types.len();
     let count = maker.count;
     let made = holds_to(
-        alloc, core, program, depth, u64::MAX, &mut maker.terms, v, ty, count,
+        alloc,
+        core,
+        program,
+        depth,
+        u64::MAX,
+        &mut maker.terms,
+        v,
+        ty,
+        count,
     )?;
     maker.count = made.count;
     Ok(made.term)
@@ -68,7 +76,17 @@ pub fn value_formula(
     let count = maker.count;
     let node = maker.node;
     let v = value_to(
-        alloc, core, program, words, depth, u64::MAX, &mut maker.terms, vars, clause, count, node,
+        alloc,
+        core,
+        program,
+        words,
+        depth,
+        u64::MAX,
+        &mut maker.terms,
+        vars,
+        clause,
+        count,
+        node,
     )?;
     let holds = formula(&mut maker.terms, v.term)?;
     maker.count = v.count;
@@ -77,12 +95,7 @@ pub fn value_formula(
 }
 
 // The word of the variable of a named type.
-fn type_word(
-    alloc: Global,
-    core: &Core,
-    program: &Program,
-    number: u32,
-) -> Result<Name, AllocError>
+fn type_word(alloc: Global, core: &Core, program: &Program, number: u32) -> Result<Name, AllocError>
     ensures value { IsDescribed core.now program.now → IfOk result (λ word. word ≡ type_word (types_of core.now) number) }
 {
     match program.alias(core, number) {
@@ -113,7 +126,15 @@ pub fn type_formula(
     let name = val_name(alloc, &mut maker.terms, &word, 0)?;
     let depth = program.types.len();
     let made = defined_to(
-        alloc, core, program, depth, u64::MAX, &mut maker.terms, name, number, 1,
+        alloc,
+        core,
+        program,
+        depth,
+        u64::MAX,
+        &mut maker.terms,
+        name,
+        number,
+        1,
     )?;
     Ok((name, made.term))
 }

@@ -13,7 +13,9 @@ use wy_core::Ty;
 use wy_data::Name;
 use wy_term::{Kind, NoMemory, Terms};
 use wy_value::{INT_MAX, INT_MIN};
-use wy_vc_operations::{at_most, conjunction, each_of_three, every, get, kind, len, num, number_name, number_of};
+use wy_vc_operations::{
+    at_most, conjunction, each_of_three, every, get, kind, len, num, number_name, number_of,
+};
 
 /// The number of the next name. Want of memory is also the answer where there are 2^64 - 1 of them.
 pub fn next_name(count: u64) -> Result<u64, NoMemory>

@@ -30,9 +30,9 @@ use wy_data::Name;
 use wy_term::{Kind, NoMemory, Terms};
 use wy_vc_names::Program;
 use wy_vc_operations::{
-    conjunction, denied, either, both, falsehood, field, formula, in_type, index, int, kind, length,
-    list, negated, null, number_name, operated, put, put_back, quantified, record, repeated, slot_at,
-    truth, value_of, whole, with_denial,
+    both, conjunction, denied, either, falsehood, field, formula, in_type, index, int, kind,
+    length, list, negated, null, number_name, operated, put, put_back, quantified, record,
+    repeated, slot_at, truth, value_of, whole, with_denial,
 };
 use wy_vc_sizes::{exprs_in_all, total};
 
@@ -112,7 +112,15 @@ pub fn holds_to(
         }
         TyKind::Record(fields) => {
             let held = fields_hold(
-                alloc, core, program, depth, left - 1, terms, v, fields.as_slice(), count,
+                alloc,
+                core,
+                program,
+                depth,
+                left - 1,
+                terms,
+                v,
+                fields.as_slice(),
+                count,
             )?;
             Ok(held)
         }
@@ -120,41 +128,109 @@ pub fn holds_to(
             let next = next_name(count)?;
             let part = element(alloc, terms, v, count)?;
             let body = holds_to(
-                alloc, core, program, depth, left - 1, terms, part, item.get(), next,
+                alloc,
+                core,
+                program,
+                depth,
+                left - 1,
+                terms,
+                part,
+                item.get(),
+                next,
             )?;
             let term = is_array(alloc, terms, v, count, body.term)?;
-            Ok(Made { term, count: body.count })
+            Ok(Made {
+                term,
+                count: body.count,
+            })
         }
         TyKind::Union(one, other) => {
             let first = holds_to(
-                alloc, core, program, depth, left - 1, terms, v, one.get(), count,
+                alloc,
+                core,
+                program,
+                depth,
+                left - 1,
+                terms,
+                v,
+                one.get(),
+                count,
             )?;
             let second = holds_to(
-                alloc, core, program, depth, left - 1, terms, v, other.get(), first.count,
+                alloc,
+                core,
+                program,
+                depth,
+                left - 1,
+                terms,
+                v,
+                other.get(),
+                first.count,
             )?;
             let term = either(alloc, terms, first.term, second.term)?;
-            Ok(Made { term, count: second.count })
+            Ok(Made {
+                term,
+                count: second.count,
+            })
         }
         TyKind::Inter(one, other) => {
             let first = holds_to(
-                alloc, core, program, depth, left - 1, terms, v, one.get(), count,
+                alloc,
+                core,
+                program,
+                depth,
+                left - 1,
+                terms,
+                v,
+                one.get(),
+                count,
             )?;
             let second = holds_to(
-                alloc, core, program, depth, left - 1, terms, v, other.get(), first.count,
+                alloc,
+                core,
+                program,
+                depth,
+                left - 1,
+                terms,
+                v,
+                other.get(),
+                first.count,
             )?;
             let term = both(alloc, terms, first.term, second.term)?;
-            Ok(Made { term, count: second.count })
+            Ok(Made {
+                term,
+                count: second.count,
+            })
         }
         TyKind::Not(inner) => {
             let inside = holds_to(
-                alloc, core, program, depth, left - 1, terms, v, inner.get(), count,
+                alloc,
+                core,
+                program,
+                depth,
+                left - 1,
+                terms,
+                v,
+                inner.get(),
+                count,
             )?;
             let term = denied(terms, inside.term)?;
-            Ok(Made { term, count: inside.count })
+            Ok(Made {
+                term,
+                count: inside.count,
+            })
         }
         TyKind::Named(number) => {
             let held = named_to(
-                alloc, core, program, depth, left - 1, terms, v, *number, count,
+                alloc,
+                core,
+                program,
+                depth,
+                left - 1,
+                terms,
+                v,
+                *number,
+                count,
             )?;
             Ok(held)
         }
@@ -192,7 +268,15 @@ fn fields_hold(
     for item in fields {
         let part = field(alloc, terms, v, &item.0)?;
         let held = holds_to(
-            alloc, core, program, depth, left - 1, terms, part, &item.1, next,
+            alloc,
+            core,
+            program,
+            depth,
+            left - 1,
+            terms,
+            part,
+            &item.1,
+            next,
         )?;
         parts.push(held.term)?;
         next = held.count;
@@ -228,7 +312,15 @@ fn named_to(
     }
     if program.is_written(number) {
         let held = defined_to(
-            alloc, core, program, depth - 1, left - 1, terms, v, number, count,
+            alloc,
+            core,
+            program,
+            depth - 1,
+            left - 1,
+            terms,
+            v,
+            number,
+            count,
         )?;
         return Ok(held);
     }
@@ -288,7 +380,16 @@ pub fn defined_to(
         Some(alias) => {
             let first = program.first(number);
             let held = alias_to(
-                alloc, core, program, depth, left - 1, terms, v, alias, first, count,
+                alloc,
+                core,
+                program,
+                depth,
+                left - 1,
+                terms,
+                v,
+                alias,
+                first,
+                count,
             )?;
             Ok(held)
         }
@@ -331,7 +432,17 @@ fn alias_to(
     if left == 0 {
         return Err(NoMemory);
     }
-    let whole = holds_to(alloc, core, program, depth, left - 1, terms, v, &alias.ty, count)?;
+    let whole = holds_to(
+        alloc,
+        core,
+        program,
+        depth,
+        left - 1,
+        terms,
+        v,
+        &alias.ty,
+        count,
+    )?;
     let mut vars = slots_of(alloc, alias.variable, v)?;
     let held = clauses_hold(
         alloc,
@@ -379,7 +490,17 @@ fn clauses_hold(
     let mut next = node;
     for clause in clauses {
         let v = value_to(
-            alloc, core, program, words, depth, left - 1, terms, vars, clause, names, next,
+            alloc,
+            core,
+            program,
+            words,
+            depth,
+            left - 1,
+            terms,
+            vars,
+            clause,
+            names,
+            next,
         )?;
         let holds = formula(terms, v.term)?;
         parts.push(holds)?;
@@ -445,115 +566,328 @@ pub fn value_to(
         }
         ExprKind::Neg(a) => {
             let v = value_to(
-                alloc, core, program, words, depth, left - 1, terms, vars, a.get(), count, node,
+                alloc,
+                core,
+                program,
+                words,
+                depth,
+                left - 1,
+                terms,
+                vars,
+                a.get(),
+                count,
+                node,
             )?;
             let term = negated(terms, v.term)?;
             let next = total(v.next, 1)?;
-            Ok(Valued { term, count: v.count, next })
+            Ok(Valued {
+                term,
+                count: v.count,
+                next,
+            })
         }
         ExprKind::Not(a) => {
             let v = value_to(
-                alloc, core, program, words, depth, left - 1, terms, vars, a.get(), count, node,
+                alloc,
+                core,
+                program,
+                words,
+                depth,
+                left - 1,
+                terms,
+                vars,
+                a.get(),
+                count,
+                node,
             )?;
             let term = with_denial(terms, v.term)?;
             let next = total(v.next, 1)?;
-            Ok(Valued { term, count: v.count, next })
+            Ok(Valued {
+                term,
+                count: v.count,
+                next,
+            })
         }
         ExprKind::Len(a) => {
             let v = value_to(
-                alloc, core, program, words, depth, left - 1, terms, vars, a.get(), count, node,
+                alloc,
+                core,
+                program,
+                words,
+                depth,
+                left - 1,
+                terms,
+                vars,
+                a.get(),
+                count,
+                node,
             )?;
             let term = length(terms, v.term)?;
             let next = total(v.next, 1)?;
-            Ok(Valued { term, count: v.count, next })
+            Ok(Valued {
+                term,
+                count: v.count,
+                next,
+            })
         }
         ExprKind::Binary(op, a, b) => {
             let v = value_to(
-                alloc, core, program, words, depth, left - 1, terms, vars, a.get(), count, node,
+                alloc,
+                core,
+                program,
+                words,
+                depth,
+                left - 1,
+                terms,
+                vars,
+                a.get(),
+                count,
+                node,
             )?;
             let w = value_to(
-                alloc, core, program, words, depth, left - 1, terms, vars, b.get(), v.count, v.next,
+                alloc,
+                core,
+                program,
+                words,
+                depth,
+                left - 1,
+                terms,
+                vars,
+                b.get(),
+                v.count,
+                v.next,
             )?;
             let numbers = are_numbers(program, v.next, w.next);
             let term = operated(alloc, terms, *op, numbers, v.term, w.term)?;
             let next = total(w.next, 1)?;
-            Ok(Valued { term, count: w.count, next })
+            Ok(Valued {
+                term,
+                count: w.count,
+                next,
+            })
         }
         ExprKind::Is(a, ty) => {
             let v = value_to(
-                alloc, core, program, words, depth, left - 1, terms, vars, a.get(), count, node,
+                alloc,
+                core,
+                program,
+                words,
+                depth,
+                left - 1,
+                terms,
+                vars,
+                a.get(),
+                count,
+                node,
             )?;
             let test = holds_to(
-                alloc, core, program, depth, left - 1, terms, v.term, ty, v.count,
+                alloc,
+                core,
+                program,
+                depth,
+                left - 1,
+                terms,
+                v.term,
+                ty,
+                v.count,
             )?;
             let term = value_of(terms, test.term)?;
             let next = total(v.next, 1)?;
-            Ok(Valued { term, count: test.count, next })
+            Ok(Valued {
+                term,
+                count: test.count,
+                next,
+            })
         }
         ExprKind::Index(a, b) => {
             let v = value_to(
-                alloc, core, program, words, depth, left - 1, terms, vars, a.get(), count, node,
+                alloc,
+                core,
+                program,
+                words,
+                depth,
+                left - 1,
+                terms,
+                vars,
+                a.get(),
+                count,
+                node,
             )?;
             let w = value_to(
-                alloc, core, program, words, depth, left - 1, terms, vars, b.get(), v.count, v.next,
+                alloc,
+                core,
+                program,
+                words,
+                depth,
+                left - 1,
+                terms,
+                vars,
+                b.get(),
+                v.count,
+                v.next,
             )?;
             let term = index(terms, v.term, w.term)?;
             let next = total(w.next, 1)?;
-            Ok(Valued { term, count: w.count, next })
+            Ok(Valued {
+                term,
+                count: w.count,
+                next,
+            })
         }
         ExprKind::Field(a, name) => {
             let v = value_to(
-                alloc, core, program, words, depth, left - 1, terms, vars, a.get(), count, node,
+                alloc,
+                core,
+                program,
+                words,
+                depth,
+                left - 1,
+                terms,
+                vars,
+                a.get(),
+                count,
+                node,
             )?;
             let term = field(alloc, terms, v.term, name)?;
             let next = total(v.next, 1)?;
-            Ok(Valued { term, count: v.count, next })
+            Ok(Valued {
+                term,
+                count: v.count,
+                next,
+            })
         }
         ExprKind::List(items) => {
             let all = values_to(
-                alloc, core, program, words, depth, left - 1, terms, vars, items.as_slice(), count, node,
+                alloc,
+                core,
+                program,
+                words,
+                depth,
+                left - 1,
+                terms,
+                vars,
+                items.as_slice(),
+                count,
+                node,
             )?;
             let names = all.count;
             let behind = all.next;
             let term = list(terms, all.terms)?;
             let next = total(behind, 1)?;
-            Ok(Valued { term, count: names, next })
+            Ok(Valued {
+                term,
+                count: names,
+                next,
+            })
         }
         ExprKind::Repeat(a, b) => {
             let v = value_to(
-                alloc, core, program, words, depth, left - 1, terms, vars, a.get(), count, node,
+                alloc,
+                core,
+                program,
+                words,
+                depth,
+                left - 1,
+                terms,
+                vars,
+                a.get(),
+                count,
+                node,
             )?;
             let w = value_to(
-                alloc, core, program, words, depth, left - 1, terms, vars, b.get(), v.count, v.next,
+                alloc,
+                core,
+                program,
+                words,
+                depth,
+                left - 1,
+                terms,
+                vars,
+                b.get(),
+                v.count,
+                v.next,
             )?;
             let term = repeated(terms, v.term, w.term)?;
             let next = total(w.next, 1)?;
-            Ok(Valued { term, count: w.count, next })
+            Ok(Valued {
+                term,
+                count: w.count,
+                next,
+            })
         }
         ExprKind::Record(fields) => {
             let all = field_values_to(
-                alloc, core, program, words, depth, left - 1, terms, vars, fields.as_slice(), count, node,
+                alloc,
+                core,
+                program,
+                words,
+                depth,
+                left - 1,
+                terms,
+                vars,
+                fields.as_slice(),
+                count,
+                node,
             )?;
             let names = all.count;
             let behind = all.next;
             let term = record(terms, all.fields)?;
             let next = total(behind, 1)?;
-            Ok(Valued { term, count: names, next })
+            Ok(Valued {
+                term,
+                count: names,
+                next,
+            })
         }
         ExprKind::Quant(all, x, a, b, body) => {
             let v = value_to(
-                alloc, core, program, words, depth, left - 1, terms, vars, a.get(), count, node,
+                alloc,
+                core,
+                program,
+                words,
+                depth,
+                left - 1,
+                terms,
+                vars,
+                a.get(),
+                count,
+                node,
             )?;
             let w = value_to(
-                alloc, core, program, words, depth, left - 1, terms, vars, b.get(), v.count, v.next,
+                alloc,
+                core,
+                program,
+                words,
+                depth,
+                left - 1,
+                terms,
+                vars,
+                b.get(),
+                v.count,
+                v.next,
             )?;
             let u = body_to(
-                alloc, core, program, words, depth, left - 1, terms, vars, *x, body.get(), w.count, w.next,
+                alloc,
+                core,
+                program,
+                words,
+                depth,
+                left - 1,
+                terms,
+                vars,
+                *x,
+                body.get(),
+                w.count,
+                w.next,
             )?;
             let word = word_of(alloc, words, *x)?;
             let term = quantified(alloc, terms, *all, &word, w.count, v.term, w.term, u.term)?;
             let next = total(u.next, 1)?;
-            Ok(Valued { term, count: u.count, next })
+            Ok(Valued {
+                term,
+                count: u.count,
+                next,
+            })
         }
     }
 }
@@ -562,7 +896,15 @@ pub fn value_to(
 fn are_numbers(program: &Program, first: usize, second: usize) -> bool
     ensures value { (k m : numbers.Node) → suc k.number ≡ first → suc m.number ≡ second → result ≡ (is_number_in program.now.is_number.items k && is_number_in program.now.is_number.items m) }
 {
-    is_number(program, first) && is_number(program, second)
+    let a = is_number(program, first);
+    let b = is_number(program, second);
+    both_are(a, b)
+}
+
+fn both_are(a: bool, b: bool) -> bool
+    ensures value { result ≡ (a && b) }
+{
+    a && b
 }
 
 // The body of a quantifier: its variable stands for a new name meanwhile.
@@ -598,7 +940,17 @@ fn body_to(
     let slots = vars.len();
     put(vars, variable, bound)?;
     let u = value_to(
-        alloc, core, program, words, depth, left - 1, terms, vars, body, next, node,
+        alloc,
+        core,
+        program,
+        words,
+        depth,
+        left - 1,
+        terms,
+        vars,
+        body,
+        next,
+        node,
     )?;
     put_back(vars, variable, slot, slots);
     Ok(u)
@@ -633,7 +985,17 @@ fn values_to(
     let mut next = node;
     for item in items {
         let v = value_to(
-            alloc, core, program, words, depth, left - 1, terms, vars, item, names, next,
+            alloc,
+            core,
+            program,
+            words,
+            depth,
+            left - 1,
+            terms,
+            vars,
+            item,
+            names,
+            next,
         )?;
         made.push(v.term)?;
         names = v.count;
@@ -676,7 +1038,17 @@ fn field_values_to(
     let mut next = node;
     for item in items {
         let v = value_to(
-            alloc, core, program, words, depth, left - 1, terms, vars, &item.1, names, next,
+            alloc,
+            core,
+            program,
+            words,
+            depth,
+            left - 1,
+            terms,
+            vars,
+            &item.1,
+            names,
+            next,
         )?;
         let name = item.0.copy(alloc)?;
         made.push((name, v.term))?;

@@ -2,7 +2,7 @@ use Rattle.wy_vc_operations.proofs.GrowingLemmas.{here_kept, kept_on, onward_if}
 use Rattle.wy_vc_operations.proofs.operations.quantified.Goals as goal
 
 pub returns-clause-made : goal.returns-clause-made
-returns-clause-made c = λ v w u hv hw hu. 
+returns-clause-made c = λ v w u hv hw hu.
     let a = c.in_ok-first.ensures.made _ hv in
     let b = c.in_ok-last.ensures.made _ (here_kept a.kept hw) in
     let f = c.in_ok-holds.ensures.made _ (here_kept (kept_on a.kept b.kept) hu) in

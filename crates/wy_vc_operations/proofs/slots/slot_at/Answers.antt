@@ -1,13 +1,9 @@
-use Rattle.std.proofs.Common.{◌≡◌, Option, Some, None, ℕ, slice_get, sym, ap, rules}
-use Rattle.wy_vc_operations.proofs.SlotLemmas.{slot_none, slot_some}
+use Rattle.std.proofs.Common.{◌∙◌, None, arith}
+use Rattle.wy_vc_operations.proofs.SlotLemmas.{slot_or}
 use Rattle.wy_vc_operations.proofs.slots.slot_at.Goals as goal
 
 pub returns-in-None : goal.returns-in-None
-returns-in-None c =
-    let there : slice_get c.args.vars.now c.args.variable ≡ None = search rules in
-    record { value = sym (slot_none c.args.vars.now c.args.variable there) }
+returns-in-None c = record { value = c.in-None.ensures.lookup.4 (omega arith) None ∙ slot_or c.args.vars.now c.args.variable }
 
 pub returns-in-Some : goal.returns-in-Some
-returns-in-Some c =
-    let there : slice_get c.args.vars.now c.args.variable ≡ Some c.in-Some.slot.now = search rules in
-    record { value = sym (slot_some c.args.vars.now c.args.variable c.in-Some.slot.now there) }
+returns-in-Some c = record { value = c.in-Some.ensures.lookup.4 (omega arith) None ∙ slot_or c.args.vars.now c.args.variable }
