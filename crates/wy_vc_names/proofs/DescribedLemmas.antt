@@ -1,12 +1,12 @@
 -- What numbers name.
-use Rattle.std.proofs.Common.{◌≡◌, ◌<◌, ◌≤◌, ◌+◌, ◌-◌, ℕ, zero, suc, List, [], ◌∷◌, length, slice_index_or, slice_get, Bool, true, Option, Some, None, refl, ◌∙◌, ap, subst, sym, arith}
+use Rattle.std.proofs.Common.{◌≡◌, ◌<◌, ◌≤◌, ◌-◌, ℕ, zero, suc, List, [], ◌∷◌, length, slice_index_or, slice_get, Bool, true, Some, None, refl, ◌∙◌, ap, subst, sym, arith}
 use Rattle.wy_core.specs.CoreTree as tree
 use Rattle.wy_core.specs.CoreTree.{routines_of}
 use Rattle.wy_core.specs.CoreSeen.{seen_core}
 use Rattle.wy_core.specs.Types.{Ty}
 use Rattle.wy_core.specs.declared.declarations.Core.{Core}
-use Rattle.wy_sem.specs.Evaluation.{Callee, Declared, Print, PrintInt, Undeclared, callee}
-use Rattle.wy_sem.specs.TypeTests.{mentions, is_constrained, is_constrained_name}
+use Rattle.wy_sem.specs.Evaluation.{Callee, Declared, callee}
+use Rattle.wy_sem.specs.TypeTests.{mentions, is_constrained}
 use Rattle.wy_conditions.specs.Numbered.{Node, numbered_core}
 use Rattle.wy_vc_sizes.specs.Marks.{mark_at}
 use Rattle.wy_vc_names.specs.declared.declared.Declared as d

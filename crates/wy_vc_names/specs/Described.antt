@@ -1,5 +1,5 @@
 -- What is known of the declarations of a program.
-use Rattle.std.specs.Prelude.{◌≡◌, ℕ, zero, suc, ◌+◌, List, [], ◌∷◌, length, Bool, true, false, slice_index_or, slice_get, Option, Some, None, option_map, unwrap_or}
+use Rattle.std.specs.Prelude.{◌≡◌, ℕ, zero, suc, ◌+◌, List, [], ◌∷◌, length, Bool, true, false, slice_index_or, slice_get, Option, Some, None}
 use Rattle.wy_core.specs.CoreTree as tree
 use Rattle.wy_core.specs.CoreTree.{aliases_of, routines_of}
 use Rattle.wy_core.specs.CoreSeen.{seen_core, seen_alias, seen_routine, seen_exprs}

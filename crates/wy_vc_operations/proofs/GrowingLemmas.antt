@@ -1,7 +1,7 @@
 -- Lists of terms that grow.
-use Rattle.std.proofs.Common.{◌≡◌, ◌<◌, ◌≤◌, ℕ, suc, List, [], ◌∷◌, length, map, All, Result, Ok, Err, IfOk, refl, ◌∙◌, ap, subst, sym, arith}
+use Rattle.std.proofs.Common.{◌≡◌, ◌<◌, ◌≤◌, ℕ, suc, List, [], ◌∷◌, length, map, Result, Ok, Err, IfOk, refl, ◌∙◌, ap, subst, arith}
 use Rattle.std.proofs.lemmas.List.Elements.{All-nil, All-cons}
-use Rattle.wy_term.specs.Term.{Symbol, Term, Of, Parts, no_parts, part}
+use Rattle.wy_term.specs.Term.{Symbol, Term, Of, Parts, part}
 use Rattle.wy_term.specs.Nodes.{Plain, tree_at, parts_at}
 use Rattle.wy_term.specs.Numbers.{IsAt}
 use Rattle.wy_term.specs.Folding.{folded}

@@ -1,9 +1,9 @@
 -- Terms of variables.
-use Rattle.std.proofs.Common.{◌≡◌, ◌<◌, ◌≤◌, ℕ, zero, suc, List, [], ◌∷◌, ◌++◌, length, map, take, All, Option, Some, None, option_map, slice_set, slice_index_or, refl, ◌∙◌, ap, subst, sym, arith}
+use Rattle.std.proofs.Common.{◌≡◌, ◌<◌, ◌≤◌, ℕ, zero, suc, List, [], ◌∷◌, ◌++◌, length, map, take, Option, Some, None, option_map, slice_set, slice_index_or, refl, ◌∙◌, ap, subst, sym, arith}
 use Rattle.wy_term.specs.Term.{Term}
 use Rattle.wy_term.specs.Nodes.{Plain, tree_at}
 use Rattle.wy_term.specs.Numbers.{IsAt}
-use Rattle.wy_conditions.specs.Variables.{Slots, Vars, slot_at, put}
+use Rattle.wy_conditions.specs.Variables.{Vars, slot_at, put}
 use Rattle.wy_vc_operations.specs.Growing.{Kept, AreSlotsAt, AreSlotsBelow, IsSlotBelow}
 
 -- ---- putting

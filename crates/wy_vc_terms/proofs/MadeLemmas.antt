@@ -17,7 +17,7 @@ use Rattle.wy_conditions.specs.Named.{is_written}
 use Rattle.wy_conditions.specs.Numbered.{Node, numbered, numbered_alias}
 use Rattle.wy_conditions.specs.Operations as op
 use Rattle.wy_conditions.specs.Sizes.{exprs_in}
-use Rattle.wy_conditions.specs.Values.{Setting, Naming, Valued, valued, holds, names_of, value, word_at, defined, named_to, named_in, variable, or_null, clause_formula, test_name, test_formula}
+use Rattle.wy_conditions.specs.Values.{Setting, Naming, Valued, valued, holds, names_of, value, word_at, word_if, x_word, defined, named_to, named_in, variable, or_null, clause_formula, test_name, test_formula}
 use Rattle.wy_conditions.specs.Variables.{Vars, put, put_if, slot_at}
 use Rattle.wy_core.specs.declared.declarations.Core.{Core}
 use Rattle.wy_vc_names.specs.declared.program.Program.{Program}
@@ -205,3 +205,10 @@ pub test_made : (core : Core) (p : Program) (depth number : ℕ) → IsDescribed
 test_made core p depth number d is {ns} {k} {word} same at =
     subst (λ (w : List ℕ). IsAt ns k (defined (setting core p) (named_in (setting core p)) (alias_at (types_of core) number) (val_name w 0) 1).term) same
     (subst (λ (named : Naming). IsAt ns k (defined (setting core p) named (alias_at (types_of core) number) (val_name word 0) 1).term) (all_deep core p depth d is) at)
+
+-- the word of a named type's variable
+pub unknown_word : (core : Core) (p : Program) (n : ℕ) → IsDescribed core p → None ≡ alias_of core (slice_get p.types.items n) → x_word ≡ type_word (types_of core) n
+unknown_word core p n d e = ap (λ (a : tree.Alias Node). word_if a.variables a.variable x_word) (no_name core p n d e)
+
+pub known_word : (core : Core) (p : Program) (n : ℕ) (alias : rust.Alias) → IsDescribed core p → Some alias ≡ alias_of core (slice_get p.types.items n) → word_if alias.variables alias.variable x_word ≡ type_word (types_of core) n
+known_word core p n alias d e = ap (λ (a : tree.Alias Node). word_if a.variables a.variable x_word) (found_name core p n (first_of (slice_get p.types.items n)) alias d e refl)

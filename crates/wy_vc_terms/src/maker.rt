@@ -30,7 +30,7 @@ impl Maker {
     /// The number of a new name. Want of memory is also the answer where there are 2^64 - 1.
     pub fn name(&mut self) -> Result<u64, NoMemory>
         ensures value { IfOk result (λ n. n ≡ self.old.count) }
-        ensures new { OnOk result (self.new ≡ record self.old { count = suc self.old.count }) }
+        ensures after { OnOk result (self.new ≡ record self.old { count = suc self.old.count }) }
     {
         let number = self.count;
         if number == u64::MAX {
@@ -42,7 +42,7 @@ impl Maker {
 
     /// So many expressions were passed. A number that is too large is want of memory.
     pub fn pass(&mut self, exprs: usize) -> Result<(), NoMemory>
-        ensures new { OnOk result (self.new ≡ record self.old { node = self.old.node + exprs }) }
+        ensures after { OnOk result (self.new ≡ record self.old { node = self.old.node + exprs }) }
     {
         self.node = total(self.node, exprs)?;
         Ok(())

@@ -1,4 +1,4 @@
-use Rattle.std.proofs.Common.{ℕ, List, IfOk, subst, true, false}
+use Rattle.std.proofs.Common.{ℕ, List, IfOk, subst, false}
 use Rattle.wy_conditions.specs.Making as made
 use Rattle.wy_vc_operations.specs.Growing.{Makes}
 use Rattle.wy_term.specs.Term as term

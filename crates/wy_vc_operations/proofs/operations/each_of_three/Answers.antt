@@ -1,5 +1,4 @@
 use Rattle.std.proofs.Common.{◌∷◌, [], ℕ, List, subst, sym}
-use Rattle.wy_term.specs.Term.{Term}
 use Rattle.wy_vc_operations.specs.Growing.{AreAt}
 use Rattle.wy_vc_operations.proofs.GrowingLemmas.{none_at, more_at}
 use Rattle.wy_vc_operations.proofs.operations.each_of_three.Goals as goal

@@ -1,6 +1,5 @@
 use Rattle.std.proofs.Common.{◌≡◌, ◌∙◌, ◌<◌, ◌+◌, ◌-◌, ℕ, ℤ, suc, List, [], ◌∷◌, ◌++◌, Bool, Option, length, drop, map, refl, sym, ap, subst, arith, rules, FitsSigned}
 use Rattle.std.specs.Int.{w128}
-
 use Rattle.std.proofs.lemmas.Int.{to_z-of_z}
 use Rattle.std.proofs.lemmas.List.{map_push}
 use Rattle.std.proofs.lemmas.List.Elements.{All-nil, All-cons}
@@ -86,24 +85,24 @@ holds_to-returns-in_ok-term-in-Not-clause-made t c = λ d v at.
 
 pub fields_hold-loop-item-init : goal.fields_hold-loop-item-init
 fields_hold-loop-item-init t c = record {
-      within = subst (λ (ks : List ℕ). AreBelow (length c.is_record.new.terms) ks) (sym c.in_ok-parts.ensures.items) (All-cons (λ j. j < length c.is_record.new.terms) c.in_ok-whole.whole [] c.in_ok-whole.ensures.within (All-nil (λ j. j < length c.is_record.new.terms)));
-      value = omega (arith, c.in_ok-whole.ensures.grows, c.requires);
-      grows = c.in_ok-whole.ensures.grows;
-      made = λ d v at. subst (λ (ks : List ℕ). IsUnderway c.args.terms.now c.is_record.new.terms ks (fields_hold (named_to (setting c.args.core.now c.args.program.now) c.args.depth) (tys_of c.args.fields.now) v c.args.count) (record_parts (named_to (setting c.args.core.now c.args.program.now) c.args.depth) c.args.fields.now v c.args.count)) (sym c.in_ok-parts.ensures.items) (begun_with (fields_hold (named_to (setting c.args.core.now c.args.program.now) c.args.depth) (tys_of c.args.fields.now) v c.args.count) (c.in_ok-whole.ensures.made v at));
-    }
+  within = subst (λ (ks : List ℕ). AreBelow (length c.is_record.new.terms) ks) (sym c.in_ok-parts.ensures.items) (All-cons (λ j. j < length c.is_record.new.terms) c.in_ok-whole.whole [] c.in_ok-whole.ensures.within (All-nil (λ j. j < length c.is_record.new.terms)));
+  value = omega (arith, c.in_ok-whole.ensures.grows, c.requires);
+  grows = c.in_ok-whole.ensures.grows;
+  made = λ d v at. subst (λ (ks : List ℕ). IsUnderway c.args.terms.now c.is_record.new.terms ks (fields_hold (named_to (setting c.args.core.now c.args.program.now) c.args.depth) (tys_of c.args.fields.now) v c.args.count) (record_parts (named_to (setting c.args.core.now c.args.program.now) c.args.depth) c.args.fields.now v c.args.count)) (sym c.in_ok-parts.ensures.items) (begun_with (fields_hold (named_to (setting c.args.core.now c.args.program.now) c.args.depth) (tys_of c.args.fields.now) v c.args.count) (c.in_ok-whole.ensures.made v at));
+}
 
 pub fields_hold-loop-item-preserved : goal.fields_hold-loop-item-preserved
 fields_hold-loop-item-preserved t c = record {
-      within = subst (λ (ks : List ℕ). AreBelow (length c.holds_to.new.terms) ks) (sym c.in_ok-push.ensures.items) (below_pushed (length c.loop-item.terms) (length c.holds_to.new.terms) c.loop-item.parts.items c.in_ok-held.held.term (omega (arith, c.in_ok-part.ensures.grows, c.in_ok-held.ensures.grows)) c.in_ok-held.ensures.within c.loop-item.invariant.within);
-      value = omega (arith, c.in_ok-part.ensures.grows, c.in_ok-held.ensures.grows, c.loop-item.invariant.value);
-      grows = omega (arith, c.in_ok-part.ensures.grows, c.in_ok-held.ensures.grows, c.loop-item.invariant.grows);
-      made = λ d v at.
-          let u = c.loop-item.invariant.made d v at in
-          let p = c.in_ok-part.ensures.made v (here_kept u.kept at) in
-          let h = c.in_ok-held.ensures.made d _ p.here in
-          subst (λ (ks : List ℕ). IsUnderway c.args.terms.now c.holds_to.new.terms ks (fields_hold (named_to (setting c.args.core.now c.args.program.now) c.args.depth) (tys_of (drop (c.loop-item.item-index + 1) c.args.fields.now)) v c.in_ok-held.held.count) (record_parts (named_to (setting c.args.core.now c.args.program.now) c.args.depth) c.args.fields.now v c.args.count)) (sym c.in_ok-push.ensures.items)
-              (field_turn (named_to (setting c.args.core.now c.args.program.now) c.args.depth) v c.args.fields.now c.loop-item.item-index c.item-item.result c.loop-item-test.true c.item-item.is u p h);
-    }
+  within = subst (λ (ks : List ℕ). AreBelow (length c.holds_to.new.terms) ks) (sym c.in_ok-push.ensures.items) (below_pushed (length c.loop-item.terms) (length c.holds_to.new.terms) c.loop-item.parts.items c.in_ok-held.held.term (omega (arith, c.in_ok-part.ensures.grows, c.in_ok-held.ensures.grows)) c.in_ok-held.ensures.within c.loop-item.invariant.within);
+  value = omega (arith, c.in_ok-part.ensures.grows, c.in_ok-held.ensures.grows, c.loop-item.invariant.value);
+  grows = omega (arith, c.in_ok-part.ensures.grows, c.in_ok-held.ensures.grows, c.loop-item.invariant.grows);
+  made = λ d v at.
+      let u = c.loop-item.invariant.made d v at in
+      let p = c.in_ok-part.ensures.made v (here_kept u.kept at) in
+      let h = c.in_ok-held.ensures.made d _ p.here in
+      subst (λ (ks : List ℕ). IsUnderway c.args.terms.now c.holds_to.new.terms ks (fields_hold (named_to (setting c.args.core.now c.args.program.now) c.args.depth) (tys_of (drop (c.loop-item.item-index + 1) c.args.fields.now)) v c.in_ok-held.held.count) (record_parts (named_to (setting c.args.core.now c.args.program.now) c.args.depth) c.args.fields.now v c.args.count)) (sym c.in_ok-push.ensures.items)
+      (field_turn (named_to (setting c.args.core.now c.args.program.now) c.args.depth) v c.args.fields.now c.loop-item.item-index c.item-item.result c.loop-item-test.true c.item-item.is u p h);
+}
 
 pub fields_hold-returns-in_ok-term-clause-made : goal.fields_hold-returns-in_ok-term-clause-made
 fields_hold-returns-in_ok-term-clause-made t c = λ d v at.
@@ -111,24 +110,24 @@ fields_hold-returns-in_ok-term-clause-made t c = λ d v at.
 
 pub clauses_hold-loop-clause-init : goal.clauses_hold-loop-clause-init
 clauses_hold-loop-clause-init t c = record {
-      within = subst (λ (ks : List ℕ). AreBelow (length c.args.terms.now) ks) (sym c.in_ok-parts.ensures.items) (All-cons (λ j. j < length c.args.terms.now) c.args.whole [] c.requires (All-nil (λ j. j < length c.args.terms.now)));
-      grows = omega arith;
-      vars = refl;
-      made = λ d slots f at here. subst (λ (ks : List ℕ). IsUnderway c.args.terms.now c.args.terms.now ks (clause_formulas (setting c.args.core.now c.args.program.now) (named_to (setting c.args.core.now c.args.program.now) c.args.depth) c.args.words.now (numbered_list (seen_exprs c.args.clauses.now) c.args.node) slots c.args.count) (clause_parts (setting c.args.core.now c.args.program.now) (named_to (setting c.args.core.now c.args.program.now) c.args.depth) c.args.words.now c.args.clauses.now c.args.node slots f c.args.count)) (sym c.in_ok-parts.ensures.items) (begun_with (clause_formulas (setting c.args.core.now c.args.program.now) (named_to (setting c.args.core.now c.args.program.now) c.args.depth) c.args.words.now (numbered_list (seen_exprs c.args.clauses.now) c.args.node) slots c.args.count) (record { here = here; kept = kept_all c.args.terms.now }));
-    }
+  within = subst (λ (ks : List ℕ). AreBelow (length c.args.terms.now) ks) (sym c.in_ok-parts.ensures.items) (All-cons (λ j. j < length c.args.terms.now) c.args.whole [] c.requires (All-nil (λ j. j < length c.args.terms.now)));
+  grows = omega arith;
+  vars = refl;
+  made = λ d slots f at here. subst (λ (ks : List ℕ). IsUnderway c.args.terms.now c.args.terms.now ks (clause_formulas (setting c.args.core.now c.args.program.now) (named_to (setting c.args.core.now c.args.program.now) c.args.depth) c.args.words.now (numbered_list (seen_exprs c.args.clauses.now) c.args.node) slots c.args.count) (clause_parts (setting c.args.core.now c.args.program.now) (named_to (setting c.args.core.now c.args.program.now) c.args.depth) c.args.words.now c.args.clauses.now c.args.node slots f c.args.count)) (sym c.in_ok-parts.ensures.items) (begun_with (clause_formulas (setting c.args.core.now c.args.program.now) (named_to (setting c.args.core.now c.args.program.now) c.args.depth) c.args.words.now (numbered_list (seen_exprs c.args.clauses.now) c.args.node) slots c.args.count) (record { here = here; kept = kept_all c.args.terms.now }));
+}
 
 pub clauses_hold-loop-clause-preserved : goal.clauses_hold-loop-clause-preserved
 clauses_hold-loop-clause-preserved t c = record {
-      within = subst (λ (ks : List ℕ). AreBelow (length c.formula.new.terms) ks) (sym c.in_ok-push.ensures.items) (below_pushed (length c.loop-clause.terms) (length c.formula.new.terms) c.loop-clause.parts.items c.in_ok-holds.holds (omega (arith, c.in_ok-v.ensures.grows, c.in_ok-holds.ensures.grows)) c.in_ok-holds.ensures.within c.loop-clause.invariant.within);
-      grows = omega (arith, c.in_ok-v.ensures.grows, c.in_ok-holds.ensures.grows, c.loop-clause.invariant.grows);
-      vars = c.in_ok-v.ensures.vars ∙ c.loop-clause.invariant.vars;
-      made = λ d slots f at here.
-          let u = c.loop-clause.invariant.made d slots f at here in
-          let h = c.in_ok-v.ensures.made d slots (subst (λ (l : List (Option ℕ)). AreSlotsAt c.loop-clause.terms l slots) (sym c.loop-clause.invariant.vars) (slots_kept u.kept at)) in
-          let g = c.in_ok-holds.ensures.made _ h.term.here in
-          subst (λ (ks : List ℕ). IsUnderway c.args.terms.now c.formula.new.terms ks (clause_formulas (setting c.args.core.now c.args.program.now) (named_to (setting c.args.core.now c.args.program.now) c.args.depth) c.args.words.now (numbered_list (seen_exprs (drop (c.loop-clause.clause-index + 1) c.args.clauses.now)) c.in_ok-v.v.next) slots c.in_ok-v.v.count) (clause_parts (setting c.args.core.now c.args.program.now) (named_to (setting c.args.core.now c.args.program.now) c.args.depth) c.args.words.now c.args.clauses.now c.args.node slots f c.args.count)) (sym c.in_ok-push.ensures.items)
-              (clause_turn (setting c.args.core.now c.args.program.now) (named_to (setting c.args.core.now c.args.program.now) c.args.depth) c.args.words.now slots c.args.clauses.now c.loop-clause.clause-index c.clause-item.result c.loop-clause-test.true c.clause-item.is u h c.in_ok-v.ensures.node g);
-    }
+  within = subst (λ (ks : List ℕ). AreBelow (length c.formula.new.terms) ks) (sym c.in_ok-push.ensures.items) (below_pushed (length c.loop-clause.terms) (length c.formula.new.terms) c.loop-clause.parts.items c.in_ok-holds.holds (omega (arith, c.in_ok-v.ensures.grows, c.in_ok-holds.ensures.grows)) c.in_ok-holds.ensures.within c.loop-clause.invariant.within);
+  grows = omega (arith, c.in_ok-v.ensures.grows, c.in_ok-holds.ensures.grows, c.loop-clause.invariant.grows);
+  vars = c.in_ok-v.ensures.vars ∙ c.loop-clause.invariant.vars;
+  made = λ d slots f at here.
+      let u = c.loop-clause.invariant.made d slots f at here in
+      let h = c.in_ok-v.ensures.made d slots (subst (λ (l : List (Option ℕ)). AreSlotsAt c.loop-clause.terms l slots) (sym c.loop-clause.invariant.vars) (slots_kept u.kept at)) in
+      let g = c.in_ok-holds.ensures.made _ h.term.here in
+      subst (λ (ks : List ℕ). IsUnderway c.args.terms.now c.formula.new.terms ks (clause_formulas (setting c.args.core.now c.args.program.now) (named_to (setting c.args.core.now c.args.program.now) c.args.depth) c.args.words.now (numbered_list (seen_exprs (drop (c.loop-clause.clause-index + 1) c.args.clauses.now)) c.in_ok-v.v.next) slots c.in_ok-v.v.count) (clause_parts (setting c.args.core.now c.args.program.now) (named_to (setting c.args.core.now c.args.program.now) c.args.depth) c.args.words.now c.args.clauses.now c.args.node slots f c.args.count)) (sym c.in_ok-push.ensures.items)
+      (clause_turn (setting c.args.core.now c.args.program.now) (named_to (setting c.args.core.now c.args.program.now) c.args.depth) c.args.words.now slots c.args.clauses.now c.loop-clause.clause-index c.clause-item.result c.loop-clause-test.true c.clause-item.is u h c.in_ok-v.ensures.node g);
+}
 
 pub clauses_hold-returns-in_ok-term-clause-made : goal.clauses_hold-returns-in_ok-term-clause-made
 clauses_hold-returns-in_ok-term-clause-made t c = λ d slots f at here.
@@ -139,43 +138,43 @@ values_to-loop-item-init t c = record { within = subst (λ (ks : List ℕ). AreB
 
 pub values_to-loop-item-preserved : goal.values_to-loop-item-preserved
 values_to-loop-item-preserved t c = record {
-      within = subst (λ (ks : List ℕ). AreBelow (length c.value_to.new.terms) ks) (sym c.in_ok-push.ensures.items) (below_pushed (length c.loop-item.terms) (length c.value_to.new.terms) c.loop-item.made.items c.in_ok-v.v.term c.in_ok-v.ensures.grows c.in_ok-v.ensures.within c.loop-item.invariant.within);
-      grows = omega (arith, c.in_ok-v.ensures.grows, c.loop-item.invariant.grows);
-      node = next_node c.args.items.now c.loop-item.item-index c.item-item.result c.loop-item-test.true c.item-item.is c.loop-item.next c.in_ok-v.v.next (c.args.node + exprs_in_all (exprs_of (seen_exprs c.args.items.now))) c.loop-item.invariant.node c.in_ok-v.ensures.node;
-      vars = c.in_ok-v.ensures.vars ∙ c.loop-item.invariant.vars;
-      made = λ d slots at.
-          let u = c.loop-item.invariant.made d slots at in
-          let h = c.in_ok-v.ensures.made d slots (subst (λ (l : List (Option ℕ)). AreSlotsAt c.loop-item.terms l slots) (sym c.loop-item.invariant.vars) (slots_kept u.kept at)) in
-          subst (λ (ks : List ℕ). IsUnderway c.args.terms.now c.value_to.new.terms ks (values (setting c.args.core.now c.args.program.now) (named_to (setting c.args.core.now c.args.program.now) c.args.depth) c.args.words.now (numbered_all (exprs_of (seen_exprs (drop (c.loop-item.item-index + 1) c.args.items.now))) c.in_ok-v.v.next) slots c.in_ok-v.v.count) (values (setting c.args.core.now c.args.program.now) (named_to (setting c.args.core.now c.args.program.now) c.args.depth) c.args.words.now (numbered_all (exprs_of (seen_exprs c.args.items.now)) c.args.node) slots c.args.count)) (sym c.in_ok-push.ensures.items)
-              (value_turn (setting c.args.core.now c.args.program.now) (named_to (setting c.args.core.now c.args.program.now) c.args.depth) c.args.words.now slots c.args.items.now c.loop-item.item-index c.item-item.result c.loop-item-test.true c.item-item.is u h c.in_ok-v.ensures.node);
-    }
+  within = subst (λ (ks : List ℕ). AreBelow (length c.value_to.new.terms) ks) (sym c.in_ok-push.ensures.items) (below_pushed (length c.loop-item.terms) (length c.value_to.new.terms) c.loop-item.made.items c.in_ok-v.v.term c.in_ok-v.ensures.grows c.in_ok-v.ensures.within c.loop-item.invariant.within);
+  grows = omega (arith, c.in_ok-v.ensures.grows, c.loop-item.invariant.grows);
+  node = next_node c.args.items.now c.loop-item.item-index c.item-item.result c.loop-item-test.true c.item-item.is c.loop-item.next c.in_ok-v.v.next (c.args.node + exprs_in_all (exprs_of (seen_exprs c.args.items.now))) c.loop-item.invariant.node c.in_ok-v.ensures.node;
+  vars = c.in_ok-v.ensures.vars ∙ c.loop-item.invariant.vars;
+  made = λ d slots at.
+      let u = c.loop-item.invariant.made d slots at in
+      let h = c.in_ok-v.ensures.made d slots (subst (λ (l : List (Option ℕ)). AreSlotsAt c.loop-item.terms l slots) (sym c.loop-item.invariant.vars) (slots_kept u.kept at)) in
+      subst (λ (ks : List ℕ). IsUnderway c.args.terms.now c.value_to.new.terms ks (values (setting c.args.core.now c.args.program.now) (named_to (setting c.args.core.now c.args.program.now) c.args.depth) c.args.words.now (numbered_all (exprs_of (seen_exprs (drop (c.loop-item.item-index + 1) c.args.items.now))) c.in_ok-v.v.next) slots c.in_ok-v.v.count) (values (setting c.args.core.now c.args.program.now) (named_to (setting c.args.core.now c.args.program.now) c.args.depth) c.args.words.now (numbered_all (exprs_of (seen_exprs c.args.items.now)) c.args.node) slots c.args.count)) (sym c.in_ok-push.ensures.items)
+      (value_turn (setting c.args.core.now c.args.program.now) (named_to (setting c.args.core.now c.args.program.now) c.args.depth) c.args.words.now slots c.args.items.now c.loop-item.item-index c.item-item.result c.loop-item-test.true c.item-item.is u h c.in_ok-v.ensures.node);
+}
 
 pub values_to-returns-clause-made : goal.values_to-returns-clause-made
 values_to-returns-clause-made t c = λ d slots at. values_end (setting c.args.core.now c.args.program.now) (named_to (setting c.args.core.now c.args.program.now) c.args.depth) c.args.words.now slots c.args.items.now c.loop-item.item-index c.loop-item-test.false (c.loop-item.invariant.made d slots at)
 
 pub field_values_to-loop-item-init : goal.field_values_to-loop-item-init
 field_values_to-loop-item-init t c = record {
-      within = subst (λ (l : List (List ℕ × ℕ)). AreBelow (length c.args.terms.now) (map (λ f. f.1) l)) (sym c.new.ensures.items) (All-nil (λ j. j < length c.args.terms.now));
-      grows = omega arith;
-      node = refl;
-      vars = refl;
-      fields = ap (λ (l : List (List ℕ × ℕ)). map (λ f. f.0) l) c.new.ensures.items;
-      made = λ d slots at. subst (λ (l : List (List ℕ × ℕ)). IsUnderway c.args.terms.now c.args.terms.now (map (λ f. f.1) l) (field_values (setting c.args.core.now c.args.program.now) (named_to (setting c.args.core.now c.args.program.now) c.args.depth) c.args.words.now (numbered_fields (seen_fields c.args.items.now) c.args.node) slots c.args.count) (field_values (setting c.args.core.now c.args.program.now) (named_to (setting c.args.core.now c.args.program.now) c.args.depth) c.args.words.now (numbered_fields (seen_fields c.args.items.now) c.args.node) slots c.args.count)) (sym c.new.ensures.items) (begun c.args.terms.now (field_values (setting c.args.core.now c.args.program.now) (named_to (setting c.args.core.now c.args.program.now) c.args.depth) c.args.words.now (numbered_fields (seen_fields c.args.items.now) c.args.node) slots c.args.count));
-    }
+  within = subst (λ (l : List (List ℕ × ℕ)). AreBelow (length c.args.terms.now) (map (λ f. f.1) l)) (sym c.new.ensures.items) (All-nil (λ j. j < length c.args.terms.now));
+  grows = omega arith;
+  node = refl;
+  vars = refl;
+  fields = ap (λ (l : List (List ℕ × ℕ)). map (λ f. f.0) l) c.new.ensures.items;
+  made = λ d slots at. subst (λ (l : List (List ℕ × ℕ)). IsUnderway c.args.terms.now c.args.terms.now (map (λ f. f.1) l) (field_values (setting c.args.core.now c.args.program.now) (named_to (setting c.args.core.now c.args.program.now) c.args.depth) c.args.words.now (numbered_fields (seen_fields c.args.items.now) c.args.node) slots c.args.count) (field_values (setting c.args.core.now c.args.program.now) (named_to (setting c.args.core.now c.args.program.now) c.args.depth) c.args.words.now (numbered_fields (seen_fields c.args.items.now) c.args.node) slots c.args.count)) (sym c.new.ensures.items) (begun c.args.terms.now (field_values (setting c.args.core.now c.args.program.now) (named_to (setting c.args.core.now c.args.program.now) c.args.depth) c.args.words.now (numbered_fields (seen_fields c.args.items.now) c.args.node) slots c.args.count));
+}
 
 pub field_values_to-loop-item-preserved : goal.field_values_to-loop-item-preserved
 field_values_to-loop-item-preserved t c = record {
-      within = subst (λ (ks : List ℕ). AreBelow (length c.value_to.new.terms) ks) (sym (ap (λ (l : List (List ℕ × ℕ)). map (λ f. f.1) l) c.in_ok-push.ensures.items ∙ map_push (λ (f : List ℕ × ℕ). f.1) c.loop-item.made.items (c.in_ok-name.name, c.in_ok-v.v.term))) (below_pushed (length c.loop-item.terms) (length c.value_to.new.terms) (map (λ f. f.1) c.loop-item.made.items) c.in_ok-v.v.term c.in_ok-v.ensures.grows c.in_ok-v.ensures.within c.loop-item.invariant.within);
-      grows = omega (arith, c.in_ok-v.ensures.grows, c.loop-item.invariant.grows);
-      node = next_field_node c.args.items.now c.loop-item.item-index c.item-item.result c.loop-item-test.true c.item-item.is c.loop-item.next c.in_ok-v.v.next (c.args.node + exprs_in_fields (seen_fields c.args.items.now)) c.loop-item.invariant.node c.in_ok-v.ensures.node;
-      vars = c.in_ok-v.ensures.vars ∙ c.loop-item.invariant.vars;
-      fields = ap (λ (l : List (List ℕ × ℕ)). map (λ f. f.0) l) c.in_ok-push.ensures.items ∙ (map_push (λ (f : List ℕ × ℕ). f.0) c.loop-item.made.items (c.in_ok-name.name, c.in_ok-v.v.term) ∙ names_turn c.args.items.now c.loop-item.item-index c.item-item.result c.in_ok-name.name (map (λ f. f.0) c.loop-item.made.items) c.loop-item-test.true c.item-item.is c.in_ok-name.ensures.value c.loop-item.invariant.fields);
-      made = λ d slots at.
-          let u = c.loop-item.invariant.made d slots at in
-          let h = c.in_ok-v.ensures.made d slots (subst (λ (l : List (Option ℕ)). AreSlotsAt c.loop-item.terms l slots) (sym c.loop-item.invariant.vars) (slots_kept u.kept at)) in
-          subst (λ (ks : List ℕ). IsUnderway c.args.terms.now c.value_to.new.terms ks (field_values (setting c.args.core.now c.args.program.now) (named_to (setting c.args.core.now c.args.program.now) c.args.depth) c.args.words.now (numbered_fields (seen_fields (drop (c.loop-item.item-index + 1) c.args.items.now)) c.in_ok-v.v.next) slots c.in_ok-v.v.count) (field_values (setting c.args.core.now c.args.program.now) (named_to (setting c.args.core.now c.args.program.now) c.args.depth) c.args.words.now (numbered_fields (seen_fields c.args.items.now) c.args.node) slots c.args.count)) (sym (ap (λ (l : List (List ℕ × ℕ)). map (λ f. f.1) l) c.in_ok-push.ensures.items ∙ map_push (λ (f : List ℕ × ℕ). f.1) c.loop-item.made.items (c.in_ok-name.name, c.in_ok-v.v.term)))
-              (field_value_turn (setting c.args.core.now c.args.program.now) (named_to (setting c.args.core.now c.args.program.now) c.args.depth) c.args.words.now slots c.args.items.now c.loop-item.item-index c.item-item.result c.loop-item-test.true c.item-item.is u h c.in_ok-v.ensures.node);
-    }
+  within = subst (λ (ks : List ℕ). AreBelow (length c.value_to.new.terms) ks) (sym (ap (λ (l : List (List ℕ × ℕ)). map (λ f. f.1) l) c.in_ok-push.ensures.items ∙ map_push (λ (f : List ℕ × ℕ). f.1) c.loop-item.made.items (c.in_ok-name.name, c.in_ok-v.v.term))) (below_pushed (length c.loop-item.terms) (length c.value_to.new.terms) (map (λ f. f.1) c.loop-item.made.items) c.in_ok-v.v.term c.in_ok-v.ensures.grows c.in_ok-v.ensures.within c.loop-item.invariant.within);
+  grows = omega (arith, c.in_ok-v.ensures.grows, c.loop-item.invariant.grows);
+  node = next_field_node c.args.items.now c.loop-item.item-index c.item-item.result c.loop-item-test.true c.item-item.is c.loop-item.next c.in_ok-v.v.next (c.args.node + exprs_in_fields (seen_fields c.args.items.now)) c.loop-item.invariant.node c.in_ok-v.ensures.node;
+  vars = c.in_ok-v.ensures.vars ∙ c.loop-item.invariant.vars;
+  fields = ap (λ (l : List (List ℕ × ℕ)). map (λ f. f.0) l) c.in_ok-push.ensures.items ∙ (map_push (λ (f : List ℕ × ℕ). f.0) c.loop-item.made.items (c.in_ok-name.name, c.in_ok-v.v.term) ∙ names_turn c.args.items.now c.loop-item.item-index c.item-item.result c.in_ok-name.name (map (λ f. f.0) c.loop-item.made.items) c.loop-item-test.true c.item-item.is c.in_ok-name.ensures.value c.loop-item.invariant.fields);
+  made = λ d slots at.
+      let u = c.loop-item.invariant.made d slots at in
+      let h = c.in_ok-v.ensures.made d slots (subst (λ (l : List (Option ℕ)). AreSlotsAt c.loop-item.terms l slots) (sym c.loop-item.invariant.vars) (slots_kept u.kept at)) in
+      subst (λ (ks : List ℕ). IsUnderway c.args.terms.now c.value_to.new.terms ks (field_values (setting c.args.core.now c.args.program.now) (named_to (setting c.args.core.now c.args.program.now) c.args.depth) c.args.words.now (numbered_fields (seen_fields (drop (c.loop-item.item-index + 1) c.args.items.now)) c.in_ok-v.v.next) slots c.in_ok-v.v.count) (field_values (setting c.args.core.now c.args.program.now) (named_to (setting c.args.core.now c.args.program.now) c.args.depth) c.args.words.now (numbered_fields (seen_fields c.args.items.now) c.args.node) slots c.args.count)) (sym (ap (λ (l : List (List ℕ × ℕ)). map (λ f. f.1) l) c.in_ok-push.ensures.items ∙ map_push (λ (f : List ℕ × ℕ). f.1) c.loop-item.made.items (c.in_ok-name.name, c.in_ok-v.v.term)))
+      (field_value_turn (setting c.args.core.now c.args.program.now) (named_to (setting c.args.core.now c.args.program.now) c.args.depth) c.args.words.now slots c.args.items.now c.loop-item.item-index c.item-item.result c.loop-item-test.true c.item-item.is u h c.in_ok-v.ensures.node);
+}
 
 pub field_values_to-returns-clause-names : goal.field_values_to-returns-clause-names
 field_values_to-returns-clause-names t c = names_end c.args.items.now c.loop-item.item-index (map (λ f. f.0) c.loop-item.made.items) c.loop-item-test.false c.loop-item.invariant.fields

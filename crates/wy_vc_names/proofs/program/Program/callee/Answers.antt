@@ -12,7 +12,8 @@ returns-in-Some c =
 
 pub returns-in-None : goal.returns-in-None
 returns-in-None c =
-    let same : length c.as_slice-routines.result.now ≡ length c.args.self.now.routines.items = ap (λ (l : List Called). length l) c.as_slice-routines.ensures.value in
+    let rs = c.as_slice-routines.result.now in
+    let same : length rs ≡ length c.args.self.now.routines.items = ap (λ (l : List Called). length l) c.as_slice-routines.ensures.value in
     let over : length c.args.self.now.routines.items ≤ c.args.number = omega (arith, same, c.in-None.ensures.lookup.3) in
-    let so : c.args.number - length c.args.self.now.routines.items ≡ c.args.number - c.len-count.result = omega (arith, same, c.len-count.ensures) in
-    record { value = λ known. found_behind c.args.core.now c.args.self.now c.args.number (c.args.number - c.len-count.result) c.built_in.result known over so c.built_in.ensures.value }
+    let so : c.args.number - length c.args.self.now.routines.items ≡ c.args.number - length rs = omega (arith, same) in
+    record { value = λ known. found_behind c.args.core.now c.args.self.now c.args.number (c.args.number - length rs) c.built_in.result known over so c.built_in.ensures.value }
