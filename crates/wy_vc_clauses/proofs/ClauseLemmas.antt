@@ -1,0 +1,166 @@
+-- Clauses that are owed or assumed, one after the other.
+use Rattle.std.proofs.Common.{Vec, Option, ◌≡◌, ◌<◌, ◌≤◌, ◌+◌, ℕ, suc, List, [], ◌∷◌, ◌++◌, Bool, true, false, length, map, drop, get_or, take, refl, ◌∙◌, sym, ap, subst, arith}
+use Rattle.std.proofs.lemmas.List.{append-nil, map-append, drop_more, drop_all}
+use Rattle.std.proofs.lemmas.List.Elements.{All-append, All-cons, All-nil}
+use Rattle.wy_core.specs.CoreTree.{Expr, NullExpr, BoolExpr, IntExpr, VarExpr, CallExpr, NegExpr, NotExpr, LenExpr, BinaryExpr, IsExpr, IndexExpr, FieldExpr, ListExpr, RepeatExpr, RecordExpr, QuantExpr}
+use Rattle.wy_core.specs.declared.expressions.Op.{Op}
+use Rattle.wy_core.specs.declared.expressions.Op.TheVariants as sign
+use Rattle.wy_term.specs.declared.cond.CondKind.{CondKind}
+use Rattle.wy_term.specs.Term.{Term}
+use Rattle.wy_term.specs.Nodes.{Plain, tree_at}
+use Rattle.wy_term.specs.Numbers.{IsAt}
+use Rattle.wy_conditions.specs.Numbered.{Node, numbered, numbered_list}
+use Rattle.wy_conditions.specs.Sizes.{exprs_in, exprs_in_list}
+use Rattle.wy_conditions.specs.Owed.{Owed, assume, assume_all, owe}
+use Rattle.wy_conditions.specs.Clauses.{Passed, passed, after, pass_goals, both_goals, one_goal, goals, owe_clauses, assume_clauses}
+use Rattle.wy_conditions.specs.Values.{Setting, Valued, ValuedAll, valued_all, clause_formula, named_in}
+use Rattle.wy_conditions.specs.Variables.{Vars}
+use Rattle.wy_vc_operations.specs.Growing.{Kept, Makes, AreAt, AreBelow}
+use Rattle.wy_vc_terms.specs.declared.maker.Maker.{Maker}
+use Rattle.wy_vc_terms.specs.Made.{IsMade, AreMade}
+use Rattle.wy_vc_walk.specs.Numbered.{trees_of}
+use Rattle.wy_vc_walk.specs.Slots.{AreSlots, slots_of}
+use Rattle.wy_vc_walk.specs.State.{IsSound, Steps, hyps_of, owed_of}
+use Rattle.wy_vc_walk.specs.declared.walk.Walk.{Walk}
+use Rattle.wy_vc_walk.proofs.NumberedLemmas.{kept_then, here_kept, at_itself}
+use Rattle.wy_vc_walk.proofs.SlotLemmas.{slots_kept, slots_on}
+use Rattle.wy_vc_walk.proofs.StateLemmas.{Toward, toward_begin, toward_step, toward_end, steps_made, steps_on, steps_as, are_one, are_kept}
+use Rattle.wy_vc_clauses.specs.Conjunctions.{is_and, is_conjunction, clause_assumed}
+
+-- ---- goals of a clause
+
+-- a clause that is no `&&` has one goal
+pub goals_one : (s : Setting Node) (words : List (List ℕ)) (e : Expr ℕ) (k : ℕ) (vars : Vars) (n : ℕ) → is_conjunction e ≡ false → goals s words (numbered e k) vars n ≡ one_goal (clause_formula s (named_in s) words (numbered e k) vars n)
+goals_one s words (NullExpr at) k vars n no_and = refl
+goals_one s words (BoolExpr at b) k vars n no_and = refl
+goals_one s words (IntExpr at z) k vars n no_and = refl
+goals_one s words (VarExpr at x) k vars n no_and = refl
+goals_one s words (CallExpr at f args) k vars n no_and = refl
+goals_one s words (NegExpr at a) k vars n no_and = refl
+goals_one s words (NotExpr at a) k vars n no_and = refl
+goals_one s words (LenExpr at a) k vars n no_and = refl
+goals_one s words (BinaryExpr at sign.Add a b) k vars n no_and = refl
+goals_one s words (BinaryExpr at sign.Sub a b) k vars n no_and = refl
+goals_one s words (BinaryExpr at sign.Mul a b) k vars n no_and = refl
+goals_one s words (BinaryExpr at sign.Div a b) k vars n no_and = refl
+goals_one s words (BinaryExpr at sign.Mod a b) k vars n no_and = refl
+goals_one s words (BinaryExpr at sign.Equal a b) k vars n no_and = refl
+goals_one s words (BinaryExpr at sign.Less a b) k vars n no_and = refl
+goals_one s words (BinaryExpr at sign.LessEqual a b) k vars n no_and = refl
+goals_one s words (BinaryExpr at sign.Greater a b) k vars n no_and = refl
+goals_one s words (BinaryExpr at sign.GreaterEqual a b) k vars n no_and = refl
+goals_one s words (BinaryExpr at sign.And a b) k vars n no_and = cc
+goals_one s words (BinaryExpr at sign.Or a b) k vars n no_and = refl
+goals_one s words (IsExpr at a t) k vars n no_and = refl
+goals_one s words (IndexExpr at a b) k vars n no_and = refl
+goals_one s words (FieldExpr at a name) k vars n no_and = refl
+goals_one s words (ListExpr at items) k vars n no_and = refl
+goals_one s words (RepeatExpr at a b) k vars n no_and = refl
+goals_one s words (RecordExpr at fields) k vars n no_and = refl
+goals_one s words (QuantExpr at all x a b c) k vars n no_and = refl
+
+-- of `a && b` those of a and then those of b
+pub goals_both : (s : Setting Node) (words : List (List ℕ)) (at : ℕ) (o : Op) (a b : Expr ℕ) (k : ℕ) (vars : Vars) (n : ℕ) → is_conjunction (BinaryExpr at o a b) ≡ true → goals s words (numbered (BinaryExpr at o a b) k) vars n ≡ both_goals (goals s words (numbered a k) vars n) (goals s words (numbered b (k + exprs_in a)) vars)
+goals_both s words at sign.Add a b k vars n both = cc
+goals_both s words at sign.Sub a b k vars n both = cc
+goals_both s words at sign.Mul a b k vars n both = cc
+goals_both s words at sign.Div a b k vars n both = cc
+goals_both s words at sign.Mod a b k vars n both = cc
+goals_both s words at sign.Equal a b k vars n both = cc
+goals_both s words at sign.Less a b k vars n both = cc
+goals_both s words at sign.LessEqual a b k vars n both = cc
+goals_both s words at sign.Greater a b k vars n both = cc
+goals_both s words at sign.GreaterEqual a b k vars n both = cc
+goals_both s words at sign.And a b k vars n both = refl
+goals_both s words at sign.Or a b k vars n both = cc
+
+-- the numbers of these, and behind them of those
+are_append : (nodes : List Plain) (ks ls : List ℕ) (ts us : List Term) → AreAt nodes ks ts → AreAt nodes ls us → AreAt nodes (ks ++ ls) (ts ++ us)
+are_append nodes ks ls ts us x y = record {
+  within = All-append (λ k. k < length nodes) ks ls x.within y.within;
+  are = map-append (tree_at nodes) ks ls ∙ ap (λ (vs : List Term). vs ++ trees_of nodes ls) x.are ∙ ap (λ (vs : List Term). ts ++ vs) y.are;
+}
+
+-- one goal is made
+pub made_one : (a b : Maker) (r : ℕ) (ks : List ℕ) (v : Valued) → ks ≡ r ∷ [] → IsMade a b r v → AreMade a b ks (one_goal v)
+made_one a b r ks v is m = record {
+  terms = subst (λ (xs : List ℕ). AreAt b.terms xs (v.term ∷ [])) (sym is) (are_one b.terms r v.term m.term.here);
+  kept = m.term.kept;
+  names = m.names;
+}
+
+-- the goals of both sides
+pub made_both : (a b c d : Maker) (ks ls ms : List ℕ) (v : ValuedAll) (W : ℕ → ValuedAll) → AreMade a b ks v → AreMade b c ls (W b.count) → d.terms ≡ c.terms → d.count ≡ c.count → ms ≡ ks ++ ls → AreMade a d ms (both_goals v W)
+made_both a b c d ks ls ms v W first second terms count is =
+    let second' = subst (λ (n : ℕ). AreMade b c ls (W n)) first.names second in
+    record {
+      terms = subst (λ (xs : List ℕ). AreAt d.terms xs (v.terms ++ (W v.count).terms)) (sym is) (subst (λ (ns : List Plain). AreAt ns (ks ++ ls) (v.terms ++ (W v.count).terms)) (sym terms)
+          (are_append c.terms ks ls v.terms (W v.count).terms (are_kept b.terms c.terms ks v.terms second'.kept first.terms) second'.terms));
+      kept = subst (λ (ns : List Plain). Kept a.terms ns) (sym terms) (kept_then first.kept second'.kept);
+      names = count ∙ second'.names;
+    }
+
+-- ---- clauses owed
+
+-- the goals of a clause are owed
+pub clause_owed : (kind : CondKind) (at : ℕ) (a b c : Walk) (xs ks : List ℕ) (v : ValuedAll) → IsSound a → xs ≡ ks → AreMade a.maker b.maker ks v → b.hyps.items ≡ a.hyps.items → b.owed.items ≡ a.owed.items
+    → Steps b c (passed b.maker.count (assume_all (hyps_of b) (trees_of b.maker.terms xs)) (owe kind at (hyps_of b) (trees_of b.maker.terms xs)))
+    → Steps a c (pass_goals kind at v (hyps_of a))
+clause_owed kind at a b c xs ks v sound same made hyps owed s =
+    let s' = subst (λ (us : List Term). Steps b c (passed b.maker.count (assume_all (hyps_of b) us) (owe kind at (hyps_of b) us))) (ap (λ (ys : List ℕ). trees_of b.maker.terms ys) same ∙ made.terms.are) s in
+    steps_as a c (passed b.maker.count (assume_all (hyps_of a) v.terms) (owe kind at (hyps_of a) v.terms)) (pass_goals kind at v (hyps_of a))
+    (ap (λ (n : ℕ). passed n (assume_all (hyps_of a) v.terms) (owe kind at (hyps_of a) v.terms)) made.names)
+    (steps_on (λ hs n. passed n (assume_all hs v.terms) (owe kind at hs v.terms)) a b c (passed b.maker.count (hyps_of a) []) (steps_made a b sound made.kept hyps owed) s')
+
+-- one goal is owed
+pub goal_owed : (kind : CondKind) (at : ℕ) (a b c : Walk) (r : ℕ) (v : Valued) → IsSound a → IsMade a.maker b.maker r v → b.hyps.items ≡ a.hyps.items → b.owed.items ≡ a.owed.items
+    → Steps b c (passed b.maker.count (assume (hyps_of b) (tree_at b.maker.terms r)) (owe kind at (hyps_of b) (tree_at b.maker.terms r ∷ [])))
+    → Steps a c (pass_goals kind at (one_goal v) (hyps_of a))
+goal_owed kind at a b c r v sound made hyps owed s = clause_owed kind at a b c (r ∷ []) (r ∷ []) (one_goal v) sound refl (made_one a.maker b.maker r (r ∷ []) v refl made) hyps owed s
+
+-- a formula is assumed
+pub formula_assumed : (a b c : Walk) (r : ℕ) (v : Valued) → IsSound a → IsMade a.maker b.maker r v → b.hyps.items ≡ a.hyps.items → b.owed.items ≡ a.owed.items
+    → Steps b c (passed b.maker.count (assume (hyps_of b) (tree_at b.maker.terms r)) [])
+    → Steps a c (clause_assumed v (hyps_of a))
+formula_assumed a b c r v sound made hyps owed s =
+    let s' = subst (λ (u : Term). Steps b c (passed b.maker.count (assume (hyps_of b) u) [])) made.term.here.is s in
+    steps_as a c (passed b.maker.count (assume (hyps_of a) v.term) []) (clause_assumed v (hyps_of a))
+    (ap (λ (n : ℕ). passed n (assume (hyps_of a) v.term) []) made.names)
+    (steps_on (λ hs n. passed n (assume hs v.term) []) a b c (passed b.maker.count (hyps_of a) []) (steps_made a b sound made.term.kept hyps owed) s')
+
+-- ---- one clause more
+
+-- what is left of clauses that are owed
+abbrev pub owing_clauses : Setting Node → CondKind → ℕ → List (List ℕ) → List (Expr ℕ) → ℕ → Vars → List Term → ℕ → Passed
+owing_clauses s kind at words es k vars hyps n = owe_clauses s kind at words (numbered_list es k) vars hyps n
+
+pub owe_turn : (s : Setting Node) (kind : CondKind) (at : ℕ) (words : List (List ℕ)) (vs : List (Option ℕ)) (a b c : Walk) (e : Expr ℕ) (es rest : List (Expr ℕ)) (all : Passed)
+    → es ≡ e ∷ rest → AreSlots a.maker.terms vs → c.maker.node ≡ b.maker.node + exprs_in e
+    → Toward a b (owing_clauses s kind at words es b.maker.node (slots_of a.maker.terms vs) (hyps_of b) b.maker.count) all
+    → Steps b c (pass_goals kind at (goals s words (numbered e b.maker.node) (slots_of b.maker.terms vs) b.maker.count) (hyps_of b))
+    → Toward a c (owing_clauses s kind at words rest c.maker.node (slots_of a.maker.terms vs) (hyps_of c) c.maker.count) all
+owe_turn s kind at words vs a b c e es rest all cut slots node t step =
+    let V = slots_of a.maker.terms vs in
+    let t' = subst (λ (xs : List (Expr ℕ)). Toward a b (owing_clauses s kind at words xs b.maker.node V (hyps_of b) b.maker.count) all) cut t in
+    let step' = subst (λ (xs : Vars). Steps b c (pass_goals kind at (goals s words (numbered e b.maker.node) xs b.maker.count) (hyps_of b))) (slots_kept a.maker.terms b.maker.terms t.kept vs slots) step in
+    subst (λ (j : ℕ). Toward a c (owing_clauses s kind at words rest j V (hyps_of c) c.maker.count) all) (sym node)
+    (toward_step (owing_clauses s kind at words rest (b.maker.node + exprs_in e) V) a b c (pass_goals kind at (goals s words (numbered e b.maker.node) V b.maker.count) (hyps_of b)) all t' step')
+
+-- what is left of clauses that are assumed
+abbrev pub assuming_clauses : Setting Node → List (List ℕ) → List (Expr ℕ) → ℕ → Vars → List Term → ℕ → Passed
+assuming_clauses s words es k vars hyps n = assume_clauses s words (numbered_list es k) vars hyps n
+
+pub assume_turn : (s : Setting Node) (words : List (List ℕ)) (vs : List (Option ℕ)) (a b c : Walk) (e : Expr ℕ) (es rest : List (Expr ℕ)) (all : Passed)
+    → es ≡ e ∷ rest → AreSlots a.maker.terms vs → c.maker.node ≡ b.maker.node + exprs_in e
+    → Toward a b (assuming_clauses s words es b.maker.node (slots_of a.maker.terms vs) (hyps_of b) b.maker.count) all
+    → Steps b c (clause_assumed (clause_formula s (named_in s) words (numbered e b.maker.node) (slots_of b.maker.terms vs) b.maker.count) (hyps_of b))
+    → Toward a c (assuming_clauses s words rest c.maker.node (slots_of a.maker.terms vs) (hyps_of c) c.maker.count) all
+assume_turn s words vs a b c e es rest all cut slots node t step =
+    let V = slots_of a.maker.terms vs in
+    let t' = subst (λ (xs : List (Expr ℕ)). Toward a b (assuming_clauses s words xs b.maker.node V (hyps_of b) b.maker.count) all) cut t in
+    let step' = subst (λ (xs : Vars). Steps b c (clause_assumed (clause_formula s (named_in s) words (numbered e b.maker.node) xs b.maker.count) (hyps_of b))) (slots_kept a.maker.terms b.maker.terms t.kept vs slots) step in
+    subst (λ (j : ℕ). Toward a c (assuming_clauses s words rest j V (hyps_of c) c.maker.count) all) (sym node)
+    (toward_step (assuming_clauses s words rest (b.maker.node + exprs_in e) V) a b c (clause_assumed (clause_formula s (named_in s) words (numbered e b.maker.node) V b.maker.count) (hyps_of b)) all t' step')
+
+pub below_one : (n : ℕ) (ks : List ℕ) (a : ℕ) → ks ≡ a ∷ [] → a < n → AreBelow n ks
+below_one n ks a is lt = subst (λ (xs : List ℕ). AreBelow n xs) (sym is) (All-cons (λ k. k < n) a [] lt (All-nil (λ k. k < n)))

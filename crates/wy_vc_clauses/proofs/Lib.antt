@@ -1,0 +1,4 @@
+-- clauses
+pub mod ClauseLemmas
+-- calls
+pub mod CallLemmas

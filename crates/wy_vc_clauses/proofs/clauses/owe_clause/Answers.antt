@@ -1,0 +1,11 @@
+use Rattle.std.proofs.Common.{◌≡◌, ◌∙◌, ℕ, List, [], ◌∷◌, ap, sym, subst, refl, arith}
+use Rattle.wy_vc_walk.proofs.ResultLemmas.{on_ok, if_ok}
+use Rattle.wy_vc_walk.proofs.NumberedLemmas.{at_itself}
+use Rattle.wy_vc_walk.proofs.SlotLemmas.{slots_itself}
+use Rattle.wy_vc_clauses.proofs.ClauseLemmas.{clause_owed}
+use Rattle.wy_vc_clauses.proofs.clauses.owe_clause.Goals as goal
+
+pub returns-clause-value : goal.returns-clause-value
+returns-clause-value c =
+    on_ok c.owe_all.result _ _ c.owe_all.ensures.value (λ s. clause_owed _ _ _ _ _ _ _ _ c.requires.sound c.as_slice.ensures.value
+    (c.in_ok-goals.ensures.made c.requires.described _ (slots_itself c.requires.slots)) refl refl s)

@@ -1,0 +1,4 @@
+-- clauses that are conjunctions
+pub mod Conjunctions
+-- what is called
+pub mod Called

@@ -1,0 +1,4 @@
+-- the forms of expressions
+pub mod ArmLemmas
+-- expressions in order
+pub mod ListLemmas

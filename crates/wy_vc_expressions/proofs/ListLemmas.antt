@@ -1,0 +1,86 @@
+-- The walks of expressions in order.
+use Rattle.std.proofs.Common.{Vec, Option, ◌≡◌, ◌<◌, ◌≤◌, ◌+◌, ℕ, suc, List, [], ◌∷◌, ◌++◌, length, map, drop, refl, ◌∙◌, sym, ap, subst, arith}
+use Rattle.std.proofs.lemmas.List.{append-nil, append_assoc, map-append}
+use Rattle.std.proofs.lemmas.List.Elements.{All-push}
+use Rattle.wy_core.specs.CoreTree.{Expr, Exprs, NoExprs, MoreExprs, Fields, NoFields, MoreFields, exprs_of, fields_of}
+use Rattle.wy_core.specs.declared.declarations.Core.{Core}
+use Rattle.wy_term.specs.Term.{Term}
+use Rattle.wy_term.specs.Nodes.{Plain, tree_at}
+use Rattle.wy_term.specs.Numbers.{IsAt}
+use Rattle.wy_conditions.specs.Sizes.{exprs_in}
+use Rattle.wy_conditions.specs.Variables.{Vars}
+use Rattle.wy_conditions.specs.Clauses.{Passed, passed, after}
+use Rattle.wy_conditions.specs.Calls.{Walked}
+use Rattle.wy_conditions.specs.Walks.{WalkedAll}
+use Rattle.wy_vc_names.specs.declared.program.Program.{Program}
+use Rattle.wy_vc_operations.specs.Growing.{Kept, AreAt, AreBelow}
+use Rattle.wy_vc_walk.specs.Numbered.{trees_of}
+use Rattle.wy_vc_walk.specs.Slots.{slots_of, AreSlots}
+use Rattle.wy_vc_walk.specs.State.{IsSound, Steps, Walks, WalksAll, hyps_of, owed_of, passed_by, passed_by_all}
+use Rattle.wy_vc_walk.specs.declared.walk.Walk.{Walk}
+use Rattle.wy_vc_walk.proofs.NumberedLemmas.{trees_kept, below_on}
+use Rattle.wy_vc_walk.proofs.SlotLemmas.{slots_kept}
+use Rattle.wy_vc_walk.proofs.StateLemmas.{Toward, toward_begin, toward_step, toward_end}
+use Rattle.wy_vc_expressions.specs.Walking.{walk_of, walk_all_of, field_walks}
+
+-- what is left to walk comes to all, and the terms made stand in front
+pub record TowardAll (a b : Walk) (ks : List ℕ) (rest all : WalkedAll) : Type 0 where
+  pub toward : Toward a b (passed_by_all rest) (passed_by_all all)
+  pub within : AreBelow (length b.maker.terms) ks
+  pub terms : trees_of b.maker.terms ks ++ rest.terms ≡ all.terms
+
+pub all_begin : (a : Walk) (all : WalkedAll) → IsSound a → TowardAll a a [] all all
+all_begin a all sound = record { toward = toward_begin a (passed_by_all all) sound; within = λ k d lt. absurd (omega arith); terms = refl }
+
+-- one walk more
+pub all_step : (F : List Term → ℕ → WalkedAll) (a b c : Walk) (ks : List ℕ) (r : ℕ) (w : Walked) (left all : WalkedAll)
+    → passed_by_all left ≡ after (passed_by w) (passed_by_all (F w.hyps w.count)) → left.terms ≡ w.term ∷ (F w.hyps w.count).terms
+    → TowardAll a b ks left all → Walks b c r w → TowardAll a c (ks ++ r ∷ []) (F (hyps_of c) c.maker.count) all
+all_step F a b c ks r w left all steps terms t s =
+    let at : F (hyps_of c) c.maker.count ≡ F w.hyps w.count = ap (λ (hs : List Term). F hs c.maker.count) s.steps.hyps ∙ ap (λ (n : ℕ). F w.hyps n) s.steps.count in
+    record {
+      toward = toward_step (λ hs n. passed_by_all (F hs n)) a b c (passed_by w) (passed_by_all all) (subst (λ (p : Passed). Toward a b p (passed_by_all all)) steps t.toward) s.steps;
+      within = All-push (λ k. k < length c.maker.terms) ks r (below_on b.maker.terms c.maker.terms s.steps.kept ks t.within) s.is.within;
+      terms =
+          ap (λ (x : WalkedAll). trees_of c.maker.terms (ks ++ r ∷ []) ++ x.terms) at
+          ∙ ap (λ (ts : List Term). ts ++ (F w.hyps w.count).terms) (map-append (tree_at c.maker.terms) ks (r ∷ []))
+          ∙ ap (λ (ts : List Term). (ts ++ tree_at c.maker.terms r ∷ []) ++ (F w.hyps w.count).terms) (trees_kept b.maker.terms c.maker.terms s.steps.kept ks t.within)
+          ∙ ap (λ (x : Term). (trees_of b.maker.terms ks ++ x ∷ []) ++ (F w.hyps w.count).terms) s.is.is
+          ∙ append_assoc (trees_of b.maker.terms ks) (w.term ∷ []) (F w.hyps w.count).terms
+          ∙ ap (λ (ts : List Term). trees_of b.maker.terms ks ++ ts) (sym terms)
+          ∙ t.terms;
+    }
+
+pub all_end : (a b : Walk) (ks : List ℕ) (all : WalkedAll) → TowardAll a b ks (record { count = b.maker.count; hyps = hyps_of b; terms = []; owed = [] }) all → WalksAll a b ks all
+all_end a b ks all t = record {
+  steps = toward_end a b (passed_by_all all) t.toward;
+  are = record { within = t.within; are = sym (append-nil (trees_of b.maker.terms ks)) ∙ t.terms };
+}
+
+-- one expression more
+pub exprs_turn : (core : Core) (p : Program) (words : List (List ℕ)) (vs : List (Option ℕ)) (a b c : Walk) (ks : List ℕ) (r : ℕ) (e : Expr ℕ) (es rest : List (Expr ℕ)) (all : WalkedAll)
+    → es ≡ e ∷ rest → AreSlots a.maker.terms vs → c.maker.node ≡ b.maker.node + exprs_in e
+    → TowardAll a b ks (walk_all_of core p words (exprs_of es) b.maker.node (slots_of a.maker.terms vs) (hyps_of b) b.maker.count) all
+    → Walks b c r (walk_of core p words e b.maker.node (slots_of b.maker.terms vs) (hyps_of b) b.maker.count)
+    → TowardAll a c (ks ++ r ∷ []) (walk_all_of core p words (exprs_of rest) c.maker.node (slots_of a.maker.terms vs) (hyps_of c) c.maker.count) all
+exprs_turn core p words vs a b c ks r e es rest all cut slots node t s =
+    let V = slots_of a.maker.terms vs in
+    let t' = subst (λ (xs : List (Expr ℕ)). TowardAll a b ks (walk_all_of core p words (exprs_of xs) b.maker.node V (hyps_of b) b.maker.count) all) cut t in
+    let s' = subst (λ (xs : Vars). Walks b c r (walk_of core p words e b.maker.node xs (hyps_of b) b.maker.count)) (slots_kept a.maker.terms b.maker.terms t.toward.kept vs slots) s in
+    subst (λ (j : ℕ). TowardAll a c (ks ++ r ∷ []) (walk_all_of core p words (exprs_of rest) j V (hyps_of c) c.maker.count) all) (sym node)
+    (all_step (λ hs n. walk_all_of core p words (exprs_of rest) (b.maker.node + exprs_in e) V hs n) a b c ks r (walk_of core p words e b.maker.node V (hyps_of b) b.maker.count)
+    (walk_all_of core p words (exprs_of (e ∷ rest)) b.maker.node V (hyps_of b) b.maker.count) all refl refl t' s')
+
+-- one field more
+pub fields_turn : (core : Core) (p : Program) (words : List (List ℕ)) (vs : List (Option ℕ)) (a b c : Walk) (ks : List ℕ) (r : ℕ) (name : List ℕ) (e : Expr ℕ) (fs rest : List (List ℕ × Expr ℕ)) (all : WalkedAll)
+    → fs ≡ (name, e) ∷ rest → AreSlots a.maker.terms vs → c.maker.node ≡ b.maker.node + exprs_in e
+    → TowardAll a b ks (field_walks core p words (fields_of fs) b.maker.node (slots_of a.maker.terms vs) (hyps_of b) b.maker.count) all
+    → Walks b c r (walk_of core p words e b.maker.node (slots_of b.maker.terms vs) (hyps_of b) b.maker.count)
+    → TowardAll a c (ks ++ r ∷ []) (field_walks core p words (fields_of rest) c.maker.node (slots_of a.maker.terms vs) (hyps_of c) c.maker.count) all
+fields_turn core p words vs a b c ks r name e fs rest all cut slots node t s =
+    let V = slots_of a.maker.terms vs in
+    let t' = subst (λ (xs : List (List ℕ × Expr ℕ)). TowardAll a b ks (field_walks core p words (fields_of xs) b.maker.node V (hyps_of b) b.maker.count) all) cut t in
+    let s' = subst (λ (xs : Vars). Walks b c r (walk_of core p words e b.maker.node xs (hyps_of b) b.maker.count)) (slots_kept a.maker.terms b.maker.terms t.toward.kept vs slots) s in
+    subst (λ (j : ℕ). TowardAll a c (ks ++ r ∷ []) (field_walks core p words (fields_of rest) j V (hyps_of c) c.maker.count) all) (sym node)
+    (all_step (λ hs n. field_walks core p words (fields_of rest) (b.maker.node + exprs_in e) V hs n) a b c ks r (walk_of core p words e b.maker.node V (hyps_of b) b.maker.count)
+    (field_walks core p words (fields_of ((name, e) ∷ rest)) b.maker.node V (hyps_of b) b.maker.count) all refl refl t' s')

@@ -1,0 +1,12 @@
+use Rattle.std.proofs.Common.{◌≡◌, ◌∙◌, ℕ, List, [], ◌∷◌, ap, sym, subst, refl, arith}
+use Rattle.wy_vc_steps.proofs.StepLemmas.{made_assumed, onward}
+use Rattle.wy_vc_walk.proofs.NumberedLemmas.{at_itself, are_itself, here_kept, kept_then}
+use Rattle.wy_vc_walk.proofs.SlotLemmas.{slots_itself}
+use Rattle.wy_vc_walk.proofs.ResultLemmas.{on_ok, if_ok}
+use Rattle.wy_vc_steps.proofs.steps.assume_below.Goals as goal
+
+pub returns-clause-value : goal.returns-clause-value
+returns-clause-value c =
+    let m = c.in_ok-below.ensures.made _ (at_itself c.requires.below) in
+    let d = c.in_ok-under.ensures.made _ _ (here_kept m.kept (at_itself c.requires.name)) m.here in
+    on_ok c.assume.result _ _ c.assume.ensures.value (λ s. made_assumed _ _ _ _ _ c.requires.sound (onward m.kept d) refl refl refl s)

@@ -1,0 +1,15 @@
+use Rattle.std.proofs.Common.{◌≡◌, ◌∙◌, ℕ, List, [], ◌∷◌, ap, sym, subst, refl, arith}
+use Rattle.wy_vc_steps.proofs.StepLemmas.{finish_goals, ap_two}
+use Rattle.wy_vc_walk.proofs.NumberedLemmas.{at_itself, are_itself, here_kept, kept_then}
+use Rattle.wy_vc_walk.proofs.SlotLemmas.{slots_itself}
+use Rattle.wy_term.specs.Term.{Term}
+use Rattle.wy_term.specs.declared.cond.CondKind.TheVariants as kinds
+use Rattle.wy_conditions.specs.Walks.{Goals, goals_of, range_goals, divisor_goals, index_goals, length_goals, operator_goals}
+use Rattle.wy_vc_steps.proofs.steps.walk_binary.Goals as goal
+
+pub returns-clause-value : goal.returns-clause-value
+returns-clause-value c =
+    let m = c.in_ok-made.ensures.made _ _ (at_itself c.requires.v) (at_itself c.requires.w) in
+    finish_goals _ _ _ _ _ _ _ _ _ _ c.requires.sound m refl refl refl c.in_ok-owe_operation.ensures.value
+    (ap_two (operator_goals c.args.op) (m.kept.trees _ c.requires.w) m.here.is)
+    c.in_ok-pass.ensures.new refl refl
