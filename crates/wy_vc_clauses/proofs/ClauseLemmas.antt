@@ -3,6 +3,8 @@ use Rattle.std.proofs.Common.{Vec, Option, ◌≡◌, ◌<◌, ◌≤◌, ◌+�
 use Rattle.std.proofs.lemmas.List.{append-nil, map-append, drop_more, drop_all}
 use Rattle.std.proofs.lemmas.List.Elements.{All-append, All-cons, All-nil}
 use Rattle.wy_core.specs.CoreTree.{Expr, NullExpr, BoolExpr, IntExpr, VarExpr, CallExpr, NegExpr, NotExpr, LenExpr, BinaryExpr, IsExpr, IndexExpr, FieldExpr, ListExpr, RepeatExpr, RecordExpr, QuantExpr}
+use Rattle.wy_core.specs.CoreSeen.{seen_expr, seen_exprs}
+use Rattle.wy_core.specs.declared.expressions.Expr as e
 use Rattle.wy_core.specs.declared.expressions.Op.{Op}
 use Rattle.wy_core.specs.declared.expressions.Op.TheVariants as sign
 use Rattle.wy_term.specs.declared.cond.CondKind.{CondKind}
@@ -134,33 +136,77 @@ formula_assumed a b c r v sound made hyps owed s =
 abbrev pub owing_clauses : Setting Node → CondKind → ℕ → List (List ℕ) → List (Expr ℕ) → ℕ → Vars → List Term → ℕ → Passed
 owing_clauses s kind at words es k vars hyps n = owe_clauses s kind at words (numbered_list es k) vars hyps n
 
-pub owe_turn : (s : Setting Node) (kind : CondKind) (at : ℕ) (words : List (List ℕ)) (vs : List (Option ℕ)) (a b c : Walk) (e : Expr ℕ) (es rest : List (Expr ℕ)) (all : Passed)
-    → es ≡ e ∷ rest → AreSlots a.maker.terms vs → c.maker.node ≡ b.maker.node + exprs_in e
-    → Toward a b (owing_clauses s kind at words es b.maker.node (slots_of a.maker.terms vs) (hyps_of b) b.maker.count) all
-    → Steps b c (pass_goals kind at (goals s words (numbered e b.maker.node) (slots_of b.maker.terms vs) b.maker.count) (hyps_of b))
-    → Toward a c (owing_clauses s kind at words rest c.maker.node (slots_of a.maker.terms vs) (hyps_of c) c.maker.count) all
-owe_turn s kind at words vs a b c e es rest all cut slots node t step =
-    let V = slots_of a.maker.terms vs in
-    let t' = subst (λ (xs : List (Expr ℕ)). Toward a b (owing_clauses s kind at words xs b.maker.node V (hyps_of b) b.maker.count) all) cut t in
-    let step' = subst (λ (xs : Vars). Steps b c (pass_goals kind at (goals s words (numbered e b.maker.node) xs b.maker.count) (hyps_of b))) (slots_kept a.maker.terms b.maker.terms t.kept vs slots) step in
-    subst (λ (j : ℕ). Toward a c (owing_clauses s kind at words rest j V (hyps_of c) c.maker.count) all) (sym node)
-    (toward_step (owing_clauses s kind at words rest (b.maker.node + exprs_in e) V) a b c (pass_goals kind at (goals s words (numbered e b.maker.node) V b.maker.count) (hyps_of b)) all t' step')
-
 -- what is left of clauses that are assumed
 abbrev pub assuming_clauses : Setting Node → List (List ℕ) → List (Expr ℕ) → ℕ → Vars → List Term → ℕ → Passed
 assuming_clauses s words es k vars hyps n = assume_clauses s words (numbered_list es k) vars hyps n
 
-pub assume_turn : (s : Setting Node) (words : List (List ℕ)) (vs : List (Option ℕ)) (a b c : Walk) (e : Expr ℕ) (es rest : List (Expr ℕ)) (all : Passed)
-    → es ≡ e ∷ rest → AreSlots a.maker.terms vs → c.maker.node ≡ b.maker.node + exprs_in e
-    → Toward a b (assuming_clauses s words es b.maker.node (slots_of a.maker.terms vs) (hyps_of b) b.maker.count) all
-    → Steps b c (clause_assumed (clause_formula s (named_in s) words (numbered e b.maker.node) (slots_of b.maker.terms vs) b.maker.count) (hyps_of b))
-    → Toward a c (assuming_clauses s words rest c.maker.node (slots_of a.maker.terms vs) (hyps_of c) c.maker.count) all
-assume_turn s words vs a b c e es rest all cut slots node t step =
+-- what is done with clauses, by the number of their first expression, the terms of variables, what is assumed and how many names are made
+abbrev pub Doing : Type 0
+Doing = List (Expr ℕ) → ℕ → Vars → List Term → ℕ → Passed
+
+-- what is left comes to all
+pub record Left (F : Doing) (a b : Walk) (vs us : List (Option ℕ)) (left all : List (Expr ℕ)) : Type 0 where
+  pub toward : Toward a b (F left b.maker.node (slots_of a.maker.terms vs) (hyps_of b) b.maker.count) (F all a.maker.node (slots_of a.maker.terms vs) (hyps_of a) a.maker.count)
+  pub node : b.maker.node + exprs_in_list left ≡ a.maker.node + exprs_in_list all
+  pub vars : us ≡ vs
+  pub slots : AreSlots b.maker.terms us
+
+pub left_begin : (F : Doing) (a : Walk) (vs : List (Option ℕ)) (all : List (Expr ℕ)) → IsSound a → AreSlots a.maker.terms vs → Left F a a vs vs all all
+left_begin F a vs all sound slots = record {
+  toward = toward_begin a (F all a.maker.node (slots_of a.maker.terms vs) (hyps_of a) a.maker.count) sound;
+  node = refl;
+  vars = refl;
+  slots = slots;
+}
+
+-- what is done with one clause, and then with the others
+abbrev pub IsOneByOne : Doing → (Expr ℕ → ℕ → Vars → List Term → ℕ → Passed) → Type 0
+IsOneByOne F P = (e : Expr ℕ) (rest : List (Expr ℕ)) (k : ℕ) (vars : Vars) (hyps : List Term) (n : ℕ) → F (e ∷ rest) k vars hyps n ≡ after (P e k vars hyps n) (F rest (k + exprs_in e) vars (P e k vars hyps n).hyps (P e k vars hyps n).count)
+
+node_turn : (b c a : ℕ) (e : Expr ℕ) (left rest all : List (Expr ℕ)) → left ≡ e ∷ rest → c ≡ b + exprs_in e → b + exprs_in_list left ≡ a + exprs_in_list all → c + exprs_in_list rest ≡ a + exprs_in_list all
+node_turn b c a e left rest all cut node l = let more : exprs_in_list left ≡ exprs_in e + exprs_in_list rest = ap (λ (xs : List (Expr ℕ)). exprs_in_list xs) cut in omega (arith, node, l, more)
+
+pub left_turn : (F : Doing) (P : Expr ℕ → ℕ → Vars → List Term → ℕ → Passed) → IsOneByOne F P → (a b c : Walk) (vs us ws : List (Option ℕ)) (e : Expr ℕ) (left rest all : List (Expr ℕ))
+    → left ≡ e ∷ rest → AreSlots a.maker.terms vs → Left F a b vs us left all
+    → Steps b c (P e b.maker.node (slots_of b.maker.terms us) (hyps_of b) b.maker.count) → c.maker.node ≡ b.maker.node + exprs_in e → ws ≡ us
+    → Left F a c vs ws rest all
+left_turn F P one a b c vs us ws e left rest all cut slots l step node same =
     let V = slots_of a.maker.terms vs in
-    let t' = subst (λ (xs : List (Expr ℕ)). Toward a b (assuming_clauses s words xs b.maker.node V (hyps_of b) b.maker.count) all) cut t in
-    let step' = subst (λ (xs : Vars). Steps b c (clause_assumed (clause_formula s (named_in s) words (numbered e b.maker.node) xs b.maker.count) (hyps_of b))) (slots_kept a.maker.terms b.maker.terms t.kept vs slots) step in
-    subst (λ (j : ℕ). Toward a c (assuming_clauses s words rest j V (hyps_of c) c.maker.count) all) (sym node)
-    (toward_step (assuming_clauses s words rest (b.maker.node + exprs_in e) V) a b c (clause_assumed (clause_formula s (named_in s) words (numbered e b.maker.node) V b.maker.count) (hyps_of b)) all t' step')
+    let k = b.maker.node in
+    let goal = F all a.maker.node V (hyps_of a) a.maker.count in
+    let p = P e k V (hyps_of b) b.maker.count in
+    let t = subst (λ (x : Passed). Toward a b x goal) (ap (λ (xs : List (Expr ℕ)). F xs k V (hyps_of b) b.maker.count) cut ∙ one e rest k V (hyps_of b) b.maker.count) l.toward in
+    let step' = subst (λ (xs : Vars). Steps b c (P e k xs (hyps_of b) b.maker.count)) (ap (λ (xs : List (Option ℕ)). slots_of b.maker.terms xs) l.vars ∙ slots_kept a.maker.terms b.maker.terms l.toward.kept vs slots) step in
+    let done = toward_step (λ hs n. F rest (k + exprs_in e) V hs n) a b c p goal t step' in
+    record {
+      toward = subst (λ (j : ℕ). Toward a c (F rest j V (hyps_of c) c.maker.count) goal) (sym node) done;
+      node = node_turn b.maker.node c.maker.node a.maker.node e left rest all cut node l.node;
+      vars = same ∙ l.vars;
+      slots = subst (λ (xs : List (Option ℕ)). AreSlots c.maker.terms xs) (sym same) (slots_on b.maker.terms c.maker.terms step.kept us l.slots);
+    }
+
+pub left_end : (F : Doing) → ((k : ℕ) (vars : Vars) (hyps : List Term) (n : ℕ) → F [] k vars hyps n ≡ passed n hyps []) → (a b : Walk) (vs us : List (Option ℕ)) (left all : List (Expr ℕ)) → left ≡ [] → Left F a b vs us left all
+    → Steps a b (F all a.maker.node (slots_of a.maker.terms vs) (hyps_of a) a.maker.count)
+left_end F none a b vs us left all past l =
+    let V = slots_of a.maker.terms vs in
+    let goal = F all a.maker.node V (hyps_of a) a.maker.count in
+    toward_end a b goal (subst (λ (x : Passed). Toward a b x goal) (ap (λ (xs : List (Expr ℕ)). F xs b.maker.node V (hyps_of b) b.maker.count) past ∙ none b.maker.node V (hyps_of b) b.maker.count) l.toward)
+
+pub left_node : (F : Doing) (a b : Walk) (vs us : List (Option ℕ)) (left all : List (Expr ℕ)) → left ≡ [] → Left F a b vs us left all → b.maker.node ≡ a.maker.node + exprs_in_list all
+left_node F a b vs us left all past l = let none = ap (λ (xs : List (Expr ℕ)). exprs_in_list xs) past in omega (arith, l.node, none)
+
+-- clauses as they were read
+pub next_seen : (xs : List e.Expr) (i : ℕ) (x : e.Expr) → i < length xs → x ≡ get_or xs i x → seen_exprs (drop i xs) ≡ seen_expr x ∷ seen_exprs (drop (i + 1) xs)
+next_seen xs i x lt is = ap (λ (ys : List e.Expr). seen_exprs ys) (drop_more xs i x lt ∙ ap (λ (y : e.Expr). y ∷ drop (i + 1) xs) (sym is))
+
+pub none_seen : (xs : List e.Expr) (i : ℕ) → length xs ≤ i → seen_exprs (drop i xs) ≡ []
+none_seen xs i past = ap (λ (ys : List e.Expr). seen_exprs ys) (drop_all i xs past)
+
+pub owed_one_by_one : (s : Setting Node) (kind : CondKind) (at : ℕ) (words : List (List ℕ)) → IsOneByOne (owing_clauses s kind at words) (λ e k vars hyps n. pass_goals kind at (goals s words (numbered e k) vars n) hyps)
+owed_one_by_one s kind at words e rest k vars hyps n = refl
+
+pub assumed_one_by_one : (s : Setting Node) (words : List (List ℕ)) → IsOneByOne (assuming_clauses s words) (λ e k vars hyps n. clause_assumed (clause_formula s (named_in s) words (numbered e k) vars n) hyps)
+assumed_one_by_one s words e rest k vars hyps n = refl
 
 pub below_one : (n : ℕ) (ks : List ℕ) (a : ℕ) → ks ≡ a ∷ [] → a < n → AreBelow n ks
 below_one n ks a is lt = subst (λ (xs : List ℕ). AreBelow n xs) (sym is) (All-cons (λ k. k < n) a [] lt (All-nil (λ k. k < n)))

@@ -3,6 +3,8 @@ use Rattle.std.proofs.Common.{Vec, ◌≡◌, ◌<◌, ◌≤◌, ◌+◌, ℕ, 
 use Rattle.std.specs.declared.alloc.Global.{Global}
 use Rattle.std.proofs.lemmas.List.{append-nil, append_assoc}
 use Rattle.wy_core.specs.Types.{Ty}
+use Rattle.wy_core.specs.CoreSeen.{seen_expr, seen_fields}
+use Rattle.wy_core.specs.declared.expressions.Expr as e
 use Rattle.wy_core.specs.CoreTree.{Expr, NullExpr, BoolExpr, IntExpr, VarExpr, CallExpr, NegExpr, NotExpr, LenExpr, BinaryExpr, IsExpr, IndexExpr, FieldExpr, ListExpr, RepeatExpr, RecordExpr, QuantExpr, Exprs, Fields}
 use Rattle.wy_core.specs.declared.declarations.Core.{Core}
 use Rattle.wy_core.specs.declared.expressions.Op.{Op}
@@ -23,7 +25,7 @@ use Rattle.wy_conditions.specs.Calls.{Walked}
 use Rattle.wy_conditions.specs.Values.{word_at}
 use Rattle.wy_conditions.specs.Walks.{WalkedAll, free, owing, goals_of, range_goals, index_goals, length_goals, operator_goals, right_hyps, behind_hyps, field_names}
 use Rattle.wy_vc_names.specs.declared.program.Program.{Program}
-use Rattle.wy_vc_names.specs.Described.{setting}
+use Rattle.wy_vc_names.specs.Described.{setting, is_number_in}
 use Rattle.wy_vc_operations.specs.Growing.{Kept, AreBelow, AreAt}
 use Rattle.wy_vc_terms.specs.declared.maker.Maker.{Maker}
 use Rattle.wy_vc_walk.specs.Numbered.{trees_of}
@@ -277,3 +279,32 @@ record_arm core p words at fs k vars a b c made_fields r names first second =
     let w = field_walks core p words fs k vars (hyps_of a) a.maker.count in
     let x = subst (λ (ns : List (List ℕ)). Walks b c r (free b.maker.count (hyps_of b) (op.record_of ns (trees_of b.maker.terms (map (λ (f : List ℕ × ℕ). f.1) made_fields))) [])) (sym names) second in
     walks_many_free (op.record_of (field_names (numbered_fields fs k))) a b c (map (λ (f : List ℕ × ℕ). f.1) made_fields) r w (record { steps = first.steps; are = first.are }) x
+
+-- ---- what stands beside
+
+-- both operands are numbers
+pub flags_of : (core : Core) (p : Program) (e f : Expr ℕ) (k i j : ℕ) (x y numbers : Bool) → numbers ≡ (x && y) → i ≡ k + exprs_in e → j ≡ k + exprs_in e + exprs_in f
+    → ((n : Node) → suc n.number ≡ i → x ≡ is_number_in p.is_number.items n) → ((n : Node) → suc n.number ≡ j → y ≡ is_number_in p.is_number.items n)
+    → numbers ≡ ((setting core p).is_number (node (numbered e k)) && (setting core p).is_number (node (numbered f (k + exprs_in e))))
+flags_of core p e f k i j x y numbers same at_i at_j of_x of_y =
+    let is_x = of_x (node (numbered e k)) (number_behind e k ∙ sym at_i) in
+    let is_y = of_y (node (numbered f (k + exprs_in e))) (number_behind f (k + exprs_in e) ∙ sym at_j) in
+    same ∙ ap (λ (b : Bool). b && y) is_x ∙ ap (λ (b : Bool). is_number_in p.is_number.items (node (numbered e k)) && b) is_y
+
+-- the body of a quantifier, whose variables stand for these
+pub inner_walk : (core : Core) (p : Program) (words : List (List ℕ)) (g : Expr ℕ) (a b : Walk) (q : ℕ) (vs us : List (Option ℕ)) → us ≡ vs
+    → Walks a b q (walk_of core p words g a.maker.node (slots_of a.maker.terms us) (hyps_of a) a.maker.count)
+    → Walks a b q (walk_of core p words g a.maker.node (slots_of a.maker.terms vs) (hyps_of a) a.maker.count)
+inner_walk core p words g a b q vs us same w = subst (λ (xs : List (Option ℕ)). Walks a b q (walk_of core p words g a.maker.node (slots_of a.maker.terms xs) (hyps_of a) a.maker.count)) same w
+
+-- a call of the arguments that were read
+pub calls_same : (core : Core) (p : Program) (f at : ℕ) (a b : Walk) (r : ℕ) (ks ls : List ℕ) → ls ≡ ks → Walks a b r (calls core p f at (trees_of a.maker.terms ls) (hyps_of a) a.maker.count) → Walks a b r (calls core p f at (trees_of a.maker.terms ks) (hyps_of a) a.maker.count)
+calls_same core p f at a b r ks ls same w = subst (λ (xs : List ℕ). Walks a b r (calls core p f at (trees_of a.maker.terms xs) (hyps_of a) a.maker.count)) same w
+
+-- the names of fields are those read
+names_of_numbered : (fs : List (List ℕ × e.Expr)) (k : ℕ) → field_names (numbered_fields (seen_fields fs) k) ≡ map (λ (f : List ℕ × e.Expr). f.0) fs
+names_of_numbered [] k = refl
+names_of_numbered (f ∷ fs) k = ap (λ (ns : List (List ℕ)). f.0 ∷ ns) (names_of_numbered fs (k + exprs_in (seen_expr f.1)))
+
+pub names_same : (fs : List (List ℕ × e.Expr)) (k : ℕ) (made_fields : List (List ℕ × ℕ)) → map (λ (f : List ℕ × ℕ). f.0) made_fields ≡ map (λ (f : List ℕ × e.Expr). f.0) fs → field_names (numbered_fields (seen_fields fs) k) ≡ map (λ (f : List ℕ × ℕ). f.0) made_fields
+names_same fs k made_fields same = names_of_numbered fs k ∙ sym same

@@ -2,3 +2,5 @@
 pub mod ArmLemmas
 -- expressions in order
 pub mod ListLemmas
+-- forms by kind
+pub mod FormLemmas

@@ -1,13 +1,15 @@
 -- The walks of expressions in order.
-use Rattle.std.proofs.Common.{Vec, Option, ◌≡◌, ◌<◌, ◌≤◌, ◌+◌, ℕ, suc, List, [], ◌∷◌, ◌++◌, length, map, drop, refl, ◌∙◌, sym, ap, subst, arith}
-use Rattle.std.proofs.lemmas.List.{append-nil, append_assoc, map-append}
-use Rattle.std.proofs.lemmas.List.Elements.{All-push}
+use Rattle.std.proofs.Common.{Vec, Option, ◌≡◌, ◌<◌, ◌≤◌, ◌+◌, ℕ, suc, List, [], ◌∷◌, ◌++◌, length, map, drop, get_or, refl, ◌∙◌, sym, ap, subst, arith}
+use Rattle.std.proofs.lemmas.List.{append-nil, append_assoc, map-append, drop_more, drop_all}
+use Rattle.std.proofs.lemmas.List.Elements.{All-nil, All-push}
 use Rattle.wy_core.specs.CoreTree.{Expr, Exprs, NoExprs, MoreExprs, Fields, NoFields, MoreFields, exprs_of, fields_of}
+use Rattle.wy_core.specs.CoreSeen.{seen_expr, seen_exprs}
 use Rattle.wy_core.specs.declared.declarations.Core.{Core}
+use Rattle.wy_core.specs.declared.expressions.Expr as e
 use Rattle.wy_term.specs.Term.{Term}
 use Rattle.wy_term.specs.Nodes.{Plain, tree_at}
 use Rattle.wy_term.specs.Numbers.{IsAt}
-use Rattle.wy_conditions.specs.Sizes.{exprs_in}
+use Rattle.wy_conditions.specs.Sizes.{exprs_in, exprs_in_all, exprs_in_fields}
 use Rattle.wy_conditions.specs.Variables.{Vars}
 use Rattle.wy_conditions.specs.Clauses.{Passed, passed, after}
 use Rattle.wy_conditions.specs.Calls.{Walked}
@@ -19,7 +21,7 @@ use Rattle.wy_vc_walk.specs.Slots.{slots_of, AreSlots}
 use Rattle.wy_vc_walk.specs.State.{IsSound, Steps, Walks, WalksAll, hyps_of, owed_of, passed_by, passed_by_all}
 use Rattle.wy_vc_walk.specs.declared.walk.Walk.{Walk}
 use Rattle.wy_vc_walk.proofs.NumberedLemmas.{trees_kept, below_on}
-use Rattle.wy_vc_walk.proofs.SlotLemmas.{slots_kept}
+use Rattle.wy_vc_walk.proofs.SlotLemmas.{slots_kept, slots_on}
 use Rattle.wy_vc_walk.proofs.StateLemmas.{Toward, toward_begin, toward_step, toward_end}
 use Rattle.wy_vc_expressions.specs.Walking.{walk_of, walk_all_of, field_walks}
 
@@ -29,8 +31,12 @@ pub record TowardAll (a b : Walk) (ks : List ℕ) (rest all : WalkedAll) : Type 
   pub within : AreBelow (length b.maker.terms) ks
   pub terms : trees_of b.maker.terms ks ++ rest.terms ≡ all.terms
 
-pub all_begin : (a : Walk) (all : WalkedAll) → IsSound a → TowardAll a a [] all all
-all_begin a all sound = record { toward = toward_begin a (passed_by_all all) sound; within = λ k d lt. absurd (omega arith); terms = refl }
+pub all_begin : (a : Walk) (ks : List ℕ) (all : WalkedAll) → ks ≡ [] → IsSound a → TowardAll a a ks all all
+all_begin a ks all none sound = record {
+  toward = toward_begin a (passed_by_all all) sound;
+  within = subst (λ (xs : List ℕ). AreBelow (length a.maker.terms) xs) (sym none) (All-nil (λ k. k < length a.maker.terms));
+  terms = ap (λ (xs : List ℕ). trees_of a.maker.terms xs ++ all.terms) none;
+}
 
 -- one walk more
 pub all_step : (F : List Term → ℕ → WalkedAll) (a b c : Walk) (ks : List ℕ) (r : ℕ) (w : Walked) (left all : WalkedAll)
@@ -84,3 +90,95 @@ fields_turn core p words vs a b c ks r name e fs rest all cut slots node t s =
     subst (λ (j : ℕ). TowardAll a c (ks ++ r ∷ []) (field_walks core p words (fields_of rest) j V (hyps_of c) c.maker.count) all) (sym node)
     (all_step (λ hs n. field_walks core p words (fields_of rest) (b.maker.node + exprs_in e) V hs n) a b c ks r (walk_of core p words e b.maker.node V (hyps_of b) b.maker.count)
     (field_walks core p words (fields_of ((name, e) ∷ rest)) b.maker.node V (hyps_of b) b.maker.count) all refl refl t' s')
+
+-- ---- exprs, with the number of the next expression
+
+pub record ExprsLeft (core : Core) (p : Program) (words : List (List ℕ)) (a b : Walk) (vs : List (Option ℕ)) (ks : List ℕ) (left all : List (Expr ℕ)) : Type 0 where
+  pub toward : TowardAll a b ks (walk_all_of core p words (exprs_of left) b.maker.node (slots_of a.maker.terms vs) (hyps_of b) b.maker.count) (walk_all_of core p words (exprs_of all) a.maker.node (slots_of a.maker.terms vs) (hyps_of a) a.maker.count)
+  pub node : b.maker.node + exprs_in_all (exprs_of left) ≡ a.maker.node + exprs_in_all (exprs_of all)
+  pub slots : AreSlots b.maker.terms vs
+
+pub exprs_begin : (core : Core) (p : Program) (words : List (List ℕ)) (a : Walk) (vs : List (Option ℕ)) (ks : List ℕ) (all : List (Expr ℕ)) → ks ≡ [] → IsSound a → AreSlots a.maker.terms vs → ExprsLeft core p words a a vs ks all all
+exprs_begin core p words a vs ks all none sound slots = record {
+  toward = all_begin a ks (walk_all_of core p words (exprs_of all) a.maker.node (slots_of a.maker.terms vs) (hyps_of a) a.maker.count) none sound;
+  node = refl;
+  slots = slots;
+}
+
+pub exprs_more : (core : Core) (p : Program) (words : List (List ℕ)) (a b c : Walk) (vs : List (Option ℕ)) (ks ls : List ℕ) (r : ℕ) (e : Expr ℕ) (left rest all : List (Expr ℕ)) → left ≡ e ∷ rest → AreSlots a.maker.terms vs → ls ≡ ks ++ r ∷ []
+    → ExprsLeft core p words a b vs ks left all → Walks b c r (walk_of core p words e b.maker.node (slots_of b.maker.terms vs) (hyps_of b) b.maker.count) → c.maker.node ≡ b.maker.node + exprs_in e
+    → ExprsLeft core p words a c vs ls rest all
+exprs_more core p words a b c vs ks ls r e left rest all cut slots pushed l s node =
+    let goal = walk_all_of core p words (exprs_of all) a.maker.node (slots_of a.maker.terms vs) (hyps_of a) a.maker.count in
+    let count : exprs_in_all (exprs_of left) ≡ exprs_in e + exprs_in_all (exprs_of rest) = ap (λ (xs : List (Expr ℕ)). exprs_in_all (exprs_of xs)) cut in
+    let l_node = l.node in
+    record {
+      toward = subst (λ (xs : List ℕ). TowardAll a c xs (walk_all_of core p words (exprs_of rest) c.maker.node (slots_of a.maker.terms vs) (hyps_of c) c.maker.count) goal) (sym pushed)
+          (exprs_turn core p words vs a b c ks r e left rest goal cut slots node l.toward s);
+      node = omega (arith, node, count, l_node);
+      slots = slots_on b.maker.terms c.maker.terms s.steps.kept vs l.slots;
+    }
+
+pub exprs_end : (core : Core) (p : Program) (words : List (List ℕ)) (a b : Walk) (vs : List (Option ℕ)) (ks : List ℕ) (left all : List (Expr ℕ)) → left ≡ [] → ExprsLeft core p words a b vs ks left all
+    → WalksAll a b ks (walk_all_of core p words (exprs_of all) a.maker.node (slots_of a.maker.terms vs) (hyps_of a) a.maker.count)
+exprs_end core p words a b vs ks left all past l =
+    let goal = walk_all_of core p words (exprs_of all) a.maker.node (slots_of a.maker.terms vs) (hyps_of a) a.maker.count in
+    all_end a b ks goal (subst (λ (xs : List (Expr ℕ)). TowardAll a b ks (walk_all_of core p words (exprs_of xs) b.maker.node (slots_of a.maker.terms vs) (hyps_of b) b.maker.count) goal) past l.toward)
+
+pub exprs_node : (core : Core) (p : Program) (words : List (List ℕ)) (a b : Walk) (vs : List (Option ℕ)) (ks : List ℕ) (left all : List (Expr ℕ)) → left ≡ [] → ExprsLeft core p words a b vs ks left all → b.maker.node ≡ a.maker.node + exprs_in_all (exprs_of all)
+exprs_node core p words a b vs ks left all past l = let none : exprs_in_all (exprs_of left) ≡ 0 = ap (λ (xs : List (Expr ℕ)). exprs_in_all (exprs_of xs)) past in let l_node = l.node in omega (arith, l_node, none)
+
+-- ---- fields, with the number of the next expression
+
+pub record FieldsLeft (core : Core) (p : Program) (words : List (List ℕ)) (a b : Walk) (vs : List (Option ℕ)) (ks : List ℕ) (left all : List (List ℕ × Expr ℕ)) : Type 0 where
+  pub toward : TowardAll a b ks (field_walks core p words (fields_of left) b.maker.node (slots_of a.maker.terms vs) (hyps_of b) b.maker.count) (field_walks core p words (fields_of all) a.maker.node (slots_of a.maker.terms vs) (hyps_of a) a.maker.count)
+  pub node : b.maker.node + exprs_in_fields (fields_of left) ≡ a.maker.node + exprs_in_fields (fields_of all)
+  pub slots : AreSlots b.maker.terms vs
+
+pub fields_begin : (core : Core) (p : Program) (words : List (List ℕ)) (a : Walk) (vs : List (Option ℕ)) (ks : List ℕ) (all : List (List ℕ × Expr ℕ)) → ks ≡ [] → IsSound a → AreSlots a.maker.terms vs → FieldsLeft core p words a a vs ks all all
+fields_begin core p words a vs ks all none sound slots = record {
+  toward = all_begin a ks (field_walks core p words (fields_of all) a.maker.node (slots_of a.maker.terms vs) (hyps_of a) a.maker.count) none sound;
+  node = refl;
+  slots = slots;
+}
+
+pub fields_more : (core : Core) (p : Program) (words : List (List ℕ)) (a b c : Walk) (vs : List (Option ℕ)) (ks ls : List ℕ) (r : ℕ) (name : List ℕ) (e : Expr ℕ) (left rest all : List (List ℕ × Expr ℕ)) → left ≡ (name, e) ∷ rest → AreSlots a.maker.terms vs → ls ≡ ks ++ r ∷ []
+    → FieldsLeft core p words a b vs ks left all → Walks b c r (walk_of core p words e b.maker.node (slots_of b.maker.terms vs) (hyps_of b) b.maker.count) → c.maker.node ≡ b.maker.node + exprs_in e
+    → FieldsLeft core p words a c vs ls rest all
+fields_more core p words a b c vs ks ls r name e left rest all cut slots pushed l s node =
+    let goal = field_walks core p words (fields_of all) a.maker.node (slots_of a.maker.terms vs) (hyps_of a) a.maker.count in
+    let count : exprs_in_fields (fields_of left) ≡ exprs_in e + exprs_in_fields (fields_of rest) = ap (λ (xs : List (List ℕ × Expr ℕ)). exprs_in_fields (fields_of xs)) cut in
+    let l_node = l.node in
+    record {
+      toward = subst (λ (xs : List ℕ). TowardAll a c xs (field_walks core p words (fields_of rest) c.maker.node (slots_of a.maker.terms vs) (hyps_of c) c.maker.count) goal) (sym pushed)
+          (fields_turn core p words vs a b c ks r name e left rest goal cut slots node l.toward s);
+      node = omega (arith, node, count, l_node);
+      slots = slots_on b.maker.terms c.maker.terms s.steps.kept vs l.slots;
+    }
+
+pub fields_end : (core : Core) (p : Program) (words : List (List ℕ)) (a b : Walk) (vs : List (Option ℕ)) (ks : List ℕ) (left all : List (List ℕ × Expr ℕ)) → left ≡ [] → FieldsLeft core p words a b vs ks left all
+    → WalksAll a b ks (field_walks core p words (fields_of all) a.maker.node (slots_of a.maker.terms vs) (hyps_of a) a.maker.count)
+fields_end core p words a b vs ks left all past l =
+    let goal = field_walks core p words (fields_of all) a.maker.node (slots_of a.maker.terms vs) (hyps_of a) a.maker.count in
+    all_end a b ks goal (subst (λ (xs : List (List ℕ × Expr ℕ)). TowardAll a b ks (field_walks core p words (fields_of xs) b.maker.node (slots_of a.maker.terms vs) (hyps_of b) b.maker.count) goal) past l.toward)
+
+pub fields_node : (core : Core) (p : Program) (words : List (List ℕ)) (a b : Walk) (vs : List (Option ℕ)) (ks : List ℕ) (left all : List (List ℕ × Expr ℕ)) → left ≡ [] → FieldsLeft core p words a b vs ks left all → b.maker.node ≡ a.maker.node + exprs_in_fields (fields_of all)
+fields_node core p words a b vs ks left all past l = let none : exprs_in_fields (fields_of left) ≡ 0 = ap (λ (xs : List (List ℕ × Expr ℕ)). exprs_in_fields (fields_of xs)) past in let l_node = l.node in omega (arith, l_node, none)
+
+-- ---- as they were read
+
+pub next_expr : (xs : List e.Expr) (i : ℕ) (x : e.Expr) → i < length xs → x ≡ get_or xs i x → seen_exprs (drop i xs) ≡ seen_expr x ∷ seen_exprs (drop (i + 1) xs)
+next_expr xs i x lt is = ap (λ (ys : List e.Expr). seen_exprs ys) (drop_more xs i x lt ∙ ap (λ (y : e.Expr). y ∷ drop (i + 1) xs) (sym is))
+
+pub no_expr : (xs : List e.Expr) (i : ℕ) → length xs ≤ i → seen_exprs (drop i xs) ≡ []
+no_expr xs i past = ap (λ (ys : List e.Expr). seen_exprs ys) (drop_all i xs past)
+
+-- a field by its name and its expression
+abbrev pub seen_pairs : List (List ℕ × e.Expr) → List (List ℕ × Expr ℕ)
+seen_pairs fs = map (λ (f : List ℕ × e.Expr). (f.0, seen_expr f.1)) fs
+
+pub next_field : (xs : List (List ℕ × e.Expr)) (i : ℕ) (x : List ℕ × e.Expr) → i < length xs → x ≡ get_or xs i x → seen_pairs (drop i xs) ≡ (x.0, seen_expr x.1) ∷ seen_pairs (drop (i + 1) xs)
+next_field xs i x lt is = ap (λ (ys : List (List ℕ × e.Expr)). seen_pairs ys) (drop_more xs i x lt ∙ ap (λ (y : List ℕ × e.Expr). y ∷ drop (i + 1) xs) (sym is))
+
+pub no_field : (xs : List (List ℕ × e.Expr)) (i : ℕ) → length xs ≤ i → seen_pairs (drop i xs) ≡ []
+no_field xs i past = ap (λ (ys : List (List ℕ × e.Expr)). seen_pairs ys) (drop_all i xs past)

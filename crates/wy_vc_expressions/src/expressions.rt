@@ -1,27 +1,57 @@
 //! What an expression owes.
-ghost use Rattle.std.specs.Prelude.{◌≡◌, ◌+◌, map, IfOk, OnOk};
+ghost use Rattle.std.specs.Prelude.{◌≡◌, ◌+◌, ◌&&◌, length as count_of, map, IfOk, OnOk};
 ghost use Rattle.wy_core.specs.CoreSeen.{seen_expr, seen_exprs, seen_fields};
 ghost use Rattle.wy_core.specs.CoreTree.{exprs_of};
 ghost use Rattle.wy_conditions.specs.Sizes as sizes;
-ghost use Rattle.wy_vc_expressions.specs.Walking.{WalksFields, field_walks, walk_all_of, walk_of};
+ghost use Rattle.wy_vc_expressions.specs.Walking.{WalksFields, calls, field_walks, walk_all_of, walk_of};
 ghost use Rattle.wy_vc_names.specs.Described.{IsDescribed};
+ghost use Rattle.wy_vc_operations.specs.Growing.{AreBelow};
+ghost use Rattle.wy_vc_walk.specs.Numbered.{trees_of};
 ghost use Rattle.wy_vc_walk.specs.Slots.{AreSlots, slots_of};
 ghost use Rattle.wy_vc_walk.specs.State.{IsSound, Walks, WalksAll, hyps_of};
 
-use crate::calls::walk_call;
-use crate::steps::{
-    assume_left, begin_range, forget_right, walk_binary, walk_field, walk_index, walk_is, walk_len,
-    walk_list, walk_neg, walk_not, walk_null, walk_quantified, walk_record, walk_repeat,
-    walk_truth, walk_variable, walk_whole,
-};
 use std::alloc::Global;
 use wy_core::{Core, Expr, ExprKind};
 use wy_data::Name;
 use wy_term::NoMemory;
+use wy_vc_clauses::call;
 use wy_vc_names::Program;
 use wy_vc_operations::put;
+use wy_vc_steps::{
+    assume_left, begin_range, forget_right, walk_binary, walk_field, walk_index, walk_is, walk_len,
+    walk_list, walk_neg, walk_not, walk_null, walk_quantified, walk_record, walk_repeat,
+    walk_truth, walk_variable, walk_whole,
+};
 use wy_vc_terms::is_number;
 use wy_vc_walk::Walk;
+
+// Both are so.
+fn both(first: bool, second: bool) -> bool
+    ensures value { result ≡ first && second }
+{
+    first && second
+}
+
+// A call's result.
+fn walk_call(
+    alloc: Global,
+    core: &Core,
+    program: &Program,
+    walk: &mut Walk,
+    at: u32,
+    routine: u32,
+    args: &[u32],
+) -> Result<u32, NoMemory>
+    requires described { IsDescribed core.now program.now }
+    requires sound { IsSound walk.old }
+    requires args { AreBelow (count_of walk.old.maker.terms) args.now }
+    ensures value { IfOk result (λ r. Walks walk.old walk.new r (calls core.now program.now routine at (trees_of walk.old.maker.terms args.now) (hyps_of walk.old) walk.old.maker.count)) }
+    ensures node { OnOk result (walk.new.maker.node ≡ walk.old.maker.node + 1) }
+{
+    let made = call(alloc, core, program, walk, at, routine, args)?;
+    walk.maker.pass(1)?;
+    Ok(made)
+}
 
 /// The term of what an expression evaluates to, where variables stand for these terms; the walk owes what the expression does.
 #[cycle(walked)]
@@ -65,12 +95,13 @@ pub fn walked(
         ExprKind::Binary(op, a, b) => {
             let v = walked(alloc, core, program, words, walk, vars, a.get())?;
             let first = is_number(program, &walk.maker);
-            let count = walk.hyps.len();
+            let count = walk.mark();
             assume_left(walk, *op, v)?;
             let w = walked(alloc, core, program, words, walk, vars, b.get())?;
             let second = is_number(program, &walk.maker);
             forget_right(walk, *op, count);
-            walk_binary(alloc, walk, at, *op, first && second, v, w)
+            let numbers = both(first, second);
+            walk_binary(alloc, walk, at, *op, numbers, v, w)
         }
         ExprKind::Is(a, ty) => {
             let v = walked(alloc, core, program, words, walk, vars, a.get())?;
@@ -101,7 +132,7 @@ pub fn walked(
         ExprKind::Quant(all, x, a, b, body) => {
             let v = walked(alloc, core, program, words, walk, vars, a.get())?;
             let w = walked(alloc, core, program, words, walk, vars, b.get())?;
-            let count = walk.hyps.len();
+            let count = walk.mark();
             let number = walk.maker.count;
             let bound = begin_range(alloc, walk, words, *x, v, w)?;
             let mut inner = Vec::from_slice(alloc, vars)?;
@@ -140,7 +171,8 @@ pub fn walked_all(
 {
     let mut made = Vec::new(alloc);
     for expr in exprs {
-        made.push(walked(alloc, core, program, words, walk, vars, expr)?)?;
+        let v = walked(alloc, core, program, words, walk, vars, expr)?;
+        made.push(v)?;
     }
     Ok(made)
 }

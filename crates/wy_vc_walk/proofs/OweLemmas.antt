@@ -1,6 +1,6 @@
 -- Goals that are owed one after the other.
 use Rattle.std.proofs.Common.{◌≡◌, ◌<◌, ◌≤◌, ◌+◌, ℕ, List, [], ◌∷◌, ◌++◌, All, map, length, take, drop, get_or, refl, ◌∙◌, sym, ap, subst, arith}
-use Rattle.std.proofs.lemmas.List.{drop_more, drop_all, map-append, take_all}
+use Rattle.std.proofs.lemmas.List.{drop_more, drop_all, get_or_default, map-append, take_all}
 use Rattle.std.proofs.lemmas.List.Elements.{All-push}
 use Rattle.wy_term.specs.Term.{Term}
 use Rattle.wy_term.specs.Nodes.{Plain, tree_at}
@@ -18,6 +18,10 @@ use Rattle.wy_vc_walk.proofs.StateLemmas.{Toward, toward_begin, toward_step, tow
 -- goals owed under these hypotheses, where so many names are made
 abbrev pub owing_all : CondKind → ℕ → List Term → List Term → ℕ → Passed
 owing_all kind at goals hyps n = passed n (assume_all hyps goals) (owe kind at hyps goals)
+
+-- a number of a list is read with itself in place of nothing
+pub number_item : (xs : List ℕ) (i : ℕ) → i < length xs → get_or xs i 0 ≡ get_or xs i (get_or xs i 0)
+number_item xs i within = get_or_default xs i 0 (get_or xs i 0) within
 
 -- one goal more is owed
 pub owe_turn : (kind : CondKind) (at : ℕ) (a b c : Walk) (gs : List ℕ) (i k : ℕ) (all : Passed) → i < length gs → k ≡ get_or gs i k → b.maker ≡ a.maker → Toward a b (owing_all kind at (trees_of a.maker.terms (drop i gs)) (hyps_of b) b.maker.count) all → Steps b c (passed b.maker.count (assume (hyps_of b) (tree_at b.maker.terms k)) (owe kind at (hyps_of b) (tree_at b.maker.terms k ∷ []))) → Toward a c (owing_all kind at (trees_of a.maker.terms (drop (i + 1) gs)) (hyps_of c) c.maker.count) all

@@ -50,6 +50,13 @@ impl Walk {
         add_members(&self.maker.terms, formula, &mut self.hyps)
     }
 
+    /// How many hypotheses there are, to go back to.
+    pub fn mark(&self) -> usize
+        ensures value { result ≡ length self.now.hyps.items }
+    {
+        self.hyps.len()
+    }
+
     /// Assumes no more than the first so many hypotheses.
     pub fn back_to(&mut self, count: usize)
         ensures hyps { self.new.hyps.items ≡ take count self.old.hyps.items }

@@ -4,7 +4,7 @@ use Rattle.wy_vc_steps.proofs.MakingLemmas.{makes_one, makes_two, below_one, bel
 use Rattle.wy_vc_steps.proofs.goals.length_goals.Goals as goal
 
 pub returns-clause-within : goal.returns-clause-within
-returns-clause-within c = below_two _ _ _ _ c.in_ok-from_slice.ensures (omega (arith, c.in_ok-above.ensures.within)) (omega (arith, c.in_ok-below.ensures.within))
+returns-clause-within c = below_two _ _ _ _ c.in_ok-from_slice.ensures.items (omega (arith, c.in_ok-above.ensures.within)) (omega (arith, c.in_ok-below.ensures.within))
 
 pub returns-clause-made : goal.returns-clause-made
 returns-clause-made c = λ t ht.
@@ -13,4 +13,4 @@ returns-clause-made c = λ t ht.
     let a = c.in_ok-above.ensures.made _ _ z.here (here_kept z.kept n.here) in
     let g = c.in_ok-longest.ensures.made in
     let b = c.in_ok-below.ensures.made _ _ (here_kept (kept_then z.kept (kept_then a.kept g.kept)) n.here) g.here in
-    makes_two _ c.in_ok-from_slice.ensures (kept_then n.kept (kept_then z.kept (kept_then a.kept (kept_then g.kept b.kept)))) (here_kept (kept_then g.kept b.kept) a.here) b.here
+    makes_two _ c.in_ok-from_slice.ensures.items (kept_then n.kept (kept_then z.kept (kept_then a.kept (kept_then g.kept b.kept)))) (here_kept (kept_then g.kept b.kept) a.here) b.here
