@@ -94,11 +94,11 @@ pub fn walked(
         }
         ExprKind::Binary(op, a, b) => {
             let v = walked(alloc, core, program, words, walk, vars, a.get())?;
-            let first = is_number(program, &walk.maker);
+            let first = is_number(program, walk.maker.node);
             let count = walk.mark();
             assume_left(walk, *op, v)?;
             let w = walked(alloc, core, program, words, walk, vars, b.get())?;
-            let second = is_number(program, &walk.maker);
+            let second = is_number(program, walk.maker.node);
             forget_right(walk, *op, count);
             let numbers = both(first, second);
             walk_binary(alloc, walk, at, *op, numbers, v, w)

@@ -8,6 +8,7 @@ use Rattle.wy_term.specs.declared.node.Node.TheVariants as node
 use Rattle.wy_term.specs.Term.{Term}
 use Rattle.wy_term.specs.Nodes.{Plain, HasPartsBelow, plain, grown, tree_at, parts_at}
 use Rattle.wy_conditions.specs.Owed.{members, members_of}
+use Rattle.wy_vc_operations.specs.Growing.{AreBelow}
 use Rattle.wy_vc_walk.specs.Numbered.{Grown}
 use Rattle.wy_vc_walk.proofs.NumberedLemmas.{grown_one, grown_on}
 
@@ -59,10 +60,11 @@ pub members_and : (nodes : List Plain) (f : ℕ) (n : Node) (fs : Vec ℕ Global
 members_and nodes f n fs same is = ap (λ (t : Term). members t) is ∙ ap (λ (x : Node). members (grown (tree_at nodes) (plain x))) same
 
 -- a part of an `and` has a smaller number
-pub part_below : (n : Node) (fs : Vec ℕ Global) (bound i k : ℕ) → n ≡ node.And fs → HasPartsBelow bound (plain n) → i < length fs.items → k ≡ get_or fs.items i k → k < bound
-part_below n fs bound i k same below lt is =
+pub part_below : (n : Node) (fs : Vec ℕ Global) (xs : List ℕ) (bound i k : ℕ) → n ≡ node.And fs → xs ≡ fs.items → HasPartsBelow bound (plain n) → i < length xs → k ≡ get_or xs i k → k < bound
+part_below n fs xs bound i k same read below lt is =
     let all = subst (λ (x : Node). HasPartsBelow bound (plain x)) same below in
-    let here : get_or fs.items i k < bound = All-get_or (λ j. j < bound) fs.items i k lt all in
+    let of_xs = subst (λ (ys : List ℕ). AreBelow bound ys) (sym read) all in
+    let here : get_or xs i k < bound = All-get_or (λ j. j < bound) xs i k lt of_xs in
     omega (arith, here, is)
 
 -- the members of one part more stand behind the others
@@ -73,9 +75,10 @@ grown_turn nodes a b c ks i k lt is first second =
     (grown_on nodes a b c (members_of (parts_at (tree_at nodes) (take i ks))) (members (tree_at nodes k)) first second)
 
 -- the members of all parts
-pub grown_all : (nodes : List Plain) (f : ℕ) (n : Node) (fs : Vec ℕ Global) (a b : List ℕ) (i : ℕ) → n ≡ node.And fs → tree_at nodes f ≡ grown (tree_at nodes) (plain n) → length fs.items ≤ i → Grown nodes a b (members_of (parts_at (tree_at nodes) (take i fs.items))) → Grown nodes a b (members (tree_at nodes f))
-grown_all nodes f n fs a b i same is past g =
-    subst (λ (ts : List Term). Grown nodes a b ts) (sym (members_and nodes f n fs same is)) (subst (λ (xs : List ℕ). Grown nodes a b (members_of (parts_at (tree_at nodes) xs))) (take_all i fs.items past) g)
+pub grown_all : (nodes : List Plain) (f : ℕ) (n : Node) (fs : Vec ℕ Global) (xs a b : List ℕ) (i : ℕ) → n ≡ node.And fs → xs ≡ fs.items → tree_at nodes f ≡ grown (tree_at nodes) (plain n) → length xs ≤ i → Grown nodes a b (members_of (parts_at (tree_at nodes) (take i xs))) → Grown nodes a b (members (tree_at nodes f))
+grown_all nodes f n fs xs a b i same read is past g =
+    let all = subst (λ (ys : List ℕ). Grown nodes a b (members_of (parts_at (tree_at nodes) ys))) (take_all i xs past ∙ read) g in
+    subst (λ (ts : List Term). Grown nodes a b ts) (sym (members_and nodes f n fs same is)) all
 
 -- a formula that is no `and` is added
 pub grown_alone : (nodes : List Plain) (f : ℕ) (n : Node) (a b : List ℕ) → ((fs : Vec ℕ Global) → n ≡ node.And fs → ⊥) → tree_at nodes f ≡ grown (tree_at nodes) (plain n) → f < length nodes → b ≡ a ++ f ∷ [] → Grown nodes a b (members (tree_at nodes f))

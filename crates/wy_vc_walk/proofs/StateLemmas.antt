@@ -62,6 +62,10 @@ steps_made a b sound kept hyps owed = record {
   longer = ap (λ (xs : List ℕ). take (length a.hyps.items) xs) hyps ∙ take_all (length a.hyps.items) a.hyps.items (omega arith);
 }
 
+-- the walk is sound while terms are made
+pub sound_made : (a b : Walk) → IsSound a → Kept a.maker.terms b.maker.terms → b.hyps.items ≡ a.hyps.items → b.owed.items ≡ a.owed.items → IsSound b
+sound_made a b sound kept hyps owed = (steps_made a b sound kept hyps owed).sound
+
 -- nothing is done
 pub steps_none : (a : Walk) → IsSound a → Steps a a (passed a.maker.count (hyps_of a) [])
 steps_none a sound = steps_made a a sound (kept_all a.maker.terms) refl refl

@@ -2,8 +2,13 @@ use Rattle.std.proofs.Common.{◌≡◌, ◌∙◌, ℕ, List, [], ◌∷◌, ap
 use Rattle.wy_vc_walk.proofs.ResultLemmas.{on_ok, if_ok}
 use Rattle.wy_vc_walk.proofs.NumberedLemmas.{at_itself}
 use Rattle.wy_vc_walk.proofs.SlotLemmas.{slots_itself}
+use Rattle.wy_vc_operations.specs.Growing.{AreBelow}
+use Rattle.wy_vc_walk.proofs.StateLemmas.{sound_made}
 use Rattle.wy_vc_clauses.proofs.ClauseLemmas.{formula_assumed}
 use Rattle.wy_vc_clauses.proofs.clauses.assume_clause.Goals as goal
+
+pub assume-requires-clause-sound : goal.assume-requires-clause-sound
+assume-requires-clause-sound c = sound_made _ _ c.requires.sound (c.in_ok-formula.ensures.made c.requires.described _ (slots_itself c.requires.slots)).term.kept refl refl
 
 pub returns-clause-value : goal.returns-clause-value
 returns-clause-value c =

@@ -3,7 +3,12 @@ use Rattle.wy_vc_steps.proofs.StepLemmas.{made_assumed}
 use Rattle.wy_vc_walk.proofs.NumberedLemmas.{at_itself, are_itself, here_kept, kept_then}
 use Rattle.wy_vc_walk.proofs.SlotLemmas.{slots_itself}
 use Rattle.wy_vc_walk.proofs.ResultLemmas.{on_ok, if_ok}
+use Rattle.wy_vc_walk.proofs.StateLemmas.{sound_made}
 use Rattle.wy_vc_steps.proofs.steps.assume_true.Goals as goal
+
+pub assume-requires-clause-sound : goal.assume-requires-clause-sound
+assume-requires-clause-sound c =
+    sound_made _ _ c.requires.sound (c.in_ok-formula.ensures.made _ (at_itself c.requires.v)).kept refl refl
 
 pub returns-clause-value : goal.returns-clause-value
 returns-clause-value c =

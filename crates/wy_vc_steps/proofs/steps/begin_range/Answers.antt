@@ -2,7 +2,13 @@ use Rattle.std.proofs.Common.{◌≡◌, ◌∙◌, ℕ, List, [], ◌∷◌, ap
 use Rattle.wy_vc_steps.proofs.StepLemmas.{begin_steps, begin_bound, name_word, name_count}
 use Rattle.wy_vc_walk.proofs.NumberedLemmas.{at_itself, are_itself, here_kept, kept_then}
 use Rattle.wy_vc_walk.proofs.SlotLemmas.{slots_itself}
+use Rattle.wy_vc_walk.proofs.StateLemmas.{sound_made}
 use Rattle.wy_vc_steps.proofs.steps.begin_range.Goals as goal
+
+pub assume_from-requires-clause-sound : goal.assume_from-requires-clause-sound
+assume_from-requires-clause-sound c =
+    let n = name_word _ _ _ _ _ _ _ c.in_ok-word.ensures.value c.in_ok-number.ensures.value c.in_ok-number.ensures.new c.in_ok-name.ensures.made in
+    sound_made _ _ c.requires.sound n.kept refl refl
 
 pub returns-clause-value : goal.returns-clause-value
 returns-clause-value c =

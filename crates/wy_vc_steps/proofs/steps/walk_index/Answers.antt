@@ -5,7 +5,11 @@ use Rattle.wy_vc_walk.proofs.SlotLemmas.{slots_itself}
 use Rattle.wy_term.specs.Term.{Term}
 use Rattle.wy_term.specs.declared.cond.CondKind.TheVariants as kinds
 use Rattle.wy_conditions.specs.Walks.{Goals, goals_of, range_goals, divisor_goals, index_goals, length_goals, operator_goals}
+use Rattle.wy_vc_walk.proofs.StateLemmas.{sound_made}
 use Rattle.wy_vc_steps.proofs.steps.walk_index.Goals as goal
+
+pub owe_index-requires-clause-sound : goal.owe_index-requires-clause-sound
+owe_index-requires-clause-sound c = sound_made _ _ c.requires.sound (c.in_ok-made.ensures.made _ _ (at_itself c.requires.v) (at_itself c.requires.w)).kept refl refl
 
 pub returns-clause-value : goal.returns-clause-value
 returns-clause-value c =

@@ -7,5 +7,5 @@ use Rattle.wy_vc_walk.proofs.walk.+add_members.Given as goal
 abbrev pub decreases-add_members : goal.decreases-add_members
 decreases-add_members l = l.formula
 
-abbrev pub invariant-add_members-loop-member : goal.invariant-add_members-loop-member
-invariant-add_members-loop-member l = Grown l.terms l.fn.hyps.items l.hyps.items (members_of (parts_at (tree_at l.terms) (take l.member-index l.member-items)))
+abbrev pub invariant-loop-member : goal.invariant-loop-member
+invariant-loop-member l = Grown l.terms l.fn.hyps.items l.hyps.items (members_of (parts_at (tree_at l.terms) (take l.member-index l.member-items)))
