@@ -1,26 +1,23 @@
 -- What a call owes, and what is known of its result.
-use Rattle.std.proofs.Common.{Vec, Option, Some, None, ◌≡◌, ◌<◌, ◌≤◌, ◌+◌, ◌⊎◌, inl, inr, ℕ, suc, List, [], ◌∷◌, ◌++◌, length, map, drop, get_or, refl, ◌∙◌, sym, ap, subst, arith}
-use Rattle.std.proofs.lemmas.List.{append-nil, append_assoc, drop_more, drop_all}
+use Rattle.std.proofs.Common.{Option, ◌≡◌, ◌<◌, ◌+◌, ◌⊎◌, inl, inr, ℕ, List, [], ◌∷◌, length, map, drop, get_or, refl, ◌∙◌, sym, ap, subst, arith}
+use Rattle.std.proofs.lemmas.List.{drop_more, drop_all}
 use Rattle.std.proofs.lemmas.List.Elements.{All-get_or}
-use Rattle.wy_core.specs.CoreTree as tree
 use Rattle.wy_core.specs.CoreSeen.{seen_param, seen_ty}
 use Rattle.wy_core.specs.declared.declarations.Param.{Param}
 use Rattle.wy_term.specs.Term.{Term}
 use Rattle.wy_term.specs.Nodes.{Plain, tree_at}
-use Rattle.wy_term.specs.Numbers.{IsAt}
 use Rattle.wy_conditions.specs.Numbered.{Node}
-use Rattle.wy_conditions.specs.Owed.{Owed}
 use Rattle.wy_conditions.specs.Values.{Setting}
 use Rattle.wy_conditions.specs.Variables.{Vars, put}
-use Rattle.wy_conditions.specs.Clauses.{Passed, passed, after, owe_member}
-use Rattle.wy_conditions.specs.Calls.{Walked, owe_arguments, arguments}
-use Rattle.wy_vc_operations.specs.Growing.{Kept, Makes, AreAt, AreBelow}
+use Rattle.wy_conditions.specs.Clauses.{Passed, passed, owe_member}
+use Rattle.wy_conditions.specs.Calls.{owe_arguments, arguments}
+use Rattle.wy_vc_operations.specs.Growing.{AreBelow}
 use Rattle.wy_vc_walk.specs.Numbered.{trees_of}
-use Rattle.wy_vc_walk.specs.Slots.{AreSlots, slots_of}
-use Rattle.wy_vc_walk.specs.State.{IsSound, Steps, Walks, hyps_of, owed_of, passed_by}
+use Rattle.wy_vc_walk.specs.Slots.{slots_of}
+use Rattle.wy_vc_walk.specs.State.{Steps, hyps_of}
 use Rattle.wy_vc_walk.specs.declared.walk.Walk.{Walk}
-use Rattle.wy_vc_walk.proofs.SlotLemmas.{slots_put, are_put}
-use Rattle.wy_vc_walk.proofs.StateLemmas.{Toward, toward_begin, toward_step, toward_end, steps_on, steps_as}
+use Rattle.wy_vc_walk.proofs.SlotLemmas.{slots_put}
+use Rattle.wy_vc_walk.proofs.StateLemmas.{Toward, toward_step, toward_end}
 
 -- ---- arguments
 

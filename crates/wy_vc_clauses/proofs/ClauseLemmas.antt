@@ -1,6 +1,6 @@
 -- Clauses that are owed or assumed, one after the other.
-use Rattle.std.proofs.Common.{Vec, Option, ◌≡◌, ◌<◌, ◌≤◌, ◌+◌, ℕ, suc, List, [], ◌∷◌, ◌++◌, Bool, true, false, length, map, drop, get_or, take, refl, ◌∙◌, sym, ap, subst, arith}
-use Rattle.std.proofs.lemmas.List.{append-nil, map-append, drop_more, drop_all}
+use Rattle.std.proofs.Common.{Option, ◌≡◌, ◌<◌, ◌≤◌, ◌+◌, ℕ, List, [], ◌∷◌, ◌++◌, true, false, length, drop, get_or, refl, ◌∙◌, sym, ap, subst, arith}
+use Rattle.std.proofs.lemmas.List.{map-append, drop_more, drop_all}
 use Rattle.std.proofs.lemmas.List.Elements.{All-append, All-cons, All-nil}
 use Rattle.wy_core.specs.CoreTree.{Expr, NullExpr, BoolExpr, IntExpr, VarExpr, CallExpr, NegExpr, NotExpr, LenExpr, BinaryExpr, IsExpr, IndexExpr, FieldExpr, ListExpr, RepeatExpr, RecordExpr, QuantExpr}
 use Rattle.wy_core.specs.CoreSeen.{seen_expr, seen_exprs}
@@ -10,24 +10,23 @@ use Rattle.wy_core.specs.declared.expressions.Op.TheVariants as sign
 use Rattle.wy_term.specs.declared.cond.CondKind.{CondKind}
 use Rattle.wy_term.specs.Term.{Term}
 use Rattle.wy_term.specs.Nodes.{Plain, tree_at}
-use Rattle.wy_term.specs.Numbers.{IsAt}
 use Rattle.wy_conditions.specs.Numbered.{Node, numbered, numbered_list}
 use Rattle.wy_conditions.specs.Sizes.{exprs_in, exprs_in_list}
-use Rattle.wy_conditions.specs.Owed.{Owed, assume, assume_all, owe}
+use Rattle.wy_conditions.specs.Owed.{assume, assume_all, owe}
 use Rattle.wy_conditions.specs.Clauses.{Passed, passed, after, pass_goals, both_goals, one_goal, goals, owe_clauses, assume_clauses}
-use Rattle.wy_conditions.specs.Values.{Setting, Valued, ValuedAll, valued_all, clause_formula, named_in}
+use Rattle.wy_conditions.specs.Values.{Setting, Valued, ValuedAll, clause_formula, named_in}
 use Rattle.wy_conditions.specs.Variables.{Vars}
-use Rattle.wy_vc_operations.specs.Growing.{Kept, Makes, AreAt, AreBelow}
+use Rattle.wy_vc_operations.specs.Growing.{Kept, AreAt, AreBelow}
 use Rattle.wy_vc_terms.specs.declared.maker.Maker.{Maker}
 use Rattle.wy_vc_terms.specs.Made.{IsMade, AreMade}
 use Rattle.wy_vc_walk.specs.Numbered.{trees_of}
 use Rattle.wy_vc_walk.specs.Slots.{AreSlots, slots_of}
-use Rattle.wy_vc_walk.specs.State.{IsSound, Steps, hyps_of, owed_of}
+use Rattle.wy_vc_walk.specs.State.{IsSound, Steps, hyps_of}
 use Rattle.wy_vc_walk.specs.declared.walk.Walk.{Walk}
-use Rattle.wy_vc_walk.proofs.NumberedLemmas.{kept_then, here_kept, at_itself}
+use Rattle.wy_vc_walk.proofs.NumberedLemmas.{kept_then}
 use Rattle.wy_vc_walk.proofs.SlotLemmas.{slots_kept, slots_on}
 use Rattle.wy_vc_walk.proofs.StateLemmas.{Toward, toward_begin, toward_step, toward_end, steps_made, steps_on, steps_as, are_one, are_kept}
-use Rattle.wy_vc_clauses.specs.Conjunctions.{is_and, is_conjunction, clause_assumed}
+use Rattle.wy_vc_clauses.specs.Conjunctions.{is_conjunction, clause_assumed}
 
 -- ---- goals of a clause
 

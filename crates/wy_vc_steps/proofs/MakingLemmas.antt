@@ -1,8 +1,8 @@
 -- Terms made in order.
-use Rattle.std.proofs.Common.{◌≡◌, ◌<◌, ℕ, List, [], ◌∷◌, length, map, All, subst, sym}
+use Rattle.std.proofs.Common.{◌≡◌, ◌<◌, ℕ, List, [], ◌∷◌, subst, sym}
 use Rattle.std.proofs.lemmas.List.Elements.{All-nil, All-cons}
 use Rattle.wy_term.specs.Term.{Term}
-use Rattle.wy_term.specs.Nodes.{Plain, tree_at}
+use Rattle.wy_term.specs.Nodes.{Plain}
 use Rattle.wy_term.specs.Numbers.{IsAt}
 use Rattle.wy_vc_operations.specs.Growing.{AreAt, AreBelow, Kept}
 use Rattle.wy_vc_walk.proofs.StateLemmas.{are_one, are_two}
@@ -25,3 +25,7 @@ below_one n ks a is lt = subst (λ (xs : List ℕ). AreBelow n xs) (sym is) (All
 
 pub below_two : (n : ℕ) (ks : List ℕ) (a b : ℕ) → ks ≡ a ∷ b ∷ [] → a < n → b < n → AreBelow n ks
 below_two n ks a b is la lb = subst (λ (xs : List ℕ). AreBelow n xs) (sym is) (All-cons (λ k. k < n) a (b ∷ []) la (All-cons (λ k. k < n) b [] lb (All-nil (λ k. k < n))))
+
+-- numbers as they were read
+pub below_read : (n : ℕ) (xs ks : List ℕ) → xs ≡ ks → AreBelow n ks → AreBelow n xs
+below_read n xs ks read below = subst (λ (ys : List ℕ). AreBelow n ys) (sym read) below

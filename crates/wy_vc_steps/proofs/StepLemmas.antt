@@ -1,9 +1,8 @@
 -- What is done behind the parts of an expression.
-use Rattle.std.proofs.Common.{Vec, Bool, ◌≡◌, ◌<◌, ◌≤◌, ◌+◌, ℕ, suc, List, [], ◌∷◌, ◌++◌, length, map, refl, ◌∙◌, sym, ap, subst, arith}
+use Rattle.std.proofs.Common.{Vec, Bool, ◌≡◌, ◌<◌, ◌+◌, ℕ, suc, List, [], ◌∷◌, ◌++◌, length, ◌∙◌, sym, ap, subst}
 use Rattle.std.specs.declared.alloc.Global.{Global}
 use Rattle.std.proofs.lemmas.List.{append-nil}
 use Rattle.wy_core.specs.declared.expressions.Op.{Op}
-use Rattle.wy_core.specs.declared.expressions.Op.TheVariants as sign
 use Rattle.wy_term.specs.declared.cond.CondKind.{CondKind}
 use Rattle.wy_term.specs.declared.cond.CondKind.TheVariants as kinds
 use Rattle.wy_term.specs.Term.{Term}
@@ -13,17 +12,16 @@ use Rattle.wy_conditions.specs.Making as term_of
 use Rattle.wy_conditions.specs.Operations as op
 use Rattle.wy_conditions.specs.Values.{Valued}
 use Rattle.wy_conditions.specs.Owed.{Owed, assume, assume_all, owe}
-use Rattle.wy_conditions.specs.Clauses.{Passed, passed, after}
-use Rattle.wy_conditions.specs.Calls.{Walked}
-use Rattle.wy_conditions.specs.Walks.{Goals, goals_of, assume_goals, owe_goals, owing, free, range_goals}
-use Rattle.wy_vc_operations.specs.Growing.{Kept, Makes, AreAt}
+use Rattle.wy_conditions.specs.Clauses.{Passed, passed}
+use Rattle.wy_conditions.specs.Walks.{Goals, goals_of, assume_goals, owe_goals, owing, free, range_goals, operator_goals, right_hyps}
+use Rattle.wy_vc_operations.specs.Growing.{Kept, Makes}
 use Rattle.wy_vc_terms.specs.declared.maker.Maker.{Maker}
 use Rattle.wy_vc_walk.specs.Numbered.{trees_of}
-use Rattle.wy_vc_walk.specs.State.{IsSound, Steps, Walks, hyps_of, owed_of, passed_by}
+use Rattle.wy_vc_walk.specs.State.{IsSound, Steps, Walks, hyps_of}
 use Rattle.wy_vc_walk.specs.declared.walk.Walk.{Walk}
 use Rattle.wy_vc_walk.specs.declared.goal.Goal.{Goal}
-use Rattle.wy_vc_walk.proofs.NumberedLemmas.{kept_then, here_kept, at_itself}
-use Rattle.wy_vc_walk.proofs.StateLemmas.{steps_made, steps_on, steps_as, steps_noded, at_same, walks_made, steps_none}
+use Rattle.wy_vc_walk.proofs.NumberedLemmas.{kept_then, here_kept}
+use Rattle.wy_vc_walk.proofs.StateLemmas.{steps_made, steps_on, steps_as, steps_noded, walks_made, steps_none}
 use Rattle.wy_vc_steps.specs.Owing.{passed_goals, range_hyps, MakesAll}
 
 -- a term is made, and an expression is passed
@@ -140,3 +138,11 @@ begin_steps a b c d e from below name i sound lt_from lt_below made count hyps o
     let to_e = steps_on (λ hs n. passed e.maker.count hs []) a d e (passed b.maker.count (range_hyps i F B (hyps_of a)) []) to_d (steps_made d e t.sound kept hyps' owed') in
     steps_as a e (passed e.maker.count (range_hyps i F B (hyps_of a)) []) (passed (suc a.maker.count) (range_hyps i F B (hyps_of a)) [])
     (ap (λ (n : ℕ). passed n (range_hyps i F B (hyps_of a)) []) (count' ∙ to_d.count ∙ count)) to_e
+
+-- an operator whose right side may assume no more
+pub right_none : (a : Walk) (o o' : Op) (t : Term) → o ≡ o' → right_hyps o' t (hyps_of a) ≡ hyps_of a → IsSound a → Steps a a (passed a.maker.count (right_hyps o t (hyps_of a)) [])
+right_none a o o' t is none sound = steps_as a a (passed a.maker.count (hyps_of a) []) (passed a.maker.count (right_hyps o t (hyps_of a)) []) (ap (λ (hs : List Term). passed a.maker.count hs []) (sym (ap (λ (x : Op). right_hyps x t (hyps_of a)) is ∙ none))) (steps_none a sound)
+
+-- an operator that owes nothing
+pub goals_no : (at : ℕ) (a : Walk) (o o' : Op) (w v : Term) → o ≡ o' → operator_goals o' w v ≡ [] → IsSound a → Steps a a (passed_goals at a.maker.count (hyps_of a) (operator_goals o w v))
+goals_no at a o o' w v is none sound = subst (λ (gs : List Goals). Steps a a (passed_goals at a.maker.count (hyps_of a) gs)) (sym (ap (λ (x : Op). operator_goals x w v) is ∙ none)) (steps_none a sound)

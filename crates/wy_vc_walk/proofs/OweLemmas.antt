@@ -1,19 +1,19 @@
 -- Goals that are owed one after the other.
-use Rattle.std.proofs.Common.{◌≡◌, ◌<◌, ◌≤◌, ◌+◌, ℕ, List, [], ◌∷◌, ◌++◌, All, map, length, take, drop, get_or, refl, ◌∙◌, sym, ap, subst, arith}
+use Rattle.std.proofs.Common.{◌≡◌, ◌<◌, ◌≤◌, ◌+◌, ℕ, List, [], ◌∷◌, ◌++◌, All, map, length, take, drop, get_or, ◌∙◌, sym, ap, subst, arith}
 use Rattle.std.proofs.lemmas.List.{drop_more, drop_all, get_or_default, map-append, take_all}
 use Rattle.std.proofs.lemmas.List.Elements.{All-push}
 use Rattle.wy_term.specs.Term.{Term}
-use Rattle.wy_term.specs.Nodes.{Plain, tree_at}
+use Rattle.wy_term.specs.Nodes.{tree_at}
 use Rattle.wy_term.specs.declared.cond.CondKind.{CondKind}
 use Rattle.wy_conditions.specs.Owed.{Owed, assume, assume_all, owe}
-use Rattle.wy_conditions.specs.Clauses.{Passed, passed, after}
+use Rattle.wy_conditions.specs.Clauses.{Passed, passed}
 use Rattle.wy_vc_operations.specs.Growing.{Kept, AreBelow}
 use Rattle.wy_vc_terms.specs.declared.maker.Maker.{Maker}
 use Rattle.wy_vc_walk.specs.Numbered.{trees_of}
 use Rattle.wy_vc_walk.specs.State.{IsGoal, IsSound, Steps, goal_of, seen_goal, hyps_of, owed_of}
 use Rattle.wy_vc_walk.specs.declared.walk.Walk.{Walk}
 use Rattle.wy_vc_walk.specs.declared.goal.Goal.{Goal}
-use Rattle.wy_vc_walk.proofs.StateLemmas.{Toward, toward_begin, toward_step, toward_end, steps_on, kept_all}
+use Rattle.wy_vc_walk.proofs.StateLemmas.{Toward, toward_step, toward_end, steps_on, kept_all}
 
 -- goals owed under these hypotheses, where so many names are made
 abbrev pub owing_all : CondKind → ℕ → List Term → List Term → ℕ → Passed

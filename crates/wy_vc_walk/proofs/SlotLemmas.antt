@@ -1,8 +1,8 @@
 -- The terms of variables, by number.
-use Rattle.std.proofs.Common.{◌≡◌, ◌<◌, ◌≤◌, ℕ, zero, suc, List, [], ◌∷◌, map, length, Option, Some, None, refl, ◌∙◌, sym, ap, arith}
+use Rattle.std.proofs.Common.{◌≡◌, ◌<◌, ℕ, zero, suc, List, [], ◌∷◌, length, Option, Some, None, refl, ◌∙◌, ap, arith}
 use Rattle.wy_term.specs.Term.{Term}
 use Rattle.wy_term.specs.Nodes.{Plain, tree_at}
-use Rattle.wy_conditions.specs.Variables.{Vars, put, slot_at}
+use Rattle.wy_conditions.specs.Variables.{Vars, put}
 use Rattle.wy_vc_operations.specs.Growing.{Kept, IsSlotBelow, AreSlotsAt}
 use Rattle.wy_vc_walk.specs.Slots.{slot_of, slots_of, AreSlots}
 

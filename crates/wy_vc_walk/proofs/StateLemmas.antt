@@ -2,17 +2,16 @@
 use Rattle.std.proofs.Common.{Vec, ◌≡◌, ◌<◌, ◌≤◌, ℕ, List, [], ◌∷◌, ◌++◌, All, map, length, take, refl, ◌∙◌, sym, ap, subst, arith}
 use Rattle.std.specs.declared.alloc.Global.{Global}
 use Rattle.std.proofs.lemmas.List.{take_all, take-take, length-take, append-nil, append_assoc}
-use Rattle.std.proofs.lemmas.List.Elements.{All-append, All-nil, All-cons, All-head, All-tail, All-weaker, All-take}
+use Rattle.std.proofs.lemmas.List.Elements.{All-nil, All-cons, All-head, All-tail, All-weaker}
 use Rattle.wy_term.specs.Term.{Term}
 use Rattle.wy_term.specs.Nodes.{Plain, tree_at}
 use Rattle.wy_term.specs.Numbers.{IsAt}
-use Rattle.wy_term.specs.declared.cond.CondKind.{CondKind}
-use Rattle.wy_conditions.specs.Owed.{Owed, assume, assume_all, members, owe}
+use Rattle.wy_conditions.specs.Owed.{Owed, assume, members}
 use Rattle.wy_conditions.specs.Clauses.{Passed, passed, after}
 use Rattle.wy_conditions.specs.Calls.{Walked}
 use Rattle.wy_vc_operations.specs.Growing.{Kept, AreBelow, AreAt}
 use Rattle.wy_vc_walk.specs.Numbered.{Grown, trees_of}
-use Rattle.wy_vc_walk.specs.State.{IsGoal, IsSound, Steps, Walks, goal_of, seen_goal, hyps_of, owed_of, passed_by}
+use Rattle.wy_vc_walk.specs.State.{IsGoal, IsSound, Steps, Walks, goal_of, seen_goal, hyps_of, owed_of}
 use Rattle.wy_vc_walk.specs.declared.walk.Walk.{Walk}
 use Rattle.wy_vc_terms.specs.declared.maker.Maker.{Maker}
 use Rattle.wy_vc_walk.specs.declared.goal.Goal.{Goal}

@@ -1,19 +1,16 @@
 -- Walks, one behind the other.
-use Rattle.std.proofs.Common.{Vec, ◌≡◌, ◌<◌, ◌≤◌, ◌+◌, ℕ, suc, List, [], ◌∷◌, ◌++◌, length, take, refl, ◌∙◌, sym, ap, subst, arith}
-use Rattle.std.specs.declared.alloc.Global.{Global}
+use Rattle.std.proofs.Common.{◌≡◌, ◌+◌, ℕ, List, [], ◌++◌, ◌∙◌, ap, subst}
 use Rattle.std.proofs.lemmas.List.{append-nil}
 use Rattle.wy_term.specs.Term.{Term}
-use Rattle.wy_term.specs.Nodes.{Plain, tree_at}
-use Rattle.wy_term.specs.Numbers.{IsAt}
+use Rattle.wy_term.specs.Nodes.{tree_at}
 use Rattle.wy_conditions.specs.Owed.{Owed}
-use Rattle.wy_conditions.specs.Clauses.{Passed, passed, after}
+use Rattle.wy_conditions.specs.Clauses.{Passed}
 use Rattle.wy_conditions.specs.Calls.{Walked}
 use Rattle.wy_conditions.specs.Walks.{WalkedAll, free}
-use Rattle.wy_vc_operations.specs.Growing.{Kept, AreBelow, AreAt}
 use Rattle.wy_vc_walk.specs.Numbered.{trees_of}
-use Rattle.wy_vc_walk.specs.State.{IsSound, Steps, Walks, WalksAll, hyps_of, owed_of, passed_by, passed_by_all}
+use Rattle.wy_vc_walk.specs.State.{Steps, Walks, WalksAll, hyps_of, passed_by, passed_by_all}
 use Rattle.wy_vc_walk.specs.declared.walk.Walk.{Walk}
-use Rattle.wy_vc_walk.proofs.StateLemmas.{steps_on, steps_as, steps_cut, at_same, at_kept, kept_on, owed_before}
+use Rattle.wy_vc_walk.proofs.StateLemmas.{steps_on, at_same, owed_before}
 
 -- what goes by the term of a walk, what it assumed and how many names it made
 pub walks_on : (G : Term → List Term → ℕ → Walked) (a b c : Walk) (v r : ℕ) (w : Walked) → Walks a b v w → Walks b c r (G (tree_at b.maker.terms v) (hyps_of b) b.maker.count) → Walks a c r (owed_before w.owed (G w.term w.hyps w.count))

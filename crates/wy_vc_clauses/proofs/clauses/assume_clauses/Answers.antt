@@ -1,6 +1,5 @@
-use Rattle.std.proofs.Common.{refl, ◌∙◌, drop}
-use Rattle.wy_core.specs.CoreSeen.{seen_expr, seen_exprs}
-use Rattle.wy_conditions.specs.Clauses.{pass_goals, goals}
+use Rattle.std.proofs.Common.{refl}
+use Rattle.wy_core.specs.CoreSeen.{seen_expr}
 use Rattle.wy_conditions.specs.Numbered.{numbered}
 use Rattle.wy_conditions.specs.Values.{clause_formula, named_in}
 use Rattle.wy_vc_names.specs.Described.{setting}

@@ -1,7 +1,3 @@
-use Rattle.std.proofs.Common.{◌≡◌, ◌∙◌, ℕ, List, [], ◌∷◌, ap, sym, subst, refl, arith}
-use Rattle.wy_vc_walk.proofs.ResultLemmas.{on_ok, if_ok}
-use Rattle.wy_vc_walk.proofs.NumberedLemmas.{at_itself}
-use Rattle.wy_vc_walk.proofs.SlotLemmas.{slots_itself}
 use Rattle.wy_vc_clauses.proofs.ClauseLemmas.{below_one, made_one}
 use Rattle.wy_vc_clauses.proofs.clauses.one_goal.Goals as goal
 

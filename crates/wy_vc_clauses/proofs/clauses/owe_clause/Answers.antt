@@ -1,6 +1,5 @@
-use Rattle.std.proofs.Common.{◌≡◌, ◌∙◌, ℕ, List, [], ◌∷◌, ap, sym, subst, refl, arith}
-use Rattle.wy_vc_walk.proofs.ResultLemmas.{on_ok, if_ok}
-use Rattle.wy_vc_walk.proofs.NumberedLemmas.{at_itself}
+use Rattle.std.proofs.Common.{ℕ, List, sym, subst, refl}
+use Rattle.wy_vc_walk.proofs.ResultLemmas.{on_ok}
 use Rattle.wy_vc_walk.proofs.SlotLemmas.{slots_itself}
 use Rattle.wy_vc_operations.specs.Growing.{AreBelow}
 use Rattle.wy_vc_walk.proofs.StateLemmas.{sound_made}

@@ -1,10 +1,8 @@
-use Rattle.std.proofs.Common.{refl, ◌∙◌, drop}
-use Rattle.wy_core.specs.CoreSeen.{seen_expr, seen_exprs}
+use Rattle.std.proofs.Common.{refl}
+use Rattle.wy_core.specs.CoreSeen.{seen_expr}
 use Rattle.wy_conditions.specs.Clauses.{pass_goals, goals}
 use Rattle.wy_conditions.specs.Numbered.{numbered}
-use Rattle.wy_conditions.specs.Values.{clause_formula, named_in}
 use Rattle.wy_vc_names.specs.Described.{setting}
-use Rattle.wy_vc_clauses.specs.Conjunctions.{clause_assumed}
 use Rattle.wy_vc_clauses.proofs.ClauseLemmas.{owing_clauses, owed_one_by_one, left_begin, left_turn, left_end, left_node, next_seen, none_seen}
 use Rattle.wy_vc_clauses.proofs.clauses.owe_clauses.Goals as goal
 

@@ -1,6 +1,5 @@
-use Rattle.std.proofs.Common.{arith}
 use Rattle.wy_vc_walk.proofs.NumberedLemmas.{here_kept, kept_then}
-use Rattle.wy_vc_steps.proofs.MakingLemmas.{makes_one, makes_two, below_one, below_two}
+use Rattle.wy_vc_steps.proofs.MakingLemmas.{makes_one, below_one}
 use Rattle.wy_vc_steps.proofs.goals.divisor_goals.Goals as goal
 
 pub returns-clause-within : goal.returns-clause-within

@@ -1,10 +1,10 @@
 use Rattle.std.proofs.Common.{arith}
 use Rattle.wy_vc_walk.proofs.NumberedLemmas.{here_kept, kept_then}
-use Rattle.wy_vc_steps.proofs.MakingLemmas.{makes_one, makes_two, below_one, below_two}
+use Rattle.wy_vc_steps.proofs.MakingLemmas.{makes_two, below_two}
 use Rattle.wy_vc_steps.proofs.goals.range_goals.Goals as goal
 
 pub returns-clause-within : goal.returns-clause-within
-returns-clause-within c = below_two _ _ _ _ c.in_ok-from_slice.ensures.items (omega (arith, c.in_ok-above.ensures.within)) (omega (arith, c.in_ok-below.ensures.within))
+returns-clause-within c = below_two _ _ _ _ c.in_ok-from_slice.ensures.items (omega (arith, c.in_ok-above.ensures.within, c.in_ok-greatest.ensures.grows, c.in_ok-below.ensures.grows)) (omega (arith, c.in_ok-below.ensures.within))
 
 pub returns-clause-made : goal.returns-clause-made
 returns-clause-made c = λ t ht.

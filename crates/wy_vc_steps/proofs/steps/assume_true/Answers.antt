@@ -1,8 +1,7 @@
-use Rattle.std.proofs.Common.{◌≡◌, ◌∙◌, ℕ, List, [], ◌∷◌, ap, sym, subst, refl, arith}
+use Rattle.std.proofs.Common.{refl}
 use Rattle.wy_vc_steps.proofs.StepLemmas.{made_assumed}
-use Rattle.wy_vc_walk.proofs.NumberedLemmas.{at_itself, are_itself, here_kept, kept_then}
-use Rattle.wy_vc_walk.proofs.SlotLemmas.{slots_itself}
-use Rattle.wy_vc_walk.proofs.ResultLemmas.{on_ok, if_ok}
+use Rattle.wy_vc_walk.proofs.NumberedLemmas.{at_itself}
+use Rattle.wy_vc_walk.proofs.ResultLemmas.{on_ok}
 use Rattle.wy_vc_walk.proofs.StateLemmas.{sound_made}
 use Rattle.wy_vc_steps.proofs.steps.assume_true.Goals as goal
 

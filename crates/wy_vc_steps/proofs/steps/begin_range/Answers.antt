@@ -1,7 +1,5 @@
-use Rattle.std.proofs.Common.{◌≡◌, ◌∙◌, ℕ, List, [], ◌∷◌, ap, sym, subst, refl, arith}
+use Rattle.std.proofs.Common.{refl}
 use Rattle.wy_vc_steps.proofs.StepLemmas.{begin_steps, begin_bound, name_word, name_count}
-use Rattle.wy_vc_walk.proofs.NumberedLemmas.{at_itself, are_itself, here_kept, kept_then}
-use Rattle.wy_vc_walk.proofs.SlotLemmas.{slots_itself}
 use Rattle.wy_vc_walk.proofs.StateLemmas.{sound_made}
 use Rattle.wy_vc_steps.proofs.steps.begin_range.Goals as goal
 

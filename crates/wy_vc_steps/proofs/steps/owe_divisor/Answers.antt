@@ -1,17 +1,16 @@
-use Rattle.std.proofs.Common.{◌≡◌, ◌∙◌, ℕ, List, [], ◌∷◌, ap, sym, subst, refl, arith}
+use Rattle.std.proofs.Common.{refl}
 use Rattle.wy_vc_steps.proofs.StepLemmas.{goals_owed}
-use Rattle.wy_vc_walk.proofs.NumberedLemmas.{at_itself, are_itself, here_kept, kept_then}
-use Rattle.wy_vc_walk.proofs.SlotLemmas.{slots_itself}
-use Rattle.wy_vc_walk.proofs.ResultLemmas.{on_ok, if_ok}
+use Rattle.wy_vc_walk.proofs.NumberedLemmas.{at_itself}
+use Rattle.wy_vc_walk.proofs.ResultLemmas.{on_ok}
 use Rattle.wy_vc_walk.proofs.StateLemmas.{sound_made}
-use Rattle.wy_vc_operations.specs.Growing.{AreBelow}
+use Rattle.wy_vc_steps.proofs.MakingLemmas.{below_read}
 use Rattle.wy_vc_steps.proofs.steps.owe_divisor.Goals as goal
 
 pub owe_all-requires-clause-sound : goal.owe_all-requires-clause-sound
 owe_all-requires-clause-sound c = sound_made _ _ c.requires.sound (c.in_ok-goals.ensures.made _ (at_itself c.requires.w)).kept refl refl
 
 pub owe_all-requires-clause-goals : goal.owe_all-requires-clause-goals
-owe_all-requires-clause-goals c = subst (λ (xs : List ℕ). AreBelow _ xs) (sym c.as_slice.ensures.value) c.in_ok-goals.ensures.within
+owe_all-requires-clause-goals c = below_read _ _ _ c.as_slice.ensures.value c.in_ok-goals.ensures.within
 
 pub returns-clause-value : goal.returns-clause-value
 returns-clause-value c =

@@ -1,11 +1,5 @@
-use Rattle.std.proofs.Common.{◌≡◌, ◌∙◌, ℕ, List, [], ◌∷◌, ap, sym, subst, refl, arith}
 use Rattle.wy_vc_steps.proofs.StepLemmas.{goals_then, quotient_range}
-use Rattle.wy_term.specs.Term.{Term}
-use Rattle.wy_term.specs.declared.cond.CondKind.TheVariants as kinds
-use Rattle.wy_conditions.specs.Walks.{Goals, goals_of, range_goals, divisor_goals, index_goals, length_goals, operator_goals}
-use Rattle.wy_vc_walk.proofs.ResultLemmas.{on_ok, if_ok}
-use Rattle.wy_vc_steps.specs.Owing.{passed_goals}
-use Rattle.wy_vc_walk.specs.State.{Steps, hyps_of}
+use Rattle.wy_vc_walk.proofs.ResultLemmas.{on_ok}
 use Rattle.wy_vc_steps.proofs.steps.owe_quotient.Goals as goal
 
 pub returns-clause-value : goal.returns-clause-value

@@ -1,10 +1,9 @@
-use Rattle.std.proofs.Common.{◌≡◌, ◌∙◌, ℕ, List, [], ◌∷◌, ap, sym, subst, refl, arith}
+use Rattle.std.proofs.Common.{[], ◌∷◌, refl}
 use Rattle.wy_vc_steps.proofs.StepLemmas.{finish_goals, ap_two}
-use Rattle.wy_vc_walk.proofs.NumberedLemmas.{at_itself, are_itself, here_kept, kept_then}
-use Rattle.wy_vc_walk.proofs.SlotLemmas.{slots_itself}
+use Rattle.wy_vc_walk.proofs.NumberedLemmas.{at_itself}
 use Rattle.wy_term.specs.Term.{Term}
 use Rattle.wy_term.specs.declared.cond.CondKind.TheVariants as kinds
-use Rattle.wy_conditions.specs.Walks.{Goals, goals_of, range_goals, divisor_goals, index_goals, length_goals, operator_goals}
+use Rattle.wy_conditions.specs.Walks.{goals_of, index_goals}
 use Rattle.wy_vc_walk.proofs.StateLemmas.{sound_made}
 use Rattle.wy_vc_steps.proofs.steps.walk_index.Goals as goal
 

@@ -1,7 +1,6 @@
-use Rattle.std.proofs.Common.{◌≡◌, ◌∙◌, ℕ, List, [], ◌∷◌, ap, sym, subst, refl, arith}
+use Rattle.std.proofs.Common.{refl}
 use Rattle.wy_vc_steps.proofs.StepLemmas.{finish_made}
-use Rattle.wy_vc_walk.proofs.NumberedLemmas.{at_itself, are_itself, here_kept, kept_then}
-use Rattle.wy_vc_walk.proofs.SlotLemmas.{slots_itself}
+use Rattle.wy_vc_walk.proofs.NumberedLemmas.{at_itself}
 use Rattle.wy_vc_steps.proofs.steps.walk_not.Goals as goal
 
 pub returns-clause-value : goal.returns-clause-value
