@@ -18,7 +18,8 @@ use Rattle.wy_conditions.specs.Values.{Setting, Valued, ValuedAll, clause_formul
 use Rattle.wy_conditions.specs.Variables.{Vars}
 use Rattle.wy_vc_operations.specs.Growing.{Kept, AreAt, AreBelow}
 use Rattle.wy_vc_terms.specs.declared.maker.Maker.{Maker}
-use Rattle.wy_vc_terms.specs.Made.{IsMade, AreMade}
+use Rattle.wy_vc_terms.specs.Made.{IsMade}
+use Rattle.wy_vc_clauses.specs.GoalsMade.{AreMade}
 use Rattle.wy_vc_walk.specs.Numbered.{trees_of}
 use Rattle.wy_vc_walk.specs.Slots.{AreSlots, slots_of}
 use Rattle.wy_vc_walk.specs.State.{IsSound, Steps, hyps_of}

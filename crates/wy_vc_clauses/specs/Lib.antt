@@ -2,3 +2,5 @@
 pub mod Conjunctions
 -- what is called
 pub mod Called
+-- goals as they are made
+pub mod GoalsMade

@@ -12,7 +12,7 @@ ghost use Rattle.wy_term.specs.declared.cond.CondKind.TheVariants as kinds;
 ghost use Rattle.wy_vc_clauses.specs.Conjunctions.{clause_assumed, is_and, is_conjunction};
 ghost use Rattle.wy_vc_names.specs.Described.{IsDescribed, setting};
 ghost use Rattle.wy_vc_operations.specs.Growing.{AreBelow, AreSlotsAt, AreSlotsBelow};
-ghost use Rattle.wy_vc_terms.specs.Made.{AreMade};
+ghost use Rattle.wy_vc_clauses.specs.GoalsMade.{AreMade};
 ghost use Rattle.wy_vc_walk.specs.Slots.{AreSlots, slots_of};
 ghost use Rattle.wy_vc_walk.specs.State.{IsSound, Steps, hyps_of};
 
