@@ -1,10 +1,11 @@
 -- Clauses that are owed or assumed, one after the other.
-use Rattle.std.proofs.Common.{Option, ◌≡◌, ◌<◌, ◌≤◌, ◌+◌, ℕ, List, [], ◌∷◌, ◌++◌, true, false, length, drop, get_or, refl, ◌∙◌, sym, ap, subst, arith}
+use Rattle.std.proofs.Common.{rules, Option, ◌≡◌, ◌<◌, ◌≤◌, ◌+◌, ℕ, List, [], ◌∷◌, ◌++◌, true, false, length, drop, get_or, refl, ◌∙◌, sym, ap, subst, arith}
 use Rattle.std.proofs.lemmas.List.{map-append, drop_more, drop_all}
 use Rattle.std.proofs.lemmas.List.Elements.{All-append, All-cons, All-nil}
 use Rattle.wy_core.specs.CoreTree.{Expr, NullExpr, BoolExpr, IntExpr, VarExpr, CallExpr, NegExpr, NotExpr, LenExpr, BinaryExpr, IsExpr, IndexExpr, FieldExpr, ListExpr, RepeatExpr, RecordExpr, QuantExpr}
 use Rattle.wy_core.specs.CoreSeen.{seen_expr, seen_exprs}
 use Rattle.wy_core.specs.declared.expressions.Expr as e
+use Rattle.wy_core.specs.declared.expressions.ExprKind as kinds
 use Rattle.wy_core.specs.declared.expressions.Op.{Op}
 use Rattle.wy_core.specs.declared.expressions.Op.TheVariants as sign
 use Rattle.wy_term.specs.declared.cond.CondKind.{CondKind}
@@ -210,3 +211,24 @@ assumed_one_by_one s words e rest k vars hyps n = refl
 
 pub below_one : (n : ℕ) (ks : List ℕ) (a : ℕ) → ks ≡ a ∷ [] → a < n → AreBelow n ks
 below_one n ks a is lt = subst (λ (xs : List ℕ). AreBelow n xs) (sym is) (All-cons (λ k. k < n) a [] lt (All-nil (λ k. k < n)))
+
+-- ---- the goals of a clause as it was read
+
+binary_by_value : (x : e.Expr) (o : Op) (a b : e.Expr) → x.kind ≡ kinds.Binary o a b → seen_expr x ≡ BinaryExpr x.at o (seen_expr a) (seen_expr b)
+binary_by_value x o a b is = search (rules, e.the_lemmas)
+
+pub binary_read : (x : e.Expr) (o : Op) (a a' b b' : e.Expr) → x.kind ≡ kinds.Binary o a b → a' ≡ a → b' ≡ b → seen_expr x ≡ BinaryExpr x.at o (seen_expr a') (seen_expr b')
+binary_read x o a a' b b' is same_a same_b =
+    binary_by_value x o a b is ∙ ap (λ (z : e.Expr). BinaryExpr x.at o (seen_expr z) (seen_expr b)) (sym same_a) ∙ ap (λ (z : e.Expr). BinaryExpr x.at o (seen_expr a') (seen_expr z)) (sym same_b)
+
+pub one_made : (s : Setting Node) (words : List (List ℕ)) (x : Expr ℕ) (k : ℕ) (slots : Vars) (a b : Maker) (ks : List ℕ) → is_conjunction x ≡ false → AreMade a b ks (one_goal (clause_formula s (named_in s) words (numbered x k) slots a.count)) → AreMade a b ks (goals s words (numbered x k) slots a.count)
+one_made s words x k slots a b ks no_and m = subst (λ (v : ValuedAll). AreMade a b ks v) (sym (goals_one s words x k slots a.count no_and)) m
+
+pub both_made : (s : Setting Node) (words : List (List ℕ)) (x : Expr ℕ) (at : ℕ) (o : Op) (e f : Expr ℕ) (k j n : ℕ) (slots : Vars) (a b c d : Maker) (ks ls ms : List ℕ) → x ≡ BinaryExpr at o e f → is_conjunction x ≡ true
+    → AreMade a b ks (goals s words (numbered e k) slots a.count) → j ≡ k + exprs_in e → AreMade b c ls (goals s words (numbered f j) slots b.count) → d ≡ record c { node = n } → ms ≡ ks ++ ls
+    → AreMade a d ms (goals s words (numbered x k) slots a.count)
+both_made s words x at o e f k j n slots a b c d ks ls ms is and first next second maker joined =
+    let second' = subst (λ (i : ℕ). AreMade b c ls (goals s words (numbered f i) slots b.count)) next second in
+    let both = made_both a b c d ks ls ms (goals s words (numbered e k) slots a.count) (goals s words (numbered f (k + exprs_in e)) slots) first second' (ap (λ (m : Maker). m.terms) maker) (ap (λ (m : Maker). m.count) maker) joined in
+    let is_and_too : is_conjunction (BinaryExpr at o e f) ≡ true = ap (λ (y : Expr ℕ). is_conjunction y) (sym is) ∙ and in
+    subst (λ (y : Expr ℕ). AreMade a d ms (goals s words (numbered y k) slots a.count)) (sym is) (subst (λ (v : ValuedAll). AreMade a d ms v) (sym (goals_both s words at o e f k slots a.count is_and_too)) both)

@@ -1,5 +1,5 @@
 -- What is done behind the parts of an expression.
-use Rattle.std.proofs.Common.{Vec, Bool, ◌≡◌, ◌<◌, ◌+◌, ℕ, suc, List, [], ◌∷◌, ◌++◌, length, ◌∙◌, sym, ap, subst}
+use Rattle.std.proofs.Common.{Vec, Bool, ◌≡◌, ◌<◌, ℕ, suc, List, [], ◌∷◌, ◌++◌, length, ◌∙◌, sym, ap, subst}
 use Rattle.std.specs.declared.alloc.Global.{Global}
 use Rattle.std.proofs.lemmas.List.{append-nil}
 use Rattle.wy_core.specs.declared.expressions.Op.{Op}
