@@ -11,7 +11,7 @@ ghost use Rattle.wy_conditions.specs.Variables.{Vars};
 ghost use Rattle.wy_term.specs.declared.cond.CondKind.TheVariants as kinds;
 ghost use Rattle.wy_vc_clauses.specs.Conjunctions.{clause_assumed, is_and, is_conjunction};
 ghost use Rattle.wy_vc_names.specs.Described.{IsDescribed, setting};
-ghost use Rattle.wy_vc_operations.specs.Growing.{AreBelow, AreSlotsAt, AreSlotsBelow};
+ghost use Rattle.wy_vc_operations.specs.Growing.{AreBelow, AreSlotsAt};
 ghost use Rattle.wy_vc_clauses.specs.GoalsMade.{AreMade};
 ghost use Rattle.wy_vc_walk.specs.Slots.{AreSlots, slots_of};
 ghost use Rattle.wy_vc_walk.specs.State.{IsSound, Steps, hyps_of};
@@ -86,7 +86,6 @@ fn one_goal(
     vars: &mut Vec<Option<u32>>,
     clause: &Expr,
 ) -> Result<Vec<u32>, NoMemory>
-    requires { AreSlotsBelow (count_of maker.old.terms) vars.old.items }
     ensures within { IfOk result (λ ks. AreBelow (count_of maker.new.terms) ks.items) }
     ensures grows { OnOk result (count_of maker.old.terms ≤ count_of maker.new.terms) }
     ensures node { OnOk result (maker.new.node ≡ maker.old.node + sizes.exprs_in (seen_expr clause.now)) }
@@ -107,7 +106,6 @@ fn clause_goals(
     vars: &mut Vec<Option<u32>>,
     clause: &Expr,
 ) -> Result<Vec<u32>, NoMemory>
-    requires { AreSlotsBelow (count_of maker.old.terms) vars.old.items }
     ensures within { IfOk result (λ ks. AreBelow (count_of maker.new.terms) ks.items) }
     ensures grows { OnOk result (count_of maker.old.terms ≤ count_of maker.new.terms) }
     ensures node { OnOk result (maker.new.node ≡ maker.old.node + sizes.exprs_in (seen_expr clause.now)) }
