@@ -1,0 +1,6 @@
+//! Tests of wy_gen: bodies, and their code. They stand in a crate of their own, since a crate with
+//! tests is proved twice.
+#![tactic(auto)]
+
+#[cfg(test)]
+mod bodies;
