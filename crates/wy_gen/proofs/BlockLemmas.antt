@@ -1,5 +1,5 @@
 -- An `if` and a loop, whose parts are made from the end to the beginning.
-use Rattle.std.proofs.Common.{◌≡◌, ◌∙◌, ◌≤◌, ◌+◌, ◌-◌, ℕ, suc, List, [], ◌∷◌, ◌++◌, length, rules, refl, ap, sym, append_assoc, length-append, arith}
+use Rattle.std.proofs.Common.{◌≡◌, ◌∙◌, ◌<◌, ◌≤◌, ◌+◌, ◌-◌, ℕ, suc, List, [], ◌∷◌, ◌++◌, length, drop, get_or, rules, refl, ap, sym, append_assoc, length-append, arith}
 use Rattle.wy_core.specs.CoreTree as tree
 use Rattle.wy_core.specs.CoreSeen.{seen_expr, seen_exprs, seen_block, seen_stmt}
 use Rattle.wy_core.specs.declared.expressions.Expr.{Expr}
@@ -7,13 +7,14 @@ use Rattle.wy_core.specs.declared.statements.Stmt as s
 use Rattle.wy_core.specs.declared.statements.Stmt.{Stmt}
 use Rattle.wy_core.specs.declared.statements.StmtKind as kind
 use Rattle.wy_live.specs.Sets.{Variables, joined}
-use Rattle.wy_live.specs.Walks.{live_all, head_live, around, nothing}
+use Rattle.wy_live.specs.Walks.{live, live_all, head_live, around, nothing}
 use Rattle.wy_live.specs.declared.walk.Ends.{Ends}
 use Rattle.wy_pieces.specs.declared.steps.Step.{Step}
 use Rattle.wy_pieces.specs.declared.steps.Step.TheVariants.{GoesBack}
 use Rattle.wy_pieces.specs.Steps.{fork, jumped, over, turns}
 use Rattle.wy_tables.specs.declared.context.Context.{Context}
 use Rattle.wy_compiled.specs.Expressions.{code, released}
+use Rattle.wy_gen_expressions.proofs.LoopLemmas.{drop_back}
 use Rattle.wy_compiled.specs.Statements.{choice, inside, turn, stmt_code, stmts_code}
 
 pub seen_if : (x : Stmt) (e : Expr) (a b : List Stmt) → x.kind ≡ kind.If e a b → seen_stmt x ≡ tree.IfStmt x.at (seen_expr e) (seen_block a) (seen_block b)
@@ -86,3 +87,24 @@ body_same c body n exit again old made exit_is again_is is =
     let x : length old - exit ≡ 0 = omega arith in
     let y : length old - again ≡ 0 = omega arith in
     is ∙ (λ i. stmts_code c body [] nothing n (x i) (y i) ++ old)
+
+-- the end of the loop around, and its step back, stand behind what is made
+pub within_jumped : (two old start : List Step) (k : ℕ) → start ≡ jumped two old → k ≤ length old → k ≤ length start
+within_jumped two old start k is h = omega (arith, ap length is, jumped_length two old)
+
+pub within_turn : (gone old start : List Step) (ex : ℕ) → ex ≡ length old → start ≡ GoesBack 0 ∷ (gone ++ old) → ex ≤ length start
+within_turn gone old start ex ex_is is = omega (arith, ap length is, length-append gone old)
+
+pub again_turn : (gone old start : List Step) (ag done : ℕ) → ag ≡ suc done → done ≡ length (gone ++ old) → start ≡ GoesBack 0 ∷ (gone ++ old) → ag ≤ length start
+again_turn gone old start ag done ag_is done_is is = omega (arith, ap length is)
+
+-- a turn of the loop over the statements of a block, from the last one to the first
+module _ (c : Context) (b : List Stmt) (k : ℕ) (x : Stmt) (s before : Variables) (ends : Ends) (some : 0 < k) (within : k ≤ length b) (x_is : x ≡ get_or b (k - 1) x) (before_is : before ≡ live_all (seen_block (drop k b)) s ends) where
+  pub block_turn : (n exit again : ℕ) (old made steps : List Step) → exit ≤ length old → again ≤ length old → made ≡ stmts_code c (seen_block (drop k b)) s ends n (length old - exit) (length old - again) ++ old
+      → steps ≡ stmt_code c (seen_stmt x) before ends n (length made - exit) (length made - again) ++ made → steps ≡ stmts_code c (seen_block (drop (k - 1) b)) s ends n (length old - exit) (length old - again) ++ old
+  block_turn n exit again old made steps within_exit within_again made_is steps_is =
+      steps_is ∙ more_steps c (seen_stmt x) (seen_block (drop k b)) s before ends n exit again old made before_is within_exit within_again made_is
+      ∙ ap (λ (l : List Stmt). stmts_code c (seen_block l) s ends n (length old - exit) (length old - again) ++ old) (sym (drop_back b k x some within x_is))
+
+  pub block_turn_live : (now : Variables) → now ≡ live (seen_stmt x) before ends → now ≡ live_all (seen_block (drop (k - 1) b)) s ends
+  block_turn_live now is = is ∙ ap (λ (v : Variables). live (seen_stmt x) v ends) before_is ∙ ap (λ (l : List Stmt). live_all (seen_block l) s ends) (sym (drop_back b k x some within x_is))

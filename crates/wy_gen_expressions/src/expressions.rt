@@ -81,8 +81,9 @@ pub fn code(
             code(alloc, context, item.get(), register, behind)
         }
         ExprKind::Record(fields) => {
-            let behind = record(alloc, context, fields.as_slice(), register, behind)?;
-            field_codes(alloc, context, fields.as_slice(), register, behind)
+            let fields = fields.as_slice();
+            let behind = record(alloc, context, fields, register, behind)?;
+            field_codes(alloc, context, fields, register, behind)
         }
         ExprKind::Quant(all, variable, from, to, body) => {
             let free = next(register)?;
