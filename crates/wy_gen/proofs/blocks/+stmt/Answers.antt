@@ -63,7 +63,7 @@ block_code-loop-left-preserved t c =
     let l = c.loop-left in
     let b = c.args.block.now in
     let around = c.args.around.now in
-    let x = c.index-block-left.result.now in
+    let x = c.index-block-left.result in
     record {
       within = omega (arith, l.invariant.within);
       live = block_turn_live c.args.context.now b l.left x c.args.behind.live l.made.live around.ends c.loop-left-test.true l.invariant.within c.index-block-left.is l.invariant.live c.in_ok-stmt_code.field-0.live c.in_ok-stmt_code.ensures.live;

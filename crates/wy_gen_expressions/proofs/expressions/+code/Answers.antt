@@ -215,8 +215,8 @@ right_side-returns-in_ok-made-in-Or t c =
       live = subst (λ (z : Variables). IfOk c.end_or.result (λ m. m.live ≡ z)) live c.end_or.ensures.live;
     }
 
-pub quantify-returns-in_ok-made : goal.quantify-returns-in_ok-made
-quantify-returns-in_ok-made t c =
+pub quantify-returns : goal.quantify-returns
+quantify-returns t c =
     let b = seen_expr c.args.body.now in
     let s = c.args.behind.live in
     let g = c.in_ok-begun.begun in
@@ -237,7 +237,7 @@ pub codes-loop-left-preserved : goal.codes-loop-left-preserved
 codes-loop-left-preserved t c =
     let l = c.loop-left in
     let es = c.args.exprs.now in
-    let x = c.index-exprs-left.result.now in
+    let x = c.index-exprs-left.result in
     record {
       within = omega (arith, l.invariant.within);
       place = place_back c.args.register l.left l.here c.in_ok-previous.field-0 c.loop-left-test.true l.invariant.place c.in_ok-previous.ensures.value;
@@ -249,7 +249,7 @@ pub field_codes-loop-left-preserved : goal.field_codes-loop-left-preserved
 field_codes-loop-left-preserved t c =
     let l = c.loop-left in
     let fs = c.args.fields.now in
-    let x = c.index-fields-left.result.now in
+    let x = c.index-fields-left.result in
     record {
       within = omega (arith, l.invariant.within);
       place = place_back c.args.register l.left l.here c.in_ok-previous.field-0 c.loop-left-test.true l.invariant.place c.in_ok-previous.ensures.value;
@@ -257,8 +257,8 @@ field_codes-loop-left-preserved t c =
       value = field_codes_turn c.args.context.now fs l.left x c.args.behind.live l.made.live c.loop-left-test.true l.invariant.within c.index-fields-left.is l.invariant.live l.here c.in_ok-previous.field-0 c.args.behind.steps l.made.steps c.in_ok-code.field-0.steps c.in_ok-previous.ensures.value l.invariant.value c.in_ok-code.ensures.value;
     }
 
-pub right_side-returns-in_ok-behind : goal.right_side-returns-in_ok-behind
-right_side-returns-in_ok-behind t c =
+pub right_side-returns-in_ok-behind-in_default : goal.right_side-returns-in_ok-behind-in_default
+right_side-returns-in_ok-behind-in_default t c =
     let b = seen_expr c.args.right.now in
     let s = c.args.behind.live in
     record {
