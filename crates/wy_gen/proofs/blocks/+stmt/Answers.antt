@@ -66,6 +66,6 @@ block_code-loop-left-preserved t c =
     let x = c.index-block-left.result in
     record {
       within = omega (arith, l.invariant.within);
-      live = block_turn_live c.args.context.now b l.left x c.args.behind.live l.made.live around.ends c.loop-left-test.true l.invariant.within c.index-block-left.is l.invariant.live c.in_ok-stmt_code.field-0.live c.in_ok-stmt_code.ensures.live;
-      value = block_turn c.args.context.now b l.left x c.args.behind.live l.made.live around.ends c.loop-left-test.true l.invariant.within c.index-block-left.is l.invariant.live c.args.free around.exit around.again c.args.behind.steps l.made.steps c.in_ok-stmt_code.field-0.steps c.requires.exit c.requires.again l.invariant.value c.in_ok-stmt_code.ensures.value;
+      live = block_turn_live c.args.context.now b l.left x c.args.behind.live l.made.live around.ends c.loop-left-test.true l.invariant.within c.index-block-left.is l.invariant.live c.in_ok-made.made.live c.in_ok-made.ensures.live;
+      value = block_turn c.args.context.now b l.left x c.args.behind.live l.made.live around.ends c.loop-left-test.true l.invariant.within c.index-block-left.is l.invariant.live c.args.free around.exit around.again c.args.behind.steps l.made.steps c.in_ok-made.made.steps c.requires.exit c.requires.again l.invariant.value c.in_ok-made.ensures.value;
     }

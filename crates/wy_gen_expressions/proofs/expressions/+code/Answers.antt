@@ -240,9 +240,9 @@ codes-loop-left-preserved t c =
     let x = c.index-exprs-left.result in
     record {
       within = omega (arith, l.invariant.within);
-      place = place_back c.args.register l.left l.here c.in_ok-previous.field-0 c.loop-left-test.true l.invariant.place c.in_ok-previous.ensures.value;
-      live = codes_turn_live c.args.context.now es l.left x c.args.behind.live l.made.live c.loop-left-test.true l.invariant.within c.index-exprs-left.is l.invariant.live c.in_ok-code.field-0.live c.in_ok-code.ensures.live;
-      value = codes_turn c.args.context.now es l.left x c.args.behind.live l.made.live c.loop-left-test.true l.invariant.within c.index-exprs-left.is l.invariant.live l.here c.in_ok-previous.field-0 c.args.behind.steps l.made.steps c.in_ok-code.field-0.steps c.in_ok-previous.ensures.value l.invariant.value c.in_ok-code.ensures.value;
+      place = place_back c.args.register l.left l.here c.in_ok-here-in-loop-left.here c.loop-left-test.true l.invariant.place c.in_ok-here-in-loop-left.ensures.value;
+      live = codes_turn_live c.args.context.now es l.left x c.args.behind.live l.made.live c.loop-left-test.true l.invariant.within c.index-exprs-left.is l.invariant.live c.in_ok-made.made.live c.in_ok-made.ensures.live;
+      value = codes_turn c.args.context.now es l.left x c.args.behind.live l.made.live c.loop-left-test.true l.invariant.within c.index-exprs-left.is l.invariant.live l.here c.in_ok-here-in-loop-left.here c.args.behind.steps l.made.steps c.in_ok-made.made.steps c.in_ok-here-in-loop-left.ensures.value l.invariant.value c.in_ok-made.ensures.value;
     }
 
 pub field_codes-loop-left-preserved : goal.field_codes-loop-left-preserved
@@ -252,9 +252,9 @@ field_codes-loop-left-preserved t c =
     let x = c.index-fields-left.result in
     record {
       within = omega (arith, l.invariant.within);
-      place = place_back c.args.register l.left l.here c.in_ok-previous.field-0 c.loop-left-test.true l.invariant.place c.in_ok-previous.ensures.value;
-      live = field_codes_turn_live c.args.context.now fs l.left x c.args.behind.live l.made.live c.loop-left-test.true l.invariant.within c.index-fields-left.is l.invariant.live c.in_ok-code.field-0.live c.in_ok-code.ensures.live;
-      value = field_codes_turn c.args.context.now fs l.left x c.args.behind.live l.made.live c.loop-left-test.true l.invariant.within c.index-fields-left.is l.invariant.live l.here c.in_ok-previous.field-0 c.args.behind.steps l.made.steps c.in_ok-code.field-0.steps c.in_ok-previous.ensures.value l.invariant.value c.in_ok-code.ensures.value;
+      place = place_back c.args.register l.left l.here c.in_ok-here-in-loop-left.here c.loop-left-test.true l.invariant.place c.in_ok-here-in-loop-left.ensures.value;
+      live = field_codes_turn_live c.args.context.now fs l.left x c.args.behind.live l.made.live c.loop-left-test.true l.invariant.within c.index-fields-left.is l.invariant.live c.in_ok-made.made.live c.in_ok-made.ensures.live;
+      value = field_codes_turn c.args.context.now fs l.left x c.args.behind.live l.made.live c.loop-left-test.true l.invariant.within c.index-fields-left.is l.invariant.live l.here c.in_ok-here-in-loop-left.here c.args.behind.steps l.made.steps c.in_ok-made.made.steps c.in_ok-here-in-loop-left.ensures.value l.invariant.value c.in_ok-made.ensures.value;
     }
 
 pub right_side-returns-in_ok-behind-in_default : goal.right_side-returns-in_ok-behind-in_default

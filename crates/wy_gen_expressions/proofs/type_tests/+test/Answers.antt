@@ -64,10 +64,10 @@ test_fields-loop-left-preserved t c =
     let l = c.loop-left in
     record {
       within = omega (arith, l.invariant.within);
-      value = fields_turn c.args.context.now c.args.fields.now l.left c.index-fields-left.result c.args.value c.args.answer c.args.free c.in_ok-inner.inner c.in_ok-number.number c.args.steps c.in_ok-field_end.field-0 c.in_ok-test.field-0 c.in_ok-does.field-0
+      value = fields_turn c.args.context.now c.args.fields.now l.left c.index-fields-left.result c.args.value c.args.answer c.args.free c.in_ok-inner.inner c.in_ok-number.number c.args.steps c.in_ok-steps.steps c.in_ok-steps-2.steps c.in_ok-steps-3.steps
           c.loop-left-test.true l.invariant.within c.index-fields-left.is c.in_ok-inner.ensures.value c.in_ok-number.ensures.value
-          (c.in_ok-field_end.ensures.value (spec.fields_test c.args.context.now (field_tys_of (map (λ f. (f.0, seen_ty f.1)) (drop l.left c.args.fields.now))) c.args.value c.args.answer c.args.free) c.args.steps l.invariant.value (sym c.len-end.ensures.value))
-          c.in_ok-test.ensures.value c.in_ok-does.ensures.value;
+          (c.in_ok-steps.ensures.value (spec.fields_test c.args.context.now (field_tys_of (map (λ f. (f.0, seen_ty f.1)) (drop l.left c.args.fields.now))) c.args.value c.args.answer c.args.free) c.args.steps l.invariant.value (sym c.len-end.ensures.value))
+          c.in_ok-steps-2.ensures.value c.in_ok-steps-3.ensures.value;
     }
 
 pub test_items-returns : goal.test_items-returns
