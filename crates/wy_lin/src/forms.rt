@@ -1,5 +1,5 @@
 //! The forms of terms and of literals.
-ghost use Rattle.std.specs.Prelude.{◌≡◌, ◌<◌, length, option_map, IfOk, IfSome};
+ghost use Rattle.std.specs.Prelude.{◌≡◌, ◌<◌, if◌then◌else◌, length, option_map, IfOk, IfSome};
 ghost use Rattle.wy_term.specs.Nodes.{tree_at};
 ghost use Rattle.wy_lin.specs.TermForm.{form_of, form_of_denial, form_of_literal, difference, excess};
 ghost use Rattle.wy_lin.specs.Worth.{IsWorth, SaysAsMuch};
@@ -96,4 +96,23 @@ pub fn form(alloc: Global, terms: &Terms, literal: u32) -> Result<Option<Form>, 
     ensures within { IfOk result (λ o. IfSome o (λ f. IsOver (length terms.now) (linear_form f))) }
 {
     answered(alloc, sum_of_literal(alloc, terms, literal))
+}
+
+/// The form of an atom, or that of its denial: that of `form` for the literal with this atom and sign, without the denial
+/// being made.
+pub fn signed_form(
+    alloc: Global,
+    terms: &Terms,
+    atom: u32,
+    holds: bool,
+) -> Result<Option<Form>, NoMemory>
+    requires { atom < length terms.now }
+    ensures value { IfOk result (λ o. option_map (seen_form (tree_at terms.now)) o ≡ (if holds then form_of_literal (tree_at terms.now atom) else form_of_denial (tree_at terms.now atom))) }
+    ensures within { IfOk result (λ o. IfSome o (λ f. IsOver (length terms.now) (linear_form f))) }
+{
+    if holds {
+        answered(alloc, sum_of_literal(alloc, terms, atom))
+    } else {
+        answered(alloc, sum_of_denial(alloc, terms, atom))
+    }
 }

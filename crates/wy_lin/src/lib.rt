@@ -3,7 +3,8 @@
 //! A form (`linear`) has its variables by the numbers of terms. `forms` gives the form of an Int term and that of a
 //! literal, which is at least 0 exactly where the literal holds; a list of tasks (`work`) takes the term apart, however
 //! deep it is. `combination` adds multiples of forms. Sums are made in `sum`, where a variable is found by a look-up, and
-//! no number in them ever leaves 128 bits (`arithmetic`, whose answers and refusals are those of `stop`).
+//! no number in them ever leaves 128 bits (`arithmetic`, whose answers and refusals are those of `stop`); a caller that adds
+//! up forms one by one uses `number_sum`, `with_form` and `answered`.
 #![tactic(auto)]
 
 mod arithmetic;
@@ -15,7 +16,11 @@ mod stop;
 mod sum;
 mod work;
 
+pub use arithmetic::Factor;
 pub use combination::combine;
-pub use forms::{form, term_form};
+pub use forms::{form, signed_form, term_form};
 pub use linear::Form;
 pub use memory::NoMemory;
+pub use stop::Stop;
+pub use sum::{Sum, answered, number_sum};
+pub use work::with_form;

@@ -1,0 +1,3 @@
+-- what public contracts cite
+-- what functions inside owe each other
+pub mod Trail
