@@ -1,0 +1,3 @@
+pub mod BranchLemmas
+pub mod FormLemmas
+pub mod GatheredLemmas
