@@ -1,14 +1,14 @@
 -- Truth values, and literals that are told.
-use Rattle.std.proofs.Common.{◌≡◌, ℕ, zero, suc, ◌-◌, List, [], ◌∷◌, ◌++◌, Bool, true, false, cond, eqb, not, ◌&&◌, ◌||◌, Option, Some, None, refl, sym, ap, ◌∙◌}
+use Rattle.std.proofs.Common.{◌≡◌, ℕ, zero, suc, ◌-◌, List, [], ◌∷◌, Bool, true, false, cond, eqb, not, ◌&&◌, ◌||◌, Option, Some, None, refl, sym, ap, ◌∙◌}
 use Rattle.std.specs.Prelude.{slice_get}
 use Rattle.std.specs.Bool.{beq}
-use Rattle.wy_term.specs.Term.{Term, Not}
+use Rattle.wy_term.specs.Term.{Term}
 use Rattle.wy_term.specs.Same.{same_term}
 use Rattle.wy_term.specs.Meaning.{Names, sense}
 use Rattle.wy_term.proofs.SameLemmas.{terms_are, bits_are}
 use Rattle.wy_judge.specs.Node.{Literal, same_literal, has_literal}
 use Rattle.wy_judge.specs.Told.{IsTold, AllTold}
-use Rattle.wy_valid.specs.Literals.{only_if, literal_at, signed, formula_of, has_atom}
+use Rattle.wy_valid.specs.Literals.{only_if, literal_at, signed, has_atom}
 
 -- ---- truth values
 

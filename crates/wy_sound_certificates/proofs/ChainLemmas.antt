@@ -1,9 +1,7 @@
 -- Terms that true literals join are equal, and so are the ends of a chain.
-use Rattle.std.proofs.Common.{◌≡◌, ℕ, zero, suc, List, [], ◌∷◌, map, Bool, true, false, cond, not, ◌&&◌, ◌||◌, ℤ, pos, neg_ℤ, ◌+ℤ◌, ◌-ℤ◌, ◌*ℤ◌, ◌≤ℤ◌, Option, Some, None, refl, sym, ap, ◌∙◌, subst, arith}
+use Rattle.std.proofs.Common.{◌≡◌, ℕ, zero, suc, List, [], ◌∷◌, map, true, ◌&&◌, ◌||◌, ℤ, pos, neg_ℤ, ◌+ℤ◌, ◌-ℤ◌, ◌*ℤ◌, ◌≤ℤ◌, Some, refl, sym, ap, ◌∙◌, subst, arith}
 use Rattle.std.proofs.lemmas.Int.{ints}
 use Rattle.std.specs.Prelude.{slice_index_or, bytes_eq}
-use Rattle.std.specs.Bool.{beq}
-use Rattle.std.specs.Ordering.{int_eq}
 use Rattle.wy_value.specs.Datum.{Datum, Null, Truth, Whole, Array, Record, Data, no_items, item, Fields, no_fields}
 use Rattle.wy_value.specs.Datum as datum
 use Rattle.wy_term.specs.Data.{same_datum, same_data, same_fields}
@@ -12,7 +10,7 @@ use Rattle.wy_term.specs.Term as term
 use Rattle.wy_term.specs.Term.{Symbol, Term, Of, Parts, no_parts, part, two, at_most, equal}
 use Rattle.wy_term.specs.Same.{same_symbol, same_term}
 use Rattle.wy_term.specs.Sorts.{Sort, int_sort, val_sort, formula_sort, sort_of, sort_in}
-use Rattle.wy_term.specs.Meaning.{Names, Sense, numeric, valued, sense, sense_of, senses_of, meaning, sense_at, data_in}
+use Rattle.wy_term.specs.Meaning.{Names, Sense, numeric, valued, sense, senses_of, meaning, sense_at, data_in}
 use Rattle.wy_term.specs.Meaning as means
 use Rattle.wy_term.specs.Condition.{AllTrue}
 use Rattle.wy_term.proofs.SameLemmas.{terms_are, symbols_are, bytes_are, bits_are}
@@ -21,7 +19,7 @@ use Rattle.wy_facts.specs.Made.{is_at_most, is_equal}
 use Rattle.wy_facts.proofs.SenseLemmas.{at_most_holds, equal_holds}
 use Rattle.wy_judge.specs.Node.{Literal}
 use Rattle.wy_judge.specs.Told.{AllTold}
-use Rattle.wy_valid.specs.Literals.{only_if, has_atom, are_equated, are_between, joined_by, are_joined, arguments_joined, are_alike, is_chain, last_of}
+use Rattle.wy_valid.specs.Literals.{has_atom, joined_by, are_joined, arguments_joined, are_alike, is_chain, last_of}
 use Rattle.wy_valid.specs.Validity.{equality_of, chain_stated}
 use Rattle.wy_sound_certificates.proofs.Basics.{and_both, or_cases, only_some, atom_told}
 use Rattle.wy_sound_certificates.proofs.FormLemmas.{int_eq_is}

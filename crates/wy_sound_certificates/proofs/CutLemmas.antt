@@ -1,18 +1,18 @@
 -- What a cut states is true where the form is at least 0.
-use Rattle.std.proofs.Common.{◌≡◌, ◌<◌, ℕ, zero, suc, List, [], ◌∷◌, Bool, true, false, cond, eqb, ◌&&◌, ℤ, pos, negsuc, ◌+ℤ◌, ◌-ℤ◌, ◌*ℤ◌, ◌≤ℤ◌, ◌<ℤ◌, neg_ℤ, Option, Some, None, refl, sym, ap, ◌∙◌, subst, arith}
+use Rattle.std.proofs.Common.{◌≡◌, ℕ, zero, suc, List, [], ◌∷◌, Bool, true, false, cond, eqb, ◌&&◌, ℤ, pos, negsuc, ◌+ℤ◌, ◌-ℤ◌, ◌*ℤ◌, ◌≤ℤ◌, ◌<ℤ◌, neg_ℤ, Some, refl, sym, ap, ◌∙◌, subst, arith}
 use Rattle.std.proofs.lemmas.Int.{ints}
 use Rattle.std.specs.Prelude.{nat_lt}
 use Rattle.std.specs.Ordering.{int_eq}
 use Rattle.std.proofs.Math.IntN.{zero-*ℤ}
 use Rattle.wy_term.specs.Term.{Term, Number, add, mul, two}
-use Rattle.wy_term.specs.Data.{quotient_down, remainder}
+use Rattle.wy_term.specs.Data.{quotient_down}
 use Rattle.wy_term.specs.Meaning.{Names, sense}
 use Rattle.wy_term.proofs.FoldingLemmas.{folding_keeps_meaning}
 use Rattle.wy_lin.specs.Linear.{Linear}
 use Rattle.wy_lin.specs.Worth.{worth_of_parts, worth, number_of}
 use Rattle.wy_lin.proofs.OptionLemmas.{some_is}
 use Rattle.wy_lin.proofs.Ring.{distrib_left, times_assoc}
-use Rattle.wy_facts.specs.Made.{made_two, is_at_most}
+use Rattle.wy_facts.specs.Made.{made_two}
 use Rattle.wy_facts.proofs.SenseLemmas.{at_most_holds}
 use Rattle.wy_facts.proofs.QuotientLemmas.{divides}
 use Rattle.wy_valid.specs.Sums.{zero_term, divided, added_up, total_of, cut_bound, cut_of}

@@ -1,19 +1,18 @@
 -- Facts of sorted terms are sorted formulas.
-use Rattle.std.proofs.Common.{◌≡◌, ℕ, zero, suc, List, [], ◌∷◌, Bool, true, false, cond, eqb, not, ℤ, pos, negsuc, Option, Some, None, refl, sym, ap, ◌∙◌, subst}
+use Rattle.std.proofs.Common.{◌≡◌, ℕ, zero, suc, List, [], ◌∷◌, Bool, true, false, cond, eqb, not, ℤ, pos, negsuc, Option, Some, None, refl, subst}
 use Rattle.std.specs.Prelude.{bytes_eq}
 use Rattle.wy_term.specs.Term as term
-use Rattle.wy_term.specs.Term.{DataKind, null_kind, bool_kind, int_kind, Term, Of, Parts, no_parts, part, leaf, one, Number}
+use Rattle.wy_term.specs.Term.{DataKind, null_kind, bool_kind, int_kind, Term, Of, Parts, no_parts, part, leaf, one}
 use Rattle.wy_term.specs.Same.{same_term}
 use Rattle.wy_term.specs.Sorts.{Sort, int_sort, val_sort, formula_sort, sort_in}
 use Rattle.wy_term.specs.Rewriting.{as_number, as_array, as_bool}
 use Rattle.wy_term.specs.Folding.{folded}
 use Rattle.wy_lin.proofs.OptionLemmas.{some_is}
 use Rattle.wy_sorted.specs.Sorted.{each, IsSorted, AreSorted}
-use Rattle.wy_kept_sorts.specs.SortKept.{HasSort}
 use Rattle.wy_facts.specs.declared.schema.Schema.{Schema}
 use Rattle.wy_facts.specs.declared.schema.Schema.TheVariants as schema
 use Rattle.wy_facts.specs.Made.{made_one, made_two, is_at_most, is_equal, denial, is_below, both, all_four, either, implies, same_number}
-use Rattle.wy_facts.specs.Schema.{◌>>=◌, whole, length_of, number_in, zero_term, stated, is_val_sort, is_val, as_copies, as_updated, as_element, as_field_updated, as_field, as_equation, as_kind_test, as_division, nth_of, element_numbered, has_field, Instance, instance, only_if, length_is_natural, length_of_copies, length_of_updated, numbered_in, element_of_array, element_of_copies, element_updated, element_elsewhere, elements_at_one_index, set_to, field_updated, field_before, field_elsewhere, equal_numbers, kind_before_update, kind_of_updated, kind_before_set, kind_of_field_updated, datum_by, datum_by_kind, division, plain_by_one, by_one, by_two, instance_of, fact_of}
+use Rattle.wy_facts.specs.Schema.{◌>>=◌, whole, length_of, number_in, zero_term, stated, is_val_sort, is_val, as_copies, as_updated, as_element, as_field_updated, as_field, as_equation, as_kind_test, as_division, nth_of, element_numbered, has_field, Instance, instance, only_if, length_is_natural, length_of_copies, length_of_updated, numbered_in, element_of_array, element_of_copies, element_updated, element_elsewhere, elements_at_one_index, set_to, field_updated, field_before, field_elsewhere, equal_numbers, kind_before_update, kind_of_updated, kind_before_set, kind_of_field_updated, datum_by, division, plain_by_one, by_one, by_two, instance_of, fact_of}
 use Rattle.wy_sound_certificates.specs.Sortedness.{AreSortedTerms}
 use Rattle.wy_sound_certificates.proofs.MadeLemmas.{IsInt, IsVal, IsFormula, number_sorted, at_most_sorted, equal_sorted, denial_sorted, below_sorted, both_sorted, three_sorted, four_sorted, either_sorted, one_of_three_sorted, implies_sorted, exactly_sorted, same_number_sorted, len_sorted, num_sorted, int_sorted, neg_sorted, kind_sorted, field_sorted, add_sorted, mul_sorted, div_sorted, rem_sorted, get_sorted}
 

@@ -1,12 +1,12 @@
 -- Sums of true literals' forms are at least 0.
-use Rattle.std.proofs.Common.{◌≡◌, ℕ, zero, suc, List, [], ◌∷◌, Bool, true, false, cond, eqb, ℤ, pos, negsuc, ◌+ℤ◌, ◌-ℤ◌, ◌*ℤ◌, ◌≤ℤ◌, ◌<ℤ◌, Option, Some, None, refl, sym, ap, ◌∙◌, subst, arith}
+use Rattle.std.proofs.Common.{◌≡◌, ℕ, List, [], ◌∷◌, Bool, true, false, cond, eqb, ℤ, pos, ◌+ℤ◌, ◌*ℤ◌, ◌≤ℤ◌, ◌<ℤ◌, Option, Some, None, refl, ap, ◌∙◌, subst, arith}
 use Rattle.std.proofs.lemmas.Int.{ints}
 use Rattle.std.specs.Prelude.{int_lt}
 use Rattle.std.specs.Ordering.{int_eq}
 use Rattle.std.proofs.lemmas.Bool.Decides.{Decides-int_eq}
 use Rattle.std.proofs.Math.IntN.{zero-*ℤ}
 use Rattle.wy_term.specs.Term.{Term}
-use Rattle.wy_term.specs.Meaning.{Names, sense}
+use Rattle.wy_term.specs.Meaning.{Names}
 use Rattle.wy_term.specs.Meaning as meaning
 use Rattle.wy_lin.specs.declared.arithmetic.Factor.TheVariants.{Times}
 use Rattle.wy_lin.specs.Linear.{◌>>=◌, Linear, nothing}
@@ -18,7 +18,7 @@ use Rattle.wy_lin.proofs.WorthLemmas.{worth-with, says-form_of_literal}
 use Rattle.wy_judge.specs.Node.{Literal}
 use Rattle.wy_judge.specs.Told.{AllTold}
 use Rattle.wy_valid.specs.Literals.{literal_at, formula_of}
-use Rattle.wy_valid.specs.Sums.{form_at, plus_literal, summed_from, summed, all_zero, refutes, is_refuting}
+use Rattle.wy_valid.specs.Sums.{form_at, plus_literal, summed_from, summed, all_zero, is_refuting}
 use Rattle.wy_sound_certificates.proofs.Basics.{and_both, literal_told, formula_told}
 
 at_most_is : (a b : ℤ) → meaning.at_most a b ≡ true → a ≤ℤ b

@@ -1,5 +1,5 @@
 -- What cuts and products state are formulas of sorted parts, where the literals are.
-use Rattle.std.proofs.Common.{◌≡◌, ℕ, zero, suc, List, [], ◌∷◌, Bool, true, false, cond, eqb, ◌&&◌, ℤ, pos, ◌*ℤ◌, Option, Some, None, refl, sym, ap, ◌∙◌, subst}
+use Rattle.std.proofs.Common.{◌≡◌, ℕ, List, [], ◌∷◌, Bool, true, false, cond, eqb, ◌&&◌, ℤ, pos, ◌*ℤ◌, Option, Some, None, refl, subst}
 use Rattle.std.specs.Prelude.{nat_lt}
 use Rattle.std.specs.Ordering.{int_eq}
 use Rattle.wy_term.specs.Term as term
@@ -7,14 +7,13 @@ use Rattle.wy_term.specs.Term.{Term, Of, no_parts, part, two, Number}
 use Rattle.wy_term.specs.Data.{quotient_down}
 use Rattle.wy_term.specs.Same.{same_term}
 use Rattle.wy_term.specs.Rewriting.{as_number, fitted}
-use Rattle.wy_term.specs.Sorts.{int_sort, formula_sort, sort_in}
 use Rattle.wy_sorted.specs.Sorted.{IsSorted}
 use Rattle.wy_lin.specs.declared.arithmetic.Factor.{Factor}
 use Rattle.wy_lin.specs.declared.arithmetic.Factor.TheVariants.{Times, Scale, Minus}
 use Rattle.wy_lin.specs.Linear.{◌>>=◌, more, Linear, nothing, number_form, variable_form, coefficient, with_coefficient, plus_part, plus_parts}
 use Rattle.wy_lin.specs.TermForm.{with, multiple, form_of_product, form_of, difference, excess, form_of_denial, form_of_literal}
 use Rattle.wy_lin.proofs.OptionLemmas.{bind_some, some_is}
-use Rattle.wy_facts.specs.Made.{made_two, is_at_most}
+use Rattle.wy_facts.specs.Made.{made_two}
 use Rattle.wy_judge.specs.Node.{Literal}
 use Rattle.wy_valid.specs.Literals.{literal_at, signed, formula_of}
 use Rattle.wy_valid.specs.Sums.{form_at, plus_literal, summed_from, summed, zero_term, divided, added_up, total_of, cut_bound, cut_of}

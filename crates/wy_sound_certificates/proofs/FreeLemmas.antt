@@ -1,7 +1,7 @@
 -- What a term means rests on what its free names stand for, and on the named types.
-use Rattle.std.proofs.Common.{◌≡◌, ℕ, zero, suc, List, [], ◌∷◌, ◌++◌, map, Bool, true, false, cond, eqb, not, ◌&&◌, ◌||◌, ℤ, pos, neg_ℤ, ◌+ℤ◌, ◌-ℤ◌, ◌*ℤ◌, refl, sym, ap, ◌∙◌, subst}
+use Rattle.std.proofs.Common.{◌≡◌, ℕ, zero, suc, List, [], ◌∷◌, ◌++◌, Bool, true, false, cond, eqb, not, ◌&&◌, ◌||◌, ℤ, neg_ℤ, ◌+ℤ◌, ◌-ℤ◌, ◌*ℤ◌, refl, sym, ap, ◌∙◌, subst}
 use mathlib.Core.Path.{fun_ext}
-use Rattle.std.specs.Prelude.{slice_index_or, bytes_eq}
+use Rattle.std.specs.Prelude.{bytes_eq}
 use Rattle.wy_value.specs.Datum.{Datum, Truth, Whole, Array, Record}
 use Rattle.wy_term.specs.Data as shapes
 use Rattle.wy_term.specs.Term as term

@@ -1,5 +1,5 @@
 -- A name whose number stands nowhere in a term makes no difference to it.
-use Rattle.std.proofs.Common.{◌≡◌, ℕ, zero, suc, List, [], ◌∷◌, ◌++◌, Bool, true, false, cond, eqb, ◌&&◌, ◌||◌, ℤ, refl, sym, ap, ◌∙◌}
+use Rattle.std.proofs.Common.{◌≡◌, ℕ, zero, suc, List, [], ◌∷◌, ◌++◌, Bool, true, false, cond, eqb, ◌&&◌, ℤ, refl, sym, ap, ◌∙◌}
 use Rattle.std.specs.Prelude.{bytes_eq}
 use Rattle.wy_term.specs.Term as term
 use Rattle.wy_term.specs.Term.{Symbol, Term, Of, Parts, no_parts, part, leaf, int_name}
@@ -9,7 +9,7 @@ use Rattle.wy_term.specs.Meaning.{Names, with_number, sense}
 use Rattle.wy_subst.specs.Names.{numbers_by, numbers_in, numbers_in_parts, is_in}
 use Rattle.wy_subst.proofs.NameLemmas.{is_in-append}
 use Rattle.wy_sound_certificates.proofs.Basics.{or_false}
-use Rattle.wy_sound_certificates.proofs.FreeLemmas.{SameAt, AllSame, rests_on_free_names}
+use Rattle.wy_sound_certificates.proofs.FreeLemmas.{AllSame, rests_on_free_names}
 
 and_false : (a b : Bool) → b ≡ false → (a && b) ≡ false
 and_false true b e = e

@@ -1,20 +1,19 @@
 -- No two true literals clash.
-use Rattle.std.proofs.Common.{◌≡◌, ℕ, List, [], ◌∷◌, ◌++◌, Bool, true, false, cond, not, ◌&&◌, ◌||◌, ℤ, Option, Some, None, refl, sym, ap, ◌∙◌, subst}
+use Rattle.std.proofs.Common.{◌≡◌, ℕ, List, [], ◌∷◌, ◌++◌, Bool, true, false, cond, not, ◌&&◌, ◌||◌, ℤ, Option, Some, None, refl, sym, ap, ◌∙◌}
 use Rattle.std.specs.Prelude.{bytes_eq}
 use Rattle.wy_value.specs.Datum.{Datum, Null, Truth, Whole, Array, Record, Fields, no_fields}
 use Rattle.wy_value.specs.Datum as datum
 use Rattle.wy_term.specs.Data.{same_datum, is_of_kind, has_names}
 use Rattle.wy_term.specs.Term as term
-use Rattle.wy_term.specs.Term.{DataKind, null_kind, bool_kind, int_kind, array_kind, record_kind, Term, Of, no_parts, part, equal, of_kind, one}
+use Rattle.wy_term.specs.Term.{DataKind, null_kind, bool_kind, int_kind, array_kind, record_kind, Term, Of, no_parts, part, equal, of_kind}
 use Rattle.wy_term.specs.Same.{same_kind, same_names, same_term}
 use Rattle.wy_term.specs.Meaning.{Names, sense}
 use Rattle.wy_term.specs.Rewriting.{as_number, as_whole, as_constant, kind_given, fold_kind, decided}
-use Rattle.wy_term.proofs.SameLemmas.{terms_are, kinds_are, kinds_self, bytes_are, bytes_self, names_are}
-use Rattle.wy_facts.specs.Made.{made_one}
+use Rattle.wy_term.proofs.SameLemmas.{terms_are, kinds_are, kinds_self, bytes_are}
 use Rattle.wy_facts.proofs.SenseLemmas.{datum_self, kind_means}
 use Rattle.wy_judge.specs.Node.{Literal}
 use Rattle.wy_judge.specs.Told.{IsTold, AllTold}
-use Rattle.wy_valid.specs.Kinds.{are_apart, of_two_kinds, clashes_with, clashes_alone, other_side, sides_of, equated_to, Kinded, each_of_kind, of_kind_given, given_by, kinds_given, denied_by, kinds_denied, in_two_kinds, in_one_kind, any_with, any_pair, clash_together}
+use Rattle.wy_valid.specs.Kinds.{are_apart, of_two_kinds, clashes_with, clashes_alone, sides_of, equated_to, Kinded, each_of_kind, of_kind_given, given_by, kinds_given, denied_by, kinds_denied, in_two_kinds, in_one_kind, any_with, any_pair, clash_together}
 use Rattle.wy_sound_certificates.proofs.Basics.{and_both, or_cases, two_ways, not_is_true}
 use Rattle.wy_sound_certificates.proofs.ChainLemmas.{data_are_equal}
 
@@ -50,7 +49,7 @@ constant_is names v d e = absurd cc
 
 -- ---- a datum is of one kind
 
-one_name_list : (fields : Fields) (ns ms : List (List ℕ)) → has_names fields ns ≡ true → has_names fields ms ≡ true → same_names ns ms ≡ true
+one_name_list : (fs : Fields) (ns ms : List (List ℕ)) → has_names fs ns ≡ true → has_names fs ms ≡ true → same_names ns ms ≡ true
 one_name_list no_fields [] [] e f = refl
 one_name_list no_fields [] (m ∷ ms) e f = absurd cc
 one_name_list no_fields (n ∷ ns) ms e f = absurd cc
@@ -68,8 +67,8 @@ one_kind : (d : Datum) (k l : DataKind) → is_of_kind k d ≡ true → is_of_ki
 one_kind Null null_kind null_kind e f = refl
 one_kind (Truth b) bool_kind bool_kind e f = refl
 one_kind (Whole z) int_kind int_kind e f = refl
-one_kind (Array items) array_kind array_kind e f = refl
-one_kind (Record fields) (record_kind ns) (record_kind ms) e f = one_name_list fields ns ms e f
+one_kind (Array ds) array_kind array_kind e f = refl
+one_kind (Record fs) (record_kind ns) (record_kind ms) e f = one_name_list fs ns ms e f
 one_kind d k l e f = absurd cc
 
 -- ---- one literal

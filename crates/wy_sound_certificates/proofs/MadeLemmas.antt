@@ -1,8 +1,8 @@
 -- Made terms and formulas are of their sorts.
-use Rattle.std.proofs.Common.{◌≡◌, ℕ, List, [], ◌∷◌, Bool, true, false, ℤ, pos, Option, Some, None, refl, sym, ap, ◌∙◌}
+use Rattle.std.proofs.Common.{ℕ, List, ℤ, refl}
 use Rattle.wy_term.specs.Term as term
-use Rattle.wy_term.specs.Term.{DataKind, Symbol, Term, Of, no_parts, part, leaf, one, two, Number}
-use Rattle.wy_term.specs.Sorts.{int_sort, val_sort, formula_sort, sort_in}
+use Rattle.wy_term.specs.Term.{DataKind, Term, Of, no_parts, part, one, two, Number}
+use Rattle.wy_term.specs.Sorts.{int_sort, val_sort, formula_sort}
 use Rattle.wy_kept_sorts.specs.SortKept.{HasSort}
 use Rattle.wy_kept_sorts.proofs.SortLemmas.{folded_sorted}
 use Rattle.wy_facts.specs.Made.{made_one, made_two, is_at_most, is_equal, denial, is_below, both, all_three, all_four, either, one_of_three, implies, exactly_where, same_number}

@@ -1,15 +1,14 @@
 -- What `in` of a listed type is, is true, and a new name of numbers makes no difference to the types.
-use Rattle.std.proofs.Common.{◌≡◌, ℕ, List, [], ◌∷◌, Bool, true, false, cond, eqb, ◌&&◌, ℤ, Option, Some, None, refl, sym, ap, ◌∙◌, subst}
+use Rattle.std.proofs.Common.{◌≡◌, ℕ, List, [], ◌∷◌, Bool, true, false, cond, eqb, ◌&&◌, ℤ, Some, refl, sym, ap, ◌∙◌, subst}
 use Rattle.std.proofs.lemmas.Bool.{eqb-true}
 use Rattle.std.specs.Prelude.{bytes_eq}
 use Rattle.wy_value.specs.Datum.{Datum}
-use Rattle.wy_term.specs.Term.{Term, Of, Parts, no_parts, part, leaf, one, val_name, in_type}
+use Rattle.wy_term.specs.Term.{Term, Of, no_parts, part, leaf, one, val_name, in_type}
 use Rattle.wy_term.specs.Scope.{free_names}
-use Rattle.wy_term.specs.Sorts.{val_sort, formula_sort, sort_in}
+use Rattle.wy_term.specs.Sorts.{val_sort, formula_sort}
 use Rattle.wy_term.specs.Meaning.{Names, with_number, with_datum, Sense, sense}
 use Rattle.wy_term.specs.Condition.{Entry, with_value, says, AreUnfolded}
 use Rattle.wy_term.specs.Unfolding.{AreAll, IsClosed, AreClosed}
-use Rattle.wy_lin.specs.Linear.{◌>>=◌}
 use Rattle.wy_lin.proofs.OptionLemmas.{bind_some, some_is}
 use Rattle.wy_facts.specs.Made.{implies, exactly_where}
 use Rattle.wy_facts.proofs.SenseLemmas.{both_hold, implies_holds}

@@ -1,15 +1,14 @@
 -- A node of sorted formulas stays one with a sorted formula more.
-use Rattle.std.proofs.Common.{◌≡◌, ℕ, zero, suc, ◌-◌, List, [], ◌∷◌, ◌++◌, Bool, true, false, cond, eqb, Option, Some, None, refl, sym, subst}
+use Rattle.std.proofs.Common.{◌≡◌, ℕ, zero, suc, ◌-◌, List, [], ◌∷◌, ◌++◌, Bool, true, false, cond, eqb, Some, None, refl, subst}
 use Rattle.std.specs.Prelude.{slice_get}
 use Rattle.wy_term.specs.Term as term
 use Rattle.wy_term.specs.Term.{Term, Of, Parts, no_parts, part, Not}
 use Rattle.wy_term.specs.Sorts.{formula_sort}
 use Rattle.wy_term.specs.Meaning.{Names}
 use Rattle.wy_term.specs.Condition.{Condition, AllTrue}
-use Rattle.wy_sorted.specs.Sorted.{each, IsSorted, AreSorted}
-use Rattle.wy_kept_sorts.specs.SortKept.{HasSort}
+use Rattle.wy_sorted.specs.Sorted.{each, AreSorted}
 use Rattle.wy_judge.specs.Node.{Literal, has_literal, has_formula, Node, bare, with_literal, with_pending, is_atom, with_atom, added, added_denial, denied_one, added_all, denied_all, with_formulas, first_node}
-use Rattle.wy_judge.specs.Told.{IsTrueNode, AddsTruly}
+use Rattle.wy_judge.specs.Told.{IsTrueNode}
 use Rattle.wy_judge.proofs.TruthLemmas.{adds_truly}
 use Rattle.wy_valid.specs.Literals.{literal_at}
 use Rattle.wy_sound_certificates.specs.Sortedness.{AreFormulas, IsSortedCondition}

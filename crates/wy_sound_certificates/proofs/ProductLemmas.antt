@@ -1,26 +1,24 @@
 -- The product of two forms that are at least 0 is at least 0.
-use Rattle.std.proofs.Common.{◌≡◌, ℕ, zero, suc, List, [], ◌∷◌, Bool, true, false, cond, ◌&&◌, not, ℤ, pos, negsuc, ◌+ℤ◌, ◌-ℤ◌, ◌*ℤ◌, ◌≤ℤ◌, ◌<ℤ◌, neg_ℤ, Option, Some, None, refl, sym, ap, ◌∙◌, subst, arith}
+use Rattle.std.proofs.Common.{◌≡◌, ℕ, List, [], true, ℤ, pos, negsuc, ◌+ℤ◌, ◌-ℤ◌, ◌*ℤ◌, ◌≤ℤ◌, Option, Some, None, refl, sym, ap, ◌∙◌, subst, arith}
 use Rattle.std.proofs.lemmas.Int.{ints}
-use Rattle.std.specs.Ordering.{int_eq}
 use Rattle.std.proofs.Math.IntN.{*ℤ-zero, *ℤ_comm}
 use Rattle.wy_term.specs.Term.{Term, Of, no_parts, part, Number, add, mul}
-use Rattle.wy_term.specs.Data.{quotient}
 use Rattle.wy_term.specs.Same.{same_term}
 use Rattle.wy_term.specs.Meaning.{Names, sense}
 use Rattle.wy_term.specs.Rewriting.{fitted}
-use Rattle.wy_lin.specs.declared.arithmetic.Factor.TheVariants.{Times, Scale, Minus}
-use Rattle.wy_lin.specs.Linear.{◌>>=◌, more, Linear, nothing, coefficient, plus_parts}
+use Rattle.wy_lin.specs.declared.arithmetic.Factor.TheVariants.{Scale, Minus}
+use Rattle.wy_lin.specs.Linear.{◌>>=◌, more, Linear, coefficient, plus_parts}
 use Rattle.wy_lin.specs.TermForm.{with, multiple, form_of}
 use Rattle.wy_lin.specs.Worth.{worth_of_parts, worth, number_of}
 use Rattle.wy_lin.proofs.OptionLemmas.{bind_some, some_is, fitted_is}
 use Rattle.wy_lin.proofs.Ring.{distrib_left, distrib_right, times_assoc, times_pos}
 use Rattle.wy_lin.proofs.WorthLemmas.{worth-with, worth-multiple, worth-form_of}
-use Rattle.wy_facts.specs.Made.{made_two, is_at_most}
+use Rattle.wy_facts.specs.Made.{made_two}
 use Rattle.wy_facts.proofs.SenseLemmas.{at_most_holds}
 use Rattle.wy_judge.specs.Node.{Literal}
 use Rattle.wy_judge.specs.Told.{AllTold}
 use Rattle.wy_valid.specs.Literals.{only_if}
-use Rattle.wy_valid.specs.Sums.{form_at, all_zero, zero_term}
+use Rattle.wy_valid.specs.Sums.{form_at, zero_term}
 use Rattle.wy_valid.specs.Products.{leading, ratio, varying, vanishes, is_multiple, Affine, affine, as_product, product_bound, product_of, product_stated}
 use Rattle.wy_sound_certificates.proofs.Basics.{only_some}
 use Rattle.wy_sound_certificates.proofs.FormLemmas.{form_natural, worth_of_zeros}

@@ -1,16 +1,14 @@
 -- What a formula means in which a term is put for an Int name or a Val name.
-use Rattle.std.proofs.Common.{◌≡◌, ℕ, List, [], ◌∷◌, Bool, true, false, cond, eqb, ◌&&◌, ℤ, Option, Some, None, refl, sym, ap, ◌∙◌, subst}
+use Rattle.std.proofs.Common.{◌≡◌, ℕ, List, [], ◌∷◌, Bool, true, false, cond, eqb, ◌&&◌, Some, None, refl, ap, ◌∙◌, subst}
 use Rattle.std.proofs.lemmas.Bool.{eqb-true}
 use Rattle.std.specs.Prelude.{bytes_eq}
-use Rattle.wy_value.specs.Datum.{Datum}
 use Rattle.wy_term.specs.Term.{Term, Of, leaf, int_name, val_name}
 use Rattle.wy_term.specs.Same.{same_term}
 use Rattle.wy_term.specs.Scope.{free_names}
 use Rattle.wy_term.specs.Sorts.{Sort, int_sort, val_sort, formula_sort, sort_in, Agree}
 use Rattle.wy_term.specs.Meaning.{Names, with_number, with_datum, Sense, sense}
-use Rattle.wy_term.specs.Folding.{found, found_or}
+use Rattle.wy_term.specs.Folding.{found_or}
 use Rattle.wy_term.proofs.SameLemmas.{bytes_are, bytes_self, eqb_self, both}
-use Rattle.wy_sorted.specs.Sorted.{IsSorted}
 use Rattle.wy_sorted.proofs.SortedLemmas.{under, same_bools, name_test}
 use Rattle.wy_kept_sorts.specs.SortKept.{HasSort}
 use Rattle.wy_subst.specs.Substitution.{substituted}

@@ -1,9 +1,9 @@
 -- Instances and witnesses of true literals are true.
-use Rattle.std.proofs.Common.{◌≡◌, ℕ, zero, suc, List, [], ◌∷◌, ◌++◌, Bool, true, false, cond, not, ◌&&◌, ◌||◌, ℤ, pos, negsuc, ◌+ℤ◌, ◌-ℤ◌, ◌≤ℤ◌, ◌<ℤ◌, Option, Some, None, refl, sym, ap, ◌∙◌, subst, arith}
+use Rattle.std.proofs.Common.{◌≡◌, ℕ, zero, suc, List, [], ◌∷◌, ◌++◌, Bool, true, false, cond, ◌&&◌, ◌||◌, ℤ, pos, negsuc, ◌+ℤ◌, ◌-ℤ◌, ◌≤ℤ◌, ◌<ℤ◌, Some, refl, sym, ap, ◌∙◌, subst, arith}
 use Rattle.std.proofs.lemmas.Int.{ints}
 use Rattle.std.specs.Prelude.{int_lt}
 use Rattle.wy_term.specs.Term.{Term, Of, no_parts, part, leaf, int_name, every, exists}
-use Rattle.wy_term.specs.Sorts.{int_sort, formula_sort, sort_in}
+use Rattle.wy_term.specs.Sorts.{int_sort, formula_sort}
 use Rattle.wy_term.specs.Scope.{free_names}
 use Rattle.wy_term.specs.Meaning.{Names, with_number, Sense, sense, distance, each_from, any_from}
 use Rattle.wy_term.specs.Condition.{AllTrue}
@@ -14,9 +14,9 @@ use Rattle.wy_subst.specs.Names.{numbers_in, is_in}
 use Rattle.wy_subst.specs.Substitution.{substituted}
 use Rattle.wy_sorted.specs.Sorted.{IsSorted}
 use Rattle.wy_kept_sorts.specs.SortKept.{HasSort}
-use Rattle.wy_valid.specs.Ranges.{Range, as_every, as_exists, said, body_at, instance_at, witnessed_at}
+use Rattle.wy_valid.specs.Ranges.{Range, as_every, as_exists, instance_at, witnessed_at}
 use Rattle.wy_sound_certificates.proofs.Basics.{and_both, or_false}
-use Rattle.wy_sound_certificates.proofs.FreeLemmas.{AllSame, SameAt, both_numbered, own_number, rests_on_free_names}
+use Rattle.wy_sound_certificates.proofs.FreeLemmas.{AllSame, both_numbered, own_number, rests_on_free_names}
 use Rattle.wy_sound_certificates.proofs.FreshLemmas.{apart_in, free_same, fresh_sense}
 use Rattle.wy_sound_certificates.proofs.PutLemmas.{truth_at_number}
 

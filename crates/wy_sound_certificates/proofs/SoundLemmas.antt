@@ -1,16 +1,16 @@
 -- A condition with a valid certificate is true.
 use Rattle.std.proofs.Common.{◌≡◌, ℕ, ◌+◌, List, [], ◌∷◌, ◌++◌, Bool, true, false, Option, Some, None, refl}
-use Rattle.wy_term.specs.Meaning.{Names, sense}
-use Rattle.wy_term.specs.Condition.{Entry, Condition, AllTrue, AreUnfolded}
+use Rattle.wy_term.specs.Meaning.{sense}
+use Rattle.wy_term.specs.Condition.{Entry}
 use Rattle.wy_term.specs.Unfolding.{AreClosed}
 use Rattle.wy_judge.specs.Node.{Node, first_node}
 use Rattle.wy_judge.proofs.TruthLemmas.{begins_truly}
 use Rattle.wy_cert.specs.Steps.{Written}
-use Rattle.wy_valid.specs.Validity.{after, or_bad, first_bad_by, first_bad, IsValid}
-use Rattle.wy_sound_certificates.specs.Sortedness.{AreSortedEntries, IsSortedCondition, AreSortedSteps}
+use Rattle.wy_valid.specs.Validity.{after, or_bad, first_bad_by}
+use Rattle.wy_sound_certificates.specs.Sortedness.{AreSortedEntries, AreSortedSteps}
 use Rattle.wy_sound_certificates.specs.Soundness.{ValidImpliesTrue}
 use Rattle.wy_sound_certificates.proofs.NodeLemmas.{AreSortedNodes, first_sorted}
-use Rattle.wy_sound_certificates.proofs.StepLemmas.{IsFalse, AllFalse, Leads, step_leads}
+use Rattle.wy_sound_certificates.proofs.StepLemmas.{AllFalse, step_leads}
 
 front_false : (types : List Entry) (ns ms : List Node) → AllFalse types (ns ++ ms) → AllFalse types ns
 front_false types [] ms f = tt

@@ -1,12 +1,11 @@
 -- Each step leads on soundly: where the nodes to which it leads can't be true, neither can the node that it stands at.
-use Rattle.std.proofs.Common.{◌≡◌, ℕ, zero, suc, ◌-◌, List, [], ◌∷◌, ◌++◌, Bool, true, false, cond, eqb, not, ◌&&◌, ◌||◌, ℤ, Option, Some, None, refl, sym, ap, ◌∙◌, subst}
+use Rattle.std.proofs.Common.{◌≡◌, ℕ, zero, suc, ◌-◌, List, [], ◌∷◌, Bool, true, false, cond, eqb, not, ℤ, Option, Some, None, refl, sym, ap, ◌∙◌, subst}
 use Rattle.std.specs.Prelude.{slice_get}
-use Rattle.wy_term.specs.Term as term
-use Rattle.wy_term.specs.Term.{Term, Of, Parts, no_parts, part, leaf, one, int_name, val_name, in_type, every, exists}
+use Rattle.wy_term.specs.Term.{Term, Of, no_parts, part, leaf, one, int_name, in_type, every, exists}
 use Rattle.wy_term.specs.Sorts.{Sort, int_sort, val_sort, formula_sort, sort_in}
 use Rattle.wy_term.specs.Meaning.{Names, with_number, Sense, sense}
 use Rattle.wy_term.specs.Condition.{Entry, AllTrue, AreUnfolded}
-use Rattle.wy_term.specs.Unfolding.{AreClosed, IsClosed}
+use Rattle.wy_term.specs.Unfolding.{AreClosed}
 use Rattle.wy_sorted.specs.Sorted.{IsSorted}
 use Rattle.wy_kept_sorts.specs.SortKept.{HasSort}
 use Rattle.wy_kept_sorts.proofs.SortLemmas.{substituted_sorted}
@@ -22,7 +21,7 @@ use Rattle.wy_judge.specs.declared.verdict.Verdict.{Verdict}
 use Rattle.wy_judge.specs.declared.verdict.Verdict.TheVariants.{Yes, No, Open}
 use Rattle.wy_judge.specs.Node.{Literal, has_literal, Node, added, denied_one, with_formulas}
 use Rattle.wy_judge.specs.Judgement.{judged}
-use Rattle.wy_judge.specs.Told.{IsTold, AllTold, IsTrueNode}
+use Rattle.wy_judge.specs.Told.{AllTold, IsTrueNode}
 use Rattle.wy_judge.proofs.TruthLemmas.{judges_truly, adds_truly}
 use Rattle.wy_cert.specs.Steps.{Written, split, shut, chain, clash, sum_of, cut, inst, wit, fact, prod}
 use Rattle.wy_valid.specs.Literals.{only_if, literal_at, stands_both_ways, is_no, any_no, is_shut, is_chain, last_of}
@@ -40,11 +39,11 @@ use Rattle.wy_sound_certificates.proofs.ProductLemmas.{product_holds}
 use Rattle.wy_sound_certificates.proofs.ChainLemmas.{ends_sorts, chain_holds}
 use Rattle.wy_sound_certificates.proofs.KindLemmas.{clash_alone_never, clash_together_never}
 use Rattle.wy_sound_certificates.proofs.FreshLemmas.{apart_in, fresh_sense}
-use Rattle.wy_sound_certificates.proofs.RangeLemmas.{instance_holds, Witnessed, witness_holds}
+use Rattle.wy_sound_certificates.proofs.RangeLemmas.{instance_holds, witness_holds}
 use Rattle.wy_sound_certificates.proofs.MemberLemmas.{types_stay, membership_holds, entry_sorted}
 use Rattle.wy_sound_certificates.proofs.MadeLemmas.{IsInt, IsFormula, at_most_sorted, equal_sorted, denial_sorted, one_of_three_sorted, exactly_sorted}
 use Rattle.wy_sound_certificates.proofs.FactLemmas.{fact_sorted}
-use Rattle.wy_sound_certificates.proofs.NodeLemmas.{AreSortedLiterals, IsSortedNode, AreSortedNodes, added_sorted, denied_sorted, formulas_sorted, formulas_true, literal_is_sorted}
+use Rattle.wy_sound_certificates.proofs.NodeLemmas.{IsSortedNode, AreSortedNodes, added_sorted, denied_sorted, formulas_sorted, formulas_true, literal_is_sorted}
 use Rattle.wy_sound_certificates.proofs.FormSortLemmas.{cut_sorted, product_sorted}
 
 -- ---- what a step leads to

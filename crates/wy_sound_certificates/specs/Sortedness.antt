@@ -1,5 +1,5 @@
 -- Conditions and certificates whose terms are of the sorts that their places want.
-use Rattle.std.specs.Prelude.{ℕ, List, [], ◌∷◌, Option}
+use Rattle.std.specs.Prelude.{List, [], ◌∷◌}
 use Rattle.wy_term.specs.Term.{Term}
 use Rattle.wy_term.specs.Sorts.{formula_sort}
 use Rattle.wy_term.specs.Condition.{Entry, Condition}

@@ -1,2 +1,3 @@
 pub mod PlainLemmas
 pub mod ExamplesHold
+pub mod TreeLemmas

@@ -1,9 +1,9 @@
 -- Without products, validity is as if there were none.
-use Rattle.std.proofs.Common.{◌≡◌, ℕ, ◌+◌, List, [], ◌∷◌, ◌++◌, Bool, true, false, ◌&&◌, Option, Some, None, refl, sym, ap, ◌∙◌}
-use Rattle.wy_term.specs.Condition.{Entry, Condition}
+use Rattle.std.proofs.Common.{◌≡◌, ℕ, ◌+◌, List, [], ◌∷◌, ◌++◌, Bool, true, false, ◌&&◌, Option, Some, None, refl, ap, ◌∙◌}
+use Rattle.wy_term.specs.Condition.{Entry}
 use Rattle.wy_judge.specs.Node.{Node, first_node}
-use Rattle.wy_cert.specs.Steps.{Written, split, shut, chain, clash, sum_of, cut, inst, wit, fact, prod}
-use Rattle.wy_valid.specs.Validity.{after_plain, after, or_bad, first_bad_by, first_bad, first_bad_plain}
+use Rattle.wy_cert.specs.Steps.{Written, prod}
+use Rattle.wy_valid.specs.Validity.{after_plain, after, or_bad, first_bad_by}
 use Rattle.wy_valid.specs.Plain.{is_plain, are_plain, PlainIsUnchanged}
 
 and_both : (a b : Bool) → (a && b) ≡ true → (a ≡ true) × (b ≡ true)

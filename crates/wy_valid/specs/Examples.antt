@@ -1,8 +1,8 @@
 -- Small certificates: one that is valid and one that isn't for each kind of step.
-use Rattle.std.specs.Prelude.{◌≡◌, ℕ, List, [], ◌∷◌, pos, negsuc, Option, Some, None}
+use Rattle.std.specs.Prelude.{◌≡◌, List, [], ◌∷◌, pos, Some, None}
 use Rattle.wy_term.specs.Term.{Term, Of, no_parts, part, leaf, one, two, Number, AtMost, Not, Num, OfKind, val_name, int_name, null_kind, int_kind, mul, len, null, int, equal, in_type, every, any_of}
-use Rattle.wy_term.specs.Condition.{Entry, Condition}
-use Rattle.wy_cert.specs.Steps.{Written, split, shut, chain, clash, sum_of, cut, inst, wit, fact, prod}
+use Rattle.wy_term.specs.Condition.{Condition}
+use Rattle.wy_cert.specs.Steps.{split, shut, chain, clash, sum_of, cut, inst, wit, fact, prod}
 use Rattle.wy_valid.specs.Validity.{first_bad}
 
 -- ---- names and formulas

@@ -8,3 +8,4 @@ pub mod Membership
 pub mod Validity
 pub mod Plain
 pub mod Examples
+pub mod Trees

@@ -1,8 +1,8 @@
 -- Literals by their numbers, which terms they join, and which formula a step adds.
-use Rattle.std.specs.Prelude.{ℕ, ◌-◌, ◌==◌, List, [], ◌∷◌, Bool, true, false, ◌&&◌, ◌||◌, not, if◌then◌else◌, Option, Some, None, slice_get}
+use Rattle.std.specs.Prelude.{ℕ, ◌-◌, ◌==◌, List, [], ◌∷◌, Bool, true, false, ◌&&◌, ◌||◌, not, if◌then◌else◌, Option, None, slice_get}
 use Rattle.wy_term.specs.Term.{Term, Of, Parts, no_parts, part, two, Not, at_most, equal}
 use Rattle.wy_term.specs.Same.{same_symbol, same_term}
-use Rattle.wy_term.specs.Sorts.{Sort, int_sort, val_sort, formula_sort, sort_in}
+use Rattle.wy_term.specs.Sorts.{Sort, int_sort, val_sort, sort_in}
 use Rattle.wy_judge.specs.Node.{Literal, has_literal, Node}
 use Rattle.wy_judge.specs.declared.verdict.Verdict.{Verdict}
 use Rattle.wy_judge.specs.declared.verdict.Verdict.TheVariants.{Yes, No, Open}

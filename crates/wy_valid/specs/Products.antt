@@ -1,5 +1,5 @@
 -- What the product of two bounds states.
-use Rattle.std.specs.Prelude.{ℕ, List, [], ◌∷◌, Bool, true, false, ◌&&◌, not, if◌then◌else◌, ℤ, pos, ◌-ℤ◌, ◌*ℤ◌, Option, Some, None}
+use Rattle.std.specs.Prelude.{ℕ, List, [], ◌∷◌, Bool, false, ◌&&◌, not, if◌then◌else◌, ℤ, pos, ◌-ℤ◌, ◌*ℤ◌, Option, Some, None}
 use Rattle.std.specs.Ordering.{int_eq}
 use Rattle.wy_term.specs.Term.{Term, Of, no_parts, part, Number, add, mul}
 use Rattle.wy_term.specs.Data.{quotient}

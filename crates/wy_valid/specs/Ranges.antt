@@ -1,6 +1,6 @@
 -- What a quantifier states of one number, and which names a node has.
 use Rattle.std.specs.Prelude.{ℕ, ◌==◌, List, [], ◌∷◌, ◌++◌, Bool, true, false, ◌&&◌, ◌||◌, not, bytes_eq, if◌then◌else◌, Option, Some, None}
-use Rattle.wy_term.specs.Term.{Symbol, Term, Of, Parts, no_parts, part, leaf, int_name, every, exists}
+use Rattle.wy_term.specs.Term.{Symbol, Term, Of, no_parts, part, leaf, int_name, every, exists}
 use Rattle.wy_term.specs.Sorts.{Sort, int_sort, val_sort, formula_sort, sort_in}
 use Rattle.wy_term.specs.Scope.{free_names}
 use Rattle.wy_lin.specs.Linear.{◌>>=◌}

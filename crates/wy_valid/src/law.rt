@@ -1,6 +1,13 @@
 //! What is true of validity.
-ghost use Rattle.wy_valid.specs.Plain.{PlainIsUnchanged};
 ghost use Rattle.wy_valid.specs.Examples.{SmallCertificates};
+ghost use Rattle.wy_valid.specs.Plain.{PlainIsUnchanged};
+ghost use Rattle.wy_valid.specs.Trees.{ValidIsATree};
+
+/// A certificate is valid exactly where its steps are those of a tree, in prefix order, in which each step is valid at its
+/// node and has a tree below it for each node to which it leads.
+pub fn valid_certificates_are_trees()
+    ensures trees { ValidIsATree }
+{}
 
 /// A certificate without products is valid, or has its first bad step, exactly as if there were no products.
 pub fn plain_certificates_are_unchanged()

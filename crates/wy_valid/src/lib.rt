@@ -6,4 +6,6 @@
 
 mod law;
 
-pub use law::{plain_certificates_are_unchanged, small_certificates_are_judged};
+pub use law::{
+    plain_certificates_are_unchanged, small_certificates_are_judged, valid_certificates_are_trees,
+};

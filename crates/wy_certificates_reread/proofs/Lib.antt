@@ -1,0 +1,5 @@
+pub mod NeatLemmas
+pub mod TextLemmas
+pub mod CutLemmas
+pub mod StepLemmas
+pub mod FileLemmas
