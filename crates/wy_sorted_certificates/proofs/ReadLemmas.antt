@@ -25,14 +25,13 @@ argument_sorted false text t h = term_sorted text t h
 argument_sorted true text t (inl h) = term_sorted text t h
 argument_sorted true text t (inr h) = (spelled_sorted formula_sort text t h.1).0
 
-mutual
-  arguments_sorted : (formulas : Bool) (text : List ℕ) (ts : List Term) → AreArguments formulas text ts → AreSortedTerms ts
-  arguments_sorted formulas text [] h = absurd h
-  arguments_sorted formulas text (t ∷ ts) h = (argument_sorted formulas h.0 t h.3, followed_sorted formulas h.1 ts h.4)
+followed_sorted : (formulas : Bool) (more : Option (List ℕ)) (ts : List Term) → ((rest : List ℕ) → AreArguments formulas rest ts → AreSortedTerms ts) → FollowBy (λ rest. AreArguments formulas rest ts) more ts → AreSortedTerms ts
+followed_sorted formulas None ts later h = subst AreSortedTerms (sym h) tt
+followed_sorted formulas (Some rest) ts later h = later rest h
 
-  followed_sorted : (formulas : Bool) (more : Option (List ℕ)) (ts : List Term) → FollowBy (λ rest. AreArguments formulas rest ts) more ts → AreSortedTerms ts
-  followed_sorted formulas None ts h = subst AreSortedTerms (sym h) tt
-  followed_sorted formulas (Some rest) ts h = arguments_sorted formulas rest ts h
+arguments_sorted : (formulas : Bool) (text : List ℕ) (ts : List Term) → AreArguments formulas text ts → AreSortedTerms ts
+arguments_sorted formulas text [] h = absurd h
+arguments_sorted formulas text (t ∷ ts) h = (argument_sorted formulas h.0 t h.3, followed_sorted formulas h.1 ts (λ rest g. arguments_sorted formulas rest ts g) h.4)
 
 -- ---- steps
 
