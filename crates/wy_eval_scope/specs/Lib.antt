@@ -1,0 +1,2 @@
+-- what an expression sees
+pub mod Scopes

@@ -1,0 +1,44 @@
+//! The types that clauses go by.
+ghost use Rattle.std.specs.Prelude.{◌≡◌, IfOk, map};
+ghost use Rattle.wy_core.specs.CoreSeen.{seen_alias, seen_core, seen_decl};
+ghost use Rattle.wy_core.specs.CoreTree.{aliases_of};
+
+use std::alloc::{AllocError, Global};
+use wy_core::{Alias, Core, Decl};
+use wy_items::Items;
+
+/// How deeply evaluations and visits may nest in contracts. An expression that the parser takes nests
+/// at most 400 deep, and a value of an evaluation with 2,000 ticks at most 2,100, so there is room for
+/// a value of any depth under a type whose clauses test types, forty deep in one another.
+pub const ROOM: u32 = 20000;
+
+/// The declared types of a program, by their numbers, and how many turns contracts may spend.
+#[derive(Drop)]
+pub struct Declared {
+    pub types: Items<Alias>,
+    pub limit: u64,
+}
+
+impl Declared {
+    /// The types of a program, copied: in time linear in their declarations.
+    pub fn of(alloc: Global, core: &Core, limit: u64) -> Result<Declared, AllocError>
+        ensures types { IfOk result (λ made. map seen_alias made.types ≡ aliases_of (seen_core core.now)) }
+        ensures limit { IfOk result (λ made. made.limit ≡ limit) }
+    {
+        let types = types_of(alloc, core.decls.as_slice())?;
+        Ok(Declared { types, limit })
+    }
+}
+
+fn types_of(alloc: Global, decls: &[Decl]) -> Result<Items<Alias>, AllocError>
+    ensures value { IfOk result (λ made. map seen_alias made ≡ aliases_of (map seen_decl decls.now)) }
+{
+    let mut made = Items::new(alloc);
+    for decl in decls {
+        match decl {
+            Decl::Alias(alias) => made.push(alias.copy(alloc)?)?,
+            Decl::Routine(_) => {}
+        }
+    }
+    Ok(made)
+}
