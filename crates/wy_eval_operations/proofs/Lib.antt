@@ -5,3 +5,5 @@ mod SameLemmas
 mod PartLemmas
 -- numbers
 mod NumberLemmas
+-- indices and lengths
+mod IndexLemmas

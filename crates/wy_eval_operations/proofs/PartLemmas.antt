@@ -32,7 +32,7 @@ place_goes_on fs i f name within is other =
     let rest = drop (i + 1) fs in
     let whole : drop i fs ≡ f ∷ rest = drop_more fs i f within ∙ ap (λ y. y ∷ rest) (sym is) in
     ap (λ l. behind i (place_in (parts_of l) name)) whole
-        ∙ (ap (λ b. behind i (cond b (Some 0) (one_more (place_in (parts_of rest) name)))) (ap (λ (x : Entry). bytes_eq x.0 name) is ∙ sym other) ∙ behind_one i (place_in (parts_of rest) name))
+    ∙ (ap (λ b. behind i (cond b (Some 0) (one_more (place_in (parts_of rest) name)))) (ap (λ (x : Entry). bytes_eq x.0 name) is ∙ sym other) ∙ behind_one i (place_in (parts_of rest) name))
 
 -- the name of the next field is this one
 pub place_is_here : (fs : List Entry) (i : ℕ) (f : Entry) (name : List ℕ) → i < length fs → f ≡ get_or fs i f → true ≡ bytes_eq (get_or fs i f).0 name

@@ -8,6 +8,7 @@ use Rattle.wy_term.specs.declared.cond.CondKind.TheVariants.{Index, Length}
 use Rattle.wy_eval_operations.specs.declared.updates.Slot.{Slot}
 use Rattle.wy_eval_operations.specs.declared.updates.Slot.TheVariants as slot
 use Rattle.wy_eval_operations.specs.declared.stop.Stop.{Stop}
+use Rattle.wy_eval_operations.specs.declared.stop.Stop.TheVariants as stop
 use Rattle.wy_eval_operations.specs.Outcomes.{stopped}
 
 -- the part that the code names

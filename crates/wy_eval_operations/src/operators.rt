@@ -33,7 +33,6 @@ pub fn denied(at: u32, value: &Value) -> Result<Value, Stop>
 }
 
 /// The length of the operand.
-#[tactic(auto, using(crate::proofs::OperandLemmas::length_items))]
 pub fn length(at: u32, value: &Value) -> Result<Value, Stop>
     ensures value { (m : sem.Meter) → Gives seen (spec.length_result at (seen value.now) m) result m }
 {

@@ -8,9 +8,10 @@ use wy_core::{Alias, Core, Decl};
 use wy_items::Items;
 
 /// How deeply evaluations and visits may nest in contracts. An expression that the parser takes nests
-/// at most 400 deep, and a value of an evaluation with 2,000 ticks at most 2,100, so there is room for
-/// a value of any depth under a type whose clauses test types, forty deep in one another.
-pub const ROOM: u32 = 20000;
+/// at most 400 deep. A program that begins with a value of 100 levels deepens it by a level in four
+/// ticks at best, so 2,000 ticks make at most 600 levels; a recursive type is visited in at most four
+/// nested visits for each of them.
+pub const ROOM: u32 = 4096;
 
 /// The declared types of a program, by their numbers, and how many turns contracts may spend.
 #[derive(Drop)]

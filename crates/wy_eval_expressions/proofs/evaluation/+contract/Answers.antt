@@ -7,7 +7,8 @@ use Rattle.wy_value.specs.Datum as datum
 use Rattle.wy_value.specs.declared.value.Value.TheVariants as value
 use Rattle.wy_value.specs.Seen.{seen}
 use Rattle.wy_value.proofs.SeenLemmas.{seen_null, seen_bool, seen_int}
-use Rattle.wy_sem.specs.Meter.{Done, ◌>>=◌, choose}
+use Rattle.wy_sem.specs.Meter.{Done, Fault, ◌>>=◌, choose}
+use Rattle.wy_term.specs.declared.cond.CondKind.TheVariants.{Member}
 use Rattle.wy_sem.specs.Expressions as spec
 use Rattle.wy_sem.specs.Expressions.{eval, slot}
 use Rattle.wy_sem.specs.TypeTests as tests
@@ -15,12 +16,12 @@ use Rattle.wy_sem.specs.Operations as operations
 use Rattle.wy_sem.specs.Operations.{needed}
 use Rattle.wy_eval_operations.specs.declared.stop.Stop.TheVariants as stop
 use Rattle.wy_eval_operations.specs.Operands.{parts_of}
-use Rattle.wy_eval_operations.specs.Outcomes.{itself, meter_of}
+use Rattle.wy_eval_operations.specs.Outcomes.{itself, meter_of, stopped}
 use Rattle.wy_eval_scope.specs.Scopes.{scope, store_of}
 use Rattle.wy_eval_expressions.specs.Settings.{asked_by, data_in, items_by, named_by, parts_by, questions, setting, tests_at, turns_of}
 use Rattle.wy_eval_expressions.proofs.KindLemmas.{null_of, bool_of, int_of, var_of, call_of, neg_of, not_of, len_of, binary_of, is_of, index_of, field_of, list_of, repeat_of, record_of, quant_of, ty_null_of, ty_bool_of, ty_int_of, ty_any_of, ty_void_of, ty_record_of, ty_array_of, ty_union_of, ty_inter_of, ty_not_of, ty_named_of}
-use Rattle.wy_eval_expressions.proofs.StepLemmas.{spent, refused, then_gives, then_is, then_stops, after_spend, as_kind, eval_stops, array_is, record_is, no_memory, turned, after_turn, asked_stops, as_ty}
-use Rattle.wy_eval_expressions.proofs.TurnLemmas.{values_begin, values_turn, values_refused, values_end, fields_begin, fields_turn, fields_refused, fields_end}
+use Rattle.wy_eval_expressions.proofs.StepLemmas.{gives_as, spent, refused, then_gives, then_is, then_stops, after_spend, as_kind, eval_stops, array_is, record_is, no_memory, turned, after_turn, asked_stops, as_ty}
+use Rattle.wy_eval_expressions.proofs.TurnLemmas.{values_begin, values_turn, values_refused, values_end, fields_begin, fields_turn, fields_refused, fields_end, hold_turn, hold_false, hold_refused, hold_faults, hold_end}
 use Rattle.wy_eval_expressions.proofs.evaluation.+contract.Goals as goal
 
 pub value_of-returns-in-Null : goal.value_of-returns-in-Null
@@ -809,3 +810,76 @@ asked-returns-in_ok-is-in-Not t c =
     record { value = as_ty Q B D X (ty.NotTy (seen_ty c.get-operand.result.now)) M0 (Ok (not c.in_ok-is-in-Not.is-1)) (meter_of c.asked-in-Not.new.meter) (ty_not_of E c.in-Not.operand c.get-operand.result.now c.in-Not.is c.get-operand.ensures)
         (after_turn itself (Some L) P (λ m. asked_by Q B D (seen_ty c.get-operand.result.now) m >>= (λ b. tests.answer (not b))) M0 M1 (Ok (not c.in_ok-is-in-Not.is-1)) (meter_of c.asked-in-Not.new.meter) H
         (then_is (asked_by Q B D (seen_ty c.get-operand.result.now) M1) (λ b. tests.answer (not b)) _ (meter_of c.asked-in-Not.new.meter) c.in_ok-is-in-Not.ensures.value)) }
+
+pub operated-returns-in-Ok-Some : goal.operated-returns-in-Ok-Some
+operated-returns-in-Ok-Some t c =
+    let W = setting (map seen_alias c.args.declared.now.types) c.args.declared.now.limit c.args.depth in
+    let P = c.args.paid in
+    let M0 = meter_of c.args.meter.now in
+    let S = scope (store_of c.args.store.now) c.args.over.now in
+    let R = eval W P (seen_expr c.args.right.now) S in
+    let V = seen c.args.left.now in
+    record { value = c.in-Ok-Some.ensures.value R M0 ∙ ap (λ d. Done d M0) (sym (seen_bool c.in-Ok-Some.truth)) }
+
+pub operated-returns-in_ok-value-in-Ok-None : goal.operated-returns-in_ok-value-in-Ok-None
+operated-returns-in_ok-value-in-Ok-None t c =
+    let W = setting (map seen_alias c.args.declared.now.types) c.args.declared.now.limit c.args.depth in
+    let P = c.args.paid in
+    let M0 = meter_of c.args.meter.now in
+    let S = scope (store_of c.args.store.now) c.args.over.now in
+    let R = eval W P (seen_expr c.args.right.now) S in
+    let V = seen c.args.left.now in
+    record { value = gives_as seen (operations.operated c.args.op c.args.at R V M0) (operations.second c.args.op c.args.at R V M0) c.applied.result (meter_of c.value_of.new.meter) (c.in-Ok-None.ensures.value R M0) (then_gives seen (R M0) (λ w k. operations.applied c.args.op c.args.at V w k) (seen c.in_ok-value-in-Ok-None.value) (meter_of c.value_of.new.meter) c.applied.result (meter_of c.value_of.new.meter) c.in_ok-value-in-Ok-None.ensures.value (c.applied.ensures.value (meter_of c.value_of.new.meter))) }
+
+pub operated-returns-in_err-value-in-Ok-None : goal.operated-returns-in_err-value-in-Ok-None
+operated-returns-in_err-value-in-Ok-None t c =
+    let W = setting (map seen_alias c.args.declared.now.types) c.args.declared.now.limit c.args.depth in
+    let P = c.args.paid in
+    let M0 = meter_of c.args.meter.now in
+    let S = scope (store_of c.args.store.now) c.args.over.now in
+    let R = eval W P (seen_expr c.args.right.now) S in
+    let V = seen c.args.left.now in
+    record { value = gives_as seen (operations.operated c.args.op c.args.at R V M0) (operations.second c.args.op c.args.at R V M0) c.from_residual.result (meter_of c.value_of.new.meter) (c.in-Ok-None.ensures.value R M0) (then_stops seen (R M0) (λ w k. operations.applied c.args.op c.args.at V w k) (meter_of c.value_of.new.meter) c.in_err-value-in-Ok-None.field-0.0 c.from_residual.result c.in_err-value-in-Ok-None.ensures.value c.from_residual.ensures.1) }
+
+pub operated-returns-in-Err : goal.operated-returns-in-Err
+operated-returns-in-Err t c =
+    let W = setting (map seen_alias c.args.declared.now.types) c.args.declared.now.limit c.args.depth in
+    let P = c.args.paid in
+    let M0 = meter_of c.args.meter.now in
+    let S = scope (store_of c.args.store.now) c.args.over.now in
+    let R = eval W P (seen_expr c.args.right.now) S in
+    let V = seen c.args.left.now in
+    record { value = λ none. c.in-Err.ensures.value.1 R M0 ∙ sym (ap (λ g. stopped g M0) c.in-Err.ensures.value.0) }
+
+pub all_hold-returns-in_err-value : goal.all_hold-returns-in_err-value
+all_hold-returns-in_err-value t c =
+    let W = setting (map seen_alias c.args.declared.now.types) c.args.declared.now.limit c.args.depth in
+    let P = c.args.paid in
+    let M0 = meter_of c.args.meter.now in
+    let S = store_of c.args.store.now in
+    let N = meter_of c.loop-clause.meter in
+    let K = meter_of c.value_of.new.meter in
+    let O = tests.all_hold W P (seen_exprs c.args.clauses.now) S M0 in
+    record { value = refused itself O K c.in_err-value.field-0.0 c.from_residual.result (λ none. hold_refused W P S c.args.clauses.now M0 N K c.loop-clause.clause-index c.clause-item.result c.in_err-value.field-0.0 c.loop-clause-test.true c.clause-item.is c.in_err-value.ensures.value c.loop-clause.invariant none) c.from_residual.ensures.1 }
+
+pub all_hold-returns-in_err-truth : goal.all_hold-returns-in_err-truth
+all_hold-returns-in_err-truth t c =
+    let W = setting (map seen_alias c.args.declared.now.types) c.args.declared.now.limit c.args.depth in
+    let P = c.args.paid in
+    let M0 = meter_of c.args.meter.now in
+    let S = store_of c.args.store.now in
+    let N = meter_of c.loop-clause.meter in
+    let K = meter_of c.value_of.new.meter in
+    let O = tests.all_hold W P (seen_exprs c.args.clauses.now) S M0 in
+    record { value = refused itself O K c.in_err-truth.field-0.0 c.from_residual-in_err-truth.result (λ none. hold_faults W P S c.args.clauses.now M0 N K c.loop-clause.clause-index c.clause-item.result (seen c.in_ok-value.value) c.loop-clause-test.true c.clause-item.is c.in_ok-value.ensures.value c.in_err-truth.ensures.value.1 c.loop-clause.invariant ∙ (ap (λ n. Fault Member n K) (sym c.place_of-at.ensures.value) ∙ sym (ap (λ g. stopped g K) c.in_err-truth.ensures.value.0))) c.from_residual-in_err-truth.ensures.1 }
+
+pub all_hold-returns : goal.all_hold-returns
+all_hold-returns t c =
+    let W = setting (map seen_alias c.args.declared.now.types) c.args.declared.now.limit c.args.depth in
+    let P = c.args.paid in
+    let M0 = meter_of c.args.meter.now in
+    let S = store_of c.args.store.now in
+    let N = meter_of c.loop-clause.meter in
+    let K = meter_of c.value_of.new.meter in
+    let O = tests.all_hold W P (seen_exprs c.args.clauses.now) S M0 in
+    record { value = hold_end W P S c.args.clauses.now M0 N c.loop-clause.clause-index c.loop-clause-test.false c.loop-clause.invariant }

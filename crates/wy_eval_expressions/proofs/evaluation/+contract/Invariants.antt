@@ -1,9 +1,9 @@
 use Rattle.std.proofs.Common.{◌+◌, ◌*◌, drop, map, ◌≡◌}
-use Rattle.wy_core.specs.CoreSeen.{seen_alias}
+use Rattle.wy_core.specs.CoreSeen.{seen_alias, seen_expr}
 use Rattle.wy_eval_operations.specs.Outcomes.{meter_of}
 use Rattle.wy_eval_scope.specs.Scopes.{scope, store_of}
-use Rattle.wy_eval_expressions.specs.Settings.{setting}
-use Rattle.wy_eval_expressions.proofs.TurnLemmas.{ValuesLeft, FieldsLeft}
+use Rattle.wy_eval_expressions.specs.Settings.{setting, turns_of}
+use Rattle.wy_eval_expressions.proofs.TurnLemmas.{ValuesLeft, FieldsLeft, HoldLeft, TurnsLeft}
 use Rattle.wy_eval_expressions.proofs.evaluation.+contract.Given as goal
 
 abbrev pub invariant-values_of-loop-expr : goal.invariant-values_of-loop-expr
@@ -47,3 +47,9 @@ decreases-type_test a = a.room * 4 + 1
 
 abbrev pub decreases-name_asked : goal.decreases-name_asked
 decreases-name_asked a = a.room * 4 + 2
+
+abbrev pub invariant-all_hold-loop-clause : goal.invariant-all_hold-loop-clause
+invariant-all_hold-loop-clause l = HoldLeft (setting (map seen_alias l.declared.types) l.declared.limit l.depth) l.paid (store_of l.store) l.clauses (meter_of l.fn.meter) (meter_of l.meter) (drop l.clause-index l.clauses)
+
+abbrev pub invariant-turns-loop-number : goal.invariant-turns-loop-number
+invariant-turns-loop-number l = TurnsLeft l.all l.at (turns_of (setting (map seen_alias l.declared.types) l.declared.limit l.depth) l.paid (seen_expr l.body) (scope (store_of l.store) l.over) l.variable) l.from l.to (meter_of l.fn.meter) l.number (meter_of l.meter)
