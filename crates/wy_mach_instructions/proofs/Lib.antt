@@ -1,0 +1,13 @@
+pub mod EffectLemmas
+pub mod RegisterLemmas
+pub mod OperandLemmas
+pub mod SameLemmas
+pub mod MoveLemmas
+pub mod NumberLemmas
+pub mod EqualLemmas
+pub mod LookLemmas
+pub mod TakeLemmas
+pub mod MakeLemmas
+pub mod ItemLemmas
+pub mod FillLemmas
+pub mod RecordLemmas

@@ -1,0 +1,22 @@
+use Rattle.std.proofs.Common.{◌≡◌, [], ◌∷◌, ◌++◌, Option, option_to_list, ap, ◌∙◌}
+use Rattle.wy_heap.specs.declared.part.Part.{Part}
+use Rattle.wy_mach_instructions.proofs.MakeLemmas.{popped_held, rest_held, popped_acts}
+use Rattle.wy_mach_instructions.proofs.making.release_all.Goals as goal
+
+pub release-requires : goal.release-requires
+release-requires c =
+    let rest = c.pop.new.self.items in
+    let popped : c.places.places.items ≡ rest ++ c.in-Some.place ∷ [] = c.pop.ensures.items ∙ ap (λ (r : Option Part). rest ++ option_to_list r) c.in-Some.is in
+    record { held = popped_held c.places.heap c.places.places.items rest c.in-Some.place popped c.places.invariant.held }
+
+pub places-preserved : goal.places-preserved
+places-preserved c =
+    let rest = c.pop.new.self.items in
+    let popped : c.places.places.items ≡ rest ++ c.in-Some.place ∷ [] = c.pop.ensures.items ∙ ap (λ (r : Option Part). rest ++ option_to_list r) c.in-Some.is in
+    record {
+      acts = λ others stands. popped_acts c.args.heap.now c.places.heap c.release.new.self c.places.places.items rest others c.in-Some.place popped (c.places.invariant.acts others stands) c.release.ensures.acts;
+      held = rest_held c.places.heap c.release.new.self c.places.places.items rest c.in-Some.place popped c.places.invariant.held c.release.ensures.acts;
+      shapes = c.release.ensures.kept.1 ∙ c.places.invariant.shapes;
+      cap = c.release.ensures.kept.0 ∙ c.places.invariant.cap;
+      copies = c.release.ensures.copies ∙ c.places.invariant.copies;
+    }

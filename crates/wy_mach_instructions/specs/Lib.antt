@@ -1,0 +1,6 @@
+pub mod Showing
+pub mod Operands
+pub mod Looking
+pub mod Taking
+pub mod Filling
+pub mod Records
