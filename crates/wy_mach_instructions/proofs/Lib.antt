@@ -11,3 +11,5 @@ pub mod MakeLemmas
 pub mod ItemLemmas
 pub mod FillLemmas
 pub mod RecordLemmas
+pub mod FieldLemmas
+pub mod PartLemmas
