@@ -1,8 +1,7 @@
 //! Frames of routines.
 
-use std::alloc::Global;
-use wy_heap::{Heap, Kind, Place};
-use wy_mach_instructions::{Stop, release_all};
+use wy_heap::{Heap, Place};
+use wy_mach_instructions::{Stop, entry_registers, release_all};
 
 /// The frame of a routine that runs: its number, the number of its next instruction, and its registers.
 /// An empty register is null.
@@ -20,23 +19,18 @@ pub struct Caller {
 
 /// The first frame of a routine: its registers hold the arguments, and behind them null.
 pub fn entered(
-    alloc: Global,
     heap: &mut Heap,
     routine: u32,
     registers: u32,
     arguments: Vec<Place>,
 ) -> Result<Frame, Stop> {
-    let mut all = arguments;
-    let more = (registers as usize).saturating_sub(all.len());
-    if all.reserve_exact(more).is_err() {
-        release_all(heap, all);
-        return Err(Stop::NoMemory);
-    }
-    for _ in 0..more {
-        if let Err(refused) = all.push(Place::scalar(Kind::Null)) {
-            heap.release(refused.value);
+    let all = match entry_registers(registers, arguments) {
+        Ok(all) => all,
+        Err(arguments) => {
+            release_all(heap, arguments);
+            return Err(Stop::NoMemory);
         }
-    }
+    };
     Ok(Frame {
         routine,
         at: 0,

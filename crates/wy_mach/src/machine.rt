@@ -138,7 +138,9 @@ impl Machine {
             Instr::Put(whole, steps, from) => {
                 update(heap, registers, *whole, steps.as_slice(), *from, &mut self.path)
             }
-            Instr::Kind(to, from, asked) => Ok(kind(heap, registers, *to, *from, *asked)?),
+            Instr::Kind(to, from, asked) => {
+                Ok(kind(&code.shapes, heap, registers, *to, *from, *asked)?)
+            }
             _ => Err(Stop::Stuck),
         }
     }
@@ -174,7 +176,7 @@ impl Machine {
             return Err(Stop::NoMemory);
         }
         let arguments = take_all(self.alloc, self.frame.registers.as_mut_slice(), numbers)?;
-        let frame = entered(self.alloc, &mut self.heap, number, routine.registers, arguments)?;
+        let frame = entered(&mut self.heap, number, routine.registers, arguments)?;
         self.frame.at += 1;
         let frame = mem::replace(&mut self.frame, frame);
         let caller = Caller { frame, target: to };
@@ -281,7 +283,7 @@ fn first(
         return Err(Stop::Stuck);
     }
     let places = imported(alloc, heap, args)?;
-    entered(alloc, heap, entry, routine.registers, places)
+    entered(heap, entry, routine.registers, places)
 }
 
 // a place for each argument

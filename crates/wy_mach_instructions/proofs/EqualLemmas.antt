@@ -14,10 +14,9 @@ use Rattle.wy_heap.proofs.RowLemmas.{restood}
 use Rattle.wy_sem.specs.Operations.{same}
 use Rattle.wy_sem.specs.Expressions.{Store, slot}
 use Rattle.wy_step.specs.Step.{Effect, Fails, there, gives}
-use Rattle.wy_mach_instructions.specs.Showing.{Leaves, WentOn, IsStop, AreRegisters, Puts}
+use Rattle.wy_mach_instructions.specs.Showing.{Leaves, WentOn, AreRegisters, Puts}
 use Rattle.wy_mach_instructions.specs.Operands.{TellsSame, ComparesNone}
-use Rattle.wy_mach_instructions.specs.declared.stop.Stop.{Stop}
-use Rattle.wy_mach_instructions.specs.declared.stop.Stop.TheVariants.{Stuck, NoMemory}
+use Rattle.wy_mach_instructions.specs.declared.stop.Stop.TheVariants.{Stuck}
 use Rattle.wy_mach_instructions.proofs.RegisterLemmas.{shows_slot, slot_within}
 use Rattle.wy_mach_instructions.proofs.NumberLemmas.{scalar_leaves}
 use Rattle.wy_mach_instructions.proofs.SameLemmas.{same_self, same_not}
@@ -82,11 +81,6 @@ equal_goes h n ps qs to a b answer p held told is puts after s shows =
     equal_by (Leaves (map_of n) qs []) s a b to (slot s a) (slot s b) tt
     (λ v w left right. scalar_leaves h n s ps qs to (Truth answer) p (gives s to (Truth (same v w))) (ap (λ (c : Bool). gives s to (Truth c)) (told s v w shows left right))
     held (λ k. ap (holds k) is) puts after shows is)
-
-pub equal_stops : (h : Heap) (ps : List Part) (to a b : ℕ) (stop : Stop) → ComparesNone h ps a b stop → IsStop (map_of h) ps (λ s. there (slot s a) (λ v. there (slot s b) (λ w. gives s to (Truth (same v w))))) stop
-equal_stops h ps to a b Stuck none = λ s shows.
-    equal_by (λ (e : Effect). e ≡ Fails) s a b to (slot s a) (slot s b) refl (λ v w left right. absurd (none s v w shows left right))
-equal_stops h ps to a b NoMemory none = tt
 
 pub left_beyond : (h : Heap) (ps : List Part) (a b : ℕ) → length ps ≤ a → ComparesNone h ps a b Stuck
 left_beyond h ps a b beyond s d e shows left right = omega (arith, slot_within (map_of h) s ps a d shows left)

@@ -11,5 +11,7 @@ pub mod MakeLemmas
 pub mod ItemLemmas
 pub mod FillLemmas
 pub mod RecordLemmas
+pub mod KindLemmas
+pub mod EntryLemmas
 pub mod FieldLemmas
 pub mod PartLemmas

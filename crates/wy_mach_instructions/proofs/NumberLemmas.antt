@@ -44,19 +44,10 @@ two_numbers s a b next x y left right =
 
 -- ---- stuck
 
-pub left_stuck : (h : Heap) (ps : List Part) (a b : ℕ) (next : Store → ℤ → ℤ → Effect) → Reads h ps a number_in None → HasNone (map_of h) ps (λ s. numbers s a b (next s))
-left_stuck h ps a b next reads s shows = no_left s a b (next s) (sym (reads s shows))
-
-pub right_stuck : (h : Heap) (ps : List Part) (a b : ℕ) (next : Store → ℤ → ℤ → Effect) → Reads h ps b number_in None → HasNone (map_of h) ps (λ s. numbers s a b (next s))
-right_stuck h ps a b next reads s shows = no_right s a b (next s) (sym (reads s shows))
-
 pub result_stuck : (h : Heap) (ps : List Part) (to a b : ℕ) (op : Arithmetic) (x y : ℤ) → Reads h ps a number_in (Some x) → Reads h ps b number_in (Some y) → ((next : ℤ → Effect) → computes op x y (λ z. where_so (is_int z) (next z)) ≡ there None next)
     → HasNone (map_of h) ps (λ s. numbers s a b (λ v w. computes op v w (λ z. gives_int s to z)))
 result_stuck h ps to a b op x y left right none s shows =
     two_numbers s a b (λ v w. computes op v w (λ z. gives_int s to z)) x y (sym (left s shows)) (sym (right s shows)) ∙ none (λ z. gives s to (Whole z))
-
-pub truth_stuck : (h : Heap) (ps : List Part) (a : ℕ) (next : Store → Bool → Effect) → Reads h ps a truth_in None → HasNone (map_of h) ps (λ s. there (slot s a) (λ v. as_truth v (next s)))
-truth_stuck h ps a next reads s shows = truth-there (slot s a) (next s) ∙ there_none (truth_in (slot s a)) (next s) (sym (reads s shows))
 
 -- ---- a scalar comes into a register
 

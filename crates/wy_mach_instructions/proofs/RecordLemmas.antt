@@ -35,7 +35,7 @@ record_none [] (d ∷ ds) differ = refl
 record_none (n ∷ ns) [] differ = refl
 record_none (n ∷ ns) (d ∷ ds) differ = ap (behind_field n d) (record_none ns ds (λ e. differ (ap (λ (k : ℕ). suc k) e)))
 
-length-data_of : (ds : List Datum) → length_of (data_of ds) ≡ length ds
+pub length-data_of : (ds : List Datum) → length_of (data_of ds) ≡ length ds
 length-data_of [] = refl
 length-data_of (d ∷ ds) = omega (arith, length-data_of ds)
 
@@ -74,9 +74,6 @@ names_same t u k list table extends is = named_same t.names u.names list extends
 -- the shape is there
 shape_effect : (t : Shapes) (k : ℕ) (list : List ℕ) (next : List (List ℕ) → Effect) → slice_get t.lists k ≡ Some list → there (shape_names t k) next ≡ next (named t.names list)
 shape_effect t k list next is = ap (λ (o : Option (List ℕ)). there (names_in t.names o) next) is
-
-pub no_shape : (h : Heap) (ps : List Part) (t : Shapes) (k : ℕ) (next : Store → List (List ℕ) → Effect) → slice_get t.lists k ≡ None → HasNone (map_of h) ps (λ s. there (shape_names t k) (next s))
-no_shape h ps t k next none s shows = ap (λ (o : Option (List ℕ)). there (names_in t.names o) (next s)) none
 
 -- as many fields as values
 fields_differ : (h : Heap) (ps : List Part) (names : List (List ℕ)) (rs : List ℕ) (to : ℕ) (s : Store) → length names ≢ length rs → Shows (map_of h) s ps → moved_all s rs (λ vs last. there (record_of names vs) (λ fs. gives last to (Record fs))) ≡ Fails

@@ -82,10 +82,6 @@ taken_out h p ps others i is below stands =
     restood h (ps ++ others) (p ∷ (set ps i Null ++ others))
     (λ k. omega (arith, held-append k ps others, held-append k (set ps i Null) others, held-set k ps i Null below, ap (holds k) is)) stands
 
--- the place in a register, beside all
-pub one_out : (h : Heap) (p : Part) (ps others : List Part) (i : ℕ) → p ≡ get_or ps i Null → i < length ps → Stands h (ps ++ others) → Stands h (p ∷ (set ps i Null ++ others))
-one_out h p ps others i is below stands = taken_out h p ps others i is below stands
-
 -- a new place beside one in a register
 pub shared_in : (h : Heap) (made p : Part) (ps others : List Part) (i : ℕ) → p ≡ get_or ps i Null → i < length ps → Stands h (made ∷ p ∷ (set ps i Null ++ others)) → Stands h (made ∷ (ps ++ others))
 shared_in h made p ps others i is below stands =
@@ -119,9 +115,6 @@ acts_others h n qs others acts = record {
 -- of all that is kept, what the registers hold
 pub acts_registers : (h n : Heap) (qs others : List Part) → Acts h n [] (qs ++ others) → Keeps (map_of h) (map_of n) qs
 acts_registers h n qs others acts = keeps_fewer (map_of h) (map_of n) qs (qs ++ others) (λ k. omega (arith, held-append k qs others)) acts.keeps
-
-pub keeps_trans : (a b c : Map) (ps : List Part) → Keeps a b ps → Keeps b c ps → Keeps a c ps
-keeps_trans a b c ps first second q d among means = second q d among (first q d among means)
 
 -- a scalar is held beside anything
 pub scalar_beside : (h : Heap) (p : Part) (ps others : List Part) → ((k : ℕ) → holds k p ≡ 0) → Stands h (ps ++ others) → Stands h (p ∷ (ps ++ others))

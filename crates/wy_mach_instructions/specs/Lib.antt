@@ -4,3 +4,4 @@ pub mod Looking
 pub mod Taking
 pub mod Filling
 pub mod Records
+pub mod Kinds

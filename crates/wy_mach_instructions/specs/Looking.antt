@@ -1,5 +1,5 @@
 -- What instructions look at in arrays and records.
-use Rattle.std.specs.Prelude.{◌≡◌, ⊤, List, ℕ, Option, Some, None}
+use Rattle.std.specs.Prelude.{◌≡◌, ℕ, List, Option, Some, None, ⊤}
 use Rattle.wy_value.specs.Datum.{Datum, Null, Truth, Whole, Array, Record}
 use Rattle.wy_value.specs.Values.{length_of}
 use Rattle.wy_heap.specs.declared.part.Part.{Part}

@@ -1,5 +1,5 @@
 -- What is taken from several registers.
-use Rattle.std.specs.Prelude.{ℕ, ◌<◌, List, [], ◌∷◌, ◌++◌, Some, length, slice_index_or, slice_set}
+use Rattle.std.specs.Prelude.{ℕ, zero, suc, ◌<◌, List, [], ◌∷◌, ◌++◌, Some, length, slice_index_or, slice_set}
 use Rattle.wy_value.specs.Datum.{Datum, Array}
 use Rattle.wy_heap.specs.declared.heap.Heap.{Heap}
 use Rattle.wy_heap.specs.Nodes.{map_of}
@@ -19,6 +19,11 @@ taken ps (r ∷ rs) = slice_index_or ps r Null ∷ taken (slice_set ps r Null) r
 abbrev pub emptied : List Part → List ℕ → List Part
 emptied ps [] = ps
 emptied ps (r ∷ rs) = emptied (slice_set ps r Null) rs
+
+-- so many times null
+abbrev pub nulls : ℕ → List Part
+nulls zero = []
+nulls (suc n) = Null ∷ nulls n
 
 -- each of these is below the limit
 abbrev pub AreWithin : ℕ → List ℕ → Type 0

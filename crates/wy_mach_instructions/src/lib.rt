@@ -2,13 +2,16 @@
 //!
 //! What registers show is said in `specs/Showing`: each stands for what the register of the step on
 //! values holds, and one that is empty there is null here. `registers` puts a place into a register and
-//! takes it out, `moving` has `Const`, `Move`, `Share` and `Clear`, `operands` reads numbers and truth
-//! values, `numbers` has `Arith`, `Compare` and `Not`, and `comparing` has `Equal`. Each instruction
-//! leaves registers that show what its effect leaves, wherever the step on values has one, and answers
-//! that it is stuck only where that has none.
+//! takes it out, and `operands` reads numbers and truth values. `moving` has `Const`, `Move`, `Share` and
+//! `Clear`, `numbers` has `Arith`, `Compare` and `Not`, `comparing` has `Equal`, `looking` has `Len`,
+//! `items` has `Get`, `kinds` has `Kind`, and `making`, `records` and `filling` have `Array`, `Record` and `Fill`.
+//! `entering` has the registers of a frame at entry. Each
+//! instruction leaves registers that show what its effect leaves, wherever the step on values has one,
+//! and answers that it is stuck only where that has none.
 #![tactic(auto)]
 
 mod comparing;
+mod entering;
 mod filling;
 mod items;
 mod kinds;
@@ -25,6 +28,7 @@ mod stop;
 mod updating;
 
 pub use comparing::equal;
+pub use entering::entry_registers;
 pub use filling::fill;
 pub use items::item;
 pub use kinds::kind;

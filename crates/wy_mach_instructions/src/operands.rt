@@ -15,7 +15,7 @@ pub fn number(heap: &Heap, registers: &[Place], register: u32) -> Option<i128>
     requires { AreRegisters heap.now registers.now }
     ensures { Reads heap.now registers.now register number_in result }
 {
-    match kind(heap, registers, register) {
+    match kind_in(heap, registers, register) {
         Some(kind) => number_of(kind),
         None => None,
     }
@@ -26,14 +26,14 @@ pub fn truth(heap: &Heap, registers: &[Place], register: u32) -> Option<bool>
     requires { AreRegisters heap.now registers.now }
     ensures { Reads heap.now registers.now register truth_in result }
 {
-    match kind(heap, registers, register) {
+    match kind_in(heap, registers, register) {
         Some(kind) => truth_of(kind),
         None => None,
     }
 }
 
 // the kind of what a register holds, where there is one with this number
-fn kind(heap: &Heap, registers: &[Place], register: u32) -> Option<Kind>
+pub(crate) fn kind_in(heap: &Heap, registers: &[Place], register: u32) -> Option<Kind>
     requires { AreRegisters heap.now registers.now }
     ensures { MatchOption result (length registers.now ≤ register) (λ k. (register < length registers.now)
         × ((d : Datum) → Means (map_of heap.now) d (slice_index_or registers.now register Null) → IsKind heap.now.shapes d k)) }

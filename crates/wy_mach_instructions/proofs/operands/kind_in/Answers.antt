@@ -1,7 +1,7 @@
 use Rattle.std.proofs.Common.{◌<◌, length, rules}
 use Rattle.wy_mach_instructions.proofs.RegisterLemmas.{read_part}
 use Rattle.wy_mach_instructions.proofs.MoveLemmas.{register_held}
-use Rattle.wy_mach_instructions.proofs.operands.kind.Goals as goal
+use Rattle.wy_mach_instructions.proofs.operands.kind_in.Goals as goal
 
 pub kind-requires : goal.kind-requires
 kind-requires c =
