@@ -1,9 +1,9 @@
 -- What a parse of the words behind a command ends with.
 use Rattle.std.proofs.Common.{◌≡◌, ◌∙◌, ◌&&◌, ◌||◌, ℕ, Bool, cond, codes, true, false, true≢false, List, [], ◌∷◌, ◌++◌, Option, Some, None, option_map, is_some, refl, sym, ap, subst}
-use Rattle.std.specs.Prelude.{IsUtf8, bytes_eq, option_and_then, slice_get}
-use Rattle.std.specs.List.{All, find, fold}
+use Rattle.std.specs.Prelude.{bytes_eq, option_and_then, slice_get}
+use Rattle.std.specs.List.{find, fold}
 use Rattle.std.specs.Option.{option_map_or, unwrap_or}
-use Rattle.clap.specs.Walk.{Row, all_of, finished, first_of, has_row, nothing_held, rows_after, walk_from, walked, with_default, with_values}
+use Rattle.clap.specs.Walk.{Row, all_of, finished, first_of, has_row, nothing_held, rows_after, settled, walk_from, walked, with_default, with_values}
 use Rattle.clap.specs.Kinds.{Kinds, or_else}
 use Rattle.clap.specs.Faults.{check_fault, defaults_fault, given_default_fault, level_fault, settle_fault, walk_fault}
 use Rattle.clap.specs.declared.builder.value_parser.Reading.TheVariants.{AsWritten}
@@ -14,6 +14,7 @@ use Rattle.wy_words.specs.Rules.{leaf_shape, operands, rules, stats, valued}
 use Rattle.wy_words.specs.declared.command.Kind.{Kind}
 use Rattle.wy_words.specs.declared.command.Kind.TheVariants as kind
 use Rattle.wy_words.proofs.RowLemmas.{has_row_all, is_of, push_other, push_same}
+use Rattle.wy_words.proofs.MarkLemmas.{AreTexts}
 use Rattle.wy_words.proofs.StepLemmas.{Holds, IsFaulty, flag_row, flags, first_faulty, or_nothing}
 use Rattle.wy_words.proofs.LineLemmas.{Ends, end_fault, end_rows, reads_all}
 
@@ -41,7 +42,7 @@ rest_free name rows last =
 
 level_is : (name : Text) (words : List Text) → level_fault (leaf_shape name) [] nothing_held words false [] ≡ end_fault name (walk_from nothing_held) words
 level_is name words = ap (λ (k : Kinds). or_else (walk_fault (leaf_shape name) [] (walk_from nothing_held) words) (or_else (settle_fault rules false (fold (walked rules []) (walk_from nothing_held) words).held) k))
-    (rest_free name _ _) ∙ ap (or_else (walk_fault (leaf_shape name) [] (walk_from nothing_held) words)) (or_nothing _)
+    (rest_free name (settled rules (fold (walked rules []) (walk_from nothing_held) words).held).rows (finished rules (fold (walked rules []) (walk_from nothing_held) words).held)) ∙ ap (or_else (walk_fault (leaf_shape name) [] (walk_from nothing_held) words)) (or_nothing _)
 
 -- ---- the rows at the end
 
@@ -87,11 +88,11 @@ gives g rows h true is f = record {
   stats = ap text_flag (first_all (codes "stats") rows ∙ ap (option_and_then (λ (vs : List Text). slice_get vs 0)) f) ∙ sym is;
 }
 gives g rows h false is f = record {
-  operands = ap (λ (o : Option (List Text)). unwrap_or o []) (push_other (codes "stats") (codes "operands") _ _ _ refl rows) ∙ h.operands;
-  budget = first_given g.budget (codes "budget") _ (push_other (codes "stats") (codes "budget") _ _ _ refl rows ∙ h.budget);
-  steps = first_given g.steps (codes "steps") _ (push_other (codes "stats") (codes "steps") _ _ _ refl rows ∙ h.steps);
-  stats = ap text_flag (first_all (codes "stats") _ ∙ ap (option_and_then (λ (vs : List Text). slice_get vs 0))
-      (push_same (codes "stats") _ _ (codes "false" ∷ []) refl rows ∙ ap (λ (o : Option (List Text)). Some (unwrap_or o [] ++ codes "false" ∷ [])) f)) ∙ sym is;
+  operands = ap (λ (o : Option (List Text)). unwrap_or o []) (push_other (codes "stats") (codes "operands") AsWritten DefaultValue (codes "false" ∷ []) refl rows) ∙ h.operands;
+  budget = first_given g.budget (codes "budget") (flagged false rows) (push_other (codes "stats") (codes "budget") AsWritten DefaultValue (codes "false" ∷ []) refl rows ∙ h.budget);
+  steps = first_given g.steps (codes "steps") (flagged false rows) (push_other (codes "stats") (codes "steps") AsWritten DefaultValue (codes "false" ∷ []) refl rows ∙ h.steps);
+  stats = ap text_flag (first_all (codes "stats") (flagged false rows) ∙ ap (option_and_then (λ (vs : List Text). slice_get vs 0))
+      (push_same (codes "stats") AsWritten DefaultValue (codes "false" ∷ []) refl rows ∙ ap (λ (o : Option (List Text)). Some (unwrap_or o [] ++ codes "false" ∷ [])) f)) ∙ sym is;
 }
 
 gives_finished : (g : Given) (rows : List Row) → Holds g rows → Gives g (flagged (has_row (codes "stats") rows) rows)
@@ -126,12 +127,13 @@ abbrev pub Meets : Text → Option Given → List Text → Type 0
 Meets name None words = IsFaulty (level_fault (leaf_shape name) [] nothing_held words false [])
 Meets name (Some g) words = (level_fault (leaf_shape name) [] nothing_held words false [] ≡ []) × ((k : Kind) → asked_with k (rows_after rules [] words) ≡ asked k g)
 
-pub meets : (name : Text) (words : List Text) → All IsUtf8 words → Meets name (given_by words) words
+pub meets : (name : Text) (words : List Text) → AreTexts words → Meets name (given_by words) words
 meets name words us = go (given_by words) (reads_all name words us)
   where
     go : (o : Option Given) → Ends name o (walk_from nothing_held) words → Meets name o words
     go None f = subst IsFaulty (sym (level_is name words)) f
     go (Some g) e = (
       level_is name words ∙ e.0,
-      λ k. asked_given k g _ (subst (Gives g) (sym (finished_is _)) (gives_finished g _ e.1)),
+      λ k. asked_given k g (rows_after rules [] words) (subst (Gives g) (sym (finished_is (end_rows name (walk_from nothing_held) words)))
+          (gives_finished g (end_rows name (walk_from nothing_held) words) e.1)),
     )

@@ -6,3 +6,4 @@ pub mod EndLemmas
 pub mod TopLemmas
 pub mod NumberLemmas
 pub mod ReadLemmas
+pub mod FoundLemmas

@@ -1,13 +1,14 @@
 -- The parse of a command line comes to what the definition reads.
 use Rattle.std.proofs.Common.{◌≡◌, ◌∙◌, ◌&&◌, ◌||◌, ◌⊎◌, ℕ, Bool, cond, codes, true, false, true≢false, List, [], ◌∷◌, Option, Some, None, option_map, is_some, inl, inr, refl, sym, ap, ap₂, subst}
-use Rattle.std.specs.Prelude.{IsUtf8, bytes_eq, option_and_then}
-use Rattle.std.specs.List.{All, fold}
+use Rattle.std.specs.Prelude.{bytes_eq, option_and_then}
+use Rattle.std.specs.List.{fold}
 use Rattle.std.specs.Option.{option_map_or, unwrap_or}
 use Rattle.clap.specs.Walk.{Row, Walk, nothing_held, settled_rows, walk, walk_from, walked}
 use Rattle.clap.specs.Kinds.{Kinds, or_else}
 use Rattle.clap.specs.Faults.{settle_fault, turn_fault, walk_fault}
 use Rattle.wy_words.specs.CommandLine.{Given, Reading, Text, closed, given_by, nothing, read, start, turn}
 use Rattle.wy_words.specs.Rules.{leaf_shape, rules}
+use Rattle.wy_words.proofs.MarkLemmas.{AreTexts}
 use Rattle.wy_words.proofs.StepLemmas.{Comes, Holds, IsDoomed, IsFaulty, IsOpen, IsWaiting, Settles, Tied, at, doomed_step, first_faulty, held, missing, second_faulty, step}
 
 module _ (name : Text) where
@@ -26,7 +27,7 @@ module _ (name : Text) where
   later [] b c f = f
   later (k ∷ ks) b c f = tt
 
-  pub doomed : (words : List Text) (w : Walk) → All IsUtf8 words → IsDoomed w → IsFaulty (end_fault w words)
+  pub doomed : (words : List Text) (w : Walk) → AreTexts words → IsDoomed w → IsFaulty (end_fault w words)
   unfolding walk_fault
   doomed [] w us d = subst (λ (x : Walk). IsFaulty (settle_fault rules false x.held)) (sym d.is) d.faulty
   doomed (x ∷ xs) w us d = go (doomed_step name w x us.0 d) (λ e. doomed xs (walked rules [] w x) us.1 e)
@@ -42,7 +43,7 @@ module _ (name : Text) where
   one_more (Some g) w x xs free e =
       (ap (λ (k : Kinds). or_else (or_else k (walk_fault (leaf_shape name) [] (walked rules [] w x) xs)) (settle_fault rules false (fold (walked rules []) (walked rules [] w x) xs).held)) free ∙ e.0, e.1)
 
-  pub reads : (words : List Text) (r : Reading) (w : Walk) → All IsUtf8 words → Tied r w → Ends (option_and_then closed (read r words)) w words
+  pub reads : (words : List Text) (r : Reading) (w : Walk) → AreTexts words → Tied r w → Ends (option_and_then closed (read r words)) w words
   unfolding read walk_fault
   reads [] r w us (inl o) = subst (λ (x : Option Given). Ends x w []) (sym (ap (λ (k : Bool). cond k None (Some r.given)) (ap (λ k. is_some k) o.awaits)))
       (subst (λ (x : Walk). (settle_fault rules false x.held ≡ []) × Holds r.given (settled_rows rules x.held.pending x.held.rows)) (sym o.is) (o.settles.free, o.settles.holds))
@@ -61,6 +62,6 @@ module _ (name : Text) where
   nothing_holds = record { operands = refl; budget = refl; steps = refl; stats = refl }
 
   -- the words behind a command
-  pub reads_all : (words : List Text) → All IsUtf8 words → Ends (given_by words) (walk_from nothing_held) words
+  pub reads_all : (words : List Text) → AreTexts words → Ends (given_by words) (walk_from nothing_held) words
   reads_all words us = reads words start (walk_from nothing_held) us
       (inl (record { rows = []; pending = None; waiting = Rattle.clap.specs.Walk.idle; is = refl; awaits = refl; plain = λ _. refl; settles = record { free = refl; holds = nothing_holds } }))

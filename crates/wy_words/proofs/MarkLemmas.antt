@@ -1,6 +1,6 @@
 -- What `clap` sees of a word, by the mark of the word.
 use Rattle.std.proofs.Common.{◌≡◌, ◌∙◌, ◌==◌, ◌&&◌, ℕ, Bool, cond, true, false, true≢false, List, [], ◌∷◌, ◌++◌, Option, Some, None, is_some, refl, sym, ap, subst, arith, length, suc}
-use Rattle.std.specs.Prelude.{IsUtf8, slice_get, option_and_then}
+use Rattle.std.specs.Prelude.{⊤, IsUtf8, slice_get, option_and_then}
 use Rattle.std.specs.Str.{bytes_eq, chars}
 use Rattle.std.specs.Char.{encode_utf8}
 use Rattle.std.proofs.lemmas.Bool.{eqb-true}
@@ -68,3 +68,8 @@ some_char b bs u = go (chars (b ∷ bs)) (encodes-chars (45 ∷ b ∷ bs) u)
     go : (cs : List ℕ) → encode_utf8_all (45 ∷ cs) ≡ 45 ∷ b ∷ bs → (x : ℕ) × (slice_get cs 0 ≡ Some x)
     go [] e = let long : 1 ≡ suc (suc (length bs)) = ap length e in absurd (omega arith)
     go (x ∷ cs) e = (x, refl)
+
+-- each word is text
+abbrev pub AreTexts : List Text → Type 0
+AreTexts [] = ⊤
+AreTexts (w ∷ ws) = IsUtf8 w × AreTexts ws

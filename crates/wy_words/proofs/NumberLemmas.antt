@@ -28,7 +28,7 @@ pub small_on : (i v d : ℕ) → v < 10 ^ i → d ≤ 9 → v * 10 + d < 10 ^ (i
 small_on i v d lt le = rw (pow_more 10 i) (omega arith)
 
 -- fewer than 13 digits write less than 10^12
-pub below_most : (i n v : ℕ) → v < 10 ^ i → i < n → n ≤ 13 → v < 1000000000000
-below_most i n v lt within most =
+pub below_most : (i n v : ℕ) → n ≤ 13 → v < 10 ^ i → i < n → v < 1000000000000
+below_most i n v most lt within =
     let bound : 10 ^ i ≤ 10 ^ 12 = pow-le-pow_right (omega arith) (omega arith) in
     omega arith

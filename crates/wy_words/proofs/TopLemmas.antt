@@ -1,7 +1,7 @@
 -- A parse of a whole command line comes to what the definition asks for.
 use Rattle.std.proofs.Common.{◌≡◌, ◌∙◌, ◌&&◌, ◌||◌, ℕ, Bool, cond, codes, true, false, true≢false, List, [], ◌∷◌, ◌++◌, Option, Some, None, option_map, is_some, refl, sym, ap, ap₂, subst, length}
 use Rattle.std.specs.Prelude.{IsUtf8, bytes_eq, option_and_then}
-use Rattle.std.specs.List.{All, find, fold}
+use Rattle.std.specs.List.{find, fold}
 use Rattle.std.specs.Option.{option_map_or}
 use Rattle.clap.specs.Lexer.{long_of, short_of}
 use Rattle.clap.specs.Walk.{Names, Row, Walk, after_step, finished, idle, long_or_other, nothing_held, rows_after, settled, short_or_plain, subcommand_met, subcommand_or_other, trailing, walk_from, walked}
@@ -15,7 +15,7 @@ use Rattle.wy_words.specs.Rows.{asked_by, asked_with}
 use Rattle.wy_words.specs.Rules.{leaf_shape, leaves, rules, top_shape}
 use Rattle.wy_words.specs.declared.command.Kind.{Kind}
 use Rattle.wy_words.specs.declared.command.Kind.TheVariants as kind
-use Rattle.wy_words.proofs.MarkLemmas.{Looks, looks, some_char}
+use Rattle.wy_words.proofs.MarkLemmas.{AreTexts, Looks, looks, some_char}
 use Rattle.wy_words.proofs.StepLemmas.{IsFaulty, first_faulty, or_nothing, second_faulty}
 use Rattle.wy_words.proofs.EndLemmas.{Meets, meets}
 
@@ -133,7 +133,7 @@ enters k word rest met = record {
 }
 
 -- `clap` and the definition know the same names
-chosen : (a b c d e f g : Bool) → option_map (λ s. s.0) (cond (a || false) (Some (codes "check", [])) (cond (b || false) (Some (codes "run", [])) (cond (c || false) (Some (codes "prove", []))
+chosen : (a b c d e f g : Bool) → option_map (λ (s : Text × List Text). s.0) (cond (a || false) (Some (codes "check", [])) (cond (b || false) (Some (codes "run", [])) (cond (c || false) (Some (codes "prove", []))
     (cond (d || false) (Some (codes "conds", [])) (cond (e || false) (Some (codes "fmt", [])) (cond (f || false) (Some (codes "dis", [])) (cond (g || false) (Some (codes "big", [])) None)))))))
     ≡ option_map name_of (cond a (Some kind.Check) (cond b (Some kind.Run) (cond c (Some kind.Prove) (cond d (Some kind.Conds) (cond e (Some kind.Fmt) (cond f (Some kind.Dis) (cond g (Some kind.Big) None)))))))
 chosen true b c d e f g = refl
@@ -212,7 +212,7 @@ no_command word rest u met free = go (first_word word u (mark_of word) (looks wo
 -- ---- the whole line
 
 -- where no fault comes, the matches ask for what the words do
-pub line_taken : (words : List Text) → All IsUtf8 words → fault_of app words ≡ [] → asked_by (subcommand_of app words) ≡ command_of words
+pub line_taken : (words : List Text) → AreTexts words → fault_of app words ≡ [] → asked_by (subcommand_of app words) ≡ command_of words
 line_taken [] us free = refl
 line_taken (word ∷ rest) us free = go (kind_named word) (met_is word)
   where
@@ -230,7 +230,7 @@ line_taken (word ∷ rest) us free = go (kind_named word) (met_is word)
         ∙ given k (given_by rest) (meets (name_of k) rest us.1) (sym e.fault ∙ free)
 
 -- where a fault comes, the words ask for nothing
-pub line_refused : (words : List Text) → All IsUtf8 words → IsFaulty (fault_of app words) → command_of words ≡ None
+pub line_refused : (words : List Text) → AreTexts words → IsFaulty (fault_of app words) → command_of words ≡ None
 unfolding defaults_fault walk_fault
 line_refused [] us f = absurd f
 line_refused (word ∷ rest) us f = go (kind_named word) (met_is word)

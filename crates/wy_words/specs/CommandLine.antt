@@ -195,14 +195,16 @@ asked kind.Fmt g = option_map (λ t. fmt t) (source_of g)
 asked kind.Dis g = option_map (λ t. dis t) (source_of g)
 asked kind.Big g = big_asked g
 
+abbrev pub other_kind_named : Text → Option Kind
+other_kind_named name = if bytes_eq (codes "conds") name then Some kind.Conds
+    else (if bytes_eq (codes "fmt") name then Some kind.Fmt
+    else (if bytes_eq (codes "dis") name then Some kind.Dis
+    else (if bytes_eq (codes "big") name then Some kind.Big else None)))
+
 abbrev pub kind_named : Text → Option Kind
 kind_named name = if bytes_eq (codes "check") name then Some kind.Check
     else (if bytes_eq (codes "run") name then Some kind.Run
-    else (if bytes_eq (codes "prove") name then Some kind.Prove
-    else (if bytes_eq (codes "conds") name then Some kind.Conds
-    else (if bytes_eq (codes "fmt") name then Some kind.Fmt
-    else (if bytes_eq (codes "dis") name then Some kind.Dis
-    else (if bytes_eq (codes "big") name then Some kind.Big else None))))))
+    else (if bytes_eq (codes "prove") name then Some kind.Prove else other_kind_named name))
 
 -- what the words behind the program's name ask for
 abbrev pub command_of : List Text → Option Asked

@@ -1,6 +1,6 @@
 //! What the words of a command line ask for.
 ghost use Rattle.std.specs.Prelude.{◌≡◌, option_map, map};
-ghost use Rattle.wy_words.specs.CommandLine.{asked, big_asked, check_asked, kind_named, one_of, prove_asked, run_asked, source_of, two_of, four_of};
+ghost use Rattle.wy_words.specs.CommandLine.{asked, big_asked, check_asked, kind_named, one_of, other_kind_named, prove_asked, run_asked, source_of, two_of, four_of};
 ghost use Rattle.wy_words.specs.Plain.{asked_in, given_in, text_in, texts_in};
 
 use crate::number::{budget_of, number_within, steps_of};
@@ -68,7 +68,15 @@ pub fn kind_of(name: &str) -> Option<Kind>
         Some(Kind::Run)
     } else if name == "prove" {
         Some(Kind::Prove)
-    } else if name == "conds" {
+    } else {
+        other_kind(name)
+    }
+}
+
+fn other_kind(name: &str) -> Option<Kind>
+    ensures value { result ≡ other_kind_named name.now }
+{
+    if name == "conds" {
         Some(Kind::Conds)
     } else if name == "fmt" {
         Some(Kind::Fmt)
