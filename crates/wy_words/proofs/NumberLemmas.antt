@@ -30,5 +30,5 @@ small_on i v d lt le = rw (pow_more 10 i) (omega arith)
 -- fewer than 13 digits write less than 10^12
 pub below_most : (i n v : ℕ) → n ≤ 13 → v < 10 ^ i → i < n → v < 1000000000000
 below_most i n v most lt within =
-    let bound : 10 ^ i ≤ 10 ^ 12 = pow-le-pow_right (omega arith) (omega arith) in
+    let bound : 10 ^ i ≤ 10 ^ 12 = pow-le-pow_right {n = 10} (omega arith) {i = i} {j = 12} (omega arith) in
     omega arith

@@ -31,7 +31,7 @@ pub ok_reads : (a : App) (words : List Text) (m : ArgMatches) (r : Option Asked)
     → fault_of a words ≡ [] → r ≡ asked_by (subcommand_rows_of m) → command_of words ≡ r
 ok_reads a words m r e us has free is =
     sym (line_taken words us (subst (λ (x : App). fault_of x words ≡ []) e free))
-    ∙ sym (ap asked_by ((has (subst (λ (x : App). is_simple x ≡ true) (sym e) simple)).2 ∙ ap (λ (x : App). subcommand_of x words) e)) ∙ sym is
+    ∙ sym (ap asked_by ((has (subst (λ (x : App). is_simple x ≡ true) (sym e) simple)).1 ∙ ap (λ (x : App). subcommand_of x words) e)) ∙ sym is
 
 among_faulty : (k : ErrorKind) (ks : Kinds) → IsAmong k ks → IsFaulty ks
 among_faulty k [] h = absurd h
