@@ -21,9 +21,13 @@ mod formatting;
 pub mod law;
 mod machine;
 mod refusal;
+#[cfg(test)]
+mod row_tests;
 mod run;
 mod scan;
 pub mod source;
+#[cfg(test)]
+mod tests;
 pub mod thin;
 pub mod verdict;
 

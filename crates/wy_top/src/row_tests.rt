@@ -1,8 +1,8 @@
 //! Worked rows: words and files, and the status and the texts that follow by hand.
+use crate::run_words;
 use std::alloc::{AllocError, Global};
 use std::test::Fail;
 use wy_port::{MemFiles, MemSink, have_different_names};
-use wy_top::run_words;
 
 const INC: &str =
     "function inc(int x) -> (int r)\nrequires x < 100\nensures r > x:\n    return x + 1\n";

@@ -1,8 +1,8 @@
 // What each reader takes and refuses, text by text.
+use crate::certificate::CertificateFault;
+use crate::thin::{Bound, Comparison, Sign, result_place, sum_place};
+use crate::{argument, certificate, source};
 use std::test::Fail;
-use wy_top::certificate::CertificateFault;
-use wy_top::thin::{Bound, Comparison, Sign, result_place, sum_place};
-use wy_top::{argument, certificate, source};
 use wy_value::{INT_MAX, INT_MIN};
 
 #[test]
