@@ -18,3 +18,4 @@ mod verb;
 pub use fault::CertFault;
 pub use read::read_certs;
 pub use step::{Cert, Certs, Step};
+pub use verb::Verb;

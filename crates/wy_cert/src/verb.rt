@@ -7,7 +7,7 @@ use wy_scan::behind;
 
 /// A kind of step, by the word that its line begins with.
 #[derive(Clone, Copy)]
-pub(crate) enum Verb {
+pub enum Verb {
     Split,
     Shut,
     Chain,

@@ -1,5 +1,5 @@
--- Slots that a row's tests found there are there.
-use Rattle.std.proofs.Common.{◌≡◌, inl, inr, ℕ, zero, suc, ◌<◌, List, [], ◌∷◌, length, get_or, Some, refl, sym, ◌∙◌, ap, subst, arith, slice_get}
+-- Slots that were found there are there, and those that were not are not.
+use Rattle.std.proofs.Common.{◌≡◌, inl, inr, ℕ, zero, suc, ◌≤◌, ◌<◌, List, [], ◌∷◌, length, get_or, Option, Some, None, refl, sym, ◌∙◌, ap, subst, arith, slice_get}
 use Rattle.std.proofs.lemmas.Bool.{cases_eq}
 use Rattle.slab.specs.Slab.{get}
 use Rattle.wy_value.specs.Shapes.{named, IsShapes}
@@ -15,10 +15,10 @@ use Rattle.wy_heap.specs.declared.node.Node.{Node}
 use Rattle.wy_heap.specs.declared.heap.Heap.{Heap}
 use Rattle.wy_heap.specs.Nodes.{list_form, record_form, record_of, form_of, map_of}
 use Rattle.wy_heap.specs.Meaning.{Means, IsMeant}
-use Rattle.wy_heap.specs.Slots.{item_at, field_step, step_of, steps_of, position_of, HasStep, HasPath, child, part_at, IsSlot, IsPath}
+use Rattle.wy_heap.specs.Slots.{item_at, no_step, field_step, step_of, steps_of, position_of, HasStep, HasPath, child, part_at, IsSlot, IsPath}
 use Rattle.wy_heap.specs.Numbering.{number_position}
 use Rattle.wy_heap.proofs.MeaningLemmas.{mean_all-length, means_unique}
-use Rattle.wy_heap.proofs.SlotLemmas.{held_node, node_form, node_parts, position_of-named, child_means}
+use Rattle.wy_heap.proofs.SlotLemmas.{held_node, node_form, node_parts, position_of-named, child_means, array_field, record_field, step_key}
 use Rattle.wy_heap.proofs.CompareLemmas.{numbers_in}
 use Rattle.wy_heap.proofs.BuildLemmas.{length-named}
 
@@ -87,3 +87,78 @@ path_more h p s rest slot path =
     let step = step_of h.shapes s in
     let same = means_unique m path.0 (child slot.0 step) (part_at m p step) path.1 (child_means h p slot.0 step slot.1 slot.2) in
     (slot.0, slot.1, (slot.2, subst (λ (d : Datum). HasPath d (steps_of h.shapes rest)) same path.2))
+
+-- ---- slots that are not there
+
+array_short : (h : Heap) (key : ℕ) (n : Node) (i : ℕ) (d : Datum) → get h.nodes key ≡ Some n → length n.parts.items ≤ i → Means (map_of h) d (Key key) → HasStep d (item_at i) → ⊥
+array_short h key n i datum.Null was beyond means has = has
+array_short h key n i (datum.Truth b) was beyond means has = has
+array_short h key n i (datum.Whole z) was beyond means has = has
+array_short h key n i (datum.Array items) was beyond means has =
+    let node = held_node h (Key key) key (datum.Array items) refl means in
+    omega (arith, has, mean_all-length (map_of h) node.data_of node.parts node.mean, ap length (node_parts h key n (datum.Array items) node was), ap length_of node.split.1)
+array_short h key n i (datum.Record fs) was beyond means has = has
+
+pub array_absent : (h : Heap) (key : ℕ) (n : Node) (i : ℕ) → get h.nodes key ≡ Some n → length n.parts.items ≤ i → IsSlot h (Key key) (Item i) → ⊥
+array_absent h key n i was beyond slot = array_short h key n i slot.0 was beyond slot.1 slot.2
+
+no_item : (o : Option (List ℕ)) (i : ℕ) → field_step o ≡ item_at i → ⊥
+no_item None i same = cc
+no_item (Some name) i same = cc
+
+pub array_no_field : (h : Heap) (key : ℕ) (n : Node) (f : ℕ) → get h.nodes key ≡ Some n → n.shape ≡ shape.Array → IsSlot h (Key key) (Field f) → ⊥
+array_no_field h key n f was is slot =
+    let found = array_field h key n (step_of h.shapes (Field f)) slot.0 was is slot.1 slot.2 in
+    no_item (slice_get h.shapes.names f) found.0 found.1
+
+pub record_no_item : (h : Heap) (key : ℕ) (n : Node) (number i : ℕ) → get h.nodes key ≡ Some n → n.shape ≡ shape.Record number → IsSlot h (Key key) (Item i) → ⊥
+record_no_item h key n number i was is slot = record_field h key n number i slot.0 was is slot.1 slot.2
+
+some_within : (names : List (List ℕ)) (f : ℕ) (name : List ℕ) → slice_get names f ≡ Some name → (f < length names) × (name ≡ get_or names f [])
+some_within [] f name is = absurd (cc)
+some_within (n ∷ ns) zero name is = (omega arith, cc)
+some_within (n ∷ ns) (suc f) name is = let rest = some_within ns f name is in (omega (arith, rest.0), rest.1)
+
+none_has : (e : Datum) → HasStep e no_step → ⊥
+none_has datum.Null has = has
+none_has (datum.Truth b) has = has
+none_has (datum.Whole z) has = has
+none_has (datum.Array items) has = has
+none_has (datum.Record fs) has = has
+
+record_named : (h : Heap) (key : ℕ) (n : Node) (number f : ℕ) (list : List ℕ) (d : Datum) (o : Option (List ℕ)) → o ≡ slice_get h.shapes.names f → IsShapes h.shapes → get h.nodes key ≡ Some n → n.shape ≡ shape.Record number → slice_get h.shapes.lists number ≡ Some list → length list ≤ number_position f list → Means (map_of h) d (Key key) → HasStep d (field_step o) → ⊥
+record_named h key n number f list d None name table was is found beyond means has = none_has d has
+record_named h key n number f list datum.Null (Some name) o table was is found beyond means has = has
+record_named h key n number f list (datum.Truth b) (Some name) o table was is found beyond means has = has
+record_named h key n number f list (datum.Whole z) (Some name) o table was is found beyond means has = has
+record_named h key n number f list (datum.Array items) (Some name) o table was is found beyond means has = has
+record_named h key n number f list (datum.Record fs) (Some name) o table was is found beyond means has =
+    let names = h.shapes.names in
+    let node = held_node h (Key key) key (datum.Record fs) refl means in
+    let form : record_form (named names list) ≡ node.form = ap (record_of names) (sym found) ∙ sym (ap (form_of h.shapes) is) ∙ node_form h key n (datum.Record fs) node was in
+    let same : named names list ≡ names_of fs = record_names (named names list) (names_of fs) (form ∙ node.split.0) in
+    let within = some_within names f name (sym o) in
+    let numbers = numbers_in h.shapes number list table found in
+    let place = position_of-named names f list table.names_apart within.0 numbers in
+    let there : position_of name (named names list) < length (named names list) =
+    subst (λ (l : List (List ℕ)). position_of name l < length l) (sym same) has in
+    let there2 : position_of (get_or names f []) (named names list) < length (named names list) =
+    subst (λ (x : List ℕ). position_of x (named names list) < length (named names list)) within.1 there in
+    omega (arith, place, there2, beyond, length-named names list)
+
+pub record_absent : (h : Heap) (key : ℕ) (n : Node) (number f : ℕ) (list : List ℕ) → IsShapes h.shapes → get h.nodes key ≡ Some n → n.shape ≡ shape.Record number → slice_get h.shapes.lists number ≡ Some list → length list ≤ number_position f list → IsSlot h (Key key) (Field f) → ⊥
+record_absent h key n number f list table was is found beyond slot =
+    record_named h key n number f list slot.0 (slice_get h.shapes.names f) refl table was is found beyond slot.1 slot.2
+
+-- what holds no node has no slot
+pub no_node : (h : Heap) (p : Part) (s : Slot) → ((k : ℕ) → p ≡ Key k → ⊥) → IsSlot h p s → ⊥
+no_node h p s none slot = let key = step_key (map_of h) slot.0 p (step_of h.shapes s) slot.1 slot.2 in none key.0 key.1
+
+-- the first slot of a path, and the rest behind it
+pub path_slot : (h : Heap) (p : Part) (s : Slot) (rest : List Slot) → IsPath h p (s ∷ rest) → IsSlot h p s
+path_slot h p s rest path = (path.0, path.1, path.2.0)
+
+pub path_less : (h : Heap) (p : Part) (s : Slot) (rest : List Slot) → IsPath h p (s ∷ rest) → IsPath h (part_at (map_of h) p (step_of h.shapes s)) rest
+path_less h p s rest path =
+    let step = step_of h.shapes s in
+    (child path.0 step, child_means h p path.0 step path.1 path.2.0, path.2.1)

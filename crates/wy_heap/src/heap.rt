@@ -3,7 +3,7 @@ ghost use Rattle.std.specs.Prelude.{◌≡◌, ◌≤◌, ◌∷◌, []};
 ghost use Rattle.wy_value.specs.Datum.{Datum};
 ghost use Rattle.wy_value.specs.Shapes.{IsShapes};
 ghost use Rattle.wy_heap.specs.Nodes.{map_of, size};
-ghost use Rattle.wy_heap.specs.Meaning.{Means};
+ghost use Rattle.wy_heap.specs.Meaning.{Means, IsMeant};
 ghost use Rattle.wy_heap.specs.Standing.{Stands, AreHeld};
 ghost use Rattle.wy_heap.specs.Parts.{IsKind};
 
@@ -51,7 +51,15 @@ impl Heap {
         requires held { AreHeld self.now (p.now ∷ []) }
         ensures value { (d : Datum) → Means (map_of self.now) d p.now → IsKind self.now.shapes d result }
     {
-        match p.part() {
+        self.part_kind(p.part())
+    }
+
+    // what a part is
+    pub(crate) fn part_kind(&self, part: Part) -> Kind
+        requires meant { IsMeant (map_of self.now) part }
+        ensures { (d : Datum) → Means (map_of self.now) d part → IsKind self.now.shapes d result }
+    {
+        match part {
             Part::Null => Kind::Null,
             Part::Bool(b) => Kind::Bool(b),
             Part::Int(n) => Kind::Int(n),

@@ -3,12 +3,13 @@
 //! A heap is a slab of nodes, each with the count of the places and slots that hold it. `part` has what
 //! a slot or a place holds, `node` a node and `heap` the heap. `making` makes nodes, `holding` and
 //! `slots` give second holds, `releasing` lets go and frees at once what nothing holds any more,
-//! `setting` writes at a path, and `comparing` and `showing` walk lists of nodes with a place in each.
+//! `finding` says whether slots are there, `setting` writes at a path, and `comparing` and `showing` walk lists of nodes with a place in each.
 //! What a place stands for is a relation by recursion on the value (`specs/Meaning.antt`), and that all
 //! counts are right is `Stands` (`specs/Standing.antt`).
 #![tactic(auto)]
 
 mod comparing;
+mod finding;
 mod heap;
 mod holding;
 mod importing;

@@ -235,8 +235,8 @@ fn fails(verdict: Verdict, holds: bool) -> bool
     }
 }
 
-// The pending formula with a number, from 0.
-fn pending_at(branch: &Branch, i: usize) -> (u32, bool)
+/// The pending formula with a place from 0, by its number, and whether it holds, in constant time.
+pub fn pending_at(branch: &Branch, i: usize) -> (u32, bool)
     requires { i < length branch.now.pending.keys }
     ensures { slice_get branch.now.pending.keys i ≡ Some result }
 {

@@ -13,5 +13,7 @@ mod connectives;
 mod judging;
 
 pub use adding::{add, add_all, first_branch};
-pub use branch::{Branch, back_to, bare, has_literal, literal_at, nth_literal};
-pub use judging::{Known, is_refuted, judge, nothing_known};
+pub use branch::{
+    Branch, add_literal, add_pending, back_to, bare, has_literal, literal_at, nth_literal,
+};
+pub use judging::{Known, is_refuted, judge, nothing_known, pending_at};

@@ -1,12 +1,13 @@
 -- What is made of what registers held, and comes into one of them.
-use Rattle.std.proofs.Common.{◌≡◌, inl, inr, ℕ, List, [], ◌∷◌, ◌++◌, length, set, Some, refl, sym, ap, subst, arith}
+use Rattle.std.proofs.Common.{◌≡◌, inl, inr, ◌∙◌, ℕ, List, [], ◌∷◌, ◌++◌, length, set, Some, refl, sym, ap, subst, arith}
 use Rattle.std.specs.Prelude.{Result, Ok, Err, OnOk}
 use Rattle.wy_value.specs.Datum.{Datum}
 use Rattle.wy_heap.specs.declared.part.Part.{Part}
 use Rattle.wy_heap.specs.declared.heap.Heap.{Heap}
-use Rattle.wy_heap.specs.Nodes.{map_of, held}
+use Rattle.wy_heap.specs.Nodes.{Map, map_of, held}
 use Rattle.wy_heap.specs.Meaning.{Means, MeanAll}
 use Rattle.wy_heap.specs.Standing.{Stands, AreHeld, Acts, IsAsBefore, SameTable}
+use Rattle.wy_heap.specs.Changing.{Lasts}
 use Rattle.wy_heap.proofs.CountLemmas.{held-append}
 use Rattle.wy_heap.proofs.LeadLemmas.{means_same}
 use Rattle.wy_heap.proofs.RowLemmas.{restood, as_before}
@@ -117,3 +118,10 @@ popped_acts a h n ps rest others p is before acts =
           (keeps_fewer (map_of a) (map_of h) (rest ++ others) (ps ++ others)
           (λ k. omega (arith, held-append k ps others, ap (held k) is, held-append k rest (p ∷ []), held-append k rest others)) before.keeps q d among means);
     }
+
+-- what is left of what was left
+pub lasts_on : (m n o : Map) → Lasts m n → Lasts n o → Lasts m o
+lasts_on m n o first second k = elim (second k) [
+  | inl gone ↦ inl gone
+  | inr same ↦ elim (first k) [ inl none ↦ inl (same ∙ none) | inr was ↦ inr (same ∙ was) ]
+]

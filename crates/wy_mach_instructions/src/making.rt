@@ -4,6 +4,7 @@ ghost use Rattle.wy_value.specs.declared.shapes.Shapes.{Shapes};
 ghost use Rattle.wy_heap.specs.declared.part.Part.{Part};
 ghost use Rattle.wy_heap.specs.Nodes.{map_of};
 ghost use Rattle.wy_heap.specs.Standing.{Stands, AreHeld, Acts, SameTable};
+ghost use Rattle.wy_heap.specs.Changing.{Lasts};
 ghost use Rattle.wy_code.specs.declared.instructions.Instr.{Instr};
 ghost use Rattle.wy_step.specs.Step.{effect};
 ghost use Rattle.wy_mach_instructions.specs.Showing.{WentOn, IsStop, Turns, AreRegisters};
@@ -98,6 +99,7 @@ fn are_within(numbers: &[u32], limit: usize) -> bool
 pub fn release_all(heap: &mut Heap, mut places: Vec<Place>)
     requires { AreHeld heap.old places.items }
     ensures acts { (others : List Part) → Stands heap.old (places.items ++ others) → Acts heap.old heap.new [] others }
+    ensures lasts { Lasts (map_of heap.old) (map_of heap.new) }
     ensures kept { SameTable heap.old heap.new }
     ensures copies { heap.new.copies ≡ heap.old.copies }
 {

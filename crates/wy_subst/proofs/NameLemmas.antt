@@ -29,7 +29,7 @@ is_in-append n (m ∷ ms) ns = ap (λ (b : Bool). eqb m n || b) (is_in-append n 
 abbrev pub has_number : ℕ → Symbol → Bool
 has_number n symbol = is_in n (numbers_by symbol)
 
-is_in-noted : (nodes : List Plain) (n : ℕ) (ks ns : List ℕ) → is_in n (noted_numbers nodes ks ns) ≡ (any_at nodes (has_number n) ks || is_in n ns)
+pub is_in-noted : (nodes : List Plain) (n : ℕ) (ks ns : List ℕ) → is_in n (noted_numbers nodes ks ns) ≡ (any_at nodes (has_number n) ks || is_in n ns)
 is_in-noted nodes n [] ns = refl
 is_in-noted nodes n (k ∷ ks) ns =
     let here = numbers_by (symbol_at nodes k) in
@@ -38,10 +38,10 @@ is_in-noted nodes n (k ∷ ks) ns =
     ∙ (or_swap (any_at nodes (has_number n) ks) (is_in n here) (is_in n ns) ∙ sym (or_assoc (is_in n here) (any_at nodes (has_number n) ks) (is_in n ns))))
 
 mutual
-  is_in-numbers_in : (n : ℕ) (t : Term) → is_in n (numbers_in t) ≡ any_symbol (has_number n) t
+  pub is_in-numbers_in : (n : ℕ) (t : Term) → is_in n (numbers_in t) ≡ any_symbol (has_number n) t
   is_in-numbers_in n (Of symbol ps) = is_in-append n (numbers_by symbol) (numbers_in_parts ps) ∙ ap (λ (b : Bool). is_in n (numbers_by symbol) || b) (is_in-numbers_in_parts n ps)
 
-  is_in-numbers_in_parts : (n : ℕ) (ps : Parts) → is_in n (numbers_in_parts ps) ≡ any_in_parts (has_number n) ps
+  pub is_in-numbers_in_parts : (n : ℕ) (ps : Parts) → is_in n (numbers_in_parts ps) ≡ any_in_parts (has_number n) ps
   is_in-numbers_in_parts n no_parts = refl
   is_in-numbers_in_parts n (part t ps) =
       is_in-append n (numbers_in t) (numbers_in_parts ps)

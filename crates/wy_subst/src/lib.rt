@@ -1,6 +1,6 @@
 //! A term put for a name.
 //!
-//! `substitution` has the one call. It lists what the two terms are made of (`within`), notes the names that stand in them
+//! `substitution` has the main call. It lists what the two terms are made of (`within`), notes the names that stand in them
 //! (`names`), and then makes the term anew (`walk`) from its leaves up, each part by `parts`. `specs/Substitution.antt` says
 //! which term that is.
 #![tactic(auto)]
@@ -14,4 +14,7 @@ mod walk;
 mod within;
 
 pub use law::new_numbers_are_new;
+pub use names::{Taken, new_number, none_taken, take_numbers};
+pub use parts::{parts_of, with_parts};
 pub use substitution::subst;
+pub use within::made_of;

@@ -1,22 +1,20 @@
--- What `fmt` shows, as its end, and why no other end is due.
-use Rattle.std.proofs.Common.{◌≡◌, ◌≢◌, ◌≤◌, ◌⊎◌, ℕ, List, [], ◌∷◌, length, Option, Bool, true, false, Result, Ok, Err, inl, inr, arith, refl, sym, ap, subst, ◌∙◌}
+-- What `fmt` and `dis` show, as their end, and why no other end is due.
+use Rattle.std.proofs.Common.{◌≡◌, ◌≢◌, ◌≤◌, ◌⊎◌, ℕ, List, length, Option, Bool, true, false, true≢false, Ok, Err, inl, inr, arith, refl, sym, ap, subst, ◌∙◌}
 use Rattle.std.specs.Prelude.{if◌then◌else◌}
 use Rattle.wy_port.specs.Count.{Rose}
 use Rattle.wy_port.specs.Told.{Told, MayBe, IsMissing, IsTooLong}
 use Rattle.wy_port.specs.Told.Told.{Unknown, Lacking, Holding}
 use Rattle.wy_port.specs.declared.files.LoadFault.{LoadFault}
 use Rattle.wy_port.specs.declared.files.LoadFault.TheVariants.{Absent, TooLong, Failed, NoMemory as NoMemoryToLoad}
-use Rattle.wy_ast.specs.declared.declarations.Program.{Program}
-use Rattle.wy_front.specs.Front.{Spells, IsDue, Answers}
-use Rattle.wy_front.specs.Faults.{offset, is_no_memory}
 use Rattle.wy_front.specs.Places.{place_of}
-use Rattle.wy_front.specs.declared.fault.SourceFault.{SourceFault}
-use Rattle.wy_front.specs.declared.fault.SourceFault.TheVariants as source
 use Rattle.wy_front.specs.declared.place.Place.{Place}
-use Rattle.wy_print.specs.ProgramText.{program_text}
+use Rattle.wy_source.specs.Refusals.{offset, is_no_memory}
+use Rattle.wy_source.specs.declared.refusal.Refusal.{Refusal}
+use Rattle.wy_texts.specs.Texts.{IsDue, IsText}
+use Rattle.wy_texts.specs.declared.kind.Kind.{Kind}
 use Rattle.wy_top.specs.declared.formatting.FormatFault.{FormatFault}
 use Rattle.wy_top.specs.declared.formatting.FormatFault.TheVariants.{NotLoaded, Refused}
-use Rattle.wy_top.specs.Formatting.{FormatCommand, HasText, HasFault, FormatFails, FormatEnd, FormatsTo, fault_status, fault_text, format_status, ShowsFormat, Shown, FormatEnds, IsEndDue, IsOutside, IsOnlyEnd, IsFormatExact, FormatCause, Formats}
+use Rattle.wy_top.specs.Formatting.{HasText, HasFault, FormatFails, FormatEnd, FormatsTo, fault_status, fault_text, format_status, ShowsFormat, Shown, FormatEnds, IsEndDue, IsOutside, IsOnlyEnd, FormatCause, Formats}
 use Rattle.wy_top.specs.Outcome.{Setting, Loads, LoadFails, source_limit}
 use Rattle.wy_top.specs.Reporting.{ReportsIfMemory}
 use Rattle.wy_top.specs.Run.{Sinks, IsTold}
@@ -26,8 +24,8 @@ use Rattle.wy_top.proofs.EndLemmas.{with_taken-nil, took_nothing}
 -- ---- what is shown
 
 -- a program whose text was written is shown
-written_ends : (name : List ℕ) (p : Program) (status : ℕ) (before after : Option (List ℕ)) (f g : ℕ) (other : Option (List ℕ)) (h : ℕ)
-    → ReportsIfMemory 0 (program_text p) status before after f g → Shown name (Ok p) status (sinks before after f g other other h h)
+written_ends : (name : List ℕ) (p : List ℕ) (status : ℕ) (before after : Option (List ℕ)) (f g : ℕ) (other : Option (List ℕ)) (h : ℕ)
+    → ReportsIfMemory 0 (p) status before after f g → Shown name (Ok p) status (sinks before after f g other other h h)
 written_ends name p status before after f g other h (inl (inl whole)) = inl (record { answer = whole.answer; out = whole.took; err = with_taken-nil other })
 written_ends name p status before after f g other h (inl (inr front)) = inr (inl (record { answer = front.answer; fault = inl front.fault; out = front.took; err = took_nothing other }))
 written_ends name p status before after f g other h (inr nothing) = inr (inr (record { answer = nothing.answer; out = nothing.took; err = refl }))
@@ -41,29 +39,29 @@ faulted_ends name fault status before after f g other h (inr nothing) = inr (inr
 
 -- ---- the cause of each status
 
-refused_cause : (name : List ℕ) (s : Setting) (fault : SourceFault) (place : Place) → HasFault s name fault place → (b : Bool) → FormatCause name s (if b then 9 else 1)
-refused_cause name s fault place has true = record { done = λ e. absurd (omega (arith, e)); refused = λ e. absurd (omega (arith, e)); absent = λ e. absurd (omega (arith, e)); load_failed = λ e. absurd (omega (arith, e)); too_long = λ e. absurd (omega (arith, e)) }
-refused_cause name s fault place has false = record { done = λ e. absurd (omega (arith, e)); refused = λ e. (fault, place, has); absent = λ e. absurd (omega (arith, e)); load_failed = λ e. absurd (omega (arith, e)); too_long = λ e. absurd (omega (arith, e)) }
+refused_cause : (kind : Kind) (name : List ℕ) (s : Setting) (fault : Refusal) (place : Place) → HasFault kind s name fault place → (b : Bool) → is_no_memory fault ≡ b → FormatCause kind name s (if b then 9 else 1)
+refused_cause kind name s fault place has true e = record { done = λ e. absurd (omega (arith, e)); refused = λ e. absurd (omega (arith, e)); absent = λ e. absurd (omega (arith, e)); load_failed = λ e. absurd (omega (arith, e)); too_long = λ e. absurd (omega (arith, e)) }
+refused_cause kind name s fault place has false left = record { done = λ e. absurd (omega (arith, e)); refused = λ e. (fault, place, left, has); absent = λ e. absurd (omega (arith, e)); load_failed = λ e. absurd (omega (arith, e)); too_long = λ e. absurd (omega (arith, e)) }
 
-cause_of : (name : List ℕ) (s : Setting) (e : FormatEnd) → FormatsTo s name e → FormatCause name s (format_status e)
-cause_of name s (Ok p) h = record { done = λ e. (p, h); refused = λ e. absurd (omega (arith, e)); absent = λ e. absurd (omega (arith, e)); load_failed = λ e. absurd (omega (arith, e)); too_long = λ e. absurd (omega (arith, e)) }
-cause_of name s (Err (NotLoaded Absent)) h = record { done = λ e. absurd (omega (arith, e)); refused = λ e. absurd (omega (arith, e)); absent = λ e. h; load_failed = λ e. absurd (omega (arith, e)); too_long = λ e. absurd (omega (arith, e)) }
-cause_of name s (Err (NotLoaded TooLong)) h = record { done = λ e. absurd (omega (arith, e)); refused = λ e. absurd (omega (arith, e)); absent = λ e. absurd (omega (arith, e)); load_failed = λ e. absurd (omega (arith, e)); too_long = λ e. h }
-cause_of name s (Err (NotLoaded Failed)) h = record { done = λ e. absurd (omega (arith, e)); refused = λ e. absurd (omega (arith, e)); absent = λ e. absurd (omega (arith, e)); load_failed = λ e. h; too_long = λ e. absurd (omega (arith, e)) }
-cause_of name s (Err (NotLoaded NoMemoryToLoad)) h = record { done = λ e. absurd (omega (arith, e)); refused = λ e. absurd (omega (arith, e)); absent = λ e. absurd (omega (arith, e)); load_failed = λ e. absurd (omega (arith, e)); too_long = λ e. absurd (omega (arith, e)) }
-cause_of name s (Err (Refused fault place)) h = refused_cause name s fault place h (is_no_memory fault)
+cause_of : (kind : Kind) (name : List ℕ) (s : Setting) (e : FormatEnd) → FormatsTo kind s name e → FormatCause kind name s (format_status e)
+cause_of kind name s (Ok p) h = record { done = λ e. (p, h); refused = λ e. absurd (omega (arith, e)); absent = λ e. absurd (omega (arith, e)); load_failed = λ e. absurd (omega (arith, e)); too_long = λ e. absurd (omega (arith, e)) }
+cause_of kind name s (Err (NotLoaded Absent)) h = record { done = λ e. absurd (omega (arith, e)); refused = λ e. absurd (omega (arith, e)); absent = λ e. h; load_failed = λ e. absurd (omega (arith, e)); too_long = λ e. absurd (omega (arith, e)) }
+cause_of kind name s (Err (NotLoaded TooLong)) h = record { done = λ e. absurd (omega (arith, e)); refused = λ e. absurd (omega (arith, e)); absent = λ e. absurd (omega (arith, e)); load_failed = λ e. absurd (omega (arith, e)); too_long = λ e. h }
+cause_of kind name s (Err (NotLoaded Failed)) h = record { done = λ e. absurd (omega (arith, e)); refused = λ e. absurd (omega (arith, e)); absent = λ e. absurd (omega (arith, e)); load_failed = λ e. h; too_long = λ e. absurd (omega (arith, e)) }
+cause_of kind name s (Err (NotLoaded NoMemoryToLoad)) h = record { done = λ e. absurd (omega (arith, e)); refused = λ e. absurd (omega (arith, e)); absent = λ e. absurd (omega (arith, e)); load_failed = λ e. absurd (omega (arith, e)); too_long = λ e. absurd (omega (arith, e)) }
+cause_of kind name s (Err (Refused fault place)) h = refused_cause kind name s fault place h (is_no_memory fault) refl
 
 -- at statuses 5 and 9 no other status is
-at_five : (name : List ℕ) (s : Setting) → FormatCause name s 5
-at_five name s = record { done = λ e. absurd (omega (arith, e)); refused = λ e. absurd (omega (arith, e)); absent = λ e. absurd (omega (arith, e)); load_failed = λ e. absurd (omega (arith, e)); too_long = λ e. absurd (omega (arith, e)) }
+at_five : (kind : Kind) (name : List ℕ) (s : Setting) → FormatCause kind name s 5
+at_five kind name s = record { done = λ e. absurd (omega (arith, e)); refused = λ e. absurd (omega (arith, e)); absent = λ e. absurd (omega (arith, e)); load_failed = λ e. absurd (omega (arith, e)); too_long = λ e. absurd (omega (arith, e)) }
 
-at_nine : (name : List ℕ) (s : Setting) → FormatCause name s 9
-at_nine name s = record { done = λ e. absurd (omega (arith, e)); refused = λ e. absurd (omega (arith, e)); absent = λ e. absurd (omega (arith, e)); load_failed = λ e. absurd (omega (arith, e)); too_long = λ e. absurd (omega (arith, e)) }
+at_nine : (kind : Kind) (name : List ℕ) (s : Setting) → FormatCause kind name s 9
+at_nine kind name s = record { done = λ e. absurd (omega (arith, e)); refused = λ e. absurd (omega (arith, e)); absent = λ e. absurd (omega (arith, e)); load_failed = λ e. absurd (omega (arith, e)); too_long = λ e. absurd (omega (arith, e)) }
 
-has_cause : (name : List ℕ) (s : Setting) (status : ℕ) (k : Sinks) (e : FormatEnd) → FormatsTo s name e → Shown name e status k → FormatCause name s status
-has_cause name s status k e h (inl whole) = subst (FormatCause name s) (sym whole.answer) (cause_of name s e h)
-has_cause name s status k e h (inr (inl front)) = subst (FormatCause name s) (sym front.answer) (at_five name s)
-has_cause name s status k e h (inr (inr nothing)) = subst (FormatCause name s) (sym nothing.answer) (at_nine name s)
+has_cause : (kind : Kind) (name : List ℕ) (s : Setting) (status : ℕ) (k : Sinks) (e : FormatEnd) → FormatsTo kind s name e → Shown name e status k → FormatCause kind name s status
+has_cause kind name s status k e h (inl whole) = subst (FormatCause kind name s) (sym whole.answer) (cause_of kind name s e h)
+has_cause kind name s status k e h (inr (inl front)) = subst (FormatCause kind name s) (sym front.answer) (at_five kind name s)
+has_cause kind name s status k e h (inr (inr nothing)) = subst (FormatCause kind name s) (sym nothing.answer) (at_nine kind name s)
 
 -- the status of a source that is refused
 abbrev refused_status : Bool → ℕ
@@ -110,26 +108,26 @@ shown_or name status k e due (inr (inl front)) only = inr (inr (inl front.answer
 shown_or name status k e due (inr (inr nothing)) only = inr (inr (inr nothing.answer))
 
 -- where an end is shown, and no other is due, the whole statement holds
-formats : (name : List ℕ) (s : Setting) (status : ℕ) (k : Sinks) (ends : FormatEnds name s status k) → IsOnlyEnd s name ends.end_is → Formats name s status k
-formats name s status k ends only = record {
+formats : (kind : Kind) (name : List ℕ) (s : Setting) (status : ℕ) (k : Sinks) (ends : FormatEnds kind name s status k) → IsOnlyEnd kind s name ends.end_is → Formats kind name s status k
+formats kind name s status k ends only = record {
   ends = ends;
-  cause = has_cause name s status k ends.end_is ends.happens ends.shown;
+  cause = has_cause kind name s status k ends.end_is ends.happens ends.shown;
   sink_cause = sink_cause name status k ends.end_is ends.shown;
   exact = λ told due h. shown_or name status k ends.end_is due ends.shown (only told due h);
 }
 
 -- a program whose text was written is what the format comes to, where no other end is due
-pub written_formats : (name : List ℕ) (s : Setting) (p : Program) (status : ℕ) (before after : Option (List ℕ)) (f g : ℕ) (other : Option (List ℕ)) (h : ℕ)
-    → HasText s name p → ReportsIfMemory 0 (program_text p) status before after f g → IsOnlyEnd s name (Ok p) → Formats name s status (sinks before after f g other other h h)
-written_formats name s p status before after f g other h text reports only =
-    formats name s status (sinks before after f g other other h h) (record { end_is = Ok p; happens = text; shown = written_ends name p status before after f g other h reports }) only
+pub written_formats : (kind : Kind) (name : List ℕ) (s : Setting) (p : List ℕ) (status : ℕ) (before after : Option (List ℕ)) (f g : ℕ) (other : Option (List ℕ)) (h : ℕ)
+    → HasText kind s name p → ReportsIfMemory 0 (p) status before after f g → IsOnlyEnd kind s name (Ok p) → Formats kind name s status (sinks before after f g other other h h)
+written_formats kind name s p status before after f g other h text reports only =
+    formats kind name s status (sinks before after f g other other h h) (record { end_is = Ok p; happens = text; shown = written_ends name p status before after f g other h reports }) only
 
 -- likewise a fault that was reported
-pub faulted_formats : (name : List ℕ) (s : Setting) (fault : FormatFault) (status : ℕ) (before after : Option (List ℕ)) (f g : ℕ) (other : Option (List ℕ)) (h : ℕ)
-    → FormatFails s name fault → ReportsIfMemory (fault_status fault) (fault_text name fault) status before after f g → IsOnlyEnd s name (Err fault)
-    → Formats name s status (sinks other other h h before after f g)
-faulted_formats name s fault status before after f g other h fails reports only =
-    formats name s status (sinks other other h h before after f g) (record { end_is = Err fault; happens = fails; shown = faulted_ends name fault status before after f g other h reports }) only
+pub faulted_formats : (kind : Kind) (name : List ℕ) (s : Setting) (fault : FormatFault) (status : ℕ) (before after : Option (List ℕ)) (f g : ℕ) (other : Option (List ℕ)) (h : ℕ)
+    → FormatFails kind s name fault → ReportsIfMemory (fault_status fault) (fault_text name fault) status before after f g → IsOnlyEnd kind s name (Err fault)
+    → Formats kind name s status (sinks other other h h before after f g)
+faulted_formats kind name s fault status before after f g other h fails reports only =
+    formats kind name s status (sinks other other h h before after f g) (record { end_is = Err fault; happens = fails; shown = faulted_ends name fault status before after f g other h reports }) only
 
 -- ---- no other end is due
 
@@ -154,118 +152,77 @@ one_file Lacking bytes others known m h = absurd m
 one_file (Holding x) bytes others known m h = sym m ∙ h
 
 -- a source that is missing
-missing_only : (s : Setting) (name : List ℕ) → LoadFails s name source_limit Absent → IsOnlyEnd s name (Err (NotLoaded Absent))
-missing_only s name fails told (Ok p) h = absurd (missing_loads (s.told name) _ _ h.bytes (told name) fails h.loaded.told)
-missing_only s name fails told (Err (NotLoaded Absent)) h = inl refl
-missing_only s name fails told (Err (NotLoaded TooLong)) h = absurd (missing_long (s.told name) source_limit _ _ _ _ (told name) fails h.1)
-missing_only s name fails told (Err (NotLoaded Failed)) h = absurd h.0
-missing_only s name fails told (Err (NotLoaded NoMemoryToLoad)) h = absurd h.0
-missing_only s name fails told (Err (Refused fault place)) h = absurd (missing_loads (s.told name) _ _ h.bytes (told name) fails h.loaded.told)
+missing_only : (kind : Kind) (s : Setting) (name : List ℕ) → LoadFails s name source_limit Absent → IsOnlyEnd kind s name (Err (NotLoaded Absent))
+missing_only kind s name fails told (Ok p) h = absurd (missing_loads (s.told name) _ _ h.bytes (told name) fails h.loaded.told)
+missing_only kind s name fails told (Err (NotLoaded Absent)) h = inl refl
+missing_only kind s name fails told (Err (NotLoaded TooLong)) h = absurd (missing_long (s.told name) source_limit _ _ _ _ (told name) fails h.1)
+missing_only kind s name fails told (Err (NotLoaded Failed)) h = absurd h.0
+missing_only kind s name fails told (Err (NotLoaded NoMemoryToLoad)) h = absurd h.0
+missing_only kind s name fails told (Err (Refused fault place)) h = absurd (missing_loads (s.told name) _ _ h.bytes (told name) fails h.loaded.told)
 
 -- a source that is too long
-long_only : (s : Setting) (name : List ℕ) → LoadFails s name source_limit TooLong → IsOnlyEnd s name (Err (NotLoaded TooLong))
-long_only s name fails told (Ok p) h = absurd (long_loads (s.told name) source_limit _ _ h.bytes (told name) fails h.loaded.told h.loaded.within)
-long_only s name fails told (Err (NotLoaded Absent)) h = absurd (missing_long (s.told name) source_limit _ _ _ _ (told name) h.1 fails)
-long_only s name fails told (Err (NotLoaded TooLong)) h = inl refl
-long_only s name fails told (Err (NotLoaded Failed)) h = absurd h.0
-long_only s name fails told (Err (NotLoaded NoMemoryToLoad)) h = absurd h.0
-long_only s name fails told (Err (Refused fault place)) h = absurd (long_loads (s.told name) source_limit _ _ h.bytes (told name) fails h.loaded.told h.loaded.within)
+long_only : (kind : Kind) (s : Setting) (name : List ℕ) → LoadFails s name source_limit TooLong → IsOnlyEnd kind s name (Err (NotLoaded TooLong))
+long_only kind s name fails told (Ok p) h = absurd (long_loads (s.told name) source_limit _ _ h.bytes (told name) fails h.loaded.told h.loaded.within)
+long_only kind s name fails told (Err (NotLoaded Absent)) h = absurd (missing_long (s.told name) source_limit _ _ _ _ (told name) h.1 fails)
+long_only kind s name fails told (Err (NotLoaded TooLong)) h = inl refl
+long_only kind s name fails told (Err (NotLoaded Failed)) h = absurd h.0
+long_only kind s name fails told (Err (NotLoaded NoMemoryToLoad)) h = absurd h.0
+long_only kind s name fails told (Err (Refused fault place)) h = absurd (long_loads (s.told name) source_limit _ _ h.bytes (told name) fails h.loaded.told h.loaded.within)
 
 -- a source that isn't loaded
-pub load_only : (s : Setting) (name : List ℕ) (fault : LoadFault) → LoadFails s name source_limit fault → IsOnlyEnd s name (Err (NotLoaded fault))
-load_only s name Absent fails = missing_only s name fails
-load_only s name TooLong fails = long_only s name fails
-load_only s name Failed fails = λ told due h. inr tt
-load_only s name NoMemoryToLoad fails = λ told due h. inr tt
+pub load_only : (kind : Kind) (s : Setting) (name : List ℕ) (fault : LoadFault) → LoadFails s name source_limit fault → IsOnlyEnd kind s name (Err (NotLoaded fault))
+load_only kind s name Absent fails = missing_only kind s name fails
+load_only kind s name TooLong fails = long_only kind s name fails
+load_only kind s name Failed fails = λ told due h. inr tt
+load_only kind s name NoMemoryToLoad fails = λ told due h. inr tt
 
 -- a source that is loaded lacks no file and isn't too long
-loaded_plain : (s : Setting) (name bytes : List ℕ) (fault : LoadFault) → IsTold s → Loads s name source_limit bytes → IsEndDue s name (Err (NotLoaded fault)) → ⊥
-loaded_plain s name bytes Absent told loaded h = missing_loads (s.told name) _ _ bytes (told name) h.1 loaded.told
-loaded_plain s name bytes TooLong told loaded h = long_loads (s.told name) source_limit _ _ bytes (told name) h.1 loaded.told loaded.within
-loaded_plain s name bytes Failed told loaded h = h.0
-loaded_plain s name bytes NoMemoryToLoad told loaded h = h.0
+loaded_plain : (kind : Kind) (s : Setting) (name bytes : List ℕ) (fault : LoadFault) → IsTold s → Loads s name source_limit bytes → IsEndDue kind s name (Err (NotLoaded fault)) → ⊥
+loaded_plain kind s name bytes Absent told loaded h = missing_loads (s.told name) _ _ bytes (told name) h.1 loaded.told
+loaded_plain kind s name bytes TooLong told loaded h = long_loads (s.told name) source_limit _ _ bytes (told name) h.1 loaded.told loaded.within
+loaded_plain kind s name bytes Failed told loaded h = h.0
+loaded_plain kind s name bytes NoMemoryToLoad told loaded h = h.0
 
--- what was read, as an end
-abbrev as_end : Result Program SourceFault → FormatEnd
-as_end (Ok p) = Ok p
-as_end (Err f) = Err (NotLoaded Absent)
-
-abbrev fault_or : SourceFault → Result Program SourceFault → SourceFault
-fault_or d (Ok p) = d
-fault_or d (Err f) = f
-
-abbrev IsRead : Result Program SourceFault → Type 0
-IsRead (Ok p) = Unit {0}
-IsRead (Err f) = ⊥
-
-abbrev reads : Program → Result Program SourceFault
-reads p = Ok p
-
-abbrev fails : SourceFault → Result Program SourceFault
-fails f = Err f
-
-read_or_fault : (p : Program) (f : SourceFault) → reads p ≡ fails f → ⊥
-read_or_fault p f h = subst IsRead h tt
-
-abbrev refused_at : SourceFault → ℕ × ℕ → FormatEnd
+abbrev refused_at : Refusal → ℕ × ℕ → FormatEnd
 refused_at f lc = Err (Refused f (record { line = lc.0; column = lc.1 }))
 
--- a source that spells a program
-pub text_only : (s : Setting) (name bytes : List ℕ) (p : Program) → Loads s name source_limit bytes
-    → ((q : Program) → Spells bytes q → Answers (Ok q) (Ok p)) → ((f : SourceFault) → IsDue bytes f → Answers (Err f) (Ok p)) → IsOnlyEnd s name (Ok p)
-text_only s name bytes p loaded spelled due told (Ok q) h =
+abbrev text_end : List ℕ → FormatEnd
+text_end t = Ok t
+
+-- a source that has the text
+pub text_only : (kind : Kind) (s : Setting) (name bytes p : List ℕ) → Loads s name source_limit bytes
+    → ((q : List ℕ) → IsText kind bytes q → p ≡ q) → ((f : Refusal) → IsDue kind bytes f → ⊥) → IsOnlyEnd kind s name (Ok p)
+text_only kind s name bytes p loaded complete exact told (Ok q) h =
     let same = one_file (s.told name) h.bytes bytes (told name) h.loaded.told loaded.told in
-    inl (ap as_end (spelled q (subst (λ (b : List ℕ). Spells b q) same h.spelled)))
-text_only s name bytes p loaded spelled due told (Err (NotLoaded fault)) h = absurd (loaded_plain s name bytes fault told loaded h)
-text_only s name bytes p loaded spelled due told (Err (Refused fault place)) h =
+    inl (ap text_end (sym (complete q (subst (λ (b : List ℕ). IsText kind b q) same h.spelled))))
+text_only kind s name bytes p loaded complete exact told (Err (NotLoaded fault)) h = absurd (loaded_plain kind s name bytes fault told loaded h)
+text_only kind s name bytes p loaded complete exact told (Err (Refused fault place)) h =
     let same = one_file (s.told name) h.bytes bytes (told name) h.loaded.told loaded.told in
-    absurd (read_or_fault p fault (sym (due fault (subst (λ (b : List ℕ). IsDue b fault) same h.due))))
+    absurd (exact fault (subst (λ (b : List ℕ). IsDue kind b fault) same h.due))
+
+both_ways : (b : Bool) → b ≡ true → b ≡ false → ⊥
+both_ways b up un = absurd (true≢false (sym up ∙ un))
 
 -- a source that is refused, with memory left
-refused_only : (s : Setting) (name bytes : List ℕ) (f : SourceFault) (place : Place) → Loads s name source_limit bytes
-    → (place.line, place.column) ≡ place_of bytes (offset f) → f ≢ source.NoMemory
-    → ((q : Program) → Spells bytes q → Answers (Ok q) (Err f)) → ((g : SourceFault) → IsDue bytes g → Answers (Err g) (Err f)) → IsOnlyEnd s name (Err (Refused f place))
-refused_only s name bytes f place loaded stands left spelled due told (Ok q) h =
+refused_only : (kind : Kind) (s : Setting) (name bytes : List ℕ) (f : Refusal) (place : Place) → Loads s name source_limit bytes
+    → (place.line, place.column) ≡ place_of bytes (offset f) → is_no_memory f ≡ false
+    → ((q : List ℕ) → IsText kind bytes q → is_no_memory f ≡ true) → ((g : Refusal) → IsDue kind bytes g → is_no_memory f ≡ false → f ≡ g) → IsOnlyEnd kind s name (Err (Refused f place))
+refused_only kind s name bytes f place loaded stands left complete exact told (Ok q) h =
     let same = one_file (s.told name) h.bytes bytes (told name) h.loaded.told loaded.told in
-    absurd (read_or_fault q f (spelled q (subst (λ (b : List ℕ). Spells b q) same h.spelled) left))
-refused_only s name bytes f place loaded stands left spelled due told (Err (NotLoaded fault)) h = absurd (loaded_plain s name bytes fault told loaded h)
-refused_only s name bytes f place loaded stands left spelled due told (Err (Refused g other)) h =
+    absurd (both_ways (is_no_memory f) (complete q (subst (λ (b : List ℕ). IsText kind b q) same h.spelled)) left)
+refused_only kind s name bytes f place loaded stands left complete exact told (Err (NotLoaded fault)) h = absurd (loaded_plain kind s name bytes fault told loaded h)
+refused_only kind s name bytes f place loaded stands left complete exact told (Err (Refused g other)) h =
     let same = one_file (s.told name) h.bytes bytes (told name) h.loaded.told loaded.told in
-    let fault : g ≡ f = ap (fault_or f) (due g (subst (λ (b : List ℕ). IsDue b g) same h.due) left) in
-    let here : (other.line, other.column) ≡ (place.line, place.column) = h.stands ∙ (ap (λ (b : List ℕ). place_of b (offset g)) same ∙ (ap (λ (x : SourceFault). place_of bytes (offset x)) fault ∙ sym stands)) in
-    inl (ap (λ (x : SourceFault). refused_at x (other.line, other.column)) fault ∙ ap (refused_at f) here)
-
-abbrev IsTrueBool : Bool → Type 0
-IsTrueBool true = Unit {0}
-IsTrueBool false = ⊥
-
--- want of memory is no other fault
-has_memory : (f : SourceFault) → is_no_memory f ≡ false → f ≢ source.NoMemory
-has_memory f h e = subst IsTrueBool (sym (ap (λ (x : SourceFault). is_no_memory x) e) ∙ h) tt
+    let fault : g ≡ f = sym (exact g (subst (λ (b : List ℕ). IsDue kind b g) same h.due) left) in
+    let here : (other.line, other.column) ≡ (place.line, place.column) = h.stands ∙ (ap (λ (b : List ℕ). place_of b (offset g)) same ∙ (ap (λ (x : Refusal). place_of bytes (offset x)) fault ∙ sym stands)) in
+    inl (ap (λ (x : Refusal). refused_at x (other.line, other.column)) fault ∙ ap (refused_at f) here)
 
 -- a source that is refused
-pub fault_only : (s : Setting) (name bytes : List ℕ) (f : SourceFault) (place : Place) → Loads s name source_limit bytes
+pub fault_only : (kind : Kind) (s : Setting) (name bytes : List ℕ) (f : Refusal) (place : Place) → Loads s name source_limit bytes
     → (place.line, place.column) ≡ place_of bytes (offset f)
-    → ((q : Program) → Spells bytes q → Answers (Ok q) (Err f)) → ((g : SourceFault) → IsDue bytes g → Answers (Err g) (Err f)) → IsOnlyEnd s name (Err (Refused f place))
-fault_only s name bytes f place loaded stands spelled due = by_memory (is_no_memory f) refl
+    → ((q : List ℕ) → IsText kind bytes q → is_no_memory f ≡ true) → ((g : Refusal) → IsDue kind bytes g → is_no_memory f ≡ false → f ≡ g) → IsOnlyEnd kind s name (Err (Refused f place))
+fault_only kind s name bytes f place loaded stands complete exact = by_memory (is_no_memory f) refl
   where
-    by_memory : (b : Bool) → is_no_memory f ≡ b → IsOnlyEnd s name (Err (Refused f place))
+    by_memory : (b : Bool) → is_no_memory f ≡ b → IsOnlyEnd kind s name (Err (Refused f place))
     by_memory true none = λ told e h. inr none
-    by_memory false left = refused_only s name bytes f place loaded stands (has_memory f left) spelled due
-
--- ---- the words
-
-abbrev first : List (List ℕ) → List ℕ
-first [] = []
-first (w ∷ ws) = w
-
-abbrev second : List (List ℕ) → List ℕ
-second [] = []
-second (w ∷ ws) = first ws
-
--- words name one source
-one_source : (words : List (List ℕ)) (a b : List ℕ) → FormatCommand words a → FormatCommand words b → a ≡ b
-one_source words a b ca cb = ap second (sym ca.spelled ∙ cb.spelled)
-
-pub format_same : (words : List (List ℕ)) (a b : List ℕ) (s : Setting) (status : ℕ) (k : Sinks) → FormatCommand words a → FormatCommand words b → Formats a s status k → Formats b s status k
-format_same words a b s status k ca cb h = subst (λ (n : List ℕ). Formats n s status k) (one_source words a b ca cb) h
+    by_memory false left = refused_only kind s name bytes f place loaded stands left complete exact

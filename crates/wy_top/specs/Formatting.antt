@@ -1,16 +1,17 @@
--- What does the command `fmt SOURCE` come to? How it can end, where it ends so, and what is shown then.
-use Rattle.std.specs.Prelude.{◌≡◌, ◌⊎◌, ℕ, List, [], ◌∷◌, ◌++◌, codes, false, true, if◌then◌else◌, Result, Ok, Err}
+-- What do the commands `fmt SOURCE` and `dis SOURCE` come to? How they can end, where they end so, and what is shown then.
+use Rattle.std.specs.Prelude.{◌≡◌, ◌⊎◌, ℕ, List, [], ◌∷◌, ◌++◌, codes, false, true, if◌then◌else◌, Result, Ok, Err, Vec}
+use Rattle.std.specs.declared.alloc.Global.{Global}
 use Rattle.std.specs.Fmt.{decimal}
 use Rattle.wy_port.specs.Count.{Rose}
 use Rattle.wy_port.specs.Taken.{with_taken, TookFront}
 use Rattle.wy_port.specs.declared.files.LoadFault.TheVariants.{Absent, TooLong, Failed, NoMemory as NoMemoryToLoad}
-use Rattle.wy_ast.specs.declared.declarations.Program.{Program}
-use Rattle.wy_front.specs.Front.{Spells, IsRefused, IsDue}
-use Rattle.wy_front.specs.Faults.{offset, word, is_no_memory}
 use Rattle.wy_front.specs.Places.{place_of}
-use Rattle.wy_front.specs.declared.fault.SourceFault.{SourceFault}
 use Rattle.wy_front.specs.declared.place.Place.{Place}
-use Rattle.wy_print.specs.ProgramText.{program_text}
+use Rattle.wy_source.specs.Refusals.{offset, word, is_no_memory}
+use Rattle.wy_source.specs.declared.refusal.Refusal.{Refusal}
+use Rattle.wy_texts.specs.Texts.{IsDue, IsRefused, IsText}
+use Rattle.wy_texts.specs.declared.kind.Kind.{Kind}
+use Rattle.wy_texts.specs.declared.kind.Kind.TheVariants.{Layout, Listing}
 use Rattle.wy_top.specs.declared.formatting.FormatFault.{FormatFault}
 use Rattle.wy_top.specs.declared.formatting.FormatFault.TheVariants.{NotLoaded, Refused}
 use Rattle.wy_top.specs.CommandLine.{is_option}
@@ -18,43 +19,53 @@ use Rattle.wy_top.specs.Diagnostics.{load_status, load_text, lf}
 use Rattle.wy_top.specs.Outcome.{Setting, Loads, LoadFails, source_limit}
 use Rattle.wy_top.specs.Run.{Sinks, IsPlain, IsTold}
 
--- the words are `fmt SOURCE`, and SOURCE is no option
-pub record FormatCommand (words : List (List ℕ)) (source : List ℕ) : Type 0 where
-  pub spelled : words ≡ codes "fmt" ∷ source ∷ []
+-- the word of the command that writes this text
+abbrev pub command_for : Kind → List ℕ
+command_for Layout = codes "fmt"
+command_for Listing = codes "dis"
+
+-- the words are `fmt SOURCE` or `dis SOURCE`, and SOURCE is no option
+pub record FormatCommand (words : List (List ℕ)) (kind : Kind) (source : List ℕ) : Type 0 where
+  pub spelled : words ≡ command_for kind ∷ source ∷ []
   pub plain : is_option source ≡ false
 
 -- the words are no such command
 abbrev pub IsNoFormat : List (List ℕ) → Type 0
-IsNoFormat words = (source : List ℕ) → FormatCommand words source → ⊥
+IsNoFormat words = (kind : Kind) (source : List ℕ) → FormatCommand words kind source → ⊥
 
 -- ---- the ends
 
--- the source was loaded and spells the program
-pub record HasText (s : Setting) (name : List ℕ) (program : Program) : Type 0 where
+-- the source was loaded and has this text
+pub record HasText (kind : Kind) (s : Setting) (name : List ℕ) (text : List ℕ) : Type 0 where
   pub bytes : List ℕ
   pub loaded : Loads s name source_limit bytes
-  pub spelled : Spells bytes program
+  pub spelled : IsText kind bytes text
 
--- the source was loaded and is refused so, at this place
-pub record HasFault (s : Setting) (name : List ℕ) (fault : SourceFault) (place : Place) : Type 0 where
+-- the source was loaded and is refused so, at this place, unless memory ran out
+pub record HasFault (kind : Kind) (s : Setting) (name : List ℕ) (fault : Refusal) (place : Place) : Type 0 where
   pub bytes : List ℕ
   pub loaded : Loads s name source_limit bytes
-  pub refused : IsRefused bytes fault
+  pub refused : is_no_memory fault ≡ false → IsRefused kind bytes fault
   pub stands : (place.line, place.column) ≡ place_of bytes (offset fault)
 
--- the source isn't laid out, by this fault
-abbrev pub FormatFails : Setting → List ℕ → FormatFault → Type 0
-FormatFails s name (NotLoaded fault) = LoadFails s name source_limit fault
-FormatFails s name (Refused fault place) = HasFault s name fault place
+-- the text isn't written, by this fault
+abbrev pub FormatFails : Kind → Setting → List ℕ → FormatFault → Type 0
+FormatFails kind s name (NotLoaded fault) = LoadFails s name source_limit fault
+FormatFails kind s name (Refused fault place) = HasFault kind s name fault place
 
--- the program that is laid out, or the fault
+-- the text that is written, or the fault
 abbrev pub FormatEnd : Type 0
-FormatEnd = Result Program FormatFault
+FormatEnd = Result (List ℕ) FormatFault
 
--- the format of the source ends so
-abbrev pub FormatsTo : Setting → List ℕ → FormatEnd → Type 0
-FormatsTo s name (Ok program) = HasText s name program
-FormatsTo s name (Err fault) = FormatFails s name fault
+-- what the code answers, as an end
+abbrev pub seen_end : Result (Vec ℕ Global) FormatFault → FormatEnd
+seen_end (Ok text) = Ok text.items
+seen_end (Err fault) = Err fault
+
+-- the command on the source ends so
+abbrev pub FormatsTo : Kind → Setting → List ℕ → FormatEnd → Type 0
+FormatsTo kind s name (Ok text) = HasText kind s name text
+FormatsTo kind s name (Err fault) = FormatFails kind s name fault
 
 -- ---- what is shown
 
@@ -71,15 +82,15 @@ fault_text name (NotLoaded fault) = load_text name fault
 fault_text name (Refused fault place) = if is_no_memory fault then [] else fault_line name (word fault) place
 
 abbrev pub format_status : FormatEnd → ℕ
-format_status (Ok program) = 0
+format_status (Ok text) = 0
 format_status (Err fault) = fault_status fault
 
 abbrev pub format_out : FormatEnd → List ℕ
-format_out (Ok program) = program_text program
+format_out (Ok text) = text
 format_out (Err fault) = []
 
 abbrev pub format_err : List ℕ → FormatEnd → List ℕ
-format_err name (Ok program) = []
+format_err name (Ok text) = []
 format_err name (Err fault) = fault_text name fault
 
 -- the status is that of the end, and the sinks took its texts whole
@@ -104,30 +115,30 @@ pub record ShowsNothing (status : ℕ) (k : Sinks) : Type 0 where
 abbrev pub Shown : List ℕ → FormatEnd → ℕ → Sinks → Type 0
 Shown name e status k = ShowsFormat name e status k ⊎ (ShowsFormatFront name e status k ⊎ ShowsNothing status k)
 
--- the format comes to an end, and shows it
-pub record FormatEnds (name : List ℕ) (s : Setting) (status : ℕ) (k : Sinks) : Type 0 where
+-- the command comes to an end, and shows it
+pub record FormatEnds (kind : Kind) (name : List ℕ) (s : Setting) (status : ℕ) (k : Sinks) : Type 0 where
   pub end_is : FormatEnd
-  pub happens : FormatsTo s name end_is
+  pub happens : FormatsTo kind s name end_is
   pub shown : Shown name end_is status k
 
 -- ---- exactly where each end comes
 
 -- the source was loaded, and this fault is the one to be given, at this place
-pub record IsFaultDue (s : Setting) (name : List ℕ) (fault : SourceFault) (place : Place) : Type 0 where
+pub record IsFaultDue (kind : Kind) (s : Setting) (name : List ℕ) (fault : Refusal) (place : Place) : Type 0 where
   pub bytes : List ℕ
   pub loaded : Loads s name source_limit bytes
-  pub due : IsDue bytes fault
+  pub due : IsDue kind bytes fault
   pub stands : (place.line, place.column) ≡ place_of bytes (offset fault)
 
 -- the end follows from the name and the files
-abbrev pub IsEndDue : Setting → List ℕ → FormatEnd → Type 0
-IsEndDue s name (Ok program) = HasText s name program
-IsEndDue s name (Err (NotLoaded fault)) = IsPlain fault × LoadFails s name source_limit fault
-IsEndDue s name (Err (Refused fault place)) = IsFaultDue s name fault place
+abbrev pub IsEndDue : Kind → Setting → List ℕ → FormatEnd → Type 0
+IsEndDue kind s name (Ok text) = HasText kind s name text
+IsEndDue kind s name (Err (NotLoaded fault)) = IsPlain fault × LoadFails s name source_limit fault
+IsEndDue kind s name (Err (Refused fault place)) = IsFaultDue kind s name fault place
 
 -- the end is a failure of the outside, or want of memory
 abbrev pub IsOutside : FormatEnd → Type 0
-IsOutside (Ok program) = ⊥
+IsOutside (Ok text) = ⊥
 IsOutside (Err (NotLoaded Absent)) = ⊥
 IsOutside (Err (NotLoaded TooLong)) = ⊥
 IsOutside (Err (NotLoaded Failed)) = Unit {0}
@@ -135,26 +146,26 @@ IsOutside (Err (NotLoaded NoMemoryToLoad)) = Unit {0}
 IsOutside (Err (Refused fault place)) = is_no_memory fault ≡ true
 
 -- where files are told, an end that is due is this one, unless this one comes from outside
-abbrev pub IsOnlyEnd : Setting → List ℕ → FormatEnd → Type 0
-IsOnlyEnd s name e = IsTold s → (due : FormatEnd) → IsEndDue s name due → (due ≡ e) ⊎ IsOutside e
+abbrev pub IsOnlyEnd : Kind → Setting → List ℕ → FormatEnd → Type 0
+IsOnlyEnd kind s name e = IsTold s → (due : FormatEnd) → IsEndDue kind s name due → (due ≡ e) ⊎ IsOutside e
 
 -- where files are told and this end is due, it is shown whole, but for a failed load, a failed sink and want of memory
-abbrev pub IsFormatExact : List ℕ → Setting → ℕ → Sinks → Type 0
-IsFormatExact name s status k = IsTold s → (e : FormatEnd) → IsEndDue s name e → ShowsFormat name e status k ⊎ ((status ≡ 4) ⊎ ((status ≡ 5) ⊎ (status ≡ 9)))
+abbrev pub IsFormatExact : Kind → List ℕ → Setting → ℕ → Sinks → Type 0
+IsFormatExact kind name s status k = IsTold s → (e : FormatEnd) → IsEndDue kind s name e → ShowsFormat name e status k ⊎ ((status ≡ 4) ⊎ ((status ≡ 5) ⊎ (status ≡ 9)))
 
 -- the cause of each status but 5 and 9, of which 9 has none
-pub record FormatCause (name : List ℕ) (s : Setting) (status : ℕ) : Type 0 where
-  pub done : status ≡ 0 → (p : Program) × HasText s name p
-  pub refused : status ≡ 1 → (fault : SourceFault) × (place : Place) × HasFault s name fault place
+pub record FormatCause (kind : Kind) (name : List ℕ) (s : Setting) (status : ℕ) : Type 0 where
+  pub done : status ≡ 0 → (text : List ℕ) × HasText kind s name text
+  pub refused : status ≡ 1 → (fault : Refusal) × (place : Place) × (is_no_memory fault ≡ false) × HasFault kind s name fault place
   pub absent : status ≡ 3 → LoadFails s name source_limit Absent
   pub load_failed : status ≡ 4 → Rose s.faults_before s.faults_after
   pub too_long : status ≡ 10 → LoadFails s name source_limit TooLong
 
 -- ---- the statement
 
--- What `fmt` on this source comes to. An end happens, by its whole cause, and the status and the sinks show it; each status has its cause; and each end comes exactly where it is due: the text of the program where the source spells one, and else the fault that stands first, at its line and column.
-pub record Formats (name : List ℕ) (s : Setting) (status : ℕ) (k : Sinks) : Type 0 where
-  pub ends : FormatEnds name s status k
-  pub cause : FormatCause name s status
+-- What `fmt` or `dis` on this source comes to. An end happens, by its whole cause, and the status and the sinks show it; each status has its cause; and each end comes exactly where it is due: the text where the source has one, and else the fault that is to be given, at its line and column.
+pub record Formats (kind : Kind) (name : List ℕ) (s : Setting) (status : ℕ) (k : Sinks) : Type 0 where
+  pub ends : FormatEnds kind name s status k
+  pub cause : FormatCause kind name s status
   pub sink_cause : status ≡ 5 → Rose k.out_faults_before k.out_faults_after ⊎ Rose k.err_faults_before k.err_faults_after
-  pub exact : IsFormatExact name s status k
+  pub exact : IsFormatExact kind name s status k

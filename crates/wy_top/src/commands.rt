@@ -10,6 +10,7 @@ ghost use Rattle.wy_top.specs.Reporting.{Reports, ReportsIfMemory};
 ghost use Rattle.wy_top.specs.Outcome.{returned, no_command, refused};
 ghost use Rattle.wy_top.specs.Formatting.{FormatCommand, Formats, IsNoFormat};
 ghost use Rattle.wy_top.specs.Run.{Runs};
+ghost use Rattle.wy_texts.specs.declared.kind.Kind.{Kind};
 
 use crate::command_line::{Operands, read_words};
 use crate::diagnostics::{WORDS_REFUSED, WORDS_STATUS, number_line, status, text};
@@ -61,16 +62,17 @@ fn print<O: Sink>(alloc: Global, number: i128, out: &mut O) -> u8
 
 /// Does what `words` say, over `files`, and answers the exit status. Results go to `out`, refusals to `err`.
 ///
-/// The words are `run SOURCE CERT NAME ARGS` or `fmt SOURCE`, without the program's own name. The steps are taken in
-/// this order, and the first that fails ends the call: the words, SOURCE is loaded and read, CERT is loaded and read
-/// unless it is the word `none`, the verdicts on the conditions, the entry NAME, the argument in ARGS, the requires
+/// The words are `run SOURCE CERT NAME ARGS`, `fmt SOURCE` or `dis SOURCE`, without the program's own name. The steps are
+/// taken in this order, and the first that fails ends the call: the words, SOURCE is loaded and read, CERT is loaded and
+/// read unless it is the word `none`, the verdicts on the conditions, the entry NAME, the argument in ARGS, the requires
 /// clause. `fmt` loads and reads SOURCE alone and writes it anew: what it writes is the text of the program exactly
-/// where the source spells one.
+/// where the source spells one. `dis` writes the listing of the program's code exactly where the source spells a program
+/// whose names are bound, that is well typed, and that assigns each variable before its uses.
 ///
 /// | status | when |
 /// |---|---|
-/// | 0 | the program was accepted and ran, and `out` took its result on a line; or `out` took the source's new text |
-/// | 1 | the source is no program (for `run`: no thin one), or a condition has no valid certificate |
+/// | 0 | the program was accepted and ran, and `out` took its result on a line; or `out` took the source's new text or its listing |
+/// | 1 | the source is refused (for `run`: it is no thin program), or a condition has no valid certificate |
 /// | 2 | the words are no command |
 /// | 3, 4, 10 | a file is absent, was not loaded, or is too long |
 /// | 5 | a sink failed |
@@ -90,7 +92,7 @@ pub fn run_words<F: Files, O: Sink, E: Sink>(
         (setting (F.told files.old) (F.load_faults files.old) (F.load_faults files.new) (F.misses files.old) (F.misses files.new))
         result
         (sinks (O.taken out.old) (O.taken out.new) (O.faults out.old) (O.faults out.new) (E.taken err.old) (E.taken err.new) (E.faults err.old) (E.faults err.new)) }
-    ensures formats { (source : List ℕ) → FormatCommand (plain_words words.now) source → Formats source
+    ensures formats { (kind : Kind) (source : List ℕ) → FormatCommand (plain_words words.now) kind source → Formats kind source
         (setting (F.told files.old) (F.load_faults files.old) (F.load_faults files.new) (F.misses files.old) (F.misses files.new))
         result
         (sinks (O.taken out.old) (O.taken out.new) (O.faults out.old) (O.faults out.new) (E.taken err.old) (E.taken err.new) (E.faults err.old) (E.faults err.new)) }
@@ -100,7 +102,7 @@ pub fn run_words<F: Files, O: Sink, E: Sink>(
     ensures kept { (name : List ℕ) → F.told files.new name ≡ F.told files.old name }
 {
     match read_format(words) {
-        Some(source) => format(alloc, source, files, out, err),
+        Some((kind, source)) => format(alloc, kind, source, files, out, err),
         None => run_command(alloc, words, files, out, err),
     }
 }

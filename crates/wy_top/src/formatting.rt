@@ -1,11 +1,10 @@
-//! The command `fmt`: a source, laid out anew.
+//! The commands `fmt` and `dis`: a source laid out anew, and the listing of its code.
 ghost use Rattle.std.specs.Prelude.{◌≡◌, ◌≤◌, ℕ, List, Ok, Err, IfOk, IfErr, IfSome, IfNone, MatchResult};
 ghost use Rattle.std.specs.String.{string_bytes};
-ghost use Rattle.wy_print.specs.ProgramText.{program_text};
-ghost use Rattle.wy_front.specs.Faults.{is_no_memory as has_no_memory, word as word_of};
 ghost use Rattle.wy_top.specs.CommandLine.{plain_words};
 ghost use Rattle.wy_top.specs.Formatting as spec;
-ghost use Rattle.wy_top.specs.Formatting.{FormatCommand, FormatFails, Formats, HasText, IsNoFormat, IsOnlyEnd};
+ghost use Rattle.wy_top.specs.Formatting.{FormatCommand, FormatFails, Formats, HasText, IsNoFormat, IsOnlyEnd, command_for};
+ghost use Rattle.wy_texts.specs.declared.kind.Kind.{Kind};
 ghost use Rattle.wy_top.specs.Reporting.{ReportsIfMemory};
 ghost use Rattle.wy_top.specs.Steps.{setting, sinks};
 
@@ -14,43 +13,64 @@ use crate::commands::{NO_MEMORY, report};
 use crate::diagnostics::{load_line, load_status};
 use crate::run::SOURCE_LIMIT;
 use std::alloc::{AllocError, Global};
-use wy_ast::Program;
-use wy_front::{Place, SourceFault, is_no_memory, locate, offset, read, word};
+use wy_front::{Place, locate};
 use wy_port::{Files, LoadFault, Sink};
-use wy_print::print;
+use wy_source::{Refusal, is_no_memory, offset, word};
+use wy_texts::{Kind, text_of};
 
-/// Why a source isn't laid out.
+/// Why a text of a source isn't written.
 #[derive(Clone, Copy, Debug, PartialEq, Eq)]
 pub enum FormatFault {
     /// The source file was not loaded.
     NotLoaded(LoadFault),
-    /// The source is no program: its fault, and where that stands. Want of memory stands nowhere.
-    Refused(SourceFault, Place),
+    /// The source has no such text: why, and where the fault stands. Want of memory stands nowhere.
+    Refused(Refusal, Place),
 }
 
-/// The source that the words `fmt SOURCE` name. Any others, and words with an option, name none.
-pub fn read_format(words: &[String]) -> Option<&str>
-    ensures reads { IfSome result (λ source. FormatCommand (plain_words words.now) source.now) }
+// The text that the command with this word writes.
+fn kind_of(command: &str) -> Option<Kind>
+    ensures reads { IfSome result (λ kind. command.now ≡ command_for kind) }
+    ensures refuses { IfNone result ((kind : Kind) → command.now ≡ command_for kind → ⊥) }
+{
+    if command == "fmt" {
+        return Some(Kind::Layout);
+    }
+    if command == "dis" {
+        return Some(Kind::Listing);
+    }
+    None
+}
+
+/// The text and the source that the words `fmt SOURCE` or `dis SOURCE` ask for. Any others, and words with an option, ask
+/// for none.
+pub fn read_format(words: &[String]) -> Option<(Kind, &str)>
+    ensures reads { IfSome result (λ p. FormatCommand (plain_words words.now) p.0 p.1.now) }
     ensures refuses { IfNone result (IsNoFormat (plain_words words.now)) }
 {
     let [command, source] = words else {
         return None;
     };
-    if command.as_str() != "fmt" {
-        return None;
-    }
+    let kind = match kind_of(command) {
+        Some(kind) => kind,
+        None => return None,
+    };
     if is_option(source) {
         return None;
     }
-    Some(source)
+    Some((kind, source))
 }
 
-// The program of the source, or why there is none.
-fn program<F: Files>(alloc: Global, source: &str, files: &mut F) -> Result<Program, FormatFault>
+// The text of the source, or why there is none.
+fn written<F: Files>(
+    alloc: Global,
+    kind: Kind,
+    source: &str,
+    files: &mut F,
+) -> Result<Vec<u8>, FormatFault>
     ensures gives { MatchResult result
-        (HasText (setting (F.told files.old) (F.load_faults files.old) (F.load_faults files.new) (F.misses files.old) (F.misses files.new)) source.now)
-        (FormatFails (setting (F.told files.old) (F.load_faults files.old) (F.load_faults files.new) (F.misses files.old) (F.misses files.new)) source.now) }
-    ensures only { IsOnlyEnd (setting (F.told files.old) (F.load_faults files.old) (F.load_faults files.new) (F.misses files.old) (F.misses files.new)) source.now result }
+        (λ text. HasText kind (setting (F.told files.old) (F.load_faults files.old) (F.load_faults files.new) (F.misses files.old) (F.misses files.new)) source.now text.items)
+        (FormatFails kind (setting (F.told files.old) (F.load_faults files.old) (F.load_faults files.new) (F.misses files.old) (F.misses files.new)) source.now) }
+    ensures only { IsOnlyEnd kind (setting (F.told files.old) (F.load_faults files.old) (F.load_faults files.new) (F.misses files.old) (F.misses files.new)) source.now (spec.seen_end result) }
     ensures save_count { F.save_faults files.new ≡ F.save_faults files.old }
     ensures kept { (name : List ℕ) → F.told files.new name ≡ F.told files.old name }
 {
@@ -58,8 +78,8 @@ fn program<F: Files>(alloc: Global, source: &str, files: &mut F) -> Result<Progr
         Ok(bytes) => bytes,
         Err(fault) => return Err(FormatFault::NotLoaded(fault)),
     };
-    match read(alloc, &bytes) {
-        Ok(program) => Ok(program),
+    match text_of(alloc, kind, &bytes) {
+        Ok(text) => Ok(text),
         Err(fault) => Err(FormatFault::Refused(fault, locate(&bytes, offset(fault)))),
     }
 }
@@ -98,17 +118,6 @@ fn fault_text(alloc: Global, source: &str, fault: FormatFault) -> Result<String,
     }
 }
 
-// Writes the text of the program, and answers the status.
-fn write_program<O: Sink>(alloc: Global, program: &Program, out: &mut O) -> u8
-    ensures reports { ReportsIfMemory 0 (program_text program.now) result (O.taken out.old) (O.taken out.new) (O.faults out.old) (O.faults out.new) }
-    ensures count { O.faults out.old ≤ O.faults out.new }
-{
-    match print(alloc, program) {
-        Ok(text) => report(out, &text, 0),
-        Err(_) => NO_MEMORY,
-    }
-}
-
 // Writes the text of the fault, and answers its status.
 fn write_fault<E: Sink>(alloc: Global, source: &str, fault: FormatFault, err: &mut E) -> u8
     ensures reports { ReportsIfMemory (spec.fault_status fault) (spec.fault_text source.now fault) result (E.taken err.old) (E.taken err.new) (E.faults err.old) (E.faults err.new) }
@@ -120,23 +129,24 @@ fn write_fault<E: Sink>(alloc: Global, source: &str, fault: FormatFault, err: &m
     }
 }
 
-/// Loads the source, and writes its text on `out`, or the line of its fault on `err`. Answers the status.
+/// Loads the source, and writes its text of this kind on `out`, or the line of its fault on `err`. Answers the status.
 pub fn format<F: Files, O: Sink, E: Sink>(
     alloc: Global,
+    kind: Kind,
     source: &str,
     files: &mut F,
     out: &mut O,
     err: &mut E,
 ) -> u8
-    ensures formats { Formats source.now
+    ensures formats { Formats kind source.now
         (setting (F.told files.old) (F.load_faults files.old) (F.load_faults files.new) (F.misses files.old) (F.misses files.new))
         result
         (sinks (O.taken out.old) (O.taken out.new) (O.faults out.old) (O.faults out.new) (E.taken err.old) (E.taken err.new) (E.faults err.old) (E.faults err.new)) }
     ensures save_count { F.save_faults files.new ≡ F.save_faults files.old }
     ensures kept { (name : List ℕ) → F.told files.new name ≡ F.told files.old name }
 {
-    match program(alloc, source, files) {
-        Ok(program) => write_program(alloc, &program, out),
+    match written(alloc, kind, source, files) {
+        Ok(text) => report(out, &text, 0),
         Err(fault) => write_fault(alloc, source, fault, err),
     }
 }

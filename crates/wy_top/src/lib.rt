@@ -7,7 +7,8 @@
 //!
 //! `command_line` reads the words, and `run` goes from what they name to the number that the program returns, in one
 //! order of steps: `machine` computes that number, and `refusal` has the reasons why there may be none. `diagnostics`
-//! is the one place where a refusal becomes a status and a text. `formatting` lays a source out anew, any program. `commands`
+//! is the one place where a refusal becomes a status and a text. `formatting` lays a source out
+//! anew or lists its code, any program. `commands`
 //! has the whole call, [`run_words`].
 #![tactic(auto)]
 

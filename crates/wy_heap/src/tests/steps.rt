@@ -5,7 +5,7 @@ ghost use Rattle.wy_value.specs.Values.{IsDatum, AreValues};
 ghost use Rattle.wy_heap.specs.Standing.{Stands};
 
 use super::places::{forget, keep};
-use super::slots::{has_path, has_slot, slot_of, slots_of};
+use super::slots::{slot_of, slots_of};
 use crate::part::spend;
 use crate::{Heap, Kind, NoMemory, Place, Slot};
 use std::alloc::Global;
@@ -217,7 +217,7 @@ fn get(heap: &mut Heap, places: &mut Vec<Place>, i: usize, slot: Slot) -> Result
     ensures { OnOk result (Stands heap.new places.new.items) }
 {
     let place = &places[i];
-    if !has_slot(heap, place.part(), slot) {
+    if !heap.has_slot(place, slot) {
         return Err(NoMemory);
     }
     let made = heap.get(place, slot)?;
@@ -263,7 +263,7 @@ fn set(
     ensures { OnOk result (Stands heap.new places.new.items) }
 {
     let mut place = places.remove(i);
-    if !has_path(heap, place.part(), path) {
+    if !heap.has_path(&place, path) {
         forget(place);
         forget(item);
         return Err(NoMemory);

@@ -1,15 +1,12 @@
-use Rattle.std.proofs.Common.{◌++◌, take, drop, suc, sym, subst, refl, ◌∙◌}
-use Rattle.wy_heap.specs.declared.part.Part.{Part}
+use Rattle.std.proofs.Common.{◌++◌, take, drop, suc, sym, subst, refl}
 use Rattle.wy_heap.specs.Standing.{Stands}
-use Rattle.wy_heap.specs.Slots.{IsSlot}
-use Rattle.wy_heap.proofs.RowLemmas.{first_out, shared_in, first_meant}
+use Rattle.wy_heap.proofs.RowLemmas.{first_out, shared_in}
 use Rattle.wy_heap.proofs.tests.steps.get.Goals as goal
 
-pub has_slot-requires-clause-meant : goal.has_slot-requires-clause-meant
-has_slot-requires-clause-meant c =
+pub has_slot-requires : goal.has_slot-requires
+has_slot-requires c =
     let ps = c.args.places.now.items in
-    first_meant c.args.heap.now c.part.result (take c.args.i ps ++ drop (suc c.args.i) ps)
-    (first_out c.args.heap.now ps c.args.i c.part.result c.index-place.result.now (c.part.ensures ∙ c.index-place.ensures) c.requires.there c.requires.stands)
+    record { held = (take c.args.i ps ++ drop (suc c.args.i) ps, first_out c.args.heap.now ps c.args.i c.index-place.result.now c.index-place.result.now c.index-place.ensures c.requires.there c.requires.stands) }
 
 pub get-requires-clause-held : goal.get-requires-clause-held
 get-requires-clause-held c =
@@ -25,4 +22,4 @@ returns c =
     subst (Stands n) (sym c.in_ok-keep.ensures) (shared_in n ps c.args.i c.index-place.result.now c.index-place.result.now c.in_ok-made.made c.index-place.ensures c.requires.there (c.in_ok-made.ensures.acts others first).stands)
 
 pub get-requires-clause-there : goal.get-requires-clause-there
-get-requires-clause-there c = subst (λ (p : Part). IsSlot c.args.heap.now p c.args.slot) c.part.ensures (c.if-not-has_slot.ensures refl)
+get-requires-clause-there c = c.if-not-has_slot.ensures.yes refl

@@ -1,15 +1,14 @@
 use Rattle.std.proofs.Common.{◌∷◌, [], ◌++◌, ◌∙◌, ap, take, drop, suc, sym, subst, refl, List}
 use Rattle.wy_heap.specs.declared.part.Part.{Part}
 use Rattle.wy_heap.specs.Standing.{Stands}
-use Rattle.wy_heap.specs.Slots.{IsPath}
-use Rattle.wy_heap.proofs.RowLemmas.{beside_out, first_meant, last_in}
+use Rattle.wy_heap.proofs.RowLemmas.{beside_out, last_in}
 use Rattle.wy_heap.proofs.tests.steps.set.Goals as goal
 
-pub has_path-requires-clause-meant : goal.has_path-requires-clause-meant
-has_path-requires-clause-meant c =
+pub has_path-requires : goal.has_path-requires
+has_path-requires c =
     let ps = c.args.places.now.items in
     let others = take c.args.i ps ++ drop (suc c.args.i) ps in
-    first_meant c.args.heap.now c.part.result (c.args.item ∷ others) (beside_out c.args.heap.now ps c.args.i c.part.result c.remove-place.result c.args.item (c.part.ensures ∙ c.remove-place.ensures.value) c.requires.there c.requires.stands)
+    record { held = (c.args.item ∷ others, beside_out c.args.heap.now ps c.args.i c.remove-place.result c.remove-place.result c.args.item c.remove-place.ensures.value c.requires.there c.requires.stands) }
 
 pub set-requires-clause-held : goal.set-requires-clause-held
 set-requires-clause-held c =
@@ -26,4 +25,4 @@ returns-in_ok-keep-in-Ok c =
     subst (Stands n) (sym (c.in_ok-keep-in-Ok.ensures ∙ ap (λ (l : List Part). l ++ c.set.new.p ∷ []) c.remove-place.ensures.items)) (last_in n c.set.new.p others (c.in-Ok.ensures.acts others stands).stands)
 
 pub set-requires-clause-there : goal.set-requires-clause-there
-set-requires-clause-there c = subst (λ (p : Part). IsPath c.args.heap.now p c.args.path.now) c.part.ensures (c.if-not-has_path.ensures refl)
+set-requires-clause-there c = c.if-not-has_path.ensures.yes refl

@@ -1,0 +1,77 @@
+//! What a function or method gives on arguments, with so many ticks.
+ghost use Rattle.std.specs.Prelude.{◌≤◌, IfOk, Some, map};
+ghost use Rattle.wy_core.specs.CoreSeen.{seen_core};
+ghost use Rattle.wy_value.specs.Seen.{seen};
+ghost use Rattle.wy_sem.specs.Evaluation.{limited_evaluate};
+ghost use Rattle.wy_eval_expressions.specs.Settings.{here};
+ghost use Rattle.wy_eval.specs.Endings.{SaysEnd};
+
+use crate::built_ins::find;
+use crate::evaluation::run;
+use std::alloc::Global;
+use wy_core::Core;
+use wy_eval_calls::Program;
+use wy_eval_operations::{Meter, NoMemory, Stop};
+use wy_eval_scope::ROOM;
+use wy_term::CondKind;
+use wy_value::Value;
+
+/// How an evaluation ends.
+#[derive(Drop)]
+pub enum EvalEnd {
+    /// With a result, or with none where a method has none, and with what was printed.
+    Done(Option<Value>, Vec<u8>),
+    /// With a fault of a kind at a place, a byte offset, after this was printed.
+    Fault(CondKind, u32, Vec<u8>),
+    /// A tick was wanted and none was left, after this was printed.
+    More(Vec<u8>),
+    /// The visits of types and the turns of quantifiers in contracts passed the limit.
+    TurnsSpent,
+}
+
+/// Evaluates the declared function or method with this number on the arguments, with so many ticks, at
+/// most 2,000, and checks each contract on its way. A tick is spent on each expression node, statement,
+/// test of a loop, turn of a quantifier, call and visit of a type test; contracts spend none, and at
+/// most `turns` visits and quantifier turns. It takes time in the ticks, the turns and the sizes of the
+/// contracts and the declarations met, and each evaluated node may copy a value.
+pub fn eval(
+    alloc: Global,
+    core: &Core,
+    entry: u32,
+    args: &[Value],
+    ticks: u32,
+    turns: u64,
+) -> Result<EvalEnd, NoMemory>
+    requires { ticks ≤ 2000 }
+    ensures value { IfOk result (λ end. SaysEnd end (limited_evaluate here (Some turns) (seen_core core.now) entry (map seen args.now) ticks)) }
+{
+    let program = Program::of(alloc, core, turns)?;
+    let mut meter = Meter {
+        ticks,
+        turns: 0,
+        output: Vec::new(alloc),
+    };
+    let decls = core.decls.as_slice();
+    let at = match find(decls, entry) {
+        Some(routine) => routine.at,
+        None => 0,
+    };
+    let calls = ticks as usize + 1;
+    let ended = run(
+        alloc, ROOM, &program, core, calls, entry, at, args, &mut meter,
+    );
+    let Meter {
+        ticks: _,
+        turns: _,
+        output,
+    } = meter;
+    match ended {
+        Ok(value) => Ok(EvalEnd::Done(value, output)),
+        Err(stop) => match stop {
+            Stop::Fault(kind, at) => Ok(EvalEnd::Fault(kind, at, output)),
+            Stop::More => Ok(EvalEnd::More(output)),
+            Stop::Spent => Ok(EvalEnd::TurnsSpent),
+            Stop::NoMemory => Err(NoMemory),
+        },
+    }
+}

@@ -1,0 +1,2 @@
+-- what contracts go by
+pub mod Settings

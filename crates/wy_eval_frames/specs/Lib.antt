@@ -1,0 +1,4 @@
+-- how statements end
+pub mod Exits
+-- how calls begin
+pub mod Entries

@@ -1,0 +1,3 @@
+mod PlacedLemmas
+mod PartLemmas
+pub mod FieldNameLemmas

@@ -1,0 +1,18 @@
+//! The code generator.
+//!
+//! What the code of a program is stands in `wy_compiled`: `Statements` has the code of each statement,
+//! and `Programs` the routines. A use is a move where its variable isn't live behind it; what stops being
+//! live on an edge is released by one `Clear`. The code is made from its end to its beginning, so that
+//! what is live behind a point and how far a jump goes are known there; the files of `src/` go by the
+//! same names. Expressions and tests of types have a crate of their own, and so have the pieces that
+//! code is put together from and the table of names and shapes.
+#![tactic(auto)]
+
+mod blocks;
+mod loops;
+mod program;
+mod simple;
+mod updates;
+
+pub use program::generate;
+pub use wy_pieces::NoMemory;

@@ -1,0 +1,156 @@
+-- The code of an expression, which is made from its end to its beginning.
+use Rattle.std.proofs.Common.{◌≡◌, ◌∙◌, ℕ, suc, List, [], ◌∷◌, ◌++◌, length, Bool, refl, ap, sym, append_assoc}
+use Rattle.wy_core.specs.CoreSeen.{seen_expr, seen_exprs, seen_fields, seen_ty}
+use Rattle.wy_core.specs.CoreTree as tree
+use Rattle.wy_core.specs.declared.types.Ty.{Ty}
+use Rattle.wy_core.specs.declared.expressions.Op.{Op}
+use Rattle.wy_core.specs.declared.expressions.Expr.{Expr}
+use Rattle.wy_core.specs.declared.expressions.ExprKind as kind
+use Rattle.wy_live.specs.Sets.{Variables}
+use Rattle.wy_live.specs.Walks.{before, before_all, before_fields, turned}
+use Rattle.wy_code.specs.declared.instructions.Instr.TheVariants as instr
+use Rattle.wy_pieces.specs.declared.steps.Step.{Step}
+use Rattle.wy_pieces.specs.declared.steps.Step.TheVariants.{Does}
+use Rattle.wy_tables.specs.declared.context.Context.{Context}
+use Rattle.wy_tables.specs.Tables.{number_of, target}
+use Rattle.wy_compiled.specs.Expressions as spec
+use Rattle.wy_compiled.specs.Expressions.{code, codes, count_of, field_codes}
+use Rattle.wy_gen_expressions.proofs.SeenLemmas.{seen_call, seen_neg, seen_not, seen_len, seen_binary, seen_is, seen_index, seen_field, seen_list, seen_repeat, seen_record, seen_quant}
+
+-- an expression before the rest, where this is live behind it
+operand : (c : Context) (x : Expr) (y : tree.Expr ℕ) (a : tree.Expr ℕ) (live s t : Variables) (d : ℕ) (rest old steps : List Step) → seen_expr x ≡ y → code c y s d ≡ code c a t d ++ rest → live ≡ t → steps ≡ rest ++ old
+    → code c a live d ++ steps ≡ code c (seen_expr x) s d ++ old
+operand c x y a live s t d rest old steps is whole live_is steps_is =
+    (λ i. code c a (live_is i) d ++ steps_is i) ∙ sym (append_assoc (code c a t d) rest old) ∙ ap (λ (l : List Step). l ++ old) (sym (ap (λ (z : tree.Expr ℕ). code c z s d) is ∙ whole))
+
+-- what is live before it
+operand_live : (x : Expr) (y : tree.Expr ℕ) (a : tree.Expr ℕ) (live s t : Variables) → seen_expr x ≡ y → before y s ≡ before a t → live ≡ t → before a live ≡ before (seen_expr x) s
+operand_live x y a live s t is whole live_is = ap (λ (v : Variables). before a v) live_is ∙ sym (ap (λ (z : tree.Expr ℕ). before z s) is ∙ whole)
+
+-- an operand behind which the same is live
+module _ (c : Context) (x : Expr) (a : Expr) (live s : Variables) (d : ℕ) (old steps : List Step) (live_is : live ≡ s) where
+  pub neg_same : x.kind ≡ kind.Neg a → steps ≡ spec.negated d ++ old → code c (seen_expr a) live d ++ steps ≡ code c (seen_expr x) s d ++ old
+  neg_same is steps_is = operand c x (tree.NegExpr x.at (seen_expr a)) (seen_expr a) live s s d (spec.negated d) old steps (seen_neg x a is) refl live_is steps_is
+
+  pub not_same : x.kind ≡ kind.Not a → steps ≡ Does (instr.Not d d) ∷ old → code c (seen_expr a) live d ++ steps ≡ code c (seen_expr x) s d ++ old
+  not_same is steps_is = operand c x (tree.NotExpr x.at (seen_expr a)) (seen_expr a) live s s d (Does (instr.Not d d) ∷ []) old steps (seen_not x a is) refl live_is steps_is
+
+  pub len_same : x.kind ≡ kind.Len a → steps ≡ Does (instr.Len d d) ∷ old → code c (seen_expr a) live d ++ steps ≡ code c (seen_expr x) s d ++ old
+  len_same is steps_is = operand c x (tree.LenExpr x.at (seen_expr a)) (seen_expr a) live s s d (Does (instr.Len d d) ∷ []) old steps (seen_len x a is) refl live_is steps_is
+
+  pub is_same : (ty : Ty) → x.kind ≡ kind.Is a ty → steps ≡ spec.is_test c (seen_ty ty) d ++ old → code c (seen_expr a) live d ++ steps ≡ code c (seen_expr x) s d ++ old
+  is_same ty is steps_is = operand c x (tree.IsExpr x.at (seen_expr a) (seen_ty ty)) (seen_expr a) live s s d (spec.is_test c (seen_ty ty) d) old steps (seen_is x a ty is) refl live_is steps_is
+
+  pub field_same : (name : List ℕ) (number : ℕ) → x.kind ≡ kind.Field a name → number ≡ number_of name c.table.names → steps ≡ Does (instr.Field d d number) ∷ old → code c (seen_expr a) live d ++ steps ≡ code c (seen_expr x) s d ++ old
+  field_same name number is number_is steps_is =
+      operand c x (tree.FieldExpr x.at (seen_expr a) name) (seen_expr a) live s s d (Does (instr.Field d d (number_of name c.table.names)) ∷ []) old steps (seen_field x a name is) refl live_is
+      (steps_is ∙ (λ i. Does (instr.Field d d (number_is i)) ∷ old))
+
+  pub neg_live : x.kind ≡ kind.Neg a → before (seen_expr a) live ≡ before (seen_expr x) s
+  neg_live is = operand_live x (tree.NegExpr x.at (seen_expr a)) (seen_expr a) live s s (seen_neg x a is) refl live_is
+
+  pub not_live : x.kind ≡ kind.Not a → before (seen_expr a) live ≡ before (seen_expr x) s
+  not_live is = operand_live x (tree.NotExpr x.at (seen_expr a)) (seen_expr a) live s s (seen_not x a is) refl live_is
+
+  pub len_live : x.kind ≡ kind.Len a → before (seen_expr a) live ≡ before (seen_expr x) s
+  len_live is = operand_live x (tree.LenExpr x.at (seen_expr a)) (seen_expr a) live s s (seen_len x a is) refl live_is
+
+  pub is_live : (ty : Ty) → x.kind ≡ kind.Is a ty → before (seen_expr a) live ≡ before (seen_expr x) s
+  is_live ty is = operand_live x (tree.IsExpr x.at (seen_expr a) (seen_ty ty)) (seen_expr a) live s s (seen_is x a ty is) refl live_is
+
+  pub field_live : (name : List ℕ) → x.kind ≡ kind.Field a name → before (seen_expr a) live ≡ before (seen_expr x) s
+  field_live name is = operand_live x (tree.FieldExpr x.at (seen_expr a) name) (seen_expr a) live s s (seen_field x a name is) refl live_is
+
+-- two operands: what is live behind the first is live before the second
+module _ (c : Context) (x : Expr) (a b : Expr) (s : Variables) (d : ℕ) (old : List Step) (live : Variables) (steps : List Step) where
+  pub binary_same : (o : Op) → x.kind ≡ kind.Binary o a b → live ≡ before (seen_expr b) s
+      → steps ≡ spec.operate o d (code c (seen_expr b) s (spec.right_register o d)) (spec.released (before (seen_expr b) s) s) (spec.is_plain (seen_expr b)) ++ old
+      → code c (seen_expr a) live d ++ steps ≡ code c (seen_expr x) s d ++ old
+  binary_same o is live_is steps_is =
+      operand c x (tree.BinaryExpr x.at o (seen_expr a) (seen_expr b)) (seen_expr a) live s (before (seen_expr b) s) d
+      (spec.operate o d (code c (seen_expr b) s (spec.right_register o d)) (spec.released (before (seen_expr b) s) s) (spec.is_plain (seen_expr b))) old steps (seen_binary x o a b is) refl live_is steps_is
+
+  pub binary_live : (o : Op) → x.kind ≡ kind.Binary o a b → live ≡ before (seen_expr b) s → before (seen_expr a) live ≡ before (seen_expr x) s
+  binary_live o is live_is = operand_live x (tree.BinaryExpr x.at o (seen_expr a) (seen_expr b)) (seen_expr a) live s (before (seen_expr b) s) (seen_binary x o a b is) refl live_is
+
+  -- the second operand before an instruction
+  second : (live1 : Variables) (free : ℕ) (one : List Step) (step : Step) → free ≡ suc d → live1 ≡ s → one ≡ step ∷ old → steps ≡ code c (seen_expr b) live1 free ++ one → steps ≡ (code c (seen_expr b) s (suc d) ++ step ∷ []) ++ old
+  second live1 free one step free_is live1_is one_is steps_is =
+      steps_is ∙ (λ i. code c (seen_expr b) (live1_is i) (free_is i) ++ one_is i) ∙ sym (append_assoc (code c (seen_expr b) s (suc d)) (step ∷ []) old)
+
+  second_live : (live1 : Variables) → live1 ≡ s → live ≡ before (seen_expr b) live1 → live ≡ before (seen_expr b) s
+  second_live live1 live1_is live_is = live_is ∙ ap (λ (v : Variables). before (seen_expr b) v) live1_is
+
+  pub index_same : (live1 : Variables) (free : ℕ) (one : List Step) → x.kind ≡ kind.Index a b → free ≡ suc d → live1 ≡ s → one ≡ Does (instr.Get d d free) ∷ old → live ≡ before (seen_expr b) live1 → steps ≡ code c (seen_expr b) live1 free ++ one
+      → code c (seen_expr a) live d ++ steps ≡ code c (seen_expr x) s d ++ old
+  index_same live1 free one is free_is live1_is one_is live_is steps_is =
+      operand c x (tree.IndexExpr x.at (seen_expr a) (seen_expr b)) (seen_expr a) live s (before (seen_expr b) s) d (code c (seen_expr b) s (suc d) ++ Does (instr.Get d d (suc d)) ∷ []) old steps (seen_index x a b is) refl
+      (second_live live1 live1_is live_is) (second live1 free one (Does (instr.Get d d (suc d))) free_is live1_is (one_is ∙ (λ i. Does (instr.Get d d (free_is i)) ∷ old)) steps_is)
+
+  pub index_live : (live1 : Variables) → x.kind ≡ kind.Index a b → live1 ≡ s → live ≡ before (seen_expr b) live1 → before (seen_expr a) live ≡ before (seen_expr x) s
+  index_live live1 is live1_is live_is = operand_live x (tree.IndexExpr x.at (seen_expr a) (seen_expr b)) (seen_expr a) live s (before (seen_expr b) s) (seen_index x a b is) refl (second_live live1 live1_is live_is)
+
+  pub repeat_same : (live1 : Variables) (free : ℕ) (one : List Step) → x.kind ≡ kind.Repeat a b → free ≡ suc d → live1 ≡ s → one ≡ Does (instr.Fill d d free) ∷ old → live ≡ before (seen_expr b) live1 → steps ≡ code c (seen_expr b) live1 free ++ one
+      → code c (seen_expr a) live d ++ steps ≡ code c (seen_expr x) s d ++ old
+  repeat_same live1 free one is free_is live1_is one_is live_is steps_is =
+      operand c x (tree.RepeatExpr x.at (seen_expr a) (seen_expr b)) (seen_expr a) live s (before (seen_expr b) s) d (code c (seen_expr b) s (suc d) ++ Does (instr.Fill d d (suc d)) ∷ []) old steps (seen_repeat x a b is) refl
+      (second_live live1 live1_is live_is) (second live1 free one (Does (instr.Fill d d (suc d))) free_is live1_is (one_is ∙ (λ i. Does (instr.Fill d d (free_is i)) ∷ old)) steps_is)
+
+  pub repeat_live : (live1 : Variables) → x.kind ≡ kind.Repeat a b → live1 ≡ s → live ≡ before (seen_expr b) live1 → before (seen_expr a) live ≡ before (seen_expr x) s
+  repeat_live live1 is live1_is live_is = operand_live x (tree.RepeatExpr x.at (seen_expr a) (seen_expr b)) (seen_expr a) live s (before (seen_expr b) s) (seen_repeat x a b is) refl (second_live live1 live1_is live_is)
+
+-- the bounds of a quantifier before its turns
+module _ (c : Context) (x : Expr) (all : Bool) (variable : ℕ) (a b body : Expr) (s live live1 : Variables) (d free : ℕ) (old one steps : List Step)
+    (is : x.kind ≡ kind.Quant all variable a b body) (live1_is : live1 ≡ turned variable (seen_expr body) s) (live_is : live ≡ before (seen_expr b) live1) where
+  bound_live : live ≡ before (seen_expr b) (turned variable (seen_expr body) s)
+  bound_live = live_is ∙ ap (λ (v : Variables). before (seen_expr b) v) live1_is
+
+  pub quant_same : free ≡ suc d → one ≡ spec.quantify_code c all variable (seen_expr body) s d ++ old → steps ≡ code c (seen_expr b) live1 free ++ one → code c (seen_expr a) live d ++ steps ≡ code c (seen_expr x) s d ++ old
+  quant_same free_is one_is steps_is =
+      let t = turned variable (seen_expr body) s in
+      let q = spec.quantify_code c all variable (seen_expr body) s d in
+      operand c x (tree.QuantExpr x.at all variable (seen_expr a) (seen_expr b) (seen_expr body)) (seen_expr a) live s (before (seen_expr b) t) d (code c (seen_expr b) t (suc d) ++ q) old steps (seen_quant x all variable a b body is) refl bound_live
+      (steps_is ∙ (λ i. code c (seen_expr b) (live1_is i) (free_is i) ++ one_is i) ∙ sym (append_assoc (code c (seen_expr b) t (suc d)) q old))
+
+  pub quant_live : before (seen_expr a) live ≡ before (seen_expr x) s
+  quant_live = operand_live x (tree.QuantExpr x.at all variable (seen_expr a) (seen_expr b) (seen_expr body)) (seen_expr a) live s (before (seen_expr b) (turned variable (seen_expr body) s)) (seen_quant x all variable a b body is) refl bound_live
+
+-- ---- operands in a row
+
+counted : (es : List Expr) → count_of (tree.exprs_of (seen_exprs es)) ≡ length es
+counted [] = refl
+counted (x ∷ es) = ap suc (counted es)
+
+row : (c : Context) (x : Expr) (y : tree.Expr ℕ) (es : tree.Exprs ℕ) (live s : Variables) (d : ℕ) (rest old steps : List Step) → seen_expr x ≡ y → code c y s d ≡ codes c es s d ++ rest → live ≡ s → steps ≡ rest ++ old
+    → codes c es live d ++ steps ≡ code c (seen_expr x) s d ++ old
+row c x y es live s d rest old steps is whole live_is steps_is =
+    (λ i. codes c es (live_is i) d ++ steps_is i) ∙ sym (append_assoc (codes c es s d) rest old) ∙ ap (λ (l : List Step). l ++ old) (sym (ap (λ (z : tree.Expr ℕ). code c z s d) is ∙ whole))
+
+row_live : (x : Expr) (y : tree.Expr ℕ) (es : tree.Exprs ℕ) (live s : Variables) → seen_expr x ≡ y → before y s ≡ before_all es s → live ≡ s → before_all es live ≡ before (seen_expr x) s
+row_live x y es live s is whole live_is = ap (λ (v : Variables). before_all es v) live_is ∙ sym (ap (λ (z : tree.Expr ℕ). before z s) is ∙ whole)
+
+module _ (c : Context) (x : Expr) (es : List Expr) (live s : Variables) (d : ℕ) (old steps : List Step) (live_is : live ≡ s) where
+  pub call_same : (f : ℕ) → x.kind ≡ kind.Call f es → steps ≡ spec.call (target c.results f) f d (length es) ++ old → codes c (tree.exprs_of (seen_exprs es)) live d ++ steps ≡ code c (seen_expr x) s d ++ old
+  call_same f is steps_is =
+      row c x (tree.CallExpr x.at f (tree.exprs_of (seen_exprs es))) (tree.exprs_of (seen_exprs es)) live s d (spec.call (target c.results f) f d (count_of (tree.exprs_of (seen_exprs es)))) old steps (seen_call x f es is) refl live_is
+      (steps_is ∙ ap (λ (n : ℕ). spec.call (target c.results f) f d n ++ old) (sym (counted es)))
+
+  pub call_live : (f : ℕ) → x.kind ≡ kind.Call f es → before_all (tree.exprs_of (seen_exprs es)) live ≡ before (seen_expr x) s
+  call_live f is = row_live x (tree.CallExpr x.at f (tree.exprs_of (seen_exprs es))) (tree.exprs_of (seen_exprs es)) live s (seen_call x f es is) refl live_is
+
+  pub list_same : x.kind ≡ kind.List es → steps ≡ spec.list (length es) d ++ old → codes c (tree.exprs_of (seen_exprs es)) live d ++ steps ≡ code c (seen_expr x) s d ++ old
+  list_same is steps_is =
+      row c x (tree.ListExpr x.at (tree.exprs_of (seen_exprs es))) (tree.exprs_of (seen_exprs es)) live s d (spec.list (count_of (tree.exprs_of (seen_exprs es))) d) old steps (seen_list x es is) refl live_is
+      (steps_is ∙ ap (λ (n : ℕ). spec.list n d ++ old) (sym (counted es)))
+
+  pub list_live : x.kind ≡ kind.List es → before_all (tree.exprs_of (seen_exprs es)) live ≡ before (seen_expr x) s
+  list_live is = row_live x (tree.ListExpr x.at (tree.exprs_of (seen_exprs es))) (tree.exprs_of (seen_exprs es)) live s (seen_list x es is) refl live_is
+
+module _ (c : Context) (x : Expr) (fs : List (List ℕ × Expr)) (live s : Variables) (d : ℕ) (old steps : List Step) (is : x.kind ≡ kind.Record fs) (live_is : live ≡ s) where
+  pub record_code_same : steps ≡ spec.record_of c (seen_fields fs) d ++ old → field_codes c (seen_fields fs) live d ++ steps ≡ code c (seen_expr x) s d ++ old
+  record_code_same steps_is =
+      (λ i. field_codes c (seen_fields fs) (live_is i) d ++ steps_is i) ∙ sym (append_assoc (field_codes c (seen_fields fs) s d) (spec.record_of c (seen_fields fs) d) old)
+      ∙ ap (λ (l : List Step). l ++ old) (sym (ap (λ (z : tree.Expr ℕ). code c z s d) (seen_record x fs is)))
+
+  pub record_code_live : before_fields (seen_fields fs) live ≡ before (seen_expr x) s
+  record_code_live = ap (λ (v : Variables). before_fields (seen_fields fs) v) live_is ∙ sym (ap (λ (z : tree.Expr ℕ). before z s) (seen_record x fs is))

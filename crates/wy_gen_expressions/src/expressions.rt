@@ -1,0 +1,241 @@
+//! The code of expressions.
+ghost use Rattle.std.specs.Prelude.{◌≡◌, ◌++◌, IfOk};
+ghost use Rattle.wy_core.specs.CoreSeen.{seen_expr, seen_exprs, seen_fields};
+ghost use Rattle.wy_core.specs.CoreTree.{exprs_of};
+ghost use Rattle.wy_compiled.specs.Expressions as spec;
+ghost use Rattle.wy_live.specs.Walks as lives;
+
+use crate::calls::{call, is_test};
+use crate::made::{Made, is_plain, plain, previous, register_at, used};
+use crate::operators::{begin_and, end_and, end_or, operator};
+use crate::quantifiers::{Begun, begin_quantifier, end_quantifier};
+use std::alloc::Global;
+use wy_code::{Arithmetic, Instr, Scalar};
+use wy_core::{Expr, ExprKind, Op};
+use wy_data::Name;
+use wy_pieces::{NoMemory, next, registers_from};
+use wy_tables::{Context, name_number, shape_number};
+
+/// The code of an expression before the code behind it, and what is live before it. The value comes
+/// into the register, and those behind it are free. It goes through each node once, and once more
+/// for each quantifier, and each right side of `&&`, around it.
+#[cycle(code)]
+pub fn code(
+    alloc: Global,
+    context: &Context,
+    expr: &Expr,
+    register: u32,
+    behind: Made,
+) -> Result<Made, NoMemory>
+    ensures value { IfOk result (λ m. m.steps ≡ spec.code context.now (seen_expr expr.now) behind.live register ++ behind.steps) }
+    ensures live { IfOk result (λ m. m.live ≡ lives.before (seen_expr expr.now) behind.live) }
+{
+    match &expr.kind {
+        ExprKind::Null => plain(Instr::Const(register, Scalar::Null), behind),
+        ExprKind::Bool(truth) => plain(Instr::Const(register, Scalar::Bool(*truth)), behind),
+        ExprKind::Int(number) => plain(Instr::Const(register, Scalar::Int(*number)), behind),
+        ExprKind::Var(variable) => used(*variable, register, behind),
+        ExprKind::Call(routine, args) => {
+            let behind = call(alloc, context, *routine, register, args.len(), behind)?;
+            codes(alloc, context, args.as_slice(), register, behind)
+        }
+        ExprKind::Neg(operand) => {
+            let behind = negated(register, behind)?;
+            code(alloc, context, operand.get(), register, behind)
+        }
+        ExprKind::Not(operand) => {
+            let behind = plain(Instr::Not(register, register), behind)?;
+            code(alloc, context, operand.get(), register, behind)
+        }
+        ExprKind::Len(operand) => {
+            let behind = plain(Instr::Len(register, register), behind)?;
+            code(alloc, context, operand.get(), register, behind)
+        }
+        ExprKind::Binary(op, left, right) => {
+            let behind = right_side(alloc, context, *op, right.get(), register, behind)?;
+            code(alloc, context, left.get(), register, behind)
+        }
+        ExprKind::Is(operand, ty) => {
+            let behind = is_test(alloc, context, ty, register, behind)?;
+            code(alloc, context, operand.get(), register, behind)
+        }
+        ExprKind::Index(array, index) => {
+            let free = next(register)?;
+            let behind = plain(Instr::Get(register, register, free), behind)?;
+            let behind = code(alloc, context, index.get(), free, behind)?;
+            code(alloc, context, array.get(), register, behind)
+        }
+        ExprKind::Field(whole, name) => {
+            let number = name_number(name, context.table.names.as_slice())?;
+            let behind = plain(Instr::Field(register, register, number), behind)?;
+            code(alloc, context, whole.get(), register, behind)
+        }
+        ExprKind::List(items) => {
+            let behind = list(alloc, items.len(), register, behind)?;
+            codes(alloc, context, items.as_slice(), register, behind)
+        }
+        ExprKind::Repeat(item, count) => {
+            let free = next(register)?;
+            let behind = plain(Instr::Fill(register, register, free), behind)?;
+            let behind = code(alloc, context, count.get(), free, behind)?;
+            code(alloc, context, item.get(), register, behind)
+        }
+        ExprKind::Record(fields) => {
+            let fields = fields.as_slice();
+            let behind = record(alloc, context, fields, register, behind)?;
+            field_codes(alloc, context, fields, register, behind)
+        }
+        ExprKind::Quant(all, variable, from, to, body) => {
+            let free = next(register)?;
+            let body = body.get();
+            let behind = quantify(alloc, context, *all, *variable, body, register, behind)?;
+            let behind = code(alloc, context, to.get(), free, behind)?;
+            code(alloc, context, from.get(), register, behind)
+        }
+    }
+}
+
+/// The right side of an operator, and the operator.
+#[cycle(code)]
+fn right_side(
+    alloc: Global,
+    context: &Context,
+    op: Op,
+    right: &Expr,
+    register: u32,
+    behind: Made,
+) -> Result<Made, NoMemory>
+    ensures value { IfOk result (λ m. m.steps ≡ spec.operate op register (spec.code context.now (seen_expr right.now) behind.live (spec.right_register op register)) (spec.released (lives.before (seen_expr right.now) behind.live) behind.live) (spec.is_plain (seen_expr right.now)) ++ behind.steps) }
+    ensures live { IfOk result (λ m. m.live ≡ lives.before (seen_expr right.now) behind.live) }
+{
+    match op {
+        Op::And => {
+            let end = behind.steps.len();
+            let start = begin_and(alloc, right, behind)?;
+            let mid = start.steps.len();
+            let made = code(alloc, context, right, register, start)?;
+            end_and(register, end, mid, made)
+        }
+        Op::Or => {
+            let end = behind.steps.len();
+            let after = behind.live.copy(alloc)?;
+            let made = code(alloc, context, right, register, behind)?;
+            end_or(alloc, &after, register, end, made)
+        }
+        _ => {
+            let free = next(register)?;
+            let behind = operator(alloc, op, is_plain(right), register, behind)?;
+            code(alloc, context, right, free, behind)
+        }
+    }
+}
+
+/// Expressions, each into the register behind the one before.
+#[cycle(code)]
+pub fn codes(
+    alloc: Global,
+    context: &Context,
+    exprs: &[Expr],
+    register: u32,
+    behind: Made,
+) -> Result<Made, NoMemory>
+    ensures value { IfOk result (λ m. m.steps ≡ spec.codes context.now (exprs_of (seen_exprs exprs.now)) behind.live register ++ behind.steps) }
+    ensures live { IfOk result (λ m. m.live ≡ lives.before_all (exprs_of (seen_exprs exprs.now)) behind.live) }
+{
+    let mut made = behind;
+    let mut left = exprs.len();
+    let mut here = register_at(register, left)?;
+    while left > 0 {
+        left -= 1;
+        here = previous(here)?;
+        made = code(alloc, context, &exprs[left], here, made)?;
+    }
+    Ok(made)
+}
+
+/// The values of fields, each into the register behind the one before.
+#[cycle(code)]
+fn field_codes(
+    alloc: Global,
+    context: &Context,
+    fields: &[(Name, Expr)],
+    register: u32,
+    behind: Made,
+) -> Result<Made, NoMemory>
+    ensures value { IfOk result (λ m. m.steps ≡ spec.field_codes context.now (seen_fields fields.now) behind.live register ++ behind.steps) }
+    ensures live { IfOk result (λ m. m.live ≡ lives.before_fields (seen_fields fields.now) behind.live) }
+{
+    let mut made = behind;
+    let mut left = fields.len();
+    let mut here = register_at(register, left)?;
+    while left > 0 {
+        left -= 1;
+        here = previous(here)?;
+        let field = &fields[left];
+        made = code(alloc, context, &field.1, here, made)?;
+    }
+    Ok(made)
+}
+
+/// The turns of a quantifier.
+#[cycle(code)]
+fn quantify(
+    alloc: Global,
+    context: &Context,
+    all: bool,
+    variable: u32,
+    body: &Expr,
+    register: u32,
+    behind: Made,
+) -> Result<Made, NoMemory>
+    ensures value { IfOk result (λ m. m.steps ≡ spec.quantify_code context.now all variable (seen_expr body.now) behind.live register ++ behind.steps) }
+    ensures live { IfOk result (λ m. m.live ≡ lives.turned variable (seen_expr body.now) behind.live) }
+{
+    let begun = begin_quantifier(alloc, all, variable, body, register, behind)?;
+    let Begun {
+        live,
+        free,
+        done,
+        start,
+    } = begun;
+    let made = code(alloc, context, body, free, start)?;
+    end_quantifier(variable, register, live, done, made)
+}
+
+/// The number in a register is taken from 0.
+fn negated(register: u32, behind: Made) -> Result<Made, NoMemory>
+    ensures value { IfOk result (λ m. m.steps ≡ spec.negated register ++ behind.steps) }
+    ensures live { IfOk result (λ m. m.live ≡ behind.live) }
+{
+    let free = next(register)?;
+    let behind = plain(
+        Instr::Arith(register, Arithmetic::Sub, free, register),
+        behind,
+    )?;
+    plain(Instr::Const(free, Scalar::Int(0)), behind)
+}
+
+/// An array of the items in so many registers.
+fn list(alloc: Global, count: usize, register: u32, behind: Made) -> Result<Made, NoMemory>
+    ensures value { IfOk result (λ m. m.steps ≡ spec.list count register ++ behind.steps) }
+    ensures live { IfOk result (λ m. m.live ≡ behind.live) }
+{
+    let parts = registers_from(alloc, register, count)?;
+    plain(Instr::Array(register, parts), behind)
+}
+
+/// A record of the values in as many registers as there are fields.
+fn record(
+    alloc: Global,
+    context: &Context,
+    fields: &[(Name, Expr)],
+    register: u32,
+    behind: Made,
+) -> Result<Made, NoMemory>
+    ensures value { IfOk result (λ m. m.steps ≡ spec.record_of context.now (seen_fields fields.now) register ++ behind.steps) }
+    ensures live { IfOk result (λ m. m.live ≡ behind.live) }
+{
+    let shape = shape_number(alloc, fields, &context.table)?;
+    let parts = registers_from(alloc, register, fields.len())?;
+    plain(Instr::Record(register, shape, parts), behind)
+}

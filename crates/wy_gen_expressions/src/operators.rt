@@ -1,0 +1,113 @@
+//! The code of operators.
+ghost use Rattle.std.specs.Prelude.{◌≡◌, ◌++◌, IfOk, List, length, suc};
+ghost use Rattle.wy_core.specs.CoreSeen.{seen_expr};
+ghost use Rattle.wy_compiled.specs.Expressions as spec;
+ghost use Rattle.wy_live.specs.Walks as lives;
+ghost use Rattle.wy_pieces.specs.Steps as pieces;
+ghost use Rattle.wy_pieces.specs.declared.steps.Step.{Step};
+
+use crate::made::{Made, plain, release_unless, released};
+use std::alloc::Global;
+use wy_code::{Arithmetic, Comparison, Instr};
+use wy_core::{Expr, Op};
+use wy_live::Variables;
+use wy_pieces::{NoMemory, does, fork, jump_over, next};
+
+/// Where `&&` leaves out its right side, what that side alone uses is released.
+pub fn begin_and(alloc: Global, right: &Expr, behind: Made) -> Result<Made, NoMemory>
+    ensures value { IfOk result (λ m. m.steps ≡ pieces.jumped (spec.released (lives.before (seen_expr right.now) behind.live) behind.live) behind.steps) }
+    ensures live { IfOk result (λ m. m.live ≡ behind.live) }
+{
+    let Made { live, steps } = behind;
+    let end = steps.len();
+    let both = wy_live::before(right, live.copy(alloc)?)?;
+    let steps = released(alloc, &both, &live, steps)?;
+    let steps = jump_over(end, steps)?;
+    Ok(Made { live, steps })
+}
+
+/// The right side of `&&` where the left one is true. The code where it is false begins behind `mid`
+/// steps, and ends behind `end` steps.
+pub fn end_and(register: u32, end: usize, mid: usize, right: Made) -> Result<Made, NoMemory>
+    ensures value { (first second old : List Step) → right.steps ≡ first ++ pieces.jumped second old → length old ≡ end → length (pieces.jumped second old) ≡ mid → IfOk result (λ m. m.steps ≡ pieces.fork register first second ++ old) }
+    ensures live { IfOk result (λ m. m.live ≡ right.live) }
+{
+    let Made { live, steps } = right;
+    let steps = fork(register, end, mid, steps)?;
+    Ok(Made { live, steps })
+}
+
+/// The right side of `||` where the left one is false, which ends behind `end` steps; else what that
+/// side alone uses is released.
+pub fn end_or(
+    alloc: Global,
+    after: &Variables,
+    register: u32,
+    end: usize,
+    right: Made,
+) -> Result<Made, NoMemory>
+    ensures value { (second old : List Step) → right.steps ≡ second ++ old → length old ≡ end → IfOk result (λ m. m.steps ≡ pieces.fork register (spec.released right.live after.now) second ++ old) }
+    ensures live { IfOk result (λ m. m.live ≡ right.live) }
+{
+    let Made { live, steps } = right;
+    let steps = jump_over(end, steps)?;
+    let mid = steps.len();
+    let steps = released(alloc, &live, after, steps)?;
+    let steps = fork(register, end, mid, steps)?;
+    Ok(Made { live, steps })
+}
+
+/// An operator that evaluates both sides, which stand in `left` and the register behind it.
+pub fn operator(
+    alloc: Global,
+    op: Op,
+    is_plain: bool,
+    left: u32,
+    behind: Made,
+) -> Result<Made, NoMemory>
+    ensures value { IfOk result (λ m. m.steps ≡ spec.operator op left is_plain ++ behind.steps) }
+    ensures live { IfOk result (λ m. m.live ≡ behind.live) }
+{
+    match op {
+        Op::Add => arith(Arithmetic::Add, left, behind),
+        Op::Sub => arith(Arithmetic::Sub, left, behind),
+        Op::Mul => arith(Arithmetic::Mul, left, behind),
+        Op::Div => arith(Arithmetic::Div, left, behind),
+        Op::Mod => arith(Arithmetic::Mod, left, behind),
+        Op::Less => compare(Comparison::Less, left, behind),
+        Op::LessEqual => compare(Comparison::LessEqual, left, behind),
+        Op::Greater => compare(Comparison::Greater, left, behind),
+        Op::GreaterEqual => compare(Comparison::GreaterEqual, left, behind),
+        Op::Equal => equal(alloc, is_plain, left, behind),
+        Op::And => Ok(behind),
+        Op::Or => Ok(behind),
+    }
+}
+
+fn arith(op: Arithmetic, left: u32, behind: Made) -> Result<Made, NoMemory>
+    ensures value { IfOk result (λ m. m.steps ≡ spec.arith op left ++ behind.steps) }
+    ensures live { IfOk result (λ m. m.live ≡ behind.live) }
+{
+    let right = next(left)?;
+    plain(Instr::Arith(left, op, left, right), behind)
+}
+
+fn compare(op: Comparison, left: u32, behind: Made) -> Result<Made, NoMemory>
+    ensures value { IfOk result (λ m. m.steps ≡ spec.compare op left ++ behind.steps) }
+    ensures live { IfOk result (λ m. m.live ≡ behind.live) }
+{
+    let right = next(left)?;
+    plain(Instr::Compare(left, op, left, right), behind)
+}
+
+/// The left side is given up by the answer that takes its place; the right side is released.
+fn equal(alloc: Global, is_plain: bool, left: u32, behind: Made) -> Result<Made, NoMemory>
+    ensures value { IfOk result (λ m. m.steps ≡ spec.equal is_plain left ++ behind.steps) }
+    ensures live { IfOk result (λ m. m.live ≡ behind.live) }
+{
+    let right = next(left)?;
+    let Made { live, steps } = behind;
+    let steps = release_unless(alloc, is_plain, right, steps)?;
+    let steps = does(Instr::Equal(left, left, right), steps)?;
+    Ok(Made { live, steps })
+}

@@ -1,0 +1,3 @@
+pub mod JoinedLemmas
+pub mod HeadLemmas
+pub mod ChainLemmas

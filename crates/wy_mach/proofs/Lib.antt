@@ -1,0 +1,5 @@
+pub mod StateLemmas
+pub mod TurnLemmas
+pub mod CallLemmas
+pub mod StartLemmas
+pub mod RunLemmas

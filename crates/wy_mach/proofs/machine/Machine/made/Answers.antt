@@ -1,0 +1,75 @@
+use Rattle.std.proofs.Common.{◌≡◌, ℕ, List, Option, sym, ◌∙◌, ap, subst}
+use Rattle.wy_code.specs.declared.instructions.Instr.{Instr}
+use Rattle.wy_code.specs.declared.instructions.Instr.TheVariants as instr
+use Rattle.wy_mach.specs.declared.machine.Turn.{Turn}
+use Rattle.wy_mach.specs.Running.{Steps, Turned, TurnsBy, MayTakeMemory, next_by}
+use Rattle.wy_mach.proofs.TurnLemmas.{machine_at, jump_steps, if_ok, on_any_err, is_plain}
+use Rattle.wy_mach.proofs.machine.Machine.made.Goals as goal
+
+pub returns-in-Jump-clause-turned : goal.returns-in-Jump-clause-turned
+returns-in-Jump-clause-turned g c =
+    let old = c.args.self.now in
+    let code = c.args.code.now in
+    let known = g.O.Sink.taken c.args.out.now in
+    subst (λ (i : Instr). Steps (next_by code i) old (machine_at old c.in-Jump.to) known known) (sym c.in-Jump.is) (jump_steps code old known c.in-Jump.to)
+
+pub returns-in-Branch-clause-turned : goal.returns-in-Branch-clause-turned
+returns-in-Branch-clause-turned g c =
+    let old = c.args.self.now in
+    let code = c.args.code.now in
+    let known = g.O.Sink.taken c.args.out.now in
+    let failed = g.O.Sink.faults c.args.out.now in
+    subst (λ (i : Instr). Turned (next_by code i) old c.branch-self.new.self known known failed failed c.branch-self.result) (sym c.in-Branch.is) (c.branch-self.ensures.turned code known failed)
+
+pub returns-in-Call-clause-turned : goal.returns-in-Call-clause-turned
+returns-in-Call-clause-turned g c =
+    let old = c.args.self.now in
+    let code = c.args.code.now in
+    let known = g.O.Sink.taken c.args.out.now in
+    let failed = g.O.Sink.faults c.args.out.now in
+    let called = instr.Call c.in-Call.to c.in-Call.routine c.as_slice.result.now in
+    let is : c.args.instr.now ≡ called = c.in-Call.is ∙ ap (λ (l : List ℕ). instr.Call c.in-Call.to c.in-Call.routine l) (sym c.as_slice.ensures) in
+    if_ok c.call.result (λ (t : Turn). (before : Option (List ℕ)) (fails : ℕ) → Turned (next_by code called) old c.call.new.self before before fails fails t)
+    (λ (t : Turn). Turned (next_by code c.args.instr.now) old c.call.new.self known known failed failed t)
+    (λ t turned. subst (λ (i : Instr). Turned (next_by code i) old c.call.new.self known known failed failed t) (sym is) (turned known failed)) c.call.ensures.turned
+
+pub returns-in-Call-clause-no_memory : goal.returns-in-Call-clause-no_memory
+returns-in-Call-clause-no_memory g c = on_any_err c.call.result (MayTakeMemory c.args.instr.now) (subst MayTakeMemory (sym c.in-Call.is) tt)
+
+pub returns-in-Return-clause-turned : goal.returns-in-Return-clause-turned
+returns-in-Return-clause-turned g c =
+    let old = c.args.self.now in
+    let code = c.args.code.now in
+    let known = g.O.Sink.taken c.args.out.now in
+    let failed = g.O.Sink.faults c.args.out.now in
+    if_ok c.give_back.result (TurnsBy (instr.Return c.in-Return.from) old c.give_back.new.self)
+    (λ (t : Turn). Turned (next_by code c.args.instr.now) old c.give_back.new.self known known failed failed t)
+    (λ t turned. subst (λ (i : Instr). Turned (next_by code i) old c.give_back.new.self known known failed failed t) (sym c.in-Return.is) (turned code known failed)) c.give_back.ensures.turned
+
+pub returns-in-Return-clause-no_memory : goal.returns-in-Return-clause-no_memory
+returns-in-Return-clause-no_memory g c = on_any_err c.give_back.result (MayTakeMemory c.args.instr.now) (subst MayTakeMemory (sym c.in-Return.is) tt)
+
+pub returns-in-Print-clause-turned : goal.returns-in-Print-clause-turned
+returns-in-Print-clause-turned g c =
+    let old = c.args.self.now in
+    let code = c.args.code.now in
+    subst (λ (i : Instr). Turned (next_by code i) old c.printed.new.self (g.O.Sink.taken c.args.out.now) (g.O.Sink.taken c.printed.new.out) (g.O.Sink.faults c.args.out.now) (g.O.Sink.faults c.printed.new.out) c.printed.result) (sym c.in-Print.is) (c.printed.ensures.turned code)
+
+pub returns-in-PrintInt-clause-turned : goal.returns-in-PrintInt-clause-turned
+returns-in-PrintInt-clause-turned g c =
+    let old = c.args.self.now in
+    let code = c.args.code.now in
+    subst (λ (i : Instr). Turned (next_by code i) old c.number_printed.new.self (g.O.Sink.taken c.args.out.now) (g.O.Sink.taken c.number_printed.new.out) (g.O.Sink.faults c.args.out.now) (g.O.Sink.faults c.number_printed.new.out) c.number_printed.result) (sym c.in-PrintInt.is) (c.number_printed.ensures.turned code)
+
+pub went-requires-clause-plain : goal.went-requires-clause-plain
+went-requires-clause-plain g c =
+    is_plain c.args.instr.now c.in_default.not-Jump c.in_default.not-Branch c.in_default.not-Call c.in_default.not-Return c.in_default.not-Print c.in_default.not-PrintInt
+
+pub returns-in_default-clause-turned : goal.returns-in_default-clause-turned
+returns-in_default-clause-turned g c =
+    let old = c.args.self.now in
+    let code = c.args.code.now in
+    let known = g.O.Sink.taken c.args.out.now in
+    let failed = g.O.Sink.faults c.args.out.now in
+    if_ok c.went.result (λ (t : Turn). (before : Option (List ℕ)) (fails : ℕ) → Turned (next_by code c.args.instr.now) old c.went.new.self before before fails fails t)
+    (λ (t : Turn). Turned (next_by code c.args.instr.now) old c.went.new.self known known failed failed t) (λ t turned. turned known failed) c.went.ensures.turned

@@ -1,0 +1,12 @@
+use Rattle.std.proofs.Common.{◌≡◌, Option, Some, sym, ◌∙◌, ap}
+use Rattle.wy_code.specs.declared.routines.Routine.{Routine}
+use Rattle.wy_step.specs.Step.{instr_at}
+use Rattle.wy_mach.specs.Running.{instr_of}
+use Rattle.wy_mach.proofs.TurnLemmas.{has_int}
+use Rattle.wy_mach.proofs.machine.Machine.turn.Goals as goal
+
+pub made-requires-clause-int : goal.made-requires-clause-int
+made-requires-clause-int g c =
+    let old = c.args.self.now in
+    let is : instr_of c.args.code.now old ≡ Some c.in-Some-get.instr.now = ap (λ (o : Option Routine). instr_at o old.frame.at) (sym c.in-Some.ensures.value) ∙ sym c.in-Some-get.ensures.value in
+    has_int c.args.code.now old c.in-Some-get.instr.now c.requires.is.ints is

@@ -1,0 +1,87 @@
+use Rattle.std.proofs.Common.{◌≡◌, ◌≤◌, ◌+◌, ◌-◌, suc, refl, subst, ◌∙◌, arith, rules}
+use Rattle.wy_step.specs.Step.{State, after}
+use Rattle.wy_mach.specs.Running.{Turned, PrintsFront, ShowsFirst, next_in}
+use Rattle.wy_mach.proofs.TurnLemmas.{on_any_err}
+use Rattle.wy_mach.proofs.RunLemmas.{follows_first, follows_on, run_done, run_fault, run_front, run_stuck, run_spent, rose_later}
+use Rattle.wy_mach.proofs.runs.turns.Goals as goal
+
+pub loop-i-init : goal.loop-i-init
+loop-i-init g c = record {
+  is = c.requires.is;
+  follows = follows_first c.args.code.now c.args.machine.now (g.O.Sink.taken c.args.out.now) c.args.steps (c.args.steps - 0) (omega arith);
+  has_result = refl;
+  faults = omega arith;
+}
+
+pub loop-i-preserved : goal.loop-i-preserved
+loop-i-preserved g c =
+    let code = c.args.code.now in
+    let old = c.loop-i.machine in
+    let new = c.turn.new.self in
+    let steps = c.args.steps in
+    let i = c.loop-i.i in
+    let first = g.O.Sink.taken c.args.out.now in
+    let before = g.O.Sink.taken c.loop-i.out in
+    let now = g.O.Sink.taken c.turn.new.out in
+    let less : steps - i ≡ suc (steps - (i + 1)) = omega (arith, c.loop-i-test.true) in
+    record {
+      is = c.turn.ensures.is;
+      follows = follows_on code c.args.machine.now old new first before now steps (steps - i) (steps - (i + 1)) less c.loop-i.invariant.follows
+          (subst (Turned (next_in code) old new before now (g.O.Sink.faults c.loop-i.out) (g.O.Sink.faults c.turn.new.out)) c.in-Went.is c.in_ok-turn.ensures.turned);
+      has_result = c.turn.ensures.has_result ∙ c.loop-i.invariant.has_result;
+      faults = omega (arith, c.turn.ensures.count, c.loop-i.invariant.faults);
+    }
+
+pub returns-in-Done-clause-ran : goal.returns-in-Done-clause-ran
+returns-in-Done-clause-ran g c st shows =
+    let code = c.args.code.now in
+    let old = c.loop-i.machine in
+    let new = c.turn.new.self in
+    let steps = c.args.steps in
+    let i = c.loop-i.i in
+    let before = g.O.Sink.taken c.loop-i.out in
+    let now = g.O.Sink.taken c.turn.new.out in
+    let less : steps - i ≡ suc (steps - (i + 1)) = omega (arith, c.loop-i-test.true) in
+    run_done code c.args.machine.now old (g.O.Sink.taken c.args.out.now) before now steps (steps - i) (steps - (i + 1)) c.in-Done.text c.in-Done.copies c.in-Done.nodes less c.loop-i.invariant.has_result c.loop-i.invariant.follows
+    (subst (Turned (next_in code) old new before now (g.O.Sink.faults c.loop-i.out) (g.O.Sink.faults c.turn.new.out)) c.in-Done.is c.in_ok-turn.ensures.turned) st shows
+
+pub returns-in-OutFault-clause-ran : goal.returns-in-OutFault-clause-ran
+returns-in-OutFault-clause-ran g c st shows =
+    let code = c.args.code.now in
+    let old = c.loop-i.machine in
+    let new = c.turn.new.self in
+    let steps = c.args.steps in
+    let i = c.loop-i.i in
+    let before = g.O.Sink.taken c.loop-i.out in
+    let now = g.O.Sink.taken c.turn.new.out in
+    let less : steps - i ≡ suc (steps - (i + 1)) = omega (arith, c.loop-i-test.true) in
+    let turned = subst (Turned (next_in code) old new before now (g.O.Sink.faults c.loop-i.out) (g.O.Sink.faults c.turn.new.out)) c.in-OutFault.is c.in_ok-turn.ensures.turned in (
+      run_fault code c.args.machine.now old (g.O.Sink.taken c.args.out.now) before now steps (steps - i) (steps - (i + 1)) less c.loop-i.invariant.follows turned.0 st shows,
+      rose_later (g.O.Sink.faults c.args.out.now) (g.O.Sink.faults c.loop-i.out) (g.O.Sink.faults c.turn.new.out) c.loop-i.invariant.faults turned.1,
+    )
+
+pub returns-in-Stuck-clause-ran : goal.returns-in-Stuck-clause-ran
+returns-in-Stuck-clause-ran g c st shows =
+    let code = c.args.code.now in
+    let old = c.loop-i.machine in
+    let new = c.turn.new.self in
+    let steps = c.args.steps in
+    let i = c.loop-i.i in
+    let before = g.O.Sink.taken c.loop-i.out in
+    let now = g.O.Sink.taken c.turn.new.out in
+    let less : steps - i ≡ suc (steps - (i + 1)) = omega (arith, c.loop-i-test.true) in
+    let turned = subst (Turned (next_in code) old new before now (g.O.Sink.faults c.loop-i.out) (g.O.Sink.faults c.turn.new.out)) c.in-Stuck.is c.in_ok-turn.ensures.turned in
+    run_stuck code c.args.machine.now old (g.O.Sink.taken c.args.out.now) before steps (steps - i) (steps - (i + 1)) less c.loop-i.invariant.follows turned.0 st shows
+
+pub returns-in_err-turn-clause-no_memory : goal.returns-in_err-turn-clause-no_memory
+returns-in_err-turn-clause-no_memory g c =
+    let code = c.args.code.now in
+    let first = g.O.Sink.taken c.args.out.now in
+    let now = g.O.Sink.taken c.turn.new.out in
+    on_any_err c.from_residual.result ((st : State) → ShowsFirst c.args.machine.now st → PrintsFront first now (after code c.args.steps st))
+    (λ st shows. run_front code c.args.machine.now c.loop-i.machine first (g.O.Sink.taken c.loop-i.out) now c.args.steps (c.args.steps - c.loop-i.i) c.in_err-turn.ensures.nothing c.loop-i.invariant.follows st shows)
+
+pub returns-clause-ran : goal.returns-clause-ran
+returns-clause-ran g c st shows =
+    let past : c.args.steps ≤ c.loop-i.i = search rules in
+    run_spent c.args.code.now c.args.machine.now c.loop-i.machine (g.O.Sink.taken c.args.out.now) (g.O.Sink.taken c.loop-i.out) c.args.steps (c.args.steps - c.loop-i.i) (omega (arith, past)) c.loop-i.invariant.follows st shows

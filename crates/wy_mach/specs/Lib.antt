@@ -1,0 +1,4 @@
+-- the states of the machine
+pub mod States
+-- what a turn and a run do
+pub mod Running

@@ -1,0 +1,227 @@
+//! The machine: a heap, the frame that runs and those that wait for it.
+ghost use Rattle.std.specs.Prelude.{◌≡◌, ◌≤◌, ◌<◌, [], ℕ, List, Option, reverse, IfOk, OnErr};
+ghost use Rattle.wy_heap.specs.Standing.{Stands};
+ghost use Rattle.wy_code.specs.declared.routines.Code.{Code};
+ghost use Rattle.wy_code.specs.declared.instructions.Instr.{Instr};
+ghost use Rattle.wy_mach.specs.States.{IsMachine, places_of, places_below};
+ghost use Rattle.wy_mach.specs.Running.{Turned, TurnsBy, IsPlain, HasInt, KeepsRest, MayTakeMemory, MayWantMemory, next_in, next_by, instr_of};
+
+use crate::frames::{Caller, Frame, leave};
+use crate::plain::plain;
+use std::alloc::Global;
+use wy_code::{Code, Instr};
+use wy_heap::{Heap, NoMemory, Slot};
+use wy_mach_instructions::{Stop, truth};
+use wy_mach_output::{PrintStop, print, print_int};
+use wy_port::Sink;
+
+/// A run of code: the heap, the frame that runs, those that wait for it, the last caller last, and room
+/// for the longest path of the code. It can't be dropped: `stop` ends it.
+pub struct Machine {
+    pub(crate) heap: Heap,
+    pub(crate) frame: Frame,
+    pub(crate) callers: Vec<Caller>,
+    pub(crate) path: Vec<Slot>,
+    pub(crate) has_result: bool,
+    pub(crate) alloc: Global,
+}
+
+/// What one instruction did.
+#[derive(Drop)]
+pub enum Turn {
+    /// It went, and the sink took all that it prints.
+    Went,
+    /// It ended the entry's routine: with the text of the result, where one is wanted, the count of nodes
+    /// that were copied in this run, and the count of nodes that were left when the result alone was held.
+    Done {
+        text: Option<Vec<u8>>,
+        copies: u64,
+        nodes: u64,
+    },
+    /// The sink failed, and counted it. It took a front of what the instruction prints.
+    OutFault,
+    /// An operand is outside of the instruction's domain.
+    Stuck,
+}
+
+impl Machine {
+    /// Makes one instruction of the code that the run was started on, where every turn before it went.
+    /// After any answer but `Went` only `stop` may follow. Want of memory comes only where the instruction
+    /// calls, makes or copies a node, is an `Equal`, or ends the entry. It takes constant time beside what
+    /// the instruction makes, copies, compares, prints and frees.
+    pub fn turn<O: Sink>(&mut self, code: &Code, out: &mut O) -> Result<Turn, NoMemory>
+        requires is { IsMachine code.now self.old }
+        ensures is { IsMachine code.now self.new }
+        ensures turned { IfOk result (Turned (next_in code.now) self.old self.new (O.taken out.old) (O.taken out.new) (O.faults out.old) (O.faults out.new)) }
+        ensures no_memory { OnErr result (MayWantMemory (instr_of code.now self.old)) }
+        ensures nothing { OnErr result (O.taken out.new ≡ O.taken out.old) }
+        ensures count { O.faults out.old ≤ O.faults out.new }
+        ensures has_result { self.new.has_result ≡ self.old.has_result }
+    {
+        let Some(routine) = code.routines.get(self.frame.routine as usize) else {
+            return Ok(Turn::Stuck);
+        };
+        if self.frame.at >= routine.body.len() {
+            return Ok(Turn::Stuck);
+        }
+        let Some(instr) = routine.body.get(self.frame.at) else {
+            return Ok(Turn::Stuck);
+        };
+        self.made(code, instr, out)
+    }
+
+    // makes this instruction
+    fn made<O: Sink>(&mut self, code: &Code, instr: &Instr, out: &mut O) -> Result<Turn, NoMemory>
+        requires is { IsMachine code.now self.old }
+        requires int { HasInt instr.now }
+        requires below { self.old.frame.at < 18446744073709551615 }
+        ensures stands { Stands self.new.heap (places_of self.new) }
+        ensures kept { KeepsRest self.old self.new }
+        ensures turned { IfOk result (Turned (next_by code.now instr.now) self.old self.new (O.taken out.old) (O.taken out.new) (O.faults out.old) (O.faults out.new)) }
+        ensures no_memory { OnErr result (MayTakeMemory instr.now) }
+        ensures nothing { OnErr result (O.taken out.new ≡ O.taken out.old) }
+        ensures count { O.faults out.old ≤ O.faults out.new }
+    {
+        match instr {
+            Instr::Jump(to) => {
+                self.frame.at = *to as usize;
+                Ok(Turn::Went)
+            }
+            Instr::Branch(from, to) => Ok(self.branch(*from, *to)),
+            Instr::Call(to, routine, numbers) => {
+                self.call(code, *to, *routine, numbers.as_slice())
+            }
+            Instr::Return(from) => self.give_back(*from),
+            Instr::Print(from) => Ok(self.printed(*from, out)),
+            Instr::PrintInt(from) => Ok(self.number_printed(*from, out)),
+            _ => self.went(code, instr),
+        }
+    }
+
+    // an instruction that goes on behind and prints nothing
+    fn went(&mut self, code: &Code, instr: &Instr) -> Result<Turn, NoMemory>
+        requires is { IsMachine code.now self.old }
+        requires plain { IsPlain instr.now }
+        requires int { HasInt instr.now }
+        requires below { self.old.frame.at < 18446744073709551615 }
+        ensures stands { Stands self.new.heap (places_of self.new) }
+        ensures kept { KeepsRest self.old self.new }
+        ensures turned { IfOk result (λ turn. (before : Option (List ℕ)) (failed : ℕ) → Turned (next_by code.now instr.now) self.old self.new before before failed failed turn) }
+        ensures no_memory { OnErr result (MayTakeMemory instr.now) }
+    {
+        let alloc = self.alloc;
+        let registers = self.frame.registers.as_mut_slice();
+        match plain(
+            alloc,
+            &code.shapes,
+            &mut self.heap,
+            registers,
+            &mut self.path,
+            instr,
+        ) {
+            Ok(()) => {
+                self.frame.at += 1;
+                Ok(Turn::Went)
+            }
+            Err(Stop::Stuck) => Ok(Turn::Stuck),
+            Err(Stop::NoMemory) => Err(NoMemory),
+        }
+    }
+
+    // `Branch`
+    fn branch(&mut self, from: u32, to: u32) -> Turn
+        requires stands { Stands self.old.heap (places_of self.old) }
+        requires below { self.old.frame.at < 18446744073709551615 }
+        ensures stands { Stands self.new.heap (places_of self.new) }
+        ensures kept { KeepsRest self.old self.new }
+        ensures turned { TurnsBy (Instr.Branch from to) self.old self.new result }
+    {
+        match truth(&self.heap, self.frame.registers.as_slice(), from) {
+            Some(true) => {
+                self.frame.at += 1;
+                Turn::Went
+            }
+            Some(false) => {
+                self.frame.at = to as usize;
+                Turn::Went
+            }
+            None => Turn::Stuck,
+        }
+    }
+
+    // `Print`
+    fn printed<O: Sink>(&mut self, from: u32, out: &mut O) -> Turn
+        requires stands { Stands self.old.heap (places_of self.old) }
+        requires below { self.old.frame.at < 18446744073709551615 }
+        ensures stands { Stands self.new.heap (places_of self.new) }
+        ensures kept { KeepsRest self.old self.new }
+        ensures turned { (code : Code) → Turned (next_by code (Instr.Print from)) self.old self.new (O.taken out.old) (O.taken out.new) (O.faults out.old) (O.faults out.new) result }
+        ensures count { O.faults out.old ≤ O.faults out.new }
+    {
+        match print(&self.heap, self.frame.registers.as_slice(), from, out) {
+            Ok(()) => {
+                self.frame.at += 1;
+                Turn::Went
+            }
+            Err(PrintStop::Stuck) => Turn::Stuck,
+            Err(PrintStop::OutFault) => Turn::OutFault,
+        }
+    }
+
+    // `PrintInt`
+    fn number_printed<O: Sink>(&mut self, from: u32, out: &mut O) -> Turn
+        requires stands { Stands self.old.heap (places_of self.old) }
+        requires below { self.old.frame.at < 18446744073709551615 }
+        ensures stands { Stands self.new.heap (places_of self.new) }
+        ensures kept { KeepsRest self.old self.new }
+        ensures turned { (code : Code) → Turned (next_by code (Instr.PrintInt from)) self.old self.new (O.taken out.old) (O.taken out.new) (O.faults out.old) (O.faults out.new) result }
+        ensures count { O.faults out.old ≤ O.faults out.new }
+    {
+        match print_int(&self.heap, self.frame.registers.as_slice(), from, out) {
+            Ok(()) => {
+                self.frame.at += 1;
+                Turn::Went
+            }
+            Err(PrintStop::Stuck) => Turn::Stuck,
+            Err(PrintStop::OutFault) => Turn::OutFault,
+        }
+    }
+
+    /// Ends the run: each place is released, and the heap with them. It takes no memory, and no stack
+    /// however deep nodes lie.
+    pub fn stop(self)
+        requires stands { Stands self.heap (places_of self) }
+    {
+        let _empty = self.released();
+    }
+
+    // the heap with nothing in it
+    fn released(self) -> Heap
+        requires stands { Stands self.heap (places_of self) }
+        ensures empty { Stands result [] }
+    {
+        let Machine {
+            mut heap,
+            frame,
+            callers,
+            path: _,
+            has_result: _,
+            alloc: _,
+        } = self;
+        leave(&mut heap, frame);
+        leave_all(&mut heap, callers);
+        heap
+    }
+}
+
+// releases what the registers of these hold
+fn leave_all(heap: &mut Heap, mut callers: Vec<Caller>)
+    requires held { Stands heap.old (places_below (reverse callers.items)) }
+    ensures empty { Stands heap.new [] }
+{
+    'callers: while let Some(caller) = callers.pop() {
+        let Caller { frame, target: _ } = caller;
+        leave(heap, frame);
+    }
+    callers.destroy_empty();
+}

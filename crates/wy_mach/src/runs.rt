@@ -1,0 +1,102 @@
+//! Runs.
+ghost use Rattle.std.specs.Prelude.{◌≡◌, ◌≤◌, Some, IfOk, OnErr, length, map, slice_get};
+ghost use Rattle.wy_value.specs.Seen.{seen, seen_items};
+ghost use Rattle.wy_value.specs.Shapes.{IsShapes};
+ghost use Rattle.wy_value.specs.Values.{AreValues};
+ghost use Rattle.wy_code.specs.declared.routines.Routine.{Routine};
+ghost use Rattle.wy_step.specs.Step.{State, after};
+ghost use Rattle.wy_mach.specs.States.{IsMachine, HasInts};
+ghost use Rattle.wy_mach.specs.Running.{Ran, PrintsFront, ShowsFirst, state_behind};
+
+use crate::machine::{Machine, Turn};
+use std::alloc::Global;
+use wy_code::Code;
+use wy_heap::NoMemory;
+use wy_port::Sink;
+use wy_value::Value;
+
+/// How a run ends.
+#[derive(Drop)]
+pub enum RunEnd {
+    /// The entry's routine ended: with the text of the result, where one is wanted, the count of nodes
+    /// that were copied in this run, and the count of nodes that were left when the result alone was held.
+    Done {
+        text: Option<Vec<u8>>,
+        copies: u64,
+        nodes: u64,
+    },
+    /// The run has no end within the steps.
+    Spent,
+    /// The sink failed, and counted it. It took a front of what the run prints within the steps.
+    OutFault,
+    /// An operand was outside of an instruction's domain.
+    Stuck,
+}
+
+/// Runs a routine of the code on arguments, for at most so many instructions. Each answer comes when all
+/// places of the run are released.
+pub fn run<O: Sink>(
+    alloc: Global,
+    code: &Code,
+    entry: u32,
+    args: &[Value],
+    steps: u64,
+    cap: u32,
+    has_result: bool,
+    out: &mut O,
+) -> Result<RunEnd, NoMemory>
+    requires table { IsShapes code.now.shapes }
+    requires ints { HasInts code.now }
+    requires entry { (r : Routine) × (slice_get code.now.routines entry ≡ Some r) × (length args.now ≡ r.params) }
+    requires args { AreValues (seen_items args.now) }
+    requires cap { 1 ≤ cap }
+    ensures ran { IfOk result (Ran (state_behind code.now entry (map seen args.now) steps) has_result (O.taken out.old) (O.taken out.new) (O.faults out.old) (O.faults out.new)) }
+    ensures no_memory { OnErr result (PrintsFront (O.taken out.old) (O.taken out.new) (state_behind code.now entry (map seen args.now) steps)) }
+    ensures count { O.faults out.old ≤ O.faults out.new }
+{
+    let Ok(mut machine) = Machine::start(alloc, code, entry, args, cap, has_result) else {
+        return Err(NoMemory);
+    };
+    let end = turns(&mut machine, code, steps, out);
+    machine.stop();
+    end
+}
+
+// makes at most so many instructions
+fn turns<O: Sink>(
+    machine: &mut Machine,
+    code: &Code,
+    steps: u64,
+    out: &mut O,
+) -> Result<RunEnd, NoMemory>
+    requires is { IsMachine code.now machine.old }
+    ensures is { IsMachine code.now machine.new }
+    ensures ran { IfOk result (λ end. (st : State) → ShowsFirst machine.old st → Ran (after code.now steps st) machine.old.has_result (O.taken out.old) (O.taken out.new) (O.faults out.old) (O.faults out.new) end) }
+    ensures no_memory { OnErr result ((st : State) → ShowsFirst machine.old st → PrintsFront (O.taken out.old) (O.taken out.new) (after code.now steps st)) }
+    ensures count { O.faults out.old ≤ O.faults out.new }
+{
+    for i in 0..steps {
+        let turn = machine.turn(code, out)?;
+        match turn {
+            Turn::Went => {}
+            Turn::Done {
+                text,
+                copies,
+                nodes,
+            } => {
+                return Ok(RunEnd::Done {
+                    text,
+                    copies,
+                    nodes,
+                });
+            }
+            Turn::OutFault => {
+                return Ok(RunEnd::OutFault);
+            }
+            Turn::Stuck => {
+                return Ok(RunEnd::Stuck);
+            }
+        }
+    }
+    Ok(RunEnd::Spent)
+}

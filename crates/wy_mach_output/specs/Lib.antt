@@ -1,0 +1,3 @@
+-- definitions of contracts
+pub mod Texts
+pub mod Printed

@@ -1,0 +1,8 @@
+//! Tests of the machine: small routines, with what each instruction does in one.
+//!
+//! `assembler` makes code of texts, and `rows` has the routines and what their runs end with.
+#![tactic(auto)]
+
+mod assembler;
+#[cfg(test)]
+mod rows;

@@ -1,0 +1,4 @@
+pub mod FieldLemmas
+pub mod PartLemmas
+pub mod PathLemmas
+pub mod UpdateLemmas

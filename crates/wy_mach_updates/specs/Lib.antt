@@ -1,0 +1,3 @@
+-- definitions of contracts
+pub mod Parts
+pub mod Paths

@@ -1,0 +1,2 @@
+-- what a test of a precondition finds
+pub mod Verdicts

@@ -1,0 +1,6 @@
+pub mod WholeLemmas
+pub mod DivisorLemmas
+pub mod RatioLemmas
+pub mod MultipleLemmas
+pub mod AffineLemmas
+pub mod ProductLemmas

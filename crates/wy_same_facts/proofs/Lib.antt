@@ -1,0 +1,3 @@
+pub mod StepSide
+pub mod SchemaSide
+pub mod SameLemmas

@@ -1,0 +1,6 @@
+mod LowLemmas
+mod TypeFields
+mod ExprFields
+mod StmtFields
+mod BlockFields
+pub mod ProgramFields

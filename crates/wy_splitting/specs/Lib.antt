@@ -1,0 +1,2 @@
+-- lists in which each term stands once
+pub mod Once

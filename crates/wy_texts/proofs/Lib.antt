@@ -1,0 +1,2 @@
+-- texts of what was read
+pub mod TextLemmas

@@ -1,0 +1,18 @@
+use Rattle.std.proofs.Common.{refl}
+use Rattle.wy_texts.proofs.TextLemmas.{layout_complete, layout_exact, layout_is, nothing_left, unread_complete, unread_exact}
+use Rattle.wy_texts.proofs.writing.laid_out.Goals as goal
+
+pub returns-in-Err-clause-complete : goal.returns-in-Err-clause-complete
+returns-in-Err-clause-complete c = unread_complete c.args.source.now c.in-Err.fault c.in-Err.ensures.reads
+
+pub returns-in-Err-clause-exact : goal.returns-in-Err-clause-exact
+returns-in-Err-clause-exact c = unread_exact c.args.source.now c.in-Err.fault c.in-Err.ensures.reads c.in-Err.ensures.exact
+
+pub returns-in-Ok-print-clause-text : goal.returns-in-Ok-print-clause-text
+returns-in-Ok-print-clause-text c = layout_is c.args.source.now c.in-Ok-print.text.items c.in-Ok.program c.in-Ok.ensures.spells c.in-Ok-print.ensures.value
+
+pub returns-in-Ok-print-clause-complete : goal.returns-in-Ok-print-clause-complete
+returns-in-Ok-print-clause-complete c = layout_complete c.args.source.now c.in-Ok-print.text.items c.in-Ok.program c.in-Ok.ensures.reads c.in-Ok-print.ensures.value
+
+pub returns-in-Ok-print-clause-exact : goal.returns-in-Ok-print-clause-exact
+returns-in-Ok-print-clause-exact c = layout_exact c.args.source.now c.in-Ok.program c.in-Ok.ensures.exact

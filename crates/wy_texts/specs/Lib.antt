@@ -1,0 +1,2 @@
+-- which text a source has, and for what it has none
+pub mod Texts

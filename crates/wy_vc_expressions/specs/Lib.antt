@@ -1,0 +1,2 @@
+-- the walk of expressions
+pub mod Walking

@@ -1,0 +1,2 @@
+-- sizes of terms
+pub mod LargeLemmas

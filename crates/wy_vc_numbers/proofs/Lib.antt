@@ -1,0 +1,2 @@
+-- numbers among flow types
+pub mod NumberLemmas

@@ -1,0 +1,2 @@
+-- conjuncts of numbers
+pub mod Conjuncts

@@ -1,0 +1,21 @@
+-- The named types that terms test.
+use Rattle.std.specs.Prelude.{ℕ, List, [], ◌∷◌, ◌++◌, Option, Some, None}
+use Rattle.wy_term.specs.Term.{Symbol, Term, Of, in_type}
+use Rattle.wy_term.specs.Nodes.{Plain, tree_at}
+
+-- the named type of a test
+abbrev pub type_of : Symbol → Option ℕ
+type_of (in_type n) = Some n
+type_of symbol = None
+
+abbrev pub symbol_of : Term → Symbol
+symbol_of (Of symbol ps) = symbol
+
+abbrev pub listed_if : Option ℕ → List ℕ
+listed_if None = []
+listed_if (Some n) = n ∷ []
+
+-- those of the terms with these numbers, in order
+abbrev pub types_at : List Plain → List ℕ → List ℕ
+types_at nodes [] = []
+types_at nodes (k ∷ ks) = listed_if (type_of (symbol_of (tree_at nodes k))) ++ types_at nodes ks

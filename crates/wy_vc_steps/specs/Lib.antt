@@ -1,0 +1,2 @@
+-- goals of an operation, and which hypotheses stay
+pub mod Owing

@@ -1,0 +1,4 @@
+-- what is made
+pub mod Made
+-- what loops make
+pub mod Wholes
