@@ -19,7 +19,7 @@ use wy_tables::{Context, name_number, shape_number};
 
 /// Whether the value in `value`, which stays there, is in the type comes into `answer`; the registers
 /// from `free` on are free. It recurses as deep as the type nests, and goes through each node once.
-#[cycle(test)]
+#[cycle(type_test)]
 pub fn test(
     alloc: Global,
     context: &Context,
@@ -103,7 +103,7 @@ fn test_named(
 }
 
 /// The fields of a record, from left to right up to the first whose value isn't in its type.
-#[cycle(test)]
+#[cycle(type_test)]
 fn test_fields(
     alloc: Global,
     context: &Context,
@@ -180,7 +180,7 @@ fn begin_array(
 }
 
 /// The turns over the items of an array, behind which the answer is yes.
-#[cycle(test)]
+#[cycle(type_test)]
 fn test_items(
     alloc: Global,
     context: &Context,
