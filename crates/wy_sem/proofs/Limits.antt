@@ -1,6 +1,6 @@
 -- A limit on turns is spent exactly where the count of turns passes it.
 use Rattle.std.proofs.Common.{◌≡◌, refl, ℕ, zero, suc, ◌+◌, ◌<◌, ◌≤◌, ◌⊎◌, inl, inr, List, [], ◌∷◌, Bool, true, false, cond, arith, length}
-use Rattle.std.specs.Prelude.{Option, Some, None, nat_lt, nat_eq}
+use Rattle.std.specs.Prelude.{◌≢◌, Option, Some, None, nat_lt, nat_eq}
 use Rattle.std.proofs.lemmas.Bool.{cases_lt, ltb-true, ltb-false}
 use Rattle.wy_value.specs.Datum.{Datum}
 use Rattle.wy_core.specs.CoreTree.{Core, Expr, Alias, Param, Routine, routines_of, aliases_of}
@@ -30,6 +30,12 @@ rises-number n (Done x m) h = h
 rises-number n (Fault kind at m) h = h
 rises-number n (More m) h = h
 rises-number n Spent h = absurd h
+
+rises-unspent : {X : Type 0} (n : ℕ) (o : Outcome X) → Rises n o → o ≢ Spent
+rises-unspent n (Done x m) h e = absurd (cc)
+rises-unspent n (Fault kind at m) h e = absurd (cc)
+rises-unspent n (More m) h e = absurd (cc)
+rises-unspent n Spent h e = absurd h
 
 rises-from : {X : Type 0} (k n : ℕ) (o : Outcome X) → k ≤ n → Rises n o → Rises k o
 rises-from k n (Done x m) e h = omega arith
@@ -150,4 +156,6 @@ pub limit_is_exact : {N : Type 0} (place : N → ℕ) (core : Core N) (f : ℕ) 
 limit_is_exact place core f vs limit = record {
   evaluation = λ k. (begun-kept place (within limit) (within-bounds limit) (within-ticks limit) None (Some limit) (within-ticks limit) (within-counts limit) core f (place_of (callee (routines_of core) f)) vs).settles (start k) (omega arith);
   test = (met-kept place (within limit) None (Some limit) (within-counts limit) (aliases_of core) (callee (routines_of core) f) vs).settles (start 0) (omega arith);
+  evaluation_unspent = λ k. rises-unspent 0 _ ((begun-kept place (within limit) (within-bounds limit) (within-ticks limit) None (Some limit) (within-ticks limit) (within-counts limit) core f (place_of (callee (routines_of core) f)) vs).rises (start k));
+  test_unspent = rises-unspent 0 _ ((met-kept place (within limit) None (Some limit) (within-counts limit) (aliases_of core) (callee (routines_of core) f) vs).rises (start 0));
 }

@@ -1,5 +1,5 @@
 -- What more ticks change, and what a limit on turns changes.
-use Rattle.std.specs.Prelude.{◌≡◌, ℕ, ◌+◌, ◌<◌, ◌≤◌, List, [], ◌++◌, Option, Some, None}
+use Rattle.std.specs.Prelude.{◌≡◌, ◌≢◌, ℕ, ◌+◌, ◌<◌, ◌≤◌, List, [], ◌++◌, Option, Some, None}
 use Rattle.wy_value.specs.Datum.{Datum}
 use Rattle.wy_core.specs.CoreTree.{Core}
 use Rattle.wy_term.specs.declared.cond.CondKind.{CondKind}
@@ -48,7 +48,9 @@ pub record Settles {X : Type 0} (limit turns : ℕ) (whole limited : Outcome X) 
   pub within : turns ≤ limit → limited ≡ whole
   pub beyond : limit < turns → limited ≡ Spent
 
--- a limit on turns is spent exactly where the count of turns passes it, and otherwise changes nothing
+-- a limit on turns is spent exactly where the count of turns passes it, and otherwise changes nothing; where there is no limit, no turns are spent
 pub record LimitIsExact {N : Type 0} (place : N → ℕ) (core : Core N) (f : ℕ) (vs : List Datum) (limit : ℕ) : Type 0 where
   pub evaluation : (k : ℕ) → Settles limit (contract_cost place core f vs k) (evaluate place core f vs k) (limited_evaluate place (Some limit) core f vs k)
   pub test : Settles limit (cost place core f vs) (precondition place None core f vs) (precondition place (Some limit) core f vs)
+  pub evaluation_unspent : (k : ℕ) → evaluate place core f vs k ≢ Spent
+  pub test_unspent : precondition place None core f vs ≢ Spent

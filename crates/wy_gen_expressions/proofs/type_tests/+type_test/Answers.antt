@@ -8,7 +8,7 @@ use Rattle.wy_compiled.specs.TypeTests as spec
 use Rattle.wy_gen_expressions.proofs.LoopLemmas.{fields_turn}
 use Rattle.wy_gen_expressions.proofs.PieceLemmas.{items_same}
 use Rattle.wy_gen_expressions.proofs.TypeLemmas.{record_test_same, array_test_same, union_test_same, inter_test_same, not_test_same}
-use Rattle.wy_gen_expressions.proofs.type_tests.+test.Goals as goal
+use Rattle.wy_gen_expressions.proofs.type_tests.+type_test.Goals as goal
 
 pub test-returns-in_ok-steps-in-Record : goal.test-returns-in_ok-steps-in-Record
 test-returns-in_ok-steps-in-Record t c = record {
