@@ -49,8 +49,8 @@ pub fn body_at(terms: &mut Terms, holds: bool, r: &Range, t: u32) -> Result<u32,
     if holds { Ok(f) } else { denial(terms, f) }
 }
 
-// The term isn't in the range, or the body, or its denial, holds at it.
-fn instance_at(terms: &mut Terms, holds: bool, r: &Range, t: u32) -> Result<u32, NoMemory>
+/// The term isn't in the range, or the body, or its denial, holds at it.
+pub fn instance_at(terms: &mut Terms, holds: bool, r: &Range, t: u32) -> Result<u32, NoMemory>
     requires range { IsRangeOver (length terms.old) r.now }
     requires term { t < length terms.old }
     ensures value { IfOk result (λ f. tree_at terms.new f ≡ instance_at holds (seen_range (tree_at terms.old) r.now) (tree_at terms.old t)) }
