@@ -1,9 +1,8 @@
 -- Assignments, with a path and without one.
-use Rattle.std.proofs.Common.{◌≡◌, ◌≢◌, ℕ, true, List, [], ◌∷◌, map, length, Option, Some, None, Result, Ok, Err, refl, sym, ap, ◌∙◌, subst}
+use Rattle.std.proofs.Common.{◌≡◌, ℕ, true, List, [], ◌∷◌, map, length, Option, Some, None, refl, ap, ◌∙◌}
 use Rattle.wy_value.specs.Datum.{Datum}
-use Rattle.wy_core.specs.CoreSeen.{seen_expr, seen_step}
+use Rattle.wy_core.specs.CoreSeen.{seen_step}
 use Rattle.wy_core.specs.CoreTree as tree
-use Rattle.wy_core.specs.declared.expressions.Expr as e
 use Rattle.wy_core.specs.declared.statements.Step.{Step}
 use Rattle.wy_sem.specs.Expressions.{Setting, Store, eval, slot}
 use Rattle.wy_sem.specs.Meter.{Meter, Outcome, Done, Fault, More, Spent, Run, ◌>>=◌}
@@ -13,7 +12,6 @@ use Rattle.wy_sem.specs.Statements.{Exit, Frame, assigned, path_of, stored, type
 use Rattle.wy_eval_operations.specs.declared.stop.Stop.{Stop}
 use Rattle.wy_eval_operations.specs.declared.stop.Stop.TheVariants as stop
 use Rattle.wy_eval_operations.specs.Outcomes.{stopped}
-use Rattle.wy_eval_expressions.proofs.StepLemmas.{then_is, then_stops_plain}
 
 pub assigned_whole : (w : Setting ℕ) (fr : Frame ℕ) (at x : ℕ) (path : List Step) (v : tree.Expr ℕ) (s : Store) (m : Meter) → length path ≡ 0 → assigned w fr at x (map seen_step path) v s m ≡ (eval w true v s m >>= stored fr at x (type_at fr.types x) s)
 assigned_whole w fr at x [] v s m h = refl

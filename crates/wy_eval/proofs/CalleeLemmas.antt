@@ -1,5 +1,5 @@
 -- Declarations by their numbers, and how many there are.
-use Rattle.std.proofs.Common.{◌≡◌, ℕ, zero, suc, ◌+◌, ◌<◌, ◌≤◌, List, [], ◌∷◌, map, length, drop, get_or, refl, sym, ap, ◌∙◌, subst, arith}
+use Rattle.std.proofs.Common.{◌≡◌, ℕ, zero, suc, ◌+◌, ◌<◌, ◌≤◌, List, [], ◌∷◌, map, length, drop, get_or, refl, sym, ap, ◌∙◌, arith}
 use Rattle.std.proofs.lemmas.List.{drop_all}
 use Rattle.wy_core.specs.CoreSeen.{seen_decl, seen_routine}
 use Rattle.wy_core.specs.CoreTree as tree
@@ -8,7 +8,7 @@ use Rattle.wy_core.specs.declared.declarations.Alias.{Alias}
 use Rattle.wy_core.specs.declared.declarations.Decl.{Decl}
 use Rattle.wy_core.specs.declared.declarations.Decl.TheVariants as decl
 use Rattle.wy_core.specs.declared.declarations.Routine.{Routine}
-use Rattle.wy_sem.specs.Evaluation.{Callee, Declared, Print, PrintInt, Undeclared, callee}
+use Rattle.wy_sem.specs.Evaluation.{Declared, Undeclared, callee}
 use Rattle.wy_eval_scope.proofs.LoopLemmas.{next_item}
 
 -- the declared functions and methods from a place on

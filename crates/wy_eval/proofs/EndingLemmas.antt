@@ -1,12 +1,16 @@
 -- How an evaluation begins.
-use Rattle.std.proofs.Common.{◌≡◌, ℕ, zero, suc, ◌+◌, ◌-◌, ◌≤◌, List, [], map, length, Option, Some, refl, sym, ap, ◌∙◌, arith}
+use Rattle.std.proofs.Common.{◌≡◌, ◌≢◌, ℕ, zero, suc, ◌+◌, ◌-◌, ◌<◌, ◌≤◌, ◌⊎◌, inl, inr, List, [], length, Option, Some, refl, sym, ap, ◌∙◌, arith}
+use Rattle.std.proofs.lemmas.Bool.{cases_lt}
 use Rattle.wy_value.specs.Datum.{Datum}
 use Rattle.wy_core.specs.CoreSeen.{seen_routine}
 use Rattle.wy_core.specs.CoreTree as tree
 use Rattle.wy_core.specs.CoreTree.{Core, routines_of}
 use Rattle.wy_core.specs.declared.declarations.Routine.{Routine}
-use Rattle.wy_sem.specs.Evaluation.{Callee, Declared, callee, limited_evaluate, place_of, run, start}
-use Rattle.wy_sem.specs.Meter.{Meter, Outcome}
+use Rattle.wy_sem.specs.Evaluation.{Declared, callee, contract_cost, evaluate, limited_evaluate, place_of, run, start}
+use Rattle.wy_sem.specs.Growth.{Settles}
+use Rattle.wy_sem.specs.Meter.{Meter, Outcome, Spent, Run}
+use Rattle.wy_sem.proofs.Limits.{limit_is_exact}
+use Rattle.wy_eval.specs.Endings.{EndsAs}
 use Rattle.wy_eval_expressions.specs.Settings.{here}
 use Rattle.wy_eval.proofs.CalleeLemmas.{callee_behind}
 
@@ -40,3 +44,25 @@ with_output ticks out = record { ticks = ticks; turns = 0; output = out }
 
 pub starts : (ticks : ℕ) (out : List ℕ) → out ≡ [] → with_output ticks out ≡ start ticks
 starts ticks out none = ap (λ o. with_output ticks o) none
+
+-- ---- the limit on turns
+
+ends_by : (turns cost : ℕ) (whole limited : Outcome (Option Datum)) (form : Run (Option Datum)) (out : List ℕ) → Settles turns cost whole limited → ((m : Meter) → form m ≢ Spent) → EndsAs form out limited → (turns < cost) ⊎ (cost ≤ turns) → (cost ≤ turns) × EndsAs form out whole
+ends_by turns cost whole limited form out s other (m, is, printed) (inl e) = absurd (other m (sym is ∙ s.beyond e))
+ends_by turns cost whole limited form out s other (m, is, printed) (inr e) = (e, (m, sym (s.within e) ∙ is, printed))
+
+spent_by : (turns cost : ℕ) (whole limited : Outcome (Option Datum)) → Settles turns cost whole limited → whole ≢ Spent → limited ≡ Spent → (turns < cost) ⊎ (cost ≤ turns) → turns < cost
+spent_by turns cost whole limited s unspent is (inl e) = e
+spent_by turns cost whole limited s unspent is (inr e) = absurd (unspent (sym (s.within e) ∙ is))
+
+-- an end of an evaluation with a limit is that of the evaluation without one, whose turns are within the limit
+pub ends_exactly : (turns : ℕ) (core : Core ℕ) (entry : ℕ) (vs : List Datum) (ticks : ℕ) (form : Run (Option Datum)) (out : List ℕ) → ((m : Meter) → form m ≢ Spent) → EndsAs form out (limited_evaluate here (Some turns) core entry vs ticks)
+    → (contract_cost here core entry vs ticks ≤ turns) × EndsAs form out (evaluate here core entry vs ticks)
+ends_exactly turns core entry vs ticks form out other says =
+    ends_by turns (contract_cost here core entry vs ticks) (evaluate here core entry vs ticks) (limited_evaluate here (Some turns) core entry vs ticks) form out ((limit_is_exact here core entry vs turns).evaluation ticks) other says (cases_lt turns (contract_cost here core entry vs ticks))
+
+-- a limit that is spent is passed
+pub spent_exactly : (turns : ℕ) (core : Core ℕ) (entry : ℕ) (vs : List Datum) (ticks : ℕ) → limited_evaluate here (Some turns) core entry vs ticks ≡ Spent → turns < contract_cost here core entry vs ticks
+spent_exactly turns core entry vs ticks is =
+    let law = limit_is_exact here core entry vs turns in
+    spent_by turns (contract_cost here core entry vs ticks) (evaluate here core entry vs ticks) (limited_evaluate here (Some turns) core entry vs ticks) (law.evaluation ticks) (law.evaluation_unspent ticks) is (cases_lt turns (contract_cost here core entry vs ticks))

@@ -1,17 +1,16 @@
 -- Paths into values, and assignments.
-use Rattle.std.proofs.Common.{◌≡◌, ◌≢◌, ℕ, ◌+◌, ◌<◌, ◌≤◌, pos, Bool, true, false, List, [], ◌∷◌, ◌++◌, map, length, drop, get_or, Option, Some, None, Result, Ok, Err, refl, sym, ap, ◌∙◌, subst, append_assoc}
+use Rattle.std.proofs.Common.{◌≡◌, ◌≢◌, ℕ, ◌+◌, ◌<◌, ◌≤◌, pos, Bool, true, false, List, [], ◌∷◌, ◌++◌, map, length, drop, get_or, Option, Some, None, Result, Ok, Err, refl, sym, ap, ◌∙◌, append_assoc}
 use Rattle.std.specs.Prelude.{IsErrAnd}
 use Rattle.std.proofs.lemmas.List.{drop_all, map_push}
-use Rattle.wy_value.specs.Datum.{Datum, Null, Truth, Whole, Array, Record, Data, Fields}
+use Rattle.wy_value.specs.Datum.{Datum, Null, Truth, Whole, Array, Record, Data}
 use Rattle.wy_value.specs.declared.value.Value.{Value}
-use Rattle.wy_value.specs.Seen.{seen}
 use Rattle.wy_core.specs.CoreSeen.{seen_expr, seen_step, seen_step_kind}
 use Rattle.wy_core.specs.CoreTree as tree
 use Rattle.wy_core.specs.CoreTree.{Expr}
 use Rattle.wy_core.specs.declared.expressions.Expr as e
 use Rattle.wy_core.specs.declared.statements.Step.{Step}
 use Rattle.wy_core.specs.declared.statements.StepKind.TheVariants as step
-use Rattle.wy_term.specs.declared.cond.CondKind.TheVariants.{Index, Member}
+use Rattle.wy_term.specs.declared.cond.CondKind.TheVariants.{Index}
 use Rattle.wy_sem.specs.Expressions.{Setting, Store, eval}
 use Rattle.wy_sem.specs.Meter.{Meter, Outcome, Done, Fault, More, Spent, Run, ◌>>=◌, check}
 use Rattle.wy_sem.specs.Operations as spec

@@ -1,17 +1,17 @@
 -- Turns of loops.
-use Rattle.std.proofs.Common.{◌≡◌, ◌≢◌, ℕ, zero, suc, ◌+◌, ◌-◌, ◌<◌, ◌≤◌, Bool, true, false, List, Option, Some, Result, Ok, Err, refl, sym, ap, ◌∙◌, subst, arith}
+use Rattle.std.proofs.Common.{◌≡◌, ◌≢◌, ℕ, suc, Bool, true, false, List, Some, Err, refl, sym, ap, ◌∙◌}
 use Rattle.wy_value.specs.Datum.{Datum, Truth}
 use Rattle.wy_core.specs.CoreTree as tree
 use Rattle.wy_core.specs.CoreTree.{Expr, Stmts}
-use Rattle.wy_term.specs.declared.cond.CondKind.TheVariants.{Keep, Member}
+use Rattle.wy_term.specs.declared.cond.CondKind.TheVariants.{Keep}
 use Rattle.wy_sem.specs.Expressions.{Setting, Store, clauses, eval, holds}
-use Rattle.wy_sem.specs.Meter.{Meter, Outcome, Done, Fault, More, Spent, Run, ◌>>=◌, choose, spend}
+use Rattle.wy_sem.specs.Meter.{Meter, Done, Run, ◌>>=◌, choose, spend}
 use Rattle.wy_sem.specs.Operations.{as_truth}
-use Rattle.wy_sem.specs.Statements.{Exit, Went, Broke, Continued, Gave, Frame, go_round, rounds, tested_truth}
+use Rattle.wy_sem.specs.Statements.{Exit, Went, Frame, go_round, rounds, tested_truth}
 use Rattle.wy_sem.specs.TypeTests.{clause_setting}
 use Rattle.wy_eval_operations.specs.declared.stop.Stop.{Stop}
 use Rattle.wy_eval_operations.specs.declared.stop.Stop.TheVariants as stop
-use Rattle.wy_eval_operations.specs.Operands.{TruthOf, is_truth}
+use Rattle.wy_eval_operations.specs.Operands.{TruthOf}
 use Rattle.wy_eval_operations.specs.Outcomes.{stopped}
 use Rattle.wy_eval_operations.proofs.OperandLemmas.{not_truth}
 use Rattle.wy_eval_expressions.specs.Settings.{here}

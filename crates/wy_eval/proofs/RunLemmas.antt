@@ -1,24 +1,20 @@
 -- Calls: what is called, and that clauses in code are those of contracts.
-use Rattle.std.proofs.Common.{◌≡◌, ◌≢◌, ℕ, zero, suc, ◌+◌, ◌-◌, ◌<◌, ◌≤◌, Bool, true, false, List, [], ◌∷◌, map, length, drop, get_or, Option, Some, None, Result, Ok, Err, refl, sym, ap, ◌∙◌, subst, arith}
+use Rattle.std.proofs.Common.{◌≡◌, ◌≢◌, ℕ, zero, suc, ◌≤◌, Bool, true, false, List, [], ◌∷◌, map, length, Option, Some, None, refl, sym, ap, ◌∙◌, arith}
 use Rattle.std.specs.Prelude.{nat_eq}
 use Rattle.wy_value.specs.Datum.{Datum}
-use Rattle.wy_core.specs.CoreSeen.{seen_block, seen_decl, seen_exprs, seen_output, seen_routine, seen_ty}
+use Rattle.wy_core.specs.CoreSeen.{seen_block, seen_exprs, seen_output, seen_routine, seen_ty}
 use Rattle.wy_core.specs.CoreTree as tree
 use Rattle.wy_core.specs.CoreTree.{Core, Expr, aliases_of, routines_of}
-use Rattle.wy_core.specs.Types as ty
 use Rattle.wy_core.specs.Types.{Ty}
-use Rattle.wy_core.specs.declared.declarations.Alias.{Alias}
-use Rattle.wy_core.specs.declared.declarations.Decl.{Decl}
-use Rattle.wy_core.specs.declared.declarations.Decl.TheVariants as decl
 use Rattle.wy_core.specs.declared.declarations.Routine.{Routine}
 use Rattle.wy_core.specs.declared.statements.Stmt.{Stmt}
 use Rattle.wy_core.specs.declared.types.Ty as code_ty
 use Rattle.wy_term.specs.declared.cond.CondKind.{CondKind}
 use Rattle.wy_term.specs.declared.cond.CondKind.TheVariants.{Ensures, Member, Requires}
-use Rattle.wy_sem.specs.Evaluation.{Callee, Declared, Print, PrintInt, Undeclared, arguments, callee, called, entry_of, frame_of, owed_member, result_given, result_of, routine_call, run, types_of}
-use Rattle.wy_sem.specs.Expressions.{Setting, Store, clauses, holds}
+use Rattle.wy_sem.specs.Evaluation.{Declared, arguments, callee, called, entry_of, frame_of, owed_member, result_given, result_of, routine_call, run, types_of}
+use Rattle.wy_sem.specs.Expressions.{Store, clauses}
 use Rattle.wy_sem.specs.Meter.{Meter, Outcome, Done, Fault, More, Spent, Run, ◌>>=◌, check, spend}
-use Rattle.wy_sem.specs.Statements.{Exit, Went, Broke, Continued, Gave, Frame, exec_all, given, leave}
+use Rattle.wy_sem.specs.Statements.{Exit, Went, Broke, Continued, Gave, Frame, exec_all, leave}
 use Rattle.wy_sem.specs.TypeTests.{Test, clause_setting, set_if}
 use Rattle.wy_eval_operations.specs.declared.stop.Stop.{Stop}
 use Rattle.wy_eval_operations.specs.declared.stop.Stop.TheVariants as stop

@@ -1,8 +1,6 @@
 -- Statements: what they spend first, what they stand for, and those behind them.
-use Rattle.std.proofs.Common.{◌≡◌, ◌≢◌, ℕ, zero, suc, ◌+◌, ◌-◌, ◌<◌, ◌≤◌, Bool, true, false, List, [], ◌∷◌, map, length, drop, get_or, Option, Some, None, Result, Ok, Err, refl, sym, ap, ◌∙◌, subst, arith, rules}
-use Rattle.std.specs.Prelude.{IsErrAnd}
+use Rattle.std.proofs.Common.{◌≡◌, ◌≢◌, ℕ, ◌+◌, ◌<◌, ◌≤◌, Bool, true, false, List, map, length, drop, get_or, Option, Some, None, Result, Ok, Err, refl, sym, ap, ◌∙◌, subst, rules}
 use Rattle.std.proofs.lemmas.List.{drop_all}
-use Rattle.wy_value.specs.Datum.{Datum}
 use Rattle.wy_core.specs.CoreSeen.{seen_block, seen_expr, seen_exprs, seen_option, seen_step, seen_stmt, seen_ty}
 use Rattle.wy_core.specs.CoreTree as tree
 use Rattle.wy_core.specs.declared.expressions.Expr as e
@@ -11,17 +9,17 @@ use Rattle.wy_core.specs.declared.statements.Stmt as st
 use Rattle.wy_core.specs.declared.statements.StmtKind as kind
 use Rattle.wy_core.specs.declared.types.Ty.{Ty}
 use Rattle.wy_sem.specs.Expressions.{Setting, Store}
-use Rattle.wy_sem.specs.Meter.{Meter, Outcome, Done, Fault, More, Spent, Run, ◌>>=◌, choose, spend}
+use Rattle.wy_sem.specs.Meter.{Meter, Done, Run, ◌>>=◌, spend}
 use Rattle.wy_value.specs.declared.value.Value.{Value}
 use Rattle.wy_value.specs.Seen.{seen}
 use Rattle.wy_sem.specs.Operations.{needed}
-use Rattle.wy_sem.specs.Statements.{Exit, Went, Broke, Continued, Gave, Frame, exec, exec_all, go_on, go_round, rounds}
+use Rattle.wy_sem.specs.Statements.{Exit, Went, Broke, Continued, Gave, Frame, exec, exec_all, go_on}
 use Rattle.wy_eval_operations.specs.declared.stop.Stop.{Stop}
 use Rattle.wy_eval_operations.specs.declared.stop.Stop.TheVariants as stop
 use Rattle.wy_eval_operations.specs.Operands.{NeededOf, seen_option as seen_value}
 use Rattle.wy_eval_operations.specs.Outcomes.{Gives, stopped}
 use Rattle.wy_eval_scope.proofs.LoopLemmas.{next_item}
-use Rattle.wy_eval_expressions.proofs.StepLemmas.{done, gives_as, spent, spent_stops, then_is, then_stops_plain}
+use Rattle.wy_eval_expressions.proofs.StepLemmas.{done, spent_stops, then_is, then_stops_plain}
 
 -- ---- what a node stands for
 

@@ -1,19 +1,13 @@
 -- What follows the body of a loop.
-use Rattle.std.proofs.Common.{◌≡◌, ◌≢◌, ℕ, List, Some, Result, Ok, Err, refl, sym, ap, ◌∙◌, subst}
-use Rattle.std.specs.Prelude.{IsErrAnd}
+use Rattle.std.proofs.Common.{◌≡◌, ℕ, List, Some, refl}
 use Rattle.wy_core.specs.CoreTree.{Alias, Core, Expr}
 use Rattle.wy_term.specs.declared.cond.CondKind.TheVariants.{Keep}
-use Rattle.wy_sem.specs.Expressions.{Store, clauses}
-use Rattle.wy_sem.specs.Meter.{Meter, Outcome, Done, Run}
+use Rattle.wy_sem.specs.Expressions.{Store}
+use Rattle.wy_sem.specs.Meter.{Meter, Run}
 use Rattle.wy_sem.specs.Statements as spec
 use Rattle.wy_sem.specs.Statements.{Went, Broke, Continued, Gave, go_round}
 use Rattle.wy_sem.specs.TypeTests.{clause_setting}
-use Rattle.wy_eval_operations.specs.declared.stop.Stop.{Stop}
-use Rattle.wy_eval_operations.specs.declared.stop.Stop.TheVariants as stop
-use Rattle.wy_eval_operations.specs.Outcomes.{stopped}
 use Rattle.wy_eval_expressions.specs.Settings.{here}
-use Rattle.wy_eval_expressions.proofs.StepLemmas.{done}
-use Rattle.wy_eval_frames.proofs.FollowLemmas.{clauses_stops, clauses_then}
 use Rattle.wy_eval.specs.Settings.{code, kept}
 use Rattle.wy_eval.proofs.RunLemmas.{clauses_as}
 

@@ -2,12 +2,12 @@
 ghost use Rattle.std.specs.Prelude.{◌≤◌, IfOk, Some, map};
 ghost use Rattle.wy_core.specs.CoreSeen.{seen_core};
 ghost use Rattle.wy_value.specs.Seen.{seen};
-ghost use Rattle.wy_sem.specs.Evaluation.{limited_evaluate};
+ghost use Rattle.wy_sem.specs.Evaluation.{contract_cost, evaluate, limited_evaluate};
 ghost use Rattle.wy_eval_expressions.specs.Settings.{here};
-ghost use Rattle.wy_eval.specs.Endings.{SaysEnd};
+ghost use Rattle.wy_eval.specs.Endings.{IsExactEnd, SaysEnd};
 
 use crate::built_ins::find;
-use crate::evaluation::run;
+use crate::calls::run;
 use std::alloc::Global;
 use wy_core::Core;
 use wy_eval_calls::Program;
@@ -34,6 +34,11 @@ pub enum EvalEnd {
 /// test of a loop, turn of a quantifier, call and visit of a type test; contracts spend none, and at
 /// most `turns` visits and quantifier turns. It takes time in the ticks, the turns and the sizes of the
 /// contracts and the declarations met, and each evaluated node may copy a value.
+///
+/// `TurnsSpent` comes exactly where contracts spend more than `turns`; every other end is that of an
+/// evaluation whose turns have no limit. The stack is bounded: each nested statement, expression, call
+/// and visit takes one of `ROOM` levels, 4,096 of them, and where these are used up the answer is want
+/// of memory. With at most 2,000 ticks code nests no deeper than that: each level spends a tick.
 pub fn eval(
     alloc: Global,
     core: &Core,
@@ -44,6 +49,7 @@ pub fn eval(
 ) -> Result<EvalEnd, NoMemory>
     requires { ticks ≤ 2000 }
     ensures value { IfOk result (λ end. SaysEnd end (limited_evaluate here (Some turns) (seen_core core.now) entry (map seen args.now) ticks)) }
+    ensures exact { IfOk result (λ end. IsExactEnd end turns (contract_cost here (seen_core core.now) entry (map seen args.now) ticks) (evaluate here (seen_core core.now) entry (map seen args.now) ticks)) }
 {
     let program = Program::of(alloc, core, turns)?;
     let mut meter = Meter {

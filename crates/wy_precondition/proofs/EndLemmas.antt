@@ -52,13 +52,13 @@ holds whole M tells h = (tells spec.Met h.0 h.1).0 refl
 fails : (whole : Outcome Verdict) (M : Type 0) (v : Verdict) → Tells whole M → Finds v whole → (v ≡ spec.Met → ⊥) → M → ⊥
 fails whole M v tells h other m = other ((tells v h.0 h.1).1 m)
 
-pub exact : (e : MeetsEnd) (turns cost : ℕ) (whole limited : Outcome Verdict) (M : Type 0) → Settles turns cost whole limited → Tells whole M → Says e limited → IsExact e turns cost whole M
-exact end.Met turns cost whole limited M s tells h =
+pub exact : (e : MeetsEnd) (turns cost : ℕ) (whole limited : Outcome Verdict) (M : Type 0) → Settles turns cost whole limited → whole ≢ Spent → Tells whole M → Says e limited → IsExact e turns cost whole M
+exact end.Met turns cost whole limited M s unspent tells h =
     let f : (cost ≤ turns) × Finds spec.Met whole = found turns cost whole limited spec.Met s h in (f.0, f.1, holds whole M tells f.1)
-exact end.CountFails turns cost whole limited M s tells h =
+exact end.CountFails turns cost whole limited M s unspent tells h =
     let f : (cost ≤ turns) × Finds spec.CountFails whole = found turns cost whole limited spec.CountFails s h in (f.0, f.1, fails whole M spec.CountFails tells f.1 (λ q. cc))
-exact (end.TypeFails k) turns cost whole limited M s tells h =
+exact (end.TypeFails k) turns cost whole limited M s unspent tells h =
     let f : (cost ≤ turns) × Finds (spec.TypeFails k) whole = found turns cost whole limited (spec.TypeFails k) s h in (f.0, f.1, fails whole M (spec.TypeFails k) tells f.1 (λ q. cc))
-exact (end.RequiresFails k) turns cost whole limited M s tells h =
+exact (end.RequiresFails k) turns cost whole limited M s unspent tells h =
     let f : (cost ≤ turns) × Finds (spec.RequiresFails k) whole = found turns cost whole limited (spec.RequiresFails k) s h in (f.0, f.1, fails whole M (spec.RequiresFails k) tells f.1 (λ q. cc))
-exact end.TurnsSpent turns cost whole limited M s tells h = λ not_spent. passed_by turns cost whole limited s h not_spent (cases_lt turns cost)
+exact end.TurnsSpent turns cost whole limited M s unspent tells h = passed_by turns cost whole limited s h unspent (cases_lt turns cost)

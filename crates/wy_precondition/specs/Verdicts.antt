@@ -26,13 +26,13 @@ Says (end.TypeFails k) o = Finds (spec.TypeFails k) o
 Says (end.RequiresFails k) o = Finds (spec.RequiresFails k) o
 Says end.TurnsSpent o = o ≡ Spent
 
--- the end is that of a test whose turns have no limit, which costs so much, and the turns are enough; or they are passed. It says Met where the arguments meet the declaration, and nothing else there
+-- the end is that of a test whose turns have no limit, which costs so much, and the turns are enough; or the cost passes them. It says Met where the arguments meet the declaration, and nothing else there
 abbrev pub IsExact : MeetsEnd → ℕ → ℕ → Outcome Verdict → Type 0 → Type 0
 IsExact end.Met turns cost whole Meets = (cost ≤ turns) × Finds spec.Met whole × Meets
 IsExact end.CountFails turns cost whole Meets = (cost ≤ turns) × Finds spec.CountFails whole × (Meets → ⊥)
 IsExact (end.TypeFails k) turns cost whole Meets = (cost ≤ turns) × Finds (spec.TypeFails k) whole × (Meets → ⊥)
 IsExact (end.RequiresFails k) turns cost whole Meets = (cost ≤ turns) × Finds (spec.RequiresFails k) whole × (Meets → ⊥)
-IsExact end.TurnsSpent turns cost whole Meets = whole ≢ Spent → turns < cost
+IsExact end.TurnsSpent turns cost whole Meets = turns < cost
 
 -- the first of the requires clauses from a number on that isn't true
 abbrev pub requires_verdict : Option ℕ → Verdict

@@ -1,4 +1,4 @@
-use Rattle.std.proofs.Common.{◌≡◌, ℕ, ◌+◌, ◌-◌, ◌≤◌, Some, map, length, sym, ap, ◌∙◌, arith}
+use Rattle.std.proofs.Common.{◌≡◌, ◌+◌, ◌-◌, ◌≤◌, Some, map, length, ap, ◌∙◌, arith}
 use Rattle.wy_core.specs.CoreSeen.{seen_core, seen_decl}
 use Rattle.wy_core.specs.CoreTree.{routines_of}
 use Rattle.wy_value.specs.Seen.{seen}

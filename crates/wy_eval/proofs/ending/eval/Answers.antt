@@ -1,15 +1,15 @@
-use Rattle.std.proofs.Common.{◌≡◌, ℕ, ◌+◌, ◌≤◌, suc, Some, Err, map, length, sym, ap, ◌∙◌, subst, refl, arith}
+use Rattle.std.proofs.Common.{◌≡◌, ◌+◌, ◌≤◌, suc, Some, Err, map, length, ◌∙◌, subst, refl, arith}
 use Rattle.wy_core.specs.CoreSeen.{seen_core, seen_decl}
 use Rattle.wy_core.specs.CoreTree.{routines_of}
 use Rattle.wy_value.specs.Seen.{seen}
 use Rattle.wy_sem.specs.Evaluation.{Declared, callee, place_of, run as spec_run}
 use Rattle.wy_core.specs.CoreSeen.{seen_routine}
-use Rattle.wy_sem.specs.Meter.{Done}
+use Rattle.wy_sem.specs.Meter.{Done, Fault, More}
 use Rattle.wy_eval_operations.specs.declared.stop.Stop.TheVariants as stop
 use Rattle.wy_eval_operations.specs.Operands.{seen_option}
 use Rattle.wy_eval_operations.specs.Outcomes.{Gives, meter_of, stopped}
 use Rattle.wy_eval_expressions.specs.Settings.{here}
-use Rattle.wy_eval.proofs.EndingLemmas.{evaluated, placed, placed_behind, starts, with_output}
+use Rattle.wy_eval.proofs.EndingLemmas.{ends_exactly, evaluated, placed, placed_behind, spent_exactly, starts, with_output}
 use Rattle.wy_eval.proofs.ending.eval.Goals as goal
 use Rattle.wy_eval.proofs.ending.eval.Goals.{in-Some, in-None}
 
@@ -33,7 +33,7 @@ returns-in-Ok c =
     let O = spec_run here (Some D.limit) core j n A vs M in
     let begun = starts c.args.ticks c.new.result.items c.new.ensures.items in
     let is = evaluated core D.limit T n A c.args.ticks j vs M (Done (seen_option c.in-Ok.value) K) c.in_ok-program.ensures.limit nested there begun c.in-Ok.ensures.value in
-    record { value = (K, is, refl) }
+    record { value = (K, is, refl); exact = ends_exactly T core n vs c.args.ticks (Done (seen_option c.in-Ok.value)) K.output (λ m q. cc) (K, is, refl) }
 
 pub returns-in-Fault : goal.returns-in-Fault
 returns-in-Fault c =
@@ -56,7 +56,7 @@ returns-in-Fault c =
     let begun = starts c.args.ticks c.new.result.items c.new.ensures.items in
     let told = subst (λ e. Gives seen_option O (Err e) K) c.in-Fault.is c.in-Err.ensures.value in
     let is = evaluated core D.limit T n A c.args.ticks j vs M (stopped (stop.Fault c.in-Fault.kind c.in-Fault.at) K) c.in_ok-program.ensures.limit nested there begun (told (λ q. cc)) in
-    record { value = (K, is, refl) }
+    record { value = (K, is, refl); exact = ends_exactly T core n vs c.args.ticks (Fault c.in-Fault.kind c.in-Fault.at) K.output (λ m q. cc) (K, is, refl) }
 
 pub returns-in-More : goal.returns-in-More
 returns-in-More c =
@@ -79,7 +79,7 @@ returns-in-More c =
     let begun = starts c.args.ticks c.new.result.items c.new.ensures.items in
     let told = subst (λ e. Gives seen_option O (Err e) K) c.in-More.is c.in-Err.ensures.value in
     let is = evaluated core D.limit T n A c.args.ticks j vs M (stopped (stop.More) K) c.in_ok-program.ensures.limit nested there begun (told (λ q. cc)) in
-    record { value = (K, is, refl) }
+    record { value = (K, is, refl); exact = ends_exactly T core n vs c.args.ticks More K.output (λ m q. cc) (K, is, refl) }
 
 pub returns-in-Spent : goal.returns-in-Spent
 returns-in-Spent c =
@@ -102,4 +102,4 @@ returns-in-Spent c =
     let begun = starts c.args.ticks c.new.result.items c.new.ensures.items in
     let told = subst (λ e. Gives seen_option O (Err e) K) c.in-Spent.is c.in-Err.ensures.value in
     let is = evaluated core D.limit T n A c.args.ticks j vs M (stopped (stop.Spent) K) c.in_ok-program.ensures.limit nested there begun (told (λ q. cc)) in
-    record { value = is }
+    record { value = is; exact = spent_exactly T core n vs c.args.ticks is }

@@ -1,6 +1,5 @@
 use Rattle.std.proofs.Common.{Some, map, sym, ap, ◌∙◌}
 use Rattle.wy_core.specs.CoreSeen.{seen_alias, seen_ty}
-use Rattle.wy_core.specs.Types.{AnyTy}
 use Rattle.wy_value.specs.Seen.{seen}
 use Rattle.wy_sem.specs.Evaluation.{owed_member}
 use Rattle.wy_sem.specs.Expressions as spec

@@ -1,38 +1,33 @@
-use Rattle.std.proofs.Common.{◌≡◌, ℕ, ◌+◌, ◌-◌, ◌<◌, ◌≤◌, suc, List, Option, None, Bool, true, false, not, refl, sym, ap, ◌∙◌, map, length, Some, Ok, Err, FitsSigned, rules, arith, ◌∷◌, get_or, subst, to_z, of_z, pos, ◌+ℤ◌}
-use Rattle.std.specs.Prelude.{slice_get}
+use Rattle.std.proofs.Common.{◌≡◌, ◌+◌, ◌-◌, ◌≤◌, suc, List, Option, None, Bool, true, refl, sym, ap, ◌∙◌, map, length, Some, Ok, FitsSigned, rules, arith, ◌∷◌, subst, to_z, of_z, pos, ◌+ℤ◌}
 use borrow.Author.Gap.{gap_up, read_sfits, up_fits}
 use Rattle.std.specs.Int.{w128}
 use Rattle.std.proofs.lemmas.Int.{to_z-of_z}
 use Rattle.wy_core.specs.CoreTree as tree
-use Rattle.wy_core.specs.Types as ty
-use Rattle.wy_core.specs.declared.types.Ty as code_ty
 use Rattle.wy_core.specs.CoreSeen.{seen_alias, seen_block, seen_core, seen_expr, seen_exprs, seen_fields, seen_option as seen_expr_option, seen_step, seen_stmt, seen_ty, seen_decl, seen_routine}
 use Rattle.wy_value.specs.Datum as datum
 use Rattle.wy_value.specs.declared.value.Value.TheVariants as value
 use Rattle.wy_value.specs.Seen.{seen}
 use Rattle.wy_value.proofs.SeenLemmas.{seen_null, seen_bool, seen_int}
-use Rattle.wy_sem.specs.Meter.{Meter, Done, Fault, Run, ◌>>=◌, choose, check as sem_check}
-use Rattle.wy_term.specs.declared.cond.CondKind.TheVariants.{Assert, Entry, Fail, Member}
+use Rattle.wy_sem.specs.Meter.{Meter, Done, Fault, ◌>>=◌, choose, check as sem_check}
+use Rattle.wy_term.specs.declared.cond.CondKind.TheVariants.{Assert, Entry, Fail}
 use Rattle.wy_sem.specs.Expressions as spec
 use Rattle.wy_sem.specs.Expressions.{Store, clauses, eval, slot}
-use Rattle.wy_sem.specs.TypeTests as tests
-use Rattle.wy_sem.specs.TypeTests.{clause_setting, items_tested, parts_tested}
+use Rattle.wy_sem.specs.TypeTests.{clause_setting}
 use Rattle.wy_sem.specs.Operations as operations
 use Rattle.wy_sem.specs.Operations.{needed}
-use Rattle.wy_eval_operations.specs.declared.stop.Stop.TheVariants as stop
-use Rattle.wy_eval_operations.specs.Operands.{items_of, parts_of, seen_option}
-use Rattle.wy_eval_operations.specs.Outcomes.{itself, meter_of, stopped}
+use Rattle.wy_eval_operations.specs.Operands.{parts_of, seen_option}
+use Rattle.wy_eval_operations.specs.Outcomes.{meter_of, stopped}
 use Rattle.wy_eval_scope.specs.Scopes.{scope, store_of}
 use Rattle.wy_eval_expressions.specs.Settings.{data_in, here, turns_of}
 use Rattle.wy_eval_expressions.proofs.KindLemmas.{null_of, bool_of, int_of, var_of, call_of, neg_of, not_of, len_of, binary_of, is_of, index_of, field_of, list_of, repeat_of, record_of, quant_of}
-use Rattle.wy_eval_expressions.proofs.StepLemmas.{done, gives_as, spent, refused, then_gives, then_is, then_stops, after_spend, as_kind, eval_stops, array_is, record_is, no_memory, turned, after_turn, asked_stops, as_ty}
+use Rattle.wy_eval_expressions.proofs.StepLemmas.{done, gives_as, spent, refused, then_gives, then_is, then_stops, after_spend, as_kind, eval_stops, array_is, record_is, no_memory}
 use Rattle.wy_eval_expressions.proofs.TurnLemmas.{values_begin, values_turn, values_refused, values_end, fields_begin, fields_turn, fields_refused, fields_end, turns_turn, turns_early, turns_refused, turns_fault, TurnsLeft}
 use Rattle.wy_eval_expressions.proofs.VisitLemmas.{each_from, turn_is, turn_refused, early_said, early_silent}
 use Rattle.wy_eval.specs.Settings.{built_in_call, code, slots_in}
 use Rattle.wy_eval.proofs.StatementLemmas.{declare_of, assign_of, call_of as call_stmt_of, return_of, assert_of, break_of, continue_of, skip_of, fail_of, if_of, while_of, as_stmt, exec_stops, block_turn, block_ends, block_stops, block_end, needed_gives}
 use Rattle.wy_sem.specs.Statements as statements
 use Rattle.wy_sem.specs.Statements.{exec_all}
-use Rattle.wy_sem.specs.Evaluation.{callee, owed_member, called, result_of, run as spec_run}
+use Rattle.wy_sem.specs.Evaluation.{callee, result_of, run as spec_run}
 use Rattle.wy_eval_frames.specs.Exits.{frame, seen_exit}
 use Rattle.wy_eval_frames.proofs.FollowLemmas.{checked, checked_stops, clauses_then, clauses_stops}
 use Rattle.wy_eval.specs.Turns.{GoesRound}
@@ -41,50 +36,44 @@ use Rattle.wy_eval.proofs.PathLemmas.{path_begin, index_steps, index_stops, inde
 use Rattle.wy_eval.proofs.AssignLemmas.{assigned_whole, behind_path, along_path, assigned_part, needed_then, needed_stops}
 use Rattle.wy_eval.proofs.RunLemmas.{clauses_as, leave_as, result_as, body_of, run_declared, body_is, run_stops, run_built_in}
 use Rattle.wy_eval.proofs.TurningLemmas.{round_as}
-use Rattle.wy_eval.proofs.evaluation.+code.Goals as goal
+use Rattle.wy_eval.proofs.+code.Goals as goal
 
-pub value_of-returns-in-Null : goal.value_of-returns-in-Null
-value_of-returns-in-Null t c =
+pub expressions::value_of-returns-in-Null : goal.expressions::value_of-returns-in-Null
+expressions::value_of-returns-in-Null t c =
     let W = code (seen_core c.args.core.now) (map seen_alias c.args.program.now.declared.types) c.args.program.now.declared.limit c.args.calls in
     let P = true in
     let S = scope (store_of c.args.store.now) c.args.over.now in
     let M0 = meter_of c.args.meter.now in
     let M1 = meter_of c.spend.new.self in
-    let A = c.args.expr.now.at in
     let E = c.args.expr.now in
-    let X = seen_expr c.args.expr.now in
     let H = c.in_ok-spend.ensures.value in
     record { value = ap (λ x. eval W P x S M0) (null_of E c.in-Null.is) ∙ (spent P (Done datum.Null) M0 M1 H ∙ ap (λ d. Done d M1) (sym (seen_null))) }
 
-pub value_of-returns-in-Bool : goal.value_of-returns-in-Bool
-value_of-returns-in-Bool t c =
+pub expressions::value_of-returns-in-Bool : goal.expressions::value_of-returns-in-Bool
+expressions::value_of-returns-in-Bool t c =
     let W = code (seen_core c.args.core.now) (map seen_alias c.args.program.now.declared.types) c.args.program.now.declared.limit c.args.calls in
     let P = true in
     let S = scope (store_of c.args.store.now) c.args.over.now in
     let M0 = meter_of c.args.meter.now in
     let M1 = meter_of c.spend.new.self in
-    let A = c.args.expr.now.at in
     let E = c.args.expr.now in
-    let X = seen_expr c.args.expr.now in
     let H = c.in_ok-spend.ensures.value in
     record { value = ap (λ x. eval W P x S M0) (bool_of E c.in-Bool.truth c.in-Bool.is) ∙ (spent P (Done (datum.Truth c.in-Bool.truth)) M0 M1 H ∙ ap (λ d. Done d M1) (sym (seen_bool c.in-Bool.truth))) }
 
-pub value_of-returns-in-Int : goal.value_of-returns-in-Int
-value_of-returns-in-Int t c =
+pub expressions::value_of-returns-in-Int : goal.expressions::value_of-returns-in-Int
+expressions::value_of-returns-in-Int t c =
     let W = code (seen_core c.args.core.now) (map seen_alias c.args.program.now.declared.types) c.args.program.now.declared.limit c.args.calls in
     let P = true in
     let S = scope (store_of c.args.store.now) c.args.over.now in
     let M0 = meter_of c.args.meter.now in
     let M1 = meter_of c.spend.new.self in
-    let A = c.args.expr.now.at in
     let E = c.args.expr.now in
-    let X = seen_expr c.args.expr.now in
     let H = c.in_ok-spend.ensures.value in
     let F : FitsSigned w128 c.in-Int.number = search rules in
     record { value = ap (λ x. eval W P x S M0) (int_of E c.in-Int.number c.in-Int.is) ∙ (spent P (Done (datum.Whole c.in-Int.number)) M0 M1 H ∙ (ap (λ d. Done d M1) (sym (seen_int c.in-Int.number)) ∙ ap (λ n. Done (seen (value.Int n)) M1) (sym (to_z-of_z w128 c.in-Int.number F)))) }
 
-pub value_of-returns-in-Var : goal.value_of-returns-in-Var
-value_of-returns-in-Var t c =
+pub expressions::value_of-returns-in-Var : goal.expressions::value_of-returns-in-Var
+expressions::value_of-returns-in-Var t c =
     let W = code (seen_core c.args.core.now) (map seen_alias c.args.program.now.declared.types) c.args.program.now.declared.limit c.args.calls in
     let P = true in
     let S = scope (store_of c.args.store.now) c.args.over.now in
@@ -99,8 +88,8 @@ value_of-returns-in-Var t c =
           (after_spend seen P (needed A (slot S c.in-Var.number) Done) M0 M1 c.variable.result M1 H (c.variable.ensures.value M1));
     }
 
-pub value_of-returns-in_err-spend : goal.value_of-returns-in_err-spend
-value_of-returns-in_err-spend t c =
+pub expressions::value_of-returns-in_err-spend : goal.expressions::value_of-returns-in_err-spend
+expressions::value_of-returns-in_err-spend t c =
     let W = code (seen_core c.args.core.now) (map seen_alias c.args.program.now.declared.types) c.args.program.now.declared.limit c.args.calls in
     let P = true in
     let S = scope (store_of c.args.store.now) c.args.over.now in
@@ -108,8 +97,8 @@ value_of-returns-in_err-spend t c =
     let M1 = meter_of c.spend.new.self in
     record { value = refused seen (eval W P (seen_expr c.args.expr.now) S M0) M1 c.in_err-spend.field-0.0 c.from_residual.result (λ none. eval_stops W P (seen_expr c.args.expr.now) S M0 M1 c.in_err-spend.field-0.0 c.in_err-spend.ensures.value none) c.from_residual.ensures.1 }
 
-pub value_of-returns-in_err-value-in-Neg : goal.value_of-returns-in_err-value-in-Neg
-value_of-returns-in_err-value-in-Neg t c =
+pub expressions::value_of-returns-in_err-value-in-Neg : goal.expressions::value_of-returns-in_err-value-in-Neg
+expressions::value_of-returns-in_err-value-in-Neg t c =
     let W = code (seen_core c.args.core.now) (map seen_alias c.args.program.now.declared.types) c.args.program.now.declared.limit c.args.calls in
     let P = true in
     let S = scope (store_of c.args.store.now) c.args.over.now in
@@ -125,8 +114,8 @@ value_of-returns-in_err-value-in-Neg t c =
           (then_stops seen (eval W P (seen_expr c.get-operand.result.now) S M1) (operations.negated A) (meter_of c.value_of.new.meter) c.in_err-value-in-Neg.field-0.0 c.from_residual-in_err-value-in-Neg.result c.in_err-value-in-Neg.ensures.value c.from_residual-in_err-value-in-Neg.ensures.1));
     }
 
-pub value_of-returns-in_ok-value-in-Neg : goal.value_of-returns-in_ok-value-in-Neg
-value_of-returns-in_ok-value-in-Neg t c =
+pub expressions::value_of-returns-in_ok-value-in-Neg : goal.expressions::value_of-returns-in_ok-value-in-Neg
+expressions::value_of-returns-in_ok-value-in-Neg t c =
     let W = code (seen_core c.args.core.now) (map seen_alias c.args.program.now.declared.types) c.args.program.now.declared.limit c.args.calls in
     let P = true in
     let S = scope (store_of c.args.store.now) c.args.over.now in
@@ -143,8 +132,8 @@ value_of-returns-in_ok-value-in-Neg t c =
           (c.negated.ensures.value (meter_of c.value_of.new.meter))));
     }
 
-pub value_of-returns-in_err-value-in-Not : goal.value_of-returns-in_err-value-in-Not
-value_of-returns-in_err-value-in-Not t c =
+pub expressions::value_of-returns-in_err-value-in-Not : goal.expressions::value_of-returns-in_err-value-in-Not
+expressions::value_of-returns-in_err-value-in-Not t c =
     let W = code (seen_core c.args.core.now) (map seen_alias c.args.program.now.declared.types) c.args.program.now.declared.limit c.args.calls in
     let P = true in
     let S = scope (store_of c.args.store.now) c.args.over.now in
@@ -160,8 +149,8 @@ value_of-returns-in_err-value-in-Not t c =
           (then_stops seen (eval W P (seen_expr c.get-operand-in-Not.result.now) S M1) (operations.denied A) (meter_of c.value_of-in-Not.new.meter) c.in_err-value-in-Not.field-0.0 c.from_residual-in_err-value-in-Not.result c.in_err-value-in-Not.ensures.value c.from_residual-in_err-value-in-Not.ensures.1));
     }
 
-pub value_of-returns-in_ok-value-in-Not : goal.value_of-returns-in_ok-value-in-Not
-value_of-returns-in_ok-value-in-Not t c =
+pub expressions::value_of-returns-in_ok-value-in-Not : goal.expressions::value_of-returns-in_ok-value-in-Not
+expressions::value_of-returns-in_ok-value-in-Not t c =
     let W = code (seen_core c.args.core.now) (map seen_alias c.args.program.now.declared.types) c.args.program.now.declared.limit c.args.calls in
     let P = true in
     let S = scope (store_of c.args.store.now) c.args.over.now in
@@ -178,8 +167,8 @@ value_of-returns-in_ok-value-in-Not t c =
           (c.denied.ensures.value (meter_of c.value_of-in-Not.new.meter))));
     }
 
-pub value_of-returns-in_err-value-in-Len : goal.value_of-returns-in_err-value-in-Len
-value_of-returns-in_err-value-in-Len t c =
+pub expressions::value_of-returns-in_err-value-in-Len : goal.expressions::value_of-returns-in_err-value-in-Len
+expressions::value_of-returns-in_err-value-in-Len t c =
     let W = code (seen_core c.args.core.now) (map seen_alias c.args.program.now.declared.types) c.args.program.now.declared.limit c.args.calls in
     let P = true in
     let S = scope (store_of c.args.store.now) c.args.over.now in
@@ -195,8 +184,8 @@ value_of-returns-in_err-value-in-Len t c =
           (then_stops seen (eval W P (seen_expr c.get-operand-in-Len.result.now) S M1) (operations.length_result A) (meter_of c.value_of-in-Len.new.meter) c.in_err-value-in-Len.field-0.0 c.from_residual-in_err-value-in-Len.result c.in_err-value-in-Len.ensures.value c.from_residual-in_err-value-in-Len.ensures.1));
     }
 
-pub value_of-returns-in_ok-value-in-Len : goal.value_of-returns-in_ok-value-in-Len
-value_of-returns-in_ok-value-in-Len t c =
+pub expressions::value_of-returns-in_ok-value-in-Len : goal.expressions::value_of-returns-in_ok-value-in-Len
+expressions::value_of-returns-in_ok-value-in-Len t c =
     let W = code (seen_core c.args.core.now) (map seen_alias c.args.program.now.declared.types) c.args.program.now.declared.limit c.args.calls in
     let P = true in
     let S = scope (store_of c.args.store.now) c.args.over.now in
@@ -213,8 +202,8 @@ value_of-returns-in_ok-value-in-Len t c =
           (c.length.ensures.value (meter_of c.value_of-in-Len.new.meter))));
     }
 
-pub value_of-returns-in_err-value-in-Binary : goal.value_of-returns-in_err-value-in-Binary
-value_of-returns-in_err-value-in-Binary t c =
+pub expressions::value_of-returns-in_err-value-in-Binary : goal.expressions::value_of-returns-in_err-value-in-Binary
+expressions::value_of-returns-in_err-value-in-Binary t c =
     let W = code (seen_core c.args.core.now) (map seen_alias c.args.program.now.declared.types) c.args.program.now.declared.limit c.args.calls in
     let P = true in
     let S = scope (store_of c.args.store.now) c.args.over.now in
@@ -230,8 +219,8 @@ value_of-returns-in_err-value-in-Binary t c =
           (then_stops seen (eval W P (seen_expr c.get-left.result.now) S M1) (operations.operated c.in-Binary.op A (eval W P (seen_expr c.get-right.result.now) S)) (meter_of c.value_of-in-Binary.new.meter) c.in_err-value-in-Binary.field-0.0 c.from_residual-in_err-value-in-Binary.result c.in_err-value-in-Binary.ensures.value c.from_residual-in_err-value-in-Binary.ensures.1));
     }
 
-pub value_of-returns-in_ok-value-in-Binary : goal.value_of-returns-in_ok-value-in-Binary
-value_of-returns-in_ok-value-in-Binary t c =
+pub expressions::value_of-returns-in_ok-value-in-Binary : goal.expressions::value_of-returns-in_ok-value-in-Binary
+expressions::value_of-returns-in_ok-value-in-Binary t c =
     let W = code (seen_core c.args.core.now) (map seen_alias c.args.program.now.declared.types) c.args.program.now.declared.limit c.args.calls in
     let P = true in
     let S = scope (store_of c.args.store.now) c.args.over.now in
@@ -248,8 +237,8 @@ value_of-returns-in_ok-value-in-Binary t c =
           (c.operated.ensures.value)));
     }
 
-pub value_of-returns-in_err-value-in-Is : goal.value_of-returns-in_err-value-in-Is
-value_of-returns-in_err-value-in-Is t c =
+pub expressions::value_of-returns-in_err-value-in-Is : goal.expressions::value_of-returns-in_err-value-in-Is
+expressions::value_of-returns-in_err-value-in-Is t c =
     let W = code (seen_core c.args.core.now) (map seen_alias c.args.program.now.declared.types) c.args.program.now.declared.limit c.args.calls in
     let P = true in
     let S = scope (store_of c.args.store.now) c.args.over.now in
@@ -265,8 +254,8 @@ value_of-returns-in_err-value-in-Is t c =
           (then_stops seen (eval W P (seen_expr c.get-operand-in-Is.result.now) S M1) (λ v k. W.test P (seen_ty c.in-Is.ty) v k >>= (λ b. Done (datum.Truth b))) (meter_of c.value_of-in-Is.new.meter) c.in_err-value-in-Is.field-0.0 c.from_residual-in_err-value-in-Is.result c.in_err-value-in-Is.ensures.value c.from_residual-in_err-value-in-Is.ensures.1));
     }
 
-pub value_of-returns-in_err-truth-in-Is : goal.value_of-returns-in_err-truth-in-Is
-value_of-returns-in_err-truth-in-Is t c =
+pub expressions::value_of-returns-in_err-truth-in-Is : goal.expressions::value_of-returns-in_err-truth-in-Is
+expressions::value_of-returns-in_err-truth-in-Is t c =
     let W = code (seen_core c.args.core.now) (map seen_alias c.args.program.now.declared.types) c.args.program.now.declared.limit c.args.calls in
     let P = true in
     let S = scope (store_of c.args.store.now) c.args.over.now in
@@ -283,8 +272,8 @@ value_of-returns-in_err-truth-in-Is t c =
           (then_stops seen (W.test P (seen_ty c.in-Is.ty) (seen c.in_ok-value-in-Is.value) (meter_of c.value_of-in-Is.new.meter)) (λ b. Done (datum.Truth b)) (meter_of c.tested.new.meter) c.in_err-truth-in-Is.field-0.0 c.from_residual-in_err-truth-in-Is.result c.in_err-truth-in-Is.ensures.value c.from_residual-in_err-truth-in-Is.ensures.1)));
     }
 
-pub value_of-returns-in_ok-truth-in-Is : goal.value_of-returns-in_ok-truth-in-Is
-value_of-returns-in_ok-truth-in-Is t c =
+pub expressions::value_of-returns-in_ok-truth-in-Is : goal.expressions::value_of-returns-in_ok-truth-in-Is
+expressions::value_of-returns-in_ok-truth-in-Is t c =
     let W = code (seen_core c.args.core.now) (map seen_alias c.args.program.now.declared.types) c.args.program.now.declared.limit c.args.calls in
     let P = true in
     let S = scope (store_of c.args.store.now) c.args.over.now in
@@ -301,8 +290,8 @@ value_of-returns-in_ok-truth-in-Is t c =
           (then_is (W.test P (seen_ty c.in-Is.ty) (seen c.in_ok-value-in-Is.value) (meter_of c.value_of-in-Is.new.meter)) (λ b. Done (datum.Truth b)) c.in_ok-truth-in-Is.truth (meter_of c.tested.new.meter) c.in_ok-truth-in-Is.ensures.value ∙ ap (λ d. Done d (meter_of c.tested.new.meter)) (sym (seen_bool c.in_ok-truth-in-Is.truth)))));
     }
 
-pub value_of-returns-in_err-value-in-Index : goal.value_of-returns-in_err-value-in-Index
-value_of-returns-in_err-value-in-Index t c =
+pub expressions::value_of-returns-in_err-value-in-Index : goal.expressions::value_of-returns-in_err-value-in-Index
+expressions::value_of-returns-in_err-value-in-Index t c =
     let W = code (seen_core c.args.core.now) (map seen_alias c.args.program.now.declared.types) c.args.program.now.declared.limit c.args.calls in
     let P = true in
     let S = scope (store_of c.args.store.now) c.args.over.now in
@@ -318,8 +307,8 @@ value_of-returns-in_err-value-in-Index t c =
           (then_stops seen (eval W P (seen_expr c.get-array.result.now) S M1) (λ v k. eval W P (seen_expr c.get-index.result.now) S k >>= operations.item_of A v) (meter_of c.value_of-in-Index.new.meter) c.in_err-value-in-Index.field-0.0 c.from_residual-in_err-value-in-Index.result c.in_err-value-in-Index.ensures.value c.from_residual-in_err-value-in-Index.ensures.1));
     }
 
-pub value_of-returns-in_err-place-in-Index : goal.value_of-returns-in_err-place-in-Index
-value_of-returns-in_err-place-in-Index t c =
+pub expressions::value_of-returns-in_err-place-in-Index : goal.expressions::value_of-returns-in_err-place-in-Index
+expressions::value_of-returns-in_err-place-in-Index t c =
     let W = code (seen_core c.args.core.now) (map seen_alias c.args.program.now.declared.types) c.args.program.now.declared.limit c.args.calls in
     let P = true in
     let S = scope (store_of c.args.store.now) c.args.over.now in
@@ -336,8 +325,8 @@ value_of-returns-in_err-place-in-Index t c =
           (then_stops seen (eval W P (seen_expr c.get-index.result.now) S (meter_of c.value_of-in-Index.new.meter)) (operations.item_of A (seen c.in_ok-value-in-Index.value)) (meter_of c.value_of-in-Index-2.new.meter) c.in_err-place-in-Index.field-0.0 c.from_residual-in_err-place-in-Index.result c.in_err-place-in-Index.ensures.value c.from_residual-in_err-place-in-Index.ensures.1)));
     }
 
-pub value_of-returns-in_ok-place-in-Index : goal.value_of-returns-in_ok-place-in-Index
-value_of-returns-in_ok-place-in-Index t c =
+pub expressions::value_of-returns-in_ok-place-in-Index : goal.expressions::value_of-returns-in_ok-place-in-Index
+expressions::value_of-returns-in_ok-place-in-Index t c =
     let W = code (seen_core c.args.core.now) (map seen_alias c.args.program.now.declared.types) c.args.program.now.declared.limit c.args.calls in
     let P = true in
     let S = scope (store_of c.args.store.now) c.args.over.now in
@@ -354,8 +343,8 @@ value_of-returns-in_ok-place-in-Index t c =
           (then_gives seen (eval W P (seen_expr c.get-index.result.now) S (meter_of c.value_of-in-Index.new.meter)) (operations.item_of A (seen c.in_ok-value-in-Index.value)) (seen c.in_ok-place-in-Index.place) (meter_of c.value_of-in-Index-2.new.meter) c.item_of.result (meter_of c.value_of-in-Index-2.new.meter) c.in_ok-place-in-Index.ensures.value (c.item_of.ensures.value (meter_of c.value_of-in-Index-2.new.meter)))));
     }
 
-pub value_of-returns-in_err-value-in-Field : goal.value_of-returns-in_err-value-in-Field
-value_of-returns-in_err-value-in-Field t c =
+pub expressions::value_of-returns-in_err-value-in-Field : goal.expressions::value_of-returns-in_err-value-in-Field
+expressions::value_of-returns-in_err-value-in-Field t c =
     let W = code (seen_core c.args.core.now) (map seen_alias c.args.program.now.declared.types) c.args.program.now.declared.limit c.args.calls in
     let P = true in
     let S = scope (store_of c.args.store.now) c.args.over.now in
@@ -371,8 +360,8 @@ value_of-returns-in_err-value-in-Field t c =
           (then_stops seen (eval W P (seen_expr c.get-whole.result.now) S M1) (λ v. operations.field_of A v c.in-Field.name) (meter_of c.value_of-in-Field.new.meter) c.in_err-value-in-Field.field-0.0 c.from_residual-in_err-value-in-Field.result c.in_err-value-in-Field.ensures.value c.from_residual-in_err-value-in-Field.ensures.1));
     }
 
-pub value_of-returns-in_ok-value-in-Field : goal.value_of-returns-in_ok-value-in-Field
-value_of-returns-in_ok-value-in-Field t c =
+pub expressions::value_of-returns-in_ok-value-in-Field : goal.expressions::value_of-returns-in_ok-value-in-Field
+expressions::value_of-returns-in_ok-value-in-Field t c =
     let W = code (seen_core c.args.core.now) (map seen_alias c.args.program.now.declared.types) c.args.program.now.declared.limit c.args.calls in
     let P = true in
     let S = scope (store_of c.args.store.now) c.args.over.now in
@@ -389,8 +378,8 @@ value_of-returns-in_ok-value-in-Field t c =
           (c.field_of.ensures.value (meter_of c.value_of-in-Field.new.meter))));
     }
 
-pub value_of-returns-in_err-value-in-Repeat : goal.value_of-returns-in_err-value-in-Repeat
-value_of-returns-in_err-value-in-Repeat t c =
+pub expressions::value_of-returns-in_err-value-in-Repeat : goal.expressions::value_of-returns-in_err-value-in-Repeat
+expressions::value_of-returns-in_err-value-in-Repeat t c =
     let W = code (seen_core c.args.core.now) (map seen_alias c.args.program.now.declared.types) c.args.program.now.declared.limit c.args.calls in
     let P = true in
     let S = scope (store_of c.args.store.now) c.args.over.now in
@@ -406,8 +395,8 @@ value_of-returns-in_err-value-in-Repeat t c =
           (then_stops seen (eval W P (seen_expr c.get-item.result.now) S M1) (λ v k. eval W P (seen_expr c.get-count.result.now) S k >>= operations.repeated A v) (meter_of c.value_of-in-Repeat.new.meter) c.in_err-value-in-Repeat.field-0.0 c.from_residual-in_err-value-in-Repeat.result c.in_err-value-in-Repeat.ensures.value c.from_residual-in_err-value-in-Repeat.ensures.1));
     }
 
-pub value_of-returns-in_err-times-in-Repeat : goal.value_of-returns-in_err-times-in-Repeat
-value_of-returns-in_err-times-in-Repeat t c =
+pub expressions::value_of-returns-in_err-times-in-Repeat : goal.expressions::value_of-returns-in_err-times-in-Repeat
+expressions::value_of-returns-in_err-times-in-Repeat t c =
     let W = code (seen_core c.args.core.now) (map seen_alias c.args.program.now.declared.types) c.args.program.now.declared.limit c.args.calls in
     let P = true in
     let S = scope (store_of c.args.store.now) c.args.over.now in
@@ -424,8 +413,8 @@ value_of-returns-in_err-times-in-Repeat t c =
           (then_stops seen (eval W P (seen_expr c.get-count.result.now) S (meter_of c.value_of-in-Repeat.new.meter)) (operations.repeated A (seen c.in_ok-value-in-Repeat.value)) (meter_of c.value_of-in-Repeat-2.new.meter) c.in_err-times-in-Repeat.field-0.0 c.from_residual-in_err-times-in-Repeat.result c.in_err-times-in-Repeat.ensures.value c.from_residual-in_err-times-in-Repeat.ensures.1)));
     }
 
-pub value_of-returns-in_ok-times-in-Repeat : goal.value_of-returns-in_ok-times-in-Repeat
-value_of-returns-in_ok-times-in-Repeat t c =
+pub expressions::value_of-returns-in_ok-times-in-Repeat : goal.expressions::value_of-returns-in_ok-times-in-Repeat
+expressions::value_of-returns-in_ok-times-in-Repeat t c =
     let W = code (seen_core c.args.core.now) (map seen_alias c.args.program.now.declared.types) c.args.program.now.declared.limit c.args.calls in
     let P = true in
     let S = scope (store_of c.args.store.now) c.args.over.now in
@@ -442,8 +431,8 @@ value_of-returns-in_ok-times-in-Repeat t c =
           (then_gives seen (eval W P (seen_expr c.get-count.result.now) S (meter_of c.value_of-in-Repeat.new.meter)) (operations.repeated A (seen c.in_ok-value-in-Repeat.value)) (seen c.in_ok-times-in-Repeat.times) (meter_of c.value_of-in-Repeat-2.new.meter) c.repeated.result (meter_of c.value_of-in-Repeat-2.new.meter) c.in_ok-times-in-Repeat.ensures.value (c.repeated.ensures.value (meter_of c.value_of-in-Repeat-2.new.meter)))));
     }
 
-pub value_of-returns-in_err-first-in-Quant : goal.value_of-returns-in_err-first-in-Quant
-value_of-returns-in_err-first-in-Quant t c =
+pub expressions::value_of-returns-in_err-first-in-Quant : goal.expressions::value_of-returns-in_err-first-in-Quant
+expressions::value_of-returns-in_err-first-in-Quant t c =
     let W = code (seen_core c.args.core.now) (map seen_alias c.args.program.now.declared.types) c.args.program.now.declared.limit c.args.calls in
     let P = true in
     let S = scope (store_of c.args.store.now) c.args.over.now in
@@ -459,8 +448,8 @@ value_of-returns-in_err-first-in-Quant t c =
           (then_stops seen (eval W P (seen_expr c.get-from.result.now) S M1) (λ v k. eval W P (seen_expr c.get-to.result.now) S k >>= (λ u. spec.quantified c.in-Quant.all A (turns_of W P (seen_expr c.get-body.result.now) S c.in-Quant.number) v u)) (meter_of c.value_of-in-Quant.new.meter) c.in_err-first-in-Quant.field-0.0 c.from_residual-in_err-first-in-Quant.result c.in_err-first-in-Quant.ensures.value c.from_residual-in_err-first-in-Quant.ensures.1));
     }
 
-pub value_of-returns-in_err-behind-in-Quant : goal.value_of-returns-in_err-behind-in-Quant
-value_of-returns-in_err-behind-in-Quant t c =
+pub expressions::value_of-returns-in_err-behind-in-Quant : goal.expressions::value_of-returns-in_err-behind-in-Quant
+expressions::value_of-returns-in_err-behind-in-Quant t c =
     let W = code (seen_core c.args.core.now) (map seen_alias c.args.program.now.declared.types) c.args.program.now.declared.limit c.args.calls in
     let P = true in
     let S = scope (store_of c.args.store.now) c.args.over.now in
@@ -477,8 +466,8 @@ value_of-returns-in_err-behind-in-Quant t c =
           (then_stops seen (eval W P (seen_expr c.get-to.result.now) S (meter_of c.value_of-in-Quant.new.meter)) (λ u. spec.quantified c.in-Quant.all A (turns_of W P (seen_expr c.get-body.result.now) S c.in-Quant.number) (seen c.in_ok-first-in-Quant.first) u) (meter_of c.value_of-in-Quant-2.new.meter) c.in_err-behind-in-Quant.field-0.0 c.from_residual-in_err-behind-in-Quant.result c.in_err-behind-in-Quant.ensures.value c.from_residual-in_err-behind-in-Quant.ensures.1)));
     }
 
-pub value_of-returns-in_ok-behind-in-Quant : goal.value_of-returns-in_ok-behind-in-Quant
-value_of-returns-in_ok-behind-in-Quant t c =
+pub expressions::value_of-returns-in_ok-behind-in-Quant : goal.expressions::value_of-returns-in_ok-behind-in-Quant
+expressions::value_of-returns-in_ok-behind-in-Quant t c =
     let W = code (seen_core c.args.core.now) (map seen_alias c.args.program.now.declared.types) c.args.program.now.declared.limit c.args.calls in
     let P = true in
     let S = scope (store_of c.args.store.now) c.args.over.now in
@@ -495,8 +484,8 @@ value_of-returns-in_ok-behind-in-Quant t c =
           (then_gives seen (eval W P (seen_expr c.get-to.result.now) S (meter_of c.value_of-in-Quant.new.meter)) (λ u. spec.quantified c.in-Quant.all A (turns_of W P (seen_expr c.get-body.result.now) S c.in-Quant.number) (seen c.in_ok-first-in-Quant.first) u) (seen c.in_ok-behind-in-Quant.behind) (meter_of c.value_of-in-Quant-2.new.meter) c.quantified.result (meter_of c.quantified.new.meter) c.in_ok-behind-in-Quant.ensures.value (c.quantified.ensures.value))));
     }
 
-pub value_of-returns-in_err-values-in-Call : goal.value_of-returns-in_err-values-in-Call
-value_of-returns-in_err-values-in-Call t c =
+pub expressions::value_of-returns-in_err-values-in-Call : goal.expressions::value_of-returns-in_err-values-in-Call
+expressions::value_of-returns-in_err-values-in-Call t c =
     let W = code (seen_core c.args.core.now) (map seen_alias c.args.program.now.declared.types) c.args.program.now.declared.limit c.args.calls in
     let P = true in
     let S = scope (store_of c.args.store.now) c.args.over.now in
@@ -517,8 +506,8 @@ value_of-returns-in_err-values-in-Call t c =
           (after_spend seen P go M0 M1 r K H (then_stops seen (spec.eval_all W P es S M1) (λ vs k. W.call n A vs k >>= (λ v. needed A v Done)) K c.in_err-values-in-Call.field-0.0 r c.in_err-values-in-Call.ensures.value c.from_residual-in_err-values-in-Call.ensures.1));
     }
 
-pub value_of-returns-in_err-given-in-Call : goal.value_of-returns-in_err-given-in-Call
-value_of-returns-in_err-given-in-Call t c =
+pub expressions::value_of-returns-in_err-given-in-Call : goal.expressions::value_of-returns-in_err-given-in-Call
+expressions::value_of-returns-in_err-given-in-Call t c =
     let W = code (seen_core c.args.core.now) (map seen_alias c.args.program.now.declared.types) c.args.program.now.declared.limit c.args.calls in
     let P = true in
     let S = scope (store_of c.args.store.now) c.args.over.now in
@@ -546,8 +535,8 @@ value_of-returns-in_err-given-in-Call t c =
           (then_stops seen C (λ v. needed A v Done) J c.in_err-given-in-Call.field-0.0 r c.in_err-given-in-Call.ensures.value c.from_residual-in_err-given-in-Call.ensures.1))));
     }
 
-pub value_of-returns-in_ok-given-in-Call : goal.value_of-returns-in_ok-given-in-Call
-value_of-returns-in_ok-given-in-Call t c =
+pub expressions::value_of-returns-in_ok-given-in-Call : goal.expressions::value_of-returns-in_ok-given-in-Call
+expressions::value_of-returns-in_ok-given-in-Call t c =
     let W = code (seen_core c.args.core.now) (map seen_alias c.args.program.now.declared.types) c.args.program.now.declared.limit c.args.calls in
     let P = true in
     let S = scope (store_of c.args.store.now) c.args.over.now in
@@ -576,8 +565,8 @@ value_of-returns-in_ok-given-in-Call t c =
           (then_gives seen C (λ v. needed A v Done) (seen_option g) J r J c.in_ok-given-in-Call.ensures.value (needed_gives A g r J c.needed.ensures.value)))));
     }
 
-pub value_of-returns-in_err-values-in-List : goal.value_of-returns-in_err-values-in-List
-value_of-returns-in_err-values-in-List t c =
+pub expressions::value_of-returns-in_err-values-in-List : goal.expressions::value_of-returns-in_err-values-in-List
+expressions::value_of-returns-in_err-values-in-List t c =
     let W = code (seen_core c.args.core.now) (map seen_alias c.args.program.now.declared.types) c.args.program.now.declared.limit c.args.calls in
     let P = true in
     let S = scope (store_of c.args.store.now) c.args.over.now in
@@ -593,8 +582,8 @@ value_of-returns-in_err-values-in-List t c =
           (then_stops seen (spec.eval_all W P (tree.exprs_of (seen_exprs c.as_slice-items.result.now)) S M1) (λ vs. Done (datum.Array (spec.data_of vs))) (meter_of c.values_of-in-List.new.meter) c.in_err-values-in-List.field-0.0 c.from_residual-in_err-values-in-List.result c.in_err-values-in-List.ensures.value c.from_residual-in_err-values-in-List.ensures.1));
     }
 
-pub value_of-returns-in_ok-values-in-List : goal.value_of-returns-in_ok-values-in-List
-value_of-returns-in_ok-values-in-List t c =
+pub expressions::value_of-returns-in_ok-values-in-List : goal.expressions::value_of-returns-in_ok-values-in-List
+expressions::value_of-returns-in_ok-values-in-List t c =
     let W = code (seen_core c.args.core.now) (map seen_alias c.args.program.now.declared.types) c.args.program.now.declared.limit c.args.calls in
     let P = true in
     let S = scope (store_of c.args.store.now) c.args.over.now in
@@ -610,8 +599,8 @@ value_of-returns-in_ok-values-in-List t c =
           (then_is (spec.eval_all W P (tree.exprs_of (seen_exprs c.as_slice-items.result.now)) S M1) (λ vs. Done (datum.Array (spec.data_of vs))) (map seen c.in_ok-values-in-List.values) (meter_of c.values_of-in-List.new.meter) c.in_ok-values-in-List.ensures.value ∙ ap (λ d. Done d (meter_of c.values_of-in-List.new.meter)) (sym (array_is c.in_ok-values-in-List.values))));
     }
 
-pub value_of-returns-in_err-values-in-Record : goal.value_of-returns-in_err-values-in-Record
-value_of-returns-in_err-values-in-Record t c =
+pub expressions::value_of-returns-in_err-values-in-Record : goal.expressions::value_of-returns-in_err-values-in-Record
+expressions::value_of-returns-in_err-values-in-Record t c =
     let W = code (seen_core c.args.core.now) (map seen_alias c.args.program.now.declared.types) c.args.program.now.declared.limit c.args.calls in
     let P = true in
     let S = scope (store_of c.args.store.now) c.args.over.now in
@@ -627,8 +616,8 @@ value_of-returns-in_err-values-in-Record t c =
           (then_stops seen (spec.eval_fields W P (seen_fields c.as_slice-fields.result.now) S M1) (λ ds. Done (datum.Record ds)) (meter_of c.fields_of.new.meter) c.in_err-values-in-Record.field-0.0 c.from_residual-in_err-values-in-Record.result c.in_err-values-in-Record.ensures.value c.from_residual-in_err-values-in-Record.ensures.1));
     }
 
-pub value_of-returns-in_ok-values-in-Record : goal.value_of-returns-in_ok-values-in-Record
-value_of-returns-in_ok-values-in-Record t c =
+pub expressions::value_of-returns-in_ok-values-in-Record : goal.expressions::value_of-returns-in_ok-values-in-Record
+expressions::value_of-returns-in_ok-values-in-Record t c =
     let W = code (seen_core c.args.core.now) (map seen_alias c.args.program.now.declared.types) c.args.program.now.declared.limit c.args.calls in
     let P = true in
     let S = scope (store_of c.args.store.now) c.args.over.now in
@@ -644,16 +633,16 @@ value_of-returns-in_ok-values-in-Record t c =
           (then_is (spec.eval_fields W P (seen_fields c.as_slice-fields.result.now) S M1) (λ ds. Done (datum.Record ds)) (parts_of c.in_ok-values-in-Record.values) (meter_of c.fields_of.new.meter) c.in_ok-values-in-Record.ensures.value ∙ ap (λ d. Done d (meter_of c.fields_of.new.meter)) (sym (record_is c.in_ok-values-in-Record.values))));
     }
 
-pub values_of-loop-expr-init : goal.values_of-loop-expr-init
-values_of-loop-expr-init t c =
+pub expressions::values_of-loop-expr-init : goal.expressions::values_of-loop-expr-init
+expressions::values_of-loop-expr-init t c =
     let W = code (seen_core c.args.core.now) (map seen_alias c.args.program.now.declared.types) c.args.program.now.declared.limit c.args.calls in
     let P = true in
     let S = scope (store_of c.args.store.now) c.args.over.now in
     let M0 = meter_of c.args.meter.now in
     values_begin W P S c.args.exprs.now M0 c.new-made.result c.new-made.ensures
 
-pub values_of-loop-expr-preserved : goal.values_of-loop-expr-preserved
-values_of-loop-expr-preserved t c =
+pub expressions::values_of-loop-expr-preserved : goal.expressions::values_of-loop-expr-preserved
+expressions::values_of-loop-expr-preserved t c =
     let W = code (seen_core c.args.core.now) (map seen_alias c.args.program.now.declared.types) c.args.program.now.declared.limit c.args.calls in
     let P = true in
     let S = scope (store_of c.args.store.now) c.args.over.now in
@@ -661,8 +650,8 @@ values_of-loop-expr-preserved t c =
     let N = meter_of c.loop-expr.meter in
     values_turn W P S c.args.exprs.now M0 c.loop-expr.made c.push.new.self N (meter_of c.value_of.new.meter) c.loop-expr.expr-index c.expr-item.result c.in_ok-value.value c.loop-expr-test.true c.expr-item.is c.in_ok-value.ensures.value c.in_ok-push.ensures.ok c.loop-expr.invariant
 
-pub values_of-returns-in_err-value : goal.values_of-returns-in_err-value
-values_of-returns-in_err-value t c =
+pub expressions::values_of-returns-in_err-value : goal.expressions::values_of-returns-in_err-value
+expressions::values_of-returns-in_err-value t c =
     let W = code (seen_core c.args.core.now) (map seen_alias c.args.program.now.declared.types) c.args.program.now.declared.limit c.args.calls in
     let P = true in
     let S = scope (store_of c.args.store.now) c.args.over.now in
@@ -670,17 +659,16 @@ values_of-returns-in_err-value t c =
     let N = meter_of c.loop-expr.meter in
     record { value = refused data_in (spec.eval_all W P (tree.exprs_of (seen_exprs c.args.exprs.now)) S M0) (meter_of c.value_of.new.meter) c.in_err-value.field-0.0 c.from_residual.result (λ none. values_refused W P S c.args.exprs.now M0 c.loop-expr.made N (meter_of c.value_of.new.meter) c.loop-expr.expr-index c.expr-item.result c.in_err-value.field-0.0 c.loop-expr-test.true c.expr-item.is c.in_err-value.ensures.value c.loop-expr.invariant none) c.from_residual.ensures.1 }
 
-pub values_of-returns-in_err-push : goal.values_of-returns-in_err-push
-values_of-returns-in_err-push t c =
+pub expressions::values_of-returns-in_err-push : goal.expressions::values_of-returns-in_err-push
+expressions::values_of-returns-in_err-push t c =
     let W = code (seen_core c.args.core.now) (map seen_alias c.args.program.now.declared.types) c.args.program.now.declared.limit c.args.calls in
     let P = true in
     let S = scope (store_of c.args.store.now) c.args.over.now in
     let M0 = meter_of c.args.meter.now in
-    let N = meter_of c.loop-expr.meter in
     record { value = no_memory data_in (spec.eval_all W P (tree.exprs_of (seen_exprs c.args.exprs.now)) S M0) (meter_of c.value_of.new.meter) c.from_residual-in_err-push.result c.from_residual-in_err-push.ensures.1 }
 
-pub values_of-returns : goal.values_of-returns
-values_of-returns t c =
+pub expressions::values_of-returns : goal.expressions::values_of-returns
+expressions::values_of-returns t c =
     let W = code (seen_core c.args.core.now) (map seen_alias c.args.program.now.declared.types) c.args.program.now.declared.limit c.args.calls in
     let P = true in
     let S = scope (store_of c.args.store.now) c.args.over.now in
@@ -688,16 +676,16 @@ values_of-returns t c =
     let N = meter_of c.loop-expr.meter in
     record { value = values_end W P S c.args.exprs.now M0 c.loop-expr.made N c.loop-expr.expr-index c.loop-expr-test.false c.loop-expr.invariant }
 
-pub fields_of-loop-field-init : goal.fields_of-loop-field-init
-fields_of-loop-field-init t c =
+pub expressions::fields_of-loop-field-init : goal.expressions::fields_of-loop-field-init
+expressions::fields_of-loop-field-init t c =
     let W = code (seen_core c.args.core.now) (map seen_alias c.args.program.now.declared.types) c.args.program.now.declared.limit c.args.calls in
     let P = true in
     let S = scope (store_of c.args.store.now) c.args.over.now in
     let M0 = meter_of c.args.meter.now in
     fields_begin W P S c.args.fields.now M0 c.new-made.result c.new-made.ensures
 
-pub fields_of-loop-field-preserved : goal.fields_of-loop-field-preserved
-fields_of-loop-field-preserved t c =
+pub expressions::fields_of-loop-field-preserved : goal.expressions::fields_of-loop-field-preserved
+expressions::fields_of-loop-field-preserved t c =
     let W = code (seen_core c.args.core.now) (map seen_alias c.args.program.now.declared.types) c.args.program.now.declared.limit c.args.calls in
     let P = true in
     let S = scope (store_of c.args.store.now) c.args.over.now in
@@ -705,8 +693,8 @@ fields_of-loop-field-preserved t c =
     let N = meter_of c.loop-field.meter in
     fields_turn W P S c.args.fields.now M0 c.loop-field.made c.push.new.self N (meter_of c.value_of.new.meter) c.loop-field.field-index c.field-item.result c.in_ok-name.name c.in_ok-value.value c.loop-field-test.true c.field-item.is c.in_ok-value.ensures.value c.in_ok-name.ensures.value c.in_ok-push.ensures.ok c.loop-field.invariant
 
-pub fields_of-returns-in_err-value : goal.fields_of-returns-in_err-value
-fields_of-returns-in_err-value t c =
+pub expressions::fields_of-returns-in_err-value : goal.expressions::fields_of-returns-in_err-value
+expressions::fields_of-returns-in_err-value t c =
     let W = code (seen_core c.args.core.now) (map seen_alias c.args.program.now.declared.types) c.args.program.now.declared.limit c.args.calls in
     let P = true in
     let S = scope (store_of c.args.store.now) c.args.over.now in
@@ -714,26 +702,24 @@ fields_of-returns-in_err-value t c =
     let N = meter_of c.loop-field.meter in
     record { value = refused parts_of (spec.eval_fields W P (seen_fields c.args.fields.now) S M0) (meter_of c.value_of.new.meter) c.in_err-value.field-0.0 c.from_residual.result (λ none. fields_refused W P S c.args.fields.now M0 c.loop-field.made N (meter_of c.value_of.new.meter) c.loop-field.field-index c.field-item.result c.in_err-value.field-0.0 c.loop-field-test.true c.field-item.is c.in_err-value.ensures.value c.loop-field.invariant none) c.from_residual.ensures.1 }
 
-pub fields_of-returns-in_err-name : goal.fields_of-returns-in_err-name
-fields_of-returns-in_err-name t c =
+pub expressions::fields_of-returns-in_err-name : goal.expressions::fields_of-returns-in_err-name
+expressions::fields_of-returns-in_err-name t c =
     let W = code (seen_core c.args.core.now) (map seen_alias c.args.program.now.declared.types) c.args.program.now.declared.limit c.args.calls in
     let P = true in
     let S = scope (store_of c.args.store.now) c.args.over.now in
     let M0 = meter_of c.args.meter.now in
-    let N = meter_of c.loop-field.meter in
     record { value = no_memory parts_of (spec.eval_fields W P (seen_fields c.args.fields.now) S M0) (meter_of c.value_of.new.meter) c.from_residual-in_err-name.result c.from_residual-in_err-name.ensures.1 }
 
-pub fields_of-returns-in_err-push : goal.fields_of-returns-in_err-push
-fields_of-returns-in_err-push t c =
+pub expressions::fields_of-returns-in_err-push : goal.expressions::fields_of-returns-in_err-push
+expressions::fields_of-returns-in_err-push t c =
     let W = code (seen_core c.args.core.now) (map seen_alias c.args.program.now.declared.types) c.args.program.now.declared.limit c.args.calls in
     let P = true in
     let S = scope (store_of c.args.store.now) c.args.over.now in
     let M0 = meter_of c.args.meter.now in
-    let N = meter_of c.loop-field.meter in
     record { value = no_memory parts_of (spec.eval_fields W P (seen_fields c.args.fields.now) S M0) (meter_of c.value_of.new.meter) c.from_residual-in_err-push.result c.from_residual-in_err-push.ensures.1 }
 
-pub fields_of-returns : goal.fields_of-returns
-fields_of-returns t c =
+pub expressions::fields_of-returns : goal.expressions::fields_of-returns
+expressions::fields_of-returns t c =
     let W = code (seen_core c.args.core.now) (map seen_alias c.args.program.now.declared.types) c.args.program.now.declared.limit c.args.calls in
     let P = true in
     let S = scope (store_of c.args.store.now) c.args.over.now in
@@ -741,8 +727,8 @@ fields_of-returns t c =
     let N = meter_of c.loop-field.meter in
     record { value = fields_end W P S c.args.fields.now M0 c.loop-field.made N c.loop-field.field-index c.loop-field-test.false c.loop-field.invariant }
 
-pub operated-returns-in-Ok-Some : goal.operated-returns-in-Ok-Some
-operated-returns-in-Ok-Some t c =
+pub expressions::operated-returns-in-Ok-Some : goal.expressions::operated-returns-in-Ok-Some
+expressions::operated-returns-in-Ok-Some t c =
     let W = code (seen_core c.args.core.now) (map seen_alias c.args.program.now.declared.types) c.args.program.now.declared.limit c.args.calls in
     let P = true in
     let M0 = meter_of c.args.meter.now in
@@ -751,8 +737,8 @@ operated-returns-in-Ok-Some t c =
     let V = seen c.args.left.now in
     record { value = (early_said c.args.op c.args.at V c.in-Ok-Some.field-0 c.in-Ok-Some.truth c.in-Ok-Some.field-0-is c.in-Ok-Some.ensures.value R M0) ∙ ap (λ d. Done d M0) (sym (seen_bool c.in-Ok-Some.truth)) }
 
-pub operated-returns-in_ok-value-in-Ok-None : goal.operated-returns-in_ok-value-in-Ok-None
-operated-returns-in_ok-value-in-Ok-None t c =
+pub expressions::operated-returns-in_ok-value-in-Ok-None : goal.expressions::operated-returns-in_ok-value-in-Ok-None
+expressions::operated-returns-in_ok-value-in-Ok-None t c =
     let W = code (seen_core c.args.core.now) (map seen_alias c.args.program.now.declared.types) c.args.program.now.declared.limit c.args.calls in
     let P = true in
     let M0 = meter_of c.args.meter.now in
@@ -761,8 +747,8 @@ operated-returns-in_ok-value-in-Ok-None t c =
     let V = seen c.args.left.now in
     record { value = gives_as seen (operations.operated c.args.op c.args.at R V M0) (operations.second c.args.op c.args.at R V M0) c.applied.result (meter_of c.value_of.new.meter) (early_silent c.args.op c.args.at V c.in-Ok-None.field-0 c.in-Ok-None.field-0-is c.in-Ok-None.ensures.value R M0) (then_gives seen (R M0) (λ w k. operations.applied c.args.op c.args.at V w k) (seen c.in_ok-value-in-Ok-None.value) (meter_of c.value_of.new.meter) c.applied.result (meter_of c.value_of.new.meter) c.in_ok-value-in-Ok-None.ensures.value (c.applied.ensures.value (meter_of c.value_of.new.meter))) }
 
-pub operated-returns-in_err-value-in-Ok-None : goal.operated-returns-in_err-value-in-Ok-None
-operated-returns-in_err-value-in-Ok-None t c =
+pub expressions::operated-returns-in_err-value-in-Ok-None : goal.expressions::operated-returns-in_err-value-in-Ok-None
+expressions::operated-returns-in_err-value-in-Ok-None t c =
     let W = code (seen_core c.args.core.now) (map seen_alias c.args.program.now.declared.types) c.args.program.now.declared.limit c.args.calls in
     let P = true in
     let M0 = meter_of c.args.meter.now in
@@ -771,22 +757,21 @@ operated-returns-in_err-value-in-Ok-None t c =
     let V = seen c.args.left.now in
     record { value = gives_as seen (operations.operated c.args.op c.args.at R V M0) (operations.second c.args.op c.args.at R V M0) c.from_residual.result (meter_of c.value_of.new.meter) (early_silent c.args.op c.args.at V c.in-Ok-None.field-0 c.in-Ok-None.field-0-is c.in-Ok-None.ensures.value R M0) (then_stops seen (R M0) (λ w k. operations.applied c.args.op c.args.at V w k) (meter_of c.value_of.new.meter) c.in_err-value-in-Ok-None.field-0.0 c.from_residual.result c.in_err-value-in-Ok-None.ensures.value c.from_residual.ensures.1) }
 
-pub operated-returns-in-Err : goal.operated-returns-in-Err
-operated-returns-in-Err t c =
+pub expressions::operated-returns-in-Err : goal.expressions::operated-returns-in-Err
+expressions::operated-returns-in-Err t c =
     let W = code (seen_core c.args.core.now) (map seen_alias c.args.program.now.declared.types) c.args.program.now.declared.limit c.args.calls in
     let P = true in
     let M0 = meter_of c.args.meter.now in
     let S = scope (store_of c.args.store.now) c.args.over.now in
     let R = eval W P (seen_expr c.args.right.now) S in
-    let V = seen c.args.left.now in
     record { value = λ none. c.in-Err.ensures.value.1 R M0 ∙ sym (ap (λ g. stopped g M0) c.in-Err.ensures.value.0) }
 
-pub turns-loop-number-smaller : goal.turns-loop-number-smaller
-turns-loop-number-smaller t c =
+pub expressions::turns-loop-number-smaller : goal.expressions::turns-loop-number-smaller
+expressions::turns-loop-number-smaller t c =
     gap_up w128 (to_z w128 c.loop-number.number-bits) (to_z w128 (of_z w128 c.args.to)) c.loop-number-test.true (read_sfits w128 c.loop-number.number-bits) (read_sfits w128 (of_z w128 c.args.to))
 
-pub turns-loop-number-preserved : goal.turns-loop-number-preserved
-turns-loop-number-preserved t c =
+pub expressions::turns-loop-number-preserved : goal.expressions::turns-loop-number-preserved
+expressions::turns-loop-number-preserved t c =
     let L = c.args.program.now.declared.limit in
     let W = code (seen_core c.args.core.now) (map seen_alias c.args.program.now.declared.types) L c.args.calls in
     let P = true in
@@ -809,8 +794,8 @@ turns-loop-number-preserved t c =
     let fits = up_fits w128 i U c.loop-number-test.true (read_sfits w128 c.loop-number.number-bits) (read_sfits w128 (of_z w128 c.args.to)) in
     subst (λ z. TurnsLeft c.args.all c.args.at body F U M0 z K) (sym (to_z-of_z w128 (i +ℤ pos 1) fits)) step
 
-pub turns-returns-in_err-tick : goal.turns-returns-in_err-tick
-turns-returns-in_err-tick t c =
+pub expressions::turns-returns-in_err-tick : goal.expressions::turns-returns-in_err-tick
+expressions::turns-returns-in_err-tick t c =
     let L = c.args.program.now.declared.limit in
     let W = code (seen_core c.args.core.now) (map seen_alias c.args.program.now.declared.types) L c.args.calls in
     let P = true in
@@ -834,8 +819,8 @@ turns-returns-in_err-tick t c =
           (refused seen V K e c.from_residual.result (λ none. turns_refused c.args.all c.args.at body F U i M0 N K e c.loop-number-test.true (λ q. turn_refused W P B S X i N K e c.in_err-tick.ensures.value q) c.loop-number.invariant none) c.from_residual.ensures.1);
     }
 
-pub turns-returns-in_err-value : goal.turns-returns-in_err-value
-turns-returns-in_err-value t c =
+pub expressions::turns-returns-in_err-value : goal.expressions::turns-returns-in_err-value
+expressions::turns-returns-in_err-value t c =
     let L = c.args.program.now.declared.limit in
     let W = code (seen_core c.args.core.now) (map seen_alias c.args.program.now.declared.types) L c.args.calls in
     let P = true in
@@ -863,8 +848,8 @@ turns-returns-in_err-value t c =
           (refused seen V K e r (λ none. turns_refused c.args.all c.args.at body F U i M0 N K e c.loop-number-test.true (λ q. begun ∙ c.in_err-value.ensures.value q) c.loop-number.invariant none) c.from_residual-in_err-value.ensures.1);
     }
 
-pub turns-returns-in_err-truth : goal.turns-returns-in_err-truth
-turns-returns-in_err-truth t c =
+pub expressions::turns-returns-in_err-truth : goal.expressions::turns-returns-in_err-truth
+expressions::turns-returns-in_err-truth t c =
     let L = c.args.program.now.declared.limit in
     let W = code (seen_core c.args.core.now) (map seen_alias c.args.program.now.declared.types) L c.args.calls in
     let P = true in
@@ -892,8 +877,8 @@ turns-returns-in_err-truth t c =
           (refused seen V K e r (λ none. turns_fault c.args.all c.args.at body F U i M0 N K (seen c.in_ok-value.value) c.loop-number-test.true (begun ∙ c.in_ok-value.ensures.value) c.in_err-truth.ensures.value.1 c.loop-number.invariant ∙ sym (ap (λ g. stopped g K) c.in_err-truth.ensures.value.0)) c.from_residual-in_err-truth.ensures.1);
     }
 
-pub turns-returns-then-truth-all : goal.turns-returns-then-truth-all
-turns-returns-then-truth-all t c =
+pub expressions::turns-returns-then-truth-all : goal.expressions::turns-returns-then-truth-all
+expressions::turns-returns-then-truth-all t c =
     let L = c.args.program.now.declared.limit in
     let W = code (seen_core c.args.core.now) (map seen_alias c.args.program.now.declared.types) L c.args.calls in
     let P = true in
@@ -908,8 +893,6 @@ turns-returns-then-truth-all t c =
     let F = to_z w128 (of_z w128 c.args.from) in
     let U = to_z w128 (of_z w128 c.args.to) in
     let G = each_from c.args.all c.args.at body c.args.from c.args.to F U M0 (to_z-of_z w128 c.args.from c.ranges.from) (to_z-of_z w128 c.args.to c.ranges.to) in
-    let O = spec.each c.args.all c.args.at body c.args.from (spec.span c.args.from c.args.to) M0 in
-    let V = spec.each c.args.all c.args.at body F (spec.span F U) M0 in
     let M1 = meter_of c.tick.new.self in
     let K = meter_of c.value_of.new.meter in
     let inside : c.as_slice-inside.result.now ≡ (X, i) ∷ c.args.over.now = c.as_slice-inside.ensures ∙ c.in_ok-inside.ensures.value in
@@ -920,8 +903,8 @@ turns-returns-then-truth-all t c =
           ∙ ap (λ d. Done d K) (sym (seen_bool c.in_ok-truth.truth)));
     }
 
-pub exec_all-returns-in_err-exit : goal.exec_all-returns-in_err-exit
-exec_all-returns-in_err-exit t c =
+pub statements::exec_all-returns-in_err-exit : goal.statements::exec_all-returns-in_err-exit
+statements::exec_all-returns-in_err-exit t c =
     let L = c.args.program.now.declared.limit in
     let core = seen_core c.args.core.now in
     let types = map seen_alias c.args.program.now.declared.types in
@@ -938,8 +921,8 @@ exec_all-returns-in_err-exit t c =
     let e = c.in_err-exit.field-0.0 in
     record { value = refused seen_exit (exec_all W fr (seen_block all) S0 M0) K e c.from_residual.result (λ none. block_stops W fr all S0 M0 S N K i x e c.loop-stmt-test.true c.stmt-item.is c.in_err-exit.ensures.value c.loop-stmt.invariant none) c.from_residual.ensures.1 }
 
-pub exec_all-returns-in-Broke : goal.exec_all-returns-in-Broke
-exec_all-returns-in-Broke t c =
+pub statements::exec_all-returns-in-Broke : goal.statements::exec_all-returns-in-Broke
+statements::exec_all-returns-in-Broke t c =
     let L = c.args.program.now.declared.limit in
     let core = seen_core c.args.core.now in
     let types = map seen_alias c.args.program.now.declared.types in
@@ -956,8 +939,8 @@ exec_all-returns-in-Broke t c =
     let given = c.in_ok-exit.ensures.value ∙ ap (λ o. Done (seen_exit o) K) c.in-Broke.is in
     record { value = block_ends W fr all S0 M0 S N K i x (statements.Broke (store_of c.in-Broke.next.items)) c.loop-stmt-test.true c.stmt-item.is given refl c.loop-stmt.invariant }
 
-pub exec_all-returns-in-Continued : goal.exec_all-returns-in-Continued
-exec_all-returns-in-Continued t c =
+pub statements::exec_all-returns-in-Continued : goal.statements::exec_all-returns-in-Continued
+statements::exec_all-returns-in-Continued t c =
     let L = c.args.program.now.declared.limit in
     let core = seen_core c.args.core.now in
     let types = map seen_alias c.args.program.now.declared.types in
@@ -974,8 +957,8 @@ exec_all-returns-in-Continued t c =
     let given = c.in_ok-exit.ensures.value ∙ ap (λ o. Done (seen_exit o) K) c.in-Continued.is in
     record { value = block_ends W fr all S0 M0 S N K i x (statements.Continued c.in-Continued.at (store_of c.in-Continued.next.items)) c.loop-stmt-test.true c.stmt-item.is given refl c.loop-stmt.invariant }
 
-pub exec_all-returns-in-Gave : goal.exec_all-returns-in-Gave
-exec_all-returns-in-Gave t c =
+pub statements::exec_all-returns-in-Gave : goal.statements::exec_all-returns-in-Gave
+statements::exec_all-returns-in-Gave t c =
     let L = c.args.program.now.declared.limit in
     let core = seen_core c.args.core.now in
     let types = map seen_alias c.args.program.now.declared.types in
@@ -992,8 +975,8 @@ exec_all-returns-in-Gave t c =
     let given = c.in_ok-exit.ensures.value ∙ ap (λ o. Done (seen_exit o) K) c.in-Gave.is in
     record { value = block_ends W fr all S0 M0 S N K i x (statements.Gave (seen_option c.in-Gave.value)) c.loop-stmt-test.true c.stmt-item.is given refl c.loop-stmt.invariant }
 
-pub exec_all-loop-stmt-preserved : goal.exec_all-loop-stmt-preserved
-exec_all-loop-stmt-preserved t c =
+pub statements::exec_all-loop-stmt-preserved : goal.statements::exec_all-loop-stmt-preserved
+statements::exec_all-loop-stmt-preserved t c =
     let L = c.args.program.now.declared.limit in
     let core = seen_core c.args.core.now in
     let types = map seen_alias c.args.program.now.declared.types in
@@ -1010,8 +993,8 @@ exec_all-loop-stmt-preserved t c =
     let given = c.in_ok-exit.ensures.value ∙ ap (λ o. Done (seen_exit o) K) c.in-Went.is in
     block_turn W fr all S0 M0 S (store_of c.in-Went.next.items) N K i x c.loop-stmt-test.true c.stmt-item.is given c.loop-stmt.invariant
 
-pub exec_all-returns : goal.exec_all-returns
-exec_all-returns t c =
+pub statements::exec_all-returns : goal.statements::exec_all-returns
+statements::exec_all-returns t c =
     let L = c.args.program.now.declared.limit in
     let core = seen_core c.args.core.now in
     let types = map seen_alias c.args.program.now.declared.types in
@@ -1025,8 +1008,8 @@ exec_all-returns t c =
     let i = c.loop-stmt.stmt-index in
     record { value = block_end W fr all S0 M0 S N i c.loop-stmt-test.false c.loop-stmt.invariant }
 
-pub rounds-loop-round-init : goal.rounds-loop-round-init
-rounds-loop-round-init t c =
+pub statements::rounds-loop-round-init : goal.statements::rounds-loop-round-init
+statements::rounds-loop-round-init t c =
     let L = c.args.program.now.declared.limit in
     let core = seen_core c.args.core.now in
     let types = map seen_alias c.args.program.now.declared.types in
@@ -1039,12 +1022,11 @@ rounds-loop-round-init t c =
     let es = seen_exprs c.args.invariants.now in
     let n = suc c.args.meter.now.ticks in
     let S0 = store_of c.args.store.items in
-    let O = turning W fr A T body es n S0 M0 in
     let none : n ≡ n - 0 = omega arith in
     ap (λ q. turning W fr A T body es q S0 M0) none
 
-pub rounds-returns-in_err-tick : goal.rounds-returns-in_err-tick
-rounds-returns-in_err-tick t c =
+pub statements::rounds-returns-in_err-tick : goal.statements::rounds-returns-in_err-tick
+statements::rounds-returns-in_err-tick t c =
     let L = c.args.program.now.declared.limit in
     let core = seen_core c.args.core.now in
     let types = map seen_alias c.args.program.now.declared.types in
@@ -1068,8 +1050,8 @@ rounds-returns-in_err-tick t c =
     let e = c.in_err-tick.field-0.0 in
     record { value = refused seen_exit O K e c.from_residual.result (λ none. before ∙ round_unticked W fr A T body es j S N K e c.in_err-tick.ensures.value none) c.from_residual.ensures.1 }
 
-pub rounds-returns-in_err-value : goal.rounds-returns-in_err-value
-rounds-returns-in_err-value t c =
+pub statements::rounds-returns-in_err-value : goal.statements::rounds-returns-in_err-value
+statements::rounds-returns-in_err-value t c =
     let L = c.args.program.now.declared.limit in
     let core = seen_core c.args.core.now in
     let types = map seen_alias c.args.program.now.declared.types in
@@ -1091,7 +1073,6 @@ rounds-returns-in_err-value t c =
     let before = c.loop-round.invariant ∙ ap (λ q. turning W fr A T body es q S N) more in
     let M1 = meter_of c.tick.new.self in
     let H = c.in_ok-tick.ensures.value in
-    let s = c.as_slice-held.result.now in
     let held = ap store_of c.as_slice-held.ensures.value in
     let K = meter_of c.value_of.new.meter in
     let evaluated = λ (q : Store). eval W true T q M1 in
@@ -1101,8 +1082,8 @@ rounds-returns-in_err-value t c =
       value = refused seen_exit O K e r (λ none. before ∙ round_untested W fr A T body es j S N M1 K e H (λ q. truth_stops W A T S M1 K e (λ p. ap evaluated (sym held) ∙ c.in_err-value.ensures.value p) q) none) c.from_residual-in_err-value.ensures.1;
     }
 
-pub rounds-returns-in_err-truth : goal.rounds-returns-in_err-truth
-rounds-returns-in_err-truth t c =
+pub statements::rounds-returns-in_err-truth : goal.statements::rounds-returns-in_err-truth
+statements::rounds-returns-in_err-truth t c =
     let L = c.args.program.now.declared.limit in
     let core = seen_core c.args.core.now in
     let types = map seen_alias c.args.program.now.declared.types in
@@ -1124,7 +1105,6 @@ rounds-returns-in_err-truth t c =
     let before = c.loop-round.invariant ∙ ap (λ q. turning W fr A T body es q S N) more in
     let M1 = meter_of c.tick.new.self in
     let H = c.in_ok-tick.ensures.value in
-    let s = c.as_slice-held.result.now in
     let held = ap store_of c.as_slice-held.ensures.value in
     let K = meter_of c.value_of.new.meter in
     let evaluated = λ (q : Store). eval W true T q M1 in
@@ -1136,21 +1116,18 @@ rounds-returns-in_err-truth t c =
       value = refused seen_exit O K e r (λ none. before ∙ round_untested W fr A T body es j S N M1 K e H (λ q. truth_faults W A T S M1 K v e given c.in_err-truth.ensures.value) none) c.from_residual-in_err-truth.ensures.1;
     }
 
-pub rounds-returns-then-not-truth : goal.rounds-returns-then-not-truth
-rounds-returns-then-not-truth t c =
+pub statements::rounds-returns-then-not-truth : goal.statements::rounds-returns-then-not-truth
+statements::rounds-returns-then-not-truth t c =
     let L = c.args.program.now.declared.limit in
     let core = seen_core c.args.core.now in
     let types = map seen_alias c.args.program.now.declared.types in
     let W = code core types L c.args.calls in
     let fr = frame L types c.args.routine.now c.args.types.now (store_of c.args.entry.now) in
-    let M0 = meter_of c.args.meter.now in
     let A = c.args.at in
     let T = seen_expr c.args.test.now in
     let body = exec_all W fr (seen_block c.args.body.now) in
     let es = seen_exprs c.args.invariants.now in
     let n = suc c.args.meter.now.ticks in
-    let S0 = store_of c.args.store.items in
-    let O = turning W fr A T body es n S0 M0 in
     let S = store_of c.loop-round.store.items in
     let N = meter_of c.loop-round.meter in
     let i = c.loop-round.round in
@@ -1159,7 +1136,6 @@ rounds-returns-then-not-truth t c =
     let before = c.loop-round.invariant ∙ ap (λ q. turning W fr A T body es q S N) more in
     let M1 = meter_of c.tick.new.self in
     let H = c.in_ok-tick.ensures.value in
-    let s = c.as_slice-held.result.now in
     let held = ap store_of c.as_slice-held.ensures.value in
     let K = meter_of c.value_of.new.meter in
     let evaluated = λ (q : Store). eval W true T q M1 in
@@ -1170,8 +1146,8 @@ rounds-returns-then-not-truth t c =
     let begun = before ∙ round_begun W fr A T body es j S N M1 K b H tested in
     record { value = begun ∙ round_left W fr A T body es j S K b c.if-not-truth.true }
 
-pub rounds-returns-in_err-exit : goal.rounds-returns-in_err-exit
-rounds-returns-in_err-exit t c =
+pub statements::rounds-returns-in_err-exit : goal.statements::rounds-returns-in_err-exit
+statements::rounds-returns-in_err-exit t c =
     let L = c.args.program.now.declared.limit in
     let core = seen_core c.args.core.now in
     let types = map seen_alias c.args.program.now.declared.types in
@@ -1193,7 +1169,6 @@ rounds-returns-in_err-exit t c =
     let before = c.loop-round.invariant ∙ ap (λ q. turning W fr A T body es q S N) more in
     let M1 = meter_of c.tick.new.self in
     let H = c.in_ok-tick.ensures.value in
-    let s = c.as_slice-held.result.now in
     let held = ap store_of c.as_slice-held.ensures.value in
     let K = meter_of c.value_of.new.meter in
     let evaluated = λ (q : Store). eval W true T q M1 in
@@ -1207,8 +1182,8 @@ rounds-returns-in_err-exit t c =
     let r = c.from_residual-in_err-exit.result in
     record { value = refused seen_exit O J e r (λ none. begun ∙ round_unended W fr A T body es j S K J b e c.if-not-truth.false c.in_err-exit.ensures.value none) c.from_residual-in_err-exit.ensures.1 }
 
-pub rounds-returns-in_err-follows : goal.rounds-returns-in_err-follows
-rounds-returns-in_err-follows t c =
+pub statements::rounds-returns-in_err-follows : goal.statements::rounds-returns-in_err-follows
+statements::rounds-returns-in_err-follows t c =
     let L = c.args.program.now.declared.limit in
     let core = seen_core c.args.core.now in
     let types = map seen_alias c.args.program.now.declared.types in
@@ -1230,7 +1205,6 @@ rounds-returns-in_err-follows t c =
     let before = c.loop-round.invariant ∙ ap (λ q. turning W fr A T body es q S N) more in
     let M1 = meter_of c.tick.new.self in
     let H = c.in_ok-tick.ensures.value in
-    let s = c.as_slice-held.result.now in
     let held = ap store_of c.as_slice-held.ensures.value in
     let K = meter_of c.value_of.new.meter in
     let evaluated = λ (q : Store). eval W true T q M1 in
@@ -1249,21 +1223,18 @@ rounds-returns-in_err-follows t c =
     let r = c.from_residual-in_err-follows.result in
     record { value = refused seen_exit O Q e r (λ none. went ∙ c.in_err-follows.ensures.value none next) c.from_residual-in_err-follows.ensures.1 }
 
-pub rounds-returns-in-Left : goal.rounds-returns-in-Left
-rounds-returns-in-Left t c =
+pub statements::rounds-returns-in-Left : goal.statements::rounds-returns-in-Left
+statements::rounds-returns-in-Left t c =
     let L = c.args.program.now.declared.limit in
     let core = seen_core c.args.core.now in
     let types = map seen_alias c.args.program.now.declared.types in
     let W = code core types L c.args.calls in
     let fr = frame L types c.args.routine.now c.args.types.now (store_of c.args.entry.now) in
-    let M0 = meter_of c.args.meter.now in
     let A = c.args.at in
     let T = seen_expr c.args.test.now in
     let body = exec_all W fr (seen_block c.args.body.now) in
     let es = seen_exprs c.args.invariants.now in
     let n = suc c.args.meter.now.ticks in
-    let S0 = store_of c.args.store.items in
-    let O = turning W fr A T body es n S0 M0 in
     let S = store_of c.loop-round.store.items in
     let N = meter_of c.loop-round.meter in
     let i = c.loop-round.round in
@@ -1272,7 +1243,6 @@ rounds-returns-in-Left t c =
     let before = c.loop-round.invariant ∙ ap (λ q. turning W fr A T body es q S N) more in
     let M1 = meter_of c.tick.new.self in
     let H = c.in_ok-tick.ensures.value in
-    let s = c.as_slice-held.result.now in
     let held = ap store_of c.as_slice-held.ensures.value in
     let K = meter_of c.value_of.new.meter in
     let evaluated = λ (q : Store). eval W true T q M1 in
@@ -1290,21 +1260,18 @@ rounds-returns-in-Left t c =
     let told = subst (λ x. GoesRound L types A es o J (Ok x) Q) c.in-Left.is c.in_ok-follows.ensures.value in
     record { value = went ∙ told next }
 
-pub rounds-loop-round-preserved : goal.rounds-loop-round-preserved
-rounds-loop-round-preserved t c =
+pub statements::rounds-loop-round-preserved : goal.statements::rounds-loop-round-preserved
+statements::rounds-loop-round-preserved t c =
     let L = c.args.program.now.declared.limit in
     let core = seen_core c.args.core.now in
     let types = map seen_alias c.args.program.now.declared.types in
     let W = code core types L c.args.calls in
     let fr = frame L types c.args.routine.now c.args.types.now (store_of c.args.entry.now) in
-    let M0 = meter_of c.args.meter.now in
     let A = c.args.at in
     let T = seen_expr c.args.test.now in
     let body = exec_all W fr (seen_block c.args.body.now) in
     let es = seen_exprs c.args.invariants.now in
     let n = suc c.args.meter.now.ticks in
-    let S0 = store_of c.args.store.items in
-    let O = turning W fr A T body es n S0 M0 in
     let S = store_of c.loop-round.store.items in
     let N = meter_of c.loop-round.meter in
     let i = c.loop-round.round in
@@ -1313,7 +1280,6 @@ rounds-loop-round-preserved t c =
     let before = c.loop-round.invariant ∙ ap (λ q. turning W fr A T body es q S N) more in
     let M1 = meter_of c.tick.new.self in
     let H = c.in_ok-tick.ensures.value in
-    let s = c.as_slice-held.result.now in
     let held = ap store_of c.as_slice-held.ensures.value in
     let K = meter_of c.value_of.new.meter in
     let evaluated = λ (q : Store). eval W true T q M1 in
@@ -1332,29 +1298,26 @@ rounds-loop-round-preserved t c =
     let fewer : n - (i + 1) ≡ j = omega arith in
     went ∙ (told next ∙ ap (λ q. turning W fr A T body es q (store_of c.in-Again.next.items) Q) (sym fewer))
 
-pub rounds-returns : goal.rounds-returns
-rounds-returns t c =
+pub statements::rounds-returns : goal.statements::rounds-returns
+statements::rounds-returns t c =
     let L = c.args.program.now.declared.limit in
     let core = seen_core c.args.core.now in
     let types = map seen_alias c.args.program.now.declared.types in
     let W = code core types L c.args.calls in
     let fr = frame L types c.args.routine.now c.args.types.now (store_of c.args.entry.now) in
-    let M0 = meter_of c.args.meter.now in
     let A = c.args.at in
     let T = seen_expr c.args.test.now in
     let body = exec_all W fr (seen_block c.args.body.now) in
     let es = seen_exprs c.args.invariants.now in
     let n = suc c.args.meter.now.ticks in
-    let S0 = store_of c.args.store.items in
-    let O = turning W fr A T body es n S0 M0 in
     let S = store_of c.loop-round.store.items in
     let N = meter_of c.loop-round.meter in
     let i = c.loop-round.round in
     let none_left : n - i ≡ 0 = omega arith in
     record { value = λ none. c.loop-round.invariant ∙ ap (λ q. turning W fr A T body es q S N) none_left }
 
-pub path_of-loop-step-init : goal.path_of-loop-step-init
-path_of-loop-step-init t c =
+pub assignments::path_of-loop-step-init : goal.assignments::path_of-loop-step-init
+assignments::path_of-loop-step-init t c =
     let L = c.args.program.now.declared.limit in
     let core = seen_core c.args.core.now in
     let types = map seen_alias c.args.program.now.declared.types in
@@ -1365,8 +1328,8 @@ path_of-loop-step-init t c =
     let D = seen c.args.whole.now in
     path_begin W S all D (seen c.in_ok-part.part) M0 c.new-slots.result c.new-slots.ensures (ap seen c.in_ok-part.ensures.value)
 
-pub path_of-returns-in_err-taken : goal.path_of-returns-in_err-taken
-path_of-returns-in_err-taken t c =
+pub assignments::path_of-returns-in_err-taken : goal.assignments::path_of-returns-in_err-taken
+assignments::path_of-returns-in_err-taken t c =
     let L = c.args.program.now.declared.limit in
     let core = seen_core c.args.core.now in
     let types = map seen_alias c.args.program.now.declared.types in
@@ -1385,8 +1348,8 @@ path_of-returns-in_err-taken t c =
     let r = c.from_residual-in_err-taken.result in
     record { value = refused slots_in (statements.path_of W S (map seen_step all) D M0) K e r (λ none. path_stop W S all D M0 made part N K i x e c.loop-step-test.true c.step-item.is c.in_err-taken.ensures.value c.loop-step.invariant none) c.from_residual-in_err-taken.ensures.1 }
 
-pub path_of-loop-step-preserved : goal.path_of-loop-step-preserved
-path_of-loop-step-preserved t c =
+pub assignments::path_of-loop-step-preserved : goal.assignments::path_of-loop-step-preserved
+assignments::path_of-loop-step-preserved t c =
     let L = c.args.program.now.declared.limit in
     let core = seen_core c.args.core.now in
     let types = map seen_alias c.args.program.now.declared.types in
@@ -1403,8 +1366,8 @@ path_of-loop-step-preserved t c =
     let K = meter_of c.stepped.new.meter in
     path_turn W S all D M0 made c.push.new.self part (seen c.in_ok-taken.taken.1) N K i x c.in_ok-taken.taken.0 c.loop-step-test.true c.step-item.is c.in_ok-taken.ensures.value c.in_ok-push.ensures.ok c.loop-step.invariant
 
-pub path_of-returns : goal.path_of-returns
-path_of-returns t c =
+pub assignments::path_of-returns : goal.assignments::path_of-returns
+assignments::path_of-returns t c =
     let L = c.args.program.now.declared.limit in
     let core = seen_core c.args.core.now in
     let types = map seen_alias c.args.program.now.declared.types in
@@ -1419,8 +1382,8 @@ path_of-returns t c =
     let i = c.loop-step.step-index in
     record { value = path_end W S all D M0 made part N i c.loop-step-test.false c.loop-step.invariant }
 
-pub stepped-returns-in_err-number-in-Index : goal.stepped-returns-in_err-number-in-Index
-stepped-returns-in_err-number-in-Index t c =
+pub assignments::stepped-returns-in_err-number-in-Index : goal.assignments::stepped-returns-in_err-number-in-Index
+assignments::stepped-returns-in_err-number-in-Index t c =
     let L = c.args.program.now.declared.limit in
     let core = seen_core c.args.core.now in
     let types = map seen_alias c.args.program.now.declared.types in
@@ -1435,8 +1398,8 @@ stepped-returns-in_err-number-in-Index t c =
     let e = c.in_err-number-in-Index.field-0.0 in
     record { value = step_refused W S (seen_step x) D M0 K e c.from_residual.result (λ none steps. index_stops W S x index D M0 K e kind c.in_err-number-in-Index.ensures.value none steps) c.from_residual.ensures.1 }
 
-pub stepped-returns-in_err-item-in-Index : goal.stepped-returns-in_err-item-in-Index
-stepped-returns-in_err-item-in-Index t c =
+pub assignments::stepped-returns-in_err-item-in-Index : goal.assignments::stepped-returns-in_err-item-in-Index
+assignments::stepped-returns-in_err-item-in-Index t c =
     let L = c.args.program.now.declared.limit in
     let core = seen_core c.args.core.now in
     let types = map seen_alias c.args.program.now.declared.types in
@@ -1452,8 +1415,8 @@ stepped-returns-in_err-item-in-Index t c =
     let r = c.from_residual-in_err-item-in-Index.result in
     record { value = step_refused W S (seen_step x) D M0 K e r (λ none steps. index_wrong W S x index D (seen c.in_ok-number-in-Index.number) M0 K e kind c.in_ok-number-in-Index.ensures.value c.in_err-item-in-Index.ensures.value steps) c.from_residual-in_err-item-in-Index.ensures.1 }
 
-pub stepped-returns-in_ok-next-in-Index : goal.stepped-returns-in_ok-next-in-Index
-stepped-returns-in_ok-next-in-Index t c =
+pub assignments::stepped-returns-in_ok-next-in-Index : goal.assignments::stepped-returns-in_ok-next-in-Index
+assignments::stepped-returns-in_ok-next-in-Index t c =
     let L = c.args.program.now.declared.limit in
     let core = seen_core c.args.core.now in
     let types = map seen_alias c.args.program.now.declared.types in
@@ -1467,8 +1430,8 @@ stepped-returns-in_ok-next-in-Index t c =
     let index = c.in-Index.index in
     record { value = λ steps. index_steps W S x index D (seen c.in_ok-next-in-Index.next) (seen c.in_ok-number-in-Index.number) M0 K c.in_ok-item-in-Index.item kind c.in_ok-number-in-Index.ensures.value c.in_ok-item-in-Index.ensures.value c.in_ok-next-in-Index.ensures.value steps }
 
-pub stepped-returns-in_err-next-in-Field : goal.stepped-returns-in_err-next-in-Field
-stepped-returns-in_err-next-in-Field t c =
+pub assignments::stepped-returns-in_err-next-in-Field : goal.assignments::stepped-returns-in_err-next-in-Field
+assignments::stepped-returns-in_err-next-in-Field t c =
     let L = c.args.program.now.declared.limit in
     let core = seen_core c.args.core.now in
     let types = map seen_alias c.args.program.now.declared.types in
@@ -1481,8 +1444,8 @@ stepped-returns-in_err-next-in-Field t c =
     let r = c.from_residual-in_err-next-in-Field.result in
     record { value = step_refused W S (seen_step x) D M0 M0 e r (λ none steps. field_missing W S x c.in-Field.name D M0 e c.in-Field.is (c.in_err-next-in-Field.ensures.value M0) none steps) c.from_residual-in_err-next-in-Field.ensures.1 }
 
-pub stepped-returns-in_ok-held-in-Field : goal.stepped-returns-in_ok-held-in-Field
-stepped-returns-in_ok-held-in-Field t c =
+pub assignments::stepped-returns-in_ok-held-in-Field : goal.assignments::stepped-returns-in_ok-held-in-Field
+assignments::stepped-returns-in_ok-held-in-Field t c =
     let L = c.args.program.now.declared.limit in
     let core = seen_core c.args.core.now in
     let types = map seen_alias c.args.program.now.declared.types in
@@ -1494,8 +1457,8 @@ stepped-returns-in_ok-held-in-Field t c =
     let found = c.in_ok-next-in-Field.ensures.value M0 in
     record { value = λ steps. field_steps W S x c.in-Field.name D (seen c.in_ok-next-in-Field.next) M0 c.in-Field.is found steps ∙ ap (λ n. statements.path_of W S steps (seen c.in_ok-next-in-Field.next) M0 >>= (λ slots. Done (operations.FieldSlot n ∷ slots))) (sym c.in_ok-held-in-Field.ensures.value) }
 
-pub assigned-returns-in_err-made : goal.assigned-returns-in_err-made
-assigned-returns-in_err-made t c =
+pub assignments::assigned-returns-in_err-made : goal.assignments::assigned-returns-in_err-made
+assignments::assigned-returns-in_err-made t c =
     let L = c.args.program.now.declared.limit in
     let core = seen_core c.args.core.now in
     let types = map seen_alias c.args.program.now.declared.types in
@@ -1519,8 +1482,8 @@ assigned-returns-in_err-made t c =
           (then_stops seen_exit (eval W true V s M0) into K e c.from_residual.result c.in_err-made.ensures.value c.from_residual.ensures.1);
     }
 
-pub assigned-returns-then-path-eq0 : goal.assigned-returns-then-path-eq0
-assigned-returns-then-path-eq0 t c =
+pub assignments::assigned-returns-then-path-eq0 : goal.assignments::assigned-returns-then-path-eq0
+assignments::assigned-returns-then-path-eq0 t c =
     let L = c.args.program.now.declared.limit in
     let core = seen_core c.args.core.now in
     let types = map seen_alias c.args.program.now.declared.types in
@@ -1545,8 +1508,8 @@ assigned-returns-then-path-eq0 t c =
           (then_gives seen_exit (eval W true V s M0) into (seen c.in_ok-made.made) K r J c.in_ok-made.ensures.value c.stored_as.ensures.value);
     }
 
-pub assigned-returns-in_err-whole : goal.assigned-returns-in_err-whole
-assigned-returns-in_err-whole t c =
+pub assignments::assigned-returns-in_err-whole : goal.assignments::assigned-returns-in_err-whole
+assignments::assigned-returns-in_err-whole t c =
     let L = c.args.program.now.declared.limit in
     let core = seen_core c.args.core.now in
     let types = map seen_alias c.args.program.now.declared.types in
@@ -1559,7 +1522,6 @@ assigned-returns-in_err-whole t c =
     let V = seen_expr c.args.value.now in
     let S = store_of c.args.store.items in
     let held = ap store_of c.as_slice-held.ensures.value in
-    let s = store_of c.as_slice-held.result.now in
     let O = statements.assigned W fr A x (map seen_step path) V S M0 in
     let begun = assigned_part W fr A x path V S M0 c.if-path-eq0.false in
     let next = along_path W fr A x path V S in
@@ -1568,8 +1530,8 @@ assigned-returns-in_err-whole t c =
     let r = c.from_residual-in_err-whole.result in
     record { value = refused seen_exit O M0 e r (λ none. begun ∙ needed_stops A (spec.slot S x) next M0 e (there ∙ c.in_err-whole.ensures.value M0 none)) c.from_residual-in_err-whole.ensures.1 }
 
-pub assigned-returns-in_err-slots : goal.assigned-returns-in_err-slots
-assigned-returns-in_err-slots t c =
+pub assignments::assigned-returns-in_err-slots : goal.assignments::assigned-returns-in_err-slots
+assignments::assigned-returns-in_err-slots t c =
     let L = c.args.program.now.declared.limit in
     let core = seen_core c.args.core.now in
     let types = map seen_alias c.args.program.now.declared.types in
@@ -1582,7 +1544,6 @@ assigned-returns-in_err-slots t c =
     let V = seen_expr c.args.value.now in
     let S = store_of c.args.store.items in
     let held = ap store_of c.as_slice-held.ensures.value in
-    let s = store_of c.as_slice-held.result.now in
     let O = statements.assigned W fr A x (map seen_step path) V S M0 in
     let begun = assigned_part W fr A x path V S M0 c.if-path-eq0.false in
     let next = along_path W fr A x path V S in
@@ -1599,8 +1560,8 @@ assigned-returns-in_err-slots t c =
           (then_stops seen_exit (statements.path_of W S (map seen_step path) D M0) behind K e r (λ none. walked ∙ c.in_err-slots.ensures.value none) c.from_residual-in_err-slots.ensures.1);
     }
 
-pub assigned-returns-in_err-value : goal.assigned-returns-in_err-value
-assigned-returns-in_err-value t c =
+pub assignments::assigned-returns-in_err-value : goal.assignments::assigned-returns-in_err-value
+assignments::assigned-returns-in_err-value t c =
     let L = c.args.program.now.declared.limit in
     let core = seen_core c.args.core.now in
     let types = map seen_alias c.args.program.now.declared.types in
@@ -1613,7 +1574,6 @@ assigned-returns-in_err-value t c =
     let V = seen_expr c.args.value.now in
     let S = store_of c.args.store.items in
     let held = ap store_of c.as_slice-held.ensures.value in
-    let s = store_of c.as_slice-held.result.now in
     let O = statements.assigned W fr A x (map seen_step path) V S M0 in
     let begun = assigned_part W fr A x path V S M0 c.if-path-eq0.false in
     let next = along_path W fr A x path V S in
@@ -1635,8 +1595,8 @@ assigned-returns-in_err-value t c =
           (then_stops seen_exit (eval W true V S K) into J e r (λ none. valued ∙ c.in_err-value.ensures.value none) c.from_residual-in_err-value.ensures.1);
     }
 
-pub assigned-returns : goal.assigned-returns
-assigned-returns t c =
+pub assignments::assigned-returns : goal.assignments::assigned-returns
+assignments::assigned-returns t c =
     let L = c.args.program.now.declared.limit in
     let core = seen_core c.args.core.now in
     let types = map seen_alias c.args.program.now.declared.types in
@@ -1649,7 +1609,6 @@ assigned-returns t c =
     let V = seen_expr c.args.value.now in
     let S = store_of c.args.store.items in
     let held = ap store_of c.as_slice-held.ensures.value in
-    let s = store_of c.as_slice-held.result.now in
     let O = statements.assigned W fr A x (map seen_step path) V S M0 in
     let begun = assigned_part W fr A x path V S M0 c.if-path-eq0.false in
     let next = along_path W fr A x path V S in
@@ -1675,24 +1634,20 @@ assigned-returns t c =
           (gives_as seen_exit (into u J) (statements.stored fr A x T S (seen c.in_ok-made-2.made) J) r Q (ap (λ d. statements.stored fr A x T S d J) (sym made)) c.stored_as-2.ensures.value));
     }
 
-pub run-returns-then-calls-eq0 : goal.run-returns-then-calls-eq0
-run-returns-then-calls-eq0 t c =
+pub calls::run-returns-then-calls-eq0 : goal.calls::run-returns-then-calls-eq0
+calls::run-returns-then-calls-eq0 t c =
     let L = c.args.program.now.declared.limit in
     let core = seen_core c.args.core.now in
-    let types = map seen_alias c.args.program.now.declared.types in
-    let n = c.args.calls in
     let f = c.args.number in
     let A = c.args.at in
     let vs = map seen c.args.args.now in
     let M0 = meter_of c.args.meter.now in
-    let O = spec_run here (Some L) core n f A vs M0 in
     record { value = λ none. ap (λ q. spec_run here (Some L) core q f A vs M0) c.if-calls-eq0.true }
 
-pub run-returns-in_err-tick : goal.run-returns-in_err-tick
-run-returns-in_err-tick t c =
+pub calls::run-returns-in_err-tick : goal.calls::run-returns-in_err-tick
+calls::run-returns-in_err-tick t c =
     let L = c.args.program.now.declared.limit in
     let core = seen_core c.args.core.now in
-    let types = map seen_alias c.args.program.now.declared.types in
     let n = c.args.calls in
     let f = c.args.number in
     let A = c.args.at in
@@ -1705,8 +1660,8 @@ run-returns-in_err-tick t c =
     let e = c.in_err-tick.field-0.0 in
     record { value = refused seen_option O K e c.from_residual.result (λ none. run_stops core L n j f A vs M0 K e more c.in_err-tick.ensures.value none) c.from_residual.ensures.1 }
 
-pub run-returns-in_err-entry-in-Some : goal.run-returns-in_err-entry-in-Some
-run-returns-in_err-entry-in-Some t c =
+pub calls::run-returns-in_err-entry-in-Some : goal.calls::run-returns-in_err-entry-in-Some
+calls::run-returns-in_err-entry-in-Some t c =
     let L = c.args.program.now.declared.limit in
     let core = seen_core c.args.core.now in
     let types = map seen_alias c.args.program.now.declared.types in
@@ -1730,8 +1685,8 @@ run-returns-in_err-entry-in-Some t c =
     let r = c.from_residual-in_err-entry-in-Some.result in
     record { value = refused seen_option O K e r (λ none. called ∙ c.in_err-entry-in-Some.ensures.value none body) c.from_residual-in_err-entry-in-Some.ensures.1 }
 
-pub run-returns-in_err-exit-in-Some : goal.run-returns-in_err-exit-in-Some
-run-returns-in_err-exit-in-Some t c =
+pub calls::run-returns-in_err-exit-in-Some : goal.calls::run-returns-in_err-exit-in-Some
+calls::run-returns-in_err-exit-in-Some t c =
     let L = c.args.program.now.declared.limit in
     let core = seen_core c.args.core.now in
     let types = map seen_alias c.args.program.now.declared.types in
@@ -1768,8 +1723,8 @@ run-returns-in_err-exit-in-Some t c =
     let r = c.from_residual-in_err-exit-in-Some.result in
     record { value = gives_as seen_option O (E >>= after) r J ran (then_stops seen_option E after J e r c.in_err-exit-in-Some.ensures.value c.from_residual-in_err-exit-in-Some.ensures.1) }
 
-pub run-returns-in_ok-exit-in-Some : goal.run-returns-in_ok-exit-in-Some
-run-returns-in_ok-exit-in-Some t c =
+pub calls::run-returns-in_ok-exit-in-Some : goal.calls::run-returns-in_ok-exit-in-Some
+calls::run-returns-in_ok-exit-in-Some t c =
     let L = c.args.program.now.declared.limit in
     let core = seen_core c.args.core.now in
     let types = map seen_alias c.args.program.now.declared.types in
@@ -1810,8 +1765,8 @@ run-returns-in_ok-exit-in-Some t c =
           (then_gives seen_option E after x J r Q c.in_ok-exit-in-Some.ensures.value (gives_as seen_option (after x J) (result_of (clause_setting here (Some L) types) fr routine.at x J) r Q (result_as core types L j fr routine.at x J) c.result_of.ensures.value));
     }
 
-pub run-returns-in-None : goal.run-returns-in-None
-run-returns-in-None t c =
+pub calls::run-returns-in-None : goal.calls::run-returns-in-None
+calls::run-returns-in-None t c =
     let L = c.args.program.now.declared.limit in
     let core = seen_core c.args.core.now in
     let types = map seen_alias c.args.program.now.declared.types in
@@ -1832,8 +1787,8 @@ run-returns-in-None t c =
       value = gives_as seen_option O (built_in_call L (callee (tree.routines_of core) f) A vs M1) r Q (run_built_in core types L n j f A vs M0 M1 more c.requires H behind) c.built_in.ensures.value;
     }
 
-pub exec-returns-in_err-tick : goal.exec-returns-in_err-tick
-exec-returns-in_err-tick t c =
+pub statements::exec-returns-in_err-tick : goal.statements::exec-returns-in_err-tick
+statements::exec-returns-in_err-tick t c =
     let L = c.args.program.now.declared.limit in
     let core = seen_core c.args.core.now in
     let types = map seen_alias c.args.program.now.declared.types in
@@ -1846,82 +1801,71 @@ exec-returns-in_err-tick t c =
     let e = c.in_err-tick.field-0.0 in
     record { value = refused seen_exit (statements.exec W fr X S M0) K e c.from_residual.result (λ none. exec_stops W fr X S M0 K e c.in_err-tick.ensures.value none) c.from_residual.ensures.1 }
 
-pub exec-returns-in-Break : goal.exec-returns-in-Break
-exec-returns-in-Break t c =
+pub statements::exec-returns-in-Break : goal.statements::exec-returns-in-Break
+statements::exec-returns-in-Break t c =
     let L = c.args.program.now.declared.limit in
     let core = seen_core c.args.core.now in
     let types = map seen_alias c.args.program.now.declared.types in
     let W = code core types L c.args.calls in
     let fr = frame L types c.args.routine.now c.args.types.now (store_of c.args.entry.now) in
-    let owed = owed_member here (Some L) types in
     let S = store_of c.args.store.items in
     let M0 = meter_of c.args.meter.now in
     let M1 = meter_of c.tick.new.self in
-    let A = c.args.stmt.now.at in
     let E = c.args.stmt.now in
-    let X = seen_stmt c.args.stmt.now in
     let H = c.in_ok-tick.ensures.value in
     record { value = ap (λ x. statements.exec W fr x S M0) (break_of E c.in-Break.is) ∙ spent true (λ m. Done (statements.Broke S) m) M0 M1 H }
 
-pub exec-returns-in-Continue : goal.exec-returns-in-Continue
-exec-returns-in-Continue t c =
+pub statements::exec-returns-in-Continue : goal.statements::exec-returns-in-Continue
+statements::exec-returns-in-Continue t c =
     let L = c.args.program.now.declared.limit in
     let core = seen_core c.args.core.now in
     let types = map seen_alias c.args.program.now.declared.types in
     let W = code core types L c.args.calls in
     let fr = frame L types c.args.routine.now c.args.types.now (store_of c.args.entry.now) in
-    let owed = owed_member here (Some L) types in
     let S = store_of c.args.store.items in
     let M0 = meter_of c.args.meter.now in
     let M1 = meter_of c.tick.new.self in
     let A = c.args.stmt.now.at in
     let E = c.args.stmt.now in
-    let X = seen_stmt c.args.stmt.now in
     let H = c.in_ok-tick.ensures.value in
     record { value = ap (λ x. statements.exec W fr x S M0) (continue_of E c.in-Continue.is) ∙ spent true (λ m. Done (statements.Continued A S) m) M0 M1 H }
 
-pub exec-returns-in-Skip : goal.exec-returns-in-Skip
-exec-returns-in-Skip t c =
+pub statements::exec-returns-in-Skip : goal.statements::exec-returns-in-Skip
+statements::exec-returns-in-Skip t c =
     let L = c.args.program.now.declared.limit in
     let core = seen_core c.args.core.now in
     let types = map seen_alias c.args.program.now.declared.types in
     let W = code core types L c.args.calls in
     let fr = frame L types c.args.routine.now c.args.types.now (store_of c.args.entry.now) in
-    let owed = owed_member here (Some L) types in
     let S = store_of c.args.store.items in
     let M0 = meter_of c.args.meter.now in
     let M1 = meter_of c.tick.new.self in
-    let A = c.args.stmt.now.at in
     let E = c.args.stmt.now in
-    let X = seen_stmt c.args.stmt.now in
     let H = c.in_ok-tick.ensures.value in
     record { value = ap (λ x. statements.exec W fr x S M0) (skip_of E c.in-Skip.is) ∙ spent true (λ m. Done (statements.Went S) m) M0 M1 H }
 
-pub exec-returns-in-Fail : goal.exec-returns-in-Fail
-exec-returns-in-Fail t c =
+pub statements::exec-returns-in-Fail : goal.statements::exec-returns-in-Fail
+statements::exec-returns-in-Fail t c =
     let L = c.args.program.now.declared.limit in
     let core = seen_core c.args.core.now in
     let types = map seen_alias c.args.program.now.declared.types in
     let W = code core types L c.args.calls in
     let fr = frame L types c.args.routine.now c.args.types.now (store_of c.args.entry.now) in
-    let owed = owed_member here (Some L) types in
     let S = store_of c.args.store.items in
     let M0 = meter_of c.args.meter.now in
     let M1 = meter_of c.tick.new.self in
     let A = c.args.stmt.now.at in
     let E = c.args.stmt.now in
-    let X = seen_stmt c.args.stmt.now in
     let H = c.in_ok-tick.ensures.value in
     record { value = λ none. ap (λ x. statements.exec W fr x S M0) (fail_of E c.in-Fail.is) ∙ spent true (λ m. Fault Fail A m) M0 M1 H }
 
-pub exec-returns-in_err-value-in-Some : goal.exec-returns-in_err-value-in-Some
-exec-returns-in_err-value-in-Some t c =
+pub statements::exec-returns-in_err-value-in-Some : goal.statements::exec-returns-in_err-value-in-Some
+statements::exec-returns-in_err-value-in-Some t c =
     let L = c.args.program.now.declared.limit in
     let core = seen_core c.args.core.now in
     let types = map seen_alias c.args.program.now.declared.types in
     let W = code core types L c.args.calls in
     let fr = frame L types c.args.routine.now c.args.types.now (store_of c.args.entry.now) in
-    let owed = owed_member here (Some L) types in
     let S = store_of c.args.store.items in
     let M0 = meter_of c.args.meter.now in
     let M1 = meter_of c.tick.new.self in
@@ -1944,14 +1888,13 @@ exec-returns-in_err-value-in-Some t c =
           (after_spend seen_exit true go M0 M1 r K H (then_stops seen_exit (eval W true v S M1) into K e r (λ none. held ∙ c.in_err-value-in-Some.ensures.value none) c.from_residual-in_err-value-in-Some.ensures.1));
     }
 
-pub exec-returns-in-Declare : goal.exec-returns-in-Declare
-exec-returns-in-Declare t c =
+pub statements::exec-returns-in-Declare : goal.statements::exec-returns-in-Declare
+statements::exec-returns-in-Declare t c =
     let L = c.args.program.now.declared.limit in
     let core = seen_core c.args.core.now in
     let types = map seen_alias c.args.program.now.declared.types in
     let W = code core types L c.args.calls in
     let fr = frame L types c.args.routine.now c.args.types.now (store_of c.args.entry.now) in
-    let owed = owed_member here (Some L) types in
     let S = store_of c.args.store.items in
     let M0 = meter_of c.args.meter.now in
     let M1 = meter_of c.tick.new.self in
@@ -1974,14 +1917,13 @@ exec-returns-in-Declare t c =
           (after_spend seen_exit true go M0 M1 r J H (then_gives seen_exit (eval W true v S M1) into (seen c.in_ok-value-in-Some.value) K r J (held ∙ c.in_ok-value-in-Some.ensures.value) c.stored.ensures.value));
     }
 
-pub exec-returns-in-Assign : goal.exec-returns-in-Assign
-exec-returns-in-Assign t c =
+pub statements::exec-returns-in-Assign : goal.statements::exec-returns-in-Assign
+statements::exec-returns-in-Assign t c =
     let L = c.args.program.now.declared.limit in
     let core = seen_core c.args.core.now in
     let types = map seen_alias c.args.program.now.declared.types in
     let W = code core types L c.args.calls in
     let fr = frame L types c.args.routine.now c.args.types.now (store_of c.args.entry.now) in
-    let owed = owed_member here (Some L) types in
     let S = store_of c.args.store.items in
     let M0 = meter_of c.args.meter.now in
     let M1 = meter_of c.tick.new.self in
@@ -1999,14 +1941,13 @@ exec-returns-in-Assign t c =
           (after_spend seen_exit true (statements.assigned W fr A x (map seen_step path) v S) M0 M1 r J H c.assigned.ensures.value);
     }
 
-pub exec-returns-in_err-values-in-Call : goal.exec-returns-in_err-values-in-Call
-exec-returns-in_err-values-in-Call t c =
+pub statements::exec-returns-in_err-values-in-Call : goal.statements::exec-returns-in_err-values-in-Call
+statements::exec-returns-in_err-values-in-Call t c =
     let L = c.args.program.now.declared.limit in
     let core = seen_core c.args.core.now in
     let types = map seen_alias c.args.program.now.declared.types in
     let W = code core types L c.args.calls in
     let fr = frame L types c.args.routine.now c.args.types.now (store_of c.args.entry.now) in
-    let owed = owed_member here (Some L) types in
     let S = store_of c.args.store.items in
     let M0 = meter_of c.args.meter.now in
     let M1 = meter_of c.tick.new.self in
@@ -2029,14 +1970,13 @@ exec-returns-in_err-values-in-Call t c =
           (after_spend seen_exit true go M0 M1 r K H (then_stops seen_exit (spec.eval_all W true es S M1) behind K e r (λ none. held ∙ c.in_err-values-in-Call.ensures.value none) c.from_residual-in_err-values-in-Call.ensures.1));
     }
 
-pub exec-returns-in_err-_given-in-Call : goal.exec-returns-in_err-_given-in-Call
-exec-returns-in_err-_given-in-Call t c =
+pub statements::exec-returns-in_err-_given-in-Call : goal.statements::exec-returns-in_err-_given-in-Call
+statements::exec-returns-in_err-_given-in-Call t c =
     let L = c.args.program.now.declared.limit in
     let core = seen_core c.args.core.now in
     let types = map seen_alias c.args.program.now.declared.types in
     let W = code core types L c.args.calls in
     let fr = frame L types c.args.routine.now c.args.types.now (store_of c.args.entry.now) in
-    let owed = owed_member here (Some L) types in
     let S = store_of c.args.store.items in
     let M0 = meter_of c.args.meter.now in
     let M1 = meter_of c.tick.new.self in
@@ -2066,20 +2006,18 @@ exec-returns-in_err-_given-in-Call t c =
           (gives_as seen_exit (behind vs K) (B >>= ends) r J (ap (λ o. o >>= ends) called) (then_stops seen_exit B ends J e r c.in_err-_given-in-Call.ensures.value c.from_residual-in_err-_given-in-Call.ensures.1))));
     }
 
-pub exec-returns-in-Call : goal.exec-returns-in-Call
-exec-returns-in-Call t c =
+pub statements::exec-returns-in-Call : goal.statements::exec-returns-in-Call
+statements::exec-returns-in-Call t c =
     let L = c.args.program.now.declared.limit in
     let core = seen_core c.args.core.now in
     let types = map seen_alias c.args.program.now.declared.types in
     let W = code core types L c.args.calls in
     let fr = frame L types c.args.routine.now c.args.types.now (store_of c.args.entry.now) in
-    let owed = owed_member here (Some L) types in
     let S = store_of c.args.store.items in
     let M0 = meter_of c.args.meter.now in
     let M1 = meter_of c.tick.new.self in
     let A = c.args.stmt.now.at in
     let E = c.args.stmt.now in
-    let X = seen_stmt c.args.stmt.now in
     let H = c.in_ok-tick.ensures.value in
     let f = c.in-Call.number in
     let es = tree.exprs_of (seen_exprs c.as_slice-args.result.now) in
@@ -2101,36 +2039,31 @@ exec-returns-in-Call t c =
           ∙ (then_is (spec.eval_all W true es S M1) behind vs K given ∙ (ap (λ o. o >>= ends) called ∙ then_is B ends g J c.in_ok-_given-in-Call.ensures.value)));
     }
 
-pub exec-returns-in-None-value : goal.exec-returns-in-None-value
-exec-returns-in-None-value t c =
+pub statements::exec-returns-in-None-value : goal.statements::exec-returns-in-None-value
+statements::exec-returns-in-None-value t c =
     let L = c.args.program.now.declared.limit in
     let core = seen_core c.args.core.now in
     let types = map seen_alias c.args.program.now.declared.types in
     let W = code core types L c.args.calls in
     let fr = frame L types c.args.routine.now c.args.types.now (store_of c.args.entry.now) in
-    let owed = owed_member here (Some L) types in
     let S = store_of c.args.store.items in
     let M0 = meter_of c.args.meter.now in
     let M1 = meter_of c.tick.new.self in
     let A = c.args.stmt.now.at in
     let E = c.args.stmt.now in
-    let X = seen_stmt c.args.stmt.now in
     let H = c.in_ok-tick.ensures.value in
     let left = statements.leave W fr A fr.result in
-    let there = statements.leave (clause_setting here (Some L) types) fr A fr.result in
     let is = return_of E c.in-Return.value c.in-Return.is ∙ ap (λ o. tree.ReturnStmt A (seen_expr_option o)) c.in-None-value.is in
-    let K = meter_of c.leave.new.meter in
     let same = leave_as core types L c.args.calls fr A fr.result None M1 in
     record { value = ap (λ y. statements.exec W fr y S M0) is ∙ (spent true (left None) M0 M1 H ∙ (same ∙ c.in_ok-given-in-None-value.ensures.value)) }
 
-pub exec-returns-in_err-value-in-Some-value : goal.exec-returns-in_err-value-in-Some-value
-exec-returns-in_err-value-in-Some-value t c =
+pub statements::exec-returns-in_err-value-in-Some-value : goal.statements::exec-returns-in_err-value-in-Some-value
+statements::exec-returns-in_err-value-in-Some-value t c =
     let L = c.args.program.now.declared.limit in
     let core = seen_core c.args.core.now in
     let types = map seen_alias c.args.program.now.declared.types in
     let W = code core types L c.args.calls in
     let fr = frame L types c.args.routine.now c.args.types.now (store_of c.args.entry.now) in
-    let owed = owed_member here (Some L) types in
     let S = store_of c.args.store.items in
     let M0 = meter_of c.args.meter.now in
     let M1 = meter_of c.tick.new.self in
@@ -2139,7 +2072,6 @@ exec-returns-in_err-value-in-Some-value t c =
     let X = seen_stmt c.args.stmt.now in
     let H = c.in_ok-tick.ensures.value in
     let left = statements.leave W fr A fr.result in
-    let there = statements.leave (clause_setting here (Some L) types) fr A fr.result in
     let v = seen_expr c.in-Some-value.expr in
     let is = return_of E c.in-Return.value c.in-Return.is ∙ ap (λ o. tree.ReturnStmt A (seen_expr_option o)) c.in-Some-value.is in
     let behind = λ (d : datum.Datum). left (Some d) in
@@ -2153,14 +2085,13 @@ exec-returns-in_err-value-in-Some-value t c =
           (after_spend seen_exit true go M0 M1 r K H (then_stops seen_exit (eval W true v S M1) behind K e r (λ none. held ∙ c.in_err-value-in-Some-value.ensures.value none) c.from_residual-in_err-value-in-Some-value.ensures.1));
     }
 
-pub exec-returns-in_err-given-in-Some-value : goal.exec-returns-in_err-given-in-Some-value
-exec-returns-in_err-given-in-Some-value t c =
+pub statements::exec-returns-in_err-given-in-Some-value : goal.statements::exec-returns-in_err-given-in-Some-value
+statements::exec-returns-in_err-given-in-Some-value t c =
     let L = c.args.program.now.declared.limit in
     let core = seen_core c.args.core.now in
     let types = map seen_alias c.args.program.now.declared.types in
     let W = code core types L c.args.calls in
     let fr = frame L types c.args.routine.now c.args.types.now (store_of c.args.entry.now) in
-    let owed = owed_member here (Some L) types in
     let S = store_of c.args.store.items in
     let M0 = meter_of c.args.meter.now in
     let M1 = meter_of c.tick.new.self in
@@ -2169,7 +2100,6 @@ exec-returns-in_err-given-in-Some-value t c =
     let X = seen_stmt c.args.stmt.now in
     let H = c.in_ok-tick.ensures.value in
     let left = statements.leave W fr A fr.result in
-    let there = statements.leave (clause_setting here (Some L) types) fr A fr.result in
     let v = seen_expr c.in-Some-value.expr in
     let is = return_of E c.in-Return.value c.in-Return.is ∙ ap (λ o. tree.ReturnStmt A (seen_expr_option o)) c.in-Some-value.is in
     let behind = λ (d : datum.Datum). left (Some d) in
@@ -2188,23 +2118,20 @@ exec-returns-in_err-given-in-Some-value t c =
           (then_gives seen_exit (eval W true v S M1) behind d K r J given (refused seen_exit (left (Some d) K) J e r (λ none. same ∙ c.in_err-given-in-Some-value.ensures.value none) c.from_residual-in_err-given-in-Some-value.ensures.1)));
     }
 
-pub exec-returns-in-Return : goal.exec-returns-in-Return
-exec-returns-in-Return t c =
+pub statements::exec-returns-in-Return : goal.statements::exec-returns-in-Return
+statements::exec-returns-in-Return t c =
     let L = c.args.program.now.declared.limit in
     let core = seen_core c.args.core.now in
     let types = map seen_alias c.args.program.now.declared.types in
     let W = code core types L c.args.calls in
     let fr = frame L types c.args.routine.now c.args.types.now (store_of c.args.entry.now) in
-    let owed = owed_member here (Some L) types in
     let S = store_of c.args.store.items in
     let M0 = meter_of c.args.meter.now in
     let M1 = meter_of c.tick.new.self in
     let A = c.args.stmt.now.at in
     let E = c.args.stmt.now in
-    let X = seen_stmt c.args.stmt.now in
     let H = c.in_ok-tick.ensures.value in
     let left = statements.leave W fr A fr.result in
-    let there = statements.leave (clause_setting here (Some L) types) fr A fr.result in
     let v = seen_expr c.in-Some-value.expr in
     let is = return_of E c.in-Return.value c.in-Return.is ∙ ap (λ o. tree.ReturnStmt A (seen_expr_option o)) c.in-Some-value.is in
     let behind = λ (d : datum.Datum). left (Some d) in
@@ -2212,21 +2139,19 @@ exec-returns-in-Return t c =
     let K = meter_of c.value_of-in-Some-value.new.meter in
     let held = ap (λ s. eval W true v s M1) (sym (ap store_of c.as_slice-held-in-Some-value.ensures.value)) in
     let d = seen c.in_ok-value-in-Some-value.value in
-    let J = meter_of c.leave-in-Some-value.new.meter in
     let given = held ∙ c.in_ok-value-in-Some-value.ensures.value in
     let same = leave_as core types L c.args.calls fr A fr.result (Some d) K in
     record {
       value = ap (λ y. statements.exec W fr y S M0) is ∙ (spent true go M0 M1 H ∙ (then_is (eval W true v S M1) behind d K given ∙ (same ∙ c.in_ok-given-in-Some-value.ensures.value)));
     }
 
-pub exec-returns-in_err-holds-in-Assert : goal.exec-returns-in_err-holds-in-Assert
-exec-returns-in_err-holds-in-Assert t c =
+pub statements::exec-returns-in_err-holds-in-Assert : goal.statements::exec-returns-in_err-holds-in-Assert
+statements::exec-returns-in_err-holds-in-Assert t c =
     let L = c.args.program.now.declared.limit in
     let core = seen_core c.args.core.now in
     let types = map seen_alias c.args.program.now.declared.types in
     let W = code core types L c.args.calls in
     let fr = frame L types c.args.routine.now c.args.types.now (store_of c.args.entry.now) in
-    let owed = owed_member here (Some L) types in
     let S = store_of c.args.store.items in
     let M0 = meter_of c.args.meter.now in
     let M1 = meter_of c.tick.new.self in
@@ -2247,14 +2172,13 @@ exec-returns-in_err-holds-in-Assert t c =
           (after_spend seen_exit true go M0 M1 r K H (then_stops seen_exit (spec.holds_at W A v S M1) behind K e r (λ none. held ∙ c.in_err-holds-in-Assert.ensures.value none) c.from_residual-in_err-holds-in-Assert.ensures.1));
     }
 
-pub exec-returns-in_err-check-in-Assert : goal.exec-returns-in_err-check-in-Assert
-exec-returns-in_err-check-in-Assert t c =
+pub statements::exec-returns-in_err-check-in-Assert : goal.statements::exec-returns-in_err-check-in-Assert
+statements::exec-returns-in_err-check-in-Assert t c =
     let L = c.args.program.now.declared.limit in
     let core = seen_core c.args.core.now in
     let types = map seen_alias c.args.program.now.declared.types in
     let W = code core types L c.args.calls in
     let fr = frame L types c.args.routine.now c.args.types.now (store_of c.args.entry.now) in
-    let owed = owed_member here (Some L) types in
     let S = store_of c.args.store.items in
     let M0 = meter_of c.args.meter.now in
     let M1 = meter_of c.tick.new.self in
@@ -2278,20 +2202,18 @@ exec-returns-in_err-check-in-Assert t c =
           (refused seen_exit (behind b K) K e r (λ none. checked_stops b Assert A (λ m. Done (statements.Went S) m) K K e (c.in_err-check-in-Assert.ensures.value K) none) c.from_residual-in_err-check-in-Assert.ensures.1)));
     }
 
-pub exec-returns-in-Assert : goal.exec-returns-in-Assert
-exec-returns-in-Assert t c =
+pub statements::exec-returns-in-Assert : goal.statements::exec-returns-in-Assert
+statements::exec-returns-in-Assert t c =
     let L = c.args.program.now.declared.limit in
     let core = seen_core c.args.core.now in
     let types = map seen_alias c.args.program.now.declared.types in
     let W = code core types L c.args.calls in
     let fr = frame L types c.args.routine.now c.args.types.now (store_of c.args.entry.now) in
-    let owed = owed_member here (Some L) types in
     let S = store_of c.args.store.items in
     let M0 = meter_of c.args.meter.now in
     let M1 = meter_of c.tick.new.self in
     let A = c.args.stmt.now.at in
     let E = c.args.stmt.now in
-    let X = seen_stmt c.args.stmt.now in
     let H = c.in_ok-tick.ensures.value in
     let v = seen_expr c.in-Assert.test in
     let is = assert_of E c.in-Assert.test c.in-Assert.is in
@@ -2305,14 +2227,13 @@ exec-returns-in-Assert t c =
           ∙ (spent true go M0 M1 H ∙ (then_is (spec.holds_at W A v S M1) behind b K (held ∙ c.in_ok-holds-in-Assert.ensures.value) ∙ checked b Assert A (λ m. Done (statements.Went S) m) K K (c.in_ok-check-in-Assert.ensures.value K)));
     }
 
-pub exec-returns-in_err-value-in-If : goal.exec-returns-in_err-value-in-If
-exec-returns-in_err-value-in-If t c =
+pub statements::exec-returns-in_err-value-in-If : goal.statements::exec-returns-in_err-value-in-If
+statements::exec-returns-in_err-value-in-If t c =
     let L = c.args.program.now.declared.limit in
     let core = seen_core c.args.core.now in
     let types = map seen_alias c.args.program.now.declared.types in
     let W = code core types L c.args.calls in
     let fr = frame L types c.args.routine.now c.args.types.now (store_of c.args.entry.now) in
-    let owed = owed_member here (Some L) types in
     let S = store_of c.args.store.items in
     let M0 = meter_of c.args.meter.now in
     let M1 = meter_of c.tick.new.self in
@@ -2336,14 +2257,13 @@ exec-returns-in_err-value-in-If t c =
           (after_spend seen_exit true go M0 M1 r K H (then_stops seen_exit (statements.tested_truth W A v S M1) behind K e r (λ none. truth_stops W A v S M1 K e (λ q. held ∙ c.in_err-value-in-If.ensures.value q) none) c.from_residual-in_err-value-in-If.ensures.1));
     }
 
-pub exec-returns-in_err-truth-in-If : goal.exec-returns-in_err-truth-in-If
-exec-returns-in_err-truth-in-If t c =
+pub statements::exec-returns-in_err-truth-in-If : goal.statements::exec-returns-in_err-truth-in-If
+statements::exec-returns-in_err-truth-in-If t c =
     let L = c.args.program.now.declared.limit in
     let core = seen_core c.args.core.now in
     let types = map seen_alias c.args.program.now.declared.types in
     let W = code core types L c.args.calls in
     let fr = frame L types c.args.routine.now c.args.types.now (store_of c.args.entry.now) in
-    let owed = owed_member here (Some L) types in
     let S = store_of c.args.store.items in
     let M0 = meter_of c.args.meter.now in
     let M1 = meter_of c.tick.new.self in
@@ -2369,14 +2289,13 @@ exec-returns-in_err-truth-in-If t c =
           (after_spend seen_exit true go M0 M1 r K H (then_stops seen_exit (statements.tested_truth W A v S M1) behind K e r (λ none. truth_faults W A v S M1 K d e given c.in_err-truth-in-If.ensures.value) c.from_residual-in_err-truth-in-If.ensures.1));
     }
 
-pub exec-returns-then-truth : goal.exec-returns-then-truth
-exec-returns-then-truth t c =
+pub statements::exec-returns-then-truth : goal.statements::exec-returns-then-truth
+statements::exec-returns-then-truth t c =
     let L = c.args.program.now.declared.limit in
     let core = seen_core c.args.core.now in
     let types = map seen_alias c.args.program.now.declared.types in
     let W = code core types L c.args.calls in
     let fr = frame L types c.args.routine.now c.args.types.now (store_of c.args.entry.now) in
-    let owed = owed_member here (Some L) types in
     let S = store_of c.args.store.items in
     let M0 = meter_of c.args.meter.now in
     let M1 = meter_of c.tick.new.self in
@@ -2406,14 +2325,13 @@ exec-returns-then-truth t c =
           (gives_as seen_exit (behind b K) (exec_all W fr (seen_block first) S K) r J (ap (λ t. behind t K) c.if-truth.true) c.exec_all.ensures.value)));
     }
 
-pub exec-returns-in-If : goal.exec-returns-in-If
-exec-returns-in-If t c =
+pub statements::exec-returns-in-If : goal.statements::exec-returns-in-If
+statements::exec-returns-in-If t c =
     let L = c.args.program.now.declared.limit in
     let core = seen_core c.args.core.now in
     let types = map seen_alias c.args.program.now.declared.types in
     let W = code core types L c.args.calls in
     let fr = frame L types c.args.routine.now c.args.types.now (store_of c.args.entry.now) in
-    let owed = owed_member here (Some L) types in
     let S = store_of c.args.store.items in
     let M0 = meter_of c.args.meter.now in
     let M1 = meter_of c.tick.new.self in
@@ -2443,14 +2361,13 @@ exec-returns-in-If t c =
           (gives_as seen_exit (behind b K) (exec_all W fr (seen_block second) S K) r J (ap (λ t. behind t K) c.if-truth.false) c.exec_all-in-If.ensures.value)));
     }
 
-pub exec-returns-in_err-clauses_hold-in-While : goal.exec-returns-in_err-clauses_hold-in-While
-exec-returns-in_err-clauses_hold-in-While t c =
+pub statements::exec-returns-in_err-clauses_hold-in-While : goal.statements::exec-returns-in_err-clauses_hold-in-While
+statements::exec-returns-in_err-clauses_hold-in-While t c =
     let L = c.args.program.now.declared.limit in
     let core = seen_core c.args.core.now in
     let types = map seen_alias c.args.program.now.declared.types in
     let W = code core types L c.args.calls in
     let fr = frame L types c.args.routine.now c.args.types.now (store_of c.args.entry.now) in
-    let owed = owed_member here (Some L) types in
     let S = store_of c.args.store.items in
     let M0 = meter_of c.args.meter.now in
     let M1 = meter_of c.tick.new.self in
@@ -2477,14 +2394,13 @@ exec-returns-in_err-clauses_hold-in-While t c =
           (refused seen_exit (go M1) K e r (λ none. same ∙ clauses_stops (clause_setting here (Some L) types) Entry A es S next M1 K e (λ q. held ∙ c.in_err-clauses_hold-in-While.ensures.value q) none) c.from_residual-in_err-clauses_hold-in-While.ensures.1));
     }
 
-pub exec-returns : goal.exec-returns
-exec-returns t c =
+pub statements::exec-returns : goal.statements::exec-returns
+statements::exec-returns t c =
     let L = c.args.program.now.declared.limit in
     let core = seen_core c.args.core.now in
     let types = map seen_alias c.args.program.now.declared.types in
     let W = code core types L c.args.calls in
     let fr = frame L types c.args.routine.now c.args.types.now (store_of c.args.entry.now) in
-    let owed = owed_member here (Some L) types in
     let S = store_of c.args.store.items in
     let M0 = meter_of c.args.meter.now in
     let M1 = meter_of c.tick.new.self in
