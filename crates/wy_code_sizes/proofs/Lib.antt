@@ -1,0 +1,5 @@
+mod PieceLemmas
+mod TypeLemmas
+mod ExpressionLemmas
+mod StatementLemmas
+pub mod ProgramLemmas

@@ -1,0 +1,7 @@
+mod BoolLemmas
+mod EventLemmas
+mod ReadsLemmas
+mod TurnLemmas
+mod StatementLemmas
+mod BehindLemmas
+pub mod MarkLemmas
