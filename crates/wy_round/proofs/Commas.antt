@@ -103,10 +103,10 @@ more_listed-append (s ∷ ts) u =
     ap (λ l. codes ", " ++ (s ++ l)) (more_listed-append ts u)
     ∙ (ap (λ l. codes ", " ++ l) (sym (append_assoc s (more_listed ts) (codes ", " ++ u))) ∙ sym (append_assoc (codes ", ") (s ++ more_listed ts) (codes ", " ++ u)))
 
-listed-append : (s : List ℕ) (ts : List (List ℕ)) (u : List ℕ) → listed ((s ∷ ts) ++ u ∷ []) ≡ listed (s ∷ ts) ++ (codes ", " ++ u)
+pub listed-append : (s : List ℕ) (ts : List (List ℕ)) (u : List ℕ) → listed ((s ∷ ts) ++ u ∷ []) ≡ listed (s ∷ ts) ++ (codes ", " ++ u)
 listed-append s ts u = ap (λ l. s ++ l) (more_listed-append ts u) ∙ sym (append_assoc s (more_listed ts) (codes ", " ++ u))
 
-map-append : {X Y : Type 0} (f : X → Y) (xs ys : List X) → map f (xs ++ ys) ≡ map f xs ++ map f ys
+pub map-append : {X Y : Type 0} (f : X → Y) (xs ys : List X) → map f (xs ++ ys) ≡ map f xs ++ map f ys
 map-append f [] ys = refl
 map-append f (x ∷ xs) ys = ap (λ l. f x ∷ l) (map-append f xs ys)
 

@@ -82,7 +82,7 @@ literal-part : (n at : ℕ) (kind : TokenKind) (of : ExprKind) (word : List ℕ)
 literal-part n at kind of word bare l =
     subst (λ c. IsPart (From 7) (suc n) (leaf at c)) (sym l.of_is) (leaf-part (suc n) at of (plain 7 word) refl l.shows (literal-again n kind of word bare l))
 
-literal-null : IsLiteral k.Null e.Null (codes "null") (tree.NullExpr 0)
+pub literal-null : IsLiteral k.Null e.Null (codes "null") (tree.NullExpr 0)
 unfolding encode
 literal-null = record {
   literal = refl;
@@ -95,7 +95,7 @@ literal-null = record {
   tokens = λ at. refl;
 }
 
-literal-true : IsLiteral k.True (e.Bool true) (codes "true") (tree.BoolExpr 0 true)
+pub literal-true : IsLiteral k.True (e.Bool true) (codes "true") (tree.BoolExpr 0 true)
 unfolding encode
 literal-true = record {
   literal = refl;
@@ -108,7 +108,7 @@ literal-true = record {
   tokens = λ at. refl;
 }
 
-literal-false : IsLiteral k.False (e.Bool false) (codes "false") (tree.BoolExpr 0 false)
+pub literal-false : IsLiteral k.False (e.Bool false) (codes "false") (tree.BoolExpr 0 false)
 unfolding encode
 literal-false = record {
   literal = refl;
@@ -153,7 +153,7 @@ digits-item n most = by (decimal n) (decimal_writes n (omega (arith, most))) (nu
 pub digits-text : (n : ℕ) → n ≤ greatest → text_of (digits_piece n ∷ []) ≡ decimal n
 digits-text n most = ap encode_utf8_all (append-nil (decimal n)) ∙ decimal-code n most
 
-literal-numeral : (n : ℕ) → n ≤ greatest → among (t.members kinds.Literal) (sort (k.Numeral (pos n))) ≡ true → IsLiteral (k.Numeral (pos n)) (e.Int (pos n)) (decimal n) (tree.IntExpr 0 (pos n))
+pub literal-numeral : (n : ℕ) → n ≤ greatest → among (t.members kinds.Literal) (sort (k.Numeral (pos n))) ≡ true → IsLiteral (k.Numeral (pos n)) (e.Int (pos n)) (decimal n) (tree.IntExpr 0 (pos n))
 literal-numeral n most h = record {
   literal = h;
   of_is = refl;
@@ -202,7 +202,7 @@ var-part n at name v = leaf-part (suc n) at (e.Var name) (plain 7 name) refl (λ
 in_range : (m : ℕ) → m ≤ greatest → nat_le m greatest ≡ true
 in_range m most = grind (arith, most)
 
-opposite-is : (m : ℕ) → m ≤ greatest → neg_ℤ (pos m) ≡ opposite (k.Numeral (pos m))
+pub opposite-is : (m : ℕ) → m ≤ greatest → neg_ℤ (pos m) ≡ opposite (k.Numeral (pos m))
 opposite-is m most = sym (ap (λ b. cond b (neg_ℤ (pos m)) (pos 0)) (in_range m most))
 
 numeral-touches : (m : ℕ) → m ≤ greatest → among (t.NUMERAL ∷ t.BEYOND ∷ []) (numeral_sort (pos m)) ≡ true
@@ -216,7 +216,7 @@ numeral-touches m most = by (nat_le m 39614081257132168796771975167) (m == 39614
 same-place : (at here : ℕ) → here ≡ at + 1 → (here == at + 1) ≡ true
 same-place at here h = grind (arith, h)
 
-touches-behind : (at m : ℕ) → m ≤ greatest → touches at (token (k.Numeral (pos m)) (at + size (45 ∷ []))) ≡ true
+pub touches-behind : (at m : ℕ) → m ≤ greatest → touches at (token (k.Numeral (pos m)) (at + size (45 ∷ []))) ≡ true
 unfolding encode
 touches-behind at m most = rw (numeral-touches m most, same-place at (at + size (45 ∷ [])) refl) refl
 

@@ -343,7 +343,7 @@ array-again n x a h is fits deep p = record {
       };
 }
 
-array-part : (n at : ℕ) (x : T) → 1 ≤ inside n → IsPart n 2 x → IsPart n 2 (array_ty at x)
+pub array-part : (n at : ℕ) (x : T) → 1 ≤ inside n → IsPart n 2 x → IsPart n 2 (array_ty at x)
 array-part n at x deep p = record {
   low = λ y h e.
       let o = ty_node-low at (made ty.Array x) y h e in
@@ -475,7 +475,7 @@ named-again n x name is h = record {
           reads = inr (inr (inr (inl ((at, name), j, (token (k.Name name) at, j, (refl, refl), (refl, refl)), (refl, refl)))));
         }
 
-named-part : (n at : ℕ) (name : List ℕ) → IsName name → IsPart (suc n) 3 (named_ty at name)
+pub named-part : (n at : ℕ) (name : List ℕ) → IsName name → IsPart (suc n) 3 (named_ty at name)
 named-part n at name v = record {
   low = λ y h e.
       let o = ty_node-low at (Low (ty.Named name) 0) y h e in
@@ -608,7 +608,7 @@ whole-of n x h s = by s
 
 -- ---- a type, a space and a name
 
-name_behind : List ℕ → List Piece
+pub name_behind : List ℕ → List Piece
 name_behind name = gap ∷ name_piece name ∷ []
 
 name_behind-segment : (name : List ℕ) → IsName name → Segment (After false) (name_behind name) (After false)
@@ -623,7 +623,7 @@ unfolding name_behind encode
 name_behind-text name v = ap (λ (l : List ℕ). 32 ∷ l) (name-text name v)
 
 -- pieces of a type with a name behind it
-pub typed_pieces : List Piece → List ℕ → List Piece
+unfoldable pub typed_pieces : List Piece → List ℕ → List Piece
 typed_pieces ps name = ps ++ name_behind name
 
 pub typed-item : (ps : List Piece) (name : List ℕ) → IsName name → Item false false ps → Item false false (typed_pieces ps name)

@@ -1,0 +1,15 @@
+pub mod Lines
+pub mod LineRuns
+pub mod StmtShown
+pub mod StmtLines
+pub mod StmtOne
+pub mod StmtNamed
+pub mod StmtCalls
+pub mod StmtHeads
+pub mod StmtBlocks
+pub mod StmtLoops
+pub mod StmtChoices
+pub mod StmtLabels
+pub mod StmtSwitches
+pub mod StmtNests
+pub mod StmtAlone
