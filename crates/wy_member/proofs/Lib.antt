@@ -1,0 +1,4 @@
+pub mod RankLemmas
+pub mod SizeLemmas
+pub mod FallLemmas
+pub mod PartLemmas

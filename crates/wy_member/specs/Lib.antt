@@ -1,0 +1,2 @@
+-- parts of types, each in a list
+pub mod Parts
