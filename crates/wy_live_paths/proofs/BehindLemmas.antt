@@ -1,13 +1,13 @@
 -- What wy_live says of what follows a use is what the paths behind it say.
-use Rattle.std.proofs.Common.{◌≡◌, ◌⊎◌, inl, inr, ℕ, Bool, true, false, not, ◌&&◌, ◌==◌, List, [], ◌∷◌, ◌++◌, refl, sym, ap, ◌∙◌}
-use Rattle.wy_core.specs.CoreTree.{Expr, Stmt, WhileStmt, Stmts}
+use Rattle.std.proofs.Common.{◌≡◌, ◌⊎◌, inl, inr, ℕ, Bool, true, not, ◌&&◌, ◌==◌, [], ◌∷◌, ◌++◌, refl, sym, ap, ◌∙◌}
+use Rattle.wy_core.specs.CoreTree.{Expr, WhileStmt, Stmts}
 use Rattle.wy_live.specs.Paths.{occurs, IsLive, AreLive}
-use Rattle.wy_live.specs.LastUses.{Later, then_later, assigned_later, updated_later, turn_later, nothing_later, if_later, head_later, test_later}
-use Rattle.wy_live_paths.specs.Events.{Event, uses, sets, Path, Paths, uses_first, Then}
+use Rattle.wy_live.specs.LastUses.{then_later, assigned_later, updated_later, turn_later, nothing_later, if_later, head_later, test_later}
+use Rattle.wy_live_paths.specs.Events.{uses, sets, Path, uses_first, Then}
 use Rattle.wy_live_paths.specs.Through.{AnyTurns, Through, End, falls, breaks, continues, stops, ThroughStmt, ThroughStmts}
 use Rattle.wy_live_paths.specs.Behind.{Ended, Assigned, Updated, Either, Turned, Follow, Onward, Head, Tested, Forked}
-use Rattle.wy_live_paths.proofs.BoolLemmas.{either, never, not_both, not_parts}
-use Rattle.wy_live_paths.proofs.EventLemmas.{passes, first_here, first_behind, first_cases}
+use Rattle.wy_live_paths.proofs.BoolLemmas.{either, not_both, not_parts}
+use Rattle.wy_live_paths.proofs.EventLemmas.{first_here, first_behind, first_cases}
 use Rattle.wy_live_paths.proofs.ReadsLemmas.{Reads, empty_first, reads_one, reads_turns, expr_reads}
 use Rattle.wy_live_paths.proofs.TurnLemmas.{Next, Leads, Leading}
 use Rattle.wy_live_paths.proofs.StatementLemmas.{to_path, to_paths, from_path, from_paths, some_path, some_paths}

@@ -1,6 +1,6 @@
 -- One path behind another.
-use Rattle.std.proofs.Common.{◌≡◌, ◌⊎◌, inl, inr, ℕ, Bool, true, false, not, ◌&&◌, ◌||◌, ◌==◌, List, [], ◌∷◌, ◌++◌, refl, sym, ◌∙◌}
-use Rattle.wy_live_paths.specs.Events.{Event, uses, sets, Path, uses_first}
+use Rattle.std.proofs.Common.{◌≡◌, ◌⊎◌, inl, inr, ℕ, Bool, true, not, ◌&&◌, ◌||◌, ◌==◌, [], ◌∷◌, ◌++◌, refl, sym, ◌∙◌}
+use Rattle.wy_live_paths.specs.Events.{uses, sets, Path, uses_first}
 use Rattle.wy_live_paths.proofs.BoolLemmas.{either, or_left, or_right, or_cases, and_both, and_parts, used_bits, set_bits, kept_bits}
 
 -- the variable is never assigned on the path

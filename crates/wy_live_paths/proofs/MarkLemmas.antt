@@ -1,10 +1,10 @@
 -- The marks of last uses are those by paths.
-use Rattle.std.proofs.Common.{◌≡◌, ◌⊎◌, inl, inr, ℕ, Bool, true, false, List, [], ◌∷◌, Option, Some, None, refl}
+use Rattle.std.proofs.Common.{◌≡◌, ℕ, Bool, List, [], ◌∷◌, Option, Some, None}
 use Rattle.wy_core.specs.CoreTree as tree
 use Rattle.wy_core.specs.CoreTree.{Expr, NullExpr, BoolExpr, IntExpr, VarExpr, CallExpr, NegExpr, NotExpr, LenExpr, BinaryExpr, IsExpr, IndexExpr, FieldExpr, ListExpr, RepeatExpr, RecordExpr, QuantExpr, Exprs, NoExprs, MoreExprs, Fields, NoFields, MoreFields, Step, IndexStep, FieldStep, Stmt, DeclareStmt, AssignStmt, CallStmt, ReturnStmt, AssertStmt, BreakStmt, ContinueStmt, SkipStmt, FailStmt, IfStmt, WhileStmt, Stmts, NoStmts, MoreStmts, Decl, AliasDecl, RoutineDecl, Core}
 use Rattle.wy_live.specs.Paths.{occurs, any_occurs, any_field_occurs, any_step_occurs, AreLive}
-use Rattle.wy_live.specs.LastUses.{Later, then_later, assigned_later, updated_later, turn_later, Marked, ExprMarks, ExprsMarks, FieldsMarks, clauses_unused, StepMarks, StepsMarks, DeclareMarks, AssignMarks, nothing_later, ReturnMarks, if_later, head_later, test_later, StmtMarks, StmtsMarks, DeclMarks, DeclsMarks, AreLast}
-use Rattle.wy_live_paths.specs.Events.{Event, Path, Paths, uses_first, Then}
+use Rattle.wy_live.specs.LastUses.{then_later, assigned_later, updated_later, turn_later, Marked, ExprMarks, ExprsMarks, FieldsMarks, clauses_unused, StepMarks, StepsMarks, DeclareMarks, AssignMarks, nothing_later, ReturnMarks, if_later, head_later, test_later, StmtMarks, StmtsMarks, DeclMarks, DeclsMarks, AreLast}
+use Rattle.wy_live_paths.specs.Events.{Path, uses_first, Then}
 use Rattle.wy_live_paths.specs.Through.{Right, Through, ThroughAll, ThroughFields, ThroughSteps, ThroughStmts}
 use Rattle.wy_live_paths.specs.Behind.{Ended, Assigned, Updated, Turned, Onward, Head, Tested, Forked, LastMark, ExprLast, ExprsLast, FieldsLast, StepLast, StepsLast, DeclareLast, AssignLast, ReturnLast, StmtLast, StmtsLast, DeclLast, DeclsLast, AreLastOnPaths}
 use Rattle.wy_live_paths.proofs.BoolLemmas.{false_unless, not_both_ways}

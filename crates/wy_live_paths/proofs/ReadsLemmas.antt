@@ -1,10 +1,10 @@
 -- An expression's paths use a variable exactly where the variable occurs in it.
-use Rattle.std.proofs.Common.{◌≡◌, ◌⊎◌, inl, inr, ℕ, zero, suc, Bool, true, false, not, ◌&&◌, ◌||◌, ◌==◌, List, [], ◌∷◌, ◌++◌, refl, sym, ap, ◌∙◌}
+use Rattle.std.proofs.Common.{◌≡◌, ◌⊎◌, inr, ℕ, zero, suc, Bool, true, false, not, ◌&&◌, ◌||◌, ◌==◌, List, [], ◌∷◌, ◌++◌, refl, sym, ap, ◌∙◌}
 use Rattle.wy_core.specs.CoreTree.{Expr, NullExpr, BoolExpr, IntExpr, VarExpr, CallExpr, NegExpr, NotExpr, LenExpr, BinaryExpr, IsExpr, IndexExpr, FieldExpr, ListExpr, RepeatExpr, RecordExpr, QuantExpr, Exprs, NoExprs, MoreExprs, Fields, NoFields, MoreFields, Step, IndexStep, FieldStep}
 use Rattle.wy_core.specs.declared.expressions.Op.{Op}
 use Rattle.wy_core.specs.declared.expressions.Op.TheVariants as op
 use Rattle.wy_live.specs.Paths.{occurs, any_occurs, any_field_occurs, step_occurs, any_step_occurs}
-use Rattle.wy_live_paths.specs.Events.{Event, uses, sets, Path, Paths, uses_first, Then}
+use Rattle.wy_live_paths.specs.Events.{uses, sets, Path, uses_first, Then}
 use Rattle.wy_live_paths.specs.Through.{Right, QuantTurns, AnyTurns, Through, ThroughAll, ThroughFields, ThroughStep, ThroughSteps}
 use Rattle.wy_live_paths.proofs.BoolLemmas.{either, never, or_left, or_right, or_cases, or_false, not_both, not_parts}
 use Rattle.wy_live_paths.proofs.EventLemmas.{passes, first_here, first_behind, first_cases, passes_both}

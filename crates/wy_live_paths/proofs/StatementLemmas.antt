@@ -1,12 +1,12 @@
 -- A variable is live before a statement exactly where some path from there uses it before it assigns it.
-use Rattle.std.proofs.Common.{◌≡◌, ◌⊎◌, inl, inr, ℕ, zero, suc, Bool, true, false, not, ◌&&◌, ◌||◌, ◌==◌, List, [], ◌∷◌, ◌++◌, Option, Some, None, refl, sym, ap, ◌∙◌, subst}
+use Rattle.std.proofs.Common.{◌≡◌, ◌⊎◌, inl, inr, ℕ, Bool, true, false, ◌||◌, ◌==◌, List, [], ◌∷◌, ◌++◌, Option, Some, None, refl, sym, ap, ◌∙◌, subst}
 use Rattle.wy_core.specs.CoreTree.{Expr, Step, Stmt, DeclareStmt, AssignStmt, CallStmt, ReturnStmt, AssertStmt, BreakStmt, ContinueStmt, SkipStmt, FailStmt, IfStmt, WhileStmt, Stmts, NoStmts, MoreStmts}
 use Rattle.wy_live.specs.Paths.{occurs, any_occurs, any_step_occurs, Used, UsedOrKept, DeclareLive, AssignLive, ReturnLive, IsLive, AreLive}
-use Rattle.wy_live_paths.specs.Events.{Event, uses, sets, Path, Paths, uses_first, Then}
-use Rattle.wy_live_paths.specs.Through.{Through, ThroughAll, ThroughSteps, End, falls, breaks, continues, stops, ThroughSet, ThroughDeclare, ThroughAssign, ThroughReturn, ThroughTurns, ThroughStmt, ThroughStmts}
+use Rattle.wy_live_paths.specs.Events.{uses, sets, Path, uses_first, Then}
+use Rattle.wy_live_paths.specs.Through.{Through, ThroughAll, ThroughSteps, End, falls, breaks, continues, stops, ThroughSet, ThroughDeclare, ThroughAssign, ThroughReturn, ThroughStmt, ThroughStmts}
 use Rattle.wy_live_paths.proofs.BoolLemmas.{either, never, not_both, not_parts}
-use Rattle.wy_live_paths.proofs.EventLemmas.{passes, first_here, first_behind, passes_both}
-use Rattle.wy_live_paths.proofs.ReadsLemmas.{Reads, empty_first, reads_one, reads_then, expr_reads, exprs_reads, steps_reads}
+use Rattle.wy_live_paths.proofs.EventLemmas.{passes, first_here, passes_both}
+use Rattle.wy_live_paths.proofs.ReadsLemmas.{Reads, reads_one, reads_then, expr_reads, exprs_reads, steps_reads}
 use Rattle.wy_live_paths.proofs.TurnLemmas.{Next, Leads, Leading, leads_on, on_leads, empty_leads, turns_to, turns_from}
 
 -- ---- one statement

@@ -1,12 +1,12 @@
 -- What a path leads to, and paths through the turns of a loop.
-use Rattle.std.proofs.Common.{◌≡◌, ◌⊎◌, inl, inr, ℕ, zero, suc, Bool, true, List, [], ◌∷◌, ◌++◌, refl, sym, ap, ◌∙◌, subst}
+use Rattle.std.proofs.Common.{◌≡◌, ◌⊎◌, inl, inr, ℕ, zero, suc, true, [], ◌++◌, refl, sym, ap, ◌∙◌, subst}
 use Rattle.wy_core.specs.CoreTree.{Expr}
 use Rattle.wy_live.specs.Paths.{occurs, Turns}
-use Rattle.wy_live_paths.specs.Events.{Event, Path, Paths, uses_first}
+use Rattle.wy_live_paths.specs.Events.{Path, uses_first}
 use Rattle.wy_live_paths.specs.Through.{Through, End, falls, breaks, continues, stops, ThroughTurns}
-use Rattle.wy_live_paths.proofs.BoolLemmas.{either, never}
+use Rattle.wy_live_paths.proofs.BoolLemmas.{either}
 use Rattle.wy_live_paths.proofs.EventLemmas.{passes, first_here, first_behind, first_cases, passes_both, passes_parts}
-use Rattle.wy_live_paths.proofs.ReadsLemmas.{Reads, empty_first, expr_reads}
+use Rattle.wy_live_paths.proofs.ReadsLemmas.{empty_first, expr_reads}
 
 -- what is so behind each way out: of the end, of a `break`, of a `continue`
 abbrev pub Next : End → Type 0 → Type 0 → Type 0 → Type 0

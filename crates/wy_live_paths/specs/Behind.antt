@@ -3,8 +3,8 @@ use Rattle.std.specs.Prelude.{◌≡◌, ◌⊎◌, ℕ, Bool, true, false, List
 use Rattle.wy_core.specs.CoreTree as tree
 use Rattle.wy_core.specs.CoreTree.{Expr, NullExpr, BoolExpr, IntExpr, VarExpr, CallExpr, NegExpr, NotExpr, LenExpr, BinaryExpr, IsExpr, IndexExpr, FieldExpr, ListExpr, RepeatExpr, RecordExpr, QuantExpr, Exprs, NoExprs, MoreExprs, Fields, NoFields, MoreFields, Step, IndexStep, FieldStep, Stmt, DeclareStmt, AssignStmt, CallStmt, ReturnStmt, AssertStmt, BreakStmt, ContinueStmt, SkipStmt, FailStmt, IfStmt, WhileStmt, Stmts, NoStmts, MoreStmts, Decl, AliasDecl, RoutineDecl, Core}
 use Rattle.wy_live.specs.LastUses.{unused, clauses_unused}
-use Rattle.wy_live_paths.specs.Events.{Event, uses, sets, Path, Paths, uses_first, Then}
-use Rattle.wy_live_paths.specs.Through.{Right, AnyTurns, Through, ThroughAll, ThroughFields, ThroughStep, ThroughSteps, End, falls, breaks, continues, stops, ThroughStmt, ThroughStmts}
+use Rattle.wy_live_paths.specs.Events.{uses, sets, Path, Paths, uses_first, Then}
+use Rattle.wy_live_paths.specs.Through.{Right, AnyTurns, Through, ThroughAll, ThroughFields, ThroughSteps, End, falls, breaks, continues, stops, ThroughStmt, ThroughStmts}
 
 -- ---- sets of paths
 

@@ -1,5 +1,5 @@
 -- What happens on a path, and whether a path uses a variable before it assigns it.
-use Rattle.std.specs.Prelude.{◌≡◌, ℕ, Bool, true, false, not, ◌&&◌, ◌||◌, ◌==◌, List, [], ◌∷◌, ◌++◌}
+use Rattle.std.specs.Prelude.{◌≡◌, ℕ, Bool, false, not, ◌&&◌, ◌||◌, ◌==◌, List, [], ◌∷◌, ◌++◌}
 
 -- a variable is used, or one is assigned
 pub data Event : Type 0 where
