@@ -1,0 +1,4 @@
+-- what public contracts cite
+pub mod Verdicts
+pub mod Within
+pub mod Shown
