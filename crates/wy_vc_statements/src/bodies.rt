@@ -1,0 +1,36 @@
+//! The body of a function or method.
+ghost use Rattle.std.specs.Prelude.{◌≡◌, ◌+◌, [], IfOk, OnOk};
+ghost use Rattle.wy_conditions.specs.Numbered.{numbered_block};
+ghost use Rattle.wy_conditions.specs.Sizes as sizes;
+ghost use Rattle.wy_conditions.specs.Statements as spec;
+ghost use Rattle.wy_core.specs.CoreSeen.{seen_block};
+ghost use Rattle.wy_vc_actions.specs.Frames.{IsFrame, body_at};
+ghost use Rattle.wy_vc_actions.specs.Going.{Went};
+ghost use Rattle.wy_vc_joins.specs.Paths.{spot_of};
+ghost use Rattle.wy_vc_walk.specs.Slots.{AreSlots};
+ghost use Rattle.wy_vc_walk.specs.State.{IsSound};
+
+use std::alloc::Global;
+use wy_core::Stmt;
+use wy_term::NoMemory;
+use wy_vc_actions::Frame;
+use wy_vc_points::Here;
+use wy_vc_walk::Walk;
+
+/// The statements of a body, which stand in no loop, from what is known where the body begins: what they owe, and what is known behind
+/// them; None where no path gets behind them.
+pub fn exec_body(
+    alloc: Global,
+    frame: &Frame,
+    walk: &mut Walk,
+    here: Here,
+    block: &[Stmt],
+) -> Result<Option<Here>, NoMemory>
+    requires frame { IsFrame walk.old.maker.terms frame.now }
+    requires sound { IsSound walk.old }
+    requires slots { AreSlots walk.old.maker.terms here.vars.items }
+    ensures value { IfOk result (λ h. Went walk.old walk.new h (spec.exec_all (body_at walk.old.maker.terms frame.now) [] (numbered_block (seen_block block.now) walk.old.maker.node) (spot_of walk.old here) walk.old.maker.count)) }
+    ensures node { OnOk result (walk.new.maker.node ≡ walk.old.maker.node + sizes.exprs_in_block (seen_block block.now)) }
+{
+    Err(NoMemory)
+}
