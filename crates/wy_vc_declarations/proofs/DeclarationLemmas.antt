@@ -1,0 +1,59 @@
+-- One declaration after the other.
+use Rattle.std.proofs.Common.{◌≡◌, ◌<◌, ◌≤◌, ◌+◌, ℕ, List, [], ◌∷◌, ◌++◌, length, drop, get_or, map, refl, sym, ◌∙◌, ap, subst}
+use Rattle.std.proofs.lemmas.List.{append-nil, append_assoc, drop_all}
+use Rattle.wy_core.specs.CoreSeen.{seen_decl, seen_exprs, seen_routine}
+use Rattle.wy_core.specs.CoreTree as tree
+use Rattle.wy_core.specs.declared.declarations.Decl.{Decl}
+use Rattle.wy_core.specs.declared.declarations.Routine.{Routine}
+use Rattle.wy_conditions.specs.Numbered.{Node, exprs_in_decl, numbered_decl, numbered_decls, numbered_routine}
+use Rattle.wy_conditions.specs.Owed.{Owed}
+use Rattle.wy_conditions.specs.Programs.{decl_conditions, decls_conditions}
+use Rattle.wy_conditions.specs.Sizes.{exprs_in_list}
+use Rattle.wy_conditions.specs.Walks as walks
+use Rattle.wy_vc_operations.specs.Growing.{Kept}
+use Rattle.wy_vc_walk.specs.State.{IsSound, owed_of}
+use Rattle.wy_vc_walk.specs.declared.walk.Walk.{Walk}
+use Rattle.wy_vc_walk.proofs.NumberedLemmas.{kept_then}
+use Rattle.wy_vc_walk.proofs.StateLemmas.{kept_all}
+use Rattle.wy_vc_joins.proofs.PathLemmas.{next_of}
+use Rattle.wy_vc_names.specs.Described.{IsCalled}
+use Rattle.wy_vc_names.specs.declared.program.Called.{Called}
+use Rattle.wy_vc_declarations.specs.Entering.{Owes}
+
+-- the numbers of the parts of a function or method
+pub called_here : (routine : Routine) (first before between after last : ℕ) (pre post : ℕ) (c : Called) → c.preconditions ≡ first → c.postconditions ≡ after → c.body ≡ last
+    → before ≡ exprs_in_list (seen_exprs routine.preconditions) → between ≡ exprs_in_list (seen_exprs routine.postconditions) → after ≡ first + before → last ≡ after + between
+    → IsCalled (numbered_routine (seen_routine routine) first) routine c
+called_here routine first before between after last pre post c is_first is_after is_last pre_is post_is after_is last_is = record {
+  is = ap (λ (k : ℕ). numbered_routine (seen_routine routine) k) is_first;
+  ensures_from = is_after ∙ after_is ∙ ap (λ (n : ℕ). first + n) pre_is ∙ ap (λ (k : ℕ). k + exprs_in_list (seen_exprs routine.preconditions)) (sym is_first);
+  body_from = is_last ∙ last_is ∙ ap (λ (n : ℕ). after + n) post_is ∙ ap (λ (k : ℕ). k + exprs_in_list (seen_exprs routine.postconditions)) (sym is_after);
+}
+
+-- so much was owed, and with what is left it is all
+pub record IsOwing (p : walks.Program Node) (a b : Walk) (ds : List Decl) (k : ℕ) (all : List Owed) : Type 0 where
+  pub sound : IsSound b
+  pub kept : Kept a.maker.terms b.maker.terms
+  pub owed : owed_of b ++ decls_conditions p (numbered_decls (map seen_decl ds) k) ≡ owed_of a ++ all
+
+pub owing_begin : (p : walks.Program Node) (a : Walk) (ds : List Decl) → IsSound a → IsOwing p a a ds 0 (decls_conditions p (numbered_decls (map seen_decl ds) 0))
+owing_begin p a ds sound = record { sound = sound; kept = kept_all a.maker.terms; owed = refl }
+
+pub owing_turn : (p : walks.Program Node) (a b c : Walk) (ds : List Decl) (i : ℕ) (d : Decl) (k n : ℕ) (all : List Owed) → i < length ds → d ≡ get_or ds i d
+    → IsOwing p a b (drop i ds) k all → Owes b c (decl_conditions p (numbered_decl (seen_decl d) k)) → n ≡ k + exprs_in_decl (seen_decl d)
+    → IsOwing p a c (drop (i + 1) ds) n all
+owing_turn p a b c ds i d k n all lt is inv o next =
+    let inv' = subst (λ (l : List Decl). IsOwing p a b l k all) (next_of ds i d lt is) inv in
+    let D = decl_conditions p (numbered_decl (seen_decl d) k) in
+    let R = λ (j : ℕ). decls_conditions p (numbered_decls (map seen_decl (drop (i + 1) ds)) j) in
+    record {
+      sound = o.sound;
+      kept = kept_then inv'.kept o.kept;
+      owed = ap (λ (j : ℕ). owed_of c ++ R j) next ∙ ap (λ (os : List Owed). os ++ R (k + exprs_in_decl (seen_decl d))) o.owed
+          ∙ append_assoc (owed_of b) D (R (k + exprs_in_decl (seen_decl d))) ∙ inv'.owed;
+    }
+
+pub owing_end : (p : walks.Program Node) (a b : Walk) (ds : List Decl) (i k : ℕ) (all : List Owed) → length ds ≤ i → IsOwing p a b (drop i ds) k all → Owes a b all
+owing_end p a b ds i k all past inv =
+    let inv' = subst (λ (l : List Decl). IsOwing p a b l k all) (drop_all i ds past) inv in
+    record { sound = inv'.sound; kept = inv'.kept; owed = sym (append-nil (owed_of b)) ∙ inv'.owed }

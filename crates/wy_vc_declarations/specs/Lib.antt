@@ -1,0 +1,2 @@
+-- what is known where contracts and bodies begin, and what declarations owe
+pub mod Entering

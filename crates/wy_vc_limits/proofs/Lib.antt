@@ -1,0 +1,10 @@
+-- marks of numbers
+pub mod MarkLemmas
+-- which named types are mentioned
+pub mod MentionedLemmas
+-- what tests of named types stand for
+pub mod MeaningLemmas
+-- goals with what their tests stand for
+pub mod ToldLemmas
+-- the terms that were seen
+pub mod SeenLemmas

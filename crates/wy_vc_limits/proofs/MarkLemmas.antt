@@ -1,0 +1,44 @@
+-- Marks of numbers.
+use Rattle.std.proofs.Common.{◌≡◌, ◌<◌, ◌⊎◌, inl, inr, ℕ, zero, suc, Bool, true, false, List, [], ◌∷◌, ◌++◌, length, slice_set, slice_index_or, refl, sym, ◌∙◌, ap, subst, arith}
+use Rattle.wy_vc_limits.specs.Mentioned.{marked}
+
+pub index_marked : (bs : List Bool) (n : ℕ) → slice_index_or bs n false ≡ marked bs n
+index_marked [] n = refl
+index_marked (b ∷ bs) zero = refl
+index_marked (b ∷ bs) (suc n) = index_marked bs n
+
+pub set_length : (bs : List Bool) (x : ℕ) (b : Bool) → length (slice_set bs x b) ≡ length bs
+set_length [] x b = refl
+set_length (c ∷ bs) zero b = refl
+set_length (c ∷ bs) (suc x) b = ap (λ (n : ℕ). suc n) (set_length bs x b)
+
+pub set_here : (bs : List Bool) (x : ℕ) → x < length bs → marked (slice_set bs x true) x ≡ true
+set_here [] x lt = absurd (omega (arith, lt))
+set_here (c ∷ bs) zero lt = refl
+set_here (c ∷ bs) (suc x) lt = set_here bs x (omega (arith, lt))
+
+pub set_keeps : (bs : List Bool) (x n : ℕ) → marked bs n ≡ true → marked (slice_set bs x true) n ≡ true
+set_keeps [] x n h = h
+set_keeps (c ∷ bs) zero zero h = refl
+set_keeps (c ∷ bs) zero (suc n) h = h
+set_keeps (c ∷ bs) (suc x) zero h = h
+set_keeps (c ∷ bs) (suc x) (suc n) h = set_keeps bs x n h
+
+pub set_only : (bs : List Bool) (x n : ℕ) → marked (slice_set bs x true) n ≡ true → (x ≡ n) ⊎ (marked bs n ≡ true)
+set_only [] x n h = inr h
+set_only (c ∷ bs) zero zero h = inl refl
+set_only (c ∷ bs) zero (suc n) h = inr h
+set_only (c ∷ bs) (suc x) zero h = inr h
+set_only (c ∷ bs) (suc x) (suc n) h = elim (set_only bs x n h) as (λ _. (suc x ≡ suc n) ⊎ (marked bs n ≡ true)) [ inl e ↦ inl (ap (λ (m : ℕ). suc m) e) | inr g ↦ inr g ]
+
+-- one mark more that is none changes nothing
+pub push_none : (bs : List Bool) → ((n : ℕ) → marked bs n ≡ false) → (n : ℕ) → marked (bs ++ false ∷ []) n ≡ false
+push_none [] none zero = refl
+push_none [] none (suc n) = refl
+push_none (b ∷ bs) none zero = none 0
+push_none (b ∷ bs) none (suc n) = push_none bs (λ m. none (suc m)) n
+
+pub marked_below : (bs : List Bool) (n : ℕ) → marked bs n ≡ true → n < length bs
+marked_below [] n h = absurd cc
+marked_below (b ∷ bs) zero h = omega arith
+marked_below (b ∷ bs) (suc n) h = let l = marked_below bs n h in omega (arith, l)

@@ -1,0 +1,294 @@
+-- The terms that were seen, each once.
+use Rattle.std.proofs.Common.{◌≡◌, ◌<◌, ◌≤◌, ◌+◌, ◌⊎◌, inl, inr, ℕ, zero, suc, Bool, true, false, List, [], ◌∷◌, ◌++◌, All, length, map, take, drop, get_or, nat_eq, refl, sym, ◌∙◌, ap, subst, arith}
+use Rattle.std.specs.Prelude.{if◌then◌else◌, nat_lt}
+use Rattle.std.specs.HashSet.{contains}
+use Rattle.std.proofs.Math.Dec.{eqb}
+use Rattle.std.proofs.lemmas.Bool.{cases_Bool, cond-true, cond-false, both_ways, or_cases, or_left}
+use Rattle.std.proofs.lemmas.List.{append-nil, append_assoc, drop_all, drop_more, take_more, take_all, map-append}
+use Rattle.std.proofs.lemmas.List.Elements.{All-get_or, All-head, All-tail}
+use Rattle.wy_term.specs.Term.{Term}
+use Rattle.wy_term.specs.Nodes.{Plain, tree_at}
+use Rattle.wy_term.specs.Condition.{Entry, entry_of}
+use Rattle.wy_term.specs.declared.cond.Cond.{Cond}
+use Rattle.wy_conditions.specs.Limits as spec
+use Rattle.wy_conditions.specs.Limits.{different, has_term, is_among, terms_in, terms_in_all, terms_of_unfold}
+use Rattle.wy_vc_operations.specs.Growing.{AreBelow}
+use Rattle.wy_vc_shared.specs.Listed.{AreApart, IsNamed}
+use Rattle.wy_vc_shared.proofs.AmongLemmas.{among_first, among_cases, among_left, among_right, among_either, has_first, has_cases, has_either, has_left, has_right}
+use Rattle.wy_vc_shared.proofs.CountLemmas.{apart_push, counted}
+use Rattle.wy_vc_shared.proofs.ListedLemmas.{OneEach, same_test}
+use Rattle.wy_vc_shared.proofs.TestedLemmas.{among_at}
+use Rattle.wy_vc_limits.specs.Counted.{IsCounted, is_over, passing_told, roots_of, roots_of_entries, terms_told}
+use Rattle.wy_vc_limits.specs.Told.{IsCond, IsEntry, Told, seen_cond}
+use Rattle.wy_vc_limits.specs.declared.limits.Seen.{Seen}
+
+-- ---- one term
+
+pub seen_none : (nodes : List Plain) (seen : Seen) → seen.all.items ≡ [] → ((k : ℕ) → contains nat_eq seen.noted k ≡ false) → IsCounted nodes seen []
+seen_none nodes seen empty none = record {
+  noted = λ k. none k ∙ sym (ap (λ (l : List ℕ). is_among l k) empty);
+  below = λ k h. absurd (no k h);
+  apart = subst AreApart (sym empty) tt;
+  whole = λ t h. absurd (let e : false ≡ true = h in cc);
+  inside = λ k h. absurd (no k h);
+}
+  where
+    no : (k : ℕ) → is_among seen.all.items k ≡ true → ⊥
+    no k h = let e : false ≡ true = sym (ap (λ (l : List ℕ). is_among l k) empty) ∙ h in cc
+
+-- a term that was seen before
+pub seen_again : (nodes : List Plain) (seen : Seen) (ts : List Term) (k : ℕ) → contains nat_eq seen.noted k ≡ true → IsCounted nodes seen ts → IsCounted nodes seen (ts ++ tree_at nodes k ∷ [])
+seen_again nodes seen ts k again c = record {
+  noted = c.noted;
+  below = c.below;
+  apart = c.apart;
+  whole = λ t h. elim (has_either ts (tree_at nodes k ∷ []) t h) as (λ _. (j : ℕ) × (is_among seen.all.items j ≡ true) × (tree_at nodes j ≡ t)) [
+    | inl e ↦ c.whole t e
+    | inr e ↦ elim (has_cases (tree_at nodes k) [] t e) as (λ _. (j : ℕ) × (is_among seen.all.items j ≡ true) × (tree_at nodes j ≡ t)) [
+      | inl is ↦ (k, sym (c.noted k) ∙ again, is)
+      | inr none ↦ absurd (let f : false ≡ true = none in cc)
+    ]
+  ];
+  inside = λ j h. has_left ts (tree_at nodes k ∷ []) (tree_at nodes j) (c.inside j h);
+}
+
+-- a new one
+pub seen_new : (nodes : List Plain) (old new : Seen) (ts : List Term) (k : ℕ) → k < length nodes → contains nat_eq old.noted k ≡ false → new.all.items ≡ old.all.items ++ k ∷ []
+    → ((j : ℕ) → contains nat_eq new.noted j ≡ (if eqb k j then true else contains nat_eq old.noted j)) → IsCounted nodes old ts → IsCounted nodes new (ts ++ tree_at nodes k ∷ [])
+seen_new nodes old new ts k lt fresh pushed noted c = record {
+  noted = λ j. noted_is j ∙ sym (ap (λ (l : List ℕ). is_among l j) pushed);
+  below = λ j h. elim (split j h) as (λ _. j < length nodes) [ inl e ↦ c.below j e | inr e ↦ subst (λ (x : ℕ). x < length nodes) e lt ];
+  apart = subst AreApart (sym pushed) (apart_push old.all.items k c.apart (sym (c.noted k) ∙ fresh));
+  whole = λ t h. elim (has_either ts (tree_at nodes k ∷ []) t h) as (λ _. (j : ℕ) × (is_among new.all.items j ≡ true) × (tree_at nodes j ≡ t)) [
+    | inl e ↦ let r = c.whole t e in (r.0, back r.0 (among_left old.all.items (k ∷ []) r.0 r.1), r.2)
+    | inr e ↦ elim (has_cases (tree_at nodes k) [] t e) as (λ _. (j : ℕ) × (is_among new.all.items j ≡ true) × (tree_at nodes j ≡ t)) [
+      | inl is ↦ (k, back k (among_right old.all.items (k ∷ []) k (among_first k [])), is)
+      | inr none ↦ absurd (let f : false ≡ true = none in cc)
+    ]
+  ];
+  inside = λ j h. elim (split j h) as (λ _. has_term (ts ++ tree_at nodes k ∷ []) (tree_at nodes j) ≡ true) [
+    | inl e ↦ has_left ts (tree_at nodes k ∷ []) (tree_at nodes j) (c.inside j e)
+    | inr e ↦ has_right ts (tree_at nodes k ∷ []) (tree_at nodes j) (subst (λ (x : ℕ). has_term (tree_at nodes k ∷ []) (tree_at nodes x) ≡ true) e (has_first (tree_at nodes k) []))
+  ];
+}
+  where
+    back : (j : ℕ) → is_among (old.all.items ++ k ∷ []) j ≡ true → is_among new.all.items j ≡ true
+    back j h = subst (λ (l : List ℕ). is_among l j ≡ true) (sym pushed) h
+
+    split : (j : ℕ) → is_among new.all.items j ≡ true → (is_among old.all.items j ≡ true) ⊎ (k ≡ j)
+    split j h = elim (among_either old.all.items (k ∷ []) j (subst (λ (l : List ℕ). is_among l j ≡ true) pushed h)) as (λ _. (is_among old.all.items j ≡ true) ⊎ (k ≡ j)) [
+      | inl e ↦ inl e
+      | inr e ↦ elim (among_cases k [] j e) as (λ _. (is_among old.all.items j ≡ true) ⊎ (k ≡ j)) [ inl is ↦ inr is | inr none ↦ absurd (let f : false ≡ true = none in cc) ]
+    ]
+
+    noted_is : (j : ℕ) → contains nat_eq new.noted j ≡ is_among (old.all.items ++ k ∷ []) j
+    noted_is j = same_test (contains nat_eq new.noted j) (is_among (old.all.items ++ k ∷ []) j) forth other
+      where
+        forth : contains nat_eq new.noted j ≡ true → is_among (old.all.items ++ k ∷ []) j ≡ true
+        forth h = elim (cases_Bool (eqb k j)) as (λ _. is_among (old.all.items ++ k ∷ []) j ≡ true) [
+          | inl e ↦ among_right old.all.items (k ∷ []) j (or_left (eqb k j) (is_among [] j) e)
+          | inr e ↦ among_left old.all.items (k ∷ []) j (sym (c.noted j) ∙ (sym (cond-false (eqb k j) true (contains nat_eq old.noted j) e) ∙ (sym (noted j) ∙ h)))
+        ]
+
+        other : is_among (old.all.items ++ k ∷ []) j ≡ true → contains nat_eq new.noted j ≡ true
+        other h = elim (cases_Bool (eqb k j)) as (λ _. contains nat_eq new.noted j ≡ true) [
+          | inl e ↦ noted j ∙ cond-true (eqb k j) true (contains nat_eq old.noted j) e
+          | inr e ↦ elim (among_either old.all.items (k ∷ []) j h) as (λ _. contains nat_eq new.noted j ≡ true) [
+            | inl g ↦ noted j ∙ (cond-false (eqb k j) true (contains nat_eq old.noted j) e ∙ (c.noted j ∙ g))
+            | inr g ↦ absurd (elim (or_cases (eqb k j) (is_among [] j) g) as (λ _. ⊥) [ inl f ↦ both_ways (eqb k j) e f | inr f ↦ let x : false ≡ true = f in cc ])
+          ]
+        ]
+
+-- ---- many terms
+
+-- so many of the numbers were seen
+abbrev pub IsSeeing : List Plain → Seen → Seen → List ℕ → ℕ → Type 0
+IsSeeing nodes old new ks i = (ts : List Term) → IsCounted nodes old ts → IsCounted nodes new (ts ++ map (tree_at nodes) (take i ks))
+
+pub seeing_begin : (nodes : List Plain) (seen : Seen) (ks : List ℕ) → IsSeeing nodes seen seen ks 0
+seeing_begin nodes seen ks = λ ts c. subst (λ (l : List Term). IsCounted nodes seen l) (sym (append-nil ts)) c
+
+pub seeing_turn : (nodes : List Plain) (a b c : Seen) (ks : List ℕ) (i k : ℕ) → i < length ks → k ≡ get_or ks i k → IsSeeing nodes a b ks i
+    → ((ts : List Term) → IsCounted nodes b ts → IsCounted nodes c (ts ++ tree_at nodes k ∷ [])) → IsSeeing nodes a c ks (i + 1)
+seeing_turn nodes a b c ks i k lt is inv one = λ ts counted.
+    let more : take (i + 1) ks ≡ take i ks ++ k ∷ [] = take_more ks i k lt ∙ ap (λ (j : ℕ). take i ks ++ j ∷ []) (sym is) in
+    let trees : map (tree_at nodes) (take (i + 1) ks) ≡ map (tree_at nodes) (take i ks) ++ tree_at nodes k ∷ [] = ap (λ (l : List ℕ). map (tree_at nodes) l) more ∙ map-append (tree_at nodes) (take i ks) (k ∷ []) in
+    subst (λ (l : List Term). IsCounted nodes c l) (append_assoc ts (map (tree_at nodes) (take i ks)) (tree_at nodes k ∷ []) ∙ ap (λ (l : List Term). ts ++ l) (sym trees))
+    (one (ts ++ map (tree_at nodes) (take i ks)) (inv ts counted))
+
+pub seeing_end : (nodes : List Plain) (a b : Seen) (ks : List ℕ) (i : ℕ) → length ks ≤ i → IsSeeing nodes a b ks i → (ts : List Term) → IsCounted nodes a ts → IsCounted nodes b (ts ++ map (tree_at nodes) ks)
+seeing_end nodes a b ks i past inv ts c = subst (λ (l : List ℕ). IsCounted nodes b (ts ++ map (tree_at nodes) l)) (take_all i ks past) (inv ts c)
+
+-- the number that comes next
+pub number_below : (n : ℕ) (ks : List ℕ) (i k : ℕ) → i < length ks → k ≡ get_or ks i k → ((j : ℕ) → is_among ks j ≡ true → j < n) → k < n
+number_below n ks i k lt is below = below k (subst (λ (j : ℕ). is_among ks j ≡ true) (same ∙ sym is) (among_at ks i lt))
+  where
+    same : get_or ks i 0 ≡ get_or ks i k
+    same = get_either ks i lt
+      where
+        get_either : (l : List ℕ) (j : ℕ) → j < length l → get_or l j 0 ≡ get_or l j k
+        get_either [] j less = absurd (omega (arith, less))
+        get_either (x ∷ l) zero less = refl
+        get_either (x ∷ l) (suc j) less = get_either l j (omega (arith, less))
+
+-- the terms of the roots, where their numbers are these
+pub made_seen : (nodes : List Plain) (seen : Seen) (ts us : List Term) (all : List ℕ)
+    → ((t : Term) → has_term us t ≡ true → IsNamed nodes all t) → ((k : ℕ) → is_among all k ≡ true → k < length nodes) → ((k : ℕ) → k < length nodes → is_among all k ≡ has_term us (tree_at nodes k))
+    → IsCounted nodes seen (ts ++ map (tree_at nodes) all) → IsCounted nodes seen (ts ++ us)
+made_seen nodes seen ts us all whole below value c = record {
+  noted = c.noted;
+  below = c.below;
+  apart = c.apart;
+  whole = λ t h. elim (has_either ts us t h) as (λ _. (j : ℕ) × (is_among seen.all.items j ≡ true) × (tree_at nodes j ≡ t)) [
+    | inl e ↦ c.whole t (has_left ts (map (tree_at nodes) all) t e)
+    | inr e ↦ let r = whole t e in c.whole t (has_right ts (map (tree_at nodes) all) t (subst (λ (x : Term). has_term (map (tree_at nodes) all) x ≡ true) r.2 (named_has all r.0 r.1)))
+  ];
+  inside = λ k h. elim (has_either ts (map (tree_at nodes) all) (tree_at nodes k) (c.inside k h)) as (λ _. has_term (ts ++ us) (tree_at nodes k) ≡ true) [
+    | inl e ↦ has_left ts us (tree_at nodes k) e
+    | inr e ↦ let r = has_named all (tree_at nodes k) e in has_right ts us (tree_at nodes k) (subst (λ (x : Term). has_term us x ≡ true) r.2 (sym (value r.0 (below r.0 r.1)) ∙ r.1))
+  ];
+}
+  where
+    named_has : (ks : List ℕ) (k : ℕ) → is_among ks k ≡ true → has_term (map (tree_at nodes) ks) (tree_at nodes k) ≡ true
+    named_has [] k h = absurd (let f : false ≡ true = h in cc)
+    named_has (j ∷ ks) k h = elim (among_cases j ks k h) as (λ _. has_term (tree_at nodes j ∷ map (tree_at nodes) ks) (tree_at nodes k) ≡ true) [
+      | inl e ↦ subst (λ (x : ℕ). has_term (tree_at nodes j ∷ map (tree_at nodes) ks) (tree_at nodes x) ≡ true) e (has_first (tree_at nodes j) (map (tree_at nodes) ks))
+      | inr e ↦ has_right (tree_at nodes j ∷ []) (map (tree_at nodes) ks) (tree_at nodes k) (named_has ks k e)
+    ]
+
+    has_named : (ks : List ℕ) (t : Term) → has_term (map (tree_at nodes) ks) t ≡ true → (k : ℕ) × (is_among ks k ≡ true) × (tree_at nodes k ≡ t)
+    has_named [] t h = absurd (let f : false ≡ true = h in cc)
+    has_named (j ∷ ks) t h = elim (has_cases (tree_at nodes j) (map (tree_at nodes) ks) t h) as (λ _. (k : ℕ) × (is_among (j ∷ ks) k ≡ true) × (tree_at nodes k ≡ t)) [
+      | inl e ↦ (j, among_first j ks, e)
+      | inr e ↦ let r = has_named ks t e in (r.0, among_right (j ∷ []) ks r.0 r.1, r.2)
+    ]
+
+-- as many numbers as different terms
+pub seen_count : (nodes : List Plain) (seen : Seen) (ts : List Term) → OneEach nodes → IsCounted nodes seen ts → length seen.all.items ≡ different ts
+seen_count nodes seen ts one c = sym (counted (tree_at nodes) seen.all.items ts (record {
+  apart = c.apart;
+  one = λ i j a b e. (one i j (c.below i a) (c.below j b)).1 e;
+  whole = c.whole;
+  inside = c.inside;
+}))
+
+-- ---- a condition
+
+roots_push : (es : List (ℕ × ℕ × ℕ)) (e : ℕ × ℕ × ℕ) → roots_of_entries (es ++ e ∷ []) ≡ (roots_of_entries es ++ e.1 ∷ []) ++ e.2 ∷ []
+roots_push [] e = refl
+roots_push (x ∷ es) e = ap (λ (l : List ℕ). x.1 ∷ x.2 ∷ l) (roots_push es e)
+
+-- what was listed, and what is left of the entries
+pub roots_turn : (es : List (ℕ × ℕ × ℕ)) (i : ℕ) (e : ℕ × ℕ × ℕ) (old mid new all : List ℕ) → i < length es → e ≡ get_or es i e → mid ≡ old ++ e.1 ∷ [] → new ≡ mid ++ e.2 ∷ []
+    → old ++ roots_of_entries (drop i es) ≡ all → new ++ roots_of_entries (drop (i + 1) es) ≡ all
+roots_turn es i e old mid new all lt is first second so =
+    let rest = roots_of_entries (drop (i + 1) es) in
+    ap (λ (l : List ℕ). l ++ rest) (second ∙ ap (λ (l : List ℕ). l ++ e.2 ∷ []) first)
+    ∙ append_assoc (old ++ e.1 ∷ []) (e.2 ∷ []) rest ∙ append_assoc old (e.1 ∷ []) (e.2 ∷ rest)
+    ∙ ap (λ (l : List (ℕ × ℕ × ℕ)). old ++ roots_of_entries l) (sym (drop_more es i e lt ∙ ap (λ (x : ℕ × ℕ × ℕ). x ∷ drop (i + 1) es) (sym is)))
+    ∙ so
+
+pub roots_begin : (hyps roots pushed : List ℕ) (goal : ℕ) (es : List (ℕ × ℕ × ℕ)) → roots ≡ hyps → pushed ≡ roots ++ goal ∷ [] → pushed ++ roots_of_entries es ≡ hyps ++ (goal ∷ roots_of_entries es)
+roots_begin hyps roots pushed goal es same is = ap (λ (l : List ℕ). l ++ roots_of_entries es) (is ∙ ap (λ (l : List ℕ). l ++ goal ∷ []) same) ∙ append_assoc hyps (goal ∷ []) (roots_of_entries es)
+
+terms_append : (ts us : List Term) → terms_in_all (ts ++ us) ≡ terms_in_all ts ++ terms_in_all us
+terms_append [] us = refl
+terms_append (t ∷ ts) us = ap (λ (l : List Term). terms_in t ++ l) (terms_append ts us) ∙ sym (append_assoc (terms_in t) (terms_in_all ts) (terms_in_all us))
+
+entries_terms : (nodes : List Plain) (es : List (ℕ × ℕ × ℕ)) → terms_in_all (map (tree_at nodes) (roots_of_entries es)) ≡ terms_of_unfold (map (entry_of nodes) es)
+entries_terms nodes [] = refl
+entries_terms nodes (e ∷ es) = ap (λ (l : List Term). terms_in (tree_at nodes e.1) ++ (terms_in (tree_at nodes e.2) ++ l)) (entries_terms nodes es)
+
+-- the roots are made of the condition's terms
+pub roots_terms : (nodes : List Plain) (c : Cond) (roots : List ℕ) → roots ≡ roots_of c → terms_in_all (map (tree_at nodes) roots) ≡ terms_told (seen_cond nodes c)
+roots_terms nodes c roots is =
+    let H = map (tree_at nodes) c.hyps.items in
+    let G = tree_at nodes c.goal in
+    let E = map (tree_at nodes) (roots_of_entries c.unfold.list.items) in
+    ap (λ (l : List ℕ). terms_in_all (map (tree_at nodes) l)) is
+    ∙ ap (λ (l : List Term). terms_in_all l) (map-append (tree_at nodes) c.hyps.items (c.goal ∷ roots_of_entries c.unfold.list.items) ∙ sym (append_assoc H (G ∷ []) E))
+    ∙ terms_append (H ++ G ∷ []) E ∙ ap (λ (l : List Term). terms_in_all (H ++ G ∷ []) ++ l) (entries_terms nodes c.unfold.list.items)
+
+entries_below : (nodes : List Plain) (es : List (ℕ × ℕ × ℕ)) (k : ℕ) → All (IsEntry nodes) es → is_among (roots_of_entries es) k ≡ true → k < length nodes
+entries_below nodes [] k are h = absurd (let f : false ≡ true = h in cc)
+entries_below nodes (e ∷ es) k are h = elim (among_cases e.1 (e.2 ∷ roots_of_entries es) k h) as (λ _. k < length nodes) [
+  | inl is ↦ subst (λ (x : ℕ). x < length nodes) is (All-head (IsEntry nodes) e es are).name
+  | inr g ↦ elim (among_cases e.2 (roots_of_entries es) k g) as (λ _. k < length nodes) [
+    | inl is ↦ subst (λ (x : ℕ). x < length nodes) is (All-head (IsEntry nodes) e es are).formula
+    | inr f ↦ entries_below nodes es k (All-tail (IsEntry nodes) e es are) f
+  ]
+]
+
+below_at : (n : ℕ) (ks : List ℕ) (k : ℕ) → AreBelow n ks → is_among ks k ≡ true → k < n
+below_at n [] k below h = absurd (let f : false ≡ true = h in cc)
+below_at n (j ∷ ks) k below h = elim (among_cases j ks k h) as (λ _. k < n) [
+  | inl e ↦ subst (λ (x : ℕ). x < n) e (All-head (λ i. i < n) j ks below)
+  | inr e ↦ below_at n ks k (All-tail (λ i. i < n) j ks below) e
+]
+
+pub roots_below : (nodes : List Plain) (c : Cond) (roots : List ℕ) → IsCond nodes c → roots ≡ roots_of c → (k : ℕ) → is_among roots k ≡ true → k < length nodes
+roots_below nodes c roots is same k h = elim (among_either c.hyps.items (c.goal ∷ roots_of_entries c.unfold.list.items) k (subst (λ (l : List ℕ). is_among l k ≡ true) same h)) as (λ _. k < length nodes) [
+  | inl e ↦ below_at (length nodes) c.hyps.items k is.hyps e
+  | inr e ↦ elim (among_cases c.goal (roots_of_entries c.unfold.list.items) k e) as (λ _. k < length nodes) [
+    | inl at ↦ subst (λ (x : ℕ). x < length nodes) at is.goal
+    | inr f ↦ entries_below nodes c.unfold.list.items k is.entries f
+  ]
+]
+
+-- ---- one condition after the other
+
+-- conditions before this one have these terms, and with those that are left they pass what all do
+pub record IsPassing (nodes : List Plain) (seen : Seen) (k : ℕ) (left : List Cond) (all : spec.Passing) : Type 0 where
+  pub before : List Term
+  pub counted : IsCounted nodes seen before
+  pub is : passing_told before k (map (seen_cond nodes) left) ≡ all
+
+pub passing_begin : (nodes : List Plain) (seen : Seen) (conds : List Cond) → IsCounted nodes seen [] → IsPassing nodes seen 1 conds (passing_told [] 1 (map (seen_cond nodes) conds))
+passing_begin nodes seen conds c = record { before = []; counted = c; is = refl }
+
+-- the condition that comes next
+next_is : (nodes : List Plain) (seen : Seen) (conds : List Cond) (i : ℕ) (c : Cond) (all : spec.Passing) → i < length conds → c ≡ get_or conds i c → (inv : IsPassing nodes seen (suc i) (drop i conds) all)
+    → passing_told inv.before (suc i) (seen_cond nodes c ∷ map (seen_cond nodes) (drop (i + 1) conds)) ≡ all
+next_is nodes seen conds i c all lt is inv = ap (λ (l : List Cond). passing_told inv.before (suc i) (map (seen_cond nodes) l)) (sym (drop_more conds i c lt ∙ ap (λ (x : Cond). x ∷ drop (i + 1) conds) (sym is))) ∙ inv.is
+
+pub passing_many : (nodes : List Plain) (seen : Seen) (conds : List Cond) (i : ℕ) (c : Cond) (all : spec.Passing) → i < length conds → c ≡ get_or conds i c → nat_lt spec.most_conditions (suc i) ≡ true
+    → IsPassing nodes seen (suc i) (drop i conds) all → spec.TooMany ≡ all
+passing_many nodes seen conds i c all lt is many inv =
+    sym (cond-true (nat_lt spec.most_conditions (suc i)) spec.TooMany _ many) ∙ next_is nodes seen conds i c all lt is inv
+
+-- not too many up to it
+not_many : (nodes : List Plain) (seen : Seen) (conds : List Cond) (i : ℕ) (c : Cond) (all : spec.Passing) → i < length conds → c ≡ get_or conds i c → nat_lt spec.most_conditions (suc i) ≡ false → (inv : IsPassing nodes seen (suc i) (drop i conds) all)
+    → (if is_over (different (terms_told (seen_cond nodes c))) (different (inv.before ++ terms_told (seen_cond nodes c))) then spec.TooLarge (suc i) else passing_told (inv.before ++ terms_told (seen_cond nodes c)) (suc (suc i)) (map (seen_cond nodes) (drop (i + 1) conds))) ≡ all
+not_many nodes seen conds i c all lt is few inv = sym (cond-false (nat_lt spec.most_conditions (suc i)) spec.TooMany _ few) ∙ next_is nodes seen conds i c all lt is inv
+
+over_is : (one all : ℕ) (t : Told) (before : List Term) → one ≡ different (terms_told t) → all ≡ different (before ++ terms_told t) → (over : Bool) → over ≡ is_over one all → is_over (different (terms_told t)) (different (before ++ terms_told t)) ≡ over
+over_is one all t before one_is all_is over is = sym (is ∙ ap (λ (n : ℕ). is_over n all) one_is ∙ ap (λ (n : ℕ). is_over (different (terms_told t)) n) all_is)
+
+pub passing_large : (nodes : List Plain) (a b : Seen) (conds : List Cond) (i : ℕ) (c : Cond) (one total : ℕ) (over : Bool) (all : spec.Passing) → i < length conds → c ≡ get_or conds i c → nat_lt spec.most_conditions (suc i) ≡ false
+    → one ≡ different (terms_told (seen_cond nodes c)) → ((ts : List Term) → IsCounted nodes a ts → IsCounted nodes b (ts ++ terms_told (seen_cond nodes c))) → ((ts : List Term) → IsCounted nodes b ts → total ≡ different ts)
+    → over ≡ is_over one total → over ≡ true → IsPassing nodes a (suc i) (drop i conds) all → spec.TooLarge (suc i) ≡ all
+passing_large nodes a b conds i c one total over all lt is few one_is sees total_is over_so is_true inv =
+    let T = seen_cond nodes c in
+    sym (cond-true (is_over (different (terms_told T)) (different (inv.before ++ terms_told T))) (spec.TooLarge (suc i)) _ (over_is one total T inv.before one_is (total_is (inv.before ++ terms_told T) (sees inv.before inv.counted)) over over_so ∙ is_true))
+    ∙ not_many nodes a conds i c all lt is few inv
+
+pub passing_turn : (nodes : List Plain) (a b : Seen) (conds : List Cond) (i : ℕ) (c : Cond) (one total : ℕ) (over : Bool) (all : spec.Passing) → i < length conds → c ≡ get_or conds i c → nat_lt spec.most_conditions (suc i) ≡ false
+    → one ≡ different (terms_told (seen_cond nodes c)) → ((ts : List Term) → IsCounted nodes a ts → IsCounted nodes b (ts ++ terms_told (seen_cond nodes c))) → ((ts : List Term) → IsCounted nodes b ts → total ≡ different ts)
+    → over ≡ is_over one total → over ≡ false → IsPassing nodes a (suc i) (drop i conds) all → IsPassing nodes b (suc (i + 1)) (drop (i + 1) conds) all
+passing_turn nodes a b conds i c one total over all lt is few one_is sees total_is over_so is_false inv =
+    let T = seen_cond nodes c in
+    let next : suc (i + 1) ≡ suc (suc i) = omega arith in
+    record {
+      before = inv.before ++ terms_told T;
+      counted = sees inv.before inv.counted;
+      is = ap (λ (k : ℕ). passing_told (inv.before ++ terms_told T) k (map (seen_cond nodes) (drop (i + 1) conds))) next
+          ∙ sym (cond-false (is_over (different (terms_told T)) (different (inv.before ++ terms_told T))) (spec.TooLarge (suc i)) _ (over_is one total T inv.before one_is (total_is (inv.before ++ terms_told T) (sees inv.before inv.counted)) over over_so ∙ is_false))
+          ∙ not_many nodes a conds i c all lt is few inv;
+    }
+
+pub passing_end : (nodes : List Plain) (seen : Seen) (conds : List Cond) (i : ℕ) (all : spec.Passing) → length conds ≤ i → IsPassing nodes seen (suc i) (drop i conds) all → spec.Within ≡ all
+passing_end nodes seen conds i all past inv = ap (λ (l : List Cond). passing_told inv.before (suc i) (map (seen_cond nodes) l)) (sym (drop_all i conds past)) ∙ inv.is
+
+-- the condition that comes next has numbers of terms
+pub cond_at : (nodes : List Plain) (conds : List Cond) (i : ℕ) (c : Cond) → i < length conds → c ≡ get_or conds i c → All (IsCond nodes) conds → IsCond nodes c
+cond_at nodes conds i c lt is are = subst (λ (x : Cond). IsCond nodes x) (sym is) (All-get_or (IsCond nodes) conds i c lt are)
