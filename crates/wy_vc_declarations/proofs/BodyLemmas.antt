@@ -122,8 +122,8 @@ body_owes frame a z b c d f g h end vs words clauses block same_words same_claus
     let O = seen_output r.result in
     let last = owes_as f g (spec.end_of (body_at f.maker.terms frame) O seen.ends f.maker.count) (spec.end_of (spec.body_of P R start.spot.vars) O flow.ends flow.count)
     (ap (λ (y : Body Node). spec.end_of y O seen.ends f.maker.count) (body_kept d.maker.terms f.maker.terms went'.kept frame is_frame ∙ body)
-        ∙ ap (λ (x : Flow). spec.end_of (spec.body_of P R start.spot.vars) O x.ends f.maker.count) same
-        ∙ ap (λ (n : ℕ). spec.end_of (spec.body_of P R start.spot.vars) O flow.ends n) went'.count) ends in
+    ∙ ap (λ (x : Flow). spec.end_of (spec.body_of P R start.spot.vars) O x.ends f.maker.count) same
+    ∙ ap (λ (n : ℕ). spec.end_of (spec.body_of P R start.spot.vars) O flow.ends n) went'.count) ends in
     owes_from a z g (spec.body_conditions P R) terms owed (owes_then z f g flow.owed (spec.end_of (spec.body_of P R start.spot.vars) O flow.ends flow.count) walked last)
   where
     append_nil_of : (os : List Owed) → os ++ [] ≡ os

@@ -21,10 +21,10 @@ use Rattle.wy_vc_names.specs.declared.program.Called.{Called}
 use Rattle.wy_vc_declarations.specs.Entering.{Owes}
 
 -- the numbers of the parts of a function or method
-pub called_here : (routine : Routine) (first before between after last : ℕ) (pre post : ℕ) (c : Called) → c.preconditions ≡ first → c.postconditions ≡ after → c.body ≡ last
+pub called_here : (routine : Routine) (first before between after last : ℕ) (c : Called) → c.preconditions ≡ first → c.postconditions ≡ after → c.body ≡ last
     → before ≡ exprs_in_list (seen_exprs routine.preconditions) → between ≡ exprs_in_list (seen_exprs routine.postconditions) → after ≡ first + before → last ≡ after + between
     → IsCalled (numbered_routine (seen_routine routine) first) routine c
-called_here routine first before between after last pre post c is_first is_after is_last pre_is post_is after_is last_is = record {
+called_here routine first before between after last c is_first is_after is_last pre_is post_is after_is last_is = record {
   is = ap (λ (k : ℕ). numbered_routine (seen_routine routine) k) is_first;
   ensures_from = is_after ∙ after_is ∙ ap (λ (n : ℕ). first + n) pre_is ∙ ap (λ (k : ℕ). k + exprs_in_list (seen_exprs routine.preconditions)) (sym is_first);
   body_from = is_last ∙ last_is ∙ ap (λ (n : ℕ). after + n) post_is ∙ ap (λ (k : ℕ). k + exprs_in_list (seen_exprs routine.postconditions)) (sym is_after);

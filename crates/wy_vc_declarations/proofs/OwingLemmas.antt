@@ -134,7 +134,7 @@ no_ensures p r (x ∷ es) j vars hyps n a sound none = absurd (omega arith)
 
 some_ensures : (p : walks.Program Node) (r : tree.Routine Node) (es : List e.Expr) (j : ℕ) (vars : Vars) (hyps : List Term) (n : ℕ) → (length es ≡ 0 → ⊥)
     → (walk_clauses p r.variables (numbered_list (seen_exprs es) j) (spec.enter_result p.setting r r.result vars hyps n).spot.vars (spec.enter_result p.setting r r.result vars hyps n).spot.hyps (spec.enter_result p.setting r r.result vars hyps n).count).owed
-        ≡ spec.ensures_conditions p r (numbered_list (seen_exprs es) j) vars hyps n
+    ≡ spec.ensures_conditions p r (numbered_list (seen_exprs es) j) vars hyps n
 some_ensures p r [] j vars hyps n some = absurd (some refl)
 some_ensures p r (x ∷ es) j vars hyps n some = refl
 
@@ -189,7 +189,7 @@ contract_owes p routine first a z b c d h vs ts words clauses same_words same_cl
     ap (λ (l : List (Option ℕ)). slots_of c.maker.terms l) same_ts ∙ slots_kept b.maker.terms c.maker.terms to_c.kept h.vars.items renews.spot.slots ∙ vars in
     let ensures' = owes_as c d (E c.maker.node (slots_of c.maker.terms ts) (hyps_of c) c.maker.count) (E behind start.spot.vars one.hyps one.count)
     (ap (λ (j : ℕ). E j (slots_of c.maker.terms ts) (hyps_of c) c.maker.count) number ∙ ap (λ (us : Vars). E behind us (hyps_of c) c.maker.count) slots
-        ∙ ap (λ (hs : List Term). E behind start.spot.vars hs c.maker.count) to_c.hyps ∙ ap (λ (n : ℕ). E behind start.spot.vars one.hyps n) to_c.count) ensures in
+    ∙ ap (λ (hs : List Term). E behind start.spot.vars hs c.maker.count) to_c.hyps ∙ ap (λ (n : ℕ). E behind start.spot.vars one.hyps n) to_c.count) ensures in
     owes_from a z d (spec.contract_conditions p R) terms owed (owes_then z c d one.owed (E behind start.spot.vars one.hyps one.count) first_owed ensures')
 
 -- the parameters' terms are still there

@@ -24,12 +24,7 @@ use wy_vc_walk::Walk;
 
 // The end of a body that gives nothing back counts as a `return` at its declaration, where a path gets there; the end of one that gives
 // something back is never reached.
-fn owe_end(
-    alloc: Global,
-    frame: &Frame,
-    walk: &mut Walk,
-    end: Option<Here>,
-) -> Result<(), NoMemory>
+fn owe_end(alloc: Global, frame: &Frame, walk: &mut Walk, end: Option<Here>) -> Result<(), NoMemory>
     requires frame { IsFrame walk.old.maker.terms frame.now }
     requires sound { IsSound walk.old }
     ensures value { (p : Option Spot) → IsEnd walk.old end p → OnOk result (Owes walk.old walk.new (spec.end_of (body_at walk.old.maker.terms frame.now) (seen_output frame.now.routine.now.result) p walk.old.maker.count)) }
@@ -65,12 +60,13 @@ pub fn owe_body(
     let mut entry = Vec::from_slice(alloc, here.vars.as_slice())?;
     assume_clauses(alloc, core, program, words, walk, &mut entry, clauses)?;
     walk.maker.node = called.body;
+    let types = declared_types(alloc, routine)?;
     let frame = Frame {
         core,
         program,
         routine,
         called,
-        types: declared_types(alloc, routine)?,
+        types,
         entry,
     };
     let end = exec_body(alloc, &frame, walk, here, routine.body.as_slice())?;

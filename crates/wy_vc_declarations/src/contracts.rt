@@ -61,6 +61,14 @@ pub fn owe_contract(
     let here = enter(alloc, core, program, walk, routine)?;
     let words = routine.variables.as_slice();
     let clauses = routine.preconditions.as_slice();
-    walk_clauses(alloc, core, program, words, walk, here.vars.as_slice(), clauses)?;
+    walk_clauses(
+        alloc,
+        core,
+        program,
+        words,
+        walk,
+        here.vars.as_slice(),
+        clauses,
+    )?;
     owe_ensures(alloc, core, program, walk, routine, here.vars.as_slice())
 }

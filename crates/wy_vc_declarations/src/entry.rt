@@ -126,11 +126,7 @@ pub fn enter(
 }
 
 // The word of a result: that of its variable, if it has one.
-fn result_word(
-    alloc: Global,
-    words: &[Name],
-    variable: Option<u32>,
-) -> Result<Name, AllocError>
+fn result_word(alloc: Global, words: &[Name], variable: Option<u32>) -> Result<Name, AllocError>
     ensures value { IfOk result (λ word. word ≡ word_if words.now variable spec.result_word) }
 {
     match variable {

@@ -6,5 +6,7 @@ pub mod MentionedLemmas
 pub mod MeaningLemmas
 -- goals with what their tests stand for
 pub mod ToldLemmas
+-- how many different terms there are
+pub mod DifferentLemmas
 -- the terms that were seen
 pub mod SeenLemmas

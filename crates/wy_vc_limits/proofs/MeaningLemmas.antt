@@ -15,7 +15,7 @@ use Rattle.wy_vc_operations.specs.Growing.{Kept}
 use Rattle.wy_vc_shared.proofs.AmongLemmas.{among_first}
 use Rattle.wy_vc_limits.specs.Meanings.{AreMeanings, AreMeaningsFrom, IsMeaning, tests_at}
 use Rattle.wy_vc_limits.specs.Mentioned.{reached, tested_by}
-use Rattle.wy_vc_limits.specs.declared.meanings.Meaning.{Meaning}
+use Rattle.wy_vc_limits.specs.declared.unfolding.Meaning.{Meaning}
 use Rattle.wy_vc_limits.proofs.MentionedLemmas.{same_reached}
 
 -- ---- as terms grow
@@ -40,8 +40,8 @@ are_meanings_on old new s ms kept are = record { count = are.count; are = meanin
 -- ---- one more
 
 pub meanings_push : (nodes : List Plain) (s : Setting Node) (n : ℕ) (ms : List Meaning) (m : Meaning) → AreMeaningsFrom nodes s n ms → IsMeaning nodes s (n + length ms) m → AreMeaningsFrom nodes s n (ms ++ m ∷ [])
-meanings_push nodes s n [] m are is = (subst (λ (k : ℕ). IsMeaning nodes s k m) (omega arith) is, tt)
-meanings_push nodes s n (x ∷ ms) m are is = (are.0, meanings_push nodes s (suc n) ms m are.1 (subst (λ (k : ℕ). IsMeaning nodes s k m) (omega arith) is))
+meanings_push nodes s n [] m are is = let e : n + 0 ≡ n = omega arith in (subst (λ (k : ℕ). IsMeaning nodes s k m) e is, tt)
+meanings_push nodes s n (x ∷ ms) m are is = let e : n + suc (length ms) ≡ suc n + length ms = omega arith in (are.0, meanings_push nodes s (suc n) ms m are.1 (subst (λ (k : ℕ). IsMeaning nodes s k m) e is))
 
 -- so many have meanings
 pub record IsMeaningUpTo (old new : List Plain) (s : Setting Node) (n : ℕ) (ms : List Meaning) : Type 0 where
@@ -105,8 +105,8 @@ no_tests ms n past = at_past ms n past
 
 tests_from : (nodes : List Plain) (s : Setting Node) (base : ℕ) (ms : List Meaning) (n k : ℕ) → AreMeaningsFrom nodes s base ms → n < length ms → is_among (tests_at ms n) k ≡ is_among (tests_in (test_formula s (base + n))) k
 tests_from nodes s base [] n k are lt = absurd (omega (arith, lt))
-tests_from nodes s base (m ∷ ms) zero k are lt = are.0.tests k ∙ ap (λ (i : ℕ). is_among (tests_in (test_formula s i)) k) (omega arith)
-tests_from nodes s base (m ∷ ms) (suc n) k are lt = tests_from nodes s (suc base) ms n k are.1 (omega (arith, lt)) ∙ ap (λ (i : ℕ). is_among (tests_in (test_formula s i)) k) (omega arith)
+tests_from nodes s base (m ∷ ms) zero k are lt = let e : base ≡ base + 0 = omega arith in are.0.tests k ∙ ap (λ (i : ℕ). is_among (tests_in (test_formula s i)) k) e
+tests_from nodes s base (m ∷ ms) (suc n) k are lt = let e : suc base + n ≡ base + suc n = omega arith in tests_from nodes s (suc base) ms n k are.1 (omega (arith, lt)) ∙ ap (λ (i : ℕ). is_among (tests_in (test_formula s i)) k) e
 
 tests_are : (nodes : List Plain) (s : Setting Node) (ms : List Meaning) → AreMeanings nodes s ms → (n k : ℕ) → is_among (tests_at ms n) k ≡ is_among (tests_in (test_formula s n)) k
 tests_are nodes s ms are n k = elim (cases_lt n (length ms)) as (λ _. is_among (tests_at ms n) k ≡ is_among (tests_in (test_formula s n)) k) [

@@ -156,9 +156,6 @@ within_steps f count begun none = record {
   within = below;
 }
   where
-    S : ℕ → ℕ → Bool
-    S = steps_of f count begun
-
     below : (j n : ℕ) → steps_of f count begun j n ≡ true → n < count
     below zero n h = absurd (let e : false ≡ true = h in cc)
     below (suc j) n h = ltb-true n count (and_parts (nat_lt n count) (is_among (reached f j begun) n) h).0
@@ -179,7 +176,7 @@ within_steps f count begun none = record {
         type_of : (m k : ℕ) → is_among (f m) k ≡ true → m < count
         type_of m k g = elim (cases_lt m count) as (λ _. m < count) [
           | inl less ↦ less
-          | inr past ↦ absurd (let l : is_among [] k ≡ true = subst (λ (x : List ℕ). is_among x k ≡ true) (none m past) g in cc)
+          | inr past ↦ absurd (let l : false ≡ true = subst (λ (x : List ℕ). is_among x k ≡ true) (none m past) g in cc)
         ]
 
         before : (j n : ℕ) → steps_of f count begun j n ≡ true → is_among (reached f j begun) n ≡ true
@@ -201,24 +198,26 @@ within_count f count begun none n lt r =
     by (suc j) h =
         subst (λ (l : List ℕ). is_among l n ≡ true) (sym (reached_further f j begun)) (among_left (reached f j begun) (tested_by f (reached f j begun)) n (and_parts (nat_lt n count) (is_among (reached f j begun) n) h).1)
 
+-- the number is none of a type, or is marked
+abbrev IsKept : List Bool → ℕ → Type 0
+IsKept marks m = (length marks ≤ m) ⊎ (marked marks m ≡ true)
+
+kept_settled : (marks : List Bool) (m : ℕ) → IsSettled marks [] m → IsKept marks m
+kept_settled marks m (inl e) = inl e
+kept_settled marks m (inr (inl e)) = inr e
+kept_settled marks m (inr (inr e)) = absurd (let h : false ≡ true = e in cc)
+
+kept_closed : (f : ℕ → List ℕ) (count : ℕ) (begun : List ℕ) (marks : List Bool) → ((n : ℕ) → count ≤ n → f n ≡ []) → IsReaching f count begun marks [] → (m : ℕ) → IsKept marks m → (k : ℕ) → is_among (f m) k ≡ true → IsKept marks k
+kept_closed f count begun marks none r m (inl past) k g =
+    absurd (let c = r.count in let e = none m (omega (arith, past, c)) in let h : false ≡ true = subst (λ (x : List ℕ). is_among x k ≡ true) e g in cc)
+kept_closed f count begun marks none r m (inr h) k g = kept_settled marks k (r.closed m h k g)
+
 -- exactly the types that are reached are marked
 pub marks_are : (f : ℕ → List ℕ) (count : ℕ) (begun : List ℕ) (marks : List Bool) → ((n : ℕ) → count ≤ n → f n ≡ []) → IsReaching f count begun marks [] → (n : ℕ) → n < count → marked marks n ≡ is_among (reached f count begun) n
 marks_are f count begun marks none r n lt = same_test (marked marks n) (is_among (reached f count begun) n) (λ h. within_count f count begun none n lt (r.done n h)) back
   where
-    Kept : ℕ → Type 0
-    Kept m = (length marks ≤ m) ⊎ (marked marks m ≡ true)
-
-    settled : (m : ℕ) → IsSettled marks [] m → Kept m
-    settled m (inl e) = inl e
-    settled m (inr (inl e)) = inr e
-    settled m (inr (inr e)) = absurd cc
-
-    closed : (m : ℕ) → Kept m → (k : ℕ) → is_among (f m) k ≡ true → Kept k
-    closed m (inl past) k g = absurd (let c = r.count in let e = none m (omega (arith, past, c)) in let l : is_among [] k ≡ true = subst (λ (x : List ℕ). is_among x k ≡ true) e g in cc)
-    closed m (inr h) k g = settled k (r.closed m h k g)
-
     back : is_among (reached f count begun) n ≡ true → marked marks n ≡ true
-    back h = elim (stays f Kept closed count begun (λ m g. settled m (r.begun m g)) n h) as (λ _. marked marks n ≡ true) [
+    back h = elim (stays f (IsKept marks) (kept_closed f count begun marks none r) count begun (λ m g. kept_settled marks m (r.begun m g)) n h) as (λ _. marked marks n ≡ true) [
       | inl past ↦ absurd (let c = r.count in omega (arith, past, c, lt))
       | inr is ↦ is
     ]

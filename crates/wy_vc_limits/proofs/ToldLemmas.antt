@@ -13,7 +13,7 @@ use Rattle.wy_conditions.specs.Limits.{is_among, rising_among, tests_in_all, typ
 use Rattle.wy_conditions.specs.Limits as limits
 use Rattle.wy_conditions.specs.Numbered.{Node}
 use Rattle.wy_conditions.specs.Owed.{Owed}
-use Rattle.wy_conditions.specs.Values.{Setting}
+use Rattle.wy_conditions.specs.Values.{Setting, test_name}
 use Rattle.wy_vc_operations.specs.Growing.{AreBelow}
 use Rattle.wy_vc_shared.proofs.AmongLemmas.{among_cases, among_either}
 use Rattle.wy_vc_walk.specs.Numbered.{trees_of}
@@ -22,7 +22,7 @@ use Rattle.wy_vc_walk.specs.declared.goal.Goal.{Goal}
 use Rattle.wy_vc_limits.specs.Meanings.{AreMeanings, AreMeaningsFrom, IsMeaning, tests_at}
 use Rattle.wy_vc_limits.specs.Mentioned.{IsReaching, marked, reached}
 use Rattle.wy_vc_limits.specs.Told.{IsCond, IsEntry, Told, entries_by, entry_if, seen_cond, told}
-use Rattle.wy_vc_limits.specs.declared.meanings.Meaning.{Meaning}
+use Rattle.wy_vc_limits.specs.declared.unfolding.Meaning.{Meaning}
 use Rattle.wy_vc_limits.proofs.MeaningLemmas.{no_tests, reached_mentioned}
 use Rattle.wy_vc_limits.proofs.MentionedLemmas.{marks_are}
 
@@ -57,25 +57,24 @@ entries_within nodes s marks n (m ∷ ms) are = All-append (IsEntry nodes) (entr
     one true = All-cons (IsEntry nodes) (n, m.name, m.formula) [] (record { name = are.0.name.within; formula = are.0.formula.within }) (All-nil (IsEntry nodes))
     one false = All-nil (IsEntry nodes)
 
+abbrev entry_with : ℕ → Term → Term → Entry
+entry_with n t f = record { type_number = n; name = t; formula = f }
+
+one_entry : (nodes : List Plain) (s : Setting Node) (n : ℕ) (m : Meaning) → IsMeaning nodes s n m → entry_of nodes (n, m.name, m.formula) ≡ unfolded s n
+one_entry nodes s n m is = ap (λ (t : Term). entry_with n t (tree_at nodes m.formula)) is.name.is ∙ ap (λ (f : Term). entry_with n (test_name s n) f) is.formula.is
+
+entries_if : (nodes : List Plain) (s : Setting Node) (n : ℕ) (m : Meaning) (es : List (ℕ × ℕ × ℕ)) (ns : List ℕ) → IsMeaning nodes s n m → map (entry_of nodes) es ≡ map (unfolded s) ns
+    → (b : Bool) → map (entry_of nodes) (entry_if b n m ++ es) ≡ map (unfolded s) (if b then n ∷ ns else ns)
+entries_if nodes s n m es ns is rest true = ap (λ (x : Entry). x ∷ map (entry_of nodes) es) (one_entry nodes s n m is) ∙ ap (λ (xs : List Entry). unfolded s n ∷ xs) rest
+entries_if nodes s n m es ns is rest false = rest
+
 -- the types that are marked, with what their tests stand for, are those of the definition
 entries_are : (nodes : List Plain) (s : Setting Node) (marks : List Bool) (ns : List ℕ) (n : ℕ) (ms : List Meaning) → AreMeaningsFrom nodes s n ms → ((k : ℕ) → n ≤ k → k < n + length ms → marked marks k ≡ is_among ns k)
     → map (entry_of nodes) (entries_by marks n ms) ≡ map (unfolded s) (rising_among ns n (length ms))
 entries_are nodes s marks ns n [] are same = refl
 entries_are nodes s marks ns n (m ∷ ms) are same =
-    ap (λ (b : Bool). map (entry_of nodes) (entry_if b n m ++ entries_by marks (suc n) ms)) (same n (omega arith) (omega arith)) ∙ by (is_among ns n)
-  where
-    rest : map (entry_of nodes) (entries_by marks (suc n) ms) ≡ map (unfolded s) (rising_among ns (suc n) (length ms))
-    rest = entries_are nodes s marks ns (suc n) ms are.1 (λ k from below. same k (omega (arith, from)) (omega (arith, below)))
-
-    head : entry_of nodes (n, m.name, m.formula) ≡ unfolded s n
-    head = ap (λ (t : Term). one t (tree_at nodes m.formula)) are.0.name.is ∙ ap (λ (f : Term). one (limits.unfolded s n).name f) are.0.formula.is
-      where
-        one : Term → Term → Entry
-        one t f = record { type_number = n; name = t; formula = f }
-
-    by : (b : Bool) → map (entry_of nodes) (entry_if b n m ++ entries_by marks (suc n) ms) ≡ map (unfolded s) (if b then n ∷ rising_among ns (suc n) (length ms) else rising_among ns (suc n) (length ms))
-    by true = ap (λ (x : Entry). x ∷ map (entry_of nodes) (entries_by marks (suc n) ms)) head ∙ ap (λ (xs : List Entry). unfolded s n ∷ xs) rest
-    by false = rest
+    ap (λ (b : Bool). map (entry_of nodes) (entry_if b n m ++ entries_by marks (suc n) ms)) (same n (omega arith) (omega arith))
+    ∙ entries_if nodes s n m (entries_by marks (suc n) ms) (rising_among ns (suc n) (length ms)) are.0 (entries_are nodes s marks ns (suc n) ms are.1 (λ k from below. same k (omega (arith, from)) (omega (arith, below)))) (is_among ns n)
 
 -- ---- a goal
 

@@ -45,6 +45,6 @@ abbrev pub roots_of_entries : List (ℕ × ℕ × ℕ) → List ℕ
 roots_of_entries [] = []
 roots_of_entries (e ∷ es) = e.1 ∷ e.2 ∷ roots_of_entries es
 
--- the formulas and Val names of a condition
-abbrev pub roots_of : Cond → List ℕ
-roots_of c = c.hyps.items ++ (c.goal ∷ roots_of_entries c.unfold.list.items)
+-- the goal of a condition, and what its tests stand for
+abbrev pub roots_of_goal : Cond → List ℕ
+roots_of_goal c = c.goal ∷ roots_of_entries c.unfold.list.items

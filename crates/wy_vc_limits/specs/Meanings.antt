@@ -5,7 +5,7 @@ use Rattle.wy_term.specs.Numbers.{IsAt}
 use Rattle.wy_conditions.specs.Limits.{is_among, tests_in}
 use Rattle.wy_conditions.specs.Numbered.{Node}
 use Rattle.wy_conditions.specs.Values.{Setting, test_name, test_formula}
-use Rattle.wy_vc_limits.specs.declared.meanings.Meaning.{Meaning}
+use Rattle.wy_vc_limits.specs.declared.unfolding.Meaning.{Meaning}
 
 -- this is what the test of the named type stands for, and these are the types that it tests
 pub record IsMeaning (nodes : List Plain) (s : Setting Node) (n : ℕ) (m : Meaning) : Type 0 where

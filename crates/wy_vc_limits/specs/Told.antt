@@ -9,7 +9,7 @@ use Rattle.wy_conditions.specs.Owed.{Owed}
 use Rattle.wy_conditions.specs.Values.{Setting}
 use Rattle.wy_vc_operations.specs.Growing.{AreBelow}
 use Rattle.wy_vc_limits.specs.Mentioned.{marked}
-use Rattle.wy_vc_limits.specs.declared.meanings.Meaning.{Meaning}
+use Rattle.wy_vc_limits.specs.declared.unfolding.Meaning.{Meaning}
 
 -- a condition of a kind at a place
 pub record Told : Type 0 where

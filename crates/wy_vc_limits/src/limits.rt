@@ -1,5 +1,5 @@
 //! The limits of a list of conditions.
-ghost use Rattle.std.specs.Prelude.{◌≡◌, ◌++◌, ◌∷◌, [], ◌<◌, ℕ, suc, List, All, true, false, nat_lt, map, length as count_of, IfOk, OnOk};
+ghost use Rattle.std.specs.Prelude.{◌≡◌, ◌++◌, ◌∷◌, [], ◌<◌, ◌≤◌, ℕ, suc, List, All, true, false, nat_lt, take, drop, map, length as count_of, IfOk, OnOk};
 ghost use Rattle.wy_conditions.specs.Limits as limits;
 ghost use Rattle.wy_conditions.specs.Limits.{different, is_among, terms_in_all};
 ghost use Rattle.wy_term.specs.Nodes.{tree_at};
@@ -11,6 +11,7 @@ use std::alloc::{AllocError, Global};
 use std::collections::HashSet;
 use wy_term::{Cond, NoMemory, Terms};
 use wy_vc_shared::made_of_all;
+use wy_vc_sizes::total;
 
 /// The most conditions of a program.
 const MOST_CONDITIONS: usize = 16384;
@@ -82,11 +83,31 @@ fn how_many(terms: &Terms, seen: &Seen) -> usize
     seen.all.len()
 }
 
-// The formulas and Val names of a condition: its hypotheses, its goal, and what its tests stand for.
-fn roots_of(alloc: Global, cond: &Cond) -> Result<Vec<u32>, AllocError>
-    ensures value { IfOk result (λ ks. ks.items ≡ spec.roots_of cond.now) }
+// Of how many numbers both lists have the same front.
+fn shared_front(a: &[u32], b: &[u32]) -> usize
+    ensures same { take result a.now ≡ take result b.now }
 {
-    let mut roots = Vec::from_slice(alloc, cond.hyps.as_slice())?;
+    for (index, number) in a.iter().enumerate() {
+        if index >= b.len() {
+            return index;
+        }
+        if b[index] != *number {
+            return index;
+        }
+    }
+    a.len()
+}
+
+// The formulas and Val names of a condition, but for so many hypotheses: the others, its goal, and what its tests stand for.
+fn roots_behind(alloc: Global, cond: &Cond, front: usize) -> Result<Vec<u32>, AllocError>
+    ensures value { IfOk result (λ ks. ks.items ≡ drop front cond.now.hyps.items ++ spec.roots_of_goal cond.now) }
+{
+    let mut roots = Vec::new(alloc);
+    for (index, hyp) in cond.hyps.as_slice().iter().enumerate() {
+        if index >= front {
+            roots.push(*hyp)?;
+        }
+    }
     roots.push(cond.goal)?;
     for entry in cond.unfold.list.as_slice() {
         roots.push(entry.1)?;
@@ -95,14 +116,18 @@ fn roots_of(alloc: Global, cond: &Cond) -> Result<Vec<u32>, AllocError>
     Ok(roots)
 }
 
-// Sees the terms of a condition, and tells how many different ones it has.
-fn see_cond(terms: &Terms, seen: &mut Seen, cond: &Cond) -> Result<usize, NoMemory>
+// How many different terms a condition has, or a number that is no less where that is within the limit.
+fn bounded_count(terms: &Terms, cond: &Cond, guess: usize) -> Result<usize, NoMemory>
     requires within { IsCond terms.now cond.now }
-    ensures counted { (ts : List Term) → spec.IsCounted terms.now seen.old ts → OnOk result (spec.IsCounted terms.now seen.new (ts ++ spec.terms_told (seen_cond terms.now cond.now))) }
-    ensures count { IfOk result (λ n. n ≡ different (spec.terms_told (seen_cond terms.now cond.now))) }
+    ensures bound { different (spec.terms_told (seen_cond terms.now cond.now)) ≤ guess → IfOk result (λ n. different (spec.terms_told (seen_cond terms.now cond.now)) ≤ n) }
+    ensures over { different (spec.terms_told (seen_cond terms.now cond.now)) ≤ guess → IfOk result (λ n. nat_lt limits.most_terms n ≡ nat_lt limits.most_terms (different (spec.terms_told (seen_cond terms.now cond.now)))) }
 {
-    let roots = roots_of(terms.allocator(), cond)?;
-    see_made_of(terms, seen, roots.as_slice())
+    if guess <= MOST_TERMS {
+        return Ok(guess);
+    }
+    let roots = roots_behind(terms.allocator(), cond, 0)?;
+    let all = made_of_all(terms, roots.as_slice())?;
+    Ok(all.len())
 }
 
 // Too many terms in one, or in all up to it.
@@ -128,9 +153,11 @@ fn number_at(index: usize) -> u32
 }
 
 /// Which limit these conditions pass first, in their order: there are too many, or one of them has too many different terms and formulas, or
-/// it and those before it have. Those of its hypotheses, its goal, and what its tests of named types stand for are counted. It takes time
-/// linear in how many each condition has and their parts, each counted once.
-pub fn passing(terms: &Terms, conds: &[Cond]) -> Result<Passing, NoMemory>
+/// it and those before it have. Those of its hypotheses, its goal, and what its tests of named types stand for are counted.
+///
+/// Of a condition only what it doesn't share with the one before is counted, from the first hypothesis that differs, in time linear in what
+/// that is made of. Where the sum of these counts would pass a condition's limit, all that it has is counted anew.
+pub fn first_limit(terms: &Terms, conds: &[Cond]) -> Result<Passing, NoMemory>
     requires within { All (IsCond terms.now) conds.now }
     ensures value { IfOk result (λ p. spec.seen_passing p ≡ spec.passing_told [] 1 (map (seen_cond terms.now) conds.now)) }
 {
@@ -139,17 +166,26 @@ pub fn passing(terms: &Terms, conds: &[Cond]) -> Result<Passing, NoMemory>
         all: Vec::new(alloc),
         noted: HashSet::new(alloc),
     };
+    let mut last: &[u32] = &[];
+    let mut bound = 0;
     for (index, cond) in conds.iter().enumerate() {
         let many = are_too_many(index);
         if many {
             return Ok(Passing::TooMany);
         }
-        let one = see_cond(terms, &mut seen, cond)?;
+        let hyps = cond.hyps.as_slice();
+        let front = shared_front(last, hyps);
+        let roots = roots_behind(alloc, cond, front)?;
+        let added = see_made_of(terms, &mut seen, roots.as_slice())?;
+        let guess = total(bound, added)?;
+        let one = bounded_count(terms, cond, guess)?;
         let all = how_many(terms, &seen);
         let over = is_over(one, all);
         if over {
             return Ok(Passing::TooLarge(number_at(index)));
         }
+        last = hyps;
+        bound = one;
     }
     Ok(Passing::Within)
 }

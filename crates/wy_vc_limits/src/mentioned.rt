@@ -3,7 +3,7 @@ ghost use Rattle.std.specs.Prelude.{◌≡◌, ◌++◌, ◌∷◌, [], ℕ, fal
 ghost use Rattle.wy_vc_limits.specs.Meanings.{tests_at};
 ghost use Rattle.wy_vc_limits.specs.Mentioned as spec;
 
-use crate::meanings::Meaning;
+use crate::unfolding::Meaning;
 use std::alloc::{AllocError, Global};
 use wy_term::NoMemory;
 
@@ -64,11 +64,7 @@ fn no_marks(alloc: Global, count: usize) -> Result<Vec<bool>, AllocError>
 
 /// A mark for each named type that is one of these or is tested by a type that is marked. Linear in the types, and in what those that are
 /// marked test.
-pub fn mentioned(
-    alloc: Global,
-    meanings: &[Meaning],
-    begun: &[u32],
-) -> Result<Vec<bool>, NoMemory>
+pub fn mentioned(alloc: Global, meanings: &[Meaning], begun: &[u32]) -> Result<Vec<bool>, NoMemory>
     ensures count { IfOk result (λ marks. count_of marks.items ≡ count_of meanings.now) }
     ensures value { IfOk result (λ marks. spec.IsReaching (tests_at meanings.now) (count_of meanings.now) begun.now marks.items []) }
 {
