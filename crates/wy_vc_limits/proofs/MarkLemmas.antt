@@ -1,5 +1,7 @@
 -- Marks of numbers.
-use Rattle.std.proofs.Common.{◌≡◌, ◌<◌, ◌⊎◌, inl, inr, ℕ, zero, suc, Bool, true, false, List, [], ◌∷◌, ◌++◌, length, slice_set, slice_index_or, refl, sym, ◌∙◌, ap, subst, arith}
+use Rattle.std.proofs.Common.{◌≡◌, ◌<◌, ◌≤◌, ◌⊎◌, inl, inr, ℕ, zero, suc, Bool, true, false, List, [], ◌∷◌, ◌++◌, length, slice_set, slice_index_or, refl, sym, ◌∙◌, ap, subst, arith}
+use Rattle.std.specs.Prelude.{nat_le}
+use Rattle.std.proofs.lemmas.Bool.{both_ways, cases_lt, le-leb, leb-true}
 use Rattle.wy_vc_limits.specs.Mentioned.{marked}
 
 pub index_marked : (bs : List Bool) (n : ℕ) → slice_index_or bs n false ≡ marked bs n
@@ -42,3 +44,10 @@ pub marked_below : (bs : List Bool) (n : ℕ) → marked bs n ≡ true → n < l
 marked_below [] n h = absurd cc
 marked_below (b ∷ bs) zero h = omega arith
 marked_below (b ∷ bs) (suc n) h = let l = marked_below bs n h in omega (arith, l)
+
+-- a number that isn't past the marks is below their count
+pub not_past : (a b : ℕ) → nat_le a b ≡ false → b < a
+not_past a b e = elim (cases_lt b a) as (λ _. b < a) [ inl lt ↦ lt | inr past ↦ absurd (both_ways (nat_le a b) e (le-leb a b past)) ]
+
+pub is_past : (a b : ℕ) → nat_le a b ≡ true → a ≤ b
+is_past a b e = leb-true a b e

@@ -1,5 +1,5 @@
 -- What the tests of named types stand for.
-use Rattle.std.proofs.Common.{◌≡◌, ◌<◌, ◌≤◌, ◌+◌, ℕ, zero, suc, List, [], ◌∷◌, ◌++◌, length, map, true, refl, sym, ◌∙◌, ap, subst, arith, inl, inr}
+use Rattle.std.proofs.Common.{◌≡◌, ◌<◌, ◌≤◌, ◌+◌, ℕ, zero, suc, List, [], ◌∷◌, ◌++◌, length, map, slice_index_or, true, refl, sym, ◌∙◌, ap, subst, arith, inl, inr}
 use Rattle.std.proofs.lemmas.Bool.{cases_lt}
 use Rattle.std.proofs.lemmas.List.{append-nil}
 use Rattle.wy_core.specs.CoreTree.{Alias}
@@ -67,7 +67,7 @@ up_to_turn a b c s n ms ns m inv kept is pushed = subst (λ (l : List Meaning). 
   where
     length_push : (l : List Meaning) → length (l ++ m ∷ []) ≡ length l + 1
     length_push [] = refl
-    length_push (x ∷ l) = ap (λ (k : ℕ). suc k) (length_push l)
+    length_push (x ∷ l) = let r = length_push l in omega (arith, r)
 
 pub up_to_end : (a b : List Plain) (s : Setting Node) (n : ℕ) (ms : List Meaning) → n ≡ length s.types → IsMeaningUpTo a b s n ms → AreMeanings b s ms
 up_to_end a b s n ms all inv = record { count = inv.count ∙ all; are = inv.are }
@@ -100,6 +100,12 @@ at_past [] n past = refl
 at_past (m ∷ ms) zero past = absurd (omega (arith, past))
 at_past (m ∷ ms) (suc n) past = at_past ms n (omega (arith, past))
 
+-- a type tests what its meaning says
+pub tests_some : (ms : List Meaning) (n : ℕ) (m : Meaning) → n < length ms → m ≡ slice_index_or ms n m → m.tests.items ≡ tests_at ms n
+tests_some [] n m lt is = absurd (omega (arith, lt))
+tests_some (x ∷ ms) zero m lt is = ap (λ (y : Meaning). y.tests.items) is
+tests_some (x ∷ ms) (suc n) m lt is = tests_some ms n m (omega (arith, lt)) is
+
 pub no_tests : (ms : List Meaning) (n : ℕ) → length ms ≤ n → tests_at ms n ≡ []
 no_tests ms n past = at_past ms n past
 
@@ -110,7 +116,7 @@ tests_from nodes s base (m ∷ ms) (suc n) k are lt = let e : suc base + n ≡ b
 
 tests_are : (nodes : List Plain) (s : Setting Node) (ms : List Meaning) → AreMeanings nodes s ms → (n k : ℕ) → is_among (tests_at ms n) k ≡ is_among (tests_in (test_formula s n)) k
 tests_are nodes s ms are n k = elim (cases_lt n (length ms)) as (λ _. is_among (tests_at ms n) k ≡ is_among (tests_in (test_formula s n)) k) [
-  | inl lt ↦ tests_from nodes s 0 ms n k are.are lt
+  | inl lt ↦ let e : 0 + n ≡ n = omega arith in tests_from nodes s 0 ms n k are.are lt ∙ ap (λ (i : ℕ). is_among (tests_in (test_formula s i)) k) e
   | inr past ↦ ap (λ (l : List ℕ). is_among l k) (at_past ms n past) ∙ sym (ap (λ (l : List ℕ). is_among l k) (tests_past s n (let c = are.count in omega (arith, past, c))))
 ]
 

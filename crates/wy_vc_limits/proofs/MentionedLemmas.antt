@@ -71,7 +71,7 @@ settled_shift marks todo x n here (inr (inr e)) = elim (among_either todo (x ∷
 
 pub visited_before : (f : ℕ → List ℕ) (count : ℕ) (begun : List ℕ) (marks : List Bool) (todo : List ℕ) (x : ℕ) → (length marks ≤ x) ⊎ (marked marks x ≡ true) → IsReaching f count begun marks (todo ++ x ∷ []) → IsReaching f count begun marks todo
 visited_before f count begun marks todo x here r = record {
-  count = r.count;
+  whole = r.whole;
   done = r.done;
   left = λ n h. r.left n (among_left todo (x ∷ []) n h);
   begun = λ n h. settled_shift marks todo x n here (r.begun n h);
@@ -93,7 +93,7 @@ pub visited : (f : ℕ → List ℕ) (count : ℕ) (begun : List ℕ) (marks aft
     → IsReaching f count begun marks (todo ++ x ∷ []) → IsReaching f count begun after next
 visited f count begun marks after todo next more x lt after_is next_is more_is r =
     subst (λ (ms : List Bool). IsReaching f count begun ms next) (sym after_is) (subst (λ (l : List ℕ). IsReaching f count begun (slice_set marks x true) l) (sym next_is) (record {
-      count = set_length marks x true ∙ r.count;
+      whole = set_length marks x true ∙ r.whole;
       done = λ n h. elim (set_only marks x n h) as (λ _. IsReached f begun n) [ inl e ↦ subst (λ (m : ℕ). IsReached f begun m) e here | inr g ↦ r.done n g ];
       left = λ n h. elim (among_either todo more n h) as (λ _. IsReached f begun n) [
         | inl e ↦ r.left n (among_left todo (x ∷ []) n e)
@@ -113,7 +113,7 @@ visited f count begun marks after todo next more x lt after_is next_is more_is r
 
 pub begin_reaching : (f : ℕ → List ℕ) (count : ℕ) (begun todo : List ℕ) (marks : List Bool) → length marks ≡ count → ((n : ℕ) → marked marks n ≡ false) → todo ≡ begun → IsReaching f count begun marks todo
 begin_reaching f count begun todo marks length_is none is = subst (λ (l : List ℕ). IsReaching f count begun marks l) (sym is) (record {
-  count = length_is;
+  whole = length_is;
   done = λ n h. absurd (both_ways (marked marks n) (none n) h);
   left = λ n h. (0, h);
   begun = λ n h. inr (inr h);
@@ -209,7 +209,7 @@ kept_settled marks m (inr (inr e)) = absurd (let h : false ≡ true = e in cc)
 
 kept_closed : (f : ℕ → List ℕ) (count : ℕ) (begun : List ℕ) (marks : List Bool) → ((n : ℕ) → count ≤ n → f n ≡ []) → IsReaching f count begun marks [] → (m : ℕ) → IsKept marks m → (k : ℕ) → is_among (f m) k ≡ true → IsKept marks k
 kept_closed f count begun marks none r m (inl past) k g =
-    absurd (let c = r.count in let e = none m (omega (arith, past, c)) in let h : false ≡ true = subst (λ (x : List ℕ). is_among x k ≡ true) e g in cc)
+    absurd (let c = r.whole in let e = none m (omega (arith, past, c)) in let h : false ≡ true = subst (λ (x : List ℕ). is_among x k ≡ true) e g in cc)
 kept_closed f count begun marks none r m (inr h) k g = kept_settled marks k (r.closed m h k g)
 
 -- exactly the types that are reached are marked
@@ -218,6 +218,6 @@ marks_are f count begun marks none r n lt = same_test (marked marks n) (is_among
   where
     back : is_among (reached f count begun) n ≡ true → marked marks n ≡ true
     back h = elim (stays f (IsKept marks) (kept_closed f count begun marks none r) count begun (λ m g. kept_settled marks m (r.begun m g)) n h) as (λ _. marked marks n ≡ true) [
-      | inl past ↦ absurd (let c = r.count in omega (arith, past, c, lt))
+      | inl past ↦ absurd (let c = r.whole in omega (arith, past, c, lt))
       | inr is ↦ is
     ]

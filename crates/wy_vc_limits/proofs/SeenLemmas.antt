@@ -17,7 +17,6 @@ use Rattle.wy_vc_shared.specs.Listed.{AreApart, IsNamed}
 use Rattle.wy_vc_shared.proofs.AmongLemmas.{among_first, among_cases, among_left, among_right, among_either, has_first, has_cases, has_either, has_left, has_right}
 use Rattle.wy_vc_shared.proofs.CountLemmas.{apart_push, counted}
 use Rattle.wy_vc_shared.proofs.ListedLemmas.{OneEach, same_test}
-use Rattle.wy_vc_shared.proofs.TestedLemmas.{among_at}
 use Rattle.wy_vc_limits.proofs.DifferentLemmas.{IsWithin, different_both, different_within}
 use Rattle.wy_vc_limits.specs.Counted.{IsCounted, is_over, passing_told, roots_of_entries, roots_of_goal, terms_told}
 use Rattle.wy_vc_limits.specs.Told.{IsCond, IsEntry, Told, seen_cond}
@@ -109,28 +108,17 @@ IsSeeing nodes old new ks i = (ts : List Term) → IsCounted nodes old ts → Is
 pub seeing_begin : (nodes : List Plain) (seen : Seen) (ks : List ℕ) → IsSeeing nodes seen seen ks 0
 seeing_begin nodes seen ks = λ ts c. subst (λ (l : List Term). IsCounted nodes seen l) (sym (append-nil ts)) c
 
-pub seeing_turn : (nodes : List Plain) (a b c : Seen) (ks : List ℕ) (i k : ℕ) → i < length ks → k ≡ get_or ks i k → IsSeeing nodes a b ks i
-    → ((ts : List Term) → IsCounted nodes b ts → IsCounted nodes c (ts ++ tree_at nodes k ∷ [])) → IsSeeing nodes a c ks (i + 1)
-seeing_turn nodes a b c ks i k lt is inv one = λ ts counted.
-    let more : take (i + 1) ks ≡ take i ks ++ k ∷ [] = take_more ks i k lt ∙ ap (λ (j : ℕ). take i ks ++ j ∷ []) (sym is) in
+pub seeing_turn : (nodes : List Plain) (a b c : Seen) (ks : List ℕ) (i : ℕ) → i < length ks → IsSeeing nodes a b ks i
+    → ((ts : List Term) → IsCounted nodes b ts → IsCounted nodes c (ts ++ tree_at nodes (get_or ks i 0) ∷ [])) → IsSeeing nodes a c ks (i + 1)
+seeing_turn nodes a b c ks i lt inv one = λ ts counted.
+    let k = get_or ks i 0 in
+    let more : take (i + 1) ks ≡ take i ks ++ k ∷ [] = take_more ks i 0 lt in
     let trees : map (tree_at nodes) (take (i + 1) ks) ≡ map (tree_at nodes) (take i ks) ++ tree_at nodes k ∷ [] = ap (λ (l : List ℕ). map (tree_at nodes) l) more ∙ map-append (tree_at nodes) (take i ks) (k ∷ []) in
     subst (λ (l : List Term). IsCounted nodes c l) (append_assoc ts (map (tree_at nodes) (take i ks)) (tree_at nodes k ∷ []) ∙ ap (λ (l : List Term). ts ++ l) (sym trees))
     (one (ts ++ map (tree_at nodes) (take i ks)) (inv ts counted))
 
 pub seeing_end : (nodes : List Plain) (a b : Seen) (ks : List ℕ) (i : ℕ) → length ks ≤ i → IsSeeing nodes a b ks i → (ts : List Term) → IsCounted nodes a ts → IsCounted nodes b (ts ++ map (tree_at nodes) ks)
 seeing_end nodes a b ks i past inv ts c = subst (λ (l : List ℕ). IsCounted nodes b (ts ++ map (tree_at nodes) l)) (take_all i ks past) (inv ts c)
-
--- the number that comes next
-pub number_below : (n : ℕ) (ks : List ℕ) (i k : ℕ) → i < length ks → k ≡ get_or ks i k → ((j : ℕ) → is_among ks j ≡ true → j < n) → k < n
-number_below n ks i k lt is below = below k (subst (λ (j : ℕ). is_among ks j ≡ true) (same ∙ sym is) (among_at ks i lt))
-  where
-    same : get_or ks i 0 ≡ get_or ks i k
-    same = get_either ks i lt
-      where
-        get_either : (l : List ℕ) (j : ℕ) → j < length l → get_or l j 0 ≡ get_or l j k
-        get_either [] j less = absurd (omega (arith, less))
-        get_either (x ∷ l) zero less = refl
-        get_either (x ∷ l) (suc j) less = get_either l j (omega (arith, less))
 
 -- the terms of the roots, where their numbers are these
 pub made_seen : (nodes : List Plain) (seen : Seen) (ts us : List Term) (all : List ℕ)

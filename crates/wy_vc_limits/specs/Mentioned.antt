@@ -28,7 +28,7 @@ IsReached f begun n = (j : ℕ) × (is_among (reached f j begun) n ≡ true)
 
 -- what is marked is reached, and what is reached from there is marked or is still to be
 pub record IsReaching (f : ℕ → List ℕ) (count : ℕ) (begun : List ℕ) (marks : List Bool) (todo : List ℕ) : Type 0 where
-  pub count : length marks ≡ count
+  pub whole : length marks ≡ count
   pub done : (n : ℕ) → marked marks n ≡ true → IsReached f begun n
   pub left : (n : ℕ) → is_among todo n ≡ true → IsReached f begun n
   pub begun : (n : ℕ) → is_among begun n ≡ true → IsSettled marks todo n

@@ -2,7 +2,7 @@
 ghost use Rattle.std.specs.Prelude.{◌≡◌, ◌++◌, ◌∷◌, [], ◌<◌, ◌≤◌, ℕ, suc, List, All, true, false, nat_lt, take, drop, map, length as count_of, IfOk, OnOk};
 ghost use Rattle.wy_conditions.specs.Limits as limits;
 ghost use Rattle.wy_conditions.specs.Limits.{different, is_among, terms_in_all};
-ghost use Rattle.wy_term.specs.Nodes.{tree_at};
+ghost use Rattle.wy_term.specs.Nodes.{Plain, tree_at};
 ghost use Rattle.wy_term.specs.Term.{Term};
 ghost use Rattle.wy_vc_limits.specs.Counted as spec;
 ghost use Rattle.wy_vc_limits.specs.Told.{IsCond, seen_cond};
@@ -37,6 +37,15 @@ pub enum Passing {
 pub struct Seen {
     all: Vec<u32>,
     noted: HashSet<u32>,
+}
+
+// Nothing was seen.
+fn nothing_seen(alloc: Global) -> Seen
+    ensures value { (nodes : List Plain) → spec.IsCounted nodes result [] }
+{
+    let all = Vec::new(alloc);
+    let noted = HashSet::new(alloc);
+    Seen { all, noted }
 }
 
 // Sees a term.
@@ -162,10 +171,7 @@ pub fn first_limit(terms: &Terms, conds: &[Cond]) -> Result<Passing, NoMemory>
     ensures value { IfOk result (λ p. spec.seen_passing p ≡ spec.passing_told [] 1 (map (seen_cond terms.now) conds.now)) }
 {
     let alloc = terms.allocator();
-    let mut seen = Seen {
-        all: Vec::new(alloc),
-        noted: HashSet::new(alloc),
-    };
+    let mut seen = nothing_seen(alloc);
     let mut last: &[u32] = &[];
     let mut bound = 0;
     for (index, cond) in conds.iter().enumerate() {

@@ -1,5 +1,5 @@
 //! The named types that are mentioned, by a list of what is still to be marked.
-ghost use Rattle.std.specs.Prelude.{◌≡◌, ◌++◌, ◌∷◌, [], ℕ, false, length as count_of, IfOk, OnOk};
+ghost use Rattle.std.specs.Prelude.{◌≡◌, ◌++◌, ◌∷◌, [], ◌<◌, ℕ, true, false, nat_le, slice_set, length as count_of, IfOk, OnOk};
 ghost use Rattle.wy_vc_limits.specs.Meanings.{tests_at};
 ghost use Rattle.wy_vc_limits.specs.Mentioned as spec;
 
@@ -27,6 +27,21 @@ fn tests_of(meanings: &[Meaning], number: usize) -> &[u32]
     }
 }
 
+// Whether there is no mark for the number.
+fn is_past(marks: &[bool], number: usize) -> bool
+    ensures value { result ≡ nat_le (count_of marks.now) number }
+{
+    marks.len() <= number
+}
+
+// The number has a mark from now on.
+fn set_mark(marks: &mut Vec<bool>, number: usize)
+    requires { number < count_of marks.old.items }
+    ensures value { marks.new.items ≡ slice_set marks.old.items number true }
+{
+    marks[number] = true;
+}
+
 // Marks this type, which was to be marked, and then those that it tests are to be marked. What is no type has no mark.
 fn visit(
     meanings: &[Meaning],
@@ -39,15 +54,17 @@ fn visit(
     ensures reaching { OnOk result (spec.IsReaching (tests_at meanings.now) (count_of meanings.now) _begun.now marks.new.items todo.new.items) }
 {
     let index = number as usize;
-    if index >= marks.len() {
+    let past = is_past(marks.as_slice(), index);
+    if past {
         return Ok(());
     }
     let known = is_marked(marks.as_slice(), index);
     if known {
         return Ok(());
     }
-    marks[index] = true;
-    todo.extend_from_slice(tests_of(meanings, index))
+    set_mark(marks, index);
+    todo.extend_from_slice(tests_of(meanings, index))?;
+    Ok(())
 }
 
 // None of so many is marked.
@@ -56,7 +73,7 @@ fn no_marks(alloc: Global, count: usize) -> Result<Vec<bool>, AllocError>
     ensures none { IfOk result (λ marks. (n : ℕ) → spec.marked marks.items n ≡ false) }
 {
     let mut marks = Vec::new(alloc);
-    for _number in 0..count {
+    for number in 0..count {
         marks.push(false)?;
     }
     Ok(marks)

@@ -6,8 +6,8 @@ use Rattle.wy_vc_limits.proofs.telling.told_all.Goals as goal
 pub loop-goal-init : goal.loop-goal-init
 loop-goal-init c = (c.requires.goals, λ s are. telling_begin c.args.terms.now s c.args.goals.items c.new-list.result.items c.new-list.ensures.items)
 
-pub told-requires-clause-goal : goal.told-requires-clause-goal
-told-requires-clause-goal c = (goal_at c.args.terms.now c.loop-goal.left.items c.pop.new.self.items c.in-Some.goal c.in-Some.ensures.items c.loop-goal.invariant.0).0
+pub told-requires : goal.told-requires
+told-requires c = record { goal = (goal_at c.args.terms.now c.loop-goal.left.items c.pop.new.self.items c.in-Some.goal c.in-Some.ensures.items c.loop-goal.invariant.0).0 }
 
 pub loop-goal-preserved : goal.loop-goal-preserved
 loop-goal-preserved c = (

@@ -7,7 +7,7 @@ use Rattle.wy_vc_limits.proofs.ToldLemmas.{AreTold}
 use Rattle.wy_vc_limits.proofs.telling.told_all.Given as goal
 
 abbrev pub invariant-loop-goal : goal.invariant-loop-goal
-invariant-loop-goal l = All (IsGoal l.terms) l.left.items × ((s : Setting Node) → AreMeanings l.terms s l.meanings → AreTold l.terms s l.left.items l.list.items l.goals.items)
+invariant-loop-goal l = All (IsGoal l.terms) l.left.items × ((s : Setting Node) → AreMeanings l.terms s l.meanings → AreTold l.terms s l.left.items l.list.items l.fn.goals.items)
 
 abbrev pub decreases-loop-goal : goal.decreases-loop-goal
 decreases-loop-goal l = length l.left.items

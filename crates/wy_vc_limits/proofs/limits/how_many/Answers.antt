@@ -1,0 +1,6 @@
+use Rattle.std.proofs.Common.{◌∙◌}
+use Rattle.wy_vc_limits.proofs.SeenLemmas.{seen_count}
+use Rattle.wy_vc_limits.proofs.limits.how_many.Goals as goal
+
+pub returns : goal.returns
+returns c = record { value = λ ts counted. c.len.ensures ∙ seen_count c.args.terms.now c.args.seen.now ts c.one_number_for_each_term.ensures.one counted }
