@@ -1,14 +1,17 @@
 -- One declaration after the other.
-use Rattle.std.proofs.Common.{◌≡◌, ◌<◌, ◌≤◌, ◌+◌, ℕ, List, [], ◌∷◌, ◌++◌, length, drop, get_or, map, refl, sym, ◌∙◌, ap, subst}
+use Rattle.std.proofs.Common.{◌≡◌, ◌<◌, ◌≤◌, ◌+◌, ℕ, List, [], ◌∷◌, ◌++◌, length, drop, get_or, map, refl, sym, ◌∙◌, ap, subst, arith}
 use Rattle.std.proofs.lemmas.List.{append-nil, append_assoc, drop_all}
-use Rattle.wy_core.specs.CoreSeen.{seen_decl, seen_exprs, seen_routine}
+use Rattle.wy_core.specs.CoreSeen.{seen_alias, seen_block, seen_decl, seen_exprs, seen_routine}
 use Rattle.wy_core.specs.CoreTree as tree
+use Rattle.wy_core.specs.declared.declarations.Alias.{Alias}
 use Rattle.wy_core.specs.declared.declarations.Decl.{Decl}
 use Rattle.wy_core.specs.declared.declarations.Routine.{Routine}
+use Rattle.wy_core.specs.declared.expressions.Expr as e
+use Rattle.wy_core.specs.declared.statements.Stmt as st
 use Rattle.wy_conditions.specs.Numbered.{Node, exprs_in_decl, numbered_decl, numbered_decls, numbered_routine}
 use Rattle.wy_conditions.specs.Owed.{Owed}
 use Rattle.wy_conditions.specs.Programs.{decl_conditions, decls_conditions}
-use Rattle.wy_conditions.specs.Sizes.{exprs_in_list}
+use Rattle.wy_conditions.specs.Sizes.{exprs_in_block, exprs_in_list}
 use Rattle.wy_conditions.specs.Walks as walks
 use Rattle.wy_vc_operations.specs.Growing.{Kept}
 use Rattle.wy_vc_walk.specs.State.{IsSound, owed_of}
@@ -29,6 +32,20 @@ called_here routine first before between after last c is_first is_after is_last 
   ensures_from = is_after ∙ after_is ∙ ap (λ (n : ℕ). first + n) pre_is ∙ ap (λ (k : ℕ). k + exprs_in_list (seen_exprs routine.preconditions)) (sym is_first);
   body_from = is_last ∙ last_is ∙ ap (λ (n : ℕ). after + n) post_is ∙ ap (λ (k : ℕ). k + exprs_in_list (seen_exprs routine.postconditions)) (sym is_after);
 }
+
+-- the number behind a function or method
+pub next_routine : (routine : Routine) (first next inside : ℕ) (c : Called) (block : List st.Stmt) → IsCalled (numbered_routine (seen_routine routine) first) routine c → c.preconditions ≡ first → block ≡ routine.body → inside ≡ exprs_in_block (seen_block block) → next ≡ c.body + inside
+    → next ≡ first + exprs_in_decl (tree.RoutineDecl (seen_routine routine))
+next_routine routine first next inside c block is first_is same inside_is next_is =
+    sum first next inside c.preconditions c.postconditions c.body (exprs_in_list (seen_exprs routine.preconditions)) (exprs_in_list (seen_exprs routine.postconditions)) (exprs_in_block (seen_block routine.body)) first_is is.ensures_from is.body_from
+    (inside_is ∙ ap (λ (b : List st.Stmt). exprs_in_block (seen_block b)) same) next_is
+  where
+    sum : (a n i p q b x y z : ℕ) → p ≡ a → q ≡ p + x → b ≡ q + y → i ≡ z → n ≡ b + i → n ≡ a + (x + y + z)
+    sum a n i p q b x y z e f g h j = omega (arith, e, f, g, h, j)
+
+-- the number behind a declared type
+pub next_alias : (alias : Alias) (first next inside : ℕ) (clauses : List e.Expr) → clauses ≡ alias.clauses → inside ≡ exprs_in_list (seen_exprs clauses) → next ≡ first + inside → next ≡ first + exprs_in_decl (tree.AliasDecl (seen_alias alias))
+next_alias alias first next inside clauses same inside_is next_is = next_is ∙ ap (λ (n : ℕ). first + n) (inside_is ∙ ap (λ (es : List e.Expr). exprs_in_list (seen_exprs es)) same)
 
 -- so much was owed, and with what is left it is all
 pub record IsOwing (p : walks.Program Node) (a b : Walk) (ds : List Decl) (k : ℕ) (all : List Owed) : Type 0 where

@@ -1,6 +1,6 @@
 //! What the declarations of a program owe.
-ghost use Rattle.std.specs.Prelude.{◌≡◌, ◌+◌, IfOk, OnOk};
-ghost use Rattle.wy_conditions.specs.Numbered.{exprs_in_decl, numbered_core, numbered_decl, numbered_routine};
+ghost use Rattle.std.specs.Prelude.{◌≡◌, ◌+◌, map, IfOk, OnOk};
+ghost use Rattle.wy_conditions.specs.Numbered.{exprs_in_decl, numbered_core, numbered_decl, numbered_decls, numbered_routine};
 ghost use Rattle.wy_conditions.specs.Programs as spec;
 ghost use Rattle.wy_core.specs.CoreSeen.{seen_alias, seen_core, seen_decl, seen_routine};
 ghost use Rattle.wy_core.specs.CoreTree as tree;
@@ -52,7 +52,8 @@ fn owe_alias(
 {
     owe_type(alloc, core, program, walk, alias, first)?;
     let inside = exprs_in_list(alias.clauses.as_slice())?;
-    Ok(total(first, inside)?)
+    let next = total(first, inside)?;
+    Ok(next)
 }
 
 // What a function or method owes, and the number of the first expression behind it.
@@ -74,7 +75,8 @@ fn owe_routine(
     owe_contract(alloc, core, program, walk, routine, first)?;
     owe_body(alloc, core, program, walk, routine, called)?;
     let inside = exprs_in_block(routine.body.as_slice())?;
-    Ok(total(called.body, inside)?)
+    let next = total(called.body, inside)?;
+    Ok(next)
 }
 
 // What a declaration owes, and the number of the first expression behind it.
@@ -100,6 +102,25 @@ fn owe_declaration(
     }
 }
 
+// What these declarations owe, the first of whose expressions has the number 0.
+fn owe_all(
+    alloc: Global,
+    core: &Core,
+    program: &Program,
+    walk: &mut Walk,
+    decls: &[Decl],
+) -> Result<(), NoMemory>
+    requires described { IsDescribed core.now program.now }
+    requires sound { IsSound walk.old }
+    ensures value { OnOk result (Owes walk.old walk.new (spec.decls_conditions (program_of core.now program.now) (numbered_decls (map seen_decl decls.now) 0))) }
+{
+    let mut first = 0;
+    for (number, decl) in decls.iter().enumerate() {
+        first = owe_declaration(alloc, core, program, walk, decl, number, first)?;
+    }
+    Ok(())
+}
+
 /// What the declarations of a program owe, behind what is owed already: of each in order of the source what its clauses owe, and then its
 /// body. Hypotheses of a goal are those of the path to it, and are copied for each; all else is linear in the program, in what its clauses
 /// come to where they are used, and in the terms made.
@@ -113,9 +134,5 @@ pub fn owe_declarations(
     requires sound { IsSound walk.old }
     ensures value { OnOk result (Owes walk.old walk.new (spec.decls_conditions (program_of core.now program.now) (numbered_core (seen_core core.now)))) }
 {
-    let mut first = 0;
-    for (number, decl) in core.decls.as_slice().iter().enumerate() {
-        first = owe_declaration(alloc, core, program, walk, decl, number, first)?;
-    }
-    Ok(())
+    owe_all(alloc, core, program, walk, core.decls.as_slice())
 }

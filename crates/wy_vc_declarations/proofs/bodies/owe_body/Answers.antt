@@ -43,8 +43,8 @@ owe_end-requires-clause-frame c =
 pub owe_end-requires-clause-sound : goal.owe_end-requires-clause-sound
 owe_end-requires-clause-sound c = c.in_ok-end.ensures.value.sound
 
-pub returns-clause-value : goal.returns-clause-value
-returns-clause-value c =
+pub returns : goal.returns
+returns c =
     let b = c.assume_clauses.new.walk in
     let d : Walk = record b { maker = record b.maker { node = c.args.called.body } } in
     let frame : Frame = record { core = c.args.core; program = c.args.program; routine = c.args.routine; called = c.args.called; types = c.in_ok-types.types; entry = c.assume_clauses.new.vars } in
@@ -55,8 +55,10 @@ returns-clause-value c =
       entry = entry_on _ _ _ _ _ _ _ (c.in_ok-here.ensures.value 0) c.in_ok-assume_clauses.ensures.value same;
     } in
     let went = c.in_ok-end.ensures.value in
-    on_ok c.owe_end.result _ _ (c.owe_end.ensures.value _ went.ends)
-    (λ s. body_owes frame c.args.walk.now c.begin.new.walk c.enter.new.walk b d c.exec_body.new.walk c.owe_end.new.walk c.in_ok-here.here c.in_ok-end.end c.in_ok-entry.entry.items c.as_slice-words.result.now c.as_slice-clauses.result.now c.as_slice-2.result.now
-    c.as_slice-words.ensures c.as_slice-clauses.ensures (c.in_ok-entry.ensures.items ∙ c.as_slice.ensures.value) same c.as_slice-2.ensures
-    c.begin.ensures.terms c.begin.ensures.owed c.begin.ensures.node (c.in_ok-here.ensures.value c.args.called.preconditions) c.in_ok-here.ensures.node c.in_ok-assume_clauses.ensures.value
-    refl refl refl refl refl is_frame c.in_ok-types.ensures.value went s)
+    record {
+      value = on_ok c.owe_end.result _ _ (c.owe_end.ensures.value _ went.ends)
+          (λ s. body_owes frame c.args.walk.now c.begin.new.walk c.enter.new.walk b d c.exec_body.new.walk c.owe_end.new.walk c.in_ok-here.here c.in_ok-end.end c.in_ok-entry.entry.items c.as_slice-words.result.now c.as_slice-clauses.result.now c.as_slice-2.result.now
+          c.as_slice-words.ensures c.as_slice-clauses.ensures (c.in_ok-entry.ensures.items ∙ c.as_slice.ensures.value) same c.as_slice-2.ensures
+          c.begin.ensures.terms c.begin.ensures.owed c.begin.ensures.node (c.in_ok-here.ensures.value c.args.called.preconditions) c.in_ok-here.ensures.node c.in_ok-assume_clauses.ensures.value
+          refl refl refl refl refl is_frame c.in_ok-types.ensures.value went s);
+    }

@@ -8,12 +8,14 @@ use Rattle.wy_vc_declarations.specs.Entering.{Owes}
 use Rattle.wy_vc_declarations.proofs.OwingLemmas.{owes_nothing}
 use Rattle.wy_vc_declarations.proofs.types.owe_type.Goals as goal
 
-pub returns-in-None-clause-value : goal.returns-in-None-clause-value
-returns-in-None-clause-value c =
+pub returns-in-None : goal.returns-in-None
+returns-in-None c =
     let a = c.args.walk.now in
-    subst (λ (x : Option ℕ). Owes a a (alias_conditions (program_of c.args.core.now c.args.program.now) (numbered_alias (seen_alias c.args.alias.now) c.args.first) x)) (sym c.in-None.is) (owes_nothing a c.requires.sound)
+    record { value = subst (λ (x : Option ℕ). Owes a a (alias_conditions (program_of c.args.core.now c.args.program.now) (numbered_alias (seen_alias c.args.alias.now) c.args.first) x)) (sym c.in-None.is) (owes_nothing a c.requires.sound) }
 
-pub returns-in-Some-clause-value : goal.returns-in-Some-clause-value
-returns-in-Some-clause-value c =
-    on_ok c.owe_type_clauses.result _ _ c.owe_type_clauses.ensures.value
-    (λ s. subst (λ (x : Option ℕ). Owes c.args.walk.now c.owe_type_clauses.new.walk (alias_conditions (program_of c.args.core.now c.args.program.now) (numbered_alias (seen_alias c.args.alias.now) c.args.first) x)) (sym c.in-Some.is) s)
+pub returns-in-Some : goal.returns-in-Some
+returns-in-Some c =
+    record {
+      value = on_ok c.owe_type_clauses.result _ _ c.owe_type_clauses.ensures.value
+          (λ s. subst (λ (x : Option ℕ). Owes c.args.walk.now c.owe_type_clauses.new.walk (alias_conditions (program_of c.args.core.now c.args.program.now) (numbered_alias (seen_alias c.args.alias.now) c.args.first) x)) (sym c.in-Some.is) s);
+    }

@@ -1,4 +1,5 @@
-use Rattle.std.proofs.Common.{◌≡◌, ◌≤◌, ◌<◌, ◌++◌, ◌∙◌, ℕ, List, Bool, nat_le, length, inl, inr, sym, ap, subst, rules}
+use Rattle.std.proofs.Common.{◌≡◌, ◌≤◌, ◌<◌, ◌++◌, ◌∙◌, ℕ, List, Bool, length, inl, inr, sym, ap, subst, rules}
+use Rattle.std.specs.Prelude.{nat_le}
 use Rattle.wy_vc_limits.specs.Meanings.{tests_at}
 use Rattle.wy_vc_limits.specs.Mentioned.{marked}
 use Rattle.wy_vc_limits.proofs.MarkLemmas.{is_past, not_past}

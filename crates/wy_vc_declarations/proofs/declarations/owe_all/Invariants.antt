@@ -4,8 +4,7 @@ use Rattle.wy_conditions.specs.Numbered.{numbered_decls}
 use Rattle.wy_conditions.specs.Programs.{decls_conditions}
 use Rattle.wy_vc_actions.specs.Frames.{program_of}
 use Rattle.wy_vc_declarations.proofs.DeclarationLemmas.{IsOwing}
-use Rattle.wy_vc_declarations.proofs.declarations.owe_declarations.Given as goal
+use Rattle.wy_vc_declarations.proofs.declarations.owe_all.Given as goal
 
 abbrev pub invariant-loop-number : goal.invariant-loop-number
-invariant-loop-number l =
-    IsOwing (program_of l.core l.program) l.fn.walk l.walk (drop l.number l.core.decls) l.first (decls_conditions (program_of l.core l.program) (numbered_decls (map seen_decl l.core.decls) 0))
+invariant-loop-number l = IsOwing (program_of l.core l.program) l.fn.walk l.walk (drop l.number l.decls) l.first (decls_conditions (program_of l.core l.program) (numbered_decls (map seen_decl l.decls) 0))
