@@ -1,5 +1,5 @@
 -- Marks of numbers.
-use Rattle.std.proofs.Common.{◌≡◌, ◌<◌, ◌≤◌, ◌⊎◌, inl, inr, ℕ, zero, suc, Bool, true, false, List, [], ◌∷◌, ◌++◌, length, slice_set, slice_index_or, refl, sym, ◌∙◌, ap, subst, arith}
+use Rattle.std.proofs.Common.{◌≡◌, ◌<◌, ◌≤◌, ◌⊎◌, inl, inr, ℕ, zero, suc, ◌+◌, Bool, true, false, List, [], ◌∷◌, ◌++◌, length, slice_set, slice_index_or, refl, sym, ◌∙◌, ap, subst, arith}
 use Rattle.std.specs.Prelude.{nat_le}
 use Rattle.std.proofs.lemmas.Bool.{both_ways, cases_lt, le-leb, leb-true}
 use Rattle.wy_vc_limits.specs.Mentioned.{marked}
@@ -39,6 +39,16 @@ push_none [] none zero = refl
 push_none [] none (suc n) = refl
 push_none (b ∷ bs) none zero = none 0
 push_none (b ∷ bs) none (suc n) = push_none bs (λ m. none (suc m)) n
+
+pushed_length : (bs : List Bool) → length (bs ++ false ∷ []) ≡ length bs + 1
+pushed_length [] = refl
+pushed_length (b ∷ bs) = let r = pushed_length bs in omega (arith, r)
+
+pub none_pushed : (bs new : List Bool) (k : ℕ) → new ≡ bs ++ false ∷ [] → (length bs ≡ k) × ((n : ℕ) → marked bs n ≡ false) → (length new ≡ k + 1) × ((n : ℕ) → marked new n ≡ false)
+none_pushed bs new k is inv = (
+  ap (λ (l : List Bool). length l) is ∙ pushed_length bs ∙ ap (λ (j : ℕ). j + 1) inv.0,
+  λ n. ap (λ (l : List Bool). marked l n) is ∙ push_none bs inv.1 n,
+)
 
 pub marked_below : (bs : List Bool) (n : ℕ) → marked bs n ≡ true → n < length bs
 marked_below [] n h = absurd cc

@@ -62,7 +62,7 @@ pub up_to_turn : (a b c : List Plain) (s : Setting Node) (n : ℕ) (ms ns : List
 up_to_turn a b c s n ms ns m inv kept is pushed = subst (λ (l : List Meaning). IsMeaningUpTo a c s (n + 1) l) (sym pushed) (record {
   kept = kept_on a b c inv.kept kept;
   count = length_push ms ∙ ap (λ (k : ℕ). k + 1) inv.count;
-  are = meanings_push c s 0 ms m (meanings_on b c s 0 ms kept inv.are) (subst (λ (k : ℕ). IsMeaning c s k m) (sym inv.count) is);
+  are = meanings_push c s 0 ms m (meanings_on b c s 0 ms kept inv.are) (let e : length ms ≡ 0 + length ms = omega arith in subst (λ (k : ℕ). IsMeaning c s k m) (sym inv.count ∙ e) is);
 })
   where
     length_push : (l : List Meaning) → length (l ++ m ∷ []) ≡ length l + 1

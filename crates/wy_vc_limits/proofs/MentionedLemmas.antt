@@ -74,7 +74,7 @@ visited_before f count begun marks todo x here r = record {
   whole = r.whole;
   done = r.done;
   left = λ n h. r.left n (among_left todo (x ∷ []) n h);
-  begun = λ n h. settled_shift marks todo x n here (r.begun n h);
+  starts = λ n h. settled_shift marks todo x n here (r.starts n h);
   closed = λ n h k g. settled_shift marks todo x k here (r.closed n h k g);
 }
 
@@ -99,7 +99,7 @@ visited f count begun marks after todo next more x lt after_is next_is more_is r
         | inl e ↦ r.left n (among_left todo (x ∷ []) n e)
         | inr e ↦ (suc here.0, reached_step f here.0 begun x n here.1 (subst (λ (l : List ℕ). is_among l n ≡ true) more_is e))
       ];
-      begun = λ n h. settled_on marks todo more x n lt (r.begun n h);
+      starts = λ n h. settled_on marks todo more x n lt (r.starts n h);
       closed = λ n h k g. elim (set_only marks x n h) as (λ _. IsSettled (slice_set marks x true) (todo ++ more) k) [
         | inl e ↦ inr (inr (among_right todo more k (subst (λ (l : List ℕ). is_among l k ≡ true) (sym more_is) (subst (λ (m : ℕ). is_among (f m) k ≡ true) (sym e) g))))
         | inr m ↦ settled_on marks todo more x k lt (r.closed n m k g)
@@ -116,7 +116,7 @@ begin_reaching f count begun todo marks length_is none is = subst (λ (l : List 
   whole = length_is;
   done = λ n h. absurd (both_ways (marked marks n) (none n) h);
   left = λ n h. (0, h);
-  begun = λ n h. inr (inr h);
+  starts = λ n h. inr (inr h);
   closed = λ n h k g. absurd (both_ways (marked marks n) (none n) h);
 })
 
@@ -217,7 +217,7 @@ pub marks_are : (f : ℕ → List ℕ) (count : ℕ) (begun : List ℕ) (marks :
 marks_are f count begun marks none r n lt = same_test (marked marks n) (is_among (reached f count begun) n) (λ h. within_count f count begun none n lt (r.done n h)) back
   where
     back : is_among (reached f count begun) n ≡ true → marked marks n ≡ true
-    back h = elim (stays f (IsKept marks) (kept_closed f count begun marks none r) count begun (λ m g. kept_settled marks m (r.begun m g)) n h) as (λ _. marked marks n ≡ true) [
+    back h = elim (stays f (IsKept marks) (kept_closed f count begun marks none r) count begun (λ m g. kept_settled marks m (r.starts m g)) n h) as (λ _. marked marks n ≡ true) [
       | inl past ↦ absurd (let c = r.whole in omega (arith, past, c, lt))
       | inr is ↦ is
     ]

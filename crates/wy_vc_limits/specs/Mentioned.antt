@@ -31,5 +31,5 @@ pub record IsReaching (f : ℕ → List ℕ) (count : ℕ) (begun : List ℕ) (m
   pub whole : length marks ≡ count
   pub done : (n : ℕ) → marked marks n ≡ true → IsReached f begun n
   pub left : (n : ℕ) → is_among todo n ≡ true → IsReached f begun n
-  pub begun : (n : ℕ) → is_among begun n ≡ true → IsSettled marks todo n
+  pub starts : (n : ℕ) → is_among begun n ≡ true → IsSettled marks todo n
   pub closed : (n : ℕ) → marked marks n ≡ true → (k : ℕ) → is_among (f n) k ≡ true → IsSettled marks todo k

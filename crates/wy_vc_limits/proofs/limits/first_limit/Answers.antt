@@ -8,21 +8,21 @@ loop-index-init c = passing_begin c.args.terms.now c.nothing_seen-seen.result _ 
 
 pub returns-then-many : goal.returns-then-many
 returns-then-many c = record {
-  value = passing_many c.args.terms.now c.loop-index.seen c.loop-index.last c.loop-index.bound c.args.conds.now c.loop-index.index c.cond-item.result _ c.loop-index-test.true c.cond-item.is (sym c.are_too_many-many.ensures.value ∙ c.if-many.true) c.loop-index.invariant;
+  value = passing_many c.args.terms.now c.loop-index.seen c.loop-index.last.now c.loop-index.bound c.args.conds.now c.loop-index.index c.index-conds-index.result _ c.loop-index-test.true c.index-conds-index.is (sym c.are_too_many-many.ensures.value ∙ c.if-many.true) c.loop-index.invariant;
 }
 
 pub see_made_of-requires : goal.see_made_of-requires
 see_made_of-requires c = record {
-  within = roots_below c.args.terms.now c.cond-item.result c.shared_front-front.result c.as_slice.result.now (cond_at c.args.terms.now c.args.conds.now c.loop-index.index c.cond-item.result c.loop-index-test.true c.cond-item.is c.requires.within)
+  within = roots_below c.args.terms.now c.index-conds-index.result c.shared_front-front.result c.as_slice.result.now (cond_at c.args.terms.now c.args.conds.now c.loop-index.index c.index-conds-index.result c.loop-index-test.true c.index-conds-index.is c.requires.within)
       (c.as_slice.ensures.value ∙ c.in_ok-roots.ensures.value);
 }
 
 pub bounded_count-requires : goal.bounded_count-requires
-bounded_count-requires c = record { within = cond_at c.args.terms.now c.args.conds.now c.loop-index.index c.cond-item.result c.loop-index-test.true c.cond-item.is c.requires.within }
+bounded_count-requires c = record { within = cond_at c.args.terms.now c.args.conds.now c.loop-index.index c.index-conds-index.result c.loop-index-test.true c.index-conds-index.is c.requires.within }
 
 pub returns-then-over : goal.returns-then-over
 returns-then-over c =
-    let k : HasCounted c.args.terms.now c.loop-index.seen c.see_made_of.new.seen c.cond-item.result c.loop-index.last c.loop-index.bound c.in_ok-one.one c.how_many-all.result c.is_over-over.result = record {
+    let k : HasCounted c.args.terms.now c.loop-index.seen c.see_made_of.new.seen c.index-conds-index.result c.loop-index.last.now c.loop-index.bound c.in_ok-one.one c.how_many-all.result c.is_over-over.result = record {
       front = c.shared_front-front.result;
       roots = c.as_slice.result.now;
       added = c.in_ok-added.added;
@@ -39,13 +39,13 @@ returns-then-over c =
     } in
     record {
       value = ap (λ (n : ℕ). limits.TooLarge n) c.number_at.ensures.value
-          ∙ passing_large c.args.terms.now c.loop-index.seen c.see_made_of.new.seen c.args.conds.now c.loop-index.index c.cond-item.result c.loop-index.last c.loop-index.bound c.in_ok-one.one c.how_many-all.result c.is_over-over.result _ c.loop-index-test.true c.cond-item.is
+          ∙ passing_large c.args.terms.now c.loop-index.seen c.see_made_of.new.seen c.args.conds.now c.loop-index.index c.index-conds-index.result c.loop-index.last.now c.loop-index.bound c.in_ok-one.one c.how_many-all.result c.is_over-over.result _ c.loop-index-test.true c.index-conds-index.is
           (sym c.are_too_many-many.ensures.value ∙ c.if-many.false) k c.if-over.true c.loop-index.invariant;
     }
 
 pub loop-index-preserved : goal.loop-index-preserved
 loop-index-preserved c =
-    let k : HasCounted c.args.terms.now c.loop-index.seen c.see_made_of.new.seen c.cond-item.result c.loop-index.last c.loop-index.bound c.in_ok-one.one c.how_many-all.result c.is_over-over.result = record {
+    let k : HasCounted c.args.terms.now c.loop-index.seen c.see_made_of.new.seen c.index-conds-index.result c.loop-index.last.now c.loop-index.bound c.in_ok-one.one c.how_many-all.result c.is_over-over.result = record {
       front = c.shared_front-front.result;
       roots = c.as_slice.result.now;
       added = c.in_ok-added.added;
@@ -60,8 +60,8 @@ loop-index-preserved c =
       total_is = c.how_many-all.ensures.value;
       over_is = c.is_over-over.ensures.value;
     } in
-    passing_turn c.args.terms.now c.loop-index.seen c.see_made_of.new.seen c.args.conds.now c.loop-index.index c.cond-item.result c.loop-index.last c.as_slice-hyps.result.now c.loop-index.bound c.in_ok-one.one c.how_many-all.result c.is_over-over.result _ c.loop-index-test.true c.cond-item.is
+    passing_turn c.args.terms.now c.loop-index.seen c.see_made_of.new.seen c.args.conds.now c.loop-index.index c.index-conds-index.result c.loop-index.last.now c.as_slice-hyps.result.now c.loop-index.bound c.in_ok-one.one c.how_many-all.result c.is_over-over.result _ c.loop-index-test.true c.index-conds-index.is
     (sym c.are_too_many-many.ensures.value ∙ c.if-many.false) k c.if-over.false c.as_slice-hyps.ensures.value c.loop-index.invariant
 
 pub returns : goal.returns
-returns c = record { value = passing_end c.args.terms.now c.loop-index.seen c.loop-index.last c.loop-index.bound c.args.conds.now c.loop-index.index _ c.loop-index-test.false c.loop-index.invariant }
+returns c = record { value = passing_end c.args.terms.now c.loop-index.seen c.loop-index.last.now c.loop-index.bound c.args.conds.now c.loop-index.index _ c.loop-index-test.false c.loop-index.invariant }
