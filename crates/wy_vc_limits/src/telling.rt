@@ -6,8 +6,8 @@ ghost use Rattle.wy_vc_limits.specs.Meanings.{AreMeanings};
 ghost use Rattle.wy_vc_limits.specs.Told as spec;
 ghost use Rattle.wy_vc_walk.specs.State.{IsGoal, seen_goal};
 
-use crate::unfolding::Meaning;
 use crate::mentioned::{is_marked, mentioned};
+use crate::unfolding::Meaning;
 use std::alloc::{AllocError, Global};
 use wy_term::{Cond, NoMemory, Terms, Unfold};
 use wy_vc_shared::types_tested;
