@@ -32,8 +32,23 @@ const ORDERED: &str = "function g(int x) -> int\nrequires x > 0\nensures true:\n
 const MAX: &str =
     "function max(int[] xs) -> (int r)\nrequires |xs| > 0\nensures all { k in 0..|xs| | r >= xs[k] }:\n    int m = xs[0]\n    int i = 1\n    while i < |xs|\n    where 1 <= i\n    where i <= |xs|\n    where all { k in 0..i | m >= xs[k] }:\n        if xs[i] > m:\n            m = xs[i]\n        i = i + 1\n    return m\n";
 
+const ABS_CODE: &str = "routine 0
+  Share r2 r0
+  Const r3 0
+  Compare r2 < r2 r3
+  Branch r2 8
+  Move r2 r0
+  Const r3 0
+  Arith r2 - r3 r2
+  Return r2
+  Move r2 r0
+  Return r2
+  Const r2 null
+  Return r2
+";
+
 /// The files of each row.
-const FILES: [(&str, &str); 14] = [
+const FILES: [(&str, &str); 15] = [
     ("forms.wy", FORMS),
     (
         "order.wy",
@@ -53,6 +68,7 @@ const FILES: [(&str, &str); 14] = [
         "function f(int x) -> (int r):\n    int y = x\n\treturn y\n",
     ),
     ("chain.wy", "function f(int y) -> int:\n return y<1<2\n"),
+    ("typed.wy", "function f(int x) -> bool:\n return x\n"),
     ("inc.wy", INC),
     ("inc.cert", INC_CERT),
     ("take.wy", TAKE),
@@ -104,7 +120,7 @@ struct Row {
     err: &'static str,
 }
 
-const ROWS: [Row; 38] = [
+const ROWS: [Row; 43] = [
     Row {
         words: "fmt forms.wy",
         status: 0,
@@ -179,6 +195,36 @@ const ROWS: [Row; 38] = [
     },
     Row {
         words: "fmt inc.wy none",
+        status: 2,
+        out: "",
+        err: "wy: words refused\n",
+    },
+    Row {
+        words: "dis abs.wy",
+        status: 0,
+        out: ABS_CODE,
+        err: "",
+    },
+    Row {
+        words: "dis chain.wy",
+        status: 1,
+        out: "",
+        err: "chain.wy:2:12: Unexpected\n",
+    },
+    Row {
+        words: "dis typed.wy",
+        status: 1,
+        out: "",
+        err: "typed.wy:2:2: NotSubtype\n",
+    },
+    Row {
+        words: "dis absent.wy",
+        status: 3,
+        out: "",
+        err: "wy: absent.wy: absent\n",
+    },
+    Row {
+        words: "dis inc.wy none",
         status: 2,
         out: "",
         err: "wy: words refused\n",
@@ -364,7 +410,7 @@ struct FaultRow {
     err: &'static str,
 }
 
-const FAULT_ROWS: [FaultRow; 7] = [
+const FAULT_ROWS: [FaultRow; 8] = [
     FaultRow {
         load: 0,
         out_room: 99,
@@ -391,6 +437,15 @@ const FAULT_ROWS: [FaultRow; 7] = [
         status: 5,
         out: "",
         err: "tab.",
+    },
+    FaultRow {
+        load: 9,
+        out_room: 9,
+        err_room: 99,
+        words: "dis abs.wy",
+        status: 5,
+        out: "routine 0",
+        err: "",
     },
     FaultRow {
         load: 0,

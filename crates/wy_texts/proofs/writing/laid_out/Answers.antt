@@ -1,5 +1,4 @@
-use Rattle.std.proofs.Common.{refl}
-use Rattle.wy_texts.proofs.TextLemmas.{layout_complete, layout_exact, layout_is, nothing_left, unread_complete, unread_exact}
+use Rattle.wy_texts.proofs.TextLemmas.{layout_complete, layout_exact, layout_is, unread_complete, unread_exact}
 use Rattle.wy_texts.proofs.writing.laid_out.Goals as goal
 
 pub returns-in-Err-clause-complete : goal.returns-in-Err-clause-complete
