@@ -1,6 +1,6 @@
 //! How a listing is compared with the one that was worked out by hand.
 use std::alloc::Global;
-use wy_source::{Refusal, offset, word};
+use wy_source::{offset, word};
 use wy_texts::{Kind, text_of};
 
 // A source that is read is no longer than this.
@@ -14,26 +14,37 @@ pub struct Row {
     pub listing: &'static str,
 }
 
-/// A text, or the word and the offset of the refusal.
-pub type Answer = Result<Vec<u8>, (&'static str, u32)>;
-
-/// The text of the source.
-pub fn answer(alloc: Global, kind: Kind, source: &str) -> Answer {
+/// Whether this is the text of the source.
+pub fn has_text(alloc: Global, kind: Kind, source: &str, want: &str) -> bool {
     let bytes = source.as_bytes();
     if bytes.len() > LONGEST {
-        return Err(("TooLong", 0));
+        return false;
     }
     match text_of(alloc, kind, bytes) {
-        Ok(text) => Ok(text),
-        Err(refusal) => Err(fault(refusal)),
+        Ok(text) => text.as_slice() == want.as_bytes(),
+        Err(_) => false,
     }
 }
 
-fn fault(refusal: Refusal) -> (&'static str, u32) {
-    (word(refusal), offset(refusal))
+/// Whether the source is refused with this word, at this offset.
+pub fn is_refused(alloc: Global, kind: Kind, source: &str, want: &str, at: u32) -> bool {
+    let bytes = source.as_bytes();
+    if bytes.len() > LONGEST {
+        return false;
+    }
+    match text_of(alloc, kind, bytes) {
+        Ok(_) => false,
+        Err(refusal) => word(refusal) == want && offset(refusal) == at,
+    }
+}
+
+/// Whether the source has the row's listing, of no more than 16 instructions a tick.
+pub fn holds(alloc: Global, row: &Row) -> bool {
+    has_text(alloc, Kind::Listing, row.source, row.listing)
+        && instructions(row.listing) <= row.ticks.saturating_mul(16)
 }
 
 /// How many instructions stand in a listing: the lines that begin with a blank.
-pub fn instructions(listing: &str) -> usize {
+fn instructions(listing: &str) -> usize {
     listing.lines().filter(|line| line.starts_with(' ')).count()
 }

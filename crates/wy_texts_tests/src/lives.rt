@@ -1,5 +1,5 @@
 //! Which use of a variable is the last: it moves, and the others share.
-use crate::listings::answer;
+use crate::listings::has_text;
 use wy_texts::Kind;
 
 // A source, and its listing.
@@ -342,9 +342,6 @@ routine 1
 fn the_last_use_moves(rt: HostRuntime) {
     let alloc = rt.alloc();
     for (source, listing) in ROWS {
-        match answer(alloc, Kind::Listing, source) {
-            Ok(text) => assert_eq!(rt; text.as_slice(), listing.as_bytes(), "{source}"),
-            Err(fault) => assert_eq!(rt; fault, ("", 0), "{source}"),
-        }
+        assert!(rt; has_text(alloc, Kind::Listing, source, listing), "{source}");
     }
 }

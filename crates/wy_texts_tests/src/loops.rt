@@ -1,6 +1,5 @@
 //! The code of loops.
-use crate::listings::{Row, answer, instructions};
-use wy_texts::Kind;
+use crate::listings::{Row, holds};
 
 const ROWS: [Row; 4] = [
     // What a `break` leaves out is released before it; behind the loop what only its turns used is.
@@ -166,16 +165,6 @@ const ROWS: [Row; 4] = [
 fn each_loop_has_its_code(rt: HostRuntime) {
     let alloc = rt.alloc();
     for row in &ROWS {
-        match answer(alloc, Kind::Listing, row.source) {
-            Ok(text) => {
-                assert_eq!(rt; text.as_slice(), row.listing.as_bytes(), "{}", row.source)
-            }
-            Err(fault) => assert_eq!(rt; fault, ("", 0), "{}", row.source),
-        }
-        assert!(rt;
-            instructions(row.listing) <= 16 * row.ticks,
-            "{}",
-            row.source
-        );
+        assert!(rt; holds(alloc, row), "{}", row.source);
     }
 }

@@ -1,5 +1,5 @@
 //! Which text a source has, and why it has none: the first fault, in the order text, names, types, assignment.
-use crate::listings::answer;
+use crate::listings::{has_text, is_refused};
 use wy_texts::Kind;
 
 // A source, and the word and the offset of what refuses its listing.
@@ -38,10 +38,7 @@ const LAYOUTS: [(&str, &str); 3] = [
 fn each_pass_refuses(rt: HostRuntime) {
     let alloc = rt.alloc();
     for (source, word, at) in FAULTS {
-        match answer(alloc, Kind::Listing, source) {
-            Ok(text) => assert_eq!(rt; text.as_slice(), word.as_bytes(), "{source}"),
-            Err(fault) => assert_eq!(rt; fault, (word, at), "{source}"),
-        }
+        assert!(rt; is_refused(alloc, Kind::Listing, source, word, at), "{source}");
     }
 }
 
@@ -49,9 +46,6 @@ fn each_pass_refuses(rt: HostRuntime) {
 fn a_layout_asks_for_a_program_alone(rt: HostRuntime) {
     let alloc = rt.alloc();
     for (source, layout) in LAYOUTS {
-        match answer(alloc, Kind::Layout, source) {
-            Ok(text) => assert_eq!(rt; text.as_slice(), layout.as_bytes(), "{source}"),
-            Err(fault) => assert_eq!(rt; fault, ("", 0), "{source}"),
-        }
+        assert!(rt; has_text(alloc, Kind::Layout, source, layout), "{source}");
     }
 }
