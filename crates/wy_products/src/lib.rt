@@ -10,4 +10,6 @@ mod multiples;
 mod product;
 mod whole;
 
+pub use affine::{Affine, relation};
 pub use product::product_stated;
+pub use whole::Whole;

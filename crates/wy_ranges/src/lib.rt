@@ -11,5 +11,7 @@ mod numbers;
 mod quantifier;
 mod witness;
 
-pub use instance::instance_stated;
-pub use witness::witness_stated;
+pub use instance::{instance_stated, name};
+pub use numbers::fresh_number;
+pub use quantifier::{Range, of_one};
+pub use witness::{witness_stated, witnessed_at};

@@ -13,8 +13,9 @@ use crate::quantifier::{Range, of_one};
 use wy_judging::{Branch, literal_at};
 use wy_term::{NoMemory, Terms};
 
-// A term is in the range, and the body, or its denial, holds at it.
-fn witnessed_at(terms: &mut Terms, holds: bool, r: &Range, x: u32) -> Result<Vec<u32>, NoMemory>
+/// A term is in the range, and the body, or its denial, holds at it. It takes the time to put the term into the body. Older
+/// numbers name what they named.
+pub fn witnessed_at(terms: &mut Terms, holds: bool, r: &Range, x: u32) -> Result<Vec<u32>, NoMemory>
     requires range { IsRangeOver (length terms.old) r.now }
     requires term { x < length terms.old }
     ensures value { IfOk result (λ fs. terms_at terms.new fs.items ≡ witnessed_at holds (seen_range (tree_at terms.old) r.now) (tree_at terms.old x)) }
