@@ -4,10 +4,10 @@ ghost use Rattle.wy_bounds.specs.Seen.{seen_replaced};
 ghost use Rattle.wy_lin.specs.Seen.{linear_form};
 ghost use Rattle.wy_search.specs.Bounds as bounds;
 
+use crate::division::{common, lowered};
 use crate::sums::sum_with;
 use crate::taking::{Taking, takings};
 use std::alloc::Global;
-use wy_eliminate::{common, lowered};
 use wy_lin::Form;
 use wy_term::NoMemory;
 
@@ -28,10 +28,8 @@ pub enum Replaced {
 fn divided(alloc: Global, d: u128, form: &Form) -> Result<Replaced, NoMemory>
     requires { 0 < d }
 {
-    match lowered(alloc, d, form) {
-        Ok(made) => Ok(Replaced::Given(made)),
-        Err(_) => Err(NoMemory),
-    }
+    let made = lowered(alloc, d, form)?;
+    Ok(Replaced::Given(made))
 }
 
 // By the sum, taken once; where its coefficients have no divisor but 1, twice the sum is divided by 2.

@@ -4,6 +4,8 @@ pub mod WalkLemmas
 pub mod PlaceLemmas
 -- labels that are joined
 pub mod LabelLemmas
+-- nodes of one symbol
+pub mod SymbolLemmas
 -- terms of other heads
 pub mod HeadLemmas
 -- classes joined, one term after the other

@@ -4,12 +4,13 @@ ghost use Rattle.wy_classes.specs.Heads.{tag_of};
 ghost use Rattle.wy_classes.specs.Seen.{terms_of, IsPresent};
 ghost use Rattle.wy_judging.specs.Seen.{AreBelow};
 ghost use Rattle.wy_search.specs.Classes as classes;
+ghost use Rattle.wy_subst.specs.Substitution.{renumbered};
 ghost use Rattle.wy_term.specs.Nodes.{plain, tree_at, parts_at};
+ghost use Rattle.wy_term.specs.Same.{same_symbol};
 
 use crate::places::in_one_class;
 use crate::present::Present;
-use wy_joins::same_head;
-use wy_subst::parts_of;
+use wy_subst::{parts_of, with_parts};
 use wy_term::{NoMemory, Node, Terms};
 
 // A number for each kind of node; nodes of one head have one.
@@ -41,6 +42,26 @@ fn tag(node: &Node) -> u8
         Node::SetField(_, _, _) => 21,
         _ => 22,
     }
+}
+
+// The number of the name that a node binds, or 0.
+fn bound_number(node: &Node) -> u128
+    ensures { renumbered (plain node.now).symbol result ≡ (plain node.now).symbol }
+{
+    match node {
+        Node::All(q) | Node::Some(q) => q.number,
+        _ => 0,
+    }
+}
+
+// Whether two nodes have one symbol, where the parts of the second are these, as many as the first has.
+fn same_head(terms: &Terms, s: &Node, t: &Node, parts: &[u32]) -> Result<bool, NoMemory>
+    requires many { length parts.now ≡ length (plain s.now).parts }
+    requires parts { parts.now ≡ (plain t.now).parts }
+    ensures { IfOk result (λ yes. yes ≡ same_symbol (plain s.now).symbol (plain t.now).symbol) }
+{
+    let node = with_parts(terms.allocator(), s, bound_number(s), parts)?;
+    Ok(node == *t)
 }
 
 // Whether the terms are pairwise in one class, where there are as many of both.

@@ -64,9 +64,8 @@ fn bound_number(node: &Node) -> u128
     }
 }
 
-/// Whether two nodes have one symbol, where the parts of the second are these, as many as the first has, in time linear in the
-/// size of the nodes.
-pub fn same_head(terms: &Terms, s: &Node, t: &Node, parts: &[u32]) -> Result<bool, NoMemory>
+// Whether two nodes have one symbol, where the parts of the second are these, as many as the first has.
+fn same_head(terms: &Terms, s: &Node, t: &Node, parts: &[u32]) -> Result<bool, NoMemory>
     requires many { length parts.now ≡ length (plain s.now).parts }
     requires parts { parts.now ≡ (plain t.now).parts }
     ensures { IfOk result (λ yes. yes ≡ same_symbol (plain s.now).symbol (plain t.now).symbol) }

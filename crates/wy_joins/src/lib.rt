@@ -10,5 +10,4 @@ mod chain;
 mod joined;
 mod sorts;
 
-pub use alike::same_head;
 pub use chain::chain_stated;
