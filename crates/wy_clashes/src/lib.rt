@@ -14,3 +14,5 @@ mod kinds;
 mod meeting;
 
 pub use clash::is_clash;
+pub use constants::{Constant, are_apart, constant_at};
+pub use kinds::{copied_kind, kind_given, same_kind};
