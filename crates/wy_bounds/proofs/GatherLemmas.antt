@@ -98,16 +98,16 @@ forms_append ts labels (k ∷ ls) l =
     ∙ (sym (append_assoc (with_form ts labels [] o) (replaced_forms ts labels ls) (one_form ts labels (form_of_literal (formula_of l))))
     ∙ ap (λ (rs : List Replaced). rs ++ one_form ts labels (form_of_literal (formula_of l))) (sym (form_rest ts labels (replaced_forms ts labels ls) o))))
 
-take_literal : (ls : List Literal) (i : ℕ) (l : Literal) → slice_get ls i ≡ Some l → take (i + 1) ls ≡ take i ls ++ l ∷ []
-take_literal ls i l e = let next : i + 1 ≡ suc i = omega arith in ap (λ (j : ℕ). take j ls) next ∙ by ls i e
-  where
-    some_is : (x y : Literal) → Some x ≡ Some y → x ≡ y
-    some_is x y h = cc
+some_is : (x y : Literal) → Some x ≡ Some y → x ≡ y
+some_is x y h = cc
 
-    by : (ks : List Literal) (j : ℕ) → slice_get ks j ≡ Some l → take (suc j) ks ≡ take j ks ++ l ∷ []
-    by [] j h = absurd cc
-    by (k ∷ ks) zero h = ap (λ (x : Literal). x ∷ []) (some_is k l h)
-    by (k ∷ ks) (suc j) h = ap (λ (xs : List Literal). k ∷ xs) (by ks j h)
+take_next : (ls : List Literal) (i : ℕ) (l : Literal) → slice_get ls i ≡ Some l → take (suc i) ls ≡ take i ls ++ l ∷ []
+take_next [] i l e = absurd cc
+take_next (k ∷ ks) zero l e = ap (λ (x : Literal). x ∷ []) (some_is k l e)
+take_next (k ∷ ks) (suc i) l e = ap (λ (xs : List Literal). k ∷ xs) (take_next ks i l e)
+
+take_literal : (ls : List Literal) (i : ℕ) (l : Literal) → slice_get ls i ≡ Some l → take (i + 1) ls ≡ take i ls ++ l ∷ []
+take_literal ls i l e = let next : i + 1 ≡ suc i = omega arith in ap (λ (j : ℕ). take j ls) next ∙ take_next ls i l e
 
 -- the form of the literal with the number behind a place
 pub form_behind : (ls : List Literal) (i n : ℕ) (l : Literal) → n ≡ i + 1 → slice_get ls i ≡ Some l → form_at ls n ≡ form_of_literal (formula_of l)

@@ -61,12 +61,12 @@ multipliers_end k ts i old whole le so = sym (append-nil old) ∙ (ap (λ (us : 
 pub fit_first : (k : ℕ) → k < 2 ^ 127 → all_fit ((k, 0) ∷ []) ≡ true
 fit_first k lt = ap (λ (b : Bool). b && true) (lt-ltb k (2 ^ 127) lt)
 
+longer : (xs : Multipliers) (x : ℕ × ℕ) → length (xs ++ x ∷ []) ≡ length xs + 1
+longer [] x = refl
+longer (y ∷ xs) x = ap suc (longer xs x)
+
 pub one_longer : (old new : Multipliers) (m n i : ℕ) → new ≡ old ++ (m, n) ∷ [] → length old ≡ i + 1 → length new ≡ i + 1 + 1
-one_longer old new m n i is count = ap length is ∙ (longer old ∙ (let e : length old + 1 ≡ i + 1 + 1 = omega (arith, count) in e))
-  where
-    longer : (xs : Multipliers) → length (xs ++ (m, n) ∷ []) ≡ length xs + 1
-    longer [] = refl
-    longer (x ∷ xs) = ap suc (longer xs)
+one_longer old new m n i is count = ap length is ∙ (longer old (m, n) ∙ (let e : length old + 1 ≡ i + 1 + 1 = omega (arith, count) in e))
 
 -- ---- places of forms
 

@@ -1,8 +1,7 @@
 //! Forms whose variables are given by places.
-ghost use Rattle.std.specs.Prelude.{◌≡◌, ◌<◌, [], ◌∷◌, pos, negsuc, length, map, IfOk};
-ghost use Rattle.wy_bounds.specs.Seen.{numbered_form, numbered_parts};
+ghost use Rattle.std.specs.Prelude.{◌≡◌, ◌<◌, length, IfOk};
 ghost use Rattle.wy_classes.specs.Seen.{terms_of, IsPresent};
-ghost use Rattle.wy_lin.specs.Seen.{IsOver, linear_form, seen_form, seen_part};
+ghost use Rattle.wy_lin.specs.Seen.{IsOver, linear_form, seen_form};
 ghost use Rattle.wy_search.specs.Bounds as bounds;
 ghost use Rattle.wy_search.specs.Classes.{place_from};
 ghost use Rattle.wy_term.specs.Nodes.{tree_at};

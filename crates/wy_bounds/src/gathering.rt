@@ -1,5 +1,12 @@
 //! What is left of the forms of a node's literals.
-ghost use Rattle.std.specs.Prelude.{◌≡◌, ◌<◌, length, IfOk};
+ghost use Rattle.std.specs.Prelude.{◌≡◌, ◌<◌, ◌+◌, ◌++◌, [], ◌∷◌, List, length, IfOk, OnOk};
+ghost use Rattle.wy_bounds.specs.Gathered.{Gathers, TakesLiteral};
+ghost use Rattle.wy_bounds.specs.Seen.{seen_replaced};
+ghost use Rattle.wy_classes.specs.Seen.{terms_of, IsPresent};
+ghost use Rattle.wy_facts.specs.Seen.{Stays};
+ghost use Rattle.wy_judging.specs.Seen.{IsBranch, seen_branch};
+ghost use Rattle.wy_search.specs.Bounds as bounds;
+ghost use Rattle.wy_term.specs.Nodes.{tree_at};
 
 use crate::forms::numbered;
 use crate::replacing::{Replaced, replace};
@@ -19,7 +26,9 @@ pub struct Gathered {
 }
 
 // Nothing yet.
-fn nothing(alloc: Global) -> Gathered {
+fn nothing(alloc: Global) -> Gathered
+    ensures { Gathers result [] }
+{
     Gathered {
         refutes: false,
         leaves: false,
@@ -28,7 +37,9 @@ fn nothing(alloc: Global) -> Gathered {
 }
 
 // What is left of one form more.
-fn take(gathered: &mut Gathered, one: Replaced) -> Result<(), NoMemory> {
+fn take(gathered: &mut Gathered, one: Replaced) -> Result<(), NoMemory>
+    ensures { (rs : List bounds.Replaced) → Gathers gathered.old rs → OnOk result (Gathers gathered.new (rs ++ seen_replaced one ∷ [])) }
+{
     match one {
         Replaced::Gone => {}
         Replaced::Given(form) => gathered.forms.push(form)?,
@@ -39,7 +50,10 @@ fn take(gathered: &mut Gathered, one: Replaced) -> Result<(), NoMemory> {
 }
 
 // The number of the literal with a place.
-fn literal_number(i: usize) -> Result<u32, NoMemory> {
+fn literal_number(i: usize) -> Result<u32, NoMemory>
+    requires { i + 1 < 18446744073709551616 }
+    ensures { IfOk result (λ k. k ≡ i + 1) }
+{
     match u32::try_from(i + 1) {
         Ok(k) => Ok(k),
         Err(_) => Err(NoMemory),
@@ -54,7 +68,13 @@ fn take_literal(
     labels: &[u32],
     i: usize,
     gathered: &mut Gathered,
-) -> Result<(), NoMemory> {
+) -> Result<(), NoMemory>
+    requires branch { IsBranch terms.old branch.now }
+    requires present { IsPresent terms.old present.now }
+    requires place { i < length branch.now.literals.keys }
+    ensures value { (rs : List bounds.Replaced) → Gathers gathered.old rs → OnOk result (TakesLiteral (terms_of (tree_at terms.old) present.now) labels.now (seen_branch (tree_at terms.old) branch.now).literals i rs gathered.new) }
+    ensures stays { Stays terms.old terms.new }
+{
     let number = literal_number(i)?;
     match form_at(terms, branch, number)? {
         Some(form) => {
@@ -72,7 +92,12 @@ pub fn gather(
     branch: &Branch,
     present: &Present,
     labels: &[u32],
-) -> Result<Gathered, NoMemory> {
+) -> Result<Gathered, NoMemory>
+    requires branch { IsBranch terms.old branch.now }
+    requires present { IsPresent terms.old present.now }
+    ensures value { IfOk result (λ g. Gathers g (bounds.replaced_forms (terms_of (tree_at terms.old) present.now) labels.now (seen_branch (tree_at terms.old) branch.now).literals)) }
+    ensures stays { Stays terms.old terms.new }
+{
     let mut gathered = nothing(terms.allocator());
     for i in 0..branch.literals.len() {
         take_literal(terms, branch, present, labels, i, &mut gathered)?;

@@ -1,6 +1,7 @@
 //! What is left of a form once each variable is replaced by the first of its class.
-ghost use Rattle.std.specs.Prelude.{◌≡◌, ◌<◌, length, IfOk};
-ghost use Rattle.wy_bounds.specs.Seen.{seen_replaced};
+ghost use Rattle.std.specs.Prelude.{◌≡◌, ◌<◌, pos, int_lt, if◌then◌else◌, IfOk};
+ghost use Rattle.wy_bounds.specs.Seen.{seen_replaced, seen_takings, sum_with};
+ghost use Rattle.wy_eliminate.specs.Division as division;
 ghost use Rattle.wy_lin.specs.Seen.{linear_form};
 ghost use Rattle.wy_search.specs.Bounds as bounds;
 
@@ -27,9 +28,21 @@ pub enum Replaced {
 // The form divided.
 fn divided(alloc: Global, d: u128, form: &Form) -> Result<Replaced, NoMemory>
     requires { 0 < d }
+    ensures { IfOk result (λ r. seen_replaced r ≡ bounds.given (division.lowered d (linear_form form.now))) }
 {
     let made = lowered(alloc, d, form)?;
     Ok(Replaced::Given(made))
+}
+
+// What a form without variables says.
+fn without_variables(constant: i128) -> Replaced
+    ensures { seen_replaced result ≡ (if int_lt constant (pos 0) then bounds.refutes else bounds.gone) }
+{
+    if constant < 0 {
+        Replaced::Refutes
+    } else {
+        Replaced::Gone
+    }
 }
 
 // By the sum, taken once; where its coefficients have no divisor but 1, twice the sum is divided by 2.
@@ -39,14 +52,11 @@ fn by_sum(
     takings: &[Taking],
     sum: &Form,
 ) -> Result<Replaced, NoMemory>
+    ensures { IfOk result (λ r. seen_replaced r ≡ bounds.by_common (sum_with (linear_form form.now) (seen_takings takings.now) 2) (linear_form sum.now) (division.common (linear_form sum.now).parts)) }
 {
     let d = common(&sum.parts);
     if d == 0 {
-        return Ok(if sum.constant < 0 {
-            Replaced::Refutes
-        } else {
-            Replaced::Gone
-        });
+        return Ok(without_variables(sum.constant));
     }
     if d > 1 {
         return divided(alloc, d, sum);
@@ -59,6 +69,7 @@ fn by_sum(
 
 /// What is left of a form. It takes time linear in its parts, and for each part in the place of its variable.
 pub fn replace(alloc: Global, labels: &[u32], form: Form) -> Result<Replaced, NoMemory>
+    ensures { IfOk result (λ r. seen_replaced r ≡ bounds.replaced labels.now (linear_form form)) }
 {
     let takings = takings(alloc, labels, &form.parts)?;
     if takings.is_empty() {

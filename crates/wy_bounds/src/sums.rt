@@ -1,8 +1,7 @@
 //! The sum of a form and what takes variables away from it.
-ghost use Rattle.std.specs.Prelude.{◌≡◌, ◌<◌, ◌≤◌, ◌*◌, ◌^◌, [], ◌∷◌, length, map, All, option_map, Some, None, IfOk, MatchOption};
-ghost use Rattle.wy_bounds.specs.Seen.{seen_takings, named, forms_to_add, sum_with};
+ghost use Rattle.std.specs.Prelude.{◌≡◌, ◌<◌, ◌≤◌, ◌*◌, ◌^◌, map, option_map, IfOk, MatchOption};
+ghost use Rattle.wy_bounds.specs.Seen.{seen_takings, forms_to_add, multipliers_of, sum_with, AreMultipliers};
 ghost use Rattle.wy_lin.specs.Seen.{linear_form};
-ghost use Rattle.wy_search.specs.Bounds as bounds;
 
 use crate::forms::copied;
 use crate::taking::Taking;
@@ -54,12 +53,17 @@ fn multipliers(
     takings: &[Taking],
     k: u128,
 ) -> Result<Option<Vec<(u128, u32)>>, NoMemory>
+    requires { k < 2 ^ 127 }
+    ensures { IfOk result (λ o. AreMultipliers (option_map (λ v. v.items) o) (multipliers_of k (seen_takings takings.now))) }
 {
     let mut made = Vec::new(alloc);
     made.push((k, 0))?;
-    for i in 0..takings.len() {
-        match multiplier(k, takings[i].times) {
-            Some(m) => made.push((m, form_number(i + 1)?))?,
+    for taking in takings {
+        match multiplier(k, taking.times) {
+            Some(m) => {
+                let number = form_number(made.len())?;
+                made.push((m, number))?;
+            }
             None => return Ok(None),
         }
     }
@@ -73,6 +77,8 @@ pub fn sum_with(
     takings: &[Taking],
     k: u128,
 ) -> Result<Option<Form>, NoMemory>
+    requires { k < 2 ^ 127 }
+    ensures { IfOk result (λ o. option_map linear_form o ≡ sum_with (linear_form form.now) (seen_takings takings.now) k) }
 {
     let Some(multipliers) = multipliers(alloc, takings, k)? else {
         return Ok(None);

@@ -1,5 +1,5 @@
 //! The forms that take variables away which aren't the first of their class.
-ghost use Rattle.std.specs.Prelude.{◌≡◌, ◌<◌, ◌++◌, [], ◌∷◌, length, map, slice_index, IfOk, OnOk};
+ghost use Rattle.std.specs.Prelude.{◌≡◌, ◌++◌, [], ◌∷◌, slice_index, IfOk, OnOk};
 ghost use Rattle.wy_bounds.specs.Seen.{seen_taking, seen_takings};
 ghost use Rattle.wy_search.specs.Bounds as bounds;
 

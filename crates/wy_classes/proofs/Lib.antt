@@ -10,3 +10,5 @@ pub mod SymbolLemmas
 pub mod HeadLemmas
 -- classes joined, one term after the other
 pub mod ClosingLemmas
+-- classes in each congruence
+pub mod SoundLemmas

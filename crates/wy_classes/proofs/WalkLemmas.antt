@@ -30,17 +30,16 @@ below_at n [] i below lt = absurd (omega (arith, lt))
 below_at n (j ∷ js) zero below lt = below 0 j (omega arith)
 below_at n (j ∷ js) (suc i) below lt = below_at n js i (λ m d l. below (suc m) d (omega (arith, l))) (omega (arith, lt))
 
-pub below_last : (n : ℕ) (ks : List ℕ) (k : ℕ) → AreBelow n ks → k < n → AreBelow n (ks ++ k ∷ [])
-below_last n [] k below lt = λ i d l. by i d l
+below_cons : (n k : ℕ) (ks : List ℕ) → k < n → AreBelow n ks → AreBelow n (k ∷ ks)
+below_cons n k ks lt below = λ i d l. by i d l
   where
-    by : (i d : ℕ) → i < 1 → get_or (k ∷ []) i d < n
+    by : (i d : ℕ) → i < length (k ∷ ks) → get_or (k ∷ ks) i d < n
     by zero d l = lt
-    by (suc i) d l = absurd (omega (arith, l))
-below_last n (j ∷ js) k below lt = λ i d l. by i d l
-  where
-    by : (i d : ℕ) → i < length (j ∷ (js ++ k ∷ [])) → get_or (j ∷ (js ++ k ∷ [])) i d < n
-    by zero d l = below 0 d (omega arith)
-    by (suc i) d l = below_last n js k (λ m e g. below (suc m) e (omega (arith, g))) lt i d (omega (arith, l))
+    by (suc i) d l = below i d (omega (arith, l))
+
+pub below_last : (n : ℕ) (ks : List ℕ) (k : ℕ) → AreBelow n ks → k < n → AreBelow n (ks ++ k ∷ [])
+below_last n [] k below lt = below_cons n k [] lt (λ i d l. absurd (omega (arith, l)))
+below_last n (j ∷ js) k below lt = below_cons n j (js ++ k ∷ []) (below 0 j (omega arith)) (below_last n js k (λ m e g. below (suc m) e (omega (arith, g))) lt)
 
 pub over_get : (n : ℕ) (ps : List (ℕ × Bool)) (i : ℕ) (p : ℕ × Bool) → AreOver n ps → slice_get ps i ≡ Some p → p.0 < n
 over_get n [] i p over e = absurd (cc)

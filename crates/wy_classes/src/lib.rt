@@ -9,9 +9,11 @@
 mod closing;
 mod congruent;
 mod labels;
+mod law;
 mod places;
 mod present;
 
 pub use closing::classes;
+pub use law::classes_are_sound;
 pub use places::in_one_class;
 pub use present::{Present, place, terms_present};

@@ -14,20 +14,19 @@ use Rattle.wy_contradictions.specs.Kinded.{kinded, seen_kinded, AreKinded}
 
 -- ---- one more
 
-pub kinded_below : (n : ℕ) (ks ms : List Kinded) (k : Kinded) → AreKinded n ks → k.term < n → ms ≡ ks ++ k ∷ [] → AreKinded n ms
-kinded_below n ks ms k below lt is = subst (AreKinded n) (sym is) (last ks below)
+kinded_cons : (n : ℕ) (k : Kinded) (ks : List Kinded) → k.term < n → AreKinded n ks → AreKinded n (k ∷ ks)
+kinded_cons n k ks lt below = λ i d l. by i d l
   where
-    alone : (i : ℕ) (d : Kinded) → i < 1 → (get_or (k ∷ []) i d).term < n
-    alone zero d l = lt
-    alone (suc i) d l = absurd (omega (arith, l))
+    by : (i : ℕ) (d : Kinded) → i < length (k ∷ ks) → (get_or (k ∷ ks) i d).term < n
+    by zero d l = lt
+    by (suc i) d l = below i d (omega (arith, l))
 
-    last : (js : List Kinded) → AreKinded n js → AreKinded n (js ++ k ∷ [])
-    last [] f = alone
-    last (j ∷ js) f = λ i d l. by i d l
-      where
-        by : (i : ℕ) (d : Kinded) → i < length (j ∷ (js ++ k ∷ [])) → (get_or (j ∷ (js ++ k ∷ [])) i d).term < n
-        by zero d l = f 0 d (omega arith)
-        by (suc i) d l = last js (λ m e g. f (suc m) e (omega (arith, g))) i d (omega (arith, l))
+kinded_put : (n : ℕ) (ks : List Kinded) (k : Kinded) → AreKinded n ks → k.term < n → AreKinded n (ks ++ k ∷ [])
+kinded_put n [] k below lt = kinded_cons n k [] lt (λ i d l. absurd (omega (arith, l)))
+kinded_put n (j ∷ js) k below lt = kinded_cons n j (js ++ k ∷ []) (below 0 j (omega arith)) (kinded_put n js k (λ m e g. below (suc m) e (omega (arith, g))) lt)
+
+pub kinded_below : (n : ℕ) (ks ms : List Kinded) (k : Kinded) → AreKinded n ks → k.term < n → ms ≡ ks ++ k ∷ [] → AreKinded n ms
+kinded_below n ks ms k below lt is = subst (AreKinded n) (sym is) (kinded_put n ks k below lt)
 
 pub kinded_last : (at : ℕ → Term) (ks ms : List Kinded) (k : Kinded) → ms ≡ ks ++ k ∷ [] → kinded at ms ≡ kinded at ks ++ seen_kinded at k ∷ []
 kinded_last at ks ms k is = ap (kinded at) is ∙ map_last (seen_kinded at) ks k
