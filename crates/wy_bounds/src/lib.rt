@@ -1,13 +1,11 @@
 //! How the elimination of a node's variables ends.
 //!
 //! `forms` takes the form of a literal, its variables by their places among the terms present. `taking` says which forms take
-//! the variables away that aren't the first of their class, and `sums` adds them up; `replacing` gives what is left of a form, divided by the
-//! greatest common divisor of its coefficients (`division`).
+//! the variables away that aren't the first of their class, and `sums` adds them up; `replacing` gives what is left of a form.
 //! `gathering` does so for each literal, and `ending` eliminates the variables of what is left. The definition is that of
 //! `wy_search`.
 #![tactic(auto)]
 
-mod division;
 mod ending;
 mod forms;
 mod gathering;

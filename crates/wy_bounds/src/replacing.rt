@@ -5,10 +5,10 @@ ghost use Rattle.wy_eliminate.specs.Division as division;
 ghost use Rattle.wy_lin.specs.Seen.{linear_form};
 ghost use Rattle.wy_search.specs.Bounds as bounds;
 
-use crate::division::{common, lowered};
 use crate::sums::sum_with;
 use crate::taking::{Taking, takings};
 use std::alloc::Global;
+use wy_eliminate::{common, lowered};
 use wy_lin::Form;
 use wy_term::NoMemory;
 
@@ -30,8 +30,10 @@ fn divided(alloc: Global, d: u128, form: &Form) -> Result<Replaced, NoMemory>
     requires { 0 < d }
     ensures { IfOk result (λ r. seen_replaced r ≡ bounds.given (division.lowered d (linear_form form.now))) }
 {
-    let made = lowered(alloc, d, form)?;
-    Ok(Replaced::Given(made))
+    match lowered(alloc, d, form) {
+        Ok(made) => Ok(Replaced::Given(made)),
+        Err(_) => Err(NoMemory),
+    }
 }
 
 // What a form without variables says.

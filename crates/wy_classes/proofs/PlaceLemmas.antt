@@ -31,7 +31,7 @@ cond_or true x o p = refl
 cond_or false x o p = refl
 
 place_last : (ks : List ℕ) (k t i : ℕ) → number_place (ks ++ k ∷ []) t i ≡ or_place (number_place ks t i) (cond (eqb k t) (Some (length ks + i)) None)
-place_last [] k t i = refl
+place_last [] k t i = let e : i ≡ 0 + i = omega arith in ap (λ (n : ℕ). cond (eqb k t) (Some n) None) e
 place_last (j ∷ js) k t i =
     let next : length js + suc i ≡ length (j ∷ js) + i = omega arith in
     ap (λ (o : Option ℕ). cond (eqb j t) (Some i) o) (place_last js k t (suc i) ∙ ap (λ (n : ℕ). or_place (number_place js t (suc i)) (cond (eqb k t) (Some n) None)) next)

@@ -19,6 +19,7 @@ mod table;
 mod tally;
 mod turns;
 
+pub use division::{common, lowered};
 pub use elimination::eliminate;
 pub use law::steps_refute;
 pub use steps::{Elim, LinStep, Steps};

@@ -9,7 +9,7 @@ returns-then-contains_key c = λ t.
     let has : is_some (get nat_eq c.args.places.now c.args.k) ≡ true = search rules in
     placed_kept (get nat_eq c.args.places.now) c.args.k c.args.place t has
 
-pub returns-in_ok-insert : goal.returns-in_ok-insert
-returns-in_ok-insert c = λ t.
+pub returns : goal.returns
+returns c = λ t.
     let none : is_some (get nat_eq c.args.places.now c.args.k) ≡ false = search rules in
     placed_new (get nat_eq c.args.places.now) (get nat_eq c.insert.new.self) c.args.k c.args.place t none (c.in_ok-insert.ensures.updates.0 t)

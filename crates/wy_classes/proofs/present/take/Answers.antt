@@ -1,8 +1,5 @@
-use Rattle.std.proofs.Common.{◌≡◌, true, false, length, rules}
-use Rattle.std.proofs.lemmas.Result.{OnOk-weaker}
+use Rattle.std.proofs.Common.{rules}
 use Rattle.wy_term.specs.Nodes.{tree_at}
-use Rattle.wy_term.specs.Sorts.{sort_in}
-use Rattle.wy_search.specs.Standing.{is_term_sort}
 use Rattle.wy_classes.proofs.PlaceLemmas.{denial_left, other_left, taken_here, present_here}
 use Rattle.wy_classes.proofs.present.take.Goals as goal
 

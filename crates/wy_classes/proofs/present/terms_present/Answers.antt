@@ -1,4 +1,4 @@
-use Rattle.std.proofs.Common.{◌≡◌, ◌∙◌, length, ap, rules}
+use Rattle.std.proofs.Common.{◌∙◌, length, ap, arith}
 use Rattle.wy_search.specs.Standing.{only_terms}
 use Rattle.wy_term.specs.Nodes.{tree_at}
 use Rattle.wy_classes.specs.Seen.{terms_of}
