@@ -2,6 +2,8 @@
 #![tactic(auto)]
 
 #[cfg(test)]
+mod loops;
+#[cfg(test)]
 mod programs;
 #[cfg(test)]
 mod searches;
