@@ -51,11 +51,13 @@ fn take(gathered: &mut Gathered, one: Replaced) -> Result<(), NoMemory>
 
 // The number of the literal with a place.
 fn literal_number(i: usize) -> Result<u32, NoMemory>
-    requires { i + 1 < 18446744073709551616 }
     ensures { IfOk result (λ k. k ≡ i + 1) }
 {
-    match u32::try_from(i + 1) {
-        Ok(k) => Ok(k),
+    match u32::try_from(i) {
+        Ok(k) => match k.checked_add(1) {
+            Some(number) => Ok(number),
+            None => Err(NoMemory),
+        },
         Err(_) => Err(NoMemory),
     }
 }

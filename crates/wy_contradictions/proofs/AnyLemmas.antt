@@ -1,12 +1,15 @@
 -- Whether one of a list passes, one after the other.
-use Rattle.std.proofs.Common.{◌≡◌, ◌∙◌, ◌+◌, ◌<◌, ◌≤◌, ◌&&◌, ◌||◌, ℕ, List, [], ◌∷◌, map, drop, length, get_or, Bool, true, false, Some, refl, sym, ap}
+use Rattle.std.proofs.Common.{◌≡◌, ◌∙◌, ◌+◌, ◌<◌, ◌≤◌, ◌&&◌, ◌||◌, ℕ, List, [], ◌∷◌, map, drop, length, get_or, Bool, true, false, not, Some, refl, sym, ap}
 use Rattle.std.specs.Prelude.{slice_get}
 use Rattle.std.proofs.lemmas.List.{drop_more}
-use Rattle.wy_term.specs.Term.{Term}
+use Rattle.wy_term.specs.Term.{DataKind, Term}
+use Rattle.wy_term.specs.Same.{same_kind}
+use Rattle.wy_term.proofs.SameLemmas.{terms_self}
+use Rattle.wy_clashes.specs.Groups.{as_wanted, in_kinds}
 use Rattle.wy_judge.specs.Node.{Literal}
 use Rattle.wy_judging.specs.Seen.{seen_literal}
 use Rattle.wy_valid.specs.Kinds as valid
-use Rattle.wy_search.specs.Classes.{any_denies, denies_equal, constants_apart, any_apart, kinds_with, any_kinds}
+use Rattle.wy_search.specs.Classes.{in_one_class, any_denies, denies_equal, constants_apart, any_apart, kinds_with, any_kinds}
 use Rattle.wy_classes.proofs.WalkLemmas.{drop_here, drop_end}
 use Rattle.wy_contradictions.specs.declared.kinds.Kinded.{Kinded}
 use Rattle.wy_contradictions.specs.Kinded.{kinded, seen_kinded}
@@ -49,3 +52,11 @@ with_step test ts labels at p qs more q is = ap (λ (rs : List Kinded). kinds_wi
 
 pub kinds_step : (test : valid.Kinded → valid.Kinded → Bool) (ts : List Term) (labels : List ℕ) (at : ℕ → Term) (all : List valid.Kinded) (ps more : List Kinded) (p : Kinded) → ps ≡ p ∷ more → any_kinds test ts labels (kinded at ps) all ≡ (kinds_with test ts labels (seen_kinded at p) all || any_kinds test ts labels (kinded at more) all)
 kinds_step test ts labels at all ps more p is = ap (λ (rs : List Kinded). any_kinds test ts labels (kinded at rs) all) is
+
+-- one term of two kinds that are the same or aren't, as is wanted
+wanted_of_one : (same : Bool) (t : Term) (k l : DataKind) → as_wanted same (same_kind k l) ≡ in_kinds same (t, k) (t, l)
+wanted_of_one true t k l = ap (λ (b : Bool). b && same_kind k l) (sym (terms_self t))
+wanted_of_one false t k l = ap (λ (b : Bool). b && not (same_kind k l)) (sym (terms_self t))
+
+pub kinds_meet : (same : Bool) (ts : List Term) (labels : List ℕ) (t u : Term) (k l : DataKind) (r : Bool) → in_one_class ts labels t u ≡ true → r ≡ as_wanted same (same_kind k l) → r ≡ meets (in_kinds same) ts labels (t, k) (u, l)
+kinds_meet same ts labels t u k l r up is = is ∙ (wanted_of_one same t k l ∙ ap (λ (b : Bool). b && in_kinds same (t, k) (t, l)) (sym up))

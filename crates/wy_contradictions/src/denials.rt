@@ -1,5 +1,5 @@
 //! Denied equations inside a class, and different constants in one.
-ghost use Rattle.std.specs.Prelude.{◌≡◌, ◌<◌, length, map};
+ghost use Rattle.std.specs.Prelude.{◌≡◌, ◌<◌, length};
 ghost use Rattle.wy_classes.specs.Seen.{terms_of, IsPresent};
 ghost use Rattle.wy_contradictions.specs.Pairs.{apart_in_class};
 ghost use Rattle.wy_judging.specs.Seen.{IsBranch, seen_branch};

@@ -1,5 +1,5 @@
 //! The kinds that literals give or deny, and those of constants and of data that are written out.
-ghost use Rattle.std.specs.Prelude.{◌≡◌, ◌<◌, ◌++◌, length, map, IfOk, OnOk};
+ghost use Rattle.std.specs.Prelude.{◌≡◌, ◌<◌, ◌++◌, ◌∷◌, [], length, IfOk, OnOk};
 ghost use Rattle.wy_classes.specs.Seen.{terms_of, IsPresent};
 ghost use Rattle.wy_contradictions.specs.Kinded.{kinded, AreKinded};
 ghost use Rattle.wy_judging.specs.Seen.{IsBranch, seen_branch};
