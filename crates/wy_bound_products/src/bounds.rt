@@ -25,23 +25,29 @@ fn quotient(z: i128, d: u128) -> i128 {
 // The tighter one, the first of equals.
 fn tighter(best: Option<Bound>, one: Bound) -> Option<Bound> {
     match best {
-        Some(b) => {
-            if one.at < b.at {
-                Some(one)
-            } else {
-                Some(b)
-            }
-        }
+        Some(b) => { if one.at < b.at { Some(one) } else { Some(b) } }
         None => Some(one),
     }
 }
 
 // With what a literal is of the factor.
-fn with_bound(below: bool, best: Option<Bound>, number: u32, constant: i128, x: Affine) -> Option<Bound> {
+fn with_bound(
+    below: bool,
+    best: Option<Bound>,
+    number: u32,
+    constant: i128,
+    x: Affine,
+) -> Option<Bound> {
     if x.factor.negative == below {
         return best;
     }
-    tighter(best, Bound { number, at: quotient(constant, x.factor.size) })
+    tighter(
+        best,
+        Bound {
+            number,
+            at: quotient(constant, x.factor.size),
+        },
+    )
 }
 
 // The number of the literal with a place.
@@ -54,7 +60,12 @@ fn literal_number(i: usize) -> Result<u32, NoMemory> {
 
 /// The tightest lower or upper bound of a factor with this form among the literals, the first of equals. It takes the time of
 /// `form` on each literal.
-pub fn bound_of(terms: &mut Terms, branch: &Branch, below: bool, form: &Form) -> Result<Option<Bound>, NoMemory> {
+pub fn bound_of(
+    terms: &mut Terms,
+    branch: &Branch,
+    below: bool,
+    form: &Form,
+) -> Result<Option<Bound>, NoMemory> {
     let mut best = None;
     for i in 0..branch.literals.len() {
         let number = literal_number(i)?;

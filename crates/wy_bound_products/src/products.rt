@@ -51,7 +51,14 @@ fn bounds_of(terms: &mut Terms, branch: &Branch, t: u32) -> Result<Option<Bounds
 }
 
 // What the product of two bounds states, behind the others.
-fn push_product(terms: &mut Terms, branch: &Branch, stated: &mut Vec<u32>, p: u32, x: Option<Bound>, y: Option<Bound>) -> Result<(), NoMemory> {
+fn push_product(
+    terms: &mut Terms,
+    branch: &Branch,
+    stated: &mut Vec<u32>,
+    p: u32,
+    x: Option<Bound>,
+    y: Option<Bound>,
+) -> Result<(), NoMemory> {
     if let Some(a) = x {
         if let Some(b) = y {
             if let Some(f) = product_stated(terms, branch, a.number, b.number, p)? {
@@ -63,7 +70,14 @@ fn push_product(terms: &mut Terms, branch: &Branch, stated: &mut Vec<u32>, p: u3
 }
 
 // What the products of the bounds of its factors state of a product.
-fn push_four(terms: &mut Terms, branch: &Branch, stated: &mut Vec<u32>, p: u32, s: u32, t: u32) -> Result<(), NoMemory> {
+fn push_four(
+    terms: &mut Terms,
+    branch: &Branch,
+    stated: &mut Vec<u32>,
+    p: u32,
+    s: u32,
+    t: u32,
+) -> Result<(), NoMemory> {
     let Some(x) = bounds_of(terms, branch, s)? else {
         return Ok(());
     };

@@ -48,12 +48,7 @@ fn without_variables(constant: i128) -> Replaced
 }
 
 // By the sum, taken once; where its coefficients have no divisor but 1, twice the sum is divided by 2.
-fn by_sum(
-    alloc: Global,
-    form: &Form,
-    takings: &[Taking],
-    sum: &Form,
-) -> Result<Replaced, NoMemory>
+fn by_sum(alloc: Global, form: &Form, takings: &[Taking], sum: &Form) -> Result<Replaced, NoMemory>
     ensures { IfOk result (λ r. seen_replaced r ≡ bounds.by_common (sum_with (linear_form form.now) (seen_takings takings.now) 2) (linear_form sum.now) (division.common (linear_form sum.now).parts)) }
 {
     let d = common(&sum.parts);

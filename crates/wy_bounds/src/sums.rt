@@ -14,13 +14,7 @@ fn multiplier(k: u128, times: u128) -> Option<u128>
     ensures { MatchOption result (2 ^ 127 ≤ k * times) (λ m. (m ≡ k * times) × (m < 2 ^ 127)) }
 {
     match k.checked_mul(times) {
-        Some(m) => {
-            if m < 1 << 127 {
-                Some(m)
-            } else {
-                None
-            }
-        }
+        Some(m) => { if m < 1 << 127 { Some(m) } else { None } }
         None => None,
     }
 }

@@ -65,13 +65,7 @@ fn same_head(terms: &Terms, s: &Node, t: &Node, parts: &[u32]) -> Result<bool, N
 }
 
 // Whether the terms are pairwise in one class, where there are as many of both.
-fn arguments_equal(
-    terms: &Terms,
-    present: &Present,
-    labels: &[u32],
-    ss: &[u32],
-    ts: &[u32],
-) -> bool
+fn arguments_equal(terms: &Terms, present: &Present, labels: &[u32], ss: &[u32], ts: &[u32]) -> bool
     requires first { AreBelow (length terms.now) ss.now }
     requires second { AreBelow (length terms.now) ts.now }
     requires many { length ss.now ≡ length ts.now }
@@ -87,13 +81,7 @@ fn arguments_equal(
 }
 
 // The same of two terms whose nodes are of one kind.
-fn alike(
-    terms: &Terms,
-    present: &Present,
-    labels: &[u32],
-    s: u32,
-    t: u32,
-) -> Result<bool, NoMemory>
+fn alike(terms: &Terms, present: &Present, labels: &[u32], s: u32, t: u32) -> Result<bool, NoMemory>
     requires first { s < length terms.now }
     requires second { t < length terms.now }
     requires present { IsPresent terms.now present.now }

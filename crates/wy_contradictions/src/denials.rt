@@ -12,13 +12,7 @@ use wy_judging::{Branch, nth_literal};
 use wy_term::{Node, Terms};
 
 // Whether this is a denied equation inside a class.
-fn denies_equal(
-    terms: &Terms,
-    present: &Present,
-    labels: &[u32],
-    atom: u32,
-    holds: bool,
-) -> bool
+fn denies_equal(terms: &Terms, present: &Present, labels: &[u32], atom: u32, holds: bool) -> bool
     requires atom { atom < length terms.now }
     requires present { IsPresent terms.now present.now }
     ensures { result ≡ classes.denies_equal (terms_of (tree_at terms.now) present.now) labels.now holds (tree_at terms.now atom) }

@@ -18,7 +18,12 @@ fn with_instance(terms: &mut Terms, branch: &mut Branch, i: u32, t: u32) -> Resu
 }
 
 // What the literal with a number states of each of these terms.
-fn with_instances_of(terms: &mut Terms, branch: &mut Branch, i: u32, all: &[u32]) -> Result<(), NoMemory> {
+fn with_instances_of(
+    terms: &mut Terms,
+    branch: &mut Branch,
+    i: u32,
+    all: &[u32],
+) -> Result<(), NoMemory> {
     for t in all {
         with_instance(terms, branch, i, *t)?;
     }

@@ -72,11 +72,7 @@ fn with_witness(terms: &mut Terms, spot: Spot, atom: u32, holds: bool) -> Result
 }
 
 // The literals of a node, in order.
-fn literals_of(
-    alloc: Global,
-    terms: &Terms,
-    branch: &Branch,
-) -> Result<Vec<(u32, bool)>, NoMemory>
+fn literals_of(alloc: Global, terms: &Terms, branch: &Branch) -> Result<Vec<(u32, bool)>, NoMemory>
     requires { IsBranch terms.now branch.now }
     ensures { IfOk result (λ ls. ls.items ≡ branch.now.literals.keys) }
 {

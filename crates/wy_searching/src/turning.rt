@@ -58,13 +58,22 @@ fn is_more(literals: usize, pending: usize, branch: &Branch) -> bool {
 }
 
 // A round of expansion, at most two on a path.
-fn on_expansion(terms: &mut Terms, cond: &Cond, spot: Spot, ending: Ending) -> Result<Next, NoMemory> {
+fn on_expansion(
+    terms: &mut Terms,
+    cond: &Cond,
+    spot: Spot,
+    ending: Ending,
+) -> Result<Next, NoMemory> {
     if spot.rounds >= 2 {
         return Ok(Next::Open(spot, why_open(ending)));
     }
     let before = copied(terms.allocator(), &spot)?;
     let more = expanded(terms, cond, spot)?;
-    if is_more(before.branch.literals.len(), before.branch.pending.len(), &more.branch) {
+    if is_more(
+        before.branch.literals.len(),
+        before.branch.pending.len(),
+        &more.branch,
+    ) {
         Ok(Next::GoesOn(more))
     } else {
         Ok(Next::Open(before, why_open(ending)))

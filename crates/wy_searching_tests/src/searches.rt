@@ -32,7 +32,9 @@ fn condition(terms: &mut Terms, row: &Row) -> Result<Cond, NoMemory> {
         at: 0,
         hyps,
         goal,
-        unfold: Unfold { list: Vec::new(alloc) },
+        unfold: Unfold {
+            list: Vec::new(alloc),
+        },
     })
 }
 
@@ -44,7 +46,12 @@ fn word(why: Why) -> &'static str {
     }
 }
 
-fn push_literal(text: &mut Vec<u8>, terms: &mut Terms, atom: u32, holds: bool) -> Result<(), NoMemory> {
+fn push_literal(
+    text: &mut Vec<u8>,
+    terms: &mut Terms,
+    atom: u32,
+    holds: bool,
+) -> Result<(), NoMemory> {
     text.push(10)?;
     if !holds {
         text.extend_from_slice("not ".as_bytes())?;
@@ -62,7 +69,12 @@ fn push_number(text: &mut Vec<u8>, terms: &mut Terms, n: u64) -> Result<(), NoMe
 }
 
 fn push_open(text: &mut Vec<u8>, open: OpenLeaf) -> Result<(), NoMemory> {
-    let OpenLeaf { leaf, why, mut terms, literals } = open;
+    let OpenLeaf {
+        leaf,
+        why,
+        mut terms,
+        literals,
+    } = open;
     push_number(text, &mut terms, leaf)?;
     text.push(32)?;
     text.extend_from_slice(word(why).as_bytes())?;

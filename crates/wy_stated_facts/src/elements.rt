@@ -20,7 +20,13 @@ fn read_count(terms: &Terms, t: u32) -> usize {
 }
 
 // A fact for each of so many numbers.
-fn push_numbered(terms: &mut Terms, cond: &Cond, facts: &mut Vec<u32>, t: u32, count: usize) -> Result<(), NoMemory> {
+fn push_numbered(
+    terms: &mut Terms,
+    cond: &Cond,
+    facts: &mut Vec<u32>,
+    t: u32,
+    count: usize,
+) -> Result<(), NoMemory> {
     for k in 0..count {
         let number = terms.intern(Node::Number(k as i128))?;
         push_fact(terms, cond, facts, 4, &[t, number])?;
@@ -29,7 +35,12 @@ fn push_numbered(terms: &mut Terms, cond: &Cond, facts: &mut Vec<u32>, t: u32, c
 }
 
 /// For each element that is read from an array which is written out, a fact for each number of an element.
-pub fn push_elements(terms: &mut Terms, cond: &Cond, facts: &mut Vec<u32>, found: &Branch) -> Result<(), NoMemory> {
+pub fn push_elements(
+    terms: &mut Terms,
+    cond: &Cond,
+    facts: &mut Vec<u32>,
+    found: &Branch,
+) -> Result<(), NoMemory> {
     for i in 0..found.pending.len() {
         let (t, holds) = pending_at(found, i);
         if holds {
@@ -41,7 +52,13 @@ pub fn push_elements(terms: &mut Terms, cond: &Cond, facts: &mut Vec<u32>, found
 }
 
 // The facts of a term and each of these.
-fn push_pairs_of(terms: &mut Terms, cond: &Cond, facts: &mut Vec<u32>, t: u32, found: &Branch) -> Result<(), NoMemory> {
+fn push_pairs_of(
+    terms: &mut Terms,
+    cond: &Cond,
+    facts: &mut Vec<u32>,
+    t: u32,
+    found: &Branch,
+) -> Result<(), NoMemory> {
     for i in 0..found.pending.len() {
         let (u, holds) = pending_at(found, i);
         if holds && u != t {
@@ -60,7 +77,12 @@ fn is_element(terms: &Terms, t: u32) -> bool {
 }
 
 /// For each two different elements of one array, that they are equal where their indices are.
-pub fn push_pairs(terms: &mut Terms, cond: &Cond, facts: &mut Vec<u32>, found: &Branch) -> Result<(), NoMemory> {
+pub fn push_pairs(
+    terms: &mut Terms,
+    cond: &Cond,
+    facts: &mut Vec<u32>,
+    found: &Branch,
+) -> Result<(), NoMemory> {
     for i in 0..found.pending.len() {
         let (t, holds) = pending_at(found, i);
         if holds && is_element(terms, t) {

@@ -7,7 +7,14 @@ use wy_standing::standing;
 use wy_term::{Cond, NoMemory, Terms};
 
 // The facts of one schema.
-fn push_schema(terms: &mut Terms, cond: &Cond, branch: &Branch, facts: &mut Vec<u32>, schema: u32, found: &Branch) -> Result<(), NoMemory> {
+fn push_schema(
+    terms: &mut Terms,
+    cond: &Cond,
+    branch: &Branch,
+    facts: &mut Vec<u32>,
+    schema: u32,
+    found: &Branch,
+) -> Result<(), NoMemory> {
     match schema {
         1 => push_lengths(terms, cond, facts, found),
         4 => push_elements(terms, cond, facts, found),

@@ -66,7 +66,13 @@ fn is_whole(terms: &mut Terms, v: u32) -> Result<u32, NoMemory> {
 }
 
 // What a test of a term's kind, that is a literal and isn't denied, says of the term.
-fn push_kind(terms: &mut Terms, branch: &Branch, facts: &mut Vec<u32>, t: u32, what: About) -> Result<(), NoMemory> {
+fn push_kind(
+    terms: &mut Terms,
+    branch: &Branch,
+    facts: &mut Vec<u32>,
+    t: u32,
+    what: About,
+) -> Result<(), NoMemory> {
     let says = match what {
         About::Null(v) => is_null(terms, v)?,
         About::Bool(v) => is_bool(terms, v)?,
@@ -84,7 +90,13 @@ fn push_kind(terms: &mut Terms, branch: &Branch, facts: &mut Vec<u32>, t: u32, w
 }
 
 // What is known of a formula as a datum, or of a term of a kind.
-fn push_kind_fact(terms: &mut Terms, cond: &Cond, branch: &Branch, facts: &mut Vec<u32>, t: u32) -> Result<(), NoMemory> {
+fn push_kind_fact(
+    terms: &mut Terms,
+    cond: &Cond,
+    branch: &Branch,
+    facts: &mut Vec<u32>,
+    t: u32,
+) -> Result<(), NoMemory> {
     let what = subject(terms, t);
     if what == About::Formula {
         return push_fact(terms, cond, facts, 14, &[t]);
@@ -97,7 +109,13 @@ fn push_kind_fact(terms: &mut Terms, cond: &Cond, branch: &Branch, facts: &mut V
 }
 
 /// What is known of each formula as a datum, and of each term of which a literal that isn't denied says its kind.
-pub fn push_kind_facts(terms: &mut Terms, cond: &Cond, branch: &Branch, facts: &mut Vec<u32>, found: &Branch) -> Result<(), NoMemory> {
+pub fn push_kind_facts(
+    terms: &mut Terms,
+    cond: &Cond,
+    branch: &Branch,
+    facts: &mut Vec<u32>,
+    found: &Branch,
+) -> Result<(), NoMemory> {
     for i in 0..found.pending.len() {
         let (t, holds) = pending_at(found, i);
         if holds {

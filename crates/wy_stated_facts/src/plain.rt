@@ -4,7 +4,13 @@ use wy_judging::{Branch, pending_at};
 use wy_term::{Cond, NoMemory, Node, Terms};
 
 /// The formula that a schema states of these arguments, behind the others, where they are such as it takes.
-pub fn push_fact(terms: &mut Terms, cond: &Cond, facts: &mut Vec<u32>, schema: u32, arguments: &[u32]) -> Result<(), NoMemory> {
+pub fn push_fact(
+    terms: &mut Terms,
+    cond: &Cond,
+    facts: &mut Vec<u32>,
+    schema: u32,
+    arguments: &[u32],
+) -> Result<(), NoMemory> {
     match fact(terms, cond, schema, arguments) {
         Ok(Some(f)) => {
             facts.push(f)?;
@@ -16,7 +22,13 @@ pub fn push_fact(terms: &mut Terms, cond: &Cond, facts: &mut Vec<u32>, schema: u
 }
 
 /// What a schema states of each of these terms.
-pub fn push_plain(terms: &mut Terms, cond: &Cond, facts: &mut Vec<u32>, schema: u32, found: &Branch) -> Result<(), NoMemory> {
+pub fn push_plain(
+    terms: &mut Terms,
+    cond: &Cond,
+    facts: &mut Vec<u32>,
+    schema: u32,
+    found: &Branch,
+) -> Result<(), NoMemory> {
     for i in 0..found.pending.len() {
         let (t, holds) = pending_at(found, i);
         if holds {
@@ -35,7 +47,12 @@ fn measured(terms: &Terms, t: u32) -> Option<u32> {
 }
 
 /// That each length is at least 0.
-pub fn push_lengths(terms: &mut Terms, cond: &Cond, facts: &mut Vec<u32>, found: &Branch) -> Result<(), NoMemory> {
+pub fn push_lengths(
+    terms: &mut Terms,
+    cond: &Cond,
+    facts: &mut Vec<u32>,
+    found: &Branch,
+) -> Result<(), NoMemory> {
     for i in 0..found.pending.len() {
         let (t, holds) = pending_at(found, i);
         if holds {
