@@ -1,11 +1,10 @@
 -- Classes joined, one literal and one term after the other.
-use Rattle.std.proofs.Common.{◌≡◌, ◌∙◌, ◌+◌, ◌<◌, ℕ, zero, suc, List, [], ◌∷◌, map, drop, length, get_or, Bool, true, false, cond, Some, refl, sym, ap, arith}
+use Rattle.std.proofs.Common.{◌≡◌, ◌∙◌, ◌+◌, ◌<◌, ℕ, zero, suc, List, map, drop, length, get_or, Bool, Some, refl, sym, ap}
 use Rattle.std.specs.Prelude.{slice_get}
 use Rattle.std.proofs.lemmas.List.{drop_more}
 use Rattle.wy_term.specs.Term.{Term}
-use Rattle.wy_judge.specs.Node.{Literal}
 use Rattle.wy_judging.specs.Seen.{seen_literal}
-use Rattle.wy_search.specs.Classes.{are_congruent, with_equal, with_literal, with_equations, with_congruent, with_all_congruent, rounds}
+use Rattle.wy_search.specs.Classes.{with_literal, with_equations, with_congruent, with_all_congruent, rounds}
 use Rattle.wy_classes.specs.Heads.{pair_joined}
 use Rattle.wy_classes.proofs.WalkLemmas.{drop_here}
 

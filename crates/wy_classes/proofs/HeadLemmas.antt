@@ -1,9 +1,8 @@
 -- Terms of other heads, or of other numbers of arguments.
-use Rattle.std.proofs.Common.{◌≡◌, ◌∙◌, ◌&&◌, ◌||◌, ◌+◌, ◌<◌, ℕ, suc, List, [], ◌∷◌, length, drop, get_or, Bool, true, false, refl, sym, ap, arith}
-use Rattle.std.proofs.lemmas.List.{drop_more}
+use Rattle.std.proofs.Common.{◌≡◌, ◌∙◌, ◌&&◌, ℕ, suc, List, [], ◌∷◌, length, Bool, true, false, refl, sym, ap}
 use Rattle.wy_term.specs.Term.{Symbol, Term}
 use Rattle.wy_term.specs.Nodes.{Plain, grown, parts_at}
-use Rattle.wy_term.specs.Same.{same_symbol, same_term}
+use Rattle.wy_term.specs.Same.{same_symbol}
 use Rattle.wy_term.proofs.SameLemmas.{symbols_are}
 use Rattle.wy_judging.proofs.NameLemmas.{and_false}
 use Rattle.wy_search.specs.Classes.{in_one_class, arguments_equal, are_congruent}

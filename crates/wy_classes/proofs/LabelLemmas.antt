@@ -4,7 +4,7 @@ use Rattle.std.specs.Prelude.{slice_get, slice_index}
 use Rattle.std.proofs.lemmas.Bool.{eqb-true}
 use Rattle.std.proofs.lemmas.List.{get_or-map, length-map, take_more}
 use Rattle.wy_term.specs.Term.{Term}
-use Rattle.wy_search.specs.Classes.{numbers_from, relabelled, joined}
+use Rattle.wy_search.specs.Classes.{numbers_from, joined}
 use Rattle.wy_classes.specs.Heads.{moved, own_labels}
 
 -- ---- a label

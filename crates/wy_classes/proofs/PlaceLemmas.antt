@@ -1,5 +1,5 @@
 -- Numbers and their places.
-use Rattle.std.proofs.Common.{◌≡◌, ◌∙◌, ◌+◌, ◌<◌, ◌≤◌, ℕ, zero, suc, List, [], ◌∷◌, ◌++◌, map, length, All, Bool, true, false, cond, eqb, Option, Some, None, refl, sym, ap, subst, arith, append_assoc, drop}
+use Rattle.std.proofs.Common.{◌≡◌, ◌∙◌, ◌+◌, ◌<◌, ◌≤◌, ℕ, suc, List, [], ◌∷◌, ◌++◌, map, length, Bool, true, false, cond, eqb, Option, Some, None, refl, sym, ap, subst, arith, append_assoc, drop}
 use Rattle.std.specs.Prelude.{is_some, slice_get, Result, Ok, Err, OnOk}
 use Rattle.wy_term.specs.Nodes.{Plain}
 use Rattle.std.proofs.lemmas.Bool.{eqb-true}

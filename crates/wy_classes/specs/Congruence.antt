@@ -1,5 +1,5 @@
 -- Congruences that have a node's equations, and what the classes are in each of them.
-use Rattle.std.specs.Prelude.{◌≡◌, ℕ, List, Bool, true}
+use Rattle.std.specs.Prelude.{◌≡◌, List, Bool, true}
 use Rattle.wy_term.specs.Term.{Symbol, Term, Of, Parts, no_parts, part, two, equal}
 use Rattle.wy_judge.specs.Node.{Literal, has_literal}
 use Rattle.wy_search.specs.Classes.{classes, in_one_class}

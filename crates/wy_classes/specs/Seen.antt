@@ -1,5 +1,5 @@
 -- What the terms present stand for.
-use Rattle.std.specs.Prelude.{◌≡◌, ℕ, suc, List, [], ◌∷◌, map, nat_eq, length, ◌==◌, if◌then◌else◌, Option, Some, None, is_some}
+use Rattle.std.specs.Prelude.{◌≡◌, ℕ, suc, List, [], ◌∷◌, map, nat_eq, length, ◌==◌, if◌then◌else◌, Option, Some, None}
 use Rattle.std.specs.HashMap.{get}
 use Rattle.wy_term.specs.Nodes.{Plain}
 use Rattle.wy_term.specs.Term.{Term}

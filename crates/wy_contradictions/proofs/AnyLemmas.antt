@@ -1,12 +1,11 @@
 -- Whether one of a list passes, one after the other.
-use Rattle.std.proofs.Common.{◌≡◌, ◌∙◌, ◌+◌, ◌<◌, ◌≤◌, ◌&&◌, ◌||◌, ℕ, List, [], ◌∷◌, map, drop, length, get_or, Bool, true, false, not, Some, refl, sym, ap}
+use Rattle.std.proofs.Common.{◌≡◌, ◌∙◌, ◌+◌, ◌<◌, ◌≤◌, ◌&&◌, ◌||◌, ℕ, List, ◌∷◌, map, drop, length, get_or, Bool, true, false, not, Some, sym, ap}
 use Rattle.std.specs.Prelude.{slice_get}
 use Rattle.std.proofs.lemmas.List.{drop_more}
 use Rattle.wy_term.specs.Term.{DataKind, Term}
 use Rattle.wy_term.specs.Same.{same_kind}
 use Rattle.wy_term.proofs.SameLemmas.{terms_self}
 use Rattle.wy_clashes.specs.Groups.{as_wanted, in_kinds}
-use Rattle.wy_judge.specs.Node.{Literal}
 use Rattle.wy_judging.specs.Seen.{seen_literal}
 use Rattle.wy_valid.specs.Kinds as valid
 use Rattle.wy_search.specs.Classes.{in_one_class, any_denies, denies_equal, constants_apart, any_apart, kinds_with, any_kinds}

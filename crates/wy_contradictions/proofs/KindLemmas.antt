@@ -1,9 +1,8 @@
 -- Kinds of terms, one after the other.
-use Rattle.std.proofs.Common.{◌≡◌, ◌∙◌, ◌+◌, ◌<◌, ◌≤◌, ℕ, zero, suc, List, [], ◌∷◌, ◌++◌, map, drop, length, get_or, All, Bool, true, false, Option, Some, None, refl, sym, ap, subst, arith, append_assoc}
+use Rattle.std.proofs.Common.{◌≡◌, ◌∙◌, ◌+◌, ◌<◌, ◌≤◌, ℕ, zero, suc, List, [], ◌∷◌, ◌++◌, map, drop, length, get_or, Bool, true, false, Option, Some, None, refl, sym, ap, subst, arith, append_assoc}
 use Rattle.std.specs.Prelude.{slice_get}
 use Rattle.std.proofs.lemmas.List.{append-nil, drop_more}
 use Rattle.wy_term.specs.Term.{DataKind, Term, Of, no_parts, part, of_kind}
-use Rattle.wy_term.specs.Nodes.{plain_kind}
 use Rattle.wy_term.specs.Rewriting.{kind_given}
 use Rattle.wy_judging.specs.Seen.{seen_literal}
 use Rattle.wy_valid.specs.Kinds as valid

@@ -1,8 +1,7 @@
-use Rattle.std.proofs.Common.{◌≡◌, ◌∙◌, ap, sym, length, List, ℕ, false, true, rules}
+use Rattle.std.proofs.Common.{◌≡◌, ◌∙◌, ap, sym, length, List, ℕ, rules}
 use Rattle.wy_term.specs.Nodes.{plain, tree_at}
-use Rattle.wy_term.specs.Same.{same_symbol}
 use Rattle.wy_classes.specs.Seen.{terms_of}
-use Rattle.wy_classes.proofs.HeadLemmas.{other_length, other_head}
+use Rattle.wy_classes.proofs.HeadLemmas.{other_length}
 use Rattle.wy_classes.proofs.congruent.alike.Goals as goal
 
 pub returns-then-len : goal.returns-then-len

@@ -1,4 +1,4 @@
-use Rattle.std.proofs.Common.{◌≡◌, ◌∙◌, sym, rules}
+use Rattle.std.proofs.Common.{◌≡◌, rules}
 use Rattle.wy_term.specs.Nodes.{plain, tree_at}
 use Rattle.wy_classes.specs.Heads.{tag_of}
 use Rattle.wy_classes.specs.Seen.{terms_of}

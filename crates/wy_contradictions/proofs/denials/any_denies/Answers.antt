@@ -1,7 +1,7 @@
 use Rattle.std.proofs.Common.{◌≡◌, ◌∙◌, true, false, sym, rules}
 use Rattle.wy_term.specs.Nodes.{tree_at}
 use Rattle.wy_classes.specs.Seen.{terms_of}
-use Rattle.wy_contradictions.proofs.AnyLemmas.{or_now, or_later, denies_step, denies_end}
+use Rattle.wy_contradictions.proofs.AnyLemmas.{or_now, or_later, denies_step}
 use Rattle.wy_contradictions.proofs.denials.any_denies.Goals as goal
 
 pub returns-then-denies_equal : goal.returns-then-denies_equal
