@@ -7,11 +7,11 @@ use Rattle.wy_term.specs.Same.{same_term}
 use Rattle.wy_term.specs.Condition.{Entry}
 use Rattle.wy_lin.specs.Linear.{◌>>=◌, Linear}
 use Rattle.wy_lin.specs.TermForm.{form_of, form_of_literal}
-use Rattle.wy_facts.specs.Made.{is_equal, implies, either}
+use Rattle.wy_facts.specs.Made.{made_one, is_equal, implies, either}
 use Rattle.wy_facts.specs.Schema.{as_equation}
 use Rattle.wy_judge.specs.Node.{Literal, Node, has_literal, has_formula, added, with_formulas}
 use Rattle.wy_valid.specs.Literals.{formula_of}
-use Rattle.wy_valid.specs.Ranges.{Range, of_each, of_one, instance_at, witness, witnessed_at}
+use Rattle.wy_valid.specs.Ranges.{Range, is_int, of_each, of_one, instance_at, witness, witnessed_at}
 use Rattle.wy_valid.specs.Membership.{fact_among}
 use Rattle.wy_valid.specs.Sums.{all_zero}
 use Rattle.wy_valid.specs.Products.{Affine, affine, as_product, product_of}
@@ -62,9 +62,13 @@ abbrev pub among : List Term → List Term → List Term
 among [] us = []
 among (t ∷ ts) us = if has_formula us t then t ∷ among ts us else among ts us
 
+abbrev pub only_int : List Term → List Term
+only_int [] = []
+only_int (t ∷ ts) = if is_int t then t ∷ only_int ts else only_int ts
+
 -- the Int terms that are an index without bound names, or the name of a witness, by first appearance
 abbrev pub index_terms : Spot → List Term
-index_terms p = among (standing p.node) (with_unbound [] (indices_in (everything p.node)) ++ p.names)
+index_terms p = only_int (among (standing p.node) (with_unbound [] (indices_in (everything p.node)) ++ p.names))
 
 abbrev pub with_instances_of : Node → Bool → Range → List Term → Node
 with_instances_of node holds r [] = node
@@ -128,7 +132,7 @@ equal_to v symbol = is_equal v (leaf symbol)
 abbrev pub kind_says : Term → DataKind → Option Term
 kind_says v null_kind = Some (implies (one (of_kind null_kind) v) (equal_to v null))
 kind_says v bool_kind = Some (implies (one (of_kind bool_kind) v) (either (equal_to v (truth true)) (equal_to v (truth false))))
-kind_says v int_kind = Some (implies (one (of_kind int_kind) v) (is_equal v (one int (one num v))))
+kind_says v int_kind = Some (implies (one (of_kind int_kind) v) (is_equal v (made_one int (made_one num v))))
 kind_says v array_kind = None
 kind_says v (record_kind names) = None
 
