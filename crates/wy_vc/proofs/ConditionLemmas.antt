@@ -87,23 +87,24 @@ first_passing s before k (o ∷ os) rest le w =
     same_unless : {a b : limits.Passing} (c : Bool) (x : limits.Passing) → (c ≡ false → a ≡ b) → (if c then x else a) ≡ (if c then x else b)
     same_unless true x f = refl
     same_unless false x f = f refl
+
     behind : (rest ≡ []) ⊎ (limits.most_conditions < k + suc (length os)) → (rest ≡ []) ⊎ (limits.most_conditions < suc k + length os)
     behind (inl none) = inl none
     behind (inr past) = inr (omega (arith, past))
 
 -- where the limits are kept there are few enough
+few_if : (n k m : ℕ) (many large : Bool) (left : limits.Passing) → (many ≡ false → n ≤ m) → (n ≤ m → left ≡ limits.Within → n + k ≤ m) → (if many then limits.TooMany else (if large then limits.TooLarge n else left)) ≡ limits.Within → n + k ≤ m
+few_if n k m true large left less rest is = absurd (let e : limits.TooMany ≡ limits.Within = is in cc)
+few_if n k m false true left less rest is = absurd (let e : limits.TooLarge n ≡ limits.Within = is in cc)
+few_if n k m false false left less rest is = rest (less refl) is
+
 few_within : (s : Setting Node) (before : List Term) (k : ℕ) (os : List Owed) → k ≤ limits.most_conditions → limits.passing_from s before (suc k) os ≡ limits.Within → k + length os ≤ limits.most_conditions
 few_within s before k [] le is = omega (arith, le)
-few_within s before k (o ∷ os) le is = by_number (nat_lt limits.most_conditions (suc k)) refl is
-  where
-    left : limits.Passing
-    left = limits.passing_from s (before ++ limits.terms_of s o) (suc (suc k)) os
-    by_size : (c : Bool) → suc k ≤ limits.most_conditions → (if c then limits.TooLarge (suc k) else left) ≡ limits.Within → k + suc (length os) ≤ limits.most_conditions
-    by_size true few so = absurd (let e : limits.TooLarge (suc k) ≡ limits.Within = so in cc)
-    by_size false few so = let n = few_within s (before ++ limits.terms_of s o) (suc k) os few so in omega (arith, n)
-    by_number : (c : Bool) → nat_lt limits.most_conditions (suc k) ≡ c → (if c then limits.TooMany else (if limits.is_too_large s before o then limits.TooLarge (suc k) else left)) ≡ limits.Within → k + suc (length os) ≤ limits.most_conditions
-    by_number true many so = absurd (let e : limits.TooMany ≡ limits.Within = so in cc)
-    by_number false few so = by_size (limits.is_too_large s before o) (ltb-false limits.most_conditions (suc k) few) so
+few_within s before k (o ∷ os) le is =
+    let n : suc k + length os ≤ limits.most_conditions =
+    few_if (suc k) (length os) limits.most_conditions (nat_lt limits.most_conditions (suc k)) (limits.is_too_large s before o) (limits.passing_from s (before ++ limits.terms_of s o) (suc (suc k)) os)
+    (λ few. ltb-false limits.most_conditions (suc k) few) (λ next so. few_within s (before ++ limits.terms_of s o) (suc k) os next so) is in
+    omega (arith, n)
 
 -- the limit that the first conditions pass is that of all
 pub limit_is : (typed : Triple) (os : List Owed) (ts : List Told) → AreFirst os (owed_by typed) → ts ≡ map (told (setting_in typed)) os → passing_told [] 1 ts ≡ limit_of typed
@@ -114,7 +115,7 @@ limit_is typed os ts first is =
   where
     counted : (first.rest ≡ []) ⊎ (nat_lt limits.most_conditions (length os) ≡ true) → (first.rest ≡ []) ⊎ (limits.most_conditions < 0 + length os)
     counted (inl none) = inl none
-    counted (inr past) = inr (ltb-true limits.most_conditions (length os) past)
+    counted (inr past) = inr (let lt = ltb-true limits.most_conditions (length os) past in omega (arith, lt))
 
 -- where the limits are kept, the first conditions are all
 pub list_is : (typed : Triple) (os : List Owed) (ts : List Told) → AreFirst os (owed_by typed) → ts ≡ map (told (setting_in typed)) os → passing_told [] 1 ts ≡ limits.Within → ts ≡ told_of typed
@@ -122,7 +123,10 @@ list_is typed os ts first is within =
     is ∙ ap (λ (l : List Owed). map (told (setting_in typed)) l) (sym (append-nil os) ∙ ap (λ (l : List Owed). os ++ l) (sym (none first.whole)) ∙ first.is)
   where
     few : length os ≤ limits.most_conditions
-    few = few_within (setting_in typed) [] 0 os (omega arith) (sym (told_passing (setting_in typed) [] 1 os) ∙ ap (λ (l : List Told). passing_told [] 1 l) (sym is) ∙ within)
+    few =
+        let le = few_within (setting_in typed) [] 0 os (omega arith) (sym (told_passing (setting_in typed) [] 1 os) ∙ ap (λ (l : List Told). passing_told [] 1 l) (sym is) ∙ within) in
+        omega (arith, le)
+
     none : (first.rest ≡ []) ⊎ (nat_lt limits.most_conditions (length os) ≡ true) → first.rest ≡ []
     none (inl e) = e
     none (inr past) = let lt = ltb-true limits.most_conditions (length os) past in let le = few in absurd (omega (arith, lt, le))
@@ -144,16 +148,22 @@ cut_first z a b all maker owed none o = record {
   where
     S : Goal → Owed
     S = seen_goal a.maker.terms
+
     items : List Goal
     items = a.owed.items
+
     front : List Goal
     front = take (suc limits.most_conditions) a.owed.items
+
     behind : List Goal
     behind = drop (suc limits.most_conditions) a.owed.items
+
     kept : owed_of b ≡ map S front
     kept = ap (λ (m : Maker). map (seen_goal m.terms) b.owed.items) maker ∙ ap (λ (gs : List Goal). map S gs) owed
+
     long : limits.most_conditions < length items → nat_lt limits.most_conditions (length (owed_of b)) ≡ true
-    long past = lt-ltb limits.most_conditions (length (owed_of b)) (let n = ap length kept ∙ length-map S front ∙ length-take (suc limits.most_conditions) items in omega (arith, n, past))
+    long past = lt-ltb limits.most_conditions (length (owed_of b)) (let n = ap length kept ∙ length-map front S ∙ length-take (suc limits.most_conditions) items in omega (arith, n, past))
+
     by_count : (c : Bool) → nat_lt limits.most_conditions (length items) ≡ c → (o.rest ≡ []) ⊎ (nat_lt limits.most_conditions (length items) ≡ true)
         → (map S behind ++ o.rest ≡ []) ⊎ (nat_lt limits.most_conditions (length (owed_of b)) ≡ true)
     by_count true past w = inr (long (ltb-true limits.most_conditions (length items) past))
