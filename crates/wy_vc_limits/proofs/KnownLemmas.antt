@@ -1,10 +1,9 @@
 -- What formulas test, each looked through once.
 use Rattle.std.proofs.Common.{◌≡◌, ◌<◌, ◌≤◌, ◌+◌, inl, inr, ℕ, zero, suc, Bool, true, false, List, [], ◌∷◌, ◌++◌, length, map, drop, get_or, slice_set, Option, Some, None, refl, sym, ◌∙◌, ap, subst, arith}
-use Rattle.std.specs.Prelude.{slice_get}
 use Rattle.std.proofs.lemmas.List.{append-nil, append_assoc, drop_all, drop_more}
 use Rattle.wy_conditions.specs.Limits.{is_among, tests_in, tests_in_all}
 use Rattle.wy_term.specs.Nodes.{Plain, tree_at}
-use Rattle.wy_vc_shared.proofs.AmongLemmas.{among_either, among_first, among_left, among_more, among_right}
+use Rattle.wy_vc_shared.proofs.AmongLemmas.{among_cases, among_either, among_left, among_right}
 use Rattle.wy_vc_shared.proofs.ListedLemmas.{same_test}
 use Rattle.wy_vc_limits.specs.Known.{AreAlike, AreTestedFrom, IsTested}
 use Rattle.wy_vc_limits.specs.declared.known.Tested.{Tested}
@@ -48,16 +47,22 @@ known_set nodes i os new t set tests are =
     subst (λ (l : List (Option Tested)). AreTestedFrom nodes 0 l) (sym set)
     (set_from nodes 0 i i os (Some t) (omega arith) (λ n. tests n ∙ ap (λ (l : List ℕ). is_among l n) (append-nil (tests_in (tree_at nodes i)))) are)
 
-get_from : (nodes : List Plain) (k i m : ℕ) (os : List (Option Tested)) (o : Option Tested) → k + i ≡ m → slice_get os i ≡ Some o → AreTestedFrom nodes k os → IsTested nodes m o
-get_from nodes k i m [] o at got are = absurd cc
-get_from nodes k zero m (x ∷ os) o at got are = subst (λ (j : ℕ). IsTested nodes j o) (omega (arith, at)) (subst (λ (y : Option Tested). IsTested nodes k y) (let e : x ≡ o = cc in e) are.0)
-get_from nodes k (suc i) m (x ∷ os) o at got are = get_from nodes (suc k) i m os o (omega (arith, at)) got are.1
+known_from : (nodes : List Plain) (k i m : ℕ) (os : List (Option Tested)) (o : Option Tested) → k + i ≡ m → i < length os → o ≡ get_or os i o → AreTestedFrom nodes k os → IsTested nodes m o
+known_from nodes k i m [] o at lt is are = absurd (omega (arith, lt))
+known_from nodes k zero m (x ∷ os) o at lt is are = subst (λ (j : ℕ). IsTested nodes j o) (omega (arith, at)) (subst (λ (y : Option Tested). IsTested nodes k y) (sym is) are.0)
+known_from nodes k (suc i) m (x ∷ os) o at lt is are = known_from nodes (suc k) i m os o (omega (arith, at)) (omega (arith, lt)) is are.1
 
-pub put_known : (nodes : List Plain) (os : List (Option Tested)) (i : ℕ) (o : Option Tested) (t : Tested) (slice old new : List ℕ) → slice_get os i ≡ Some o → o ≡ Some t → slice ≡ t.types.items → new ≡ old ++ slice → AreTestedFrom nodes 0 os
-    → AreAlike new (old ++ tests_in (tree_at nodes i))
-put_known nodes os i o t slice old new got some slice_is pushed are =
-    subst (λ (l : List ℕ). AreAlike l (old ++ tests_in (tree_at nodes i))) (sym (pushed ∙ ap (λ (l : List ℕ). old ++ l) slice_is))
-    (alike_behind old t.types.items (tests_in (tree_at nodes i)) (subst (λ (y : Option Tested). IsTested nodes i y) some (get_from nodes 0 i i os o (omega arith) got are)))
+pub known_at : (nodes : List Plain) (i : ℕ) (os : List (Option Tested)) (o : Option Tested) → i < length os → o ≡ get_or os i o → AreTestedFrom nodes 0 os → IsTested nodes i o
+known_at nodes i os o lt is are = known_from nodes 0 i i os o (omega arith) lt is are
+
+pub put_known : (nodes : List Plain) (k : ℕ) (o : Option Tested) (t : Tested) (slice old new : List ℕ) → o ≡ Some t → slice ≡ t.types.items → new ≡ old ++ slice → IsTested nodes k o → AreAlike new (old ++ tests_in (tree_at nodes k))
+put_known nodes k o t slice old new some slice_is pushed is =
+    subst (λ (l : List ℕ). AreAlike l (old ++ tests_in (tree_at nodes k))) (sym (pushed ∙ ap (λ (l : List ℕ). old ++ l) slice_is))
+    (alike_behind old t.types.items (tests_in (tree_at nodes k)) (subst (λ (y : Option Tested). IsTested nodes k y) some is))
+
+-- the number of a formula alone
+pub alone_below : (n k j : ℕ) → k < n → is_among (k ∷ []) j ≡ true → j < n
+alone_below n k j lt h = elim (among_cases k [] j h) as (λ _. j < n) [ inl e ↦ subst (λ (x : ℕ). x < n) e lt | inr none ↦ absurd (let f : false ≡ true = none in cc) ]
 
 -- ---- one formula after the other
 

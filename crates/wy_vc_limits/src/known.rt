@@ -1,5 +1,5 @@
 //! Which named types formulas test. Each formula is looked through once, however many conditions it stands in.
-ghost use Rattle.std.specs.Prelude.{◌≡◌, ◌++◌, ◌<◌, [], ℕ, List, Some, slice_set, length as count_of, map, true, IfOk, OnOk};
+ghost use Rattle.std.specs.Prelude.{◌≡◌, ◌++◌, ◌<◌, [], ℕ, List, Some, nat_le, slice_set, length as count_of, map, true, IfOk, OnOk};
 ghost use Rattle.wy_conditions.specs.Limits.{is_among, tests_in, tests_in_all};
 ghost use Rattle.wy_term.specs.Nodes.{Plain, tree_at};
 ghost use Rattle.wy_vc_limits.specs.Known as spec;
@@ -19,28 +19,33 @@ pub fn nothing_known(alloc: Global, count: usize) -> Result<Vec<Option<Tested>>,
     ensures value { IfOk result (λ known. (nodes : List Plain) → spec.AreTestedFrom nodes 0 known.items) }
 {
     let mut known = Vec::new(alloc);
-    for _place in 0..count {
+    for number in 0..count {
         known.push(None)?;
     }
     Ok(known)
 }
 
-// Whether a formula with this number is there and wasn't looked through.
-fn is_fresh(known: &[Option<Tested>], index: usize) -> bool
-    ensures { result ≡ true → index < count_of known.now }
+// Whether there is no place for a formula with this number.
+fn is_past(known: &[Option<Tested>], index: usize) -> bool
+    ensures value { result ≡ nat_le (count_of known.now) index }
 {
-    match known.get(index) {
-        None => false,
-        Some(tested) => tested.is_none(),
-    }
+    known.len() <= index
 }
 
-// This is what the formula tests.
+// This is what the formula with this number tests.
 fn note(known: &mut Vec<Option<Tested>>, index: usize, tested: Tested)
     requires { index < count_of known.old.items }
     ensures value { known.new.items ≡ slice_set known.old.items index (Some tested) }
 {
     known[index] = Some(tested);
+}
+
+// Whether the formula with this number was looked through.
+fn is_known(known: &[Option<Tested>], index: usize) -> bool {
+    match known.get(index) {
+        None => false,
+        Some(tested) => tested.is_some(),
+    }
 }
 
 // Looks through a formula, if that wasn't done.
@@ -50,24 +55,39 @@ fn learn(terms: &Terms, known: &mut Vec<Option<Tested>>, formula: u32) -> Result
     ensures known { OnOk result (spec.AreTestedFrom terms.now 0 known.new.items) }
 {
     let index = formula as usize;
-    let fresh = is_fresh(known.as_slice(), index);
-    if fresh {
-        let types = types_tested(terms, &[formula])?;
-        note(known, index, Tested { types });
+    let past = is_past(known.as_slice(), index);
+    if past {
+        return Ok(());
     }
+    let done = is_known(known.as_slice(), index);
+    if done {
+        return Ok(());
+    }
+    let types = types_tested(terms, &[formula])?;
+    note(known, index, Tested { types });
     Ok(())
 }
 
 // Puts the types that a formula tests behind others. One that wasn't looked through is want of memory.
+fn put_tested(tested: &Option<Tested>, types: &mut Vec<u32>) -> Result<(), NoMemory>
+    ensures value { (nodes : List Plain) (k : ℕ) → spec.IsTested nodes k tested.now → OnOk result (spec.AreAlike types.new.items (types.old.items ++ tests_in (tree_at nodes k))) }
+{
+    match tested {
+        None => Err(NoMemory),
+        Some(tested) => {
+            types.extend_from_slice(tested.types.as_slice())?;
+            Ok(())
+        }
+    }
+}
+
+// Puts the types that the formula with this number tests behind others. One that wasn't looked through is want of memory.
 fn put_types(known: &[Option<Tested>], formula: u32, types: &mut Vec<u32>) -> Result<(), NoMemory>
     ensures value { (nodes : List Plain) → spec.AreTestedFrom nodes 0 known.now → OnOk result (spec.AreAlike types.new.items (types.old.items ++ tests_in (tree_at nodes formula))) }
 {
     match known.get(formula as usize) {
-        Some(Some(tested)) => {
-            types.extend_from_slice(tested.types.as_slice())?;
-            Ok(())
-        }
-        _ => Err(NoMemory),
+        None => Err(NoMemory),
+        Some(tested) => put_tested(tested, types),
     }
 }
 
