@@ -36,9 +36,12 @@ pub enum EvalEnd {
 /// contracts and the declarations met, and each evaluated node may copy a value.
 ///
 /// `TurnsSpent` comes exactly where contracts spend more than `turns`; every other end is that of an
-/// evaluation whose turns have no limit. The stack is bounded: each nested statement, expression, call
-/// and visit takes one of `ROOM` levels, 4,096 of them, and where these are used up the answer is want
-/// of memory. With at most 2,000 ticks code nests no deeper than that: each level spends a tick.
+/// evaluation whose turns have no limit. The stack is bounded: each nested statement, expression and call
+/// of code takes one of `ROOM` levels, 4,096 of them, and each contract or test of a type has as many of
+/// its own; where these are used up the answer is want of memory. With at most 2,000 ticks code nests no
+/// deeper than that: each level spends a tick. What contracts ask of a value spends none: it nests as deep
+/// as the value, which with these ticks has fewer than 800 levels where the arguments have 100, by what
+/// the type takes at each.
 pub fn eval(
     alloc: Global,
     core: &Core,

@@ -7,10 +7,13 @@ use std::alloc::{AllocError, Global};
 use wy_core::{Alias, Core, Decl};
 use wy_items::Items;
 
-/// How deeply evaluations and visits may nest in contracts. An expression that the parser takes nests
-/// at most 400 deep. A program that begins with a value of 100 levels deepens it by a level in four
-/// ticks at best, so 2,000 ticks make at most 600 levels; a recursive type is visited in at most four
-/// nested visits for each of them.
+/// How deeply evaluations and visits may nest. Each nested statement, expression and call of code takes
+/// one of these levels; a contract, and a test of a type, has as many of its own for its expressions and
+/// visits. Where they are used up the answer is want of memory: so they bound the machine's own stack,
+/// whatever the depth of a value, by twice their number. An expression that the parser takes nests at most
+/// 400 deep. A value that is read has at most 100 levels, and a level more costs three ticks at best, so
+/// with 2,000 ticks a value has fewer than 800; a visit takes as many levels at each of them as its type
+/// has there, three of `type List is null | {int head, List tail}`.
 pub const ROOM: u32 = 4096;
 
 /// The declared types of a program, by their numbers, and how many turns contracts may spend.

@@ -57,7 +57,7 @@ fn code_of(alloc: Global, core: &Core) -> Result<Code, NoMemory>
     let routines = type_routines(alloc, &context, decls, routines)?;
     let Context { table, results: _ } = context;
     Ok(Code {
-        shapes: table,
+        shapes: table.into_shapes(alloc)?,
         routines,
     })
 }

@@ -93,7 +93,7 @@ fn slots(
                 register = next(register)?;
             }
             StepKind::Field(name) => {
-                let number = name_number(name, context.table.names.as_slice())?;
+                let number = name_number(name, &context.table)?;
                 slots.push(Slot::Field(number))?;
             }
         }

@@ -66,7 +66,7 @@ pub fn code(
             code(alloc, context, array.get(), register, behind)
         }
         ExprKind::Field(whole, name) => {
-            let number = name_number(name, context.table.names.as_slice())?;
+            let number = name_number(name, &context.table)?;
             let behind = plain(Instr::Field(register, register, number), behind)?;
             code(alloc, context, whole.get(), register, behind)
         }

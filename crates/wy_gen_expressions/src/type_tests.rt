@@ -124,7 +124,7 @@ fn test_fields(
         let field = &fields[left];
         steps = field_end(alloc, answer, free, end, steps)?;
         steps = test(alloc, context, &field.1, free, answer, inner, steps)?;
-        let number = name_number(&field.0, context.table.names.as_slice())?;
+        let number = name_number(&field.0, &context.table)?;
         steps = does(Instr::Field(free, value, number), steps)?;
     }
     Ok(steps)

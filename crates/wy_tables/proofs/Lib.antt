@@ -1,2 +1,4 @@
+pub mod KeyLemmas
+pub mod LessLemmas
 pub mod NameLemmas
 pub mod TargetLemmas

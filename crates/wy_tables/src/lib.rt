@@ -6,9 +6,12 @@
 #![tactic(auto)]
 
 mod context;
+mod shape;
+mod table;
 mod tables;
 mod targets;
 
 pub use context::Context;
-pub use tables::{context_of, name_number, shape_number};
+pub use table::{Table, name_number};
+pub use tables::{context_of, shape_number};
 pub use targets::{Target, called};

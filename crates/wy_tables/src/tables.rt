@@ -1,27 +1,23 @@
 //! The names of fields and the shapes of records in a program.
-ghost use Rattle.std.specs.Prelude.{◌≡◌, ◌∷◌, [], IfOk, map, is_some, bytes_eq};
+ghost use Rattle.std.specs.Prelude.{◌≡◌, ◌∷◌, [], IfOk, map, is_some};
 ghost use Rattle.wy_core.specs.CoreSeen.{seen_block, seen_core, seen_decl, seen_expr, seen_exprs, seen_fields, seen_option, seen_step, seen_stmt, seen_output, seen_ty, field_tys_of};
 ghost use Rattle.wy_core.specs.CoreTree.{exprs_of, routines_of};
 ghost use Rattle.wy_tables.specs.Tables as spec;
 
 use crate::context::Context;
+use crate::table::{Table, list_number, name_number, with_name, with_shape};
 use std::alloc::Global;
 use wy_core::{Core, Decl, Expr, ExprKind, Output, Step, StepKind, Stmt, StmtKind, Ty, TyKind};
 use wy_data::Name;
 use wy_items::Items;
-use wy_pieces::{NoMemory, next};
-use wy_value::Shapes;
+use wy_pieces::NoMemory;
 
-/// What the code of a program is made by. It goes through each node once, and each name of a field
-/// through the names so far.
+/// What the code of a program is made by. It goes through each node once, and finds names and shapes
+/// that were met by hashing them.
 pub fn context_of(alloc: Global, core: &Core) -> Result<Context, NoMemory>
     ensures value { IfOk result (λ c. c ≡ spec.context_of (seen_core core.now)) }
 {
-    let none = Shapes {
-        names: Items::new(alloc),
-        lists: Items::new(alloc),
-    };
-    let table = decls_table(alloc, core.decls.as_slice(), none)?;
+    let table = decls_table(alloc, core.decls.as_slice(), Table::new(alloc))?;
     let results = results_of(alloc, core.decls.as_slice())?;
     Ok(Context { table, results })
 }
@@ -48,7 +44,7 @@ fn gives(output: &Option<Output>) -> bool
     }
 }
 
-fn decls_table(alloc: Global, decls: &[Decl], table: Shapes) -> Result<Shapes, NoMemory>
+fn decls_table(alloc: Global, decls: &[Decl], table: Table) -> Result<Table, NoMemory>
     ensures value { IfOk result (λ t. t ≡ spec.decls_table (map seen_decl decls.now) table) }
 {
     let mut table = table;
@@ -58,7 +54,7 @@ fn decls_table(alloc: Global, decls: &[Decl], table: Shapes) -> Result<Shapes, N
     Ok(table)
 }
 
-fn decl_table(alloc: Global, decl: &Decl, table: Shapes) -> Result<Shapes, NoMemory>
+fn decl_table(alloc: Global, decl: &Decl, table: Table) -> Result<Table, NoMemory>
     ensures value { IfOk result (λ t. t ≡ spec.decl_table (seen_decl decl.now) table) }
 {
     match decl {
@@ -73,7 +69,7 @@ fn decl_table(alloc: Global, decl: &Decl, table: Shapes) -> Result<Shapes, NoMem
 // ---- types
 
 #[cycle(types)]
-fn ty_table(alloc: Global, ty: &Ty, table: Shapes) -> Result<Shapes, NoMemory>
+fn ty_table(alloc: Global, ty: &Ty, table: Table) -> Result<Table, NoMemory>
     ensures value { IfOk result (λ t. t ≡ spec.ty_table (seen_ty ty.now) table) }
 {
     match &ty.kind {
@@ -99,7 +95,7 @@ fn ty_table(alloc: Global, ty: &Ty, table: Shapes) -> Result<Shapes, NoMemory>
 }
 
 #[cycle(types)]
-fn record_table(alloc: Global, fields: &[(Name, Ty)], table: Shapes) -> Result<Shapes, NoMemory>
+fn record_table(alloc: Global, fields: &[(Name, Ty)], table: Table) -> Result<Table, NoMemory>
     ensures value { IfOk result (λ t. t ≡ spec.record_table (field_tys_of (map (λ f. (f.0, seen_ty f.1)) fields.now)) table) }
 {
     let table = field_tys_table(alloc, fields, table)?;
@@ -107,7 +103,7 @@ fn record_table(alloc: Global, fields: &[(Name, Ty)], table: Shapes) -> Result<S
 }
 
 #[cycle(types)]
-fn field_tys_table(alloc: Global, fields: &[(Name, Ty)], table: Shapes) -> Result<Shapes, NoMemory>
+fn field_tys_table(alloc: Global, fields: &[(Name, Ty)], table: Table) -> Result<Table, NoMemory>
     ensures value { IfOk result (λ t. t ≡ spec.field_tys_table (field_tys_of (map (λ f. (f.0, seen_ty f.1)) fields.now)) table) }
 {
     let mut table = table;
@@ -119,53 +115,17 @@ fn field_tys_table(alloc: Global, fields: &[(Name, Ty)], table: Shapes) -> Resul
 
 // ---- names and shapes
 
-/// A name is in the table.
-fn with_name(alloc: Global, name: &Name, table: Shapes) -> Result<Shapes, NoMemory>
-    ensures value { IfOk result (λ t. t ≡ spec.with_name name.now table) }
-{
-    let Shapes { mut names, lists } = table;
-    if !has_name(name, names.as_slice()) {
-        names.push(name.copy(alloc)?)?;
-    }
-    Ok(Shapes { names, lists })
-}
-
-fn has_name(name: &Name, names: &[Name]) -> bool
-    ensures value { result ≡ spec.stands name.now names.now }
-{
-    for other in names {
-        if other.is(name) {
-            return true;
-        }
-    }
-    false
-}
-
-/// The number of a name, and the number of names where it isn't there.
-pub fn name_number(name: &Name, names: &[Name]) -> Result<u32, NoMemory>
-    ensures value { IfOk result (λ n. n ≡ spec.number_of name.now names.now) }
-{
-    let mut number = 0u32;
-    for other in names {
-        if other.is(name) {
-            return Ok(number);
-        }
-        number = next(number)?;
-    }
-    Ok(number)
-}
-
 /// The shape of these fields is in the table, and so are their names.
-fn with_shape_of<T>(alloc: Global, fields: &[(Name, T)], table: Shapes) -> Result<Shapes, NoMemory>
+fn with_shape_of<T>(alloc: Global, fields: &[(Name, T)], table: Table) -> Result<Table, NoMemory>
     ensures value { IfOk result (λ t. t ≡ spec.with_shape (map (λ f. f.0) fields.now) table) }
 {
     let table = with_names(alloc, fields, table)?;
-    let list = numbers_of(alloc, fields, table.names.as_slice())?;
+    let list = numbers_of(alloc, fields, &table)?;
     with_shape(list, table)
 }
 
 /// The names of these fields are in the table.
-fn with_names<T>(alloc: Global, fields: &[(Name, T)], table: Shapes) -> Result<Shapes, NoMemory>
+fn with_names<T>(alloc: Global, fields: &[(Name, T)], table: Table) -> Result<Table, NoMemory>
     ensures value { IfOk result (λ t. t ≡ spec.with_names (map (λ f. f.0) fields.now) table) }
 {
     let mut table = table;
@@ -176,74 +136,29 @@ fn with_names<T>(alloc: Global, fields: &[(Name, T)], table: Shapes) -> Result<S
 }
 
 /// The numbers of the names of fields.
-fn numbers_of<T>(
-    alloc: Global,
-    fields: &[(Name, T)],
-    names: &[Name],
-) -> Result<Items<u32>, NoMemory>
-    ensures value { IfOk result (λ l. l ≡ spec.numbers_of names.now (map (λ f. f.0) fields.now)) }
+fn numbers_of<T>(alloc: Global, fields: &[(Name, T)], table: &Table) -> Result<Items<u32>, NoMemory>
+    ensures value { IfOk result (λ l. l ≡ spec.numbers_of table.now.names (map (λ f. f.0) fields.now)) }
 {
     let mut list = Items::new(alloc);
     for field in fields {
-        list.push(name_number(&field.0, names)?)?;
+        list.push(name_number(&field.0, table)?)?;
     }
     Ok(list)
 }
 
-/// A shape is in the table.
-fn with_shape(list: Items<u32>, table: Shapes) -> Result<Shapes, NoMemory>
-    ensures value { IfOk result (λ t. t ≡ record { names = table.names; lists = spec.with_one table.lists list }) }
-{
-    let Shapes { names, mut lists } = table;
-    if !has_shape(list.as_slice(), lists.as_slice()) {
-        lists.push(list)?;
-    }
-    Ok(Shapes { names, lists })
-}
-
-fn has_shape(list: &[u32], lists: &[Items<u32>]) -> bool
-    ensures value { result ≡ spec.stands list.now lists.now }
-{
-    for other in lists {
-        if same_numbers(other.as_slice(), list) {
-            return true;
-        }
-    }
-    false
-}
-
-/// The number of the shape of these fields, and the number of shapes where it isn't there. It goes
-/// through the shapes of the table.
-pub fn shape_number<T>(alloc: Global, fields: &[(Name, T)], table: &Shapes) -> Result<u32, NoMemory>
+/// The number of the shape of these fields, and the number of shapes where it isn't there, in time
+/// linear in the fields beside that of hashing them.
+pub fn shape_number<T>(alloc: Global, fields: &[(Name, T)], table: &Table) -> Result<u32, NoMemory>
     ensures value { IfOk result (λ n. n ≡ spec.shape_number table.now (map (λ f. f.0) fields.now)) }
 {
-    let list = numbers_of(alloc, fields, table.names.as_slice())?;
-    list_number(list.as_slice(), table.lists.as_slice())
-}
-
-fn list_number(list: &[u32], lists: &[Items<u32>]) -> Result<u32, NoMemory>
-    ensures value { IfOk result (λ n. n ≡ spec.number_of list.now lists.now) }
-{
-    let mut number = 0u32;
-    for other in lists {
-        if same_numbers(other.as_slice(), list) {
-            return Ok(number);
-        }
-        number = next(number)?;
-    }
-    Ok(number)
-}
-
-fn same_numbers(a: &[u32], b: &[u32]) -> bool
-    ensures value { result ≡ bytes_eq a.now b.now }
-{
-    a == b
+    let list = numbers_of(alloc, fields, table)?;
+    list_number(list, table)
 }
 
 // ---- expressions
 
 #[cycle(exprs)]
-fn expr_table(alloc: Global, expr: &Expr, table: Shapes) -> Result<Shapes, NoMemory>
+fn expr_table(alloc: Global, expr: &Expr, table: Table) -> Result<Table, NoMemory>
     ensures value { IfOk result (λ t. t ≡ spec.expr_table (seen_expr expr.now) table) }
 {
     match &expr.kind {
@@ -286,7 +201,7 @@ fn expr_table(alloc: Global, expr: &Expr, table: Shapes) -> Result<Shapes, NoMem
 }
 
 #[cycle(exprs)]
-fn exprs_table(alloc: Global, exprs: &[Expr], table: Shapes) -> Result<Shapes, NoMemory>
+fn exprs_table(alloc: Global, exprs: &[Expr], table: Table) -> Result<Table, NoMemory>
     ensures value { IfOk result (λ t. t ≡ spec.exprs_table (exprs_of (seen_exprs exprs.now)) table) }
 {
     let mut table = table;
@@ -301,8 +216,8 @@ fn exprs_table(alloc: Global, exprs: &[Expr], table: Shapes) -> Result<Shapes, N
 fn record_expr_table(
     alloc: Global,
     fields: &[(Name, Expr)],
-    table: Shapes,
-) -> Result<Shapes, NoMemory>
+    table: Table,
+) -> Result<Table, NoMemory>
     ensures value { IfOk result (λ t. t ≡ spec.fields_shape (seen_fields fields.now) table) }
 {
     let table = fields_table(alloc, fields, table)?;
@@ -310,7 +225,7 @@ fn record_expr_table(
 }
 
 #[cycle(exprs)]
-fn fields_table(alloc: Global, fields: &[(Name, Expr)], table: Shapes) -> Result<Shapes, NoMemory>
+fn fields_table(alloc: Global, fields: &[(Name, Expr)], table: Table) -> Result<Table, NoMemory>
     ensures value { IfOk result (λ t. t ≡ spec.fields_table (seen_fields fields.now) table) }
 {
     let mut table = table;
@@ -320,7 +235,7 @@ fn fields_table(alloc: Global, fields: &[(Name, Expr)], table: Shapes) -> Result
     Ok(table)
 }
 
-fn option_table(alloc: Global, value: &Option<Expr>, table: Shapes) -> Result<Shapes, NoMemory>
+fn option_table(alloc: Global, value: &Option<Expr>, table: Table) -> Result<Table, NoMemory>
     ensures value { IfOk result (λ t. t ≡ spec.option_table (seen_option value.now) table) }
 {
     match value {
@@ -331,7 +246,7 @@ fn option_table(alloc: Global, value: &Option<Expr>, table: Shapes) -> Result<Sh
 
 // ---- statements
 
-fn path_table(alloc: Global, path: &[Step], table: Shapes) -> Result<Shapes, NoMemory>
+fn path_table(alloc: Global, path: &[Step], table: Table) -> Result<Table, NoMemory>
     ensures value { IfOk result (λ t. t ≡ spec.path_table (map seen_step path.now) table) }
 {
     let mut table = table;
@@ -341,7 +256,7 @@ fn path_table(alloc: Global, path: &[Step], table: Shapes) -> Result<Shapes, NoM
     Ok(table)
 }
 
-fn step_table(alloc: Global, step: &Step, table: Shapes) -> Result<Shapes, NoMemory>
+fn step_table(alloc: Global, step: &Step, table: Table) -> Result<Table, NoMemory>
     ensures value { IfOk result (λ t. t ≡ spec.path_table (seen_step step.now ∷ []) table) }
 {
     match &step.kind {
@@ -351,7 +266,7 @@ fn step_table(alloc: Global, step: &Step, table: Shapes) -> Result<Shapes, NoMem
 }
 
 #[cycle(stmts)]
-fn stmt_table(alloc: Global, stmt: &Stmt, table: Shapes) -> Result<Shapes, NoMemory>
+fn stmt_table(alloc: Global, stmt: &Stmt, table: Table) -> Result<Table, NoMemory>
     ensures value { IfOk result (λ t. t ≡ spec.stmt_table (seen_stmt stmt.now) table) }
 {
     match &stmt.kind {
@@ -380,7 +295,7 @@ fn stmt_table(alloc: Global, stmt: &Stmt, table: Shapes) -> Result<Shapes, NoMem
 }
 
 #[cycle(stmts)]
-fn block_table(alloc: Global, block: &[Stmt], table: Shapes) -> Result<Shapes, NoMemory>
+fn block_table(alloc: Global, block: &[Stmt], table: Table) -> Result<Table, NoMemory>
     ensures value { IfOk result (λ t. t ≡ spec.stmts_table (seen_block block.now) table) }
 {
     let mut table = table;

@@ -1,5 +1,5 @@
 -- A source has one text of a kind, or one refusal.
-use Rattle.std.proofs.Common.{◌≡◌, ◌≢◌, ◌∙◌, ℕ, List, Result, Ok, Err, true, false, IsTrue, sym, ap, refl}
+use Rattle.std.proofs.Common.{◌≡◌, ◌∙◌, ℕ, List, Result, Ok, Err, true, false, IsTrue, sym, ap}
 use Rattle.wy_ast.specs.declared.declarations.Program.{Program}
 use Rattle.wy_code.specs.Listing.{code_text}
 use Rattle.wy_compiled.specs.Programs.{code_of}
@@ -9,7 +9,6 @@ use Rattle.wy_front.specs.Front as front
 use Rattle.wy_front.specs.declared.fault.SourceFault.{SourceFault}
 use Rattle.wy_print.specs.ProgramText.{program_text}
 use Rattle.wy_source.proofs.CoreLemmas.{Reads, Faults, text_exact, unread}
-use Rattle.wy_source.proofs.MemoryLemmas.{not_true}
 use Rattle.wy_source.specs.Refusals.{is_no_memory}
 use Rattle.wy_source.specs.Sources as sources
 use Rattle.wy_source.specs.declared.refusal.Refusal.{Refusal}
@@ -63,8 +62,3 @@ listing_complete bytes text core own complete is t h = is ∙ ap (λ (c : Core �
 
 pub unlisted_complete : (bytes : List ℕ) (e : Refusal) → ((c : Core ℕ) (flow : List Ty) → sources.IsProgram bytes c flow → IsTrue (is_no_memory e)) → (t : List ℕ) → IsText Listing bytes t → IsTrue (is_no_memory e)
 unlisted_complete bytes e complete t h = complete h.core h.flow h.program
-
--- ---- want of memory
-
-pub nothing_left : (P : Type 0) → true ≡ false → P
-nothing_left P e = absurd (not_true e)

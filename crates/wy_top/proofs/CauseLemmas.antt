@@ -4,14 +4,14 @@ use Rattle.wy_port.specs.Count.{Rose}
 use Rattle.wy_port.specs.Taken.{with_taken}
 use Rattle.wy_port.specs.declared.files.LoadFault.{LoadFault}
 use Rattle.wy_port.specs.declared.files.LoadFault.TheVariants.{Absent, TooLong, Failed, NoMemory as NoMemoryToLoad}
-use Rattle.wy_top.specs.declared.refusal.Refusal.TheVariants.{Source, SourceNotYet, Certificate, CertificateNotYet, Unproved, NoEntry, ArgumentNotYet, RequiresFails, NoMemory}
+use Rattle.wy_top.specs.declared.refusal.Refusal.TheVariants.{Source, SourceNotYet, Certificate, BadCertificates, Unproved, NoEntry, ArgumentNotYet, RequiresFails, NoMemory}
 use Rattle.wy_top.specs.Diagnostics.{status_of, load_status, out_text}
-use Rattle.wy_top.specs.Meaning.{IsInt}
+use Rattle.wy_thin.specs.Meaning.{IsInt}
 use Rattle.wy_top.specs.Outcome.{Setting, Outcome, no_command, refused, returned, Happens, Returns}
 use Rattle.wy_top.specs.Run.{Sinks, ShowsWhole, ShowsFront, Ends, IsDetermined, IsPlain, IsExact, SucceedsElse, IsDone, HasCause, Runs}
-use Rattle.wy_top.specs.Verdicts.{SuppliedImpliesTrue}
+use Rattle.wy_top.proofs.VerdictLemmas.{accepted_is_true}
 use Rattle.wy_top.proofs.ExclusionLemmas.{ends_exclude}
-use Rattle.wy_top.proofs.SoundnessLemmas.{is_right}
+use Rattle.wy_thin.proofs.SoundnessLemmas.{is_right}
 
 -- ---- an end follows from words and files, or has status 4 or 9
 
@@ -26,7 +26,7 @@ determined_or no_command = inl tt
 determined_or (refused n (Source fault)) = plain_or fault
 determined_or (refused n SourceNotYet) = inl tt
 determined_or (refused n (Certificate fault)) = plain_or fault
-determined_or (refused n CertificateNotYet) = inl tt
+determined_or (refused n (BadCertificates fault)) = inl tt
 determined_or (refused n (Unproved verdicts place)) = inl tt
 determined_or (refused n NoEntry) = inl tt
 determined_or (refused n ArgumentNotYet) = inl tt
@@ -76,7 +76,7 @@ cause_of words s (refused n (Certificate Absent)) happens = record { not_accepte
 cause_of words s (refused n (Certificate TooLong)) happens = record { not_accepted = λ e. absurd (omega (arith, e)); no_command = λ e. absurd (omega (arith, e)); absent = λ e. absurd (omega (arith, e)); load_failed = λ e. absurd (omega (arith, e)); bad_certificates = λ e. absurd (omega (arith, e)); not_started = λ e. absurd (omega (arith, e)); too_long = λ e. record { names = n; command = happens.0; lacks = inr happens.1 } }
 cause_of words s (refused n (Certificate Failed)) happens = record { not_accepted = λ e. absurd (omega (arith, e)); no_command = λ e. absurd (omega (arith, e)); absent = λ e. absurd (omega (arith, e)); load_failed = λ e. happens.1.fails; bad_certificates = λ e. absurd (omega (arith, e)); not_started = λ e. absurd (omega (arith, e)); too_long = λ e. absurd (omega (arith, e)) }
 cause_of words s (refused n (Certificate NoMemoryToLoad)) happens = record { not_accepted = λ e. absurd (omega (arith, e)); no_command = λ e. absurd (omega (arith, e)); absent = λ e. absurd (omega (arith, e)); load_failed = λ e. absurd (omega (arith, e)); bad_certificates = λ e. absurd (omega (arith, e)); not_started = λ e. absurd (omega (arith, e)); too_long = λ e. absurd (omega (arith, e)) }
-cause_of words s (refused n CertificateNotYet) happens = record { not_accepted = λ e. absurd (omega (arith, e)); no_command = λ e. absurd (omega (arith, e)); absent = λ e. absurd (omega (arith, e)); load_failed = λ e. absurd (omega (arith, e)); bad_certificates = λ e. record { names = n; command = happens.0; cause = happens.1 }; not_started = λ e. absurd (omega (arith, e)); too_long = λ e. absurd (omega (arith, e)) }
+cause_of words s (refused n (BadCertificates fault)) happens = record { not_accepted = λ e. absurd (omega (arith, e)); no_command = λ e. absurd (omega (arith, e)); absent = λ e. absurd (omega (arith, e)); load_failed = λ e. absurd (omega (arith, e)); bad_certificates = λ e. record { names = n; command = happens.0; fault = fault; cause = happens.1 }; not_started = λ e. absurd (omega (arith, e)); too_long = λ e. absurd (omega (arith, e)) }
 cause_of words s (refused n (Unproved verdicts place)) happens = record { not_accepted = λ e. record { names = n; command = happens.0; cause = inr (verdicts, place, happens.1) }; no_command = λ e. absurd (omega (arith, e)); absent = λ e. absurd (omega (arith, e)); load_failed = λ e. absurd (omega (arith, e)); bad_certificates = λ e. absurd (omega (arith, e)); not_started = λ e. absurd (omega (arith, e)); too_long = λ e. absurd (omega (arith, e)) }
 cause_of words s (refused n NoEntry) happens = record { not_accepted = λ e. absurd (omega (arith, e)); no_command = λ e. absurd (omega (arith, e)); absent = λ e. absurd (omega (arith, e)); load_failed = λ e. absurd (omega (arith, e)); bad_certificates = λ e. absurd (omega (arith, e)); not_started = λ e. record { names = n; command = happens.0; reason = NoEntry; cause = happens.1 }; too_long = λ e. absurd (omega (arith, e)) }
 cause_of words s (refused n ArgumentNotYet) happens = record { not_accepted = λ e. absurd (omega (arith, e)); no_command = λ e. absurd (omega (arith, e)); absent = λ e. absurd (omega (arith, e)); load_failed = λ e. absurd (omega (arith, e)); bad_certificates = λ e. absurd (omega (arith, e)); not_started = λ e. record { names = n; command = happens.0; reason = ArgumentNotYet; cause = happens.1 }; too_long = λ e. absurd (omega (arith, e)) }
@@ -108,7 +108,7 @@ none_is_five no_command e = omega (arith, e)
 none_is_five (refused n (Source fault)) e = not_five fault e
 none_is_five (refused n SourceNotYet) e = omega (arith, e)
 none_is_five (refused n (Certificate fault)) e = not_five fault e
-none_is_five (refused n CertificateNotYet) e = omega (arith, e)
+none_is_five (refused n (BadCertificates fault)) e = omega (arith, e)
 none_is_five (refused n (Unproved verdicts place)) e = omega (arith, e)
 none_is_five (refused n NoEntry) e = omega (arith, e)
 none_is_five (refused n ArgumentNotYet) e = omega (arith, e)
@@ -131,22 +131,22 @@ not_zero TooLong e = omega (arith, e)
 not_zero Failed e = omega (arith, e)
 not_zero NoMemoryToLoad e = omega (arith, e)
 
-done_by : (words : List (List ℕ)) (s : Setting) (k : Sinks) → SuppliedImpliesTrue → (o : Outcome) → Happens words s o → status_of o ≡ 0 → k.out_after ≡ with_taken k.out_before (out_text o) → IsDone words s k
-done_by words s k sound no_command happens e out = absurd (omega (arith, e))
-done_by words s k sound (refused n (Source fault)) happens e out = absurd (not_zero fault e)
-done_by words s k sound (refused n SourceNotYet) happens e out = absurd (omega (arith, e))
-done_by words s k sound (refused n (Certificate fault)) happens e out = absurd (not_zero fault e)
-done_by words s k sound (refused n CertificateNotYet) happens e out = absurd (omega (arith, e))
-done_by words s k sound (refused n (Unproved verdicts place)) happens e out = absurd (omega (arith, e))
-done_by words s k sound (refused n NoEntry) happens e out = absurd (omega (arith, e))
-done_by words s k sound (refused n ArgumentNotYet) happens e out = absurd (omega (arith, e))
-done_by words s k sound (refused n RequiresFails) happens e out = absurd (omega (arith, e))
-done_by words s k sound (refused n NoMemory) happens e out = absurd (omega (arith, e))
-done_by words s k sound (returned n r) happens e out =
+done_by : (words : List (List ℕ)) (s : Setting) (k : Sinks) → (o : Outcome) → Happens words s o → status_of o ≡ 0 → k.out_after ≡ with_taken k.out_before (out_text o) → IsDone words s k
+done_by words s k no_command happens e out = absurd (omega (arith, e))
+done_by words s k (refused n (Source fault)) happens e out = absurd (not_zero fault e)
+done_by words s k (refused n SourceNotYet) happens e out = absurd (omega (arith, e))
+done_by words s k (refused n (Certificate fault)) happens e out = absurd (not_zero fault e)
+done_by words s k (refused n (BadCertificates fault)) happens e out = absurd (omega (arith, e))
+done_by words s k (refused n (Unproved verdicts place)) happens e out = absurd (omega (arith, e))
+done_by words s k (refused n NoEntry) happens e out = absurd (omega (arith, e))
+done_by words s k (refused n ArgumentNotYet) happens e out = absurd (omega (arith, e))
+done_by words s k (refused n RequiresFails) happens e out = absurd (omega (arith, e))
+done_by words s k (refused n NoMemory) happens e out = absurd (omega (arith, e))
+done_by words s k (returned n r) happens e out =
     let ran : Returns s n r = happens.1 in
     let p = ran.program in
     let x = ran.argument in
-    let owed = sound p ran.accepted.certificates ran.accepted.valid in
+    let owed = accepted_is_true s n p ran.accepted in
     let in_range : IsInt x = record { least = ran.starts.spelled.low; greatest = ran.starts.spelled.high } in
     let right = is_right p x owed in_range ran.starts.meets in
     record {
@@ -155,6 +155,7 @@ done_by words s k sound (returned n r) happens e out =
       argument = x;
       command = happens.0;
       accepted = ran.accepted;
+      conditions_hold = owed;
       starts = ran.starts;
       argument_is = in_range;
       result_is = right.result_is;
@@ -162,22 +163,22 @@ done_by words s k sound (returned n r) happens e out =
       printed = out ∙ ap (λ (z : ℤ). with_taken k.out_before (out_text (returned n z))) ran.value;
     }
 
-is_done : (words : List (List ℕ)) (s : Setting) (status : ℕ) (k : Sinks) → SuppliedImpliesTrue → Ends words s status k → status ≡ 0 → IsDone words s k
-is_done words s status k sound ends zero = by_showing ends.shown
+is_done : (words : List (List ℕ)) (s : Setting) (status : ℕ) (k : Sinks) → Ends words s status k → status ≡ 0 → IsDone words s k
+is_done words s status k ends zero = by_showing ends.shown
   where
     by_showing : ShowsWhole ends.outcome status k ⊎ ShowsFront ends.outcome status k → IsDone words s k
-    by_showing (inl whole) = done_by words s k sound ends.outcome ends.happens (sym whole.answer ∙ zero) whole.out
+    by_showing (inl whole) = done_by words s k ends.outcome ends.happens (sym whole.answer ∙ zero) whole.out
     by_showing (inr front) = absurd (omega (arith, front.answer, zero))
 
 -- ---- the statement
 
 -- where the call ends so, the whole statement holds
-pub runs : (words : List (List ℕ)) (s : Setting) (status : ℕ) (k : Sinks) → SuppliedImpliesTrue → Ends words s status k → Runs words s status k
-runs words s status k sound ends = record {
+pub runs : (words : List (List ℕ)) (s : Setting) (status : ℕ) (k : Sinks) → Ends words s status k → Runs words s status k
+runs words s status k ends = record {
   ends = ends;
   cause = has_cause words s status k ends;
   sink_cause = sink_cause words s status k ends;
-  done = is_done words s status k sound ends;
+  done = is_done words s status k ends;
   exact = is_exact words s status k ends;
   success = succeeds_else words s status k ends;
 }

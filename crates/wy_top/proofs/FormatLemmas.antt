@@ -10,11 +10,12 @@ use Rattle.wy_front.specs.Places.{place_of}
 use Rattle.wy_front.specs.declared.place.Place.{Place}
 use Rattle.wy_source.specs.Refusals.{offset, is_no_memory}
 use Rattle.wy_source.specs.declared.refusal.Refusal.{Refusal}
+use Rattle.wy_texts.proofs.AgainLemmas.{read_again}
 use Rattle.wy_texts.specs.Texts.{IsDue, IsText}
 use Rattle.wy_texts.specs.declared.kind.Kind.{Kind}
 use Rattle.wy_top.specs.declared.formatting.FormatFault.{FormatFault}
 use Rattle.wy_top.specs.declared.formatting.FormatFault.TheVariants.{NotLoaded, Refused}
-use Rattle.wy_top.specs.Formatting.{HasText, HasFault, FormatFails, FormatEnd, FormatsTo, fault_status, fault_text, format_status, ShowsFormat, Shown, FormatEnds, IsEndDue, IsOutside, IsOnlyEnd, FormatCause, Formats}
+use Rattle.wy_top.specs.Formatting.{HasText, HasFault, FormatFails, FormatEnd, FormatsTo, fault_status, fault_text, format_status, ShowsFormat, Shown, HasTextAgain, FormatEnds, IsEndDue, IsOutside, IsOnlyEnd, FormatCause, Formats}
 use Rattle.wy_top.specs.Outcome.{Setting, Loads, LoadFails, source_limit}
 use Rattle.wy_top.specs.Reporting.{ReportsIfMemory}
 use Rattle.wy_top.specs.Run.{Sinks, IsTold}
@@ -116,18 +117,22 @@ formats kind name s status k ends only = record {
   exact = λ told due h. shown_or name status k ends.end_is due ends.shown (only told due h);
 }
 
+-- a text that the source has is read again
+has_again : (kind : Kind) (s : Setting) (name : List ℕ) (p : List ℕ) → HasText kind s name p → HasTextAgain kind s name p
+has_again kind s name p text = record { bytes = text.bytes; loaded = text.loaded; again = read_again kind text.bytes p text.spelled }
+
 -- a program whose text was written is what the format comes to, where no other end is due
 pub written_formats : (kind : Kind) (name : List ℕ) (s : Setting) (p : List ℕ) (status : ℕ) (before after : Option (List ℕ)) (f g : ℕ) (other : Option (List ℕ)) (h : ℕ)
     → HasText kind s name p → ReportsIfMemory 0 (p) status before after f g → IsOnlyEnd kind s name (Ok p) → Formats kind name s status (sinks before after f g other other h h)
 written_formats kind name s p status before after f g other h text reports only =
-    formats kind name s status (sinks before after f g other other h h) (record { end_is = Ok p; happens = text; shown = written_ends name p status before after f g other h reports }) only
+    formats kind name s status (sinks before after f g other other h h) (record { end_is = Ok p; happens = text; again = has_again kind s name p text; shown = written_ends name p status before after f g other h reports }) only
 
 -- likewise a fault that was reported
 pub faulted_formats : (kind : Kind) (name : List ℕ) (s : Setting) (fault : FormatFault) (status : ℕ) (before after : Option (List ℕ)) (f g : ℕ) (other : Option (List ℕ)) (h : ℕ)
     → FormatFails kind s name fault → ReportsIfMemory (fault_status fault) (fault_text name fault) status before after f g → IsOnlyEnd kind s name (Err fault)
     → Formats kind name s status (sinks other other h h before after f g)
 faulted_formats kind name s fault status before after f g other h fails reports only =
-    formats kind name s status (sinks other other h h before after f g) (record { end_is = Err fault; happens = fails; shown = faulted_ends name fault status before after f g other h reports }) only
+    formats kind name s status (sinks other other h h before after f g) (record { end_is = Err fault; happens = fails; again = tt; shown = faulted_ends name fault status before after f g other h reports }) only
 
 -- ---- no other end is due
 

@@ -1,19 +1,24 @@
 -- The steps of a run, put together.
-use Rattle.std.proofs.Common.{◌≡◌, ℕ, ◌≤◌, List, inl, inr, arith, subst, ℤ}
+use Rattle.std.proofs.Common.{◌≡◌, ◌≢◌, ℕ, ◌≤◌, List, Err, inl, inr, arith, subst, ◌∙◌, ℤ}
 use Rattle.wy_port.specs.Count.{Rose}
 use Rattle.wy_port.specs.Told.{Told, MayBe, IsMissing, IsTooLong}
 use Rattle.wy_port.specs.Told.Told.{Unknown, Lacking, Holding}
 use Rattle.wy_port.specs.declared.files.LoadFault.{LoadFault}
 use Rattle.wy_port.specs.declared.files.LoadFault.TheVariants.{Absent, TooLong, Failed, NoMemory as NoMemoryToLoad}
 use Rattle.wy_top.specs.declared.refusal.Refusal.{Refusal}
-use Rattle.wy_top.specs.declared.refusal.Refusal.TheVariants.{Source, SourceNotYet, Certificate, CertificateNotYet, Unproved, NoEntry, ArgumentNotYet, RequiresFails, NoMemory}
-use Rattle.wy_top.specs.CommandLine.{Named}
-use Rattle.wy_top.specs.Thin.{Program}
+use Rattle.wy_top.specs.declared.refusal.Refusal.TheVariants.{Source, SourceNotYet, Certificate, BadCertificates, Unproved, NoEntry, ArgumentNotYet, RequiresFails, NoMemory}
+use Rattle.wy_top.specs.CommandLine.{Named, no_file}
+use Rattle.wy_thin.specs.Thin.{Program}
 use Rattle.wy_top.specs.Outcome.{Setting, Loads, LoadFails, HasProgram, HasCertificates, IsAccepted, Starts, StartFails, Returns, Refuses, cert_limit}
-use Rattle.wy_top.specs.Steps.{setting, CertificatesFail, ProofFails}
-use Rattle.wy_top.specs.Certificate.{Sums}
-use Rattle.wy_top.specs.Verdicts.{verdicts_on, all_supplied}
-use Rattle.wy_top.specs.Meaning.{returned_by}
+use Rattle.wy_top.specs.Steps.{setting, refusal_for, CertificatesFail, ProofFails}
+use Rattle.wy_cert.specs.declared.fault.CertFault.{CertFault}
+use Rattle.wy_cert.specs.declared.fault.CertFault.TheVariants.{BadHeader, BadStep, Truncated, TwiceCond, NoSuchCond, NoMemory as NoMemoryToRead}
+use Rattle.wy_cert.specs.Only.{IsTheOne}
+use Rattle.wy_cert.specs.Steps.{Certificates}
+use Rattle.wy_cert.specs.File.{ReadsFile}
+use Rattle.wy_top.specs.Verdicts.{verdicts_on, all_supplied, condition_count}
+use Rattle.wy_thin.specs.Meaning.{returned_by}
+use Rattle.wy_top.proofs.VerdictLemmas.{exactly_certified}
 
 -- a count that rose in a part of the call rose in the call
 rose_earlier : (a b c : ℕ) → a ≤ b → Rose b c → Rose a c
@@ -47,37 +52,45 @@ loads_earlier : (told between : List ℕ → Told) (f0 f1 f2 m0 m1 m2 : ℕ) (na
     → Loads (setting between f1 f2 m1 m2) name limit bytes → Loads (setting told f0 f2 m0 m2) name limit bytes
 loads_earlier told between f0 f1 f2 m0 m1 m2 name limit bytes follows h = record { told = subst (λ (t : Told). MayBe t bytes) (follows.same name) h.told; within = h.within }
 
-has_certificates_earlier : (told between : List ℕ → Told) (f0 f1 f2 m0 m1 m2 : ℕ) (name : List ℕ) (c : Sums) → Follows told between f0 f1 m0 m1
+has_certificates_earlier : (told between : List ℕ → Told) (f0 f1 f2 m0 m1 m2 : ℕ) (name : List ℕ) (c : Certificates) → Follows told between f0 f1 m0 m1
     → HasCertificates (setting between f1 f2 m1 m2) name c → HasCertificates (setting told f0 f2 m0 m2) name c
-has_certificates_earlier told between f0 f1 f2 m0 m1 m2 name c follows (inl read) = inl (record { named = read.named; bytes = read.bytes; loaded = loads_earlier told between f0 f1 f2 m0 m1 m2 name cert_limit read.bytes follows read.loaded; spelled = read.spelled })
+has_certificates_earlier told between f0 f1 f2 m0 m1 m2 name c follows (inl read) = inl (record { named = read.named; bytes = read.bytes; loaded = loads_earlier told between f0 f1 f2 m0 m1 m2 name cert_limit read.bytes follows read.loaded; read = read.read })
 has_certificates_earlier told between f0 f1 f2 m0 m1 m2 name c follows (inr none) = inr none
 
 -- a program with certificates that are valid for each condition is accepted
-pub accepted : (told between : List ℕ → Told) (f0 f1 f2 m0 m1 m2 : ℕ) (n : Named) (p : Program) (c : Sums)
+pub accepted : (told between : List ℕ → Told) (f0 f1 f2 m0 m1 m2 : ℕ) (n : Named) (p : Program) (c : Certificates)
     → ((name : List ℕ) → between name ≡ told name) → f0 ≤ f1 → m0 ≤ m1
     → HasProgram (setting told f0 f2 m0 m2) n.source p → HasCertificates (setting between f1 f2 m1 m2) n.cert c → verdicts_on p c ≡ all_supplied → IsAccepted (setting told f0 f2 m0 m2) n p
-accepted told between f0 f1 f2 m0 m1 m2 n p c same faults misses has given valid = record {
-  program = has;
-  certificates = c;
-  given = has_certificates_earlier told between f0 f1 f2 m0 m1 m2 n.cert c (record { same = same; faults = faults; misses = misses }) given;
-  valid = valid;
-}
+accepted told between f0 f1 f2 m0 m1 m2 n p c same faults misses has given valid =
+    let there = has_certificates_earlier told between f0 f1 f2 m0 m1 m2 n.cert c (record { same = same; faults = faults; misses = misses }) given in
+    record {
+      program = has;
+      certificates = c;
+      given = there;
+      valid = (exactly_certified (setting told f0 f2 m0 m2) n.cert p c there).0 valid;
+    }
 
 -- a program with a condition that lacks a valid certificate is refused
-pub proof_refused : (told between : List ℕ → Told) (f0 f1 f2 m0 m1 m2 : ℕ) (n : Named) (p : Program) (c : Sums) (reason : Refusal)
+pub proof_refused : (told between : List ℕ → Told) (f0 f1 f2 m0 m1 m2 : ℕ) (n : Named) (p : Program) (c : Certificates) (reason : Refusal)
     → ((name : List ℕ) → between name ≡ told name) → f0 ≤ f1 → m0 ≤ m1
     → HasProgram (setting told f0 f2 m0 m2) n.source p → HasCertificates (setting between f1 f2 m1 m2) n.cert c → ProofFails p c reason → Refuses (setting told f0 f2 m0 m2) n reason
 proof_refused told between f0 f1 f2 m0 m1 m2 n p c (Source fault) same faults misses has given fails = absurd fails
 proof_refused told between f0 f1 f2 m0 m1 m2 n p c SourceNotYet same faults misses has given fails = absurd fails
 proof_refused told between f0 f1 f2 m0 m1 m2 n p c (Certificate fault) same faults misses has given fails = absurd fails
-proof_refused told between f0 f1 f2 m0 m1 m2 n p c CertificateNotYet same faults misses has given fails = absurd fails
-proof_refused told between f0 f1 f2 m0 m1 m2 n p c (Unproved verdicts place) same faults misses has given fails = record {
-  program = p;
-  has = has;
-  certificates = c;
-  given = has_certificates_earlier told between f0 f1 f2 m0 m1 m2 n.cert c (record { same = same; faults = faults; misses = misses }) given;
-  lacks = fails;
-}
+proof_refused told between f0 f1 f2 m0 m1 m2 n p c (BadCertificates fault) same faults misses has given fails = absurd fails
+proof_refused told between f0 f1 f2 m0 m1 m2 n p c (Unproved verdicts place) same faults misses has given fails =
+    let there = has_certificates_earlier told between f0 f1 f2 m0 m1 m2 n.cert c (record { same = same; faults = faults; misses = misses }) given in
+    record {
+      program = p;
+      has = has;
+      certificates = c;
+      given = there;
+      lacks = record {
+        judged = fails.judged;
+        some = λ h. fails.some (fails.judged ∙ (exactly_certified (setting told f0 f2 m0 m2) n.cert p c there).1 h);
+        stands = fails.stands;
+      };
+    }
 proof_refused told between f0 f1 f2 m0 m1 m2 n p c NoEntry same faults misses has given fails = absurd fails
 proof_refused told between f0 f1 f2 m0 m1 m2 n p c ArgumentNotYet same faults misses has given fails = absurd fails
 proof_refused told between f0 f1 f2 m0 m1 m2 n p c RequiresFails same faults misses has given fails = absurd fails
@@ -92,12 +105,21 @@ pub start_refused : (s : Setting) (n : Named) (p : Program) → IsAccepted s n p
 start_refused s n p accepted (Source fault) fails = absurd fails
 start_refused s n p accepted SourceNotYet fails = absurd fails
 start_refused s n p accepted (Certificate fault) fails = absurd fails
-start_refused s n p accepted CertificateNotYet fails = absurd fails
+start_refused s n p accepted (BadCertificates fault) fails = absurd fails
 start_refused s n p accepted (Unproved verdicts place) fails = absurd fails
 start_refused s n p accepted NoEntry fails = record { program = p; accepted = accepted; fails = fails }
 start_refused s n p accepted ArgumentNotYet fails = record { program = p; accepted = accepted; fails = fails }
 start_refused s n p accepted RequiresFails fails = record { program = p; accepted = accepted; fails = fails }
 start_refused s n p accepted NoMemory fails = absurd fails
+
+-- a certificate file that holds no certificates
+pub reading_failed : (s : Setting) (name bytes : List ℕ) → name ≢ no_file → Loads s name cert_limit bytes → (fault : CertFault) → (fault ≢ NoMemoryToRead → IsTheOne (ReadsFile condition_count bytes) (Err fault)) → CertificatesFail s name (refusal_for fault)
+reading_failed s name bytes named loaded (BadHeader line) read = record { named = named; bytes = bytes; loaded = loaded; read = read (λ e. cc) }
+reading_failed s name bytes named loaded (BadStep line) read = record { named = named; bytes = bytes; loaded = loaded; read = read (λ e. cc) }
+reading_failed s name bytes named loaded (Truncated line) read = record { named = named; bytes = bytes; loaded = loaded; read = read (λ e. cc) }
+reading_failed s name bytes named loaded (TwiceCond line) read = record { named = named; bytes = bytes; loaded = loaded; read = read (λ e. cc) }
+reading_failed s name bytes named loaded (NoSuchCond line) read = record { named = named; bytes = bytes; loaded = loaded; read = read (λ e. cc) }
+reading_failed s name bytes named loaded NoMemoryToRead read = tt
 
 -- a run whose certificates fail is refused
 pub certificates_refused : (told between : List ℕ → Told) (f0 f1 f2 m0 m1 m2 : ℕ) (n : Named) (p : Program) (reason : Refusal)
@@ -111,10 +133,10 @@ certificates_refused told between f0 f1 f2 m0 m1 m2 n p (Certificate fault) same
   named = fails.0;
   fails = load_fails_earlier told between f0 f1 f2 m0 m1 m2 n.cert cert_limit (record { same = same; faults = faults; misses = misses }) fault fails.1;
 }
-certificates_refused told between f0 f1 f2 m0 m1 m2 n p CertificateNotYet same faults misses has fails = record {
+certificates_refused told between f0 f1 f2 m0 m1 m2 n p (BadCertificates fault) same faults misses has fails = record {
   program = p;
   has = has;
-  none = record { named = fails.named; bytes = fails.bytes; loaded = loads_earlier told between f0 f1 f2 m0 m1 m2 n.cert cert_limit fails.bytes (record { same = same; faults = faults; misses = misses }) fails.loaded; none = fails.none };
+  reads = record { named = fails.named; bytes = fails.bytes; loaded = loads_earlier told between f0 f1 f2 m0 m1 m2 n.cert cert_limit fails.bytes (record { same = same; faults = faults; misses = misses }) fails.loaded; read = fails.read };
 }
 certificates_refused told between f0 f1 f2 m0 m1 m2 n p (Unproved verdicts place) same faults misses has fails = absurd fails
 certificates_refused told between f0 f1 f2 m0 m1 m2 n p NoEntry same faults misses has fails = absurd fails

@@ -4,13 +4,15 @@ use Rattle.std.specs.Fmt.{decimal, signed_decimal}
 use Rattle.wy_port.specs.declared.files.LoadFault.{LoadFault}
 use Rattle.wy_port.specs.declared.files.LoadFault.TheVariants.{Absent, TooLong, Failed, NoMemory as NoMemoryToLoad}
 use Rattle.wy_top.specs.declared.refusal.Refusal.{Refusal}
-use Rattle.wy_top.specs.declared.refusal.Refusal.TheVariants.{Source, SourceNotYet, Certificate, CertificateNotYet, Unproved, NoEntry, ArgumentNotYet, RequiresFails, NoMemory}
-use Rattle.wy_top.specs.declared.thin.Place.{Place}
-use Rattle.wy_top.specs.declared.verdict.Verdict.{Verdict}
-use Rattle.wy_top.specs.declared.verdict.Verdict.TheVariants.{Supplied, Missing, Bad}
+use Rattle.wy_top.specs.declared.refusal.Refusal.TheVariants.{Source, SourceNotYet, Certificate, BadCertificates, Unproved, NoEntry, ArgumentNotYet, RequiresFails, NoMemory}
+use Rattle.wy_thin.specs.declared.thin.Place.{Place}
+use Rattle.wy_cert.specs.declared.fault.CertFault.{CertFault}
+use Rattle.wy_cert.specs.declared.fault.CertFault.TheVariants.{BadHeader, BadStep, Truncated, TwiceCond, NoSuchCond, NoMemory as NoMemoryToRead}
+use Rattle.wy_accepting.specs.declared.verdict.Verdict.{Verdict}
+use Rattle.wy_accepting.specs.declared.verdict.Verdict.TheVariants.{Supplied, Missing, Bad}
 use Rattle.wy_top.specs.declared.verdict.Verdicts.{Verdicts}
 use Rattle.wy_top.specs.CommandLine.{Named}
-use Rattle.wy_top.specs.Thin.{return_place}
+use Rattle.wy_thin.specs.Thin.{return_place}
 use Rattle.wy_top.specs.Outcome.{Outcome, no_command, refused, returned}
 
 -- ---- the status
@@ -27,7 +29,7 @@ abbrev pub refusal_status : Refusal → ℕ
 refusal_status (Source fault) = load_status fault
 refusal_status SourceNotYet = 1
 refusal_status (Certificate fault) = load_status fault
-refusal_status CertificateNotYet = 6
+refusal_status (BadCertificates fault) = 6
 refusal_status (Unproved verdicts place) = 1
 refusal_status NoEntry = 7
 refusal_status ArgumentNotYet = 7
@@ -52,6 +54,19 @@ load_text name Absent = codes "wy: " ++ (name ++ (codes ": absent" ++ lf))
 load_text name TooLong = codes "wy: " ++ (name ++ (codes ": too long" ++ lf))
 load_text name Failed = codes "wy: " ++ (name ++ (codes ": load failed" ++ lf))
 load_text name NoMemoryToLoad = []
+
+-- the line for a fault of the certificate file that stands at a line
+abbrev pub fault_at : List ℕ → ℕ → List ℕ → List ℕ
+fault_at cert line name = cert ++ (codes ":" ++ (decimal line ++ (codes ": " ++ (name ++ lf))))
+
+-- the line for a fault of the certificate file
+abbrev pub fault_text : List ℕ → CertFault → List ℕ
+fault_text cert (BadHeader line) = fault_at cert line (codes "BadHeader")
+fault_text cert (BadStep line) = fault_at cert line (codes "BadStep")
+fault_text cert (Truncated line) = fault_at cert line (codes "Truncated")
+fault_text cert (TwiceCond line) = fault_at cert line (codes "TwiceCond")
+fault_text cert (NoSuchCond line) = fault_at cert line (codes "NoSuchCond")
+fault_text cert NoMemoryToRead = []
 
 -- the line for a certificate that isn't valid, and nothing for another verdict
 abbrev pub invalid_text : List ℕ → ℕ → Verdict → List ℕ
@@ -92,7 +107,7 @@ abbrev pub refusal_text : Named → Refusal → List ℕ
 refusal_text n (Source fault) = load_text n.source fault
 refusal_text n SourceNotYet = n.source ++ (codes ":1:1: NotYet" ++ lf)
 refusal_text n (Certificate fault) = load_text n.cert fault
-refusal_text n CertificateNotYet = n.cert ++ (codes ":1: NotYet" ++ lf)
+refusal_text n (BadCertificates fault) = fault_text n.cert fault
 refusal_text n (Unproved v place) = invalid_lines n.cert v ++ (spent_lines n.source v place ++ total_line v)
 refusal_text n NoEntry = codes "wy: " ++ (n.name ++ (codes ": no such entry" ++ lf))
 refusal_text n ArgumentNotYet = codes "wy: argument text: NotYet" ++ lf

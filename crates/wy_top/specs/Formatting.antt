@@ -9,6 +9,7 @@ use Rattle.wy_front.specs.Places.{place_of}
 use Rattle.wy_front.specs.declared.place.Place.{Place}
 use Rattle.wy_source.specs.Refusals.{offset, word, is_no_memory}
 use Rattle.wy_source.specs.declared.refusal.Refusal.{Refusal}
+use Rattle.wy_texts.specs.Again.{IsAgain}
 use Rattle.wy_texts.specs.Texts.{IsDue, IsRefused, IsText}
 use Rattle.wy_texts.specs.declared.kind.Kind.{Kind}
 use Rattle.wy_texts.specs.declared.kind.Kind.TheVariants.{Layout, Listing}
@@ -115,10 +116,22 @@ pub record ShowsNothing (status : ℕ) (k : Sinks) : Type 0 where
 abbrev pub Shown : List ℕ → FormatEnd → ℕ → Sinks → Type 0
 Shown name e status k = ShowsFormat name e status k ⊎ (ShowsFormatFront name e status k ⊎ ShowsNothing status k)
 
+-- the source was loaded, and this text of it, where it is laid out, is read again as the same program, places aside
+pub record HasTextAgain (kind : Kind) (s : Setting) (name : List ℕ) (text : List ℕ) : Type 0 where
+  pub bytes : List ℕ
+  pub loaded : Loads s name source_limit bytes
+  pub again : IsAgain kind bytes text
+
+-- the text that is written is read again
+abbrev pub IsEndAgain : Kind → Setting → List ℕ → FormatEnd → Type 0
+IsEndAgain kind s name (Ok text) = HasTextAgain kind s name text
+IsEndAgain kind s name (Err fault) = Unit {0}
+
 -- the command comes to an end, and shows it
 pub record FormatEnds (kind : Kind) (name : List ℕ) (s : Setting) (status : ℕ) (k : Sinks) : Type 0 where
   pub end_is : FormatEnd
   pub happens : FormatsTo kind s name end_is
+  pub again : IsEndAgain kind s name end_is
   pub shown : Shown name end_is status k
 
 -- ---- exactly where each end comes
@@ -163,7 +176,7 @@ pub record FormatCause (kind : Kind) (name : List ℕ) (s : Setting) (status : �
 
 -- ---- the statement
 
--- What `fmt` or `dis` on this source comes to. An end happens, by its whole cause, and the status and the sinks show it; each status has its cause; and each end comes exactly where it is due: the text where the source has one, and else the fault that is to be given, at its line and column.
+-- What `fmt` or `dis` on this source comes to. An end happens, by its whole cause, and the status and the sinks show it; what `fmt` writes is read again as the program of the source, places aside; each status has its cause; and each end comes exactly where it is due: the text where the source has one, and else the fault that is to be given, at its line and column.
 pub record Formats (kind : Kind) (name : List ℕ) (s : Setting) (status : ℕ) (k : Sinks) : Type 0 where
   pub ends : FormatEnds kind name s status k
   pub cause : FormatCause kind name s status

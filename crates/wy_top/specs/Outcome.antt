@@ -1,19 +1,23 @@
 -- How can a run of the command end, and where does it end so? Each cause is whole: it says that all the steps before went well.
-use Rattle.std.specs.Prelude.{◌≡◌, ◌≢◌, ◌⊎◌, ◌≤◌, ℕ, List, length, ℤ, pos, false, None}
+use Rattle.std.specs.Prelude.{◌≡◌, ◌≢◌, ◌⊎◌, ◌≤◌, ℕ, List, [], length, ℤ, pos, false, Result, Ok, Err}
 use Rattle.wy_port.specs.Count.{Rose}
 use Rattle.wy_port.specs.Told.{Told, MayBe, IsMissing, IsTooLong}
 use Rattle.wy_port.specs.declared.files.LoadFault.{LoadFault}
 use Rattle.wy_port.specs.declared.files.LoadFault.TheVariants.{Absent, TooLong, Failed, NoMemory as NoMemoryToLoad}
 use Rattle.wy_top.specs.declared.refusal.Refusal.{Refusal}
-use Rattle.wy_top.specs.declared.refusal.Refusal.TheVariants.{Source, SourceNotYet, Certificate, CertificateNotYet, Unproved, NoEntry, ArgumentNotYet, RequiresFails, NoMemory}
-use Rattle.wy_top.specs.declared.thin.Place.{Place}
+use Rattle.wy_top.specs.declared.refusal.Refusal.TheVariants.{Source, SourceNotYet, Certificate, BadCertificates, Unproved, NoEntry, ArgumentNotYet, RequiresFails, NoMemory}
+use Rattle.wy_thin.specs.declared.thin.Place.{Place}
 use Rattle.wy_top.specs.declared.verdict.Verdicts.{Verdicts}
 use Rattle.wy_top.specs.CommandLine.{Named, Commands, IsNoCommand, no_file}
-use Rattle.wy_top.specs.Thin.{Program, Spells, sign_place}
-use Rattle.wy_top.specs.Meaning.{Requires, holds_of, returned_by}
-use Rattle.wy_top.specs.Argument.{WritesNumber}
-use Rattle.wy_top.specs.Certificate.{Sums, SpellsSums}
-use Rattle.wy_top.specs.Verdicts.{verdicts_on, all_supplied}
+use Rattle.wy_thin.specs.Thin.{Program, Spells, sign_place}
+use Rattle.wy_thin.specs.Meaning.{Requires, holds_of, returned_by}
+use Rattle.wy_thin.specs.Argument.{WritesNumber}
+use Rattle.wy_cert.specs.declared.fault.CertFault.{CertFault}
+use Rattle.wy_cert.specs.Only.{IsTheOne}
+use Rattle.wy_cert.specs.Steps.{Certificates}
+use Rattle.wy_cert.specs.File.{ReadsFile}
+use Rattle.wy_shown_conditions.specs.Certified.{AreCertified}
+use Rattle.wy_top.specs.Verdicts.{verdicts_on, owed_conditions, condition_count}
 
 -- what is told of files, and the counts of load faults and of misses before the run and after it
 pub record Setting : Type 0 where
@@ -61,39 +65,28 @@ pub record HasNoProgram (s : Setting) (name : List ℕ) : Type 0 where
 
 -- ---- the certificates
 
--- the certificate file was loaded and has these certificates
-pub record ReadsCertificates (s : Setting) (name : List ℕ) (c : Sums) : Type 0 where
+-- the certificate file was loaded, and what it is read as, for the conditions of a thin program, is this and nothing else: certificates, or the first fault
+pub record ReadsAs (s : Setting) (name : List ℕ) (reading : Result Certificates CertFault) : Type 0 where
   pub named : name ≢ no_file
   pub bytes : List ℕ
   pub loaded : Loads s name cert_limit bytes
-  pub spelled : SpellsSums bytes c
-
--- no certificate for any condition
-abbrev pub no_sums : Sums
-no_sums = record { first = None; second = None; third = None }
+  pub read : IsTheOne (ReadsFile condition_count bytes) reading
 
 -- the word `none` stands for no certificates
-pub record LacksCertificates (name : List ℕ) (c : Sums) : Type 0 where
+pub record LacksCertificates (name : List ℕ) (c : Certificates) : Type 0 where
   pub named : name ≡ no_file
-  pub nothing : c ≡ no_sums
+  pub nothing : c ≡ []
 
 -- the certificates are those of the file, or none
-abbrev pub HasCertificates : Setting → List ℕ → Sums → Type 0
-HasCertificates s name c = ReadsCertificates s name c ⊎ LacksCertificates name c
-
--- the certificate file was loaded and has no certificates of the thin form
-pub record ReadsNoCertificates (s : Setting) (name : List ℕ) : Type 0 where
-  pub named : name ≢ no_file
-  pub bytes : List ℕ
-  pub loaded : Loads s name cert_limit bytes
-  pub none : (c : Sums) → SpellsSums bytes c → ⊥
+abbrev pub HasCertificates : Setting → List ℕ → Certificates → Type 0
+HasCertificates s name c = ReadsAs s name (Ok c) ⊎ LacksCertificates name c
 
 -- ---- the verdicts
 
--- these are the verdicts, and some condition lacks a valid certificate; the program's sum stands at the place
-pub record LacksProof (p : Program) (c : Sums) (verdicts : Verdicts) (place : Place) : Type 0 where
+-- some condition lacks a valid certificate, and these are the verdicts; the program's sum stands at the place
+pub record LacksProof (p : Program) (c : Certificates) (verdicts : Verdicts) (place : Place) : Type 0 where
   pub judged : verdicts ≡ verdicts_on p c
-  pub some : verdicts ≢ all_supplied
+  pub some : AreCertified c 1 (owed_conditions p) → ⊥
   pub stands : (place.line, place.column) ≡ sign_place p
 
 -- ---- the start, and what the machine gives
@@ -125,7 +118,7 @@ StartFails n p NoMemory = ⊥
 StartFails n p (Source fault) = ⊥
 StartFails n p SourceNotYet = ⊥
 StartFails n p (Certificate fault) = ⊥
-StartFails n p CertificateNotYet = ⊥
+StartFails n p (BadCertificates fault) = ⊥
 StartFails n p (Unproved verdicts place) = ⊥
 
 -- ---- a run, step on step
@@ -133,9 +126,9 @@ StartFails n p (Unproved verdicts place) = ⊥
 -- the source is this program, and each of its conditions was given a valid certificate
 pub record IsAccepted (s : Setting) (n : Named) (p : Program) : Type 0 where
   pub program : HasProgram s n.source p
-  pub certificates : Sums
+  pub certificates : Certificates
   pub given : HasCertificates s n.cert certificates
-  pub valid : verdicts_on p certificates ≡ all_supplied
+  pub valid : AreCertified certificates 1 (owed_conditions p)
 
 -- the program was accepted, it started on an argument, and it returns this number
 pub record Returns (s : Setting) (n : Named) (r : ℤ) : Type 0 where
@@ -152,17 +145,17 @@ pub record LacksCertificateFile (s : Setting) (n : Named) (fault : LoadFault) : 
   pub named : n.cert ≢ no_file
   pub fails : LoadFails s n.cert cert_limit fault
 
--- the source is a program, and its certificate file has no certificates of the thin form
-pub record HasNoCertificates (s : Setting) (n : Named) : Type 0 where
+-- the source is a program, and its certificate file holds no certificates, for this fault
+pub record HasNoCertificates (s : Setting) (n : Named) (fault : CertFault) : Type 0 where
   pub program : Program
   pub has : HasProgram s n.source program
-  pub none : ReadsNoCertificates s n.cert
+  pub reads : ReadsAs s n.cert (Err fault)
 
 -- the source is a program, its certificates were given, and some condition lacks a valid one
 pub record IsUnproved (s : Setting) (n : Named) (verdicts : Verdicts) (place : Place) : Type 0 where
   pub program : Program
   pub has : HasProgram s n.source program
-  pub certificates : Sums
+  pub certificates : Certificates
   pub given : HasCertificates s n.cert certificates
   pub lacks : LacksProof program certificates verdicts place
 
@@ -177,7 +170,7 @@ abbrev pub Refuses : Setting → Named → Refusal → Type 0
 Refuses s n (Source fault) = LoadFails s n.source source_limit fault
 Refuses s n SourceNotYet = HasNoProgram s n.source
 Refuses s n (Certificate fault) = LacksCertificateFile s n fault
-Refuses s n CertificateNotYet = HasNoCertificates s n
+Refuses s n (BadCertificates fault) = HasNoCertificates s n fault
 Refuses s n (Unproved verdicts place) = IsUnproved s n verdicts place
 Refuses s n NoEntry = DoesNotStart s n NoEntry
 Refuses s n ArgumentNotYet = DoesNotStart s n ArgumentNotYet

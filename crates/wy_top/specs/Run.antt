@@ -6,13 +6,15 @@ use Rattle.wy_port.specs.Told.Told.{Unknown}
 use Rattle.wy_port.specs.declared.files.LoadFault.{LoadFault}
 use Rattle.wy_port.specs.declared.files.LoadFault.TheVariants.{Absent, TooLong, Failed, NoMemory as NoMemoryToLoad}
 use Rattle.wy_top.specs.declared.refusal.Refusal.{Refusal}
-use Rattle.wy_top.specs.declared.refusal.Refusal.TheVariants.{Source, SourceNotYet, Certificate, CertificateNotYet, Unproved, NoEntry, ArgumentNotYet, RequiresFails, NoMemory}
+use Rattle.wy_top.specs.declared.refusal.Refusal.TheVariants.{Source, SourceNotYet, Certificate, BadCertificates, Unproved, NoEntry, ArgumentNotYet, RequiresFails, NoMemory}
+use Rattle.wy_cert.specs.declared.fault.CertFault.{CertFault}
+use Rattle.wy_thin.specs.Rightness.{AreTrue}
 use Rattle.wy_top.specs.Outcome.{Setting, Outcome, no_command, refused, returned, Happens, LoadFails, HasNoProgram, LacksCertificateFile, HasNoCertificates, IsUnproved, DoesNotStart, IsAccepted, Starts, source_limit}
 use Rattle.wy_top.specs.CommandLine.{Named, Commands, IsNoCommand}
 use Rattle.wy_top.specs.Diagnostics.{status_of, out_text, err_text}
-use Rattle.wy_top.specs.Meaning.{IsInt, Ensures, returned_by}
-use Rattle.wy_top.specs.Thin.{Program}
-use Rattle.wy_top.specs.declared.thin.Place.{Place}
+use Rattle.wy_thin.specs.Meaning.{IsInt, Ensures, returned_by}
+use Rattle.wy_thin.specs.Thin.{Program}
+use Rattle.wy_thin.specs.declared.thin.Place.{Place}
 use Rattle.wy_top.specs.declared.verdict.Verdicts.{Verdicts}
 
 -- the bytes that the two sinks took and their counts of faults, before the call and after it
@@ -59,7 +61,7 @@ abbrev pub IsDue : Refusal → Type 0
 IsDue (Source fault) = IsPlain fault
 IsDue SourceNotYet = Unit {0}
 IsDue (Certificate fault) = IsPlain fault
-IsDue CertificateNotYet = Unit {0}
+IsDue (BadCertificates fault) = Unit {0}
 IsDue (Unproved verdicts place) = Unit {0}
 IsDue NoEntry = Unit {0}
 IsDue ArgumentNotYet = Unit {0}
@@ -94,13 +96,14 @@ SucceedsElse words s status = NothingRefuses words s → (status ≡ 0) ⊎ (sta
 
 -- ---- what status 0 promises
 
--- an accepted program ran on an argument that meets its requires clause; its result is an `int`, meets its ensures clause, and was printed
+-- an accepted program, whose conditions are true, ran on an argument that meets its requires clause; its result is an `int`, meets its ensures clause, and was printed
 pub record IsDone (words : List (List ℕ)) (s : Setting) (k : Sinks) : Type 0 where
   pub names : Named
   pub program : Program
   pub argument : ℤ
   pub command : Commands words names
   pub accepted : IsAccepted s names program
+  pub conditions_hold : AreTrue program
   pub starts : Starts names program argument
   pub argument_is : IsInt argument
   pub result_is : IsInt (returned_by program argument)
@@ -121,11 +124,12 @@ pub record IsNotAccepted (words : List (List ℕ)) (s : Setting) : Type 0 where
   pub command : Commands words names
   pub cause : HasNoProgram s names.source ⊎ ((verdicts : Verdicts) × (place : Place) × IsUnproved s names verdicts place)
 
--- the words are a command, and its certificate file has no certificates of the thin form
+-- the words are a command, and its certificate file holds no certificates
 pub record HasBadCertificates (words : List (List ℕ)) (s : Setting) : Type 0 where
   pub names : Named
   pub command : Commands words names
-  pub cause : HasNoCertificates s names
+  pub fault : CertFault
+  pub cause : HasNoCertificates s names fault
 
 -- the words are a command whose program was accepted, and the entry, the argument or the requires clause stops it
 pub record IsNotStarted (words : List (List ℕ)) (s : Setting) : Type 0 where

@@ -1,42 +1,40 @@
 -- What is known of each condition of a thin program, where these certificates are given?
-use Rattle.std.specs.Prelude.{◌≡◌, ℕ, List, [], ◌∷◌, Option, Some, None}
-use Rattle.wy_term.specs.Condition.{Condition, HoldsAlways}
-use Rattle.wy_check.specs.Valid.{first_bad}
-use Rattle.wy_top.specs.declared.verdict.Verdict.{Verdict}
-use Rattle.wy_top.specs.declared.verdict.Verdict.TheVariants.{Supplied, Missing, Bad}
+use Rattle.std.specs.Prelude.{◌≡◌, ◌↔◌, ℕ, List, map, Ok}
+use Rattle.wy_term.specs.Condition.{Condition}
+use Rattle.wy_cert.specs.Steps.{Certificates}
+use Rattle.wy_cert.specs.File.{ReadsFile}
+use Rattle.wy_shown_conditions.specs.Certified.{AreCertified}
+use Rattle.wy_accepting.specs.declared.verdict.Verdict.TheVariants.{Supplied}
+use Rattle.wy_accepting.specs.Verdicts.{certificate_for, verdict_on}
+use Rattle.wy_thin.specs.Thin.{Program}
+use Rattle.wy_thin.specs.Conditions.{least_owed, greatest_owed, ensures_owed, conditions_of}
+use Rattle.wy_thin.specs.Rightness.{AreTrue}
 use Rattle.wy_top.specs.declared.verdict.Verdicts.{Verdicts}
-use Rattle.wy_top.specs.Thin.{Program}
-use Rattle.wy_top.specs.Conditions.{least_owed, greatest_owed, ensures_owed}
-use Rattle.wy_top.specs.Certificate.{Sums}
 
--- the verdict where the first bad step of the certificate has this number, if any
-abbrev pub verdict_from : Option ℕ → Verdict
-verdict_from None = Supplied
-verdict_from (Some step) = Bad step
-
--- the verdict on a condition for which this sum is given, if any; a certificate is one sum
-abbrev pub verdict_on : Condition → Option (List (ℕ × ℕ)) → Verdict
-verdict_on c None = Missing
-verdict_on c (Some sum) = verdict_from (first_bad c (sum ∷ []))
-
--- the verdicts on the conditions of a thin program
-abbrev pub verdicts_on : Program → Sums → Verdicts
-verdicts_on p sums = record {
-  least = verdict_on (least_owed p).condition sums.first;
-  greatest = verdict_on (greatest_owed p).condition sums.second;
-  ensured = verdict_on (ensures_owed p).condition sums.third;
+-- the verdicts on the conditions of a thin program, which have the numbers 1, 2 and 3
+abbrev pub verdicts_on : Program → Certificates → Verdicts
+verdicts_on p certs = record {
+  least = verdict_on (least_owed p).condition (certificate_for certs 1);
+  greatest = verdict_on (greatest_owed p).condition (certificate_for certs 2);
+  ensured = verdict_on (ensures_owed p).condition (certificate_for certs 3);
 }
 
 -- each condition has a valid certificate
 abbrev pub all_supplied : Verdicts
 all_supplied = record { least = Supplied; greatest = Supplied; ensured = Supplied }
 
--- what the program returns is an `int` and meets the ensures clause, whatever number its argument is
-pub record AreTrue (p : Program) : Type 0 where
-  pub least : HoldsAlways (least_owed p).condition
-  pub greatest : HoldsAlways (greatest_owed p).condition
-  pub ensured : HoldsAlways (ensures_owed p).condition
+-- the conditions that a thin program owes, in order
+abbrev pub owed_conditions : Program → List Condition
+owed_conditions p = map (λ o. o.condition) (conditions_of p)
 
--- a thin program whose conditions all have valid certificates owes nothing that isn't true
+-- a thin program has three conditions
+abbrev pub condition_count : ℕ
+condition_count = 3
+
+-- each verdict is `Supplied` exactly where a file that was read has a valid certificate for each condition
+abbrev pub SuppliedIsCertified : Type 0
+SuppliedIsCertified = (p : Program) (bytes : List ℕ) (certs : Certificates) → ReadsFile condition_count bytes (Ok certs) → (verdicts_on p certs ≡ all_supplied) ↔ AreCertified certs 1 (owed_conditions p)
+
+-- and where it is so, each condition is true
 abbrev pub SuppliedImpliesTrue : Type 0
-SuppliedImpliesTrue = (p : Program) (sums : Sums) → verdicts_on p sums ≡ all_supplied → AreTrue p
+SuppliedImpliesTrue = (p : Program) (bytes : List ℕ) (certs : Certificates) → ReadsFile condition_count bytes (Ok certs) → verdicts_on p certs ≡ all_supplied → AreTrue p

@@ -17,7 +17,6 @@ use crate::diagnostics::{WORDS_REFUSED, WORDS_STATUS, number_line, status, text}
 use crate::formatting::{format, read_format};
 use crate::refusal::Refusal;
 use crate::run::run;
-use crate::verdict::supplied_is_true;
 use std::alloc::Global;
 use wy_port::{Files, Sink, write_whole};
 
@@ -76,7 +75,7 @@ fn print<O: Sink>(alloc: Global, number: i128, out: &mut O) -> u8
 /// | 2 | the words are no command |
 /// | 3, 4, 10 | a file is absent, was not loaded, or is too long |
 /// | 5 | a sink failed |
-/// | 6 | the certificate file is of no thin form |
+/// | 6 | the certificate file holds no certificates: its first fault, with its line |
 /// | 7 | no such entry, no argument, or the requires clause is false of it |
 /// | 9 | want of memory |
 ///
@@ -124,7 +123,6 @@ fn run_command<F: Files, O: Sink, E: Sink>(
     ensures save_count { F.save_faults files.new ≡ F.save_faults files.old }
     ensures kept { (name : List ℕ) → F.told files.new name ≡ F.told files.old name }
 {
-    supplied_is_true();
     let operands = match read_words(words) {
         Some(operands) => operands,
         None => return report(err, WORDS_REFUSED, WORDS_STATUS),

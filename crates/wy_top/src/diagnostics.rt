@@ -3,14 +3,16 @@ ghost use Rattle.std.specs.Prelude.{◌≡◌, ◌≤◌, ◌++◌, ◌∷◌, [
 ghost use Rattle.std.specs.String.{string_bytes};
 ghost use Rattle.std.specs.Fmt.{signed_decimal};
 ghost use Rattle.wy_top.specs.Operands.{named_by};
-ghost use Rattle.wy_top.specs.Diagnostics.{load_status as status_of_load, refusal_status, load_text, refusal_text, invalid_text, spent_text, invalid_lines as lines_of_invalid, spent_lines as lines_of_spent, spent_count as count_of_spent, total_line as line_of_total};
+ghost use Rattle.wy_top.specs.Diagnostics.{load_status as status_of_load, refusal_status, load_text, fault_text, refusal_text, invalid_text, spent_text, invalid_lines as lines_of_invalid, spent_lines as lines_of_spent, spent_count as count_of_spent, total_line as line_of_total};
 
 use crate::command_line::Operands;
 use crate::refusal::Refusal;
-use crate::thin::{Place, result_place};
-use crate::verdict::{Verdict, Verdicts};
+use crate::verdict::Verdicts;
 use std::alloc::{AllocError, Global};
+use wy_accepting::Verdict;
+use wy_cert::CertFault;
 use wy_port::LoadFault;
+use wy_thin::thin::{Place, result_place};
 
 /// The line for words that are no command.
 pub const WORDS_REFUSED: &[u8] = b"wy: words refused\n";
@@ -38,7 +40,7 @@ pub fn status(refusal: &Refusal) -> u8
         Refusal::Source(fault) => load_status(*fault),
         Refusal::SourceNotYet => 1,
         Refusal::Certificate(fault) => load_status(*fault),
-        Refusal::CertificateNotYet => 6,
+        Refusal::BadCertificates(_) => 6,
         Refusal::Unproved(_, _) => 1,
         Refusal::NoEntry => 7,
         Refusal::ArgumentNotYet => 7,
@@ -56,6 +58,20 @@ pub fn load_line(alloc: Global, name: &str, fault: LoadFault) -> Result<String, 
         LoadFault::TooLong => format!(in alloc; "wy: {name}: too long\n"),
         LoadFault::Failed => format!(in alloc; "wy: {name}: load failed\n"),
         LoadFault::NoMemory => Ok(String::new(alloc)),
+    }
+}
+
+// The line for a fault of the certificate file.
+fn fault_line(alloc: Global, cert: &str, fault: CertFault) -> Result<String, AllocError>
+    ensures value { IfOk result (λ s. string_bytes s ≡ fault_text cert.now fault) }
+{
+    match fault {
+        CertFault::BadHeader(line) => format!(in alloc; "{cert}:{line}: BadHeader\n"),
+        CertFault::BadStep(line) => format!(in alloc; "{cert}:{line}: BadStep\n"),
+        CertFault::Truncated(line) => format!(in alloc; "{cert}:{line}: Truncated\n"),
+        CertFault::TwiceCond(line) => format!(in alloc; "{cert}:{line}: TwiceCond\n"),
+        CertFault::NoSuchCond(line) => format!(in alloc; "{cert}:{line}: NoSuchCond\n"),
+        CertFault::NoMemory => Ok(String::new(alloc)),
     }
 }
 
@@ -176,7 +192,7 @@ pub fn text(alloc: Global, operands: &Operands<'_>, refusal: &Refusal) -> Result
         Refusal::Source(fault) => load_line(alloc, source, *fault),
         Refusal::SourceNotYet => format!(in alloc; "{source}:1:1: NotYet\n"),
         Refusal::Certificate(fault) => load_line(alloc, cert, *fault),
-        Refusal::CertificateNotYet => format!(in alloc; "{cert}:1: NotYet\n"),
+        Refusal::BadCertificates(fault) => fault_line(alloc, cert, *fault),
         Refusal::Unproved(verdicts, sum) => unproved_lines(alloc, operands, verdicts, *sum),
         Refusal::NoEntry => format!(in alloc; "wy: {name}: no such entry\n"),
         Refusal::ArgumentNotYet => String::from_str(alloc, "wy: argument text: NotYet\n"),

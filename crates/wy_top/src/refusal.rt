@@ -2,10 +2,11 @@
 ghost use Rattle.std.specs.Prelude.{◌≡◌};
 ghost use Rattle.wy_top.specs.declared.refusal.Refusal.TheVariants.{NoMemory as OutOfMemory};
 
-use crate::thin::Place;
 use crate::verdict::Verdicts;
-use wy_check::NoMemory;
+use wy_cert::CertFault;
 use wy_port::LoadFault;
+use wy_term::NoMemory;
+use wy_thin::thin::Place;
 
 /// Why a run is refused, in the order in which it is tested.
 #[derive(Clone, Copy, Debug, PartialEq, Eq)]
@@ -16,8 +17,8 @@ pub enum Refusal {
     SourceNotYet,
     /// The certificate file was not loaded.
     Certificate(LoadFault),
-    /// The certificate file has no certificates of the thin form.
-    CertificateNotYet,
+    /// The certificate file holds no certificates: its first fault, with its line.
+    BadCertificates(CertFault),
     /// A condition lacks a valid certificate: the three verdicts, and the place of the sum.
     Unproved(Verdicts, Place),
     /// The program has no function of the name.

@@ -1,23 +1,23 @@
 //! The order of a run: from what the words name to the number that the program returns.
-ghost use Rattle.std.specs.Prelude.{◌≡◌, ◌≤◌, ◌↔◌, ℕ, ℤ, List, IsTrue, MatchResult};
+ghost use Rattle.std.specs.Prelude.{◌≡◌, ◌≤◌, ◌↔◌, ℕ, ℤ, List, IsTrue, IfOk, MatchResult};
 ghost use Rattle.wy_top.specs.Operands.{named_by};
 ghost use Rattle.wy_top.specs.Outcome.{Refuses, Returns, HasCertificates, Starts, StartFails};
-ghost use Rattle.wy_top.specs.Steps.{setting, CertificatesFail, ProofFails};
-ghost use Rattle.wy_top.specs.CertificateView.{seen_sums};
+ghost use Rattle.wy_top.specs.Steps.{setting, refusal_for, CertificatesFail, ProofFails};
+ghost use Rattle.wy_cert.specs.Steps.{certificates_of, NameTheirTerms};
 ghost use Rattle.wy_top.specs.Verdicts.{verdicts_on, all_supplied};
-ghost use Rattle.wy_top.specs.Meaning.{returned_by};
-ghost use Rattle.wy_top.specs.Thin.{IsThin};
-ghost use Rattle.wy_top.specs.Seen.{seen};
+ghost use Rattle.wy_thin.specs.Meaning.{returned_by};
+ghost use Rattle.wy_thin.specs.Thin.{IsThin};
+ghost use Rattle.wy_thin.specs.Seen.{seen};
 
-use crate::certificate::{self, CertificateFault, Certificates};
 use crate::command_line::Operands;
-use crate::machine::{meets, returned};
 use crate::refusal::Refusal;
-use crate::thin::{Thin, sum_place};
 use crate::verdict::judge;
-use crate::{argument, source};
 use std::alloc::Global;
+use wy_cert::{CertFault, Certs, read_certs};
 use wy_port::Files;
+use wy_thin::machine::{meets, returned};
+use wy_thin::thin::{Thin, sum_place};
+use wy_thin::{argument, source};
 
 /// The most bytes of a source file.
 pub const SOURCE_LIMIT: u64 = 1_048_576;
@@ -25,40 +25,52 @@ pub const SOURCE_LIMIT: u64 = 1_048_576;
 /// The most bytes of a certificate file.
 const CERTIFICATE_LIMIT: u64 = 16_777_216;
 
+/// How many conditions a thin program has.
+const CONDITION_COUNT: u32 = 3;
+
+// The refusal of a run whose certificate file holds no certificates.
+fn refusal_for(fault: CertFault) -> Refusal
+    ensures value { result ≡ refusal_for fault }
+{
+    match fault {
+        CertFault::NoMemory => Refusal::NoMemory,
+        _ => Refusal::BadCertificates(fault),
+    }
+}
+
 // The certificates of the named file, or none.
-fn certificates<F: Files>(alloc: Global, name: &str, files: &mut F) -> Result<Certificates, Refusal>
+fn certificates<F: Files>(alloc: Global, name: &str, files: &mut F) -> Result<Certs, Refusal>
     ensures gives { MatchResult result
-        (λ c. HasCertificates (setting (F.told files.old) (F.load_faults files.old) (F.load_faults files.new) (F.misses files.old) (F.misses files.new)) name.now (seen_sums c))
+        (λ c. HasCertificates (setting (F.told files.old) (F.load_faults files.old) (F.load_faults files.new) (F.misses files.old) (F.misses files.new)) name.now (certificates_of c))
         (CertificatesFail (setting (F.told files.old) (F.load_faults files.old) (F.load_faults files.new) (F.misses files.old) (F.misses files.new)) name.now) }
+    ensures names { IfOk result NameTheirTerms }
     ensures load_count { F.load_faults files.old ≤ F.load_faults files.new }
     ensures miss_count { F.misses files.old ≤ F.misses files.new }
     ensures save_count { F.save_faults files.new ≡ F.save_faults files.old }
     ensures kept { (name : List ℕ) → F.told files.new name ≡ F.told files.old name }
 {
     if name == "none" {
-        return Ok(Certificates {
-            first: None,
-            second: None,
-            third: None,
+        return Ok(Certs {
+            list: Vec::new(alloc),
         });
     }
     let bytes = match files.load(alloc, name, CERTIFICATE_LIMIT) {
         Ok(bytes) => bytes,
         Err(fault) => return Err(Refusal::Certificate(fault)),
     };
-    match certificate::read(alloc, &bytes) {
+    match read_certs(alloc, &bytes, CONDITION_COUNT) {
         Ok(certificates) => Ok(certificates),
-        Err(CertificateFault::NotYet) => Err(Refusal::CertificateNotYet),
-        Err(CertificateFault::NoMemory) => Err(Refusal::NoMemory),
+        Err(fault) => Err(refusal_for(fault)),
     }
 }
 
 // That each condition of the program has a valid certificate.
-fn accept(alloc: Global, thin: &Thin<'_>, certificates: Certificates) -> Result<(), Refusal>
-    requires { IsThin (seen thin.now) }
+fn accept(alloc: Global, thin: &Thin<'_>, certificates: &Certs) -> Result<(), Refusal>
+    requires thin { IsThin (seen thin.now) }
+    requires certificates { NameTheirTerms certificates.now }
     ensures gives { MatchResult result
-        (λ _. verdicts_on (seen thin.now) (seen_sums certificates) ≡ all_supplied)
-        (ProofFails (seen thin.now) (seen_sums certificates)) }
+        (λ _. verdicts_on (seen thin.now) (certificates_of certificates.now) ≡ all_supplied)
+        (ProofFails (seen thin.now) (certificates_of certificates.now)) }
 {
     let verdicts = judge(alloc, thin, certificates)?;
     if !verdicts.are_supplied() {
@@ -112,6 +124,6 @@ pub fn run<F: Files>(alloc: Global, operands: &Operands<'_>, files: &mut F) -> R
         Err(_) => return Err(Refusal::SourceNotYet),
     };
     let certificates = certificates(alloc, operands.cert, files)?;
-    accept(alloc, &thin, certificates)?;
+    accept(alloc, &thin, &certificates)?;
     start(operands, &thin)
 }

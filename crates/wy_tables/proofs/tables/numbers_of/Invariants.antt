@@ -3,4 +3,4 @@ use Rattle.wy_tables.specs.Tables as spec
 use Rattle.wy_tables.proofs.tables.numbers_of.Given as goal
 
 abbrev pub invariant-loop-field : goal.invariant-loop-field
-invariant-loop-field g l = l.list ++ spec.numbers_of l.names (map (λ f. f.0) (drop l.field-index l.fields)) ≡ spec.numbers_of l.names (map (λ f. f.0) l.fields)
+invariant-loop-field g l = l.list ++ spec.numbers_of l.table.names (map (λ f. f.0) (drop l.field-index l.fields)) ≡ spec.numbers_of l.table.names (map (λ f. f.0) l.fields)

@@ -1,6 +1,7 @@
-use Rattle.std.proofs.Common.{refl}
-use Rattle.wy_texts.proofs.TextLemmas.{layout_complete, layout_exact, layout_is, nothing_left, unread_complete, unread_exact}
+use Rattle.wy_texts.proofs.AgainLemmas.{read_again}
+use Rattle.wy_texts.proofs.TextLemmas.{layout_complete, layout_exact, layout_is, unread_complete, unread_exact}
 use Rattle.wy_texts.proofs.writing.laid_out.Goals as goal
+use Rattle.wy_texts.specs.declared.kind.Kind.TheVariants.{Layout}
 
 pub returns-in-Err-clause-complete : goal.returns-in-Err-clause-complete
 returns-in-Err-clause-complete c = unread_complete c.args.source.now c.in-Err.fault c.in-Err.ensures.reads
@@ -16,3 +17,7 @@ returns-in-Ok-print-clause-complete c = layout_complete c.args.source.now c.in-O
 
 pub returns-in-Ok-print-clause-exact : goal.returns-in-Ok-print-clause-exact
 returns-in-Ok-print-clause-exact c = layout_exact c.args.source.now c.in-Ok.program c.in-Ok.ensures.exact
+
+pub returns-in-Ok-print-clause-again : goal.returns-in-Ok-print-clause-again
+returns-in-Ok-print-clause-again c =
+    read_again Layout c.args.source.now c.in-Ok-print.text.items (layout_is c.args.source.now c.in-Ok-print.text.items c.in-Ok.program c.in-Ok.ensures.spells c.in-Ok-print.ensures.value)

@@ -1,5 +1,4 @@
-use Rattle.std.proofs.Common.{refl}
-use Rattle.wy_texts.proofs.TextLemmas.{listing_complete, listing_is, nothing_left, unlisted_complete}
+use Rattle.wy_texts.proofs.TextLemmas.{listing_complete, listing_is, unlisted_complete}
 use Rattle.wy_texts.proofs.writing.listed.Goals as goal
 use Rattle.wy_typing.specs.TypedPrograms.{core_of, flow_of}
 

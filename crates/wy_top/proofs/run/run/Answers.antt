@@ -2,10 +2,10 @@ use Rattle.std.proofs.Common.{◌≤◌, ℕ, List, length, subst, rules}
 use Rattle.std.proofs.lemmas.Result.{err_from_is_err_and, MatchResult-weaker}
 use Rattle.wy_top.specs.Operands.{named_by}
 use Rattle.wy_top.specs.Outcome.{source_limit, HasProgram}
-use Rattle.wy_top.specs.CertificateView.{seen_sums}
-use Rattle.wy_top.specs.Seen.{seen}
+use Rattle.wy_cert.specs.Steps.{certificates_of}
+use Rattle.wy_thin.specs.Seen.{seen}
 use Rattle.wy_top.specs.Steps.{setting}
-use Rattle.wy_top.specs.Thin.{Spells}
+use Rattle.wy_thin.specs.Thin.{Spells}
 use Rattle.wy_top.proofs.RunLemmas.{certificates_refused, proof_refused, accepted, returned_number, start_refused}
 use Rattle.wy_top.proofs.run.run.Goals as goal
 
@@ -30,7 +30,7 @@ returns-in_err-accept-clause-gives g c =
     let spelled : Spells c.in-Ok.bytes.items (seen c.in-Ok-read.thin) = subst (λ (b : List ℕ). Spells b (seen c.in-Ok-read.thin)) c.deref.ensures.value c.in-Ok-read.ensures.spells in
     let within : length c.in-Ok.bytes.items ≤ source_limit = search rules in
     rw (p.1, p.2) (
-    proof_refused told between _ (g.F.Files.load_faults c.load.new.self) _ _ (g.F.Files.misses c.load.new.self) _ (named_by c.args.operands.now) (seen c.in-Ok-read.thin) (seen_sums c.in_ok-certificates.certificates) c.in_err-accept.field-0.0
+    proof_refused told between _ (g.F.Files.load_faults c.load.new.self) _ _ (g.F.Files.misses c.load.new.self) _ (named_by c.args.operands.now) (seen c.in-Ok-read.thin) (certificates_of c.in_ok-certificates.certificates) c.in_err-accept.field-0.0
     c.in-Ok.ensures.kept c.in-Ok.ensures.load_count c.in-Ok.ensures.miss_count
     (record { bytes = c.in-Ok.bytes.items; loaded = record { told = c.in-Ok.ensures.found; within = within }; spelled = spelled })
     c.in_ok-certificates.ensures.gives c.in_err-accept.ensures.gives)
@@ -44,6 +44,6 @@ returns-clause-gives g c =
     let within : length c.in-Ok.bytes.items ≤ source_limit = search rules in
     let s = setting told (g.F.Files.load_faults c.args.files.now) (g.F.Files.load_faults c.certificates.new.files) (g.F.Files.misses c.args.files.now) (g.F.Files.misses c.certificates.new.files) in
     let has : HasProgram s n.source (seen c.in-Ok-read.thin) = record { bytes = c.in-Ok.bytes.items; loaded = record { told = c.in-Ok.ensures.found; within = within }; spelled = spelled } in
-    let all = accepted told between _ (g.F.Files.load_faults c.load.new.self) _ _ (g.F.Files.misses c.load.new.self) _ n (seen c.in-Ok-read.thin) (seen_sums c.in_ok-certificates.certificates)
+    let all = accepted told between _ (g.F.Files.load_faults c.load.new.self) _ _ (g.F.Files.misses c.load.new.self) _ n (seen c.in-Ok-read.thin) (certificates_of c.in_ok-certificates.certificates)
     c.in-Ok.ensures.kept c.in-Ok.ensures.load_count c.in-Ok.ensures.miss_count has c.in_ok-certificates.ensures.gives c.in_ok-accept.ensures.gives in
     MatchResult-weaker c.start.result c.start.ensures.gives (returned_number s n (seen c.in-Ok-read.thin) all) (start_refused s n (seen c.in-Ok-read.thin) all)

@@ -1,7 +1,7 @@
 use Rattle.std.proofs.Common.{◌≡◌, ◌∙◌, sym, subst, rules, ℕ, List, FitsSigned}
 use Rattle.std.specs.Int.{w128}
 use Rattle.std.proofs.lemmas.Int.{to_z-of_z}
-use Rattle.wy_top.specs.Argument.{WritesNumber}
+use Rattle.wy_thin.specs.Argument.{WritesNumber}
 use Rattle.wy_top.proofs.run.start.Goals as goal
 
 pub returns-in-Err : goal.returns-in-Err

@@ -1,6 +1,0 @@
-use Rattle.std.proofs.Common.{◌≡◌, ◌+◌, drop}
-use Rattle.wy_tables.specs.Tables as spec
-use Rattle.wy_tables.proofs.tables.name_number.Given as goal
-
-abbrev pub invariant-loop-other : goal.invariant-loop-other
-invariant-loop-other l = l.number + spec.number_of l.name (drop l.other-index l.names) ≡ spec.number_of l.name l.names
