@@ -67,7 +67,7 @@ alone_below n k j lt h = elim (among_cases k [] j h) as (λ _. j < n) [ inl e �
 -- ---- one formula after the other
 
 -- the types that were put, and those of what is left, are those of all
-pub IsTesting : List Plain → List ℕ → List ℕ → List ℕ → Type 0
+abbrev pub IsTesting : List Plain → List ℕ → List ℕ → List ℕ → Type 0
 IsTesting nodes types left all = AreAlike (types ++ tests_in_all (map (tree_at nodes) left)) all
 
 pub testing_begin : (nodes : List Plain) (types formulas : List ℕ) → types ≡ [] → IsTesting nodes types formulas (tests_in_all (map (tree_at nodes) formulas))
