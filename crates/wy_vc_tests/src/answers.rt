@@ -3,28 +3,20 @@ ghost use Rattle.std.specs.Prelude.{All, IfOk};
 ghost use Rattle.wy_vc_limits.specs.Told.{IsCond};
 
 use std::alloc::{AllocError, Global};
-use wy_ast::Program;
-use wy_core::Core;
-use wy_flow::check;
-use wy_front::{locate, read};
-use wy_names::resolve;
+use wy_front::locate;
 use wy_report::listed;
+use wy_source::read_program;
 use wy_term::{Cond, Conds, NoMemory, Terms};
-use wy_types::Names;
 use wy_typing::Typed;
 use wy_vc::{VcFault, conditions};
 
 // A source that is read is no longer than this.
 const LONGEST: usize = 1_048_576;
 
-/// Why there is no list: the source is no program, a name in it is refused, one of its types uses a name outside of records and arrays
-/// (which no row here has), it isn't well typed, it owes too much, or there is no memory.
+/// Why there is no list: the source is refused, it owes too much, or there is no memory.
 #[derive(Clone, Copy, Debug, PartialEq, Eq)]
 pub enum Refusal {
-    Unread,
-    Unnamed,
-    Unguarded,
-    Untyped,
+    Refused,
     TooManyConds,
     TooManyTerms(u32),
     NoMemory,
@@ -81,30 +73,12 @@ fn owed(alloc: Global, source: &str) -> Result<Conds, Refusal>
 }
 
 fn typed(alloc: Global, bytes: &[u8]) -> Result<Typed, Refusal> {
-    let core = core(alloc, bytes)?;
-    if !Names::of(alloc, &core)?.are_guarded() {
-        return Err(Refusal::Unguarded);
-    }
-    match check(alloc, core) {
-        Ok(typed) => Ok(typed),
-        Err(_) => Err(Refusal::Untyped),
-    }
-}
-
-fn core(alloc: Global, bytes: &[u8]) -> Result<Core, Refusal> {
     if bytes.len() > LONGEST {
-        return Err(Refusal::Unread);
+        return Err(Refusal::Refused);
     }
-    match read(alloc, bytes) {
-        Ok(program) => named(alloc, &program),
-        Err(_) => Err(Refusal::Unread),
-    }
-}
-
-fn named(alloc: Global, program: &Program) -> Result<Core, Refusal> {
-    match resolve(alloc, program) {
-        Ok(core) => Ok(core),
-        Err(_) => Err(Refusal::Unnamed),
+    match read_program(alloc, bytes) {
+        Ok(typed) => Ok(typed),
+        Err(_) => Err(Refusal::Refused),
     }
 }
 
