@@ -77,25 +77,6 @@ fn first_conditions(alloc: Global, typed: &Typed) -> Result<(Conds, Passing), No
     Ok((Conds { terms, list }, limit))
 }
 
-// The list, where the limits are kept, and else the limit that is passed first.
-fn within(_typed: &Typed, conds: Conds, limit: Passing) -> Result<Conds, VcFault>
-    requires list { seen_passing limit ≡ limits.Within → spec.seen_conds conds ≡ spec.told_of _typed.now }
-    requires limit { seen_passing limit ≡ spec.limit_of _typed.now }
-    requires once { All (spec.HasTypesOnce conds.terms) conds.list.items }
-    requires numbers { All (IsCond conds.terms) conds.list.items }
-    ensures list { IfOk result (λ cs. spec.seen_conds cs ≡ spec.told_of _typed.now) }
-    ensures within { IfOk result (λ cs. spec.limit_of _typed.now ≡ limits.Within) }
-    ensures fault { IfErr result (λ e. spec.IsDue e (spec.limit_of _typed.now)) }
-    ensures once { IfOk result (λ cs. All (spec.HasTypesOnce cs.terms) cs.list.items) }
-    ensures numbers { IfOk result (λ cs. All (IsCond cs.terms) cs.list.items) }
-{
-    match limit {
-        Passing::Within => Ok(conds),
-        Passing::TooMany => Err(VcFault::TooManyConds),
-        Passing::TooLarge(number) => Err(VcFault::TooManyTerms(number)),
-    }
-}
-
 /// The conditions of a well-typed program: what each declaration owes, in order of the source, each with its kind, its place, what may be
 /// assumed, the goal, and the named types that these mention with what their tests stand for. The program is refused where there are too
 /// many, or where one has too many terms, the first in the order of the list.
@@ -113,6 +94,10 @@ pub fn conditions(alloc: Global, typed: &Typed) -> Result<Conds, VcFault>
 {
     match first_conditions(alloc, typed) {
         Err(NoMemory) => Err(VcFault::NoMemory),
-        Ok((conds, limit)) => within(typed, conds, limit),
+        Ok((conds, limit)) => match limit {
+            Passing::Within => Ok(conds),
+            Passing::TooMany => Err(VcFault::TooManyConds),
+            Passing::TooLarge(number) => Err(VcFault::TooManyTerms(number)),
+        },
     }
 }

@@ -10,5 +10,3 @@ pub mod ToldLemmas
 pub mod DifferentLemmas
 -- the terms that were seen
 pub mod SeenLemmas
--- what formulas test
-pub mod KnownLemmas

@@ -6,5 +6,3 @@ pub mod Mentioned
 pub mod Told
 -- how many terms there are
 pub mod Counted
--- which types formulas test
-pub mod Known
