@@ -1,25 +1,37 @@
 //! Limits of size and height, loops of properties, and calls that a clause puts into a quantifier.
 use super::trees::{
-    CALL, ROOT, all_of, binary, call, expr, function, negated, numbers, property, var,
+    CALL, ROOT, all_of, call, expr, function, negated, numbers, property, twice, var,
 };
 use std::alloc::{AllocError, Global};
-use wy_ast::{Decl, Expr, ExprKind, Op};
+use wy_ast::{Decl, Expr, ExprKind};
 use wy_expand::{in_decls, summaries};
-use wy_items::Items;
+use wy_items::{Boxed, Items};
 use wy_scope::{Cause, Fault, declare};
 
 // The fault of a property `p` with this clause and a function that gives the value back. The order says
 // whether the property's expansion ends.
 fn fault_of(
     alloc: Global,
-    clause: Expr,
-    value: Expr,
+    clause: Boxed<Expr>,
+    value: Boxed<Expr>,
     order: &[usize],
 ) -> Result<Option<Fault>, AllocError> {
-    let mut decls: Items<Decl> = Items::new(alloc);
-    decls.push(property(alloc, "p", clause)?)?;
-    decls.push(function(alloc, value)?)?;
-    let decls = decls.as_slice();
+    let decls = declarations(alloc, clause, value)?;
+    fault_in(alloc, decls.as_slice(), order)
+}
+
+fn declarations(
+    alloc: Global,
+    clause: Boxed<Expr>,
+    value: Boxed<Expr>,
+) -> Result<Items<Decl>, AllocError> {
+    let mut decls = Items::new(alloc);
+    decls.push(property(alloc, "p", clause.into_inner())?)?;
+    decls.push(function(alloc, value.into_inner())?)?;
+    Ok(decls)
+}
+
+fn fault_in(alloc: Global, decls: &[Decl], order: &[usize]) -> Result<Option<Fault>, AllocError> {
     let (scope, found) = declare(alloc, decls)?;
     let expansions = summaries(alloc, &scope, decls, order)?;
     in_decls(alloc, &scope, expansions.as_slice(), found, decls)
@@ -29,32 +41,89 @@ fn found(at: u32, cause: Cause) -> Option<Fault> {
     Some(Fault { at, cause })
 }
 
-fn truth() -> Expr {
-    expr(ExprKind::Bool(true))
+fn truth(alloc: Global) -> Result<Boxed<Expr>, AllocError> {
+    Boxed::new(alloc, expr(ExprKind::Bool(true)))
 }
 
 // `x + x`
-fn twice(alloc: Global) -> Result<Expr, AllocError> {
-    binary(alloc, Op::Add, var(alloc, "x")?, var(alloc, "x")?)
+fn sum(alloc: Global) -> Result<Boxed<Expr>, AllocError> {
+    Boxed::new(alloc, twice(alloc)?)
+}
+
+// `- .. - 1` with so many signs
+fn signs(alloc: Global, many: u32) -> Result<Boxed<Expr>, AllocError> {
+    Boxed::new(alloc, negated(alloc, many)?)
+}
+
+// `[1, .., 1]` with so many numbers
+fn list(alloc: Global, many: u32) -> Result<Boxed<Expr>, AllocError> {
+    Boxed::new(alloc, numbers(alloc, many)?)
+}
+
+// `p([1, .., 1])`
+fn use_of_list(alloc: Global, many: u32) -> Result<Boxed<Expr>, AllocError> {
+    let value = call(alloc, "p", numbers(alloc, many)?)?;
+    Boxed::new(alloc, value)
+}
+
+// `p(x)`
+fn use_of_own(alloc: Global) -> Result<Boxed<Expr>, AllocError> {
+    let value = call(alloc, "p", var(alloc, "x")?)?;
+    Boxed::new(alloc, value)
+}
+
+// `p(f(x))`
+fn use_of_call(alloc: Global) -> Result<Boxed<Expr>, AllocError> {
+    let inner = call(alloc, "f", var(alloc, "x")?)?;
+    let value = call(alloc, "p", inner)?;
+    Boxed::new(alloc, value)
+}
+
+// `all { i in 0..1 | x }`
+fn all(alloc: Global) -> Result<Boxed<Expr>, AllocError> {
+    let value = all_of(alloc, var(alloc, "x")?)?;
+    Boxed::new(alloc, value)
+}
+
+// the fault where the property's clause is true
+fn plain(alloc: Global, value: Boxed<Expr>) -> Result<Option<Fault>, AllocError> {
+    let clause = truth(alloc)?;
+    fault_of(alloc, clause, value, &[0])
+}
+
+// the fault where it is `x + x`
+fn doubled(alloc: Global, value: Boxed<Expr>) -> Result<Option<Fault>, AllocError> {
+    let clause = sum(alloc)?;
+    fault_of(alloc, clause, value, &[0])
+}
+
+// the fault of a property whose clause uses itself
+fn endless(alloc: Global) -> Result<Option<Fault>, AllocError> {
+    let clause = use_of_own(alloc)?;
+    let value = truth(alloc)?;
+    fault_of(alloc, clause, value, &[])
+}
+
+// the fault of `p(f(x))` where the clause puts its argument into a quantifier
+fn wrapped(alloc: Global) -> Result<Option<Fault>, AllocError> {
+    let clause = all(alloc)?;
+    let value = use_of_call(alloc)?;
+    fault_of(alloc, clause, value, &[0])
 }
 
 #[test]
 fn heights_end_at_the_limit(rt: HostRuntime) -> Result<(), AllocError> {
     let alloc = rt.alloc();
-    let high = fault_of(alloc, truth(), negated(alloc, 399)?, &[0])?;
-    assert!(rt; high == None);
-    let higher = fault_of(alloc, truth(), negated(alloc, 400)?, &[0])?;
-    assert!(rt; higher == found(ROOT, Cause::TooLarge));
+    assert!(rt; plain(alloc, signs(alloc, 399)?)? == None);
+    assert!(rt; plain(alloc, signs(alloc, 400)?)? == found(ROOT, Cause::TooLarge));
     Ok(())
 }
 
 #[test]
 fn sizes_end_at_the_limit(rt: HostRuntime) -> Result<(), AllocError> {
     let alloc = rt.alloc();
-    let wide = fault_of(alloc, truth(), numbers(alloc, 4095)?, &[0])?;
-    assert!(rt; wide == None);
-    let wider = fault_of(alloc, truth(), numbers(alloc, 4096)?, &[0])?;
-    assert!(rt; wider == found(ROOT, Cause::TooLarge));
+    assert!(rt; plain(alloc, list(alloc, 4095)?)? == None);
+    assert!(rt; plain(alloc, list(alloc, 4096)?)? == found(ROOT, Cause::TooLarge));
     Ok(())
 }
 
@@ -62,32 +131,17 @@ fn sizes_end_at_the_limit(rt: HostRuntime) -> Result<(), AllocError> {
 #[test]
 fn properties_are_counted_expanded(rt: HostRuntime) -> Result<(), AllocError> {
     let alloc = rt.alloc();
-    let most = call(alloc, "p", numbers(alloc, 2046)?)?;
-    let most = fault_of(alloc, twice(alloc)?, most, &[0])?;
-    assert!(rt; most == None);
-    let more = call(alloc, "p", numbers(alloc, 2047)?)?;
-    let more = fault_of(alloc, twice(alloc)?, more, &[0])?;
-    assert!(rt; more == found(CALL, Cause::TooLarge));
-    let dropped = call(alloc, "p", numbers(alloc, 4096)?)?;
-    let dropped = fault_of(alloc, truth(), dropped, &[0])?;
-    assert!(rt; dropped == None);
+    assert!(rt; doubled(alloc, use_of_list(alloc, 2046)?)? == None);
+    assert!(rt; doubled(alloc, use_of_list(alloc, 2047)?)? == found(CALL, Cause::TooLarge));
+    assert!(rt; plain(alloc, use_of_list(alloc, 4096)?)? == None);
     Ok(())
 }
 
 #[test]
 fn uses_have_their_faults(rt: HostRuntime) -> Result<(), AllocError> {
     let alloc = rt.alloc();
-    let own = call(alloc, "p", var(alloc, "x")?)?;
-    let endless = fault_of(alloc, own, truth(), &[])?;
-    assert!(rt; endless == found(CALL, Cause::PropertyLoop));
-    let inner = call(alloc, "f", var(alloc, "x")?)?;
-    let wrapped = call(alloc, "p", inner)?;
-    let clause = all_of(alloc, var(alloc, "x")?)?;
-    let wrapped = fault_of(alloc, clause, wrapped, &[0])?;
-    assert!(rt; wrapped == found(CALL, Cause::CallInContract));
-    let inner = call(alloc, "f", var(alloc, "x")?)?;
-    let plain = call(alloc, "p", inner)?;
-    let plain = fault_of(alloc, twice(alloc)?, plain, &[0])?;
-    assert!(rt; plain == None);
+    assert!(rt; endless(alloc)? == found(CALL, Cause::PropertyLoop));
+    assert!(rt; wrapped(alloc)? == found(CALL, Cause::CallInContract));
+    assert!(rt; doubled(alloc, use_of_call(alloc)?)? == None);
     Ok(())
 }

@@ -1,4 +1,5 @@
-//! Small trees: properties, and a function whose body gives an expression back.
+//! Small trees: properties, and a function whose body gives an expression back. What may fail comes first, so that no
+//! tree is let go behind it.
 use std::alloc::{AllocError, Global};
 use wy_ast::{Decl, Expr, ExprKind, Function, Op, Param, Property, Stmt, StmtKind, Ty, TyKind};
 use wy_data::Name;
@@ -30,16 +31,18 @@ pub fn var(alloc: Global, text: &str) -> Result<Expr, AllocError> {
 /// A call with one argument, at its own place.
 pub fn call(alloc: Global, text: &str, arg: Expr) -> Result<Expr, AllocError> {
     let args = only(alloc, arg)?;
+    let callee = name(alloc, text)?;
     Ok(Expr {
         at: CALL,
-        kind: ExprKind::Call(name(alloc, text)?, args),
+        kind: ExprKind::Call(callee, args),
     })
 }
 
-pub fn binary(alloc: Global, op: Op, left: Expr, right: Expr) -> Result<Expr, AllocError> {
-    let left = Boxed::new(alloc, left)?;
-    let right = Boxed::new(alloc, right)?;
-    Ok(expr(ExprKind::Binary(op, left, right)))
+/// `x + x`
+pub fn twice(alloc: Global) -> Result<Expr, AllocError> {
+    let left = Boxed::new(alloc, var(alloc, "x")?)?;
+    let right = Boxed::new(alloc, var(alloc, "x")?)?;
+    Ok(expr(ExprKind::Binary(Op::Add, left, right)))
 }
 
 /// `- .. - 1` with so many signs.
@@ -62,13 +65,10 @@ pub fn numbers(alloc: Global, count: u32) -> Result<Expr, AllocError> {
 
 /// `all { i in 0..1 | body }`
 pub fn all_of(alloc: Global, body: Expr) -> Result<Expr, AllocError> {
-    let range = (
-        name(alloc, "i")?,
-        expr(ExprKind::Int(0)),
-        expr(ExprKind::Int(1)),
-    );
-    let ranges = only(alloc, range)?;
     let body = Boxed::new(alloc, body)?;
+    let variable = name(alloc, "i")?;
+    let ends = (expr(ExprKind::Int(0)), expr(ExprKind::Int(1)));
+    let ranges = only(alloc, (variable, ends.0, ends.1))?;
     Ok(expr(ExprKind::Quant(true, ranges, body)))
 }
 
@@ -80,36 +80,40 @@ fn int() -> Ty {
 }
 
 fn param(alloc: Global) -> Result<Param, AllocError> {
+    let variable = name(alloc, "x")?;
     Ok(Param {
         ty: int(),
-        name: name(alloc, "x")?,
+        name: variable,
     })
 }
 
 /// `property NAME(int x) where CLAUSE`
 pub fn property(alloc: Global, own: &str, clause: Expr) -> Result<Decl, AllocError> {
+    let clauses = only(alloc, clause)?;
+    let own = name(alloc, own)?;
+    let params = only(alloc, param(alloc)?)?;
     Ok(Decl::Property(Property {
         at: 0,
-        name: name(alloc, own)?,
-        params: only(alloc, param(alloc)?)?,
-        clauses: only(alloc, clause)?,
+        name: own,
+        params,
+        clauses,
     }))
 }
 
 /// `function f(int x) -> int:` with `return VALUE`.
 pub fn function(alloc: Global, value: Expr) -> Result<Decl, AllocError> {
-    let back = Stmt {
-        at: 10,
-        kind: StmtKind::Return(Some(value)),
-    };
+    let kind = StmtKind::Return(Some(value));
+    let body = only(alloc, Stmt { at: 10, kind })?;
+    let own = name(alloc, "f")?;
+    let params = only(alloc, param(alloc)?)?;
     Ok(Decl::Function(Function {
         at: 0,
-        name: name(alloc, "f")?,
-        params: only(alloc, param(alloc)?)?,
+        name: own,
+        params,
         result: int(),
         result_name: None,
         preconditions: Items::new(alloc),
         postconditions: Items::new(alloc),
-        body: only(alloc, back)?,
+        body,
     }))
 }
