@@ -1,5 +1,6 @@
 //! Sources with their layouts.
 
+pub mod drawn;
 pub mod examples;
 pub mod forms;
 pub mod programs;

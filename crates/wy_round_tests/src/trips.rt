@@ -1,9 +1,11 @@
 //! Each source has its layout, and each layout is its own.
+use crate::layouts::drawn::RANDOM;
 use crate::layouts::examples::EXAMPLES;
 use crate::layouts::forms::FORMS;
 use crate::layouts::programs::PROGRAMS;
 use std::alloc::Global;
-use wy_texts::{Kind, text_of};
+use wy_front::read;
+use wy_print::print;
 
 // A source that is read is no longer than this.
 const LONGEST: usize = 1_048_576;
@@ -14,7 +16,10 @@ fn has_layout(alloc: Global, source: &str, want: &str) -> bool {
     if bytes.len() > LONGEST {
         return false;
     }
-    match text_of(alloc, Kind::Layout, bytes) {
+    let Ok(program) = read(alloc, bytes) else {
+        return false;
+    };
+    match print(alloc, &program) {
         Ok(text) => text.as_slice() == want.as_bytes(),
         Err(_) => false,
     }
@@ -45,6 +50,14 @@ fn each_form_is_laid_out(rt: HostRuntime) {
 fn each_program_is_laid_out(rt: HostRuntime) {
     let alloc = rt.alloc();
     for (source, layout) in PROGRAMS {
+        assert!(rt; is_laid_out(alloc, source, layout), "{source}");
+    }
+}
+
+#[test]
+fn each_drawn_source_is_laid_out(rt: HostRuntime) {
+    let alloc = rt.alloc();
+    for (source, layout) in RANDOM {
         assert!(rt; is_laid_out(alloc, source, layout), "{source}");
     }
 }
