@@ -160,7 +160,7 @@ only_this x (y ∷ ys) h = (this h.0, only_this x ys h.1)
   where
     this : (y ≡ x) ⊎ ⊥ → y ≡ x
     this (inl e) = e
-    this (inr no) = absurd no
+    this (inr never) = absurd never
 
 pub test_closed : {N : Type 0} (s : Setting N) (number : ℕ) → IsClosed (unfolded s number)
 test_closed s number = record {

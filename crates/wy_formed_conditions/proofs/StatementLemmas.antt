@@ -12,7 +12,7 @@ use Rattle.wy_conditions.specs.Operations as op
 use Rattle.wy_conditions.specs.Variables.{Vars, put, put_if}
 use Rattle.wy_conditions.specs.Values.{valued, word_at, variable}
 use Rattle.wy_conditions.specs.Owed.{Owed, assume, assume_all}
-use Rattle.wy_conditions.specs.Clauses.{Passed, one_goal, owe_clauses, assume_in_type, owe_member}
+use Rattle.wy_conditions.specs.Clauses.{Passed, passed, one_goal, owe_clauses, assume_in_type, owe_member}
 use Rattle.wy_conditions.specs.Calls.{Walked, call_walk}
 use Rattle.wy_conditions.specs.Walks.{Program, walk_all, walk_expr, index_goals}
 use Rattle.wy_conditions.specs.Spots.{Spot, Flow, goes, stops, go_on, followed, and_then, as_list, is_set, with_hyps}
@@ -75,10 +75,10 @@ module _ {N : Type 0} (b : Body N) (entry : AreData b.entry) where
   -- ---- values that come into variables
 
   given_known : (at : ℕ) (t : Ty) (x : ℕ) (n : ℕ) {v : Term} {cs : List Owed} {p : Spot} {hyps : List Term} → IsOf val_sort v → AreOwed cs → IsKnown p → AllOf formula_sort hyps → IsFlow (given b at t x v cs p hyps n)
-  given_known at t x n {v} {cs} {p} {hyps} h owed known all =
+  given_known at t x n {v} {cs} {p} {hyps} h goals known all =
       let member = member_owed b.program.setting at t n h all in
       let name = named_value (words b) x (owe_member b.program.setting at t v hyps n).count h member.hyps in
-      record { ends = somewhere (record { hyps = name.hyps; vars = put_data x known.vars name.value }); breaks = no_spots; owed = owed_before owed member.owed }
+      record { ends = somewhere (record { hyps = name.hyps; vars = put_data x known.vars name.value }); breaks = no_spots; owed = owed_before goals member.owed }
 
   along_known : (path : List (Step N)) (n : ℕ) {whole : Term} {vars : Vars} {hyps : List Term} → IsOf val_sort whole → AreData vars → AllOf formula_sort hyps → IsAlong (along b path whole vars hyps n)
   along_known [] n h d all = record { hyps = all; parts = no_more; owed = nothing }
@@ -167,7 +167,8 @@ walked_clauses p names [] n d all = passes n all
 walked_clauses p names (e ∷ es) n {vars} {hyps} d all =
     let v = code_walked p names e n d all in
     let behind = assumed v.hyps (formula_sorted v.value) in
-    after_passed (record { hyps = behind; owed = v.owed }) (walked_clauses p names es (walk_expr p names e vars hyps n).count d behind)
+    let w = walk_expr p names e vars hyps n in
+    after_passed {first = passed w.count (assume w.hyps (formula w.term)) w.owed} (record { hyps = behind; owed = v.owed }) (walked_clauses p names es w.count d behind)
 
 module _ {N : Type 0} (b : Body N) (entry : AreData b.entry) where
   mutual
