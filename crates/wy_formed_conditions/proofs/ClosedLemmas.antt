@@ -3,7 +3,7 @@ use Rattle.std.proofs.Common.{◌≡◌, ℕ, zero, suc, List, [], ◌∷◌, le
 use Rattle.wy_core.specs.Types.{Ty, NullTy, BoolTy, IntTy, AnyTy, VoidTy, RecordTy, ArrayTy, UnionTy, InterTy, NotTy, NamedTy, NormalTy, FieldTys, NoFieldTys, MoreFieldTys}
 use Rattle.wy_core.specs.CoreTree.{Expr, NullExpr, BoolExpr, IntExpr, VarExpr, CallExpr, NegExpr, NotExpr, LenExpr, BinaryExpr, IsExpr, IndexExpr, FieldExpr, ListExpr, RepeatExpr, RecordExpr, QuantExpr, Exprs, NoExprs, MoreExprs, Fields, NoFields, MoreFields, Alias}
 use Rattle.wy_value.specs.declared.bounds.TheConstants.{INT_MIN, INT_MAX}
-use Rattle.wy_term.specs.Term.{Term, leaf, val_name, null_kind, bool_kind, int_kind, array_kind, record_kind}
+use Rattle.wy_term.specs.Term.{Term, null_kind, bool_kind, int_kind, array_kind, record_kind}
 use Rattle.wy_term.specs.Scope.{free_names}
 use Rattle.wy_term.specs.Unfolding.{AreAll, IsClosed, AreClosed}
 use Rattle.wy_sem.specs.Expressions.{node}
@@ -14,7 +14,7 @@ use Rattle.wy_conditions.specs.Variables.{Vars, slot_at, put, put_if}
 use Rattle.wy_conditions.specs.Values.{Naming, Setting, Valued, k_word, x_word, word_at, word_if, or_null, variable, is_int, names_of, holds, fields_hold, value, values, field_values, field_names, clause_formula, clause_formulas, defined, named_to, named_in, test_name, test_formula}
 use Rattle.wy_conditions.specs.Limits.{unfolded}
 use Rattle.wy_formed_conditions.proofs.MakingLemmas.{pick}
-use Rattle.wy_formed_conditions.proofs.FreeLemmas.{Among, AllAmong, IsWithin, within_more}
+use Rattle.wy_formed_conditions.proofs.FreeLemmas.{AllAmong, IsWithin, within_more}
 use Rattle.wy_formed_conditions.proofs.WithinLemmas.{EachWithin, none, more, number_within, num_within, len_within, null_within, truth_within, int_within, value_within, get_within, field_within, all_within, any_within, falsehood_within, denied_within, at_most_within, kind_within, in_type_within, formula_within, bound_within, negated_within, denial_within, length_within, element_within, repeated_within, array_within, record_within, operated_within, quantified_within}
 
 -- ---- names that are there

@@ -8,8 +8,8 @@ use Rattle.wy_term.specs.Data.{same_datum}
 use Rattle.wy_term.specs.Same.{same_kind, same_term}
 use Rattle.wy_term.specs.Meaning as meaning
 use Rattle.wy_term.specs.Scope.{without, of_part, of_all, of_bound, free_names, free_in}
-use Rattle.wy_term.specs.Rewriting.{as_number, as_int, as_bool, as_array, as_denied, as_record, as_constant, is_true, is_false, is_truth, True, False, decided, number_or, on_one, on_two, fold_num, count, fold_len, nth_part, part_at, fold_get, fold_order, fold_at_most, fold_not, has_false, has_true, without_true, without_false, joined, fold_and, fold_or, field_part, fold_field, kind_given, fold_kind, fold_bool, fold_apart, fold_equal, rewritten}
-use Rattle.wy_term.specs.Folding.{found, found_or, hidden, span_of, instances, number_or_zero, binder, joined_by, part_of, quantified, quantifier_of, parts_of, replaced, replacers, fold_range, folded}
+use Rattle.wy_term.specs.Rewriting.{as_number, as_int, as_bool, as_array, as_denied, as_record, as_constant, is_true, is_false, is_truth, decided, number_or, on_one, on_two, fold_num, count, fold_len, nth_part, part_at, fold_get, fold_order, fold_not, has_false, has_true, without_true, without_false, joined, fold_and, fold_or, field_part, fold_field, kind_given, fold_kind, fold_bool, fold_apart, rewritten}
+use Rattle.wy_term.specs.Folding.{found, found_or, hidden, span_of, instances, number_or_zero, binder, joined_by, part_of, quantified, quantifier_of, parts_of, replaced, replacers, fold_range}
 use Rattle.wy_term.proofs.SameLemmas.{terms_are, terms_self}
 
 -- ---- names among others
@@ -303,10 +303,10 @@ instances_within body xs k qs ps env z (suc m) carries l h =
 -- a quantifier whose bounds and body are within
 bound_within : {ps : List Term} (all : Bool) (w : List ℕ) (n : ℕ) {s t f : Term} → IsWithin ps s → IsWithin ps t → IsWithin (leaf (int_name w n) ∷ ps) f → IsWithin ps (Of (binder all w n) (part s (part t (part f no_parts))))
 bound_within {ps} true w n {s} {t} {f} a b c = record {
-  names = among_both ps (free_names s) (free_names t ++ without (leaf (int_name w n)) (free_names f)) a.names (among_both ps (free_names t) (without (leaf (int_name w n)) (free_names f)) b.names (among_without (leaf (int_name w n)) ps (free_names f) c.names))
+  names = among_both ps (free_names s) (free_names t ++ without (leaf (int_name w n)) (free_names f)) a.names (among_both ps (free_names t) (without (leaf (int_name w n)) (free_names f)) b.names (among_without (leaf (int_name w n)) ps (free_names f) c.names));
 }
 bound_within {ps} false w n {s} {t} {f} a b c = record {
-  names = among_both ps (free_names s) (free_names t ++ without (leaf (int_name w n)) (free_names f)) a.names (among_both ps (free_names t) (without (leaf (int_name w n)) (free_names f)) b.names (among_without (leaf (int_name w n)) ps (free_names f) c.names))
+  names = among_both ps (free_names s) (free_names t ++ without (leaf (int_name w n)) (free_names f)) a.names (among_both ps (free_names t) (without (leaf (int_name w n)) (free_names f)) b.names (among_without (leaf (int_name w n)) ps (free_names f) c.names));
 }
 
 quantified_within : (all : Bool) (w : List ℕ) (n : ℕ) (body : List (Term × Term) → Term) (xs : List Term) (qs ps : List Term) (env : List (Term × Term)) (s t : Term) (o : Option ℕ) → Carries xs body → Leads qs ps env → AllAmong (leaf (int_name w n) ∷ qs) xs → IsWithin ps s → IsWithin ps t → IsWithin ps (quantified all w n body env s t o)

@@ -1,13 +1,12 @@
 -- What is known at a point of a body and where paths come together: formulas, and Val terms of variables.
-use Rattle.std.proofs.Common.{ℕ, zero, suc, List, [], ◌∷◌, ◌++◌, map, length, drop, Bool, true, false, cond, Option, Some, None}
+use Rattle.std.proofs.Common.{ℕ, zero, suc, List, [], ◌∷◌, ◌++◌, map, length, drop, Bool, Option, Some, None}
 use Rattle.wy_term.specs.Term.{Term}
 use Rattle.wy_term.specs.Sorts.{val_sort, formula_sort}
-use Rattle.wy_conditions.specs.Making.{val_name, equal, all_of}
-use Rattle.wy_conditions.specs.Variables.{Vars, slot_at}
+use Rattle.wy_conditions.specs.Making.{all_of}
 use Rattle.wy_conditions.specs.Values.{word_at}
 use Rattle.wy_conditions.specs.Spots.{Spot}
 use Rattle.wy_conditions.specs.Large.{Named, named, is_large}
-use Rattle.wy_conditions.specs.Joins.{Path, path_of, or_else, first_term, with_equation, equated, Joined, with_variable, differ, set_on_all, join_vars, most_vars, one_of, Met, join, meet}
+use Rattle.wy_conditions.specs.Joins.{Path, path_of, or_else, first_term, with_equation, equated, Joined, with_variable, differ, set_on_all, join_vars, most_vars, Met, join, meet}
 use Rattle.wy_formed_conditions.proofs.MakingLemmas.{IsOf, AllOf, none, more, all_before, pick, val_name_sorted, equal_sorted, all_sorted, any_sorted}
 use Rattle.wy_formed_conditions.proofs.ValueLemmas.{IsDatum, no_datum, datum, AreData, no_data, next, slot_datum}
 use Rattle.wy_formed_conditions.proofs.WalkLemmas.{assumed}

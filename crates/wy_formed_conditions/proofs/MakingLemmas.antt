@@ -1,14 +1,14 @@
 -- What is made of terms of the sorts of its places is of its own sort.
-use Rattle.std.proofs.Common.{◌≡◌, ℕ, List, [], ◌∷◌, ◌++◌, Bool, true, false, cond, ℤ, refl}
+use Rattle.std.proofs.Common.{ℕ, List, [], ◌∷◌, ◌++◌, Bool, true, false, cond, ℤ, refl}
 use Rattle.wy_core.specs.declared.expressions.Op.{Op}
 use Rattle.wy_core.specs.declared.expressions.Op.TheVariants.{Add, Sub, Mul, Div, Mod, Equal, Less, LessEqual, Greater, GreaterEqual, And, Or}
 use Rattle.wy_term.specs.Term as term
-use Rattle.wy_term.specs.Term.{DataKind, Term, Of, Parts, no_parts, part}
+use Rattle.wy_term.specs.Term.{DataKind, Term, Of, no_parts, part}
 use Rattle.wy_term.specs.Sorts.{Sort, int_sort, val_sort, formula_sort}
 use Rattle.wy_sorted.specs.Sorted.{each, AreSorted}
 use Rattle.wy_kept_sorts.specs.SortKept.{HasSort}
 use Rattle.wy_kept_sorts.proofs.SortLemmas.{folded_sorted}
-use Rattle.wy_conditions.specs.Making.{of_one, of_two, of_three, parts_of, of_all, number_of, int_name, num, len, val_name, null, truth, int, value_of, get, field, all_of, any_of, falsehood, denied, at_most, less_than, equal, of_kind, in_type, formula, bound}
+use Rattle.wy_conditions.specs.Making.{parts_of, number_of, int_name, num, len, val_name, null, truth, int, value_of, get, field, all_of, any_of, falsehood, denied, at_most, less_than, equal, of_kind, in_type, formula, bound}
 use Rattle.wy_conditions.specs.Operations as op
 
 -- ---- terms of a sort

@@ -1,5 +1,5 @@
 -- The conditions of a program are formed.
-use Rattle.std.proofs.Common.{◌≡◌, ◌≢◌, ◌<◌, ℕ, zero, suc, Bool, true, false, cond, List, [], ◌∷◌, ◌++◌, map, length, arith}
+use Rattle.std.proofs.Common.{◌≢◌, ◌<◌, ℕ, zero, suc, Bool, true, false, cond, List, [], ◌∷◌, ◌++◌, map, length, arith}
 use Rattle.wy_term.specs.Term.{Term}
 use Rattle.wy_term.specs.Sorts.{Sort, formula_sort}
 use Rattle.wy_term.specs.Unfolding.{IsUnlisted, AreListedOnce}

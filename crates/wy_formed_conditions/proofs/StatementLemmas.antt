@@ -1,5 +1,5 @@
 -- What statements owe has formulas alone.
-use Rattle.std.proofs.Common.{ℕ, zero, suc, List, [], ◌∷◌, ◌++◌, Bool, true, ◌&&◌, Option, Some, None}
+use Rattle.std.proofs.Common.{ℕ, zero, suc, List, [], ◌∷◌, ◌&&◌, Option, Some, None}
 use Rattle.wy_core.specs.Types.{Ty}
 use Rattle.wy_core.specs.CoreTree as tree
 use Rattle.wy_core.specs.CoreTree.{Expr, Step, IndexStep, FieldStep, Stmt, DeclareStmt, AssignStmt, CallStmt, ReturnStmt, AssertStmt, BreakStmt, ContinueStmt, SkipStmt, FailStmt, IfStmt, WhileStmt, Stmts, NoStmts, MoreStmts}
@@ -7,22 +7,20 @@ use Rattle.wy_term.specs.declared.cond.CondKind.TheVariants as kind
 use Rattle.wy_term.specs.Term.{Term}
 use Rattle.wy_term.specs.Sorts.{val_sort, formula_sort}
 use Rattle.wy_sem.specs.Statements.{type_at}
-use Rattle.wy_conditions.specs.Making.{val_name, field, formula, falsehood}
-use Rattle.wy_conditions.specs.Operations as op
-use Rattle.wy_conditions.specs.Variables.{Vars, put, put_if}
+use Rattle.wy_conditions.specs.Making.{formula}
+use Rattle.wy_conditions.specs.Variables.{Vars}
 use Rattle.wy_conditions.specs.Values.{valued, word_at, variable}
-use Rattle.wy_conditions.specs.Owed.{Owed, assume, assume_all}
+use Rattle.wy_conditions.specs.Owed.{Owed, assume}
 use Rattle.wy_conditions.specs.Clauses.{Passed, passed, one_goal, owe_clauses, assume_in_type, owe_member}
 use Rattle.wy_conditions.specs.Calls.{Walked, call_walk}
-use Rattle.wy_conditions.specs.Walks.{Program, walk_all, walk_expr, index_goals}
+use Rattle.wy_conditions.specs.Walks.{Program, walk_all, walk_expr}
 use Rattle.wy_conditions.specs.Spots.{Spot, Flow, goes, stops, go_on, followed, and_then, as_list, is_set, with_hyps}
-use Rattle.wy_conditions.specs.Large.{named}
 use Rattle.wy_conditions.specs.Assigned.{assigns_in, bound_in}
 use Rattle.wy_conditions.specs.Statements.{Body, words, expr, given, Part, ElementOf, FieldOf, Along, along, rebuilt, assigned, owe_result, with_result, leave, Renewed, renew_vars, renew_types, renew, walk_clauses, keep, where_true, where_false, behind_if, behind_loop, exec, exec_all}
 use Rattle.wy_formed_conditions.proofs.MakingLemmas.{IsOf, AllOf, none, more, pick, val_name_sorted, field_sorted, falsehood_sorted, denied_sorted, formula_sorted, element_sorted, with_element_sorted, with_field_sorted}
 use Rattle.wy_formed_conditions.proofs.ValueLemmas.{AreData, put_data, put_if_data, variable_sorted}
-use Rattle.wy_formed_conditions.proofs.WalkLemmas.{assumed, all_assumed, AreOwed, nothing, owed_before, goals_owed, IsPassed, passes, after_passed, goals_passed, clauses_owed, type_assumed, member_owed, IsWalked, AreCalls, calls_walked, index_formulas, expressions_walked, code_walked}
-use Rattle.wy_formed_conditions.proofs.JoinLemmas.{IsKnown, AreKnown, no_spots, also_spot, IsKnownIf, nowhere, somewhere, known_before, IsNamed, named_value, met_known}
+use Rattle.wy_formed_conditions.proofs.WalkLemmas.{assumed, all_assumed, AreOwed, nothing, owed_before, goals_owed, IsPassed, passes, after_passed, goals_passed, clauses_owed, type_assumed, member_owed, IsWalked, calls_walked, index_formulas, expressions_walked, code_walked}
+use Rattle.wy_formed_conditions.proofs.JoinLemmas.{IsKnown, AreKnown, no_spots, also_spot, IsKnownIf, nowhere, somewhere, known_before, named_value, met_known}
 
 -- ---- how statements end
 
@@ -216,7 +214,7 @@ module _ {N : Type 0} (b : Body N) (entry : AreData b.entry) where
         let v = code_walked b.program (words b) e inside.count h.vars i.hyps in
         let turn = exec_all b invariants body (where_true w head.spot) w.count in
         let t = block_known invariants body w.count (true_known b entry v h) in
-        loop_known b entry (words b) a i v h t (invariants_kept b entry at invariants turn.count t.ends)
+        loop_known b entry (words b) {first = first} {inside = inside} {v = w} {head = head.spot} {turn = turn} {kept = keep b at invariants turn.ends turn.count} a i v h t (invariants_kept b entry at invariants turn.count t.ends)
 
     pub block_known : (around : List (Expr N)) (sts : Stmts N) (n : ℕ) {p : Spot} → IsKnown p → IsFlow (exec_all b around sts p n)
     block_known around NoStmts n known = goes_known n known nothing

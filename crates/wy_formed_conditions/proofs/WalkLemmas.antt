@@ -10,17 +10,16 @@ use Rattle.wy_term.specs.declared.cond.CondKind.{CondKind}
 use Rattle.wy_term.specs.declared.cond.CondKind.TheVariants as kind
 use Rattle.wy_term.specs.Term as term
 use Rattle.wy_term.specs.Term.{Term, Of, Parts, no_parts, part}
-use Rattle.wy_term.specs.Sorts.{int_sort, val_sort, formula_sort}
+use Rattle.wy_term.specs.Sorts.{val_sort, formula_sort}
 use Rattle.wy_sorted.specs.Sorted.{each, AreSorted}
 use Rattle.wy_sem.specs.Expressions.{node}
 use Rattle.wy_sem.specs.Evaluation.{Callee, Declared, Print, PrintInt, Undeclared, callee}
 use Rattle.wy_sem.specs.TypeTests.{is_constrained}
-use Rattle.wy_conditions.specs.Making.{int_name, num, len, get, val_name, at_most, less_than, formula, denied}
-use Rattle.wy_conditions.specs.Variables.{Vars, put, put_if}
-use Rattle.wy_conditions.specs.Values.{Setting, Valued, ValuedAll, k_word, word_at, named_in, clause_formula, field_names}
-use Rattle.wy_conditions.specs.Operations as op
+use Rattle.wy_conditions.specs.Making.{val_name}
+use Rattle.wy_conditions.specs.Variables.{Vars}
+use Rattle.wy_conditions.specs.Values.{Setting, ValuedAll, k_word, word_at, named_in, clause_formula, field_names}
 use Rattle.wy_conditions.specs.Owed.{Owed, members, members_of, assume, assume_all, owe}
-use Rattle.wy_conditions.specs.Clauses.{Passed, passed, after, pass_goals, goals, both_goals, one_goal, owe_clauses, assume_clauses, assume_in_type, owe_member}
+use Rattle.wy_conditions.specs.Clauses.{Passed, passed, after, pass_goals, goals, one_goal, owe_clauses, assume_clauses, assume_in_type, owe_member}
 use Rattle.wy_conditions.specs.Clauses as clauses
 use Rattle.wy_conditions.specs.Calls.{Walked, owe_arguments, arguments, result_of, routine_walk, are_characters, print_walk, callee_walk, call_walk}
 use Rattle.wy_conditions.specs.Walks.{WalkedAll, range_goals, divisor_goals, index_goals, length_goals, Goals, operator_goals, right_hyps, behind_hyps, assume_goals, owe_goals, owing, CallWalks, walk, walk_all, walk_fields, Program, walk_expr}

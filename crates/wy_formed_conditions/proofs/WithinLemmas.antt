@@ -1,15 +1,14 @@
 -- What is made of terms has their free names, but for the one that a quantifier binds.
-use Rattle.std.proofs.Common.{ℕ, List, [], ◌∷◌, ◌++◌, Bool, true, false, ℤ}
+use Rattle.std.proofs.Common.{ℕ, List, [], ◌∷◌, Bool, true, false, ℤ}
 use Rattle.wy_core.specs.declared.expressions.Op.{Op}
 use Rattle.wy_core.specs.declared.expressions.Op.TheVariants.{Add, Sub, Mul, Div, Mod, Equal, Less, LessEqual, Greater, GreaterEqual, And, Or}
 use Rattle.wy_term.specs.Term as term
-use Rattle.wy_term.specs.Term.{DataKind, Term, Of, Parts, no_parts, part, leaf}
-use Rattle.wy_term.specs.Scope.{free_names}
+use Rattle.wy_term.specs.Term.{DataKind, Term, Of, no_parts, part}
 use Rattle.wy_term.specs.Rewriting.{as_number}
 use Rattle.wy_term.specs.Folding.{span_of}
-use Rattle.wy_conditions.specs.Making.{of_one, of_two, parts_of, number_of, int_name, num, len, null, truth, int, value_of, get, field, all_of, any_of, falsehood, denied, at_most, less_than, equal, of_kind, in_type, formula, bound}
+use Rattle.wy_conditions.specs.Making.{parts_of, number_of, int_name, num, len, null, truth, int, value_of, get, field, all_of, any_of, falsehood, denied, at_most, less_than, equal, of_kind, in_type, formula, bound}
 use Rattle.wy_conditions.specs.Operations as op
-use Rattle.wy_formed_conditions.proofs.FreeLemmas.{AllAmong, among_more, IsWithin, AllWithin, no_part, and_part, part_names, range_within, made_within}
+use Rattle.wy_formed_conditions.proofs.FreeLemmas.{IsWithin, AllWithin, no_part, and_part, part_names, range_within, made_within}
 
 -- ---- lists of terms
 

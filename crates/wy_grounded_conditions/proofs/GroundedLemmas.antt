@@ -1,5 +1,5 @@
 -- The named types of a program's conditions are grounded.
-use Rattle.std.proofs.Common.{◌≡◌, ◌<◌, ℕ, Bool, true, false, cond, eqb, ◌&&◌, ◌||◌, ◌⊎◌, inl, inr, List, [], ◌∷◌, map, length, refl, sym, ap, ◌∙◌, subst}
+use Rattle.std.proofs.Common.{◌≡◌, ◌<◌, ℕ, Bool, true, false, cond, eqb, ◌&&◌, ◌⊎◌, inl, inr, List, [], ◌∷◌, map, length, refl, sym, ap, ◌∙◌, subst}
 use Rattle.std.specs.Prelude.{bytes_eq}
 use Rattle.std.proofs.lemmas.Bool.{or_cases, or_left, or_right, eqb-true}
 use Rattle.wy_value.specs.Datum.{Datum}
@@ -10,7 +10,7 @@ use Rattle.wy_formed.specs.Recursion.{Recursion}
 use Rattle.wy_term.specs.Term.{Term}
 use Rattle.wy_term.specs.Scope.{free_names}
 use Rattle.wy_term.specs.Meaning.{Names, with_datum, Sense, sense}
-use Rattle.wy_term.specs.Condition.{Condition, says}
+use Rattle.wy_term.specs.Condition.{says}
 use Rattle.wy_term.specs.Unfolding.{AreAll, Question, AnswerAlikeBefore, AsksEarlier, AskEarlier, AreGrounded}
 use Rattle.wy_term.proofs.SameLemmas.{bytes_self, eqb_self}
 use Rattle.wy_sound_certificates.proofs.FreeLemmas.{SameAt, AllSame, rests_on_free_names}
@@ -21,7 +21,7 @@ use Rattle.wy_conditions.specs.Owed.{Owed}
 use Rattle.wy_conditions.specs.Values.{Setting, x_word, word_if, test_name, test_formula}
 use Rattle.wy_conditions.specs.Limits.{tests_in, is_among, types_of, unfolded, unfold_of}
 use Rattle.wy_conditions.specs.Programs.{setting_of, conditions_of}
-use Rattle.wy_formed_conditions.specs.OwedConditions.{with_types, owed_conditions}
+use Rattle.wy_formed_conditions.specs.OwedConditions.{with_types}
 use Rattle.wy_formed_conditions.proofs.ClosedLemmas.{test_closed, tests_closed}
 use Rattle.wy_formed_conditions.proofs.OwedLemmas.{types_once}
 use Rattle.wy_grounded_conditions.specs.Grounds.{AllGrounded, OwedConditionsAreGrounded}
@@ -45,7 +45,6 @@ stands_for names w d = ap (λ (b : Bool). cond b d (names.datum_of w 0)) (own w 
 all_same : (names others : Names) (x : Term) (ys : List Term) → SameAt names others x → AreAll x ys → AllSame names others ys
 all_same names others x [] same h = tt
 all_same names others x (y ∷ ys) same h = (subst (SameAt names others) (sym h.0) same, all_same names others x ys same h.1)
-
 
 module _ (core : Core ℕ) (bound : Bound core) (recurs : Recursion core) (flow : List Ty) where
   abbrev s : Setting Node

@@ -5,16 +5,16 @@ use Rattle.wy_value.specs.declared.bounds.TheConstants.{INT_MIN, INT_MAX}
 use Rattle.wy_core.specs.Types.{Ty, NullTy, BoolTy, IntTy, AnyTy, VoidTy, RecordTy, ArrayTy, UnionTy, InterTy, NotTy, NamedTy, NormalTy, FieldTys, NoFieldTys, MoreFieldTys}
 use Rattle.wy_core.specs.CoreTree.{Expr, NullExpr, BoolExpr, IntExpr, VarExpr, CallExpr, NegExpr, NotExpr, LenExpr, BinaryExpr, IsExpr, IndexExpr, FieldExpr, ListExpr, RepeatExpr, RecordExpr, QuantExpr, Exprs, NoExprs, MoreExprs, Fields, NoFields, MoreFields}
 use Rattle.wy_term.specs.Term as term
-use Rattle.wy_term.specs.Term.{Term, Of, Parts, no_parts, part, null_kind, bool_kind, int_kind, array_kind, record_kind}
+use Rattle.wy_term.specs.Term.{Term, Of, no_parts, part, null_kind, bool_kind, int_kind, array_kind, record_kind}
 use Rattle.wy_term.specs.Data as shapes
 use Rattle.wy_term.specs.Meaning.{Names, sense, senses_of, all_hold}
-use Rattle.wy_term.specs.Sorts.{Sort, int_sort, val_sort, formula_sort}
+use Rattle.wy_term.specs.Sorts.{int_sort, val_sort, formula_sort}
 use Rattle.wy_sorted.proofs.SortedLemmas.{folding_kept}
 use Rattle.wy_grounded.specs.Readings.{with_members}
 use Rattle.wy_sem.specs.Expressions.{node}
 use Rattle.wy_conditions.specs.Making.{parts_of, int_name, len, number_of, get, field, all_of, of_kind, at_most, bound}
 use Rattle.wy_conditions.specs.Variables.{Vars, slot_at, put, put_if}
-use Rattle.wy_conditions.specs.Values.{Naming, Setting, k_word, word_at, or_null, variable, is_int, names_of, holds, fields_hold, value, values, field_values, field_names, clause_formula, clause_formulas}
+use Rattle.wy_conditions.specs.Values.{Naming, Setting, k_word, word_at, or_null, is_int, names_of, holds, fields_hold, value, values, field_values, field_names, clause_formula, clause_formulas}
 use Rattle.wy_formed_conditions.proofs.MakingLemmas.{IsOf, AllOf, none, more, parts_sorted, kind_sorted, at_most_sorted, len_sorted, number_sorted, bound_sorted, get_sorted, int_name_sorted, all_sorted}
 use Rattle.wy_formed_conditions.proofs.ValueLemmas.{SaysFormulas, holds_sorted, fields_sorted}
 use Rattle.wy_grounded_conditions.specs.Uses.{NamesAll, AllNamesAll, NamesBare, TestsAll, AllTestAll, FieldsTestAll, ClausesTestAll}

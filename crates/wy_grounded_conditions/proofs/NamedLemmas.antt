@@ -1,20 +1,20 @@
 -- What the test of a named type stands for stays the same by two readings of `in` that agree on earlier questions.
-use Rattle.std.proofs.Common.{◌≡◌, ℕ, zero, suc, ◌<◌, ◌≤◌, List, [], ◌∷◌, length, Option, Some, None, refl, sym, ap, subst, arith}
+use Rattle.std.proofs.Common.{◌≡◌, ℕ, zero, suc, ◌<◌, ◌≤◌, List, length, refl, sym, subst, arith}
 use Rattle.wy_value.specs.Datum.{Datum}
 use Rattle.wy_core.specs.CoreTree.{Alias}
 use Rattle.wy_term.specs.Term.{Term}
-use Rattle.wy_term.specs.Meaning.{Names, sense}
+use Rattle.wy_term.specs.Meaning.{sense}
 use Rattle.wy_term.specs.Sorts.{val_sort, formula_sort}
 use Rattle.wy_grounded.specs.Readings.{with_members}
 use Rattle.wy_sem.specs.TypeTests.{alias_at}
 use Rattle.wy_conditions.specs.Named.{is_written}
 use Rattle.wy_conditions.specs.Making.{in_type}
-use Rattle.wy_conditions.specs.Values.{Setting, Valued, Naming, x_word, word_if, holds, defined, named_to, named_in, test_name, test_formula}
+use Rattle.wy_conditions.specs.Values.{Setting, Valued, x_word, word_if, holds, defined, named_to, test_name, test_formula}
 use Rattle.wy_formed_conditions.proofs.MakingLemmas.{pick, val_name_sorted}
 use Rattle.wy_formed_conditions.proofs.ValueLemmas.{named_to_sorted}
 use Rattle.wy_grounded_conditions.specs.Uses.{NamesAll, NamesBare, ClausesTestAll}
 use Rattle.wy_grounded_conditions.proofs.SizeLemmas.{size}
-use Rattle.wy_grounded_conditions.proofs.SteadyLemmas.{Two, Fits, IsSteady, more', all_steady, in_type_steady}
+use Rattle.wy_grounded_conditions.proofs.SteadyLemmas.{Two, IsSteady, more', all_steady, in_type_steady}
 use Rattle.wy_grounded_conditions.proofs.HoldsLemmas.{IsSmall, any_parts, SaysSteadily, holds_steady, SaysBySize, holds_by_size, no_vars, put_if_steady, clauses_steady}
 
 -- ---- levels and ranks of named types

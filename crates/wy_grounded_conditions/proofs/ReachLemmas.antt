@@ -1,8 +1,7 @@
 -- The types that a condition lists: what the formula of a listed type tests is listed too.
-use Rattle.std.proofs.Common.{◌≡◌, ◌<◌, ◌≤◌, ◌+◌, ◌⊎◌, inl, inr, ℕ, zero, suc, Bool, true, false, cond, eqb, ◌&&◌, ◌||◌, nat_lt, List, [], ◌∷◌, ◌++◌, length, refl, sym, ap, ◌∙◌, subst, arith}
+use Rattle.std.proofs.Common.{◌≡◌, ◌<◌, ◌≤◌, ◌+◌, ◌⊎◌, inl, inr, ℕ, zero, suc, Bool, true, false, cond, eqb, ◌&&◌, ◌||◌, nat_lt, List, [], ◌∷◌, ◌++◌, length, refl, sym, ap, subst, arith}
 use Rattle.std.proofs.lemmas.Bool.{and_parts, cases_lt, lt-ltb, ltb-true, or_cases, or_left, or_right, eqb-true}
 use Rattle.wy_core.specs.CoreTree.{Alias}
-use Rattle.wy_term.specs.Term.{Term}
 use Rattle.wy_term.proofs.SameLemmas.{eqb_self}
 use Rattle.wy_sem.specs.TypeTests.{no_alias, alias_at}
 use Rattle.wy_conditions.specs.Owed.{Owed}

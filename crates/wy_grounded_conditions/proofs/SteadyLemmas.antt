@@ -1,19 +1,18 @@
 -- Terms and formulas that mean the same by two readings of `in`, whatever numbers their names stand for.
-use Rattle.std.proofs.Common.{◌≡◌, ℕ, zero, suc, ◌<◌, ◌≤◌, Bool, true, false, not, ◌&&◌, ◌||◌, List, [], ◌∷◌, length, ℤ, pos, neg_ℤ, ◌+ℤ◌, ◌-ℤ◌, ◌*ℤ◌, Option, Some, None, refl, sym, ap, ◌∙◌}
+use Rattle.std.proofs.Common.{◌≡◌, ℕ, Bool, true, false, not, ◌&&◌, ◌||◌, List, [], ◌∷◌, length, ℤ, neg_ℤ, ◌+ℤ◌, ◌-ℤ◌, ◌*ℤ◌, refl, sym, ap, ◌∙◌}
 use mathlib.Core.Path.{fun_ext}
 use Rattle.wy_value.specs.Datum.{Datum, Truth, Whole, Array, Record}
 use Rattle.wy_core.specs.declared.expressions.Op.{Op}
 use Rattle.wy_core.specs.declared.expressions.Op.TheVariants.{Add, Sub, Mul, Div, Mod, Equal, Less, LessEqual, Greater, GreaterEqual, And, Or}
 use Rattle.wy_term.specs.Term as term
-use Rattle.wy_term.specs.Term.{DataKind, Term, Of, Parts, no_parts, part}
+use Rattle.wy_term.specs.Term.{DataKind, Term, Of, no_parts, part}
 use Rattle.wy_term.specs.Data as shapes
 use Rattle.wy_term.specs.Meaning.{Names, with_number, Sense, sense, senses_of, data_in, all_hold, any_holds, each_from, any_from, distance}
 use Rattle.wy_term.specs.Meaning as means
 use Rattle.wy_term.specs.Folding.{folded}
 use Rattle.wy_term.specs.Sorts.{Sort, int_sort, val_sort, formula_sort, sort_in, Agree}
-use Rattle.wy_sorted.specs.Sorted.{each, IsSorted, AreSorted}
+use Rattle.wy_sorted.specs.Sorted.{IsSorted}
 use Rattle.wy_sorted.proofs.SortedLemmas.{folding_kept, agree_on, two_same}
-use Rattle.wy_kept_sorts.specs.SortKept.{HasSort}
 use Rattle.wy_kept_sorts.proofs.SortLemmas.{folded_sorted}
 use Rattle.wy_grounded.specs.Readings.{with_members}
 use Rattle.wy_conditions.specs.Making.{parts_of, number_of, int_name, num, len, null, truth, int, value_of, get, field, all_of, any_of, falsehood, denied, at_most, less_than, equal, of_kind, in_type, formula, bound}
@@ -149,12 +148,12 @@ module _ (r : Two) where
   pub bound_steady : (all : Bool) (w : List ℕ) (n : ℕ) {s t f : Term} → IsSteady r int_sort s → IsSteady r int_sort t → IsSteady r formula_sort f → IsSteady r formula_sort (bound all w n s t f)
   bound_steady true w n {s} {t} {f} a b c =
       made (Of (term.every w n) (part s (part t (part f no_parts)))) (a.is.has.1, a.is.has.0, (b.is.has.1, b.is.has.0, (c.is.has.1, c.is.has.0, tt))) (λ names fits.
-        two_same (λ (x y : ℤ). each_from x (distance (y -ℤ x)) (λ z. (sense (with_number (with_members names r.first) w n z) f).truth)) _ _ _ _ (a.same names fits) (b.same names fits)
-        ∙ ap (each_from (sense (with_members names r.second) s).number (distance ((sense (with_members names r.second) t).number -ℤ (sense (with_members names r.second) s).number))) (every_stays w n c names fits))
+      two_same (λ (x y : ℤ). each_from x (distance (y -ℤ x)) (λ z. (sense (with_number (with_members names r.first) w n z) f).truth)) _ _ _ _ (a.same names fits) (b.same names fits)
+      ∙ ap (each_from (sense (with_members names r.second) s).number (distance ((sense (with_members names r.second) t).number -ℤ (sense (with_members names r.second) s).number))) (every_stays w n c names fits))
   bound_steady false w n {s} {t} {f} a b c =
       made (Of (term.exists w n) (part s (part t (part f no_parts)))) (a.is.has.1, a.is.has.0, (b.is.has.1, b.is.has.0, (c.is.has.1, c.is.has.0, tt))) (λ names fits.
-        two_same (λ (x y : ℤ). any_from x (distance (y -ℤ x)) (λ z. (sense (with_number (with_members names r.first) w n z) f).truth)) _ _ _ _ (a.same names fits) (b.same names fits)
-        ∙ ap (any_from (sense (with_members names r.second) s).number (distance ((sense (with_members names r.second) t).number -ℤ (sense (with_members names r.second) s).number))) (every_stays w n c names fits))
+      two_same (λ (x y : ℤ). any_from x (distance (y -ℤ x)) (λ z. (sense (with_number (with_members names r.first) w n z) f).truth)) _ _ _ _ (a.same names fits) (b.same names fits)
+      ∙ ap (any_from (sense (with_members names r.second) s).number (distance ((sense (with_members names r.second) t).number -ℤ (sense (with_members names r.second) s).number))) (every_stays w n c names fits))
 
   -- ---- operations on data
 

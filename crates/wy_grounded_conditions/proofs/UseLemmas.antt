@@ -1,5 +1,5 @@
 -- The names that a type names and that the tests of an expression mention.
-use Rattle.std.proofs.Common.{◌≡◌, ◌<◌, ℕ, ◌+◌, Bool, true, false, ◌||◌, ◌⊎◌, inl, inr, List, [], ◌∷◌, refl, sym, ap, subst}
+use Rattle.std.proofs.Common.{◌≡◌, ◌<◌, ℕ, ◌+◌, Bool, true, false, ◌||◌, ◌⊎◌, inl, inr, List, [], ◌∷◌, refl, sym, subst}
 use Rattle.std.proofs.lemmas.Bool.{or_cases, or_left, or_right}
 use Rattle.wy_core.specs.Types.{Ty, NullTy, BoolTy, IntTy, AnyTy, VoidTy, RecordTy, ArrayTy, UnionTy, InterTy, NotTy, NamedTy, NormalTy, FieldTys, NoFieldTys, MoreFieldTys}
 use Rattle.wy_core.specs.CoreTree.{Expr, NullExpr, BoolExpr, IntExpr, VarExpr, CallExpr, NegExpr, NotExpr, LenExpr, BinaryExpr, IsExpr, IndexExpr, FieldExpr, ListExpr, RepeatExpr, RecordExpr, QuantExpr, Exprs, NoExprs, MoreExprs, Fields, NoFields, MoreFields}
@@ -9,7 +9,7 @@ use Rattle.wy_formed.specs.Recursion.{NamesIn, NamesInFields, Mentions, Mentions
 use Rattle.wy_sem.specs.TypeTests.{mentions, mentions_fields}
 use Rattle.wy_conditions.specs.Named.{some_test, some_test_all, some_test_fields, some_test_in}
 use Rattle.wy_conditions.specs.Sizes.{exprs_in}
-use Rattle.wy_conditions.specs.Numbered.{Node, numbered, numbered_all, numbered_fields, numbered_list}
+use Rattle.wy_conditions.specs.Numbered.{numbered, numbered_all, numbered_fields, numbered_list}
 use Rattle.wy_grounded_conditions.specs.Uses.{NamesAll, AllNamesAll, NamesBare, TestsAll, AllTestAll, FieldsTestAll, ClausesTestAll}
 
 -- ---- what all names have, each name has
