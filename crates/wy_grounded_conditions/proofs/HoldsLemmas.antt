@@ -15,13 +15,13 @@ use Rattle.wy_sem.specs.Expressions.{node}
 use Rattle.wy_conditions.specs.Making.{parts_of, int_name, len, number_of, get, field, all_of, of_kind, at_most, bound}
 use Rattle.wy_conditions.specs.Variables.{Vars, slot_at, put, put_if}
 use Rattle.wy_conditions.specs.Values.{Naming, Setting, k_word, word_at, or_null, is_int, names_of, holds, fields_hold, value, values, field_values, field_names, clause_formula, clause_formulas}
-use Rattle.wy_formed_conditions.proofs.MakingLemmas.{IsOf, AllOf, none, more, parts_sorted, kind_sorted, at_most_sorted, len_sorted, number_sorted, bound_sorted, get_sorted, int_name_sorted, all_sorted}
-use Rattle.wy_formed_conditions.proofs.ValueLemmas.{SaysFormulas, holds_sorted, fields_sorted}
+use Rattle.wy_formed_conditions.proofs.MakingLemmas.{IsOf, AllOf, none, more, parts_sorted, kind_sorted, at_most_sorted, len_sorted, number_sorted, bound_sorted, get_sorted, field_sorted, int_name_sorted, all_sorted}
+use Rattle.wy_formed_conditions.proofs.ValueLemmas.{SaysFormulas, holds_sorted}
 use Rattle.wy_grounded_conditions.specs.Uses.{NamesAll, AllNamesAll, NamesBare, TestsAll, AllTestAll, FieldsTestAll, ClausesTestAll}
 use Rattle.wy_grounded_conditions.proofs.SizeLemmas.{size, element_size, field_size, no_array, no_record}
 use Rattle.wy_grounded_conditions.proofs.SteadyLemmas.{Two, Fits, IsSteady, AllSteady, none', more', number_steady, int_name_steady, num_steady, len_steady, null_steady, truth_steady, int_steady, value_steady, get_steady, field_steady, all_steady, any_steady, falsehood_steady, denied_steady, at_most_steady, kind_steady, formula_steady, bound_steady, negated_steady, denial_steady, length_steady, element_steady, repeated_steady, list_steady, record_steady, operated_steady, quantified_steady}
 
-data IsSteadyIf (r : Two) : Option Term → Type 0 where
+pub data IsSteadyIf (r : Two) : Option Term → Type 0 where
   nothing : IsSteadyIf r None
   something : {t : Term} → IsSteady r val_sort t → IsSteadyIf r (Some t)
 
@@ -126,13 +126,17 @@ module _ (r : Two) where
   NoSuch kind = (d : Datum) → size d ≤ 0 → shapes.is_of_kind kind d ≡ false
 
   kind_fails : (kind : term.DataKind) (fs : List Term) {v : Term} → NoSuch kind → IsSteady r val_sort v → IsSmall 0 v → AllOf formula_sort fs → IsSteady r formula_sort (all_of (of_kind kind v ∷ fs))
-  kind_fails kind fs {v} no h small all = record {
+  kind_fails kind fs {v} never h small all = record {
     is = all_sorted (more (kind_sorted kind h.is) all);
     same = λ names fits. fails (with_members names r.first) (small names fits) ∙ sym (fails (with_members names r.second) (small_second 0 h small names fits));
   }
     where
       fails : (on : Names) → size (sense on v).datum ≤ 0 → (sense on (all_of (of_kind kind v ∷ fs))).truth ≡ false
-      fails on le = first_false (of_kind kind v) fs on (kind_sorted kind h.is) all (kind_is kind h.is on ∙ no (sense on v).datum le)
+      fails on le = first_false (of_kind kind v) fs on (kind_sorted kind h.is) all (kind_is kind h.is on ∙ never (sense on v).datum le)
+
+  fields_formulas : {named : Naming} → SaysFormulas named → (fields : FieldTys) (n : ℕ) {v : Term} → IsOf val_sort v → AllOf formula_sort (fields_hold named fields v n).terms
+  fields_formulas says NoFieldTys n h = none
+  fields_formulas {named} says (MoreFieldTys f t fields) n {v} h = more (holds_sorted says t n (field_sorted f h)) (fields_formulas says fields (holds named t (field f v) n).count h)
 
   module _ (named : Naming) (formulas : SaysFormulas named) (P Q : ℕ → Type 0) where
     -- what is said of names of the datum, of no more than this size, and of smaller parts of it
@@ -141,7 +145,7 @@ module _ (r : Two) where
       pub inner : (i : ℕ) → j ≡ suc i → SaysSteadily r named Q (IsSmall i)
 
     record_by_size : (j : ℕ) (fields : FieldTys) (n : ℕ) {v : Term} → SaysBySize j → AllNamesAll Q fields → IsSteady r val_sort v → IsSmall j v → IsSteady r formula_sort (holds named (RecordTy fields) v n).term
-    record_by_size zero fields n {v} says f h small = kind_fails (record_kind (names_of fields)) (fields_hold named fields v n).terms (no_record (names_of fields)) h small (fields_sorted formulas fields n h.is)
+    record_by_size zero fields n {v} says f h small = kind_fails (record_kind (names_of fields)) (fields_hold named fields v n).terms (no_record (names_of fields)) h small (fields_formulas formulas fields n h.is)
     record_by_size (suc i) fields n {v} says f h small = all_steady r (more' (kind_steady r (record_kind (names_of fields)) h) (parts_steady fields n f))
       where
         parts_steady : (tys : FieldTys) (n : ℕ) → AllNamesAll Q tys → AllSteady r formula_sort (fields_hold named tys v n).terms

@@ -18,7 +18,7 @@ abbrev mutual
   size (Truth b) = 0
   size (Whole z) = 0
   size (Array items) = suc (size_items items)
-  size (Record fields) = suc (size_fields fields)
+  size (Record parts) = suc (size_fields parts)
 
   size_items : Data → ℕ
   size_items no_items = 0
@@ -32,7 +32,7 @@ either_size : (b : Bool) (d e : Datum) (m : ℕ) → size e ≤ m → size (cond
 either_size true d e m le = omega arith
 either_size false d e m le = omega (arith, le)
 
-field_of_size : (fields : Fields) (name : List ℕ) → size (field_of fields name) ≤ size_fields fields
+field_of_size : (parts : Fields) (name : List ℕ) → size (field_of parts name) ≤ size_fields parts
 field_of_size no_fields name = omega arith
 field_of_size (datum.field n d rest) name = either_size (bytes_eq n name) d (field_of rest name) (size_fields rest) (field_of_size rest name)
 
@@ -51,14 +51,14 @@ element_size Null z i le = omega arith
 element_size (Truth b) z i le = omega arith
 element_size (Whole w) z i le = omega arith
 element_size (Array items) z i le = let less : size (item_at items z) ≤ size_items items = item_size items z in omega (arith, less, le)
-element_size (Record fields) z i le = omega arith
+element_size (Record parts) z i le = omega arith
 
 pub field_size : (d : Datum) (name : List ℕ) (i : ℕ) → size d ≤ suc i → size (field_in d name) ≤ i
 field_size Null name i le = omega arith
 field_size (Truth b) name i le = omega arith
 field_size (Whole w) name i le = omega arith
 field_size (Array items) name i le = omega arith
-field_size (Record fields) name i le = let less : size (field_of fields name) ≤ size_fields fields = field_of_size fields name in omega (arith, less, le)
+field_size (Record parts) name i le = let less : size (field_of parts name) ≤ size_fields parts = field_of_size parts name in omega (arith, less, le)
 
 -- what has no size is no array and no record
 pub no_array : (d : Datum) → size d ≤ 0 → is_of_kind array_kind d ≡ false
@@ -66,14 +66,14 @@ no_array Null le = refl
 no_array (Truth b) le = refl
 no_array (Whole z) le = refl
 no_array (Array items) le = absurd (omega (arith, le))
-no_array (Record fields) le = refl
+no_array (Record parts) le = refl
 
 pub no_record : (names : List (List ℕ)) (d : Datum) → size d ≤ 0 → is_of_kind (record_kind names) d ≡ false
 no_record names Null le = refl
 no_record names (Truth b) le = refl
 no_record names (Whole z) le = refl
 no_record names (Array items) le = refl
-no_record names (Record fields) le = absurd (omega (arith, le))
+no_record names (Record parts) le = absurd (omega (arith, le))
 
 -- ---- the order
 

@@ -142,7 +142,7 @@ module _ (r : Two) where
   formula_steady h = equal_steady h (truth_steady true)
 
   -- the numbers that a bound name stands for leave the Val name as it is
-  every_stays : (w : List ℕ) (n : ℕ) {f : Term} → IsSteady r formula_sort f → (names : Names) → Fits r names → (λ (z : ℤ). (sense (with_number (with_members names r.first) w n z) f).truth) ≡ (λ (z : ℤ). (sense (with_number (with_members names r.second) w n z) f).truth)
+  every_stays : (w : List ℕ) (n : ℕ) {f : Term} → IsSteady r formula_sort f → (names : Names) → Fits r names → ◌≡◌ {A = ℤ → Bool} (λ z. (sense (with_number (with_members names r.first) w n z) f).truth) (λ z. (sense (with_number (with_members names r.second) w n z) f).truth)
   every_stays w n h names fits = fun_ext (λ z. h.same (with_number names w n z) fits)
 
   pub bound_steady : (all : Bool) (w : List ℕ) (n : ℕ) {s t f : Term} → IsSteady r int_sort s → IsSteady r int_sort t → IsSteady r formula_sort f → IsSteady r formula_sort (bound all w n s t f)

@@ -192,7 +192,7 @@ module _ (p : ℕ → Bool) where
     fields_mention (MoreFieldTys name t fields) c (inr h) q = or_right (mentions p t) (mentions_fields p fields) (fields_mention fields c h q)
 
   either_name : {A B : ℕ → Type 0} (a b : Bool) → (a || b) ≡ true → (a ≡ true → Found A) → (b ≡ true → Found B) → Found (λ c. A c ⊎ B c)
-  either_name a b h f g = by (or_cases a b h)
+  either_name {A} {B} a b h f g = by (or_cases a b h)
     where
       by : (a ≡ true) ⊎ (b ≡ true) → Found (λ c. A c ⊎ B c)
       by (inl e) = let r = f e in (r.0, inl r.1, r.2)
@@ -283,8 +283,8 @@ module _ (p : ℕ → Bool) where
     some_tested (RepeatExpr at a b) k h = either_name (some_test (mentions p) (numbered a k)) (some_test (mentions p) (numbered b (k + exprs_in a))) h (some_tested a k) (some_tested b (k + exprs_in a))
     some_tested (RecordExpr at fields) k h = some_value fields k h
     some_tested (QuantExpr at all x a b body) k h =
-        either_name (some_test (mentions p) (numbered a k)) (some_test (mentions p) (numbered b (k + exprs_in a)) || some_test (mentions p) (numbered body (k + exprs_in a + exprs_in b))) h (some_tested a k)
-        (λ g. either_name (some_test (mentions p) (numbered b (k + exprs_in a))) (some_test (mentions p) (numbered body (k + exprs_in a + exprs_in b))) g (some_tested b (k + exprs_in a)) (some_tested body (k + exprs_in a + exprs_in b)))
+        either_name {A = Mentions a} {B = λ c. Mentions b c ⊎ Mentions body c} (some_test (mentions p) (numbered a k)) (some_test (mentions p) (numbered b (k + exprs_in a)) || some_test (mentions p) (numbered body (k + exprs_in a + exprs_in b))) h (some_tested a k)
+        (λ g. either_name {A = Mentions b} {B = Mentions body} (some_test (mentions p) (numbered b (k + exprs_in a))) (some_test (mentions p) (numbered body (k + exprs_in a + exprs_in b))) g (some_tested b (k + exprs_in a)) (some_tested body (k + exprs_in a + exprs_in b)))
 
     some_in_all : (es : Exprs ℕ) (k : ℕ) → some_test_all (mentions p) (numbered_all es k) ≡ true → Found (MentionsIn es)
     some_in_all NoExprs k h = none_here h
