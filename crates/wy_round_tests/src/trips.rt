@@ -4,8 +4,7 @@ use crate::layouts::examples::EXAMPLES;
 use crate::layouts::forms::FORMS;
 use crate::layouts::programs::PROGRAMS;
 use std::alloc::Global;
-use wy_front::read;
-use wy_print::print;
+use wy_texts::{Kind, text_of};
 
 // A source that is read is no longer than this.
 const LONGEST: usize = 1_048_576;
@@ -16,10 +15,7 @@ fn has_layout(alloc: Global, source: &str, want: &str) -> bool {
     if bytes.len() > LONGEST {
         return false;
     }
-    let Ok(program) = read(alloc, bytes) else {
-        return false;
-    };
-    match print(alloc, &program) {
+    match text_of(alloc, Kind::Layout, bytes) {
         Ok(text) => text.as_slice() == want.as_bytes(),
         Err(_) => false,
     }
