@@ -1,5 +1,4 @@
 //! Each source has its layout, and each layout is its own.
-use crate::layouts::drawn::RANDOM;
 use crate::layouts::examples::EXAMPLES;
 use crate::layouts::forms::FORMS;
 use crate::layouts::programs::PROGRAMS;
@@ -46,14 +45,6 @@ fn each_form_is_laid_out(rt: HostRuntime) {
 fn each_program_is_laid_out(rt: HostRuntime) {
     let alloc = rt.alloc();
     for (source, layout) in PROGRAMS {
-        assert!(rt; is_laid_out(alloc, source, layout), "{source}");
-    }
-}
-
-#[test]
-fn each_drawn_source_is_laid_out(rt: HostRuntime) {
-    let alloc = rt.alloc();
-    for (source, layout) in RANDOM {
         assert!(rt; is_laid_out(alloc, source, layout), "{source}");
     }
 }
