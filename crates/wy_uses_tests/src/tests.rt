@@ -1,4 +1,5 @@
-//! Each way in which one declaration uses another, at its place.
+//! Each way in which one declaration uses another, at its place. What may fail comes first, so that no tree is let go
+//! behind it.
 use std::alloc::{AllocError, Global};
 use wy_ast::{Alias, Decl, Expr, ExprKind, Param, Property, Ty, TyKind};
 use wy_data::Name;
@@ -44,62 +45,90 @@ fn variable(alloc: Global) -> Result<Expr, AllocError> {
 // `x is TEXT`
 fn test(alloc: Global, text: &str) -> Result<Expr, AllocError> {
     let operand = Boxed::new(alloc, variable(alloc)?)?;
-    let kind = ExprKind::Is(operand, named(alloc, TEST, text)?);
+    let ty = named(alloc, TEST, text)?;
+    let kind = ExprKind::Is(operand, ty);
     Ok(Expr { at: 4, kind })
 }
 
 // `TEXT(x)`
 fn call(alloc: Global, text: &str) -> Result<Expr, AllocError> {
     let args = only(alloc, variable(alloc)?)?;
-    let kind = ExprKind::Call(name(alloc, text)?, args);
+    let callee = name(alloc, text)?;
+    let kind = ExprKind::Call(callee, args);
     Ok(Expr { at: CALL, kind })
 }
 
 // `type OWN is (TY x) where CLAUSE`
-fn alias(alloc: Global, own: &str, ty: Ty, clause: Expr) -> Result<Decl, AllocError> {
+fn alias(alloc: Global, own: &str, ty: Boxed<Ty>, clause: Expr) -> Result<Decl, AllocError> {
+    let clauses = only(alloc, clause)?;
+    let own = name(alloc, own)?;
+    let variable = name(alloc, "x")?;
     Ok(Decl::Alias(Alias {
         at: 0,
-        name: name(alloc, own)?,
-        ty,
-        variable: Some(name(alloc, "x")?),
-        clauses: only(alloc, clause)?,
+        name: own,
+        ty: ty.into_inner(),
+        variable: Some(variable),
+        clauses,
     }))
 }
 
 // `property OWN(int x) where CLAUSE`
 fn property(alloc: Global, own: &str, clause: Expr) -> Result<Decl, AllocError> {
-    let param = Param {
-        ty: int(),
-        name: name(alloc, "x")?,
-    };
+    let clauses = only(alloc, clause)?;
+    let own = name(alloc, own)?;
+    let variable = name(alloc, "x")?;
+    let params = only(
+        alloc,
+        Param {
+            ty: int(),
+            name: variable,
+        },
+    )?;
     Ok(Decl::Property(Property {
         at: 0,
-        name: name(alloc, own)?,
-        params: only(alloc, param)?,
-        clauses: only(alloc, clause)?,
+        name: own,
+        params,
+        clauses,
     }))
 }
 
 // `{a f}`
 fn record(alloc: Global) -> Result<Ty, AllocError> {
-    let field = (name(alloc, "f")?, named(alloc, TYPE, "a")?);
+    let own = name(alloc, "f")?;
+    let field = (own, named(alloc, TYPE, "a")?);
     let kind = TyKind::Record(only(alloc, field)?);
     Ok(Ty { at: 5, kind })
 }
 
 // `type a is (int | b x) where p(x)`, `type b is ({a f} x) where x is a`, and `property p(int x) where x is b`.
 fn declarations(alloc: Global) -> Result<Items<Decl>, AllocError> {
-    let left = Boxed::new(alloc, int())?;
-    let right = Boxed::new(alloc, named(alloc, TYPE, "b")?)?;
-    let either = Ty {
-        at: 5,
-        kind: TyKind::Union(left, right),
-    };
     let mut decls = Items::new(alloc);
-    decls.push(alias(alloc, "a", either, call(alloc, "p")?)?)?;
-    decls.push(alias(alloc, "b", record(alloc)?, test(alloc, "a")?)?)?;
+    decls.push(first(alloc)?)?;
+    decls.push(second(alloc)?)?;
     decls.push(property(alloc, "p", test(alloc, "b")?)?)?;
     Ok(decls)
+}
+
+// `int | b`
+fn either(alloc: Global) -> Result<Ty, AllocError> {
+    let left = Boxed::new(alloc, int())?;
+    let right = Boxed::new(alloc, named(alloc, TYPE, "b")?)?;
+    Ok(Ty {
+        at: 5,
+        kind: TyKind::Union(left, right),
+    })
+}
+
+fn first(alloc: Global) -> Result<Decl, AllocError> {
+    let ty = Boxed::new(alloc, either(alloc)?)?;
+    let clause = call(alloc, "p")?;
+    alias(alloc, "a", ty, clause)
+}
+
+fn second(alloc: Global) -> Result<Decl, AllocError> {
+    let ty = Boxed::new(alloc, record(alloc)?)?;
+    let clause = test(alloc, "a")?;
+    alias(alloc, "b", ty, clause)
 }
 
 fn edge(from: u32, to: u32, at: u32, way: Way) -> Edge {

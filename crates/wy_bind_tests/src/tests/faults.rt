@@ -41,7 +41,8 @@ fn other(alloc: Global, row: u32) -> Result<Stmt, AllocError> {
         10 => declared(alloc, "y"),
         _ => {
             let args = only(alloc, var(alloc, "x")?)?;
-            Ok(stmt(StmtKind::Call(name(alloc, "print")?, args)))
+            let print = name(alloc, "print")?;
+            Ok(stmt(StmtKind::Call(print, args)))
         }
     }
 }

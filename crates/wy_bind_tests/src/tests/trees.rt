@@ -1,4 +1,5 @@
-//! Small trees: a function `f` with one parameter `x`, whose body is one statement.
+//! Small trees: a function `f` with one parameter `x`, whose body is one statement. What may fail comes first, so that
+//! no tree is let go behind it.
 use std::alloc::{AllocError, Global};
 use wy_ast::{Case, Decl, Expr, ExprKind, Function, Param, Stmt, StmtKind, Ty, TyKind};
 use wy_data::Name;
@@ -43,19 +44,19 @@ pub fn call(alloc: Global, text: &str, has_arg: bool) -> Result<Expr, AllocError
 /// `{a: 1, a: 2}`, whose second value stands one further.
 pub fn record(alloc: Global) -> Result<Expr, AllocError> {
     let mut fields = Items::new(alloc);
-    fields.push((name(alloc, "a")?, expr(ExprKind::Int(1))))?;
-    let second = Expr {
-        at: EXPR + 1,
-        kind: ExprKind::Int(2),
-    };
-    fields.push((name(alloc, "a")?, second))?;
+    let first = name(alloc, "a")?;
+    fields.push((first, expr(ExprKind::Int(1))))?;
+    let again = name(alloc, "a")?;
+    let kind = ExprKind::Int(2);
+    fields.push((again, Expr { at: EXPR + 1, kind }))?;
     Ok(expr(ExprKind::Record(fields)))
 }
 
 /// `all { i in 0..to | true }`
 pub fn all_below(alloc: Global, variable: &str, to: Expr) -> Result<Expr, AllocError> {
-    let range = (name(alloc, variable)?, expr(ExprKind::Int(0)), to);
-    let ranges = only(alloc, range)?;
+    let to = Boxed::new(alloc, to)?;
+    let variable = name(alloc, variable)?;
+    let ranges = only(alloc, (variable, expr(ExprKind::Int(0)), to.into_inner()))?;
     let body = Boxed::new(alloc, expr(ExprKind::Bool(true)))?;
     Ok(expr(ExprKind::Quant(true, ranges, body)))
 }
@@ -82,8 +83,8 @@ pub fn turn(alloc: Global, inner: Stmt) -> Result<Stmt, AllocError> {
 /// `for NAME in 0..1`
 pub fn count(alloc: Global, variable: &str) -> Result<Stmt, AllocError> {
     let body = only(alloc, stmt(StmtKind::Skip))?;
-    let (from, to) = (expr(ExprKind::Int(0)), expr(ExprKind::Int(1)));
     let variable = name(alloc, variable)?;
+    let (from, to) = (expr(ExprKind::Int(0)), expr(ExprKind::Int(1)));
     Ok(stmt(StmtKind::For(variable, from, to, Items::new(alloc), body)))
 }
 
@@ -96,24 +97,31 @@ fn int() -> Ty {
 
 /// `int NAME`
 pub fn declared(alloc: Global, variable: &str) -> Result<Stmt, AllocError> {
-    Ok(stmt(StmtKind::Declare(int(), name(alloc, variable)?, None)))
+    let variable = name(alloc, variable)?;
+    Ok(stmt(StmtKind::Declare(int(), variable, None)))
 }
 
 /// `function f(int x) -> int:` with this statement.
 pub fn program(alloc: Global, body: Stmt) -> Result<Items<Decl>, AllocError> {
-    let param = Param {
-        ty: int(),
-        name: name(alloc, "x")?,
-    };
+    let body = only(alloc, body)?;
+    let own = name(alloc, "f")?;
+    let variable = name(alloc, "x")?;
+    let params = only(
+        alloc,
+        Param {
+            ty: int(),
+            name: variable,
+        },
+    )?;
     let function = Function {
         at: 0,
-        name: name(alloc, "f")?,
-        params: only(alloc, param)?,
+        name: own,
+        params,
         result: int(),
         result_name: None,
         preconditions: Items::new(alloc),
         postconditions: Items::new(alloc),
-        body: only(alloc, body)?,
+        body,
     };
     only(alloc, Decl::Function(function))
 }

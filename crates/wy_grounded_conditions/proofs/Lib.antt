@@ -1,0 +1,9 @@
+pub mod SizeLemmas
+pub mod SteadyLemmas
+pub mod HoldsLemmas
+pub mod NamedLemmas
+pub mod TestLemmas
+pub mod UseLemmas
+pub mod ReachLemmas
+pub mod LevelLemmas
+pub mod GroundedLemmas

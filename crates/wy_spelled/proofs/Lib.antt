@@ -1,0 +1,2 @@
+-- what the rules of a program spell
+pub mod SpelledLemmas
