@@ -9,7 +9,7 @@ use Rattle.wy_round_programs.specs.ReadAgain.{IsSource}
 use Rattle.wy_texts.specs.Again.{IsAgain, IsReadAgain}
 use Rattle.wy_texts.specs.Texts.{IsLayout, IsText}
 use Rattle.wy_texts.specs.declared.kind.Kind.{Kind}
-use Rattle.wy_texts.specs.declared.kind.Kind.TheVariants.{Layout, Listing}
+use Rattle.wy_texts.specs.declared.kind.Kind.TheVariants.{Layout, Listing, Conditions}
 
 as_source : (bytes : List ℕ) (p : Program) → front.Spells bytes p → IsSource bytes p
 as_source bytes p s = record { tokens = s.tokens; cut = s.cut; derives = s.holds }
@@ -35,3 +35,4 @@ laid_out_again bytes text h = subst (IsReadAgain bytes) h.printed (printed_again
 pub read_again : (kind : Kind) (bytes text : List ℕ) → IsText kind bytes text → IsAgain kind bytes text
 read_again Layout bytes text h = laid_out_again bytes text h
 read_again Listing bytes text h = tt
+read_again Conditions bytes text h = tt

@@ -13,7 +13,7 @@ use Rattle.wy_source.specs.Refusals.{is_no_memory}
 use Rattle.wy_source.specs.Sources as sources
 use Rattle.wy_source.specs.declared.refusal.Refusal.{Refusal}
 use Rattle.wy_source.specs.declared.refusal.Refusal.TheVariants.{Text, Name, Flow, Assign}
-use Rattle.wy_texts.specs.Texts.{IsDue, IsText}
+use Rattle.wy_texts.specs.Texts.{IsLayoutDue, IsText}
 use Rattle.wy_texts.specs.declared.kind.Kind.TheVariants.{Layout, Listing}
 
 -- ---- layouts
@@ -36,7 +36,7 @@ layout_is bytes text p spelled is = record { program = p; spelled = spelled; pri
 pub layout_complete : (bytes text : List ℕ) (p : Program) → Reads bytes (Ok p) → text ≡ program_text p → (t : List ℕ) → IsText Layout bytes t → text ≡ t
 layout_complete bytes text p reads is t h = is ∙ ap program_text (same_program p h.program (reads h.program h.spelled)) ∙ h.printed
 
-pub layout_exact : (bytes : List ℕ) (p : Program) → Faults bytes (Ok p) → (f : Refusal) → IsDue Layout bytes f → ⊥
+pub layout_exact : (bytes : List ℕ) (p : Program) → Faults bytes (Ok p) → (f : Refusal) → IsLayoutDue bytes f → ⊥
 layout_exact bytes p faults (Text f) due = never p f (faults f due)
 layout_exact bytes p faults (Name f) due = due
 layout_exact bytes p faults (Flow f) due = due
@@ -45,7 +45,7 @@ layout_exact bytes p faults (Assign f) due = due
 pub unread_complete : (bytes : List ℕ) (f : SourceFault) → Reads bytes (Err f) → (t : List ℕ) → IsText Layout bytes t → IsTrue (is_no_memory (Text f))
 unread_complete bytes f reads t h = unread bytes f reads h.program h.spelled
 
-pub unread_exact : (bytes : List ℕ) (f : SourceFault) → Reads bytes (Err f) → Faults bytes (Err f) → (g : Refusal) → IsDue Layout bytes g → is_no_memory (Text f) ≡ false → Text f ≡ g
+pub unread_exact : (bytes : List ℕ) (f : SourceFault) → Reads bytes (Err f) → Faults bytes (Err f) → (g : Refusal) → IsLayoutDue bytes g → is_no_memory (Text f) ≡ false → Text f ≡ g
 unread_exact bytes f reads faults (Text g) due left = text_exact bytes f reads faults (Text g) tt due left
 unread_exact bytes f reads faults (Name g) due left = absurd due
 unread_exact bytes f reads faults (Flow g) due left = absurd due

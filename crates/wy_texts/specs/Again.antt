@@ -6,7 +6,7 @@ use Rattle.wy_print.specs.ProgramText.{program_text}
 use Rattle.wy_round_programs.specs.ReadAgain.{IsSame}
 use Rattle.wy_texts.specs.Texts.{IsLayout}
 use Rattle.wy_texts.specs.declared.kind.Kind.{Kind}
-use Rattle.wy_texts.specs.declared.kind.Kind.TheVariants.{Layout, Listing}
+use Rattle.wy_texts.specs.declared.kind.Kind.TheVariants.{Layout, Listing, Conditions}
 
 -- the bytes spell a program whose text this is; the text is its own layout; and whatever program it spells is that of the bytes, but for its places
 pub record IsReadAgain (bytes text : List ℕ) : Type 0 where
@@ -16,7 +16,8 @@ pub record IsReadAgain (bytes text : List ℕ) : Type 0 where
   pub own : IsLayout text text
   pub same : (other : Program) → front.Spells text other → IsSame other program
 
--- a layout is read again; of a listing nothing is said
+-- a layout is read again; of other texts nothing is said
 abbrev pub IsAgain : Kind → List ℕ → List ℕ → Type 0
 IsAgain Layout bytes text = IsReadAgain bytes text
 IsAgain Listing bytes text = ⊤
+IsAgain Conditions bytes text = ⊤

@@ -7,4 +7,6 @@ pub enum Kind {
     Layout,
     /// The listing of the program's code, of a source whose program is typed and assigned.
     Listing,
+    /// The list of what the program owes, of such a source whose conditions pass no limit.
+    Conditions,
 }

@@ -1,32 +1,43 @@
 //! Texts of sources.
 ghost use Rattle.std.specs.Prelude.{◌≡◌, ◌<◌, ◌^◌, ℕ, List, length, false, IsTrue, IfOk, IfErr, MatchResult};
 ghost use Rattle.wy_source.specs.Refusals.{is_no_memory};
+ghost use Rattle.wy_source.specs.Sources as sources;
 ghost use Rattle.wy_source.specs.declared.refusal.Refusal.{Refusal};
 ghost use Rattle.wy_texts.specs.Again.{IsAgain};
-ghost use Rattle.wy_texts.specs.Texts.{IsDue, IsRefused, IsText};
+ghost use Rattle.wy_owed.specs.Faults as faults;
+ghost use Rattle.wy_owed.specs.declared.fault.TextFault.{TextFault};
+ghost use Rattle.wy_texts.specs.Texts.{IsDue, IsLayoutDue, IsLayoutRefused, IsRefused, IsText};
 ghost use Rattle.wy_texts.specs.declared.kind.Kind.TheVariants.{Layout, Listing};
 
 use crate::kind::Kind;
 use std::alloc::Global;
 use wy_front::{SourceFault, read};
+use wy_owed::{TextFault, owed_text};
 use wy_print::print;
 use wy_source::{Refusal, read_program};
 use wy_typed_code::listing;
 
-/// The text of this kind that the source has, or the first refusal: of a layout, tokens and program are read; of a listing,
-/// names, types and assignment besides. A layout is read again as the same program, places aside, and is its own layout.
-/// Linear in the source and the text, beside what flow typing takes.
-pub fn text_of(alloc: Global, kind: Kind, source: &[u8]) -> Result<Vec<u8>, Refusal>
+/// The text of this kind that the source has, or the first fault: of a layout, tokens and program are read; of a listing,
+/// names, types and assignment besides; of conditions, their limits besides. A layout is read again as the same program, places
+/// aside, and is its own layout. Linear in the source and the text, beside what flow typing and making conditions take.
+pub fn text_of(alloc: Global, kind: Kind, source: &[u8]) -> Result<Vec<u8>, TextFault>
     requires { length source.now < 2 ^ 32 }
     ensures text { IfOk result (λ t. IsText kind source.now t.items) }
     ensures again { IfOk result (λ t. IsAgain kind source.now t.items) }
-    ensures complete { (t : List ℕ) → IsText kind source.now t → MatchResult result (λ u. u.items ≡ t) (λ e. IsTrue (is_no_memory e)) }
-    ensures refused { IfErr result (λ e. is_no_memory e ≡ false → IsRefused kind source.now e) }
-    ensures exact { (f : Refusal) → IsDue kind source.now f → MatchResult result (λ t. ⊥) (λ e. is_no_memory e ≡ false → e ≡ f) }
+    ensures complete { (t : List ℕ) → IsText kind source.now t → MatchResult result (λ u. u.items ≡ t) (λ e. IsTrue (faults.is_no_memory e)) }
+    ensures refused { IfErr result (λ e. faults.is_no_memory e ≡ false → IsRefused kind source.now e) }
+    ensures exact { (f : TextFault) → IsDue kind source.now f → MatchResult result (λ t. ⊥) (λ e. faults.is_no_memory e ≡ false → e ≡ f) }
 {
     match kind {
-        Kind::Layout => laid_out(alloc, source),
-        Kind::Listing => listed(alloc, source),
+        Kind::Layout => match laid_out(alloc, source) {
+            Ok(text) => Ok(text),
+            Err(refusal) => Err(TextFault::Source(refusal)),
+        },
+        Kind::Listing => match listed(alloc, source) {
+            Ok(text) => Ok(text),
+            Err(refusal) => Err(TextFault::Source(refusal)),
+        },
+        Kind::Conditions => owed_text(alloc, source),
     }
 }
 
@@ -36,8 +47,8 @@ fn laid_out(alloc: Global, source: &[u8]) -> Result<Vec<u8>, Refusal>
     ensures text { IfOk result (λ t. IsText Layout source.now t.items) }
     ensures again { IfOk result (λ t. IsAgain Layout source.now t.items) }
     ensures complete { (t : List ℕ) → IsText Layout source.now t → MatchResult result (λ u. u.items ≡ t) (λ e. IsTrue (is_no_memory e)) }
-    ensures refused { IfErr result (λ e. is_no_memory e ≡ false → IsRefused Layout source.now e) }
-    ensures exact { (f : Refusal) → IsDue Layout source.now f → MatchResult result (λ t. ⊥) (λ e. is_no_memory e ≡ false → e ≡ f) }
+    ensures refused { IfErr result (λ e. is_no_memory e ≡ false → IsLayoutRefused source.now e) }
+    ensures exact { (f : Refusal) → IsLayoutDue source.now f → MatchResult result (λ t. ⊥) (λ e. is_no_memory e ≡ false → e ≡ f) }
 {
     let program = match read(alloc, source) {
         Ok(program) => program,
@@ -55,8 +66,8 @@ fn listed(alloc: Global, source: &[u8]) -> Result<Vec<u8>, Refusal>
     ensures text { IfOk result (λ t. IsText Listing source.now t.items) }
     ensures again { IfOk result (λ t. IsAgain Listing source.now t.items) }
     ensures complete { (t : List ℕ) → IsText Listing source.now t → MatchResult result (λ u. u.items ≡ t) (λ e. IsTrue (is_no_memory e)) }
-    ensures refused { IfErr result (λ e. is_no_memory e ≡ false → IsRefused Listing source.now e) }
-    ensures exact { (f : Refusal) → IsDue Listing source.now f → MatchResult result (λ t. ⊥) (λ e. is_no_memory e ≡ false → e ≡ f) }
+    ensures refused { IfErr result (λ e. is_no_memory e ≡ false → sources.IsRefused source.now e) }
+    ensures exact { (f : Refusal) → sources.IsDue source.now f → MatchResult result (λ t. ⊥) (λ e. is_no_memory e ≡ false → e ≡ f) }
 {
     let typed = match read_program(alloc, source) {
         Ok(typed) => typed,

@@ -1,6 +1,6 @@
 //! How a listing is compared with the one that was worked out by hand.
 use std::alloc::Global;
-use wy_source::{offset, word};
+use wy_owed::{offset, word};
 use wy_texts::{Kind, text_of};
 
 // A source that is read is no longer than this.

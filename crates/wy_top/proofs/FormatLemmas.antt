@@ -8,8 +8,8 @@ use Rattle.wy_port.specs.declared.files.LoadFault.{LoadFault}
 use Rattle.wy_port.specs.declared.files.LoadFault.TheVariants.{Absent, TooLong, Failed, NoMemory as NoMemoryToLoad}
 use Rattle.wy_front.specs.Places.{place_of}
 use Rattle.wy_front.specs.declared.place.Place.{Place}
-use Rattle.wy_source.specs.Refusals.{offset, is_no_memory}
-use Rattle.wy_source.specs.declared.refusal.Refusal.{Refusal}
+use Rattle.wy_owed.specs.Faults.{offset, is_no_memory}
+use Rattle.wy_owed.specs.declared.fault.TextFault.{TextFault}
 use Rattle.wy_texts.proofs.AgainLemmas.{read_again}
 use Rattle.wy_texts.specs.Texts.{IsDue, IsText}
 use Rattle.wy_texts.specs.declared.kind.Kind.{Kind}
@@ -40,7 +40,7 @@ faulted_ends name fault status before after f g other h (inr nothing) = inr (inr
 
 -- ---- the cause of each status
 
-refused_cause : (kind : Kind) (name : List ℕ) (s : Setting) (fault : Refusal) (place : Place) → HasFault kind s name fault place → (b : Bool) → is_no_memory fault ≡ b → FormatCause kind name s (if b then 9 else 1)
+refused_cause : (kind : Kind) (name : List ℕ) (s : Setting) (fault : TextFault) (place : Place) → HasFault kind s name fault place → (b : Bool) → is_no_memory fault ≡ b → FormatCause kind name s (if b then 9 else 1)
 refused_cause kind name s fault place has true e = record { done = λ e. absurd (omega (arith, e)); refused = λ e. absurd (omega (arith, e)); absent = λ e. absurd (omega (arith, e)); load_failed = λ e. absurd (omega (arith, e)); too_long = λ e. absurd (omega (arith, e)) }
 refused_cause kind name s fault place has false left = record { done = λ e. absurd (omega (arith, e)); refused = λ e. (fault, place, left, has); absent = λ e. absurd (omega (arith, e)); load_failed = λ e. absurd (omega (arith, e)); too_long = λ e. absurd (omega (arith, e)) }
 
@@ -188,7 +188,7 @@ loaded_plain kind s name bytes TooLong told loaded h = long_loads (s.told name) 
 loaded_plain kind s name bytes Failed told loaded h = h.0
 loaded_plain kind s name bytes NoMemoryToLoad told loaded h = h.0
 
-abbrev refused_at : Refusal → ℕ × ℕ → FormatEnd
+abbrev refused_at : TextFault → ℕ × ℕ → FormatEnd
 refused_at f lc = Err (Refused f (record { line = lc.0; column = lc.1 }))
 
 abbrev text_end : List ℕ → FormatEnd
@@ -196,7 +196,7 @@ text_end t = Ok t
 
 -- a source that has the text
 pub text_only : (kind : Kind) (s : Setting) (name bytes p : List ℕ) → Loads s name source_limit bytes
-    → ((q : List ℕ) → IsText kind bytes q → p ≡ q) → ((f : Refusal) → IsDue kind bytes f → ⊥) → IsOnlyEnd kind s name (Ok p)
+    → ((q : List ℕ) → IsText kind bytes q → p ≡ q) → ((f : TextFault) → IsDue kind bytes f → ⊥) → IsOnlyEnd kind s name (Ok p)
 text_only kind s name bytes p loaded complete exact told (Ok q) h =
     let same = one_file (s.told name) h.bytes bytes (told name) h.loaded.told loaded.told in
     inl (ap text_end (sym (complete q (subst (λ (b : List ℕ). IsText kind b q) same h.spelled))))
@@ -209,9 +209,9 @@ both_ways : (b : Bool) → b ≡ true → b ≡ false → ⊥
 both_ways b up un = absurd (true≢false (sym up ∙ un))
 
 -- a source that is refused, with memory left
-refused_only : (kind : Kind) (s : Setting) (name bytes : List ℕ) (f : Refusal) (place : Place) → Loads s name source_limit bytes
+refused_only : (kind : Kind) (s : Setting) (name bytes : List ℕ) (f : TextFault) (place : Place) → Loads s name source_limit bytes
     → (place.line, place.column) ≡ place_of bytes (offset f) → is_no_memory f ≡ false
-    → ((q : List ℕ) → IsText kind bytes q → is_no_memory f ≡ true) → ((g : Refusal) → IsDue kind bytes g → is_no_memory f ≡ false → f ≡ g) → IsOnlyEnd kind s name (Err (Refused f place))
+    → ((q : List ℕ) → IsText kind bytes q → is_no_memory f ≡ true) → ((g : TextFault) → IsDue kind bytes g → is_no_memory f ≡ false → f ≡ g) → IsOnlyEnd kind s name (Err (Refused f place))
 refused_only kind s name bytes f place loaded stands left complete exact told (Ok q) h =
     let same = one_file (s.told name) h.bytes bytes (told name) h.loaded.told loaded.told in
     absurd (both_ways (is_no_memory f) (complete q (subst (λ (b : List ℕ). IsText kind b q) same h.spelled)) left)
@@ -219,13 +219,13 @@ refused_only kind s name bytes f place loaded stands left complete exact told (E
 refused_only kind s name bytes f place loaded stands left complete exact told (Err (Refused g other)) h =
     let same = one_file (s.told name) h.bytes bytes (told name) h.loaded.told loaded.told in
     let fault : g ≡ f = sym (exact g (subst (λ (b : List ℕ). IsDue kind b g) same h.due) left) in
-    let here : (other.line, other.column) ≡ (place.line, place.column) = h.stands ∙ (ap (λ (b : List ℕ). place_of b (offset g)) same ∙ (ap (λ (x : Refusal). place_of bytes (offset x)) fault ∙ sym stands)) in
-    inl (ap (λ (x : Refusal). refused_at x (other.line, other.column)) fault ∙ ap (refused_at f) here)
+    let here : (other.line, other.column) ≡ (place.line, place.column) = h.stands ∙ (ap (λ (b : List ℕ). place_of b (offset g)) same ∙ (ap (λ (x : TextFault). place_of bytes (offset x)) fault ∙ sym stands)) in
+    inl (ap (λ (x : TextFault). refused_at x (other.line, other.column)) fault ∙ ap (refused_at f) here)
 
 -- a source that is refused
-pub fault_only : (kind : Kind) (s : Setting) (name bytes : List ℕ) (f : Refusal) (place : Place) → Loads s name source_limit bytes
+pub fault_only : (kind : Kind) (s : Setting) (name bytes : List ℕ) (f : TextFault) (place : Place) → Loads s name source_limit bytes
     → (place.line, place.column) ≡ place_of bytes (offset f)
-    → ((q : List ℕ) → IsText kind bytes q → is_no_memory f ≡ true) → ((g : Refusal) → IsDue kind bytes g → is_no_memory f ≡ false → f ≡ g) → IsOnlyEnd kind s name (Err (Refused f place))
+    → ((q : List ℕ) → IsText kind bytes q → is_no_memory f ≡ true) → ((g : TextFault) → IsDue kind bytes g → is_no_memory f ≡ false → f ≡ g) → IsOnlyEnd kind s name (Err (Refused f place))
 fault_only kind s name bytes f place loaded stands complete exact = by_memory (is_no_memory f) refl
   where
     by_memory : (b : Bool) → is_no_memory f ≡ b → IsOnlyEnd kind s name (Err (Refused f place))

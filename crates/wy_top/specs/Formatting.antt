@@ -1,4 +1,4 @@
--- What do the commands `fmt SOURCE` and `dis SOURCE` come to? How they can end, where they end so, and what is shown then.
+-- What do the commands `fmt SOURCE`, `dis SOURCE` and `conds SOURCE` come to? How they can end, where they end so, and what is shown then.
 use Rattle.std.specs.Prelude.{◌≡◌, ◌⊎◌, ℕ, List, [], ◌∷◌, ◌++◌, codes, false, true, if◌then◌else◌, Result, Ok, Err, Vec}
 use Rattle.std.specs.declared.alloc.Global.{Global}
 use Rattle.std.specs.Fmt.{decimal}
@@ -7,12 +7,12 @@ use Rattle.wy_port.specs.Taken.{with_taken, TookFront}
 use Rattle.wy_port.specs.declared.files.LoadFault.TheVariants.{Absent, TooLong, Failed, NoMemory as NoMemoryToLoad}
 use Rattle.wy_front.specs.Places.{place_of}
 use Rattle.wy_front.specs.declared.place.Place.{Place}
-use Rattle.wy_source.specs.Refusals.{offset, word, is_no_memory}
-use Rattle.wy_source.specs.declared.refusal.Refusal.{Refusal}
+use Rattle.wy_owed.specs.Faults.{offset, word, is_no_memory}
+use Rattle.wy_owed.specs.declared.fault.TextFault.{TextFault}
 use Rattle.wy_texts.specs.Again.{IsAgain}
 use Rattle.wy_texts.specs.Texts.{IsDue, IsRefused, IsText}
 use Rattle.wy_texts.specs.declared.kind.Kind.{Kind}
-use Rattle.wy_texts.specs.declared.kind.Kind.TheVariants.{Layout, Listing}
+use Rattle.wy_texts.specs.declared.kind.Kind.TheVariants.{Layout, Listing, Conditions}
 use Rattle.wy_top.specs.declared.formatting.FormatFault.{FormatFault}
 use Rattle.wy_top.specs.declared.formatting.FormatFault.TheVariants.{NotLoaded, Refused}
 use Rattle.wy_top.specs.CommandLine.{is_option}
@@ -24,8 +24,9 @@ use Rattle.wy_top.specs.Run.{Sinks, IsPlain, IsTold}
 abbrev pub command_for : Kind → List ℕ
 command_for Layout = codes "fmt"
 command_for Listing = codes "dis"
+command_for Conditions = codes "conds"
 
--- the words are `fmt SOURCE` or `dis SOURCE`, and SOURCE is no option
+-- the words are `fmt SOURCE`, `dis SOURCE` or `conds SOURCE`, and SOURCE is no option
 pub record FormatCommand (words : List (List ℕ)) (kind : Kind) (source : List ℕ) : Type 0 where
   pub spelled : words ≡ command_for kind ∷ source ∷ []
   pub plain : is_option source ≡ false
@@ -43,7 +44,7 @@ pub record HasText (kind : Kind) (s : Setting) (name : List ℕ) (text : List �
   pub spelled : IsText kind bytes text
 
 -- the source was loaded and is refused so, at this place, unless memory ran out
-pub record HasFault (kind : Kind) (s : Setting) (name : List ℕ) (fault : Refusal) (place : Place) : Type 0 where
+pub record HasFault (kind : Kind) (s : Setting) (name : List ℕ) (fault : TextFault) (place : Place) : Type 0 where
   pub bytes : List ℕ
   pub loaded : Loads s name source_limit bytes
   pub refused : is_no_memory fault ≡ false → IsRefused kind bytes fault
@@ -137,7 +138,7 @@ pub record FormatEnds (kind : Kind) (name : List ℕ) (s : Setting) (status : �
 -- ---- exactly where each end comes
 
 -- the source was loaded, and this fault is the one to be given, at this place
-pub record IsFaultDue (kind : Kind) (s : Setting) (name : List ℕ) (fault : Refusal) (place : Place) : Type 0 where
+pub record IsFaultDue (kind : Kind) (s : Setting) (name : List ℕ) (fault : TextFault) (place : Place) : Type 0 where
   pub bytes : List ℕ
   pub loaded : Loads s name source_limit bytes
   pub due : IsDue kind bytes fault
@@ -169,14 +170,14 @@ IsFormatExact kind name s status k = IsTold s → (e : FormatEnd) → IsEndDue k
 -- the cause of each status but 5 and 9, of which 9 has none
 pub record FormatCause (kind : Kind) (name : List ℕ) (s : Setting) (status : ℕ) : Type 0 where
   pub done : status ≡ 0 → (text : List ℕ) × HasText kind s name text
-  pub refused : status ≡ 1 → (fault : Refusal) × (place : Place) × (is_no_memory fault ≡ false) × HasFault kind s name fault place
+  pub refused : status ≡ 1 → (fault : TextFault) × (place : Place) × (is_no_memory fault ≡ false) × HasFault kind s name fault place
   pub absent : status ≡ 3 → LoadFails s name source_limit Absent
   pub load_failed : status ≡ 4 → Rose s.faults_before s.faults_after
   pub too_long : status ≡ 10 → LoadFails s name source_limit TooLong
 
 -- ---- the statement
 
--- What `fmt` or `dis` on this source comes to. An end happens, by its whole cause, and the status and the sinks show it; what `fmt` writes is read again as the program of the source, places aside; each status has its cause; and each end comes exactly where it is due: the text where the source has one, and else the fault that is to be given, at its line and column.
+-- What `fmt`, `dis` or `conds` on this source comes to. An end happens, by its whole cause, and the status and the sinks show it; what `fmt` writes is read again as the program of the source, places aside; each status has its cause; and each end comes exactly where it is due: the text where the source has one, and else the fault that is to be given, at its line and column.
 pub record Formats (kind : Kind) (name : List ℕ) (s : Setting) (status : ℕ) (k : Sinks) : Type 0 where
   pub ends : FormatEnds kind name s status k
   pub cause : FormatCause kind name s status

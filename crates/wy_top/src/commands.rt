@@ -61,17 +61,18 @@ fn print<O: Sink>(alloc: Global, number: i128, out: &mut O) -> u8
 
 /// Does what `words` say, over `files`, and answers the exit status. Results go to `out`, refusals to `err`.
 ///
-/// The words are `run SOURCE CERT NAME ARGS`, `fmt SOURCE` or `dis SOURCE`, without the program's own name. The steps are
+/// The words are `run SOURCE CERT NAME ARGS`, `fmt SOURCE`, `dis SOURCE` or `conds SOURCE`, without the program's own name. The steps are
 /// taken in this order, and the first that fails ends the call: the words, SOURCE is loaded and read, CERT is loaded and
 /// read unless it is the word `none`, the verdicts on the conditions, the entry NAME, the argument in ARGS, the requires
 /// clause. `fmt` loads and reads SOURCE alone and writes it anew: what it writes is the text of the program exactly
 /// where the source spells one. `dis` writes the listing of the program's code exactly where the source spells a program
-/// whose names are bound, that is well typed, and that assigns each variable before its uses.
+/// whose names are bound, that is well typed, and that assigns each variable before its uses. `conds` writes what such a
+/// program owes, condition by condition, unless that passes a limit.
 ///
 /// | status | when |
 /// |---|---|
-/// | 0 | the program was accepted and ran, and `out` took its result on a line; or `out` took the source's new text or its listing |
-/// | 1 | the source is refused (for `run`: it is no thin program), or a condition has no valid certificate |
+/// | 0 | the program was accepted and ran, and `out` took its result on a line; or `out` took the source's new text, its listing or its conditions |
+/// | 1 | the source is refused (for `run`: it is no thin program; for `conds`: its conditions may pass a limit), or a condition has no valid certificate |
 /// | 2 | the words are no command |
 /// | 3, 4, 10 | a file is absent, was not loaded, or is too long |
 /// | 5 | a sink failed |

@@ -1,4 +1,4 @@
-//! The commands `fmt` and `dis`: a source laid out anew, and the listing of its code.
+//! The commands `fmt`, `dis` and `conds`: a source laid out anew, the listing of its code, and the list of its conditions.
 ghost use Rattle.std.specs.Prelude.{◌≡◌, ◌≤◌, ℕ, List, Ok, Err, IfOk, IfErr, IfSome, IfNone, MatchResult};
 ghost use Rattle.std.specs.String.{string_bytes};
 ghost use Rattle.wy_top.specs.CommandLine.{plain_words};
@@ -14,8 +14,8 @@ use crate::diagnostics::{load_line, load_status};
 use crate::run::SOURCE_LIMIT;
 use std::alloc::{AllocError, Global};
 use wy_front::{Place, locate};
+use wy_owed::{TextFault, is_no_memory, offset, word};
 use wy_port::{Files, LoadFault, Sink};
-use wy_source::{Refusal, is_no_memory, offset, word};
 use wy_texts::{Kind, text_of};
 
 /// Why a text of a source isn't written.
@@ -24,7 +24,7 @@ pub enum FormatFault {
     /// The source file was not loaded.
     NotLoaded(LoadFault),
     /// The source has no such text: why, and where the fault stands. Want of memory stands nowhere.
-    Refused(Refusal, Place),
+    Refused(TextFault, Place),
 }
 
 // The text that the command with this word writes.
@@ -38,10 +38,13 @@ fn kind_of(command: &str) -> Option<Kind>
     if command == "dis" {
         return Some(Kind::Listing);
     }
+    if command == "conds" {
+        return Some(Kind::Conditions);
+    }
     None
 }
 
-/// The text and the source that the words `fmt SOURCE` or `dis SOURCE` ask for. Any others, and words with an option, ask
+/// The text and the source that the words `fmt SOURCE`, `dis SOURCE` or `conds SOURCE` ask for. Any others, and words with an option, ask
 /// for none.
 pub fn read_format(words: &[String]) -> Option<(Kind, &str)>
     ensures reads { IfSome result (λ p. FormatCommand (plain_words words.now) p.0 p.1.now) }

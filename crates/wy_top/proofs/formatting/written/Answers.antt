@@ -1,6 +1,6 @@
 use Rattle.std.proofs.Common.{◌≡◌, ◌≤◌, ◌∙◌, ℕ, List, false, length, sym, ap, subst, rules}
 use Rattle.wy_front.specs.Places.{place_of}
-use Rattle.wy_source.specs.Refusals.{is_no_memory, offset}
+use Rattle.wy_owed.specs.Faults.{is_no_memory, offset}
 use Rattle.wy_texts.specs.Texts.{IsDue, IsRefused, IsText}
 use Rattle.wy_top.specs.Outcome.{Loads, source_limit}
 use Rattle.wy_top.specs.Steps.{setting}

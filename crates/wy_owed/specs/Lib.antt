@@ -1,0 +1,4 @@
+-- texts of what is owed
+pub mod Owed
+-- faults
+pub mod Faults

@@ -1,0 +1,2 @@
+-- the list of a program
+pub mod Listed

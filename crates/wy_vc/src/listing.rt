@@ -1,0 +1,89 @@
+//! The conditions of a program, within the limits.
+ghost use Rattle.std.specs.Prelude.{◌≡◌, [], All, IfErr, IfOk};
+ghost use Rattle.wy_conditions.specs.Limits as limits;
+ghost use Rattle.wy_conditions.specs.Numbered.{numbered_core};
+ghost use Rattle.wy_conditions.specs.Programs as programs;
+ghost use Rattle.wy_core.specs.CoreSeen.{seen_core};
+ghost use Rattle.wy_vc.specs.Listed as spec;
+ghost use Rattle.wy_vc_actions.specs.Frames.{program_of};
+ghost use Rattle.wy_vc_limits.specs.Counted.{seen_passing};
+ghost use Rattle.wy_vc_limits.specs.Told.{IsCond};
+ghost use Rattle.wy_vc_names.specs.Described.{IsDescribed};
+ghost use Rattle.wy_vc_walk.specs.State.{IsSound, owed_of};
+
+use crate::fault::VcFault;
+use std::alloc::Global;
+use wy_core::Core;
+use wy_term::{Conds, NoMemory};
+use wy_typing::Typed;
+use wy_vc_declarations::owe_declarations;
+use wy_vc_limits::{Passing, first_limit, meanings, told_all};
+use wy_vc_names::Program;
+use wy_vc_numbers::typed_program;
+use wy_vc_terms::Maker;
+use wy_vc_walk::Walk;
+
+// Nothing is assumed, and nothing owed.
+fn nothing(alloc: Global) -> Walk
+    ensures sound { IsSound result }
+    ensures owed { owed_of result ≡ [] }
+{
+    Walk {
+        maker: Maker::new(alloc),
+        hyps: Vec::new(alloc),
+        owed: Vec::new(alloc),
+    }
+}
+
+// All that the program owes, without limits.
+fn owed(alloc: Global, core: &Core, program: &Program) -> Result<Walk, NoMemory>
+    requires described { IsDescribed core.now program.now }
+    ensures sound { IfOk result IsSound }
+    ensures value { IfOk result (λ w. owed_of w ≡ programs.decls_conditions (program_of core.now program.now) (numbered_core (seen_core core.now))) }
+{
+    let mut walk = nothing(alloc);
+    owe_declarations(alloc, core, program, &mut walk)?;
+    Ok(walk)
+}
+
+// All conditions of the program, and which limit they pass first.
+fn all_conditions(alloc: Global, typed: &Typed) -> Result<(Conds, Passing), NoMemory>
+    ensures list { IfOk result (λ r. spec.seen_conds r.0 ≡ spec.told_of typed.now) }
+    ensures limit { IfOk result (λ r. seen_passing r.1 ≡ spec.limit_of typed.now) }
+    ensures once { IfOk result (λ r. All (spec.HasTypesOnce r.0.terms) r.0.list.items) }
+    ensures numbers { IfOk result (λ r. All (IsCond r.0.terms) r.0.list.items) }
+{
+    let core = typed.core();
+    let program = typed_program(alloc, core, typed)?;
+    let mut walk = owed(alloc, core, &program)?;
+    let meanings = meanings(alloc, core, &program, &mut walk.maker)?;
+    let Walk { maker, owed, .. } = walk;
+    let terms = maker.terms;
+    let list = told_all(alloc, &terms, meanings.as_slice(), owed)?;
+    let limit = first_limit(&terms, list.as_slice())?;
+    Ok((Conds { terms, list }, limit))
+}
+
+/// The conditions of a well-typed program: what each declaration owes, in order of the source, each with its kind, its place, what may be
+/// assumed, the goal, and the named types that these mention with what their tests stand for. The program is refused where there are too
+/// many, or where one has too many terms, the first in the order of the list.
+///
+/// Terms are shared, and hypotheses stay on a stack on the way through a body; a condition's list of hypotheses is a copy of what stands
+/// there. It takes time linear in the program as its properties and clauses are written out, in these lists, and for each condition in how
+/// many different terms it has.
+pub fn conditions(alloc: Global, typed: &Typed) -> Result<Conds, VcFault>
+    ensures list { IfOk result (λ cs. spec.seen_conds cs ≡ spec.told_of typed.now) }
+    ensures within { IfOk result (λ cs. spec.limit_of typed.now ≡ limits.Within) }
+    ensures fault { IfErr result (λ e. spec.IsDue e (spec.limit_of typed.now)) }
+    ensures once { IfOk result (λ cs. All (spec.HasTypesOnce cs.terms) cs.list.items) }
+    ensures numbers { IfOk result (λ cs. All (IsCond cs.terms) cs.list.items) }
+{
+    match all_conditions(alloc, typed) {
+        Err(NoMemory) => Err(VcFault::NoMemory),
+        Ok((conds, limit)) => match limit {
+            Passing::Within => Ok(conds),
+            Passing::TooMany => Err(VcFault::TooManyConds),
+            Passing::TooLarge(number) => Err(VcFault::TooManyTerms(number)),
+        },
+    }
+}
