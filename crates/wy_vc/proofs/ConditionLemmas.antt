@@ -1,8 +1,10 @@
 -- The conditions of a program.
-use Rattle.std.proofs.Common.{◌≡◌, ◌≢◌, ◌<◌, ◌≤◌, ℕ, zero, suc, Bool, true, false, List, [], ◌∷◌, ◌++◌, All, length, map, refl, sym, ◌∙◌, ap, subst, arith}
+use Rattle.std.proofs.Common.{Vec, ◌≡◌, ◌≢◌, ◌<◌, ◌≤◌, ◌+◌, ◌⊎◌, inl, inr, ℕ, zero, suc, Bool, true, false, List, [], ◌∷◌, ◌++◌, All, length, take, drop, map, refl, sym, ◌∙◌, ap, subst, arith}
+use Rattle.std.specs.declared.alloc.Global.{Global}
 use Rattle.std.specs.Prelude.{nat_lt, if◌then◌else◌}
-use Rattle.std.proofs.lemmas.List.{append-nil}
-use Rattle.std.proofs.lemmas.List.Elements.{All-cons, All-head, All-nil, All-tail}
+use Rattle.std.proofs.lemmas.Bool.{lt-ltb, ltb-false, ltb-true}
+use Rattle.std.proofs.lemmas.List.{append-nil, append_assoc, drop_all, length-map, length-take, map-append, take-append-drop}
+use Rattle.std.proofs.lemmas.List.Elements.{All-cons, All-head, All-nil, All-tail, All-take, All-weaker}
 use Rattle.wy_core.specs.CoreSeen.{seen_core}
 use Rattle.wy_core.specs.CoreTree as tree
 use Rattle.wy_core.specs.CoreTree.{routines_of}
@@ -29,8 +31,10 @@ use Rattle.wy_vc_walk.specs.State.{IsGoal, IsSound, owed_of, seen_goal}
 use Rattle.wy_vc_walk.specs.declared.goal.Goal.{Goal}
 use Rattle.wy_vc_walk.specs.declared.walk.Walk.{Walk}
 use Rattle.wy_vc_walk.proofs.StateLemmas.{goal_kept, goals_kept}
-use Rattle.std.proofs.lemmas.List.Elements.{All-weaker}
-use Rattle.wy_vc.specs.Listed.{HasTypesOnce, limit_of, owed_by, setting_in, told_of}
+use Rattle.wy_vc_declarations.specs.Entering.{OwesFirst}
+use Rattle.wy_vc_operations.specs.Growing.{AreBelow}
+use Rattle.wy_vc_terms.specs.declared.maker.Maker.{Maker}
+use Rattle.wy_vc.specs.Listed.{AreFirst, HasTypesOnce, limit_of, owed_by, setting_in, told_of}
 
 -- ---- the list
 
@@ -46,13 +50,18 @@ owed_is : (typed : Triple) (core : Core) (p : Program) → seen_core core ≡ co
 owed_is typed core p same is =
     ap (λ (s : Setting Node). programs.decls_conditions (program_with s core) (numbered_core (seen_core core))) is ∙ ap (λ (c : tree.Core ℕ). programs.conditions_of c (flow_of typed)) same
 
-pub list_is : (typed : Triple) (core : Core) (p : Program) (w : Walk) (new : List Plain) (list : List Cond) → seen_core core ≡ core_of typed → setting core p ≡ programs.setting_of (numbered_core (seen_core core)) (flow_of typed)
-    → IsSound w → Kept w.maker.terms new → owed_of w ≡ programs.decls_conditions (frames.program_of core p) (numbered_core (seen_core core))
-    → map (seen_cond new) list ≡ map (told (setting core p)) (map (seen_goal new) w.owed.items) → map (seen_cond new) list ≡ told_of typed
-list_is typed core p w new list same is sound kept owed told_is =
+-- of what is kept of the goals
+pub first_is : (typed : Triple) (core : Core) (p : Program) (w : Walk) (new : List Plain) (list : List Cond) → seen_core core ≡ core_of typed → setting core p ≡ programs.setting_of (numbered_core (seen_core core)) (flow_of typed)
+    → IsSound w → Kept w.maker.terms new
+    → map (seen_cond new) list ≡ map (told (setting core p)) (map (seen_goal new) w.owed.items) → map (seen_cond new) list ≡ map (told (setting_in typed)) (owed_of w)
+first_is typed core p w new list same is sound kept told_is =
     told_is
-    ∙ ap (λ (os : List Owed). map (told (setting core p)) os) (goals_kept w.maker.terms new kept w.owed.items sound.owed ∙ owed ∙ owed_is typed core p same is)
-    ∙ ap (λ (s : Setting Node). map (told s) (owed_by typed)) (setting_is typed core p same is)
+    ∙ ap (λ (os : List Owed). map (told (setting core p)) os) (goals_kept w.maker.terms new kept w.owed.items sound.owed)
+    ∙ ap (λ (s : Setting Node). map (told s) (owed_of w)) (setting_is typed core p same is)
+
+pub are_first : (typed : Triple) (core : Core) (p : Program) (w : Walk) → seen_core core ≡ core_of typed → setting core p ≡ programs.setting_of (numbered_core (seen_core core)) (flow_of typed)
+    → AreFirst (owed_of w) (programs.decls_conditions (frames.program_of core p) (numbered_core (seen_core core))) → AreFirst (owed_of w) (owed_by typed)
+are_first typed core p w same is first = subst (λ (all : List Owed). AreFirst (owed_of w) all) (owed_is typed core p same is) first
 
 -- the goals' numbers are those of terms
 pub goals_on : (w : Walk) (new : List Plain) → IsSound w → Kept w.maker.terms new → All (IsGoal new) w.owed.items
@@ -66,8 +75,102 @@ told_passing s before k [] = refl
 told_passing s before k (c ∷ cs) =
     ap (λ (p : limits.Passing). if nat_lt limits.most_conditions k then limits.TooMany else (if limits.is_too_large s before c then limits.TooLarge k else p)) (told_passing s (before ++ limits.terms_of s c) (suc k) cs)
 
-pub limit_is : (typed : Triple) (ts : List Told) → ts ≡ told_of typed → passing_told [] 1 ts ≡ limit_of typed
-limit_is typed ts is = ap (λ (l : List Told). passing_told [] 1 l) is ∙ told_passing (setting_in typed) [] 1 (owed_by typed)
+-- up to so many conditions, and one more, the others change nothing
+first_passing : (s : Setting Node) (before : List Term) (k : ℕ) (os rest : List Owed) → k ≤ limits.most_conditions → (rest ≡ []) ⊎ (limits.most_conditions < k + length os)
+    → limits.passing_from s before (suc k) os ≡ limits.passing_from s before (suc k) (os ++ rest)
+first_passing s before k [] rest le (inl none) = ap (λ (l : List Owed). limits.passing_from s before (suc k) l) (sym none)
+first_passing s before k [] rest le (inr past) = absurd (omega (arith, le, past))
+first_passing s before k (o ∷ os) rest le w =
+    same_unless (nat_lt limits.most_conditions (suc k)) limits.TooMany
+    (λ few. ap (λ (p : limits.Passing). if limits.is_too_large s before o then limits.TooLarge (suc k) else p) (first_passing s (before ++ limits.terms_of s o) (suc k) os rest (ltb-false limits.most_conditions (suc k) few) (behind w)))
+  where
+    same_unless : {a b : limits.Passing} (c : Bool) (x : limits.Passing) → (c ≡ false → a ≡ b) → (if c then x else a) ≡ (if c then x else b)
+    same_unless true x f = refl
+    same_unless false x f = f refl
+
+    behind : (rest ≡ []) ⊎ (limits.most_conditions < k + suc (length os)) → (rest ≡ []) ⊎ (limits.most_conditions < suc k + length os)
+    behind (inl none) = inl none
+    behind (inr past) = inr (omega (arith, past))
+
+-- where the limits are kept there are few enough
+few_if : (n k m : ℕ) (many large : Bool) (left : limits.Passing) → (many ≡ false → n ≤ m) → (n ≤ m → left ≡ limits.Within → n + k ≤ m) → (if many then limits.TooMany else (if large then limits.TooLarge n else left)) ≡ limits.Within → n + k ≤ m
+few_if n k m true large left less rest is = absurd (let e : limits.TooMany ≡ limits.Within = is in cc)
+few_if n k m false true left less rest is = absurd (let e : limits.TooLarge n ≡ limits.Within = is in cc)
+few_if n k m false false left less rest is = rest (less refl) is
+
+few_within : (s : Setting Node) (before : List Term) (k : ℕ) (os : List Owed) → k ≤ limits.most_conditions → limits.passing_from s before (suc k) os ≡ limits.Within → k + length os ≤ limits.most_conditions
+few_within s before k [] le is = omega (arith, le)
+few_within s before k (o ∷ os) le is =
+    let n : suc k + length os ≤ limits.most_conditions =
+    few_if (suc k) (length os) limits.most_conditions (nat_lt limits.most_conditions (suc k)) (limits.is_too_large s before o) (limits.passing_from s (before ++ limits.terms_of s o) (suc (suc k)) os)
+    (λ few. ltb-false limits.most_conditions (suc k) few) (λ next so. few_within s (before ++ limits.terms_of s o) (suc k) os next so) is in
+    omega (arith, n)
+
+-- the limit that the first conditions pass is that of all
+pub limit_is : (typed : Triple) (os : List Owed) (ts : List Told) → AreFirst os (owed_by typed) → ts ≡ map (told (setting_in typed)) os → passing_told [] 1 ts ≡ limit_of typed
+limit_is typed os ts first is =
+    ap (λ (l : List Told). passing_told [] 1 l) is ∙ told_passing (setting_in typed) [] 1 os
+    ∙ first_passing (setting_in typed) [] 0 os first.rest (omega arith) (counted first.whole)
+    ∙ ap (λ (l : List Owed). limits.passing_from (setting_in typed) [] 1 l) first.is
+  where
+    counted : (first.rest ≡ []) ⊎ (nat_lt limits.most_conditions (length os) ≡ true) → (first.rest ≡ []) ⊎ (limits.most_conditions < 0 + length os)
+    counted (inl none) = inl none
+    counted (inr past) = inr (let lt = ltb-true limits.most_conditions (length os) past in omega (arith, lt))
+
+-- where the limits are kept, the first conditions are all
+pub list_is : (typed : Triple) (os : List Owed) (ts : List Told) → AreFirst os (owed_by typed) → ts ≡ map (told (setting_in typed)) os → passing_told [] 1 ts ≡ limits.Within → ts ≡ told_of typed
+list_is typed os ts first is within =
+    is ∙ ap (λ (l : List Owed). map (told (setting_in typed)) l) (sym (append-nil os) ∙ ap (λ (l : List Owed). os ++ l) (sym (none first.whole)) ∙ first.is)
+  where
+    few : length os ≤ limits.most_conditions
+    few =
+        let le = few_within (setting_in typed) [] 0 os (omega arith) (sym (told_passing (setting_in typed) [] 1 os) ∙ ap (λ (l : List Told). passing_told [] 1 l) (sym is) ∙ within) in
+        omega (arith, le)
+
+    none : (first.rest ≡ []) ⊎ (nat_lt limits.most_conditions (length os) ≡ true) → first.rest ≡ []
+    none (inl e) = e
+    none (inr past) = let lt = ltb-true limits.most_conditions (length os) past in let le = few in absurd (omega (arith, lt, le))
+
+-- ---- what is kept of the goals
+
+pub cut_sound : (a b : Walk) → b.maker ≡ a.maker → b.hyps ≡ a.hyps → b.owed.items ≡ take (suc limits.most_conditions) a.owed.items → IsSound a → IsSound b
+cut_sound a b maker hyps owed sound = record {
+  hyps = subst (λ (m : Maker). AreBelow (length m.terms) b.hyps.items) (sym maker) (subst (λ (hs : Vec ℕ Global). AreBelow (length a.maker.terms) hs.items) (sym hyps) sound.hyps);
+  owed = subst (λ (m : Maker). All (IsGoal m.terms) b.owed.items) (sym maker) (subst (λ (gs : List Goal). All (IsGoal a.maker.terms) gs) (sym owed) (All-take (IsGoal a.maker.terms) (suc limits.most_conditions) a.owed.items sound.owed));
+}
+
+pub cut_first : (z a b : Walk) (all : List Owed) → b.maker ≡ a.maker → b.owed.items ≡ take (suc limits.most_conditions) a.owed.items → owed_of z ≡ [] → OwesFirst limits.most_conditions z a all → AreFirst (owed_of b) all
+cut_first z a b all maker owed none o = record {
+  rest = map S behind ++ o.rest;
+  is = ap (λ (os : List Owed). os ++ (map S behind ++ o.rest)) kept ∙ sym (append_assoc (map S front) (map S behind) o.rest) ∙ ap (λ (os : List Owed). os ++ o.rest) (sym (map-append S front behind) ∙ ap (λ (gs : List Goal). map S gs) (take-append-drop (suc limits.most_conditions) items)) ∙ o.owed ∙ ap (λ (os : List Owed). os ++ all) none;
+  whole = by_count (nat_lt limits.most_conditions (length items)) refl o.whole;
+}
+  where
+    S : Goal → Owed
+    S = seen_goal a.maker.terms
+
+    items : List Goal
+    items = a.owed.items
+
+    front : List Goal
+    front = take (suc limits.most_conditions) a.owed.items
+
+    behind : List Goal
+    behind = drop (suc limits.most_conditions) a.owed.items
+
+    kept : owed_of b ≡ map S front
+    kept = ap (λ (m : Maker). map (seen_goal m.terms) b.owed.items) maker ∙ ap (λ (gs : List Goal). map S gs) owed
+
+    long : limits.most_conditions < length items → nat_lt limits.most_conditions (length (owed_of b)) ≡ true
+    long past = lt-ltb limits.most_conditions (length (owed_of b)) (let n = ap length kept ∙ length-map front S ∙ length-take (suc limits.most_conditions) items in omega (arith, n, past))
+
+    by_count : (c : Bool) → nat_lt limits.most_conditions (length items) ≡ c → (o.rest ≡ []) ⊎ (nat_lt limits.most_conditions (length items) ≡ true)
+        → (map S behind ++ o.rest ≡ []) ⊎ (nat_lt limits.most_conditions (length (owed_of b)) ≡ true)
+    by_count true past w = inr (long (ltb-true limits.most_conditions (length items) past))
+    by_count false few (inr past) = inr (long (ltb-true limits.most_conditions (length items) past))
+    by_count false few (inl e) =
+        let le = ltb-false limits.most_conditions (length items) few in
+        inl (ap (λ (gs : List Goal). map S gs ++ o.rest) (drop_all (suc limits.most_conditions) items (omega (arith, le))) ∙ e)
 
 -- ---- each type once
 
@@ -99,5 +202,5 @@ seen_once : (nodes : List Plain) (list : List Cond) → All IsOnce (map (seen_co
 seen_once nodes [] are = All-nil (HasTypesOnce nodes)
 seen_once nodes (c ∷ list) are = All-cons (HasTypesOnce nodes) c list (All-head IsOnce (seen_cond nodes c) (map (seen_cond nodes) list) are) (seen_once nodes list (All-tail IsOnce (seen_cond nodes c) (map (seen_cond nodes) list) are))
 
-pub types_once : (typed : Triple) (nodes : List Plain) (list : List Cond) → map (seen_cond nodes) list ≡ told_of typed → All (HasTypesOnce nodes) list
-types_once typed nodes list is = seen_once nodes list (subst (λ (l : List Told). All IsOnce l) (sym is) (told_once (setting_in typed) (owed_by typed)))
+pub types_once : (typed : Triple) (os : List Owed) (nodes : List Plain) (list : List Cond) → map (seen_cond nodes) list ≡ map (told (setting_in typed)) os → All (HasTypesOnce nodes) list
+types_once typed os nodes list is = seen_once nodes list (subst (λ (l : List Told). All IsOnce l) (sym is) (told_once (setting_in typed) os))

@@ -1,5 +1,5 @@
 -- The conditions of a well-typed program, and its limits.
-use Rattle.std.specs.Prelude.{◌≡◌, List, map}
+use Rattle.std.specs.Prelude.{◌≡◌, ◌⊎◌, List, [], ◌++◌, length, map, true, nat_lt}
 use Rattle.wy_conditions.specs.Limits as limits
 use Rattle.wy_conditions.specs.Numbered.{Node, numbered_core}
 use Rattle.wy_conditions.specs.Owed.{Owed}
@@ -47,3 +47,9 @@ IsDue fault.NoMemory p = Unit {0}
 -- each named type that a condition mentions is listed once
 abbrev pub HasTypesOnce : List Plain → Cond → Type 0
 HasTypesOnce nodes c = AreListedOnce (condition_of nodes c).types
+
+-- the first of all that is owed: all of it, or more than there may be
+pub record AreFirst (os all : List Owed) : Type 0 where
+  pub rest : List Owed
+  pub is : os ++ rest ≡ all
+  pub whole : (rest ≡ []) ⊎ (nat_lt limits.most_conditions (length os) ≡ true)

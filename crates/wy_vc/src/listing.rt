@@ -1,5 +1,5 @@
 //! The conditions of a program, within the limits.
-ghost use Rattle.std.specs.Prelude.{◌≡◌, [], All, IfErr, IfOk};
+ghost use Rattle.std.specs.Prelude.{◌≡◌, [], suc, take, All, IfErr, IfOk};
 ghost use Rattle.wy_conditions.specs.Limits as limits;
 ghost use Rattle.wy_conditions.specs.Numbered.{numbered_core};
 ghost use Rattle.wy_conditions.specs.Programs as programs;
@@ -23,6 +23,9 @@ use wy_vc_numbers::typed_program;
 use wy_vc_terms::Maker;
 use wy_vc_walk::Walk;
 
+/// The most conditions of a program.
+const MOST_CONDITIONS: usize = 16384;
+
 // Nothing is assumed, and nothing owed.
 fn nothing(alloc: Global) -> Walk
     ensures sound { IsSound result }
@@ -35,20 +38,30 @@ fn nothing(alloc: Global) -> Walk
     }
 }
 
-// All that the program owes, without limits.
+// No more than one goal beyond the limit is kept, which tells as much as all of them.
+fn cut(walk: &mut Walk)
+    ensures maker { walk.new.maker ≡ walk.old.maker }
+    ensures hyps { walk.new.hyps ≡ walk.old.hyps }
+    ensures owed { walk.new.owed.items ≡ take (suc limits.most_conditions) walk.old.owed.items }
+{
+    walk.owed.truncate(MOST_CONDITIONS + 1);
+}
+
+// What the program owes: all, or more than there may be.
 fn owed(alloc: Global, core: &Core, program: &Program) -> Result<Walk, NoMemory>
     requires described { IsDescribed core.now program.now }
     ensures sound { IfOk result IsSound }
-    ensures value { IfOk result (λ w. owed_of w ≡ programs.decls_conditions (program_of core.now program.now) (numbered_core (seen_core core.now))) }
+    ensures first { IfOk result (λ w. spec.AreFirst (owed_of w) (programs.decls_conditions (program_of core.now program.now) (numbered_core (seen_core core.now)))) }
 {
     let mut walk = nothing(alloc);
-    owe_declarations(alloc, core, program, &mut walk)?;
+    owe_declarations(alloc, core, program, &mut walk, MOST_CONDITIONS)?;
+    cut(&mut walk);
     Ok(walk)
 }
 
-// All conditions of the program, and which limit they pass first.
-fn all_conditions(alloc: Global, typed: &Typed) -> Result<(Conds, Passing), NoMemory>
-    ensures list { IfOk result (λ r. spec.seen_conds r.0 ≡ spec.told_of typed.now) }
+// The conditions of the program, or so many that there are too many, and which limit they pass first.
+fn first_conditions(alloc: Global, typed: &Typed) -> Result<(Conds, Passing), NoMemory>
+    ensures list { IfOk result (λ r. seen_passing r.1 ≡ limits.Within → spec.seen_conds r.0 ≡ spec.told_of typed.now) }
     ensures limit { IfOk result (λ r. seen_passing r.1 ≡ spec.limit_of typed.now) }
     ensures once { IfOk result (λ r. All (spec.HasTypesOnce r.0.terms) r.0.list.items) }
     ensures numbers { IfOk result (λ r. All (IsCond r.0.terms) r.0.list.items) }
@@ -68,9 +81,10 @@ fn all_conditions(alloc: Global, typed: &Typed) -> Result<(Conds, Passing), NoMe
 /// assumed, the goal, and the named types that these mention with what their tests stand for. The program is refused where there are too
 /// many, or where one has too many terms, the first in the order of the list.
 ///
-/// Terms are shared, and hypotheses stay on a stack on the way through a body; a condition's list of hypotheses is a copy of what stands
-/// there. It takes time linear in the program as its properties and clauses are written out, in these lists, and for each condition in how
-/// many different terms it has.
+/// Terms are shared, and hypotheses stay on a stack on the way through a body, so a condition's hypotheses are those of the one before up
+/// to where the stack was cut, and then what was assumed since; its list is a copy of what stands there. It takes time linear in the
+/// program as its properties and clauses are written out, in these lists, and for each condition in how many different terms it has. Behind
+/// a declaration with which there are too many no other is walked.
 pub fn conditions(alloc: Global, typed: &Typed) -> Result<Conds, VcFault>
     ensures list { IfOk result (λ cs. spec.seen_conds cs ≡ spec.told_of typed.now) }
     ensures within { IfOk result (λ cs. spec.limit_of typed.now ≡ limits.Within) }
@@ -78,7 +92,7 @@ pub fn conditions(alloc: Global, typed: &Typed) -> Result<Conds, VcFault>
     ensures once { IfOk result (λ cs. All (spec.HasTypesOnce cs.terms) cs.list.items) }
     ensures numbers { IfOk result (λ cs. All (IsCond cs.terms) cs.list.items) }
 {
-    match all_conditions(alloc, typed) {
+    match first_conditions(alloc, typed) {
         Err(NoMemory) => Err(VcFault::NoMemory),
         Ok((conds, limit)) => match limit {
             Passing::Within => Ok(conds),

@@ -1,5 +1,5 @@
 -- One declaration after the other.
-use Rattle.std.proofs.Common.{◌≡◌, ◌<◌, ◌≤◌, ◌+◌, ℕ, List, [], ◌∷◌, ◌++◌, length, drop, get_or, map, refl, sym, ◌∙◌, ap, subst, arith}
+use Rattle.std.proofs.Common.{◌≡◌, ◌<◌, ◌≤◌, ◌+◌, inl, inr, ℕ, Bool, true, nat_lt, List, [], ◌∷◌, ◌++◌, length, drop, get_or, map, refl, sym, ◌∙◌, ap, subst, arith}
 use Rattle.std.proofs.lemmas.List.{append-nil, append_assoc, drop_all}
 use Rattle.wy_core.specs.CoreSeen.{seen_alias, seen_block, seen_decl, seen_exprs, seen_routine}
 use Rattle.wy_core.specs.CoreTree as tree
@@ -21,7 +21,7 @@ use Rattle.wy_vc_walk.proofs.StateLemmas.{kept_all}
 use Rattle.wy_vc_joins.proofs.PathLemmas.{next_of}
 use Rattle.wy_vc_names.specs.Described.{IsCalled}
 use Rattle.wy_vc_names.specs.declared.program.Called.{Called}
-use Rattle.wy_vc_declarations.specs.Entering.{Owes}
+use Rattle.wy_vc_declarations.specs.Entering.{Owes, OwesFirst}
 
 -- the numbers of the parts of a function or method
 pub called_here : (routine : Routine) (first before between after last : ℕ) (c : Called) → c.preconditions ≡ first → c.postconditions ≡ after → c.body ≡ last
@@ -70,7 +70,17 @@ owing_turn p a b c ds i d k n all lt is inv o next =
           ∙ append_assoc (owed_of b) D (R (k + exprs_in_decl (seen_decl d))) ∙ inv'.owed;
     }
 
-pub owing_end : (p : walks.Program Node) (a b : Walk) (ds : List Decl) (i k : ℕ) (all : List Owed) → length ds ≤ i → IsOwing p a b (drop i ds) k all → Owes a b all
-owing_end p a b ds i k all past inv =
+-- more than so many are owed
+pub owing_enough : (p : walks.Program Node) (most : ℕ) (a b : Walk) (ds : List Decl) (i k : ℕ) (all : List Owed) (past : Bool) → past ≡ nat_lt most (length b.owed.items) → past ≡ true → IsOwing p a b (drop i ds) k all → OwesFirst most a b all
+owing_enough p most a b ds i k all past is so inv = record {
+  rest = decls_conditions p (numbered_decls (map seen_decl (drop i ds)) k);
+  sound = inv.sound;
+  kept = inv.kept;
+  owed = inv.owed;
+  whole = inr (sym is ∙ so);
+}
+
+pub owing_end : (p : walks.Program Node) (most : ℕ) (a b : Walk) (ds : List Decl) (i k : ℕ) (all : List Owed) → length ds ≤ i → IsOwing p a b (drop i ds) k all → OwesFirst most a b all
+owing_end p most a b ds i k all past inv =
     let inv' = subst (λ (l : List Decl). IsOwing p a b l k all) (drop_all i ds past) inv in
-    record { sound = inv'.sound; kept = inv'.kept; owed = sym (append-nil (owed_of b)) ∙ inv'.owed }
+    record { rest = []; sound = inv'.sound; kept = inv'.kept; owed = inv'.owed; whole = inl refl }

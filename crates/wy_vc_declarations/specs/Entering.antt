@@ -1,5 +1,5 @@
 -- What is known where contracts and bodies begin, and what declarations owe.
-use Rattle.std.specs.Prelude.{◌≡◌, ℕ, List, [], ◌++◌, Option}
+use Rattle.std.specs.Prelude.{◌≡◌, ◌⊎◌, ℕ, List, [], ◌++◌, length, Option, true, nat_lt}
 use Rattle.wy_conditions.specs.Clauses.{passed}
 use Rattle.wy_conditions.specs.Owed.{Owed}
 use Rattle.wy_conditions.specs.Statements.{Renewed}
@@ -19,3 +19,11 @@ pub record Owes (old new : Walk) (os : List Owed) : Type 0 where
   pub sound : IsSound new
   pub kept : Kept old.maker.terms new.maker.terms
   pub owed : owed_of new ≡ owed_of old ++ os
+
+-- from the one walk to the other the first of these were owed: all, or some where more than so many are owed then; terms were added only
+pub record OwesFirst (most : ℕ) (old new : Walk) (os : List Owed) : Type 0 where
+  pub rest : List Owed
+  pub sound : IsSound new
+  pub kept : Kept old.maker.terms new.maker.terms
+  pub owed : owed_of new ++ rest ≡ owed_of old ++ os
+  pub whole : (rest ≡ []) ⊎ (nat_lt most (length new.owed.items) ≡ true)

@@ -1,11 +1,11 @@
 //! What the declarations of a program owe.
-ghost use Rattle.std.specs.Prelude.{◌≡◌, ◌+◌, map, IfOk, OnOk};
+ghost use Rattle.std.specs.Prelude.{◌≡◌, ◌+◌, length as count_of, map, nat_lt, IfOk, OnOk};
 ghost use Rattle.wy_conditions.specs.Numbered.{exprs_in_decl, numbered_core, numbered_decl, numbered_decls, numbered_routine};
 ghost use Rattle.wy_conditions.specs.Programs as spec;
 ghost use Rattle.wy_core.specs.CoreSeen.{seen_alias, seen_core, seen_decl, seen_routine};
 ghost use Rattle.wy_core.specs.CoreTree as tree;
 ghost use Rattle.wy_vc_actions.specs.Frames.{program_of};
-ghost use Rattle.wy_vc_declarations.specs.Entering.{Owes};
+ghost use Rattle.wy_vc_declarations.specs.Entering.{Owes, OwesFirst};
 ghost use Rattle.wy_vc_names.specs.Described.{IsCalled, IsDescribed};
 ghost use Rattle.wy_vc_walk.specs.State.{IsSound};
 
@@ -102,37 +102,51 @@ fn owe_declaration(
     }
 }
 
-// What these declarations owe, the first of whose expressions has the number 0.
+// Whether more than so many are owed.
+fn are_past(walk: &Walk, most: usize) -> bool
+    ensures value { result ≡ nat_lt most (count_of walk.now.owed.items) }
+{
+    walk.owed.len() > most
+}
+
+// What the first of these declarations owe, the first of whose expressions has the number 0: of all, or until more than so many are owed.
 fn owe_all(
     alloc: Global,
     core: &Core,
     program: &Program,
     walk: &mut Walk,
     decls: &[Decl],
+    most: usize,
 ) -> Result<(), NoMemory>
     requires described { IsDescribed core.now program.now }
     requires sound { IsSound walk.old }
-    ensures value { OnOk result (Owes walk.old walk.new (spec.decls_conditions (program_of core.now program.now) (numbered_decls (map seen_decl decls.now) 0))) }
+    ensures value { OnOk result (OwesFirst most walk.old walk.new (spec.decls_conditions (program_of core.now program.now) (numbered_decls (map seen_decl decls.now) 0))) }
 {
     let mut first = 0;
     for (number, decl) in decls.iter().enumerate() {
+        let past = are_past(walk, most);
+        if past {
+            return Ok(());
+        }
         first = owe_declaration(alloc, core, program, walk, decl, number, first)?;
     }
     Ok(())
 }
 
 /// What the declarations of a program owe, behind what is owed already: of each in order of the source what its clauses owe, and then its
-/// body. Hypotheses of a goal are those of the path to it, and are copied for each; all else is linear in the program, in what its clauses
-/// come to where they are used, and in the terms made.
+/// body. Where more than `most` are owed behind a declaration, those behind it are not walked. Hypotheses of a goal are those of the path
+/// to it, and are copied for each; all else is linear in the declarations that are walked, in what the clauses come to where these use
+/// them, and in the terms made.
 pub fn owe_declarations(
     alloc: Global,
     core: &Core,
     program: &Program,
     walk: &mut Walk,
+    most: usize,
 ) -> Result<(), NoMemory>
     requires described { IsDescribed core.now program.now }
     requires sound { IsSound walk.old }
-    ensures value { OnOk result (Owes walk.old walk.new (spec.decls_conditions (program_of core.now program.now) (numbered_core (seen_core core.now)))) }
+    ensures value { OnOk result (OwesFirst most walk.old walk.new (spec.decls_conditions (program_of core.now program.now) (numbered_core (seen_core core.now)))) }
 {
-    owe_all(alloc, core, program, walk, core.decls.as_slice())
+    owe_all(alloc, core, program, walk, core.decls.as_slice(), most)
 }

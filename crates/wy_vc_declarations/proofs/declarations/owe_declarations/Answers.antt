@@ -5,11 +5,11 @@ use Rattle.wy_conditions.specs.Numbered.{numbered_decls}
 use Rattle.wy_conditions.specs.Programs.{decls_conditions}
 use Rattle.wy_vc_actions.specs.Frames.{program_of}
 use Rattle.wy_vc_walk.proofs.ResultLemmas.{on_ok}
-use Rattle.wy_vc_declarations.specs.Entering.{Owes}
+use Rattle.wy_vc_declarations.specs.Entering.{OwesFirst}
 use Rattle.wy_vc_declarations.proofs.declarations.owe_declarations.Goals as goal
 
 pub returns : goal.returns
 returns c = record {
   value = on_ok c.owe_all.result _ _ c.owe_all.ensures.value
-      (λ o. subst (λ (ds : List Decl). Owes c.args.walk.now c.owe_all.new.walk (decls_conditions (program_of c.args.core.now c.args.program.now) (numbered_decls (map seen_decl ds) 0))) c.as_slice.ensures o);
+      (λ o. subst (λ (ds : List Decl). OwesFirst c.args.most c.args.walk.now c.owe_all.new.walk (decls_conditions (program_of c.args.core.now c.args.program.now) (numbered_decls (map seen_decl ds) 0))) c.as_slice.ensures o);
 }
