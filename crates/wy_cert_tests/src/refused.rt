@@ -81,3 +81,43 @@ fn steps(rt: HostRuntime) -> Result<(), Fail> {
     }
     Ok(())
 }
+
+// The certificates of three conditions cut off, or with one line changed, and those of a product under other headers.
+#[test]
+fn worked_files(rt: HostRuntime) -> Result<(), Fail> {
+    let rows = [
+        (
+            "wycert 1\ncond 1\nsum 1 2 1 5\ncond 2\nsum 1 4 1 6\ncond 3\nsum 1 7\nen",
+            CertFault::Truncated(8),
+        ),
+        (
+            "wycert 1\ncond 1\nsum 1 2 1 5\ncond 2\nsum 1 4 1 6\ncond 3\nsum 1 7\n",
+            CertFault::Truncated(8),
+        ),
+        (
+            "wycert 1\ncond 4\nsum 1 2 1 5\ncond 2\nsum 1 4 1 6\ncond 3\nsum 1 7\nend\n",
+            CertFault::NoSuchCond(2),
+        ),
+        (
+            "wycert 1\ncond 1\nsum 1 2 1 5\ncond 1\nsum 1 4 1 6\ncond 3\nsum 1 7\nend\n",
+            CertFault::TwiceCond(4),
+        ),
+        (
+            "wycert 1\ncond 1\nsum 0 2\ncond 2\nsum 1 4 1 6\ncond 3\nsum 1 7\nend\n",
+            CertFault::BadStep(3),
+        ),
+        (
+            "wycert 1\ncond 1\nprod 7 9 mul(num(w.0), num(h.1))\nsum 1 11 1 12\nend\n",
+            CertFault::BadStep(3),
+        ),
+        (
+            "wycert 3\ncond 1\nprod 7 9 mul(num(w.0), num(h.1))\nsum 1 11 1 12\nend\n",
+            CertFault::BadHeader(1),
+        ),
+    ];
+    for (text, want) in rows {
+        let fault = read_certs(rt.alloc(), text.as_bytes(), 3).err();
+        assert_eq!(rt; fault, Some(want), "{text}");
+    }
+    Ok(())
+}

@@ -27,6 +27,9 @@ use wy_value::Value;
 /// The greatest length of an array of a type.
 const LONGEST: usize = 9223372036854775807;
 
+// How many levels a node of an expression takes: its frame is as large as those of some visits.
+const NODE: u32 = 4;
+
 /// The value of an expression, in which tests of types may nest so deep. Each node spends a tick where
 /// nodes are paid.
 #[cycle(contract)]
@@ -43,10 +46,10 @@ pub fn value_of(
 ) -> Result<Value, Stop>
     ensures value { Gives seen (spec.eval (setting (map seen_alias declared.now.types) declared.now.limit depth) paid (seen_expr expr.now) (scope (store_of store.now) over.now) (meter_of meter.old)) result (meter_of meter.new) }
 {
-    if room == 0 {
+    if room < NODE {
         return Err(Stop::NoMemory);
     }
-    let inside = room - 1;
+    let inside = room - NODE;
     meter.spend(paid)?;
     let at = expr.at;
     match &expr.kind {

@@ -5,9 +5,10 @@
 //! `membership` what a contract asks of a value that is given a type, `clauses` whether clauses hold,
 //! and `places` where an expression stands.
 //!
-//! Each function has the shape of its definition in wy_sem. The cycle is given room, a number of
-//! nested evaluations and visits, and where it is used up the answer is want of memory: so no value and
-//! no contract can overrun the stack. `ROOM` says how much there is, and for what it is enough.
+//! Each function has the shape of its definition in wy_sem. The cycle is given room, of which a visit
+//! takes one level and a node of an expression four, and where it is used up the answer is want of memory:
+//! so no value and no contract can overrun the stack. `ROOM` says how much there is, and for what it is
+//! enough.
 #![tactic(auto)]
 
 mod aliases;

@@ -41,9 +41,9 @@ pub enum MeetsEnd {
 /// turns, in the sizes of the clauses and in those of the values that they copy; the declared types
 /// are copied once.
 ///
-/// The stack is bounded: each nested expression, clause and visit takes one of `wy_eval_scope::ROOM`
-/// levels, 4,096 of them, and where these are used up the answer is want of memory. Expressions nest at
-/// most 400 deep, and arguments that are read at most 100.
+/// The stack is bounded: each nested visit takes one and each nested expression four of
+/// `wy_eval_scope::ROOM` levels, 4,096 of them, and where these are used up the answer is want of memory.
+/// Expressions nest at most 400 deep in a clause, and arguments that are read at most 100.
 ///
 /// No accepted program has a call in a contract, or a circle of bare names; at one, the answer is want
 /// of memory, so `TurnsSpent` says that the turns were spent and nothing else.

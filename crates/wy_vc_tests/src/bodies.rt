@@ -485,31 +485,31 @@ cond 4 range 9:44
 );
 
 #[test]
-fn quantified(rt: HostRuntime) {
+fn lists_quantified(rt: HostRuntime) {
     let (source, text) = QUANTIFIED;
     assert_eq!(rt; lists(rt.alloc(), source, text), Ok(true));
 }
 
 #[test]
-fn unset(rt: HostRuntime) {
+fn lists_unset(rt: HostRuntime) {
     let (source, text) = UNSET;
     assert_eq!(rt; lists(rt.alloc(), source, text), Ok(true));
 }
 
 #[test]
-fn old(rt: HostRuntime) {
+fn lists_old(rt: HostRuntime) {
     let (source, text) = OLD;
     assert_eq!(rt; lists(rt.alloc(), source, text), Ok(true));
 }
 
 #[test]
-fn properties(rt: HostRuntime) {
+fn lists_properties(rt: HostRuntime) {
     let (source, text) = PROPERTIES;
     assert_eq!(rt; lists(rt.alloc(), source, text), Ok(true));
 }
 
 #[test]
-fn switched(rt: HostRuntime) {
+fn lists_switched(rt: HostRuntime) {
     let (source, text) = SWITCHED;
     assert_eq!(rt; lists(rt.alloc(), source, text), Ok(true));
 }

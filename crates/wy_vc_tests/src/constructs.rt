@@ -93,28 +93,28 @@ const STATEMENTS: [Row; 5] = [
 ];
 
 #[test]
-fn arithmetic(rt: HostRuntime) {
+fn owes_arithmetic(rt: HostRuntime) {
     for (source, titles) in ARITHMETIC {
         assert_eq!(rt; owes(rt.alloc(), source, titles), Ok(true), "{source}");
     }
 }
 
 #[test]
-fn arrays(rt: HostRuntime) {
+fn owes_arrays(rt: HostRuntime) {
     for (source, titles) in ARRAYS {
         assert_eq!(rt; owes(rt.alloc(), source, titles), Ok(true), "{source}");
     }
 }
 
 #[test]
-fn contracts(rt: HostRuntime) {
+fn owes_contracts(rt: HostRuntime) {
     for (source, titles) in CONTRACTS {
         assert_eq!(rt; owes(rt.alloc(), source, titles), Ok(true), "{source}");
     }
 }
 
 #[test]
-fn statements(rt: HostRuntime) {
+fn owes_statements(rt: HostRuntime) {
     for (source, titles) in STATEMENTS {
         assert_eq!(rt; owes(rt.alloc(), source, titles), Ok(true), "{source}");
     }

@@ -451,43 +451,43 @@ cond 8 member 22:5
 );
 
 #[test]
-fn nested(rt: HostRuntime) {
+fn lists_nested(rt: HostRuntime) {
     let (source, text) = NESTED;
     assert_eq!(rt; lists(rt.alloc(), source, text), Ok(true));
 }
 
 #[test]
-fn bounded(rt: HostRuntime) {
+fn lists_bounded(rt: HostRuntime) {
     let (source, text) = BOUNDED;
     assert_eq!(rt; lists(rt.alloc(), source, text), Ok(true));
 }
 
 #[test]
-fn picked(rt: HostRuntime) {
+fn lists_picked(rt: HostRuntime) {
     let (source, text) = PICKED;
     assert_eq!(rt; lists(rt.alloc(), source, text), Ok(true));
 }
 
 #[test]
-fn negated(rt: HostRuntime) {
+fn lists_negated(rt: HostRuntime) {
     let (source, text) = NEGATED;
     assert_eq!(rt; lists(rt.alloc(), source, text), Ok(true));
 }
 
 #[test]
-fn linked(rt: HostRuntime) {
+fn lists_linked(rt: HostRuntime) {
     let (source, text) = LINKED;
     assert_eq!(rt; lists(rt.alloc(), source, text), Ok(true));
 }
 
 #[test]
-fn parts(rt: HostRuntime) {
+fn lists_parts(rt: HostRuntime) {
     let (source, text) = PARTS;
     assert_eq!(rt; lists(rt.alloc(), source, text), Ok(true));
 }
 
 #[test]
-fn texts(rt: HostRuntime) {
+fn lists_texts(rt: HostRuntime) {
     let (source, text) = TEXTS;
     assert_eq!(rt; lists(rt.alloc(), source, text), Ok(true));
 }

@@ -29,16 +29,16 @@ fn counted(alloc: Global, functions: u32, lines: u32) -> Result<usize, Refusal> 
 }
 
 #[test]
-fn conditions(rt: HostRuntime) {
+fn limits_conditions(rt: HostRuntime) {
     assert_eq!(rt; counted(rt.alloc(), 100, 81), Ok(16200));
     assert_eq!(rt; counted(rt.alloc(), 128, 64), Ok(16384));
     assert_eq!(rt; counted(rt.alloc(), 100, 82), Err(Refusal::TooManyConds));
 }
 
-// Up to the line before it, the value takes a new name behind each 31st line, where it would have 65 nodes. Each line adds three terms, and
-// each name four more: the second condition of line 5235 is the first with more than 16,384.
+// Of the lines of one function each has three terms more than those before, a sum and two bounds. Behind each 31st the value would have 65
+// nodes and takes a name: four terms more. So the second condition of line 5235 is the first with more than 16,384.
 #[test]
-fn terms(rt: HostRuntime) {
+fn limits_terms(rt: HostRuntime) {
     assert_eq!(rt;
         counted(rt.alloc(), 1, 8200),
         Err(Refusal::TooManyTerms(10470))

@@ -184,37 +184,37 @@ cond 4 keep 3:5
 );
 
 #[test]
-fn counting(rt: HostRuntime) {
+fn lists_counting(rt: HostRuntime) {
     let (source, text) = COUNTING;
     assert_eq!(rt; lists(rt.alloc(), source, text), Ok(true));
 }
 
 #[test]
-fn dividing(rt: HostRuntime) {
+fn lists_dividing(rt: HostRuntime) {
     let (source, text) = DIVIDING;
     assert_eq!(rt; lists(rt.alloc(), source, text), Ok(true));
 }
 
 #[test]
-fn filling(rt: HostRuntime) {
+fn lists_filling(rt: HostRuntime) {
     let (source, text) = FILLING;
     assert_eq!(rt; lists(rt.alloc(), source, text), Ok(true));
 }
 
 #[test]
-fn failing(rt: HostRuntime) {
+fn lists_failing(rt: HostRuntime) {
     let (source, text) = FAILING;
     assert_eq!(rt; lists(rt.alloc(), source, text), Ok(true));
 }
 
 #[test]
-fn printing(rt: HostRuntime) {
+fn lists_printing(rt: HostRuntime) {
     let (source, text) = PRINTING;
     assert_eq!(rt; lists(rt.alloc(), source, text), Ok(true));
 }
 
 #[test]
-fn repeating(rt: HostRuntime) {
+fn lists_repeating(rt: HostRuntime) {
     let (source, text) = REPEATING;
     assert_eq!(rt; lists(rt.alloc(), source, text), Ok(true));
 }

@@ -8,7 +8,7 @@ use Rattle.wy_core.specs.declared.expressions.Op.{Op}
 use Rattle.wy_pieces.specs.declared.steps.Step.{Step}
 use Rattle.wy_pieces.specs.declared.steps.Step.TheVariants.{GoesBack}
 use Rattle.wy_pieces.specs.Steps.{fork, jumped}
-use Rattle.wy_tables.specs.Tables.{number_of, target}
+use Rattle.wy_tables.specs.Tables.{target}
 use Rattle.wy_compiled.specs.Expressions as spec
 use Rattle.wy_gen_expressions.proofs.ExpressionLemmas.{neg_same, neg_live, not_same, not_live, len_same, len_live, is_same, is_live, field_same, field_live, binary_same, binary_live, index_same, index_live, repeat_same, repeat_live, quant_same, quant_live, call_same, call_live, list_same, list_live, record_code_same, record_code_live}
 use Rattle.wy_gen_expressions.proofs.LoopLemmas.{codes_turn, codes_turn_live, field_codes_turn, field_codes_turn_live, place_back}
@@ -77,7 +77,7 @@ code-returns-in_ok-behind-in-Field t c = record {
   value =
       let a = c.get-in-Field.result.now in
       subst (λ (z : List Step). IfOk c.code-in-Field.result (λ m. m.steps ≡ z))
-      (field_same c.args.context.now c.args.expr.now a c.in_ok-behind-in-Field.behind.live c.args.behind.live c.args.register c.args.behind.steps c.in_ok-behind-in-Field.behind.steps c.in_ok-behind-in-Field.ensures.live c.in-Field.name c.in_ok-number-in-Field.number (c.in-Field.is ∙ ap (λ (z : Expr). kind.Field z c.in-Field.name) (sym c.get-in-Field.ensures)) (c.in_ok-number-in-Field.ensures.value ∙ ap (λ (names : List (List ℕ)). number_of c.in-Field.name names) c.as_slice-in-Field.ensures) c.in_ok-behind-in-Field.ensures.value)
+      (field_same c.args.context.now c.args.expr.now a c.in_ok-behind-in-Field.behind.live c.args.behind.live c.args.register c.args.behind.steps c.in_ok-behind-in-Field.behind.steps c.in_ok-behind-in-Field.ensures.live c.in-Field.name c.in_ok-number-in-Field.number (c.in-Field.is ∙ ap (λ (z : Expr). kind.Field z c.in-Field.name) (sym c.get-in-Field.ensures)) c.in_ok-number-in-Field.ensures.value c.in_ok-behind-in-Field.ensures.value)
       c.code-in-Field.ensures.value;
   live =
       let a = c.get-in-Field.result.now in

@@ -1,9 +1,8 @@
-use Rattle.std.proofs.Common.{◌≡◌, ◌∙◌, List, ◌∷◌, ◌++◌, IfOk, ℕ, map, suc, ap, subst, sym, arith, drop, length, append_assoc}
+use Rattle.std.proofs.Common.{◌≡◌, ◌∙◌, List, ◌∷◌, ◌++◌, IfOk, map, suc, ap, subst, sym, arith, drop, length, append_assoc}
 use Rattle.wy_core.specs.CoreSeen.{field_tys_of, seen_ty}
 use Rattle.wy_core.specs.declared.types.TyKind as kind
 use Rattle.wy_pieces.specs.declared.steps.Step.{Step}
 use Rattle.wy_pieces.specs.declared.steps.Step.TheVariants.{GoesBack}
-use Rattle.wy_tables.specs.Tables.{number_of}
 use Rattle.wy_compiled.specs.TypeTests as spec
 use Rattle.wy_gen_expressions.proofs.LoopLemmas.{fields_turn}
 use Rattle.wy_gen_expressions.proofs.PieceLemmas.{items_same}
@@ -66,7 +65,7 @@ test_fields-loop-left-preserved t c =
     record {
       within = omega (arith, l.invariant.within);
       value = fields_turn c.args.context.now c.args.fields.now l.left c.index-fields-left.result c.args.value c.args.answer c.args.free c.in_ok-inner.inner c.in_ok-number.number c.args.steps c.in_ok-steps.steps c.in_ok-steps-2.steps c.in_ok-steps-3.steps
-          c.loop-left-test.true l.invariant.within c.index-fields-left.is c.in_ok-inner.ensures.value (c.in_ok-number.ensures.value ∙ ap (λ (names : List (List ℕ)). number_of c.index-fields-left.result.0 names) c.as_slice.ensures)
+          c.loop-left-test.true l.invariant.within c.index-fields-left.is c.in_ok-inner.ensures.value c.in_ok-number.ensures.value
           (c.in_ok-steps.ensures.value (spec.fields_test c.args.context.now (field_tys_of (map (λ f. (f.0, seen_ty f.1)) (drop l.left c.args.fields.now))) c.args.value c.args.answer c.args.free) c.args.steps l.invariant.value (sym c.len-end.ensures.value))
           c.in_ok-steps-2.ensures.value c.in_ok-steps-3.ensures.value;
     }

@@ -1,0 +1,10 @@
+pub mod MakingLemmas
+pub mod ValueLemmas
+pub mod WalkLemmas
+pub mod JoinLemmas
+pub mod StatementLemmas
+pub mod ProgramLemmas
+pub mod FreeLemmas
+pub mod WithinLemmas
+pub mod ClosedLemmas
+pub mod OwedLemmas
