@@ -75,12 +75,13 @@ pub fn expanded(terms: &mut Terms, cond: &Cond, spot: Spot) -> Result<Spot, NoMe
     ensures stays { Stays terms.old terms.new }
 {
     let rounds = spot.rounds + 1;
+    let found = with_witnesses(terms, spot)?;
     let Spot {
         mut branch,
         had,
         names,
         rounds: _,
-    } = with_witnesses(terms, spot)?;
+    } = found;
     grow(terms, cond, &mut branch, &names)?;
     Ok(Spot {
         branch,

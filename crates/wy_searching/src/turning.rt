@@ -53,10 +53,13 @@ fn copied(alloc: Global, spot: &Spot) -> Result<Spot, NoMemory>
     ensures seen { (at : ℕ → Term) → IfOk result (λ p. seen_spot at p ≡ seen_spot at spot.now) }
     ensures spot { (nodes : List Plain) → IsSpot nodes spot.now → IfOk result (IsSpot nodes) }
 {
+    let branch = copied_branch(alloc, &spot.branch)?;
+    let had = copied_branch(alloc, &spot.had)?;
+    let names = Vec::from_slice(alloc, &spot.names)?;
     Ok(Spot {
-        branch: copied_branch(alloc, &spot.branch)?,
-        had: copied_branch(alloc, &spot.had)?,
-        names: Vec::from_slice(alloc, &spot.names)?,
+        branch,
+        had,
+        names,
         rounds: spot.rounds,
     })
 }
@@ -90,19 +93,20 @@ fn split(terms: &Terms, spot: Spot, atom: u32) -> Result<Next, NoMemory>
     ensures value { IfOk result (Follows (tree_at terms.now) (seen_spot (tree_at terms.now) spot) (split_on (seen_spot (tree_at terms.now) spot) (tree_at terms.now atom))) }
     ensures next { IfOk result (IsNextOver terms.now) }
 {
-    let left = copied(terms.allocator(), &spot)?;
-    Ok(Next::Splits(
-        with_atom(terms, left, atom, true)?,
-        with_atom(terms, spot, atom, false)?,
-    ))
+    let copy = copied(terms.allocator(), &spot)?;
+    let left = with_atom(terms, copy, atom, true)?;
+    let right = with_atom(terms, spot, atom, false)?;
+    Ok(Next::Splits(left, right))
 }
 
 // Whether the second node has more.
 fn is_more(old: &Spot, new: &Spot) -> bool
     ensures { (at older : ℕ → Term) → result ≡ tree.is_more (seen_spot older old.now).node (seen_spot at new.now).node }
 {
-    old.branch.literals.len() < new.branch.literals.len()
-        || old.branch.pending.len() < new.branch.pending.len()
+    if old.branch.literals.len() < new.branch.literals.len() {
+        return true;
+    }
+    old.branch.pending.len() < new.branch.pending.len()
 }
 
 // A round of expansion, at most two on a path.
@@ -164,7 +168,8 @@ fn on_ending(terms: &mut Terms, cond: &Cond, spot: Spot, ending: Ending) -> Resu
     ensures next { IfOk result (IsNextOver terms.new) }
     ensures stays { Stays terms.old terms.new }
 {
-    let (spot, atom) = with_next_atom(terms, spot)?;
+    let found = with_next_atom(terms, spot)?;
+    let (spot, atom) = found;
     match atom {
         Some(a) => split(terms, spot, a),
         None => on_expansion(terms, cond, spot, ending),

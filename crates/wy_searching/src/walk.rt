@@ -149,7 +149,31 @@ fn behind(
     }
 }
 
-// One turn: the first node that is to come is closed, or an open leaf, or others come in its place.
+// One turn, where this node comes first: it is closed, or an open leaf, or others come in its place.
+fn turn_at(
+    terms: &mut Terms,
+    cond: &Cond,
+    budget: u64,
+    leaves: u64,
+    spots: VecDeque<Spot>,
+    spot: Spot,
+) -> Result<Turned, NoMemory>
+    requires types { AreTypesBelow (length terms.old) cond.now }
+    requires leaves { leaves ≤ budget }
+    requires spots { AreSpots terms.old spots.items }
+    requires spot { IsSpot terms.old spot }
+    ensures value { IfOk result (Leads (tree.one_turn (condition_of terms.old cond.now).types budget leaves (seen_spot (tree_at terms.old) spot ∷ map (seen_spot (tree_at terms.old)) spots.items)) (tree_at terms.new)) }
+    ensures walk { IfOk result (IsTurnedOver terms.new budget) }
+    ensures stays { Stays terms.old terms.new }
+{
+    if leaves == budget {
+        return Ok(Turned::Ends(Verdict::Spent));
+    }
+    let next = what_follows(terms, cond, spot)?;
+    behind(terms, leaves, budget, spots, next)
+}
+
+// One turn, if a node is left.
 fn turn(terms: &mut Terms, cond: &Cond, budget: u64, walk: Walk) -> Result<Turned, NoMemory>
     requires types { AreTypesBelow (length terms.old) cond.now }
     requires walk { IsWalk terms.old budget walk }
@@ -157,16 +181,11 @@ fn turn(terms: &mut Terms, cond: &Cond, budget: u64, walk: Walk) -> Result<Turne
     ensures walk { IfOk result (IsTurnedOver terms.new budget) }
     ensures stays { Stays terms.old terms.new }
 {
-    let Walk { leaves, spots } = walk;
-    let mut spots = spots;
-    let Some(spot) = spots.pop_front() else {
-        return Ok(Turned::Ends(Verdict::Found(leaves)));
-    };
-    if leaves == budget {
-        return Ok(Turned::Ends(Verdict::Spent));
+    let Walk { leaves, mut spots } = walk;
+    match spots.pop_front() {
+        None => Ok(Turned::Ends(Verdict::Found(leaves))),
+        Some(spot) => turn_at(terms, cond, budget, leaves, spots, spot),
     }
-    let next = what_follows(terms, cond, spot)?;
-    behind(terms, leaves, budget, spots, next)
 }
 
 // The walk, which makes terms.
