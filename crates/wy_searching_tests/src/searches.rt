@@ -1,9 +1,14 @@
 //! Searches of conditions that are given as texts.
+ghost use Rattle.std.specs.Prelude.{◌≡◌, ◌<◌, ◌≤◌, [], All, length, IfOk, IfSome, OnOk};
+ghost use Rattle.wy_facts.specs.Seen.{AreBelow};
+ghost use Rattle.wy_judging.specs.Seen.{AreOver};
+ghost use Rattle.wy_searching.specs.Seen.{NamesItsTerms};
+
 use std::alloc::Global;
 use wy_searching::{OpenLeaf, Verdict, Why, search};
 use wy_show::show_formula;
 use wy_spell::read_formula;
-use wy_term::{Cond, CondKind, NoMemory, Node, Terms, Unfold};
+use wy_term::{Cond, CondKind, NoMemory, Terms, Unfold};
 
 /// A condition, a budget, and how its search ends: `found N`, `spent`, or `open N WHY` and the literals, a line each.
 pub struct Row {
@@ -13,20 +18,38 @@ pub struct Row {
     pub want: &'static str,
 }
 
-fn formula(terms: &mut Terms, text: &str) -> Result<u32, NoMemory> {
+// The formula of a text. A text that spells none is answered as want of memory, which fails the test.
+fn formula(terms: &mut Terms, text: &str) -> Result<u32, NoMemory>
+    ensures within { IfOk result (λ f. f < length terms.new) }
+    ensures grows { length terms.old ≤ length terms.new }
+{
     match read_formula(terms, text.as_bytes())? {
         Some(f) => Ok(f),
         None => Err(NoMemory),
     }
 }
 
-fn condition(terms: &mut Terms, row: &Row) -> Result<Cond, NoMemory> {
-    let alloc = terms.allocator();
-    let mut hyps = Vec::new(alloc);
-    for text in row.hyps {
-        hyps.push(formula(terms, text)?)?;
+// The formulas of these texts.
+fn formulas(terms: &mut Terms, texts: &[&str]) -> Result<Vec<u32>, NoMemory>
+    ensures within { IfOk result (λ fs. AreBelow (length terms.new) fs.items) }
+    ensures grows { length terms.old ≤ length terms.new }
+{
+    let mut list = Vec::new(terms.allocator());
+    for text in texts {
+        let f = formula(terms, text)?;
+        list.push(f)?;
     }
+    Ok(list)
+}
+
+fn condition(terms: &mut Terms, row: &Row) -> Result<Cond, NoMemory>
+    ensures hyps { IfOk result (λ c. All (λ h. h < length terms.new) c.hyps.items) }
+    ensures goal { IfOk result (λ c. c.goal < length terms.new) }
+    ensures types { IfOk result (λ c. c.unfold.list.items ≡ []) }
+{
+    let alloc = terms.allocator();
     let goal = formula(terms, row.goal)?;
+    let hyps = formulas(terms, row.hyps)?;
     Ok(Cond {
         kind: CondKind::Assert,
         at: 0,
@@ -46,12 +69,9 @@ fn word(why: Why) -> &'static str {
     }
 }
 
-fn push_literal(
-    text: &mut Vec<u8>,
-    terms: &mut Terms,
-    atom: u32,
-    holds: bool,
-) -> Result<(), NoMemory> {
+fn push_literal(text: &mut Vec<u8>, terms: &Terms, atom: u32, holds: bool) -> Result<(), NoMemory>
+    requires { atom < length terms.now }
+{
     text.push(10)?;
     if !holds {
         text.extend_from_slice("not ".as_bytes())?;
@@ -61,44 +81,48 @@ fn push_literal(
     Ok(())
 }
 
-fn push_number(text: &mut Vec<u8>, terms: &mut Terms, n: u64) -> Result<(), NoMemory> {
-    let number = terms.intern(Node::Number(n as i128))?;
-    let shown = wy_show::show_term(terms, number)?;
-    text.extend_from_slice(&shown)?;
+fn push_number(alloc: Global, text: &mut Vec<u8>, n: u64) -> Result<(), NoMemory> {
+    let shown = format!(in alloc; "{n}")?;
+    text.extend_from_slice(shown.as_bytes())?;
     Ok(())
 }
 
-fn push_open(text: &mut Vec<u8>, open: OpenLeaf) -> Result<(), NoMemory> {
-    let OpenLeaf {
-        leaf,
-        why,
-        mut terms,
-        literals,
-    } = open;
-    push_number(text, &mut terms, leaf)?;
+fn push_open(alloc: Global, text: &mut Vec<u8>, open: &OpenLeaf) -> Result<(), NoMemory>
+    requires { AreOver (length open.now.terms) open.now.literals.items }
+{
+    push_number(alloc, text, open.leaf)?;
     text.push(32)?;
-    text.extend_from_slice(word(why).as_bytes())?;
-    for (atom, holds) in &literals {
-        push_literal(text, &mut terms, *atom, *holds)?;
+    text.extend_from_slice(word(open.why).as_bytes())?;
+    for i in 0..open.literals.len() {
+        let (atom, holds) = open.literals[i];
+        push_literal(text, &open.terms, atom, holds)?;
     }
     Ok(())
+}
+
+// How a verdict is written.
+fn written(alloc: Global, verdict: &Verdict) -> Result<Vec<u8>, NoMemory>
+    requires { NamesItsTerms verdict.now }
+{
+    let mut text = Vec::new(alloc);
+    match verdict {
+        Verdict::Found(leaves) => {
+            text.extend_from_slice("found ".as_bytes())?;
+            push_number(alloc, &mut text, *leaves)?;
+        }
+        Verdict::Open(open) => {
+            text.extend_from_slice("open ".as_bytes())?;
+            push_open(alloc, &mut text, open)?;
+        }
+        Verdict::Spent => text.extend_from_slice("spent".as_bytes())?,
+    }
+    Ok(text)
 }
 
 /// How the search of a row's condition ends.
 pub fn ended(alloc: Global, row: &Row) -> Result<Vec<u8>, NoMemory> {
     let mut terms = Terms::new(alloc);
     let cond = condition(&mut terms, row)?;
-    let mut text = Vec::new(alloc);
-    match search(&mut terms, &cond, row.budget)? {
-        Verdict::Found(leaves) => {
-            text.extend_from_slice("found ".as_bytes())?;
-            push_number(&mut text, &mut terms, leaves)?;
-        }
-        Verdict::Open(open) => {
-            text.extend_from_slice("open ".as_bytes())?;
-            push_open(&mut text, open)?;
-        }
-        Verdict::Spent => text.extend_from_slice("spent".as_bytes())?,
-    }
-    Ok(text)
+    let verdict = search(&mut terms, &cond, row.budget)?;
+    written(alloc, &verdict)
 }
