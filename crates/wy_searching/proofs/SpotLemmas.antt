@@ -11,12 +11,12 @@ use Rattle.wy_judge.specs.Node.{Literal, Node}
 use Rattle.wy_judging.specs.declared.branch.Branch.{Branch}
 use Rattle.wy_judging.specs.Seen.{seen_branch, seen_literal, seen_formula, AreBelow, AreBare, AreOver, IsBranch}
 use Rattle.wy_sums.proofs.BranchLemmas.{branch_stays, node_stays}
-use Rattle.wy_search.specs.Expansion as search
+use Rattle.wy_search.specs.Expansion as expansion
 use Rattle.wy_instances.specs.declared.spot.Spot.{Spot}
 use Rattle.wy_instances.specs.Seen.{seen_spot, IsSpot}
 use Rattle.wy_searching.specs.Turns.{AreSpots}
 
-abbrev pub made_spot : Node → List Literal → List Term → ℕ → search.Spot
+abbrev pub made_spot : Node → List Literal → List Term → ℕ → expansion.Spot
 made_spot node had names rounds = record { node = node; had = had; names = names; rounds = rounds }
 
 pub spot_stays : (old new : List Plain) (p : Spot) → Stays old new → IsSpot old p → IsSpot new p
@@ -38,8 +38,8 @@ seen_stays old new p stays is =
 pub spots_stay : (old new : List Plain) (ps : List Spot) → Stays old new → AreSpots old ps → map (seen_spot (tree_at new)) ps ≡ map (seen_spot (tree_at old)) ps
 spots_stay old new [] stays are = refl
 spots_stay old new (p ∷ ps) stays are =
-    ap (λ (x : search.Spot). x ∷ map (seen_spot (tree_at new)) ps) (seen_stays old new p stays are.0)
-    ∙ ap (λ (xs : List search.Spot). seen_spot (tree_at old) p ∷ xs) (spots_stay old new ps stays are.1)
+    ap (λ (x : expansion.Spot). x ∷ map (seen_spot (tree_at new)) ps) (seen_stays old new p stays are.0)
+    ∙ ap (λ (xs : List expansion.Spot). seen_spot (tree_at old) p ∷ xs) (spots_stay old new ps stays are.1)
 
 pub are_spots_stay : (old new : List Plain) (ps : List Spot) → Stays old new → AreSpots old ps → AreSpots new ps
 are_spots_stay old new [] stays are = tt

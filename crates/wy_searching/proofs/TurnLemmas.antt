@@ -14,7 +14,7 @@ use Rattle.wy_bounds.specs.Seen.{seen_ending}
 use Rattle.wy_search.specs.Bounds.{Ending, ending, ending_by, replaced_forms}
 use Rattle.wy_search.specs.Classes.{classes, classes_clash, clashes}
 use Rattle.wy_search.specs.Standing.{present}
-use Rattle.wy_search.specs.Expansion as search
+use Rattle.wy_search.specs.Expansion as expansion
 use Rattle.wy_search.specs.Tree as tree
 use Rattle.wy_instances.specs.declared.spot.Spot.{Spot}
 use Rattle.wy_instances.specs.Seen.{seen_spot, IsSpot}
@@ -23,16 +23,16 @@ use Rattle.wy_searching.specs.Turns.{Follows, IsEnding, split_on, unshut, with_s
 
 -- ---- shut, or classes that clash
 
-pub next_shut : (types : List Entry) (p : search.Spot) → is_shut p.node ≡ true → tree.next types p ≡ tree.closed
+pub next_shut : (types : List Entry) (p : expansion.Spot) → is_shut p.node ≡ true → tree.next types p ≡ tree.closed
 next_shut types p e = ap (λ (b : Bool). cond (b || clashes p.node) tree.closed (tree.by_ending types p (ending p.node))) e
 
-pub next_unshut : (types : List Entry) (p : search.Spot) → is_shut p.node ≡ false → tree.next types p ≡ unshut types p
+pub next_unshut : (types : List Entry) (p : expansion.Spot) → is_shut p.node ≡ false → tree.next types p ≡ unshut types p
 next_unshut types p e = ap (λ (b : Bool). cond (b || clashes p.node) tree.closed (tree.by_ending types p (ending p.node))) e
 
-pub unshut_clash : (types : List Entry) (p : search.Spot) → clashes p.node ≡ true → unshut types p ≡ tree.closed
+pub unshut_clash : (types : List Entry) (p : expansion.Spot) → clashes p.node ≡ true → unshut types p ≡ tree.closed
 unshut_clash types p e = ap (λ (b : Bool). cond b tree.closed (tree.by_ending types p (ending p.node))) e
 
-pub unshut_else : (types : List Entry) (p : search.Spot) (e : Ending) → clashes p.node ≡ false → e ≡ ending p.node → tree.by_ending types p e ≡ unshut types p
+pub unshut_else : (types : List Entry) (p : expansion.Spot) (e : Ending) → clashes p.node ≡ false → e ≡ ending p.node → tree.by_ending types p e ≡ unshut types p
 unshut_else types p e un is = ap (tree.by_ending types p) is ∙ sym (ap (λ (b : Bool). cond b tree.closed (tree.by_ending types p (ending p.node))) un)
 
 pub clashes_so : (node : Node) (ts : List Term) (ls : List ℕ) (yes : Bool) → ts ≡ present node → ls ≡ classes ts node.literals → yes ≡ classes_clash ts ls node.literals → yes ≡ clashes node
@@ -45,48 +45,48 @@ ends_so node ts ls e there labels is =
 
 -- ---- the same of a node that stands for the same
 
-pub follows_so : {E : Type 0} (at : ℕ → Term) (p q : search.Spot) (n m : tree.Next) (r : Result Next E) → p ≡ q → n ≡ m → IfOk r (Follows at p n) → IfOk r (Follows at q m)
-follows_so at p q n m r same is h = subst (λ (x : tree.Next). IfOk r (Follows at q x)) is (subst (λ (x : search.Spot). IfOk r (Follows at x n)) same h)
+pub follows_so : {E : Type 0} (at : ℕ → Term) (p q : expansion.Spot) (n m : tree.Next) (r : Result Next E) → p ≡ q → n ≡ m → IfOk r (Follows at p n) → IfOk r (Follows at q m)
+follows_so at p q n m r same is h = subst (λ (x : tree.Next). IfOk r (Follows at q x)) is (subst (λ (x : expansion.Spot). IfOk r (Follows at x n)) same h)
 
-pub moved_ending : {E : Type 0} (at : ℕ → Term) (es fs : List Entry) (p q : search.Spot) (e : Ending) (r : Result Next E) → fs ≡ es → q ≡ p → clashes p.node ≡ false → e ≡ ending p.node → IfOk r (Follows at q (tree.by_ending fs q e)) → IfOk r (Follows at p (unshut es p))
+pub moved_ending : {E : Type 0} (at : ℕ → Term) (es fs : List Entry) (p q : expansion.Spot) (e : Ending) (r : Result Next E) → fs ≡ es → q ≡ p → clashes p.node ≡ false → e ≡ ending p.node → IfOk r (Follows at q (tree.by_ending fs q e)) → IfOk r (Follows at p (unshut es p))
 moved_ending at es fs p q e r types same un is h =
     follows_so at q p (tree.by_ending fs q e) (unshut es p) r same
-    (ap (λ (ts : List Entry). tree.by_ending ts q e) types ∙ (ap (λ (x : search.Spot). tree.by_ending es x e) same ∙ unshut_else es p e un is)) h
+    (ap (λ (ts : List Entry). tree.by_ending ts q e) types ∙ (ap (λ (x : expansion.Spot). tree.by_ending es x e) same ∙ unshut_else es p e un is)) h
 
 -- ---- a split, or a round of expansion
 
-pub atom_there : {E : Type 0} (at : ℕ → Term) (types : List Entry) (p q : search.Spot) (e : Ending) (a : Term) (o : Option Term) (r : Result Next E) → q ≡ p → Some a ≡ o → IfOk r (Follows at q (split_on q a)) → IfOk r (Follows at p (tree.on_atom types p e o))
+pub atom_there : {E : Type 0} (at : ℕ → Term) (types : List Entry) (p q : expansion.Spot) (e : Ending) (a : Term) (o : Option Term) (r : Result Next E) → q ≡ p → Some a ≡ o → IfOk r (Follows at q (split_on q a)) → IfOk r (Follows at p (tree.on_atom types p e o))
 atom_there at types p q e a o r same is h =
     follows_so at q p (split_on q a) (tree.on_atom types p e o) r same
-    (ap (λ (x : search.Spot). tree.on_atom types x e (Some a)) same ∙ ap (tree.on_atom types p e) is) h
+    (ap (λ (x : expansion.Spot). tree.on_atom types x e (Some a)) same ∙ ap (tree.on_atom types p e) is) h
 
-pub atom_lacking : {E : Type 0} (at : ℕ → Term) (types : List Entry) (p q : search.Spot) (e : Ending) (o : Option Term) (r : Result Next E) → q ≡ p → None ≡ o → IfOk r (Follows at q (tree.on_expansion types q e)) → IfOk r (Follows at p (tree.on_atom types p e o))
+pub atom_lacking : {E : Type 0} (at : ℕ → Term) (types : List Entry) (p q : expansion.Spot) (e : Ending) (o : Option Term) (r : Result Next E) → q ≡ p → None ≡ o → IfOk r (Follows at q (tree.on_expansion types q e)) → IfOk r (Follows at p (tree.on_atom types p e o))
 atom_lacking at types p q e o r same is h =
     follows_so at q p (tree.on_expansion types q e) (tree.on_atom types p e o) r same
-    (ap (λ (x : search.Spot). tree.on_expansion types x e) same ∙ ap (tree.on_atom types p e) is) h
+    (ap (λ (x : expansion.Spot). tree.on_expansion types x e) same ∙ ap (tree.on_atom types p e) is) h
 
-pub both_sides : (p left l r : search.Spot) (a : Term) → left ≡ p → l ≡ with_side left a true → r ≡ with_side p a false → split_on p a ≡ tree.splits l r
+pub both_sides : (p left l r : expansion.Spot) (a : Term) → left ≡ p → l ≡ with_side left a true → r ≡ with_side p a false → split_on p a ≡ tree.splits l r
 both_sides p left l r a same isl isr =
-    sym (ap (λ (x : search.Spot). tree.splits x r) (isl ∙ ap (λ (q : search.Spot). with_side q a true) same) ∙ ap (tree.splits (with_side p a true)) isr)
+    sym (ap (λ (x : expansion.Spot). tree.splits x r) (isl ∙ ap (λ (q : expansion.Spot). with_side q a true) same) ∙ ap (tree.splits (with_side p a true)) isr)
 
 -- ---- expansion
 
-pub no_round : (types : List Entry) (p : search.Spot) (e : Ending) → 2 ≤ p.rounds → tree.on_expansion types p e ≡ tree.stays_open (tree.why_open e)
-no_round types p e le = ap (λ (b : Bool). cond b (tree.unless_same p (search.expanded types p) e) (tree.stays_open (tree.why_open e))) (le-ltb p.rounds 2 le)
+pub no_round : (types : List Entry) (p : expansion.Spot) (e : Ending) → 2 ≤ p.rounds → tree.on_expansion types p e ≡ tree.stays_open (tree.why_open e)
+no_round types p e le = ap (λ (b : Bool). cond b (tree.unless_same p (expansion.expanded types p) e) (tree.stays_open (tree.why_open e))) (le-ltb p.rounds 2 le)
 
-a_round : (types : List Entry) (p : search.Spot) (e : Ending) → p.rounds < 2 → tree.on_expansion types p e ≡ tree.unless_same p (search.expanded types p) e
-a_round types p e lt = ap (λ (b : Bool). cond b (tree.unless_same p (search.expanded types p) e) (tree.stays_open (tree.why_open e))) (lt-ltb p.rounds 2 lt)
+a_round : (types : List Entry) (p : expansion.Spot) (e : Ending) → p.rounds < 2 → tree.on_expansion types p e ≡ tree.unless_same p (expansion.expanded types p) e
+a_round types p e lt = ap (λ (b : Bool). cond b (tree.unless_same p (expansion.expanded types p) e) (tree.stays_open (tree.why_open e))) (lt-ltb p.rounds 2 lt)
 
-pub round_adds : (types : List Entry) (p q : search.Spot) (e : Ending) → p.rounds < 2 → q ≡ search.expanded types p → tree.is_more p.node q.node ≡ true → tree.on_expansion types p e ≡ tree.goes_on q
+pub round_adds : (types : List Entry) (p q : expansion.Spot) (e : Ending) → p.rounds < 2 → q ≡ expansion.expanded types p → tree.is_more p.node q.node ≡ true → tree.on_expansion types p e ≡ tree.goes_on q
 round_adds types p q e lt is more =
     a_round types p e lt
-    ∙ (ap (λ (x : search.Spot). tree.unless_same p x e) (sym is)
+    ∙ (ap (λ (x : expansion.Spot). tree.unless_same p x e) (sym is)
     ∙ ap (λ (b : Bool). cond b (tree.goes_on q) (tree.stays_open (tree.why_open e))) more)
 
-pub round_adds_nothing : (types : List Entry) (p q : search.Spot) (e : Ending) → p.rounds < 2 → q ≡ search.expanded types p → tree.is_more p.node q.node ≡ false → tree.on_expansion types p e ≡ tree.stays_open (tree.why_open e)
+pub round_adds_nothing : (types : List Entry) (p q : expansion.Spot) (e : Ending) → p.rounds < 2 → q ≡ expansion.expanded types p → tree.is_more p.node q.node ≡ false → tree.on_expansion types p e ≡ tree.stays_open (tree.why_open e)
 round_adds_nothing types p q e lt is more =
     a_round types p e lt
-    ∙ (ap (λ (x : search.Spot). tree.unless_same p x e) (sym is)
+    ∙ (ap (λ (x : expansion.Spot). tree.unless_same p x e) (sym is)
     ∙ ap (λ (b : Bool). cond b (tree.goes_on q) (tree.stays_open (tree.why_open e))) more)
 
 abbrev longer_by : ℕ → ℕ → ℕ → ℕ → Bool

@@ -8,7 +8,7 @@ use Rattle.wy_term.specs.Condition.{Entry, Condition}
 use Rattle.wy_term.specs.Nodes.{Plain, tree_at}
 use Rattle.wy_judge.specs.Node.{Literal, Node}
 use Rattle.wy_judging.specs.Seen.{seen_branch, seen_literal, AreOver}
-use Rattle.wy_search.specs.Expansion as search
+use Rattle.wy_search.specs.Expansion as expansion
 use Rattle.wy_search.specs.Tree as tree
 use Rattle.wy_instances.specs.declared.spot.Spot.{Spot}
 use Rattle.wy_instances.specs.Seen.{seen_spot}
@@ -24,17 +24,17 @@ use Rattle.wy_searching.specs.declared.walk.Turned.TheVariants as turned
 use Rattle.wy_searching.specs.Turns.{Follows, Leads, Reaches}
 
 abbrev Go : Type 0
-Go = ℕ → List search.Spot → Option tree.Verdict
+Go = ℕ → List expansion.Spot → Option tree.Verdict
 
 -- ---- behind a node
 
-pub closed_leads : (at : ℕ → Term) (x : Next) (p : search.Spot) (n : tree.Next) (k m : ℕ) (ps : List search.Spot) → x ≡ next.Closed → m ≡ k + 1 → Follows at p n x → (go : Go) → tree.follows n k p ps go ≡ go m ps
+pub closed_leads : (at : ℕ → Term) (x : Next) (p : expansion.Spot) (n : tree.Next) (k m : ℕ) (ps : List expansion.Spot) → x ≡ next.Closed → m ≡ k + 1 → Follows at p n x → (go : Go) → tree.follows n k p ps go ≡ go m ps
 closed_leads at x p n k m ps is count h = λ go.
     let e : suc k ≡ m = omega (arith, count) in
     let closed : n ≡ tree.closed = subst (Follows at p n) is h in
     ap (λ (y : tree.Next). tree.follows y k p ps go) closed ∙ ap (λ (j : ℕ). go j ps) e
 
-pub open_leads : (at : ℕ → Term) (x : Next) (p : search.Spot) (n : tree.Next) (k : ℕ) (ps : List search.Spot) (q : Spot) (why : Why) (o : OpenLeaf) → x ≡ next.Open q why → o.leaf ≡ k + 1 → o.why ≡ why → map (seen_literal (tree_at o.terms)) o.literals.items ≡ (seen_branch at q.branch).literals → Follows at p n x → (go : Go) → tree.follows n k p ps go ≡ Some (seen_verdict (verdict.Open o))
+pub open_leads : (at : ℕ → Term) (x : Next) (p : expansion.Spot) (n : tree.Next) (k : ℕ) (ps : List expansion.Spot) (q : Spot) (why : Why) (o : OpenLeaf) → x ≡ next.Open q why → o.leaf ≡ k + 1 → o.why ≡ why → map (seen_literal (tree_at o.terms)) o.literals.items ≡ (seen_branch at q.branch).literals → Follows at p n x → (go : Go) → tree.follows n k p ps go ≡ Some (seen_verdict (verdict.Open o))
 open_leads at x p n k ps q why o is leaf so literals h = λ go.
     let f : (n ≡ tree.stays_open (seen_why why)) × (seen_branch at q.branch ≡ p.node) = subst (Follows at p n) is h in
     let e : suc k ≡ o.leaf = omega (arith, leaf) in
@@ -44,13 +44,13 @@ open_leads at x p n k ps q why o is leaf so literals h = λ go.
     ∙ (ap (λ (w : Why). Some (tree.open_leaf o.leaf (seen_why w) p.node.literals)) (sym so)
     ∙ ap (λ (ls : List Literal). Some (tree.open_leaf o.leaf (seen_why o.why) ls)) same))
 
-pub splits_leads : (at : ℕ → Term) (x : Next) (p : search.Spot) (n : tree.Next) (k : ℕ) (l r : Spot) (old one two : List Spot) → x ≡ next.Splits l r → one ≡ r ∷ old → two ≡ l ∷ one → Follows at p n x → (go : Go) → tree.follows n k p (map (seen_spot at) old) go ≡ go k (map (seen_spot at) two)
+pub splits_leads : (at : ℕ → Term) (x : Next) (p : expansion.Spot) (n : tree.Next) (k : ℕ) (l r : Spot) (old one two : List Spot) → x ≡ next.Splits l r → one ≡ r ∷ old → two ≡ l ∷ one → Follows at p n x → (go : Go) → tree.follows n k p (map (seen_spot at) old) go ≡ go k (map (seen_spot at) two)
 splits_leads at x p n k l r old one two is first second h = λ go.
     let splits : n ≡ tree.splits (seen_spot at l) (seen_spot at r) = subst (Follows at p n) is h in
     let all : l ∷ r ∷ old ≡ two = sym (second ∙ ap (λ (ys : List Spot). l ∷ ys) first) in
     ap (λ (y : tree.Next). tree.follows y k p (map (seen_spot at) old) go) splits ∙ ap (λ (ys : List Spot). go k (map (seen_spot at) ys)) all
 
-pub goes_on_leads : (at : ℕ → Term) (x : Next) (p : search.Spot) (n : tree.Next) (k : ℕ) (q : Spot) (old new : List Spot) → x ≡ next.GoesOn q → new ≡ q ∷ old → Follows at p n x → (go : Go) → tree.follows n k p (map (seen_spot at) old) go ≡ go k (map (seen_spot at) new)
+pub goes_on_leads : (at : ℕ → Term) (x : Next) (p : expansion.Spot) (n : tree.Next) (k : ℕ) (q : Spot) (old new : List Spot) → x ≡ next.GoesOn q → new ≡ q ∷ old → Follows at p n x → (go : Go) → tree.follows n k p (map (seen_spot at) old) go ≡ go k (map (seen_spot at) new)
 goes_on_leads at x p n k q old new is first h = λ go.
     let on : n ≡ tree.goes_on (seen_spot at q) = subst (Follows at p n) is h in
     ap (λ (y : tree.Next). tree.follows y k p (map (seen_spot at) old) go) on ∙ ap (λ (ys : List Spot). go k (map (seen_spot at) ys)) (sym first)
@@ -60,27 +60,27 @@ goes_on_leads at x p n k q old new is first h = λ go.
 pub turn_found : (types : List Entry) (budget n : ℕ) (at : ℕ → Term) (ps : List Spot) → ps ≡ [] → (go : Go) → tree.one_turn types budget n (map (seen_spot at) ps) go ≡ Some (tree.found n)
 turn_found types budget n at ps is = λ go. ap (λ (qs : List Spot). tree.one_turn types budget n (map (seen_spot at) qs) go) is
 
-pub turn_spent : (types : List Entry) (budget n : ℕ) (p : search.Spot) (rest : List search.Spot) → n ≡ budget → (go : Go) → tree.one_turn types budget n (p ∷ rest) go ≡ Some tree.spent
+pub turn_spent : (types : List Entry) (budget n : ℕ) (p : expansion.Spot) (rest : List expansion.Spot) → n ≡ budget → (go : Go) → tree.one_turn types budget n (p ∷ rest) go ≡ Some tree.spent
 turn_spent types budget n p rest all = λ go. ap (λ (b : Bool). cond b (Some tree.spent) (tree.follows (tree.next types p) n p rest go)) (eq-eqb n budget all)
 
-pub turn_follows : (types : List Entry) (budget n : ℕ) (p : search.Spot) (rest now : List search.Spot) → (n ≡ budget → ⊥) → now ≡ rest → (go : Go) → tree.one_turn types budget n (p ∷ rest) go ≡ tree.follows (tree.next types p) n p now go
+pub turn_follows : (types : List Entry) (budget n : ℕ) (p : expansion.Spot) (rest now : List expansion.Spot) → (n ≡ budget → ⊥) → now ≡ rest → (go : Go) → tree.one_turn types budget n (p ∷ rest) go ≡ tree.follows (tree.next types p) n p now go
 turn_follows types budget n p rest now apart same = λ go.
     ap (λ (b : Bool). cond b (Some tree.spent) (tree.follows (tree.next types p) n p rest go)) (ne_eqb n budget apart)
-    ∙ ap (λ (qs : List search.Spot). tree.follows (tree.next types p) n p qs go) (sym same)
+    ∙ ap (λ (qs : List expansion.Spot). tree.follows (tree.next types p) n p qs go) (sym same)
 
 -- ---- the whole walk
 
-pub reach_first : (c : Condition) (budget n : ℕ) (ps : List search.Spot) → n ≡ 0 → ps ≡ tree.first_spot c ∷ [] → Reaches c budget n ps
+pub reach_first : (c : Condition) (budget n : ℕ) (ps : List expansion.Spot) → n ≡ 0 → ps ≡ tree.first_spot c ∷ [] → Reaches c budget n ps
 reach_first c budget n ps none is = record {
   verdict = λ turns v h. (turns, sym (ap (λ (k : ℕ). tree.searched c.types budget turns k ps) none ∙ ap (tree.searched c.types budget turns 0) is) ∙ h);
 }
 
-pub reach_on : (c : Condition) (budget n m : ℕ) (ps qs : List search.Spot) → ((go : Go) → tree.one_turn c.types budget n ps go ≡ go m qs) → Reaches c budget n ps → Reaches c budget m qs
+pub reach_on : (c : Condition) (budget n m : ℕ) (ps qs : List expansion.Spot) → ((go : Go) → tree.one_turn c.types budget n ps go ≡ go m qs) → Reaches c budget n ps → Reaches c budget m qs
 reach_on c budget n m ps qs so was = record {
   verdict = λ turns v h. was.verdict (suc turns) v (so (λ k rs. tree.searched c.types budget turns k rs) ∙ h);
 }
 
-pub reach_end : (c : Condition) (budget n : ℕ) (ps : List search.Spot) (v : tree.Verdict) → ((go : Go) → tree.one_turn c.types budget n ps go ≡ Some v) → Reaches c budget n ps → tree.IsVerdict c budget v
+pub reach_end : (c : Condition) (budget n : ℕ) (ps : List expansion.Spot) (v : tree.Verdict) → ((go : Go) → tree.one_turn c.types budget n ps go ≡ Some v) → Reaches c budget n ps → tree.IsVerdict c budget v
 reach_end c budget n ps v so was = was.verdict (suc zero) v (so (λ k rs. tree.searched c.types budget zero k rs))
 
 -- ---- literals, one after the other

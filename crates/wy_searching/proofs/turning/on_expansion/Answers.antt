@@ -4,7 +4,7 @@ use Rattle.wy_term.specs.Condition.{condition_of}
 use Rattle.wy_judging.specs.Seen.{seen_branch}
 use Rattle.wy_bounds.specs.Seen.{seen_ending}
 use Rattle.wy_sums.proofs.BranchLemmas.{node_stays}
-use Rattle.wy_search.specs.Expansion as search
+use Rattle.wy_search.specs.Expansion as expansion
 use Rattle.wy_search.specs.Tree as tree
 use Rattle.wy_instances.specs.Seen.{seen_spot}
 use Rattle.wy_searching.proofs.SpotLemmas.{spot_stays}
@@ -24,7 +24,7 @@ returns-then-is_more-clause-value c =
     let lt : c.args.spot.rounds < 2 = omega arith in
     let up : c.is_more.result ≡ true = search rules in
     let q = seen_spot now c.in_ok-more.more in
-    let more : tree.is_more (seen_spot at c.args.spot).node q.node ≡ true = ap (λ (x : search.Spot). tree.is_more x.node q.node) (sym (c.in_ok-before.ensures.seen at)) ∙ (sym (c.is_more.ensures now at) ∙ up) in
+    let more : tree.is_more (seen_spot at c.args.spot).node q.node ≡ true = ap (λ (x : expansion.Spot). tree.is_more x.node q.node) (sym (c.in_ok-before.ensures.seen at)) ∙ (sym (c.is_more.ensures now at) ∙ up) in
     round_adds (condition_of c.args.terms.now c.args.cond.now).types (seen_spot at c.args.spot) q (seen_ending c.args.ending) lt c.in_ok-more.ensures.value more
 
 pub returns-clause-value : goal.returns-clause-value
@@ -36,10 +36,10 @@ returns-clause-value c =
     let un : c.is_more.result ≡ false = search rules in
     let q = seen_spot (tree_at new) c.in_ok-more.more in
     let same = c.in_ok-before.ensures.seen at in
-    let more : tree.is_more (seen_spot at c.args.spot).node q.node ≡ false = ap (λ (x : search.Spot). tree.is_more x.node q.node) (sym same) ∙ (sym (c.is_more.ensures (tree_at new) at) ∙ un) in
+    let more : tree.is_more (seen_spot at c.args.spot).node q.node ≡ false = ap (λ (x : expansion.Spot). tree.is_more x.node q.node) (sym same) ∙ (sym (c.is_more.ensures (tree_at new) at) ∙ un) in
     let is = c.in_ok-before.ensures.spot old c.requires.spot in (
       round_adds_nothing (condition_of old c.args.cond.now).types (seen_spot at c.args.spot) q (seen_ending c.args.ending) lt c.in_ok-more.ensures.value more ∙ ap tree.stays_open (sym c.why_open-else-is_more.ensures),
-      node_stays old new c.in_ok-before.before.branch c.in_ok-more.ensures.stays is.branch ∙ ap (λ (x : search.Spot). x.node) same,
+      node_stays old new c.in_ok-before.before.branch c.in_ok-more.ensures.stays is.branch ∙ ap (λ (x : expansion.Spot). x.node) same,
     )
 
 pub returns-clause-next : goal.returns-clause-next
