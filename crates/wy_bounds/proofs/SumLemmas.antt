@@ -7,7 +7,8 @@ use Rattle.wy_judging.proofs.NameLemmas.{and_false, and_true}
 use Rattle.wy_lin.specs.Linear.{Linear}
 use Rattle.wy_lin.specs.Combination.{combined}
 use Rattle.wy_lin.specs.Seen.{linear_form}
-use Rattle.wy_search.specs.Bounds.{Replaced, named_from, all_fit, stated_sum, replaced_by, by_sum}
+use Rattle.wy_eliminate.specs.Division.{common}
+use Rattle.wy_search.specs.Bounds.{Replaced, leaves, named_from, all_fit, stated_sum, replaced_by, by_sum, by_common}
 use Rattle.wy_bounds.specs.declared.taking.Taking.{Taking}
 use Rattle.wy_bounds.specs.Seen.{seen_taking, seen_takings, forms_to_add, multipliers_of, sum_with}
 use Rattle.wy_classes.proofs.WalkLemmas.{map_last, drop_end}
@@ -63,7 +64,7 @@ fit_first k lt = ap (λ (b : Bool). b && true) (lt-ltb k (2 ^ 127) lt)
 
 longer : (xs : Multipliers) (x : ℕ × ℕ) → length (xs ++ x ∷ []) ≡ length xs + 1
 longer [] x = refl
-longer (y ∷ xs) x = ap suc (longer xs x)
+longer (y ∷ xs) x = let e : suc (length xs + 1) ≡ suc (length xs) + 1 = omega arith in ap suc (longer xs x) ∙ e
 
 pub one_longer : (old new : Multipliers) (m n i : ℕ) → new ≡ old ++ (m, n) ∷ [] → length old ≡ i + 1 → length new ≡ i + 1 + 1
 one_longer old new m n i is count = ap length is ∙ (longer old (m, n) ∙ (let e : length old + 1 ≡ i + 1 + 1 = omega (arith, count) in e))
@@ -119,6 +120,16 @@ nothing_taken f (t ∷ ts) e = absurd (omega (arith, e))
 pub some_taken : (f : Linear ℕ) (ts : List Taking) → (length ts ≡ 0 → ⊥) → by_sum (sum_with f (seen_takings ts) 2) (sum_with f (seen_takings ts) 1) ≡ replaced_by f (seen_takings ts)
 some_taken f [] apart = absurd (apart refl)
 some_taken f (t ∷ ts) apart = refl
+
+-- by the sum, taken once
+pub replaced_so : (f : Linear ℕ) (ts : List Taking) (us : List (ℕ × Linear ℕ)) (s : Linear ℕ) (o : Option (Linear ℕ)) → (length ts ≡ 0 → ⊥) → seen_takings ts ≡ us → Some s ≡ o → o ≡ sum_with f (seen_takings ts) 1 → by_common (sum_with f (seen_takings ts) 2) s (common s.parts) ≡ replaced_by f us
+replaced_so f ts us s o apart is some sum =
+    ap (by_sum (sum_with f (seen_takings ts) 2)) (some ∙ sum) ∙ (some_taken f ts apart ∙ ap (replaced_by f) is)
+
+-- a sum whose numbers don't fit
+pub leaves_so : (f : Linear ℕ) (ts : List Taking) (us : List (ℕ × Linear ℕ)) (o : Option (Linear ℕ)) → (length ts ≡ 0 → ⊥) → seen_takings ts ≡ us → None ≡ o → o ≡ sum_with f (seen_takings ts) 1 → leaves ≡ replaced_by f us
+leaves_so f ts us o apart is none sum =
+    ap (by_sum (sum_with f (seen_takings ts) 2)) (none ∙ sum) ∙ (some_taken f ts apart ∙ ap (replaced_by f) is)
 
 -- ---- forms, one after the other
 

@@ -1,3 +1,4 @@
+use Rattle.std.proofs.Common.{arith}
 use Rattle.wy_bounds.proofs.TakingLemmas.{first_now, first_later, first_never}
 use Rattle.wy_bounds.proofs.taking.first_with.Goals as goal
 
