@@ -150,3 +150,12 @@ present_stays old new p stays is = record { below = below_kept old new p.numbers
 
 pub terms_stay : (old new : List Plain) (p : Present) → Stays old new → IsPresent old p → terms_of (tree_at new) p ≡ terms_of (tree_at old) p
 terms_stay old new p stays is = terms_kept old new p.numbers.items stays is.below
+
+-- ---- the whole list
+
+pub gathers_next : (ts us : List Term) (labels : List ℕ) (ls ks : List Literal) (i : ℕ) (old new : Gathered) → us ≡ ts → ks ≡ ls → ((rs : List Replaced) → Gathers old rs → TakesLiteral us labels ks i rs new) → Gathers old (replaced_forms ts labels (take i ls)) → Gathers new (replaced_forms ts labels (take (i + 1) ls))
+gathers_next ts us labels ls ks i old new terms literals took was =
+    let before : replaced_forms ts labels (take i ls) ≡ replaced_forms us labels (take i ks) =
+    sym (ap (λ (xs : List Term). replaced_forms xs labels (take i ks)) terms ∙ ap (λ (xs : List Literal). replaced_forms ts labels (take i xs)) literals) in
+    subst (λ (xs : List Term). Gathers new (replaced_forms xs labels (take (i + 1) ls))) terms
+    (subst (λ (xs : List Literal). Gathers new (replaced_forms us labels (take (i + 1) xs))) literals (took (replaced_forms ts labels (take i ls)) was before))

@@ -9,15 +9,15 @@ use Rattle.wy_searching.proofs.RoundLemmas.{with_stated}
 use Rattle.wy_searching.proofs.expanding.add_facts.Goals as goal
 
 pub add_all-requires-clause-formulas : goal.add_all-requires-clause-formulas
-add_all-requires-clause-formulas c = subst (AreBelow (length c.facts_of-facts.new.terms)) (sym c.deref.ensures.value) c.in_ok-facts.ensures.below
+add_all-requires-clause-formulas c = subst (AreBelow (length c.facts_of.new.terms)) (sym c.deref.ensures.value) c.in_ok-facts.ensures.below
 
 pub add_all-requires-clause-branch : goal.add_all-requires-clause-branch
-add_all-requires-clause-branch c = branch_stays c.args.terms.now c.facts_of-facts.new.terms c.args.branch.now c.in_ok-facts.ensures.stays c.requires.branch
+add_all-requires-clause-branch c = branch_stays c.args.terms.now c.facts_of.new.terms c.args.branch.now c.in_ok-facts.ensures.stays c.requires.branch
 
 pub returns-clause-value : goal.returns-clause-value
 returns-clause-value c =
     let old = c.args.terms.now in
-    let new = c.facts_of-facts.new.terms in
+    let new = c.facts_of.new.terms in
     let fs = map (tree_at new) c.in_ok-facts.facts.items in
     IfOk-weaker c.add_all.result _ _ (λ u is.
     with_stated (seen_branch (tree_at old) c.args.branch.now) (seen_branch (tree_at new) c.args.branch.now) _ (seen_branch (tree_at new) c.add_all.new.branch) fs

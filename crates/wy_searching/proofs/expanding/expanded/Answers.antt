@@ -14,15 +14,15 @@ use Rattle.wy_searching.proofs.SpotLemmas.{types_stay, types_up}
 use Rattle.wy_searching.proofs.expanding.expanded.Goals as goal
 
 pub grow-requires-clause-types : goal.grow-requires-clause-types
-grow-requires-clause-types c = types_up c.args.terms.now c.with_witnesses-found.new.terms c.args.cond.now c.in_ok-found.ensures.stays c.requires.types
+grow-requires-clause-types c = types_up c.args.terms.now c.with_witnesses.new.terms c.args.cond.now c.in_ok-found.ensures.stays c.requires.types
 
 pub grow-requires-clause-names : goal.grow-requires-clause-names
-grow-requires-clause-names c = subst (AreBelow (length c.with_witnesses-found.new.terms)) (sym c.deref.ensures.value) c.in_ok-found.ensures.spot.names
+grow-requires-clause-names c = subst (AreBelow (length c.with_witnesses.new.terms)) (sym c.deref.ensures.value) c.in_ok-found.ensures.spot.names
 
 pub returns-clause-value : goal.returns-clause-value
 returns-clause-value c =
     let old = c.args.terms.now in
-    let first = c.with_witnesses-found.new.terms in
+    let first = c.with_witnesses.new.terms in
     let new = c.grow.new.terms in
     let found = c.in_ok-found.found in
     let es = (condition_of old c.args.cond.now).types in
@@ -39,7 +39,7 @@ returns-clause-value c =
 
 pub returns-clause-spot : goal.returns-clause-spot
 returns-clause-spot c =
-    let first = c.with_witnesses-found.new.terms in
+    let first = c.with_witnesses.new.terms in
     let new = c.grow.new.terms in
     let found = c.in_ok-found.found in
     record {
@@ -49,4 +49,4 @@ returns-clause-spot c =
     }
 
 pub returns-clause-stays : goal.returns-clause-stays
-returns-clause-stays c = stays_on c.args.terms.now c.with_witnesses-found.new.terms c.grow.new.terms c.in_ok-found.ensures.stays c.in_ok-grow.ensures.stays
+returns-clause-stays c = stays_on c.args.terms.now c.with_witnesses.new.terms c.grow.new.terms c.in_ok-found.ensures.stays c.in_ok-grow.ensures.stays

@@ -20,7 +20,7 @@ returns-then-spot-rounds-ge2-clause-value c =
 pub returns-then-is_more-clause-value : goal.returns-then-is_more-clause-value
 returns-then-is_more-clause-value c =
     let at = tree_at c.args.terms.now in
-    let now = tree_at c.expanded-more.new.terms in
+    let now = tree_at c.expanded.new.terms in
     let lt : c.args.spot.rounds < 2 = omega arith in
     let up : c.is_more.result ≡ true = search rules in
     let q = seen_spot now c.in_ok-more.more in
@@ -30,7 +30,7 @@ returns-then-is_more-clause-value c =
 pub returns-clause-value : goal.returns-clause-value
 returns-clause-value c =
     let old = c.args.terms.now in
-    let new = c.expanded-more.new.terms in
+    let new = c.expanded.new.terms in
     let at = tree_at old in
     let lt : c.args.spot.rounds < 2 = omega arith in
     let un : c.is_more.result ≡ false = search rules in
@@ -43,4 +43,4 @@ returns-clause-value c =
     )
 
 pub returns-clause-next : goal.returns-clause-next
-returns-clause-next c = spot_stays c.args.terms.now c.expanded-more.new.terms c.in_ok-before.before c.in_ok-more.ensures.stays (c.in_ok-before.ensures.spot c.args.terms.now c.requires.spot)
+returns-clause-next c = spot_stays c.args.terms.now c.expanded.new.terms c.in_ok-before.before c.in_ok-more.ensures.stays (c.in_ok-before.ensures.spot c.args.terms.now c.requires.spot)

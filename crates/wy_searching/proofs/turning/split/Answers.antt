@@ -3,8 +3,8 @@ use Rattle.wy_instances.specs.Seen.{seen_spot}
 use Rattle.wy_searching.proofs.TurnLemmas.{both_sides}
 use Rattle.wy_searching.proofs.turning.split.Goals as goal
 
-pub with_atom-left-requires-clause-spot : goal.with_atom-left-requires-clause-spot
-with_atom-left-requires-clause-spot c = c.in_ok-copy.ensures.spot c.args.terms.now c.requires.spot
+pub with_atom-requires-clause-spot : goal.with_atom-requires-clause-spot
+with_atom-requires-clause-spot c = c.in_ok-copy.ensures.spot c.args.terms.now c.requires.spot
 
 pub returns-clause-value : goal.returns-clause-value
 returns-clause-value c =

@@ -13,12 +13,12 @@ returns-then-leaves-budget-clause-value c =
     turn_spent (condition_of c.args.terms.now c.args.cond.now).types c.args.budget c.args.leaves (seen_spot at c.args.spot) (map (seen_spot at) c.args.spots.items) c.if-leaves-budget.true
 
 pub behind-requires-clause-spots : goal.behind-requires-clause-spots
-behind-requires-clause-spots c = are_spots_stay c.args.terms.now c.what_follows-next.new.terms c.args.spots.items c.in_ok-next.ensures.stays c.requires.spots
+behind-requires-clause-spots c = are_spots_stay c.args.terms.now c.what_follows.new.terms c.args.spots.items c.in_ok-next.ensures.stays c.requires.spots
 
 pub returns-clause-value : goal.returns-clause-value
 returns-clause-value c =
     let old = c.args.terms.now in
-    let now = c.what_follows-next.new.terms in
+    let now = c.what_follows.new.terms in
     let types = (condition_of old c.args.cond.now).types in
     let p = seen_spot (tree_at old) c.args.spot in
     let rest = map (seen_spot (tree_at old)) c.args.spots.items in
