@@ -87,15 +87,15 @@ fn push_number(alloc: Global, text: &mut Vec<u8>, n: u64) -> Result<(), NoMemory
     Ok(())
 }
 
-fn push_open(alloc: Global, text: &mut Vec<u8>, open: &OpenLeaf) -> Result<(), NoMemory>
-    requires { AreOver (length open.now.terms) open.now.literals.items }
+fn push_open(alloc: Global, text: &mut Vec<u8>, found: &OpenLeaf) -> Result<(), NoMemory>
+    requires { AreOver (length found.now.terms) found.now.literals.items }
 {
-    push_number(alloc, text, open.leaf)?;
+    push_number(alloc, text, found.leaf)?;
     text.push(32)?;
-    text.extend_from_slice(word(open.why).as_bytes())?;
-    for i in 0..open.literals.len() {
-        let (atom, holds) = open.literals[i];
-        push_literal(text, &open.terms, atom, holds)?;
+    text.extend_from_slice(word(found.why).as_bytes())?;
+    for i in 0..found.literals.len() {
+        let (atom, holds) = found.literals[i];
+        push_literal(text, &found.terms, atom, holds)?;
     }
     Ok(())
 }
