@@ -1,0 +1,12 @@
+use Rattle.std.proofs.Common.{◌≡◌, ◌-◌, suc, arith, rules}
+use Rattle.wy_term.specs.Nodes.{tree_at}
+use Rattle.wy_classes.specs.Seen.{terms_of}
+use Rattle.wy_classes.proofs.ClosingLemmas.{rounds_end}
+use Rattle.wy_classes.proofs.closing.rounds.Goals as goal
+
+pub returns-then-are_same : goal.returns-then-are_same
+returns-then-are_same c =
+    let left : c.loop-left.left ≡ suc (c.loop-left.left - 1) = omega arith in
+    let copy : c.in_ok-before.before.items ≡ c.loop-left.labels.items = search rules in
+    let same : c.in_ok-before.before.items ≡ c.in_ok-labels.labels.items = search rules in
+    rounds_end c.loop-left.left (c.loop-left.left - 1) (terms_of (tree_at c.args.terms.now) c.args.present.now) c.in_ok-before.before.items c.loop-left.labels.items c.in_ok-labels.labels.items _ left copy c.in_ok-labels.ensures same c.loop-left.invariant

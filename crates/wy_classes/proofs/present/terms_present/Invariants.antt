@@ -1,0 +1,13 @@
+use Rattle.std.proofs.Common.{◌≡◌, ◌++◌, drop, map}
+use Rattle.wy_judging.specs.Seen.{seen_formula}
+use Rattle.wy_search.specs.Standing.{only_terms}
+use Rattle.wy_term.specs.Nodes.{tree_at}
+use Rattle.wy_classes.specs.Seen.{terms_of, IsPresent}
+use Rattle.wy_classes.proofs.present.terms_present.Given as goal
+
+-- what is left comes to what all came to
+abbrev pub invariant-loop-i : goal.invariant-loop-i
+invariant-loop-i l = record {
+  left : terms_of (tree_at l.terms) l.made ++ only_terms (map (seen_formula (tree_at l.terms)) (drop l.i l.found.pending.keys)) ≡ only_terms (map (seen_formula (tree_at l.terms)) l.found.pending.keys);
+  present : IsPresent l.terms l.made;
+}

@@ -1,0 +1,18 @@
+use Rattle.std.proofs.Common.{◌∙◌, ◌||◌, ap, sym, Bool}
+use Rattle.wy_instances.proofs.IndexLemmas.{indexes_by_parts}
+use Rattle.wy_instances.proofs.indices.look.Goals as goal
+use Rattle.wy_instances.specs.Indices.{catches, indexes, open_of}
+use Rattle.wy_splits.proofs.WalkLemmas.{look_told}
+use Rattle.wy_splits.specs.Walk.{any_over}
+use Rattle.wy_term.specs.Nodes.{plain, tree_at}
+
+pub returns-clause-value : goal.returns-clause-value
+returns-clause-value c =
+    let at = tree_at c.args.terms.now in
+    let t = at c.args.t in
+    let n = c.node-node.result.now in
+    let ks = open_of (catches t (plain n).symbol) (plain n).parts in
+    look_told (indexes at t) _ (indexes at t c.args.k) c.deref.result.now ks c.args.todo.now.keys c.put_all.new.todo.keys
+    (indexes_by_parts at t c.args.k n c.node-node.ensures.tree ∙ ap (λ (b : Bool). b || any_over (indexes at t) ks) (sym c.is_index_of.ensures))
+    (c.deref.ensures.value ∙ c.in_ok-parts.ensures)
+    (c.in_ok-put_all.ensures.value (indexes at t))

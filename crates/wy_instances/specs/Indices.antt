@@ -1,0 +1,38 @@
+-- Which terms stand as an index without bound names.
+use Rattle.std.specs.Prelude.{ℕ, List, [], ◌∷◌, Bool, true, false, ◌&&◌, ◌||◌, not, take, if◌then◌else◌}
+use Rattle.wy_term.specs.Term.{Symbol, Term, Of, no_parts, part, get, update, every, exists}
+use Rattle.wy_term.specs.Same.{same_term}
+use Rattle.wy_term.specs.Scope.{free_names}
+use Rattle.wy_judge.specs.Node.{has_formula}
+use Rattle.wy_search.specs.Standing.{Standing, have_common, standing_in}
+use Rattle.wy_splits.specs.Free.{stands_free}
+use Rattle.wy_valid.specs.Ranges.{is_int}
+
+-- the second part of a `get` or an `upd` is this term
+abbrev pub is_index_of : Term → Term → Bool
+is_index_of t (Of get (part v (part i no_parts))) = same_term i t
+is_index_of t (Of update (part v (part i (part w no_parts)))) = same_term i t
+is_index_of t u = false
+
+-- the symbol binds a name that stands free in the term
+abbrev pub catches : Term → Symbol → Bool
+catches t (every word n) = stands_free word n t
+catches t (exists word n) = stands_free word n t
+catches t symbol = false
+
+-- of a quantifier that binds a free name of the term only the bounds count
+abbrev pub open_of : Bool → List ℕ → List ℕ
+open_of caught ks = if caught then take 2 ks else ks
+
+-- the term is an index at one of these places, and none of its names is bound there
+abbrev pub indexes_in : Term → List Standing → Bool
+indexes_in t [] = false
+indexes_in t (s ∷ ss) = (is_index_of t s.what && not (have_common (free_names t) s.around)) || indexes_in t ss
+
+-- so in the term with this number
+abbrev pub indexes : (ℕ → Term) → Term → ℕ → Bool
+indexes at t k = indexes_in t (standing_in (at k))
+
+-- an Int term, which is an index at one of these places or one of these names
+abbrev pub chosen_by : List Standing → List Term → Term → Bool
+chosen_by ss names t = if is_int t then (if has_formula names t then true else indexes_in t ss) else false
