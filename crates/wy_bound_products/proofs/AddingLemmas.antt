@@ -1,9 +1,9 @@
 -- Lists of formulas that are added to a node, and the loops over what stands in it.
 use Rattle.std.proofs.Common.{◌≡◌, ◌∙◌, ◌<◌, ◌≤◌, ◌+◌, ℕ, zero, suc, Bool, List, [], ◌∷◌, ◌++◌, map, drop, length, Option, Some, None, Result, Ok, Err, refl, sym, ap, ap₂, arith}
 use Rattle.std.specs.Prelude.{slice_get, option_map, IfSome, OnOk}
-use Rattle.wy_facts.proofs.StepLemmas.{terms_kept}
+use Rattle.wy_facts.proofs.StepLemmas.{below_kept, terms_kept}
 use Rattle.wy_facts.specs.Seen.{terms_at, AreBelow, Stays}
-use Rattle.wy_judge.specs.Node.{Node, with_formulas}
+use Rattle.wy_judge.specs.Node.{Node, added, with_formulas}
 use Rattle.wy_judging.specs.Seen.{seen_formula, signed, AreOver}
 use Rattle.wy_search.specs.Expansion.{with_some}
 use Rattle.wy_splits.proofs.WalkLemmas.{member_below}
@@ -83,11 +83,11 @@ some_led (Ok x) old new xs ys made o stays low up within is put below = record {
 some_led (Err e) old new xs ys made o stays low up within is put below = tt
 
 pub with_last : (at : ℕ → Term) (start : Node) (xs ys : List ℕ) (f : ℕ) → ys ≡ xs ++ f ∷ [] → with_formulas start (map at ys) ≡ with_some (with_formulas start (map at xs)) (Some (at f))
-with_last at start xs ys f is = ap (λ (ks : List ℕ). with_formulas start (map at ks)) is ∙ go start xs
+with_last at start xs ys f is = ap (λ (ks : List ℕ). with_formulas start (map at ks)) is ∙ go xs start
   where
-    go : (node : Node) (ks : List ℕ) → with_formulas node (map at (ks ++ f ∷ [])) ≡ with_some (with_formulas node (map at ks)) (Some (at f))
-    go node [] = refl
-    go node (k ∷ ks) = go _ ks
+    go : (ks : List ℕ) (node : Node) → with_formulas node (map at (ks ++ f ∷ [])) ≡ with_some (with_formulas node (map at ks)) (Some (at f))
+    go [] node = refl
+    go (k ∷ ks) node = go ks (added node (at k))
 
 -- one after the other
 pub leads_on : (a : List Plain) (xs : List ℕ) (b : List Plain) (ys : List ℕ) (c : List Plain) (zs : List ℕ) (f g : Node → Node) → Leads a xs b ys f → Leads b ys c zs g → Leads a xs c zs (λ (node : Node). g (f node))
@@ -96,3 +96,9 @@ leads_on a xs b ys c zs f g one two = record { value = λ start. two.value start
 pub leads_if : {X E : Type 0} (r : Result X E) (a : List Plain) (xs : List ℕ) (b : List Plain) (ys : List ℕ) (c : List Plain) (zs : List ℕ) (f g : Node → Node) → Leads a xs b ys f → OnOk r (Leads b ys c zs g) → OnOk r (Leads a xs c zs (λ (node : Node). g (f node)))
 leads_if (Ok x) a xs b ys c zs f g one two = leads_on a xs b ys c zs f g one two
 leads_if (Err e) a xs b ys c zs f g one two = tt
+
+pub unmoved_now : (old now : List Plain) (xs : List ℕ) (more : Node → Node) → Stays old now → AreBelow (length old) xs → ((node : Node) → node ≡ more node) → Leads old xs now xs more
+unmoved_now old now xs more stays below so = record {
+  value = λ start. ap (with_formulas start) (terms_kept old now xs stays below) ∙ so (with_formulas start (terms_at old xs));
+  below = below_kept old now xs stays below;
+}

@@ -105,6 +105,20 @@ int_lt_is a b h = grind (arith, ints)
 int_lt_not : (a b : ℤ) → int_lt a b ≡ false → b ≤ℤ a
 int_lt_not a b h = grind (arith, ints)
 
+lt_is : (a b : ℤ) → a <ℤ b → int_lt a b ≡ true
+lt_is a b lt = by (int_lt a b) refl
+  where
+    by : (t : Bool) → int_lt a b ≡ t → t ≡ true
+    by true e = refl
+    by false e = let le = int_lt_not a b e in absurd (omega (arith, ints, lt, le))
+
+not_lt : (a b : ℤ) → b ≤ℤ a → int_lt a b ≡ false
+not_lt a b le = by (int_lt a b) refl
+  where
+    by : (t : Bool) → int_lt a b ≡ t → t ≡ false
+    by true e = let lt = int_lt_is a b e in absurd (omega (arith, ints, lt, le))
+    by false e = refl
+
 lowered : (a b p q s : ℤ) → p ≡ a +ℤ s → q ≡ b +ℤ s → int_lt p q ≡ int_lt a b
 lowered a b p q s e d = by (int_lt p q) (int_lt a b) refl refl
   where
@@ -131,11 +145,11 @@ chosen ls f below b one given y at t x is test so =
     subst (λ (g : Option (products.Affine × ℤ)). AreBounds ls f below (cond t (Some one) (Some b)) g)
     (sym (ap (λ (g : Option (products.Affine × ℤ)). tighter g y at) is ∙ ap (λ (u : Bool). cond u (some_bound (y, at)) (some_bound x)) test)) so
 
-pub new_bound : (ls : List Literal) (f : Linear Term) (below : Bool) (b one : Bound) (given : Option (products.Affine × ℤ)) (y : products.Affine) (at : ℤ) → AreBounds ls f below (Some b) given → AreBounds ls f below (Some one) (Some (y, at)) → int_lt one.at b.at ≡ true → AreBounds ls f below (Some one) (tighter given y at)
-new_bound ls f below b one given y at old new lt = chosen ls f below b one given y at true old.0 old.1 (sym (lowered at old.0.1 one.at b.at (shift below f.constant) (stop_of ls f below one y at new) old.2.at) ∙ lt) new
+pub new_bound : (ls : List Literal) (f : Linear Term) (below : Bool) (b one : Bound) (given : Option (products.Affine × ℤ)) (y : products.Affine) (at : ℤ) → AreBounds ls f below (Some b) given → AreBounds ls f below (Some one) (Some (y, at)) → one.at <ℤ b.at → AreBounds ls f below (Some one) (tighter given y at)
+new_bound ls f below b one given y at old new lt = chosen ls f below b one given y at true old.0 old.1 (sym (lowered at old.0.1 one.at b.at (shift below f.constant) (stop_of ls f below one y at new) old.2.at) ∙ lt_is one.at b.at lt) new
 
-pub old_bound : (ls : List Literal) (f : Linear Term) (below : Bool) (b one : Bound) (given : Option (products.Affine × ℤ)) (y : products.Affine) (at : ℤ) → AreBounds ls f below (Some b) given → AreBounds ls f below (Some one) (Some (y, at)) → int_lt one.at b.at ≡ false → AreBounds ls f below (Some b) (tighter given y at)
-old_bound ls f below b one given y at old new le = chosen ls f below b one given y at false old.0 old.1 (sym (lowered at old.0.1 one.at b.at (shift below f.constant) (stop_of ls f below one y at new) old.2.at) ∙ le) (old.0, refl, old.2)
+pub old_bound : (ls : List Literal) (f : Linear Term) (below : Bool) (b one : Bound) (given : Option (products.Affine × ℤ)) (y : products.Affine) (at : ℤ) → AreBounds ls f below (Some b) given → AreBounds ls f below (Some one) (Some (y, at)) → b.at ≤ℤ one.at → AreBounds ls f below (Some b) (tighter given y at)
+old_bound ls f below b one given y at old new le = chosen ls f below b one given y at false old.0 old.1 (sym (lowered at old.0.1 one.at b.at (shift below f.constant) (stop_of ls f below one y at new) old.2.at) ∙ not_lt one.at b.at le) (old.0, refl, old.2)
 
 -- ---- one literal more
 
@@ -163,10 +177,14 @@ this_bound ls f h below one best given x here is apart stop so =
     let at = quotient_down y.more (unsigned_abs y.factor) in
     subst (λ (o : Option products.Affine). AreBounds ls f below best (with_bound below given o)) (sym is.1)
     (subst (AreBounds ls f below best) (sym (bounded below given y x.factor.negative x.factor.size true is.2.nonzero is.2.factor (other_side x.factor.negative below apart)))
-    (so y at ((y, at), refl, record {
-      bound = found_by ls one.number f h y here is.1;
-      at = bound_stops x.factor.negative x.factor.size f h y one.at below is.2.nonzero apart is.2.factor is.1 stop;
-    })))
+    (so y at (
+      (y, at),
+      refl,
+      record {
+        bound = found_by ls one.number f h y here is.1;
+        at = bound_stops x.factor.negative x.factor.size f h y one.at below is.2.nonzero apart is.2.factor is.1 stop;
+      },
+    )))
 
 pub no_form : (ls : List Literal) (number i : ℕ) (f : Linear Term) (below : Bool) (best : Option Bound) (given : Option (products.Affine × ℤ)) → number ≡ i + 1 → form_at ls number ≡ None → AreBounds ls f below best given → AreBounds ls f below best (with_bound below given (form_at ls (i + 1) >>= λ h. affine f h))
 no_form ls number i f below best given next none is = subst (λ (o : Option (Linear Term)). AreBounds ls f below best (with_bound below given (o >>= λ h. affine f h))) (sym (ap (form_at ls) (sym next) ∙ none)) is
@@ -220,3 +238,7 @@ at_old below i best made given now old g f same form so are =
     subst (λ (e : Linear Term). AreBounds old e below made (with_bound below given (form_at old (i + 1) >>= λ h. affine e h))) form
     (subst (λ (ls : List Literal). AreBounds ls g below made (with_bound below given (form_at ls (i + 1) >>= λ h. affine g h))) same
     (so (subst (λ (ls : List Literal). AreBounds ls g below best given) (sym same) (subst (λ (e : Linear Term). AreBounds old e below best given) (sym form) are))))
+
+pub bounds_at : (now old : List Literal) (g f : Linear Term) (below : Bool) (b : Option Bound) → now ≡ old → g ≡ f → AreBounds now g below b (best_bound below g None now) → AreBounds old f below b (best_bound below f None old)
+bounds_at now old g f below b same form are =
+    subst (λ (e : Linear Term). AreBounds old e below b (best_bound below e None old)) form (subst (λ (ls : List Literal). AreBounds ls g below b (best_bound below g None ls)) same are)

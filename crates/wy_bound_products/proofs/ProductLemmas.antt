@@ -1,6 +1,6 @@
 -- What the product of two bounds states, and what becomes of a product whose factors aren't bounded so.
-use Rattle.std.proofs.Common.{◌≡◌, ◌∙◌, ◌||◌, ℕ, List, Bool, true, false, cond, ℤ, Option, Some, None, refl, sym, ap, ap₂}
-use Rattle.wy_bound_products.specs.Bounds.{AreBounds, AreFactor, IsBound, IsConstant, IsFactor}
+use Rattle.std.proofs.Common.{◌≡◌, ◌∙◌, ◌||◌, ℕ, List, Bool, true, false, cond, ℤ, Option, Some, None, refl, subst, sym, ap, ap₂}
+use Rattle.wy_bound_products.specs.Bounds.{AreBounds, AreTightest, IsBound, IsConstant, Pushes}
 use Rattle.wy_bound_products.specs.declared.bounds.Bound.{Bound}
 use Rattle.wy_bound_products.specs.declared.products.Bounds.{Bounds}
 use Rattle.wy_judge.specs.Node.{Literal, Node}
@@ -69,3 +69,19 @@ pub both_vary : (node : Node) (p s t : Term) (f g : Linear Term) → form_of s �
 both_vary node p s t f g one two first second done =
     sym (ap₂ (λ (a b : Option (Linear Term)). with_forms node p s t a b done) one two
     ∙ ap₂ (λ (a b : Bool). cond (a || b) done (with_four node p s t f g done)) first second)
+
+-- ---- as more terms are there
+
+pub pushes_at : (now old : List Literal) (p q : Term) (x y : Option Bound) (leads : (Node → Node) → Type 0) → now ≡ old → p ≡ q → Pushes now p x y leads → Pushes old q x y leads
+pushes_at now old p q x y leads same tree pushes =
+    subst (λ (u : Term). Pushes old u x y leads) tree (subst (λ (ls : List Literal). Pushes ls p x y leads) same pushes)
+
+pub tightest_at : (now old : List Literal) (f : Linear Term) (b : Bounds) → now ≡ old → AreTightest now f b → AreTightest old f b
+tightest_at now old f b same are = subst (λ (ls : List Literal). AreTightest ls f b) same are
+
+abbrev some_pair : Term → Term → Option (Term × Term)
+some_pair a b = Some (a, b)
+
+pub product_at : (p q s t u v : Term) → p ≡ q → s ≡ u → t ≡ v → as_product p ≡ Some (s, t) → as_product q ≡ Some (u, v)
+product_at p q s t u v first second third is =
+    sym (ap as_product first) ∙ is ∙ ap₂ (λ (a b : Term). some_pair a b) second third

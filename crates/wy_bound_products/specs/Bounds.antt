@@ -3,10 +3,10 @@ use Rattle.std.specs.Prelude.{◌≡◌, List, Bool, true, false, ℤ, neg_ℤ, 
 use Rattle.wy_term.specs.Term.{Term}
 use Rattle.wy_lin.specs.Linear.{◌>>=◌, Linear}
 use Rattle.wy_lin.specs.TermForm.{form_of}
-use Rattle.wy_judge.specs.Node.{Literal}
-use Rattle.wy_valid.specs.Products.{Affine, affine}
+use Rattle.wy_judge.specs.Node.{Literal, Node}
+use Rattle.wy_valid.specs.Products.{Affine, affine, as_product}
 use Rattle.wy_valid.specs.Sums.{all_zero, form_at}
-use Rattle.wy_search.specs.Expansion.{best_bound}
+use Rattle.wy_search.specs.Expansion.{best_bound, with_product}
 use Rattle.wy_bound_products.specs.declared.bounds.Bound.{Bound}
 use Rattle.wy_bound_products.specs.declared.products.Bounds.{Bounds}
 
@@ -50,3 +50,9 @@ AreFactor ls s (Some b) = IsFactor ls s b
 abbrev pub IsVarying : Option (Linear Term) → Option (Linear Term) → Type 0
 IsVarying None given = IsConstant given
 IsVarying (Some f) given = (given ≡ Some f) × (all_zero f.parts ≡ false)
+
+-- where these are the bounds of the factors of a product, what the product of two of them adds to a node leads on
+abbrev pub Pushes : List Literal → Term → Option Bound → Option Bound → ((Node → Node) → Type 0) → Type 0
+Pushes ls p x y leads =
+    (s t : Term) (f g : Linear Term) (b c : Bool) (v w : Option (Affine × ℤ)) → as_product p ≡ Some (s, t) → form_of s ≡ Some f → form_of t ≡ Some g → AreBounds ls f b x v → AreBounds ls g c y w
+    → leads (λ done. with_product p s t done (v >>= λ q. Some q.0) (w >>= λ q. Some q.0))

@@ -1,17 +1,17 @@
 //! What products of bounds state.
-ghost use Rattle.std.specs.Prelude.{◌≡◌, ◌<◌, ℕ, ℤ, Bool, Option, Some, length, map, option_map, IfOk, IfSome, OnOk};
+ghost use Rattle.std.specs.Prelude.{◌≡◌, ◌<◌, ℕ, Some, length, map, option_map, IfOk, IfSome, OnOk};
 ghost use Rattle.wy_bound_products.specs.Adding.{Leads};
-ghost use Rattle.wy_bound_products.specs.Bounds.{AreBounds, AreFactor, AreTightest, IsVarying};
+ghost use Rattle.wy_bound_products.specs.Bounds.{AreFactor, AreTightest, IsVarying, Pushes};
 ghost use Rattle.wy_facts.specs.Seen.{terms_at, AreBelow, Stays};
 ghost use Rattle.wy_judge.specs.Node.{Node as TreeNode, with_formulas};
 ghost use Rattle.wy_judging.specs.Seen.{seen_branch, seen_formula, IsBranch};
-ghost use Rattle.wy_lin.specs.Linear.{◌>>=◌ as bind, Linear};
+ghost use Rattle.wy_lin.specs.Linear.{Linear};
 ghost use Rattle.wy_lin.specs.Seen.{linear_form, seen_form, seen_part, IsOver};
 ghost use Rattle.wy_lin.specs.TermForm.{form_of};
 ghost use Rattle.wy_search.specs.Expansion as search;
 ghost use Rattle.wy_term.specs.Nodes.{tree_at};
 ghost use Rattle.wy_term.specs.Term.{Term};
-ghost use Rattle.wy_valid.specs.Products.{Affine as Factors, as_product, product_stated};
+ghost use Rattle.wy_valid.specs.Products.{as_product, product_stated};
 ghost use Rattle.wy_valid.specs.Sums.{all_zero};
 
 use crate::bounds::{Bound, bound_of};
@@ -61,7 +61,13 @@ fn varying_form(terms: &Terms, t: u32) -> Result<Option<Form>, NoMemory>
     ensures within { IfOk result (λ o. IfSome o (λ f. IsOver (length terms.now) (linear_form f))) }
 {
     match term_form(terms.allocator(), terms, t) {
-        Ok(Some(form)) => { if all_zero(&form.parts) { Ok(None) } else { Ok(Some(form)) } }
+        Ok(Some(form)) => {
+            if all_zero(&form.parts) {
+                Ok(None)
+            } else {
+                Ok(Some(form))
+            }
+        }
         Ok(None) => Ok(None),
         Err(_) => Err(NoMemory),
     }
@@ -139,7 +145,7 @@ fn push_product(
     requires branch { IsBranch terms.old branch.now }
     requires product { p < length terms.old }
     requires stated { AreBelow (length terms.old) stated.old.items }
-    ensures value { (s t : Term) (f g : Linear Term) (b c : Bool) (v w : Option (Factors × ℤ)) → as_product (tree_at terms.old p) ≡ Some (s, t) → form_of s ≡ Some f → form_of t ≡ Some g → AreBounds (seen_branch (tree_at terms.old) branch.now).literals f b x v → AreBounds (seen_branch (tree_at terms.old) branch.now).literals g c y w → OnOk result (Leads terms.old stated.old.items terms.new stated.new.items (λ done. search.with_product (tree_at terms.old p) s t done (bind v (λ q. Some (q.0))) (bind w (λ q. Some (q.0))))) }
+    ensures value { Pushes (seen_branch (tree_at terms.old) branch.now).literals (tree_at terms.old p) x y (λ more. OnOk result (Leads terms.old stated.old.items terms.new stated.new.items more)) }
     ensures stays { Stays terms.old terms.new }
 {
     let Some(a) = x else {

@@ -1,5 +1,5 @@
 -- Copies of lists of literals and formulas, of which each stands once.
-use Rattle.std.proofs.Common.{◌≡◌, ◌∙◌, ◌||◌, ◌&&◌, ◌+◌, ℕ, zero, suc, List, [], ◌∷◌, ◌++◌, take, Bool, true, false, cond, eqb, Some, refl, sym, ap, ap₂, arith}
+use Rattle.std.proofs.Common.{◌≡◌, ◌∙◌, ◌||◌, ◌&&◌, ◌+◌, ◌≤◌, length, ℕ, zero, suc, List, [], ◌∷◌, ◌++◌, take, Bool, true, false, cond, eqb, Some, refl, sym, ap, ap₂, arith}
 use Rattle.std.specs.Bool.{beq}
 use Rattle.std.specs.List.{list_any, AllByRecursion, IsDistinct}
 use Rattle.std.specs.Prelude.{slice_get}
@@ -46,3 +46,9 @@ copied_more ps made new i p once here so put =
     ∙ ap (λ (qs : List (ℕ × Bool)). cond (list_any (same_signed p) qs) qs (qs ++ p ∷ [])) so
     ∙ ap (λ (b : Bool). cond b (take i ps) (take i ps ++ p ∷ [])) (fresh ps i p once here)
     ∙ take_more ps i p here
+
+pub taken_all : (ps : List (ℕ × Bool)) (i : ℕ) → length ps ≤ i → take i ps ≡ ps
+taken_all [] zero le = refl
+taken_all [] (suc i) le = refl
+taken_all (p ∷ ps) zero le = absurd (omega (arith, le))
+taken_all (p ∷ ps) (suc i) le = ap (λ (qs : List (ℕ × Bool)). p ∷ qs) (taken_all ps i (omega (arith, le)))

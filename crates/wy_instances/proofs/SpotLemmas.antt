@@ -1,6 +1,7 @@
 -- Nodes on a path, with more in them.
-use Rattle.std.proofs.Common.{◌≡◌, ◌∙◌, ◌<◌, ◌≤◌, ◌+◌, ℕ, zero, suc, List, [], ◌∷◌, ◌++◌, map, drop, get_or, length, Bool, true, false, cond, Some, None, refl, sym, ap, ap₂, arith}
+use Rattle.std.proofs.Common.{◌≡◌, ◌∙◌, ◌<◌, ◌≤◌, ◌+◌, ℕ, zero, suc, Result, Ok, Err, List, [], ◌∷◌, ◌++◌, map, drop, get_or, length, Bool, true, false, cond, Some, None, refl, sym, ap, ap₂, arith}
 use Rattle.std.proofs.lemmas.List.{drop_more}
+use Rattle.std.specs.Prelude.{IfOk}
 use Rattle.wy_instances.specs.Seen.{seen_spot}
 use Rattle.wy_instances.specs.declared.spot.Spot.{Spot}
 use Rattle.wy_judge.specs.Node.{Literal, Node, has_literal, with_formulas, with_literal}
@@ -32,13 +33,6 @@ witness_put p l r now had names none node_is had_is names_are =
 
 pub witness_had : (p : search.Spot) (l : Literal) (r : Range) → has_literal p.had l ≡ true → p ≡ with_witness p l (Some r)
 witness_had p l r up = sym (ap (λ (b : Bool). cond b p (spot_with (with_formulas p.node (witnessed_at l.holds r (witness p.node r))) (p.had ++ l ∷ []) (p.names ++ witness p.node r ∷ []) p.rounds)) up)
-
-pub map_last : {A B : Type 0} (f : A → B) (xs ys : List A) (x : A) → ys ≡ xs ++ x ∷ [] → map f ys ≡ map f xs ++ f x ∷ []
-map_last f xs ys x is = ap (map f) is ∙ go xs
-  where
-    go : (zs : List _) → map f (zs ++ x ∷ []) ≡ map f zs ++ f x ∷ []
-    go [] = refl
-    go (z ∷ zs) = ap (λ ts. f z ∷ ts) (go zs)
 
 -- ---- loops
 
@@ -91,3 +85,7 @@ over_up n m ps i d le over lt = let low = over_at n ps i d over lt in omega (ari
 
 pub over_here : (n : ℕ) (ps : List (ℕ × Bool)) (i : ℕ) (d : ℕ × Bool) → AreOver n ps → i < length ps → (get_or ps i d).0 < n
 over_here n ps i d over lt = over_at n ps i d over lt
+
+pub if_ok : {X E : Type 0} (r : Result X E) (P Q : X → Type 0) → ((x : X) → P x → Q x) → IfOk r P → IfOk r Q
+if_ok (Ok x) P Q f h = f x h
+if_ok (Err e) P Q f h = h

@@ -1,18 +1,19 @@
 -- Lists of formulas that are added to a node, and the loops over what stands in it.
 use Rattle.std.proofs.Common.{◌≡◌, ◌∙◌, ◌<◌, ◌≤◌, ◌+◌, ℕ, zero, suc, Bool, List, [], ◌∷◌, ◌++◌, map, drop, length, All, Option, Some, None, Result, Ok, Err, refl, sym, ap, ap₂, arith}
-use Rattle.std.specs.Prelude.{slice_get, option_map, IfSome, OnOk}
+use Rattle.std.specs.Prelude.{slice_get, option_map, IfOk, IfSome, OnOk}
 use Rattle.wy_facts.proofs.StepLemmas.{terms_kept}
 use Rattle.wy_facts.specs.Membership.{AreTypesBelow}
 use Rattle.wy_facts.specs.Seen.{terms_at, AreBelow, Stays}
-use Rattle.wy_judge.specs.Node.{Node, with_formulas}
+use Rattle.wy_judge.specs.Node.{Node, added, with_formulas}
 use Rattle.wy_judging.specs.Seen.{seen_formula, signed, AreOver}
-use Rattle.wy_search.specs.Expansion.{with_some}
+use Rattle.wy_search.specs.Expansion.{with_facts_of_one, with_some}
 use Rattle.wy_splits.proofs.WalkLemmas.{member_below}
 use Rattle.wy_stated_facts.specs.Adding.{Leads}
 use Rattle.wy_term.specs.Condition.{Entry, condition_of, entry_of}
 use Rattle.wy_term.specs.Nodes.{Plain, tree_at}
 use Rattle.wy_term.specs.Term.{Term}
 use Rattle.wy_term.specs.declared.cond.Cond.{Cond}
+use Rattle.wy_valid.specs.Membership.{fact_among}
 
 -- ---- lists, walked through
 
@@ -111,8 +112,20 @@ some_led (Ok x) old new xs ys made o stays low up within is put below = record {
 some_led (Err e) old new xs ys made o stays low up within is put below = tt
 
 pub with_last : (at : ℕ → Term) (start : Node) (xs ys : List ℕ) (f : ℕ) → ys ≡ xs ++ f ∷ [] → with_formulas start (map at ys) ≡ with_some (with_formulas start (map at xs)) (Some (at f))
-with_last at start xs ys f is = ap (λ (ks : List ℕ). with_formulas start (map at ks)) is ∙ go start xs
+with_last at start xs ys f is = ap (λ (ks : List ℕ). with_formulas start (map at ks)) is ∙ go xs start
   where
-    go : (node : Node) (ks : List ℕ) → with_formulas node (map at (ks ++ f ∷ [])) ≡ with_some (with_formulas node (map at ks)) (Some (at f))
-    go node [] = refl
-    go node (k ∷ ks) = go _ ks
+    go : (ks : List ℕ) (node : Node) → with_formulas node (map at (ks ++ f ∷ [])) ≡ with_some (with_formulas node (map at ks)) (Some (at f))
+    go [] node = refl
+    go (k ∷ ks) node = go ks (added node (at k))
+
+-- the facts of some terms, and then those of others
+pub facts_joined : (types : List Entry) (n : ℕ) (xs ys : List Term) (node : Node) → with_facts_of_one types n node (xs ++ ys) ≡ with_facts_of_one types n (with_facts_of_one types n node xs) ys
+facts_joined types n [] ys node = refl
+facts_joined types n (x ∷ xs) ys node = facts_joined types n xs ys (with_some node (fact_among types n (x ∷ [])))
+
+pub if_ok : {X E : Type 0} (r : Result X E) (P Q : X → Type 0) → ((x : X) → P x → Q x) → IfOk r P → IfOk r Q
+if_ok (Ok x) P Q f h = f x h
+if_ok (Err e) P Q f h = h
+
+abbrev pub some_term : Term → Option Term
+some_term t = Some t

@@ -1,5 +1,5 @@
 //! What terms of a kind are.
-ghost use Rattle.std.specs.Prelude.{◌≡◌, ◌<◌, ℕ, Option, Some, length, map, option_map, IfOk, IfSome, OnOk};
+ghost use Rattle.std.specs.Prelude.{◌≡◌, ◌<◌, false, true, length, map, option_map, IfOk, IfSome, OnOk};
 ghost use Rattle.wy_facts.specs.Made.{denial, either, implies, is_equal, made_one};
 ghost use Rattle.wy_facts.specs.Membership.{AreTypesBelow};
 ghost use Rattle.wy_facts.specs.Seen.{AreBelow, Stays};
@@ -146,11 +146,7 @@ fn is_whole(terms: &mut Terms, v: u32) -> Result<u32, NoMemory>
 // ---- the facts
 
 // What a term is, of which a literal tells the kind; of a number only where the term stands in an equation.
-fn what_it_is(
-    terms: &mut Terms,
-    branch: &Branch,
-    what: About,
-) -> Result<Option<u32>, NoMemory>
+fn what_it_is(terms: &mut Terms, branch: &Branch, what: About) -> Result<Option<u32>, NoMemory>
     requires branch { IsBranch terms.old branch.now }
     requires what { IsAboutBelow (length terms.old) what }
     ensures value { IfOk result (λ o. option_map (tree_at terms.new) o ≡ said_by (seen_branch (tree_at terms.old) branch.now) (tree_at terms.old) what) }

@@ -1,5 +1,4 @@
-use Rattle.std.proofs.Common.{◌≡◌, ◌∙◌, ℕ, Option, Some, None, Bool, true, false, ap, refl, rules, sym}
-use Rattle.std.specs.Prelude.{option_map}
+use Rattle.std.proofs.Common.{◌≡◌, ◌∙◌, Option, Some, None, Bool, true, false, ap, refl, rules, sym}
 use Rattle.wy_bound_products.proofs.AddingLemmas.{led_if, unmoved}
 use Rattle.wy_bound_products.proofs.products.push_term.Goals as goal
 use Rattle.wy_judge.specs.Node.{Node}
@@ -23,7 +22,7 @@ returns-in-Some-clause-value c =
     let node = seen_branch at c.args.branch.now in
     let p = at c.args.p in
     let up : c.args.holds ≡ true = search rules in
-    let is : as_product p ≡ Some (at c.in-Some.factors.0, at c.in-Some.factors.1) = sym c.as_product.ensures.value ∙ ap (option_map (λ (q : ℕ × ℕ). (at q.0, at q.1))) c.in-Some.is in
+    let is : as_product p ≡ Some (at c.in-Some.factors.0, at c.in-Some.factors.1) = sym c.in-Some.ensures.value in
     led_if c.push_products_of.result c.args.terms.now c.args.stated.now.items c.push_products_of.new.terms c.push_products_of.new.stated.items _ _
     (λ (done : Node). ap (λ (o : Option (Term × Term)). with_products_of node p o done) (sym is) ∙ ap (λ (b : Bool). with_products_of node (signed p b) (as_product (signed p b)) done) (sym up)) c.push_products_of.ensures.value
 
@@ -33,6 +32,6 @@ returns-in-None-clause-value c =
     let node = seen_branch at c.args.branch.now in
     let p = at c.args.p in
     let up : c.args.holds ≡ true = search rules in
-    let is : as_product p ≡ None = sym c.as_product.ensures.value ∙ ap (option_map (λ (q : ℕ × ℕ). (at q.0, at q.1))) c.in-None.is in
+    let is : as_product p ≡ None = sym c.in-None.ensures.value in
     unmoved c.args.terms.now c.args.stated.now.items _ c.requires.stated
     (λ (done : Node). ap (λ (o : Option (Term × Term)). with_products_of node p o done) (sym is) ∙ ap (λ (b : Bool). with_products_of node (signed p b) (as_product (signed p b)) done) (sym up))

@@ -12,9 +12,9 @@ use Rattle.wy_valid.specs.Ranges.{Range}
 pub returns-in-Some-clause-value : goal.returns-in-Some-clause-value
 returns-in-Some-clause-value c =
     let at = tree_at c.args.terms.now in
-    on_ok c.with_instances_of.result _ _ (λ is. is ∙ ap (λ (o : Option Range). with_instances_by (seen_branch at c.args.branch.now) c.args.holds o (map at c.args.all.now)) (sym (ap (option_map (seen_range at)) c.in-Some.is) ∙ c.in_ok-of_each.ensures.value)) c.with_instances_of.ensures.value
+    on_ok c.with_instances_of.result _ _ (λ is. is ∙ ap (λ (o : Option Range). with_instances_by (seen_branch at c.args.branch.now) c.args.holds o (map at c.args.all.now)) (sym (ap (option_map (seen_range at)) c.in-Some.is) ∙ c.in_ok-r.ensures.value)) c.with_instances_of.ensures.value
 
 pub returns-in-None-clause-value : goal.returns-in-None-clause-value
 returns-in-None-clause-value c =
     let at = tree_at c.args.terms.now in
-    ap (λ (o : Option Range). with_instances_by (seen_branch at c.args.branch.now) c.args.holds o (map at c.args.all.now)) (sym (ap (option_map (seen_range at)) c.in-None.is) ∙ c.in_ok-of_each.ensures.value)
+    ap (λ (o : Option Range). with_instances_by (seen_branch at c.args.branch.now) c.args.holds o (map at c.args.all.now)) (sym (ap (option_map (seen_range at)) c.in-None.is) ∙ c.in_ok-r.ensures.value)

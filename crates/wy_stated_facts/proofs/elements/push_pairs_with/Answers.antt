@@ -16,7 +16,7 @@ returns-then-not-holds-clause-value c =
     let us = map (seen_formula at) c.args.found.now.pending.keys in
     let un : c.args.holds ≡ false = search rules in
     unmoved c.args.terms.now c.args.facts.now.items _ c.requires.facts
-    (λ (node : Node). pairs_none node (Not (at c.args.t)) us refl ∙ ap (λ (b : Bool). with_pairs_of node (signed (at c.args.t) b) us) (sym un))
+    (λ (node : Node). pairs_none (Not (at c.args.t)) us refl node ∙ ap (λ (b : Bool). with_pairs_of node (signed (at c.args.t) b) us) (sym un))
 
 pub returns-then-not-is_element-clause-value : goal.returns-then-not-is_element-clause-value
 returns-then-not-is_element-clause-value c =
@@ -25,7 +25,7 @@ returns-then-not-is_element-clause-value c =
     let up : c.args.holds ≡ true = search rules in
     let none : is_some (as_element (at c.args.t)) ≡ false = search rules in
     unmoved c.args.terms.now c.args.facts.now.items _ c.requires.facts
-    (λ (node : Node). pairs_none node (at c.args.t) us (is_none (as_element (at c.args.t)) none) ∙ ap (λ (b : Bool). with_pairs_of node (signed (at c.args.t) b) us) (sym up))
+    (λ (node : Node). pairs_none (at c.args.t) us (is_none (as_element (at c.args.t)) none) node ∙ ap (λ (b : Bool). with_pairs_of node (signed (at c.args.t) b) us) (sym up))
 
 pub returns-clause-value : goal.returns-clause-value
 returns-clause-value c =

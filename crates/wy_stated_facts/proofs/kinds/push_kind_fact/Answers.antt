@@ -13,8 +13,8 @@ returns-then-holds-clause-value c =
     led_if c.push_about.result c.args.terms.now c.args.facts.now.items c.push_about.new.terms c.push_about.new.facts.items _ _
     (λ (done : Node). ap (λ (b : Bool). with_some done (kind_fact (seen_branch at c.args.branch.now) (signed (at c.args.t) b))) (sym up)) c.push_about.ensures.value
 
-pub returns-clause-value : goal.returns-clause-value
-returns-clause-value c =
+pub returns-else-holds-clause-value : goal.returns-else-holds-clause-value
+returns-else-holds-clause-value c =
     let at = tree_at c.args.terms.now in
     let un : c.args.holds ≡ false = search rules in
     unmoved c.args.terms.now c.args.facts.now.items _ c.requires.facts

@@ -1,6 +1,4 @@
-use Rattle.std.proofs.Common.{◌≡◌, ◌∙◌, ℕ, List, [], ◌∷◌, Option, Some, None, Bool, true, false, ap, rules, sym}
-use Rattle.std.specs.Option.{option_to_list}
-use Rattle.std.specs.Prelude.{option_map}
+use Rattle.std.proofs.Common.{◌≡◌, ◌∙◌, List, [], ◌∷◌, Bool, true, false, ap, rules, sym}
 use Rattle.wy_judge.specs.Node.{Node}
 use Rattle.wy_judging.specs.Seen.{signed}
 use Rattle.wy_search.specs.Expansion.{measured, with_facts_of_one}
@@ -23,7 +21,7 @@ returns-in-Some-clause-value c =
     let t = at c.args.t in
     let types = (condition_of c.args.terms.now c.args.cond.now).types in
     let up : c.args.holds ≡ true = search rules in
-    let is : measured t ≡ at c.in-Some.v ∷ [] = c.measured.ensures.value ∙ ap (λ (o : Option ℕ). option_to_list (option_map at o)) c.in-Some.is in
+    let is : measured t ≡ at c.in-Some.v ∷ [] = c.in-Some.ensures.value in
     led_if c.push_fact.result c.args.terms.now c.args.facts.now.items c.push_fact.new.terms c.push_fact.new.facts.items _ _
     (λ (node : Node). ap (λ (ts : List Term). with_facts_of_one types 1 node ts) (sym is) ∙ ap (λ (b : Bool). with_facts_of_one types 1 node (measured (signed t b))) (sym up)) c.push_fact.ensures.value
 
@@ -33,6 +31,6 @@ returns-in-None-clause-value c =
     let t = at c.args.t in
     let types = (condition_of c.args.terms.now c.args.cond.now).types in
     let up : c.args.holds ≡ true = search rules in
-    let is : measured t ≡ [] = c.measured.ensures.value ∙ ap (λ (o : Option ℕ). option_to_list (option_map at o)) c.in-None.is in
+    let is : measured t ≡ [] = c.in-None.ensures.value in
     unmoved c.args.terms.now c.args.facts.now.items _ c.requires.facts
     (λ (node : Node). ap (λ (ts : List Term). with_facts_of_one types 1 node ts) (sym is) ∙ ap (λ (b : Bool). with_facts_of_one types 1 node (measured (signed t b))) (sym up))

@@ -3,7 +3,7 @@ use Rattle.wy_facts.proofs.StepLemmas.{stays_on}
 use Rattle.wy_facts.specs.Seen.{terms_at}
 use Rattle.wy_judge.specs.Node.{Node, with_formulas}
 use Rattle.wy_search.specs.Expansion.{all_measured, measured, with_facts_of_one}
-use Rattle.wy_stated_facts.proofs.AddingLemmas.{end_led, formula_kept, step_led, types_stay, types_up, within_now}
+use Rattle.wy_stated_facts.proofs.AddingLemmas.{end_led, facts_joined, formula_kept, step_led, types_stay, types_up, within_now}
 use Rattle.wy_stated_facts.proofs.plain.push_lengths.Goals as goal
 use Rattle.wy_term.specs.Condition.{Entry, condition_of}
 use Rattle.wy_term.specs.Nodes.{tree_at}
@@ -27,7 +27,7 @@ loop-i-preserved c =
     let tree = formula_kept old now keys c.loop-i.i p stays c.requires.found.pending c.pending_at-t.ensures in
     record {
       leads = λ start.
-          step_led (λ (node : Node) (ts : List Term). with_facts_of_one types 1 node (all_measured ts)) (λ (node : Node) (t : Term). with_facts_of_one types 1 node (measured t)) (λ node t ts. refl) (tree_at old) keys c.loop-i.i p _ _ _ c.pending_at-t.ensures
+          step_led (λ (node : Node) (ts : List Term). with_facts_of_one types 1 node (all_measured ts)) (λ (node : Node) (t : Term). with_facts_of_one types 1 node (measured t)) (λ node t ts. facts_joined types 1 (measured t) (all_measured ts) node) (tree_at old) keys c.loop-i.i p _ _ _ c.pending_at-t.ensures
           (c.in_ok-push_length.ensures.value.value start ∙ ap₂ (λ (es : List Entry) (t : Term). with_facts_of_one es 1 (with_formulas start (terms_at now c.loop-i.facts.items)) (measured t)) same tree)
           (c.loop-i.invariant.leads start);
       below = c.in_ok-push_length.ensures.value.below;

@@ -17,8 +17,8 @@ returns-then-holds-clause-value c =
     led_if c.push_fact.result c.args.terms.now c.args.facts.now.items c.push_fact.new.terms c.push_fact.new.facts.items _ _
     (λ (node : Node). ap (λ (b : Bool). with_some node (fact_among types c.args.schema (signed t b ∷ []))) (sym up)) c.push_fact.ensures.value
 
-pub returns-clause-value : goal.returns-clause-value
-returns-clause-value c =
+pub returns-else-holds-clause-value : goal.returns-else-holds-clause-value
+returns-else-holds-clause-value c =
     let t = tree_at c.args.terms.now c.args.t in
     let types = (condition_of c.args.terms.now c.args.cond.now).types in
     let un : c.args.holds ≡ false = search rules in
