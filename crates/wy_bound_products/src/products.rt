@@ -146,6 +146,7 @@ fn push_product(
     requires product { p < length terms.old }
     requires stated { AreBelow (length terms.old) stated.old.items }
     ensures value { Pushes (seen_branch (tree_at terms.old) branch.now).literals (tree_at terms.old p) x y (λ more. OnOk result (Leads terms.old stated.old.items terms.new stated.new.items more)) }
+    ensures below { OnOk result (AreBelow (length terms.new) stated.new.items) }
     ensures stays { Stays terms.old terms.new }
 {
     let Some(a) = x else {

@@ -1,13 +1,27 @@
 -- Copies of lists of literals and formulas, of which each stands once.
 use Rattle.std.proofs.Common.{◌≡◌, ◌∙◌, ◌||◌, ◌&&◌, ◌+◌, ◌≤◌, length, ℕ, zero, suc, List, [], ◌∷◌, ◌++◌, take, Bool, true, false, cond, eqb, Some, refl, sym, ap, ap₂, arith}
 use Rattle.std.specs.Bool.{beq}
+use Rattle.std.proofs.lemmas.Bool.{eqb-true}
 use Rattle.std.specs.List.{list_any, AllByRecursion, IsDistinct}
 use Rattle.std.specs.Prelude.{slice_get}
 use Rattle.std.proofs.lemmas.Map.Keys.{IsDistinct-head, IsDistinct-tail}
 use Rattle.wy_judging.specs.Seen.{same_signed}
+use Rattle.wy_term.proofs.SameLemmas.{eqb_self}
 
 eqb_turn : (a b : ℕ) → eqb a b ≡ eqb b a
-eqb_turn a b = grind arith
+eqb_turn a b = by (eqb a b) (eqb b a) refl refl
+  where
+    by : (s t : Bool) → eqb a b ≡ s → eqb b a ≡ t → s ≡ t
+    by true true e d = refl
+    by true false e d =
+        let up : eqb b a ≡ true = ap (eqb b) (eqb-true a b e) ∙ eqb_self b in
+        let bad : false ≡ true = sym d ∙ up in
+        absurd cc
+    by false true e d =
+        let up : eqb a b ≡ true = ap (eqb a) (eqb-true b a d) ∙ eqb_self a in
+        let bad : false ≡ true = sym e ∙ up in
+        absurd cc
+    by false false e d = refl
 
 beq_turn : (a b : Bool) → beq a b ≡ beq b a
 beq_turn true true = refl

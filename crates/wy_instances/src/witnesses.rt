@@ -25,7 +25,7 @@ fn with_new(
     requires atom { atom < length terms.old }
     requires spot { IsSpot terms.old spot }
     requires range { IsRangeOver (length terms.old) r.now }
-    requires none { has_literal (seen_branch (tree_at terms.old) spot.had).literals (seen_literal (tree_at terms.old) (atom, holds)) ≡ false }
+    requires unseen { has_literal (seen_branch (tree_at terms.old) spot.had).literals (seen_literal (tree_at terms.old) (atom, holds)) ≡ false }
     ensures value { IfOk result (λ p. seen_spot (tree_at terms.new) p ≡ search.with_witness (seen_spot (tree_at terms.old) spot) (seen_literal (tree_at terms.old) (atom, holds)) (Some (seen_range (tree_at terms.old) r.now))) }
     ensures spot { IfOk result (IsSpot terms.new) }
     ensures stays { Stays terms.old terms.new }

@@ -11,10 +11,6 @@ use Rattle.wy_term.specs.Same.{same_term}
 use Rattle.wy_term.specs.Term.{Term, Not}
 use Rattle.wy_valid.specs.Membership.{fact_among, membership_by}
 
-same_if : {A : Type 0} (b : Bool) (x y : A) → x ≡ y → cond b x y ≡ y
-same_if true x y e = e
-same_if false x y e = refl
-
 none_if : {A : Type 0} (b : Bool) (o : Option A) → o ≡ None → cond b None o ≡ None
 none_if true o e = refl
 none_if false o e = e

@@ -1,4 +1,4 @@
-use Rattle.std.proofs.Common.{◌≡◌, ◌≢◌, ◌∙◌, Option, Some, None, ap, refl, rules, subst, sym}
+use Rattle.std.proofs.Common.{◌≡◌, ◌≢◌, ◌∙◌, ℤ, Option, Some, None, ap, refl, rules, subst, sym}
 use Rattle.wy_bound_products.proofs.BoundLemmas.{no_affine, other_bound, this_bound}
 use Rattle.wy_bound_products.proofs.bounds.with_bound.Goals as goal
 use Rattle.wy_bound_products.specs.declared.bounds.Bound.{Bound}
@@ -20,4 +20,4 @@ pub returns : goal.returns
 returns c = λ ls f h given here const are best.
     let one : Bound = record { number = c.args.number; at = c.quotient.result } in
     this_bound ls f h c.args.below one c.tighter.result given c.in-Some.a here (subst (λ (o : Option Affine). AreAffine o (affine f h)) c.in-Some.is are) c.if-a-below.false
-    (c.quotient.ensures ∙ ap (λ z. quotient_down z c.in-Some.a.factor.size) (sym const)) (λ y at is. c.tighter.ensures ls f c.args.below given y at best is)
+    (c.quotient.ensures ∙ ap (λ (z : ℤ). quotient_down z c.in-Some.a.factor.size) (sym const)) (λ y at is. c.tighter.ensures ls f c.args.below given y at best is)

@@ -55,10 +55,10 @@ returns-clause-value c =
     let atom = stays.trees c.args.atom c.requires.atom in
     let had_same = node_stays old new c.args.spot.had stays c.requires.spot.had in
     let had_is = had_more (seen_branch (tree_at old) c.args.spot.had) (seen_branch (tree_at new) c.add_literal.new.branch) l
-    (c.in_ok-add_literal.ensures.value ∙ ap₂ (λ (n : Node) (t : Term). with_literal n (record { atom = t; holds = c.args.holds })) had_same atom) c.requires.«none» in
+    (c.in_ok-add_literal.ensures.value ∙ ap₂ (λ (n : Node) (t : Term). with_literal n (record { atom = t; holds = c.args.holds })) had_same atom) c.requires.unseen in
     let names_is = map_last (tree_at new) c.args.spot.names.items c.push.new.self.items c.in_ok-x.x c.in_ok-push.ensures.items
     ∙ ap₂ (λ (ts : List Term) (t : Term). ts ++ t ∷ []) (terms_kept old new c.args.spot.names.items stays c.requires.spot.names) (second.trees c.in_ok-x.x c.in_ok-x.ensures.within ∙ name_is) in
-    witness_put spot l r (seen_branch (tree_at new) c.add_all.new.branch) (seen_branch (tree_at new) c.add_literal.new.branch).literals (map (tree_at new) c.push.new.self.items) c.requires.«none» node_is had_is names_is
+    witness_put spot l r (seen_branch (tree_at new) c.add_all.new.branch) (seen_branch (tree_at new) c.add_literal.new.branch).literals (map (tree_at new) c.push.new.self.items) c.requires.unseen node_is had_is names_is
 
 pub returns-clause-spot : goal.returns-clause-spot
 returns-clause-spot c =
