@@ -14,8 +14,8 @@ use Rattle.wy_valid.specs.Products.{affine}
 pub relation-requires-clause-first : goal.relation-requires-clause-first
 relation-requires-clause-first c = form_up (length c.args.terms.now) (length c.form_at.new.terms) c.args.form.now c.in_ok-h.ensures.stays.grows c.requires.form
 
-pub returns-in-Some-clause-value : goal.returns-in-Some-clause-value
-returns-in-Some-clause-value c = λ given are.
+pub returns-in_ok-x-in-Some-clause-value : goal.returns-in_ok-x-in-Some-clause-value
+returns-in_ok-x-in-Some-clause-value c = λ given are.
     let old = tree_at c.args.terms.now in
     let new = tree_at c.form_at.new.terms in
     let ls = (seen_branch old c.args.branch.now).literals in

@@ -9,8 +9,8 @@ use Rattle.wy_term.specs.Term.{Term}
 pub implies-requires-clause-first : goal.implies-requires-clause-first
 implies-requires-clause-first c = let lt = c.requires.term in let le = c.in_ok-says.ensures.stays.grows in omega (arith, lt, le)
 
-pub returns-in-Some-clause-value : goal.returns-in-Some-clause-value
-returns-in-Some-clause-value c =
+pub returns-in_ok-implies-in-Some-clause-value : goal.returns-in_ok-implies-in-Some-clause-value
+returns-in_ok-implies-in-Some-clause-value c =
     let mid = tree_at c.what_it_is.new.terms in
     let t = tree_at c.args.terms.now c.args.t in
     ap some_term (c.in_ok-implies-in-Some.ensures.value ∙ ap (λ (u : Term). implies u (mid c.in-Some.says)) (c.in_ok-says.ensures.stays.trees c.args.t c.requires.term))
