@@ -1,6 +1,6 @@
 -- Bounds of a factor.
 use Rattle.std.proofs.Common.{◌≡◌, ◌≢◌, ◌∙◌, ◌<◌, ◌≤◌, ◌+◌, ◌-◌, ℕ, zero, suc, List, [], ◌∷◌, drop, length, map, eqb, Bool, true, false, not, cond, ℤ, pos, negsuc, neg_ℤ, ◌+ℤ◌, ◌-ℤ◌, ◌*ℤ◌, ◌≤ℤ◌, ◌<ℤ◌, Option, Some, None, refl, sym, ap, subst, arith}
-use Rattle.std.specs.Prelude.{slice_get, unsigned_abs, int_lt}
+use Rattle.std.specs.Prelude.{slice_get, unsigned_abs, int_lt, IfSome}
 use Rattle.std.specs.Bool.{beq}
 use Rattle.std.proofs.Math.Dec.{eqb-suc-zero}
 use Rattle.std.proofs.Math.IntN.{*ℤ_comm}
@@ -42,6 +42,28 @@ by_leading (Some p) r k f g y e = by_ratio (r p) k f g y e
 affine_more : (f g : Linear Term) (y : products.Affine) → affine f g ≡ Some y → y.more ≡ g.constant -ℤ y.factor *ℤ f.constant
 affine_more f g y e = by_leading (leading f.parts) (λ p. ratio p.0 (coefficient same_term g.parts p.1)) (λ a. is_multiple a f g) f g y e
 
+-- ---- tests
+
+int_lt_is : (a b : ℤ) → int_lt a b ≡ true → a <ℤ b
+int_lt_is a b h = grind (arith, ints)
+
+int_lt_not : (a b : ℤ) → int_lt a b ≡ false → b ≤ℤ a
+int_lt_not a b h = grind (arith, ints)
+
+lt_is : (a b : ℤ) → a <ℤ b → int_lt a b ≡ true
+lt_is a b lt = by (int_lt a b) refl
+  where
+    by : (t : Bool) → int_lt a b ≡ t → t ≡ true
+    by true e = refl
+    by false e = let le = int_lt_not a b e in absurd (omega (arith, ints, lt, le))
+
+not_lt : (a b : ℤ) → b ≤ℤ a → int_lt a b ≡ false
+not_lt a b le = by (int_lt a b) refl
+  where
+    by : (t : Bool) → int_lt a b ≡ t → t ≡ false
+    by true e = let lt = int_lt_is a b e in absurd (omega (arith, ints, lt, le))
+    by false e = refl
+
 -- ---- signs
 
 -- a number above 0 in size is above 0 unless it has a sign
@@ -49,7 +71,7 @@ sign_of : (n : Bool) (m : ℕ) → 0 < m → int_lt (pos 0) (signed_number n m) 
 sign_of true zero lt = absurd (omega (arith, lt))
 sign_of true (suc m) lt = refl
 sign_of false zero lt = absurd (omega (arith, lt))
-sign_of false (suc m) lt = refl
+sign_of false (suc m) lt = lt_is (pos 0) (pos (suc m)) (omega (arith, ints))
 
 size_of : (n : Bool) (m : ℕ) → 0 < m → unsigned_abs (signed_number n m) ≡ m
 size_of true zero lt = absurd (omega (arith, lt))
@@ -98,26 +120,6 @@ bound_stops n m f h y at below lt apart factor is stop =
     ∙ ap (λ (k : ℕ). quotient_down y.more k +ℤ shift below f.constant) (sym size)
 
 -- ---- the tighter one
-
-int_lt_is : (a b : ℤ) → int_lt a b ≡ true → a <ℤ b
-int_lt_is a b h = grind (arith, ints)
-
-int_lt_not : (a b : ℤ) → int_lt a b ≡ false → b ≤ℤ a
-int_lt_not a b h = grind (arith, ints)
-
-lt_is : (a b : ℤ) → a <ℤ b → int_lt a b ≡ true
-lt_is a b lt = by (int_lt a b) refl
-  where
-    by : (t : Bool) → int_lt a b ≡ t → t ≡ true
-    by true e = refl
-    by false e = let le = int_lt_not a b e in absurd (omega (arith, ints, lt, le))
-
-not_lt : (a b : ℤ) → b ≤ℤ a → int_lt a b ≡ false
-not_lt a b le = by (int_lt a b) refl
-  where
-    by : (t : Bool) → int_lt a b ≡ t → t ≡ false
-    by true e = let lt = int_lt_is a b e in absurd (omega (arith, ints, lt, le))
-    by false e = refl
 
 lowered : (a b p q s : ℤ) → p ≡ a +ℤ s → q ≡ b +ℤ s → int_lt p q ≡ int_lt a b
 lowered a b p q s e d = by (int_lt p q) (int_lt a b) refl refl
@@ -242,3 +244,13 @@ at_old below i best made given now old g f same form so are =
 pub bounds_at : (now old : List Literal) (g f : Linear Term) (below : Bool) (b : Option Bound) → now ≡ old → g ≡ f → AreBounds now g below b (best_bound below g None now) → AreBounds old f below b (best_bound below f None old)
 bounds_at now old g f below b same form are =
     subst (λ (e : Linear Term). AreBounds old e below b (best_bound below e None old)) form (subst (λ (ls : List Literal). AreBounds ls g below b (best_bound below g None ls)) same are)
+
+pub affine_size : (o : Option Affine) (given : Option products.Affine) → AreAffine o given → IfSome o (λ (a : Affine). 0 < a.factor.size)
+affine_size None given are = tt
+affine_size (Some x) given are = are.2.nonzero
+
+pub apart_of : (a b : Bool) → beq a b ≡ false → a ≢ b
+apart_of true true e d = absurd cc
+apart_of true false e d = absurd cc
+apart_of false true e d = absurd cc
+apart_of false false e d = absurd cc

@@ -13,7 +13,7 @@ pos_times m k = refl
 opposite : (k : ℕ) → negsuc k ≡ neg_ℤ (pos (k + 1))
 opposite k = omega (arith, ints)
 
-times_opposite : (x y : ℤ) → x *ℤ neg_ℤ y ≡ neg_ℤ (x *ℤ y)
+pub times_opposite : (x y : ℤ) → x *ℤ neg_ℤ y ≡ neg_ℤ (x *ℤ y)
 times_opposite x y =
     let none : y +ℤ neg_ℤ y ≡ pos 0 = omega (arith, ints) in
     let whole : x *ℤ (y +ℤ neg_ℤ y) ≡ pos 0 = ap (λ (z : ℤ). x *ℤ z) none ∙ *ℤ-zero x in

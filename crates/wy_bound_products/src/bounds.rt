@@ -67,6 +67,7 @@ fn with_bound(
     constant: i128,
     x: Option<Affine>,
 ) -> Option<Bound>
+    requires { IfSome x (λ a. 0 < a.factor.size) }
     ensures { (ls : List Literal) (f h : Linear Term) (given : Option (Factors × ℤ)) → form_at ls number ≡ Some h → h.constant ≡ constant → AreAffine x (affine f h) → AreBounds ls f below best given → AreBounds ls f below result (search.with_bound below given (affine f h)) }
 {
     let Some(a) = x else {

@@ -35,10 +35,10 @@ loop-i-preserved c =
     let form = form_kept old now c.args.form.now stays c.requires.form in
     let lt : c.loop-i.i < length c.args.branch.now.literals.keys = search rules in
     let within : c.loop-i.i < length ls = subst (λ (n : ℕ). c.loop-i.i < n) (sym (count_seen (seen_literal at) c.args.branch.now.literals.keys)) lt in
-    let made = at_old c.args.below c.loop-i.i c.loop-i.best c.in_ok-with_literal.field-0 given _ ls _ f same form (c.in_ok-with_literal.ensures.value given) c.loop-i.invariant.best.1 in
+    let made = at_old c.args.below c.loop-i.i c.loop-i.best c.in_ok-best.best given _ ls _ f same form (c.in_ok-best.ensures.value given) c.loop-i.invariant.best.1 in
     record {
       best = (_, made, best_more ls c.loop-i.i f c.args.below given _ within c.loop-i.invariant.best.2);
-      stays = stays_on old now c.with_literal.new.terms stays c.in_ok-with_literal.ensures.stays;
+      stays = stays_on old now c.with_literal.new.terms stays c.in_ok-best.ensures.stays;
     }
 
 pub returns-clause-value : goal.returns-clause-value

@@ -37,10 +37,10 @@ loop-atom-preserved c =
     record {
       leads =
           witnesses_step (tree_at old) ps i (0, false) (seen_spot (tree_at now) c.loop-atom.spot) _ _ c.loop-atom-test.true
-          (c.in_ok-with_witness.ensures.value ∙ ap (λ (t : Term). with_witness (seen_spot (tree_at now) c.loop-atom.spot) (record { atom = t; holds = p.1 }) (of_one (record { atom = t; holds = p.1 }))) tree)
+          (c.in_ok-spot.ensures.value ∙ ap (λ (t : Term). with_witness (seen_spot (tree_at now) c.loop-atom.spot) (record { atom = t; holds = p.1 }) (of_one (record { atom = t; holds = p.1 }))) tree)
           c.loop-atom.invariant.leads;
-      spot = c.in_ok-with_witness.ensures.spot;
-      stays = stays_on old now c.with_witness.new.terms stays c.in_ok-with_witness.ensures.stays;
+      spot = c.in_ok-spot.ensures.spot;
+      stays = stays_on old now c.with_witness.new.terms stays c.in_ok-spot.ensures.stays;
     }
 
 pub returns-clause-value : goal.returns-clause-value
