@@ -1,5 +1,5 @@
 -- Which terms stand as an index.
-use Rattle.std.proofs.Common.{◌≡◌, ◌∙◌, ◌≤◌, ◌+◌, ◌||◌, ◌&&◌, ℕ, zero, suc, Some, drop, length, arith, List, [], ◌∷◌, ◌++◌, map, take, Bool, true, false, not, cond, refl, sym, ap, ap₂, append_assoc}
+use Rattle.std.proofs.Common.{◌≡◌, ◌∙◌, ◌≤◌, ◌+◌, ◌||◌, ◌&&◌, ℕ, zero, suc, Some, drop, length, arith, List, [], ◌∷◌, ◌++◌, map, take, Bool, true, false, not, cond, refl, subst, sym, ap, ap₂, append_assoc}
 use Rattle.wy_instances.specs.Indices.{catches, chosen_by, indexes, indexes_in, is_index_of, open_of}
 use Rattle.wy_judge.specs.Node.{has_formula}
 use Rattle.std.proofs.lemmas.List.{append-nil}
@@ -7,6 +7,9 @@ use Rattle.std.specs.Prelude.{slice_get}
 use Rattle.wy_judging.specs.Seen.{seen_formula, seen_literal, signed}
 use Rattle.wy_search.specs.Expansion.{among, index_at, indices_in, only_int}
 use Rattle.wy_search.specs.Standing.{Standing, all_parts, below, bound_by, have_common, in_formulas, in_literals, of_range, standing_in, standing_in_parts, with_unbound}
+use Rattle.wy_judging.proofs.JudgingLemmas.{below_up}
+use Rattle.wy_judging.specs.Seen.{AreBelow}
+use Rattle.wy_standing.proofs.TaskLemmas.{below_taken}
 use Rattle.wy_splits.proofs.WalkLemmas.{or_assoc, or_none, cond_or}
 use Rattle.wy_splits.specs.Free.{is_among, stands_free}
 use Rattle.wy_splits.specs.Walk.{any_first, any_over}
@@ -245,8 +248,8 @@ not_pushed t true ss names made up un = sym (append-nil made) ∙ ap (λ (ts : L
 
 pub pushed_one : (at : ℕ → Term) (k : ℕ) (holds : Bool) (ss : List Standing) (names : List Term) (made new : List ℕ) → holds ≡ true → chosen_by ss names (at k) ≡ true → new ≡ made ++ k ∷ []
     → map at new ≡ map at made ++ only_int (among (signed (at k) holds ∷ []) (with_unbound [] (indices_in ss) ++ names))
-pushed_one at k false ss names made new up yes put = absurd cc
-pushed_one at k true ss names made new up yes put = ap (map at) put ∙ map_joined made ∙ ap (λ (ts : List Term). map at made ++ ts) (sym (only_seen (at k) ss names true yes))
+pushed_one at k false ss names made new up so put = absurd cc
+pushed_one at k true ss names made new up so put = ap (map at) put ∙ map_joined made ∙ ap (λ (ts : List Term). map at made ++ ts) (sym (only_seen (at k) ss names true so))
   where
     map_joined : (ks : List ℕ) → map at (ks ++ k ∷ []) ≡ map at ks ++ at k ∷ []
     map_joined [] = refl
@@ -283,3 +286,7 @@ index_step at us ps i p made new whole here put so =
 
 pub index_end : (at : ℕ → Term) (us : List Term) (ps : List (ℕ × Bool)) (i : ℕ) (made whole : List Term) → length ps ≤ i → made ++ only_int (among (map (seen_formula at) (drop i ps)) us) ≡ whole → made ≡ whole
 index_end at us ps i made whole le so = sym (append-nil made) ∙ sym (ap (λ (qs : List (ℕ × Bool)). made ++ only_int (among (map (seen_formula at) qs) us)) (drop_end ps i le)) ∙ so
+
+pub open_below : (m n : ℕ) (b : Bool) (ks js : List ℕ) → m ≤ n → AreBelow m ks → js ≡ open_of b ks → AreBelow n js
+open_below m n true ks js le below is = below_taken n 2 ks js (below_up m n ks le below) is
+open_below m n false ks js le below is = subst (AreBelow n) (sym is) (below_up m n ks le below)

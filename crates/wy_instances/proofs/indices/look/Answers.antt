@@ -1,5 +1,5 @@
-use Rattle.std.proofs.Common.{◌∙◌, ◌||◌, ap, sym, Bool}
-use Rattle.wy_instances.proofs.IndexLemmas.{indexes_by_parts}
+use Rattle.std.proofs.Common.{◌∙◌, ◌||◌, ◌≤◌, ap, sym, arith, length, Bool}
+use Rattle.wy_instances.proofs.IndexLemmas.{indexes_by_parts, open_below}
 use Rattle.wy_instances.proofs.indices.look.Goals as goal
 use Rattle.wy_instances.specs.Indices.{catches, indexes, open_of}
 use Rattle.wy_splits.proofs.WalkLemmas.{look_told}
@@ -16,3 +16,10 @@ returns-clause-value c =
     (indexes_by_parts at t c.args.k n c.node-node.ensures.tree ∙ ap (λ (b : Bool). b || any_over (indexes at t) ks) (sym c.is_index_of.ensures))
     (c.deref.ensures.value ∙ c.in_ok-parts.ensures)
     (c.in_ok-put_all.ensures.value (indexes at t))
+
+pub returns-clause-todo : goal.returns-clause-todo
+returns-clause-todo c =
+    let n = length c.args.terms.now in
+    let p = plain c.node-node.result.now in
+    let lt = c.requires.whole in
+    c.in_ok-put_all.ensures.below n (open_below c.args.k n (catches (tree_at c.args.terms.now c.args.t) p.symbol) p.parts c.deref.result.now (omega (arith, lt)) c.node-node.ensures.within (c.deref.ensures.value ∙ c.in_ok-parts.ensures)) c.requires.todo

@@ -11,8 +11,8 @@ use Rattle.wy_valid.specs.Ranges.{of_each}
 
 pub with_instances_by-requires-clause-atom : goal.with_instances_by-requires-clause-atom
 with_instances_by-requires-clause-atom c =
-    let over = subst (AreOver (length c.args.terms.now)) (sym c.in_ok-literals.ensures) c.requires.branch.literals in
-    over_up (length c.args.terms.now) (length c.loop-atom.terms) c.in_ok-literals.literals.items c.loop-atom.atom-index (0, false) c.loop-atom.invariant.stays.grows over c.loop-atom-test.true
+    let over = subst (AreOver (length c.args.terms.now)) (sym (c.deref-atom-items.ensures.value ∙ c.in_ok-literals.ensures)) c.requires.branch.literals in
+    over_up (length c.args.terms.now) (length c.loop-atom.terms) c.deref-atom-items.result.now c.loop-atom.atom-index (0, false) c.loop-atom.invariant.stays.grows over c.loop-atom-test.true
 
 pub with_instances_by-requires-clause-terms : goal.with_instances_by-requires-clause-terms
 with_instances_by-requires-clause-terms c = below_kept c.args.terms.now c.loop-atom.terms c.args.all.now c.loop-atom.invariant.stays c.requires.terms
@@ -21,7 +21,7 @@ pub loop-atom-init : goal.loop-atom-init
 loop-atom-init c =
     let at = tree_at c.args.terms.now in
     record {
-      leads = ap (λ (ps : List (ℕ × Bool)). with_instances (seen_branch at c.args.branch.now) (map (seen_literal at) ps) (map at c.args.all.now)) c.in_ok-literals.ensures;
+      leads = ap (λ (ps : List (ℕ × Bool)). with_instances (seen_branch at c.args.branch.now) (map (seen_literal at) ps) (map at c.args.all.now)) (c.deref-atom-items.ensures.value ∙ c.in_ok-literals.ensures);
       branch = c.requires.branch;
       stays = stays_same c.args.terms.now;
     }
@@ -31,10 +31,10 @@ loop-atom-preserved c =
     let old = c.args.terms.now in
     let now = c.loop-atom.terms in
     let stays = c.loop-atom.invariant.stays in
-    let ps = c.in_ok-literals.literals.items in
+    let ps = c.deref-atom-items.result.now in
     let i = c.loop-atom.atom-index in
     let p = get_or ps i (0, false) in
-    let over = subst (AreOver (length old)) (sym c.in_ok-literals.ensures) c.requires.branch.literals in
+    let over = subst (AreOver (length old)) (sym (c.deref-atom-items.ensures.value ∙ c.in_ok-literals.ensures)) c.requires.branch.literals in
     let tree = stays.trees p.0 (over_here (length old) ps i (0, false) over c.loop-atom-test.true) in
     let ts = terms_kept old now c.args.all.now stays c.requires.terms in
     record {
@@ -48,5 +48,5 @@ loop-atom-preserved c =
 
 pub returns-clause-value : goal.returns-clause-value
 returns-clause-value c =
-    let le : length c.in_ok-literals.literals.items ≤ c.loop-atom.atom-index = search rules in
-    instances_end (tree_at c.args.terms.now) c.in_ok-literals.literals.items (map (tree_at c.args.terms.now) c.args.all.now) c.loop-atom.atom-index _ _ le c.loop-atom.invariant.leads
+    let le : length c.deref-atom-items.result.now ≤ c.loop-atom.atom-index = search rules in
+    instances_end (tree_at c.args.terms.now) c.deref-atom-items.result.now (map (tree_at c.args.terms.now) c.args.all.now) c.loop-atom.atom-index _ _ le c.loop-atom.invariant.leads

@@ -72,3 +72,9 @@ returns-clause-spot c =
       had = c.in_ok-add_literal.ensures.branch;
       names = below_last (length new) c.args.spot.names.items c.push.new.self.items c.in_ok-x.x (below_kept old new c.args.spot.names.items stays c.requires.spot.names) (omega (arith, lt, le)) c.in_ok-push.ensures.items;
     }
+
+pub returns-in_err-add_literal-clause-stays : goal.returns-in_err-add_literal-clause-stays
+returns-in_err-add_literal-clause-stays c = stays_on c.args.terms.now c.name.new.terms c.witnessed_at.new.terms c.in_ok-x.ensures.stays c.in_ok-formulas.ensures.stays
+
+pub returns-in_err-push-clause-stays : goal.returns-in_err-push-clause-stays
+returns-in_err-push-clause-stays c = stays_on c.args.terms.now c.name.new.terms c.witnessed_at.new.terms c.in_ok-x.ensures.stays c.in_ok-formulas.ensures.stays

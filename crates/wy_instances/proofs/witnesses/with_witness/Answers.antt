@@ -15,17 +15,17 @@ pub returns-in-None-clause-value : goal.returns-in-None-clause-value
 returns-in-None-clause-value c =
     let at = tree_at c.args.terms.now in
     let l = seen_literal at (c.args.atom, c.args.holds) in
-    ap (with_witness (seen_spot at c.args.spot) l) (sym (ap (option_map (seen_range at)) c.in-None.is) ∙ c.in_ok-r.ensures.value)
+    ap (with_witness (seen_spot at c.args.spot) l) (sym (ap (option_map (seen_range at)) c.in-None.is) ∙ c.in_ok-of_one.ensures.value)
 
 pub returns-then-has_literal-clause-value : goal.returns-then-has_literal-clause-value
 returns-then-has_literal-clause-value c =
     let at = tree_at c.args.terms.now in
     let l = seen_literal at (c.args.atom, c.args.holds) in
     let up : has_literal (seen_branch at c.args.spot.had).literals l ≡ true = search rules in
-    witness_had (seen_spot at c.args.spot) l (seen_range at c.in-Some.r) up ∙ ap (with_witness (seen_spot at c.args.spot) l) (sym (ap (option_map (seen_range at)) c.in-Some.is) ∙ c.in_ok-r.ensures.value)
+    witness_had (seen_spot at c.args.spot) l (seen_range at c.in-Some.r) up ∙ ap (with_witness (seen_spot at c.args.spot) l) (sym (ap (option_map (seen_range at)) c.in-Some.is) ∙ c.in_ok-of_one.ensures.value)
 
-pub returns-else-has_literal-clause-value : goal.returns-else-has_literal-clause-value
-returns-else-has_literal-clause-value c =
+pub returns-clause-value : goal.returns-clause-value
+returns-clause-value c =
     let at = tree_at c.args.terms.now in
     let l = seen_literal at (c.args.atom, c.args.holds) in
-    if_ok c.with_new.result _ _ (λ p is. is ∙ ap (with_witness (seen_spot at c.args.spot) l) (sym (ap (option_map (seen_range at)) c.in-Some.is) ∙ c.in_ok-r.ensures.value)) c.with_new.ensures.value
+    if_ok c.with_new.result _ _ (λ p is. is ∙ ap (with_witness (seen_spot at c.args.spot) l) (sym (ap (option_map (seen_range at)) c.in-Some.is) ∙ c.in_ok-of_one.ensures.value)) c.with_new.ensures.value

@@ -12,14 +12,14 @@ use Rattle.wy_valid.specs.Ranges.{of_one}
 
 pub with_witness-requires-clause-atom : goal.with_witness-requires-clause-atom
 with_witness-requires-clause-atom c =
-    let over = subst (AreOver (length c.args.terms.now)) (sym c.in_ok-literals.ensures) c.requires.branch.literals in
-    over_up (length c.args.terms.now) (length c.loop-atom.terms) c.in_ok-literals.literals.items c.loop-atom.atom-index (0, false) c.loop-atom.invariant.stays.grows over c.loop-atom-test.true
+    let over = subst (AreOver (length c.args.terms.now)) (sym (c.deref-atom-items.ensures.value ∙ c.in_ok-literals.ensures)) c.requires.branch.literals in
+    over_up (length c.args.terms.now) (length c.loop-atom.terms) c.deref-atom-items.result.now c.loop-atom.atom-index (0, false) c.loop-atom.invariant.stays.grows over c.loop-atom-test.true
 
 pub loop-atom-init : goal.loop-atom-init
 loop-atom-init c =
     let at = tree_at c.args.terms.now in
     record {
-      leads = ap (λ (ps : List (ℕ × Bool)). with_witnesses (seen_spot at c.args.spot) (map (seen_literal at) ps)) c.in_ok-literals.ensures;
+      leads = ap (λ (ps : List (ℕ × Bool)). with_witnesses (seen_spot at c.args.spot) (map (seen_literal at) ps)) (c.deref-atom-items.ensures.value ∙ c.in_ok-literals.ensures);
       spot = c.requires;
       stays = stays_same c.args.terms.now;
     }
@@ -29,10 +29,10 @@ loop-atom-preserved c =
     let old = c.args.terms.now in
     let now = c.loop-atom.terms in
     let stays = c.loop-atom.invariant.stays in
-    let ps = c.in_ok-literals.literals.items in
+    let ps = c.deref-atom-items.result.now in
     let i = c.loop-atom.atom-index in
     let p = get_or ps i (0, false) in
-    let over = subst (AreOver (length old)) (sym c.in_ok-literals.ensures) c.requires.branch.literals in
+    let over = subst (AreOver (length old)) (sym (c.deref-atom-items.ensures.value ∙ c.in_ok-literals.ensures)) c.requires.branch.literals in
     let tree = stays.trees p.0 (over_here (length old) ps i (0, false) over c.loop-atom-test.true) in
     record {
       leads =
@@ -45,5 +45,5 @@ loop-atom-preserved c =
 
 pub returns-clause-value : goal.returns-clause-value
 returns-clause-value c =
-    let le : length c.in_ok-literals.literals.items ≤ c.loop-atom.atom-index = search rules in
-    witnesses_end (tree_at c.args.terms.now) c.in_ok-literals.literals.items c.loop-atom.atom-index _ _ le c.loop-atom.invariant.leads
+    let le : length c.deref-atom-items.result.now ≤ c.loop-atom.atom-index = search rules in
+    witnesses_end (tree_at c.args.terms.now) c.deref-atom-items.result.now c.loop-atom.atom-index _ _ le c.loop-atom.invariant.leads
