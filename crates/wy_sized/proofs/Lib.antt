@@ -1,0 +1,20 @@
+-- fields in order
+pub mod FieldLemmas
+-- where no fault is left, none was noted
+pub mod BeforeLemmas
+-- types
+pub mod TypeLemmas
+-- the scopes of a clause
+pub mod DeclaredLemmas
+pub mod NestLemmas
+-- what properties come to
+pub mod FitLemmas
+pub mod EndLemmas
+-- expressions
+pub mod WalkLemmas
+-- the clauses of properties
+pub mod ClauseLemmas
+pub mod TemplateLemmas
+-- where calls stand
+pub mod SilentLemmas
+pub mod CalmLemmas

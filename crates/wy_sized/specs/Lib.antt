@@ -1,0 +1,2 @@
+-- what a program as it is written has
+pub mod SourceClauses
