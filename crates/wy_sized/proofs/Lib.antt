@@ -18,3 +18,8 @@ pub mod TemplateLemmas
 -- where calls stand
 pub mod SilentLemmas
 pub mod CalmLemmas
+-- whole expressions
+pub mod WholeLemmas
+pub mod StmtLemmas
+pub mod DeclLemmas
+pub mod FormedLemmas

@@ -228,7 +228,7 @@ params_all b s table number names (p ∷ ps) found is h none all =
     (params_all (with_name b p.name just_a_name) (variables.declared s names p.name) (with_name table p.name (entry.Variable number)) (number + 1) (named names p.name) ps later (omega (arith, is, longer))
     (erased_more b s p.name (length names) h) none one)
 
-params_declared : (s : Scope) (names : Variables) (ps : List surface.Param) (name : List ℕ) (e : Entry) → is_variable (Some e) ≡ false → entry_of (params_scope s names ps) name ≡ Some e → entry_of s name ≡ Some e
+pub params_declared : (s : Scope) (names : Variables) (ps : List surface.Param) (name : List ℕ) (e : Entry) → is_variable (Some e) ≡ false → entry_of (params_scope s names ps) name ≡ Some e → entry_of s name ≡ Some e
 params_declared s names [] name e no h = h
 params_declared s names (p ∷ ps) name e no h =
     with_declared s p.name name (length names) e no (params_declared (variables.declared s names p.name) (named names p.name) ps name e no h)

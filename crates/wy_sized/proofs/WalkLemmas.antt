@@ -133,7 +133,7 @@ module _ (p j : ℕ) where
 
   -- ---- variables
 
-  some_node : (v at : ℕ) → p ≤ v → one_node empty ≡ content p j (core.VarExpr at v)
+  pub some_node : (v at : ℕ) → p ≤ v → one_node empty ≡ content p j (core.VarExpr at v)
   some_node v at le = same_content (sym (beyond_more p v le)) refl refl (sym (single_beyond p j v le))
 
   less_is : (v : ℕ) → v < p → (b : Bool) → nat_lt v p ≡ b → b ≡ true
