@@ -486,16 +486,19 @@ max_up (suc x) zero = omega arith
 max_up (suc x) (suc y) = omega arith
 
 both_up : (x y : ℕ) → max (up x) (max 0 (up y)) ≡ up (max x y)
-both_up zero zero = let e : 0 ≡ max 0 0 = omega arith in omega arith ∙ ap up e
-both_up zero (suc y) = let e : suc y ≡ max 0 (suc y) = omega arith in omega arith ∙ ap up e
-both_up (suc x) zero = let e : suc x ≡ max (suc x) 0 = omega arith in omega arith ∙ ap up e
-both_up (suc x) (suc y) = let e : suc (max x y) ≡ max (suc x) (suc y) = omega arith in omega arith ∙ ap up e
+both_up zero zero = let e : 0 ≡ max 0 0 = omega arith in let f : max 0 (max 0 0) ≡ up 0 = omega arith in f ∙ ap up e
+both_up zero (suc y) = let e : suc y ≡ max 0 (suc y) = omega arith in let f : max 0 (max 0 (suc (suc y))) ≡ up (suc y) = omega arith in f ∙ ap up e
+both_up (suc x) zero = let e : suc x ≡ max (suc x) 0 = omega arith in let f : max (suc (suc x)) (max 0 0) ≡ up (suc x) = omega arith in f ∙ ap up e
+both_up (suc x) (suc y) =
+    let e : suc (max x y) ≡ max (suc x) (suc y) = omega arith in let f : max (suc (suc x)) (max 0 (suc (suc y))) ≡ up (suc (max x y)) = omega arith in f ∙ ap up e
 
-pub same_content : {a b c d e f : ℕ} {u v : Usage} → a ≡ b → c ≡ d → e ≡ f → u ≡ v
-    → (let x : Content = record { fixed = a; nodes = c; height = e; use = u } in x) ≡ record { fixed = b; nodes = d; height = f; use = v }
-same_content {a} {b} {c} {d} {e} {f} {u} {v} p q r t =
-    ap (λ (n : ℕ). record { fixed = n; nodes = c; height = e; use = u }) p ∙ ap (λ (n : ℕ). record { fixed = b; nodes = n; height = e; use = u }) q
-    ∙ ap (λ (n : ℕ). record { fixed = b; nodes = d; height = n; use = u }) r ∙ ap (λ (z : Usage). record { fixed = b; nodes = d; height = f; use = z }) t
+abbrev content_of : ℕ → ℕ → ℕ → Usage → Content
+content_of f n h u = record { fixed = f; nodes = n; height = h; use = u }
+
+pub same_content : {x y : Content} → x.fixed ≡ y.fixed → x.nodes ≡ y.nodes → x.height ≡ y.height → x.use ≡ y.use → x ≡ y
+same_content {x} {y} p q r t =
+    ap (λ (n : ℕ). content_of n x.nodes x.height x.use) p ∙ ap (λ (n : ℕ). content_of y.fixed n x.height x.use) q ∙ ap (λ (n : ℕ). content_of y.fixed y.nodes n x.use) r
+    ∙ ap (λ (u : Usage). content_of y.fixed y.nodes y.height u) t
 
 joined_content : (x y : Content) → beside (sunk x) (beside (one_node empty) (sunk y)) ≡ one_node (beside x y)
 joined_content x y = same_content (omega arith) (omega arith) (max_up x.height y.height) (same_use (omega arith) (both_up x.use.depth y.use.depth) (omega arith))

@@ -216,9 +216,12 @@ height_together w = record {
 }
 
 -- uses are equal by their parts
-pub same_use : {a b c d e f : ℕ} → a ≡ b → c ≡ d → e ≡ f → (let x : Usage = record { times = a; depth = c; quants = e } in x) ≡ record { times = b; depth = d; quants = f }
-same_use {a} {b} {c} {d} {e} {f} p q r =
-    ap (λ (n : ℕ). record { times = n; depth = c; quants = e }) p ∙ ap (λ (n : ℕ). record { times = b; depth = n; quants = e }) q ∙ ap (λ (n : ℕ). record { times = b; depth = d; quants = n }) r
+abbrev usage_of : ℕ → ℕ → ℕ → Usage
+usage_of t d q = record { times = t; depth = d; quants = q }
+
+pub same_use : {x y : Usage} → x.times ≡ y.times → x.depth ≡ y.depth → x.quants ≡ y.quants → x ≡ y
+same_use {x} {y} p q r =
+    ap (λ (n : ℕ). usage_of n x.depth x.quants) p ∙ ap (λ (n : ℕ). usage_of y.times n x.quants) q ∙ ap (λ (n : ℕ). usage_of y.times y.depth n) r
 
 use_node : (w x d : ℕ) → max (up x) (lift (up d) w) ≡ up (max x (lift d w))
 use_node w x d = ap (λ (n : ℕ). max (up x) n) (sym (lift-up d w)) ∙ sym (up-max x (lift d w))

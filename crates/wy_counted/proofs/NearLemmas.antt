@@ -89,8 +89,8 @@ off_inside d zero = near refl
 off_inside d (suc x) = record { same = omega arith }
 
 pub over_root : (d x : ℕ) → max (off d 1) (off (d + 1) x) ≡ off d (x + 1)
-over_root d zero = omega arith ∙ sym (off_more d 0)
-over_root d (suc x) = omega arith ∙ sym (off_more d (suc x))
+over_root d zero = let e : max (off d 1) (off (d + 1) 0) ≡ d + 0 = omega arith in e ∙ sym (off_more d 0)
+over_root d (suc x) = let e : max (off d 1) (off (d + 1) (suc x)) ≡ d + suc x = omega arith in e ∙ sym (off_more d (suc x))
 
 
 pub near_raised : (t a b x y : ℕ) → Near a b → Near x y → Near (raised t a x) (raised t b y)

@@ -253,7 +253,7 @@ module _ (o : Offers) (ts : List Template) (free : FreeTemplates ts) (k : Known)
   -- a call where its arguments are well
   calm_call : (w : Option ℕ) (t : Spot) → Code w t → (s : Scope) (at : ℕ) (name : List ℕ) (args : Exprs) (names : Variables) (m : Measure)
       → (sizes.in_args k t at (entry_of k.scope name) 0 args (sizes.call k.expansions (entry_of k.scope name) t at m)).found ≡ None → ((decl n : ℕ) → entry_of k.scope name ≡ Some (entry.Property decl n) → Finite k.expansions ts decl n)
-      → Callee k ts 0 0 s name (count_of args)
+      → Callee k.scope s name (count_of args)
       → ((r : Signature) (l : Measure) → (sizes.in_args k t at (Some (entry.Routine r)) 0 args l).found ≡ None → CalmAll w (lower.in_args ts s names (Some (entry.Routine r)) 0 args).1)
       → ((decl : ℕ) (f : Finite k.expansions ts decl (count_of args)) (l : Measure) → (sizes.in_args k t at (Some (entry.Property decl (count_of args))) 0 args l).found ≡ None
       → (i : ℕ) (a : core.Expr ℕ) → slice_get (lower.in_args ts s names (Some (entry.Property decl (count_of args))) 0 args).1 i ≡ Some a

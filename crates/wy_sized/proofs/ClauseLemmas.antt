@@ -77,7 +77,7 @@ from_none : (a x : ℕ) → Near a (0 + 1 * x) → Near a x
 from_none a x h = let e : 0 + 1 * x ≡ x = omega arith in near_on h (near e)
 
 root_off : (x : ℕ) → raised 1 0 (off 1 x) ≡ x
-root_off zero = refl
+root_off zero = omega arith
 root_off (suc x) = let e : max 0 (1 + x) ≡ suc x = omega arith in e
 
 pub from_root : (a x : ℕ) → Near a (raised 1 0 (off 1 x)) → Near a x

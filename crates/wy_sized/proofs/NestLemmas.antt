@@ -42,10 +42,7 @@ last_found (y ∷ s) name x n v h = by (bytes_eq x y.0) refl h (λ k. last_found
     by : (b : Bool) → bytes_eq x y.0 ≡ b → cond b (Some y.1) (entry_of (s ++ (name, entry.Variable n) ∷ []) x) ≡ Some (entry.Variable v)
         → (entry_of (s ++ (name, entry.Variable n) ∷ []) x ≡ Some (entry.Variable v) → Found s name x n v) → Found (y ∷ s) name x n v
     by true is k next = old (ap (λ (b : Bool). cond b (Some y.1) (entry_of s x)) is ∙ k)
-    by false is k next = elim (next k) as (λ _. Found (y ∷ s) name x n v) [
-      old e ↦ old (ap (λ (b : Bool). cond b (Some y.1) (entry_of s x)) is ∙ e)
-      | new e z w ↦ new e (ap (λ (b : Bool). cond b (Some y.1) (entry_of s x)) is ∙ z) w
-    ]
+    by false is k next = elim (next k) as (λ _. Found (y ∷ s) name x n v) [ old e ↦ old (ap (λ (b : Bool). cond b (Some y.1) (entry_of s x)) is ∙ e) | new e z w ↦ new e (ap (λ (b : Bool). cond b (Some y.1) (entry_of s x)) is ∙ z) w ]
 
 with_found : (s : Scope) (name x : List ℕ) (n v : ℕ) → entry_of (with_name s name (entry.Variable n)) x ≡ Some (entry.Variable v) → Found s name x n v
 with_found s name x n v h = by (has s name) h

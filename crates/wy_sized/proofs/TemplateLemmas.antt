@@ -73,14 +73,14 @@ some_number a b e = cc
 
 -- a place among these and one more
 pub data Place (order : List ℕ) (x j p : ℕ) : Type 0 where
-  among : slice_get order j ≡ Some p → j < length order → Place order x j p
-  behind : x ≡ p → j ≡ length order → Place order x j p
+  front : slice_get order j ≡ Some p → j < length order → Place order x j p
+  back : x ≡ p → j ≡ length order → Place order x j p
 
 place_of : (order : List ℕ) (x j p : ℕ) → slice_get (order ++ x ∷ []) j ≡ Some p → Place order x j p
-place_of [] x zero p h = behind (some_number x p h) refl
+place_of [] x zero p h = back (some_number x p h) refl
 place_of [] x (suc j) p h = absurd (cc)
-place_of (y ∷ order) x zero p h = among h (omega arith)
-place_of (y ∷ order) x (suc j) p h = elim (place_of order x j p h) as (λ _. Place (y ∷ order) x (suc j) p) [ among e lt ↦ among e (omega (arith, lt)) | behind e z ↦ behind e (ap suc z) ]
+place_of (y ∷ order) x zero p h = front h (omega arith)
+place_of (y ∷ order) x (suc j) p h = elim (place_of order x j p h) as (λ _. Place (y ∷ order) x (suc j) p) [ front e lt ↦ front e (omega (arith, lt)) | back e z ↦ back e (ap suc z) ]
 
 within : (order : List ℕ) (j p : ℕ) → slice_get order j ≡ Some p → j < length order
 within [] j p h = absurd (cc)
@@ -129,16 +129,16 @@ blank_end (e ∷ es) (suc d) y h = blank_end es d y h
 -- an order with one of its properties once more
 module _ (ds : List Decl) (es : Edges) (order : List ℕ) (i k : ℕ) (at : slice_get order k ≡ Some i) (o : IsOrder ds es order) where
   again_property : (j p : ℕ) → Place order i j p → is_property (slice_get ds p) ≡ true
-  again_property j p (among h lt) = o.property j p h
-  again_property j p (behind e z) = subst (λ (q : ℕ). is_property (slice_get ds q) ≡ true) e (o.property k i at)
+  again_property j p (front h lt) = o.property j p h
+  again_property j p (back e z) = subst (λ (q : ℕ). is_property (slice_get ds q) ≡ true) e (o.property k i at)
 
   again_ending : (j p : ℕ) → Place order i j p → Ends ds es p
-  again_ending j p (among h lt) = o.ending j p h
-  again_ending j p (behind e z) = o.ending k p (at ∙ ap (λ (n : ℕ). Some n) e)
+  again_ending j p (front h lt) = o.ending j p h
+  again_ending j p (back e z) = o.ending k p (at ∙ ap (λ (n : ℕ). Some n) e)
 
   again_behind : (j n : ℕ) (e : Edge) → slice_get es n ≡ Some e → is_use ds e ≡ true → Place order i j e.from → (m : ℕ) × (m < j) × (slice_get (order ++ i ∷ []) m ≡ Some e.to)
-  again_behind j n e there is (among q lt) = let r = o.behind j n e there is q in (r.0, r.1, at_first order i r.0 e.to r.2)
-  again_behind j n e there is (behind q z) =
+  again_behind j n e there is (front q lt) = let r = o.behind j n e there is q in (r.0, r.1, at_first order i r.0 e.to r.2)
+  again_behind j n e there is (back q z) =
       let r = o.behind k n e there is (at ∙ ap (λ (m : ℕ). Some m) q) in
       let first : r.0 < k = r.1 in
       let last : k < length order = within order k i at in

@@ -29,7 +29,7 @@ use Rattle.wy_expand.specs.declared.measure.Expansion.{Expansion}
 use Rattle.wy_expand.specs.declared.measure.Expansion.TheVariants as expansion
 use Rattle.wy_expand.specs.Measures.{plus, inside, deeper, quantified, argument, counted, counted_many, called, expanded, endless, used}
 use Rattle.wy_expand.specs.Sizes as sizes
-use Rattle.wy_expand.specs.Sizes.{Known, variable, property, call_entry, arg_spot, operator, left_of, right_of, behind_ranges}
+use Rattle.wy_expand.specs.Sizes.{Known, variable, arg_spot, operator, left_of, right_of, behind_ranges}
 use Rattle.wy_lower.specs.Variables.{Variables, declared, named, variable_of}
 use Rattle.wy_lower.specs.Uses.{With, Template, is_used, expansion as expanded_use}
 use Rattle.wy_lower.specs.Uses as uses
@@ -209,6 +209,11 @@ module _ (p j n : ℕ) (e : core.Expr ℕ) (s : Spot) (at : ℕ) (rooted : 0 < s
       (partly_unused p j n e done (content p j x.1) (content p j (core.NullExpr 0)) spare ∙ partly_more p j n e done (core.NullExpr 0) lt)
       (after_argument s at u (tally by_use (single n (length done)) e) own (sound_uses n (length done) e) rooted j (partly p j n e done) (content p j x.1) first m l h k)
 
+-- what a call in an expression calls
+pub data Callee (scope s : Scope) (name : List ℕ) (count : ℕ) : Type 0 where
+  routine : (r : Signature) → entry_of s name ≡ Some (entry.Routine r) → entry_of scope name ≡ Some (entry.Routine r) → Callee scope s name count
+  property : (decl : ℕ) → entry_of s name ≡ Some (entry.Property decl count) → entry_of scope name ≡ Some (entry.Property decl count) → Callee scope s name count
+
 -- ---- the walk
 
 module _ (k : Known) (ts : List Template) (p j : ℕ) where
@@ -242,15 +247,10 @@ module _ (k : Known) (ts : List Template) (p j : ℕ) where
       by (Some (entry.Property decl arity)) e is = absurd (cc)
       by (Some (entry.Variable v)) e is = variable_counted p j (entry_of k.params name) v at (h.nests.variables name v e) t m
 
-  -- what a call in an expression calls
-  pub data Callee (s : Scope) (name : List ℕ) (count : ℕ) : Type 0 where
-    routine : (r : Signature) → entry_of s name ≡ Some (entry.Routine r) → entry_of k.scope name ≡ Some (entry.Routine r) → Callee s name count
-    property : (decl : ℕ) → entry_of s name ≡ Some (entry.Property decl count) → entry_of k.scope name ≡ Some (entry.Property decl count) → Callee s name count
-
-  pub callee_of : (c : Context) (b s : Scope) → Here b s → (name : List ℕ) (count at : ℕ) (found : Found) → call c true (entry_of b name) count at found ≡ None → Callee s name count
+  pub callee_of : (c : Context) (b s : Scope) → Here b s → (name : List ℕ) (count at : ℕ) (found : Found) → call c true (entry_of b name) count at found ≡ None → Callee k.scope s name count
   callee_of c b s h name count at found none = by (entry_of s name) refl (ap (λ (o : Option Entry). call c true o count at found) (sym (seen_entry b s name h.erases)) ∙ none)
     where
-      by : (o : Option Entry) → entry_of s name ≡ o → call c true (erased_option o) count at found ≡ None → Callee s name count
+      by : (o : Option Entry) → entry_of s name ≡ o → call c true (erased_option o) count at found ≡ None → Callee k.scope s name count
       by None e is = absurd (none_noted found at cause.Unknown is)
       by (Some (entry.Type n decl)) e is = absurd (none_noted found at cause.Unknown is)
       by (Some (entry.Routine r)) e is = routine r e (h.nests.declared name (entry.Routine r) refl e)
@@ -290,7 +290,7 @@ module _ (k : Known) (ts : List Template) (p j : ℕ) where
 
   -- a call of a function or method, or the use of a property, where its arguments are counted
   call_counted : (s : Scope) (at : ℕ) (name : List ℕ) (args : Exprs) (names : Variables) → p ≤ length names → (t : Spot) → 0 < t.depth → (m : Measure) → ((decl n : ℕ) → entry_of k.scope name ≡ Some (entry.Property decl n) → Ended decl n)
-      → Callee s name (count_of args)
+      → Callee k.scope s name (count_of args)
       → ((r : Signature) (l : Measure) → After j (inside t) (contents p j (exprs_of (lower.in_args ts s names (Some (entry.Routine r)) 0 args).1)) l (sizes.in_args k t at (Some (entry.Routine r)) 0 args l))
       → ((decl : ℕ) (f : Ended decl (count_of args)) (l : Measure) → After j t (partly p j (count_of args) (whole_of f.template.clauses) []) m l
       → After j t (partly p j (count_of args) (whole_of f.template.clauses) (lower.in_args ts s names (Some (entry.Property decl (count_of args))) 0 args).1) m (sizes.in_args k t at (Some (entry.Property decl (count_of args))) 0 args l))

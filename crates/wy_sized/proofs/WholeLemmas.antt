@@ -3,6 +3,8 @@ use Rattle.std.proofs.Common.{◌≡◌, ◌∙◌, ◌<◌, ◌≤◌, ℕ, zer
 use borrow.Author.Tests.{ltb-false}
 use Rattle.wy_ast.specs.SurfaceTree.{Expr, Exprs, NoExprs, MoreExprs, Step, IndexStep, FieldStep, exprs_of}
 use Rattle.wy_core.specs.CoreTree as core
+use Rattle.wy_core.specs.declared.expressions.Op.{Op}
+use Rattle.wy_core.specs.declared.expressions.Op.TheVariants as op
 use Rattle.wy_scope.specs.declared.fault.Cause.TheVariants as cause
 use Rattle.wy_scope.specs.Faults.{Found}
 use Rattle.wy_scope.specs.Places.{place_of_expr}
@@ -169,7 +171,7 @@ module _ (o : Offers) (ts : List Template) (free : FreeTemplates ts) (k : Known)
   -- ---- behind a variable and an operator
 
   -- a variable beside an expression that is counted there
-  beside_variable : (at v : ℕ) (q : _) (e : core.Expr ℕ) (t : Spot) (m n : Measure) → After 0 (inside t) (content 0 0 e) (counted (counted m t) (inside t)) n → After 0 t (content 0 0 (core.BinaryExpr at q (core.VarExpr at v) e)) m n
+  beside_variable : (at v : ℕ) (q : Op) (e : core.Expr ℕ) (t : Spot) (m n : Measure) → After 0 (inside t) (content 0 0 e) (counted (counted m t) (inside t)) n → After 0 t (content 0 0 (core.BinaryExpr at q (core.VarExpr at v) e)) m n
   beside_variable at v q e t m n h =
       subst (λ (x : Content). After 0 t (one_node (beside x (content 0 0 e))) m n) (some_node 0 0 v at (omega arith))
       (after_node 0 t (beside (one_node empty) (content 0 0 e)) m n
@@ -182,7 +184,7 @@ module _ (o : Offers) (ts : List Template) (free : FreeTemplates ts) (k : Known)
       let m : Measure = sizes.in_expr k (inside (root code)) e start in
       let x : core.Expr ℕ = (lower.in_expr ts s names e).1 in
       small_from (behind_first at v x) code late m
-      (beside_variable at v _ x (root code) (nothing late []) m (counted_there c b s h e found n names (inside (root code)) (omega arith) start lim.found)) lim
+      (beside_variable at v op.Or x (root code) (nothing late []) m (counted_there c b s h e found n names (inside (root code)) (omega arith) start lim.found)) lim
 
   pub first_code : (c : Context) (b s : Scope) → Scoped b s → (vs : formed.Scope) → scopes.Leads o ts vs s → (at v : ℕ) (e : Expr) (found : Found) → bind.in_expr c b e found ≡ None → (names : Variables) (late : Found)
       → wholes.behind_first k true at e late ≡ None → Before late (Well (behind_first at v (lower.in_expr ts s names e).1))
@@ -236,7 +238,7 @@ module _ (o : Offers) (ts : List Template) (free : FreeTemplates ts) (k : Known)
       let next : Measure = sizes.in_expr k (inside (inside t)) e start in
       let none : next.found ≡ None = before_labels es next z in
       let own : bind.in_expr c b e found ≡ None = before_exprs c b (exprs_of es) (bind.in_expr c b e found) n in
-      let here : After 0 (inside t) (content 0 0 (equals at v x.1)) (counted m t) next = beside_variable at v _ x.1 (inside t) (counted m t) next (counted_there c b s h e found own names (inside (inside t)) (omega arith) start none) in
+      let here : After 0 (inside t) (content 0 0 (equals at v x.1)) (counted m t) next = beside_variable at v op.Equal x.1 (inside t) (counted m t) next (counted_there c b s h e found own names (inside (inside t)) (omega arith) start none) in
       let before : After 0 (inside t) (content 0 0 a) first m = subst (λ (y : Spot). After 0 y (content 0 0 a) first m) (before_more true (length es)) w in
       let calm : IsQuiet x.1 = calm_there c b s h vs l e found own names (inside (inside t)) (record { is_code = refl; some = omega arith; wrapped = refl }) start none in
       further_labels c b s h vs l at v es (bind.in_expr c b e found) n x.0 (or_of at a (equals at v x.1)) first next (after_between 0 t (content 0 0 a) (content 0 0 (equals at v x.1)) first m next before here) (q, (tt, calm)) z
@@ -253,7 +255,7 @@ module _ (o : Offers) (ts : List Template) (free : FreeTemplates ts) (k : Known)
       let lim : Limits last = limits last at z in
       let none : next.found ≡ None = before_labels es next lim.found in
       let own : bind.in_expr c b e found ≡ None = before_exprs c b (exprs_of es) (bind.in_expr c b e found) n in
-      let here : After 0 t (content 0 0 (equals at v x.1)) (nothing late []) next = beside_variable at v _ x.1 t (nothing late []) next (counted_there c b s h e found own names (inside t) (omega arith) start none) in
+      let here : After 0 t (content 0 0 (equals at v x.1)) (nothing late []) next = beside_variable at v op.Equal x.1 t (nothing late []) next (counted_there c b s h e found own names (inside t) (omega arith) start none) in
       let calm : IsQuiet x.1 = calm_there c b s h vs l e found own names (inside t) (record { is_code = refl; some = omega arith; wrapped = refl }) start none in
       let r : Tested (nothing late []) last (or_labels at v false (equals at v x.1) (in_clauses ts s x.0 es).1) =
       further_labels c b s h vs l at v es (bind.in_expr c b e found) n x.0 (equals at v x.1) (nothing late []) next here (tt, calm) lim.found
