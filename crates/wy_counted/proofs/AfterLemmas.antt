@@ -1,18 +1,15 @@
 -- What is counted in the source is what the core has.
-use Rattle.std.proofs.Common.{◌≡◌, ◌≢◌, ◌∙◌, ◌<◌, ◌≤◌, ◌⊎◌, inl, inr, ℕ, zero, suc, ◌+◌, ◌-◌, ◌*◌, min, max, Bool, true, false, not, ◌&&◌, ◌||◌, ◌==◌, nat_lt, List, [], ◌∷◌, length, Option, Some, None, refl, sym, ap, subst, arith, if◌then◌else◌}
+use Rattle.std.proofs.Common.{◌≡◌, ◌≢◌, ◌∙◌, ◌<◌, ◌⊎◌, inl, inr, ℕ, zero, suc, ◌+◌, ◌-◌, ◌*◌, min, max, Bool, true, false, not, ◌&&◌, ◌||◌, ◌==◌, List, [], ◌∷◌, Option, Some, None, refl, sym, ap, subst, arith, if◌then◌else◌}
 use Rattle.std.specs.List.{slice_get}
 use Rattle.std.specs.Prelude.{slice_set}
 use Rattle.std.proofs.Math.Dec.{eqb}
 use Rattle.std.proofs.lemmas.Bool.Decides.{eqb_tells}
-use Rattle.wy_core.specs.Types.{Ty}
-use Rattle.wy_core.specs.CoreTree.{Expr}
 use Rattle.wy_scope.specs.Faults.{Found}
 use Rattle.wy_expand.specs.declared.measure.Measure.{Measure}
 use Rattle.wy_expand.specs.declared.measure.Spot.{Spot}
-use Rattle.wy_expand.specs.declared.measure.Summary.{Summary}
 use Rattle.wy_expand.specs.declared.measure.Use.{Use}
-use Rattle.wy_expand.specs.Measures.{plus, times, inside, deeper, quantified, argument, reached, counted, counted_many, with_found, with_call, called, expanded, endless, one_more, use_set, with_use, used}
-use Rattle.wy_counted.proofs.NearLemmas.{Near, near, near_back, near_on, near_plus, near_times, near_sum, near_max, near_product, same_zero, raised, off, off_more, off_max, off_inside, over_root, near_raised, raised_twice, raised_not, raised_same, raised_none, raised_some}
+use Rattle.wy_expand.specs.Measures.{plus, times, inside, quantified, argument, reached, counted, counted_many, with_found, with_call, called, one_more, use_set, with_use, used}
+use Rattle.wy_counted.proofs.NearLemmas.{Near, near, near_on, near_plus, near_times, near_sum, near_max, near_product, raised, off, off_max, off_inside, over_root, near_raised, raised_twice, raised_not, raised_none, raised_some}
 use Rattle.wy_counted.proofs.ContentLemmas.{Usage, up, unused, both_uses, around, quantified_use, Content, one_use, empty, beside, one_node, one_quant, lift, use_put, put, Sound, same_use}
 
 -- the parameter stands in a quantifier, by the spot or in what stands there
@@ -35,7 +32,7 @@ pub record After (j : ℕ) (s : Spot) (x : Content) (m n : Measure) : Type 0 whe
   pub fixed : Near n.fixed (m.fixed + s.times * x.fixed)
   pub nodes : Near n.nodes (m.nodes + s.times * x.nodes)
   pub height : Near n.height (raised s.times m.height (off s.depth x.height))
-  pub use : Listed j s x.use m.uses n.uses
+  pub usage : Listed j s x.usage m.uses n.uses
 
 -- ---- nothing
 
@@ -65,12 +62,12 @@ after_nothing j s m = record {
   fixed = none_more m.fixed s.times;
   nodes = none_more m.nodes s.times;
   height = not_higher s.times m.height s.depth;
-  use = nothing_listed j s m.uses;
+  usage = nothing_listed j s m.uses;
 }
 
 -- another fault found changes nothing that is counted
 pub after_found : (j : ℕ) (s : Spot) (x : Content) (m n : Measure) (found : Found) → After j s x m n → After j s x m (with_found n found)
-after_found j s x m n found h = record { fixed = h.fixed; nodes = h.nodes; height = h.height; use = h.use }
+after_found j s x m n found h = record { fixed = h.fixed; nodes = h.nodes; height = h.height; usage = h.usage }
 
 -- ---- one behind another
 
@@ -120,10 +117,10 @@ after_both j s x y m n o h k = record {
   fixed = sums m.fixed n.fixed o.fixed s.times x.fixed y.fixed h.fixed k.fixed;
   nodes = sums m.nodes n.nodes o.nodes s.times x.nodes y.nodes h.nodes k.nodes;
   height = heights s.times s.depth m.height n.height o.height x.height y.height h.height k.height;
-  use = λ (u : Use) (at : slice_get m.uses j ≡ Some u).
-      let first = h.use u at in
-      let second = k.use first.0 first.1 in
-      (second.0, second.1, used_twice s u first.0 second.0 x.use y.use first.2 second.2);
+  usage = λ (u : Use) (at : slice_get m.uses j ≡ Some u).
+      let first = h.usage u at in
+      let second = k.usage first.0 first.1 in
+      (second.0, second.1, used_twice s u first.0 second.0 x.usage y.usage first.2 second.2);
 }
 
 -- ---- a node around its parts
@@ -153,7 +150,7 @@ after_node j s x m n h = record {
   fixed = one_sum m.fixed n.fixed s.times x.fixed h.fixed;
   nodes = one_sum m.nodes n.nodes s.times x.nodes h.nodes;
   height = one_height s.times s.depth m.height n.height x.height h.height;
-  use = λ (u : Use) (at : slice_get m.uses j ≡ Some u). let r = h.use u at in (r.0, r.1, node_used s u r.0 x.use r.2);
+  usage = λ (u : Use) (at : slice_get m.uses j ≡ Some u). let r = h.usage u at in (r.0, r.1, node_used s u r.0 x.usage r.2);
 }
 
 pub after_leaf : (j : ℕ) (s : Spot) (m : Measure) → After j s (one_node empty) m (counted m s)
@@ -181,7 +178,7 @@ after_quant j s x m n q h = record {
   fixed = one_sum m.fixed n.fixed s.times x.fixed h.fixed;
   nodes = one_sum m.nodes n.nodes s.times x.nodes h.nodes;
   height = one_height s.times s.depth m.height n.height x.height h.height;
-  use = λ (u : Use) (at : slice_get m.uses j ≡ Some u). let r = h.use u at in (r.0, r.1, quant_used s u r.0 x.use q r.2);
+  usage = λ (u : Use) (at : slice_get m.uses j ≡ Some u). let r = h.usage u at in (r.0, r.1, quant_used s u r.0 x.usage q r.2);
 }
 
 -- what stands in a quantifier that is written there
@@ -200,14 +197,14 @@ after_written j s x m n h = record {
   fixed = h.fixed;
   nodes = h.nodes;
   height = h.height;
-  use = λ (u : Use) (at : slice_get m.uses j ≡ Some u). let r = h.use u at in (r.0, r.1, written_used s u r.0 x.use r.2);
+  usage = λ (u : Use) (at : slice_get m.uses j ≡ Some u). let r = h.usage u at in (r.0, r.1, written_used s u r.0 x.usage r.2);
 }
 
 -- ---- many nodes beside each other
 
 -- so many nodes, h high where there are some
 abbrev pub many : ℕ → ℕ → Content
-many n h = record { fixed = n; nodes = n; height = if n == 0 then 0 else h; use = unused }
+many n h = record { fixed = n; nodes = n; height = if n == 0 then 0 else h; usage = unused }
 
 pub after_many : (j : ℕ) (s t : Spot) (m : Measure) (count n h : ℕ) → t.times ≡ s.times → Near t.depth (off s.depth h) → Near count n → After j s (many n h) m (counted_many m t count)
 after_many j s t m count n h same deep near_n = by (eqb_tells count 0) (eqb_tells n 0)
@@ -216,7 +213,7 @@ after_many j s t m count n h same deep near_n = by (eqb_tells count 0) (eqb_tell
     none e z =
         subst (λ (k : ℕ). After j s (many n h) m (counted_many m t k)) (sym e)
         (subst (λ (k : ℕ). After j s (many k h) m m) (sym z)
-        (record { fixed = none_more m.fixed s.times; nodes = none_more m.nodes s.times; height = not_higher s.times m.height s.depth; use = nothing_listed j s m.uses }))
+        (record { fixed = none_more m.fixed s.times; nodes = none_more m.nodes s.times; height = not_higher s.times m.height s.depth; usage = nothing_listed j s m.uses }))
 
     sum : (a : ℕ) → Near (plus a (times t.times count)) (a + s.times * n)
     sum a =
@@ -232,8 +229,8 @@ after_many j s t m count n h same deep near_n = by (eqb_tells count 0) (eqb_tell
     some : (count == 0) ≡ false → (n == 0) ≡ false → After j s (many n h) m (counted_many m t count)
     some e z =
         subst (λ (b : Bool). After j s (many n h) m (if b then m else record { fixed = plus m.fixed (times t.times count); nodes = plus m.nodes (times t.times count); height = reached m.height t; found = m.found; uses = m.uses })) (sym e)
-        (subst (λ (b : Bool). After j s (record { fixed = n; nodes = n; height = if b then 0 else h; use = unused }) m (record { fixed = plus m.fixed (times t.times count); nodes = plus m.nodes (times t.times count); height = reached m.height t; found = m.found; uses = m.uses })) (sym z)
-        (record { fixed = sum m.fixed; nodes = sum m.nodes; height = high; use = nothing_listed j s m.uses }))
+        (subst (λ (b : Bool). After j s (record { fixed = n; nodes = n; height = if b then 0 else h; usage = unused }) m (record { fixed = plus m.fixed (times t.times count); nodes = plus m.nodes (times t.times count); height = reached m.height t; found = m.found; uses = m.uses })) (sym z)
+        (record { fixed = sum m.fixed; nodes = sum m.nodes; height = high; usage = nothing_listed j s m.uses }))
 
     by : ((eqb count 0 ≡ true) × (count ≡ 0)) ⊎ ((eqb count 0 ≡ false) × (count ≢ 0)) → ((eqb n 0 ≡ true) × (n ≡ 0)) ⊎ ((eqb n 0 ≡ false) × (n ≢ 0)) → After j s (many n h) m (counted_many m t count)
     by (inl x) (inl y) = none x.1 y.1
@@ -298,14 +295,14 @@ once_more s u = record {
 
 -- the parameter i, where the uses of j are asked for
 abbrev pub parameter : ℕ → ℕ → Content
-parameter i j = record { fixed = 0; nodes = 1; height = 1; use = if i == j then one_use else unused }
+parameter i j = record { fixed = 0; nodes = 1; height = 1; usage = if i == j then one_use else unused }
 
 pub after_used : (j : ℕ) (s : Spot) (m : Measure) (i : ℕ) → After j s (parameter i j) m (used m s i)
 after_used j s m i = record {
   fixed = none_more m.fixed s.times;
   nodes = let e : m.nodes + s.times ≡ m.nodes + s.times * 1 = omega arith in near_on (near_plus m.nodes s.times) (near e);
   height = let e : s.depth ≡ s.depth + 0 = omega arith in near (ap (raised s.times m.height) e);
-  use = λ (u : Use) (at : slice_get m.uses j ≡ Some u). by (eqb_tells i j) u at;
+  usage = λ (u : Use) (at : slice_get m.uses j ≡ Some u). by (eqb_tells i j) u at;
 }
   where
     same : (u : Use) → slice_get m.uses j ≡ Some u → i ≡ j → (v : Use) × (slice_get (with_use m.uses s i) j ≡ Some v) × UsedAfter s u one_use v
@@ -425,6 +422,7 @@ module _ (s : Spot) (at : ℕ) (u : Use) (y : Usage) (own : Uses u y) (sound : S
       by (inr p) = p
 
   claims_put : (x w : Usage) → Claims s (use_put w x y) → (Claims s x) ⊎ (Claims there w)
+  unfolding there
   claims_put x w c = by c.1
     where
       first : s.quantified ≡ true → (0 < x.times) ⊎ (0 < y.times * w.times) → (Claims s x) ⊎ (Claims there w)
@@ -444,6 +442,7 @@ module _ (s : Spot) (at : ℕ) (u : Use) (y : Usage) (own : Uses u y) (sound : S
       by (inr lt) = third (more x.quants (y.quants * w.times + y.times * w.quants) lt)
 
   put_used : (a b c : Use) (x w : Usage) → UsedAfter s a x b → UsedAfter there b w c → UsedAfter s a (use_put w x y) c
+  unfolding there
   put_used a b c x w h k = record {
     times = put_sums a.times b.times c.times x.times w.times h.times k.times;
     depth = put_height a.depth b.depth c.depth x.depth w.depth h.depth k.depth;
@@ -456,27 +455,28 @@ module _ (s : Spot) (at : ℕ) (u : Use) (y : Usage) (own : Uses u y) (sound : S
       by (inr d) = k.claims d
 
   pub after_argument : (j : ℕ) (x w : Content) (m n o : Measure) → After j s x m n → After j (argument s at u) w n o → After j s (put w x y) m o
+  unfolding there
   after_argument j x w m n o h k = record {
     fixed = put_sums m.fixed n.fixed o.fixed x.fixed w.fixed h.fixed k.fixed;
     nodes = put_sums m.nodes n.nodes o.nodes x.nodes w.nodes h.nodes k.nodes;
     height = put_height m.height n.height o.height x.height w.height h.height k.height;
-    use = λ (a : Use) (here : slice_get m.uses j ≡ Some a).
-        let first = h.use a here in
-        let second = k.use first.0 first.1 in
-        (second.0, second.1, put_used a first.0 second.0 x.use w.use first.2 second.2);
+    usage = λ (a : Use) (here : slice_get m.uses j ≡ Some a).
+        let first = h.usage a here in
+        let second = k.usage first.0 first.1 in
+        (second.0, second.1, put_used a first.0 second.0 x.usage w.usage first.2 second.2);
   }
 
 -- ---- what stands deeper
 
 abbrev pub sunk : Content → Content
-sunk x = record { fixed = x.fixed; nodes = x.nodes; height = up x.height; use = around x.use }
+sunk x = record { fixed = x.fixed; nodes = x.nodes; height = up x.height; usage = around x.usage }
 
 pub after_sunk : (j : ℕ) (s : Spot) (x : Content) (m n : Measure) → After j (inside s) x m n → After j s (sunk x) m n
 after_sunk j s x m n h = record {
   fixed = h.fixed;
   nodes = h.nodes;
   height = deeper_use s.times s.depth m.height n.height x.height h.height;
-  use = λ (u : Use) (at : slice_get m.uses j ≡ Some u). let r = h.use u at in (r.0, r.1, node_used s u r.0 x.use r.2);
+  usage = λ (u : Use) (at : slice_get m.uses j ≡ Some u). let r = h.usage u at in (r.0, r.1, node_used s u r.0 x.usage r.2);
 }
 
 max_up : (x y : ℕ) → max (up x) (max 1 (up y)) ≡ max x y + 1
@@ -493,15 +493,15 @@ both_up (suc x) (suc y) =
     let e : suc (max x y) ≡ max (suc x) (suc y) = omega arith in let f : max (suc (suc x)) (max 0 (suc (suc y))) ≡ up (suc (max x y)) = omega arith in f ∙ ap up e
 
 abbrev content_of : ℕ → ℕ → ℕ → Usage → Content
-content_of f n h u = record { fixed = f; nodes = n; height = h; use = u }
+content_of f n h u = record { fixed = f; nodes = n; height = h; usage = u }
 
-pub same_content : {x y : Content} → x.fixed ≡ y.fixed → x.nodes ≡ y.nodes → x.height ≡ y.height → x.use ≡ y.use → x ≡ y
+pub same_content : {x y : Content} → x.fixed ≡ y.fixed → x.nodes ≡ y.nodes → x.height ≡ y.height → x.usage ≡ y.usage → x ≡ y
 same_content {x} {y} p q r t =
-    ap (λ (n : ℕ). content_of n x.nodes x.height x.use) p ∙ ap (λ (n : ℕ). content_of y.fixed n x.height x.use) q ∙ ap (λ (n : ℕ). content_of y.fixed y.nodes n x.use) r
+    ap (λ (n : ℕ). content_of n x.nodes x.height x.usage) p ∙ ap (λ (n : ℕ). content_of y.fixed n x.height x.usage) q ∙ ap (λ (n : ℕ). content_of y.fixed y.nodes n x.usage) r
     ∙ ap (λ (u : Usage). content_of y.fixed y.nodes y.height u) t
 
 joined_content : (x y : Content) → beside (sunk x) (beside (one_node empty) (sunk y)) ≡ one_node (beside x y)
-joined_content x y = same_content (omega arith) (omega arith) (max_up x.height y.height) (same_use (omega arith) (both_up x.use.depth y.use.depth) (omega arith))
+joined_content x y = same_content (omega arith) (omega arith) (max_up x.height y.height) (same_use (omega arith) (both_up x.usage.depth y.usage.depth) (omega arith))
 
 -- a node that is counted between its two parts
 pub after_between : (j : ℕ) (s : Spot) (x y : Content) (m n o : Measure) → After j (inside s) x m n → After j (inside s) y (counted n s) o → After j s (one_node (beside x y)) m o
@@ -517,4 +517,4 @@ after_called j s x m n h = after_node j s x m n (by s.wrapped h)
   where
     by : (w : Option ℕ) → After j (inside s) x (with_call (counted m s) s.times w) n → After j (inside s) x (counted m s) n
     by None k = k
-    by (Some at) k = record { fixed = k.fixed; nodes = k.nodes; height = k.height; use = k.use }
+    by (Some at) k = record { fixed = k.fixed; nodes = k.nodes; height = k.height; usage = k.usage }

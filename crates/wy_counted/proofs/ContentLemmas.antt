@@ -1,5 +1,5 @@
 -- The nodes, the height and the uses of a parameter, as ways to count.
-use Rattle.std.proofs.Common.{◌≡◌, ◌≢◌, ◌∙◌, ◌<◌, ◌≤◌, ◌⊎◌, inl, inr, ℕ, zero, suc, ◌+◌, ◌-◌, ◌*◌, max, Bool, true, false, ◌&&◌, ◌==◌, nat_lt, List, [], ◌∷◌, length, refl, sym, ap, subst, arith, if◌then◌else◌}
+use Rattle.std.proofs.Common.{◌≡◌, ◌∙◌, ◌<◌, ◌≤◌, ◌⊎◌, inl, inr, ℕ, zero, suc, ◌+◌, ◌*◌, max, Bool, true, false, ◌&&◌, ◌==◌, nat_lt, refl, sym, ap, arith, if◌then◌else◌}
 use borrow.Author.Tests.{ltb-true}
 use Rattle.wy_core.specs.Types.{Ty}
 use Rattle.wy_core.specs.CoreTree.{Expr, NullExpr, BoolExpr, IntExpr, VarExpr, CallExpr, NegExpr, NotExpr, LenExpr, BinaryExpr, IsExpr, IndexExpr, FieldExpr, ListExpr, RepeatExpr, RecordExpr, QuantExpr, Exprs, NoExprs, MoreExprs, Fields, NoFields, MoreFields}
@@ -61,7 +61,7 @@ mutual
   size-is (FieldExpr at a name) = ap (λ (n : ℕ). n + 1) (size-is a)
   size-is (ListExpr at items) = ap (λ (n : ℕ). n + 1) (sizes-are items)
   size-is (RepeatExpr at a b) = let x = size-is a in let y = size-is b in omega (arith, x, y)
-  size-is (RecordExpr at fields) = ap (λ (n : ℕ). n + 1) (field_sizes-are fields)
+  size-is (RecordExpr at members) = ap (λ (n : ℕ). n + 1) (field_sizes-are members)
   size-is (QuantExpr at all v from to body) = let x = size-is from in let y = size-is to in let z = size-is body in omega (arith, x, y, z)
 
   sizes-are : (es : Exprs ℕ) → tallies by_nodes one_each es ≡ sizes es
@@ -88,7 +88,7 @@ mutual
   height-is (FieldExpr at a name) = ap (λ (n : ℕ). n + 1) (height-is a)
   height-is (ListExpr at items) = ap (λ (n : ℕ). n + 1) (heights-are items)
   height-is (RepeatExpr at a b) = ap (λ (n : ℕ). max n (tally by_height one_each b) + 1) (height-is a) ∙ ap (λ (n : ℕ). max (height a) n + 1) (height-is b)
-  height-is (RecordExpr at fields) = ap (λ (n : ℕ). n + 1) (field_heights-are fields)
+  height-is (RecordExpr at members) = ap (λ (n : ℕ). n + 1) (field_heights-are members)
   height-is (QuantExpr at all v from to body) =
       ap (λ (n : ℕ). max n (max (tally by_height one_each to) (tally by_height one_each body)) + 1) (height-is from)
       ∙ ap (λ (n : ℕ). max (height from) (max n (tally by_height one_each body)) + 1) (height-is to)
@@ -109,7 +109,7 @@ pub record Content : Type 0 where
   pub fixed : ℕ
   pub nodes : ℕ
   pub height : ℕ
-  pub use : Usage
+  pub usage : Usage
 
 -- a variable counts as a node where it is none of the first p
 abbrev pub beyond : ℕ → ℕ → ℕ
@@ -123,33 +123,33 @@ abbrev pub single : ℕ → ℕ → ℕ → Usage
 single p j v = if nat_lt v p && (v == j) then one_use else unused
 
 abbrev pub content : ℕ → ℕ → Expr ℕ → Content
-content p j e = record { fixed = tally by_nodes (beyond p) e; nodes = tally by_nodes one_each e; height = tally by_height one_each e; use = tally by_use (single p j) e }
+content p j e = record { fixed = tally by_nodes (beyond p) e; nodes = tally by_nodes one_each e; height = tally by_height one_each e; usage = tally by_use (single p j) e }
 
 abbrev pub contents : ℕ → ℕ → Exprs ℕ → Content
-contents p j es = record { fixed = tallies by_nodes (beyond p) es; nodes = tallies by_nodes one_each es; height = tallies by_height one_each es; use = tallies by_use (single p j) es }
+contents p j es = record { fixed = tallies by_nodes (beyond p) es; nodes = tallies by_nodes one_each es; height = tallies by_height one_each es; usage = tallies by_use (single p j) es }
 
 abbrev pub field_contents : ℕ → ℕ → Fields ℕ → Content
 field_contents p j fs = record {
   fixed = field_tallies by_nodes (beyond p) fs;
   nodes = field_tallies by_nodes one_each fs;
   height = field_tallies by_height one_each fs;
-  use = field_tallies by_use (single p j) fs;
+  usage = field_tallies by_use (single p j) fs;
 }
 
 abbrev pub ty_content : Ty → Content
-ty_content t = record { fixed = size_ty t; nodes = size_ty t; height = height_ty t; use = unused }
+ty_content t = record { fixed = size_ty t; nodes = size_ty t; height = height_ty t; usage = unused }
 
 abbrev pub empty : Content
-empty = record { fixed = 0; nodes = 0; height = 0; use = unused }
+empty = record { fixed = 0; nodes = 0; height = 0; usage = unused }
 
 abbrev pub beside : Content → Content → Content
-beside x y = record { fixed = x.fixed + y.fixed; nodes = x.nodes + y.nodes; height = max x.height y.height; use = both_uses x.use y.use }
+beside x y = record { fixed = x.fixed + y.fixed; nodes = x.nodes + y.nodes; height = max x.height y.height; usage = both_uses x.usage y.usage }
 
 abbrev pub one_node : Content → Content
-one_node x = record { fixed = x.fixed + 1; nodes = x.nodes + 1; height = x.height + 1; use = around x.use }
+one_node x = record { fixed = x.fixed + 1; nodes = x.nodes + 1; height = x.height + 1; usage = around x.usage }
 
 abbrev pub one_quant : Content → Content
-one_quant x = record { fixed = x.fixed + 1; nodes = x.nodes + 1; height = x.height + 1; use = quantified_use x.use }
+one_quant x = record { fixed = x.fixed + 1; nodes = x.nodes + 1; height = x.height + 1; usage = quantified_use x.usage }
 
 -- ---- an expression in place of a variable
 
@@ -187,7 +187,7 @@ abbrev pub use_put : Usage → Usage → Usage → Usage
 use_put w x y = record { times = x.times + y.times * w.times; depth = max x.depth (lift y.depth w.depth); quants = x.quants + (y.quants * w.times + y.times * w.quants) }
 
 abbrev pub put : Content → Content → Usage → Content
-put w x y = record { fixed = nodes_put w.fixed x.fixed y; nodes = nodes_put w.nodes x.nodes y; height = height_put w.height x.height y; use = use_put w.use x.use y }
+put w x y = record { fixed = nodes_put w.fixed x.fixed y; nodes = nodes_put w.nodes x.nodes y; height = height_put w.height x.height y; usage = use_put w.usage x.usage y }
 
 pub nodes_together : (w : ℕ) → Together by_nodes by_use (nodes_put w)
 nodes_together w = record {
@@ -252,6 +252,10 @@ up_none d e = ap up e
 abbrev pub SoundBoth : Usage → Usage → Type 0
 SoundBoth x y = Sound x
 
+one_more : (a b : ℕ) → 0 < a + b → (0 < a) ⊎ (0 < b)
+one_more zero b lt = inr (omega (arith, lt))
+one_more (suc a) b lt = inl (omega arith)
+
 sound_both : (x z : Usage) → Sound x → Sound z → Sound (both_uses x z)
 sound_both x z h k = record { nowhere = nowhere; somewhere = somewhere }
   where
@@ -266,10 +270,11 @@ sound_both x z h k = record { nowhere = nowhere; somewhere = somewhere }
         (omega (arith, p, r), omega (arith, q, t))
 
     somewhere : 0 < x.times + z.times → 0 < max x.depth z.depth
-    somewhere lt =
-        let a : 0 < x.times → 0 < x.depth = h.somewhere in
-        let b : 0 < z.times → 0 < z.depth = k.somewhere in
-        omega (arith, lt, a, b)
+    somewhere lt = by (one_more x.times z.times lt)
+      where
+        by : (0 < x.times) ⊎ (0 < z.times) → 0 < max x.depth z.depth
+        by (inl p) = let a : 0 < x.depth = h.somewhere p in omega (arith, a)
+        by (inr p) = let a : 0 < z.depth = k.somewhere p in omega (arith, a)
 
 sound_node : (x : Usage) → Sound x → Sound (around x)
 sound_node x h = record {
@@ -322,7 +327,7 @@ some_height f h (IndexExpr at a b) = omega arith
 some_height f h (FieldExpr at a name) = omega arith
 some_height f h (ListExpr at items) = omega arith
 some_height f h (RepeatExpr at a b) = omega arith
-some_height f h (RecordExpr at fields) = omega arith
+some_height f h (RecordExpr at members) = omega arith
 some_height f h (QuantExpr at all v from to body) = omega arith
 
 abbrev AtMost : ℕ → ℕ → Type 0
@@ -348,7 +353,7 @@ lone_variable p f (BoolExpr at truth) h z = absurd (omega (arith, z))
 lone_variable p f (IntExpr at number) h z = absurd (omega (arith, z))
 lone_variable p f (VarExpr at v) h z = by (nat_lt v p) refl z
   where
-    by : (b : Bool) → nat_lt v p ≡ b → (if b then 0 else 1) ≡ 0 → f v ≡ 0
+    by : (b : Bool) → nat_lt v p ≡ b → ◌≡◌ {A = ℕ} (if b then 0 else 1) 0 → f v ≡ 0
     by true e k = h v (ltb-true v p e)
     by false e k = absurd (omega (arith, k))
 lone_variable p f (CallExpr at routine args) h z = absurd (omega (arith, z))
@@ -361,5 +366,5 @@ lone_variable p f (IndexExpr at a b) h z = absurd (omega (arith, z))
 lone_variable p f (FieldExpr at a name) h z = absurd (omega (arith, z))
 lone_variable p f (ListExpr at items) h z = absurd (omega (arith, z))
 lone_variable p f (RepeatExpr at a b) h z = absurd (omega (arith, z))
-lone_variable p f (RecordExpr at fields) h z = absurd (omega (arith, z))
+lone_variable p f (RecordExpr at members) h z = absurd (omega (arith, z))
 lone_variable p f (QuantExpr at all v from to body) h z = absurd (omega (arith, z))

@@ -1,5 +1,5 @@
 -- Numbers of which those above 4,096 aren't told apart.
-use Rattle.std.proofs.Common.{◌≡◌, ◌≢◌, ◌∙◌, ◌<◌, ◌≤◌, ◌⊎◌, inl, inr, ℕ, zero, suc, ◌+◌, ◌-◌, ◌*◌, min, max, Bool, true, false, ◌==◌, nat_lt, refl, sym, ap, subst, arith, if◌then◌else◌}
+use Rattle.std.proofs.Common.{◌≡◌, ◌≢◌, ◌∙◌, ◌<◌, ◌≤◌, ◌⊎◌, inl, inr, ℕ, zero, suc, ◌+◌, ◌*◌, min, max, Bool, true, false, ◌==◌, nat_lt, refl, sym, ap, arith, if◌then◌else◌}
 use Rattle.std.proofs.Math.Dec.{eqb}
 use Rattle.std.proofs.lemmas.Bool.Decides.{eqb_tells}
 use borrow.Author.Tests.{ltb-true, ltb-false}
@@ -91,7 +91,6 @@ off_inside d (suc x) = record { same = omega arith }
 pub over_root : (d x : ℕ) → max (off d 1) (off (d + 1) x) ≡ off d (x + 1)
 over_root d zero = let e : max (off d 1) (off (d + 1) 0) ≡ d + 0 = omega arith in e ∙ sym (off_more d 0)
 over_root d (suc x) = let e : max (off d 1) (off (d + 1) (suc x)) ≡ d + suc x = omega arith in e ∙ sym (off_more d (suc x))
-
 
 pub near_raised : (t a b x y : ℕ) → Near a b → Near x y → Near (raised t a x) (raised t b y)
 near_raised t a b x y h j = by (t == 0)

@@ -1,5 +1,5 @@
 -- A property's clauses, joined, with arguments put in one after the other.
-use Rattle.std.proofs.Common.{◌≡◌, ◌≢◌, ◌∙◌, ◌<◌, ◌≤◌, ◌⊎◌, inl, inr, ℕ, zero, suc, ◌+◌, ◌-◌, ◌*◌, max, Bool, true, false, not, ◌&&◌, ◌==◌, nat_lt, List, [], ◌∷◌, ◌++◌, length, Option, Some, None, refl, sym, ap, subst, arith, if◌then◌else◌}
+use Rattle.std.proofs.Common.{◌≡◌, ◌≢◌, ◌∙◌, ◌<◌, ◌≤◌, ◌⊎◌, inl, inr, ℕ, zero, suc, max, Bool, true, false, ◌&&◌, ◌==◌, nat_lt, List, [], ◌∷◌, ◌++◌, length, Option, Some, None, refl, sym, ap, arith, if◌then◌else◌}
 use Rattle.std.specs.List.{slice_get}
 use Rattle.std.proofs.Math.Dec.{eqb}
 use Rattle.std.proofs.lemmas.Bool.Decides.{eqb_tells}
@@ -7,9 +7,9 @@ use borrow.Author.Tests.{ltb-true, ltb-false}
 use Rattle.wy_core.specs.Types.{Ty}
 use Rattle.wy_core.specs.CoreTree.{Expr, BoolExpr, VarExpr, BinaryExpr}
 use Rattle.wy_core.specs.declared.expressions.Op.TheVariants as op
-use Rattle.wy_build.specs.Instances.{renumbered, argument_or, variable, instance_of, joined_behind, joined}
+use Rattle.wy_build.specs.Instances.{renumbered, argument_or, instance_of, joined_behind, joined}
 use Rattle.wy_counted.proofs.TallyLemmas.{Counts, tally, put_in, tally-instance, same_tally, Together, summed, tally_sum, Related, related}
-use Rattle.wy_counted.proofs.ContentLemmas.{by_nodes, by_height, Usage, up, unused, both_uses, around, quantified_use, by_use, one_each, Content, one_use, beyond, single, content, lift, nodes_put, height_put, use_put, put, nodes_together, height_together, use_together, same_use, Sound, sound_uses, some_height, higher, lone_variable}
+use Rattle.wy_counted.proofs.ContentLemmas.{by_nodes, by_height, Usage, unused, both_uses, around, quantified_use, by_use, one_each, Content, one_use, beyond, single, content, lift, nodes_put, height_put, use_put, put, nodes_together, height_together, use_together, same_use, Sound, sound_uses, some_height, higher, lone_variable}
 use Rattle.wy_counted.proofs.AfterLemmas.{same_content}
 
 -- ---- clauses as one expression
@@ -182,7 +182,7 @@ module _ (p j n : ℕ) (e : Expr ℕ) where
     fixed = tally by_nodes (given (tally by_nodes (beyond p)) (beyond n) done) e;
     nodes = tally by_nodes (given (tally by_nodes one_each) (beyond n) done) e;
     height = max own_height (tally by_height (given (tally by_height one_each) (beyond n) done) e);
-    use = tally by_use (given (tally by_use (single p j)) no_use done) e;
+    usage = tally by_use (given (tally by_use (single p j)) no_use done) e;
   }
 
   max_out : (h x w d : ℕ) → max (max h x) (lift d w) ≡ max h (max x (lift d w))
@@ -203,7 +203,7 @@ module _ (p j n : ℕ) (e : Expr ℕ) where
       let y : Usage = tally by_use (single n (length done)) e in
       let sound : Sound y = sound_uses n (length done) e in
       let spare : y ≡ unused = same_use z (sound.nowhere z).0 (sound.nowhere z).1 in
-      let nothing : (x : Content) → put x (partly done) unused ≡ partly done = λ (x : Content). same_content (nodes_puts.other x.fixed (partly done).fixed) (nodes_puts.other x.nodes (partly done).nodes) (height_puts.other x.height (partly done).height) (use_puts.other x.use (partly done).use) in
+      let nothing : (x : Content) → put x (partly done) unused ≡ partly done = λ (x : Content). same_content (nodes_puts.other x.fixed (partly done).fixed) (nodes_puts.other x.nodes (partly done).nodes) (height_puts.other x.height (partly done).height) (use_puts.other x.usage (partly done).usage) in
       ap (put w (partly done)) spare ∙ nothing w ∙ sym (nothing a) ∙ ap (put a (partly done)) (sym spare)
 
   unused_law : Related by_use by_use (λ (x y : Usage). x ≡ unused)
@@ -216,7 +216,7 @@ module _ (p j n : ℕ) (e : Expr ℕ) where
   }
 
   -- no argument yet
-  pub partly_none : partly [] ≡ record { fixed = tally by_nodes (beyond n) e; nodes = tally by_nodes (beyond n) e; height = own_height; use = unused }
+  pub partly_none : partly [] ≡ record { fixed = tally by_nodes (beyond n) e; nodes = tally by_nodes (beyond n) e; height = own_height; usage = unused }
   partly_none = same_content refl refl (high (eqb_tells (tally by_nodes (beyond n) e) 0)) (related by_use by_use (λ (x y : Usage). x ≡ unused) unused_law no_use no_use (λ (v : ℕ). refl) e)
     where
       under : (v : ℕ) → beyond n v ≤ 1

@@ -1,6 +1,5 @@
 -- What is counted of an expression of the core, in whatever way it is counted.
-use Rattle.std.proofs.Common.{◌≡◌, ◌∙◌, ℕ, List, Option, Some, None, refl, ap}
-use Rattle.std.specs.List.{slice_get}
+use Rattle.std.proofs.Common.{◌≡◌, ◌∙◌, ℕ, List, refl, ap}
 use Rattle.wy_core.specs.Types.{Ty}
 use Rattle.wy_core.specs.CoreTree.{Expr, NullExpr, BoolExpr, IntExpr, VarExpr, CallExpr, NegExpr, NotExpr, LenExpr, BinaryExpr, IsExpr, IndexExpr, FieldExpr, ListExpr, RepeatExpr, RecordExpr, QuantExpr, Exprs, NoExprs, MoreExprs, Fields, NoFields, MoreFields}
 use Rattle.wy_build.specs.Instances.{variable, instance_of, instances, instance_fields}
@@ -13,34 +12,33 @@ pub record Counts (A : Type 0) : Type 0 where
   pub quant : A → A
   pub ty : Ty → A
 
-module _ {A : Type 0} (c : Counts A) where
-  abbrev mutual
-    -- what is counted of the expression, each variable counting as f says
-    pub tally : (ℕ → A) → Expr ℕ → A
-    tally f (NullExpr at) = c.node c.none
-    tally f (BoolExpr at truth) = c.node c.none
-    tally f (IntExpr at number) = c.node c.none
-    tally f (VarExpr at v) = f v
-    tally f (CallExpr at routine args) = c.node (tallies f args)
-    tally f (NegExpr at a) = c.node (tally f a)
-    tally f (NotExpr at a) = c.node (tally f a)
-    tally f (LenExpr at a) = c.node (tally f a)
-    tally f (BinaryExpr at op a b) = c.node (c.both (tally f a) (tally f b))
-    tally f (IsExpr at a t) = c.node (c.both (tally f a) (c.ty t))
-    tally f (IndexExpr at a b) = c.node (c.both (tally f a) (tally f b))
-    tally f (FieldExpr at a name) = c.node (tally f a)
-    tally f (ListExpr at items) = c.node (tallies f items)
-    tally f (RepeatExpr at a b) = c.node (c.both (tally f a) (tally f b))
-    tally f (RecordExpr at fields) = c.node (field_tallies f fields)
-    tally f (QuantExpr at all v from to body) = c.quant (c.both (tally f from) (c.both (tally f to) (tally f body)))
+abbrev mutual
+  -- what is counted of the expression, each variable counting as f says
+  pub tally : {A : Type 0} → Counts A → (ℕ → A) → Expr ℕ → A
+  tally c f (NullExpr at) = c.node c.none
+  tally c f (BoolExpr at truth) = c.node c.none
+  tally c f (IntExpr at number) = c.node c.none
+  tally c f (VarExpr at v) = f v
+  tally c f (CallExpr at routine args) = c.node (tallies c f args)
+  tally c f (NegExpr at a) = c.node (tally c f a)
+  tally c f (NotExpr at a) = c.node (tally c f a)
+  tally c f (LenExpr at a) = c.node (tally c f a)
+  tally c f (BinaryExpr at op a b) = c.node (c.both (tally c f a) (tally c f b))
+  tally c f (IsExpr at a t) = c.node (c.both (tally c f a) (c.ty t))
+  tally c f (IndexExpr at a b) = c.node (c.both (tally c f a) (tally c f b))
+  tally c f (FieldExpr at a name) = c.node (tally c f a)
+  tally c f (ListExpr at items) = c.node (tallies c f items)
+  tally c f (RepeatExpr at a b) = c.node (c.both (tally c f a) (tally c f b))
+  tally c f (RecordExpr at fields) = c.node (field_tallies c f fields)
+  tally c f (QuantExpr at all v from to body) = c.quant (c.both (tally c f from) (c.both (tally c f to) (tally c f body)))
 
-    pub tallies : (ℕ → A) → Exprs ℕ → A
-    tallies f NoExprs = c.none
-    tallies f (MoreExprs e rest) = c.both (tally f e) (tallies f rest)
+  pub tallies : {A : Type 0} → Counts A → (ℕ → A) → Exprs ℕ → A
+  tallies c f NoExprs = c.none
+  tallies c f (MoreExprs e rest) = c.both (tally c f e) (tallies c f rest)
 
-    pub field_tallies : (ℕ → A) → Fields ℕ → A
-    field_tallies f NoFields = c.none
-    field_tallies f (MoreFields name e rest) = c.both (tally f e) (field_tallies f rest)
+  pub field_tallies : {A : Type 0} → Counts A → (ℕ → A) → Fields ℕ → A
+  field_tallies c f NoFields = c.none
+  field_tallies c f (MoreFields name e rest) = c.both (tally c f e) (field_tallies c f rest)
 
 -- ---- parts that count the same
 

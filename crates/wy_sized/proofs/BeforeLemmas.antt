@@ -1,5 +1,5 @@
 -- Where no fault of expansions is left behind a part of an expression, none was found before it.
-use Rattle.std.proofs.Common.{◌≡◌, ℕ, ◌+◌, Bool, false, List, Option, None}
+use Rattle.std.proofs.Common.{◌≡◌, ℕ, ◌+◌, false, List, Option, None}
 use Rattle.wy_ast.specs.SurfaceTree.{Ty, FieldTys, NullTy, BoolTy, IntTy, AnyTy, VoidTy, RecordTy, ArrayTy, UnionTy, InterTy, NotTy, NamedTy, NoFieldTys, MoreFieldTys}
 use Rattle.wy_ast.specs.SurfaceTree.{Expr, Exprs, Fields, Ranges, NoExprs, MoreExprs, NoFields, MoreFields, NoRanges, MoreRanges}
 use Rattle.wy_scope.specs.declared.fault.Cause.TheVariants as cause

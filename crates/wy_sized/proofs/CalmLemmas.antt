@@ -24,8 +24,7 @@ use Rattle.wy_bind.specs.ExprNames.{count_of}
 use Rattle.wy_expand.specs.declared.measure.Measure.{Measure}
 use Rattle.wy_expand.specs.declared.measure.Spot.{Spot}
 use Rattle.wy_expand.specs.declared.measure.Use.{Use}
-use Rattle.wy_expand.specs.declared.measure.Expansion.{Expansion}
-use Rattle.wy_expand.specs.Measures.{first_of, inside, times, argument, counted, with_call, called}
+use Rattle.wy_expand.specs.Measures.{first_of, inside, argument, counted, with_call, called}
 use Rattle.wy_expand.specs.Sizes as sizes
 use Rattle.wy_expand.specs.Sizes.{Known, arg_spot, operator, left_of, right_of}
 use Rattle.wy_lower.specs.Variables.{Variables}
@@ -38,7 +37,7 @@ use Rattle.wy_formed.specs.Offers.{Offers}
 use Rattle.wy_formed.specs.Bound as formed
 use Rattle.wy_formed.specs.Calls.{CallsExpr, CallsExprs, CallsFields, Nothing}
 use Rattle.wy_formed.specs.Wholes.{IsQuiet, AreQuiet, FieldsQuiet}
-use Rattle.wy_resolved.proofs.NotedLemmas.{none_noted, noted_none, not_false}
+use Rattle.wy_resolved.proofs.NotedLemmas.{noted_none}
 use Rattle.wy_resolved.proofs.BindLemmas.{before_ty, before_expr, before_exprs, field_value}
 use Rattle.wy_resolved.proofs.ScopeLemmas as scopes
 use Rattle.wy_resolved.proofs.FieldLemmas.{Each, each_placed}
@@ -262,9 +261,9 @@ module _ (o : Offers) (ts : List Template) (free : FreeTemplates ts) (k : Known)
   calm_call w t code s at name args names m z ends (routine r own outer) passed putting =
       let e : Option Entry = Some (entry.Routine r) in
       let y : (sizes.in_args k t at e 0 args (called m t)).found ≡ None = subst (λ (q : Option Entry). (sizes.in_args k t at q 0 args (sizes.call k.expansions q t at m)).found ≡ None) outer z in
-      let no : IsWrapped w → ⊥ = unwrapped w t m code (found.before_args k t at e 0 args (called m t) y) in
+      let never : IsWrapped w → ⊥ = unwrapped w t m code (found.before_args k t at e 0 args (called m t) y) in
       subst (λ (q : Option Entry). Calm w (uses.called ts at q (lower.in_args ts s names q 0 args).0 (lower.in_args ts s names q 0 args).1).1) (sym own)
-      (record { quiet = all_quiet w (lower.in_args ts s names e 0 args).1 (passed r (called m t) y); silent = λ (i : IsWrapped w). absurd (no i) })
+      (record { quiet = all_quiet w (lower.in_args ts s names e 0 args).1 (passed r (called m t) y); silent = λ (i : IsWrapped w). absurd (never i) })
   calm_call w t code s at name args names m z ends (property decl own outer) passed putting =
       let n : ℕ = count_of args in
       let e : Option Entry = Some (entry.Property decl n) in
@@ -369,18 +368,18 @@ module _ (o : Offers) (ts : List Template) (free : FreeTemplates ts) (k : Known)
         let here : i + 0 ≡ i = omega arith in
         let u : UsedAs g.summary.uses count clauses i = g.fits.uses i less in
         let some : 0 < (tally by_use (single count i) clauses).times = subst (λ (d : ℕ). 0 < (tally by_use (single count d) clauses).times) here lt in
-        let own : 0 < u.use.times = omega (arith, some, u.same.times.same) in
-        let spot : arg_spot k.expansions p t at i ≡ argument t at u.use = spot_is k.expansions t at decl count i g.summary u.use g.summed u.there in
-        let taken : is_used ts p i ≡ true = used_is ts decl count i g.summary g.template u.use g.made g.fits.used u.there ∙ not_none u.use.times own in
+        let own : 0 < u.usage.times = omega (arith, some, u.same.times.same) in
+        let spot : arg_spot k.expansions p t at i ≡ argument t at u.usage = spot_is k.expansions t at decl count i g.summary u.usage g.summed u.there in
+        let taken : is_used ts p i ≡ true = used_is ts decl count i g.summary g.template u.usage g.made g.fits.used u.there ∙ not_none u.usage.times own in
         let v : With (core.Expr ℕ) = lower.in_expr ts s names e in
         let next : Measure = sizes.in_expr k (arg_spot k.expansions p t at i) e m in
         let same : v.1 ≡ a = some_expr v.1 a (ap (λ (y : Bool). Some (kept y names v).1) (sym taken) ∙ there) in
-        let none : (sizes.in_expr k (argument t at u.use) e m).found ≡ None = subst (λ (d : Spot). (sizes.in_expr k d e m).found ≡ None) spot (found.before_args k t at p (i + 1) rest next z) in
-        let calm : Calm (argument t at u.use).wrapped v.1 =
-        calm_expr (argument t at u.use).wrapped c b s h vs l e before (before_exprs c b rest (bind.in_expr c b e before) n) f.0 names (argument t at u.use) (code_argument w t at u.use code own) m none
+        let none : (sizes.in_expr k (argument t at u.usage) e m).found ≡ None = subst (λ (d : Spot). (sizes.in_expr k d e m).found ≡ None) spot (found.before_args k t at p (i + 1) rest next z) in
+        let calm : Calm (argument t at u.usage).wrapped v.1 =
+        calm_expr (argument t at u.usage).wrapped c b s h vs l e before (before_exprs c b rest (bind.in_expr c b e before) n) f.0 names (argument t at u.usage) (code_argument w t at u.usage code own) m none
         in
         subst (λ (d : ℕ). Fine w (tally by_use (single count d) clauses) a) (sym here)
-        (subst (λ (x : core.Expr ℕ). Fine w (tally by_use (single count i) clauses) x) same (fine w t at u.use code (tally by_use (single count i) clauses) v.1 u.same.quants calm))
+        (subst (λ (x : core.Expr ℕ). Fine w (tally by_use (single count i) clauses) x) same (fine w t at u.usage code (tally by_use (single count i) clauses) v.1 u.same.quants calm))
     fine_args w c b s h vs l decl count g at i (MoreExprs e rest) all before n f names t code m z (suc q) a there lt =
         let p : Option Entry = Some (entry.Property decl count) in
         let clauses : core.Expr ℕ = whole_of g.template.clauses in

@@ -1,5 +1,5 @@
 -- A property's summary is that of its clauses in the core, joined by `&&`.
-use Rattle.std.proofs.Common.{◌≡◌, ◌∙◌, ◌<◌, ◌≤◌, inr, ℕ, zero, suc, ◌+◌, ◌*◌, min, max, Bool, true, false, List, [], ◌∷◌, length, Option, Some, None, refl, sym, ap, subst, arith}
+use Rattle.std.proofs.Common.{◌≡◌, ◌<◌, ◌≤◌, inr, ℕ, zero, suc, ◌+◌, ◌*◌, min, max, Bool, true, false, List, [], ◌∷◌, length, Some, None, refl, ap, subst, arith}
 use Rattle.std.specs.List.{slice_get}
 use Rattle.wy_ast.specs.SurfaceTree.{Expr, Param, exprs_of}
 use Rattle.wy_core.specs.CoreTree as core
@@ -10,12 +10,11 @@ use Rattle.wy_bind.specs.declared.context.Context.{Context}
 use Rattle.wy_bind.specs.ExprNames as bind
 use Rattle.wy_expand.specs.declared.measure.Measure.{Measure}
 use Rattle.wy_expand.specs.declared.measure.Spot.{Spot}
-use Rattle.wy_expand.specs.declared.measure.Summary.{Summary}
 use Rattle.wy_expand.specs.declared.measure.Use.{Use}
 use Rattle.wy_expand.specs.Measures.{plus, nothing, root, deeper, inside, counted}
 use Rattle.wy_expand.specs.Sizes as sizes
 use Rattle.wy_expand.specs.Sizes.{Known}
-use Rattle.wy_expand.specs.Summaries.{no_uses, one_clause, in_joined, summed}
+use Rattle.wy_expand.specs.Summaries.{no_uses, in_joined}
 use Rattle.wy_lower.specs.Variables.{Variables}
 use Rattle.wy_lower.specs.Uses.{With, Template}
 use Rattle.wy_lower.specs.ExprsLowered as lower
@@ -23,10 +22,10 @@ use Rattle.wy_resolved.proofs.BindLemmas.{before_exprs}
 use Rattle.wy_resolved.proofs.GrowLemmas.{through, grows_expr}
 use Rattle.wy_counted.proofs.TallyLemmas.{tally}
 use Rattle.wy_counted.proofs.NearLemmas.{Near, near, near_on, raised, off}
-use Rattle.wy_counted.proofs.ContentLemmas.{by_nodes, by_height, by_use, one_each, Usage, Content, beyond, single, content, beside, one_node}
-use Rattle.wy_counted.proofs.AfterLemmas.{Claims, UsedAfter, After, after_between, Uses}
+use Rattle.wy_counted.proofs.ContentLemmas.{by_use, Content, single, content}
+use Rattle.wy_counted.proofs.AfterLemmas.{UsedAfter, After, after_between}
 use Rattle.wy_counted.proofs.PutLemmas.{conjoined, whole_of}
-use Rattle.wy_sized.proofs.FitLemmas.{UsedAs, EndsExpr, EndsExprs}
+use Rattle.wy_sized.proofs.FitLemmas.{UsedAs, EndsExprs}
 use Rattle.wy_sized.proofs.WalkLemmas.{Here, expr_counted}
 
 -- so deep at the root
@@ -62,7 +61,7 @@ module _ (k : Known) (ts : List Template) (p j : ℕ) where
       further_clauses c b s h es (bind.in_expr c b e found) n f.1 v.0 (through le (grows_expr ts s names e)) (core.BinaryExpr 0 op.And a v.1) first next
       (after_between j t (content p j a) (content p j v.1) first m next before here)
 
-  clauses_counted : (c : Context) (b s : Scope) → Here k ts p j b s → (e : Expr) (es : List Expr) (found : Found) → bind.in_exprs c b (exprs_of (e ∷ es)) found ≡ None → EndsExprs k.scope k.expansions ts (exprs_of (e ∷ es))
+  pub clauses_counted : (c : Context) (b s : Scope) → Here k ts p j b s → (e : Expr) (es : List Expr) (found : Found) → bind.in_exprs c b (exprs_of (e ∷ es)) found ≡ None → EndsExprs k.scope k.expansions ts (exprs_of (e ∷ es))
       → (names : Variables) → p ≤ length names → (m : Measure) → After j (root false) (content p j (whole_of (lower.in_exprs ts s names (exprs_of (e ∷ es))).1)) m (in_joined k true (e ∷ es) m)
   clauses_counted c b s h e es found n f names le m =
       let v : With (core.Expr ℕ) = lower.in_expr ts s names e in
@@ -104,10 +103,10 @@ fixed_from j c found us x m h = from_none m.fixed x.fixed h.fixed
 -- the use of a parameter
 pub use_from : (ps : List Param) (e : core.Expr ℕ) (j : ℕ) → j < length ps → (found : Found) (m : Measure) → After j (root false) (content (length ps) j e) (nothing found (no_uses ps)) m → UsedAs m.uses (length ps) e j
 use_from ps e j lt found m h =
-    let r = h.use no_use (listed_none ps j lt) in
+    let r = h.usage no_use (listed_none ps j lt) in
     let u : UsedAfter (root false) no_use (tally by_use (single (length ps) j) e) r.0 = r.2 in
     record {
-      use = r.0;
+      usage = r.0;
       there = r.1;
       same = record {
         times = from_none r.0.times (tally by_use (single (length ps) j) e).times u.times;

@@ -1,5 +1,5 @@
 -- Each whole expression of a program without a fault is well.
-use Rattle.std.proofs.Common.{◌≡◌, ◌∙◌, ◌<◌, ◌≤◌, ℕ, ◌+◌, Bool, true, false, List, [], ◌∷◌, length, Option, Some, None, is_some, refl, sym, subst, arith}
+use Rattle.std.proofs.Common.{◌≡◌, ℕ, Bool, true, false, List, [], ◌∷◌, length, Option, Some, None, is_some, refl, sym, subst, arith}
 use Rattle.wy_ast.specs.SurfaceTree as surface
 use Rattle.wy_ast.specs.SurfaceTree.{AliasDecl, FunctionDecl, MethodDecl, PropertyDecl, exprs_of}
 use Rattle.wy_core.specs.CoreTree as core
@@ -28,21 +28,20 @@ use Rattle.wy_lower.specs.Variables.{Variables, named}
 use Rattle.wy_lower.specs.Variables as variables
 use Rattle.wy_lower.specs.Uses.{Template}
 use Rattle.wy_lower.specs.Templates.{params_scope, params_named, templates}
-use Rattle.wy_lower.specs.DeclsLowered.{named_clauses, in_params, Parts, before, after, in_routine, in_decl, with_first, in_decls}
+use Rattle.wy_lower.specs.DeclsLowered.{named_clauses, in_params, Parts, before, after, in_routine, in_decls}
 use Rattle.wy_formed.specs.Offers.{Offers}
 use Rattle.wy_formed.specs.Bound as formed
-use Rattle.wy_formed.specs.Wholes.{EachClause, EachOfRoutine, EachOfDecl, Wholes}
+use Rattle.wy_formed.specs.Wholes.{EachClause, EachOfRoutine, Wholes}
 use Rattle.wy_names.specs.Named.{scope_of, uses_of, expansions_of, found_before, Judges, core_by, IsNamed}
-use Rattle.wy_resolved.proofs.NotedLemmas.{noted_none}
 use Rattle.wy_resolved.proofs.BindLemmas.{before_exprs, before_stmts}
 use Rattle.wy_resolved.proofs.ScopeLemmas.{erased, Leads, leads_more}
 use Rattle.wy_resolved.proofs.ExpandLemmas as expand
 use Rattle.wy_resolved.proofs.DeclLemmas.{before_named, before_decls, params_erased, params_lead}
 use Rattle.wy_resolved.proofs.OfferLemmas.{offered, scope_leads, scope_plain, templates_lead}
 use Rattle.wy_resolved.proofs.CallLemmas.{FreeTemplates}
-use Rattle.wy_resolved.proofs.CallDeclLemmas.{templates_free}
 use Rattle.wy_resolved.proofs.CoreLemmas.{before_marked, nothing_bound}
 use Rattle.wy_sized.specs.SourceClauses.{HaveClauses}
+use Rattle.wy_sized.proofs.FreeLemmas.{templates_free}
 use Rattle.wy_sized.proofs.NestLemmas.{nests_plain}
 use Rattle.wy_sized.proofs.EndLemmas.{AllFinite}
 use Rattle.wy_sized.proofs.WalkLemmas.{Here, here_more}

@@ -1,9 +1,8 @@
 -- What the names of declarations stand for.
-use Rattle.std.proofs.Common.{◌≡◌, ◌∙◌, ℕ, zero, suc, ◌+◌, Bool, true, false, cond, List, [], ◌∷◌, ◌++◌, length, Option, Some, None, refl, sym, ap, subst, arith, if◌then◌else◌}
+use Rattle.std.proofs.Common.{◌≡◌, ◌∙◌, ℕ, suc, ◌+◌, Bool, true, false, cond, List, [], ◌∷◌, ◌++◌, length, Some, None, refl, sym, ap, subst, arith, if◌then◌else◌}
 use Rattle.std.specs.List.{slice_get}
 use Rattle.std.specs.Str.{bytes_eq}
 use Rattle.wy_ast.specs.SurfaceTree.{Decl, Property, AliasDecl, FunctionDecl, MethodDecl, PropertyDecl}
-use Rattle.wy_scope.specs.declared.declarations.Counts.{Counts}
 use Rattle.wy_scope.specs.declared.fault.Cause.TheVariants as cause
 use Rattle.wy_scope.specs.declared.table.Entry.{Entry}
 use Rattle.wy_scope.specs.declared.table.Entry.TheVariants as entry
@@ -11,6 +10,13 @@ use Rattle.wy_scope.specs.Declarations as declarations
 use Rattle.wy_scope.specs.Declarations.{routine_count, name_of, place_of, behind, builtins, declared_behind, declared}
 use Rattle.wy_scope.specs.Faults.{Found, noted_where}
 use Rattle.wy_scope.specs.Scope.{Scope, entry_of, has, with_name}
+
+-- what is counted of the declarations before one
+abbrev Second : {A B C : Type 0} → (A → B → C) → Type 0
+Second {A} {B} {C} f = B
+
+abbrev Counts : Type 0
+Counts = Second declarations.entry_of
 
 -- the property with this index
 pub record PropertyAt (ds : List Decl) (decl n : ℕ) : Type 0 where

@@ -1,5 +1,5 @@
 -- Fields that are put in one after the other, none twice, count as they come.
-use Rattle.std.proofs.Common.{◌≡◌, ◌∙◌, ℕ, ◌+◌, max, Bool, true, false, cond, List, [], ◌∷◌, ◌++◌, Ordering, Less, Equal, Greater, nat_cmp, Option, Some, None, is_some, refl, sym, ap, arith, if◌then◌else◌}
+use Rattle.std.proofs.Common.{◌≡◌, ◌∙◌, ℕ, ◌+◌, max, Bool, true, false, cond, List, [], ◌∷◌, ◌++◌, Ordering, Less, Equal, Greater, nat_cmp, Some, None, is_some, refl, ap, arith, if◌then◌else◌}
 use Rattle.std.specs.Str.{bytes_eq}
 use Rattle.std.specs.Cmp.Lexicographic.{slice_cmp, texts_ties}
 use Rattle.std.specs.Ordering.{match_ordering, is_eq}
@@ -119,7 +119,7 @@ height-placed (g ∷ gs) name x h = by (slice_cmp nat_cmp name g.0) refl (height
     by Greater e next = ap (max (height_ty g.1)) next ∙ swap_heights (height_ty g.1) (height_ty x) (height_field_tys (field_tys_of gs))
 
 abbrev pub field_ty_content : core.FieldTys → Content
-field_ty_content fs = record { fixed = size_field_tys fs; nodes = size_field_tys fs; height = height_field_tys fs; use = unused }
+field_ty_content fs = record { fixed = size_field_tys fs; nodes = size_field_tys fs; height = height_field_tys fs; usage = unused }
 
 pub ty_content-placed : (made : List (List ℕ × core.Ty)) (name : List ℕ) (x : core.Ty) → Absent name made → field_ty_content (field_tys_of (placed made name x)) ≡ beside (field_ty_content (field_tys_of made)) (ty_content x)
 ty_content-placed made name x h =

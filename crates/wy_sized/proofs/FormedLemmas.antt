@@ -1,12 +1,12 @@
 -- What holds of each whole expression of a program, part by part.
-use Rattle.std.proofs.Common.{◌≡◌, ◌<◌, ◌≤◌, ℕ, List, [], ◌∷◌, length, Option, Some, None, arith}
+use Rattle.std.proofs.Common.{◌<◌, ℕ, List, [], ◌∷◌, length, Option, Some, None, arith}
 use Rattle.wy_ast.specs.SurfaceTree as surface
-use Rattle.wy_core.specs.CoreTree.{Expr, Exprs, NoExprs, MoreExprs, Step, IndexStep, FieldStep, Stmt, Stmts, DeclareStmt, AssignStmt, CallStmt, ReturnStmt, AssertStmt, BreakStmt, ContinueStmt, SkipStmt, FailStmt, IfStmt, WhileStmt, NoStmts, MoreStmts, Decl, AliasDecl, RoutineDecl, Core}
+use Rattle.wy_core.specs.CoreTree.{Expr, Exprs, NoExprs, MoreExprs, Step, IndexStep, FieldStep, Stmt, Stmts, DeclareStmt, AssignStmt, CallStmt, ReturnStmt, AssertStmt, BreakStmt, ContinueStmt, SkipStmt, FailStmt, IfStmt, WhileStmt, NoStmts, MoreStmts, AliasDecl, RoutineDecl, Core}
 use Rattle.wy_core.specs.CoreSeen.{seen_core}
 use Rattle.wy_core.specs.declared.declarations.Core as rust
 use Rattle.wy_formed.specs.Formed.{Formed}
 use Rattle.wy_formed.specs.Sizes.{IsSmall}
-use Rattle.wy_formed.specs.Wholes.{IsQuiet, EachArgument, EachClause, EachOption, EachIndex, EachWhole, EachWholeIn, EachOfRoutine, EachOfDecl, Wholes}
+use Rattle.wy_formed.specs.Wholes.{IsQuiet, EachArgument, EachClause, EachOption, EachIndex, EachWhole, EachWholeIn, Wholes}
 use Rattle.wy_names.specs.Named.{IsNamed}
 use Rattle.wy_resolved.specs.SourceLiterals.{SourceInts}
 use Rattle.wy_resolved.proofs.CallDeclLemmas.{named_calls_well}

@@ -2,6 +2,8 @@
 pub mod FieldLemmas
 -- where no fault is left, none was noted
 pub mod BeforeLemmas
+-- templates call nothing
+pub mod FreeLemmas
 -- types
 pub mod TypeLemmas
 -- the scopes of a clause

@@ -1,5 +1,5 @@
 -- The scopes of a clause: the names of declarations, the parameters of the property whose clause it is, and all that is in scope.
-use Rattle.std.proofs.Common.{◌≡◌, ◌∙◌, ◌<◌, ◌≤◌, ◌⊎◌, inl, inr, ℕ, zero, suc, ◌+◌, Bool, true, false, cond, List, [], ◌∷◌, ◌++◌, length, Option, Some, None, is_some, refl, sym, ap, subst, arith, if◌then◌else◌}
+use Rattle.std.proofs.Common.{◌≡◌, ◌∙◌, ◌<◌, ◌≤◌, ℕ, ◌+◌, Bool, true, false, cond, List, [], ◌∷◌, ◌++◌, Option, Some, None, is_some, refl, sym, ap, subst, arith, if◌then◌else◌}
 use Rattle.std.specs.Str.{bytes_eq}
 use Rattle.wy_scope.specs.declared.table.Entry.{Entry}
 use Rattle.wy_scope.specs.declared.table.Entry.TheVariants as entry
@@ -52,25 +52,25 @@ with_found s name x n v h = by (has s name) h
     by false k = last_found s name x n v k
 
 last_declared : (s : Scope) (name x : List ℕ) (n : ℕ) (e : Entry) → is_variable (Some e) ≡ false → entry_of (s ++ (name, entry.Variable n) ∷ []) x ≡ Some e → entry_of s x ≡ Some e
-last_declared [] name x n e no h = by (bytes_eq x name) h
+last_declared [] name x n e lacks h = by (bytes_eq x name) h
   where
     by : (b : Bool) → cond b (Some (entry.Variable n)) None ≡ Some e → None ≡ Some e
     by true k =
         let same : is_variable (Some (entry.Variable n)) ≡ is_variable (Some e) = ap (λ (z : Entry). is_variable (Some z)) (some_entry (entry.Variable n) e k) in
-        absurd (let wrong : true ≡ false = same ∙ no in cc)
+        absurd (let wrong : true ≡ false = same ∙ lacks in cc)
     by false k = k
-last_declared (y ∷ s) name x n e no h = by (bytes_eq x y.0) (λ k. last_declared s name x n e no k) h
+last_declared (y ∷ s) name x n e lacks h = by (bytes_eq x y.0) (λ k. last_declared s name x n e lacks k) h
   where
     by : (b : Bool) → (entry_of (s ++ (name, entry.Variable n) ∷ []) x ≡ Some e → entry_of s x ≡ Some e) → cond b (Some y.1) (entry_of (s ++ (name, entry.Variable n) ∷ []) x) ≡ Some e → cond b (Some y.1) (entry_of s x) ≡ Some e
     by true next k = k
     by false next k = next k
 
 pub with_declared : (s : Scope) (name x : List ℕ) (n : ℕ) (e : Entry) → is_variable (Some e) ≡ false → entry_of (with_name s name (entry.Variable n)) x ≡ Some e → entry_of s x ≡ Some e
-with_declared s name x n e no h = by (has s name) h
+with_declared s name x n e lacks h = by (has s name) h
   where
     by : (b : Bool) → entry_of (if b then s else s ++ (name, entry.Variable n) ∷ []) x ≡ Some e → entry_of s x ≡ Some e
     by true k = k
-    by false k = last_declared s name x n e no k
+    by false k = last_declared s name x n e lacks k
 
 last_has : (s : Scope) (name x : List ℕ) (e : Entry) → has s x ≡ true → has (s ++ (name, e) ∷ []) x ≡ true
 last_has [] name x e h = absurd (cc)
@@ -102,7 +102,7 @@ nowhere scope params p s h name none = by (entry_of params name) refl
 -- behind the declaration of a variable that is no parameter
 pub nests_more : (scope params : Scope) (p : ℕ) (s : Scope) (name : List ℕ) (n : ℕ) → p ≤ n → Nests scope params p s → Nests scope params p (with_name s name (entry.Variable n))
 nests_more scope params p s name n le h = record {
-  declared = λ (x : List ℕ) (e : Entry) (no : is_variable (Some e) ≡ false) (at : entry_of (with_name s name (entry.Variable n)) x ≡ Some e). h.declared x e no (with_declared s name x n e no at);
+  declared = λ (x : List ℕ) (e : Entry) (lacks : is_variable (Some e) ≡ false) (at : entry_of (with_name s name (entry.Variable n)) x ≡ Some e). h.declared x e lacks (with_declared s name x n e lacks at);
   variables = λ (x : List ℕ) (v : ℕ) (at : entry_of (with_name s name (entry.Variable n)) x ≡ Some (entry.Variable v)). by x v (with_found s name x n v at);
   within = λ (x : List ℕ) (at : has params x ≡ true). with_has s name x (entry.Variable n) (h.within x at);
 }
@@ -141,20 +141,20 @@ old_there (y ∷ s) name x e d h = by (bytes_eq x y.0) h (λ k. old_there s name
     by false k next = next k
 
 put_last : (s : Scope) (name : List ℕ) (e : Entry) → has s name ≡ false → with_name s name e ≡ s ++ (name, e) ∷ []
-put_last s name e no = ap (λ (b : Bool). if b then s else s ++ (name, e) ∷ []) no
+put_last s name e lacks = ap (λ (b : Bool). if b then s else s ++ (name, e) ∷ []) lacks
 
 none_of : (s : Scope) (name : List ℕ) → has s name ≡ false → entry_of s name ≡ None
-none_of s name no = by (entry_of s name) no
+none_of s name lacks = by (entry_of s name) lacks
   where
     by : (o : Option Entry) → is_some o ≡ false → o ≡ None
     by None k = refl
     by (Some x) k = absurd (cc)
 
 not_has : (params s : Scope) (name : List ℕ) → (has params name ≡ true → has s name ≡ true) → has s name ≡ false → has params name ≡ false
-not_has params s name h no = by (has params name) refl
+not_has params s name h lacks = by (has params name) refl
   where
     by : (b : Bool) → has params name ≡ b → has params name ≡ false
-    by true is = let there : has s name ≡ true = h is in absurd (let wrong : true ≡ false = sym there ∙ no in cc)
+    by true is = let there : has s name ≡ true = h is in absurd (let wrong : true ≡ false = sym there ∙ lacks in cc)
     by false is = is
 
 pub no_parameters : (s : Scope) → ((name : List ℕ) (v : ℕ) → entry_of s name ≡ Some (entry.Variable v) → ⊥) → AllParameters [] 0 s
@@ -164,10 +164,10 @@ no_parameters s h = record {
 }
 
 pub one_parameter : (params : Scope) (n : ℕ) (s : Scope) (name : List ℕ) → has s name ≡ false → AllParameters params n s → AllParameters (with_name params name (entry.Variable n)) (n + 1) (with_name s name (entry.Variable n))
-one_parameter params n s name no h = record { variables = variables; within = within }
+one_parameter params n s name lacks h = record { variables = variables; within = within }
   where
     fresh : has params name ≡ false
-    fresh = not_has params s name (h.within name) no
+    fresh = not_has params s name (h.within name) lacks
 
     longer : with_name params name (entry.Variable n) ≡ params ++ (name, entry.Variable n) ∷ []
     longer = put_last params name (entry.Variable n) fresh
@@ -204,7 +204,7 @@ one_parameter params n s name no h = record { variables = variables; within = wi
     within : (x : List ℕ) → has (with_name params name (entry.Variable n)) x ≡ true → has (with_name s name (entry.Variable n)) x ≡ true
     within x at =
         let k : has (params ++ (name, entry.Variable n) ∷ []) x ≡ true = ap (λ (z : Scope). has z x) (sym longer) ∙ at in
-        ap (λ (z : Scope). has z x) (put_last s name (entry.Variable n) no) ∙ put_has params s x (h.within x) k
+        ap (λ (z : Scope). has z x) (put_last s name (entry.Variable n) lacks) ∙ put_has params s x (h.within x) k
 
 -- the scope of a property's clauses
 pub nests_parameters : (scope params : Scope) (p : ℕ) (s : Scope) → AllParameters params p s → ((name : List ℕ) (e : Entry) → is_variable (Some e) ≡ false → entry_of s name ≡ Some e → entry_of scope name ≡ Some e) → Nests scope params p s

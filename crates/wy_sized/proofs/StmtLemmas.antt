@@ -1,7 +1,6 @@
 -- Each whole expression of a statement is well.
-use Rattle.std.proofs.Common.{◌≡◌, ◌∙◌, ◌≤◌, inl, refl, ℕ, ◌+◌, Bool, true, false, not, List, [], ◌∷◌, ◌++◌, length, Option, Some, None, is_some, sym, ap, arith, codes}
-use Rattle.wy_ast.specs.SurfaceTree.{Expr}
-use Rattle.wy_ast.specs.SurfaceTree.{Step, Stmt, Stmts, Cases, DeclareStmt, AssignStmt, CallStmt, ReturnStmt, AssertStmt, BreakStmt, ContinueStmt, SkipStmt, FailStmt, IfStmt, WhileStmt, DoStmt, ForStmt, SwitchStmt, SwitchElseStmt, NoStmts, MoreStmts, NoCases, MoreCases, exprs_of}
+use Rattle.std.proofs.Common.{◌≡◌, inl, refl, ℕ, ◌+◌, true, false, not, List, [], ◌∷◌, ◌++◌, length, None, is_some, arith, codes}
+use Rattle.wy_ast.specs.SurfaceTree.{Stmt, Stmts, Cases, DeclareStmt, AssignStmt, CallStmt, ReturnStmt, AssertStmt, BreakStmt, ContinueStmt, SkipStmt, FailStmt, IfStmt, WhileStmt, DoStmt, ForStmt, SwitchStmt, SwitchElseStmt, NoStmts, MoreStmts, NoCases, MoreCases, exprs_of}
 use Rattle.wy_core.specs.CoreTree as core
 use Rattle.wy_core.specs.CoreTree.{stmts_of}
 use Rattle.wy_scope.specs.declared.fault.Cause.TheVariants as cause
@@ -26,14 +25,14 @@ use Rattle.wy_formed.specs.Bound as formed
 use Rattle.wy_formed.specs.Wholes.{EachClause, EachWholeIn}
 use Rattle.wy_resolved.proofs.NotedLemmas.{noted_none}
 use Rattle.wy_resolved.proofs.BindLemmas.{before_expr, before_exprs, before_stmts, before_cases}
-use Rattle.wy_resolved.proofs.ScopeLemmas.{erased_more, Leads, leads_with}
+use Rattle.wy_resolved.proofs.ScopeLemmas.{Leads, leads_with}
 use Rattle.wy_resolved.proofs.BlockLemmas.{behind_all, spanned}
 use Rattle.wy_resolved.proofs.StmtLemmas.{leads_behind, erased_behind, leads_made, leads_span}
 use Rattle.wy_resolved.proofs.CallLemmas.{FreeTemplates}
 use Rattle.wy_sized.proofs.NestLemmas.{Nests, nests_more}
 use Rattle.wy_sized.proofs.EndLemmas.{AllFinite}
 use Rattle.wy_sized.proofs.WalkLemmas.{Here, here_more}
-use Rattle.wy_sized.proofs.WholeLemmas.{Well, Before, Scoped, whole_code, whole_clause, each_clause, each_argument, each_option, each_index, first_code, each_first, each_label}
+use Rattle.wy_sized.proofs.WholeLemmas.{Well, Before, whole_code, whole_clause, each_clause, each_argument, each_option, each_index, first_code, each_first, each_label}
 
 -- these statements, in order
 abbrev pub WellBlock : List (core.Stmt ℕ) → Type 0

@@ -1,5 +1,5 @@
 -- The summaries of a program's properties are those of their templates.
-use Rattle.std.proofs.Common.{◌≡◌, ◌≢◌, ◌∙◌, ◌<◌, ◌≤◌, ◌⊎◌, inl, inr, ℕ, zero, suc, ◌+◌, ◌-◌, Bool, true, false, not, ◌&&◌, List, [], ◌∷◌, ◌++◌, length, drop, map, Option, Some, None, refl, sym, ap, subst, arith, if◌then◌else◌, nat_lt}
+use Rattle.std.proofs.Common.{◌≡◌, ◌≢◌, ◌∙◌, ◌<◌, ◌≤◌, ◌⊎◌, inl, inr, ℕ, zero, suc, ◌+◌, ◌-◌, Bool, true, false, not, ◌&&◌, List, [], ◌∷◌, ◌++◌, length, map, Option, Some, None, refl, sym, ap, subst, arith, if◌then◌else◌, nat_lt}
 use Rattle.std.specs.List.{slice_get}
 use Rattle.std.specs.Prelude.{slice_set}
 use Rattle.std.proofs.Math.Dec.{eqb}
@@ -31,13 +31,13 @@ use Rattle.wy_expand.specs.declared.measure.Summary.{Summary}
 use Rattle.wy_expand.specs.declared.measure.Expansion.{Expansion}
 use Rattle.wy_expand.specs.declared.measure.Expansion.TheVariants as expansion
 use Rattle.wy_expand.specs.Measures.{nothing, root}
-use Rattle.wy_expand.specs.Sizes.{Known, known}
+use Rattle.wy_expand.specs.Sizes.{known}
 use Rattle.wy_expand.specs.Summaries as summed
 use Rattle.wy_expand.specs.Summaries.{params_from, params_of, no_uses, in_joined, summary, summed_up, without_end, summaries}
 use Rattle.wy_lower.specs.Variables.{Variables, named}
 use Rattle.wy_lower.specs.Variables as variables
 use Rattle.wy_lower.specs.Uses.{Template}
-use Rattle.wy_lower.specs.Templates.{params_scope, params_named, stands, used_of, template, set_at, with_option, filled, without_uses, templates}
+use Rattle.wy_lower.specs.Templates.{params_scope, params_named, stands, used_of, template, with_option, filled, without_uses, templates}
 use Rattle.wy_resolved.proofs.NotedLemmas.{noted_none}
 use Rattle.wy_resolved.proofs.BindLemmas.{before_exprs}
 use Rattle.wy_resolved.proofs.ScopeLemmas.{erased, has_erased, erased_more}
@@ -51,8 +51,8 @@ use Rattle.wy_counted.proofs.AfterLemmas.{After}
 use Rattle.wy_counted.proofs.PutLemmas.{whole_of}
 use Rattle.wy_sized.specs.SourceClauses.{HasOne, OwnClauses, HaveClauses}
 use Rattle.wy_sized.proofs.DeclaredLemmas.{PropertyAt, scope_property, scope_variable}
-use Rattle.wy_sized.proofs.NestLemmas.{Nests, with_declared, AllParameters, no_parameters, one_parameter, nests_parameters}
-use Rattle.wy_sized.proofs.FitLemmas.{UsedAs, Fits, Finite, EndsExprs}
+use Rattle.wy_sized.proofs.NestLemmas.{with_declared, AllParameters, no_parameters, one_parameter, nests_parameters}
+use Rattle.wy_sized.proofs.FitLemmas.{Fits, Finite, EndsExprs}
 use Rattle.wy_sized.proofs.EndLemmas.{AllFinite, use_of, ends_all}
 use Rattle.wy_sized.proofs.WalkLemmas.{Here}
 use Rattle.wy_sized.proofs.ClauseLemmas.{clauses_counted, fixed_from, height_from, use_from}
@@ -229,9 +229,9 @@ params_all b s table number names (p ∷ ps) found is h none all =
     (erased_more b s p.name (length names) h) none one)
 
 pub params_declared : (s : Scope) (names : Variables) (ps : List surface.Param) (name : List ℕ) (e : Entry) → is_variable (Some e) ≡ false → entry_of (params_scope s names ps) name ≡ Some e → entry_of s name ≡ Some e
-params_declared s names [] name e no h = h
-params_declared s names (p ∷ ps) name e no h =
-    with_declared s p.name name (length names) e no (params_declared (variables.declared s names p.name) (named names p.name) ps name e no h)
+params_declared s names [] name e lacks h = h
+params_declared s names (p ∷ ps) name e lacks h =
+    with_declared s p.name name (length names) e lacks (params_declared (variables.declared s names p.name) (named names p.name) ps name e lacks h)
 
 -- ---- templates
 

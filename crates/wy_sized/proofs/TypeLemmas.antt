@@ -1,5 +1,5 @@
 -- The nodes of a type are counted as the core has them.
-use Rattle.std.proofs.Common.{◌≡◌, ◌∙◌, ℕ, Bool, true, false, List, [], ◌∷◌, None, sym, subst}
+use Rattle.std.proofs.Common.{◌≡◌, ℕ, false, List, [], None, sym, subst}
 use Rattle.wy_ast.specs.SurfaceTree.{Ty, FieldTys, NullTy, BoolTy, IntTy, AnyTy, VoidTy, RecordTy, ArrayTy, UnionTy, InterTy, NotTy, NamedTy, NoFieldTys, MoreFieldTys}
 use Rattle.wy_core.specs.Types as core
 use Rattle.wy_core.specs.CoreSeen.{field_tys_of}

@@ -8,7 +8,7 @@ use Rattle.wy_ast.specs.declared.expressions.Op.{Op}
 use Rattle.wy_ast.specs.declared.expressions.Op.TheVariants as op
 use Rattle.wy_core.specs.CoreTree as core
 use Rattle.wy_core.specs.CoreTree.{exprs_of, fields_of}
-use Rattle.wy_build.specs.Instances.{instance_of, joined}
+use Rattle.wy_build.specs.Instances.{instance_of}
 use Rattle.wy_scope.specs.declared.fault.Cause.TheVariants as cause
 use Rattle.wy_scope.specs.declared.table.Entry.{Entry}
 use Rattle.wy_scope.specs.declared.table.Entry.TheVariants as entry
@@ -26,8 +26,7 @@ use Rattle.wy_expand.specs.declared.measure.Spot.{Spot}
 use Rattle.wy_expand.specs.declared.measure.Summary.{Summary}
 use Rattle.wy_expand.specs.declared.measure.Use.{Use}
 use Rattle.wy_expand.specs.declared.measure.Expansion.{Expansion}
-use Rattle.wy_expand.specs.declared.measure.Expansion.TheVariants as expansion
-use Rattle.wy_expand.specs.Measures.{plus, inside, deeper, quantified, argument, counted, counted_many, called, expanded, endless, used}
+use Rattle.wy_expand.specs.Measures.{plus, inside, deeper, quantified, argument, counted, counted_many, called, expanded, used}
 use Rattle.wy_expand.specs.Sizes as sizes
 use Rattle.wy_expand.specs.Sizes.{Known, variable, arg_spot, operator, left_of, right_of, behind_ranges}
 use Rattle.wy_lower.specs.Variables.{Variables, declared, named, variable_of}
@@ -40,32 +39,40 @@ use Rattle.wy_lower.specs.ExprsLowered.{text, quantified as quantified_by, kept}
 use Rattle.wy_resolved.proofs.NotedLemmas.{none_noted, noted_none, not_false}
 use Rattle.wy_resolved.proofs.BindLemmas.{before_ty, before_expr, before_exprs, field_value, range_ends}
 use Rattle.wy_resolved.proofs.ScopeLemmas.{erased, erased_option, seen_entry, erased_more}
-use Rattle.wy_resolved.proofs.GrowLemmas.{through, grows_expr, grows_exprs, grows_args, grows_ranges, grows_named}
-use Rattle.wy_resolved.proofs.ExprLemmas.{same_count, count_exprs}
+use Rattle.wy_resolved.proofs.GrowLemmas.{through, grows_expr, grows_args, grows_ranges, grows_named}
+use Rattle.wy_resolved.proofs.ExprLemmas.{same_count}
 use Rattle.wy_counted.proofs.TallyLemmas.{tally}
-use Rattle.wy_counted.proofs.NearLemmas.{Near, near, near_on, near_plus, near_back, off}
-use Rattle.wy_counted.proofs.ContentLemmas.{by_nodes, by_height, by_use, one_each, Usage, Content, one_use, unused, beyond, single, content, contents, field_contents, ty_content, empty, beside, one_node, one_quant, put, same_use, sound_uses, some_height}
+use Rattle.wy_counted.proofs.NearLemmas.{Near, near, off}
+use Rattle.wy_counted.proofs.ContentLemmas.{by_nodes, by_height, by_use, one_each, Content, one_use, unused, beyond, single, content, contents, field_contents, ty_content, empty, beside, one_node, same_use, sound_uses, some_height}
 use Rattle.wy_counted.proofs.AfterLemmas.{After, after_nothing, after_both, after_node, after_leaf, after_quant, after_written, many, after_many, parameter, after_used, Uses, after_argument, after_called, same_content}
-use Rattle.wy_counted.proofs.PutLemmas.{whole_of, instance-whole, single_beyond, beyond_less, beyond_more, own_height, partly, partly_none, partly_more, partly_unused, partly_all}
+use Rattle.wy_counted.proofs.PutLemmas.{whole_of, instance-whole, single_beyond, beyond_less, beyond_more, partly, partly_none, partly_more, partly_unused, partly_all}
 use Rattle.wy_sized.proofs.FieldLemmas.{Seen, seen_none, seen_more, content-placed, turned}
 use Rattle.wy_sized.proofs.BeforeLemmas.{new_field}
 use Rattle.wy_sized.proofs.TypeLemmas.{ty_counted}
 use Rattle.wy_sized.proofs.NestLemmas.{Leads, Nests, nests_more}
-use Rattle.wy_sized.proofs.FitLemmas.{UsedAs, Fits, Finite, EndsExpr, EndsExprs, EndsFields, EndsRanges, spot_is, used_is}
+use Rattle.wy_sized.proofs.FitLemmas.{UsedAs, Finite, EndsExpr, EndsExprs, EndsFields, EndsRanges, spot_is, used_is}
 
 -- ---- texts
+
+some_high : (n : ℕ) → ◌≡◌ {A = ℕ} (if suc n == 0 then 0 else 1) 1
+some_high n = by (eqb_tells (suc n) 0)
+  where
+    by : ((eqb (suc n) 0 ≡ true) × (suc n ≡ 0)) ⊎ ((eqb (suc n) 0 ≡ false) × (suc n ≡ 0 → ⊥)) → ◌≡◌ {A = ℕ} (if suc n == 0 then 0 else 1) 1
+    by (inl x) = let e : suc n ≡ 0 = x.1 in absurd (omega (arith, e))
+    by (inr x) = ap (λ (b : Bool). if b then 0 else 1) x.0
+
+one_high : (n : ℕ) → ◌≡◌ {A = ℕ} (max 1 (if n == 0 then 0 else 1)) 1
+one_high n = by (n == 0)
+  where
+    by : (z : Bool) → ◌≡◌ {A = ℕ} (max 1 (if z then 0 else 1)) 1
+    by true = omega arith
+    by false = omega arith
 
 text_content : (p j at : ℕ) (bytes : List ℕ) → contents p j (exprs_of (text at bytes)) ≡ many (length bytes) 1
 text_content p j at [] = refl
 text_content p j at (b ∷ bs) =
-    ap (λ (c : Content). beside (one_node empty) c) (text_content p j at bs) ∙ same_content (omega arith) (omega arith) (one_high (length bs)) (same_use (omega arith) (omega arith) (omega arith))
-  where
-    one_high : (n : ℕ) → max 1 (if n == 0 then 0 else 1) ≡ 1
-    one_high n = by (n == 0)
-      where
-        by : (z : Bool) → max 1 (if z then 0 else 1) ≡ 1
-        by true = omega arith
-        by false = omega arith
+    ap (λ (c : Content). beside (one_node empty) c) (text_content p j at bs)
+    ∙ same_content (omega arith) (omega arith) (one_high (length bs) ∙ sym (some_high (length bs))) (same_use (omega arith) (omega arith) (omega arith))
 
 -- ---- spots
 
@@ -451,18 +458,18 @@ module _ (k : Known) (ts : List Template) (p j : ℕ) where
         let clauses : core.Expr ℕ = whole_of g.template.clauses in
         let less : length done < count = omega (arith, is, all) in
         let u : UsedAs g.summary.uses count clauses (length done) = g.fits.uses (length done) less in
-        let there : slice_get g.summary.uses i ≡ Some u.use = ap (slice_get g.summary.uses) (sym is) ∙ u.there in
-        let spot : arg_spot k.expansions o t at i ≡ argument t at u.use = spot_is k.expansions t at decl count i g.summary u.use g.summed there in
-        let taken : is_used ts o i ≡ not (u.use.times == 0) = used_is ts decl count i g.summary g.template u.use g.made g.fits.used there in
+        let there : slice_get g.summary.uses i ≡ Some u.usage = ap (slice_get g.summary.uses) (sym is) ∙ u.there in
+        let spot : arg_spot k.expansions o t at i ≡ argument t at u.usage = spot_is k.expansions t at decl count i g.summary u.usage g.summed there in
+        let taken : is_used ts o i ≡ not (u.usage.times == 0) = used_is ts decl count i g.summary g.template u.usage g.made g.fits.used there in
         let v : With (core.Expr ℕ) = lower.in_expr ts s names e in
         let w : With (core.Expr ℕ) = kept (is_used ts o i) names v in
         let next : Measure = sizes.in_expr k (arg_spot k.expansions o t at i) e m in
-        let deep : 0 < (argument t at u.use).depth = omega (arith, r) in
-        let walked : After j (argument t at u.use) (content p j v.1) m next =
-        subst (λ (q : Spot). After j (argument t at u.use) (content p j v.1) m (sizes.in_expr k q e m)) (sym spot)
-        (expr_counted c b s h e found (before_exprs c b rest (bind.in_expr c b e found) n) f.0 names le (argument t at u.use) deep m)
+        let deep : 0 < (argument t at u.usage).depth = omega (arith, r) in
+        let walked : After j (argument t at u.usage) (content p j v.1) m next =
+        subst (λ (q : Spot). After j (argument t at u.usage) (content p j v.1) m (sizes.in_expr k q e m)) (sym spot)
+        (expr_counted c b s h e found (before_exprs c b rest (bind.in_expr c b e found) n) f.0 names le (argument t at u.usage) deep m)
         in
-        let put_in : After j t (partly p j count clauses (done ++ w.1 ∷ [])) first next = argument_counted p j count clauses t at r done less u.use u.same (is_used ts o i) taken names v first m next a walked in
+        let put_in : After j t (partly p j count clauses (done ++ w.1 ∷ [])) first next = argument_counted p j count clauses t at r done less u.usage u.same (is_used ts o i) taken names v first m next a walked in
         let further : length (done ++ w.1 ∷ []) ≡ i + 1 = let q = length_last done w.1 in omega (arith, q, is) in
         subst (λ (xs : List (core.Expr ℕ)). After j t (partly p j count clauses xs) first (sizes.in_args k t at o (i + 1) rest next)) (append_more done w.1 (lower.in_args ts s w.0 o (i + 1) rest).1)
         (put_counted c b s h decl count g at (i + 1) rest (done ++ w.1 ∷ []) further (omega (arith, all)) (bind.in_expr c b e found) n f.1 w.0 (through le (grows_kept (is_used ts o i) names v (grows_expr ts s names e))) t r first next put_in)

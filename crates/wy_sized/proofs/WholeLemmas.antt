@@ -1,5 +1,5 @@
 -- Each whole expression of a program without a fault is within the limits, and nothing is called in its quantifiers.
-use Rattle.std.proofs.Common.{◌≡◌, ◌∙◌, ◌<◌, ◌≤◌, ℕ, zero, suc, ◌+◌, min, Bool, true, false, not, ◌||◌, nat_lt, List, [], ◌∷◌, length, Option, Some, None, refl, sym, ap, subst, arith}
+use Rattle.std.proofs.Common.{◌≡◌, ◌<◌, ◌≤◌, ℕ, Bool, true, false, ◌||◌, nat_lt, List, [], ◌∷◌, length, Option, Some, None, refl, subst, arith}
 use borrow.Author.Tests.{ltb-false}
 use Rattle.wy_ast.specs.SurfaceTree.{Expr, Exprs, NoExprs, MoreExprs, Step, IndexStep, FieldStep, exprs_of}
 use Rattle.wy_core.specs.CoreTree as core
@@ -24,11 +24,11 @@ use Rattle.wy_lower.specs.ExprsLowered as lower
 use Rattle.wy_lower.specs.StmtsLowered.{in_option, in_path, in_clauses, behind_first, each_behind_first, equals, or_of, or_labels, is_one_of}
 use Rattle.wy_formed.specs.Offers.{Offers}
 use Rattle.wy_formed.specs.Bound as formed
-use Rattle.wy_formed.specs.Calls.{CallsExpr, Nothing}
+use Rattle.wy_formed.specs.Calls.{Nothing}
 use Rattle.wy_formed.specs.Sizes.{IsSmall}
 use Rattle.wy_formed.specs.Wholes.{IsQuiet, EachArgument, EachClause, EachOption, EachIndex}
 use Rattle.wy_resolved.proofs.NotedLemmas.{noted_none}
-use Rattle.wy_resolved.proofs.BindLemmas.{before_expr, before_exprs, before_path}
+use Rattle.wy_resolved.proofs.BindLemmas.{before_exprs, before_path}
 use Rattle.wy_resolved.proofs.ScopeLemmas as scopes
 use Rattle.wy_resolved.proofs.ExpandLemmas as expand
 use Rattle.wy_resolved.proofs.CallLemmas.{Permits, FreeTemplates, calls_expr}
@@ -38,7 +38,7 @@ use Rattle.wy_counted.proofs.ContentLemmas.{by_nodes, by_height, one_each, Conte
 use Rattle.wy_counted.proofs.AfterLemmas.{After, after_both, after_node, after_leaf, after_between}
 use Rattle.wy_sized.proofs.EndLemmas.{AllFinite, ends_found}
 use Rattle.wy_sized.proofs.WalkLemmas.{some_node, Here, expr_counted}
-use Rattle.wy_sized.proofs.ClauseLemmas.{before_others, before_none, before_more, before_rooted, nodes_from, height_from}
+use Rattle.wy_sized.proofs.ClauseLemmas.{before_others, before_none, before_more, nodes_from, height_from}
 use Rattle.wy_sized.proofs.SilentLemmas.{quiet_silent}
 use Rattle.wy_sized.proofs.CalmLemmas.{Calm, Code, calm_expr}
 
