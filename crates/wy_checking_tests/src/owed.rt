@@ -80,15 +80,39 @@ fn condition(terms: &mut Terms, texts: &[&str]) -> Result<Option<Cond>, NoMemory
 // What the checker says of the certificate with these steps.
 fn found(alloc: Global, texts: &[&str], steps: &str) -> Result<Finding, NoMemory> {
     let mut terms = Terms::new(alloc);
-    let Some(cond) = condition(&mut terms, texts)? else {
-        return Ok(Finding::NoCondition);
-    };
+    found_in(&mut terms, texts, steps)
+}
+
+// The same, where the condition is put into this list of terms.
+fn found_in(terms: &mut Terms, texts: &[&str], steps: &str) -> Result<Finding, NoMemory> {
+    match condition(terms, texts)? {
+        Some(cond) => answered(terms, &cond, steps),
+        None => Ok(Finding::NoCondition),
+    }
+}
+
+// The same of a condition that is there.
+fn answered(terms: &mut Terms, cond: &Cond, steps: &str) -> Result<Finding, NoMemory>
+    requires hyps { All (λ h. h < length terms.old) cond.now.hyps.items }
+    requires goal { cond.now.goal < length terms.old }
+    requires types { AreTypesBelow (length terms.old) cond.now }
+{
+    let alloc = terms.allocator();
     let file = format!(in alloc; "wycert 2\ncond 1\n{steps}\nend\n")?;
-    let Ok(certs) = read_certs(alloc, file.as_bytes(), 1) else {
+    judged(terms, cond, file.as_bytes())
+}
+
+// What the checker says of the one certificate of a file.
+fn judged(terms: &mut Terms, cond: &Cond, file: &[u8]) -> Result<Finding, NoMemory>
+    requires hyps { All (λ h. h < length terms.old) cond.now.hyps.items }
+    requires goal { cond.now.goal < length terms.old }
+    requires types { AreTypesBelow (length terms.old) cond.now }
+{
+    let Ok(certs) = read_certs(terms.allocator(), file, 1) else {
         return Ok(Finding::NoCertificate);
     };
     match certs.list.as_slice() {
-        [(_, cert)] => Ok(Finding::Answer(check(&mut terms, &cond, cert)?)),
+        [(_, cert)] => Ok(Finding::Answer(check(terms, cond, cert)?)),
         _ => Ok(Finding::NoCertificate),
     }
 }
