@@ -121,12 +121,14 @@ fn sample(alloc: Global, number: u32) -> Result<ExprKind, AllocError> {
 // How many nodes a sample has, where its copy begins, and whether the copy is the same.
 fn facts(alloc: Global, number: u32) -> Result<(Option<u32>, u32, bool), AllocError> {
     let kind = sample(alloc, number)?;
-    let expr = Expr { at: 2, kind };
-    let copy = expr.copy(alloc)?;
-    let count = nodes(&expr);
-    let start = begin(&copy);
-    let same = same_expr(&expr, &copy);
-    Ok((count, start, same))
+    let expr = Boxed::new(alloc, Expr { at: 2, kind })?;
+    facts_of(alloc, expr.get())
+}
+
+fn facts_of(alloc: Global, expr: &Expr) -> Result<(Option<u32>, u32, bool), AllocError> {
+    let copy = Boxed::new(alloc, expr.copy(alloc)?)?;
+    let same = same_expr(expr, copy.get());
+    Ok((nodes(expr), begin(copy.get()), same))
 }
 
 #[test]

@@ -55,6 +55,13 @@ fn sample(alloc: Global, number: u32, at: u32) -> Result<TyKind, AllocError> {
     }
 }
 
+// whether two samples are the same
+fn are_same(alloc: Global, left: u32, right: u32) -> Result<bool, AllocError> {
+    let left = boxed(alloc, 2, sample(alloc, left, 1)?)?;
+    let right = boxed(alloc, 4, sample(alloc, right, 3)?)?;
+    Ok(same_ty(left.get(), right.get()))
+}
+
 #[test]
 fn types_are_the_same_wherever_they_stand(rt: HostRuntime) -> Result<(), AllocError> {
     let alloc = rt.alloc();
@@ -75,11 +82,7 @@ fn types_are_the_same_wherever_they_stand(rt: HostRuntime) -> Result<(), AllocEr
         (10, 10, true),
     ];
     for (left, right, want) in cases {
-        let kind = sample(alloc, left, 1)?;
-        let left = Ty { at: 2, kind };
-        let kind = sample(alloc, right, 3)?;
-        let right = Ty { at: 4, kind };
-        assert_eq!(rt; same_ty(&left, &right), want);
+        assert_eq!(rt; are_same(alloc, left, right)?, want);
     }
     Ok(())
 }
