@@ -178,7 +178,7 @@ impl Reader {
 
     fn statement(&mut self, alloc: Global, at: u32, code: u8) -> Result<(), AllocError> {
         match code {
-            b'u' => self.declaration(at),
+            b'u' => self.declaration(alloc, at),
             b'=' => self.assignment(alloc, at),
             b'@' => self.update(alloc, at),
             b'!' => self.assertion(at),
@@ -205,9 +205,14 @@ impl Reader {
         }
     }
 
-    fn variable(&mut self) -> Result<u32, AllocError> {
-        let expr = self.expr()?;
-        match &expr.kind {
+    // An expression that waits for what may fail stands in a box: letting a box go is one call.
+    fn boxed(&mut self, alloc: Global) -> Result<Boxed<Expr>, AllocError> {
+        Boxed::new(alloc, self.expr()?)
+    }
+
+    fn variable(&mut self, alloc: Global) -> Result<u32, AllocError> {
+        let expr = self.boxed(alloc)?;
+        match &expr.get().kind {
             ExprKind::Var(variable) => Ok(*variable),
             _ => Err(AllocError),
         }
@@ -230,40 +235,41 @@ impl Reader {
     }
 
     fn binary(&mut self, alloc: Global, at: u32, op: Op) -> Result<(), AllocError> {
-        let right = Boxed::new(alloc, self.expr()?)?;
-        let left = Boxed::new(alloc, self.expr()?)?;
+        let right = self.boxed(alloc)?;
+        let left = self.boxed(alloc)?;
         self.push(at, ExprKind::Binary(op, left, right))
     }
 
     fn quantifier(&mut self, alloc: Global, at: u32) -> Result<(), AllocError> {
-        let body = Boxed::new(alloc, self.expr()?)?;
-        let to = Boxed::new(alloc, self.expr()?)?;
-        let from = Boxed::new(alloc, self.expr()?)?;
-        let variable = self.variable()?;
+        let body = self.boxed(alloc)?;
+        let to = self.boxed(alloc)?;
+        let from = self.boxed(alloc)?;
+        let variable = self.variable(alloc)?;
         self.push(at, ExprKind::Quant(true, variable, from, to, body))
     }
 
-    fn declaration(&mut self, at: u32) -> Result<(), AllocError> {
-        let variable = self.variable()?;
+    fn declaration(&mut self, alloc: Global, at: u32) -> Result<(), AllocError> {
+        let variable = self.variable(alloc)?;
         self.put(at, StmtKind::Declare(int(), variable, None))
     }
 
     fn assignment(&mut self, alloc: Global, at: u32) -> Result<(), AllocError> {
-        let value = self.expr()?;
-        let variable = self.variable()?;
+        let value = self.boxed(alloc)?;
+        let variable = self.variable(alloc)?;
+        let value = value.into_inner();
         self.put(at, StmtKind::Assign(variable, Items::new(alloc), value))
     }
 
     fn update(&mut self, alloc: Global, at: u32) -> Result<(), AllocError> {
-        let value = self.expr()?;
-        let index = self.expr()?;
-        let variable = self.variable()?;
+        let value = self.boxed(alloc)?;
+        let index = self.boxed(alloc)?;
+        let variable = self.variable(alloc)?;
         let mut path = Items::new(alloc);
         path.push(Step {
             at,
-            kind: StepKind::Index(index),
+            kind: StepKind::Index(index.into_inner()),
         })?;
-        self.put(at, StmtKind::Assign(variable, path, value))
+        self.put(at, StmtKind::Assign(variable, path, value.into_inner()))
     }
 
     fn assertion(&mut self, at: u32) -> Result<(), AllocError> {
@@ -291,9 +297,9 @@ impl Reader {
 
     fn invariant(&mut self, alloc: Global, at: u32) -> Result<(), AllocError> {
         let body = self.end()?;
-        let test = self.expr()?;
+        let test = self.boxed(alloc)?;
         let mut invariants = Items::new(alloc);
         invariants.push(self.expr()?)?;
-        self.put(at, StmtKind::While(test, invariants, body))
+        self.put(at, StmtKind::While(test.into_inner(), invariants, body))
     }
 }
