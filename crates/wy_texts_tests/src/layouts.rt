@@ -1,21 +1,6 @@
 //! Sources with brackets and blanks to spare, beside the text of the program that they spell.
-use std::alloc::Global;
-use wy_front::read;
-use wy_print::print;
-
-// whether the source spells a program, which has this text
-fn has_text(alloc: Global, source: &str, want: &str) -> bool {
-    if source.len() >= 10_000 {
-        return false;
-    }
-    let Ok(program) = read(alloc, source.as_bytes()) else {
-        return false;
-    };
-    match print(alloc, &program) {
-        Ok(text) => text.as_slice() == want.as_bytes(),
-        Err(_) => false,
-    }
-}
+use crate::listings::has_text;
+use wy_texts::Kind;
 
 // An operator over an operator on its left, and over one on its right.
 #[test]
@@ -67,7 +52,10 @@ fn brackets_stand_where_they_are_needed(rt: HostRuntime) {
         ),
     ];
     for (source, want) in rows {
-        assert!(rt; has_text(rt.alloc(), source, want), "{source}");
+        assert!(rt;
+            has_text(rt.alloc(), Kind::Layout, source, want),
+            "{source}"
+        );
     }
 }
 
@@ -97,7 +85,10 @@ fn bars_and_minus_signs_stand_apart(rt: HostRuntime) {
         ),
     ];
     for (source, want) in rows {
-        assert!(rt; has_text(rt.alloc(), source, want), "{source}");
+        assert!(rt;
+            has_text(rt.alloc(), Kind::Layout, source, want),
+            "{source}"
+        );
     }
 }
 
@@ -126,7 +117,10 @@ fn types_have_the_brackets_that_they_need(rt: HostRuntime) {
         ),
     ];
     for (source, want) in rows {
-        assert!(rt; has_text(rt.alloc(), source, want), "{source}");
+        assert!(rt;
+            has_text(rt.alloc(), Kind::Layout, source, want),
+            "{source}"
+        );
     }
 }
 
@@ -175,5 +169,5 @@ method m():
 // Imports, contracts, blocks and `else if`.
 #[test]
 fn a_program_is_laid_out(rt: HostRuntime) {
-    assert!(rt; has_text(rt.alloc(), SOURCE, WANT));
+    assert!(rt; has_text(rt.alloc(), Kind::Layout, SOURCE, WANT));
 }
