@@ -6,7 +6,5 @@
 
 mod core_types;
 pub mod surface;
-#[cfg(test)]
-mod tests;
 
 pub use core_types::{same_atom, same_conjunct, same_part, same_signed, same_ty};

@@ -4,8 +4,6 @@
 
 mod declarations;
 mod statements;
-#[cfg(test)]
-mod tests;
 
 pub use declarations::{same_decl, same_program};
 pub use statements::{same_step, same_stmt, same_stmts};

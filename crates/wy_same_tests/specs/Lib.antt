@@ -1,0 +1,3 @@
+-- two definitions by folds
+pub mod Nodes
+pub mod Begin
