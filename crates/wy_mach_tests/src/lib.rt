@@ -3,6 +3,7 @@
 //! `assembler` makes code of texts, and `rows` has the routines and what their runs end with.
 #![tactic(auto)]
 
+#[cfg(test)]
 mod assembler;
 #[cfg(test)]
 mod rows;
