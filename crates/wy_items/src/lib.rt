@@ -13,6 +13,3 @@ mod items;
 
 pub use boxed::Boxed;
 pub use items::{Items, at};
-
-#[cfg(test)]
-mod tests;

@@ -1,5 +1,6 @@
-use crate::{Boxed, Items, at};
+//! Lists and boxes that take a value in and give it back.
 use std::alloc::AllocError;
+use wy_items::{Boxed, Items, at};
 
 #[test]
 fn a_vec_comes_back(rt: HostRuntime) -> Result<(), AllocError> {

@@ -1,5 +1,6 @@
-use crate::example::{Fault, numbers};
+//! The small grammar that shows the shapes: texts that it reads, and refusals with their places.
 use std::alloc::AllocError;
+use wy_reading::example::{Fault, numbers};
 
 #[test]
 fn texts(rt: HostRuntime) -> Result<(), AllocError> {

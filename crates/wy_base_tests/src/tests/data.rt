@@ -1,6 +1,7 @@
-use crate::{Bytes, Name, is_keyword, is_part, is_start};
+//! Names in their order, texts as bytes, and the words that are names.
 use std::alloc::AllocError;
 use std::collections::BTreeMap;
+use wy_data::{Bytes, Name, is_keyword, is_part, is_start};
 
 #[test]
 fn names(rt: HostRuntime) -> Result<(), AllocError> {

@@ -1,0 +1,7 @@
+//! A module for each crate.
+
+mod data;
+mod items;
+mod port;
+mod reading;
+mod scan;
