@@ -7,12 +7,12 @@ ghost use Rattle.wy_lower.specs.SeenPairs.{seen_arm};
 use std::alloc::{AllocError, Global};
 use wy_build::{any_ty, binary, declare, if_stmt, truth, var};
 use wy_core::{Expr, Op, Stmt};
-use wy_items::Items;
+use wy_items::{Boxed, Items};
 
 /// A case: its test and its block.
 #[derive(Drop)]
 pub struct Arm {
-    pub test: Expr,
+    pub test: Boxed<Expr>,
     pub body: Items<Stmt>,
 }
 
@@ -78,7 +78,7 @@ fn choice(alloc: Global, at: u32, arm: Arm, other: Items<Stmt>) -> Result<Items<
     ensures value { IfOk result (λ made. map seen_stmt made ≡ lowered.choice at (seen_arm arm) (map seen_stmt other)) }
 {
     let Arm { test, body } = arm;
-    one(alloc, if_stmt(at, test, body, other))
+    one(alloc, if_stmt(at, test.into_inner(), body, other))
 }
 
 /// One statement.

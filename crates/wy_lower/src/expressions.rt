@@ -189,11 +189,15 @@ fn in_fields(
 {
     let mut map = BTreeMap::new(alloc);
     for field in fields {
+        let name = field.0.copy(alloc)?;
         let value = in_expr(alloc, scope, templates, variables, &field.1)?;
-        map.insert(field.0.copy(alloc)?, value)?;
+        let_go(map.insert(name, value)?);
     }
     listed(alloc, map)
 }
+
+// A call of its own, since letting an expression go has a step for each part of each kind of expression.
+fn let_go(_before: Option<Expr>) {}
 
 /// The ranges of a quantifier, whose variables are in scope afterwards.
 #[cycle(expr)]
@@ -211,8 +215,14 @@ fn in_ranges(
 {
     let mut heads = Items::new(alloc);
     for range in ranges {
-        let from = in_expr(alloc, scope, templates, variables, &range.1)?;
-        let to = in_expr(alloc, scope, templates, variables, &range.2)?;
+        let from = Boxed::new(
+            alloc,
+            in_expr(alloc, scope, templates, variables, &range.1)?,
+        )?;
+        let to = Boxed::new(
+            alloc,
+            in_expr(alloc, scope, templates, variables, &range.2)?,
+        )?;
         let variable = declared(alloc, scope, variables, &range.0)?;
         heads.push(Head { variable, from, to })?;
     }

@@ -8,7 +8,7 @@ use crate::choices::one;
 use std::alloc::{AllocError, Global};
 use wy_build::{assign, binary, bool_ty, declare, int, int_ty, truth, var, while_stmt};
 use wy_core::{Expr, Op, Stmt};
-use wy_items::Items;
+use wy_items::{Boxed, Items};
 
 /// `first || e`
 pub fn behind_first(alloc: Global, at: u32, first: u32, expr: Expr) -> Result<Expr, AllocError>
@@ -23,7 +23,7 @@ pub fn repeated(
     alloc: Global,
     at: u32,
     first: u32,
-    test: Expr,
+    test: Boxed<Expr>,
     invariants: Items<Expr>,
     body: Items<Stmt>,
 ) -> Result<Items<Stmt>, AllocError>
@@ -34,7 +34,7 @@ pub fn repeated(
     let done = assign(at, first, Items::new(alloc), truth(at, false));
     let mut turn = one(alloc, done)?;
     turn.append(body)?;
-    made.push(while_stmt(at, test, invariants, turn))?;
+    made.push(while_stmt(at, test.into_inner(), invariants, turn))?;
     Ok(made)
 }
 
@@ -66,8 +66,9 @@ fn bounds(alloc: Global, at: u32, span: Span) -> Result<Items<Expr>, AllocError>
     let above = binary(alloc, at, Op::LessEqual, var(at, span.lo), var(at, span.t))?;
     made.push(above)?;
     let within = binary(alloc, at, Op::LessEqual, var(at, span.t), var(at, span.hi))?;
+    let within = Boxed::new(alloc, within)?;
     let empty = binary(alloc, at, Op::Less, var(at, span.hi), var(at, span.lo))?;
-    let below = binary(alloc, at, Op::Or, within, empty)?;
+    let below = binary(alloc, at, Op::Or, within.into_inner(), empty)?;
     made.push(below)?;
     Ok(made)
 }
@@ -77,14 +78,14 @@ fn starts(
     alloc: Global,
     at: u32,
     span: Span,
-    from: Expr,
-    to: Expr,
+    from: Boxed<Expr>,
+    to: Boxed<Expr>,
 ) -> Result<Items<Stmt>, AllocError>
     ensures value { IfOk result (λ made. map seen_stmt made ≡ lowered.starts at (seen_span span) (seen_expr from) (seen_expr to)) }
 {
-    let lo = declare(at, int_ty(at), span.lo, Some(from));
+    let lo = declare(at, int_ty(at), span.lo, Some(from.into_inner()));
     let mut made = one(alloc, lo)?;
-    let hi = declare(at, int_ty(at), span.hi, Some(to));
+    let hi = declare(at, int_ty(at), span.hi, Some(to.into_inner()));
     made.push(hi)?;
     let t = declare(at, int_ty(at), span.t, Some(var(at, span.lo)));
     made.push(t)?;
@@ -103,11 +104,12 @@ fn turns(
     ensures value { IfOk result (λ s. seen_stmt s ≡ lowered.turns at (seen_span span) (seen_exprs own) (map seen_stmt body)) }
 {
     let test = binary(alloc, at, Op::Less, var(at, span.t), var(at, span.hi))?;
+    let test = Boxed::new(alloc, test)?;
     let mut invariants = bounds(alloc, at, span)?;
     invariants.append(own)?;
     let mut turn = next_turn(alloc, at, span)?;
     turn.append(body)?;
-    Ok(while_stmt(at, test, invariants, turn))
+    Ok(while_stmt(at, test.into_inner(), invariants, turn))
 }
 
 /// The whole of a `for`.
@@ -115,8 +117,8 @@ pub fn counted(
     alloc: Global,
     at: u32,
     span: Span,
-    from: Expr,
-    to: Expr,
+    from: Boxed<Expr>,
+    to: Boxed<Expr>,
     own: Items<Expr>,
     body: Items<Stmt>,
 ) -> Result<Items<Stmt>, AllocError>

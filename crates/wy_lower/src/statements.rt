@@ -23,7 +23,7 @@ use wy_build::{
 };
 use wy_core::{Expr, Step, Stmt};
 use wy_data::Name;
-use wy_items::Items;
+use wy_items::{Boxed, Items};
 use wy_scope::{Entry, Table};
 
 /// The core of a block. The scope is as before afterwards; variables that it declares are put behind
@@ -158,7 +158,7 @@ fn in_stmt(
 /// The test of an `if` and its first block.
 #[derive(Drop)]
 struct IfHead {
-    test: Expr,
+    test: Boxed<Expr>,
     first: Items<Stmt>,
 }
 
@@ -177,7 +177,7 @@ fn in_tested(
     ensures test { IfOk result (λ h. seen_expr h.test ≡ (lowered.if_test (seen_templates templates.now) scope.old variables.old (surface_seen.seen_expr test.now)).1) }
     ensures first { IfOk result (λ h. map seen_stmt h.first ≡ (lowered.if_first (seen_templates templates.now) scope.old variables.old (surface_seen.seen_expr test.now) (surface_seen.seen_block first.now)).1) }
 {
-    let test = in_expr(alloc, scope, templates, variables, test)?;
+    let test = Boxed::new(alloc, in_expr(alloc, scope, templates, variables, test)?)?;
     let first = in_block(alloc, scope, templates, variables, first)?;
     Ok(IfHead { test, first })
 }
@@ -192,7 +192,7 @@ fn either_of(
     ensures value { IfOk result (λ made. map seen_stmt made ≡ lowered.if_of at (seen_expr head.test) (map seen_stmt head.first) (map seen_stmt second)) }
 {
     let IfHead { test, first } = head;
-    one(alloc, if_stmt(at, test, first, second))
+    one(alloc, if_stmt(at, test.into_inner(), first, second))
 }
 
 /// `while`, its body first.
@@ -211,10 +211,10 @@ fn in_while(
     ensures variables { OnOk result (variables.new ≡ (lowered.while_stmt (seen_templates templates.now) scope.old variables.old at (surface_seen.seen_expr test.now) (surface_seen.seen_exprs invariants.now) (surface_seen.seen_block body.now)).0) }
     ensures value { IfOk result (λ made. map seen_stmt made ≡ (lowered.while_stmt (seen_templates templates.now) scope.old variables.old at (surface_seen.seen_expr test.now) (surface_seen.seen_exprs invariants.now) (surface_seen.seen_block body.now)).1) }
 {
-    let test = in_expr(alloc, scope, templates, variables, test)?;
+    let test = Boxed::new(alloc, in_expr(alloc, scope, templates, variables, test)?)?;
     let invariants = in_exprs(alloc, scope, templates, variables, invariants)?;
     let body = in_block(alloc, scope, templates, variables, body)?;
-    one(alloc, while_stmt(at, test, invariants, body))
+    one(alloc, while_stmt(at, test.into_inner(), invariants, body))
 }
 
 /// `do`, its body first.
@@ -344,10 +344,13 @@ fn in_switch_stmt(
             let (cases, variable) = (cases.as_slice(), head.variable);
             let arms = in_cases(alloc, scope, templates, variables, at, variable, cases)?;
             match default {
-                None => switched(alloc, at, variable, head.value, arms, Items::new(alloc)),
+                None => {
+                    let value = head.value.into_inner();
+                    switched(alloc, at, variable, value, arms, Items::new(alloc))
+                }
                 Some(block) => {
                     let last = in_block(alloc, scope, templates, variables, block.as_slice())?;
-                    switched(alloc, at, variable, head.value, arms, last)
+                    switched(alloc, at, variable, head.value.into_inner(), arms, last)
                 }
             }
         }
@@ -374,6 +377,7 @@ fn in_cases(
     for case in cases {
         let labels = case.labels.as_slice();
         let test = in_labels(alloc, scope, templates, variables, at, variable, labels)?;
+        let test = Boxed::new(alloc, test)?;
         let body = in_block(alloc, scope, templates, variables, case.body.as_slice())?;
         arms.push(Arm { test, body })?;
     }
@@ -413,10 +417,11 @@ fn in_declare(
     ensures variables { OnOk result (variables.new ≡ (lowered.in_declare (seen_templates templates.now) scope.old variables.old at (surface_seen.seen_ty ty.now) name.now (surface_seen.seen_option value.now)).0) }
     ensures value { IfOk result (λ made. map seen_stmt made ≡ (lowered.in_declare (seen_templates templates.now) scope.old variables.old at (surface_seen.seen_ty ty.now) name.now (surface_seen.seen_option value.now)).1) }
 {
-    let ty = in_ty(alloc, scope, ty)?;
-    let value = in_option(alloc, scope, templates, variables, value)?;
+    let ty = Boxed::new(alloc, in_ty(alloc, scope, ty)?)?;
+    let value = Boxed::new(alloc, in_option(alloc, scope, templates, variables, value)?)?;
     let variable = declared(alloc, scope, variables, name)?;
-    one(alloc, declare(at, ty, variable, value))
+    let start = declare(at, ty.into_inner(), variable, value.into_inner());
+    one(alloc, start)
 }
 
 /// `name path = value`
@@ -555,7 +560,7 @@ fn in_step(
 #[derive(Drop)]
 struct DoHead {
     first: u32,
-    test: Expr,
+    test: Boxed<Expr>,
     invariants: Items<Expr>,
 }
 
@@ -576,7 +581,7 @@ fn in_do(
 {
     let first = made(alloc, variables, "first")?;
     let test = in_expr(alloc, scope, templates, variables, test)?;
-    let test = behind_first(alloc, at, first, test)?;
+    let test = Boxed::new(alloc, behind_first(alloc, at, first, test)?)?;
     let invariants = each_behind_first(alloc, scope, templates, variables, at, first, invariants)?;
     Ok(DoHead {
         first,
@@ -613,8 +618,8 @@ fn each_behind_first(
 #[derive(Drop)]
 struct ForHead {
     span: Span,
-    from: Expr,
-    to: Expr,
+    from: Boxed<Expr>,
+    to: Boxed<Expr>,
     invariants: Items<Expr>,
 }
 
@@ -635,8 +640,8 @@ fn in_for(
     ensures end { IfOk result (λ head. seen_expr head.to ≡ (lowered.for_to (seen_templates templates.now) scope.old variables.old (surface_seen.seen_expr from.now) (surface_seen.seen_expr to.now)).1) }
     ensures invariants { IfOk result (λ head. seen_exprs head.invariants ≡ (lowered.for_invariants (seen_templates templates.now) scope.old variables.old name.now (surface_seen.seen_expr from.now) (surface_seen.seen_expr to.now) (surface_seen.seen_exprs invariants.now)).1) }
 {
-    let from = in_expr(alloc, scope, templates, variables, from)?;
-    let to = in_expr(alloc, scope, templates, variables, to)?;
+    let from = Boxed::new(alloc, in_expr(alloc, scope, templates, variables, from)?)?;
+    let to = Boxed::new(alloc, in_expr(alloc, scope, templates, variables, to)?)?;
     let span = spanned(alloc, variables, name)?;
     let invariants = in_renamed(alloc, scope, templates, variables, name, span.t, invariants)?;
     Ok(ForHead {
@@ -685,7 +690,7 @@ fn in_renamed(
 #[derive(Drop)]
 struct SwitchHead {
     variable: u32,
-    value: Expr,
+    value: Boxed<Expr>,
 }
 
 fn in_switch(
@@ -700,7 +705,7 @@ fn in_switch(
     ensures number { IfOk result (λ head. head.variable ≡ lowered.switch_number (seen_templates templates.now) scope.old variables.old (surface_seen.seen_expr value.now)) }
     ensures value { IfOk result (λ head. seen_expr head.value ≡ (lowered.switch_value (seen_templates templates.now) scope.old variables.old (surface_seen.seen_expr value.now)).1) }
 {
-    let value = in_expr(alloc, scope, templates, variables, value)?;
+    let value = Boxed::new(alloc, in_expr(alloc, scope, templates, variables, value)?)?;
     let variable = made(alloc, variables, "t")?;
     Ok(SwitchHead { variable, value })
 }
