@@ -121,8 +121,8 @@ fn copy_guard(
 ) -> Result<(Expr, Items<Expr>), AllocError>
     ensures value { IfOk result (λ copy. copy ≡ (expr.now, invariants.now)) }
 {
-    let expr = expr.copy(alloc)?;
-    Ok((expr, copy_exprs(alloc, invariants)?))
+    let invariants = copy_exprs(alloc, invariants)?;
+    Ok((expr.copy(alloc)?, invariants))
 }
 
 fn copy_while(
@@ -160,10 +160,26 @@ fn copy_for(
     ensures value { IfOk result (λ copy. copy ≡ StmtKind.For name.now from.now to.now invariants.now body) }
 {
     let name = name.copy(alloc)?;
-    let from = from.copy(alloc)?;
-    let guard = copy_guard(alloc, to, invariants)?;
-    Ok(StmtKind::For(name, from, guard.0, guard.1, body))
+    let invariants = copy_exprs(alloc, invariants)?;
+    let ends = copy_ends(alloc, from, to)?;
+    Ok(StmtKind::For(name, ends.0, ends.1, invariants, body))
 }
+
+/// Two expressions once more.
+fn copy_ends(alloc: Global, from: &Expr, to: &Expr) -> Result<(Expr, Expr), AllocError>
+    ensures value { IfOk result (λ copy. copy ≡ (from.now, to.now)) }
+{
+    let from = from.copy(alloc)?;
+    match to.copy(alloc) {
+        Ok(to) => Ok((from, to)),
+        Err(error) => {
+            gone(from);
+            Err(error)
+        }
+    }
+}
+
+fn gone(_expr: Expr) {}
 
 fn copy_switch(
     alloc: Global,

@@ -112,8 +112,8 @@ fn copy_while(
 ) -> Result<StmtKind, AllocError>
     ensures value { IfOk result (λ copy. copy ≡ StmtKind.While test.now invariants.now body) }
 {
-    let test = test.copy(alloc)?;
-    Ok(StmtKind::While(test, copy_exprs(alloc, invariants)?, body))
+    let invariants = copy_exprs(alloc, invariants)?;
+    Ok(StmtKind::While(test.copy(alloc)?, invariants, body))
 }
 
 /// The same block once more, in time linear in its size.
