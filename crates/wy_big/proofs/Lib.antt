@@ -1,0 +1,4 @@
+-- what contracts of functions inside rest on
+pub mod SourceLemmas
+-- what the law rests on
+pub mod RowsHold

@@ -1,0 +1,5 @@
+-- what public contracts cite
+pub mod Draws
+pub mod Bodies
+pub mod Source
+pub mod Rows
