@@ -1,0 +1,2 @@
+-- what the law rests on
+pub mod LayoutLemmas
