@@ -1,2 +1,0 @@
--- what the law rests on
-pub mod LayoutLemmas
