@@ -1,0 +1,3 @@
+-- what public contracts cite, and what functions inside owe each other
+pub mod Adding
+pub mod Bounds
