@@ -7,7 +7,7 @@ use Rattle.std.proofs.Math.IntN.{*ℤ_comm}
 use Rattle.std.proofs.lemmas.Int.{ints}
 use Rattle.wy_bound_products.proofs.QuotientLemmas.{quotient_more, times_opposite}
 use Rattle.wy_bound_products.specs.Bounds.{shift, AreBounds, IsBound}
-use Rattle.wy_bound_products.specs.declared.bounds.Bound.{Bound}
+use Rattle.wy_bound_products.specs.declared.tightest.Bound.{Bound}
 use Rattle.wy_judge.specs.Node.{Literal}
 use Rattle.wy_lin.specs.Linear.{◌>>=◌, Linear, coefficient}
 use Rattle.wy_lin.specs.TermForm.{form_of_literal}

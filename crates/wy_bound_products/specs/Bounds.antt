@@ -7,7 +7,7 @@ use Rattle.wy_judge.specs.Node.{Literal, Node}
 use Rattle.wy_valid.specs.Products.{Affine, affine, as_product}
 use Rattle.wy_valid.specs.Sums.{all_zero, form_at}
 use Rattle.wy_search.specs.Expansion.{best_bound, with_product}
-use Rattle.wy_bound_products.specs.declared.bounds.Bound.{Bound}
+use Rattle.wy_bound_products.specs.declared.tightest.Bound.{Bound}
 use Rattle.wy_bound_products.specs.declared.products.Bounds.{Bounds}
 
 -- by how much what the code compares lies above where the bounds on a side stop

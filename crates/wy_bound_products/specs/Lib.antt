@@ -1,3 +1,4 @@
--- what public contracts cite, and what functions inside owe each other
-pub mod Adding
+-- what public contracts cite
 pub mod Bounds
+-- what functions inside owe each other
+pub mod Adding

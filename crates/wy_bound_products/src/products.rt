@@ -14,7 +14,7 @@ ghost use Rattle.wy_term.specs.Term.{Term};
 ghost use Rattle.wy_valid.specs.Products.{as_product, product_stated};
 ghost use Rattle.wy_valid.specs.Sums.{all_zero};
 
-use crate::bounds::{Bound, bound_of};
+use crate::tightest::{Bound, bound_of};
 use wy_judging::{Branch, pending_at};
 use wy_lin::{Form, term_form};
 use wy_products::product_stated;
@@ -85,8 +85,9 @@ fn bounds_by(terms: &mut Terms, branch: &Branch, form: &Form) -> Result<Bounds, 
     Ok(Bounds { lower, upper })
 }
 
-// The bounds of a factor, where it has a form with a variable.
-fn bounds_of(terms: &mut Terms, branch: &Branch, t: u32) -> Result<Option<Bounds>, NoMemory>
+/// The tightest bounds of a factor, where it has a form with a variable. It takes twice the time of `form` on each literal.
+/// Older numbers name what they named.
+pub fn bounds_of(terms: &mut Terms, branch: &Branch, t: u32) -> Result<Option<Bounds>, NoMemory>
     requires branch { IsBranch terms.old branch.now }
     requires term { t < length terms.old }
     ensures value { IfOk result (λ o. AreFactor (seen_branch (tree_at terms.old) branch.now).literals (tree_at terms.old t) o) }

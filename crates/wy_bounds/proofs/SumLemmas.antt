@@ -9,7 +9,7 @@ use Rattle.wy_lin.specs.Combination.{combined}
 use Rattle.wy_lin.specs.Seen.{linear_form}
 use Rattle.wy_eliminate.specs.Division.{common}
 use Rattle.wy_search.specs.Bounds.{Replaced, leaves, named_from, all_fit, stated_sum, replaced_by, by_sum, by_common}
-use Rattle.wy_bounds.specs.declared.taking.Taking.{Taking}
+use Rattle.wy_bounds.specs.declared.removal.Taking.{Taking}
 use Rattle.wy_bounds.specs.Seen.{seen_taking, seen_takings, forms_to_add, multipliers_of, sum_with}
 use Rattle.wy_classes.proofs.WalkLemmas.{map_last, drop_end}
 

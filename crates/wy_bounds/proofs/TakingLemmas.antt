@@ -6,7 +6,7 @@ use Rattle.std.proofs.lemmas.List.{append-nil, drop_more}
 use Rattle.std.proofs.lemmas.Bool.{eq-eqb, ne_eqb}
 use Rattle.wy_lin.specs.Linear.{Linear}
 use Rattle.wy_search.specs.Bounds.{first_with, first_of_class, taking_away, takings}
-use Rattle.wy_bounds.specs.declared.taking.Taking.{Taking}
+use Rattle.wy_bounds.specs.declared.removal.Taking.{Taking}
 use Rattle.wy_bounds.specs.Seen.{seen_taking, seen_takings}
 use Rattle.wy_classes.proofs.WalkLemmas.{map_last, drop_end}
 

@@ -3,7 +3,7 @@ use Rattle.std.specs.Prelude.{◌≡◌, ℕ, List, [], ◌∷◌, map, Bool, tr
 use Rattle.wy_lin.specs.Linear.{Linear}
 use Rattle.wy_lin.specs.Seen.{linear_form}
 use Rattle.wy_search.specs.Bounds.{Replaced, gone, given, refutes, leaves, Ending, refuted, consistent, crowded, wide, named_from, all_fit, stated_sum}
-use Rattle.wy_bounds.specs.declared.taking.Taking.{Taking}
+use Rattle.wy_bounds.specs.declared.removal.Taking.{Taking}
 use Rattle.wy_bounds.specs.declared.replacing.Replaced.{Replaced as CodeReplaced}
 use Rattle.wy_bounds.specs.declared.replacing.Replaced.TheVariants as code
 use Rattle.wy_bounds.specs.declared.ending.Ending.{Ending as CodeEnding}

@@ -5,8 +5,8 @@ ghost use Rattle.wy_eliminate.specs.Division as division;
 ghost use Rattle.wy_lin.specs.Seen.{linear_form};
 ghost use Rattle.wy_search.specs.Bounds as bounds;
 
+use crate::removal::{Taking, takings};
 use crate::sums::sum_with;
-use crate::taking::{Taking, takings};
 use std::alloc::Global;
 use wy_eliminate::{common, lowered};
 use wy_lin::Form;

@@ -4,7 +4,7 @@ ghost use Rattle.wy_bounds.specs.Seen.{seen_takings, forms_to_add, multipliers_o
 ghost use Rattle.wy_lin.specs.Seen.{linear_form};
 
 use crate::forms::copied;
-use crate::taking::Taking;
+use crate::removal::Taking;
 use std::alloc::Global;
 use wy_lin::{Form, combine};
 use wy_term::NoMemory;

@@ -3,7 +3,7 @@ use Rattle.wy_bound_products.proofs.AddingLemmas.{led_if, unmoved}
 use Rattle.wy_bound_products.proofs.ProductLemmas.{none_first, none_second, pushed}
 use Rattle.wy_bound_products.proofs.products.push_product.Goals as goal
 use Rattle.wy_bound_products.specs.Bounds.{AreBounds}
-use Rattle.wy_bound_products.specs.declared.bounds.Bound.{Bound}
+use Rattle.wy_bound_products.specs.declared.tightest.Bound.{Bound}
 use Rattle.wy_judging.specs.Seen.{seen_branch}
 use Rattle.wy_standing.proofs.TaskLemmas.{on_ok}
 use Rattle.wy_term.specs.Nodes.{tree_at}

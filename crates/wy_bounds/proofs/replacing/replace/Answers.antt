@@ -5,7 +5,7 @@ use Rattle.wy_lin.specs.Seen.{linear_form}
 use Rattle.wy_search.specs.Bounds.{takings, replaced_by, by_common}
 use Rattle.wy_eliminate.specs.Division.{common}
 use Rattle.std.proofs.lemmas.Bool.{eq-eqb}
-use Rattle.wy_bounds.specs.declared.taking.Taking.{Taking}
+use Rattle.wy_bounds.specs.declared.removal.Taking.{Taking}
 use Rattle.wy_bounds.specs.Seen.{seen_takings, sum_with}
 use Rattle.wy_bounds.proofs.SumLemmas.{nothing_taken, replaced_so}
 use Rattle.wy_bounds.proofs.replacing.replace.Goals as goal

@@ -3,7 +3,7 @@ use Rattle.std.proofs.lemmas.Int.{to_z-of_z}
 use Rattle.std.specs.Int.{w128}
 use Rattle.std.specs.Prelude.{option_map}
 use Rattle.wy_bound_products.proofs.BoundLemmas.{affine_size, no_form, some_form}
-use Rattle.wy_bound_products.proofs.bounds.with_literal.Goals as goal
+use Rattle.wy_bound_products.proofs.tightest.with_literal.Goals as goal
 use Rattle.wy_judging.specs.Seen.{seen_branch}
 use Rattle.wy_lin.specs.Linear.{Linear}
 use Rattle.wy_lin.specs.Seen.{seen_form}

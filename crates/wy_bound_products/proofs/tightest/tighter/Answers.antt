@@ -1,9 +1,9 @@
 use Rattle.std.proofs.Common.{◌≡◌, ℤ, ◌<ℤ◌, ◌≤ℤ◌, Option, rules, subst, arith}
 use Rattle.std.proofs.lemmas.Int.{ints}
 use Rattle.wy_bound_products.proofs.BoundLemmas.{first_bound, new_bound, old_bound}
-use Rattle.wy_bound_products.proofs.bounds.tighter.Goals as goal
+use Rattle.wy_bound_products.proofs.tightest.tighter.Goals as goal
 use Rattle.wy_bound_products.specs.Bounds.{AreBounds}
-use Rattle.wy_bound_products.specs.declared.bounds.Bound.{Bound}
+use Rattle.wy_bound_products.specs.declared.tightest.Bound.{Bound}
 
 pub returns-then-one-b : goal.returns-then-one-b
 returns-then-one-b c = λ ls f below given y at old new.

@@ -1,8 +1,8 @@
 use Rattle.std.proofs.Common.{◌≡◌, ◌≤◌, ◌<◌, ◌∙◌, ℕ, ℤ, Option, None, length, refl, rules, sym, ap, ap₂, subst, arith}
 use Rattle.wy_bound_products.proofs.BoundLemmas.{at_old, best_end, best_more, count_seen}
-use Rattle.wy_bound_products.proofs.bounds.bound_of.Goals as goal
+use Rattle.wy_bound_products.proofs.tightest.bound_of.Goals as goal
 use Rattle.wy_bound_products.specs.Bounds.{AreBounds}
-use Rattle.wy_bound_products.specs.declared.bounds.Bound.{Bound}
+use Rattle.wy_bound_products.specs.declared.tightest.Bound.{Bound}
 use Rattle.wy_facts.proofs.StepLemmas.{stays_on, stays_same}
 use Rattle.wy_judge.specs.Node.{Literal, Node}
 use Rattle.wy_judging.specs.Seen.{seen_branch, seen_literal}

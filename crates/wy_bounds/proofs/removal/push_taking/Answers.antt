@@ -5,7 +5,7 @@ use Rattle.wy_search.specs.Bounds.{taking_away}
 use Rattle.std.specs.Prelude.{pos, ℤ}
 use Rattle.std.specs.Ordering.{int_eq}
 use Rattle.wy_bounds.proofs.TakingLemmas.{none_taken, first_stays, taken_more}
-use Rattle.wy_bounds.proofs.taking.push_taking.Goals as goal
+use Rattle.wy_bounds.proofs.removal.push_taking.Goals as goal
 
 pub returns-then-c-eq0 : goal.returns-then-c-eq0
 returns-then-c-eq0 c =

@@ -1,5 +1,5 @@
 use Rattle.std.proofs.Common.{◌≡◌, ℤ, Option, None, drop}
-use Rattle.wy_bound_products.proofs.bounds.bound_of.Given as goal
+use Rattle.wy_bound_products.proofs.tightest.bound_of.Given as goal
 use Rattle.wy_bound_products.specs.Bounds.{AreBounds}
 use Rattle.wy_facts.specs.Seen.{Stays}
 use Rattle.wy_judging.specs.Seen.{seen_branch}

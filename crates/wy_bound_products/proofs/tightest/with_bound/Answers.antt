@@ -1,8 +1,8 @@
 use Rattle.std.proofs.Common.{◌≡◌, ◌≢◌, ◌∙◌, ◌<◌, ℤ, Option, Some, None, ap, refl, rules, subst, sym}
 use Rattle.std.specs.Prelude.{IfSome}
 use Rattle.wy_bound_products.proofs.BoundLemmas.{apart_of, no_affine, other_bound, this_bound}
-use Rattle.wy_bound_products.proofs.bounds.with_bound.Goals as goal
-use Rattle.wy_bound_products.specs.declared.bounds.Bound.{Bound}
+use Rattle.wy_bound_products.proofs.tightest.with_bound.Goals as goal
+use Rattle.wy_bound_products.specs.declared.tightest.Bound.{Bound}
 use Rattle.wy_products.specs.Seen.{AreAffine}
 use Rattle.wy_products.specs.declared.affine.Affine.{Affine}
 use Rattle.wy_term.specs.Data.{quotient_down}

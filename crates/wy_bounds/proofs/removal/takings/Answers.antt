@@ -5,7 +5,7 @@ use Rattle.std.specs.Prelude.{pos, ℤ}
 use Rattle.wy_search.specs.Bounds.{takings}
 use Rattle.wy_bounds.specs.Seen.{seen_takings}
 use Rattle.wy_bounds.proofs.TakingLemmas.{takings_next, takings_end}
-use Rattle.wy_bounds.proofs.taking.takings.Goals as goal
+use Rattle.wy_bounds.proofs.removal.takings.Goals as goal
 
 pub loop-part-preserved : goal.loop-part-preserved
 loop-part-preserved c =
