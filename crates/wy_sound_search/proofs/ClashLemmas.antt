@@ -34,11 +34,11 @@ term_sort_is formula_sort e = absurd cc
 
 only_terms_are : (ts : List Term) → AreTerms (only_terms ts)
 only_terms_are [] = tt
-only_terms_are (t ∷ ts) = by (is_term_sort (sort_in t)) refl
+only_terms_are (t ∷ ts) = by (is_term_sort (sort_in t)) refl (only_terms_are ts)
   where
-    by : (b : Bool) → is_term_sort (sort_in t) ≡ b → AreTerms (cond b (t ∷ only_terms ts) (only_terms ts))
-    by true e = (term_sort_is (sort_in t) e, only_terms_are ts)
-    by false e = only_terms_are ts
+    by : (b : Bool) → is_term_sort (sort_in t) ≡ b → AreTerms (only_terms ts) → AreTerms (cond b (t ∷ only_terms ts) (only_terms ts))
+    by true e rest = (term_sort_is (sort_in t) e, rest)
+    by false e rest = rest
 
 -- the classes of a true node respect senses
 pub node_respects : (names : Names) (node : Node) → IsTrueNode names node → AreLiterals node.literals → Respects names (present node) (classes (present node) node.literals)

@@ -110,11 +110,11 @@ module _ (types : List Entry) (are_closed : AreClosed types) (entries : AreSorte
 
   pairs_of : (node : Node) (t : Term) (us : List Term) → Follows types base node → IsSorted t → AreSortedTerms us → Follows types base (with_pairs_of node t us)
   pairs_of node t [] h is are = h
-  pairs_of node t (u ∷ us) h is are = by (same_term t u)
+  pairs_of node t (u ∷ us) h is are = pairs_of (cond (same_term t u) node (with_some node (fact_among types 8 (t ∷ u ∷ [])))) t us (by (same_term t u)) is are.1
     where
-      by : (b : Bool) → Follows types base (with_pairs_of (cond b node (with_some node (fact_among types 8 (t ∷ u ∷ [])))) t us)
-      by true = pairs_of node t us h is are.1
-      by false = pairs_of (with_some node (fact_among types 8 (t ∷ u ∷ []))) t us (with_fact node 8 (t ∷ u ∷ []) h (is, (are.0, tt))) is are.1
+      by : (b : Bool) → Follows types base (cond b node (with_some node (fact_among types 8 (t ∷ u ∷ []))))
+      by true = h
+      by false = with_fact node 8 (t ∷ u ∷ []) h (is, (are.0, tt))
 
   pairs : (node : Node) (all ts : List Term) → Follows types base node → AreSortedTerms all → AreSortedTerms ts → Follows types base (with_pairs node all ts)
   pairs node all [] h every are = h

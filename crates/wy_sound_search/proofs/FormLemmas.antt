@@ -31,8 +31,11 @@ below_is a b e = grind (arith, ints)
 
 -- ---- sums
 
+zero_natural : pos 0 ≤ℤ (pos 0 +ℤ pos 0)
+zero_natural = omega (arith, ints)
+
 nothing_natural : (values : ℕ → ℤ) → IsNatural values nothing
-nothing_natural values = omega (arith, ints)
+nothing_natural values = zero_natural
 
 pub natural_at : (values : ℕ → ℤ) (fs : List (Linear ℕ)) (i : ℕ) → AreNatural values fs → IsNatural values (form_at fs i)
 natural_at values [] i h = nothing_natural values
@@ -158,22 +161,24 @@ divided_worth values d done (p ∷ ps) lt e =
     divided_worth values d (with_divided d done p) ps lt h.1
     ∙ joined (pos d *ℤ worth_of_parts values (with_divided d done p)) (pos d *ℤ worth_of_parts values done) (p.0 *ℤ values p.1) (worth_of_parts values ps) (with_divided_worth values d done p lt (eqb-true (unsigned_abs p.0 % d) 0 h.0))
 
-nothing_times : (d : ℤ) → d *ℤ pos 0 +ℤ pos 0 ≡ pos 0
-nothing_times d = omega (arith, ints)
-
 natural_quotient : (z : ℤ) (d : ℕ) → pos 0 ≤ℤ z → pos 0 ≤ℤ quotient_down z d
 natural_quotient (pos n) d h = omega (arith, ints)
 natural_quotient (negsuc n) d h = absurd (omega (arith, ints, h))
+
+whole_natural : (m ds w c : ℤ) → ds ≡ m *ℤ pos 0 +ℤ w → pos 0 ≤ℤ (w +ℤ c) → pos 0 ≤ℤ (c +ℤ ds)
+whole_natural m ds w c e le = omega (arith, ints, e, le)
+
+turned_natural : (s q r : ℤ) → pos 0 ≤ℤ (q +ℤ s) → r ≡ q → pos 0 ≤ℤ (s +ℤ r)
+turned_natural s q r le e = omega (arith, ints, le, e)
 
 -- what is left of a form that is at least 0, divided by a number that divides its coefficients, its constant rounded down
 pub lowered_natural : (values : ℕ → ℤ) (d : ℕ) (f : Linear ℕ) → 0 < d → divides d f.parts ≡ true → IsNatural values f → IsNatural values (lowered d f)
 lowered_natural values d f lt e natural =
     let s = worth_of_parts values (divided_from d [] f.parts) in
     let parts : pos d *ℤ s ≡ pos d *ℤ pos 0 +ℤ worth_of_parts values f.parts = divided_worth values d [] f.parts lt e in
-    let whole : pos 0 ≤ℤ (f.constant +ℤ pos d *ℤ s) = omega (arith, ints, parts, natural) in
+    let whole = whole_natural (pos d) (pos d *ℤ s) (worth_of_parts values f.parts) f.constant parts natural in
     let rounded : pos 0 ≤ℤ (quotient_down f.constant d +ℤ s) = subst (λ (z : ℤ). pos 0 ≤ℤ z) (quotient_more f.constant s d lt) (natural_quotient (f.constant +ℤ pos d *ℤ s) d whole) in
-    let same = same_quotient d f.constant in
-    omega (arith, ints, rounded, same)
+    turned_natural s (quotient_down f.constant d) (quotient d f.constant) rounded (same_quotient d f.constant)
 
 pub common_lowered : (values : ℕ → ℤ) (f : Linear ℕ) → 0 < common f.parts → IsNatural values f → IsNatural values (lowered (common f.parts) f)
 common_lowered values f lt natural = lowered_natural values (common f.parts) f lt (common-divides f.parts) natural

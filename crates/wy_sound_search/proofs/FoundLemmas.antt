@@ -155,11 +155,11 @@ module _ (types : List Entry) (are_closed : AreClosed types) (entries : AreSorte
   found_false : (budget turns n m : ℕ) (ps : List Spot) → AreSortedSpots ps → searched types budget turns n ps ≡ Some (found m) → AreFalse ps
   found_false budget zero n m ps sorted e = absurd cc
   found_false budget (suc turns) n m [] sorted e = tt
-  found_false budget (suc turns) n m (p ∷ ps) sorted e = by (eqb n budget) e
+  found_false budget (suc turns) n m (p ∷ ps) sorted e = by (eqb n budget) e (λ k qs are g. found_false budget turns k m qs are g)
     where
-      by : (b : Bool) → cond b (Some spent) (follows (next types p) n p ps (λ k qs. searched types budget turns k qs)) ≡ Some (found m) → AreFalse (p ∷ ps)
-      by true f = absurd cc
-      by false f = followed (next types p) n m p ps (λ k qs. searched types budget turns k qs) (next_sound p sorted.0) sorted.1 (λ k qs are g. found_false budget turns k m qs are g) f
+      by : (b : Bool) → cond b (Some spent) (follows (next types p) n p ps (λ k qs. searched types budget turns k qs)) ≡ Some (found m) → ((k : ℕ) (qs : List Spot) → AreSortedSpots qs → searched types budget turns k qs ≡ Some (found m) → AreFalse qs) → AreFalse (p ∷ ps)
+      by true f rest = absurd cc
+      by false f rest = followed (next types p) n m p ps (λ k qs. searched types budget turns k qs) (next_sound p sorted.0) sorted.1 rest f
 
 not_false : (b : Bool) → (b ≡ false → ⊥) → b ≡ true
 not_false true h = refl

@@ -35,11 +35,11 @@ rest_among us (x ∷ xs) ys h = rest_among us xs ys h.1
 
 has_last : (us : List Term) (t : Term) → has_formula (us ++ t ∷ []) t ≡ true
 has_last [] t = ap (λ (b : Bool). cond b true false) (terms_self t)
-has_last (u ∷ us) t = by (same_term u t)
+has_last (u ∷ us) t = by (same_term u t) (has_last us t)
   where
-    by : (b : Bool) → cond b true (has_formula (us ++ t ∷ []) t) ≡ true
-    by true = refl
-    by false = has_last us t
+    by : (b : Bool) → has_formula (us ++ t ∷ []) t ≡ true → cond b true (has_formula (us ++ t ∷ []) t) ≡ true
+    by true rest = refl
+    by false rest = rest
 
 has_more : (us : List Term) (x t : Term) → has_formula us t ≡ true → has_formula (us ++ x ∷ []) t ≡ true
 has_more [] x t e = absurd cc
@@ -52,11 +52,11 @@ has_more (u ∷ us) x t e = by (same_term u t) e (λ f. has_more us x t f)
 -- what is there stays there
 stays_there : (done : List Term) (ss : List Standing) (t : Term) → has_formula done t ≡ true → has_formula (with_unbound done ss) t ≡ true
 stays_there done [] t e = e
-stays_there done (s ∷ ss) t e = by (has_formula done s.what || have_common (free_names s.what) s.around)
+stays_there done (s ∷ ss) t e = stays_there (cond (has_formula done s.what || have_common (free_names s.what) s.around) done (done ++ s.what ∷ [])) ss t (by (has_formula done s.what || have_common (free_names s.what) s.around))
   where
-    by : (b : Bool) → has_formula (with_unbound (cond b done (done ++ s.what ∷ [])) ss) t ≡ true
-    by true = stays_there done ss t e
-    by false = stays_there (done ++ s.what ∷ []) ss t (has_more done s.what t e)
+    by : (b : Bool) → has_formula (cond b done (done ++ s.what ∷ [])) t ≡ true
+    by true = e
+    by false = has_more done s.what t e
 
 none_common : (xs : List Term) → have_common xs [] ≡ false
 none_common [] = refl
@@ -68,14 +68,13 @@ or_first false b e f = let up : true ≡ false = sym f ∙ e in absurd cc
 
 all_among : (done : List Term) (ss : List Standing) → AreAmong (with_unbound done ss) ss
 all_among done [] = tt
-all_among done (s ∷ ss) = by (has_formula done s.what || have_common (free_names s.what) s.around) refl
+all_among done (s ∷ ss) =
+    let test = has_formula done s.what || have_common (free_names s.what) s.around in
+    (by (has_formula done s.what || have_common (free_names s.what) s.around) refl, all_among (cond test done (done ++ s.what ∷ [])) ss)
   where
-    by : (b : Bool) → (has_formula done s.what || have_common (free_names s.what) s.around) ≡ b → AreAmong (with_unbound (cond b done (done ++ s.what ∷ [])) ss) (s ∷ ss)
-    by true e = (
-      λ free. stays_there done ss s.what (or_first (has_formula done s.what) (have_common (free_names s.what) s.around) (ap (have_common (free_names s.what)) free ∙ none_common (free_names s.what)) e),
-      all_among done ss,
-    )
-    by false e = (λ free. stays_there (done ++ s.what ∷ []) ss s.what (has_last done s.what), all_among (done ++ s.what ∷ []) ss)
+    by : (b : Bool) → (has_formula done s.what || have_common (free_names s.what) s.around) ≡ b → s.around ≡ [] → has_formula (with_unbound (cond b done (done ++ s.what ∷ [])) ss) s.what ≡ true
+    by true e = λ free. stays_there done ss s.what (or_first (has_formula done s.what) (have_common (free_names s.what) s.around) (ap (have_common (free_names s.what)) free ∙ none_common (free_names s.what)) e)
+    by false e = λ free. stays_there (done ++ s.what ∷ []) ss s.what (has_last done s.what)
 
 pub literals_among : (node : Node) → AreAmong (standing node) (in_literals node.literals)
 literals_among node = first_among (standing node) (in_literals node.literals) (in_formulas node.pending) (all_among [] (in_literals node.literals ++ in_formulas node.pending))
@@ -208,13 +207,13 @@ int_is_term t h = ap is_term_sort h.1
 -- one of the terms has a place among those present
 has_place : (ts : List Term) (t : Term) (k : ℕ) → has_formula ts t ≡ true → is_term_sort (sort_in t) ≡ true → (i : ℕ) × (place_from (only_terms ts) t k ≡ Some i)
 has_place [] t k e f = absurd cc
-has_place (u ∷ us) t k e f = by (same_term u t) refl e
+has_place (u ∷ us) t k e f = by (same_term u t) refl e (λ j g. has_place us t j g f)
   where
-    kept : (b : Bool) → is_term_sort (sort_in u) ≡ b → same_term u t ≡ false → has_formula us t ≡ true → (i : ℕ) × (place_from (cond b (u ∷ only_terms us) (only_terms us)) t k ≡ Some i)
-    kept true is apart g =
-        let rest = has_place us t (suc k) g f in
-        (rest.0, ap (λ (b : Bool). cond b (Some k) (place_from (only_terms us) t (suc k))) apart ∙ rest.1)
-    kept false is apart g = has_place us t k g f
+    kept : (b : Bool) → is_term_sort (sort_in u) ≡ b → same_term u t ≡ false → ((j : ℕ) → (i : ℕ) × (place_from (only_terms us) t j ≡ Some i)) → (i : ℕ) × (place_from (cond b (u ∷ only_terms us) (only_terms us)) t k ≡ Some i)
+    kept true is apart rest =
+        let later = rest (suc k) in
+        (later.0, ap (λ (b : Bool). cond b (Some k) (place_from (only_terms us) t (suc k))) apart ∙ later.1)
+    kept false is apart rest = rest k
 
     here : (b : Bool) → is_term_sort (sort_in u) ≡ b → same_term u t ≡ true → (i : ℕ) × (place_from (cond b (u ∷ only_terms us) (only_terms us)) t k ≡ Some i)
     here true is same = (k, ap (λ (b : Bool). cond b (Some k) (place_from (only_terms us) t (suc k))) same)
@@ -223,9 +222,9 @@ has_place (u ∷ us) t k e f = by (same_term u t) refl e
         let up : true ≡ false = sym sort ∙ is in
         absurd cc
 
-    by : (b : Bool) → same_term u t ≡ b → cond b true (has_formula us t) ≡ true → (i : ℕ) × (place_from (only_terms (u ∷ us)) t k ≡ Some i)
-    by true same g = here (is_term_sort (sort_in u)) refl same
-    by false apart g = kept (is_term_sort (sort_in u)) refl apart g
+    by : (b : Bool) → same_term u t ≡ b → cond b true (has_formula us t) ≡ true → ((j : ℕ) → has_formula us t ≡ true → (i : ℕ) × (place_from (only_terms us) t j ≡ Some i)) → (i : ℕ) × (place_from (only_terms (u ∷ us)) t k ≡ Some i)
+    by true same g rest = here (is_term_sort (sort_in u)) refl same
+    by false apart g rest = kept (is_term_sort (sort_in u)) refl apart (λ j. rest j g)
 
 pub has_a_place : (node : Node) (t : Term) → IsOne (standing node) t → (i : ℕ) × (place_from (present node) t 0 ≡ Some i)
 has_a_place node t h = has_place (standing node) t 0 h.1 (int_is_term t h.0)

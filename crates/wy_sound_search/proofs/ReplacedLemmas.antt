@@ -43,16 +43,13 @@ record IsFirst (ls : List ℕ) (l k w : ℕ) : Type 0 where
 
 first_there : (ls : List ℕ) (l k i : ℕ) → i < length ls → slice_index ls i ≡ l → IsFirst ls l k (first_with ls l k)
 first_there [] l k i lt e = absurd (omega (arith, lt))
-first_there (m ∷ ms) l k i lt e = by (eqb m l) refl
+first_there (m ∷ ms) l k i lt e = by (eqb m l) refl i lt e (λ j lt e. first_there ms l (suc k) j lt e)
   where
-    later : (j : ℕ) → j < length (m ∷ ms) → slice_index (m ∷ ms) j ≡ l → eqb m l ≡ false → IsFirst ms l (suc k) (first_with ms l (suc k))
-    later zero j_in is apart = absurd (two_ways (eqb m l) (eq-eqb m l is) apart)
-    later (suc j) j_in is apart = first_there ms l (suc k) j (omega (arith, j_in)) is
-
-    by : (b : Bool) → eqb m l ≡ b → IsFirst (m ∷ ms) l k (cond b k (first_with ms l (suc k)))
-    by true is = record { index = 0; is = omega arith; within = omega arith; label = eqb-true m l is }
-    by false is =
-        let rest = later i lt e is in
+    by : (b : Bool) → eqb m l ≡ b → (j : ℕ) → j < length (m ∷ ms) → slice_index (m ∷ ms) j ≡ l → ((j : ℕ) → j < length ms → slice_index ms j ≡ l → IsFirst ms l (suc k) (first_with ms l (suc k))) → IsFirst (m ∷ ms) l k (cond b k (first_with ms l (suc k)))
+    by true is j within here later = record { index = 0; is = omega arith; within = omega arith; label = eqb-true m l is }
+    by false is zero within here later = absurd (two_ways (eqb m l) (eq-eqb m l here) is)
+    by false is (suc j) within here later =
+        let rest = later j (omega (arith, within)) here in
         record { index = suc rest.index; is = omega (arith, rest.is); within = omega (arith, rest.within); label = rest.label }
 
 abbrev pub values_at : Names → List Term → ℕ → ℤ
@@ -86,11 +83,11 @@ module _ (values : ℕ → ℤ) where
 
   takings_natural : (labels : List ℕ) (ps : List (ℤ × ℕ)) → AreFair values labels ps → AreNatural values (map (λ (u : ℕ × Linear ℕ). u.1) (takings labels ps))
   takings_natural labels [] fair = tt
-  takings_natural labels (p ∷ ps) fair = by (int_eq p.0 (pos 0) || eqb (first_of_class labels p.1) p.1)
+  takings_natural labels (p ∷ ps) fair = by (int_eq p.0 (pos 0) || eqb (first_of_class labels p.1) p.1) (takings_natural labels ps fair.1)
     where
-      by : (b : Bool) → AreNatural values (map (λ (u : ℕ × Linear ℕ). u.1) (cond b (takings labels ps) (taking_away p.0 p.1 (first_of_class labels p.1) ∷ takings labels ps)))
-      by true = takings_natural labels ps fair.1
-      by false = (taking_natural p.0 p.1 (first_of_class labels p.1) fair.0, takings_natural labels ps fair.1)
+      by : (b : Bool) → AreNatural values (map (λ (u : ℕ × Linear ℕ). u.1) (takings labels ps)) → AreNatural values (map (λ (u : ℕ × Linear ℕ). u.1) (cond b (takings labels ps) (taking_away p.0 p.1 (first_of_class labels p.1) ∷ takings labels ps)))
+      by true rest = rest
+      by false rest = (taking_natural p.0 p.1 (first_of_class labels p.1) fair.0, rest)
 
   abbrev IsSound : Replaced → Type 0
   IsSound gone = Unit {0}

@@ -73,11 +73,11 @@ terms_last (u ∷ us) t h g = (h.0, terms_last us t h.1 g)
 
 unbound_sorted : (done : List Term) (ss : List Standing) → AreSortedTerms done → AreSortedThere ss → AreSortedTerms (with_unbound done ss)
 unbound_sorted done [] h g = h
-unbound_sorted done (s ∷ ss) h g = by (has_formula done s.what || have_common (free_names s.what) s.around)
+unbound_sorted done (s ∷ ss) h g = unbound_sorted (cond (has_formula done s.what || have_common (free_names s.what) s.around) done (done ++ s.what ∷ [])) ss (by (has_formula done s.what || have_common (free_names s.what) s.around)) g.1
   where
-    by : (b : Bool) → AreSortedTerms (with_unbound (cond b done (done ++ s.what ∷ [])) ss)
-    by true = unbound_sorted done ss h g.1
-    by false = unbound_sorted (done ++ s.what ∷ []) ss (terms_last done s.what h g.0) g.1
+    by : (b : Bool) → AreSortedTerms (cond b done (done ++ s.what ∷ []))
+    by true = h
+    by false = terms_last done s.what h g.0
 
 pub node_sorted : (node : Node) → IsSortedNode node → AreSortedTerms (standing node)
 node_sorted node h = unbound_sorted [] (in_literals node.literals ++ in_formulas node.pending) tt (there_both (in_literals node.literals) (in_formulas node.pending) (literals_there node.literals h.literals) (formulas_there node.pending h.pending))
@@ -86,11 +86,11 @@ node_sorted node h = unbound_sorted [] (in_literals node.literals ++ in_formulas
 
 among_sorted : (ts us : List Term) → AreSortedTerms ts → AreSortedTerms (among ts us)
 among_sorted [] us h = tt
-among_sorted (t ∷ ts) us h = by (has_formula us t)
+among_sorted (t ∷ ts) us h = by (has_formula us t) (among_sorted ts us h.1)
   where
-    by : (b : Bool) → AreSortedTerms (cond b (t ∷ among ts us) (among ts us))
-    by true = (h.0, among_sorted ts us h.1)
-    by false = among_sorted ts us h.1
+    by : (b : Bool) → AreSortedTerms (among ts us) → AreSortedTerms (cond b (t ∷ among ts us) (among ts us))
+    by true rest = (h.0, rest)
+    by false rest = rest
 
 -- Int terms of sorted parts
 abbrev pub AreIndices : List Term → Type 0
@@ -99,11 +99,11 @@ AreIndices (t ∷ ts) = (IsSorted t × (is_int t ≡ true)) × AreIndices ts
 
 ints_sorted : (ts : List Term) → AreSortedTerms ts → AreIndices (only_int ts)
 ints_sorted [] h = tt
-ints_sorted (t ∷ ts) h = by (is_int t) refl
+ints_sorted (t ∷ ts) h = by (is_int t) refl (ints_sorted ts h.1)
   where
-    by : (b : Bool) → is_int t ≡ b → AreIndices (cond b (t ∷ only_int ts) (only_int ts))
-    by true e = ((h.0, e), ints_sorted ts h.1)
-    by false e = ints_sorted ts h.1
+    by : (b : Bool) → is_int t ≡ b → AreIndices (only_int ts) → AreIndices (cond b (t ∷ only_int ts) (only_int ts))
+    by true e rest = ((h.0, e), rest)
+    by false e rest = rest
 
 pub indices_sorted : (node : Node) (us : List Term) → IsSortedNode node → AreIndices (only_int (among (standing node) us))
 indices_sorted node us h = ints_sorted (among (standing node) us) (among_sorted (standing node) us (node_sorted node h))
