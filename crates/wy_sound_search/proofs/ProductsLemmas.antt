@@ -2,6 +2,7 @@
 use Rattle.std.proofs.Common.{◌≡◌, ◌∙◌, ◌+◌, ◌-◌, ℕ, zero, suc, List, [], ◌∷◌, ◌++◌, length, Bool, true, false, cond, eqb, ◌||◌, ℤ, pos, Option, Some, None, refl, sym, ap, subst, arith, append_assoc}
 use Rattle.std.specs.Prelude.{slice_get, int_lt, unsigned_abs}
 use Rattle.std.specs.Bool.{beq}
+use Rattle.std.proofs.Math.Dec.{eqb-suc-zero}
 use Rattle.wy_term.specs.Term.{Term}
 use Rattle.wy_term.specs.Data.{quotient_down}
 use Rattle.wy_term.specs.Meaning.{Names, sense}
@@ -39,7 +40,9 @@ there [] l ls = refl
 there (k ∷ ks) l ls = there ks l ls
 
 numbered : (ls : List Literal) (k : ℕ) (l : Literal) → slice_get ls k ≡ Some l → literal_at ls (suc k) ≡ Some l
-numbered ls k l e = let back : suc k - 1 ≡ k = omega arith in ap (slice_get ls) back ∙ e
+numbered ls k l e =
+    let back : suc k - 1 ≡ k = omega arith in
+    ap (λ (b : Bool). cond b None (slice_get ls (suc k - 1))) (eqb-suc-zero k) ∙ (ap (slice_get ls) back ∙ e)
 
 number_there : (done : List Literal) (l : Literal) (ls : List Literal) → HasNumber (done ++ l ∷ ls) l
 number_there done l ls = (suc (length done), numbered (done ++ l ∷ ls) (length done) l (there done l ls))
