@@ -90,11 +90,11 @@ module _ (types : List Entry) (are_closed : AreClosed types) (entries : AreSorte
       (λ f. forced_is node (atoms_of node.pending) a (all_atoms node.pending h.pending) f) (λ f. open_is node node.pending a h.pending f) e
 
   either_way : (node : Node) (a : Term) → IsFalse types (added node a) → IsFalse types (denied_one node a) → IsFalse types node
-  either_way node a yes nay names real told = by (sense names a).truth refl
+  either_way node a up down names real told = by (sense names a).truth refl
     where
       by : (b : Bool) → (sense names a).truth ≡ b → ⊥
-      by true e = yes names real ((adds_truly names node a told).0 e)
-      by false e = nay names real ((adds_truly names node a told).1 e)
+      by true e = up names real ((adds_truly names node a told).0 e)
+      by false e = down names real ((adds_truly names node a told).1 e)
 
   -- ---- what becomes of a node
 
@@ -116,7 +116,7 @@ module _ (types : List Entry) (are_closed : AreClosed types) (entries : AreSorte
   atom_is p e None h is = expansion_is p e h
   atom_is p e (Some a) h is =
       let f = next_is p.node a h is in
-      (added_sorted p.node a h f, denied_sorted p.node a h f, λ yes nay. either_way p.node a yes nay)
+      (added_sorted p.node a h f, denied_sorted p.node a h f, λ up down. either_way p.node a up down)
 
   ending_is : (p : Spot) (e : Ending) → IsSortedNode p.node → ending p.node ≡ e → IsNext p (by_ending types p e)
   ending_is p refuted h is = λ names real told. refuting_never names p.node told (are_literals p.node.literals h.literals) is
