@@ -35,8 +35,8 @@ unshut_clash types p e = ap (λ (b : Bool). cond b tree.closed (tree.by_ending t
 pub unshut_else : (types : List Entry) (p : expansion.Spot) (e : Ending) → clashes p.node ≡ false → e ≡ ending p.node → tree.by_ending types p e ≡ unshut types p
 unshut_else types p e un is = ap (tree.by_ending types p) is ∙ sym (ap (λ (b : Bool). cond b tree.closed (tree.by_ending types p (ending p.node))) un)
 
-pub clashes_so : (node : Node) (ts : List Term) (ls : List ℕ) (yes : Bool) → ts ≡ present node → ls ≡ classes ts node.literals → yes ≡ classes_clash ts ls node.literals → yes ≡ clashes node
-clashes_so node ts ls yes there labels is =
+pub clashes_so : (node : Node) (ts : List Term) (ls : List ℕ) (found : Bool) → ts ≡ present node → ls ≡ classes ts node.literals → found ≡ classes_clash ts ls node.literals → found ≡ clashes node
+clashes_so node ts ls found there labels is =
     is ∙ (ap (λ (ks : List ℕ). classes_clash ts ks node.literals) labels ∙ ap (λ (us : List Term). classes_clash us (classes us node.literals) node.literals) there)
 
 pub ends_so : (node : Node) (ts : List Term) (ls : List ℕ) (e : Ending) → ts ≡ present node → ls ≡ classes ts node.literals → e ≡ ending_by (replaced_forms ts ls node.literals) → e ≡ ending node

@@ -122,15 +122,16 @@ fn on_expansion(
     ensures next { IfOk result (IsNextOver terms.new) }
     ensures stays { Stays terms.old terms.new }
 {
+    let why = why_open(ending);
     if spot.rounds >= 2 {
-        return Ok(Next::Open(spot, why_open(ending)));
+        return Ok(Next::Open(spot, why));
     }
     let before = copied(terms.allocator(), &spot)?;
     let more = expanded(terms, cond, spot)?;
     if is_more(&before, &more) {
         Ok(Next::GoesOn(more))
     } else {
-        Ok(Next::Open(before, why_open(ending)))
+        Ok(Next::Open(before, why))
     }
 }
 

@@ -7,8 +7,8 @@ use Rattle.wy_searching.specs.Turns.{unshut}
 use Rattle.wy_searching.proofs.TurnLemmas.{follows_so, next_shut, next_unshut}
 use Rattle.wy_searching.proofs.turning.what_follows.Goals as goal
 
-pub returns-then-is_shut-clause-value : goal.returns-then-is_shut-clause-value
-returns-then-is_shut-clause-value c =
+pub returns-then-branch-clause-value : goal.returns-then-branch-clause-value
+returns-then-branch-clause-value c =
     let up : c.in_ok-is_shut.field-0 ≡ true = search rules in
     next_shut (condition_of c.args.terms.now c.args.cond.now).types (seen_spot (tree_at c.args.terms.now) c.args.spot) (sym c.in_ok-is_shut.ensures ∙ up)
 

@@ -27,17 +27,17 @@ returns-in-Ends-clause-verdict c =
     let now = c.loop-turn.terms in
     let ps = map (seen_spot (tree_at now)) c.loop-turn.walk.spots.items in
     let n = c.loop-turn.walk.leaves in
-    let so = subst (Leads (tree.one_turn (condition_of now c.args.cond.now).types c.args.budget n ps) (tree_at c.turn.new.terms)) c.in-Ends.is c.in_ok-turn.ensures.value in
+    let so = subst (Leads (tree.one_turn (condition_of now c.args.cond.now).types c.args.budget n ps) (tree_at c.turn.new.terms)) c.in-Ends.is c.in_ok-verdict.ensures.value in
     let same = types_stay old now c.args.cond.now c.loop-turn.invariant.stays c.requires.types in
     reach_end (condition_of old c.args.cond.now) c.args.budget n ps (seen_verdict c.in-Ends.verdict)
     (subst (λ (es : List Entry). Leads (tree.one_turn es c.args.budget n ps) (tree_at c.turn.new.terms) (turned.Ends c.in-Ends.verdict)) same so)
     c.loop-turn.invariant.reaches
 
 pub returns-in-Ends-clause-within : goal.returns-in-Ends-clause-within
-returns-in-Ends-clause-within c = subst (IsTurnedOver c.turn.new.terms c.args.budget) c.in-Ends.is c.in_ok-turn.ensures.walk
+returns-in-Ends-clause-within c = subst (IsTurnedOver c.turn.new.terms c.args.budget) c.in-Ends.is c.in_ok-verdict.ensures.walk
 
 pub returns-in-Ends-clause-stays : goal.returns-in-Ends-clause-stays
-returns-in-Ends-clause-stays c = stays_on c.args.terms.now c.loop-turn.terms c.turn.new.terms c.loop-turn.invariant.stays c.in_ok-turn.ensures.stays
+returns-in-Ends-clause-stays c = stays_on c.args.terms.now c.loop-turn.terms c.turn.new.terms c.loop-turn.invariant.stays c.in_ok-verdict.ensures.stays
 
 pub loop-turn-preserved : goal.loop-turn-preserved
 loop-turn-preserved c =
@@ -47,12 +47,12 @@ loop-turn-preserved c =
     let ps = map (seen_spot (tree_at now)) c.loop-turn.walk.spots.items in
     let n = c.loop-turn.walk.leaves in
     let next = c.in-GoesOn.next in
-    let so = subst (Leads (tree.one_turn (condition_of now c.args.cond.now).types c.args.budget n ps) (tree_at new)) c.in-GoesOn.is c.in_ok-turn.ensures.value in
+    let so = subst (Leads (tree.one_turn (condition_of now c.args.cond.now).types c.args.budget n ps) (tree_at new)) c.in-GoesOn.is c.in_ok-verdict.ensures.value in
     let same = types_stay old now c.args.cond.now c.loop-turn.invariant.stays c.requires.types in
     record {
       reaches = reach_on (condition_of old c.args.cond.now) c.args.budget n next.leaves ps (map (seen_spot (tree_at new)) next.spots.items)
           (subst (λ (es : List Entry). Leads (tree.one_turn es c.args.budget n ps) (tree_at new) (turned.GoesOn next)) same so)
           c.loop-turn.invariant.reaches;
-      walk = subst (IsTurnedOver new c.args.budget) c.in-GoesOn.is c.in_ok-turn.ensures.walk;
-      stays = stays_on old now new c.loop-turn.invariant.stays c.in_ok-turn.ensures.stays;
+      walk = subst (IsTurnedOver new c.args.budget) c.in-GoesOn.is c.in_ok-verdict.ensures.walk;
+      stays = stays_on old now new c.loop-turn.invariant.stays c.in_ok-verdict.ensures.stays;
     }
