@@ -1,9 +1,9 @@
 -- A round of expansion, item by item.
-use Rattle.std.proofs.Common.{◌≡◌, ◌∙◌, ℕ, suc, List, map, refl, ap, sym, subst}
+use Rattle.std.proofs.Common.{◌≡◌, ◌∙◌, ℕ, suc, List, ap}
 use Rattle.wy_term.specs.Term.{Term}
 use Rattle.wy_term.specs.Condition.{Entry}
 use Rattle.wy_judge.specs.Node.{Literal, Node, with_formulas}
-use Rattle.wy_search.specs.Expansion.{Spot, with_witnesses, with_instances, index_terms, with_facts, with_products, expanded, after_witnesses}
+use Rattle.wy_search.specs.Expansion.{Spot, with_witnesses, with_instances, with_facts, with_products, expanded}
 use Rattle.wy_searching.specs.Turns.{index_terms_in}
 use Rattle.wy_searching.proofs.SpotLemmas.{made_spot}
 

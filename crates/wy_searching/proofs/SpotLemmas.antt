@@ -1,5 +1,5 @@
 -- Nodes on a path stand for the same where the list of terms grows.
-use Rattle.std.proofs.Common.{◌≡◌, ◌∙◌, ◌<◌, ◌≤◌, ℕ, suc, List, [], ◌∷◌, All, map, length, Bool, refl, sym, ap, subst, arith}
+use Rattle.std.proofs.Common.{◌≡◌, ◌∙◌, ◌<◌, ℕ, suc, List, [], ◌∷◌, All, map, length, refl, sym, ap, subst, arith}
 use Rattle.wy_term.specs.Term.{Term}
 use Rattle.wy_term.specs.declared.cond.Cond.{Cond}
 use Rattle.wy_term.specs.Condition.{Entry, entry_of, condition_of}
@@ -9,7 +9,7 @@ use Rattle.wy_facts.specs.Seen.{Stays}
 use Rattle.wy_facts.proofs.StepLemmas.{terms_kept, below_kept}
 use Rattle.wy_judge.specs.Node.{Literal, Node}
 use Rattle.wy_judging.specs.declared.branch.Branch.{Branch}
-use Rattle.wy_judging.specs.Seen.{seen_branch, seen_literal, seen_formula, AreBelow, AreBare, AreOver, IsBranch}
+use Rattle.wy_judging.specs.Seen.{seen_branch, AreBare, AreOver, IsBranch}
 use Rattle.wy_sums.proofs.BranchLemmas.{branch_stays, node_stays}
 use Rattle.wy_search.specs.Expansion as expansion
 use Rattle.wy_instances.specs.declared.spot.Spot.{Spot}

@@ -1,25 +1,21 @@
 -- What becomes of a node, step by step.
-use Rattle.std.proofs.Common.{◌≡◌, ◌∙◌, ◌<◌, ◌≤◌, ◌||◌, ℕ, List, [], ◌∷◌, map, length, Bool, true, false, cond, Option, Some, None, refl, sym, ap, subst, arith}
-use Rattle.std.specs.Prelude.{Result, IfOk, nat_lt, option_map}
+use Rattle.std.proofs.Common.{◌≡◌, ◌∙◌, ◌<◌, ◌≤◌, ◌||◌, ℕ, List, map, length, Bool, true, false, cond, Option, Some, None, sym, ap, subst}
+use Rattle.std.specs.Prelude.{Result, IfOk, nat_lt}
 use Rattle.std.proofs.lemmas.Bool.{lt-ltb, le-ltb}
 use Rattle.std.proofs.lemmas.List.{length-map}
 use Rattle.wy_term.specs.Term.{Term}
 use Rattle.wy_term.specs.Condition.{Entry}
-use Rattle.wy_judge.specs.Node.{Literal, Node}
+use Rattle.wy_judge.specs.Node.{Node}
 use Rattle.wy_judging.specs.declared.branch.Branch.{Branch}
 use Rattle.wy_judging.specs.Seen.{seen_branch, seen_literal, seen_formula}
 use Rattle.wy_valid.specs.Literals.{is_shut}
-use Rattle.wy_bounds.specs.declared.ending.Ending.{Ending as CodeEnding}
-use Rattle.wy_bounds.specs.Seen.{seen_ending}
 use Rattle.wy_search.specs.Bounds.{Ending, ending, ending_by, replaced_forms}
 use Rattle.wy_search.specs.Classes.{classes, classes_clash, clashes}
 use Rattle.wy_search.specs.Standing.{present}
 use Rattle.wy_search.specs.Expansion as expansion
 use Rattle.wy_search.specs.Tree as tree
-use Rattle.wy_instances.specs.declared.spot.Spot.{Spot}
-use Rattle.wy_instances.specs.Seen.{seen_spot, IsSpot}
 use Rattle.wy_searching.specs.declared.turning.Next.{Next}
-use Rattle.wy_searching.specs.Turns.{Follows, IsEnding, split_on, unshut, with_side}
+use Rattle.wy_searching.specs.Turns.{Follows, split_on, unshut, with_side}
 
 -- ---- shut, or classes that clash
 

@@ -1,11 +1,11 @@
 -- The walk, turn by turn.
-use Rattle.std.proofs.Common.{◌≡◌, ◌∙◌, ◌+◌, ◌<◌, ◌≤◌, ℕ, zero, suc, List, [], ◌∷◌, ◌++◌, map, take, length, Bool, true, false, cond, eqb, Option, Some, None, refl, sym, ap, subst, arith}
+use Rattle.std.proofs.Common.{◌≡◌, ◌∙◌, ◌+◌, ◌<◌, ◌≤◌, ℕ, zero, suc, List, [], ◌∷◌, ◌++◌, map, take, length, Bool, cond, Option, Some, refl, sym, ap, subst, arith}
 use Rattle.std.specs.Prelude.{slice_get, Result, IfOk}
 use Rattle.std.proofs.lemmas.Result.{IfOk-weaker}
 use Rattle.std.proofs.lemmas.Bool.{eq-eqb, ne_eqb}
 use Rattle.wy_term.specs.Term.{Term}
 use Rattle.wy_term.specs.Condition.{Entry, Condition}
-use Rattle.wy_term.specs.Nodes.{Plain, tree_at}
+use Rattle.wy_term.specs.Nodes.{tree_at}
 use Rattle.wy_judge.specs.Node.{Literal, Node}
 use Rattle.wy_judging.specs.Seen.{seen_branch, seen_literal, AreOver}
 use Rattle.wy_search.specs.Expansion as expansion
@@ -13,7 +13,6 @@ use Rattle.wy_search.specs.Tree as tree
 use Rattle.wy_instances.specs.declared.spot.Spot.{Spot}
 use Rattle.wy_instances.specs.Seen.{seen_spot}
 use Rattle.wy_searching.specs.declared.verdict.Why.{Why}
-use Rattle.wy_searching.specs.declared.verdict.Verdict.{Verdict}
 use Rattle.wy_searching.specs.declared.verdict.Verdict.TheVariants as verdict
 use Rattle.wy_searching.specs.declared.verdict.OpenLeaf.{OpenLeaf}
 use Rattle.wy_searching.specs.declared.turning.Next.{Next}

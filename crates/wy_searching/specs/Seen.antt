@@ -1,5 +1,5 @@
 -- What the code's verdicts stand for.
-use Rattle.std.specs.Prelude.{ℕ, map, length}
+use Rattle.std.specs.Prelude.{map, length}
 use Rattle.wy_term.specs.Nodes.{tree_at}
 use Rattle.wy_judging.specs.Seen.{seen_literal, AreOver}
 use Rattle.wy_search.specs.Tree.{Why, still, is_crowded, is_wide, Verdict, found, open_leaf, spent}

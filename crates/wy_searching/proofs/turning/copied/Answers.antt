@@ -1,4 +1,4 @@
-use Rattle.std.proofs.Common.{◌≡◌, ◌∙◌, length, sym, subst}
+use Rattle.std.proofs.Common.{◌∙◌, length, sym, subst}
 use Rattle.wy_judging.specs.Seen.{AreBelow}
 use Rattle.wy_searching.proofs.SpotLemmas.{copy_seen, copy_over}
 use Rattle.wy_searching.proofs.turning.copied.Goals as goal

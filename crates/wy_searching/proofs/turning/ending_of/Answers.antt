@@ -1,4 +1,4 @@
-use Rattle.std.proofs.Common.{◌≡◌, ◌∙◌, List, ℕ, Bool, true, false, sym, ap, rules}
+use Rattle.std.proofs.Common.{◌≡◌, ◌∙◌, true, false, sym, rules}
 use Rattle.wy_term.specs.Nodes.{tree_at}
 use Rattle.wy_judging.specs.Seen.{seen_branch}
 use Rattle.wy_classes.specs.Seen.{terms_of}

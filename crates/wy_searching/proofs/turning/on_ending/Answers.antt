@@ -1,12 +1,11 @@
-use Rattle.std.proofs.Common.{◌≡◌, ◌∙◌, Some, None, sym, ap}
-use Rattle.std.specs.Prelude.{Option, option_map, IfSome}
+use Rattle.std.proofs.Common.{◌∙◌, sym, ap}
+use Rattle.std.specs.Prelude.{option_map}
 use Rattle.wy_term.specs.Nodes.{tree_at}
 use Rattle.wy_term.specs.Condition.{condition_of}
 use Rattle.wy_bounds.specs.Seen.{seen_ending}
 use Rattle.wy_search.specs.Splitting.{next_atom}
 use Rattle.wy_instances.specs.Seen.{seen_spot}
 use Rattle.wy_searching.proofs.TurnLemmas.{atom_there, atom_lacking}
-use Rattle.std.proofs.Common.{ℕ, subst}
 use Rattle.wy_searching.proofs.turning.on_ending.Goals as goal
 
 pub returns-in-Some-clause-value : goal.returns-in-Some-clause-value

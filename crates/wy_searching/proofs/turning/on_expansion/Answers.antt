@@ -1,7 +1,6 @@
-use Rattle.std.proofs.Common.{◌≡◌, ◌∙◌, ◌<◌, ◌≤◌, true, false, Bool, refl, sym, ap, arith, rules}
+use Rattle.std.proofs.Common.{◌≡◌, ◌∙◌, ◌<◌, ◌≤◌, true, false, refl, sym, ap, arith, rules}
 use Rattle.wy_term.specs.Nodes.{tree_at}
 use Rattle.wy_term.specs.Condition.{condition_of}
-use Rattle.wy_judging.specs.Seen.{seen_branch}
 use Rattle.wy_bounds.specs.Seen.{seen_ending}
 use Rattle.wy_sums.proofs.BranchLemmas.{node_stays}
 use Rattle.wy_search.specs.Expansion as expansion

@@ -1,4 +1,4 @@
-use Rattle.std.proofs.Common.{◌≡◌, map, ap}
+use Rattle.std.proofs.Common.{map, ap}
 use Rattle.wy_term.specs.Nodes.{tree_at}
 use Rattle.wy_judge.specs.Node.{Node}
 use Rattle.wy_judging.specs.Seen.{seen_branch}

@@ -1,4 +1,4 @@
-use Rattle.std.proofs.Common.{◌≡◌, ◌∙◌, ◌+◌, refl, sym, subst, arith}
+use Rattle.std.proofs.Common.{◌+◌, refl, sym, subst, arith}
 use Rattle.wy_term.specs.Nodes.{tree_at}
 use Rattle.wy_instances.specs.Seen.{seen_spot}
 use Rattle.std.proofs.Common.{map}

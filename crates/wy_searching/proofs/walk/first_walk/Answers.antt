@@ -1,4 +1,4 @@
-use Rattle.std.proofs.Common.{◌≡◌, ◌∙◌, ◌≤◌, List, [], ◌∷◌, map, sym, ap, subst, arith}
+use Rattle.std.proofs.Common.{◌≡◌, ◌∙◌, List, [], ◌∷◌, map, sym, ap, subst, arith}
 use Rattle.wy_term.specs.Nodes.{tree_at}
 use Rattle.wy_search.specs.Expansion as expansion
 use Rattle.wy_instances.specs.declared.spot.Spot.{Spot}

@@ -1,7 +1,6 @@
-use Rattle.std.proofs.Common.{◌≡◌, ◌≤◌, ◌∙◌, List, [], map, length, refl, ap, sym, subst, arith, rules}
+use Rattle.std.proofs.Common.{◌≤◌, map, length, arith}
 use Rattle.wy_term.specs.Nodes.{tree_at}
-use Rattle.wy_judge.specs.Node.{Literal}
-use Rattle.wy_judging.specs.Seen.{seen_literal, AreOver}
+use Rattle.wy_judging.specs.Seen.{seen_literal}
 use Rattle.wy_searching.proofs.WalkLemmas.{copied_more, copied_all}
 use Rattle.wy_searching.proofs.walk.open_leaf.Goals as goal
 

@@ -1,4 +1,4 @@
-use Rattle.std.proofs.Common.{◌≡◌, ◌∙◌, List, map, ap, subst}
+use Rattle.std.proofs.Common.{List, map, subst}
 use Rattle.wy_term.specs.Nodes.{tree_at}
 use Rattle.wy_term.specs.Condition.{Entry, condition_of}
 use Rattle.wy_facts.proofs.StepLemmas.{stays_same, stays_on}

@@ -1,4 +1,4 @@
-use Rattle.std.proofs.Common.{◌≡◌, ◌∙◌, ◌∷◌, [], ap, subst, rules}
+use Rattle.std.proofs.Common.{◌≡◌, [], subst, rules}
 use Rattle.wy_term.specs.Nodes.{tree_at}
 use Rattle.wy_term.specs.Condition.{condition_of}
 use Rattle.wy_searching.specs.Walks.{AreSpots}
