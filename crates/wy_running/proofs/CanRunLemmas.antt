@@ -39,16 +39,16 @@ some-is x y e = cc
 -- ---- numbers
 
 fine_int : (c : Scalar) → IsFine c → IsNoInt c → ⊥
-fine_int scalar.Null fine no = no
-fine_int (scalar.Bool b) fine no = no
-fine_int (scalar.Int z) fine no = let least = fine.least in let greatest = fine.greatest in absurd (grind (arith, ints, rules, least, greatest, no))
+fine_int scalar.Null fine other = other
+fine_int (scalar.Bool b) fine other = other
+fine_int (scalar.Int z) fine other = let least = fine.least in let greatest = fine.greatest in absurd (grind (arith, ints, rules, least, greatest, other))
 
 has_ints : (code : Code) → All PutsInts code.routines → HasInts code
-has_ints code all f at d c is no = by (slice_get code.routines f) refl is
+has_ints code all f at d c is other = by (slice_get code.routines f) refl is
   where
     by : (o : Option compiled.Routine) → slice_get code.routines f ≡ o → instr_at o at ≡ Some (Const d c) → ⊥
     by None e g = no-some (Const d c) None refl g
-    by (Some r) e g = fine_int c (all_at PutsInt r.body at (Const d c) (all_at PutsInts code.routines f r all e) g) no
+    by (Some r) e g = fine_int c (all_at PutsInt r.body at (Const d c) (all_at PutsInts code.routines f r all e) g) other
 
 -- ---- the entry
 

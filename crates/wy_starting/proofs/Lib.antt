@@ -6,3 +6,5 @@ mod TextLemmas
 pub mod MeetingLemmas
 -- one start or one refusal
 pub mod ExclusionLemmas
+-- the steps put together
+pub mod StartLemmas
