@@ -1,6 +1,6 @@
 -- What is written at the end of a run.
 use Rattle.std.proofs.Common.{◌≡◌, ◌⊎◌, inl, inr, ◌≤◌, ◌<◌, ℕ, ◌+◌, Bool, true, false, List, [], ◌∷◌, ◌++◌, length, take, Option, Some, None, refl, sym, ap, ◌∙◌, subst, arith, append_assoc}
-use Rattle.std.specs.Prelude.{Vec}
+use Rattle.std.specs.Prelude.{Vec, Result, Ok, Err, OnErr}
 use Rattle.std.specs.declared.alloc.Global.{Global}
 use Rattle.std.proofs.lemmas.List.{append-nil, length-append, take-append-le}
 use Rattle.std.proofs.Math.Seq.{take-append-add}
@@ -10,7 +10,10 @@ use Rattle.wy_port.specs.Count.{Rose}
 use Rattle.wy_port.specs.Taken.{TookFront, with_taken}
 use Rattle.wy_step.specs.Step.{State, Runs, Ended, Stuck}
 use Rattle.wy_mach.specs.Running.{Finishes, HasTextOf, PrintsFront}
-use Rattle.wy_running.specs.Running.{Finished, Leaves, WritesFront, written}
+use Rattle.wy_running.specs.Running.{Closes, EndsSo, Finished, Leaves, WritesFront, closing, written}
+use Rattle.wy_running.specs.declared.end.RunEnd.{RunEnd}
+use Rattle.wy_running.specs.declared.end.RunEnd.TheVariants as end
+use Rattle.wy_running.specs.declared.end.RunEnd.TheVariants.{Done, OutFault}
 
 -- ---- what was taken
 
@@ -43,34 +46,43 @@ later_rose a b c later (inr last) = inr last
 abbrev EndsWithText : Bool → Option (Vec ℕ Global) → ℕ → ℕ → Datum → Type 0
 EndsWithText wanted text copies nodes v = HasTextOf wanted text v × Leaves copies nodes v
 
-abbrev line : Vec ℕ Global → List ℕ
-line t = t.items ++ 10 ∷ []
+-- what was taken, with nothing more
+pub nothing_more : (known : Option (List ℕ)) → known ≡ with_taken known []
+nothing_more None = refl
+nothing_more (Some bytes) = ap (λ (all : List ℕ). Some all) (sym (append-nil bytes))
 
--- no text is wanted
-pub ended_bare : (wanted : Bool) (copies nodes : ℕ) (before after : Option (List ℕ)) (st : State) → Finishes (EndsWithText wanted None copies nodes) before after st → Finished wanted copies nodes before after st
-ended_bare wanted copies nodes before after (Runs fr callers output) h = h
-ended_bare wanted copies nodes before after (Ended v output) h = (h.0.1, h.1 ∙ ap (λ (b : Bool). with_taken before (written b output v)) (sym h.0.0))
-ended_bare wanted copies nodes before after Stuck h = tt
+-- what is printed and then closed so is what is written
+whole : (wanted : Bool) (text : Option (Vec ℕ Global)) (output : List ℕ) (v : Datum) → HasTextOf wanted text v → output ++ closing text ≡ written wanted output v
+whole wanted None output v h = append-nil output ∙ ap (λ (b : Bool). written b output v) (sym h)
+whole wanted (Some t) output v h = ap (λ (l : List ℕ). output ++ (l ++ 10 ∷ [])) h.1 ∙ ap (λ (b : Bool). written b output v) (sym h.0)
 
--- the text and its line end are written
-pub ended_line : (wanted : Bool) (t : Vec ℕ Global) (copies nodes : ℕ) (before middle after : Option (List ℕ)) (st : State) → Finishes (EndsWithText wanted (Some t) copies nodes) before middle st → after ≡ with_taken middle (line t) → Finished wanted copies nodes before after st
-ended_line wanted t copies nodes before middle after (Runs fr callers output) h took = h
-ended_line wanted t copies nodes before middle after (Ended v output) h took = (
+all_written : (wanted : Bool) (text : Option (Vec ℕ Global)) (copies nodes : ℕ) (before middle after : Option (List ℕ)) (st : State) → Finishes (EndsWithText wanted text copies nodes) before middle st → after ≡ with_taken middle (closing text) → Finished wanted copies nodes before after st
+all_written wanted text copies nodes before middle after (Runs fr callers output) h took = h
+all_written wanted text copies nodes before middle after (Ended v output) h took = (
     h.0.1,
-    took ∙ (ap (λ (o : Option (List ℕ)). with_taken o (line t)) h.1
-    ∙ (taken_more before output (line t)
-    ∙ (ap (λ (l : List ℕ). with_taken before (output ++ (l ++ 10 ∷ []))) h.0.0.1
-    ∙ ap (λ (b : Bool). with_taken before (written b output v)) (sym h.0.0.0)))),
+    took ∙ (ap (λ (o : Option (List ℕ)). with_taken o (closing text)) h.1 ∙ (taken_more before output (closing text) ∙ ap (with_taken before) (whole wanted text output v h.0.0))),
   )
-ended_line wanted t copies nodes before middle after Stuck h took = tt
+all_written wanted text copies nodes before middle after Stuck h took = tt
 
--- a front of the text and its line end is written
-pub broken_line : (wanted : Bool) (t : Vec ℕ Global) (copies nodes : ℕ) (before middle after : Option (List ℕ)) (st : State) → Finishes (EndsWithText wanted (Some t) copies nodes) before middle st → TookFront middle after (line t) → WritesFront wanted before after st
-broken_line wanted t copies nodes before middle after (Runs fr callers output) h front = absurd h
-broken_line wanted t copies nodes before middle after (Ended v output) h front =
-    let same : output ++ line t ≡ written wanted output v = ap (λ (l : List ℕ). output ++ (l ++ 10 ∷ [])) h.0.0.1 ∙ ap (λ (b : Bool). written b output v) (sym h.0.0.0) in
-    subst (TookFront before after) same (front_behind before middle after output (line t) h.1 front)
-broken_line wanted t copies nodes before middle after Stuck h front = tt
+front_written : (wanted : Bool) (text : Option (Vec ℕ Global)) (copies nodes : ℕ) (before middle after : Option (List ℕ)) (st : State) → Finishes (EndsWithText wanted text copies nodes) before middle st → TookFront middle after (closing text) → WritesFront wanted before after st
+front_written wanted text copies nodes before middle after (Runs fr callers output) h front = absurd h
+front_written wanted text copies nodes before middle after (Ended v output) h front =
+    subst (TookFront before after) (whole wanted text output v h.0.0) (front_behind before middle after output (closing text) h.1 front)
+front_written wanted text copies nodes before middle after Stuck h front = tt
+
+-- the end of a run that is done
+pub closes_so : (wanted : Bool) (text : Option (Vec ℕ Global)) (copies nodes : ℕ) (before middle after : Option (List ℕ)) (first failed fails : ℕ) (st : State) (e : RunEnd) → first ≤ failed
+    → Finishes (EndsWithText wanted text copies nodes) before middle st → Closes text copies nodes middle after failed fails e → EndsSo wanted st before after first fails e
+closes_so wanted text copies nodes before middle after first failed fails st (Done c n) later h closes =
+    subst (λ m. Finished wanted m n before after st) (sym closes.0) (subst (λ m. Finished wanted copies m before after st) (sym closes.1) (all_written wanted text copies nodes before middle after st h closes.2))
+closes_so wanted text copies nodes before middle after first failed fails st end.Spent later h closes = absurd closes
+closes_so wanted text copies nodes before middle after first failed fails st OutFault later h closes = (front_written wanted text copies nodes before middle after st h closes.0, later_rose first failed fails later closes.1)
+closes_so wanted text copies nodes before middle after first failed fails st end.Stuck later h closes = absurd closes
+
+-- the second write failed
+pub err_front : {A E : Type 0} (r : Result A E) (before middle after : Option (List ℕ)) (a b : List ℕ) → middle ≡ with_taken before a → OnErr r (TookFront middle after b) → OnErr r (TookFront before after (a ++ b))
+err_front (Ok x) before middle after a b so_far h = tt
+err_front (Err e) before middle after a b so_far h = front_behind before middle after a b so_far h
 
 -- the sink failed before, or memory ran out
 pub broken_before : (wanted : Bool) (before after : Option (List ℕ)) (st : State) → PrintsFront before after st → WritesFront wanted before after st

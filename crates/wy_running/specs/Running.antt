@@ -1,5 +1,6 @@
 -- What does a run write, and how does it end? It is said by the step on registers that hold values.
-use Rattle.std.specs.Prelude.{◌≡◌, ℕ, List, [], ◌∷◌, ◌++◌, length, map, Bool, true, false, Option, Some, slice_get, ⊤}
+use Rattle.std.specs.Prelude.{◌≡◌, ℕ, List, [], ◌∷◌, ◌++◌, length, map, Bool, true, false, Option, Some, None, Vec, slice_get, ⊤}
+use Rattle.std.specs.declared.alloc.Global.{Global}
 use Rattle.wy_value.specs.Datum.{Datum}
 use Rattle.wy_value.specs.Seen.{seen, seen_items}
 use Rattle.wy_value.specs.Shapes.{IsShapes}
@@ -65,3 +66,17 @@ state_of s steps = state_behind s.code s.entry (map seen s.args) steps
 -- so ends a run of what a start has, for so many steps
 abbrev pub RunsTo : Start → ℕ → Option (List ℕ) → Option (List ℕ) → ℕ → ℕ → RunEnd → Type 0
 RunsTo s steps before after failed fails end = EndsSo s.has_result (state_of s steps) before after failed fails end
+
+-- ---- the end of what is written
+
+-- the text and its line end, where there is one
+abbrev pub closing : Option (Vec ℕ Global) → List ℕ
+closing None = []
+closing (Some text) = text.items ++ 10 ∷ []
+
+-- they were written and the run is done, with these counts; or a front of them was
+abbrev pub Closes : Option (Vec ℕ Global) → ℕ → ℕ → Option (List ℕ) → Option (List ℕ) → ℕ → ℕ → RunEnd → Type 0
+Closes text copies nodes before after failed fails (Done c n) = (c ≡ copies) × (n ≡ nodes) × (after ≡ with_taken before (closing text))
+Closes text copies nodes before after failed fails Spent = ⊥
+Closes text copies nodes before after failed fails OutFault = TookFront before after (closing text) × Rose failed fails
+Closes text copies nodes before after failed fails Stuck = ⊥

@@ -3,7 +3,7 @@ ghost use Rattle.std.specs.Prelude.{◌≤◌, ◌++◌, ◌∷◌, [], ℕ, Boo
 ghost use Rattle.wy_mach.specs.Running.{Ran};
 ghost use Rattle.wy_port.specs.Count.{Rose};
 ghost use Rattle.wy_port.specs.Taken.{TookFront, with_taken};
-ghost use Rattle.wy_running.specs.Running.{CanRun, EndsSo, RunsTo, WritesFront, state_of};
+ghost use Rattle.wy_running.specs.Running.{CanRun, Closes, EndsSo, RunsTo, WritesFront, state_of};
 ghost use Rattle.wy_step.specs.Step.{State};
 
 use crate::end::RunEnd;
@@ -52,21 +52,27 @@ fn ended<O: Sink>(end: MachineEnd, out: &mut O) -> RunEnd
 {
     match end {
         MachineEnd::Done {
-            text: Some(text),
+            text,
             copies,
             nodes,
-        } => match put_line(text.as_slice(), out) {
-            Ok(()) => RunEnd::Done { copies, nodes },
-            Err(_) => RunEnd::OutFault,
-        },
-        MachineEnd::Done {
-            text: None,
-            copies,
-            nodes,
-        } => RunEnd::Done { copies, nodes },
+        } => closed(text, copies, nodes, out),
         MachineEnd::Spent => RunEnd::Spent,
         MachineEnd::OutFault => RunEnd::OutFault,
         MachineEnd::Stuck => RunEnd::Stuck,
+    }
+}
+
+// Writes the text of the result and a line end, where it is wanted: the run is done, or the sink failed.
+fn closed<O: Sink>(text: Option<Vec<u8>>, copies: u64, nodes: u64, out: &mut O) -> RunEnd
+    ensures closed { Closes text copies nodes (O.taken out.old) (O.taken out.new) (O.faults out.old) (O.faults out.new) result }
+    ensures count { O.faults out.old ≤ O.faults out.new }
+{
+    match text {
+        Some(text) => match put_line(text.as_slice(), out) {
+            Ok(()) => RunEnd::Done { copies, nodes },
+            Err(_) => RunEnd::OutFault,
+        },
+        None => RunEnd::Done { copies, nodes },
     }
 }
 
