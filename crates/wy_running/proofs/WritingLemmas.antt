@@ -59,9 +59,9 @@ whole wanted (Some t) output v h = ap (λ (l : List ℕ). output ++ (l ++ 10 ∷
 all_written : (wanted : Bool) (text : Option (Vec ℕ Global)) (copies nodes : ℕ) (before middle after : Option (List ℕ)) (st : State) → Finishes (EndsWithText wanted text copies nodes) before middle st → after ≡ with_taken middle (closing text) → Finished wanted copies nodes before after st
 all_written wanted text copies nodes before middle after (Runs fr callers output) h took = h
 all_written wanted text copies nodes before middle after (Ended v output) h took = (
-    h.0.1,
-    took ∙ (ap (λ (o : Option (List ℕ)). with_taken o (closing text)) h.1 ∙ (taken_more before output (closing text) ∙ ap (with_taken before) (whole wanted text output v h.0.0))),
-  )
+  h.0.1,
+  took ∙ (ap (λ (o : Option (List ℕ)). with_taken o (closing text)) h.1 ∙ (taken_more before output (closing text) ∙ ap (with_taken before) (whole wanted text output v h.0.0))),
+)
 all_written wanted text copies nodes before middle after Stuck h took = tt
 
 front_written : (wanted : Bool) (text : Option (Vec ℕ Global)) (copies nodes : ℕ) (before middle after : Option (List ℕ)) (st : State) → Finishes (EndsWithText wanted text copies nodes) before middle st → TookFront middle after (closing text) → WritesFront wanted before after st

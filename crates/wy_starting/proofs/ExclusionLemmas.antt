@@ -118,7 +118,7 @@ module _ (core : Core ℕ) (name arguments : List ℕ) where
       let one = one_first (routines_of core) name b.number a.number b.routine a.routine b.entry a.entry in
       let args : b.args ≡ a.args = one_reading arguments b.args a.args b.spelled a.spelled in
       let there : IsNotMet core a.number a.routine a.args y =
-          subst (λ vs. IsNotMet core a.number a.routine vs y) args (subst (λ s. IsNotMet core a.number s b.args y) one.routine (subst (λ n. IsNotMet core n b.routine b.args y) one.number b.not_met)) in
+      subst (λ vs. IsNotMet core a.number a.routine vs y) args (subst (λ s. IsNotMet core a.number s b.args y) one.routine (subst (λ n. IsNotMet core n b.routine b.args y) one.number b.not_met)) in
       one_stop core name a.number a.routine a.entry a.args x y g h a.not_met there
 
   -- what stops the start behind the argument text
@@ -166,7 +166,7 @@ module _ (core : Core ℕ) (name arguments : List ℕ) where
       let one = one_first (routines_of core) name b.number s.entry b.routine a.routine b.entry a.entry in
       let args : b.args ≡ s.args = one_reading arguments b.args s.args b.spelled a.spelled in
       let there : IsNotMet core s.entry a.routine s.args x =
-          subst (λ vs. IsNotMet core s.entry a.routine vs x) args (subst (λ r. IsNotMet core s.entry r b.args x) one.routine (subst (λ n. IsNotMet core n b.routine b.args x) one.number b.not_met)) in
+      subst (λ vs. IsNotMet core s.entry a.routine vs x) args (subst (λ r. IsNotMet core s.entry r b.args x) one.routine (subst (λ n. IsNotMet core n b.routine b.args x) one.number b.not_met)) in
       no_stop core name s.entry a.routine a.entry s.args x g a.met there
 
   apart : (s : Start) (x : StartFault) → x ≢ NoMemory → Starts core name arguments s → IsRefused core name arguments x → ⊥

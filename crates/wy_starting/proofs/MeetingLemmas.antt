@@ -69,7 +69,7 @@ module _ (core : Core ℕ) (name : List ℕ) (f : ℕ) (r : Routine ℕ) (entry 
       let right : nat_eq (length vs) (length r.params) ≡ true = eq-eqb (length vs) (length r.params) (length-map args seen ∙ same) in
       let told : tests (start 0) ≡ Done CountFails found.0 = sym (at_entry ∙ ap (λ b. passed b CountFails tests (start 0)) right) ∙ found.1 in
       types_uncounted (aliases_of core) (requires_met (clause_setting here None (aliases_of core)) r.preconditions (entry_of r vs) 1)
-          (λ m n e. requires_uncounted (clause_setting here None (aliases_of core)) r.preconditions (entry_of r vs) 1 m n e) r.params vs 1 (start 0) found.0 told
+      (λ m n e. requires_uncounted (clause_setting here None (aliases_of core)) r.preconditions (entry_of r vs) 1 m n e) r.params vs 1 (start 0) found.0 told
 
   pub costs_nothing : length args ≢ length r.params → cost here core f vs ≡ 0
   costs_nothing other = ap turns_of (miscounted other)

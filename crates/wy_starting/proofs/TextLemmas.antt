@@ -47,7 +47,7 @@ no_longer i f b g c cut other dead alive less =
     let h = further f b g c (sym cut ∙ other) less in
     let dies : GoesOn (f ++ h.bad ∷ []) → ⊥ = subst (places.IsDead Text profile f) h.behind dead in
     let back : g ++ alive.2 ≡ (f ++ h.bad ∷ []) ++ (h.more ++ alive.2) =
-        ap (λ (l : List ℕ). l ++ alive.2) h.longer ∙ append_assoc f (h.bad ∷ h.more) alive.2 ∙ sym (append_assoc f (h.bad ∷ []) (h.more ++ alive.2)) in
+    ap (λ (l : List ℕ). l ++ alive.2) h.longer ∙ append_assoc f (h.bad ∷ h.more) alive.2 ∙ sym (append_assoc f (h.bad ∷ []) (h.more ++ alive.2)) in
     dies (alive.0, alive.1, h.more ++ alive.2, alive.3, subst (λ (l : List ℕ). places.IsText Text alive.0 l alive.3) back alive.4)
 
 one_bad : (i : List ℕ) (k l : ℕ) → Bad i k → Bad i l → k ≡ l

@@ -39,12 +39,7 @@ pub fn start(
 }
 
 // The start, or why there is none.
-fn begun(
-    alloc: Global,
-    typed: &Typed,
-    name: &str,
-    arguments: &[u8],
-) -> Result<Start, StartFault>
+fn begun(alloc: Global, typed: &Typed, name: &str, arguments: &[u8]) -> Result<Start, StartFault>
     ensures gives { MatchResult result (Starts (core_of typed.now) name.now arguments.now) (IsRefused (core_of typed.now) name.now arguments.now) }
 {
     let core = typed.core();
@@ -63,12 +58,7 @@ fn begun(
 }
 
 // What a run of this entry on these arguments starts with.
-fn made(
-    alloc: Global,
-    typed: &Typed,
-    entry: Entry,
-    args: Items<Value>,
-) -> Result<Start, StartFault>
+fn made(alloc: Global, typed: &Typed, entry: Entry, args: Items<Value>) -> Result<Start, StartFault>
     ensures made { MatchResult result (IsMade (core_of typed.now) entry args) (λ e. e ≡ NoMemory) }
 {
     match generate(alloc, typed) {

@@ -13,4 +13,4 @@ returns-in-Ok-clause-runs g c =
     let failed = g.O.Sink.faults c.args.out.now in
     let fails = g.O.Sink.faults c.run.new.out in
     c.ended.ensures.ended s.has_result (state_of s c.args.steps) before failed c.run.ensures.count
-        (subst (λ (vs : List Value). Ran (state_behind s.code s.entry (map seen vs) c.args.steps) s.has_result before middle failed fails c.in-Ok.end) c.as_slice-args.ensures c.in-Ok.ensures.ran)
+    (subst (λ (vs : List Value). Ran (state_behind s.code s.entry (map seen vs) c.args.steps) s.has_result before middle failed fails c.in-Ok.end) c.as_slice-args.ensures c.in-Ok.ensures.ran)

@@ -18,12 +18,12 @@ loop-decl-preserved c =
     let n = c.loop-decl.number in
     let i = c.loop-decl.decl-index in
     elim c.match-decl.branch [
-      in-Alias w ↦
-        subst (λ k. Passed (rest_from 0 ds) name k (rest_from (i + 1) ds)) (sym w.number-is)
-        (past_alias ds name n i c.decl-item.result _ c.loop-decl-test.true c.decl-item.is w.in-Alias.is c.loop-decl.invariant)
-    | in-Routine+else-is_named+else-number w ↦
-        subst (λ k. Passed (rest_from 0 ds) name k (rest_from (i + 1) ds)) (sym w.number-is)
-        (past_routine ds name n i c.decl-item.result w.in-Routine.routine c.loop-decl-test.true c.decl-item.is w.in-Routine.is (λ e. true≢false (sym (w.if-is_named.ensures.value.1 e))) c.loop-decl.invariant)
+      | in-Alias w ↦
+          subst (λ k. Passed (rest_from 0 ds) name k (rest_from (i + 1) ds)) (sym w.number-is)
+          (past_alias ds name n i c.decl-item.result _ c.loop-decl-test.true c.decl-item.is w.in-Alias.is c.loop-decl.invariant)
+      | in-Routine+else-is_named+else-number w ↦
+          subst (λ k. Passed (rest_from 0 ds) name k (rest_from (i + 1) ds)) (sym w.number-is)
+          (past_routine ds name n i c.decl-item.result w.in-Routine.routine c.loop-decl-test.true c.decl-item.is w.in-Routine.is (λ e. true≢false (sym (w.if-is_named.ensures.value.1 e))) c.loop-decl.invariant)
     ]
 
 pub returns : goal.returns
