@@ -1,5 +1,5 @@
-mod LowLemmas
-mod TypeFields
+pub mod LowLemmas
+pub mod TypeFields
 mod ExprFields
 mod StmtFields
 mod BlockFields

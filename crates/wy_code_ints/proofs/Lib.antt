@@ -1,0 +1,3 @@
+pub mod IntLemmas
+pub mod RoutineInts
+pub mod LoadableLemmas

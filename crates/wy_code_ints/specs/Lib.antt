@@ -1,0 +1,2 @@
+-- what a machine asks of code
+pub mod Loadable

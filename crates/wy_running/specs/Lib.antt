@@ -1,0 +1,2 @@
+-- what a run writes and how it ends
+pub mod Running

@@ -1,0 +1,24 @@
+-- The code of the program that a source has is such as a machine takes.
+use Rattle.std.proofs.Common.{◌≡◌, ℕ, List, map, subst}
+use Rattle.wy_ast.specs.SurfaceSeen.{seen_decl}
+use Rattle.wy_code_ints.specs.Loadable.{IsLoadable}
+use Rattle.wy_code_ints.proofs.LoadableLemmas.{loadable}
+use Rattle.wy_compiled.specs.Fields.{HasFields}
+use Rattle.wy_compiled.specs.Programs.{code_of}
+use Rattle.wy_core.specs.CoreSeen.{seen_core}
+use Rattle.wy_core.specs.CoreTree.{Core}
+use Rattle.wy_core.specs.Types.{Ty}
+use Rattle.wy_field_names.proofs.FieldNameLemmas.{named_fields}
+use Rattle.wy_formed.specs.Literals.{Ints}
+use Rattle.wy_resolved.proofs.LiteralLemmas.{named_ints_alone}
+use Rattle.wy_source.specs.Sources.{IsProgram}
+use Rattle.wy_source_fields.proofs.ProgramFields.{read-fields}
+use Rattle.wy_source_ints.proofs.ProgramInts.{read-ints}
+
+pub source_loadable : (bytes : List ℕ) (core : Core ℕ) (flow : List Ty) → IsProgram bytes core flow → IsLoadable (code_of core)
+source_loadable bytes core flow p =
+    let program = p.named.program in
+    let ds = map seen_decl program.decls in
+    let fields : HasFields (seen_core p.core) = named_fields ds p.core (read-fields bytes program p.named.spelled) p.named.holds in
+    let ints : Ints (seen_core p.core) = named_ints_alone ds p.core (read-ints bytes program p.named.spelled) p.named.holds in
+    subst (λ (c : Core ℕ). IsLoadable (code_of c)) p.holds.0 (loadable (seen_core p.core) fields ints)

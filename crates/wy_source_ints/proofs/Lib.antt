@@ -1,0 +1,5 @@
+mod ExprInts
+mod StmtInts
+mod BlockInts
+pub mod ProgramInts
+pub mod FormedInts

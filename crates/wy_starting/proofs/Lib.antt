@@ -1,0 +1,10 @@
+-- the entry of a name
+pub mod EntryLemmas
+-- faults of argument texts
+mod TextLemmas
+-- what the test of arguments finds
+pub mod MeetingLemmas
+-- one start or one refusal
+pub mod ExclusionLemmas
+-- the steps put together
+pub mod StartLemmas
