@@ -1,0 +1,6 @@
+pub mod NumberLemmas
+pub mod DataLemmas
+pub mod MadeLemmas
+pub mod FollowLemmas
+pub mod OperatorLemmas
+pub mod OtherLemmas
