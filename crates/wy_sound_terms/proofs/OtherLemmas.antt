@@ -27,24 +27,30 @@ and_end false = refl
 
 -- ---- early ends
 
-pub early_and : (names : Names) (numbers : Bool) (v w : Term) (at : ℕ) (right : Run Datum) (d : Datum) → datum names v ≡ d → d ≡ Truth false → Follows names [] (operated And at right (datum names v)) (op.operated And numbers v w)
-early_and names numbers v w at right d ev e =
-    let is = ev ∙ e in
-    subst (λ (x : Datum). Follows names [] (operated And at right x) (op.operated And numbers v w)) (sym is)
-    (follows_done names (Truth false) (op.operated And numbers v w)
-    (value_means names (all_of (formula v ∷ formula w ∷ [])) ∙ ap Truth (all_means names (formula v ∷ formula w ∷ []) ∙ ap (λ (c : Bool). c && (holds names (formula w) && true)) (formula_means names v false is))))
+pub and_false : (names : Names) (numbers : Bool) (v w : Term) → datum names v ≡ Truth false → datum names (op.operated And numbers v w) ≡ Truth false
+and_false names numbers v w e =
+    value_means names (all_of (formula v ∷ formula w ∷ []))
+    ∙ ap Truth (all_means names (formula v ∷ formula w ∷ []) ∙ ap (λ (c : Bool). c && (holds names (formula w) && true)) (formula_means names v false e))
 
-pub early_or : (names : Names) (numbers : Bool) (v w : Term) (at : ℕ) (right : Run Datum) (d : Datum) → datum names v ≡ d → d ≡ Truth true → Follows names [] (operated Or at right (datum names v)) (op.operated Or numbers v w)
-early_or names numbers v w at right d ev e =
-    let is = ev ∙ e in
-    subst (λ (x : Datum). Follows names [] (operated Or at right x) (op.operated Or numbers v w)) (sym is)
-    (follows_done names (Truth true) (op.operated Or numbers v w)
-    (value_means names (any_of (formula v ∷ formula w ∷ [])) ∙ ap Truth (some_means names (formula v ∷ formula w ∷ []) ∙ ap (λ (c : Bool). c || (holds names (formula w) || false)) (formula_means names v true is))))
+pub or_true : (names : Names) (numbers : Bool) (v w : Term) → datum names v ≡ Truth true → datum names (op.operated Or numbers v w) ≡ Truth true
+or_true names numbers v w e =
+    value_means names (any_of (formula v ∷ formula w ∷ []))
+    ∙ ap Truth (some_means names (formula v ∷ formula w ∷ []) ∙ ap (λ (c : Bool). c || (holds names (formula w) || false)) (formula_means names v true e))
+
+early_and : (names : Names) (numbers : Bool) (v w : Term) (at : ℕ) (right : Run Datum) → datum names v ≡ Truth false → Follows names [] (operated And at right (datum names v)) (op.operated And numbers v w)
+early_and names numbers v w at right e =
+    subst (λ (x : Datum). Follows names [] (operated And at right x) (op.operated And numbers v w)) (sym e)
+    (follows_done names (Truth false) (op.operated And numbers v w) (and_false names numbers v w e))
+
+early_or : (names : Names) (numbers : Bool) (v w : Term) (at : ℕ) (right : Run Datum) → datum names v ≡ Truth true → Follows names [] (operated Or at right (datum names v)) (op.operated Or numbers v w)
+early_or names numbers v w at right e =
+    subst (λ (x : Datum). Follows names [] (operated Or at right x) (op.operated Or numbers v w)) (sym e)
+    (follows_done names (Truth true) (op.operated Or numbers v w) (or_true names numbers v w e))
 
 pub early_agree : EarlyAgree
 early_agree = record {
-  and = λ names numbers v w at right e. early_and names numbers v w at right (datum names v) refl e;
-  or = λ names numbers v w at right e. early_or names numbers v w at right (datum names v) refl e;
+  and = λ names numbers v w at right e. early_and names numbers v w at right e;
+  or = λ names numbers v w at right e. early_or names numbers v w at right e;
 }
 
 -- ---- one operand
@@ -104,19 +110,19 @@ field_value names v name at (Truth b) e k = absurd k
 field_value names v name at (Whole z) e k = absurd k
 field_value names v name at (Array ds) e k = absurd k
 
-pub repeat : (names : Names) (v n : Term) (at : ℕ) (e : Datum) → datum names n ≡ e → IsWhole e → Follows names (length_goals n) (repeated at (datum names v) e) (op.repeated v n)
+pub repeat : (names : Names) (v n : Term) (at : ℕ) (d e : Datum) → datum names v ≡ d → datum names n ≡ e → IsWhole e → Follows names (length_goals n) (repeated at d e) (op.repeated v n)
 unfolding longest
-repeat names v n at (Whole z) en k =
+repeat names v n at d (Whole z) ev en k =
     let is = num_is names n z en in
     let low : all names (at_most (number_of (pos 0)) (num n) ∷ []) ≡ int_le (pos 0) z = and_end (holds names (at_most (number_of (pos 0)) (num n))) ∙ at_most_means names (number_of (pos 0)) (num n) ∙ ap (λ (x : ℤ). int_le (pos 0) x) is in
     let high : all names (at_most (num n) terms.longest ∷ []) ≡ int_le z (pos longest) = and_end (holds names (at_most (num n) terms.longest)) ∙ at_most_means names (num n) terms.longest ∙ ap (λ (x : ℤ). int_le x (pos longest)) is in
-    follows_check names (at_most (number_of (pos 0)) (num n) ∷ []) (at_most (num n) terms.longest ∷ []) (int_le (pos 0) z) Length at (check (int_le z (pos longest)) Length at (Done (Array (copies (nat_of z) (datum names v))))) (op.repeated v n) low (λ h.
-    follows_checked names (at_most (num n) terms.longest ∷ []) (int_le z (pos longest)) Length at (Array (copies (nat_of z) (datum names v))) (op.repeated v n) high (λ g.
-    repeat_means names v (num n) ∙ ap (shapes.repeated (datum names v)) is ∙ repeated_is (datum names v) z h))
-repeat names v n at Null en k = absurd k
-repeat names v n at (Truth b) en k = absurd k
-repeat names v n at (Array ds) en k = absurd k
-repeat names v n at (Record fs) en k = absurd k
+    follows_check names (at_most (number_of (pos 0)) (num n) ∷ []) (at_most (num n) terms.longest ∷ []) (int_le (pos 0) z) Length at (check (int_le z (pos longest)) Length at (Done (Array (copies (nat_of z) d)))) (op.repeated v n) low (λ h.
+    follows_checked names (at_most (num n) terms.longest ∷ []) (int_le z (pos longest)) Length at (Array (copies (nat_of z) d)) (op.repeated v n) high (λ g.
+    repeat_means names v (num n) ∙ ap (λ (x : Datum). shapes.repeated x (number names (num n))) ev ∙ ap (shapes.repeated d) is ∙ repeated_is d z h))
+repeat names v n at d Null ev en k = absurd k
+repeat names v n at d (Truth b) ev en k = absurd k
+repeat names v n at d (Array ds) ev en k = absurd k
+repeat names v n at d (Record fs) ev en k = absurd k
 
 pub others_agree : OthersAgree
 others_agree = record {
@@ -125,5 +131,5 @@ others_agree = record {
   length = λ names v at k. measured names v at (datum_of names v) refl k;
   element = λ names v i at k l. element names v i at (datum_of names v) (datum_of names i) refl refl k l;
   field_value = λ names v name at k. field_value names v name at (datum_of names v) refl k;
-  repeat = λ names v n at k. repeat names v n at (datum_of names n) refl k;
+  repeat = λ names v n at k. repeat names v n at (datum_of names v) (datum_of names n) refl refl k;
 }

@@ -1,0 +1,4 @@
+pub mod ValueLemmas
+pub mod AnswerLemmas
+pub mod ClauseLemmas
+pub mod WalkedLemmas

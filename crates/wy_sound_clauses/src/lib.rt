@@ -1,0 +1,2 @@
+//! Clauses follow their walks and their goals.
+#![tactic(auto)]
