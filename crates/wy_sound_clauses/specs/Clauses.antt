@@ -15,14 +15,14 @@ abbrev pub clause_kinds : {N : Type 0} → sem.Setting N → Setting N → (ℕ 
 clause_kinds w s members = kinds_of (sem.quiet w) false s members
 
 -- what the clause meets is of the kinds that it asks for, and its answers are truth values
-pub record Fits {N : Type 0} (w : sem.Setting N) (s : Setting N) (members : ℕ → Datum → Bool) (e : Expr N) (st : sem.Store) : Type 0 where
+pub record Fits {N : Type 0} (w : sem.Setting N) (s : Setting N) (members : ℕ → Datum → Bool) (seen : ℕ → Bool) (e : Expr N) (st : sem.Store) : Type 0 where
   pub quiet : CallsNothing e
-  pub suits : Suits (clause_kinds w s members) true e st
+  pub suits : Suits (clause_kinds w s members) true seen e st
   pub truth : Each (clause_kinds w s members) e st IsTruth
 
-abbrev pub AllFit : {N : Type 0} → sem.Setting N → Setting N → (ℕ → Datum → Bool) → List (Expr N) → sem.Store → Type 0
-AllFit w s members [] st = Unit {0}
-AllFit w s members (e ∷ es) st = Fits w s members e st × AllFit w s members es st
+abbrev pub AllFit : {N : Type 0} → sem.Setting N → Setting N → (ℕ → Datum → Bool) → (ℕ → Bool) → List (Expr N) → sem.Store → Type 0
+AllFit w s members seen [] st = Unit {0}
+AllFit w s members seen (e ∷ es) st = Fits w s members seen e st × AllFit w s members seen es st
 
 -- the clause is a fault from no meter
 abbrev pub IsNoFault : Outcome Datum → Type 0

@@ -60,10 +60,10 @@ expr_grows s routines words e vars hyps n =
 
 module _ {N : Type 0} (w : sem.Setting N) (paid : Bool) (s : Setting N) (routines : List (Routine N)) (members : ℕ → Datum → Bool) (told : NamesTold members (named_in s)) (words : List (List ℕ)) where
   -- an expression that calls nothing
-  pub quiet_right : (e : Expr N) (vars : Vars) (hyps : List Term) (n : ℕ) (names : Names) (st : sem.Store) (m : Meter) → Suits (kinds_of w paid s members) true e st → names.is_member ≡ members → AreData vars → Stand n names vars st → Known n names hyps
+  pub quiet_right : (e : Expr N) (vars : Vars) (hyps : List Term) (n : ℕ) (names : Names) (seen : ℕ → Bool) (st : sem.Store) (m : Meter) → Suits (kinds_of w paid s members) true seen e st → names.is_member ≡ members → AreData vars → Stand n names vars seen st → Known n names hyps
       → Good (AreTrueBy members (walk s (call_walk s routines) words e vars hyps n).owed) (sem.eval w paid e st m)
           (Ok true n names (walk s (call_walk s routines) words e vars hyps n).count (walk s (call_walk s routines) words e vars hyps n).hyps (walk s (call_walk s routines) words e vars hyps n).term)
-  quiet_right e vars hyps n names st m su right da sd h =
+  quiet_right e vars hyps n names seen st m su right da sd h =
       subst (λ (r : Walked). Good (AreTrueBy members r.owed) (sem.eval w paid e st m) (Ok true n names r.count r.hyps r.term))
           (sym (walk_is s (call_walk s routines) words e vars hyps n))
           (expr (kinds_of w paid s members) s.place s.types members (in_type s) (call_walk s routines)
@@ -73,8 +73,8 @@ module _ {N : Type 0} (w : sem.Setting N) (paid : Bool) (s : Setting N) (routine
               (λ f at ts hs i. call_grows s routines f at ts hs i)
               (λ f at i ts hs all. call_sorted s routines f at ts hs i)
               (λ f from at i ts hs ns vs l takes r all means kn. absurd takes)
-              words e true vars hyps n names st m su right da sd h)
+              words e true vars hyps n names seen st m su right da sd h)
 
 pub expressions_sound : ExpressionsAreSound
-expressions_sound w paid p members told words e vars hyps n names s m su right da sd h =
-    quiet_right w paid p.setting p.routines members told words e vars hyps n names s m su right (are_data vars da) sd h
+expressions_sound w paid p members told words e vars hyps n names seen s m su right da sd h =
+    quiet_right w paid p.setting p.routines members told words e vars hyps n names seen s m su right (are_data vars da) sd h

@@ -1,5 +1,5 @@
 -- Names that agree below a count, and what stays under that.
-use Rattle.std.proofs.Common.{◌≡◌, ℕ, zero, suc, ◌+◌, ◌<◌, ◌≤◌, List, [], ◌∷◌, Bool, true, false, cond, ◌&&◌, ◌==◌, eqb, Option, Some, None, ℤ, refl, sym, ap, ◌∙◌, subst, arith, eqb-true, bytes_eq}
+use Rattle.std.proofs.Common.{◌≡◌, ℕ, zero, suc, ◌+◌, ◌<◌, ◌≤◌, List, [], ◌∷◌, Bool, true, false, cond, ◌&&◌, ◌||◌, ◌==◌, eqb, Option, Some, None, ℤ, refl, sym, ap, ◌∙◌, subst, arith, eqb-true, bytes_eq}
 use Rattle.wy_value.specs.Datum.{Datum, Whole}
 use Rattle.wy_term.specs.Term.{Term}
 use Rattle.wy_term.specs.Meaning.{Names, with_number, sense}
@@ -8,7 +8,7 @@ use Rattle.wy_sem.specs.Expressions.{Store, slot}
 use Rattle.wy_sem.specs.Expressions as store
 use Rattle.wy_conditions.specs.Variables.{Vars, slot_at, put}
 use Rattle.wy_conditions.specs.Values.{or_null, variable}
-use Rattle.wy_sound_expressions.specs.Names.{Agree, Known, Means, AllMean, Stand, Goes}
+use Rattle.wy_sound_expressions.specs.Names.{Agree, Known, Means, AllMean, Stand, also, Goes}
 
 pub agree_refl : (n : ℕ) (v : Names) → Agree n v v
 agree_refl n v = record { datum_of = λ word m lt. refl; number_of = λ word m lt. refl; is_member = refl }
@@ -40,7 +40,7 @@ right_later members n v w e h = h.is_member ∙ e
 
 -- ---- an Int name that is bound
 
-eqb_refl : (n : ℕ) → (n == n) ≡ true
+pub eqb_refl : (n : ℕ) → (n == n) ≡ true
 eqb_refl n = search (arith)
 
 pub agree_number : (n : ℕ) (v : Names) (word : List ℕ) (k : ℕ) (z : ℤ) → n ≤ k → Agree n v (with_number v word k z)
@@ -81,28 +81,35 @@ all_later n m v u [] (d ∷ ds) le a h = absurd h
 all_later n m v u (t ∷ ts) [] le a h = absurd h
 all_later n m v u (t ∷ ts) (d ∷ ds) le a h = (means_later n m v u t d le a h.0, all_later n m v u ts ds le a h.1)
 
-pub stand_later : (n m : ℕ) (v u : Names) (vars : Vars) (s : Store) → n ≤ m → Agree n v u → Stand n v vars s → Stand m u vars s
-stand_later n m v u vars s le a h x d e = means_later n m v u (variable vars x) d le a (h x d e)
+pub stand_later : (n m : ℕ) (v u : Names) (vars : Vars) (seen : ℕ → Bool) (s : Store) → n ≤ m → Agree n v u → Stand n v vars seen s → Stand m u vars seen s
+stand_later n m v u vars seen s le a h x d see e = means_later n m v u (variable vars x) d le a (h x d see e)
 
 -- ---- a variable that has another value
 
 -- the number of the variable, or another one at which both stay
 pub put_at : (vars : Vars) (s : Store) (x : ℕ) (t : Term) (v : Option Datum) (y : ℕ) (d : Datum) → slot (store.put s x v) y ≡ Some d
-    → (P : Term → Datum → Type 0) → ((e : Datum) → v ≡ Some e → P t e) → ((e : Datum) → slot s y ≡ Some e → P (variable vars y) e) → P (variable (put vars x t) y) d
+    → (P : Term → Datum → Type 0) → ((e : Datum) → x ≡ y → v ≡ Some e → P t e) → ((e : Datum) → (x ≡ y → ⊥) → slot s y ≡ Some e → P (variable vars y) e) → P (variable (put vars x t) y) d
 put_at vars [] x t v y d e P new old = absurd (none d e) where
   none : (c : Datum) → ◌≡◌ {A = Option Datum} None (Some c) → ⊥
   none c q = absurd cc
-put_at [] (o ∷ s) zero t v zero d e P new old = new d e
-put_at [] (o ∷ s) zero t v (suc y) d e P new old = old d e
-put_at [] (o ∷ s) (suc x) t v zero d e P new old = old d e
-put_at [] (o ∷ s) (suc x) t v (suc y) d e P new old = put_at [] s x t v y d e P new old
-put_at (u ∷ vars) (o ∷ s) zero t v zero d e P new old = new d e
-put_at (u ∷ vars) (o ∷ s) zero t v (suc y) d e P new old = old d e
-put_at (u ∷ vars) (o ∷ s) (suc x) t v zero d e P new old = old d e
-put_at (u ∷ vars) (o ∷ s) (suc x) t v (suc y) d e P new old = put_at vars s x t v y d e P new old
+put_at [] (o ∷ s) zero t v zero d e P new old = new d refl e
+put_at [] (o ∷ s) zero t v (suc y) d e P new old = old d (λ q. absurd (omega (arith, q))) e
+put_at [] (o ∷ s) (suc x) t v zero d e P new old = old d (λ q. absurd (omega (arith, q))) e
+put_at [] (o ∷ s) (suc x) t v (suc y) d e P new old = put_at [] s x t v y d e P (λ c q. new c (ap suc q)) (λ c q. old c (λ p. q (omega (arith, p))))
+put_at (u ∷ vars) (o ∷ s) zero t v zero d e P new old = new d refl e
+put_at (u ∷ vars) (o ∷ s) zero t v (suc y) d e P new old = old d (λ q. absurd (omega (arith, q))) e
+put_at (u ∷ vars) (o ∷ s) (suc x) t v zero d e P new old = old d (λ q. absurd (omega (arith, q))) e
+put_at (u ∷ vars) (o ∷ s) (suc x) t v (suc y) d e P new old = put_at vars s x t v y d e P (λ c q. new c (ap suc q)) (λ c q. old c (λ p. q (omega (arith, p))))
 
-pub stand_put : (n : ℕ) (names : Names) (vars : Vars) (s : Store) (x : ℕ) (t : Term) (d : Datum) → Stand n names vars s → Means n names t d → Stand n names (put vars x t) (store.put s x (Some d))
-stand_put n names vars s x t d h g y e q =
-    put_at vars s x t (Some d) y e q (λ u c. Means n names u c) (λ c p. subst (λ (b : Datum). Means n names t b) (same d c p) g) (λ c p. h y c p) where
+-- another variable that may be used could be used before
+pub also_other : (x : ℕ) (seen : ℕ → Bool) (y : ℕ) → also x seen y ≡ true → (x ≡ y → ⊥) → seen y ≡ true
+also_other x seen y e apart = by (x == y) refl e where
+  by : (b : Bool) → (x == y) ≡ b → (b || seen y) ≡ true → seen y ≡ true
+  by true q h = absurd (apart (eqb-true x y q))
+  by false q h = h
+
+pub stand_put : (n : ℕ) (names : Names) (vars : Vars) (seen : ℕ → Bool) (s : Store) (x : ℕ) (t : Term) (d : Datum) → Stand n names vars seen s → Means n names t d → Stand n names (put vars x t) (also x seen) (store.put s x (Some d))
+stand_put n names vars seen s x t d h g y e see q =
+    put_at vars s x t (Some d) y e q (λ u c. Means n names u c) (λ c is p. subst (λ (b : Datum). Means n names t b) (same d c p) g) (λ c apart p. h y c (also_other x seen y see apart) p) where
   same : (a b : Datum) → ◌≡◌ {A = Option Datum} (Some a) (Some b) → a ≡ b
   same a b p = cc

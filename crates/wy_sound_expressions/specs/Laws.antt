@@ -51,7 +51,7 @@ kinds_of w paid s members = record { setting = w; paid = paid; is_number = s.is_
 abbrev pub ExpressionsAreSound : Type 0
 ExpressionsAreSound =
     (w : sem.Setting Node) (paid : Bool) (p : Program Node) (members : ℕ → Datum → Bool) → NamesTold members (named_in p.setting)
-    → (words : List (List ℕ)) (e : Expr Node) (vars : Vars) (hyps : List Term) (n : ℕ) (names : Names) (s : sem.Store) (m : Meter)
-    → Suits (kinds_of w paid p.setting members) true e s → names.is_member ≡ members → AreValTerms vars → Stand n names vars s → Known n names hyps
+    → (words : List (List ℕ)) (e : Expr Node) (vars : Vars) (hyps : List Term) (n : ℕ) (names : Names) (seen : ℕ → Bool) (s : sem.Store) (m : Meter)
+    → Suits (kinds_of w paid p.setting members) true seen e s → names.is_member ≡ members → AreValTerms vars → Stand n names vars seen s → Known n names hyps
     → Good (AreTrueBy members (walk_expr p words e vars hyps n).owed) (sem.eval w paid e s m)
         (Ok true n names (walk_expr p words e vars hyps n).count (walk_expr p words e vars hyps n).hyps (walk_expr p words e vars hyps n).term)

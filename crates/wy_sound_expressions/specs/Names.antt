@@ -1,5 +1,5 @@
 -- What terms mean at names, and at all names that agree with these below a number: walks give new names the numbers from there on.
-use Rattle.std.specs.Prelude.{◌≡◌, ℕ, ◌<◌, List, [], ◌∷◌, Bool, true, false, Some}
+use Rattle.std.specs.Prelude.{◌≡◌, ℕ, ◌<◌, ◌==◌, List, [], ◌∷◌, Bool, true, false, ◌||◌, Some}
 use Rattle.wy_value.specs.Datum.{Datum}
 use Rattle.wy_term.specs.Term.{Term}
 use Rattle.wy_term.specs.Meaning.{Names, sense}
@@ -28,9 +28,13 @@ AllMean n v [] (d ∷ ds) = ⊥
 AllMean n v (t ∷ ts) [] = ⊥
 AllMean n v (t ∷ ts) (d ∷ ds) = Means n v t d × AllMean n v ts ds
 
--- each variable that has a value has a term that means it
-abbrev pub Stand : ℕ → Names → Vars → Store → Type 0
-Stand n v vars s = (x : ℕ) (d : Datum) → slot s x ≡ Some d → Means n v (variable vars x) d
+-- each variable that may be used and has a value has a term that means it
+abbrev pub Stand : ℕ → Names → Vars → (ℕ → Bool) → Store → Type 0
+Stand n v vars seen s = (x : ℕ) (d : Datum) → seen x ≡ true → slot s x ≡ Some d → Means n v (variable vars x) d
+
+-- one more variable may be used
+abbrev pub also : ℕ → (ℕ → Bool) → ℕ → Bool
+also x seen y = (x == y) || seen y
 
 -- behind a step: where nothing is called no name changes, and else those from the count on may
 abbrev pub Goes : Bool → ℕ → Names → Names → Type 0

@@ -7,6 +7,7 @@ use Rattle.wy_core.specs.declared.expressions.Op.{Op}
 use Rattle.wy_core.specs.declared.expressions.Op.TheVariants.{Add, Sub, Mul, Div, Mod, Equal, Less, LessEqual, Greater, GreaterEqual, And, Or}
 use Rattle.wy_sem.specs.Meter.{Meter, Outcome, Done, Fault, More, Spent}
 use Rattle.wy_sem.specs.Expressions.{Store, slot, put, Setting, node, eval, eval_all}
+use Rattle.wy_sound_expressions.specs.Names.{also}
 use Rattle.wy_sound_expressions.specs.Written.{IsWritten}
 use Rattle.wy_sound_terms.specs.Kinds.{IsWhole, IsTruth, IsArray, HasField, Takes}
 
@@ -54,32 +55,32 @@ pub record IsBetween {N : Type 0} (w : Kinds N) (a b : Expr N) (s : Store) (i : 
   pub below : int_lt i high ≡ true
 
 abbrev mutual
-  -- whether nothing is called, the first says
-  pub Suits : {N : Type 0} → Kinds N → Bool → Expr N → Store → Type 0
-  Suits w q (NullExpr n) s = Unit {0}
-  Suits w q (BoolExpr n b) s = Unit {0}
-  Suits w q (IntExpr n z) s = Unit {0}
-  Suits w q (VarExpr n x) s = (d : Datum) × (slot s x ≡ Some d)
-  Suits w q (CallExpr n f es) s = (q ≡ false) × AllSuit w q es s × ((vs : List Datum) (m k : Meter) → eval_all w.setting w.paid es s m ≡ Done vs k → w.takes f vs)
-  Suits w q (NegExpr n a) s = Suits w q a s × Each w a s IsWhole
-  Suits w q (NotExpr n a) s = Suits w q a s × Each w a s IsTruth
-  Suits w q (LenExpr n a) s = Suits w q a s × Each w a s IsArray
-  Suits w q (BinaryExpr n o a b) s =
-      Suits w q a s × Each w a s (TakesLeft o) × Each w a s (λ d. GoesOn o d → Suits w q b s × Each w b s (λ e. Takes o (w.is_number (node a) && w.is_number (node b)) d e))
-  Suits w q (IsExpr n a t) s = IsWritten t × Suits w q a s × Each w a s (λ d. (m : Meter) → Answers (w.says t d) (w.setting.test w.paid t d m))
-  Suits w q (IndexExpr n a i) s = Suits w q a s × Suits w q i s × Each w a s IsArray × Each w i s IsWhole
-  Suits w q (FieldExpr n a name) s = Suits w q a s × Each w a s (HasField name)
-  Suits w q (ListExpr n es) s = AllSuit w q es s
-  Suits w q (RepeatExpr n a c) s = Suits w q a s × Suits w q c s × Each w c s IsWhole
-  Suits w q (RecordExpr n fs) s = FieldsSuit w q fs s
-  Suits w q (QuantExpr n all x a b body) s =
-      Suits w q a s × Suits w q b s × Each w a s IsWhole × Each w b s IsWhole
-      × ((i : ℤ) → IsBetween w a b s i → Suits w true body (put s x (Some (Whole i))) × Each w body (put s x (Some (Whole i))) IsTruth)
+  -- whether nothing is called, the first says; and which variables may be used, the second
+  pub Suits : {N : Type 0} → Kinds N → Bool → (ℕ → Bool) → Expr N → Store → Type 0
+  Suits w q seen (NullExpr n) s = Unit {0}
+  Suits w q seen (BoolExpr n b) s = Unit {0}
+  Suits w q seen (IntExpr n z) s = Unit {0}
+  Suits w q seen (VarExpr n x) s = (seen x ≡ true) × ((d : Datum) × (slot s x ≡ Some d))
+  Suits w q seen (CallExpr n f es) s = (q ≡ false) × AllSuit w q seen es s × ((vs : List Datum) (m k : Meter) → eval_all w.setting w.paid es s m ≡ Done vs k → w.takes f vs)
+  Suits w q seen (NegExpr n a) s = Suits w q seen a s × Each w a s IsWhole
+  Suits w q seen (NotExpr n a) s = Suits w q seen a s × Each w a s IsTruth
+  Suits w q seen (LenExpr n a) s = Suits w q seen a s × Each w a s IsArray
+  Suits w q seen (BinaryExpr n o a b) s =
+      Suits w q seen a s × Each w a s (TakesLeft o) × Each w a s (λ d. GoesOn o d → Suits w q seen b s × Each w b s (λ e. Takes o (w.is_number (node a) && w.is_number (node b)) d e))
+  Suits w q seen (IsExpr n a t) s = IsWritten t × Suits w q seen a s × Each w a s (λ d. (m : Meter) → Answers (w.says t d) (w.setting.test w.paid t d m))
+  Suits w q seen (IndexExpr n a i) s = Suits w q seen a s × Suits w q seen i s × Each w a s IsArray × Each w i s IsWhole
+  Suits w q seen (FieldExpr n a name) s = Suits w q seen a s × Each w a s (HasField name)
+  Suits w q seen (ListExpr n es) s = AllSuit w q seen es s
+  Suits w q seen (RepeatExpr n a c) s = Suits w q seen a s × Suits w q seen c s × Each w c s IsWhole
+  Suits w q seen (RecordExpr n fs) s = FieldsSuit w q seen fs s
+  Suits w q seen (QuantExpr n all x a b body) s =
+      Suits w q seen a s × Suits w q seen b s × Each w a s IsWhole × Each w b s IsWhole
+      × ((i : ℤ) → IsBetween w a b s i → Suits w true (also x seen) body (put s x (Some (Whole i))) × Each w body (put s x (Some (Whole i))) IsTruth)
 
-  pub AllSuit : {N : Type 0} → Kinds N → Bool → Exprs N → Store → Type 0
-  AllSuit w q NoExprs s = Unit {0}
-  AllSuit w q (MoreExprs e es) s = Suits w q e s × AllSuit w q es s
+  pub AllSuit : {N : Type 0} → Kinds N → Bool → (ℕ → Bool) → Exprs N → Store → Type 0
+  AllSuit w q seen NoExprs s = Unit {0}
+  AllSuit w q seen (MoreExprs e es) s = Suits w q seen e s × AllSuit w q seen es s
 
-  pub FieldsSuit : {N : Type 0} → Kinds N → Bool → Fields N → Store → Type 0
-  FieldsSuit w q NoFields s = Unit {0}
-  FieldsSuit w q (MoreFields name e es) s = Suits w q e s × FieldsSuit w q es s
+  pub FieldsSuit : {N : Type 0} → Kinds N → Bool → (ℕ → Bool) → Fields N → Store → Type 0
+  FieldsSuit w q seen NoFields s = Unit {0}
+  FieldsSuit w q seen (MoreFields name e es) s = Suits w q seen e s × FieldsSuit w q seen es s

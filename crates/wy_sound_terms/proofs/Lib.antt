@@ -4,3 +4,4 @@ pub mod MadeLemmas
 pub mod FollowLemmas
 pub mod OperatorLemmas
 pub mod OtherLemmas
+pub mod UpdateLemmas
