@@ -2,3 +2,4 @@ pub mod ValueLemmas
 pub mod AnswerLemmas
 pub mod ClauseLemmas
 pub mod WalkedLemmas
+pub mod LawsHold

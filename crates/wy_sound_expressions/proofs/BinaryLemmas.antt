@@ -25,7 +25,7 @@ use Rattle.wy_sound_expressions.specs.Names.{Agree, Known, Means}
 use Rattle.wy_sound_expressions.specs.Truth.{AreTrueBy, Good}
 use Rattle.wy_sound_expressions.specs.Suits.{TakesLeft, GoesOn}
 use Rattle.wy_sound_expressions.specs.Sound.{Ok}
-use Rattle.wy_sound_expressions.proofs.NameLemmas.{agree_refl, agree_less, goes_agree, known_later, means_later}
+use Rattle.wy_sound_expressions.proofs.NameLemmas.{agree_refl, agree_less, goes_agree, goes_trans, known_later, means_later}
 use Rattle.wy_sound_expressions.proofs.GoodLemmas.{true_left, true_right, true_after, good_bind}
 use Rattle.wy_sound_expressions.proofs.AssumeLemmas.{assumed_true}
 use Rattle.wy_sound_expressions.proofs.FinishLemmas.{finish, Two, two_of}
@@ -75,14 +75,14 @@ module _ (members : ℕ → Datum → Bool) (q : Bool) (n : ℕ) (names : Names)
 
   -- what the right one told is forgotten
   both_left : (d e : Datum) (x : Left d) → Ok q v.count x.later w.count w.hyps w.term e → Two q n names w.count v.hyps v.term w.term d e
-  both_left d e x y = let two = both_here d e x y in record {
-    later = two.later;
-    goes = two.goes;
+  both_left d e x y = record {
+    later = y.later;
+    goes = goes_trans q n v.count names x.later y.later le1 x.goes y.goes;
     known = known_later v.count w.count x.later y.later v.hyps le2 (goes_agree q v.count x.later y.later y.goes) x.known;
-    first = two.first;
-    second = two.second;
-    first_is = two.first_is;
-    second_is = two.second_is;
+    first = means_later v.count w.count x.later y.later v.term d le2 (goes_agree q v.count x.later y.later y.goes) x.means;
+    second = y.means;
+    first_is = x.is;
+    second_is = y.is;
   }
 
   -- the left one decides

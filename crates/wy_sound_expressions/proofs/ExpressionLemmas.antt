@@ -28,7 +28,7 @@ use Rattle.wy_sound_expressions.specs.Truth.{AreTrueBy, Good}
 use Rattle.wy_sound_expressions.specs.Suits.{Kinds, Suits, AllSuit, FieldsSuit}
 use Rattle.wy_sound_expressions.specs.Sound.{Ok}
 use Rattle.wy_sound_expressions.proofs.NameLemmas.{agree_trans, goes_agree, goes_refl, right_later, agree_number, stand_later, stand_put}
-use Rattle.wy_sound_expressions.proofs.GoodLemmas.{true_left, true_right, true_both, good_map, good_bind, good_spend, good_turn}
+use Rattle.wy_sound_expressions.proofs.GoodLemmas.{true_left, true_right, good_map, good_bind, good_spend, good_turn}
 use Rattle.wy_sound_expressions.proofs.FinishLemmas.{finish, Two, two_of, pair, pair_right, done_as, means_as}
 use Rattle.wy_sound_expressions.proofs.ListLemmas.{OkAll, OkFields, OkResult, is_of, ok_more, ok_field, ok_list, ok_record, ok_leaf, ok_call, ok_test, test_end, needed_end, numbers_end}
 use Rattle.wy_sound_expressions.proofs.GenericWalks.{Tests, walk_by, walk_all_by, walk_fields_by}

@@ -1,5 +1,5 @@
 -- The last step of a construct: its goals, and what it gives.
-use Rattle.std.proofs.Common.{◌≡◌, ◌⊎◌, inl, inr, ℕ, ◌≤◌, List, [], ◌∷◌, Bool, true, false, ℤ, refl, sym, ap, ◌∙◌, subst}
+use Rattle.std.proofs.Common.{◌≡◌, ◌⊎◌, inl, inr, ℕ, ◌≤◌, List, [], ◌∷◌, ◌++◌, Bool, true, false, ℤ, refl, sym, ap, ◌∙◌, subst}
 use Rattle.wy_value.specs.Datum.{Datum, Whole}
 use Rattle.wy_term.specs.declared.cond.CondKind.{CondKind}
 use Rattle.wy_term.specs.Term.{Term}
