@@ -49,7 +49,7 @@ module _ {N : Type 0} (s : Setting N) where
       let f = clause_formula s (named_in s) words e vars n in
       let h = clause_grows s (named_in s) named_in_grows words e vars n in let g = assumed_grow words es vars (assume hyps f.term) f.count in omega (arith, h, g)
 
-  arguments_grow : (at : ℕ) (ps : List Param) (vs hyps : List Term) (n : ℕ) → n ≤ (owe_arguments s at ps vs hyps n).count
+  pub arguments_grow : (at : ℕ) (ps : List Param) (vs hyps : List Term) (n : ℕ) → n ≤ (owe_arguments s at ps vs hyps n).count
   arguments_grow at [] vs hyps n = omega arith
   arguments_grow at (p ∷ ps) [] hyps n = omega arith
   arguments_grow at (p ∷ ps) (v ∷ vs) hyps n =
