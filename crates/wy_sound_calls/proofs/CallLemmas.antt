@@ -1,5 +1,5 @@
 -- A call follows its walk.
-use Rattle.std.proofs.Common.{◌≡◌, ℕ, suc, ◌≤◌, List, [], ◌∷◌, ◌++◌, length, Bool, true, Option, Some, None, nat_eq, eq-eqb, refl, sym, ap, ◌∙◌, subst, arith}
+use Rattle.std.proofs.Common.{◌≡◌, ℕ, suc, ◌≤◌, List, [], ◌∷◌, ◌++◌, length, Bool, true, false, Option, Some, None, nat_eq, eq-eqb, refl, sym, ap, ◌∙◌, subst, arith}
 use Rattle.wy_value.specs.Datum.{Datum}
 use Rattle.wy_core.specs.Types.{Ty}
 use Rattle.wy_core.specs.CoreTree as tree
@@ -53,7 +53,7 @@ none_stand : (n : ℕ) (names : Names) (words : List (List ℕ)) → Stand n nam
 none_stand n names words x d see e = absurd cc
 
 module _ (w : sem.Setting Node) (s : Setting Node) (members : ℕ → Datum → Bool) (r : Routine Node) (vs : List Datum) (told : NamesTold members (named_in s)) (fit : ClausesFit w s members r vs)
-    (names : Names) (right : names.is_member ≡ members) (vars : Vars) (da : AreData vars) (n : ℕ) (hyps : List Term) (known : Known n names hyps) (stand : Stand n names vars (with_params r.params nothing_seen) (entry_of r vs)) where
+    (names : Names) (right : names.is_member ≡ members) (vars : Vars) (da : AreData vars) (n : ℕ) (hyps : List Term) (before : Known n names hyps) (stand : Stand n names vars (with_params r.params nothing_seen) (entry_of r vs)) where
 
   -- what is known behind a call
   record Behind (g : Walked) (v : Option Datum) : Type 0 where
@@ -66,7 +66,7 @@ module _ (w : sem.Setting Node) (s : Setting Node) (members : ℕ → Datum → 
   behind None e None l = record {
     later = names;
     agree = agree_refl n names;
-    known = clauses_assumed w s members told r.variables vars names (with_params r.params nothing_seen) (entry_of r vs) right da r.postconditions n hyps (fit.none e) l.1 stand known;
+    known = clauses_assumed w s members told r.variables vars names (with_params r.params nothing_seen) (entry_of r vs) right da r.postconditions n hyps (fit.none e) l.1 stand before;
     means = λ d q. absurd (no_datum_is d q);
   }
   behind None e (Some d) l = absurd (no_datum_is d (sym l.0))
@@ -80,7 +80,7 @@ module _ (w : sem.Setting Node) (s : Setting Node) (members : ℕ → Datum → 
       let f = in_type s out.ty name (suc n) in
       let g = in_type_grows s out.ty name (suc n) in
       let typed : Known f.count later (assume hyps f.term) = λ u a.
-          assumed_true u hyps f.term (known u (agree_trans n f.count names later u (omega (arith, g)) there a))
+          assumed_true u hyps f.term (before u (agree_trans n f.count names later u (omega (arith, g)) there a))
               (types_told s members told out.ty (suc n) name u d (fit.written out e) (right_later members f.count later u right2 a) (val_name_sorted r.name n).has
                   (means_later (suc n) (suc n) later u name d (omega arith) (agree_less (suc n) f.count later u g a) name_is) ∙ l.0) in
       let vars2 = put_if vars out.variable name in

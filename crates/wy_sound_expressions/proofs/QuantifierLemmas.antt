@@ -135,7 +135,7 @@ module _ (n key : ℕ) (names later : Names) (word : List ℕ) (i : ℤ) (le : n
 
 -- ---- the end
 
-bound_means : (all : Bool) (word : List ℕ) (n : ℕ) (s t f : Term) (u : Names) → IsOf int_sort s → IsOf int_sort t → IsOf formula_sort f
+pub bound_means : (all : Bool) (word : List ℕ) (n : ℕ) (s t f : Term) (u : Names) → IsOf int_sort s → IsOf int_sort t → IsOf formula_sort f
     → holds u (bound all word n s t f) ≡ range all (number u s) (distance (number u t -ℤ number u s)) (λ i. holds (with_number u word n i) f)
 bound_means true word n s t f u a b c = folding_kept (Of (term.every word n) (part s (part t (part f no_parts)))) u (a.has.1, a.has.0, (b.has.1, b.has.0, (c.has.1, c.has.0, tt)))
 bound_means false word n s t f u a b c = folding_kept (Of (term.exists word n) (part s (part t (part f no_parts)))) u (a.has.1, a.has.0, (b.has.1, b.has.0, (c.has.1, c.has.0, tt)))

@@ -1,0 +1,5 @@
+pub mod MadeLemmas
+pub mod TypeLemmas
+pub mod ValueLemmas
+pub mod NamedLemmas
+pub mod WalkLemmas
