@@ -45,13 +45,13 @@ checked A P at next b (More m) e t go = tt
 checked A P at next b Spent e t go = tt
 
 module _ (s : Setting Node) (members : ℕ → Datum → Bool) (owed : Ty → Datum → Test) (told : NamesTold members (named_in s)) (checks : Checks s members owed) where
-
   -- what is owed and known of it
   pub given_right : {X : Type 0} (A : Type 0) (P : X → Type 0) (from at n : ℕ) (t : Ty) (v : Term) (hyps : List Term) (names : Names) (d : Datum) (next : Run X) → IsWritten t → (is_constrained s.types t ≡ false → is_in members t d ≡ true) → names.is_member ≡ members → IsOf val_sort v → Means n names v d → Known n names hyps
       → (A → AreTrueBy members (owe_member s from t v hyps n).owed) → (is_in members t d ≡ true → Known (owe_member s from t v hyps n).count names (owe_member s from t v hyps n).hyps → (m : Meter) → Good A (next m) P) → (m : Meter) → Good A (given owed at t d next m) P
   given_right {X} A P from at n t v hyps names d next wr free right is means h true_of go m = by (is_constrained s.types t) refl true_of go where
     f : Valued
     f = in_type s t v n
+
     by : (c : Bool) → is_constrained s.types t ≡ c → (A → AreTrueBy members (if c then pass_goals kind.Member from (one_goal f) hyps else passed n hyps []).owed)
         → (is_in members t d ≡ true → Known (if c then pass_goals kind.Member from (one_goal f) hyps else passed n hyps []).count names (if c then pass_goals kind.Member from (one_goal f) hyps else passed n hyps []).hyps → (l : Meter) → Good A (next l) P)
         → Good A (given owed at t d next m) P
@@ -59,9 +59,9 @@ module _ (s : Setting Node) (members : ℕ → Datum → Bool) (owed : Ty → Da
     by true e tr g =
         let grows = in_type_grows s t v n in
         checked A P at next (is_in members t d) (owed t d m) (checks.asked t d m e)
-            (λ a. sym (types_told s members told t n v names d wr right is.has means) ∙ (tr a).0 names right (h names (agree_refl n names)))
-            (λ q l. g q (λ u b. assumed_true u hyps f.term (h u (agree_less n f.count names u grows b))
-                (types_told s members told t n v u d wr (right_later members n names u right (agree_less n f.count names u grows b)) is.has (means_later n n names u v d (omega arith) (agree_less n f.count names u grows b) means) ∙ q)) l)
+        (λ a. sym (types_told s members told t n v names d wr right is.has means) ∙ (tr a).0 names right (h names (agree_refl n names)))
+        (λ q l. g q (λ u b. assumed_true u hyps f.term (h u (agree_less n f.count names u grows b))
+        (types_told s members told t n v u d wr (right_later members n names u right (agree_less n f.count names u grows b)) is.has (means_later n n names u v d (omega arith) (agree_less n f.count names u grows b) means) ∙ q)) l)
 
   -- all arguments
   pub arguments_right : {X : Type 0} (A : Type 0) (P : X → Type 0) (from at : ℕ) (names : Names) (next : Run X) → names.is_member ≡ members
@@ -75,8 +75,8 @@ module _ (s : Setting Node) (members : ℕ → Datum → Bool) (owed : Ty → Da
       let rest = owe_arguments s from ps ts first.hyps first.count in
       let grows = member_grows s from p.ty t hyps n in
       given_right A P from at n p.ty t hyps names d (run.arguments owed at ps vs next) fit.0 fit.1 right (record { has = are.0 }) means.0 h (λ a. true_left members first.owed rest.owed (tr a))
-          (λ q known l. arguments_right A P from at names next right ps first.count ts first.hyps vs fit.2 are.1 (all_later n first.count names names ts vs grows (agree_refl n names) means.1) known (λ a. true_right members first.owed rest.owed (tr a))
-              (λ all kn. go (q, all) kn) l) m
+      (λ q known l. arguments_right A P from at names next right ps first.count ts first.hyps vs fit.2 are.1 (all_later n first.count names names ts vs grows (agree_refl n names) means.1) known (λ a. true_right members first.owed rest.owed (tr a))
+      (λ all kn. go (q, all) kn) l) m
 
 -- ---- the variables of parameters
 

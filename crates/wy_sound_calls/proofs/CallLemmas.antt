@@ -54,7 +54,6 @@ none_stand n names words x d see e = absurd cc
 
 module _ (w : sem.Setting Node) (s : Setting Node) (members : ℕ → Datum → Bool) (r : Routine Node) (vs : List Datum) (told : NamesTold members (named_in s)) (fit : ClausesFit w s members r vs)
     (names : Names) (right : names.is_member ≡ members) (vars : Vars) (da : AreData vars) (n : ℕ) (hyps : List Term) (before : Known n names hyps) (stand : Stand n names vars (with_params r.params nothing_seen) (entry_of r vs)) where
-
   -- what is known behind a call
   record Behind (g : Walked) (v : Option Datum) : Type 0 where
     later : Names
@@ -80,9 +79,9 @@ module _ (w : sem.Setting Node) (s : Setting Node) (members : ℕ → Datum → 
       let f = in_type s out.ty name (suc n) in
       let g = in_type_grows s out.ty name (suc n) in
       let typed : Known f.count later (assume hyps f.term) = λ u a.
-          assumed_true u hyps f.term (before u (agree_trans n f.count names later u (omega (arith, g)) there a))
-              (types_told s members told out.ty (suc n) name u d (fit.written out e) (right_later members f.count later u right2 a) (val_name_sorted r.name n).has
-                  (means_later (suc n) (suc n) later u name d (omega arith) (agree_less (suc n) f.count later u g a) name_is) ∙ l.0) in
+      assumed_true u hyps f.term (before u (agree_trans n f.count names later u (omega (arith, g)) there a))
+      (types_told s members told out.ty (suc n) name u d (fit.written out e) (right_later members f.count later u right2 a) (val_name_sorted r.name n).has
+      (means_later (suc n) (suc n) later u name d (omega arith) (agree_less (suc n) f.count later u g a) name_is) ∙ l.0) in
       let vars2 = put_if vars out.variable name in
       let c = assume_clauses s r.variables r.postconditions vars2 (assume hyps f.term) f.count in
       let more = assumed_grow s r.variables r.postconditions vars2 (assume hyps f.term) f.count in
@@ -119,7 +118,7 @@ calls_sound w s members owed r from at n ts hyps names vs m told checks len fit 
     counted A P at (run.arguments owed at r.params vs (sem.clauses w kind.Requires at r.preconditions st body)) (nat_eq (length vs) (length r.params)) m (eq-eqb (length vs) (length r.params) len)
     (arguments_right s members owed told checks A P from at names (sem.clauses w kind.Requires at r.preconditions st body) right r.params n ts hyps vs fit are means h (λ t. true_left members first.owed (middle.owed ++ last.owed) t) (λ all known l.
     clauses_owed w s members told r.variables A P kind.Requires kind.Requires from at body vars names seen st right da r.preconditions first.count first.hyps clauses_fit.first (safe all) stand known
-        (λ t. true_left members middle.owed last.owed (true_right members first.owed (middle.owed ++ last.owed) t)) (λ i pass kn.
+    (λ t. true_left members middle.owed last.owed (true_right members first.owed (middle.owed ++ last.owed) t)) (λ i pass kn.
     good_map A (body i) (Leaves w s members r vs r.result) P (good_weaken A (Unit {0}) (body i) (Leaves w s members r vs r.result) (λ t. tt) (keeps all pass i)) (λ v j eq lv.
     let b = behind w s members r vs told clauses_fit names right vars da middle.count middle.hyps kn (stand_later first.count middle.count names names vars seen st g2 (agree_refl first.count names) stand) r.result refl v lv in
     record {

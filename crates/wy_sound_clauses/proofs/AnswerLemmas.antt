@@ -44,21 +44,21 @@ module _ {N : Type 0} (w : sem.Setting N) (s : Setting N) (members : ℕ → Dat
       → Good (AreTrueBy members (W e vars n).owed) (sem.eval (sem.quiet w) false e st m) (Ok true n names (W e vars n).count (W e vars n).hyps (W e vars n).term)
   clause_right e vars n names seen st m fits right da sd =
       expr (clause_kinds w s members) s.place s.types members (holds named) no_call
-          (λ t v i. holds_grows named grows t v i)
-          (λ t i v is. holds_sorted formulas t i is)
-          (tells_by members named formulas grows told)
-          (λ f at ts hs i. omega arith)
-          (λ f at i ts hs all. null_sorted)
-          (λ f from at i ts hs ns vs l takes r all means kn. absurd takes)
-          words e true vars [] n names seen st m fits.suits right da sd (λ u a. tt)
+      (λ t v i. holds_grows named grows t v i)
+      (λ t i v is. holds_sorted formulas t i is)
+      (tells_by members named formulas grows told)
+      (λ f at ts hs i. omega arith)
+      (λ f at i ts hs all. null_sorted)
+      (λ f from at i ts hs ns vs l takes r all means kn. absurd takes)
+      words e true vars [] n names seen st m fits.suits right da sd (λ u a. tt)
 
   -- an answer is what the value's term means
   pub answer_means : (e : Expr N) (vars : Vars) (n : ℕ) (names : Names) (seen : ℕ → Bool) (st : sem.Store) → Fits w s members seen e st → names.is_member ≡ members → AreData vars → Stand n names vars seen st
       → (v : Datum) (m j : Meter) → sem.eval (sem.quiet w) false e st m ≡ Done v j → Means (value s named words e vars n).count names (value s named words e vars n).term v
   answer_means e vars n names seen st fits right da sd v m j eq =
       subst (λ (r : Valued). Means r.count names r.term v) (sym (value_is s named no_call words e fits.quiet vars [] n))
-          (answer_of n (W e vars n).count names (W e vars n).hyps (W e vars n).term v
-              (subst (λ (o : Outcome Datum). Good (AreTrueBy members (W e vars n).owed) o (Ok true n names (W e vars n).count (W e vars n).hyps (W e vars n).term)) eq (clause_right e vars n names seen st m fits right da sd)))
+      (answer_of n (W e vars n).count names (W e vars n).hyps (W e vars n).term v
+      (subst (λ (o : Outcome Datum). Good (AreTrueBy members (W e vars n).owed) o (Ok true n names (W e vars n).count (W e vars n).hyps (W e vars n).term)) eq (clause_right e vars n names seen st m fits right da sd)))
 
   -- the formula of a clause that gave this truth value
   pub formula_is : (e : Expr N) (vars : Vars) (n : ℕ) (names : Names) (seen : ℕ → Bool) (st : sem.Store) → Fits w s members seen e st → names.is_member ≡ members → AreData vars → Stand n names vars seen st

@@ -45,7 +45,6 @@ module _ {N : Type 0} (w : sem.Setting N) (s : Setting N) (members : ℕ → Dat
   -- ---- a clause that is owed
 
   module _ {X : Type 0} (A B : Type 0) (P : X → Type 0) (kind why : CondKind) (at from : ℕ) (next : Run X) (vars : Vars) (names : Names) (seen : ℕ → Bool) (st : sem.Store) (right : names.is_member ≡ members) (da : AreData vars) where
-
     checked : (e : Expr N) (n : ℕ) (hyps : List Term) → Fits w s members seen e st → Stand n names vars seen st → Known n names hyps → (A → AreTrueBy members (owe kind at hyps (goals s words e vars n).terms)) → (after : Run X)
         → ((m : Meter) → Passes w e st → Known (goals s words e vars n).count names (assume_all hyps (goals s words e vars n).terms) → Good A (after m) P)
         → (b : Bool) (m j : Meter) → sem.eval (sem.quiet w) false e st m ≡ Done (Truth b) j → Good A (check b why from after j) P
@@ -54,8 +53,8 @@ module _ {N : Type 0} (w : sem.Setting N) (s : Setting N) (members : ℕ → Dat
         go j (m, j, eq) (λ u a. all_assumed_true u hyps (goals s words e vars n).terms (h u (agree_less n (goals s words e vars n).count names u g a)) (all_true u (goals s words e vars n).terms (goals_at e vars n names seen st fits right da sd true m j eq u a)))
     checked e n hyps fits sd h owed after go false m j eq = λ t.
         not_both (all names (goals s words e vars n).terms)
-            (true_all names (goals s words e vars n).terms (owed_true members kind at names right hyps (goals s words e vars n).terms (h names (agree_refl n names)) (owed t)))
-            (goals_at e vars n names seen st fits right da sd false m j eq names (agree_refl (goals s words e vars n).count names))
+        (true_all names (goals s words e vars n).terms (owed_true members kind at names right hyps (goals s words e vars n).terms (h names (agree_refl n names)) (owed t)))
+        (goals_at e vars n names seen st fits right da sd false m j eq names (agree_refl (goals s words e vars n).count names))
 
     given_truth : (e : Expr N) (n : ℕ) (hyps : List Term) → Fits w s members seen e st → Stand n names vars seen st → Known n names hyps → (A → AreTrueBy members (owe kind at hyps (goals s words e vars n).terms)) → (after : Run X)
         → ((m : Meter) → Passes w e st → Known (goals s words e vars n).count names (assume_all hyps (goals s words e vars n).terms) → Good A (after m) P)
@@ -85,9 +84,9 @@ module _ {N : Type 0} (w : sem.Setting N) (s : Setting N) (members : ℕ → Dat
       let g = goals_grow s words e vars n in
       let rest = owe_clauses s kind at words es vars (assume_all hyps first.terms) first.count in
       from_outcome A A P kind why at from next vars names seen st right da e n hyps fit.0 sd h (λ t. true_left members (owe kind at hyps first.terms) rest.owed (owed t)) (sem.clauses w why from es st next)
-          (λ l passed known. clauses_owed A P kind why at from next vars names seen st right da es first.count (assume_all hyps first.terms) fit.1 (safe.1 passed) (stand_later n first.count names names vars seen st g (agree_refl n names) sd) known
-              (λ t. true_right members (owe kind at hyps first.terms) rest.owed (owed t)) (λ i all kn. go i (passed, all) kn) l)
-          m (sem.eval (sem.quiet w) false e st m) refl (safe.0 m)
+      (λ l passed known. clauses_owed A P kind why at from next vars names seen st right da es first.count (assume_all hyps first.terms) fit.1 (safe.1 passed) (stand_later n first.count names names vars seen st g (agree_refl n names) sd) known
+      (λ t. true_right members (owe kind at hyps first.terms) rest.owed (owed t)) (λ i all kn. go i (passed, all) kn) l)
+      m (sem.eval (sem.quiet w) false e st m) refl (safe.0 m)
 
   -- clauses that passed are known where they are assumed
   pub clauses_assumed : (vars : Vars) (names : Names) (seen : ℕ → Bool) (st : sem.Store) → names.is_member ≡ members → AreData vars
@@ -98,4 +97,4 @@ module _ {N : Type 0} (w : sem.Setting N) (s : Setting N) (members : ℕ → Dat
       let f = clause_formula s (named_in s) words e vars n in
       let g = clause_grows s (named_in s) named_in_grows words e vars n in
       clauses_assumed vars names seen st right da es f.count (assume hyps f.term) fit.1 pass.1 (stand_later n f.count names names vars seen st g (agree_refl n names) sd)
-          (λ u a. assumed_true u hyps f.term (h u (agree_less n f.count names u g a)) (formula_at e vars n names seen st fit.0 right da sd true pass.0.0 pass.0.1 pass.0.2 u a))
+      (λ u a. assumed_true u hyps f.term (h u (agree_less n f.count names u g a)) (formula_at e vars n names seen st fit.0 right da sd true pass.0.0 pass.0.1 pass.0.2 u a))

@@ -11,7 +11,7 @@ use Rattle.wy_sound_clauses.proofs.WalkedLemmas.{walked_safe, walked_known}
 pub owed_pass : OwedClausesPass
 owed_pass w s members words es vars hyps n names seen st here safe kind why at from m =
     clauses_owed w s members here.told words (AreTrueBy members (owe_clauses s kind at words es vars hyps n).owed) (λ (x : Unit {0}). ArePassed w es st names (owe_clauses s kind at words es vars hyps n)) kind why at from (Done tt) vars names seen st here.right (are_data vars here.terms)
-        es n hyps here.fit safe here.stand here.known (λ t. t) (λ l all known. (all, known)) m
+    es n hyps here.fit safe here.stand here.known (λ t. t) (λ l all known. (all, known)) m
 
 pub walked_are_safe : WalkedClausesAreSafe
 walked_are_safe = record {

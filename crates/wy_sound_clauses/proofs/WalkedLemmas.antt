@@ -47,7 +47,7 @@ module _ {N : Type 0} (w : sem.Setting N) (p : Program N) (members : ℕ → Dat
   behind : (e : Expr N) (hyps : List Term) (n : ℕ) → Fits w p.setting members seen e st → Stand n names vars seen st → Known n names hyps → Passes w e st → Known (W e hyps n).count names (assume (W e hyps n).hyps (formula (W e hyps n).term))
   behind e hyps n fits sd h pass =
       passed_known n (W e hyps n).count names (W e hyps n).hyps (W e hyps n).term
-          (subst (λ (o : Outcome Datum). Good (AreTrueBy members (W e hyps n).owed) o (Ok true n names (W e hyps n).count (W e hyps n).hyps (W e hyps n).term)) pass.2 (walked e hyps n pass.0 fits sd h))
+      (subst (λ (o : Outcome Datum). Good (AreTrueBy members (W e hyps n).owed) o (Ok true n names (W e hyps n).count (W e hyps n).hyps (W e hyps n).term)) pass.2 (walked e hyps n pass.0 fits sd h))
 
   stands : (e : Expr N) (hyps : List Term) (n : ℕ) → Stand n names vars seen st → Stand (W e hyps n).count names vars seen st
   stands e hyps n sd = stand_later n (W e hyps n).count names names vars seen st (expr_grows p.setting p.routines words e vars hyps n) (agree_refl n names) sd
@@ -57,9 +57,10 @@ module _ {N : Type 0} (w : sem.Setting N) (p : Program N) (members : ℕ → Dat
   walked_safe [] hyps n fit sd h t = tt
   walked_safe (e ∷ es) hyps n fit sd h t =
       let v = W e hyps n in
-      let rest = walk_clauses p words es vars (assume v.hyps (formula v.term)) v.count in
-      ((λ m. no_fault (AreTrueBy members v.owed) (sem.eval (sem.quiet w) false e st m) (Ok true n names v.count v.hyps v.term) (walked e hyps n m fit.0 sd h) (true_left members v.owed rest.owed t)),
-       (λ pass. walked_safe es (assume v.hyps (formula v.term)) v.count fit.1 (stands e hyps n sd) (behind e hyps n fit.0 sd h pass) (true_right members v.owed rest.owed t)))
+      let rest = walk_clauses p words es vars (assume v.hyps (formula v.term)) v.count in (
+        (λ m. no_fault (AreTrueBy members v.owed) (sem.eval (sem.quiet w) false e st m) (Ok true n names v.count v.hyps v.term) (walked e hyps n m fit.0 sd h) (true_left members v.owed rest.owed t)),
+        (λ pass. walked_safe es (assume v.hyps (formula v.term)) v.count fit.1 (stands e hyps n sd) (behind e hyps n fit.0 sd h pass) (true_right members v.owed rest.owed t)),
+      )
 
   -- where they passed, what is assumed behind them is known
   pub walked_known : (es : List (Expr N)) (hyps : List Term) (n : ℕ) → AllFit w p.setting members seen es st → Stand n names vars seen st → Known n names hyps → AllPass w es st

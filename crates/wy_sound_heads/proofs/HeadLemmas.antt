@@ -76,7 +76,7 @@ named_one x n word v vars seen stays s h y d see e place = by (cases_eq x y) whe
   by : (x ≡ y) ⊎ (x ≡ y → ⊥) → Means (suc n) (with_datum v word n (value_or (slot s x))) (variable (put vars x (val_name word n)) y) d
   by (inl q) =
       subst (λ (c : Datum). Means (suc n) (with_datum v word n (value_or (slot s x))) (variable (put vars x (val_name word n)) y) c) (ap value_or (ap (λ (z : ℕ). slot s z) q ∙ e))
-          (new_means x n word v vars (value_or (slot s x)) y q)
+      (new_means x n word v vars (value_or (slot s x)) y q)
   by (inr apart) = old_means x n word v vars (value_or (slot s x)) d y apart (h y d see e (narrow x y (stays y ≡ false) apart place))
 
 -- one variable stays
@@ -100,6 +100,7 @@ all_named w body x zero p n v s da h = record {
 all_named w body x (suc j) p n v s da h = by (assigns_in x body) refl (all_named w body (suc x) j (record p { vars = put p.vars x (val_name (word_at w x) n) }) (suc n) (with_datum v (word_at w x) n (value_or (slot s x))) s (put_data x da (val_name_sorted (word_at w x) n)) (named_one x n (word_at w x) v p.vars (is_set p.set) (λ y. assigns_in y body) s h)) (λ e. all_named w body (suc x) j p n v s da (kept_one x n v p.vars (is_set p.set) (λ y. assigns_in y body) s e h)) where
   z : suc x + j ≡ x + suc j
   z = omega arith
+
   by : (b : Bool) → assigns_in x body ≡ b
       → Named body (suc x + j) (suc n) (with_datum v (word_at w x) n (value_or (slot s x))) (record p { vars = put p.vars x (val_name (word_at w x) n) }) (renew_vars w body (suc x) j (record p { vars = put p.vars x (val_name (word_at w x) n) }) (suc n)) s
       → (assigns_in x body ≡ false → Named body (suc x + j) n v p (renew_vars w body (suc x) j p n) s)
@@ -124,19 +125,20 @@ record Typed (m : ℕ) (v : Names) (p : Spot) (r : Renewed) : Type 0 where
   grows : m ≤ r.count
 
 module _ (b : Body Node) (members : ℕ → Datum → Bool) (told : NamesTold members (named_in b.program.setting)) (written : (x : ℕ) → IsWritten (type_at b.types x)) (body : Stmts Node) (s : Store) where
-
   all_typed : (x j : ℕ) (p : Spot) (n : ℕ) (v : Names) → v.is_member ≡ members → AreData p.vars → Known n v p.hyps → Stand n v p.vars (is_set p.set) s
       → ((y : ℕ) → is_set p.set y ≡ true → (d : Datum) × (slot s y ≡ Some d)) → ((y : ℕ) (d : Datum) → is_set p.set y ≡ true → slot s y ≡ Some d → is_in members (type_at b.types y) d ≡ true) → Typed n v p (renew_types b body x j p n)
   all_typed x zero p n v right da h sd valued typed = record { known = h; vars = refl; set = refl; grows = omega arith }
   all_typed x (suc j) p n v right da h sd valued typed =
       by (assigns_in x body && is_set p.set x) refl
-          (λ known. all_typed (suc x) j (with_hyps (assume p.hyps f.term) p) f.count v right da known (stand_later n f.count v v p.vars (is_set p.set) s g (agree_refl n v) sd) valued typed)
-          (all_typed (suc x) j p n v right da h sd valued typed)
+      (λ known. all_typed (suc x) j (with_hyps (assume p.hyps f.term) p) f.count v right da known (stand_later n f.count v v p.vars (is_set p.set) s g (agree_refl n v) sd) valued typed)
+      (all_typed (suc x) j p n v right da h sd valued typed)
     where
       f : Valued
       f = in_type b.program.setting (type_at b.types x) (variable p.vars x) n
+
       g : n ≤ f.count
       g = in_type_grows b.program.setting (type_at b.types x) (variable p.vars x) n
+
       by : (c : Bool) → (assigns_in x body && is_set p.set x) ≡ c → (Known f.count v (assume p.hyps f.term) → Typed f.count v (with_hyps (assume p.hyps f.term) p) (renew_types b body (suc x) j (with_hyps (assume p.hyps f.term) p) f.count)) → Typed n v p (renew_types b body (suc x) j p n)
           → Typed n v p (if c then renew_types b body (suc x) j (with_hyps (assume p.hyps f.term) p) f.count else renew_types b body (suc x) j p n)
       by false e k r = r
@@ -144,8 +146,8 @@ module _ (b : Body Node) (members : ℕ → Datum → Bool) (told : NamesTold me
           let on = (and_true (assigns_in x body) (is_set p.set x) e).1 in
           let d = valued x on in
           let one = k (λ u a. assumed_true u p.hyps f.term (h u (agree_less n f.count v u g a))
-              (types_told b.program.setting members told (type_at b.types x) n (variable p.vars x) u d.0 (written x) (right_later members n v u right (agree_less n f.count v u g a)) (variable_sorted da x).has
-                  (means_later n n v u (variable p.vars x) d.0 (omega arith) (agree_less n f.count v u g a) (sd x d.0 on d.1)) ∙ typed x d.0 on d.1)) in
+          (types_told b.program.setting members told (type_at b.types x) n (variable p.vars x) u d.0 (written x) (right_later members n v u right (agree_less n f.count v u g a)) (variable_sorted da x).has
+          (means_later n n v u (variable p.vars x) d.0 (omega arith) (agree_less n f.count v u g a) (sd x d.0 on d.1)) ∙ typed x d.0 on d.1)) in
           record { known = one.known; vars = one.vars; set = one.set; grows = let i = one.grows in omega (arith, i, g) }
 
 -- ---- the head
@@ -161,7 +163,7 @@ heads_sound b members told written body p n m names first s le right da here tur
     let all_stand : Stand q.count r.later q.spot.vars (is_set p.set) s = λ y d see e. r.stand y d see e (up_to y) in
     let stand : Stand q.count r.later q.spot.vars (is_set q.spot.set) s = subst (λ (bs : List Bool). Stand q.count r.later q.spot.vars (is_set bs) s) (sym r.set) all_stand in
     let t = all_typed b members told written body s 0 (bound_in body) q.spot q.count r.later (right_later members n names r.later right agree) r.are known stand
-        (λ y on. turn.valued y (marks r.set y on)) (λ y d on e. turn.typed y d (marks r.set y on) e) in
+    (λ y on. turn.valued y (marks r.set y on)) (λ y d on e. turn.typed y d (marks r.set y on) e) in
     let z = renew_types b body 0 (bound_in body) q.spot q.count in
     record {
       later = r.later;
@@ -173,9 +175,11 @@ heads_sound b members told written body p n m names first s le right da here tur
   where
     marks : {bs cs : List Bool} → bs ≡ cs → (y : ℕ) → is_set bs y ≡ true → is_set cs y ≡ true
     marks e y on = subst (λ (ds : List Bool). is_set ds y ≡ true) e on
+
     from_entry : (y : ℕ) (d : Datum) → is_set p.set y ≡ true → slot s y ≡ Some d → (y < 0) ⊎ (assigns_in y body ≡ false) → Means m here.later (variable p.vars y) d
     from_entry y d see e (inl lt) = absurd (omega (arith, lt))
     from_entry y d see e (inr st) = here.stand y d see (sym (turn.kept y st) ∙ e)
+
     up_to : (y : ℕ) → (y < 0 + bound_in body) ⊎ (assigns_in y body ≡ false)
     up_to y = by (assigns_in y body) refl where
       by : (c : Bool) → assigns_in y body ≡ c → (y < 0 + bound_in body) ⊎ (c ≡ false)

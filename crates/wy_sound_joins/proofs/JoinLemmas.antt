@@ -143,7 +143,7 @@ named words k x j n v c ps le one low since t e more =
     let name_is : (u : Names) → Agree (suc n) next u → (sense u name).datum ≡ d = λ u a. a.datum_of word n (omega arith) ∙ datum_at v word n d in
     let term_is : (u : Names) → Agree (suc n) next u → (sense u t).datum ≡ d = λ u a. low x t e v u (agree_less k n v u le (agree_trans n (suc n) v next u (omega arith) there a)) in
     let r : Result c2.vars c2.set (suc x) (suc n) rest next = more c2 next (equated_one name x c ps one) (subst (λ (vs : Vars). Low k vs) (sym (equation_vars name o c)) low)
-        (equation_since n name t v next c o e there since (λ u a. equal_true u name t d (name_is u a) (term_is u a))) in
+    (equation_since n name t v next c o e there since (λ u a. equal_true u name t d (name_is u a) (term_is u a))) in
     let r1 : Result c.vars c2.set (suc x) (suc n) rest next = subst (λ (vs : Vars). Result vs c2.set (suc x) (suc n) rest next) (equation_vars name o c) r in
     new_name words k x n c ps rest v t le one low e (subst (λ (bs : List Bool). Result c.vars bs (suc x) (suc n) rest next) (equation_set name o c) r1)
 
@@ -162,8 +162,8 @@ join_all words k c ps x zero n v le m one low since = record {
   no_mark i q = absurd cc
 join_all words k c ps x (suc j) n v le m one low since =
     by (differ ps x) refl
-        (λ c2 w one2 low2 since2. join_all words k c2 (equated (val_name (word_at words x) n) x ps) (suc x) j (suc n) w (omega (arith, le)) (equated_marked (val_name (word_at words x) n) x ps m) one2 low2 since2)
-        (join_all words k c ps (suc x) j n v le m one low since)
+    (λ c2 w one2 low2 since2. join_all words k c2 (equated (val_name (word_at words x) n) x ps) (suc x) j (suc n) w (omega (arith, le)) (equated_marked (val_name (word_at words x) n) x ps m) one2 low2 since2)
+    (join_all words k c ps (suc x) j n v le m one low since)
   where
     by : (b : Bool) → differ ps x ≡ b
         → ((c2 : Path) (w : Names) → IsOne c2 (equated (val_name (word_at words x) n) x ps) → Low k c2.vars → Since (suc n) w c2 → Result c2.vars c2.set (suc x) (suc n) (join_vars words (equated (val_name (word_at words x) n) x ps) (suc x) j (suc n)) w)

@@ -10,7 +10,6 @@ use Rattle.wy_conditions.specs.Joins.{Path, path_of, is_term, is_known, known_on
 use Rattle.wy_sound_terms.proofs.FollowLemmas.{and_true}
 use Rattle.wy_sound_joins.specs.Joins.{IsOne}
 
-
 -- a variable that is marked on the path has a term there
 abbrev pub IsMarked : Path → Type 0
 IsMarked p = (x : ℕ) → is_set p.set x ≡ true → is_known (slot_at p.vars x) ≡ true
@@ -68,9 +67,11 @@ alike x c [] m e d h = absurd h
 alike x c (p ∷ ps) m e d h = by (slot_at p.vars x) refl (known_term (slot_at p.vars x) (m.0 x two.0)) d h where
   two : (is_set p.set x ≡ true) × (set_on_all ps x ≡ true)
   two = and_true (is_set p.set x) (set_on_all ps x) e
+
   same_true : (k s : Bool) → k ≡ true → (k && not s) ≡ false → s ≡ true
   same_true true s q f = not_not s f
   same_true false s q f = absurd cc
+
   by : (o : Option Term) → slot_at p.vars x ≡ o → ((t : Term) × (o ≡ Some t)) → differ_from ps x o ≡ false → IsOne c (p ∷ ps) → or_else o (first_term ps x) ≡ slot_at c.vars x
   by None q k f g = absurd (none k.0 k.1) where
     none : (t : Term) → ◌≡◌ {A = Option Term} None (Some t) → ⊥

@@ -37,7 +37,7 @@ module _ (w : Setting ℕ) (paid : Bool) where
     eval_is (QuantExpr at all x a b body) k s =
         ap₂ (λ (r t : Run Datum). spend paid (λ m. r m >>= (λ v j. t j >>= (λ u. quantified all (w.place at) (λ i. turn w.limit paid (eval (with_numbers w) paid (numbered body (k + exprs_in a + exprs_in b)) (put s x (Some (Whole i))))) v u)))) (eval_is a k s) (eval_is b (k + exprs_in a) s)
         ∙ ap (λ (g : ℤ → Run Datum). spend paid (λ m. eval w paid a s m >>= (λ v j. eval w paid b s j >>= (λ u. quantified all (w.place at) g v u))))
-            (fun_ext (λ i. ap (λ (r : Run Datum). turn w.limit paid r) (eval_is body (k + exprs_in a + exprs_in b) (put s x (Some (Whole i))))))
+        (fun_ext (λ i. ap (λ (r : Run Datum). turn w.limit paid r) (eval_is body (k + exprs_in a + exprs_in b) (put s x (Some (Whole i))))))
 
     pub all_are : (es : Exprs ℕ) (k : ℕ) (s : Store) → eval_all (with_numbers w) paid (numbered_all es k) s ≡ eval_all w paid es s
     all_are NoExprs k s = refl

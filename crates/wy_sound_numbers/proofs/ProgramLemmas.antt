@@ -51,12 +51,12 @@ module _ (w : Setting ℕ) (owed owed2 : Ty → Datum → Test) (same : owed2 �
   frame_is : (r : Routine ℕ) (k : ℕ) (vs : List Datum) → frame_of owed2 (numbered_routine r k) vs ≡ frame_with (frame_of owed r vs) (k + exprs_in_list r.preconditions)
   frame_is r k vs =
       ap (λ (ts : List Ty). record { types = ts; member = owed2; result = r.result; postconditions = numbered_list r.postconditions (k + exprs_in_list r.preconditions); entry = entry_of r vs })
-          (declared_all_is r.body (k + exprs_in_list r.preconditions + exprs_in_list r.postconditions) (param_types r.params (any_types r.variables)))
+      (declared_all_is r.body (k + exprs_in_list r.preconditions + exprs_in_list r.postconditions) (param_types r.params (any_types r.variables)))
       ∙ ap (λ (f : Ty → Datum → Test). record { types = types_of r; member = f; result = r.result; postconditions = numbered_list r.postconditions (k + exprs_in_list r.preconditions); entry = entry_of r vs }) same
 
   body_is : (r : Routine ℕ) (k : ℕ) (vs : List Datum)
       → ◌≡◌ {A = Run (Option Datum)} (λ m. exec_all (with_numbers w) (frame_of owed2 (numbered_routine r k) vs) (numbered_block r.body (k + exprs_in_list r.preconditions + exprs_in_list r.postconditions)) (entry_of r vs) m >>= result_of (with_numbers w) (frame_of owed2 (numbered_routine r k) vs) r.at)
-          (λ m. exec_all w (frame_of owed r vs) r.body (entry_of r vs) m >>= result_of w (frame_of owed r vs) r.at)
+      (λ m. exec_all w (frame_of owed r vs) r.body (entry_of r vs) m >>= result_of w (frame_of owed r vs) r.at)
   body_is r k vs =
       let fr = frame_of owed r vs in
       let i = k + exprs_in_list r.preconditions in
@@ -68,7 +68,7 @@ module _ (w : Setting ℕ) (owed owed2 : Ty → Datum → Test) (same : owed2 �
   routine_is r k at vs =
       ap (λ (b : Run (Option Datum)). check (nat_eq (length vs) (length r.params)) kind.Member at (arguments owed2 at r.params vs (clauses (with_numbers w) kind.Requires at (numbered_list r.preconditions k) (entry_of r vs) b))) (body_is r k vs)
       ∙ ap (λ (b : Run (Option Datum)). check (nat_eq (length vs) (length r.params)) kind.Member at (arguments owed2 at r.params vs b))
-          (clauses_are w kind.Requires at r.preconditions k (entry_of r vs) (λ m. exec_all w (frame_of owed r vs) r.body (entry_of r vs) m >>= result_of w (frame_of owed r vs) r.at))
+      (clauses_are w kind.Requires at r.preconditions k (entry_of r vs) (λ m. exec_all w (frame_of owed r vs) r.body (entry_of r vs) m >>= result_of w (frame_of owed r vs) r.at))
       ∙ ap (λ (f : Ty → Datum → Test). check (nat_eq (length vs) (length r.params)) kind.Member at (arguments f at r.params vs (clauses w kind.Requires at r.preconditions (entry_of r vs) (λ m. exec_all w (frame_of owed r vs) r.body (entry_of r vs) m >>= result_of w (frame_of owed r vs) r.at)))) same
 
 -- what a number calls
@@ -124,7 +124,7 @@ module _ (place : ℕ → ℕ) (limit : Option ℕ) (core : Core ℕ) where
       ap (λ (i : ℕ). spend true (called (with_numbers (setting_with (tests (place_of place) limit others (suc i)) (run (place_of place) limit (numbered_core core) j))) (owed_member (place_of place) limit others) (callee (routines_of (numbered_core core)) f) at vs)) (length_is all)
       ∙ ap₂ (λ (test : Bool → Ty → Datum → Test) (call : ℕ → ℕ → List Datum → Run (Option Datum)). spend true (called (with_numbers (setting_with test call)) (owed_member (place_of place) limit others) (callee (routines_of (numbered_core core)) f) at vs)) (tests_are place limit all (suc (length types))) (run_is j)
       ∙ ap (λ (r : Run (Option Datum)). spend true r)
-          (called_is (setting_with (tests place limit types (suc (length types))) (run place limit core j)) (owed_member place limit types) (owed_member (place_of place) limit others) owed_is (callee_is core 0 f) at vs))))
+      (called_is (setting_with (tests place limit types (suc (length types))) (run place limit core j)) (owed_member place limit types) (owed_member (place_of place) limit others) owed_is (callee_is core 0 f) at vs))))
 
 pub numbers_nothing : NumbersChangeNothing
 numbers_nothing place core f vs ticks =

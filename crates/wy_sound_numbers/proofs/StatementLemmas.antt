@@ -38,10 +38,10 @@ module _ (w : Setting ℕ) (fr : Frame ℕ) (i : ℕ) where
   assigned_is at x [] e k l s = ap (λ (r : Run Datum). λ m. r m >>= stored fr at x (type_at fr.types x) s) (eval_is w true e l s)
   assigned_is at x (IndexStep place e2 ∷ steps) e k l s =
       ap₂ (λ (g : Datum → Run (List Slot)) (r : Run Datum). needed at (slot s x) (λ d m. g d m >>= (λ slots j. r j >>= (λ v. stored fr at x (type_at fr.types x) s (updated d slots v)))))
-          (fun_ext (λ d. path_is s (IndexStep place e2 ∷ steps) k d)) (eval_is w true e l s)
+      (fun_ext (λ d. path_is s (IndexStep place e2 ∷ steps) k d)) (eval_is w true e l s)
   assigned_is at x (FieldStep place name ∷ steps) e k l s =
       ap₂ (λ (g : Datum → Run (List Slot)) (r : Run Datum). needed at (slot s x) (λ d m. g d m >>= (λ slots j. r j >>= (λ v. stored fr at x (type_at fr.types x) s (updated d slots v)))))
-          (fun_ext (λ d. path_is s (FieldStep place name ∷ steps) k d)) (eval_is w true e l s)
+      (fun_ext (λ d. path_is s (FieldStep place name ∷ steps) k d)) (eval_is w true e l s)
 
   pub leave_is : (at : ℕ) (o : Option tree.Output) (v : Option Datum) → leave w2 fr2 at o v ≡ leave w fr at o v
   leave_is at None None = clauses_are w kind.Ensures at fr.postconditions i fr.entry (Done (Gave None))
@@ -76,10 +76,10 @@ module _ (w : Setting ℕ) (fr : Frame ℕ) (i : ℕ) where
     exec_is (WhileStmt at e invariants body) k s =
         ap (λ (r : Run Exit). spend true r) (clauses_are w kind.Entry at invariants (k + exprs_in e) s (λ m. rounds (suc m.ticks) at (tested_truth w2 at (numbered e k)) (exec_all w2 fr2 (numbered_block body (k + exprs_in e + exprs_in_list invariants))) (λ from. clauses w2 kind.Keep from (numbered_list invariants (k + exprs_in e))) s m))
         ∙ ap (λ (g : ℕ → Store → Run Exit). spend true (clauses w kind.Entry at invariants s (λ m. g (suc m.ticks) s m)))
-            (fun_ext (λ j. rounds_are at (tested_truth w2 at (numbered e k)) (tested_truth w at e) (exec_all w2 fr2 (numbered_block body (k + exprs_in e + exprs_in_list invariants))) (exec_all w fr body)
-                (λ from. clauses w2 kind.Keep from (numbered_list invariants (k + exprs_in e))) (λ from. clauses w kind.Keep from invariants)
-                (fun_ext (λ x. truth_is at e k x)) (fun_ext (λ x. block_is body (k + exprs_in e + exprs_in_list invariants) x))
-                (fun_ext (λ from. fun_ext (λ x. fun_ext (λ next. clauses_are w kind.Keep from invariants (k + exprs_in e) x next)))) j))
+        (fun_ext (λ j. rounds_are at (tested_truth w2 at (numbered e k)) (tested_truth w at e) (exec_all w2 fr2 (numbered_block body (k + exprs_in e + exprs_in_list invariants))) (exec_all w fr body)
+        (λ from. clauses w2 kind.Keep from (numbered_list invariants (k + exprs_in e))) (λ from. clauses w kind.Keep from invariants)
+        (fun_ext (λ x. truth_is at e k x)) (fun_ext (λ x. block_is body (k + exprs_in e + exprs_in_list invariants) x))
+        (fun_ext (λ from. fun_ext (λ x. fun_ext (λ next. clauses_are w kind.Keep from invariants (k + exprs_in e) x next)))) j))
 
     pub block_is : (sts : Stmts ℕ) (k : ℕ) (s : Store) → exec_all w2 fr2 (numbered_block sts k) s ≡ exec_all w fr sts s
     block_is NoStmts k s = refl

@@ -54,7 +54,7 @@ name_is : {types : List (Alias ℕ)} {others : List (Alias Node)} → AreNumbere
 name_is all zero = refl
 name_is {types} {others} all (suc j) = fun_ext (λ n.
     ap₂ (λ (b c : Bool). b || c) (has_is (alias_numbered all n))
-        (ap₂ (λ (p : ℕ → Bool) (t : Ty). mentions p t) (name_is all j) (ty_is (alias_numbered all n))))
+    (ap₂ (λ (p : ℕ → Bool) (t : Ty). mentions p t) (name_is all j) (ty_is (alias_numbered all n))))
 
 pub constrained_is : {types : List (Alias ℕ)} {others : List (Alias Node)} → AreNumbered types others → (t : Ty) → is_constrained others t ≡ is_constrained types t
 constrained_is {types} {others} all t = ap (λ (i : ℕ). mentions (is_constrained_name others (suc i)) t) (length_is all) ∙ ap (λ (p : ℕ → Bool). mentions p t) (name_is all (suc (length types)))
@@ -92,18 +92,18 @@ module _ (place : ℕ → ℕ) (limit : Option ℕ) {types : List (Alias ℕ)} {
   tests_are zero = refl
   tests_are (suc j) = fun_ext (λ paid. fun_ext (λ t. fun_ext (λ d.
       asked_same paid
-          (λ n e. alias_holds (record { place = place_of place; limit = limit; test = tests (place_of place) limit others j; call = no_calls }) paid (alias_at others n) e)
-          (λ n e. alias_holds (clause_of j) paid (alias_at types n) e)
-          (ap (λ (f : Bool → Ty → Datum → Test). λ (n : ℕ) (e : Datum). alias_holds (record { place = place_of place; limit = limit; test = f; call = no_calls }) paid (alias_at others n) e) (tests_are j)
-          ∙ fun_ext (λ n. fun_ext (λ e. alias_is (clause_of j) paid (alias_numbered all n) e)))
-          t d)))
+      (λ n e. alias_holds (record { place = place_of place; limit = limit; test = tests (place_of place) limit others j; call = no_calls }) paid (alias_at others n) e)
+      (λ n e. alias_holds (clause_of j) paid (alias_at types n) e)
+      (ap (λ (f : Bool → Ty → Datum → Test). λ (n : ℕ) (e : Datum). alias_holds (record { place = place_of place; limit = limit; test = f; call = no_calls }) paid (alias_at others n) e) (tests_are j)
+      ∙ fun_ext (λ n. fun_ext (λ e. alias_is (clause_of j) paid (alias_numbered all n) e)))
+      t d)))
 
   pub member_is : (t : Ty) (d : Datum) → member (place_of place) limit others t d ≡ member place limit types t d
   member_is t d =
       asked_same false
-          (λ n e m. forgiven (alias_holds (clause_setting (place_of place) limit others) false (alias_at others n) e m))
-          (λ n e m. forgiven (alias_holds (clause_setting place limit types) false (alias_at types n) e m))
-          (ap (λ (i : ℕ). λ (n : ℕ) (e : Datum) (m : Meter). forgiven (alias_holds (record { place = place_of place; limit = limit; test = tests (place_of place) limit others (suc i); call = no_calls }) false (alias_at others n) e m)) (length_is all)
-          ∙ ap (λ (f : Bool → Ty → Datum → Test). λ (n : ℕ) (e : Datum) (m : Meter). forgiven (alias_holds (record { place = place_of place; limit = limit; test = f; call = no_calls }) false (alias_at others n) e m)) (tests_are (suc (length types)))
-          ∙ fun_ext (λ n. fun_ext (λ e. ap (λ (r : Test). λ (m : Meter). forgiven (r m)) (alias_is (clause_of (suc (length types))) false (alias_numbered all n) e))))
-          t d
+      (λ n e m. forgiven (alias_holds (clause_setting (place_of place) limit others) false (alias_at others n) e m))
+      (λ n e m. forgiven (alias_holds (clause_setting place limit types) false (alias_at types n) e m))
+      (ap (λ (i : ℕ). λ (n : ℕ) (e : Datum) (m : Meter). forgiven (alias_holds (record { place = place_of place; limit = limit; test = tests (place_of place) limit others (suc i); call = no_calls }) false (alias_at others n) e m)) (length_is all)
+      ∙ ap (λ (f : Bool → Ty → Datum → Test). λ (n : ℕ) (e : Datum) (m : Meter). forgiven (alias_holds (record { place = place_of place; limit = limit; test = f; call = no_calls }) false (alias_at others n) e m)) (tests_are (suc (length types)))
+      ∙ fun_ext (λ n. fun_ext (λ e. ap (λ (r : Test). λ (m : Meter). forgiven (r m)) (alias_is (clause_of (suc (length types))) false (alias_numbered all n) e))))
+      t d
