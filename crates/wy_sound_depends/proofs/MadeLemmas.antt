@@ -26,50 +26,50 @@ DependsInt n t = (v w : Names) → Agree n v w → number w t ≡ number v t
 abbrev pub Rests : ℕ → Term → Type 0
 Rests n f = (v w : Names) → Agree n v w → holds w f ≡ holds v f
 
-pub depends_more : (n m : ℕ) {t : Term} → n ≤ m → Depends n t → Depends m t
+pub depends_more : (n m : ℕ) (t : Term) → n ≤ m → Depends n t → Depends m t
 depends_more n m le h v w a = h v w (agree_less n m v w le a)
 
-pub rests_more : (n m : ℕ) {f : Term} → n ≤ m → Rests n f → Rests m f
+pub rests_more : (n m : ℕ) (f : Term) → n ≤ m → Rests n f → Rests m f
 rests_more n m le h v w a = h v w (agree_less n m v w le a)
 
 module _ (n : ℕ) where
-  pub num_rests : {v : Term} → Depends n v → DependsInt n (num v)
-  num_rests {v} h x y a = num_means y v ∙ ap shapes.number_in (h x y a) ∙ sym (num_means x v)
+  pub num_rests : (v : Term) → Depends n v → DependsInt n (num v)
+  num_rests (v) h x y a = num_means y v ∙ ap shapes.number_in (h x y a) ∙ sym (num_means x v)
 
-  pub len_rests : {v : Term} → Depends n v → DependsInt n (len v)
-  len_rests {v} h x y a = len_means y v ∙ ap shapes.length_in (h x y a) ∙ sym (len_means x v)
+  pub len_rests : (v : Term) → Depends n v → DependsInt n (len v)
+  len_rests (v) h x y a = len_means y v ∙ ap shapes.length_in (h x y a) ∙ sym (len_means x v)
 
-  pub int_depends : {s : Term} → DependsInt n s → Depends n (int s)
-  int_depends {s} h x y a = int_means y s ∙ ap Whole (h x y a) ∙ sym (int_means x s)
+  pub int_depends : (s : Term) → DependsInt n s → Depends n (int s)
+  int_depends (s) h x y a = int_means y s ∙ ap Whole (h x y a) ∙ sym (int_means x s)
 
-  pub value_depends : {f : Term} → Rests n f → Depends n (value_of f)
-  value_depends {f} h x y a = value_means y f ∙ ap Truth (h x y a) ∙ sym (value_means x f)
+  pub value_depends : (f : Term) → Rests n f → Depends n (value_of f)
+  value_depends (f) h x y a = value_means y f ∙ ap Truth (h x y a) ∙ sym (value_means x f)
 
-  pub get_depends : {v s : Term} → Depends n v → DependsInt n s → Depends n (get v s)
-  get_depends {v} {s} h g x y a = get_means y v s ∙ ap₂ shapes.element (h x y a) (g x y a) ∙ sym (get_means x v s)
+  pub get_depends : (v s : Term) → Depends n v → DependsInt n s → Depends n (get v s)
+  get_depends (v) (s) h g x y a = get_means y v s ∙ ap₂ shapes.element (h x y a) (g x y a) ∙ sym (get_means x v s)
 
-  pub field_depends : (name : List ℕ) {v : Term} → Depends n v → Depends n (field name v)
-  field_depends name {v} h x y a = field_means y name v ∙ ap (λ (d : Datum). shapes.field_in d name) (h x y a) ∙ sym (field_means x name v)
+  pub field_depends : (name : List ℕ) (v : Term) → Depends n v → Depends n (field name v)
+  field_depends name (v) h x y a = field_means y name v ∙ ap (λ (d : Datum). shapes.field_in d name) (h x y a) ∙ sym (field_means x name v)
 
   -- ---- formulas
 
-  pub at_most_rests : {s t : Term} → DependsInt n s → DependsInt n t → Rests n (at_most s t)
-  at_most_rests {s} {t} h g x y a = at_most_means y s t ∙ ap₂ int_le (h x y a) (g x y a) ∙ sym (at_most_means x s t)
+  pub at_most_rests : (s t : Term) → DependsInt n s → DependsInt n t → Rests n (at_most s t)
+  at_most_rests (s) (t) h g x y a = at_most_means y s t ∙ ap₂ int_le (h x y a) (g x y a) ∙ sym (at_most_means x s t)
 
-  pub less_rests : {s t : Term} → DependsInt n s → DependsInt n t → Rests n (less_than s t)
-  less_rests {s} {t} h g x y a = less_means y s t ∙ ap₂ int_lt (h x y a) (g x y a) ∙ sym (less_means x s t)
+  pub less_rests : (s t : Term) → DependsInt n s → DependsInt n t → Rests n (less_than s t)
+  less_rests (s) (t) h g x y a = less_means y s t ∙ ap₂ int_lt (h x y a) (g x y a) ∙ sym (less_means x s t)
 
-  pub denied_rests : {f : Term} → Rests n f → Rests n (denied f)
-  denied_rests {f} h x y a = denied_means y f ∙ ap not (h x y a) ∙ sym (denied_means x f)
+  pub denied_rests : (f : Term) → Rests n f → Rests n (denied f)
+  denied_rests (f) h x y a = denied_means y f ∙ ap not (h x y a) ∙ sym (denied_means x f)
 
-  pub equal_rests : {v w : Term} → Depends n v → Depends n w → Rests n (equal v w)
-  equal_rests {v} {w} h g x y a = equal_means y v w ∙ ap₂ same (h x y a) (g x y a) ∙ sym (equal_means x v w)
+  pub equal_rests : (v w : Term) → Depends n v → Depends n w → Rests n (equal v w)
+  equal_rests (v) (w) h g x y a = equal_means y v w ∙ ap₂ same (h x y a) (g x y a) ∙ sym (equal_means x v w)
 
-  pub kind_rests : (kind : DataKind) {v : Term} → Depends n v → Rests n (of_kind kind v)
-  kind_rests kind {v} h x y a = kind_means y kind v ∙ ap (shapes.is_of_kind kind) (h x y a) ∙ sym (kind_means x kind v)
+  pub kind_rests : (kind : DataKind) (v : Term) → Depends n v → Rests n (of_kind kind v)
+  kind_rests kind (v) h x y a = kind_means y kind v ∙ ap (shapes.is_of_kind kind) (h x y a) ∙ sym (kind_means x kind v)
 
-  pub formula_rests : {v : Term} → Depends n v → Rests n (formula v)
-  formula_rests {v} h = equal_rests {v} {truth true} h (λ x y a. refl)
+  pub formula_rests : (v : Term) → Depends n v → Rests n (formula v)
+  formula_rests (v) h = equal_rests (v) (truth true) h (λ x y a. refl)
 
   -- each of these formulas
   pub data AllRest : List Term → Type 0 where
@@ -100,48 +100,48 @@ module _ (n : ℕ) where
 
   -- ---- operations
 
-  pub negated_depends : {v : Term} → Depends n v → Depends n (op.negated v)
-  negated_depends {v} h = int_depends {of_one term.neg (num v)} (λ x y a. neg_means y (num v) ∙ ap neg_ℤ (num_rests {v} h x y a) ∙ sym (neg_means x (num v)))
+  pub negated_depends : (v : Term) → Depends n v → Depends n (op.negated v)
+  negated_depends (v) h = int_depends (of_one term.neg (num v)) (λ x y a. neg_means y (num v) ∙ ap neg_ℤ (num_rests (v) h x y a) ∙ sym (neg_means x (num v)))
 
-  pub denial_depends : {v : Term} → Depends n v → Depends n (op.with_denial v)
-  denial_depends {v} h = value_depends {denied (formula v)} (denied_rests {formula v} (formula_rests {v} h))
+  pub denial_depends : (v : Term) → Depends n v → Depends n (op.with_denial v)
+  denial_depends (v) h = value_depends (denied (formula v)) (denied_rests (formula v) (formula_rests (v) h))
 
-  pub length_depends : {v : Term} → Depends n v → Depends n (op.length v)
-  length_depends {v} h = int_depends {len v} (len_rests {v} h)
+  pub length_depends : (v : Term) → Depends n v → Depends n (op.length v)
+  length_depends (v) h = int_depends (len v) (len_rests (v) h)
 
-  pub element_depends : {v i : Term} → Depends n v → Depends n i → Depends n (op.element v i)
-  element_depends {v} {i} h g = get_depends {v} {num i} h (num_rests {i} g)
+  pub element_depends : (v i : Term) → Depends n v → Depends n i → Depends n (op.element v i)
+  element_depends (v) (i) h g = get_depends (v) (num i) h (num_rests (i) g)
 
-  pub repeated_depends : {v m : Term} → Depends n v → Depends n m → Depends n (op.repeated v m)
-  repeated_depends {v} {m} h g x y a = repeat_means y v (num m) ∙ ap₂ shapes.repeated (h x y a) (num_rests {m} g x y a) ∙ sym (repeat_means x v (num m))
+  pub repeated_depends : (v m : Term) → Depends n v → Depends n m → Depends n (op.repeated v m)
+  repeated_depends (v) (m) h g x y a = repeat_means y v (num m) ∙ ap₂ shapes.repeated (h x y a) (num_rests (m) g x y a) ∙ sym (repeat_means x v (num m))
 
   -- an Int term of two numbers
-  two_depend : (symbol : Term → Term → Term) (f : ℤ → ℤ → ℤ) → ((u : Names) (s t : Term) → number u (symbol s t) ≡ f (number u s) (number u t)) → {v w : Term} → Depends n v → Depends n w → Depends n (int (symbol (num v) (num w)))
-  two_depend symbol f means {v} {w} h g = int_depends {symbol (num v) (num w)} (λ x y a. means y (num v) (num w) ∙ ap₂ f (num_rests {v} h x y a) (num_rests {w} g x y a) ∙ sym (means x (num v) (num w)))
+  two_depend : (symbol : Term → Term → Term) (f : ℤ → ℤ → ℤ) → ((u : Names) (s t : Term) → number u (symbol s t) ≡ f (number u s) (number u t)) → (v w : Term) → Depends n v → Depends n w → Depends n (int (symbol (num v) (num w)))
+  two_depend symbol f means (v) (w) h g = int_depends (symbol (num v) (num w)) (λ x y a. means y (num v) (num w) ∙ ap₂ f (num_rests (v) h x y a) (num_rests (w) g x y a) ∙ sym (means x (num v) (num w)))
 
-  equality_depends : (numbers : Bool) {v w : Term} → Depends n v → Depends n w → Depends n (op.equality numbers v w)
-  equality_depends true {v} {w} h g =
-      value_depends {all_of (at_most (num v) (num w) ∷ at_most (num w) (num v) ∷ [])}
-          (all_rest (more_rest (at_most_rests {num v} {num w} (num_rests {v} h) (num_rests {w} g)) (more_rest (at_most_rests {num w} {num v} (num_rests {w} g) (num_rests {v} h)) none_rest)))
-  equality_depends false {v} {w} h g = value_depends {equal v w} (equal_rests {v} {w} h g)
+  equality_depends : (numbers : Bool) (v w : Term) → Depends n v → Depends n w → Depends n (op.equality numbers v w)
+  equality_depends true (v) (w) h g =
+      value_depends (all_of (at_most (num v) (num w) ∷ at_most (num w) (num v) ∷ []))
+      (all_rest (more_rest (at_most_rests (num v) (num w) (num_rests (v) h) (num_rests (w) g)) (more_rest (at_most_rests (num w) (num v) (num_rests (w) g) (num_rests (v) h)) none_rest)))
+  equality_depends false (v) (w) h g = value_depends (equal v w) (equal_rests (v) (w) h g)
 
-  pub operated_depends : (o : Op) (numbers : Bool) {v w : Term} → Depends n v → Depends n w → Depends n (op.operated o numbers v w)
-  operated_depends Add numbers {v} {w} h g = two_depend (of_two term.add) ◌+ℤ◌ (λ u s t. add_means u s t) {v} {w} h g
-  operated_depends Sub numbers {v} {w} h g = two_depend (of_two term.sub) ◌-ℤ◌ (λ u s t. sub_means u s t) {v} {w} h g
-  operated_depends Mul numbers {v} {w} h g = two_depend (of_two term.mul) ◌*ℤ◌ (λ u s t. mul_means u s t) {v} {w} h g
-  operated_depends Div numbers {v} {w} h g = two_depend (of_two term.div) shapes.quotient (λ u s t. div_means u s t) {v} {w} h g
-  operated_depends Mod numbers {v} {w} h g = two_depend (of_two term.rem) shapes.remainder (λ u s t. rem_means u s t) {v} {w} h g
-  operated_depends Equal numbers {v} {w} h g = equality_depends numbers {v} {w} h g
-  operated_depends Less numbers {v} {w} h g = value_depends {less_than (num v) (num w)} (less_rests {num v} {num w} (num_rests {v} h) (num_rests {w} g))
-  operated_depends LessEqual numbers {v} {w} h g = value_depends {at_most (num v) (num w)} (at_most_rests {num v} {num w} (num_rests {v} h) (num_rests {w} g))
-  operated_depends Greater numbers {v} {w} h g = value_depends {less_than (num w) (num v)} (less_rests {num w} {num v} (num_rests {w} g) (num_rests {v} h))
-  operated_depends GreaterEqual numbers {v} {w} h g = value_depends {at_most (num w) (num v)} (at_most_rests {num w} {num v} (num_rests {w} g) (num_rests {v} h))
-  operated_depends And numbers {v} {w} h g = value_depends {all_of (formula v ∷ formula w ∷ [])} (all_rest (more_rest (formula_rests {v} h) (more_rest (formula_rests {w} g) none_rest)))
-  operated_depends Or numbers {v} {w} h g = value_depends {any_of (formula v ∷ formula w ∷ [])} (some_rest (more_rest (formula_rests {v} h) (more_rest (formula_rests {w} g) none_rest)))
+  pub operated_depends : (o : Op) (numbers : Bool) (v w : Term) → Depends n v → Depends n w → Depends n (op.operated o numbers v w)
+  operated_depends Add numbers (v) (w) h g = two_depend (of_two term.add) ◌+ℤ◌ (λ u s t. add_means u s t) (v) (w) h g
+  operated_depends Sub numbers (v) (w) h g = two_depend (of_two term.sub) ◌-ℤ◌ (λ u s t. sub_means u s t) (v) (w) h g
+  operated_depends Mul numbers (v) (w) h g = two_depend (of_two term.mul) ◌*ℤ◌ (λ u s t. mul_means u s t) (v) (w) h g
+  operated_depends Div numbers (v) (w) h g = two_depend (of_two term.div) shapes.quotient (λ u s t. div_means u s t) (v) (w) h g
+  operated_depends Mod numbers (v) (w) h g = two_depend (of_two term.rem) shapes.remainder (λ u s t. rem_means u s t) (v) (w) h g
+  operated_depends Equal numbers (v) (w) h g = equality_depends numbers (v) (w) h g
+  operated_depends Less numbers (v) (w) h g = value_depends (less_than (num v) (num w)) (less_rests (num v) (num w) (num_rests (v) h) (num_rests (w) g))
+  operated_depends LessEqual numbers (v) (w) h g = value_depends (at_most (num v) (num w)) (at_most_rests (num v) (num w) (num_rests (v) h) (num_rests (w) g))
+  operated_depends Greater numbers (v) (w) h g = value_depends (less_than (num w) (num v)) (less_rests (num w) (num v) (num_rests (w) g) (num_rests (v) h))
+  operated_depends GreaterEqual numbers (v) (w) h g = value_depends (at_most (num w) (num v)) (at_most_rests (num w) (num v) (num_rests (w) g) (num_rests (v) h))
+  operated_depends And numbers (v) (w) h g = value_depends (all_of (formula v ∷ formula w ∷ [])) (all_rest (more_rest (formula_rests (v) h) (more_rest (formula_rests (w) g) none_rest)))
+  operated_depends Or numbers (v) (w) h g = value_depends (any_of (formula v ∷ formula w ∷ [])) (some_rest (more_rest (formula_rests (v) h) (more_rest (formula_rests (w) g) none_rest)))
 
-  pub quantified_depends : (all' : Bool) (word : List ℕ) (k : ℕ) {v w u : Term} → IsOf val_sort v → IsOf val_sort w → IsOf val_sort u → Depends n v → Depends n w → Depends n u → Depends n (op.quantified all' word k v w u)
-  quantified_depends all' word k {v} {w} {u} iv iw iu h g f =
-      value_depends {bound all' word k (num v) (num w) (formula u)} (bound_rests all' word k (num_sorted iv) (num_sorted iw) (formula_sorted iu) (num_rests {v} h) (num_rests {w} g) (formula_rests {u} f))
+  pub quantified_depends : (all' : Bool) (word : List ℕ) (k : ℕ) (v w u : Term) → IsOf val_sort v → IsOf val_sort w → IsOf val_sort u → Depends n v → Depends n w → Depends n u → Depends n (op.quantified all' word k v w u)
+  quantified_depends all' word k (v) (w) (u) iv iw iu h g f =
+      value_depends (bound all' word k (num v) (num w) (formula u)) (bound_rests all' word k (num_sorted iv) (num_sorted iw) (formula_sorted iu) (num_rests (v) h) (num_rests (w) g) (formula_rests (u) f))
 
   -- ---- lists
 

@@ -40,8 +40,8 @@ defined_rests s named formulas grows rests a n v is h =
     let f = holds named a.ty v n in
     let vars = put_if [] a.variable v in
     let fs = clause_formulas s named a.variables a.clauses vars f.count in
-    all_rest fs.count (more_rest (rests_more f.count fs.count {f.term} (clauses_grow s named grows a.variables a.clauses vars f.count) (holds_rests named formulas grows rests a.ty n v is h))
-        (clauses_rest s named formulas grows rests a.variables a.clauses vars f.count (put_if_data a.variable no_data is) (put_if_depends f.count a.variable v (depends_more n f.count {v} (holds_grows named grows a.ty v n) h))))
+    all_rest fs.count (more_rest (rests_more f.count fs.count (f.term) (clauses_grow s named grows a.variables a.clauses vars f.count) (holds_rests named formulas grows rests a.ty n v is h))
+    (clauses_rest s named formulas grows rests a.variables a.clauses vars f.count (put_if_data a.variable no_data is) (put_if_depends f.count a.variable v (depends_more n f.count (v) (holds_grows named grows a.ty v n) h))))
 
 pick_rests : (b : Bool) (v w : Valued) → Rests v.count v.term → Rests w.count w.term → Rests (if b then v else w).count (if b then v else w).term
 pick_rests true v w h g = h
@@ -51,5 +51,5 @@ pub named_rests : {N : Type 0} (s : Setting N) (depth number n : ℕ) (v : Term)
 named_rests s zero number n v is h = test_rests n number v h
 named_rests s (suc depth) number n v is h =
     pick_rests (is_written s.types number) (defined s (named_to s depth) (alias_at s.types number) v n) (valued n (in_type number v))
-        (defined_rests s (named_to s depth) (named_to_sorted s depth) (λ i m u. named_grows s depth i m u) (λ i m u k g. named_rests s depth i m u k g) (alias_at s.types number) n v is h)
-        (test_rests n number v h)
+    (defined_rests s (named_to s depth) (named_to_sorted s depth) (λ i m u. named_grows s depth i m u) (λ i m u k g. named_rests s depth i m u k g) (alias_at s.types number) n v is h)
+    (test_rests n number v h)

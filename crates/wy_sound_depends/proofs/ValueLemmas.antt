@@ -20,7 +20,7 @@ use Rattle.wy_sound_depends.proofs.TypeLemmas.{name_rests, holds_rests}
 
 pub if_more : (n m : ℕ) (v : Option Term) → n ≤ m → DependsIf n v → DependsIf m v
 if_more n m None le h = tt
-if_more n m (Some t) le h = depends_more n m {t} le h
+if_more n m (Some t) le h = depends_more n m (t) le h
 
 pub all_more : (n m : ℕ) (vars : Vars) → n ≤ m → AllDepend n vars → AllDepend m vars
 all_more n m [] le h = tt
@@ -82,7 +82,6 @@ module _ {N : Type 0} (s : Setting N) {named : Naming} (formulas : SaysFormulas 
 
 module _ {N : Type 0} (s : Setting N) (named : Naming) (formulas : SaysFormulas named) (grows : (number n : ℕ) (v : Term) → n ≤ (named number v n).count)
     (named_rests : (number n : ℕ) (v : Term) → IsOf val_sort v → Depends n v → Rests (named number v n).count (named number v n).term) (words : List (List ℕ)) where
-
   abbrev V : Expr N → Vars → ℕ → Valued
   V e vars n = value s named words e vars n
 
@@ -93,26 +92,26 @@ module _ {N : Type 0} (s : Setting N) (named : Naming) (formulas : SaysFormulas 
     pub value_rests : (e : Expr N) (vars : Vars) (n : ℕ) → AreData vars → AllDepend n vars → Depends (V e vars n).count (V e vars n).term
     value_rests (NullExpr k) vars n d h = λ x y a. refl
     value_rests (BoolExpr k b) vars n d h = λ x y a. refl
-    value_rests (IntExpr k z) vars n d h = int_depends n {number_of z} (λ x y a. refl)
+    value_rests (IntExpr k z) vars n d h = int_depends n (number_of z) (λ x y a. refl)
     value_rests (VarExpr k x) vars n d h = variable_depends n vars x h
     value_rests (CallExpr k f args) vars n d h = λ x y a. refl
-    value_rests (NegExpr k a) vars n d h = let v = V a vars n in negated_depends v.count {v.term} (value_rests a vars n d h)
-    value_rests (NotExpr k a) vars n d h = let v = V a vars n in denial_depends v.count {v.term} (value_rests a vars n d h)
-    value_rests (LenExpr k a) vars n d h = let v = V a vars n in length_depends v.count {v.term} (value_rests a vars n d h)
+    value_rests (NegExpr k a) vars n d h = let v = V a vars n in negated_depends v.count (v.term) (value_rests a vars n d h)
+    value_rests (NotExpr k a) vars n d h = let v = V a vars n in denial_depends v.count (v.term) (value_rests a vars n d h)
+    value_rests (LenExpr k a) vars n d h = let v = V a vars n in length_depends v.count (v.term) (value_rests a vars n d h)
     value_rests (BinaryExpr k o a b) vars n d h =
         let v = V a vars n in let w = V b vars v.count in
-        operated_depends w.count o (s.is_number (node a) && s.is_number (node b)) {v.term} {w.term} (depends_more v.count w.count {v.term} (up b vars v.count) (value_rests a vars n d h)) (value_rests b vars v.count d (all_more n v.count vars (up a vars n) h))
+        operated_depends w.count o (s.is_number (node a) && s.is_number (node b)) (v.term) (w.term) (depends_more v.count w.count (v.term) (up b vars v.count) (value_rests a vars n d h)) (value_rests b vars v.count d (all_more n v.count vars (up a vars n) h))
     value_rests (IsExpr k a t) vars n d h =
         let v = V a vars n in let f = holds named t v.term v.count in
-        value_depends f.count {f.term} (holds_rests named formulas grows named_rests t v.count v.term (value_sorted s formulas words a vars n d) (value_rests a vars n d h))
+        value_depends f.count (f.term) (holds_rests named formulas grows named_rests t v.count v.term (value_sorted s formulas words a vars n d) (value_rests a vars n d h))
     value_rests (IndexExpr k a b) vars n d h =
         let v = V a vars n in let w = V b vars v.count in
-        element_depends w.count {v.term} {w.term} (depends_more v.count w.count {v.term} (up b vars v.count) (value_rests a vars n d h)) (value_rests b vars v.count d (all_more n v.count vars (up a vars n) h))
-    value_rests (FieldExpr k a name) vars n d h = let v = V a vars n in field_depends v.count name {v.term} (value_rests a vars n d h)
+        element_depends w.count (v.term) (w.term) (depends_more v.count w.count (v.term) (up b vars v.count) (value_rests a vars n d h)) (value_rests b vars v.count d (all_more n v.count vars (up a vars n) h))
+    value_rests (FieldExpr k a name) vars n d h = let v = V a vars n in field_depends v.count name (v.term) (value_rests a vars n d h)
     value_rests (ListExpr k items) vars n d h = let vs = values s named words items vars n in list_depends vs.count (values_rest items vars n d h)
     value_rests (RepeatExpr k a b) vars n d h =
         let v = V a vars n in let w = V b vars v.count in
-        repeated_depends w.count {v.term} {w.term} (depends_more v.count w.count {v.term} (up b vars v.count) (value_rests a vars n d h)) (value_rests b vars v.count d (all_more n v.count vars (up a vars n) h))
+        repeated_depends w.count (v.term) (w.term) (depends_more v.count w.count (v.term) (up b vars v.count) (value_rests a vars n d h)) (value_rests b vars v.count d (all_more n v.count vars (up a vars n) h))
     value_rests (RecordExpr k fields) vars n d h = let vs = field_values s named words fields vars n in record_depends vs.count (field_names fields) (parts_rest fields vars n d h)
     value_rests (QuantExpr k all x a b body) vars n d h =
         let v = V a vars n in let w = V b vars v.count in
@@ -121,25 +120,25 @@ module _ {N : Type 0} (s : Setting N) (named : Naming) (formulas : SaysFormulas 
         let u = V body (put vars x (int i)) (suc w.count) in
         let g1 = up a vars n in let g2 = up b vars v.count in let g3 = up body (put vars x (int i)) (suc w.count) in
         let inside = put_data x d (int_sorted (int_name_sorted word w.count)) in
-        quantified_depends u.count all word w.count {v.term} {w.term} {u.term} (value_sorted s formulas words a vars n d) (value_sorted s formulas words b vars v.count d) (value_sorted s formulas words body (put vars x (int i)) (suc w.count) inside)
-            (depends_more v.count u.count {v.term} (omega (arith, g2, g3)) (value_rests a vars n d h))
-            (depends_more w.count u.count {w.term} (omega (arith, g3)) (value_rests b vars v.count d (all_more n v.count vars g1 h)))
-            (value_rests body (put vars x (int i)) (suc w.count) inside (put_depends (suc w.count) vars x (int i) (all_more n (suc w.count) vars (omega (arith, g1, g2)) h) (int_depends (suc w.count) {i} (name_rests word w.count (suc w.count) (omega arith)))))
+        quantified_depends u.count all word w.count (v.term) (w.term) (u.term) (value_sorted s formulas words a vars n d) (value_sorted s formulas words b vars v.count d) (value_sorted s formulas words body (put vars x (int i)) (suc w.count) inside)
+        (depends_more v.count u.count (v.term) (omega (arith, g2, g3)) (value_rests a vars n d h))
+        (depends_more w.count u.count (w.term) (omega (arith, g3)) (value_rests b vars v.count d (all_more n v.count vars g1 h)))
+        (value_rests body (put vars x (int i)) (suc w.count) inside (put_depends (suc w.count) vars x (int i) (all_more n (suc w.count) vars (omega (arith, g1, g2)) h) (int_depends (suc w.count) (i) (name_rests word w.count (suc w.count) (omega arith)))))
 
     pub values_rest : (es : Exprs N) (vars : Vars) (n : ℕ) → AreData vars → AllDepend n vars → EachDepends (values s named words es vars n).count (values s named words es vars n).terms
     values_rest NoExprs vars n d h = none_depends
     values_rest (MoreExprs e es) vars n d h =
         let v = V e vars n in let vs = values s named words es vars v.count in
-        more_depends (depends_more v.count vs.count {v.term} (values_grow s named grows words es vars v.count) (value_rests e vars n d h)) (values_rest es vars v.count d (all_more n v.count vars (up e vars n) h))
+        more_depends (depends_more v.count vs.count (v.term) (values_grow s named grows words es vars v.count) (value_rests e vars n d h)) (values_rest es vars v.count d (all_more n v.count vars (up e vars n) h))
 
     pub parts_rest : (fs : Fields N) (vars : Vars) (n : ℕ) → AreData vars → AllDepend n vars → EachDepends (field_values s named words fs vars n).count (field_values s named words fs vars n).terms
     parts_rest NoFields vars n d h = none_depends
     parts_rest (MoreFields name e fs) vars n d h =
         let v = V e vars n in let vs = field_values s named words fs vars v.count in
-        more_depends (depends_more v.count vs.count {v.term} (parts_grow s named grows words fs vars v.count) (value_rests e vars n d h)) (parts_rest fs vars v.count d (all_more n v.count vars (up e vars n) h))
+        more_depends (depends_more v.count vs.count (v.term) (parts_grow s named grows words fs vars v.count) (value_rests e vars n d h)) (parts_rest fs vars v.count d (all_more n v.count vars (up e vars n) h))
 
   pub clauses_rest : (es : List (Expr N)) (vars : Vars) (n : ℕ) → AreData vars → AllDepend n vars → AllRest (clause_formulas s named words es vars n).count (clause_formulas s named words es vars n).terms
   clauses_rest [] vars n d h = none_rest
   clauses_rest (e ∷ es) vars n d h =
       let f = clause_formula s named words e vars n in let fs = clause_formulas s named words es vars f.count in
-      more_rest (rests_more f.count fs.count {f.term} (clauses_grow s named grows words es vars f.count) (formula_rests f.count {(V e vars n).term} (value_rests e vars n d h))) (clauses_rest es vars f.count d (all_more n f.count vars (up e vars n) h))
+      more_rest (rests_more f.count fs.count (f.term) (clauses_grow s named grows words es vars f.count) (formula_rests f.count ((V e vars n).term) (value_rests e vars n d h))) (clauses_rest es vars f.count d (all_more n f.count vars (up e vars n) h))

@@ -38,7 +38,6 @@ module _ {N : Type 0} (s : Setting N) (tests : Tests) (call : CallWalks) (words 
     (calls_grow : (f at : ℕ) (ts hyps : List Term) (n : ℕ) → n ≤ (call f at ts hyps n).count)
     (calls_sorted : (f at n : ℕ) (ts hyps : List Term) → AllOf val_sort ts → IsOf val_sort (call f at ts hyps n).term)
     (calls_depend : (f at : ℕ) (ts hyps : List Term) (n : ℕ) → Depends (call f at ts hyps n).count (call f at ts hyps n).term) where
-
   abbrev W : Expr N → Vars → List Term → ℕ → Walked
   W e vars hyps n = walk_by s tests call words e vars hyps n
 
@@ -52,25 +51,25 @@ module _ {N : Type 0} (s : Setting N) (tests : Tests) (call : CallWalks) (words 
     pub walk_depends : (e : Expr N) (vars : Vars) (hyps : List Term) (n : ℕ) → AreData vars → AllDepend n vars → Depends (W e vars hyps n).count (W e vars hyps n).term
     walk_depends (NullExpr k) vars hyps n d h = λ x y a. refl
     walk_depends (BoolExpr k b) vars hyps n d h = λ x y a. refl
-    walk_depends (IntExpr k z) vars hyps n d h = int_depends n {number_of z} (λ x y a. refl)
+    walk_depends (IntExpr k z) vars hyps n d h = int_depends n (number_of z) (λ x y a. refl)
     walk_depends (VarExpr k x) vars hyps n d h = variable_depends n vars x h
     walk_depends (CallExpr k f args) vars hyps n d h = let u = walk_all_by s tests call words args vars hyps n in calls_depend f (s.place k) u.terms u.hyps u.count
-    walk_depends (NegExpr k a) vars hyps n d h = let v = W a vars hyps n in negated_depends v.count {v.term} (walk_depends a vars hyps n d h)
-    walk_depends (NotExpr k a) vars hyps n d h = let v = W a vars hyps n in denial_depends v.count {v.term} (walk_depends a vars hyps n d h)
-    walk_depends (LenExpr k a) vars hyps n d h = let v = W a vars hyps n in length_depends v.count {v.term} (walk_depends a vars hyps n d h)
+    walk_depends (NegExpr k a) vars hyps n d h = let v = W a vars hyps n in negated_depends v.count (v.term) (walk_depends a vars hyps n d h)
+    walk_depends (NotExpr k a) vars hyps n d h = let v = W a vars hyps n in denial_depends v.count (v.term) (walk_depends a vars hyps n d h)
+    walk_depends (LenExpr k a) vars hyps n d h = let v = W a vars hyps n in length_depends v.count (v.term) (walk_depends a vars hyps n d h)
     walk_depends (BinaryExpr k o a b) vars hyps n d h =
         let v = W a vars hyps n in let hs = right_hyps o v.term v.hyps in let w = W b vars hs v.count in
-        operated_depends w.count o (s.is_number (node a) && s.is_number (node b)) {v.term} {w.term} (depends_more v.count w.count {v.term} (up b vars hs v.count) (walk_depends a vars hyps n d h)) (walk_depends b vars hs v.count d (all_more n v.count vars (up a vars hyps n) h))
+        operated_depends w.count o (s.is_number (node a) && s.is_number (node b)) (v.term) (w.term) (depends_more v.count w.count (v.term) (up b vars hs v.count) (walk_depends a vars hyps n d h)) (walk_depends b vars hs v.count d (all_more n v.count vars (up a vars hyps n) h))
     walk_depends (IsExpr k a t) vars hyps n d h =
-        let v = W a vars hyps n in let f = tests t v.term v.count in value_depends f.count {f.term} (tests_rest t v.count v.term (is a vars hyps n d) (walk_depends a vars hyps n d h))
+        let v = W a vars hyps n in let f = tests t v.term v.count in value_depends f.count (f.term) (tests_rest t v.count v.term (is a vars hyps n d) (walk_depends a vars hyps n d h))
     walk_depends (IndexExpr k a b) vars hyps n d h =
         let v = W a vars hyps n in let w = W b vars v.hyps v.count in
-        element_depends w.count {v.term} {w.term} (depends_more v.count w.count {v.term} (up b vars v.hyps v.count) (walk_depends a vars hyps n d h)) (walk_depends b vars v.hyps v.count d (all_more n v.count vars (up a vars hyps n) h))
-    walk_depends (FieldExpr k a name) vars hyps n d h = let v = W a vars hyps n in field_depends v.count name {v.term} (walk_depends a vars hyps n d h)
+        element_depends w.count (v.term) (w.term) (depends_more v.count w.count (v.term) (up b vars v.hyps v.count) (walk_depends a vars hyps n d h)) (walk_depends b vars v.hyps v.count d (all_more n v.count vars (up a vars hyps n) h))
+    walk_depends (FieldExpr k a name) vars hyps n d h = let v = W a vars hyps n in field_depends v.count name (v.term) (walk_depends a vars hyps n d h)
     walk_depends (ListExpr k items) vars hyps n d h = let u = walk_all_by s tests call words items vars hyps n in list_depends u.count (all_depend items vars hyps n d h)
     walk_depends (RepeatExpr k a b) vars hyps n d h =
         let v = W a vars hyps n in let w = W b vars v.hyps v.count in
-        repeated_depends w.count {v.term} {w.term} (depends_more v.count w.count {v.term} (up b vars v.hyps v.count) (walk_depends a vars hyps n d h)) (walk_depends b vars v.hyps v.count d (all_more n v.count vars (up a vars hyps n) h))
+        repeated_depends w.count (v.term) (w.term) (depends_more v.count w.count (v.term) (up b vars v.hyps v.count) (walk_depends a vars hyps n d h)) (walk_depends b vars v.hyps v.count d (all_more n v.count vars (up a vars hyps n) h))
     walk_depends (RecordExpr k fields) vars hyps n d h = let u = walk_fields_by s tests call words fields vars hyps n in record_depends u.count (field_names fields) (parts_depend fields vars hyps n d h)
     walk_depends (QuantExpr k all x a b body) vars hyps n d h =
         let v = W a vars hyps n in let w = W b vars v.hyps v.count in
@@ -81,22 +80,22 @@ module _ {N : Type 0} (s : Setting N) (tests : Tests) (call : CallWalks) (words 
         let u = W body vars2 hyps2 (suc w.count) in
         let g1 = up a vars hyps n in let g2 = up b vars v.hyps v.count in let g3 = up body vars2 hyps2 (suc w.count) in
         let inside = put_data x d (int_sorted (int_name_sorted word w.count)) in
-        quantified_depends u.count all word w.count {v.term} {w.term} {u.term} (is a vars hyps n d) (is b vars v.hyps v.count d) (is body vars2 hyps2 (suc w.count) inside)
-            (depends_more v.count u.count {v.term} (omega (arith, g2, g3)) (walk_depends a vars hyps n d h))
-            (depends_more w.count u.count {w.term} (omega (arith, g3)) (walk_depends b vars v.hyps v.count d (all_more n v.count vars g1 h)))
-            (walk_depends body vars2 hyps2 (suc w.count) inside (put_depends (suc w.count) vars x (int i) (all_more n (suc w.count) vars (omega (arith, g1, g2)) h) (int_depends (suc w.count) {i} (name_rests word w.count (suc w.count) (omega arith)))))
+        quantified_depends u.count all word w.count (v.term) (w.term) (u.term) (is a vars hyps n d) (is b vars v.hyps v.count d) (is body vars2 hyps2 (suc w.count) inside)
+        (depends_more v.count u.count (v.term) (omega (arith, g2, g3)) (walk_depends a vars hyps n d h))
+        (depends_more w.count u.count (w.term) (omega (arith, g3)) (walk_depends b vars v.hyps v.count d (all_more n v.count vars g1 h)))
+        (walk_depends body vars2 hyps2 (suc w.count) inside (put_depends (suc w.count) vars x (int i) (all_more n (suc w.count) vars (omega (arith, g1, g2)) h) (int_depends (suc w.count) (i) (name_rests word w.count (suc w.count) (omega arith)))))
 
     pub all_depend : (es : Exprs N) (vars : Vars) (hyps : List Term) (n : ℕ) → AreData vars → AllDepend n vars → EachDepends (walk_all_by s tests call words es vars hyps n).count (walk_all_by s tests call words es vars hyps n).terms
     all_depend NoExprs vars hyps n d h = none_depends
     all_depend (MoreExprs e es) vars hyps n d h =
         let v = W e vars hyps n in let u = walk_all_by s tests call words es vars v.hyps v.count in
-        more_depends (depends_more v.count u.count {v.term} (all_grow s tests call words tests_grow calls_grow es vars v.hyps v.count) (walk_depends e vars hyps n d h)) (all_depend es vars v.hyps v.count d (all_more n v.count vars (up e vars hyps n) h))
+        more_depends (depends_more v.count u.count (v.term) (all_grow s tests call words tests_grow calls_grow es vars v.hyps v.count) (walk_depends e vars hyps n d h)) (all_depend es vars v.hyps v.count d (all_more n v.count vars (up e vars hyps n) h))
 
     pub parts_depend : (fs : Fields N) (vars : Vars) (hyps : List Term) (n : ℕ) → AreData vars → AllDepend n vars → EachDepends (walk_fields_by s tests call words fs vars hyps n).count (walk_fields_by s tests call words fs vars hyps n).terms
     parts_depend NoFields vars hyps n d h = none_depends
     parts_depend (MoreFields name e fs) vars hyps n d h =
         let v = W e vars hyps n in let u = walk_fields_by s tests call words fs vars v.hyps v.count in
-        more_depends (depends_more v.count u.count {v.term} (fields_grow s tests call words tests_grow calls_grow fs vars v.hyps v.count) (walk_depends e vars hyps n d h)) (parts_depend fs vars v.hyps v.count d (all_more n v.count vars (up e vars hyps n) h))
+        more_depends (depends_more v.count u.count (v.term) (fields_grow s tests call words tests_grow calls_grow fs vars v.hyps v.count) (walk_depends e vars hyps n d h)) (parts_depend fs vars v.hyps v.count d (all_more n v.count vars (up e vars hyps n) h))
 
 -- ---- calls
 
@@ -124,7 +123,7 @@ pub terms_depend : TermsDependOnNamesBelow
 terms_depend p words e vars hyps n are h =
     let s = p.setting in
     subst (λ (r : Walked). Depends r.count r.term) (sym (walk_is s (call_walk s p.routines) words e vars hyps n))
-        (walk_depends s (in_type s) (call_walk s p.routines) words (λ t v i. in_type_grows s t v i) (λ t i v k. holds_sorted (named_sorted s) t i k)
-            (λ t i v k g. holds_rests (named_in s) (named_sorted s) (λ number j u. named_grows s (length s.types) number j u) (λ number j u l m. named_rests s (length s.types) number j u l m) t i v k g)
-            (λ f at ts hs i. call_grows s p.routines f at ts hs i) (λ f at i ts hs all. call_sorted s p.routines f at ts hs i) (λ f at ts hs i. callee_depends s (callee p.routines f) at ts hs i)
-            e vars hyps n (are_data vars are) h)
+    (walk_depends s (in_type s) (call_walk s p.routines) words (λ t v i. in_type_grows s t v i) (λ t i v k. holds_sorted (named_sorted s) t i k)
+    (λ t i v k g. holds_rests (named_in s) (named_sorted s) (λ number j u. named_grows s (length s.types) number j u) (λ number j u l m. named_rests s (length s.types) number j u l m) t i v k g)
+    (λ f at ts hs i. call_grows s p.routines f at ts hs i) (λ f at i ts hs all. call_sorted s p.routines f at ts hs i) (λ f at ts hs i. callee_depends s (callee p.routines f) at ts hs i)
+    e vars hyps n (are_data vars are) h)
