@@ -45,7 +45,7 @@ some_same : (a b : Datum) → ◌≡◌ {A = Option Datum} (Some a) (Some b) →
 some_same a b e = cc
 
 -- a variable that may stand for the result
-stand_if : (n : ℕ) (names : Names) (vars : Vars) (seen : ℕ → Bool) (st : sem.Store) (x : Option ℕ) (t : Term) (d : Datum) → Stand n names vars seen st → Means n names t d → Stand n names (put_if vars x t) (also_if x seen) (set_if st x (Some d))
+pub stand_if : (n : ℕ) (names : Names) (vars : Vars) (seen : ℕ → Bool) (st : sem.Store) (x : Option ℕ) (t : Term) (d : Datum) → Stand n names vars seen st → Means n names t d → Stand n names (put_if vars x t) (also_if x seen) (set_if st x (Some d))
 stand_if n names vars seen st None t d h g = h
 stand_if n names vars seen st (Some x) t d h g = stand_put n names vars seen st x t d h g
 

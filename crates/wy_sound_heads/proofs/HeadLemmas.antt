@@ -178,7 +178,7 @@ heads_sound b members told written body p n m names first s le right da here tur
 
     from_entry : (y : ℕ) (d : Datum) → is_set p.set y ≡ true → slot s y ≡ Some d → (y < 0) ⊎ (assigns_in y body ≡ false) → Means m here.later (variable p.vars y) d
     from_entry y d see e (inl lt) = absurd (omega (arith, lt))
-    from_entry y d see e (inr st) = here.stand y d see (sym (turn.kept y st) ∙ e)
+    from_entry y d see e (inr st) = here.stand y d see (sym (turn.kept y see st) ∙ e)
 
     up_to : (y : ℕ) → (y < 0 + bound_in body) ⊎ (assigns_in y body ≡ false)
     up_to y = by (assigns_in y body) refl where

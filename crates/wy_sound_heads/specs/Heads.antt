@@ -15,9 +15,9 @@ use Rattle.wy_sound_expressions.specs.Written.{IsWritten}
 use Rattle.wy_sound_expressions.specs.Laws.{NamesTold, AreValTerms}
 use Rattle.wy_sound_joins.specs.Points.{At}
 
--- a store at a turn of the loop: what the body doesn't assign is as at the entry, and each variable that was marked there has a value of its declared type
+-- a store at a turn of the loop: of the variables that were marked at the entry, those that the body doesn't assign are as they were there, and each has a value of its declared type
 pub record IsTurn (b : Body Node) (members : ℕ → Datum → Bool) (body : Stmts Node) (p : Spot) (first s : Store) : Type 0 where
-  pub kept : (x : ℕ) → assigns_in x body ≡ false → slot s x ≡ slot first x
+  pub kept : (x : ℕ) → is_set p.set x ≡ true → assigns_in x body ≡ false → slot s x ≡ slot first x
   pub valued : (x : ℕ) → is_set p.set x ≡ true → (d : Datum) × (slot s x ≡ Some d)
   pub typed : (x : ℕ) (d : Datum) → is_set p.set x ≡ true → slot s x ≡ Some d → is_in members (type_at b.types x) d ≡ true
 
