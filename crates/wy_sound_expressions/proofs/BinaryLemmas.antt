@@ -37,7 +37,6 @@ right_known Or m names t hyps d h g e = λ u a. assumed_true u hyps (denied (for
 right_known o m names t hyps d h g e = h
 
 module _ (members : ℕ → Datum → Bool) (q : Bool) (n : ℕ) (names : Names) (right : names.is_member ≡ members) (at1 at2 : ℕ) (numbers : Bool) (v w : Walked) (le1 : n ≤ v.count) (le2 : v.count ≤ w.count) (b : Run Datum) where
-
   abbrev made : Op → Term
   made o = op.operated o numbers v.term w.term
 
@@ -51,8 +50,8 @@ module _ (members : ℕ → Datum → Bool) (q : Bool) (n : ℕ) (names : Names)
   applied_right : (o : Op) (d e : Datum) (k : Meter) → Two q n names w.count (behind_hyps o v.hyps w.hyps) v.term w.term d e → Takes o numbers d e → Good (Goals o) (applied o at2 d e k) (Ends o)
   applied_right o d e k two takes =
       finish members q n names w.count (behind_hyps o v.hyps w.hyps) two.later right two.goes two.known at1 (operator_goals o w.term (made o)) (made o)
-          (operated_sorted o numbers (record { has = two.first_is }) (record { has = two.second_is })).has (applied o at2 d e) k
-          (λ u a. operator u o numbers v.term w.term at2 d e (two.first u a) (two.second u a) takes)
+      (operated_sorted o numbers (record { has = two.first_is }) (record { has = two.second_is })).has (applied o at2 d e) k
+      (λ u a. operator u o numbers v.term w.term at2 d e (two.first u a) (two.second u a) takes)
 
   abbrev Left : Datum → Type 0
   Left d = Ok q n names v.count v.hyps v.term d
@@ -66,9 +65,9 @@ module _ (members : ℕ → Datum → Bool) (q : Bool) (n : ℕ) (names : Names)
       → Good (After o) (second o at2 b d l) (Ends o)
   seconded o d x l g two takes =
       good_bind (After o) (AreTrueBy members w.owed) (Goals o) (b l) (λ e k. applied o at2 d e k) (Ok q v.count x.later w.count w.hyps w.term) (Ends o)
-          (true_left members w.owed (owe_goals at1 (behind_hyps o v.hyps w.hyps) (operator_goals o w.term (made o))))
-          (true_right members w.owed (owe_goals at1 (behind_hyps o v.hyps w.hyps) (operator_goals o w.term (made o))))
-          g (λ e j eq y. applied_right o d e j (two e y) (takes e j eq))
+      (true_left members w.owed (owe_goals at1 (behind_hyps o v.hyps w.hyps) (operator_goals o w.term (made o))))
+      (true_right members w.owed (owe_goals at1 (behind_hyps o v.hyps w.hyps) (operator_goals o w.term (made o))))
+      g (λ e j eq y. applied_right o d e j (two e y) (takes e j eq))
 
   both_here : (d e : Datum) (x : Left d) → Ok q v.count x.later w.count w.hyps w.term e → Two q n names w.count w.hyps v.term w.term d e
   both_here d e x y = two_of q n names v.count w.count v.hyps w.hyps v.term w.term d e le1 le2 x y
@@ -95,7 +94,7 @@ module _ (members : ℕ → Datum → Bool) (q : Bool) (n : ℕ) (names : Names)
   and_case w_is (Truth true) h x k g = g refl
   and_case w_is (Truth false) h x k g =
       decided And false x k refl refl (operated_sorted And numbers (record { has = x.is }) (record { has = w_is })).has
-          (λ u a. follows_done u (Truth false) (made And) (and_false u numbers v.term w.term (x.means u (agree_less v.count w.count x.later u le2 a))))
+      (λ u a. follows_done u (Truth false) (made And) (and_false u numbers v.term w.term (x.means u (agree_less v.count w.count x.later u le2 a))))
   and_case w_is Null h x k g = absurd h
   and_case w_is (Whole z) h x k g = absurd h
   and_case w_is (Array ds) h x k g = absurd h
@@ -105,7 +104,7 @@ module _ (members : ℕ → Datum → Bool) (q : Bool) (n : ℕ) (names : Names)
   or_case w_is (Truth false) h x k g = g refl
   or_case w_is (Truth true) h x k g =
       decided Or true x k refl refl (operated_sorted Or numbers (record { has = x.is }) (record { has = w_is })).has
-          (λ u a. follows_done u (Truth true) (made Or) (or_true u numbers v.term w.term (x.means u (agree_less v.count w.count x.later u le2 a))))
+      (λ u a. follows_done u (Truth true) (made Or) (or_true u numbers v.term w.term (x.means u (agree_less v.count w.count x.later u le2 a))))
   or_case w_is Null h x k g = absurd h
   or_case w_is (Whole z) h x k g = absurd h
   or_case w_is (Array ds) h x k g = absurd h
@@ -132,5 +131,5 @@ module _ (members : ℕ → Datum → Bool) (q : Bool) (n : ℕ) (names : Names)
   binary o w_is a g left next both =
       let goals = owe_goals at1 (behind_hyps o v.hyps w.hyps) (operator_goals o w.term (made o)) in
       good_bind (All o) (AreTrueBy members v.owed) (After o) a (operated o at2 b) Left (Ends o)
-          (λ t. true_left members v.owed w.owed (true_left members (v.owed ++ w.owed) goals t)) (true_after members v.owed w.owed goals) g
-          (λ d k eq x. operated_right o w_is a d k eq (left d k eq) next both x)
+      (λ t. true_left members v.owed w.owed (true_left members (v.owed ++ w.owed) goals t)) (true_after members v.owed w.owed goals) g
+      (λ d k eq x. operated_right o w_is a d k eq (left d k eq) next both x)

@@ -33,7 +33,6 @@ done_fault a k j kind at e = absurd cc
 
 module _ (members : ℕ → Datum → Bool) (m : ℕ) (hyps : List Term) (later : Names) (right : later.is_member ≡ members) (known : Known m later hyps)
     (at : ℕ) (gs : List Goals) (made : Term) (run : Run Datum) (k : Meter) (follows : (u : Names) → Agree m later u → Follows u (all_goals gs) run made) where
-
   here_true : (d : Datum) (j : Meter) → run k ≡ Done d j → (u : Names) → Agree m later u → AllTrue u (all_goals gs)
   here_true d j e u a = by (follows u a k) where
     by : (AllTrue u (all_goals gs) × (run k ≡ Done (datum_of u made) k)) ⊎ ((AllTrue u (all_goals gs) → ⊥) × IsFault (run k)) → AllTrue u (all_goals gs)
@@ -101,9 +100,9 @@ pub pair : (members : ℕ → Datum → Bool) (q : Bool) (n : ℕ) (names : Name
     → Good (AreTrueBy members ((v.owed ++ r.owed) ++ goals)) (a >>= (λ c j. b j >>= f c)) P
 pair members q n names v r goals a b f P le1 le2 g h end =
     good_bind (AreTrueBy members ((v.owed ++ r.owed) ++ goals)) (AreTrueBy members v.owed) (AreTrueBy members (r.owed ++ goals)) a (λ c j. b j >>= f c) (Ok q n names v.count v.hyps v.term) P
-        (λ t. true_left members v.owed r.owed (true_left members (v.owed ++ r.owed) goals t)) (true_after members v.owed r.owed goals) g (λ c j eq x.
+    (λ t. true_left members v.owed r.owed (true_left members (v.owed ++ r.owed) goals t)) (true_after members v.owed r.owed goals) g (λ c j eq x.
     good_bind (AreTrueBy members (r.owed ++ goals)) (AreTrueBy members r.owed) (AreTrueBy members goals) (b j) (f c) (Ok q v.count x.later r.count r.hyps r.term) P
-        (true_left members r.owed goals) (true_right members r.owed goals) (h c x j) (λ d i e y.
+    (true_left members r.owed goals) (true_right members r.owed goals) (h c x j) (λ d i e y.
     end c d j i eq e (two_of q n names v.count r.count v.hyps r.hyps v.term r.term c d le1 le2 x y)))
 
 -- the same, where what is owed leans to the right
@@ -114,9 +113,9 @@ pub pair_right : (members : ℕ → Datum → Bool) (q : Bool) (n : ℕ) (names 
     → Good (AreTrueBy members (v.owed ++ (r.owed ++ goals))) (a >>= (λ c j. b j >>= f c)) P
 pair_right members q n names v r goals a b f P le1 le2 g h end =
     good_bind (AreTrueBy members (v.owed ++ (r.owed ++ goals))) (AreTrueBy members v.owed) (AreTrueBy members (r.owed ++ goals)) a (λ c j. b j >>= f c) (Ok q n names v.count v.hyps v.term) P
-        (true_left members v.owed (r.owed ++ goals)) (true_right members v.owed (r.owed ++ goals)) g (λ c j eq x.
+    (true_left members v.owed (r.owed ++ goals)) (true_right members v.owed (r.owed ++ goals)) g (λ c j eq x.
     good_bind (AreTrueBy members (r.owed ++ goals)) (AreTrueBy members r.owed) (AreTrueBy members goals) (b j) (f c) (Ok q v.count x.later r.count r.hyps r.term) P
-        (true_left members r.owed goals) (true_right members r.owed goals) (h c x j) (λ d i e y.
+    (true_left members r.owed goals) (true_right members r.owed goals) (h c x j) (λ d i e y.
     end c d j i eq e (two_of q n names v.count r.count v.hyps r.hyps v.term r.term c d le1 le2 x y)))
 
 -- an answer that is a number

@@ -13,7 +13,6 @@ use Rattle.wy_sound_expressions.proofs.GenericWalks.{Tests, walk_by, walk_all_by
 module _ {N : Type 0} (s : Setting N) (tests : Tests) (call : CallWalks) (words : List (List ℕ))
     (tests_grow : (t : Ty) (v : Term) (n : ℕ) → n ≤ (tests t v n).count)
     (calls_grow : (f at : ℕ) (ts hyps : List Term) (n : ℕ) → n ≤ (call f at ts hyps n).count) where
-
   mutual
     pub walk_grows : (e : Expr N) (vars : Vars) (hyps : List Term) (n : ℕ) → n ≤ (walk_by s tests call words e vars hyps n).count
     walk_grows (NullExpr k) vars hyps n = omega arith

@@ -77,7 +77,7 @@ each_is (item d ds) test p i h =
     let at0 : i + 0 ≡ i = omega arith in
     let first : test (pos i) ≡ p d = subst (λ (m : ℕ). test (pos m) ≡ p d) at0 (h 0 (omega arith)) in
     let rest : each_from (pos (i + 1)) (shapes.length_of ds) test ≡ each_item p ds =
-        each_is ds test p (i + 1) (λ j lt. let e : i + suc j ≡ i + 1 + j = omega arith in subst (λ (m : ℕ). test (pos m) ≡ p (shapes.nth ds j)) e (h (suc j) (omega arith))) in
+    each_is ds test p (i + 1) (λ j lt. let e : i + suc j ≡ i + 1 + j = omega arith in subst (λ (m : ℕ). test (pos m) ≡ p (shapes.nth ds j)) e (h (suc j) (omega arith))) in
     rw (first, rest) refl
 
 far : (n : ℕ) → distance (pos n -ℤ pos 0) ≡ n
@@ -134,7 +134,6 @@ finds (field n d fs) (o ∷ ns) e h =
 
 module _ (members : ℕ → Datum → Bool) (named : Naming) (formulas : SaysFormulas named) (named_grows : (number n : ℕ) (v : Term) → n ≤ (named number v n).count)
     (told : (number n : ℕ) (v : Term) (u : Names) (d : Datum) → u.is_member ≡ members → IsOf val_sort v → Means n u v d → true_at u (named number v n).term ≡ members number d) where
-
   grows : (t : Ty) (v : Term) (n : ℕ) → n ≤ (holds named t v n).count
   grows t v n = holds_grows named named_grows t v n
 
@@ -176,9 +175,9 @@ module _ (members : ℕ → Datum → Bool) (named : Naming) (formulas : SaysFor
       at (Array ds) g =
           ap (λ (m : ℕ). int_le (pos m) (pos 9223372036854775807) && each_from (pos 0) (distance (pos (shapes.length_of ds) -ℤ pos 0)) (λ i. true_at (with_number u k_word n i) (holds named t (get v (int_name k_word n)) (suc n)).term)) (length_is ds)
           ∙ ap (λ (b : Bool). int_le (pos (values.length_of ds)) (pos 9223372036854775807) && b)
-              (ap (λ (m : ℕ). each_from (pos 0) m (λ i. true_at (with_number u k_word n i) (holds named t (get v (int_name k_word n)) (suc n)).term)) (far (shapes.length_of ds))
-              ∙ each_is ds (λ i. true_at (with_number u k_word n i) (holds named t (get v (int_name k_word n)) (suc n)).term) (is_in members t) 0
-                  (λ j lt. let e : 0 + j ≡ j = omega arith in subst (λ (m : ℕ). true_at (with_number u k_word n (pos m)) (holds named t (get v (int_name k_word n)) (suc n)).term ≡ is_in members t (shapes.nth ds j)) (sym e) (g j ds refl)))
+          (ap (λ (m : ℕ). each_from (pos 0) m (λ i. true_at (with_number u k_word n i) (holds named t (get v (int_name k_word n)) (suc n)).term)) (far (shapes.length_of ds))
+          ∙ each_is ds (λ i. true_at (with_number u k_word n i) (holds named t (get v (int_name k_word n)) (suc n)).term) (is_in members t) 0
+          (λ j lt. let e : 0 + j ≡ j = omega arith in subst (λ (m : ℕ). true_at (with_number u k_word n (pos m)) (holds named t (get v (int_name k_word n)) (suc n)).term ≡ is_in members t (shapes.nth ds j)) (sym e) (g j ds refl)))
 
   record_told : (fields : FieldTys) (n : ℕ) (v : Term) (u : Names) (d : Datum) → Means n u v d → ((fs : Fields) → d ≡ Record fs → shapes.has_names fs (names_of fields) ≡ true → all u (fields_hold named fields v n).terms ≡ fields_in members fields fs)
       → Told (RecordTy fields) n v u d
@@ -190,6 +189,7 @@ module _ (members : ℕ → Datum → Bool) (named : Naming) (formulas : SaysFor
       both : (a c x y : Bool) → a ≡ c → (a ≡ true → x ≡ y) → (a && x) ≡ (c && y)
       both true c x y e f = subst (λ (b : Bool). x ≡ (b && y)) e (f refl)
       both false c x y e f = subst (λ (b : Bool). false ≡ (b && y)) e refl
+
       at : (d : Datum) → ((fs : Fields) → d ≡ Record fs → shapes.has_names fs (names_of fields) ≡ true → all u (fields_hold named fields v n).terms ≡ fields_in members fields fs)
           → (shapes.is_of_kind (record_kind (names_of fields)) d && all u (fields_hold named fields v n).terms) ≡ is_in members (RecordTy fields) d
       at Null g = refl
@@ -236,6 +236,6 @@ module _ (members : ℕ → Datum → Bool) (named : Naming) (formulas : SaysFor
         let first = holds named t (field_term name v) n in
         let g = grows t (field_term name v) n in
         let here : Means n u (field_term name v) d = λ w a.
-            field_means w name v ∙ ap (λ (x : Datum). shapes.field_in x name) (h w a) ∙ subst (λ (x : List ℕ). shapes.field_of whole x ≡ d) (same_bytes o name two.0) f.0 in
+        field_means w name v ∙ ap (λ (x : Datum). shapes.field_in x name) (h w a) ∙ subst (λ (x : List ℕ). shapes.field_of whole x ≡ d) (same_bytes o name two.0) f.0 in
         ap (λ (b : Bool). b && all u (fields_hold named fields v first.count).terms) (type_told t n (field_term name v) u d wr.0 right (field_sorted name is) here)
         ∙ ap (λ (b : Bool). is_in members t d && b) (fields_told fields first.count v u whole fs wr.1 right is (means_later n first.count u u v (Record whole) g (agree_refl n u) h) two.1 f.1)

@@ -111,5 +111,5 @@ also_other x seen y e apart = by (x == y) refl e where
 pub stand_put : (n : ℕ) (names : Names) (vars : Vars) (seen : ℕ → Bool) (s : Store) (x : ℕ) (t : Term) (d : Datum) → Stand n names vars seen s → Means n names t d → Stand n names (put vars x t) (also x seen) (store.put s x (Some d))
 stand_put n names vars seen s x t d h g y e see q =
     put_at vars s x t (Some d) y e q (λ u c. Means n names u c) (λ c is p. subst (λ (b : Datum). Means n names t b) (same d c p) g) (λ c apart p. h y c (also_other x seen y see apart) p) where
-  same : (a b : Datum) → ◌≡◌ {A = Option Datum} (Some a) (Some b) → a ≡ b
-  same a b p = cc
+      same : (a b : Datum) → ◌≡◌ {A = Option Datum} (Some a) (Some b) → a ≡ b
+      same a b p = cc

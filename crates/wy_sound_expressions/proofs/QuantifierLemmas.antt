@@ -68,7 +68,6 @@ abbrev pub AllTurns : Bool → ℕ → Names → List ℕ → ℕ → Term → �
 AllTurns all m names word key f x j v = (b : Bool) × (v ≡ Truth b) × ((u : Names) → Agree m names u → range all x j (λ i. holds (with_number u word key i) (formula f)) ≡ b)
 
 module _ (A : Type 0) (m : ℕ) (names : Names) (word : List ℕ) (key : ℕ) (f : Term) (at : ℕ) (body : ℤ → Run Datum) where
-
   range_step : (all b : Bool) (u : Names) (x : ℤ) (j : ℕ) → holds (with_number u word key x) (formula f) ≡ b → agrees all b ≡ true → range all x (suc j) (λ i. holds (with_number u word key i) (formula f)) ≡ range all (x +ℤ pos 1) j (λ i. holds (with_number u word key i) (formula f))
   range_step true true u x j h e = rw h refl
   range_step false false u x j h e = rw h refl
@@ -91,7 +90,7 @@ module _ (A : Type 0) (m : ℕ) (names : Names) (word : List ℕ) (key : ℕ) (f
       → Good A (as_truth at v (λ b. choose (agrees all b) (each all at body (x +ℤ pos 1) j) (Done (Truth b))) k) (AllTurns all m names word key f x (suc j))
   truth_step all v x j k t g =
       subst (λ (d : Datum). Good A (as_truth at d (λ b. choose (agrees all b) (each all at body (x +ℤ pos 1) j) (Done (Truth b))) k) (AllTurns all m names word key f x (suc j))) (sym t.1)
-          (step all t.0 (agrees all t.0) x j (each all at body (x +ℤ pos 1) j) k refl t.2 g)
+      (step all t.0 (agrees all t.0) x j (each all at body (x +ℤ pos 1) j) k refl t.2 g)
 
   none_left : (all : Bool) (x : ℤ) → AllTurns all m names word key f x zero (Truth all)
   none_left true x = (true, refl, λ u a. refl)
@@ -102,8 +101,8 @@ module _ (A : Type 0) (m : ℕ) (names : Names) (word : List ℕ) (key : ℕ) (f
   good_each all lo y h zero x k le room = none_left all x
   good_each all lo y h (suc j) x k le room =
       good_bind A A A (body x k) (λ v. as_truth at v (λ b. choose (agrees all b) (each all at body (x +ℤ pos 1) j) (Done (Truth b)))) (Turn m names word key f x) (AllTurns all m names word key f x (suc j)) (λ a. a) (λ a. a)
-          (h x le (room_first j x y room) k)
-          (λ v l eq t. truth_step all v x j l t (good_each all lo y h j (x +ℤ pos 1) l (le_next lo x le) (room_next j x y room)))
+      (h x le (room_first j x y room) k)
+      (λ v l eq t. truth_step all v x j l t (good_each all lo y h j (x +ℤ pos 1) l (le_next lo x le) (room_next j x y room)))
 
 -- ---- the body
 
@@ -120,9 +119,9 @@ module _ (n key : ℕ) (names later : Names) (word : List ℕ) (i : ℤ) (le : n
       let there : Agree key later u = agree_trans key (suc key) later bound_at u (omega arith) (agree_number key later word key i (omega arith)) b in
       let is : number u (int_name word key) ≡ i = b.number_of word key (omega arith) ∙ number_at later word key i in
       let low : holds u (at_most (num s) (int_name word key)) ≡ true =
-          at_most_means u (num s) (int_name word key) ∙ ap (λ (z : ℤ). int_le z (number u (int_name word key))) (num_means u s ∙ ap number_in (ms u there)) ∙ ap (int_le x) is ∙ lo in
+      at_most_means u (num s) (int_name word key) ∙ ap (λ (z : ℤ). int_le z (number u (int_name word key))) (num_means u s ∙ ap number_in (ms u there)) ∙ ap (int_le x) is ∙ lo in
       let high : holds u (less_than (int_name word key) (num t)) ≡ true =
-          less_means u (int_name word key) (num t) ∙ ap (λ (z : ℤ). int_lt z (number u (num t))) is ∙ ap (int_lt i) (num_means u t ∙ ap number_in (mt u there)) ∙ hi in
+      less_means u (int_name word key) (num t) ∙ ap (λ (z : ℤ). int_lt z (number u (num t))) is ∙ ap (int_lt i) (num_means u t ∙ ap number_in (mt u there)) ∙ hi in
       assumed_true u (assume hyps (at_most (num s) (int_name word key))) (less_than (int_name word key) (num t)) (assumed_true u hyps (at_most (num s) (int_name word key)) (h u there) low) high
 
   -- what a turn of the body gives, where nothing is called

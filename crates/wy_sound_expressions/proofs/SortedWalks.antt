@@ -17,7 +17,6 @@ use Rattle.wy_sound_expressions.proofs.GenericWalks.{Tests, walk_by, walk_all_by
 module _ {N : Type 0} (s : Setting N) (tests : Tests) (call : CallWalks) (words : List (List ℕ))
     (formulas : (t : Ty) (n : ℕ) (v : Term) → IsOf val_sort v → IsOf formula_sort (tests t v n).term)
     (calls_sorted : (f at n : ℕ) (ts hyps : List Term) → AllOf val_sort ts → IsOf val_sort (call f at ts hyps n).term) where
-
   mutual
     pub walk_sorted : (e : Expr N) (vars : Vars) (hyps : List Term) (n : ℕ) → AreData vars → IsOf val_sort (walk_by s tests call words e vars hyps n).term
     walk_sorted (NullExpr k) vars hyps n d = null_sorted
@@ -45,7 +44,7 @@ module _ {N : Type 0} (s : Setting N) (tests : Tests) (call : CallWalks) (words 
         let u = walk_by s tests call words a vars hyps n in let w = walk_by s tests call words b vars u.hyps u.count in
         let name = int_name (word_at words x) w.count in
         quantified_sorted all (word_at words x) w.count (walk_sorted a vars hyps n d) (walk_sorted b vars u.hyps u.count d)
-            (walk_sorted body (put vars x (int name)) (assume (assume w.hyps (at_most (num u.term) name)) (less_than name (num w.term))) (suc w.count) (put_data x d (int_sorted (int_name_sorted (word_at words x) w.count))))
+        (walk_sorted body (put vars x (int name)) (assume (assume w.hyps (at_most (num u.term) name)) (less_than name (num w.term))) (suc w.count) (put_data x d (int_sorted (int_name_sorted (word_at words x) w.count))))
 
     pub all_sorted : (es : Exprs N) (vars : Vars) (hyps : List Term) (n : ℕ) → AreData vars → AllOf val_sort (walk_all_by s tests call words es vars hyps n).terms
     all_sorted NoExprs vars hyps n d = none

@@ -54,4 +54,4 @@ ExpressionsAreSound =
     → (words : List (List ℕ)) (e : Expr Node) (vars : Vars) (hyps : List Term) (n : ℕ) (names : Names) (seen : ℕ → Bool) (s : sem.Store) (m : Meter)
     → Suits (kinds_of w paid p.setting members) true seen e s → names.is_member ≡ members → AreValTerms vars → Stand n names vars seen s → Known n names hyps
     → Good (AreTrueBy members (walk_expr p words e vars hyps n).owed) (sem.eval w paid e s m)
-        (Ok true n names (walk_expr p words e vars hyps n).count (walk_expr p words e vars hyps n).hyps (walk_expr p words e vars hyps n).term)
+    (Ok true n names (walk_expr p words e vars hyps n).count (walk_expr p words e vars hyps n).hyps (walk_expr p words e vars hyps n).term)

@@ -46,7 +46,6 @@ rest_rise n ns rise = rise.1
 not_greater : (a b : List ℕ) → slice_cmp nat_cmp a b ≡ Less → is_lt (slice_cmp nat_cmp b a) ≡ false
 not_greater a b e = ap is_lt (nat_list_cmp_total.antisymm b a ∙ ap ordering_reverse e)
 
-
 -- a name that is found behind a lesser one isn't before that
 found_behind : (n name : List ℕ) (fs : Fields) (d : Datum) → Below n (names_of fs) → find fs name ≡ Some d → is_lt (slice_cmp nat_cmp name n) ≡ false
 found_behind n name no_fields d b e = absurd cc
