@@ -36,7 +36,7 @@ module _ {N : Type 0} (w : sem.Setting N) (s : Setting N) (members : ℕ → Dat
       → (b : Bool) (m j : Meter) → sem.eval (sem.quiet w) false e st m ≡ Done (Truth b) j → (u : Names) → Agree (clause_formula s (named_in s) words e vars n).count names u → true_at u (clause_formula s (named_in s) words e vars n).term ≡ b
   formula_at e vars n names seen st fits right da sd b m j eq u a = formula_is w s members (named_in s) (named_sorted s) named_in_grows told words e vars n names seen st fits right da sd b m j eq u a
 
-  goals_at : (e : Expr N) (vars : Vars) (n : ℕ) (names : Names) (seen : ℕ → Bool) (st : sem.Store) → Fits w s members seen e st → names.is_member ≡ members → AreData vars → Stand n names vars seen st
+  pub goals_at : (e : Expr N) (vars : Vars) (n : ℕ) (names : Names) (seen : ℕ → Bool) (st : sem.Store) → Fits w s members seen e st → names.is_member ≡ members → AreData vars → Stand n names vars seen st
       → (b : Bool) (m j : Meter) → sem.eval (sem.quiet w) false e st m ≡ Done (Truth b) j → (u : Names) → Agree (goals s words e vars n).count names u → all u (goals s words e vars n).terms ≡ b
   goals_at e vars n names seen st fits right da sd b m j eq u a =
       let say = goals_say s words e vars n in

@@ -4,8 +4,9 @@ use Rattle.wy_sem.specs.Meter.{Done}
 use Rattle.wy_conditions.specs.Clauses.{owe_clauses}
 use Rattle.wy_sound_expressions.specs.Truth.{AreTrueBy}
 use Rattle.wy_sound_expressions.proofs.LawLemmas.{are_data}
-use Rattle.wy_sound_clauses.specs.ClauseLaws.{Here, ArePassed, OwedClausesPass, WalkedClausesAreSafe, AssumedClausesAreKnown}
+use Rattle.wy_sound_clauses.specs.ClauseLaws.{Here, ArePassed, OwedClausesPass, WalkedClausesAreSafe, AssumedClausesAreKnown, OwedClausesHold}
 use Rattle.wy_sound_clauses.proofs.ClauseLemmas.{clauses_owed, clauses_assumed}
+use Rattle.wy_sound_clauses.proofs.HoldLemmas.{owed_hold}
 use Rattle.wy_sound_clauses.proofs.WalkedLemmas.{walked_safe, walked_known}
 
 pub owed_pass : OwedClausesPass
@@ -22,3 +23,6 @@ walked_are_safe = record {
 pub assumed_are_known : AssumedClausesAreKnown
 assumed_are_known w s members words es vars hyps n names seen st here pass =
     clauses_assumed w s members here.told words vars names seen st here.right (are_data vars here.terms) es n hyps here.fit pass here.stand here.known
+
+pub owed_are_true : OwedClausesHold
+owed_are_true w s members words es vars hyps n names seen st here kind at t = owed_hold w s members here.told words kind at vars names seen st here.right (are_data vars here.terms) es n hyps here.fit here.stand here.known t

@@ -16,7 +16,7 @@ use Rattle.wy_conditions.specs.Statements.{walk_clauses}
 use Rattle.wy_sound_expressions.specs.Names.{Known, Stand}
 use Rattle.wy_sound_expressions.specs.Truth.{AreTrueBy, Good}
 use Rattle.wy_sound_expressions.specs.Laws.{NamesTold, AreValTerms}
-use Rattle.wy_sound_clauses.specs.Clauses.{AllFit, AreSafe, AllPass}
+use Rattle.wy_sound_clauses.specs.Clauses.{AllFit, AreSafe, AllPass, AreTrueIfDone}
 
 -- a point at which clauses stand: names at which hypotheses are known, and at which variables stand for a store that the clauses fit
 pub record Here (w : sem.Setting Node) (s : Setting Node) (members : ℕ → Datum → Bool) (es : List (Expr Node)) (vars : Vars) (hyps : List Term) (n : ℕ) (names : Names) (seen : ℕ → Bool) (st : sem.Store) : Type 0 where
@@ -50,3 +50,9 @@ abbrev pub AssumedClausesAreKnown : Type 0
 AssumedClausesAreKnown =
     (w : sem.Setting Node) (s : Setting Node) (members : ℕ → Datum → Bool) (words : List (List ℕ)) (es : List (Expr Node)) (vars : Vars) (hyps : List Term) (n : ℕ) (names : Names) (seen : ℕ → Bool) (st : sem.Store)
     → Here w s members es vars hyps n names seen st → AllPass w es st → Known (assume_clauses s words es vars hyps n).count names (assume_clauses s words es vars hyps n).hyps
+
+-- clauses that are owed where what is owed is true: each answer of each is true
+abbrev pub OwedClausesHold : Type 0
+OwedClausesHold =
+    (w : sem.Setting Node) (s : Setting Node) (members : ℕ → Datum → Bool) (words : List (List ℕ)) (es : List (Expr Node)) (vars : Vars) (hyps : List Term) (n : ℕ) (names : Names) (seen : ℕ → Bool) (st : sem.Store)
+    → Here w s members es vars hyps n names seen st → (kind : CondKind) (at : ℕ) → AreTrueBy members (owe_clauses s kind at words es vars hyps n).owed → AreTrueIfDone w es st

@@ -46,3 +46,11 @@ AllPass w (e ∷ es) st = Passes w e st × AllPass w es st
 abbrev pub AreSafe : {N : Type 0} → sem.Setting N → List (Expr N) → sem.Store → Type 0
 AreSafe w [] st = Unit {0}
 AreSafe w (e ∷ es) st = IsSafe w e st × (Passes w e st → AreSafe w es st)
+
+-- each answer of the clause is true
+abbrev pub IsTrueIfDone : {N : Type 0} → sem.Setting N → Expr N → sem.Store → Type 0
+IsTrueIfDone w e st = (v : Datum) (m k : Meter) → sem.eval (sem.quiet w) false e st m ≡ Done v k → v ≡ Truth true
+
+abbrev pub AreTrueIfDone : {N : Type 0} → sem.Setting N → List (Expr N) → sem.Store → Type 0
+AreTrueIfDone w [] st = Unit {0}
+AreTrueIfDone w (e ∷ es) st = IsTrueIfDone w e st × AreTrueIfDone w es st

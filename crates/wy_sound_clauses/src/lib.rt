@@ -7,4 +7,6 @@
 
 mod law;
 
-pub use law::{assumed_clauses_are_known, owed_clauses_pass, walked_clauses_are_safe};
+pub use law::{
+    assumed_clauses_are_known, owed_clauses_hold, owed_clauses_pass, walked_clauses_are_safe,
+};

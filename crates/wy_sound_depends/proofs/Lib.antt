@@ -3,3 +3,4 @@ pub mod TypeLemmas
 pub mod ValueLemmas
 pub mod NamedLemmas
 pub mod WalkLemmas
+pub mod BeginLemmas

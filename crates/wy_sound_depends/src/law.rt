@@ -1,8 +1,14 @@
-//! The law of names in terms, as the contract of a function without a body.
+//! Laws of what walks make, each as the contract of a function without a body.
+ghost use Rattle.wy_sound_depends.specs.Begins.{HypothesesGrow};
 ghost use Rattle.wy_sound_depends.specs.Depends.{TermsDependOnNamesBelow};
 
 /// The term of an expression means the same at any names that agree below the count behind its walk, whatever the others stand
 /// for, where this is so of the terms of its variables.
 pub fn terms_depend_on_names_below()
     ensures depend { TermsDependOnNamesBelow }
+{}
+
+/// The hypotheses behind the walk of an expression begin with those before it.
+pub fn hypotheses_grow()
+    ensures grow { HypothesesGrow }
 {}

@@ -1,6 +1,6 @@
-//! What the term of a walk means depends on names below the walk's count alone.
+//! What the term of a walk means depends on names below the walk's count alone, and its hypotheses begin with those before it.
 #![tactic(auto)]
 
 mod law;
 
-pub use law::terms_depend_on_names_below;
+pub use law::{hypotheses_grow, terms_depend_on_names_below};
