@@ -21,20 +21,20 @@ use Rattle.wy_conditions.specs.Calls.{Walked, owe_arguments, arguments, result_o
 use Rattle.wy_conditions.specs.Walks.{WalkedAll, Goals, goals_of, range_goals, index_goals, length_goals, operator_goals, right_hyps, behind_hyps, assume_goals, walk, walk_all, walk_fields}
 use Rattle.wy_sound_depends.specs.Begins.{Begins, HypothesesGrow}
 
-begins_same : (hyps : List Term) → Begins hyps hyps
+pub begins_same : (hyps : List Term) → Begins hyps hyps
 begins_same hyps = ([], sym (append-nil hyps))
 
-begins_on : (a b c : List Term) → Begins a b → Begins b c → Begins a c
+pub begins_on : (a b c : List Term) → Begins a b → Begins b c → Begins a c
 begins_on a b c h g = (h.0 ++ g.0, g.1 ∙ ap (λ (x : List Term). x ++ g.0) h.1 ∙ append_assoc a h.0 g.0)
 
-begins_assumed : (hyps : List Term) (f : Term) → Begins hyps (assume hyps f)
+pub begins_assumed : (hyps : List Term) (f : Term) → Begins hyps (assume hyps f)
 begins_assumed hyps f = (members f, refl)
 
-begins_all : (hyps fs : List Term) → Begins hyps (assume_all hyps fs)
+pub begins_all : (hyps fs : List Term) → Begins hyps (assume_all hyps fs)
 begins_all hyps [] = begins_same hyps
 begins_all hyps (f ∷ fs) = begins_on hyps (assume hyps f) (assume_all (assume hyps f) fs) (begins_assumed hyps f) (begins_all (assume hyps f) fs)
 
-begins_goals : (hyps : List Term) (gs : List Goals) → Begins hyps (assume_goals hyps gs)
+pub begins_goals : (hyps : List Term) (gs : List Goals) → Begins hyps (assume_goals hyps gs)
 begins_goals hyps [] = begins_same hyps
 begins_goals hyps (g ∷ gs) = begins_on hyps (assume_all hyps g.goals) (assume_goals (assume_all hyps g.goals) gs) (begins_all hyps g.goals) (begins_goals (assume_all hyps g.goals) gs)
 
@@ -74,7 +74,7 @@ module _ {N : Type 0} (s : Setting N) (routines : List (Routine N)) (words : Lis
       begins_on hyps typed.hyps (assume_clauses s r.variables r.postconditions (put_if vars out.variable (val_name r.name n)) typed.hyps typed.count).hyps (begins_assumed hyps (in_type s out.ty (val_name r.name n) (suc n)).term)
       (assumed_begin r.variables r.postconditions (put_if vars out.variable (val_name r.name n)) typed.hyps typed.count)
 
-  callee_begins : (c : Callee N) (at : ℕ) (vs hyps : List Term) (n : ℕ) → Begins hyps (callee_walk s c at vs hyps n).hyps
+  pub callee_begins : (c : Callee N) (at : ℕ) (vs hyps : List Term) (n : ℕ) → Begins hyps (callee_walk s c at vs hyps n).hyps
   callee_begins (Declared r) at vs hyps n =
       let first = owe_arguments s at r.params vs hyps n in
       let vars = arguments r.params vs [] in
@@ -98,10 +98,22 @@ module _ {N : Type 0} (s : Setting N) (routines : List (Routine N)) (words : Lis
   abbrev AllFields : Fields N → Vars → List Term → ℕ → WalkedAll
   AllFields fs vars hyps n = walk_fields s (call_walk s routines) words fs vars hyps n
 
+  behind_right : (o : Op) (hyps : List Term) (v w : Walked) (made : Term) → Begins hyps v.hyps → Begins v.hyps w.hyps → Begins hyps (assume_goals w.hyps (operator_goals o w.term made))
+  behind_right o hyps v w made h g = begins_on hyps w.hyps (assume_goals w.hyps (operator_goals o w.term made)) (begins_on hyps v.hyps w.hyps h g) (begins_goals w.hyps (operator_goals o w.term made))
+
   behind_both : (o : Op) (hyps : List Term) (v w : Walked) (made : Term) → Begins hyps v.hyps → Begins (right_hyps o v.term v.hyps) w.hyps → Begins hyps (assume_goals (behind_hyps o v.hyps w.hyps) (operator_goals o w.term made))
   behind_both And hyps v w made h g = h
   behind_both Or hyps v w made h g = h
-  behind_both o hyps v w made h g = begins_on hyps w.hyps (assume_goals w.hyps (operator_goals o w.term made)) (begins_on hyps v.hyps w.hyps h g) (begins_goals w.hyps (operator_goals o w.term made))
+  behind_both Add hyps v w made h g = behind_right Add hyps v w made h g
+  behind_both Sub hyps v w made h g = behind_right Sub hyps v w made h g
+  behind_both Mul hyps v w made h g = behind_right Mul hyps v w made h g
+  behind_both Div hyps v w made h g = behind_right Div hyps v w made h g
+  behind_both Mod hyps v w made h g = behind_right Mod hyps v w made h g
+  behind_both Equal hyps v w made h g = behind_right Equal hyps v w made h g
+  behind_both Less hyps v w made h g = behind_right Less hyps v w made h g
+  behind_both LessEqual hyps v w made h g = behind_right LessEqual hyps v w made h g
+  behind_both Greater hyps v w made h g = behind_right Greater hyps v w made h g
+  behind_both GreaterEqual hyps v w made h g = behind_right GreaterEqual hyps v w made h g
 
   mutual
     pub walk_begins : (e : Expr N) (vars : Vars) (hyps : List Term) (n : ℕ) → Begins hyps (W e vars hyps n).hyps

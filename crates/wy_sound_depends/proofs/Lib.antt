@@ -4,3 +4,4 @@ pub mod ValueLemmas
 pub mod NamedLemmas
 pub mod WalkLemmas
 pub mod BeginLemmas
+pub mod BlockLemmas

@@ -27,10 +27,10 @@ abbrev pub Rests : ℕ → Term → Type 0
 Rests n f = (v w : Names) → Agree n v w → holds w f ≡ holds v f
 
 pub depends_more : (n m : ℕ) (t : Term) → n ≤ m → Depends n t → Depends m t
-depends_more n m le h v w a = h v w (agree_less n m v w le a)
+depends_more n m t le h v w a = h v w (agree_less n m v w le a)
 
 pub rests_more : (n m : ℕ) (f : Term) → n ≤ m → Rests n f → Rests m f
-rests_more n m le h v w a = h v w (agree_less n m v w le a)
+rests_more n m f le h v w a = h v w (agree_less n m v w le a)
 
 module _ (n : ℕ) where
   pub num_rests : (v : Term) → Depends n v → DependsInt n (num v)
@@ -74,15 +74,15 @@ module _ (n : ℕ) where
   -- each of these formulas
   pub data AllRest : List Term → Type 0 where
     none_rest : AllRest []
-    more_rest : {f : Term} {fs : List Term} → Rests n f → AllRest fs → AllRest (f ∷ fs)
+    more_rest : (f : Term) {fs : List Term} → Rests n f → AllRest fs → AllRest (f ∷ fs)
 
   all_same : {fs : List Term} → AllRest fs → (x y : Names) → Agree n x y → all y fs ≡ all x fs
   all_same none_rest x y a = refl
-  all_same (more_rest h rest) x y a = ap₂ (λ (b c : Bool). b && c) (h x y a) (all_same rest x y a)
+  all_same (more_rest f h rest) x y a = ap₂ (λ (b c : Bool). b && c) (h x y a) (all_same rest x y a)
 
   some_same : {fs : List Term} → AllRest fs → (x y : Names) → Agree n x y → some y fs ≡ some x fs
   some_same none_rest x y a = refl
-  some_same (more_rest h rest) x y a = ap₂ (λ (b c : Bool). b || c) (h x y a) (some_same rest x y a)
+  some_same (more_rest f h rest) x y a = ap₂ (λ (b c : Bool). b || c) (h x y a) (some_same rest x y a)
 
   pub all_rest : {fs : List Term} → AllRest fs → Rests n (all_of fs)
   all_rest {fs} h x y a = all_means y fs ∙ all_same h x y a ∙ sym (all_means x fs)
@@ -122,7 +122,7 @@ module _ (n : ℕ) where
   equality_depends : (numbers : Bool) (v w : Term) → Depends n v → Depends n w → Depends n (op.equality numbers v w)
   equality_depends true (v) (w) h g =
       value_depends (all_of (at_most (num v) (num w) ∷ at_most (num w) (num v) ∷ []))
-      (all_rest (more_rest (at_most_rests (num v) (num w) (num_rests (v) h) (num_rests (w) g)) (more_rest (at_most_rests (num w) (num v) (num_rests (w) g) (num_rests (v) h)) none_rest)))
+      (all_rest (more_rest (at_most (num v) (num w)) (at_most_rests (num v) (num w) (num_rests (v) h) (num_rests (w) g)) (more_rest (at_most (num w) (num v)) (at_most_rests (num w) (num v) (num_rests (w) g) (num_rests (v) h)) none_rest)))
   equality_depends false (v) (w) h g = value_depends (equal v w) (equal_rests (v) (w) h g)
 
   pub operated_depends : (o : Op) (numbers : Bool) (v w : Term) → Depends n v → Depends n w → Depends n (op.operated o numbers v w)
@@ -136,8 +136,8 @@ module _ (n : ℕ) where
   operated_depends LessEqual numbers (v) (w) h g = value_depends (at_most (num v) (num w)) (at_most_rests (num v) (num w) (num_rests (v) h) (num_rests (w) g))
   operated_depends Greater numbers (v) (w) h g = value_depends (less_than (num w) (num v)) (less_rests (num w) (num v) (num_rests (w) g) (num_rests (v) h))
   operated_depends GreaterEqual numbers (v) (w) h g = value_depends (at_most (num w) (num v)) (at_most_rests (num w) (num v) (num_rests (w) g) (num_rests (v) h))
-  operated_depends And numbers (v) (w) h g = value_depends (all_of (formula v ∷ formula w ∷ [])) (all_rest (more_rest (formula_rests (v) h) (more_rest (formula_rests (w) g) none_rest)))
-  operated_depends Or numbers (v) (w) h g = value_depends (any_of (formula v ∷ formula w ∷ [])) (some_rest (more_rest (formula_rests (v) h) (more_rest (formula_rests (w) g) none_rest)))
+  operated_depends And numbers (v) (w) h g = value_depends (all_of (formula v ∷ formula w ∷ [])) (all_rest (more_rest (formula v) (formula_rests (v) h) (more_rest (formula w) (formula_rests (w) g) none_rest)))
+  operated_depends Or numbers (v) (w) h g = value_depends (any_of (formula v ∷ formula w ∷ [])) (some_rest (more_rest (formula v) (formula_rests (v) h) (more_rest (formula w) (formula_rests (w) g) none_rest)))
 
   pub quantified_depends : (all' : Bool) (word : List ℕ) (k : ℕ) (v w u : Term) → IsOf val_sort v → IsOf val_sort w → IsOf val_sort u → Depends n v → Depends n w → Depends n u → Depends n (op.quantified all' word k v w u)
   quantified_depends all' word k (v) (w) (u) iv iw iu h g f =
@@ -161,8 +161,8 @@ module _ (n : ℕ) where
 
 pub each_more : (n m : ℕ) {ts : List Term} → n ≤ m → EachDepends n ts → EachDepends m ts
 each_more n m le none_depends = none_depends
-each_more n m le (more_depends h rest) = more_depends (depends_more n m le h) (each_more n m le rest)
+each_more n m le (more_depends {t = t} h rest) = more_depends (depends_more n m t le h) (each_more n m le rest)
 
 pub rest_more : (n m : ℕ) {fs : List Term} → n ≤ m → AllRest n fs → AllRest m fs
 rest_more n m le none_rest = none_rest
-rest_more n m le (more_rest h rest) = more_rest (rests_more n m le h) (rest_more n m le rest)
+rest_more n m le (more_rest f h rest) = more_rest f (rests_more n m f le h) (rest_more n m le rest)

@@ -40,7 +40,7 @@ defined_rests s named formulas grows rests a n v is h =
     let f = holds named a.ty v n in
     let vars = put_if [] a.variable v in
     let fs = clause_formulas s named a.variables a.clauses vars f.count in
-    all_rest fs.count (more_rest (rests_more f.count fs.count (f.term) (clauses_grow s named grows a.variables a.clauses vars f.count) (holds_rests named formulas grows rests a.ty n v is h))
+    all_rest fs.count (more_rest f.term (rests_more f.count fs.count (f.term) (clauses_grow s named grows a.variables a.clauses vars f.count) (holds_rests named formulas grows rests a.ty n v is h))
     (clauses_rest s named formulas grows rests a.variables a.clauses vars f.count (put_if_data a.variable no_data is) (put_if_depends f.count a.variable v (depends_more n f.count (v) (holds_grows named grows a.ty v n) h))))
 
 pick_rests : (b : Bool) (v w : Valued) → Rests v.count v.term → Rests w.count w.term → Rests (if b then v else w).count (if b then v else w).term

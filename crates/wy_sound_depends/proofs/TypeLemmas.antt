@@ -22,13 +22,13 @@ module _ (named : Naming) (formulas : SaysFormulas named) (grows : (number n : �
     holds_rests NullTy n v is h = kind_rests n null_kind (v) h
     holds_rests BoolTy n v is h = kind_rests n bool_kind (v) h
     holds_rests IntTy n v is h =
-        all_rest n (more_rest (kind_rests n int_kind (v) h)
-        (more_rest (at_most_rests n (number_of INT_MIN) (num v) (λ x y a. refl) (num_rests n (v) h)) (more_rest (at_most_rests n (num v) (number_of INT_MAX) (num_rests n (v) h) (λ x y a. refl)) none_rest)))
+        all_rest n (more_rest (of_kind int_kind v) (kind_rests n int_kind (v) h)
+        (more_rest (at_most (number_of INT_MIN) (num v)) (at_most_rests n (number_of INT_MIN) (num v) (λ x y a. refl) (num_rests n (v) h)) (more_rest (at_most (num v) (number_of INT_MAX)) (at_most_rests n (num v) (number_of INT_MAX) (num_rests n (v) h) (λ x y a. refl)) none_rest)))
     holds_rests AnyTy n v is h = all_rest n none_rest
     holds_rests VoidTy n v is h = some_rest n none_rest
     holds_rests (RecordTy fields) n v is h =
         let m = (fields_hold named fields v n).count in
-        all_rest m (more_rest (rests_more n m (of_kind (record_kind (names_of fields)) v) (fields_grow named grows fields v n) (kind_rests n (record_kind (names_of fields)) (v) h)) (fields_rest fields n v is h))
+        all_rest m (more_rest (of_kind (record_kind (names_of fields)) v) (rests_more n m (of_kind (record_kind (names_of fields)) v) (fields_grow named grows fields v n) (kind_rests n (record_kind (names_of fields)) (v) h)) (fields_rest fields n v is h))
     holds_rests (ArrayTy t) n v is h =
         let part = holds named t (get v (int_name k_word n)) (suc n) in
         let m = part.count in
@@ -37,16 +37,16 @@ module _ (named : Naming) (formulas : SaysFormulas named) (grows : (number n : �
         let here : Depends m v = depends_more n m (v) le h in
         let inner : Rests m part.term = holds_rests t (suc n) (get v (int_name k_word n)) (get_sorted is (int_name_sorted k_word n))
         (get_depends (suc n) (v) (int_name k_word n) (depends_more n (suc n) (v) (omega arith) h) (name_rests k_word n (suc n) (omega arith))) in
-        all_rest m (more_rest (kind_rests m array_kind (v) here) (more_rest (at_most_rests m (len v) (longest) (len_rests m (v) here) (λ x y a. refl))
-        (more_rest (bound_rests m true k_word n (number_sorted (pos 0)) (len_sorted is) (holds_sorted formulas t (suc n) (get_sorted is (int_name_sorted k_word n))) (λ x y a. refl) (len_rests m (v) here) inner) none_rest)))
+        all_rest m (more_rest (of_kind array_kind v) (kind_rests m array_kind (v) here) (more_rest (at_most (len v) longest) (at_most_rests m (len v) (longest) (len_rests m (v) here) (λ x y a. refl))
+        (more_rest (bound true k_word n (number_of (pos 0)) (len v) part.term) (bound_rests m true k_word n (number_sorted (pos 0)) (len_sorted is) (holds_sorted formulas t (suc n) (get_sorted is (int_name_sorted k_word n))) (λ x y a. refl) (len_rests m (v) here) inner) none_rest)))
     holds_rests (UnionTy s t) n v is h =
         let f = holds named s v n in let k = holds named t v f.count in
-        some_rest k.count (more_rest (rests_more f.count k.count (f.term) (holds_grows named grows t v f.count) (holds_rests s n v is h))
-        (more_rest (holds_rests t f.count v is (depends_more n f.count (v) (holds_grows named grows s v n) h)) none_rest))
+        some_rest k.count (more_rest f.term (rests_more f.count k.count (f.term) (holds_grows named grows t v f.count) (holds_rests s n v is h))
+        (more_rest k.term (holds_rests t f.count v is (depends_more n f.count (v) (holds_grows named grows s v n) h)) none_rest))
     holds_rests (InterTy s t) n v is h =
         let f = holds named s v n in let k = holds named t v f.count in
-        all_rest k.count (more_rest (rests_more f.count k.count (f.term) (holds_grows named grows t v f.count) (holds_rests s n v is h))
-        (more_rest (holds_rests t f.count v is (depends_more n f.count (v) (holds_grows named grows s v n) h)) none_rest))
+        all_rest k.count (more_rest f.term (rests_more f.count k.count (f.term) (holds_grows named grows t v f.count) (holds_rests s n v is h))
+        (more_rest k.term (holds_rests t f.count v is (depends_more n f.count (v) (holds_grows named grows s v n) h)) none_rest))
     holds_rests (NotTy t) n v is h = let k = holds named t v n in denied_rests k.count (k.term) (holds_rests t n v is h)
     holds_rests (NamedTy number) n v is h = named_rests number n v is h
     holds_rests (NormalTy union) n v is h = some_rest n none_rest
@@ -56,5 +56,5 @@ module _ (named : Naming) (formulas : SaysFormulas named) (grows : (number n : �
     fields_rest (MoreFieldTys f t fields) n v is h =
         let first = holds named t (field f v) n in
         let rest = fields_hold named fields v first.count in
-        more_rest (rests_more first.count rest.count (first.term) (fields_grow named grows fields v first.count) (holds_rests t n (field f v) (field_sorted f is) (field_depends n f (v) h)))
+        more_rest first.term (rests_more first.count rest.count (first.term) (fields_grow named grows fields v first.count) (holds_rests t n (field f v) (field_sorted f is) (field_depends n f (v) h)))
         (fields_rest fields first.count v is (depends_more n first.count (v) (holds_grows named grows t (field f v) n) h))

@@ -36,7 +36,7 @@ or_null_depends : (n : ℕ) (v : Option Term) → DependsIf n v → Depends n (o
 or_null_depends n None h = λ x y a. refl
 or_null_depends n (Some t) h = h
 
-slot_depends : (n : ℕ) (vars : Vars) (x : ℕ) → AllDepend n vars → DependsIf n (slot_at vars x)
+pub slot_depends : (n : ℕ) (vars : Vars) (x : ℕ) → AllDepend n vars → DependsIf n (slot_at vars x)
 slot_depends n [] x h = tt
 slot_depends n (v ∷ vars) zero h = h.0
 slot_depends n (v ∷ vars) (suc x) h = slot_depends n vars x h.1
@@ -141,4 +141,4 @@ module _ {N : Type 0} (s : Setting N) (named : Naming) (formulas : SaysFormulas 
   clauses_rest [] vars n d h = none_rest
   clauses_rest (e ∷ es) vars n d h =
       let f = clause_formula s named words e vars n in let fs = clause_formulas s named words es vars f.count in
-      more_rest (rests_more f.count fs.count (f.term) (clauses_grow s named grows words es vars f.count) (formula_rests f.count ((V e vars n).term) (value_rests e vars n d h))) (clauses_rest es vars f.count d (all_more n f.count vars (up e vars n) h))
+      more_rest f.term (rests_more f.count fs.count (f.term) (clauses_grow s named grows words es vars f.count) (formula_rests f.count ((V e vars n).term) (value_rests e vars n d h))) (clauses_rest es vars f.count d (all_more n f.count vars (up e vars n) h))

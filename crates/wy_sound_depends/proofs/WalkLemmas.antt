@@ -15,15 +15,15 @@ use Rattle.wy_conditions.specs.Values.{Setting, word_at, named_in, field_names}
 use Rattle.wy_conditions.specs.Owed.{assume}
 use Rattle.wy_conditions.specs.Clauses.{in_type, owe_clauses, assume_in_type}
 use Rattle.wy_conditions.specs.Calls.{Walked, owe_arguments, arguments, result_of, callee_walk, call_walk}
-use Rattle.wy_conditions.specs.Walks.{CallWalks, right_hyps}
+use Rattle.wy_conditions.specs.Walks.{CallWalks, Program, WalkedAll, right_hyps, walk_all, walk_expr}
 use Rattle.wy_formed_conditions.proofs.MakingLemmas.{IsOf, AllOf, int_sorted, int_name_sorted}
 use Rattle.wy_formed_conditions.proofs.ValueLemmas.{AreData, put_data, holds_sorted, named_sorted}
 use Rattle.wy_sound_expressions.proofs.ValueGrows.{named_grows}
-use Rattle.wy_sound_expressions.proofs.GenericWalks.{Tests, walk_by, walk_all_by, walk_fields_by, walk_is}
+use Rattle.wy_sound_expressions.proofs.GenericWalks.{Tests, walk_by, walk_all_by, walk_fields_by, walk_is, all_is}
 use Rattle.wy_sound_expressions.proofs.GrowLemmas.{walk_grows, all_grow, fields_grow}
 use Rattle.wy_sound_expressions.proofs.SortedWalks.{walk_sorted}
 use Rattle.wy_sound_expressions.proofs.CallGrows.{in_type_grows, assumed_grow, call_grows, call_sorted}
-use Rattle.wy_sound_expressions.proofs.LawLemmas.{are_data}
+use Rattle.wy_sound_expressions.proofs.LawLemmas.{are_data, expr_grows}
 use Rattle.wy_sound_joins.specs.Points.{Depends}
 use Rattle.wy_sound_depends.specs.Depends.{AllDepend, TermsDependOnNamesBelow}
 use Rattle.wy_sound_depends.proofs.MadeLemmas.{Rests, depends_more, int_depends, value_depends, field_depends, negated_depends, denial_depends, length_depends, element_depends, repeated_depends, operated_depends, quantified_depends, list_depends, record_depends, EachDepends, none_depends, more_depends, each_more}
@@ -119,11 +119,32 @@ module _ {N : Type 0} (s : Setting N) where
   callee_depends PrintInt at vs hyps n = λ x y a. refl
   callee_depends Undeclared at vs hyps n = λ x y a. refl
 
+-- ---- code
+
+module _ {N : Type 0} (p : Program N) (words : List (List ℕ)) where
+  pub code_depends : (e : Expr N) (vars : Vars) (hyps : List Term) (n : ℕ) → AreData vars → AllDepend n vars → Depends (walk_expr p words e vars hyps n).count (walk_expr p words e vars hyps n).term
+  code_depends e vars hyps n data' h =
+      let s = p.setting in
+      subst (λ (r : Walked). Depends r.count r.term) (sym (walk_is s (call_walk s p.routines) words e vars hyps n))
+      (walk_depends s (in_type s) (call_walk s p.routines) words (λ t v i. in_type_grows s t v i) (λ t i v k. holds_sorted (named_sorted s) t i k)
+      (λ t i v k g. holds_rests (named_in s) (named_sorted s) (λ number j u. named_grows s (length s.types) number j u) (λ number j u l m. named_rests s (length s.types) number j u l m) t i v k g)
+      (λ f at ts hs i. call_grows s p.routines f at ts hs i) (λ f at i ts hs all. call_sorted s p.routines f at ts hs i) (λ f at ts hs i. callee_depends s (callee p.routines f) at ts hs i)
+      e vars hyps n data' h)
+
+  pub code_sorted : (e : Expr N) (vars : Vars) (hyps : List Term) (n : ℕ) → AreData vars → IsOf val_sort (walk_expr p words e vars hyps n).term
+  code_sorted e vars hyps n data' =
+      let s = p.setting in
+      subst (λ (r : Walked). IsOf val_sort r.term) (sym (walk_is s (call_walk s p.routines) words e vars hyps n))
+      (walk_sorted s (in_type s) (call_walk s p.routines) words (λ t i v k. holds_sorted (named_sorted s) t i k) (λ f at i ts hs all. call_sorted s p.routines f at ts hs i) e vars hyps n data')
+
+  pub code_grows : (e : Expr N) (vars : Vars) (hyps : List Term) (n : ℕ) → n ≤ (walk_expr p words e vars hyps n).count
+  code_grows e vars hyps n = expr_grows p.setting p.routines words e vars hyps n
+
+  pub codes_grow : (es : Exprs N) (vars : Vars) (hyps : List Term) (n : ℕ) → n ≤ (walk_all p.setting (call_walk p.setting p.routines) words es vars hyps n).count
+  codes_grow es vars hyps n =
+      let s = p.setting in
+      subst (λ (r : WalkedAll). n ≤ r.count) (sym (all_is s (call_walk s p.routines) words es vars hyps n))
+      (all_grow s (in_type s) (call_walk s p.routines) words (λ t v i. in_type_grows s t v i) (λ f at ts hs i. call_grows s p.routines f at ts hs i) es vars hyps n)
+
 pub terms_depend : TermsDependOnNamesBelow
-terms_depend p words e vars hyps n are h =
-    let s = p.setting in
-    subst (λ (r : Walked). Depends r.count r.term) (sym (walk_is s (call_walk s p.routines) words e vars hyps n))
-    (walk_depends s (in_type s) (call_walk s p.routines) words (λ t v i. in_type_grows s t v i) (λ t i v k. holds_sorted (named_sorted s) t i k)
-    (λ t i v k g. holds_rests (named_in s) (named_sorted s) (λ number j u. named_grows s (length s.types) number j u) (λ number j u l m. named_rests s (length s.types) number j u l m) t i v k g)
-    (λ f at ts hs i. call_grows s p.routines f at ts hs i) (λ f at i ts hs all. call_sorted s p.routines f at ts hs i) (λ f at ts hs i. callee_depends s (callee p.routines f) at ts hs i)
-    e vars hyps n (are_data vars are) h)
+terms_depend p words e vars hyps n are h = code_depends p words e vars hyps n (are_data vars are) h

@@ -3,4 +3,4 @@
 
 mod law;
 
-pub use law::{hypotheses_grow, terms_depend_on_names_below};
+pub use law::{hypotheses_grow, hypotheses_grow_in_blocks, terms_depend_on_names_below};
