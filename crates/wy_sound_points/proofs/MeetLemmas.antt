@@ -73,35 +73,36 @@ picked_joined : (n : ℕ) (c : Bool) (i j : Joined) → JoinedPoint n i → Join
 picked_joined n true i j h g = h
 picked_joined n false i j h g = g
 
+-- the one more variable has a new name, or the first term that there is
+named_point : (words : List (List ℕ)) (x n : ℕ) (b : Bool) (new : Joined) → JoinedPoint (suc n) new → JoinedPoint n (with_variable (Some (val_name (word_at words x) n)) b new)
+named_point words x n b new h =
+    let up = h.grows in
+    let name = val_name (word_at words x) n in
+    record {
+      grows = omega (arith, up);
+      are = next (datum (val_name_sorted (word_at words x) n)) h.are;
+      depends = (λ v w a. a.datum_of (word_at words x) n (omega (arith, up)), h.depends);
+      marked = set_next (Some name) b new.set new.vars (λ e. (name, refl)) h.marked;
+    }
+
+kept_point : (p : Path) (ps : List Path) (x n : ℕ) (old : Joined) → AllPaths n (p ∷ ps) → JoinedPoint n old → JoinedPoint n (with_variable (first_term (p ∷ ps) x) (set_on_all (p ∷ ps) x) old)
+kept_point p ps x n old h g = record {
+  grows = g.grows;
+  are = next (first_datum n (p ∷ ps) x h) g.are;
+  depends = (if_more n old.count (first_term (p ∷ ps) x) g.grows (first_depends n (p ∷ ps) x h), g.depends);
+  marked = set_next (first_term (p ∷ ps) x) (set_on_all (p ∷ ps) x) old.set old.vars (λ e. first_marked n p ps x h.0 e) g.marked;
+}
+
 join_points : (words : List (List ℕ)) (p : Path) (ps : List Path) (x j n : ℕ) → AllPaths n (p ∷ ps) → JoinedPoint n (join_vars words (p ∷ ps) x j n)
 join_points words p ps x zero n h = record { grows = omega arith; are = no_data; depends = tt; marked = λ y e. absurd cc }
 join_points words p ps x (suc j) n h =
-    picked_joined n (differ (p ∷ ps) x) (with_variable (Some name) (set_on_all (p ∷ ps) x) new) (with_variable (first_term (p ∷ ps) x) (set_on_all (p ∷ ps) x) old)
-    (record {
-      grows = omega (arith, up);
-      are = next (datum (val_name_sorted (word_at words x) n)) news.are;
-      depends = (λ v w a. a.datum_of (word_at words x) n (omega (arith, up)), news.depends);
-      marked = set_next (Some name) (set_on_all (p ∷ ps) x) new.set new.vars (λ e. (name, refl)) news.marked;
-    })
-    (record {
-      grows = olds.grows;
-      are = next (first_datum n (p ∷ ps) x h) olds.are;
-      depends = (if_more n old.count (first_term (p ∷ ps) x) olds.grows (first_depends n (p ∷ ps) x h), olds.depends);
-      marked = set_next (first_term (p ∷ ps) x) (set_on_all (p ∷ ps) x) old.set old.vars (λ e. first_marked n p ps x h.0 e) olds.marked;
-    })
-  where
-  name : Term
-  name = val_name (word_at words x) n
-  new : Joined
-  new = join_vars words (equated name x (p ∷ ps)) (suc x) j (suc n)
-  old : Joined
-  old = join_vars words (p ∷ ps) (suc x) j n
-  news : JoinedPoint (suc n) new
-  news = join_points words (with_equation name (slot_at p.vars x) p) (equated name x ps) (suc x) j (suc n) (equated_points n name x (p ∷ ps) h)
-  olds : JoinedPoint n old
-  olds = join_points words p ps (suc x) j n h
-  up : suc n ≤ new.count
-  up = news.grows
+    let name = val_name (word_at words x) n in
+    let new = join_vars words (equated name x (p ∷ ps)) (suc x) j (suc n) in
+    let old = join_vars words (p ∷ ps) (suc x) j n in
+    let b = set_on_all (p ∷ ps) x in
+    picked_joined n (differ (p ∷ ps) x) (with_variable (Some name) b new) (with_variable (first_term (p ∷ ps) x) b old)
+    (named_point words x n b new (join_points words (with_equation name (slot_at p.vars x) p) (equated name x ps) (suc x) j (suc n) (equated_points n name x (p ∷ ps) h)))
+    (kept_point p ps x n old h (join_points words p ps (suc x) j n h))
 
 pub record MetPoint (n : ℕ) (m : Met) : Type 0 where
   pub grows : n ≤ m.count

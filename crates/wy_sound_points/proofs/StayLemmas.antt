@@ -83,14 +83,14 @@ PartsRest n (FieldOf name whole ∷ parts) = Rests n whole × PartsRest n parts
 
 parts_on : (n m : ℕ) (parts : List Part) → n ≤ m → PartsRest n parts → PartsRest m parts
 parts_on n m [] le h = tt
-parts_on n m (ElementOf whole i ∷ parts) le h = (rests_on n m whole le h.0, (rests_on n m i le h.1.0, parts_on n m parts le h.1.1))
+parts_on n m (ElementOf whole i ∷ parts) le h = (rests_on n m whole le h.0, rests_on n m i le h.1, parts_on n m parts le h.2)
 parts_on n m (FieldOf name whole ∷ parts) le h = (rests_on n m whole le h.0, parts_on n m parts le h.1)
 
 rebuilt_rests : (n : ℕ) (parts : List Part) (v : Term) → PartsRest n parts → Rests n v → Rests n (rebuilt parts v)
 rebuilt_rests n [] v h g = g
 rebuilt_rests n (ElementOf whole i ∷ parts) v h g =
-    let k = rebuilt_rests n parts v h.1.1 g in
-    record { is = with_element_sorted h.0.is h.1.0.is k.is; depends = update_depends n whole i (rebuilt parts v) h.0.depends h.1.0.depends k.depends }
+    let k = rebuilt_rests n parts v h.2 g in
+    record { is = with_element_sorted h.0.is h.1.is k.is; depends = update_depends n whole i (rebuilt parts v) h.0.depends h.1.depends k.depends }
 rebuilt_rests n (FieldOf name whole ∷ parts) v h g =
     let k = rebuilt_rests n parts v h.1 g in
     record { is = with_field_sorted name h.0.is k.is; depends = set_field_depends n name whole (rebuilt parts v) h.0.depends k.depends }
@@ -147,10 +147,11 @@ module _ {N : Type 0} (b : Body N) where
       let whole2 = rests_on n i.count whole up g in
       let index = expr_rests e vars hyps n are h in
       let part : Rests i.count (op.element whole i.term) = record { is = element_sorted whole2.is index.is; depends = element_depends i.count whole i.term whole2.depends index.depends } in
-      (rests_on i.count rest.count whole on whole2, (rests_on i.count rest.count i.term on index, along_rests steps (op.element whole i.term) vars hs i.count are (all_more n i.count vars up h) part))
-  along_rests (FieldStep at name ∷ steps) whole vars hyps n are h g =
-      (rests_on n (along b steps (field name whole) vars hyps n).count whole (along_up steps (field name whole) vars hyps n) g,
-      along_rests steps (field name whole) vars hyps n are h (record { is = field_sorted name g.is; depends = field_depends n name whole g.depends }))
+      (rests_on i.count rest.count whole on whole2, rests_on i.count rest.count i.term on index, along_rests steps (op.element whole i.term) vars hs i.count are (all_more n i.count vars up h) part)
+  along_rests (FieldStep at name ∷ steps) whole vars hyps n are h g = (
+    rests_on n (along b steps (field name whole) vars hyps n).count whole (along_up steps (field name whole) vars hyps n) g,
+    along_rests steps (field name whole) vars hyps n are h (record { is = field_sorted name g.is; depends = field_depends n name whole g.depends }),
+  )
 
   -- ---- results and clauses
 
@@ -251,7 +252,7 @@ module _ {N : Type 0} (b : Body N) where
         let l = block_points around second (where_false v p) one.count (with_point one.count p (assume v.hyps (denied (formula v.term))) (point_more v.count one.count p k1 here)) in
         let l1 = l.grows in
         let m = meet_points (words b) v.hyps (as_list one.ends ++ as_list two.ends) two.count
-            (both_points two.count (as_list one.ends) (as_list two.ends) (list_points two.count one.ends (point_if_more one.count two.count one.ends l1 k.ends)) (list_points two.count two.ends l.ends)) in
+        (both_points two.count (as_list one.ends) (as_list two.ends) (list_points two.count one.ends (point_if_more one.count two.count one.ends l1 k.ends)) (list_points two.count two.ends l.ends)) in
         let m1 = m.grows in
         let last = (meet (words b) v.hyps (as_list one.ends ++ as_list two.ends) two.count).count in
         record {
