@@ -1,0 +1,15 @@
+pub mod NameLemmas
+pub mod GoodLemmas
+pub mod AssumeLemmas
+pub mod FinishLemmas
+pub mod ListLemmas
+pub mod GenericWalks
+pub mod GrowLemmas
+pub mod ValueGrows
+pub mod SortedWalks
+pub mod BinaryLemmas
+pub mod QuantifierLemmas
+pub mod HoldsLemmas
+pub mod CallGrows
+pub mod ExpressionLemmas
+pub mod LawLemmas

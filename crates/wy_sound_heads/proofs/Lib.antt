@@ -1,0 +1,2 @@
+pub mod AssignedLemmas
+pub mod HeadLemmas

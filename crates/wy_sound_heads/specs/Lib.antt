@@ -1,0 +1,2 @@
+-- the head of a loop
+pub mod Heads

@@ -1,0 +1,3 @@
+pub mod DatumLemmas
+pub mod PathLemmas
+pub mod JoinLemmas

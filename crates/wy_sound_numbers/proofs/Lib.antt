@@ -1,0 +1,4 @@
+pub mod ExpressionLemmas
+pub mod TestLemmas
+pub mod StatementLemmas
+pub mod ProgramLemmas

@@ -1,0 +1,3 @@
+pub mod SetLemmas
+pub mod MeetLemmas
+pub mod StayLemmas
