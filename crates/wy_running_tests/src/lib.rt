@@ -1,9 +1,0 @@
-//! Tests of wy_starting and wy_running: sources with names and argument texts, and what is answered. They stand in a
-//! crate of their own, since they go through the readers of sources. Each answer was worked out by hand from the rules
-//! of the language.
-#![tactic(auto)]
-
-#[cfg(test)]
-mod answers;
-#[cfg(test)]
-mod rows;
