@@ -6,3 +6,5 @@ pub mod LineLemmas
 pub mod LiteralLemmas
 -- certificates that were found
 pub mod ProofLemmas
+-- what they are
+pub mod GivenLemmas

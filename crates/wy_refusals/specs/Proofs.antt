@@ -1,9 +1,11 @@
 -- The certificates that were found.
-use Rattle.std.specs.Prelude.{◌≡◌, ℕ, ◌<◌, suc, List, [], ◌∷◌, ◌++◌, false}
-use Rattle.wy_cert.specs.Steps.{Certificates, Written, steps_of}
+use Rattle.std.specs.Prelude.{◌≡◌, ℕ, ◌≤◌, suc, List, [], ◌∷◌, ◌++◌, map}
+use Rattle.wy_accepting.specs.Verdicts.{verdicts_on}
+use Rattle.wy_accepting.specs.declared.verdict.Verdict.{Verdict as Given}
+use Rattle.wy_accepting.specs.declared.verdict.Verdict.TheVariants as given
+use Rattle.wy_cert.specs.Steps.{Certificates, steps_of}
 use Rattle.wy_term.specs.Condition.{Condition}
-use Rattle.wy_valid.specs.Validity.{IsValid}
-use Rattle.wy_verdicts.specs.Seen.{AreShown, some_lacks}
+use Rattle.wy_verdicts.specs.Seen.{AreShown}
 use Rattle.wy_verdicts.specs.declared.verdict.End.{End}
 use Rattle.wy_verdicts.specs.declared.verdict.End.TheVariants.{Supplied, Found, Open, Spent, Uncertified}
 use Rattle.wy_verdicts.specs.declared.verdict.Verdict.{Verdict}
@@ -20,3 +22,26 @@ certificate_in number (Uncertified leaves) = []
 abbrev pub found_from : ℕ → List Verdict → Certificates
 found_from number [] = []
 found_from number (v ∷ vs) = certificate_in number v.end ++ found_from (suc number) vs
+
+-- ---- what they are
+
+-- each is for a condition behind those of the ones before it, from this number on
+abbrev pub AreRising : ℕ → Certificates → Type 0
+AreRising n [] = Unit {0}
+AreRising n (c ∷ cs) = (n ≤ c.0) × AreRising (suc c.0) cs
+
+-- the verdict on the certificate that was found, where it is supplied
+abbrev pub given_in : End → Given
+given_in Supplied = given.Missing
+given_in (Found cert leaves) = given.Supplied
+given_in (Open leaf) = given.Missing
+given_in Spent = given.Missing
+given_in (Uncertified leaves) = given.Missing
+
+abbrev pub given_by : Verdict → Given
+given_by v = given_in v.end
+
+-- no condition has two, and where they are supplied each of them is valid for its condition
+pub record FoundIsGiven : Type 0 where
+  pub rising : (vs : List Verdict) → AreRising 1 (found_from 1 vs)
+  pub given : (cs : List Condition) (vs : List Verdict) → AreShown cs vs → verdicts_on (found_from 1 vs) 1 cs ≡ map given_by vs

@@ -38,7 +38,8 @@ pub fn judge(
     ensures length { length terms.new ≡ length terms.old }
     ensures kept { (t : ℕ) → t < length terms.old → tree_at terms.new t ≡ tree_at terms.old t }
 {
-    judged_all(alloc, terms, conds, certs, budget)
+    let all = judged_all(alloc, terms, conds, certs, budget)?;
+    Ok(all)
 }
 
 // All that is known of each condition.
@@ -55,7 +56,7 @@ fn judged_all(
     ensures length { length terms.new ≡ length terms.old }
     ensures kept { (t : ℕ) → t < length terms.old → tree_at terms.new t ≡ tree_at terms.old t }
 {
-    let given = given(alloc, terms, conds, certs)?;
+    let given = supplied(alloc, terms, conds, certs)?;
     let mut judged = Vec::new(alloc);
     for i in 0..conds.len() {
         let verdict = judged_one(terms, &conds[i], given[i], budget)?;
@@ -65,7 +66,7 @@ fn judged_all(
 }
 
 // The verdicts on the certificates that are supplied.
-fn given(
+fn supplied(
     alloc: Global,
     terms: &mut Terms,
     conds: &[Cond],
@@ -78,7 +79,8 @@ fn given(
     ensures length { length terms.new ≡ length terms.old }
     ensures kept { (t : ℕ) → t < length terms.old → tree_at terms.new t ≡ tree_at terms.old t }
 {
-    verdicts(alloc, terms, conds, certs)
+    let given = verdicts(alloc, terms, conds, certs)?;
+    Ok(given)
 }
 
 // What is known of a condition, where the verdict on what was supplied for it is this.

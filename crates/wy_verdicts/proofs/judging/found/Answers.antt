@@ -1,0 +1,1 @@
+use Rattle.wy_verdicts.proofs.judging.found.Goals as goal
