@@ -1,5 +1,6 @@
 -- What is known of conditions, one after the other.
-use Rattle.std.proofs.Common.{◌≡◌, ◌∙◌, ◌<◌, ◌≤◌, ◌+◌, ℕ, zero, suc, List, [], ◌∷◌, ◌++◌, All, length, map, take, get_or, Option, Some, None, refl, sym, ap, subst, arith}
+use Rattle.std.proofs.Common.{◌≡◌, ◌∙◌, ◌<◌, ◌≤◌, ◌+◌, ℕ, zero, suc, List, [], ◌∷◌, ◌++◌, All, length, map, take, get_or, Option, Some, None, Result, refl, sym, ap, subst, arith}
+use Rattle.std.specs.Prelude.{IfOk, IfSome}
 use Rattle.std.proofs.lemmas.List.{length-map}
 use Rattle.wy_accepting.proofs.StayLemmas.{as_before, condition_stays}
 use Rattle.wy_accepting.specs.Verdicts.{certificate_for, verdict_on, verdicts_on}
@@ -11,6 +12,7 @@ use Rattle.wy_cert.specs.declared.step.Cert.{Cert}
 use Rattle.wy_search.specs.Tree as tree
 use Rattle.wy_searching.specs.Seen as searching
 use Rattle.wy_searching.specs.declared.verdict.OpenLeaf.{OpenLeaf}
+use Rattle.wy_searching.specs.declared.verdict.Verdict.{Verdict as Search}
 use Rattle.wy_searching.specs.declared.verdict.Verdict.TheVariants as search
 use Rattle.wy_sound_certificates.specs.Sortedness.{AreSortedSteps}
 use Rattle.wy_term.specs.Condition.{Condition, condition_of}
@@ -54,6 +56,26 @@ ends_found c budget leaves cert valid sorted names h = record { searched = recor
 
 pub ends_uncertified : (c : Condition) (budget leaves : ℕ) → tree.IsVerdict c budget (tree.found leaves) → EndsIn c budget (end.Uncertified leaves)
 ends_uncertified c budget leaves h = record { searched = record { verdict = tree.found leaves; searched = h; is = refl }; shown = tt; named = tt }
+
+abbrev pub some_cert : Cert → Option Cert
+some_cert cert = Some cert
+
+-- the certificate that was made
+pub certified_ends : (c : Condition) (budget leaves : ℕ) (o : Option Cert) (cert : Cert) → o ≡ some_cert cert → IfSome o (λ (k : Cert). IsValid c (steps_of k)) → IfSome o (λ (k : Cert). AreSortedSteps (steps_of k)) → IfSome o NamesItsTerms → tree.IsVerdict c budget (tree.found leaves)
+    → EndsIn c budget (end.Found cert leaves)
+certified_ends c budget leaves o cert is valid sorted names h =
+    ends_found c budget leaves cert (subst (λ (p : Option Cert). IfSome p (λ (k : Cert). IsValid c (steps_of k))) is valid) (subst (λ (p : Option Cert). IfSome p (λ (k : Cert). AreSortedSteps (steps_of k))) is sorted) (subst (λ (p : Option Cert). IfSome p NamesItsTerms) is names) h
+
+-- a search that closed all leaves, where the terms are as before
+pub found_there : {E : Type 0} (r : Result End E) (c d : Condition) (budget leaves : ℕ) (v : Search) → d ≡ c → v ≡ search.Found leaves → tree.IsVerdict c budget (searching.seen_verdict v) → (tree.IsVerdict d budget (tree.found leaves) → IfOk r (EndsIn d budget)) → IfOk r (EndsIn c budget)
+found_there r c d budget leaves v same is h f =
+    subst (λ (x : Condition). IfOk r (EndsIn x budget)) same (f (subst (λ (x : Condition). tree.IsVerdict x budget (tree.found leaves)) (sym same) (subst (λ (w : Search). tree.IsVerdict c budget (searching.seen_verdict w)) is h)))
+
+pub open_there : (c : Condition) (budget : ℕ) (leaf : OpenLeaf) (v : Search) → v ≡ search.Open leaf → tree.IsVerdict c budget (searching.seen_verdict v) → searching.NamesItsTerms v → EndsIn c budget (end.Open leaf)
+open_there c budget leaf v is h named = ends_open c budget leaf (subst (λ (w : Search). tree.IsVerdict c budget (searching.seen_verdict w)) is h) (subst (λ (w : Search). searching.NamesItsTerms w) is named)
+
+pub spent_there : (c : Condition) (budget : ℕ) (v : Search) → v ≡ search.Spent → tree.IsVerdict c budget (searching.seen_verdict v) → EndsIn c budget end.Spent
+spent_there c budget v is h = ends_spent c budget (subst (λ (w : Search). tree.IsVerdict c budget (searching.seen_verdict w)) is h)
 
 -- ---- one condition
 
@@ -118,6 +140,23 @@ pub judged_more : (certs : Certificates) (budget : ℕ) (f : Cond → Condition)
 judged_more certs budget f conds i vs c v lt at so h =
     subst (λ (k : ℕ). AreJudged certs budget 1 (take k (map f conds)) (vs ++ v ∷ [])) (omega arith)
     (judged_push certs budget 1 (map f conds) i vs (f c) v (omega (arith, lt, length-map conds f)) (condition_at f conds i c lt at) so h)
+
+-- nothing yet
+pub judged_none : (certs : Certificates) (budget : ℕ) (cs : List Condition) (vs : List Verdict) → vs ≡ [] → AreJudged certs budget 1 (take 0 cs) vs
+judged_none certs budget cs vs none = subst (λ (ws : List Verdict). AreJudged certs budget 1 (take 0 cs) ws) (sym none) tt
+
+-- the next condition, where the terms are as before
+pub judged_turn : (certs : Certificates) (budget : ℕ) (old now : List Plain) (conds : List Cond) (i : ℕ) (vs new : List Verdict) (c : Cond) (v : Verdict) (gs : List Given) (g : Given)
+    → length now ≡ length old → ((t : ℕ) → t < length old → tree_at now t ≡ tree_at old t) → All (IsWithin (length old)) conds → i < length conds → c ≡ get_or conds i c
+    → gs ≡ verdicts_on certs 1 (map (condition_of old) conds) → g ≡ get_or gs i g
+    → ((cs : Certificates) (n : ℕ) → g ≡ verdict_on (condition_of now c) (certificate_for cs n) → IsJudged cs budget n (condition_of now c) v) → new ≡ vs ++ v ∷ []
+    → AreJudged certs budget 1 (take i (map (condition_of old) conds)) vs → AreJudged certs budget 1 (take (i + 1) (map (condition_of old) conds)) new
+judged_turn certs budget old now conds i vs new c v gs g same kept within lt at are here judged pushed so =
+    let stays : condition_of now c ≡ condition_of old c = same_condition old now c same kept (within_at (length old) conds i c within lt at) in
+    let told : g ≡ verdict_on (condition_of old c) (certificate_for certs (1 + i)) = given_at certs (condition_of old) conds i c gs g lt at are here in
+    let now_judged : IsJudged certs budget (1 + i) (condition_of now c) v = judged certs (1 + i) (told ∙ ap (λ (x : Condition). verdict_on x (certificate_for certs (1 + i))) (sym stays)) in
+    subst (λ (ws : List Verdict). AreJudged certs budget 1 (take (i + 1) (map (condition_of old) conds)) ws) (sym pushed)
+    (judged_more certs budget (condition_of old) conds i vs c v lt at so (subst (λ (x : Condition). IsJudged certs budget (1 + i) x v) stays now_judged))
 
 take_past : (cs : List Condition) (i : ℕ) → length cs ≤ i → take i cs ≡ cs
 take_past [] zero le = refl

@@ -124,7 +124,8 @@ fn searched(terms: &mut Terms, cond: &Cond, budget: u64) -> Result<End, NoMemory
     ensures length { length terms.new ≡ length terms.old }
     ensures kept { (t : ℕ) → t < length terms.old → tree_at terms.new t ≡ tree_at terms.old t }
 {
-    match search(terms, cond, budget)? {
+    let verdict = search(terms, cond, budget)?;
+    match verdict {
         Searched::Found(leaves) => found(terms, cond, budget, leaves),
         Searched::Open(leaf) => Ok(End::Open(leaf)),
         Searched::Spent => Ok(End::Spent),
@@ -138,7 +139,8 @@ fn found(terms: &mut Terms, cond: &Cond, budget: u64, leaves: u64) -> Result<End
     ensures length { length terms.new ≡ length terms.old }
     ensures kept { (t : ℕ) → t < length terms.old → tree_at terms.new t ≡ tree_at terms.old t }
 {
-    match certified(terms, cond, budget)? {
+    let made = certified(terms, cond, budget)?;
+    match made {
         Some(cert) => Ok(End::Found { cert, leaves }),
         None => Ok(End::Uncertified { leaves }),
     }
