@@ -19,11 +19,11 @@ pub fn owed_text(alloc: Global, source: &[u8]) -> Result<Vec<u8>, OwedFault>
     ensures refused { IfErr result (λ e. is_no_memory e ≡ false → IsRefused source.now e) }
     ensures exact { (f : OwedFault) → IsDue source.now f → MatchResult result (λ t. ⊥) (λ e. is_no_memory e ≡ false → e ≡ f) }
 {
-    let conds = match read_owed(alloc, source) {
-        Ok((_, conds)) => conds,
+    let owed = match read_owed(alloc, source) {
+        Ok(owed) => owed,
         Err(fault) => return Err(fault),
     };
-    match conditions_text(alloc, source, &conds) {
+    match conditions_text(alloc, source, &owed.1) {
         Ok(text) => Ok(text),
         Err(_) => Err(OwedFault::Limit(VcFault::NoMemory)),
     }

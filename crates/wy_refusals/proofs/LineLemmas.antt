@@ -1,15 +1,15 @@
 -- A text to which the lines of conditions are added.
 use Rattle.std.proofs.Common.{◌≡◌, ◌∙◌, ◌<◌, ◌≤◌, ◌+◌, ℕ, zero, suc, List, [], ◌∷◌, ◌++◌, length, drop, get_or, map, refl, sym, ap, subst, arith, append_assoc}
 use Rattle.std.specs.Prelude.{codes}
-use Rattle.std.proofs.lemmas.List.{append-nil, drop_all}
-use Rattle.wy_report.specs.Lines.{of_condition, open_condition}
+use Rattle.std.proofs.lemmas.List.{append-nil, drop_all, length-map}
+use Rattle.wy_report.specs.Lines.{of_condition, open_condition, refused}
 use Rattle.wy_term.specs.Nodes.{Plain}
 use Rattle.wy_term.specs.declared.cond.Cond.{Cond}
 use Rattle.wy_vc_limits.specs.Told.{Told, seen_cond}
-use Rattle.wy_verdicts.specs.Known.{Known, End, supplied, found, stays_open, spent}
+use Rattle.wy_verdicts.specs.Known.{Known, End, supplied, found, stays_open, spent, count, is_open, is_spent}
 use Rattle.wy_verdicts.specs.Seen.{known, seen_end, NamesTerms, NameTerms}
 use Rattle.wy_verdicts.specs.declared.verdict.Verdict.{Verdict}
-use Rattle.wy_refusals.specs.Refusals.{end_lines, lines_from}
+use Rattle.wy_refusals.specs.Refusals.{end_lines, lines_from, refusal_lines}
 use Rattle.wy_refusals.proofs.InvalidLemmas.{at_drop}
 
 -- the numbers that an end has are those of its terms
@@ -57,7 +57,24 @@ same_lines file bytes budget n old new (c ∷ cs) (k ∷ ks) =
     ap (λ (l : List ℕ). l ++ lines_from file bytes budget (suc n) (map (seen_cond old) cs) ks) (same_end file bytes budget n old new c k.end)
     ∙ ap (λ (l : List ℕ). end_lines file bytes budget n (seen_cond new c) k.end ++ l) (same_lines file bytes budget (suc n) old new cs ks)
 
+-- the last line behind them
+pub whole_lines : (file bytes : List ℕ) (budget : ℕ) (nodes : List Plain) (cs : List Cond) (vs : List Verdict) (text new sum : List ℕ) (n o p : ℕ) → text ≡ lines_from file bytes budget 1 (map (seen_cond []) cs) (map known vs)
+    → n ≡ length vs → o ≡ count is_open (map known vs) → p ≡ count is_spent (map known vs) → sum ≡ refused n o p → new ≡ text ++ sum → new ≡ refusal_lines file bytes budget (map (seen_cond nodes) cs) (map known vs)
+whole_lines file bytes budget nodes cs vs text new sum n o p text_is n_is o_is p_is sum_is is =
+    let ks : List Known = map known vs in
+    let each : n ≡ length ks = n_is ∙ sym (length-map vs known) in
+    is
+    ∙ ap (λ (l : List ℕ). l ++ sum) (text_is ∙ same_lines file bytes budget 1 [] nodes cs ks)
+    ∙ ap (λ (l : List ℕ). lines_from file bytes budget 1 (map (seen_cond nodes) cs) ks ++ l)
+        (sum_is ∙ (ap (λ (k : ℕ). refused k o p) each ∙ (ap (λ (k : ℕ). refused (length ks) k p) o_is ∙ ap (λ (k : ℕ). refused (length ks) (count is_open ks) k) p_is)))
+
+abbrev pub two : ℕ → ℕ → ℕ × ℕ
+two a b = (a, b)
+
 -- ---- an open condition, whose literals are written behind its line
+
+pub placed : (l c : ℕ) (p : ℕ × ℕ) (P : ℕ → ℕ → List ℕ) → two l c ≡ p → P l c ≡ P p.0 p.1
+placed l c p P is = ap (λ (q : ℕ × ℕ). P q.0 q.1) is
 
 pub open_is : (old mid new file why literals kind line : List ℕ) (at_line column number : ℕ) → line ≡ open_condition file at_line column number kind why [] → mid ≡ old ++ line → new ≡ mid ++ literals → new ≡ old ++ open_condition file at_line column number kind why literals
 open_is old mid new file why literals kind line at_line column number is first second =
