@@ -4,7 +4,7 @@ use Rattle.std.specs.Prelude.{◌==◌}
 use Rattle.std.proofs.lemmas.Bool.Decides.{nat_tests}
 use Rattle.wy_accepting.specs.Verdicts.{certificate_for, verdict_from, verdict_on, verdicts_on}
 use Rattle.wy_accepting.specs.declared.verdict.Verdict.{Verdict as Given}
-use Rattle.wy_accepting.specs.declared.verdict.Verdict.TheVariants as given
+use Rattle.wy_accepting.specs.declared.verdict.Verdict.TheVariants as accepting
 use Rattle.wy_cert.specs.Steps.{Certificates, Written, steps_of}
 use Rattle.wy_term.specs.Condition.{Condition}
 use Rattle.wy_verdicts.specs.Seen.{AreShown, IsShown}

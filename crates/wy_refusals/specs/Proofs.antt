@@ -2,7 +2,7 @@
 use Rattle.std.specs.Prelude.{◌≡◌, ℕ, ◌≤◌, suc, List, [], ◌∷◌, ◌++◌, map}
 use Rattle.wy_accepting.specs.Verdicts.{verdicts_on}
 use Rattle.wy_accepting.specs.declared.verdict.Verdict.{Verdict as Given}
-use Rattle.wy_accepting.specs.declared.verdict.Verdict.TheVariants as given
+use Rattle.wy_accepting.specs.declared.verdict.Verdict.TheVariants as accepting
 use Rattle.wy_cert.specs.Steps.{Certificates, steps_of}
 use Rattle.wy_term.specs.Condition.{Condition}
 use Rattle.wy_verdicts.specs.Seen.{AreShown}
@@ -32,11 +32,11 @@ AreRising n (c ∷ cs) = (n ≤ c.0) × AreRising (suc c.0) cs
 
 -- the verdict on the certificate that was found, where it is supplied
 abbrev pub given_in : End → Given
-given_in Supplied = given.Missing
-given_in (Found cert leaves) = given.Supplied
-given_in (Open leaf) = given.Missing
-given_in Spent = given.Missing
-given_in (Uncertified leaves) = given.Missing
+given_in Supplied = accepting.Missing
+given_in (Found cert leaves) = accepting.Supplied
+given_in (Open leaf) = accepting.Missing
+given_in Spent = accepting.Missing
+given_in (Uncertified leaves) = accepting.Missing
 
 abbrev pub given_by : Verdict → Given
 given_by v = given_in v.end

@@ -22,14 +22,12 @@ counted b n = if b then suc n else n
 
 pub count_more : (test : End → Bool) (xs : List Verdict) (i : ℕ) (x : Verdict) (n whole : ℕ) → n + count test (map known (drop i xs)) ≡ whole → i < length xs → x ≡ get_or xs i x → test (seen_end x.end) ≡ true → n + 1 + count test (map known (drop (i + 1) xs)) ≡ whole
 count_more test xs i x n whole so lt is yes =
-    let left : ℕ = count test (map known (drop (i + 1) xs)) in
-    let here : n + count test (map known (drop i xs)) ≡ n + suc left = ap (λ (ys : List Verdict). n + count test (map known ys)) (at_drop xs i x lt is) ∙ ap (λ (b : Bool). n + counted b left) yes in
+    let here : n + count test (map known (drop i xs)) ≡ n + suc (count test (map known (drop (i + 1) xs))) = ap (λ (ys : List Verdict). n + count test (map known ys)) (at_drop xs i x lt is) ∙ ap (λ (b : Bool). n + counted b (count test (map known (drop (i + 1) xs)))) yes in
     omega (arith, here, so)
 
 pub count_same : (test : End → Bool) (xs : List Verdict) (i : ℕ) (x : Verdict) (n whole : ℕ) → n + count test (map known (drop i xs)) ≡ whole → i < length xs → x ≡ get_or xs i x → test (seen_end x.end) ≡ false → n + count test (map known (drop (i + 1) xs)) ≡ whole
 count_same test xs i x n whole so lt is no =
-    let left : ℕ = count test (map known (drop (i + 1) xs)) in
-    let here : n + count test (map known (drop i xs)) ≡ n + left = ap (λ (ys : List Verdict). n + count test (map known ys)) (at_drop xs i x lt is) ∙ ap (λ (b : Bool). n + counted b left) no in
+    let here : n + count test (map known (drop i xs)) ≡ n + count test (map known (drop (i + 1) xs)) = ap (λ (ys : List Verdict). n + count test (map known ys)) (at_drop xs i x lt is) ∙ ap (λ (b : Bool). n + counted b (count test (map known (drop (i + 1) xs)))) no in
     omega (arith, here, so)
 
 pub count_end : (test : End → Bool) (xs : List Verdict) (i n whole : ℕ) → n + count test (map known (drop i xs)) ≡ whole → length xs ≤ i → n ≡ whole

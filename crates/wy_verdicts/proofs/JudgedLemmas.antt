@@ -23,7 +23,7 @@ use Rattle.wy_verdicts.specs.Judged.{AreJudged, EndsIn, IsJudged}
 use Rattle.wy_verdicts.specs.Known.{AreKnown, EndsSo, IsKnown, IsSearched, Known, bad_step_of}
 use Rattle.wy_verdicts.specs.Seen.{AreShown, NameTerms, known, seen_end}
 use Rattle.wy_verdicts.specs.declared.verdict.End.{End}
-use Rattle.wy_verdicts.specs.declared.verdict.End.TheVariants as end
+use Rattle.wy_verdicts.specs.declared.verdict.End.TheVariants as ends
 use Rattle.wy_verdicts.specs.declared.verdict.Verdict.{Verdict}
 
 -- ---- terms that are as before
@@ -45,16 +45,16 @@ condition_at f (d ∷ cs) (suc i) c lt is = condition_at f cs i c (omega (arith,
 
 -- ---- ends
 
-pub ends_open : (c : Condition) (budget : ℕ) (leaf : OpenLeaf) → tree.IsVerdict c budget (searching.seen_verdict (search.Open leaf)) → searching.NamesItsTerms (search.Open leaf) → EndsIn c budget (end.Open leaf)
+pub ends_open : (c : Condition) (budget : ℕ) (leaf : OpenLeaf) → tree.IsVerdict c budget (searching.seen_verdict (search.Open leaf)) → searching.NamesItsTerms (search.Open leaf) → EndsIn c budget (ends.Open leaf)
 ends_open c budget leaf h named = record { searched = record { verdict = searching.seen_verdict (search.Open leaf); searched = h; is = refl }; shown = tt; named = named }
 
-pub ends_spent : (c : Condition) (budget : ℕ) → tree.IsVerdict c budget tree.spent → EndsIn c budget end.Spent
+pub ends_spent : (c : Condition) (budget : ℕ) → tree.IsVerdict c budget tree.spent → EndsIn c budget ends.Spent
 ends_spent c budget h = record { searched = record { verdict = tree.spent; searched = h; is = refl }; shown = tt; named = tt }
 
-pub ends_found : (c : Condition) (budget leaves : ℕ) (cert : Cert) → IsValid c (steps_of cert) → AreSortedSteps (steps_of cert) → NamesItsTerms cert → tree.IsVerdict c budget (tree.found leaves) → EndsIn c budget (end.Found cert leaves)
+pub ends_found : (c : Condition) (budget leaves : ℕ) (cert : Cert) → IsValid c (steps_of cert) → AreSortedSteps (steps_of cert) → NamesItsTerms cert → tree.IsVerdict c budget (tree.found leaves) → EndsIn c budget (ends.Found cert leaves)
 ends_found c budget leaves cert valid sorted names h = record { searched = record { verdict = tree.found leaves; searched = h; is = refl }; shown = record { valid = valid; sorted = sorted }; named = names }
 
-pub ends_uncertified : (c : Condition) (budget leaves : ℕ) → tree.IsVerdict c budget (tree.found leaves) → EndsIn c budget (end.Uncertified leaves)
+pub ends_uncertified : (c : Condition) (budget leaves : ℕ) → tree.IsVerdict c budget (tree.found leaves) → EndsIn c budget (ends.Uncertified leaves)
 ends_uncertified c budget leaves h = record { searched = record { verdict = tree.found leaves; searched = h; is = refl }; shown = tt; named = tt }
 
 abbrev pub some_cert : Cert → Option Cert
@@ -62,7 +62,7 @@ some_cert cert = Some cert
 
 -- the certificate that was made
 pub certified_ends : (c : Condition) (budget leaves : ℕ) (o : Option Cert) (cert : Cert) → o ≡ some_cert cert → IfSome o (λ (k : Cert). IsValid c (steps_of k)) → IfSome o (λ (k : Cert). AreSortedSteps (steps_of k)) → IfSome o NamesItsTerms → tree.IsVerdict c budget (tree.found leaves)
-    → EndsIn c budget (end.Found cert leaves)
+    → EndsIn c budget (ends.Found cert leaves)
 certified_ends c budget leaves o cert is valid sorted names h =
     ends_found c budget leaves cert (subst (λ (p : Option Cert). IfSome p (λ (k : Cert). IsValid c (steps_of k))) is valid) (subst (λ (p : Option Cert). IfSome p (λ (k : Cert). AreSortedSteps (steps_of k))) is sorted) (subst (λ (p : Option Cert). IfSome p NamesItsTerms) is names) h
 
@@ -71,10 +71,10 @@ pub found_there : {E : Type 0} (r : Result End E) (c d : Condition) (budget leav
 found_there r c d budget leaves v same is h f =
     subst (λ (x : Condition). IfOk r (EndsIn x budget)) same (f (subst (λ (x : Condition). tree.IsVerdict x budget (tree.found leaves)) (sym same) (subst (λ (w : Search). tree.IsVerdict c budget (searching.seen_verdict w)) is h)))
 
-pub open_there : (c : Condition) (budget : ℕ) (leaf : OpenLeaf) (v : Search) → v ≡ search.Open leaf → tree.IsVerdict c budget (searching.seen_verdict v) → searching.NamesItsTerms v → EndsIn c budget (end.Open leaf)
+pub open_there : (c : Condition) (budget : ℕ) (leaf : OpenLeaf) (v : Search) → v ≡ search.Open leaf → tree.IsVerdict c budget (searching.seen_verdict v) → searching.NamesItsTerms v → EndsIn c budget (ends.Open leaf)
 open_there c budget leaf v is h named = ends_open c budget leaf (subst (λ (w : Search). tree.IsVerdict c budget (searching.seen_verdict w)) is h) (subst (λ (w : Search). searching.NamesItsTerms w) is named)
 
-pub spent_there : (c : Condition) (budget : ℕ) (v : Search) → v ≡ search.Spent → tree.IsVerdict c budget (searching.seen_verdict v) → EndsIn c budget end.Spent
+pub spent_there : (c : Condition) (budget : ℕ) (v : Search) → v ≡ search.Spent → tree.IsVerdict c budget (searching.seen_verdict v) → EndsIn c budget ends.Spent
 spent_there c budget v is h = ends_spent c budget (subst (λ (w : Search). tree.IsVerdict c budget (searching.seen_verdict w)) is h)
 
 -- ---- one condition
@@ -82,9 +82,9 @@ spent_there c budget v is h = ends_spent c budget (subst (λ (w : Search). tree.
 abbrev pub judged_so : Option ℕ → End → Verdict
 judged_so bad e = record { bad_step = bad; end = e }
 
-pub supplied_judged : (c : Condition) (budget : ℕ) (certs : Certificates) (n : ℕ) → given.Supplied ≡ verdict_on c (certificate_for certs n) → IsJudged certs budget n c (judged_so None end.Supplied)
+pub supplied_judged : (c : Condition) (budget : ℕ) (certs : Certificates) (n : ℕ) → given.Supplied ≡ verdict_on c (certificate_for certs n) → IsJudged certs budget n c (judged_so None ends.Supplied)
 supplied_judged c budget certs n is = record {
-  known = record { bad_step = ap bad_step_of is; end = subst (λ (g : Given). EndsSo c budget g (seen_end end.Supplied)) is refl };
+  known = record { bad_step = ap bad_step_of is; end = subst (λ (g : Given). EndsSo c budget g (seen_end ends.Supplied)) is refl };
   shown = tt;
   named = tt;
 }

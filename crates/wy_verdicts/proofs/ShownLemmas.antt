@@ -18,7 +18,7 @@ use Rattle.wy_verdicts.specs.Known.{AreKnown, End, EndsSo, IsKnown, IsSearched, 
 use Rattle.wy_verdicts.specs.Seen.{AreShown, IsShown, are_certified, is_certified, known, seen_end}
 use Rattle.wy_verdicts.specs.Shown.{CertifiedIsTrue, ReadIsTrue}
 use Rattle.wy_verdicts.specs.declared.verdict.End.{End as CodeEnd}
-use Rattle.wy_verdicts.specs.declared.verdict.End.TheVariants as end
+use Rattle.wy_verdicts.specs.declared.verdict.End.TheVariants as ends
 use Rattle.wy_verdicts.specs.declared.verdict.Verdict.{Verdict}
 
 -- ---- supplied certificates
@@ -59,11 +59,11 @@ supplied_holds certs n c sorted formed is = by (certificate_for certs n) refl is
 -- ---- one condition
 
 certified_holds : (certs : Certificates) (budget n : ℕ) (c : Condition) (e : CodeEnd) → AreSortedCertificates certs → IsFormed c → EndsSo c budget (verdict_on c (certificate_for certs n)) (seen_end e) → IsShown c e → is_certified e ≡ true → HoldsAlways c
-certified_holds certs budget n c end.Supplied sorted formed h shown yes = supplied_holds certs n c sorted formed (is_supplied c budget (verdict_on c (certificate_for certs n)) h)
-certified_holds certs budget n c (end.Found cert leaves) sorted formed h shown yes = valid_implies_true c (steps_of cert) formed.sorted formed.are_closed shown.sorted shown.valid
-certified_holds certs budget n c (end.Open leaf) sorted formed h shown yes = absurd (cc)
-certified_holds certs budget n c end.Spent sorted formed h shown yes = absurd (cc)
-certified_holds certs budget n c (end.Uncertified leaves) sorted formed h shown yes = absurd (cc)
+certified_holds certs budget n c ends.Supplied sorted formed h shown yes = supplied_holds certs n c sorted formed (is_supplied c budget (verdict_on c (certificate_for certs n)) h)
+certified_holds certs budget n c (ends.Found cert leaves) sorted formed h shown yes = valid_implies_true c (steps_of cert) formed.sorted formed.are_closed shown.sorted shown.valid
+certified_holds certs budget n c (ends.Open leaf) sorted formed h shown yes = absurd (cc)
+certified_holds certs budget n c ends.Spent sorted formed h shown yes = absurd (cc)
+certified_holds certs budget n c (ends.Uncertified leaves) sorted formed h shown yes = absurd (cc)
 
 both : (a b : Bool) → (a && b) ≡ true → (a ≡ true) × (b ≡ true)
 both true b e = (refl, e)
