@@ -9,9 +9,9 @@ use Rattle.wy_owed.specs.Owed.{condition_text, conditions_text}
 at_drop : (xs : List Cond) (i : ℕ) (x : Cond) → i < length xs → x ≡ get_or xs i x → drop i xs ≡ x ∷ drop (i + 1) xs
 at_drop [] i x lt is = absurd (omega (arith, lt))
 at_drop (y ∷ xs) zero x lt is = ap (λ (z : Cond). z ∷ xs) (sym is)
-at_drop (y ∷ xs) (suc i) x lt is = at_drop xs i x (omega (arith, lt)) is ∙ ap (λ (k : ℕ). x ∷ drop k xs) (sym behind)
+at_drop (y ∷ xs) (suc i) x lt is = at_drop xs i x (omega (arith, lt)) is ∙ ap (λ (k : ℕ). x ∷ drop k (y ∷ xs)) behind
   where
-    behind : suc i ≡ i + 1
+    behind : suc (i + 1) ≡ suc i + 1
     behind = omega arith
 
 -- one more condition is written

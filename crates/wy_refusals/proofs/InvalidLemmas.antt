@@ -10,9 +10,9 @@ use Rattle.wy_verdicts.specs.declared.verdict.Verdict.{Verdict}
 pub at_drop : {A : Type 0} (xs : List A) (i : ℕ) (x : A) → i < length xs → x ≡ get_or xs i x → drop i xs ≡ x ∷ drop (i + 1) xs
 at_drop [] i x lt is = absurd (omega (arith, lt))
 at_drop {A} (y ∷ xs) zero x lt is = ap (λ (z : A). z ∷ xs) (sym is)
-at_drop {A} (y ∷ xs) (suc i) x lt is = at_drop xs i x (omega (arith, lt)) is ∙ ap (λ (k : ℕ). x ∷ drop k xs) (sym behind)
+at_drop {A} (y ∷ xs) (suc i) x lt is = at_drop xs i x (omega (arith, lt)) is ∙ ap (λ (k : ℕ). x ∷ drop k (y ∷ xs)) behind
   where
-    behind : suc i ≡ i + 1
+    behind : suc (i + 1) ≡ suc i + 1
     behind = omega arith
 
 -- one more condition

@@ -16,7 +16,9 @@ pair_of e = (e.0, steps_of e.1)
 
 -- one condition more
 found_push : (n m : ℕ) (vs : List Verdict) (v : Verdict) → m ≡ n + length vs → found_from n (vs ++ v ∷ []) ≡ found_from n vs ++ certificate_in m v.end
-found_push n m [] v is = append-nil (certificate_in n v.end) ∙ ap (λ (k : ℕ). certificate_in k v.end) (omega (arith, is))
+found_push n m [] v is =
+    let same : n ≡ m = omega (arith, is) in
+    append-nil (certificate_in n v.end) ∙ ap (λ (k : ℕ). certificate_in k v.end) same
 found_push n m (w ∷ vs) v is =
     ap (λ (cs : Certificates). certificate_in n w.end ++ cs) (found_push (suc n) m vs v (omega (arith, is)))
     ∙ sym (append_assoc (certificate_in n w.end) (found_from (suc n) vs) (certificate_in m v.end))

@@ -10,9 +10,9 @@ use Rattle.wy_verdicts.specs.declared.verdict.Verdict.{Verdict}
 at_drop : (xs : List Verdict) (i : ℕ) (x : Verdict) → i < length xs → x ≡ get_or xs i x → drop i xs ≡ x ∷ drop (i + 1) xs
 at_drop [] i x lt is = absurd (omega (arith, lt))
 at_drop (y ∷ xs) zero x lt is = ap (λ (z : Verdict). z ∷ xs) (sym is)
-at_drop (y ∷ xs) (suc i) x lt is = at_drop xs i x (omega (arith, lt)) is ∙ ap (λ (k : ℕ). x ∷ drop k xs) (sym behind)
+at_drop (y ∷ xs) (suc i) x lt is = at_drop xs i x (omega (arith, lt)) is ∙ ap (λ (k : ℕ). x ∷ drop k (y ∷ xs)) behind
   where
-    behind : suc i ≡ i + 1
+    behind : suc (i + 1) ≡ suc i + 1
     behind = omega arith
 
 -- ---- counts
@@ -21,13 +21,13 @@ abbrev counted : Bool → ℕ → ℕ
 counted b n = if b then suc n else n
 
 pub count_more : (test : End → Bool) (xs : List Verdict) (i : ℕ) (x : Verdict) (n whole : ℕ) → n + count test (map known (drop i xs)) ≡ whole → i < length xs → x ≡ get_or xs i x → test (seen_end x.end) ≡ true → n + 1 + count test (map known (drop (i + 1) xs)) ≡ whole
-count_more test xs i x n whole so lt is yes =
-    let here : n + count test (map known (drop i xs)) ≡ n + suc (count test (map known (drop (i + 1) xs))) = ap (λ (ys : List Verdict). n + count test (map known ys)) (at_drop xs i x lt is) ∙ ap (λ (b : Bool). n + counted b (count test (map known (drop (i + 1) xs)))) yes in
+count_more test xs i x n whole so lt is so_it_is =
+    let here : n + count test (map known (drop i xs)) ≡ n + suc (count test (map known (drop (i + 1) xs))) = ap (λ (ys : List Verdict). n + count test (map known ys)) (at_drop xs i x lt is) ∙ ap (λ (b : Bool). n + counted b (count test (map known (drop (i + 1) xs)))) so_it_is in
     omega (arith, here, so)
 
 pub count_same : (test : End → Bool) (xs : List Verdict) (i : ℕ) (x : Verdict) (n whole : ℕ) → n + count test (map known (drop i xs)) ≡ whole → i < length xs → x ≡ get_or xs i x → test (seen_end x.end) ≡ false → n + count test (map known (drop (i + 1) xs)) ≡ whole
-count_same test xs i x n whole so lt is no =
-    let here : n + count test (map known (drop i xs)) ≡ n + count test (map known (drop (i + 1) xs)) = ap (λ (ys : List Verdict). n + count test (map known ys)) (at_drop xs i x lt is) ∙ ap (λ (b : Bool). n + counted b (count test (map known (drop (i + 1) xs)))) no in
+count_same test xs i x n whole so lt is not_so =
+    let here : n + count test (map known (drop i xs)) ≡ n + count test (map known (drop (i + 1) xs)) = ap (λ (ys : List Verdict). n + count test (map known ys)) (at_drop xs i x lt is) ∙ ap (λ (b : Bool). n + counted b (count test (map known (drop (i + 1) xs)))) not_so in
     omega (arith, here, so)
 
 pub count_end : (test : End → Bool) (xs : List Verdict) (i n whole : ℕ) → n + count test (map known (drop i xs)) ≡ whole → length xs ≤ i → n ≡ whole
@@ -40,12 +40,12 @@ pub ruleset count_steps = (count_more, count_same, count_end)
 -- ---- all are certified
 
 pub certified_more : (xs : List Verdict) (i : ℕ) (x : Verdict) (whole : Bool) → are_certified (drop i xs) ≡ whole → i < length xs → x ≡ get_or xs i x → is_certified x.end ≡ true → are_certified (drop (i + 1) xs) ≡ whole
-certified_more xs i x whole so lt is yes =
-    sym (ap (λ (b : Bool). b && are_certified (drop (i + 1) xs)) yes) ∙ ap are_certified (sym (at_drop xs i x lt is)) ∙ so
+certified_more xs i x whole so lt is so_it_is =
+    sym (ap (λ (b : Bool). b && are_certified (drop (i + 1) xs)) so_it_is) ∙ ap are_certified (sym (at_drop xs i x lt is)) ∙ so
 
 pub certified_not : (xs : List Verdict) (i : ℕ) (x : Verdict) (whole : Bool) → are_certified (drop i xs) ≡ whole → i < length xs → x ≡ get_or xs i x → is_certified x.end ≡ false → false ≡ whole
-certified_not xs i x whole so lt is no =
-    sym (ap (λ (b : Bool). b && are_certified (drop (i + 1) xs)) no) ∙ ap are_certified (sym (at_drop xs i x lt is)) ∙ so
+certified_not xs i x whole so lt is not_so =
+    sym (ap (λ (b : Bool). b && are_certified (drop (i + 1) xs)) not_so) ∙ ap are_certified (sym (at_drop xs i x lt is)) ∙ so
 
 pub certified_end : (xs : List Verdict) (i : ℕ) (whole : Bool) → are_certified (drop i xs) ≡ whole → length xs ≤ i → true ≡ whole
 certified_end xs i whole so le = ap are_certified (sym (drop_all i xs le)) ∙ so
@@ -55,12 +55,12 @@ pub ruleset certified_steps = (certified_more, certified_not, certified_end)
 -- ---- some lacks a certificate
 
 pub lacking_more : (xs : List Verdict) (i : ℕ) (x : Verdict) (whole : Bool) → some_lacks (drop i xs) ≡ whole → i < length xs → x ≡ get_or xs i x → lacks_certificate x.end ≡ false → some_lacks (drop (i + 1) xs) ≡ whole
-lacking_more xs i x whole so lt is no =
-    sym (ap (λ (b : Bool). b || some_lacks (drop (i + 1) xs)) no) ∙ ap some_lacks (sym (at_drop xs i x lt is)) ∙ so
+lacking_more xs i x whole so lt is not_so =
+    sym (ap (λ (b : Bool). b || some_lacks (drop (i + 1) xs)) not_so) ∙ ap some_lacks (sym (at_drop xs i x lt is)) ∙ so
 
 pub lacking_here : (xs : List Verdict) (i : ℕ) (x : Verdict) (whole : Bool) → some_lacks (drop i xs) ≡ whole → i < length xs → x ≡ get_or xs i x → lacks_certificate x.end ≡ true → true ≡ whole
-lacking_here xs i x whole so lt is yes =
-    sym (ap (λ (b : Bool). b || some_lacks (drop (i + 1) xs)) yes) ∙ ap some_lacks (sym (at_drop xs i x lt is)) ∙ so
+lacking_here xs i x whole so lt is so_it_is =
+    sym (ap (λ (b : Bool). b || some_lacks (drop (i + 1) xs)) so_it_is) ∙ ap some_lacks (sym (at_drop xs i x lt is)) ∙ so
 
 pub lacking_end : (xs : List Verdict) (i : ℕ) (whole : Bool) → some_lacks (drop i xs) ≡ whole → length xs ≤ i → false ≡ whole
 lacking_end xs i whole so le = ap some_lacks (sym (drop_all i xs le)) ∙ so

@@ -82,26 +82,32 @@ spent_there c budget v is h = ends_spent c budget (subst (λ (w : Search). tree.
 abbrev pub judged_so : Option ℕ → End → Verdict
 judged_so bad e = record { bad_step = bad; end = e }
 
-pub supplied_judged : (c : Condition) (budget : ℕ) (certs : Certificates) (n : ℕ) → given.Supplied ≡ verdict_on c (certificate_for certs n) → IsJudged certs budget n c (judged_so None ends.Supplied)
-supplied_judged c budget certs n is = record {
-  known = record { bad_step = ap bad_step_of is; end = subst (λ (g : Given). EndsSo c budget g (seen_end ends.Supplied)) is refl };
-  shown = tt;
-  named = tt;
-}
+pub supplied_judged : (c : Condition) (budget : ℕ) (g : Given) → g ≡ given.Supplied → (certs : Certificates) (n : ℕ) → g ≡ verdict_on c (certificate_for certs n) → IsJudged certs budget n c (judged_so None ends.Supplied)
+supplied_judged c budget g is certs n told =
+    let there : given.Supplied ≡ verdict_on c (certificate_for certs n) = sym is ∙ told in
+    record {
+      known = record { bad_step = ap bad_step_of there; end = subst (λ (h : Given). EndsSo c budget h (seen_end ends.Supplied)) there refl };
+      shown = tt;
+      named = tt;
+    }
 
-pub missing_judged : (c : Condition) (budget : ℕ) (e : End) → EndsIn c budget e → (certs : Certificates) (n : ℕ) → given.Missing ≡ verdict_on c (certificate_for certs n) → IsJudged certs budget n c (judged_so None e)
-missing_judged c budget e h certs n is = record {
-  known = record { bad_step = ap bad_step_of is; end = subst (λ (g : Given). EndsSo c budget g (seen_end e)) is h.searched };
-  shown = h.shown;
-  named = h.named;
-}
+pub missing_judged : (c : Condition) (budget : ℕ) (g : Given) → g ≡ given.Missing → (e : End) → EndsIn c budget e → (certs : Certificates) (n : ℕ) → g ≡ verdict_on c (certificate_for certs n) → IsJudged certs budget n c (judged_so None e)
+missing_judged c budget g is e h certs n told =
+    let there : given.Missing ≡ verdict_on c (certificate_for certs n) = sym is ∙ told in
+    record {
+      known = record { bad_step = ap bad_step_of there; end = subst (λ (k : Given). EndsSo c budget k (seen_end e)) there h.searched };
+      shown = h.shown;
+      named = h.named;
+    }
 
-pub bad_judged : (c : Condition) (budget step : ℕ) (e : End) → EndsIn c budget e → (certs : Certificates) (n : ℕ) → given.Bad step ≡ verdict_on c (certificate_for certs n) → IsJudged certs budget n c (judged_so (Some step) e)
-bad_judged c budget step e h certs n is = record {
-  known = record { bad_step = ap bad_step_of is; end = subst (λ (g : Given). EndsSo c budget g (seen_end e)) is h.searched };
-  shown = h.shown;
-  named = h.named;
-}
+pub bad_judged : (c : Condition) (budget step : ℕ) (g : Given) → g ≡ given.Bad step → (e : End) → EndsIn c budget e → (certs : Certificates) (n : ℕ) → g ≡ verdict_on c (certificate_for certs n) → IsJudged certs budget n c (judged_so (Some step) e)
+bad_judged c budget step g is e h certs n told =
+    let there : given.Bad step ≡ verdict_on c (certificate_for certs n) = sym is ∙ told in
+    record {
+      known = record { bad_step = ap bad_step_of there; end = subst (λ (k : Given). EndsSo c budget k (seen_end e)) there h.searched };
+      shown = h.shown;
+      named = h.named;
+    }
 
 -- ---- lists of conditions
 
@@ -129,16 +135,20 @@ given_at certs f conds i c vs v lt at is here =
 judged_push : (certs : Certificates) (budget n : ℕ) (cs : List Condition) (i : ℕ) (vs : List Verdict) (c : Condition) (v : Verdict) → i < length cs → c ≡ get_or cs i c → AreJudged certs budget n (take i cs) vs → IsJudged certs budget (n + i) c v
     → AreJudged certs budget n (take (suc i) cs) (vs ++ v ∷ [])
 judged_push certs budget n [] i vs c v lt at so h = absurd (omega (arith, lt))
-judged_push certs budget n (d ∷ cs) zero [] c v lt at so h = (subst (λ (m : ℕ). IsJudged certs budget m d v) (omega arith) (subst (λ (x : Condition). IsJudged certs budget (n + 0) x v) at h), tt)
+judged_push certs budget n (d ∷ cs) zero [] c v lt at so h =
+    let here : n + 0 ≡ n = omega arith in
+    (subst (λ (m : ℕ). IsJudged certs budget m d v) here (subst (λ (x : Condition). IsJudged certs budget (n + 0) x v) at h), tt)
 judged_push certs budget n (d ∷ cs) zero (w ∷ vs) c v lt at so h = absurd so
 judged_push certs budget n (d ∷ cs) (suc i) [] c v lt at so h = absurd so
 judged_push certs budget n (d ∷ cs) (suc i) (w ∷ vs) c v lt at so h =
-    (so.0, judged_push certs budget (n + 1) cs i vs c v (omega (arith, lt)) at so.1 (subst (λ (m : ℕ). IsJudged certs budget m c v) (omega arith) h))
+    let later : n + suc i ≡ n + 1 + i = omega arith in
+    (so.0, judged_push certs budget (n + 1) cs i vs c v (omega (arith, lt)) at so.1 (subst (λ (m : ℕ). IsJudged certs budget m c v) later h))
 
 pub judged_more : (certs : Certificates) (budget : ℕ) (f : Cond → Condition) (conds : List Cond) (i : ℕ) (vs : List Verdict) (c : Cond) (v : Verdict) → i < length conds → c ≡ get_or conds i c → AreJudged certs budget 1 (take i (map f conds)) vs → IsJudged certs budget (1 + i) (f c) v
     → AreJudged certs budget 1 (take (i + 1) (map f conds)) (vs ++ v ∷ [])
 judged_more certs budget f conds i vs c v lt at so h =
-    subst (λ (k : ℕ). AreJudged certs budget 1 (take k (map f conds)) (vs ++ v ∷ [])) (omega arith)
+    let next : suc i ≡ i + 1 = omega arith in
+    subst (λ (k : ℕ). AreJudged certs budget 1 (take k (map f conds)) (vs ++ v ∷ [])) next
     (judged_push certs budget 1 (map f conds) i vs (f c) v (omega (arith, lt, length-map conds f)) (condition_at f conds i c lt at) so h)
 
 -- nothing yet

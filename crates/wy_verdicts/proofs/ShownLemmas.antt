@@ -39,11 +39,11 @@ some_steps steps = Some steps
 -- a certificate of the list has sorted steps
 sorted_there : (certs : Certificates) (n : ℕ) (steps : List Written) → AreSortedCertificates certs → certificate_for certs n ≡ some_steps steps → AreSortedSteps steps
 sorted_there [] n steps sorted is = absurd (cc)
-sorted_there (d ∷ ds) n steps sorted is = by (d.0 == n) is
+sorted_there (d ∷ ds) n steps sorted is = by (d.0 == n) is (λ e. sorted_there ds n steps sorted.1 e)
   where
-    by : (b : Bool) → cond b (some_steps d.1) (certificate_for ds n) ≡ some_steps steps → AreSortedSteps steps
-    by true e = let same : d.1 ≡ steps = cc in subst AreSortedSteps same sorted.0
-    by false e = sorted_there ds n steps sorted.1 e
+    by : (b : Bool) → cond b (some_steps d.1) (certificate_for ds n) ≡ some_steps steps → (certificate_for ds n ≡ some_steps steps → AreSortedSteps steps) → AreSortedSteps steps
+    by true e rest = let same : d.1 ≡ steps = cc in subst AreSortedSteps same sorted.0
+    by false e rest = rest e
 
 no_bad_step : (bad : Option ℕ) → verdict_from bad ≡ given.Supplied → bad ≡ None
 no_bad_step None e = refl
@@ -59,25 +59,25 @@ supplied_holds certs n c sorted formed is = by (certificate_for certs n) refl is
 -- ---- one condition
 
 certified_holds : (certs : Certificates) (budget n : ℕ) (c : Condition) (e : CodeEnd) → AreSortedCertificates certs → IsFormed c → EndsSo c budget (verdict_on c (certificate_for certs n)) (seen_end e) → IsShown c e → is_certified e ≡ true → HoldsAlways c
-certified_holds certs budget n c ends.Supplied sorted formed h shown yes = supplied_holds certs n c sorted formed (is_supplied c budget (verdict_on c (certificate_for certs n)) h)
-certified_holds certs budget n c (ends.Found cert leaves) sorted formed h shown yes = valid_implies_true c (steps_of cert) formed.sorted formed.are_closed shown.sorted shown.valid
-certified_holds certs budget n c (ends.Open leaf) sorted formed h shown yes = absurd (cc)
-certified_holds certs budget n c ends.Spent sorted formed h shown yes = absurd (cc)
-certified_holds certs budget n c (ends.Uncertified leaves) sorted formed h shown yes = absurd (cc)
+certified_holds certs budget n c ends.Supplied sorted formed h shown so_it_is = supplied_holds certs n c sorted formed (is_supplied c budget (verdict_on c (certificate_for certs n)) h)
+certified_holds certs budget n c (ends.Found cert leaves) sorted formed h shown so_it_is = valid_implies_true c (steps_of cert) formed.sorted formed.are_closed shown.sorted shown.valid
+certified_holds certs budget n c (ends.Open leaf) sorted formed h shown so_it_is = absurd (cc)
+certified_holds certs budget n c ends.Spent sorted formed h shown so_it_is = absurd (cc)
+certified_holds certs budget n c (ends.Uncertified leaves) sorted formed h shown so_it_is = absurd (cc)
 
 both : (a b : Bool) → (a && b) ≡ true → (a ≡ true) × (b ≡ true)
 both true b e = (refl, e)
 both false b e = absurd (cc)
 
 pub certified_is_true : CertifiedIsTrue
-certified_is_true certs budget n [] vs sorted formed h shown yes = tt
-certified_is_true certs budget n (c ∷ cs) [] sorted formed h shown yes = absurd h
-certified_is_true certs budget n (c ∷ cs) (v ∷ vs) sorted formed h shown yes =
-    let yeses = both (is_certified v.end) (are_certified vs) yes in
+certified_is_true certs budget n [] vs sorted formed h shown so_it_is = tt
+certified_is_true certs budget n (c ∷ cs) [] sorted formed h shown so_it_is = absurd h
+certified_is_true certs budget n (c ∷ cs) (v ∷ vs) sorted formed h shown so_it_is =
+    let yeses = both (is_certified v.end) (are_certified vs) so_it_is in
     (certified_holds certs budget n c v.end sorted formed.0 h.0.end shown.0 yeses.0, certified_is_true certs budget (n + 1) cs vs sorted formed.1 h.1 shown.1 yeses.1)
 
 pub read_is_true : ReadIsTrue
-read_is_true conds bytes certs budget n cs vs reads formed h shown yes = certified_is_true certs budget n cs vs (reads_sorted conds bytes certs reads) formed h shown yes
+read_is_true conds bytes certs budget n cs vs reads formed h shown so_it_is = certified_is_true certs budget n cs vs (reads_sorted conds bytes certs reads) formed h shown so_it_is
 
 -- ---- one list
 

@@ -11,8 +11,8 @@ loop-i-init c = record {
   kept = c.in_ok-given.ensures.kept;
 }
 
-pub judged_one-verdict-requires : goal.judged_one-verdict-requires
-judged_one-verdict-requires c =
+pub judged_one-requires : goal.judged_one-requires
+judged_one-requires c =
     let lt : c.loop-i.i < length c.args.conds.now = search rules in
     record { cond = same_within c.args.terms.now c.loop-i.terms c.index-conds-i.result c.loop-i.invariant.same (within_at (length c.args.terms.now) c.args.conds.now c.loop-i.i c.index-conds-i.result c.requires.conds lt c.index-conds-i.is) }
 
@@ -20,8 +20,8 @@ pub loop-i-preserved : goal.loop-i-preserved
 loop-i-preserved c =
     let lt : c.loop-i.i < length c.args.conds.now = search rules in
     record {
-      judged = judged_turn (certificates_of c.args.certs.now) c.args.budget c.args.terms.now c.loop-i.terms c.args.conds.now c.loop-i.i c.loop-i.judged.items c.push.new.self.items c.index-conds-i.result c.in_ok-verdict.verdict c.in_ok-given.given.items c.index.result
-          c.loop-i.invariant.same c.loop-i.invariant.kept c.requires.conds lt c.index-conds-i.is c.in_ok-given.ensures.value ? c.in_ok-verdict.ensures.value c.in_ok-push.ensures.items c.loop-i.invariant.judged;
+      judged = judged_turn (certificates_of c.args.certs.now) c.args.budget c.args.terms.now c.loop-i.terms c.args.conds.now c.loop-i.i c.loop-i.judged.items c.push.new.self.items c.index-conds-i.result c.in_ok-verdict.verdict c.in_ok-given.given.items c.index.result.now
+          c.loop-i.invariant.same c.loop-i.invariant.kept c.requires.conds lt c.index-conds-i.is c.in_ok-given.ensures.value c.index.ensures c.in_ok-verdict.ensures.value c.in_ok-push.ensures.items c.loop-i.invariant.judged;
       same = c.in_ok-verdict.ensures.length ∙ c.loop-i.invariant.same;
       kept = λ t lt. c.in_ok-verdict.ensures.kept t (omega (arith, lt, c.loop-i.invariant.same)) ∙ c.loop-i.invariant.kept t lt;
     }
