@@ -23,6 +23,7 @@ pub fn are_terms_sorted(terms: &Terms) -> bool
 }
 
 // Whether a step splits on a formula, if it is a split.
+#[tactic(auto, using(crate::proofs::SortLemmas::terms_sorted))]
 fn splits_on_formula(terms: &Terms, step: &Step) -> bool
     requires below { IsBelow (length terms.now) step.now }
     requires sorted { AreSortedBelow terms.now (length terms.now) }
@@ -30,7 +31,9 @@ fn splits_on_formula(terms: &Terms, step: &Step) -> bool
 {
     match step {
         Step::Split(atom) => is_of_sort(terms, *atom, Sort::Formula),
-        _ => true,
+        Step::Shut | Step::Clash(_, _) | Step::Sum(_) | Step::Cut(_, _) | Step::Wit(_) => true,
+        Step::Inst(_, _) | Step::Prod(_, _, _) => true,
+        Step::Chain(_) | Step::Fact(_, _) => true,
     }
 }
 
