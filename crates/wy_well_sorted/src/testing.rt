@@ -14,8 +14,11 @@ use wy_term::Terms;
 pub fn are_terms_sorted(terms: &Terms) -> bool
     ensures value { IsTrue result → AreSortedBelow terms.now (length terms.now) }
 {
-    for term in 0..terms.len() {
-        if !has_sorted_parts(terms, terms.node(term as u32)) {
+    let Ok(count) = u32::try_from(terms.len()) else {
+        return false;
+    };
+    for number in 0..count {
+        if !has_sorted_parts(terms, terms.node(number)) {
             return false;
         }
     }
@@ -23,7 +26,7 @@ pub fn are_terms_sorted(terms: &Terms) -> bool
 }
 
 // Whether a step splits on a formula, if it is a split.
-#[tactic(auto, using(crate::proofs::SortLemmas::terms_sorted))]
+#[tactic(auto, using(crate::proofs::SortLemmas::chain_sorted, crate::proofs::SortLemmas::fact_sorted))]
 fn splits_on_formula(terms: &Terms, step: &Step) -> bool
     requires below { IsBelow (length terms.now) step.now }
     requires sorted { AreSortedBelow terms.now (length terms.now) }
