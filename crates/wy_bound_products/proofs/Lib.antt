@@ -1,0 +1,4 @@
+pub mod AddingLemmas
+pub mod QuotientLemmas
+pub mod BoundLemmas
+pub mod ProductLemmas

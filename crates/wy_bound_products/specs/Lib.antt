@@ -1,0 +1,4 @@
+-- what public contracts cite
+pub mod Bounds
+-- what functions inside owe each other
+pub mod Adding

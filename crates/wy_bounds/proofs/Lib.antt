@@ -1,0 +1,8 @@
+-- forms by places
+pub mod PlacedLemmas
+-- forms that take variables away
+pub mod TakingLemmas
+-- multipliers, and sums with them
+pub mod SumLemmas
+-- what is left of forms
+pub mod GatherLemmas

@@ -1,0 +1,15 @@
+use Rattle.std.proofs.Common.{◌≡◌, take, length}
+use Rattle.wy_facts.specs.Seen.{Stays}
+use Rattle.wy_judging.specs.Seen.{IsBranch, seen_branch}
+use Rattle.wy_search.specs.Bounds.{replaced_forms}
+use Rattle.wy_term.specs.Nodes.{tree_at}
+use Rattle.wy_classes.specs.Seen.{terms_of, IsPresent}
+use Rattle.wy_bounds.specs.Gathered.{Gathers}
+use Rattle.wy_bounds.proofs.gathering.gather.Given as goal
+
+-- those of the literals so far are gathered
+abbrev pub invariant-loop-i : goal.invariant-loop-i
+invariant-loop-i l = record {
+  gathers : Gathers l.gathered (replaced_forms (terms_of (tree_at l.fn.terms) l.present) l.labels (take l.i (seen_branch (tree_at l.fn.terms) l.branch).literals));
+  stays : Stays l.fn.terms l.terms;
+}

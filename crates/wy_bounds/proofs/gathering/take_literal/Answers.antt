@@ -1,0 +1,33 @@
+use Rattle.std.proofs.Common.{◌≡◌, ◌∙◌, List, Bool, false, map, sym, ap}
+use Rattle.std.specs.Prelude.{option_map}
+use Rattle.std.proofs.lemmas.Result.{IfOk-weaker}
+use Rattle.wy_term.specs.Term.{Term}
+use Rattle.wy_term.specs.Nodes.{tree_at}
+use Rattle.wy_lin.specs.Seen.{seen_form}
+use Rattle.wy_judging.specs.Seen.{seen_literal}
+use Rattle.wy_search.specs.Bounds.{numbered, replaced}
+use Rattle.wy_classes.specs.Seen.{terms_of}
+use Rattle.wy_bounds.specs.Seen.{seen_replaced}
+use Rattle.wy_bounds.proofs.GatherLemmas.{takes_form, takes_none, literal_there, terms_stay}
+use Rattle.wy_bounds.proofs.gathering.take_literal.Goals as goal
+
+pub returns-in_ok-one-in-Some-clause-value : goal.returns-in_ok-one-in-Some-clause-value
+returns-in_ok-one-in-Some-clause-value c = λ rs was.
+    let old = c.args.terms.now in
+    let new = c.form_at.new.terms in
+    let ts = terms_of (tree_at old) c.args.present.now in
+    let keys = c.args.branch.now.literals.keys in
+    let f = seen_form (tree_at new) c.in-Some.form in
+    let here = literal_there (tree_at old) keys c.args.i (0, false) c.requires.place in
+    let found = ap (option_map (seen_form (tree_at new))) (sym c.in-Some.is) ∙ c.in_ok-form.ensures.value in
+    let made = c.in_ok-one-in-Some.ensures ∙ ap (replaced c.args.labels.now) (c.in_ok-placed-in-Some.ensures ∙ ap (λ (us : List Term). numbered us f) (terms_stay old new c.args.present.now c.in_ok-form.ensures.stays c.requires.present)) in
+    IfOk-weaker c.take.result _ _ (λ u all. takes_form ts c.args.labels.now (map (seen_literal (tree_at old)) keys) c.args.i c.in_ok-number.number _ rs c.take.new.gathered f (seen_replaced c.in_ok-one-in-Some.one) c.in_ok-number.ensures here found made all) (c.take.ensures rs was)
+
+pub returns-in-None-clause-value : goal.returns-in-None-clause-value
+returns-in-None-clause-value c = λ rs was.
+    let old = c.args.terms.now in
+    let new = c.form_at.new.terms in
+    let keys = c.args.branch.now.literals.keys in
+    let here = literal_there (tree_at old) keys c.args.i (0, false) c.requires.place in
+    let found = ap (option_map (seen_form (tree_at new))) (sym c.in-None.is) ∙ c.in_ok-form.ensures.value in
+    takes_none (terms_of (tree_at old) c.args.present.now) c.args.labels.now (map (seen_literal (tree_at old)) keys) c.args.i c.in_ok-number.number _ rs c.args.gathered.now c.in_ok-number.ensures here found was

@@ -1,0 +1,19 @@
+//! What shows that a node is closed, as steps whose literals are named by their atoms.
+//!
+//! `action` has these steps. `merging` joins the classes of a node's congruence again and notes which two terms joined which
+//! classes, `paths` finds the way between two terms of one class, and `explaining` lists the chains by which literals join
+//! them. `clashing` finds what clashes in classes that do, and `refuting` takes the steps of elimination back to the node's
+//! literals. No clause says that what these list is a proof: it is the checker of certificates that judges it.
+#![tactic(auto)]
+
+mod action;
+mod clashing;
+mod explaining;
+mod merging;
+mod paths;
+mod refuting;
+mod using;
+
+pub use action::{Action, Named};
+pub use clashing::why_they_clash;
+pub use refuting::why_it_refutes;

@@ -1,0 +1,4 @@
+pub mod SpotLemmas
+pub mod RoundLemmas
+pub mod TurnLemmas
+pub mod WalkLemmas

@@ -1,0 +1,35 @@
+use Rattle.std.proofs.Common.{◌≡◌, ◌∙◌, subst}
+use Rattle.wy_term.specs.Nodes.{tree_at}
+use Rattle.wy_term.specs.Condition.{condition_of}
+use Rattle.wy_facts.proofs.StepLemmas.{stays_on}
+use Rattle.wy_bounds.specs.Seen.{seen_ending}
+use Rattle.wy_judging.specs.Seen.{seen_branch}
+use Rattle.wy_instances.specs.Seen.{seen_spot}
+use Rattle.wy_searching.specs.Turns.{IsEnding}
+use Rattle.wy_searching.proofs.SpotLemmas.{seen_stays, spot_stays, types_stay, types_up}
+use Rattle.wy_searching.proofs.TurnLemmas.{moved_ending, unshut_clash}
+use Rattle.wy_searching.proofs.turning.on_classes.Goals as goal
+
+pub returns-in-None-clause-value : goal.returns-in-None-clause-value
+returns-in-None-clause-value c =
+    let at = tree_at c.args.terms.now in
+    unshut_clash (condition_of c.args.terms.now c.args.cond.now).types (seen_spot at c.args.spot) (subst (IsEnding (seen_branch at c.args.spot.branch)) c.in-None.is c.in_ok-ending_of.ensures.value)
+
+pub by_ending-requires-clause-types : goal.by_ending-requires-clause-types
+by_ending-requires-clause-types c = types_up c.args.terms.now c.ending_of.new.terms c.args.cond.now c.in_ok-ending_of.ensures.stays c.requires.types
+
+pub by_ending-requires-clause-spot : goal.by_ending-requires-clause-spot
+by_ending-requires-clause-spot c = spot_stays c.args.terms.now c.ending_of.new.terms c.args.spot c.in_ok-ending_of.ensures.stays c.requires.spot
+
+pub returns-in-Some-clause-value : goal.returns-in-Some-clause-value
+returns-in-Some-clause-value c =
+    let old = c.args.terms.now in
+    let now = c.ending_of.new.terms in
+    let e = subst (IsEnding (seen_branch (tree_at old) c.args.spot.branch)) c.in-Some.is c.in_ok-ending_of.ensures.value in
+    moved_ending (tree_at c.by_ending.new.terms) (condition_of old c.args.cond.now).types (condition_of now c.args.cond.now).types (seen_spot (tree_at old) c.args.spot) (seen_spot (tree_at now) c.args.spot) (seen_ending c.in-Some.end) c.by_ending.result
+    (types_stay old now c.args.cond.now c.in_ok-ending_of.ensures.stays c.requires.types)
+    (seen_stays old now c.args.spot c.in_ok-ending_of.ensures.stays c.requires.spot)
+    e.0 e.1 c.by_ending.ensures.value
+
+pub returns-in-Some-clause-stays : goal.returns-in-Some-clause-stays
+returns-in-Some-clause-stays c = stays_on c.args.terms.now c.ending_of.new.terms c.by_ending.new.terms c.in_ok-ending_of.ensures.stays c.by_ending.ensures.stays

@@ -1,0 +1,19 @@
+use Rattle.std.proofs.Common.{◌≡◌, ◌≤◌, ◌∙◌, List, [], map, length, refl, ap, sym, subst, arith, rules}
+use Rattle.wy_term.specs.Nodes.{tree_at}
+use Rattle.wy_judge.specs.Node.{Literal}
+use Rattle.wy_judging.specs.Seen.{seen_literal, AreOver}
+use Rattle.wy_searching.proofs.WalkLemmas.{copied_more, copied_all}
+use Rattle.wy_searching.proofs.walk.open_leaf.Goals as goal
+
+pub loop-i-preserved : goal.loop-i-preserved
+loop-i-preserved c =
+    let at = tree_at c.args.terms.now in
+    record {
+      copied = copied_more (seen_literal at) c.args.branch.now.literals.keys c.loop-i.i c.nth_literal-atom.result (map (seen_literal (tree_at c.loop-i.own)) c.loop-i.literals.items) _ c.nth_literal-atom.ensures.value c.in_ok-push_copy.ensures.value c.loop-i.invariant.copied;
+      over = c.in_ok-push_copy.ensures.literals;
+    }
+
+pub returns-clause-literals : goal.returns-clause-literals
+returns-clause-literals c =
+    let le : length c.args.branch.now.literals.keys ≤ c.loop-i.i = omega arith in
+    copied_all (seen_literal (tree_at c.args.terms.now)) c.args.branch.now.literals.keys c.loop-i.i _ le c.loop-i.invariant.copied

@@ -1,0 +1,83 @@
+-- What becomes of a node, and how the walk goes on behind it, where `at` gives the term of a number.
+use Rattle.std.specs.Prelude.{◌≡◌, ◌≤◌, ℕ, List, [], ◌∷◌, map, Bool, true, false, Option, Some, None, if◌then◌else◌}
+use Rattle.wy_term.specs.Term.{Term}
+use Rattle.wy_term.specs.Condition.{Entry, Condition}
+use Rattle.wy_term.specs.Nodes.{Plain}
+use Rattle.wy_judge.specs.Node.{Node, added, denied_one}
+use Rattle.wy_judging.specs.Seen.{seen_branch}
+use Rattle.wy_judging.specs.Tasks.{after_one}
+use Rattle.wy_bounds.specs.declared.ending.Ending.{Ending}
+use Rattle.wy_bounds.specs.Seen.{seen_ending}
+use Rattle.wy_search.specs.Bounds.{ending}
+use Rattle.wy_search.specs.Classes.{clashes}
+use Rattle.wy_search.specs.Expansion as search
+use Rattle.wy_search.specs.Tree as tree
+use Rattle.wy_instances.specs.declared.spot.Spot.{Spot}
+use Rattle.wy_instances.specs.Seen.{seen_spot, IsSpot}
+use Rattle.wy_searching.specs.declared.turning.Next.{Next}
+use Rattle.wy_searching.specs.declared.turning.Next.TheVariants as next
+use Rattle.wy_searching.specs.declared.walk.Walk.{Walk}
+use Rattle.wy_searching.specs.declared.walk.Turned.{Turned}
+use Rattle.wy_searching.specs.declared.walk.Turned.TheVariants as turned
+use Rattle.wy_searching.specs.Seen.{seen_why, seen_verdict, NamesItsTerms}
+
+-- ---- a node
+
+-- the terms of which instances are stated, where these are the names of witnesses
+abbrev pub index_terms_in : Node → List Term → List Term
+index_terms_in node names = search.index_terms (record { node = node; had = []; names = names; rounds = 0 })
+
+-- the node with an atom more, or with its denial
+abbrev pub with_side : search.Spot → Term → Bool → search.Spot
+with_side p a holds = search.with_node p (after_one p.node a holds)
+
+-- both of these
+abbrev pub split_on : search.Spot → Term → tree.Next
+split_on p a = tree.splits (search.with_node p (added p.node a)) (search.with_node p (denied_one p.node a))
+
+-- how the node's elimination ends, where its classes don't clash
+abbrev pub IsEnding : Node → Option Ending → Type 0
+IsEnding node None = clashes node ≡ true
+IsEnding node (Some e) = (clashes node ≡ false) × (seen_ending e ≡ ending node)
+
+-- of a node that isn't shut
+abbrev pub unshut : List Entry → search.Spot → tree.Next
+unshut types p = if clashes p.node then tree.closed else tree.by_ending types p (ending p.node)
+
+-- the code's answer is what becomes of the node; an open leaf comes with the node itself
+abbrev pub Follows : (ℕ → Term) → search.Spot → tree.Next → Next → Type 0
+Follows at p n next.Closed = n ≡ tree.closed
+Follows at p n (next.Open q why) = (n ≡ tree.stays_open (seen_why why)) × (seen_branch at q.branch ≡ p.node)
+Follows at p n (next.Splits l r) = n ≡ tree.splits (seen_spot at l) (seen_spot at r)
+Follows at p n (next.GoesOn q) = n ≡ tree.goes_on (seen_spot at q)
+
+-- the numbers in it are those of terms
+abbrev pub IsNextOver : List Plain → Next → Type 0
+IsNextOver nodes next.Closed = Unit {0}
+IsNextOver nodes (next.Open q why) = IsSpot nodes q
+IsNextOver nodes (next.Splits l r) = IsSpot nodes l × IsSpot nodes r
+IsNextOver nodes (next.GoesOn q) = IsSpot nodes q
+
+-- ---- the walk
+
+abbrev pub AreSpots : List Plain → List Spot → Type 0
+AreSpots nodes [] = Unit {0}
+AreSpots nodes (p ∷ ps) = IsSpot nodes p × AreSpots nodes ps
+
+-- the numbers in the nodes to come are those of terms, and no more leaves were passed than the budget allows
+pub record IsWalk (nodes : List Plain) (budget : ℕ) (w : Walk) : Type 0 where
+  pub spots : AreSpots nodes w.spots.items
+  pub counted : w.leaves ≤ budget
+
+abbrev pub IsTurnedOver : List Plain → ℕ → Turned → Type 0
+IsTurnedOver nodes budget (turned.Ends v) = NamesItsTerms v
+IsTurnedOver nodes budget (turned.GoesOn w) = IsWalk nodes budget w
+
+-- whichever way the rest goes, it ends so, or goes on with these leaves and nodes
+abbrev pub Leads : ((ℕ → List search.Spot → Option tree.Verdict) → Option tree.Verdict) → (ℕ → Term) → Turned → Type 0
+Leads step at (turned.Ends v) = (go : ℕ → List search.Spot → Option tree.Verdict) → step go ≡ Some (seen_verdict v)
+Leads step at (turned.GoesOn w) = (go : ℕ → List search.Spot → Option tree.Verdict) → step go ≡ go w.leaves (map (seen_spot at) w.spots.items)
+
+-- where the verdict that the walk comes to from here is that of the condition
+pub record Reaches (c : Condition) (budget n : ℕ) (ps : List search.Spot) : Type 0 where
+  pub verdict : (turns : ℕ) (v : tree.Verdict) → tree.searched c.types budget turns n ps ≡ Some v → tree.IsVerdict c budget v

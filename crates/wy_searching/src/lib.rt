@@ -1,0 +1,14 @@
+//! The search for a proof of a condition.
+//!
+//! `expanding` makes one round of expansion. `turning` judges a node anew and says what becomes of it: it is closed, it is an
+//! open leaf, it splits, or it goes on expanded. `walk` goes through the tree, up to a budget of leaves. Which verdict that
+//! is, `wy_search` defines.
+#![tactic(auto)]
+
+mod expanding;
+mod turning;
+mod verdict;
+mod walk;
+
+pub use verdict::{OpenLeaf, Verdict, Why};
+pub use walk::search;
