@@ -36,8 +36,7 @@ fn judged(terms: &mut Terms, cond: &Cond, cert: Cert) -> Result<Option<Cert>, No
     requires cert { NamesItsTerms cert }
     ensures valid { IfOk result (λ o. IfSome o (λ c. IsValid (condition_of terms.old cond.now) (steps_of c))) }
     ensures names { IfOk result (λ o. IfSome o NamesItsTerms) }
-    ensures length { length terms.new ≡ length terms.old }
-    ensures kept { (t : ℕ) → t < length terms.old → tree_at terms.new t ≡ tree_at terms.old t }
+    ensures stays { Stays terms.old terms.new }
 {
     match check(terms, cond, &cert)? {
         Checked::Yes => Ok(Some(cert)),
@@ -45,10 +44,24 @@ fn judged(terms: &mut Terms, cond: &Cond, cert: Cert) -> Result<Option<Cert>, No
     }
 }
 
+// A valid certificate, if one could be written. It makes terms.
+fn found(terms: &mut Terms, cond: &Cond, budget: u64) -> Result<Option<Cert>, NoMemory>
+    requires hyps { All (λ h. h < length terms.old) cond.now.hyps.items }
+    requires goal { cond.now.goal < length terms.old }
+    requires types { AreTypesBelow (length terms.old) cond.now }
+    ensures valid { IfOk result (λ o. IfSome o (λ c. IsValid (condition_of terms.old cond.now) (steps_of c))) }
+    ensures names { IfOk result (λ o. IfSome o NamesItsTerms) }
+    ensures stays { Stays terms.old terms.new }
+{
+    match drafted(terms, cond, budget)? {
+        Some(cert) => judged(terms, cond, cert),
+        None => Ok(None),
+    }
+}
+
 /// A certificate of a condition, by the search's own tree up to a budget of leaves, judged by the checker: there is one only
-/// where it is valid. By trial there is one wherever the search finds at this budget; that no other node than the search's
-/// is needed for it is no clause. The terms are as before afterwards, at want of memory too. It takes the search's time once
-/// more, and the checker's.
+/// where it is valid. By trial there is one wherever the search finds at this budget; no clause says so. The terms are as
+/// before afterwards, at want of memory too. It takes the search's time once more, and the checker's.
 pub fn certified(terms: &mut Terms, cond: &Cond, budget: u64) -> Result<Option<Cert>, NoMemory>
     requires hyps { All (λ h. h < length terms.old) cond.now.hyps.items }
     requires goal { cond.now.goal < length terms.old }
@@ -59,10 +72,7 @@ pub fn certified(terms: &mut Terms, cond: &Cond, budget: u64) -> Result<Option<C
     ensures kept { (t : ℕ) → t < length terms.old → tree_at terms.new t ≡ tree_at terms.old t }
 {
     let mark = terms.mark();
-    let made = drafted(terms, cond, budget);
+    let answer = found(terms, cond, budget);
     terms.back_to(mark);
-    match made? {
-        Some(cert) => judged(terms, cond, cert),
-        None => Ok(None),
-    }
+    answer
 }

@@ -1,9 +1,8 @@
 //! A certificate as far as it is written.
-ghost use Rattle.std.specs.Prelude.{◌≡◌, ◌<◌, All, length, IfOk, OnOk};
+ghost use Rattle.std.specs.Prelude.{◌≡◌, ◌<◌, ◌≤◌, All, List, length, IfOk, OnOk};
 ghost use Rattle.wy_cert.specs.Steps.{IsBelow};
 ghost use Rattle.wy_certifying.specs.Draft.{IsDraft};
 ghost use Rattle.wy_facts.specs.Seen.{AreBelow};
-ghost use Rattle.wy_judging.specs.Seen.{IsBranch};
 ghost use Rattle.wy_term.specs.Nodes.{Plain};
 
 use crate::stop::Stop;
@@ -38,8 +37,7 @@ pub fn first_draft(terms: &Terms, cond: &Cond) -> Result<Draft, NoMemory>
 
 /// The number, where it is that of a term.
 pub fn known(terms: &Terms, t: u32) -> Result<u32, Stop>
-    ensures value { IfOk result (λ k. k ≡ t) }
-    ensures below { IfOk result (λ k. k < length terms.now) }
+    ensures { IfOk result (λ k. k < length terms.now) }
 {
     if (t as usize) < terms.len() {
         Ok(t)
@@ -48,20 +46,19 @@ pub fn known(terms: &Terms, t: u32) -> Result<u32, Stop>
     }
 }
 
-/// Whether the numbers are those of terms.
-pub fn are_known(terms: &Terms, ts: &[u32]) -> Result<(), Stop>
-    ensures { OnOk result (AreBelow (length terms.now) ts.now) }
+/// The numbers, where they are those of terms.
+pub fn all_known(terms: &Terms, ts: &[u32]) -> Result<Vec<u32>, Stop>
+    ensures { IfOk result (λ ks. AreBelow (length terms.now) ks.items) }
 {
+    let mut made = Vec::new(terms.allocator());
     for t in ts {
-        if *t as usize >= terms.len() {
-            return Err(Stop::Unwritten);
-        }
+        made.push(known(terms, *t)?)?;
     }
-    Ok(())
+    Ok(made)
 }
 
-/// The number of a term in a certificate's own list.
-pub fn own_term(own: &mut Terms, terms: &Terms, t: u32) -> Result<u32, NoMemory>
+// The number of a term in a certificate's own list.
+fn own_term(own: &mut Terms, terms: &Terms, t: u32) -> Result<u32, NoMemory>
     requires { t < length terms.now }
     ensures below { IfOk result (λ k. k < length own.new) }
     ensures grows { length own.old ≤ length own.new }
@@ -69,8 +66,8 @@ pub fn own_term(own: &mut Terms, terms: &Terms, t: u32) -> Result<u32, NoMemory>
     own.copy(terms, t)
 }
 
-/// The numbers of terms in a certificate's own list.
-pub fn own_terms(own: &mut Terms, terms: &Terms, ts: &[u32]) -> Result<Vec<u32>, NoMemory>
+// The numbers of terms in a certificate's own list.
+fn own_terms(own: &mut Terms, terms: &Terms, ts: &[u32]) -> Result<Vec<u32>, NoMemory>
     requires { AreBelow (length terms.now) ts.now }
     ensures below { IfOk result (λ ks. AreBelow (length own.new) ks.items) }
     ensures grows { length own.old ≤ length own.new }
@@ -80,6 +77,24 @@ pub fn own_terms(own: &mut Terms, terms: &Terms, ts: &[u32]) -> Result<Vec<u32>,
         made.push(own_term(own, terms, *t)?)?;
     }
     Ok(made)
+}
+
+/// The number of a term in the certificate's own list.
+pub fn bring(draft: &mut Draft, terms: &Terms, t: u32) -> Result<u32, NoMemory>
+    requires term { t < length terms.now }
+    ensures below { IfOk result (λ k. k < length draft.new.terms) }
+    ensures draft { (nodes : List Plain) → IsDraft nodes draft.old → OnOk result (IsDraft nodes draft.new) }
+{
+    own_term(&mut draft.terms, terms, t)
+}
+
+/// The numbers of terms in the certificate's own list.
+pub fn bring_all(draft: &mut Draft, terms: &Terms, ts: &[u32]) -> Result<Vec<u32>, NoMemory>
+    requires terms { AreBelow (length terms.now) ts.now }
+    ensures below { IfOk result (λ ks. AreBelow (length draft.new.terms) ks.items) }
+    ensures draft { (nodes : List Plain) → IsDraft nodes draft.old → OnOk result (IsDraft nodes draft.new) }
+{
+    own_terms(&mut draft.terms, terms, ts)
 }
 
 // ---- the node
@@ -92,10 +107,7 @@ pub struct Size {
 }
 
 /// How many literals and pending formulas a node has.
-pub fn size_of(branch: &Branch) -> Size
-    ensures literals { result.literals ≡ length branch.now.literals.keys }
-    ensures pending { result.pending ≡ length branch.now.pending.keys }
-{
+pub fn size_of(branch: &Branch) -> Size {
     Size {
         literals: branch.literals.len(),
         pending: branch.pending.len(),
@@ -126,7 +138,7 @@ pub fn literal_number(branch: &Branch, atom: u32, holds: bool) -> Result<u32, St
 
 /// One step more.
 pub fn put(draft: &mut Draft, step: Step) -> Result<(), NoMemory>
-    requires step { IsBelow (length draft.old.terms) step }
+    requires { IsBelow (length draft.old.terms) step }
     ensures { (nodes : List Plain) → IsDraft nodes draft.old → OnOk result (IsDraft nodes draft.new) }
 {
     draft.steps.push(step)?;

@@ -1,10 +1,20 @@
 //! The walk through the tree of the search.
+ghost use Rattle.std.specs.Prelude.{◌<◌, All, List, IfOk, OnOk, length};
+ghost use Rattle.wy_cert.specs.Steps.{NamesItsTerms};
+ghost use Rattle.wy_certifying.specs.Draft.{IsDraft};
+ghost use Rattle.wy_certifying.specs.Nodes.{AreWaiting, IsNext, IsTurned, IsWalk};
+ghost use Rattle.wy_facts.specs.Membership.{AreTypesBelow};
+ghost use Rattle.wy_facts.specs.Seen.{Stays};
+ghost use Rattle.wy_instances.specs.Seen.{IsSpot};
+ghost use Rattle.wy_term.specs.Nodes.{Plain};
+
 use crate::draft::{Draft, Size, first_draft, size_of};
 use crate::stop::Stop;
 use crate::turning::{Next, what_follows};
 use crate::writing::{write_all, write_split};
 use std::collections::VecDeque;
 use wy_cert::Cert;
+use wy_explaining::Action;
 use wy_instances::Spot;
 use wy_judging::{add, back_to, bare, first_branch};
 use wy_term::{Cond, NoMemory, Terms};
@@ -18,18 +28,28 @@ pub struct Waiting {
     pub atom: u32,
 }
 
-/// How many leaves were passed, what is written, the present node of the search if one is left, and the nodes that wait, next
-/// first.
+/// How many leaves were passed, what is written, the present node of the search, and the nodes that wait, next first.
 #[derive(Drop)]
 pub struct Walk {
     pub leaves: u64,
     pub draft: Draft,
-    pub spot: Option<Spot>,
+    pub spot: Spot,
     pub waiting: VecDeque<Waiting>,
 }
 
+/// What a turn does: the walk ends with a certificate, or goes on.
+#[derive(Drop)]
+pub enum Turned {
+    Ends(Cert),
+    GoesOn(Walk),
+}
+
 // The node in which the search begins.
-fn first_spot(terms: &Terms, cond: &Cond) -> Result<Spot, NoMemory> {
+fn first_spot(terms: &Terms, cond: &Cond) -> Result<Spot, NoMemory>
+    requires hyps { All (λ h. h < length terms.now) cond.now.hyps.items }
+    requires goal { cond.now.goal < length terms.now }
+    ensures { IfOk result (IsSpot terms.now) }
+{
     let alloc = terms.allocator();
     let branch = first_branch(alloc, terms, cond)?;
     Ok(Spot {
@@ -40,109 +60,255 @@ fn first_spot(terms: &Terms, cond: &Cond) -> Result<Spot, NoMemory> {
     })
 }
 
-fn first_walk(terms: &Terms, cond: &Cond) -> Result<Walk, NoMemory> {
+fn first_walk(terms: &Terms, cond: &Cond) -> Result<Walk, NoMemory>
+    requires hyps { All (λ h. h < length terms.now) cond.now.hyps.items }
+    requires goal { cond.now.goal < length terms.now }
+    ensures { IfOk result (IsWalk terms.now) }
+{
     let spot = first_spot(terms, cond)?;
     let draft = first_draft(terms, cond)?;
     Ok(Walk {
         leaves: 0,
         draft,
-        spot: Some(spot),
+        spot,
         waiting: VecDeque::new(terms.allocator()),
     })
 }
 
-// Behind a closed node: the next one that waits is the present one.
-fn close(terms: &Terms, walk: Walk) -> Result<Walk, Stop> {
-    let Walk {
+// The steps that are written are the certificate's.
+fn ended(draft: Draft) -> Cert
+    ensures { (nodes : List Plain) → IsDraft nodes draft → NamesItsTerms result }
+{
+    let Draft {
+        terms,
+        steps,
+        branch: _,
+    } = draft;
+    Cert { terms, steps }
+}
+
+// The draft at the second node of a split.
+fn turned_back(terms: &Terms, draft: &mut Draft, size: Size, atom: u32) -> Result<(), NoMemory>
+    requires draft { IsDraft terms.now draft.old }
+    requires atom { atom < length terms.now }
+    ensures { OnOk result (IsDraft terms.now draft.new) }
+{
+    back_to(&mut draft.branch, size.literals, size.pending);
+    add(terms, &mut draft.branch, atom, false)
+}
+
+// The node that waits is the present one.
+fn resumed(
+    terms: &Terms,
+    leaves: u64,
+    draft: Draft,
+    next: Waiting,
+    waiting: VecDeque<Waiting>,
+) -> Result<Walk, NoMemory>
+    requires draft { IsDraft terms.now draft }
+    requires spot { IsSpot terms.now next.spot }
+    requires atom { next.atom < length terms.now }
+    requires waiting { AreWaiting terms.now waiting.items }
+    ensures { IfOk result (IsWalk terms.now) }
+{
+    let mut draft = draft;
+    turned_back(terms, &mut draft, next.size, next.atom)?;
+    Ok(Walk {
         leaves,
-        mut draft,
-        spot: _,
-        mut waiting,
-    } = walk;
-    let leaves = leaves.checked_add(1).ok_or(Stop::Unwritten)?;
+        draft,
+        spot: next.spot,
+        waiting,
+    })
+}
+
+// Behind a closed node: the next one that waits is the present one.
+fn close(
+    terms: &Terms,
+    leaves: u64,
+    draft: Draft,
+    waiting: VecDeque<Waiting>,
+) -> Result<Turned, Stop>
+    requires draft { IsDraft terms.now draft }
+    requires waiting { AreWaiting terms.now waiting.items }
+    ensures { IfOk result (IsTurned terms.now) }
+{
+    let mut waiting = waiting;
+    if leaves == u64::MAX {
+        return Err(Stop::Unwritten);
+    }
     match waiting.pop_front() {
-        None => Ok(Walk {
-            leaves,
-            draft,
-            spot: None,
-            waiting,
-        }),
-        Some(Waiting { spot, size, atom }) => {
-            back_to(&mut draft.branch, size.literals, size.pending);
-            add(terms, &mut draft.branch, atom, false)?;
-            Ok(Walk {
-                leaves,
-                draft,
-                spot: Some(spot),
-                waiting,
-            })
+        None => Ok(Turned::Ends(ended(draft))),
+        Some(next) => {
+            let walk = resumed(terms, leaves + 1, draft, next, waiting)?;
+            Ok(Turned::GoesOn(walk))
         }
     }
 }
 
-// Behind a split: its first node is the present one, and its second waits.
-fn fork(terms: &Terms, walk: Walk, atom: u32, left: Spot, right: Spot) -> Result<Walk, Stop> {
-    let Walk {
-        leaves,
-        mut draft,
-        spot: _,
-        mut waiting,
-    } = walk;
-    write_split(terms, &mut draft, atom)?;
+// One node more that waits, which comes next.
+fn with_waiting(waiting: VecDeque<Waiting>, one: Waiting) -> Result<VecDeque<Waiting>, NoMemory>
+    ensures { (nodes : List Plain) → AreWaiting nodes waiting.items → IsSpot nodes one.spot → one.atom < length nodes → IfOk result (λ ws. AreWaiting nodes ws.items) }
+{
+    let mut waiting = waiting;
+    waiting.push_front(one)?;
+    Ok(waiting)
+}
+
+// The draft at the first node of a split, and how much its node had.
+fn split(terms: &Terms, draft: &mut Draft, atom: u32) -> Result<Size, Stop>
+    requires draft { IsDraft terms.now draft.old }
+    requires atom { atom < length terms.now }
+    ensures { OnOk result (IsDraft terms.now draft.new) }
+{
+    write_split(terms, draft, atom)?;
     let size = size_of(&draft.branch);
-    waiting.push_front(Waiting {
+    add(terms, &mut draft.branch, atom, true)?;
+    Ok(size)
+}
+
+// Behind a split: its first node is the present one, and its second waits.
+fn fork(
+    terms: &Terms,
+    leaves: u64,
+    draft: Draft,
+    waiting: VecDeque<Waiting>,
+    atom: u32,
+    left: Spot,
+    right: Spot,
+) -> Result<Walk, Stop>
+    requires draft { IsDraft terms.now draft }
+    requires waiting { AreWaiting terms.now waiting.items }
+    requires atom { atom < length terms.now }
+    requires left { IsSpot terms.now left }
+    requires right { IsSpot terms.now right }
+    ensures { IfOk result (IsWalk terms.now) }
+{
+    let mut draft = draft;
+    let size = split(terms, &mut draft, atom)?;
+    let second = Waiting {
         spot: right,
         size,
         atom,
-    })?;
-    add(terms, &mut draft.branch, atom, true)?;
+    };
+    let waiting = with_waiting(waiting, second)?;
     Ok(Walk {
         leaves,
         draft,
-        spot: Some(left),
+        spot: left,
+        waiting,
+    })
+}
+
+// Behind a node that these steps close.
+fn closed(
+    terms: &mut Terms,
+    cond: &Cond,
+    leaves: u64,
+    draft: Draft,
+    waiting: VecDeque<Waiting>,
+    plan: &[Action],
+) -> Result<Turned, Stop>
+    requires types { AreTypesBelow (length terms.old) cond.now }
+    requires draft { IsDraft terms.old draft }
+    requires waiting { AreWaiting terms.old waiting.items }
+    ensures turned { IfOk result (IsTurned terms.new) }
+    ensures stays { Stays terms.old terms.new }
+{
+    let mut draft = draft;
+    write_all(terms, &mut draft, cond, plan)?;
+    close(terms, leaves, draft, waiting)
+}
+
+// Behind a node of which these steps make this one.
+fn gone_on(
+    terms: &mut Terms,
+    cond: &Cond,
+    leaves: u64,
+    draft: Draft,
+    waiting: VecDeque<Waiting>,
+    plan: &[Action],
+    spot: Spot,
+) -> Result<Walk, Stop>
+    requires types { AreTypesBelow (length terms.old) cond.now }
+    requires draft { IsDraft terms.old draft }
+    requires waiting { AreWaiting terms.old waiting.items }
+    requires spot { IsSpot terms.old spot }
+    ensures walk { IfOk result (IsWalk terms.new) }
+    ensures stays { Stays terms.old terms.new }
+{
+    let mut draft = draft;
+    write_all(terms, &mut draft, cond, plan)?;
+    Ok(Walk {
+        leaves,
+        draft,
+        spot,
         waiting,
     })
 }
 
 // Behind a node of which this becomes.
-fn behind(terms: &mut Terms, cond: &Cond, walk: Walk, next: Next) -> Result<Walk, Stop> {
-    let mut walk = walk;
+fn behind(
+    terms: &mut Terms,
+    cond: &Cond,
+    leaves: u64,
+    draft: Draft,
+    waiting: VecDeque<Waiting>,
+    next: Next,
+) -> Result<Turned, Stop>
+    requires types { AreTypesBelow (length terms.old) cond.now }
+    requires draft { IsDraft terms.old draft }
+    requires waiting { AreWaiting terms.old waiting.items }
+    requires next { IsNext terms.old next }
+    ensures turned { IfOk result (IsTurned terms.new) }
+    ensures stays { Stays terms.old terms.new }
+{
     match next {
-        Next::Closed(plan) => {
-            write_all(terms, &mut walk.draft, cond, &plan)?;
-            close(terms, walk)
+        Next::Closed(plan) => closed(terms, cond, leaves, draft, waiting, &plan),
+        Next::Splits(atom, left, right) => {
+            let walk = fork(terms, leaves, draft, waiting, atom, left, right)?;
+            Ok(Turned::GoesOn(walk))
         }
-        Next::Splits(atom, left, right) => fork(terms, walk, atom, left, right),
         Next::GoesOn(plan, more) => {
-            write_all(terms, &mut walk.draft, cond, &plan)?;
-            walk.spot = Some(more);
-            Ok(walk)
+            let walk = gone_on(terms, cond, leaves, draft, waiting, &plan, more)?;
+            Ok(Turned::GoesOn(walk))
         }
     }
 }
 
-// One turn at a node.
-fn turn(terms: &mut Terms, cond: &Cond, budget: u64, walk: Walk, spot: Spot) -> Result<Walk, Stop> {
-    if walk.leaves == budget {
+// One turn.
+fn turn(terms: &mut Terms, cond: &Cond, budget: u64, walk: Walk) -> Result<Turned, Stop>
+    requires types { AreTypesBelow (length terms.old) cond.now }
+    requires walk { IsWalk terms.old walk }
+    ensures turned { IfOk result (IsTurned terms.new) }
+    ensures stays { Stays terms.old terms.new }
+{
+    let Walk {
+        leaves,
+        draft,
+        spot,
+        waiting,
+    } = walk;
+    if leaves == budget {
         return Err(Stop::Unwritten);
     }
     let next = what_follows(terms, cond, spot)?;
-    behind(terms, cond, walk, next)
+    behind(terms, cond, leaves, draft, waiting, next)
 }
 
 /// A certificate by the steps of the search, written up to so many leaves, where no leaf is open. Older numbers name what
 /// they named.
-pub fn written(terms: &mut Terms, cond: &Cond, budget: u64) -> Result<Cert, Stop> {
+pub fn written(terms: &mut Terms, cond: &Cond, budget: u64) -> Result<Cert, Stop>
+    requires hyps { All (λ h. h < length terms.old) cond.now.hyps.items }
+    requires goal { cond.now.goal < length terms.old }
+    requires types { AreTypesBelow (length terms.old) cond.now }
+    ensures names { IfOk result NamesItsTerms }
+    ensures stays { Stays terms.old terms.new }
+{
     let mut walk = first_walk(terms, cond)?;
     for _turn in 0..u64::MAX {
-        match walk.spot.take() {
-            Some(spot) => walk = turn(terms, cond, budget, walk, spot)?,
-            None => {
-                return Ok(Cert {
-                    terms: walk.draft.terms,
-                    steps: walk.draft.steps,
-                });
-            }
+        match turn(terms, cond, budget, walk)? {
+            Turned::Ends(cert) => return Ok(cert),
+            Turned::GoesOn(next) => walk = next,
         }
     }
     Err(Stop::Unwritten)

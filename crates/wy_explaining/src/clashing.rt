@@ -330,6 +330,66 @@ fn join(
     explain(terms, &merges, &[pair], plan)
 }
 
+// The steps where two terms in one class can't be equal.
+fn by_pair(
+    terms: &Terms,
+    branch: &Branch,
+    present: &Present,
+    labels: &[u32],
+    pair: Pair,
+) -> Result<Vec<Action>, NoMemory>
+    requires branch { IsBranch terms.now branch.now }
+    requires present { IsPresent terms.now present.now }
+{
+    let mut plan = Vec::new(terms.allocator());
+    join(terms, branch, present, labels, pair, &mut plan)?;
+    plan.push(Action::Shut)?;
+    Ok(plan)
+}
+
+// The steps where the kinds of two terms in one class clash.
+fn by_clash(
+    terms: &mut Terms,
+    branch: &Branch,
+    present: &Present,
+    labels: &[u32],
+    clash: Clash,
+) -> Result<Vec<Action>, NoMemory>
+    requires branch { IsBranch terms.old branch.now }
+    requires present { IsPresent terms.old present.now }
+    ensures { Stays terms.old terms.new }
+{
+    let mut plan = Vec::new(terms.allocator());
+    join(
+        terms,
+        branch,
+        present,
+        labels,
+        (clash.first, clash.second),
+        &mut plan,
+    )?;
+    let last = closing(terms, clash)?;
+    plan.push(last)?;
+    Ok(plan)
+}
+
+// The steps by kinds that clash, none where no kinds do.
+fn by_kinds(
+    terms: &mut Terms,
+    branch: &Branch,
+    present: &Present,
+    labels: &[u32],
+) -> Result<Vec<Action>, NoMemory>
+    requires branch { IsBranch terms.old branch.now }
+    requires present { IsPresent terms.old present.now }
+    ensures { Stays terms.old terms.new }
+{
+    match two_kinds(terms, branch, present, labels)? {
+        Some(clash) => by_clash(terms, branch, present, labels, clash),
+        None => Ok(Vec::new(terms.allocator())),
+    }
+}
+
 /// The steps that close a node whose classes clash: chains that join the terms which can't be equal, and then `shut` or
 /// `clash`. Older numbers name what they named.
 pub fn why_they_clash(
@@ -342,22 +402,8 @@ pub fn why_they_clash(
     requires present { IsPresent terms.old present.now }
     ensures { Stays terms.old terms.new }
 {
-    let mut plan = Vec::new(terms.allocator());
-    if let Some(pair) = two_apart(terms, branch, present, labels) {
-        join(terms, branch, present, labels, pair, &mut plan)?;
-        plan.push(Action::Shut)?;
-        return Ok(plan);
+    match two_apart(terms, branch, present, labels) {
+        Some(pair) => by_pair(terms, branch, present, labels, pair),
+        None => by_kinds(terms, branch, present, labels),
     }
-    if let Some(clash) = two_kinds(terms, branch, present, labels)? {
-        join(
-            terms,
-            branch,
-            present,
-            labels,
-            (clash.first, clash.second),
-            &mut plan,
-        )?;
-        plan.push(closing(terms, clash)?)?;
-    }
-    Ok(plan)
 }

@@ -102,10 +102,9 @@ fn mark_arguments(
 fn needed(terms: &Terms, merges: &[Merge], wanted: &[Pair]) -> Result<BTreeSet<usize>, NoMemory> {
     let mut marked = BTreeSet::new(terms.allocator());
     mark_paths(terms.allocator(), &mut marked, merges, wanted)?;
-    let mut left = merges.len();
-    while left > 0 {
-        left -= 1;
-        mark_arguments(terms, &mut marked, merges, left)?;
+    let count = merges.len();
+    for turn in 0..count {
+        mark_arguments(terms, &mut marked, merges, count - 1 - turn)?;
     }
     Ok(marked)
 }

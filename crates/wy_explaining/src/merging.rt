@@ -1,5 +1,5 @@
 //! The classes of a node's congruence, joined again one after the other.
-ghost use Rattle.std.specs.Prelude.{◌<◌, length};
+ghost use Rattle.std.specs.Prelude.{◌≡◌, ◌<◌, length};
 ghost use Rattle.wy_classes.specs.Seen.{IsPresent};
 ghost use Rattle.wy_judging.specs.Seen.{AreBelow, IsBranch};
 

@@ -1,5 +1,4 @@
 //! The steps of an elimination that refutes a node, over the node's literals.
-ghost use Rattle.std.specs.Prelude.{◌≡◌, ◌<◌, length};
 ghost use Rattle.wy_classes.specs.Seen.{IsPresent};
 ghost use Rattle.wy_facts.specs.Seen.{Stays};
 ghost use Rattle.wy_judging.specs.Seen.{IsBranch};
@@ -7,237 +6,14 @@ ghost use Rattle.wy_judging.specs.Seen.{IsBranch};
 use crate::action::{Action, Named};
 use crate::explaining::{Pair, explain};
 use crate::merging::merges;
-use crate::using::{multipliers, needed, place_of};
+use crate::needed::{multipliers, needed, place_of};
+use crate::sources::{Sources, sources_of};
+use crate::used::{Order, Used, one_used, used_literals};
 use std::collections::{BTreeSet, HashMap};
-use wy_bounds::{Replaced, Taking, numbered, replace, takings};
 use wy_classes::Present;
 use wy_eliminate::{Elim, LinStep, Steps, eliminate};
-use wy_items::at;
-use wy_judging::{Branch, nth_literal};
-use wy_lin::Form;
-use wy_sums::form_at;
+use wy_judging::Branch;
 use wy_term::{NoMemory, Node, Terms};
-
-// The forms that elimination is given, each with the place of its literal; whether one refutes by itself, and whether a number
-// leaves 128 bits.
-#[derive(Drop)]
-struct Sources {
-    refuting: Option<usize>,
-    leaves: bool,
-    forms: Vec<Form>,
-    literals: Vec<usize>,
-}
-
-// A bound `lower <= upper`, so many times.
-#[derive(Clone, Copy, Debug, PartialEq, Eq)]
-struct Order {
-    times: u128,
-    lower: u32,
-    upper: u32,
-}
-
-// A literal of which elimination needs the form, by the place of that form, and the bounds that replace its variables.
-#[derive(Drop)]
-struct Used {
-    place: u32,
-    literal: Named,
-    orders: Vec<Order>,
-}
-
-// ---- the forms that elimination is given
-
-// The number of the literal with a place.
-fn literal_number(i: usize) -> Result<u32, NoMemory> {
-    match u32::try_from(i) {
-        Ok(k) => match k.checked_add(1) {
-            Some(number) => Ok(number),
-            None => Err(NoMemory),
-        },
-        Err(_) => Err(NoMemory),
-    }
-}
-
-// The form of the literal with a place, its variables by their places.
-fn placed_form(
-    terms: &mut Terms,
-    branch: &Branch,
-    present: &Present,
-    i: usize,
-) -> Result<Option<Form>, NoMemory>
-    requires branch { IsBranch terms.old branch.now }
-    requires present { IsPresent terms.old present.now }
-    ensures { Stays terms.old terms.new }
-{
-    let number = literal_number(i)?;
-    match form_at(terms, branch, number)? {
-        Some(form) => {
-            let placed = numbered(terms, present, &form)?;
-            Ok(Some(placed))
-        }
-        None => Ok(None),
-    }
-}
-
-// What is left of the form of the literal with a place.
-fn take(sources: &mut Sources, i: usize, one: Replaced) -> Result<(), NoMemory> {
-    match one {
-        Replaced::Gone => {}
-        Replaced::Given(form) => {
-            sources.forms.push(form)?;
-            sources.literals.push(i)?;
-        }
-        Replaced::Refutes => sources.refuting = Some(i),
-        Replaced::Leaves => sources.leaves = true,
-    }
-    Ok(())
-}
-
-fn take_literal(
-    terms: &mut Terms,
-    branch: &Branch,
-    present: &Present,
-    labels: &[u32],
-    i: usize,
-    sources: &mut Sources,
-) -> Result<(), NoMemory>
-    requires branch { IsBranch terms.old branch.now }
-    requires present { IsPresent terms.old present.now }
-    ensures { Stays terms.old terms.new }
-{
-    match placed_form(terms, branch, present, i)? {
-        Some(placed) => {
-            let one = replace(terms.allocator(), labels, placed)?;
-            take(sources, i, one)
-        }
-        None => Ok(()),
-    }
-}
-
-// What is left of the forms of the node's literals.
-fn sources_of(
-    terms: &mut Terms,
-    branch: &Branch,
-    present: &Present,
-    labels: &[u32],
-) -> Result<Sources, NoMemory>
-    requires branch { IsBranch terms.old branch.now }
-    requires present { IsPresent terms.old present.now }
-    ensures { Stays terms.old terms.new }
-{
-    let alloc = terms.allocator();
-    let mut sources = Sources {
-        refuting: None,
-        leaves: false,
-        forms: Vec::new(alloc),
-        literals: Vec::new(alloc),
-    };
-    for i in 0..branch.literals.len() {
-        take_literal(terms, branch, present, labels, i, &mut sources)?;
-    }
-    Ok(sources)
-}
-
-// ---- the literals that it needs
-
-// The bound that takes a variable away, by terms.
-fn order_of(present: &Present, taking: &Taking) -> Option<Order> {
-    match taking.form.parts.as_slice() {
-        [v, w] => {
-            let lower = at(&present.numbers, v.1 as usize)?;
-            let upper = at(&present.numbers, w.1 as usize)?;
-            Some(Order {
-                times: taking.times,
-                lower: *lower,
-                upper: *upper,
-            })
-        }
-        _ => None,
-    }
-}
-
-// The bounds that take variables away.
-fn orders_of(present: &Present, taken: &[Taking], orders: &mut Vec<Order>) -> Result<(), NoMemory> {
-    for taking in taken {
-        match order_of(present, taking) {
-            Some(order) => orders.push(order)?,
-            None => return Err(NoMemory),
-        }
-    }
-    Ok(())
-}
-
-// The literal with a place, and the bounds that replace its variables.
-fn used_literal(
-    terms: &mut Terms,
-    branch: &Branch,
-    present: &Present,
-    labels: &[u32],
-    place: u32,
-    i: usize,
-) -> Result<Used, NoMemory>
-    requires branch { IsBranch terms.old branch.now }
-    requires present { IsPresent terms.old present.now }
-    requires literal { i < length branch.now.literals.keys }
-    ensures { Stays terms.old terms.new }
-{
-    let alloc = terms.allocator();
-    let (atom, holds) = nth_literal(terms, branch, i);
-    let mut orders = Vec::new(alloc);
-    if let Some(placed) = placed_form(terms, branch, present, i)? {
-        let taken = takings(alloc, labels, &placed.parts)?;
-        orders_of(present, &taken, &mut orders)?;
-    }
-    Ok(Used {
-        place,
-        literal: Named::Literal(atom, holds),
-        orders,
-    })
-}
-
-// One literal more, if its form is needed.
-fn push_used(
-    terms: &mut Terms,
-    branch: &Branch,
-    present: &Present,
-    labels: &[u32],
-    marked: &BTreeSet<u32>,
-    k: usize,
-    i: usize,
-    all: &mut Vec<Used>,
-) -> Result<(), NoMemory>
-    requires branch { IsBranch terms.old branch.now }
-    requires present { IsPresent terms.old present.now }
-    ensures { Stays terms.old terms.new }
-{
-    let place = place_of(0, k)?;
-    if !marked.contains(&place) || i >= branch.literals.len() {
-        return Ok(());
-    }
-    all.push(used_literal(terms, branch, present, labels, place, i)?)?;
-    Ok(())
-}
-
-// The literals whose forms are needed.
-fn used_literals(
-    terms: &mut Terms,
-    branch: &Branch,
-    present: &Present,
-    labels: &[u32],
-    marked: &BTreeSet<u32>,
-    literals: &[usize],
-) -> Result<Vec<Used>, NoMemory>
-    requires branch { IsBranch terms.old branch.now }
-    requires present { IsPresent terms.old present.now }
-    ensures { Stays terms.old terms.new }
-{
-    let mut all = Vec::new(terms.allocator());
-    for (k, i) in literals.iter().enumerate() {
-        push_used(terms, branch, present, labels, marked, k, *i, &mut all)?;
-    }
-    Ok(all)
-}
-
-// ---- the steps
 
 // The pairs of terms that the bounds of a literal compare.
 fn push_pairs(used: &Used, pairs: &mut Vec<Pair>) -> Result<(), NoMemory> {
@@ -445,6 +221,16 @@ fn by_steps(
     Ok(plan)
 }
 
+// The sum of each literal and the bounds that replace its variables.
+fn push_sums(terms: &mut Terms, all: &[Used], plan: &mut Vec<Action>) -> Result<(), NoMemory>
+    ensures { Stays terms.old terms.new }
+{
+    for used in all {
+        plan.push(Action::Sum(sum_of(terms, used)?))?;
+    }
+    Ok(())
+}
+
 // The plan where the literal with a place refutes as soon as its variables are replaced.
 fn by_literal(
     terms: &mut Terms,
@@ -457,17 +243,40 @@ fn by_literal(
     requires present { IsPresent terms.old present.now }
     ensures { Stays terms.old terms.new }
 {
-    let alloc = terms.allocator();
-    let mut all = Vec::new(alloc);
-    if i < branch.literals.len() {
-        all.push(used_literal(terms, branch, present, labels, 0, i)?)?;
-    }
-    let mut plan = Vec::new(alloc);
+    let all = one_used(terms, branch, present, labels, i)?;
+    let mut plan = Vec::new(terms.allocator());
     push_chains(terms, branch, present, labels, &all, &mut plan)?;
-    for used in &all {
-        plan.push(Action::Sum(sum_of(terms, used)?))?;
-    }
+    push_sums(terms, &all, &mut plan)?;
     Ok(plan)
+}
+
+// The plan by what is left of the forms of the node's literals, where elimination refutes it.
+fn by_sources(
+    terms: &mut Terms,
+    branch: &Branch,
+    present: &Present,
+    labels: &[u32],
+    sources: &Sources,
+) -> Result<Option<Vec<Action>>, NoMemory>
+    requires branch { IsBranch terms.old branch.now }
+    requires present { IsPresent terms.old present.now }
+    ensures { Stays terms.old terms.new }
+{
+    if let Some(i) = sources.refuting {
+        let plan = by_literal(terms, branch, present, labels, i)?;
+        return Ok(Some(plan));
+    }
+    if sources.leaves {
+        return Ok(None);
+    }
+    match eliminate(terms.allocator(), &sources.forms) {
+        Ok(Elim::Refuted(steps)) => {
+            let plan = by_steps(terms, branch, present, labels, sources, &steps)?;
+            Ok(Some(plan))
+        }
+        Ok(_) => Ok(None),
+        Err(_) => Err(NoMemory),
+    }
 }
 
 /// The steps that close a node which elimination refutes: chains that give the bounds by which variables are replaced by the
@@ -484,17 +293,5 @@ pub fn why_it_refutes(
     ensures { Stays terms.old terms.new }
 {
     let sources = sources_of(terms, branch, present, labels)?;
-    if let Some(i) = sources.refuting {
-        return Ok(Some(by_literal(terms, branch, present, labels, i)?));
-    }
-    if sources.leaves {
-        return Ok(None);
-    }
-    match eliminate(terms.allocator(), &sources.forms) {
-        Ok(Elim::Refuted(steps)) => {
-            Ok(Some(by_steps(terms, branch, present, labels, &sources, &steps)?))
-        }
-        Ok(_) => Ok(None),
-        Err(_) => Err(NoMemory),
-    }
+    by_sources(terms, branch, present, labels, &sources)
 }

@@ -59,10 +59,10 @@ pub fn needed(
 ) -> Result<BTreeSet<u32>, NoMemory> {
     let mut marked = BTreeSet::new(alloc);
     let all = steps.as_slice();
-    let mut left = all.len();
-    while left > 0 {
-        left -= 1;
-        mark_step(&mut marked, given, left, &all[left])?;
+    let count = all.len();
+    for turn in 0..count {
+        let k = count - 1 - turn;
+        mark_step(&mut marked, given, k, &all[k])?;
     }
     Ok(marked)
 }
