@@ -1,5 +1,6 @@
 //! Certificates of conditions that are given as texts.
-ghost use Rattle.std.specs.Prelude.{◌≡◌, ◌<◌, ◌≤◌, [], All, length, IfOk, OnOk};
+ghost use Rattle.std.specs.Prelude.{◌≡◌, ◌<◌, ◌≤◌, [], All, length, IfOk};
+ghost use Rattle.wy_cert.specs.Steps.{NamesItsTerms};
 ghost use Rattle.wy_facts.specs.Seen.{AreBelow};
 
 use std::alloc::Global;
@@ -61,25 +62,48 @@ fn condition(terms: &mut Terms, row: &Row) -> Result<Cond, NoMemory>
 }
 
 // The text of one certificate.
-fn text_of(alloc: Global, cert: Cert) -> Result<Vec<u8>, NoMemory> {
+fn text_of(alloc: Global, cert: Cert) -> Result<Vec<u8>, NoMemory>
+    requires { NamesItsTerms cert }
+{
     let mut list = Vec::new(alloc);
     list.push((1, cert))?;
     write_certs(alloc, &Certs { list })
 }
 
 // Whether the text is that of one certificate which is valid for the condition.
-fn is_accepted(
-    alloc: Global,
-    terms: &mut Terms,
-    cond: &Cond,
-    text: &[u8],
-) -> Result<bool, NoMemory> {
+fn is_accepted(alloc: Global, terms: &mut Terms, cond: &Cond, text: &[u8]) -> Result<bool, NoMemory>
+    requires hyps { All (λ h. h < length terms.old) cond.now.hyps.items }
+    requires goal { cond.now.goal < length terms.old }
+    requires types { cond.now.unfold.list.items ≡ [] }
+{
     let Ok(certs) = read_certs(alloc, text, 1) else {
         return Ok(false);
     };
     match certs.list.as_slice() {
-        [only] => Ok(check(terms, cond, &only.1)? == Checked::Yes),
+        [(_, cert)] => Ok(check(terms, cond, cert)? == Checked::Yes),
         _ => Ok(false),
+    }
+}
+
+// The text of a certificate of the condition, or none where there is none or it isn't accepted once it is read again.
+fn certificate(
+    alloc: Global,
+    terms: &mut Terms,
+    cond: &Cond,
+    budget: u64,
+) -> Result<Option<Vec<u8>>, NoMemory>
+    requires hyps { All (λ h. h < length terms.old) cond.now.hyps.items }
+    requires goal { cond.now.goal < length terms.old }
+    requires types { cond.now.unfold.list.items ≡ [] }
+{
+    let Some(cert) = certified(terms, cond, budget)? else {
+        return Ok(None);
+    };
+    let text = text_of(alloc, cert)?;
+    if is_accepted(alloc, terms, cond, &text)? {
+        Ok(Some(text))
+    } else {
+        Ok(None)
     }
 }
 
@@ -87,18 +111,13 @@ fn is_accepted(
 pub fn certificate_of(alloc: Global, row: &Row) -> Result<Option<Vec<u8>>, NoMemory> {
     let mut terms = Terms::new(alloc);
     let cond = condition(&mut terms, row)?;
-    let Some(cert) = certified(&mut terms, &cond, row.budget)? else {
-        return Ok(None);
-    };
-    let text = text_of(alloc, cert)?;
-    if is_accepted(alloc, &mut terms, &cond, &text)? {
-        Ok(Some(text))
-    } else {
-        Ok(None)
-    }
+    certificate(alloc, &mut terms, &cond, row.budget)
 }
 
 /// Whether there is a certificate of the row's condition, which is accepted once it is written and read again.
 pub fn is_certified(alloc: Global, row: &Row) -> Result<bool, NoMemory> {
-    Ok(certificate_of(alloc, row)?.is_some())
+    match certificate_of(alloc, row)? {
+        Some(_) => Ok(true),
+        None => Ok(false),
+    }
 }
