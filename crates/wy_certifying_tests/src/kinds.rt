@@ -1,4 +1,6 @@
 //! Each kind of step in some certificate.
+ghost use Rattle.std.specs.Prelude.{◌<◌, length};
+
 use crate::certificates::{Row, certificate_of};
 use std::alloc::Global;
 use wy_term::NoMemory;
@@ -96,10 +98,20 @@ const KINDS: [Kind; 10] = [
     },
 ];
 
+// Whether a line of the text begins at an index, with the word.
+fn begins_at(text: &[u8], word: &[u8], i: usize) -> bool
+    requires { i < length text.now }
+{
+    if i > 0 && text[i - 1] != 10 {
+        return false;
+    }
+    text[i..].starts_with(word)
+}
+
 // Whether the text has a line that begins with the word.
 fn has_line(text: &[u8], word: &[u8]) -> bool {
-    for line in text.split(|byte| *byte == 10) {
-        if line.starts_with(word) {
+    for i in 0..text.len() {
+        if begins_at(text, word, i) {
             return true;
         }
     }
