@@ -43,9 +43,9 @@ pub draft_stays : (old new : List Plain) (d : Draft) → Stays old new → IsDra
 draft_stays old new d stays is = record { steps = is.steps; branch = branch_stays old new d.branch stays is.branch }
 
 -- the list of the certificate's terms grows
-pub draft_terms : (nodes : List Plain) (d e : Draft) → length d.terms ≤ length e.terms → e.steps ≡ d.steps → e.branch ≡ d.branch → IsDraft nodes d → IsDraft nodes e
+pub draft_terms : (nodes : List Plain) (d e : Draft) → length d.terms ≤ length e.terms → e.steps.items ≡ d.steps.items → e.branch ≡ d.branch → IsDraft nodes d → IsDraft nodes e
 draft_terms nodes d e le steps branch is = record {
-  steps = subst (λ s. All (IsBelow (length e.terms)) s.items) (sym steps) (steps_up (length d.terms) (length e.terms) d.steps.items le is.steps);
+  steps = subst (All (IsBelow (length e.terms))) (sym steps) (steps_up (length d.terms) (length e.terms) d.steps.items le is.steps);
   branch = subst (IsBranch nodes) (sym branch) is.branch;
 }
 
