@@ -138,7 +138,8 @@ fn on_open(terms: &mut Terms, cond: &Cond, spot: Spot) -> Result<Next, Stop>
     ensures stays { Stays terms.old terms.new }
 {
     let found = with_next_atom(terms, spot)?;
-    on_atom(terms, cond, found.0, found.1)
+    let (spot, atom) = found;
+    on_atom(terms, cond, spot, atom)
 }
 
 // The steps that close a node whose classes clash, or which elimination refutes.

@@ -112,11 +112,12 @@ fn resumed(
     ensures { IfOk result (IsWalk terms.now) }
 {
     let mut draft = draft;
-    turned_back(terms, &mut draft, next.size, next.atom)?;
+    let Waiting { spot, size, atom } = next;
+    turned_back(terms, &mut draft, size, atom)?;
     Ok(Walk {
         leaves,
         draft,
-        spot: next.spot,
+        spot,
         waiting,
     })
 }

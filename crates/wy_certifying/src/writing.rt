@@ -194,7 +194,8 @@ fn reduce(
 {
     let d = divisor_of(terms, draft, &pairs)?;
     let made = reduced(terms.allocator(), d, pairs)?;
-    cut(terms, draft, stated, made.0, made.1)
+    let (divisor, multipliers) = made;
+    cut(terms, draft, stated, divisor, multipliers)
 }
 
 fn put_instance(terms: &Terms, draft: &mut Draft, number: u32, t: u32) -> Result<(), Stop>
