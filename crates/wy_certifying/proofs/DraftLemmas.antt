@@ -1,5 +1,6 @@
 -- A draft and the nodes that wait, as terms, steps and nodes are added.
-use Rattle.std.specs.Prelude.{Result, Ok, Err, OnOk}
+use Rattle.std.specs.Prelude.{Option, Some, IfSome, Result, Ok, Err, OnOk, Vec}
+use Rattle.std.specs.declared.alloc.Global.{Global}
 use Rattle.std.proofs.Common.{◌≡◌, ◌<◌, ◌≤◌, ◌+◌, ℕ, zero, suc, List, [], ◌∷◌, ◌++◌, All, length, get_or, refl, sym, ap, subst, ◌∙◌, arith}
 use Rattle.wy_term.specs.Nodes.{Plain, tree_at}
 use Rattle.wy_facts.specs.Seen.{AreBelow, Stays}
@@ -98,3 +99,6 @@ copy_over nodes b c ls ps is = record {
   pending = subst (AreOver (length nodes)) (sym ps) is.pending;
   bare = subst (AreBare (tree_at nodes)) (sym ps) is.bare;
 }
+
+pub some_below : (n : ℕ) (o : Option (Vec ℕ Global)) (ks : Vec ℕ Global) → o ≡ Some ks → IfSome o (λ fs. AreBelow n fs.items) → AreBelow n ks.items
+some_below n o ks is h = subst (λ (p : Option (Vec ℕ Global)). IfSome p (λ fs. AreBelow n fs.items)) is h
