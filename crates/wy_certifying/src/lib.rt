@@ -5,13 +5,13 @@
 //! list the facts and the products of bounds). `draft` has the certificate as far as it is written, beside the node at which the
 //! next step stands: a certificate's node has more than the search's, since a fact adds its whole formula. `writing` gives
 //! each literal the number that it has there, and `adding` adds what a step states. In the end the certificate is judged by the
-//! checker (`certified`), so that it is answered only where it is valid.
+//! checker (`judgement`), so that it is answered only where it is valid.
 #![tactic(auto)]
 
 mod adding;
-mod certified;
 mod draft;
 mod facts;
+mod judgement;
 mod products;
 mod rounds;
 mod stop;
@@ -19,4 +19,4 @@ mod turning;
 mod walking;
 mod writing;
 
-pub use certified::certified;
+pub use judgement::certified;

@@ -1,5 +1,5 @@
 use Rattle.std.proofs.Common.{◌∙◌, ap, length, length-take, arith}
-use Rattle.wy_certifying.proofs.certified.certified.Goals as goal
+use Rattle.wy_certifying.proofs.judgement.certified.Goals as goal
 
 pub returns-clause-length : goal.returns-clause-length
 returns-clause-length c =

@@ -7,7 +7,7 @@ use Rattle.wy_facts.proofs.StepLemmas.{stays_on}
 use Rattle.wy_stated_facts.proofs.AddingLemmas.{types_up}
 use Rattle.wy_certifying.proofs.ConditionLemmas.{condition_stays}
 use Rattle.wy_certifying.proofs.DraftLemmas.{below_up}
-use Rattle.wy_certifying.proofs.certified.found.Goals as goal
+use Rattle.wy_certifying.proofs.judgement.found.Goals as goal
 
 pub judged-requires-clause-hyps : goal.judged-requires-clause-hyps
 judged-requires-clause-hyps c = below_up (length c.args.terms.now) (length c.drafted.new.terms) c.args.cond.now.hyps.items c.in_ok-drafted.ensures.stays.grows c.requires.hyps
