@@ -35,6 +35,7 @@ fn is_quantifier(terms: &Terms, quantifier: &Quantifier) -> bool
 }
 
 /// Whether the parts of a node are of the sorts that its form wants, in time linear in their number.
+#[tactic(auto, using(crate::proofs::SortLemmas::all_have, crate::proofs::SortLemmas::fields_below))]
 pub fn has_sorted_parts(terms: &Terms, node: &Node) -> bool
     requires { HasPartsBelow (length terms.now) (plain node.now) }
     ensures value { IsTrue result → HaveSorts (tree_at terms.now) (plain node.now).parts (places (plain node.now).symbol) }
@@ -64,7 +65,8 @@ pub fn has_sorted_parts(terms: &Terms, node: &Node) -> bool
         }
         Node::Array(vs) => are_of_sort(terms, vs, Sort::Val),
         Node::Record(fields) => are_data(terms, fields),
-        Node::And(fs) | Node::Or(fs) => are_of_sort(terms, fs, Sort::Formula),
+        Node::And(fs) => are_of_sort(terms, fs, Sort::Formula),
+        Node::Or(fs) => are_of_sort(terms, fs, Sort::Formula),
         Node::All(q) | Node::Some(q) => is_quantifier(terms, q),
     }
 }

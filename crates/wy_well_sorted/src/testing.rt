@@ -15,7 +15,10 @@ pub fn are_terms_sorted(terms: &Terms) -> bool
     ensures value { IsTrue result → AreSortedBelow terms.now (length terms.now) }
 {
     for term in 0..terms.len() {
-        if !has_sorted_parts(terms, terms.node(term as u32)) {
+        let Ok(number) = u32::try_from(term) else {
+            return false;
+        };
+        if !has_sorted_parts(terms, terms.node(number)) {
             return false;
         }
     }
@@ -23,6 +26,7 @@ pub fn are_terms_sorted(terms: &Terms) -> bool
 }
 
 // Whether a step splits on a formula, if it is a split.
+#[tactic(auto, using(crate::proofs::SortLemmas::chain_sorted, crate::proofs::SortLemmas::fact_sorted))]
 fn splits_on_formula(terms: &Terms, step: &Step) -> bool
     requires below { IsBelow (length terms.now) step.now }
     requires sorted { AreSortedBelow terms.now (length terms.now) }
@@ -30,7 +34,9 @@ fn splits_on_formula(terms: &Terms, step: &Step) -> bool
 {
     match step {
         Step::Split(atom) => is_of_sort(terms, *atom, Sort::Formula),
-        _ => true,
+        Step::Shut | Step::Clash(_, _) | Step::Sum(_) | Step::Cut(_, _) | Step::Wit(_) => true,
+        Step::Inst(_, _) | Step::Prod(_, _, _) => true,
+        Step::Chain(_) | Step::Fact(_, _) => true,
     }
 }
 

@@ -1,4 +1,6 @@
-use Rattle.std.proofs.Common.{◌≡◌, ◌≢◌, ◌∙◌, ◌<◌, ℤ, Option, Some, None, ap, refl, rules, subst, sym}
+use Rattle.std.proofs.Common.{◌≡◌, ◌≢◌, ◌∙◌, ◌<◌, ℤ, FitsSigned, Option, Some, None, ap, refl, rules, subst, sym}
+use Rattle.std.proofs.lemmas.Int.{to_z-of_z}
+use Rattle.std.specs.Int.{w128}
 use Rattle.std.specs.Prelude.{IfSome}
 use Rattle.wy_bound_products.proofs.BoundLemmas.{apart_of, no_affine, other_bound, this_bound}
 use Rattle.wy_bound_products.proofs.tightest.with_bound.Goals as goal
@@ -24,5 +26,6 @@ returns-then-a-below c = λ ls f h given here const are best.
 pub returns : goal.returns
 returns c = λ ls f h given here const are best.
     let one : Bound = record { number = c.args.number; at = c.quotient.result } in
+    let fits : FitsSigned w128 c.args.constant = search rules in
     this_bound ls f h c.args.below one c.tighter.result given c.in-Some.a here (subst (λ (o : Option Affine). AreAffine o (affine f h)) c.in-Some.is are) (apart_of c.in-Some.a.factor.negative c.args.below c.if-a-below.false)
-    (c.quotient.ensures ∙ ap (λ (z : ℤ). quotient_down z c.in-Some.a.factor.size) (sym const)) (λ y at is. c.tighter.ensures ls f c.args.below given y at best is)
+    (c.quotient.ensures ∙ ap (λ (z : ℤ). quotient_down z c.in-Some.a.factor.size) (to_z-of_z w128 c.args.constant fits ∙ sym const)) (λ y at is. c.tighter.ensures ls f c.args.below given y at best is)
