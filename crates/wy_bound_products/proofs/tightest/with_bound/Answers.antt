@@ -1,4 +1,4 @@
-use Rattle.std.proofs.Common.{◌≡◌, ◌≢◌, ◌∙◌, ◌<◌, ℤ, FitsSigned, Option, Some, None, ap, refl, rules, subst, sym}
+use Rattle.std.proofs.Common.{◌≡◌, ◌≢◌, ◌∙◌, ◌<◌, ℤ, FitsSigned, to_z, of_z, Option, Some, None, ap, refl, rules, subst, sym}
 use Rattle.std.proofs.lemmas.Int.{to_z-of_z}
 use Rattle.std.specs.Int.{w128}
 use Rattle.std.specs.Prelude.{IfSome}
@@ -25,7 +25,9 @@ returns-then-a-below c = λ ls f h given here const are best.
 
 pub returns : goal.returns
 returns c = λ ls f h given here const are best.
-    let one : Bound = record { number = c.args.number; at = c.quotient.result } in
+    let one : Bound = record { number = c.args.number; at = to_z w128 (of_z w128 c.quotient.result) } in
     let fits : FitsSigned w128 c.args.constant = search rules in
-    this_bound ls f h c.args.below one c.tighter.result given c.in-Some.a here (subst (λ (o : Option Affine). AreAffine o (affine f h)) c.in-Some.is are) (apart_of c.in-Some.a.factor.negative c.args.below c.if-a-below.false)
-    (c.quotient.ensures ∙ ap (λ (z : ℤ). quotient_down z c.in-Some.a.factor.size) (to_z-of_z w128 c.args.constant fits ∙ sym const)) (λ y at is. c.tighter.ensures ls f c.args.below given y at best is)
+    let fit : FitsSigned w128 c.quotient.result = search rules in
+    let stop = to_z-of_z w128 c.quotient.result fit ∙ (c.quotient.ensures ∙ ap (λ (z : ℤ). quotient_down z c.in-Some.a.factor.size) (to_z-of_z w128 c.args.constant fits ∙ sym const)) in
+    this_bound ls f h c.args.below one c.tighter.result given c.in-Some.a here (subst (λ (o : Option Affine). AreAffine o (affine f h)) c.in-Some.is are) (apart_of c.in-Some.a.factor.negative c.args.below c.if-a-below.false) stop
+    (λ y at is. c.tighter.ensures ls f c.args.below given y at best is)
