@@ -1,5 +1,5 @@
 -- Terms whose parts are of the sorts that their places want.
-use Rattle.std.proofs.Common.{arith, ◌≡◌, ◌⊎◌, inl, inr, ℕ, zero, suc, ◌<◌, ◌≤◌, List, [], ◌∷◌, All, Vec, length, map, drop, slice_get, Some, sym, subst}
+use Rattle.std.proofs.Common.{arith, ◌≡◌, ◌⊎◌, inl, inr, ℕ, zero, suc, ◌+◌, ◌<◌, ◌≤◌, List, [], ◌∷◌, All, Vec, length, map, drop, slice_get, Some, sym, subst}
 use Rattle.std.specs.declared.alloc.Global.{Global}
 use Rattle.std.proofs.lemmas.Bool.{cases_lt}
 use Rattle.std.proofs.lemmas.List.Elements.{All-cons, All-head, All-nil, All-tail}
@@ -37,11 +37,11 @@ pub node_sorted : (nodes : List Plain) (t : ℕ) (n : Plain) → tree_at nodes t
 node_sorted nodes t n e below are fits = subst IsSorted (sym e) (parts_sorted (tree_at nodes) t n.parts (places n.symbol) below are fits)
 
 -- one number more
-below_or_at : (nodes : List Plain) (t k : ℕ) → AreSortedBelow nodes t → IsSorted (tree_at nodes t) → k < suc t → (k < t) ⊎ (t ≤ k) → IsSorted (tree_at nodes k)
+below_or_at : (nodes : List Plain) (t k : ℕ) → AreSortedBelow nodes t → IsSorted (tree_at nodes t) → k < t + 1 → (k < t) ⊎ (t ≤ k) → IsSorted (tree_at nodes k)
 below_or_at nodes t k are is less (inl l) = are k l
 below_or_at nodes t k are is less (inr g) = let same : t ≡ k = omega arith in subst (λ (i : ℕ). IsSorted (tree_at nodes i)) same is
 
-pub sorted_below_more : (nodes : List Plain) (t : ℕ) → AreSortedBelow nodes t → IsSorted (tree_at nodes t) → AreSortedBelow nodes (suc t)
+pub sorted_below_more : (nodes : List Plain) (t : ℕ) → AreSortedBelow nodes t → IsSorted (tree_at nodes t) → AreSortedBelow nodes (t + 1)
 sorted_below_more nodes t are is k less = below_or_at nodes t k are is less (cases_lt k t)
 
 -- ---- steps

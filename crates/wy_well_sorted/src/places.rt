@@ -21,6 +21,14 @@ fn are_data(terms: &Terms, fields: &[(Name, u32)]) -> bool
     true
 }
 
+// Whether the fields of a record are data.
+fn is_record(terms: &Terms, fields: &Vec<(Name, u32)>) -> bool
+    requires { All (λ k. k < length terms.now) (map (λ p. p.1) fields.now.items) }
+    ensures value { IsTrue result → AreOfSort (tree_at terms.now) (seen_sort Sort.Val) (map (λ p. p.1) fields.now.items) }
+{
+    are_data(terms, fields)
+}
+
 // Whether the range of a quantifier is of numbers, and what is asked a formula.
 fn is_quantifier(terms: &Terms, quantifier: &Quantifier) -> bool
     requires from { quantifier.now.from < length terms.now }
@@ -35,7 +43,7 @@ fn is_quantifier(terms: &Terms, quantifier: &Quantifier) -> bool
 }
 
 /// Whether the parts of a node are of the sorts that its form wants, in time linear in their number.
-#[tactic(auto, using(crate::proofs::SortLemmas::all_have, crate::proofs::SortLemmas::fields_below))]
+#[tactic(auto, using(crate::proofs::SortLemmas::all_have))]
 pub fn has_sorted_parts(terms: &Terms, node: &Node) -> bool
     requires { HasPartsBelow (length terms.now) (plain node.now) }
     ensures value { IsTrue result → HaveSorts (tree_at terms.now) (plain node.now).parts (places (plain node.now).symbol) }
@@ -64,7 +72,7 @@ pub fn has_sorted_parts(terms: &Terms, node: &Node) -> bool
             is_of_sort(terms, *v, Sort::Val) && is_of_sort(terms, *w, Sort::Val)
         }
         Node::Array(vs) => are_of_sort(terms, vs, Sort::Val),
-        Node::Record(fields) => are_data(terms, fields),
+        Node::Record(fields) => is_record(terms, fields),
         Node::And(fs) => are_of_sort(terms, fs, Sort::Formula),
         Node::Or(fs) => are_of_sort(terms, fs, Sort::Formula),
         Node::All(q) | Node::Some(q) => is_quantifier(terms, q),

@@ -14,10 +14,10 @@ use wy_term::Terms;
 pub fn are_terms_sorted(terms: &Terms) -> bool
     ensures value { IsTrue result → AreSortedBelow terms.now (length terms.now) }
 {
-    for term in 0..terms.len() {
-        let Ok(number) = u32::try_from(term) else {
-            return false;
-        };
+    let Ok(count) = u32::try_from(terms.len()) else {
+        return false;
+    };
+    for number in 0..count {
         if !has_sorted_parts(terms, terms.node(number)) {
             return false;
         }
