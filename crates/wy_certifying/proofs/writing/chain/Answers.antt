@@ -8,5 +8,5 @@ state_chain-requires-clause-terms c = subst (AreBelow (length c.args.terms.now))
 
 pub put_chain-requires-clause-terms : goal.put_chain-requires-clause-terms
 put_chain-requires-clause-terms c =
-    subst (AreBelow (length c.state_chain.new.terms)) (sym c.deref-2.ensures.value)
+    subst (AreBelow (length c.state_chain.new.terms)) (sym c.deref-then-branch.ensures.value)
     (below_kept c.args.terms.now c.state_chain.new.terms c.in_ok-all.all.items c.in_ok-state_chain.ensures.stays c.in_ok-all.ensures)

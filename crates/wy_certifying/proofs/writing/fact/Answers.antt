@@ -8,5 +8,5 @@ state_fact-requires-clause-terms c = subst (AreBelow (length c.args.terms.now)) 
 
 pub put_fact-requires-clause-terms : goal.put_fact-requires-clause-terms
 put_fact-requires-clause-terms c =
-    subst (AreBelow (length c.state_fact.new.terms)) (sym c.deref-2.ensures.value)
+    subst (AreBelow (length c.state_fact.new.terms)) (sym c.deref-then-branch.ensures.value)
     (below_kept c.args.terms.now c.state_fact.new.terms c.in_ok-all.all.items c.in_ok-state_fact.ensures.stays c.in_ok-all.ensures)
