@@ -1,0 +1,10 @@
+use Rattle.std.proofs.Common.{[], length, subst, sym}
+use Rattle.wy_certifying.specs.Nodes.{AreWaiting}
+use Rattle.wy_certifying.proofs.walking.first_walk.Goals as goal
+
+pub returns : goal.returns
+returns c = record {
+  draft = c.in_ok-draft.ensures;
+  spot = c.in_ok-spot.ensures;
+  waiting = subst (AreWaiting c.args.terms.now) (sym c.new.ensures.items) tt;
+}

@@ -1,0 +1,12 @@
+use Rattle.std.proofs.Common.{length, subst, sym}
+use Rattle.wy_facts.specs.Seen.{AreBelow}
+use Rattle.wy_facts.proofs.StepLemmas.{below_kept}
+use Rattle.wy_certifying.proofs.writing.fact.Goals as goal
+
+pub state_fact-requires-clause-terms : goal.state_fact-requires-clause-terms
+state_fact-requires-clause-terms c = subst (AreBelow (length c.args.terms.now)) (sym c.deref.ensures.value) c.in_ok-all.ensures
+
+pub put_fact-requires-clause-terms : goal.put_fact-requires-clause-terms
+put_fact-requires-clause-terms c =
+    subst (AreBelow (length c.state_fact.new.terms)) (sym c.deref-then-branch.ensures.value)
+    (below_kept c.args.terms.now c.state_fact.new.terms c.in_ok-all.all.items c.in_ok-state_fact.ensures.stays c.in_ok-all.ensures)

@@ -1,0 +1,3 @@
+-- what functions inside owe each other
+pub mod Draft
+pub mod Nodes

@@ -1,0 +1,87 @@
+//! Certificates that are judged.
+ghost use Rattle.std.specs.Prelude.{◌≡◌, ◌<◌, ℕ, All, length, IfOk, IfSome};
+ghost use Rattle.wy_cert.specs.Steps.{steps_of, NamesItsTerms};
+ghost use Rattle.wy_facts.specs.Membership.{AreTypesBelow};
+ghost use Rattle.wy_facts.specs.Seen.{Stays};
+ghost use Rattle.wy_sound_certificates.specs.Sortedness.{AreSortedSteps};
+ghost use Rattle.wy_term.specs.Condition.{condition_of};
+ghost use Rattle.wy_term.specs.Nodes.{tree_at};
+ghost use Rattle.wy_valid.specs.Validity.{IsValid};
+
+use crate::stop::Stop;
+use crate::walking::written;
+use wy_cert::Cert;
+use wy_checking::{Checked, check};
+use wy_term::{Cond, NoMemory, Terms};
+use wy_well_sorted::is_certificate_sorted;
+
+// A certificate, if one could be written. It makes terms.
+fn drafted(terms: &mut Terms, cond: &Cond, budget: u64) -> Result<Option<Cert>, NoMemory>
+    requires hyps { All (λ h. h < length terms.old) cond.now.hyps.items }
+    requires goal { cond.now.goal < length terms.old }
+    requires types { AreTypesBelow (length terms.old) cond.now }
+    ensures names { IfOk result (λ o. IfSome o NamesItsTerms) }
+    ensures stays { Stays terms.old terms.new }
+{
+    match written(terms, cond, budget) {
+        Ok(cert) => Ok(Some(cert)),
+        Err(Stop::Unwritten) => Ok(None),
+        Err(Stop::NoMemory) => Err(NoMemory),
+    }
+}
+
+// The certificate, where it is valid and its terms are of the sorts that their places want.
+fn judged(terms: &mut Terms, cond: &Cond, cert: Cert) -> Result<Option<Cert>, NoMemory>
+    requires hyps { All (λ h. h < length terms.old) cond.now.hyps.items }
+    requires goal { cond.now.goal < length terms.old }
+    requires types { AreTypesBelow (length terms.old) cond.now }
+    requires cert { NamesItsTerms cert }
+    ensures valid { IfOk result (λ o. IfSome o (λ c. IsValid (condition_of terms.old cond.now) (steps_of c))) }
+    ensures sorted { IfOk result (λ o. IfSome o (λ c. AreSortedSteps (steps_of c))) }
+    ensures names { IfOk result (λ o. IfSome o NamesItsTerms) }
+    ensures stays { Stays terms.old terms.new }
+{
+    if !is_certificate_sorted(&cert) {
+        return Ok(None);
+    }
+    match check(terms, cond, &cert)? {
+        Checked::Yes => Ok(Some(cert)),
+        Checked::No(_) => Ok(None),
+    }
+}
+
+// A valid certificate, if one could be written. It makes terms.
+fn found(terms: &mut Terms, cond: &Cond, budget: u64) -> Result<Option<Cert>, NoMemory>
+    requires hyps { All (λ h. h < length terms.old) cond.now.hyps.items }
+    requires goal { cond.now.goal < length terms.old }
+    requires types { AreTypesBelow (length terms.old) cond.now }
+    ensures valid { IfOk result (λ o. IfSome o (λ c. IsValid (condition_of terms.old cond.now) (steps_of c))) }
+    ensures sorted { IfOk result (λ o. IfSome o (λ c. AreSortedSteps (steps_of c))) }
+    ensures names { IfOk result (λ o. IfSome o NamesItsTerms) }
+    ensures stays { Stays terms.old terms.new }
+{
+    match drafted(terms, cond, budget)? {
+        Some(cert) => judged(terms, cond, cert),
+        None => Ok(None),
+    }
+}
+
+/// A certificate of a condition, by the search's own tree up to a budget of leaves, judged by the checker: there is one only
+/// where it is valid and its terms are of the sorts that their places want. By trial there is one wherever the search finds at
+/// this budget; no clause says so. The terms are as before afterwards, at want of memory too. It takes the search's time once
+/// more, and the checker's.
+pub fn certified(terms: &mut Terms, cond: &Cond, budget: u64) -> Result<Option<Cert>, NoMemory>
+    requires hyps { All (λ h. h < length terms.old) cond.now.hyps.items }
+    requires goal { cond.now.goal < length terms.old }
+    requires types { AreTypesBelow (length terms.old) cond.now }
+    ensures valid { IfOk result (λ o. IfSome o (λ cert. IsValid (condition_of terms.old cond.now) (steps_of cert))) }
+    ensures sorted { IfOk result (λ o. IfSome o (λ cert. AreSortedSteps (steps_of cert))) }
+    ensures names { IfOk result (λ o. IfSome o NamesItsTerms) }
+    ensures length { length terms.new ≡ length terms.old }
+    ensures kept { (t : ℕ) → t < length terms.old → tree_at terms.new t ≡ tree_at terms.old t }
+{
+    let mark = terms.mark();
+    let answer = found(terms, cond, budget);
+    terms.back_to(mark);
+    answer
+}

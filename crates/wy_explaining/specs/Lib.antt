@@ -1,0 +1,1 @@
+-- what functions inside owe each other
