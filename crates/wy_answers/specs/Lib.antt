@@ -1,0 +1,6 @@
+-- definitions of public contracts
+pub mod Answers
+pub mod Texts
+pub mod Steps
+pub mod Loading
+pub mod Showing
