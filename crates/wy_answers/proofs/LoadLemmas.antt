@@ -7,7 +7,7 @@ use Rattle.wy_port.specs.declared.files.LoadFault.{LoadFault}
 use Rattle.wy_port.specs.declared.files.LoadFault.TheVariants.{Absent, TooLong, Failed, NoMemory}
 use Rattle.wy_answers.specs.Answers.{refused, IsRefusal}
 use Rattle.wy_answers.specs.Loading.{Loads, LoadFails, loaded}
-use Rattle.wy_answers.specs.Steps.{Setting, IsDuring, Came, outside, memory, Gives}
+use Rattle.wy_answers.specs.Steps.{both, Setting, IsDuring, Came, outside, memory, Gives}
 use Rattle.wy_answers.specs.Texts.{load_status, load_text}
 use Rattle.wy_answers.specs.declared.answer.Answer.{Answer}
 use Rattle.wy_answers.proofs.StepLemmas.{value_gives, free_gives, refusal_gives, stopped}
@@ -63,10 +63,10 @@ only_bytes : (s : Setting) (name : List ℕ) (limit : ℕ) (bytes : List ℕ) �
 only_bytes s name limit bytes known there (Ok others) h = ap (λ (b : List ℕ). Ok b) (one_file (s.told name) others bytes known h.told there.told)
 only_bytes s name limit bytes known there (Err a) h = absurd (fails_not s name limit bytes known there h.fault h.cause)
 
-pub loads : (s : Setting) (told : List ℕ → Told) (f g m n : ℕ) (name : List ℕ) (limit : ℕ) (bytes : List ℕ) → IsDuring s told f g m n → MayBe (told name) bytes → length bytes ≤ limit → Gives s (loaded s name limit) (Ok bytes)
+pub loads : (s : Setting) (told : List ℕ → Told) (f g m n : ℕ) (name : List ℕ) (limit : ℕ) (bytes : List ℕ) → IsDuring s told f g m n → MayBe (told name) bytes → length bytes ≤ limit → Gives s (both (loaded s name limit)) (Ok bytes)
 loads s told f g m n name limit bytes during may within =
     let there : Loads s name limit bytes = record { told = subst (λ (t : Told). MayBe t bytes) (during.same name) may; within = within } in
-    value_gives s (loaded s name limit) bytes there (λ known other h. only_bytes s name limit bytes (known name) there other h)
+    value_gives s (both (loaded s name limit)) bytes there (λ known other h. only_bytes s name limit bytes (known name) there other h)
 
 -- ---- a load that failed
 
@@ -104,21 +104,21 @@ only_long s name limit known fails (Err a) h = by_fault h.fault h.cause h.answer
     by_fault Failed cause e = absurd cause
     by_fault NoMemory cause e = absurd cause
 
-failed_gives : (s : Setting) (name : List ℕ) (limit : ℕ) (a : Answer) → Rose s.faults_before s.faults_after → IsRefusal (load_status Failed) (load_text name Failed) a → Gives s (loaded s name limit) (Err a)
-failed_gives s name limit a rose (inl e) = free_gives s (loaded s name limit) a (outside name e rose)
-failed_gives s name limit a rose (inr e) = free_gives s (loaded s name limit) a (memory e)
+failed_gives : (s : Setting) (name : List ℕ) (limit : ℕ) (a : Answer) → Rose s.faults_before s.faults_after → IsRefusal (load_status Failed) (load_text name Failed) a → Gives s (both (loaded s name limit)) (Err a)
+failed_gives s name limit a rose (inl e) = free_gives s (both (loaded s name limit)) a (outside name e rose)
+failed_gives s name limit a rose (inr e) = free_gives s (both (loaded s name limit)) a (memory e)
 
-no_memory_gives : (s : Setting) (name : List ℕ) (limit : ℕ) (a : Answer) → IsRefusal (load_status NoMemory) (load_text name NoMemory) a → Gives s (loaded s name limit) (Err a)
-no_memory_gives s name limit a (inl e) = free_gives s (loaded s name limit) a (memory e)
-no_memory_gives s name limit a (inr e) = free_gives s (loaded s name limit) a (memory e)
+no_memory_gives : (s : Setting) (name : List ℕ) (limit : ℕ) (a : Answer) → IsRefusal (load_status NoMemory) (load_text name NoMemory) a → Gives s (both (loaded s name limit)) (Err a)
+no_memory_gives s name limit a (inl e) = free_gives s (both (loaded s name limit)) a (memory e)
+no_memory_gives s name limit a (inr e) = free_gives s (both (loaded s name limit)) a (memory e)
 
 pub load_fails : (s : Setting) (told : List ℕ → Told) (f g m n : ℕ) (name : List ℕ) (limit : ℕ) (fault : LoadFault) (a : Answer) → IsDuring s told f g m n → Says told f g m n name limit fault → IsRefusal (load_status fault) (load_text name fault) a
-    → Gives s (loaded s name limit) (Err a)
+    → Gives s (both (loaded s name limit)) (Err a)
 load_fails s told f g m n name limit Absent a during said refusal =
     let fails : LoadFails s name limit Absent = missing_within (s.told name) s.misses_before m n s.misses_after during.misses_from during.misses_rise during.misses_to (subst (λ (t : Told). IsMissing t m n) (during.same name) said) in
-    refusal_gives s (loaded s name limit) (load_status Absent) (load_text name Absent) a refusal (record { fault = Absent; cause = fails; answer = refl }) (λ known other h. only_absent s name limit (known name) fails other h)
+    refusal_gives s (both (loaded s name limit)) (load_status Absent) (load_text name Absent) a refusal (record { fault = Absent; cause = fails; answer = refl }) (λ known other h. only_absent s name limit (known name) fails other h)
 load_fails s told f g m n name limit TooLong a during said refusal =
     let fails : LoadFails s name limit TooLong = long_within (s.told name) limit s.misses_before m n s.misses_after during.misses_from during.misses_rise during.misses_to (subst (λ (t : Told). IsTooLong t limit m n) (during.same name) said) in
-    refusal_gives s (loaded s name limit) (load_status TooLong) (load_text name TooLong) a refusal (record { fault = TooLong; cause = fails; answer = refl }) (λ known other h. only_long s name limit (known name) fails other h)
+    refusal_gives s (both (loaded s name limit)) (load_status TooLong) (load_text name TooLong) a refusal (record { fault = TooLong; cause = fails; answer = refl }) (λ known other h. only_long s name limit (known name) fails other h)
 load_fails s told f g m n name limit Failed a during said refusal = failed_gives s name limit a (rose_within s.faults_before f g s.faults_after during.faults_from during.faults_rise during.faults_to said) refusal
 load_fails s told f g m n name limit NoMemory a during said refusal = no_memory_gives s name limit a refusal

@@ -50,10 +50,25 @@ abbrev pub came : {X Y : Type 0} → (Y → X) → Result Y Answer → Came X
 came view (Ok y) = Ok (view y)
 came view (Err a) = Err a
 
+-- A step is a relation, said in two ways.
+pub data Sense : Type 0 where
+  -- what holds of the files and the words where the step came to this
+  stated : Sense
+  -- what of files and words is enough for this, and nothing else, to come
+  due : Sense
+
+-- both are the same
+abbrev pub both : {X : Type 0} → (Came X → Type 0) → Sense → Came X → Type 0
+both P m = P
+
 -- the first step, and behind it the next; the command ends with the answer of the first one that has one
 pub data Follows {X Y : Type 0} (first : Came X → Type 0) (next : X → Came Y → Type 0) (r : Came Y) : Type 0 where
   goes_on : (x : X) → first (Ok x) → next x r → Follows first next r
   ends : (a : Answer) → first (Err a) → r ≡ Err a → Follows first next r
+
+-- one step behind the other
+abbrev pub and_then : {X Y : Type 0} → (Sense → Came X → Type 0) → (X → Sense → Came Y → Type 0) → Sense → Came Y → Type 0
+and_then first next m = Follows (first m) (λ x. next x m)
 
 -- an answer that doesn't follow from words and files: memory ran out; a load failed, and was counted; or, as was never seen, a condition that the search closed got no certificate, or the machine found no step
 pub data IsFree (s : Setting) (a : Answer) : Type 0 where
@@ -66,10 +81,10 @@ abbrev pub EndsFree : {X : Type 0} → Setting → Came X → Type 0
 EndsFree s (Ok x) = ⊥
 EndsFree s (Err a) = IsFree s a
 
--- What the step came to is due, or a free answer. Where files are told, what is due is this and nothing else, unless this is a free answer.
-pub record Gives {X : Type 0} (s : Setting) (due : Came X → Type 0) (r : Came X) : Type 0 where
-  pub comes : due r ⊎ EndsFree s r
-  pub only : IsTold s → (other : Came X) → due other → (other ≡ r) ⊎ EndsFree s r
+-- What is stated of what the step came to holds, or it came to a free answer. Where files are told, what is due is this and nothing else, unless this is a free answer.
+pub record Gives {X : Type 0} (s : Setting) (step : Sense → Came X → Type 0) (r : Came X) : Type 0 where
+  pub comes : step stated r ⊎ EndsFree s r
+  pub only : IsTold s → (other : Came X) → step due other → (other ≡ r) ⊎ EndsFree s r
 
 -- ---- the end of a command that streams nothing
 

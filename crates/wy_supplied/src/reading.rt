@@ -2,7 +2,7 @@
 ghost use Rattle.std.specs.Prelude.{◌≡◌, ◌≤◌, ℕ, List, IfOk};
 ghost use Rattle.std.specs.String.{string_bytes};
 ghost use Rattle.wy_cert.specs.Steps.{NameTheirTerms, certificates_of};
-ghost use Rattle.wy_answers.specs.Steps.{During, Gives, Setting, came};
+ghost use Rattle.wy_answers.specs.Steps.{During, Gives, Setting, both, came};
 ghost use Rattle.wy_supplied.specs.Certificates as spec;
 ghost use Rattle.wy_supplied.specs.Certificates.{IsBadFile};
 
@@ -41,7 +41,7 @@ fn bad_file(alloc: Global, name: &str, fault: CertFault) -> Answer
 
 // The certificates for so many conditions in these bytes.
 fn read(alloc: Global, name: &str, bytes: &Bytes, count: u32) -> Result<Certs, Answer>
-    ensures gives { (s : Setting) → Gives s (spec.certificates_read name.now count bytes.now) (came certificates_of result) }
+    ensures gives { (s : Setting) → Gives s (both (spec.certificates_read name.now count bytes.now)) (came certificates_of result) }
     ensures names { IfOk result NameTheirTerms }
 {
     match read_certs(alloc, bytes.as_slice(), count) {
@@ -58,7 +58,7 @@ pub fn certificates<F: Files>(
     count: u32,
     files: &mut F,
 ) -> Result<Certs, Answer>
-    ensures gives { During (F.told files.old) (F.load_faults files.old) (F.load_faults files.new) (F.misses files.old) (F.misses files.new) (λ s. Gives s (spec.certificates s name.now count) (came certificates_of result)) }
+    ensures gives { During (F.told files.old) (F.load_faults files.old) (F.load_faults files.new) (F.misses files.old) (F.misses files.new) (λ s. Gives s (both (spec.certificates s name.now count)) (came certificates_of result)) }
     ensures names { IfOk result NameTheirTerms }
     ensures kept { (other : List ℕ) → F.told files.new other ≡ F.told files.old other }
     ensures load_count { F.load_faults files.old ≤ F.load_faults files.new }
