@@ -1,3 +1,4 @@
 pub mod StepLemmas
 pub mod LoadLemmas
 pub mod ShowLemmas
+pub mod CallLemmas

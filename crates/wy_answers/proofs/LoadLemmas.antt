@@ -7,10 +7,10 @@ use Rattle.wy_port.specs.declared.files.LoadFault.{LoadFault}
 use Rattle.wy_port.specs.declared.files.LoadFault.TheVariants.{Absent, TooLong, Failed, NoMemory}
 use Rattle.wy_answers.specs.Answers.{refused, IsRefusal}
 use Rattle.wy_answers.specs.Loading.{Loads, LoadFails, loaded}
-use Rattle.wy_answers.specs.Steps.{both, Setting, IsDuring, Came, outside, memory, Gives}
+use Rattle.wy_answers.specs.Steps.{both, Setting, IsDuring, Came, failed, memory, Gives}
 use Rattle.wy_answers.specs.Texts.{load_status, load_text}
 use Rattle.wy_answers.specs.declared.answer.Answer.{Answer}
-use Rattle.wy_answers.proofs.StepLemmas.{value_gives, free_gives, refusal_gives, stopped}
+use Rattle.wy_answers.proofs.StepLemmas.{value_gives, outside_gives, refusal_gives, stopped}
 
 -- ---- counts
 
@@ -105,12 +105,12 @@ only_long s name limit known fails (Err a) h = by_fault h.fault h.cause h.answer
     by_fault NoMemory cause e = absurd cause
 
 failed_gives : (s : Setting) (name : List ℕ) (limit : ℕ) (a : Answer) → Rose s.faults_before s.faults_after → IsRefusal (load_status Failed) (load_text name Failed) a → Gives s (both (loaded s name limit)) (Err a)
-failed_gives s name limit a rose (inl e) = free_gives s (both (loaded s name limit)) a (outside name e rose)
-failed_gives s name limit a rose (inr e) = free_gives s (both (loaded s name limit)) a (memory e)
+failed_gives s name limit a rose (inl e) = outside_gives s (both (loaded s name limit)) a (failed name e rose)
+failed_gives s name limit a rose (inr e) = outside_gives s (both (loaded s name limit)) a (memory e)
 
 no_memory_gives : (s : Setting) (name : List ℕ) (limit : ℕ) (a : Answer) → IsRefusal (load_status NoMemory) (load_text name NoMemory) a → Gives s (both (loaded s name limit)) (Err a)
-no_memory_gives s name limit a (inl e) = free_gives s (both (loaded s name limit)) a (memory e)
-no_memory_gives s name limit a (inr e) = free_gives s (both (loaded s name limit)) a (memory e)
+no_memory_gives s name limit a (inl e) = outside_gives s (both (loaded s name limit)) a (memory e)
+no_memory_gives s name limit a (inr e) = outside_gives s (both (loaded s name limit)) a (memory e)
 
 pub load_fails : (s : Setting) (told : List ℕ → Told) (f g m n : ℕ) (name : List ℕ) (limit : ℕ) (fault : LoadFault) (a : Answer) → IsDuring s told f g m n → Says told f g m n name limit fault → IsRefusal (load_status fault) (load_text name fault) a
     → Gives s (both (loaded s name limit)) (Err a)

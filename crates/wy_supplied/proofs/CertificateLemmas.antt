@@ -8,7 +8,7 @@ use Rattle.wy_cert.specs.File.{ReadsFile}
 use Rattle.wy_answers.specs.Answers.{refused, IsRefusal}
 use Rattle.wy_supplied.specs.Certificates.{AreNone, IsBadFile, certificates, certificates_read, fault_text, no_file, without, from_file}
 use Rattle.wy_answers.specs.Loading.{loaded, certificate_limit}
-use Rattle.wy_answers.specs.Steps.{Setting, IsTold, Came, EndsFree, Follows, Gives, both, and_then, stated, due}
+use Rattle.wy_answers.specs.Steps.{Setting, IsTold, Came, EndsFree, EndsOutside, Follows, Gives, both, and_then, stated, due}
 use Rattle.wy_answers.specs.declared.answer.Answer.{Answer}
 use Rattle.wy_answers.proofs.StepLemmas.{value_gives, memory_gives, refusal_gives}
 
@@ -74,7 +74,7 @@ none_gives s name count e = value_gives s (both (certificates s name count)) [] 
 pub file_gives : (s : Setting) (name : List ℕ) (count : ℕ) (r : Came Certificates) → name ≢ no_file → Gives s (and_then (both (loaded s name certificate_limit)) (λ bytes. both (certificates_read name count bytes))) r → Gives s (both (certificates s name count)) r
 file_gives s name count r named g = record { comes = by_step g.comes; only = λ told other h. by_other told other h }
   where
-    by_step : Follows (loaded s name certificate_limit) (certificates_read name count) r ⊎ EndsFree s r → certificates s name count r ⊎ EndsFree s r
+    by_step : Follows (loaded s name certificate_limit) (certificates_read name count) r ⊎ EndsOutside s r → certificates s name count r ⊎ EndsOutside s r
     by_step (inl h) = inl (from_file named h)
     by_step (inr free) = inr free
 

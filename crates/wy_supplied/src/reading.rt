@@ -3,6 +3,7 @@ ghost use Rattle.std.specs.Prelude.{◌≡◌, ◌≤◌, ℕ, List, IfOk};
 ghost use Rattle.std.specs.String.{string_bytes};
 ghost use Rattle.wy_cert.specs.Steps.{NameTheirTerms, certificates_of};
 ghost use Rattle.wy_answers.specs.Steps.{During, Gives, Setting, both, came};
+ghost use Rattle.wy_sorted_certificates.specs.ReadSorted.{AreSortedCertificates};
 ghost use Rattle.wy_supplied.specs.Certificates as spec;
 ghost use Rattle.wy_supplied.specs.Certificates.{IsBadFile};
 
@@ -43,6 +44,7 @@ fn bad_file(alloc: Global, name: &str, fault: CertFault) -> Answer
 fn read(alloc: Global, name: &str, bytes: &Bytes, count: u32) -> Result<Certs, Answer>
     ensures gives { (s : Setting) → Gives s (both (spec.certificates_read name.now count bytes.now)) (came certificates_of result) }
     ensures names { IfOk result NameTheirTerms }
+    ensures sorted { IfOk result (λ c. AreSortedCertificates (certificates_of c)) }
 {
     match read_certs(alloc, bytes.as_slice(), count) {
         Ok(certs) => Ok(certs),
@@ -60,6 +62,7 @@ pub fn certificates<F: Files>(
 ) -> Result<Certs, Answer>
     ensures gives { During (F.told files.old) (F.load_faults files.old) (F.load_faults files.new) (F.misses files.old) (F.misses files.new) (λ s. Gives s (both (spec.certificates s name.now count)) (came certificates_of result)) }
     ensures names { IfOk result NameTheirTerms }
+    ensures sorted { IfOk result (λ c. AreSortedCertificates (certificates_of c)) }
     ensures kept { (other : List ℕ) → F.told files.new other ≡ F.told files.old other }
     ensures load_count { F.load_faults files.old ≤ F.load_faults files.new }
     ensures miss_count { F.misses files.old ≤ F.misses files.new }

@@ -1,0 +1,5 @@
+pub mod PlaceLemmas
+pub mod OwingLemmas
+pub mod ClosedLemmas
+pub mod AcceptLemmas
+pub mod ProofLemmas
