@@ -15,7 +15,7 @@ use Rattle.wy_answers.proofs.StepLemmas.{value_gives, outside_gives, refusal_giv
 -- ---- counts
 
 -- a count that rose in a part of a call rose in the call
-rose_within : (a b c d : ℕ) → a ≤ b → b ≤ c → c ≤ d → Rose b c → Rose a d
+pub rose_within : (a b c d : ℕ) → a ≤ b → b ≤ c → c ≤ d → Rose b c → Rose a d
 rose_within a b c d ab bc cd (inl rose) = inl (omega arith)
 rose_within a b c d ab bc cd (inr last) = grind arith
 

@@ -1,12 +1,12 @@
 -- What does the command `big` come to?
-use Rattle.std.specs.Prelude.{◌≡◌, ◌≤◌, ◌<◌, ◌⊎◌, ◌++◌, ℕ, List, [], length, codes, Ok, Err}
+use Rattle.std.specs.Prelude.{◌≡◌, ◌≤◌, ◌<◌, ◌⊎◌, ◌++◌, ℕ, List, length, codes, Ok, Err, ⊤}
 use Rattle.std.specs.Fmt.{decimal}
 use Rattle.wy_acceptance.specs.Acceptance.{Acceptance, accepts_source}
 use Rattle.wy_acceptance.specs.Programs.{count_of}
 use Rattle.wy_answers.specs.Answers.{refused, written as writes, no_memory}
 use Rattle.wy_answers.specs.Loading.{source_limit}
 use Rattle.wy_answers.specs.Steps.{Came, Sense, stated, due, Setting, and_then, both}
-use Rattle.wy_answers.specs.Texts.{machine_stuck, of_file}
+use Rattle.wy_answers.specs.Texts.{of_file}
 use Rattle.wy_answers.specs.declared.answer.Answer.{Answer}
 use Rattle.wy_big.specs.Source.{argument_text, entry, source_of}
 use Rattle.wy_report.specs.Lines.{steps_spent}
@@ -37,14 +37,15 @@ head functions conditions = codes "functions " ++ (decimal functions ++ (codes "
 abbrev pub IsLine : ℕ → ℕ → List ℕ → Answer → Type 0
 IsLine functions conditions wrote a = (a ≡ writes (head functions conditions ++ wrote)) ⊎ (a ≡ no_memory)
 
--- The run ended: behind the front of the line stands what it writes, which is the text of the result and a line end. It has no end within its steps. Or the machine has no step, as was never seen.
-abbrev pub finishes_in : ℕ → ℕ → Launch → State → Came Answer → Type 0
-finishes_in functions conditions l (Ended v output) r = r ≡ Ok (writes (head functions conditions ++ written l.start.has_result output v))
-finishes_in functions conditions l (step.Runs fr callers output) r = r ≡ Ok (refused 8 steps_spent)
-finishes_in functions conditions l step.Stuck r = r ≡ Ok (refused 13 machine_stuck)
+-- The run ended: behind the front of the line stands what it writes, which is the text of the result and a line end. Or it has no end within its steps. Where the code has no step, as was never seen, nothing is said.
+abbrev pub finishes_in : ℕ → ℕ → Launch → State → Sense → Came Answer → Type 0
+finishes_in functions conditions l (Ended v output) m r = r ≡ Ok (writes (head functions conditions ++ written l.start.has_result output v))
+finishes_in functions conditions l (step.Runs fr callers output) m r = r ≡ Ok (refused 8 steps_spent)
+finishes_in functions conditions l step.Stuck stated r = ⊤
+finishes_in functions conditions l step.Stuck due r = ⊥
 
 abbrev pub finishes : ℕ → ℕ → ℕ → Launch → Sense → Came Answer → Type 0
-finishes functions conditions steps l = both (finishes_in functions conditions l (state_of l.start steps))
+finishes functions conditions steps l = finishes_in functions conditions l (state_of l.start steps)
 
 -- the accepted program is run
 abbrev pub runs : ℕ → ℕ → ℕ → Acceptance → Sense → Came Answer → Type 0

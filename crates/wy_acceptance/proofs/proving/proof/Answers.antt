@@ -1,0 +1,17 @@
+use Rattle.std.proofs.Common.{ℕ, List, subst}
+use Rattle.wy_answers.specs.Loading.{loaded, source_limit}
+use Rattle.wy_answers.specs.Steps.{both, came, Gives}
+use Rattle.wy_answers.proofs.StepLemmas.{goes, ends_there}
+use Rattle.wy_acceptance.specs.Kept.{answer_in}
+use Rattle.wy_acceptance.specs.Proofs.{proves_source}
+use Rattle.wy_acceptance.proofs.proving.proof.Goals as goal
+
+pub returns-in-Ok-clause-gives : goal.returns-in-Ok-clause-gives
+returns-in-Ok-clause-gives g c = λ s during.
+    goes s (both (loaded s c.args.name.now source_limit)) (proves_source c.args.name.now c.args.budget) c.in-Ok.bytes (came answer_in c.proof_source.result)
+    (c.in-Ok.ensures.gives s during)
+    (subst (λ (b : List ℕ). Gives s (proves_source c.args.name.now c.args.budget b) (came answer_in c.proof_source.result)) c.as_slice.ensures.value (c.proof_source.ensures.gives s))
+
+pub returns-in-Err-clause-gives : goal.returns-in-Err-clause-gives
+returns-in-Err-clause-gives g c = λ s during.
+    ends_there s (both (loaded s c.args.name.now source_limit)) (proves_source c.args.name.now c.args.budget) c.in-Err.answer (c.in-Err.ensures.gives s during)

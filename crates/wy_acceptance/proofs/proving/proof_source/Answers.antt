@@ -1,0 +1,16 @@
+use Rattle.std.proofs.Common.{List, ℕ}
+use Rattle.wy_answers.specs.Steps.{came}
+use Rattle.wy_answers.proofs.StepLemmas.{goes, ends_there}
+use Rattle.wy_acceptance.specs.Kept.{answer_in, program_in}
+use Rattle.wy_acceptance.specs.Programs.{owes}
+use Rattle.wy_acceptance.specs.Proofs.{judges}
+use Rattle.wy_acceptance.proofs.proving.proof_source.Goals as goal
+
+pub returns-in-Ok-clause-gives : goal.returns-in-Ok-clause-gives
+returns-in-Ok-clause-gives c = λ s.
+    goes s (owes c.args.name.now c.args.bytes.now) (λ p. judges c.args.name.now c.args.bytes.now p c.args.budget) (program_in c.in-Ok.owed) (came answer_in c.proof_on.result)
+    (c.in-Ok.ensures.gives s) (c.proof_on.ensures.gives s)
+
+pub returns-in-Err-clause-gives : goal.returns-in-Err-clause-gives
+returns-in-Err-clause-gives c = λ s.
+    ends_there s (owes c.args.name.now c.args.bytes.now) (λ p. judges c.args.name.now c.args.bytes.now p c.args.budget) c.in-Err.answer (c.in-Err.ensures.gives s)

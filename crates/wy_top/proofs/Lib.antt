@@ -1,0 +1,4 @@
+pub mod TextLemmas
+pub mod LaunchLemmas
+pub mod RunLemmas
+pub mod LargeLemmas
