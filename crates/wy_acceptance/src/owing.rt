@@ -6,6 +6,8 @@ ghost use Rattle.wy_acceptance.specs.Programs as spec;
 ghost use Rattle.wy_answers.specs.Calls.{AnswersFault};
 ghost use Rattle.wy_answers.specs.Steps.{Gives, Setting, came};
 ghost use Rattle.wy_owed.specs.Faults as faults;
+ghost use Rattle.wy_owed.specs.Owed.{Owes};
+ghost use Rattle.wy_typing.specs.TypedPrograms.{core_of, flow_of};
 
 use std::alloc::{AllocError, Global};
 use wy_answers::{Answer, no_memory, refusal};
@@ -50,6 +52,7 @@ fn fault_answer(alloc: Global, name: &str, bytes: &[u8], fault: OwedFault) -> An
 pub fn owed(alloc: Global, name: &str, bytes: &[u8]) -> Result<Owed, Answer>
     requires { length bytes.now < 2 ^ 32 }
     ensures gives { (s : Setting) → Gives s (spec.owes name.now bytes.now) (came program_in result) }
+    ensures owes { IfOk result (λ o. Owes bytes.now (core_of o.typed) (flow_of o.typed)) }
     ensures kept { IfOk result IsKept }
 {
     match read_owed(alloc, bytes) {

@@ -105,3 +105,11 @@ same_step {X = X} s step other r to back g = record { comes = by_step g.comes; o
     by_step : step stated r ⊎ EndsOutside s r → other stated r ⊎ EndsOutside s r
     by_step (inl h) = inl (to h)
     by_step (inr free) = inr free
+
+-- what is stated of a value that a step came to
+pub stated_value : {X : Type 0} (s : Setting) (step : Sense → Came X → Type 0) (x : X) → Gives s step (Ok x) → step stated (Ok x)
+stated_value {X = X} s step x g = by_step g.comes
+  where
+    by_step : step stated (went x) ⊎ EndsOutside s (went x) → step stated (went x)
+    by_step (inl h) = h
+    by_step (inr never) = absurd never
