@@ -12,6 +12,7 @@ use wy_answers::{Answer, load, no_memory, refusal};
 use wy_cert::{CertFault, Certs, read_certs};
 use wy_data::Bytes;
 use wy_port::Files;
+use wy_report::certificate_fault;
 
 /// The most bytes of a certificate file.
 const CERTIFICATE_LIMIT: u64 = 16_777_216;
@@ -21,11 +22,11 @@ fn fault_line(alloc: Global, name: &str, fault: CertFault) -> Result<String, All
     ensures value { IfOk result (λ s. string_bytes s ≡ spec.fault_text name.now fault) }
 {
     match fault {
-        CertFault::BadHeader(line) => format!(in alloc; "{name}:{line}: BadHeader\n"),
-        CertFault::BadStep(line) => format!(in alloc; "{name}:{line}: BadStep\n"),
-        CertFault::Truncated(line) => format!(in alloc; "{name}:{line}: Truncated\n"),
-        CertFault::TwiceCond(line) => format!(in alloc; "{name}:{line}: TwiceCond\n"),
-        CertFault::NoSuchCond(line) => format!(in alloc; "{name}:{line}: NoSuchCond\n"),
+        CertFault::BadHeader(line) => certificate_fault(alloc, name, line, "BadHeader"),
+        CertFault::BadStep(line) => certificate_fault(alloc, name, line, "BadStep"),
+        CertFault::Truncated(line) => certificate_fault(alloc, name, line, "Truncated"),
+        CertFault::TwiceCond(line) => certificate_fault(alloc, name, line, "TwiceCond"),
+        CertFault::NoSuchCond(line) => certificate_fault(alloc, name, line, "NoSuchCond"),
         CertFault::NoMemory => Ok(String::new(alloc)),
     }
 }
