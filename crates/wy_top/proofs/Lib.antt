@@ -2,3 +2,4 @@ pub mod TextLemmas
 pub mod LaunchLemmas
 pub mod RunLemmas
 pub mod LargeLemmas
+pub mod ExactLemmas

@@ -7,3 +7,5 @@ pub mod Runs
 pub mod Saves
 -- the statement
 pub mod Statement
+-- a law
+pub mod Exact

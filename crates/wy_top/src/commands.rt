@@ -131,7 +131,7 @@ fn perform<F: Files, O: Sink, E: Sink>(
             budget,
             steps,
         } => {
-            let answer = large(alloc, functions as u32, seed as u32, budget, steps, files);
+            let answer = large(alloc, functions, seed, budget, steps, files);
             show(&answer, out, err)
         }
     }

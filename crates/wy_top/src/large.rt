@@ -1,5 +1,5 @@
 //! The command `big`: a large program is made, accepted without certificates and run, and one line is written.
-ghost use Rattle.std.specs.Prelude.{◌≡◌, ◌≤◌, ◌<◌, ◌^◌, ℕ, List, length, IfOk};
+ghost use Rattle.std.specs.Prelude.{◌≡◌, ◌≤◌, ◌<◌, ◌^◌, ℕ, List, length, IfOk, IfSome};
 ghost use Rattle.std.specs.String.{string_bytes};
 ghost use Rattle.wy_acceptance.specs.Kept.{IsWhole, acceptance_in};
 ghost use Rattle.wy_answers.specs.Steps.{Answers, During, Gives, Setting};
@@ -117,9 +117,8 @@ fn accept_large<F: Files>(
     }
 }
 
-/// The answer of `big`: a line with the number of functions, that of conditions, and what the last function gives; or why
-/// there is none.
-pub fn large<F: Files>(
+// The answer with these numbers.
+fn large_of<F: Files>(
     alloc: Global,
     functions: u32,
     seed: u32,
@@ -145,4 +144,41 @@ pub fn large<F: Files>(
         ),
         Err(answer) => answer,
     }
+}
+
+// The number, where it has 32 bits. The words of a command allow no others.
+fn narrowed(number: u64) -> Option<u32>
+    ensures value { IfSome result (λ n. n ≡ number) }
+{
+    match u32::try_from(number) {
+        Ok(number) => Some(number),
+        Err(_) => None,
+    }
+}
+
+/// The answer of `big`: a line with the number of functions, that of conditions, and what the last function gives; or why
+/// there is none.
+pub fn large<F: Files>(
+    alloc: Global,
+    functions: u64,
+    seed: u64,
+    budget: u64,
+    steps: u64,
+    files: &mut F,
+) -> Answer
+    ensures answers { During (F.told files.old) (F.load_faults files.old) (F.load_faults files.new) (F.misses files.old) (F.misses files.new) (λ s. Answers s (spec.big_steps s functions seed budget steps) result) }
+    ensures kept { (other : List ℕ) → F.told files.new other ≡ F.told files.old other }
+    ensures load_count { F.load_faults files.old ≤ F.load_faults files.new }
+    ensures miss_count { F.misses files.old ≤ F.misses files.new }
+    ensures save_count { F.save_faults files.new ≡ F.save_faults files.old }
+{
+    let functions = match narrowed(functions) {
+        Some(functions) => functions,
+        None => return no_memory(alloc),
+    };
+    let seed = match narrowed(seed) {
+        Some(seed) => seed,
+        None => return no_memory(alloc),
+    };
+    large_of(alloc, functions, seed, budget, steps, files)
 }
