@@ -12,8 +12,8 @@ ghost use Rattle.wy_refusals.specs.Refusals as refusals;
 ghost use Rattle.wy_sorted_certificates.specs.ReadSorted.{AreSortedCertificates};
 ghost use Rattle.wy_verdicts.specs.Seen.{known};
 
-use crate::judging::{Judged, judged};
-use crate::owing::{Owed, owed};
+use crate::judging::{Judged, judge_all};
+use crate::owing::{Owed, owed_by};
 use std::alloc::Global;
 use wy_answers::{Answer, SOURCE_LIMIT, load, no_memory, refusal};
 use wy_cert::Certs;
@@ -112,7 +112,7 @@ fn accept(
 }
 
 // The program with these certificates.
-fn accepted_on(
+fn accept_on(
     alloc: Global,
     name: &str,
     cert: &str,
@@ -127,14 +127,14 @@ fn accepted_on(
     ensures gives { (s : Setting) → Gives s (spec.accepts name.now cert.now bytes.now (program_in owed) (certificates_of certs.now) budget) (came acceptance_in result) }
     ensures whole { IfOk result IsWhole }
 {
-    match judged(alloc, owed, certs, budget) {
+    match judge_all(alloc, owed, certs, budget) {
         Ok(judged) => accept(alloc, name, cert, bytes, budget, judged),
         Err(answer) => Err(answer),
     }
 }
 
 // The program with the certificates that are named.
-fn accepted_with<F: Files>(
+fn accept_with<F: Files>(
     alloc: Global,
     name: &str,
     cert: &str,
@@ -153,14 +153,14 @@ fn accepted_with<F: Files>(
 {
     let count = owed.conds.list.len() as u32;
     match certificates(alloc, cert, count, files) {
-        Ok(certs) => accepted_on(alloc, name, cert, bytes, budget, owed, &certs),
+        Ok(certs) => accept_on(alloc, name, cert, bytes, budget, owed, &certs),
         Err(answer) => Err(answer),
     }
 }
 
 /// The program of the source with these bytes, where each of its conditions has a valid certificate: one of the file `cert`,
 /// or else one that is found with `budget` leaves. Or the answer of why it isn't accepted.
-pub fn accepted_source<F: Files>(
+pub fn accept_source<F: Files>(
     alloc: Global,
     name: &str,
     cert: &str,
@@ -176,14 +176,14 @@ pub fn accepted_source<F: Files>(
     ensures miss_count { F.misses files.old ≤ F.misses files.new }
     ensures save_count { F.save_faults files.new ≡ F.save_faults files.old }
 {
-    match owed(alloc, name, bytes) {
-        Ok(owed) => accepted_with(alloc, name, cert, bytes, budget, owed, files),
+    match owed_by(alloc, name, bytes) {
+        Ok(owed) => accept_with(alloc, name, cert, bytes, budget, owed, files),
         Err(answer) => Err(answer),
     }
 }
 
 /// Likewise for the source in a file.
-pub fn accepted<F: Files>(
+pub fn accept_file<F: Files>(
     alloc: Global,
     name: &str,
     cert: &str,
@@ -198,7 +198,7 @@ pub fn accepted<F: Files>(
     ensures save_count { F.save_faults files.new ≡ F.save_faults files.old }
 {
     match load(alloc, name, SOURCE_LIMIT, files) {
-        Ok(bytes) => accepted_source(alloc, name, cert, bytes.as_slice(), budget, files),
+        Ok(bytes) => accept_source(alloc, name, cert, bytes.as_slice(), budget, files),
         Err(answer) => Err(answer),
     }
 }

@@ -5,7 +5,7 @@ ghost use Rattle.wy_acceptance.specs.Kept.{IsWhole, acceptance_in};
 ghost use Rattle.wy_answers.specs.Answers as answers;
 ghost use Rattle.wy_answers.specs.Steps.{Answers, During};
 
-use crate::accepting::{Accepted, accepted};
+use crate::accepting::{Accepted, accept_file};
 use std::alloc::Global;
 use wy_answers::{Answer, no_memory};
 use wy_data::Bytes;
@@ -36,7 +36,7 @@ pub fn check<F: Files>(alloc: Global, name: &str, cert: &str, budget: u64, files
     ensures miss_count { F.misses files.old ≤ F.misses files.new }
     ensures save_count { F.save_faults files.new ≡ F.save_faults files.old }
 {
-    match accepted(alloc, name, cert, budget, files) {
+    match accept_file(alloc, name, cert, budget, files) {
         Ok(accepted) => answer_of(alloc, accepted),
         Err(answer) => answer,
     }

@@ -22,7 +22,7 @@ pub struct Judged {
 
 /// The verdicts on what the program owes, where these certificates are supplied, with searches of so many leaves; or want of
 /// memory. It takes what checking the certificates and searching the other conditions take.
-pub fn judged(alloc: Global, owed: Owed, certs: &Certs, budget: u64) -> Result<Judged, Answer>
+pub fn judge_all(alloc: Global, owed: Owed, certs: &Certs, budget: u64) -> Result<Judged, Answer>
     requires kept { IsKept owed }
     requires names { NameTheirTerms certs.now }
     ensures verdicts { IfOk result (HasVerdicts (program_in owed) (certificates_of certs.now) budget) }

@@ -12,8 +12,8 @@ mod judging;
 mod owing;
 mod proving;
 
-pub use accepting::{Accepted, accepted, accepted_source};
+pub use accepting::{Accepted, accept_file, accept_source};
 pub use checking::check;
 pub use judging::Judged;
-pub use owing::{Owed, listed, owed};
-pub use proving::{Proof, proof};
+pub use owing::{Owed, listed, owed_by};
+pub use proving::{Proof, prove_file};

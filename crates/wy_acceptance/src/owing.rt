@@ -49,7 +49,7 @@ fn fault_answer(alloc: Global, name: &str, bytes: &[u8], fault: OwedFault) -> An
 }
 
 /// The program of the source with these bytes and what it owes, or the answer with the line of the first fault.
-pub fn owed(alloc: Global, name: &str, bytes: &[u8]) -> Result<Owed, Answer>
+pub fn owed_by(alloc: Global, name: &str, bytes: &[u8]) -> Result<Owed, Answer>
     requires { length bytes.now < 2 ^ 32 }
     ensures gives { (s : Setting) → Gives s (spec.owes name.now bytes.now) (came program_in result) }
     ensures owes { IfOk result (λ o. Owes bytes.now (core_of o.typed) (flow_of o.typed)) }

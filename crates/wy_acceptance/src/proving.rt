@@ -9,8 +9,8 @@ ghost use Rattle.wy_refusals.specs.Proofs.{found_from};
 ghost use Rattle.wy_verdicts.specs.Seen.{NameTerms, are_certified as are_certified_in, known};
 
 use crate::accepting::uncertified;
-use crate::judging::{Judged, judged};
-use crate::owing::{Owed, owed};
+use crate::judging::{Judged, judge_all};
+use crate::owing::{Owed, owed_by};
 use std::alloc::Global;
 use wy_answers::{Answer, SOURCE_LIMIT, load, no_memory};
 use wy_cert::Certs;
@@ -101,7 +101,7 @@ fn made(
 }
 
 // The verdicts on the conditions that are owed, without certificates, and what is made of them.
-fn proof_on(
+fn prove_on(
     alloc: Global,
     name: &str,
     bytes: &[u8],
@@ -115,27 +115,27 @@ fn proof_on(
     let certs = Certs {
         list: Vec::new(alloc),
     };
-    match judged(alloc, owed, &certs, budget) {
+    match judge_all(alloc, owed, &certs, budget) {
         Ok(judged) => made(alloc, name, bytes, budget, judged),
         Err(answer) => Err(answer),
     }
 }
 
 // The same of the source with these bytes.
-fn proof_source(alloc: Global, name: &str, bytes: &[u8], budget: u64) -> Result<Proof, Answer>
+fn prove_source(alloc: Global, name: &str, bytes: &[u8], budget: u64) -> Result<Proof, Answer>
     requires { length bytes.now < 2 ^ 32 }
     ensures gives { (s : Setting) → Gives s (spec.proves_source name.now budget bytes.now) (came answer_in result) }
     ensures file { IfOk result (λ f. spec.ProvesBytes bytes.now budget f.saved) }
 {
-    match owed(alloc, name, bytes) {
-        Ok(owed) => proof_on(alloc, name, bytes, budget, owed),
+    match owed_by(alloc, name, bytes) {
+        Ok(owed) => prove_on(alloc, name, bytes, budget, owed),
         Err(answer) => Err(answer),
     }
 }
 
 /// The certificates that searches of so many leaves find for the program of the source in this file, as a file, and what is
 /// answered behind the save; or the answer with which the command ends before it.
-pub fn proof<F: Files>(
+pub fn prove_file<F: Files>(
     alloc: Global,
     name: &str,
     budget: u64,
@@ -149,7 +149,7 @@ pub fn proof<F: Files>(
     ensures save_count { F.save_faults files.new ≡ F.save_faults files.old }
 {
     match load(alloc, name, SOURCE_LIMIT, files) {
-        Ok(bytes) => proof_source(alloc, name, bytes.as_slice(), budget),
+        Ok(bytes) => prove_source(alloc, name, bytes.as_slice(), budget),
         Err(answer) => Err(answer),
     }
 }

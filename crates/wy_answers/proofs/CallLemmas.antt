@@ -7,8 +7,8 @@ use Rattle.wy_answers.specs.declared.answer.Answer.{Answer}
 use Rattle.wy_answers.proofs.StepLemmas.{value_gives, memory_gives, refusal_gives}
 
 never_both : (b : Bool) → IsTrue b → b ≡ false → ⊥
-never_both true is un_so = absurd (cc)
-never_both false is un_so = is
+never_both true is un_so = cc
+never_both false is un_so = cc
 
 -- ---- a value
 

@@ -79,10 +79,10 @@ Says told f g m n name limit NoMemory = Unit {0}
 
 pub says : (told : List ℕ → Told) (f g m n : ℕ) (name : List ℕ) (limit : ℕ) (fault : LoadFault) → (fault ≡ Absent → IsMissing (told name) m n) → (fault ≡ TooLong → IsTooLong (told name) limit m n) → (fault ≡ Failed → Rose f g)
     → Says told f g m n name limit fault
-says told f g m n name limit Absent absent long failed = absent refl
-says told f g m n name limit TooLong absent long failed = long refl
-says told f g m n name limit Failed absent long failed = failed refl
-says told f g m n name limit NoMemory absent long failed = tt
+says told f g m n name limit Absent absent long lost = absent refl
+says told f g m n name limit TooLong absent long lost = long refl
+says told f g m n name limit Failed absent long lost = lost refl
+says told f g m n name limit NoMemory absent long lost = tt
 
 only_absent : (s : Setting) (name : List ℕ) (limit : ℕ) → s.told name ≢ Unknown → LoadFails s name limit Absent → (other : Came (List ℕ)) → loaded s name limit other → other ≡ Err (refused (load_status Absent) (load_text name Absent))
 only_absent s name limit known fails (Ok bytes) h = absurd (fails_not s name limit bytes known h Absent fails)

@@ -31,7 +31,7 @@ is_known : (f : StartFault) → lacks_memory f ≡ false → f ≢ NoMemory
 is_known f known e = let lacks : lacks_memory f ≡ true = ap lacks_memory e in cc
 
 is_memory : (f : StartFault) → f ≡ NoMemory → IsTrue (lacks_memory f)
-is_memory f e = subst (λ (g : StartFault). IsTrue (lacks_memory g)) (sym e) tt
+is_memory f e = subst (λ (g : StartFault). IsTrue (lacks_memory g)) (sym e) refl
 
 pub starts_fault : (s : Setting) (name arguments : List ℕ) (a : Acceptance) (f : StartFault) (answer : Answer) → IsRefused a.program.core name arguments f
     → ((t : Start) → Starts a.program.core name arguments t → f ≡ NoMemory) → ((g : StartFault) → g ≢ NoMemory → IsRefused a.program.core name arguments g → f ≢ NoMemory → f ≡ g)

@@ -7,13 +7,13 @@ ghost use Rattle.wy_top.specs.Statement.{Comes, Does, IsKeptBy, saved_name};
 ghost use Rattle.wy_words.specs.CommandLine.{command_of};
 ghost use Rattle.wy_words.specs.Plain.{asked_in, words_in};
 
-use crate::large::large;
-use crate::launching::launch;
+use crate::launching::launch_file;
+use crate::making::large;
 use crate::proving::save;
 use crate::running::run;
 use crate::texts::{Text, text_answer};
 use std::alloc::Global;
-use wy_acceptance::{check, proof};
+use wy_acceptance::{check, prove_file};
 use wy_answers::{no_memory, refusal, show};
 use wy_port::{Files, Sink};
 use wy_report::words_refused;
@@ -101,7 +101,7 @@ fn perform<F: Files, O: Sink, E: Sink>(
             budget,
             steps,
             stats,
-        } => match launch(alloc, source, certificates, name, arguments, budget, files) {
+        } => match launch_file(alloc, source, certificates, name, arguments, budget, files) {
             Ok(launch) => run(alloc, &launch, steps, stats, out, err),
             Err(answer) => show(&answer, out, err),
         },
@@ -109,7 +109,7 @@ fn perform<F: Files, O: Sink, E: Sink>(
             source,
             output,
             budget,
-        } => match proof(alloc, source, budget, files) {
+        } => match prove_file(alloc, source, budget, files) {
             Ok(proof) => save(alloc, output, &proof, files, out, err),
             Err(answer) => show(&answer, out, err),
         },

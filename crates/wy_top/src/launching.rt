@@ -8,7 +8,7 @@ ghost use Rattle.wy_running.specs.Running.{CanRun};
 ghost use Rattle.wy_top.specs.Launching as spec;
 
 use std::alloc::{AllocError, Global};
-use wy_acceptance::{Accepted, accepted};
+use wy_acceptance::{Accepted, accept_file};
 use wy_answers::{Answer, no_memory, refusal_behind};
 use wy_data::Bytes;
 use wy_port::Files;
@@ -105,7 +105,7 @@ pub fn launched(
 }
 
 /// What the run of the source in a file starts with, or the answer of why it doesn't start.
-pub fn launch<F: Files>(
+pub fn launch_file<F: Files>(
     alloc: Global,
     source: &str,
     cert: &str,
@@ -121,7 +121,7 @@ pub fn launch<F: Files>(
     ensures miss_count { F.misses files.old ≤ F.misses files.new }
     ensures save_count { F.save_faults files.new ≡ F.save_faults files.old }
 {
-    match accepted(alloc, source, cert, budget, files) {
+    match accept_file(alloc, source, cert, budget, files) {
         Ok(accepted) => launched(alloc, accepted, name, arguments),
         Err(answer) => Err(answer),
     }

@@ -57,7 +57,7 @@ fn program_text(alloc: Global, kind: Kind, name: &str, bytes: &[u8]) -> Result<B
 }
 
 // The text of this kind, or the answer of why there is none.
-fn text(alloc: Global, kind: Text, name: &str, bytes: &[u8]) -> Result<Bytes, Answer>
+fn read_text(alloc: Global, kind: Text, name: &str, bytes: &[u8]) -> Result<Bytes, Answer>
     requires { length bytes.now < 2 ^ 32 }
     ensures gives { (s : Setting) → Gives s (spec.text kind name.now bytes.now) result }
 {
@@ -77,7 +77,7 @@ fn text_in<F: Files>(alloc: Global, kind: Text, name: &str, files: &mut F) -> Re
     ensures save_count { F.save_faults files.new ≡ F.save_faults files.old }
 {
     match load(alloc, name, SOURCE_LIMIT, files) {
-        Ok(bytes) => text(alloc, kind, name, bytes.as_slice()),
+        Ok(bytes) => read_text(alloc, kind, name, bytes.as_slice()),
         Err(answer) => Err(answer),
     }
 }

@@ -10,12 +10,12 @@ returns-in-Check-clause-does g c =
 
 pub returns-in-Ok-clause-does : goal.returns-in-Ok-clause-does
 returns-in-Ok-clause-does g c =
-    let s = setting (g.F.Files.told c.args.files.now) (g.F.Files.load_faults c.args.files.now) (g.F.Files.load_faults c.launch.new.files) (g.F.Files.misses c.args.files.now) (g.F.Files.misses c.launch.new.files) in
+    let s = setting (g.F.Files.told c.args.files.now) (g.F.Files.load_faults c.args.files.now) (g.F.Files.load_faults c.launch_file.new.files) (g.F.Files.misses c.args.files.now) (g.F.Files.misses c.launch_file.new.files) in
     record { launch = Ok c.in-Ok.launch; gives = c.in-Ok.ensures.gives s (during_itself _ _ _ _ _ c.in-Ok.ensures.load_count c.in-Ok.ensures.miss_count); shown = c.run.ensures.ran }
 
 pub returns-in-Err-clause-does : goal.returns-in-Err-clause-does
 returns-in-Err-clause-does g c =
-    let s = setting (g.F.Files.told c.args.files.now) (g.F.Files.load_faults c.args.files.now) (g.F.Files.load_faults c.launch.new.files) (g.F.Files.misses c.args.files.now) (g.F.Files.misses c.launch.new.files) in
+    let s = setting (g.F.Files.told c.args.files.now) (g.F.Files.load_faults c.args.files.now) (g.F.Files.load_faults c.launch_file.new.files) (g.F.Files.misses c.args.files.now) (g.F.Files.misses c.launch_file.new.files) in
     record { launch = Err c.in-Err.answer; gives = c.in-Err.ensures.gives s (during_itself _ _ _ _ _ c.in-Err.ensures.load_count c.in-Err.ensures.miss_count); shown = c.show.ensures.shown }
 
 pub returns-in-Conds-clause-does : goal.returns-in-Conds-clause-does
