@@ -1,14 +1,14 @@
 -- What reading the certificates of a file comes to, and why it comes to nothing else.
-use Rattle.std.proofs.Common.{◌≡◌, ◌≢◌, ◌⊎◌, ◌∙◌, ℕ, List, [], Result, Ok, Err, inl, inr, refl, sym, ap, subst}
+use Rattle.std.proofs.Common.{◌≡◌, ◌≢◌, ◌⊎◌, ◌∙◌, ℕ, List, [], Result, Ok, Err, inl, inr, refl, sym, ap}
 use Rattle.wy_cert.specs.declared.fault.CertFault.{CertFault}
 use Rattle.wy_cert.specs.declared.fault.CertFault.TheVariants.{BadHeader, BadStep, Truncated, TwiceCond, NoSuchCond, NoMemory}
 use Rattle.wy_cert.specs.Only.{IsTheOne}
 use Rattle.wy_cert.specs.Steps.{Certificates}
 use Rattle.wy_cert.specs.File.{ReadsFile}
 use Rattle.wy_answers.specs.Answers.{refused, IsRefusal}
-use Rattle.wy_supplied.specs.Certificates.{AreNone, IsBadFile, certificates, certificates_read, fault_text, no_file, without, from_file}
+use Rattle.wy_supplied.specs.Certificates.{IsBadFile, certificates, certificates_read, fault_text, no_file, without, from_file}
 use Rattle.wy_answers.specs.Loading.{loaded, certificate_limit}
-use Rattle.wy_answers.specs.Steps.{Setting, IsTold, Came, EndsFree, EndsOutside, Follows, Gives, both, and_then, stated, due}
+use Rattle.wy_answers.specs.Steps.{Setting, IsTold, Came, EndsFree, EndsOutside, Follows, Gives, both, and_then}
 use Rattle.wy_answers.specs.declared.answer.Answer.{Answer}
 use Rattle.wy_answers.proofs.StepLemmas.{value_gives, memory_gives, refusal_gives}
 
@@ -23,15 +23,21 @@ fault_or : CertFault → Result Certificates CertFault → CertFault
 fault_or d (Ok c) = d
 fault_or d (Err f) = f
 
-one_value : (c d : Certificates) → Ok {B = CertFault} d ≡ Ok c → d ≡ c
+abbrev held : Certificates → Reading
+held c = Ok c
+
+abbrev faulted : CertFault → Reading
+faulted f = Err f
+
+one_value : (c d : Certificates) → held d ≡ held c → d ≡ c
 unfolding value_or
 one_value c d e = ap (value_or c) e
 
-one_fault : (c d : CertFault) → Err {A = Certificates} d ≡ Err c → d ≡ c
+one_fault : (c d : CertFault) → faulted d ≡ faulted c → d ≡ c
 unfolding fault_or
 one_fault c d e = ap (fault_or c) e
 
-never_both : (c : Certificates) (f : CertFault) → Ok c ≡ Err f → ⊥
+never_both : (c : Certificates) (f : CertFault) → held c ≡ faulted f → ⊥
 never_both c f e = cc
 
 -- ---- certificates
@@ -81,3 +87,13 @@ file_gives s name count r named g = record { comes = by_step g.comes; only = λ 
     by_other : IsTold s → (other : Came Certificates) → certificates s name count other → (other ≡ r) ⊎ EndsFree s r
     by_other told other (without d h) = absurd (named d)
     by_other told other (from_file d h) = g.only told other h
+
+-- ---- the answer of a fault
+
+pub bad_refusal : (name : List ℕ) (fault : CertFault) (a : Answer) → fault ≢ NoMemory → IsRefusal 6 (fault_text name fault) a → IsBadFile name fault a
+bad_refusal name (BadHeader at_line) a known h = h
+bad_refusal name (BadStep at_line) a known h = h
+bad_refusal name (Truncated at_line) a known h = h
+bad_refusal name (TwiceCond at_line) a known h = h
+bad_refusal name (NoSuchCond at_line) a known h = h
+bad_refusal name NoMemory a known h = absurd (known refl)
