@@ -46,12 +46,12 @@ pub accepted_gives : (s : Setting) (name cert bytes : List ℕ) (p : Program) (c
     → AreSortedCertificates certs → AreFormed (conditions_of p) → AreVerdicts certs budget p (map known vs) → AreShown (conditions_of p) vs → some_lacks vs ≡ false → are_certified vs ≡ true
     → a.program ≡ p → a.lines ≡ invalid_lines cert (map known vs) → Gives s (accepts name cert bytes p certs budget) (Ok a)
 unfolding made
-accepted_gives s name cert bytes p certs budget a vs sorted formed known shown none certified program lines =
+accepted_gives s name cert bytes p certs budget a vs sorted formed so shown none certified program lines =
     let closed : are_closed (map known vs) ≡ true = sym (closed-certified vs none) ∙ certified in
-    let hold : AllHold (conditions_of p) = certified_is_true certs budget 1 (conditions_of p) vs sorted formed known shown certified in
+    let hold : AllHold (conditions_of p) = certified_is_true certs budget 1 (conditions_of p) vs sorted formed so shown certified in
     value_gives s (accepts name cert bytes p certs budget) a
-    (record { program = program; verdicts = map known vs; known = known; closed = closed; lines = lines }, hold)
-    (λ told other h. only_accepted name cert bytes p certs budget a.lines (map known vs) known closed lines other h ∙ ap (λ (q : Program). Ok (made q a.lines)) (sym program))
+    (record { program = program; verdicts = map known vs; known = so; closed = closed; lines = lines }, hold)
+    (λ told other h. only_accepted name cert bytes p certs budget a.lines (map known vs) so closed lines other h ∙ ap (λ (q : Program). Ok (made q a.lines)) (sym program))
 
 -- ---- not accepted
 
@@ -65,14 +65,14 @@ only_unproved name cert bytes p certs budget ks known some (Err a) h =
 pub unproved_gives : (s : Setting) (name cert bytes : List ℕ) (p : Program) (certs : Certificates) (budget : ℕ) (a : Answer) (vs : List Verdict)
     → AreVerdicts certs budget p (map known vs) → some_lacks vs ≡ false → are_certified vs ≡ false → IsRefusal 1 (unproved_lines name cert bytes p budget (map known vs)) a
     → Gives s (accepts name cert bytes p certs budget) (Err a)
-unproved_gives s name cert bytes p certs budget a vs known none not_all refusal =
+unproved_gives s name cert bytes p certs budget a vs so none not_all refusal =
     let some : are_closed (map known vs) ≡ false = sym (closed-certified vs none) ∙ not_all in
     let lines = unproved_lines name cert bytes p budget (map known vs) in
-    refusal_gives s (accepts name cert bytes p certs budget) 1 lines a refusal (inl (record { verdicts = map known vs; known = known; some = some; answer = refl }))
-    (λ told other h. only_unproved name cert bytes p certs budget (map known vs) known some other h)
+    refusal_gives s (accepts name cert bytes p certs budget) 1 lines a refusal (inl (record { verdicts = map known vs; known = so; some = some; answer = refl }))
+    (λ told other h. only_unproved name cert bytes p certs budget (map known vs) so some other h)
 
 pub uncertified_gives : (s : Setting) (name cert bytes : List ℕ) (p : Program) (certs : Certificates) (budget : ℕ) (a : Answer) (vs : List Verdict)
     → AreVerdicts certs budget p (map known vs) → some_lacks vs ≡ true → IsRefusal 13 not_certified a → Gives s (accepts name cert bytes p certs budget) (Err a)
-uncertified_gives s name cert bytes p certs budget a vs known some (inl e) =
-    free_gives s (accepts name cert bytes p certs budget) a (inr (record { verdicts = map known vs; known = known; finds = lacking_finds vs some; answer = e })) (uncertified e)
-uncertified_gives s name cert bytes p certs budget a vs known some (inr e) = memory_gives s (accepts name cert bytes p certs budget) a e
+uncertified_gives s name cert bytes p certs budget a vs so some (inl e) =
+    free_gives s (accepts name cert bytes p certs budget) a (inr (record { verdicts = map known vs; known = so; finds = lacking_finds vs some; answer = e })) (uncertified e)
+uncertified_gives s name cert bytes p certs budget a vs so some (inr e) = memory_gives s (accepts name cert bytes p certs budget) a e

@@ -3,3 +3,4 @@ pub mod OwingLemmas
 pub mod ClosedLemmas
 pub mod AcceptLemmas
 pub mod ProofLemmas
+pub mod CountLemmas

@@ -25,12 +25,12 @@ only_judged name bytes p budget ks known (Err a) h = absurd h
 pub judged_gives : (s : Setting) (name bytes : List ℕ) (p : Program) (budget : ℕ) (a : Answer) (vs : List Verdict) → AreVerdicts [] budget p (map known vs) → some_lacks vs ≡ false
     → a ≡ proof_answer name bytes p budget (map known vs) (are_certified vs) → Gives s (judges name bytes p budget) (Ok a)
 unfolding by_verdicts
-judged_gives s name bytes p budget a vs known none is =
+judged_gives s name bytes p budget a vs so none is =
     let answer : a ≡ proof_answer name bytes p budget (map known vs) (are_closed (map known vs)) = is ∙ ap (proof_answer name bytes p budget (map known vs)) (closed-certified vs none) in
-    value_gives s (judges name bytes p budget) a (record { verdicts = map known vs; known = known; answer = answer })
-    (λ told other h. only_judged name bytes p budget (map known vs) known other h ∙ ap (λ (b : Answer). Ok b) (sym answer))
+    value_gives s (judges name bytes p budget) a (record { verdicts = map known vs; known = so; answer = answer })
+    (λ told other h. only_judged name bytes p budget (map known vs) so other h ∙ ap (λ (b : Answer). Ok b) (sym answer))
 
 pub unmade_gives : (s : Setting) (name bytes : List ℕ) (p : Program) (budget : ℕ) (a : Answer) (vs : List Verdict) → AreVerdicts [] budget p (map known vs) → some_lacks vs ≡ true → IsRefusal 13 not_certified a
     → Gives s (judges name bytes p budget) (Err a)
-unmade_gives s name bytes p budget a vs known some (inl e) = free_gives s (judges name bytes p budget) a (record { verdicts = map known vs; known = known; finds = lacking_finds vs some; answer = e }) (uncertified e)
-unmade_gives s name bytes p budget a vs known some (inr e) = memory_gives s (judges name bytes p budget) a e
+unmade_gives s name bytes p budget a vs so some (inl e) = free_gives s (judges name bytes p budget) a (record { verdicts = map known vs; known = so; finds = lacking_finds vs some; answer = e }) (uncertified e)
+unmade_gives s name bytes p budget a vs so some (inr e) = memory_gives s (judges name bytes p budget) a e

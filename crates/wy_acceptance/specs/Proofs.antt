@@ -46,7 +46,7 @@ pub record IsProofFile (p : Program) (budget : ℕ) (text : List ℕ) : Type 0 w
   pub known : AreVerdicts [] budget p (map known verdicts)
   pub shown : AreShown (conditions_of p) verdicts
   pub each : some_lacks verdicts ≡ false
-  pub text : text ≡ file_text (found_from 1 verdicts)
+  pub is : text ≡ file_text (found_from 1 verdicts)
 
 -- it is one of the program of the source with these bytes
 pub record ProvesBytes (bytes : List ℕ) (budget : ℕ) (text : List ℕ) : Type 0 where

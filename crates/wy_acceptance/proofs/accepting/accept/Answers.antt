@@ -1,4 +1,4 @@
-use Rattle.std.proofs.Common.{◌≡◌, ◌++◌, ℕ, List, map, true, false, refl, rules, subst}
+use Rattle.std.proofs.Common.{◌≡◌, ◌∙◌, ◌++◌, ℕ, List, length, map, true, false, rules, subst}
 use Rattle.wy_answers.specs.Answers.{IsRefusal}
 use Rattle.wy_answers.proofs.StepLemmas.{memory_gives}
 use Rattle.wy_owed.specs.Owed.{told_by}
@@ -38,4 +38,6 @@ returns-clause-gives c = λ s p certs sorted h.
     (accepted_gives s c.args.name.now c.args.cert.now c.args.bytes.now p certs c.args.budget (record { program = judged_program c.args.judged; lines = c.in-Ok.lines.items }) vs sorted h.formed h.known h.shown none all h.program lines)
 
 pub returns-clause-whole : goal.returns-clause-whole
-returns-clause-whole c = λ certs h source. record { count = h.count; source = source }
+returns-clause-whole c = λ certs h source.
+    let count : c.len-count.result ≡ length c.args.judged.conds.list.items = search rules in
+    record { count = count ∙ h.count; source = source }

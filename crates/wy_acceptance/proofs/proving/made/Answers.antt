@@ -24,7 +24,7 @@ pub returns-in-Ok-file_of-clause-file : goal.returns-in-Ok-file_of-clause-file
 returns-in-Ok-file_of-clause-file c = λ p h.
     let vs = c.args.judged.verdicts.items in
     let none : some_lacks vs ≡ false = search rules in
-    record { verdicts = vs; known = h.known; shown = h.shown; each = none; text = c.in-Ok-file_of.ensures.value }
+    record { verdicts = vs; known = h.known; shown = h.shown; each = none; is = c.in-Ok-file_of.ensures.value }
 
-pub returns-in-Err-file_of-clause-gives : goal.returns-in-Err-file_of-clause-gives
-returns-in-Err-file_of-clause-gives c = λ s p h. memory_gives s (judges c.args.name.now c.args.bytes.now p c.args.budget) c.no_memory.result c.no_memory.ensures.value
+pub returns-clause-gives : goal.returns-clause-gives
+returns-clause-gives c = λ s p h. memory_gives s (judges c.args.name.now c.args.bytes.now p c.args.budget) c.no_memory.result c.no_memory.ensures.value

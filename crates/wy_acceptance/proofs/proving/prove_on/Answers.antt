@@ -10,5 +10,5 @@ returns-in-Ok-clause-gives c = λ s. c.made.ensures.gives s (program_in c.args.o
 pub returns-in-Ok-clause-file : goal.returns-in-Ok-clause-file
 returns-in-Ok-clause-file c = c.made.ensures.file (program_in c.args.owed) c.in-Ok.ensures.verdicts
 
-pub returns-in-Err-clause-gives : goal.returns-in-Err-clause-gives
-returns-in-Err-clause-gives c = λ s. memory_gives s (judges c.args.name.now c.args.bytes.now (program_in c.args.owed) c.args.budget) c.in-Err.answer c.in-Err.ensures.memory
+pub returns-clause-gives : goal.returns-clause-gives
+returns-clause-gives c = λ s. memory_gives s (judges c.args.name.now c.args.bytes.now (program_in c.args.owed) c.args.budget) c.in-Err.answer c.in-Err.ensures.memory
