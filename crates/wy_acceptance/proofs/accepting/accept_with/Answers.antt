@@ -13,7 +13,7 @@ pub returns-in-Ok-clause-gives : goal.returns-in-Ok-clause-gives
 returns-in-Ok-clause-gives g c = λ s during.
     let p = program_in c.args.owed in
     let long : c.len-count.result ≡ length c.args.owed.conds.list.items = search rules in
-    let count : c.len-count.result ≡ count_of p = long ∙ same_count c.args.owed.conds.terms c.args.owed.conds.list.items _ c.requires.conditions in
+    let count : c.len-count.result ≡ count_of p = long ∙ same_count c.args.owed.conds.terms c.args.owed.conds.list.items _ c.requires.kept.conditions in
     goes s (both (certificates s c.args.cert.now (count_of p))) (λ certs. accepts c.args.name.now c.args.cert.now c.args.bytes.now p certs c.args.budget)
     (certificates_of c.in-Ok.certs) (came acceptance_in c.accept_on.result)
     (subst (λ (n : ℕ). Gives s (both (certificates s c.args.cert.now n)) (Ok (certificates_of c.in-Ok.certs))) count (c.in-Ok.ensures.gives s during)) (c.accept_on.ensures.gives s)
@@ -22,6 +22,6 @@ pub returns-in-Err-clause-gives : goal.returns-in-Err-clause-gives
 returns-in-Err-clause-gives g c = λ s during.
     let p = program_in c.args.owed in
     let long : c.len-count.result ≡ length c.args.owed.conds.list.items = search rules in
-    let count : c.len-count.result ≡ count_of p = long ∙ same_count c.args.owed.conds.terms c.args.owed.conds.list.items _ c.requires.conditions in
+    let count : c.len-count.result ≡ count_of p = long ∙ same_count c.args.owed.conds.terms c.args.owed.conds.list.items _ c.requires.kept.conditions in
     ends_there s (both (certificates s c.args.cert.now (count_of p))) (λ certs. accepts c.args.name.now c.args.cert.now c.args.bytes.now p certs c.args.budget) c.in-Err.answer
     (subst (λ (n : ℕ). Gives s (both (certificates s c.args.cert.now n)) (Err c.in-Err.answer)) count (c.in-Err.ensures.gives s during))

@@ -27,4 +27,4 @@ returns-in-Ok-file_of-clause-file c = λ p h.
     record { verdicts = vs; known = h.known; shown = h.shown; each = none; is = c.in-Ok-file_of.ensures.value }
 
 pub returns-clause-gives : goal.returns-clause-gives
-returns-clause-gives c = λ s p h. memory_gives s (judges c.args.name.now c.args.bytes.now p c.args.budget) c.no_memory.result c.no_memory.ensures.value
+returns-clause-gives c = λ s p h. memory_gives s (judges c.args.name.now c.args.bytes.now p c.args.budget) c.no_memory-in-Err-file_of.result c.no_memory-in-Err-file_of.ensures.value
