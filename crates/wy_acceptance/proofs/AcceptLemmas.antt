@@ -1,20 +1,19 @@
 -- Acceptance as a step.
-use Rattle.std.proofs.Common.{◌≡◌, ◌⊎◌, ◌∙◌, ◌++◌, ℕ, List, [], map, Bool, true, false, Ok, Err, inl, inr, refl, sym, ap, subst}
+use Rattle.std.proofs.Common.{◌≡◌, ◌∙◌, ℕ, List, map, Bool, true, false, Ok, Err, inl, inr, refl, sym, ap}
 use Rattle.wy_cert.specs.Steps.{Certificates}
-use Rattle.wy_owed.specs.Owed.{told_by}
-use Rattle.wy_refusals.specs.Refusals.{invalid_lines, refusal_lines}
+use Rattle.wy_refusals.specs.Refusals.{invalid_lines}
 use Rattle.wy_shown_conditions.specs.Certified.{AreFormed, AllHold}
 use Rattle.wy_sorted_certificates.specs.ReadSorted.{AreSortedCertificates}
 use Rattle.wy_verdicts.specs.Known.{Known}
 use Rattle.wy_verdicts.specs.Seen.{AreShown, are_certified, known, some_lacks}
 use Rattle.wy_verdicts.specs.declared.verdict.Verdict.{Verdict}
 use Rattle.wy_verdicts.proofs.ShownLemmas.{certified_is_true, one_list}
-use Rattle.wy_answers.specs.Answers.{refused, no_memory, IsRefusal}
-use Rattle.wy_answers.specs.Steps.{Setting, Came, Gives, due, stated, uncertified}
+use Rattle.wy_answers.specs.Answers.{refused, IsRefusal}
+use Rattle.wy_answers.specs.Steps.{Setting, Came, Gives, due, uncertified}
 use Rattle.wy_answers.specs.Texts.{not_certified}
 use Rattle.wy_answers.specs.declared.answer.Answer.{Answer}
 use Rattle.wy_answers.proofs.StepLemmas.{value_gives, free_gives, memory_gives, refusal_gives}
-use Rattle.wy_acceptance.specs.Acceptance.{Acceptance, AreVerdicts, IsAccepted, IsUncertified, IsUnproved, accepts, are_closed, unproved_lines}
+use Rattle.wy_acceptance.specs.Acceptance.{Acceptance, AreVerdicts, accepts, are_closed, unproved_lines}
 use Rattle.wy_acceptance.specs.Programs.{Program, conditions_of}
 use Rattle.wy_acceptance.proofs.ClosedLemmas.{closed-certified, lacking_finds}
 

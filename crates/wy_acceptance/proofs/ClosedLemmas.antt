@@ -1,7 +1,6 @@
 -- What the tests of the code's verdicts say of what is known.
-use Rattle.std.proofs.Common.{◌≡◌, ◌⊎◌, List, [], ◌∷◌, map, Bool, true, false, inl, inr, refl, sym, ap, subst, ◌∙◌}
+use Rattle.std.proofs.Common.{◌≡◌, List, [], ◌∷◌, map, Bool, true, false, inl, inr, refl, ap, ◌∙◌}
 use Rattle.std.specs.Prelude.{◌&&◌, ◌||◌}
-use Rattle.wy_verdicts.specs.Known as plain
 use Rattle.wy_verdicts.specs.Seen.{are_certified, is_certified, known, lacks_certificate, seen_end, some_lacks}
 use Rattle.wy_verdicts.specs.declared.verdict.End.{End}
 use Rattle.wy_verdicts.specs.declared.verdict.End.TheVariants.{Supplied, Found, Open, Spent, Uncertified}

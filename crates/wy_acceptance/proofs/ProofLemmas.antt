@@ -1,5 +1,5 @@
 -- The verdicts of `prove` as a step.
-use Rattle.std.proofs.Common.{◌≡◌, ◌⊎◌, ◌∙◌, ℕ, List, [], map, Bool, true, false, Ok, Err, inl, inr, refl, sym, ap}
+use Rattle.std.proofs.Common.{◌≡◌, ◌∙◌, ℕ, List, [], map, true, false, Ok, Err, inl, inr, sym, ap}
 use Rattle.wy_verdicts.specs.Known.{Known}
 use Rattle.wy_verdicts.specs.Seen.{are_certified, known, some_lacks}
 use Rattle.wy_verdicts.specs.declared.verdict.Verdict.{Verdict}

@@ -1,5 +1,5 @@
 -- Which typed program a source has and what it owes, as a step of a command.
-use Rattle.std.specs.Prelude.{◌≡◌, ℕ, List, length}
+use Rattle.std.specs.Prelude.{ℕ, List, length}
 use Rattle.wy_answers.specs.Calls.{Faults, called}
 use Rattle.wy_answers.specs.Steps.{Came, Sense, stated, due}
 use Rattle.wy_core.specs.CoreTree.{Core}

@@ -1,5 +1,5 @@
 -- What does the command `prove` make of a source? The verdicts on its conditions, without certificates, and a file of those that it found.
-use Rattle.std.specs.Prelude.{◌≡◌, ◌⊎◌, ℕ, List, [], map, Bool, true, false, if◌then◌else◌, Ok, Err}
+use Rattle.std.specs.Prelude.{◌≡◌, ℕ, List, [], map, Bool, true, false, Ok, Err}
 use Rattle.wy_answers.specs.Answers.{refused, written}
 use Rattle.wy_answers.specs.Loading.{Loads, loaded, source_limit}
 use Rattle.wy_answers.specs.Steps.{Came, Sense, stated, due, Setting, and_then, both}

@@ -1,7 +1,7 @@
 use Rattle.std.proofs.Common.{◌≡◌, ◌∙◌, ℕ, length, Ok, Err, rules, subst}
 use Rattle.wy_acceptance.proofs.CountLemmas.{same_count}
 use Rattle.wy_cert.specs.Steps.{certificates_of}
-use Rattle.wy_answers.specs.Steps.{and_then, both, came, Gives}
+use Rattle.wy_answers.specs.Steps.{both, came, Gives}
 use Rattle.wy_answers.proofs.StepLemmas.{goes, ends_there}
 use Rattle.wy_supplied.specs.Certificates.{certificates}
 use Rattle.wy_acceptance.specs.Acceptance.{accepts}

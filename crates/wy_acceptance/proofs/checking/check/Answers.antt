@@ -1,5 +1,5 @@
 use Rattle.std.proofs.Common.{◌≡◌, ◌⊎◌, inl, inr, sym, subst}
-use Rattle.wy_answers.specs.Steps.{Answers, Setting, done, Gives, stated}
+use Rattle.wy_answers.specs.Steps.{Answers, Setting, done, Gives}
 use Rattle.wy_answers.specs.declared.answer.Answer.{Answer}
 use Rattle.wy_answers.specs.Answers.{no_memory}
 use Rattle.wy_answers.proofs.AnswerLemmas.{ends_answers, value_answers, memory_answers}

@@ -1,5 +1,4 @@
-use Rattle.std.proofs.Common.{◌≡◌, ◌∙◌, List, length, map, refl, sym, ap, subst}
-use Rattle.std.proofs.lemmas.List.{length-map}
+use Rattle.std.proofs.Common.{◌∙◌, List, length, map, refl, ap, subst}
 use Rattle.wy_cert.specs.Steps.{certificates_of}
 use Rattle.wy_shown_conditions.specs.Certified.{AreFormed}
 use Rattle.wy_term.specs.Condition.{Condition, condition_of}

@@ -1,6 +1,6 @@
-use Rattle.std.proofs.Common.{◌≡◌, [], true, false, rules, ℕ, List}
+use Rattle.std.proofs.Common.{◌≡◌, true, false, rules}
 use Rattle.wy_answers.proofs.StepLemmas.{memory_gives}
-use Rattle.wy_verdicts.specs.Seen.{known, some_lacks}
+use Rattle.wy_verdicts.specs.Seen.{some_lacks}
 use Rattle.wy_acceptance.specs.Proofs.{judges}
 use Rattle.wy_acceptance.proofs.ProofLemmas.{judged_gives, unmade_gives}
 use Rattle.wy_acceptance.proofs.proving.made.Goals as goal

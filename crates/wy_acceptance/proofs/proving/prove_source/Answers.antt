@@ -1,6 +1,6 @@
 use Rattle.std.proofs.lemmas.Result.{IfOk-weaker}
 use Rattle.wy_answers.specs.Steps.{came}
-use Rattle.wy_answers.proofs.StepLemmas.{goes, ends_there, stated_value}
+use Rattle.wy_answers.proofs.StepLemmas.{goes, ends_there}
 use Rattle.wy_acceptance.specs.Kept.{answer_in, program_in}
 use Rattle.wy_acceptance.specs.Programs.{owes}
 use Rattle.wy_acceptance.specs.Proofs.{IsProofFile, ProvesBytes, judges}
