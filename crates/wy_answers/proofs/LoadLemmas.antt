@@ -7,15 +7,15 @@ use Rattle.wy_port.specs.declared.files.LoadFault.{LoadFault}
 use Rattle.wy_port.specs.declared.files.LoadFault.TheVariants.{Absent, TooLong, Failed, NoMemory}
 use Rattle.wy_answers.specs.Answers.{refused, IsRefusal}
 use Rattle.wy_answers.specs.Loading.{Loads, LoadFails, loaded}
-use Rattle.wy_answers.specs.Steps.{both, Setting, IsDuring, Came, outside, memory, Gives}
+use Rattle.wy_answers.specs.Steps.{both, Setting, IsDuring, Came, failed, memory, Gives}
 use Rattle.wy_answers.specs.Texts.{load_status, load_text}
 use Rattle.wy_answers.specs.declared.answer.Answer.{Answer}
-use Rattle.wy_answers.proofs.StepLemmas.{value_gives, free_gives, refusal_gives, stopped}
+use Rattle.wy_answers.proofs.StepLemmas.{value_gives, outside_gives, refusal_gives, stopped}
 
 -- ---- counts
 
 -- a count that rose in a part of a call rose in the call
-rose_within : (a b c d : ℕ) → a ≤ b → b ≤ c → c ≤ d → Rose b c → Rose a d
+pub rose_within : (a b c d : ℕ) → a ≤ b → b ≤ c → c ≤ d → Rose b c → Rose a d
 rose_within a b c d ab bc cd (inl rose) = inl (omega arith)
 rose_within a b c d ab bc cd (inr last) = grind arith
 
@@ -79,10 +79,10 @@ Says told f g m n name limit NoMemory = Unit {0}
 
 pub says : (told : List ℕ → Told) (f g m n : ℕ) (name : List ℕ) (limit : ℕ) (fault : LoadFault) → (fault ≡ Absent → IsMissing (told name) m n) → (fault ≡ TooLong → IsTooLong (told name) limit m n) → (fault ≡ Failed → Rose f g)
     → Says told f g m n name limit fault
-says told f g m n name limit Absent absent long failed = absent refl
-says told f g m n name limit TooLong absent long failed = long refl
-says told f g m n name limit Failed absent long failed = failed refl
-says told f g m n name limit NoMemory absent long failed = tt
+says told f g m n name limit Absent absent long lost = absent refl
+says told f g m n name limit TooLong absent long lost = long refl
+says told f g m n name limit Failed absent long lost = lost refl
+says told f g m n name limit NoMemory absent long lost = tt
 
 only_absent : (s : Setting) (name : List ℕ) (limit : ℕ) → s.told name ≢ Unknown → LoadFails s name limit Absent → (other : Came (List ℕ)) → loaded s name limit other → other ≡ Err (refused (load_status Absent) (load_text name Absent))
 only_absent s name limit known fails (Ok bytes) h = absurd (fails_not s name limit bytes known h Absent fails)
@@ -105,12 +105,12 @@ only_long s name limit known fails (Err a) h = by_fault h.fault h.cause h.answer
     by_fault NoMemory cause e = absurd cause
 
 failed_gives : (s : Setting) (name : List ℕ) (limit : ℕ) (a : Answer) → Rose s.faults_before s.faults_after → IsRefusal (load_status Failed) (load_text name Failed) a → Gives s (both (loaded s name limit)) (Err a)
-failed_gives s name limit a rose (inl e) = free_gives s (both (loaded s name limit)) a (outside name e rose)
-failed_gives s name limit a rose (inr e) = free_gives s (both (loaded s name limit)) a (memory e)
+failed_gives s name limit a rose (inl e) = outside_gives s (both (loaded s name limit)) a (failed name e rose)
+failed_gives s name limit a rose (inr e) = outside_gives s (both (loaded s name limit)) a (memory e)
 
 no_memory_gives : (s : Setting) (name : List ℕ) (limit : ℕ) (a : Answer) → IsRefusal (load_status NoMemory) (load_text name NoMemory) a → Gives s (both (loaded s name limit)) (Err a)
-no_memory_gives s name limit a (inl e) = free_gives s (both (loaded s name limit)) a (memory e)
-no_memory_gives s name limit a (inr e) = free_gives s (both (loaded s name limit)) a (memory e)
+no_memory_gives s name limit a (inl e) = outside_gives s (both (loaded s name limit)) a (memory e)
+no_memory_gives s name limit a (inr e) = outside_gives s (both (loaded s name limit)) a (memory e)
 
 pub load_fails : (s : Setting) (told : List ℕ → Told) (f g m n : ℕ) (name : List ℕ) (limit : ℕ) (fault : LoadFault) (a : Answer) → IsDuring s told f g m n → Says told f g m n name limit fault → IsRefusal (load_status fault) (load_text name fault) a
     → Gives s (both (loaded s name limit)) (Err a)

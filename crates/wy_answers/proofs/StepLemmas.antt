@@ -1,7 +1,7 @@
 -- Steps that give what is due and nothing else, alone and one behind the other.
 use Rattle.std.proofs.Common.{◌≡◌, ◌⊎◌, ◌∙◌, ℕ, List, Ok, Err, inl, inr, refl, sym, ap, subst}
 use Rattle.wy_answers.specs.Answers.{refused, no_memory, IsRefusal}
-use Rattle.wy_answers.specs.Steps.{Setting, IsTold, Came, Sense, stated, due, goes_on, ends, and_then, IsFree, memory, EndsFree, Gives}
+use Rattle.wy_answers.specs.Steps.{Setting, IsTold, Came, Sense, stated, due, goes_on, ends, and_then, IsOutside, memory, from_outside, EndsOutside, IsFree, EndsFree, Gives}
 use Rattle.wy_answers.specs.declared.answer.Answer.{Answer}
 
 -- ---- one step
@@ -10,12 +10,16 @@ use Rattle.wy_answers.specs.declared.answer.Answer.{Answer}
 pub value_gives : {X : Type 0} (s : Setting) (step : Sense → Came X → Type 0) (x : X) → step stated (Ok x) → (IsTold s → (other : Came X) → step due other → other ≡ Ok x) → Gives s step (Ok x)
 value_gives s step x is only = record { comes = inl is; only = λ told other h. inl (only told other h) }
 
--- a free answer
-pub free_gives : {X : Type 0} (s : Setting) (step : Sense → Came X → Type 0) (a : Answer) → IsFree s a → Gives s step (Err a)
-free_gives s step a free = record { comes = inr free; only = λ told other h. inr free }
+-- an answer from outside
+pub outside_gives : {X : Type 0} (s : Setting) (step : Sense → Came X → Type 0) (a : Answer) → IsOutside s a → Gives s step (Err a)
+outside_gives s step a free = record { comes = inr free; only = λ told other h. inr (from_outside free) }
+
+-- a free answer that is stated
+pub free_gives : {X : Type 0} (s : Setting) (step : Sense → Came X → Type 0) (a : Answer) → step stated (Err a) → IsFree s a → Gives s step (Err a)
+free_gives s step a is free = record { comes = inl is; only = λ told other h. inr free }
 
 pub memory_gives : {X : Type 0} (s : Setting) (step : Sense → Came X → Type 0) (a : Answer) → a ≡ no_memory → Gives s step (Err a)
-memory_gives s step a e = free_gives s step a (memory e)
+memory_gives s step a e = outside_gives s step a (memory e)
 
 -- a refusal that is due, where nothing else is
 pub refusal_gives : {X : Type 0} (s : Setting) (step : Sense → Came X → Type 0) (status : ℕ) (text : List ℕ) (a : Answer) → IsRefusal status text a → step stated (Err (refused status text))
@@ -57,7 +61,7 @@ never_both x a e = cc
 pub goes : {X Y : Type 0} (s : Setting) (first : Sense → Came X → Type 0) (next : X → Sense → Came Y → Type 0) (x : X) (r : Came Y) → Gives s first (Ok x) → Gives s (next x) r → Gives s (and_then first next) r
 goes {X = X} {Y = Y} s first next x r f n = record { comes = by_steps f.comes n.comes; only = by_other }
   where
-    by_steps : first stated (Ok x) ⊎ EndsFree s (went x) → next x stated r ⊎ EndsFree s r → and_then first next stated r ⊎ EndsFree s r
+    by_steps : first stated (Ok x) ⊎ EndsOutside s (went x) → next x stated r ⊎ EndsOutside s r → and_then first next stated r ⊎ EndsOutside s r
     by_steps (inl p) (inl q) = inl (goes_on x p q)
     by_steps (inl p) (inr free) = inr free
     by_steps (inr never) q = absurd never
@@ -78,7 +82,7 @@ goes {X = X} {Y = Y} s first next x r f n = record { comes = by_steps f.comes n.
 pub ends_there : {X Y : Type 0} (s : Setting) (first : Sense → Came X → Type 0) (next : X → Sense → Came Y → Type 0) (a : Answer) → Gives s first (Err a) → Gives s (and_then first next) (Err a)
 ends_there {X = X} {Y = Y} s first next a f = record { comes = by_step f.comes; only = by_other }
   where
-    by_step : first stated (Err a) ⊎ EndsFree s (stopped X a) → and_then first next stated (Err a) ⊎ IsFree s a
+    by_step : first stated (Err a) ⊎ EndsOutside s (stopped X a) → and_then first next stated (Err a) ⊎ IsOutside s a
     by_step (inl p) = inl (ends a p refl)
     by_step (inr free) = inr free
 
@@ -98,6 +102,14 @@ ends_there {X = X} {Y = Y} s first next a f = record { comes = by_step f.comes; 
 pub same_step : {X : Type 0} (s : Setting) (step other : Sense → Came X → Type 0) (r : Came X) → (step stated r → other stated r) → ((q : Came X) → other due q → step due q) → Gives s step r → Gives s other r
 same_step {X = X} s step other r to back g = record { comes = by_step g.comes; only = λ told q h. g.only told q (back q h) }
   where
-    by_step : step stated r ⊎ EndsFree s r → other stated r ⊎ EndsFree s r
+    by_step : step stated r ⊎ EndsOutside s r → other stated r ⊎ EndsOutside s r
     by_step (inl h) = inl (to h)
     by_step (inr free) = inr free
+
+-- what is stated of a value that a step came to
+pub stated_value : {X : Type 0} (s : Setting) (step : Sense → Came X → Type 0) (x : X) → Gives s step (Ok x) → step stated (Ok x)
+stated_value {X = X} s step x g = by_step g.comes
+  where
+    by_step : step stated (went x) ⊎ EndsOutside s (went x) → step stated (went x)
+    by_step (inl h) = h
+    by_step (inr never) = absurd never

@@ -1,5 +1,5 @@
 -- What does a step of a command come to, and when is that the only thing that it can come to?
-use Rattle.std.specs.Prelude.{◌≡◌, ◌≢◌, ◌⊎◌, ◌≤◌, ◌++◌, ℕ, List, Result, Ok, Err}
+use Rattle.std.specs.Prelude.{◌≡◌, ◌≢◌, ◌⊎◌, ◌≤◌, ℕ, List, Result, Ok, Err}
 use Rattle.wy_port.specs.Count.{Rose}
 use Rattle.wy_port.specs.Told.{Told}
 use Rattle.wy_port.specs.Told.Told.{Unknown}
@@ -70,20 +70,28 @@ pub data Follows {X Y : Type 0} (first : Came X → Type 0) (next : X → Came Y
 abbrev pub and_then : {X Y : Type 0} → (Sense → Came X → Type 0) → (X → Sense → Came Y → Type 0) → Sense → Came Y → Type 0
 and_then first next m = Follows (first m) (λ x. next x m)
 
--- an answer that doesn't follow from words and files: memory ran out; a load failed, and was counted; or, as was never seen, a condition that the search closed got no certificate, or the machine found no step
+-- an answer that comes from outside: memory ran out; or a load failed, and was counted
+pub data IsOutside (s : Setting) (a : Answer) : Type 0 where
+  memory : a ≡ no_memory → IsOutside s a
+  failed : (name : List ℕ) → a ≡ refused 4 (load_failed name) → Rose s.faults_before s.faults_after → IsOutside s a
+
+abbrev pub EndsOutside : {X : Type 0} → Setting → Came X → Type 0
+EndsOutside s (Ok x) = ⊥
+EndsOutside s (Err a) = IsOutside s a
+
+-- an answer in place of which another one may be due: one from outside; or, as was never seen, that a condition whose search closed got no certificate, or that the machine found no step
 pub data IsFree (s : Setting) (a : Answer) : Type 0 where
-  memory : a ≡ no_memory → IsFree s a
-  outside : (name : List ℕ) → a ≡ refused 4 (load_failed name) → Rose s.faults_before s.faults_after → IsFree s a
-  uncertified : (lines : List ℕ) → a ≡ refused 13 (lines ++ not_certified) → IsFree s a
-  stuck : (lines : List ℕ) → a ≡ refused 13 (lines ++ machine_stuck) → IsFree s a
+  from_outside : IsOutside s a → IsFree s a
+  uncertified : a ≡ refused 13 not_certified → IsFree s a
+  stuck : a ≡ refused 13 machine_stuck → IsFree s a
 
 abbrev pub EndsFree : {X : Type 0} → Setting → Came X → Type 0
 EndsFree s (Ok x) = ⊥
 EndsFree s (Err a) = IsFree s a
 
--- What is stated of what the step came to holds, or it came to a free answer. Where files are told, what is due is this and nothing else, unless this is a free answer.
+-- What is stated of what the step came to holds, or it came to an answer from outside. Where files are told, what is due is this and nothing else, unless this is a free answer.
 pub record Gives {X : Type 0} (s : Setting) (step : Sense → Came X → Type 0) (r : Came X) : Type 0 where
-  pub comes : step stated r ⊎ EndsFree s r
+  pub comes : step stated r ⊎ EndsOutside s r
   pub only : IsTold s → (other : Came X) → step due other → (other ≡ r) ⊎ EndsFree s r
 
 -- ---- the end of a command that streams nothing
@@ -92,3 +100,13 @@ pub record Gives {X : Type 0} (s : Setting) (step : Sense → Came X → Type 0)
 abbrev pub answer_in : Came Answer → Answer
 answer_in (Ok a) = a
 answer_in (Err a) = a
+
+-- the command came to this answer by these steps
+pub record Answers (s : Setting) (step : Sense → Came Answer → Type 0) (a : Answer) : Type 0 where
+  pub last : Came Answer
+  pub gives : Gives s step last
+  pub is : a ≡ answer_in last
+
+-- the last step comes to this answer
+abbrev pub done : Answer → Sense → Came Answer → Type 0
+done a m r = r ≡ Ok a

@@ -10,6 +10,6 @@ mod answer;
 mod loading;
 mod showing;
 
-pub use answer::{Answer, no_memory, refusal};
+pub use answer::{Answer, no_memory, refusal, refusal_behind};
 pub use loading::{SOURCE_LIMIT, load};
 pub use showing::show;
