@@ -1,2 +1,0 @@
--- definitions of public contracts
-pub mod Certificates
