@@ -1,5 +1,5 @@
 -- A condition is what it was where the list of terms grows.
-use Rattle.std.proofs.Common.{◌≡◌, ◌<◌, ◌∙◌, ℕ, List, All, length, ap}
+use Rattle.std.proofs.Common.{◌≡◌, ◌<◌, ◌∙◌, List, All, length, ap}
 use Rattle.wy_term.specs.declared.cond.Cond.{Cond}
 use Rattle.wy_term.specs.Term.{Term}
 use Rattle.wy_term.specs.Condition.{Entry, Condition, condition_of}

@@ -1,6 +1,3 @@
-use Rattle.std.proofs.Common.{[], All, length, sym, subst, arith}
-use Rattle.wy_cert.specs.declared.step.Step.{Step}
-use Rattle.wy_cert.specs.Steps.{IsBelow}
 use Rattle.wy_certifying.proofs.DraftLemmas.{no_steps}
 use Rattle.wy_certifying.proofs.draft.first_draft.Goals as goal
 

@@ -1,4 +1,3 @@
-use Rattle.std.proofs.Common.{arith}
 use Rattle.wy_sums.proofs.BranchLemmas.{branch_stays}
 use Rattle.wy_certifying.proofs.products.push_factors.Goals as goal
 

@@ -1,4 +1,4 @@
-use Rattle.std.proofs.Common.{[], length, subst, sym}
+use Rattle.std.proofs.Common.{subst, sym}
 use Rattle.wy_certifying.specs.Nodes.{AreWaiting}
 use Rattle.wy_certifying.proofs.walking.first_walk.Goals as goal
 
