@@ -41,7 +41,7 @@ use Rattle.wy_round.proofs.Enclosed.{begins-letter, name_piece, name-item, name-
 use Rattle.wy_round.proofs.TypeRound.{map-map}
 use Rattle.wy_round.proofs.ExprGives.{gives-level}
 use Rattle.wy_round_statements.proofs.Lines.{Line, next_at}
-use Rattle.wy_round_statements.proofs.Lines.Line.{row, blank}
+use Rattle.wy_round_statements.proofs.Lines.Line.{row as line_at, blank}
 use Rattle.wy_round_statements.proofs.LineRuns.{lines_text}
 use Rattle.wy_round_statements.proofs.StmtLines.{Follows, follows-good, opened, left, left-row, line-ends, row-text, blank-text, lines-append}
 use Rattle.wy_round_statements.proofs.StmtOne.{word_gap, behind-word, item-body}
@@ -83,7 +83,7 @@ names-more (n ∷ ms) m h v = (h.0, names-more ms m h.1 v)
 
 abbrev import_rows : List (List ℕ × ℕ) → List Line
 import_rows [] = []
-import_rows (m ∷ ms) = row 0 (import_pieces m.0) ∷ import_rows ms
+import_rows (m ∷ ms) = line_at 0 (import_pieces m.0) ∷ import_rows ms
 
 imports-spelled : (ms : List (List ℕ × ℕ)) → Names ms → lines_text (import_rows ms) ≡ import_lines ms
 imports-spelled [] h = refl
@@ -112,7 +112,7 @@ imports-read p (m ∷ ms) acc ls h f =
     let name_at = (p + size (codes "import")) + 1 in
     let end = p + size (letters (import_pieces m.0)) in
     let place = next_at end rest in
-    let text_is : left p 0 (row 0 (import_pieces m.0) ∷ rest) ≡ token k.Import p ∷ token (k.Name m.0) name_at ∷ token k.LineEnd end ∷ left place 0 rest =
+    let text_is : left p 0 (line_at 0 (import_pieces m.0) ∷ rest) ≡ token k.Import p ∷ token (k.Name m.0) name_at ∷ token k.LineEnd end ∷ left place 0 rest =
     left-row p 0 (import_pieces m.0) rest ∙ ap (λ (l : List Token). token k.Import p ∷ token (k.Name m.0) name_at ∷ l) (line-ends end place 0 rest (imports-follow ms ls h.1 f)) in
     let one : List ℕ × ℕ = (m.0, name_at) in
     let q = imports-read place ms (acc ++ one ∷ []) ls h.1 f in
@@ -142,13 +142,13 @@ decls_of rule xs = map (λ (x : ADecl rule). x.decl_is) xs
 -- each behind a blank line
 abbrev more_rows : (rule : R D) → List (ADecl rule) → List Line
 more_rows rule [] = []
-more_rows rule (x ∷ xs) = blank ∷ row 0 x.again.first ∷ (x.again.rest ++ more_rows rule xs)
+more_rows rule (x ∷ xs) = blank ∷ line_at 0 x.again.first ∷ (x.again.rest ++ more_rows rule xs)
 
 abbrev decl_rows : (rule : R D) → List (ADecl rule) → List Line
 decl_rows rule [] = []
-decl_rows rule (x ∷ xs) = row 0 x.again.first ∷ (x.again.rest ++ more_rows rule xs)
+decl_rows rule (x ∷ xs) = line_at 0 x.again.first ∷ (x.again.rest ++ more_rows rule xs)
 
-row-spelled : (rule : R D) (x : ADecl rule) (ls : List Line) → lines_text (row 0 x.again.first ∷ (x.again.rest ++ ls)) ≡ decl_text x.decl_is ++ lines_text ls
+row-spelled : (rule : R D) (x : ADecl rule) (ls : List Line) → lines_text (line_at 0 x.again.first ∷ (x.again.rest ++ ls)) ≡ decl_text x.decl_is ++ lines_text ls
 row-spelled rule x ls =
     row-text 0 x.again.first (x.again.rest ++ ls)
     ∙ (ap (λ (l : List ℕ). text_of x.again.first ++ 10 ∷ l) (lines-append x.again.rest ls)
@@ -157,14 +157,14 @@ row-spelled rule x ls =
 more-spelled : (rule : R D) (xs : List (ADecl rule)) → lines_text (more_rows rule xs) ≡ more_decls (decls_of rule xs)
 more-spelled rule [] = refl
 more-spelled rule (x ∷ xs) =
-    blank-text (row 0 x.again.first ∷ (x.again.rest ++ more_rows rule xs))
+    blank-text (line_at 0 x.again.first ∷ (x.again.rest ++ more_rows rule xs))
     ∙ ap (λ (l : List ℕ). 10 ∷ l) (row-spelled rule x (more_rows rule xs) ∙ ap (λ (l : List ℕ). decl_text x.decl_is ++ l) (more-spelled rule xs))
 
 decls-spelled : (rule : R D) (xs : List (ADecl rule)) → lines_text (decl_rows rule xs) ≡ decl_lines (decls_of rule xs)
 decls-spelled rule [] = refl
 decls-spelled rule (x ∷ xs) = row-spelled rule x (more_rows rule xs) ∙ ap (λ (l : List ℕ). decl_text x.decl_is ++ l) (more-spelled rule xs)
 
-row-follows : (rule : R D) (x : ADecl rule) (ls : List Line) → Follows 0 ls → Follows 0 (row 0 x.again.first ∷ (x.again.rest ++ ls))
+row-follows : (rule : R D) (x : ADecl rule) (ls : List Line) → Follows 0 ls → Follows 0 (line_at 0 x.again.first ∷ (x.again.rest ++ ls))
 row-follows rule x ls f = let zero_is : 0 ≤ 0 = omega arith in (zero_is, x.again.is_body, x.again.own, x.again.good ls f)
 
 more-follow : (rule : R D) (xs : List (ADecl rule)) → Follows 0 (more_rows rule xs)
@@ -191,12 +191,12 @@ record ReadsDecls (rule : R D) (xs : List (ADecl rule)) (acc : List Decl) (h n :
 -- one, and those that were read behind it
 decls-more : (rule : R D) (p : ℕ) (x : ADecl rule) (xs : List (ADecl rule)) (acc : List Decl) (h n : ℕ) → n < most
     → ((q l : ℕ) (bs : List Decl) → ReadsDecls rule xs bs l (n + 1) (left q 0 (more_rows rule xs)))
-    → ReadsDecls rule (x ∷ xs) acc h n (left p 0 (row 0 x.again.first ∷ (x.again.rest ++ more_rows rule xs)))
+    → ReadsDecls rule (x ∷ xs) acc h n (left p 0 (line_at 0 x.again.first ∷ (x.again.rest ++ more_rows rule xs)))
 decls-more rule p x xs acc h n le next =
     let rest : List Line = more_rows rule xs in
     let r = x.again.reads p rest (more-follow rule xs) in
     let q = next r.place (max h r.height) (acc ++ r.tree ∷ []) in
-    let text_is : left p 0 (row 0 x.again.first ∷ (x.again.rest ++ rest)) ≡ opened p x.again.first 0 (x.again.rest ++ rest) = left-row p 0 x.again.first (x.again.rest ++ rest) in
+    let text_is : left p 0 (line_at 0 x.again.first ∷ (x.again.rest ++ rest)) ≡ opened p x.again.first 0 (x.again.rest ++ rest) = left-row p 0 x.again.first (x.again.rest ++ rest) in
     let room : has_place n ≡ true = grind (arith, le) in
     let one = capped (has_place n) rule (opened p x.again.first 0 (x.again.rest ++ rest)) (Low r.tree r.height) (left r.place 0 rest) room r.reads in
     let turn : (NextDecl true rule (Low acc h, n)).reads (opened p x.again.first 0 (x.again.rest ++ rest)) (Low (acc ++ r.tree ∷ []) (max h r.height), n + 1) (left r.place 0 rest) =
@@ -217,7 +217,7 @@ more-read rule p [] acc h n le = record { read = []; same = refl; height = h; co
 more-read rule p (x ∷ xs) acc h n le =
     let here : n < most = omega (arith, le) in
     let later : (n + 1) + length xs ≤ most = omega (arith, le) in
-    let lines : List Line = row 0 x.again.first ∷ (x.again.rest ++ more_rows rule xs) in
+    let lines : List Line = line_at 0 x.again.first ∷ (x.again.rest ++ more_rows rule xs) in
     decls-more rule (next_at p lines) x xs acc h n here (λ q l bs. more-read rule q xs bs l (n + 1) later)
 
 decls-read : (rule : R D) (p : ℕ) (xs : List (ADecl rule)) → length xs ≤ most → ReadsDecls rule xs [] 0 0 (left p 0 (decl_rows rule xs))
