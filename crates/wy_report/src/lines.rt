@@ -34,7 +34,7 @@ pub fn no_entry(alloc: Global, name: &str) -> Result<String, AllocError>
 }
 
 /// The argument text has this fault, at a byte offset.
-pub fn bad_argument(alloc: Global, fault: &str, offset: u32) -> Result<String, AllocError>
+pub fn bad_argument(alloc: Global, fault: &str, offset: u64) -> Result<String, AllocError>
     ensures value { IfOk result (λ s. string_bytes s ≡ lines.bad_argument fault.now offset) }
 {
     format!(in alloc; "wy: argument text: {fault} at {offset}\n")
@@ -85,7 +85,7 @@ pub fn source_fault(
 pub fn certificate_fault(
     alloc: Global,
     file: &str,
-    line: u32,
+    line: u64,
     fault: &str,
 ) -> Result<String, AllocError>
     ensures value { IfOk result (λ s. string_bytes s ≡ lines.certificate_fault file.now line fault.now) }
@@ -94,7 +94,7 @@ pub fn certificate_fault(
 }
 
 /// The certificate that was supplied for a condition isn't valid: its first bad step. Both numbers are from 1.
-pub fn invalid_step(alloc: Global, file: &str, number: u32, step: u32) -> Result<String, AllocError>
+pub fn invalid_step(alloc: Global, file: &str, number: u32, step: u64) -> Result<String, AllocError>
     ensures value { IfOk result (λ s. string_bytes s ≡ lines.invalid_step file.now number step) }
 {
     format!(in alloc; "{file}: condition {number}: step {step} not valid\n")
@@ -142,7 +142,7 @@ pub fn spent_condition(
     column: usize,
     number: u32,
     kind: &str,
-    budget: u32,
+    budget: u64,
 ) -> Result<String, AllocError>
     ensures value { IfOk result (λ s. string_bytes s ≡ lines.spent_condition file.now line column number kind.now budget) }
 {

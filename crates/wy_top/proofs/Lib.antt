@@ -1,8 +1,5 @@
-pub mod VerdictLemmas
-pub mod JudgeLemmas
-pub mod WordLemmas
+pub mod TextLemmas
+pub mod LaunchLemmas
 pub mod RunLemmas
-pub mod EndLemmas
-pub mod ExclusionLemmas
-pub mod CauseLemmas
-pub mod FormatLemmas
+pub mod LargeLemmas
+pub mod ExactLemmas

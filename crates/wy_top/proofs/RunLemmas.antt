@@ -1,145 +1,115 @@
--- The steps of a run, put together.
-use Rattle.std.proofs.Common.{◌≡◌, ◌≢◌, ℕ, ◌≤◌, List, Err, inl, inr, arith, subst, ◌∙◌, ℤ}
+-- What a run that started shows.
+use Rattle.std.proofs.Common.{◌≡◌, ◌≤◌, ◌⊎◌, ◌∙◌, ◌++◌, ℕ, List, [], length, take, Bool, true, false, Option, Some, None, inl, inr, arith, refl, sym, ap, subst}
+use Rattle.std.proofs.Math.Seq.{take-append-add, take-length}
+use Rattle.std.proofs.lemmas.List.{append-nil, append_assoc, length-append}
+use Rattle.wy_answers.specs.Showing.{Sinks, sinks}
+use Rattle.wy_answers.specs.Texts.{machine_stuck}
+use Rattle.wy_answers.proofs.LoadLemmas.{rose_within}
+use Rattle.wy_answers.proofs.ShowLemmas.{took_nothing, with_taken-nil}
+use Rattle.wy_mach.specs.Running.{IsStuck, Spends}
 use Rattle.wy_port.specs.Count.{Rose}
-use Rattle.wy_port.specs.Told.{Told, MayBe, IsMissing, IsTooLong}
-use Rattle.wy_port.specs.Told.Told.{Unknown, Lacking, Holding}
-use Rattle.wy_port.specs.declared.files.LoadFault.{LoadFault}
-use Rattle.wy_port.specs.declared.files.LoadFault.TheVariants.{Absent, TooLong, Failed, NoMemory as NoMemoryToLoad}
-use Rattle.wy_top.specs.declared.refusal.Refusal.{Refusal}
-use Rattle.wy_top.specs.declared.refusal.Refusal.TheVariants.{Source, SourceNotYet, Certificate, BadCertificates, Unproved, NoEntry, ArgumentNotYet, RequiresFails, NoMemory}
-use Rattle.wy_top.specs.CommandLine.{Named, no_file}
-use Rattle.wy_thin.specs.Thin.{Program}
-use Rattle.wy_top.specs.Outcome.{Setting, Loads, LoadFails, HasProgram, HasCertificates, IsAccepted, Starts, StartFails, Returns, Refuses, cert_limit}
-use Rattle.wy_top.specs.Steps.{setting, refusal_for, CertificatesFail, ProofFails}
-use Rattle.wy_cert.specs.declared.fault.CertFault.{CertFault}
-use Rattle.wy_cert.specs.declared.fault.CertFault.TheVariants.{BadHeader, BadStep, Truncated, TwiceCond, NoSuchCond, NoMemory as NoMemoryToRead}
-use Rattle.wy_cert.specs.Only.{IsTheOne}
-use Rattle.wy_cert.specs.Steps.{Certificates}
-use Rattle.wy_cert.specs.File.{ReadsFile}
-use Rattle.wy_top.specs.Verdicts.{verdicts_on, all_supplied, condition_count}
-use Rattle.wy_thin.specs.Meaning.{returned_by}
-use Rattle.wy_top.proofs.VerdictLemmas.{exactly_certified}
+use Rattle.wy_port.specs.Taken.{TookFront, with_taken}
+use Rattle.wy_report.specs.Lines.{steps_spent}
+use Rattle.wy_running.specs.Running.{EndsSo, Finished, WritesFront, written}
+use Rattle.wy_running.specs.declared.end.RunEnd.{RunEnd}
+use Rattle.wy_running.specs.declared.end.RunEnd.TheVariants.{Done, Spent, OutFault, Stuck}
+use Rattle.wy_step.specs.Step as step
+use Rattle.wy_step.specs.Step.{State, Ended}
+use Rattle.wy_top.specs.Runs.{Reports, whole, front, EndsRun, TookOf, Shows, finished, spends, sink_failed, no_memory, stuck, stats_text, done_text}
 
--- a count that rose in a part of the call rose in the call
-rose_earlier : (a b c : ℕ) → a ≤ b → Rose b c → Rose a c
-rose_earlier a b c h (inl rose) = inl (omega arith)
-rose_earlier a b c h (inr last) = inr last
+-- ---- texts one behind the other
 
-missing_earlier : (t : Told) (a b c : ℕ) → a ≤ b → IsMissing t b c → IsMissing t a c
-missing_earlier Unknown a b c h rose = rose_earlier a b c h rose
-missing_earlier Lacking a b c h u = u
-missing_earlier (Holding bytes) a b c h never = never
+pub with_taken-append : (known : Option (List ℕ)) (xs ys : List ℕ) → with_taken (with_taken known xs) ys ≡ with_taken known (xs ++ ys)
+with_taken-append None xs ys = refl
+with_taken-append (Some bytes) xs ys = ap (λ (all : List ℕ). Some all) (append_assoc bytes xs ys)
 
-too_long_earlier : (t : Told) (limit a b c : ℕ) → a ≤ b → IsTooLong t limit b c → IsTooLong t limit a c
-too_long_earlier Unknown limit a b c h rose = rose_earlier a b c h rose
-too_long_earlier Lacking limit a b c h never = never
-too_long_earlier (Holding bytes) limit a b c h long = long
-
--- what held of the second load, from the counts that the first one left, holds of the call
-record Follows (told between : List ℕ → Told) (f0 f1 m0 m1 : ℕ) : Type 0 where
-  same : (name : List ℕ) → between name ≡ told name
-  faults : f0 ≤ f1
-  misses : m0 ≤ m1
-
-load_fails_earlier : (told between : List ℕ → Told) (f0 f1 f2 m0 m1 m2 : ℕ) (name : List ℕ) (limit : ℕ) → Follows told between f0 f1 m0 m1 → (fault : LoadFault)
-    → LoadFails (setting between f1 f2 m1 m2) name limit fault → LoadFails (setting told f0 f2 m0 m2) name limit fault
-load_fails_earlier told between f0 f1 f2 m0 m1 m2 name limit follows Absent h = missing_earlier (told name) m0 m1 m2 follows.misses (subst (λ (t : Told). IsMissing t m1 m2) (follows.same name) h)
-load_fails_earlier told between f0 f1 f2 m0 m1 m2 name limit follows TooLong h = too_long_earlier (told name) limit m0 m1 m2 follows.misses (subst (λ (t : Told). IsTooLong t limit m1 m2) (follows.same name) h)
-load_fails_earlier told between f0 f1 f2 m0 m1 m2 name limit follows Failed h = rose_earlier f0 f1 f2 follows.faults h
-load_fails_earlier told between f0 f1 f2 m0 m1 m2 name limit follows NoMemoryToLoad h = h
-
-loads_earlier : (told between : List ℕ → Told) (f0 f1 f2 m0 m1 m2 : ℕ) (name : List ℕ) (limit : ℕ) (bytes : List ℕ) → Follows told between f0 f1 m0 m1
-    → Loads (setting between f1 f2 m1 m2) name limit bytes → Loads (setting told f0 f2 m0 m2) name limit bytes
-loads_earlier told between f0 f1 f2 m0 m1 m2 name limit bytes follows h = record { told = subst (λ (t : Told). MayBe t bytes) (follows.same name) h.told; within = h.within }
-
-has_certificates_earlier : (told between : List ℕ → Told) (f0 f1 f2 m0 m1 m2 : ℕ) (name : List ℕ) (c : Certificates) → Follows told between f0 f1 m0 m1
-    → HasCertificates (setting between f1 f2 m1 m2) name c → HasCertificates (setting told f0 f2 m0 m2) name c
-has_certificates_earlier told between f0 f1 f2 m0 m1 m2 name c follows (inl read) = inl (record { named = read.named; bytes = read.bytes; loaded = loads_earlier told between f0 f1 f2 m0 m1 m2 name cert_limit read.bytes follows read.loaded; read = read.read })
-has_certificates_earlier told between f0 f1 f2 m0 m1 m2 name c follows (inr none) = inr none
-
--- a program with certificates that are valid for each condition is accepted
-pub accepted : (told between : List ℕ → Told) (f0 f1 f2 m0 m1 m2 : ℕ) (n : Named) (p : Program) (c : Certificates)
-    → ((name : List ℕ) → between name ≡ told name) → f0 ≤ f1 → m0 ≤ m1
-    → HasProgram (setting told f0 f2 m0 m2) n.source p → HasCertificates (setting between f1 f2 m1 m2) n.cert c → verdicts_on p c ≡ all_supplied → IsAccepted (setting told f0 f2 m0 m2) n p
-accepted told between f0 f1 f2 m0 m1 m2 n p c same faults misses has given valid =
-    let there = has_certificates_earlier told between f0 f1 f2 m0 m1 m2 n.cert c (record { same = same; faults = faults; misses = misses }) given in
-    record {
-      program = has;
-      certificates = c;
-      given = there;
-      valid = (exactly_certified (setting told f0 f2 m0 m2) n.cert p c there).0 valid;
-    }
-
--- a program with a condition that lacks a valid certificate is refused
-pub proof_refused : (told between : List ℕ → Told) (f0 f1 f2 m0 m1 m2 : ℕ) (n : Named) (p : Program) (c : Certificates) (reason : Refusal)
-    → ((name : List ℕ) → between name ≡ told name) → f0 ≤ f1 → m0 ≤ m1
-    → HasProgram (setting told f0 f2 m0 m2) n.source p → HasCertificates (setting between f1 f2 m1 m2) n.cert c → ProofFails p c reason → Refuses (setting told f0 f2 m0 m2) n reason
-proof_refused told between f0 f1 f2 m0 m1 m2 n p c (Source fault) same faults misses has given fails = absurd fails
-proof_refused told between f0 f1 f2 m0 m1 m2 n p c SourceNotYet same faults misses has given fails = absurd fails
-proof_refused told between f0 f1 f2 m0 m1 m2 n p c (Certificate fault) same faults misses has given fails = absurd fails
-proof_refused told between f0 f1 f2 m0 m1 m2 n p c (BadCertificates fault) same faults misses has given fails = absurd fails
-proof_refused told between f0 f1 f2 m0 m1 m2 n p c (Unproved verdicts place) same faults misses has given fails =
-    let there = has_certificates_earlier told between f0 f1 f2 m0 m1 m2 n.cert c (record { same = same; faults = faults; misses = misses }) given in
-    record {
-      program = p;
-      has = has;
-      certificates = c;
-      given = there;
-      lacks = record {
-        judged = fails.judged;
-        some = λ h. fails.some (fails.judged ∙ (exactly_certified (setting told f0 f2 m0 m2) n.cert p c there).1 h);
-        stands = fails.stands;
-      };
-    }
-proof_refused told between f0 f1 f2 m0 m1 m2 n p c NoEntry same faults misses has given fails = absurd fails
-proof_refused told between f0 f1 f2 m0 m1 m2 n p c ArgumentNotYet same faults misses has given fails = absurd fails
-proof_refused told between f0 f1 f2 m0 m1 m2 n p c RequiresFails same faults misses has given fails = absurd fails
-proof_refused told between f0 f1 f2 m0 m1 m2 n p c NoMemory same faults misses has given fails = tt
-
--- an accepted program that started returns
-pub returned_number : (s : Setting) (n : Named) (p : Program) → IsAccepted s n p → (r : ℤ) → (x : ℤ) × Starts n p x × (r ≡ returned_by p x) → Returns s n r
-returned_number s n p accepted r ran = record { program = p; argument = ran.0; accepted = accepted; starts = ran.1; value = ran.2 }
-
--- an accepted program that didn't start is refused
-pub start_refused : (s : Setting) (n : Named) (p : Program) → IsAccepted s n p → (reason : Refusal) → StartFails n p reason → Refuses s n reason
-start_refused s n p accepted (Source fault) fails = absurd fails
-start_refused s n p accepted SourceNotYet fails = absurd fails
-start_refused s n p accepted (Certificate fault) fails = absurd fails
-start_refused s n p accepted (BadCertificates fault) fails = absurd fails
-start_refused s n p accepted (Unproved verdicts place) fails = absurd fails
-start_refused s n p accepted NoEntry fails = record { program = p; accepted = accepted; fails = fails }
-start_refused s n p accepted ArgumentNotYet fails = record { program = p; accepted = accepted; fails = fails }
-start_refused s n p accepted RequiresFails fails = record { program = p; accepted = accepted; fails = fails }
-start_refused s n p accepted NoMemory fails = absurd fails
-
--- a certificate file that holds no certificates
-pub reading_failed : (s : Setting) (name bytes : List ℕ) → name ≢ no_file → Loads s name cert_limit bytes → (fault : CertFault) → (fault ≢ NoMemoryToRead → IsTheOne (ReadsFile condition_count bytes) (Err fault)) → CertificatesFail s name (refusal_for fault)
-reading_failed s name bytes named loaded (BadHeader line) read = record { named = named; bytes = bytes; loaded = loaded; read = read (λ e. cc) }
-reading_failed s name bytes named loaded (BadStep line) read = record { named = named; bytes = bytes; loaded = loaded; read = read (λ e. cc) }
-reading_failed s name bytes named loaded (Truncated line) read = record { named = named; bytes = bytes; loaded = loaded; read = read (λ e. cc) }
-reading_failed s name bytes named loaded (TwiceCond line) read = record { named = named; bytes = bytes; loaded = loaded; read = read (λ e. cc) }
-reading_failed s name bytes named loaded (NoSuchCond line) read = record { named = named; bytes = bytes; loaded = loaded; read = read (λ e. cc) }
-reading_failed s name bytes named loaded NoMemoryToRead read = tt
-
--- a run whose certificates fail is refused
-pub certificates_refused : (told between : List ℕ → Told) (f0 f1 f2 m0 m1 m2 : ℕ) (n : Named) (p : Program) (reason : Refusal)
-    → ((name : List ℕ) → between name ≡ told name) → f0 ≤ f1 → m0 ≤ m1
-    → HasProgram (setting told f0 f2 m0 m2) n.source p → CertificatesFail (setting between f1 f2 m1 m2) n.cert reason → Refuses (setting told f0 f2 m0 m2) n reason
-certificates_refused told between f0 f1 f2 m0 m1 m2 n p (Source fault) same faults misses has fails = absurd fails
-certificates_refused told between f0 f1 f2 m0 m1 m2 n p SourceNotYet same faults misses has fails = absurd fails
-certificates_refused told between f0 f1 f2 m0 m1 m2 n p (Certificate fault) same faults misses has fails = record {
-  program = p;
-  has = has;
-  named = fails.0;
-  fails = load_fails_earlier told between f0 f1 f2 m0 m1 m2 n.cert cert_limit (record { same = same; faults = faults; misses = misses }) fault fails.1;
+-- a front of what stands behind some lines, as a front of both
+pub front_behind : (before between after : Option (List ℕ)) (lines text : List ℕ) → between ≡ with_taken before lines → TookFront between after text → TookFront before after (lines ++ text)
+front_behind before between after lines text e f = record {
+  count = length lines + f.count;
+  within = rw length-append (omega (arith, f.within));
+  took = f.took ∙ (ap (λ (b : Option (List ℕ)). with_taken b (take f.count text)) e ∙ (with_taken-append before lines (take f.count text) ∙ ap (with_taken before) (sym (take-append-add lines text f.count))));
 }
-certificates_refused told between f0 f1 f2 m0 m1 m2 n p (BadCertificates fault) same faults misses has fails = record {
-  program = p;
-  has = has;
-  reads = record { named = fails.named; bytes = fails.bytes; loaded = loads_earlier told between f0 f1 f2 m0 m1 m2 n.cert cert_limit fails.bytes (record { same = same; faults = faults; misses = misses }) fails.loaded; read = fails.read };
-}
-certificates_refused told between f0 f1 f2 m0 m1 m2 n p (Unproved verdicts place) same faults misses has fails = absurd fails
-certificates_refused told between f0 f1 f2 m0 m1 m2 n p NoEntry same faults misses has fails = absurd fails
-certificates_refused told between f0 f1 f2 m0 m1 m2 n p ArgumentNotYet same faults misses has fails = absurd fails
-certificates_refused told between f0 f1 f2 m0 m1 m2 n p RequiresFails same faults misses has fails = absurd fails
-certificates_refused told between f0 f1 f2 m0 m1 m2 n p NoMemory same faults misses has fails = tt
+
+-- the whole text behind some lines
+pub whole_behind : (before between after : Option (List ℕ)) (lines text : List ℕ) → between ≡ with_taken before lines → after ≡ with_taken between text → after ≡ with_taken before (lines ++ text)
+whole_behind before between after lines text e f = f ∙ (ap (λ (b : Option (List ℕ)). with_taken b text) e ∙ with_taken-append before lines text)
+
+-- ---- nothing is a front of what a run writes
+
+pub writes_nothing : (wanted : Bool) (st : State) (known : Option (List ℕ)) → WritesFront wanted known known st
+writes_nothing wanted (step.Runs fr callers output) known = took_nothing known output
+writes_nothing wanted (Ended v output) known = took_nothing known (written wanted output v)
+writes_nothing wanted step.Stuck known = tt
+
+-- what was written whole is a front
+took_whole : (before after : Option (List ℕ)) (text : List ℕ) → after ≡ with_taken before text → TookFront before after text
+took_whole before after text e = record { count = length text; within = omega arith; took = e ∙ ap (with_taken before) (sym (take-length text)) }
+
+writes_done : (wanted : Bool) (copies nodes : ℕ) (before after : Option (List ℕ)) (st : State) → Finished wanted copies nodes before after st → WritesFront wanted before after st
+writes_done wanted copies nodes before after (step.Runs fr callers output) h = absurd h
+writes_done wanted copies nodes before after (Ended v output) h = took_whole before after (written wanted output v) h.1
+writes_done wanted copies nodes before after step.Stuck h = tt
+
+writes_spent : (wanted : Bool) (before after : Option (List ℕ)) (st : State) → Spends before after st → WritesFront wanted before after st
+writes_spent wanted before after (step.Runs fr callers output) h = took_whole before after output h
+writes_spent wanted before after (Ended v output) h = absurd h
+writes_spent wanted before after step.Stuck h = tt
+
+writes_stuck : (wanted : Bool) (before after : Option (List ℕ)) (st : State) → IsStuck st → WritesFront wanted before after st
+writes_stuck wanted before after (step.Runs fr callers output) h = absurd h
+writes_stuck wanted before after (Ended v output) h = absurd h
+writes_stuck wanted before after step.Stuck h = tt
+
+-- ---- the ends
+
+-- the counts and the bytes of both sinks
+pub record Around : Type 0 where
+  pub lines : List ℕ
+  pub wanted : Bool
+  pub asked : Bool
+  pub st : State
+  pub out_before : Option (List ℕ)
+  pub out_after : Option (List ℕ)
+  pub out_f : ℕ
+  pub out_g : ℕ
+  pub err_before : Option (List ℕ)
+  pub err_between : Option (List ℕ)
+  pub err_after : Option (List ℕ)
+  pub err_f : ℕ
+  pub err_g : ℕ
+  pub err_h : ℕ
+
+abbrev pub ShowsAround : Around → ℕ → Type 0
+ShowsAround a status = Shows a.lines a.wanted a.asked a.st status (sinks a.out_before a.out_after a.out_f a.out_g a.err_before a.err_after a.err_f a.err_h)
+
+-- a front of the last text on the sink of errors
+broken : (a : Around) (status : ℕ) (text : List ℕ) → a.err_f ≤ a.err_g → a.err_g ≤ a.err_h → a.err_between ≡ with_taken a.err_before a.lines → status ≡ 5 → Rose a.err_g a.err_h → TookFront a.err_between a.err_after text
+    → WritesFront a.wanted a.out_before a.out_after a.st → ShowsAround a status
+broken a status text fg gh e five rose took writes =
+    sink_failed five (inr (rose_within a.err_f a.err_g a.err_h a.err_h fg gh (omega arith) rose)) writes (record { more = text; took = front_behind a.err_before a.err_between a.err_after a.lines text e took })
+
+by_done : (a : Around) (status copies nodes : ℕ) → a.err_f ≤ a.err_g → a.err_g ≤ a.err_h → a.err_between ≡ with_taken a.err_before a.lines → Finished a.wanted copies nodes a.out_before a.out_after a.st
+    → Reports 0 (stats_text a.asked copies nodes) status a.err_between a.err_after a.err_g a.err_h ⊎ ((status ≡ 9) × (a.err_after ≡ a.err_between)) → ShowsAround a status
+by_done a status copies nodes fg gh e h (inl (whole zero took)) = finished copies nodes zero h (whole_behind a.err_before a.err_between a.err_after a.lines (stats_text a.asked copies nodes) e took)
+by_done a status copies nodes fg gh e h (inl (front five rose took)) =
+    broken a status (stats_text a.asked copies nodes) fg gh e five rose took (writes_done a.wanted copies nodes a.out_before a.out_after a.st h)
+by_done a status copies nodes fg gh e h (inr none) = no_memory none.0 (writes_done a.wanted copies nodes a.out_before a.out_after a.st h) (none.1 ∙ e)
+
+by_spent : (a : Around) (status : ℕ) → a.err_f ≤ a.err_g → a.err_g ≤ a.err_h → a.err_between ≡ with_taken a.err_before a.lines → Spends a.out_before a.out_after a.st
+    → Reports 8 steps_spent status a.err_between a.err_after a.err_g a.err_h → ShowsAround a status
+by_spent a status fg gh e h (whole eight took) = spends eight h (whole_behind a.err_before a.err_between a.err_after a.lines steps_spent e took)
+by_spent a status fg gh e h (front five rose took) = broken a status steps_spent fg gh e five rose took (writes_spent a.wanted a.out_before a.out_after a.st h)
+
+by_stuck : (a : Around) (status : ℕ) → a.err_f ≤ a.err_g → a.err_g ≤ a.err_h → a.err_between ≡ with_taken a.err_before a.lines → IsStuck a.st
+    → Reports 13 machine_stuck status a.err_between a.err_after a.err_g a.err_h → ShowsAround a status
+by_stuck a status fg gh e h (whole thirteen took) = stuck thirteen h (whole_behind a.err_before a.err_between a.err_after a.lines machine_stuck e took)
+by_stuck a status fg gh e h (front five rose took) = broken a status machine_stuck fg gh e five rose took (writes_stuck a.wanted a.out_before a.out_after a.st h)
+
+pub ran_ends : (a : Around) (end : RunEnd) (status : ℕ) → a.err_f ≤ a.err_g → a.err_g ≤ a.err_h → a.err_between ≡ with_taken a.err_before a.lines
+    → EndsSo a.wanted a.st a.out_before a.out_after a.out_f a.out_g end → EndsRun a.asked end status a.err_between a.err_after a.err_g a.err_h → ShowsAround a status
+ran_ends a (Done copies nodes) status fg gh e ran ends = by_done a status copies nodes fg gh e ran ends
+ran_ends a Spent status fg gh e ran ends = by_spent a status fg gh e ran ends
+ran_ends a OutFault status fg gh e ran ends =
+    sink_failed ends.0 (inl ran.1) ran.0 (record { more = []; took = took_whole a.err_before a.err_after (a.lines ++ []) (ends.1 ∙ (e ∙ ap (with_taken a.err_before) (sym (append-nil a.lines)))) })
+ran_ends a Stuck status fg gh e ran ends = by_stuck a status fg gh e ran ends

@@ -1,11 +1,11 @@
--- ---- what contracts of public calls cite
-pub mod Run
-pub mod Formatting
-pub mod Outcome
-pub mod Diagnostics
-pub mod CommandLine
-pub mod Verdicts
--- ---- what functions inside owe each other
-pub mod Operands
-pub mod Steps
-pub mod Reporting
+-- what a command comes to
+pub mod Texts
+pub mod Launching
+pub mod Large
+-- what sinks and files show of it
+pub mod Runs
+pub mod Saves
+-- the statement
+pub mod Statement
+-- a law
+pub mod Exact

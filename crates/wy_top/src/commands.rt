@@ -1,85 +1,45 @@
 //! The commands: from words to a status and to what the sinks take.
-ghost use Rattle.std.specs.Prelude.{◌≡◌, ◌≤◌, ◌++◌, ◌∷◌, ℕ, List, ◌⊎◌, []};
-ghost use Rattle.std.specs.Fmt.{signed_decimal};
-ghost use Rattle.wy_port.specs.Count.{Rose};
-ghost use Rattle.wy_top.specs.CommandLine.{plain_words};
-ghost use Rattle.wy_top.specs.Operands.{named_by};
-ghost use Rattle.wy_top.specs.Steps.{setting, sinks};
-ghost use Rattle.wy_top.specs.Diagnostics.{refusal_status, refusal_text};
-ghost use Rattle.wy_top.specs.Reporting.{Reports, ReportsIfMemory};
-ghost use Rattle.wy_top.specs.Outcome.{returned, no_command, refused};
-ghost use Rattle.wy_top.specs.Formatting.{FormatCommand, Formats, IsNoFormat};
-ghost use Rattle.wy_top.specs.Run.{Runs};
-ghost use Rattle.wy_texts.specs.declared.kind.Kind.{Kind};
+ghost use Rattle.std.specs.Prelude.{◌≡◌, ◌≢◌, ◌≤◌, ℕ, List, Some};
+ghost use Rattle.wy_answers.specs.Showing.{sinks};
+ghost use Rattle.wy_answers.specs.Steps.{setting};
+ghost use Rattle.wy_top.specs.Saves.{saving};
+ghost use Rattle.wy_top.specs.Statement.{Comes, Does, IsKeptBy, saved_name};
+ghost use Rattle.wy_words.specs.CommandLine.{command_of};
+ghost use Rattle.wy_words.specs.Plain.{asked_in, words_in};
 
-use crate::command_line::{Operands, read_words};
-use crate::diagnostics::{WORDS_REFUSED, WORDS_STATUS, number_line, status, text};
-use crate::formatting::{format, read_format};
-use crate::refusal::Refusal;
-use crate::run::run;
+use crate::launching::launch_file;
+use crate::making::large;
+use crate::proving::save;
+use crate::running::run;
+use crate::texts::{Text, text_answer};
 use std::alloc::Global;
-use wy_port::{Files, Sink, write_whole};
-
-/// The status where a sink failed.
-const SINK_FAILED: u8 = 5;
-
-/// The status where memory ran out.
-pub const NO_MEMORY: u8 = 9;
-
-/// Writes a text, and answers the status that goes with it.
-pub fn report<S: Sink>(sink: &mut S, text: &[u8], status: u8) -> u8
-    ensures reports { Reports status text.now result (S.taken sink.old) (S.taken sink.new) (S.faults sink.old) (S.faults sink.new) }
-    ensures count { S.faults sink.old ≤ S.faults sink.new }
-{
-    match write_whole(sink, text) {
-        Ok(()) => status,
-        Err(_) => SINK_FAILED,
-    }
-}
-
-// Writes the text of a refusal, and answers its status.
-fn refuse<E: Sink>(alloc: Global, operands: &Operands<'_>, refusal: &Refusal, err: &mut E) -> u8
-    ensures reports { ReportsIfMemory (refusal_status refusal.now) (refusal_text (named_by operands.now) refusal.now) result (E.taken err.old) (E.taken err.new) (E.faults err.old) (E.faults err.new) }
-    ensures count { E.faults err.old ≤ E.faults err.new }
-{
-    match text(alloc, operands, refusal) {
-        Ok(lines) => report(err, lines.as_bytes(), status(refusal)),
-        Err(_) => NO_MEMORY,
-    }
-}
-
-// Writes the line for the number that a program returned.
-fn print<O: Sink>(alloc: Global, number: i128, out: &mut O) -> u8
-    ensures reports { ReportsIfMemory 0 (signed_decimal number ++ 10 ∷ []) result (O.taken out.old) (O.taken out.new) (O.faults out.old) (O.faults out.new) }
-    ensures count { O.faults out.old ≤ O.faults out.new }
-{
-    match number_line(alloc, number) {
-        Ok(line) => report(out, line.as_bytes(), 0),
-        Err(_) => NO_MEMORY,
-    }
-}
+use wy_acceptance::{check, prove_file};
+use wy_answers::{no_memory, refusal, show};
+use wy_port::{Files, Sink};
+use wy_report::words_refused;
+use wy_words::{Words, WordsFault, read_words};
 
 /// Does what `words` say, over `files`, and answers the exit status. Results go to `out`, refusals to `err`.
 ///
-/// The words are `run SOURCE CERT NAME ARGS`, `fmt SOURCE` or `dis SOURCE`, without the program's own name. The steps are
-/// taken in this order, and the first that fails ends the call: the words, SOURCE is loaded and read, CERT is loaded and
-/// read unless it is the word `none`, the verdicts on the conditions, the entry NAME, the argument in ARGS, the requires
-/// clause. `fmt` loads and reads SOURCE alone and writes it anew: what it writes is the text of the program exactly
-/// where the source spells one. `dis` writes the listing of the program's code exactly where the source spells a program
-/// whose names are bound, that is well typed, and that assigns each variable before its uses.
+/// The words are those behind the program's own name. The steps are taken in this order, and the first that fails ends the
+/// call: the words; the source is loaded and read (text, names, types, assignment) and its conditions are listed; the
+/// certificates are loaded and read; each condition is judged, by the certificate that is supplied for it or else by a search;
+/// the entry, the argument text, the number, the types and the requires clauses of the arguments; the run. Each command takes
+/// those of these steps that it needs.
 ///
 /// | status | when |
 /// |---|---|
-/// | 0 | the program was accepted and ran, and `out` took its result on a line; or `out` took the source's new text or its listing |
-/// | 1 | the source is refused (for `run`: it is no thin program), or a condition has no valid certificate |
+/// | 0 | done |
+/// | 1 | the source is refused, or a condition has no valid certificate |
 /// | 2 | the words are no command |
 /// | 3, 4, 10 | a file is absent, was not loaded, or is too long |
-/// | 5 | a sink failed |
+/// | 5 | a sink failed, or a file was not saved |
 /// | 6 | the certificate file holds no certificates: its first fault, with its line |
-/// | 7 | no such entry, no argument, or the requires clause is false of it |
+/// | 7 | no such entry, no argument text, or arguments that don't meet the entry |
+/// | 8 | the steps are spent |
 /// | 9 | want of memory |
-///
-/// What a sink took is a front of the text that the end of the call has for it, and all of it unless the status is 5.
+/// | 11 | the turns of the test of the arguments are spent |
+/// | 13 | a condition was found and not certified, or the machine had no step: never seen |
 pub fn run_words<F: Files, O: Sink, E: Sink>(
     alloc: Global,
     words: &[String],
@@ -87,48 +47,92 @@ pub fn run_words<F: Files, O: Sink, E: Sink>(
     out: &mut O,
     err: &mut E,
 ) -> u8
-    ensures runs { IsNoFormat (plain_words words.now) → Runs (plain_words words.now)
+    ensures comes { Comes (words_in words.now)
         (setting (F.told files.old) (F.load_faults files.old) (F.load_faults files.new) (F.misses files.old) (F.misses files.new))
-        result
-        (sinks (O.taken out.old) (O.taken out.new) (O.faults out.old) (O.faults out.new) (E.taken err.old) (E.taken err.new) (E.faults err.old) (E.faults err.new)) }
-    ensures formats { (kind : Kind) (source : List ℕ) → FormatCommand (plain_words words.now) kind source → Formats kind source
-        (setting (F.told files.old) (F.load_faults files.old) (F.load_faults files.new) (F.misses files.old) (F.misses files.new))
+        (saving (F.told files.old (saved_name (command_of (words_in words.now)))) (F.told files.new (saved_name (command_of (words_in words.now)))) (F.save_faults files.old) (F.save_faults files.new))
         result
         (sinks (O.taken out.old) (O.taken out.new) (O.faults out.old) (O.faults out.new) (E.taken err.old) (E.taken err.new) (E.faults err.old) (E.faults err.new)) }
 
-    // No file is changed.
-    ensures save_count { F.save_faults files.new ≡ F.save_faults files.old }
-    ensures kept { (name : List ℕ) → F.told files.new name ≡ F.told files.old name }
+    // No file is changed but the one that `prove` saves.
+    ensures kept { (other : List ℕ) → IsKeptBy (command_of (words_in words.now)) other → F.told files.new other ≡ F.told files.old other }
 {
-    match read_format(words) {
-        Some((kind, source)) => format(alloc, kind, source, files, out, err),
-        None => run_command(alloc, words, files, out, err),
+    match read_words(alloc, words) {
+        Ok(asked) => perform(alloc, asked, files, out, err),
+        Err(WordsFault::Refused) => {
+            let answer = refusal(alloc, 2, String::from_str(alloc, words_refused()));
+            show(&answer, out, err)
+        }
+        Err(WordsFault::NoMemory) => {
+            let answer = no_memory(alloc);
+            show(&answer, out, err)
+        }
     }
 }
 
-// Runs a program, where the words are `run SOURCE CERT NAME ARGS`.
-fn run_command<F: Files, O: Sink, E: Sink>(
+// Does what is asked for.
+fn perform<F: Files, O: Sink, E: Sink>(
     alloc: Global,
-    words: &[String],
+    asked: Words<'_>,
     files: &mut F,
     out: &mut O,
     err: &mut E,
 ) -> u8
-    ensures runs { Runs (plain_words words.now)
+    ensures does { Does (asked_in asked.entry)
         (setting (F.told files.old) (F.load_faults files.old) (F.load_faults files.new) (F.misses files.old) (F.misses files.new))
+        (saving (F.told files.old (saved_name (Some (asked_in asked.entry)))) (F.told files.new (saved_name (Some (asked_in asked.entry)))) (F.save_faults files.old) (F.save_faults files.new))
         result
         (sinks (O.taken out.old) (O.taken out.new) (O.faults out.old) (O.faults out.new) (E.taken err.old) (E.taken err.new) (E.faults err.old) (E.faults err.new)) }
-
-    // No file is changed.
-    ensures save_count { F.save_faults files.new ≡ F.save_faults files.old }
-    ensures kept { (name : List ℕ) → F.told files.new name ≡ F.told files.old name }
+    ensures kept { (other : List ℕ) → IsKeptBy (Some (asked_in asked.entry)) other → F.told files.new other ≡ F.told files.old other }
 {
-    let operands = match read_words(words) {
-        Some(operands) => operands,
-        None => return report(err, WORDS_REFUSED, WORDS_STATUS),
-    };
-    match run(alloc, &operands, files) {
-        Ok(number) => print(alloc, number, out),
-        Err(refusal) => refuse(alloc, &operands, &refusal, err),
+    match asked {
+        Words::Check {
+            source,
+            certificates,
+            budget,
+        } => {
+            let answer = check(alloc, source, certificates, budget, files);
+            show(&answer, out, err)
+        }
+        Words::Run {
+            source,
+            certificates,
+            name,
+            arguments,
+            budget,
+            steps,
+            stats,
+        } => match launch_file(alloc, source, certificates, name, arguments, budget, files) {
+            Ok(launch) => run(alloc, &launch, steps, stats, out, err),
+            Err(answer) => show(&answer, out, err),
+        },
+        Words::Prove {
+            source,
+            output,
+            budget,
+        } => match prove_file(alloc, source, budget, files) {
+            Ok(proof) => save(alloc, output, &proof, files, out, err),
+            Err(answer) => show(&answer, out, err),
+        },
+        Words::Conds { source } => {
+            let answer = text_answer(alloc, Text::Conditions, source, files);
+            show(&answer, out, err)
+        }
+        Words::Fmt { source } => {
+            let answer = text_answer(alloc, Text::Layout, source, files);
+            show(&answer, out, err)
+        }
+        Words::Dis { source } => {
+            let answer = text_answer(alloc, Text::Listing, source, files);
+            show(&answer, out, err)
+        }
+        Words::Big {
+            functions,
+            seed,
+            budget,
+            steps,
+        } => {
+            let answer = large(alloc, functions, seed, budget, steps, files);
+            show(&answer, out, err)
+        }
     }
 }

@@ -48,7 +48,7 @@ pub const ABS_CODE: &str = "routine 0
 ";
 
 /// The files of each row.
-pub const FILES: [(&str, &str); 27] = [
+pub const FILES: [(&str, &str); 30] = [
     ("forms.wy", FORMS),
     (
         "order.wy",
@@ -106,4 +106,16 @@ pub const FILES: [(&str, &str); 27] = [
         "wycert 1\ncond 1\nprod 4 4 mul(num(x.0), num(x.0))\nsum 1 2 1 5\nend\n",
     ),
     ("behind.cert", "wycert 1\nend\n\n"),
+    (
+        "hello.wy",
+        "method hello(int n) -> (int r):\n    print(\"hi \")\n    print_int(n)\n    print(\"\\n\")\n    return n\nmethod six():\n    print(\"abcdef\")\n",
+    ),
+    (
+        "share.wy",
+        "type T is {T[] kids}\nfunction keep(int[] xs) -> (int[] r)\nrequires |xs| > 0:\n    int[] ys = xs\n    ys[0] = 9\n    return xs\nfunction fill(int n) -> (int[] r)\nrequires n >= 0\nrequires n <= 1000000\nensures |r| == n:\n    int[] a = [0; n]\n    int i = 0\n    while i < n\n    where i >= 0\n    where |a| == n:\n        a[i] = i\n        i = i + 1\n    return a\nfunction nest(T t) -> (T r):\n    t.kids = [t]\n    return t\n",
+    ),
+    (
+        "loop.wy",
+        "function f(int x) -> (int r)\nensures r < r:\n    return f(x)\nfunction slow(int n) -> (int r)\nrequires all { i in 0..n | i >= 0 }:\n    return 0\n",
+    ),
 ];

@@ -1,0 +1,2 @@
+-- definitions of public contracts
+pub mod Certificates

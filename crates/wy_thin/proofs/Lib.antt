@@ -1,9 +1,0 @@
-pub mod UnfoldedLemmas
-pub mod ScanningLemmas
-pub mod DigitLemmas
-pub mod SourceLemmas
-pub mod SpellingLemmas
-pub mod ArgumentLemmas
-pub mod ConditionLemmas
-pub mod OffsetLemmas
-pub mod SoundnessLemmas

@@ -1,6 +1,0 @@
-use Rattle.wy_thin.specs.Seen.{seen}
-use Rattle.wy_thin.proofs.ConditionLemmas.{least_found}
-use Rattle.wy_thin.proofs.conditions.least_cond.Goals as goal
-
-pub returns-clause-value : goal.returns-clause-value
-returns-clause-value c = least_found c.args._terms.now (seen c.args.program.now) c.args.a c.args.g _ c.cond.result c.requires.assumed c.requires.goals c.sign_offset.ensures.value c.cond.ensures

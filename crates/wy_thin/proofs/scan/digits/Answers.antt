@@ -1,7 +1,0 @@
-use Rattle.std.proofs.Common.{arith}
-use Rattle.wy_thin.specs.Thin.{is_digit}
-use Rattle.wy_thin.proofs.ScanningLemmas.{run_taken}
-use Rattle.wy_thin.proofs.scan.digits.Goals as goal
-
-pub returns-clause-run : goal.returns-clause-run
-returns-clause-run c = run_taken is_digit c.args.most c.digit_count-count.result c.args.bytes.now c.split_at.result.0.now c.split_at.ensures.front c.digit_count-count.ensures.value (omega arith) (omega arith)

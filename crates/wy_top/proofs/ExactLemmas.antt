@@ -1,0 +1,92 @@
+-- Why nothing else comes than what is due.
+use Rattle.std.proofs.Common.{◌≡◌, ◌⊎◌, ◌∙◌, ℕ, List, Bool, Ok, Err, inl, inr, sym, ap, subst}
+use Rattle.wy_answers.specs.Answers.{refused, no_memory}
+use Rattle.wy_answers.specs.Showing.{ShowsFront, ShowsWhole, Shown, Sinks}
+use Rattle.wy_answers.specs.Steps.{Answers, Came, EndsFree, Gives, IsFree, IsOutside, IsTold, Sense, Setting, answer_in, due, failed, from_outside, memory, stuck, uncertified}
+use Rattle.wy_answers.specs.declared.answer.Answer.{Answer}
+use Rattle.wy_words.specs.CommandLine.{Asked, check, run, prove, conds, fmt, dis, big}
+use Rattle.wy_top.specs.Exact.{AnswersExactly, DoesExactly, IsElse, RunsExactly, ShowsDue}
+use Rattle.wy_top.specs.Runs.{Ran}
+use Rattle.wy_top.specs.Saves.{Saves, Saving, whole, failed as save_failed, no_memory as save_lacks_memory}
+use Rattle.wy_top.specs.Statement.{IsAnswered, IsProved, IsRun, ShowsProof, ShowsRun}
+use Rattle.wy_top.specs.declared.launching.Launch.{Launch}
+
+status_of : Answer → ℕ
+status_of a = a.status
+
+-- ---- the status of a free answer
+
+by_outside : (s : Setting) (a : Answer) → IsOutside s a → IsElse a.status
+unfolding status_of
+by_outside s a (memory e) = inr (inr (inl (ap status_of e)))
+by_outside s a (failed name e rose) = inl (ap status_of e)
+
+by_free : (s : Setting) (a : Answer) → IsFree s a → IsElse a.status
+unfolding status_of
+by_free s a (from_outside o) = by_outside s a o
+by_free s a (uncertified e) = inr (inr (inr (ap status_of e)))
+by_free s a (stuck e) = inr (inr (inr (ap status_of e)))
+
+-- a free answer that is shown
+free_shown : (s : Setting) (a : Answer) (status : ℕ) (k : Sinks) → IsFree s a → Shown a status k → IsElse status
+free_shown s a status k free (inl w) = subst IsElse (sym w.answer) (by_free s a free)
+free_shown s a status k free (inr f) = inr (inl f.answer)
+
+-- an answer that is shown, whole or not
+whole_or : (a : Answer) (status : ℕ) (k : Sinks) → Shown a status k → ShowsWhole a status k ⊎ IsElse status
+whole_or a status k (inl w) = inl w
+whole_or a status k (inr f) = inr (inr (inl f.answer))
+
+-- ---- commands that answer
+
+by_last : (s : Setting) (last other : Came Answer) (status : ℕ) (k : Sinks) → Shown (answer_in last) status k → (other ≡ last) ⊎ EndsFree s last → ShowsWhole (answer_in other) status k ⊎ IsElse status
+by_last s last other status k shown (inl e) = whole_or (answer_in other) status k (subst (λ (r : Came Answer). Shown (answer_in r) status k) (sym e) shown)
+by_last s (Ok a) other status k shown (inr free) = absurd free
+by_last s (Err a) other status k shown (inr free) = inr (free_shown s a status k free shown)
+
+answered : (s : Setting) (step : Sense → Came Answer → Type 0) (status : ℕ) (k : Sinks) → IsAnswered s step status k → AnswersExactly s step status k
+answered s step status k h told other is_due =
+    by_last s h.answers.last other status k (subst (λ (a : Answer). Shown a status k) h.answers.is h.shown) (h.answers.gives.only told other is_due)
+
+-- ---- the command `run`
+
+run_or : (steps : ℕ) (stats : Bool) (status : ℕ) (k : Sinks) (r : Came Launch) → ShowsRun steps stats status k r → ShowsDue steps stats status k r ⊎ IsElse status
+run_or steps stats status k (Ok l) shown = inl shown
+run_or steps stats status k (Err a) shown = whole_or a status k shown
+
+by_launch : (s : Setting) (steps : ℕ) (stats : Bool) (status : ℕ) (k : Sinks) (launch other : Came Launch) → ShowsRun steps stats status k launch → (other ≡ launch) ⊎ EndsFree s launch → ShowsDue steps stats status k other ⊎ IsElse status
+by_launch s steps stats status k launch other shown (inl e) = run_or steps stats status k other (subst (ShowsRun steps stats status k) (sym e) shown)
+by_launch s steps stats status k (Ok l) other shown (inr free) = absurd free
+by_launch s steps stats status k (Err a) other shown (inr free) = inr (free_shown s a status k free shown)
+
+-- ---- the command `prove`
+
+save_or : (name saved : List ℕ) (a : Answer) (v : Saving) (status : ℕ) (k : Sinks) → Saves name saved a v status k → ShowsWhole a status k ⊎ IsElse status
+save_or name saved a v status k (whole is shown) = whole_or a status k shown
+save_or name saved a v status k (save_failed rose lost (inl (inl w))) = inr (inr (inl w.answer))
+save_or name saved a v status k (save_failed rose lost (inl (inr f))) = inr (inr (inl f.answer))
+save_or name saved a v status k (save_failed rose lost (inr (inl w))) = inr (inr (inr (inl w.answer)))
+save_or name saved a v status k (save_failed rose lost (inr (inr f))) = inr (inr (inl f.answer))
+save_or name saved a v status k (save_lacks_memory same (inl w)) = inr (inr (inr (inl w.answer)))
+save_or name saved a v status k (save_lacks_memory same (inr f)) = inr (inr (inl f.answer))
+
+proof_or : (s : Setting) (source output : List ℕ) (budget : ℕ) (v : Saving) (status : ℕ) (k : Sinks) (r : Came Answer) → ShowsProof s source output budget v status k r → ShowsWhole (answer_in r) status k ⊎ IsElse status
+proof_or s source output budget v status k (Ok a) h = save_or output h.0 a v status k h.2
+proof_or s source output budget v status k (Err a) h = whole_or a status k h.0
+
+by_proof : (s : Setting) (source output : List ℕ) (budget : ℕ) (v : Saving) (status : ℕ) (k : Sinks) (proof other : Came Answer) → ShowsProof s source output budget v status k proof → (other ≡ proof) ⊎ EndsFree s proof
+    → ShowsWhole (answer_in other) status k ⊎ IsElse status
+by_proof s source output budget v status k proof other shown (inl e) = proof_or s source output budget v status k other (subst (ShowsProof s source output budget v status k) (sym e) shown)
+by_proof s source output budget v status k (Ok a) other shown (inr free) = absurd free
+by_proof s source output budget v status k (Err a) other shown (inr free) = inr (free_shown s a status k free shown.0)
+
+-- ---- all commands
+
+pub does_exactly : DoesExactly
+does_exactly (check source cert budget) s v status k h = answered s _ status k h
+does_exactly (run source cert name arguments budget steps stats) s v status k h = λ told other is_due. by_launch s steps stats status k h.launch other h.shown (h.gives.only told other is_due)
+does_exactly (prove source output budget) s v status k h = λ told other is_due. by_proof s source output budget v status k h.proof other h.shown (h.gives.only told other is_due)
+does_exactly (conds source) s v status k h = answered s _ status k h
+does_exactly (fmt source) s v status k h = answered s _ status k h
+does_exactly (dis source) s v status k h = answered s _ status k h
+does_exactly (big functions seed budget steps) s v status k h = answered s _ status k h

@@ -1,0 +1,80 @@
+-- The steps of `big`.
+use Rattle.std.proofs.Common.{◌≡◌, ◌≤◌, ◌<◌, ◌⊎◌, ◌∙◌, ◌++◌, ℕ, List, [], length, Bool, Option, Some, None, Ok, Err, inl, inr, arith, refl, sym, ap}
+use Rattle.wy_answers.specs.Answers.{refused, written as writes, no_memory, IsRefusal}
+use Rattle.wy_answers.specs.Loading.{source_limit}
+use Rattle.wy_answers.specs.Steps.{Setting, Came, Gives, Answers, due, stated}
+use Rattle.wy_answers.specs.Texts.{of_file}
+use Rattle.wy_answers.specs.declared.answer.Answer.{Answer}
+use Rattle.wy_answers.proofs.StepLemmas.{value_gives, refusal_gives}
+use Rattle.wy_answers.proofs.AnswerLemmas.{last_answers, memory_answers}
+use Rattle.wy_big.specs.Source.{source_of}
+use Rattle.wy_mach.specs.Running.{IsStuck, Spends}
+use Rattle.wy_report.specs.Lines.{steps_spent}
+use Rattle.wy_running.specs.Running.{Finished, written}
+use Rattle.wy_step.specs.Step as step
+use Rattle.wy_step.specs.Step.{State, Ended, Frame, Caller}
+use Rattle.wy_value.specs.Datum.{Datum}
+use Rattle.wy_top.specs.Large.{IsLine, finishes_in, head, large_name, makes, makes_one}
+use Rattle.wy_top.specs.declared.launching.Launch.{Launch}
+use Rattle.std.specs.Prelude.{codes}
+
+-- ---- the source
+
+only_made : (functions seed : ℕ) (bytes : List ℕ) → bytes ≡ source_of functions seed → length bytes ≤ source_limit → (other : Came (List ℕ)) → makes_one functions seed other → other ≡ Ok bytes
+only_made functions seed bytes e within (Ok b) h = ap (λ (x : List ℕ). Ok x) (h.0 ∙ sym e)
+only_made functions seed bytes e within (Err a) h = let same = ap (λ (x : List ℕ). length x) e in let long = h.0 in absurd (omega (arith, same, long, within))
+
+pub makes_value : (s : Setting) (functions seed : ℕ) (bytes : List ℕ) → bytes ≡ source_of functions seed → length bytes ≤ source_limit → Gives s (makes functions seed) (Ok bytes)
+makes_value s functions seed bytes e within = value_gives s (makes functions seed) bytes (e, within) (λ told other h. only_made functions seed bytes e within other h)
+
+only_long : (functions seed : ℕ) → source_limit < length (source_of functions seed) → (other : Came (List ℕ)) → makes_one functions seed other → other ≡ Err (refused 10 (of_file large_name (codes "too long")))
+only_long functions seed long (Ok b) h = let same = ap (λ (x : List ℕ). length x) h.0 in let within = h.1 in absurd (omega (arith, same, long, within))
+only_long functions seed long (Err a) h = ap (λ (b : Answer). Err b) h.1
+
+pub makes_long : (s : Setting) (functions seed : ℕ) (a : Answer) → source_limit < length (source_of functions seed) → IsRefusal 10 (of_file large_name (codes "too long")) a → Gives s (makes functions seed) (Err a)
+makes_long s functions seed a long refusal =
+    refusal_gives s (makes functions seed) 10 (of_file large_name (codes "too long")) a refusal (long, refl) (λ told other h. only_long functions seed long other h)
+
+-- ---- the run
+
+bytes_or : List ℕ → Option (List ℕ) → List ℕ
+bytes_or d None = d
+bytes_or d (Some x) = x
+
+same_bytes : (wrote text : List ℕ) → Some wrote ≡ Some text → wrote ≡ text
+unfolding bytes_or
+same_bytes wrote text e = ap (bytes_or text) e
+
+by_line : (s : Setting) (functions conditions : ℕ) (l : Launch) (v : Datum) (output wrote : List ℕ) (a : Answer) → wrote ≡ written l.start.has_result output v → IsLine functions conditions wrote a
+    → Answers s (finishes_in functions conditions l (Ended v output)) a
+by_line s functions conditions l v output wrote a e (inl is) =
+    let whole : a ≡ writes (head functions conditions ++ written l.start.has_result output v) = is ∙ ap (λ (w : List ℕ). writes (head functions conditions ++ w)) e in
+    last_answers s (finishes_in functions conditions l (Ended v output)) a
+    (value_gives s (finishes_in functions conditions l (Ended v output)) a (ap (λ (b : Answer). Ok b) whole) (λ told other h. h ∙ ap (λ (b : Answer). Ok b) (sym whole)))
+by_line s functions conditions l v output wrote a e (inr is) = memory_answers s (finishes_in functions conditions l (Ended v output)) a is
+
+-- of what has no step nothing is said
+stuck_answers : (s : Setting) (functions conditions : ℕ) (l : Launch) (a : Answer) → Answers s (finishes_in functions conditions l step.Stuck) a
+stuck_answers s functions conditions l a = last_answers s (finishes_in functions conditions l step.Stuck) a (value_gives s (finishes_in functions conditions l step.Stuck) a tt (λ told other h. absurd h))
+
+pub done_answers : (s : Setting) (functions conditions : ℕ) (l : Launch) (st : State) (copies nodes : ℕ) (wrote : List ℕ) (a : Answer) → Finished l.start.has_result copies nodes (Some []) (Some wrote) st
+    → IsLine functions conditions wrote a → Answers s (finishes_in functions conditions l st) a
+done_answers s functions conditions l (step.Runs fr callers output) copies nodes wrote a h line = absurd h
+done_answers s functions conditions l (Ended v output) copies nodes wrote a h line = by_line s functions conditions l v output wrote a (same_bytes wrote (written l.start.has_result output v) h.1) line
+done_answers s functions conditions l step.Stuck copies nodes wrote a h line = stuck_answers s functions conditions l a
+
+by_steps : (s : Setting) (functions conditions : ℕ) (l : Launch) (fr : Frame) (callers : List Caller) (output : List ℕ) (a : Answer) → IsRefusal 8 steps_spent a → Answers s (finishes_in functions conditions l (step.Runs fr callers output)) a
+by_steps s functions conditions l fr callers output a (inl e) =
+    last_answers s (finishes_in functions conditions l (step.Runs fr callers output)) a
+    (value_gives s (finishes_in functions conditions l (step.Runs fr callers output)) a (ap (λ (b : Answer). Ok b) e) (λ told other h. h ∙ ap (λ (b : Answer). Ok b) (sym e)))
+by_steps s functions conditions l fr callers output a (inr e) = memory_answers s (finishes_in functions conditions l (step.Runs fr callers output)) a e
+
+pub spent_answers : (s : Setting) (functions conditions : ℕ) (l : Launch) (st : State) (before after : Option (List ℕ)) (a : Answer) → Spends before after st → IsRefusal 8 steps_spent a → Answers s (finishes_in functions conditions l st) a
+spent_answers s functions conditions l (step.Runs fr callers output) before after a h refusal = by_steps s functions conditions l fr callers output a refusal
+spent_answers s functions conditions l (Ended v output) before after a h refusal = absurd h
+spent_answers s functions conditions l step.Stuck before after a h refusal = stuck_answers s functions conditions l a
+
+pub lost_answers : (s : Setting) (functions conditions : ℕ) (l : Launch) (st : State) (a : Answer) → IsStuck st → Answers s (finishes_in functions conditions l st) a
+lost_answers s functions conditions l (step.Runs fr callers output) a h = absurd h
+lost_answers s functions conditions l (Ended v output) a h = absurd h
+lost_answers s functions conditions l step.Stuck a h = stuck_answers s functions conditions l a

@@ -1,0 +1,52 @@
+-- What do the commands come to that write a text of a source?
+use Rattle.std.specs.Prelude.{◌≡◌, ℕ, List}
+use Rattle.wy_acceptance.specs.Programs.{lists}
+use Rattle.wy_answers.specs.Answers.{written}
+use Rattle.wy_answers.specs.Calls.{Faults, called}
+use Rattle.wy_answers.specs.Loading.{loaded, source_limit}
+use Rattle.wy_answers.specs.Steps.{Came, Sense, stated, due, Setting, and_then, both, done}
+use Rattle.wy_answers.specs.declared.answer.Answer.{Answer}
+use Rattle.wy_front.specs.Places.{place_of}
+use Rattle.wy_report.specs.Lines.{source_fault}
+use Rattle.wy_source.specs.Refusals.{is_no_memory, offset, word}
+use Rattle.wy_source.specs.declared.refusal.Refusal.{Refusal}
+use Rattle.wy_texts.specs.Again.{IsAgain}
+use Rattle.wy_texts.specs.Texts.{IsDue, IsRefused, IsText}
+use Rattle.wy_texts.specs.declared.kind.Kind.{Kind}
+use Rattle.wy_texts.specs.declared.kind.Kind.TheVariants.{Layout, Listing}
+use Rattle.wy_top.specs.declared.texts.Text.{Text}
+use Rattle.wy_top.specs.declared.texts.Text.TheVariants as kind_of
+
+-- the line of a fault of the source with these bytes
+abbrev pub fault_lines : List ℕ → List ℕ → Refusal → List ℕ
+fault_lines name bytes f = source_fault name (place_of bytes (offset f)).0 (place_of bytes (offset f)).1 (word f)
+
+abbrev pub source_faults : List ℕ → List ℕ → Faults Refusal
+source_faults name bytes = record { lacks_memory = is_no_memory; status = λ f. 1; lines = fault_lines name bytes }
+
+abbrev pub is_faulted : Kind → List ℕ → Sense → Refusal → Type 0
+is_faulted kind bytes stated f = IsRefused kind bytes f
+is_faulted kind bytes due f = IsDue kind bytes f
+
+-- the source has this text; and of a layout, that it is read again as the same program, places aside, and is its own layout
+abbrev pub has_text : Kind → List ℕ → Sense → List ℕ → Type 0
+has_text kind bytes stated t = IsText kind bytes t × IsAgain kind bytes t
+has_text kind bytes due t = IsText kind bytes t
+
+-- the layout of the program or the listing of its code, or the line of the first fault
+abbrev pub program_text : Kind → List ℕ → List ℕ → Sense → Came (List ℕ) → Type 0
+program_text kind name bytes = called (has_text kind bytes) (source_faults name bytes) (is_faulted kind bytes)
+
+-- the text of this kind
+abbrev pub text : Text → List ℕ → List ℕ → Sense → Came (List ℕ) → Type 0
+text kind_of.Layout name bytes = program_text Layout name bytes
+text kind_of.Listing name bytes = program_text Listing name bytes
+text kind_of.Conditions name bytes = lists name bytes
+
+-- that of the source in a file
+abbrev pub text_in : Setting → Text → List ℕ → Sense → Came (List ℕ) → Type 0
+text_in s kind name = and_then (both (loaded s name source_limit)) (λ bytes. text kind name bytes)
+
+-- it is written
+abbrev pub text_steps : Setting → Text → List ℕ → Sense → Came Answer → Type 0
+text_steps s kind name = and_then (text_in s kind name) (λ t. done (written t))

@@ -1,0 +1,101 @@
+//! The commands that write a text of a source: `fmt`, `dis` and `conds`.
+ghost use Rattle.std.specs.Prelude.{◌≡◌, ◌≤◌, ◌<◌, ◌^◌, ℕ, List, length, IfOk};
+ghost use Rattle.std.specs.String.{string_bytes};
+ghost use Rattle.wy_answers.specs.Calls.{AnswersFault};
+ghost use Rattle.wy_answers.specs.Steps.{Answers, During, Gives, Setting};
+ghost use Rattle.wy_source.specs.Refusals as refusals;
+ghost use Rattle.wy_top.specs.Texts as spec;
+
+use std::alloc::{AllocError, Global};
+use wy_acceptance::listed;
+use wy_answers::{Answer, SOURCE_LIMIT, load, no_memory, refusal};
+use wy_data::Bytes;
+use wy_front::locate;
+use wy_port::Files;
+use wy_report::source_fault;
+use wy_source::{Refusal, is_no_memory, offset, word};
+use wy_texts::{Kind, text_of};
+
+/// A text of a source.
+#[derive(Clone, Copy, Debug)]
+pub enum Text {
+    /// The program in its one layout.
+    Layout,
+    /// The listing of the program's code.
+    Listing,
+    /// The list of the conditions that the program owes.
+    Conditions,
+}
+
+// The line of a fault, at its place in the source.
+fn fault_line(alloc: Global, name: &str, bytes: &[u8], fault: Refusal) -> Result<String, AllocError>
+    ensures value { IfOk result (λ s. string_bytes s ≡ spec.fault_lines name.now bytes.now fault) }
+{
+    let place = locate(bytes, offset(fault));
+    source_fault(alloc, name, place.line, place.column, word(fault))
+}
+
+// The answer to a fault.
+fn fault_answer(alloc: Global, name: &str, bytes: &[u8], fault: Refusal) -> Answer
+    ensures value { AnswersFault (refusals.is_no_memory fault) 1 (spec.fault_lines name.now bytes.now fault) result }
+{
+    if is_no_memory(fault) {
+        return no_memory(alloc);
+    }
+    refusal(alloc, 1, fault_line(alloc, name, bytes, fault))
+}
+
+// The text of the program, or the answer with the line of the first fault.
+fn program_text(alloc: Global, kind: Kind, name: &str, bytes: &[u8]) -> Result<Bytes, Answer>
+    requires { length bytes.now < 2 ^ 32 }
+    ensures gives { (s : Setting) → Gives s (spec.program_text kind name.now bytes.now) result }
+{
+    match text_of(alloc, kind, bytes) {
+        Ok(text) => Ok(Bytes::new(text)),
+        Err(fault) => Err(fault_answer(alloc, name, bytes, fault)),
+    }
+}
+
+// The text of this kind, or the answer of why there is none.
+fn read_text(alloc: Global, kind: Text, name: &str, bytes: &[u8]) -> Result<Bytes, Answer>
+    requires { length bytes.now < 2 ^ 32 }
+    ensures gives { (s : Setting) → Gives s (spec.text kind name.now bytes.now) result }
+{
+    match kind {
+        Text::Layout => program_text(alloc, Kind::Layout, name, bytes),
+        Text::Listing => program_text(alloc, Kind::Listing, name, bytes),
+        Text::Conditions => listed(alloc, name, bytes),
+    }
+}
+
+// The text of the source in this file.
+fn text_in<F: Files>(alloc: Global, kind: Text, name: &str, files: &mut F) -> Result<Bytes, Answer>
+    ensures gives { During (F.told files.old) (F.load_faults files.old) (F.load_faults files.new) (F.misses files.old) (F.misses files.new) (λ s. Gives s (spec.text_in s kind name.now) result) }
+    ensures kept { (other : List ℕ) → F.told files.new other ≡ F.told files.old other }
+    ensures load_count { F.load_faults files.old ≤ F.load_faults files.new }
+    ensures miss_count { F.misses files.old ≤ F.misses files.new }
+    ensures save_count { F.save_faults files.new ≡ F.save_faults files.old }
+{
+    match load(alloc, name, SOURCE_LIMIT, files) {
+        Ok(bytes) => read_text(alloc, kind, name, bytes.as_slice()),
+        Err(answer) => Err(answer),
+    }
+}
+
+/// The answer of the command that writes this text of the source in a file: the text, or why the source has none.
+pub fn text_answer<F: Files>(alloc: Global, kind: Text, name: &str, files: &mut F) -> Answer
+    ensures answers { During (F.told files.old) (F.load_faults files.old) (F.load_faults files.new) (F.misses files.old) (F.misses files.new) (λ s. Answers s (spec.text_steps s kind name.now) result) }
+    ensures kept { (other : List ℕ) → F.told files.new other ≡ F.told files.old other }
+    ensures load_count { F.load_faults files.old ≤ F.load_faults files.new }
+    ensures miss_count { F.misses files.old ≤ F.misses files.new }
+    ensures save_count { F.save_faults files.new ≡ F.save_faults files.old }
+{
+    match text_in(alloc, kind, name, files) {
+        Ok(text) => Answer {
+            status: 0,
+            out: text,
+            err: Bytes::new(Vec::new(alloc)),
+        },
+        Err(answer) => answer,
+    }
+}

@@ -1,0 +1,6 @@
+-- verdicts, one by one
+pub mod JudgedLemmas
+-- counts
+pub mod CountLemmas
+-- the laws
+pub mod ShownLemmas
