@@ -1,5 +1,5 @@
 -- What a run that started shows.
-use Rattle.std.proofs.Common.{◌≡◌, ◌≤◌, ◌⊎◌, ◌∙◌, ◌++◌, ℕ, List, [], length, take, Bool, true, false, Option, Some, None, inl, inr, arith, refl, sym, ap, subst}
+use Rattle.std.proofs.Common.{◌≡◌, ◌≤◌, ◌⊎◌, ◌∙◌, ◌++◌, ◌+◌, ℕ, List, [], length, take, Bool, true, false, Option, Some, None, inl, inr, arith, refl, sym, ap, subst}
 use Rattle.std.proofs.Math.Seq.{take-append-add, take-length}
 use Rattle.std.proofs.lemmas.List.{append-nil, append_assoc, length-append}
 use Rattle.wy_answers.specs.Showing.{Sinks, sinks}

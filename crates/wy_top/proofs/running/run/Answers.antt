@@ -6,17 +6,17 @@ use Rattle.wy_top.specs.Runs.{no_memory, sink_failed}
 use Rattle.wy_top.proofs.RunLemmas.{ran_ends, writes_nothing}
 use Rattle.wy_top.proofs.running.run.Goals as goal
 
-pub returns-in-Err-clause-ran : goal.returns-in-Err-clause-ran
-returns-in-Err-clause-ran g c =
+pub returns-in-Err : goal.returns-in-Err
+returns-in-Err g c =
     let l = c.args.launch.now in
     let took = subst (λ (t : List ℕ). TookFront (g.E.Sink.taken c.args.err.now) (g.E.Sink.taken c.write_whole.new.sink) t) (c.as_slice.ensures.value ∙ sym (append-nil l.lines)) c.in-Err.ensures.front in
-    sink_failed refl (inr c.in-Err.ensures.cause) (writes_nothing l.start.has_result (state_of l.start c.args.steps) (g.O.Sink.taken c.args.out.now)) (record { more = []; took = took })
+    record { ran = sink_failed refl (inr c.in-Err.ensures.cause) (writes_nothing l.start.has_result (state_of l.start c.args.steps) (g.O.Sink.taken c.args.out.now)) (record { more = []; took = took }) }
 
-pub returns-in-Ok-run_start-clause-ran : goal.returns-in-Ok-run_start-clause-ran
-returns-in-Ok-run_start-clause-ran g c =
+pub returns-in-Ok-run_start : goal.returns-in-Ok-run_start
+returns-in-Ok-run_start g c =
     let l = c.args.launch.now in
     let lines = c.in-Ok.ensures.taken ∙ ap (with_taken (g.E.Sink.taken c.args.err.now)) c.as_slice.ensures.value in
-    ran_ends (record {
+    record { ran = ran_ends (record {
       lines = l.lines;
       wanted = l.start.has_result;
       asked = c.args.asked;
@@ -31,10 +31,10 @@ returns-in-Ok-run_start-clause-ran g c =
       err_f = g.E.Sink.faults c.args.err.now;
       err_g = g.E.Sink.faults c.write_whole.new.sink;
       err_h = g.E.Sink.faults c.ended.new.err;
-    }) c.in-Ok-run_start.end c.ended.result c.in-Ok.ensures.count c.ended.ensures.count lines c.in-Ok-run_start.ensures.runs c.ended.ensures.ends
+    }) c.in-Ok-run_start.end c.ended.result c.in-Ok.ensures.count c.ended.ensures.count lines c.in-Ok-run_start.ensures.runs c.ended.ensures.ends }
 
-pub returns-in-Err-run_start-clause-ran : goal.returns-in-Err-run_start-clause-ran
-returns-in-Err-run_start-clause-ran g c =
+pub returns-in-Err-run_start : goal.returns-in-Err-run_start
+returns-in-Err-run_start g c =
     let l = c.args.launch.now in
     let lines = c.in-Ok.ensures.taken ∙ ap (with_taken (g.E.Sink.taken c.args.err.now)) c.as_slice.ensures.value in
-    no_memory refl c.in-Err-run_start.ensures.no_memory lines
+    record { ran = no_memory refl c.in-Err-run_start.ensures.no_memory lines }
