@@ -37,4 +37,4 @@ returns-in-Err-Refused-clause-comes g c =
 
 pub returns-in-Err-NoMemory-clause-comes : goal.returns-in-Err-NoMemory-clause-comes
 returns-in-Err-NoMemory-clause-comes g c =
-    inr (subst (λ (a : Answer). Shown a c.show-in-Err-NoMemory.result _) c.no_memory-answer.ensures.value c.show-in-Err-NoMemory.ensures.shown)
+    inr (subst (λ (a : Answer). Shown a c.show-in-Err-NoMemory.result (sinks (g.O.Sink.taken c.args.out.now) (g.O.Sink.taken c.show-in-Err-NoMemory.new.out) (g.O.Sink.faults c.args.out.now) (g.O.Sink.faults c.show-in-Err-NoMemory.new.out) (g.E.Sink.taken c.args.err.now) (g.E.Sink.taken c.show-in-Err-NoMemory.new.err) (g.E.Sink.faults c.args.err.now) (g.E.Sink.faults c.show-in-Err-NoMemory.new.err))) c.no_memory-answer.ensures.value c.show-in-Err-NoMemory.ensures.shown)

@@ -13,7 +13,7 @@ pub returns-then-len-gt-SOURCE_LIMIT-clause-gives : goal.returns-then-len-gt-SOU
 returns-then-len-gt-SOURCE_LIMIT-clause-gives c = λ s.
     let long : source_limit < length c.in-Ok.source.items = search rules in
     let same : length c.in-Ok.source.items ≡ length (source_of c.args.functions c.args.seed) = ap (λ (b : List ℕ). length b) c.in-Ok.ensures.value in
-    makes_long s c.args.functions c.args.seed c.refusal.result (omega (arith, long, same)) (c.refusal.ensures.value _ c.from_str.ensures.value)
+    makes_long s c.args.functions c.args.seed c.refusal.result (omega (arith, long, same)) (c.refusal.ensures.value _ c.from_str.ensures.ok)
 
 pub returns-clause-gives : goal.returns-clause-gives
 returns-clause-gives c = λ s.
