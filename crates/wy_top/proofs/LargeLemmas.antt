@@ -1,8 +1,8 @@
 -- The steps of `big`.
-use Rattle.std.proofs.Common.{◌≡◌, ◌≤◌, ◌<◌, ◌⊎◌, ◌∙◌, ◌++◌, ℕ, List, [], length, Bool, Option, Some, None, Ok, Err, inl, inr, arith, refl, sym, ap, subst}
+use Rattle.std.proofs.Common.{◌≡◌, ◌≤◌, ◌<◌, ◌∙◌, ◌++◌, ℕ, List, [], length, Option, Some, None, Ok, Err, inl, inr, arith, refl, sym, ap, subst}
 use Rattle.wy_answers.specs.Answers.{refused, written as writes, no_memory, IsRefusal}
 use Rattle.wy_answers.specs.Loading.{source_limit}
-use Rattle.wy_answers.specs.Steps.{Setting, Came, Gives, Answers, due, stated}
+use Rattle.wy_answers.specs.Steps.{Setting, Came, Gives, Answers}
 use Rattle.wy_answers.specs.Texts.{of_file}
 use Rattle.wy_answers.specs.declared.answer.Answer.{Answer}
 use Rattle.wy_answers.proofs.StepLemmas.{value_gives, refusal_gives}

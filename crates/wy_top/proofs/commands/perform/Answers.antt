@@ -1,4 +1,4 @@
-use Rattle.std.proofs.Common.{◌≡◌, ◌≤◌, ◌∙◌, ℕ, List, Some, Ok, Err, refl, sym, subst, arith}
+use Rattle.std.proofs.Common.{◌∙◌, Some, Ok, Err, subst}
 use Rattle.wy_answers.specs.Steps.{setting}
 use Rattle.wy_answers.proofs.DuringLemmas.{during_itself}
 use Rattle.wy_top.proofs.SaveLemmas.{during_before, saves_from}
@@ -50,9 +50,12 @@ returns-in-Ok-prove_file-clause-does g c =
     rw c.in-Prove.is (record {
       proof = Ok a;
       gives = c.in-Ok-prove_file.ensures.gives s during;
-      shown = (c.in-Ok-prove_file.proof.saved, c.in-Ok-prove_file.ensures.file s during,
-          saves_from c.in-Prove.output.now c.in-Ok-prove_file.proof.saved a (g.F.Files.told c.args.files.now c.in-Prove.output.now) _ _ (g.F.Files.save_faults c.args.files.now) _ _ _ _
-          (c.in-Ok-prove_file.ensures.kept c.in-Prove.output.now) c.in-Ok-prove_file.ensures.save_count c.save.ensures.saves);
+      shown = (
+        c.in-Ok-prove_file.proof.saved,
+        c.in-Ok-prove_file.ensures.file s during,
+        saves_from c.in-Prove.output.now c.in-Ok-prove_file.proof.saved a (g.F.Files.told c.args.files.now c.in-Prove.output.now) _ _ (g.F.Files.save_faults c.args.files.now) _ _ _ _
+            (c.in-Ok-prove_file.ensures.kept c.in-Prove.output.now) c.in-Ok-prove_file.ensures.save_count c.save.ensures.saves,
+      );
     })
 
 pub returns-in-Ok-prove_file-clause-kept : goal.returns-in-Ok-prove_file-clause-kept

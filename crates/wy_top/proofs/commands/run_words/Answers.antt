@@ -1,13 +1,13 @@
-use Rattle.std.proofs.Common.{◌≡◌, ℕ, List, Option, Some, None, inl, inr, refl, sym, subst}
+use Rattle.std.proofs.Common.{◌≡◌, ℕ, List, Option, None, inl, inr, sym, subst}
 use Rattle.std.specs.Prelude.{IfOk}
 use Rattle.std.specs.String.{string_bytes}
-use Rattle.wy_answers.specs.Answers.{IsRefusal, no_memory, refused}
+use Rattle.wy_answers.specs.Answers.{IsRefusal}
 use Rattle.wy_answers.specs.Showing.{Shown, Sinks, sinks}
 use Rattle.wy_answers.specs.Steps.{Setting, setting}
 use Rattle.wy_answers.specs.declared.answer.Answer.{Answer}
 use Rattle.wy_report.specs.Lines.{words_refused}
 use Rattle.wy_words.specs.CommandLine.{Asked, command_of}
-use Rattle.wy_words.specs.Plain.{asked_in, words_in}
+use Rattle.wy_words.specs.Plain.{words_in}
 use Rattle.wy_top.specs.Saves.{Saving, saving}
 use Rattle.wy_top.specs.Statement.{Comes, DoesIf, IsKeptBy, saved_name}
 use Rattle.wy_top.proofs.commands.run_words.Goals as goal
@@ -23,7 +23,7 @@ returns-in-Ok-clause-comes g c =
     let new = c.perform.new.files in
     let k = sinks (g.O.Sink.taken c.args.out.now) (g.O.Sink.taken c.perform.new.out) (g.O.Sink.faults c.args.out.now) (g.O.Sink.faults c.perform.new.out) (g.E.Sink.taken c.args.err.now) (g.E.Sink.taken c.perform.new.err) (g.E.Sink.faults c.args.err.now) (g.E.Sink.faults c.perform.new.err) in
     inl (subst (λ (o : Option Asked). DoesIf o (setting (g.F.Files.told old) (g.F.Files.load_faults old) (g.F.Files.load_faults new) (g.F.Files.misses old) (g.F.Files.misses new))
-        (saving (g.F.Files.told old (saved_name o)) (g.F.Files.told new (saved_name o)) (g.F.Files.save_faults old) (g.F.Files.save_faults new)) c.perform.result k)
+    (saving (g.F.Files.told old (saved_name o)) (g.F.Files.told new (saved_name o)) (g.F.Files.save_faults old) (g.F.Files.save_faults new)) c.perform.result k)
     (sym c.in-Ok.ensures.value) c.perform.ensures.does)
 
 pub returns-in-Ok-clause-kept : goal.returns-in-Ok-clause-kept

@@ -1,4 +1,4 @@
-use Rattle.std.proofs.Common.{◌≡◌, ℕ, List, subst}
+use Rattle.std.proofs.Common.{ℕ, subst}
 use Rattle.wy_answers.specs.Steps.{Answers}
 use Rattle.wy_answers.proofs.AnswerLemmas.{memory_answers}
 use Rattle.wy_top.specs.Large.{big_steps}

@@ -1,4 +1,4 @@
-use Rattle.std.proofs.Common.{◌≡◌, ◌≤◌, ◌<◌, ◌∙◌, ℕ, List, length, sym, ap, subst, arith, rules}
+use Rattle.std.proofs.Common.{◌≡◌, ◌≤◌, ◌<◌, ℕ, List, length, ap, arith, rules}
 use Rattle.wy_answers.proofs.StepLemmas.{memory_gives}
 use Rattle.wy_answers.specs.Loading.{source_limit}
 use Rattle.wy_big.specs.Source.{source_of}

@@ -1,4 +1,3 @@
-use Rattle.std.proofs.Common.{ℕ, List}
 use Rattle.wy_top.proofs.texts.read_text.Goals as goal
 
 pub returns-in-Layout : goal.returns-in-Layout

@@ -1,4 +1,3 @@
-use Rattle.std.proofs.Common.{ℕ, List}
 use Rattle.wy_answers.specs.Answers.{written}
 use Rattle.wy_answers.specs.Steps.{done}
 use Rattle.wy_answers.proofs.AnswerLemmas.{ends_answers, value_answers}
