@@ -80,7 +80,7 @@ all_given certs n (c ∷ cs) (v ∷ vs) same shown =
     let here : verdict_on c (certificate_for certs n) ≡ given_by v = ap (verdict_on c) (same n (omega arith)) ∙ first_given n c v.end rest none shown.0 in
     let next : suc n ≡ n + 1 = omega arith in
     let later : (m : ℕ) → n + 1 ≤ m → certificate_for certs m ≡ certificate_for (found_from (n + 1) vs) m =
-        λ m le. same m (omega (arith, le)) ∙ (passed n m v.end rest (omega (arith, le)) ∙ ap (λ (k : ℕ). certificate_for (found_from k vs) m) next) in
+    λ m le. same m (omega (arith, le)) ∙ (passed n m v.end rest (omega (arith, le)) ∙ ap (λ (k : ℕ). certificate_for (found_from k vs) m) next) in
     ap (λ (g : Given). g ∷ verdicts_on certs (n + 1) cs) here ∙ ap (λ (gs : List Given). given_by v ∷ gs) (all_given certs (n + 1) cs vs later shown.1)
 
 pub found_is_given : FoundIsGiven

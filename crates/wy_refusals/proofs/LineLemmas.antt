@@ -66,7 +66,7 @@ whole_lines file bytes budget nodes cs vs text new sum n o p text_is n_is o_is p
     is
     ∙ ap (λ (l : List ℕ). l ++ sum) (text_is ∙ same_lines file bytes budget 1 [] nodes cs ks)
     ∙ ap (λ (l : List ℕ). lines_from file bytes budget 1 (map (seen_cond nodes) cs) ks ++ l)
-        (sum_is ∙ (ap (λ (k : ℕ). refused k o p) each ∙ (ap (λ (k : ℕ). refused (length ks) k p) o_is ∙ ap (λ (k : ℕ). refused (length ks) (count is_open ks) k) p_is)))
+    (sum_is ∙ (ap (λ (k : ℕ). refused k o p) each ∙ (ap (λ (k : ℕ). refused (length ks) k p) o_is ∙ ap (λ (k : ℕ). refused (length ks) (count is_open ks) k) p_is)))
 
 abbrev pub two : ℕ → ℕ → ℕ × ℕ
 two a b = (a, b)

@@ -17,7 +17,7 @@ returns c =
     record {
       value = λ bytes lines. on_ok_weaker c.put_literals.result
           (λ e. open_there c.args.file.now c.place-place.result.line c.place-place.result.column c.args.number (place_of bytes cond.at) _ (word_of cond.kind) _ (why_word (seen_why leaf.why)) _ _ c.args.text.now.items mid c.put_literals.new.text.items
-              (literal_lines (map (seen_literal (tree_at leaf.terms)) leaf.literals.items)) (c.place-place.ensures.value bytes lines) c.word-kind.ensures.value c.why_word-why.ensures.value c.in_ok-line.ensures.value c.as_bytes.ensures.value
-              c.in_ok-extend_from_slice.ensures.items (e ∙ ap (λ (ps : List (ℕ × Bool)). mid ++ literal_lines (map (seen_literal (tree_at leaf.terms)) ps)) c.deref.ensures.value))
+          (literal_lines (map (seen_literal (tree_at leaf.terms)) leaf.literals.items)) (c.place-place.ensures.value bytes lines) c.word-kind.ensures.value c.why_word-why.ensures.value c.in_ok-line.ensures.value c.as_bytes.ensures.value
+          c.in_ok-extend_from_slice.ensures.items (e ∙ ap (λ (ps : List (ℕ × Bool)). mid ++ literal_lines (map (seen_literal (tree_at leaf.terms)) ps)) c.deref.ensures.value))
           c.put_literals.ensures.value;
     }
