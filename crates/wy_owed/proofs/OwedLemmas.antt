@@ -1,7 +1,7 @@
 -- A source has one list of conditions, or one reason why there is none.
 use Rattle.std.proofs.Common.{◌≡◌, ◌∙◌, ℕ, List, Bool, true, false, IsTrue, refl, sym, ap, subst}
 use Rattle.wy_assign.specs.Assigned.{IsAssigned}
-use Rattle.wy_conditions.specs.Limits.{Passing, Within, TooMany, TooLarge}
+use Rattle.wy_conditions.specs.Limits.{Passing, Within}
 use Rattle.wy_core.specs.CoreTree.{Core}
 use Rattle.wy_core.specs.Types.{Ty}
 use Rattle.wy_source.specs.Refusals as refusals

@@ -1,10 +1,9 @@
 -- The certificates that were found, where they are supplied.
-use Rattle.std.proofs.Common.{◌≡◌, ◌∙◌, ◌<◌, ◌≤◌, ◌+◌, ℕ, zero, suc, List, [], ◌∷◌, ◌++◌, map, Bool, true, false, cond, Option, Some, None, refl, sym, ap, subst, arith}
+use Rattle.std.proofs.Common.{◌≡◌, ◌∙◌, ◌<◌, ◌≤◌, ◌+◌, ℕ, suc, List, [], ◌∷◌, ◌++◌, map, Bool, true, false, cond, Option, Some, None, refl, ap, arith}
 use Rattle.std.specs.Prelude.{◌==◌}
 use Rattle.std.proofs.lemmas.Bool.Decides.{nat_tests}
 use Rattle.wy_accepting.specs.Verdicts.{certificate_for, verdict_from, verdict_on, verdicts_on}
 use Rattle.wy_accepting.specs.declared.verdict.Verdict.{Verdict as Given}
-use Rattle.wy_accepting.specs.declared.verdict.Verdict.TheVariants as accepting
 use Rattle.wy_cert.specs.Steps.{Certificates, Written, steps_of}
 use Rattle.wy_term.specs.Condition.{Condition}
 use Rattle.wy_verdicts.specs.Seen.{AreShown, IsShown}

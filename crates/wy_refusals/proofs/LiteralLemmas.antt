@@ -1,9 +1,8 @@
 -- A text to which the lines of literals are added.
 use Rattle.std.proofs.Common.{◌≡◌, ◌∙◌, ◌<◌, ◌≤◌, ◌+◌, ℕ, zero, suc, List, [], ◌∷◌, ◌++◌, length, drop, get_or, map, Bool, true, false, refl, sym, ap, arith, append_assoc}
 use Rattle.std.proofs.lemmas.List.{append-nil, drop_all}
-use Rattle.wy_judge.specs.Node.{Literal}
 use Rattle.wy_judging.specs.Seen.{seen_literal, AreOver}
-use Rattle.wy_report.specs.Listing.{formula_line, formula_lines}
+use Rattle.wy_report.specs.Listing.{formula_line}
 use Rattle.wy_show.specs.Text.{text_of}
 use Rattle.wy_term.specs.Term.{Term}
 use Rattle.wy_valid.specs.Literals.{formula_of}
