@@ -10,6 +10,7 @@ use wy_explaining::Action;
 use wy_facts::fact;
 use wy_judging::{Branch, pending_at};
 use wy_standing::standing;
+use wy_stated_facts::{is_element, measured, read_count, written_count};
 use wy_term::{Cond, Kind, NoMemory, Node, Terms};
 
 // ---- what the round added
@@ -93,47 +94,6 @@ fn push_fact(
 }
 
 // ---- one term
-
-// Of what a term is the length.
-fn measured(terms: &Terms, t: u32) -> Option<u32>
-    requires { t < length terms.now }
-    ensures { IfSome result (λ v. v < length terms.now) }
-{
-    match terms.node(t) {
-        Node::Len(v) => Some(*v),
-        _ => None,
-    }
-}
-
-// How many elements an array has, where it is written out.
-fn written_count(terms: &Terms, a: u32) -> usize
-    requires { a < length terms.now }
-{
-    match terms.node(a) {
-        Node::Array(vs) => vs.len(),
-        _ => 0,
-    }
-}
-
-// How many elements the array has from which a term reads, where it is written out.
-fn read_count(terms: &Terms, t: u32) -> usize
-    requires { t < length terms.now }
-{
-    match terms.node(t) {
-        Node::Get(a, _) => written_count(terms, *a),
-        _ => 0,
-    }
-}
-
-// Whether a term reads an element.
-fn is_element(terms: &Terms, t: u32) -> bool
-    requires { t < length terms.now }
-{
-    match terms.node(t) {
-        Node::Get(_, _) => true,
-        _ => false,
-    }
-}
 
 // The term of which a fact tells what it is by its kind: a formula as a datum, or one whose kind is tested.
 fn subject(terms: &Terms, t: u32) -> Option<u32>

@@ -1,10 +1,9 @@
 //! What becomes of a node of the search, with its steps.
-ghost use Rattle.std.specs.Prelude.{◌<◌, List, IfOk, IfSome, length};
+ghost use Rattle.std.specs.Prelude.{◌<◌, IfOk, IfSome, length};
 ghost use Rattle.wy_certifying.specs.Nodes.{IsNext};
 ghost use Rattle.wy_facts.specs.Membership.{AreTypesBelow};
 ghost use Rattle.wy_facts.specs.Seen.{Stays};
 ghost use Rattle.wy_instances.specs.Seen.{IsSpot};
-ghost use Rattle.wy_term.specs.Nodes.{Plain};
 
 use crate::rounds::expanded;
 use crate::stop::Stop;
@@ -12,9 +11,8 @@ use std::alloc::Global;
 use wy_classes::{classes, terms_present};
 use wy_contradictions::classes_clash;
 use wy_explaining::{Action, why_it_refutes, why_they_clash};
-use wy_instances::{Spot, copied_branch};
-use wy_judging::add;
-use wy_splitting::next_atom;
+use wy_instances::Spot;
+use wy_searching::{copied, with_atom, with_next_atom};
 use wy_term::{Cond, NoMemory, Terms};
 use wy_trail::is_shut;
 
@@ -27,42 +25,6 @@ pub enum Next {
     Splits(u32, Spot, Spot),
     /// These steps make this one of it.
     GoesOn(Vec<Action>, Spot),
-}
-
-// A copy of a node on a path.
-fn copied(alloc: Global, spot: &Spot) -> Result<Spot, NoMemory>
-    ensures { (nodes : List Plain) → IsSpot nodes spot.now → IfOk result (IsSpot nodes) }
-{
-    let branch = copied_branch(alloc, &spot.branch)?;
-    let had = copied_branch(alloc, &spot.had)?;
-    let names = Vec::from_slice(alloc, &spot.names)?;
-    Ok(Spot {
-        branch,
-        had,
-        names,
-        rounds: spot.rounds,
-    })
-}
-
-// The node with an atom more, or with its denial.
-fn with_atom(terms: &Terms, spot: Spot, atom: u32, holds: bool) -> Result<Spot, NoMemory>
-    requires spot { IsSpot terms.now spot }
-    requires atom { atom < length terms.now }
-    ensures { IfOk result (IsSpot terms.now) }
-{
-    let Spot {
-        mut branch,
-        had,
-        names,
-        rounds,
-    } = spot;
-    add(terms, &mut branch, atom, holds)?;
-    Ok(Spot {
-        branch,
-        had,
-        names,
-        rounds,
-    })
 }
 
 // The node with an atom more, and the node with its denial.
@@ -90,30 +52,6 @@ fn on_expansion(terms: &mut Terms, cond: &Cond, spot: Spot) -> Result<Next, Stop
     let mut plan = Vec::new(terms.allocator());
     let more = expanded(terms, cond, spot, &mut plan)?;
     Ok(Next::GoesOn(plan, more))
-}
-
-// The node, and the atom on which it splits, if there is one.
-fn with_next_atom(terms: &Terms, spot: Spot) -> Result<(Spot, Option<u32>), NoMemory>
-    requires { IsSpot terms.now spot }
-    ensures spot { IfOk result (λ r. IsSpot terms.now r.0) }
-    ensures below { IfOk result (λ r. IfSome r.1 (λ a. a < length terms.now)) }
-{
-    let Spot {
-        mut branch,
-        had,
-        names,
-        rounds,
-    } = spot;
-    let atom = next_atom(terms, &mut branch)?;
-    Ok((
-        Spot {
-            branch,
-            had,
-            names,
-            rounds,
-        },
-        atom,
-    ))
 }
 
 // A split on this atom, if there is one, or a round of expansion.

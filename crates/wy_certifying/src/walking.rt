@@ -16,7 +16,8 @@ use std::collections::VecDeque;
 use wy_cert::Cert;
 use wy_explaining::Action;
 use wy_instances::Spot;
-use wy_judging::{add, back_to, bare, first_branch};
+use wy_judging::{add, back_to};
+use wy_searching::first_spot;
 use wy_term::{Cond, NoMemory, Terms};
 
 /// The second node of a split that waits: the search's, how much the certificate's node had at the split, and the atom that the
@@ -42,22 +43,6 @@ pub struct Walk {
 pub enum Turned {
     Ends(Cert),
     GoesOn(Walk),
-}
-
-// The node in which the search begins.
-fn first_spot(terms: &Terms, cond: &Cond) -> Result<Spot, NoMemory>
-    requires hyps { All (λ h. h < length terms.now) cond.now.hyps.items }
-    requires goal { cond.now.goal < length terms.now }
-    ensures { IfOk result (IsSpot terms.now) }
-{
-    let alloc = terms.allocator();
-    let branch = first_branch(alloc, terms, cond)?;
-    Ok(Spot {
-        branch,
-        had: bare(alloc),
-        names: Vec::new(alloc),
-        rounds: 0,
-    })
 }
 
 fn first_walk(terms: &Terms, cond: &Cond) -> Result<Walk, NoMemory>

@@ -11,6 +11,6 @@ mod verdict;
 mod walk;
 
 pub use expanding::expanded;
-pub use turning::{Next, what_follows};
+pub use turning::{Next, copied, what_follows, with_atom, with_next_atom};
 pub use verdict::{OpenLeaf, Verdict, Why};
 pub use walk::{first_spot, search};

@@ -48,8 +48,8 @@ fn why_open(ending: Ending) -> Why
     }
 }
 
-// A copy of a node on a path.
-fn copied(alloc: Global, spot: &Spot) -> Result<Spot, NoMemory>
+/// A copy of a node on a path, by the lengths of its lists.
+pub fn copied(alloc: Global, spot: &Spot) -> Result<Spot, NoMemory>
     ensures seen { (at : ℕ → Term) → IfOk result (λ p. seen_spot at p ≡ seen_spot at spot.now) }
     ensures spot { (nodes : List Plain) → IsSpot nodes spot.now → IfOk result (IsSpot nodes) }
 {
@@ -64,8 +64,8 @@ fn copied(alloc: Global, spot: &Spot) -> Result<Spot, NoMemory>
     })
 }
 
-// The node with an atom more, or with its denial.
-fn with_atom(terms: &Terms, spot: Spot, atom: u32, holds: bool) -> Result<Spot, NoMemory>
+/// The node with an atom more, or with its denial.
+pub fn with_atom(terms: &Terms, spot: Spot, atom: u32, holds: bool) -> Result<Spot, NoMemory>
     requires spot { IsSpot terms.now spot }
     requires atom { atom < length terms.now }
     ensures value { IfOk result (λ p. seen_spot (tree_at terms.now) p ≡ with_side (seen_spot (tree_at terms.now) spot) (tree_at terms.now atom) holds) }
@@ -135,8 +135,8 @@ fn on_expansion(
     }
 }
 
-// The atom on which a node splits, if there is one, and the node.
-fn with_next_atom(terms: &Terms, spot: Spot) -> Result<(Spot, Option<u32>), NoMemory>
+/// The atom on which a node splits, if there is one, and the node. Each formula of the node is judged.
+pub fn with_next_atom(terms: &Terms, spot: Spot) -> Result<(Spot, Option<u32>), NoMemory>
     requires { IsSpot terms.now spot }
     ensures seen { IfOk result (λ r. seen_spot (tree_at terms.now) r.0 ≡ seen_spot (tree_at terms.now) spot) }
     ensures spot { IfOk result (λ r. IsSpot terms.now r.0) }

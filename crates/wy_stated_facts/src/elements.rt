@@ -17,8 +17,8 @@ use wy_term::{Cond, NoMemory, Node, Terms};
 
 // ---- elements of an array that is written out
 
-// How many elements an array has, where it is written out.
-fn written_count(terms: &Terms, a: u32) -> usize
+/// How many elements an array has, where it is written out.
+pub fn written_count(terms: &Terms, a: u32) -> usize
     requires { a < length terms.now }
     ensures { result ≡ count (written (tree_at terms.now a)) }
 {
@@ -28,8 +28,8 @@ fn written_count(terms: &Terms, a: u32) -> usize
     }
 }
 
-// How many elements the array has from which a term reads, where it is written out.
-fn read_count(terms: &Terms, t: u32) -> usize
+/// How many elements the array has from which a term reads, where it is written out.
+pub fn read_count(terms: &Terms, t: u32) -> usize
     requires { t < length terms.now }
     ensures { result ≡ count (search.read_from (tree_at terms.now t)) }
 {
@@ -176,8 +176,8 @@ fn push_pairs_of(
     Ok(())
 }
 
-// Whether a term reads an element.
-fn is_element(terms: &Terms, t: u32) -> bool
+/// Whether a term reads an element.
+pub fn is_element(terms: &Terms, t: u32) -> bool
     requires { t < length terms.now }
     ensures { result ≡ is_some (as_element (tree_at terms.now t)) }
 {

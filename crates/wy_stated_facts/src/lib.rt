@@ -14,4 +14,6 @@ mod made;
 mod plain;
 mod todo;
 
+pub use elements::{is_element, read_count, written_count};
 pub use facts::facts_of;
+pub use plain::measured;

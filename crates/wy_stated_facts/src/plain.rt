@@ -57,8 +57,8 @@ pub fn push_plain(
     Ok(())
 }
 
-// Of what a term is the length.
-fn measured(terms: &Terms, t: u32) -> Option<u32>
+/// Of what a term is the length.
+pub fn measured(terms: &Terms, t: u32) -> Option<u32>
     requires { t < length terms.now }
     ensures value { search.measured (tree_at terms.now t) ≡ option_to_list (option_map (tree_at terms.now) result) }
     ensures within { IfSome result (λ v. v < length terms.now) }

@@ -5,6 +5,6 @@ use Rattle.wy_certifying.proofs.walking.first_walk.Goals as goal
 pub returns : goal.returns
 returns c = record {
   draft = c.in_ok-draft.ensures;
-  spot = c.in_ok-spot.ensures;
+  spot = c.in_ok-spot.ensures.spot;
   waiting = subst (AreWaiting c.args.terms.now) (sym c.new.ensures.items) tt;
 }
