@@ -1,5 +1,5 @@
 -- Where the lines of a text start.
-use Rattle.std.specs.Prelude.{◌≡◌, ◌<◌, ◌≤◌, ◌+◌, ◌==◌, ℕ, zero, suc, List, [], ◌∷◌, length, if◌then◌else◌, get_or}
+use Rattle.std.specs.Prelude.{◌≡◌, ◌<◌, ◌≤◌, ◌==◌, ℕ, zero, suc, List, [], ◌∷◌, length, if◌then◌else◌, get_or}
 use Rattle.wy_lines.specs.declared.starts.Lines.{Lines}
 
 -- the offsets behind each line feed, of bytes that stand from this offset on

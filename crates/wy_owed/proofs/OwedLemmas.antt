@@ -1,7 +1,7 @@
 -- A source has one list of conditions, or one reason why there is none.
 use Rattle.std.proofs.Common.{◌≡◌, ◌∙◌, ℕ, List, Bool, true, false, IsTrue, refl, sym, ap, subst}
 use Rattle.wy_assign.specs.Assigned.{IsAssigned}
-use Rattle.wy_conditions.specs.Limits.{Passing, Within, TooMany, TooLarge}
+use Rattle.wy_conditions.specs.Limits.{Passing, Within}
 use Rattle.wy_core.specs.CoreTree.{Core}
 use Rattle.wy_core.specs.Types.{Ty}
 use Rattle.wy_source.specs.Refusals as refusals
@@ -35,7 +35,7 @@ unread_complete bytes e complete c flow h = complete c flow h.program
 
 never_both : (b : Bool) → IsTrue b → b ≡ false → ⊥
 never_both true is un_so = absurd (cc)
-never_both false is un_so = is
+never_both false is un_so = absurd (cc)
 
 pub unread_exact : (bytes : List ℕ) (e : Refusal) → ((c : Core ℕ) (flow : List Ty) → sources.IsProgram bytes c flow → IsTrue (refusals.is_no_memory e))
     → ((f : Refusal) → sources.IsDue bytes f → refusals.is_no_memory e ≡ false → e ≡ f) → (g : OwedFault) → IsDue bytes g → is_no_memory (Source e) ≡ false → Source e ≡ g
@@ -72,7 +72,7 @@ over_here bytes core flow g only h = moved core h.core flow h.flow (λ c f. Tell
 limit_complete_if : (f : VcFault) (p : Passing) → vc.IsDue f p → p ≡ Within → IsTrue (lacks_memory f)
 limit_complete_if TooManyConds p due w = absurd (cc)
 limit_complete_if (TooManyTerms k) p due w = absurd (cc)
-limit_complete_if NoMemory p due w = tt
+limit_complete_if NoMemory p due w = refl
 
 pub limit_complete : (bytes : List ℕ) (core : Core ℕ) (flow : List Ty) (f : VcFault) → IsOnly bytes core flow → vc.IsDue f (limit_by core flow) → (c : Core ℕ) (g : List Ty) → Owes bytes c g → IsTrue (is_no_memory (Limit f))
 limit_complete bytes core flow f only due c g h = limit_complete_if f (limit_by core flow) due (moved core c flow g (λ d i. limit_by d i ≡ Within) (only c g h.program) h.within)

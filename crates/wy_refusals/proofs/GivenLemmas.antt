@@ -1,10 +1,9 @@
 -- The certificates that were found, where they are supplied.
-use Rattle.std.proofs.Common.{◌≡◌, ◌∙◌, ◌<◌, ◌≤◌, ◌+◌, ℕ, zero, suc, List, [], ◌∷◌, ◌++◌, map, Bool, true, false, cond, Option, Some, None, refl, sym, ap, subst, arith}
+use Rattle.std.proofs.Common.{◌≡◌, ◌∙◌, ◌<◌, ◌≤◌, ◌+◌, ℕ, suc, List, [], ◌∷◌, ◌++◌, map, Bool, true, false, cond, Option, Some, None, refl, ap, arith}
 use Rattle.std.specs.Prelude.{◌==◌}
 use Rattle.std.proofs.lemmas.Bool.Decides.{nat_tests}
 use Rattle.wy_accepting.specs.Verdicts.{certificate_for, verdict_from, verdict_on, verdicts_on}
 use Rattle.wy_accepting.specs.declared.verdict.Verdict.{Verdict as Given}
-use Rattle.wy_accepting.specs.declared.verdict.Verdict.TheVariants as accepting
 use Rattle.wy_cert.specs.Steps.{Certificates, Written, steps_of}
 use Rattle.wy_term.specs.Condition.{Condition}
 use Rattle.wy_verdicts.specs.Seen.{AreShown, IsShown}
@@ -80,7 +79,7 @@ all_given certs n (c ∷ cs) (v ∷ vs) same shown =
     let here : verdict_on c (certificate_for certs n) ≡ given_by v = ap (verdict_on c) (same n (omega arith)) ∙ first_given n c v.end rest none shown.0 in
     let next : suc n ≡ n + 1 = omega arith in
     let later : (m : ℕ) → n + 1 ≤ m → certificate_for certs m ≡ certificate_for (found_from (n + 1) vs) m =
-        λ m le. same m (omega (arith, le)) ∙ (passed n m v.end rest (omega (arith, le)) ∙ ap (λ (k : ℕ). certificate_for (found_from k vs) m) next) in
+    λ m le. same m (omega (arith, le)) ∙ (passed n m v.end rest (omega (arith, le)) ∙ ap (λ (k : ℕ). certificate_for (found_from k vs) m) next) in
     ap (λ (g : Given). g ∷ verdicts_on certs (n + 1) cs) here ∙ ap (λ (gs : List Given). given_by v ∷ gs) (all_given certs (n + 1) cs vs later shown.1)
 
 pub found_is_given : FoundIsGiven

@@ -1,5 +1,5 @@
 -- A text to which the lines of conditions are added.
-use Rattle.std.proofs.Common.{◌≡◌, ◌∙◌, ◌<◌, ◌≤◌, ◌+◌, ℕ, zero, suc, List, [], ◌∷◌, ◌++◌, length, drop, get_or, map, refl, sym, ap, subst, arith, append_assoc}
+use Rattle.std.proofs.Common.{◌≡◌, ◌∙◌, ◌<◌, ◌≤◌, ◌+◌, ℕ, zero, suc, List, [], ◌∷◌, ◌++◌, length, drop, get_or, map, refl, sym, ap, arith, append_assoc}
 use Rattle.std.specs.Prelude.{codes}
 use Rattle.std.proofs.lemmas.List.{append-nil, drop_all, length-map}
 use Rattle.wy_report.specs.Lines.{of_condition, open_condition, refused}
@@ -13,10 +13,10 @@ use Rattle.wy_refusals.specs.Refusals.{end_lines, lines_from, refusal_lines}
 use Rattle.wy_refusals.proofs.InvalidLemmas.{at_drop}
 
 -- the numbers that an end has are those of its terms
-pub named_at : (vs : List Verdict) (i : ℕ) (v : Verdict) → NameTerms vs → i < length vs → v ≡ get_or vs i v → NamesTerms v.end
-named_at [] i v named lt is = absurd (omega (arith, lt))
-named_at (w ∷ vs) zero v named lt is = subst (λ (x : Verdict). NamesTerms x.end) (sym is) named.0
-named_at (w ∷ vs) (suc i) v named lt is = named_at vs i v named.1 (omega (arith, lt)) is
+pub named_index : (vs : List Verdict) (i : ℕ) (d : Verdict) → NameTerms vs → i < length vs → NamesTerms (get_or vs i d).end
+named_index [] i d named lt = absurd (omega (arith, lt))
+named_index (w ∷ vs) zero d named lt = named.0
+named_index (w ∷ vs) (suc i) d named lt = named_index vs i d named.1 (omega (arith, lt))
 
 -- one more condition
 pub lines_more : (file bytes : List ℕ) (budget : ℕ) (seen : Cond → Told) (cs : List Cond) (vs : List Verdict) (i n : ℕ) (c : Cond) (v : Verdict) (out new whole : List ℕ) → i < length cs → c ≡ get_or cs i c → i < length vs → v ≡ get_or vs i v → n ≡ i + 1
@@ -66,19 +66,25 @@ whole_lines file bytes budget nodes cs vs text new sum n o p text_is n_is o_is p
     is
     ∙ ap (λ (l : List ℕ). l ++ sum) (text_is ∙ same_lines file bytes budget 1 [] nodes cs ks)
     ∙ ap (λ (l : List ℕ). lines_from file bytes budget 1 (map (seen_cond nodes) cs) ks ++ l)
-        (sum_is ∙ (ap (λ (k : ℕ). refused k o p) each ∙ (ap (λ (k : ℕ). refused (length ks) k p) o_is ∙ ap (λ (k : ℕ). refused (length ks) (count is_open ks) k) p_is)))
+    (sum_is ∙ (ap (λ (k : ℕ). refused k o p) each ∙ (ap (λ (k : ℕ). refused (length ks) k p) o_is ∙ ap (λ (k : ℕ). refused (length ks) (count is_open ks) k) p_is)))
 
 abbrev pub two : ℕ → ℕ → ℕ × ℕ
 two a b = (a, b)
 
 -- ---- an open condition, whose literals are written behind its line
 
-pub placed : (l c : ℕ) (p : ℕ × ℕ) (P : ℕ → ℕ → List ℕ) → two l c ≡ p → P l c ≡ P p.0 p.1
-placed l c p P is = ap (λ (q : ℕ × ℕ). P q.0 q.1) is
-
-pub open_is : (old mid new file why literals kind line : List ℕ) (at_line column number : ℕ) → line ≡ open_condition file at_line column number kind why [] → mid ≡ old ++ line → new ≡ mid ++ literals → new ≡ old ++ open_condition file at_line column number kind why literals
+open_is : (old mid new file why literals kind line : List ℕ) (at_line column number : ℕ) → line ≡ open_condition file at_line column number kind why [] → mid ≡ old ++ line → new ≡ mid ++ literals → new ≡ old ++ open_condition file at_line column number kind why literals
 open_is old mid new file why literals kind line at_line column number is first second =
     let head : List ℕ = open_condition file at_line column number kind why [] in
     second ∙ ap (λ (m : List ℕ). m ++ literals) (first ∙ ap (λ (l : List ℕ). old ++ l) is)
     ∙ append_assoc old head literals
     ∙ ap (λ (l : List ℕ). old ++ (l ++ literals)) (append-nil (of_condition file at_line column number kind (codes "open " ++ why)))
+
+-- the same at its place, by what was called
+pub open_there : (file : List ℕ) (at_line column number : ℕ) (p : ℕ × ℕ) (word kind reason why line slice old mid new literals : List ℕ) → two at_line column ≡ p → word ≡ kind → reason ≡ why
+    → line ≡ open_condition file at_line column number word reason [] → slice ≡ line → mid ≡ old ++ slice → new ≡ mid ++ literals → new ≡ old ++ open_condition file p.0 p.1 number kind why literals
+open_there file at_line column number p word kind reason why line slice old mid new literals place word_is reason_is line_is slice_is mid_is new_is =
+    open_is old mid new file reason literals word line at_line column number line_is (mid_is ∙ ap (λ (l : List ℕ). old ++ l) slice_is) new_is
+    ∙ ap (λ (w : List ℕ). old ++ open_condition file at_line column number w reason literals) word_is
+    ∙ ap (λ (r : List ℕ). old ++ open_condition file at_line column number kind r literals) reason_is
+    ∙ ap (λ (q : ℕ × ℕ). old ++ open_condition file q.0 q.1 number kind why literals) place

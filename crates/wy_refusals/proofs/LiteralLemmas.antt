@@ -1,9 +1,8 @@
 -- A text to which the lines of literals are added.
-use Rattle.std.proofs.Common.{◌≡◌, ◌∙◌, ◌<◌, ◌≤◌, ◌+◌, ℕ, zero, suc, List, [], ◌∷◌, ◌++◌, length, drop, get_or, map, Bool, true, false, refl, sym, ap, subst, arith, append_assoc}
+use Rattle.std.proofs.Common.{◌≡◌, ◌∙◌, ◌<◌, ◌≤◌, ◌+◌, ℕ, zero, suc, List, [], ◌∷◌, ◌++◌, length, drop, get_or, map, Bool, true, false, refl, sym, ap, arith, append_assoc}
 use Rattle.std.proofs.lemmas.List.{append-nil, drop_all}
-use Rattle.wy_judge.specs.Node.{Literal}
 use Rattle.wy_judging.specs.Seen.{seen_literal, AreOver}
-use Rattle.wy_report.specs.Listing.{formula_line, formula_lines}
+use Rattle.wy_report.specs.Listing.{formula_line}
 use Rattle.wy_show.specs.Text.{text_of}
 use Rattle.wy_term.specs.Term.{Term}
 use Rattle.wy_valid.specs.Literals.{formula_of}
@@ -25,10 +24,10 @@ literal_line old first second new formula sign a holds sign_is one formula_is tw
     ∙ ap (λ (l : List ℕ). old ++ l) (line_of a holds)
 
 -- a literal's atom is one of the terms
-pub over_at : (n : ℕ) (ps : List (ℕ × Bool)) (i : ℕ) (p : ℕ × Bool) → AreOver n ps → i < length ps → p ≡ get_or ps i p → p.0 < n
-over_at n [] i p over lt is = absurd (omega (arith, lt))
-over_at n (q ∷ ps) zero p over lt is = subst (λ (r : ℕ × Bool). r.0 < n) (sym is) over.0
-over_at n (q ∷ ps) (suc i) p over lt is = over_at n ps i p over.1 (omega (arith, lt)) is
+pub over_index : (n : ℕ) (ps : List (ℕ × Bool)) (i : ℕ) (d : ℕ × Bool) → AreOver n ps → i < length ps → (get_or ps i d).0 < n
+over_index n [] i d over lt = absurd (omega (arith, lt))
+over_index n (q ∷ ps) zero d over lt = over.0
+over_index n (q ∷ ps) (suc i) d over lt = over_index n ps i d over.1 (omega (arith, lt))
 
 -- one more literal
 pub literals_more : (at : ℕ → Term) (ps : List (ℕ × Bool)) (i : ℕ) (p : ℕ × Bool) (out new whole : List ℕ) → i < length ps → p ≡ get_or ps i p

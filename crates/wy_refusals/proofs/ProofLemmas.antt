@@ -1,5 +1,5 @@
 -- The certificates that were found, from the last to the first.
-use Rattle.std.proofs.Common.{◌≡◌, ◌∙◌, ◌<◌, ◌≤◌, ◌+◌, ℕ, zero, suc, List, [], ◌∷◌, ◌++◌, All, length, map, reverse, refl, sym, ap, subst, arith, append_assoc}
+use Rattle.std.proofs.Common.{◌≡◌, ◌∙◌, ◌≤◌, ◌+◌, ℕ, suc, List, [], ◌∷◌, ◌++◌, All, length, map, reverse, refl, sym, ap, subst, arith, append_assoc, length-append}
 use Rattle.std.proofs.lemmas.List.{append-nil, map-append, reverse-append}
 use Rattle.std.proofs.lemmas.List.Elements.{All-append, All-cons, All-nil, All-head, All-tail}
 use Rattle.wy_cert.specs.Steps.{Certificates, Written, NamesItsTerms, steps_of}
@@ -59,6 +59,16 @@ map_reversed (e ∷ es) =
 pub left_none : (left all : List Verdict) (list turned : List (ℕ × Cert)) → left ≡ [] → turned ≡ reverse list → IsLeft left list all → map pair_of turned ≡ found_from 1 all
 left_none left all list turned none is so =
     ap (map pair_of) is ∙ (map_reversed list ∙ (sym (ap (λ (vs : List Verdict). found_from 1 vs ++ reverse (map pair_of list)) none) ∙ so))
+
+-- there are no more of those that are left
+pub few_left : (left rest all : List Verdict) (v : Verdict) → left ≡ rest ++ v ∷ [] → length left ≤ length all → length rest ≤ length all
+few_left left rest all v is few =
+    let longer : length left ≡ length rest + 1 = ap length is ∙ length-append rest (v ∷ []) in
+    omega (arith, longer, few)
+
+pub none_left : (left : List Verdict) → length left ≡ 0 → left ≡ []
+none_left [] none = refl
+none_left (v ∷ vs) none = absurd (omega (arith, none))
 
 -- ---- the numbers in them
 

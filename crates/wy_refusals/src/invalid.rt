@@ -11,11 +11,7 @@ use wy_verdicts::Verdict;
 /// A line for each condition whose certificate in this file isn't valid, in order: the number of its first bad step. In time linear in
 /// the conditions and the text.
 #[tactic(auto, using(crate::proofs::InvalidLemmas::invalid_steps))]
-pub fn invalid_lines(
-    alloc: Global,
-    file: &str,
-    verdicts: &[Verdict],
-) -> Result<Vec<u8>, NoMemory>
+pub fn invalid_lines(alloc: Global, file: &str, verdicts: &[Verdict]) -> Result<Vec<u8>, NoMemory>
     requires few { length verdicts.now < 2 ^ 32 }
     ensures value { IfOk result (λ text. text.items ≡ spec.invalid_lines file.now (map known verdicts.now)) }
 {

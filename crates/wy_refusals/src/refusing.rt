@@ -117,15 +117,7 @@ fn put_spent(
 {
     let place = lines.place(cond.at);
     let kind = cond.kind.word();
-    let line = spent_condition(
-        alloc,
-        file,
-        place.line,
-        place.column,
-        number,
-        kind,
-        budget,
-    )?;
+    let line = spent_condition(alloc, file, place.line, place.column, number, kind, budget)?;
     text.extend_from_slice(line.as_bytes())?;
     Ok(())
 }
@@ -146,16 +138,7 @@ fn put_open(
     let place = lines.place(cond.at);
     let kind = cond.kind.word();
     let why = why_word(leaf.why);
-    let line = open_condition(
-        alloc,
-        file,
-        place.line,
-        place.column,
-        number,
-        kind,
-        why,
-        "",
-    )?;
+    let line = open_condition(alloc, file, place.line, place.column, number, kind, why, "")?;
     text.extend_from_slice(line.as_bytes())?;
     put_literals(text, &leaf.terms, &leaf.literals)
 }
@@ -173,11 +156,7 @@ fn why_word(why: Why) -> &'static str
 
 // Appends literals, each on a line of its own.
 #[tactic(auto, using(crate::proofs::LiteralLemmas::literals_steps))]
-fn put_literals(
-    text: &mut Vec<u8>,
-    terms: &Terms,
-    literals: &[(u32, bool)],
-) -> Result<(), NoMemory>
+fn put_literals(text: &mut Vec<u8>, terms: &Terms, literals: &[(u32, bool)]) -> Result<(), NoMemory>
     requires named { AreOver (length terms.now) literals.now }
     ensures value { OnOk result (text.new.items ≡ text.old.items ++ spec.literal_lines (map (seen_literal (tree_at terms.now)) literals.now)) }
 {

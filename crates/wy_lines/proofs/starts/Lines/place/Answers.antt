@@ -1,4 +1,4 @@
-use Rattle.std.proofs.Common.{◌≡◌, ◌∙◌, ◌+◌, ◌-◌, ap}
+use Rattle.std.proofs.Common.{◌∙◌, ◌+◌, ◌-◌, ap}
 use Rattle.wy_lines.proofs.StartLemmas.{place_is}
 use Rattle.wy_lines.proofs.starts.Lines.place.Goals as goal
 
