@@ -1,0 +1,2 @@
+-- what certificates show of a program
+pub mod AcceptLemmas
