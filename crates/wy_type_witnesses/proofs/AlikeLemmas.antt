@@ -12,7 +12,10 @@ use Rattle.wy_type_witnesses.specs.Pieces.{names_of_tys, names_of_parts, rows, f
 -- an array of what is in a type is one of what is in a part
 array_as_part : (rs : List (Bool → Ty → Bool)) (up : Bool) (t : Ty) → each_in_ty rs up t ≡ each_terms_in rs (inside_of up t)
 array_as_part [] up t = refl
-array_as_part (r ∷ rs) up t = λ i. and_true (r up t) (~ i) && array_as_part rs up t i
+array_as_part (r ∷ rs) up t =
+    let e : r up t ≡ (r up t && true) = sym (and_true (r up t)) in
+    let f = array_as_part rs up t in
+    λ i. e i && f i
 
 array_part : (shape : Shape Ty) (up : Bool) (t : Ty) → is_array shape up t ≡ is_array_of shape (inside_of up t)
 array_part NullShape up t = refl

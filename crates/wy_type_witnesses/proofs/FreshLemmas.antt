@@ -9,7 +9,7 @@ use Rattle.wy_value.proofs.NameLemmas.{enough, long_name}
 use Rattle.wy_types.specs.Claims.{IsIn}
 
 -- so many letters
-letters : ℕ → List ℕ
+abbrev letters : ℕ → List ℕ
 letters zero = []
 letters (suc n) = 97 ∷ letters n
 
@@ -53,11 +53,11 @@ letters-name n le = (
 
 -- ---- longer than each name in the lists
 
-all_of : List (List ℕ) → ℕ
+abbrev all_of : List (List ℕ) → ℕ
 all_of [] = 0
 all_of (n ∷ ns) = length n + all_of ns
 
-all_in : List (List (List ℕ)) → ℕ
+abbrev all_in : List (List (List ℕ)) → ℕ
 all_in [] = 0
 all_in (r ∷ rs) = all_of r + all_in rs
 
@@ -70,8 +70,10 @@ pub fresh : List (List (List ℕ)) → List ℕ
 fresh rs = letters (suc (enough + all_in rs))
 
 pub fresh-name : (rs : List (List (List ℕ))) → IsName (fresh rs)
+unfolding fresh
 fresh-name rs = letters-name (enough + all_in rs) (omega arith)
 
 -- it stands alone in none of them
 pub fresh-none : (rs : List (List (List ℕ))) → IsIn (fresh rs ∷ []) rs → ⊥
+unfolding fresh
 fresh-none rs h = let g = within (fresh rs) rs h in let e = length-letters (suc (enough + all_in rs)) in omega (arith, g, e)

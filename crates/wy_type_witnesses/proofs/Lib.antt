@@ -6,3 +6,5 @@ pub mod FreshLemmas
 pub mod AlikeLemmas
 -- the value of a datum
 pub mod ValueLemmas
+-- items and fields of values
+pub mod ShownLemmas

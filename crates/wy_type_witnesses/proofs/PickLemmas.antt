@@ -47,12 +47,12 @@ module _ (names : List Declared) where
 
   found : (ds : Data) → AreValues ds → (p : Part) → AllAre ds p ≡ false → Found ds p
   found no_items v p e = absurd cc
-  found (item d rest) v p e = by (Is d p) refl
+  found (item d rest) v p e = by (Is d p) refl (λ g. found rest v.1 p g)
     where
-      by : (b : Bool) → Is d p ≡ b → Found (item d rest) p
-      by false f = record { it = d; value = v.0; out = f; within = λ q g. (both (Is d q) (AllAre rest q) g).0 }
-      by true f =
-          let r = found rest v.1 p (second_fails (Is d p) (AllAre rest p) f e) in
+      by : (b : Bool) → Is d p ≡ b → (AllAre rest p ≡ false → Found rest p) → Found (item d rest) p
+      by false f more = record { it = d; value = v.0; out = f; within = λ q g. (both (Is d q) (AllAre rest q) g).0 }
+      by true f more =
+          let r = more (second_fails (Is d p) (AllAre rest p) f e) in
           record { it = r.it; value = r.value; out = r.out; within = λ q g. r.within q (both (Is d q) (AllAre rest q) g).1 }
 
   pub record Picked (ds : Data) (ps : List Part) : Type 0 where

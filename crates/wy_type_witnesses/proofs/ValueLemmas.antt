@@ -1,9 +1,10 @@
 -- Each datum has a value of the language beside it that is in the same types.
-use Rattle.std.proofs.Common.{◌≡◌, ℕ, zero, suc, ◌+◌, ◌≤◌, ◌-◌, ◌^◌, List, [], ◌∷◌, ◌++◌, length, Bool, true, false, ◌⊎◌, inl, inr, refl, sym, ap, subst, ◌∙◌, arith}
+use Rattle.std.proofs.Common.{◌≡◌, ℕ, zero, suc, ◌+◌, ◌≤◌, ◌<◌, ◌-◌, ◌^◌, List, [], ◌∷◌, ◌++◌, length, Bool, true, false, ◌⊎◌, inl, inr, refl, sym, ap, subst, ◌∙◌, arith}
 use Rattle.std.specs.Prelude.{not, ◌&&◌, pos}
 use Rattle.std.specs.Str.{bytes_eq}
 use Rattle.std.specs.List.Sorted.{IsStrictlySortedBy}
 use Rattle.std.proofs.lemmas.Int.{ints}
+use Rattle.std.proofs.lemmas.Slice.Eq.{bytes_eq-Decides}
 use Rattle.wy_data.specs.Words.{IsName}
 use Rattle.wy_value.specs.Datum.{Datum, Data, no_items, item, Fields, no_fields, field}
 use Rattle.wy_value.specs.Datum as datum
@@ -32,10 +33,7 @@ name_or (x ∷ xs) (y ∷ ys) = by (bytes_eq (x ∷ xs) (y ∷ ys)) refl
   where
     by : (b : Bool) → bytes_eq (x ∷ xs) (y ∷ ys) ≡ b → (x ∷ xs ≡ y ∷ ys) ⊎ (x ∷ xs ≡ y ∷ ys → ⊥)
     by true e = inl (bytes_are (x ∷ xs) (y ∷ ys) e)
-    by false e = inr (λ f. other f e)
-      where
-        other : x ∷ xs ≡ y ∷ ys → bytes_eq (x ∷ xs) (y ∷ ys) ≡ false → ⊥
-        other f g = absurd cc
+    by false e = inr (λ f. let g = (bytes_eq-Decides (x ∷ xs) (y ∷ ys)).1 f in cc (e, g))
 
 heads_are : (x y : List ℕ) (xs ys : List (List ℕ)) → x ∷ xs ≡ y ∷ ys → x ≡ y
 heads_are x y xs ys e = cc
@@ -54,7 +52,7 @@ row_or (x ∷ xs) (y ∷ ys) = by (name_or x y) (row_or xs ys)
     by (inl e) (inr g) = inr (λ h. g (tails_are x y xs ys h))
     by (inr g) f = inr (λ h. g (heads_are x y xs ys h))
 
-in_or : (r : List (List ℕ)) (rs : List (List (List ℕ))) → IsIn r rs ⊎ (IsIn r rs → ⊥)
+pub in_or : (r : List (List ℕ)) (rs : List (List (List ℕ))) → IsIn r rs ⊎ (IsIn r rs → ⊥)
 in_or r [] = inr (λ h. h)
 in_or r (s ∷ ss) = by (row_or s r) (in_or r ss)
   where
@@ -101,22 +99,22 @@ not_true false f = refl
 
 module _ (R : List (List (List ℕ))) where
   no_tys : (ns : List (List ℕ)) (rs : List (Bool → Ty → Bool)) (up : Bool) (fs : FieldTys) → (IsIn ns R → ⊥) → IsIn (names_of_tys fs) R → fields_in_tys ns rs up fs ≡ false
-  no_tys ns rs up fs no i = not_true (fields_in_tys ns rs up fs) (λ e. no (subst (λ (r : List (List ℕ)). IsIn r R) (sym (tys_named ns rs up fs e)) i))
+  no_tys ns rs up fs absent i = not_true (fields_in_tys ns rs up fs) (λ e. absent (subst (λ (r : List (List ℕ)). IsIn r R) (sym (tys_named ns rs up fs e)) i))
 
   no_parts : (ns : List (List ℕ)) (rs : List (Bool → Ty → Bool)) (fs : FieldParts) → (IsIn ns R → ⊥) → IsIn (names_of_parts fs) R → parts_in ns rs fs ≡ false
-  no_parts ns rs fs no i = not_true (parts_in ns rs fs) (λ e. no (subst (λ (r : List (List ℕ)). IsIn r R) (sym (parts_named ns rs fs e)) i))
+  no_parts ns rs fs absent i = not_true (parts_in ns rs fs) (λ e. absent (subst (λ (r : List (List ℕ)). IsIn r R) (sym (parts_named ns rs fs e)) i))
 
 -- ---- the value of a datum
 
-alone : (name : List ℕ) → Rise (name ∷ [])
+pub alone : (name : List ℕ) → Rise (name ∷ [])
 unfolding IsStrictlySortedBy
 alone name = (tt, tt)
 
-zero-int : IsValue (datum.Whole (pos 0))
+pub zero-int : IsValue (datum.Whole (pos 0))
 zero-int = (grind (arith, ints), grind (arith, ints))
 
-module _ (names : List Declared) (R : List (List (List ℕ))) (T : List Part) (declared : Among R T (declared_rows names) (declared_item_parts names)) (are_rows : EachOf IsRow R) (few : length T ≤ 2 ^ 63 - 1) where
-  abbrev Alike : Datum → Datum → Type 0
+module _ (names : List Declared) (R : List (List (List ℕ))) (T : List Part) (declared : Among R T (declared_rows names) (declared_item_parts names)) (are_rows : EachOf IsRow R) (few : length T < 2 ^ 63 - 1) where
+  abbrev pub Alike : Datum → Datum → Type 0
   Alike d v = (t : Ty) → Among R T (rows t) (item_parts t) → (up : Bool) → is_in_ty names (shape_of names d) up t ≡ is_in_ty names (shape_of names v) up t
 
   pub record ItsValue (d : Datum) : Type 0 where
@@ -124,17 +122,17 @@ module _ (names : List Declared) (R : List (List (List ℕ))) (T : List Part) (d
     pub value : IsValue it
     pub alike : Alike d it
 
-  record TheirValues (ds : Data) : Type 0 where
-    them : Data
-    values : AreValues them
-    alike : (p : Part) → Among R T (term_rows p) (term_item_parts p) → AllAre names ds p ≡ AllAre names them p
+  pub record TheirValues (ds : Data) : Type 0 where
+    pub them : Data
+    pub values : AreValues them
+    pub alike : (p : Part) → Among R T (term_rows p) (term_item_parts p) → AllAre names ds p ≡ AllAre names them p
 
-  record FieldValues (fs : Fields) : Type 0 where
-    them : Fields
-    named : names_of them ≡ names_of fs
-    values : EachOf IsName (names_of fs) → AreValueFields them
-    tys : (us : FieldTys) → Among R T (field_rows us) (field_item_parts us) → (up : Bool) → fields_in_tys (names_of fs) (field_readers names fs) up us ≡ fields_in_tys (names_of them) (field_readers names them) up us
-    parts : (us : FieldParts) → Among R T (part_rows us) (part_item_parts us) → parts_in (names_of fs) (field_readers names fs) us ≡ parts_in (names_of them) (field_readers names them) us
+  pub record FieldValues (fs : Fields) : Type 0 where
+    pub them : Fields
+    pub named : names_of them ≡ names_of fs
+    pub values : EachOf IsName (names_of fs) → AreValueFields them
+    pub tys : (us : FieldTys) → Among R T (field_rows us) (field_item_parts us) → (up : Bool) → fields_in_tys (names_of fs) (field_readers names fs) up us ≡ fields_in_tys (names_of them) (field_readers names them) up us
+    pub parts : (us : FieldParts) → Among R T (part_rows us) (part_item_parts us) → parts_in (names_of fs) (field_readers names fs) us ≡ parts_in (names_of them) (field_readers names them) us
 
   first_among : (rs ss : List (List (List ℕ))) (ps qs : List Part) → Among R T (rs ++ ss) (ps ++ qs) → Among R T rs ps
   first_among rs ss ps qs h = (each_left (λ r. IsIn r R) rs ss h.0, each_left (λ p. IsIn p T) ps qs h.1)
@@ -150,60 +148,45 @@ module _ (names : List Declared) (R : List (List (List ℕ))) (T : List Part) (d
       λ i. signed_as (e i) inside && g i
 
   -- a list, cut down to what the parts tell apart
-  of_items : (ds : Data) → TheirValues ds → ItsValue (datum.Array ds)
-  of_items ds r = record {
-    it = datum.Array w.them;
-    value = ((let l = w.few in omega (arith, l, few)), w.values);
-    alike = is_alike R T (ArrayShape (item_readers names ds)) (ArrayShape (item_readers names w.them)) same names declared;
-  }
-    where
-      w : Picked names r.them T
-      w = picked names r.them r.values T
+  pub cut : (ds : Data) → (r : TheirValues ds) → Picked names r.them T
+  cut ds r = picked names r.them r.values T
 
-      same : SameShape R T (ArrayShape (item_readers names ds)) (ArrayShape (item_readers names w.them))
-      same = record {
-        nulls = refl;
-        bools = refl;
-        ints = refl;
-        records = refl;
-        arrays = (λ p i h. r.alike p h ∙ picked-same names r.them T w p i);
-        tys = (λ fs i h up. refl);
-        parts = (λ fs i h. refl);
-      }
+  cut-value : (ds : Data) (r : TheirValues ds) → IsValue (datum.Array (cut ds r).them)
+  cut-value ds r = ((let l = (cut ds r).few in omega (arith, l, few)), (cut ds r).values)
+
+  pub cut-same : (ds : Data) (r : TheirValues ds) (p : Part) → IsIn p T → Among R T (term_rows p) (term_item_parts p) → AllAre names ds p ≡ AllAre names (cut ds r).them p
+  cut-same ds r p i h = r.alike p h ∙ picked-same names r.them T (cut ds r) p i
+
+  -- two lists of which the same parts tell
+  pub arrays_alike : (ds es : Data) → ((p : Part) → IsIn p T → Among R T (term_rows p) (term_item_parts p) → AllAre names ds p ≡ AllAre names es p) → Alike (datum.Array ds) (datum.Array es)
+  arrays_alike ds es f = is_alike R T (ArrayShape (item_readers names ds)) (ArrayShape (item_readers names es)) same names declared
+    where
+      same : SameShape R T (ArrayShape (item_readers names ds)) (ArrayShape (item_readers names es))
+      same = record { nulls = refl; bools = refl; ints = refl; records = refl; arrays = f; tys = (λ fs i h up. refl); parts = (λ fs i h. refl) }
+
+  cut-alike : (ds : Data) (r : TheirValues ds) → Alike (datum.Array ds) (datum.Array (cut ds r).them)
+  cut-alike ds r = arrays_alike ds (cut ds r).them (cut-same ds r)
 
   -- a record whose names are those of some record type
-  of_fields : (fs : Fields) → FieldValues fs → IsIn (names_of fs) R → ItsValue (datum.Record fs)
-  of_fields fs r i = record {
-    it = datum.Record r.them;
-    value = (subst Rise (sym r.named) row.0, r.values row.1);
-    alike = is_alike R T (RecordShape (names_of fs) (field_readers names fs)) (RecordShape (names_of r.them) (field_readers names r.them)) same names declared;
-  }
-    where
-      row : IsRow (names_of fs)
-      row = each_at IsRow R (names_of fs) are_rows i
+  pub kept-value : (fs : Fields) (r : FieldValues fs) → IsIn (names_of fs) R → IsValue (datum.Record r.them)
+  kept-value fs r i = let row = each_at IsRow R (names_of fs) are_rows i in (subst Rise (sym r.named) row.0, r.values row.1)
 
+  pub kept-alike : (fs : Fields) (r : FieldValues fs) → Alike (datum.Record fs) (datum.Record r.them)
+  kept-alike fs r = is_alike R T (RecordShape (names_of fs) (field_readers names fs)) (RecordShape (names_of r.them) (field_readers names r.them)) same names declared
+    where
       same : SameShape R T (RecordShape (names_of fs) (field_readers names fs)) (RecordShape (names_of r.them) (field_readers names r.them))
-      same = record {
-        nulls = refl;
-        bools = refl;
-        ints = refl;
-        records = refl;
-        arrays = (λ p j h. refl);
-        tys = (λ us j h up. r.tys us h up);
-        parts = (λ us j h. r.parts us h);
-      }
+      same = record { nulls = refl; bools = refl; ints = refl; records = refl; arrays = (λ p j h. refl); tys = (λ us j h up. r.tys us h up); parts = (λ us j h. r.parts us h) }
 
   -- any other record: one field, whose name no record type has alone
-  of_others : (fs : Fields) → (IsIn (names_of fs) R → ⊥) → ItsValue (datum.Record fs)
-  of_others fs no = record {
-    it = datum.Record other;
-    value = (alone (fresh R), fresh-name R, tt, tt);
-    alike = is_alike R T (RecordShape (names_of fs) (field_readers names fs)) (RecordShape (names_of other) (field_readers names other)) same names declared;
-  }
-    where
-      other : Fields
-      other = field (fresh R) datum.Null no_fields
+  abbrev pub other : Fields
+  other = field (fresh R) datum.Null no_fields
 
+  pub other-value : IsValue (datum.Record other)
+  other-value = (alone (fresh R), fresh-name R, tt, tt)
+
+  pub other-alike : (fs : Fields) → (IsIn (names_of fs) R → ⊥) → Alike (datum.Record fs) (datum.Record other)
+  other-alike fs absent = is_alike R T (RecordShape (names_of fs) (field_readers names fs)) (RecordShape (names_of other) (field_readers names other)) same names declared
+    where
       same : SameShape R T (RecordShape (names_of fs) (field_readers names fs)) (RecordShape (names_of other) (field_readers names other))
       same = record {
         nulls = refl;
@@ -211,8 +194,8 @@ module _ (names : List Declared) (R : List (List (List ℕ))) (T : List Part) (d
         ints = refl;
         records = refl;
         arrays = (λ p j h. refl);
-        tys = (λ us j h up. no_tys R (names_of fs) (field_readers names fs) up us no j ∙ sym (no_tys R (names_of other) (field_readers names other) up us (fresh-none R) j));
-        parts = (λ us j h. no_parts R (names_of fs) (field_readers names fs) us no j ∙ sym (no_parts R (names_of other) (field_readers names other) us (fresh-none R) j));
+        tys = (λ us j h up. no_tys R (names_of fs) (field_readers names fs) up us absent j ∙ sym (no_tys R (names_of other) (field_readers names other) up us (fresh-none R) j));
+        parts = (λ us j h. no_parts R (names_of fs) (field_readers names fs) us absent j ∙ sym (no_parts R (names_of other) (field_readers names other) us (fresh-none R) j));
       }
 
   more_items : (d : Datum) (rest : Data) → ItsValue d → TheirValues rest → TheirValues (item d rest)
@@ -222,7 +205,7 @@ module _ (names : List Declared) (R : List (List (List ℕ))) (T : List Part) (d
     alike = λ p h. (let e = terms_alike d f.it f.alike p h in let g = r.alike p h in λ i. e i && g i);
   }
 
-  more_fields : (name : List ℕ) (d : Datum) (rest : Fields) → ItsValue d → FieldValues rest → FieldValues (field name d rest)
+  pub more_fields : (name : List ℕ) (d : Datum) (rest : Fields) → ItsValue d → FieldValues rest → FieldValues (field name d rest)
   more_fields name d rest f r = record {
     them = field name f.it r.them;
     named = ap (λ (ns : List (List ℕ)). name ∷ ns) r.named;
@@ -247,22 +230,28 @@ module _ (names : List Declared) (R : List (List (List ℕ))) (T : List Part) (d
           let g = r.parts us (others_among (term_rows p) (part_rows us) (term_item_parts p) (part_item_parts us) h) in
           λ i. bytes_eq name n && (e i && g i)
 
+  of_array : (ds : Data) → TheirValues ds → ItsValue (datum.Array ds)
+  of_array ds r = record { it = datum.Array (cut ds r).them; value = cut-value ds r; alike = cut-alike ds r }
+
   of_record : (fs : Fields) → FieldValues fs → ItsValue (datum.Record fs)
-  of_record fs r = elim (in_or (names_of fs) R) [ inl i ↦ of_fields fs r i | inr no ↦ of_others fs no ]
+  of_record fs r = elim (in_or (names_of fs) R) [
+    | inl i ↦ record { it = datum.Record r.them; value = kept-value fs r i; alike = kept-alike fs r }
+    | inr absent ↦ record { it = datum.Record other; value = other-value; alike = other-alike fs absent }
+  ]
 
   mutual
     pub its_value : (d : Datum) → ItsValue d
     its_value datum.Null = record { it = datum.Null; value = tt; alike = λ t h up. refl }
     its_value (datum.Truth b) = record { it = datum.Truth b; value = tt; alike = λ t h up. refl }
     its_value (datum.Whole z) = record { it = datum.Whole (pos 0); value = zero-int; alike = λ t h up. refl }
-    its_value (datum.Array ds) = of_items ds (their_values ds)
+    its_value (datum.Array ds) = of_array ds (their_values ds)
     its_value (datum.Record fs) = of_record fs (field_values fs)
 
-    their_values : (ds : Data) → TheirValues ds
+    pub their_values : (ds : Data) → TheirValues ds
     their_values no_items = record { them = no_items; values = tt; alike = λ p h. refl }
     their_values (item d rest) = more_items d rest (its_value d) (their_values rest)
 
-    field_values : (fs : Fields) → FieldValues fs
+    pub field_values : (fs : Fields) → FieldValues fs
     field_values no_fields = record { them = no_fields; named = refl; values = λ h. tt; tys = λ us h up. refl; parts = λ us h. refl }
     field_values (field name d rest) = more_fields name d rest (its_value d) (field_values rest)
 
@@ -272,32 +261,29 @@ each_in_all : {X : Type 0} (xs : List X) → EachOf (λ x. IsIn x xs) xs
 each_in_all [] = tt
 each_in_all {X} (x ∷ xs) = (inl refl, each_map (λ y. IsIn y xs) (λ y. IsIn y (x ∷ xs)) xs (λ y i. inr i) (each_in_all xs))
 
+pub every_one : (names : List Declared) (a b : Ty) → Among (all_rows names a b) (all_item_parts names a b) (all_rows names a b) (all_item_parts names a b)
+every_one names a b = (each_in_all (all_rows names a b), each_in_all (all_item_parts names a b))
+
+module _ (R : List (List (List ℕ))) (T : List Part) (names : List Declared) (a b : Ty) (all : Among R T (all_rows names a b) (all_item_parts names a b)) where
+  pub of_declared : Among R T (declared_rows names) (declared_item_parts names)
+  of_declared = (each_left (λ r. IsIn r R) (declared_rows names) (rows a ++ rows b) all.0, each_left (λ p. IsIn p T) (declared_item_parts names) (item_parts a ++ item_parts b) all.1)
+
+  of_two : Among R T (rows a ++ rows b) (item_parts a ++ item_parts b)
+  of_two = (each_right (λ r. IsIn r R) (declared_rows names) (rows a ++ rows b) all.0, each_right (λ p. IsIn p T) (declared_item_parts names) (item_parts a ++ item_parts b) all.1)
+
+  pub of_first : Among R T (rows a) (item_parts a)
+  of_first = (each_left (λ r. IsIn r R) (rows a) (rows b) of_two.0, each_left (λ p. IsIn p T) (item_parts a) (item_parts b) of_two.1)
+
+  pub of_second : Among R T (rows b) (item_parts b)
+  of_second = (each_right (λ r. IsIn r R) (rows a) (rows b) of_two.0, each_right (λ p. IsIn p T) (item_parts a) (item_parts b) of_two.1)
+
 pub has_its_value : (names : List Declared) (a b : Ty) → HaveRows names a b → AreFew names a b → HasItsValue names a b
-has_its_value names a b are_rows few d = (v.it, v.value, v.alike a first, v.alike b second)
-  where
-    R : List (List (List ℕ))
-    R = all_rows names a b
-
-    T : List Part
-    T = all_item_parts names a b
-
-    all : Among R T R T
-    all = (each_in_all R, each_in_all T)
-
-    declared : Among R T (declared_rows names) (declared_item_parts names)
-    declared = (each_left (λ r. IsIn r R) (declared_rows names) (rows a ++ rows b) all.0, each_left (λ p. IsIn p T) (declared_item_parts names) (item_parts a ++ item_parts b) all.1)
-
-    two : Among R T (rows a ++ rows b) (item_parts a ++ item_parts b)
-    two = (each_right (λ r. IsIn r R) (declared_rows names) (rows a ++ rows b) all.0, each_right (λ p. IsIn p T) (declared_item_parts names) (item_parts a ++ item_parts b) all.1)
-
-    first : Among R T (rows a) (item_parts a)
-    first = (each_left (λ r. IsIn r R) (rows a) (rows b) two.0, each_left (λ p. IsIn p T) (item_parts a) (item_parts b) two.1)
-
-    second : Among R T (rows b) (item_parts b)
-    second = (each_right (λ r. IsIn r R) (rows a) (rows b) two.0, each_right (λ p. IsIn p T) (item_parts a) (item_parts b) two.1)
-
-    v : ItsValue names R T declared are_rows few d
-    v = its_value names R T declared are_rows few d
+has_its_value names a b are_rows few d =
+    let R = all_rows names a b in
+    let T = all_item_parts names a b in
+    let all = every_one names a b in
+    let v = its_value names R T (of_declared R T names a b all) are_rows few d in
+    (v.it, v.value, v.alike a (of_first R T names a b all), v.alike b (of_second R T names a b all))
 
 pub is_shown : (names : List Declared) (a b : Ty) → HaveRows names a b → AreFew names a b → IsShown names a b
 is_shown names a b are_rows few d e f = let v = has_its_value names a b are_rows few d in (v.0, v.1, sym (v.2 true) ∙ e, sym (v.3 true) ∙ f)

@@ -6,4 +6,7 @@
 
 mod laws;
 
-pub use laws::{each_datum_has_its_value, outside_is_shown_by_a_value};
+pub use laws::{
+    each_datum_has_its_value, fields_are_those_of_values, items_are_those_of_values,
+    outside_is_shown_by_a_value,
+};
