@@ -59,19 +59,12 @@ module _ (names : List Declared) (R : List (List (List ℕ))) (T : List Part) (d
   item_is v (item x rest) p (inr i) e = item_is v rest p i (both (Is names x p) (AllAre names rest p) e).1
 
   pub item_shown : (t : Ty) → Among R T (rows t) (item_parts t) → (v : Datum) → IsValue v → IsItemIn names t v → HasItemOfValues names t v
-  item_shown t h v value (ds, i, e) = (
-    item v (cut names R T declared are_rows few ds r).them,
-    inl refl,
-    ((let l = (cut names R T declared are_rows few ds r).few in omega (arith, l, few)), value, (cut names R T declared are_rows few ds r).values),
-    sym (alike t h true) ∙ e,
-  )
-    where
-      r : TheirValues names R T declared are_rows few ds
-      r = their_values names R T declared are_rows few ds
-
-      alike : Alike names R T declared are_rows few (datum.Array ds) (datum.Array (item v (cut names R T declared are_rows few ds r).them))
-      alike = arrays_alike names R T declared are_rows few ds (item v (cut names R T declared are_rows few ds r).them)
-          (λ p j k. with_first (AllAre names ds p) (AllAre names (cut names R T declared are_rows few ds r).them p) (Is names v p) (cut-same names R T declared are_rows few ds r p j k) (item_is v ds p i))
+  item_shown t h v value x =
+      let ds = x.0 in
+      let r = their_values names R T declared are_rows few ds in
+      let c = cut names R T declared are_rows few ds r in
+      let alike = arrays_alike names R T declared are_rows few ds (item v c.them) (λ p j k. with_first (AllAre names ds p) (AllAre names c.them p) (Is names v p) (cut-same names R T declared are_rows few ds r p j k) (item_is v ds p x.1)) in
+      (item v c.them, inl refl, ((let l = c.few in omega (arith, l, few)), value, c.values), sym (alike t h true) ∙ x.2)
 
   -- ---- fields
 
@@ -81,6 +74,7 @@ module _ (names : List Declared) (R : List (List (List ℕ))) (T : List Part) (d
     kept : value_at f all.them ≡ Some v
 
   more_kept : (f : List ℕ) (v : Datum) (name : List ℕ) (d : Datum) (rest : Fields) → IsValue v → bytes_eq name f ≡ true → value_at f (field name d rest) ≡ Some v → KeptValues f v (field name d rest)
+  unfolding more_fields
   more_kept f v name d rest value b e = record {
     all = more_fields names R T declared are_rows few name d rest its (field_values names R T declared are_rows few rest);
     kept = rw b refl;
@@ -92,15 +86,17 @@ module _ (names : List Declared) (R : List (List (List ℕ))) (T : List Part) (d
       its : ItsValue names R T declared are_rows few d
       its = record { it = v; value = value; alike = λ t h up. ap (λ (x : Datum). is_in_ty names (shape_of names x) up t) same }
 
+  more_behind : (f : List ℕ) (v : Datum) (name : List ℕ) (d : Datum) (rest : Fields) → bytes_eq name f ≡ false → KeptValues f v rest → KeptValues f v (field name d rest)
+  unfolding more_fields
+  more_behind f v name d rest b k = record { all = more_fields names R T declared are_rows few name d rest (its_value names R T declared are_rows few d) k.all; kept = rw b k.kept }
+
   kept_values : (f : List ℕ) (v : Datum) (fs : Fields) → IsValue v → value_at f fs ≡ Some v → KeptValues f v fs
   kept_values f v no_fields value e = absurd cc
   kept_values f v (field name d rest) value e = by (bytes_eq name f) refl (λ g. kept_values f v rest value g)
     where
       by : (b : Bool) → bytes_eq name f ≡ b → (value_at f rest ≡ Some v → KeptValues f v rest) → KeptValues f v (field name d rest)
       by true b more = more_kept f v name d rest value b e
-      by false b more =
-          let k = more (rw b at e) in
-          record { all = more_fields names R T declared are_rows few name d rest (its_value names R T declared are_rows few d) k.all; kept = rw b k.kept }
+      by false b more = more_behind f v name d rest b (more (rw b at e))
 
   module _ (f : List ℕ) (named : IsIn (f ∷ []) R) where
     not_fresh : bytes_eq (fresh R) f ≡ true → ⊥
@@ -114,22 +110,22 @@ module _ (names : List Declared) (R : List (List (List ℕ))) (T : List Part) (d
         by false e = refl
 
     pub field_shown : (t : Ty) → Among R T (rows t) (item_parts t) → AllHave names f t → (v : Datum) → IsValue v → IsValueIn names f t v → HasFieldOfValues names f t v
-    field_shown t h have v value (fs, at, e) = elim (in_or (names_of fs) R) [ inl i ↦ here i | inr absent ↦ absurd (gone absent) ]
+    field_shown t h have v value x = elim (in_or (names_of x.0) R) [ inl i ↦ here i | inr absent ↦ absurd (gone absent) ]
       where
-        k : KeptValues f v fs
-        k = kept_values f v fs value at
+        k : KeptValues f v x.0
+        k = kept_values f v x.0 value x.1
 
-        here : IsIn (names_of fs) R → HasFieldOfValues names f t v
+        here : IsIn (names_of x.0) R → HasFieldOfValues names f t v
         here i = (
           k.all.them,
-          kept-value names R T declared are_rows few fs k.all i,
+          kept-value names R T declared are_rows few x.0 k.all i,
           k.kept,
-          sym (kept-alike names R T declared are_rows few fs k.all t h true) ∙ e,
+          sym (kept-alike names R T declared are_rows few x.0 k.all t h true) ∙ x.2,
         )
 
-        gone : (IsIn (names_of fs) R → ⊥) → ⊥
+        gone : (IsIn (names_of x.0) R → ⊥) → ⊥
         gone absent =
-            let a = have (datum.Record (other names R T declared are_rows few)) (sym (other-alike names R T declared are_rows few fs absent t h true) ∙ e) in
+            let a = have (datum.Record (other names R T declared are_rows few)) (sym (other-alike names R T declared are_rows few x.0 absent t h true) ∙ x.2) in
             let b = other_lacks in
             cc (a, b)
 
@@ -157,7 +153,7 @@ module _ (names : List Declared) (R : List (List (List ℕ))) (T : List Part) (d
         there absent = (datum.Record (other names R T declared are_rows few), other-value names R T declared are_rows few, other_lacks, sym (other-alike names R T declared are_rows few fs absent t h true) ∙ e)
 
     pub lack_shown : (t : Ty) → Among R T (rows t) (item_parts t) → SomeLacks names f t → IsLackedByValue names f t
-    lack_shown t h (d, n, e) = lacked t h d n e
+    lack_shown t h x = lacked t h x.0 x.1 x.2
 
 -- ---- of a type in a program
 

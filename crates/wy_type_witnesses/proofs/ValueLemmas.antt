@@ -205,7 +205,7 @@ module _ (names : List Declared) (R : List (List (List ℕ))) (T : List Part) (d
     alike = λ p h. (let e = terms_alike d f.it f.alike p h in let g = r.alike p h in λ i. e i && g i);
   }
 
-  pub more_fields : (name : List ℕ) (d : Datum) (rest : Fields) → ItsValue d → FieldValues rest → FieldValues (field name d rest)
+  unfoldable pub more_fields : (name : List ℕ) (d : Datum) (rest : Fields) → ItsValue d → FieldValues rest → FieldValues (field name d rest)
   more_fields name d rest f r = record {
     them = field name f.it r.them;
     named = ap (λ (ns : List (List ℕ)). name ∷ ns) r.named;
