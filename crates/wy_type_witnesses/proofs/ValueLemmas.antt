@@ -134,13 +134,13 @@ module _ (names : List Declared) (R : List (List (List ℕ))) (T : List Part) (d
     pub tys : (us : FieldTys) → Among R T (field_rows us) (field_item_parts us) → (up : Bool) → fields_in_tys (names_of fs) (field_readers names fs) up us ≡ fields_in_tys (names_of them) (field_readers names them) up us
     pub parts : (us : FieldParts) → Among R T (part_rows us) (part_item_parts us) → parts_in (names_of fs) (field_readers names fs) us ≡ parts_in (names_of them) (field_readers names them) us
 
-  first_among : (rs ss : List (List (List ℕ))) (ps qs : List Part) → Among R T (rs ++ ss) (ps ++ qs) → Among R T rs ps
+  pub first_among : (rs ss : List (List (List ℕ))) (ps qs : List Part) → Among R T (rs ++ ss) (ps ++ qs) → Among R T rs ps
   first_among rs ss ps qs h = (each_left (λ r. IsIn r R) rs ss h.0, each_left (λ p. IsIn p T) ps qs h.1)
 
-  others_among : (rs ss : List (List (List ℕ))) (ps qs : List Part) → Among R T (rs ++ ss) (ps ++ qs) → Among R T ss qs
+  pub others_among : (rs ss : List (List (List ℕ))) (ps qs : List Part) → Among R T (rs ++ ss) (ps ++ qs) → Among R T ss qs
   others_among rs ss ps qs h = (each_right (λ r. IsIn r R) rs ss h.0, each_right (λ p. IsIn p T) ps qs h.1)
 
-  terms_alike : (d v : Datum) → Alike d v → (p : Part) → Among R T (term_rows p) (term_item_parts p) → Is names d p ≡ Is names v p
+  pub terms_alike : (d v : Datum) → Alike d v → (p : Part) → Among R T (term_rows p) (term_item_parts p) → Is names d p ≡ Is names v p
   terms_alike d v f NoTerms h = refl
   terms_alike d v f (MoreTerms t up inside rest) h =
       let e = f t (first_among (rows t) (term_rows rest) (item_parts t) (term_item_parts rest) h) up in
@@ -151,7 +151,7 @@ module _ (names : List Declared) (R : List (List (List ℕ))) (T : List Part) (d
   pub cut : (ds : Data) → (r : TheirValues ds) → Picked names r.them T
   cut ds r = picked names r.them r.values T
 
-  cut-value : (ds : Data) (r : TheirValues ds) → IsValue (datum.Array (cut ds r).them)
+  pub cut-value : (ds : Data) (r : TheirValues ds) → IsValue (datum.Array (cut ds r).them)
   cut-value ds r = ((let l = (cut ds r).few in omega (arith, l, few)), (cut ds r).values)
 
   pub cut-same : (ds : Data) (r : TheirValues ds) (p : Part) → IsIn p T → Among R T (term_rows p) (term_item_parts p) → AllAre names ds p ≡ AllAre names (cut ds r).them p
@@ -164,7 +164,7 @@ module _ (names : List Declared) (R : List (List (List ℕ))) (T : List Part) (d
       same : SameShape R T (ArrayShape (item_readers names ds)) (ArrayShape (item_readers names es))
       same = record { nulls = refl; bools = refl; ints = refl; records = refl; arrays = f; tys = (λ fs i h up. refl); parts = (λ fs i h. refl) }
 
-  cut-alike : (ds : Data) (r : TheirValues ds) → Alike (datum.Array ds) (datum.Array (cut ds r).them)
+  pub cut-alike : (ds : Data) (r : TheirValues ds) → Alike (datum.Array ds) (datum.Array (cut ds r).them)
   cut-alike ds r = arrays_alike ds (cut ds r).them (cut-same ds r)
 
   -- a record whose names are those of some record type
@@ -182,7 +182,7 @@ module _ (names : List Declared) (R : List (List (List ℕ))) (T : List Part) (d
   other = field (fresh R) datum.Null no_fields
 
   pub other-value : IsValue (datum.Record other)
-  other-value = (alone (fresh R), fresh-name R, tt, tt)
+  other-value = (alone (fresh R), (fresh-name R, tt, tt))
 
   pub other-alike : (fs : Fields) → (IsIn (names_of fs) R → ⊥) → Alike (datum.Record fs) (datum.Record other)
   other-alike fs absent = is_alike R T (RecordShape (names_of fs) (field_readers names fs)) (RecordShape (names_of other) (field_readers names other)) same names declared
