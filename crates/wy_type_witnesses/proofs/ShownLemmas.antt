@@ -64,7 +64,7 @@ module _ (names : List Declared) (R : List (List (List ℕ))) (T : List Part) (d
       let r = their_values names R T declared are_rows few ds in
       let c = cut names R T declared are_rows few ds r in
       let alike = arrays_alike names R T declared are_rows few ds (item v c.them) (λ p j k. with_first (AllAre names ds p) (AllAre names c.them p) (Is names v p) (cut-same names R T declared are_rows few ds r p j k) (item_is v ds p x.1)) in
-      (item v c.them, inl refl, ((let l = c.few in omega (arith, l, few)), value, c.values), sym (alike t h true) ∙ x.2)
+      (item v c.them, inl refl, ((let l = c.few in omega (arith, l, few)), (value, c.values)), sym (alike t h true) ∙ x.2)
 
   -- ---- fields
 
