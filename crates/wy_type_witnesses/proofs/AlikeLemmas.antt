@@ -1,10 +1,10 @@
 -- Two data of one kind are in the same types, where their parts are in the same parts of these.
-use Rattle.std.proofs.Common.{◌≡◌, ℕ, zero, suc, List, [], ◌∷◌, ◌++◌, length, Bool, true, false, refl, sym, ap, subst, ◌∙◌}
+use Rattle.std.proofs.Common.{◌≡◌, ℕ, zero, suc, List, [], ◌∷◌, ◌++◌, length, Bool, true, false, refl, sym, ap, ◌∙◌}
 use Rattle.std.specs.Prelude.{not, ◌&&◌, ◌||◌, Option, Some, None, slice_get}
-use Rattle.wy_core.specs.Types.{Ty, FieldTys, Conjuncts, Atoms, Atom, FieldParts, Part, NullTy, BoolTy, IntTy, AnyTy, VoidTy, RecordTy, ArrayTy, UnionTy, InterTy, NotTy, NamedTy, NormalTy, NoFieldTys, MoreFieldTys, NoConjuncts, MoreConjuncts, NoAtoms, MoreAtoms, NullAtom, BoolAtom, IntAtom, ArrayAtom, RecordAtom, AnyRecordAtom, NoFieldParts, MoreFieldParts, NoTerms, MoreTerms}
+use Rattle.wy_core.specs.Types.{Ty, FieldTys, Conjuncts, Atoms, Atom, FieldParts, Part, NullTy, BoolTy, IntTy, AnyTy, VoidTy, RecordTy, ArrayTy, UnionTy, InterTy, NotTy, NamedTy, NormalTy, NoConjuncts, MoreConjuncts, NoAtoms, MoreAtoms, NullAtom, BoolAtom, IntAtom, ArrayAtom, RecordAtom, AnyRecordAtom}
 use Rattle.wy_types.specs.Claims.{EachOf, IsIn}
-use Rattle.wy_types.specs.Shape.{Shape, NullShape, BoolShape, IntShape, ArrayShape, RecordShape, is_null, is_bool, is_int, is_record, signed_as}
-use Rattle.wy_types.specs.Names.{Declared, terms_in, each_terms_in, is_array_of, is_record_of, is_in_atom, is_in_none, is_in_normal, each_in_ty, is_array, is_record_with, ty_in, declared_in, named_in, is_in_ty}
+use Rattle.wy_types.specs.Shape.{Shape, NullShape, BoolShape, IntShape, ArrayShape, RecordShape, is_null, is_bool, is_int, is_record}
+use Rattle.wy_types.specs.Names.{Declared, each_terms_in, is_array_of, is_record_of, is_in_atom, is_in_none, is_in_normal, each_in_ty, is_array, is_record_with, ty_in, declared_in, named_in, is_in_ty}
 use Rattle.wy_types.proofs.TruthLemmas.{and_true}
 use Rattle.wy_types.proofs.ClaimLemmas.{each_append, each_left, each_right}
 use Rattle.wy_type_witnesses.specs.Pieces.{names_of_tys, names_of_parts, rows, field_rows, conjunct_rows, atoms_rows, atom_rows, part_rows, term_rows, inside_of, item_parts, field_item_parts, conjunct_item_parts, atoms_item_parts, atom_item_parts, part_item_parts, term_item_parts, declared_rows, declared_item_parts}

@@ -1,7 +1,7 @@
 -- A name that is longer than any of given ones.
-use Rattle.std.proofs.Common.{◌≡◌, ℕ, zero, suc, ◌+◌, ◌<◌, ◌≤◌, List, [], ◌∷◌, length, Bool, true, false, ◌&&◌, ◌⊎◌, inl, inr, refl, sym, ap, subst, ◌∙◌, arith}
+use Rattle.std.proofs.Common.{◌≡◌, ℕ, zero, suc, ◌+◌, ◌≤◌, List, [], ◌∷◌, length, Bool, true, false, inl, inr, refl, sym, ap, subst, arith}
 use Rattle.std.specs.Prelude.{not}
-use Rattle.std.specs.Str.{IsAscii, chars, encode_utf8_all}
+use Rattle.std.specs.Str.{IsAscii, encode_utf8_all}
 use Rattle.std.proofs.lemmas.Str.{encodes-IsAscii, IsUtf8-from_ascii, chars-IsAscii}
 use Rattle.wy_data.specs.Words.{IsName, is_word, is_start, is_part, all_parts, is_keyword}
 use Rattle.wy_data.proofs.WordLemmas.{is_start-ascii, is_part-ascii}

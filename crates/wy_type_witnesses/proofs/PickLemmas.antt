@@ -1,5 +1,5 @@
 -- Of a list of data a part that is no longer than a list of tests, and fails just those tests that the list fails.
-use Rattle.std.proofs.Common.{◌≡◌, ℕ, ◌≤◌, List, [], ◌∷◌, length, Bool, true, false, ◌&&◌, ◌⊎◌, inl, inr, refl, sym, ap, subst, ◌∙◌, arith}
+use Rattle.std.proofs.Common.{◌≡◌, ◌≤◌, List, [], ◌∷◌, length, Bool, true, false, ◌&&◌, inl, inr, refl, sym, subst, arith}
 use Rattle.wy_value.specs.Datum.{Datum, Data, no_items, item}
 use Rattle.wy_value.specs.Values.{IsValue, AreValues, length_of}
 use Rattle.wy_core.specs.Types.{Part}

@@ -1,8 +1,7 @@
 -- What an item of an array may be, and what stands at a field of a record, is so of arrays and records of the language.
-use Rattle.std.proofs.Common.{◌≡◌, ℕ, ◌<◌, ◌-◌, ◌^◌, List, [], ◌∷◌, ◌++◌, length, Bool, true, false, cond, ◌⊎◌, inl, inr, Option, Some, None, refl, sym, ap, subst, ◌∙◌, arith}
+use Rattle.std.proofs.Common.{◌≡◌, ℕ, ◌<◌, ◌-◌, ◌^◌, List, [], ◌∷◌, length, Bool, true, false, cond, inl, inr, Some, None, refl, sym, ap, subst, ◌∙◌, arith}
 use Rattle.std.specs.Prelude.{◌&&◌, ◌||◌, is_some, pos}
 use Rattle.std.specs.Str.{bytes_eq}
-use Rattle.std.proofs.lemmas.Slice.Eq.{bytes_eq-Decides}
 use Rattle.wy_data.specs.Words.{IsName}
 use Rattle.wy_value.specs.Datum.{Datum, Data, no_items, item, Fields, no_fields, field}
 use Rattle.wy_value.specs.Datum as datum
@@ -15,12 +14,12 @@ use Rattle.wy_types.proofs.TruthLemmas.{both}
 use Rattle.wy_types.proofs.ClaimLemmas.{each_map}
 use Rattle.wy_parts.specs.Items.{IsItem, IsItemIn}
 use Rattle.wy_parts.specs.Fields.{value_at, has_value_at, SomeLacks, AllHave, IsValueIn}
-use Rattle.wy_type_witnesses.specs.Pieces.{rows, term_rows, item_parts, term_item_parts, declared_rows, declared_item_parts, all_rows, all_item_parts}
+use Rattle.wy_type_witnesses.specs.Pieces.{rows, item_parts, declared_rows, declared_item_parts, all_rows, all_item_parts}
 use Rattle.wy_type_witnesses.specs.Witnesses.{IsRow, HaveRows, AreFew, HasItemOfValues, IsLackedByValue, HasFieldOfValues}
 use Rattle.wy_type_witnesses.proofs.FreshLemmas.{fresh, fresh-none}
 use Rattle.wy_type_witnesses.proofs.PickLemmas.{Is, AllAre}
 use Rattle.wy_type_witnesses.proofs.AlikeLemmas.{Among}
-use Rattle.wy_type_witnesses.proofs.ValueLemmas.{in_or, alone, zero-int, every_one, of_declared, of_first, Alike, ItsValue, TheirValues, FieldValues, cut, cut-same, cut-value, cut-alike, arrays_alike, kept-value, kept-alike, other, other-value, other-alike, more_fields, its_value, their_values, field_values}
+use Rattle.wy_type_witnesses.proofs.ValueLemmas.{in_or, alone, zero-int, every_one, of_declared, of_first, ItsValue, FieldValues, cut, cut-same, cut-value, cut-alike, arrays_alike, kept-value, kept-alike, other, other-value, other-alike, more_fields, its_value, their_values, field_values}
 
 -- ---- truth
 

@@ -1,6 +1,6 @@
 -- Each datum has a value of the language beside it that is in the same types.
-use Rattle.std.proofs.Common.{◌≡◌, ℕ, zero, suc, ◌+◌, ◌≤◌, ◌<◌, ◌-◌, ◌^◌, List, [], ◌∷◌, ◌++◌, length, Bool, true, false, ◌⊎◌, inl, inr, refl, sym, ap, subst, ◌∙◌, arith}
-use Rattle.std.specs.Prelude.{not, ◌&&◌, pos}
+use Rattle.std.proofs.Common.{◌≡◌, ℕ, ◌<◌, ◌-◌, ◌^◌, List, [], ◌∷◌, ◌++◌, length, Bool, true, false, ◌⊎◌, inl, inr, refl, sym, ap, subst, ◌∙◌, arith}
+use Rattle.std.specs.Prelude.{◌&&◌, pos}
 use Rattle.std.specs.Str.{bytes_eq}
 use Rattle.std.specs.List.Sorted.{IsStrictlySortedBy}
 use Rattle.std.proofs.lemmas.Int.{ints}
@@ -9,16 +9,15 @@ use Rattle.wy_data.specs.Words.{IsName}
 use Rattle.wy_value.specs.Datum.{Datum, Data, no_items, item, Fields, no_fields, field}
 use Rattle.wy_value.specs.Datum as datum
 use Rattle.wy_value.specs.Values.{Rise, names_of, IsValue, AreValues, AreValueFields}
-use Rattle.wy_value.specs.declared.bounds.TheConstants.{INT_MIN, INT_MAX}
 use Rattle.wy_core.specs.Types.{Ty, FieldTys, FieldParts, Part, NoFieldTys, MoreFieldTys, NoFieldParts, MoreFieldParts, NoTerms, MoreTerms}
 use Rattle.wy_types.specs.Claims.{EachOf, IsIn}
-use Rattle.wy_types.specs.Shape.{Shape, NullShape, BoolShape, IntShape, ArrayShape, RecordShape, signed_as}
-use Rattle.wy_types.specs.Names.{Declared, terms_in, each_terms_in, parts_in, fields_in_tys, is_in_ty, shape_of, item_readers, field_readers}
+use Rattle.wy_types.specs.Shape.{ArrayShape, RecordShape, signed_as}
+use Rattle.wy_types.specs.Names.{Declared, terms_in, parts_in, fields_in_tys, is_in_ty, shape_of, item_readers, field_readers}
 use Rattle.wy_types.specs.NodeLaws.{bytes_are}
 use Rattle.wy_types.proofs.TruthLemmas.{both}
-use Rattle.wy_types.proofs.ClaimLemmas.{each_map, each_append, each_left, each_right, some_left, some_right}
+use Rattle.wy_types.proofs.ClaimLemmas.{each_map, each_left, each_right}
 use Rattle.wy_type_witnesses.specs.Pieces.{names_of_tys, names_of_parts, rows, field_rows, part_rows, term_rows, item_parts, field_item_parts, part_item_parts, term_item_parts, declared_rows, declared_item_parts, all_rows, all_item_parts}
-use Rattle.wy_type_witnesses.specs.Witnesses.{IsRow, HaveRows, AreFew, IsAlike, HasItsValue, IsShown}
+use Rattle.wy_type_witnesses.specs.Witnesses.{IsRow, HaveRows, AreFew, HasItsValue, IsShown}
 use Rattle.wy_type_witnesses.proofs.FreshLemmas.{fresh, fresh-name, fresh-none}
 use Rattle.wy_type_witnesses.proofs.PickLemmas.{each_at, Is, AllAre, Picked, picked, picked-same}
 use Rattle.wy_type_witnesses.proofs.AlikeLemmas.{Among, SameShape, is_alike}

@@ -1,5 +1,5 @@
 -- Data and values beside types, in a program with these declared types.
-use Rattle.std.specs.Prelude.{◌≡◌, ℕ, ◌<◌, ◌^◌, ◌-◌, List, [], ◌∷◌, Bool, true, false, length, Some}
+use Rattle.std.specs.Prelude.{◌≡◌, ℕ, ◌<◌, ◌^◌, ◌-◌, List, Bool, true, false, length, Some}
 use Rattle.wy_data.specs.Words.{IsName}
 use Rattle.wy_value.specs.Datum.{Datum, Data, Fields}
 use Rattle.wy_value.specs.Datum as datum
