@@ -1,0 +1,6 @@
+pub mod EveryLemmas
+pub mod DatumLemmas
+pub mod TypeLemmas
+pub mod OperatorLemmas
+pub mod NodeLemmas
+pub mod KindLemmas
