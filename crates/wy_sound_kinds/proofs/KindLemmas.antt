@@ -20,7 +20,7 @@ use Rattle.wy_sound_kinds.specs.Bounded.{IsBounded, FieldsBounded, AllBounded}
 use Rattle.wy_sound_kinds.specs.Ready.{Rules, count_of, Ready, AllReady, FieldsReady}
 use Rattle.wy_sound_kinds.specs.Kinds.{HasValues, HasTypes, Kind, Rests}
 use Rattle.wy_sound_kinds.specs.Laws.{AnswersHaveKinds}
-use Rattle.wy_sound_kinds.proofs.EveryLemmas.{Every, every_bind, every_map, every_told, every_of, every_spend, every_needed}
+use Rattle.wy_sound_frames.proofs.EveryLemmas.{Every, every_bind, every_map, every_told, every_of, every_spend, every_needed}
 use Rattle.wy_sound_kinds.proofs.TypeLemmas.{then_gives, given_is, nil_right, append_assoc, AllIn, FieldsIn}
 use Rattle.wy_sound_kinds.proofs.OperatorLemmas.{as_found, kind_plain, kind_int, kind_bool, negated_kind, denied_kind, length_kind, operated_kind}
 use Rattle.wy_sound_kinds.proofs.NodeLemmas.{IsItsValue, its_value, IsSeen, test_kind, item_kind, field_kind, list_kind, record_kind, repeat_kind, quantified_kind, call_for, call_kind}

@@ -1,4 +1,3 @@
-pub mod EveryLemmas
 pub mod DatumLemmas
 pub mod TypeLemmas
 pub mod OperatorLemmas

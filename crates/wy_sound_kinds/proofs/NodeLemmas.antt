@@ -25,7 +25,7 @@ use Rattle.wy_sound_parts.proofs.ValueLemmas.{values_are_in}
 use Rattle.wy_sound_kinds.specs.Bounded.{IsBounded, AreBounded, FieldsBounded, AllBounded}
 use Rattle.wy_sound_kinds.specs.Ready.{Rules}
 use Rattle.wy_sound_kinds.specs.Kinds.{HasTypes, Kind, AreIn, AreArguments, IsOfResult, IsResult, AreFor, Rests}
-use Rattle.wy_sound_kinds.proofs.EveryLemmas.{Every, every_bind, every_map, every_told, every_spend, every_check, every_choose, every_number, every_truth, every_items, every_fields, every_needed}
+use Rattle.wy_sound_frames.proofs.EveryLemmas.{Every, every_bind, every_map, every_told, every_spend, every_check, every_choose, every_number, every_truth, every_items, every_fields, every_needed}
 use Rattle.wy_sound_kinds.proofs.DatumLemmas.{index_below, item_is, item_bounded, copies_few, copies_bounded, data_few, data_bounded, found_at, field_bounded}
 use Rattle.wy_sound_kinds.proofs.TypeLemmas.{then_gives, given_is, types_nothing, types_one, AllIn, list_in, copies_in, FieldsIn, record_in}
 use Rattle.wy_sound_kinds.proofs.OperatorLemmas.{as_found, kind_plain, kind_truth, kind_bool, every_numbers}

@@ -22,7 +22,7 @@ use Rattle.wy_sem.specs.Operations.{same, same_number, as_number, as_truth, as_i
 use Rattle.wy_sem.specs.Expressions.{Store}
 use Rattle.wy_sound_kinds.specs.Bounded.{IsBounded}
 use Rattle.wy_sound_kinds.specs.Kinds.{HasTypes, Kind}
-use Rattle.wy_sound_kinds.proofs.EveryLemmas.{Every, every_bind, every_map, every_check, every_choose, every_number, every_truth, every_items}
+use Rattle.wy_sound_frames.proofs.EveryLemmas.{Every, every_bind, every_map, every_check, every_choose, every_number, every_truth, every_items}
 use Rattle.wy_sound_kinds.proofs.DatumLemmas.{length_is_int, rest_bounded}
 use Rattle.wy_sound_kinds.proofs.TypeLemmas.{then_gives, given_is, types_nothing, types_more, either_all}
 

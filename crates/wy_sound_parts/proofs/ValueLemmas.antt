@@ -69,36 +69,36 @@ module _ (table : Table) (k : ℕ) (ranks : (rank : ℕ → ℕ) × IsRanked tab
       any_in-values d (with_value table k f made w) ws
       ∙ (ap (λ x. x || ways_have (member table k d) f ws) (any_in-value d made w) ∙ or_assoc (any_in (shape_of table k d) made) (part_has (member table k d) f w) (ways_have (member table k d) f ws))
 
-  ways_hold : (fields : Fields) (a : Atom ℕ) (ns : List (Atom ℕ)) → atom_has f a ≡ true → (atom_in (RecordShape (names_of fields) (field_readers table k fields)) a && none_in (RecordShape (names_of fields) (field_readers table k fields)) ns) ≡ true
-      → (let c : Conjunct ℕ = record { positive = a; negatives = ns } in some_fields (names_of fields) (field_readers table k fields) (ways_of table k c) ≡ true)
-  ways_hold fields (atom.Record fs) ns has e =
-      ways_from-in table k (names_of fields) (field_readers table k fields) (laws_of table ranks.0 k ranks.1 fields) (fs ∷ []) ns
-      ∙ ap (λ b. b && none_in (RecordShape (names_of fields) (field_readers table k fields)) ns) (or_false (fields_in (names_of fields) (field_readers table k fields) fs))
+  ways_hold : (row : Fields) (a : Atom ℕ) (ns : List (Atom ℕ)) → atom_has f a ≡ true → (atom_in (RecordShape (names_of row) (field_readers table k row)) a && none_in (RecordShape (names_of row) (field_readers table k row)) ns) ≡ true
+      → (let c : Conjunct ℕ = record { positive = a; negatives = ns } in some_fields (names_of row) (field_readers table k row) (ways_of table k c) ≡ true)
+  ways_hold row (atom.Record fs) ns has e =
+      ways_from-in table k (names_of row) (field_readers table k row) (laws_of table ranks.0 k ranks.1 row) (fs ∷ []) ns
+      ∙ ap (λ b. b && none_in (RecordShape (names_of row) (field_readers table k row)) ns) (or_false (fields_in (names_of row) (field_readers table k row) fs))
       ∙ e
-  ways_hold fields atom.Null ns has e = false_true has
-  ways_hold fields atom.Bool ns has e = false_true has
-  ways_hold fields atom.Int ns has e = false_true has
-  ways_hold fields (atom.Array p) ns has e = false_true has
-  ways_hold fields atom.AnyRecord ns has e = false_true has
+  ways_hold row atom.Null ns has e = false_true has
+  ways_hold row atom.Bool ns has e = false_true has
+  ways_hold row atom.Int ns has e = false_true has
+  ways_hold row (atom.Array p) ns has e = false_true has
+  ways_hold row atom.AnyRecord ns has e = false_true has
 
-  some_hold : (fields : Fields) (cs : List (Conjunct ℕ)) → all_have f cs ≡ true → any_in (RecordShape (names_of fields) (field_readers table k fields)) cs ≡ true → some_fields (names_of fields) (field_readers table k fields) (all_ways table k cs) ≡ true
-  some_hold fields [] has e = false_true e
-  some_hold fields (c ∷ cs) has e =
-      some_fields-append (names_of fields) (field_readers table k fields) (ways_of table k c) (all_ways table k cs)
-      ∙ by (or_cases (conjunct_in (RecordShape (names_of fields) (field_readers table k fields)) c) (any_in (RecordShape (names_of fields) (field_readers table k fields)) cs) e)
+  some_hold : (row : Fields) (cs : List (Conjunct ℕ)) → all_have f cs ≡ true → any_in (RecordShape (names_of row) (field_readers table k row)) cs ≡ true → some_fields (names_of row) (field_readers table k row) (all_ways table k cs) ≡ true
+  some_hold row [] has e = false_true e
+  some_hold row (c ∷ cs) has e =
+      some_fields-append (names_of row) (field_readers table k row) (ways_of table k c) (all_ways table k cs)
+      ∙ by (or_cases (conjunct_in (RecordShape (names_of row) (field_readers table k row)) c) (any_in (RecordShape (names_of row) (field_readers table k row)) cs) e)
       (both (atom_has f c.positive) (all_have f cs) has)
-      (λ h g. some_hold fields cs h g)
+      (λ h g. some_hold row cs h g)
     where
-      by : (conjunct_in (RecordShape (names_of fields) (field_readers table k fields)) c ≡ true) ⊎ (any_in (RecordShape (names_of fields) (field_readers table k fields)) cs ≡ true) → (atom_has f c.positive ≡ true) × (all_have f cs ≡ true)
-          → (all_have f cs ≡ true → any_in (RecordShape (names_of fields) (field_readers table k fields)) cs ≡ true → some_fields (names_of fields) (field_readers table k fields) (all_ways table k cs) ≡ true)
-          → (some_fields (names_of fields) (field_readers table k fields) (ways_of table k c) || some_fields (names_of fields) (field_readers table k fields) (all_ways table k cs)) ≡ true
+      by : (conjunct_in (RecordShape (names_of row) (field_readers table k row)) c ≡ true) ⊎ (any_in (RecordShape (names_of row) (field_readers table k row)) cs ≡ true) → (atom_has f c.positive ≡ true) × (all_have f cs ≡ true)
+          → (all_have f cs ≡ true → any_in (RecordShape (names_of row) (field_readers table k row)) cs ≡ true → some_fields (names_of row) (field_readers table k row) (all_ways table k cs) ≡ true)
+          → (some_fields (names_of row) (field_readers table k row) (ways_of table k c) || some_fields (names_of row) (field_readers table k row) (all_ways table k cs)) ≡ true
       by (inl g) h rest =
-          or_left (some_fields (names_of fields) (field_readers table k fields) (ways_of table k c)) (some_fields (names_of fields) (field_readers table k fields) (all_ways table k cs)) (ways_hold fields c.positive c.negatives h.0 g)
-      by (inr g) h rest = or_right (some_fields (names_of fields) (field_readers table k fields) (ways_of table k c)) (some_fields (names_of fields) (field_readers table k fields) (all_ways table k cs)) (rest h.1 g)
+          or_left (some_fields (names_of row) (field_readers table k row) (ways_of table k c)) (some_fields (names_of row) (field_readers table k row) (all_ways table k cs)) (ways_hold row c.positive c.negatives h.0 g)
+      by (inr g) h rest = or_right (some_fields (names_of row) (field_readers table k row) (ways_of table k c)) (some_fields (names_of row) (field_readers table k row) (all_ways table k cs)) (rest h.1 g)
 
   -- the parts of a way that a record is in have values
-  inhabited_of : (fields : Fields) (w : List (List ℕ × Part ℕ)) → fields_in (names_of fields) (field_readers table k fields) w ≡ true → IsInhabited table k w
-  inhabited_of fields [] e = tt
+  inhabited_of : (row : Fields) (w : List (List ℕ × Part ℕ)) → fields_in (names_of row) (field_readers table k row) w ≡ true → IsInhabited table k w
+  inhabited_of row [] e = tt
   inhabited_of no_fields (x ∷ w) e = false_true e
   inhabited_of (field name d rest) (x ∷ w) e =
       let a = both (bytes_eq name x.0) (part_in (member table k d) x.1.terms && fields_in (names_of rest) (field_readers table k rest) w) e in
@@ -106,7 +106,7 @@ module _ (table : Table) (k : ℕ) (ranks : (rank : ℕ → ℕ) × IsRanked tab
       ((d, b.0), inhabited_of rest w b.1)
 
   -- a record of a way has at the field what is in the field's part
-  value_in : (d : Datum) (fields : Fields) (w : List (List ℕ × Part ℕ)) → fields_in (names_of fields) (field_readers table k fields) w ≡ true → value_at f fields ≡ Some d → part_has (member table k d) f w ≡ true
+  value_in : (d : Datum) (row : Fields) (w : List (List ℕ × Part ℕ)) → fields_in (names_of row) (field_readers table k row) w ≡ true → value_at f row ≡ Some d → part_has (member table k d) f w ≡ true
   value_in d no_fields w e v = absurd cc
   value_in d (field name x rest) [] e v = false_true e
   value_in d (field name x rest) (y ∷ w) e v =
@@ -119,27 +119,27 @@ module _ (table : Table) (k : ℕ) (ranks : (rank : ℕ → ℕ) × IsRanked tab
       by true g v held later = let is : x ≡ d = same_datum x d (ap (λ b. cond b (Some x) (value_at f rest)) (sym g) ∙ v) in subst (λ (z : Datum). part_in (member table k z) y.1.terms ≡ true) is held
       by false g v held later = later (ap (λ b. cond b (Some x) (value_at f rest)) (sym g) ∙ v)
 
-  of_ways : (d : Datum) (fields : Fields) (ws made : List (List (List ℕ × Part ℕ))) → AreInhabited table k ws made → value_at f fields ≡ Some d → some_fields (names_of fields) (field_readers table k fields) ws ≡ true → ways_have (member table k d) f made ≡ true
-  of_ways d fields [] made h v e = false_true e
-  of_ways d fields (w ∷ ws) made (inl h) v e =
+  of_ways : (d : Datum) (row : Fields) (ws made : List (List (List ℕ × Part ℕ))) → AreInhabited table k ws made → value_at f row ≡ Some d → some_fields (names_of row) (field_readers table k row) ws ≡ true → ways_have (member table k d) f made ≡ true
+  of_ways d row [] made h v e = false_true e
+  of_ways d row (w ∷ ws) made (inl h) v e =
       ap (ways_have (member table k d) f) h.2
-      ∙ by (or_cases (fields_in (names_of fields) (field_readers table k fields) w) (some_fields (names_of fields) (field_readers table k fields) ws) e) (λ g. of_ways d fields ws h.0 h.3 v g)
+      ∙ by (or_cases (fields_in (names_of row) (field_readers table k row) w) (some_fields (names_of row) (field_readers table k row) ws) e) (λ g. of_ways d row ws h.0 h.3 v g)
     where
-      by : (fields_in (names_of fields) (field_readers table k fields) w ≡ true) ⊎ (some_fields (names_of fields) (field_readers table k fields) ws ≡ true)
-          → (some_fields (names_of fields) (field_readers table k fields) ws ≡ true → ways_have (member table k d) f h.0 ≡ true) → (part_has (member table k d) f w || ways_have (member table k d) f h.0) ≡ true
-      by (inl g) rest = or_left (part_has (member table k d) f w) (ways_have (member table k d) f h.0) (value_in d fields w g v)
+      by : (fields_in (names_of row) (field_readers table k row) w ≡ true) ⊎ (some_fields (names_of row) (field_readers table k row) ws ≡ true)
+          → (some_fields (names_of row) (field_readers table k row) ws ≡ true → ways_have (member table k d) f h.0 ≡ true) → (part_has (member table k d) f w || ways_have (member table k d) f h.0) ≡ true
+      by (inl g) rest = or_left (part_has (member table k d) f w) (ways_have (member table k d) f h.0) (value_in d row w g v)
       by (inr g) rest = or_right (part_has (member table k d) f w) (ways_have (member table k d) f h.0) (rest g)
-  of_ways d fields (w ∷ ws) made (inr h) v e = by (or_cases (fields_in (names_of fields) (field_readers table k fields) w) (some_fields (names_of fields) (field_readers table k fields) ws) e) (λ g. of_ways d fields ws made h.1 v g)
+  of_ways d row (w ∷ ws) made (inr h) v e = by (or_cases (fields_in (names_of row) (field_readers table k row) w) (some_fields (names_of row) (field_readers table k row) ws) e) (λ g. of_ways d row ws made h.1 v g)
     where
-      by : (fields_in (names_of fields) (field_readers table k fields) w ≡ true) ⊎ (some_fields (names_of fields) (field_readers table k fields) ws ≡ true)
-          → (some_fields (names_of fields) (field_readers table k fields) ws ≡ true → ways_have (member table k d) f made ≡ true) → ways_have (member table k d) f made ≡ true
-      by (inl g) rest = absurd (h.0 (inhabited_of fields w g))
+      by : (fields_in (names_of row) (field_readers table k row) w ≡ true) ⊎ (some_fields (names_of row) (field_readers table k row) ws ≡ true)
+          → (some_fields (names_of row) (field_readers table k row) ws ≡ true → ways_have (member table k d) f made ≡ true) → ways_have (member table k d) f made ≡ true
+      by (inl g) rest = absurd (h.0 (inhabited_of row w g))
       by (inr g) rest = rest g
 
   -- a value at the field of a record of the conjuncts is in the union of the field's parts
-  pub value_of_union : (d : Datum) (fields : Fields) (cs : List (Conjunct ℕ)) (ways : List (List (List ℕ × Part ℕ))) → AreInhabited table k (all_ways table k cs) ways → all_have f cs ≡ true → value_at f fields ≡ Some d
-      → any_in (shape_of table k (datum.Record fields)) cs ≡ true → any_in (shape_of table k d) (values_at table k f [] ways) ≡ true
-  value_of_union d fields cs ways h has v e = any_in-values d [] ways ∙ of_ways d fields (all_ways table k cs) ways h v (some_hold fields cs has e)
+  pub value_of_union : (d : Datum) (row : Fields) (cs : List (Conjunct ℕ)) (ways : List (List (List ℕ × Part ℕ))) → AreInhabited table k (all_ways table k cs) ways → all_have f cs ≡ true → value_at f row ≡ Some d
+      → any_in (shape_of table k (datum.Record row)) cs ≡ true → any_in (shape_of table k d) (values_at table k f [] ways) ≡ true
+  value_of_union d row cs ways h has v e = any_in-values d [] ways ∙ of_ways d row (all_ways table k cs) ways h v (some_hold row cs has e)
 
 union_has : (names : List Declared) (recur : RecurThroughParts names) (f : List ℕ) (t union : Ty) → IsUnion names f t union → (d : Datum) → IsValueIn names f t d → Up names d union ≡ true
 union_has names recur f t union is d o =

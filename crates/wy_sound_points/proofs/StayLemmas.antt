@@ -97,7 +97,7 @@ rebuilt_rests n (FieldOf name whole ∷ parts) v h g =
 
 -- ---- the head of a loop
 
-record RenewedPoint (n : ℕ) (r : Renewed) : Type 0 where
+pub record RenewedPoint (n : ℕ) (r : Renewed) : Type 0 where
   pub grows : n ≤ r.count
   pub point : Point r.count r.spot
 
@@ -109,7 +109,7 @@ later_renewed : (n m : ℕ) (r : Renewed) → n ≤ m → RenewedPoint m r → R
 later_renewed n m r le h = let up = h.grows in record { grows = omega (arith, le, up); point = h.point }
 
 module _ {N : Type 0} (b : Body N) where
-  expr_up : (e : Expr N) (vars : Vars) (hyps : List Term) (n : ℕ) → n ≤ (expr b e vars hyps n).count
+  pub expr_up : (e : Expr N) (vars : Vars) (hyps : List Term) (n : ℕ) → n ≤ (expr b e vars hyps n).count
   expr_up e vars hyps n = code_grows b.program (words b) e vars hyps n
 
   expr_rests : (e : Expr N) (vars : Vars) (hyps : List Term) (n : ℕ) → AreData vars → AllDepend n vars → Rests (expr b e vars hyps n).count (expr b e vars hyps n).term
@@ -128,7 +128,7 @@ module _ {N : Type 0} (b : Body N) where
         breaks = tt;
       }
 
-  along_up : (path : List (Step N)) (whole : Term) (vars : Vars) (hyps : List Term) (n : ℕ) → n ≤ (along b path whole vars hyps n).count
+  pub along_up : (path : List (Step N)) (whole : Term) (vars : Vars) (hyps : List Term) (n : ℕ) → n ≤ (along b path whole vars hyps n).count
   along_up [] whole vars hyps n = omega arith
   along_up (IndexStep at e ∷ steps) whole vars hyps n =
       let i = expr b e vars hyps n in
@@ -155,22 +155,22 @@ module _ {N : Type 0} (b : Body N) where
 
   -- ---- results and clauses
 
-  result_up : (at : ℕ) (out : Option tree.Output) (v : Option Term) (hyps : List Term) (n : ℕ) → n ≤ (owe_result b at out v hyps n).count
+  pub result_up : (at : ℕ) (out : Option tree.Output) (v : Option Term) (hyps : List Term) (n : ℕ) → n ≤ (owe_result b at out v hyps n).count
   result_up at None v hyps n = omega arith
   result_up at (Some out) None hyps n = omega arith
   result_up at (Some out) (Some v) hyps n = member_grows b.program.setting at out.ty v hyps n
 
-  leave_up : (at : ℕ) (v : Option Term) (hyps : List Term) (n : ℕ) → n ≤ (leave b at v hyps n).count
+  pub leave_up : (at : ℕ) (v : Option Term) (hyps : List Term) (n : ℕ) → n ≤ (leave b at v hyps n).count
   leave_up at v hyps n =
       let member = owe_result b at b.routine.result v hyps n in
       let up = result_up at b.routine.result v hyps n in
       let on = clauses_grow b.program.setting kind.Ensures at (words b) b.routine.postconditions (with_result b.routine.result v b.entry) member.hyps member.count in omega (arith, up, on)
 
-  keep_up : (at : ℕ) (es : List (Expr N)) (o : Option Spot) (n : ℕ) → n ≤ (keep b at es o n).count
+  pub keep_up : (at : ℕ) (es : List (Expr N)) (o : Option Spot) (n : ℕ) → n ≤ (keep b at es o n).count
   keep_up at es None n = omega arith
   keep_up at es (Some p) n = clauses_grow b.program.setting kind.Keep at (words b) es p.vars p.hyps n
 
-  walked_up : (es : List (Expr N)) (vars : Vars) (hyps : List Term) (n : ℕ) → n ≤ (walk_clauses b.program (words b) es vars hyps n).count
+  pub walked_up : (es : List (Expr N)) (vars : Vars) (hyps : List Term) (n : ℕ) → n ≤ (walk_clauses b.program (words b) es vars hyps n).count
   walked_up [] vars hyps n = omega arith
   walked_up (e ∷ es) vars hyps n =
       let v = expr b e vars hyps n in
@@ -197,7 +197,7 @@ module _ {N : Type 0} (b : Body N) where
       picked_renewed n (assigns_in x body && is_set p.set x) rest (renew_types b body (suc x) j p n)
       (later_renewed n f.count rest up (types_renewed body (suc x) j (with_hyps f.hyps p) f.count (with_point f.count p f.hyps (point_more n f.count p up h)))) (types_renewed body (suc x) j p n h)
 
-  head_renewed : (body : Stmts N) (p : Spot) (n : ℕ) → Point n p → RenewedPoint n (renew b body p n)
+  pub head_renewed : (body : Stmts N) (p : Spot) (n : ℕ) → Point n p → RenewedPoint n (renew b body p n)
   head_renewed body p n h =
       let r = renew_vars (words b) body 0 (bound_in body) p n in
       let k = vars_renewed body 0 (bound_in body) p n h in
@@ -206,7 +206,7 @@ module _ {N : Type 0} (b : Body N) where
   -- ---- statements
 
   mutual
-    statement_points : (around : List (Expr N)) (st : Stmt N) (p : Spot) (n : ℕ) → Point n p → FlowPoints n (exec b around st p n)
+    pub statement_points : (around : List (Expr N)) (st : Stmt N) (p : Spot) (n : ℕ) → Point n p → FlowPoints n (exec b around st p n)
     statement_points around (DeclareStmt at t x None) p n h =
         let r = name_rests (word_at (words b) x) n in
         record { grows = omega arith; ends = declare_point (suc n) p x (val_name (word_at (words b) x) n) r.is r.depends (point_more n (suc n) p (omega arith) h); breaks = tt }
@@ -281,7 +281,7 @@ module _ {N : Type 0} (b : Body N) where
         let g7 = m.grows in
         record { grows = omega (arith, g1, g2, g3, g4, g5, g6, g7); ends = m.ends; breaks = tt }
 
-    block_points : (around : List (Expr N)) (block : Stmts N) (p : Spot) (n : ℕ) → Point n p → FlowPoints n (exec_all b around block p n)
+    pub block_points : (around : List (Expr N)) (block : Stmts N) (p : Spot) (n : ℕ) → Point n p → FlowPoints n (exec_all b around block p n)
     block_points around NoStmts p n h = record { grows = omega arith; ends = h; breaks = tt }
     block_points around (MoreStmts first rest) p n h =
         then_points n (exec b around first p n) (exec_all b around rest) (statement_points around first p n h) (λ q m g. block_points around rest q m g)
