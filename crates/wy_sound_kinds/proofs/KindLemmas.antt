@@ -2,6 +2,7 @@
 use Rattle.std.proofs.Common.{◌≡◌, ℕ, ◌+◌, List, [], ◌∷◌, ◌++◌, length, Bool, true, false, Option, Some, ℤ, refl, sym, ap, ◌∙◌, subst, arith}
 use Rattle.wy_value.specs.Datum.{Datum, Null, Truth, Whole, Array, Record, no_fields, field}
 use Rattle.wy_value.specs.Datum as datum
+use Rattle.wy_value.specs.Values.{Rise, names_of}
 use Rattle.wy_core.specs.Types.{Ty}
 use Rattle.wy_core.specs.CoreTree.{Expr, NullExpr, BoolExpr, IntExpr, VarExpr, CallExpr, NegExpr, NotExpr, LenExpr, BinaryExpr, IsExpr, IndexExpr, FieldExpr, ListExpr, RepeatExpr, RecordExpr, QuantExpr, Exprs, NoExprs, MoreExprs, Fields, NoFields, MoreFields}
 use Rattle.wy_types.specs.Names.{Up}
@@ -17,7 +18,7 @@ use Rattle.wy_sem.specs.Expressions.{Store, slot, put, Setting, quantified, data
 use Rattle.wy_conditions.specs.Sizes.{exprs_in}
 use Rattle.wy_conditions.specs.Numbered.{Node, numbered, numbered_all, numbered_fields}
 use Rattle.wy_sound_kinds.specs.Bounded.{IsBounded, FieldsBounded, AllBounded}
-use Rattle.wy_sound_kinds.specs.Ready.{Rules, count_of, Ready, AllReady, FieldsReady}
+use Rattle.wy_sound_kinds.specs.Ready.{Rules, count_of, names_in, Ready, AllReady, FieldsReady}
 use Rattle.wy_sound_kinds.specs.Kinds.{HasValues, HasTypes, Kind, Rests}
 use Rattle.wy_sound_kinds.specs.Laws.{AnswersHaveKinds}
 use Rattle.wy_sound_frames.proofs.EveryLemmas.{Every, every_bind, every_map, every_told, every_of, every_spend, every_needed}
@@ -33,11 +34,12 @@ pub record Kinds (p : Program) (all out : FoundAll) (n : ℕ) (vs : List Datum) 
   pub bounded : AllBounded vs
   pub many : length vs ≡ n
 
-pub record FieldKinds (p : Program) (all out : FoundFields) (ds : datum.Fields) : Type 0 where
+pub record FieldKinds (p : Program) (all out : FoundFields) (ns : List (List ℕ)) (ds : datum.Fields) : Type 0 where
   pub fields : List (List ℕ × Ty)
   pub behind : out.fields ≡ all.fields ++ fields
   pub inside : FieldsIn p.names fields ds
   pub bounded : FieldsBounded ds
+  pub named : names_of ds ≡ ns
 
 seen_of : (r : Rules) (q : Bool) (n : ℕ) (seen : ℕ → Bool) (p : Program) (w : Setting Node) (paid : Bool) (says : Ty → Datum → Bool) (rests : Rests p r w paid says) (env : Environment) (reached : env.reached ≡ true) (over : Changes) (s : Store) (h : HasTypes p.names env over seen s)
     → (e : Expr ℕ) → Ready r q n seen e → IsSeen p r w paid says rests env reached over seen s h e
@@ -152,10 +154,10 @@ module _ (p : Program) (r : Rules) (w : Setting Node) (paid : Bool) (says : Ty �
     kind (RecordExpr at fs) k over flow u typed ready h m =
         let t = then_gives _ _ u typed in
         every_spend paid _ (R over u)
-        (λ l. every_bind (eval_fields w paid (numbered_fields fs k) s l) (λ ds. Done (Record ds)) (FieldKinds p (no_field_yet flow) t.0) (R over u) (field_kinds fs k over (no_field_yet flow) t.0 t.1 ready h l)
+        (λ l. every_bind (eval_fields w paid (numbered_fields fs k) s l) (λ ds. Done (Record ds)) (FieldKinds p (no_field_yet flow) t.0 (names_in fs)) (R over u) (field_kinds fs k over (no_field_yet flow) t.0 t.1 ready.1 h l)
         (λ ds j e x.
         let inside : FieldsIn p.names t.0.fields ds = subst (λ (ts : List (List ℕ × Ty)). FieldsIn p.names ts ds) (sym x.behind) x.inside in
-        record_kind p r w paid says rests env reached over seen s h at t.0 u ds inside x.bounded t.2)) m
+        record_kind p r w paid says rests env reached over seen s h at t.0 u ds inside (subst Rise (sym x.named) ready.0, x.bounded) t.2)) m
     kind (QuantExpr at all x a b body) k over flow u typed ready h m =
         let t = then_gives _ _ u typed in
         let t2 = then_gives _ _ u t.2 in
@@ -185,18 +187,19 @@ module _ (p : Program) (r : Rules) (w : Setting Node) (paid : Bool) (says : Ty �
           many = let n = x.many in omega (arith, n);
         }))
 
-    pub field_kinds : (fs : Fields ℕ) (k : ℕ) (over : Changes) (all out : FoundFields) → TypedFields p env fs over all (Gives out) → FieldsReady r q (length s) seen fs → In over → (m : Meter) → Every (eval_fields w paid (numbered_fields fs k) s m) (FieldKinds p all out)
-    field_kinds NoFields k over all out typed ready h m = record { fields = []; behind = ap (λ (x : FoundFields). x.fields) (given_is out all typed) ∙ sym (nil_right all.fields); inside = tt; bounded = tt }
+    pub field_kinds : (fs : Fields ℕ) (k : ℕ) (over : Changes) (all out : FoundFields) → TypedFields p env fs over all (Gives out) → FieldsReady r q (length s) seen fs → In over → (m : Meter) → Every (eval_fields w paid (numbered_fields fs k) s m) (FieldKinds p all out (names_in fs))
+    field_kinds NoFields k over all out typed ready h m = record { fields = []; behind = ap (λ (x : FoundFields). x.fields) (given_is out all typed) ∙ sym (nil_right all.fields); inside = tt; bounded = tt; named = refl }
     field_kinds (MoreFields name e fs) k over all out typed ready h m =
         let t = then_gives _ _ out typed in
-        every_bind (eval w paid (numbered e k) s m) _ (R over t.0) (FieldKinds p all out) (kind e k over all.flow t.0 t.1 ready.0 h m)
-        (λ d j f kd. every_bind (eval_fields w paid (numbered_fields fs (k + exprs_in e)) s j) (λ ds. Done (field name d ds)) (FieldKinds p (field_more name t.0 all) out) (FieldKinds p all out)
+        every_bind (eval w paid (numbered e k) s m) _ (R over t.0) (FieldKinds p all out (name ∷ names_in fs)) (kind e k over all.flow t.0 t.1 ready.0 h m)
+        (λ d j f kd. every_bind (eval_fields w paid (numbered_fields fs (k + exprs_in e)) s j) (λ ds. Done (field name d ds)) (FieldKinds p (field_more name t.0 all) out (names_in fs)) (FieldKinds p all out (name ∷ names_in fs))
         (field_kinds fs (k + exprs_in e) over (field_more name t.0 all) out t.2 ready.1 h j)
         (λ ds i g x. record {
           fields = (name, t.0.ty) ∷ x.fields;
           behind = x.behind ∙ append_assoc all.fields ((name, t.0.ty) ∷ []) x.fields;
           inside = (refl, kd.inside, x.inside);
           bounded = (kd.bounded, x.bounded);
+          named = ap (λ (l : List (List ℕ)). name ∷ l) x.named;
         }))
 
 pub answers_are : AnswersHaveKinds

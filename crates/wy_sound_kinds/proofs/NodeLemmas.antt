@@ -22,7 +22,7 @@ use Rattle.wy_conditions.specs.Numbered.{Node, numbered}
 use Rattle.wy_sound_parts.proofs.NormLemmas.{norms_same}
 use Rattle.wy_sound_parts.proofs.ItemLemmas.{items_are_in}
 use Rattle.wy_sound_parts.proofs.ValueLemmas.{values_are_in}
-use Rattle.wy_sound_kinds.specs.Bounded.{IsBounded, AreBounded, FieldsBounded, AllBounded}
+use Rattle.wy_sound_kinds.specs.Bounded.{IsBounded, AllBounded}
 use Rattle.wy_sound_kinds.specs.Ready.{Rules}
 use Rattle.wy_sound_kinds.specs.Kinds.{HasTypes, Kind, AreIn, AreArguments, IsOfResult, IsResult, AreFor, Rests}
 use Rattle.wy_sound_frames.proofs.EveryLemmas.{Every, every_bind, every_map, every_told, every_spend, every_check, every_choose, every_number, every_truth, every_items, every_fields, every_needed}
@@ -188,7 +188,7 @@ module _ (p : Program) (r : Rules) (w : Setting Node) (paid : Bool) (says : Ty �
       (λ x q.
       let c : IsBounded (Record fs) = subst IsBounded is kd.bounded in
       let inside : Up p.names (Record fs) a.ty ≡ true = subst (λ (y : Datum). Up p.names y a.ty ≡ true) is kd.inside in
-      kind_plain p.names env over seen s x t1.0 a.flow h (field_bounded fs name x c q) (values_are_in p.names rests.recur name a.ty t1.0 t1.1.2 x (fs, found_at fs name ∙ q, inside)))))
+      kind_plain p.names env over seen s x t1.0 a.flow h (field_bounded fs name x c.1 q) (values_are_in p.names rests.recur name a.ty t1.0 t1.1.2 x (fs, found_at fs name ∙ q, inside)))))
 
   -- ---- lists and records
 
@@ -199,7 +199,7 @@ module _ (p : Program) (r : Rules) (w : Setting Node) (paid : Bool) (says : Ty �
       (kind_plain p.names env over seen s (Array (data_of vs)) t1.0 all.flow h (data_few vs n many few, data_bounded vs bounded)
       (norms_same p.names rests.recur (ArrayTy (union_all all.types)) t1.0 t1.1.1 (Array (data_of vs)) ∙ list_in p.names all.types vs inside))
 
-  pub record_kind : (node : ℕ) (all : FoundFields) (u : Found) (ds : Fields) → FieldsIn p.names all.fields ds → FieldsBounded ds → RecordOf p.names node all (Gives u) → R u (Record ds)
+  pub record_kind : (node : ℕ) (all : FoundFields) (u : Found) (ds : Fields) → FieldsIn p.names all.fields ds → IsBounded (Record ds) → RecordOf p.names node all (Gives u) → R u (Record ds)
   record_kind node all u ds inside bounded typed =
       let t1 = then_gives _ _ u typed in
       as_found p.names env over seen s u (found t1.0 [] [] all.flow) (Record ds) t1.2

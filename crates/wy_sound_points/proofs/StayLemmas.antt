@@ -39,11 +39,11 @@ use Rattle.wy_sound_points.proofs.MeetLemmas.{meet_points}
 -- ---- values that come into variables
 
 -- a Val term that depends on names below the count
-record Rests (n : ℕ) (t : Term) : Type 0 where
+pub record Rests (n : ℕ) (t : Term) : Type 0 where
   pub is : IsOf val_sort t
   pub depends : Depends n t
 
-rests_on : (n m : ℕ) (t : Term) → n ≤ m → Rests n t → Rests m t
+pub rests_on : (n m : ℕ) (t : Term) → n ≤ m → Rests n t → Rests m t
 rests_on n m t le h = record { is = h.is; depends = depends_more n m t le h.depends }
 
 name_rests : (word : List ℕ) (n : ℕ) → Rests (suc n) (val_name word n)
@@ -76,17 +76,17 @@ set_field_depends : (n : ℕ) (name : List ℕ) (v w : Term) → Depends n v →
 set_field_depends n name v w h k x y a =
     set_field_means y name v w ∙ ap₂ (λ (d e : Datum). shapes.with_field d name e) (h x y a) (k x y a) ∙ sym (set_field_means x name v w)
 
-abbrev PartsRest : ℕ → List Part → Type 0
+abbrev pub PartsRest : ℕ → List Part → Type 0
 PartsRest n [] = Unit {0}
 PartsRest n (ElementOf whole i ∷ parts) = Rests n whole × Rests n i × PartsRest n parts
 PartsRest n (FieldOf name whole ∷ parts) = Rests n whole × PartsRest n parts
 
-parts_on : (n m : ℕ) (parts : List Part) → n ≤ m → PartsRest n parts → PartsRest m parts
+pub parts_on : (n m : ℕ) (parts : List Part) → n ≤ m → PartsRest n parts → PartsRest m parts
 parts_on n m [] le h = tt
 parts_on n m (ElementOf whole i ∷ parts) le h = (rests_on n m whole le h.0, rests_on n m i le h.1, parts_on n m parts le h.2)
 parts_on n m (FieldOf name whole ∷ parts) le h = (rests_on n m whole le h.0, parts_on n m parts le h.1)
 
-rebuilt_rests : (n : ℕ) (parts : List Part) (v : Term) → PartsRest n parts → Rests n v → Rests n (rebuilt parts v)
+pub rebuilt_rests : (n : ℕ) (parts : List Part) (v : Term) → PartsRest n parts → Rests n v → Rests n (rebuilt parts v)
 rebuilt_rests n [] v h g = g
 rebuilt_rests n (ElementOf whole i ∷ parts) v h g =
     let k = rebuilt_rests n parts v h.2 g in
@@ -112,7 +112,7 @@ module _ {N : Type 0} (b : Body N) where
   pub expr_up : (e : Expr N) (vars : Vars) (hyps : List Term) (n : ℕ) → n ≤ (expr b e vars hyps n).count
   expr_up e vars hyps n = code_grows b.program (words b) e vars hyps n
 
-  expr_rests : (e : Expr N) (vars : Vars) (hyps : List Term) (n : ℕ) → AreData vars → AllDepend n vars → Rests (expr b e vars hyps n).count (expr b e vars hyps n).term
+  pub expr_rests : (e : Expr N) (vars : Vars) (hyps : List Term) (n : ℕ) → AreData vars → AllDepend n vars → Rests (expr b e vars hyps n).count (expr b e vars hyps n).term
   expr_rests e vars hyps n are h = record { is = code_sorted b.program (words b) e vars hyps n are; depends = code_depends b.program (words b) e vars hyps n are h }
 
   given_points : (start at : ℕ) (t : Ty) (x : ℕ) (v : Term) (owed : List Owed) (p : Spot) (hyps : List Term) (n : ℕ) → start ≤ n → Rests n v → Point start p → FlowPoints start (given b at t x v owed p hyps n)
@@ -136,7 +136,7 @@ module _ {N : Type 0} (b : Body N) where
       let on = along_up steps (op.element whole i.term) vars (assume_all i.hyps (index_goals whole i.term)) i.count in omega (arith, up, on)
   along_up (FieldStep at name ∷ steps) whole vars hyps n = along_up steps (field name whole) vars hyps n
 
-  along_rests : (path : List (Step N)) (whole : Term) (vars : Vars) (hyps : List Term) (n : ℕ) → AreData vars → AllDepend n vars → Rests n whole → PartsRest (along b path whole vars hyps n).count (along b path whole vars hyps n).parts
+  pub along_rests : (path : List (Step N)) (whole : Term) (vars : Vars) (hyps : List Term) (n : ℕ) → AreData vars → AllDepend n vars → Rests n whole → PartsRest (along b path whole vars hyps n).count (along b path whole vars hyps n).parts
   along_rests [] whole vars hyps n are h g = tt
   along_rests (IndexStep at e ∷ steps) whole vars hyps n are h g =
       let i = expr b e vars hyps n in

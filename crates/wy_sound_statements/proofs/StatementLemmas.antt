@@ -8,7 +8,7 @@ use Rattle.wy_term.specs.declared.cond.CondKind.TheVariants as kind
 use Rattle.wy_term.specs.Term.{Term}
 use Rattle.wy_term.specs.Meaning.{Names, sense}
 use Rattle.wy_sem.specs.Meter.{Meter, Outcome, Done, Fault, Run, ◌>>=◌, spend, check, choose}
-use Rattle.wy_sem.specs.Operations.{as_truth}
+use Rattle.wy_sem.specs.Operations.{as_truth, needed, Slot, updated}
 use Rattle.wy_sem.specs.Expressions as sem
 use Rattle.wy_sem.specs.Expressions.{Store, slot, put}
 use Rattle.wy_sem.specs.TypeTests.{Test, set_if}
@@ -17,7 +17,7 @@ use Rattle.wy_sem.specs.Statements.{Exit, Went, Broke, Continued, Gave, Frame, t
 use Rattle.wy_sem.specs.Evaluation.{entry_of, frame_of}
 use Rattle.wy_conditions.specs.Making.{val_name, falsehood, denied, formula}
 use Rattle.wy_conditions.specs.Numbered.{Node}
-use Rattle.wy_conditions.specs.Values.{valued, word_at, named_in}
+use Rattle.wy_conditions.specs.Values.{valued, word_at, variable, named_in}
 use Rattle.wy_conditions.specs.Owed.{Owed, assume, owe}
 use Rattle.wy_conditions.specs.Clauses.{Passed, one_goal, pass_goals, owe_clauses, owe_member}
 use Rattle.wy_conditions.specs.Calls.{Walked, call_walk}
@@ -25,8 +25,10 @@ use Rattle.wy_conditions.specs.Walks.{walk_all}
 use Rattle.wy_conditions.specs.Spots.{Spot, Flow, is_set, as_list, go_on, followed, declare, with_hyps}
 use Rattle.wy_conditions.specs.Joins.{meet}
 use Rattle.wy_conditions.specs.Assigned.{assigns_in}
-use Rattle.wy_conditions.specs.Statements.{Body, words, expr, leave, renew, walk_clauses, keep, where_true, where_false, behind_if, behind_loop, exec, exec_all}
+use Rattle.wy_conditions.specs.Statements.{Body, words, expr, along, rebuilt, assigned, leave, renew, walk_clauses, keep, where_true, where_false, behind_if, behind_loop, exec, exec_all}
+use Rattle.wy_formed_conditions.proofs.ValueLemmas.{variable_sorted}
 use Rattle.wy_sound_terms.specs.Kinds.{IsTruth}
+use Rattle.wy_sound_terms.proofs.UpdateLemmas.{updates_agree}
 use Rattle.wy_sound_terms.proofs.MadeLemmas.{holds as true_at, formula_means, denied_means}
 use Rattle.wy_sound_expressions.specs.Names.{Agree, Known, Means, Stand}
 use Rattle.wy_sound_expressions.specs.Truth.{AreTrueBy, Good}
@@ -35,7 +37,7 @@ use Rattle.wy_sound_expressions.specs.Written.{IsWritten}
 use Rattle.wy_sound_expressions.specs.Suits.{Each, Suits}
 use Rattle.wy_sound_expressions.specs.Sound.{Ok}
 use Rattle.wy_sound_expressions.proofs.NameLemmas.{agree_refl, agree_trans, agree_less, known_later, stand_later, right_later}
-use Rattle.wy_sound_expressions.proofs.GoodLemmas.{true_left, true_right, good_weaken, good_map, good_bind, good_spend}
+use Rattle.wy_sound_expressions.proofs.GoodLemmas.{true_left, true_right, true_after, good_weaken, good_map, good_bind, good_spend}
 use Rattle.wy_sound_expressions.proofs.AssumeLemmas.{assumed_true}
 use Rattle.wy_sound_expressions.proofs.CallGrows.{clauses_grow, call_grows}
 use Rattle.wy_sound_expressions.proofs.LawLemmas.{quiet_right, are_data}
@@ -54,16 +56,18 @@ use Rattle.wy_sound_steps.proofs.StepLemmas.{results_leave}
 use Rattle.wy_sound_depends.specs.Begins.{Begins, AllBegin, EndBegins}
 use Rattle.wy_sound_depends.proofs.BeginLemmas.{begins_assumed}
 use Rattle.wy_sound_depends.proofs.BlockLemmas.{blocks_begin}
+use Rattle.wy_sound_depends.proofs.ValueLemmas.{all_more, variable_depends}
 use Rattle.wy_sound_depends.proofs.WalkLemmas.{code_grows, codes_grow}
 use Rattle.wy_sound_points.proofs.SetLemmas.{Point, PointIf, AllPoints, FlowPoints, point_more, point_if_more, points_more, both_points, list_points, with_point, depend_from}
 use Rattle.wy_sound_points.proofs.MeetLemmas.{meet_points}
-use Rattle.wy_sound_points.proofs.StayLemmas.{RenewedPoint, expr_up, walked_up, keep_up, head_renewed, statement_points, block_points}
+use Rattle.wy_sound_points.proofs.StayLemmas.{Rests as TermRests, RenewedPoint, parts_on, rebuilt_rests, expr_rests, along_rests, along_up, expr_up, walked_up, keep_up, head_renewed, statement_points, block_points}
 use Rattle.wy_sound_frames.specs.Frames.{unsets_in, Keeps, AtExit}
 use Rattle.wy_sound_frames.proofs.FrameLemmas.{statements_keep}
-use Rattle.wy_sound_statements.specs.StatementSuits.{IsFree, Leads, AtTurns, KeepFits, Behind, StmtSuits, BlockSuits}
+use Rattle.wy_sound_statements.specs.StatementSuits.{IsFree, PathSuits, UpdateSuits, Leads, AtTurns, KeepFits, Behind, StmtSuits, BlockSuits}
 use Rattle.wy_sound_statements.specs.Ends.{AreDeclared, AtSome, frame_at, Exits, Rests, AreHandled, GiveValues, code_kinds, BlocksAreSound}
 use Rattle.wy_sound_statements.proofs.PlaceLemmas.{at_more, at_back, some_left, some_right, end_some, are_points, list_begins, both_begin, begins_less, end_begins_less, all_begin_less, val_terms, are_values}
 use Rattle.wy_sound_statements.proofs.StoreLemmas.{declared_unset, declare_at, clauses_go, owed_known, passed_known}
+use Rattle.wy_sound_statements.proofs.PathLemmas.{OkPath, path_right}
 use Rattle.wy_sound_statements.proofs.CodeLemmas.{truth_end, code_right, codes_right, Tested, test_right, comes_right}
 
 no_false : {X : Type 0} → false ≡ true → X
@@ -440,6 +444,56 @@ module _ (w : sem.Setting Node) (b : Body Node) (members : ℕ → Datum → Boo
         (λ a. owed_hold w b.program.setting members rests.told (words b) kind.Entry at p.vars h.later (is_set p.set) s (right_at m p s h) pt.are invariants m p.hyps fit h.stand h.known (true_left members entry.owed rest a))
         (λ l pass. turns_right at e invariants body met entry.count s begins (by_pass pass) met_point stays sound All Ends (λ a. true_right members entry.owed rest a) (λ t here d. (here, d)) (λ r x. x) (suc l.ticks) s first_turn decl (turns (suc l.ticks)) pass l) j) k
 
+  -- ---- updates of parts
+
+  -- the variable's term with another value at the end of the path
+  updated_right : (around : List (Expr Node)) (at x : ℕ) (path : List (Step Node)) (e : Expr Node) (p : Spot) (m : ℕ) (s : Store) (d : Datum) (k : Meter) → n ≤ m → Point m p → (h : At n names m p s) → AreDeclared b.types members s → is_set p.set x ≡ true → slot s x ≡ Some d
+      → PathSuits (code_kinds w b members takes) (is_set p.set) path d s → Suits (code_kinds w b members takes) false (is_set p.set) e s
+      → ((slots : List Slot) (r : Datum) (l i j o : Meter) → run.path_of w s path d l ≡ Done slots i → sem.eval w true e s j ≡ Done r o → IsFree b members (type_at b.types x) (updated d slots r))
+      → Good (AreTrueBy members (assigned b at x path e p m).owed) (run.path_of w s path d k >>= (λ slots j. sem.eval w true e s j >>= (λ r. run.stored fr at x (type_at b.types x) s (updated d slots r)))) (X around (assigned b at x path e p m))
+  updated_right around at x path e p m s d k le pt h decl on q path_suits suits free =
+      let t = type_at b.types x in
+      let whole = variable p.vars x in
+      let parts = along b path whole p.vars p.hyps m in
+      let up = along_up b path whole p.vars p.hyps m in
+      let v = expr b e p.vars parts.hyps parts.count in
+      let past = expr_up b e p.vars parts.hyps parts.count in
+      let last = (owe_member b.program.setting at t (rebuilt parts.parts v.term) v.hyps v.count).owed in
+      let P : Exit → Type 0 = X around (assigned b at x path e p m) in
+      let A = AreTrueBy members ((parts.owed ++ v.owed) ++ last) in
+      let B = AreTrueBy members (v.owed ++ last) in
+      let whole_rests : TermRests m whole = record { is = variable_sorted pt.are x; depends = variable_depends m p.vars x pt.depends } in
+      let value = expr_rests b e p.vars parts.hyps parts.count pt.are (all_more m parts.count p.vars up pt.depends) in
+      let terms = parts_on parts.count v.count parts.parts past (along_rests b path whole p.vars p.hyps m pt.are pt.depends whole_rests) in
+      let made = rebuilt_rests v.count parts.parts v.term terms value in
+      good_bind A (AreTrueBy members parts.owed) B (run.path_of w s path d k) (λ slots j. sem.eval w true e s j >>= (λ r. run.stored fr at x t s (updated d slots r))) (OkPath m h.later parts.count parts.hyps parts.parts d) P
+      (λ a. true_left members parts.owed v.owed (true_left members (parts.owed ++ v.owed) last a)) (true_after members parts.owed v.owed last)
+      (path_right w b members takes rests.told taken gives p.vars pt.are (is_set p.set) s path whole d p.hyps m h.later k path_suits (right_at m p s h) h.stand h.known (h.stand x d on q))
+      (λ slots j r o.
+      good_bind B (AreTrueBy members v.owed) (AreTrueBy members last) (sem.eval w true e s j) (λ y. run.stored fr at x t s (updated d slots y)) (Ok false parts.count o.later v.count v.hyps v.term) P (true_left members v.owed last) (true_right members v.owed last)
+      (code_right w b members takes rests.told taken gives e p.vars parts.hyps parts.count o.later (is_set p.set) s j suits (right_later members m h.later o.later (right_at m p s h) o.agree) pt.are (stand_later m parts.count h.later o.later p.vars (is_set p.set) s up o.agree h.stand) o.known)
+      (λ y i z u.
+      let far : Agree m h.later u.later = agree_trans m parts.count h.later o.later u.later up o.agree u.goes in
+      let whole_walk : Walked = record { count = v.count; hyps = v.hyps; term = rebuilt parts.parts v.term; owed = [] } in
+      let done : Ok false m h.later v.count v.hyps (rebuilt parts.parts v.term) (updated d slots y) =
+      record {
+        later = u.later;
+        goes = far;
+        known = u.known;
+        means = λ a g. updates_agree a parts.parts slots d v.term (o.leads a (agree_trans parts.count v.count o.later u.later a past u.goes g)) ∙ ap (updated d slots) (u.means a g);
+        is = made.is.has;
+      } in
+      comes_right w b members owed vs n names rests around at t x (parts.owed ++ v.owed) p m s whole_walk (updated d slots y) i le (omega (arith, up, past)) (rests.written x) refl h decl done (free slots y k j j i r z)))
+
+  update_right : (around : List (Expr Node)) (at x : ℕ) (path : List (Step Node)) (e : Expr Node) (p : Spot) (m : ℕ) (s : Store) (k : Meter) → n ≤ m → Point m p → At n names m p s → AreDeclared b.types members s → UpdateSuits (code_kinds w b members takes) b members x path e p s
+      → Good (AreTrueBy members (assigned b at x path e p m).owed) (spend true (needed at (slot s x) (λ d j. run.path_of w s path d j >>= (λ slots i. sem.eval w true e s i >>= (λ r. run.stored fr at x (type_at b.types x) s (updated d slots r))))) k) (X around (assigned b at x path e p m))
+  update_right around at x path e p m s k le pt h decl su =
+      let A = AreTrueBy members (assigned b at x path e p m).owed in
+      let P : Exit → Type 0 = X around (assigned b at x path e p m) in
+      let next : Datum → Run Exit = λ d j. run.path_of w s path d j >>= (λ slots i. sem.eval w true e s i >>= (λ r. run.stored fr at x (type_at b.types x) s (updated d slots r))) in
+      good_spend A true (needed at (slot s x) next) P
+      (λ j. subst (λ (o : Option Datum). Good A (needed at o next j) P) (sym su.1.1) (updated_right around at x path e p m s su.1.0 j le pt h decl su.0 su.1.1 su.1.2 su.1.3 su.1.4)) k
+
   -- ---- `continue`
 
   continue_right : (around : List (Expr Node)) (at : ℕ) (p : Spot) (m : ℕ) (s : Store) (k : Meter) → Point m p → At n names m p s → AreDeclared b.types members s → AllFit w b.program.setting members (is_set p.set) around s
@@ -494,7 +548,7 @@ module _ (w : sem.Setting Node) (b : Body Node) (members : ℕ → Datum → Boo
         (λ j. good_bind A (AreTrueBy members v.owed) (AreTrueBy members last) (sem.eval w true e s j) (run.stored fr at x t s) (Ok false m h.later v.count v.hyps v.term) P (true_left members v.owed last) (true_right members v.owed last)
         (code_right w b members takes rests.told taken gives e p.vars p.hyps m h.later (is_set p.set) s j su.0 (right_at m p s h) pt.are h.stand h.known)
         (λ d i q o. comes_right w b members owed vs n names rests around at t x v.owed p m s v d i le (expr_up b e p.vars p.hyps m) (rests.written x) refl h decl o (su.1 d j i q))) k
-    statement around (AssignStmt at x (step ∷ steps) e) p m s k le pt h decl su = absurd su
+    statement around (AssignStmt at x (step ∷ steps) e) p m s k le pt h decl su = update_right around at x (step ∷ steps) e p m s k le pt h decl su
     statement around (CallStmt at f es) p m s k le pt h decl su =
         let us = walk_all b.program.setting (call_walk b.program.setting b.program.routines) (words b) es p.vars p.hyps m in
         let c = call_walk b.program.setting b.program.routines f at us.terms us.hyps us.count in

@@ -1,10 +1,12 @@
 -- What the run of a statement meets is of the kinds that it asks for: its expressions suit, values are of the types of the variables that they come into where these aren't asked about, clauses fit, and tests are truth values; and so for each statement that follows, from each store that may come to it.
-use Rattle.std.specs.Prelude.{◌≡◌, ℕ, zero, suc, List, [], ◌∷◌, Bool, true, false, ◌⊎◌, Option, Some, None}
-use Rattle.wy_value.specs.Datum.{Datum, Truth}
+use Rattle.std.specs.Prelude.{◌≡◌, ℕ, zero, suc, List, [], ◌∷◌, Bool, true, false, ◌⊎◌, Option, Some, None, pos}
+use Rattle.wy_value.specs.Datum.{Datum, Truth, Whole, Array, Record, Data, Fields}
+use Rattle.wy_value.specs.Values.{Rise, names_of}
 use Rattle.wy_core.specs.Types.{Ty}
 use Rattle.wy_core.specs.CoreTree as tree
-use Rattle.wy_core.specs.CoreTree.{Expr, Step, Stmt, DeclareStmt, AssignStmt, CallStmt, ReturnStmt, AssertStmt, BreakStmt, ContinueStmt, SkipStmt, FailStmt, IfStmt, WhileStmt, Stmts, NoStmts, MoreStmts}
+use Rattle.wy_core.specs.CoreTree.{Expr, Step, IndexStep, FieldStep, Stmt, DeclareStmt, AssignStmt, CallStmt, ReturnStmt, AssertStmt, BreakStmt, ContinueStmt, SkipStmt, FailStmt, IfStmt, WhileStmt, Stmts, NoStmts, MoreStmts}
 use Rattle.wy_sem.specs.Meter.{Meter, Done}
+use Rattle.wy_sem.specs.Operations.{item_at, find, Slot, updated}
 use Rattle.wy_sem.specs.Expressions as sem
 use Rattle.wy_sem.specs.Expressions.{Store, slot, eval, eval_all}
 use Rattle.wy_sem.specs.TypeTests.{is_constrained}
@@ -16,7 +18,7 @@ use Rattle.wy_conditions.specs.Clauses.{owe_clauses}
 use Rattle.wy_conditions.specs.Spots.{Spot, is_set, with_hyps}
 use Rattle.wy_conditions.specs.Assigned.{assigns_in}
 use Rattle.wy_conditions.specs.Statements.{Body, words, expr, renew, walk_clauses, where_true, where_false, exec, exec_all}
-use Rattle.wy_sound_terms.specs.Kinds.{IsTruth}
+use Rattle.wy_sound_terms.specs.Kinds.{IsWhole, IsTruth, IsArray}
 use Rattle.wy_sound_expressions.specs.Types.{is_in}
 use Rattle.wy_sound_expressions.specs.Suits.{Kinds, Each, Suits, AllSuit}
 use Rattle.wy_sound_clauses.specs.Clauses.{Fits, AllFit}
@@ -29,6 +31,20 @@ IsFree b members t d = is_constrained b.program.setting.types t ≡ false → is
 abbrev pub ReturnSuits : Kinds Node → Body Node → (ℕ → Datum → Bool) → Option (Expr Node) → Spot → Store → Type 0
 ReturnSuits w b members None p s = b.routine.result ≡ None
 ReturnSuits w b members (Some e) p s = Suits w false (is_set p.set) e s × ((out : tree.Output) × (b.routine.result ≡ Some out) × Each w e s (IsFree b members out.ty))
+
+-- the steps of a path into a datum: indices are numbers, of arrays, and the records whose fields are taken have them, and their names rise
+abbrev pub PathSuits : Kinds Node → (ℕ → Bool) → List (Step Node) → Datum → Store → Type 0
+PathSuits w seen [] d s = Unit {0}
+PathSuits w seen (IndexStep at e ∷ steps) d s =
+    Suits w false seen e s × IsArray d × Each w e s (λ c. IsWhole c × ((ds : Data) (i : ℕ) → d ≡ Array ds → c ≡ Whole (pos i) → PathSuits w seen steps (item_at ds i) s))
+PathSuits w seen (FieldStep at name ∷ steps) d s = (fs : Fields) × (d ≡ Record fs) × Rise (names_of fs) × ((part : Datum) × (find fs name ≡ Some part) × PathSuits w seen steps part s)
+
+-- an update of a part of a variable
+abbrev pub UpdateSuits : Kinds Node → Body Node → (ℕ → Datum → Bool) → ℕ → List (Step Node) → Expr Node → Spot → Store → Type 0
+UpdateSuits w b members x path e p s =
+    (is_set p.set x ≡ true)
+    × ((d : Datum) × (slot s x ≡ Some d) × PathSuits w (is_set p.set) path d s × Suits w false (is_set p.set) e s
+    × ((slots : List Slot) (v : Datum) (m k i j : Meter) → run.path_of w.setting s path d m ≡ Done slots k → eval w.setting w.paid e s i ≡ Done v j → IsFree b members (type_at b.types x) (updated d slots v)))
 
 -- from the store another turn begins at the other one
 abbrev pub Leads : sem.Setting Node → Frame Node → Stmts Node → Store → Store → Type 0
@@ -55,7 +71,7 @@ abbrev mutual
   StmtSuits w fr b members calls around (DeclareStmt at t x None) p n s = Unit {0}
   StmtSuits w fr b members calls around (DeclareStmt at t x (Some e)) p n s = Suits w false (is_set p.set) e s × (type_at b.types x ≡ t) × Each w e s (IsFree b members t)
   StmtSuits w fr b members calls around (AssignStmt at x [] e) p n s = Suits w false (is_set p.set) e s × Each w e s (IsFree b members (type_at b.types x))
-  StmtSuits w fr b members calls around (AssignStmt at x (step ∷ steps) e) p n s = ⊥
+  StmtSuits w fr b members calls around (AssignStmt at x (step ∷ steps) e) p n s = UpdateSuits w b members x (step ∷ steps) e p s
   StmtSuits w fr b members calls around (CallStmt at f es) p n s = AllSuit w false (is_set p.set) es s × ((vs : List Datum) (m k : Meter) → eval_all w.setting w.paid es s m ≡ Done vs k → calls f vs)
   StmtSuits w fr b members calls around (ReturnStmt at value) p n s = ReturnSuits w b members value p s
   StmtSuits w fr b members calls around (AssertStmt at e) p n s = Fits w.setting b.program.setting members (is_set p.set) e s

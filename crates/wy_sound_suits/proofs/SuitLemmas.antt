@@ -189,7 +189,7 @@ module _ (p : Program) (r : Rules) (w : sem.Setting Node) (paid : Bool) (says : 
         λ d m j e. whole_in p.names d (z.1.1 d (each_kind seen s values q c (k + exprs_in a) over x.0.flow y.0 y.1 ready.1 h d m j e).inside))
     suits (RecordExpr at fs) k over flow u q seen s is t b ready g values h =
         let x = then_gives _ _ u t in
-        fields_suit fs k over (no_field_yet flow) x.0 q seen s is x.1 (ends_begin x.0.flow whole u (ends_record p.names at x.0 u x.2) b) ready g values h
+        fields_suit fs k over (no_field_yet flow) x.0 q seen s is x.1 (ends_begin x.0.flow whole u (ends_record p.names at x.0 u x.2) b) ready.1 g values h
     suits (QuantExpr at all v a c body) k over flow u q seen s is t b ready g values h =
         let x = then_gives _ _ u t in let y = then_gives _ _ u x.2 in let z = then_gives _ _ u y.2 in
         let of_body = then_gives _ _ u z.2 in let of_from = then_gives _ _ u of_body.2 in let of_to = then_gives _ _ u of_from.2 in
