@@ -97,8 +97,8 @@ module _ (p : Program) (r : Rules) (w : Setting Node) (paid : Bool) (says : Ty �
         (λ l. every_bind (eval_all w paid (numbered_all es k) s l) (λ vs j. w.call f here vs j >>= (λ v. needed here v Done)) (Kinds p (none_yet flow) t.0 (count_of es)) (R over u) (kinds es k over (none_yet flow) t.0 t.1 ready.2 h l)
         (λ vs j e x.
         let inside : AllIn p.names t.0.types vs = subst (λ (ts : List Ty). AllIn p.names ts vs) (sym x.behind) x.inside in
-        let for = call_for p r w paid says rests env reached over seen s h at f t.0 u vs (count_of es) ready.1 inside x.bounded x.many t.2 in
-        call_kind p r w paid says rests env reached over seen s h here at f t.0 u vs j for t.2)) m
+        let these = call_for p r w paid says rests env reached over seen s h at f t.0 u vs (count_of es) ready.1 inside x.bounded x.many t.2 in
+        call_kind p r w paid says rests env reached over seen s h here at f t.0 u vs j these t.2)) m
     kind (NegExpr at a) k over flow u typed ready h m =
         let t = then_gives _ _ u typed in
         let t2 = then_gives _ _ u t.2 in

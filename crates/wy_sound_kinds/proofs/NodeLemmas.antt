@@ -81,17 +81,19 @@ same_some : (a b : Datum) → ◌≡◌ {A = Option Datum} (Some a) (Some b) →
 same_some a b p = cc
 
 -- the arguments fit the parameters
-fit_in : (names : List Declared) (at : ℕ) (ts params : List Ty) (vs : List Datum) → Fit names at ts params (Gives tt) → AllIn names ts vs → AreIn names params vs
-fit_in names at [] [] [] h a = tt
-fit_in names at [] (q ∷ params) [] h a = tt
-fit_in names at [] params (v ∷ vs) h a = absurd a
-fit_in names at (t ∷ ts) params [] h a = absurd a
-fit_in names at (t ∷ ts) [] (v ∷ vs) h a = tt
-fit_in names at (t ∷ ts) (q ∷ params) (v ∷ vs) h a = let f = then_gives _ _ tt h in (f.1.1 v a.0, fit_in names at ts params vs f.2 a.1)
+fit_in : (names : List Declared) (at : ℕ) (u : Unit {0}) (ts params : List Ty) (vs : List Datum) → Fit names at ts params (Gives u) → AllIn names ts vs → AreIn names params vs
+fit_in names at u [] [] [] h a = tt
+fit_in names at u [] (q ∷ params) [] h a = tt
+fit_in names at u [] [] (v ∷ vs) h a = absurd a
+fit_in names at u [] (q ∷ params) (v ∷ vs) h a = absurd a
+fit_in names at u (t ∷ ts) [] [] h a = absurd a
+fit_in names at u (t ∷ ts) (q ∷ params) [] h a = absurd a
+fit_in names at u (t ∷ ts) [] (v ∷ vs) h a = tt
+fit_in names at u (t ∷ ts) (q ∷ params) (v ∷ vs) h a = let f = then_gives _ _ u h in (f.1.1 v a.0, fit_in names at u ts params vs f.2 a.1)
 
-signature_in : (names : List Declared) (at : ℕ) (ts : List Ty) (vs : List Datum) (o : Option Signature) → FitSignature names at ts o (Gives tt) → AllIn names ts vs → AreArguments names o vs
-signature_in names at ts vs None h a = tt
-signature_in names at ts vs (Some s) h a = fit_in names at ts s.params vs h a
+signature_in : (names : List Declared) (at : ℕ) (u : Unit {0}) (ts : List Ty) (vs : List Datum) (o : Option Signature) → FitSignature names at ts o (Gives u) → AllIn names ts vs → AreArguments names o vs
+signature_in names at u ts vs None h a = tt
+signature_in names at u ts vs (Some s) h a = fit_in names at u ts s.params vs h a
 
 module _ (p : Program) (r : Rules) (w : Setting Node) (paid : Bool) (says : Ty → Datum → Bool) (rests : Rests p r w paid says) (env : Environment) (reached : env.reached ≡ true) (over : Changes) (seen : ℕ → Bool) (s : Store) (h : HasTypes p.names env over seen s) where
   abbrev R : Found → Datum → Type 0
@@ -248,15 +250,15 @@ module _ (p : Program) (r : Rules) (w : Setting Node) (paid : Bool) (says : Ty �
       record {
         called = subst (λ (k : ℕ). r.called f k ≡ true) (sym many) called;
         bounded = bounded;
-        arguments = signature_in p.names node all.types vs (slice_get p.signatures f) t1.1 inside;
+        arguments = signature_in p.names node t1.0 all.types vs (slice_get p.signatures f) t1.1 inside;
       }
 
   pub call_kind : (at node f : ℕ) (all : FoundAll) (u : Found) (vs : List Datum) (m : Meter) → AreFor p r f vs → CallOf p node f all (Gives u) → Every (w.call f at vs m >>= (λ v. needed at v Done)) (R u)
-  call_kind at node f all u vs m for typed =
+  call_kind at node f all u vs m these typed =
       let t1 = then_gives _ _ u typed in
       let t2 = then_gives _ _ u t1.2 in
       let V = found t2.0 [] [] all.flow in
       told u V (w.call f at vs m >>= (λ v. needed at v Done)) t2.2
       (every_bind (w.call f at vs m) (λ v. needed at v Done) (λ v. (d : Datum) → v ≡ Some d → IsBounded d × IsResult p.names (slice_get p.signatures f) d) (R V)
-      (every_told _ _ (λ v k e d is. rests.gives f at vs d m k for (e ∙ ap (λ (o : Option Datum). Done o k) is)))
+      (every_told _ _ (λ v k e d is. rests.gives f at vs d m k these (e ∙ ap (λ (o : Option Datum). Done o k) is)))
       (λ v k e g. every_needed at v Done k (R V) (λ d is. let x = g d is in kind_plain p.names env over seen s d t2.0 all.flow h x.0 (given_in node (slice_get p.signatures f) t2.0 d t2.1 x.1))))

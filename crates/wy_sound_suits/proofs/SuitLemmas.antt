@@ -236,8 +236,8 @@ module _ (p : Program) (r : Rules) (w : sem.Setting Node) (paid : Bool) (says : 
 
 pub code_suits : CodeSuits
 code_suits p r w paid says rests asks is_number whole tells env reached e over flow v q seen s t b ready values h =
-    suits p r w paid says rests asks is_number whole tells env reached (AreFor p r) e (length flow) over flow v q seen s refl t b ready (λ none f vs for. for) values h
+    suits p r w paid says rests asks is_number whole tells env reached (AreFor p r) e (length flow) over flow v q seen s refl t b ready (λ none f vs these. these) values h
 
 pub contracts_suit : ContractsSuit
 contracts_suit p r w paid conditions members rests asks whole tells env reached e over flow v seen s t b ready values h =
-    suits p r w paid (is_in members) rests asks conditions.is_number whole tells env reached takes_nothing e (length flow) over flow v true seen s refl t b ready (λ none f vs for. no_quiet none) values h
+    suits p r w paid (is_in members) rests asks conditions.is_number whole tells env reached takes_nothing e (length flow) over flow v true seen s refl t b ready (λ none f vs these. no_quiet none) values h
