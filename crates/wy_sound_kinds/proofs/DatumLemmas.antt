@@ -1,17 +1,19 @@
 -- What programs hold: numbers, items, fields, copies.
-use Rattle.std.proofs.Common.{◌≡◌, ◌⊎◌, inl, inr, ℕ, zero, suc, ◌+◌, ◌-◌, ◌^◌, ◌%◌, ◌<◌, ◌≤◌, List, [], ◌∷◌, length, Bool, true, false, cond, not, ◌&&◌, Option, Some, None, ℤ, pos, negsuc, int_le, int_lt, bytes_eq, refl, sym, ap, ◌∙◌, subst, arith}
+use Rattle.std.proofs.Common.{◌≡◌, ◌⊎◌, inl, inr, ℕ, zero, suc, ◌+◌, ◌-◌, ◌^◌, ◌%◌, ◌<◌, ◌≤◌, List, [], ◌∷◌, length, Bool, true, false, cond, not, ◌&&◌, Option, Some, None, ℤ, pos, negsuc, int_le, int_lt, ◌≤ℤ◌, bytes_eq, refl, sym, ap, ◌∙◌, subst, arith}
 use Rattle.std.specs.Int.{int_rem_euclid}
 use Rattle.std.specs.Int.RustNames.{unsigned_abs}
 use Rattle.std.proofs.lemmas.Int.{ints}
 use Rattle.std.proofs.lemmas.Nat.{mod_below}
 use Rattle.wy_value.specs.Datum.{Datum, Null, Truth, Whole, Array, Record, Data, no_items, item, Fields, no_fields, field}
 use Rattle.wy_value.specs.Numbers.{is_int}
-use Rattle.wy_value.specs.Values.{length_of}
+use Rattle.wy_value.specs.Values.{length_of, IsValue, AreValues, AreValueFields}
+use Rattle.wy_value.specs.declared.bounds.TheConstants.{INT_MIN, INT_MAX}
 use Rattle.wy_sem.specs.Operations.{longest, nat_of, same_number, item_at, found_field, find, copies, is_index}
 use Rattle.wy_sem.specs.Expressions.{data_of}
 use Rattle.wy_sem.specs.TypeTests.{few_enough}
 use Rattle.wy_parts.specs.Items.{IsItem}
 use Rattle.wy_parts.specs.Fields.{value_at}
+use Rattle.wy_sound_kinds.specs.Laws.{ValuesAreBounded}
 use Rattle.wy_sound_kinds.specs.Bounded.{IsBounded, AreBounded, FieldsBounded, AllBounded}
 
 -- ---- numbers
@@ -97,3 +99,34 @@ field_bounded (field n x fs) name d h e = by (bytes_eq n name) e (λ q. field_bo
   by : (b : Bool) → found_field b x (find fs name) ≡ Some d → (find fs name ≡ Some d → IsBounded d) → IsBounded d
   by true q next = subst IsBounded (same x d q) h.0
   by false q next = next q
+
+-- ---- values
+
+at_most_test : (a b : ℤ) → a ≤ℤ b → int_le a b ≡ true
+at_most_test a b h = grind (arith, ints)
+
+value_is_int : (z : ℤ) → (INT_MIN ≤ℤ z) × (z ≤ℤ INT_MAX) → is_int z ≡ true
+value_is_int z h = rw (at_most_test INT_MIN z h.0, at_most_test z INT_MAX h.1) refl
+
+value_few : (ds : Data) → length_of ds ≤ 2 ^ 63 - 1 → few_enough ds ≡ true
+unfolding longest
+value_few ds h = grind (arith, ints)
+
+mutual
+  value_bounded : (d : Datum) → IsValue d → IsBounded d
+  value_bounded Null h = tt
+  value_bounded (Truth b) h = tt
+  value_bounded (Whole z) h = value_is_int z h
+  value_bounded (Array ds) h = (value_few ds h.0, items_bounded ds h.1)
+  value_bounded (Record fs) h = (h.0, values_bounded fs h.1)
+
+  items_bounded : (ds : Data) → AreValues ds → AreBounded ds
+  items_bounded no_items h = tt
+  items_bounded (item d ds) h = (value_bounded d h.0, items_bounded ds h.1)
+
+  values_bounded : (fs : Fields) → AreValueFields fs → FieldsBounded fs
+  values_bounded no_fields h = tt
+  values_bounded (field n d fs) h = (value_bounded d h.1, values_bounded fs h.2)
+
+pub values_are_bounded : ValuesAreBounded
+values_are_bounded d h = value_bounded d h

@@ -8,9 +8,8 @@ use Rattle.wy_core.specs.Types.{Ty}
 use Rattle.wy_core.specs.declared.expressions.Op.{Op}
 use Rattle.wy_core.specs.declared.expressions.Op.TheVariants.{Add, Sub, Mul, Div, Mod, Equal, Less, LessEqual, Greater, GreaterEqual, And, Or}
 use Rattle.wy_term.specs.declared.cond.CondKind.TheVariants as kind
-use Rattle.wy_types.specs.Names.{Up}
+use Rattle.wy_types.specs.Names.{Declared, Up}
 use Rattle.wy_types.specs.Recursion.{RecurThroughParts}
-use Rattle.wy_types.specs.Names.{Declared}
 use Rattle.wy_environment.specs.Variables.{Environment, Changes, int_type, bool_type}
 use Rattle.wy_typing.specs.Outcomes.{Gives}
 use Rattle.wy_typing.specs.Contexts.{Found}
@@ -31,9 +30,6 @@ every_numbers at v w next m P h = every_number at v (λ x. as_number at w (λ y.
 
 truth_is : (a b : Bool) → Truth a ≡ Truth b → a ≡ b
 truth_is a b e = cc
-
-no_truth : (z : ℤ) (b : Bool) → Whole z ≡ Truth b → ⊥
-no_truth z b e = absurd cc
 
 false_true : {X : Type 0} → false ≡ true → X
 false_true e = absurd cc
@@ -145,9 +141,9 @@ module _ (names : List Declared) (recur : RecurThroughParts names) (env : Enviro
       (every_truth at d (λ c. choose c (second And at right d) (Done (Truth false))) m R
       (λ c e. every_choose c (second And at right d) (Done (Truth false)) m R
       (λ yes. every_bind (right m) (λ x. applied And at d x) (Kind names env (over ++ a.yes) seen s b) R (g m (k.if_true (e ∙ ap Truth yes)))
-      (λ x i q kx. and_right a b t2.0 x i kx (λ both. either_all names recur env reached seen s node over (over ++ a.no) (over ++ (a.yes ++ b.no)) _ [] t2.0 t2.1 start (inr both))))
+      (λ x i q kx. and_right a b t2.0 x i kx (λ both. either_all names recur env reached seen s node over (over ++ a.no) (over ++ (a.yes ++ b.no)) (with_variables (with_variables [] a.no) (a.yes ++ b.no)) [] t2.0 t2.1 start (inr both))))
       (λ no. kind_truth names env over seen s false (a.yes ++ b.yes) t2.0 b.flow (λ q. false_true q)
-      (λ q. either_all names recur env reached seen s node over (over ++ a.no) (over ++ (a.yes ++ b.no)) _ [] t2.0 t2.1 start (inl (k.if_false (e ∙ ap Truth no)))))))
+      (λ q. either_all names recur env reached seen s node over (over ++ a.no) (over ++ (a.yes ++ b.no)) (with_variables (with_variables [] a.no) (a.yes ++ b.no)) [] t2.0 t2.1 start (inl (k.if_false (e ∙ ap Truth no)))))))
 
   or_kind : (right : Run Datum) (d : Datum) (m : Meter) (a b u : Found) → Kind names env over seen s a d → Binary names node env over Or a b (Gives u)
       → ((i : Meter) → HasTypes names env (over ++ a.no) seen s → Every (right i) (Kind names env (over ++ a.no) seen s b))
@@ -161,10 +157,10 @@ module _ (names : List Declared) (recur : RecurThroughParts names) (env : Enviro
       (every_truth at d (λ c. choose c (Done (Truth true)) (second Or at right d)) m R
       (λ c e. every_choose c (Done (Truth true)) (second Or at right d) m R
       (λ yes. kind_truth names env over seen s true t2.0 (a.no ++ b.no) b.flow
-      (λ q. either_all names recur env reached seen s node over (over ++ a.yes) (over ++ (a.no ++ b.yes)) _ [] t2.0 t2.1 start (inl (k.if_true (e ∙ ap Truth yes))))
+      (λ q. either_all names recur env reached seen s node over (over ++ a.yes) (over ++ (a.no ++ b.yes)) (with_variables (with_variables [] a.yes) (a.no ++ b.yes)) [] t2.0 t2.1 start (inl (k.if_true (e ∙ ap Truth yes))))
       (λ q. true_false q))
       (λ no. every_bind (right m) (λ x. applied Or at d x) (Kind names env (over ++ a.no) seen s b) R (g m (k.if_false (e ∙ ap Truth no)))
-      (λ x i q kx. or_right_kind a b t2.0 x i kx (λ both. either_all names recur env reached seen s node over (over ++ a.yes) (over ++ (a.no ++ b.yes)) _ [] t2.0 t2.1 start (inr both))))))
+      (λ x i q kx. or_right_kind a b t2.0 x i kx (λ both. either_all names recur env reached seen s node over (over ++ a.yes) (over ++ (a.no ++ b.yes)) (with_variables (with_variables [] a.yes) (a.no ++ b.yes)) [] t2.0 t2.1 start (inr both))))))
 
   -- both operands, where the right one is evaluated under the changes of the left one
   pub operated_kind : (o : Op) (right : Run Datum) (d : Datum) (m : Meter) (a b u : Found) → Kind names env over seen s a d → Binary names node env over o a b (Gives u)

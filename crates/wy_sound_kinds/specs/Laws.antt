@@ -1,6 +1,7 @@
--- The law of kinds.
+-- The laws of kinds.
 use Rattle.std.specs.Prelude.{◌≡◌, ℕ, List, length, Bool, true}
 use Rattle.wy_value.specs.Datum.{Datum}
+use Rattle.wy_value.specs.Values.{IsValue}
 use Rattle.wy_core.specs.Types.{Ty}
 use Rattle.wy_core.specs.CoreTree.{Expr}
 use Rattle.wy_environment.specs.Variables.{Environment, Changes}
@@ -10,8 +11,13 @@ use Rattle.wy_typing.specs.Expressions.{TypedExpr}
 use Rattle.wy_sem.specs.Meter.{Meter, Done}
 use Rattle.wy_sem.specs.Expressions.{Store, Setting, eval}
 use Rattle.wy_conditions.specs.Numbered.{Node, numbered}
+use Rattle.wy_sound_kinds.specs.Bounded.{IsBounded}
 use Rattle.wy_sound_kinds.specs.Ready.{Rules, Ready}
 use Rattle.wy_sound_kinds.specs.Kinds.{HasValues, HasTypes, Kind, Rests}
+
+-- a value is a datum that a program may hold
+abbrev pub ValuesAreBounded : Type 0
+ValuesAreBounded = (d : Datum) → IsValue d → IsBounded d
 
 -- each answer of a typed expression, at a point that is reached, is of its kind
 abbrev pub AnswersHaveKinds : Type 0

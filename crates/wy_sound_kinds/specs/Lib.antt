@@ -4,5 +4,5 @@ pub mod Bounded
 pub mod Ready
 -- what is known of stores and of answers
 pub mod Kinds
--- the law
+-- the laws
 pub mod Laws

@@ -6,4 +6,4 @@
 
 mod law;
 
-pub use law::answers_have_kinds;
+pub use law::{answers_have_kinds, values_are_bounded};
