@@ -17,7 +17,7 @@ use Rattle.wy_typing.specs.Parts.{union_all, ListOf, RepeatOf, RecordOf, IndexOf
 use Rattle.wy_typing.specs.Calls.{Fit, FitSignature, FitCall, ResultOf, GivenBy, CallOf}
 use Rattle.wy_sem.specs.Meter.{Meter, Outcome, Done, Run, ◌>>=◌, check, choose}
 use Rattle.wy_sem.specs.Operations.{longest, nat_of, agrees, as_truth, as_number, needed, item_at, find, copies, is_index, indexed, item_of, field_of, repeated, numbers}
-use Rattle.wy_sem.specs.Expressions.{Store, slot, Setting, node, span, each, quantified, data_of, eval}
+use Rattle.wy_sem.specs.Expressions.{Store, slot, Setting, node as node_of, span, each, quantified, data_of, eval}
 use Rattle.wy_conditions.specs.Numbered.{Node, numbered}
 use Rattle.wy_sound_parts.proofs.NormLemmas.{norms_same}
 use Rattle.wy_sound_parts.proofs.ItemLemmas.{items_are_in}
@@ -53,7 +53,7 @@ IsItsValue (QuantExpr at all x a b body) s d = Unit {0}
 
 pub its_value : (w : Setting Node) (paid : Bool) (e : Expr ℕ) (number : ℕ) (s : Store) (m : Meter) → Every (eval w paid (numbered e number) s m) (IsItsValue e s)
 its_value w paid (VarExpr at x) number s m =
-    let here = w.place (node (numbered (VarExpr at x) number)) in every_spend paid (needed here (slot s x) Done) (IsItsValue (VarExpr at x) s) (λ l. every_needed here (slot s x) Done l (IsItsValue (VarExpr at x) s) (λ d e. e)) m
+    let here = w.place (node_of (numbered (VarExpr at x) number)) in every_spend paid (needed here (slot s x) Done) (IsItsValue (VarExpr at x) s) (λ l. every_needed here (slot s x) Done l (IsItsValue (VarExpr at x) s) (λ d e. e)) m
 its_value w paid (NullExpr at) number s m = every_told _ _ (λ d k e. tt)
 its_value w paid (BoolExpr at b) number s m = every_told _ _ (λ d k e. tt)
 its_value w paid (IntExpr at z) number s m = every_told _ _ (λ d k e. tt)
@@ -116,15 +116,15 @@ module _ (p : Program) (r : Rules) (w : Setting Node) (paid : Bool) (says : Ty �
       told u V (w.test paid t d m >>= (λ b. Done (Truth b))) t2.2
       (every_bind (w.test paid t d m) (λ b. Done (Truth b)) (λ b. b ≡ says t d) (R V) (every_told _ _ (λ b k e. rests.answers t d m k b tested kd.bounded e))
       (λ b k e q. kind_truth p.names env over seen s b ((x, t1.0) ∷ []) ((x, t2.0) ∷ []) v.flow
-      (λ yes. types_one p.names env seen s reached over x t1.0 h (λ c sc ec.
+      (λ on. types_one p.names env seen s reached over x t1.0 h (λ c sc ec.
       let is : d ≡ c = same_some d c (sym own ∙ ec) in
       subst (λ (y : Datum). Up p.names y t1.0 ≡ true) is
-      (norms_same p.names rests.recur (InterTy v.ty t) t1.0 t1.1.1 d ∙ two_true (Up p.names d v.ty) (Up p.names d t) kd.inside (rests.upward t d tested kd.bounded (sym q ∙ yes)))))
-      (λ no. types_one p.names env seen s reached over x t2.0 h (λ c sc ec.
+      (norms_same p.names rests.recur (InterTy v.ty t) t1.0 t1.1.1 d ∙ two_true (Up p.names d v.ty) (Up p.names d t) kd.inside (rests.upward t d tested kd.bounded (sym q ∙ on)))))
+      (λ off. types_one p.names env seen s reached over x t2.0 h (λ c sc ec.
       let is : d ≡ c = same_some d c (sym own ∙ ec) in
       subst (λ (y : Datum). Up p.names y t2.0 ≡ true) is
       (norms_same p.names rests.recur (InterTy v.ty (NotTy t)) t2.0 t2.1.1 d
-      ∙ two_true (Up p.names d v.ty) (not (Down p.names d t)) kd.inside (not_of (Down p.names d t) (λ down. true_false (sym (q ∙ rests.downward t d tested kd.bounded down) ∙ no))))))))
+      ∙ two_true (Up p.names d v.ty) (not (Down p.names d t)) kd.inside (not_of (Down p.names d t) (λ down. true_false (sym (q ∙ rests.downward t d tested kd.bounded down) ∙ off))))))))
 
   -- the variable that is tested, where one is, is marked
   abbrev pub IsSeen : Expr ℕ → Type 0
@@ -258,7 +258,8 @@ module _ (p : Program) (r : Rules) (w : Setting Node) (paid : Bool) (says : Ty �
       let t1 = then_gives _ _ u typed in
       let t2 = then_gives _ _ u t1.2 in
       let V = found t2.0 [] [] all.flow in
+      let Given : Option Datum → Type 0 = λ v. (d : Datum) → v ≡ Some d → IsBounded d × IsResult p.names (slice_get p.signatures f) d in
       told u V (w.call f at vs m >>= (λ v. needed at v Done)) t2.2
-      (every_bind (w.call f at vs m) (λ v. needed at v Done) (λ v. (d : Datum) → v ≡ Some d → IsBounded d × IsResult p.names (slice_get p.signatures f) d) (R V)
-      (every_told _ _ (λ v k e d is. rests.gives f at vs d m k these (e ∙ ap (λ (o : Option Datum). Done o k) is)))
+      (every_bind (w.call f at vs m) (λ v. needed at v Done) Given (R V)
+      (every_told (w.call f at vs m) Given (λ v k e d is. rests.gives f at vs d m k these (e ∙ ap (λ (o : Option Datum). Done o k) is)))
       (λ v k e g. every_needed at v Done k (R V) (λ d is. let x = g d is in kind_plain p.names env over seen s d t2.0 all.flow h x.0 (given_in node (slice_get p.signatures f) t2.0 d t2.1 x.1))))

@@ -51,8 +51,8 @@ module _ (names : List Declared) (env : Environment) (over : Changes) (seen : �
   pub kind_int : (z : ℤ) (flow : List Ty) → HasTypes names env over seen s → is_int z ≡ true → K (found int_type [] [] flow) (Whole z)
   kind_int z flow h e = kind_plain (Whole z) int_type flow h e refl
 
-  pub kind_truth : (b : Bool) (yes no : Changes) (flow : List Ty) → (b ≡ true → HasTypes names env (over ++ yes) seen s) → (b ≡ false → HasTypes names env (over ++ no) seen s) → K (found bool_type yes no flow) (Truth b)
-  kind_truth b yes no flow h g = record { bounded = tt; inside = refl; if_true = λ q. h (truth_is b true q); if_false = λ q. g (truth_is b false q) }
+  pub kind_truth : (b : Bool) (up down : Changes) (flow : List Ty) → (b ≡ true → HasTypes names env (over ++ up) seen s) → (b ≡ false → HasTypes names env (over ++ down) seen s) → K (found bool_type up down flow) (Truth b)
+  kind_truth b up down flow h g = record { bounded = tt; inside = refl; if_true = λ q. h (truth_is b true q); if_false = λ q. g (truth_is b false q) }
 
   pub kind_bool : (b : Bool) (flow : List Ty) → HasTypes names env over seen s → K (found bool_type [] [] flow) (Truth b)
   kind_bool b flow h = kind_plain (Truth b) bool_type flow h tt refl
@@ -111,21 +111,21 @@ module _ (names : List Declared) (recur : RecurThroughParts names) (env : Enviro
   told : (u v : Found) (o : Run Datum) (m : Meter) → Gives u ≡ Gives v → Every (o m) (Kind names env over seen s v) → Every (o m) (Kind names env over seen s u)
   told u v o m e g = every_map (o m) (Kind names env over seen s v) (Kind names env over seen s u) g (λ d k. as_found names env over seen s u v d e k)
 
-  and_right : (a b : Found) (no : Changes) (e : Datum) (i : Meter) → Kind names env (over ++ a.yes) seen s b e
-      → (HasTypes names env (over ++ (a.yes ++ b.no)) seen s → HasTypes names env (over ++ no) seen s)
-      → Every (applied And at (Truth true) e i) (Kind names env over seen s (found bool_type (a.yes ++ b.yes) no b.flow))
-  and_right a b no e i k either =
-      every_truth at e (λ c. Done (Truth c)) i (Kind names env over seen s (found bool_type (a.yes ++ b.yes) no b.flow))
-      (λ c q. kind_truth names env over seen s c (a.yes ++ b.yes) no b.flow
+  and_right : (a b : Found) (off : Changes) (e : Datum) (i : Meter) → Kind names env (over ++ a.yes) seen s b e
+      → (HasTypes names env (over ++ (a.yes ++ b.no)) seen s → HasTypes names env (over ++ off) seen s)
+      → Every (applied And at (Truth true) e i) (Kind names env over seen s (found bool_type (a.yes ++ b.yes) off b.flow))
+  and_right a b off e i k either =
+      every_truth at e (λ c. Done (Truth c)) i (Kind names env over seen s (found bool_type (a.yes ++ b.yes) off b.flow))
+      (λ c q. kind_truth names env over seen s c (a.yes ++ b.yes) off b.flow
       (λ t. types_more names env seen s over a.yes b.yes (k.if_true (q ∙ ap Truth t)))
       (λ f. either (types_more names env seen s over a.yes b.no (k.if_false (q ∙ ap Truth f)))))
 
-  or_right_kind : (a b : Found) (yes : Changes) (e : Datum) (i : Meter) → Kind names env (over ++ a.no) seen s b e
-      → (HasTypes names env (over ++ (a.no ++ b.yes)) seen s → HasTypes names env (over ++ yes) seen s)
-      → Every (applied Or at (Truth false) e i) (Kind names env over seen s (found bool_type yes (a.no ++ b.no) b.flow))
-  or_right_kind a b yes e i k either =
-      every_truth at e (λ c. Done (Truth c)) i (Kind names env over seen s (found bool_type yes (a.no ++ b.no) b.flow))
-      (λ c q. kind_truth names env over seen s c yes (a.no ++ b.no) b.flow
+  or_right_kind : (a b : Found) (on : Changes) (e : Datum) (i : Meter) → Kind names env (over ++ a.no) seen s b e
+      → (HasTypes names env (over ++ (a.no ++ b.yes)) seen s → HasTypes names env (over ++ on) seen s)
+      → Every (applied Or at (Truth false) e i) (Kind names env over seen s (found bool_type on (a.no ++ b.no) b.flow))
+  or_right_kind a b on e i k either =
+      every_truth at e (λ c. Done (Truth c)) i (Kind names env over seen s (found bool_type on (a.no ++ b.no) b.flow))
+      (λ c q. kind_truth names env over seen s c on (a.no ++ b.no) b.flow
       (λ t. either (types_more names env seen s over a.no b.yes (k.if_true (q ∙ ap Truth t))))
       (λ f. types_more names env seen s over a.no b.no (k.if_false (q ∙ ap Truth f))))
 
@@ -140,10 +140,10 @@ module _ (names : List Declared) (recur : RecurThroughParts names) (env : Enviro
       told u (found bool_type (a.yes ++ b.yes) t2.0 b.flow) (operated And at right d) m t2.2
       (every_truth at d (λ c. choose c (second And at right d) (Done (Truth false))) m R
       (λ c e. every_choose c (second And at right d) (Done (Truth false)) m R
-      (λ yes. every_bind (right m) (λ x. applied And at d x) (Kind names env (over ++ a.yes) seen s b) R (g m (k.if_true (e ∙ ap Truth yes)))
+      (λ on. every_bind (right m) (λ x. applied And at d x) (Kind names env (over ++ a.yes) seen s b) R (g m (k.if_true (e ∙ ap Truth on)))
       (λ x i q kx. and_right a b t2.0 x i kx (λ both. either_all names recur env reached seen s node over (over ++ a.no) (over ++ (a.yes ++ b.no)) (with_variables (with_variables [] a.no) (a.yes ++ b.no)) [] t2.0 t2.1 start (inr both))))
-      (λ no. kind_truth names env over seen s false (a.yes ++ b.yes) t2.0 b.flow (λ q. false_true q)
-      (λ q. either_all names recur env reached seen s node over (over ++ a.no) (over ++ (a.yes ++ b.no)) (with_variables (with_variables [] a.no) (a.yes ++ b.no)) [] t2.0 t2.1 start (inl (k.if_false (e ∙ ap Truth no)))))))
+      (λ off. kind_truth names env over seen s false (a.yes ++ b.yes) t2.0 b.flow (λ q. false_true q)
+      (λ q. either_all names recur env reached seen s node over (over ++ a.no) (over ++ (a.yes ++ b.no)) (with_variables (with_variables [] a.no) (a.yes ++ b.no)) [] t2.0 t2.1 start (inl (k.if_false (e ∙ ap Truth off)))))))
 
   or_kind : (right : Run Datum) (d : Datum) (m : Meter) (a b u : Found) → Kind names env over seen s a d → Binary names node env over Or a b (Gives u)
       → ((i : Meter) → HasTypes names env (over ++ a.no) seen s → Every (right i) (Kind names env (over ++ a.no) seen s b))
@@ -156,10 +156,10 @@ module _ (names : List Declared) (recur : RecurThroughParts names) (env : Enviro
       told u (found bool_type t2.0 (a.no ++ b.no) b.flow) (operated Or at right d) m t2.2
       (every_truth at d (λ c. choose c (Done (Truth true)) (second Or at right d)) m R
       (λ c e. every_choose c (Done (Truth true)) (second Or at right d) m R
-      (λ yes. kind_truth names env over seen s true t2.0 (a.no ++ b.no) b.flow
-      (λ q. either_all names recur env reached seen s node over (over ++ a.yes) (over ++ (a.no ++ b.yes)) (with_variables (with_variables [] a.yes) (a.no ++ b.yes)) [] t2.0 t2.1 start (inl (k.if_true (e ∙ ap Truth yes))))
+      (λ on. kind_truth names env over seen s true t2.0 (a.no ++ b.no) b.flow
+      (λ q. either_all names recur env reached seen s node over (over ++ a.yes) (over ++ (a.no ++ b.yes)) (with_variables (with_variables [] a.yes) (a.no ++ b.yes)) [] t2.0 t2.1 start (inl (k.if_true (e ∙ ap Truth on))))
       (λ q. true_false q))
-      (λ no. every_bind (right m) (λ x. applied Or at d x) (Kind names env (over ++ a.no) seen s b) R (g m (k.if_false (e ∙ ap Truth no)))
+      (λ off. every_bind (right m) (λ x. applied Or at d x) (Kind names env (over ++ a.no) seen s b) R (g m (k.if_false (e ∙ ap Truth off)))
       (λ x i q kx. or_right_kind a b t2.0 x i kx (λ both. either_all names recur env reached seen s node over (over ++ a.yes) (over ++ (a.no ++ b.yes)) (with_variables (with_variables [] a.yes) (a.no ++ b.yes)) [] t2.0 t2.1 start (inr both))))))
 
   -- both operands, where the right one is evaluated under the changes of the left one

@@ -82,8 +82,8 @@ Left (Gave v) = Unit {0}
 
 -- the one or the other, by what is known of each
 if_chosen : (C : Type 0) (P : Exit → Type 0) (T : Bool → Type 0) (first second : Run Exit) (c : Bool) (i : Meter) → T c → (T true → Good C (first i) P) → (T false → Good C (second i) P) → Good C (choose c first second i) P
-if_chosen C P T first second true i x yes no = yes x
-if_chosen C P T first second false i x yes no = no x
+if_chosen C P T first second true i x on off = on x
+if_chosen C P T first second false i x on off = off x
 
 module _ (w : sem.Setting Node) (b : Body Node) (members : ℕ → Datum → Bool) (owed : Ty → Datum → Test) (vs : List Datum) (takes calls : ℕ → List Datum → Bool) (n : ℕ) (names : Names) (rests : Rests w b members owed vs n names)
     (taken : AreHandled w b members takes) (called : AreHandled w b members calls) (gives : GiveValues w takes) where
@@ -179,10 +179,10 @@ module _ (w : sem.Setting Node) (b : Body Node) (members : ℕ → Datum → Boo
 
   -- the ends of the first statement, where it left the block
   first_left : (around : List (Expr Node)) (one two : Flow) → one.count ≤ two.count → (x : Exit) → X around one x → Left x → X around (followed one two) x
-  first_left around one two le (Went s) h no = absurd no
-  first_left around one two le (Broke s) h no = (some_left n one.count two.count names one.breaks two.breaks s le h.0, h.1)
-  first_left around one two le (Continued at s) h no = ((λ t. h.0 (true_left members one.owed two.owed t)), h.1)
-  first_left around one two le (Gave v) h no = h
+  first_left around one two le (Went s) h gone = absurd gone
+  first_left around one two le (Broke s) h gone = (some_left n one.count two.count names one.breaks two.breaks s le h.0, h.1)
+  first_left around one two le (Continued at s) h gone = ((λ t. h.0 (true_left members one.owed two.owed t)), h.1)
+  first_left around one two le (Gave v) h gone = h
 
   -- the ends of what follows
   then_ends : (around : List (Expr Node)) (one two : Flow) (x : Exit) → X around two x → X around (followed one two) x
@@ -598,20 +598,20 @@ module _ (w : sem.Setting Node) (b : Body Node) (members : ℕ → Datum → Boo
         let v = expr b e p.vars p.hyps m in
         let up = expr_up b e p.vars p.hyps m in
         let here = point_more m v.count p up pt in
-        let yes = where_true v p in
-        let one = exec_all b around first yes v.count in
+        let where_yes = where_true v p in
+        let one = exec_all b around first where_yes v.count in
         let yes_point = with_point v.count p (assume v.hyps (formula v.term)) here in
-        let f1 = block_points b around first yes v.count yes_point in
+        let f1 = block_points b around first where_yes v.count yes_point in
         let k1 = f1.grows in
-        let no = where_false v p in
-        let two = exec_all b around second no one.count in
+        let where_no = where_false v p in
+        let two = exec_all b around second where_no one.count in
         let no_point = with_point one.count p (assume v.hyps (denied (formula v.term))) (point_more v.count one.count p k1 here) in
-        let f2 = block_points b around second no one.count no_point in
+        let f2 = block_points b around second where_no one.count no_point in
         let l1 = f2.grows in
         let points = both_points two.count (as_list one.ends) (as_list two.ends) (list_points two.count one.ends (point_if_more one.count two.count one.ends l1 f1.ends)) (list_points two.count two.ends f2.ends) in
         let begin = both_begin v.hyps (as_list one.ends) (as_list two.ends)
-        (list_begins v.hyps one.ends (end_begins_less v.hyps (assume v.hyps (formula v.term)) one.ends (begins_assumed v.hyps (formula v.term)) (blocks_begin b around first yes v.count).0))
-        (list_begins v.hyps two.ends (end_begins_less v.hyps (assume v.hyps (denied (formula v.term))) two.ends (begins_assumed v.hyps (denied (formula v.term))) (blocks_begin b around second no one.count).0)) in
+        (list_begins v.hyps one.ends (end_begins_less v.hyps (assume v.hyps (formula v.term)) one.ends (begins_assumed v.hyps (formula v.term)) (blocks_begin b around first where_yes v.count).0))
+        (list_begins v.hyps two.ends (end_begins_less v.hyps (assume v.hyps (denied (formula v.term))) two.ends (begins_assumed v.hyps (denied (formula v.term))) (blocks_begin b around second where_no one.count).0)) in
         let met = meet_points (words b) v.hyps (as_list one.ends ++ as_list two.ends) two.count points in
         let m1 = met.grows in
         let low : n ≤ two.count = omega (arith, le, up, k1, l1) in
@@ -624,10 +624,10 @@ module _ (w : sem.Setting Node) (b : Body Node) (members : ℕ → Datum → Boo
         (test_right w b members takes rests.told taken gives at e p.vars p.hyps m h.later (is_set p.set) s j su.0 su.1 (right_at m p s h) pt.are h.stand h.known)
         (λ c i q x. if_chosen C P (Tested w b members takes rests.told taken gives e s m h.later v) (run.exec_all w fr first s) (run.exec_all w fr second s) c i x
         (λ o. good_map C (run.exec_all w fr first s i) (X around one) P (good_weaken C (AreTrueBy members one.owed) (run.exec_all w fr first s i) (X around one) (true_left members one.owed two.owed)
-        (block around first yes v.count s i (omega (arith, le, up)) yes_point (true_at_test m p s v le up h o.0) decl (su.2 (Truth true) o.1.0 o.1.1 o.1.2 refl)))
+        (block around first where_yes v.count s i (omega (arith, le, up)) yes_point (true_at_test m p s v le up h o.0) decl (su.2 (Truth true) o.1.0 o.1.1 o.1.2 refl)))
         (λ y l r z. first_ends around v one two l1 points begin low m1 y z))
         (λ o. good_map C (run.exec_all w fr second s i) (X around two) P (good_weaken C (AreTrueBy members two.owed) (run.exec_all w fr second s i) (X around two) (true_right members one.owed two.owed)
-        (block around second no one.count s i (omega (arith, le, up, k1)) no_point (at_more n v.count one.count names no s k1 (false_at_test m p s v le up h o.0)) decl (su.3 (Truth false) o.1.0 o.1.1 o.1.2 refl)))
+        (block around second where_no one.count s i (omega (arith, le, up, k1)) no_point (at_more n v.count one.count names where_no s k1 (false_at_test m p s v le up h o.0)) decl (su.3 (Truth false) o.1.0 o.1.1 o.1.2 refl)))
         (λ y l r z. second_ends around v one two l1 points begin low m1 y z)))) k
     statement around (WhileStmt at e invariants body) p m s k le pt h decl su =
         loop_right around at e invariants body p m s le pt h decl su.1 su.0 (λ z i t j bound pz hz dz sz. block invariants body z i t j bound pz hz dz sz) k su.2

@@ -87,8 +87,8 @@ pub record FlowAll (n : ℕ) (flow after : List Ty) : Type 0 where
 abbrev pub Ends : List Ty → Found → Type 0
 Ends flow u = u.flow ≡ flow ++ u.ty ∷ []
 
-ends_found : (u : Found) (t : Ty) (yes no : Changes) (flow : List Ty) → Gives u ≡ Gives (found t yes no flow) → Ends flow u
-ends_found u t yes no flow e = subst (Ends flow) (sym (given_is u (found t yes no flow) e)) refl
+ends_found : (u : Found) (t : Ty) (up down : Changes) (flow : List Ty) → Gives u ≡ Gives (found t up down flow) → Ends flow u
+ends_found u t up down flow e = subst (Ends flow) (sym (given_is u (found t up down flow) e)) refl
 
 pub ends_binary : (names : List Declared) (at : ℕ) (env : Environment) (over : Changes) (o : Op) (a b u : Found) → Binary names at env over o a b (Gives u) → Ends b.flow u
 ends_binary names at env over op.Add a b u h = ends_found u int_type [] [] b.flow (then_gives _ _ u h).2
