@@ -88,13 +88,14 @@ module _ (p : Program) (r : Rules) (w : sem.Setting Node) (conditions : Setting 
       let same : t.0 ≡ t3.0.flow = given_is t.0 t2.0.flow t2.2 ∙ ap (λ (v : Found). v.flow) (given_is t2.0 t3.0 t4.2) in
       let rest : Begins t.0 whole = begins_more t.0 out whole (clauses_begin es t.0 out t.2) b in
       let here : Begins t3.0.flow whole = subst (λ (l : List Ty). Begins l whole) same rest in
-      let next : k + exprs_in e ≡ length t.0 = ap (λ (n : ℕ). n + exprs_in e) is ∙ (sym (flow_length e flow t3.0 at_flow) ∙ ap (λ (l : List Ty). length l) (sym same)) in
-      (record {
-        quiet = quiet r (length s) seen e k ready.0;
-        suits = subst (λ (n : ℕ). Suited e n) (sym is) (contracts_suit p r (sem.quiet w) false conditions members rests asks whole tells env reached e [] flow t3.0 seen s t3.1 here ready.0 values types);
-        truth = λ d m j q. truth_in p.names d (t4.1.1 d (every_of (sem.eval (sem.quiet w) false (numbered e k) s m) (Kind p.names env [] seen s t3.0) (kind p r (sem.quiet w) false (is_in members) rests env reached true seen s values e k [] flow t3.0 t3.1 ready.0 types m) d j q).inside);
-      },
-      fit es (k + exprs_in e) t.0 out next t.2 b ready.1)
+      let next : k + exprs_in e ≡ length t.0 = ap (λ (n : ℕ). n + exprs_in e) is ∙ (sym (flow_length e flow t3.0 at_flow) ∙ ap (λ (l : List Ty). length l) (sym same)) in (
+        record {
+          quiet = quiet r (length s) seen e k ready.0;
+          suits = subst (λ (n : ℕ). Suited e n) (sym is) (contracts_suit p r (sem.quiet w) false conditions members rests asks whole tells env reached e [] flow t3.0 seen s t3.1 here ready.0 values types);
+          truth = λ d m j q. truth_in p.names d (t4.1.1 d (every_of (sem.eval (sem.quiet w) false (numbered e k) s m) (Kind p.names env [] seen s t3.0) (kind p r (sem.quiet w) false (is_in members) rests env reached true seen s values e k [] flow t3.0 t3.1 ready.0 types m) d j q).inside);
+        },
+        fit es (k + exprs_in e) t.0 out next t.2 b ready.1,
+      )
 
 pub clauses_fit : TypedClausesFit
 clauses_fit p r w conditions members rests asks whole tells env reached es flow out seen s t b ready values types =

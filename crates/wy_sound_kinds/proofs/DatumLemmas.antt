@@ -96,6 +96,7 @@ field_bounded no_fields name d h e = absurd cc
 field_bounded (field n x fs) name d h e = by (bytes_eq n name) e (λ q. field_bounded fs name d h.1 q) where
   same : (a b : Datum) → ◌≡◌ {A = Option Datum} (Some a) (Some b) → a ≡ b
   same a b p = cc
+
   by : (b : Bool) → found_field b x (find fs name) ≡ Some d → (find fs name ≡ Some d → IsBounded d) → IsBounded d
   by true q next = subst IsBounded (same x d q) h.0
   by false q next = next q

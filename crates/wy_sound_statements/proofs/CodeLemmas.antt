@@ -146,6 +146,7 @@ module _ (w : sem.Setting Node) (b : Body Node) (members : ℕ → Datum → Boo
       (values_come_in fr b members rests.told rests.checks at at t x v.term gone p v.hyps v.count o.later st d k wr free behind)
       (given_right s members owed rests.told rests.checks A P at at v.count t v.term v.hyps o.later d (Done (Went (put st x (Some d)))) wr free right (record { has = o.is }) o.means o.known (λ a. a) (λ q known l. q) k))
       (λ y l e z.
-      subst (Exits w b members vs n names around f) (sym z.0.0)
-      (end_back n v.count f.count names o.later f.ends (put st x (Some d)) (omega (arith, le, up)) agree z.0.1,
-      declared_put b.types members st x d decl (subst (λ (u : Ty). is_in members u d ≡ true) (sym is) z.1)))
+      subst (Exits w b members vs n names around f) (sym z.0.0) (
+        end_back n v.count f.count names o.later f.ends (put st x (Some d)) (omega (arith, le, up)) agree z.0.1,
+        declared_put b.types members st x d decl (subst (λ (u : Ty). is_in members u d ≡ true) (sym is) z.1),
+      ))

@@ -377,8 +377,12 @@ module _ (w : sem.Setting Node) (b : Body Node) (members : ℕ → Datum → Boo
             (true_at_test inside.count (with_hyps inside.hyps head) t test (let x2 = g2 in let x3 = g3 in omega (arith, le, x2, x3)) g4 inner x.0) decl (here.3 (Truth true) x.1.0 x.1.1 x.1.2 refl))
             (λ y k q h. ended j t is here lead more y l k q h)
         chosen j t is decl here lead more inner false l x =
-            went t (behind t (where_false test head, inl refl, at_more n test.count kept.count names (where_false test head) t (let x5 = g5 in let x6 = g6 in omega (arith, x5, x6))
-            (false_at_test inside.count (with_hyps inside.hyps head) t test (let x2 = g2 in let x3 = g3 in omega (arith, le, x2, x3)) g4 inner x.0))) decl
+            went t (behind t (
+              where_false test head,
+              inl refl,
+              at_more n test.count kept.count names (where_false test head) t (let x5 = g5 in let x6 = g6 in omega (arith, x5, x6))
+                  (false_at_test inside.count (with_hyps inside.hyps head) t test (let x2 = g2 in let x3 = g3 in omega (arith, le, x2, x3)) g4 inner x.0),
+            )) decl
 
         pub turns_right : (j : ℕ) → From j
         turns_right zero t is decl suits pass l = tt

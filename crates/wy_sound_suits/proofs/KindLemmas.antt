@@ -80,4 +80,3 @@ field_of_all names f t Null h e = let g = h Null e in absurd cc
 field_of_all names f t (Truth b) h e = let g = h (Truth b) e in absurd cc
 field_of_all names f t (Whole z) h e = let g = h (Whole z) e in absurd cc
 field_of_all names f t (Array ds) h e = let g = h (Array ds) e in absurd cc
-

@@ -120,46 +120,55 @@ module _ (p : Program) (r : Rules) (w : sem.Setting Node) (paid : Bool) (says : 
     suits (IntExpr at z) k over flow u q seen s is t b ready g values h = tt
     suits (VarExpr at x) k over flow u q seen s is t b ready g values h = let o = values x ready in (ready, (o.0, o.1))
     suits (CallExpr at f es) k over flow u q seen s is t b ready g values h =
-        let x = then_gives _ _ u t in
-        (ready.0, all_suit es k over (none_yet flow) x.0 q seen s is x.1 (ends_begin x.0.flow whole u (ends_call p at f x.0 u x.2) b) ready.2 g values h,
-        λ vs m j e.
-        let y = every_of (eval_all w paid (numbered_all es k) s m) (typed.Kinds p (none_yet flow) x.0 (count_of es)) (kinds p r w paid says rests env reached q seen s values es k over (none_yet flow) x.0 x.1 ready.2 h m) vs j e in
-        let inside : AllIn p.names x.0.types vs = subst (λ (ts : List Ty). AllIn p.names ts vs) (sym y.behind) y.inside in
-        g ready.0 f vs (call_for p r w paid says rests env reached over seen s h at f x.0 u vs (count_of es) ready.1 inside y.bounded y.many x.2))
+        let x = then_gives _ _ u t in (
+          ready.0,
+          all_suit es k over (none_yet flow) x.0 q seen s is x.1 (ends_begin x.0.flow whole u (ends_call p at f x.0 u x.2) b) ready.2 g values h,
+          λ vs m j e.
+              let y = every_of (eval_all w paid (numbered_all es k) s m) (typed.Kinds p (none_yet flow) x.0 (count_of es)) (kinds p r w paid says rests env reached q seen s values es k over (none_yet flow) x.0 x.1 ready.2 h m) vs j e in
+              let inside : AllIn p.names x.0.types vs = subst (λ (ts : List Ty). AllIn p.names ts vs) (sym y.behind) y.inside in
+              g ready.0 f vs (call_for p r w paid says rests env reached over seen s h at f x.0 u vs (count_of es) ready.1 inside y.bounded y.many x.2),
+        )
     suits (NegExpr at a) k over flow u q seen s is t b ready g values h =
-        let x = then_gives _ _ u t in let c = then_gives _ _ u x.2 in
-        (suits a k over flow x.0 q seen s is x.1 (ends_begin x.0.flow whole u (ends_neg p.names at x.0 u x.2) b) ready g values h,
-        λ d m j e. whole_in p.names d (c.1.1 d (each_kind seen s values q a k over flow x.0 x.1 ready h d m j e).inside))
+        let x = then_gives _ _ u t in let c = then_gives _ _ u x.2 in (
+          suits a k over flow x.0 q seen s is x.1 (ends_begin x.0.flow whole u (ends_neg p.names at x.0 u x.2) b) ready g values h,
+          λ d m j e. whole_in p.names d (c.1.1 d (each_kind seen s values q a k over flow x.0 x.1 ready h d m j e).inside),
+        )
     suits (NotExpr at a) k over flow u q seen s is t b ready g values h =
-        let x = then_gives _ _ u t in let c = then_gives _ _ u x.2 in
-        (suits a k over flow x.0 q seen s is x.1 (ends_begin x.0.flow whole u (ends_not p.names at x.0 u x.2) b) ready g values h,
-        λ d m j e. truth_in p.names d (c.1.1 d (each_kind seen s values q a k over flow x.0 x.1 ready h d m j e).inside))
+        let x = then_gives _ _ u t in let c = then_gives _ _ u x.2 in (
+          suits a k over flow x.0 q seen s is x.1 (ends_begin x.0.flow whole u (ends_not p.names at x.0 u x.2) b) ready g values h,
+          λ d m j e. truth_in p.names d (c.1.1 d (each_kind seen s values q a k over flow x.0 x.1 ready h d m j e).inside),
+        )
     suits (LenExpr at a) k over flow u q seen s is t b ready g values h =
-        let x = then_gives _ _ u t in let c = then_gives _ _ u x.2 in
-        (suits a k over flow x.0 q seen s is x.1 (ends_begin x.0.flow whole u (ends_len p.names at x.0 u x.2) b) ready g values h,
-        λ d m j e. array_in p.names d (c.1.1 d (each_kind seen s values q a k over flow x.0 x.1 ready h d m j e).inside))
+        let x = then_gives _ _ u t in let c = then_gives _ _ u x.2 in (
+          suits a k over flow x.0 q seen s is x.1 (ends_begin x.0.flow whole u (ends_len p.names at x.0 u x.2) b) ready g values h,
+          λ d m j e. array_in p.names d (c.1.1 d (each_kind seen s values q a k over flow x.0 x.1 ready h d m j e).inside),
+        )
     suits (BinaryExpr at o a c) k over flow u q seen s is t b ready g values h =
         let x = then_gives _ _ u t in let y = then_gives _ _ u x.2 in
         let left = flow_of p env a over flow x.0 x.1 in
         let right = flow_of p env c (right_side over o x.0) x.0.flow y.0 y.1 in
         let behind = ends_begin y.0.flow whole u (ends_binary p.names at env over o x.0 y.0 u y.2) b in
         let before = begins_more x.0.flow y.0.flow whole (flow_begins c x.0.flow y.0 right) behind in
-        let next : k + exprs_in a ≡ length x.0.flow = ap (λ (n : ℕ). n + exprs_in a) is ∙ sym (flow_length a flow x.0 left) in
-        (suits a k over flow x.0 q seen s is x.1 before ready.0 g values h,
-        (λ d m j e. takes_left at o over x.0 y.0 u d y.2 (each_kind seen s values q a k over flow x.0 x.1 ready.0 h d m j e).inside),
-        λ d m j e go.
-        let kd = each_kind seen s values q a k over flow x.0 x.1 ready.0 h d m j e in
-        let there = right_types seen s o over x.0 d h kd go in
-        (suits c (k + exprs_in a) (right_side over o x.0) x.0.flow y.0 q seen s next y.1 behind ready.1 g values there,
-        λ f i l ef.
-        let kf = each_kind seen s values q c (k + exprs_in a) (right_side over o x.0) x.0.flow y.0 y.1 ready.1 there f i l ef in
-        takes_both at o over x.0 y.0 u d f (is_number (node (numbered a k))) (is_number (node (numbered c (k + exprs_in a)))) y.2 kd.inside kf.inside go
-        (λ n. is_number_of seen s values q a k flow x.0 d is left before n kd.inside)
-        (λ n. is_number_of seen s values q c (k + exprs_in a) x.0.flow y.0 f next right behind n kf.inside)))
+        let next : k + exprs_in a ≡ length x.0.flow = ap (λ (n : ℕ). n + exprs_in a) is ∙ sym (flow_length a flow x.0 left) in (
+          suits a k over flow x.0 q seen s is x.1 before ready.0 g values h,
+          (λ d m j e. takes_left at o over x.0 y.0 u d y.2 (each_kind seen s values q a k over flow x.0 x.1 ready.0 h d m j e).inside),
+          λ d m j e go.
+              let kd = each_kind seen s values q a k over flow x.0 x.1 ready.0 h d m j e in
+              let there = right_types seen s o over x.0 d h kd go in (
+                suits c (k + exprs_in a) (right_side over o x.0) x.0.flow y.0 q seen s next y.1 behind ready.1 g values there,
+                λ f i l ef.
+                    let kf = each_kind seen s values q c (k + exprs_in a) (right_side over o x.0) x.0.flow y.0 y.1 ready.1 there f i l ef in
+                    takes_both at o over x.0 y.0 u d f (is_number (node (numbered a k))) (is_number (node (numbered c (k + exprs_in a)))) y.2 kd.inside kf.inside go
+                    (λ n. is_number_of seen s values q a k flow x.0 d is left before n kd.inside)
+                    (λ n. is_number_of seen s values q c (k + exprs_in a) x.0.flow y.0 f next right behind n kf.inside),
+              ),
+        )
     suits (IsExpr at a y) k over flow u q seen s is t b ready g values h =
-        let x = then_gives _ _ u t in
-        (asks.written y ready.0, suits a k over flow x.0 q seen s is x.1 (ends_begin x.0.flow whole u (ends_test p.names at a x.0 u y x.2) b) ready.1 g values h,
-        λ d m j e i. asks.answers y d i ready.0 (each_kind seen s values q a k over flow x.0 x.1 ready.1 h d m j e).bounded)
+        let x = then_gives _ _ u t in (
+          asks.written y ready.0,
+          suits a k over flow x.0 q seen s is x.1 (ends_begin x.0.flow whole u (ends_test p.names at a x.0 u y x.2) b) ready.1 g values h,
+          λ d m j e i. asks.answers y d i ready.0 (each_kind seen s values q a k over flow x.0 x.1 ready.1 h d m j e).bounded,
+        )
     suits (IndexExpr at a c) k over flow u q seen s is t b ready g values h =
         let x = then_gives _ _ u t in let y = then_gives _ _ u x.2 in
         let z = then_gives _ _ u y.2 in let of_array = then_gives _ _ z.0 z.1 in let of_index = then_gives _ _ z.0 of_array.2 in
@@ -167,14 +176,17 @@ module _ (p : Program) (r : Rules) (w : sem.Setting Node) (paid : Bool) (says : 
         let right = flow_of p env c over x.0.flow y.0 y.1 in
         let behind = ends_begin y.0.flow whole u (ends_index p.names at x.0 y.0 u y.2) b in
         let before = begins_more x.0.flow y.0.flow whole (flow_begins c x.0.flow y.0 right) behind in
-        let next : k + exprs_in a ≡ length x.0.flow = ap (λ (n : ℕ). n + exprs_in a) is ∙ sym (flow_length a flow x.0 left) in
-        (suits a k over flow x.0 q seen s is x.1 before ready.0 g values h, suits c (k + exprs_in a) over x.0.flow y.0 q seen s next y.1 behind ready.1 g values h,
-        (λ d m j e. array_in p.names d (of_array.1.1 d (each_kind seen s values q a k over flow x.0 x.1 ready.0 h d m j e).inside)),
-        λ d m j e. whole_in p.names d (of_index.1.1 d (each_kind seen s values q c (k + exprs_in a) over x.0.flow y.0 y.1 ready.1 h d m j e).inside))
+        let next : k + exprs_in a ≡ length x.0.flow = ap (λ (n : ℕ). n + exprs_in a) is ∙ sym (flow_length a flow x.0 left) in (
+          suits a k over flow x.0 q seen s is x.1 before ready.0 g values h,
+          suits c (k + exprs_in a) over x.0.flow y.0 q seen s next y.1 behind ready.1 g values h,
+          (λ d m j e. array_in p.names d (of_array.1.1 d (each_kind seen s values q a k over flow x.0 x.1 ready.0 h d m j e).inside)),
+          λ d m j e. whole_in p.names d (of_index.1.1 d (each_kind seen s values q c (k + exprs_in a) over x.0.flow y.0 y.1 ready.1 h d m j e).inside),
+        )
     suits (FieldExpr at a name) k over flow u q seen s is t b ready g values h =
-        let x = then_gives _ _ u t in let c = then_gives _ _ u x.2 in
-        (suits a k over flow x.0 q seen s is x.1 (ends_begin x.0.flow whole u (ends_field p.names at x.0 u name x.2) b) ready g values h,
-        λ d m j e. field_of_all p.names name x.0.ty d c.1.1 (each_kind seen s values q a k over flow x.0 x.1 ready h d m j e).inside)
+        let x = then_gives _ _ u t in let c = then_gives _ _ u x.2 in (
+          suits a k over flow x.0 q seen s is x.1 (ends_begin x.0.flow whole u (ends_field p.names at x.0 u name x.2) b) ready g values h,
+          λ d m j e. field_of_all p.names name x.0.ty d c.1.1 (each_kind seen s values q a k over flow x.0 x.1 ready h d m j e).inside,
+        )
     suits (ListExpr at es) k over flow u q seen s is t b ready g values h =
         let x = then_gives _ _ u t in
         all_suit es k over (none_yet flow) x.0 q seen s is x.1 (ends_begin x.0.flow whole u (ends_list p.names at x.0 u x.2) b) ready.1 g values h
@@ -184,9 +196,11 @@ module _ (p : Program) (r : Rules) (w : sem.Setting Node) (paid : Bool) (says : 
         let right = flow_of p env c over x.0.flow y.0 y.1 in
         let behind = ends_begin y.0.flow whole u (ends_repeat p.names at x.0 y.0 u y.2) b in
         let before = begins_more x.0.flow y.0.flow whole (flow_begins c x.0.flow y.0 right) behind in
-        let next : k + exprs_in a ≡ length x.0.flow = ap (λ (n : ℕ). n + exprs_in a) is ∙ sym (flow_length a flow x.0 left) in
-        (suits a k over flow x.0 q seen s is x.1 before ready.0 g values h, suits c (k + exprs_in a) over x.0.flow y.0 q seen s next y.1 behind ready.1 g values h,
-        λ d m j e. whole_in p.names d (z.1.1 d (each_kind seen s values q c (k + exprs_in a) over x.0.flow y.0 y.1 ready.1 h d m j e).inside))
+        let next : k + exprs_in a ≡ length x.0.flow = ap (λ (n : ℕ). n + exprs_in a) is ∙ sym (flow_length a flow x.0 left) in (
+          suits a k over flow x.0 q seen s is x.1 before ready.0 g values h,
+          suits c (k + exprs_in a) over x.0.flow y.0 q seen s next y.1 behind ready.1 g values h,
+          λ d m j e. whole_in p.names d (z.1.1 d (each_kind seen s values q c (k + exprs_in a) over x.0.flow y.0 y.1 ready.1 h d m j e).inside),
+        )
     suits (RecordExpr at fs) k over flow u q seen s is t b ready g values h =
         let x = then_gives _ _ u t in
         fields_suit fs k over (no_field_yet flow) x.0 q seen s is x.1 (ends_begin x.0.flow whole u (ends_record p.names at x.0 u x.2) b) ready.1 g values h
@@ -201,20 +215,23 @@ module _ (p : Program) (r : Rules) (w : sem.Setting Node) (paid : Bool) (says : 
         let between = begins_more y.0.flow z.0.flow whole (flow_begins body y.0.flow z.0 last) behind in
         let before = begins_more x.0.flow y.0.flow whole (flow_begins c x.0.flow y.0 right) between in
         let next : k + exprs_in a ≡ length x.0.flow = ap (λ (n : ℕ). n + exprs_in a) is ∙ sym (flow_length a flow x.0 left) in
-        let third : k + exprs_in a + exprs_in c ≡ length y.0.flow = ap (λ (n : ℕ). n + exprs_in c) next ∙ sym (flow_length c x.0.flow y.0 right) in
-        (suits a k over flow x.0 q seen s is x.1 before ready.1 g values h, suits c (k + exprs_in a) over x.0.flow y.0 q seen s next y.1 between ready.2 g values h,
-        (λ d m j e. whole_in p.names d (of_from.1.1 d (each_kind seen s values q a k over flow x.0 x.1 ready.1 h d m j e).inside)),
-        (λ d m j e. whole_in p.names d (of_to.1.1 d (each_kind seen s values q c (k + exprs_in a) over x.0.flow y.0 y.1 ready.2 h d m j e).inside)),
-        λ i o.
-        let low = (each_kind seen s values q a k over flow x.0 x.1 ready.1 h (Whole o.low) o.first o.second o.left).bounded in
-        let high = (each_kind seen s values q c (k + exprs_in a) over x.0.flow y.0 y.1 ready.2 h (Whole o.high) o.second o.third o.right).bounded in
-        let int : is_int i ≡ true = between_is_int o.low o.high i low high o.from o.below in
-        let now = put s v (Some (Whole i)) in
-        let here : Ready r true (length now) (with_one v seen) body = subst (λ (n : ℕ). Ready r true n (with_one v seen) body) (sym (put_length s v (Some (Whole i)))) ready.3 in
-        let those = values_bound seen s v i ready.0 int values in
-        let there = types_bound seen s v i ready.0 p.names env over reached h in
-        (suits body (k + exprs_in a + exprs_in c) more y.0.flow z.0 true (with_one v seen) now third z.1 behind here (λ e. no_quiet e) those there,
-        λ d m j e. truth_in p.names d (of_body.1.1 d (each_kind (with_one v seen) now those true body (k + exprs_in a + exprs_in c) more y.0.flow z.0 z.1 here there d m j e).inside)))
+        let third : k + exprs_in a + exprs_in c ≡ length y.0.flow = ap (λ (n : ℕ). n + exprs_in c) next ∙ sym (flow_length c x.0.flow y.0 right) in (
+          suits a k over flow x.0 q seen s is x.1 before ready.1 g values h,
+          suits c (k + exprs_in a) over x.0.flow y.0 q seen s next y.1 between ready.2 g values h,
+          (λ d m j e. whole_in p.names d (of_from.1.1 d (each_kind seen s values q a k over flow x.0 x.1 ready.1 h d m j e).inside)),
+          (λ d m j e. whole_in p.names d (of_to.1.1 d (each_kind seen s values q c (k + exprs_in a) over x.0.flow y.0 y.1 ready.2 h d m j e).inside)),
+          λ i o.
+              let low = (each_kind seen s values q a k over flow x.0 x.1 ready.1 h (Whole o.low) o.first o.second o.left).bounded in
+              let high = (each_kind seen s values q c (k + exprs_in a) over x.0.flow y.0 y.1 ready.2 h (Whole o.high) o.second o.third o.right).bounded in
+              let int : is_int i ≡ true = between_is_int o.low o.high i low high o.from o.below in
+              let now = put s v (Some (Whole i)) in
+              let here : Ready r true (length now) (with_one v seen) body = subst (λ (n : ℕ). Ready r true n (with_one v seen) body) (sym (put_length s v (Some (Whole i)))) ready.3 in
+              let those = values_bound seen s v i ready.0 int values in
+              let there = types_bound seen s v i ready.0 p.names env over reached h in (
+                suits body (k + exprs_in a + exprs_in c) more y.0.flow z.0 true (with_one v seen) now third z.1 behind here (λ e. no_quiet e) those there,
+                λ d m j e. truth_in p.names d (of_body.1.1 d (each_kind (with_one v seen) now those true body (k + exprs_in a + exprs_in c) more y.0.flow z.0 z.1 here there d m j e).inside),
+              ),
+        )
 
     pub all_suit : (es : Exprs ℕ) (k : ℕ) (over : Changes) (all out : FoundAll) (q : Bool) (seen : ℕ → Bool) (s : Store) → k ≡ length all.flow → TypedExprs p env es over all (Gives out) → Begins out.flow whole → AllReady r q (length s) seen es → Taking q → HasValues seen s → HasTypes p.names env over seen s
         → AllSuit W q seen (numbered_all es k) s
