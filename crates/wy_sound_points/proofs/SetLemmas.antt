@@ -123,7 +123,7 @@ depend_from n [] h = tt
 depend_from n (None ∷ vs) h = (tt, depend_from n vs (λ x t e. h (suc x) t e))
 depend_from n (Some t ∷ vs) h = (h zero t refl, depend_from n vs (λ x u e. h (suc x) u e))
 
-as_point : (n : ℕ) (p : Spot) → Point n p → IsPoint n p
+pub as_point : (n : ℕ) (p : Spot) → Point n p → IsPoint n p
 as_point n p h = record { depends = λ x t e. subst (DependsIf n) e (slot_depends n p.vars x h.depends); marked = h.marked }
 
 as_end : (n : ℕ) (o : Option Spot) → PointIf n o → EndIsPoint n o

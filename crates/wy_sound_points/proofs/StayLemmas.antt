@@ -39,11 +39,11 @@ use Rattle.wy_sound_points.proofs.MeetLemmas.{meet_points}
 -- ---- values that come into variables
 
 -- a Val term that depends on names below the count
-record Rests (n : ℕ) (t : Term) : Type 0 where
+pub record Rests (n : ℕ) (t : Term) : Type 0 where
   pub is : IsOf val_sort t
   pub depends : Depends n t
 
-rests_on : (n m : ℕ) (t : Term) → n ≤ m → Rests n t → Rests m t
+pub rests_on : (n m : ℕ) (t : Term) → n ≤ m → Rests n t → Rests m t
 rests_on n m t le h = record { is = h.is; depends = depends_more n m t le h.depends }
 
 name_rests : (word : List ℕ) (n : ℕ) → Rests (suc n) (val_name word n)
@@ -76,17 +76,17 @@ set_field_depends : (n : ℕ) (name : List ℕ) (v w : Term) → Depends n v →
 set_field_depends n name v w h k x y a =
     set_field_means y name v w ∙ ap₂ (λ (d e : Datum). shapes.with_field d name e) (h x y a) (k x y a) ∙ sym (set_field_means x name v w)
 
-abbrev PartsRest : ℕ → List Part → Type 0
+abbrev pub PartsRest : ℕ → List Part → Type 0
 PartsRest n [] = Unit {0}
 PartsRest n (ElementOf whole i ∷ parts) = Rests n whole × Rests n i × PartsRest n parts
 PartsRest n (FieldOf name whole ∷ parts) = Rests n whole × PartsRest n parts
 
-parts_on : (n m : ℕ) (parts : List Part) → n ≤ m → PartsRest n parts → PartsRest m parts
+pub parts_on : (n m : ℕ) (parts : List Part) → n ≤ m → PartsRest n parts → PartsRest m parts
 parts_on n m [] le h = tt
 parts_on n m (ElementOf whole i ∷ parts) le h = (rests_on n m whole le h.0, rests_on n m i le h.1, parts_on n m parts le h.2)
 parts_on n m (FieldOf name whole ∷ parts) le h = (rests_on n m whole le h.0, parts_on n m parts le h.1)
 
-rebuilt_rests : (n : ℕ) (parts : List Part) (v : Term) → PartsRest n parts → Rests n v → Rests n (rebuilt parts v)
+pub rebuilt_rests : (n : ℕ) (parts : List Part) (v : Term) → PartsRest n parts → Rests n v → Rests n (rebuilt parts v)
 rebuilt_rests n [] v h g = g
 rebuilt_rests n (ElementOf whole i ∷ parts) v h g =
     let k = rebuilt_rests n parts v h.2 g in
@@ -97,7 +97,7 @@ rebuilt_rests n (FieldOf name whole ∷ parts) v h g =
 
 -- ---- the head of a loop
 
-record RenewedPoint (n : ℕ) (r : Renewed) : Type 0 where
+pub record RenewedPoint (n : ℕ) (r : Renewed) : Type 0 where
   pub grows : n ≤ r.count
   pub point : Point r.count r.spot
 
@@ -109,10 +109,10 @@ later_renewed : (n m : ℕ) (r : Renewed) → n ≤ m → RenewedPoint m r → R
 later_renewed n m r le h = let up = h.grows in record { grows = omega (arith, le, up); point = h.point }
 
 module _ {N : Type 0} (b : Body N) where
-  expr_up : (e : Expr N) (vars : Vars) (hyps : List Term) (n : ℕ) → n ≤ (expr b e vars hyps n).count
+  pub expr_up : (e : Expr N) (vars : Vars) (hyps : List Term) (n : ℕ) → n ≤ (expr b e vars hyps n).count
   expr_up e vars hyps n = code_grows b.program (words b) e vars hyps n
 
-  expr_rests : (e : Expr N) (vars : Vars) (hyps : List Term) (n : ℕ) → AreData vars → AllDepend n vars → Rests (expr b e vars hyps n).count (expr b e vars hyps n).term
+  pub expr_rests : (e : Expr N) (vars : Vars) (hyps : List Term) (n : ℕ) → AreData vars → AllDepend n vars → Rests (expr b e vars hyps n).count (expr b e vars hyps n).term
   expr_rests e vars hyps n are h = record { is = code_sorted b.program (words b) e vars hyps n are; depends = code_depends b.program (words b) e vars hyps n are h }
 
   given_points : (start at : ℕ) (t : Ty) (x : ℕ) (v : Term) (owed : List Owed) (p : Spot) (hyps : List Term) (n : ℕ) → start ≤ n → Rests n v → Point start p → FlowPoints start (given b at t x v owed p hyps n)
@@ -128,7 +128,7 @@ module _ {N : Type 0} (b : Body N) where
         breaks = tt;
       }
 
-  along_up : (path : List (Step N)) (whole : Term) (vars : Vars) (hyps : List Term) (n : ℕ) → n ≤ (along b path whole vars hyps n).count
+  pub along_up : (path : List (Step N)) (whole : Term) (vars : Vars) (hyps : List Term) (n : ℕ) → n ≤ (along b path whole vars hyps n).count
   along_up [] whole vars hyps n = omega arith
   along_up (IndexStep at e ∷ steps) whole vars hyps n =
       let i = expr b e vars hyps n in
@@ -136,7 +136,7 @@ module _ {N : Type 0} (b : Body N) where
       let on = along_up steps (op.element whole i.term) vars (assume_all i.hyps (index_goals whole i.term)) i.count in omega (arith, up, on)
   along_up (FieldStep at name ∷ steps) whole vars hyps n = along_up steps (field name whole) vars hyps n
 
-  along_rests : (path : List (Step N)) (whole : Term) (vars : Vars) (hyps : List Term) (n : ℕ) → AreData vars → AllDepend n vars → Rests n whole → PartsRest (along b path whole vars hyps n).count (along b path whole vars hyps n).parts
+  pub along_rests : (path : List (Step N)) (whole : Term) (vars : Vars) (hyps : List Term) (n : ℕ) → AreData vars → AllDepend n vars → Rests n whole → PartsRest (along b path whole vars hyps n).count (along b path whole vars hyps n).parts
   along_rests [] whole vars hyps n are h g = tt
   along_rests (IndexStep at e ∷ steps) whole vars hyps n are h g =
       let i = expr b e vars hyps n in
@@ -155,22 +155,22 @@ module _ {N : Type 0} (b : Body N) where
 
   -- ---- results and clauses
 
-  result_up : (at : ℕ) (out : Option tree.Output) (v : Option Term) (hyps : List Term) (n : ℕ) → n ≤ (owe_result b at out v hyps n).count
+  pub result_up : (at : ℕ) (out : Option tree.Output) (v : Option Term) (hyps : List Term) (n : ℕ) → n ≤ (owe_result b at out v hyps n).count
   result_up at None v hyps n = omega arith
   result_up at (Some out) None hyps n = omega arith
   result_up at (Some out) (Some v) hyps n = member_grows b.program.setting at out.ty v hyps n
 
-  leave_up : (at : ℕ) (v : Option Term) (hyps : List Term) (n : ℕ) → n ≤ (leave b at v hyps n).count
+  pub leave_up : (at : ℕ) (v : Option Term) (hyps : List Term) (n : ℕ) → n ≤ (leave b at v hyps n).count
   leave_up at v hyps n =
       let member = owe_result b at b.routine.result v hyps n in
       let up = result_up at b.routine.result v hyps n in
       let on = clauses_grow b.program.setting kind.Ensures at (words b) b.routine.postconditions (with_result b.routine.result v b.entry) member.hyps member.count in omega (arith, up, on)
 
-  keep_up : (at : ℕ) (es : List (Expr N)) (o : Option Spot) (n : ℕ) → n ≤ (keep b at es o n).count
+  pub keep_up : (at : ℕ) (es : List (Expr N)) (o : Option Spot) (n : ℕ) → n ≤ (keep b at es o n).count
   keep_up at es None n = omega arith
   keep_up at es (Some p) n = clauses_grow b.program.setting kind.Keep at (words b) es p.vars p.hyps n
 
-  walked_up : (es : List (Expr N)) (vars : Vars) (hyps : List Term) (n : ℕ) → n ≤ (walk_clauses b.program (words b) es vars hyps n).count
+  pub walked_up : (es : List (Expr N)) (vars : Vars) (hyps : List Term) (n : ℕ) → n ≤ (walk_clauses b.program (words b) es vars hyps n).count
   walked_up [] vars hyps n = omega arith
   walked_up (e ∷ es) vars hyps n =
       let v = expr b e vars hyps n in
@@ -197,7 +197,7 @@ module _ {N : Type 0} (b : Body N) where
       picked_renewed n (assigns_in x body && is_set p.set x) rest (renew_types b body (suc x) j p n)
       (later_renewed n f.count rest up (types_renewed body (suc x) j (with_hyps f.hyps p) f.count (with_point f.count p f.hyps (point_more n f.count p up h)))) (types_renewed body (suc x) j p n h)
 
-  head_renewed : (body : Stmts N) (p : Spot) (n : ℕ) → Point n p → RenewedPoint n (renew b body p n)
+  pub head_renewed : (body : Stmts N) (p : Spot) (n : ℕ) → Point n p → RenewedPoint n (renew b body p n)
   head_renewed body p n h =
       let r = renew_vars (words b) body 0 (bound_in body) p n in
       let k = vars_renewed body 0 (bound_in body) p n h in
@@ -206,7 +206,7 @@ module _ {N : Type 0} (b : Body N) where
   -- ---- statements
 
   mutual
-    statement_points : (around : List (Expr N)) (st : Stmt N) (p : Spot) (n : ℕ) → Point n p → FlowPoints n (exec b around st p n)
+    pub statement_points : (around : List (Expr N)) (st : Stmt N) (p : Spot) (n : ℕ) → Point n p → FlowPoints n (exec b around st p n)
     statement_points around (DeclareStmt at t x None) p n h =
         let r = name_rests (word_at (words b) x) n in
         record { grows = omega arith; ends = declare_point (suc n) p x (val_name (word_at (words b) x) n) r.is r.depends (point_more n (suc n) p (omega arith) h); breaks = tt }
@@ -281,7 +281,7 @@ module _ {N : Type 0} (b : Body N) where
         let g7 = m.grows in
         record { grows = omega (arith, g1, g2, g3, g4, g5, g6, g7); ends = m.ends; breaks = tt }
 
-    block_points : (around : List (Expr N)) (block : Stmts N) (p : Spot) (n : ℕ) → Point n p → FlowPoints n (exec_all b around block p n)
+    pub block_points : (around : List (Expr N)) (block : Stmts N) (p : Spot) (n : ℕ) → Point n p → FlowPoints n (exec_all b around block p n)
     block_points around NoStmts p n h = record { grows = omega arith; ends = h; breaks = tt }
     block_points around (MoreStmts first rest) p n h =
         then_points n (exec b around first p n) (exec_all b around rest) (statement_points around first p n h) (λ q m g. block_points around rest q m g)

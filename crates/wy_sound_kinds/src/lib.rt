@@ -1,0 +1,9 @@
+//! Answers of expressions are of the kinds that typing gives them.
+//!
+//! `specs/Bounded` says which data a program may hold, `specs/Ready` what a formed and assigned program gives of each expression,
+//! `specs/Kinds` what is known of a store by the types of its variables and of an answer by the type of its expression.
+#![tactic(auto)]
+
+mod law;
+
+pub use law::{answers_have_kinds, values_are_bounded};

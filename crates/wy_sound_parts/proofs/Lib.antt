@@ -1,0 +1,3 @@
+pub mod NormLemmas
+pub mod ItemLemmas
+pub mod ValueLemmas

@@ -1,0 +1,10 @@
+//! The law of what evaluations meet, as the contract of a function without a body.
+ghost use Rattle.wy_sound_suits.specs.Laws.{CodeSuits, ContractsSuit};
+
+/// Where an expression is typed and the variables that it uses have values of their types, what its evaluation meets is of the
+/// kinds that it asks for; in code, where calls take arguments of the types of their parameters, and in contracts, which call
+/// nothing. An expression that is taken for a number by the type with its number is one.
+pub fn expressions_suit()
+    ensures code { CodeSuits }
+    ensures contracts { ContractsSuit }
+{}
