@@ -45,6 +45,20 @@ method six():
 method spin(int q):
     while 65 > 1:
         q = 65
+function endless(int x) -> (int r):
+    return endless(x)
+function pick((int|null)[] xs) -> (int r):
+    if xs is int[]:
+        return 1
+    if xs is null[]:
+        return 2
+    return 3
+function one((int|null)[] xs) -> (int|null r):
+    if xs is int[]:
+        return 0
+    if xs is null[]:
+        return null
+    return xs[0]
 ";
 
 // Each refusal, and which of two goes first.
@@ -110,6 +124,12 @@ fn runs_end_so(rt: HostRuntime) -> Result<(), Fail> {
         ("hello", "(3)", "hi 3\n3\ncopies 0 nodes 0"),
         ("six", "()", "abcdefcopies 0 nodes 0"),
         ("spin", "(0)", "spent"),
+        ("endless", "(1)", "spent"),
+        ("pick", "([])", "1\ncopies 0 nodes 0"),
+        ("pick", "([null])", "2\ncopies 0 nodes 0"),
+        ("pick", "([1, null])", "3\ncopies 0 nodes 0"),
+        ("one", "([1, null])", "1\ncopies 0 nodes 0"),
+        ("one", "([null, 2])", "null\ncopies 0 nodes 0"),
     ];
     let alloc = rt.alloc();
     for (name, arguments, want) in rows {
