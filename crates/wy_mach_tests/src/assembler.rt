@@ -208,15 +208,14 @@ fn routine(alloc: Global, registers: u32, params: u32, text: &str) -> Result<Rou
     })
 }
 
-/// Code without shapes, with a routine of four registers, which takes so many arguments, and one that adds
-/// its two.
-pub fn code(alloc: Global, params: u32, text: &str) -> Result<Code, AllocError>
+/// Code without shapes, with two routines of eight registers: one that takes so many arguments, and one that takes two.
+pub fn code(alloc: Global, params: u32, text: &str, second: &str) -> Result<Code, AllocError>
     ensures ints { IfOk result HasInts }
     ensures table { IfOk result (λ made. IsShapes made.shapes) }
     ensures entry { IfOk result (λ made. (r : Routine) × (slice_get made.routines 0 ≡ Some r) × (r.params ≡ params)) }
 {
-    let first = routine(alloc, 4, params, text)?;
-    let second = routine(alloc, 2, 2, "Arith 0 + 0 1; Return 0")?;
+    let first = routine(alloc, 8, params, text)?;
+    let second = routine(alloc, 8, 2, second)?;
     let mut routines = Items::new(alloc);
     routines.push(first)?;
     routines.push(second)?;

@@ -1,8 +1,10 @@
 //! Tests of the machine: small routines, with what each instruction does in one.
 //!
-//! `assembler` makes code of texts, and `rows` has the routines and what their runs end with.
+//! `assembler` makes code of texts, `ends` says how a run of it ends, and `rows` has the routines: each instruction, caps
+//! of 1, 3 and 5, calls, lists of 100,000 links, writes in a loop, sinks that are full or fail at any call, and steps.
 #![tactic(auto)]
 
 mod assembler;
+mod ends;
 #[cfg(test)]
 mod rows;
