@@ -1,8 +1,8 @@
 -- The steps of `big`.
-use Rattle.std.proofs.Common.{◌≡◌, ◌≤◌, ◌<◌, ◌⊎◌, ◌∙◌, ◌++◌, ℕ, List, [], length, Bool, Option, Some, None, Ok, Err, inl, inr, arith, refl, sym, ap}
+use Rattle.std.proofs.Common.{◌≡◌, ◌≤◌, ◌<◌, ◌∙◌, ◌++◌, ℕ, List, [], length, Option, Some, None, Ok, Err, inl, inr, arith, refl, sym, ap, subst}
 use Rattle.wy_answers.specs.Answers.{refused, written as writes, no_memory, IsRefusal}
 use Rattle.wy_answers.specs.Loading.{source_limit}
-use Rattle.wy_answers.specs.Steps.{Setting, Came, Gives, Answers, due, stated}
+use Rattle.wy_answers.specs.Steps.{Setting, Came, Gives, Answers}
 use Rattle.wy_answers.specs.Texts.{of_file}
 use Rattle.wy_answers.specs.declared.answer.Answer.{Answer}
 use Rattle.wy_answers.proofs.StepLemmas.{value_gives, refusal_gives}
@@ -10,13 +10,15 @@ use Rattle.wy_answers.proofs.AnswerLemmas.{last_answers, memory_answers}
 use Rattle.wy_big.specs.Source.{source_of}
 use Rattle.wy_mach.specs.Running.{IsStuck, Spends}
 use Rattle.wy_report.specs.Lines.{steps_spent}
-use Rattle.wy_running.specs.Running.{Finished, written}
+use Rattle.wy_running.specs.Running.{EndsSo, Finished, written}
+use Rattle.wy_running.specs.declared.end.RunEnd.{RunEnd}
+use Rattle.wy_running.specs.declared.end.RunEnd.TheVariants.{Done, Spent, OutFault, Stuck}
 use Rattle.wy_step.specs.Step as step
 use Rattle.wy_step.specs.Step.{State, Ended, Frame, Caller}
 use Rattle.wy_value.specs.Datum.{Datum}
 use Rattle.wy_top.specs.Large.{IsLine, finishes_in, head, large_name, makes, makes_one}
 use Rattle.wy_top.specs.declared.launching.Launch.{Launch}
-use Rattle.std.specs.Prelude.{codes}
+use Rattle.std.specs.Prelude.{codes, ⊤}
 
 -- ---- the source
 
@@ -78,3 +80,18 @@ pub lost_answers : (s : Setting) (functions conditions : ℕ) (l : Launch) (st :
 lost_answers s functions conditions l (step.Runs fr callers output) a h = absurd h
 lost_answers s functions conditions l (Ended v output) a h = absurd h
 lost_answers s functions conditions l step.Stuck a h = stuck_answers s functions conditions l a
+
+-- the answer that goes with an end of the run, where this was written
+abbrev pub GoesWith : ℕ → ℕ → List ℕ → RunEnd → Answer → Type 0
+GoesWith functions conditions wrote (Done copies nodes) a = IsLine functions conditions wrote a
+GoesWith functions conditions wrote Spent a = IsRefusal 8 steps_spent a
+GoesWith functions conditions wrote OutFault a = a ≡ no_memory
+GoesWith functions conditions wrote Stuck a = ⊤
+
+pub end_answers : (s : Setting) (functions conditions : ℕ) (l : Launch) (st : State) (end : RunEnd) (before : Option (List ℕ)) (wrote : List ℕ) (f g : ℕ) (a : Answer) → before ≡ Some []
+    → EndsSo l.start.has_result st before (Some wrote) f g end → GoesWith functions conditions wrote end a → Answers s (finishes_in functions conditions l st) a
+end_answers s functions conditions l st (Done copies nodes) before wrote f g a empty ran goes =
+    done_answers s functions conditions l st copies nodes wrote a (subst (λ (b : Option (List ℕ)). Finished l.start.has_result copies nodes b (Some wrote) st) empty ran) goes
+end_answers s functions conditions l st Spent before wrote f g a empty ran goes = spent_answers s functions conditions l st before (Some wrote) a ran goes
+end_answers s functions conditions l st OutFault before wrote f g a empty ran goes = memory_answers s (finishes_in functions conditions l st) a goes
+end_answers s functions conditions l st Stuck before wrote f g a empty ran goes = lost_answers s functions conditions l st a ran

@@ -2,4 +2,5 @@ pub mod TextLemmas
 pub mod LaunchLemmas
 pub mod RunLemmas
 pub mod LargeLemmas
+pub mod SaveLemmas
 pub mod ExactLemmas

@@ -1,11 +1,11 @@
 -- What a run that started shows.
-use Rattle.std.proofs.Common.{◌≡◌, ◌≤◌, ◌⊎◌, ◌∙◌, ◌++◌, ℕ, List, [], length, take, Bool, true, false, Option, Some, None, inl, inr, arith, refl, sym, ap, subst}
+use Rattle.std.proofs.Common.{◌≡◌, ◌≤◌, ◌⊎◌, ◌∙◌, ◌++◌, ◌+◌, ℕ, List, [], length, take, Bool, Option, Some, None, inl, inr, arith, refl, sym, ap}
 use Rattle.std.proofs.Math.Seq.{take-append-add, take-length}
 use Rattle.std.proofs.lemmas.List.{append-nil, append_assoc, length-append}
-use Rattle.wy_answers.specs.Showing.{Sinks, sinks}
+use Rattle.wy_answers.specs.Showing.{sinks}
 use Rattle.wy_answers.specs.Texts.{machine_stuck}
 use Rattle.wy_answers.proofs.LoadLemmas.{rose_within}
-use Rattle.wy_answers.proofs.ShowLemmas.{took_nothing, with_taken-nil}
+use Rattle.wy_answers.proofs.ShowLemmas.{took_nothing}
 use Rattle.wy_mach.specs.Running.{IsStuck, Spends}
 use Rattle.wy_port.specs.Count.{Rose}
 use Rattle.wy_port.specs.Taken.{TookFront, with_taken}
@@ -15,7 +15,7 @@ use Rattle.wy_running.specs.declared.end.RunEnd.{RunEnd}
 use Rattle.wy_running.specs.declared.end.RunEnd.TheVariants.{Done, Spent, OutFault, Stuck}
 use Rattle.wy_step.specs.Step as step
 use Rattle.wy_step.specs.Step.{State, Ended}
-use Rattle.wy_top.specs.Runs.{Reports, whole, front, EndsRun, TookOf, Shows, finished, spends, sink_failed, no_memory, stuck, stats_text, done_text}
+use Rattle.wy_top.specs.Runs.{Reports, whole, front, EndsRun, Shows, finished, spends, sink_failed, no_memory, stuck, stats_text}
 
 -- ---- texts one behind the other
 

@@ -1,5 +1,5 @@
 -- What do the commands come to that write a text of a source?
-use Rattle.std.specs.Prelude.{◌≡◌, ℕ, List}
+use Rattle.std.specs.Prelude.{ℕ, List}
 use Rattle.wy_acceptance.specs.Programs.{lists}
 use Rattle.wy_answers.specs.Answers.{written}
 use Rattle.wy_answers.specs.Calls.{Faults, called}

@@ -810,6 +810,6 @@ fn found_certificates_are_accepted(rt: HostRuntime) -> Result<(), Fail> {
         let status = run_words(alloc, &words, &mut files, &mut out, &mut err);
         assert_eq!(rt; status, 0);
     }
-    assert_eq!(rt; err.bytes(), b"");
+    assert_eq!(rt; err.bytes(), b"".as_slice());
     Ok(())
 }

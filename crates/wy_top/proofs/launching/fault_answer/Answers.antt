@@ -1,4 +1,4 @@
-use Rattle.std.proofs.Common.{◌≡◌, ◌∙◌, ◌++◌, ℕ, List, Bool, sym, subst}
+use Rattle.std.proofs.Common.{◌∙◌, ◌++◌, ℕ, Bool, sym, subst}
 use Rattle.wy_answers.specs.Answers.{IsRefusal}
 use Rattle.wy_answers.specs.Calls.{AnswersFault}
 use Rattle.wy_top.specs.Launching.{fault_line, fault_status}

@@ -19,8 +19,8 @@ returns-in-Ok-clause-can c =
     let p = (acceptance_in c.args.accepted).program in
     starts_can p.core c.args.name.now c.as_bytes.result.now c.in-Ok.start (source_loadable source.bytes p.core p.flow source.owes.program) c.in-Ok.ensures.starts
 
-pub returns-in-Err-clause-gives : goal.returns-in-Err-clause-gives
-returns-in-Err-clause-gives c = λ s.
+pub returns-clause-gives : goal.returns-clause-gives
+returns-clause-gives c = λ s.
     let a = acceptance_in c.args.accepted in
     subst (λ (t : List ℕ). Gives s (starts c.args.name.now t a) (Err c.fault_answer.result)) c.as_bytes.ensures.value
     (starts_fault s c.args.name.now c.as_bytes.result.now a c.in-Err.fault c.fault_answer.result c.in-Err.ensures.refused c.in-Err.ensures.complete c.in-Err.ensures.exact c.fault_answer.ensures.value)

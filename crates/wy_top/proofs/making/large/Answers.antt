@@ -1,4 +1,4 @@
-use Rattle.std.proofs.Common.{◌≡◌, ℕ, List, subst}
+use Rattle.std.proofs.Common.{ℕ, subst}
 use Rattle.wy_answers.specs.Steps.{Answers}
 use Rattle.wy_answers.proofs.AnswerLemmas.{memory_answers}
 use Rattle.wy_top.specs.Large.{big_steps}
@@ -8,7 +8,7 @@ pub returns-in-None-clause-answers : goal.returns-in-None-clause-answers
 returns-in-None-clause-answers g c = λ s during. memory_answers s (big_steps s c.args.functions c.args.seed c.args.budget c.args.steps) c.no_memory.result c.no_memory.ensures.value
 
 pub returns-in-None-narrowed-clause-answers : goal.returns-in-None-narrowed-clause-answers
-returns-in-None-narrowed-clause-answers g c = λ s during. memory_answers s (big_steps s c.args.functions c.args.seed c.args.budget c.args.steps) c.no_memory.result c.no_memory.ensures.value
+returns-in-None-narrowed-clause-answers g c = λ s during. memory_answers s (big_steps s c.args.functions c.args.seed c.args.budget c.args.steps) c.no_memory-in-None-narrowed.result c.no_memory-in-None-narrowed.ensures.value
 
 pub returns-clause-answers : goal.returns-clause-answers
 returns-clause-answers g c = λ s during.

@@ -1,4 +1,4 @@
-use Rattle.std.proofs.Common.{◌≡◌, ℕ, List, Ok, Err, subst}
+use Rattle.std.proofs.Common.{◌∙◌, ℕ, List, Ok, Err, subst}
 use Rattle.wy_big.specs.Source.{argument_text, entry}
 use Rattle.wy_answers.specs.Steps.{Answers, Gives}
 use Rattle.wy_answers.proofs.AnswerLemmas.{ends_answers, memory_answers, then_answers}
@@ -8,20 +8,24 @@ use Rattle.wy_top.specs.Large.{finishes, runs}
 use Rattle.wy_top.specs.Launching.{starts}
 use Rattle.wy_top.proofs.making.run_large.Goals as goal
 
-pub returns-in-Err-clause-answers : goal.returns-in-Err-clause-answers
-returns-in-Err-clause-answers c = λ s. memory_answers s (runs c.args.functions c.args.seed c.args.steps (acceptance_in c.args.accepted)) c.no_memory.result c.no_memory.ensures.value
+pub returns-in-Err : goal.returns-in-Err
+returns-in-Err c = record { answers = λ s. memory_answers s (runs c.args.functions c.args.seed c.args.steps (acceptance_in c.args.accepted)) c.no_memory.result c.no_memory.ensures.value }
 
-pub returns-in-Ok-launched-clause-answers : goal.returns-in-Ok-launched-clause-answers
-returns-in-Ok-launched-clause-answers c = λ s.
-    let a = acceptance_in c.args.accepted in
-    let starting = subst (λ (t : List ℕ). Gives s (starts t (argument_text c.args.seed) a) (Ok c.in-Ok-launched.launch)) c.entry.ensures.value
-    (subst (λ (t : List ℕ). Gives s (starts c.entry.result.now t a) (Ok c.in-Ok-launched.launch)) c.in-Ok.ensures.value (c.in-Ok-launched.ensures.gives s)) in
-    then_answers s (starts entry (argument_text c.args.seed) a) (λ l. finishes c.args.functions (count_of a.program) c.args.steps l) c.in-Ok-launched.launch c.finished.result starting
-    (subst (λ (n : ℕ). Answers s (finishes c.args.functions n c.args.steps c.in-Ok-launched.launch) c.finished.result) c.requires.count (c.finished.ensures.answers s))
+pub returns-in-Ok-launched : goal.returns-in-Ok-launched
+returns-in-Ok-launched c = record {
+  answers = λ s.
+      let a = acceptance_in c.args.accepted in
+      let starting = subst (λ (t : List ℕ). Gives s (starts t (argument_text c.args.seed) a) (Ok c.in-Ok-launched.launch)) c.entry.ensures.value
+      (subst (λ (t : List ℕ). Gives s (starts c.entry.result.now t a) (Ok c.in-Ok-launched.launch)) (c.as_str.ensures.value ∙ c.in-Ok.ensures.value) (c.in-Ok-launched.ensures.gives s)) in
+      then_answers s (starts entry (argument_text c.args.seed) a) (λ l. finishes c.args.functions (count_of a.program) c.args.steps l) c.in-Ok-launched.launch c.finished.result starting
+      (subst (λ (n : ℕ). Answers s (finishes c.args.functions n c.args.steps c.in-Ok-launched.launch) c.finished.result) c.requires.count (c.finished.ensures.answers s));
+}
 
-pub returns-in-Err-launched-clause-answers : goal.returns-in-Err-launched-clause-answers
-returns-in-Err-launched-clause-answers c = λ s.
-    let a = acceptance_in c.args.accepted in
-    let starting = subst (λ (t : List ℕ). Gives s (starts t (argument_text c.args.seed) a) (Err c.in-Err-launched.answer)) c.entry.ensures.value
-    (subst (λ (t : List ℕ). Gives s (starts c.entry.result.now t a) (Err c.in-Err-launched.answer)) c.in-Ok.ensures.value (c.in-Err-launched.ensures.gives s)) in
-    ends_answers s (starts entry (argument_text c.args.seed) a) (λ l. finishes c.args.functions (count_of a.program) c.args.steps l) c.in-Err-launched.answer starting
+pub returns : goal.returns
+returns c = record {
+  answers = λ s.
+      let a = acceptance_in c.args.accepted in
+      let starting = subst (λ (t : List ℕ). Gives s (starts t (argument_text c.args.seed) a) (Err c.in-Err-launched.answer)) c.entry.ensures.value
+      (subst (λ (t : List ℕ). Gives s (starts c.entry.result.now t a) (Err c.in-Err-launched.answer)) (c.as_str.ensures.value ∙ c.in-Ok.ensures.value) (c.in-Err-launched.ensures.gives s)) in
+      ends_answers s (starts entry (argument_text c.args.seed) a) (λ l. finishes c.args.functions (count_of a.program) c.args.steps l) c.in-Err-launched.answer starting;
+}

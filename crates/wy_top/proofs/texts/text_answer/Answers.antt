@@ -1,4 +1,3 @@
-use Rattle.std.proofs.Common.{ℕ, List}
 use Rattle.wy_answers.specs.Answers.{written}
 use Rattle.wy_answers.specs.Steps.{done}
 use Rattle.wy_answers.proofs.AnswerLemmas.{ends_answers, value_answers}
@@ -7,7 +6,7 @@ use Rattle.wy_top.proofs.texts.text_answer.Goals as goal
 
 pub returns-in-Ok-clause-answers : goal.returns-in-Ok-clause-answers
 returns-in-Ok-clause-answers g c = λ s during.
-    rw c.new.ensures.value (value_answers s (text_in s c.args.kind c.args.name.now) written c.in-Ok.text (c.in-Ok.ensures.gives s during))
+    rw (c.new-in-Ok.ensures.value, c.new.ensures.items) (value_answers s (text_in s c.args.kind c.args.name.now) written c.in-Ok.text (c.in-Ok.ensures.gives s during))
 
 pub returns-in-Err-clause-answers : goal.returns-in-Err-clause-answers
 returns-in-Err-clause-answers g c = λ s during.

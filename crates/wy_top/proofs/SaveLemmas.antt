@@ -1,0 +1,16 @@
+-- The save behind what `prove` makes, seen from where the command began.
+use Rattle.std.proofs.Common.{◌≡◌, ◌≤◌, ℕ, List, arith, refl, subst}
+use Rattle.wy_answers.specs.Showing.{Sinks}
+use Rattle.wy_answers.specs.Steps.{IsDuring, setting}
+use Rattle.wy_answers.specs.declared.answer.Answer.{Answer}
+use Rattle.wy_port.specs.Told.{Told}
+use Rattle.wy_top.specs.Saves.{Saves, saving}
+
+-- what came before the save took place in the time of both
+pub during_before : (told : List ℕ → Told) (f g h m n o : ℕ) → f ≤ g → h ≡ g → m ≤ n → o ≡ n → IsDuring (setting told f h m o) told f g m n
+during_before told f g h m n o faults loads misses missed = record { same = λ name. refl; faults_from = omega arith; faults_rise = faults; faults_to = omega arith; misses_from = omega arith; misses_rise = misses; misses_to = omega arith }
+
+-- what came before changed neither the file nor the count of failed saves
+pub saves_from : (name saved : List ℕ) (a : Answer) (before between after : Told) (f g h : ℕ) (status : ℕ) (k : Sinks) → between ≡ before → g ≡ f → Saves name saved a (saving between after g h) status k → Saves name saved a (saving before after f h) status k
+saves_from name saved a before between after f g h status k same count saves =
+    subst (λ (t : Told). Saves name saved a (saving t after f h) status k) same (subst (λ (n : ℕ). Saves name saved a (saving between after n h) status k) count saves)
