@@ -1,0 +1,4 @@
+pub mod PlaceLemmas
+pub mod FollowLemmas
+pub mod StoreLemmas
+pub mod InstructionLemmas
