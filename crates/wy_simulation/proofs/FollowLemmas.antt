@@ -185,3 +185,27 @@ follows_step code wide lo hi lo2 hi2 m st st2 Spent Q e a b h = tt
 -- an answer, at once
 pub follows_end : {X : Type 0} (code : Code) (wide lo hi : ℕ) (m : Meter) (st : State) (x : X) (Q : X → Meter → State → Type 0) → Q x m st → Follows code wide lo hi m st (Done x m) Q
 follows_end code wide lo hi m st x Q q = record { steps = 0; spent = 0; total = omega arith; least = omega arith; most = omega arith; there = q }
+
+after_last : (code : Code) (n : ℕ) (st : State) → after code (n + 1) st ≡ step code (after code n st)
+after_last code n st = after_add code n 1 st
+
+-- a step last, which goes to another instruction
+pub follows_last : {X : Type 0} (code : Code) (wide lo hi : ℕ) (m : Meter) (st : State) (o : Outcome X) (routine at to : ℕ) (callers : List Caller) (R : X → Store → Type 0)
+    → ((regs : Store) (output : List ℕ) → step code (at_place routine at regs callers output) ≡ at_place routine to regs callers output)
+    → Follows code wide lo hi m st o (Comes routine at callers R) → Follows code wide lo (hi + 1) m st o (Comes routine to callers R)
+follows_last code wide lo hi m st (Done x k) routine at to callers R goes h = record {
+  steps = h.steps + 1;
+  spent = h.spent;
+  total = h.total;
+  least = let t = h.least in omega (arith, t);
+  most = let t = h.most in omega (arith, t);
+  there = record { regs = h.there.regs; is = after_last code h.steps st ∙ ap (λ (s : State). step code s) h.there.is ∙ goes h.there.regs k.output; ok = h.there.ok };
+}
+follows_last code wide lo hi m st (Fault kind at2 k) routine at to callers R goes h = tt
+follows_last code wide lo hi m st (More k) routine at to callers R goes h = record { steps = h.steps; least = h.least; most = let t = h.most in omega (arith, t); going = h.going }
+follows_last code wide lo hi m st Spent routine at to callers R goes h = tt
+
+-- the same place, said otherwise
+pub follows_at : {X : Type 0} (code : Code) (wide lo hi : ℕ) (m : Meter) (st : State) (o : Outcome X) (routine at to : ℕ) (callers : List Caller) (R : X → Store → Type 0) → at ≡ to
+    → Follows code wide lo hi m st o (Comes routine at callers R) → Follows code wide lo hi m st o (Comes routine to callers R)
+follows_at code wide lo hi m st o routine at to callers R e h = subst (λ (p : ℕ). Follows code wide lo hi m st o (Comes routine p callers R)) e h

@@ -2,3 +2,4 @@ pub mod PlaceLemmas
 pub mod FollowLemmas
 pub mod StoreLemmas
 pub mod InstructionLemmas
+pub mod PieceLemmas
