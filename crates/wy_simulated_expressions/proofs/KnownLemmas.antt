@@ -29,7 +29,15 @@ is_in : (x y : ℕ) (vs : Scope) → (x == y) ≡ true → Has vs y → Has vs x
 is_in x y vs e h = subst (λ (z : ℕ). Has vs z) (sym (eqb-true x y e)) h
 
 module _ (o : Offers) (k : ℕ) (x : ℕ) where
-  -- the first of the scope is not this variable
+  -- the first of the scope is another variable
+  other : (vs : Scope) (y : ℕ) → (x == y) ≡ false → (y ≡ x) ⊎ Has vs x → Has vs x
+  other vs y e (inl same) = absurd (let t : (x == x) ≡ true = eqb_self x in let g : (x == x) ≡ false = subst (λ (z : ℕ). (x == z) ≡ false) same e in cc)
+  other vs y e (inr h) = h
+
+  inner : (vs : Scope) (y : ℕ) (same : Bool) → (x == y) ≡ same → (used : Bool) → (used ≡ true → (y ≡ x) ⊎ Has vs x) → (not same && used) ≡ true → Has vs x
+  inner vs y true e used f h = never h
+  inner vs y false e used f h = other vs y e (f h)
+
   mutual
     occurs_known : (vs : Scope) (e : Expr ℕ) → BoundExpr o k vs e → occurs e x ≡ true → Has vs x
     occurs_known vs (NullExpr at) b h = never h
@@ -49,15 +57,7 @@ module _ (o : Offers) (k : ℕ) (x : ℕ) where
     occurs_known vs (RecordExpr at fs) b h = fields_known vs fs b.1 h
     occurs_known vs (QuantExpr at all y p q body) b h =
         either (occurs p x) (occurs q x || (not (x == y) && occurs body x)) (Has vs x) h (occurs_known vs p b.1)
-        (λ i. either (occurs q x) (not (x == y) && occurs body x) (Has vs x) i (occurs_known vs q b.2) (λ j. inner vs y (x == y) refl body (occurs body x) refl b.3 j))
-
-    inner : (vs : Scope) (y : ℕ) (same : Bool) → (x == y) ≡ same → (body : Expr ℕ) (used : Bool) → occurs body x ≡ used → BoundExpr o k (y ∷ vs) body → (not same && used) ≡ true → Has vs x
-    inner vs y true e body used u b h = never h
-    inner vs y false e body used u b h = other vs y e (occurs_known (y ∷ vs) body b (u ∙ h))
-
-    other : (vs : Scope) (y : ℕ) → (x == y) ≡ false → (y ≡ x) ⊎ Has vs x → Has vs x
-    other vs y e (inl same) = absurd (let t : (x == x) ≡ true = eqb_self x in let g : (x == x) ≡ false = subst (λ (z : ℕ). (x == z) ≡ false) same e in cc)
-    other vs y e (inr h) = h
+        (λ i. either (occurs q x) (not (x == y) && occurs body x) (Has vs x) i (occurs_known vs q b.2) (λ j. inner vs y (x == y) refl (occurs body x) (occurs_known (y ∷ vs) body b.3) j))
 
     any_known : (vs : Scope) (es : Exprs ℕ) → BoundExprs o k vs es → any_occurs es x ≡ true → Has vs x
     any_known vs NoExprs b h = never h

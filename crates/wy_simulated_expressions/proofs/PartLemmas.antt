@@ -6,6 +6,7 @@ use Rattle.std.proofs.lemmas.List.Elements.{All-head, All-tail}
 use Rattle.std.proofs.lemmas.Bool.{or_left, or_right}
 use Rattle.wy_value.specs.Datum.{Datum, Null, Truth, Whole, Array, Record, Data, Fields}
 use Rattle.wy_value.specs.Numbers.{is_int}
+use Rattle.wy_value.specs.Values.{length_of}
 use Rattle.wy_core.specs.CoreTree.{Expr, VarExpr}
 use Rattle.wy_core.specs.declared.expressions.Op.{Op}
 use Rattle.wy_core.specs.declared.expressions.Op.TheVariants as op
@@ -28,10 +29,10 @@ use Rattle.wy_pieces.specs.declared.steps.Step.TheVariants.{Does}
 use Rattle.wy_pieces.specs.Placing.{registers_in}
 use Rattle.wy_pieces.specs.Steps.{clear}
 use Rattle.wy_compiled.specs.Expressions.{equal, operator, negated as negated_steps}
-use Rattle.wy_sem.specs.Meter.{Meter, Outcome, Done, Run}
-use Rattle.wy_sem.specs.Operations.{same, same_number, negated, denied, length_result, applied, item_of, field_of, repeated, nat_of, is_index, item_at, find, longest, copies}
+use Rattle.wy_sem.specs.Meter.{Meter, Outcome, Done, Run, check}
+use Rattle.wy_sem.specs.Operations.{as_number, needed, in_range, same, same_number, negated, denied, length_result, applied, item_of, field_of, repeated, nat_of, is_index, item_at, find, longest, copies}
 use Rattle.wy_sem.specs.Expressions.{Store, slot, put}
-use Rattle.wy_step.specs.Step.{Caller, Effect, GoesOn as goes_on, effect, computes, compares, gives_int, cleared, instr_at}
+use Rattle.wy_step.specs.Step.{Caller, Effect, GoesOn as goes_on, effect, computes, compares, gives, gives_int, where_so, instr_at}
 use Rattle.wy_simulation.specs.Places.{StandAt, IsRoutine}
 use Rattle.wy_simulation.specs.Follows.{Follows, at_place, Comes}
 use Rattle.wy_simulation.specs.Registers.{Live, Got}
@@ -50,10 +51,6 @@ module _ (mach : Code) (f : ℕ) (r : Routine) (there : IsRoutine mach f r) (n w
   -- the register that an instruction fills is one of the frame
   target_room : (at d : ℕ) (i : Instr) (rest : List ℕ) → instr_at (Some r) at ≡ Some i → registers_in i ≡ d ∷ rest → d < r.registers
   target_room at d i rest stands e = All-head (λ (k : ℕ). k < r.registers) d rest (subst (λ (ks : List ℕ). All (λ (k : ℕ). k < r.registers) ks) e (all_at (λ (j : Instr). All (λ (k : ℕ). k < r.registers) (registers_in j)) r.body at i there.room stands))
-
-  -- what an expression gives, with registers that were these
-  abbrev pub Comes_to : ℕ → List Caller → Store → ℕ → Datum → Meter → Outcome Datum → ℕ → Store → Type 0
-  Comes_to d callers first at v m o hi regs = Follows mach wide 0 hi m (at_place f at regs callers m.output) o (Comes f v callers (Got n d s store first))
 
   -- an instruction that fills register d, of which the registers before d and the live variables know nothing
   pub fills : (d at : ℕ) (i : Instr) (rest : List ℕ) (regs left first : Store) (callers : List Caller) (m : Meter) (v : Datum) → n ≤ d → instr_at (Some r) at ≡ Some i → registers_in i ≡ d ∷ rest → effect mach.shapes i regs ≡ goes_on (put left d (Some v)) []
@@ -74,17 +71,17 @@ module _ (mach : Code) (f : ℕ) (r : Routine) (there : IsRoutine mach f r) (n w
         (λ b e. fills d at (instr.Not d d) (d ∷ []) regs regs first callers m (Truth (not b)) behind stands refl (not_does mach.shapes regs d d b (got.value ∙ ap (λ (u : Datum). Some u) e)) long got.live got.kept got.size)
 
     pub length_follows : instr_at (Some r) at ≡ Some (instr.Len d d) → Follows mach wide 0 1 m (at_place f at regs callers m.output) (length_result place v m) (Comes f (at + 1) callers (Got n d s store first))
-    length_follows stands = follows_items mach wide 0 1 m (at_place f at regs callers m.output) place v _ (Comes f (at + 1) callers (Got n d s store first))
-        (λ ds e. fills d at (instr.Len d d) (d ∷ []) regs regs first callers m _ behind stands refl (len_does mach.shapes regs d d ds (got.value ∙ ap (λ (u : Datum). Some u) e)) long got.live got.kept got.size)
+    length_follows stands = follows_items mach wide 0 1 m (at_place f at regs callers m.output) place v (λ ds. Done (Whole (pos (length_of ds)))) (Comes f (at + 1) callers (Got n d s store first))
+        (λ ds e. fills d at (instr.Len d d) (d ∷ []) regs regs first callers m (Whole (pos (length_of ds))) behind stands refl (len_does mach.shapes regs d d ds (got.value ∙ ap (λ (u : Datum). Some u) e)) long got.live got.kept got.size)
 
     pub field_follows : (k : ℕ) (name : List ℕ) → slice_get mach.shapes.names k ≡ Some name → instr_at (Some r) at ≡ Some (instr.Field d d k) → Follows mach wide 0 1 m (at_place f at regs callers m.output) (field_of place v name m) (Comes f (at + 1) callers (Got n d s store first))
-    field_follows k name named stands = follows_fields mach wide 0 1 m (at_place f at regs callers m.output) place v _ (Comes f (at + 1) callers (Got n d s store first))
+    field_follows k name named stands = follows_fields mach wide 0 1 m (at_place f at regs callers m.output) place v (λ fs. needed place (find fs name) Done) (Comes f (at + 1) callers (Got n d s store first))
         (λ fs e. follows_needed mach wide 0 1 m (at_place f at regs callers m.output) place (find fs name) Done (Comes f (at + 1) callers (Got n d s store first))
         (λ u g. fills d at (instr.Field d d k) (d ∷ []) regs regs first callers m u behind stands refl (field_does mach.shapes regs d d k fs name u (got.value ∙ ap (λ (u : Datum). Some u) e) named g) long got.live got.kept got.size))
 
     -- the number is taken from 0
     pub negated_follows : StandAt r.body at (negated_steps d) → Follows mach wide 0 2 m (at_place f at regs callers m.output) (negated place v m) (Comes f (at + 1 + 1) callers (Got n d s store first))
-    negated_follows stands = follows_number mach wide 0 2 m (at_place f at regs callers m.output) place v _ (Comes f (at + 1 + 1) callers (Got n d s store first))
+    negated_follows stands = follows_number mach wide 0 2 m (at_place f at regs callers m.output) place v (λ x. in_range place (neg_ℤ x)) (Comes f (at + 1 + 1) callers (Got n d s store first))
         (λ x e. follows_check mach wide 0 2 m (at_place f at regs callers m.output) (is_int (neg_ℤ x)) kind.Range place (Done (Whole (neg_ℤ x))) (Comes f (at + 1 + 1) callers (Got n d s store first)) (λ ok. two x e ok))
       where
         room : suc d < length regs
@@ -93,14 +90,14 @@ module _ (mach : Code) (f : ℕ) (r : Routine) (there : IsRoutine mach f r) (n w
         zeroed : Store
         zeroed = put regs (suc d) (Some (Whole (pos 0)))
 
+        is_given : (regs : Store) (d : ℕ) (z : ℤ) → is_int z ≡ true → gives_int regs d z ≡ goes_on (put regs d (Some (Whole z))) []
+        is_given regs d z ok = ap (λ (b : Bool). where_so b (gives regs d (Whole z))) ok
+
         sum : (x : ℤ) → v ≡ Whole x → is_int (neg_ℤ x) ≡ true → effect mach.shapes (instr.Arith d arithmetic.Sub (suc d) d) zeroed ≡ goes_on (put zeroed d (Some (Whole (neg_ℤ x)))) []
         sum x e ok =
             let a : slot zeroed (suc d) ≡ Some (Whole (pos 0)) = put_here regs (suc d) (Some (Whole (pos 0))) room in
             let b : slot zeroed d ≡ Some (Whole x) = put_other regs (suc d) d (Some (Whole (pos 0))) (λ g. absurd (omega (arith, g))) ∙ got.value ∙ ap (λ (u : Datum). Some u) e in
             arith_does mach.shapes zeroed arithmetic.Sub d (suc d) d (pos 0) x a b ∙ ap (λ (z : ℤ). gives_int zeroed d z) (zero_less x) ∙ is_given zeroed d (neg_ℤ x) ok
-
-        is_given : (regs : Store) (d : ℕ) (z : ℤ) → is_int z ≡ true → gives_int regs d z ≡ goes_on (put regs d (Some (Whole z))) []
-        is_given regs d z ok = rw ok refl
 
         two : (x : ℤ) → v ≡ Whole x → is_int (neg_ℤ x) ≡ true → Follows mach wide 0 2 m (at_place f at regs callers m.output) (Done (Whole (neg_ℤ x)) m) (Comes f (at + 1 + 1) callers (Got n d s store first))
         two x e ok = does_then mach f r there wide 0 1 at (instr.Const (suc d) (scalar.Int (pos 0))) regs zeroed callers m (Done (Whole (neg_ℤ x)) m) (at + 1 + 1) (Got n d s store first) stands.0 refl
@@ -128,9 +125,9 @@ module _ (mach : Code) (f : ℕ) (r : Routine) (there : IsRoutine mach f r) (n w
     both_filled at d2 i rest w stands names does = fills d at i rest regs regs first callers m w behind stands names does (same_size ∙ whole) got.live all_kept same_size
 
     pub item_follows : instr_at (Some r) at ≡ Some (instr.Get d d (suc d)) → Follows mach wide 0 1 m (at_place f at regs callers m.output) (item_of place v u m) (Comes f (at + 1) callers (Got n d s store first))
-    item_follows stands = follows_items mach wide 0 1 m (at_place f at regs callers m.output) place v _ (Comes f (at + 1) callers (Got n d s store first))
-        (λ ds e. follows_number mach wide 0 1 m (at_place f at regs callers m.output) place u _ (Comes f (at + 1) callers (Got n d s store first))
-        (λ z g. follows_check mach wide 0 1 m (at_place f at regs callers m.output) (is_index z ds) kind.Index place _ (Comes f (at + 1) callers (Got n d s store first))
+    item_follows stands = follows_items mach wide 0 1 m (at_place f at regs callers m.output) place v (λ ds. as_number place u (λ i. check (is_index i ds) kind.Index place (Done (item_at ds (nat_of i))))) (Comes f (at + 1) callers (Got n d s store first))
+        (λ ds e. follows_number mach wide 0 1 m (at_place f at regs callers m.output) place u (λ i. check (is_index i ds) kind.Index place (Done (item_at ds (nat_of i)))) (Comes f (at + 1) callers (Got n d s store first))
+        (λ z g. follows_check mach wide 0 1 m (at_place f at regs callers m.output) (is_index z ds) kind.Index place (Done (item_at ds (nat_of z))) (Comes f (at + 1) callers (Got n d s store first))
         (λ ok. both_filled at d (instr.Get d d (suc d)) (d ∷ suc d ∷ []) (item_at ds (nat_of z)) stands refl (get_does mach.shapes regs d d (suc d) ds z (left_there ∙ ap (λ (x : Datum). Some x) e) (got.value ∙ ap (λ (x : Datum). Some x) g) ok))))
 
     -- a sum, a difference, a product, a quotient or a rest
@@ -163,46 +160,46 @@ module _ (mach : Code) (f : ℕ) (r : Routine) (there : IsRoutine mach f r) (n w
         }
 
     is_given : (z : ℤ) → is_int z ≡ true → gives_int regs d z ≡ goes_on (put regs d (Some (Whole z))) []
-    is_given z ok = rw ok refl
+    is_given z ok = ap (λ (b : Bool). where_so b (gives regs d (Whole z))) ok
 
     quotient : (x y : ℤ) → not (same_number y (pos 0)) ≡ true → computes arithmetic.Div x y (λ z. gives_int regs d z) ≡ gives_int regs d (int_div_euclid x y)
-    quotient x y other = rw other refl
+    quotient x y other = ap (λ (b : Bool). where_so b (gives_int regs d (int_div_euclid x y))) other
 
     -- the operator on two operands that both were evaluated
     pub applied_follows : (o : Op) (plain : Bool) → IsStrict o → StandAt r.body at (operator o d plain) → Follows mach wide 0 2 m (at_place f at regs callers m.output) (applied o place v u m) (Comes f (at + length (operator o d plain)) callers (Got n d s store first))
-    applied_follows op.Add plain strict stands = follows_number mach wide 0 2 m (at_place f at regs callers m.output) place v _ (Comes f (at + 1) callers (Got n d s store first))
-        (λ x e. follows_number mach wide 0 2 m (at_place f at regs callers m.output) place u _ (Comes f (at + 1) callers (Got n d s store first))
+    applied_follows op.Add plain strict stands = follows_number mach wide 0 2 m (at_place f at regs callers m.output) place v (λ x. as_number place u (λ y. in_range place (x +ℤ y))) (Comes f (at + 1) callers (Got n d s store first))
+        (λ x e. follows_number mach wide 0 2 m (at_place f at regs callers m.output) place u (λ y. in_range place (x +ℤ y)) (Comes f (at + 1) callers (Got n d s store first))
         (λ y g. follows_check mach wide 0 2 m (at_place f at regs callers m.output) (is_int (x +ℤ y)) kind.Range place (Done (Whole (x +ℤ y))) (Comes f (at + 1) callers (Got n d s store first)) (λ ok. follows_more mach wide 0 1 0 2 m (at_place f at regs callers m.output) (Done (Whole (x +ℤ y)) m) (Comes f (at + 1) callers (Got n d s store first)) (omega arith) (omega arith) (arith_follows arithmetic.Add x y (x +ℤ y) stands.0 e g (arith_does mach.shapes regs arithmetic.Add d d (suc d) x y (left_there ∙ ap (λ (t : Datum). Some t) e) (got.value ∙ ap (λ (t : Datum). Some t) g) ∙ is_given (x +ℤ y) ok)))))
-    applied_follows op.Sub plain strict stands = follows_number mach wide 0 2 m (at_place f at regs callers m.output) place v _ (Comes f (at + 1) callers (Got n d s store first))
-        (λ x e. follows_number mach wide 0 2 m (at_place f at regs callers m.output) place u _ (Comes f (at + 1) callers (Got n d s store first))
+    applied_follows op.Sub plain strict stands = follows_number mach wide 0 2 m (at_place f at regs callers m.output) place v (λ x. as_number place u (λ y. in_range place (x -ℤ y))) (Comes f (at + 1) callers (Got n d s store first))
+        (λ x e. follows_number mach wide 0 2 m (at_place f at regs callers m.output) place u (λ y. in_range place (x -ℤ y)) (Comes f (at + 1) callers (Got n d s store first))
         (λ y g. follows_check mach wide 0 2 m (at_place f at regs callers m.output) (is_int (x -ℤ y)) kind.Range place (Done (Whole (x -ℤ y))) (Comes f (at + 1) callers (Got n d s store first)) (λ ok. follows_more mach wide 0 1 0 2 m (at_place f at regs callers m.output) (Done (Whole (x -ℤ y)) m) (Comes f (at + 1) callers (Got n d s store first)) (omega arith) (omega arith) (arith_follows arithmetic.Sub x y (x -ℤ y) stands.0 e g (arith_does mach.shapes regs arithmetic.Sub d d (suc d) x y (left_there ∙ ap (λ (t : Datum). Some t) e) (got.value ∙ ap (λ (t : Datum). Some t) g) ∙ is_given (x -ℤ y) ok)))))
-    applied_follows op.Mul plain strict stands = follows_number mach wide 0 2 m (at_place f at regs callers m.output) place v _ (Comes f (at + 1) callers (Got n d s store first))
-        (λ x e. follows_number mach wide 0 2 m (at_place f at regs callers m.output) place u _ (Comes f (at + 1) callers (Got n d s store first))
+    applied_follows op.Mul plain strict stands = follows_number mach wide 0 2 m (at_place f at regs callers m.output) place v (λ x. as_number place u (λ y. in_range place (x *ℤ y))) (Comes f (at + 1) callers (Got n d s store first))
+        (λ x e. follows_number mach wide 0 2 m (at_place f at regs callers m.output) place u (λ y. in_range place (x *ℤ y)) (Comes f (at + 1) callers (Got n d s store first))
         (λ y g. follows_check mach wide 0 2 m (at_place f at regs callers m.output) (is_int (x *ℤ y)) kind.Range place (Done (Whole (x *ℤ y))) (Comes f (at + 1) callers (Got n d s store first)) (λ ok. follows_more mach wide 0 1 0 2 m (at_place f at regs callers m.output) (Done (Whole (x *ℤ y)) m) (Comes f (at + 1) callers (Got n d s store first)) (omega arith) (omega arith) (arith_follows arithmetic.Mul x y (x *ℤ y) stands.0 e g (arith_does mach.shapes regs arithmetic.Mul d d (suc d) x y (left_there ∙ ap (λ (t : Datum). Some t) e) (got.value ∙ ap (λ (t : Datum). Some t) g) ∙ is_given (x *ℤ y) ok)))))
-    applied_follows op.Div plain strict stands = follows_number mach wide 0 2 m (at_place f at regs callers m.output) place v _ (Comes f (at + 1) callers (Got n d s store first))
-        (λ x e. follows_number mach wide 0 2 m (at_place f at regs callers m.output) place u _ (Comes f (at + 1) callers (Got n d s store first))
-        (λ y g. follows_check mach wide 0 2 m (at_place f at regs callers m.output) (not (same_number y (pos 0))) kind.Divisor place _ (Comes f (at + 1) callers (Got n d s store first)) (λ other. follows_check mach wide 0 2 m (at_place f at regs callers m.output) (is_int (int_div_euclid x y)) kind.Range place (Done (Whole (int_div_euclid x y))) (Comes f (at + 1) callers (Got n d s store first)) (λ ok. follows_more mach wide 0 1 0 2 m (at_place f at regs callers m.output) (Done (Whole (int_div_euclid x y)) m) (Comes f (at + 1) callers (Got n d s store first)) (omega arith) (omega arith) (arith_follows arithmetic.Div x y (int_div_euclid x y) stands.0 e g (arith_does mach.shapes regs arithmetic.Div d d (suc d) x y (left_there ∙ ap (λ (t : Datum). Some t) e) (got.value ∙ ap (λ (t : Datum). Some t) g) ∙ quotient x y other ∙ is_given (int_div_euclid x y) ok))))))
+    applied_follows op.Div plain strict stands = follows_number mach wide 0 2 m (at_place f at regs callers m.output) place v (λ x. as_number place u (λ y. check (not (same_number y (pos 0))) kind.Divisor place (in_range place (int_div_euclid x y)))) (Comes f (at + 1) callers (Got n d s store first))
+        (λ x e. follows_number mach wide 0 2 m (at_place f at regs callers m.output) place u (λ y. check (not (same_number y (pos 0))) kind.Divisor place (in_range place (int_div_euclid x y))) (Comes f (at + 1) callers (Got n d s store first))
+        (λ y g. follows_check mach wide 0 2 m (at_place f at regs callers m.output) (not (same_number y (pos 0))) kind.Divisor place (in_range place (int_div_euclid x y)) (Comes f (at + 1) callers (Got n d s store first)) (λ other. follows_check mach wide 0 2 m (at_place f at regs callers m.output) (is_int (int_div_euclid x y)) kind.Range place (Done (Whole (int_div_euclid x y))) (Comes f (at + 1) callers (Got n d s store first)) (λ ok. follows_more mach wide 0 1 0 2 m (at_place f at regs callers m.output) (Done (Whole (int_div_euclid x y)) m) (Comes f (at + 1) callers (Got n d s store first)) (omega arith) (omega arith) (arith_follows arithmetic.Div x y (int_div_euclid x y) stands.0 e g (arith_does mach.shapes regs arithmetic.Div d d (suc d) x y (left_there ∙ ap (λ (t : Datum). Some t) e) (got.value ∙ ap (λ (t : Datum). Some t) g) ∙ quotient x y other ∙ is_given (int_div_euclid x y) ok))))))
     applied_follows op.Mod plain strict stands = absurd strict
     applied_follows op.Equal plain strict stands = equal_steps plain stands
-    applied_follows op.Less plain strict stands = follows_number mach wide 0 2 m (at_place f at regs callers m.output) place v _ (Comes f (at + 1) callers (Got n d s store first))
-        (λ x e. follows_number mach wide 0 2 m (at_place f at regs callers m.output) place u _ (Comes f (at + 1) callers (Got n d s store first))
+    applied_follows op.Less plain strict stands = follows_number mach wide 0 2 m (at_place f at regs callers m.output) place v (λ x. as_number place u (λ y. Done (Truth (compares comparison.Less x y)))) (Comes f (at + 1) callers (Got n d s store first))
+        (λ x e. follows_number mach wide 0 2 m (at_place f at regs callers m.output) place u (λ y. Done (Truth (compares comparison.Less x y))) (Comes f (at + 1) callers (Got n d s store first))
         (λ y g. follows_more mach wide 0 1 0 2 m (at_place f at regs callers m.output) (Done (Truth (compares comparison.Less x y)) m) (Comes f (at + 1) callers (Got n d s store first)) (omega arith) (omega arith) (compare_follows comparison.Less x y stands.0 e g)))
-    applied_follows op.LessEqual plain strict stands = follows_number mach wide 0 2 m (at_place f at regs callers m.output) place v _ (Comes f (at + 1) callers (Got n d s store first))
-        (λ x e. follows_number mach wide 0 2 m (at_place f at regs callers m.output) place u _ (Comes f (at + 1) callers (Got n d s store first))
+    applied_follows op.LessEqual plain strict stands = follows_number mach wide 0 2 m (at_place f at regs callers m.output) place v (λ x. as_number place u (λ y. Done (Truth (compares comparison.LessEqual x y)))) (Comes f (at + 1) callers (Got n d s store first))
+        (λ x e. follows_number mach wide 0 2 m (at_place f at regs callers m.output) place u (λ y. Done (Truth (compares comparison.LessEqual x y))) (Comes f (at + 1) callers (Got n d s store first))
         (λ y g. follows_more mach wide 0 1 0 2 m (at_place f at regs callers m.output) (Done (Truth (compares comparison.LessEqual x y)) m) (Comes f (at + 1) callers (Got n d s store first)) (omega arith) (omega arith) (compare_follows comparison.LessEqual x y stands.0 e g)))
-    applied_follows op.Greater plain strict stands = follows_number mach wide 0 2 m (at_place f at regs callers m.output) place v _ (Comes f (at + 1) callers (Got n d s store first))
-        (λ x e. follows_number mach wide 0 2 m (at_place f at regs callers m.output) place u _ (Comes f (at + 1) callers (Got n d s store first))
+    applied_follows op.Greater plain strict stands = follows_number mach wide 0 2 m (at_place f at regs callers m.output) place v (λ x. as_number place u (λ y. Done (Truth (compares comparison.Greater x y)))) (Comes f (at + 1) callers (Got n d s store first))
+        (λ x e. follows_number mach wide 0 2 m (at_place f at regs callers m.output) place u (λ y. Done (Truth (compares comparison.Greater x y))) (Comes f (at + 1) callers (Got n d s store first))
         (λ y g. follows_more mach wide 0 1 0 2 m (at_place f at regs callers m.output) (Done (Truth (compares comparison.Greater x y)) m) (Comes f (at + 1) callers (Got n d s store first)) (omega arith) (omega arith) (compare_follows comparison.Greater x y stands.0 e g)))
-    applied_follows op.GreaterEqual plain strict stands = follows_number mach wide 0 2 m (at_place f at regs callers m.output) place v _ (Comes f (at + 1) callers (Got n d s store first))
-        (λ x e. follows_number mach wide 0 2 m (at_place f at regs callers m.output) place u _ (Comes f (at + 1) callers (Got n d s store first))
+    applied_follows op.GreaterEqual plain strict stands = follows_number mach wide 0 2 m (at_place f at regs callers m.output) place v (λ x. as_number place u (λ y. Done (Truth (compares comparison.GreaterEqual x y)))) (Comes f (at + 1) callers (Got n d s store first))
+        (λ x e. follows_number mach wide 0 2 m (at_place f at regs callers m.output) place u (λ y. Done (Truth (compares comparison.GreaterEqual x y))) (Comes f (at + 1) callers (Got n d s store first))
         (λ y g. follows_more mach wide 0 1 0 2 m (at_place f at regs callers m.output) (Done (Truth (compares comparison.GreaterEqual x y)) m) (Comes f (at + 1) callers (Got n d s store first)) (omega arith) (omega arith) (compare_follows comparison.GreaterEqual x y stands.0 e g)))
     applied_follows op.And plain strict stands = absurd strict
     applied_follows op.Or plain strict stands = absurd strict
 
     -- an array of copies
     pub repeated_follows : instr_at (Some r) at ≡ Some (instr.Fill d d (suc d)) → Follows mach wide 0 1 m (at_place f at regs callers m.output) (repeated place v u m) (Comes f (at + 1) callers (Got n d s store first))
-    repeated_follows stands = follows_number mach wide 0 1 m (at_place f at regs callers m.output) place u _ (Comes f (at + 1) callers (Got n d s store first))
-        (λ z e. follows_check mach wide 0 1 m (at_place f at regs callers m.output) (int_le (pos 0) z) kind.Length place _ (Comes f (at + 1) callers (Got n d s store first))
+    repeated_follows stands = follows_number mach wide 0 1 m (at_place f at regs callers m.output) place u (λ t. check (int_le (pos 0) t) kind.Length place (check (int_le t (pos longest)) kind.Length place (Done (Array (copies (nat_of t) v))))) (Comes f (at + 1) callers (Got n d s store first))
+        (λ z e. follows_check mach wide 0 1 m (at_place f at regs callers m.output) (int_le (pos 0) z) kind.Length place (check (int_le z (pos longest)) kind.Length place (Done (Array (copies (nat_of z) v)))) (Comes f (at + 1) callers (Got n d s store first))
         (λ low. follows_check mach wide 0 1 m (at_place f at regs callers m.output) (int_le z (pos longest)) kind.Length place (Done (Array (copies (nat_of z) v))) (Comes f (at + 1) callers (Got n d s store first))
         (λ high. fills d at (instr.Fill d d (suc d)) (d ∷ suc d ∷ []) regs (put regs d None) first callers m (Array (copies (nat_of z) v)) behind stands refl
         (fill_does mach.shapes regs d d (suc d) v z (got.value ∙ ap (λ (t : Datum). Some t) e) left_there (within low high))

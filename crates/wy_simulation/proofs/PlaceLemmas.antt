@@ -39,22 +39,23 @@ longer : (front : List Instr) (i : Instr) → length (front ++ i ∷ []) ≡ len
 longer [] i = omega arith
 longer (j ∷ front) i = let h = longer front i in omega (arith, h)
 
--- the steps behind those in front
-stand_behind : (front : List Instr) (at : ℕ) (steps : List Step) → length front ≡ at → StandAt (front ++ placed at steps) at steps
-one_more : (front : List Instr) (at : ℕ) (i : Instr) (steps : List Step) → length front ≡ at
+one_more : (front : List Instr) (at : ℕ) (i : Instr) (steps : List Step) → length front ≡ at → StandAt ((front ++ i ∷ []) ++ placed (suc at) steps) (suc at) steps
     → (slice_get (front ++ i ∷ placed (suc at) steps) at ≡ Some i) × StandAt (front ++ i ∷ placed (suc at) steps) (at + 1) steps
-stand_behind front at [] e = tt
-stand_behind front at (Does i ∷ steps) e = one_more front at i steps e
-stand_behind front at (GoesOn n ∷ steps) e = one_more front at (instr.Jump (suc at + n)) steps e
-stand_behind front at (GoesBack n ∷ steps) e = one_more front at (instr.Jump (at - n)) steps e
-stand_behind front at (GoesOnUnless r n ∷ steps) e = one_more front at (instr.Branch r (suc at + n)) steps e
-one_more front at i steps e =
+one_more front at i steps e rest =
     let here : slice_get (front ++ i ∷ placed (suc at) steps) at ≡ Some i = subst (λ (p : ℕ). slice_get (front ++ i ∷ placed (suc at) steps) p ≡ Some i) e (get_behind front (placed (suc at) steps) i) in
-    let long = longer front i in
-    let size : length (front ++ i ∷ []) ≡ suc at = omega (arith, long, e) in
-    let rest : StandAt ((front ++ i ∷ []) ++ placed (suc at) steps) (suc at) steps = stand_behind (front ++ i ∷ []) (suc at) steps size in
     let whole : (front ++ i ∷ []) ++ placed (suc at) steps ≡ front ++ i ∷ placed (suc at) steps = append_assoc front (i ∷ []) (placed (suc at) steps) in
     (here, moved (front ++ i ∷ placed (suc at) steps) (suc at) (at + 1) steps (omega arith) (subst (λ (b : List Instr). StandAt b (suc at) steps) whole rest))
+
+size_more : (front : List Instr) (at : ℕ) (i : Instr) → length front ≡ at → length (front ++ i ∷ []) ≡ suc at
+size_more front at i e = let long = longer front i in omega (arith, long, e)
+
+-- the steps behind those in front
+stand_behind : (front : List Instr) (at : ℕ) (steps : List Step) → length front ≡ at → StandAt (front ++ placed at steps) at steps
+stand_behind front at [] e = tt
+stand_behind front at (Does i ∷ steps) e = one_more front at i steps e (stand_behind (front ++ i ∷ []) (suc at) steps (size_more front at i e))
+stand_behind front at (GoesOn n ∷ steps) e = one_more front at (instr.Jump (suc at + n)) steps e (stand_behind (front ++ instr.Jump (suc at + n) ∷ []) (suc at) steps (size_more front at (instr.Jump (suc at + n)) e))
+stand_behind front at (GoesBack n ∷ steps) e = one_more front at (instr.Jump (at - n)) steps e (stand_behind (front ++ instr.Jump (at - n) ∷ []) (suc at) steps (size_more front at (instr.Jump (at - n)) e))
+stand_behind front at (GoesOnUnless r n ∷ steps) e = one_more front at (instr.Branch r (suc at + n)) steps e (stand_behind (front ++ instr.Branch r (suc at + n) ∷ []) (suc at) steps (size_more front at (instr.Branch r (suc at + n)) e))
 
 pub placed_stand : (steps : List Step) → StandAt (placed 0 steps) 0 steps
 placed_stand steps = stand_behind [] 0 steps refl
