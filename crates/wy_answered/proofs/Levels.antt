@@ -156,7 +156,7 @@ module _ (types : List (Alias ℕ)) (recurs : RecursWell types) where
   unfolding level
   level_least a less =
       let none = none_in count in
-      let h : how_many (λ m. false) count < how_many (led a) count = fewer (λ m. false) (led a) (λ m e. absurd cc) count a less refl (or_left (a == a) (leads_to types a count a) (eqb_self a)) in
+      let h : how_many (λ m. false) count < how_many (led a) count = fewer (λ m. false) (led a) (λ m e. absurd (let g : false ≡ true = e in cc)) count a less refl (or_left (a == a) (leads_to types a count a) (eqb_self a)) in
       omega (arith, h, none)
 
   pub named_level : (b c : ℕ) → UsesType true (alias_at types b) c → level c ≤ level b

@@ -151,9 +151,8 @@ module _ (c : Context) (routines : List Routine) (f : ℕ) (r : Routine) (there 
       → Follows mach wide lo 0 m (at_place f p middle callers m.output) (right m) (Comes f to callers (Got n d t store middle))
       → Follows mach wide lo 0 m (at_place f p middle callers m.output) (second o place right u m) (Comes f to callers (Got n d t store first))
   last_operand o place d s t store first middle u callers m lo p to right early one h =
-      follows_more mach wide (lo + 0) 0 lo 0 m (at_place f p middle callers m.output) (second o place right u m) (Comes f to callers (Got n d t store first)) (omega arith) (omega arith)
-      (follows_then mach wide lo 0 0 0 m (at_place f p middle callers m.output) (right m) (λ v k. applied o place u v k) f to callers (Got n d t store middle) (Comes f to callers (Got n d t store first)) h
-      (λ v k regs le two. truth o place u v k to regs early (both_got d s t store first middle regs u v one two)))
+      follows_then mach wide lo 0 0 0 lo 0 m (at_place f p middle callers m.output) (right m) (λ v k. applied o place u v k) f to callers (Got n d t store middle) (Comes f to callers (Got n d t store first)) (omega arith) (omega arith) h
+      (λ v k regs le two. truth o place u v k to regs early (both_got d s t store first middle regs u v one two))
     where
       truth : (o : Op) (place : ℕ) (u v : Datum) (k : Meter) (to : ℕ) (regs : Store) → IsEarly o → Got n d t store first v regs → Follows mach wide 0 0 k (at_place f to regs callers k.output) (applied o place u v k) (Comes f to callers (Got n d t store first))
       truth op.And place u v k to regs early got = follows_truth mach wide 0 0 k (at_place f to regs callers k.output) place v (λ b. Done (Truth b)) (Comes f to callers (Got n d t store first)) (λ b e. stays_last mach f r there wide to regs callers k (Truth b) (Got n d t store first) (subst (λ (x : Datum). Got n d t store first x regs) e got))
@@ -175,17 +174,17 @@ module _ (c : Context) (routines : List Routine) (f : ℕ) (r : Routine) (there 
   two_parts : (a b : Expr ℕ) → IsSimulated c routines f r w n wide a → IsSimulated c routines f r w n wide b → (ys : List Step) (tail : Datum → Datum → Run Datum) (hi : ℕ) (o : Offers) (k : ℕ) (vs : Scope) (s : Variables) (d at : ℕ) (store regs : Store) (callers : List Caller) (m : Meter)
       → ((v u : Datum) (j : Meter) (p : ℕ) (middle last : Store) → Got n d (before b s) store regs v middle → Got n (suc d) s store middle u last → StandAt r.body p ys → Follows mach wide 0 hi j (at_place f p last callers j.output) (tail v u j) (Comes f (p + length ys) callers (Got n d s store regs)))
       → BoundExpr o k vs a → BoundExpr o k vs b → AreKnown n vs s → n ≤ d → StandAt r.body at (code c a (before b s) d ++ (code c b s (suc d) ++ ys)) → Live (before a (before b s)) store regs → length regs ≡ r.registers
-      → Follows mach wide (size a + (size b + 0)) hi m (at_place f at regs callers m.output) (eval w true a store m >>= (λ v j. eval w true b store j >>= tail v)) (Comes f (at + length (code c a (before b s) d ++ (code c b s (suc d) ++ ys))) callers (Got n d s store regs))
+      → Follows mach wide (size a + size b) hi m (at_place f at regs callers m.output) (eval w true a store m >>= (λ v j. eval w true b store j >>= tail v)) (Comes f (at + length (code c a (before b s) d ++ (code c b s (suc d) ++ ys))) callers (Got n d s store regs))
   two_parts a b sa sb ys tail hi o k vs s d at store regs callers m finish ba bb known behind stands live whole =
       let xs = code c a (before b s) d in
       let zs = code c b s (suc d) in
       let l1 : length (xs ++ (zs ++ ys)) ≡ length xs + length (zs ++ ys) = length-append xs (zs ++ ys) in
       let l2 : length (zs ++ ys) ≡ length zs + length ys = length-append zs ys in
       let behind_a : StandAt r.body (at + length xs) (zs ++ ys) = stand_back r.body at xs (zs ++ ys) stands in
-      follows_at mach wide (size a + (size b + 0)) hi m (at_place f at regs callers m.output) (eval w true a store m >>= (λ v j. eval w true b store j >>= tail v)) f (at + length xs + length zs + length ys) (at + length (xs ++ (zs ++ ys))) callers (Got n d s store regs) (omega (arith, l1, l2))
-      (follows_then mach wide (size a) 0 (size b + 0) hi m (at_place f at regs callers m.output) (eval w true a store m) (λ v j. eval w true b store j >>= tail v) f (at + length xs) callers (Got n d (before b s) store regs) (Comes f (at + length xs + length zs + length ys) callers (Got n d s store regs))
+      follows_at mach wide (size a + size b) hi m (at_place f at regs callers m.output) (eval w true a store m >>= (λ v j. eval w true b store j >>= tail v)) f (at + length xs + length zs + length ys) (at + length (xs ++ (zs ++ ys))) callers (Got n d s store regs) (omega (arith, l1, l2))
+      (follows_then mach wide (size a) 0 (size b) hi (size a + size b) hi m (at_place f at regs callers m.output) (eval w true a store m) (λ v j. eval w true b store j >>= tail v) f (at + length xs) callers (Got n d (before b s) store regs) (Comes f (at + length xs + length zs + length ys) callers (Got n d s store regs)) (omega arith) (omega arith)
       (sa o k vs (before b s) d at store regs callers m ba (known_before o k n vs b s bb known) behind (stand_front r.body at xs (zs ++ ys) stands) live whole)
-      (λ v j middle le one. follows_then mach wide (size b) 0 0 hi j (at_place f (at + length xs) middle callers j.output) (eval w true b store j) (tail v) f (at + length xs + length zs) callers (Got n (suc d) s store middle) (Comes f (at + length xs + length zs + length ys) callers (Got n d s store regs))
+      (λ v j middle le one. follows_then mach wide (size b) 0 0 hi (size b) hi j (at_place f (at + length xs) middle callers j.output) (eval w true b store j) (tail v) f (at + length xs + length zs) callers (Got n (suc d) s store middle) (Comes f (at + length xs + length zs + length ys) callers (Got n d s store regs)) (omega arith) (omega arith)
       (sb o k vs s (suc d) (at + length xs) store middle callers j bb known (omega (arith, behind)) (stand_front r.body (at + length xs) zs ys behind_a) one.live (one.size ∙ whole))
       (λ u i last le2 two. finish v u i (at + length xs + length zs) middle last one two (stand_back r.body (at + length xs) zs ys behind_a))))
 
@@ -195,7 +194,7 @@ module _ (c : Context) (routines : List Routine) (f : ℕ) (r : Routine) (there 
       → Follows mach wide (size a + size b + 1) 0 m (at_place f at regs callers m.output) (spend true (λ j. eval w true a store j >>= (λ v i. second q place (eval w true b store) v i)) m)
       (Comes f (at + length (code c a (before b s) d ++ (code c b s (suc d) ++ operator q d (is_plain b)))) callers (Got n d s store regs))
   strict q is place a b sa sb o k vs s d at store regs callers m bs known behind stands live whole =
-      paid (size a + (size b + 0)) 2 (size a + size b + 1) at regs callers m (λ j. eval w true a store j >>= (λ v i. second q place (eval w true b store) v i)) (at + length (code c a (before b s) d ++ (code c b s (suc d) ++ operator q d (is_plain b)))) (Got n d s store regs) (omega arith) (omega arith)
+      paid (size a + size b) 2 (size a + size b + 1) at regs callers m (λ j. eval w true a store j >>= (λ v i. second q place (eval w true b store) v i)) (at + length (code c a (before b s) d ++ (code c b s (suc d) ++ operator q d (is_plain b)))) (Got n d s store regs) (omega arith) (omega arith)
       (λ j e. two_parts a b sa sb (operator q d (is_plain b)) (λ v u i. applied q place v u i) 2 o k vs s d at store regs callers j
       (λ v u i p middle last one two ys. applied_follows mach f r there n wide s (is_below n vs s known) store d p behind regs middle last whole callers place i v u one.value one.kept one.size two q (is_plain b) is ys)
       bs.0 bs.1 known behind stands live whole)
@@ -211,7 +210,7 @@ module _ (c : Context) (routines : List Routine) (f : ℕ) (r : Routine) (there 
       let l1 : length (xs ++ ys) ≡ length xs + length ys = length-append xs ys in
       paid (size a + size b) 3 (size a + size b + 1) at regs callers m (λ j. eval w true a store j >>= operated q place (eval w true b store)) (at + length (xs ++ ys)) (Got n d s store regs) (omega arith) (omega arith)
       (λ j e. follows_at mach wide (size a + size b) 3 j (at_place f at regs callers j.output) (eval w true a store j >>= operated q place (eval w true b store)) f (at + length xs + length ys) (at + length (xs ++ ys)) callers (Got n d s store regs) (omega (arith, l1))
-      (follows_then mach wide (size a) 0 (size b) 3 j (at_place f at regs callers j.output) (eval w true a store j) (operated q place (eval w true b store)) f (at + length xs) callers (Got n d (before b s) store regs) (Comes f (at + length xs + length ys) callers (Got n d s store regs))
+      (follows_then mach wide (size a) 0 (size b) 3 (size a + size b) 3 j (at_place f at regs callers j.output) (eval w true a store j) (operated q place (eval w true b store)) f (at + length xs) callers (Got n d (before b s) store regs) (Comes f (at + length xs + length ys) callers (Got n d s store regs)) (omega arith) (omega arith)
       (sa o k vs (before b s) d at store regs callers j bs.0 (known_before o k n vs b s bs.1 known) behind (stand_front r.body at xs ys stands) live whole)
       (λ v i middle le one. goes q is v i middle one (at + length xs) (stand_back r.body at xs ys stands))))
     where
@@ -263,9 +262,9 @@ module _ (c : Context) (routines : List Routine) (f : ℕ) (r : Routine) (there 
   one_part a sa ys tail hi most o k vs s d at store regs callers m finish b known behind stands live whole =
       let xs = code c a s d in
       let l1 : length (xs ++ ys) ≡ length xs + length ys = length-append xs ys in
-      paid (size a + 0) hi (size a + 1) at regs callers m (λ j. eval w true a store j >>= tail) (at + length (xs ++ ys)) (Got n d s store regs) (omega arith) most
-      (λ j e. follows_at mach wide (size a + 0) hi j (at_place f at regs callers j.output) (eval w true a store j >>= tail) f (at + length xs + length ys) (at + length (xs ++ ys)) callers (Got n d s store regs) (omega (arith, l1))
-      (follows_then mach wide (size a) 0 0 hi j (at_place f at regs callers j.output) (eval w true a store j) tail f (at + length xs) callers (Got n d s store regs) (Comes f (at + length xs + length ys) callers (Got n d s store regs))
+      paid (size a) hi (size a + 1) at regs callers m (λ j. eval w true a store j >>= tail) (at + length (xs ++ ys)) (Got n d s store regs) (omega arith) most
+      (λ j e. follows_at mach wide (size a) hi j (at_place f at regs callers j.output) (eval w true a store j >>= tail) f (at + length xs + length ys) (at + length (xs ++ ys)) callers (Got n d s store regs) (omega (arith, l1))
+      (follows_then mach wide (size a) 0 0 hi (size a) hi j (at_place f at regs callers j.output) (eval w true a store j) tail f (at + length xs) callers (Got n d s store regs) (Comes f (at + length xs + length ys) callers (Got n d s store regs)) (omega arith) (omega arith)
       (sa o k vs s d at store regs callers j b known behind (stand_front r.body at xs ys stands) live whole)
       (λ v i last le got. finish v i (at + length xs) last got (stand_back r.body at xs ys stands))))
 
@@ -349,7 +348,7 @@ module _ (c : Context) (routines : List Routine) (f : ℕ) (r : Routine) (there 
     expr (BinaryExpr i op.Or a b) cv o k vs s d at store regs callers m bs known behind stands live whole = early op.Or tt (w.place i) a b (expr a cv.1) (expr b cv.2) o k vs s d at store regs callers m bs known behind stands live whole
     expr (IsExpr i a ty) cv o k vs s d at store regs callers m b known behind stands live whole = absurd cv
     expr (IndexExpr i a b) cv o k vs s d at store regs callers m bs known behind stands live whole =
-        paid (size a + (size b + 0)) 1 (size a + size b + 1) at regs callers m (λ j. eval w true a store j >>= (λ v t. eval w true b store t >>= item_of (w.place i) v)) (at + length (code c a (before b s) d ++ (code c b s (suc d) ++ Does (instr.Get d d (suc d)) ∷ []))) (Got n d s store regs) (omega arith) (omega arith)
+        paid (size a + size b) 1 (size a + size b + 1) at regs callers m (λ j. eval w true a store j >>= (λ v t. eval w true b store t >>= item_of (w.place i) v)) (at + length (code c a (before b s) d ++ (code c b s (suc d) ++ Does (instr.Get d d (suc d)) ∷ []))) (Got n d s store regs) (omega arith) (omega arith)
         (λ j e. two_parts a b (expr a cv.0) (expr b cv.1) (Does (instr.Get d d (suc d)) ∷ []) (item_of (w.place i)) 1 o k vs s d at store regs callers j
         (λ v u t p middle last one two ys. item_follows mach f r there n wide s (is_below n vs s known) store d p behind regs middle last whole callers (w.place i) t v u one.value one.kept one.size two ys.0)
         bs.0 bs.1 known behind stands live whole)
@@ -361,13 +360,13 @@ module _ (c : Context) (routines : List Routine) (f : ℕ) (r : Routine) (there 
         let xs = codes c items s d in
         let ys : List Step = Does (instr.Array d (registers_from d (count_of items))) ∷ [] in
         let l1 : length (xs ++ ys) ≡ length xs + 1 = length-append xs ys in
-        paid (sizes items + 0) 1 (sizes items + 1) at regs callers m (λ j. eval_all w true items store j >>= (λ us. Done (Array (data_of us)))) (at + length (xs ++ ys)) (Got n d s store regs) (omega arith) (omega arith)
-        (λ j e. follows_at mach wide (sizes items + 0) 1 j (at_place f at regs callers j.output) (eval_all w true items store j >>= (λ us. Done (Array (data_of us)))) f (at + length xs + 1) (at + length (xs ++ ys)) callers (Got n d s store regs) (omega (arith, l1))
-        (follows_then mach wide (sizes items) 0 0 1 j (at_place f at regs callers j.output) (eval_all w true items store j) (λ us. Done (Array (data_of us))) f (at + length xs) callers (GotAll n d (count_of items) s store regs) (Comes f (at + length xs + 1) callers (Got n d s store regs))
+        paid (sizes items) 1 (sizes items + 1) at regs callers m (λ j. eval_all w true items store j >>= (λ us. Done (Array (data_of us)))) (at + length (xs ++ ys)) (Got n d s store regs) (omega arith) (omega arith)
+        (λ j e. follows_at mach wide (sizes items) 1 j (at_place f at regs callers j.output) (eval_all w true items store j >>= (λ us. Done (Array (data_of us)))) f (at + length xs + 1) (at + length (xs ++ ys)) callers (Got n d s store regs) (omega (arith, l1))
+        (follows_then mach wide (sizes items) 0 0 1 (sizes items) 1 j (at_place f at regs callers j.output) (eval_all w true items store j) (λ us. Done (Array (data_of us))) f (at + length xs) callers (GotAll n d (count_of items) s store regs) (Comes f (at + length xs + 1) callers (Got n d s store regs)) (omega arith) (omega arith)
         (all items cv o k vs s d at store regs callers j b known behind (stand_front r.body at xs ys stands) live whole)
         (λ us t last le got. array d (at + length xs) (count_of items) s store regs last us callers t (is_below n vs s known) behind whole got (stand_back r.body at xs ys stands).0)))
     expr (RepeatExpr i a b) cv o k vs s d at store regs callers m bs known behind stands live whole =
-        paid (size a + (size b + 0)) 1 (size a + size b + 1) at regs callers m (λ j. eval w true a store j >>= (λ v t. eval w true b store t >>= repeated (w.place i) v)) (at + length (code c a (before b s) d ++ (code c b s (suc d) ++ Does (instr.Fill d d (suc d)) ∷ []))) (Got n d s store regs) (omega arith) (omega arith)
+        paid (size a + size b) 1 (size a + size b + 1) at regs callers m (λ j. eval w true a store j >>= (λ v t. eval w true b store t >>= repeated (w.place i) v)) (at + length (code c a (before b s) d ++ (code c b s (suc d) ++ Does (instr.Fill d d (suc d)) ∷ []))) (Got n d s store regs) (omega arith) (omega arith)
         (λ j e. two_parts a b (expr a cv.0) (expr b cv.1) (Does (instr.Fill d d (suc d)) ∷ []) (repeated (w.place i)) 1 o k vs s d at store regs callers j
         (λ v u t p middle last one two ys. repeated_follows mach f r there n wide s (is_below n vs s known) store d p behind regs middle last whole callers (w.place i) t v u one.value one.kept one.size two ys.0)
         bs.0 bs.1 known behind stands live whole)
@@ -376,9 +375,9 @@ module _ (c : Context) (routines : List Routine) (f : ℕ) (r : Routine) (there 
         let shape = shape_number c.table (names_in fs) in
         let ys : List Step = Does (instr.Record d shape (registers_from d (field_count fs))) ∷ [] in
         let l1 : length (xs ++ ys) ≡ length xs + 1 = length-append xs ys in
-        paid (field_sizes fs + 0) 1 (field_sizes fs + 1) at regs callers m (λ j. eval_fields w true fs store j >>= (λ ds. Done (Record ds))) (at + length (xs ++ ys)) (Got n d s store regs) (omega arith) (omega arith)
-        (λ j e. follows_at mach wide (field_sizes fs + 0) 1 j (at_place f at regs callers j.output) (eval_fields w true fs store j >>= (λ ds. Done (Record ds))) f (at + length xs + 1) (at + length (xs ++ ys)) callers (Got n d s store regs) (omega (arith, l1))
-        (follows_then mach wide (field_sizes fs) 0 0 1 j (at_place f at regs callers j.output) (eval_fields w true fs store j) (λ ds. Done (Record ds)) f (at + length xs) callers (GotFields n d (field_count fs) (names_in fs) s store regs) (Comes f (at + length xs + 1) callers (Got n d s store regs))
+        paid (field_sizes fs) 1 (field_sizes fs + 1) at regs callers m (λ j. eval_fields w true fs store j >>= (λ ds. Done (Record ds))) (at + length (xs ++ ys)) (Got n d s store regs) (omega arith) (omega arith)
+        (λ j e. follows_at mach wide (field_sizes fs) 1 j (at_place f at regs callers j.output) (eval_fields w true fs store j >>= (λ ds. Done (Record ds))) f (at + length xs + 1) (at + length (xs ++ ys)) callers (Got n d s store regs) (omega (arith, l1))
+        (follows_then mach wide (field_sizes fs) 0 0 1 (field_sizes fs) 1 j (at_place f at regs callers j.output) (eval_fields w true fs store j) (λ ds. Done (Record ds)) f (at + length xs) callers (GotFields n d (field_count fs) (names_in fs) s store regs) (Comes f (at + length xs + 1) callers (Got n d s store regs)) (omega arith) (omega arith)
         (fields fs cv.0 o k vs s d at store regs callers j b.1 known behind (stand_front r.body at xs ys stands) live whole)
         (λ ds t last le made. record_made d (at + length xs) (field_count fs) (names_in fs) s store regs last ds shape callers t (is_below n vs s known) behind whole made cv.1 (stand_back r.body at xs ys stands).0)))
     expr (QuantExpr i q x a b body) cv o k vs s d at store regs callers m bs known behind stands live whole = absurd cv
@@ -394,13 +393,12 @@ module _ (c : Context) (routines : List Routine) (f : ℕ) (r : Routine) (there 
         let ys = codes c es s (suc d) in
         let l1 : length (xs ++ ys) ≡ length xs + length ys = length-append xs ys in
         let R = GotAll n d (suc (count_of es)) s store regs in
-        follows_more mach wide (size e + (sizes es + 0)) 0 (size e + sizes es) 0 m (at_place f at regs callers m.output) (eval_all w true (MoreExprs e es) store m) (Comes f (at + length (xs ++ ys)) callers R) (omega arith) (omega arith)
-        (follows_at mach wide (size e + (sizes es + 0)) 0 m (at_place f at regs callers m.output) (eval_all w true (MoreExprs e es) store m) f (at + length xs + length ys) (at + length (xs ++ ys)) callers R (omega (arith, l1))
-        (follows_then mach wide (size e) 0 (sizes es + 0) 0 m (at_place f at regs callers m.output) (eval w true e store m) (λ v j. eval_all w true es store j >>= (λ us. Done (v ∷ us))) f (at + length xs) callers (Got n d (before_all es s) store regs) (Comes f (at + length xs + length ys) callers R)
+        follows_at mach wide (size e + sizes es) 0 m (at_place f at regs callers m.output) (eval_all w true (MoreExprs e es) store m) f (at + length xs + length ys) (at + length (xs ++ ys)) callers R (omega (arith, l1))
+        (follows_then mach wide (size e) 0 (sizes es) 0 (size e + sizes es) 0 m (at_place f at regs callers m.output) (eval w true e store m) (λ v j. eval_all w true es store j >>= (λ us. Done (v ∷ us))) f (at + length xs) callers (Got n d (before_all es s) store regs) (Comes f (at + length xs + length ys) callers R) (omega arith) (omega arith)
         (expr e cv.0 o k vs (before_all es s) d at store regs callers m b.0 (known_all o k n vs es s b.1 known) behind (stand_front r.body at xs ys stands) live whole)
-        (λ v j middle le one. follows_then mach wide (sizes es) 0 0 0 j (at_place f (at + length xs) middle callers j.output) (eval_all w true es store j) (λ us. Done (v ∷ us)) f (at + length xs + length ys) callers (GotAll n (suc d) (count_of es) s store middle) (Comes f (at + length xs + length ys) callers R)
+        (λ v j middle le one. follows_then mach wide (sizes es) 0 0 0 (sizes es) 0 j (at_place f (at + length xs) middle callers j.output) (eval_all w true es store j) (λ us. Done (v ∷ us)) f (at + length xs + length ys) callers (GotAll n (suc d) (count_of es) s store middle) (Comes f (at + length xs + length ys) callers R) (omega arith) (omega arith)
         (all es cv.1 o k vs s (suc d) (at + length xs) store middle callers j b.1 known (omega (arith, behind)) (stand_back r.body at xs ys stands) one.live (one.size ∙ whole))
-        (λ us i last le2 more. stays_last mach f r there wide (at + length xs + length ys) last callers i (v ∷ us) R (one_more d (count_of es) (before_all es s) s store regs middle last v us behind one more)))))
+        (λ us i last le2 more. stays_last mach f r there wide (at + length xs + length ys) last callers i (v ∷ us) R (one_more d (count_of es) (before_all es s) s store regs middle last v us behind one more))))
 
     fields : (fs : tree.Fields ℕ) → FieldsCovered c fs → (o : Offers) (k : ℕ) (vs : Scope) (s : Variables) (d at : ℕ) (store regs : Store) (callers : List Caller) (m : Meter)
         → BoundFields o k vs fs → AreKnown n vs s → n ≤ d → StandAt r.body at (field_codes c fs s d) → Live (before_fields fs s) store regs → length regs ≡ r.registers
@@ -413,14 +411,13 @@ module _ (c : Context) (routines : List Routine) (f : ℕ) (r : Routine) (there 
         let ys = field_codes c fs s (suc d) in
         let l1 : length (xs ++ ys) ≡ length xs + length ys = length-append xs ys in
         let R = GotFields n d (suc (field_count fs)) (name ∷ names_in fs) s store regs in
-        follows_more mach wide (size e + (field_sizes fs + 0)) 0 (size e + field_sizes fs) 0 m (at_place f at regs callers m.output) (eval_fields w true (MoreFields name e fs) store m) (Comes f (at + length (xs ++ ys)) callers R) (omega arith) (omega arith)
-        (follows_at mach wide (size e + (field_sizes fs + 0)) 0 m (at_place f at regs callers m.output) (eval_fields w true (MoreFields name e fs) store m) f (at + length xs + length ys) (at + length (xs ++ ys)) callers R (omega (arith, l1))
-        (follows_then mach wide (size e) 0 (field_sizes fs + 0) 0 m (at_place f at regs callers m.output) (eval w true e store m) (λ v j. eval_fields w true fs store j >>= (λ ds. Done (field name v ds))) f (at + length xs) callers (Got n d (before_fields fs s) store regs) (Comes f (at + length xs + length ys) callers R)
+        follows_at mach wide (size e + field_sizes fs) 0 m (at_place f at regs callers m.output) (eval_fields w true (MoreFields name e fs) store m) f (at + length xs + length ys) (at + length (xs ++ ys)) callers R (omega (arith, l1))
+        (follows_then mach wide (size e) 0 (field_sizes fs) 0 (size e + field_sizes fs) 0 m (at_place f at regs callers m.output) (eval w true e store m) (λ v j. eval_fields w true fs store j >>= (λ ds. Done (field name v ds))) f (at + length xs) callers (Got n d (before_fields fs s) store regs) (Comes f (at + length xs + length ys) callers R) (omega arith) (omega arith)
         (expr e cv.0 o k vs (before_fields fs s) d at store regs callers m b.0 (known_fields o k n vs fs s b.1 known) behind (stand_front r.body at xs ys stands) live whole)
-        (λ v j middle le one. follows_then mach wide (field_sizes fs) 0 0 0 j (at_place f (at + length xs) middle callers j.output) (eval_fields w true fs store j) (λ ds. Done (field name v ds)) f (at + length xs + length ys) callers (GotFields n (suc d) (field_count fs) (names_in fs) s store middle) (Comes f (at + length xs + length ys) callers R)
+        (λ v j middle le one. follows_then mach wide (field_sizes fs) 0 0 0 (field_sizes fs) 0 j (at_place f (at + length xs) middle callers j.output) (eval_fields w true fs store j) (λ ds. Done (field name v ds)) f (at + length xs + length ys) callers (GotFields n (suc d) (field_count fs) (names_in fs) s store middle) (Comes f (at + length xs + length ys) callers R) (omega arith) (omega arith)
         (fields fs cv.1 o k vs s (suc d) (at + length xs) store middle callers j b.1 known (omega (arith, behind)) (stand_back r.body at xs ys stands) one.live (one.size ∙ whole))
         (λ ds i last le2 more. stays_last mach f r there wide (at + length xs + length ys) last callers i (field name v ds) R
-        (record { data = v ∷ more.data; got = one_more d (field_count fs) (before_fields fs s) s store regs middle last v more.data behind one more.got; fields = ap (λ (x : Option Fields). behind_field name v x) more.fields })))))
+        (record { data = v ∷ more.data; got = one_more d (field_count fs) (before_fields fs s) s store regs middle last v more.data behind one more.got; fields = ap (λ (x : Option Fields). behind_field name v x) more.fields }))))
 
 pub expressions_simulated : ExpressionsAreSimulated
 expressions_simulated c routines f r there w n wide e cv = expr c routines f r there w n wide e cv

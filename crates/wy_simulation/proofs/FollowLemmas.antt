@@ -50,23 +50,24 @@ follows_bind code wide lo1 hi1 lo2 hi2 m st (Fault kind at k) f P Q h g = tt
 follows_bind code wide lo1 hi1 lo2 hi2 m st (More k) f P Q h g = record { steps = h.steps; least = let t = h.least in omega (arith, t); most = let t = h.most in omega (arith, t); going = h.going }
 follows_bind code wide lo1 hi1 lo2 hi2 m st Spent f P Q h g = tt
 
--- where the first comes to an instruction, with registers of which something is known
-pub follows_then : {X Y : Type 0} (code : Code) (wide lo1 hi1 lo2 hi2 : ℕ) (m : Meter) (st : State) (o : Outcome X) (f : X → Run Y) (routine at : ℕ) (callers : List Caller) (R : X → Store → Type 0) (Q : Y → Meter → State → Type 0)
-    → Follows code wide lo1 hi1 m st o (Comes routine at callers R)
-    → ((x : X) (k : Meter) (regs : Store) → k.ticks ≤ m.ticks → R x regs → Follows code wide lo2 hi2 k (at_place routine at regs callers k.output) (f x k) Q)
-    → Follows code wide (lo1 + lo2) (hi1 + hi2) m st (o >>= f) Q
-follows_then code wide lo1 hi1 lo2 hi2 m st o f routine at callers R Q h g =
-    follows_bind code wide lo1 hi1 lo2 hi2 m st o f (Comes routine at callers R) Q h
-    (λ x k s le c. subst (λ (t : State). Follows code wide lo2 hi2 k t (f x k) Q) (sym c.is) (g x k c.regs le c.ok))
-
--- ---- bounds
-
+-- more of both
 pub follows_more : {X : Type 0} (code : Code) (wide lo hi lo2 hi2 : ℕ) (m : Meter) (st : State) (o : Outcome X) (Q : X → Meter → State → Type 0) → lo ≤ lo2 → hi ≤ hi2 → Follows code wide lo hi m st o Q → Follows code wide lo2 hi2 m st o Q
 follows_more code wide lo hi lo2 hi2 m st (Done x k) Q a b h = record { steps = h.steps; spent = h.spent; total = h.total; least = let t = h.least in omega (arith, t, a); most = let t = h.most in omega (arith, t, b); there = h.there }
 follows_more code wide lo hi lo2 hi2 m st (Fault kind at k) Q a b h = tt
 follows_more code wide lo hi lo2 hi2 m st (More k) Q a b h = record { steps = h.steps; least = let t = h.least in omega (arith, t, a); most = let t = h.most in omega (arith, t, b); going = h.going }
 follows_more code wide lo hi lo2 hi2 m st Spent Q a b h = tt
 
+-- where the first comes to an instruction, with registers of which something is known
+pub follows_then : {X Y : Type 0} (code : Code) (wide lo1 hi1 lo2 hi2 lo hi : ℕ) (m : Meter) (st : State) (o : Outcome X) (f : X → Run Y) (routine at : ℕ) (callers : List Caller) (R : X → Store → Type 0) (Q : Y → Meter → State → Type 0) → lo1 + lo2 ≤ lo → hi1 + hi2 ≤ hi
+    → Follows code wide lo1 hi1 m st o (Comes routine at callers R)
+    → ((x : X) (k : Meter) (regs : Store) → k.ticks ≤ m.ticks → R x regs → Follows code wide lo2 hi2 k (at_place routine at regs callers k.output) (f x k) Q)
+    → Follows code wide lo hi m st (o >>= f) Q
+follows_then code wide lo1 hi1 lo2 hi2 lo hi m st o f routine at callers R Q a b h g =
+    follows_more code wide (lo1 + lo2) (hi1 + hi2) lo hi m st (o >>= f) Q a b
+    (follows_bind code wide lo1 hi1 lo2 hi2 m st o f (Comes routine at callers R) Q h
+    (λ x k s le c. subst (λ (t : State). Follows code wide lo2 hi2 k t (f x k) Q) (sym c.is) (g x k c.regs le c.ok)))
+
+-- another property
 pub follows_map : {X : Type 0} (code : Code) (wide lo hi : ℕ) (m : Meter) (st : State) (o : Outcome X) (P Q : X → Meter → State → Type 0) → Follows code wide lo hi m st o P → ((x : X) (k : Meter) (s : State) → P x k s → Q x k s) → Follows code wide lo hi m st o Q
 follows_map code wide lo hi m st (Done x k) P Q h g = record { steps = h.steps; spent = h.spent; total = h.total; least = h.least; most = h.most; there = g x k (after code h.steps st) h.there }
 follows_map code wide lo hi m st (Fault kind at k) P Q h g = tt

@@ -67,11 +67,12 @@ module _ (code : Code) (routine : ℕ) (r : Routine) (there : IsRoutine code rou
       let jump : instr_at (Some r) (at + 1 + length first) ≡ Some (instr.Jump (suc (at + 1 + length first) + length (s ∷ second))) = (stand_back r.body (at + 1) first (GoesOn (length (s ∷ second)) ∷ s ∷ second) h.1).0 in
       let long = length-append first (GoesOn (length (s ∷ second)) ∷ s ∷ second) in
       let place : suc (at + 1 + length first) + length (s ∷ second) ≡ at + length (fork d first (s ∷ second)) = omega (arith, long) in
-      branch_falls lo (hi + 1) at d (suc at + (length first + 1)) regs callers m o (at + length (fork d first (s ∷ second))) R h.0 e
+      follows_more code wide lo (hi + 1 + 1) lo (hi + 2) m (at_place routine at regs callers m.output) o (Comes routine (at + length (fork d first (s ∷ second))) callers R) (omega arith) (omega arith)
+      (branch_falls lo (hi + 1) at d (suc at + (length first + 1)) regs callers m o (at + length (fork d first (s ∷ second))) R h.0 e
       (follows_at code wide lo (hi + 1) m (at_place routine (at + 1) regs callers m.output) o routine (suc (at + 1 + length first) + length (s ∷ second)) (at + length (fork d first (s ∷ second))) callers R place
       (follows_last code wide lo hi m (at_place routine (at + 1) regs callers m.output) o routine (at + 1 + length first) (suc (at + 1 + length first) + length (s ∷ second)) callers R
       (jumps (at + 1 + length first) (suc (at + 1 + length first) + length (s ∷ second)) callers jump)
-      (f (at + 1) (stand_front r.body (at + 1) first (GoesOn (length (s ∷ second)) ∷ s ∷ second) h.1))))
+      (f (at + 1) (stand_front r.body (at + 1) first (GoesOn (length (s ∷ second)) ∷ s ∷ second) h.1)))))
 
   pub fork_off : {X : Type 0} (lo hi at d : ℕ) (first second : List Step) (regs : Store) (callers : List Caller) (m : Meter) (o : Outcome X) (R : X → Store → Type 0) → StandAt r.body at (fork d first second) → slot regs d ≡ Some (Truth false)
       → Runs lo hi m o regs callers R second → Follows code wide lo (hi + 2) m (at_place routine at regs callers m.output) o (Comes routine (at + length (fork d first second)) callers R)
