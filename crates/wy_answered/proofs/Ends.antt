@@ -1,5 +1,5 @@
 -- Runs that end with an answer or a fault, and runs that end with an answer, from whatever meter: none wants a tick or a turn.
-use Rattle.std.proofs.Common.{ℕ, ◌+◌, Bool}
+use Rattle.std.proofs.Common.{ℕ, ◌+◌, Bool, false}
 use Rattle.std.specs.Prelude.{None}
 use Rattle.wy_term.specs.declared.cond.CondKind.{CondKind}
 use Rattle.wy_sem.specs.Meter.{Meter, Outcome, Done, Fault, More, Spent, Run, ◌>>=◌, turn}

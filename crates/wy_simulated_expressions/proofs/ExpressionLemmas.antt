@@ -56,9 +56,9 @@ record GotAll (n d count : ℕ) (s : Variables) (store first : Store) (vs : List
 
 -- and the fields that they make
 record GotFields (n d count : ℕ) (names : List (List ℕ)) (s : Variables) (store first : Store) (fs : Fields) (regs : Store) : Type 0 where
-  pub data : List Datum
-  pub got : GotAll n d count s store first data regs
-  pub fields : machine.record_of names data ≡ Some fs
+  pub listed : List Datum
+  pub got : GotAll n d count s store first listed regs
+  pub fields : machine.record_of names listed ≡ Some fs
 
 -- ---- what is released
 
@@ -287,7 +287,7 @@ module _ (c : Context) (routines : List Routine) (f : ℕ) (r : Routine) (there 
       → Follows mach wide 0 1 m (at_place f p regs callers m.output) (Done (Record ds) m) (Comes f (p + 1) callers (Got n d s store first))
   record_made d p count names s store first regs ds shape callers m below behind whole made shaped stands =
       let got = made.got in
-      let vs = made.data in
+      let vs = made.listed in
       fills mach f r there n wide s below store d p (instr.Record d shape (registers_from d count)) (registers_from d count) regs (emptied regs d (length vs)) first callers m (Record ds) behind stands refl
       (record_does mach.shapes regs d shape count vs names ds got.many got.values shaped made.fields)
       (emptied_size regs d (length vs) ∙ got.size ∙ whole) (emptied_live d (length vs) s store regs below behind got.live)
@@ -405,7 +405,7 @@ module _ (c : Context) (routines : List Routine) (f : ℕ) (r : Routine) (there 
         → Follows mach wide (field_sizes fs) 0 m (at_place f at regs callers m.output) (eval_fields w true fs store m) (Comes f (at + length (field_codes c fs s d)) callers (GotFields n d (field_count fs) (names_in fs) s store regs))
     fields NoFields cv o k vs s d at store regs callers m b known behind stands live whole =
         follows_at mach wide 0 0 m (at_place f at regs callers m.output) (Done no_fields m) f at (at + 0) callers (GotFields n d 0 [] s store regs) (omega arith)
-        (stays_last mach f r there wide at regs callers m no_fields (GotFields n d 0 [] s store regs) (record { data = []; got = record { values = tt; many = refl; live = live; kept = λ t x y. refl; size = refl }; fields = refl }))
+        (stays_last mach f r there wide at regs callers m no_fields (GotFields n d 0 [] s store regs) (record { listed = []; got = record { values = tt; many = refl; live = live; kept = λ t x y. refl; size = refl }; fields = refl }))
     fields (MoreFields name e fs) cv o k vs s d at store regs callers m b known behind stands live whole =
         let xs = code c e (before_fields fs s) d in
         let ys = field_codes c fs s (suc d) in
@@ -417,7 +417,7 @@ module _ (c : Context) (routines : List Routine) (f : ℕ) (r : Routine) (there 
         (λ v j middle le one. follows_then mach wide (field_sizes fs) 0 0 0 (field_sizes fs) 0 j (at_place f (at + length xs) middle callers j.output) (eval_fields w true fs store j) (λ ds. Done (field name v ds)) f (at + length xs + length ys) callers (GotFields n (suc d) (field_count fs) (names_in fs) s store middle) (Comes f (at + length xs + length ys) callers R) (omega arith) (omega arith)
         (fields fs cv.1 o k vs s (suc d) (at + length xs) store middle callers j b.1 known (omega (arith, behind)) (stand_back r.body at xs ys stands) one.live (one.size ∙ whole))
         (λ ds i last le2 more. stays_last mach f r there wide (at + length xs + length ys) last callers i (field name v ds) R
-        (record { data = v ∷ more.data; got = one_more d (field_count fs) (before_fields fs s) s store regs middle last v more.data behind one more.got; fields = ap (λ (x : Option Fields). behind_field name v x) more.fields }))))
+        (record { listed = v ∷ more.listed; got = one_more d (field_count fs) (before_fields fs s) s store regs middle last v more.listed behind one more.got; fields = ap (λ (x : Option Fields). behind_field name v x) more.fields }))))
 
 pub expressions_simulated : ExpressionsAreSimulated
 expressions_simulated c routines f r there w n wide e cv = expr c routines f r there w n wide e cv
