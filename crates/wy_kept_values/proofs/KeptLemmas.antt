@@ -124,15 +124,15 @@ item_proper no_items i h = tt
 item_proper (item d ds) zero h = h.0
 item_proper (item d ds) (suc i) h = item_proper ds i h.1
 
+some_same : (d v : Datum) → Some d ≡ Some v → d ≡ v
+some_same d v e = cc
+
 find_proper : (fs : Fields) (name : List ℕ) (v : Datum) → FieldsProper fs → find fs name ≡ Some v → IsProper v
 find_proper no_fields name v h e = absurd cc
 find_proper (field n d fs) name v h e = by (bytes_eq n name) e
   where
     by : (b : Bool) → found_field b d (find fs name) ≡ Some v → IsProper v
-    by true e = subst (λ (x : Datum). IsProper x) (some e) h.0
-      where
-        some : Some d ≡ Some v → d ≡ v
-        some e = cc
+    by true e = subst (λ (x : Datum). IsProper x) (some_same d v e) h.0
     by false e = find_proper fs name v h.1 e
 
 copies_proper : (n : ℕ) (v : Datum) → IsProper v → AllProper (copies n v)
