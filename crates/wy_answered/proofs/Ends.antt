@@ -67,7 +67,7 @@ answered-bind Spent f h g = absurd h
 pub chained : (X Y : Type 0) (r : Run X) (f : X → Run Y) → Answers X r → ((x : X) → Answers Y (f x)) → Answers Y (λ m. r m >>= f)
 chained X Y r f p h = record { answers = λ m. answered-bind (r m) f (p.answers m) (λ x k. (h x).answers k) }
 
-answered-turn : (X : Type 0) (r : Run X) → Answers X r → Answers X (turn None false r)
+pub answered-turn : (X : Type 0) (r : Run X) → Answers X r → Answers X (turn None false r)
 answered-turn X r p = record { answers = λ m. p.answers (record m { turns = m.turns + 1 }) }
 
 abbrev pub answering : Endings

@@ -12,8 +12,6 @@ use Rattle.wy_formed.specs.Bound.{Scope, Has, BoundExpr, BoundExprs, BoundFields
 use Rattle.wy_formed.specs.Sizes.{size, sizes, field_sizes}
 use Rattle.wy_live.specs.Sets.{Variables, has, with}
 use Rattle.wy_live.specs.Walks.{before, before_all, before_fields}
-use Rattle.wy_live.proofs.SetLemmas.{has-with}
-use Rattle.wy_term.proofs.SameLemmas.{eqb_self}
 use Rattle.wy_code.specs.declared.instructions.Scalar.TheVariants as scalar
 use Rattle.wy_code.specs.declared.instructions.Instr.{Instr}
 use Rattle.wy_code.specs.declared.instructions.Instr.TheVariants as instr
@@ -41,7 +39,7 @@ use Rattle.wy_simulation.proofs.InstructionLemmas.{share_does, move_does, Hold, 
 use Rattle.wy_simulation.proofs.PieceLemmas.{does_last, stays_last, fork_on, fork_off, clear_runs}
 use Rattle.wy_simulated_expressions.specs.Covered.{IsStrict, IsCovered, Covered, AllCovered, FieldsCovered}
 use Rattle.wy_simulated_expressions.specs.Simulated.{with_table, AreKnown, IsSimulated, ExpressionsAreSimulated}
-use Rattle.wy_simulated_expressions.proofs.KnownLemmas.{known_before, known_all, known_fields, is_below, still_live, got_put}
+use Rattle.wy_simulated_expressions.proofs.KnownLemmas.{with_has, known_before, known_all, known_fields, is_below, still_live}
 use Rattle.wy_simulated_expressions.proofs.PartLemmas.{fills, denied_follows, length_follows, field_follows, negated_follows, item_follows, applied_follows, repeated_follows}
 
 -- ---- values in a row
@@ -171,11 +169,11 @@ module _ (c : Context) (routines : List Routine) (f : ℕ) (r : Routine) (there 
   -- ---- two operands
 
   -- what follows two expressions whose values come into d and the register behind it
-  two_parts : (a b : Expr ℕ) → IsSimulated c routines f r w n wide a → IsSimulated c routines f r w n wide b → (ys : List Step) (tail : Datum → Datum → Run Datum) (hi : ℕ) (o : Offers) (k : ℕ) (vs : Scope) (s : Variables) (d at : ℕ) (store regs : Store) (callers : List Caller) (m : Meter)
+  two_parts : (a b : Expr ℕ) → Covered c b → IsSimulated c routines f r w n wide a → IsSimulated c routines f r w n wide b → (ys : List Step) (tail : Datum → Datum → Run Datum) (hi : ℕ) (o : Offers) (k : ℕ) (vs : Scope) (s : Variables) (d at : ℕ) (store regs : Store) (callers : List Caller) (m : Meter)
       → ((v u : Datum) (j : Meter) (p : ℕ) (middle last : Store) → Got n d (before b s) store regs v middle → Got n (suc d) s store middle u last → StandAt r.body p ys → Follows mach wide 0 hi j (at_place f p last callers j.output) (tail v u j) (Comes f (p + length ys) callers (Got n d s store regs)))
       → BoundExpr o k vs a → BoundExpr o k vs b → AreKnown n vs s → n ≤ d → StandAt r.body at (code c a (before b s) d ++ (code c b s (suc d) ++ ys)) → Live (before a (before b s)) store regs → length regs ≡ r.registers
       → Follows mach wide (size a + size b) hi m (at_place f at regs callers m.output) (eval w true a store m >>= (λ v j. eval w true b store j >>= tail v)) (Comes f (at + length (code c a (before b s) d ++ (code c b s (suc d) ++ ys))) callers (Got n d s store regs))
-  two_parts a b sa sb ys tail hi o k vs s d at store regs callers m finish ba bb known behind stands live whole =
+  two_parts a b cb sa sb ys tail hi o k vs s d at store regs callers m finish ba bb known behind stands live whole =
       let xs = code c a (before b s) d in
       let zs = code c b s (suc d) in
       let l1 : length (xs ++ (zs ++ ys)) ≡ length xs + length (zs ++ ys) = length-append xs (zs ++ ys) in
@@ -183,39 +181,39 @@ module _ (c : Context) (routines : List Routine) (f : ℕ) (r : Routine) (there 
       let behind_a : StandAt r.body (at + length xs) (zs ++ ys) = stand_back r.body at xs (zs ++ ys) stands in
       follows_at mach wide (size a + size b) hi m (at_place f at regs callers m.output) (eval w true a store m >>= (λ v j. eval w true b store j >>= tail v)) f (at + length xs + length zs + length ys) (at + length (xs ++ (zs ++ ys))) callers (Got n d s store regs) (omega (arith, l1, l2))
       (follows_then mach wide (size a) 0 (size b) hi (size a + size b) hi m (at_place f at regs callers m.output) (eval w true a store m) (λ v j. eval w true b store j >>= tail v) f (at + length xs) callers (Got n d (before b s) store regs) (Comes f (at + length xs + length zs + length ys) callers (Got n d s store regs)) (omega arith) (omega arith)
-      (sa o k vs (before b s) d at store regs callers m ba (known_before o k n vs b s bb known) behind (stand_front r.body at xs (zs ++ ys) stands) live whole)
+      (sa o k vs (before b s) d at store regs callers m ba (known_before c o k n vs b s cb bb known) behind (stand_front r.body at xs (zs ++ ys) stands) live whole)
       (λ v j middle le one. follows_then mach wide (size b) 0 0 hi (size b) hi j (at_place f (at + length xs) middle callers j.output) (eval w true b store j) (tail v) f (at + length xs + length zs) callers (Got n (suc d) s store middle) (Comes f (at + length xs + length zs + length ys) callers (Got n d s store regs)) (omega arith) (omega arith)
       (sb o k vs s (suc d) (at + length xs) store middle callers j bb known (omega (arith, behind)) (stand_front r.body (at + length xs) zs ys behind_a) one.live (one.size ∙ whole))
       (λ u i last le2 two. finish v u i (at + length xs + length zs) middle last one two (stand_back r.body (at + length xs) zs ys behind_a))))
 
   -- an operator that evaluates both
-  strict : (q : Op) → IsStrict q → (place : ℕ) (a b : Expr ℕ) → IsSimulated c routines f r w n wide a → IsSimulated c routines f r w n wide b → (o : Offers) (k : ℕ) (vs : Scope) (s : Variables) (d at : ℕ) (store regs : Store) (callers : List Caller) (m : Meter)
+  strict : (q : Op) → IsStrict q → (place : ℕ) (a b : Expr ℕ) → Covered c b → IsSimulated c routines f r w n wide a → IsSimulated c routines f r w n wide b → (o : Offers) (k : ℕ) (vs : Scope) (s : Variables) (d at : ℕ) (store regs : Store) (callers : List Caller) (m : Meter)
       → BoundExpr o k vs a × BoundExpr o k vs b → AreKnown n vs s → n ≤ d → StandAt r.body at (code c a (before b s) d ++ (code c b s (suc d) ++ operator q d (is_plain b))) → Live (before a (before b s)) store regs → length regs ≡ r.registers
       → Follows mach wide (size a + size b + 1) 0 m (at_place f at regs callers m.output) (spend true (λ j. eval w true a store j >>= (λ v i. second q place (eval w true b store) v i)) m)
       (Comes f (at + length (code c a (before b s) d ++ (code c b s (suc d) ++ operator q d (is_plain b)))) callers (Got n d s store regs))
-  strict q is place a b sa sb o k vs s d at store regs callers m bs known behind stands live whole =
+  strict q is place a b cb sa sb o k vs s d at store regs callers m bs known behind stands live whole =
       paid (size a + size b) 2 (size a + size b + 1) at regs callers m (λ j. eval w true a store j >>= (λ v i. second q place (eval w true b store) v i)) (at + length (code c a (before b s) d ++ (code c b s (suc d) ++ operator q d (is_plain b)))) (Got n d s store regs) (omega arith) (omega arith)
-      (λ j e. two_parts a b sa sb (operator q d (is_plain b)) (λ v u i. applied q place v u i) 2 o k vs s d at store regs callers j
+      (λ j e. two_parts a b cb sa sb (operator q d (is_plain b)) (λ v u i. applied q place v u i) 2 o k vs s d at store regs callers j
       (λ v u i p middle last one two ys. applied_follows mach f r there n wide s (is_below n vs s known) store d p behind regs middle last whole callers place i v u one.value one.kept one.size two q (is_plain b) is ys)
       bs.0 bs.1 known behind stands live whole)
 
   -- `&&` and `||`
-  early : (q : Op) → IsEarly q → (place : ℕ) (a b : Expr ℕ) → IsSimulated c routines f r w n wide a → IsSimulated c routines f r w n wide b → (o : Offers) (k : ℕ) (vs : Scope) (s : Variables) (d at : ℕ) (store regs : Store) (callers : List Caller) (m : Meter)
+  early : (q : Op) → IsEarly q → (place : ℕ) (a b : Expr ℕ) → Covered c b → IsSimulated c routines f r w n wide a → IsSimulated c routines f r w n wide b → (o : Offers) (k : ℕ) (vs : Scope) (s : Variables) (d at : ℕ) (store regs : Store) (callers : List Caller) (m : Meter)
       → BoundExpr o k vs a × BoundExpr o k vs b → AreKnown n vs s → n ≤ d → StandAt r.body at (code c a (before b s) d ++ operate q d (code c b s (right_register q d)) (released (before b s) s) (is_plain b)) → Live (before a (before b s)) store regs → length regs ≡ r.registers
       → Follows mach wide (size a + size b + 1) 0 m (at_place f at regs callers m.output) (spend true (λ j. eval w true a store j >>= operated q place (eval w true b store)) m)
       (Comes f (at + length (code c a (before b s) d ++ operate q d (code c b s (right_register q d)) (released (before b s) s) (is_plain b))) callers (Got n d s store regs))
-  early q is place a b sa sb o k vs s d at store regs callers m bs known behind stands live whole =
+  early q is place a b cb sa sb o k vs s d at store regs callers m bs known behind stands live whole =
       let xs = code c a (before b s) d in
       let ys = operate q d (code c b s (right_register q d)) (released (before b s) s) (is_plain b) in
       let l1 : length (xs ++ ys) ≡ length xs + length ys = length-append xs ys in
       paid (size a + size b) 3 (size a + size b + 1) at regs callers m (λ j. eval w true a store j >>= operated q place (eval w true b store)) (at + length (xs ++ ys)) (Got n d s store regs) (omega arith) (omega arith)
       (λ j e. follows_at mach wide (size a + size b) 3 j (at_place f at regs callers j.output) (eval w true a store j >>= operated q place (eval w true b store)) f (at + length xs + length ys) (at + length (xs ++ ys)) callers (Got n d s store regs) (omega (arith, l1))
       (follows_then mach wide (size a) 0 (size b) 3 (size a + size b) 3 j (at_place f at regs callers j.output) (eval w true a store j) (operated q place (eval w true b store)) f (at + length xs) callers (Got n d (before b s) store regs) (Comes f (at + length xs + length ys) callers (Got n d s store regs)) (omega arith) (omega arith)
-      (sa o k vs (before b s) d at store regs callers j bs.0 (known_before o k n vs b s bs.1 known) behind (stand_front r.body at xs ys stands) live whole)
+      (sa o k vs (before b s) d at store regs callers j bs.0 (known_before c o k n vs b s cb bs.1 known) behind (stand_front r.body at xs ys stands) live whole)
       (λ v i middle le one. goes q is v i middle one (at + length xs) (stand_back r.body at xs ys stands))))
     where
       fewer : (x : ℕ) → has s x ≡ true → has (before b s) x ≡ true
-      fewer x h = still_live b s x h
+      fewer x h = still_live c x b cb s h
 
       goes : (q : Op) → IsEarly q → (v : Datum) (i : Meter) (middle : Store) → Got n d (before b s) store regs v middle → (p : ℕ) → StandAt r.body p (operate q d (code c b s (right_register q d)) (released (before b s) s) (is_plain b))
           → Follows mach wide (size b) 3 i (at_place f p middle callers i.output) (operated q place (eval w true b store) v i) (Comes f (p + length (operate q d (code c b s (right_register q d)) (released (before b s) s) (is_plain b))) callers (Got n d s store regs))
@@ -229,7 +227,7 @@ module _ (c : Context) (routines : List Routine) (f : ℕ) (r : Routine) (there 
           (λ g there_b. last_operand op.And place d (before b s) s store regs middle v callers i (size b) g (g + length (code c b s d)) (eval w true b store) tt one (sb o k vs s d g store middle callers i bs.1 known behind there_b one.live (one.size ∙ whole)))))
           (λ no. follows_more mach wide 0 3 (size b) 3 i st (Done (Truth false) i) R (omega arith) (omega arith)
           (fork_off mach f r there wide 0 1 p d (code c b s d) (released (before b s) s) middle callers i (Done (Truth false) i) (Got n d s store regs) stood (one.value ∙ ap (λ (x : Datum). Some x) (e ∙ ap (λ (x : Bool). Truth x) no))
-          (λ g there_b. skipped d (before b s) s store regs middle (Truth false) callers i (is_below n vs (before b s) (known_before o k n vs b s bs.1 known)) fewer behind (subst (λ (x : Datum). Got n d (before b s) store regs x middle) (e ∙ ap (λ (x : Bool). Truth x) no) one) g there_b))))
+          (λ g there_b. skipped d (before b s) s store regs middle (Truth false) callers i (is_below n vs (before b s) (known_before c o k n vs b s cb bs.1 known)) fewer behind (subst (λ (x : Datum). Got n d (before b s) store regs x middle) (e ∙ ap (λ (x : Bool). Truth x) no) one) g there_b))))
       goes op.Or early v i middle one p stood =
           let R = Comes f (p + length (fork d (released (before b s) s) (code c b s d))) callers (Got n d s store regs) in
           let st = at_place f p middle callers i.output in
@@ -237,7 +235,7 @@ module _ (c : Context) (routines : List Routine) (f : ℕ) (r : Routine) (there 
           (λ t e. follows_choose mach wide (size b) 3 i st t (Done (Truth true)) (second op.Or place (eval w true b store) v) R
           (λ yes. follows_more mach wide 0 3 (size b) 3 i st (Done (Truth true) i) R (omega arith) (omega arith)
           (fork_on mach f r there wide 0 1 p d (released (before b s) s) (code c b s d) middle callers i (Done (Truth true) i) (Got n d s store regs) stood (one.value ∙ ap (λ (x : Datum). Some x) (e ∙ ap (λ (x : Bool). Truth x) yes))
-          (λ g there_b. skipped d (before b s) s store regs middle (Truth true) callers i (is_below n vs (before b s) (known_before o k n vs b s bs.1 known)) fewer behind (subst (λ (x : Datum). Got n d (before b s) store regs x middle) (e ∙ ap (λ (x : Bool). Truth x) yes) one) g there_b)))
+          (λ g there_b. skipped d (before b s) s store regs middle (Truth true) callers i (is_below n vs (before b s) (known_before c o k n vs b s cb bs.1 known)) fewer behind (subst (λ (x : Datum). Got n d (before b s) store regs x middle) (e ∙ ap (λ (x : Bool). Truth x) yes) one) g there_b)))
           (λ no. follows_more mach wide (size b) 2 (size b) 3 i st (second op.Or place (eval w true b store) v i) R (omega arith) (omega arith)
           (fork_off mach f r there wide (size b) 0 p d (released (before b s) s) (code c b s d) middle callers i (second op.Or place (eval w true b store) v i) (Got n d s store regs) stood (one.value ∙ ap (λ (x : Datum). Some x) (e ∙ ap (λ (x : Bool). Truth x) no))
           (λ g there_b. last_operand op.Or place d (before b s) s store regs middle v callers i (size b) g (g + length (code c b s d)) (eval w true b store) tt one (sb o k vs s d g store middle callers i bs.1 known behind there_b one.live (one.size ∙ whole))))))
@@ -315,8 +313,8 @@ module _ (c : Context) (routines : List Routine) (f : ℕ) (r : Routine) (there 
         paid 0 1 1 at regs callers m (Done (Whole number)) (at + 1) (Got n d s store regs) (omega arith) (omega arith)
         (λ j e. fills mach f r there n wide s (is_below n vs s known) store d at (instr.Const d (scalar.Int number)) [] regs regs regs callers j (Whole number) behind stands.0 refl refl whole live (λ t x y. refl) refl)
     expr (VarExpr i x) cv o k vs s d at store regs callers m b known behind stands live whole =
-        let now : has (with s x) x ≡ true = has-with s x x ∙ or_left (x == x) (has s x) (eqb_self x) in
-        let later : Live s store regs = live_fewer (with s x) s store regs (λ y h. still_live (VarExpr i x) s y h) live in
+        let now : has (with s x) x ≡ true = with_has s x in
+        let later : Live s store regs = live_fewer (with s x) s store regs (λ y h. still_live c y (VarExpr i x) tt s h) live in
         paid 0 1 1 at regs callers m (operations.needed (w.place i) (slot store x) Done) (at + 1) (Got n d s store regs) (omega arith) (omega arith)
         (λ j e. follows_needed mach wide 0 1 j (at_place f at regs callers j.output) (w.place i) (slot store x) Done (Comes f (at + 1) callers (Got n d s store regs))
         (λ v held. variable at d x vs s (has s x) store regs callers j v refl known (known.below x b) behind stands (live.holds x v now held) later whole))
@@ -334,22 +332,22 @@ module _ (c : Context) (routines : List Routine) (f : ℕ) (r : Routine) (there 
         one_part a (expr a cv) (Does (instr.Len d d) ∷ []) (length_result (w.place i)) 1 (omega arith) o k vs s d at store regs callers m
         (λ v j p last got ys. length_follows mach f r there n wide s (is_below n vs s known) store d p behind regs last whole callers (w.place i) j v got ys.0)
         b known behind stands live whole
-    expr (BinaryExpr i op.Add a b) cv o k vs s d at store regs callers m bs known behind stands live whole = strict op.Add tt (w.place i) a b (expr a cv.1) (expr b cv.2) o k vs s d at store regs callers m bs known behind stands live whole
-    expr (BinaryExpr i op.Sub a b) cv o k vs s d at store regs callers m bs known behind stands live whole = strict op.Sub tt (w.place i) a b (expr a cv.1) (expr b cv.2) o k vs s d at store regs callers m bs known behind stands live whole
-    expr (BinaryExpr i op.Mul a b) cv o k vs s d at store regs callers m bs known behind stands live whole = strict op.Mul tt (w.place i) a b (expr a cv.1) (expr b cv.2) o k vs s d at store regs callers m bs known behind stands live whole
-    expr (BinaryExpr i op.Div a b) cv o k vs s d at store regs callers m bs known behind stands live whole = strict op.Div tt (w.place i) a b (expr a cv.1) (expr b cv.2) o k vs s d at store regs callers m bs known behind stands live whole
-    expr (BinaryExpr i op.Equal a b) cv o k vs s d at store regs callers m bs known behind stands live whole = strict op.Equal tt (w.place i) a b (expr a cv.1) (expr b cv.2) o k vs s d at store regs callers m bs known behind stands live whole
-    expr (BinaryExpr i op.Less a b) cv o k vs s d at store regs callers m bs known behind stands live whole = strict op.Less tt (w.place i) a b (expr a cv.1) (expr b cv.2) o k vs s d at store regs callers m bs known behind stands live whole
-    expr (BinaryExpr i op.LessEqual a b) cv o k vs s d at store regs callers m bs known behind stands live whole = strict op.LessEqual tt (w.place i) a b (expr a cv.1) (expr b cv.2) o k vs s d at store regs callers m bs known behind stands live whole
-    expr (BinaryExpr i op.Greater a b) cv o k vs s d at store regs callers m bs known behind stands live whole = strict op.Greater tt (w.place i) a b (expr a cv.1) (expr b cv.2) o k vs s d at store regs callers m bs known behind stands live whole
-    expr (BinaryExpr i op.GreaterEqual a b) cv o k vs s d at store regs callers m bs known behind stands live whole = strict op.GreaterEqual tt (w.place i) a b (expr a cv.1) (expr b cv.2) o k vs s d at store regs callers m bs known behind stands live whole
+    expr (BinaryExpr i op.Add a b) cv o k vs s d at store regs callers m bs known behind stands live whole = strict op.Add tt (w.place i) a b cv.2 (expr a cv.1) (expr b cv.2) o k vs s d at store regs callers m bs known behind stands live whole
+    expr (BinaryExpr i op.Sub a b) cv o k vs s d at store regs callers m bs known behind stands live whole = strict op.Sub tt (w.place i) a b cv.2 (expr a cv.1) (expr b cv.2) o k vs s d at store regs callers m bs known behind stands live whole
+    expr (BinaryExpr i op.Mul a b) cv o k vs s d at store regs callers m bs known behind stands live whole = strict op.Mul tt (w.place i) a b cv.2 (expr a cv.1) (expr b cv.2) o k vs s d at store regs callers m bs known behind stands live whole
+    expr (BinaryExpr i op.Div a b) cv o k vs s d at store regs callers m bs known behind stands live whole = strict op.Div tt (w.place i) a b cv.2 (expr a cv.1) (expr b cv.2) o k vs s d at store regs callers m bs known behind stands live whole
+    expr (BinaryExpr i op.Equal a b) cv o k vs s d at store regs callers m bs known behind stands live whole = strict op.Equal tt (w.place i) a b cv.2 (expr a cv.1) (expr b cv.2) o k vs s d at store regs callers m bs known behind stands live whole
+    expr (BinaryExpr i op.Less a b) cv o k vs s d at store regs callers m bs known behind stands live whole = strict op.Less tt (w.place i) a b cv.2 (expr a cv.1) (expr b cv.2) o k vs s d at store regs callers m bs known behind stands live whole
+    expr (BinaryExpr i op.LessEqual a b) cv o k vs s d at store regs callers m bs known behind stands live whole = strict op.LessEqual tt (w.place i) a b cv.2 (expr a cv.1) (expr b cv.2) o k vs s d at store regs callers m bs known behind stands live whole
+    expr (BinaryExpr i op.Greater a b) cv o k vs s d at store regs callers m bs known behind stands live whole = strict op.Greater tt (w.place i) a b cv.2 (expr a cv.1) (expr b cv.2) o k vs s d at store regs callers m bs known behind stands live whole
+    expr (BinaryExpr i op.GreaterEqual a b) cv o k vs s d at store regs callers m bs known behind stands live whole = strict op.GreaterEqual tt (w.place i) a b cv.2 (expr a cv.1) (expr b cv.2) o k vs s d at store regs callers m bs known behind stands live whole
     expr (BinaryExpr i op.Mod a b) cv o k vs s d at store regs callers m bs known behind stands live whole = absurd cv.0
-    expr (BinaryExpr i op.And a b) cv o k vs s d at store regs callers m bs known behind stands live whole = early op.And tt (w.place i) a b (expr a cv.1) (expr b cv.2) o k vs s d at store regs callers m bs known behind stands live whole
-    expr (BinaryExpr i op.Or a b) cv o k vs s d at store regs callers m bs known behind stands live whole = early op.Or tt (w.place i) a b (expr a cv.1) (expr b cv.2) o k vs s d at store regs callers m bs known behind stands live whole
+    expr (BinaryExpr i op.And a b) cv o k vs s d at store regs callers m bs known behind stands live whole = early op.And tt (w.place i) a b cv.2 (expr a cv.1) (expr b cv.2) o k vs s d at store regs callers m bs known behind stands live whole
+    expr (BinaryExpr i op.Or a b) cv o k vs s d at store regs callers m bs known behind stands live whole = early op.Or tt (w.place i) a b cv.2 (expr a cv.1) (expr b cv.2) o k vs s d at store regs callers m bs known behind stands live whole
     expr (IsExpr i a ty) cv o k vs s d at store regs callers m b known behind stands live whole = absurd cv
     expr (IndexExpr i a b) cv o k vs s d at store regs callers m bs known behind stands live whole =
         paid (size a + size b) 1 (size a + size b + 1) at regs callers m (λ j. eval w true a store j >>= (λ v t. eval w true b store t >>= item_of (w.place i) v)) (at + length (code c a (before b s) d ++ (code c b s (suc d) ++ Does (instr.Get d d (suc d)) ∷ []))) (Got n d s store regs) (omega arith) (omega arith)
-        (λ j e. two_parts a b (expr a cv.0) (expr b cv.1) (Does (instr.Get d d (suc d)) ∷ []) (item_of (w.place i)) 1 o k vs s d at store regs callers j
+        (λ j e. two_parts a b cv.1 (expr a cv.0) (expr b cv.1) (Does (instr.Get d d (suc d)) ∷ []) (item_of (w.place i)) 1 o k vs s d at store regs callers j
         (λ v u t p middle last one two ys. item_follows mach f r there n wide s (is_below n vs s known) store d p behind regs middle last whole callers (w.place i) t v u one.value one.kept one.size two ys.0)
         bs.0 bs.1 known behind stands live whole)
     expr (FieldExpr i a name) cv o k vs s d at store regs callers m b known behind stands live whole =
@@ -367,7 +365,7 @@ module _ (c : Context) (routines : List Routine) (f : ℕ) (r : Routine) (there 
         (λ us t last le got. array d (at + length xs) (count_of items) s store regs last us callers t (is_below n vs s known) behind whole got (stand_back r.body at xs ys stands).0)))
     expr (RepeatExpr i a b) cv o k vs s d at store regs callers m bs known behind stands live whole =
         paid (size a + size b) 1 (size a + size b + 1) at regs callers m (λ j. eval w true a store j >>= (λ v t. eval w true b store t >>= repeated (w.place i) v)) (at + length (code c a (before b s) d ++ (code c b s (suc d) ++ Does (instr.Fill d d (suc d)) ∷ []))) (Got n d s store regs) (omega arith) (omega arith)
-        (λ j e. two_parts a b (expr a cv.0) (expr b cv.1) (Does (instr.Fill d d (suc d)) ∷ []) (repeated (w.place i)) 1 o k vs s d at store regs callers j
+        (λ j e. two_parts a b cv.1 (expr a cv.0) (expr b cv.1) (Does (instr.Fill d d (suc d)) ∷ []) (repeated (w.place i)) 1 o k vs s d at store regs callers j
         (λ v u t p middle last one two ys. repeated_follows mach f r there n wide s (is_below n vs s known) store d p behind regs middle last whole callers (w.place i) t v u one.value one.kept one.size two ys.0)
         bs.0 bs.1 known behind stands live whole)
     expr (RecordExpr i fs) cv o k vs s d at store regs callers m b known behind stands live whole =
@@ -395,7 +393,7 @@ module _ (c : Context) (routines : List Routine) (f : ℕ) (r : Routine) (there 
         let R = GotAll n d (suc (count_of es)) s store regs in
         follows_at mach wide (size e + sizes es) 0 m (at_place f at regs callers m.output) (eval_all w true (MoreExprs e es) store m) f (at + length xs + length ys) (at + length (xs ++ ys)) callers R (omega (arith, l1))
         (follows_then mach wide (size e) 0 (sizes es) 0 (size e + sizes es) 0 m (at_place f at regs callers m.output) (eval w true e store m) (λ v j. eval_all w true es store j >>= (λ us. Done (v ∷ us))) f (at + length xs) callers (Got n d (before_all es s) store regs) (Comes f (at + length xs + length ys) callers R) (omega arith) (omega arith)
-        (expr e cv.0 o k vs (before_all es s) d at store regs callers m b.0 (known_all o k n vs es s b.1 known) behind (stand_front r.body at xs ys stands) live whole)
+        (expr e cv.0 o k vs (before_all es s) d at store regs callers m b.0 (known_all c o k n vs es s cv.1 b.1 known) behind (stand_front r.body at xs ys stands) live whole)
         (λ v j middle le one. follows_then mach wide (sizes es) 0 0 0 (sizes es) 0 j (at_place f (at + length xs) middle callers j.output) (eval_all w true es store j) (λ us. Done (v ∷ us)) f (at + length xs + length ys) callers (GotAll n (suc d) (count_of es) s store middle) (Comes f (at + length xs + length ys) callers R) (omega arith) (omega arith)
         (all es cv.1 o k vs s (suc d) (at + length xs) store middle callers j b.1 known (omega (arith, behind)) (stand_back r.body at xs ys stands) one.live (one.size ∙ whole))
         (λ us i last le2 more. stays_last mach f r there wide (at + length xs + length ys) last callers i (v ∷ us) R (one_more d (count_of es) (before_all es s) s store regs middle last v us behind one more))))
@@ -413,7 +411,7 @@ module _ (c : Context) (routines : List Routine) (f : ℕ) (r : Routine) (there 
         let R = GotFields n d (suc (field_count fs)) (name ∷ names_in fs) s store regs in
         follows_at mach wide (size e + field_sizes fs) 0 m (at_place f at regs callers m.output) (eval_fields w true (MoreFields name e fs) store m) f (at + length xs + length ys) (at + length (xs ++ ys)) callers R (omega (arith, l1))
         (follows_then mach wide (size e) 0 (field_sizes fs) 0 (size e + field_sizes fs) 0 m (at_place f at regs callers m.output) (eval w true e store m) (λ v j. eval_fields w true fs store j >>= (λ ds. Done (field name v ds))) f (at + length xs) callers (Got n d (before_fields fs s) store regs) (Comes f (at + length xs + length ys) callers R) (omega arith) (omega arith)
-        (expr e cv.0 o k vs (before_fields fs s) d at store regs callers m b.0 (known_fields o k n vs fs s b.1 known) behind (stand_front r.body at xs ys stands) live whole)
+        (expr e cv.0 o k vs (before_fields fs s) d at store regs callers m b.0 (known_fields c o k n vs fs s cv.1 b.1 known) behind (stand_front r.body at xs ys stands) live whole)
         (λ v j middle le one. follows_then mach wide (field_sizes fs) 0 0 0 (field_sizes fs) 0 j (at_place f (at + length xs) middle callers j.output) (eval_fields w true fs store j) (λ ds. Done (field name v ds)) f (at + length xs + length ys) callers (GotFields n (suc d) (field_count fs) (names_in fs) s store middle) (Comes f (at + length xs + length ys) callers R) (omega arith) (omega arith)
         (fields fs cv.1 o k vs s (suc d) (at + length xs) store middle callers j b.1 known (omega (arith, behind)) (stand_back r.body at xs ys stands) one.live (one.size ∙ whole))
         (λ ds i last le2 more. stays_last mach f r there wide (at + length xs + length ys) last callers i (field name v ds) R

@@ -1,88 +1,123 @@
 -- Which variables are live before an expression, and where what it gives comes.
-use Rattle.std.proofs.Common.{◌≡◌, ◌<◌, ◌≤◌, ◌⊎◌, inl, inr, ℕ, zero, suc, ◌+◌, ◌==◌, List, [], ◌∷◌, length, Bool, true, false, not, ◌||◌, ◌&&◌, Option, Some, None, refl, sym, ◌∙◌, ap, subst, arith}
-use Rattle.std.specs.Prelude.{◌≢◌}
-use Rattle.std.proofs.lemmas.Bool.{or_cases, or_right, eqb-true}
+use Rattle.std.proofs.Common.{◌≡◌, ◌<◌, ◌≤◌, ◌⊎◌, inl, inr, ℕ, zero, suc, List, [], ◌∷◌, length, Bool, true, false, Some, refl, sym, ◌∙◌, ap, subst, arith}
 use Rattle.wy_value.specs.Datum.{Datum}
 use Rattle.wy_core.specs.CoreTree.{Expr, NullExpr, BoolExpr, IntExpr, VarExpr, CallExpr, NegExpr, NotExpr, LenExpr, BinaryExpr, IsExpr, IndexExpr, FieldExpr, ListExpr, RepeatExpr, RecordExpr, QuantExpr, Exprs, NoExprs, MoreExprs, Fields, NoFields, MoreFields}
 use Rattle.wy_formed.specs.Offers.{Offers}
 use Rattle.wy_formed.specs.Bound.{Scope, Has, BoundExpr, BoundExprs, BoundFields}
-use Rattle.wy_live.specs.Paths.{occurs, any_occurs, any_field_occurs}
-use Rattle.wy_live.specs.Sets.{Variables, has}
+use Rattle.wy_live.specs.Sets.{Variables, has, with}
 use Rattle.wy_live.specs.Walks.{before, before_all, before_fields}
-use Rattle.wy_live.proofs.UseLemmas.{has-before, has-before_all, has-before_fields}
+use Rattle.wy_tables.specs.declared.context.Context.{Context}
 use Rattle.wy_sem.specs.Expressions.{Store, slot, put}
-use Rattle.wy_term.proofs.SameLemmas.{eqb_self}
 use Rattle.wy_simulation.specs.Registers.{Live, Got}
 use Rattle.wy_simulation.proofs.StoreLemmas.{put_here, put_other, put_size, live_put}
+use Rattle.wy_simulated_expressions.specs.Covered.{Covered, AllCovered, FieldsCovered}
 use Rattle.wy_simulated_expressions.specs.Simulated.{AreKnown}
 
--- ---- what stands in an expression is in scope
+-- ---- a set with one variable more
 
-either : (a b : Bool) (A : Type 0) → (a || b) ≡ true → (a ≡ true → A) → (b ≡ true → A) → A
-either true b A e f g = f refl
-either false b A e f g = g e
+pub with_has : (s : Variables) (x : ℕ) → has (with s x) x ≡ true
+with_has [] zero = refl
+with_has [] (suc x) = with_has [] x
+with_has (c ∷ cs) zero = refl
+with_has (c ∷ cs) (suc x) = with_has cs x
 
-never : {A : Type 0} → false ≡ true → A
-never e = absurd cc
+with_keeps : (s : Variables) (x y : ℕ) → has s y ≡ true → has (with s x) y ≡ true
+with_keeps [] x y h = absurd (let e : false ≡ true = h in cc)
+with_keeps (c ∷ cs) zero zero h = refl
+with_keeps (c ∷ cs) zero (suc y) h = h
+with_keeps (c ∷ cs) (suc x) zero h = h
+with_keeps (c ∷ cs) (suc x) (suc y) h = with_keeps cs x y h
 
-is_in : (x y : ℕ) (vs : Scope) → (x == y) ≡ true → Has vs y → Has vs x
-is_in x y vs e h = subst (λ (z : ℕ). Has vs z) (sym (eqb-true x y e)) h
+one_up : {x y : ℕ} {A : Type 0} → (y ≡ x) ⊎ A → (suc y ≡ suc x) ⊎ A
+one_up (inl e) = inl (ap suc e)
+one_up (inr h) = inr h
 
-module _ (o : Offers) (k : ℕ) (x : ℕ) where
-  -- the first of the scope is another variable
-  other : (vs : Scope) (y : ℕ) → (x == y) ≡ false → (y ≡ x) ⊎ Has vs x → Has vs x
-  other vs y e (inl same) = absurd (let t : (x == x) ≡ true = eqb_self x in let g : (x == x) ≡ false = subst (λ (z : ℕ). (x == z) ≡ false) same e in cc)
-  other vs y e (inr h) = h
+with_cases : (s : Variables) (x y : ℕ) → has (with s x) y ≡ true → (y ≡ x) ⊎ (has s y ≡ true)
+with_cases [] zero zero h = inl refl
+with_cases [] zero (suc y) h = absurd (let e : false ≡ true = h in cc)
+with_cases [] (suc x) zero h = absurd (let e : false ≡ true = h in cc)
+with_cases [] (suc x) (suc y) h = one_up (with_cases [] x y h)
+with_cases (c ∷ cs) zero zero h = inl refl
+with_cases (c ∷ cs) zero (suc y) h = inr h
+with_cases (c ∷ cs) (suc x) zero h = inr h
+with_cases (c ∷ cs) (suc x) (suc y) h = one_up (with_cases cs x y h)
 
-  inner : (vs : Scope) (y : ℕ) (same : Bool) → (x == y) ≡ same → (used : Bool) → (used ≡ true → (y ≡ x) ⊎ Has vs x) → (not same && used) ≡ true → Has vs x
-  inner vs y true e used f h = never h
-  inner vs y false e used f h = other vs y e (f h)
+-- ---- what is live before an expression
 
+module _ (c : Context) (x : ℕ) where
+  -- what is live behind is live before
   mutual
-    occurs_known : (vs : Scope) (e : Expr ℕ) → BoundExpr o k vs e → occurs e x ≡ true → Has vs x
-    occurs_known vs (NullExpr at) b h = never h
-    occurs_known vs (BoolExpr at truth) b h = never h
-    occurs_known vs (IntExpr at number) b h = never h
-    occurs_known vs (VarExpr at y) b h = is_in x y vs h b
-    occurs_known vs (CallExpr at routine args) b h = any_known vs args b.1 h
-    occurs_known vs (NegExpr at a) b h = occurs_known vs a b h
-    occurs_known vs (NotExpr at a) b h = occurs_known vs a b h
-    occurs_known vs (LenExpr at a) b h = occurs_known vs a b h
-    occurs_known vs (BinaryExpr at op p q) b h = either (occurs p x) (occurs q x) (Has vs x) h (occurs_known vs p b.0) (occurs_known vs q b.1)
-    occurs_known vs (IsExpr at a ty) b h = occurs_known vs a b.0 h
-    occurs_known vs (IndexExpr at p q) b h = either (occurs p x) (occurs q x) (Has vs x) h (occurs_known vs p b.0) (occurs_known vs q b.1)
-    occurs_known vs (FieldExpr at a name) b h = occurs_known vs a b h
-    occurs_known vs (ListExpr at items) b h = any_known vs items b h
-    occurs_known vs (RepeatExpr at p q) b h = either (occurs p x) (occurs q x) (Has vs x) h (occurs_known vs p b.0) (occurs_known vs q b.1)
-    occurs_known vs (RecordExpr at fs) b h = fields_known vs fs b.1 h
-    occurs_known vs (QuantExpr at all y p q body) b h =
-        either (occurs p x) (occurs q x || (not (x == y) && occurs body x)) (Has vs x) h (occurs_known vs p b.1)
-        (λ i. either (occurs q x) (not (x == y) && occurs body x) (Has vs x) i (occurs_known vs q b.2) (λ j. inner vs y (x == y) refl (occurs body x) (occurs_known (y ∷ vs) body b.3) j))
+    pub still_live : (e : Expr ℕ) → Covered c e → (s : Variables) → has s x ≡ true → has (before e s) x ≡ true
+    still_live (NullExpr at) cv s h = h
+    still_live (BoolExpr at truth) cv s h = h
+    still_live (IntExpr at number) cv s h = h
+    still_live (VarExpr at y) cv s h = with_keeps s y x h
+    still_live (CallExpr at routine args) cv s h = absurd cv
+    still_live (NegExpr at a) cv s h = still_live a cv s h
+    still_live (NotExpr at a) cv s h = still_live a cv s h
+    still_live (LenExpr at a) cv s h = still_live a cv s h
+    still_live (BinaryExpr at op a b) cv s h = still_live a cv.1 (before b s) (still_live b cv.2 s h)
+    still_live (IsExpr at a ty) cv s h = absurd cv
+    still_live (IndexExpr at a b) cv s h = still_live a cv.0 (before b s) (still_live b cv.1 s h)
+    still_live (FieldExpr at a name) cv s h = still_live a cv.0 s h
+    still_live (ListExpr at items) cv s h = all_still_live items cv s h
+    still_live (RepeatExpr at a b) cv s h = still_live a cv.0 (before b s) (still_live b cv.1 s h)
+    still_live (RecordExpr at fs) cv s h = fields_still_live fs cv.0 s h
+    still_live (QuantExpr at all y a b body) cv s h = absurd cv
 
-    any_known : (vs : Scope) (es : Exprs ℕ) → BoundExprs o k vs es → any_occurs es x ≡ true → Has vs x
-    any_known vs NoExprs b h = never h
-    any_known vs (MoreExprs e es) b h = either (occurs e x) (any_occurs es x) (Has vs x) h (occurs_known vs e b.0) (any_known vs es b.1)
+    all_still_live : (es : Exprs ℕ) → AllCovered c es → (s : Variables) → has s x ≡ true → has (before_all es s) x ≡ true
+    all_still_live NoExprs cv s h = h
+    all_still_live (MoreExprs e es) cv s h = still_live e cv.0 (before_all es s) (all_still_live es cv.1 s h)
 
-    fields_known : (vs : Scope) (fs : Fields ℕ) → BoundFields o k vs fs → any_field_occurs fs x ≡ true → Has vs x
-    fields_known vs NoFields b h = never h
-    fields_known vs (MoreFields name e fs) b h = either (occurs e x) (any_field_occurs fs x) (Has vs x) h (occurs_known vs e b.0) (fields_known vs fs b.1)
+    fields_still_live : (fs : Fields ℕ) → FieldsCovered c fs → (s : Variables) → has s x ≡ true → has (before_fields fs s) x ≡ true
+    fields_still_live NoFields cv s h = h
+    fields_still_live (MoreFields name e fs) cv s h = still_live e cv.0 (before_fields fs s) (fields_still_live fs cv.1 s h)
 
-module _ (o : Offers) (k n : ℕ) (vs : Scope) where
-  pub known_before : (e : Expr ℕ) (s : Variables) → BoundExpr o k vs e → AreKnown n vs s → AreKnown n vs (before e s)
-  known_before e s b h = record { below = h.below; within = λ x i. either (occurs e x) (has s x) (Has vs x) (sym (has-before e s x) ∙ i) (occurs_known o k x vs e b) (h.within x) }
+module _ (c : Context) (o : Offers) (k : ℕ) (vs : Scope) (x : ℕ) where
+  in_scope : (y : ℕ) (s : Variables) → Has vs y → (has s x ≡ true → Has vs x) → (x ≡ y) ⊎ (has s x ≡ true) → Has vs x
+  in_scope y s b f (inl e) = subst (λ (z : ℕ). Has vs z) (sym e) b
+  in_scope y s b f (inr h) = f h
 
-  pub known_all : (es : Exprs ℕ) (s : Variables) → BoundExprs o k vs es → AreKnown n vs s → AreKnown n vs (before_all es s)
-  known_all es s b h = record { below = h.below; within = λ x i. either (any_occurs es x) (has s x) (Has vs x) (sym (has-before_all es s x) ∙ i) (any_known o k x vs es b) (h.within x) }
+  -- what is live before is in scope, where what is live behind is
+  mutual
+    scoped : (e : Expr ℕ) → Covered c e → BoundExpr o k vs e → (s : Variables) → (has s x ≡ true → Has vs x) → has (before e s) x ≡ true → Has vs x
+    scoped (NullExpr at) cv b s f h = f h
+    scoped (BoolExpr at truth) cv b s f h = f h
+    scoped (IntExpr at number) cv b s f h = f h
+    scoped (VarExpr at y) cv b s f h = in_scope y s b f (with_cases s y x h)
+    scoped (CallExpr at routine args) cv b s f h = absurd cv
+    scoped (NegExpr at a) cv b s f h = scoped a cv b s f h
+    scoped (NotExpr at a) cv b s f h = scoped a cv b s f h
+    scoped (LenExpr at a) cv b s f h = scoped a cv b s f h
+    scoped (BinaryExpr at op p q) cv b s f h = scoped p cv.1 b.0 (before q s) (λ g. scoped q cv.2 b.1 s f g) h
+    scoped (IsExpr at a ty) cv b s f h = absurd cv
+    scoped (IndexExpr at p q) cv b s f h = scoped p cv.0 b.0 (before q s) (λ g. scoped q cv.1 b.1 s f g) h
+    scoped (FieldExpr at a name) cv b s f h = scoped a cv.0 b s f h
+    scoped (ListExpr at items) cv b s f h = all_scoped items cv b s f h
+    scoped (RepeatExpr at p q) cv b s f h = scoped p cv.0 b.0 (before q s) (λ g. scoped q cv.1 b.1 s f g) h
+    scoped (RecordExpr at fs) cv b s f h = fields_scoped fs cv.0 b.1 s f h
+    scoped (QuantExpr at all y p q body) cv b s f h = absurd cv
 
-  pub known_fields : (fs : Fields ℕ) (s : Variables) → BoundFields o k vs fs → AreKnown n vs s → AreKnown n vs (before_fields fs s)
-  known_fields fs s b h = record { below = h.below; within = λ x i. either (any_field_occurs fs x) (has s x) (Has vs x) (sym (has-before_fields fs s x) ∙ i) (fields_known o k x vs fs b) (h.within x) }
+    all_scoped : (es : Exprs ℕ) → AllCovered c es → BoundExprs o k vs es → (s : Variables) → (has s x ≡ true → Has vs x) → has (before_all es s) x ≡ true → Has vs x
+    all_scoped NoExprs cv b s f h = f h
+    all_scoped (MoreExprs e es) cv b s f h = scoped e cv.0 b.0 (before_all es s) (λ g. all_scoped es cv.1 b.1 s f g) h
 
-  pub is_below : (s : Variables) → AreKnown n vs s → (x : ℕ) → has s x ≡ true → x < n
-  is_below s h x i = h.below x (h.within x i)
+    fields_scoped : (fs : Fields ℕ) → FieldsCovered c fs → BoundFields o k vs fs → (s : Variables) → (has s x ≡ true → Has vs x) → has (before_fields fs s) x ≡ true → Has vs x
+    fields_scoped NoFields cv b s f h = f h
+    fields_scoped (MoreFields name e fs) cv b s f h = scoped e cv.0 b.0 (before_fields fs s) (λ g. fields_scoped fs cv.1 b.1 s f g) h
 
--- what is live behind is live before
-pub still_live : (e : Expr ℕ) (s : Variables) (x : ℕ) → has s x ≡ true → has (before e s) x ≡ true
-still_live e s x h = has-before e s x ∙ or_right (occurs e x) (has s x) h
+module _ (c : Context) (o : Offers) (k n : ℕ) (vs : Scope) where
+  pub known_before : (e : Expr ℕ) (s : Variables) → Covered c e → BoundExpr o k vs e → AreKnown n vs s → AreKnown n vs (before e s)
+  known_before e s cv b h = record { below = h.below; within = λ x i. scoped c o k vs x e cv b s (h.within x) i }
+
+  pub known_all : (es : Exprs ℕ) (s : Variables) → AllCovered c es → BoundExprs o k vs es → AreKnown n vs s → AreKnown n vs (before_all es s)
+  known_all es s cv b h = record { below = h.below; within = λ x i. all_scoped c o k vs x es cv b s (h.within x) i }
+
+  pub known_fields : (fs : Fields ℕ) (s : Variables) → FieldsCovered c fs → BoundFields o k vs fs → AreKnown n vs s → AreKnown n vs (before_fields fs s)
+  known_fields fs s cv b h = record { below = h.below; within = λ x i. fields_scoped c o k vs x fs cv b s (h.within x) i }
+
+pub is_below : (n : ℕ) (vs : Scope) (s : Variables) → AreKnown n vs s → (x : ℕ) → has s x ≡ true → x < n
+is_below n vs s h x i = h.below x (h.within x i)
 
 -- ---- a value comes into its register
 

@@ -13,7 +13,6 @@ use Rattle.wy_core.specs.declared.expressions.Op.TheVariants as op
 use Rattle.wy_term.proofs.SameLemmas.{eqb_self}
 use Rattle.wy_term.specs.declared.cond.CondKind.TheVariants as kind
 use Rattle.wy_live.specs.Sets.{Variables, has, with}
-use Rattle.wy_live.proofs.SetLemmas.{has-with}
 use Rattle.wy_code.specs.declared.instructions.Scalar.{Scalar}
 use Rattle.wy_code.specs.declared.instructions.Scalar.TheVariants as scalar
 use Rattle.wy_code.specs.declared.instructions.Arithmetic.{Arithmetic}
