@@ -3,7 +3,7 @@ use Rattle.std.proofs.Common.{◌<◌, ◌≤◌, inl, refl, sym, subst, ℕ, ze
 use Rattle.std.specs.Prelude.{None, nat_eq}
 use Rattle.wy_value.specs.Datum.{Datum}
 use Rattle.wy_core.specs.Types.{Ty}
-use Rattle.wy_core.specs.CoreTree.{Expr, Alias, Routine, Param, Decl, AliasDecl, RoutineDecl, Core, aliases_of, routines_of}
+use Rattle.wy_core.specs.CoreTree.{Expr, Alias, Param, Decl, AliasDecl, RoutineDecl, Core, aliases_of, routines_of}
 use Rattle.wy_formed.specs.Offers.{Offers, offers_of}
 use Rattle.wy_formed.specs.Bound.{Scope, with_option, with_params, BoundTy, BoundParams, BoundClauses, BoundAlias, BoundRoutine, BoundDecls, Bound}
 use Rattle.wy_formed.specs.Calls.{CallsClauses, Nothing, CallsRoutine, CallsDecls, Calls}
@@ -17,7 +17,7 @@ use Rattle.wy_sem.specs.Evaluation.{Callee, Declared, Print, PrintInt, Undeclare
 use Rattle.wy_sem.specs.Precondition.{Verdict, Met, CountFails, TypeFails, RequiresFails, passed, requires_met, types_met, callee_met, precondition, cost}
 use Rattle.wy_sem.specs.Growth.{Settles}
 use Rattle.wy_sem.proofs.Limits.{limit_is_exact}
-use Rattle.wy_answered.specs.Answered.{IsAnswered, IsSettled, PreconditionsAreAnswered, LimitedPreconditionsAreSettled}
+use Rattle.wy_answered.specs.Answered.{IsAnswered, PreconditionsAreAnswered, LimitedPreconditionsAreSettled}
 use Rattle.wy_answered.proofs.Ends.{Endings, ending, answering, Ends, Answered, Answers, given, chained, pardoned}
 use Rattle.wy_answered.proofs.EndingExpressions.{quiet_setting, all_hold-ends, holds-ends}
 use Rattle.wy_answered.proofs.EndingTests.{AllEnd, tested-ends}

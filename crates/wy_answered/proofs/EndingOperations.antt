@@ -9,7 +9,7 @@ use Rattle.wy_core.specs.declared.expressions.Op.TheVariants.{Add, Sub, Mul, Div
 use Rattle.wy_term.specs.declared.cond.CondKind.{CondKind}
 use Rattle.wy_term.specs.declared.cond.CondKind.TheVariants.{Range, Divisor, Index, Length, Member}
 use Rattle.wy_sem.specs.Meter.{Run, check, choose}
-use Rattle.wy_sem.specs.Operations.{same_number, is_index, nat_of, item_at, find, as_number, as_truth, as_items, as_fields, needed, in_range, negated, denied, length_result, numbers, applied, second, operated, indexed, item_of, field_of, repeated, agrees}
+use Rattle.wy_sem.specs.Operations.{same_number, is_index, nat_of, item_at, find, as_number, as_truth, as_items, as_fields, needed, in_range, negated, denied, length_result, numbers, applied, second, operated, item_of, field_of, repeated, agrees}
 use Rattle.wy_sem.specs.Expressions.{each, quantified, span}
 use Rattle.wy_answered.proofs.Ends.{Ends, done, faulted, bind}
 

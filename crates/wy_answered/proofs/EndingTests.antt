@@ -5,7 +5,7 @@ use Rattle.wy_value.specs.Datum.{Datum, Null, Truth, Whole, Array, Record, Data,
 use Rattle.wy_core.specs.Types.{Ty, NullTy, BoolTy, IntTy, AnyTy, VoidTy, RecordTy, ArrayTy, UnionTy, InterTy, NotTy, NamedTy, NormalTy, FieldTys, NoFieldTys, MoreFieldTys}
 use Rattle.wy_formed.specs.Recursion.{NamesIn, NamesInFields}
 use Rattle.wy_sem.specs.Meter.{choose}
-use Rattle.wy_sem.specs.TypeTests.{Test, answer, both, either, opposite, Questions, asked, name_asked, asked_of, no_items_asked, no_parts_asked, is_null, is_truth, is_whole, few_enough, same_names, tested, items_tested, parts_tested}
+use Rattle.wy_sem.specs.TypeTests.{Test, both, either, opposite, Questions, asked, name_asked, asked_of, no_items_asked, no_parts_asked, is_null, is_truth, is_whole, few_enough, same_names, tested, items_tested, parts_tested}
 use Rattle.wy_answered.proofs.Ends.{Endings}
 use Rattle.wy_answered.proofs.Uses.{bare_is_named}
 

@@ -1,9 +1,9 @@
 -- Declared types have levels: a name in a type is of no higher level, and a type that a clause tests is of a lower one.
-use Rattle.std.proofs.Common.{◌≡◌, ◌<◌, ◌≤◌, ◌+◌, ◌⊎◌, inl, inr, ℕ, zero, suc, Bool, true, false, ◌||◌, ◌==◌, List, [], ◌∷◌, length, Some, refl, sym, ap, subst, arith}
+use Rattle.std.proofs.Common.{◌≡◌, ◌<◌, ◌≤◌, ◌+◌, ◌⊎◌, inl, inr, ℕ, zero, suc, Bool, true, false, ◌||◌, ◌==◌, List, [], ◌∷◌, length, Some, refl, ap, subst, arith}
 use Rattle.std.specs.Prelude.{slice_get}
 use Rattle.std.proofs.lemmas.Bool.{cases_lt, or_cases, or_left, or_right, eqb-true, or_from}
-use Rattle.wy_core.specs.CoreTree.{Alias, Core, aliases_of}
-use Rattle.wy_formed.specs.Recursion.{NamesIn, ClausesMention, UsesType, Reaches, stays, goes, RecursWell}
+use Rattle.wy_core.specs.CoreTree.{Alias}
+use Rattle.wy_formed.specs.Recursion.{ClausesMention, UsesType, Reaches, stays, goes, RecursWell}
 use Rattle.wy_term.proofs.SameLemmas.{eqb_self}
 use Rattle.wy_sem.specs.TypeTests.{no_alias, alias_at, mentions}
 use Rattle.wy_conditions.specs.Named.{some_test_in, alias_mentions, leads_to}

@@ -1,5 +1,5 @@
 -- The numbers of names and shapes stand for them.
-use Rattle.std.proofs.Common.{◌≡◌, ◌∙◌, ℕ, zero, suc, List, [], ◌∷◌, Bool, true, false, cond, ◌||◌, Option, Some, None, refl, ap, sym}
+use Rattle.std.proofs.Common.{◌≡◌, ◌∙◌, ℕ, zero, suc, List, [], ◌∷◌, Bool, true, false, cond, ◌||◌, Option, Some, None, refl, ap}
 use Rattle.std.specs.Prelude.{bytes_eq, slice_get, slice_index_or}
 use Rattle.wy_core.specs.Types.{Ty, NullTy, BoolTy, IntTy, AnyTy, VoidTy, RecordTy, ArrayTy, UnionTy, InterTy, NotTy, NamedTy, NormalTy, FieldTys, NoFieldTys, MoreFieldTys}
 use Rattle.wy_core.specs.CoreTree as tree
@@ -7,11 +7,10 @@ use Rattle.wy_core.specs.CoreTree.{Expr, NullExpr, BoolExpr, IntExpr, VarExpr, C
 use Rattle.wy_value.specs.declared.shapes.Shapes.{Shapes}
 use Rattle.wy_value.specs.Shapes.{named}
 use Rattle.wy_term.proofs.SameLemmas.{bytes_are}
-use Rattle.wy_tables.specs.Tables.{stands, number_of, numbers_of, shape_number, names_in, ty_names_in, table_of}
+use Rattle.wy_tables.specs.Tables.{stands, number_of, numbers_of, names_in, ty_names_in, table_of}
 use Rattle.wy_compiled.proofs.TableLemmas.{Listed, Shaped, StandsTy, StandFieldTys, StandsExpr, StandExprs, StandFields, StandsOption, StandsPath, StandsStmt, StandStmts, StandsDecl, StandDecls, core_stands}
 use Rattle.wy_step.specs.Step as step
-use Rattle.wy_step.specs.Step.{shape_names}
-use Rattle.wy_numbered_tables.specs.Numbered.{IsNumber, AreNumbers, IsShape, NumberedTy, NumberedFieldTys, NumberedExpr, NumberedExprs, NumberedFields, NumberedOption, NumberedPath, NumberedStmt, NumberedStmts, NumberedDecl, NumberedDecls, NumbersStandForNames}
+use Rattle.wy_numbered_tables.specs.Numbered.{AreNumbers, IsShape, NumberedTy, NumberedFieldTys, NumberedExpr, NumberedExprs, NumberedFields, NumberedOption, NumberedPath, NumberedStmt, NumberedStmts, NumberedDecl, NumberedDecls, NumbersStandForNames}
 
 -- what stands in a list has its number there
 number_is : (n : List ℕ) (xs : List (List ℕ)) → stands n xs ≡ true → slice_get xs (number_of n xs) ≡ Some n

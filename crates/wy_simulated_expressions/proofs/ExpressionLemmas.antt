@@ -1,19 +1,17 @@
 -- The code of an expression does what the expression does.
-use Rattle.std.proofs.Common.{◌≡◌, ◌<◌, ◌≤◌, ℕ, zero, suc, ◌+◌, ◌==◌, List, [], ◌∷◌, ◌++◌, length, Bool, true, false, cond, ◌||◌, Option, Some, None, ℤ, pos, refl, sym, ◌∙◌, ap, subst, arith, length-append}
-use Rattle.std.specs.Prelude.{◌≢◌, ◌&&◌, not, slice_get}
-use Rattle.std.proofs.lemmas.Bool.{or_left, or_right, eqb-true}
-use Rattle.wy_value.specs.Datum.{Datum, Null, Truth, Whole, Array, Record, Data, Fields, no_fields, field}
+use Rattle.std.proofs.Common.{◌≡◌, ◌<◌, ◌≤◌, ℕ, zero, suc, ◌+◌, List, [], ◌∷◌, ◌++◌, length, Bool, true, false, cond, Option, Some, None, refl, ◌∙◌, ap, subst, arith, length-append}
+use Rattle.std.specs.Prelude.{◌&&◌, not}
+use Rattle.wy_value.specs.Datum.{Datum, Null, Truth, Whole, Array, Record, Fields, no_fields, field}
 use Rattle.wy_core.specs.CoreTree as tree
 use Rattle.wy_core.specs.CoreTree.{Expr, NullExpr, BoolExpr, IntExpr, VarExpr, CallExpr, NegExpr, NotExpr, LenExpr, BinaryExpr, IsExpr, IndexExpr, FieldExpr, ListExpr, RepeatExpr, RecordExpr, QuantExpr, Exprs, NoExprs, MoreExprs, NoFields, MoreFields}
 use Rattle.wy_core.specs.declared.expressions.Op.{Op}
 use Rattle.wy_core.specs.declared.expressions.Op.TheVariants as op
 use Rattle.wy_formed.specs.Offers.{Offers}
-use Rattle.wy_formed.specs.Bound.{Scope, Has, BoundExpr, BoundExprs, BoundFields}
+use Rattle.wy_formed.specs.Bound.{Scope, BoundExpr, BoundExprs, BoundFields}
 use Rattle.wy_formed.specs.Sizes.{size, sizes, field_sizes}
 use Rattle.wy_live.specs.Sets.{Variables, has, with}
 use Rattle.wy_live.specs.Walks.{before, before_all, before_fields}
 use Rattle.wy_code.specs.declared.instructions.Scalar.TheVariants as scalar
-use Rattle.wy_code.specs.declared.instructions.Instr.{Instr}
 use Rattle.wy_code.specs.declared.instructions.Instr.TheVariants as instr
 use Rattle.wy_code.specs.declared.routines.Routine.{Routine}
 use Rattle.wy_code.specs.declared.routines.Code.{Code}
@@ -21,23 +19,23 @@ use Rattle.wy_tables.specs.declared.context.Context.{Context}
 use Rattle.wy_tables.specs.Tables.{number_of, shape_number, names_in}
 use Rattle.wy_pieces.specs.declared.steps.Step.{Step}
 use Rattle.wy_pieces.specs.declared.steps.Step.TheVariants.{Does}
-use Rattle.wy_pieces.specs.Steps.{clear, fork, registers_from}
+use Rattle.wy_pieces.specs.Steps.{fork, registers_from}
 use Rattle.wy_compiled.specs.Expressions.{code, codes, field_codes, lost, lost_below, released, is_plain, operator, operate, right_register, negated, count_of, field_count, record_of}
-use Rattle.wy_sem.specs.Meter.{Meter, Outcome, Done, Run, ◌>>=◌, spend}
+use Rattle.wy_sem.specs.Meter.{Meter, Done, Run, ◌>>=◌, spend}
 use Rattle.wy_sem.specs.Operations as operations
 use Rattle.wy_sem.specs.Operations.{applied, second, operated, denied, length_result, item_of, field_of, repeated}
 use Rattle.wy_sem.specs.Expressions.{Store, slot, put, Setting, data_of, eval, eval_all, eval_fields}
 use Rattle.wy_step.specs.Step as machine
-use Rattle.wy_step.specs.Step.{Caller, GoesOn as goes_on, effect, cleared, instr_at, shape_names, behind_field}
+use Rattle.wy_step.specs.Step.{Caller, instr_at, shape_names, behind_field}
 use Rattle.wy_simulation.specs.Places.{StandAt, IsRoutine}
-use Rattle.wy_simulation.specs.Follows.{IsGoing, Follows, at_place, Comes}
+use Rattle.wy_simulation.specs.Follows.{Follows, at_place, Comes}
 use Rattle.wy_simulation.specs.Registers.{Live, Got}
 use Rattle.wy_simulation.proofs.PlaceLemmas.{stand_front, stand_back}
 use Rattle.wy_simulation.proofs.StoreLemmas.{put_other, put_size, live_put, live_fewer}
-use Rattle.wy_simulation.proofs.FollowLemmas.{follows_spend, follows_then, follows_more, follows_at, follows_truth, follows_needed, follows_choose, follows_end}
-use Rattle.wy_simulation.proofs.InstructionLemmas.{share_does, move_does, Hold, hold_same, emptied, emptied_below, emptied_size, array_does, record_does, IsNone, cleared_other, cleared_size}
-use Rattle.wy_simulation.proofs.PieceLemmas.{does_last, stays_last, fork_on, fork_off, clear_runs}
-use Rattle.wy_simulated_expressions.specs.Covered.{IsStrict, IsCovered, Covered, AllCovered, FieldsCovered}
+use Rattle.wy_simulation.proofs.FollowLemmas.{follows_spend, follows_then, follows_more, follows_at, follows_truth, follows_needed, follows_choose}
+use Rattle.wy_simulation.proofs.InstructionLemmas.{share_does, move_does, Hold, emptied, emptied_below, emptied_size, array_does, record_does, IsNone, cleared_other, cleared_size}
+use Rattle.wy_simulation.proofs.PieceLemmas.{stays_last, fork_on, fork_off, clear_runs}
+use Rattle.wy_simulated_expressions.specs.Covered.{IsStrict, Covered, AllCovered, FieldsCovered}
 use Rattle.wy_simulated_expressions.specs.Simulated.{with_table, AreKnown, IsSimulated, ExpressionsAreSimulated}
 use Rattle.wy_simulated_expressions.proofs.KnownLemmas.{with_has, known_before, known_all, known_fields, is_below, still_live}
 use Rattle.wy_simulated_expressions.proofs.PartLemmas.{fills, denied_follows, length_follows, field_follows, negated_follows, item_follows, applied_follows, repeated_follows}

@@ -1,19 +1,15 @@
 -- The instructions behind the parts of an expression, where what the parts give is in its registers.
-use Rattle.std.proofs.Common.{◌≡◌, ◌<◌, ◌≤◌, ℕ, zero, suc, ◌+◌, ◌==◌, List, [], ◌∷◌, ◌++◌, length, Bool, true, false, cond, ◌||◌, Option, Some, None, ℤ, pos, refl, sym, ◌∙◌, ap, subst, arith, length-append}
-use Rattle.std.specs.Prelude.{◌≢◌, ◌&&◌, not, slice_get, All, ◌+ℤ◌, ◌-ℤ◌, ◌*ℤ◌, neg_ℤ, int_le}
+use Rattle.std.proofs.Common.{◌≡◌, ◌<◌, ◌≤◌, ℕ, suc, ◌+◌, List, [], ◌∷◌, length, Bool, true, false, Some, None, ℤ, pos, refl, ◌∙◌, ap, subst, arith}
+use Rattle.std.specs.Prelude.{◌&&◌, not, slice_get, All, ◌+ℤ◌, ◌-ℤ◌, ◌*ℤ◌, neg_ℤ, int_le}
 use Rattle.std.specs.Int.{int_div_euclid}
-use Rattle.std.proofs.lemmas.List.Elements.{All-head, All-tail}
-use Rattle.std.proofs.lemmas.Bool.{or_left, or_right}
-use Rattle.wy_value.specs.Datum.{Datum, Null, Truth, Whole, Array, Record, Data, Fields}
+use Rattle.std.proofs.lemmas.List.Elements.{All-head}
+use Rattle.wy_value.specs.Datum.{Datum, Truth, Whole, Array}
 use Rattle.wy_value.specs.Numbers.{is_int}
 use Rattle.wy_value.specs.Values.{length_of}
-use Rattle.wy_core.specs.CoreTree.{Expr, VarExpr}
 use Rattle.wy_core.specs.declared.expressions.Op.{Op}
 use Rattle.wy_core.specs.declared.expressions.Op.TheVariants as op
-use Rattle.wy_term.proofs.SameLemmas.{eqb_self}
 use Rattle.wy_term.specs.declared.cond.CondKind.TheVariants as kind
-use Rattle.wy_live.specs.Sets.{Variables, has, with}
-use Rattle.wy_code.specs.declared.instructions.Scalar.{Scalar}
+use Rattle.wy_live.specs.Sets.{Variables, has}
 use Rattle.wy_code.specs.declared.instructions.Scalar.TheVariants as scalar
 use Rattle.wy_code.specs.declared.instructions.Arithmetic.{Arithmetic}
 use Rattle.wy_code.specs.declared.instructions.Arithmetic.TheVariants as arithmetic
@@ -23,23 +19,20 @@ use Rattle.wy_code.specs.declared.instructions.Instr.{Instr}
 use Rattle.wy_code.specs.declared.instructions.Instr.TheVariants as instr
 use Rattle.wy_code.specs.declared.routines.Routine.{Routine}
 use Rattle.wy_code.specs.declared.routines.Code.{Code}
-use Rattle.wy_pieces.specs.declared.steps.Step.{Step}
-use Rattle.wy_pieces.specs.declared.steps.Step.TheVariants.{Does}
 use Rattle.wy_pieces.specs.Placing.{registers_in}
-use Rattle.wy_pieces.specs.Steps.{clear}
 use Rattle.wy_compiled.specs.Expressions.{equal, operator, negated as negated_steps}
-use Rattle.wy_sem.specs.Meter.{Meter, Outcome, Done, Run, check}
+use Rattle.wy_sem.specs.Meter.{Meter, Done, check}
 use Rattle.wy_sem.specs.Operations.{as_number, needed, in_range, same, same_number, negated, denied, length_result, applied, item_of, field_of, repeated, nat_of, is_index, item_at, find, longest, copies}
 use Rattle.wy_sem.specs.Expressions.{Store, slot, put}
-use Rattle.wy_step.specs.Step.{Caller, Effect, GoesOn as goes_on, effect, computes, compares, gives, gives_int, where_so, instr_at}
+use Rattle.wy_step.specs.Step.{Caller, GoesOn as goes_on, effect, computes, compares, gives, gives_int, where_so, instr_at}
 use Rattle.wy_simulation.specs.Places.{StandAt, IsRoutine}
 use Rattle.wy_simulation.specs.Follows.{Follows, at_place, Comes}
 use Rattle.wy_simulation.specs.Registers.{Live, Got}
 use Rattle.wy_simulation.proofs.PlaceLemmas.{all_at}
-use Rattle.wy_simulation.proofs.StoreLemmas.{put_here, put_other, put_size, live_put, live_fewer}
+use Rattle.wy_simulation.proofs.StoreLemmas.{put_here, put_other, put_size, live_put}
 use Rattle.wy_simulation.proofs.FollowLemmas.{follows_number, follows_truth, follows_items, follows_fields, follows_needed, follows_check, follows_more, follows_at}
-use Rattle.wy_simulation.proofs.InstructionLemmas.{share_does, move_does, arith_does, compare_does, equal_does, not_does, len_does, get_does, field_does, fill_does, IsNone, cleared_other, cleared_size}
-use Rattle.wy_simulation.proofs.PieceLemmas.{does_then, does_last, stays_last}
+use Rattle.wy_simulation.proofs.InstructionLemmas.{arith_does, compare_does, equal_does, not_does, len_does, get_does, field_does, fill_does}
+use Rattle.wy_simulation.proofs.PieceLemmas.{does_then, does_last}
 use Rattle.wy_simulated_expressions.specs.Covered.{IsStrict}
 use Rattle.wy_simulated_expressions.proofs.KnownLemmas.{got_put}
 

@@ -1,5 +1,5 @@
 -- The code of an expression does what the expression does.
-use Rattle.std.specs.Prelude.{◌≡◌, ◌<◌, ◌≤◌, ℕ, ◌+◌, List, length, Bool, true}
+use Rattle.std.specs.Prelude.{◌≡◌, ◌<◌, ◌≤◌, ℕ, ◌+◌, List, length, true}
 use Rattle.wy_core.specs.CoreTree.{Expr}
 use Rattle.wy_formed.specs.Offers.{Offers}
 use Rattle.wy_formed.specs.Bound.{Scope, Has, BoundExpr}

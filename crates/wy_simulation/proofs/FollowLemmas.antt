@@ -1,5 +1,5 @@
 -- How a run follows an evaluation, one lemma for each way in which evaluations go on.
-use Rattle.std.proofs.Common.{◌≡◌, ◌<◌, ◌≤◌, ℕ, zero, suc, ◌+◌, ◌*◌, List, [], ◌++◌, Bool, true, false, Option, Some, None, ℤ, refl, sym, ◌∙◌, ap, subst, arith}
+use Rattle.std.proofs.Common.{◌≡◌, ◌≤◌, ℕ, zero, suc, ◌+◌, ◌*◌, List, [], Bool, true, false, Option, Some, None, ℤ, refl, sym, ◌∙◌, ap, subst, arith}
 use Rattle.std.proofs.lemmas.List.{append-nil}
 use Rattle.wy_value.specs.Datum.{Datum, Null, Truth, Whole, Array, Record, Data, Fields}
 use Rattle.wy_code.specs.declared.routines.Code.{Code}
@@ -9,9 +9,9 @@ use Rattle.wy_term.specs.declared.cond.CondKind.{CondKind}
 use Rattle.wy_sem.specs.Meter.{Meter, Outcome, Done, Fault, More, Spent, Run, ◌>>=◌, tick, spend, check, choose}
 use Rattle.wy_sem.specs.Operations.{as_number, as_truth, as_items, as_fields, needed}
 use Rattle.wy_sem.specs.Expressions.{Store}
-use Rattle.wy_step.specs.Step.{State, Runs, Ended, Stuck, Frame, Caller, Effect, GoesOn as goes_on, GoesTo, effect, executed, stepped, instr_at, step, after}
+use Rattle.wy_step.specs.Step.{State, Frame, Caller, Effect, GoesOn as goes_on, GoesTo, effect, executed, stepped, instr_at, step, after}
 use Rattle.wy_simulation.specs.Places.{IsRoutine}
-use Rattle.wy_simulation.specs.Follows.{IsGoing, Ends, GoesOn, Follows, at_place, Comes}
+use Rattle.wy_simulation.specs.Follows.{IsGoing, Follows, at_place, Comes}
 
 -- ---- steps
 

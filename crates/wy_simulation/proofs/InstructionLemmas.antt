@@ -1,7 +1,7 @@
 -- What single instructions do, where their operands are known.
 use Rattle.std.proofs.Common.{◌≡◌, ◌<◌, ◌≤◌, ℕ, zero, suc, ◌+◌, List, [], ◌∷◌, length, Bool, true, false, Option, Some, None, ℤ, pos, refl, sym, ◌∙◌, ap, arith}
 use Rattle.std.specs.Prelude.{◌≢◌, ◌&&◌, not, int_le, slice_get}
-use Rattle.wy_value.specs.Datum.{Datum, Null, Truth, Whole, Array, Record, Data, Fields}
+use Rattle.wy_value.specs.Datum.{Datum, Truth, Whole, Array, Record, Data, Fields}
 use Rattle.wy_value.specs.Values.{length_of}
 use Rattle.wy_value.specs.declared.shapes.Shapes.{Shapes}
 use Rattle.wy_code.specs.declared.instructions.Arithmetic.{Arithmetic}

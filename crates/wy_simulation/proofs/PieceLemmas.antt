@@ -1,15 +1,13 @@
 -- Forks and releases.
-use Rattle.std.proofs.Common.{◌≡◌, ◌<◌, ◌≤◌, ℕ, zero, suc, ◌+◌, List, [], ◌∷◌, ◌++◌, length, Bool, true, false, Some, refl, sym, ◌∙◌, ap, subst, arith, length-append}
-use Rattle.std.specs.Prelude.{slice_get}
-use Rattle.std.proofs.lemmas.List.Elements.{All-head, All-tail}
-use Rattle.wy_value.specs.Datum.{Datum, Truth}
+use Rattle.std.proofs.Common.{◌≡◌, ℕ, suc, ◌+◌, List, [], ◌∷◌, length, true, false, Some, refl, arith, length-append}
+use Rattle.wy_value.specs.Datum.{Truth}
 use Rattle.wy_code.specs.declared.routines.Code.{Code}
 use Rattle.wy_code.specs.declared.routines.Routine.{Routine}
 use Rattle.wy_code.specs.declared.instructions.Instr.{Instr}
 use Rattle.wy_code.specs.declared.instructions.Instr.TheVariants as instr
 use Rattle.wy_pieces.specs.declared.steps.Step.{Step}
-use Rattle.wy_pieces.specs.declared.steps.Step.TheVariants.{Does, GoesOn, GoesBack, GoesOnUnless}
-use Rattle.wy_pieces.specs.Steps.{clear, fork, where_true}
+use Rattle.wy_pieces.specs.declared.steps.Step.TheVariants.{GoesOn}
+use Rattle.wy_pieces.specs.Steps.{clear, fork}
 use Rattle.wy_sem.specs.Meter.{Meter, Outcome, Done}
 use Rattle.wy_sem.specs.Expressions.{Store, slot}
 use Rattle.wy_step.specs.Step.{Caller, step, effect, cleared, instr_at, GoesOn as goes_on}

@@ -1,10 +1,10 @@
 -- Registers, one of which gets another value.
-use Rattle.std.proofs.Common.{◌≡◌, ◌<◌, ◌≤◌, ℕ, zero, suc, List, [], ◌∷◌, length, Bool, true, false, Option, Some, None, refl, sym, ◌∙◌, ap, subst, arith}
+use Rattle.std.proofs.Common.{◌≡◌, ◌<◌, ℕ, zero, suc, [], ◌∷◌, length, true, Option, Some, refl, ◌∙◌, ap, arith}
 use Rattle.std.specs.Prelude.{◌≢◌}
 use Rattle.wy_value.specs.Datum.{Datum}
 use Rattle.wy_live.specs.Sets.{Variables, has}
 use Rattle.wy_sem.specs.Expressions.{Store, slot, put}
-use Rattle.wy_simulation.specs.Registers.{Live, Got}
+use Rattle.wy_simulation.specs.Registers.{Live}
 
 pub put_here : (s : Store) (d : ℕ) (v : Option Datum) → d < length s → slot (put s d v) d ≡ v
 put_here [] d v less = absurd (omega (arith, less))

@@ -3,7 +3,7 @@ use Rattle.std.specs.Prelude.{◌≡◌, ◌≤◌, ℕ, ◌+◌, ◌*◌, List}
 use Rattle.wy_code.specs.declared.routines.Code.{Code}
 use Rattle.wy_sem.specs.Meter.{Meter, Outcome, Done, Fault, More, Spent}
 use Rattle.wy_sem.specs.Expressions.{Store}
-use Rattle.wy_step.specs.Step.{State, Runs, Ended, Stuck, Frame, Caller, after}
+use Rattle.wy_step.specs.Step.{State, Runs, Ended, Stuck, Caller, after}
 
 -- it still runs, and has printed this
 abbrev pub IsGoing : List ℕ → State → Type 0

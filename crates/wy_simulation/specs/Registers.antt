@@ -1,5 +1,5 @@
 -- What registers hold beside a store. The variables have the first n registers, and the values of expressions those behind.
-use Rattle.std.specs.Prelude.{◌≡◌, ◌<◌, ◌≤◌, ℕ, List, length, Bool, true, Some}
+use Rattle.std.specs.Prelude.{◌≡◌, ◌<◌, ◌≤◌, ℕ, length, true, Some}
 use Rattle.wy_value.specs.Datum.{Datum}
 use Rattle.wy_live.specs.Sets.{Variables, has}
 use Rattle.wy_sem.specs.Expressions.{Store, slot}
