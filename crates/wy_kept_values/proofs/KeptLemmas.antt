@@ -129,11 +129,11 @@ some_same d v e = cc
 
 find_proper : (fs : Fields) (name : List ℕ) (v : Datum) → FieldsProper fs → find fs name ≡ Some v → IsProper v
 find_proper no_fields name v h e = absurd cc
-find_proper (field n d fs) name v h e = by (bytes_eq n name) e
+find_proper (field n d fs) name v h e = by (bytes_eq n name) e (λ g. find_proper fs name v h.1 g)
   where
-    by : (b : Bool) → found_field b d (find fs name) ≡ Some v → IsProper v
-    by true e = subst (λ (x : Datum). IsProper x) (some_same d v e) h.0
-    by false e = find_proper fs name v h.1 e
+    by : (b : Bool) → found_field b d (find fs name) ≡ Some v → (find fs name ≡ Some v → IsProper v) → IsProper v
+    by true e f = subst (λ (x : Datum). IsProper x) (some_same d v e) h.0
+    by false e f = f e
 
 copies_proper : (n : ℕ) (v : Datum) → IsProper v → AllProper (copies n v)
 copies_proper zero v h = tt
@@ -246,7 +246,7 @@ repeated_gives at v w m h = gives_number IsProper at w (λ n. check (int_le (pos
 each_gives : (all : Bool) (at : ℕ) (body : ℤ → Run Datum) (i : ℤ) (j : ℕ) (m : Meter) → Gives IsProper (each all at body i j m)
 each_gives all at body i zero m = tt
 each_gives all at body i (suc j) m = gives_bind (λ (d : Datum). Unit {0}) IsProper (body i m) (λ v. as_truth at v (λ b. choose (agrees all b) (each all at body (i +ℤ pos 1) j) (Done (Truth b)))) (anything (body i m))
-    (λ v k p. gives_truth IsProper at v (λ b. choose (agrees all b) (each all at body (i +ℤ pos 1) j) (Done (Truth b))) k (λ b. by b (agrees all b) k))
+    (λ v k p. gives_truth IsProper at v (λ b. choose (agrees all b) (each all at body (i +ℤ pos 1) j) (Done (Truth b))) k (λ b. by b (agrees all b) k (each_gives all at body (i +ℤ pos 1) j k)))
   where
     anything : (o : Outcome Datum) → Gives (λ (d : Datum). Unit {0}) o
     anything (Done x k) = tt
@@ -254,9 +254,9 @@ each_gives all at body i (suc j) m = gives_bind (λ (d : Datum). Unit {0}) IsPro
     anything (More k) = tt
     anything Spent = tt
 
-    by : (b on : Bool) (k : Meter) → Gives IsProper (choose on (each all at body (i +ℤ pos 1) j) (Done (Truth b)) k)
-    by b true k = each_gives all at body (i +ℤ pos 1) j k
-    by b false k = tt
+    by : (b on : Bool) (k : Meter) → Gives IsProper (each all at body (i +ℤ pos 1) j k) → Gives IsProper (choose on (each all at body (i +ℤ pos 1) j) (Done (Truth b)) k)
+    by b true k g = g
+    by b false k g = tt
 
 quantified_gives : (all : Bool) (at : ℕ) (body : ℤ → Run Datum) (v w : Datum) (m : Meter) → Gives IsProper (quantified all at body v w m)
 quantified_gives all at body v w m = gives_number IsProper at v (λ x. as_number at w (λ y. each all at body x (span x y))) m (λ x e. gives_number IsProper at w (λ y. each all at body x (span x y)) m (λ y g. each_gives all at body x (span x y) m))

@@ -1,6 +1,7 @@
 -- The instructions behind the parts of an expression, where what the parts give is in its registers.
 use Rattle.std.proofs.Common.{◌≡◌, ◌<◌, ◌≤◌, ℕ, suc, ◌+◌, List, [], ◌∷◌, length, Bool, true, false, Some, None, ℤ, pos, refl, ◌∙◌, ap, subst, arith}
 use Rattle.std.specs.Prelude.{◌&&◌, not, slice_get, All, ◌+ℤ◌, ◌-ℤ◌, ◌*ℤ◌, neg_ℤ, int_le}
+use Rattle.std.proofs.Math.IntN.{+ℤ_idl}
 use Rattle.std.specs.Int.{int_div_euclid}
 use Rattle.std.proofs.lemmas.List.Elements.{All-head}
 use Rattle.wy_value.specs.Datum.{Datum, Truth, Whole, Array}
@@ -37,7 +38,7 @@ use Rattle.wy_simulated_expressions.specs.Covered.{IsStrict}
 use Rattle.wy_simulated_expressions.proofs.KnownLemmas.{got_put}
 
 zero_less : (x : ℤ) → pos 0 -ℤ x ≡ neg_ℤ x
-zero_less x = omega arith
+zero_less x = +ℤ_idl (neg_ℤ x)
 
 module _ (mach : Code) (f : ℕ) (r : Routine) (there : IsRoutine mach f r) (n wide : ℕ) (s : Variables) (below : (x : ℕ) → has s x ≡ true → x < n) (store : Store) where
   -- the register that an instruction fills is one of the frame
