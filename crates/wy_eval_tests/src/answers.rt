@@ -1,4 +1,6 @@
 //! What the test of a precondition and an evaluation answer on a source.
+ghost use Rattle.std.specs.Prelude.{◌≤◌};
+
 use std::alloc::{AllocError, Global};
 use wy_ast::Program;
 use wy_core::Core;
@@ -15,7 +17,7 @@ const LONGEST: usize = 1_048_576;
 /// Why there is no answer: the source is no program, a name in it is refused, the arguments are no
 /// values, or there is no memory.
 #[derive(Clone, Copy, Debug, PartialEq, Eq)]
-enum Refusal {
+pub enum Refusal {
     Unread,
     Unnamed,
     NoValues,
@@ -28,23 +30,8 @@ impl From<AllocError> for Refusal {
     }
 }
 
-/// Whether this is what the test of the precondition finds, for the function or method with this number in
-/// the source.
-pub fn finds(
-    alloc: Global,
-    source: &str,
-    entry: u32,
-    args: &str,
-    turns: u64,
-    want: MeetsEnd,
-) -> bool {
-    match met(alloc, source, entry, args, turns) {
-        Ok(end) => end == want,
-        Err(_) => false,
-    }
-}
-
-fn met(
+/// What the test of the precondition finds, for the function or method with this number in the source.
+pub fn met(
     alloc: Global,
     source: &str,
     entry: u32,
@@ -59,33 +46,19 @@ fn met(
     }
 }
 
-/// Whether the evaluation of the function or method with this number in the source, with at most 2,000
-/// ticks, ends so: the text of its value, `nothing`, the kind of a fault and its line and column, `more` or
-/// `spent`; and, where something was printed, a bar and what that was.
-pub fn ends(
+/// How the evaluation of the function or method with this number in the source ends: the text of its
+/// value, `nothing`, the kind of a fault and its line and column, `more` or `spent`; and, where something
+/// was printed, a bar and what that was.
+pub fn ended(
     alloc: Global,
     source: &str,
     entry: u32,
     args: &str,
     ticks: u32,
     turns: u64,
-    want: &str,
-) -> bool {
-    match ended(alloc, source, entry, args, ticks, turns) {
-        Ok(text) => text.as_str() == want,
-        Err(_) => false,
-    }
-}
-
-fn ended(
-    alloc: Global,
-    source: &str,
-    entry: u32,
-    args: &str,
-    ticks: u32,
-    turns: u64,
-) -> Result<String, Refusal> {
-    let ticks = if ticks < 2000 { ticks } else { 2000 };
+) -> Result<String, Refusal>
+    requires { ticks ≤ 2000 }
+{
     let bytes = source.as_bytes();
     let core = core(alloc, bytes)?;
     let args = values(alloc, args)?;

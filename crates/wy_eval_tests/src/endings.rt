@@ -1,5 +1,6 @@
 //! What programs give and print, and what they spend.
-use crate::answers::ends;
+use crate::answers::ended;
+use std::test::Fail;
 
 /// Quotients and remainders, quantifiers, and operators that stop early. The first function gives the number
 /// of the first check that is wrong.
@@ -186,11 +187,13 @@ function past(int x) -> (int r):
 ";
 
 #[test]
-fn checks_within_programs(rt: HostRuntime) {
+fn checks_within_programs(rt: HostRuntime) -> Result<(), Fail> {
     let alloc = rt.alloc();
     for source in [NUMBERS, LOOPS] {
-        assert!(rt; ends(alloc, source, 0, "()", 2000, 1000, "0"), "{source}");
+        let end = ended(alloc, source, 0, "()", 2000, 1000)?;
+        assert_eq!(rt; end.as_str(), "0", "{source}");
     }
+    Ok(())
 }
 
 /// Updates whose indices and values print.
@@ -215,24 +218,22 @@ method copied() -> (int[][] r):
 ";
 
 // The indices come first, each checked as soon as it is evaluated, and then the value.
-const UPDATED: [(u32, &str, &str); 6] = [
-    (1, "(1, 0)", "[[1], [9, 3]] | 109"),
-    (1, "(2, 0)", "index 7:7 | 2"),
-    (1, "(0, 1)", "index 7:16 | 01"),
-    (2, "(1)", "{k: 1, xs: [5, 8]} | 18"),
-    (2, "(-1)", "index 11:9 | -1"),
-    (3, "()", "[[1, 2], [8, 2]] | 07"),
-];
-
 #[test]
-fn updates_with_effects(rt: HostRuntime) {
+fn updates_with_effects(rt: HostRuntime) -> Result<(), Fail> {
     let alloc = rt.alloc();
-    for (entry, args, want) in UPDATED {
-        assert!(rt;
-            ends(alloc, UPDATES, entry, args, 2000, 1000, want),
-            "{entry} of {args}"
-        );
+    let rows = [
+        (1, "(1, 0)", "[[1], [9, 3]] | 109"),
+        (1, "(2, 0)", "index 7:7 | 2"),
+        (1, "(0, 1)", "index 7:16 | 01"),
+        (2, "(1)", "{k: 1, xs: [5, 8]} | 18"),
+        (2, "(-1)", "index 11:9 | -1"),
+        (3, "()", "[[1, 2], [8, 2]] | 07"),
+    ];
+    for (entry, args, want) in rows {
+        let end = ended(alloc, UPDATES, entry, args, 2000, 1000)?;
+        assert_eq!(rt; end.as_str(), want, "{entry} of {args}");
     }
+    Ok(())
 }
 
 /// What calls, prints, loops, tests of types and contracts spend.
@@ -271,64 +272,45 @@ function deep(int n) -> (bool r):
 ";
 
 // A tick for each call, statement, expression node, test of a loop and visit of a type.
-const TICKS: [(u32, &str, u32, &str); 12] = [
-    (0, "(1)", 100, "more"),
-    (0, "(1)", 2000, "more"),
-    (2, "(3)", 6, "more"),
-    (2, "(3)", 9, "more | hi "),
-    (2, "(3)", 15, "more | hi 3\n"),
-    (2, "(3)", 2000, "3 | hi 3\n"),
-    (3, "(null)", 6, "more"),
-    (3, "(null)", 7, "true"),
-    (4, "()", 5, "more"),
-    (4, "()", 6, "0"),
-    (6, "(1, 0)", 25, "more"),
-    (7, "(150)", 2000, "true"),
-];
-
 #[test]
-fn ticks_are_counted(rt: HostRuntime) {
+fn ticks_are_counted(rt: HostRuntime) -> Result<(), Fail> {
     let alloc = rt.alloc();
-    for (entry, args, ticks, want) in TICKS {
-        assert!(rt;
-            ends(alloc, SPENDING, entry, args, ticks, 1000, want),
-            "{entry} of {args} with {ticks}"
-        );
+    let rows = [
+        (0, "(1)", 100, "more"),
+        (0, "(1)", 2000, "more"),
+        (2, "(3)", 6, "more"),
+        (2, "(3)", 9, "more | hi "),
+        (2, "(3)", 15, "more | hi 3\n"),
+        (2, "(3)", 2000, "3 | hi 3\n"),
+        (3, "(null)", 6, "more"),
+        (3, "(null)", 7, "true"),
+        (4, "()", 5, "more"),
+        (4, "()", 6, "0"),
+        (6, "(1, 0)", 25, "more"),
+        (7, "(150)", 2000, "true"),
+    ];
+    for (entry, args, ticks, want) in rows {
+        assert!(rt; ticks <= 2000);
+        let end = ended(alloc, SPENDING, entry, args, ticks, 1000)?;
+        assert_eq!(rt; end.as_str(), want, "{entry} of {args} with {ticks}");
     }
+    Ok(())
 }
 
 // A turn for each number of a quantifier, each code that is printed and each visit of a type that is owed.
-const TURNS: [(u32, &str, u64, &str); 5] = [
-    (1, "(5)", 5, "0"),
-    (1, "(5)", 4, "spent"),
-    (2, "(3)", 4, "3 | hi 3\n"),
-    (2, "(3)", 3, "spent"),
-    (6, "(1, 0)", 0, "{head: 0, tail: {head: 0, tail: null}}"),
-];
-
 #[test]
-fn turns_are_counted(rt: HostRuntime) {
+fn turns_are_counted(rt: HostRuntime) -> Result<(), Fail> {
     let alloc = rt.alloc();
-    for (entry, args, turns, want) in TURNS {
-        assert!(rt;
-            ends(alloc, SPENDING, entry, args, 2000, turns, want),
-            "{entry} of {args} with {turns}"
-        );
+    let rows = [
+        (1, "(5)", 5, "0"),
+        (1, "(5)", 4, "spent"),
+        (2, "(3)", 4, "3 | hi 3\n"),
+        (2, "(3)", 3, "spent"),
+        (6, "(1, 0)", 0, "{head: 0, tail: {head: 0, tail: null}}"),
+    ];
+    for (entry, args, turns, want) in rows {
+        let end = ended(alloc, SPENDING, entry, args, 2000, turns)?;
+        assert_eq!(rt; end.as_str(), want, "{entry} of {args} with {turns}");
     }
-}
-
-/// A call in each second tick, and operators that stand one in another.
-const DEEP: &str = "\
-method dive():
-    dive()
-function turned(bool b) -> (bool r):
-    return !!!!!!!!!!!!!!!!!!!!!!!!!!!!!!!!!!!!!!!!!!!!!!!!!!!!!!!!!!!!!!!!!!!!!!!!!!!!!!!!turned(b)
-";
-
-// The stack is as deep as 2,000 ticks make it.
-#[test]
-fn the_deepest_end(rt: HostRuntime) {
-    let alloc = rt.alloc();
-    assert!(rt; ends(alloc, DEEP, 0, "()", 2000, 1000, "more"));
-    assert!(rt; ends(alloc, DEEP, 1, "(true)", 2000, 1000, "more"));
+    Ok(())
 }

@@ -1,7 +1,6 @@
 //! Tests of wy_precondition and wy_eval: sources, and what is answered. They stand in a crate of their
 //! own, since they go through the readers of sources. Each answer was worked out by hand from the rules
-//! of the language. What spends all of 2,000 ticks in calls needs the stack of an optimized build, which the
-//! gate has; a trial is built without, and overruns 8 MB there.
+//! of the language.
 #![tactic(auto)]
 
 #[cfg(test)]
