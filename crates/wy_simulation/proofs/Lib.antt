@@ -1,0 +1,5 @@
+pub mod PlaceLemmas
+pub mod FollowLemmas
+pub mod StoreLemmas
+pub mod InstructionLemmas
+pub mod PieceLemmas

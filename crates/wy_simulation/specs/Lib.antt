@@ -1,0 +1,4 @@
+-- what public contracts cite
+pub mod Places
+pub mod Follows
+pub mod Registers
