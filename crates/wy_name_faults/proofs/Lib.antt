@@ -1,0 +1,10 @@
+-- what a walk leaves of the faults that it notes
+pub mod NotesLemmas
+-- what nodes show by themselves
+pub mod NodeLemmas
+-- how much is counted
+pub mod SizeLemmas
+-- what expressions show once properties are expanded
+pub mod ExpansionLemmas
+-- what programs show
+pub mod ProgramLemmas
