@@ -26,16 +26,16 @@ widen : {A B C : Type 0} → A ⊎ B → A ⊎ (B ⊎ C)
 widen (inl a) = inl a
 widen (inr b) = inr (inl b)
 
-shown_by : {P Q : Fault → Type 0} {x y : Found} (f : Fault) → Notes P x y → (y ≡ Some f) ⊎ Q f → (x ≡ Some f) ⊎ (P f ⊎ Q f)
-shown_by f p (inl e) = widen (p.shown f e)
-shown_by f p (inr q) = inr (inr q)
+shown_by : {P : Fault → Type 0} {x y : Found} (Q : Fault → Type 0) (f : Fault) → Notes P x y → (y ≡ Some f) ⊎ Q f → (x ≡ Some f) ⊎ (P f ⊎ Q f)
+shown_by Q f p (inl e) = widen (p.shown f e)
+shown_by Q f p (inr q) = inr (inr q)
 
 least_by : {P Q : Fault → Type 0} {x y z : Found} (f : Fault) → Notes P x y → Notes Q y z → P f ⊎ Q f → HasNoLater z f
 least_by f p q (inl h) = q.kept f (p.least f h)
 least_by f p q (inr h) = q.least f h
 
 pub both : {P Q : Fault → Type 0} {x y z : Found} → Notes P x y → Notes Q y z → Notes (Either P Q) x z
-both p q = record { shown = λ f e. shown_by f p (q.shown f e); least = λ f h. least_by f p q h; kept = λ f h. q.kept f (p.kept f h) }
+both {P} {Q} p q = record { shown = λ f e. shown_by Q f p (q.shown f e); least = λ f h. least_by f p q h; kept = λ f h. q.kept f (p.kept f h) }
 
 -- ---- one fault
 

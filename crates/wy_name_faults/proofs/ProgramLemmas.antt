@@ -1,5 +1,5 @@
 -- The fault that is given is the first of those that a program shows.
-use Rattle.std.proofs.Common.{◌≡◌, ◌⊎◌, inl, inr, ℕ, zero, suc, Bool, true, List, [], ◌∷◌, Option, Some, None, refl, sym, ap, subst, ◌∙◌, cc}
+use Rattle.std.proofs.Common.{◌≡◌, ◌⊎◌, inl, inr, ℕ, zero, suc, Bool, true, List, [], ◌∷◌, Option, Some, None, refl, sym, ap, subst, ◌∙◌}
 use Rattle.std.specs.List.{slice_get}
 use Rattle.wy_ast.specs.SurfaceTree.{Decl}
 use Rattle.wy_scope.specs.Declarations.{behind, builtins, declared, declared_behind, entry_of, name_of, place_of, routine_count}
@@ -63,7 +63,7 @@ of_use : (mark : Edge → Bool) (es : Edges) (f : Fault) (place : ℕ) (edge : E
 of_use mark [] f place edge l m is = absurd (cc)
 of_use mark (e ∷ es) f zero edge l m is =
     let same : e ≡ edge = cc in
-    inl (ap mark same ∙ m, is ∙ ap (λ (y : Edge). record { at = y.at; cause = cause.BareRecursion }) (sym same))
+    inl (ap mark same ∙ m, subst (λ (y : Edge). f ≡ record { at = y.at; cause = cause.BareRecursion }) (sym same) is)
 of_use mark (e ∷ es) f (suc place) edge l m is = inr (of_use mark es f place edge l m is)
 
 turned : {P Q : Fault → Type 0} {x y : Found} → ((f : Fault) → P f → Q f) → ((f : Fault) → Q f → P f) → Notes P x y → Notes Q x y

@@ -5,7 +5,7 @@ use std::alloc::Global;
 /// A source, and the kinds and places of its conditions.
 type Row = (&'static str, &'static str);
 
-const ARITHMETIC: [Row; 3] = [
+const ARITHMETIC: [Row; 4] = [
     (
         "function f(int x, int y) -> (int r):\n    return -(x * y) - 1\n",
         "range 2:16, range 2:16, range 2:12, range 2:12, range 2:21, range 2:21, ",
@@ -17,6 +17,10 @@ const ARITHMETIC: [Row; 3] = [
     (
         "function f(int x) -> (bool r):\n    return x > 1 || x == 0\n",
         "",
+    ),
+    (
+        "function f(int x) -> (bool r):\n    return x > 0 && 10 / x > 1\n",
+        "divisor 2:24, range 2:24, range 2:24, ",
     ),
 ];
 
@@ -39,7 +43,11 @@ const ARRAYS: [Row; 4] = [
     ),
 ];
 
-const CONTRACTS: [Row; 4] = [
+const CONTRACTS: [Row; 5] = [
+    (
+        "type N is (int z) where z + 1 > 0\n",
+        "range 1:27, range 1:27, ",
+    ),
     (
         "type N is (int z) where z >= 0\n\
         function g(N n, int a) -> (int r)\n\
