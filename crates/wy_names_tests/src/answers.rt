@@ -23,7 +23,7 @@ impl From<AllocError> for Refusal {
 
 /// The fault of the source's names, or none where it has a core.
 pub fn resolved(alloc: Global, source: &str) -> Result<Option<NameFault>, Refusal> {
-    match answer(alloc, source)? {
+    match answer(alloc, source.as_bytes())? {
         Ok(_) => Ok(None),
         Err(fault) => Ok(Some(fault)),
     }
@@ -31,7 +31,7 @@ pub fn resolved(alloc: Global, source: &str) -> Result<Option<NameFault>, Refusa
 
 /// Whether the source has a core, and it is written so.
 pub fn has_core(alloc: Global, source: &str, text: &str) -> Result<bool, Refusal> {
-    match answer(alloc, source)? {
+    match answer(alloc, source.as_bytes())? {
         Ok(core) => {
             let mut page = Page::new(alloc);
             page.core(&core);
@@ -41,11 +41,11 @@ pub fn has_core(alloc: Global, source: &str, text: &str) -> Result<bool, Refusal
     }
 }
 
-fn answer(alloc: Global, source: &str) -> Result<Result<Core, NameFault>, Refusal> {
+fn answer(alloc: Global, source: &[u8]) -> Result<Result<Core, NameFault>, Refusal> {
     if source.len() > LONGEST {
         return Err(Refusal::Unread);
     }
-    match read(alloc, source.as_bytes()) {
+    match read(alloc, source) {
         Ok(program) => Ok(resolve(alloc, &program)),
         Err(_) => Err(Refusal::Unread),
     }

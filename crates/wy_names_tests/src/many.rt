@@ -26,10 +26,12 @@ const FUNCTIONS: Pieces = ["function f", "(int x) -> (int r):\n    return f", "(
 
 // As many declarations as there may be, the last of which leads to the first.
 fn ring(alloc: Global, pieces: Pieces) -> Result<String, AllocError> {
+    let first = pieces[0];
+    let second = pieces[1];
+    let third = pieces[2];
     let mut source = String::new(alloc);
     for number in 0..MOST {
         let next = (number + 1) % MOST;
-        let [first, second, third] = pieces;
         let line = format!(in alloc; "{first}{number}{second}{next}{third}")?;
         source.push_str(&line)?;
     }
@@ -47,7 +49,7 @@ fn doubled(alloc: Global) -> Result<String, AllocError> {
         )?;
         source.push_str(&line)?;
     }
-    let last = format!(in alloc; "property p{MOST}(int x) where x == x\n")?;
+    let last = format!(in alloc; "property p{}(int x) where x == x\n", MOST)?;
     source.push_str(&last)?;
     Ok(source)
 }
