@@ -6,5 +6,7 @@ pub mod NodeLemmas
 pub mod SizeLemmas
 -- what expressions show once properties are expanded
 pub mod ExpansionLemmas
+-- which uses are listed
+pub mod UseLemmas
 -- what programs show
 pub mod ProgramLemmas

@@ -90,6 +90,7 @@ later_cases at c g h = by (eq-or-lt_of_le (ltb-false at g.at parts.0))
   where
     parts : (nat_lt at g.at ≡ false) × ((at == g.at && nat_lt (rank c) (rank g.cause)) ≡ false)
     parts = neither (nat_lt at g.at) (at == g.at && nat_lt (rank c) (rank g.cause)) h
+
     by : (g.at ≡ at) ⊎ (g.at < at) → IsNoLater g (at_place at c)
     by (inl same) = inr (same, ltb-false (rank c) (rank g.cause) (other_false (at == g.at) (nat_lt (rank c) (rank g.cause)) (eq-eqb at g.at (sym same)) parts.1))
     by (inr less) = inl less

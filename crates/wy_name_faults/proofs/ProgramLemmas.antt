@@ -80,6 +80,7 @@ recursion_notes ds es x y n = subst (λ (z : Found). Notes (AtRecursion ds es) x
     there f h =
         let u : UseAt n.mark es f = use_of n.mark es f h in
         record { place = u.place; edge = u.edge; listed = u.listed; recurs = (n.exact u.place u.edge u.listed).0 u.marked; is = u.is }
+
     back : (f : Fault) → AtRecursion ds es f → MarkedIn n.mark es f
     back f r = of_use n.mark es f r.place r.edge r.listed ((n.exact r.place r.edge r.listed).1 r.recurs) r.is
 

@@ -35,7 +35,7 @@ many_alike : (s : Spot) (count : ℕ) (m n : Measure) → Alike m n → Alike (c
 many_alike s count m n h = by (count == 0)
   where
     by : (b : Bool) → Alike (cond b m (record { fixed = plus m.fixed (times s.times count); nodes = plus m.nodes (times s.times count); height = reached m.height s; found = m.found; uses = m.uses }))
-                            (cond b n (record { fixed = plus n.fixed (times s.times count); nodes = plus n.nodes (times s.times count); height = reached n.height s; found = n.found; uses = n.uses }))
+        (cond b n (record { fixed = plus n.fixed (times s.times count); nodes = plus n.nodes (times s.times count); height = reached n.height s; found = n.found; uses = n.uses }))
     by true = h
     by false = record { nodes = ap (λ (x : ℕ). plus x (times s.times count)) h.nodes; height = ap (λ (x : ℕ). reached x s) h.height }
 

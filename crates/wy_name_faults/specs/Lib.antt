@@ -4,5 +4,7 @@ pub mod Shown
 pub mod Nodes
 -- those that expressions show once properties are expanded
 pub mod Expansions
+-- which uses of types and properties there are
+pub mod UsesShown
 -- those of a whole program
 pub mod Programs

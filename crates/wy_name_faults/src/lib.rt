@@ -8,4 +8,7 @@
 
 mod laws;
 
-pub use laws::{a_named_program_shows_no_fault, a_program_is_refused_for_its_first_fault};
+pub use laws::{
+    a_named_program_shows_no_fault, a_program_is_refused_for_its_first_fault,
+    the_uses_listed_are_those_of_the_program,
+};
