@@ -3,7 +3,6 @@ use Rattle.std.proofs.Common.{◌≡◌, ◌⊎◌, inl, inr, ℕ, zero, suc, Bo
 use Rattle.std.specs.List.{slice_get}
 use Rattle.wy_ast.specs.SurfaceTree.{Decl}
 use Rattle.wy_scope.specs.Declarations.{behind, builtins, declared, declared_behind, entry_of, name_of, place_of, routine_count}
-use Rattle.wy_scope.specs.declared.declarations.Counts.{Counts}
 use Rattle.wy_scope.specs.declared.fault.Cause.TheVariants as cause
 use Rattle.wy_scope.specs.declared.fault.Fault.{Fault}
 use Rattle.wy_scope.specs.Faults.{Found}
@@ -30,7 +29,7 @@ use Rattle.wy_name_faults.proofs.NodeLemmas as bound
 
 -- ---- declarations
 
-named_notes : (s : Scope) (x : Found) (n : Counts) (ds : List Decl) → Notes (NamedTwice s n ds) x (declared_behind s x n ds).1
+named_notes : (s : Scope) (x : Found) (n : _) (ds : List Decl) → Notes (NamedTwice entry_of behind s n ds) x (declared_behind s x n ds).1
 named_notes s x n [] = nothing x
 named_notes s x n (d ∷ ds) = both (one (has s (name_of d)) x (place_of d) cause.Twice) (named_notes (with_name s (name_of d) (entry_of d n)) _ (behind d n) ds)
 

@@ -2,7 +2,7 @@
 use Rattle.std.specs.Prelude.{◌≡◌, ℕ, List, [], ◌∷◌, Some, slice_get}
 use Rattle.wy_ast.specs.SurfaceTree.{Decl}
 use Rattle.wy_scope.specs.Declarations.{behind, builtins, entry_of, name_of, place_of, routine_count}
-use Rattle.wy_scope.specs.declared.declarations.Counts.{Counts}
+use Rattle.wy_scope.specs.declared.table.Entry.{Entry}
 use Rattle.wy_scope.specs.declared.fault.Cause.TheVariants as cause
 use Rattle.wy_scope.specs.declared.fault.Fault.{Fault}
 use Rattle.wy_scope.specs.Scope.{Scope, has, with_name}
@@ -16,13 +16,13 @@ use Rattle.wy_name_faults.specs.Expansions as expansions
 use Rattle.wy_name_faults.specs.Nodes as nodes
 use Rattle.wy_name_faults.specs.Shown.{IsNoLater, Stands, Never, Either}
 
--- at a declaration whose name came before, of another one or of a built-in method
-abbrev pub NamedTwice : Scope → Counts → List Decl → Fault → Type 0
-NamedTwice s n [] = Never
-NamedTwice s n (d ∷ ds) = Either (Stands (has s (name_of d)) (place_of d) cause.Twice) (NamedTwice (with_name s (name_of d) (entry_of d n)) (behind d n) ds)
+-- at a declaration whose name came before, of another one or of a built-in method. What a name stands for is told by what came before it
+abbrev pub NamedTwice : {N : Type 0} → (Decl → N → Entry) → (Decl → N → N) → Scope → N → List Decl → Fault → Type 0
+NamedTwice entry next s n [] = Never
+NamedTwice entry next s n (d ∷ ds) = Either (Stands (has s (name_of d)) (place_of d) cause.Twice) (NamedTwice entry next (with_name s (name_of d) (entry d n)) (next d n) ds)
 
 abbrev pub AtName : List Decl → Fault → Type 0
-AtName ds = NamedTwice (builtins (routine_count ds)) (record { types = 0; routines = 0; decls = 0 }) ds
+AtName ds = NamedTwice entry_of behind (builtins (routine_count ds)) (record { types = 0; routines = 0; decls = 0 }) ds
 
 -- at a use by which a type recurs
 pub record AtRecursion (ds : List Decl) (es : Edges) (f : Fault) : Type 0 where
