@@ -1,6 +1,5 @@
 -- The walk that counts expansions notes exactly the faults that they show.
-use Rattle.std.proofs.Common.{◌≡◌, ◌+◌, ◌-◌, ℕ, Bool, true, false, not, ◌==◌, ◌||◌, cond, List, [], ◌∷◌, length, Option, Some, None, refl, sym, ap, subst, ◌∙◌, min, max}
-use Rattle.std.specs.Bool.{nat_lt}
+use Rattle.std.proofs.Common.{◌≡◌, ◌+◌, ◌-◌, ℕ, Bool, true, false, not, ◌==◌, cond, List, [], ◌∷◌, length, Option, Some, None, refl, sym, subst, ◌∙◌, min}
 use Rattle.std.specs.List.{slice_get}
 use Rattle.wy_ast.specs.SurfaceTree.{Ty, FieldTys, NullTy, BoolTy, IntTy, AnyTy, VoidTy, RecordTy, ArrayTy, UnionTy, InterTy, NotTy, NamedTy, NoFieldTys, MoreFieldTys}
 use Rattle.wy_ast.specs.SurfaceTree.{Expr, Exprs, Fields, Ranges, NullExpr, BoolExpr, IntExpr, TextExpr, VarExpr, CallExpr, NegExpr, NotExpr, LenExpr, BinaryExpr, IsExpr, IndexExpr, FieldExpr, ListExpr, RepeatExpr, RecordExpr, QuantExpr, NoExprs, MoreExprs, NoFields, MoreFields, NoRanges, MoreRanges}
@@ -17,17 +16,16 @@ use Rattle.wy_scope.specs.Places.{place_of_expr}
 use Rattle.wy_scope.specs.Scope.{Scope, entry_of}
 use Rattle.wy_expand.specs.declared.measure.Measure.{Measure}
 use Rattle.wy_expand.specs.declared.measure.Spot.{Spot}
-use Rattle.wy_expand.specs.declared.measure.Summary.{Summary}
 use Rattle.wy_expand.specs.declared.measure.Expansion.{Expansion}
 use Rattle.wy_expand.specs.declared.measure.Expansion.TheVariants as expansion
-use Rattle.wy_expand.specs.Measures.{plus, times, nothing, root, deeper, quantified, reached, counted_many, with_call, called, expanded, endless, used, limited}
+use Rattle.wy_expand.specs.Measures.{plus, times, nothing, root, deeper, quantified, reached, counted_many, with_call, called, expanded, limited}
 use Rattle.wy_expand.specs.Sizes as sizes
 use Rattle.wy_expand.specs.Sizes.{Known, known, inside, counted, arg_spot, behind_ranges, left_of, right_of}
 use Rattle.wy_expand.specs.Wholes as wholes
 use Rattle.wy_expand.specs.Faults as faults
 use Rattle.wy_expand.specs.Summaries.{params_of}
 use Rattle.wy_name_faults.specs.Expansions.{Wrapped, OfProperty, OfEntry, OfCall, InExpr, InExprs, InArgs, InFields, InRanges, is_over, start, Whole, EachWhole, EachArg, WholeOption, BehindFirst, EachBehindFirst, OneLabel, InLabels, InTest, InPath, InStmt, InStmts, InCases, InRoutine, InDecl, InDecls}
-use Rattle.wy_name_faults.specs.Shown.{Stands, Never, Either}
+use Rattle.wy_name_faults.specs.Shown.{Stands, Either}
 use Rattle.wy_name_faults.proofs.NotesLemmas.{Notes, nothing as none_noted, both, one}
 use Rattle.wy_name_faults.proofs.SizeLemmas.{Alike, over_alike, counted_alike, expr_alike, labels_alike}
 

@@ -4,7 +4,7 @@ use Rattle.std.specs.Prelude.{is_some}
 use Rattle.wy_ast.specs.SurfaceTree.{Ty, FieldTys, NullTy, BoolTy, IntTy, AnyTy, VoidTy, RecordTy, ArrayTy, UnionTy, InterTy, NotTy, NamedTy, NoFieldTys, MoreFieldTys}
 use Rattle.wy_ast.specs.SurfaceTree.{Expr, Exprs, Fields, Ranges, NullExpr, BoolExpr, IntExpr, TextExpr, VarExpr, CallExpr, NegExpr, NotExpr, LenExpr, BinaryExpr, IsExpr, IndexExpr, FieldExpr, ListExpr, RepeatExpr, RecordExpr, QuantExpr, NoExprs, MoreExprs, NoFields, MoreFields, NoRanges, MoreRanges}
 use Rattle.wy_ast.specs.SurfaceTree.{Step, IndexStep, FieldStep, Stmt, Stmts, Cases, DeclareStmt, AssignStmt, CallStmt, ReturnStmt, AssertStmt, BreakStmt, ContinueStmt, SkipStmt, FailStmt, IfStmt, WhileStmt, DoStmt, ForStmt, SwitchStmt, SwitchElseStmt, NoStmts, MoreStmts, NoCases, MoreCases, exprs_of}
-use Rattle.wy_ast.specs.SurfaceTree.{Param, Alias, Function, Method, Property, Decl, AliasDecl, FunctionDecl, MethodDecl, PropertyDecl}
+use Rattle.wy_ast.specs.SurfaceTree.{Param, Function, Method, Decl, AliasDecl, FunctionDecl, MethodDecl, PropertyDecl}
 use Rattle.wy_scope.specs.declared.fault.Cause.TheVariants as cause
 use Rattle.wy_scope.specs.declared.table.Entry.{Entry}
 use Rattle.wy_scope.specs.declared.table.Entry.TheVariants as entry
@@ -23,7 +23,7 @@ use Rattle.wy_bind.specs.StmtNames as stmts
 use Rattle.wy_bind.specs.StmtNames.{differ, scope_behind}
 use Rattle.wy_bind.specs.DeclNames as decls
 use Rattle.wy_bind.specs.DeclNames.{clause_context, routine_context, with_params}
-use Rattle.wy_name_faults.specs.Nodes.{InTy, InFieldTys, OfRoutine, OfProperty, OfEntry, OfCall, InExpr, InExprs, InFields, InRanges, InOption, InPath, InStmt, InStmts, InCases, InClauses, InParams, InAlias, InsideFunction, InOutcome, InsideMethod, InDecl, InDecls}
+use Rattle.wy_name_faults.specs.Nodes.{InTy, InFieldTys, OfRoutine, OfEntry, OfCall, InExpr, InExprs, InFields, InRanges, InOption, InPath, InStmt, InStmts, InCases, InClauses, InParams, InsideFunction, InOutcome, InsideMethod, InDecl, InDecls}
 use Rattle.wy_name_faults.proofs.NotesLemmas.{Notes, nothing, both, one}
 
 mutual

@@ -1,11 +1,11 @@
 -- What a walk leaves of the faults that it notes, one after the other.
-use Rattle.std.proofs.Common.{◌≡◌, ◌<◌, ◌≤◌, ◌⊎◌, inl, inr, ℕ, Bool, true, false, ◌&&◌, ◌||◌, ◌==◌, cond, Option, Some, None, refl, sym, ap, subst, ◌∙◌, arith}
+use Rattle.std.proofs.Common.{◌≡◌, ◌<◌, ◌⊎◌, inl, inr, ℕ, Bool, true, false, ◌&&◌, ◌||◌, ◌==◌, cond, Some, None, refl, sym, subst, ◌∙◌, arith}
 use Rattle.std.specs.Bool.{nat_lt}
 use Rattle.std.proofs.Math.Nat.{eq-or-lt_of_le}
 use Rattle.std.proofs.lemmas.Bool.{eqb-true, eq-eqb, ltb-true, ltb-false}
 use Rattle.wy_scope.specs.declared.fault.Cause.{Cause}
 use Rattle.wy_scope.specs.declared.fault.Fault.{Fault}
-use Rattle.wy_scope.specs.Faults.{Found, rank, goes_before, noted, noted_where}
+use Rattle.wy_scope.specs.Faults.{Found, rank, goes_before, noted_where}
 use Rattle.wy_name_faults.specs.Shown.{IsNoLater, Stands, Never, Either}
 
 -- a fault is left that stands no later

@@ -1,5 +1,5 @@
 -- The fault that is given is the first of those that a program shows.
-use Rattle.std.proofs.Common.{◌≡◌, ◌⊎◌, inl, inr, ℕ, zero, suc, Bool, true, List, [], ◌∷◌, Option, Some, None, refl, sym, ap, subst, ◌∙◌}
+use Rattle.std.proofs.Common.{◌≡◌, ◌⊎◌, inl, inr, ℕ, zero, suc, Bool, true, List, [], ◌∷◌, Some, None, refl, sym, ap, subst, ◌∙◌}
 use Rattle.std.specs.List.{slice_get}
 use Rattle.wy_ast.specs.SurfaceTree.{Decl}
 use Rattle.wy_scope.specs.Declarations.{behind, builtins, declared, declared_behind, entry_of, name_of, place_of, routine_count}
@@ -13,17 +13,14 @@ use Rattle.wy_expand.specs.Faults as expand
 use Rattle.wy_expand.specs.declared.measure.Expansion.{Expansion}
 use Rattle.wy_uses.specs.declared.edges.Edge.{Edge}
 use Rattle.wy_uses.specs.Uses.{Edges}
-use Rattle.wy_recursion.specs.Recursion.{NotesRecursion, Recurs, noted_marked}
+use Rattle.wy_recursion.specs.Recursion.{NotesRecursion, noted_marked}
 use Rattle.wy_recursion.specs.Endings.{IsOrder}
 use Rattle.wy_order.proofs.OrderLemmas.{same_summaries}
 use Rattle.wy_names.specs.Named.{expansions_of, found_before, scope_of, uses_of, Judges, IsNamed, IsRefused}
-use Rattle.wy_names.specs.NameFaults.{fault_named}
 use Rattle.wy_names.specs.declared.name_fault.NameFault.{NameFault}
-use Rattle.wy_name_faults.specs.Expansions as expansions
-use Rattle.wy_name_faults.specs.Nodes as nodes
-use Rattle.wy_name_faults.specs.Shown.{IsNoLater, Stands, Never, Either}
-use Rattle.wy_name_faults.specs.Programs.{NamedTwice, AtName, AtRecursion, Shows, IsFirst}
-use Rattle.wy_name_faults.proofs.NotesLemmas.{HasNoLater, Notes, nothing, both, one}
+use Rattle.wy_name_faults.specs.Shown.{Stands, Never, Either}
+use Rattle.wy_name_faults.specs.Programs.{NamedTwice, AtRecursion, Shows, IsFirst}
+use Rattle.wy_name_faults.proofs.NotesLemmas.{Notes, nothing, both, one}
 use Rattle.wy_name_faults.proofs.ExpansionLemmas as expanded
 use Rattle.wy_name_faults.proofs.NodeLemmas as bound
 

@@ -1,5 +1,5 @@
 -- How much is counted doesn't depend on what was found.
-use Rattle.std.proofs.Common.{◌≡◌, ◌+◌, ◌-◌, ℕ, Bool, true, false, ◌==◌, ◌||◌, cond, List, [], ◌∷◌, length, Option, Some, None, refl, sym, ap, ◌∙◌, min, max}
+use Rattle.std.proofs.Common.{◌≡◌, ◌+◌, ◌-◌, ℕ, Bool, true, false, ◌==◌, ◌||◌, cond, List, [], ◌∷◌, length, Option, Some, None, ap, ◌∙◌, min}
 use Rattle.std.specs.Bool.{nat_lt}
 use Rattle.std.specs.List.{slice_get}
 use Rattle.wy_ast.specs.SurfaceTree.{Ty, FieldTys, NullTy, BoolTy, IntTy, AnyTy, VoidTy, RecordTy, ArrayTy, UnionTy, InterTy, NotTy, NamedTy, NoFieldTys, MoreFieldTys}
@@ -11,10 +11,9 @@ use Rattle.wy_scope.specs.declared.table.Entry.TheVariants as entry
 use Rattle.wy_scope.specs.Scope.{entry_of}
 use Rattle.wy_expand.specs.declared.measure.Measure.{Measure}
 use Rattle.wy_expand.specs.declared.measure.Spot.{Spot}
-use Rattle.wy_expand.specs.declared.measure.Summary.{Summary}
 use Rattle.wy_expand.specs.declared.measure.Expansion.{Expansion}
 use Rattle.wy_expand.specs.declared.measure.Expansion.TheVariants as expansion
-use Rattle.wy_expand.specs.Measures.{plus, times, root, deeper, quantified, reached, counted_many, with_call, called, endless}
+use Rattle.wy_expand.specs.Measures.{plus, times, root, deeper, quantified, reached, counted_many, with_call, called}
 use Rattle.wy_expand.specs.Sizes as sizes
 use Rattle.wy_expand.specs.Sizes.{Known, inside, counted, arg_spot, behind_ranges, left_of, right_of}
 use Rattle.wy_expand.specs.Wholes as wholes

@@ -2,7 +2,7 @@
 use Rattle.std.specs.Prelude.{ℕ, ◌+◌, min, Bool, true, false, not, ◌||◌, ◌==◌, nat_lt, List, [], ◌∷◌, length, Option, Some, None, slice_get}
 use Rattle.wy_ast.specs.SurfaceTree.{Expr, Exprs, Fields, Ranges, NullExpr, BoolExpr, IntExpr, TextExpr, VarExpr, CallExpr, NegExpr, NotExpr, LenExpr, BinaryExpr, IsExpr, IndexExpr, FieldExpr, ListExpr, RepeatExpr, RecordExpr, QuantExpr, NoExprs, MoreExprs, NoFields, MoreFields, NoRanges, MoreRanges}
 use Rattle.wy_ast.specs.SurfaceTree.{Step, IndexStep, FieldStep, Stmt, Stmts, Cases, DeclareStmt, AssignStmt, CallStmt, ReturnStmt, AssertStmt, BreakStmt, ContinueStmt, SkipStmt, FailStmt, IfStmt, WhileStmt, DoStmt, ForStmt, SwitchStmt, SwitchElseStmt, NoStmts, MoreStmts, NoCases, MoreCases}
-use Rattle.wy_ast.specs.SurfaceTree.{Param, Decl, AliasDecl, FunctionDecl, MethodDecl, PropertyDecl}
+use Rattle.wy_ast.specs.SurfaceTree.{Decl, AliasDecl, FunctionDecl, MethodDecl, PropertyDecl}
 use Rattle.wy_scope.specs.declared.fault.Cause.TheVariants as cause
 use Rattle.wy_scope.specs.declared.fault.Fault.{Fault}
 use Rattle.wy_scope.specs.declared.table.Entry.{Entry}
@@ -14,7 +14,7 @@ use Rattle.wy_expand.specs.declared.measure.Spot.{Spot}
 use Rattle.wy_expand.specs.declared.measure.Expansion.{Expansion}
 use Rattle.wy_expand.specs.declared.measure.Expansion.TheVariants as expansion
 use Rattle.wy_expand.specs.Measures.{nothing, root, deeper, quantified}
-use Rattle.wy_expand.specs.Sizes.{Known, known, inside, counted, arg_spot, behind_ranges, left_of, right_of, in_expr, in_label}
+use Rattle.wy_expand.specs.Sizes.{Known, known, inside, counted, arg_spot, behind_ranges, left_of, right_of, in_expr}
 use Rattle.wy_expand.specs.Summaries.{params_of}
 use Rattle.wy_expand.specs.Wholes.{in_labels}
 use Rattle.wy_name_faults.specs.Shown.{Stands, Never, Either}
