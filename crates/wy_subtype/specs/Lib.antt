@@ -6,3 +6,5 @@ pub mod Numbers
 pub mod Marks
 pub mod Clausal
 pub mod Ways
+pub mod Digests
+pub mod Numbered

@@ -1,0 +1,43 @@
+-- A conjunct whose digest isn't noted isn't there, and each that is there has a place.
+use Rattle.std.proofs.Common.{◌≡◌, ℕ, zero, suc, List, [], ◌∷◌, ◌++◌, Bool, true, false, ◌||◌, Option, Some, None, refl, sym, ap, subst, ◌∙◌}
+use Rattle.std.specs.Prelude.{slice_get, is_some, nat_eq}
+use Rattle.indexmap.specs.IndexMap.{lookup}
+use Rattle.wy_types.specs.declared.conjuncts.Conjunct.{Conjunct}
+use Rattle.wy_types.specs.Claims.{EachOf}
+use Rattle.wy_types.specs.Conjuncts.{same_term}
+use Rattle.wy_types.specs.Same as same
+use Rattle.wy_types.proofs.ClaimLemmas.{each_map}
+use Rattle.wy_subtype.specs.Digests.{conjunct_digest}
+use Rattle.wy_subtype.specs.Numbered.{IsNoted, AreNoted}
+use Rattle.wy_subtype.proofs.NumberLemmas.{same_conjunct_number, some_is, each_push}
+use Rattle.wy_subtype.proofs.KnownLemmas.{conjunct_self}
+
+none_some : {X : Type 0} (o : Option X) → o ≡ None → is_some o ≡ true → ⊥
+none_some None e f = cc
+none_some (Some x) e f = cc
+
+pub none_noted : (es : List (ℕ × ℕ)) (cs : List (Conjunct ℕ)) (c : Conjunct ℕ) → AreNoted es cs → lookup (nat_eq (conjunct_digest c)) es ≡ None → same.has_conjunct same_term cs c ≡ false
+none_noted es [] c h e = refl
+none_noted es (x ∷ xs) c h e = by (same.same_conjunct same_term x c) refl
+  where
+    by : (b : Bool) → same.same_conjunct same_term x c ≡ b → same.has_conjunct same_term (x ∷ xs) c ≡ false
+    by true f = absurd (none_some (lookup (nat_eq (conjunct_digest c)) es) e (subst (λ (y : Conjunct ℕ). IsNoted es (conjunct_digest y)) (same_conjunct_number x c f) h.0))
+    by false f = rw f (none_noted es xs c h.1 e)
+
+pub has_at : (cs : List (Conjunct ℕ)) (n : ℕ) (c : Conjunct ℕ) → slice_get cs n ≡ Some c → same.has_conjunct same_term cs c ≡ true
+has_at [] n c e = absurd cc
+has_at (x ∷ xs) zero c e =
+    let s : same.same_conjunct same_term x c ≡ true = subst (λ (y : Conjunct ℕ). same.same_conjunct same_term x y ≡ true) (some_is (Some x) x c refl e) (conjunct_self x) in
+    rw s refl
+has_at (x ∷ xs) (suc n) c e = by (same.same_conjunct same_term x c) (has_at xs n c e)
+  where
+    by : (b : Bool) → same.has_conjunct same_term xs c ≡ true → (b || same.has_conjunct same_term xs c) ≡ true
+    by true f = refl
+    by false f = f
+
+-- what is noted stays noted, so each conjunct that was there is
+pub noted_still : (es fs : List (ℕ × ℕ)) (cs : List (Conjunct ℕ)) → ((d : ℕ) → IsNoted es d → IsNoted fs d) → AreNoted es cs → AreNoted fs cs
+noted_still es fs cs f h = each_map (λ c. IsNoted es (conjunct_digest c)) (λ c. IsNoted fs (conjunct_digest c)) cs (λ c n. f (conjunct_digest c) n) h
+
+pub noted_more : (es fs : List (ℕ × ℕ)) (cs : List (Conjunct ℕ)) (c : Conjunct ℕ) → ((d : ℕ) → IsNoted es d → IsNoted fs d) → AreNoted es cs → IsNoted fs (conjunct_digest c) → AreNoted fs (cs ++ c ∷ [])
+noted_more es fs cs c f h n = each_push (λ (x : Conjunct ℕ). IsNoted fs (conjunct_digest x)) cs c (noted_still es fs cs f h) n
