@@ -56,7 +56,7 @@ atoms_self : (xs : List (Atom ℕ)) → same.same_atoms same_term xs xs ≡ true
 atoms_self [] = refl
 atoms_self (x ∷ xs) = two_true (same.same_atom same_term x x) (same.same_atoms same_term xs xs) (atom_self x) (atoms_self xs)
 
-pub conjunct_self : (c : Conjunct ℕ) → same.same_conjunct same_term c c ≡ true
+conjunct_self : (c : Conjunct ℕ) → same.same_conjunct same_term c c ≡ true
 conjunct_self c = two_true (same.same_atom same_term c.positive c.positive) (same.same_atoms same_term c.negatives c.negatives) (atom_self c.positive) (atoms_self c.negatives)
 
 not_has : (cs : List (Conjunct ℕ)) (c : Conjunct ℕ) → same.has_conjunct same_term cs c ≡ false → IsIn c cs → ⊥

@@ -1,6 +1,5 @@
 pub mod NumberLemmas
 pub mod KnownLemmas
-pub mod NumberedLemmas
 pub mod NarrowLemmas
 pub mod MarkLemmas
 pub mod ValueLemmas

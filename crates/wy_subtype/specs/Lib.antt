@@ -6,5 +6,3 @@ pub mod Numbers
 pub mod Marks
 pub mod Clausal
 pub mod Ways
-pub mod Digests
-pub mod Numbered

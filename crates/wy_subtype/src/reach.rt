@@ -8,10 +8,11 @@ ghost use Rattle.wy_types.specs.Reach.{Reaches, IsNeeded, IsWide};
 ghost use Rattle.wy_types.specs.Same as same;
 
 use crate::asks::options_of;
-use crate::numbered::{NumberedConjuncts, NumberedParts};
 use crate::ways::few_ways;
 use std::alloc::{AllocError, Global};
-use wy_canon::{LIMIT, TypeFault, copy_conjunct, copy_terms, dnf_part};
+use wy_canon::{
+    LIMIT, NumberedConjuncts, NumberedParts, TypeFault, copy_conjunct, copy_terms, dnf_part,
+};
 use wy_items::Items;
 use wy_types::{Conjunct, Signed, Table};
 

@@ -3,7 +3,7 @@ use Rattle.std.specs.Prelude.{◌≡◌, ℕ, List, true, is_some, nat_eq}
 use Rattle.indexmap.specs.IndexMap.{lookup}
 use Rattle.wy_types.specs.declared.conjuncts.Conjunct.{Conjunct}
 use Rattle.wy_types.specs.Claims.{EachOf}
-use Rattle.wy_subtype.specs.Digests.{conjunct_digest}
+use Rattle.wy_canon.specs.Digests.{conjunct_digest}
 
 -- some place is noted for the digest
 abbrev pub IsNoted : List (ℕ × ℕ) → ℕ → Type 0

@@ -1,7 +1,7 @@
 //! Numbers by which parts and conjuncts are found: equal ones have one number. Others seldom share it,
 //! and what shares it is compared.
 ghost use Rattle.std.specs.Prelude.{◌≡◌};
-ghost use Rattle.wy_subtype.specs.Digests as digests;
+ghost use Rattle.wy_canon.specs.Digests as digests;
 
 use wy_data::Name;
 use wy_types::{Atom, Conjunct, Part, Signed};

@@ -1,9 +1,9 @@
 //! Parts and conjuncts by number, found by their digests.
-ghost use Rattle.std.specs.Prelude.{◌≡◌, ℕ, true, ◌++◌, ◌∷◌, [], length, Some, IfSome, OnOk, OnErr, slice_get, is_some};
+ghost use Rattle.std.specs.Prelude.{◌≡◌, ℕ, true, ◌<◌, ◌++◌, ◌∷◌, [], length, Some, IfSome, IfOk, OnOk, OnErr, slice_get, is_some};
 ghost use Rattle.std.specs.Option.{option_copied};
 ghost use Rattle.wy_types.specs.Conjuncts.{same_term};
 ghost use Rattle.wy_types.specs.Same as same;
-ghost use Rattle.wy_subtype.specs.Numbered.{IsNoted};
+ghost use Rattle.wy_canon.specs.Numbered.{AreNoted, IsNoted};
 
 use crate::digests::{conjunct_digest, part_digest};
 use indexmap::IndexMap;
@@ -36,25 +36,28 @@ impl Model for NumberedParts {
 }
 
 impl Model for NumberedConjuncts {
-    ghost use Rattle.std.specs.Prelude.{List, ℕ};
+    ghost use Rattle.std.specs.Prelude.{List, ℕ, ◌<◌, length};
     ghost use Rattle.wy_types.specs.declared.conjuncts.Conjunct.{Conjunct};
-    ghost use Rattle.wy_subtype.specs.Numbered.{AreNoted};
+    ghost use Rattle.wy_canon.specs.Numbered.{AreNoted};
 
     ghost Value = { List (Conjunct ℕ) };
 
     ghost view = { λ all. all.row };
 
-    ghost invariant = { λ all. AreNoted all.places.entries all.row };
+    ghost invariant = { λ all. 16 < length all.row → AreNoted all.places.entries all.row };
 }
 
-#[tactic(auto, using(crate::proofs::NumberLemmas::same_terms_is))]
+/// How many conjuncts are looked through one by one.
+const FEW: usize = 16;
+
+#[tactic(auto, using(crate::proofs::NumberedLemmas::same_terms_is))]
 fn is_same_part(a: &[Signed<u32>], b: &[Signed<u32>]) -> bool
     ensures { result ≡ true → a.now ≡ b.now }
 {
     same_terms(a, b)
 }
 
-#[tactic(auto, using(crate::proofs::NumberLemmas::same_conjunct_number))]
+#[tactic(auto, using(crate::proofs::NumberedLemmas::same_conjunct_number))]
 fn is_same_conjunct(a: &Conjunct<u32>, b: &Conjunct<u32>) -> bool
     ensures value { result ≡ same.same_conjunct same_term a.now b.now }
     ensures sound { result ≡ true → a.now ≡ b.now }
@@ -87,15 +90,6 @@ fn place_of_conjunct(conjuncts: &[Conjunct<u32>], conjunct: &Conjunct<u32>) -> O
     None
 }
 
-// Notes a place for a digest. What was noted stays so.
-fn note(places: &mut IndexMap<u64, u32>, digest: u64, number: u32) -> Result<(), AllocError>
-    ensures keeps { (d : ℕ) → IsNoted places.old.entries d → IsNoted places.new.entries d }
-    ensures noted { OnOk result (IsNoted places.new.entries digest) }
-{
-    places.insert(digest, number)?;
-    Ok(())
-}
-
 // Whether the part at this place is this one.
 fn has_part_at(parts: &[Items<Signed<u32>>], at: usize, part: &[Signed<u32>]) -> bool
     ensures { result ≡ true → slice_get parts.now at ≡ Some part.now }
@@ -113,6 +107,49 @@ fn has_conjunct_at(conjuncts: &[Conjunct<u32>], at: usize, conjunct: &Conjunct<u
     match conjuncts.get(at) {
         None => false,
         Some(other) => is_same_conjunct(other, conjunct),
+    }
+}
+
+// Notes a place for a digest. What was noted stays so.
+fn note(places: &mut IndexMap<u64, u32>, digest: u64, number: u32) -> Result<(), AllocError>
+    ensures keeps { (d : ℕ) → IsNoted places.old.entries d → IsNoted places.new.entries d }
+    ensures noted { OnOk result (IsNoted places.new.entries digest) }
+{
+    places.insert(digest, number)?;
+    Ok(())
+}
+
+// Notes a place for each of the conjuncts. What was noted stays so.
+fn note_all(places: &mut IndexMap<u64, u32>, conjuncts: &[Conjunct<u32>]) -> Result<(), AllocError>
+    ensures keeps { (d : ℕ) → IsNoted places.old.entries d → IsNoted places.new.entries d }
+    ensures noted { OnOk result (AreNoted places.new.entries conjuncts.now) }
+{
+    for (number, conjunct) in conjuncts.iter().enumerate() {
+        match u32::try_from(number) {
+            Err(_) => return Err(AllocError),
+            Ok(number) => note(places, conjunct_digest(conjunct), number)?,
+        }
+    }
+    Ok(())
+}
+
+// Notes a place for one conjunct behind these, and for these where they are no more than are looked
+// through one by one. What was noted stays so.
+fn note_more(
+    places: &mut IndexMap<u64, u32>,
+    conjuncts: &[Conjunct<u32>],
+    conjunct: &Conjunct<u32>,
+) -> Result<(), AllocError>
+    requires { 16 < length conjuncts.now → AreNoted places.old.entries conjuncts.now }
+    ensures keeps { (d : ℕ) → IsNoted places.old.entries d → IsNoted places.new.entries d }
+    ensures noted { OnOk result (AreNoted places.new.entries (conjuncts.now ++ conjunct.now ∷ [])) }
+{
+    if conjuncts.len() <= FEW {
+        note_all(places, conjuncts)?;
+    }
+    match u32::try_from(conjuncts.len()) {
+        Err(_) => Err(AllocError),
+        Ok(number) => note(places, conjunct_digest(conjunct), number),
     }
 }
 
@@ -174,12 +211,35 @@ impl NumberedConjuncts {
         }
     }
 
-    /// The place of an equal conjunct, in expected time linear in its size. Where another conjunct
-    /// has its digest, each conjunct is compared.
+    /// These conjuncts, in expected time linear in their size.
+    pub fn from_items(
+        alloc: Global,
+        row: Items<Conjunct<u32>>,
+    ) -> Result<NumberedConjuncts, AllocError>
+        ensures value { IfOk result (λ made. made ≡ row) }
+    {
+        let mut places = IndexMap::new(alloc);
+        note_all(&mut places, row.as_slice())?;
+        Ok(NumberedConjuncts { row, places })
+    }
+
+    /// The conjuncts alone. It takes no memory.
+    pub fn into_items(self) -> Items<Conjunct<u32>>
+        ensures value { result ≡ self }
+    {
+        let NumberedConjuncts { row, places: _ } = self;
+        row
+    }
+
+    /// The place of an equal conjunct, in expected time linear in its size. Where there are at most
+    /// 16, and where another conjunct has its digest, each is compared.
     pub fn place(&self, conjunct: &Conjunct<u32>) -> Option<usize>
         ensures found { IfSome result (λ n. slice_get self.now n ≡ Some conjunct.now) }
         ensures whether { is_some result ≡ same.has_conjunct same_term self.now conjunct.now }
     {
+        if self.row.len() <= FEW {
+            return place_of_conjunct(self.row.as_slice(), conjunct);
+        }
         let near = match self.places.get(&conjunct_digest(conjunct)) {
             None => return None,
             Some(near) => *near as usize,
@@ -195,12 +255,11 @@ impl NumberedConjuncts {
         ensures ok { OnOk result (self.new ≡ self.old ++ conjunct ∷ []) }
         ensures err { OnErr result (self.new ≡ self.old) }
     {
-        let digest = conjunct_digest(&conjunct);
-        if let Ok(number) = u32::try_from(self.row.len()) {
-            note(&mut self.places, digest, number)?;
+        if self.row.len() < FEW {
             return self.row.push(conjunct);
         }
-        Err(AllocError)
+        note_more(&mut self.places, self.row.as_slice(), &conjunct)?;
+        self.row.push(conjunct)
     }
 
     /// The conjunct with this number, in constant time.

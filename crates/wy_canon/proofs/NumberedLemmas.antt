@@ -6,15 +6,32 @@ use Rattle.wy_types.specs.declared.conjuncts.Conjunct.{Conjunct}
 use Rattle.wy_types.specs.Claims.{EachOf}
 use Rattle.wy_types.specs.Conjuncts.{same_term}
 use Rattle.wy_types.specs.Same as same
-use Rattle.wy_types.proofs.ClaimLemmas.{each_map}
-use Rattle.wy_subtype.specs.Digests.{conjunct_digest}
-use Rattle.wy_subtype.specs.Numbered.{IsNoted, AreNoted}
-use Rattle.wy_subtype.proofs.NumberLemmas.{same_conjunct_number, some_is, each_push}
-use Rattle.wy_subtype.proofs.KnownLemmas.{conjunct_self}
+use Rattle.wy_types.specs.declared.conjuncts.Signed.{Signed}
+use Rattle.wy_types.specs.NodeLaws.{same_terms_are, same_conjunct_is, same_term_is, node_self}
+use Rattle.wy_types.specs.declared.table.Node.TheVariants as node
+use Rattle.wy_types.proofs.TruthLemmas.{both}
+use Rattle.wy_types.proofs.ClaimLemmas.{each_map, each_append}
+use Rattle.wy_canon.specs.Digests.{conjunct_digest}
+use Rattle.wy_canon.specs.Numbered.{IsNoted, AreNoted}
+
+pub same_terms_is : (xs ys : List (Signed ℕ)) → same.same_terms same_term xs ys ≡ true → xs ≡ ys
+same_terms_is xs ys e = same_terms_are same_term same_term_is xs ys e
+
+pub same_conjunct_number : (x y : Conjunct ℕ) → same.same_conjunct same_term x y ≡ true → x ≡ y
+same_conjunct_number x y e = same_conjunct_is same_term same_term_is x y e
+
+some_is : {X : Type 0} (x y : X) → Some x ≡ Some y → x ≡ y
+some_is x y e = cc
+
+each_push : {X : Type 0} (P : X → Type 0) (xs : List X) (x : X) → EachOf P xs → P x → EachOf P (xs ++ x ∷ [])
+each_push P xs x h p = each_append P xs (x ∷ []) h (p, tt)
 
 none_some : {X : Type 0} (o : Option X) → o ≡ None → is_some o ≡ true → ⊥
 none_some None e f = cc
 none_some (Some x) e f = cc
+
+conjunct_self : (c : Conjunct ℕ) → same.same_conjunct same_term c c ≡ true
+conjunct_self c = (both (same.same_conjunct same_term c c) true (node_self (node.Normal (c ∷ [])))).0
 
 pub none_noted : (es : List (ℕ × ℕ)) (cs : List (Conjunct ℕ)) (c : Conjunct ℕ) → AreNoted es cs → lookup (nat_eq (conjunct_digest c)) es ≡ None → same.has_conjunct same_term cs c ≡ false
 none_noted es [] c h e = refl
@@ -27,7 +44,7 @@ none_noted es (x ∷ xs) c h e = by (same.same_conjunct same_term x c) refl
 pub has_at : (cs : List (Conjunct ℕ)) (n : ℕ) (c : Conjunct ℕ) → slice_get cs n ≡ Some c → same.has_conjunct same_term cs c ≡ true
 has_at [] n c e = absurd cc
 has_at (x ∷ xs) zero c e =
-    let s : same.same_conjunct same_term x c ≡ true = subst (λ (y : Conjunct ℕ). same.same_conjunct same_term x y ≡ true) (some_is (Some x) x c refl e) (conjunct_self x) in
+    let s : same.same_conjunct same_term x c ≡ true = subst (λ (y : Conjunct ℕ). same.same_conjunct same_term x y ≡ true) (some_is x c e) (conjunct_self x) in
     rw s refl
 has_at (x ∷ xs) (suc n) c e = by (same.same_conjunct same_term x c) (has_at xs n c e)
   where
