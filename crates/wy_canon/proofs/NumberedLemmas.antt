@@ -1,7 +1,7 @@
 -- A conjunct whose digest isn't noted isn't there, and each that is there has a place.
-use Rattle.std.proofs.Common.{◌≡◌, ℕ, zero, suc, List, [], ◌∷◌, ◌++◌, Bool, true, false, ◌||◌, Option, Some, None, refl, sym, ap, subst, ◌∙◌}
+use Rattle.std.proofs.Common.{◌≡◌, ℕ, zero, suc, List, [], ◌∷◌, ◌++◌, Bool, true, false, cond, ◌||◌, Option, Some, None, refl, sym, ap, subst, ◌∙◌}
 use Rattle.std.specs.Prelude.{slice_get, is_some, nat_eq}
-use Rattle.indexmap.specs.IndexMap.{lookup}
+use Rattle.std.specs.Map.{lookup}
 use Rattle.wy_types.specs.declared.conjuncts.Conjunct.{Conjunct}
 use Rattle.wy_types.specs.Claims.{EachOf}
 use Rattle.wy_types.specs.Conjuncts.{same_term}
@@ -58,3 +58,13 @@ noted_still es fs cs f h = each_map (λ c. IsNoted es (conjunct_digest c)) (λ c
 
 pub noted_more : (es fs : List (ℕ × ℕ)) (cs : List (Conjunct ℕ)) (c : Conjunct ℕ) → ((d : ℕ) → IsNoted es d → IsNoted fs d) → AreNoted es cs → IsNoted fs (conjunct_digest c) → AreNoted fs (cs ++ c ∷ [])
 noted_more es fs cs c f h n = each_push (λ (x : Conjunct ℕ). IsNoted fs (conjunct_digest x)) cs c (noted_still es fs cs f h) n
+
+-- ---- a place more
+
+-- what an entry for a digest changes
+pub noted_keeps : (es fs : List (ℕ × ℕ)) (k w : ℕ) → ((q : ℕ) → lookup (nat_eq q) fs ≡ cond (nat_eq k q) (Some w) (lookup (nat_eq q) es)) → (d : ℕ) → IsNoted es d → IsNoted fs d
+noted_keeps es fs k w f d h = subst (λ (o : Option ℕ). is_some o ≡ true) (sym (f d)) (by (nat_eq k d) h)
+  where
+    by : (b : Bool) → is_some (lookup (nat_eq d) es) ≡ true → is_some (cond b (Some w) (lookup (nat_eq d) es)) ≡ true
+    by true e = refl
+    by false e = e

@@ -1,6 +1,6 @@
 -- Conjuncts that are found by their digests.
 use Rattle.std.specs.Prelude.{◌≡◌, ℕ, List, true, is_some, nat_eq}
-use Rattle.indexmap.specs.IndexMap.{lookup}
+use Rattle.std.specs.Map.{lookup}
 use Rattle.wy_types.specs.declared.conjuncts.Conjunct.{Conjunct}
 use Rattle.wy_types.specs.Claims.{EachOf}
 use Rattle.wy_canon.specs.Digests.{conjunct_digest}

@@ -7,6 +7,7 @@ use wy_data::Name;
 use wy_types::{Atom, Conjunct, Part, Signed};
 
 // The digest with one number more.
+#[tactic(auto, unfolding(crate::specs::Digests::mixed))]
 fn mixed(digest: u64, number: u64) -> u64
     ensures value { result ≡ digests.mixed digest number }
 {

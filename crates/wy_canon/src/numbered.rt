@@ -133,8 +133,20 @@ fn note_all(places: &mut IndexMap<u64, u32>, conjuncts: &[Conjunct<u32>]) -> Res
     Ok(())
 }
 
-// Notes a place for one conjunct behind these, and for these where they are no more than are looked
-// through one by one. What was noted stays so.
+// Notes a place for each of the conjuncts where they are no more than are looked through one by one.
+// What was noted stays so.
+fn note_few(places: &mut IndexMap<u64, u32>, conjuncts: &[Conjunct<u32>]) -> Result<(), AllocError>
+    requires { 16 < length conjuncts.now → AreNoted places.old.entries conjuncts.now }
+    ensures keeps { (d : ℕ) → IsNoted places.old.entries d → IsNoted places.new.entries d }
+    ensures noted { OnOk result (AreNoted places.new.entries conjuncts.now) }
+{
+    if conjuncts.len() <= FEW {
+        return note_all(places, conjuncts);
+    }
+    Ok(())
+}
+
+// Notes a place for these conjuncts and for one behind them. What was noted stays so.
 fn note_more(
     places: &mut IndexMap<u64, u32>,
     conjuncts: &[Conjunct<u32>],
@@ -144,9 +156,7 @@ fn note_more(
     ensures keeps { (d : ℕ) → IsNoted places.old.entries d → IsNoted places.new.entries d }
     ensures noted { OnOk result (AreNoted places.new.entries (conjuncts.now ++ conjunct.now ∷ [])) }
 {
-    if conjuncts.len() <= FEW {
-        note_all(places, conjuncts)?;
-    }
+    note_few(places, conjuncts)?;
     match u32::try_from(conjuncts.len()) {
         Err(_) => Err(AllocError),
         Ok(number) => note(places, conjunct_digest(conjunct), number),
@@ -227,7 +237,10 @@ impl NumberedConjuncts {
     pub fn into_items(self) -> Items<Conjunct<u32>>
         ensures value { result ≡ self }
     {
-        let NumberedConjuncts { row, places: _ } = self;
+        let NumberedConjuncts {
+            row,
+            places: _places,
+        } = self;
         row
     }
 
