@@ -1,5 +1,5 @@
-//! Inclusion and emptiness: questions within the limits, one table for several, and a merge at its
-//! limit.
+//! Inclusion and emptiness: questions within the limits, one table for several, and a merge and the
+//! ways of a record at their limits.
 use crate::reading::{declared, named, read};
 use std::alloc::{AllocError, Global};
 use std::test::Fail;
@@ -63,17 +63,22 @@ fn types_have_values(rt: HostRuntime) -> Result<(), TypeFault> {
     Ok(())
 }
 
+// The records of one field that no other number has.
+fn one(alloc: Global, number: usize) -> Result<Ty, AllocError> {
+    let name = format!(in alloc; "a{number}")?;
+    let kind = named(alloc, name.as_str(), read(alloc, "i")?)?;
+    Ok(Ty { at: 0, kind })
+}
+
 // A union of so many records of one field each, whose names no other has.
 fn records(alloc: Global, first: usize, count: usize) -> Result<Ty, AllocError> {
     let mut all = read(alloc, "V")?;
     for number in first..first.saturating_add(count) {
-        let name = format!(in alloc; "a{number}")?;
-        let kind = named(alloc, name.as_str(), read(alloc, "i")?)?;
-        let one = Boxed::new(alloc, Ty { at: 0, kind })?;
+        let next = Boxed::new(alloc, one(alloc, number)?)?;
         let before = Boxed::new(alloc, all)?;
         all = Ty {
             at: 0,
-            kind: TyKind::Union(before, one),
+            kind: TyKind::Union(before, next),
         };
     }
     Ok(all)
@@ -95,6 +100,73 @@ fn wide_types_are_refused(rt: HostRuntime) -> Result<(), TypeFault> {
             Ok(no) => {
                 assert!(rt; answers);
                 assert!(rt; no);
+            }
+            Err(TypeFault::TypeWide) => assert!(rt; !answers),
+            Err(TypeFault::NoMemory) => {}
+        }
+    }
+    Ok(())
+}
+
+// What is in so many of them, from this number on.
+fn inside(alloc: Global, first: usize, count: usize) -> Result<Ty, AllocError> {
+    let mut all = read(alloc, "A")?;
+    for number in first..first.saturating_add(count) {
+        let next = Boxed::new(alloc, one(alloc, number)?)?;
+        let before = Boxed::new(alloc, all)?;
+        all = Ty {
+            at: 0,
+            kind: TyKind::Inter(before, next),
+        };
+    }
+    Ok(all)
+}
+
+// The type without the other.
+fn without(alloc: Global, ty: Ty, other: Ty) -> Result<Ty, AllocError> {
+    let kind = TyKind::Not(Boxed::new(alloc, other)?);
+    let denied = Boxed::new(alloc, Ty { at: 0, kind })?;
+    let ty = Boxed::new(alloc, ty)?;
+    Ok(Ty {
+        at: 0,
+        kind: TyKind::Inter(ty, denied),
+    })
+}
+
+fn field(alloc: Global, ty: Ty) -> Result<Ty, AllocError> {
+    let kind = named(alloc, "f", ty)?;
+    Ok(Ty { at: 0, kind })
+}
+
+// The records whose field is none of the first 300, without records whose field is in all of so many
+// of them: a way for each choice of one of each.
+fn ways(alloc: Global, counts: &[usize]) -> Result<Ty, AllocError> {
+    let mut none = read(alloc, "A")?;
+    for number in 0..300usize {
+        none = without(alloc, none, one(alloc, number)?)?;
+    }
+    let mut all = field(alloc, none)?;
+    let mut first = 0usize;
+    for count in counts {
+        let some = inside(alloc, first, *count)?;
+        all = without(alloc, all, field(alloc, some)?)?;
+        first = first.saturating_add(*count);
+    }
+    Ok(all)
+}
+
+// A record with 16,384 ways is taken apart, and one with 16,385 isn't.
+#[test]
+fn records_of_many_ways_are_refused(rt: HostRuntime) -> Result<(), TypeFault> {
+    let alloc = rt.alloc();
+    let names = declared(alloc)?;
+    let few = ways(alloc, &[128, 128])?;
+    let many = ways(alloc, &[5, 29, 113])?;
+    for (ty, answers) in [(&few, true), (&many, false)] {
+        match empty(alloc, &names, ty) {
+            Ok(no) => {
+                assert!(rt; answers);
+                assert!(rt; !no);
             }
             Err(TypeFault::TypeWide) => assert!(rt; !answers),
             Err(TypeFault::NoMemory) => {}
