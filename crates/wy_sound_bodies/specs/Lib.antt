@@ -1,0 +1,2 @@
+-- the law of bodies
+pub mod Bodies
