@@ -3,3 +3,4 @@ pub mod TurnLemmas
 pub mod CallLemmas
 pub mod StartLemmas
 pub mod RunLemmas
+pub mod ShareLemmas

@@ -1,12 +1,15 @@
 //! The instructions that call and return.
-ghost use Rattle.std.specs.Prelude.{◌≡◌, ◌≤◌, ◌<◌, ◌+◌, ◌∷◌, [], ◌++◌, ℕ, List, Option, reverse, IfOk, OnOk, OnErr, length, vec_len, vec_capacity};
+ghost use Rattle.std.specs.Prelude.{◌≡◌, ◌≤◌, ◌<◌, ◌+◌, ◌-◌, ◌∷◌, [], ◌++◌, ℕ, List, Option, reverse, IfOk, OnOk, OnErr, length, vec_len, vec_capacity};
 ghost use Rattle.wy_value.specs.Datum.{Datum};
 ghost use Rattle.wy_heap.specs.declared.part.Part.{Part};
 ghost use Rattle.wy_heap.specs.Nodes.{map_of};
 ghost use Rattle.wy_heap.specs.Meaning.{Means};
 ghost use Rattle.wy_heap.specs.Standing.{Stands, AreHeld};
 ghost use Rattle.wy_code.specs.declared.instructions.Instr.{Instr};
+ghost use Rattle.wy_mach_instructions.specs.Taking.{nulls};
+ghost use Rattle.wy_mach_instructions.specs.Sharing.{Spares};
 ghost use Rattle.wy_mach.specs.States.{places_of, places_below, callers_of};
+ghost use Rattle.wy_mach.specs.Sharing.{SharesCall, SharesReturn};
 ghost use Rattle.wy_mach.specs.Running.{TurnsBy, Turned, KeepsRest, HasTextOf, Enters, Resumes, IsEnd, next_by};
 
 use crate::frames::{Caller, Frame, leave};
@@ -30,6 +33,7 @@ impl Machine {
         ensures stands { Stands self.new.heap (places_of self.new) }
         ensures kept { KeepsRest self.old self.new }
         ensures turned { IfOk result (λ turn. (before : Option (List ℕ)) (failed : ℕ) → Turned (next_by code.now (Instr.Call to number numbers.now)) self.old self.new before before failed failed turn) }
+        ensures shares { IfOk result (λ turn. turn ≡ Turn.Went → SharesCall code.now self.old self.new to number numbers.now) }
     {
         let Some(routine) = code.routines.get(number as usize) else {
             return Ok(Turn::Stuck);
@@ -62,6 +66,7 @@ impl Machine {
         ensures stands { Stands self.new.heap (places_of self.new) }
         ensures kept { KeepsRest self.old self.new }
         ensures entered { OnOk result (Enters self.old self.new number to registers arguments.items) }
+        ensures registers { OnOk result (self.new.frame.registers.items ≡ arguments.items ++ nulls (registers - length arguments.items)) }
         ensures went { IfOk result (λ turn. turn ≡ Turn.Went) }
     {
         match entry_registers(registers, arguments) {
@@ -101,6 +106,7 @@ impl Machine {
         ensures stands { Stands self.new.heap (places_of self.new) }
         ensures kept { KeepsRest self.old self.new }
         ensures turned { IfOk result (TurnsBy (Instr.Return from) self.old self.new) }
+        ensures shares { IfOk result (λ turn. turn ≡ Turn.Went → SharesReturn self.old self.new from) }
     {
         if from as usize >= self.frame.registers.len() {
             return Ok(Turn::Stuck);
@@ -119,6 +125,7 @@ impl Machine {
     fn resume(&mut self, caller: Caller, given: Place)
         requires stands { Stands self.old.heap (given ∷ (self.old.frame.registers.items ++ (caller.frame.registers.items ++ places_below (callers_of self.old)))) }
         ensures resumed { Resumes self.old self.new caller given }
+        ensures spares { Spares self.old.heap self.new.heap }
         ensures kept { KeepsRest self.old self.new }
     {
         let Caller { frame, target } = caller;

@@ -5,6 +5,7 @@ ghost use Rattle.wy_code.specs.declared.routines.Code.{Code};
 ghost use Rattle.wy_code.specs.declared.instructions.Instr.{Instr};
 ghost use Rattle.wy_mach.specs.States.{IsMachine, places_of, places_below};
 ghost use Rattle.wy_mach.specs.Running.{Turned, TurnsBy, IsPlain, HasInt, KeepsRest, MayTakeMemory, MayWantMemory, next_in, next_by, instr_of};
+ghost use Rattle.wy_mach.specs.Sharing.{SameHeld, SharesPlain, WentBy, WentOnBy};
 
 use crate::frames::{Caller, Frame, leave};
 use crate::plain::plain;
@@ -53,6 +54,7 @@ impl Machine {
         requires is { IsMachine code.now self.old }
         ensures is { IsMachine code.now self.new }
         ensures turned { IfOk result (Turned (next_in code.now) self.old self.new (O.taken out.old) (O.taken out.new) (O.faults out.old) (O.faults out.new)) }
+        ensures shares { IfOk result (WentOnBy code.now (instr_of code.now self.old) self.old self.new) }
         ensures no_memory { OnErr result (MayWantMemory (instr_of code.now self.old)) }
         ensures nothing { OnErr result (O.taken out.new ≡ O.taken out.old) }
         ensures count { O.faults out.old ≤ O.faults out.new }
@@ -78,6 +80,7 @@ impl Machine {
         ensures stands { Stands self.new.heap (places_of self.new) }
         ensures kept { KeepsRest self.old self.new }
         ensures turned { IfOk result (Turned (next_by code.now instr.now) self.old self.new (O.taken out.old) (O.taken out.new) (O.faults out.old) (O.faults out.new)) }
+        ensures shares { IfOk result (WentBy code.now instr.now self.old self.new) }
         ensures no_memory { OnErr result (MayTakeMemory instr.now) }
         ensures nothing { OnErr result (O.taken out.new ≡ O.taken out.old) }
         ensures count { O.faults out.old ≤ O.faults out.new }
@@ -107,6 +110,7 @@ impl Machine {
         ensures stands { Stands self.new.heap (places_of self.new) }
         ensures kept { KeepsRest self.old self.new }
         ensures turned { IfOk result (λ turn. (before : Option (List ℕ)) (failed : ℕ) → Turned (next_by code.now instr.now) self.old self.new before before failed failed turn) }
+        ensures shares { IfOk result (λ turn. turn ≡ Turn.Went → SharesPlain instr.now self.old self.new) }
         ensures no_memory { OnErr result (MayTakeMemory instr.now) }
     {
         let alloc = self.alloc;
@@ -135,6 +139,7 @@ impl Machine {
         ensures stands { Stands self.new.heap (places_of self.new) }
         ensures kept { KeepsRest self.old self.new }
         ensures turned { TurnsBy (Instr.Branch from to) self.old self.new result }
+        ensures shares { SameHeld self.old self.new }
     {
         match truth(&self.heap, self.frame.registers.as_slice(), from) {
             Some(true) => {
@@ -156,6 +161,7 @@ impl Machine {
         ensures stands { Stands self.new.heap (places_of self.new) }
         ensures kept { KeepsRest self.old self.new }
         ensures turned { (code : Code) → Turned (next_by code (Instr.Print from)) self.old self.new (O.taken out.old) (O.taken out.new) (O.faults out.old) (O.faults out.new) result }
+        ensures shares { SameHeld self.old self.new }
         ensures count { O.faults out.old ≤ O.faults out.new }
     {
         match print(&self.heap, self.frame.registers.as_slice(), from, out) {
@@ -175,6 +181,7 @@ impl Machine {
         ensures stands { Stands self.new.heap (places_of self.new) }
         ensures kept { KeepsRest self.old self.new }
         ensures turned { (code : Code) → Turned (next_by code (Instr.PrintInt from)) self.old self.new (O.taken out.old) (O.taken out.new) (O.faults out.old) (O.faults out.new) result }
+        ensures shares { SameHeld self.old self.new }
         ensures count { O.faults out.old ≤ O.faults out.new }
     {
         match print_int(&self.heap, self.frame.registers.as_slice(), from, out) {

@@ -7,6 +7,7 @@ ghost use Rattle.wy_heap.specs.Standing.{SameTable};
 ghost use Rattle.wy_step.specs.Step.{effect};
 ghost use Rattle.wy_mach_instructions.specs.Showing.{WentOn, HasNone, IsStop, Turns, AreRegisters};
 ghost use Rattle.wy_mach.specs.Running.{IsPlain, IsMoving, HasInt, MayTakeMemory, stop_result};
+ghost use Rattle.wy_mach.specs.Sharing.{SharesIn};
 
 use std::alloc::Global;
 use wy_code::Instr;
@@ -34,6 +35,7 @@ pub(crate) fn plain(
     requires int { HasInt instr.now }
     ensures turns { Turns heap.old heap.new registers.old registers.new }
     ensures value { OnOk result (WentOn (map_of heap.old) (map_of heap.new) registers.old registers.new (effect shapes.now instr.now)) }
+    ensures shares { OnOk result (SharesIn instr.now heap.old heap.new registers.old registers.new) }
     ensures stop { IfErr result (IsStop (map_of heap.old) registers.old (effect shapes.now instr.now)) }
     ensures memory { IfErr result (λ stop. stop ≡ Stop.NoMemory → MayTakeMemory instr.now) }
     ensures kept { SameTable heap.old heap.new }
@@ -77,6 +79,7 @@ fn moving(
     requires int { HasInt instr.now }
     ensures turns { Turns heap.old heap.new registers.old registers.new }
     ensures value { OnOk result (WentOn (map_of heap.old) (map_of heap.new) registers.old registers.new (effect shapes.now instr.now)) }
+    ensures shares { OnOk result (SharesIn instr.now heap.old heap.new registers.old registers.new) }
     ensures stuck { OnErr result (HasNone (map_of heap.old) registers.old (effect shapes.now instr.now)) }
     ensures kept { SameTable heap.old heap.new }
 {

@@ -13,3 +13,4 @@ pub mod FillLemmas
 pub mod RecordLemmas
 pub mod KindLemmas
 pub mod EntryLemmas
+pub mod ShareLemmas

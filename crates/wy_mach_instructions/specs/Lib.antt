@@ -5,3 +5,4 @@ pub mod Taking
 pub mod Filling
 pub mod Records
 pub mod Kinds
+pub mod Sharing

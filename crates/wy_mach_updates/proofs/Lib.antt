@@ -2,3 +2,4 @@ pub mod FieldLemmas
 pub mod PartLemmas
 pub mod PathLemmas
 pub mod UpdateLemmas
+pub mod WriteLemmas

@@ -1,3 +1,4 @@
 -- definitions of contracts
 pub mod Parts
 pub mod Paths
+pub mod Sharing

@@ -11,6 +11,7 @@ ghost use Rattle.wy_step.specs.Step.{effect};
 ghost use Rattle.wy_mach_instructions.specs.Showing.{WentOn, IsStop, Turns, AreRegisters};
 ghost use Rattle.wy_mach_instructions.specs.Taking.{AreTaken, TakenTurns, GivesMade};
 ghost use Rattle.wy_mach_updates.specs.Paths.{written_made};
+ghost use Rattle.wy_mach_updates.specs.Sharing.{PutsAlong, WritesPath};
 
 use crate::paths::slots;
 use wy_code::Slot as Step;
@@ -34,6 +35,7 @@ pub fn update(
     ensures turns { Turns heap.old heap.new registers.old registers.new }
     ensures value { OnOk result ((shapes : Shapes) → Extends shapes heap.old.shapes → WentOn (map_of heap.old) (map_of heap.new) registers.old registers.new (effect shapes (Instr.Put whole steps.now from))) }
     ensures stop { IfErr result (λ stop. (shapes : Shapes) → Extends shapes heap.old.shapes → IsStop (map_of heap.old) registers.old (effect shapes (Instr.Put whole steps.now from)) stop) }
+    ensures shares { OnOk result (WritesPath heap.old heap.new registers.old registers.new whole steps.now from) }
     ensures kept { SameTable heap.old heap.new }
 {
     match slots(heap, registers, steps, path) {
@@ -66,6 +68,7 @@ fn written(
     ensures turns { TakenTurns heap.old heap.new (item ∷ place ∷ []) registers.old registers.new }
     ensures value { OnOk result (GivesMade heap.old heap.new (item ∷ place ∷ []) registers.old registers.new whole (written_made (steps_of heap.old.shapes path.now))) }
     ensures stop { IfErr result (λ stop. stop ≡ Stop.Stuck → IsPath heap.old place path.now → ⊥) }
+    ensures shares { OnOk result (PutsAlong heap.old heap.new registers.old registers.new whole place item (steps_of heap.old.shapes path.now)) }
     ensures kept { SameTable heap.old heap.new }
 {
     let mut place = place;

@@ -1,4 +1,4 @@
-use Rattle.std.proofs.Common.{◌+◌, ◌-◌, List, ◌++◌, length, sym, subst, ap}
+use Rattle.std.proofs.Common.{◌+◌, ◌-◌, List, ◌++◌, length, sym, subst, ap, ◌∙◌}
 use Rattle.wy_heap.specs.declared.part.Part.{Part}
 use Rattle.wy_heap.specs.declared.heap.Heap.{Heap}
 use Rattle.wy_heap.specs.Standing.{Stands}
@@ -35,3 +35,6 @@ pub returns-in-Err-clause-stands : goal.returns-in-Err-clause-stands
 returns-in-Err-clause-stands c =
     let h = c.args.self.now.heap in
     (c.release_all.ensures.acts (places_of c.args.self.now) (subst (λ (l : List Part). Stands h (l ++ places_of c.args.self.now)) (sym c.in-Err.ensures.back) c.requires.stands)).stands
+
+pub returns-in-Ok-clause-registers : goal.returns-in-Ok-clause-registers
+returns-in-Ok-clause-registers c = ap (λ (f : Frame). f.registers.items) c.push_frame.ensures.frame ∙ c.in-Ok.ensures.registers
