@@ -1,6 +1,7 @@
 -- What turns do on shared nodes.
-use Rattle.std.proofs.Common.{◌≡◌, ℕ, ◌+◌, ◌-◌, List, [], ◌∷◌, ◌++◌, length, set, get_or, Option, Some, None, refl, sym, ◌∙◌, ap, subst}
-use Rattle.std.specs.Prelude.{Result, Ok, Err, OnOk, IfOk, slice_get}
+use Rattle.std.proofs.Common.{◌≡◌, ◌≤◌, ℕ, suc, ◌+◌, ◌-◌, List, [], ◌∷◌, ◌++◌, length, set, get_or, Option, Some, None, refl, sym, ◌∙◌, ap, subst}
+use Rattle.std.specs.Prelude.{Result, Ok, Err, OnOk, IfOk, Vec, slice_get}
+use Rattle.std.specs.declared.alloc.Global.{Global}
 use Rattle.wy_heap.specs.declared.heap.NoMemory.{NoMemory}
 use Rattle.wy_heap.specs.declared.part.Part.{Part}
 use Rattle.wy_heap.specs.declared.part.Part.TheVariants.{Null}
@@ -15,23 +16,10 @@ use Rattle.wy_mach.specs.declared.frames.Caller.{Caller}
 use Rattle.wy_mach.specs.declared.machine.Machine.{Machine}
 use Rattle.wy_mach.specs.declared.machine.Turn.{Turn}
 use Rattle.wy_mach.specs.declared.machine.Turn.TheVariants as turn
-use Rattle.wy_mach.specs.Running.{Enters, Resumes, IsEnd, IsPlain}
-use Rattle.wy_mach.specs.Sharing.{SharesIn, SameHeld, SharesPlain, SharesCall, SharesReturn, SharesBy, WentBy, WentOnBy}
+use Rattle.wy_mach.specs.Running.{Enters, Resumes, IsEnd, IsPlain, IsDone, next_in, instr_of}
+use Rattle.wy_mach.specs.Sharing.{SharesPlain, SharesCall, SharesReturn, SharesBy, SharesStep, SharesAlong, EndsShared}
 
--- ---- turns
-
-pub went_if : (code : Code) (i : Instr) (old new : Machine) (t : Turn) → (t ≡ turn.Went → SharesBy code i old new) → WentBy code i old new t
-went_if code i old new turn.Went shares = shares refl
-went_if code i old new (turn.Done text copies nodes) shares = tt
-went_if code i old new turn.OutFault shares = tt
-went_if code i old new turn.Stuck shares = tt
-
-pub went_some : (code : Code) (o : Option Instr) (i : Instr) (old new : Machine) (t : Turn) → o ≡ Some i → WentBy code i old new t → WentOnBy code o old new t
-went_some code o i old new t is went = subst (λ (x : Option Instr). WentOnBy code x old new t) (sym is) went
-
-pub stuck_by : (code : Code) (o : Option Instr) (old new : Machine) → WentOnBy code o old new turn.Stuck
-stuck_by code None old new = tt
-stuck_by code (Some i) old new = tt
+-- ---- instructions
 
 -- an instruction that goes on behind and prints nothing
 pub plain_by : (code : Code) (i : Instr) (old new : Machine) → IsPlain i → SharesPlain i old new → SharesBy code i old new
@@ -93,3 +81,11 @@ ends_elsewhere old given turn.Went ends went = ends
 ends_elsewhere old given (turn.Done text copies nodes) ends went = cc
 ends_elsewhere old given turn.OutFault ends went = ends
 ends_elsewhere old given turn.Stuck ends went = ends
+
+-- ---- runs
+
+pub along_more : (code : Code) (i n : ℕ) (first k last : Machine) → n ≡ suc i → SharesAlong code i first k → SharesStep code k last → SharesAlong code n first last
+along_more code i n first k last is along step = subst (λ (m : ℕ). SharesAlong code m first last) (sym is) (k, along, step)
+
+pub ends_shared : (code : Code) (first last : Machine) (made steps : ℕ) (text : Option (Vec ℕ Global)) (copies nodes : ℕ) → made + 1 ≤ steps → SharesAlong code made first last → IsDone (next_in code) last text copies nodes → EndsShared code first steps text copies nodes
+ends_shared code first last made steps text copies nodes within along ends = record { made = made; within = within; last = last; along = along; ends = ends }

@@ -1,6 +1,7 @@
 -- The step on shared nodes. Registers hold scalars and keys, and a heap is a map from keys to nodes; how many holders a key has is what the heap counts, which are the registers of all frames and the slots of all nodes that hold it (`Stands`). A key without holders has no node. What a node stands for is not said here: that is what the step on values says.
-use Rattle.std.specs.Prelude.{◌≡◌, ℕ, ◌+◌, ◌-◌, pos, List, [], ◌∷◌, ◌++◌, length, Option, Some, None, slice_set, slice_get, ⊤}
-use Rattle.wy_value.specs.Datum.{Whole}
+use Rattle.std.specs.Prelude.{◌≡◌, ◌≤◌, ℕ, zero, suc, ◌+◌, ◌-◌, pos, List, [], ◌∷◌, ◌++◌, length, Option, Some, None, Vec, slice_set, slice_get, ⊤}
+use Rattle.std.specs.declared.alloc.Global.{Global}
+use Rattle.wy_value.specs.Datum.{Datum, Whole}
 use Rattle.wy_heap.specs.declared.part.Part.{Part}
 use Rattle.wy_heap.specs.declared.part.Part.TheVariants.{Null}
 use Rattle.wy_heap.specs.declared.part.Slot.TheVariants.{Field}
@@ -19,8 +20,9 @@ use Rattle.wy_mach_instructions.specs.Sharing.{Spares, PutsIn, PutsScalar, PutsS
 use Rattle.wy_mach_updates.specs.Sharing.{WritesPath}
 use Rattle.wy_mach.specs.declared.frames.Caller.{Caller}
 use Rattle.wy_mach.specs.declared.machine.Machine.{Machine}
-use Rattle.wy_mach.specs.declared.machine.Turn.{Turn}
-use Rattle.wy_mach.specs.declared.machine.Turn.TheVariants as turn
+use Rattle.wy_mach.specs.declared.runs.RunEnd.{RunEnd}
+use Rattle.wy_mach.specs.declared.runs.RunEnd.TheVariants as run_end
+use Rattle.wy_mach.specs.Running.{IsDone, Starts, next_in, instr_of}
 
 -- what an instruction that goes on behind and prints nothing does to the registers of its frame and to the nodes
 abbrev pub SharesIn : Instr → Heap → Heap → List Part → List Part → Type 0
@@ -86,14 +88,37 @@ SharesBy code (instr.Print a) old new = SameHeld old new
 SharesBy code (instr.PrintInt a) old new = SameHeld old new
 SharesBy code i old new = SharesPlain i old new
 
--- where the turn went, the instruction did so
-abbrev pub WentBy : Code → Instr → Machine → Machine → Turn → Type 0
-WentBy code i old new turn.Went = SharesBy code i old new
-WentBy code i old new (turn.Done text copies nodes) = ⊤
-WentBy code i old new turn.OutFault = ⊤
-WentBy code i old new turn.Stuck = ⊤
+-- ---- runs
 
--- where the turn went, the next instruction did so
-abbrev pub WentOnBy : Code → Option Instr → Machine → Machine → Turn → Type 0
-WentOnBy code None old new t = ⊤
-WentOnBy code (Some i) old new t = WentBy code i old new t
+-- the next instruction of the first machine led to the second
+pub record SharesStep (code : Code) (old new : Machine) : Type 0 where
+  pub instr : Instr
+  pub is : instr_of code old ≡ Some instr
+  pub shares : SharesBy code instr old new
+
+-- so many steps on shared nodes lead from the first machine to the last
+abbrev pub SharesAlong : Code → ℕ → Machine → Machine → Type 0
+SharesAlong code zero first last = last ≡ first
+SharesAlong code (suc n) first last = (k : Machine) × SharesAlong code n first k × SharesStep code k last
+
+-- steps on shared nodes lead to a machine whose next instruction ends the run: so many copies are counted there, and so many nodes are left of it where the value alone is held
+pub record EndsShared (code : Code) (first : Machine) (steps : ℕ) (text : Option (Vec ℕ Global)) (copies nodes : ℕ) : Type 0 where
+  pub made : ℕ
+  pub within : made + 1 ≤ steps
+  pub last : Machine
+  pub along : SharesAlong code made first last
+  pub ends : IsDone (next_in code) last text copies nodes
+
+-- how a run ended that was done
+abbrev pub DoneShared : Code → Machine → ℕ → RunEnd → Type 0
+DoneShared code first steps (run_end.Done text copies nodes) = EndsShared code first steps text copies nodes
+DoneShared code first steps run_end.Spent = ⊤
+DoneShared code first steps run_end.OutFault = ⊤
+DoneShared code first steps run_end.Stuck = ⊤
+
+-- the same, from a machine that shows the first state of the run, at which no copy is counted
+pub record RanShared (code : Code) (entry : ℕ) (args : List Datum) (steps : ℕ) (end : RunEnd) : Type 0 where
+  pub first : Machine
+  pub starts : Starts code entry args first
+  pub none : first.heap.copies ≡ 0
+  pub done : DoneShared code first steps end

@@ -5,7 +5,7 @@ ghost use Rattle.wy_code.specs.declared.routines.Code.{Code};
 ghost use Rattle.wy_code.specs.declared.instructions.Instr.{Instr};
 ghost use Rattle.wy_mach.specs.States.{IsMachine, places_of, places_below};
 ghost use Rattle.wy_mach.specs.Running.{Turned, TurnsBy, IsPlain, HasInt, KeepsRest, MayTakeMemory, MayWantMemory, next_in, next_by, instr_of};
-ghost use Rattle.wy_mach.specs.Sharing.{SameHeld, SharesPlain, WentBy, WentOnBy};
+ghost use Rattle.wy_mach.specs.Sharing.{SameHeld, SharesPlain, SharesBy, SharesStep};
 
 use crate::frames::{Caller, Frame, leave};
 use crate::plain::plain;
@@ -54,7 +54,7 @@ impl Machine {
         requires is { IsMachine code.now self.old }
         ensures is { IsMachine code.now self.new }
         ensures turned { IfOk result (Turned (next_in code.now) self.old self.new (O.taken out.old) (O.taken out.new) (O.faults out.old) (O.faults out.new)) }
-        ensures shares { IfOk result (WentOnBy code.now (instr_of code.now self.old) self.old self.new) }
+        ensures shares { IfOk result (λ turn. turn ≡ Turn.Went → SharesStep code.now self.old self.new) }
         ensures no_memory { OnErr result (MayWantMemory (instr_of code.now self.old)) }
         ensures nothing { OnErr result (O.taken out.new ≡ O.taken out.old) }
         ensures count { O.faults out.old ≤ O.faults out.new }
@@ -80,7 +80,7 @@ impl Machine {
         ensures stands { Stands self.new.heap (places_of self.new) }
         ensures kept { KeepsRest self.old self.new }
         ensures turned { IfOk result (Turned (next_by code.now instr.now) self.old self.new (O.taken out.old) (O.taken out.new) (O.faults out.old) (O.faults out.new)) }
-        ensures shares { IfOk result (WentBy code.now instr.now self.old self.new) }
+        ensures shares { IfOk result (λ turn. turn ≡ Turn.Went → SharesBy code.now instr.now self.old self.new) }
         ensures no_memory { OnErr result (MayTakeMemory instr.now) }
         ensures nothing { OnErr result (O.taken out.new ≡ O.taken out.old) }
         ensures count { O.faults out.old ≤ O.faults out.new }

@@ -22,9 +22,9 @@ pub lasts_more : (m n o : Map) → Lasts m n → Lasts n o → Lasts m o
 lasts_more m n o first second k = elim (second k) [
   | inl gone ↦ inl gone
   | inr same ↦ elim (first k) [
-      | inl gone ↦ inl (same ∙ gone)
-      | inr was ↦ inr (same ∙ was)
-    ]
+    | inl gone ↦ inl (same ∙ gone)
+    | inr was ↦ inr (same ∙ was)
+  ]
 ]
 
 -- a part came into the registers that are left

@@ -36,6 +36,7 @@ pub fn item(
     ensures value { OnOk result ((shapes : Shapes) → WentOn (map_of heap.old) (map_of heap.new) registers.old registers.new (effect shapes (Instr.Get to from index))) }
     ensures stop { IfErr result (λ stop. (shapes : Shapes) → IsStop (map_of heap.old) registers.old (effect shapes (Instr.Get to from index)) stop) }
     ensures shares { OnOk result ((s : Store) (i : ℕ) → Shows (map_of heap.old) s registers.old → slot s index ≡ Some (Datum.Whole (pos i)) → PutsSecond heap.old heap.new registers.old registers.new to (part_at (map_of heap.old) (part_in registers.old from) (item_at i))) }
+    ensures memory { IfErr result (λ stop. stop ≡ Stop.NoMemory → (s : Store) (i : ℕ) → Shows (map_of heap.old) s registers.old → slot s index ≡ Some (Datum.Whole (pos i)) → IsBelow heap.old heap.old.cap (part_at (map_of heap.old) (part_in registers.old from) (item_at i)) → ⊥) }
     ensures kept { SameTable heap.old heap.new }
 {
     let Some(number) = number(heap, registers, index) else {
@@ -62,6 +63,7 @@ fn second_item(heap: &mut Heap, place: &Place, number: i128) -> Result<Place, St
     ensures value { IfOk result (λ made. (i : ℕ) (d : Datum) → number ≡ pos i → Means (map_of heap.old) d place.now → Means (map_of heap.new) (child d (item_at i)) made) }
     ensures stop { IfErr result (λ stop. stop ≡ Stop.Stuck → (i : ℕ) → number ≡ pos i → IsItem heap.old place.now i → ⊥) }
     ensures below { IfOk result (λ made. (i : ℕ) → number ≡ pos i → IsBelow heap.old heap.old.cap (part_at (map_of heap.old) place.now (item_at i)) → (made ≡ part_at (map_of heap.old) place.now (item_at i)) × (map_of heap.new ≡ map_of heap.old) × (heap.new.copies ≡ heap.old.copies)) }
+    ensures memory { IfErr result (λ stop. stop ≡ Stop.NoMemory → (i : ℕ) → number ≡ pos i → IsBelow heap.old heap.old.cap (part_at (map_of heap.old) place.now (item_at i)) → ⊥) }
     ensures no_memory { OnErr result (IsAsBefore heap.old heap.new) }
     ensures kept { SameTable heap.old heap.new }
 {

@@ -31,3 +31,8 @@ abbrev pub WritesPath : Heap → Heap → List Part → List Part → ℕ → Li
 WritesPath old new before after whole steps from =
     let left = slice_set before from Null in
     (path : List Slot) × AreSlotsOf old before steps path × PutsAlong old new (slice_set left whole Null) after whole (part_in left whole) (part_in before from) (steps_of old.shapes path)
+
+-- a node on the path has a second holder
+abbrev pub IsNotSole : Heap → List Part → ℕ → List of_code.Slot → ℕ → Type 0
+IsNotSole old before whole steps from =
+    (path : List Slot) × AreSlotsOf old before steps path × (Sole old (part_in (slice_set before from Null) whole) (steps_of old.shapes path) → ⊥)

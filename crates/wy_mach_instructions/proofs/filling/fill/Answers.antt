@@ -83,6 +83,6 @@ returns-clause-shares c =
     on_ok c.fill_of.result (PutsFilled h n c.take-item.new.registers qs c.args.to many c.take-item.result)
     ((s : Store) (k : ℕ) → Shows (map_of h) s ps → slot s c.args.count ≡ Some (Whole (pos k)) → PutsFilled h n (set ps c.args.from Null) qs c.args.to k (part_in ps c.args.from))
     (λ puts s k shows is.
-        puts_filled_as h n c.take-item.new.registers (set ps c.args.from Null) qs c.args.to many k c.take-item.result (part_in ps c.args.from) c.take-item.ensures.registers c.take-item.ensures.value
-        (read_count h ps s c.args.count many k number reads (sym same ∙ c.in-Some-length_of.ensures.1) shows is) puts)
+    puts_filled_as h n c.take-item.new.registers (set ps c.args.from Null) qs c.args.to many k c.take-item.result (part_in ps c.args.from) c.take-item.ensures.registers c.take-item.ensures.value
+    (read_count h ps s c.args.count many k number reads (sym same ∙ c.in-Some-length_of.ensures.1) shows is) puts)
     c.fill_of.ensures.shares

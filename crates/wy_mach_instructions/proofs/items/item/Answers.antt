@@ -78,5 +78,17 @@ returns-in-Ok-clause-shares c s i shows is under =
     let fits : SFits w128 c.in-Some.number = search rules in
     let reads = subst (λ (r : Option ℤ). Reads h ps c.args.index number_in r) c.in-Some.is c.number.ensures in
     let told = c.in-Ok.ensures.below i (to_z-of_z w128 c.in-Some.number fits ∙ read_number h ps s c.args.index c.in-Some.number (pos i) reads shows is)
-        (subst (λ (q : Part). IsBelow h h.cap (part_at (map_of h) q (item_at i))) (sym here) under) in
+    (subst (λ (q : Part). IsBelow h h.cap (part_at (map_of h) q (item_at i))) (sym here) under) in
     puts_in h c.second_item.new.heap c.put.new.heap ps ps c.put.new.registers c.args.to (part_at (map_of h) (get_or ps c.args.from Null) (item_at i)) c.in-Ok.made told.1 told.2 refl (told.0 ∙ ap (λ (q : Part). part_at (map_of h) q (item_at i)) here) c.put.ensures.registers c.put.ensures.lasts c.put.ensures.copies
+
+pub returns-in-Err-clause-memory : goal.returns-in-Err-clause-memory
+returns-in-Err-clause-memory c none s i shows is under =
+    let h = c.args.heap.now in
+    let ps = c.args.registers.now in
+    let p = get_or ps c.args.from c.index-registers-at.result in
+    let below : c.args.from < length ps = search rules in
+    let here = read_part ps c.args.from p c.index-registers-at.result below refl in
+    let fits : SFits w128 c.in-Some.number = search rules in
+    let reads = subst (λ (r : Option ℤ). Reads h ps c.args.index number_in r) c.in-Some.is c.number.ensures in
+    c.in-Err.ensures.memory none i (to_z-of_z w128 c.in-Some.number fits ∙ read_number h ps s c.args.index c.in-Some.number (pos i) reads shows is)
+    (subst (λ (q : Part). IsBelow h h.cap (part_at (map_of h) q (item_at i))) (sym here) under)

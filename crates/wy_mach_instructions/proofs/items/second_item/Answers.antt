@@ -8,7 +8,7 @@ use Rattle.wy_heap.specs.Slots.{child, item_at, part_at}
 use Rattle.wy_mach_instructions.proofs.ItemLemmas.{item_there, item_within, item_somewhere, same_pos}
 use Rattle.wy_heap.specs.declared.part.Part.{Part}
 use Rattle.wy_heap.specs.Parts.{IsBelow}
-use Rattle.wy_mach_instructions.proofs.ShareLemmas.{same_part}
+use Rattle.wy_mach_instructions.proofs.ShareLemmas.{same_part, no_part}
 use Rattle.wy_mach_instructions.proofs.items.second_item.Goals as goal
 
 pub returns-in_default-clause-stop : goal.returns-in_default-clause-stop
@@ -46,3 +46,12 @@ returns-in-Ok-clause-below c i e under =
     let at : c.in-Some-index_in.index ≡ i = same_pos c.in-Some-index_in.index i (sym c.in-Some-index_in.ensures.0 ∙ to_z-of_z w128 c.args.number fits ∙ e) in
     let told = c.get.ensures.below (subst (λ (j : ℕ). IsBelow h h.cap (part_at (map_of h) p (item_at j))) (sym at) under) in
     (same_part c.in-Ok.made (part_at (map_of h) p (item_at c.in-Some-index_in.index)) c.get.result c.in-Ok.is told.0 ∙ ap (λ (j : ℕ). part_at (map_of h) p (item_at j)) at, told.1, told.2)
+
+pub returns-in-Err-clause-memory : goal.returns-in-Err-clause-memory
+returns-in-Err-clause-memory c none i e under =
+    let h = c.args.heap.now in
+    let p = c.args.place.now in
+    let fits : SFits w128 c.args.number = search rules in
+    let at : c.in-Some-index_in.index ≡ i = same_pos c.in-Some-index_in.index i (sym c.in-Some-index_in.ensures.0 ∙ to_z-of_z w128 c.args.number fits ∙ e) in
+    let told = c.get.ensures.below (subst (λ (j : ℕ). IsBelow h h.cap (part_at (map_of h) p (item_at j))) (sym at) under) in
+    no_part c.in-Err.field-0 (part_at (map_of h) p (item_at c.in-Some-index_in.index)) c.get.result c.in-Err.is told.0

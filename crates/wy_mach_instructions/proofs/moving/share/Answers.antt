@@ -66,5 +66,3 @@ returns-in_err-made-clause-memory c none under =
     let is = read_part ps c.args.from p c.index-registers-index.result below refl in
     let told = c.share.ensures.below (subst (λ (q : Part). IsBelow h h.cap q) (sym is) under) in
     no_part c.in_err-made.error p c.share.result c.in_err-made.is told.0
-
-

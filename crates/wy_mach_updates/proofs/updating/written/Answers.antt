@@ -5,6 +5,7 @@ use Rattle.wy_mach_instructions.proofs.MakeLemmas.{taken_are_held, made_beside, 
 use Rattle.wy_mach_instructions.proofs.RegisterLemmas.{acts_others}
 use Rattle.wy_mach_updates.specs.Paths.{written_made}
 use Rattle.wy_mach_updates.proofs.UpdateLemmas.{second_held, both_held, set_spends, set_value}
+use Rattle.wy_mach_updates.proofs.WriteLemmas.{no_done}
 use Rattle.wy_mach_updates.proofs.updating.written.Goals as goal
 
 pub has_path-requires : goal.has_path-requires
@@ -65,12 +66,15 @@ returns-in-Err-clause-turns c =
 pub returns-in-Ok-clause-shares : goal.returns-in-Ok-clause-shares
 returns-in-Ok-clause-shares c = record {
   room = λ room. record {
-      made = c.set.new.p;
-      between = c.set.new.self;
-      puts = c.in-Ok.ensures.puts room;
-      registers = c.put.ensures.registers;
-      lasts = c.put.ensures.lasts;
-      copies = c.put.ensures.copies;
-    };
+    made = c.set.new.p;
+    between = c.set.new.self;
+    puts = c.in-Ok.ensures.puts room;
+    registers = c.put.ensures.registers;
+    lasts = c.put.ensures.lasts;
+    copies = c.put.ensures.copies;
+  };
   sole = λ sole. c.put.ensures.copies ∙ c.in-Ok.ensures.copies.none sole;
 }
+
+pub returns-in-Err-clause-memory : goal.returns-in-Err-clause-memory
+returns-in-Err-clause-memory c none sole = no_done c.in-Err.item c.set.result c.in-Err.is (c.set.ensures.sole sole)

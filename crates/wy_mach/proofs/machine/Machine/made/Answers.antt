@@ -5,8 +5,8 @@ use Rattle.wy_mach.specs.declared.machine.Turn.{Turn}
 use Rattle.wy_mach.specs.declared.machine.Turn.TheVariants as turn
 use Rattle.wy_mach.specs.Running.{Steps, Turned, TurnsBy, MayTakeMemory, next_by}
 use Rattle.wy_mach.proofs.TurnLemmas.{machine_at, jump_steps, if_ok, on_any_err, is_plain}
-use Rattle.wy_mach.specs.Sharing.{SameHeld, SharesPlain, SharesCall, SharesReturn, WentBy}
-use Rattle.wy_mach.proofs.ShareLemmas.{went_if, plain_by}
+use Rattle.wy_mach.specs.Sharing.{SharesPlain, SharesCall, SharesReturn, SharesBy}
+use Rattle.wy_mach.proofs.ShareLemmas.{plain_by}
 use Rattle.wy_mach.proofs.machine.Machine.made.Goals as goal
 
 pub returns-in-Jump-clause-turned : goal.returns-in-Jump-clause-turned
@@ -78,16 +78,13 @@ returns-in_default-clause-turned g c =
     (λ (t : Turn). Turned (next_by code c.args.instr.now) old c.went.new.self known known failed failed t) (λ t turned. turned known failed) c.went.ensures.turned
 
 pub returns-in-Jump-clause-shares : goal.returns-in-Jump-clause-shares
-returns-in-Jump-clause-shares g c =
+returns-in-Jump-clause-shares g c w =
     let old = c.args.self.now in
-    subst (λ (i : Instr). WentBy c.args.code.now i old (machine_at old c.in-Jump.to) turn.Went) (sym c.in-Jump.is) (record { heap = refl; registers = refl; callers = refl })
+    subst (λ (i : Instr). SharesBy c.args.code.now i old (machine_at old c.in-Jump.to)) (sym c.in-Jump.is) (record { heap = refl; registers = refl; callers = refl })
 
 pub returns-in-Branch-clause-shares : goal.returns-in-Branch-clause-shares
-returns-in-Branch-clause-shares g c =
-    let old = c.args.self.now in
-    let code = c.args.code.now in
-    let i = instr.Branch c.in-Branch.from c.in-Branch.to in
-    subst (λ (x : Instr). WentBy code x old c.branch-self.new.self c.branch-self.result) (sym c.in-Branch.is) (went_if code i old c.branch-self.new.self c.branch-self.result (λ w. c.branch-self.ensures.shares))
+returns-in-Branch-clause-shares g c w =
+    subst (λ (i : Instr). SharesBy c.args.code.now i c.args.self.now c.branch-self.new.self) (sym c.in-Branch.is) c.branch-self.ensures.shares
 
 pub returns-in-Call-clause-shares : goal.returns-in-Call-clause-shares
 returns-in-Call-clause-shares g c =
@@ -96,31 +93,24 @@ returns-in-Call-clause-shares g c =
     let code = c.args.code.now in
     let called = instr.Call c.in-Call.to c.in-Call.routine c.as_slice.result.now in
     let is : c.args.instr.now ≡ called = c.in-Call.is ∙ ap (λ (l : List ℕ). instr.Call c.in-Call.to c.in-Call.routine l) (sym c.as_slice.ensures) in
-    if_ok c.call.result (λ (t : Turn). t ≡ turn.Went → SharesCall code old new c.in-Call.to c.in-Call.routine c.as_slice.result.now) (λ (t : Turn). WentBy code c.args.instr.now old new t)
-    (λ t shares. subst (λ (i : Instr). WentBy code i old new t) (sym is) (went_if code called old new t shares)) c.call.ensures.shares
+    if_ok c.call.result (λ (t : Turn). t ≡ turn.Went → SharesCall code old new c.in-Call.to c.in-Call.routine c.as_slice.result.now) (λ (t : Turn). t ≡ turn.Went → SharesBy code c.args.instr.now old new)
+    (λ t shares w. subst (λ (i : Instr). SharesBy code i old new) (sym is) (shares w)) c.call.ensures.shares
 
 pub returns-in-Return-clause-shares : goal.returns-in-Return-clause-shares
 returns-in-Return-clause-shares g c =
     let old = c.args.self.now in
     let new = c.give_back.new.self in
     let code = c.args.code.now in
-    let back = instr.Return c.in-Return.from in
-    if_ok c.give_back.result (λ (t : Turn). t ≡ turn.Went → SharesReturn old new c.in-Return.from) (λ (t : Turn). WentBy code c.args.instr.now old new t)
-    (λ t shares. subst (λ (i : Instr). WentBy code i old new t) (sym c.in-Return.is) (went_if code back old new t shares)) c.give_back.ensures.shares
+    if_ok c.give_back.result (λ (t : Turn). t ≡ turn.Went → SharesReturn old new c.in-Return.from) (λ (t : Turn). t ≡ turn.Went → SharesBy code c.args.instr.now old new)
+    (λ t shares w. subst (λ (i : Instr). SharesBy code i old new) (sym c.in-Return.is) (shares w)) c.give_back.ensures.shares
 
 pub returns-in-Print-clause-shares : goal.returns-in-Print-clause-shares
-returns-in-Print-clause-shares g c =
-    let old = c.args.self.now in
-    let code = c.args.code.now in
-    let i = instr.Print c.in-Print.from in
-    subst (λ (x : Instr). WentBy code x old c.printed.new.self c.printed.result) (sym c.in-Print.is) (went_if code i old c.printed.new.self c.printed.result (λ w. c.printed.ensures.shares))
+returns-in-Print-clause-shares g c w =
+    subst (λ (i : Instr). SharesBy c.args.code.now i c.args.self.now c.printed.new.self) (sym c.in-Print.is) c.printed.ensures.shares
 
 pub returns-in-PrintInt-clause-shares : goal.returns-in-PrintInt-clause-shares
-returns-in-PrintInt-clause-shares g c =
-    let old = c.args.self.now in
-    let code = c.args.code.now in
-    let i = instr.PrintInt c.in-PrintInt.from in
-    subst (λ (x : Instr). WentBy code x old c.number_printed.new.self c.number_printed.result) (sym c.in-PrintInt.is) (went_if code i old c.number_printed.new.self c.number_printed.result (λ w. c.number_printed.ensures.shares))
+returns-in-PrintInt-clause-shares g c w =
+    subst (λ (i : Instr). SharesBy c.args.code.now i c.args.self.now c.number_printed.new.self) (sym c.in-PrintInt.is) c.number_printed.ensures.shares
 
 pub returns-in_default-clause-shares : goal.returns-in_default-clause-shares
 returns-in_default-clause-shares g c =
@@ -129,5 +119,5 @@ returns-in_default-clause-shares g c =
     let code = c.args.code.now in
     let i = c.args.instr.now in
     let plain = is_plain i c.in_default.not-Jump c.in_default.not-Branch c.in_default.not-Call c.in_default.not-Return c.in_default.not-Print c.in_default.not-PrintInt in
-    if_ok c.went.result (λ (t : Turn). t ≡ turn.Went → SharesPlain i old new) (λ (t : Turn). WentBy code i old new t)
-    (λ t shares. went_if code i old new t (λ w. plain_by code i old new plain (shares w))) c.went.ensures.shares
+    if_ok c.went.result (λ (t : Turn). t ≡ turn.Went → SharesPlain i old new) (λ (t : Turn). t ≡ turn.Went → SharesBy code i old new)
+    (λ t shares w. plain_by code i old new plain (shares w)) c.went.ensures.shares
