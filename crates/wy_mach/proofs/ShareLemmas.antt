@@ -1,6 +1,6 @@
 -- What turns do on shared nodes.
 use Rattle.std.proofs.Common.{◌≡◌, ◌≤◌, ℕ, suc, ◌+◌, ◌-◌, List, [], ◌∷◌, ◌++◌, length, set, get_or, Option, Some, None, refl, sym, ◌∙◌, ap, subst}
-use Rattle.std.specs.Prelude.{Result, Ok, Err, OnOk, IfOk, Vec, slice_get}
+use Rattle.std.specs.Prelude.{Result, Ok, Err, OnOk, IfOk, Vec, vec_capacity, slice_get}
 use Rattle.std.specs.declared.alloc.Global.{Global}
 use Rattle.wy_heap.specs.declared.heap.NoMemory.{NoMemory}
 use Rattle.wy_heap.specs.declared.part.Part.{Part}
@@ -17,7 +17,7 @@ use Rattle.wy_mach.specs.declared.machine.Machine.{Machine}
 use Rattle.wy_mach.specs.declared.machine.Turn.{Turn}
 use Rattle.wy_mach.specs.declared.machine.Turn.TheVariants as turn
 use Rattle.wy_mach.specs.Running.{Enters, Resumes, IsEnd, IsPlain, IsDone, next_in, instr_of}
-use Rattle.wy_mach.specs.Sharing.{SharesPlain, SharesCall, SharesReturn, SharesBy, SharesStep, SharesAlong, EndsShared}
+use Rattle.wy_mach.specs.Sharing.{SharesPlain, SharesCall, SharesReturn, SharesBy, SharesStep, SharesAlong, EndsShared, WantsIn, WantsBy}
 
 -- ---- instructions
 
@@ -45,6 +45,31 @@ plain_by code (instr.Call d f rs) old new plain shares = absurd plain
 plain_by code (instr.Return r) old new plain shares = absurd plain
 plain_by code (instr.Print a) old new plain shares = absurd plain
 plain_by code (instr.PrintInt a) old new plain shares = absurd plain
+
+-- what a plain instruction wants
+pub plain_wants : (i : Instr) (k : Machine) → IsPlain i → WantsIn i k.heap k.frame.registers.items (vec_capacity k.path) → WantsBy i k
+plain_wants (instr.Const d c) k plain wants = wants
+plain_wants (instr.Move d r) k plain wants = wants
+plain_wants (instr.Share d r) k plain wants = wants
+plain_wants (instr.Clear rs) k plain wants = wants
+plain_wants (instr.Arith d op a b) k plain wants = wants
+plain_wants (instr.Compare d op a b) k plain wants = wants
+plain_wants (instr.Equal d a b) k plain wants = wants
+plain_wants (instr.Not d a) k plain wants = wants
+plain_wants (instr.Jump t) k plain wants = absurd plain
+plain_wants (instr.Branch r t) k plain wants = absurd plain
+plain_wants (instr.Array d rs) k plain wants = wants
+plain_wants (instr.Record d k2 rs) k plain wants = wants
+plain_wants (instr.Fill d v n) k plain wants = wants
+plain_wants (instr.Len d a) k plain wants = wants
+plain_wants (instr.Get d a i) k plain wants = wants
+plain_wants (instr.Field d a f) k plain wants = wants
+plain_wants (instr.Put a path v) k plain wants = wants
+plain_wants (instr.Kind d a q) k plain wants = wants
+plain_wants (instr.Call d f rs) k plain wants = absurd plain
+plain_wants (instr.Return r) k plain wants = absurd plain
+plain_wants (instr.Print a) k plain wants = absurd plain
+plain_wants (instr.PrintInt a) k plain wants = absurd plain
 
 -- ---- calls
 

@@ -1,5 +1,5 @@
 -- The step on shared nodes. Registers hold scalars and keys, and a heap is a map from keys to nodes; how many holders a key has is what the heap counts, which are the registers of all frames and the slots of all nodes that hold it (`Stands`). A key without holders has no node. What a node stands for is not said here: that is what the step on values says.
-use Rattle.std.specs.Prelude.{◌≡◌, ◌≤◌, ℕ, zero, suc, ◌+◌, ◌-◌, pos, List, [], ◌∷◌, ◌++◌, length, Option, Some, None, Vec, slice_set, slice_get, ⊤}
+use Rattle.std.specs.Prelude.{◌≡◌, ◌≤◌, ℕ, zero, suc, ◌+◌, ◌-◌, pos, List, [], ◌∷◌, ◌++◌, length, Option, Some, None, Vec, vec_capacity, slice_set, slice_get, ⊤}
 use Rattle.std.specs.declared.alloc.Global.{Global}
 use Rattle.wy_value.specs.Datum.{Datum, Whole}
 use Rattle.wy_heap.specs.declared.part.Part.{Part}
@@ -7,7 +7,7 @@ use Rattle.wy_heap.specs.declared.part.Part.TheVariants.{Null}
 use Rattle.wy_heap.specs.declared.part.Slot.TheVariants.{Field}
 use Rattle.wy_heap.specs.declared.heap.Heap.{Heap}
 use Rattle.wy_heap.specs.Nodes.{list_form, map_of}
-use Rattle.wy_heap.specs.Parts.{scalar_part}
+use Rattle.wy_heap.specs.Parts.{scalar_part, IsBelow}
 use Rattle.wy_heap.specs.Slots.{part_at, item_at, step_of}
 use Rattle.wy_code.specs.declared.instructions.Instr.{Instr}
 use Rattle.wy_code.specs.declared.instructions.Instr.TheVariants as instr
@@ -17,7 +17,7 @@ use Rattle.wy_sem.specs.Expressions.{Store, slot}
 use Rattle.wy_mach_instructions.specs.Showing.{Shows, scalar_kind}
 use Rattle.wy_mach_instructions.specs.Taking.{taken, emptied, nulls}
 use Rattle.wy_mach_instructions.specs.Sharing.{Spares, PutsIn, PutsScalar, PutsSecond, PutsNew, PutsFilled, part_in, shape_form}
-use Rattle.wy_mach_updates.specs.Sharing.{WritesPath}
+use Rattle.wy_mach_updates.specs.Sharing.{WritesPath, IsNotSole}
 use Rattle.wy_mach.specs.declared.frames.Caller.{Caller}
 use Rattle.wy_mach.specs.declared.machine.Machine.{Machine}
 use Rattle.wy_mach.specs.declared.runs.RunEnd.{RunEnd}
@@ -87,6 +87,43 @@ SharesBy code (instr.Return r) old new = SharesReturn old new r
 SharesBy code (instr.Print a) old new = SameHeld old new
 SharesBy code (instr.PrintInt a) old new = SameHeld old new
 SharesBy code i old new = SharesPlain i old new
+
+-- ---- want of memory
+
+-- where there is so much room for paths, an instruction that goes on behind wants memory only where it compares or makes a node, where it shares what has as many holders as the cap, or where it writes below a node with a second holder
+abbrev pub WantsIn : Instr → Heap → List Part → ℕ → Type 0
+WantsIn (instr.Const d c) h ps room = ⊥
+WantsIn (instr.Move d r) h ps room = ⊥
+WantsIn (instr.Share d r) h ps room = IsBelow h h.cap (part_in ps r) → ⊥
+WantsIn (instr.Clear rs) h ps room = ⊥
+WantsIn (instr.Arith d op a b) h ps room = ⊥
+WantsIn (instr.Compare d op a b) h ps room = ⊥
+WantsIn (instr.Equal d a b) h ps room = ⊤
+WantsIn (instr.Not d a) h ps room = ⊥
+WantsIn (instr.Jump t) h ps room = ⊥
+WantsIn (instr.Branch r t) h ps room = ⊥
+WantsIn (instr.Array d rs) h ps room = ⊤
+WantsIn (instr.Record d k rs) h ps room = ⊤
+WantsIn (instr.Fill d v n) h ps room = ⊤
+WantsIn (instr.Len d a) h ps room = ⊥
+WantsIn (instr.Get d a i) h ps room = (s : Store) (k : ℕ) → Shows (map_of h) s ps → slot s i ≡ Some (Whole (pos k)) → IsBelow h h.cap (part_at (map_of h) (part_in ps a) (item_at k)) → ⊥
+WantsIn (instr.Field d a f) h ps room = IsBelow h h.cap (part_at (map_of h) (part_in ps a) (step_of h.shapes (Field f))) → ⊥
+WantsIn (instr.Put a path v) h ps room = length path ≤ room → IsNotSole h ps a path v
+WantsIn (instr.Kind d a k) h ps room = ⊥
+WantsIn (instr.Call d f rs) h ps room = ⊥
+WantsIn (instr.Return r) h ps room = ⊥
+WantsIn (instr.Print a) h ps room = ⊥
+WantsIn (instr.PrintInt a) h ps room = ⊥
+
+-- a call may want memory, and a return only where it ends the run
+abbrev pub WantsBy : Instr → Machine → Type 0
+WantsBy (instr.Call d f rs) k = ⊤
+WantsBy (instr.Return r) k = k.callers.items ≡ []
+WantsBy i k = WantsIn i k.heap k.frame.registers.items (vec_capacity k.path)
+
+abbrev pub WantsNext : Option Instr → Machine → Type 0
+WantsNext None k = ⊥
+WantsNext (Some i) k = WantsBy i k
 
 -- ---- runs
 

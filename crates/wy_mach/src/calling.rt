@@ -89,6 +89,7 @@ impl Machine {
         ensures callers { self.new.callers.items ≡ self.old.callers.items ++ record { frame = record self.old.frame { at = self.old.frame.at + 1 }; target = to } ∷ [] }
         ensures heap { self.new.heap ≡ self.old.heap }
         ensures has_result { self.new.has_result ≡ self.old.has_result }
+        ensures path { self.new.path ≡ self.old.path }
     {
         let entered = Frame {
             routine: number,
@@ -107,6 +108,7 @@ impl Machine {
         ensures kept { KeepsRest self.old self.new }
         ensures turned { IfOk result (TurnsBy (Instr.Return from) self.old self.new) }
         ensures shares { IfOk result (λ turn. turn ≡ Turn.Went → SharesReturn self.old self.new from) }
+        ensures wants { OnErr result (self.old.callers.items ≡ []) }
     {
         if from as usize >= self.frame.registers.len() {
             return Ok(Turn::Stuck);

@@ -1,5 +1,5 @@
 use Rattle.std.proofs.Common.{◌≡◌, ℕ, List, sym, subst, ap, ◌∙◌}
-use Rattle.std.specs.Prelude.{OnOk, IfErr}
+use Rattle.std.specs.Prelude.{OnOk, IfErr, vec_capacity}
 use Rattle.wy_value.specs.declared.shapes.Shapes.{Shapes}
 use Rattle.wy_heap.specs.Nodes.{map_of}
 use Rattle.wy_heap.specs.Extending.{Extends}
@@ -13,7 +13,7 @@ use Rattle.wy_mach_instructions.specs.Showing.{WentOn, IsStop}
 use Rattle.wy_mach_instructions.proofs.MakeLemmas.{on_ok}
 use Rattle.wy_mach.specs.Running.{MayTakeMemory}
 use Rattle.wy_mach.proofs.TurnLemmas.{if_err, all_err, ok_of_stop, err_of_stop, not_memory, is_moving}
-use Rattle.wy_mach.specs.Sharing.{SharesIn}
+use Rattle.wy_mach.specs.Sharing.{SharesIn, WantsIn}
 use Rattle.wy_mach.proofs.plain.plain.Goals as goal
 
 pub returns-in-Share-clause-value : goal.returns-in-Share-clause-value
@@ -316,3 +316,70 @@ returns-in-Put-clause-shares c =
 pub returns-in_default-clause-shares : goal.returns-in_default-clause-shares
 returns-in_default-clause-shares c =
     ok_of_stop c.moving.result c.stop_of.result (SharesIn c.args.instr.now c.args.heap.now c.moving.new.heap c.args.registers.now c.moving.new.registers) c.stop_of.ensures c.moving.ensures.shares
+
+pub returns-in-Share-clause-wants : goal.returns-in-Share-clause-wants
+returns-in-Share-clause-wants c =
+    let h = c.args.heap.now in
+    let ps = c.args.registers.now in
+    let is : c.args.instr.now ≡ instr.Share c.in-Share.to c.in-Share.from = c.in-Share.is in
+    let room = vec_capacity c.args.path.now in
+    subst (λ (i : Instr). IfErr c.share.result (λ (e : Stop). e ≡ stop.NoMemory → WantsIn i h ps room)) (sym is) c.share.ensures.memory
+
+pub returns-in-Equal-clause-wants : goal.returns-in-Equal-clause-wants
+returns-in-Equal-clause-wants c =
+    let h = c.args.heap.now in
+    let ps = c.args.registers.now in
+    let is : c.args.instr.now ≡ instr.Equal c.in-Equal.to c.in-Equal.left c.in-Equal.right = c.in-Equal.is in
+    let room = vec_capacity c.args.path.now in
+    all_err c.equal.result (λ (e : Stop). e ≡ stop.NoMemory → WantsIn c.args.instr.now h ps room) (λ e no. subst (λ (i : Instr). WantsIn i h ps room) (sym is) tt)
+
+pub returns-in-Array-clause-wants : goal.returns-in-Array-clause-wants
+returns-in-Array-clause-wants c =
+    let h = c.args.heap.now in
+    let ps = c.args.registers.now in
+    let is : c.args.instr.now ≡ instr.Array c.in-Array.to c.as_slice.result.now = c.in-Array.is ∙ ap (λ (l : List ℕ). instr.Array c.in-Array.to l) (sym c.as_slice.ensures) in
+    let room = vec_capacity c.args.path.now in
+    all_err c.array.result (λ (e : Stop). e ≡ stop.NoMemory → WantsIn c.args.instr.now h ps room) (λ e no. subst (λ (i : Instr). WantsIn i h ps room) (sym is) tt)
+
+pub returns-in-Record-clause-wants : goal.returns-in-Record-clause-wants
+returns-in-Record-clause-wants c =
+    let h = c.args.heap.now in
+    let ps = c.args.registers.now in
+    let is : c.args.instr.now ≡ instr.Record c.in-Record.to c.in-Record.shape c.as_slice-in-Record.result.now = c.in-Record.is ∙ ap (λ (l : List ℕ). instr.Record c.in-Record.to c.in-Record.shape l) (sym c.as_slice-in-Record.ensures) in
+    let room = vec_capacity c.args.path.now in
+    all_err c.record.result (λ (e : Stop). e ≡ stop.NoMemory → WantsIn c.args.instr.now h ps room) (λ e no. subst (λ (i : Instr). WantsIn i h ps room) (sym is) tt)
+
+pub returns-in-Fill-clause-wants : goal.returns-in-Fill-clause-wants
+returns-in-Fill-clause-wants c =
+    let h = c.args.heap.now in
+    let ps = c.args.registers.now in
+    let is : c.args.instr.now ≡ instr.Fill c.in-Fill.to c.in-Fill.from c.in-Fill.count = c.in-Fill.is in
+    let room = vec_capacity c.args.path.now in
+    all_err c.fill.result (λ (e : Stop). e ≡ stop.NoMemory → WantsIn c.args.instr.now h ps room) (λ e no. subst (λ (i : Instr). WantsIn i h ps room) (sym is) tt)
+
+pub returns-in-Get-clause-wants : goal.returns-in-Get-clause-wants
+returns-in-Get-clause-wants c =
+    let h = c.args.heap.now in
+    let ps = c.args.registers.now in
+    let is : c.args.instr.now ≡ instr.Get c.in-Get.to c.in-Get.from c.in-Get.index = c.in-Get.is in
+    let room = vec_capacity c.args.path.now in
+    subst (λ (i : Instr). IfErr c.item.result (λ (e : Stop). e ≡ stop.NoMemory → WantsIn i h ps room)) (sym is) c.item.ensures.memory
+
+pub returns-in-Field-clause-wants : goal.returns-in-Field-clause-wants
+returns-in-Field-clause-wants c =
+    let h = c.args.heap.now in
+    let ps = c.args.registers.now in
+    let is : c.args.instr.now ≡ instr.Field c.in-Field.to c.in-Field.from c.in-Field.name = c.in-Field.is in
+    let room = vec_capacity c.args.path.now in
+    subst (λ (i : Instr). IfErr c.field.result (λ (e : Stop). e ≡ stop.NoMemory → WantsIn i h ps room)) (sym is) c.field.ensures.memory
+
+pub returns-in-Put-clause-wants : goal.returns-in-Put-clause-wants
+returns-in-Put-clause-wants c =
+    let h = c.args.heap.now in
+    let ps = c.args.registers.now in
+    let is : c.args.instr.now ≡ instr.Put c.in-Put.whole c.as_slice-in-Put.result.now c.in-Put.from = c.in-Put.is ∙ ap (λ (l : List Slot). instr.Put c.in-Put.whole l c.in-Put.from) (sym c.as_slice-in-Put.ensures) in
+    let room = vec_capacity c.args.path.now in
+    subst (λ (i : Instr). IfErr c.update.result (λ (e : Stop). e ≡ stop.NoMemory → WantsIn i h ps room)) (sym is) c.update.ensures.memory
+
+pub returns-in_default-clause-wants : goal.returns-in_default-clause-wants
+returns-in_default-clause-wants c = not_memory c.moving.result c.stop_of.result (WantsIn c.args.instr.now c.args.heap.now c.args.registers.now (vec_capacity c.args.path.now)) c.stop_of.ensures

@@ -9,7 +9,7 @@ use Rattle.wy_mach.specs.declared.frames.Caller.{Caller}
 use Rattle.wy_mach.specs.declared.machine.Machine.{Machine}
 use Rattle.wy_mach.specs.States.{places_below}
 use Rattle.wy_mach.specs.Running.{TurnsBy, IsEnd}
-use Rattle.wy_mach.proofs.TurnLemmas.{if_ok}
+use Rattle.wy_mach.proofs.TurnLemmas.{if_ok, on_any_err}
 use Rattle.wy_mach.proofs.CallLemmas.{no_register, given_places, popped_places, return_steps, end_turns}
 use Rattle.wy_mach.specs.declared.machine.Turn.{Turn}
 use Rattle.wy_mach.specs.declared.machine.Turn.TheVariants as turn
@@ -80,3 +80,10 @@ returns-in-None-clause-shares c =
     let mid : Machine = record old { frame = record old.frame { registers = with_items old.frame.registers c.take-given.new.registers }; callers = c.pop.new.self } in
     if_ok c.end.result (IsEnd mid c.take-given.result) (λ (t : Turn). t ≡ turn.Went → SharesReturn old c.end.new.self c.args.from)
     (λ t ends w. absurd (ends_elsewhere mid c.take-given.result t ends w)) c.end.ensures.done
+
+pub returns-in-None-clause-wants : goal.returns-in-None-clause-wants
+returns-in-None-clause-wants c =
+    let old = c.args.self.now in
+    let nobody : c.pop.new.self.items ≡ [] = search rules in
+    let none : old.callers.items ≡ [] = c.pop.ensures.items ∙ ap (λ (r : Option Caller). c.pop.new.self.items ++ option_to_list r) c.in-None.is ∙ append-nil c.pop.new.self.items ∙ nobody in
+    on_any_err c.end.result (old.callers.items ≡ []) none

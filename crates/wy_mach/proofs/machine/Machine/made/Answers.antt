@@ -4,9 +4,10 @@ use Rattle.wy_code.specs.declared.instructions.Instr.TheVariants as instr
 use Rattle.wy_mach.specs.declared.machine.Turn.{Turn}
 use Rattle.wy_mach.specs.declared.machine.Turn.TheVariants as turn
 use Rattle.wy_mach.specs.Running.{Steps, Turned, TurnsBy, MayTakeMemory, next_by}
-use Rattle.wy_mach.proofs.TurnLemmas.{machine_at, jump_steps, if_ok, on_any_err, is_plain}
-use Rattle.wy_mach.specs.Sharing.{SharesPlain, SharesCall, SharesReturn, SharesBy}
-use Rattle.wy_mach.proofs.ShareLemmas.{plain_by}
+use Rattle.wy_mach.proofs.TurnLemmas.{machine_at, jump_steps, if_ok, on_any_err, is_plain, on_err}
+use Rattle.wy_mach.specs.Sharing.{SharesPlain, SharesCall, SharesReturn, SharesBy, WantsIn, WantsBy}
+use Rattle.wy_mach.proofs.ShareLemmas.{plain_by, plain_wants}
+use Rattle.std.specs.Prelude.{vec_capacity, OnErr}
 use Rattle.wy_mach.proofs.machine.Machine.made.Goals as goal
 
 pub returns-in-Jump-clause-turned : goal.returns-in-Jump-clause-turned
@@ -121,3 +122,18 @@ returns-in_default-clause-shares g c =
     let plain = is_plain i c.in_default.not-Jump c.in_default.not-Branch c.in_default.not-Call c.in_default.not-Return c.in_default.not-Print c.in_default.not-PrintInt in
     if_ok c.went.result (λ (t : Turn). t ≡ turn.Went → SharesPlain i old new) (λ (t : Turn). t ≡ turn.Went → SharesBy code i old new)
     (λ t shares w. plain_by code i old new plain (shares w)) c.went.ensures.shares
+
+pub returns-in-Call-clause-wants : goal.returns-in-Call-clause-wants
+returns-in-Call-clause-wants g c = on_any_err c.call.result (WantsBy c.args.instr.now c.args.self.now) (subst (λ (i : Instr). WantsBy i c.args.self.now) (sym c.in-Call.is) tt)
+
+pub returns-in-Return-clause-wants : goal.returns-in-Return-clause-wants
+returns-in-Return-clause-wants g c =
+    let old = c.args.self.now in
+    subst (λ (i : Instr). OnErr c.give_back.result (WantsBy i old)) (sym c.in-Return.is) c.give_back.ensures.wants
+
+pub returns-in_default-clause-wants : goal.returns-in_default-clause-wants
+returns-in_default-clause-wants g c =
+    let old = c.args.self.now in
+    let i = c.args.instr.now in
+    let plain = is_plain i c.in_default.not-Jump c.in_default.not-Branch c.in_default.not-Call c.in_default.not-Return c.in_default.not-Print c.in_default.not-PrintInt in
+    on_err c.went.result (WantsIn i old.heap old.frame.registers.items (vec_capacity old.path)) (WantsBy i old) (plain_wants i old plain) c.went.ensures.wants

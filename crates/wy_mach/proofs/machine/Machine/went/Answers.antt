@@ -9,7 +9,8 @@ use Rattle.wy_mach_instructions.specs.Showing.{WentOn, HasNone, IsStop, Turns, A
 use Rattle.wy_mach.specs.declared.machine.Machine.{Machine}
 use Rattle.wy_mach.proofs.StateLemmas.{registers_held, stands_turned}
 use Rattle.wy_mach.proofs.TurnLemmas.{plain_steps, no_step}
-use Rattle.wy_mach.specs.Sharing.{SharesIn}
+use Rattle.wy_mach.specs.Sharing.{SharesIn, WantsIn}
+use Rattle.std.specs.Prelude.{vec_capacity}
 use Rattle.wy_mach.proofs.machine.Machine.went.Goals as goal
 
 pub plain-requires-clause-held : goal.plain-requires-clause-held
@@ -87,3 +88,8 @@ returns-in-Ok-clause-shares c w =
       shares = subst (λ (l : List Part). SharesIn i old.heap n old.frame.registers.items l) (sym kept_items) (subst (λ (l : List Part). SharesIn i old.heap n l qs) c.as_mut_slice-registers.ensures.value c.in-Ok.ensures.shares);
       callers = refl;
     }
+
+pub returns-in-Err-NoMemory-clause-wants : goal.returns-in-Err-NoMemory-clause-wants
+returns-in-Err-NoMemory-clause-wants c =
+    let old = c.args.self.now in
+    subst (λ (l : List Part). WantsIn c.args.instr.now old.heap l (vec_capacity old.path)) c.as_mut_slice-registers.ensures.value (c.in-Err-NoMemory.ensures.wants c.in-Err-NoMemory.field-0-is)
