@@ -1,4 +1,5 @@
-use Rattle.std.proofs.Common.{◌<◌, ◌≤◌, length, get_or, refl, rules, subst, sym, ◌∙◌}
+use Rattle.std.proofs.Common.{◌≡◌, ◌<◌, ◌≤◌, length, get_or, refl, rules, subst, sym, ◌∙◌}
+use Rattle.std.specs.Prelude.{Ok}
 use Rattle.wy_heap.specs.Nodes.{map_of}
 use Rattle.wy_sem.specs.Expressions.{slot}
 use Rattle.wy_step.specs.Step.{gives}
@@ -8,7 +9,7 @@ use Rattle.wy_mach_instructions.proofs.MoveLemmas.{register_held, second_beside,
 use Rattle.wy_heap.specs.declared.part.Part.TheVariants.{Null}
 use Rattle.wy_heap.specs.Parts.{IsBelow}
 use Rattle.wy_heap.specs.declared.part.Part.{Part}
-use Rattle.wy_mach_instructions.proofs.ShareLemmas.{puts_in, same_part, no_part}
+use Rattle.wy_mach_instructions.proofs.ShareLemmas.{puts_in, same_part}
 use Rattle.wy_mach_instructions.proofs.moving.share.Goals as goal
 
 pub returns-then-index-registers-clause-stop : goal.returns-then-index-registers-clause-stop
@@ -55,7 +56,8 @@ returns-clause-shares c under =
     let below : c.args.from < length ps = search rules in
     let is = read_part ps c.args.from p c.index-registers-index.result below refl in
     let told = c.share.ensures.below (subst (λ (q : Part). IsBelow h h.cap q) (sym is) under) in
-    puts_in h c.share.new.self c.put.new.heap ps ps c.put.new.registers c.args.to (get_or ps c.args.from Null) c.in_ok-made.made told.1 told.2 refl (same_part c.in_ok-made.made p c.share.result c.in_ok-made.is told.0 ∙ is) c.put.ensures.registers c.put.ensures.lasts c.put.ensures.copies
+    let was : c.share.result ≡ Ok c.in_ok-made.made = search rules in
+    puts_in h c.share.new.self c.put.new.heap ps ps c.put.new.registers c.args.to (get_or ps c.args.from Null) c.in_ok-made.made told.1 told.2 refl (same_part c.in_ok-made.made p c.share.result was told.0 ∙ is) c.put.ensures.registers c.put.ensures.lasts c.put.ensures.copies
 
 pub returns-in_err-made-clause-memory : goal.returns-in_err-made-clause-memory
 returns-in_err-made-clause-memory c none under =
@@ -64,5 +66,5 @@ returns-in_err-made-clause-memory c none under =
     let p = get_or ps c.args.from c.index-registers-index.result in
     let below : c.args.from < length ps = search rules in
     let is = read_part ps c.args.from p c.index-registers-index.result below refl in
-    let told = c.share.ensures.below (subst (λ (q : Part). IsBelow h h.cap q) (sym is) under) in
-    no_part c.in_err-made.error p c.share.result c.in_err-made.is told.0
+    let told = (c.share.ensures.below (subst (λ (q : Part). IsBelow h h.cap q) (sym is) under)).0 in
+    absurd (grind (rules, told))
