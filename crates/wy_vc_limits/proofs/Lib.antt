@@ -10,3 +10,5 @@ pub mod ToldLemmas
 pub mod DifferentLemmas
 -- the terms that were seen
 pub mod SeenLemmas
+-- what formulas test
+pub mod KnownLemmas

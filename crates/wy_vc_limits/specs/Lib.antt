@@ -6,3 +6,5 @@ pub mod Mentioned
 pub mod Told
 -- how many terms there are
 pub mod Counted
+-- which types formulas test
+pub mod Known

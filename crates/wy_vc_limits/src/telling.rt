@@ -2,15 +2,16 @@
 ghost use Rattle.std.specs.Prelude.{◌≡◌, ◌++◌, ◌∷◌, [], All, map, IfOk, OnOk};
 ghost use Rattle.wy_conditions.specs.Numbered.{Node};
 ghost use Rattle.wy_conditions.specs.Values.{Setting};
+ghost use Rattle.wy_vc_limits.specs.Known.{AreTestedFrom};
 ghost use Rattle.wy_vc_limits.specs.Meanings.{AreMeanings};
 ghost use Rattle.wy_vc_limits.specs.Told as spec;
 ghost use Rattle.wy_vc_walk.specs.State.{IsGoal, seen_goal};
 
+use crate::known::{Tested, nothing_known, types_of_all};
 use crate::mentioned::{is_marked, mentioned};
 use crate::unfolding::Meaning;
 use std::alloc::{AllocError, Global};
 use wy_term::{Cond, NoMemory, Terms, Unfold};
-use wy_vc_shared::types_tested;
 use wy_vc_walk::Goal;
 
 // A number of 32 bits. A larger one is want of memory.
@@ -64,21 +65,24 @@ fn formulas(alloc: Global, goal: &Goal) -> Result<Vec<u32>, AllocError>
     Ok(formulas)
 }
 
-/// A goal with the named types that it mentions, and those that these mention, by rising number, with the Val name and the formula that the
-/// test of each stands for. Linear in how many terms the goal and its hypotheses are made of, in the named types, and in what those that it
-/// mentions test.
-pub fn told(
+// A goal with the named types that it mentions, and those that these mention, by rising number, with the Val name and the formula that the
+// test of each stands for. Linear in how many hypotheses there are, in what those are made of that weren't looked through yet, in the named
+// types, and in what those that it mentions test.
+fn told(
     alloc: Global,
     terms: &Terms,
     meanings: &[Meaning],
+    known: &mut Vec<Option<Tested>>,
     goal: Goal,
 ) -> Result<Cond, NoMemory>
     requires goal { IsGoal terms.now goal }
+    requires known { AreTestedFrom terms.now 0 known.old.items }
+    ensures known { OnOk result (AreTestedFrom terms.now 0 known.new.items) }
     ensures within { (s : Setting Node) → AreMeanings terms.now s meanings.now → IfOk result (λ c. spec.IsCond terms.now c) }
     ensures value { (s : Setting Node) → AreMeanings terms.now s meanings.now → IfOk result (λ c. spec.seen_cond terms.now c ≡ spec.told s (seen_goal terms.now goal)) }
 {
     let all = formulas(alloc, &goal)?;
-    let tests = types_tested(terms, all.as_slice())?;
+    let tests = types_of_all(terms, known, all.as_slice())?;
     let marks = mentioned(alloc, meanings, tests.as_slice())?;
     let list = entries(alloc, meanings, marks.as_slice())?;
     let Goal {
@@ -96,7 +100,9 @@ pub fn told(
     })
 }
 
-/// The same of goals, in their order.
+/// Goals with the named types that they mention, and those that these mention, in their order: of each the types by rising number, with the
+/// Val name and the formula that the test of each stands for. Linear in how many hypotheses and goals there are in all, in the terms that
+/// these are made of, and for each goal in the named types and in what those that it mentions test.
 pub fn told_all(
     alloc: Global,
     terms: &Terms,
@@ -107,10 +113,11 @@ pub fn told_all(
     ensures within { (s : Setting Node) → AreMeanings terms.now s meanings.now → IfOk result (λ list. All (spec.IsCond terms.now) list.items) }
     ensures value { (s : Setting Node) → AreMeanings terms.now s meanings.now → IfOk result (λ list. map (spec.seen_cond terms.now) list.items ≡ map (spec.told s) (map (seen_goal terms.now) goals.items)) }
 {
+    let mut known = nothing_known(alloc, terms.len())?;
     let mut left = goals;
     let mut list = Vec::new(alloc);
     while let Some(goal) = left.pop() {
-        let cond = told(alloc, terms, meanings, goal)?;
+        let cond = told(alloc, terms, meanings, &mut known, goal)?;
         list.push(cond)?;
     }
     list.reverse();

@@ -4,8 +4,11 @@ use Rattle.wy_vc_limits.specs.Told.{entries_by}
 use Rattle.wy_vc_limits.proofs.ToldLemmas.{formulas_below, told_is, told_within}
 use Rattle.wy_vc_limits.proofs.telling.told.Goals as goal
 
-pub types_tested-requires : goal.types_tested-requires
-types_tested-requires c = formulas_below c.args.terms.now c.args.goal c.as_slice.result.now c.requires.goal (c.as_slice.ensures.value ∙ c.in_ok-all.ensures.value)
+pub types_of_all-requires : goal.types_of_all-requires
+types_of_all-requires c = record {
+  within = formulas_below c.args.terms.now c.args.goal c.as_slice.result.now c.requires.goal (c.as_slice.ensures.value ∙ c.in_ok-all.ensures.value);
+  known = c.requires.known;
+}
 
 pub returns-clause-within : goal.returns-clause-within
 returns-clause-within c s are =
