@@ -16,9 +16,9 @@ sys.path.insert(0, folder)
 import run
 import table
 
-# requests of the rows' table: the one from which on there are workers, and the one with modules
+# steps of the rows' table: the one from which on there are workers, and the one with modules
 WORKERS = 13
-MODULES = "R18."
+MODULES = 18
 
 
 def has_workers(words):
@@ -31,7 +31,7 @@ def has_imports(files):
 
 def row_is_left_out(row):
     words = [word for step in row.steps if not isinstance(step, table.Edit) for word in step.words]
-    return row.id.startswith(MODULES) or (row.since >= WORKERS and has_workers(words))
+    return row.since == MODULES or (row.since >= WORKERS and has_workers(words))
 
 
 def case_is_left_out(case):
