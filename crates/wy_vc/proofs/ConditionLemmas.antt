@@ -27,10 +27,10 @@ use Rattle.wy_vc_limits.specs.Told.{Told, seen_cond, told}
 use Rattle.wy_vc_names.specs.Described.{setting}
 use Rattle.wy_vc_names.specs.declared.program.Program.{Program}
 use Rattle.wy_vc_operations.specs.Growing.{Kept}
-use Rattle.wy_vc_walk.specs.State.{IsGoal, IsSound, owed_of, seen_goal}
-use Rattle.wy_vc_walk.specs.declared.goal.Goal.{Goal}
-use Rattle.wy_vc_walk.specs.declared.walk.Walk.{Walk}
-use Rattle.wy_vc_walk.proofs.StateLemmas.{goal_kept, goals_kept}
+use Rattle.wy_vc_expressions.specs.State.{IsGoal, IsSound, owed_of, seen_goal}
+use Rattle.wy_vc_expressions.specs.declared.goal.Goal.{Goal}
+use Rattle.wy_vc_expressions.specs.declared.walk.Walk.{Walk}
+use Rattle.wy_vc_expressions.proofs.StateLemmas.{goal_kept, goals_kept}
 use Rattle.wy_vc_declarations.specs.Entering.{OwesFirst}
 use Rattle.wy_vc_operations.specs.Growing.{AreBelow}
 use Rattle.wy_vc_terms.specs.declared.maker.Maker.{Maker}

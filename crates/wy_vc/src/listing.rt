@@ -9,7 +9,7 @@ ghost use Rattle.wy_vc_actions.specs.Frames.{program_of};
 ghost use Rattle.wy_vc_limits.specs.Counted.{seen_passing};
 ghost use Rattle.wy_vc_limits.specs.Told.{IsCond};
 ghost use Rattle.wy_vc_names.specs.Described.{IsDescribed};
-ghost use Rattle.wy_vc_walk.specs.State.{IsSound, owed_of};
+ghost use Rattle.wy_vc_expressions.specs.State.{IsSound, owed_of};
 
 use crate::fault::VcFault;
 use std::alloc::Global;
@@ -17,11 +17,11 @@ use wy_core::Core;
 use wy_term::{Conds, NoMemory};
 use wy_typing::Typed;
 use wy_vc_declarations::owe_declarations;
+use wy_vc_expressions::Walk;
 use wy_vc_limits::{Passing, first_limit, meanings, told_all};
 use wy_vc_names::Program;
 use wy_vc_numbers::typed_program;
 use wy_vc_terms::Maker;
-use wy_vc_walk::Walk;
 
 /// The most conditions of a program.
 const MOST_CONDITIONS: usize = 16384;

@@ -21,13 +21,13 @@ use Rattle.wy_conditions.specs.Statements as spec
 use Rattle.wy_conditions.specs.Variables.{Vars}
 use Rattle.wy_conditions.specs.Walks.{goals_of, index_goals}
 use Rattle.wy_vc_operations.specs.Growing.{Kept, Makes}
-use Rattle.wy_vc_steps.specs.Owing.{passed_goals}
-use Rattle.wy_vc_walk.specs.Slots.{AreSlots, slots_of}
-use Rattle.wy_vc_walk.specs.State.{IsSound, Steps, Walks, hyps_of, owed_of, passed_by}
-use Rattle.wy_vc_walk.specs.declared.walk.Walk.{Walk}
-use Rattle.wy_vc_walk.proofs.NumberedLemmas.{here_kept}
-use Rattle.wy_vc_walk.proofs.SlotLemmas.{slots_kept}
-use Rattle.wy_vc_walk.proofs.StateLemmas.{kept_all, kept_on, steps_on, steps_as, steps_made}
+use Rattle.wy_vc_expressions.specs.Owing.{passed_goals}
+use Rattle.wy_vc_expressions.specs.Slots.{AreSlots, slots_of}
+use Rattle.wy_vc_expressions.specs.State.{IsSound, Steps, Walks, hyps_of, owed_of, passed_by}
+use Rattle.wy_vc_expressions.specs.declared.walk.Walk.{Walk}
+use Rattle.wy_vc_expressions.proofs.NumberedLemmas.{here_kept}
+use Rattle.wy_vc_expressions.proofs.SlotLemmas.{slots_kept}
+use Rattle.wy_vc_expressions.proofs.StateLemmas.{kept_all, kept_on, steps_on, steps_as, steps_made}
 use Rattle.wy_vc_joins.proofs.PathLemmas.{next_of}
 use Rattle.wy_vc_actions.specs.declared.frame.Frame.{Frame}
 use Rattle.wy_vc_actions.specs.declared.places.Part.{Part}

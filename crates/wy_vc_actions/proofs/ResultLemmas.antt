@@ -14,12 +14,12 @@ use Rattle.wy_conditions.specs.Sizes.{exprs_in_list}
 use Rattle.wy_conditions.specs.Statements as spec
 use Rattle.wy_conditions.specs.Variables.{Vars, put_if}
 use Rattle.wy_vc_operations.specs.Growing.{Kept}
-use Rattle.wy_vc_walk.specs.Slots.{AreSlots, slots_of}
-use Rattle.wy_vc_walk.specs.State.{IsSound, Steps, hyps_of, seen_goal}
-use Rattle.wy_vc_walk.specs.declared.walk.Walk.{Walk}
-use Rattle.wy_vc_walk.specs.declared.goal.Goal.{Goal}
-use Rattle.wy_vc_walk.proofs.SlotLemmas.{slots_put, are_put, slots_kept}
-use Rattle.wy_vc_walk.proofs.StateLemmas.{steps_none, steps_on, steps_noded}
+use Rattle.wy_vc_expressions.specs.Slots.{AreSlots, slots_of}
+use Rattle.wy_vc_expressions.specs.State.{IsSound, Steps, hyps_of, seen_goal}
+use Rattle.wy_vc_expressions.specs.declared.walk.Walk.{Walk}
+use Rattle.wy_vc_expressions.specs.declared.goal.Goal.{Goal}
+use Rattle.wy_vc_expressions.proofs.SlotLemmas.{slots_put, are_put, slots_kept}
+use Rattle.wy_vc_expressions.proofs.StateLemmas.{steps_none, steps_on, steps_noded}
 use Rattle.wy_vc_actions.specs.declared.frame.Frame.{Frame}
 use Rattle.wy_vc_actions.specs.Frames.{IsFrame, body_at}
 use Rattle.wy_vc_actions.specs.Results.{IsGiven, with_number}

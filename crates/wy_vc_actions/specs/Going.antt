@@ -3,8 +3,8 @@ use Rattle.std.specs.Prelude.{◌≡◌, ◌++◌, length, take, Bool, true, fal
 use Rattle.wy_conditions.specs.Spots.{Flow}
 use Rattle.wy_vc_operations.specs.Growing.{Kept}
 use Rattle.wy_vc_points.specs.declared.here.Here.{Here}
-use Rattle.wy_vc_walk.specs.State.{IsSound, owed_of}
-use Rattle.wy_vc_walk.specs.declared.walk.Walk.{Walk}
+use Rattle.wy_vc_expressions.specs.State.{IsSound, owed_of}
+use Rattle.wy_vc_expressions.specs.declared.walk.Walk.{Walk}
 use Rattle.wy_vc_joins.specs.Paths.{IsEnd}
 
 -- from the one walk to the other so much was owed, and so many names were made; a path goes on with this, or none does

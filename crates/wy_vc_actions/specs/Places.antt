@@ -13,8 +13,8 @@ use Rattle.wy_conditions.specs.Clauses.{Passed, passed}
 use Rattle.wy_conditions.specs.Statements as spec
 use Rattle.wy_conditions.specs.Variables.{Vars}
 use Rattle.wy_conditions.specs.Walks.{index_goals}
-use Rattle.wy_vc_walk.specs.State.{Steps}
-use Rattle.wy_vc_walk.specs.declared.walk.Walk.{Walk}
+use Rattle.wy_vc_expressions.specs.State.{Steps}
+use Rattle.wy_vc_expressions.specs.declared.walk.Walk.{Walk}
 use Rattle.wy_vc_actions.specs.declared.places.Part.{Part}
 use Rattle.wy_vc_actions.specs.declared.places.Part.TheVariants as part
 

@@ -9,22 +9,20 @@ ghost use Rattle.wy_vc_actions.specs.Frames.{IsFrame, body_at, program_of};
 ghost use Rattle.wy_vc_actions.specs.Loops.{Renews, name_if, renewed_names, renewed_types, type_if, with_name, with_type};
 ghost use Rattle.wy_vc_joins.specs.Paths.{spot_of};
 ghost use Rattle.wy_vc_names.specs.Described.{IsDescribed, setting};
-ghost use Rattle.wy_vc_walk.specs.Slots.{AreSlots, slots_of};
-ghost use Rattle.wy_vc_walk.specs.State.{IsSound, Steps, hyps_of};
+ghost use Rattle.wy_vc_expressions.specs.Slots.{AreSlots, slots_of};
+ghost use Rattle.wy_vc_expressions.specs.State.{IsSound, Steps, hyps_of};
 
 use crate::frame::Frame;
 use std::alloc::Global;
 use wy_core::{Core, Expr, Stmt};
 use wy_data::Name;
 use wy_term::{CondKind, NoMemory};
-use wy_vc_clauses::{assume_in_type, owe_clauses};
-use wy_vc_expressions::walked;
+use wy_vc_expressions::{Walk, assume_in_type, owe_clauses, walked};
 use wy_vc_joins::{as_number, new_name};
 use wy_vc_names::Program;
 use wy_vc_operations::{formula, put};
 use wy_vc_points::{Here, assigned_in, is_set, type_of};
 use wy_vc_terms::variable;
-use wy_vc_walk::Walk;
 
 fn both(a: bool, b: bool) -> bool
     ensures value { result ≡ a && b }

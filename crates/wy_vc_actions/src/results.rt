@@ -6,15 +6,14 @@ ghost use Rattle.wy_core.specs.CoreSeen.{seen_output};
 ghost use Rattle.wy_term.specs.Nodes.{tree_at};
 ghost use Rattle.wy_vc_actions.specs.Frames.{IsFrame, body_at};
 ghost use Rattle.wy_vc_actions.specs.Results.{IsGiven, with_number};
-ghost use Rattle.wy_vc_walk.specs.State.{IsSound, Steps, hyps_of};
+ghost use Rattle.wy_vc_expressions.specs.State.{IsSound, Steps, hyps_of};
 
 use crate::frame::Frame;
 use std::alloc::{AllocError, Global};
 use wy_core::Output;
 use wy_term::{CondKind, NoMemory};
-use wy_vc_clauses::{owe_clauses, owe_member};
+use wy_vc_expressions::{Walk, owe_clauses, owe_member};
 use wy_vc_operations::put;
-use wy_vc_walk::Walk;
 
 // The result, if there is one, is in its type.
 fn owe_result(

@@ -9,17 +9,16 @@ ghost use Rattle.wy_vc_actions.specs.Going.{Went};
 ghost use Rattle.wy_vc_joins.specs.Paths.{spot_of};
 ghost use Rattle.wy_vc_names.specs.Described.{setting};
 ghost use Rattle.wy_vc_points.specs.Types.{or_any};
-ghost use Rattle.wy_vc_walk.specs.Slots.{AreSlots};
-ghost use Rattle.wy_vc_walk.specs.State.{IsSound, Steps, hyps_of};
+ghost use Rattle.wy_vc_expressions.specs.Slots.{AreSlots};
+ghost use Rattle.wy_vc_expressions.specs.State.{IsSound, Steps, hyps_of};
 
 use crate::frame::Frame;
 use std::alloc::Global;
 use wy_core::Ty;
 use wy_term::NoMemory;
-use wy_vc_clauses::owe_member;
+use wy_vc_expressions::{Walk, owe_member};
 use wy_vc_joins::named;
 use wy_vc_points::Here;
-use wy_vc_walk::Walk;
 
 // The value is in the type; what has none may be anything.
 fn owe_declared(

@@ -14,10 +14,10 @@ use Rattle.wy_conditions.specs.Programs.{decl_conditions, decls_conditions}
 use Rattle.wy_conditions.specs.Sizes.{exprs_in_block, exprs_in_list}
 use Rattle.wy_conditions.specs.Walks as walks
 use Rattle.wy_vc_operations.specs.Growing.{Kept}
-use Rattle.wy_vc_walk.specs.State.{IsSound, owed_of}
-use Rattle.wy_vc_walk.specs.declared.walk.Walk.{Walk}
-use Rattle.wy_vc_walk.proofs.NumberedLemmas.{kept_then}
-use Rattle.wy_vc_walk.proofs.StateLemmas.{kept_all}
+use Rattle.wy_vc_expressions.specs.State.{IsSound, owed_of}
+use Rattle.wy_vc_expressions.specs.declared.walk.Walk.{Walk}
+use Rattle.wy_vc_expressions.proofs.NumberedLemmas.{kept_then}
+use Rattle.wy_vc_expressions.proofs.StateLemmas.{kept_all}
 use Rattle.wy_vc_joins.proofs.PathLemmas.{next_of}
 use Rattle.wy_vc_names.specs.Described.{IsCalled}
 use Rattle.wy_vc_names.specs.declared.program.Called.{Called}

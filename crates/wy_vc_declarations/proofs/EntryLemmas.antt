@@ -19,14 +19,14 @@ use Rattle.wy_conditions.specs.Values.{Setting, variable, word_at, word_if}
 use Rattle.wy_conditions.specs.Variables.{Vars, put, put_if}
 use Rattle.wy_vc_operations.specs.Growing.{Kept, Makes}
 use Rattle.wy_vc_points.specs.declared.here.Here.{Here}
-use Rattle.wy_vc_walk.specs.Numbered.{trees_of}
-use Rattle.wy_vc_walk.specs.Slots.{AreSlots, slots_of}
-use Rattle.wy_vc_walk.specs.State.{IsSound, Steps, hyps_of, owed_of}
-use Rattle.wy_vc_walk.specs.declared.walk.Walk.{Walk}
-use Rattle.wy_vc_walk.proofs.NumberedLemmas.{kept_then}
-use Rattle.wy_vc_walk.proofs.SlotLemmas.{slots_kept, slots_on, slots_put, are_put}
-use Rattle.wy_vc_walk.proofs.StateLemmas.{kept_all, steps_on, steps_as, steps_made, steps_none}
-use Rattle.wy_vc_clauses.proofs.GivenLemmas.{slots_put_if, are_put_if, output_typed}
+use Rattle.wy_vc_expressions.specs.Numbered.{trees_of}
+use Rattle.wy_vc_expressions.specs.Slots.{AreSlots, slots_of}
+use Rattle.wy_vc_expressions.specs.State.{IsSound, Steps, hyps_of, owed_of}
+use Rattle.wy_vc_expressions.specs.declared.walk.Walk.{Walk}
+use Rattle.wy_vc_expressions.proofs.NumberedLemmas.{kept_then}
+use Rattle.wy_vc_expressions.proofs.SlotLemmas.{slots_kept, slots_on, slots_put, are_put}
+use Rattle.wy_vc_expressions.proofs.StateLemmas.{kept_all, steps_on, steps_as, steps_made, steps_none}
+use Rattle.wy_vc_expressions.proofs.GivenLemmas.{slots_put_if, are_put_if, output_typed}
 use Rattle.wy_vc_joins.proofs.PathLemmas.{next_of}
 use Rattle.wy_vc_joins.specs.Paths.{spot_of}
 use Rattle.wy_vc_actions.specs.Loops.{Renews}

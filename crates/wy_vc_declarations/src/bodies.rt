@@ -8,7 +8,7 @@ ghost use Rattle.wy_vc_actions.specs.Frames.{IsFrame, body_at, program_of};
 ghost use Rattle.wy_vc_declarations.specs.Entering.{Owes};
 ghost use Rattle.wy_vc_joins.specs.Paths.{IsEnd};
 ghost use Rattle.wy_vc_names.specs.Described.{IsCalled, IsDescribed};
-ghost use Rattle.wy_vc_walk.specs.State.{IsSound};
+ghost use Rattle.wy_vc_expressions.specs.State.{IsSound};
 
 use crate::begin::begin;
 use crate::entry::enter;
@@ -16,11 +16,10 @@ use std::alloc::Global;
 use wy_core::{Core, Routine};
 use wy_term::NoMemory;
 use wy_vc_actions::{Frame, leave};
-use wy_vc_clauses::assume_clauses;
+use wy_vc_expressions::{Walk, assume_clauses};
 use wy_vc_names::{Called, Program};
 use wy_vc_points::{Here, declared_types};
 use wy_vc_statements::exec_body;
-use wy_vc_walk::Walk;
 
 // The end of a body that gives nothing back counts as a `return` at its declaration, where a path gets there; the end of one that gives
 // something back is never reached.

@@ -6,8 +6,8 @@ ghost use Rattle.wy_core.specs.CoreSeen.{seen_exprs, seen_routine};
 ghost use Rattle.wy_vc_actions.specs.Frames.{program_of};
 ghost use Rattle.wy_vc_declarations.specs.Entering.{Owes};
 ghost use Rattle.wy_vc_names.specs.Described.{IsDescribed};
-ghost use Rattle.wy_vc_walk.specs.Slots.{AreSlots, slots_of};
-ghost use Rattle.wy_vc_walk.specs.State.{IsSound, hyps_of};
+ghost use Rattle.wy_vc_expressions.specs.Slots.{AreSlots, slots_of};
+ghost use Rattle.wy_vc_expressions.specs.State.{IsSound, hyps_of};
 
 use crate::begin::begin;
 use crate::entry::{enter, enter_result};
@@ -15,8 +15,8 @@ use std::alloc::Global;
 use wy_core::{Core, Routine};
 use wy_term::NoMemory;
 use wy_vc_actions::walk_clauses;
+use wy_vc_expressions::Walk;
 use wy_vc_names::Program;
-use wy_vc_walk::Walk;
 
 // What the ensures clauses owe, the first of whose expressions comes next, where parameters stand for these terms; where there are none the
 // result takes no name.

@@ -7,7 +7,7 @@ ghost use Rattle.wy_core.specs.CoreTree as tree;
 ghost use Rattle.wy_vc_actions.specs.Frames.{program_of};
 ghost use Rattle.wy_vc_declarations.specs.Entering.{Owes, OwesFirst};
 ghost use Rattle.wy_vc_names.specs.Described.{IsCalled, IsDescribed};
-ghost use Rattle.wy_vc_walk.specs.State.{IsSound};
+ghost use Rattle.wy_vc_expressions.specs.State.{IsSound};
 
 use crate::bodies::owe_body;
 use crate::contracts::owe_contract;
@@ -15,9 +15,9 @@ use crate::types::owe_type;
 use std::alloc::{AllocError, Global};
 use wy_core::{Alias, Core, Decl, Routine};
 use wy_term::NoMemory;
+use wy_vc_expressions::Walk;
 use wy_vc_names::{Called, Program};
 use wy_vc_sizes::{exprs_in_block, exprs_in_list, total};
-use wy_vc_walk::Walk;
 
 // The numbers of the first expressions of a function's or method's parts, of which the very first has this number.
 fn called_at(routine: &Routine, decl: usize, first: usize) -> Result<Called, AllocError>

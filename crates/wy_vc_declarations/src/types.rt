@@ -6,18 +6,17 @@ ghost use Rattle.wy_core.specs.CoreSeen.{seen_alias};
 ghost use Rattle.wy_vc_actions.specs.Frames.{program_of};
 ghost use Rattle.wy_vc_declarations.specs.Entering.{Owes};
 ghost use Rattle.wy_vc_names.specs.Described.{IsDescribed};
-ghost use Rattle.wy_vc_walk.specs.State.{IsSound};
+ghost use Rattle.wy_vc_expressions.specs.State.{IsSound};
 
 use crate::begin::begin;
 use std::alloc::Global;
 use wy_core::{Alias, Core};
 use wy_term::NoMemory;
 use wy_vc_actions::walk_clauses;
-use wy_vc_clauses::assume_in_type;
+use wy_vc_expressions::{Walk, assume_in_type};
 use wy_vc_joins::new_name;
 use wy_vc_names::Program;
 use wy_vc_operations::put;
-use wy_vc_walk::Walk;
 
 // What the clauses owe, the first of whose expressions has this number: of a name that is in the type's definition.
 fn owe_type_clauses(

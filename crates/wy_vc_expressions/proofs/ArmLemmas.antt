@@ -27,15 +27,15 @@ use Rattle.wy_vc_names.specs.declared.program.Program.{Program}
 use Rattle.wy_vc_names.specs.Described.{setting, is_number_in}
 use Rattle.wy_vc_operations.specs.Growing.{Kept}
 use Rattle.wy_vc_terms.specs.declared.maker.Maker.{Maker}
-use Rattle.wy_vc_walk.specs.Numbered.{trees_of}
-use Rattle.wy_vc_walk.specs.Slots.{slots_of, AreSlots}
-use Rattle.wy_vc_walk.specs.State.{IsSound, Steps, Walks, WalksAll, hyps_of, passed_by}
-use Rattle.wy_vc_walk.specs.declared.walk.Walk.{Walk}
-use Rattle.wy_vc_walk.proofs.StateLemmas.{steps_on, steps_cut, steps_same, at_kept, kept_on, owed_before}
-use Rattle.wy_vc_walk.proofs.SlotLemmas.{are_put, slots_kept, slots_on, slots_put}
-use Rattle.wy_vc_walk.proofs.WalkLemmas.{walks_on, walks_free, walks_behind, walks_two, walks_many, walks_many_free}
+use Rattle.wy_vc_expressions.specs.Numbered.{trees_of}
+use Rattle.wy_vc_expressions.specs.Slots.{slots_of, AreSlots}
+use Rattle.wy_vc_expressions.specs.State.{IsSound, Steps, Walks, WalksAll, hyps_of, passed_by}
+use Rattle.wy_vc_expressions.specs.declared.walk.Walk.{Walk}
+use Rattle.wy_vc_expressions.proofs.StateLemmas.{steps_on, steps_cut, steps_same, at_kept, kept_on, owed_before}
+use Rattle.wy_vc_expressions.proofs.SlotLemmas.{are_put, slots_kept, slots_on, slots_put}
+use Rattle.wy_vc_expressions.proofs.WalkLemmas.{walks_on, walks_free, walks_behind, walks_two, walks_many, walks_many_free}
 use Rattle.wy_vc_expressions.specs.Walking.{calls, walk_of, walk_all_of, field_walks, WalksFields}
-use Rattle.wy_vc_steps.specs.Owing.{is_walk, range_hyps, stay_behind}
+use Rattle.wy_vc_expressions.specs.Owing.{is_walk, range_hyps, stay_behind}
 
 -- ---- numbers of expressions
 

@@ -12,9 +12,9 @@ use Rattle.wy_term.specs.declared.memory.NoMemory.{NoMemory}
 use Rattle.wy_conditions.specs.Sizes.{exprs_in}
 use Rattle.wy_conditions.specs.Variables.{Vars}
 use Rattle.wy_vc_names.specs.declared.program.Program.{Program}
-use Rattle.wy_vc_walk.specs.State.{Walks, hyps_of}
-use Rattle.wy_vc_walk.specs.declared.walk.Walk.{Walk}
-use Rattle.wy_vc_walk.proofs.ResultLemmas.{on_ok}
+use Rattle.wy_vc_expressions.specs.State.{Walks, hyps_of}
+use Rattle.wy_vc_expressions.specs.declared.walk.Walk.{Walk}
+use Rattle.wy_vc_expressions.proofs.ResultLemmas.{on_ok}
 use Rattle.wy_vc_expressions.specs.Walking.{walk_of}
 
 -- what is so of an expression of this form is so of the expression

@@ -15,13 +15,13 @@ use Rattle.wy_conditions.specs.Calls.{Walked}
 use Rattle.wy_conditions.specs.Walks.{WalkedAll}
 use Rattle.wy_vc_names.specs.declared.program.Program.{Program}
 use Rattle.wy_vc_operations.specs.Growing.{AreBelow}
-use Rattle.wy_vc_walk.specs.Numbered.{trees_of}
-use Rattle.wy_vc_walk.specs.Slots.{slots_of, AreSlots}
-use Rattle.wy_vc_walk.specs.State.{IsSound, Walks, WalksAll, hyps_of, passed_by, passed_by_all}
-use Rattle.wy_vc_walk.specs.declared.walk.Walk.{Walk}
-use Rattle.wy_vc_walk.proofs.NumberedLemmas.{trees_kept, below_on}
-use Rattle.wy_vc_walk.proofs.SlotLemmas.{slots_kept, slots_on}
-use Rattle.wy_vc_walk.proofs.StateLemmas.{Toward, toward_begin, toward_step, toward_end}
+use Rattle.wy_vc_expressions.specs.Numbered.{trees_of}
+use Rattle.wy_vc_expressions.specs.Slots.{slots_of, AreSlots}
+use Rattle.wy_vc_expressions.specs.State.{IsSound, Walks, WalksAll, hyps_of, passed_by, passed_by_all}
+use Rattle.wy_vc_expressions.specs.declared.walk.Walk.{Walk}
+use Rattle.wy_vc_expressions.proofs.NumberedLemmas.{trees_kept, below_on}
+use Rattle.wy_vc_expressions.proofs.SlotLemmas.{slots_kept, slots_on}
+use Rattle.wy_vc_expressions.proofs.StateLemmas.{Toward, toward_begin, toward_step, toward_end}
 use Rattle.wy_vc_expressions.specs.Walking.{walk_of, walk_all_of, field_walks}
 
 -- what is left to walk comes to all, and the terms made stand in front

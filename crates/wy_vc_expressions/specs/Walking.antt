@@ -11,8 +11,8 @@ use Rattle.wy_conditions.specs.Walks.{CallWalks, WalkedAll, walk, walk_all, walk
 use Rattle.wy_vc_names.specs.declared.program.Program.{Program}
 use Rattle.wy_vc_names.specs.Described.{setting}
 use Rattle.wy_vc_operations.specs.Growing.{AreAt}
-use Rattle.wy_vc_walk.specs.State.{Steps, passed_by_all}
-use Rattle.wy_vc_walk.specs.declared.walk.Walk.{Walk}
+use Rattle.wy_vc_expressions.specs.State.{Steps, passed_by_all}
+use Rattle.wy_vc_expressions.specs.declared.walk.Walk.{Walk}
 
 -- the walk of a call
 abbrev pub calls : Core → Program → CallWalks

@@ -6,24 +6,20 @@ ghost use Rattle.wy_conditions.specs.Sizes as sizes;
 ghost use Rattle.wy_vc_expressions.specs.Walking.{WalksFields, calls, field_walks, walk_all_of, walk_of};
 ghost use Rattle.wy_vc_names.specs.Described.{IsDescribed};
 ghost use Rattle.wy_vc_operations.specs.Growing.{AreBelow};
-ghost use Rattle.wy_vc_walk.specs.Numbered.{trees_of};
-ghost use Rattle.wy_vc_walk.specs.Slots.{AreSlots, slots_of};
-ghost use Rattle.wy_vc_walk.specs.State.{IsSound, Walks, WalksAll, hyps_of};
+ghost use Rattle.wy_vc_expressions.specs.Numbered.{trees_of};
+ghost use Rattle.wy_vc_expressions.specs.Slots.{AreSlots, slots_of};
+ghost use Rattle.wy_vc_expressions.specs.State.{IsSound, Walks, WalksAll, hyps_of};
 
+use crate::calls::call;
+use crate::steps::{assume_left, begin_range, forget_right, walk_binary, walk_field, walk_index, walk_is, walk_len, walk_list, walk_neg, walk_not, walk_null, walk_quantified, walk_record, walk_repeat, walk_truth, walk_variable, walk_whole};
+use crate::walk::Walk;
 use std::alloc::Global;
 use wy_core::{Core, Expr, ExprKind};
 use wy_data::Name;
 use wy_term::NoMemory;
-use wy_vc_clauses::call;
 use wy_vc_names::Program;
 use wy_vc_operations::put;
-use wy_vc_steps::{
-    assume_left, begin_range, forget_right, walk_binary, walk_field, walk_index, walk_is, walk_len,
-    walk_list, walk_neg, walk_not, walk_null, walk_quantified, walk_record, walk_repeat,
-    walk_truth, walk_variable, walk_whole,
-};
 use wy_vc_terms::is_number;
-use wy_vc_walk::Walk;
 
 // Both are so.
 fn both(first: bool, second: bool) -> bool

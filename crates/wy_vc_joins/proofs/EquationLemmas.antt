@@ -10,18 +10,18 @@ use Rattle.wy_conditions.specs.Joins as spec
 use Rattle.wy_conditions.specs.Making.{equal}
 use Rattle.wy_conditions.specs.Variables.{Vars, slot_at}
 use Rattle.wy_vc_operations.specs.Growing.{Kept, Makes, AreAt}
-use Rattle.wy_vc_walk.specs.Numbered.{trees_of}
-use Rattle.wy_vc_walk.specs.Slots.{slots_of}
-use Rattle.wy_vc_walk.proofs.NumberedLemmas.{kept_then, are_itself}
-use Rattle.wy_vc_walk.proofs.SlotLemmas.{slots_kept}
-use Rattle.wy_vc_walk.proofs.StateLemmas.{kept_all, are_kept}
+use Rattle.wy_vc_expressions.specs.Numbered.{trees_of}
+use Rattle.wy_vc_expressions.specs.Slots.{slots_of}
+use Rattle.wy_vc_expressions.proofs.NumberedLemmas.{kept_then, are_itself}
+use Rattle.wy_vc_expressions.proofs.SlotLemmas.{slots_kept}
+use Rattle.wy_vc_expressions.proofs.StateLemmas.{kept_all, are_kept}
 use Rattle.wy_vc_terms.specs.declared.maker.Maker.{Maker}
 use Rattle.wy_vc_joins.specs.declared.paths.Path.{Path}
 use Rattle.wy_vc_joins.specs.Paths.{IsPath, ArePaths, seen_path, seen_paths}
 use Rattle.wy_vc_joins.specs.Known.{equation, equations, path_term, seen_names, AreNames}
 use Rattle.wy_vc_joins.proofs.PathLemmas.{slot_map, path_kept, one_of_all}
 use Rattle.wy_vc_joins.proofs.KnownLemmas.{names_kept}
-use Rattle.wy_vc_walk.proofs.ResultLemmas.{if_ok}
+use Rattle.wy_vc_expressions.proofs.ResultLemmas.{if_ok}
 
 -- one number more
 pub are_push : (nodes : List Plain) (ks : List ℕ) (k : ℕ) (ts : List Term) (t : Term) → AreAt nodes ks ts → IsAt nodes k t → AreAt nodes (ks ++ k ∷ []) (ts ++ t ∷ [])

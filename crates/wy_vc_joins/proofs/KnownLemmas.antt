@@ -9,10 +9,10 @@ use Rattle.wy_conditions.specs.Making.{val_name}
 use Rattle.wy_conditions.specs.Values.{word_at}
 use Rattle.wy_conditions.specs.Variables.{Vars}
 use Rattle.wy_vc_operations.specs.Growing.{AreAt, Kept, Makes, IsSlotBelow, AreSlotsBelow}
-use Rattle.wy_vc_walk.specs.Slots.{AreSlots, slots_of}
-use Rattle.wy_vc_walk.proofs.NumberedLemmas.{kept_then}
-use Rattle.wy_vc_walk.proofs.SlotLemmas.{slots_kept, slots_on}
-use Rattle.wy_vc_walk.proofs.StateLemmas.{kept_all}
+use Rattle.wy_vc_expressions.specs.Slots.{AreSlots, slots_of}
+use Rattle.wy_vc_expressions.proofs.NumberedLemmas.{kept_then}
+use Rattle.wy_vc_expressions.proofs.SlotLemmas.{slots_kept, slots_on}
+use Rattle.wy_vc_expressions.proofs.StateLemmas.{kept_all}
 use Rattle.wy_vc_terms.specs.declared.maker.Maker.{Maker}
 use Rattle.wy_vc_joins.specs.declared.known.Joined.{Joined}
 use Rattle.wy_vc_joins.specs.declared.paths.Path.{Path}

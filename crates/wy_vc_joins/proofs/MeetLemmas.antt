@@ -14,14 +14,14 @@ use Rattle.wy_conditions.specs.Variables.{Vars}
 use Rattle.wy_vc_operations.specs.Growing.{Kept, Makes, AreAt, AreBelow}
 use Rattle.wy_vc_points.specs.declared.here.Here.{Here}
 use Rattle.wy_vc_terms.specs.declared.maker.Maker.{Maker}
-use Rattle.wy_vc_walk.specs.Numbered.{trees_of}
-use Rattle.wy_vc_walk.specs.Slots.{AreSlots, slots_of}
-use Rattle.wy_vc_walk.specs.State.{IsGoal, IsSound, Steps, hyps_of, owed_of, seen_goal}
-use Rattle.wy_vc_walk.specs.declared.walk.Walk.{Walk}
-use Rattle.wy_vc_walk.specs.declared.goal.Goal.{Goal}
-use Rattle.wy_vc_walk.proofs.NumberedLemmas.{kept_then}
-use Rattle.wy_vc_walk.proofs.SlotLemmas.{slots_kept, slots_on}
-use Rattle.wy_vc_walk.proofs.StateLemmas.{kept_all, steps_made, steps_on}
+use Rattle.wy_vc_expressions.specs.Numbered.{trees_of}
+use Rattle.wy_vc_expressions.specs.Slots.{AreSlots, slots_of}
+use Rattle.wy_vc_expressions.specs.State.{IsGoal, IsSound, Steps, hyps_of, owed_of, seen_goal}
+use Rattle.wy_vc_expressions.specs.declared.walk.Walk.{Walk}
+use Rattle.wy_vc_expressions.specs.declared.goal.Goal.{Goal}
+use Rattle.wy_vc_expressions.proofs.NumberedLemmas.{kept_then}
+use Rattle.wy_vc_expressions.proofs.SlotLemmas.{slots_kept, slots_on}
+use Rattle.wy_vc_expressions.proofs.StateLemmas.{kept_all, steps_made, steps_on}
 use Rattle.wy_vc_joins.specs.declared.known.Joined.{Joined}
 use Rattle.wy_vc_joins.specs.declared.paths.Path.{Path}
 use Rattle.wy_vc_joins.specs.Known.{Known, known_from, path_term, seen_names, seen_joined, IsJoined}

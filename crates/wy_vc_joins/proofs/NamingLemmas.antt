@@ -9,12 +9,12 @@ use Rattle.wy_conditions.specs.Clauses.{passed}
 use Rattle.wy_conditions.specs.Large.{Named, named, is_large}
 use Rattle.wy_vc_operations.specs.Growing.{Makes}
 use Rattle.wy_vc_terms.specs.declared.maker.Maker.{Maker}
-use Rattle.wy_vc_walk.specs.State.{IsSound, Steps, Walks, hyps_of}
-use Rattle.wy_vc_walk.specs.declared.walk.Walk.{Walk}
-use Rattle.wy_vc_walk.proofs.NumberedLemmas.{here_kept, at_itself}
-use Rattle.wy_vc_walk.proofs.StateLemmas.{steps_made, steps_on, steps_as, steps_none}
+use Rattle.wy_vc_expressions.specs.State.{IsSound, Steps, Walks, hyps_of}
+use Rattle.wy_vc_expressions.specs.declared.walk.Walk.{Walk}
+use Rattle.wy_vc_expressions.proofs.NumberedLemmas.{here_kept, at_itself}
+use Rattle.wy_vc_expressions.proofs.StateLemmas.{steps_made, steps_on, steps_as, steps_none}
 use Rattle.wy_vc_joins.specs.Named.{named_walk, with_name}
-use Rattle.wy_vc_walk.proofs.NumberedLemmas.{kept_then}
+use Rattle.wy_vc_expressions.proofs.NumberedLemmas.{kept_then}
 
 -- a name with its word and number
 pub val_word : (m m' : Maker) (ts : List Plain) (r : ℕ) (w w' : List ℕ) (n : ℕ) → w' ≡ w → n ≡ m.count → m' ≡ record m { count = suc m.count } → Makes m'.terms ts r (val_name w' n) → Makes m.terms ts r (val_name w m.count)

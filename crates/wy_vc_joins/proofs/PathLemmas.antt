@@ -9,12 +9,12 @@ use Rattle.wy_conditions.specs.Variables.{Vars, slot_at}
 use Rattle.wy_conditions.specs.Spots.{is_set}
 use Rattle.wy_vc_operations.specs.Growing.{Kept, IsSlotBelow, AreSlotsBelow}
 use Rattle.wy_vc_points.proofs.MarkLemmas.{max_assoc}
-use Rattle.wy_vc_walk.specs.Slots.{slots_of}
-use Rattle.wy_vc_walk.proofs.NumberedLemmas.{trees_kept, below_on}
-use Rattle.wy_vc_walk.proofs.SlotLemmas.{slots_kept, slots_on}
+use Rattle.wy_vc_expressions.specs.Slots.{slots_of}
+use Rattle.wy_vc_expressions.proofs.NumberedLemmas.{trees_kept, below_on}
+use Rattle.wy_vc_expressions.proofs.SlotLemmas.{slots_kept, slots_on}
 use Rattle.wy_vc_joins.specs.declared.paths.Path.{Path}
 use Rattle.wy_vc_joins.specs.Paths.{IsPath, ArePaths, seen_path, seen_paths}
-use Rattle.wy_vc_walk.specs.Numbered.{trees_of}
+use Rattle.wy_vc_expressions.specs.Numbered.{trees_of}
 
 -- the next of a list
 pub next_of : {A : Type 0} (xs : List A) (i : ℕ) (x : A) → i < length xs → x ≡ get_or xs i x → drop i xs ≡ x ∷ drop (i + 1) xs

@@ -6,7 +6,7 @@ use Rattle.wy_conditions.specs.Joins.{Path, differ, first_term, set_on_all}
 use Rattle.wy_conditions.specs.Making.{val_name, equal, all_of}
 use Rattle.wy_conditions.specs.Values.{word_at}
 use Rattle.wy_conditions.specs.Variables.{Vars, slot_at}
-use Rattle.wy_vc_walk.specs.Slots.{AreSlots, slots_of}
+use Rattle.wy_vc_expressions.specs.Slots.{AreSlots, slots_of}
 use Rattle.wy_vc_joins.specs.declared.known.Joined.{Joined}
 
 -- the variables that have new names, and what is known of those that were looked at

@@ -5,10 +5,10 @@ use Rattle.wy_conditions.specs.Joins as spec
 use Rattle.wy_conditions.specs.Spots.{Spot, spot}
 use Rattle.wy_vc_operations.specs.Growing.{Kept, AreBelow}
 use Rattle.wy_vc_points.specs.declared.here.Here.{Here}
-use Rattle.wy_vc_walk.specs.Numbered.{trees_of}
-use Rattle.wy_vc_walk.specs.Slots.{AreSlots, slots_of}
-use Rattle.wy_vc_walk.specs.State.{IsSound, hyps_of, owed_of}
-use Rattle.wy_vc_walk.specs.declared.walk.Walk.{Walk}
+use Rattle.wy_vc_expressions.specs.Numbered.{trees_of}
+use Rattle.wy_vc_expressions.specs.Slots.{AreSlots, slots_of}
+use Rattle.wy_vc_expressions.specs.State.{IsSound, hyps_of, owed_of}
+use Rattle.wy_vc_expressions.specs.declared.walk.Walk.{Walk}
 use Rattle.wy_vc_joins.specs.declared.paths.Path.{Path}
 
 -- what numbers spell

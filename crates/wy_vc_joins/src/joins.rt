@@ -2,17 +2,17 @@
 ghost use Rattle.std.specs.Prelude.{◌≡◌, ◌≤◌, length as count_of, take, Some, IfOk, OnOk};
 ghost use Rattle.wy_conditions.specs.Joins as spec;
 ghost use Rattle.wy_vc_joins.specs.Paths.{ArePaths, IsPath, Meets, seen_end, seen_ends, seen_paths};
-ghost use Rattle.wy_vc_walk.specs.Numbered.{trees_of};
-ghost use Rattle.wy_vc_walk.specs.State.{IsSound, hyps_of};
+ghost use Rattle.wy_vc_expressions.specs.Numbered.{trees_of};
+ghost use Rattle.wy_vc_expressions.specs.State.{IsSound, hyps_of};
 
 use crate::known::{known_behind, path_formulas};
 use crate::paths::Path;
 use std::alloc::Global;
 use wy_data::Name;
 use wy_term::NoMemory;
+use wy_vc_expressions::Walk;
 use wy_vc_operations::disjunction;
 use wy_vc_points::Here;
-use wy_vc_walk::Walk;
 
 // Behind paths that parted behind what is assumed: a new name for each variable whose terms differ, and one of the paths was taken.
 fn join(alloc: Global, walk: &mut Walk, words: &[Name], paths: &[Path]) -> Result<Here, NoMemory>

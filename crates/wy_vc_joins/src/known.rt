@@ -7,7 +7,7 @@ ghost use Rattle.wy_term.specs.Term.{Term};
 ghost use Rattle.wy_vc_joins.specs.Known.{AreNames, IsJoined, equation, known_from, one_variable, onto, path_term, renamed, seen_joined, seen_names, unnamed};
 ghost use Rattle.wy_vc_joins.specs.Paths.{ArePaths, IsPath, seen_path, seen_paths};
 ghost use Rattle.wy_vc_operations.specs.Growing.{AreAt, Kept, Makes};
-ghost use Rattle.wy_vc_walk.specs.Slots.{AreSlots, slots_of};
+ghost use Rattle.wy_vc_expressions.specs.Slots.{AreSlots, slots_of};
 
 use crate::naming::new_name;
 use crate::paths::{Path, differ, first_term, most_vars, set_on_all};

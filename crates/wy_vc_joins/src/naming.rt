@@ -6,15 +6,15 @@ ghost use Rattle.wy_conditions.specs.Values.{word_at};
 ghost use Rattle.wy_term.specs.Nodes.{tree_at};
 ghost use Rattle.wy_vc_joins.specs.Named.{named_walk, with_name};
 ghost use Rattle.wy_vc_operations.specs.Growing.{Makes};
-ghost use Rattle.wy_vc_walk.specs.State.{IsSound, Walks, hyps_of};
+ghost use Rattle.wy_vc_expressions.specs.State.{IsSound, Walks, hyps_of};
 
 use std::alloc::Global;
 use wy_data::Name;
 use wy_term::NoMemory;
+use wy_vc_expressions::Walk;
 use wy_vc_large::is_large;
 use wy_vc_operations::{equal, val_name};
 use wy_vc_terms::{Maker, word_of};
-use wy_vc_walk::Walk;
 
 /// A new name of a variable's word.
 pub fn new_name(

@@ -5,13 +5,13 @@ ghost use Rattle.wy_conditions.specs.Variables.{slot_at as slot_of};
 ghost use Rattle.wy_term.specs.Nodes.{Plain, tree_at};
 ghost use Rattle.wy_vc_joins.specs.Paths.{ArePaths, seen_paths};
 ghost use Rattle.wy_vc_operations.specs.Growing.{IsSlotBelow};
-ghost use Rattle.wy_vc_walk.specs.Slots.{AreSlots, slots_of};
+ghost use Rattle.wy_vc_expressions.specs.Slots.{AreSlots, slots_of};
 
 use std::alloc::{AllocError, Global};
 use wy_term::Terms;
+use wy_vc_expressions::Walk;
 use wy_vc_operations::slot_at;
 use wy_vc_points::{Here, is_set};
-use wy_vc_walk::Walk;
 
 /// A path that comes to a join: what it assumed since the paths parted, by the numbers of the formulas, and what is known of variables at
 /// its end.

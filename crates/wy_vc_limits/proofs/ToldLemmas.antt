@@ -16,9 +16,9 @@ use Rattle.wy_conditions.specs.Owed.{Owed}
 use Rattle.wy_conditions.specs.Values.{Setting, test_name}
 use Rattle.wy_vc_operations.specs.Growing.{AreBelow}
 use Rattle.wy_vc_shared.proofs.AmongLemmas.{among_cases, among_either}
-use Rattle.wy_vc_walk.specs.Numbered.{trees_of}
-use Rattle.wy_vc_walk.specs.State.{IsGoal, seen_goal}
-use Rattle.wy_vc_walk.specs.declared.goal.Goal.{Goal}
+use Rattle.wy_vc_expressions.specs.Numbered.{trees_of}
+use Rattle.wy_vc_expressions.specs.State.{IsGoal, seen_goal}
+use Rattle.wy_vc_expressions.specs.declared.goal.Goal.{Goal}
 use Rattle.wy_vc_limits.specs.Meanings.{AreMeanings, AreMeaningsFrom, IsMeaning, tests_at}
 use Rattle.wy_vc_limits.specs.Mentioned.{IsReaching, marked, reached}
 use Rattle.wy_vc_limits.specs.Told.{IsCond, IsEntry, Told, entries_by, entry_if, seen_cond, told}

@@ -4,14 +4,14 @@ ghost use Rattle.wy_conditions.specs.Numbered.{Node};
 ghost use Rattle.wy_conditions.specs.Values.{Setting};
 ghost use Rattle.wy_vc_limits.specs.Meanings.{AreMeanings};
 ghost use Rattle.wy_vc_limits.specs.Told as spec;
-ghost use Rattle.wy_vc_walk.specs.State.{IsGoal, seen_goal};
+ghost use Rattle.wy_vc_expressions.specs.State.{IsGoal, seen_goal};
 
 use crate::mentioned::{is_marked, mentioned};
 use crate::unfolding::Meaning;
 use std::alloc::{AllocError, Global};
 use wy_term::{Cond, NoMemory, Terms, Unfold};
+use wy_vc_expressions::Goal;
 use wy_vc_shared::types_tested;
-use wy_vc_walk::Goal;
 
 // A number of 32 bits. A larger one is want of memory.
 fn small(number: usize) -> Result<u32, AllocError>

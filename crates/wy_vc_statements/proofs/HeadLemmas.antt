@@ -19,13 +19,13 @@ use Rattle.wy_conditions.specs.Variables.{Vars}
 use Rattle.wy_vc_operations.specs.Growing.{Kept}
 use Rattle.wy_vc_points.specs.declared.here.Here.{Here}
 use Rattle.wy_vc_terms.specs.declared.maker.Maker.{Maker}
-use Rattle.wy_vc_walk.specs.Numbered.{trees_of}
-use Rattle.wy_vc_walk.specs.Slots.{AreSlots, slots_of}
-use Rattle.wy_vc_walk.specs.State.{IsSound, Steps, hyps_of, owed_of, passed_by}
-use Rattle.wy_vc_walk.specs.declared.walk.Walk.{Walk}
-use Rattle.wy_vc_walk.proofs.NumberedLemmas.{below_on, here_kept, kept_then, trees_kept}
-use Rattle.wy_vc_walk.proofs.SlotLemmas.{slots_kept, slots_on}
-use Rattle.wy_vc_walk.proofs.StateLemmas.{kept_all, steps_as, steps_noded, steps_on}
+use Rattle.wy_vc_expressions.specs.Numbered.{trees_of}
+use Rattle.wy_vc_expressions.specs.Slots.{AreSlots, slots_of}
+use Rattle.wy_vc_expressions.specs.State.{IsSound, Steps, hyps_of, owed_of, passed_by}
+use Rattle.wy_vc_expressions.specs.declared.walk.Walk.{Walk}
+use Rattle.wy_vc_expressions.proofs.NumberedLemmas.{below_on, here_kept, kept_then, trees_kept}
+use Rattle.wy_vc_expressions.proofs.SlotLemmas.{slots_kept, slots_on}
+use Rattle.wy_vc_expressions.proofs.StateLemmas.{kept_all, steps_as, steps_noded, steps_on}
 use Rattle.wy_vc_joins.proofs.PathLemmas.{paths_on}
 use Rattle.wy_vc_joins.specs.declared.paths.Path.{Path}
 use Rattle.wy_vc_joins.specs.Paths.{ArePaths, IsEnd, IsPath, IsSpot, Meets, seen_end, seen_ends, spot_of}

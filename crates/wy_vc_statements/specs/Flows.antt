@@ -5,9 +5,9 @@ use Rattle.wy_conditions.specs.Owed.{Owed}
 use Rattle.wy_conditions.specs.Spots.{Spot, Flow}
 use Rattle.wy_vc_operations.specs.Growing.{Kept}
 use Rattle.wy_vc_points.specs.declared.here.Here.{Here}
-use Rattle.wy_vc_walk.specs.Slots.{AreSlots}
-use Rattle.wy_vc_walk.specs.State.{IsSound, owed_of}
-use Rattle.wy_vc_walk.specs.declared.walk.Walk.{Walk}
+use Rattle.wy_vc_expressions.specs.Slots.{AreSlots}
+use Rattle.wy_vc_expressions.specs.State.{IsSound, owed_of}
+use Rattle.wy_vc_expressions.specs.declared.walk.Walk.{Walk}
 use Rattle.wy_vc_joins.specs.declared.paths.Path.{Path}
 use Rattle.wy_vc_joins.specs.Paths.{ArePaths, seen_ends, spot_of}
 use Rattle.wy_vc_actions.specs.Going.{Went}

@@ -13,19 +13,18 @@ ghost use Rattle.wy_vc_actions.specs.Frames.{IsFrame, body_at};
 ghost use Rattle.wy_vc_joins.specs.Paths.{ArePaths, IsPath, Meets, seen_end, seen_ends};
 ghost use Rattle.wy_vc_statements.specs.Branches.{Forks, IsTested, Turns};
 ghost use Rattle.wy_vc_statements.specs.Flows.{IsEndOf, end_of};
-ghost use Rattle.wy_vc_walk.specs.Numbered.{trees_of};
-ghost use Rattle.wy_vc_walk.specs.Slots.{AreSlots, slots_of};
-ghost use Rattle.wy_vc_walk.specs.State.{IsSound, Steps, hyps_of};
+ghost use Rattle.wy_vc_expressions.specs.Numbered.{trees_of};
+ghost use Rattle.wy_vc_expressions.specs.Slots.{AreSlots, slots_of};
+ghost use Rattle.wy_vc_expressions.specs.State.{IsSound, Steps, hyps_of};
 
 use std::alloc::Global;
 use wy_core::Expr;
 use wy_term::NoMemory;
 use wy_vc_actions::Frame;
-use wy_vc_expressions::walked;
+use wy_vc_expressions::{Walk, walked};
 use wy_vc_joins::{Path, meet, path_here};
 use wy_vc_operations::{denied, formula};
 use wy_vc_points::Here;
-use wy_vc_walk::Walk;
 
 /// A test that was walked: how many hypotheses there are behind it, and the formulas that it is true and that it is false, each by the
 /// number of its term.

@@ -10,9 +10,9 @@ ghost use Rattle.wy_vc_statements.specs.Branches.{IsTested};
 ghost use Rattle.wy_vc_statements.specs.Flows.{IsEndOf, Moves, end_of};
 ghost use Rattle.wy_vc_statements.specs.Heads.{Begins, Closes, Enters, Parts, closed, entered, tested};
 ghost use Rattle.wy_vc_statements.specs.Rounds.{around};
-ghost use Rattle.wy_vc_walk.specs.Numbered.{trees_of};
-ghost use Rattle.wy_vc_walk.specs.Slots.{AreSlots, slots_of};
-ghost use Rattle.wy_vc_walk.specs.State.{IsSound, hyps_of};
+ghost use Rattle.wy_vc_expressions.specs.Numbered.{trees_of};
+ghost use Rattle.wy_vc_expressions.specs.Slots.{AreSlots, slots_of};
+ghost use Rattle.wy_vc_expressions.specs.State.{IsSound, hyps_of};
 
 use crate::branches::{Tested, path_where, walk_test};
 use crate::rounds::Round;
@@ -20,10 +20,10 @@ use std::alloc::Global;
 use wy_core::{Expr, Stmt};
 use wy_term::{CondKind, NoMemory};
 use wy_vc_actions::{Frame, owe_invariants, renew, walk_clauses};
+use wy_vc_expressions::Walk;
 use wy_vc_joins::{Path, meet};
 use wy_vc_points::Here;
 use wy_vc_sizes::{exprs_in, total};
-use wy_vc_walk::Walk;
 
 /// Where a turn of a loop begins: the number of the first expression of the invariants, how many hypotheses there are where the paths of
 /// the turn part, the paths that came behind the loop so far, and what is known of variables.

@@ -8,16 +8,16 @@ ghost use Rattle.wy_vc_actions.specs.Going.{Went};
 ghost use Rattle.wy_vc_joins.specs.Paths.{ArePaths, spot_of};
 ghost use Rattle.wy_vc_statements.specs.Flows.{Flows};
 ghost use Rattle.wy_vc_statements.specs.Rounds.{around};
-ghost use Rattle.wy_vc_walk.specs.Slots.{AreSlots};
-ghost use Rattle.wy_vc_walk.specs.State.{IsSound};
+ghost use Rattle.wy_vc_expressions.specs.Slots.{AreSlots};
+ghost use Rattle.wy_vc_expressions.specs.State.{IsSound};
 
 use std::alloc::Global;
 use wy_core::Expr;
 use wy_term::{CondKind, NoMemory};
 use wy_vc_actions::{Frame, owe_invariants};
+use wy_vc_expressions::Walk;
 use wy_vc_joins::{Path, path_here};
 use wy_vc_points::Here;
-use wy_vc_walk::Walk;
 
 /// The loop around: its invariants, the number of the first of their expressions, and how many hypotheses there are where the paths of a
 /// turn part. Around what stands in no loop there are no invariants.

@@ -11,19 +11,17 @@ ghost use Rattle.wy_core.specs.CoreTree as tree;
 ghost use Rattle.wy_vc_actions.specs.Frames.{IsFrame, body_at};
 ghost use Rattle.wy_vc_actions.specs.Going.{Went};
 ghost use Rattle.wy_vc_joins.specs.Paths.{spot_of};
-ghost use Rattle.wy_vc_walk.specs.Slots.{AreSlots};
-ghost use Rattle.wy_vc_walk.specs.State.{IsSound};
+ghost use Rattle.wy_vc_expressions.specs.Slots.{AreSlots};
+ghost use Rattle.wy_vc_expressions.specs.State.{IsSound};
 
 use std::alloc::Global;
 use wy_core::{Expr, Step, Ty};
 use wy_term::{CondKind, NoMemory};
 use wy_vc_actions::{Frame, assign, give, leave};
-use wy_vc_clauses::call;
-use wy_vc_expressions::{walked, walked_all};
+use wy_vc_expressions::{Walk, call, walked, walked_all};
 use wy_vc_joins::new_name;
 use wy_vc_operations::{disjunction, formula};
 use wy_vc_points::Here;
-use wy_vc_walk::Walk;
 
 // `int x`: the variable takes a new name, and has no value.
 fn declare_name(

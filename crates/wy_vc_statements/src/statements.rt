@@ -8,8 +8,8 @@ ghost use Rattle.wy_vc_actions.specs.Frames.{IsFrame, body_at};
 ghost use Rattle.wy_vc_joins.specs.Paths.{ArePaths, spot_of};
 ghost use Rattle.wy_vc_statements.specs.Flows.{Flows};
 ghost use Rattle.wy_vc_statements.specs.Rounds.{around};
-ghost use Rattle.wy_vc_walk.specs.Slots.{AreSlots};
-ghost use Rattle.wy_vc_walk.specs.State.{IsSound};
+ghost use Rattle.wy_vc_expressions.specs.Slots.{AreSlots};
+ghost use Rattle.wy_vc_expressions.specs.State.{IsSound};
 
 use crate::branches::{begin_else, begin_if, end_if};
 use crate::heads::{begin_loop, end_loop};
@@ -19,10 +19,10 @@ use std::alloc::Global;
 use wy_core::{Stmt, StmtKind};
 use wy_term::NoMemory;
 use wy_vc_actions::Frame;
+use wy_vc_expressions::Walk;
 use wy_vc_joins::Path;
 use wy_vc_points::Here;
 use wy_vc_sizes::exprs_in_block;
-use wy_vc_walk::Walk;
 
 // The statements behind this one, which no path gets to, owe nothing, and their expressions have numbers.
 fn pass_over(walk: &mut Walk, block: &[Stmt], index: usize) -> Result<(), NoMemory>

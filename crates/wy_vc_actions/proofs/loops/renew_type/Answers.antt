@@ -6,11 +6,11 @@ use Rattle.wy_term.specs.Nodes.{tree_at}
 use Rattle.wy_vc_operations.specs.Growing.{AreSlotsAt}
 use Rattle.wy_vc_actions.specs.Frames.{body_at}
 use Rattle.wy_vc_points.specs.Types.{types_in}
-use Rattle.wy_vc_walk.specs.Slots.{slots_of}
-use Rattle.wy_vc_walk.specs.declared.walk.Walk.{Walk}
-use Rattle.wy_vc_walk.proofs.ResultLemmas.{on_ok}
-use Rattle.wy_vc_walk.proofs.SlotLemmas.{slots_itself}
-use Rattle.wy_vc_walk.proofs.StateLemmas.{sound_made}
+use Rattle.wy_vc_expressions.specs.Slots.{slots_of}
+use Rattle.wy_vc_expressions.specs.declared.walk.Walk.{Walk}
+use Rattle.wy_vc_expressions.proofs.ResultLemmas.{on_ok}
+use Rattle.wy_vc_expressions.proofs.SlotLemmas.{slots_itself}
+use Rattle.wy_vc_expressions.proofs.StateLemmas.{sound_made}
 use Rattle.wy_vc_actions.proofs.LoopLemmas.{assume_any, assume_this, typed_renews}
 use Rattle.wy_vc_actions.proofs.loops.renew_type.Goals as goal
 

@@ -2,10 +2,10 @@ use Rattle.std.proofs.Common.{refl}
 use Rattle.wy_core.specs.CoreSeen.{seen_expr}
 use Rattle.wy_conditions.specs.Numbered.{numbered}
 use Rattle.wy_vc_actions.specs.Frames.{program_of}
-use Rattle.wy_vc_walk.specs.Slots.{slots_of}
-use Rattle.wy_vc_walk.specs.declared.walk.Walk.{Walk}
-use Rattle.wy_vc_walk.proofs.NumberedLemmas.{at_itself}
-use Rattle.wy_vc_walk.proofs.ResultLemmas.{on_ok}
+use Rattle.wy_vc_expressions.specs.Slots.{slots_of}
+use Rattle.wy_vc_expressions.specs.declared.walk.Walk.{Walk}
+use Rattle.wy_vc_expressions.proofs.NumberedLemmas.{at_itself}
+use Rattle.wy_vc_expressions.proofs.ResultLemmas.{on_ok}
 use Rattle.wy_vc_actions.proofs.LoopLemmas.{clause_steps}
 use Rattle.wy_vc_actions.proofs.loops.walk_clause.Goals as goal
 

@@ -1,5 +1,5 @@
 use Rattle.wy_vc_actions.specs.Frames.{program_of}
-use Rattle.wy_vc_walk.proofs.SlotLemmas.{slots_on}
+use Rattle.wy_vc_expressions.proofs.SlotLemmas.{slots_on}
 use Rattle.wy_vc_actions.proofs.LoopLemmas.{nodes_turn, walking_turn}
 use Rattle.wy_vc_actions.proofs.loops.walk_clauses.Goals as goal
 

@@ -1,9 +1,9 @@
 use Rattle.std.proofs.Common.{◌≡◌, ◌+◌, drop}
 use Rattle.wy_core.specs.CoreSeen.{seen_exprs}
 use Rattle.wy_conditions.specs.Sizes.{exprs_in_list}
-use Rattle.wy_vc_walk.specs.Slots.{slots_of}
-use Rattle.wy_vc_walk.specs.State.{hyps_of}
-use Rattle.wy_vc_walk.proofs.StateLemmas.{Toward}
+use Rattle.wy_vc_expressions.specs.Slots.{slots_of}
+use Rattle.wy_vc_expressions.specs.State.{hyps_of}
+use Rattle.wy_vc_expressions.proofs.StateLemmas.{Toward}
 use Rattle.wy_vc_actions.specs.Frames.{program_of}
 use Rattle.wy_vc_actions.proofs.LoopLemmas.{walking}
 use Rattle.wy_vc_actions.proofs.loops.walk_clauses.Given as goal

@@ -12,12 +12,12 @@ use Rattle.wy_vc_operations.specs.Growing.{AreSlotsAt}
 use Rattle.wy_vc_actions.specs.Frames.{body_at}
 use Rattle.wy_vc_points.specs.Types.{or_any, types_in}
 use Rattle.wy_vc_expressions.specs.Walking.{walk_of}
-use Rattle.wy_vc_walk.specs.Slots.{AreSlots, slots_of}
-use Rattle.wy_vc_walk.specs.State.{Walks, hyps_of}
-use Rattle.wy_vc_walk.specs.declared.walk.Walk.{Walk}
-use Rattle.wy_vc_walk.proofs.NumberedLemmas.{kept_then}
-use Rattle.wy_vc_walk.proofs.ResultLemmas.{on_ok}
-use Rattle.wy_vc_walk.proofs.SlotLemmas.{slots_itself, slots_on}
+use Rattle.wy_vc_expressions.specs.Slots.{AreSlots, slots_of}
+use Rattle.wy_vc_expressions.specs.State.{Walks, hyps_of}
+use Rattle.wy_vc_expressions.specs.declared.walk.Walk.{Walk}
+use Rattle.wy_vc_expressions.proofs.NumberedLemmas.{kept_then}
+use Rattle.wy_vc_expressions.proofs.ResultLemmas.{on_ok}
+use Rattle.wy_vc_expressions.proofs.SlotLemmas.{slots_itself, slots_on}
 use Rattle.wy_vc_actions.specs.Places.{Along}
 use Rattle.wy_vc_actions.proofs.AssignLemmas.{assigned_went}
 use Rattle.wy_vc_actions.proofs.FrameLemmas.{frame_on}

@@ -1,4 +1,4 @@
-use Rattle.wy_vc_walk.proofs.SlotLemmas.{slots_on}
+use Rattle.wy_vc_expressions.proofs.SlotLemmas.{slots_on}
 use Rattle.wy_vc_actions.proofs.FrameLemmas.{frame_on}
 use Rattle.wy_vc_actions.proofs.PlaceLemmas.{along_turn, path_turn}
 use Rattle.wy_vc_actions.proofs.places.parts_along.Goals as goal

@@ -1,4 +1,4 @@
-use Rattle.wy_vc_walk.proofs.NumberedLemmas.{at_itself}
+use Rattle.wy_vc_expressions.proofs.NumberedLemmas.{at_itself}
 use Rattle.wy_vc_actions.proofs.PlaceLemmas.{rebuilt_turn}
 use Rattle.wy_vc_actions.proofs.places.rebuilt.Goals as goal
 

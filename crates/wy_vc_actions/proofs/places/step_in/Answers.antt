@@ -3,8 +3,8 @@ use Rattle.wy_core.specs.CoreTree as tree
 use Rattle.wy_core.specs.CoreSeen.{seen_step_kind}
 use Rattle.wy_core.specs.declared.statements.StepKind.{StepKind}
 use Rattle.wy_term.specs.Nodes.{tree_at}
-use Rattle.wy_vc_walk.specs.Slots.{slots_of}
-use Rattle.wy_vc_walk.specs.State.{hyps_of}
+use Rattle.wy_vc_expressions.specs.Slots.{slots_of}
+use Rattle.wy_vc_expressions.specs.State.{hyps_of}
 use Rattle.wy_vc_actions.specs.Frames.{body_at}
 use Rattle.wy_vc_actions.specs.Places.{Stepping, numbered_step, stepped}
 use Rattle.wy_vc_actions.proofs.places.step_in.Goals as goal

@@ -1,6 +1,6 @@
 use Rattle.std.proofs.Common.{List, ℕ, refl, ap}
-use Rattle.wy_vc_walk.specs.declared.walk.Walk.{Walk}
-use Rattle.wy_vc_walk.proofs.NumberedLemmas.{at_itself}
+use Rattle.wy_vc_expressions.specs.declared.walk.Walk.{Walk}
+use Rattle.wy_vc_expressions.proofs.NumberedLemmas.{at_itself}
 use Rattle.wy_vc_actions.specs.declared.places.Part.TheVariants as part
 use Rattle.wy_vc_actions.proofs.PlaceLemmas.{field_step}
 use Rattle.wy_vc_actions.proofs.places.step_in_record.Goals as goal

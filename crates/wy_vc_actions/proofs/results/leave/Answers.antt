@@ -5,10 +5,10 @@ use Rattle.wy_term.specs.declared.cond.CondKind.TheVariants as kind
 use Rattle.wy_conditions.specs.Clauses.{owe_clauses}
 use Rattle.wy_conditions.specs.Numbered.{numbered_list}
 use Rattle.wy_vc_names.specs.Described.{setting}
-use Rattle.wy_vc_walk.specs.Slots.{AreSlots, slots_of}
-use Rattle.wy_vc_walk.specs.State.{Steps, hyps_of}
-use Rattle.wy_vc_walk.specs.declared.walk.Walk.{Walk}
-use Rattle.wy_vc_walk.proofs.SlotLemmas.{slots_on}
+use Rattle.wy_vc_expressions.specs.Slots.{AreSlots, slots_of}
+use Rattle.wy_vc_expressions.specs.State.{Steps, hyps_of}
+use Rattle.wy_vc_expressions.specs.declared.walk.Walk.{Walk}
+use Rattle.wy_vc_expressions.proofs.SlotLemmas.{slots_on}
 use Rattle.wy_vc_actions.proofs.ResultLemmas.{given_on, left_by, with_are}
 use Rattle.wy_vc_actions.proofs.results.leave.Goals as goal
 

@@ -2,8 +2,8 @@ use Rattle.std.proofs.Common.{refl, ◌∙◌}
 use Rattle.wy_vc_actions.specs.declared.frame.Frame.{Frame}
 use Rattle.wy_vc_actions.specs.Frames.{IsFrame}
 use Rattle.wy_vc_actions.proofs.FrameLemmas.{frame_on}
-use Rattle.wy_vc_walk.specs.declared.walk.Walk.{Walk}
-use Rattle.wy_vc_walk.proofs.ResultLemmas.{on_ok}
+use Rattle.wy_vc_expressions.specs.declared.walk.Walk.{Walk}
+use Rattle.wy_vc_expressions.proofs.ResultLemmas.{on_ok}
 use Rattle.wy_vc_declarations.proofs.OwingLemmas.{begun_sound, entry_here, entry_on}
 use Rattle.wy_vc_declarations.proofs.BodyLemmas.{body_owes}
 use Rattle.wy_vc_declarations.proofs.bodies.owe_body.Goals as goal

@@ -1,5 +1,5 @@
 use Rattle.wy_vc_actions.specs.Frames.{body_at}
-use Rattle.wy_vc_walk.proofs.ResultLemmas.{on_ok}
+use Rattle.wy_vc_expressions.proofs.ResultLemmas.{on_ok}
 use Rattle.wy_vc_declarations.proofs.OwingLemmas.{end_given, end_none, end_some}
 use Rattle.wy_vc_declarations.proofs.bodies.owe_end.Goals as goal
 

@@ -1,5 +1,5 @@
 use Rattle.wy_vc_actions.specs.Frames.{program_of}
-use Rattle.wy_vc_walk.proofs.ResultLemmas.{on_ok}
+use Rattle.wy_vc_expressions.proofs.ResultLemmas.{on_ok}
 use Rattle.wy_vc_declarations.proofs.OwingLemmas.{begun_sound, contract_owes, entry_here, entry_on}
 use Rattle.wy_vc_declarations.proofs.contracts.owe_contract.Goals as goal
 

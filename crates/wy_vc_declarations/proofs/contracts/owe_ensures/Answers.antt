@@ -5,9 +5,9 @@ use Rattle.wy_core.specs.CoreSeen.{seen_exprs, seen_output, seen_routine}
 use Rattle.wy_core.specs.declared.expressions.Expr as e
 use Rattle.wy_vc_actions.specs.Frames.{program_of}
 use Rattle.wy_vc_names.specs.Described.{setting}
-use Rattle.wy_vc_walk.specs.Slots.{AreSlots, slots_of}
-use Rattle.wy_vc_walk.specs.State.{hyps_of}
-use Rattle.wy_vc_walk.proofs.ResultLemmas.{on_ok}
+use Rattle.wy_vc_expressions.specs.Slots.{AreSlots, slots_of}
+use Rattle.wy_vc_expressions.specs.State.{hyps_of}
+use Rattle.wy_vc_expressions.proofs.ResultLemmas.{on_ok}
 use Rattle.wy_vc_declarations.specs.Entering.{Enters, Owes}
 use Rattle.wy_vc_declarations.proofs.OwingLemmas.{ensures_owe, no_ensures}
 use Rattle.wy_vc_declarations.proofs.contracts.owe_ensures.Goals as goal

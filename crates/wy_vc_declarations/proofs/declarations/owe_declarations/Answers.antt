@@ -4,7 +4,7 @@ use Rattle.wy_core.specs.declared.declarations.Decl.{Decl}
 use Rattle.wy_conditions.specs.Numbered.{numbered_decls}
 use Rattle.wy_conditions.specs.Programs.{decls_conditions}
 use Rattle.wy_vc_actions.specs.Frames.{program_of}
-use Rattle.wy_vc_walk.proofs.ResultLemmas.{on_ok}
+use Rattle.wy_vc_expressions.proofs.ResultLemmas.{on_ok}
 use Rattle.wy_vc_declarations.specs.Entering.{OwesFirst}
 use Rattle.wy_vc_declarations.proofs.declarations.owe_declarations.Goals as goal
 

@@ -2,11 +2,11 @@ use Rattle.std.proofs.Common.{List, ℕ, Option, refl, sym, subst}
 use Rattle.wy_core.specs.CoreSeen.{seen_param}
 use Rattle.wy_vc_operations.specs.Growing.{AreSlotsAt}
 use Rattle.wy_vc_names.specs.Described.{setting}
-use Rattle.wy_vc_walk.specs.Slots.{slots_of}
-use Rattle.wy_vc_walk.specs.declared.walk.Walk.{Walk}
-use Rattle.wy_vc_walk.proofs.ResultLemmas.{on_ok}
-use Rattle.wy_vc_walk.proofs.SlotLemmas.{slots_itself}
-use Rattle.wy_vc_walk.proofs.StateLemmas.{sound_made}
+use Rattle.wy_vc_expressions.specs.Slots.{slots_of}
+use Rattle.wy_vc_expressions.specs.declared.walk.Walk.{Walk}
+use Rattle.wy_vc_expressions.proofs.ResultLemmas.{on_ok}
+use Rattle.wy_vc_expressions.proofs.SlotLemmas.{slots_itself}
+use Rattle.wy_vc_expressions.proofs.StateLemmas.{sound_made}
 use Rattle.wy_vc_declarations.proofs.EntryLemmas.{param_typed}
 use Rattle.wy_vc_declarations.proofs.entry.assume_param.Goals as goal
 

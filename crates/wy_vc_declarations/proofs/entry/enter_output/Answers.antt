@@ -2,9 +2,9 @@ use Rattle.std.proofs.Common.{List, ℕ, refl, subst}
 use Rattle.wy_conditions.specs.Making.{val_name}
 use Rattle.wy_vc_names.specs.Described.{setting}
 use Rattle.wy_vc_operations.specs.Growing.{Makes}
-use Rattle.wy_vc_walk.specs.declared.walk.Walk.{Walk}
-use Rattle.wy_vc_walk.proofs.StateLemmas.{sound_made}
-use Rattle.wy_vc_clauses.proofs.GivenLemmas.{name_count, name_made}
+use Rattle.wy_vc_expressions.specs.declared.walk.Walk.{Walk}
+use Rattle.wy_vc_expressions.proofs.StateLemmas.{sound_made}
+use Rattle.wy_vc_expressions.proofs.GivenLemmas.{name_count, name_made}
 use Rattle.wy_vc_declarations.proofs.EntryLemmas.{output_entered}
 use Rattle.wy_vc_declarations.proofs.entry.enter_output.Goals as goal
 

@@ -4,9 +4,9 @@ use Rattle.wy_conditions.specs.Programs.{enter_result}
 use Rattle.wy_core.specs.CoreSeen.{seen_output, seen_routine}
 use Rattle.wy_core.specs.declared.declarations.Output.{Output}
 use Rattle.wy_vc_names.specs.Described.{setting}
-use Rattle.wy_vc_walk.specs.Slots.{slots_of}
-use Rattle.wy_vc_walk.specs.State.{hyps_of}
-use Rattle.wy_vc_walk.proofs.ResultLemmas.{on_ok}
+use Rattle.wy_vc_expressions.specs.Slots.{slots_of}
+use Rattle.wy_vc_expressions.specs.State.{hyps_of}
+use Rattle.wy_vc_expressions.proofs.ResultLemmas.{on_ok}
 use Rattle.wy_vc_declarations.specs.Entering.{Enters}
 use Rattle.wy_vc_declarations.proofs.EntryLemmas.{nothing_entered}
 use Rattle.wy_vc_declarations.proofs.entry.enter_result.Goals as goal

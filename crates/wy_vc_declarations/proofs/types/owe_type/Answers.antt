@@ -3,7 +3,7 @@ use Rattle.wy_conditions.specs.Numbered.{numbered_alias}
 use Rattle.wy_conditions.specs.Programs.{alias_conditions}
 use Rattle.wy_core.specs.CoreSeen.{seen_alias}
 use Rattle.wy_vc_actions.specs.Frames.{program_of}
-use Rattle.wy_vc_walk.proofs.ResultLemmas.{on_ok}
+use Rattle.wy_vc_expressions.proofs.ResultLemmas.{on_ok}
 use Rattle.wy_vc_declarations.specs.Entering.{Owes}
 use Rattle.wy_vc_declarations.proofs.OwingLemmas.{owes_nothing}
 use Rattle.wy_vc_declarations.proofs.types.owe_type.Goals as goal

@@ -7,10 +7,10 @@ use Rattle.wy_core.specs.CoreTree.{exprs_of}
 use Rattle.wy_core.specs.CoreSeen.{seen_expr, seen_exprs, seen_fields, seen_ty}
 use Rattle.wy_conditions.specs.Sizes.{exprs_in, exprs_in_fields}
 use Rattle.wy_conditions.specs.Variables.{put}
-use Rattle.wy_vc_steps.specs.Owing.{stay_behind}
-use Rattle.wy_vc_walk.specs.Slots.{slots_of}
-use Rattle.wy_vc_walk.specs.State.{Walks, hyps_of}
-use Rattle.wy_vc_walk.proofs.ResultLemmas.{if_ok}
+use Rattle.wy_vc_expressions.specs.Owing.{stay_behind}
+use Rattle.wy_vc_expressions.specs.Slots.{slots_of}
+use Rattle.wy_vc_expressions.specs.State.{Walks, hyps_of}
+use Rattle.wy_vc_expressions.proofs.ResultLemmas.{if_ok}
 use Rattle.wy_vc_expressions.proofs.ArmLemmas.{neg_arm, not_arm, len_arm, field_arm, is_arm, index_arm, repeat_arm, binary_arm, quant_arm, call_arm, list_arm, record_arm, flags_of, inner_walk, slots_behind, inner_slots, body_sound, calls_same, names_same}
 use Rattle.wy_vc_expressions.specs.Walking.{walk_of}
 use Rattle.wy_vc_expressions.proofs.LessLemmas.{right_falls, index_falls, count_falls, to_falls, body_falls}

@@ -1,5 +1,5 @@
 use Rattle.std.proofs.Common.{sym}
-use Rattle.wy_vc_walk.proofs.NumberedLemmas.{at_itself}
+use Rattle.wy_vc_expressions.proofs.NumberedLemmas.{at_itself}
 use Rattle.wy_vc_joins.proofs.PathLemmas.{slot_within}
 use Rattle.wy_vc_joins.proofs.EquationLemmas.{equate_none, equate_some}
 use Rattle.wy_vc_joins.proofs.known.equate.Goals as goal

@@ -1,5 +1,5 @@
 use Rattle.std.proofs.Common.{◌∙◌, sym, ap}
-use Rattle.wy_vc_walk.proofs.ResultLemmas.{on_ok}
+use Rattle.wy_vc_expressions.proofs.ResultLemmas.{on_ok}
 use Rattle.wy_vc_joins.specs.Known.{Known, onto, seen_joined}
 use Rattle.wy_vc_joins.specs.Paths.{seen_paths}
 use Rattle.wy_vc_joins.proofs.KnownLemmas.{one_renamed, one_unnamed, same_maker_kept, same_maker_node}

@@ -1,6 +1,6 @@
 use Rattle.std.proofs.Common.{◌∙◌, sym, subst, List, Option, ℕ}
-use Rattle.wy_vc_walk.specs.Slots.{AreSlots}
-use Rattle.wy_vc_walk.proofs.SlotLemmas.{slots_on}
+use Rattle.wy_vc_expressions.specs.Slots.{AreSlots}
+use Rattle.wy_vc_expressions.proofs.SlotLemmas.{slots_on}
 use Rattle.wy_vc_joins.proofs.EquationLemmas.{equated_begin, equated_next, equated_end, formula_made}
 use Rattle.wy_vc_joins.proofs.known.path_formula.Goals as goal
 

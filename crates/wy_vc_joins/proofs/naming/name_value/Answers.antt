@@ -1,5 +1,5 @@
 use Rattle.std.proofs.Common.{refl}
-use Rattle.wy_vc_walk.proofs.NumberedLemmas.{at_itself, here_kept}
+use Rattle.wy_vc_expressions.proofs.NumberedLemmas.{at_itself, here_kept}
 use Rattle.wy_vc_joins.proofs.NamingLemmas.{named_steps}
 use Rattle.wy_vc_joins.proofs.naming.name_value.Goals as goal
 

@@ -1,6 +1,6 @@
 use Rattle.std.proofs.Common.{◌∙◌, sym}
 use Rattle.wy_term.specs.Nodes.{tree_at}
-use Rattle.wy_vc_walk.specs.State.{hyps_of}
+use Rattle.wy_vc_expressions.specs.State.{hyps_of}
 use Rattle.wy_vc_joins.proofs.NamingLemmas.{named_large, named_small}
 use Rattle.wy_vc_joins.proofs.naming.named.Goals as goal
 

@@ -1,5 +1,5 @@
 use Rattle.std.proofs.Common.{sym, subst, Option, List, ℕ}
-use Rattle.wy_vc_walk.specs.Slots.{AreSlots}
+use Rattle.wy_vc_expressions.specs.Slots.{AreSlots}
 use Rattle.wy_vc_joins.specs.Paths.{IsPath}
 use Rattle.wy_vc_joins.proofs.PathLemmas.{one_of_all}
 use Rattle.wy_vc_joins.proofs.paths.same_on_all.Goals as goal

@@ -1,7 +1,7 @@
 use Rattle.std.proofs.Common.{All, length}
 use Rattle.wy_conditions.specs.Numbered.{Node}
 use Rattle.wy_conditions.specs.Values.{Setting}
-use Rattle.wy_vc_walk.specs.State.{IsGoal}
+use Rattle.wy_vc_expressions.specs.State.{IsGoal}
 use Rattle.wy_vc_limits.specs.Meanings.{AreMeanings}
 use Rattle.wy_vc_limits.proofs.ToldLemmas.{AreTold}
 use Rattle.wy_vc_limits.proofs.telling.told_all.Given as goal

@@ -1,4 +1,4 @@
-use Rattle.wy_vc_walk.proofs.ResultLemmas.{if_ok}
+use Rattle.wy_vc_expressions.proofs.ResultLemmas.{if_ok}
 use Rattle.wy_vc_statements.proofs.BranchLemmas.{meets_by}
 use Rattle.wy_vc_statements.proofs.branches.end_if.Goals as goal
 

@@ -3,10 +3,10 @@ use Rattle.wy_core.specs.CoreSeen.{seen_expr}
 use Rattle.wy_conditions.specs.Numbered.{numbered}
 use Rattle.wy_conditions.specs.Statements as spec
 use Rattle.wy_vc_actions.specs.Frames.{body_at}
-use Rattle.wy_vc_walk.specs.Slots.{slots_of}
-use Rattle.wy_vc_walk.specs.State.{hyps_of}
-use Rattle.wy_vc_walk.specs.declared.walk.Walk.{Walk}
-use Rattle.wy_vc_walk.proofs.NumberedLemmas.{at_itself}
+use Rattle.wy_vc_expressions.specs.Slots.{slots_of}
+use Rattle.wy_vc_expressions.specs.State.{hyps_of}
+use Rattle.wy_vc_expressions.specs.declared.walk.Walk.{Walk}
+use Rattle.wy_vc_expressions.proofs.NumberedLemmas.{at_itself}
 use Rattle.wy_vc_statements.specs.declared.branches.Tested.{Tested}
 use Rattle.wy_vc_statements.proofs.BranchLemmas.{tested_is}
 use Rattle.wy_vc_statements.proofs.SimpleLemmas.{walked_by}

@@ -5,9 +5,9 @@ use Rattle.wy_conditions.specs.Sizes.{exprs_in}
 use Rattle.wy_vc_actions.specs.Frames.{body_at}
 use Rattle.wy_vc_actions.proofs.FrameLemmas.{frame_on}
 use Rattle.wy_vc_joins.specs.Paths.{spot_of}
-use Rattle.wy_vc_walk.specs.Slots.{AreSlots}
-use Rattle.wy_vc_walk.proofs.ResultLemmas.{if_ok}
-use Rattle.wy_vc_walk.proofs.SlotLemmas.{slots_on}
+use Rattle.wy_vc_expressions.specs.Slots.{AreSlots}
+use Rattle.wy_vc_expressions.proofs.ResultLemmas.{if_ok}
+use Rattle.wy_vc_expressions.proofs.SlotLemmas.{slots_on}
 use Rattle.wy_vc_statements.specs.Heads.{Enters, entered}
 use Rattle.wy_vc_statements.proofs.HeadLemmas.{begins_from}
 use Rattle.wy_vc_statements.proofs.heads.begin_loop.Goals as goal

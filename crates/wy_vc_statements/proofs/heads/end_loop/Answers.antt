@@ -1,6 +1,6 @@
 use Rattle.std.proofs.Common.{◌≤◌, length, arith}
 use Rattle.wy_vc_joins.proofs.PathLemmas.{paths_on}
-use Rattle.wy_vc_walk.proofs.ResultLemmas.{if_ok}
+use Rattle.wy_vc_expressions.proofs.ResultLemmas.{if_ok}
 use Rattle.wy_vc_statements.specs.Rounds.{around}
 use Rattle.wy_vc_statements.proofs.HeadLemmas.{closes_from}
 use Rattle.wy_vc_statements.proofs.MoveLemmas.{front_whole, longer_length}

@@ -1,7 +1,7 @@
 use Rattle.std.proofs.Common.{List, Option, ℕ, sym, subst}
 use Rattle.wy_vc_actions.specs.Frames.{body_at}
-use Rattle.wy_vc_walk.specs.Slots.{AreSlots}
-use Rattle.wy_vc_walk.proofs.ResultLemmas.{on_ok}
+use Rattle.wy_vc_expressions.specs.Slots.{AreSlots}
+use Rattle.wy_vc_expressions.proofs.ResultLemmas.{on_ok}
 use Rattle.wy_vc_statements.specs.Flows.{IsEndOf}
 use Rattle.wy_vc_statements.specs.Rounds.{around}
 use Rattle.wy_vc_statements.proofs.HeadLemmas.{kept_none, kept_some}

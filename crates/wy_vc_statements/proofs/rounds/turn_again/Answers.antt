@@ -1,5 +1,5 @@
 use Rattle.std.proofs.Common.{List, Option, ℕ, sym, subst}
-use Rattle.wy_vc_walk.specs.Slots.{AreSlots}
+use Rattle.wy_vc_expressions.specs.Slots.{AreSlots}
 use Rattle.wy_vc_statements.specs.Rounds.{around}
 use Rattle.wy_vc_statements.proofs.SimpleLemmas.{again_went}
 use Rattle.wy_vc_statements.proofs.rounds.turn_again.Goals as goal

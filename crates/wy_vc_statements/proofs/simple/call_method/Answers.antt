@@ -2,7 +2,7 @@ use Rattle.std.proofs.Common.{◌<◌, List, Option, ℕ, length, sym, subst}
 use Rattle.wy_core.specs.CoreSeen.{seen_exprs}
 use Rattle.wy_core.specs.CoreTree.{exprs_of}
 use Rattle.wy_vc_operations.specs.Growing.{AreBelow}
-use Rattle.wy_vc_walk.specs.Slots.{AreSlots}
+use Rattle.wy_vc_expressions.specs.Slots.{AreSlots}
 use Rattle.wy_vc_statements.proofs.SimpleLemmas.{called_went, walked_all_by}
 use Rattle.wy_vc_statements.proofs.simple.call_method.Goals as goal
 

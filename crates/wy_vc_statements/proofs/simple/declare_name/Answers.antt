@@ -2,7 +2,7 @@ use Rattle.std.proofs.Common.{List, ℕ, refl, subst}
 use Rattle.wy_conditions.specs.Making.{val_name}
 use Rattle.wy_conditions.specs.Values.{word_at}
 use Rattle.wy_vc_operations.specs.Growing.{Makes}
-use Rattle.wy_vc_walk.specs.declared.walk.Walk.{Walk}
+use Rattle.wy_vc_expressions.specs.declared.walk.Walk.{Walk}
 use Rattle.wy_vc_statements.proofs.SimpleLemmas.{declared_went}
 use Rattle.wy_vc_statements.proofs.simple.declare_name.Goals as goal
 

@@ -1,10 +1,10 @@
 use Rattle.std.proofs.Common.{List, Option, ℕ, refl, sym, subst}
 use Rattle.wy_core.specs.CoreSeen.{seen_expr}
 use Rattle.wy_conditions.specs.Numbered.{numbered}
-use Rattle.wy_vc_walk.specs.Slots.{AreSlots}
-use Rattle.wy_vc_walk.specs.declared.walk.Walk.{Walk}
-use Rattle.wy_vc_walk.proofs.NumberedLemmas.{at_itself}
-use Rattle.wy_vc_walk.proofs.StateLemmas.{sound_made}
+use Rattle.wy_vc_expressions.specs.Slots.{AreSlots}
+use Rattle.wy_vc_expressions.specs.declared.walk.Walk.{Walk}
+use Rattle.wy_vc_expressions.proofs.NumberedLemmas.{at_itself}
+use Rattle.wy_vc_expressions.proofs.StateLemmas.{sound_made}
 use Rattle.wy_vc_statements.proofs.SimpleLemmas.{held_went, walked_by}
 use Rattle.wy_vc_statements.proofs.simple.hold.Goals as goal
 

@@ -2,8 +2,8 @@ use Rattle.std.proofs.Common.{List, Option, ℕ, sym, subst}
 use Rattle.wy_core.specs.CoreSeen.{seen_expr}
 use Rattle.wy_conditions.specs.Numbered.{numbered}
 use Rattle.wy_vc_actions.proofs.FrameLemmas.{frame_on}
-use Rattle.wy_vc_walk.specs.Slots.{AreSlots}
-use Rattle.wy_vc_walk.proofs.ResultLemmas.{on_ok}
+use Rattle.wy_vc_expressions.specs.Slots.{AreSlots}
+use Rattle.wy_vc_expressions.proofs.ResultLemmas.{on_ok}
 use Rattle.wy_vc_statements.proofs.SimpleLemmas.{returned_went, walked_by}
 use Rattle.wy_vc_statements.proofs.simple.return_value.Goals as goal
 

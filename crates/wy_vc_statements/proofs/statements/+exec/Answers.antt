@@ -14,10 +14,10 @@ use Rattle.wy_vc_joins.proofs.PathLemmas.{paths_on}
 use Rattle.wy_vc_joins.specs.Paths.{spot_of}
 use Rattle.wy_vc_points.proofs.LessLemmas.{body_falls, first_falls, second_falls}
 use Rattle.wy_vc_points.proofs.SeenLemmas.{seen_assert, seen_break, seen_continue, seen_declare, seen_fail, seen_return, seen_skip}
-use Rattle.wy_vc_walk.specs.Slots.{AreSlots}
-use Rattle.wy_vc_walk.proofs.NumberedLemmas.{here_kept, kept_then}
-use Rattle.wy_vc_walk.proofs.ResultLemmas.{if_ok, on_ok}
-use Rattle.wy_vc_walk.proofs.SlotLemmas.{slots_on}
+use Rattle.wy_vc_expressions.specs.Slots.{AreSlots}
+use Rattle.wy_vc_expressions.proofs.NumberedLemmas.{here_kept, kept_then}
+use Rattle.wy_vc_expressions.proofs.ResultLemmas.{if_ok, on_ok}
+use Rattle.wy_vc_expressions.proofs.SlotLemmas.{slots_on}
 use Rattle.wy_vc_statements.specs.Rounds.{around}
 use Rattle.wy_vc_statements.proofs.CycleLemmas.{as_form, declare_breaks, fork_base, fork_on, form_node, if_at, if_node, quiet_value, return_breaks, round_on, skipped, turn_base, turn_on, while_at, while_node}
 use Rattle.wy_vc_statements.proofs.EndLemmas.{end_are}

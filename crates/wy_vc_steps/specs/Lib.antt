@@ -1,2 +1,0 @@
--- goals of an operation, and which hypotheses stay
-pub mod Owing
