@@ -15,13 +15,13 @@ use Rattle.wy_conditions.specs.Statements as spec
 use Rattle.wy_conditions.specs.Values.{variable}
 use Rattle.wy_conditions.specs.Variables.{Vars}
 use Rattle.wy_vc_operations.specs.Growing.{Kept, Makes}
-use Rattle.wy_vc_points.specs.declared.here.Here.{Here}
+use Rattle.wy_vc_actions.specs.declared.here.Here.{Here}
 use Rattle.wy_vc_expressions.specs.Slots.{AreSlots, slots_of}
 use Rattle.wy_vc_expressions.specs.State.{IsSound, Steps, Walks, hyps_of, passed_by}
 use Rattle.wy_vc_expressions.specs.declared.walk.Walk.{Walk}
 use Rattle.wy_vc_expressions.proofs.SlotLemmas.{slots_kept}
 use Rattle.wy_vc_expressions.proofs.StateLemmas.{steps_on, steps_as, steps_made}
-use Rattle.wy_vc_joins.specs.Paths.{spot_of}
+use Rattle.wy_vc_actions.specs.Paths.{spot_of}
 use Rattle.wy_vc_actions.specs.declared.frame.Frame.{Frame}
 use Rattle.wy_vc_actions.specs.declared.places.Part.{Part}
 use Rattle.wy_vc_actions.specs.Frames.{IsFrame, body_at}

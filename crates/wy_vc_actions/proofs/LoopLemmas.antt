@@ -22,15 +22,15 @@ use Rattle.wy_conditions.specs.Values.{word_at, variable}
 use Rattle.wy_conditions.specs.Variables.{Vars, put}
 use Rattle.wy_conditions.specs.Walks as walks
 use Rattle.wy_vc_operations.specs.Growing.{Kept, Makes}
-use Rattle.wy_vc_points.specs.declared.here.Here.{Here}
+use Rattle.wy_vc_actions.specs.declared.here.Here.{Here}
 use Rattle.wy_vc_expressions.specs.Slots.{AreSlots, slots_of}
 use Rattle.wy_vc_expressions.specs.State.{IsSound, Steps, Walks, hyps_of, owed_of, passed_by}
 use Rattle.wy_vc_expressions.specs.declared.walk.Walk.{Walk}
 use Rattle.wy_vc_expressions.proofs.NumberedLemmas.{kept_then}
 use Rattle.wy_vc_expressions.proofs.SlotLemmas.{slots_kept, slots_on, slots_put, are_put}
 use Rattle.wy_vc_expressions.proofs.StateLemmas.{Toward, toward_begin, toward_step, toward_end, kept_all, steps_on, steps_as, steps_made, steps_none}
-use Rattle.wy_vc_joins.proofs.PathLemmas.{next_of}
-use Rattle.wy_vc_joins.specs.Paths.{spot_of}
+use Rattle.wy_vc_actions.proofs.PathLemmas.{next_of}
+use Rattle.wy_vc_actions.specs.Paths.{spot_of}
 use Rattle.wy_vc_actions.specs.Loops.{Renews, many, name_if, renewed_names, renewed_types, type_if, with_name, with_type}
 
 -- ---- clauses that are walked

@@ -28,7 +28,7 @@ use Rattle.wy_vc_expressions.specs.declared.walk.Walk.{Walk}
 use Rattle.wy_vc_expressions.proofs.NumberedLemmas.{here_kept}
 use Rattle.wy_vc_expressions.proofs.SlotLemmas.{slots_kept}
 use Rattle.wy_vc_expressions.proofs.StateLemmas.{kept_all, kept_on, steps_on, steps_as, steps_made}
-use Rattle.wy_vc_joins.proofs.PathLemmas.{next_of}
+use Rattle.wy_vc_actions.proofs.PathLemmas.{next_of}
 use Rattle.wy_vc_actions.specs.declared.frame.Frame.{Frame}
 use Rattle.wy_vc_actions.specs.declared.places.Part.{Part}
 use Rattle.wy_vc_actions.specs.declared.places.Part.TheVariants as part

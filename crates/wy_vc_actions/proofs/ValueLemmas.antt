@@ -17,15 +17,15 @@ use Rattle.wy_conditions.specs.Statements.{Body, given, words}
 use Rattle.wy_conditions.specs.Values.{Setting}
 use Rattle.wy_conditions.specs.Variables.{Vars, put}
 use Rattle.wy_vc_operations.specs.Growing.{Kept}
-use Rattle.wy_vc_points.specs.Types.{or_any}
-use Rattle.wy_vc_points.specs.declared.here.Here.{Here}
+use Rattle.wy_vc_actions.specs.Types.{or_any}
+use Rattle.wy_vc_actions.specs.declared.here.Here.{Here}
 use Rattle.wy_vc_expressions.specs.Slots.{AreSlots, slots_of}
 use Rattle.wy_vc_expressions.specs.State.{IsSound, Steps, Walks, hyps_of, passed_by}
 use Rattle.wy_vc_expressions.specs.declared.walk.Walk.{Walk}
 use Rattle.wy_vc_expressions.proofs.SlotLemmas.{slots_kept, slots_on, slots_put, are_put}
 use Rattle.wy_vc_expressions.proofs.StateLemmas.{steps_on, steps_as, steps_none}
-use Rattle.wy_vc_joins.specs.Paths.{IsSpot, spot_of}
-use Rattle.wy_vc_joins.specs.Named.{named_walk}
+use Rattle.wy_vc_actions.specs.Paths.{IsSpot, spot_of}
+use Rattle.wy_vc_actions.specs.Named.{named_walk}
 use Rattle.wy_vc_actions.specs.Going.{Went}
 use Rattle.wy_vc_actions.proofs.FrameLemmas.{went_goes, went_on}
 

@@ -10,7 +10,7 @@ use Rattle.wy_conditions.specs.Statements.{Body}
 use Rattle.wy_conditions.specs.Walks as spec
 use Rattle.wy_vc_names.specs.declared.program.Program.{Program}
 use Rattle.wy_vc_names.specs.Described.{IsDescribed, IsCalled, setting}
-use Rattle.wy_vc_points.specs.Types.{types_in}
+use Rattle.wy_vc_actions.specs.Types.{types_in}
 use Rattle.wy_vc_expressions.specs.Slots.{AreSlots, slots_of}
 use Rattle.wy_vc_actions.specs.declared.frame.Frame.{Frame}
 

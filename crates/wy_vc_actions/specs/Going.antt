@@ -2,10 +2,10 @@
 use Rattle.std.specs.Prelude.{◌≡◌, ◌++◌, length, take, Bool, true, false, Option, Some, None}
 use Rattle.wy_conditions.specs.Spots.{Flow}
 use Rattle.wy_vc_operations.specs.Growing.{Kept}
-use Rattle.wy_vc_points.specs.declared.here.Here.{Here}
+use Rattle.wy_vc_actions.specs.declared.here.Here.{Here}
 use Rattle.wy_vc_expressions.specs.State.{IsSound, owed_of}
 use Rattle.wy_vc_expressions.specs.declared.walk.Walk.{Walk}
-use Rattle.wy_vc_joins.specs.Paths.{IsEnd}
+use Rattle.wy_vc_actions.specs.Paths.{IsEnd}
 
 -- from the one walk to the other so much was owed, and so many names were made; a path goes on with this, or none does
 pub record Went (old new : Walk) (h : Option Here) (f : Flow) : Type 0 where

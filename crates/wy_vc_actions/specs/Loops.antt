@@ -8,10 +8,10 @@ use Rattle.wy_conditions.specs.Statements.{Body, Renewed, renewed}
 use Rattle.wy_conditions.specs.Values.{word_at, variable}
 use Rattle.wy_conditions.specs.Variables.{put}
 use Rattle.wy_vc_operations.specs.Growing.{Kept}
-use Rattle.wy_vc_points.specs.declared.here.Here.{Here}
+use Rattle.wy_vc_actions.specs.declared.here.Here.{Here}
 use Rattle.wy_vc_expressions.specs.State.{IsSound, owed_of}
 use Rattle.wy_vc_expressions.specs.declared.walk.Walk.{Walk}
-use Rattle.wy_vc_joins.specs.Paths.{IsSpot}
+use Rattle.wy_vc_actions.specs.Paths.{IsSpot}
 
 -- the variable takes a new name
 abbrev pub with_name : List (List ℕ) → ℕ → Spot → ℕ → Renewed

@@ -7,21 +7,24 @@ ghost use Rattle.wy_conditions.specs.Statements as spec;
 ghost use Rattle.wy_core.specs.CoreSeen.{seen_block, seen_expr, seen_exprs};
 ghost use Rattle.wy_vc_actions.specs.Frames.{IsFrame, body_at, program_of};
 ghost use Rattle.wy_vc_actions.specs.Loops.{Renews, name_if, renewed_names, renewed_types, type_if, with_name, with_type};
-ghost use Rattle.wy_vc_joins.specs.Paths.{spot_of};
+ghost use Rattle.wy_vc_actions.specs.Paths.{spot_of};
 ghost use Rattle.wy_vc_names.specs.Described.{IsDescribed, setting};
 ghost use Rattle.wy_vc_expressions.specs.Slots.{AreSlots, slots_of};
 ghost use Rattle.wy_vc_expressions.specs.State.{IsSound, Steps, hyps_of};
 
+use crate::assigned::assigned_in;
 use crate::frame::Frame;
+use crate::here::{Here, is_set};
+use crate::known::as_number;
+use crate::naming::new_name;
+use crate::types::type_of;
 use std::alloc::Global;
 use wy_core::{Core, Expr, Stmt};
 use wy_data::Name;
 use wy_term::{CondKind, NoMemory};
 use wy_vc_expressions::{Walk, assume_in_type, owe_clauses, walked};
-use wy_vc_joins::{as_number, new_name};
 use wy_vc_names::Program;
 use wy_vc_operations::{formula, put};
-use wy_vc_points::{Here, assigned_in, is_set, type_of};
 use wy_vc_terms::variable;
 
 fn both(a: bool, b: bool) -> bool

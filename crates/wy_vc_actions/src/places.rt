@@ -12,12 +12,14 @@ ghost use Rattle.wy_term.specs.Term.{Term};
 ghost use Rattle.wy_vc_actions.specs.Frames.{IsFrame, body_at};
 ghost use Rattle.wy_vc_actions.specs.Going.{Went};
 ghost use Rattle.wy_vc_actions.specs.Places.{Along, AreParts, IsPart, Stepping, numbered_step, seen_part, seen_parts, stepped};
-ghost use Rattle.wy_vc_joins.specs.Paths.{spot_of};
+ghost use Rattle.wy_vc_actions.specs.Paths.{spot_of};
 ghost use Rattle.wy_vc_operations.specs.Growing.{Makes};
 ghost use Rattle.wy_vc_expressions.specs.Slots.{AreSlots, slots_of};
 ghost use Rattle.wy_vc_expressions.specs.State.{IsSound, hyps_of};
 
 use crate::frame::Frame;
+use crate::here::Here;
+use crate::types::type_of;
 use crate::values::give;
 use std::alloc::Global;
 use wy_core::{Expr, Step, StepKind};
@@ -25,7 +27,6 @@ use wy_data::Name;
 use wy_term::{NoMemory, Terms};
 use wy_vc_expressions::{Walk, owe_index, walked};
 use wy_vc_operations::{field, index, updated, updated_field};
-use wy_vc_points::{Here, type_of};
 use wy_vc_terms::variable;
 
 /// A part that a step of a path leads out of, by the number of its term: an element of an array at an index, or a field of a record.

@@ -6,19 +6,19 @@ ghost use Rattle.wy_conditions.specs.Statements as spec;
 ghost use Rattle.wy_term.specs.Nodes.{tree_at};
 ghost use Rattle.wy_vc_actions.specs.Frames.{IsFrame, body_at};
 ghost use Rattle.wy_vc_actions.specs.Going.{Went};
-ghost use Rattle.wy_vc_joins.specs.Paths.{spot_of};
+ghost use Rattle.wy_vc_actions.specs.Paths.{spot_of};
 ghost use Rattle.wy_vc_names.specs.Described.{setting};
-ghost use Rattle.wy_vc_points.specs.Types.{or_any};
+ghost use Rattle.wy_vc_actions.specs.Types.{or_any};
 ghost use Rattle.wy_vc_expressions.specs.Slots.{AreSlots};
 ghost use Rattle.wy_vc_expressions.specs.State.{IsSound, Steps, hyps_of};
 
 use crate::frame::Frame;
+use crate::here::Here;
+use crate::naming::named;
 use std::alloc::Global;
 use wy_core::Ty;
 use wy_term::NoMemory;
 use wy_vc_expressions::{Walk, owe_member};
-use wy_vc_joins::named;
-use wy_vc_points::Here;
 
 // The value is in the type; what has none may be anything.
 fn owe_declared(

@@ -20,9 +20,9 @@ use Rattle.wy_conditions.specs.Statements.{Body, exec_all}
 use Rattle.wy_conditions.specs.Values.{Setting, named_in, clause_formula}
 use Rattle.wy_conditions.specs.Variables.{Vars}
 use Rattle.wy_vc_operations.specs.Growing.{Kept}
-use Rattle.wy_vc_points.specs.declared.here.Here.{Here}
-use Rattle.wy_vc_points.specs.Types.{types_in}
-use Rattle.wy_vc_points.proofs.NumberedLemmas.{numbered_types}
+use Rattle.wy_vc_actions.specs.declared.here.Here.{Here}
+use Rattle.wy_vc_actions.specs.Types.{types_in}
+use Rattle.wy_vc_actions.proofs.NumberedLemmas.{numbered_types}
 use Rattle.wy_vc_expressions.specs.Numbered.{trees_of}
 use Rattle.wy_vc_expressions.specs.Slots.{AreSlots, slots_of}
 use Rattle.wy_vc_expressions.specs.State.{Steps, hyps_of, owed_of}
@@ -30,7 +30,7 @@ use Rattle.wy_vc_expressions.specs.declared.walk.Walk.{Walk}
 use Rattle.wy_vc_expressions.proofs.NumberedLemmas.{kept_then}
 use Rattle.wy_vc_expressions.proofs.SlotLemmas.{slots_kept}
 use Rattle.wy_vc_expressions.proofs.StateLemmas.{steps_as, steps_noded}
-use Rattle.wy_vc_joins.specs.Paths.{spot_of}
+use Rattle.wy_vc_actions.specs.Paths.{spot_of}
 use Rattle.wy_vc_actions.specs.Frames.{IsFrame, body_at, routine_of}
 use Rattle.wy_vc_actions.specs.Frames as frames
 use Rattle.wy_vc_actions.specs.Going.{Went}

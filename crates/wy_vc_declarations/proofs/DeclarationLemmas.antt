@@ -18,7 +18,7 @@ use Rattle.wy_vc_expressions.specs.State.{IsSound, owed_of}
 use Rattle.wy_vc_expressions.specs.declared.walk.Walk.{Walk}
 use Rattle.wy_vc_expressions.proofs.NumberedLemmas.{kept_then}
 use Rattle.wy_vc_expressions.proofs.StateLemmas.{kept_all}
-use Rattle.wy_vc_joins.proofs.PathLemmas.{next_of}
+use Rattle.wy_vc_actions.proofs.PathLemmas.{next_of}
 use Rattle.wy_vc_names.specs.Described.{IsCalled}
 use Rattle.wy_vc_names.specs.declared.program.Called.{Called}
 use Rattle.wy_vc_declarations.specs.Entering.{Owes, OwesFirst}

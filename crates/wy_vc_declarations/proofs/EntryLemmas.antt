@@ -18,7 +18,7 @@ use Rattle.wy_conditions.specs.Statements.{Renewed, renewed}
 use Rattle.wy_conditions.specs.Values.{Setting, variable, word_at, word_if}
 use Rattle.wy_conditions.specs.Variables.{Vars, put, put_if}
 use Rattle.wy_vc_operations.specs.Growing.{Kept, Makes}
-use Rattle.wy_vc_points.specs.declared.here.Here.{Here}
+use Rattle.wy_vc_actions.specs.declared.here.Here.{Here}
 use Rattle.wy_vc_expressions.specs.Numbered.{trees_of}
 use Rattle.wy_vc_expressions.specs.Slots.{AreSlots, slots_of}
 use Rattle.wy_vc_expressions.specs.State.{IsSound, Steps, hyps_of, owed_of}
@@ -27,8 +27,8 @@ use Rattle.wy_vc_expressions.proofs.NumberedLemmas.{kept_then}
 use Rattle.wy_vc_expressions.proofs.SlotLemmas.{slots_kept, slots_on, slots_put, are_put}
 use Rattle.wy_vc_expressions.proofs.StateLemmas.{kept_all, steps_on, steps_as, steps_made, steps_none}
 use Rattle.wy_vc_expressions.proofs.GivenLemmas.{slots_put_if, are_put_if, output_typed}
-use Rattle.wy_vc_joins.proofs.PathLemmas.{next_of}
-use Rattle.wy_vc_joins.specs.Paths.{spot_of}
+use Rattle.wy_vc_actions.proofs.PathLemmas.{next_of}
+use Rattle.wy_vc_actions.specs.Paths.{spot_of}
 use Rattle.wy_vc_actions.specs.Loops.{Renews}
 use Rattle.wy_vc_actions.proofs.LoopLemmas.{renews_on}
 use Rattle.wy_vc_declarations.specs.Entering.{Enters}

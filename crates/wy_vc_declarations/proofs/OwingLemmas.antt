@@ -25,7 +25,7 @@ use Rattle.wy_conditions.specs.Values.{Setting, word_at}
 use Rattle.wy_conditions.specs.Variables.{Vars, put}
 use Rattle.wy_conditions.specs.Walks as walks
 use Rattle.wy_vc_operations.specs.Growing.{Kept, AreBelow, Makes}
-use Rattle.wy_vc_points.specs.declared.here.Here.{Here}
+use Rattle.wy_vc_actions.specs.declared.here.Here.{Here}
 use Rattle.wy_vc_expressions.specs.Numbered.{trees_of}
 use Rattle.wy_vc_expressions.specs.Slots.{AreSlots, slots_of}
 use Rattle.wy_vc_expressions.specs.State.{IsGoal, IsSound, Steps, hyps_of, owed_of, seen_goal}
@@ -35,7 +35,7 @@ use Rattle.wy_vc_expressions.proofs.NumberedLemmas.{kept_then}
 use Rattle.wy_vc_expressions.proofs.SlotLemmas.{slots_kept, slots_on, slots_put, are_put}
 use Rattle.wy_vc_expressions.proofs.StateLemmas.{kept_all, steps_on, steps_as}
 use Rattle.wy_vc_expressions.proofs.GivenLemmas.{output_typed}
-use Rattle.wy_vc_joins.specs.Paths.{IsEnd, spot_of}
+use Rattle.wy_vc_actions.specs.Paths.{IsEnd, spot_of}
 use Rattle.wy_vc_actions.specs.Frames.{IsFrame, body_at}
 use Rattle.wy_vc_actions.specs.Going.{Went}
 use Rattle.wy_vc_actions.specs.Loops.{Renews}

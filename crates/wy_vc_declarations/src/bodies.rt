@@ -6,7 +6,7 @@ ghost use Rattle.wy_conditions.specs.Spots.{Spot};
 ghost use Rattle.wy_core.specs.CoreSeen.{seen_output, seen_routine};
 ghost use Rattle.wy_vc_actions.specs.Frames.{IsFrame, body_at, program_of};
 ghost use Rattle.wy_vc_declarations.specs.Entering.{Owes};
-ghost use Rattle.wy_vc_joins.specs.Paths.{IsEnd};
+ghost use Rattle.wy_vc_actions.specs.Paths.{IsEnd};
 ghost use Rattle.wy_vc_names.specs.Described.{IsCalled, IsDescribed};
 ghost use Rattle.wy_vc_expressions.specs.State.{IsSound};
 
@@ -15,10 +15,9 @@ use crate::entry::enter;
 use std::alloc::Global;
 use wy_core::{Core, Routine};
 use wy_term::NoMemory;
-use wy_vc_actions::{Frame, leave};
+use wy_vc_actions::{Frame, Here, declared_types, leave};
 use wy_vc_expressions::{Walk, assume_clauses};
 use wy_vc_names::{Called, Program};
-use wy_vc_points::{Here, declared_types};
 use wy_vc_statements::exec_body;
 
 // The end of a body that gives nothing back counts as a `return` at its declaration, where a path gets there; the end of one that gives

@@ -7,7 +7,7 @@ ghost use Rattle.wy_conditions.specs.Variables as slots;
 ghost use Rattle.wy_core.specs.CoreSeen.{seen_output, seen_param, seen_routine};
 ghost use Rattle.wy_vc_actions.specs.Loops.{Renews};
 ghost use Rattle.wy_vc_declarations.specs.Entering.{Enters};
-ghost use Rattle.wy_vc_joins.specs.Paths.{spot_of};
+ghost use Rattle.wy_vc_actions.specs.Paths.{spot_of};
 ghost use Rattle.wy_vc_names.specs.Described.{IsDescribed, setting};
 ghost use Rattle.wy_vc_expressions.specs.Slots.{AreSlots, slots_of};
 ghost use Rattle.wy_vc_expressions.specs.State.{IsSound, hyps_of};
@@ -16,11 +16,10 @@ use std::alloc::{AllocError, Global};
 use wy_core::{Core, Output, Param, Routine};
 use wy_data::Name;
 use wy_term::NoMemory;
+use wy_vc_actions::{Here, new_name};
 use wy_vc_expressions::{Walk, assume_in_type};
-use wy_vc_joins::new_name;
 use wy_vc_names::Program;
 use wy_vc_operations::{put, val_name};
-use wy_vc_points::Here;
 use wy_vc_terms::{variable, word_of};
 
 // A parameter takes a new name, and has a value.

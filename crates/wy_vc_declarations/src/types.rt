@@ -12,9 +12,8 @@ use crate::begin::begin;
 use std::alloc::Global;
 use wy_core::{Alias, Core};
 use wy_term::NoMemory;
-use wy_vc_actions::walk_clauses;
+use wy_vc_actions::{new_name, walk_clauses};
 use wy_vc_expressions::{Walk, assume_in_type};
-use wy_vc_joins::new_name;
 use wy_vc_names::Program;
 use wy_vc_operations::put;
 

@@ -15,7 +15,7 @@ use Rattle.wy_conditions.specs.Sizes.{exprs_in, exprs_in_block, exprs_in_list, e
 use Rattle.wy_conditions.specs.Spots.{Spot, Flow, as_list, goes}
 use Rattle.wy_conditions.specs.Statements as spec
 use Rattle.wy_conditions.specs.Variables.{Vars}
-use Rattle.wy_vc_points.specs.declared.here.Here.{Here}
+use Rattle.wy_vc_actions.specs.declared.here.Here.{Here}
 use Rattle.wy_vc_expressions.specs.Numbered.{trees_of}
 use Rattle.wy_vc_expressions.specs.Slots.{AreSlots, slots_of}
 use Rattle.wy_vc_expressions.specs.State.{IsSound, hyps_of, owed_of}
@@ -24,9 +24,9 @@ use Rattle.wy_vc_expressions.proofs.NumberedLemmas.{kept_then}
 use Rattle.wy_vc_expressions.proofs.ResultLemmas.{if_ok, on_ok}
 use Rattle.wy_vc_expressions.proofs.SlotLemmas.{slots_on}
 use Rattle.wy_vc_expressions.proofs.StateLemmas.{kept_all}
-use Rattle.wy_vc_joins.proofs.PathLemmas.{paths_on}
-use Rattle.wy_vc_joins.specs.declared.paths.Path.{Path}
-use Rattle.wy_vc_joins.specs.Paths.{ArePaths, Meets, seen_ends, spot_of}
+use Rattle.wy_vc_actions.proofs.PathLemmas.{paths_on}
+use Rattle.wy_vc_actions.specs.declared.paths.Path.{Path}
+use Rattle.wy_vc_actions.specs.Paths.{ArePaths, Meets, seen_ends, spot_of}
 use Rattle.wy_vc_actions.specs.declared.frame.Frame.{Frame}
 use Rattle.wy_vc_actions.specs.Frames.{IsFrame, body_at}
 use Rattle.wy_vc_actions.specs.Going.{Went}

@@ -7,15 +7,15 @@ use Rattle.wy_term.specs.Nodes.{Plain}
 use Rattle.wy_conditions.specs.Spots.{Spot, spot, as_list}
 use Rattle.wy_conditions.specs.Variables.{Vars}
 use Rattle.wy_vc_operations.specs.Growing.{Kept, AreBelow}
-use Rattle.wy_vc_points.specs.declared.here.Here.{Here}
+use Rattle.wy_vc_actions.specs.declared.here.Here.{Here}
 use Rattle.wy_vc_expressions.specs.Numbered.{trees_of}
 use Rattle.wy_vc_expressions.specs.Slots.{AreSlots, slots_of}
 use Rattle.wy_vc_expressions.specs.State.{IsSound}
 use Rattle.wy_vc_expressions.specs.declared.walk.Walk.{Walk}
 use Rattle.wy_vc_expressions.proofs.NumberedLemmas.{trees_kept}
 use Rattle.wy_vc_expressions.proofs.SlotLemmas.{slots_kept}
-use Rattle.wy_vc_joins.specs.declared.paths.Path.{Path}
-use Rattle.wy_vc_joins.specs.Paths.{ArePaths, IsPath, IsEnd, seen_end, seen_ends, spot_of}
+use Rattle.wy_vc_actions.specs.declared.paths.Path.{Path}
+use Rattle.wy_vc_actions.specs.Paths.{ArePaths, IsPath, IsEnd, seen_end, seen_ends, spot_of}
 use Rattle.wy_vc_statements.specs.Flows.{IsEndOf, end_of}
 
 -- ---- paths

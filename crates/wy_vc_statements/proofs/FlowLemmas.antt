@@ -12,16 +12,16 @@ use Rattle.wy_conditions.specs.Sizes.{exprs_in_block, exprs_in_stmt}
 use Rattle.wy_conditions.specs.Spots.{Spot, Flow, goes, stops, and_then, go_on, followed}
 use Rattle.wy_conditions.specs.Statements as spec
 use Rattle.wy_vc_operations.specs.Growing.{Kept, AreBelow}
-use Rattle.wy_vc_points.specs.declared.here.Here.{Here}
+use Rattle.wy_vc_actions.specs.declared.here.Here.{Here}
 use Rattle.wy_vc_expressions.specs.Slots.{AreSlots}
 use Rattle.wy_vc_expressions.specs.State.{IsGoal, IsSound, owed_of, seen_goal}
 use Rattle.wy_vc_expressions.specs.declared.goal.Goal.{Goal}
 use Rattle.wy_vc_expressions.specs.declared.walk.Walk.{Walk}
 use Rattle.wy_vc_expressions.proofs.NumberedLemmas.{kept_then}
 use Rattle.wy_vc_expressions.proofs.StateLemmas.{kept_all}
-use Rattle.wy_vc_joins.proofs.PathLemmas.{next_of, paths_on}
-use Rattle.wy_vc_joins.specs.declared.paths.Path.{Path}
-use Rattle.wy_vc_joins.specs.Paths.{ArePaths, IsEnd, seen_ends, spot_of}
+use Rattle.wy_vc_actions.proofs.PathLemmas.{next_of, paths_on}
+use Rattle.wy_vc_actions.specs.declared.paths.Path.{Path}
+use Rattle.wy_vc_actions.specs.Paths.{ArePaths, IsEnd, seen_ends, spot_of}
 use Rattle.wy_vc_actions.specs.declared.frame.Frame.{Frame}
 use Rattle.wy_vc_actions.specs.Frames.{IsFrame, body_at}
 use Rattle.wy_vc_actions.specs.Going.{Went}

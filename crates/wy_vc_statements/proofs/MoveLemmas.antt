@@ -6,11 +6,11 @@ use Rattle.wy_conditions.specs.Joins as joins
 use Rattle.wy_conditions.specs.Owed.{Owed}
 use Rattle.wy_conditions.specs.Spots.{Flow}
 use Rattle.wy_conditions.specs.Statements as spec
-use Rattle.wy_vc_points.specs.declared.here.Here.{Here}
+use Rattle.wy_vc_actions.specs.declared.here.Here.{Here}
 use Rattle.wy_vc_expressions.specs.State.{Steps, owed_of}
 use Rattle.wy_vc_expressions.specs.declared.walk.Walk.{Walk}
 use Rattle.wy_vc_expressions.proofs.NumberedLemmas.{kept_then}
-use Rattle.wy_vc_joins.specs.Paths.{IsEnd, Meets}
+use Rattle.wy_vc_actions.specs.Paths.{IsEnd, Meets}
 use Rattle.wy_vc_actions.specs.Going.{Went}
 use Rattle.wy_vc_actions.specs.Loops.{Renews}
 use Rattle.wy_vc_statements.specs.Flows.{Moves}

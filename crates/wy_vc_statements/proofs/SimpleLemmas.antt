@@ -21,7 +21,7 @@ use Rattle.wy_conditions.specs.Variables.{Vars, put}
 use Rattle.wy_conditions.specs.Walks.{WalkedAll, walk_all}
 use Rattle.wy_vc_expressions.specs.Walking.{walk_all_of, walk_of}
 use Rattle.wy_vc_operations.specs.Growing.{AreAt, AreBelow, Kept, Makes}
-use Rattle.wy_vc_points.specs.declared.here.Here.{Here}
+use Rattle.wy_vc_actions.specs.declared.here.Here.{Here}
 use Rattle.wy_vc_expressions.specs.Numbered.{trees_of}
 use Rattle.wy_vc_expressions.specs.Slots.{AreSlots, slots_of}
 use Rattle.wy_vc_expressions.specs.State.{IsSound, Steps, Walks, WalksAll, hyps_of, owed_of, passed_by}
@@ -29,8 +29,8 @@ use Rattle.wy_vc_expressions.specs.declared.walk.Walk.{Walk}
 use Rattle.wy_vc_expressions.proofs.SlotLemmas.{are_put, slots_kept, slots_on, slots_put}
 use Rattle.wy_vc_expressions.proofs.StateLemmas.{kept_all, owed_before, steps_as, steps_made, steps_on}
 use Rattle.wy_vc_expressions.proofs.WalkLemmas.{walks_many}
-use Rattle.wy_vc_joins.specs.declared.paths.Path.{Path}
-use Rattle.wy_vc_joins.specs.Paths.{ArePaths, spot_of}
+use Rattle.wy_vc_actions.specs.declared.paths.Path.{Path}
+use Rattle.wy_vc_actions.specs.Paths.{ArePaths, spot_of}
 use Rattle.wy_vc_actions.specs.declared.frame.Frame.{Frame}
 use Rattle.wy_vc_actions.specs.Frames.{IsFrame, body_at}
 use Rattle.wy_vc_actions.specs.Going.{Went}

@@ -7,12 +7,12 @@ use Rattle.wy_conditions.specs.Owed.{assume}
 use Rattle.wy_conditions.specs.Clauses.{passed}
 use Rattle.wy_conditions.specs.Calls.{Walked}
 use Rattle.wy_conditions.specs.Spots.{as_list}
-use Rattle.wy_vc_points.specs.declared.here.Here.{Here}
+use Rattle.wy_vc_actions.specs.declared.here.Here.{Here}
 use Rattle.wy_vc_expressions.specs.Numbered.{trees_of}
 use Rattle.wy_vc_expressions.specs.State.{Steps, hyps_of, passed_by}
 use Rattle.wy_vc_expressions.specs.declared.walk.Walk.{Walk}
-use Rattle.wy_vc_joins.specs.declared.paths.Path.{Path}
-use Rattle.wy_vc_joins.specs.Paths.{ArePaths, seen_ends}
+use Rattle.wy_vc_actions.specs.declared.paths.Path.{Path}
+use Rattle.wy_vc_actions.specs.Paths.{ArePaths, seen_ends}
 use Rattle.wy_vc_statements.specs.declared.branches.Fork.{Fork}
 use Rattle.wy_vc_statements.specs.declared.branches.Tested.{Tested}
 use Rattle.wy_vc_statements.specs.Flows.{Moves, end_of}

@@ -4,12 +4,12 @@ use Rattle.wy_term.specs.Nodes.{Plain}
 use Rattle.wy_conditions.specs.Owed.{Owed}
 use Rattle.wy_conditions.specs.Spots.{Spot, Flow}
 use Rattle.wy_vc_operations.specs.Growing.{Kept}
-use Rattle.wy_vc_points.specs.declared.here.Here.{Here}
+use Rattle.wy_vc_actions.specs.declared.here.Here.{Here}
 use Rattle.wy_vc_expressions.specs.Slots.{AreSlots}
 use Rattle.wy_vc_expressions.specs.State.{IsSound, owed_of}
 use Rattle.wy_vc_expressions.specs.declared.walk.Walk.{Walk}
-use Rattle.wy_vc_joins.specs.declared.paths.Path.{Path}
-use Rattle.wy_vc_joins.specs.Paths.{ArePaths, seen_ends, spot_of}
+use Rattle.wy_vc_actions.specs.declared.paths.Path.{Path}
+use Rattle.wy_vc_actions.specs.Paths.{ArePaths, seen_ends, spot_of}
 use Rattle.wy_vc_actions.specs.Going.{Went}
 
 -- from the one walk to the other so much was owed, so many names were made, and a path goes on with this or none does; the paths of `break`s, which parted behind so many hypotheses, are those before and those of the statements

@@ -10,12 +10,12 @@ use Rattle.wy_conditions.specs.Joins.{meet}
 use Rattle.wy_conditions.specs.Owed.{assume}
 use Rattle.wy_conditions.specs.Spots.{Spot, spot, with_hyps, Flow}
 use Rattle.wy_conditions.specs.Statements as spec
-use Rattle.wy_vc_points.specs.declared.here.Here.{Here}
+use Rattle.wy_vc_actions.specs.declared.here.Here.{Here}
 use Rattle.wy_vc_expressions.specs.Numbered.{trees_of}
 use Rattle.wy_vc_expressions.specs.Slots.{slots_of}
 use Rattle.wy_vc_expressions.specs.State.{Steps, hyps_of}
 use Rattle.wy_vc_expressions.specs.declared.walk.Walk.{Walk}
-use Rattle.wy_vc_joins.specs.Paths.{ArePaths, IsEnd, IsSpot, seen_ends}
+use Rattle.wy_vc_actions.specs.Paths.{ArePaths, IsEnd, IsSpot, seen_ends}
 use Rattle.wy_vc_statements.specs.declared.branches.Tested.{Tested}
 use Rattle.wy_vc_statements.specs.declared.heads.Head.{Head}
 use Rattle.wy_vc_statements.specs.Flows.{Moves}

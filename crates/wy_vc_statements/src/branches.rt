@@ -10,7 +10,7 @@ ghost use Rattle.wy_conditions.specs.Statements as spec;
 ghost use Rattle.wy_core.specs.CoreSeen.{seen_expr};
 ghost use Rattle.wy_term.specs.Nodes.{tree_at};
 ghost use Rattle.wy_vc_actions.specs.Frames.{IsFrame, body_at};
-ghost use Rattle.wy_vc_joins.specs.Paths.{ArePaths, IsPath, Meets, seen_end, seen_ends};
+ghost use Rattle.wy_vc_actions.specs.Paths.{ArePaths, IsPath, Meets, seen_end, seen_ends};
 ghost use Rattle.wy_vc_statements.specs.Branches.{Forks, IsTested, Turns};
 ghost use Rattle.wy_vc_statements.specs.Flows.{IsEndOf, end_of};
 ghost use Rattle.wy_vc_expressions.specs.Numbered.{trees_of};
@@ -20,11 +20,9 @@ ghost use Rattle.wy_vc_expressions.specs.State.{IsSound, Steps, hyps_of};
 use std::alloc::Global;
 use wy_core::Expr;
 use wy_term::NoMemory;
-use wy_vc_actions::Frame;
+use wy_vc_actions::{Frame, Here, Path, meet, path_here};
 use wy_vc_expressions::{Walk, walked};
-use wy_vc_joins::{Path, meet, path_here};
 use wy_vc_operations::{denied, formula};
-use wy_vc_points::Here;
 
 /// A test that was walked: how many hypotheses there are behind it, and the formulas that it is true and that it is false, each by the
 /// number of its term.

@@ -5,7 +5,7 @@ ghost use Rattle.wy_conditions.specs.Sizes as sizes;
 ghost use Rattle.wy_conditions.specs.Statements as spec;
 ghost use Rattle.wy_core.specs.CoreSeen.{seen_block, seen_expr, seen_exprs};
 ghost use Rattle.wy_vc_actions.specs.Frames.{IsFrame, body_at};
-ghost use Rattle.wy_vc_joins.specs.Paths.{ArePaths, seen_ends, spot_of};
+ghost use Rattle.wy_vc_actions.specs.Paths.{ArePaths, seen_ends, spot_of};
 ghost use Rattle.wy_vc_statements.specs.Branches.{IsTested};
 ghost use Rattle.wy_vc_statements.specs.Flows.{IsEndOf, Moves, end_of};
 ghost use Rattle.wy_vc_statements.specs.Heads.{Begins, Closes, Enters, Parts, closed, entered, tested};
@@ -19,10 +19,8 @@ use crate::rounds::Round;
 use std::alloc::Global;
 use wy_core::{Expr, Stmt};
 use wy_term::{CondKind, NoMemory};
-use wy_vc_actions::{Frame, owe_invariants, renew, walk_clauses};
+use wy_vc_actions::{Frame, Here, Path, meet, owe_invariants, renew, walk_clauses};
 use wy_vc_expressions::Walk;
-use wy_vc_joins::{Path, meet};
-use wy_vc_points::Here;
 use wy_vc_sizes::{exprs_in, total};
 
 /// Where a turn of a loop begins: the number of the first expression of the invariants, how many hypotheses there are where the paths of

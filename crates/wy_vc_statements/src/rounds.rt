@@ -5,7 +5,7 @@ ghost use Rattle.wy_conditions.specs.Statements as spec;
 ghost use Rattle.wy_core.specs.CoreTree as tree;
 ghost use Rattle.wy_vc_actions.specs.Frames.{IsFrame, body_at};
 ghost use Rattle.wy_vc_actions.specs.Going.{Went};
-ghost use Rattle.wy_vc_joins.specs.Paths.{ArePaths, spot_of};
+ghost use Rattle.wy_vc_actions.specs.Paths.{ArePaths, spot_of};
 ghost use Rattle.wy_vc_statements.specs.Flows.{Flows};
 ghost use Rattle.wy_vc_statements.specs.Rounds.{around};
 ghost use Rattle.wy_vc_expressions.specs.Slots.{AreSlots};
@@ -14,10 +14,8 @@ ghost use Rattle.wy_vc_expressions.specs.State.{IsSound};
 use std::alloc::Global;
 use wy_core::Expr;
 use wy_term::{CondKind, NoMemory};
-use wy_vc_actions::{Frame, owe_invariants};
+use wy_vc_actions::{Frame, Here, Path, owe_invariants, path_here};
 use wy_vc_expressions::Walk;
-use wy_vc_joins::{Path, path_here};
-use wy_vc_points::Here;
 
 /// The loop around: its invariants, the number of the first of their expressions, and how many hypotheses there are where the paths of a
 /// turn part. Around what stands in no loop there are no invariants.

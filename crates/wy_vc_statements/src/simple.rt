@@ -10,18 +10,16 @@ ghost use Rattle.wy_core.specs.CoreSeen.{seen_expr, seen_exprs, seen_option, see
 ghost use Rattle.wy_core.specs.CoreTree as tree;
 ghost use Rattle.wy_vc_actions.specs.Frames.{IsFrame, body_at};
 ghost use Rattle.wy_vc_actions.specs.Going.{Went};
-ghost use Rattle.wy_vc_joins.specs.Paths.{spot_of};
+ghost use Rattle.wy_vc_actions.specs.Paths.{spot_of};
 ghost use Rattle.wy_vc_expressions.specs.Slots.{AreSlots};
 ghost use Rattle.wy_vc_expressions.specs.State.{IsSound};
 
 use std::alloc::Global;
 use wy_core::{Expr, Step, Ty};
 use wy_term::{CondKind, NoMemory};
-use wy_vc_actions::{Frame, assign, give, leave};
+use wy_vc_actions::{Frame, Here, assign, give, leave, new_name};
 use wy_vc_expressions::{Walk, call, walked, walked_all};
-use wy_vc_joins::new_name;
 use wy_vc_operations::{disjunction, formula};
-use wy_vc_points::Here;
 
 // `int x`: the variable takes a new name, and has no value.
 fn declare_name(

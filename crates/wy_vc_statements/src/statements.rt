@@ -5,7 +5,7 @@ ghost use Rattle.wy_conditions.specs.Sizes as sizes;
 ghost use Rattle.wy_conditions.specs.Statements as spec;
 ghost use Rattle.wy_core.specs.CoreSeen.{seen_block, seen_stmt};
 ghost use Rattle.wy_vc_actions.specs.Frames.{IsFrame, body_at};
-ghost use Rattle.wy_vc_joins.specs.Paths.{ArePaths, spot_of};
+ghost use Rattle.wy_vc_actions.specs.Paths.{ArePaths, spot_of};
 ghost use Rattle.wy_vc_statements.specs.Flows.{Flows};
 ghost use Rattle.wy_vc_statements.specs.Rounds.{around};
 ghost use Rattle.wy_vc_expressions.specs.Slots.{AreSlots};
@@ -18,10 +18,8 @@ use crate::simple::{assign_part, call_method, declare, hold, leave_body, never};
 use std::alloc::Global;
 use wy_core::{Stmt, StmtKind};
 use wy_term::NoMemory;
-use wy_vc_actions::Frame;
+use wy_vc_actions::{Frame, Here, Path};
 use wy_vc_expressions::Walk;
-use wy_vc_joins::Path;
-use wy_vc_points::Here;
 use wy_vc_sizes::exprs_in_block;
 
 // The statements behind this one, which no path gets to, owe nothing, and their expressions have numbers.

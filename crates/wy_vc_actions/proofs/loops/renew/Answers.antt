@@ -2,12 +2,12 @@ use Rattle.std.proofs.Common.{List, ℕ, Bool, length, sym, ◌∙◌, subst}
 use Rattle.wy_core.specs.CoreSeen.{seen_block}
 use Rattle.wy_conditions.specs.Numbered.{Node, numbered_block}
 use Rattle.wy_conditions.specs.Statements.{Body, Renewed}
-use Rattle.wy_vc_joins.specs.Paths.{spot_of}
+use Rattle.wy_vc_actions.specs.Paths.{spot_of}
 use Rattle.wy_vc_actions.specs.Frames.{body_at}
 use Rattle.wy_vc_actions.specs.Loops.{Renews, renewed_names, renewed_types}
 use Rattle.wy_vc_expressions.proofs.ResultLemmas.{on_ok}
 use Rattle.wy_vc_actions.proofs.FrameLemmas.{body_kept, frame_on}
-use Rattle.wy_vc_points.proofs.NumberedLemmas.{numbered_assigns, numbered_bound}
+use Rattle.wy_vc_actions.proofs.NumberedLemmas.{numbered_assigns, numbered_bound}
 use Rattle.wy_vc_actions.proofs.LoopLemmas.{renew_by, renews_on}
 use Rattle.wy_vc_actions.proofs.loops.renew.Goals as goal
 

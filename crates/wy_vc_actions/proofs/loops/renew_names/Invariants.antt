@@ -1,6 +1,6 @@
 use Rattle.std.proofs.Common.{◌-◌}
 use Rattle.wy_conditions.specs.Spots.{is_set}
-use Rattle.wy_vc_joins.specs.Paths.{spot_of}
+use Rattle.wy_vc_actions.specs.Paths.{spot_of}
 use Rattle.wy_vc_actions.specs.Loops.{name_if, renewed_names}
 use Rattle.wy_vc_actions.proofs.LoopLemmas.{IsRenewing}
 use Rattle.wy_vc_actions.proofs.loops.renew_names.Given as goal

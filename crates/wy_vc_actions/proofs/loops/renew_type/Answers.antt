@@ -5,7 +5,7 @@ use Rattle.wy_sem.specs.Statements.{type_at}
 use Rattle.wy_term.specs.Nodes.{tree_at}
 use Rattle.wy_vc_operations.specs.Growing.{AreSlotsAt}
 use Rattle.wy_vc_actions.specs.Frames.{body_at}
-use Rattle.wy_vc_points.specs.Types.{types_in}
+use Rattle.wy_vc_actions.specs.Types.{types_in}
 use Rattle.wy_vc_expressions.specs.Slots.{slots_of}
 use Rattle.wy_vc_expressions.specs.declared.walk.Walk.{Walk}
 use Rattle.wy_vc_expressions.proofs.ResultLemmas.{on_ok}

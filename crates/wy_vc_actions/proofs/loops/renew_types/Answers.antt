@@ -2,7 +2,7 @@ use Rattle.std.proofs.Common.{List, ℕ, Bool, ◌&&◌, ◌∙◌, ap, subst}
 use Rattle.wy_conditions.specs.Numbered.{Node}
 use Rattle.wy_conditions.specs.Spots.{Spot, is_set}
 use Rattle.wy_conditions.specs.Statements.{Body}
-use Rattle.wy_vc_joins.specs.Paths.{spot_of}
+use Rattle.wy_vc_actions.specs.Paths.{spot_of}
 use Rattle.wy_vc_actions.specs.Frames.{body_at}
 use Rattle.wy_vc_actions.specs.Loops.{Renews, type_if}
 use Rattle.wy_vc_actions.proofs.FrameLemmas.{body_kept, frame_on}

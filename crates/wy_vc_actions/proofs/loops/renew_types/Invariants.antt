@@ -1,6 +1,6 @@
 use Rattle.std.proofs.Common.{◌-◌, ◌&&◌}
 use Rattle.wy_conditions.specs.Spots.{is_set}
-use Rattle.wy_vc_joins.specs.Paths.{spot_of}
+use Rattle.wy_vc_actions.specs.Paths.{spot_of}
 use Rattle.wy_vc_actions.specs.Frames.{body_at}
 use Rattle.wy_vc_actions.specs.Loops.{type_if, renewed_types}
 use Rattle.wy_vc_actions.proofs.LoopLemmas.{IsRenewing}

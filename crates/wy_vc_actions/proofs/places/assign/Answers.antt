@@ -10,7 +10,7 @@ use Rattle.wy_sem.specs.Statements.{type_at}
 use Rattle.wy_term.specs.Nodes.{tree_at}
 use Rattle.wy_vc_operations.specs.Growing.{AreSlotsAt}
 use Rattle.wy_vc_actions.specs.Frames.{body_at}
-use Rattle.wy_vc_points.specs.Types.{or_any, types_in}
+use Rattle.wy_vc_actions.specs.Types.{or_any, types_in}
 use Rattle.wy_vc_expressions.specs.Walking.{walk_of}
 use Rattle.wy_vc_expressions.specs.Slots.{AreSlots, slots_of}
 use Rattle.wy_vc_expressions.specs.State.{Walks, hyps_of}

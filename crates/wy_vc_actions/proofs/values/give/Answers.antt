@@ -3,8 +3,8 @@ use Rattle.wy_conditions.specs.Large.{named}
 use Rattle.std.specs.Option.{option_copied}
 use Rattle.wy_term.specs.Nodes.{tree_at}
 use Rattle.wy_vc_actions.specs.Frames.{body_at}
-use Rattle.wy_vc_joins.specs.Named.{named_walk}
-use Rattle.wy_vc_points.specs.Types.{or_any}
+use Rattle.wy_vc_actions.specs.Named.{named_walk}
+use Rattle.wy_vc_actions.specs.Types.{or_any}
 use Rattle.wy_vc_expressions.specs.State.{Walks, hyps_of}
 use Rattle.wy_vc_actions.proofs.ValueLemmas.{given_went}
 use Rattle.wy_vc_actions.proofs.values.give.Goals as goal

@@ -1,5 +1,5 @@
 use Rattle.std.proofs.Common.{drop}
-use Rattle.wy_vc_joins.specs.Paths.{spot_of}
+use Rattle.wy_vc_actions.specs.Paths.{spot_of}
 use Rattle.wy_vc_declarations.proofs.EntryLemmas.{IsEntering, naming}
 use Rattle.wy_vc_declarations.proofs.entry.name_params.Given as goal
 

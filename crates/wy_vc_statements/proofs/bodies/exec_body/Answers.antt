@@ -1,7 +1,7 @@
 use Rattle.std.proofs.Common.{◌∙◌, ◌≤◌, length, arith}
 use Rattle.wy_core.specs.CoreSeen.{seen_block}
 use Rattle.wy_vc_actions.specs.Frames.{body_at}
-use Rattle.wy_vc_joins.specs.Paths.{spot_of}
+use Rattle.wy_vc_actions.specs.Paths.{spot_of}
 use Rattle.wy_vc_expressions.proofs.ResultLemmas.{if_ok}
 use Rattle.wy_vc_statements.proofs.CycleLemmas.{body_went}
 use Rattle.wy_vc_statements.proofs.EndLemmas.{paths_none}

@@ -4,7 +4,7 @@ use Rattle.wy_conditions.specs.Numbered.{numbered, numbered_block, numbered_list
 use Rattle.wy_conditions.specs.Sizes.{exprs_in}
 use Rattle.wy_vc_actions.specs.Frames.{body_at}
 use Rattle.wy_vc_actions.proofs.FrameLemmas.{frame_on}
-use Rattle.wy_vc_joins.specs.Paths.{spot_of}
+use Rattle.wy_vc_actions.specs.Paths.{spot_of}
 use Rattle.wy_vc_expressions.specs.Slots.{AreSlots}
 use Rattle.wy_vc_expressions.proofs.ResultLemmas.{if_ok}
 use Rattle.wy_vc_expressions.proofs.SlotLemmas.{slots_on}

@@ -1,5 +1,5 @@
 use Rattle.std.proofs.Common.{◌≤◌, length, arith}
-use Rattle.wy_vc_joins.proofs.PathLemmas.{paths_on}
+use Rattle.wy_vc_actions.proofs.PathLemmas.{paths_on}
 use Rattle.wy_vc_expressions.proofs.ResultLemmas.{if_ok}
 use Rattle.wy_vc_statements.specs.Rounds.{around}
 use Rattle.wy_vc_statements.proofs.HeadLemmas.{closes_from}

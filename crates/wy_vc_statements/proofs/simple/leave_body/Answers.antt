@@ -6,7 +6,7 @@ use Rattle.wy_conditions.specs.Numbered.{numbered_option}
 use Rattle.wy_conditions.specs.Statements as spec
 use Rattle.wy_vc_actions.specs.Frames.{body_at}
 use Rattle.wy_vc_actions.specs.Going.{Went}
-use Rattle.wy_vc_joins.specs.Paths.{spot_of}
+use Rattle.wy_vc_actions.specs.Paths.{spot_of}
 use Rattle.wy_vc_statements.proofs.simple.leave_body.Goals as goal
 
 pub returns-clause-value : goal.returns-clause-value

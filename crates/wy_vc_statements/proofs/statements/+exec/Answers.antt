@@ -5,15 +5,15 @@ use Rattle.wy_core.specs.declared.statements.Stmt as st
 use Rattle.std.proofs.lemmas.Grind.{common_steps}
 use Rattle.wy_conditions.specs.Numbered.{numbered_option, numbered_stmt}
 use Rattle.wy_conditions.specs.Statements as spec
-use Rattle.wy_vc_points.specs.declared.here.Here.{Here}
+use Rattle.wy_vc_actions.specs.declared.here.Here.{Here}
 use Rattle.wy_vc_statements.specs.Flows.{Flows}
 use Rattle.wy_conditions.specs.Sizes.{exprs_in, exprs_in_all, exprs_in_block, exprs_in_list, exprs_in_option, exprs_in_path, exprs_in_stmt}
 use Rattle.wy_vc_actions.specs.Frames.{body_at}
 use Rattle.wy_vc_actions.proofs.FrameLemmas.{frame_on}
-use Rattle.wy_vc_joins.proofs.PathLemmas.{paths_on}
-use Rattle.wy_vc_joins.specs.Paths.{spot_of}
-use Rattle.wy_vc_points.proofs.LessLemmas.{body_falls, first_falls, second_falls}
-use Rattle.wy_vc_points.proofs.SeenLemmas.{seen_assert, seen_break, seen_continue, seen_declare, seen_fail, seen_return, seen_skip}
+use Rattle.wy_vc_actions.proofs.PathLemmas.{paths_on}
+use Rattle.wy_vc_actions.specs.Paths.{spot_of}
+use Rattle.wy_vc_actions.proofs.LessLemmas.{body_falls, first_falls, second_falls}
+use Rattle.wy_vc_actions.proofs.SeenLemmas.{seen_assert, seen_break, seen_continue, seen_declare, seen_fail, seen_return, seen_skip}
 use Rattle.wy_vc_expressions.specs.Slots.{AreSlots}
 use Rattle.wy_vc_expressions.proofs.NumberedLemmas.{here_kept, kept_then}
 use Rattle.wy_vc_expressions.proofs.ResultLemmas.{if_ok, on_ok}

@@ -1,2 +1,0 @@
--- sizes of terms
-pub mod LargeLemmas

@@ -1,4 +1,0 @@
--- marks for the variables that statements assign
-pub mod Marked
--- declared types by number
-pub mod Types
