@@ -17,7 +17,7 @@ use Rattle.wy_term.specs.Condition.{condition_of}
 use Rattle.wy_term.specs.Nodes.{Plain}
 use Rattle.wy_typing.specs.TypedPrograms.{core_of, flow_of}
 use Rattle.wy_vc.specs.Listed.{seen_conds}
-use Rattle.wy_vc_limits.specs.Told.{seen_cond}
+use Rattle.wy_vc.specs.Told.{seen_cond}
 use Rattle.wy_verdicts.specs.Seen.{AreShown, NameTerms, known}
 
 -- the program that is kept

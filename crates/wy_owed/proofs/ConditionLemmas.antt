@@ -19,7 +19,7 @@ use Rattle.wy_term.specs.Condition.{Condition, condition_of}
 use Rattle.wy_term.specs.Nodes.{Plain}
 use Rattle.wy_term.specs.Term.{Term}
 use Rattle.wy_term.specs.declared.cond.Cond.{Cond}
-use Rattle.wy_vc_limits.specs.Told.{IsCond, IsEntry, Told, seen_cond, told}
+use Rattle.wy_vc.specs.Told.{IsCond, IsEntry, Told, seen_cond, told}
 use Rattle.wy_owed.specs.Owed.{limit_by, told_by}
 
 -- ---- numbers of terms

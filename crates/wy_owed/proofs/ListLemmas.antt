@@ -2,7 +2,7 @@
 use Rattle.std.proofs.Common.{◌≡◌, ◌∙◌, ◌<◌, ◌≤◌, ◌+◌, ℕ, zero, suc, List, [], ◌∷◌, ◌++◌, length, drop, get_or, map, sym, ap, arith, append_assoc}
 use Rattle.std.proofs.lemmas.List.{append-nil, drop_all}
 use Rattle.wy_term.specs.declared.cond.Cond.{Cond}
-use Rattle.wy_vc_limits.specs.Told.{Told}
+use Rattle.wy_vc.specs.Told.{Told}
 use Rattle.wy_owed.specs.Owed.{condition_text, conditions_text}
 
 -- the first of what is left

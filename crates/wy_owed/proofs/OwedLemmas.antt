@@ -10,7 +10,7 @@ use Rattle.wy_source.specs.declared.refusal.Refusal.{Refusal}
 use Rattle.wy_vc.specs.Listed as vc
 use Rattle.wy_vc.specs.declared.fault.VcFault.{VcFault}
 use Rattle.wy_vc.specs.declared.fault.VcFault.TheVariants.{TooManyConds, TooManyTerms, NoMemory}
-use Rattle.wy_vc_limits.specs.Told.{Told}
+use Rattle.wy_vc.specs.Told.{Told}
 use Rattle.wy_owed.specs.Faults.{is_no_memory, lacks_memory}
 use Rattle.wy_owed.specs.Owed.{IsDue, IsOver, IsOwed, IsRefused, Owes, Tells, conditions_text, limit_by, told_by}
 use Rattle.wy_owed.specs.declared.fault.OwedFault.{OwedFault}

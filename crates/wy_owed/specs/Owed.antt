@@ -12,7 +12,7 @@ use Rattle.wy_source.specs.Sources as sources
 use Rattle.wy_term.specs.Condition.{word_of}
 use Rattle.wy_vc.specs.declared.fault.VcFault.{VcFault}
 use Rattle.wy_vc.specs.declared.fault.VcFault.TheVariants.{TooManyConds, TooManyTerms, NoMemory}
-use Rattle.wy_vc_limits.specs.Told.{Told, told}
+use Rattle.wy_vc.specs.Told.{Told, told}
 use Rattle.wy_owed.specs.declared.fault.OwedFault.{OwedFault}
 use Rattle.wy_owed.specs.declared.fault.OwedFault.TheVariants.{Source, Limit}
 

@@ -3,7 +3,7 @@ ghost use Rattle.std.specs.Prelude.{◌≡◌, ◌<◌, ◌^◌, All, IfOk, OnOk
 ghost use Rattle.wy_accepting.specs.Within.{IsWithin};
 ghost use Rattle.wy_lines.specs.Starts.{AreLines};
 ghost use Rattle.wy_owed.specs.Owed as spec;
-ghost use Rattle.wy_vc_limits.specs.Told.{seen_cond};
+ghost use Rattle.wy_vc.specs.Told.{seen_cond};
 
 use std::alloc::Global;
 use wy_lines::Lines;

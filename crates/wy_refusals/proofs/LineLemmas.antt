@@ -5,7 +5,7 @@ use Rattle.std.proofs.lemmas.List.{append-nil, drop_all, length-map}
 use Rattle.wy_report.specs.Lines.{of_condition, open_condition, refused}
 use Rattle.wy_term.specs.Nodes.{Plain}
 use Rattle.wy_term.specs.declared.cond.Cond.{Cond}
-use Rattle.wy_vc_limits.specs.Told.{Told, seen_cond}
+use Rattle.wy_vc.specs.Told.{Told, seen_cond}
 use Rattle.wy_verdicts.specs.Known.{Known, End, supplied, found, stays_open, spent, count, is_open, is_spent}
 use Rattle.wy_verdicts.specs.Seen.{known, seen_end, NamesTerms, NameTerms}
 use Rattle.wy_verdicts.specs.declared.verdict.Verdict.{Verdict}

@@ -7,7 +7,7 @@ use Rattle.wy_report.specs.Listing.{formula_lines}
 use Rattle.wy_search.specs.Tree as search
 use Rattle.wy_term.specs.Condition.{word_of}
 use Rattle.wy_valid.specs.Literals.{formula_of}
-use Rattle.wy_vc_limits.specs.Told.{Told}
+use Rattle.wy_vc.specs.Told.{Told}
 use Rattle.wy_verdicts.specs.Known.{End, supplied, found, stays_open, spent, Known, count, is_open, is_spent}
 
 -- ---- certificates that aren't valid

@@ -11,7 +11,7 @@ ghost use Rattle.wy_searching.specs.Seen.{seen_why};
 ghost use Rattle.wy_term.specs.Condition.{word_of};
 ghost use Rattle.wy_term.specs.Nodes.{Plain, tree_at};
 ghost use Rattle.wy_valid.specs.Literals.{formula_of};
-ghost use Rattle.wy_vc_limits.specs.Told.{seen_cond};
+ghost use Rattle.wy_vc.specs.Told.{seen_cond};
 ghost use Rattle.wy_verdicts.specs.Seen.{known, NamesTerms, NameTerms, seen_end};
 
 use std::alloc::Global;

@@ -22,8 +22,8 @@ use Rattle.wy_conditions.specs.Values.{Setting}
 use Rattle.wy_conditions.specs.Walks as walks
 use Rattle.wy_typing.specs.TypedPrograms.{Triple, core_of, flow_of}
 use Rattle.wy_vc_actions.specs.Frames as frames
-use Rattle.wy_vc_limits.specs.Counted.{is_over, passing_told, terms_told}
-use Rattle.wy_vc_limits.specs.Told.{Told, seen_cond, told}
+use Rattle.wy_vc.specs.Counted.{is_over, passing_told, terms_told}
+use Rattle.wy_vc.specs.Told.{Told, seen_cond, told}
 use Rattle.wy_vc_names.specs.Described.{setting}
 use Rattle.wy_vc_names.specs.declared.program.Program.{Program}
 use Rattle.wy_vc_operations.specs.Growing.{Kept}
@@ -31,7 +31,7 @@ use Rattle.wy_vc_expressions.specs.State.{IsGoal, IsSound, owed_of, seen_goal}
 use Rattle.wy_vc_expressions.specs.declared.goal.Goal.{Goal}
 use Rattle.wy_vc_expressions.specs.declared.walk.Walk.{Walk}
 use Rattle.wy_vc_expressions.proofs.StateLemmas.{goal_kept, goals_kept}
-use Rattle.wy_vc_declarations.specs.Entering.{OwesFirst}
+use Rattle.wy_vc.specs.Entering.{OwesFirst}
 use Rattle.wy_vc_operations.specs.Growing.{AreBelow}
 use Rattle.wy_vc_terms.specs.declared.maker.Maker.{Maker}
 use Rattle.wy_vc.specs.Listed.{AreFirst, HasTypesOnce, limit_of, owed_by, setting_in, told_of}

@@ -6,21 +6,23 @@ ghost use Rattle.wy_conditions.specs.Programs as programs;
 ghost use Rattle.wy_core.specs.CoreSeen.{seen_core};
 ghost use Rattle.wy_vc.specs.Listed as spec;
 ghost use Rattle.wy_vc_actions.specs.Frames.{program_of};
-ghost use Rattle.wy_vc_limits.specs.Counted.{seen_passing};
-ghost use Rattle.wy_vc_limits.specs.Told.{IsCond};
+ghost use Rattle.wy_vc.specs.Counted.{seen_passing};
+ghost use Rattle.wy_vc.specs.Told.{IsCond};
 ghost use Rattle.wy_vc_names.specs.Described.{IsDescribed};
 ghost use Rattle.wy_vc_expressions.specs.State.{IsSound, owed_of};
 
+use crate::declarations::owe_declarations;
 use crate::fault::VcFault;
+use crate::limits::{Passing, first_limit};
+use crate::program::typed_program;
+use crate::telling::told_all;
+use crate::unfolding::meanings;
 use std::alloc::Global;
 use wy_core::Core;
 use wy_term::{Conds, NoMemory};
 use wy_typing::Typed;
-use wy_vc_declarations::owe_declarations;
 use wy_vc_expressions::Walk;
-use wy_vc_limits::{Passing, first_limit, meanings, told_all};
 use wy_vc_names::Program;
-use wy_vc_numbers::typed_program;
 use wy_vc_terms::Maker;
 
 /// The most conditions of a program.

@@ -1,5 +1,5 @@
 use Rattle.std.proofs.Common.{◌≡◌, ◌++◌, suc, drop, map}
-use Rattle.wy_vc_limits.specs.Told.{seen_cond}
+use Rattle.wy_vc.specs.Told.{seen_cond}
 use Rattle.wy_owed.specs.Owed.{conditions_text}
 use Rattle.wy_owed.proofs.listing.conditions_text.Given as goal
 

@@ -1,6 +1,6 @@
 use Rattle.std.proofs.Common.{◌≡◌, ◌++◌, [], suc, drop, map}
 use Rattle.wy_refusals.specs.Refusals.{lines_from}
-use Rattle.wy_vc_limits.specs.Told.{seen_cond}
+use Rattle.wy_vc.specs.Told.{seen_cond}
 use Rattle.wy_verdicts.specs.Seen.{known}
 use Rattle.wy_refusals.proofs.refusing.all_lines.Given as goal
 

@@ -1,9 +1,9 @@
 use Rattle.std.proofs.Common.{◌∙◌, All, List, [], map, ap, subst, sym}
 use Rattle.wy_term.specs.declared.cond.Cond.{Cond}
-use Rattle.wy_vc_limits.specs.Counted.{passing_told}
-use Rattle.wy_vc_limits.specs.Meanings.{AreMeanings}
-use Rattle.wy_vc_limits.specs.Told.{IsCond, seen_cond}
-use Rattle.wy_vc_limits.specs.declared.unfolding.Meaning.{Meaning}
+use Rattle.wy_vc.specs.Counted.{passing_told}
+use Rattle.wy_vc.specs.Meanings.{AreMeanings}
+use Rattle.wy_vc.specs.Told.{IsCond, seen_cond}
+use Rattle.wy_vc.specs.declared.unfolding.Meaning.{Meaning}
 use Rattle.wy_vc_names.specs.Described.{setting}
 use Rattle.wy_vc_expressions.specs.State.{owed_of}
 use Rattle.wy_vc.proofs.ConditionLemmas.{are_first, first_is, goals_on, limit_is, list_is, types_once}

@@ -1,0 +1,5 @@
+use Rattle.wy_vc.proofs.SeenLemmas.{IsSeeing}
+use Rattle.wy_vc.proofs.limits.see_all.Given as goal
+
+abbrev pub invariant-loop-number : goal.invariant-loop-number
+invariant-loop-number l = IsSeeing l.terms l.fn.seen l.seen l.numbers l.number-index

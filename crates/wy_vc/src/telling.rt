@@ -1,0 +1,118 @@
+//! Goals with what their tests of named types stand for.
+ghost use Rattle.std.specs.Prelude.{◌≡◌, ◌++◌, ◌∷◌, [], All, map, IfOk, OnOk};
+ghost use Rattle.wy_conditions.specs.Numbered.{Node};
+ghost use Rattle.wy_conditions.specs.Values.{Setting};
+ghost use Rattle.wy_vc.specs.Meanings.{AreMeanings};
+ghost use Rattle.wy_vc.specs.Told as spec;
+ghost use Rattle.wy_vc_expressions.specs.State.{IsGoal, seen_goal};
+
+use crate::mentioned::{is_marked, mentioned};
+use crate::tests_of_types::types_tested;
+use crate::unfolding::Meaning;
+use std::alloc::{AllocError, Global};
+use wy_term::{Cond, NoMemory, Terms, Unfold};
+use wy_vc_expressions::Goal;
+
+// A number of 32 bits. A larger one is want of memory.
+fn small(number: usize) -> Result<u32, AllocError>
+    ensures value { IfOk result (λ n. n ≡ number) }
+{
+    match u32::try_from(number) {
+        Ok(small) => Ok(small),
+        Err(_) => Err(AllocError),
+    }
+}
+
+// Puts a named type behind others, with what its test stands for, where it is marked.
+fn put_entry(
+    number: usize,
+    meaning: &Meaning,
+    marked: bool,
+    made: &mut Vec<(u32, u32, u32)>,
+) -> Result<(), AllocError>
+    ensures value { OnOk result (made.new.items ≡ made.old.items ++ spec.entry_if marked number meaning.now) }
+{
+    if marked {
+        let number = small(number)?;
+        made.push((number, meaning.name, meaning.formula))?;
+    }
+    Ok(())
+}
+
+// The named types that are marked, by rising number, with what their tests stand for.
+fn entries(
+    alloc: Global,
+    meanings: &[Meaning],
+    marks: &[bool],
+) -> Result<Vec<(u32, u32, u32)>, AllocError>
+    ensures value { IfOk result (λ es. es.items ≡ spec.entries_by marks.now 0 meanings.now) }
+{
+    let mut made = Vec::new(alloc);
+    for (number, meaning) in meanings.iter().enumerate() {
+        let marked = is_marked(marks, number);
+        put_entry(number, meaning, marked, &mut made)?;
+    }
+    Ok(made)
+}
+
+// The hypotheses, and the goal behind them.
+fn formulas(alloc: Global, goal: &Goal) -> Result<Vec<u32>, AllocError>
+    ensures value { IfOk result (λ ks. ks.items ≡ goal.now.hyps.items ++ goal.now.goal ∷ []) }
+{
+    let mut formulas = Vec::from_slice(alloc, goal.hyps.as_slice())?;
+    formulas.push(goal.goal)?;
+    Ok(formulas)
+}
+
+/// A goal with the named types that it mentions, and those that these mention, by rising number, with the Val name and the formula that the
+/// test of each stands for. Linear in how many terms the goal and its hypotheses are made of, in the named types, and in what those that it
+/// mentions test.
+pub fn told(
+    alloc: Global,
+    terms: &Terms,
+    meanings: &[Meaning],
+    goal: Goal,
+) -> Result<Cond, NoMemory>
+    requires goal { IsGoal terms.now goal }
+    ensures within { (s : Setting Node) → AreMeanings terms.now s meanings.now → IfOk result (λ c. spec.IsCond terms.now c) }
+    ensures value { (s : Setting Node) → AreMeanings terms.now s meanings.now → IfOk result (λ c. spec.seen_cond terms.now c ≡ spec.told s (seen_goal terms.now goal)) }
+{
+    let all = formulas(alloc, &goal)?;
+    let tests = types_tested(terms, all.as_slice())?;
+    let marks = mentioned(alloc, meanings, tests.as_slice())?;
+    let list = entries(alloc, meanings, marks.as_slice())?;
+    let Goal {
+        kind,
+        at,
+        hyps,
+        goal,
+    } = goal;
+    Ok(Cond {
+        kind,
+        at,
+        hyps,
+        goal,
+        unfold: Unfold { list },
+    })
+}
+
+/// The same of goals, in their order.
+pub fn told_all(
+    alloc: Global,
+    terms: &Terms,
+    meanings: &[Meaning],
+    goals: Vec<Goal>,
+) -> Result<Vec<Cond>, NoMemory>
+    requires goals { All (IsGoal terms.now) goals.items }
+    ensures within { (s : Setting Node) → AreMeanings terms.now s meanings.now → IfOk result (λ list. All (spec.IsCond terms.now) list.items) }
+    ensures value { (s : Setting Node) → AreMeanings terms.now s meanings.now → IfOk result (λ list. map (spec.seen_cond terms.now) list.items ≡ map (spec.told s) (map (seen_goal terms.now) goals.items)) }
+{
+    let mut left = goals;
+    let mut list = Vec::new(alloc);
+    while let Some(goal) = left.pop() {
+        let cond = told(alloc, terms, meanings, goal)?;
+        list.push(cond)?;
+    }
+    list.reverse();
+    Ok(list)
+}

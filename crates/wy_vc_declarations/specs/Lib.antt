@@ -1,2 +1,0 @@
--- what is known where contracts and bodies begin, and what declarations owe
-pub mod Entering

@@ -1,8 +1,0 @@
-use Rattle.std.proofs.Common.{suc, [], map, drop}
-use Rattle.wy_vc_limits.specs.Counted.{passing_told}
-use Rattle.wy_vc_limits.specs.Told.{seen_cond}
-use Rattle.wy_vc_limits.proofs.SeenLemmas.{IsPassing}
-use Rattle.wy_vc_limits.proofs.limits.first_limit.Given as goal
-
-abbrev pub invariant-loop-index : goal.invariant-loop-index
-invariant-loop-index l = IsPassing l.terms l.seen l.last l.bound (suc l.index) (drop l.index l.conds) (passing_told [] 1 (map (seen_cond l.terms) l.conds))

@@ -1,6 +1,0 @@
-use Rattle.std.proofs.Common.{rules}
-use Rattle.wy_vc_limits.proofs.SeenLemmas.{seen_none}
-use Rattle.wy_vc_limits.proofs.limits.nothing_seen.Goals as goal
-
-pub returns : goal.returns
-returns c = record { value = λ nodes. seen_none nodes _ c.new-all.ensures.items (λ k. search rules) }

@@ -1,7 +1,0 @@
-use Rattle.std.proofs.Common.{length}
-use Rattle.wy_vc_limits.specs.Meanings.{tests_at}
-use Rattle.wy_vc_limits.specs.Mentioned.{IsReaching}
-use Rattle.wy_vc_limits.proofs.mentioned.mentioned.Given as goal
-
-abbrev pub invariant-loop-turn : goal.invariant-loop-turn
-invariant-loop-turn l = IsReaching (tests_at l.meanings) (length l.meanings) l.begun l.marks.items l.todo.items

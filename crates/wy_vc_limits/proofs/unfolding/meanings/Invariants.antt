@@ -1,6 +1,0 @@
-use Rattle.wy_vc_names.specs.Described.{setting}
-use Rattle.wy_vc_limits.proofs.MeaningLemmas.{IsMeaningUpTo}
-use Rattle.wy_vc_limits.proofs.unfolding.meanings.Given as goal
-
-abbrev pub invariant-loop-number : goal.invariant-loop-number
-invariant-loop-number l = IsMeaningUpTo l.fn.maker.terms l.maker.terms (setting l.core l.program) l.number l.made.items

@@ -1,2 +1,0 @@
--- numbers among flow types
-pub mod NumberLemmas

@@ -1,2 +1,0 @@
--- conjuncts of numbers
-pub mod Conjuncts
