@@ -11,7 +11,11 @@ ghost use Rattle.wy_vc_expressions.specs.Slots.{AreSlots, slots_of};
 ghost use Rattle.wy_vc_expressions.specs.State.{IsSound, Walks, WalksAll, hyps_of};
 
 use crate::calls::call;
-use crate::steps::{assume_left, begin_range, forget_right, walk_binary, walk_field, walk_index, walk_is, walk_len, walk_list, walk_neg, walk_not, walk_null, walk_quantified, walk_record, walk_repeat, walk_truth, walk_variable, walk_whole};
+use crate::steps::{
+    assume_left, begin_range, forget_right, walk_binary, walk_field, walk_index, walk_is, walk_len,
+    walk_list, walk_neg, walk_not, walk_null, walk_quantified, walk_record, walk_repeat,
+    walk_truth, walk_variable, walk_whole,
+};
 use crate::walk::Walk;
 use std::alloc::Global;
 use wy_core::{Core, Expr, ExprKind};
