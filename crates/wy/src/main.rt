@@ -4,6 +4,11 @@
 //! ends with the status that comes back.
 #![tactic(auto)]
 
+#[cfg(test)]
+mod test_files;
+#[cfg(test)]
+mod tests;
+
 use std::env;
 use std::io::ErrorKind;
 use std::process::ExitCode;

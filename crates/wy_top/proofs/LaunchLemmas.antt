@@ -1,6 +1,6 @@
 -- The start of a run as a step.
 use Rattle.std.proofs.Common.{◌≡◌, ◌≢◌, ◌∙◌, ◌++◌, ℕ, List, true, false, IsTrue, Ok, Err, refl, sym, ap, subst}
-use Rattle.wy_acceptance.specs.Acceptance.{Acceptance}
+use Rattle.wy_top.specs.Acceptance.{Acceptance}
 use Rattle.wy_answers.specs.Calls.{AnswersFault}
 use Rattle.wy_answers.specs.Steps.{Setting, Gives}
 use Rattle.wy_answers.specs.declared.answer.Answer.{Answer}

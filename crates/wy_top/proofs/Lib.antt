@@ -1,3 +1,32 @@
+-- what a source owes
+pub mod OwedLemmas
+-- what conditions of a program are
+pub mod ConditionLemmas
+-- the text of what it owes
+pub mod ListLemmas
+-- verdicts, one by one
+pub mod JudgedLemmas
+-- counts
+pub mod CountLemmas
+-- the laws
+pub mod ShownLemmas
+-- certificates that aren't valid
+pub mod InvalidLemmas
+-- lines of conditions
+pub mod LineLemmas
+-- lines of literals
+pub mod LiteralLemmas
+-- certificates that were found
+pub mod FoundLemmas
+-- what they are
+pub mod GivenLemmas
+pub mod PlaceLemmas
+pub mod OwingLemmas
+pub mod ClosedLemmas
+pub mod AcceptLemmas
+pub mod ProofLemmas
+pub mod LengthLemmas
+pub mod CodeLemmas
 pub mod TextLemmas
 pub mod LaunchLemmas
 pub mod RunLemmas

@@ -1,7 +1,7 @@
 -- Where files are told, what follows from words and files comes, and nothing else.
 use Rattle.std.specs.Prelude.{◌≡◌, ◌⊎◌, ℕ, List, Bool, Ok, Err}
-use Rattle.wy_acceptance.specs.Acceptance.{check_steps}
-use Rattle.wy_acceptance.specs.Proofs.{proves_file}
+use Rattle.wy_top.specs.Acceptance.{check_steps}
+use Rattle.wy_top.specs.Proofs.{proves_file}
 use Rattle.wy_answers.specs.Showing.{ShowsWhole, Sinks}
 use Rattle.wy_answers.specs.Steps.{Came, IsTold, Sense, Setting, answer_in, due}
 use Rattle.wy_answers.specs.declared.answer.Answer.{Answer}

@@ -1,8 +1,8 @@
 -- What does the command `big` come to?
 use Rattle.std.specs.Prelude.{◌≡◌, ◌≤◌, ◌<◌, ◌⊎◌, ◌++◌, ℕ, List, length, codes, Ok, Err, ⊤}
 use Rattle.std.specs.Fmt.{decimal}
-use Rattle.wy_acceptance.specs.Acceptance.{Acceptance, accepts_source}
-use Rattle.wy_acceptance.specs.Programs.{count_of}
+use Rattle.wy_top.specs.Acceptance.{Acceptance, accepts_source}
+use Rattle.wy_top.specs.Programs.{count_of}
 use Rattle.wy_answers.specs.Answers.{refused, written as writes, no_memory}
 use Rattle.wy_answers.specs.Loading.{source_limit}
 use Rattle.wy_answers.specs.Steps.{Came, Sense, stated, due, Setting, and_then, both}

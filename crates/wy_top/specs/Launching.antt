@@ -1,6 +1,6 @@
 -- What does the command `run` come to before the machine? A start, or why there is none.
 use Rattle.std.specs.Prelude.{◌≡◌, ◌≢◌, ◌++◌, ℕ, List, [], Bool, true, false, codes}
-use Rattle.wy_acceptance.specs.Acceptance.{Acceptance, accepts_file}
+use Rattle.wy_top.specs.Acceptance.{Acceptance, accepts_file}
 use Rattle.wy_answers.specs.Calls.{Faults, called}
 use Rattle.wy_answers.specs.Steps.{Came, Sense, Setting, and_then}
 use Rattle.wy_core.specs.CoreTree.{Core}

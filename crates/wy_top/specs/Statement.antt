@@ -1,7 +1,7 @@
 -- What does a call on these words come to, and what do the sinks and the files show of it?
 use Rattle.std.specs.Prelude.{◌≡◌, ◌≢◌, ◌⊎◌, ℕ, List, [], Bool, Option, Some, None, Ok, Err, ⊤}
-use Rattle.wy_acceptance.specs.Acceptance.{check_steps}
-use Rattle.wy_acceptance.specs.Proofs.{Proves, proves_file}
+use Rattle.wy_top.specs.Acceptance.{check_steps}
+use Rattle.wy_top.specs.Proofs.{Proves, proves_file}
 use Rattle.wy_answers.specs.Answers.{refused, no_memory}
 use Rattle.wy_answers.specs.Showing.{Shown, Sinks}
 use Rattle.wy_answers.specs.Steps.{Answers, Came, Gives, Sense, Setting}

@@ -1,6 +1,6 @@
 -- What do the commands come to that write a text of a source?
 use Rattle.std.specs.Prelude.{ℕ, List}
-use Rattle.wy_acceptance.specs.Programs.{lists}
+use Rattle.wy_top.specs.Programs.{lists}
 use Rattle.wy_answers.specs.Answers.{written}
 use Rattle.wy_answers.specs.Calls.{Faults, called}
 use Rattle.wy_answers.specs.Loading.{loaded, source_limit}

@@ -7,13 +7,14 @@ ghost use Rattle.wy_top.specs.Statement.{Comes, Does, IsKeptBy, saved_name};
 ghost use Rattle.wy_words.specs.CommandLine.{command_of};
 ghost use Rattle.wy_words.specs.Plain.{asked_in, words_in};
 
+use crate::checking::check;
 use crate::launching::launch_file;
 use crate::making::large;
-use crate::proving::save;
+use crate::proving::prove_file;
 use crate::running::run;
+use crate::saving::save;
 use crate::texts::{Text, text_answer};
 use std::alloc::Global;
-use wy_acceptance::{check, prove_file};
 use wy_answers::{no_memory, refusal, show};
 use wy_port::{Files, Sink};
 use wy_report::words_refused;

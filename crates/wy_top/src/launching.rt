@@ -1,14 +1,14 @@
 //! What the command `run` does before the machine: acceptance, and what the run starts with.
 ghost use Rattle.std.specs.Prelude.{◌≡◌, ◌≤◌, ◌++◌, ℕ, List, IfOk};
 ghost use Rattle.std.specs.String.{string_bytes};
-ghost use Rattle.wy_acceptance.specs.Kept.{IsWhole, acceptance_in};
+ghost use Rattle.wy_top.specs.Kept.{IsWhole, acceptance_in};
 ghost use Rattle.wy_answers.specs.Calls.{AnswersFault};
 ghost use Rattle.wy_answers.specs.Steps.{During, Gives, Setting};
 ghost use Rattle.wy_running.specs.Running.{CanRun};
 ghost use Rattle.wy_top.specs.Launching as spec;
 
+use crate::accepting::{Accepted, accept_file};
 use std::alloc::{AllocError, Global};
-use wy_acceptance::{Accepted, accept_file};
 use wy_answers::{Answer, no_memory, refusal_behind};
 use wy_data::Bytes;
 use wy_port::Files;

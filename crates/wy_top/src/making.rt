@@ -1,14 +1,14 @@
 //! The command `big`: a large program is made, accepted without certificates and run, and one line is written.
 ghost use Rattle.std.specs.Prelude.{◌≡◌, ◌≤◌, ◌<◌, ◌^◌, ℕ, List, length, IfOk, IfSome};
 ghost use Rattle.std.specs.String.{string_bytes};
-ghost use Rattle.wy_acceptance.specs.Kept.{IsWhole, acceptance_in};
+ghost use Rattle.wy_top.specs.Kept.{IsWhole, acceptance_in};
 ghost use Rattle.wy_answers.specs.Steps.{Answers, During, Gives, Setting};
 ghost use Rattle.wy_running.specs.Running.{CanRun};
 ghost use Rattle.wy_top.specs.Large as spec;
 
+use crate::accepting::{Accepted, accept_source};
 use crate::launching::{Launch, launched};
 use std::alloc::{AllocError, Global};
-use wy_acceptance::{Accepted, accept_source};
 use wy_answers::{Answer, SOURCE_LIMIT, no_memory, refusal};
 use wy_big::{argument_text, entry, source_of};
 use wy_data::Bytes;

@@ -1,40 +1,157 @@
-//! The command `prove`: the certificates that were found are saved, and then the answer is written.
-ghost use Rattle.std.specs.Prelude.{◌≡◌, ◌≢◌, ◌≤◌, ℕ, List};
-ghost use Rattle.wy_answers.specs.Showing.{sinks};
-ghost use Rattle.wy_top.specs.Saves as spec;
+//! What the command `prove` makes of a source.
+ghost use Rattle.std.specs.Prelude.{◌≡◌, ◌≤◌, ◌<◌, ◌^◌, [], ℕ, List, length, map, IfOk};
+ghost use Rattle.wy_top.specs.Kept.{AreEach, HasVerdicts, IsKept, answer_in, program_in};
+ghost use Rattle.wy_top.specs.Programs.{Program};
+ghost use Rattle.wy_top.specs.Proofs as spec;
+ghost use Rattle.wy_answers.specs.Steps.{During, Gives, Setting, came};
+ghost use Rattle.wy_cert_text.specs.Text.{file_text};
+ghost use Rattle.wy_top.specs.Found.{found_from};
+ghost use Rattle.wy_top.specs.Seen.{NameTerms, are_certified as are_certified_in, known};
 
+use crate::accepting::uncertified;
+use crate::counting::{are_certified, some_lack_certificates};
+use crate::found::found_certificates;
+use crate::judging::{Judged, judge_all};
+use crate::owing::{Owed, owed_by};
+use crate::refusing::refusal_lines;
+use crate::verdict::Verdict;
 use std::alloc::Global;
-use wy_acceptance::Proof;
-use wy_answers::{no_memory, refusal, show};
-use wy_port::{Files, SaveFault, Sink};
-use wy_report::save_failed;
+use wy_answers::{Answer, SOURCE_LIMIT, load, no_memory};
+use wy_cert::Certs;
+use wy_cert_text::write_certs;
+use wy_data::Bytes;
+use wy_port::Files;
+use wy_report::accepted as accepted_line;
+use wy_term::NoMemory;
 
-/// Saves the file of a proof under a name, and writes its answer; where the save fails, the line of that alone. It answers the
-/// status.
-pub fn save<F: Files, O: Sink, E: Sink>(
+/// What `prove` saves, and what it answers behind the save.
+#[derive(Drop)]
+pub struct Proof {
+    pub saved: Bytes,
+    pub answer: Answer,
+}
+
+// What is answered behind the save.
+fn answer_of(
     alloc: Global,
     name: &str,
-    proof: &Proof,
-    files: &mut F,
-    out: &mut O,
-    err: &mut E,
-) -> u8
-    ensures saves { spec.Saves name.now proof.now.saved proof.now.answer (spec.saving (F.told files.old name.now) (F.told files.new name.now) (F.save_faults files.old) (F.save_faults files.new)) result
-        (sinks (O.taken out.old) (O.taken out.new) (O.faults out.old) (O.faults out.new) (E.taken err.old) (E.taken err.new) (E.faults err.old) (E.faults err.new)) }
-    ensures kept { (other : List ℕ) → other ≢ name.now → F.told files.new other ≡ F.told files.old other }
-    ensures load_count { F.load_faults files.new ≡ F.load_faults files.old }
-    ensures miss_count { F.misses files.new ≡ F.misses files.old }
-    ensures save_count { F.save_faults files.old ≤ F.save_faults files.new }
+    bytes: &[u8],
+    budget: u64,
+    judged: &Judged,
+) -> Result<Answer, NoMemory>
+    requires each { AreEach judged.now }
+    ensures value { (p : Program) → HasVerdicts p [] budget judged.now → IfOk result (λ a. a ≡ spec.proof_answer name.now bytes.now p budget (map known judged.now.verdicts.items) (are_certified_in judged.now.verdicts.items)) }
 {
-    match files.save(alloc, name, proof.saved.as_slice()) {
-        Ok(()) => show(&proof.answer, out, err),
-        Err(SaveFault::Failed) => {
-            let answer = refusal(alloc, 5, save_failed(alloc, name));
-            show(&answer, out, err)
-        }
-        Err(SaveFault::NoMemory) => {
-            let answer = no_memory(alloc);
-            show(&answer, out, err)
-        }
+    if are_certified(&judged.verdicts) {
+        let line = accepted_line(alloc, judged.conds.list.len() as u32)?;
+        return Ok(Answer {
+            status: 0,
+            out: Bytes::new(line.into_bytes()),
+            err: Bytes::new(Vec::new(alloc)),
+        });
+    }
+    let lines = refusal_lines(
+        alloc,
+        name,
+        bytes,
+        budget,
+        &judged.conds.list,
+        &judged.verdicts,
+    )?;
+    Ok(Answer {
+        status: 1,
+        out: Bytes::new(Vec::new(alloc)),
+        err: Bytes::new(lines),
+    })
+}
+
+// The file of the certificates that were found.
+fn file_of(alloc: Global, verdicts: Vec<Verdict>) -> Result<Bytes, NoMemory>
+    requires few { length verdicts.items < 2 ^ 32 }
+    requires named { NameTerms verdicts.items }
+    ensures value { IfOk result (λ b. b ≡ file_text (found_from 1 verdicts.items)) }
+{
+    let certs = found_certificates(alloc, verdicts)?;
+    let text = write_certs(alloc, &certs)?;
+    Ok(Bytes::new(text))
+}
+
+// The file and the answer.
+fn made(
+    alloc: Global,
+    name: &str,
+    bytes: &[u8],
+    budget: u64,
+    judged: Judged,
+) -> Result<Proof, Answer>
+    requires each { AreEach judged }
+    ensures gives { (s : Setting) → (p : Program) → HasVerdicts p [] budget judged → Gives s (spec.judges name.now bytes.now p budget) (came answer_in result) }
+    ensures file { (p : Program) → HasVerdicts p [] budget judged → IfOk result (λ f. spec.IsProofFile p budget f.saved) }
+{
+    if some_lack_certificates(&judged.verdicts) {
+        return Err(uncertified(alloc));
+    }
+    let answer = match answer_of(alloc, name, bytes, budget, &judged) {
+        Ok(answer) => answer,
+        Err(_) => return Err(no_memory(alloc)),
+    };
+    let Judged { verdicts, .. } = judged;
+    match file_of(alloc, verdicts) {
+        Ok(saved) => Ok(Proof { saved, answer }),
+        Err(_) => Err(no_memory(alloc)),
+    }
+}
+
+// The verdicts on the conditions that are owed, without certificates, and what is made of them.
+fn prove_on(
+    alloc: Global,
+    name: &str,
+    bytes: &[u8],
+    budget: u64,
+    owed: Owed,
+) -> Result<Proof, Answer>
+    requires kept { IsKept owed }
+    ensures gives { (s : Setting) → Gives s (spec.judges name.now bytes.now (program_in owed) budget) (came answer_in result) }
+    ensures file { IfOk result (λ f. spec.IsProofFile (program_in owed) budget f.saved) }
+{
+    let certs = Certs {
+        list: Vec::new(alloc),
+    };
+    match judge_all(alloc, owed, &certs, budget) {
+        Ok(judged) => made(alloc, name, bytes, budget, judged),
+        Err(answer) => Err(answer),
+    }
+}
+
+// The same of the source with these bytes.
+fn prove_source(alloc: Global, name: &str, bytes: &[u8], budget: u64) -> Result<Proof, Answer>
+    requires { length bytes.now < 2 ^ 32 }
+    ensures gives { (s : Setting) → Gives s (spec.proves_source name.now budget bytes.now) (came answer_in result) }
+    ensures file { IfOk result (λ f. spec.ProvesBytes bytes.now budget f.saved) }
+{
+    match owed_by(alloc, name, bytes) {
+        Ok(owed) => prove_on(alloc, name, bytes, budget, owed),
+        Err(answer) => Err(answer),
+    }
+}
+
+/// The certificates that searches of so many leaves find for the program of the source in this file, as a file, and what is
+/// answered behind the save; or the answer with which the command ends before it.
+pub fn prove_file<F: Files>(
+    alloc: Global,
+    name: &str,
+    budget: u64,
+    files: &mut F,
+) -> Result<Proof, Answer>
+    ensures gives { During (F.told files.old) (F.load_faults files.old) (F.load_faults files.new) (F.misses files.old) (F.misses files.new) (λ s. Gives s (spec.proves_file s name.now budget) (came answer_in result)) }
+    ensures file { During (F.told files.old) (F.load_faults files.old) (F.load_faults files.new) (F.misses files.old) (F.misses files.new) (λ s. IfOk result (λ f. spec.Proves s name.now budget f.saved)) }
+    ensures kept { (other : List ℕ) → F.told files.new other ≡ F.told files.old other }
+    ensures load_count { F.load_faults files.old ≤ F.load_faults files.new }
+    ensures miss_count { F.misses files.old ≤ F.misses files.new }
+    ensures save_count { F.save_faults files.new ≡ F.save_faults files.old }
+{
+    match load(alloc, name, SOURCE_LIMIT, files) {
+        Ok(bytes) => prove_source(alloc, name, bytes.as_slice(), budget),
+        Err(answer) => Err(answer),
     }
 }

@@ -6,8 +6,8 @@ ghost use Rattle.wy_answers.specs.Steps.{Answers, During, Gives, Setting};
 ghost use Rattle.wy_source.specs.Refusals as refusals;
 ghost use Rattle.wy_top.specs.Texts as spec;
 
+use crate::owing::listed;
 use std::alloc::{AllocError, Global};
-use wy_acceptance::listed;
 use wy_answers::{Answer, SOURCE_LIMIT, load, no_memory, refusal};
 use wy_data::Bytes;
 use wy_front::locate;

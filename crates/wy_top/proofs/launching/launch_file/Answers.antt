@@ -1,6 +1,6 @@
 use Rattle.wy_answers.proofs.StepLemmas.{goes, ends_there}
-use Rattle.wy_acceptance.specs.Acceptance.{accepts_file}
-use Rattle.wy_acceptance.specs.Kept.{acceptance_in}
+use Rattle.wy_top.specs.Acceptance.{accepts_file}
+use Rattle.wy_top.specs.Kept.{acceptance_in}
 use Rattle.wy_top.specs.Launching.{starts}
 use Rattle.wy_top.proofs.launching.launch_file.Goals as goal
 

@@ -1,8 +1,8 @@
 use Rattle.std.proofs.Common.{ℕ, List, Ok, Err, subst}
 use Rattle.wy_running.proofs.CanRunLemmas.{starts_can}
-use Rattle.wy_source_code.proofs.CodeLemmas.{source_loadable}
+use Rattle.wy_top.proofs.CodeLemmas.{source_loadable}
 use Rattle.wy_answers.specs.Steps.{Gives}
-use Rattle.wy_acceptance.specs.Kept.{acceptance_in}
+use Rattle.wy_top.specs.Kept.{acceptance_in}
 use Rattle.wy_top.specs.Launching.{starts}
 use Rattle.wy_top.proofs.LaunchLemmas.{starts_value, starts_fault}
 use Rattle.wy_top.proofs.launching.launched.Goals as goal

@@ -2,8 +2,8 @@ use Rattle.std.proofs.Common.{◌∙◌, ℕ, List, Ok, Err, subst}
 use Rattle.wy_big.specs.Source.{argument_text, entry}
 use Rattle.wy_answers.specs.Steps.{Answers, Gives}
 use Rattle.wy_answers.proofs.AnswerLemmas.{ends_answers, memory_answers, then_answers}
-use Rattle.wy_acceptance.specs.Kept.{acceptance_in}
-use Rattle.wy_acceptance.specs.Programs.{count_of}
+use Rattle.wy_top.specs.Kept.{acceptance_in}
+use Rattle.wy_top.specs.Programs.{count_of}
 use Rattle.wy_top.specs.Large.{finishes, runs}
 use Rattle.wy_top.specs.Launching.{starts}
 use Rattle.wy_top.proofs.making.run_large.Goals as goal

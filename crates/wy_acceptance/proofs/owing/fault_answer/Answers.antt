@@ -1,9 +1,0 @@
-use Rattle.std.proofs.Common.{◌∙◌, Bool, sym, subst}
-use Rattle.wy_answers.specs.Calls.{AnswersFault}
-use Rattle.wy_acceptance.specs.Programs.{fault_lines}
-use Rattle.wy_acceptance.proofs.owing.fault_answer.Goals as goal
-
-pub returns : goal.returns
-returns c =
-    let lines = fault_lines c.args.name.now c.args.bytes.now c.args.fault in
-    record { value = subst (λ (b : Bool). AnswersFault b 1 lines c.refusal.result) (sym c.if-is_no_memory.false ∙ c.is_no_memory.ensures.value) (c.refusal.ensures.value lines c.fault_line.ensures.value) }

@@ -1,5 +1,0 @@
-use Rattle.wy_source_code.proofs.CodeLemmas.{source_loadable}
-use Rattle.wy_source_code.proofs.laws.the_code_of_a_source_is_loadable.Goals as goal
-
-pub returns : goal.returns
-returns c = record { loadable = source_loadable }

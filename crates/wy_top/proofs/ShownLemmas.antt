@@ -1,0 +1,103 @@
+-- What verdicts show, and that there is one list of them.
+use Rattle.std.proofs.Common.{◌≡◌, ◌∙◌, ◌+◌, ℕ, List, [], ◌∷◌, map, Bool, true, false, cond, Option, Some, None, refl, sym, ap, subst}
+use Rattle.std.specs.Prelude.{◌==◌, ◌&&◌}
+use Rattle.wy_accepting.specs.Verdicts.{certificate_for, verdict_from, verdict_on}
+use Rattle.wy_accepting.specs.declared.verdict.Verdict.{Verdict as Given}
+use Rattle.wy_accepting.specs.declared.verdict.Verdict.TheVariants as given
+use Rattle.wy_cert.specs.Steps.{Certificates, Written, steps_of}
+use Rattle.wy_search.specs.Tree as tree
+use Rattle.wy_search.proofs.VerdictLemmas.{one_verdict}
+use Rattle.wy_shown_conditions.specs.Certified.{AllHold, AreFormed, IsFormed}
+use Rattle.wy_sorted_certificates.specs.ReadSorted.{AreSortedCertificates}
+use Rattle.wy_sorted_certificates.proofs.ReadLemmas.{reads_sorted}
+use Rattle.wy_sound_certificates.specs.Sortedness.{AreSortedSteps}
+use Rattle.wy_sound_certificates.proofs.SoundLemmas.{valid_implies_true}
+use Rattle.wy_term.specs.Condition.{Condition, HoldsAlways}
+use Rattle.wy_valid.specs.Validity.{IsValid, first_bad}
+use Rattle.wy_top.specs.Known.{AreKnown, End, EndsSo, IsKnown, IsSearched, Known, OneList, end_of, supplied}
+use Rattle.wy_top.specs.Seen.{AreShown, IsShown, are_certified, is_certified, known, seen_end}
+use Rattle.wy_top.specs.Shown.{CertifiedIsTrue, ReadIsTrue}
+use Rattle.wy_top.specs.declared.verdict.End.{End as CodeEnd}
+use Rattle.wy_top.specs.declared.verdict.End.TheVariants as ends
+use Rattle.wy_top.specs.declared.verdict.Verdict.{Verdict}
+
+-- ---- supplied certificates
+
+never_searched : (v : tree.Verdict) → supplied ≡ end_of v → ⊥
+never_searched (tree.found leaves) is = cc
+never_searched (tree.open_leaf leaf why literals) is = cc
+never_searched tree.spent is = cc
+
+is_supplied : (c : Condition) (budget : ℕ) (g : Given) → EndsSo c budget g supplied → g ≡ given.Supplied
+is_supplied c budget given.Supplied h = refl
+is_supplied c budget given.Missing h = absurd (never_searched h.verdict h.is)
+is_supplied c budget (given.Bad step) h = absurd (never_searched h.verdict h.is)
+
+abbrev some_steps : List Written → Option (List Written)
+some_steps steps = Some steps
+
+-- a certificate of the list has sorted steps
+sorted_there : (certs : Certificates) (n : ℕ) (steps : List Written) → AreSortedCertificates certs → certificate_for certs n ≡ some_steps steps → AreSortedSteps steps
+sorted_there [] n steps sorted is = absurd (cc)
+sorted_there (d ∷ ds) n steps sorted is = by (d.0 == n) is (λ e. sorted_there ds n steps sorted.1 e)
+  where
+    by : (b : Bool) → cond b (some_steps d.1) (certificate_for ds n) ≡ some_steps steps → (certificate_for ds n ≡ some_steps steps → AreSortedSteps steps) → AreSortedSteps steps
+    by true e rest = let same : d.1 ≡ steps = cc in subst AreSortedSteps same sorted.0
+    by false e rest = rest e
+
+no_bad_step : (bad : Option ℕ) → verdict_from bad ≡ given.Supplied → bad ≡ None
+no_bad_step None e = refl
+no_bad_step (Some step) e = absurd (cc)
+
+supplied_holds : (certs : Certificates) (n : ℕ) (c : Condition) → AreSortedCertificates certs → IsFormed c → verdict_on c (certificate_for certs n) ≡ given.Supplied → HoldsAlways c
+supplied_holds certs n c sorted formed is = by (certificate_for certs n) refl is
+  where
+    by : (o : Option (List Written)) → certificate_for certs n ≡ o → verdict_on c o ≡ given.Supplied → HoldsAlways c
+    by None here e = absurd (cc)
+    by (Some steps) here e = valid_implies_true c steps formed.sorted formed.are_closed (sorted_there certs n steps sorted here) (no_bad_step (first_bad c steps) e)
+
+-- ---- one condition
+
+certified_holds : (certs : Certificates) (budget n : ℕ) (c : Condition) (e : CodeEnd) → AreSortedCertificates certs → IsFormed c → EndsSo c budget (verdict_on c (certificate_for certs n)) (seen_end e) → IsShown c e → is_certified e ≡ true → HoldsAlways c
+certified_holds certs budget n c ends.Supplied sorted formed h shown so_it_is = supplied_holds certs n c sorted formed (is_supplied c budget (verdict_on c (certificate_for certs n)) h)
+certified_holds certs budget n c (ends.Found cert leaves) sorted formed h shown so_it_is = valid_implies_true c (steps_of cert) formed.sorted formed.are_closed shown.sorted shown.valid
+certified_holds certs budget n c (ends.Open leaf) sorted formed h shown so_it_is = absurd (cc)
+certified_holds certs budget n c ends.Spent sorted formed h shown so_it_is = absurd (cc)
+certified_holds certs budget n c (ends.Uncertified leaves) sorted formed h shown so_it_is = absurd (cc)
+
+both : (a b : Bool) → (a && b) ≡ true → (a ≡ true) × (b ≡ true)
+both true b e = (refl, e)
+both false b e = absurd (cc)
+
+pub certified_is_true : CertifiedIsTrue
+certified_is_true certs budget n [] vs sorted formed h shown so_it_is = tt
+certified_is_true certs budget n (c ∷ cs) [] sorted formed h shown so_it_is = absurd h
+certified_is_true certs budget n (c ∷ cs) (v ∷ vs) sorted formed h shown so_it_is =
+    let yeses = both (is_certified v.end) (are_certified vs) so_it_is in
+    (certified_holds certs budget n c v.end sorted formed.0 h.0.end shown.0 yeses.0, certified_is_true certs budget (n + 1) cs vs sorted formed.1 h.1 shown.1 yeses.1)
+
+pub read_is_true : ReadIsTrue
+read_is_true conds bytes certs budget n cs vs reads formed h shown so_it_is = certified_is_true certs budget n cs vs (reads_sorted conds bytes certs reads) formed h shown so_it_is
+
+-- ---- one list
+
+one_end : (c : Condition) (budget : ℕ) (g : Given) (e f : End) → EndsSo c budget g e → EndsSo c budget g f → e ≡ f
+one_end c budget given.Supplied e f a b = a ∙ sym b
+one_end c budget given.Missing e f a b = a.is ∙ ap end_of (one_verdict c budget a.verdict b.verdict a.searched b.searched) ∙ sym b.is
+one_end c budget (given.Bad step) e f a b = a.is ∙ ap end_of (one_verdict c budget a.verdict b.verdict a.searched b.searched) ∙ sym b.is
+
+abbrev told : Option ℕ → End → Known
+told bad e = record { bad_step = bad; end = e }
+
+one_known : (certs : Certificates) (budget n : ℕ) (c : Condition) (k l : Known) → IsKnown certs budget n c k → IsKnown certs budget n c l → k ≡ l
+one_known certs budget n c k l a b =
+    ap (λ (bad : Option ℕ). told bad k.end) (a.bad_step ∙ sym b.bad_step) ∙ ap (told l.bad_step) (one_end c budget (verdict_on c (certificate_for certs n)) k.end l.end a.end b.end)
+
+pub one_list : OneList
+one_list certs budget n [] [] [] a b = refl
+one_list certs budget n [] [] (l ∷ ls) a b = absurd b
+one_list certs budget n [] (k ∷ ks) ls a b = absurd a
+one_list certs budget n (c ∷ cs) [] ls a b = absurd a
+one_list certs budget n (c ∷ cs) (k ∷ ks) [] a b = absurd b
+one_list certs budget n (c ∷ cs) (k ∷ ks) (l ∷ ls) a b =
+    ap (λ (x : Known). x ∷ ks) (one_known certs budget n c k l a.0 b.0) ∙ ap (λ (xs : List Known). l ∷ xs) (one_list certs budget (n + 1) cs ks ls a.1 b.1)

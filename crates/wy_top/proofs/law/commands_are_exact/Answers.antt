@@ -1,5 +1,0 @@
-use Rattle.wy_top.proofs.ExactLemmas.{does_exactly}
-use Rattle.wy_top.proofs.law.commands_are_exact.Goals as goal
-
-pub returns : goal.returns
-returns c = record { exact = does_exactly }

@@ -1,0 +1,77 @@
+-- What the code keeps of a program and of what it owes.
+use Rattle.std.specs.Prelude.{◌≡◌, ◌≤◌, ℕ, List, All, length, map}
+use Rattle.wy_accepting.specs.Within.{IsWithin}
+use Rattle.wy_top.specs.Acceptance.{Acceptance, AreVerdicts}
+use Rattle.wy_top.specs.Programs.{Program, conditions_of}
+use Rattle.wy_top.specs.declared.accepting.Accepted.{Accepted}
+use Rattle.wy_top.specs.declared.judging.Judged.{Judged}
+use Rattle.wy_top.specs.declared.owing.Owed.{Owed}
+use Rattle.wy_top.specs.declared.proving.Proof.{Proof}
+use Rattle.wy_answers.specs.declared.answer.Answer.{Answer}
+use Rattle.wy_assign.specs.Assigned.{IsAssigned}
+use Rattle.wy_conditions.specs.Limits.{most_conditions}
+use Rattle.wy_cert.specs.Steps.{Certificates}
+use Rattle.wy_top.specs.Owed.{Owes, told_by}
+use Rattle.wy_shown_conditions.specs.Certified.{AreFormed}
+use Rattle.wy_term.specs.Condition.{condition_of}
+use Rattle.wy_term.specs.Nodes.{Plain}
+use Rattle.wy_typing.specs.TypedPrograms.{core_of, flow_of}
+use Rattle.wy_vc.specs.Listed.{seen_conds}
+use Rattle.wy_vc.specs.Told.{seen_cond}
+use Rattle.wy_top.specs.Seen.{AreShown, NameTerms, known}
+
+-- the program that is kept
+abbrev pub program_in : Owed → Program
+program_in o = record { core = core_of o.typed; flow = flow_of o.typed }
+
+-- the program is that of some source, and owes no more than it may
+pub record IsOfSource (p : Program) : Type 0 where
+  pub bytes : List ℕ
+  pub owes : Owes bytes p.core p.flow
+
+-- the conditions are those that the program owes, and what the judges of certificates ask of them holds
+pub record IsKept (o : Owed) : Type 0 where
+  pub conditions : map (condition_of o.conds.terms) o.conds.list.items ≡ conditions_of (program_in o)
+  pub told : seen_conds o.conds ≡ told_by (core_of o.typed) (flow_of o.typed)
+  pub numbers : All (IsWithin (length o.conds.terms)) o.conds.list.items
+  pub formed : AreFormed (map (condition_of o.conds.terms) o.conds.list.items)
+  pub few : length o.conds.list.items ≤ most_conditions
+  pub assigned : IsAssigned (core_of o.typed)
+  pub source : IsOfSource (program_in o)
+
+-- the program whose conditions were judged
+abbrev pub judged_program : Judged → Program
+judged_program j = record { core = core_of j.typed; flow = flow_of j.typed }
+
+-- there is a verdict on each condition, there are few of them, and each names its own terms
+pub record AreEach (j : Judged) : Type 0 where
+  pub each : length j.verdicts.items ≡ length j.conds.list.items
+  pub few : length j.conds.list.items ≤ most_conditions
+  pub named : NameTerms j.verdicts.items
+
+-- these numbers have the conditions of the program
+pub record SpellsConditions (p : Program) (j : Judged) : Type 0 where
+  pub nodes : List Plain
+  pub told : map (seen_cond nodes) j.conds.list.items ≡ told_by p.core p.flow
+
+-- the verdicts are those on the conditions of the program, where these certificates are supplied
+pub record HasVerdicts (p : Program) (certs : Certificates) (budget : ℕ) (j : Judged) : Type 0 where
+  pub program : judged_program j ≡ p
+  pub known : AreVerdicts certs budget p (map known j.verdicts.items)
+  pub shown : AreShown (conditions_of p) j.verdicts.items
+  pub formed : AreFormed (conditions_of p)
+  pub count : length j.conds.list.items ≡ length (conditions_of p)
+  pub told : SpellsConditions p j
+
+-- the accepted program, with the lines for certificates that aren't valid
+abbrev pub acceptance_in : Accepted → Acceptance
+acceptance_in a = record { program = record { core = core_of a.typed; flow = flow_of a.typed }; lines = a.lines }
+
+-- so many conditions were accepted, of a program of some source
+pub record IsWhole (a : Accepted) : Type 0 where
+  pub count : a.count ≡ length (conditions_of (acceptance_in a).program)
+  pub source : IsOfSource (acceptance_in a).program
+
+-- what is answered behind the save
+abbrev pub answer_in : Proof → Answer
+answer_in p = p.answer

@@ -1,0 +1,61 @@
+-- What does the command `prove` make of a source? The verdicts on its conditions, without certificates, and a file of those that it found.
+use Rattle.std.specs.Prelude.{◌≡◌, ℕ, List, [], map, Bool, true, false, Ok, Err}
+use Rattle.wy_answers.specs.Answers.{refused, written}
+use Rattle.wy_answers.specs.Loading.{Loads, loaded, source_limit}
+use Rattle.wy_answers.specs.Steps.{Came, Sense, stated, due, Setting, and_then, both}
+use Rattle.wy_answers.specs.declared.answer.Answer.{Answer}
+use Rattle.wy_cert_text.specs.Text.{file_text}
+use Rattle.wy_top.specs.Owed.{Owes, told_by}
+use Rattle.wy_top.specs.Found.{found_from}
+use Rattle.wy_top.specs.Refusals.{refusal_lines}
+use Rattle.wy_report.specs.Lines.{accepted}
+use Rattle.wy_top.specs.Known.{Known}
+use Rattle.wy_top.specs.Seen.{AreShown, known, some_lacks}
+use Rattle.wy_top.specs.declared.verdict.Verdict.{Verdict}
+use Rattle.wy_top.specs.Acceptance.{AreVerdicts, IsUncertified, are_closed}
+use Rattle.wy_top.specs.Programs.{Program, conditions_of, count_of, owes}
+
+-- what is written behind the save, where all conditions are closed and where some aren't
+abbrev pub proof_answer : List ℕ → List ℕ → Program → ℕ → List Known → Bool → Answer
+proof_answer name bytes p budget ks true = written (accepted (count_of p))
+proof_answer name bytes p budget ks false = refused 1 (refusal_lines name bytes budget (told_by p.core p.flow) ks)
+
+-- these are the verdicts, and this is written behind the save
+pub record IsJudged (name bytes : List ℕ) (p : Program) (budget : ℕ) (a : Answer) : Type 0 where
+  pub verdicts : List Known
+  pub known : AreVerdicts [] budget p verdicts
+  pub answer : a ≡ proof_answer name bytes p budget verdicts (are_closed verdicts)
+
+abbrev pub judges : List ℕ → List ℕ → Program → ℕ → Sense → Came Answer → Type 0
+judges name bytes p budget m (Ok a) = IsJudged name bytes p budget a
+judges name bytes p budget stated (Err a) = IsUncertified p [] budget a
+judges name bytes p budget due (Err a) = ⊥
+
+-- the order of the steps up to the save
+abbrev pub proves_source : List ℕ → ℕ → List ℕ → Sense → Came Answer → Type 0
+proves_source name budget bytes = and_then (owes name bytes) (λ p. judges name bytes p budget)
+
+abbrev pub proves_file : Setting → List ℕ → ℕ → Sense → Came Answer → Type 0
+proves_file s name budget = and_then (both (loaded s name source_limit)) (proves_source name budget)
+
+-- ---- what is saved
+
+-- the text is a file of a valid certificate for each condition of the program that was found, and of no others
+pub record IsProofFile (p : Program) (budget : ℕ) (text : List ℕ) : Type 0 where
+  pub verdicts : List Verdict
+  pub known : AreVerdicts [] budget p (map known verdicts)
+  pub shown : AreShown (conditions_of p) verdicts
+  pub each : some_lacks verdicts ≡ false
+  pub is : text ≡ file_text (found_from 1 verdicts)
+
+-- it is one of the program of the source with these bytes
+pub record ProvesBytes (bytes : List ℕ) (budget : ℕ) (text : List ℕ) : Type 0 where
+  pub program : Program
+  pub owes : Owes bytes program.core program.flow
+  pub file : IsProofFile program budget text
+
+-- it is one of the program of the source in this file
+pub record Proves (s : Setting) (name : List ℕ) (budget : ℕ) (text : List ℕ) : Type 0 where
+  pub bytes : List ℕ
+  pub loads : Loads s name source_limit bytes
+  pub proves : ProvesBytes bytes budget text

@@ -1,0 +1,205 @@
+//! Acceptance.
+ghost use Rattle.std.specs.Prelude.{◌≡◌, ◌≤◌, ◌<◌, ◌^◌, ◌++◌, ℕ, List, length, map, IfOk};
+ghost use Rattle.wy_top.specs.Acceptance as spec;
+ghost use Rattle.wy_top.specs.Kept.{AreEach, HasVerdicts, IsKept, IsOfSource, IsWhole, acceptance_in, judged_program, program_in};
+ghost use Rattle.wy_top.specs.Programs.{Program};
+ghost use Rattle.wy_answers.specs.Answers.{IsRefusal};
+ghost use Rattle.wy_answers.specs.Steps.{During, Gives, Setting, came};
+ghost use Rattle.wy_answers.specs.Texts.{not_certified};
+ghost use Rattle.wy_cert.specs.Steps.{Certificates, NameTheirTerms, certificates_of};
+ghost use Rattle.wy_top.specs.Owed.{told_by};
+ghost use Rattle.wy_top.specs.Refusals as refusals;
+ghost use Rattle.wy_sorted_certificates.specs.ReadSorted.{AreSortedCertificates};
+ghost use Rattle.wy_top.specs.Seen.{known};
+
+use crate::counting::{are_certified, some_lack_certificates};
+use crate::invalid::invalid_lines;
+use crate::judging::{Judged, judge_all};
+use crate::owing::{Owed, owed_by};
+use crate::refusing::refusal_lines;
+use std::alloc::Global;
+use wy_answers::{Answer, SOURCE_LIMIT, load, no_memory, refusal};
+use wy_cert::Certs;
+use wy_data::Bytes;
+use wy_port::Files;
+use wy_supplied::certificates;
+use wy_typing::Typed;
+
+/// A program of which each condition has a valid certificate.
+#[derive(Drop)]
+pub struct Accepted {
+    pub typed: Typed,
+    /// How many conditions it has.
+    pub count: u32,
+    /// A line for each certificate that was supplied and isn't valid.
+    pub lines: Bytes,
+}
+
+/// The answer where a search closed all leaves of a condition, and no certificate was made of them.
+pub fn uncertified(alloc: Global) -> Answer
+    ensures value { IsRefusal 13 not_certified result }
+{
+    refusal(
+        alloc,
+        13,
+        String::from_str(alloc, "wy: found and not certified\n"),
+    )
+}
+
+// The answer where some condition has no valid certificate: these lines, and then those for the conditions.
+fn unproved(
+    alloc: Global,
+    name: &str,
+    bytes: &[u8],
+    budget: u64,
+    lines: Vec<u8>,
+    judged: &Judged,
+) -> Answer
+    requires each { AreEach judged.now }
+    ensures value { (p : Program) → (certs : Certificates) → HasVerdicts p certs budget judged.now → IsRefusal 1 (lines.items ++ refusals.refusal_lines name.now bytes.now budget (told_by p.core p.flow) (map known judged.now.verdicts.items)) result }
+{
+    let own = match refusal_lines(
+        alloc,
+        name,
+        bytes,
+        budget,
+        &judged.conds.list,
+        &judged.verdicts,
+    ) {
+        Ok(own) => own,
+        Err(_) => return no_memory(alloc),
+    };
+    let mut all = lines;
+    match all.extend_from_slice(own.as_slice()) {
+        Ok(()) => Answer {
+            status: 1,
+            out: Bytes::new(Vec::new(alloc)),
+            err: Bytes::new(all),
+        },
+        Err(_) => no_memory(alloc),
+    }
+}
+
+// The program, where all its conditions have certificates, or the answer of why it isn't accepted.
+fn accept(
+    alloc: Global,
+    name: &str,
+    cert: &str,
+    bytes: &[u8],
+    budget: u64,
+    judged: Judged,
+) -> Result<Accepted, Answer>
+    requires each { AreEach judged }
+    ensures gives { (s : Setting) → (p : Program) → (certs : Certificates) → AreSortedCertificates certs → HasVerdicts p certs budget judged → Gives s (spec.accepts name.now cert.now bytes.now p certs budget) (came acceptance_in result) }
+    ensures whole { (certs : Certificates) → HasVerdicts (judged_program judged) certs budget judged → IsOfSource (judged_program judged) → IfOk result IsWhole }
+{
+    if some_lack_certificates(&judged.verdicts) {
+        return Err(uncertified(alloc));
+    }
+    let lines = match invalid_lines(alloc, cert, &judged.verdicts) {
+        Ok(lines) => lines,
+        Err(_) => return Err(no_memory(alloc)),
+    };
+    if !are_certified(&judged.verdicts) {
+        return Err(unproved(alloc, name, bytes, budget, lines, &judged));
+    }
+    let count = judged.conds.list.len() as u32;
+    let Judged { typed, .. } = judged;
+    Ok(Accepted {
+        typed,
+        count,
+        lines: Bytes::new(lines),
+    })
+}
+
+// The program with these certificates.
+fn accept_on(
+    alloc: Global,
+    name: &str,
+    cert: &str,
+    bytes: &[u8],
+    budget: u64,
+    owed: Owed,
+    certs: &Certs,
+) -> Result<Accepted, Answer>
+    requires kept { IsKept owed }
+    requires names { NameTheirTerms certs.now }
+    requires sorted { AreSortedCertificates (certificates_of certs.now) }
+    ensures gives { (s : Setting) → Gives s (spec.accepts name.now cert.now bytes.now (program_in owed) (certificates_of certs.now) budget) (came acceptance_in result) }
+    ensures whole { IfOk result IsWhole }
+{
+    match judge_all(alloc, owed, certs, budget) {
+        Ok(judged) => accept(alloc, name, cert, bytes, budget, judged),
+        Err(answer) => Err(answer),
+    }
+}
+
+// The program with the certificates that are named.
+fn accept_with<F: Files>(
+    alloc: Global,
+    name: &str,
+    cert: &str,
+    bytes: &[u8],
+    budget: u64,
+    owed: Owed,
+    files: &mut F,
+) -> Result<Accepted, Answer>
+    requires kept { IsKept owed }
+    ensures gives { During (F.told files.old) (F.load_faults files.old) (F.load_faults files.new) (F.misses files.old) (F.misses files.new) (λ s. Gives s (spec.accepts_with s name.now cert.now budget bytes.now (program_in owed)) (came acceptance_in result)) }
+    ensures whole { IfOk result IsWhole }
+    ensures kept { (other : List ℕ) → F.told files.new other ≡ F.told files.old other }
+    ensures load_count { F.load_faults files.old ≤ F.load_faults files.new }
+    ensures miss_count { F.misses files.old ≤ F.misses files.new }
+    ensures save_count { F.save_faults files.new ≡ F.save_faults files.old }
+{
+    let count = owed.conds.list.len() as u32;
+    match certificates(alloc, cert, count, files) {
+        Ok(certs) => accept_on(alloc, name, cert, bytes, budget, owed, &certs),
+        Err(answer) => Err(answer),
+    }
+}
+
+/// The program of the source with these bytes, where each of its conditions has a valid certificate: one of the file `cert`,
+/// or else one that is found with `budget` leaves. Or the answer of why it isn't accepted.
+pub fn accept_source<F: Files>(
+    alloc: Global,
+    name: &str,
+    cert: &str,
+    bytes: &[u8],
+    budget: u64,
+    files: &mut F,
+) -> Result<Accepted, Answer>
+    requires { length bytes.now < 2 ^ 32 }
+    ensures gives { During (F.told files.old) (F.load_faults files.old) (F.load_faults files.new) (F.misses files.old) (F.misses files.new) (λ s. Gives s (spec.accepts_source s name.now cert.now budget bytes.now) (came acceptance_in result)) }
+    ensures whole { IfOk result IsWhole }
+    ensures kept { (other : List ℕ) → F.told files.new other ≡ F.told files.old other }
+    ensures load_count { F.load_faults files.old ≤ F.load_faults files.new }
+    ensures miss_count { F.misses files.old ≤ F.misses files.new }
+    ensures save_count { F.save_faults files.new ≡ F.save_faults files.old }
+{
+    match owed_by(alloc, name, bytes) {
+        Ok(owed) => accept_with(alloc, name, cert, bytes, budget, owed, files),
+        Err(answer) => Err(answer),
+    }
+}
+
+/// Likewise for the source in a file.
+pub fn accept_file<F: Files>(
+    alloc: Global,
+    name: &str,
+    cert: &str,
+    budget: u64,
+    files: &mut F,
+) -> Result<Accepted, Answer>
+    ensures gives { During (F.told files.old) (F.load_faults files.old) (F.load_faults files.new) (F.misses files.old) (F.misses files.new) (λ s. Gives s (spec.accepts_file s name.now cert.now budget) (came acceptance_in result)) }
+    ensures whole { IfOk result IsWhole }
+    ensures kept { (other : List ℕ) → F.told files.new other ≡ F.told files.old other }
+    ensures load_count { F.load_faults files.old ≤ F.load_faults files.new }
+    ensures miss_count { F.misses files.old ≤ F.misses files.new }
+    ensures save_count { F.save_faults files.new ≡ F.save_faults files.old }
+{
+    match load(alloc, name, SOURCE_LIMIT, files) {
+        Ok(bytes) => accept_source(alloc, name, cert, bytes.as_slice(), budget, files),
+        Err(answer) => Err(answer),
+    }
+}

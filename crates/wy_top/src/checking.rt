@@ -1,0 +1,43 @@
+//! The command `check`.
+ghost use Rattle.std.specs.Prelude.{◌≡◌, ◌≤◌, ◌⊎◌, ℕ, List};
+ghost use Rattle.wy_top.specs.Acceptance as spec;
+ghost use Rattle.wy_top.specs.Kept.{IsWhole, acceptance_in};
+ghost use Rattle.wy_answers.specs.Answers as answers;
+ghost use Rattle.wy_answers.specs.Steps.{Answers, During};
+
+use crate::accepting::{Accepted, accept_file};
+use std::alloc::Global;
+use wy_answers::{Answer, no_memory};
+use wy_data::Bytes;
+use wy_port::Files;
+use wy_report::accepted as accepted_line;
+
+// How many conditions were accepted.
+fn answer_of(alloc: Global, accepted: Accepted) -> Answer
+    requires { IsWhole accepted }
+    ensures value { (result ≡ spec.checked_answer (acceptance_in accepted)) ⊎ (result ≡ answers.no_memory) }
+{
+    match accepted_line(alloc, accepted.count) {
+        Ok(line) => Answer {
+            status: 0,
+            out: Bytes::new(line.into_bytes()),
+            err: accepted.lines,
+        },
+        Err(_) => no_memory(alloc),
+    }
+}
+
+/// The answer of `check`: how many conditions the program of the source has, where each has a valid certificate, or why it
+/// isn't accepted.
+pub fn check<F: Files>(alloc: Global, name: &str, cert: &str, budget: u64, files: &mut F) -> Answer
+    ensures answers { During (F.told files.old) (F.load_faults files.old) (F.load_faults files.new) (F.misses files.old) (F.misses files.new) (λ s. Answers s (spec.check_steps s name.now cert.now budget) result) }
+    ensures kept { (other : List ℕ) → F.told files.new other ≡ F.told files.old other }
+    ensures load_count { F.load_faults files.old ≤ F.load_faults files.new }
+    ensures miss_count { F.misses files.old ≤ F.misses files.new }
+    ensures save_count { F.save_faults files.new ≡ F.save_faults files.old }
+{
+    match accept_file(alloc, name, cert, budget, files) {
+        Ok(accepted) => answer_of(alloc, accepted),
+        Err(answer) => answer,
+    }
+}

@@ -1,0 +1,42 @@
+//! The verdicts on what a program owes.
+ghost use Rattle.std.specs.Prelude.{◌≡◌, IfOk, IfErr};
+ghost use Rattle.wy_top.specs.Kept.{AreEach, HasVerdicts, IsKept, program_in};
+ghost use Rattle.wy_answers.specs.Answers as answers;
+ghost use Rattle.wy_cert.specs.Steps.{NameTheirTerms, certificates_of};
+
+use crate::finding::judge;
+use crate::owing::Owed;
+use crate::verdict::Verdict;
+use std::alloc::Global;
+use wy_answers::{Answer, no_memory};
+use wy_cert::Certs;
+use wy_term::Conds;
+use wy_typing::Typed;
+
+/// A program with what it owes and what is known of each condition.
+#[derive(Drop)]
+pub struct Judged {
+    pub typed: Typed,
+    pub conds: Conds,
+    pub verdicts: Vec<Verdict>,
+}
+
+/// The verdicts on what the program owes, where these certificates are supplied, with searches of so many leaves; or want of
+/// memory. It takes what checking the certificates and searching the other conditions take.
+pub fn judge_all(alloc: Global, owed: Owed, certs: &Certs, budget: u64) -> Result<Judged, Answer>
+    requires kept { IsKept owed }
+    requires names { NameTheirTerms certs.now }
+    ensures verdicts { IfOk result (HasVerdicts (program_in owed) (certificates_of certs.now) budget) }
+    ensures each { IfOk result AreEach }
+    ensures memory { IfErr result (λ a. a ≡ answers.no_memory) }
+{
+    let Owed { typed, mut conds } = owed;
+    match judge(alloc, &mut conds.terms, &conds.list, certs, budget) {
+        Ok(verdicts) => Ok(Judged {
+            typed,
+            conds,
+            verdicts,
+        }),
+        Err(_) => Err(no_memory(alloc)),
+    }
+}

@@ -1,6 +1,0 @@
--- verdicts, one by one
-pub mod JudgedLemmas
--- counts
-pub mod CountLemmas
--- the laws
-pub mod ShownLemmas
