@@ -1,4 +1,3 @@
 mod PartLemmas
 mod LoopLemmas
 mod SeenLemmas
-mod NodeLemmas

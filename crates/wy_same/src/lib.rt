@@ -1,11 +1,8 @@
-//! Which trees are the same.
-//!
-//! `core_types` compares types of the core by what they say, places aside, as the passes over types
-//! do. `surface` compares trees as they are written, places included.
+//! Which types of the core are the same by what they say, places aside, as the passes over types
+//! ask it.
 #![tactic(auto)]
 
 mod core_types;
-pub mod surface;
 #[cfg(test)]
 mod tests;
 

@@ -1,5 +1,3 @@
-//! Trees and their copies, and a pass over expressions which shows how a pass is written.
+//! Types and an answer for each pair.
 
-mod copies;
-mod pass;
 mod types;
