@@ -1,20 +1,16 @@
-//! Tests of names and lowering, from source to core. They stand in a crate of their own, since they go
-//! through the readers of sources.
-//!
-//! `answers` resolves a source. `faults` has each fault in several constructs, `many` programs of thousands of
-//! declarations, `cores` the cores of programs with the places of their nodes, which `written` writes, and
-//! `vectors` what an independent program answered.
+//! Tests of names and lowering, pass by pass and as a whole, and of graphs.
+//! Tests stand in few crates of their own, since a crate with tests is proved twice.
 #![tactic(auto)]
 
 #[cfg(test)]
-mod answers;
+mod bind;
 #[cfg(test)]
-mod cores;
+mod cycles;
 #[cfg(test)]
-mod faults;
+mod expand;
 #[cfg(test)]
-mod many;
+mod names;
 #[cfg(test)]
-mod vectors;
+mod uses;
 #[cfg(test)]
-mod written;
+mod vc_reach;

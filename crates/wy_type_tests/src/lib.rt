@@ -1,10 +1,16 @@
-//! Tests of wy_subtype and wy_parts: types as short texts, and what is answered of them. They stand in
-//! a crate of their own, since a crate with tests is proved twice.
+//! Tests of values, types, flow typing and assignment.
+//! Tests stand in few crates of their own, since a crate with tests is proved twice.
 #![tactic(auto)]
 
 #[cfg(test)]
-mod parts;
+mod assign;
 #[cfg(test)]
-mod questions;
+mod canon;
 #[cfg(test)]
-mod reading;
+mod flow;
+#[cfg(test)]
+mod member;
+#[cfg(test)]
+mod types;
+#[cfg(test)]
+mod value;

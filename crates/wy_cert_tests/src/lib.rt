@@ -1,7 +1,0 @@
-//! Tests of `wy_cert`: certificate files, read and refused.
-#![tactic(auto)]
-
-#[cfg(test)]
-mod accepted;
-#[cfg(test)]
-mod refused;

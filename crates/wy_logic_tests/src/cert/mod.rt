@@ -1,0 +1,4 @@
+//! Tests of `wy_cert`: certificate files, read and refused.
+
+mod accepted;
+mod refused;
