@@ -17,3 +17,26 @@ pub mod ExprInside
 pub mod ExprRanges
 pub mod ExprGives
 pub mod RoundTrips
+pub mod Lines
+pub mod LineRuns
+pub mod StmtShown
+pub mod StmtLines
+pub mod StmtOne
+pub mod StmtNamed
+pub mod StmtCalls
+pub mod StmtHeads
+pub mod StmtBlocks
+pub mod StmtLoops
+pub mod StmtChoices
+pub mod StmtLabels
+pub mod StmtSwitches
+pub mod StmtNests
+pub mod StmtAlone
+mod ProgramShown
+mod DeclTypes
+mod DeclHeads
+mod DeclAgain
+mod DeclLines
+mod DeclBodies
+pub mod ProgramRound
+pub mod OneProgram

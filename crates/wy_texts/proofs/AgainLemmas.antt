@@ -3,9 +3,9 @@ use Rattle.std.proofs.Common.{◌≡◌, ℕ, List, refl, subst}
 use Rattle.wy_ast.specs.declared.declarations.Program.{Program}
 use Rattle.wy_front.specs.Front as front
 use Rattle.wy_print.specs.ProgramText.{program_text}
-use Rattle.wy_round_programs.proofs.OneProgram.{reads-same}
-use Rattle.wy_round_programs.proofs.ProgramRound.{reads-again}
-use Rattle.wy_round_programs.specs.ReadAgain.{IsSource}
+use Rattle.wy_round.proofs.OneProgram.{reads-same}
+use Rattle.wy_round.proofs.ProgramRound.{reads-again}
+use Rattle.wy_round.specs.ReadAgain.{IsSource}
 use Rattle.wy_texts.specs.Again.{IsAgain, IsReadAgain}
 use Rattle.wy_texts.specs.Texts.{IsLayout, IsText}
 use Rattle.wy_texts.specs.declared.kind.Kind.{Kind}

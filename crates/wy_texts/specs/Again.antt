@@ -3,7 +3,7 @@ use Rattle.std.specs.Prelude.{◌≡◌, ℕ, List, ⊤}
 use Rattle.wy_ast.specs.declared.declarations.Program.{Program}
 use Rattle.wy_front.specs.Front as front
 use Rattle.wy_print.specs.ProgramText.{program_text}
-use Rattle.wy_round_programs.specs.ReadAgain.{IsSame}
+use Rattle.wy_round.specs.ReadAgain.{IsSame}
 use Rattle.wy_texts.specs.Texts.{IsLayout}
 use Rattle.wy_texts.specs.declared.kind.Kind.{Kind}
 use Rattle.wy_texts.specs.declared.kind.Kind.TheVariants.{Layout, Listing}
