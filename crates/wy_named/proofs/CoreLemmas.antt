@@ -5,7 +5,7 @@ use Rattle.wy_core.specs.CoreSeen.{seen_core}
 use Rattle.wy_core.specs.declared.declarations.Core.{Core}
 use Rattle.wy_expand.specs.declared.measure.Expansion.{Expansion}
 use Rattle.wy_recursion.specs.Endings.{IsOrder}
-use Rattle.wy_order.proofs.OrderLemmas.{same_summaries}
+use Rattle.wy_named.proofs.OrderLemmas.{same_summaries}
 use Rattle.wy_lower.specs.Uses.{Template}
 use Rattle.wy_lower.specs.DeclsLowered as lower
 use Rattle.wy_names.specs.Named.{scope_of, uses_of, expansions_of, core_by, IsNamed}

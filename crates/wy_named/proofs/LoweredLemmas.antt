@@ -11,8 +11,8 @@ use Rattle.wy_uses.specs.declared.edges.Edge.{Edge}
 use Rattle.wy_uses.specs.declared.edges.Way.TheVariants as way
 use Rattle.wy_uses.specs.Uses.{Edges, property_named}
 use Rattle.wy_uses.specs.ExprUses as exprs
-use Rattle.wy_order.proofs.UseLemmas.{Each, of_last, before_ty, before_expr, before_exprs, before_values, before_ranges}
-use Rattle.wy_order.proofs.SizeLemmas.{use_of}
+use Rattle.wy_named.proofs.UseLemmas.{Each, of_last, before_ty, before_expr, before_exprs, before_values, before_ranges}
+use Rattle.wy_named.proofs.SizeLemmas.{use_of}
 use Rattle.wy_lower.specs.Variables.{Variables, declared, named}
 use Rattle.wy_lower.specs.Uses.{With, Template, used_by, is_used, expansion, called}
 use Rattle.wy_lower.specs.TypesLowered.{in_ty, placed}

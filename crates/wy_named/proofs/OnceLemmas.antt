@@ -14,7 +14,7 @@ use Rattle.wy_uses.specs.declared.edges.Edge.{Edge}
 use Rattle.wy_uses.specs.Uses.{Edges}
 use Rattle.wy_recursion.specs.Recursion.{noted_marked, NotesRecursion}
 use Rattle.wy_recursion.specs.Endings.{IsOrder}
-use Rattle.wy_order.proofs.OrderLemmas.{same_summaries}
+use Rattle.wy_named.proofs.OrderLemmas.{same_summaries}
 use Rattle.wy_names.specs.Named.{scope_of, uses_of, found_before, Judges, IsNamed, IsRefused}
 use Rattle.wy_names.specs.NameFaults.{fault_named}
 use Rattle.wy_names.specs.declared.name_fault.NameFault.{NameFault}

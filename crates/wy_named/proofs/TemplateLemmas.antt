@@ -14,7 +14,7 @@ use Rattle.wy_uses.specs.Uses.{Edges}
 use Rattle.wy_uses.specs.DeclUses.{edges_of}
 use Rattle.wy_expand.specs.declared.measure.Expansion.{Expansion}
 use Rattle.wy_recursion.specs.Endings.{is_property, is_use_way, is_use, Ends, ends, IsOrder}
-use Rattle.wy_order.proofs.UseLemmas.{Each, of_decl}
+use Rattle.wy_named.proofs.UseLemmas.{Each, of_decl}
 use Rattle.wy_lower.specs.Uses.{Template}
 use Rattle.wy_lower.specs.Templates.{used_of, template, set_at, with_option, filled, without_uses, templates}
 use Rattle.wy_named.proofs.LoweredLemmas.{Alike, same_template}

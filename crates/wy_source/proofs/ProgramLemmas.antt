@@ -9,9 +9,9 @@ use Rattle.wy_core.specs.CoreTree as tree
 use Rattle.wy_core.specs.Types.{Ty}
 use Rattle.wy_core.specs.declared.declarations.Core.{Core}
 use Rattle.wy_formed_types.proofs.OrderLemmas.{ordered_types}
-use Rattle.wy_resolved.proofs.CallDeclLemmas.{named_calls_well}
-use Rattle.wy_resolved.proofs.CoreLemmas.{named_bound}
-use Rattle.wy_resolved.proofs.RecursionLemmas.{named_recurs_well}
+use Rattle.wy_named.proofs.CallDeclLemmas.{named_calls_well}
+use Rattle.wy_named.proofs.ResolvedCoreLemmas.{named_bound}
+use Rattle.wy_named.proofs.RecursionLemmas.{named_recurs_well}
 use Rattle.wy_source.proofs.MemoryLemmas.{flow_memory, flow_apart, assign_memory, assign_apart, memory_apart}
 use Rattle.wy_source.specs.Refusals.{is_no_memory}
 use Rattle.wy_source.specs.Sources.{HasCore, IsDue, IsEarly, IsFormed, IsProgram, IsRefused, Naming}

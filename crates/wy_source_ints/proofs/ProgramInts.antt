@@ -26,7 +26,7 @@ use Rattle.wy_parse.specs.DeclTrees.{Params, Clauses, Contract, Given, D, param,
 use Rattle.wy_parse.specs.ProgramGrammar.{Typed, InnerType, NamedType, MethodResult, OneParam, NextParam, Parameters, AliasClauses, AliasDecl, PropertyDecl, Clause, ContractOf, FunctionDecl, MethodDecl, Declaration, has_place, Capped, Counted, NextDecl, Import, ProgramIn}
 use Rattle.wy_parse.specs.Derivation.{Derives, profile}
 use Rattle.wy_front.specs.Front.{Spells}
-use Rattle.wy_resolved.specs.SourceLiterals.{SourceDecl, SourceInts}
+use Rattle.wy_named.specs.SourceLiterals.{SourceDecl, SourceInts}
 use Rattle.wy_round.proofs.Gives.{Gives, Proper, gives-pure, gives-then, gives-or, gives-loop, gives-refused, gives-unless, gives-mark, gives-name}
 use Rattle.wy_source_fields.proofs.LowLemmas.{OnLow, AllOf, low-both, low-made, low-pushed}
 use Rattle.wy_source_fields.proofs.TypeFields.{IsTy, IsT, gives-type, gives-type_rest}

@@ -7,7 +7,7 @@ ghost use Rattle.wy_core.specs.declared.declarations.Core.{Core};
 ghost use Rattle.wy_formed.specs.Formed.{Formed};
 ghost use Rattle.wy_front.specs.Front.{Spells};
 ghost use Rattle.wy_names.specs.Named.{IsNamed};
-ghost use Rattle.wy_resolved.specs.SourceLiterals.{SourceInts};
+ghost use Rattle.wy_named.specs.SourceLiterals.{SourceInts};
 
 /// Each number in a program that a source spells is an `int`, and each code in its texts a byte.
 pub fn a_source_that_is_read_has_ints_alone()

@@ -28,9 +28,9 @@ use Rattle.wy_formed.specs.Formed.{Formed}
 use Rattle.wy_formed.specs.Sizes.{IsSmall}
 use Rattle.wy_formed.specs.Wholes.{IsQuiet, Wholes}
 use Rattle.wy_names.specs.Named.{IsNamed}
-use Rattle.wy_resolved.specs.SourceLiterals.{SourceInts}
-use Rattle.wy_sized.specs.SourceClauses.{HasOne, OwnClauses, HaveClauses}
-use Rattle.wy_sized.proofs.FormedLemmas.{named_small, named_quiet, named_formed}
+use Rattle.wy_named.specs.SourceLiterals.{SourceInts}
+use Rattle.wy_named.specs.SourceClauses.{HasOne, OwnClauses, HaveClauses}
+use Rattle.wy_named.proofs.FormedLemmas.{named_small, named_quiet, named_formed}
 
 -- ---- clauses
 

@@ -9,8 +9,8 @@ ghost use Rattle.wy_formed.specs.Sizes.{IsSmall};
 ghost use Rattle.wy_formed.specs.Wholes.{IsQuiet, Wholes};
 ghost use Rattle.wy_front.specs.Front.{Spells};
 ghost use Rattle.wy_names.specs.Named.{IsNamed};
-ghost use Rattle.wy_resolved.specs.SourceLiterals.{SourceInts};
-ghost use Rattle.wy_sized.specs.SourceClauses.{HaveClauses};
+ghost use Rattle.wy_named.specs.SourceLiterals.{SourceInts};
+ghost use Rattle.wy_named.specs.SourceClauses.{HaveClauses};
 
 /// Each property of a program that bytes spell has a clause.
 pub fn a_spelled_program_has_clauses()

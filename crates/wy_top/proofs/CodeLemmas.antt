@@ -10,7 +10,7 @@ use Rattle.wy_core.specs.CoreTree.{Core}
 use Rattle.wy_core.specs.Types.{Ty}
 use Rattle.wy_field_names.proofs.FieldNameLemmas.{named_fields}
 use Rattle.wy_formed.specs.Literals.{Ints}
-use Rattle.wy_resolved.proofs.LiteralLemmas.{named_ints_alone}
+use Rattle.wy_named.proofs.LiteralLemmas.{named_ints_alone}
 use Rattle.wy_source.specs.Sources.{IsProgram}
 use Rattle.wy_source_fields.proofs.ProgramFields.{read-fields}
 use Rattle.wy_source_ints.proofs.ProgramInts.{read-ints}

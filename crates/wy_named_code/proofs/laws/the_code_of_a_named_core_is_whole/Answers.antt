@@ -1,7 +1,7 @@
 use Rattle.wy_core.specs.CoreSeen.{seen_core}
 use Rattle.wy_compiled.proofs.CallRoutineLemmas.{all_call}
 use Rattle.wy_compiled.proofs.ShapeLemmas.{core_shapes}
-use Rattle.wy_resolved.proofs.CoreLemmas.{named_bound}
+use Rattle.wy_named.proofs.ResolvedCoreLemmas.{named_bound}
 use Rattle.wy_field_names.proofs.FieldNameLemmas.{named_fields}
 use Rattle.wy_named_code.proofs.laws.the_code_of_a_named_core_is_whole.Goals as goal
 

@@ -1,2 +1,0 @@
--- what a program as it is written has
-pub mod SourceClauses
