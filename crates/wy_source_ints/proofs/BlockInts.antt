@@ -29,7 +29,7 @@ use Rattle.wy_parse.specs.StmtTrees.{S, Stmts, Cases}
 use Rattle.wy_parse.specs.BlockGrammar.{CaseList, Otherwise, WhileStmt, DoStmt, ForStmt, IfStmt, CaseRest, Default, Nest, width, Switch, Statement, Piece, Rest, BlockOf, Block, ShutBlock, LastOut, nest}
 use Rattle.wy_named.specs.SourceLiterals.{SourceClauses, SourceStmt, SourceStmts, SourceCases}
 use Rattle.wy_round.proofs.Gives.{Gives, gives-pure, gives-one, gives-then, gives-or, gives-loop, gives-refused, gives-unless, gives-mark, gives-name}
-use Rattle.wy_source_fields.proofs.LowLemmas.{OnLow, AllOf, all-more, low-both, low-made, low-pushed}
+use Rattle.wy_source_ints.proofs.LowLemmas.{OnLow, AllOf, all-more, low-both, low-made, low-pushed}
 use Rattle.wy_source_ints.proofs.ExprInts.{IsExpr, IsE, int-expr, literal-expr, opposite-int, gives-expr, gives-sum_in}
 use Rattle.wy_source_ints.proofs.StmtInts.{IsStmt, IsS, IsBlock, all-stmts, all-clauses, if-s, while-s, do-s, for-s, gives-word_stmt, gives-return, gives-assert, gives-declare, gives-named, gives-wheres}
 

@@ -27,8 +27,8 @@ use Rattle.wy_grammar.specs.TypeGrammar.{T}
 use Rattle.wy_grammar.specs.ExprGrammar.{E, Args, Fields, Ranges, literal_kind, Literal, touches, opposite, Glued, is_all, Quantifier, Factor, Product, Summand, Sum, Compared, Comparison, Connected, Chain, Mix, Logic, ExprOf, NextArg, MoreArgs, ArgList, Field, NextField, FieldList, Range, NextRange, RangeList, Listed, Called, Quantified, Primary, Step, Steps, Negated, UnaryOf, level, Unary, Expr_, SumIn, ArgsIn, joint}
 use Rattle.wy_named.specs.SourceLiterals.{Bytes, SourceExpr, SourceExprs, SourceFields, SourceRanges}
 use Rattle.wy_round.proofs.Gives.{Gives, gives-pure, gives-one, gives-then, gives-or, gives-loop, gives-refused, gives-unless, gives-fenced, Anything, gives-mark, gives-inner, gives-name, gives-inner_name}
-use Rattle.wy_source_fields.proofs.LowLemmas.{OnLow, AllOf, low-both, low-made, low-pushed, low-named, low-expr}
-use Rattle.wy_source_fields.proofs.TypeFields.{IsTy, IsT, gives-type}
+use Rattle.wy_source_ints.proofs.LowLemmas.{OnLow, AllOf, low-both, low-made, low-pushed, low-named, low-expr}
+use Rattle.wy_source_ints.proofs.TypeFields.{IsTy, IsT, gives-type}
 
 -- ---- nodes
 

@@ -8,7 +8,7 @@ use Rattle.wy_formed.specs.Formed.{Formed}
 use Rattle.wy_front.specs.Front.{Spells}
 use Rattle.wy_names.specs.Named.{IsNamed}
 use Rattle.wy_source_ints.proofs.ProgramInts.{read-ints}
-use Rattle.wy_spelled.proofs.SpelledLemmas.{text_formed}
+use Rattle.wy_source_ints.proofs.SpelledLemmas.{text_formed}
 
 pub source-formed : (bytes : List ℕ) (program : Program) (core : Core) → Spells bytes program → IsNamed (map seen_decl program.decls) core → Formed (seen_core core)
 source-formed bytes program core s n = text_formed bytes program core s (read-ints bytes program s) n

@@ -28,8 +28,8 @@ use Rattle.wy_parse.specs.Derivation.{Derives, profile}
 use Rattle.wy_front.specs.Front.{Spells}
 use Rattle.wy_named.specs.SourceLiterals.{SourceDecl, SourceInts}
 use Rattle.wy_round.proofs.Gives.{Gives, Proper, gives-pure, gives-then, gives-or, gives-loop, gives-refused, gives-unless, gives-mark, gives-name}
-use Rattle.wy_source_fields.proofs.LowLemmas.{OnLow, AllOf, low-both, low-made, low-pushed}
-use Rattle.wy_source_fields.proofs.TypeFields.{IsTy, IsT, gives-type, gives-type_rest}
+use Rattle.wy_source_ints.proofs.LowLemmas.{OnLow, AllOf, low-both, low-made, low-pushed}
+use Rattle.wy_source_ints.proofs.TypeFields.{IsTy, IsT, gives-type, gives-type_rest}
 use Rattle.wy_source_ints.proofs.ExprInts.{IsExpr, AreArgs, gives-expr}
 use Rattle.wy_source_ints.proofs.StmtInts.{IsStmt, IsBlock, all-stmts, all-clauses, gives-where, gives-wheres}
 use Rattle.wy_source_ints.proofs.BlockInts.{gives-nest}

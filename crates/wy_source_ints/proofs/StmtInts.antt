@@ -27,8 +27,8 @@ use Rattle.wy_parse.specs.StmtTrees.{S, Stmts, Path, Cases}
 use Rattle.wy_parse.specs.StmtGrammar.{word_kind, WordStmt, FieldStep, ReturnStmt, AssertStmt, Declared, DeclareStmt, CallStmt, Step, Valued, Assigned, BracketStmt, NamedStmt, Where, Wheres}
 use Rattle.wy_named.specs.SourceLiterals.{SourceClauses, SourceOption, SourcePath, SourceStmt, SourceStmts}
 use Rattle.wy_round.proofs.Gives.{Gives, gives-pure, gives-one, gives-then, gives-or, gives-loop, gives-mark, gives-inner, gives-name}
-use Rattle.wy_source_fields.proofs.LowLemmas.{OnLow, AllOf, low-both, low-made, low-pushed}
-use Rattle.wy_source_fields.proofs.TypeFields.{IsTy, IsT, named-t, array-one, gives-type, gives-type_rest, gives-type_tail}
+use Rattle.wy_source_ints.proofs.LowLemmas.{OnLow, AllOf, low-both, low-made, low-pushed}
+use Rattle.wy_source_ints.proofs.TypeFields.{IsTy, IsT, named-t, array-one, gives-type, gives-type_rest, gives-type_tail}
 use Rattle.wy_source_ints.proofs.ExprInts.{IsExpr, IsE, AreArgs, all-exprs, gives-expr, gives-args_in}
 
 -- ---- parts

@@ -8,11 +8,11 @@ use Rattle.wy_compiled.specs.Programs.{code_of}
 use Rattle.wy_core.specs.CoreSeen.{seen_core}
 use Rattle.wy_core.specs.CoreTree.{Core}
 use Rattle.wy_core.specs.Types.{Ty}
-use Rattle.wy_field_names.proofs.FieldNameLemmas.{named_fields}
+use Rattle.wy_source_ints.proofs.FieldNameLemmas.{named_fields}
 use Rattle.wy_formed.specs.Literals.{Ints}
 use Rattle.wy_named.proofs.LiteralLemmas.{named_ints_alone}
 use Rattle.wy_source.specs.Sources.{IsProgram}
-use Rattle.wy_source_fields.proofs.ProgramFields.{read-fields}
+use Rattle.wy_source_ints.proofs.ProgramFields.{read-fields}
 use Rattle.wy_source_ints.proofs.ProgramInts.{read-ints}
 
 pub source_loadable : (bytes : List ℕ) (core : Core ℕ) (flow : List Ty) → IsProgram bytes core flow → IsLoadable (code_of core)

@@ -1,3 +1,0 @@
-mod PlacedLemmas
-mod PartLemmas
-pub mod FieldNameLemmas

@@ -1,2 +1,0 @@
--- what the rules of a program spell
-pub mod SpelledLemmas
