@@ -4,8 +4,8 @@ use Rattle.wy_term.specs.Term as term
 use Rattle.wy_term.specs.Term.{Symbol, Term, Of, Parts, no_parts, part}
 use Rattle.wy_term.specs.Sorts.{int_sort, val_sort, formula_sort}
 use Rattle.wy_show.specs.Text.{text_of}
-use Rattle.wy_shown.specs.Shown.{IsOf}
-use Rattle.wy_shown.proofs.ShownLemmas.{shown_spells}
+use Rattle.wy_reread.specs.Shown.{IsOf}
+use Rattle.wy_reread.proofs.ShownLemmas.{shown_spells}
 use Rattle.wy_spell.specs.Grammar.{Spans}
 use Rattle.wy_spell.specs.Made.{SpellsNoTerm}
 use Rattle.wy_spell.specs.Heads.{class_at, lead_at, IntBy, ValBy}

@@ -6,7 +6,7 @@ use Rattle.wy_scan.specs.Front.{is_digit, heads, AllPass}
 use Rattle.wy_term.specs.Term.{Term}
 use Rattle.wy_term.specs.Sorts.{Sort, int_sort, val_sort, formula_sort}
 use Rattle.wy_show.specs.Text.{text_of}
-use Rattle.wy_shown.proofs.ShownLemmas.{shown_spells}
+use Rattle.wy_reread.proofs.ShownLemmas.{shown_spells}
 use Rattle.wy_spell.specs.Made.{IsSpelled}
 use Rattle.wy_reread.proofs.RereadLemmas.{folded_stays}
 use Rattle.wy_cert.specs.declared.verb.Verb.TheVariants as verb

@@ -10,7 +10,7 @@ use Rattle.wy_term.specs.Term.{DataKind, null_kind, bool_kind, int_kind, array_k
 use Rattle.wy_term.specs.Sorts.{Sort}
 use Rattle.wy_show.specs.Text.{behind, separated, labelled, number_name, datum_name, kind_text, text_at, applied, bound, connected, written, text_of, texts_of}
 use Rattle.wy_spell.specs.Grammar.{Layout, gapped, first_of, more_of, IsNumbered, IsKind, IsInRange, layout}
-use Rattle.wy_shown.specs.Shown.{IsOf, AreOf}
+use Rattle.wy_reread.specs.Shown.{IsOf, AreOf}
 use Rattle.wy_certificates_reread.proofs.NeatLemmas.{scan, Passes, IsNeat, neat_passes, passes_both, neat_behind, passes_nothing, NeatBehind, neat_on, behind_both, member_behind, IsPlain, words_plain, signed_plain, plain_passes, plain_neat}
 
 -- ---- numbers and names

@@ -2,8 +2,8 @@
 use Rattle.std.specs.Prelude.{◌≡◌, ℕ, zero, suc, ◌+◌, ◌<◌, ◌≤◌, ◌^◌, List, [], ◌∷◌, ◌++◌, false, length, Option, Some, None, ◌⊎◌, Ok}
 use Rattle.wy_term.specs.Term.{Term, Of, no_parts, all_of, any_of}
 use Rattle.wy_term.specs.Sorts.{Sort, int_sort, val_sort, formula_sort}
-use Rattle.wy_folded.specs.Folded.{IsFolded}
-use Rattle.wy_shown.specs.Shown.{IsOf}
+use Rattle.wy_reread.specs.Folded.{IsFolded}
+use Rattle.wy_reread.specs.Shown.{IsOf}
 use Rattle.wy_cert.specs.Steps.{Written, split, shut, chain, clash, sum_of, cut, inst, wit, fact, prod, children, Certificates}
 use Rattle.wy_cert.specs.File.{is_listed, ReadsFile}
 use Rattle.wy_cert_text.specs.Text.{file_text}

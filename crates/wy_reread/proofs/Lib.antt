@@ -1,1 +1,4 @@
+pub mod Texts
+pub mod ShownLemmas
+pub mod FoldedLemmas
 pub mod RereadLemmas

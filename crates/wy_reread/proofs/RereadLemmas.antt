@@ -5,10 +5,10 @@ use Rattle.wy_term.specs.Folding.{folded}
 use Rattle.wy_term.specs.Sorts.{Sort}
 use Rattle.wy_show.specs.Text.{text_of}
 use Rattle.wy_spell.specs.Made.{made, made_parts, IsOnly}
-use Rattle.wy_shown.specs.Shown.{IsOf}
-use Rattle.wy_shown.proofs.ShownLemmas.{shown_spells}
-use Rattle.wy_folded.specs.Folded.{IsFolded, AreFolded}
-use Rattle.wy_folded.proofs.FoldedLemmas.{folded_is}
+use Rattle.wy_reread.specs.Shown.{IsOf}
+use Rattle.wy_reread.proofs.ShownLemmas.{shown_spells}
+use Rattle.wy_reread.specs.Folded.{IsFolded, AreFolded}
+use Rattle.wy_reread.proofs.FoldedLemmas.{folded_is}
 
 mutual
   pub folded_stays : (t : Term) → IsFolded t → made t ≡ t

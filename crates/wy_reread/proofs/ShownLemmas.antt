@@ -8,8 +8,8 @@ use Rattle.wy_term.specs.Term as term
 use Rattle.wy_term.specs.Sorts.{Sort, int_sort, val_sort, formula_sort, sort_of}
 use Rattle.wy_show.specs.Text.{written, text_of, texts_of, kind_text}
 use Rattle.wy_spell.specs.Grammar.{Gap, Layout, gapped, first_of, more_of, Series, elements, members, sort_in, goes_on, goes_on_or_space, field_gaps, layout, opening, Stops, IsInRange, Spans, Laid, Spells}
-use Rattle.wy_shown.specs.Shown.{IsOf, AreOf}
-use Rattle.wy_shown.proofs.Texts.{gap_text, more_text, first_text, one_text, two_text, three_text, compared_text, bound_text, number_name_text, datum_name_text, series_text, kind_is_written, Fits, fields_text}
+use Rattle.wy_reread.specs.Shown.{IsOf, AreOf}
+use Rattle.wy_reread.proofs.Texts.{gap_text, more_text, first_text, one_text, two_text, three_text, compared_text, bound_text, number_name_text, datum_name_text, series_text, kind_is_written, Fits, fields_text}
 
 -- ---- what may follow a term
 

@@ -9,7 +9,7 @@ use Rattle.wy_term.specs.Same.{same_kind, same_term}
 use Rattle.wy_term.specs.Meaning as meaning
 use Rattle.wy_term.specs.Rewriting.{as_number, as_int, as_bool, as_array, as_denied, as_record, as_constant, is_true, is_false, is_truth, True, False, decided, number_or, on_one, on_two, fold_num, count, fold_len, nth_part, part_at, fold_get, fold_order, fold_at_most, fold_not, has_false, has_true, without_true, without_false, joined, fold_and, fold_or, field_part, fold_field, kind_given, fold_kind, fold_bool, fold_apart, fold_equal, rewritten}
 use Rattle.wy_term.specs.Folding.{found, found_or, hidden, span_of, instances, number_or_zero, binder, joined_by, quantified, part_of, parts_of, quantifier_of, remade, replaced, replacers, fold_range, folded}
-use Rattle.wy_folded.specs.Folded.{IsFolded, AreFolded}
+use Rattle.wy_reread.specs.Folded.{IsFolded, AreFolded}
 
 -- ---- leaves
 
