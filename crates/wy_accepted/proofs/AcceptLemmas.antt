@@ -2,7 +2,7 @@
 use Rattle.std.proofs.Common.{◌≡◌, ℕ, List, [], ◌∷◌, sym, subst}
 use Rattle.wy_accepted.specs.Acceptance.{AreProved}
 use Rattle.wy_cert.specs.Steps.{Written}
-use Rattle.wy_certified_programs.proofs.TruthLemmas.{premises_met}
+use Rattle.wy_shown_conditions.proofs.TruthLemmas.{premises_met}
 use Rattle.wy_core.specs.CoreTree.{Core}
 use Rattle.wy_core.specs.Types.{Ty}
 use Rattle.wy_formed_conditions.specs.OwedConditions.{owed_conditions}

@@ -5,8 +5,8 @@ use Rattle.wy_cert.specs.declared.step.Cert.{Cert}
 use Rattle.wy_cert.specs.Steps.{Written, Certificates, steps_of, certificates_of}
 use Rattle.wy_sound_certificates.specs.Sortedness.{AreSortedSteps}
 use Rattle.wy_sound_certificates.proofs.SoundLemmas.{valid_implies_true}
-use Rattle.wy_sorted_certificates.specs.ReadSorted.{AreSortedCertificates}
-use Rattle.wy_sorted_certificates.proofs.ReadLemmas.{reads_sorted}
+use Rattle.wy_shown_conditions.specs.ReadSorted.{AreSortedCertificates}
+use Rattle.wy_shown_conditions.proofs.ReadLemmas.{reads_sorted}
 use Rattle.wy_shown_conditions.specs.Certified.{Has, IsFormed, AreFormed, IsCertified, AreCertified, AllHold, ReadCertificateShows, CertifiedConditionsHold, KeptCertificateShows}
 
 -- the steps of a certificate that stands in the list are sorted where those of all are

@@ -1,1 +1,4 @@
+pub mod SpelledLemmas
+pub mod ReadLemmas
 pub mod CertifiedLemmas
+pub mod TruthLemmas

@@ -1,2 +1,6 @@
 -- what public contracts cite
+pub mod ReadSorted
+-- what public contracts cite
 pub mod Certified
+-- what public contracts cite
+pub mod Truths

@@ -3,7 +3,7 @@ ghost use Rattle.std.specs.Prelude.{◌≡◌, ◌≤◌, ℕ, List, IfOk};
 ghost use Rattle.std.specs.String.{string_bytes};
 ghost use Rattle.wy_cert.specs.Steps.{NameTheirTerms, certificates_of};
 ghost use Rattle.wy_answers.specs.Steps.{During, Gives, Setting, both, came};
-ghost use Rattle.wy_sorted_certificates.specs.ReadSorted.{AreSortedCertificates};
+ghost use Rattle.wy_shown_conditions.specs.ReadSorted.{AreSortedCertificates};
 ghost use Rattle.wy_supplied.specs.Certificates as spec;
 ghost use Rattle.wy_supplied.specs.Certificates.{IsBadFile};
 

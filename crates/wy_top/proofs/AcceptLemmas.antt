@@ -3,7 +3,7 @@ use Rattle.std.proofs.Common.{◌≡◌, ◌∙◌, ℕ, List, map, Bool, true, 
 use Rattle.wy_cert.specs.Steps.{Certificates}
 use Rattle.wy_top.specs.Refusals.{invalid_lines}
 use Rattle.wy_shown_conditions.specs.Certified.{AreFormed, AllHold}
-use Rattle.wy_sorted_certificates.specs.ReadSorted.{AreSortedCertificates}
+use Rattle.wy_shown_conditions.specs.ReadSorted.{AreSortedCertificates}
 use Rattle.wy_top.specs.Known.{Known}
 use Rattle.wy_top.specs.Seen.{AreShown, are_certified, known, some_lacks}
 use Rattle.wy_top.specs.declared.verdict.Verdict.{Verdict}

@@ -8,8 +8,8 @@ use Rattle.wy_cert.specs.Steps.{Certificates, Written, steps_of}
 use Rattle.wy_search.specs.Tree as tree
 use Rattle.wy_search.proofs.VerdictLemmas.{one_verdict}
 use Rattle.wy_shown_conditions.specs.Certified.{AllHold, AreFormed, IsFormed}
-use Rattle.wy_sorted_certificates.specs.ReadSorted.{AreSortedCertificates}
-use Rattle.wy_sorted_certificates.proofs.ReadLemmas.{reads_sorted}
+use Rattle.wy_shown_conditions.specs.ReadSorted.{AreSortedCertificates}
+use Rattle.wy_shown_conditions.proofs.ReadLemmas.{reads_sorted}
 use Rattle.wy_sound_certificates.specs.Sortedness.{AreSortedSteps}
 use Rattle.wy_sound_certificates.proofs.SoundLemmas.{valid_implies_true}
 use Rattle.wy_term.specs.Condition.{Condition, HoldsAlways}

@@ -4,7 +4,7 @@ use Rattle.wy_term.specs.Condition.{Condition}
 use Rattle.wy_cert.specs.Steps.{Certificates}
 use Rattle.wy_cert.specs.File.{ReadsFile}
 use Rattle.wy_shown_conditions.specs.Certified.{AreFormed, AllHold}
-use Rattle.wy_sorted_certificates.specs.ReadSorted.{AreSortedCertificates}
+use Rattle.wy_shown_conditions.specs.ReadSorted.{AreSortedCertificates}
 use Rattle.wy_top.specs.Known.{AreKnown}
 use Rattle.wy_top.specs.Seen.{known, AreShown, are_certified}
 use Rattle.wy_top.specs.declared.verdict.Verdict.{Verdict}

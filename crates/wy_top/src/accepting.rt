@@ -9,7 +9,7 @@ ghost use Rattle.wy_answers.specs.Texts.{not_certified};
 ghost use Rattle.wy_cert.specs.Steps.{Certificates, NameTheirTerms, certificates_of};
 ghost use Rattle.wy_top.specs.Owed.{told_by};
 ghost use Rattle.wy_top.specs.Refusals as refusals;
-ghost use Rattle.wy_sorted_certificates.specs.ReadSorted.{AreSortedCertificates};
+ghost use Rattle.wy_shown_conditions.specs.ReadSorted.{AreSortedCertificates};
 ghost use Rattle.wy_top.specs.Seen.{known};
 
 use crate::counting::{are_certified, some_lack_certificates};

@@ -3,7 +3,7 @@ use Rattle.wy_cert.specs.File.{ReadsFile}
 use Rattle.wy_cert.specs.Only.{IsTheOne}
 use Rattle.wy_cert.specs.Steps.{certificates_of}
 use Rattle.wy_answers.specs.Steps.{Gives, both}
-use Rattle.wy_sorted_certificates.proofs.ReadLemmas.{reads_sorted}
+use Rattle.wy_shown_conditions.proofs.ReadLemmas.{reads_sorted}
 use Rattle.wy_supplied.specs.Certificates.{certificates_read}
 use Rattle.wy_supplied.proofs.CertificateLemmas.{read_gives, bad_gives}
 use Rattle.wy_supplied.proofs.reading.read.Goals as goal

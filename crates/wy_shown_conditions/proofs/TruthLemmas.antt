@@ -8,7 +8,7 @@ use Rattle.wy_shown_conditions.specs.Certified.{IsFormed, AreFormed}
 use Rattle.wy_shown_conditions.proofs.CertifiedLemmas.{certified_conditions_hold}
 use Rattle.wy_formed_conditions.specs.OwedConditions.{AllHave, AllTold, IsWellFormed, AreWellFormed, owed_conditions}
 use Rattle.wy_formed_conditions.proofs.OwedLemmas.{conditions_formed}
-use Rattle.wy_certified_programs.specs.Truths.{OwedConditionsMeetPremises, CertifiedProgramsOweTruths}
+use Rattle.wy_shown_conditions.specs.Truths.{OwedConditionsMeetPremises, CertifiedProgramsOweTruths}
 
 are_formulas : (fs : List Term) → AllHave formula_sort fs → AreFormulas fs
 are_formulas [] h = tt

@@ -11,8 +11,8 @@ use Rattle.wy_cert.specs.Arguments.{IsTerm, IsArgument, FollowBy, AreArguments}
 use Rattle.wy_cert.specs.Lines.{IsBody, IsStep}
 use Rattle.wy_cert.specs.File.{Tree, ReadsTree, whole_tree, tree_ends_early, no_step, one_step, ReadsCerts, ends_early, complete, goes_behind_end, outside, twice, absent, bad_tree, goes_on, first, second, no_header}
 use Rattle.wy_sound_certificates.specs.Sortedness.{AreSortedTerms, IsSortedStep, AreSortedSteps}
-use Rattle.wy_sorted_certificates.specs.ReadSorted.{AreSortedCertificates, ReadsSorted}
-use Rattle.wy_sorted_certificates.proofs.SpelledLemmas.{spelled_sorted}
+use Rattle.wy_shown_conditions.specs.ReadSorted.{AreSortedCertificates, ReadsSorted}
+use Rattle.wy_shown_conditions.proofs.SpelledLemmas.{spelled_sorted}
 
 -- ---- arguments
 

@@ -1,5 +1,5 @@
 //! What a file of certificates shows of a program.
-ghost use Rattle.wy_certified_programs.specs.Truths.{CertifiedProgramsOweTruths, OwedConditionsMeetPremises};
+ghost use Rattle.wy_shown_conditions.specs.Truths.{CertifiedProgramsOweTruths, OwedConditionsMeetPremises};
 
 /// Where a file of certificates has a valid one for each condition of a program, all its conditions are true, whatever
 /// their names stand for. Nothing is asked of the program, since its conditions meet the premises of the laws on
