@@ -1,7 +1,15 @@
+pub mod HoldLemmas
+pub mod LineLemmas
+pub mod ReadLemmas
+pub mod SpelledLemmas
+pub mod FileLemmas
+pub mod TreeStops
+pub mod FileStops
 pub mod NeatLemmas
 pub mod TextLemmas
 pub mod CutLemmas
 pub mod WalkLemmas
 pub mod ApartLemmas
 pub mod StepLemmas
-pub mod FileLemmas
+pub mod CertificatesRereadFileLemmas
+pub mod RealHold

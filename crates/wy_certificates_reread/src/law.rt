@@ -1,9 +1,10 @@
-//! What is read of what was written.
-ghost use Rattle.wy_certificates_reread.specs.Writable.{ReadsWhatIsWritten};
+//! What facts are.
+ghost use Rattle.wy_certificates_reread.specs.EachFact.{EachFactHolds, TypesAreTold};
 
-/// The text of certificates is read as these certificates, where their terms are folded and of their sorts, their numbers
-/// are within their ranges, each is complete, and each is for another condition. `true` and `false` as arguments of a fact
-/// are data, no formulas.
-pub fn written_certificates_are_read()
-    ensures read { ReadsWhatIsWritten }
+/// The formula that a step `fact` adds holds whatever its names stand for, for each number of a schema and all arguments
+/// that it takes. The schema of named types asks that the types are told by formulas of which the listed name is the only
+/// free one, and that all terms are of the sorts of their places; it takes each datum and each listed type.
+pub fn each_fact_holds()
+    ensures holds { EachFactHolds }
+    ensures types { TypesAreTold }
 {}
