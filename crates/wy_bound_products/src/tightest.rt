@@ -14,10 +14,9 @@ ghost use Rattle.wy_term.specs.Term.{Term};
 ghost use Rattle.wy_valid.specs.Products.{affine, Affine as Factors};
 ghost use Rattle.wy_valid.specs.Sums.{form_at};
 
-use wy_judging::Branch;
+use wy_judging::{Branch, form_at};
 use wy_lin::Form;
 use wy_products::{Affine, relation};
-use wy_sums::form_at;
 use wy_term::{NoMemory, Terms};
 
 /// The literal, by its number, that is a bound of a factor, and where it stops but for what all bounds of the factor on this

@@ -12,9 +12,8 @@ use crate::forms::numbered;
 use crate::replacing::{Replaced, replace};
 use std::alloc::Global;
 use wy_classes::Present;
-use wy_judging::Branch;
+use wy_judging::{Branch, form_at};
 use wy_lin::Form;
-use wy_sums::form_at;
 use wy_term::{NoMemory, Terms};
 
 /// Whether a form refutes, whether a number leaves 128 bits, and the forms that are left.

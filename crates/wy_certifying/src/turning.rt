@@ -12,9 +12,9 @@ use wy_classes::{classes, terms_present};
 use wy_contradictions::classes_clash;
 use wy_explaining::{Action, why_it_refutes, why_they_clash};
 use wy_instances::Spot;
+use wy_judging::is_shut;
 use wy_searching::{copied, with_atom, with_next_atom};
 use wy_term::{Cond, NoMemory, Terms};
-use wy_trail::is_shut;
 
 /// What becomes of a node.
 #[derive(Drop)]

@@ -16,9 +16,8 @@ use wy_cert::Step;
 use wy_eliminate::common;
 use wy_explaining::{Action, Named};
 use wy_items::at;
-use wy_sums::form_of_sum;
+use wy_judging::{form_of_sum, is_shut};
 use wy_term::{Cond, Terms};
-use wy_trail::is_shut;
 
 // ---- literals
 

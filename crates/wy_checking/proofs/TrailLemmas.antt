@@ -9,10 +9,10 @@ use Rattle.wy_facts.specs.Membership.{AreTypesBelow}
 use Rattle.wy_facts.specs.Seen.{Stays}
 use Rattle.wy_judging.specs.declared.branch.Branch.{Branch}
 use Rattle.wy_judging.specs.Seen.{seen_literal, seen_formula, seen_branch, AreOver}
-use Rattle.wy_trail.specs.declared.trail.Trail.{Trail}
-use Rattle.wy_trail.specs.declared.trail.Waiting.{Waiting}
-use Rattle.wy_trail.specs.Trail.{second_nodes, open_nodes, nodes_of, AreWaiting, IsTrail}
-use Rattle.wy_sums.proofs.BranchLemmas.{branch_stays}
+use Rattle.wy_judging.specs.declared.trail.Trail.{Trail}
+use Rattle.wy_judging.specs.declared.trail.Waiting.{Waiting}
+use Rattle.wy_judging.specs.Trail.{second_nodes, open_nodes, nodes_of, AreWaiting, IsTrail}
+use Rattle.wy_judging.proofs.SumsBranchLemmas.{branch_stays}
 
 literals_kept : (old new : List Plain) (ps : List (ℕ × Bool)) → Stays old new → AreOver (length old) ps → map (seen_literal (tree_at new)) ps ≡ map (seen_literal (tree_at old)) ps
 literals_kept old new [] stays over = refl

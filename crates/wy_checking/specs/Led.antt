@@ -2,8 +2,8 @@
 use Rattle.std.specs.Prelude.{◌≡◌, ℕ, ◌<◌, List, [], ◌∷◌, ◌++◌, map, All, Option, Some, None}
 use Rattle.wy_term.specs.Term.{Term}
 use Rattle.wy_judge.specs.Node.{Node, added, denied_one, with_formulas}
-use Rattle.wy_trail.specs.declared.trail.Trail.{Trail}
-use Rattle.wy_trail.specs.Trail.{nodes_of}
+use Rattle.wy_judging.specs.declared.trail.Trail.{Trail}
+use Rattle.wy_judging.specs.Trail.{nodes_of}
 use Rattle.wy_checking.specs.declared.outcome.Outcome.{Outcome}
 use Rattle.wy_checking.specs.declared.outcome.Outcome.TheVariants.{Closes, Adds, Splits}
 

@@ -11,9 +11,8 @@ ghost use Rattle.wy_checking.specs.declared.checking.Checked.TheVariants.{Yes};
 
 use crate::turning::turned;
 use wy_cert::Cert;
-use wy_judging::first_branch;
+use wy_judging::{first_branch, one_node};
 use wy_term::{Cond, NoMemory, Terms};
-use wy_trail::one_node;
 
 /// Whether a certificate is valid.
 #[derive(Clone, Copy, Debug, PartialEq, Eq)]

@@ -16,13 +16,11 @@ use wy_cert::Step;
 use wy_clashes::is_clash;
 use wy_facts::fact;
 use wy_joins::chain_stated;
-use wy_judging::Branch;
+use wy_judging::{Branch, cut_stated, is_refuting, is_shut};
 use wy_products::product_stated;
 use wy_ranges::{instance_stated, witness_stated};
 use wy_splits::may_split;
-use wy_sums::{cut_stated, is_refuting};
 use wy_term::{Cond, NoMemory, Terms};
-use wy_trail::is_shut;
 
 fn by_split(
     terms: &mut Terms,

@@ -7,14 +7,14 @@ ghost use Rattle.wy_facts.specs.Seen.{Stays};
 ghost use Rattle.wy_judging.specs.Seen.{seen_branch};
 ghost use Rattle.wy_cert.specs.Steps.{written, IsBelow};
 ghost use Rattle.wy_valid.specs.Validity.{after};
-ghost use Rattle.wy_trail.specs.Trail.{nodes_of, second_nodes, IsTrail};
+ghost use Rattle.wy_judging.specs.Trail.{nodes_of, second_nodes, IsTrail};
 ghost use Rattle.wy_checking.specs.Led.{led, IsOutcomeOver, IsTurned};
 
 use crate::outcome::Outcome;
 use crate::steps::outcome_of;
 use wy_cert::Step;
+use wy_judging::{Trail, close, grow, split};
 use wy_term::{Cond, NoMemory, Terms};
-use wy_trail::{Trail, close, grow, split};
 
 // The nodes to which a step leads stand in the place of the present one.
 fn taken(terms: &Terms, trail: Trail, outcome: Outcome) -> Result<Trail, NoMemory>

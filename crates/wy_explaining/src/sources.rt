@@ -5,9 +5,8 @@ ghost use Rattle.wy_judging.specs.Seen.{IsBranch};
 
 use wy_bounds::{Replaced, numbered, replace};
 use wy_classes::Present;
-use wy_judging::Branch;
+use wy_judging::{Branch, form_at};
 use wy_lin::Form;
-use wy_sums::form_at;
 use wy_term::{NoMemory, Terms};
 
 /// The forms that elimination is given, each with the place of its literal; the place of a literal that refutes by itself, and

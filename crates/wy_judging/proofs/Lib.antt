@@ -2,3 +2,10 @@ pub mod NameLemmas
 pub mod BranchLemmas
 pub mod AddingLemmas
 pub mod JudgingLemmas
+pub mod TrailLemmas
+pub mod ShutLemmas
+pub mod SumsBranchLemmas
+pub mod FormLemmas
+pub mod OverLemmas
+pub mod GatheredLemmas
+pub mod CutLemmas

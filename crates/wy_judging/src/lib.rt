@@ -5,15 +5,33 @@
 //! the literals say of a formula, in three values. None of these goes into a formula by recursion: each works on a list of
 //! what is still to be done (`connectives` has the parts of a formula). The definitions are those of `wy_judge`;
 //! `specs/Seen.antt` says what the code's nodes stand for.
+//!
+//! The nodes of a certificate's tree that are still to be closed, as the checker keeps them.
+//!
+//! `trail` has these nodes, of which all but the present one are kept as what was there at a split, and `shut` tells whether
+//! a node can't be.
+//!
+//! Sums of literals' forms: which of them refute, and what a cut states.
+//!
+//! `summed` adds up multiples of the forms of literals, which are named by their numbers, `refuting` tells whether a form
+//! without variables is negative, and `cut` makes the formula that a cut states. The definitions are those of `wy_valid`.
 #![tactic(auto)]
 
 mod adding;
 mod branch;
 mod connectives;
+mod cut;
 mod judging;
+mod refuting;
+mod shut;
+mod summed;
+mod trail;
 
 pub use adding::{add, add_all, first_branch};
-pub use branch::{
-    Branch, add_literal, add_pending, back_to, bare, has_literal, literal_at, nth_literal,
-};
-pub use judging::{Known, is_refuted, judge, nothing_known, pending_at};
+pub use branch::{Branch, add_literal, add_pending, back_to, bare, has_literal, literal_at, nth_literal};
+pub use cut::cut_stated;
+pub use judging::{is_refuted, judge, nothing_known, pending_at};
+pub use refuting::is_refuting;
+pub use shut::is_shut;
+pub use summed::{form_at, form_of_sum};
+pub use trail::{Trail, close, grow, one_node, split};

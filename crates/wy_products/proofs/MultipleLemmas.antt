@@ -8,7 +8,7 @@ use Rattle.wy_lin.specs.Linear.{◌>>=◌, Linear, more, plus_parts}
 use Rattle.wy_lin.specs.TermForm.{with, multiple}
 use Rattle.wy_lin.specs.Seen.{IsOver, seen, seen_part, turned}
 use Rattle.wy_lin.proofs.SeenLemmas.{NamesOnce, all_none, plus-seen}
-use Rattle.wy_sums.proofs.OverLemmas.{plus_over}
+use Rattle.wy_judging.proofs.OverLemmas.{plus_over}
 use Rattle.wy_valid.specs.Sums.{all_zero}
 use Rattle.wy_valid.specs.Products.{varying, vanishes, is_multiple}
 

@@ -15,9 +15,8 @@ ghost use Rattle.wy_products.specs.Stated.{seen_factors, seen_forms, AreFormsOve
 
 use crate::affine::{Affine, relation};
 use crate::whole::product;
-use wy_judging::Branch;
+use wy_judging::{Branch, form_at};
 use wy_lin::{Form, term_form};
-use wy_sums::form_at;
 use wy_term::{NoMemory, Node, Terms};
 
 // ---- numbers

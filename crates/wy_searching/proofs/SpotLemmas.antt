@@ -10,7 +10,7 @@ use Rattle.wy_facts.proofs.StepLemmas.{terms_kept, below_kept}
 use Rattle.wy_judge.specs.Node.{Literal, Node}
 use Rattle.wy_judging.specs.declared.branch.Branch.{Branch}
 use Rattle.wy_judging.specs.Seen.{seen_branch, AreBare, AreOver, IsBranch}
-use Rattle.wy_sums.proofs.BranchLemmas.{branch_stays, node_stays}
+use Rattle.wy_judging.proofs.SumsBranchLemmas.{branch_stays, node_stays}
 use Rattle.wy_search.specs.Expansion as expansion
 use Rattle.wy_instances.specs.declared.spot.Spot.{Spot}
 use Rattle.wy_instances.specs.Seen.{seen_spot, IsSpot}

@@ -19,10 +19,9 @@ use wy_bounds::{Ending, ending_of_elimination};
 use wy_classes::{classes, terms_present};
 use wy_contradictions::classes_clash;
 use wy_instances::{Spot, copied_branch};
-use wy_judging::add;
+use wy_judging::{add, is_shut};
 use wy_splitting::next_atom;
 use wy_term::{Cond, NoMemory, Terms};
-use wy_trail::is_shut;
 
 /// What becomes of a node.
 #[derive(Drop)]

@@ -4,8 +4,8 @@ use Rattle.wy_bound_products.proofs.products.bounds_by.Goals as goal
 use Rattle.wy_judge.specs.Node.{Node}
 use Rattle.wy_judging.specs.Seen.{seen_branch}
 use Rattle.wy_lin.specs.Seen.{seen_form}
-use Rattle.wy_sums.proofs.BranchLemmas.{branch_stays, node_stays}
-use Rattle.wy_sums.proofs.FormLemmas.{form_kept, form_up}
+use Rattle.wy_judging.proofs.SumsBranchLemmas.{branch_stays, node_stays}
+use Rattle.wy_judging.proofs.FormLemmas.{form_kept, form_up}
 use Rattle.wy_term.specs.Nodes.{tree_at}
 
 pub bound_of-requires-2-clause-branch : goal.bound_of-requires-2-clause-branch

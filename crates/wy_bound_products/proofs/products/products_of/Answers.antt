@@ -7,7 +7,7 @@ use Rattle.wy_judge.specs.Node.{Node, with_formulas}
 use Rattle.wy_judging.specs.Seen.{seen_branch}
 use Rattle.wy_search.specs.Expansion.{with_products_by, with_products_of}
 use Rattle.wy_search.specs.Standing.{standing}
-use Rattle.wy_sums.proofs.BranchLemmas.{branch_stays, node_stays}
+use Rattle.wy_judging.proofs.SumsBranchLemmas.{branch_stays, node_stays}
 use Rattle.wy_term.specs.Nodes.{tree_at}
 use Rattle.wy_term.specs.Term.{Term}
 use Rattle.wy_valid.specs.Products.{as_product}

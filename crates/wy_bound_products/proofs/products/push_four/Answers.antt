@@ -9,7 +9,7 @@ use Rattle.wy_facts.specs.Seen.{Stays}
 use Rattle.wy_judge.specs.Node.{Node}
 use Rattle.wy_judging.specs.Seen.{seen_branch}
 use Rattle.wy_search.specs.Expansion.{best_bound}
-use Rattle.wy_sums.proofs.BranchLemmas.{branch_stays, node_stays}
+use Rattle.wy_judging.proofs.SumsBranchLemmas.{branch_stays, node_stays}
 use Rattle.wy_term.specs.Nodes.{tree_at}
 
 pub push_product-requires-2-clause-branch : goal.push_product-requires-2-clause-branch

@@ -8,8 +8,8 @@ use Rattle.wy_judge.specs.Node.{Literal, Node}
 use Rattle.wy_judging.specs.Seen.{seen_branch, seen_literal}
 use Rattle.wy_lin.specs.Linear.{Linear}
 use Rattle.wy_lin.specs.Seen.{seen_form}
-use Rattle.wy_sums.proofs.BranchLemmas.{branch_stays, node_stays}
-use Rattle.wy_sums.proofs.FormLemmas.{form_kept, form_up}
+use Rattle.wy_judging.proofs.SumsBranchLemmas.{branch_stays, node_stays}
+use Rattle.wy_judging.proofs.FormLemmas.{form_kept, form_up}
 use Rattle.wy_term.specs.Nodes.{tree_at}
 use Rattle.wy_term.specs.Term.{Term}
 

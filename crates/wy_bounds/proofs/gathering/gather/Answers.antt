@@ -3,7 +3,7 @@ use Rattle.wy_term.specs.Nodes.{tree_at}
 use Rattle.wy_judge.specs.Node.{Node}
 use Rattle.wy_judging.specs.Seen.{seen_branch}
 use Rattle.wy_facts.proofs.StepLemmas.{stays_on}
-use Rattle.wy_sums.proofs.BranchLemmas.{branch_stays, node_stays}
+use Rattle.wy_judging.proofs.SumsBranchLemmas.{branch_stays, node_stays}
 use Rattle.wy_classes.specs.Seen.{terms_of}
 use Rattle.wy_bounds.proofs.GatherLemmas.{gathers_next, terms_stay}
 use Rattle.wy_bounds.proofs.gathering.gather.Goals as goal

@@ -1,4 +1,4 @@
-use Rattle.wy_sums.proofs.BranchLemmas.{branch_stays}
+use Rattle.wy_judging.proofs.SumsBranchLemmas.{branch_stays}
 use Rattle.wy_certifying.proofs.products.push_factors.Goals as goal
 
 pub sides_of-requires-2-clause-branch : goal.sides_of-requires-2-clause-branch

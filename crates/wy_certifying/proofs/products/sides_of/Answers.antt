@@ -1,4 +1,4 @@
-use Rattle.wy_sums.proofs.BranchLemmas.{branch_stays}
+use Rattle.wy_judging.proofs.SumsBranchLemmas.{branch_stays}
 use Rattle.wy_certifying.proofs.products.sides_of.Goals as goal
 
 pub named_sides-requires : goal.named_sides-requires

@@ -1,6 +1,6 @@
 use Rattle.std.proofs.Common.{length, subst, sym}
 use Rattle.wy_facts.specs.Seen.{AreBelow}
-use Rattle.wy_sums.proofs.BranchLemmas.{branch_stays}
+use Rattle.wy_judging.proofs.SumsBranchLemmas.{branch_stays}
 use Rattle.wy_certifying.proofs.rounds.add_products.Goals as goal
 
 pub add_all-requires-clause-formulas : goal.add_all-requires-clause-formulas

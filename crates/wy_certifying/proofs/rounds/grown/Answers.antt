@@ -1,5 +1,5 @@
 use Rattle.wy_facts.proofs.StepLemmas.{below_kept}
-use Rattle.wy_sums.proofs.BranchLemmas.{branch_stays}
+use Rattle.wy_judging.proofs.SumsBranchLemmas.{branch_stays}
 use Rattle.wy_certifying.proofs.rounds.grown.Goals as goal
 
 pub returns-clause-spot : goal.returns-clause-spot

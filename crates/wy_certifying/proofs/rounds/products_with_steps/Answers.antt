@@ -1,4 +1,4 @@
-use Rattle.wy_sums.proofs.BranchLemmas.{branch_stays}
+use Rattle.wy_judging.proofs.SumsBranchLemmas.{branch_stays}
 use Rattle.wy_certifying.proofs.rounds.products_with_steps.Goals as goal
 
 pub products_of-requires : goal.products_of-requires

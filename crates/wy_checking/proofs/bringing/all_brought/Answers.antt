@@ -1,5 +1,5 @@
 use Rattle.wy_facts.proofs.StepLemmas.{stays_on}
-use Rattle.wy_sums.proofs.CutLemmas.{put_below}
+use Rattle.wy_judging.proofs.CutLemmas.{put_below}
 use Rattle.wy_checking.proofs.BringLemmas.{brought_more}
 use Rattle.wy_checking.proofs.bringing.all_brought.Goals as goal
 

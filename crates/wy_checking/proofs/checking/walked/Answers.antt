@@ -7,7 +7,7 @@ use Rattle.wy_facts.proofs.StepLemmas.{stays_same, stays_on}
 use Rattle.wy_judging.specs.Seen.{seen_branch}
 use Rattle.wy_cert.specs.Steps.{written}
 use Rattle.wy_valid.specs.Validity.{after, first_bad_by}
-use Rattle.wy_trail.specs.Trail.{nodes_of, second_nodes, IsTrail}
+use Rattle.wy_judging.specs.Trail.{nodes_of, second_nodes, IsTrail}
 use Rattle.wy_checking.specs.Led.{IsTurned}
 use Rattle.wy_checking.proofs.TrailLemmas.{open_if, closed_if, nodes_open, nodes_closed, types_stay}
 use Rattle.wy_checking.proofs.WalkLemmas.{walk_closed, walk_invalid, walk_on, steps_at}

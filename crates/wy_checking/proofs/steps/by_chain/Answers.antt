@@ -4,7 +4,7 @@ use Rattle.wy_term.specs.Nodes.{tree_at}
 use Rattle.wy_facts.specs.Seen.{terms_at}
 use Rattle.wy_facts.proofs.StepLemmas.{stays_on}
 use Rattle.wy_judging.specs.Seen.{seen_branch}
-use Rattle.wy_sums.proofs.BranchLemmas.{branch_stays, node_stays}
+use Rattle.wy_judging.proofs.SumsBranchLemmas.{branch_stays, node_stays}
 use Rattle.wy_checking.proofs.StepLemmas.{chain_led}
 use Rattle.wy_checking.proofs.steps.by_chain.Goals as goal
 

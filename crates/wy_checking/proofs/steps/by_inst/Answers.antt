@@ -3,7 +3,7 @@ use Rattle.std.specs.Prelude.{option_map}
 use Rattle.wy_term.specs.Nodes.{tree_at}
 use Rattle.wy_facts.proofs.StepLemmas.{stays_on}
 use Rattle.wy_judging.specs.Seen.{seen_branch}
-use Rattle.wy_sums.proofs.BranchLemmas.{branch_stays, node_stays}
+use Rattle.wy_judging.proofs.SumsBranchLemmas.{branch_stays, node_stays}
 use Rattle.wy_checking.proofs.StepLemmas.{ok_with, inst_led}
 use Rattle.wy_checking.proofs.steps.by_inst.Goals as goal
 

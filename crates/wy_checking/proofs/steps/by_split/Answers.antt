@@ -1,6 +1,6 @@
 use Rattle.wy_term.specs.Nodes.{tree_at}
 use Rattle.wy_judging.specs.Seen.{seen_branch}
-use Rattle.wy_sums.proofs.BranchLemmas.{branch_stays, node_stays}
+use Rattle.wy_judging.proofs.SumsBranchLemmas.{branch_stays, node_stays}
 use Rattle.wy_checking.proofs.StepLemmas.{split_yes, split_no}
 use Rattle.wy_checking.proofs.steps.by_split.Goals as goal
 

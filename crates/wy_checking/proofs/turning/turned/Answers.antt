@@ -3,8 +3,8 @@ use Rattle.std.specs.Prelude.{option_map}
 use Rattle.wy_term.specs.Nodes.{tree_at}
 use Rattle.wy_judge.specs.Node.{Node}
 use Rattle.wy_judging.specs.Seen.{seen_branch}
-use Rattle.wy_trail.specs.Trail.{second_nodes}
-use Rattle.wy_sums.proofs.BranchLemmas.{node_stays}
+use Rattle.wy_judging.specs.Trail.{second_nodes}
+use Rattle.wy_judging.proofs.SumsBranchLemmas.{node_stays}
 use Rattle.wy_checking.specs.Led.{led}
 use Rattle.wy_checking.proofs.TrailLemmas.{seconds_stay, trail_stays}
 use Rattle.wy_checking.proofs.turning.turned.Goals as goal

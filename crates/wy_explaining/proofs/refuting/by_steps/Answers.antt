@@ -1,4 +1,4 @@
-use Rattle.wy_sums.proofs.BranchLemmas.{branch_stays}
+use Rattle.wy_judging.proofs.SumsBranchLemmas.{branch_stays}
 use Rattle.wy_explaining.proofs.refuting.by_steps.Goals as goal
 
 pub push_chains-requires-clause-branch : goal.push_chains-requires-clause-branch

@@ -1,4 +1,4 @@
-use Rattle.wy_sums.proofs.BranchLemmas.{branch_stays}
+use Rattle.wy_judging.proofs.SumsBranchLemmas.{branch_stays}
 use Rattle.wy_explaining.proofs.refuting.why_it_refutes.Goals as goal
 
 pub by_sources-requires-clause-branch : goal.by_sources-requires-clause-branch

@@ -1,5 +1,5 @@
 use Rattle.wy_facts.proofs.StepLemmas.{stays_on}
-use Rattle.wy_sums.proofs.BranchLemmas.{branch_stays}
+use Rattle.wy_judging.proofs.SumsBranchLemmas.{branch_stays}
 use Rattle.wy_explaining.proofs.sources.sources_of.Goals as goal
 
 pub take_literal-requires-clause-branch : goal.take_literal-requires-clause-branch

@@ -1,5 +1,5 @@
 use Rattle.wy_facts.proofs.StepLemmas.{stays_on}
-use Rattle.wy_sums.proofs.BranchLemmas.{branch_stays}
+use Rattle.wy_judging.proofs.SumsBranchLemmas.{branch_stays}
 use Rattle.wy_explaining.proofs.used.used_literals.Goals as goal
 
 pub push_used-requires-clause-branch : goal.push_used-requires-clause-branch

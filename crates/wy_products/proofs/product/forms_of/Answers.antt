@@ -8,8 +8,8 @@ use Rattle.wy_lin.specs.Seen.{IsOver, linear_form, seen_form}
 use Rattle.wy_lin.proofs.OptionLemmas.{some}
 use Rattle.wy_judging.specs.Seen.{seen_branch}
 use Rattle.wy_valid.specs.Sums.{form_at}
-use Rattle.wy_sums.proofs.BranchLemmas.{branch_stays, node_stays}
-use Rattle.wy_sums.proofs.FormLemmas.{form_kept}
+use Rattle.wy_judging.proofs.SumsBranchLemmas.{branch_stays, node_stays}
+use Rattle.wy_judging.proofs.FormLemmas.{form_kept}
 use Rattle.wy_products.proofs.ProductLemmas.{forms_stop_fourth, forms_are}
 use Rattle.wy_products.proofs.product.forms_of.Goals as goal
 

@@ -4,7 +4,7 @@ use Rattle.wy_term.specs.Nodes.{tree_at}
 use Rattle.wy_facts.specs.Seen.{AreBelow}
 use Rattle.wy_judge.specs.Node.{with_formulas}
 use Rattle.wy_judging.specs.Seen.{seen_branch}
-use Rattle.wy_sums.proofs.BranchLemmas.{branch_stays, node_stays}
+use Rattle.wy_judging.proofs.SumsBranchLemmas.{branch_stays, node_stays}
 use Rattle.wy_searching.proofs.RoundLemmas.{with_stated}
 use Rattle.wy_searching.proofs.expanding.add_products.Goals as goal
 

@@ -5,7 +5,7 @@ use Rattle.wy_facts.specs.Seen.{AreBelow}
 use Rattle.wy_facts.proofs.StepLemmas.{stays_on, terms_kept, below_kept}
 use Rattle.wy_judge.specs.Node.{Node}
 use Rattle.wy_judging.specs.Seen.{seen_branch}
-use Rattle.wy_sums.proofs.BranchLemmas.{branch_stays, node_stays}
+use Rattle.wy_judging.proofs.SumsBranchLemmas.{branch_stays, node_stays}
 use Rattle.wy_search.specs.Expansion.{with_instances, with_facts, with_products}
 use Rattle.wy_instances.specs.Seen.{seen_spot}
 use Rattle.wy_searching.specs.Turns.{index_terms_in}

@@ -2,7 +2,7 @@ use Rattle.std.proofs.Common.{◌≡◌, ◌∙◌, ◌<◌, ◌≤◌, true, fa
 use Rattle.wy_term.specs.Nodes.{tree_at}
 use Rattle.wy_term.specs.Condition.{condition_of}
 use Rattle.wy_bounds.specs.Seen.{seen_ending}
-use Rattle.wy_sums.proofs.BranchLemmas.{node_stays}
+use Rattle.wy_judging.proofs.SumsBranchLemmas.{node_stays}
 use Rattle.wy_search.specs.Expansion as expansion
 use Rattle.wy_search.specs.Tree as tree
 use Rattle.wy_instances.specs.Seen.{seen_spot}

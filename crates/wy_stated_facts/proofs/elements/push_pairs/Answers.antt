@@ -6,7 +6,7 @@ use Rattle.wy_judging.specs.Seen.{seen_formula}
 use Rattle.wy_search.specs.Expansion.{with_pairs, with_pairs_of}
 use Rattle.wy_stated_facts.proofs.AddingLemmas.{end_led, formula_kept, step_led, types_up, within_now}
 use Rattle.wy_stated_facts.proofs.elements.push_pairs.Goals as goal
-use Rattle.wy_sums.proofs.BranchLemmas.{branch_stays, node_stays}
+use Rattle.wy_judging.proofs.SumsBranchLemmas.{branch_stays, node_stays}
 use Rattle.wy_term.specs.Nodes.{tree_at}
 use Rattle.wy_term.specs.Term.{Term}
 

@@ -8,7 +8,7 @@ use Rattle.wy_search.specs.Standing.{standing}
 use Rattle.wy_stated_facts.proofs.AddingLemmas.{types_stay, types_up}
 use Rattle.wy_stated_facts.proofs.SchemaLemmas.{schema_led, schemas_end}
 use Rattle.wy_stated_facts.proofs.facts.facts_of.Goals as goal
-use Rattle.wy_sums.proofs.BranchLemmas.{branch_stays, node_stays}
+use Rattle.wy_judging.proofs.SumsBranchLemmas.{branch_stays, node_stays}
 use Rattle.wy_term.specs.Condition.{Entry, condition_of}
 use Rattle.wy_term.specs.Nodes.{tree_at}
 use Rattle.wy_term.specs.Term.{Term}

@@ -1,2 +1,0 @@
-pub mod TrailLemmas
-pub mod ShutLemmas
