@@ -7,10 +7,9 @@ ghost use Rattle.wy_facts.specs.Seen.{AreBelow, Stays};
 use crate::draft::{Draft, grow};
 use crate::stop::Stop;
 use wy_facts::fact;
-use wy_joins::chain_stated;
 use wy_judging::cut_stated;
 use wy_products::product_stated;
-use wy_ranges::{instance_stated, witness_stated};
+use wy_splits::{chain_stated, instance_stated, witness_stated};
 use wy_term::{Cond, NoMemory, Terms};
 
 // ---- formulas that are stated, if the step is valid

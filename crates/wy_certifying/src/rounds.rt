@@ -11,7 +11,7 @@ use wy_bound_products::products_of;
 use wy_explaining::{Action, Named};
 use wy_instances::{Spot, index_terms, with_instances, with_witnesses};
 use wy_judging::{Branch, add_all, has_literal, nth_literal};
-use wy_ranges::{of_each, of_one};
+use wy_splits::{of_each, of_one};
 use wy_stated_facts::facts_of;
 use wy_term::{Cond, NoMemory, Terms};
 

@@ -5,7 +5,7 @@ use Rattle.std.proofs.lemmas.List.{drop_more}
 use Rattle.wy_term.specs.Term.{DataKind, Term}
 use Rattle.wy_term.specs.Same.{same_kind}
 use Rattle.wy_term.proofs.SameLemmas.{terms_self}
-use Rattle.wy_clashes.specs.Groups.{as_wanted, in_kinds}
+use Rattle.wy_splits.specs.Groups.{as_wanted, in_kinds}
 use Rattle.wy_judging.specs.Seen.{seen_literal}
 use Rattle.wy_valid.specs.Kinds as valid
 use Rattle.wy_search.specs.Classes.{in_one_class, any_denies, denies_equal, constants_apart, any_apart, kinds_with, any_kinds}

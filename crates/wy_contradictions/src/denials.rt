@@ -6,9 +6,9 @@ ghost use Rattle.wy_judging.specs.Seen.{IsBranch, seen_branch};
 ghost use Rattle.wy_search.specs.Classes as classes;
 ghost use Rattle.wy_term.specs.Nodes.{tree_at};
 
-use wy_clashes::{are_apart, constant_at};
 use wy_classes::{Present, in_one_class};
 use wy_judging::{Branch, nth_literal};
+use wy_splits::{are_apart, constant_at};
 use wy_term::{Node, Terms};
 
 // Whether this is a denied equation inside a class.

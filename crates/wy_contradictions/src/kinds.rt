@@ -6,9 +6,9 @@ ghost use Rattle.wy_judging.specs.Seen.{IsBranch, seen_branch};
 ghost use Rattle.wy_search.specs.Classes as classes;
 ghost use Rattle.wy_term.specs.Nodes.{tree_at};
 
-use wy_clashes::{copied_kind, kind_given};
 use wy_classes::Present;
 use wy_judging::{Branch, nth_literal};
+use wy_splits::{copied_kind, kind_given};
 use wy_term::{Kind, NoMemory, Node, Terms};
 
 /// A term of a kind.

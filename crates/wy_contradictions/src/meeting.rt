@@ -1,7 +1,7 @@
 //! Kinds that can't be in one class.
 ghost use Rattle.std.specs.Prelude.{◌≡◌, ◌<◌, length};
 ghost use Rattle.wy_classes.specs.Seen.{terms_of, IsPresent};
-ghost use Rattle.wy_clashes.specs.Groups.{as_wanted, in_kinds};
+ghost use Rattle.wy_splits.specs.Groups.{as_wanted, in_kinds};
 ghost use Rattle.wy_contradictions.specs.Kinded.{kinded, seen_kinded, AreKinded};
 ghost use Rattle.wy_contradictions.specs.Pairs.{meets};
 ghost use Rattle.wy_search.specs.Classes as classes;
@@ -9,8 +9,8 @@ ghost use Rattle.wy_term.specs.Nodes.{plain_kind, tree_at};
 ghost use Rattle.wy_term.specs.Same.{same_kind};
 
 use crate::kinds::Kinded;
-use wy_clashes::same_kind;
 use wy_classes::{Present, in_one_class};
+use wy_splits::same_kind;
 use wy_term::{Kind, Terms};
 
 // Whether two kinds are the same, or whether they aren't, as is wanted.

@@ -7,9 +7,9 @@ ghost use Rattle.wy_judging.specs.Seen.{IsBranch};
 use crate::action::{Action, Named};
 use crate::explaining::{Pair, explain};
 use crate::merging::merges;
-use wy_clashes::{are_apart, constant_at, copied_kind, kind_given, same_kind};
 use wy_classes::{Present, in_one_class};
 use wy_judging::{Branch, nth_literal};
+use wy_splits::{are_apart, constant_at, copied_kind, kind_given, same_kind};
 use wy_term::{Kind, NoMemory, Node, Terms};
 
 // A term of a kind, by a literal, or as it is written out.

@@ -3,14 +3,14 @@ ghost use Rattle.std.specs.Prelude.{◌≡◌, ◌<◌, length, map, OnOk};
 ghost use Rattle.wy_facts.specs.Seen.{AreBelow, Stays};
 ghost use Rattle.wy_judge.specs.Node.{added};
 ghost use Rattle.wy_judging.specs.Seen.{IsBranch, seen_branch, seen_literal};
-ghost use Rattle.wy_ranges.specs.Seen.{seen_range, IsRangeOver};
+ghost use Rattle.wy_splits.specs.Seen.{seen_range, IsRangeOver};
 ghost use Rattle.wy_search.specs.Expansion as search;
 ghost use Rattle.wy_term.specs.Nodes.{tree_at};
 ghost use Rattle.wy_valid.specs.Ranges.{instance_at, of_each};
 
 use crate::spot::literals_of;
 use wy_judging::{Branch, add};
-use wy_ranges::{Range, instance_at, of_each};
+use wy_splits::{Range, instance_at, of_each};
 use wy_term::{NoMemory, Terms};
 
 // What a quantifier with this range states of a term.

@@ -4,14 +4,14 @@ ghost use Rattle.wy_facts.specs.Seen.{Stays};
 ghost use Rattle.wy_instances.specs.Seen.{seen_spot, IsSpot};
 ghost use Rattle.wy_judge.specs.Node.{has_literal};
 ghost use Rattle.wy_judging.specs.Seen.{seen_branch, seen_literal};
-ghost use Rattle.wy_ranges.specs.Seen.{seen_range, IsRangeOver};
+ghost use Rattle.wy_splits.specs.Seen.{seen_range, IsRangeOver};
 ghost use Rattle.wy_search.specs.Expansion as search;
 ghost use Rattle.wy_term.specs.Nodes.{tree_at};
 ghost use Rattle.wy_valid.specs.Ranges.{of_one};
 
 use crate::spot::{Spot, literals_of};
 use wy_judging::{add_all, add_literal, has_literal};
-use wy_ranges::{Range, fresh_number, name, of_one, witnessed_at};
+use wy_splits::{Range, fresh_number, name, of_one, witnessed_at};
 use wy_term::{NoMemory, Terms};
 
 // The witness of a literal, whose range this is.

@@ -1,3 +1,11 @@
+pub mod NumbersLemmas
+pub mod RangeLemmas
+pub mod JoinedLemmas
+pub mod HeadLemmas
+pub mod ChainLemmas
+pub mod KindLemmas
+pub mod CommonLemmas
+pub mod GivenLemmas
 pub mod WalkLemmas
 pub mod FreeLemmas
 pub mod CaughtLemmas

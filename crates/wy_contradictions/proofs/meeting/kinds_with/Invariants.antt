@@ -1,5 +1,5 @@
 use Rattle.std.proofs.Common.{◌≡◌, drop}
-use Rattle.wy_clashes.specs.Groups.{in_kinds}
+use Rattle.wy_splits.specs.Groups.{in_kinds}
 use Rattle.wy_search.specs.Classes.{kinds_with}
 use Rattle.wy_term.specs.Nodes.{tree_at}
 use Rattle.wy_classes.specs.Seen.{terms_of}

@@ -2,7 +2,7 @@ use Rattle.std.proofs.Common.{◌≡◌, ◌∙◌, ℕ, Option, List, map, ap, 
 use Rattle.std.specs.Prelude.{option_map, IfSome}
 use Rattle.wy_instances.proofs.instances.with_instances_by.Goals as goal
 use Rattle.wy_judging.specs.Seen.{seen_branch}
-use Rattle.wy_ranges.specs.Seen.{seen_range}
+use Rattle.wy_splits.specs.Seen.{seen_range}
 use Rattle.wy_search.specs.Expansion.{with_instances_by}
 use Rattle.wy_standing.proofs.TaskLemmas.{on_ok}
 use Rattle.wy_term.specs.Nodes.{tree_at}

@@ -4,8 +4,8 @@ use Rattle.wy_instances.proofs.SpotLemmas.{instance_end, instance_step}
 use Rattle.wy_instances.proofs.instances.with_instances_of.Goals as goal
 use Rattle.wy_judge.specs.Node.{added}
 use Rattle.wy_judging.specs.Seen.{seen_branch}
-use Rattle.wy_ranges.proofs.RangeLemmas.{range_kept, range_up}
-use Rattle.wy_ranges.specs.Seen.{seen_range}
+use Rattle.wy_splits.proofs.RangeLemmas.{range_kept, range_up}
+use Rattle.wy_splits.specs.Seen.{seen_range}
 use Rattle.wy_term.specs.Nodes.{tree_at}
 use Rattle.wy_term.specs.Term.{Term}
 use Rattle.wy_valid.specs.Ranges.{Range, instance_at}

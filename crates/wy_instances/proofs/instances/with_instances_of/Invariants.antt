@@ -2,7 +2,7 @@ use Rattle.std.proofs.Common.{◌≡◌, drop, map}
 use Rattle.wy_facts.specs.Seen.{Stays}
 use Rattle.wy_instances.proofs.instances.with_instances_of.Given as goal
 use Rattle.wy_judging.specs.Seen.{seen_branch, IsBranch}
-use Rattle.wy_ranges.specs.Seen.{seen_range}
+use Rattle.wy_splits.specs.Seen.{seen_range}
 use Rattle.wy_search.specs.Expansion.{with_instances_of}
 use Rattle.wy_term.specs.Nodes.{tree_at}
 

@@ -6,8 +6,8 @@ use Rattle.wy_instances.specs.Seen.{seen_spot}
 use Rattle.wy_judge.specs.Node.{Literal, Node, has_literal, with_formulas, with_literal}
 use Rattle.wy_judging.proofs.JudgingLemmas.{below_last}
 use Rattle.wy_judging.specs.Seen.{seen_branch, seen_literal}
-use Rattle.wy_ranges.proofs.RangeLemmas.{range_kept, range_up}
-use Rattle.wy_ranges.specs.Seen.{seen_range}
+use Rattle.wy_splits.proofs.RangeLemmas.{range_kept, range_up}
+use Rattle.wy_splits.specs.Seen.{seen_range}
 use Rattle.wy_standing.proofs.TaskLemmas.{map_last}
 use Rattle.wy_judging.proofs.SumsBranchLemmas.{branch_stays, node_stays}
 use Rattle.wy_term.specs.Nodes.{tree_at}

@@ -6,7 +6,7 @@ use Rattle.wy_instances.proofs.witnesses.with_witness.Goals as goal
 use Rattle.wy_instances.specs.Seen.{seen_spot}
 use Rattle.wy_judge.specs.Node.{has_literal}
 use Rattle.wy_judging.specs.Seen.{seen_branch, seen_literal}
-use Rattle.wy_ranges.specs.Seen.{seen_range}
+use Rattle.wy_splits.specs.Seen.{seen_range}
 use Rattle.wy_search.specs.Expansion.{with_witness}
 use Rattle.wy_term.specs.Nodes.{tree_at}
 use Rattle.wy_valid.specs.Ranges.{Range, of_one}

@@ -1,3 +1,0 @@
--- what functions inside owe each other
-pub mod Constants
-pub mod Groups

@@ -1,3 +1,0 @@
-pub mod JoinedLemmas
-pub mod HeadLemmas
-pub mod ChainLemmas

@@ -1,3 +1,0 @@
--- what functions inside owe each other
-pub mod Joined
-pub mod Sorts

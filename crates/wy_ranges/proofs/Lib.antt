@@ -1,2 +1,0 @@
-pub mod NumbersLemmas
-pub mod RangeLemmas
