@@ -11,8 +11,8 @@ use Rattle.wy_bound_products.specs.declared.tightest.Bound.{Bound}
 use Rattle.wy_judge.specs.Node.{Literal}
 use Rattle.wy_lin.specs.Linear.{◌>>=◌, Linear, coefficient}
 use Rattle.wy_lin.specs.TermForm.{form_of_literal}
-use Rattle.wy_products.specs.Seen.{number_of, signed_number, AreAffine, IsAffine}
-use Rattle.wy_products.specs.declared.affine.Affine.{Affine}
+use Rattle.wy_checking.specs.Seen.{number_of, signed_number, AreAffine, IsAffine}
+use Rattle.wy_checking.specs.declared.affine.Affine.{Affine}
 use Rattle.wy_search.specs.Expansion.{best_bound, bound_by_literal, tighter, with_bound}
 use Rattle.wy_term.specs.Data.{quotient_down}
 use Rattle.wy_term.specs.Same.{same_term}

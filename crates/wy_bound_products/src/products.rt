@@ -15,9 +15,9 @@ ghost use Rattle.wy_valid.specs.Products.{as_product, product_stated};
 ghost use Rattle.wy_valid.specs.Sums.{all_zero};
 
 use crate::tightest::{Bound, bound_of};
+use wy_checking::product_stated;
 use wy_judging::{Branch, pending_at};
 use wy_lin::{Form, term_form};
-use wy_products::product_stated;
 use wy_standing::standing;
 use wy_term::{NoMemory, Node, Terms};
 

@@ -6,7 +6,7 @@ ghost use Rattle.wy_judge.specs.Node.{Literal};
 ghost use Rattle.wy_judging.specs.Seen.{seen_branch, IsBranch};
 ghost use Rattle.wy_lin.specs.Linear.{◌>>=◌ as bind, Linear};
 ghost use Rattle.wy_lin.specs.Seen.{linear_form, seen_form, IsOver};
-ghost use Rattle.wy_products.specs.Seen.{AreAffine};
+ghost use Rattle.wy_checking.specs.Seen.{AreAffine};
 ghost use Rattle.wy_search.specs.Expansion as search;
 ghost use Rattle.wy_term.specs.Data.{quotient_down};
 ghost use Rattle.wy_term.specs.Nodes.{tree_at};
@@ -14,9 +14,9 @@ ghost use Rattle.wy_term.specs.Term.{Term};
 ghost use Rattle.wy_valid.specs.Products.{affine, Affine as Factors};
 ghost use Rattle.wy_valid.specs.Sums.{form_at};
 
+use wy_checking::{Affine, relation};
 use wy_judging::{Branch, form_at};
 use wy_lin::Form;
-use wy_products::{Affine, relation};
 use wy_term::{NoMemory, Terms};
 
 /// The literal, by its number, that is a bound of a factor, and where it stops but for what all bounds of the factor on this

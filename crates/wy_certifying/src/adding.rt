@@ -6,9 +6,9 @@ ghost use Rattle.wy_facts.specs.Seen.{AreBelow, Stays};
 
 use crate::draft::{Draft, grow};
 use crate::stop::Stop;
+use wy_checking::product_stated;
 use wy_facts::fact;
 use wy_judging::cut_stated;
-use wy_products::product_stated;
 use wy_splits::{chain_stated, instance_stated, witness_stated};
 use wy_term::{Cond, NoMemory, Terms};
 

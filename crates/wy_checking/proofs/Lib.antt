@@ -1,5 +1,14 @@
+pub mod WholeLemmas
+pub mod DivisorLemmas
+pub mod RatioLemmas
+pub mod MultipleLemmas
+pub mod AffineLemmas
+pub mod ProductLemmas
 pub mod FactLemmas
 pub mod BringLemmas
 pub mod TrailLemmas
 pub mod StepLemmas
 pub mod WalkLemmas
+pub mod PlaceLemmas
+pub mod StayLemmas
+pub mod ShownLemmas

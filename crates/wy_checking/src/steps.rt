@@ -12,10 +12,10 @@ ghost use Rattle.wy_checking.specs.Led.{led, IsOutcomeOver};
 
 use crate::bringing::{all_brought, brought};
 use crate::outcome::{Outcome, adds, adds_one, closes};
+use crate::product::product_stated;
 use wy_cert::Step;
 use wy_facts::fact;
 use wy_judging::{Branch, cut_stated, is_refuting, is_shut};
-use wy_products::product_stated;
 use wy_splits::{chain_stated, instance_stated, is_clash, may_split, witness_stated};
 use wy_term::{Cond, NoMemory, Terms};
 

@@ -4,7 +4,7 @@ use Rattle.std.specs.Prelude.{nat_lt, if◌then◌else◌}
 use Rattle.std.proofs.lemmas.List.{length-map}
 use Rattle.std.proofs.lemmas.List.Elements.{All-weaker}
 use Rattle.std.proofs.lemmas.Bool.{ltb-false}
-use Rattle.wy_accepting.specs.Within.{IsWithin}
+use Rattle.wy_checking.specs.Within.{IsWithin}
 use Rattle.wy_shown_conditions.proofs.TruthLemmas.{premises_met}
 use Rattle.wy_conditions.specs.Limits as limits
 use Rattle.wy_conditions.specs.Numbered.{Node, numbered_core}

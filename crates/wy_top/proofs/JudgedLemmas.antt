@@ -2,11 +2,11 @@
 use Rattle.std.proofs.Common.{◌≡◌, ◌∙◌, ◌<◌, ◌≤◌, ◌+◌, ℕ, zero, suc, List, [], ◌∷◌, ◌++◌, All, length, map, take, get_or, Option, Some, None, Result, refl, sym, ap, subst, arith}
 use Rattle.std.specs.Prelude.{IfOk, IfSome}
 use Rattle.std.proofs.lemmas.List.{length-map}
-use Rattle.wy_accepting.proofs.StayLemmas.{as_before, condition_stays}
-use Rattle.wy_accepting.specs.Verdicts.{certificate_for, verdict_on, verdicts_on}
-use Rattle.wy_accepting.specs.Within.{IsWithin}
-use Rattle.wy_accepting.specs.declared.verdict.Verdict.{Verdict as Given}
-use Rattle.wy_accepting.specs.declared.verdict.Verdict.TheVariants as given
+use Rattle.wy_checking.proofs.StayLemmas.{as_before, condition_stays}
+use Rattle.wy_checking.specs.Verdicts.{certificate_for, verdict_on, verdicts_on}
+use Rattle.wy_checking.specs.Within.{IsWithin}
+use Rattle.wy_checking.specs.declared.verdict.Verdict.{Verdict as Given}
+use Rattle.wy_checking.specs.declared.verdict.Verdict.TheVariants as given
 use Rattle.wy_cert.specs.Steps.{Certificates, NamesItsTerms, steps_of}
 use Rattle.wy_cert.specs.declared.step.Cert.{Cert}
 use Rattle.wy_search.specs.Tree as tree

@@ -1,9 +1,9 @@
 -- What verdicts show, and that there is one list of them.
 use Rattle.std.proofs.Common.{◌≡◌, ◌∙◌, ◌+◌, ℕ, List, [], ◌∷◌, map, Bool, true, false, cond, Option, Some, None, refl, sym, ap, subst}
 use Rattle.std.specs.Prelude.{◌==◌, ◌&&◌}
-use Rattle.wy_accepting.specs.Verdicts.{certificate_for, verdict_from, verdict_on}
-use Rattle.wy_accepting.specs.declared.verdict.Verdict.{Verdict as Given}
-use Rattle.wy_accepting.specs.declared.verdict.Verdict.TheVariants as given
+use Rattle.wy_checking.specs.Verdicts.{certificate_for, verdict_from, verdict_on}
+use Rattle.wy_checking.specs.declared.verdict.Verdict.{Verdict as Given}
+use Rattle.wy_checking.specs.declared.verdict.Verdict.TheVariants as given
 use Rattle.wy_cert.specs.Steps.{Certificates, Written, steps_of}
 use Rattle.wy_search.specs.Tree as tree
 use Rattle.wy_search.proofs.VerdictLemmas.{one_verdict}

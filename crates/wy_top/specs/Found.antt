@@ -1,8 +1,8 @@
 -- The certificates that were found.
 use Rattle.std.specs.Prelude.{◌≡◌, ℕ, ◌≤◌, suc, List, [], ◌∷◌, ◌++◌, map}
-use Rattle.wy_accepting.specs.Verdicts.{verdicts_on}
-use Rattle.wy_accepting.specs.declared.verdict.Verdict.{Verdict as Given}
-use Rattle.wy_accepting.specs.declared.verdict.Verdict.TheVariants as accepting
+use Rattle.wy_checking.specs.Verdicts.{verdicts_on}
+use Rattle.wy_checking.specs.declared.verdict.Verdict.{Verdict as Given}
+use Rattle.wy_checking.specs.declared.verdict.Verdict.TheVariants as accepting
 use Rattle.wy_cert.specs.Steps.{Certificates, steps_of}
 use Rattle.wy_term.specs.Condition.{Condition}
 use Rattle.wy_top.specs.Seen.{AreShown}

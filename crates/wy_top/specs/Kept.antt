@@ -1,6 +1,6 @@
 -- What the code keeps of a program and of what it owes.
 use Rattle.std.specs.Prelude.{◌≡◌, ◌≤◌, ℕ, List, All, length, map}
-use Rattle.wy_accepting.specs.Within.{IsWithin}
+use Rattle.wy_checking.specs.Within.{IsWithin}
 use Rattle.wy_top.specs.Acceptance.{Acceptance, AreVerdicts}
 use Rattle.wy_top.specs.Programs.{Program, conditions_of}
 use Rattle.wy_top.specs.declared.accepting.Accepted.{Accepted}

@@ -1,7 +1,7 @@
 //! The verdicts on a list of conditions.
 ghost use Rattle.std.specs.Prelude.{◌≡◌, ◌<◌, ℕ, All, length, map, IfOk};
-ghost use Rattle.wy_accepting.specs.Verdicts.{certificate_for, verdict_on, verdicts_on};
-ghost use Rattle.wy_accepting.specs.Within.{IsWithin};
+ghost use Rattle.wy_checking.specs.Verdicts.{certificate_for, verdict_on, verdicts_on};
+ghost use Rattle.wy_checking.specs.Within.{IsWithin};
 ghost use Rattle.wy_cert.specs.Steps.{Certificates, certificates_of, NameTheirTerms};
 ghost use Rattle.wy_search.specs.Tree as tree;
 ghost use Rattle.wy_term.specs.Condition.{condition_of};
@@ -12,9 +12,9 @@ ghost use Rattle.wy_top.specs.Seen.{known, AreShown, NameTerms};
 
 use crate::verdict::{End, Verdict};
 use std::alloc::Global;
-use wy_accepting::{Verdict as Given, verdicts};
 use wy_cert::Certs;
 use wy_certifying::certified;
+use wy_checking::{Verdict as Given, verdicts};
 use wy_searching::{Verdict as Searched, search};
 use wy_term::{Cond, NoMemory, Terms};
 

@@ -1,6 +1,6 @@
 //! The text of a list of conditions.
 ghost use Rattle.std.specs.Prelude.{◌≡◌, ◌<◌, ◌^◌, All, IfOk, OnOk, ◌++◌, ℕ, List, length, map};
-ghost use Rattle.wy_accepting.specs.Within.{IsWithin};
+ghost use Rattle.wy_checking.specs.Within.{IsWithin};
 ghost use Rattle.wy_lines.specs.Starts.{AreLines};
 ghost use Rattle.wy_top.specs.Owed as spec;
 ghost use Rattle.wy_vc.specs.Told.{seen_cond};

@@ -1,6 +1,6 @@
 //! The conditions that the program of a source owes.
 ghost use Rattle.std.specs.Prelude.{◌≡◌, ◌<◌, ◌≤◌, ◌^◌, ℕ, List, All, length, map, false, IsTrue, IfOk, IfErr, MatchResult};
-ghost use Rattle.wy_accepting.specs.Within.{IsWithin};
+ghost use Rattle.wy_checking.specs.Within.{IsWithin};
 ghost use Rattle.wy_assign.specs.Assigned.{IsAssigned};
 ghost use Rattle.wy_conditions.specs.Limits.{most_conditions};
 ghost use Rattle.wy_core.specs.CoreTree as tree;

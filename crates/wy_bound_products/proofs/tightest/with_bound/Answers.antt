@@ -5,8 +5,8 @@ use Rattle.std.specs.Prelude.{IfSome}
 use Rattle.wy_bound_products.proofs.BoundLemmas.{apart_of, no_affine, other_bound, this_bound}
 use Rattle.wy_bound_products.proofs.tightest.with_bound.Goals as goal
 use Rattle.wy_bound_products.specs.declared.tightest.Bound.{Bound}
-use Rattle.wy_products.specs.Seen.{AreAffine}
-use Rattle.wy_products.specs.declared.affine.Affine.{Affine}
+use Rattle.wy_checking.specs.Seen.{AreAffine}
+use Rattle.wy_checking.specs.declared.affine.Affine.{Affine}
 use Rattle.wy_term.specs.Data.{quotient_down}
 use Rattle.wy_term.proofs.SameLemmas.{bits_are}
 use Rattle.wy_valid.specs.Products.{affine}

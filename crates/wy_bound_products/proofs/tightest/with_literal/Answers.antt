@@ -7,7 +7,7 @@ use Rattle.wy_bound_products.proofs.tightest.with_literal.Goals as goal
 use Rattle.wy_judging.specs.Seen.{seen_branch}
 use Rattle.wy_lin.specs.Linear.{Linear}
 use Rattle.wy_lin.specs.Seen.{seen_form}
-use Rattle.wy_products.specs.Seen.{AreAffine}
+use Rattle.wy_checking.specs.Seen.{AreAffine}
 use Rattle.wy_judging.proofs.FormLemmas.{form_kept, form_up}
 use Rattle.wy_term.specs.Nodes.{tree_at}
 use Rattle.wy_term.specs.Term.{Term}

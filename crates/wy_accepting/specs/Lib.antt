@@ -1,4 +1,0 @@
--- what public contracts cite
-pub mod Verdicts
-pub mod Within
-pub mod Shown

@@ -1,6 +1,0 @@
-pub mod WholeLemmas
-pub mod DivisorLemmas
-pub mod RatioLemmas
-pub mod MultipleLemmas
-pub mod AffineLemmas
-pub mod ProductLemmas
