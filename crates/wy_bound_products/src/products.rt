@@ -16,9 +16,9 @@ ghost use Rattle.wy_valid.specs.Sums.{all_zero};
 
 use crate::tightest::{Bound, bound_of};
 use wy_checking::product_stated;
+use wy_classes::standing;
 use wy_judging::{Branch, pending_at};
 use wy_lin::{Form, term_form};
-use wy_standing::standing;
 use wy_term::{NoMemory, Node, Terms};
 
 /// The tightest bounds of a factor, from below and from above.

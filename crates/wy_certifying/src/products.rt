@@ -4,9 +4,9 @@ ghost use Rattle.wy_facts.specs.Seen.{Stays};
 ghost use Rattle.wy_judging.specs.Seen.{IsBranch};
 
 use wy_bound_products::{Bound, Bounds, bounds_of};
+use wy_classes::standing;
 use wy_explaining::{Action, Named};
 use wy_judging::{Branch, literal_at, pending_at};
-use wy_standing::standing;
 use wy_term::{NoMemory, Node, Terms};
 
 // The literal that is a bound.

@@ -1,3 +1,17 @@
+-- listing terms once each keeps the first that passes a test
+pub mod OnceLemmas
+-- atoms of formulas by their members
+pub mod AtomLemmas
+-- one literal more, and back
+pub mod DecidingLemmas
+-- the first of a list
+pub mod FirstLemmas
+-- names that are bound around a term
+pub mod BoundLemmas
+-- what tasks lead to
+pub mod TaskLemmas
+-- the walk as the definition of the search says it
+pub mod StandingLemmas
 -- lists, one item after the other
 pub mod WalkLemmas
 -- numbers and their places
@@ -12,3 +26,7 @@ pub mod HeadLemmas
 pub mod ClosingLemmas
 -- classes in each congruence
 pub mod SoundLemmas
+-- one of a list, one after the other
+pub mod AnyLemmas
+-- kinds, one after the other
+pub mod KindLemmas

@@ -1,5 +1,14 @@
+-- lists in which each term stands once
+pub mod Once
+-- which names are bound around what stands in a node
+pub mod Marks
+-- what the walk has still to do, and what it leads to
+pub mod Walk
 -- what public contracts cite
 pub mod Seen
 pub mod Congruence
 -- what functions inside owe each other
 pub mod Heads
+-- what functions inside owe each other
+pub mod Kinded
+pub mod Pairs

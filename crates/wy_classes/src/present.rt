@@ -9,9 +9,9 @@ ghost use Rattle.wy_search.specs.Classes.{place_from};
 ghost use Rattle.wy_term.specs.Nodes.{tree_at};
 ghost use Rattle.wy_term.specs.Sorts.{sort_in};
 
+use crate::walk::standing;
 use std::collections::HashMap;
 use wy_judging::{Branch, pending_at};
-use wy_standing::standing;
 use wy_term::{NoMemory, Node, Terms};
 
 /// The terms present in a node, by first appearance, and the place of each, from 0.

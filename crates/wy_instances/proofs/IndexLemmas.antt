@@ -9,11 +9,11 @@ use Rattle.wy_search.specs.Expansion.{among, index_at, indices_in, only_int}
 use Rattle.wy_search.specs.Standing.{Standing, all_parts, below, bound_by, have_common, in_formulas, in_literals, of_range, standing_in, standing_in_parts, with_unbound}
 use Rattle.wy_judging.proofs.JudgingLemmas.{below_up}
 use Rattle.wy_judging.specs.Seen.{AreBelow}
-use Rattle.wy_standing.proofs.TaskLemmas.{below_taken}
+use Rattle.wy_classes.proofs.TaskLemmas.{below_taken}
 use Rattle.wy_splits.proofs.WalkLemmas.{or_assoc, or_none, cond_or}
 use Rattle.wy_splits.specs.Free.{is_among, stands_free}
 use Rattle.wy_splits.specs.Walk.{any_first, any_over}
-use Rattle.wy_standing.proofs.BoundLemmas.{none_common}
+use Rattle.wy_classes.proofs.BoundLemmas.{none_common}
 use Rattle.wy_term.proofs.SameLemmas.{terms_are, terms_self}
 use Rattle.wy_term.specs.declared.node.Node.{Node}
 use Rattle.wy_term.specs.declared.node.Node.TheVariants as node

@@ -13,9 +13,9 @@ ghost use Rattle.wy_valid.specs.Ranges.{is_int};
 
 use crate::todo::{put_all, put_members};
 use std::collections::BTreeSet;
+use wy_classes::standing;
 use wy_judging::{Branch, pending_at};
 use wy_splits::is_free;
-use wy_standing::standing;
 use wy_subst::parts_of;
 use wy_term::{NoMemory, Node, Terms};
 

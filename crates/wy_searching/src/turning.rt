@@ -16,11 +16,9 @@ use crate::expanding::expanded;
 use crate::verdict::Why;
 use std::alloc::Global;
 use wy_bounds::{Ending, ending_of_elimination};
-use wy_classes::{classes, terms_present};
-use wy_contradictions::classes_clash;
+use wy_classes::{classes, classes_clash, next_atom, terms_present};
 use wy_instances::{Spot, copied_branch};
 use wy_judging::{add, is_shut};
-use wy_splitting::next_atom;
 use wy_term::{Cond, NoMemory, Terms};
 
 /// What becomes of a node.

@@ -12,8 +12,8 @@ ghost use Rattle.wy_term.specs.Nodes.{tree_at};
 use crate::elements::{push_elements, push_pairs};
 use crate::kinds::push_kind_facts;
 use crate::plain::{push_lengths, push_plain};
+use wy_classes::standing;
 use wy_judging::Branch;
-use wy_standing::standing;
 use wy_term::{Cond, NoMemory, Terms};
 
 // The facts of one schema.

@@ -5,7 +5,7 @@ use Rattle.wy_bound_products.proofs.products.push_product.Goals as goal
 use Rattle.wy_bound_products.specs.Bounds.{AreBounds}
 use Rattle.wy_bound_products.specs.declared.tightest.Bound.{Bound}
 use Rattle.wy_judging.specs.Seen.{seen_branch}
-use Rattle.wy_standing.proofs.TaskLemmas.{on_ok}
+use Rattle.wy_classes.proofs.TaskLemmas.{on_ok}
 use Rattle.wy_term.specs.Nodes.{tree_at}
 
 pub returns-in_default-clause-value : goal.returns-in_default-clause-value

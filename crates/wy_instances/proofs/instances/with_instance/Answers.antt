@@ -1,7 +1,7 @@
 use Rattle.std.proofs.Common.{◌≡◌, ◌∙◌, ap₂}
 use Rattle.wy_instances.proofs.instances.with_instance.Goals as goal
 use Rattle.wy_judge.specs.Node.{added}
-use Rattle.wy_standing.proofs.TaskLemmas.{on_ok}
+use Rattle.wy_classes.proofs.TaskLemmas.{on_ok}
 use Rattle.wy_judging.proofs.SumsBranchLemmas.{branch_stays, node_stays}
 
 pub add-requires-clause-branch : goal.add-requires-clause-branch

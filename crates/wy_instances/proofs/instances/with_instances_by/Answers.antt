@@ -4,7 +4,7 @@ use Rattle.wy_instances.proofs.instances.with_instances_by.Goals as goal
 use Rattle.wy_judging.specs.Seen.{seen_branch}
 use Rattle.wy_splits.specs.Seen.{seen_range}
 use Rattle.wy_search.specs.Expansion.{with_instances_by}
-use Rattle.wy_standing.proofs.TaskLemmas.{on_ok}
+use Rattle.wy_classes.proofs.TaskLemmas.{on_ok}
 use Rattle.wy_term.specs.Nodes.{tree_at}
 use Rattle.wy_term.specs.Term.{Term}
 use Rattle.wy_valid.specs.Ranges.{Range}

@@ -8,7 +8,7 @@ use Rattle.wy_judging.proofs.JudgingLemmas.{below_last}
 use Rattle.wy_judging.specs.Seen.{seen_branch, seen_literal}
 use Rattle.wy_splits.proofs.RangeLemmas.{range_kept, range_up}
 use Rattle.wy_splits.specs.Seen.{seen_range}
-use Rattle.wy_standing.proofs.TaskLemmas.{map_last}
+use Rattle.wy_classes.proofs.TaskLemmas.{map_last}
 use Rattle.wy_judging.proofs.SumsBranchLemmas.{branch_stays, node_stays}
 use Rattle.wy_term.specs.Nodes.{tree_at}
 use Rattle.wy_term.specs.Term.{Term, leaf, int_name}

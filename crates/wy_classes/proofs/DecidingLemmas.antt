@@ -1,0 +1,96 @@
+-- A node with one literal more, what it is judged by, and the node as it was.
+use Rattle.std.proofs.Common.{◌≡◌, ◌∙◌, ◌||◌, ℕ, Bool, true, false, cond, List, [], ◌∷◌, ◌++◌, map, take, length, refl, sym, ap}
+use Rattle.wy_judge.specs.Judgement.{of_atom, judged}
+use Rattle.wy_judge.specs.Node.{Literal, Node, has_literal, with_literal}
+use Rattle.wy_judge.specs.declared.verdict.Verdict.{Verdict}
+use Rattle.wy_judge.specs.declared.verdict.Verdict.TheVariants.{Yes, No, Open}
+use Rattle.wy_judging.specs.Judged as judging
+use Rattle.wy_judging.specs.Seen.{StartsWith, seen_branch, seen_formula, seen_literal}
+use Rattle.wy_judging.specs.declared.branch.Branch.{Branch}
+use Rattle.wy_search.specs.Splitting.{decides, is_open, is_forced}
+use Rattle.wy_classes.specs.Once.{SameBranch}
+use Rattle.wy_term.specs.Term.{Term}
+use Rattle.wy_valid.specs.Literals as valid
+
+abbrev literal : Term → Bool → Literal
+literal a holds = record { atom = a; holds = holds }
+
+abbrev verdict_by : Bool → Bool → Verdict
+verdict_by up_so un_so = cond up_so Yes (cond un_so No Open)
+
+-- ---- undecided atoms
+
+pub undecided_is : (ls : List Literal) (a : Term) (up_so un_so : Bool) → up_so ≡ has_literal ls (literal a true) → un_so ≡ has_literal ls (literal a false)
+    → cond up_so false (cond un_so false true) ≡ is_open (of_atom ls a)
+undecided_is ls a up_so un_so y n = by up_so un_so ∙ ap is_open (ap (λ b. verdict_by b un_so) y ∙ ap (verdict_by (has_literal ls (literal a true))) n)
+  where
+    by : (b c : Bool) → cond b false (cond c false true) ≡ is_open (verdict_by b c)
+    by true c = refl
+    by false true = refl
+    by false false = refl
+
+absent : (ls : List Literal) (a : Term) (holds : Bool) → is_open (of_atom ls a) ≡ true → has_literal ls (literal a holds) ≡ false
+absent ls a true up = by (has_literal ls (literal a true)) (has_literal ls (literal a false)) up
+  where
+    by : (b c : Bool) → is_open (verdict_by b c) ≡ true → b ≡ false
+    by true c e = absurd (cc)
+    by false c e = refl
+absent ls a false up = by (has_literal ls (literal a true)) (has_literal ls (literal a false)) up
+  where
+    by : (b c : Bool) → is_open (verdict_by b c) ≡ true → c ≡ false
+    by true c e = absurd (cc)
+    by false true e = absurd (cc)
+    by false false e = refl
+
+-- ---- judged with a literal more
+
+same_no : (v : Verdict) → judging.is_no v ≡ valid.is_no v
+same_no Yes = refl
+same_no No = refl
+same_no Open = refl
+
+same_refuted : (ls : List Literal) (fs : List Term) → judging.is_any_refuted ls fs ≡ valid.any_no ls fs
+same_refuted ls [] = refl
+same_refuted ls (f ∷ fs) = ap (λ b. b || judging.is_any_refuted ls fs) (same_no (judged ls f)) ∙ ap (λ b. valid.is_no (judged ls f) || b) (same_refuted ls fs)
+
+abbrev with_one : Node → Literal → Node
+with_one node l = record { literals = node.literals ++ l ∷ []; pending = node.pending }
+
+put : (node : Node) (l : Literal) → has_literal node.literals l ≡ false → with_literal node l ≡ with_one node l
+put node l un_so = ap (λ b. cond b node (with_one node l)) un_so
+
+pub decided : (node new : Node) (a : Term) (holds up_so : Bool) → is_open (of_atom node.literals a) ≡ true → new ≡ with_literal node (literal a holds)
+    → up_so ≡ judging.is_any_refuted new.literals new.pending → up_so ≡ decides node a holds
+decided node new a holds up_so up is answers =
+    answers
+    ∙ same_refuted new.literals new.pending
+    ∙ ap (λ (m : Node). valid.any_no m.literals m.pending) (is ∙ put node (literal a holds) (absent node.literals a holds up))
+
+-- ---- the node as it was
+
+taken_front : (xs ys : List (ℕ × Bool)) → take (length xs) (xs ++ ys) ≡ xs
+taken_front [] ys = refl
+taken_front (x ∷ xs) ys = ap (λ zs. x ∷ zs) (taken_front xs ys)
+
+pub back : (xs ys zs : List (ℕ × Bool)) (n : ℕ) → StartsWith xs ys → n ≡ length xs → zs ≡ take n ys → zs ≡ xs
+back xs ys zs n h e is = is ∙ ap (λ m. take m ys) e ∙ ap (take (length xs)) h.1 ∙ taken_front xs h.0
+
+pub seen_same : (at : ℕ → Term) (b c : Branch) → SameBranch b c → seen_branch at c ≡ seen_branch at b
+seen_same at b c same = λ i. record { literals = map (seen_literal at) (same.literals i); pending = map (seen_formula at) (same.pending i) }
+
+pub same_again : (b c d : Branch) → SameBranch b c → SameBranch c d → SameBranch b d
+same_again b c d p q = record { literals = q.literals ∙ p.literals; pending = q.pending ∙ p.pending }
+
+pub same_self : (b : Branch) → SameBranch b b
+same_self b = record { literals = refl; pending = refl }
+
+-- ---- forced atoms
+
+pub not_forced : (node : Node) (a : Term) → is_open (of_atom node.literals a) ≡ false → false ≡ is_forced node a
+not_forced node a un_so = sym (ap (λ b. cond b (decides node a true || decides node a false) false) un_so)
+
+pub forced_first : (node : Node) (a : Term) → is_open (of_atom node.literals a) ≡ true → decides node a true ≡ true → true ≡ is_forced node a
+forced_first node a up up_so = sym (ap (λ b. cond b (decides node a true || decides node a false) false) up ∙ ap (λ b. b || decides node a false) up_so)
+
+pub forced_second : (node : Node) (a : Term) (up_so : Bool) → is_open (of_atom node.literals a) ≡ true → decides node a true ≡ false → up_so ≡ decides node a false → up_so ≡ is_forced node a
+forced_second node a up_so up un_so is = is ∙ sym (ap (λ b. cond b (decides node a true || decides node a false) false) up ∙ ap (λ b. b || decides node a false) un_so)

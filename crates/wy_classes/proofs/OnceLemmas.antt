@@ -1,0 +1,117 @@
+-- Terms listed once each, and the first that passes a test.
+use Rattle.std.proofs.Common.{◌≡◌, ◌<◌, ◌||◌, ℕ, zero, suc, arith, Bool, true, false, cond, eqb, List, [], ◌∷◌, ◌++◌, map, Option, Some, None, refl, sym, ap, subst, ◌∙◌}
+use Rattle.std.specs.List.{list_any}
+use Rattle.wy_judge.specs.Node.{has_formula}
+use Rattle.wy_judging.proofs.NameLemmas.{NamesOnce}
+use Rattle.wy_judging.specs.Seen.{AreBelow}
+use Rattle.wy_search.specs.Splitting.{or_else}
+use Rattle.wy_classes.specs.Once.{first_by, once}
+use Rattle.wy_term.proofs.SameLemmas.{terms_are}
+use Rattle.wy_term.specs.Same.{same_term}
+use Rattle.wy_term.specs.Term.{Term}
+
+-- ---- one list behind another
+
+abbrev pub with_one : List Term → Term → List Term
+with_one done t = cond (has_formula done t) done (done ++ t ∷ [])
+
+pub once_joined : (done xs ys : List Term) → once done (xs ++ ys) ≡ once (once done xs) ys
+once_joined done [] ys = refl
+once_joined done (x ∷ xs) ys = once_joined (with_one done x) xs ys
+
+-- ---- the first that passes
+
+or_none : (o : Option Term) → or_else o None ≡ o
+or_none None = refl
+or_none (Some a) = refl
+
+or_joined : (o p q : Option Term) → or_else (or_else o p) q ≡ or_else o (or_else p q)
+or_joined None p q = refl
+or_joined (Some a) p q = refl
+
+abbrev chosen : Bool → Term → Option Term → Option Term
+chosen b t o = cond b (Some t) o
+
+first_joined : (test : Term → Bool) (xs ys : List Term) → first_by test (xs ++ ys) ≡ or_else (first_by test xs) (first_by test ys)
+first_joined test [] ys = refl
+first_joined test (x ∷ xs) ys = by (first_joined test xs ys) (test x)
+  where
+    by : first_by test (xs ++ ys) ≡ or_else (first_by test xs) (first_by test ys) → (b : Bool) → chosen b x (first_by test (xs ++ ys)) ≡ or_else (chosen b x (first_by test xs)) (first_by test ys)
+    by rest true = refl
+    by rest false = rest
+
+first_of_one : (test : Term → Bool) (t : Term) (o : Option Term) → or_else (first_by test (t ∷ [])) o ≡ chosen (test t) t o
+first_of_one test t o = by (test t)
+  where
+    by : (b : Bool) → or_else (chosen b t None) o ≡ chosen b t o
+    by true = refl
+    by false = refl
+
+some_none : (t : Term) (P : Type 0) → Some t ≡ None → P
+some_none t P e = absurd (cc)
+
+-- a term that is listed doesn't pass where none does
+not_passed : (test : Term → Bool) (done : List Term) (t : Term) → has_formula done t ≡ true → first_by test done ≡ None → test t ≡ false
+not_passed test [] t has none = absurd (cc)
+not_passed test (g ∷ gs) t has none = by (not_passed test gs t) (same_term g t) refl has (test g) refl none
+  where
+    by : (has_formula gs t ≡ true → first_by test gs ≡ None → test t ≡ false) → (b : Bool) → same_term g t ≡ b → cond b true (has_formula gs t) ≡ true → (c : Bool) → test g ≡ c → chosen c g (first_by test gs) ≡ None → test t ≡ false
+    by rest b same here true passes nothing = some_none g (test t ≡ false) nothing
+    by rest true same here false fails nothing = ap test (sym (terms_are g t same)) ∙ fails
+    by rest false same here false fails nothing = rest here nothing
+
+known : (test : Term → Bool) (done : List Term) (t : Term) (rest o : Option Term) → first_by test done ≡ o → has_formula done t ≡ true → or_else o rest ≡ or_else o (chosen (test t) t rest)
+known test done t rest (Some a) is has = refl
+known test done t rest None is has = ap (λ (b : Bool). chosen b t rest) (sym (not_passed test done t has is))
+
+-- by whether the term is listed already
+listed_or : (test : Term → Bool) (done : List Term) (t : Term) (ts : List Term) → ((d : List Term) → first_by test (once d ts) ≡ or_else (first_by test d) (first_by test ts))
+    → (b : Bool) → has_formula done t ≡ b → first_by test (once (cond b done (done ++ t ∷ [])) ts) ≡ or_else (first_by test done) (chosen (test t) t (first_by test ts))
+listed_or test done t ts rest true has = rest done ∙ known test done t (first_by test ts) (first_by test done) refl has
+listed_or test done t ts rest false has =
+    rest (done ++ t ∷ [])
+    ∙ ap (λ (o : Option Term). or_else o (first_by test ts)) (first_joined test done (t ∷ []))
+    ∙ or_joined (first_by test done) (first_by test (t ∷ [])) (first_by test ts)
+    ∙ ap (or_else (first_by test done)) (first_of_one test t (first_by test ts))
+
+pub first_once : (test : Term → Bool) (done xs : List Term) → first_by test (once done xs) ≡ or_else (first_by test done) (first_by test xs)
+first_once test done [] = sym (or_none (first_by test done))
+first_once test done (t ∷ ts) = listed_or test done t ts (λ d. first_once test d ts) (has_formula done t) refl
+
+-- ---- numbers that name the terms
+
+pub among : (at : ℕ → Term) (n : ℕ) → NamesOnce at n → (ks : List ℕ) (k : ℕ) → AreBelow n ks → k < n → has_formula (map at ks) (at k) ≡ list_any (eqb k) ks
+among at n one [] k below lt = refl
+among at n one (j ∷ js) k below lt =
+    ap (λ (b : Bool). cond b true (has_formula (map at js) (at k))) (sym (one j k (below 0 j (omega arith)) lt))
+    ∙ ap (λ (b : Bool). cond (eqb k j) true b) (among at n one js k (λ i d l. below (suc i) d (omega (arith, l))) lt)
+    ∙ as_or (eqb k j) (list_any (eqb k) js)
+  where
+    as_or : (a b : Bool) → cond a true b ≡ (a || b)
+    as_or true b = refl
+    as_or false b = refl
+
+map_last : (at : ℕ → Term) (ks : List ℕ) (k : ℕ) → map at (ks ++ k ∷ []) ≡ map at ks ++ at k ∷ []
+map_last at [] k = refl
+map_last at (j ∷ js) k = ap (λ ts. at j ∷ ts) (map_last at js k)
+
+pub noted : (at : ℕ → Term) (n : ℕ) → NamesOnce at n → (ks js : List ℕ) (k : ℕ) → AreBelow n ks → k < n → js ≡ cond (list_any (eqb k) ks) ks (ks ++ k ∷ []) → map at js ≡ once (map at ks) (at k ∷ [])
+noted at n one ks js k below lt is =
+    ap (map at) is ∙ by (list_any (eqb k) ks) ∙ ap (λ (b : Bool). cond b (map at ks) (map at ks ++ at k ∷ [])) (sym (among at n one ks k below lt))
+  where
+    by : (b : Bool) → map at (cond b ks (ks ++ k ∷ [])) ≡ cond b (map at ks) (map at ks ++ at k ∷ [])
+    by true = refl
+    by false = map_last at ks k
+
+below_last : (n : ℕ) (k : ℕ) → k < n → (xs : List ℕ) → AreBelow n xs → AreBelow n (xs ++ k ∷ [])
+below_last n k lt [] b zero d l = lt
+below_last n k lt [] b (suc i) d l = absurd (omega (arith, l))
+below_last n k lt (x ∷ xs) b zero d l = b 0 d (omega arith)
+below_last n k lt (x ∷ xs) b (suc i) d l = below_last n k lt xs (λ j e m. b (suc j) e (omega (arith, m))) i d (omega (arith, l))
+
+pub noted_below : (n : ℕ) (ks js : List ℕ) (k : ℕ) → AreBelow n ks → k < n → js ≡ cond (list_any (eqb k) ks) ks (ks ++ k ∷ []) → AreBelow n js
+noted_below n ks js k below lt is = subst (AreBelow n) (sym is) (by (list_any (eqb k) ks))
+  where
+    by : (b : Bool) → AreBelow n (cond b ks (ks ++ k ∷ []))
+    by true = below
+    by false = below_last n k lt ks below

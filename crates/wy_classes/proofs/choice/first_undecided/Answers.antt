@@ -1,0 +1,16 @@
+use Rattle.std.proofs.Common.{◌≡◌, ◌∙◌, ℕ, List, [], ap, map, rules}
+use Rattle.wy_judging.specs.Seen.{seen_branch}
+use Rattle.wy_search.specs.Splitting.{atoms_in}
+use Rattle.wy_classes.proofs.FirstLemmas.{once_undecided}
+use Rattle.wy_classes.proofs.choice.first_undecided.Goals as goal
+use Rattle.wy_classes.specs.Once.{first_by, once, undecided}
+use Rattle.wy_term.specs.Nodes.{tree_at}
+
+pub returns-clause-value : goal.returns-clause-value
+returns-clause-value c =
+    let at = tree_at c.args.terms.now in
+    let node = seen_branch at c.args.branch.now in
+    let nothing : c.new-found.result.keys ≡ [] = search rules in
+    c.undecided_in.ensures.value
+    ∙ ap (first_by (undecided node)) (c.in_ok-list_atoms.ensures.value ∙ ap (λ (ks : List ℕ). once (map at ks) (atoms_in (at c.args.f))) nothing)
+    ∙ once_undecided node (atoms_in (at c.args.f))

@@ -1,0 +1,16 @@
+use Rattle.std.proofs.Common.{length, map}
+use Rattle.wy_judging.proofs.BranchLemmas.{over_get}
+use Rattle.wy_classes.proofs.FirstLemmas.{atoms_behind}
+use Rattle.wy_classes.proofs.choice.pending_atoms.Goals as goal
+use Rattle.wy_term.specs.Nodes.{tree_at}
+
+pub list_atoms-requires-clause-formula : goal.list_atoms-requires-clause-formula
+list_atoms-requires-clause-formula c = over_get (length c.args.terms.now) c.args.branch.now.pending.keys c.loop-i.i c.pending_at-f.result c.requires.pending c.pending_at-f.ensures
+
+pub loop-i-preserved : goal.loop-i-preserved
+loop-i-preserved c =
+    let at = tree_at c.args.terms.now in
+    record {
+      left = atoms_behind at c.args.branch.now.pending.keys c.loop-i.i c.pending_at-f.result (map at c.loop-i.found.keys) (map at c.list_atoms.new.found.keys) _ c.pending_at-f.ensures c.loop-i.invariant.left c.in_ok-list_atoms.ensures.value;
+      below = c.in_ok-list_atoms.ensures.below;
+    }

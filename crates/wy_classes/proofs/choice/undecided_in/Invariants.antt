@@ -1,0 +1,10 @@
+use Rattle.std.proofs.Common.{◌≡◌, drop, map}
+use Rattle.wy_judging.specs.Seen.{seen_branch}
+use Rattle.wy_classes.proofs.choice.undecided_in.Given as goal
+use Rattle.wy_classes.specs.Once.{first_by, undecided}
+use Rattle.wy_term.specs.Nodes.{tree_at}
+
+-- none so far is undecided
+abbrev pub invariant-loop-i : goal.invariant-loop-i
+invariant-loop-i l =
+    first_by (undecided (seen_branch (tree_at l.terms) l.branch)) (map (tree_at l.terms) (drop l.i l.found.keys)) ≡ first_by (undecided (seen_branch (tree_at l.terms) l.branch)) (map (tree_at l.terms) l.found.keys)

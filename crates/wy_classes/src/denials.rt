@@ -1,0 +1,85 @@
+//! Denied equations inside a class, and different constants in one.
+ghost use Rattle.std.specs.Prelude.{◌≡◌, ◌<◌, length};
+ghost use Rattle.wy_classes.specs.Seen.{terms_of, IsPresent};
+ghost use Rattle.wy_classes.specs.Pairs.{apart_in_class};
+ghost use Rattle.wy_judging.specs.Seen.{IsBranch, seen_branch};
+ghost use Rattle.wy_search.specs.Classes as classes;
+ghost use Rattle.wy_term.specs.Nodes.{tree_at};
+
+use crate::places::in_one_class;
+use crate::present::Present;
+use wy_judging::{Branch, nth_literal};
+use wy_splits::{are_apart, constant_at};
+use wy_term::{Node, Terms};
+
+// Whether this is a denied equation inside a class.
+fn denies_equal(terms: &Terms, present: &Present, labels: &[u32], atom: u32, holds: bool) -> bool
+    requires atom { atom < length terms.now }
+    requires present { IsPresent terms.now present.now }
+    ensures { result ≡ classes.denies_equal (terms_of (tree_at terms.now) present.now) labels.now holds (tree_at terms.now atom) }
+{
+    if holds {
+        return false;
+    }
+    match terms.node(atom) {
+        Node::Equal(v, w) => in_one_class(terms, present, labels, *v, *w),
+        _ => false,
+    }
+}
+
+/// Whether a literal is a denied equation inside a class, in time linear in the number of literals.
+pub fn any_denies(terms: &Terms, branch: &Branch, present: &Present, labels: &[u32]) -> bool
+    requires branch { IsBranch terms.now branch.now }
+    requires present { IsPresent terms.now present.now }
+    ensures { result ≡ classes.any_denies (terms_of (tree_at terms.now) present.now) labels.now (seen_branch (tree_at terms.now) branch.now).literals }
+{
+    for i in 0..branch.literals.len() {
+        let (atom, holds) = nth_literal(terms, branch, i);
+        if denies_equal(terms, present, labels, atom, holds) {
+            return true;
+        }
+    }
+    false
+}
+
+// Whether two terms are different constants in one class.
+fn are_clashing(terms: &Terms, present: &Present, labels: &[u32], s: u32, t: u32) -> bool
+    requires first { s < length terms.now }
+    requires second { t < length terms.now }
+    requires present { IsPresent terms.now present.now }
+    ensures { result ≡ apart_in_class (terms_of (tree_at terms.now) present.now) labels.now (tree_at terms.now s) (tree_at terms.now t) }
+{
+    let c = constant_at(terms, s);
+    let d = constant_at(terms, t);
+    if !are_apart(c, d) {
+        return false;
+    }
+    in_one_class(terms, present, labels, s, t)
+}
+
+// Whether one of the terms is another constant than this one, in its class.
+fn constants_apart(terms: &Terms, present: &Present, labels: &[u32], s: u32) -> bool
+    requires term { s < length terms.now }
+    requires present { IsPresent terms.now present.now }
+    ensures { result ≡ classes.constants_apart (terms_of (tree_at terms.now) present.now) labels.now (tree_at terms.now s) (terms_of (tree_at terms.now) present.now) }
+{
+    for i in 0..present.numbers.len() {
+        if are_clashing(terms, present, labels, s, present.numbers[i]) {
+            return true;
+        }
+    }
+    false
+}
+
+/// Whether two different constants are in one class. It compares each term with each.
+pub fn any_apart(terms: &Terms, present: &Present, labels: &[u32]) -> bool
+    requires { IsPresent terms.now present.now }
+    ensures { result ≡ classes.any_apart (terms_of (tree_at terms.now) present.now) labels.now (terms_of (tree_at terms.now) present.now) }
+{
+    for i in 0..present.numbers.len() {
+        if constants_apart(terms, present, labels, present.numbers[i]) {
+            return true;
+        }
+    }
+    false
+}

@@ -1,0 +1,195 @@
+//! The walk through a node.
+ghost use Rattle.std.specs.Prelude.{◌≡◌, ◌<◌, ◌++◌, [], ◌∷◌, false, true, length, map, IfOk, OnOk};
+ghost use Rattle.wy_judging.specs.Seen.{IsBare, IsBranch, seen_branch, seen_formula};
+ghost use Rattle.wy_search.specs.Standing as search;
+ghost use Rattle.wy_classes.specs.Marks.{is_any_bound, listed_unless};
+ghost use Rattle.wy_classes.specs.Walk.{AreTasks, IsWalk, is_quantifier, leads, leads_from, list_of, of_literals, of_pending, tasks_of, visits};
+ghost use Rattle.wy_classes.specs.declared.task.Task.TheVariants.{Visit, Bind, Leave};
+ghost use Rattle.wy_term.specs.Nodes.{plain, tree_at};
+ghost use Rattle.wy_term.specs.Scope.{free_names};
+
+use crate::caught::is_caught;
+use crate::task::Task;
+use std::collections::VecDeque;
+use wy_judging::{Branch, add_pending, bare, nth_literal, pending_at};
+use wy_subst::parts_of;
+use wy_term::{NoMemory, Node, Terms};
+
+// What is listed, the quantifiers around, outermost first, and what is still to be done, next first. What is listed is kept
+// as the pending formulas of a node.
+#[derive(Drop)]
+struct Walk {
+    found: Branch,
+    around: Vec<u32>,
+    tasks: VecDeque<Task>,
+}
+
+// Whether a node is a quantifier.
+fn is_quantifier(node: &Node) -> bool
+    ensures { result ≡ is_quantifier (plain node.now).symbol }
+{
+    match node {
+        Node::All(_) | Node::Some(_) => true,
+        _ => false,
+    }
+}
+
+// The term as it stands in a node: a denial by the formula that it denies.
+fn bare_form(terms: &Terms, k: u32) -> (u32, bool)
+    requires { k < length terms.now }
+    ensures value { seen_formula (tree_at terms.now) result ≡ tree_at terms.now k }
+    ensures below { result.0 < length terms.now }
+    ensures bare { IsBare (tree_at terms.now) result }
+{
+    match terms.node(k) {
+        Node::Not(f) => (*f, false),
+        _ => (k, true),
+    }
+}
+
+// Lists a term, unless it is listed or one of its free names is bound here.
+fn list(terms: &Terms, walk: &mut Walk, k: u32, holds: bool) -> Result<(), NoMemory>
+    requires term { k < length terms.now }
+    requires walk { IsWalk terms.now walk.old }
+    requires bare { IsBare (tree_at terms.now) (k, holds) }
+    ensures value { OnOk result (list_of (tree_at terms.now) walk.new ≡ listed_unless (is_any_bound (map (tree_at terms.now) walk.old.around.items) (free_names (seen_formula (tree_at terms.now) (k, holds)))) (list_of (tree_at terms.now) walk.old) (seen_formula (tree_at terms.now) (k, holds))) }
+    ensures around { walk.new.around ≡ walk.old.around }
+    ensures tasks { walk.new.tasks ≡ walk.old.tasks }
+    ensures walk { OnOk result (IsWalk terms.now walk.new) }
+{
+    if is_caught(terms, &walk.around, k)? {
+        return Ok(());
+    }
+    add_pending(terms, &mut walk.found, k, holds)
+}
+
+// These terms next.
+fn with_parts(tasks: &mut VecDeque<Task>, parts: &[u32]) -> Result<(), NoMemory>
+    ensures { OnOk result (tasks.new.items ≡ visits parts.now ++ tasks.old.items) }
+{
+    let mut left = parts.len();
+    while left > 0 {
+        left -= 1;
+        tasks.push_front(Task::Visit(parts[left], true))?;
+    }
+    Ok(())
+}
+
+// The bounds of a quantifier next, and its body, in which its name is bound.
+fn with_range(tasks: &mut VecDeque<Task>, q: u32, parts: &[u32]) -> Result<(), NoMemory>
+    requires { length parts.now ≡ 3 }
+    ensures { OnOk result (tasks.new.items ≡ tasks_of q parts.now ++ tasks.old.items) }
+{
+    tasks.push_front(Task::Leave)?;
+    tasks.push_front(Task::Visit(parts[2], true))?;
+    tasks.push_front(Task::Bind(q))?;
+    tasks.push_front(Task::Visit(parts[1], true))?;
+    tasks.push_front(Task::Visit(parts[0], true))?;
+    Ok(())
+}
+
+// Lists a term, and goes into its parts.
+fn visit(terms: &Terms, walk: &mut Walk, k: u32) -> Result<(), NoMemory>
+    requires term { k < length terms.now }
+    requires walk { IsWalk terms.now walk.old }
+    ensures value { OnOk result (leads (tree_at terms.now) walk.new ≡ leads_from (tree_at terms.now) walk.old (Visit k true)) }
+    ensures walk { OnOk result (IsWalk terms.now walk.new) }
+{
+    let (f, holds) = bare_form(terms, k);
+    list(terms, walk, f, holds)?;
+    let node = terms.node(k);
+    let parts = parts_of(terms.allocator(), node)?;
+    if is_quantifier(node) {
+        with_range(&mut walk.tasks, k, &parts)
+    } else {
+        with_parts(&mut walk.tasks, &parts)
+    }
+}
+
+// Lists the denial of a formula, and goes into the formula.
+fn visit_denied(terms: &Terms, walk: &mut Walk, k: u32) -> Result<(), NoMemory>
+    requires term { k < length terms.now }
+    requires walk { IsWalk terms.now walk.old }
+    ensures value { OnOk result (leads (tree_at terms.now) walk.new ≡ leads_from (tree_at terms.now) walk.old (Visit k false)) }
+    ensures walk { OnOk result (IsWalk terms.now walk.new) }
+{
+    list(terms, walk, k, false)?;
+    walk.tasks.push_front(Task::Visit(k, true))?;
+    Ok(())
+}
+
+// The atoms of the literals are to be visited, in order.
+fn literal_tasks(terms: &Terms, branch: &Branch) -> Result<VecDeque<Task>, NoMemory>
+    requires { IsBranch terms.now branch.now }
+    ensures value { IfOk result (λ ts. ts.items ≡ of_literals branch.now.literals.keys) }
+{
+    let mut tasks = VecDeque::new(terms.allocator());
+    for i in 0..branch.literals.len() {
+        let (a, _) = nth_literal(terms, branch, i);
+        tasks.push_back(Task::Visit(a, true))?;
+    }
+    Ok(tasks)
+}
+
+// All that is to be done at first: the literals in order, and then the pending formulas.
+fn first_tasks(terms: &Terms, branch: &Branch) -> Result<VecDeque<Task>, NoMemory>
+    requires { IsBranch terms.now branch.now }
+    ensures value { IfOk result (λ ts. ts.items ≡ of_literals branch.now.literals.keys ++ of_pending branch.now.pending.keys) }
+{
+    let mut tasks = literal_tasks(terms, branch)?;
+    for i in 0..branch.pending.len() {
+        let (f, holds) = pending_at(branch, i);
+        tasks.push_back(Task::Visit(f, holds))?;
+    }
+    Ok(tasks)
+}
+
+// Does one thing.
+fn step(terms: &Terms, walk: &mut Walk, task: Task) -> Result<(), NoMemory>
+    requires task { AreTasks (length terms.now) (task ∷ []) }
+    requires walk { IsWalk terms.now walk.old }
+    ensures value { OnOk result (leads (tree_at terms.now) walk.new ≡ leads_from (tree_at terms.now) walk.old task) }
+    ensures walk { OnOk result (IsWalk terms.now walk.new) }
+{
+    match task {
+        Task::Visit(k, holds) => {
+            if holds {
+                visit(terms, walk, k)
+            } else {
+                visit_denied(terms, walk, k)
+            }
+        }
+        Task::Bind(q) => {
+            walk.around.push(q)?;
+            Ok(())
+        }
+        Task::Leave => {
+            walk.around.pop();
+            Ok(())
+        }
+    }
+}
+
+/// The terms and formulas that stand in a node without bound names, those of the literals in order and then those of the
+/// pending formulas, a term before its parts, each once: as the pending formulas of a node that has no literals.
+///
+/// It goes through the literals and formulas as trees, and takes time in their size; below quantifiers, each term's size
+/// besides for each quantifier around it.
+pub fn standing(terms: &Terms, branch: &Branch) -> Result<Branch, NoMemory>
+    requires { IsBranch terms.now branch.now }
+    ensures value { IfOk result (λ b. (seen_branch (tree_at terms.now) b).pending ≡ search.standing (seen_branch (tree_at terms.now) branch.now)) }
+    ensures branch { IfOk result (IsBranch terms.now) }
+{
+    let mut walk = Walk {
+        found: bare(terms.allocator()),
+        around: Vec::new(terms.allocator()),
+        tasks: first_tasks(terms, branch)?,
+    };
+    for _turn in 0..u64::MAX {
+        match walk.tasks.pop_front() {
+            Some(task) => step(terms, &mut walk, task)?,
+            None => return Ok(walk.found),
+        }
+    }
+    Err(NoMemory)
+}

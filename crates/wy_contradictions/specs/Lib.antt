@@ -1,3 +1,0 @@
--- what functions inside owe each other
-pub mod Kinded
-pub mod Pairs

@@ -1,2 +1,0 @@
--- lists in which each term stands once
-pub mod Once
