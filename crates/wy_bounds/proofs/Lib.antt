@@ -6,3 +6,7 @@ pub mod TakingLemmas
 pub mod SumLemmas
 -- what is left of forms
 pub mod GatherLemmas
+pub mod AddingLemmas
+pub mod QuotientLemmas
+pub mod BoundLemmas
+pub mod ProductLemmas

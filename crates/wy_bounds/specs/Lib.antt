@@ -2,3 +2,7 @@
 pub mod Seen
 -- what functions inside owe each other
 pub mod Gathered
+-- what public contracts cite
+pub mod Bounds
+-- what functions inside owe each other
+pub mod Adding

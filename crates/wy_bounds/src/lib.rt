@@ -4,16 +4,25 @@
 //! the variables away that aren't the first of their class, and `sums` adds them up; `replacing` gives what is left of a form.
 //! `gathering` does so for each literal, and `ending` eliminates the variables of what is left. The definition is that of
 //! `wy_search`.
+//!
+//! The products of bounds that a round of expansion adds to a node.
+//!
+//! `tightest` finds, for a factor of a product, the literal that is its tightest lower or upper bound. `products` lists what the
+//! product of each such bound of the one factor with each of the other states. The definition is that of `wy_search`.
 #![tactic(auto)]
 
 mod ending;
 mod forms;
 mod gathering;
+mod products;
 mod removal;
 mod replacing;
 mod sums;
+mod tightest;
 
 pub use ending::{Ending, ending_of_elimination};
 pub use forms::numbered;
+pub use products::{Bounds, bounds_of, products_of};
 pub use removal::{Taking, takings};
 pub use replacing::{Replaced, replace};
+pub use tightest::Bound;

@@ -3,7 +3,7 @@ ghost use Rattle.std.specs.Prelude.{◌<◌, IfSome, length};
 ghost use Rattle.wy_facts.specs.Seen.{Stays};
 ghost use Rattle.wy_judging.specs.Seen.{IsBranch};
 
-use wy_bound_products::{Bound, Bounds, bounds_of};
+use wy_bounds::{Bound, Bounds, bounds_of};
 use wy_classes::standing;
 use wy_explaining::{Action, Named};
 use wy_judging::{Branch, literal_at, pending_at};

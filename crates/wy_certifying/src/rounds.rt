@@ -7,7 +7,7 @@ ghost use Rattle.wy_judging.specs.Seen.{IsBranch};
 
 use crate::facts::push_facts;
 use crate::products::push_products;
-use wy_bound_products::products_of;
+use wy_bounds::products_of;
 use wy_explaining::{Action, Named};
 use wy_instances::{Spot, index_terms, with_instances, with_witnesses};
 use wy_judging::{Branch, add_all, has_literal, nth_literal};

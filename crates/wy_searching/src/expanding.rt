@@ -9,7 +9,7 @@ ghost use Rattle.wy_searching.specs.Turns.{index_terms_in};
 ghost use Rattle.wy_term.specs.Condition.{condition_of};
 ghost use Rattle.wy_term.specs.Nodes.{tree_at};
 
-use wy_bound_products::products_of;
+use wy_bounds::products_of;
 use wy_instances::{Spot, index_terms, with_instances, with_witnesses};
 use wy_judging::{Branch, add_all};
 use wy_stated_facts::facts_of;

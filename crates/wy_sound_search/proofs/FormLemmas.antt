@@ -15,7 +15,7 @@ use Rattle.wy_lin.proofs.WorthLemmas.{worth-combined}
 use Rattle.wy_eliminate.specs.Division.{quotient, common, with_divided, divided_from, lowered}
 use Rattle.wy_eliminate.specs.Validity.{divides, is_bare}
 use Rattle.wy_eliminate.proofs.ValidityLemmas.{common-divides, common-bare}
-use Rattle.wy_bound_products.proofs.QuotientLemmas.{quotient_more, times_opposite}
+use Rattle.wy_bounds.proofs.QuotientLemmas.{quotient_more, times_opposite}
 use Rattle.wy_sound_certificates.proofs.Basics.{and_both}
 use Rattle.wy_sound_certificates.proofs.FormLemmas.{int_eq_is}
 use Rattle.wy_sound_search.specs.Closed.{IsNatural, AreNatural}

@@ -1,4 +1,0 @@
-pub mod AddingLemmas
-pub mod QuotientLemmas
-pub mod BoundLemmas
-pub mod ProductLemmas

@@ -1,4 +1,0 @@
--- what public contracts cite
-pub mod Bounds
--- what functions inside owe each other
-pub mod Adding

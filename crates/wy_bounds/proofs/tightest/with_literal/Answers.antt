@@ -1,0 +1,41 @@
+use Rattle.std.proofs.Common.{◌≡◌, ◌∙◌, FitsSigned, Option, Some, None, ap, rules, subst, sym, length}
+use Rattle.std.proofs.lemmas.Int.{to_z-of_z}
+use Rattle.std.specs.Int.{w128}
+use Rattle.std.specs.Prelude.{option_map}
+use Rattle.wy_bounds.proofs.BoundLemmas.{affine_size, no_form, some_form}
+use Rattle.wy_bounds.proofs.tightest.with_literal.Goals as goal
+use Rattle.wy_judging.specs.Seen.{seen_branch}
+use Rattle.wy_lin.specs.Linear.{Linear}
+use Rattle.wy_lin.specs.Seen.{seen_form}
+use Rattle.wy_checking.specs.Seen.{AreAffine}
+use Rattle.wy_judging.proofs.FormLemmas.{form_kept, form_up}
+use Rattle.wy_term.specs.Nodes.{tree_at}
+use Rattle.wy_term.specs.Term.{Term}
+use Rattle.wy_valid.specs.Products.{affine}
+
+pub relation-requires-clause-first : goal.relation-requires-clause-first
+relation-requires-clause-first c = form_up (length c.args.terms.now) (length c.form_at.new.terms) c.args.form.now c.in_ok-h.ensures.stays.grows c.requires.form
+
+pub with_bound-requires : goal.with_bound-requires
+with_bound-requires c = affine_size c.in_ok-x-in-Some.x _ c.in_ok-x-in-Some.ensures
+
+pub returns-in_ok-x-in-Some-clause-value : goal.returns-in_ok-x-in-Some-clause-value
+returns-in_ok-x-in-Some-clause-value c = λ given are.
+    let old = tree_at c.args.terms.now in
+    let new = tree_at c.form_at.new.terms in
+    let ls = (seen_branch old c.args.branch.now).literals in
+    let f = seen_form old c.args.form.now in
+    let h = seen_form new c.in-Some.h in
+    let here = sym c.in_ok-h.ensures.value ∙ ap (option_map (seen_form new)) c.in-Some.is in
+    let fits : FitsSigned w128 c.in-Some.h.constant = search rules in
+    let kept = form_kept c.args.terms.now c.form_at.new.terms c.args.form.now c.in_ok-h.ensures.stays c.requires.form in
+    some_form ls c.in_ok-number.number c.args.i f h c.args.below c.with_bound.result given c.in_ok-number.ensures here
+    (c.with_bound.ensures ls f h given here (sym (to_z-of_z w128 c.in-Some.h.constant fits)) (subst (λ (e : Linear Term). AreAffine c.in_ok-x-in-Some.x (affine e h)) kept c.in_ok-x-in-Some.ensures) are)
+
+pub returns-in-None-clause-value : goal.returns-in-None-clause-value
+returns-in-None-clause-value c = λ given are.
+    let old = tree_at c.args.terms.now in
+    let new = tree_at c.form_at.new.terms in
+    let ls = (seen_branch old c.args.branch.now).literals in
+    let here = sym c.in_ok-h.ensures.value ∙ ap (option_map (seen_form new)) c.in-None.is in
+    no_form ls c.in_ok-number.number c.args.i (seen_form old c.args.form.now) c.args.below c.args.best given c.in_ok-number.ensures here are

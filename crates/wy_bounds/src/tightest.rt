@@ -1,0 +1,143 @@
+//! The tightest bounds of a factor.
+ghost use Rattle.std.specs.Prelude.{◌≡◌, ◌<◌, ◌^◌, ◌/◌, ◌+◌, ◌-ℤ◌, ◌*ℤ◌, pos, Bool, ℤ, List, Option, None, Some, length, map, IfOk, IfSome};
+ghost use Rattle.wy_bounds.specs.Bounds.{AreBounds};
+ghost use Rattle.wy_facts.specs.Seen.{Stays};
+ghost use Rattle.wy_judge.specs.Node.{Literal};
+ghost use Rattle.wy_judging.specs.Seen.{seen_branch, IsBranch};
+ghost use Rattle.wy_lin.specs.Linear.{◌>>=◌ as bind, Linear};
+ghost use Rattle.wy_lin.specs.Seen.{linear_form, seen_form, IsOver};
+ghost use Rattle.wy_checking.specs.Seen.{AreAffine};
+ghost use Rattle.wy_search.specs.Expansion as search;
+ghost use Rattle.wy_term.specs.Data.{quotient_down};
+ghost use Rattle.wy_term.specs.Nodes.{tree_at};
+ghost use Rattle.wy_term.specs.Term.{Term};
+ghost use Rattle.wy_valid.specs.Products.{affine, Affine as Factors};
+ghost use Rattle.wy_valid.specs.Sums.{form_at};
+
+use wy_checking::{Affine, relation};
+use wy_judging::{Branch, form_at};
+use wy_lin::Form;
+use wy_term::{NoMemory, Terms};
+
+/// The literal, by its number, that is a bound of a factor, and where it stops but for what all bounds of the factor on this
+/// side have in common.
+#[derive(Clone, Copy, Debug, PartialEq, Eq)]
+pub struct Bound {
+    pub number: u32,
+    pub at: i128,
+}
+
+// The quotient of two natural numbers.
+fn natural_quotient(n: u128, d: u128) -> i128
+    requires divisor { 0 < d }
+    requires fits { n < 2 ^ 127 }
+    ensures { result ≡ pos (n / d) }
+{
+    (n / d) as i128
+}
+
+// The quotient of a number by one above 0, rounded down.
+fn quotient(c: i128, d: u128) -> i128
+    requires { 0 < d }
+    ensures { result ≡ quotient_down c d }
+{
+    if c >= 0 {
+        natural_quotient(c as u128, d)
+    } else {
+        -1 - natural_quotient((-1 - c) as u128, d)
+    }
+}
+
+// The tighter one, the first of equals.
+fn tighter(best: Option<Bound>, one: Bound) -> Option<Bound>
+    ensures { (ls : List Literal) (f : Linear Term) (below : Bool) (given : Option (Factors × ℤ)) (y : Factors) (at : ℤ) → AreBounds ls f below best given → AreBounds ls f below (Some one) (Some (y, at)) → AreBounds ls f below result (search.tighter given y at) }
+{
+    match best {
+        Some(b) => { if one.at < b.at { Some(one) } else { Some(b) } }
+        None => Some(one),
+    }
+}
+
+// With what a literal, whose form has this constant, is of the factor.
+fn with_bound(
+    below: bool,
+    best: Option<Bound>,
+    number: u32,
+    constant: i128,
+    x: Option<Affine>,
+) -> Option<Bound>
+    requires { IfSome x (λ a. 0 < a.factor.size) }
+    ensures { (ls : List Literal) (f h : Linear Term) (given : Option (Factors × ℤ)) → form_at ls number ≡ Some h → h.constant ≡ constant → AreAffine x (affine f h) → AreBounds ls f below best given → AreBounds ls f below result (search.with_bound below given (affine f h)) }
+{
+    let Some(a) = x else {
+        return best;
+    };
+    if a.factor.negative == below {
+        return best;
+    }
+    tighter(
+        best,
+        Bound {
+            number,
+            at: quotient(constant, a.factor.size),
+        },
+    )
+}
+
+// The number of the literal with a place.
+fn literal_number(i: usize) -> Result<u32, NoMemory>
+    ensures { IfOk result (λ k. k ≡ i + 1) }
+{
+    match u32::try_from(i) {
+        Ok(k) => match k.checked_add(1) {
+            Some(number) => Ok(number),
+            None => Err(NoMemory),
+        },
+        Err(_) => Err(NoMemory),
+    }
+}
+
+// With what the literal with this place is of a factor with this form.
+fn with_literal(
+    terms: &mut Terms,
+    branch: &Branch,
+    below: bool,
+    form: &Form,
+    i: usize,
+    best: Option<Bound>,
+) -> Result<Option<Bound>, NoMemory>
+    requires branch { IsBranch terms.old branch.now }
+    requires form { IsOver (length terms.old) (linear_form form.now) }
+    requires place { i < length branch.now.literals.keys }
+    ensures value { (given : Option (Factors × ℤ)) → AreBounds (seen_branch (tree_at terms.old) branch.now).literals (seen_form (tree_at terms.old) form.now) below best given → IfOk result (λ made. AreBounds (seen_branch (tree_at terms.old) branch.now).literals (seen_form (tree_at terms.old) form.now) below made (search.with_bound below given (bind (form_at (seen_branch (tree_at terms.old) branch.now).literals (i + 1)) (λ h. affine (seen_form (tree_at terms.old) form.now) h)))) }
+    ensures stays { Stays terms.old terms.new }
+{
+    let number = literal_number(i)?;
+    match form_at(terms, branch, number)? {
+        Some(h) => {
+            let x = relation(terms, form, &h)?;
+            Ok(with_bound(below, best, number, h.constant, x))
+        }
+        None => Ok(best),
+    }
+}
+
+/// The tightest lower or upper bound of a factor with this form among the literals, the first of equals. It takes the time of
+/// `form` on each literal. Older numbers name what they named.
+pub fn bound_of(
+    terms: &mut Terms,
+    branch: &Branch,
+    below: bool,
+    form: &Form,
+) -> Result<Option<Bound>, NoMemory>
+    requires branch { IsBranch terms.old branch.now }
+    requires form { IsOver (length terms.old) (linear_form form.now) }
+    ensures value { IfOk result (λ b. AreBounds (seen_branch (tree_at terms.old) branch.now).literals (seen_form (tree_at terms.old) form.now) below b (search.best_bound below (seen_form (tree_at terms.old) form.now) None (seen_branch (tree_at terms.old) branch.now).literals)) }
+    ensures stays { Stays terms.old terms.new }
+{
+    let mut best = None;
+    for i in 0..branch.literals.len() {
+        best = with_literal(terms, branch, below, form, i, best)?;
+    }
+    Ok(best)
+}
