@@ -2,17 +2,16 @@
 ghost use Rattle.std.specs.Prelude.{◌<◌, IfOk, OnOk, length};
 ghost use Rattle.wy_facts.specs.Membership.{AreTypesBelow};
 ghost use Rattle.wy_facts.specs.Seen.{AreBelow, Stays};
-ghost use Rattle.wy_instances.specs.Seen.{IsSpot};
+ghost use Rattle.wy_stated_facts.specs.Seen.{IsSpot};
 ghost use Rattle.wy_judging.specs.Seen.{IsBranch};
 
 use crate::facts::push_facts;
 use crate::products::push_products;
 use wy_bounds::products_of;
 use wy_explaining::{Action, Named};
-use wy_instances::{Spot, index_terms, with_instances, with_witnesses};
 use wy_judging::{Branch, add_all, has_literal, nth_literal};
 use wy_splits::{of_each, of_one};
-use wy_stated_facts::facts_of;
+use wy_stated_facts::{Spot, facts_of, index_terms, with_instances, with_witnesses};
 use wy_term::{Cond, NoMemory, Terms};
 
 // ---- witnesses

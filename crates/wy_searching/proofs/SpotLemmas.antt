@@ -12,8 +12,8 @@ use Rattle.wy_judging.specs.declared.branch.Branch.{Branch}
 use Rattle.wy_judging.specs.Seen.{seen_branch, AreBare, AreOver, IsBranch}
 use Rattle.wy_judging.proofs.SumsBranchLemmas.{branch_stays, node_stays}
 use Rattle.wy_search.specs.Expansion as expansion
-use Rattle.wy_instances.specs.declared.spot.Spot.{Spot}
-use Rattle.wy_instances.specs.Seen.{seen_spot, IsSpot}
+use Rattle.wy_stated_facts.specs.declared.spot.Spot.{Spot}
+use Rattle.wy_stated_facts.specs.Seen.{seen_spot, IsSpot}
 use Rattle.wy_searching.specs.Walks.{AreSpots}
 
 abbrev pub made_spot : Node → List Literal → List Term → ℕ → expansion.Spot

@@ -10,8 +10,8 @@ use Rattle.wy_judge.specs.Node.{Literal, Node}
 use Rattle.wy_judging.specs.Seen.{seen_branch, seen_literal, AreOver}
 use Rattle.wy_search.specs.Expansion as expansion
 use Rattle.wy_search.specs.Tree as tree
-use Rattle.wy_instances.specs.declared.spot.Spot.{Spot}
-use Rattle.wy_instances.specs.Seen.{seen_spot}
+use Rattle.wy_stated_facts.specs.declared.spot.Spot.{Spot}
+use Rattle.wy_stated_facts.specs.Seen.{seen_spot}
 use Rattle.wy_searching.specs.declared.verdict.Why.{Why}
 use Rattle.wy_searching.specs.declared.verdict.Verdict.TheVariants as verdict
 use Rattle.wy_searching.specs.declared.verdict.OpenLeaf.{OpenLeaf}

@@ -12,7 +12,7 @@ use Rattle.wy_search.specs.Bounds.{ending}
 use Rattle.wy_search.specs.Classes.{clashes}
 use Rattle.wy_search.specs.Expansion as search
 use Rattle.wy_search.specs.Tree as tree
-use Rattle.wy_instances.specs.Seen.{seen_spot, IsSpot}
+use Rattle.wy_stated_facts.specs.Seen.{seen_spot, IsSpot}
 use Rattle.wy_searching.specs.declared.turning.Next.{Next}
 use Rattle.wy_searching.specs.declared.turning.Next.TheVariants as next
 use Rattle.wy_searching.specs.Seen.{seen_why}

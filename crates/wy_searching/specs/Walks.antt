@@ -5,8 +5,8 @@ use Rattle.wy_term.specs.Condition.{Condition}
 use Rattle.wy_term.specs.Nodes.{Plain}
 use Rattle.wy_search.specs.Expansion as search
 use Rattle.wy_search.specs.Tree as tree
-use Rattle.wy_instances.specs.declared.spot.Spot.{Spot}
-use Rattle.wy_instances.specs.Seen.{seen_spot, IsSpot}
+use Rattle.wy_stated_facts.specs.declared.spot.Spot.{Spot}
+use Rattle.wy_stated_facts.specs.Seen.{seen_spot, IsSpot}
 use Rattle.wy_searching.specs.declared.walk.Walk.{Walk}
 use Rattle.wy_searching.specs.declared.walk.Turned.{Turned}
 use Rattle.wy_searching.specs.declared.walk.Turned.TheVariants as turned

@@ -2,7 +2,7 @@
 ghost use Rattle.std.specs.Prelude.{◌≡◌, ◌<◌, length, map, IfOk, OnOk};
 ghost use Rattle.wy_facts.specs.Membership.{AreTypesBelow};
 ghost use Rattle.wy_facts.specs.Seen.{AreBelow, Stays};
-ghost use Rattle.wy_instances.specs.Seen.{seen_spot, IsSpot};
+ghost use Rattle.wy_stated_facts.specs.Seen.{seen_spot, IsSpot};
 ghost use Rattle.wy_judging.specs.Seen.{seen_branch, IsBranch};
 ghost use Rattle.wy_search.specs.Expansion as search;
 ghost use Rattle.wy_searching.specs.Turns.{index_terms_in};
@@ -10,9 +10,8 @@ ghost use Rattle.wy_term.specs.Condition.{condition_of};
 ghost use Rattle.wy_term.specs.Nodes.{tree_at};
 
 use wy_bounds::products_of;
-use wy_instances::{Spot, index_terms, with_instances, with_witnesses};
 use wy_judging::{Branch, add_all};
-use wy_stated_facts::facts_of;
+use wy_stated_facts::{Spot, facts_of, index_terms, with_instances, with_witnesses};
 use wy_term::{Cond, NoMemory, Terms};
 
 // The instances of the node's literals, where these are the names of witnesses.

@@ -3,7 +3,7 @@ ghost use Rattle.std.specs.Prelude.{◌≡◌, ◌<◌, ℕ, List, length, optio
 ghost use Rattle.wy_bounds.specs.Seen.{seen_ending};
 ghost use Rattle.wy_facts.specs.Membership.{AreTypesBelow};
 ghost use Rattle.wy_facts.specs.Seen.{Stays};
-ghost use Rattle.wy_instances.specs.Seen.{seen_spot, IsSpot};
+ghost use Rattle.wy_stated_facts.specs.Seen.{seen_spot, IsSpot};
 ghost use Rattle.wy_search.specs.Splitting as splitting;
 ghost use Rattle.wy_search.specs.Tree as tree;
 ghost use Rattle.wy_searching.specs.Seen.{seen_why};
@@ -17,8 +17,8 @@ use crate::verdict::Why;
 use std::alloc::Global;
 use wy_bounds::{Ending, ending_of_elimination};
 use wy_classes::{classes, classes_clash, next_atom, terms_present};
-use wy_instances::{Spot, copied_branch};
 use wy_judging::{add, is_shut};
+use wy_stated_facts::{Spot, copied_branch};
 use wy_term::{Cond, NoMemory, Terms};
 
 /// What becomes of a node.

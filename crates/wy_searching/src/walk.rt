@@ -2,7 +2,7 @@
 ghost use Rattle.std.specs.Prelude.{◌≡◌, ◌<◌, ◌≤◌, ◌++◌, [], ◌∷◌, ℕ, All, length, map, IfOk, OnOk};
 ghost use Rattle.wy_facts.specs.Membership.{AreTypesBelow};
 ghost use Rattle.wy_facts.specs.Seen.{Stays};
-ghost use Rattle.wy_instances.specs.Seen.{seen_spot, IsSpot};
+ghost use Rattle.wy_stated_facts.specs.Seen.{seen_spot, IsSpot};
 ghost use Rattle.wy_judging.specs.Seen.{seen_branch, seen_literal, AreOver, IsBranch};
 ghost use Rattle.wy_search.specs.Expansion as search;
 ghost use Rattle.wy_search.specs.Tree as tree;
@@ -15,8 +15,8 @@ ghost use Rattle.wy_term.specs.Nodes.{tree_at};
 use crate::turning::{Next, what_follows};
 use crate::verdict::{OpenLeaf, Verdict, Why};
 use std::collections::VecDeque;
-use wy_instances::Spot;
 use wy_judging::{Branch, bare, first_branch, nth_literal};
+use wy_stated_facts::Spot;
 use wy_term::{Cond, NoMemory, Terms};
 
 /// The leaves that were passed, and the nodes that are to come, next first.

@@ -1,6 +1,12 @@
+pub mod CopyLemmas
+pub mod IndexLemmas
+pub mod SpotLemmas
 pub mod AddingLemmas
 pub mod DenialLemmas
 pub mod ElementLemmas
 pub mod EquationLemmas
 pub mod KindLemmas
 pub mod SchemaLemmas
+pub mod StepSide
+pub mod SchemaSide
+pub mod SameLemmas

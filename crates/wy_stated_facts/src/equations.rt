@@ -8,7 +8,7 @@ ghost use Rattle.wy_stated_facts.specs.About.{equates, equates_in, stands_in};
 ghost use Rattle.wy_term.specs.Nodes.{tree_at};
 ghost use Rattle.wy_term.specs.Term.{Term};
 
-use crate::todo::{put_all, put_members};
+use crate::stated_facts_todo::{put_all, put_members};
 use std::collections::BTreeSet;
 use wy_judging::Branch;
 use wy_subst::parts_of;

@@ -7,7 +7,7 @@ use Rattle.wy_judge.specs.Node.{Node}
 use Rattle.wy_judging.specs.Seen.{seen_branch}
 use Rattle.wy_judging.proofs.SumsBranchLemmas.{branch_stays, node_stays}
 use Rattle.wy_search.specs.Expansion.{with_instances, with_facts, with_products}
-use Rattle.wy_instances.specs.Seen.{seen_spot}
+use Rattle.wy_stated_facts.specs.Seen.{seen_spot}
 use Rattle.wy_searching.specs.Turns.{index_terms_in}
 use Rattle.wy_searching.proofs.RoundLemmas.{round_made}
 use Rattle.wy_searching.proofs.SpotLemmas.{types_stay, types_up}

@@ -4,7 +4,7 @@ use Rattle.wy_term.specs.Condition.{condition_of}
 use Rattle.wy_facts.proofs.StepLemmas.{stays_on}
 use Rattle.wy_bounds.specs.Seen.{seen_ending}
 use Rattle.wy_judging.specs.Seen.{seen_branch}
-use Rattle.wy_instances.specs.Seen.{seen_spot}
+use Rattle.wy_stated_facts.specs.Seen.{seen_spot}
 use Rattle.wy_searching.specs.Turns.{IsEnding}
 use Rattle.wy_searching.proofs.SpotLemmas.{seen_stays, spot_stays, types_stay, types_up}
 use Rattle.wy_searching.proofs.TurnLemmas.{moved_ending, unshut_clash}

@@ -4,7 +4,7 @@ use Rattle.wy_term.specs.Nodes.{tree_at}
 use Rattle.wy_term.specs.Condition.{condition_of}
 use Rattle.wy_bounds.specs.Seen.{seen_ending}
 use Rattle.wy_search.specs.Splitting.{next_atom}
-use Rattle.wy_instances.specs.Seen.{seen_spot}
+use Rattle.wy_stated_facts.specs.Seen.{seen_spot}
 use Rattle.wy_searching.proofs.TurnLemmas.{atom_there, atom_lacking}
 use Rattle.wy_searching.proofs.turning.on_ending.Goals as goal
 

@@ -5,7 +5,7 @@ use Rattle.wy_bounds.specs.Seen.{seen_ending}
 use Rattle.wy_judging.proofs.SumsBranchLemmas.{node_stays}
 use Rattle.wy_search.specs.Expansion as expansion
 use Rattle.wy_search.specs.Tree as tree
-use Rattle.wy_instances.specs.Seen.{seen_spot}
+use Rattle.wy_stated_facts.specs.Seen.{seen_spot}
 use Rattle.wy_searching.proofs.SpotLemmas.{spot_stays}
 use Rattle.wy_searching.proofs.TurnLemmas.{no_round, round_adds, round_adds_nothing}
 use Rattle.wy_searching.proofs.turning.on_expansion.Goals as goal

@@ -1,5 +1,5 @@
 use Rattle.wy_term.specs.Nodes.{tree_at}
-use Rattle.wy_instances.specs.Seen.{seen_spot}
+use Rattle.wy_stated_facts.specs.Seen.{seen_spot}
 use Rattle.wy_searching.proofs.TurnLemmas.{both_sides}
 use Rattle.wy_searching.proofs.turning.split.Goals as goal
 

@@ -2,7 +2,7 @@ use Rattle.std.proofs.Common.{◌≡◌, ◌∙◌, true, false, refl, sym, rule
 use Rattle.wy_term.specs.Nodes.{tree_at}
 use Rattle.wy_term.specs.Condition.{condition_of}
 use Rattle.wy_search.specs.Tree as tree
-use Rattle.wy_instances.specs.Seen.{seen_spot}
+use Rattle.wy_stated_facts.specs.Seen.{seen_spot}
 use Rattle.wy_searching.specs.Turns.{unshut}
 use Rattle.wy_searching.proofs.TurnLemmas.{follows_so, next_shut, next_unshut}
 use Rattle.wy_searching.proofs.turning.what_follows.Goals as goal

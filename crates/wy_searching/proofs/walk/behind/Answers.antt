@@ -1,6 +1,6 @@
 use Rattle.std.proofs.Common.{◌+◌, refl, sym, subst, arith}
 use Rattle.wy_term.specs.Nodes.{tree_at}
-use Rattle.wy_instances.specs.Seen.{seen_spot}
+use Rattle.wy_stated_facts.specs.Seen.{seen_spot}
 use Rattle.std.proofs.Common.{map}
 use Rattle.wy_searching.specs.Turns.{IsNextOver}
 use Rattle.wy_searching.specs.Walks.{AreSpots}

@@ -1,8 +1,8 @@
 use Rattle.std.proofs.Common.{◌≡◌, ◌∙◌, List, [], ◌∷◌, map, sym, ap, subst, arith}
 use Rattle.wy_term.specs.Nodes.{tree_at}
 use Rattle.wy_search.specs.Expansion as expansion
-use Rattle.wy_instances.specs.declared.spot.Spot.{Spot}
-use Rattle.wy_instances.specs.Seen.{seen_spot}
+use Rattle.wy_stated_facts.specs.declared.spot.Spot.{Spot}
+use Rattle.wy_stated_facts.specs.Seen.{seen_spot}
 use Rattle.wy_searching.specs.Walks.{AreSpots}
 use Rattle.wy_searching.proofs.walk.first_walk.Goals as goal
 

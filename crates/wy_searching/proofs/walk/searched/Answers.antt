@@ -3,7 +3,7 @@ use Rattle.wy_term.specs.Nodes.{tree_at}
 use Rattle.wy_term.specs.Condition.{Entry, condition_of}
 use Rattle.wy_facts.proofs.StepLemmas.{stays_same, stays_on}
 use Rattle.wy_search.specs.Tree as tree
-use Rattle.wy_instances.specs.Seen.{seen_spot}
+use Rattle.wy_stated_facts.specs.Seen.{seen_spot}
 use Rattle.wy_searching.specs.Seen.{seen_verdict}
 use Rattle.wy_searching.specs.declared.walk.Turned.TheVariants as turned
 use Rattle.wy_searching.specs.Walks.{IsTurnedOver, Leads}

@@ -2,7 +2,7 @@ use Rattle.std.proofs.Common.{map}
 use Rattle.wy_term.specs.Nodes.{tree_at}
 use Rattle.wy_term.specs.Condition.{condition_of}
 use Rattle.wy_facts.specs.Seen.{Stays}
-use Rattle.wy_instances.specs.Seen.{seen_spot}
+use Rattle.wy_stated_facts.specs.Seen.{seen_spot}
 use Rattle.wy_searching.specs.Walks.{IsWalk, Reaches}
 use Rattle.wy_searching.proofs.walk.searched.Given as goal
 

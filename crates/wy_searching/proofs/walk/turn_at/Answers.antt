@@ -2,7 +2,7 @@ use Rattle.std.proofs.Common.{◌∷◌, map}
 use Rattle.wy_term.specs.Nodes.{tree_at}
 use Rattle.wy_term.specs.Condition.{condition_of}
 use Rattle.wy_search.specs.Tree as tree
-use Rattle.wy_instances.specs.Seen.{seen_spot}
+use Rattle.wy_stated_facts.specs.Seen.{seen_spot}
 use Rattle.wy_searching.proofs.SpotLemmas.{spots_stay, are_spots_stay}
 use Rattle.wy_searching.proofs.WalkLemmas.{leads_by, turn_follows, turn_spent}
 use Rattle.wy_searching.proofs.walk.turn_at.Goals as goal

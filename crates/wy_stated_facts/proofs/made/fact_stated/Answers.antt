@@ -1,6 +1,6 @@
 use Rattle.std.proofs.Common.{◌∙◌, sym}
 use Rattle.wy_facts.specs.Seen.{terms_at}
-use Rattle.wy_same_facts.proofs.SameLemmas.{same_facts}
+use Rattle.wy_stated_facts.proofs.SameLemmas.{same_facts}
 use Rattle.wy_stated_facts.proofs.made.fact_stated.Goals as goal
 use Rattle.wy_term.specs.Condition.{condition_of}
 

@@ -1,4 +1,0 @@
--- what public contracts cite
-pub mod Seen
--- what functions inside owe each other
-pub mod Indices

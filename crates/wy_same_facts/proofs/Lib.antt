@@ -1,3 +1,0 @@
-pub mod StepSide
-pub mod SchemaSide
-pub mod SameLemmas
