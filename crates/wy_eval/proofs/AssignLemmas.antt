@@ -9,9 +9,9 @@ use Rattle.wy_sem.specs.Meter.{Meter, Outcome, Done, Fault, More, Spent, Run, �
 use Rattle.wy_sem.specs.Operations as operations
 use Rattle.wy_sem.specs.Operations.{needed, updated}
 use Rattle.wy_sem.specs.Statements.{Exit, Frame, assigned, path_of, stored, type_at}
-use Rattle.wy_eval_operations.specs.declared.stop.Stop.{Stop}
-use Rattle.wy_eval_operations.specs.declared.stop.Stop.TheVariants as stop
-use Rattle.wy_eval_operations.specs.Outcomes.{stopped}
+use Rattle.wy_eval_expressions.specs.declared.stop.Stop.{Stop}
+use Rattle.wy_eval_expressions.specs.declared.stop.Stop.TheVariants as stop
+use Rattle.wy_eval_expressions.specs.Outcomes.{stopped}
 
 pub assigned_whole : (w : Setting ℕ) (fr : Frame ℕ) (at x : ℕ) (path : List Step) (v : tree.Expr ℕ) (s : Store) (m : Meter) → length path ≡ 0 → assigned w fr at x (map seen_step path) v s m ≡ (eval w true v s m >>= stored fr at x (type_at fr.types x) s)
 assigned_whole w fr at x [] v s m h = refl

@@ -9,7 +9,7 @@ use Rattle.wy_core.specs.declared.declarations.Decl.{Decl}
 use Rattle.wy_core.specs.declared.declarations.Decl.TheVariants as decl
 use Rattle.wy_core.specs.declared.declarations.Routine.{Routine}
 use Rattle.wy_sem.specs.Evaluation.{Declared, Undeclared, callee}
-use Rattle.wy_eval_scope.proofs.LoopLemmas.{next_item}
+use Rattle.wy_eval_expressions.proofs.LoopLemmas.{next_item}
 
 -- the declared functions and methods from a place on
 abbrev pub routines_from : ℕ → List Decl → List (tree.Routine ℕ)

@@ -16,13 +16,13 @@ use Rattle.wy_sem.specs.Meter.{Meter, Outcome, Done, Fault, More, Spent, Run, â—
 use Rattle.wy_sem.specs.Operations as spec
 use Rattle.wy_sem.specs.Operations.{as_fields, as_items, as_number, find, indexed, is_index, item_at, needed}
 use Rattle.wy_sem.specs.Statements.{path_of}
-use Rattle.wy_eval_operations.specs.declared.stop.Stop.{Stop}
-use Rattle.wy_eval_operations.specs.declared.stop.Stop.TheVariants as stop
-use Rattle.wy_eval_operations.specs.declared.updates.Slot.{Slot}
-use Rattle.wy_eval_operations.specs.declared.updates.Slot.TheVariants as slot
-use Rattle.wy_eval_operations.specs.Outcomes.{stopped}
-use Rattle.wy_eval_operations.specs.Parts.{IndexOf, seen_slot}
-use Rattle.wy_eval_scope.proofs.LoopLemmas.{next_item}
+use Rattle.wy_eval_expressions.specs.declared.stop.Stop.{Stop}
+use Rattle.wy_eval_expressions.specs.declared.stop.Stop.TheVariants as stop
+use Rattle.wy_eval_expressions.specs.declared.updates.Slot.{Slot}
+use Rattle.wy_eval_expressions.specs.declared.updates.Slot.TheVariants as slot
+use Rattle.wy_eval_expressions.specs.Outcomes.{stopped}
+use Rattle.wy_eval_expressions.specs.Parts.{IndexOf, seen_slot}
+use Rattle.wy_eval_expressions.proofs.LoopLemmas.{next_item}
 use Rattle.wy_eval_expressions.proofs.StepLemmas.{then_is, then_stops_plain}
 use Rattle.wy_eval.specs.Settings.{StepsTo, slots_in}
 

@@ -9,11 +9,11 @@ use Rattle.wy_sem.specs.Meter.{Meter, Done, Run, ◌>>=◌, choose, spend}
 use Rattle.wy_sem.specs.Operations.{as_truth}
 use Rattle.wy_sem.specs.Statements.{Exit, Went, Frame, go_round, rounds, tested_truth}
 use Rattle.wy_sem.specs.TypeTests.{clause_setting}
-use Rattle.wy_eval_operations.specs.declared.stop.Stop.{Stop}
-use Rattle.wy_eval_operations.specs.declared.stop.Stop.TheVariants as stop
-use Rattle.wy_eval_operations.specs.Operands.{TruthOf}
-use Rattle.wy_eval_operations.specs.Outcomes.{stopped}
-use Rattle.wy_eval_operations.proofs.OperandLemmas.{not_truth}
+use Rattle.wy_eval_expressions.specs.declared.stop.Stop.{Stop}
+use Rattle.wy_eval_expressions.specs.declared.stop.Stop.TheVariants as stop
+use Rattle.wy_eval_expressions.specs.Operands.{TruthOf}
+use Rattle.wy_eval_expressions.specs.Outcomes.{stopped}
+use Rattle.wy_eval_expressions.proofs.OperandLemmas.{not_truth}
 use Rattle.wy_eval_expressions.specs.Settings.{here}
 use Rattle.wy_eval_expressions.proofs.StepLemmas.{done, spent, spent_stops, then_is, then_stops_plain}
 use Rattle.wy_eval_frames.proofs.FollowLemmas.{clauses_same, clauses_stops, clauses_then}

@@ -4,14 +4,14 @@ ghost use Rattle.wy_core.specs.CoreSeen.{seen_alias, seen_core, seen_decl, seen_
 ghost use Rattle.wy_core.specs.CoreTree.{routines_of};
 ghost use Rattle.wy_value.specs.Seen.{seen};
 ghost use Rattle.wy_sem.specs.Evaluation.{Declared, callee};
-ghost use Rattle.wy_eval_operations.specs.Operands.{seen_option};
-ghost use Rattle.wy_eval_operations.specs.Outcomes.{Gives, meter_of};
+ghost use Rattle.wy_eval_expressions.specs.Operands.{seen_option};
+ghost use Rattle.wy_eval_expressions.specs.Outcomes.{Gives, meter_of};
 ghost use Rattle.wy_eval.specs.Settings.{built_in_call};
 
 use std::alloc::Global;
 use wy_core::{Core, Decl, Routine};
 use wy_eval_calls::{Program, print_call, print_int_call};
-use wy_eval_operations::{Meter, Stop};
+use wy_eval_expressions::{Meter, Stop};
 use wy_term::CondKind;
 use wy_value::Value;
 

@@ -4,8 +4,8 @@ ghost use Rattle.wy_core.specs.CoreSeen.{seen_alias, seen_core};
 ghost use Rattle.wy_core.specs.CoreTree.{aliases_of};
 ghost use Rattle.wy_value.specs.Seen.{seen};
 ghost use Rattle.wy_sem.specs.Evaluation.{run as spec_run};
-ghost use Rattle.wy_eval_operations.specs.Operands.{seen_option};
-ghost use Rattle.wy_eval_operations.specs.Outcomes.{Gives, meter_of};
+ghost use Rattle.wy_eval_expressions.specs.Operands.{seen_option};
+ghost use Rattle.wy_eval_expressions.specs.Outcomes.{Gives, meter_of};
 ghost use Rattle.wy_eval_expressions.specs.Settings.{here};
 
 use crate::built_ins::{built_in, find};
@@ -13,8 +13,8 @@ use crate::statements::exec_all;
 use std::alloc::Global;
 use wy_core::Core;
 use wy_eval_calls::{Program, types_of};
+use wy_eval_expressions::{Meter, Stop};
 use wy_eval_frames::{copied, entered, result_of};
-use wy_eval_operations::{Meter, Stop};
 use wy_value::Value;
 
 /// A call, which spends a tick. Calls nest no deeper than the number says.

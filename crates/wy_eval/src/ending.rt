@@ -11,8 +11,7 @@ use crate::calls::run;
 use std::alloc::Global;
 use wy_core::Core;
 use wy_eval_calls::Program;
-use wy_eval_operations::{Meter, NoMemory, Stop};
-use wy_eval_scope::ROOM;
+use wy_eval_expressions::{Meter, NoMemory, ROOM, Stop};
 use wy_term::CondKind;
 use wy_value::Value;
 

@@ -5,9 +5,9 @@ ghost use Rattle.wy_core.specs.CoreTree.{aliases_of, exprs_of};
 ghost use Rattle.wy_value.specs.Seen.{seen};
 ghost use Rattle.wy_sem.specs.Expressions as spec;
 ghost use Rattle.wy_sem.specs.Operations as operations;
-ghost use Rattle.wy_eval_operations.specs.Operands.{parts_of};
-ghost use Rattle.wy_eval_operations.specs.Outcomes.{Gives, meter_of};
-ghost use Rattle.wy_eval_scope.specs.Scopes.{scope, store_of};
+ghost use Rattle.wy_eval_expressions.specs.Operands.{parts_of};
+ghost use Rattle.wy_eval_expressions.specs.Outcomes.{Gives, meter_of};
+ghost use Rattle.wy_eval_expressions.specs.Scopes.{scope, store_of};
 ghost use Rattle.wy_eval_expressions.specs.Settings.{data_in, turns_of};
 ghost use Rattle.wy_eval.specs.Settings.{code};
 
@@ -16,11 +16,7 @@ use std::alloc::Global;
 use wy_core::{Core, Expr, ExprKind, Op};
 use wy_data::Name;
 use wy_eval_calls::{Program, tested};
-use wy_eval_operations::{
-    Meter, Stop, applied, as_numbers, as_truth, denied, early, field_of, item_of, length, needed,
-    negated, repeated,
-};
-use wy_eval_scope::{variable, with_number};
+use wy_eval_expressions::{Meter, Stop, applied, as_numbers, as_truth, denied, early, field_of, item_of, length, needed, negated, repeated, variable, with_number};
 use wy_items::Items;
 use wy_value::Value;
 

@@ -3,8 +3,8 @@ ghost use Rattle.std.specs.Prelude.{◌≡◌, map, suc};
 ghost use Rattle.wy_core.specs.CoreSeen.{seen_alias, seen_block, seen_core, seen_expr, seen_exprs, seen_stmt};
 ghost use Rattle.wy_core.specs.CoreTree.{aliases_of};
 ghost use Rattle.wy_sem.specs.Statements as spec;
-ghost use Rattle.wy_eval_operations.specs.Outcomes.{Gives, meter_of};
-ghost use Rattle.wy_eval_scope.specs.Scopes.{store_of};
+ghost use Rattle.wy_eval_expressions.specs.Outcomes.{Gives, meter_of};
+ghost use Rattle.wy_eval_expressions.specs.Scopes.{store_of};
 ghost use Rattle.wy_eval_frames.specs.Exits.{frame, seen_exit};
 ghost use Rattle.wy_eval.specs.Settings.{code, kept};
 
@@ -15,10 +15,8 @@ use crate::turning::{Turn, turned};
 use std::alloc::Global;
 use wy_core::{Core, Expr, Routine, Stmt, StmtKind, Ty};
 use wy_eval_calls::Program;
-use wy_eval_expressions::{clauses_hold, holds_at};
+use wy_eval_expressions::{Meter, Stop, as_truth, check, clauses_hold, holds_at, put};
 use wy_eval_frames::{Exit, leave, stored};
-use wy_eval_operations::{Meter, Stop, as_truth, check};
-use wy_eval_scope::put;
 use wy_term::CondKind;
 use wy_value::Value;
 

@@ -9,17 +9,16 @@ ghost use Rattle.wy_sem.specs.Meter.{Done};
 ghost use Rattle.wy_sem.specs.Operations as operations;
 ghost use Rattle.wy_sem.specs.Statements as statements;
 ghost use Rattle.wy_sem.specs.Statements.{Went, given};
-ghost use Rattle.wy_eval_operations.specs.Outcomes.{Gives, meter_of};
-ghost use Rattle.wy_eval_scope.specs.Scopes.{store_of};
+ghost use Rattle.wy_eval_expressions.specs.Outcomes.{Gives, meter_of};
+ghost use Rattle.wy_eval_expressions.specs.Scopes.{store_of};
 ghost use Rattle.wy_eval_expressions.specs.Settings.{here};
 ghost use Rattle.wy_eval_frames.specs.Exits.{seen_exit};
 
 use std::alloc::Global;
 use wy_core::Ty;
 use wy_eval_calls::{Program, type_at};
+use wy_eval_expressions::{Meter, Stop, put, variable};
 use wy_eval_frames::{Exit, stored};
-use wy_eval_operations::{Meter, Stop};
-use wy_eval_scope::{put, variable};
 use wy_value::Value;
 
 /// The value goes into the variable, whose declared type it must be of.

@@ -12,12 +12,12 @@ use Rattle.wy_term.specs.declared.cond.CondKind.TheVariants.{Member, Requires}
 use Rattle.wy_sem.specs.Evaluation.{is_ascii, print_call, print_int_call, text_of}
 use Rattle.wy_sem.specs.Meter.{Meter, Outcome, Done, Fault, More, Spent, Run, ◌>>=◌, check, count}
 use Rattle.wy_sem.specs.Operations.{as_number, nat_of}
-use Rattle.wy_eval_operations.specs.declared.stop.Stop.{Stop}
-use Rattle.wy_eval_operations.specs.declared.stop.Stop.TheVariants as stop
-use Rattle.wy_eval_operations.specs.Operands.{NumberOf, items_of}
-use Rattle.wy_eval_operations.specs.Outcomes.{stopped}
-use Rattle.wy_eval_operations.proofs.OperandLemmas.{not_number}
-use Rattle.wy_eval_scope.proofs.LoopLemmas.{next_item}
+use Rattle.wy_eval_expressions.specs.declared.stop.Stop.{Stop}
+use Rattle.wy_eval_expressions.specs.declared.stop.Stop.TheVariants as stop
+use Rattle.wy_eval_expressions.specs.Operands.{NumberOf, items_of}
+use Rattle.wy_eval_expressions.specs.Outcomes.{stopped}
+use Rattle.wy_eval_expressions.proofs.OperandLemmas.{not_number}
+use Rattle.wy_eval_expressions.proofs.LoopLemmas.{next_item}
 use Rattle.wy_eval_expressions.proofs.StepLemmas.{done, turned, turned_stops}
 use Rattle.wy_eval_calls.specs.Texts.{AsciiOf}
 

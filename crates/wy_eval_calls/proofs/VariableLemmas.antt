@@ -14,7 +14,7 @@ use Rattle.wy_core.specs.declared.statements.Step.{Step}
 use Rattle.wy_core.specs.declared.types.Ty.{Ty}
 use Rattle.wy_sem.specs.Evaluation.{any_types, declared_in, declared_in_all, param_types, set_type}
 use Rattle.wy_sem.specs.Statements.{type_at}
-use Rattle.wy_eval_scope.proofs.LoopLemmas.{next_item}
+use Rattle.wy_eval_expressions.proofs.LoopLemmas.{next_item}
 
 pub type_set : (ts : List Ty) (x : ℕ) (t : Ty) → x < length ts → map seen_ty (slice_set ts x t) ≡ set_type (map seen_ty ts) x (seen_ty t)
 type_set [] x t within = absurd (omega (arith, within))

@@ -12,10 +12,10 @@ use Rattle.wy_core.specs.CoreTree.{Expr, NullExpr, BoolExpr, IntExpr, VarExpr, C
 use Rattle.wy_sem.specs.Meter.{Meter, Outcome, Done, Fault, More, Spent, Run, ◌>>=◌, tick, spend, turn}
 use Rattle.wy_sem.specs.Expressions.{Store, Setting, data_of, eval}
 use Rattle.wy_sem.specs.TypeTests.{Test, Questions, asked, forgiven}
-use Rattle.wy_eval_operations.specs.declared.stop.Stop.{Stop}
-use Rattle.wy_eval_operations.specs.declared.stop.Stop.TheVariants as stop
-use Rattle.wy_eval_operations.specs.Operands.{parts_of}
-use Rattle.wy_eval_operations.specs.Outcomes.{Gives, itself, stopped}
+use Rattle.wy_eval_expressions.specs.declared.stop.Stop.{Stop}
+use Rattle.wy_eval_expressions.specs.declared.stop.Stop.TheVariants as stop
+use Rattle.wy_eval_expressions.specs.Operands.{parts_of}
+use Rattle.wy_eval_expressions.specs.Outcomes.{Gives, itself, stopped}
 use Rattle.wy_eval_expressions.specs.Settings.{asked_by, pardoned}
 
 -- ---- what is spent first

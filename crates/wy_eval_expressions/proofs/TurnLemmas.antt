@@ -16,13 +16,13 @@ use Rattle.wy_sem.specs.Meter.{Meter, Outcome, Done, Fault, More, Spent, Run, �
 use Rattle.wy_sem.specs.Operations.{agrees, as_truth}
 use Rattle.wy_sem.specs.Expressions.{Store, Setting, eval, eval_all, eval_fields, node, each, span}
 use Rattle.wy_sem.specs.TypeTests.{Test, Questions, all_hold, answer, items_tested, parts_tested, tested}
-use Rattle.wy_eval_operations.specs.declared.stop.Stop.{Stop}
-use Rattle.wy_eval_operations.specs.declared.stop.Stop.TheVariants as stop
-use Rattle.wy_eval_operations.specs.Operands.{is_truth, items_of, parts_of}
-use Rattle.wy_eval_operations.proofs.OperandLemmas.{not_truth}
+use Rattle.wy_eval_expressions.specs.declared.stop.Stop.{Stop}
+use Rattle.wy_eval_expressions.specs.declared.stop.Stop.TheVariants as stop
+use Rattle.wy_eval_expressions.specs.Operands.{is_truth, items_of, parts_of}
+use Rattle.wy_eval_expressions.proofs.OperandLemmas.{not_truth}
 use Rattle.wy_eval_expressions.specs.Settings.{asked_by}
-use Rattle.wy_eval_operations.specs.Outcomes.{stopped}
-use Rattle.wy_eval_scope.proofs.LoopLemmas.{next_item}
+use Rattle.wy_eval_expressions.specs.Outcomes.{stopped}
+use Rattle.wy_eval_expressions.proofs.LoopLemmas.{next_item}
 use Rattle.wy_eval_expressions.proofs.StepLemmas.{then_is, then_stops_plain}
 
 append_nothing : {A : Type 0} (xs : List A) → xs ++ [] ≡ xs

@@ -23,13 +23,13 @@ use Rattle.wy_sem.specs.Operations.{longest, as_truth}
 use Rattle.wy_sem.specs.Expressions as spec
 use Rattle.wy_sem.specs.Expressions.{Store, Setting, eval, holds, holds_at, node}
 use Rattle.wy_sem.specs.TypeTests.{Test, Questions, alias_at, alias_holds, all_hold, answer, clause_setting, few_enough, forgiven, items_tested, member, no_alias, parts_tested, same_names, set_if, unset}
-use Rattle.wy_eval_operations.specs.declared.stop.Stop.{Stop}
-use Rattle.wy_eval_operations.specs.declared.stop.Stop.TheVariants as stop
-use Rattle.wy_eval_operations.specs.Operands.{IsEarly, TruthOf, items_of, parts_of}
-use Rattle.wy_eval_operations.specs.Outcomes.{Gives, itself, stopped}
-use Rattle.wy_eval_operations.proofs.OperandLemmas.{length_items, not_truth}
-use Rattle.wy_eval_scope.specs.Scopes.{scope}
-use Rattle.wy_eval_scope.proofs.LoopLemmas.{next_item}
+use Rattle.wy_eval_expressions.specs.declared.stop.Stop.{Stop}
+use Rattle.wy_eval_expressions.specs.declared.stop.Stop.TheVariants as stop
+use Rattle.wy_eval_expressions.specs.Operands.{IsEarly, TruthOf, items_of, parts_of}
+use Rattle.wy_eval_expressions.specs.Outcomes.{Gives, itself, stopped}
+use Rattle.wy_eval_expressions.proofs.OperandLemmas.{length_items, not_truth}
+use Rattle.wy_eval_expressions.specs.Scopes.{scope}
+use Rattle.wy_eval_expressions.proofs.LoopLemmas.{next_item}
 use Rattle.wy_eval_expressions.specs.Settings.{asked_by, here, items_by, named_by, pardoned, parts_by, questions, setting, tests_at, turns_of}
 use Rattle.wy_eval_expressions.proofs.StepLemmas.{done, gives_as, pardon_gives, record_is, then_is, then_stops_plain, turned, turned_stops}
 use Rattle.wy_eval_expressions.proofs.TurnLemmas.{tested_is}

@@ -9,8 +9,8 @@ use Rattle.wy_core.specs.CoreTree.{Expr}
 use Rattle.wy_sem.specs.Meter.{Run, choose, turn}
 use Rattle.wy_sem.specs.Expressions.{Setting, Store, eval, no_calls, put}
 use Rattle.wy_sem.specs.TypeTests.{Test, Questions, alias_at, alias_holds, answer, asked, few_enough, forgiven, items_tested, name_asked, parts_tested, same_names, tests}
-use Rattle.wy_eval_operations.specs.declared.stop.Stop.{Stop}
-use Rattle.wy_eval_operations.specs.declared.stop.Stop.TheVariants as stop
+use Rattle.wy_eval_expressions.specs.declared.stop.Stop.{Stop}
+use Rattle.wy_eval_expressions.specs.declared.stop.Stop.TheVariants as stop
 
 -- a node is its place
 abbrev pub here : ℕ → ℕ

@@ -2,13 +2,13 @@
 ghost use Rattle.std.specs.Prelude.{◌≡◌, IfOk, Some};
 ghost use Rattle.wy_value.specs.Seen.{seen};
 ghost use Rattle.wy_sem.specs.TypeTests as tests;
-ghost use Rattle.wy_eval_scope.specs.Scopes.{store_of};
+ghost use Rattle.wy_eval_expressions.specs.Scopes.{store_of};
 ghost use Rattle.wy_eval_expressions.specs.Settings.{pardoned};
 
+use crate::scope::{put, unset};
+use crate::stop::Stop;
 use std::alloc::{AllocError, Global};
 use wy_core::Alias;
-use wy_eval_operations::Stop;
-use wy_eval_scope::{put, unset};
 use wy_value::Value;
 
 /// The variables of a type's clauses: all unset, but for the one that stands for the value.

@@ -4,16 +4,18 @@ ghost use Rattle.wy_core.specs.CoreSeen.{seen_alias, seen_expr, seen_exprs};
 ghost use Rattle.wy_sem.specs.Expressions as spec;
 ghost use Rattle.wy_sem.specs.Meter.{Done};
 ghost use Rattle.wy_sem.specs.TypeTests.{clause_setting};
-ghost use Rattle.wy_eval_operations.specs.Outcomes.{Gives, itself, meter_of};
-ghost use Rattle.wy_eval_scope.specs.Scopes.{store_of};
+ghost use Rattle.wy_eval_expressions.specs.Outcomes.{Gives, itself, meter_of};
+ghost use Rattle.wy_eval_expressions.specs.Scopes.{store_of};
 ghost use Rattle.wy_eval_expressions.specs.Settings.{here};
 
+use crate::declared::{Declared, ROOM};
 use crate::evaluation::value_of;
+use crate::meter::Meter;
+use crate::operands::as_truth;
 use crate::places::place_of;
+use crate::stop::Stop;
 use std::alloc::Global;
 use wy_core::Expr;
-use wy_eval_operations::{Meter, Stop, as_truth};
-use wy_eval_scope::{Declared, ROOM};
 use wy_term::CondKind;
 use wy_value::Value;
 

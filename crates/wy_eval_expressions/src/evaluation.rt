@@ -6,21 +6,24 @@ ghost use Rattle.wy_value.specs.Seen.{seen};
 ghost use Rattle.wy_sem.specs.Expressions as spec;
 ghost use Rattle.wy_sem.specs.Operations as operations;
 ghost use Rattle.wy_sem.specs.TypeTests as tests;
-ghost use Rattle.wy_eval_operations.specs.Operands.{parts_of};
-ghost use Rattle.wy_eval_operations.specs.Outcomes.{Gives, itself, meter_of};
-ghost use Rattle.wy_eval_scope.specs.Scopes.{scope, store_of};
+ghost use Rattle.wy_eval_expressions.specs.Operands.{parts_of};
+ghost use Rattle.wy_eval_expressions.specs.Outcomes.{Gives, itself, meter_of};
+ghost use Rattle.wy_eval_expressions.specs.Scopes.{scope, store_of};
 ghost use Rattle.wy_eval_expressions.specs.Settings.{asked_by, data_in, items_by, named_by, parts_by, questions, setting, tests_at, turns_of};
 
 use crate::aliases::{forgiven, store_of_alias};
+use crate::declared::Declared;
+use crate::kinds::{is_null, is_truth, is_whole, same_names};
+use crate::meter::Meter;
+use crate::operands::{as_numbers, as_truth};
+use crate::operators::{applied, denied, early, length, negated};
+use crate::parts::{field_of, item_of, repeated};
 use crate::places::place_of;
+use crate::scope::{variable, with_number};
+use crate::stop::Stop;
 use std::alloc::Global;
 use wy_core::{Expr, ExprKind, Op, Ty, TyKind};
 use wy_data::Name;
-use wy_eval_operations::{
-    Meter, Stop, applied, as_numbers, as_truth, denied, early, field_of, item_of, length, negated,
-    repeated,
-};
-use wy_eval_scope::{Declared, is_null, is_truth, is_whole, same_names, variable, with_number};
 use wy_items::Items;
 use wy_value::Value;
 

@@ -3,14 +3,15 @@ ghost use Rattle.std.specs.Prelude.{◌≡◌, Some, map};
 ghost use Rattle.wy_core.specs.CoreSeen.{seen_alias, seen_ty};
 ghost use Rattle.wy_value.specs.Seen.{seen};
 ghost use Rattle.wy_sem.specs.TypeTests as tests;
-ghost use Rattle.wy_eval_operations.specs.Outcomes.{Gives, itself, meter_of};
+ghost use Rattle.wy_eval_expressions.specs.Outcomes.{Gives, itself, meter_of};
 ghost use Rattle.wy_eval_expressions.specs.Settings.{here};
 
+use crate::declared::{Declared, ROOM};
 use crate::evaluation::asked;
+use crate::meter::Meter;
+use crate::stop::Stop;
 use std::alloc::Global;
 use wy_core::Ty;
-use wy_eval_operations::{Meter, Stop};
-use wy_eval_scope::{Declared, ROOM};
 use wy_value::Value;
 
 /// Whether the value is in the type, where a clause that faults isn't true.

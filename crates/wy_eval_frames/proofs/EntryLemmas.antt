@@ -13,10 +13,10 @@ use Rattle.wy_sem.specs.Evaluation.{arguments}
 use Rattle.wy_sem.specs.Meter.{Meter, Done, Run}
 use Rattle.wy_sem.specs.Statements.{given}
 use Rattle.wy_sem.specs.TypeTests.{Test}
-use Rattle.wy_eval_operations.specs.declared.stop.Stop.{Stop}
-use Rattle.wy_eval_operations.specs.declared.stop.Stop.TheVariants as stop
-use Rattle.wy_eval_operations.specs.Outcomes.{stopped}
-use Rattle.wy_eval_scope.proofs.LoopLemmas.{next_item}
+use Rattle.wy_eval_expressions.specs.declared.stop.Stop.{Stop}
+use Rattle.wy_eval_expressions.specs.declared.stop.Stop.TheVariants as stop
+use Rattle.wy_eval_expressions.specs.Outcomes.{stopped}
+use Rattle.wy_eval_expressions.proofs.LoopLemmas.{next_item}
 use Rattle.wy_eval_expressions.proofs.StepLemmas.{done}
 use Rattle.wy_eval_frames.specs.Entries.{GoesOn}
 use Rattle.wy_eval_frames.proofs.FollowLemmas.{given_stops, given_then}

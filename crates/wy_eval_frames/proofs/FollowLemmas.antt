@@ -9,9 +9,9 @@ use Rattle.wy_sem.specs.Meter.{Meter, Outcome, Done, Fault, More, Spent, Run, �
 use Rattle.wy_sem.specs.Expressions.{Setting, Store, clauses, holds}
 use Rattle.wy_sem.specs.Statements.{given}
 use Rattle.wy_sem.specs.TypeTests.{Test}
-use Rattle.wy_eval_operations.specs.declared.stop.Stop.{Stop}
-use Rattle.wy_eval_operations.specs.declared.stop.Stop.TheVariants as stop
-use Rattle.wy_eval_operations.specs.Outcomes.{stopped}
+use Rattle.wy_eval_expressions.specs.declared.stop.Stop.{Stop}
+use Rattle.wy_eval_expressions.specs.declared.stop.Stop.TheVariants as stop
+use Rattle.wy_eval_expressions.specs.Outcomes.{stopped}
 use Rattle.wy_eval_expressions.proofs.StepLemmas.{done}
 
 no_stop : {X : Type 0} (m k : Meter) (e : Stop) (o : Outcome X) → (e ≢ stop.NoMemory → done m ≡ stopped e k) → e ≢ stop.NoMemory → o ≡ stopped e k

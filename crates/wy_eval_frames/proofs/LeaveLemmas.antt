@@ -19,9 +19,9 @@ use Rattle.wy_sem.specs.Expressions.{Store, clauses}
 use Rattle.wy_sem.specs.Meter.{Meter, Done, Fault, Run, check}
 use Rattle.wy_sem.specs.Statements.{Exit, Gave, given, leave}
 use Rattle.wy_sem.specs.TypeTests.{clause_setting, set_if, unset}
-use Rattle.wy_eval_operations.specs.declared.stop.Stop.{Stop}
-use Rattle.wy_eval_operations.specs.declared.stop.Stop.TheVariants as stop
-use Rattle.wy_eval_operations.specs.Outcomes.{stopped}
+use Rattle.wy_eval_expressions.specs.declared.stop.Stop.{Stop}
+use Rattle.wy_eval_expressions.specs.declared.stop.Stop.TheVariants as stop
+use Rattle.wy_eval_expressions.specs.Outcomes.{stopped}
 use Rattle.wy_eval_expressions.specs.Settings.{here}
 use Rattle.wy_eval_expressions.proofs.StepLemmas.{done}
 use Rattle.wy_eval_frames.specs.Entries.{entering}

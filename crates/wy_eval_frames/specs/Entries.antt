@@ -9,9 +9,9 @@ use Rattle.wy_sem.specs.Expressions.{clauses}
 use Rattle.wy_sem.specs.Meter as sem
 use Rattle.wy_sem.specs.Meter.{Run, check}
 use Rattle.wy_sem.specs.TypeTests.{clause_setting}
-use Rattle.wy_eval_operations.specs.declared.stop.Stop.{Stop}
-use Rattle.wy_eval_operations.specs.declared.stop.Stop.TheVariants as stop
-use Rattle.wy_eval_operations.specs.Outcomes.{stopped}
+use Rattle.wy_eval_expressions.specs.declared.stop.Stop.{Stop}
+use Rattle.wy_eval_expressions.specs.declared.stop.Stop.TheVariants as stop
+use Rattle.wy_eval_expressions.specs.Outcomes.{stopped}
 use Rattle.wy_eval_expressions.specs.Settings.{here}
 
 -- what a call does before its body

@@ -9,8 +9,8 @@ use Rattle.wy_sem.specs.Evaluation.{owed_member}
 use Rattle.wy_sem.specs.Expressions.{Store}
 use Rattle.wy_sem.specs.Statements as spec
 use Rattle.wy_sem.specs.Statements.{Frame}
-use Rattle.wy_eval_operations.specs.Operands.{seen_option}
-use Rattle.wy_eval_scope.specs.Scopes.{store_of}
+use Rattle.wy_eval_expressions.specs.Operands.{seen_option}
+use Rattle.wy_eval_expressions.specs.Scopes.{store_of}
 use Rattle.wy_eval_expressions.specs.Settings.{here}
 use Rattle.wy_eval_frames.specs.declared.exits.Exit.{Exit}
 use Rattle.wy_eval_frames.specs.declared.exits.Exit.TheVariants as exit

@@ -6,16 +6,15 @@ ghost use Rattle.wy_sem.specs.Evaluation.{owed_member};
 ghost use Rattle.wy_sem.specs.Expressions.{put as spec_put};
 ghost use Rattle.wy_sem.specs.Meter.{Done};
 ghost use Rattle.wy_sem.specs.Statements.{Went, given as spec_given};
-ghost use Rattle.wy_eval_operations.specs.Outcomes.{Gives, meter_of};
-ghost use Rattle.wy_eval_scope.specs.Scopes.{store_of};
+ghost use Rattle.wy_eval_expressions.specs.Outcomes.{Gives, meter_of};
+ghost use Rattle.wy_eval_expressions.specs.Scopes.{store_of};
 ghost use Rattle.wy_eval_expressions.specs.Settings.{here};
 ghost use Rattle.wy_eval_frames.specs.Exits.{seen_exit};
 
 use std::alloc::Global;
 use wy_core::Ty;
 use wy_eval_calls::{Program, given};
-use wy_eval_operations::{Meter, Stop};
-use wy_eval_scope::put;
+use wy_eval_expressions::{Meter, Stop, put};
 use wy_value::Value;
 
 /// How a statement ends.

@@ -5,9 +5,9 @@ ghost use Rattle.wy_value.specs.Seen.{seen};
 ghost use Rattle.wy_sem.specs.Evaluation.{result_of as spec_result_of};
 ghost use Rattle.wy_sem.specs.Statements.{leave as spec_leave};
 ghost use Rattle.wy_sem.specs.TypeTests.{clause_setting, set_if};
-ghost use Rattle.wy_eval_operations.specs.Operands.{seen_option};
-ghost use Rattle.wy_eval_operations.specs.Outcomes.{Gives, meter_of};
-ghost use Rattle.wy_eval_scope.specs.Scopes.{store_of};
+ghost use Rattle.wy_eval_expressions.specs.Operands.{seen_option};
+ghost use Rattle.wy_eval_expressions.specs.Outcomes.{Gives, meter_of};
+ghost use Rattle.wy_eval_expressions.specs.Scopes.{store_of};
 ghost use Rattle.wy_eval_expressions.specs.Settings.{here};
 ghost use Rattle.wy_eval_frames.specs.Exits.{frame, gave, seen_exit};
 
@@ -15,9 +15,7 @@ use crate::exits::Exit;
 use std::alloc::{AllocError, Global};
 use wy_core::{Routine, Ty};
 use wy_eval_calls::{Program, given};
-use wy_eval_expressions::clauses_hold;
-use wy_eval_operations::{Meter, Stop};
-use wy_eval_scope::put;
+use wy_eval_expressions::{Meter, Stop, clauses_hold, put};
 use wy_term::CondKind;
 use wy_value::Value;
 

@@ -1,7 +1,7 @@
 //! Operators on numbers, each row worked out by hand from the rules of the language.
 use std::test::Fail;
 use wy_core::Op;
-use wy_eval_operations::{Stop, applied, negated};
+use wy_eval_expressions::{Stop, applied, negated};
 use wy_term::CondKind;
 use wy_value::{INT_MAX, INT_MIN, Value};
 

@@ -10,7 +10,7 @@ use Rattle.wy_core.specs.declared.declarations.Alias.{Alias}
 use Rattle.wy_core.specs.declared.declarations.Decl.{Decl}
 use Rattle.wy_core.specs.declared.declarations.Decl.TheVariants as decl
 use Rattle.wy_core.specs.declared.declarations.Routine.{Routine}
-use Rattle.wy_eval_scope.proofs.LoopLemmas.{next_item}
+use Rattle.wy_eval_expressions.proofs.LoopLemmas.{next_item}
 use Rattle.wy_starting.specs.Entries.{IsFirst, HasNone}
 
 -- ---- one routine of a name

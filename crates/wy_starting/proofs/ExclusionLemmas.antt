@@ -11,7 +11,7 @@ use Rattle.wy_sem.specs.Evaluation.{start}
 use Rattle.wy_sem.specs.Precondition as spec
 use Rattle.wy_sem.specs.Precondition.{Verdict, cost, precondition}
 use Rattle.wy_eval_expressions.specs.Settings.{here}
-use Rattle.wy_precondition.specs.Verdicts.{Finds}
+use Rattle.wy_eval_expressions.specs.Verdicts.{Finds}
 use Rattle.wy_starting.specs.Entries.{IsEntry, HasNoEntry}
 use Rattle.wy_starting.specs.Starting.{HasBadText, HasFault, IsMet, IsNotMet, IsRefused, IsStopped, Shows, Starts, most_turns}
 use Rattle.wy_starting.specs.Laws.{HaveOneStart, HaveOneRefusal, StartOrRefuse}

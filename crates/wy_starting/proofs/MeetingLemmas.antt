@@ -14,7 +14,7 @@ use Rattle.wy_sem.specs.TypeTests.{clause_setting, forgiven, member}
 use Rattle.wy_sem.specs.Precondition.{Verdict, Met, CountFails, TypeFails, RequiresFails, passed, requires_met, types_met, callee_met, CalleeMeets, Meets, RoutineMeets, precondition, cost}
 use Rattle.wy_sem.proofs.MeetsAnswers.{met_is_exact}
 use Rattle.wy_eval_expressions.specs.Settings.{here}
-use Rattle.wy_precondition.specs.Verdicts.{Finds}
+use Rattle.wy_eval_expressions.specs.Verdicts.{Finds}
 use Rattle.wy_starting.specs.Entries.{IsEntry}
 
 -- ---- the entry

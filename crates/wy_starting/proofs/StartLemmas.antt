@@ -13,9 +13,9 @@ use Rattle.wy_core.specs.CoreTree.{Core, Routine, routines_of}
 use Rattle.wy_core.specs.declared.declarations.Decl.{Decl}
 use Rattle.wy_sem.specs.Precondition.{Meets, cost, precondition}
 use Rattle.wy_eval_expressions.specs.Settings.{here}
-use Rattle.wy_precondition.specs.Verdicts.{IsExact}
-use Rattle.wy_precondition.specs.declared.precondition.MeetsEnd.{MeetsEnd}
-use Rattle.wy_precondition.specs.declared.precondition.MeetsEnd.TheVariants as end
+use Rattle.wy_eval_expressions.specs.Verdicts.{IsExact}
+use Rattle.wy_eval_expressions.specs.declared.precondition.MeetsEnd.{MeetsEnd}
+use Rattle.wy_eval_expressions.specs.declared.precondition.MeetsEnd.TheVariants as end
 use Rattle.wy_starting.specs.Entries.{HasEntry, IsEntry, LacksEntry}
 use Rattle.wy_starting.specs.Meeting.{IsMade, judged}
 use Rattle.wy_starting.specs.Starting.{HasFault, IsMet, IsNotMet, IsRefused, IsStopped, Starts, fault_for, most_turns}

@@ -3,8 +3,8 @@ use Rattle.std.specs.Prelude.{◌≡◌, ℕ, List, Result, Ok, Err}
 use Rattle.wy_value.specs.declared.value.Value.{Value}
 use Rattle.wy_core.specs.CoreTree.{Core}
 use Rattle.wy_compiled.specs.Programs.{code_of}
-use Rattle.wy_precondition.specs.declared.precondition.MeetsEnd.{MeetsEnd}
-use Rattle.wy_precondition.specs.declared.precondition.MeetsEnd.TheVariants as end
+use Rattle.wy_eval_expressions.specs.declared.precondition.MeetsEnd.{MeetsEnd}
+use Rattle.wy_eval_expressions.specs.declared.precondition.MeetsEnd.TheVariants as end
 use Rattle.wy_starting.specs.declared.entry.Entry.{Entry}
 use Rattle.wy_starting.specs.declared.parts.Start.{Start}
 use Rattle.wy_starting.specs.declared.fault.StartFault.{StartFault}

@@ -11,7 +11,7 @@ use Rattle.wy_core.specs.CoreTree.{Core, Routine}
 use Rattle.wy_sem.specs.Precondition as spec
 use Rattle.wy_sem.specs.Precondition.{Verdict, Meets, cost, precondition}
 use Rattle.wy_eval_expressions.specs.Settings.{here}
-use Rattle.wy_precondition.specs.Verdicts.{Finds}
+use Rattle.wy_eval_expressions.specs.Verdicts.{Finds}
 use Rattle.wy_compiled.specs.Programs.{code_of}
 use Rattle.wy_starting.specs.Entries.{IsEntry, HasNoEntry}
 use Rattle.wy_starting.specs.declared.parts.Start.{Start}

@@ -10,7 +10,7 @@ use crate::entry::Entry;
 use crate::fault::StartFault;
 use std::alloc::Global;
 use wy_core::Core;
-use wy_precondition::{MeetsEnd, meets};
+use wy_eval_expressions::{MeetsEnd, meets};
 use wy_value::Value;
 
 /// The most visits of types and turns of quantifiers that the test makes.

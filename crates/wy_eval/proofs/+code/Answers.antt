@@ -15,9 +15,9 @@ use Rattle.wy_sem.specs.Expressions.{Store, clauses, eval, slot}
 use Rattle.wy_sem.specs.TypeTests.{clause_setting}
 use Rattle.wy_sem.specs.Operations as operations
 use Rattle.wy_sem.specs.Operations.{needed}
-use Rattle.wy_eval_operations.specs.Operands.{parts_of, seen_option}
-use Rattle.wy_eval_operations.specs.Outcomes.{meter_of, stopped}
-use Rattle.wy_eval_scope.specs.Scopes.{scope, store_of}
+use Rattle.wy_eval_expressions.specs.Operands.{parts_of, seen_option}
+use Rattle.wy_eval_expressions.specs.Outcomes.{meter_of, stopped}
+use Rattle.wy_eval_expressions.specs.Scopes.{scope, store_of}
 use Rattle.wy_eval_expressions.specs.Settings.{data_in, here, turns_of}
 use Rattle.wy_eval_expressions.proofs.KindLemmas.{null_of, bool_of, int_of, var_of, call_of, neg_of, not_of, len_of, binary_of, is_of, index_of, field_of, list_of, repeat_of, record_of, quant_of}
 use Rattle.wy_eval_expressions.proofs.StepLemmas.{done, gives_as, spent, refused, then_gives, then_is, then_stops, after_spend, as_kind, eval_stops, array_is, record_is, no_memory}

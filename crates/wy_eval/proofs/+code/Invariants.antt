@@ -3,8 +3,8 @@ use borrow.Author.Gap.{gap}
 use Rattle.wy_core.specs.CoreSeen.{seen_alias, seen_block, seen_core, seen_expr, seen_exprs}
 use Rattle.wy_value.specs.Seen.{seen}
 use Rattle.wy_sem.specs.Statements.{exec_all}
-use Rattle.wy_eval_operations.specs.Outcomes.{meter_of}
-use Rattle.wy_eval_scope.specs.Scopes.{scope, store_of}
+use Rattle.wy_eval_expressions.specs.Outcomes.{meter_of}
+use Rattle.wy_eval_expressions.specs.Scopes.{scope, store_of}
 use Rattle.wy_eval_expressions.specs.Settings.{turns_of}
 use Rattle.wy_eval_expressions.proofs.TurnLemmas.{ValuesLeft, FieldsLeft, TurnsLeft}
 use Rattle.wy_eval_frames.specs.Exits.{frame}

@@ -5,10 +5,10 @@ use std::alloc::{AllocError, Global};
 use wy_ast::Program;
 use wy_core::Core;
 use wy_eval::{EvalEnd, eval};
+use wy_eval_expressions::{MeetsEnd, meets};
 use wy_front::{locate, read};
 use wy_items::Items;
 use wy_names::resolve;
-use wy_precondition::{MeetsEnd, meets};
 use wy_value::{Value, read_values, show};
 
 // A source that is read is no longer than this.

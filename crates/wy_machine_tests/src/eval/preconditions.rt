@@ -1,7 +1,7 @@
 //! Which arguments meet a function or method.
 use crate::eval::answers::met;
 use std::test::Fail;
-use wy_precondition::MeetsEnd;
+use wy_eval_expressions::MeetsEnd;
 
 /// A recursive type, types with clauses, and clauses that divide and count.
 const SOURCE: &str = "\

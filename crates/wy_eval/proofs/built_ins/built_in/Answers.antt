@@ -3,8 +3,8 @@ use Rattle.wy_core.specs.CoreSeen.{seen_core, seen_decl}
 use Rattle.wy_core.specs.CoreTree.{routines_of}
 use Rattle.wy_value.specs.Seen.{seen}
 use Rattle.wy_sem.specs.Evaluation.{callee, print_call, print_int_call}
-use Rattle.wy_eval_operations.specs.Operands.{seen_option}
-use Rattle.wy_eval_operations.specs.Outcomes.{meter_of}
+use Rattle.wy_eval_expressions.specs.Operands.{seen_option}
+use Rattle.wy_eval_expressions.specs.Outcomes.{meter_of}
 use Rattle.wy_eval_expressions.proofs.StepLemmas.{gives_as}
 use Rattle.wy_eval.specs.Settings.{built_in_call}
 use Rattle.wy_eval.proofs.CalleeLemmas.{callee_behind, undeclared}

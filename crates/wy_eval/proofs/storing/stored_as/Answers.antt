@@ -6,8 +6,8 @@ use Rattle.wy_sem.specs.Expressions as spec
 use Rattle.wy_sem.specs.Meter.{Meter, Done}
 use Rattle.wy_sem.specs.Statements as statements
 use Rattle.wy_sem.specs.Statements.{Went, given}
-use Rattle.wy_eval_operations.specs.Outcomes.{meter_of}
-use Rattle.wy_eval_scope.specs.Scopes.{store_of}
+use Rattle.wy_eval_expressions.specs.Outcomes.{meter_of}
+use Rattle.wy_eval_expressions.specs.Scopes.{store_of}
 use Rattle.wy_eval_expressions.specs.Settings.{here}
 use Rattle.wy_eval_expressions.proofs.StepLemmas.{gives_as}
 use Rattle.wy_eval_frames.specs.Exits.{seen_exit}

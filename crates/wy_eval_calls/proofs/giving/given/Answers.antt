@@ -4,7 +4,7 @@ use Rattle.wy_value.specs.Seen.{seen}
 use Rattle.wy_sem.specs.Evaluation.{owed_member}
 use Rattle.wy_sem.specs.Meter.{check}
 use Rattle.wy_term.specs.declared.cond.CondKind.TheVariants.{Member}
-use Rattle.wy_eval_operations.specs.Outcomes.{itself, meter_of}
+use Rattle.wy_eval_expressions.specs.Outcomes.{itself, meter_of}
 use Rattle.wy_eval_expressions.specs.Settings.{here}
 use Rattle.wy_eval_expressions.proofs.StepLemmas.{done, then_gives, then_stops}
 use Rattle.wy_eval_calls.proofs.giving.given.Goals as goal

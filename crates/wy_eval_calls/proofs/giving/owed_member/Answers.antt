@@ -3,7 +3,7 @@ use Rattle.wy_core.specs.CoreSeen.{seen_alias, seen_ty}
 use Rattle.wy_value.specs.Seen.{seen}
 use Rattle.wy_sem.specs.Evaluation.{owed_member}
 use Rattle.wy_sem.specs.TypeTests as tests
-use Rattle.wy_eval_operations.specs.Outcomes.{itself, meter_of}
+use Rattle.wy_eval_expressions.specs.Outcomes.{itself, meter_of}
 use Rattle.wy_eval_expressions.specs.Settings.{here}
 use Rattle.wy_eval_expressions.proofs.StepLemmas.{gives_as}
 use Rattle.wy_eval_calls.proofs.GivenLemmas.{not_owed, owed, owed_as_marked}

@@ -1,7 +1,7 @@
 use Rattle.std.proofs.Common.{Some}
 use Rattle.wy_sem.specs.Evaluation.{text_of}
-use Rattle.wy_eval_operations.specs.Operands.{items_of}
-use Rattle.wy_eval_operations.specs.Outcomes.{meter_of}
+use Rattle.wy_eval_expressions.specs.Operands.{items_of}
+use Rattle.wy_eval_expressions.specs.Outcomes.{meter_of}
 use Rattle.wy_eval_expressions.proofs.StepLemmas.{refused}
 use Rattle.wy_eval_calls.proofs.TextLemmas.{text_wrong}
 use Rattle.wy_eval_calls.proofs.printing.text_of.Goals as goal

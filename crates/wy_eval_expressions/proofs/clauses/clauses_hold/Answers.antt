@@ -2,8 +2,8 @@ use Rattle.std.proofs.Common.{Some, map}
 use Rattle.wy_core.specs.CoreSeen.{seen_alias, seen_exprs}
 use Rattle.wy_sem.specs.Expressions as spec
 use Rattle.wy_sem.specs.TypeTests.{clause_setting}
-use Rattle.wy_eval_operations.specs.Outcomes.{itself, meter_of}
-use Rattle.wy_eval_scope.specs.Scopes.{store_of}
+use Rattle.wy_eval_expressions.specs.Outcomes.{itself, meter_of}
+use Rattle.wy_eval_expressions.specs.Scopes.{store_of}
 use Rattle.wy_eval_expressions.specs.Settings.{here}
 use Rattle.wy_eval_expressions.proofs.StepLemmas.{done, refused}
 use Rattle.wy_eval_expressions.proofs.VisitLemmas.{clauses_end, clauses_fail, clauses_stop, clauses_turn}

@@ -1,8 +1,8 @@
 use Rattle.std.proofs.Common.{Some, drop, map}
 use Rattle.wy_core.specs.CoreSeen.{seen_alias}
 use Rattle.wy_sem.specs.TypeTests.{clause_setting}
-use Rattle.wy_eval_operations.specs.Outcomes.{meter_of}
-use Rattle.wy_eval_scope.specs.Scopes.{store_of}
+use Rattle.wy_eval_expressions.specs.Outcomes.{meter_of}
+use Rattle.wy_eval_expressions.specs.Scopes.{store_of}
 use Rattle.wy_eval_expressions.specs.Settings.{here}
 use Rattle.wy_eval_expressions.proofs.VisitLemmas.{ClausesLeft}
 use Rattle.wy_eval_expressions.proofs.clauses.clauses_hold.Given as goal

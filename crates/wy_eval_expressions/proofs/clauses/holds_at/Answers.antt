@@ -5,8 +5,8 @@ use Rattle.wy_sem.specs.Expressions as spec
 use Rattle.wy_sem.specs.Meter.{Done, ◌>>=◌}
 use Rattle.wy_sem.specs.Operations.{as_truth}
 use Rattle.wy_sem.specs.TypeTests.{clause_setting}
-use Rattle.wy_eval_operations.specs.Outcomes.{itself, meter_of}
-use Rattle.wy_eval_scope.specs.Scopes.{store_of}
+use Rattle.wy_eval_expressions.specs.Outcomes.{itself, meter_of}
+use Rattle.wy_eval_expressions.specs.Scopes.{store_of}
 use Rattle.wy_eval_expressions.specs.Settings.{here, setting}
 use Rattle.wy_eval_expressions.proofs.StepLemmas.{gives_as, then_gives, then_stops}
 use Rattle.wy_eval_expressions.proofs.VisitLemmas.{clause_begins, truth_gives}

@@ -19,10 +19,10 @@ use Rattle.wy_sem.specs.TypeTests as tests
 use Rattle.wy_sem.specs.TypeTests.{items_tested, parts_tested}
 use Rattle.wy_sem.specs.Operations as operations
 use Rattle.wy_sem.specs.Operations.{needed}
-use Rattle.wy_eval_operations.specs.declared.stop.Stop.TheVariants as stop
-use Rattle.wy_eval_operations.specs.Operands.{items_of, parts_of}
-use Rattle.wy_eval_operations.specs.Outcomes.{itself, meter_of, stopped}
-use Rattle.wy_eval_scope.specs.Scopes.{scope, store_of}
+use Rattle.wy_eval_expressions.specs.declared.stop.Stop.TheVariants as stop
+use Rattle.wy_eval_expressions.specs.Operands.{items_of, parts_of}
+use Rattle.wy_eval_expressions.specs.Outcomes.{itself, meter_of, stopped}
+use Rattle.wy_eval_expressions.specs.Scopes.{scope, store_of}
 use Rattle.wy_eval_expressions.specs.Settings.{asked_by, data_in, items_by, named_by, parts_by, questions, setting, tests_at, turns_of}
 use Rattle.wy_eval_expressions.proofs.KindLemmas.{null_of, bool_of, int_of, var_of, call_of, neg_of, not_of, len_of, binary_of, is_of, index_of, field_of, list_of, repeat_of, record_of, quant_of, ty_null_of, ty_bool_of, ty_int_of, ty_any_of, ty_void_of, ty_record_of, ty_array_of, ty_union_of, ty_inter_of, ty_not_of, ty_named_of}
 use Rattle.wy_eval_expressions.proofs.StepLemmas.{gives_as, spent, refused, then_gives, then_is, then_stops, after_spend, as_kind, eval_stops, array_is, record_is, no_memory, turned, after_turn, asked_stops, as_ty}

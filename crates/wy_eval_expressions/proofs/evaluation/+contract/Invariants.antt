@@ -1,8 +1,8 @@
 use Rattle.std.proofs.Common.{◌+◌, ◌*◌, drop, map, ◌≡◌}
 use borrow.Author.Gap.{gap}
 use Rattle.wy_core.specs.CoreSeen.{seen_alias, seen_expr, seen_ty}
-use Rattle.wy_eval_operations.specs.Outcomes.{meter_of}
-use Rattle.wy_eval_scope.specs.Scopes.{scope, store_of}
+use Rattle.wy_eval_expressions.specs.Outcomes.{meter_of}
+use Rattle.wy_eval_expressions.specs.Scopes.{scope, store_of}
 use Rattle.wy_eval_expressions.specs.Settings.{questions, setting, turns_of}
 use Rattle.wy_eval_expressions.proofs.TurnLemmas.{ValuesLeft, FieldsLeft, HoldLeft, ItemsLeft, PartsLeft, TurnsLeft}
 use Rattle.wy_eval_expressions.proofs.evaluation.+contract.Given as goal

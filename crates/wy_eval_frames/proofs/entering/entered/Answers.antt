@@ -5,8 +5,8 @@ use Rattle.wy_value.specs.Seen.{seen}
 use Rattle.wy_term.specs.declared.cond.CondKind.TheVariants.{Requires}
 use Rattle.wy_sem.specs.Meter.{Run}
 use Rattle.wy_sem.specs.TypeTests.{clause_setting}
-use Rattle.wy_eval_operations.specs.Outcomes.{meter_of}
-use Rattle.wy_eval_scope.specs.Scopes.{store_of}
+use Rattle.wy_eval_expressions.specs.Outcomes.{meter_of}
+use Rattle.wy_eval_expressions.specs.Scopes.{store_of}
 use Rattle.wy_eval_expressions.specs.Settings.{here}
 use Rattle.wy_eval_frames.specs.Entries.{entering}
 use Rattle.wy_eval_frames.proofs.EntryLemmas.{goes_refused}

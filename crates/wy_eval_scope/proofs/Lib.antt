@@ -1,2 +1,0 @@
-pub mod StoreLemmas
-pub mod LoopLemmas

@@ -1,2 +1,0 @@
--- what an expression sees
-pub mod Scopes

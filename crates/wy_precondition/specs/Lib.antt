@@ -1,2 +1,0 @@
--- what a test of a precondition finds
-pub mod Verdicts
