@@ -16,7 +16,7 @@ use Rattle.wy_eval_expressions.specs.Outcomes.{stopped}
 use Rattle.wy_eval_expressions.proofs.OperandLemmas.{not_truth}
 use Rattle.wy_eval_expressions.specs.Settings.{here}
 use Rattle.wy_eval_expressions.proofs.StepLemmas.{done, spent, spent_stops, then_is, then_stops_plain}
-use Rattle.wy_eval_frames.proofs.FollowLemmas.{clauses_same, clauses_stops, clauses_then}
+use Rattle.wy_eval.proofs.FollowLemmas.{clauses_same, clauses_stops, clauses_then}
 use Rattle.wy_eval.specs.Settings.{code, kept}
 
 -- ---- the test of a condition

@@ -21,9 +21,9 @@ use Rattle.wy_eval_expressions.specs.declared.stop.Stop.TheVariants as stop
 use Rattle.wy_eval_expressions.specs.Outcomes.{stopped}
 use Rattle.wy_eval_expressions.specs.Settings.{here}
 use Rattle.wy_eval_expressions.proofs.StepLemmas.{done, spent, spent_stops}
-use Rattle.wy_eval_frames.specs.Entries.{entering}
-use Rattle.wy_eval_frames.specs.Exits.{frame}
-use Rattle.wy_eval_frames.proofs.FollowLemmas.{clauses_same}
+use Rattle.wy_eval.specs.Entries.{entering}
+use Rattle.wy_eval.specs.Exits.{frame}
+use Rattle.wy_eval.proofs.FollowLemmas.{clauses_same}
 use Rattle.wy_eval.specs.Settings.{code, built_in_call}
 
 -- ---- clauses in code are those of contracts

@@ -12,7 +12,7 @@ use Rattle.wy_eval_expressions.specs.declared.stop.Stop.TheVariants as stop
 use Rattle.wy_eval_expressions.specs.Outcomes.{stopped}
 use Rattle.wy_eval_expressions.specs.Scopes.{store_of}
 use Rattle.wy_eval_expressions.specs.Settings.{here}
-use Rattle.wy_eval_frames.specs.Exits.{seen_exit}
+use Rattle.wy_eval.specs.Exits.{seen_exit}
 use Rattle.wy_eval.specs.declared.turning.Turn.{Turn}
 use Rattle.wy_eval.specs.declared.turning.Turn.TheVariants as turn
 use Rattle.wy_eval.specs.Settings.{kept}

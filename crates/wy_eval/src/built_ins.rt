@@ -8,9 +8,10 @@ ghost use Rattle.wy_eval_expressions.specs.Operands.{seen_option};
 ghost use Rattle.wy_eval_expressions.specs.Outcomes.{Gives, meter_of};
 ghost use Rattle.wy_eval.specs.Settings.{built_in_call};
 
+use crate::printing::{print_call, print_int_call};
+use crate::program::Program;
 use std::alloc::Global;
 use wy_core::{Core, Decl, Routine};
-use wy_eval_calls::{Program, print_call, print_int_call};
 use wy_eval_expressions::{Meter, Stop};
 use wy_term::CondKind;
 use wy_value::Value;

@@ -9,12 +9,14 @@ ghost use Rattle.wy_eval_expressions.specs.Outcomes.{Gives, meter_of};
 ghost use Rattle.wy_eval_expressions.specs.Settings.{here};
 
 use crate::built_ins::{built_in, find};
+use crate::entering::entered;
+use crate::leaving::{copied, result_of};
+use crate::program::Program;
 use crate::statements::exec_all;
+use crate::variables::types_of;
 use std::alloc::Global;
 use wy_core::Core;
-use wy_eval_calls::{Program, types_of};
 use wy_eval_expressions::{Meter, Stop};
-use wy_eval_frames::{copied, entered, result_of};
 use wy_value::Value;
 
 /// A call, which spends a tick. Calls nest no deeper than the number says.

@@ -8,9 +8,9 @@ ghost use Rattle.wy_eval.specs.Endings.{IsExactEnd, SaysEnd};
 
 use crate::built_ins::find;
 use crate::calls::run;
+use crate::program::Program;
 use std::alloc::Global;
 use wy_core::Core;
-use wy_eval_calls::Program;
 use wy_eval_expressions::{Meter, NoMemory, ROOM, Stop};
 use wy_term::CondKind;
 use wy_value::Value;

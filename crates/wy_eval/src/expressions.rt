@@ -12,10 +12,11 @@ ghost use Rattle.wy_eval_expressions.specs.Settings.{data_in, turns_of};
 ghost use Rattle.wy_eval.specs.Settings.{code};
 
 use crate::calls::run;
+use crate::giving::tested;
+use crate::program::Program;
 use std::alloc::Global;
 use wy_core::{Core, Expr, ExprKind, Op};
 use wy_data::Name;
-use wy_eval_calls::{Program, tested};
 use wy_eval_expressions::{Meter, Stop, applied, as_numbers, as_truth, denied, early, field_of, item_of, length, needed, negated, repeated, variable, with_number};
 use wy_items::Items;
 use wy_value::Value;

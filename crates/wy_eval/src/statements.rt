@@ -5,18 +5,19 @@ ghost use Rattle.wy_core.specs.CoreTree.{aliases_of};
 ghost use Rattle.wy_sem.specs.Statements as spec;
 ghost use Rattle.wy_eval_expressions.specs.Outcomes.{Gives, meter_of};
 ghost use Rattle.wy_eval_expressions.specs.Scopes.{store_of};
-ghost use Rattle.wy_eval_frames.specs.Exits.{frame, seen_exit};
+ghost use Rattle.wy_eval.specs.Exits.{frame, seen_exit};
 ghost use Rattle.wy_eval.specs.Settings.{code, kept};
 
 use crate::assignments::assigned;
 use crate::calls::run;
+use crate::exits::{Exit, stored};
 use crate::expressions::{value_of, values_of};
+use crate::leaving::leave;
+use crate::program::Program;
 use crate::turning::{Turn, turned};
 use std::alloc::Global;
 use wy_core::{Core, Expr, Routine, Stmt, StmtKind, Ty};
-use wy_eval_calls::Program;
 use wy_eval_expressions::{Meter, Stop, as_truth, check, clauses_hold, holds_at, put};
-use wy_eval_frames::{Exit, leave, stored};
 use wy_term::CondKind;
 use wy_value::Value;
 

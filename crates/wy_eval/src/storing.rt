@@ -12,13 +12,14 @@ ghost use Rattle.wy_sem.specs.Statements.{Went, given};
 ghost use Rattle.wy_eval_expressions.specs.Outcomes.{Gives, meter_of};
 ghost use Rattle.wy_eval_expressions.specs.Scopes.{store_of};
 ghost use Rattle.wy_eval_expressions.specs.Settings.{here};
-ghost use Rattle.wy_eval_frames.specs.Exits.{seen_exit};
+ghost use Rattle.wy_eval.specs.Exits.{seen_exit};
 
+use crate::exits::{Exit, stored};
+use crate::program::Program;
+use crate::variables::type_at;
 use std::alloc::Global;
 use wy_core::Ty;
-use wy_eval_calls::{Program, type_at};
 use wy_eval_expressions::{Meter, Stop, put, variable};
-use wy_eval_frames::{Exit, stored};
 use wy_value::Value;
 
 /// The value goes into the variable, whose declared type it must be of.

@@ -28,8 +28,8 @@ use Rattle.wy_eval.proofs.StatementLemmas.{declare_of, assign_of, call_of as cal
 use Rattle.wy_sem.specs.Statements as statements
 use Rattle.wy_sem.specs.Statements.{exec_all}
 use Rattle.wy_sem.specs.Evaluation.{callee, result_of, run as spec_run}
-use Rattle.wy_eval_frames.specs.Exits.{frame, seen_exit}
-use Rattle.wy_eval_frames.proofs.FollowLemmas.{checked, checked_stops, clauses_then, clauses_stops}
+use Rattle.wy_eval.specs.Exits.{frame, seen_exit}
+use Rattle.wy_eval.proofs.FollowLemmas.{checked, checked_stops, clauses_then, clauses_stops}
 use Rattle.wy_eval.specs.Turns.{GoesRound}
 use Rattle.wy_eval.proofs.RoundLemmas.{truth_is, truth_stops, truth_faults, turning, round_unticked, round_untested, round_begun, round_left, round_unended, round_ended}
 use Rattle.wy_eval.proofs.PathLemmas.{path_begin, index_steps, index_stops, index_wrong, field_steps, field_missing, step_refused, path_turn, path_stop, path_end}

@@ -7,7 +7,7 @@ use Rattle.wy_eval_expressions.specs.Outcomes.{meter_of}
 use Rattle.wy_eval_expressions.specs.Scopes.{scope, store_of}
 use Rattle.wy_eval_expressions.specs.Settings.{turns_of}
 use Rattle.wy_eval_expressions.proofs.TurnLemmas.{ValuesLeft, FieldsLeft, TurnsLeft}
-use Rattle.wy_eval_frames.specs.Exits.{frame}
+use Rattle.wy_eval.specs.Exits.{frame}
 use Rattle.wy_eval.specs.Settings.{code}
 use Rattle.wy_eval.proofs.PathLemmas.{PathLeft}
 use Rattle.wy_eval.proofs.RoundLemmas.{RoundsLeft}

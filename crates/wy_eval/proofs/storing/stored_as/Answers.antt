@@ -10,7 +10,7 @@ use Rattle.wy_eval_expressions.specs.Outcomes.{meter_of}
 use Rattle.wy_eval_expressions.specs.Scopes.{store_of}
 use Rattle.wy_eval_expressions.specs.Settings.{here}
 use Rattle.wy_eval_expressions.proofs.StepLemmas.{gives_as}
-use Rattle.wy_eval_frames.specs.Exits.{seen_exit}
+use Rattle.wy_eval.specs.Exits.{seen_exit}
 use Rattle.wy_eval.proofs.storing.stored_as.Goals as goal
 
 pub returns-in-Some : goal.returns-in-Some

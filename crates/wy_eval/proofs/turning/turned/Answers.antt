@@ -7,8 +7,8 @@ use Rattle.wy_sem.specs.TypeTests.{clause_setting}
 use Rattle.wy_eval_expressions.specs.Outcomes.{meter_of}
 use Rattle.wy_eval_expressions.specs.Scopes.{store_of}
 use Rattle.wy_eval_expressions.specs.Settings.{here}
-use Rattle.wy_eval_frames.specs.Exits.{seen_exit}
-use Rattle.wy_eval_frames.proofs.FollowLemmas.{clauses_stops, clauses_then}
+use Rattle.wy_eval.specs.Exits.{seen_exit}
+use Rattle.wy_eval.proofs.FollowLemmas.{clauses_stops, clauses_then}
 use Rattle.wy_eval.specs.Settings.{kept}
 use Rattle.wy_eval.proofs.TurnedLemmas.{round_refused}
 use Rattle.wy_eval.proofs.turning.turned.Goals as goal

@@ -1,4 +1,0 @@
--- how statements end
-pub mod Exits
--- how calls begin
-pub mod Entries
