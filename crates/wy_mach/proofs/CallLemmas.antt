@@ -20,12 +20,12 @@ use Rattle.wy_code.specs.declared.routines.Routine.{Routine}
 use Rattle.wy_code.specs.declared.routines.Code.{Code}
 use Rattle.wy_sem.specs.Expressions.{Store, slot, put, data_of}
 use Rattle.wy_step.specs.Step.{Frame, Caller, State, Effect, Calls, Returns, Stuck, Runs, stepped, entered, returned, moved_all, holding, empties}
-use Rattle.wy_mach_instructions.specs.Showing.{Shows}
-use Rattle.wy_mach_instructions.specs.Taking.{taken, emptied, AreWithin, nulls}
-use Rattle.wy_mach_instructions.proofs.EffectLemmas.{by_there}
-use Rattle.wy_mach_instructions.proofs.RegisterLemmas.{shows_kept, keeps_fewer, shows_put, shows_slot, slot_within, taken_out, among_first}
-use Rattle.wy_mach_instructions.proofs.RecordLemmas.{length-taken}
-use Rattle.wy_mach_instructions.proofs.TakeLemmas.{took, taken_stands, beyond_fails}
+use Rattle.wy_mach.specs.Showing.{Shows}
+use Rattle.wy_mach.specs.Taking.{taken, emptied, AreWithin, nulls}
+use Rattle.wy_mach.proofs.EffectLemmas.{by_there}
+use Rattle.wy_mach.proofs.RegisterLemmas.{shows_kept, keeps_fewer, shows_put, shows_slot, slot_within, taken_out, among_first}
+use Rattle.wy_mach.proofs.RecordLemmas.{length-taken}
+use Rattle.wy_mach.proofs.TakeLemmas.{took, taken_stands, beyond_fails}
 use Rattle.wy_mach.specs.declared.frames.Caller as of_callers
 use Rattle.wy_mach.specs.declared.machine.Machine.{Machine}
 use Rattle.wy_mach.specs.declared.machine.Turn.{Turn}

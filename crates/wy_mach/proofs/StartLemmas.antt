@@ -19,9 +19,9 @@ use Rattle.wy_code.specs.declared.routines.Routine.{Routine}
 use Rattle.wy_code.specs.declared.routines.Code.{Code}
 use Rattle.wy_sem.specs.Expressions.{data_of}
 use Rattle.wy_step.specs.Step.{Frame, Runs, Stuck, entered, holding, empties}
-use Rattle.wy_mach_instructions.specs.Showing.{Shows}
-use Rattle.wy_mach_instructions.specs.Taking.{nulls}
-use Rattle.wy_mach_instructions.proofs.RegisterLemmas.{keeps_fewer, among_first}
+use Rattle.wy_mach.specs.Showing.{Shows}
+use Rattle.wy_mach.specs.Taking.{nulls}
+use Rattle.wy_mach.proofs.RegisterLemmas.{keeps_fewer, among_first}
 use Rattle.wy_mach.specs.declared.machine.Machine.{Machine}
 use Rattle.wy_mach.specs.Running.{ShowsFirst, Starts}
 use Rattle.wy_mach.proofs.CallLemmas.{alike, held-nulls}

@@ -14,13 +14,13 @@ use Rattle.wy_code.specs.declared.instructions.Instr.TheVariants as instr
 use Rattle.wy_code.specs.declared.routines.Code.{Code}
 use Rattle.wy_sem.specs.Expressions.{Store, slot}
 use Rattle.wy_step.specs.Step.{Frame, Caller, Effect, GoesOn, GoesTo, Calls, Returns, Fails, effect, stepped, executed, next_of, instr_at, there, as_truth}
-use Rattle.wy_mach_instructions.specs.declared.stop.Stop.{Stop}
-use Rattle.wy_mach_instructions.specs.declared.stop.Stop.TheVariants as stop
-use Rattle.wy_mach_instructions.specs.declared.stop.Stuck as instruction
-use Rattle.wy_mach_instructions.specs.Showing.{Shows, Leaves, WentOn, HasNone, Turns}
-use Rattle.wy_mach_instructions.specs.Operands.{truth_in, Reads}
-use Rattle.wy_mach_instructions.proofs.OperandLemmas.{truth-there}
-use Rattle.wy_mach_output.specs.Printed.{TookAll, TookSome, Prints, PrintsSome}
+use Rattle.wy_mach.specs.declared.stop.Stop.{Stop}
+use Rattle.wy_mach.specs.declared.stop.Stop.TheVariants as stop
+use Rattle.wy_mach.specs.declared.stop.Stuck as instruction
+use Rattle.wy_mach.specs.Showing.{Shows, Leaves, WentOn, HasNone, Turns}
+use Rattle.wy_mach.specs.Operands.{truth_in, Reads}
+use Rattle.wy_mach.proofs.OperandLemmas.{truth-there}
+use Rattle.wy_mach.specs.Printed.{TookAll, TookSome, Prints, PrintsSome}
 use Rattle.wy_mach.specs.declared.machine.Machine.{Machine}
 use Rattle.wy_mach.specs.declared.machine.Turn.{Turn}
 use Rattle.wy_mach.specs.declared.machine.Turn.TheVariants as turn

@@ -1,3 +1,16 @@
+pub mod Showing
+pub mod Operands
+pub mod Looking
+pub mod Taking
+pub mod Filling
+pub mod Records
+pub mod Kinds
+-- definitions of contracts
+pub mod Parts
+pub mod Paths
+-- definitions of contracts
+pub mod Texts
+pub mod Printed
 -- the states of the machine
 pub mod States
 -- what a turn and a run do

@@ -14,12 +14,12 @@ use Rattle.wy_port.specs.Taken.{TookFront, with_taken}
 use Rattle.wy_code.specs.declared.instructions.Instr.{Instr}
 use Rattle.wy_code.specs.declared.instructions.Instr.TheVariants as instr
 use Rattle.wy_code.specs.declared.routines.Code.{Code}
-use Rattle.wy_mach_instructions.specs.declared.stop.Stop.{Stop}
-use Rattle.wy_mach_instructions.specs.declared.stop.Stop.TheVariants as stop
-use Rattle.wy_mach_instructions.specs.declared.stop.Stuck as instruction
+use Rattle.wy_mach.specs.declared.stop.Stop.{Stop}
+use Rattle.wy_mach.specs.declared.stop.Stop.TheVariants as stop
+use Rattle.wy_mach.specs.declared.stop.Stuck as instruction
 use Rattle.wy_step.specs.Step.{Frame, Caller, State, Runs, Ended, Stuck, step, stepped, effect, instr_at, after, start, holding, empties}
 use Rattle.wy_sem.specs.Expressions.{data_of}
-use Rattle.wy_mach_instructions.specs.Showing.{Shows, IsNoInt}
+use Rattle.wy_mach.specs.Showing.{Shows, IsNoInt}
 use Rattle.wy_mach.specs.declared.machine.Machine.{Machine}
 use Rattle.wy_mach.specs.declared.machine.Turn.{Turn}
 use Rattle.wy_mach.specs.declared.machine.Turn.TheVariants as turn

@@ -9,7 +9,7 @@ use Rattle.wy_code.specs.declared.instructions.Scalar.{Scalar}
 use Rattle.wy_code.specs.declared.instructions.Instr.TheVariants.{Const}
 use Rattle.wy_code.specs.declared.routines.Code.{Code}
 use Rattle.wy_step.specs.Step.{Frame, Caller, instr_at}
-use Rattle.wy_mach_instructions.specs.Showing.{Shows, IsNoInt}
+use Rattle.wy_mach.specs.Showing.{Shows, IsNoInt}
 use Rattle.wy_mach.specs.declared.frames.Frame as of_frames
 use Rattle.wy_mach.specs.declared.frames.Caller as of_callers
 use Rattle.wy_mach.specs.declared.machine.Machine.{Machine}

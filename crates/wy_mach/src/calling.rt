@@ -9,12 +9,15 @@ ghost use Rattle.wy_code.specs.declared.instructions.Instr.{Instr};
 ghost use Rattle.wy_mach.specs.States.{places_of, places_below, callers_of};
 ghost use Rattle.wy_mach.specs.Running.{TurnsBy, Turned, KeepsRest, HasTextOf, Enters, Resumes, IsEnd, next_by};
 
+use crate::entering::entry_registers;
 use crate::frames::{Caller, Frame, leave};
 use crate::machine::{Machine, Turn};
+use crate::making::{release_all, take_all};
+use crate::registers::{put, take};
+use crate::stop::Stop;
 use std::mem;
 use wy_code::Code;
 use wy_heap::{NoMemory, Place};
-use wy_mach_instructions::{Stop, entry_registers, put, release_all, take, take_all};
 
 impl Machine {
     // `Call`

@@ -5,8 +5,8 @@ ghost use Rattle.wy_heap.specs.Nodes.{map_of};
 ghost use Rattle.wy_heap.specs.Standing.{Stands, AreHeld, Acts, SameTable};
 ghost use Rattle.wy_heap.specs.Changing.{Lasts};
 
+use crate::making::release_all;
 use wy_heap::{Heap, Place};
-use wy_mach_instructions::release_all;
 
 /// The frame of a routine that runs: its number, the number of its next instruction, and its registers.
 /// An empty register is null.

@@ -7,12 +7,13 @@ ghost use Rattle.wy_mach.specs.States.{IsMachine, places_of, places_below};
 ghost use Rattle.wy_mach.specs.Running.{Turned, TurnsBy, IsPlain, HasInt, KeepsRest, MayTakeMemory, MayWantMemory, next_in, next_by, instr_of};
 
 use crate::frames::{Caller, Frame, leave};
+use crate::operands::truth;
 use crate::plain::plain;
+use crate::printing::{PrintStop, print, print_int};
+use crate::stop::Stop;
 use std::alloc::Global;
 use wy_code::{Code, Instr};
 use wy_heap::{Heap, NoMemory, Slot};
-use wy_mach_instructions::{Stop, truth};
-use wy_mach_output::{PrintStop, print, print_int};
 use wy_port::Sink;
 
 /// A run of code: the heap, the frame that runs, those that wait for it, the last caller last, and room

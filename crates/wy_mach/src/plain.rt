@@ -5,17 +5,24 @@ ghost use Rattle.wy_heap.specs.Nodes.{map_of};
 ghost use Rattle.wy_heap.specs.Extending.{Extends};
 ghost use Rattle.wy_heap.specs.Standing.{SameTable};
 ghost use Rattle.wy_step.specs.Step.{effect};
-ghost use Rattle.wy_mach_instructions.specs.Showing.{WentOn, HasNone, IsStop, Turns, AreRegisters};
+ghost use Rattle.wy_mach.specs.Showing.{WentOn, HasNone, IsStop, Turns, AreRegisters};
 ghost use Rattle.wy_mach.specs.Running.{IsPlain, IsMoving, HasInt, MayTakeMemory, stop_result};
 
+use crate::comparing::equal;
+use crate::filling::fill;
+use crate::items::item;
+use crate::kinds::kind;
+use crate::looking::length;
+use crate::making::array;
+use crate::moving::{clear, load, move_to, share};
+use crate::numbers::{arith, compare, negate};
+use crate::parts::field;
+use crate::records::record;
+use crate::stop::{Stop, Stuck};
+use crate::updating::update;
 use std::alloc::Global;
 use wy_code::Instr;
 use wy_heap::{Heap, Place, Slot};
-use wy_mach_instructions::{
-    Stop, Stuck, arith, array, clear, compare, equal, fill, item, kind, length, load, move_to,
-    negate, record, share,
-};
-use wy_mach_updates::{field, update};
 use wy_value::Shapes;
 
 // makes an instruction that goes on behind and prints nothing

@@ -9,18 +9,19 @@ ghost use Rattle.wy_heap.specs.Extending.{Extends};
 ghost use Rattle.wy_heap.specs.Standing.{Stands};
 ghost use Rattle.wy_code.specs.declared.routines.Routine.{Routine};
 ghost use Rattle.wy_step.specs.Step.{holding, empties};
-ghost use Rattle.wy_mach_instructions.specs.Showing.{Shows};
+ghost use Rattle.wy_mach.specs.Showing.{Shows};
 ghost use Rattle.wy_mach.specs.States.{IsMachine, HasInts};
 ghost use Rattle.wy_mach.specs.Running.{Starts};
 
+use crate::entering::entry_registers;
 use crate::frames::Frame;
 use crate::machine::Machine;
+use crate::making::release_all;
 use std::alloc::{AllocError, Global};
 use wy_code::{Code, Instr};
 use wy_data::Name;
 use wy_heap::{Heap, NoMemory, Place, Slot};
 use wy_items::Items;
-use wy_mach_instructions::{entry_registers, release_all};
 use wy_value::{Shapes, Value};
 
 impl Machine {

@@ -6,7 +6,7 @@ use Rattle.wy_code.specs.declared.instructions.Instr.{Instr}
 use Rattle.wy_code.specs.declared.instructions.Instr.TheVariants.{Const}
 use Rattle.wy_code.specs.declared.routines.Routine.{Routine}
 use Rattle.wy_step.specs.Step.{instr_at}
-use Rattle.wy_mach_instructions.specs.Showing.{IsNoInt}
+use Rattle.wy_mach.specs.Showing.{IsNoInt}
 use Rattle.wy_mach.specs.Running.{HasInt}
 
 get_is : (is : List Instr) (at : ℕ) (i : Instr) → slice_get is at ≡ Some i → get_or is at i ≡ i

@@ -15,7 +15,7 @@ use Rattle.wy_compiled.specs.Programs.{body_routine, body_routines, code_of, typ
 use Rattle.wy_core.specs.CoreTree.{Core, Routine, aliases_of, routines_of}
 use Rattle.wy_formed.specs.Literals.{IsInt}
 use Rattle.wy_mach.specs.States.{HasInts}
-use Rattle.wy_mach_instructions.specs.Showing.{IsNoInt}
+use Rattle.wy_mach.specs.Showing.{IsNoInt}
 use Rattle.wy_running.specs.Running.{CanRun}
 use Rattle.wy_starting.specs.Starting.{Starts}
 use Rattle.wy_starting.specs.declared.parts.Start.{Start}

@@ -2,7 +2,7 @@
 ghost use Rattle.std.specs.Prelude.{◌≡◌, Some, IfOk, All, slice_get};
 ghost use Rattle.wy_value.specs.Shapes.{IsShapes};
 ghost use Rattle.wy_code.specs.declared.routines.Routine.{Routine};
-ghost use Rattle.wy_mach_instructions.specs.Showing.{IsNoInt};
+ghost use Rattle.wy_mach.specs.Showing.{IsNoInt};
 ghost use Rattle.wy_mach.specs.States.{HasInts};
 ghost use Rattle.wy_mach.specs.Running.{HasInt};
 

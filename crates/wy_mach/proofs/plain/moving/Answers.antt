@@ -5,8 +5,8 @@ use Rattle.wy_heap.specs.Nodes.{map_of}
 use Rattle.wy_code.specs.declared.instructions.Instr.{Instr}
 use Rattle.wy_code.specs.declared.instructions.Instr.TheVariants as instr
 use Rattle.wy_step.specs.Step.{effect}
-use Rattle.wy_mach_instructions.specs.Showing.{WentOn, HasNone, IsNoInt}
-use Rattle.wy_mach_instructions.proofs.MakeLemmas.{on_ok}
+use Rattle.wy_mach.specs.Showing.{WentOn, HasNone, IsNoInt}
+use Rattle.wy_mach.proofs.MakeLemmas.{on_ok}
 use Rattle.wy_mach.specs.Running.{HasInt}
 use Rattle.wy_mach.proofs.TurnLemmas.{on_err, none_moves}
 use Rattle.wy_mach.proofs.plain.moving.Goals as goal

@@ -7,10 +7,10 @@ use Rattle.wy_code.specs.declared.instructions.Slot.{Slot}
 use Rattle.wy_code.specs.declared.instructions.Instr.{Instr}
 use Rattle.wy_code.specs.declared.instructions.Instr.TheVariants as instr
 use Rattle.wy_step.specs.Step.{effect}
-use Rattle.wy_mach_instructions.specs.declared.stop.Stop.{Stop}
-use Rattle.wy_mach_instructions.specs.declared.stop.Stop.TheVariants as stop
-use Rattle.wy_mach_instructions.specs.Showing.{WentOn, IsStop}
-use Rattle.wy_mach_instructions.proofs.MakeLemmas.{on_ok}
+use Rattle.wy_mach.specs.declared.stop.Stop.{Stop}
+use Rattle.wy_mach.specs.declared.stop.Stop.TheVariants as stop
+use Rattle.wy_mach.specs.Showing.{WentOn, IsStop}
+use Rattle.wy_mach.proofs.MakeLemmas.{on_ok}
 use Rattle.wy_mach.specs.Running.{MayTakeMemory}
 use Rattle.wy_mach.proofs.TurnLemmas.{if_err, all_err, ok_of_stop, err_of_stop, not_memory, is_moving}
 use Rattle.wy_mach.proofs.plain.plain.Goals as goal

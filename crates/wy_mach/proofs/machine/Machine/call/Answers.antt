@@ -3,7 +3,7 @@ use Rattle.std.proofs.lemmas.List.{with_items_is}
 use Rattle.std.specs.Vec.{with_items}
 use Rattle.wy_heap.specs.declared.part.Part.{Part}
 use Rattle.wy_code.specs.declared.instructions.Instr.TheVariants as instr
-use Rattle.wy_mach_instructions.specs.Taking.{AreWithin, taken, emptied}
+use Rattle.wy_mach.specs.Taking.{AreWithin, taken, emptied}
 use Rattle.wy_mach.specs.declared.machine.Machine.{Machine}
 use Rattle.wy_mach.specs.declared.machine.Turn.{Turn}
 use Rattle.wy_mach.specs.Running.{Turned, Enters, next_by}

@@ -3,7 +3,7 @@ use Rattle.wy_heap.specs.declared.part.Part.{Part}
 use Rattle.wy_heap.specs.declared.heap.Heap.{Heap}
 use Rattle.wy_heap.specs.Standing.{Stands}
 use Rattle.wy_step.specs.Step.{holding, empties}
-use Rattle.wy_mach_instructions.specs.Showing.{Shows}
+use Rattle.wy_mach.specs.Showing.{Shows}
 use Rattle.wy_mach.specs.declared.frames.Frame.{Frame}
 use Rattle.wy_mach.specs.States.{places_of}
 use Rattle.wy_mach.proofs.CallLemmas.{pushed_places}

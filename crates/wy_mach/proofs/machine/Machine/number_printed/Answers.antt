@@ -3,9 +3,9 @@ use Rattle.wy_heap.specs.declared.part.Part.{Part}
 use Rattle.wy_heap.specs.Nodes.{map_of}
 use Rattle.wy_code.specs.declared.instructions.Instr.TheVariants as instr
 use Rattle.wy_step.specs.Step.{effect}
-use Rattle.wy_mach_output.specs.declared.printing.PrintStop.{PrintStop}
-use Rattle.wy_mach_output.specs.declared.printing.PrintStop.TheVariants as stop
-use Rattle.wy_mach_output.specs.Printed.{Prints, IsPrintStop}
+use Rattle.wy_mach.specs.declared.printing.PrintStop.{PrintStop}
+use Rattle.wy_mach.specs.declared.printing.PrintStop.TheVariants as stop
+use Rattle.wy_mach.specs.Printed.{Prints, IsPrintStop}
 use Rattle.wy_mach.proofs.TurnLemmas.{print_steps, print_fault, no_step}
 use Rattle.wy_mach.proofs.machine.Machine.number_printed.Goals as goal
 

@@ -4,8 +4,8 @@ use Rattle.std.specs.Vec.{with_items}
 use Rattle.wy_heap.specs.declared.part.Part.{Part}
 use Rattle.wy_heap.specs.Nodes.{map_of}
 use Rattle.wy_step.specs.Step.{effect}
-use Rattle.wy_mach_instructions.specs.declared.stop.Stop.{Stop}
-use Rattle.wy_mach_instructions.specs.Showing.{WentOn, HasNone, IsStop, Turns, AreRegisters}
+use Rattle.wy_mach.specs.declared.stop.Stop.{Stop}
+use Rattle.wy_mach.specs.Showing.{WentOn, HasNone, IsStop, Turns, AreRegisters}
 use Rattle.wy_mach.specs.declared.machine.Machine.{Machine}
 use Rattle.wy_mach.proofs.StateLemmas.{registers_held, stands_turned}
 use Rattle.wy_mach.proofs.TurnLemmas.{plain_steps, no_step}

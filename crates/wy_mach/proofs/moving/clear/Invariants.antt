@@ -1,0 +1,11 @@
+use Rattle.std.proofs.Common.{◌≡◌, drop}
+use Rattle.wy_mach.proofs.MoveLemmas.{Clears}
+use Rattle.wy_mach.proofs.moving.clear.Given as goal
+
+abbrev pub invariant-loop-number : goal.invariant-loop-number
+invariant-loop-number l = record {
+  clears : Clears l.fn.heap l.heap l.fn.registers l.registers l.fn.numbers (drop l.number-index l.numbers);
+  shapes : l.heap.shapes ≡ l.fn.heap.shapes;
+  cap : l.heap.cap ≡ l.fn.heap.cap;
+  copies : l.heap.copies ≡ l.fn.heap.copies;
+}

@@ -1,0 +1,11 @@
+use Rattle.wy_mach.proofs.RegisterLemmas.{scalar_turns, scalar_free}
+use Rattle.wy_mach.proofs.MoveLemmas.{const_goes}
+use Rattle.wy_mach.proofs.moving.load.Goals as goal
+
+pub returns-clause-turns : goal.returns-clause-turns
+returns-clause-turns c =
+    scalar_turns c.args.heap.now c.put.new.heap c.args.registers.now c.put.new.registers c.scalar.result (scalar_free c.scalar.result c.in-Some.kind c.scalar.ensures.value) c.put.ensures.acts
+
+pub returns-clause-value : goal.returns-clause-value
+returns-clause-value c shapes =
+    const_goes c.args.heap.now c.put.new.heap c.args.registers.now c.put.new.registers c.args.to c.args.constant c.in-Some.kind c.scalar.result c.requires.held c.in-Some.ensures.1 c.scalar.ensures.value c.put.ensures.acts c.put.ensures.registers

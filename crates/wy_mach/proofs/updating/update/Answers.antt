@@ -1,0 +1,91 @@
+use Rattle.std.proofs.Common.{◌≡◌, ◌≤◌, ◌<◌, ◌∷◌, [], length, sym, subst, rules}
+use Rattle.wy_value.specs.declared.shapes.Shapes.{Shapes}
+use Rattle.wy_heap.specs.Nodes.{map_of}
+use Rattle.wy_heap.specs.Extending.{Extends}
+use Rattle.wy_heap.specs.Slots.{steps_of, IsPath}
+use Rattle.wy_code.specs.declared.instructions.Instr.TheVariants as instr
+use Rattle.wy_step.specs.Step.{effect}
+use Rattle.wy_mach.specs.declared.stop.Stop.{Stop}
+use Rattle.wy_mach.specs.declared.stop.Stop.TheVariants as stop
+use Rattle.wy_mach.specs.Showing.{WentOn, IsStop}
+use Rattle.wy_mach.specs.Taking.{GivesMade}
+use Rattle.wy_mach.proofs.MakeLemmas.{are_taken, taken_turns, on_ok}
+use Rattle.wy_mach.specs.Paths.{AreSlotsOf, written_made}
+use Rattle.wy_mach.proofs.UpdateLemmas.{two_taken, two_emptied, two_within, put_goes, put_lacks, put_beyond, whole_beyond, put_stops, on_err}
+use Rattle.wy_mach.proofs.updating.update.Goals as goal
+
+pub returns-in-Err-clause-stop : goal.returns-in-Err-clause-stop
+returns-in-Err-clause-stop c shapes extends =
+    put_lacks c.args.heap.now shapes c.args.registers.now c.args.whole c.args.from c.args.steps.now c.in-Err.stop c.in-Err.ensures.stop
+
+pub returns-then-from-registers-clause-stop : goal.returns-then-from-registers-clause-stop
+returns-then-from-registers-clause-stop c shapes extends =
+    let beyond : length c.args.registers.now ≤ c.args.from = search rules in
+    put_beyond c.args.heap.now shapes c.args.registers.now c.args.whole c.args.from c.args.steps.now c.slots.new.path.items extends c.in-Ok.ensures.value beyond
+
+pub returns-then-whole-registers-clause-stop : goal.returns-then-whole-registers-clause-stop
+returns-then-whole-registers-clause-stop c shapes extends =
+    let beyond : length c.args.registers.now ≤ c.args.whole = search rules in
+    whole_beyond c.args.heap.now shapes c.args.registers.now c.args.whole c.args.from c.args.steps.now c.slots.new.path.items extends c.in-Ok.ensures.value beyond
+
+pub written-requires : goal.written-requires
+written-requires c =
+    let ps = c.args.registers.now in
+    let one = c.take-item.new.registers in
+    let two = c.take-place.new.registers in
+    let from = c.args.from in
+    let whole = c.args.whole in
+    let first : from < length ps = search rules in
+    let second : whole < length ps = search rules in
+    record {
+      held = are_taken c.args.heap.now ps (c.take-item.result ∷ c.take-place.result ∷ []) two (from ∷ whole ∷ []) (two_within (length ps) from whole first second)
+          (two_taken ps one c.take-item.result c.take-place.result from whole c.take-item.ensures.value c.take-item.ensures.registers c.take-place.ensures.value)
+          (two_emptied ps one two from whole c.take-item.ensures.registers c.take-place.ensures.registers) c.requires.held;
+    }
+
+pub returns-clause-turns : goal.returns-clause-turns
+returns-clause-turns c =
+    let ps = c.args.registers.now in
+    let one = c.take-item.new.registers in
+    let two = c.take-place.new.registers in
+    let from = c.args.from in
+    let whole = c.args.whole in
+    let first : from < length ps = search rules in
+    let second : whole < length ps = search rules in
+    taken_turns c.args.heap.now c.written.new.heap ps (c.take-item.result ∷ c.take-place.result ∷ []) two c.written.new.registers (from ∷ whole ∷ []) (two_within (length ps) from whole first second)
+    (two_taken ps one c.take-item.result c.take-place.result from whole c.take-item.ensures.value c.take-item.ensures.registers c.take-place.ensures.value)
+    (two_emptied ps one two from whole c.take-item.ensures.registers c.take-place.ensures.registers) c.written.ensures.turns
+
+pub returns-clause-value : goal.returns-clause-value
+returns-clause-value c =
+    let h = c.args.heap.now in
+    let n = c.written.new.heap in
+    let ps = c.args.registers.now in
+    let one = c.take-item.new.registers in
+    let two = c.take-place.new.registers in
+    let spent = c.take-item.result ∷ c.take-place.result ∷ [] in
+    let from = c.args.from in
+    let whole = c.args.whole in
+    let path = c.as_slice.result.now in
+    let are : AreSlotsOf h ps c.args.steps.now path = subst (AreSlotsOf h ps c.args.steps.now) (sym c.as_slice.ensures.value) c.in-Ok.ensures.value in
+    on_ok c.written.result (GivesMade h n spent two c.written.new.registers whole (written_made (steps_of h.shapes path)))
+    ((shapes : Shapes) → Extends shapes h.shapes → WentOn (map_of h) (map_of n) ps c.written.new.registers (effect shapes (instr.Put whole c.args.steps.now from)))
+    (λ made shapes extends. put_goes h n shapes ps spent two c.written.new.registers whole from c.args.steps.now path extends are
+    (two_taken ps one c.take-item.result c.take-place.result from whole c.take-item.ensures.value c.take-item.ensures.registers c.take-place.ensures.value)
+    (two_emptied ps one two from whole c.take-item.ensures.registers c.take-place.ensures.registers) made)
+    c.written.ensures.value
+
+pub returns-clause-stop : goal.returns-clause-stop
+returns-clause-stop c =
+    let h = c.args.heap.now in
+    let ps = c.args.registers.now in
+    let one = c.take-item.new.registers in
+    let place = c.take-place.result in
+    let from = c.args.from in
+    let whole = c.args.whole in
+    let path = c.as_slice.result.now in
+    let are : AreSlotsOf h ps c.args.steps.now path = subst (AreSlotsOf h ps c.args.steps.now) (sym c.as_slice.ensures.value) c.in-Ok.ensures.value in
+    on_err c.written.result (λ (e : Stop). e ≡ stop.Stuck → IsPath h place path → ⊥)
+    (λ (e : Stop). (shapes : Shapes) → Extends shapes h.shapes → IsStop (map_of h) ps (effect shapes (instr.Put whole c.args.steps.now from)) e)
+    (λ e none shapes extends. put_stops h shapes ps one place whole from c.args.steps.now path e extends are c.take-item.ensures.registers c.take-place.ensures.value none)
+    c.written.ensures.stop

@@ -1,0 +1,97 @@
+//! The instruction `Put`.
+ghost use Rattle.std.specs.Prelude.{◌≡◌, ◌∷◌, [], ◌++◌, ℕ, List, OnOk, IfErr};
+ghost use Rattle.wy_value.specs.declared.shapes.Shapes.{Shapes};
+ghost use Rattle.wy_heap.specs.declared.part.Part.{Part};
+ghost use Rattle.wy_heap.specs.Nodes.{map_of};
+ghost use Rattle.wy_heap.specs.Extending.{Extends};
+ghost use Rattle.wy_heap.specs.Slots.{steps_of, IsPath};
+ghost use Rattle.wy_heap.specs.Standing.{Stands, AreHeld, Acts, SameTable};
+ghost use Rattle.wy_code.specs.declared.instructions.Instr.{Instr};
+ghost use Rattle.wy_step.specs.Step.{effect};
+ghost use Rattle.wy_mach.specs.Showing.{WentOn, IsStop, Turns, AreRegisters};
+ghost use Rattle.wy_mach.specs.Taking.{AreTaken, TakenTurns, GivesMade};
+ghost use Rattle.wy_mach.specs.Paths.{written_made};
+
+use crate::paths::slots;
+use crate::registers::{put, take};
+use crate::stop::Stop;
+use wy_code::Slot as Step;
+use wy_heap::{Heap, Place, Slot};
+
+/// `Put`: what a register held stands at the end of a path into another one. Stuck comes where a register
+/// of the path holds no number from 0 on, or where a part on the path isn't there. Nodes on the path with
+/// one holder each are written in place; the others are copied. The path is gathered in `path`, in place
+/// of what was there, which takes memory only where it lacks room. At a refusal what was taken is
+/// released.
+pub fn update(
+    heap: &mut Heap,
+    registers: &mut [Place],
+    whole: u32,
+    steps: &[Step],
+    from: u32,
+    path: &mut Vec<Slot>,
+) -> Result<(), Stop>
+    requires held { AreRegisters heap.old registers.old }
+    ensures turns { Turns heap.old heap.new registers.old registers.new }
+    ensures value { OnOk result ((shapes : Shapes) → Extends shapes heap.old.shapes → WentOn (map_of heap.old) (map_of heap.new) registers.old registers.new (effect shapes (Instr.Put whole steps.now from))) }
+    ensures stop { IfErr result (λ stop. (shapes : Shapes) → Extends shapes heap.old.shapes → IsStop (map_of heap.old) registers.old (effect shapes (Instr.Put whole steps.now from)) stop) }
+    ensures kept { SameTable heap.old heap.new }
+{
+    match slots(heap, registers, steps, path) {
+        Ok(()) => {}
+        Err(stop) => {
+            return Err(stop);
+        }
+    }
+    if from as usize >= registers.len() {
+        return Err(Stop::Stuck);
+    }
+    if whole as usize >= registers.len() {
+        return Err(Stop::Stuck);
+    }
+    let item = take(registers, from);
+    let place = take(registers, whole);
+    written(heap, registers, whole, item, place, path.as_slice())
+}
+
+// the item comes to the end of a path into the place, which comes into a register; both were taken
+fn written(
+    heap: &mut Heap,
+    registers: &mut [Place],
+    whole: u32,
+    item: Place,
+    place: Place,
+    path: &[Slot],
+) -> Result<(), Stop>
+    requires held { AreTaken heap.old (item ∷ place ∷ []) registers.old }
+    ensures turns { TakenTurns heap.old heap.new (item ∷ place ∷ []) registers.old registers.new }
+    ensures value { OnOk result (GivesMade heap.old heap.new (item ∷ place ∷ []) registers.old registers.new whole (written_made (steps_of heap.old.shapes path.now))) }
+    ensures stop { IfErr result (λ stop. stop ≡ Stop.Stuck → IsPath heap.old place path.now → ⊥) }
+    ensures kept { SameTable heap.old heap.new }
+{
+    let mut place = place;
+    if !heap.has_path(&place, path) {
+        give_up(heap, item, place);
+        return Err(Stop::Stuck);
+    }
+    match heap.set(&mut place, path, item) {
+        Ok(()) => {
+            put(heap, registers, whole, place);
+            Ok(())
+        }
+        Err(item) => {
+            give_up(heap, item, place);
+            Err(Stop::NoMemory)
+        }
+    }
+}
+
+// both are released
+fn give_up(heap: &mut Heap, item: Place, place: Place)
+    requires held { AreHeld heap.old (item ∷ place ∷ []) }
+    ensures acts { (others : List Part) → Stands heap.old (item ∷ place ∷ others) → Acts heap.old heap.new [] others }
+    ensures kept { SameTable heap.old heap.new }
+{
+    heap.release(item);
+    heap.release(place);
+}

@@ -1,3 +1,0 @@
--- definitions of contracts
-pub mod Texts
-pub mod Printed

@@ -1,4 +1,0 @@
-pub mod FieldLemmas
-pub mod PartLemmas
-pub mod PathLemmas
-pub mod UpdateLemmas

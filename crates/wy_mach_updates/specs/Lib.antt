@@ -1,3 +1,0 @@
--- definitions of contracts
-pub mod Parts
-pub mod Paths
