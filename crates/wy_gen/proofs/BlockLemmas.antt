@@ -14,7 +14,7 @@ use Rattle.wy_pieces.specs.declared.steps.Step.TheVariants.{GoesBack}
 use Rattle.wy_pieces.specs.Steps.{fork, jumped, over, turns}
 use Rattle.wy_tables.specs.declared.context.Context.{Context}
 use Rattle.wy_compiled.specs.Expressions.{code, released}
-use Rattle.wy_gen_expressions.proofs.LoopLemmas.{drop_back}
+use Rattle.wy_gen.proofs.LoopLemmas.{drop_back}
 use Rattle.wy_compiled.specs.Statements.{choice, inside, turn, stmt_code, stmts_code}
 
 pub seen_if : (x : Stmt) (e : Expr) (a b : List Stmt) → x.kind ≡ kind.If e a b → seen_stmt x ≡ tree.IfStmt x.at (seen_expr e) (seen_block a) (seen_block b)

@@ -1,3 +1,9 @@
+pub mod PieceLemmas
+pub mod OperatorLemmas
+pub mod SeenLemmas
+pub mod TypeLemmas
+pub mod ExpressionLemmas
+pub mod LoopLemmas
 pub mod BlockLemmas
 pub mod UpdateLemmas
 pub mod RoutineLemmas

@@ -15,7 +15,7 @@ use Rattle.wy_pieces.specs.declared.steps.Step.TheVariants.{Does}
 use Rattle.wy_tables.specs.declared.context.Context.{Context}
 use Rattle.wy_compiled.specs.Expressions.{code}
 use Rattle.wy_compiled.specs.Statements.{index_count, indices, kept, slots, update}
-use Rattle.wy_gen_expressions.proofs.LoopLemmas.{drop_back}
+use Rattle.wy_gen.proofs.LoopLemmas.{drop_back}
 
 seen_index : (x : path_step.Step) (e : Expr) → x.kind ≡ kind.Index e → seen_step x ≡ tree.IndexStep x.at (seen_expr e)
 seen_index x e is = ap (λ (k : StepKind). seen_step (record { at = x.at; kind = k })) is

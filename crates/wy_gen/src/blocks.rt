@@ -5,10 +5,10 @@ ghost use Rattle.wy_live.specs.Walks as lives;
 ghost use Rattle.wy_compiled.specs.Statements as spec;
 
 use crate::loops::{Around, Choice, Loop, begin_first, begin_loop, end_choice, end_loop};
+use crate::made::Made;
 use crate::simple::{assign, call, declare, give, gives_null, jump};
 use std::alloc::Global;
 use wy_core::{Stmt, StmtKind};
-use wy_gen_expressions::Made;
 use wy_pieces::NoMemory;
 use wy_tables::Context;
 

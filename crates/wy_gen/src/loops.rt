@@ -8,9 +8,10 @@ ghost use Rattle.wy_live.specs.Walks as lives;
 ghost use Rattle.wy_pieces.specs.Steps as pieces;
 ghost use Rattle.wy_pieces.specs.declared.steps.Step.{Step};
 
+use crate::expressions::code;
+use crate::made::{Made, released};
 use std::alloc::Global;
 use wy_core::{Expr, Stmt};
-use wy_gen_expressions::{Made, code, released};
 use wy_live::{Ends, Variables, head_live, joined, live_block};
 use wy_pieces::{NoMemory, begin_turns, end_turns, fork, jump_over, leave_turns};
 use wy_tables::Context;

@@ -11,12 +11,14 @@ ghost use Rattle.wy_live.specs.Sets as sets;
 ghost use Rattle.wy_value.specs.Shapes.{IsShapes};
 
 use crate::blocks::block_code;
+use crate::expressions::code;
 use crate::loops::Around;
+use crate::made::Made;
 use crate::simple::gives_null;
+use crate::type_tests::test;
 use std::alloc::Global;
 use wy_code::{Code, Instr, Routine as Compiled};
 use wy_core::{Alias, Core, Decl, Expr, Param, Routine};
-use wy_gen_expressions::{Made, code, test};
 use wy_items::Items;
 use wy_live::{Variables, nothing};
 use wy_pieces::{NoMemory, Steps, clear, does, dropped, next, routine_of, where_true};

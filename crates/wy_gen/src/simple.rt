@@ -8,11 +8,12 @@ ghost use Rattle.wy_compiled.specs.Statements as spec;
 ghost use Rattle.wy_pieces.specs.declared.steps.Step.{Step};
 ghost use Rattle.wy_tables.specs.Tables as tables;
 
+use crate::expressions::{code, codes};
+use crate::made::{Made, is_plain, plain, release_unless};
 use crate::updates::update;
 use std::alloc::Global;
 use wy_code::{Instr, Scalar};
 use wy_core::{Expr, Step as PathStep};
-use wy_gen_expressions::{Made, code, codes, is_plain, plain, release_unless};
 use wy_live::Variables;
 use wy_pieces::{NoMemory, Step, clear_one, does, prepend, registers_from};
 use wy_tables::{Context, Target, called};

@@ -7,10 +7,11 @@ ghost use Rattle.wy_live.specs.Walks as lives;
 ghost use Rattle.wy_compiled.specs.Statements as spec;
 ghost use Rattle.wy_pieces.specs.declared.steps.Step as steps;
 
+use crate::expressions::code;
+use crate::made::{Made, plain, previous, register_at};
 use std::alloc::Global;
 use wy_code::{Instr, Slot};
 use wy_core::{Expr, Step, StepKind};
-use wy_gen_expressions::{Made, code, plain, previous, register_at};
 use wy_items::Items;
 use wy_pieces::{NoMemory, clear_one, next};
 use wy_tables::{Context, name_number};

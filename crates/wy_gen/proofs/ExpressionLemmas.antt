@@ -15,7 +15,7 @@ use Rattle.wy_tables.specs.declared.context.Context.{Context}
 use Rattle.wy_tables.specs.Tables.{number_of, target}
 use Rattle.wy_compiled.specs.Expressions as spec
 use Rattle.wy_compiled.specs.Expressions.{code, codes, count_of, field_codes}
-use Rattle.wy_gen_expressions.proofs.SeenLemmas.{seen_call, seen_neg, seen_not, seen_len, seen_binary, seen_is, seen_index, seen_field, seen_list, seen_repeat, seen_record, seen_quant}
+use Rattle.wy_gen.proofs.SeenLemmas.{seen_call, seen_neg, seen_not, seen_len, seen_binary, seen_is, seen_index, seen_field, seen_list, seen_repeat, seen_record, seen_quant}
 
 -- an expression before the rest, where this is live behind it
 operand : (c : Context) (x : Expr) (y : tree.Expr ℕ) (a : tree.Expr ℕ) (live s t : Variables) (d : ℕ) (rest old steps : List Step) → seen_expr x ≡ y → code c y s d ≡ code c a t d ++ rest → live ≡ t → steps ≡ rest ++ old

@@ -3,8 +3,8 @@ use Rattle.wy_code.specs.declared.instructions.Comparison.TheVariants as compari
 use Rattle.wy_code.specs.declared.instructions.Instr.TheVariants as instr
 use Rattle.wy_pieces.specs.declared.steps.Step.{Step}
 use Rattle.wy_pieces.specs.declared.steps.Step.TheVariants.{Does, GoesBack, GoesOnUnless}
-use Rattle.wy_gen_expressions.proofs.PieceLemmas.{number_turns_same}
-use Rattle.wy_gen_expressions.proofs.quantifiers.end_quantifier.Goals as goal
+use Rattle.wy_gen.proofs.PieceLemmas.{number_turns_same}
+use Rattle.wy_gen.proofs.quantifiers.end_quantifier.Goals as goal
 
 pub returns-clause-value : goal.returns-clause-value
 returns-clause-value c = λ rest old h e.

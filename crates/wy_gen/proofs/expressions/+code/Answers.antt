@@ -10,11 +10,11 @@ use Rattle.wy_pieces.specs.declared.steps.Step.TheVariants.{GoesBack}
 use Rattle.wy_pieces.specs.Steps.{fork, jumped}
 use Rattle.wy_tables.specs.Tables.{target}
 use Rattle.wy_compiled.specs.Expressions as spec
-use Rattle.wy_gen_expressions.proofs.ExpressionLemmas.{neg_same, neg_live, not_same, not_live, len_same, len_live, is_same, is_live, field_same, field_live, binary_same, binary_live, index_same, index_live, repeat_same, repeat_live, quant_same, quant_live, call_same, call_live, list_same, list_live, record_code_same, record_code_live}
-use Rattle.wy_gen_expressions.proofs.LoopLemmas.{codes_turn, codes_turn_live, field_codes_turn, field_codes_turn_live, place_back}
-use Rattle.wy_gen_expressions.proofs.PieceLemmas.{quantify_same}
-use Rattle.wy_gen_expressions.proofs.OperatorLemmas.{both_sides}
-use Rattle.wy_gen_expressions.proofs.expressions.+code.Goals as goal
+use Rattle.wy_gen.proofs.ExpressionLemmas.{neg_same, neg_live, not_same, not_live, len_same, len_live, is_same, is_live, field_same, field_live, binary_same, binary_live, index_same, index_live, repeat_same, repeat_live, quant_same, quant_live, call_same, call_live, list_same, list_live, record_code_same, record_code_live}
+use Rattle.wy_gen.proofs.LoopLemmas.{codes_turn, codes_turn_live, field_codes_turn, field_codes_turn_live, place_back}
+use Rattle.wy_gen.proofs.PieceLemmas.{quantify_same}
+use Rattle.wy_gen.proofs.OperatorLemmas.{both_sides}
+use Rattle.wy_gen.proofs.expressions.+code.Goals as goal
 
 pub code-returns-in_ok-behind-in-Neg : goal.code-returns-in_ok-behind-in-Neg
 code-returns-in_ok-behind-in-Neg t c = record {

@@ -14,7 +14,7 @@ use Rattle.wy_tables.specs.declared.context.Context.{Context}
 use Rattle.wy_tables.specs.Tables.{number_of}
 use Rattle.wy_compiled.specs.Expressions.{code, codes, field_codes}
 use Rattle.wy_compiled.specs.TypeTests.{field_end, fields_test, test}
-use Rattle.wy_gen_expressions.proofs.TypeLemmas.{field_same}
+use Rattle.wy_gen.proofs.TypeLemmas.{field_same}
 
 pub drop_back : {X : Type 0} (xs : List X) (n : ℕ) (x : X) → 0 < n → n ≤ length xs → x ≡ get_or xs (n - 1) x → drop (n - 1) xs ≡ x ∷ drop n xs
 drop_back xs n x some within is =

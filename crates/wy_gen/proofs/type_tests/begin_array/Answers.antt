@@ -4,8 +4,8 @@ use Rattle.wy_code.specs.declared.instructions.Scalar.TheVariants as scalar
 use Rattle.wy_code.specs.declared.instructions.Instr.TheVariants as instr
 use Rattle.wy_pieces.specs.declared.steps.Step.{Step}
 use Rattle.wy_pieces.specs.declared.steps.Step.TheVariants.{Does}
-use Rattle.wy_gen_expressions.proofs.PieceLemmas.{array_same}
-use Rattle.wy_gen_expressions.proofs.type_tests.begin_array.Goals as goal
+use Rattle.wy_gen.proofs.PieceLemmas.{array_same}
+use Rattle.wy_gen.proofs.type_tests.begin_array.Goals as goal
 
 pub returns : goal.returns
 returns c = record {

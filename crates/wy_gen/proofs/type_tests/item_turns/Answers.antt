@@ -3,8 +3,8 @@ use Rattle.wy_code.specs.declared.instructions.Comparison.TheVariants as compari
 use Rattle.wy_code.specs.declared.instructions.Instr.TheVariants as instr
 use Rattle.wy_pieces.specs.declared.steps.Step.{Step}
 use Rattle.wy_pieces.specs.declared.steps.Step.TheVariants.{Does, GoesBack, GoesOnUnless}
-use Rattle.wy_gen_expressions.proofs.PieceLemmas.{item_turns_same}
-use Rattle.wy_gen_expressions.proofs.type_tests.item_turns.Goals as goal
+use Rattle.wy_gen.proofs.PieceLemmas.{item_turns_same}
+use Rattle.wy_gen.proofs.type_tests.item_turns.Goals as goal
 
 pub returns : goal.returns
 returns c = record {

@@ -1,6 +1,6 @@
 use Rattle.std.proofs.Common.{◌≡◌}
 use Rattle.wy_compiled.specs.Expressions as spec
-use Rattle.wy_gen_expressions.proofs.made.lost.Given as goal
+use Rattle.wy_gen.proofs.made.lost.Given as goal
 
 abbrev pub invariant-loop : goal.invariant-loop
 invariant-loop l = record {

@@ -1,7 +1,7 @@
 use Rattle.std.proofs.Common.{◌≡◌, List, IfOk, subst}
 use Rattle.wy_pieces.specs.declared.steps.Step.{Step}
-use Rattle.wy_gen_expressions.proofs.PieceLemmas.{record_same}
-use Rattle.wy_gen_expressions.proofs.expressions.record.Goals as goal
+use Rattle.wy_gen.proofs.PieceLemmas.{record_same}
+use Rattle.wy_gen.proofs.expressions.record.Goals as goal
 
 pub returns-clause-value : goal.returns-clause-value
 returns-clause-value c =

@@ -11,7 +11,7 @@ use Rattle.wy_pieces.specs.Steps.{fork}
 use Rattle.wy_tables.specs.declared.context.Context.{Context}
 use Rattle.wy_tables.specs.Tables.{number_of, shape_number, ty_names_in}
 use Rattle.wy_compiled.specs.TypeTests.{array_test, field_end, fields_test, items_test, record_test, test}
-use Rattle.wy_gen_expressions.proofs.SeenLemmas.{seen_record_ty, seen_array_ty, seen_union, seen_inter, seen_not_ty}
+use Rattle.wy_gen.proofs.SeenLemmas.{seen_record_ty, seen_array_ty, seen_union, seen_inter, seen_not_ty}
 
 -- the steps of the whole are these before the rest
 then_same : (first rest whole old steps : List Step) → whole ≡ first ++ rest → steps ≡ rest ++ old → first ++ steps ≡ whole ++ old

@@ -1,7 +1,7 @@
 use Rattle.std.proofs.Common.{◌≡◌, ◌≤◌, ◌++◌, length, drop, map}
 use Rattle.wy_core.specs.CoreSeen.{seen_ty, field_tys_of}
 use Rattle.wy_compiled.specs.TypeTests as spec
-use Rattle.wy_gen_expressions.proofs.type_tests.+type_test.Given as goal
+use Rattle.wy_gen.proofs.type_tests.+type_test.Given as goal
 
 -- the fields behind have been gone through
 abbrev pub invariant-test_fields-loop-left : goal.invariant-test_fields-loop-left

@@ -4,10 +4,10 @@ use Rattle.wy_core.specs.declared.types.TyKind as kind
 use Rattle.wy_pieces.specs.declared.steps.Step.{Step}
 use Rattle.wy_pieces.specs.declared.steps.Step.TheVariants.{GoesBack}
 use Rattle.wy_compiled.specs.TypeTests as spec
-use Rattle.wy_gen_expressions.proofs.LoopLemmas.{fields_turn}
-use Rattle.wy_gen_expressions.proofs.PieceLemmas.{items_same}
-use Rattle.wy_gen_expressions.proofs.TypeLemmas.{record_test_same, array_test_same, union_test_same, inter_test_same, not_test_same}
-use Rattle.wy_gen_expressions.proofs.type_tests.+type_test.Goals as goal
+use Rattle.wy_gen.proofs.LoopLemmas.{fields_turn}
+use Rattle.wy_gen.proofs.PieceLemmas.{items_same}
+use Rattle.wy_gen.proofs.TypeLemmas.{record_test_same, array_test_same, union_test_same, inter_test_same, not_test_same}
+use Rattle.wy_gen.proofs.type_tests.+type_test.Goals as goal
 
 pub test-returns-in_ok-steps-in-Record : goal.test-returns-in_ok-steps-in-Record
 test-returns-in_ok-steps-in-Record t c = record {

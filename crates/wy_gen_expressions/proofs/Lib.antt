@@ -1,6 +1,0 @@
-pub mod PieceLemmas
-pub mod OperatorLemmas
-pub mod SeenLemmas
-pub mod TypeLemmas
-pub mod ExpressionLemmas
-pub mod LoopLemmas
