@@ -1,3 +1,8 @@
 pub mod IntLemmas
 pub mod RoutineInts
 pub mod LoadableLemmas
+mod PieceLemmas
+mod TypeLemmas
+mod ExpressionLemmas
+mod StatementLemmas
+pub mod ProgramLemmas

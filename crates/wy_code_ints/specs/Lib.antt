@@ -1,2 +1,3 @@
 -- what a machine asks of code
 pub mod Loadable
+pub mod Ticks

@@ -15,9 +15,9 @@ use Rattle.wy_pieces.specs.declared.steps.Step.TheVariants.{Does}
 use Rattle.wy_pieces.specs.Steps.{clear, fork, turns}
 use Rattle.wy_compiled.specs.Expressions.{released, is_plain, release_unless, count_of, code, codes}
 use Rattle.wy_compiled.specs.Statements.{store, set, declare, slots, index_count, indices, kept, update, assign, release_where, call_step, call, give, choice, inside, turn, stmt_code, stmts_code}
-use Rattle.wy_code_sizes.specs.Ticks.{ticks, all_ticks, option_ticks, path_ticks, stmt_ticks, stmts_ticks}
-use Rattle.wy_code_sizes.proofs.PieceLemmas.{clear_small, cond_small, fork_small, turns_small}
-use Rattle.wy_code_sizes.proofs.ExpressionLemmas.{released_small, release_small, expr_small, codes_small}
+use Rattle.wy_code_ints.specs.Ticks.{ticks, all_ticks, option_ticks, path_ticks, stmt_ticks, stmts_ticks}
+use Rattle.wy_code_ints.proofs.PieceLemmas.{clear_small, cond_small, fork_small, turns_small}
+use Rattle.wy_code_ints.proofs.ExpressionLemmas.{released_small, release_small, expr_small, codes_small}
 
 store_small : (x : ℕ) (s : Variables) (r : ℕ) (plain : Bool) → length (store x s r plain) ≤ 1
 store_small x s r plain = cond_small (has s x) (Does (instr.Move x r) ∷ []) (release_unless plain r) 1 (omega arith) (release_small plain r)

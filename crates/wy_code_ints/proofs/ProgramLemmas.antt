@@ -16,11 +16,11 @@ use Rattle.wy_compiled.specs.TypeTests.{test}
 use Rattle.wy_compiled.specs.Expressions.{code}
 use Rattle.wy_compiled.specs.Statements.{gives_null, stmts_code}
 use Rattle.wy_compiled.specs.Programs.{unused_params, body_steps, body_routine, clauses_steps, variable_of, taken, type_steps_at, type_routine, body_routines, type_routines, code_of}
-use Rattle.wy_code_sizes.specs.Ticks.{visits, ticks, stmts_ticks, clauses_ticks, routine_ticks, alias_ticks, bodies_ticks, aliases_ticks, core_ticks, instructions}
-use Rattle.wy_code_sizes.proofs.PieceLemmas.{clear_small, where_true_small}
-use Rattle.wy_code_sizes.proofs.TypeLemmas.{test_small}
-use Rattle.wy_code_sizes.proofs.ExpressionLemmas.{expr_small}
-use Rattle.wy_code_sizes.proofs.StatementLemmas.{stmts_small}
+use Rattle.wy_code_ints.specs.Ticks.{visits, ticks, stmts_ticks, clauses_ticks, routine_ticks, alias_ticks, bodies_ticks, aliases_ticks, core_ticks, instructions}
+use Rattle.wy_code_ints.proofs.PieceLemmas.{clear_small, where_true_small}
+use Rattle.wy_code_ints.proofs.TypeLemmas.{test_small}
+use Rattle.wy_code_ints.proofs.ExpressionLemmas.{expr_small}
+use Rattle.wy_code_ints.proofs.StatementLemmas.{stmts_small}
 
 -- ---- functions and methods
 

@@ -10,8 +10,8 @@ use Rattle.wy_pieces.specs.declared.steps.Step.{Step}
 use Rattle.wy_pieces.specs.declared.steps.Step.TheVariants.{Does}
 use Rattle.wy_pieces.specs.Steps.{dropped, where_true, fork, turns}
 use Rattle.wy_compiled.specs.TypeTests.{item_end, yes, items_test, array_test, record_test, field_end, test, fields_test}
-use Rattle.wy_code_sizes.specs.Ticks.{visits, field_visits}
-use Rattle.wy_code_sizes.proofs.PieceLemmas.{where_true_small, fork_small, turns_small}
+use Rattle.wy_code_ints.specs.Ticks.{visits, field_visits}
+use Rattle.wy_code_ints.proofs.PieceLemmas.{where_true_small, fork_small, turns_small}
 
 items_small : (v r f : ℕ) (one : List Step) → length (items_test v r f one) ≤ length one + 10
 items_small v r f one =

@@ -1,6 +1,6 @@
 //! How much code there is, as a law. No function here does anything when it runs.
 ghost use Rattle.std.specs.Prelude.{◌+◌, ◌*◌, ◌≤◌, length, ℕ};
-ghost use Rattle.wy_code_sizes.specs.Ticks.{alias_ticks, core_ticks, instructions, routine_ticks};
+ghost use Rattle.wy_code_ints.specs.Ticks.{alias_ticks, core_ticks, instructions, routine_ticks};
 ghost use Rattle.wy_compiled.specs.Programs.{body_routine, code_of, type_routine};
 ghost use Rattle.wy_core.specs.CoreTree.{Alias, Core, Routine};
 ghost use Rattle.wy_tables.specs.declared.context.Context.{Context};

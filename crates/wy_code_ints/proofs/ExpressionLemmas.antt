@@ -18,9 +18,9 @@ use Rattle.wy_pieces.specs.declared.steps.Step.TheVariants.{Does, GoesOn}
 use Rattle.wy_pieces.specs.Steps.{dropped, fork}
 use Rattle.wy_compiled.specs.TypeTests.{test}
 use Rattle.wy_compiled.specs.Expressions.{lost, released, is_plain, release_unless, equal, operator, operate, right_register, call, count_of, is_test, negated, list, record_of, turn_end, said, ends, number_turns, quantify, code, codes, field_codes}
-use Rattle.wy_code_sizes.specs.Ticks.{visits, ticks, all_ticks, field_ticks}
-use Rattle.wy_code_sizes.proofs.PieceLemmas.{clear_small, fork_small, turns_small}
-use Rattle.wy_code_sizes.proofs.TypeLemmas.{test_small}
+use Rattle.wy_code_ints.specs.Ticks.{visits, ticks, all_ticks, field_ticks}
+use Rattle.wy_code_ints.proofs.PieceLemmas.{clear_small, fork_small, turns_small}
+use Rattle.wy_code_ints.proofs.TypeLemmas.{test_small}
 
 pub released_small : (s t : Variables) → length (released s t) ≤ 1
 released_small s t = clear_small (lost s t)

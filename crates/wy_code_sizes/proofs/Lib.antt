@@ -1,5 +1,0 @@
-mod PieceLemmas
-mod TypeLemmas
-mod ExpressionLemmas
-mod StatementLemmas
-pub mod ProgramLemmas
