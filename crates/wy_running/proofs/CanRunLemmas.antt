@@ -17,9 +17,9 @@ use Rattle.wy_formed.specs.Literals.{IsInt}
 use Rattle.wy_mach.specs.States.{HasInts}
 use Rattle.wy_mach.specs.Showing.{IsNoInt}
 use Rattle.wy_running.specs.Running.{CanRun}
-use Rattle.wy_starting.specs.Starting.{Starts}
-use Rattle.wy_starting.specs.declared.parts.Start.{Start}
-use Rattle.wy_starting.proofs.MeetingLemmas.{met_count}
+use Rattle.wy_running.specs.Starting.{Starts}
+use Rattle.wy_running.specs.declared.parts.Start.{Start}
+use Rattle.wy_running.proofs.MeetingLemmas.{met_count}
 use Rattle.wy_step.specs.Step.{instr_at}
 use Rattle.wy_tables.specs.declared.context.Context.{Context}
 use Rattle.wy_tables.specs.Tables.{context_of}

@@ -14,7 +14,7 @@ use Rattle.wy_step.specs.Step as step
 use Rattle.wy_step.specs.Step.{State, Ended}
 use Rattle.wy_mach.specs.States.{HasInts}
 use Rattle.wy_mach.specs.Running.{IsStuck, LeavesResult, Spends, state_behind}
-use Rattle.wy_starting.specs.declared.parts.Start.{Start}
+use Rattle.wy_running.specs.declared.parts.Start.{Start}
 use Rattle.wy_running.specs.declared.end.RunEnd.{RunEnd}
 use Rattle.wy_running.specs.declared.end.RunEnd.TheVariants.{Done, Spent, OutFault, Stuck}
 

@@ -1,13 +1,9 @@
-//! Which starts the machine takes, as a law. No function here does anything when it runs.
-ghost use Rattle.std.specs.Prelude.{ℕ, List};
-ghost use Rattle.wy_code_ints.specs.Loadable.{IsLoadable};
-ghost use Rattle.wy_compiled.specs.Programs.{code_of};
-ghost use Rattle.wy_core.specs.CoreTree.{Core};
-ghost use Rattle.wy_running.specs.Running.{CanRun};
-ghost use Rattle.wy_starting.specs.Starting.{Starts};
-ghost use Rattle.wy_starting.specs.declared.parts.Start.{Start};
+//! Laws of starts. No function here does anything when it runs.
+ghost use Rattle.wy_running.specs.Laws.{HaveOneStart, HaveOneRefusal, StartOrRefuse};
 
-/// Where the code of a program is such as a machine takes, so is each start of it.
-pub fn starts_can_run()
-    ensures can { (core : Core ℕ) → (name : List ℕ) → (arguments : List ℕ) → (s : Start) → IsLoadable (code_of core) → Starts core name arguments s → CanRun s }
+/// Words start a program in one way at most, are refused for one reason at most, and are not refused where they start.
+pub fn at_most_one_start()
+    ensures start { HaveOneStart }
+    ensures refusal { HaveOneRefusal }
+    ensures apart { StartOrRefuse }
 {}

@@ -7,11 +7,11 @@ ghost use Rattle.wy_running.specs.Running.{CanRun, Closes, EndsSo, RunsTo, Write
 ghost use Rattle.wy_step.specs.Step.{State};
 
 use crate::end::RunEnd;
+use crate::parts::Start;
 use std::alloc::Global;
 use wy_heap::NoMemory;
 use wy_mach::{RunEnd as MachineEnd, run};
 use wy_port::{Failed, Sink, write_whole};
-use wy_starting::Start;
 
 /// The most holders that a node has: at one more it is copied.
 const CAP: u32 = 4_294_967_295;

@@ -13,7 +13,7 @@ use wy_answers::{Answer, no_memory, refusal_behind};
 use wy_data::Bytes;
 use wy_port::Files;
 use wy_report::{bad_argument, no_entry, other_count, other_type, requires_fails, turns_spent};
-use wy_starting::{Start, StartFault, start};
+use wy_running::{Start, StartFault, start};
 use wy_value::ValueFault;
 
 /// What a run starts with, and the lines that are written before it.
