@@ -7,9 +7,9 @@ use Rattle.wy_scope.specs.declared.table.Entry.{Entry}
 use Rattle.wy_scope.specs.Faults.{Found, noted_where}
 use Rattle.wy_scope.specs.Places.{place_of_expr}
 use Rattle.wy_scope.specs.Scope.{Scope, has, with_name}
-use Rattle.wy_bind.specs.declared.context.Context.{Context}
-use Rattle.wy_bind.specs.TypeNames.{just_a_name}
-use Rattle.wy_bind.specs.ExprNames as bind
+use Rattle.wy_recursion.specs.declared.context.Context.{Context}
+use Rattle.wy_recursion.specs.TypeNames.{just_a_name}
+use Rattle.wy_recursion.specs.ExprNames as bind
 use Rattle.wy_expand.specs.declared.measure.Measure.{Measure}
 use Rattle.wy_expand.specs.declared.measure.Spot.{Spot}
 use Rattle.wy_expand.specs.Measures.{inside, counted}

@@ -10,14 +10,14 @@ use Rattle.wy_scope.specs.declared.table.Signature.{Signature}
 use Rattle.wy_scope.specs.Faults.{Found, noted, noted_where}
 use Rattle.wy_scope.specs.Places.{place_of_ty, place_of_expr}
 use Rattle.wy_scope.specs.Scope.{Scope, entry_of, has, with_name}
-use Rattle.wy_bind.specs.declared.context.Context.{Context}
-use Rattle.wy_bind.specs.Calls.{contract, looped, call, call_routine, is_variable, is_type}
-use Rattle.wy_bind.specs.TypeNames as types
-use Rattle.wy_bind.specs.TypeNames.{just_a_name}
-use Rattle.wy_bind.specs.ExprNames as exprs
-use Rattle.wy_bind.specs.ExprNames.{count_of, with_ranges}
-use Rattle.wy_bind.specs.StmtNames as stmts
-use Rattle.wy_bind.specs.StmtNames.{scope_behind, differ}
+use Rattle.wy_recursion.specs.declared.context.Context.{Context}
+use Rattle.wy_recursion.specs.Calls.{contract, looped, call, call_routine, is_variable, is_type}
+use Rattle.wy_recursion.specs.TypeNames as types
+use Rattle.wy_recursion.specs.TypeNames.{just_a_name}
+use Rattle.wy_recursion.specs.ExprNames as exprs
+use Rattle.wy_recursion.specs.ExprNames.{count_of, with_ranges}
+use Rattle.wy_recursion.specs.StmtNames as stmts
+use Rattle.wy_recursion.specs.StmtNames.{scope_behind, differ}
 use Rattle.wy_named.proofs.NotedLemmas.{none_noted, noted_none}
 
 mutual

@@ -6,8 +6,8 @@ use Rattle.wy_core.specs.CoreTree as core
 use Rattle.wy_core.specs.declared.expressions.Op.TheVariants as op
 use Rattle.wy_scope.specs.Scope.{Scope}
 use Rattle.wy_scope.specs.Faults.{Found}
-use Rattle.wy_bind.specs.declared.context.Context.{Context}
-use Rattle.wy_bind.specs.ExprNames as bind
+use Rattle.wy_recursion.specs.declared.context.Context.{Context}
+use Rattle.wy_recursion.specs.ExprNames as bind
 use Rattle.wy_expand.specs.declared.measure.Measure.{Measure}
 use Rattle.wy_expand.specs.declared.measure.Spot.{Spot}
 use Rattle.wy_expand.specs.declared.measure.Use.{Use}

@@ -6,10 +6,10 @@ use Rattle.wy_scope.specs.declared.fault.Cause.TheVariants as cause
 use Rattle.wy_scope.specs.declared.table.Entry.{Entry}
 use Rattle.wy_scope.specs.declared.table.Entry.TheVariants as entry
 use Rattle.wy_scope.specs.Scope.{Scope, entry_of}
-use Rattle.wy_uses.specs.declared.edges.Edge.{Edge}
-use Rattle.wy_uses.specs.declared.edges.Way.TheVariants as way
-use Rattle.wy_uses.specs.Uses.{Edges, property_named}
-use Rattle.wy_uses.specs.ExprUses as exprs
+use Rattle.wy_recursion.specs.declared.edges.Edge.{Edge}
+use Rattle.wy_recursion.specs.declared.edges.Way.TheVariants as way
+use Rattle.wy_recursion.specs.Uses.{Edges, property_named}
+use Rattle.wy_recursion.specs.ExprUses as exprs
 use Rattle.wy_expand.specs.declared.measure.Measure.{Measure}
 use Rattle.wy_expand.specs.declared.measure.Spot.{Spot}
 use Rattle.wy_expand.specs.declared.measure.Summary.{Summary}

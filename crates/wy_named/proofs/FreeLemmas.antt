@@ -7,9 +7,9 @@ use Rattle.wy_ast.specs.SurfaceTree.{AliasDecl, FunctionDecl, MethodDecl, Proper
 use Rattle.wy_scope.specs.Declarations.{declared}
 use Rattle.wy_scope.specs.Faults.{Found}
 use Rattle.wy_scope.specs.Scope.{Scope}
-use Rattle.wy_bind.specs.declared.context.Context.{Context}
-use Rattle.wy_bind.specs.DeclNames as bind
-use Rattle.wy_bind.specs.DeclNames.{clause_context, routine_context}
+use Rattle.wy_recursion.specs.declared.context.Context.{Context}
+use Rattle.wy_recursion.specs.DeclNames as bind
+use Rattle.wy_recursion.specs.DeclNames.{clause_context, routine_context}
 use Rattle.wy_expand.specs.declared.measure.Expansion.{Expansion}
 use Rattle.wy_lower.specs.Uses.{Template}
 use Rattle.wy_lower.specs.Templates.{params_scope, params_named, used_of, template, with_option, filled, without_uses, templates}

@@ -7,10 +7,10 @@ use Rattle.wy_core.specs.CoreTree as core
 use Rattle.wy_scope.specs.Scope.{Scope, entry_of}
 use Rattle.wy_scope.specs.declared.table.Entry.{Entry}
 use Rattle.wy_scope.specs.declared.table.Entry.TheVariants as entry
-use Rattle.wy_uses.specs.declared.edges.Edge.{Edge}
-use Rattle.wy_uses.specs.declared.edges.Way.TheVariants as way
-use Rattle.wy_uses.specs.Uses.{Edges, property_named}
-use Rattle.wy_uses.specs.ExprUses as exprs
+use Rattle.wy_recursion.specs.declared.edges.Edge.{Edge}
+use Rattle.wy_recursion.specs.declared.edges.Way.TheVariants as way
+use Rattle.wy_recursion.specs.Uses.{Edges, property_named}
+use Rattle.wy_recursion.specs.ExprUses as exprs
 use Rattle.wy_named.proofs.UseLemmas.{Each, of_last, before_ty, before_expr, before_exprs, before_values, before_ranges}
 use Rattle.wy_named.proofs.SizeLemmas.{use_of}
 use Rattle.wy_lower.specs.Variables.{Variables, declared, named}

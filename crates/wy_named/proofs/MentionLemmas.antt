@@ -13,16 +13,16 @@ use Rattle.wy_scope.specs.declared.table.Entry.TheVariants as entry
 use Rattle.wy_scope.specs.Faults.{Found, noted_where}
 use Rattle.wy_scope.specs.Places.{place_of_expr}
 use Rattle.wy_scope.specs.Scope.{Scope, entry_of, has, with_name}
-use Rattle.wy_bind.specs.declared.context.Context.{Context}
-use Rattle.wy_bind.specs.Calls.{contract, call}
-use Rattle.wy_bind.specs.TypeNames.{just_a_name}
-use Rattle.wy_bind.specs.ExprNames as bind
-use Rattle.wy_bind.specs.ExprNames.{with_ranges}
-use Rattle.wy_uses.specs.declared.edges.Edge.{Edge}
-use Rattle.wy_uses.specs.declared.edges.Way.{Way}
-use Rattle.wy_uses.specs.declared.edges.Way.TheVariants as way
-use Rattle.wy_uses.specs.Uses.{Edges, property_named}
-use Rattle.wy_uses.specs.ExprUses as uses
+use Rattle.wy_recursion.specs.declared.context.Context.{Context}
+use Rattle.wy_recursion.specs.Calls.{contract, call}
+use Rattle.wy_recursion.specs.TypeNames.{just_a_name}
+use Rattle.wy_recursion.specs.ExprNames as bind
+use Rattle.wy_recursion.specs.ExprNames.{with_ranges}
+use Rattle.wy_recursion.specs.declared.edges.Edge.{Edge}
+use Rattle.wy_recursion.specs.declared.edges.Way.{Way}
+use Rattle.wy_recursion.specs.declared.edges.Way.TheVariants as way
+use Rattle.wy_recursion.specs.Uses.{Edges, property_named}
+use Rattle.wy_recursion.specs.ExprUses as uses
 use Rattle.wy_named.proofs.UseLemmas.{Each, of_last, before_ty, before_expr, before_exprs, before_values, before_ranges}
 use Rattle.wy_lower.specs.Variables.{Variables, declared, named}
 use Rattle.wy_lower.specs.Uses.{With, Template, is_used, expansion, called}

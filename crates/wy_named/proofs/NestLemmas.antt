@@ -4,7 +4,7 @@ use Rattle.std.specs.Str.{bytes_eq}
 use Rattle.wy_scope.specs.declared.table.Entry.{Entry}
 use Rattle.wy_scope.specs.declared.table.Entry.TheVariants as entry
 use Rattle.wy_scope.specs.Scope.{Scope, entry_of, has, with_name}
-use Rattle.wy_bind.specs.Calls.{is_variable}
+use Rattle.wy_recursion.specs.Calls.{is_variable}
 
 -- the variable v, where the parameters are the first p variables
 abbrev pub Leads : ℕ → ℕ → Option Entry → Type 0

@@ -12,17 +12,17 @@ use Rattle.wy_scope.specs.declared.table.Signature.{Signature}
 use Rattle.wy_scope.specs.Faults.{Found}
 use Rattle.wy_scope.specs.Places.{place_of_ty, place_of_expr}
 use Rattle.wy_scope.specs.Scope.{Scope, entry_of, has, with_name}
-use Rattle.wy_bind.specs.declared.context.Context.{Context}
-use Rattle.wy_bind.specs.Calls as calls
-use Rattle.wy_bind.specs.Calls.{contract, looped, is_type, is_variable}
-use Rattle.wy_bind.specs.TypeNames as types
-use Rattle.wy_bind.specs.TypeNames.{just_a_name}
-use Rattle.wy_bind.specs.ExprNames as exprs
-use Rattle.wy_bind.specs.ExprNames.{count_of, with_ranges}
-use Rattle.wy_bind.specs.StmtNames as stmts
-use Rattle.wy_bind.specs.StmtNames.{differ, scope_behind}
-use Rattle.wy_bind.specs.DeclNames as decls
-use Rattle.wy_bind.specs.DeclNames.{clause_context, routine_context, with_params}
+use Rattle.wy_recursion.specs.declared.context.Context.{Context}
+use Rattle.wy_recursion.specs.Calls as calls
+use Rattle.wy_recursion.specs.Calls.{contract, looped, is_type, is_variable}
+use Rattle.wy_recursion.specs.TypeNames as types
+use Rattle.wy_recursion.specs.TypeNames.{just_a_name}
+use Rattle.wy_recursion.specs.ExprNames as exprs
+use Rattle.wy_recursion.specs.ExprNames.{count_of, with_ranges}
+use Rattle.wy_recursion.specs.StmtNames as stmts
+use Rattle.wy_recursion.specs.StmtNames.{differ, scope_behind}
+use Rattle.wy_recursion.specs.DeclNames as decls
+use Rattle.wy_recursion.specs.DeclNames.{clause_context, routine_context, with_params}
 use Rattle.wy_named.specs.Nodes.{InTy, InFieldTys, OfRoutine, OfEntry, OfCall, InExpr, InExprs, InFields, InRanges, InOption, InPath, InStmt, InStmts, InCases, InClauses, InParams, InsideFunction, InOutcome, InsideMethod, InDecl, InDecls}
 use Rattle.wy_named.proofs.NotesLemmas.{Notes, nothing, both, one}
 

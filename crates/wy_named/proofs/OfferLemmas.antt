@@ -10,7 +10,7 @@ use Rattle.wy_scope.specs.declared.fault.Cause.TheVariants as cause
 use Rattle.wy_scope.specs.Declarations.{routine_count, name_of, place_of, entry_of, behind, builtins, declared_behind, declared}
 use Rattle.wy_scope.specs.Faults.{Found, noted_where}
 use Rattle.wy_scope.specs.Scope.{Scope, has, with_name}
-use Rattle.wy_bind.specs.DeclNames as bind
+use Rattle.wy_recursion.specs.DeclNames as bind
 use Rattle.wy_expand.specs.declared.measure.Expansion.{Expansion}
 use Rattle.wy_lower.specs.Variables.{Variables}
 use Rattle.wy_lower.specs.Variables as variables

@@ -9,9 +9,9 @@ use Rattle.std.proofs.lemmas.Bool.{ltb-false}
 use Rattle.std.proofs.lemmas.Option.{slice_get_within}
 use Rattle.wy_ast.specs.SurfaceTree.{Decl, Property, AliasDecl, FunctionDecl, MethodDecl, PropertyDecl}
 use Rattle.wy_scope.specs.Scope.{Scope}
-use Rattle.wy_uses.specs.declared.edges.Edge.{Edge}
-use Rattle.wy_uses.specs.Uses.{Edges}
-use Rattle.wy_uses.specs.DeclUses.{edges_of}
+use Rattle.wy_recursion.specs.declared.edges.Edge.{Edge}
+use Rattle.wy_recursion.specs.Uses.{Edges}
+use Rattle.wy_recursion.specs.DeclUses.{edges_of}
 use Rattle.wy_expand.specs.declared.measure.Expansion.{Expansion}
 use Rattle.wy_expand.specs.declared.measure.Expansion.TheVariants as expansion
 use Rattle.wy_expand.specs.Summaries.{summary, set_at, with_option, summed_up, without_end, summaries}

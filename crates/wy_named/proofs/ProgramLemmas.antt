@@ -8,11 +8,11 @@ use Rattle.wy_scope.specs.declared.fault.Fault.{Fault}
 use Rattle.wy_scope.specs.Faults.{Found}
 use Rattle.wy_scope.specs.Scope.{Scope, has, with_name}
 use Rattle.wy_core.specs.declared.declarations.Core.{Core}
-use Rattle.wy_bind.specs.DeclNames as bind
+use Rattle.wy_recursion.specs.DeclNames as bind
 use Rattle.wy_expand.specs.Faults as expand
 use Rattle.wy_expand.specs.declared.measure.Expansion.{Expansion}
-use Rattle.wy_uses.specs.declared.edges.Edge.{Edge}
-use Rattle.wy_uses.specs.Uses.{Edges}
+use Rattle.wy_recursion.specs.declared.edges.Edge.{Edge}
+use Rattle.wy_recursion.specs.Uses.{Edges}
 use Rattle.wy_recursion.specs.Recursion.{NotesRecursion, noted_marked}
 use Rattle.wy_recursion.specs.Endings.{IsOrder}
 use Rattle.wy_named.proofs.OrderLemmas.{same_summaries}

@@ -13,18 +13,18 @@ use Rattle.wy_scope.specs.Declarations.{declared}
 use Rattle.wy_scope.specs.Faults.{Found, noted_where}
 use Rattle.wy_scope.specs.Places.{place_of_ty}
 use Rattle.wy_scope.specs.Scope.{Scope, has, with_name}
-use Rattle.wy_bind.specs.TypeNames as bind_types
-use Rattle.wy_bind.specs.TypeNames.{just_a_name}
-use Rattle.wy_bind.specs.DeclNames as bind
-use Rattle.wy_bind.specs.DeclNames.{clause_context}
+use Rattle.wy_recursion.specs.TypeNames as bind_types
+use Rattle.wy_recursion.specs.TypeNames.{just_a_name}
+use Rattle.wy_recursion.specs.DeclNames as bind
+use Rattle.wy_recursion.specs.DeclNames.{clause_context}
 use Rattle.wy_cycles.specs.Cycles.{Leads, stays}
-use Rattle.wy_uses.specs.declared.edges.Edge.{Edge}
-use Rattle.wy_uses.specs.declared.edges.Way.{Way}
-use Rattle.wy_uses.specs.declared.edges.Way.TheVariants as way
-use Rattle.wy_uses.specs.Uses.{Edges}
-use Rattle.wy_uses.specs.DeclUses.{edges_of}
-use Rattle.wy_uses.specs.TypeUses as type_uses
-use Rattle.wy_uses.specs.ExprUses as uses_in
+use Rattle.wy_recursion.specs.declared.edges.Edge.{Edge}
+use Rattle.wy_recursion.specs.declared.edges.Way.{Way}
+use Rattle.wy_recursion.specs.declared.edges.Way.TheVariants as way
+use Rattle.wy_recursion.specs.Uses.{Edges}
+use Rattle.wy_recursion.specs.DeclUses.{edges_of}
+use Rattle.wy_recursion.specs.TypeUses as type_uses
+use Rattle.wy_recursion.specs.ExprUses as uses_in
 use Rattle.wy_named.proofs.UseLemmas.{Each, before_exprs, of_decl}
 use Rattle.wy_recursion.specs.Arrows.{counts, arrows_of}
 use Rattle.wy_recursion.specs.Recursion.{is_type, Recurs, noted_marked, NotesRecursion}

@@ -8,9 +8,9 @@ use Rattle.wy_core.specs.declared.declarations.Core.{Core}
 use Rattle.wy_scope.specs.Declarations.{declared}
 use Rattle.wy_scope.specs.declared.fault.Cause.TheVariants as cause
 use Rattle.wy_scope.specs.Faults.{Found, noted_where}
-use Rattle.wy_bind.specs.DeclNames as bind
-use Rattle.wy_uses.specs.declared.edges.Edge.{Edge}
-use Rattle.wy_uses.specs.Uses.{Edges}
+use Rattle.wy_recursion.specs.DeclNames as bind
+use Rattle.wy_recursion.specs.declared.edges.Edge.{Edge}
+use Rattle.wy_recursion.specs.Uses.{Edges}
 use Rattle.wy_recursion.specs.Recursion.{noted_marked}
 use Rattle.wy_expand.specs.declared.measure.Expansion.{Expansion}
 use Rattle.wy_lower.specs.Uses.{Template}

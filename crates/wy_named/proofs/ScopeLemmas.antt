@@ -8,7 +8,7 @@ use Rattle.wy_scope.specs.declared.table.Entry.{Entry}
 use Rattle.wy_scope.specs.declared.table.Entry.TheVariants as entry
 use Rattle.wy_scope.specs.declared.table.Signature.{Signature}
 use Rattle.wy_scope.specs.Scope.{Scope, entry_of, has, with_name}
-use Rattle.wy_bind.specs.TypeNames.{just_a_name}
+use Rattle.wy_recursion.specs.TypeNames.{just_a_name}
 use Rattle.wy_lower.specs.Uses.{Template}
 use Rattle.wy_formed.specs.Offers as offers
 use Rattle.wy_formed.specs.Offers.{Offers}

@@ -10,13 +10,13 @@ use Rattle.wy_scope.specs.declared.fault.Cause.TheVariants as cause
 use Rattle.wy_scope.specs.Faults.{Found, noted_where}
 use Rattle.wy_scope.specs.Places.{place_of_ty, place_of_expr}
 use Rattle.wy_scope.specs.Scope.{Scope, has, with_name}
-use Rattle.wy_bind.specs.declared.context.Context.{Context}
-use Rattle.wy_bind.specs.TypeNames as types
-use Rattle.wy_bind.specs.TypeNames.{just_a_name}
-use Rattle.wy_bind.specs.ExprNames as exprs
-use Rattle.wy_bind.specs.StmtNames as stmts
-use Rattle.wy_bind.specs.DeclNames as bind
-use Rattle.wy_bind.specs.DeclNames.{clause_context, routine_context}
+use Rattle.wy_recursion.specs.declared.context.Context.{Context}
+use Rattle.wy_recursion.specs.TypeNames as types
+use Rattle.wy_recursion.specs.TypeNames.{just_a_name}
+use Rattle.wy_recursion.specs.ExprNames as exprs
+use Rattle.wy_recursion.specs.StmtNames as stmts
+use Rattle.wy_recursion.specs.DeclNames as bind
+use Rattle.wy_recursion.specs.DeclNames.{clause_context, routine_context}
 use Rattle.wy_expand.specs.declared.measure.Expansion.{Expansion}
 use Rattle.wy_expand.specs.Measures.{nothing, root}
 use Rattle.wy_expand.specs.Sizes as sizes

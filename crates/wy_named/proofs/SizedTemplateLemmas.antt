@@ -16,15 +16,15 @@ use Rattle.wy_scope.specs.Declarations.{declared}
 use Rattle.wy_scope.specs.Faults.{Found, noted_where}
 use Rattle.wy_scope.specs.Places.{place_of_ty}
 use Rattle.wy_scope.specs.Scope.{Scope, entry_of, has, with_name}
-use Rattle.wy_bind.specs.Calls.{is_variable}
-use Rattle.wy_bind.specs.TypeNames as types
-use Rattle.wy_bind.specs.TypeNames.{just_a_name}
-use Rattle.wy_bind.specs.ExprNames as exprs
-use Rattle.wy_bind.specs.DeclNames as bind
-use Rattle.wy_bind.specs.DeclNames.{clause_context}
-use Rattle.wy_uses.specs.declared.edges.Edge.{Edge}
-use Rattle.wy_uses.specs.Uses.{Edges}
-use Rattle.wy_uses.specs.DeclUses.{edges_of}
+use Rattle.wy_recursion.specs.Calls.{is_variable}
+use Rattle.wy_recursion.specs.TypeNames as types
+use Rattle.wy_recursion.specs.TypeNames.{just_a_name}
+use Rattle.wy_recursion.specs.ExprNames as exprs
+use Rattle.wy_recursion.specs.DeclNames as bind
+use Rattle.wy_recursion.specs.DeclNames.{clause_context}
+use Rattle.wy_recursion.specs.declared.edges.Edge.{Edge}
+use Rattle.wy_recursion.specs.Uses.{Edges}
+use Rattle.wy_recursion.specs.DeclUses.{edges_of}
 use Rattle.wy_recursion.specs.Endings.{is_property, is_use_way, is_use, Ends, IsOrder}
 use Rattle.wy_expand.specs.declared.measure.Measure.{Measure}
 use Rattle.wy_expand.specs.declared.measure.Summary.{Summary}

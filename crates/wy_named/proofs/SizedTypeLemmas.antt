@@ -7,8 +7,8 @@ use Rattle.wy_scope.specs.declared.fault.Cause.TheVariants as cause
 use Rattle.wy_scope.specs.Faults.{Found, noted_where}
 use Rattle.wy_scope.specs.Places.{place_of_ty}
 use Rattle.wy_scope.specs.Scope.{Scope, has, with_name}
-use Rattle.wy_bind.specs.TypeNames as bind
-use Rattle.wy_bind.specs.TypeNames.{just_a_name}
+use Rattle.wy_recursion.specs.TypeNames as bind
+use Rattle.wy_recursion.specs.TypeNames.{just_a_name}
 use Rattle.wy_expand.specs.declared.measure.Measure.{Measure}
 use Rattle.wy_expand.specs.declared.measure.Spot.{Spot}
 use Rattle.wy_expand.specs.Measures.{inside, counted}

@@ -8,13 +8,13 @@ use Rattle.wy_scope.specs.declared.table.Entry.{Entry}
 use Rattle.wy_scope.specs.declared.table.Entry.TheVariants as entry
 use Rattle.wy_scope.specs.Faults.{Found, noted_where}
 use Rattle.wy_scope.specs.Scope.{Scope, entry_of, has, with_name}
-use Rattle.wy_bind.specs.declared.context.Context.{Context}
-use Rattle.wy_bind.specs.Calls.{contract, looped, call, is_variable}
-use Rattle.wy_bind.specs.TypeNames as types
-use Rattle.wy_bind.specs.TypeNames.{just_a_name}
-use Rattle.wy_bind.specs.ExprNames as exprs
-use Rattle.wy_bind.specs.StmtNames as bind
-use Rattle.wy_bind.specs.StmtNames.{differ}
+use Rattle.wy_recursion.specs.declared.context.Context.{Context}
+use Rattle.wy_recursion.specs.Calls.{contract, looped, call, is_variable}
+use Rattle.wy_recursion.specs.TypeNames as types
+use Rattle.wy_recursion.specs.TypeNames.{just_a_name}
+use Rattle.wy_recursion.specs.ExprNames as exprs
+use Rattle.wy_recursion.specs.StmtNames as bind
+use Rattle.wy_recursion.specs.StmtNames.{differ}
 use Rattle.wy_lower.specs.Variables.{Variables, named, routine_of}
 use Rattle.wy_lower.specs.Uses.{Template}
 use Rattle.wy_lower.specs.ExprsLowered.{in_expr, in_exprs}

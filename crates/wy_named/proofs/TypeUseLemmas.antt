@@ -10,14 +10,14 @@ use Rattle.wy_scope.specs.declared.table.Entry.TheVariants as entry
 use Rattle.wy_scope.specs.Faults.{Found, noted_where}
 use Rattle.wy_scope.specs.Places.{place_of_ty}
 use Rattle.wy_scope.specs.Scope.{Scope, entry_of, has, with_name}
-use Rattle.wy_bind.specs.Calls.{is_type, is_variable}
-use Rattle.wy_bind.specs.TypeNames as bind
-use Rattle.wy_bind.specs.TypeNames.{just_a_name}
-use Rattle.wy_uses.specs.declared.edges.Edge.{Edge}
-use Rattle.wy_uses.specs.declared.edges.Way.{Way}
-use Rattle.wy_uses.specs.declared.edges.Way.TheVariants as way
-use Rattle.wy_uses.specs.Uses.{Edges, guarded, type_named}
-use Rattle.wy_uses.specs.TypeUses as uses
+use Rattle.wy_recursion.specs.Calls.{is_type, is_variable}
+use Rattle.wy_recursion.specs.TypeNames as bind
+use Rattle.wy_recursion.specs.TypeNames.{just_a_name}
+use Rattle.wy_recursion.specs.declared.edges.Edge.{Edge}
+use Rattle.wy_recursion.specs.declared.edges.Way.{Way}
+use Rattle.wy_recursion.specs.declared.edges.Way.TheVariants as way
+use Rattle.wy_recursion.specs.Uses.{Edges, guarded, type_named}
+use Rattle.wy_recursion.specs.TypeUses as uses
 use Rattle.wy_named.proofs.UseLemmas.{Each, of_last, before_ty}
 use Rattle.wy_lower.specs.Variables.{type_of}
 use Rattle.wy_lower.specs.TypesLowered.{placed, in_ty, in_fields}

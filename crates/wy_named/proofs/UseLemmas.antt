@@ -7,13 +7,13 @@ use Rattle.wy_ast.specs.SurfaceTree.{Decl, AliasDecl, FunctionDecl, MethodDecl, 
 use Rattle.wy_scope.specs.Scope.{Scope, entry_of}
 use Rattle.wy_scope.specs.declared.table.Entry.{Entry}
 use Rattle.wy_scope.specs.declared.table.Entry.TheVariants as entry
-use Rattle.wy_uses.specs.declared.edges.Edge.{Edge}
-use Rattle.wy_uses.specs.declared.edges.Way.{Way}
-use Rattle.wy_uses.specs.declared.edges.Way.TheVariants as way
-use Rattle.wy_uses.specs.Uses.{Edges, guarded, type_named, property_named}
-use Rattle.wy_uses.specs.TypeUses as types
-use Rattle.wy_uses.specs.ExprUses as exprs
-use Rattle.wy_uses.specs.DeclUses as decls
+use Rattle.wy_recursion.specs.declared.edges.Edge.{Edge}
+use Rattle.wy_recursion.specs.declared.edges.Way.{Way}
+use Rattle.wy_recursion.specs.declared.edges.Way.TheVariants as way
+use Rattle.wy_recursion.specs.Uses.{Edges, guarded, type_named, property_named}
+use Rattle.wy_recursion.specs.TypeUses as types
+use Rattle.wy_recursion.specs.ExprUses as exprs
+use Rattle.wy_recursion.specs.DeclUses as decls
 
 -- each use has the property
 abbrev pub Each : (Edge → Type 0) → Edges → Type 0

@@ -9,9 +9,9 @@ use Rattle.wy_scope.specs.declared.fault.Cause.TheVariants as cause
 use Rattle.wy_scope.specs.Faults.{Found}
 use Rattle.wy_scope.specs.Places.{place_of_expr}
 use Rattle.wy_scope.specs.Scope.{Scope}
-use Rattle.wy_bind.specs.declared.context.Context.{Context}
-use Rattle.wy_bind.specs.ExprNames as bind
-use Rattle.wy_bind.specs.StmtNames as stmts
+use Rattle.wy_recursion.specs.declared.context.Context.{Context}
+use Rattle.wy_recursion.specs.ExprNames as bind
+use Rattle.wy_recursion.specs.StmtNames as stmts
 use Rattle.wy_expand.specs.declared.measure.Measure.{Measure}
 use Rattle.wy_expand.specs.declared.measure.Spot.{Spot}
 use Rattle.wy_expand.specs.Measures.{nothing, root, deeper, inside, counted, limited}

@@ -11,12 +11,12 @@ use Rattle.wy_scope.specs.declared.table.Entry.TheVariants as entry
 use Rattle.wy_scope.specs.declared.table.Signature.{Signature}
 use Rattle.wy_scope.specs.Places.{place_of_ty, place_of_expr}
 use Rattle.wy_scope.specs.Scope.{Scope, entry_of, has, with_name}
-use Rattle.wy_bind.specs.declared.context.Context.{Context}
-use Rattle.wy_bind.specs.Calls.{contract, looped, is_type, is_variable}
-use Rattle.wy_bind.specs.TypeNames.{just_a_name}
-use Rattle.wy_bind.specs.ExprNames.{count_of, with_ranges}
-use Rattle.wy_bind.specs.StmtNames.{differ, scope_behind}
-use Rattle.wy_bind.specs.DeclNames.{clause_context, routine_context, with_params}
+use Rattle.wy_recursion.specs.declared.context.Context.{Context}
+use Rattle.wy_recursion.specs.Calls.{contract, looped, is_type, is_variable}
+use Rattle.wy_recursion.specs.TypeNames.{just_a_name}
+use Rattle.wy_recursion.specs.ExprNames.{count_of, with_ranges}
+use Rattle.wy_recursion.specs.StmtNames.{differ, scope_behind}
+use Rattle.wy_recursion.specs.DeclNames.{clause_context, routine_context, with_params}
 use Rattle.wy_named.specs.Shown.{Stands, Never, Either}
 
 -- ---- types

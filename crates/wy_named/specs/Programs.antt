@@ -6,8 +6,8 @@ use Rattle.wy_scope.specs.declared.table.Entry.{Entry}
 use Rattle.wy_scope.specs.declared.fault.Cause.TheVariants as cause
 use Rattle.wy_scope.specs.declared.fault.Fault.{Fault}
 use Rattle.wy_scope.specs.Scope.{Scope, has, with_name}
-use Rattle.wy_uses.specs.declared.edges.Edge.{Edge}
-use Rattle.wy_uses.specs.Uses.{Edges}
+use Rattle.wy_recursion.specs.declared.edges.Edge.{Edge}
+use Rattle.wy_recursion.specs.Uses.{Edges}
 use Rattle.wy_recursion.specs.Recursion.{Recurs}
 use Rattle.wy_names.specs.Named.{expansions_of, scope_of, uses_of}
 use Rattle.wy_names.specs.NameFaults.{fault_named}

@@ -8,7 +8,7 @@ ghost use Rattle.wy_names.specs.Named.{IsNamed, IsRefused, scope_of, uses_of};
 ghost use Rattle.wy_names.specs.declared.name_fault.NameFault.{NameFault};
 ghost use Rattle.wy_recursion.specs.Endings.{IsOrder};
 ghost use Rattle.wy_scope.specs.declared.fault.Fault.{Fault};
-ghost use Rattle.wy_uses.specs.declared.edges.Edge.{Edge};
+ghost use Rattle.wy_recursion.specs.declared.edges.Edge.{Edge};
 
 /// The fault for which a program is refused is one that it shows, and none that it shows stands at a lesser
 /// place, or at the same place with a lesser rank.

@@ -8,9 +8,9 @@ use Rattle.wy_scope.specs.Declarations.{declared}
 use Rattle.wy_scope.specs.declared.fault.Fault.{Fault}
 use Rattle.wy_scope.specs.Faults.{Found}
 use Rattle.wy_scope.specs.Scope.{Scope}
-use Rattle.wy_bind.specs.DeclNames as bind
-use Rattle.wy_uses.specs.Uses.{Edges}
-use Rattle.wy_uses.specs.DeclUses.{edges_of}
+use Rattle.wy_recursion.specs.DeclNames as bind
+use Rattle.wy_recursion.specs.Uses.{Edges}
+use Rattle.wy_recursion.specs.DeclUses.{edges_of}
 use Rattle.wy_recursion.specs.Recursion.{NotesRecursion}
 use Rattle.wy_recursion.specs.Endings.{IsOrder}
 use Rattle.wy_expand.specs.Faults as expand

@@ -4,8 +4,8 @@ use std::alloc::{AllocError, Global};
 use wy_ast::{Alias, Decl, Expr, ExprKind, Param, Property, Ty, TyKind};
 use wy_data::Name;
 use wy_items::{Boxed, Items};
+use wy_recursion::{Edge, Way, edges_of};
 use wy_scope::declare;
-use wy_uses::{Edge, Way, edges_of};
 
 // Where a type name stands in a definition, where one stands in a test, and where a call does.
 const TYPE: u32 = 10;

@@ -10,10 +10,10 @@ use Rattle.wy_ast.specs.declared.declarations.Decl.{Decl}
 use Rattle.wy_cycles.specs.declared.graph.Arrow.{Arrow}
 use Rattle.wy_cycles.specs.Cycles.{Leads, TellCycles}
 use Rattle.wy_scope.specs.Faults.{Found}
-use Rattle.wy_uses.specs.declared.edges.Edge.{Edge}
-use Rattle.wy_uses.specs.declared.edges.Way.{Way}
-use Rattle.wy_uses.specs.declared.edges.Way.TheVariants as way
-use Rattle.wy_uses.specs.Uses.{Edges}
+use Rattle.wy_recursion.specs.declared.edges.Edge.{Edge}
+use Rattle.wy_recursion.specs.declared.edges.Way.{Way}
+use Rattle.wy_recursion.specs.declared.edges.Way.TheVariants as way
+use Rattle.wy_recursion.specs.Uses.{Edges}
 use Rattle.wy_recursion.specs.Arrows.{counts, arrow_of, arrows_of}
 use Rattle.wy_recursion.specs.Recursion.{is_type, label, has_one_label, recurs_by, recurs_by_way, recurs_in, Recurs, OnCycle, InClause, noted_marked, noted_by, NotesRecursion}
 

@@ -7,8 +7,8 @@ use Rattle.std.proofs.lemmas.Bool.{eqb-true, eq-eqb, ltb-true}
 use Rattle.std.proofs.lemmas.Bool.Decides.{eqb_tells}
 use Rattle.std.proofs.Math.Dec.{eqb}
 use Rattle.wy_ast.specs.SurfaceTree.{Decl}
-use Rattle.wy_uses.specs.declared.edges.Edge.{Edge}
-use Rattle.wy_uses.specs.Uses.{Edges}
+use Rattle.wy_recursion.specs.declared.edges.Edge.{Edge}
+use Rattle.wy_recursion.specs.Uses.{Edges}
 use Rattle.wy_recursion.specs.Endings.{is_use, is_use_way, Ends, ends, is_property, StandsAt, IsOrder, number_at, is_at, stands, opens, is_settled, is_before, falls, each_falls, each_placed}
 
 pub both : (a b : Bool) → (a && b) ≡ true → (a ≡ true) × (b ≡ true)

@@ -3,8 +3,8 @@ use Rattle.std.proofs.Common.{◌≡◌, ◌≢◌, ◌+◌, ◌<◌, ◌≤◌,
 use Rattle.std.specs.List.{slice_get}
 use Rattle.std.proofs.lemmas.Bool.{eqb-true, eq-eqb}
 use Rattle.wy_ast.specs.SurfaceTree.{Decl}
-use Rattle.wy_uses.specs.declared.edges.Edge.{Edge}
-use Rattle.wy_uses.specs.Uses.{Edges}
+use Rattle.wy_recursion.specs.declared.edges.Edge.{Edge}
+use Rattle.wy_recursion.specs.Uses.{Edges}
 use Rattle.wy_recursion.specs.Endings.{is_use, is_use_way, Ends, ends, is_property, StandsAt, IsOrder}
 use Rattle.wy_recursion.specs.Rounds.{has, blocks, is_ready, with_ready, with_left, order_behind, rest_behind, properties}
 use Rattle.wy_recursion.proofs.OrderLemmas.{both, one_of, refuted}

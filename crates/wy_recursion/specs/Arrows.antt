@@ -1,10 +1,10 @@
 -- The arrows that uses make among declarations.
 use Rattle.std.specs.Prelude.{Bool, true, List, [], ◌∷◌, if◌then◌else◌}
 use Rattle.wy_cycles.specs.declared.graph.Arrow.{Arrow}
-use Rattle.wy_uses.specs.declared.edges.Edge.{Edge}
-use Rattle.wy_uses.specs.declared.edges.Way.{Way}
-use Rattle.wy_uses.specs.declared.edges.Way.TheVariants as way
-use Rattle.wy_uses.specs.Uses.{Edges}
+use Rattle.wy_recursion.specs.declared.edges.Edge.{Edge}
+use Rattle.wy_recursion.specs.declared.edges.Way.{Way}
+use Rattle.wy_recursion.specs.declared.edges.Way.TheVariants as way
+use Rattle.wy_recursion.specs.Uses.{Edges}
 
 -- a use of this kind counts: each does, or all but those inside of records and arrays
 abbrev pub counts : Bool → Way → Bool

@@ -5,10 +5,10 @@ use Rattle.wy_cycles.specs.Cycles as cycles
 use Rattle.wy_cycles.specs.Cycles.{Leads}
 use Rattle.wy_scope.specs.declared.fault.Cause.TheVariants as cause
 use Rattle.wy_scope.specs.Faults.{Found, noted_where}
-use Rattle.wy_uses.specs.declared.edges.Edge.{Edge}
-use Rattle.wy_uses.specs.declared.edges.Way.{Way}
-use Rattle.wy_uses.specs.declared.edges.Way.TheVariants as way
-use Rattle.wy_uses.specs.Uses.{Edges}
+use Rattle.wy_recursion.specs.declared.edges.Edge.{Edge}
+use Rattle.wy_recursion.specs.declared.edges.Way.{Way}
+use Rattle.wy_recursion.specs.declared.edges.Way.TheVariants as way
+use Rattle.wy_recursion.specs.Uses.{Edges}
 use Rattle.wy_recursion.specs.Arrows.{arrows_of}
 
 -- the declaration is a type

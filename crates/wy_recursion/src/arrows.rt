@@ -2,10 +2,10 @@
 ghost use Rattle.std.specs.Prelude.{◌≡◌, IfOk};
 ghost use Rattle.wy_recursion.specs.Arrows as spec;
 
+use crate::edges::{Edge, Way};
 use std::alloc::{AllocError, Global};
 use wy_cycles::Arrow;
 use wy_items::Items;
-use wy_uses::{Edge, Way};
 
 /// Whether a use of this kind counts: each does, or all but those inside of records and arrays.
 fn counts(all: bool, way: Way) -> bool

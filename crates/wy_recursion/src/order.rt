@@ -3,13 +3,13 @@ ghost use Rattle.std.specs.Prelude.{◌≡◌, map, IfOk};
 ghost use Rattle.wy_ast.specs.SurfaceSeen.{seen_decl};
 ghost use Rattle.wy_recursion.specs.Endings.{IsOrder};
 
+use crate::edges::Edge;
 use crate::positions::holds;
 use crate::rounds::by_rounds;
 use crate::search::{Candidate, proposed};
 use std::alloc::{AllocError, Global};
 use wy_ast::Decl;
 use wy_items::Items;
-use wy_uses::Edge;
 
 /// The indices of exactly the properties whose expansion ends, each behind those that it uses. Linear in
 /// declarations and uses. Where what the search found were no such order, which no test has seen, it is

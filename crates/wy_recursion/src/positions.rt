@@ -4,10 +4,10 @@ ghost use Rattle.std.specs.Option.{option_copied, option_map};
 ghost use Rattle.wy_ast.specs.SurfaceSeen.{seen_decl};
 ghost use Rattle.wy_recursion.specs.Endings as spec;
 
+use crate::edges::{Edge, Way};
 use crate::search::Candidate;
 use wy_ast::Decl;
 use wy_items::at;
-use wy_uses::{Edge, Way};
 
 /// Whether a declaration is used by a clause.
 fn is_use_way(way: Way) -> bool

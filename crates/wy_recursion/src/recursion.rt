@@ -5,12 +5,12 @@ ghost use Rattle.wy_ast.specs.SurfaceSeen.{seen_decl};
 ghost use Rattle.wy_recursion.specs.Recursion as spec;
 
 use crate::arrows::arrows_of;
+use crate::edges::{Edge, Way};
 use std::alloc::{AllocError, Global};
 use wy_ast::Decl;
 use wy_cycles::components;
 use wy_items::at;
 use wy_scope::{Cause, Fault, noted_where};
-use wy_uses::{Edge, Way};
 
 /// The fault to be given, of the one found before and those of types that recur: `BareRecursion` at a bare
 /// use on a cycle of bare uses, mentions and properties, and at a mention, or the use of a property, in a

@@ -4,11 +4,11 @@ ghost use Rattle.wy_ast.specs.SurfaceSeen.{seen_decl};
 ghost use Rattle.wy_recursion.specs.Endings.{IsOrder};
 ghost use Rattle.wy_recursion.specs.Rounds as spec;
 
+use crate::edges::Edge;
 use crate::positions::{is_property, is_use};
 use std::alloc::{AllocError, Global};
 use wy_ast::Decl;
 use wy_items::Items;
-use wy_uses::Edge;
 
 fn has(list: &[usize], index: usize) -> bool
     ensures value { result ≡ spec.has list.now index }

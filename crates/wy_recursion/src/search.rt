@@ -1,10 +1,10 @@
 //! A search for the order of properties, on which no answer rests.
 use crate::arrows::arrow_of;
+use crate::edges::{Edge, Way};
 use std::alloc::{AllocError, Global};
 use wy_ast::Decl;
 use wy_cycles::{Adjacency, Arrow, adjacency_of, walk};
 use wy_items::Items;
-use wy_uses::{Edge, Way};
 
 /// An order of properties, the position of each declaration in it, which is one more than its place and 0
 /// where it has none, and for each property without one a use of another one without one.

@@ -5,7 +5,7 @@ use super::trees::{
 };
 use std::alloc::{AllocError, Global};
 use wy_ast::{ExprKind, Stmt, StmtKind};
-use wy_bind::bind;
+use wy_recursion::bind;
 use wy_scope::{Cause, Fault, declare};
 
 // The expression, given back.

@@ -1,2 +1,0 @@
--- what nodes with a list of pairs stand for
-pub mod SeenLemmas
