@@ -9,7 +9,9 @@ ghost use Rattle.wy_term.specs.Nodes.{tree_at};
 use crate::atoms::list_atoms;
 use indexmap::IndexSet;
 use wy_judge::Verdict;
-use wy_judging::{Branch, add_literal, back_to, has_literal, is_refuted, judge, nothing_known, pending_at};
+use wy_judging::{
+    Branch, add_literal, back_to, has_literal, is_refuted, judge, nothing_known, pending_at,
+};
 use wy_term::{NoMemory, Terms};
 
 // Whether neither the atom nor its denial stands among the literals.

@@ -17,7 +17,10 @@ use crate::program::Program;
 use std::alloc::Global;
 use wy_core::{Core, Expr, ExprKind, Op};
 use wy_data::Name;
-use wy_eval_expressions::{Meter, Stop, applied, as_numbers, as_truth, denied, early, field_of, item_of, length, needed, negated, repeated, variable, with_number};
+use wy_eval_expressions::{
+    Meter, Stop, applied, as_numbers, as_truth, denied, early, field_of, item_of, length, needed,
+    negated, repeated, variable, with_number,
+};
 use wy_items::Items;
 use wy_value::Value;
 

@@ -28,7 +28,9 @@ mod summed;
 mod trail;
 
 pub use adding::{add, add_all, first_branch};
-pub use branch::{Branch, add_literal, add_pending, back_to, bare, has_literal, literal_at, nth_literal};
+pub use branch::{
+    Branch, add_literal, add_pending, back_to, bare, has_literal, literal_at, nth_literal,
+};
 pub use cut::cut_stated;
 pub use judging::{is_refuted, judge, nothing_known, pending_at};
 pub use refuting::is_refuting;

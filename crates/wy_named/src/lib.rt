@@ -37,7 +37,16 @@ mod name_faults_laws;
 mod resolved_laws;
 mod sized_laws;
 
-pub use laws::{a_named_program_is_not_refused, a_program_has_one_core, a_program_has_one_fault, a_program_has_one_refusal, a_refused_program_has_its_fault};
-pub use name_faults_laws::{a_named_program_shows_no_fault, a_program_is_refused_for_its_first_fault, the_uses_listed_are_those_of_the_program};
-pub use resolved_laws::{a_named_core_calls_what_it_may, a_named_core_declares_no_more, a_named_core_has_ints_alone, a_named_core_is_bound, a_named_core_recurs_through_parts};
+pub use laws::{
+    a_named_program_is_not_refused, a_program_has_one_core, a_program_has_one_fault,
+    a_program_has_one_refusal, a_refused_program_has_its_fault,
+};
+pub use name_faults_laws::{
+    a_named_program_shows_no_fault, a_program_is_refused_for_its_first_fault,
+    the_uses_listed_are_those_of_the_program,
+};
+pub use resolved_laws::{
+    a_named_core_calls_what_it_may, a_named_core_declares_no_more, a_named_core_has_ints_alone,
+    a_named_core_is_bound, a_named_core_recurs_through_parts,
+};
 pub use sized_laws::{a_named_core_is_formed, a_named_core_is_quiet, a_named_core_is_small};

@@ -4,8 +4,8 @@ ghost use Rattle.wy_ast.specs.SurfaceSeen.{seen_expr, seen_exprs, seen_fields, s
 ghost use Rattle.wy_ast.specs.SurfaceTree.{exprs_of};
 ghost use Rattle.wy_recursion.specs.ExprNames as names;
 
-use crate::context::{Context, call, contract, is_variable};
 use crate::bind_types::in_ty;
+use crate::context::{Context, call, contract, is_variable};
 use std::alloc::{AllocError, Global};
 use wy_ast::{Expr, ExprKind};
 use wy_data::Name;

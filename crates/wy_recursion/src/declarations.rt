@@ -3,10 +3,10 @@ ghost use Rattle.std.specs.Prelude.{◌≡◌, map, IfOk, OnOk};
 ghost use Rattle.wy_ast.specs.SurfaceSeen.{seen_decl, seen_exprs, seen_param};
 ghost use Rattle.wy_recursion.specs.DeclNames as names;
 
-use crate::context::Context;
 use crate::bind_expressions::in_exprs;
-use crate::statements::in_block;
 use crate::bind_types::in_ty;
+use crate::context::Context;
+use crate::statements::in_block;
 use std::alloc::{AllocError, Global};
 use wy_ast::{Alias, Decl, Expr, Function, Method, Param, Property};
 use wy_data::Name;

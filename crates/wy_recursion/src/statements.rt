@@ -4,9 +4,9 @@ ghost use Rattle.wy_ast.specs.SurfaceSeen.{seen_exprs, seen_stmt, seen_block, se
 ghost use Rattle.wy_ast.specs.SurfaceTree.{cases_of};
 ghost use Rattle.wy_recursion.specs.StmtNames as names;
 
-use crate::context::{Context, call, contract, is_variable, looped};
 use crate::bind_expressions::{count_of, in_expr, in_exprs};
 use crate::bind_types::in_ty;
+use crate::context::{Context, call, contract, is_variable, looped};
 use std::alloc::{AllocError, Global};
 use wy_ast::{Case, Expr, Step, StepKind, Stmt, StmtKind};
 use wy_scope::{Cause, Entry, Fault, Table, noted_where};

@@ -17,4 +17,3 @@
 mod laws;
 mod round_programs_laws;
 mod round_statements_laws;
-

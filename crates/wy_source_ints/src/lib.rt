@@ -36,4 +36,7 @@ pub use laws::a_named_core_has_fields;
 pub use named_code_laws::the_code_of_a_named_core_is_whole;
 pub use source_fields_laws::a_source_that_is_read_has_names_of_fields;
 pub use source_ints_laws::{a_source_that_is_read_has_ints_alone, the_core_of_a_source_is_formed};
-pub use spelled_laws::{a_spelled_program_has_clauses, a_spelled_program_is_short, the_core_of_a_text_is_formed, the_core_of_a_text_is_small};
+pub use spelled_laws::{
+    a_spelled_program_has_clauses, a_spelled_program_is_short, the_core_of_a_text_is_formed,
+    the_core_of_a_text_is_small,
+};
