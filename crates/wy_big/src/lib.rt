@@ -10,8 +10,6 @@ mod bodies;
 mod draws;
 mod law;
 mod source;
-#[cfg(test)]
-mod tests;
 
 pub use law::sources_are_as_shown;
 pub use source::{argument_text, entry, source_of};

@@ -8,8 +8,6 @@
 
 mod bytes;
 mod name;
-#[cfg(test)]
-mod tests;
 mod words;
 
 pub use bytes::Bytes;

@@ -7,8 +7,6 @@
 mod fault;
 mod place;
 mod reading;
-#[cfg(test)]
-mod tests;
 
 pub use fault::{SourceFault, is_no_memory, offset, word};
 pub use place::{Place, locate};

@@ -7,9 +7,13 @@ mod big;
 #[cfg(test)]
 mod grammar;
 #[cfg(test)]
+mod large;
+#[cfg(test)]
 mod lex;
 #[cfg(test)]
 mod parse;
+#[cfg(test)]
+mod places;
 #[cfg(test)]
 mod print;
 #[cfg(test)]

@@ -14,5 +14,3 @@ mod items;
 pub use boxed::Boxed;
 pub use items::{Items, at};
 
-#[cfg(test)]
-mod tests;

@@ -13,8 +13,6 @@ mod mem_files;
 mod mem_sink;
 mod sink;
 mod std_sink;
-#[cfg(test)]
-mod tests;
 
 pub use disk_files::DiskFiles;
 pub use files::{Files, LoadFault, SaveFault};

@@ -15,8 +15,6 @@
 pub mod example;
 mod stop;
 mod symbols;
-#[cfg(test)]
-mod tests;
 
 pub use stop::Stop;
 pub use symbols::{Class, next_is, one, skip, spelled, word};

@@ -3,7 +3,5 @@
 #![tactic(auto)]
 
 mod core_types;
-#[cfg(test)]
-mod tests;
 
 pub use core_types::{same_atom, same_conjunct, same_part, same_signed, same_ty};

@@ -9,8 +9,6 @@ mod front;
 mod law;
 mod names;
 mod numbers;
-#[cfg(test)]
-mod tests;
 
 pub use front::{behind, digits, is_digit, is_word_byte, run};
 pub use law::names_are_words;

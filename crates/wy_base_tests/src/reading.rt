@@ -1,4 +1,4 @@
-use crate::example::{Fault, numbers};
+use wy_reading::example::{Fault, numbers};
 use std::alloc::AllocError;
 
 #[test]

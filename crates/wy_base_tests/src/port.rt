@@ -1,5 +1,5 @@
 //! What no clause says: that calls succeed where memory is ample, and what real files and streams do.
-use crate::{
+use wy_port::{
     DiskFiles, Failed, Files, LoadFault, MemFiles, MemSink, SaveFault, Sink, StdSink,
     have_different_names, write_whole,
 };

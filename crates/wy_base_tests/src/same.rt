@@ -1,5 +1,5 @@
 //! Which types are the same: rows of two samples and an answer.
-use crate::same_ty;
+use wy_same::same_ty;
 use std::alloc::{AllocError, Global};
 use wy_core::{Atom, Conjunct, Part, Signed, Ty, TyKind};
 use wy_data::Name;

@@ -1,4 +1,4 @@
-use crate::{Bytes, Name, is_keyword, is_part, is_start};
+use wy_data::{Bytes, Name, is_keyword, is_part, is_start};
 use std::alloc::AllocError;
 use std::collections::BTreeMap;
 

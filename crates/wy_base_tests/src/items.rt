@@ -1,4 +1,4 @@
-use crate::{Boxed, Items, at};
+use wy_items::{Boxed, Items, at};
 use std::alloc::AllocError;
 
 #[test]

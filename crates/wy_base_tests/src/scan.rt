@@ -1,5 +1,5 @@
 //! Words and numbers, and what follows them.
-use crate::{are_fields, behind, natural, numbered, whole, word};
+use wy_scan::{are_fields, behind, natural, numbered, whole, word};
 use std::test::Fail;
 use wy_data::Name;
 

@@ -1,4 +1,4 @@
-use crate::{argument_text, entry, source_of};
+use wy_big::{argument_text, entry, source_of};
 use std::alloc::AllocError;
 
 /// One function that counts up to 11.

@@ -1,5 +1,5 @@
 // Lines and columns, and the fault of each kind of bad source.
-use crate::{locate, offset, read, word};
+use wy_front::{locate, offset, read, word};
 
 const SOURCE: &[u8] = b"type T\n  is int\r\n\n$";
 

@@ -1,3 +1,0 @@
-//! Types and an answer for each pair.
-
-mod types;
