@@ -6,7 +6,7 @@
 //! kept. Every node has the place where it stands, a byte offset in its source.
 //!
 //! `types`, `expressions`, `statements` and `declarations` have the nodes, each file those of one
-//! class of the grammar, and `copies` makes a tree once more. `types` also has the normal forms of
+//! class of the grammar, and `copies` makes types and expressions once more. `types` also has the normal forms of
 //! types, which no source spells. The parts of a node are lists (`wy_items::Items`) and boxes
 //! (`wy_items::Boxed`), which a clause sees as what they hold, so `≡` between two trees says
 //! that they are equal, places included. A definition by clauses goes over the plain data of
@@ -19,8 +19,6 @@ mod expressions;
 mod statements;
 mod types;
 
-pub use copies::expr_copies::copy_exprs;
-pub use copies::stmt_copies::{copy_steps, copy_stmts};
 pub use declarations::{Alias, Core, Decl, Output, Param, Routine};
 pub use expressions::{Expr, ExprKind, Op};
 pub use statements::{Step, StepKind, Stmt, StmtKind};

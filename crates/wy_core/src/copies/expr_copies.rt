@@ -80,9 +80,8 @@ fn copy_boxed(alloc: Global, expr: &Boxed<Expr>) -> Result<Boxed<Expr>, AllocErr
     Boxed::new(alloc, expr.get().copy(alloc)?)
 }
 
-/// The same list once more, in time linear in its size.
 #[cycle(copy_expr)]
-pub fn copy_exprs(alloc: Global, all: &[Expr]) -> Result<Items<Expr>, AllocError>
+fn copy_exprs(alloc: Global, all: &[Expr]) -> Result<Items<Expr>, AllocError>
     ensures value { IfOk result (λ made. made ≡ all.now) }
 {
     let mut made = Items::new(alloc);
@@ -101,14 +100,4 @@ fn copy_fields(alloc: Global, all: &[(Name, Expr)]) -> Result<Items<(Name, Expr)
         made.push((field.0.copy(alloc)?, field.1.copy(alloc)?))?;
     }
     Ok(made)
-}
-
-/// The same once more.
-pub fn copy_option(alloc: Global, option: &Option<Expr>) -> Result<Option<Expr>, AllocError>
-    ensures value { IfOk result (λ copy. copy ≡ option.now) }
-{
-    match option {
-        None => Ok(None),
-        Some(expr) => Ok(Some(expr.copy(alloc)?)),
-    }
 }
