@@ -1,6 +1,6 @@
-use wy_data::{Bytes, Name, is_keyword, is_part, is_start};
 use std::alloc::AllocError;
 use std::collections::BTreeMap;
+use wy_data::{Bytes, Name, is_keyword, is_part, is_start};
 
 #[test]
 fn names(rt: HostRuntime) -> Result<(), AllocError> {

@@ -1,5 +1,5 @@
-use wy_items::{Boxed, Items, at};
 use std::alloc::AllocError;
+use wy_items::{Boxed, Items, at};
 
 #[test]
 fn a_vec_comes_back(rt: HostRuntime) -> Result<(), AllocError> {

@@ -1,11 +1,11 @@
 //! What no clause says: that calls succeed where memory is ample, and what real files and streams do.
+use std::alloc::{AllocError, Global};
+use std::fs;
+use std::test::Fail;
 use wy_port::{
     DiskFiles, Failed, Files, LoadFault, MemFiles, MemSink, SaveFault, Sink, StdSink,
     have_different_names, write_whole,
 };
-use std::alloc::{AllocError, Global};
-use std::fs;
-use std::test::Fail;
 
 fn file(alloc: Global, name: &str, text: &str) -> Result<(String, Vec<u8>), AllocError> {
     Ok((

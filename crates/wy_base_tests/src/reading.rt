@@ -1,5 +1,5 @@
-use wy_reading::example::{Fault, numbers};
 use std::alloc::AllocError;
+use wy_reading::example::{Fault, numbers};
 
 #[test]
 fn texts(rt: HostRuntime) -> Result<(), AllocError> {

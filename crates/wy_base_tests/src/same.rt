@@ -1,9 +1,9 @@
 //! Which types are the same: rows of two samples and an answer.
-use wy_same::same_ty;
 use std::alloc::{AllocError, Global};
 use wy_core::{Atom, Conjunct, Part, Signed, Ty, TyKind};
 use wy_data::Name;
 use wy_items::{Boxed, Items};
+use wy_same::same_ty;
 
 fn boxed(alloc: Global, at: u32, kind: TyKind) -> Result<Boxed<Ty>, AllocError> {
     Boxed::new(alloc, Ty { at, kind })

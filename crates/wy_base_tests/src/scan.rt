@@ -1,7 +1,7 @@
 //! Words and numbers, and what follows them.
-use wy_scan::{are_fields, behind, natural, numbered, whole, word};
 use std::test::Fail;
 use wy_data::Name;
+use wy_scan::{are_fields, behind, natural, numbered, whole, word};
 
 #[test]
 fn naturals(rt: HostRuntime) -> Result<(), Fail> {

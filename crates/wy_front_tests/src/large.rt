@@ -1,5 +1,5 @@
-use wy_big::{argument_text, entry, source_of};
 use std::alloc::AllocError;
+use wy_big::{argument_text, entry, source_of};
 
 /// One function that counts up to 11.
 const OF_SEVEN: &str = "function f0(int x) -> (int r)

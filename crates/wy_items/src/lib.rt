@@ -13,4 +13,3 @@ mod items;
 
 pub use boxed::Boxed;
 pub use items::{Items, at};
-
