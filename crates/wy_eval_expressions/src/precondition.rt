@@ -44,7 +44,7 @@ pub enum MeetsEnd {
 /// are copied once.
 ///
 /// The stack is bounded: each nested visit takes one and each nested expression four of
-/// `wy_eval_scope::ROOM` levels, 4,096 of them, and where these are used up the answer is want of memory.
+/// `ROOM` levels, 4,096 of them, and where these are used up the answer is want of memory.
 /// Expressions nest at most 400 deep in a clause, and arguments that are read at most 100.
 ///
 /// No accepted program has a call in a contract, or a circle of bare names; at one, the answer is want

@@ -24,12 +24,12 @@
 //!
 //! What the nodes, the height and the uses of parameters of an expression come to where properties are put in.
 //!
-//! No call of a program: lemmas on which the laws of `wy_sized` stand.
+//! No call of a program: lemmas on which the laws on sizes stand.
 //!
 //! The core that `wy_names::resolve` gives is within the limits of size, and nothing is called in its quantifiers.
 //!
 //! `wy_expand` counts an expression in the source, its properties put in, before anything is put in. The laws here
-//! say that it counts what the core has, and with what `wy_resolved` says the core is formed.
+//! say that it counts what the core has, and with what the laws on cores say the core is formed.
 #![tactic(auto)]
 
 mod laws;

@@ -2,7 +2,7 @@
 //! refused.
 //!
 //! `resolver` is the order of the passes. The names of declarations are put into a table (`wy_scope`), and
-//! each use is bound (`wy_bind`). Which types and properties use which is listed (`wy_uses`), and what uses
+//! each use is bound (`wy_recursion`). Which types and properties use which is listed (there too), and what uses
 //! itself is found (`wy_recursion`): types that recur where they may not, and properties whose expansion has
 //! no end. The sizes of expansions are found before anything is expanded (`wy_expand`). Only where no pass
 //! has a fault is the core made (`wy_lower`). Each pass goes on behind a fault, and the one at the least

@@ -5,7 +5,7 @@
 //! all data.
 //!
 //! This puts the law on valid certificates (wy_sound_certificates) together with that on the terms of certificates that were
-//! read (wy_sorted_certificates): nothing is asked of a file but that it was read.
+//! read: nothing is asked of a file but that it was read.
 //!
 //! The conditions of a program meet the premises of the laws on certificates, so these laws speak of every program.
 #![tactic(auto)]

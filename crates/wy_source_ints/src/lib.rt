@@ -6,16 +6,16 @@
 //!
 //! The fields of a source that is read have names.
 //!
-//! `wy_field_names` asks that each name of a field in a program is a name. The law here says it of each
+//! The laws on the names of fields ask that each name of a field in a program is a name. The law here says it of each
 //! program that a source spells: a field is written as a name, and each token that is one is proper.
 //!
 //! What the programs have that bytes spell, as laws: each property has a clause, and there are few declarations.
 //!
-//! With them the laws of `wy_sized` hold of each program that was read, with no condition on its source.
+//! With them the laws on sizes hold of each program that was read, with no condition on its source.
 //!
 //! The numbers of a source that is read are `int`s, and the codes of its texts are bytes.
 //!
-//! `wy_resolved` and `wy_spelled` ask so of a program, to say that its core is formed. The law here says it of each
+//! The laws on cores and on spelling ask so of a program, to say that its core is formed. The law here says it of each
 //! program that a source spells: a numeral above the greatest `int` is a literal only behind a minus that it touches, and
 //! each character of a text has one byte.
 //!

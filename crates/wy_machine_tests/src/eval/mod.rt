@@ -1,4 +1,4 @@
-//! Tests of wy_precondition and wy_eval: sources, and what is answered. They stand in a crate of their
+//! Tests of `meets` and `eval`: sources, and what is answered. They stand in a crate of their
 //! own, since they go through the readers of sources. Each answer was worked out by hand from the rules
 //! of the language.
 
