@@ -1,9 +1,8 @@
 //! Expressions of the core, made from their parts.
-ghost use Rattle.std.specs.Prelude.{◌≡◌, IfOk};
+ghost use Rattle.std.specs.Prelude.{◌≡◌};
 ghost use Rattle.wy_core.specs.CoreSeen.{seen_expr, seen_exprs, seen_fields, seen_ty};
 ghost use Rattle.wy_core.specs.CoreTree as tree;
 
-use std::alloc::{AllocError, Global};
 use wy_core::{Expr, ExprKind, Op, Ty};
 use wy_data::Name;
 use wy_items::{Boxed, Items};
@@ -89,22 +88,13 @@ pub fn len(at: u32, operand: Boxed<Expr>) -> Expr
 }
 
 /// An operator between two operands.
-pub fn binary_of(at: u32, op: Op, left: Boxed<Expr>, right: Boxed<Expr>) -> Expr
+pub fn binary(at: u32, op: Op, left: Boxed<Expr>, right: Boxed<Expr>) -> Expr
     ensures value { seen_expr result ≡ tree.BinaryExpr at op (seen_expr left) (seen_expr right) }
 {
     Expr {
         at,
         kind: ExprKind::Binary(op, left, right),
     }
-}
-
-/// The same, of operands that are to be boxed.
-pub fn binary(alloc: Global, at: u32, op: Op, left: Expr, right: Expr) -> Result<Expr, AllocError>
-    ensures value { IfOk result (λ e. seen_expr e ≡ tree.BinaryExpr at op (seen_expr left) (seen_expr right)) }
-{
-    let left = Boxed::new(alloc, left)?;
-    let right = Boxed::new(alloc, right)?;
-    Ok(binary_of(at, op, left, right))
 }
 
 /// A test of a type.

@@ -5,8 +5,8 @@ ghost use Rattle.wy_core.specs.CoreTree.{exprs_of};
 ghost use Rattle.wy_build.specs.Instances as spec;
 
 use crate::expressions::{
-    binary, binary_of, call, denied, field, index, int, is, len, list, neg, null, quant, record,
-    repeat, truth, var,
+    binary, call, denied, field, index, int, is, len, list, neg, null, quant, record, repeat,
+    truth, var,
 };
 use std::alloc::{AllocError, Global};
 use wy_core::{Expr, ExprKind, Op};
@@ -78,7 +78,7 @@ fn several(
         ExprKind::Neg(_) => Ok(null(at)),
         ExprKind::Not(_) => Ok(null(at)),
         ExprKind::Len(_) => Ok(null(at)),
-        ExprKind::Binary(op, a, b) => Ok(binary_of(
+        ExprKind::Binary(op, a, b) => Ok(binary(
             at,
             *op,
             boxed(alloc, a, at, args, base)?,
@@ -181,8 +181,9 @@ fn instance_fields(
 {
     let mut made = Items::new(alloc);
     for field in fields {
+        let name = field.0.copy(alloc)?;
         let value = instance(alloc, &field.1, at, args, base)?;
-        made.push((field.0.copy(alloc)?, value))?;
+        made.push((name, value))?;
     }
     Ok(made)
 }
@@ -197,16 +198,16 @@ pub fn joined(
 ) -> Result<Expr, AllocError>
     ensures value { IfOk result (λ e. seen_expr e ≡ spec.joined at (seen_exprs args.now) base (seen_exprs clauses.now)) }
 {
-    let mut made = truth(at, true);
+    let mut made = Boxed::new(alloc, truth(at, true))?;
     let mut is_first = true;
     for clause in clauses {
-        let next = instance(alloc, clause, at, args, base)?;
-        made = if is_first {
-            next
+        let next = Boxed::new(alloc, instance(alloc, clause, at, args, base)?)?;
+        if is_first {
+            made = next;
         } else {
-            binary(alloc, at, Op::And, made, next)?
-        };
+            made = Boxed::new(alloc, binary(at, Op::And, made, next))?;
+        }
         is_first = false;
     }
-    Ok(made)
+    Ok(made.into_inner())
 }

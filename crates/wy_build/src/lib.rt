@@ -10,8 +10,8 @@ mod statements;
 mod types;
 
 pub use expressions::{
-    binary, binary_of, call, denied, field, index, int, is, len, list, neg, null, quant, record,
-    repeat, truth, var,
+    binary, call, denied, field, index, int, is, len, list, neg, null, quant, record, repeat,
+    truth, var,
 };
 pub use instances::{instance, joined};
 pub use statements::{

@@ -1,10 +1,9 @@
 //! Types of the core, made from their parts.
-ghost use Rattle.std.specs.Prelude.{◌≡◌, IfOk};
+ghost use Rattle.std.specs.Prelude.{◌≡◌};
 ghost use Rattle.wy_core.specs.CoreSeen.{seen_ty, place_of_ty};
 ghost use Rattle.wy_core.specs.Types as tree;
 ghost use Rattle.wy_build.specs.SeenFields.{seen_field_tys};
 
-use std::alloc::{AllocError, Global};
 use wy_core::{Ty, TyKind};
 use wy_data::Name;
 use wy_items::{Boxed, Items};
@@ -76,51 +75,47 @@ pub fn record_ty(at: u32, fields: Items<(Name, Ty)>) -> Ty
 }
 
 /// Arrays of these items.
-pub fn array_ty(alloc: Global, at: u32, item: Ty) -> Result<Ty, AllocError>
-    ensures value { IfOk result (λ t. seen_ty t ≡ tree.ArrayTy (seen_ty item)) }
-    ensures place { IfOk result (λ t. place_of_ty t ≡ at) }
+pub fn array_ty(at: u32, item: Boxed<Ty>) -> Ty
+    ensures value { seen_ty result ≡ tree.ArrayTy (seen_ty item) }
+    ensures place { place_of_ty result ≡ at }
 {
-    Ok(Ty {
+    Ty {
         at,
-        kind: TyKind::Array(Boxed::new(alloc, item)?),
-    })
+        kind: TyKind::Array(item),
+    }
 }
 
 /// What is in one of the two.
-pub fn union_ty(alloc: Global, at: u32, left: Ty, right: Ty) -> Result<Ty, AllocError>
-    ensures value { IfOk result (λ t. seen_ty t ≡ tree.UnionTy (seen_ty left) (seen_ty right)) }
-    ensures place { IfOk result (λ t. place_of_ty t ≡ at) }
+pub fn union_ty(at: u32, left: Boxed<Ty>, right: Boxed<Ty>) -> Ty
+    ensures value { seen_ty result ≡ tree.UnionTy (seen_ty left) (seen_ty right) }
+    ensures place { place_of_ty result ≡ at }
 {
-    let left = Boxed::new(alloc, left)?;
-    let right = Boxed::new(alloc, right)?;
-    Ok(Ty {
+    Ty {
         at,
         kind: TyKind::Union(left, right),
-    })
+    }
 }
 
 /// What is in both.
-pub fn inter_ty(alloc: Global, at: u32, left: Ty, right: Ty) -> Result<Ty, AllocError>
-    ensures value { IfOk result (λ t. seen_ty t ≡ tree.InterTy (seen_ty left) (seen_ty right)) }
-    ensures place { IfOk result (λ t. place_of_ty t ≡ at) }
+pub fn inter_ty(at: u32, left: Boxed<Ty>, right: Boxed<Ty>) -> Ty
+    ensures value { seen_ty result ≡ tree.InterTy (seen_ty left) (seen_ty right) }
+    ensures place { place_of_ty result ≡ at }
 {
-    let left = Boxed::new(alloc, left)?;
-    let right = Boxed::new(alloc, right)?;
-    Ok(Ty {
+    Ty {
         at,
         kind: TyKind::Inter(left, right),
-    })
+    }
 }
 
 /// What isn't in it.
-pub fn not_ty(alloc: Global, at: u32, inner: Ty) -> Result<Ty, AllocError>
-    ensures value { IfOk result (λ t. seen_ty t ≡ tree.NotTy (seen_ty inner)) }
-    ensures place { IfOk result (λ t. place_of_ty t ≡ at) }
+pub fn not_ty(at: u32, inner: Boxed<Ty>) -> Ty
+    ensures value { seen_ty result ≡ tree.NotTy (seen_ty inner) }
+    ensures place { place_of_ty result ≡ at }
 {
-    Ok(Ty {
+    Ty {
         at,
-        kind: TyKind::Not(Boxed::new(alloc, inner)?),
-    })
+        kind: TyKind::Not(inner),
+    }
 }
 
 /// The declared type with this number.

@@ -7,8 +7,8 @@ use Rattle.wy_facts.specs.Seen.{AreBelow, Stays}
 use Rattle.wy_judging.specs.declared.branch.Branch.{Branch}
 use Rattle.wy_judging.specs.Seen.{AreBare, AreOver, IsBranch}
 use Rattle.wy_judging.proofs.SumsBranchLemmas.{branch_stays}
-use Rattle.wy_stated_facts.specs.declared.spot.Spot.{Spot}
-use Rattle.wy_stated_facts.specs.Seen.{IsSpot}
+use Rattle.wy_searching.specs.Spot.{Spot}
+use Rattle.wy_searching.specs.StatedSeen.{IsSpot}
 use Rattle.wy_cert.specs.declared.step.Step.{Step}
 use Rattle.wy_cert.specs.declared.step.Step.TheVariants as step
 use Rattle.wy_cert.specs.Steps.{IsBelow}

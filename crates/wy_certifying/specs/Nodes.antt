@@ -1,7 +1,7 @@
 -- Nodes on the walk through the tree of the search: the numbers in them are those of terms.
 use Rattle.std.specs.Prelude.{◌<◌, List, [], ◌∷◌, length}
 use Rattle.wy_term.specs.Nodes.{Plain}
-use Rattle.wy_stated_facts.specs.Seen.{IsSpot}
+use Rattle.wy_searching.specs.StatedSeen.{IsSpot}
 use Rattle.wy_cert.specs.Steps.{NamesItsTerms}
 use Rattle.wy_certifying.specs.Draft.{IsDraft}
 use Rattle.wy_certifying.specs.declared.turning.Next.{Next}

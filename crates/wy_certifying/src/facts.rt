@@ -6,11 +6,10 @@ ghost use Rattle.wy_judging.specs.Seen.{IsBranch};
 
 use std::alloc::Global;
 use std::collections::HashSet;
-use wy_classes::standing;
 use wy_explaining::Action;
 use wy_facts::fact;
 use wy_judging::{Branch, pending_at};
-use wy_stated_facts::{is_element, measured, read_count, written_count};
+use wy_searching::{is_element, measured, read_count, standing, written_count};
 use wy_term::{Cond, Kind, NoMemory, Node, Terms};
 
 // ---- what the round added

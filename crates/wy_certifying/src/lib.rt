@@ -6,6 +6,8 @@
 //! next step stands: a certificate's node has more than the search's, since a fact adds its whole formula. `writing` gives
 //! each literal the number that it has there, and `adding` adds what a step states. In the end the certificate is judged by the
 //! checker (`judgement`), so that it is answered only where it is valid.
+//!
+//! The search itself is passed on, so that who needs both names this crate alone.
 #![tactic(auto)]
 
 mod adding;
@@ -20,3 +22,4 @@ mod walking;
 mod writing;
 
 pub use judgement::certified;
+pub use wy_searching::{OpenLeaf, Verdict, Why, search};

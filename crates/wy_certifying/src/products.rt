@@ -3,10 +3,9 @@ ghost use Rattle.std.specs.Prelude.{◌<◌, IfSome, length};
 ghost use Rattle.wy_facts.specs.Seen.{Stays};
 ghost use Rattle.wy_judging.specs.Seen.{IsBranch};
 
-use wy_bounds::{Bound, Bounds, bounds_of};
-use wy_classes::standing;
 use wy_explaining::{Action, Named};
 use wy_judging::{Branch, literal_at, pending_at};
+use wy_searching::{Bound, Bounds, bounds_of, standing};
 use wy_term::{NoMemory, Node, Terms};
 
 // The literal that is a bound.

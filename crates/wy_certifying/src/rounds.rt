@@ -2,16 +2,15 @@
 ghost use Rattle.std.specs.Prelude.{◌<◌, IfOk, OnOk, length};
 ghost use Rattle.wy_facts.specs.Membership.{AreTypesBelow};
 ghost use Rattle.wy_facts.specs.Seen.{AreBelow, Stays};
-ghost use Rattle.wy_stated_facts.specs.Seen.{IsSpot};
+ghost use Rattle.wy_searching.specs.StatedSeen.{IsSpot};
 ghost use Rattle.wy_judging.specs.Seen.{IsBranch};
 
 use crate::facts::push_facts;
 use crate::products::push_products;
-use wy_bounds::products_of;
 use wy_explaining::{Action, Named};
 use wy_judging::{Branch, add_all, has_literal, nth_literal};
+use wy_searching::{Spot, facts_of, index_terms, products_of, with_instances, with_witnesses};
 use wy_splits::{of_each, of_one};
-use wy_stated_facts::{Spot, facts_of, index_terms, with_instances, with_witnesses};
 use wy_term::{Cond, NoMemory, Terms};
 
 // ---- witnesses

@@ -3,16 +3,16 @@ ghost use Rattle.std.specs.Prelude.{◌<◌, IfOk, IfSome, length};
 ghost use Rattle.wy_certifying.specs.Nodes.{IsNext};
 ghost use Rattle.wy_facts.specs.Membership.{AreTypesBelow};
 ghost use Rattle.wy_facts.specs.Seen.{Stays};
-ghost use Rattle.wy_stated_facts.specs.Seen.{IsSpot};
+ghost use Rattle.wy_searching.specs.StatedSeen.{IsSpot};
 
 use crate::rounds::expanded;
 use crate::stop::Stop;
 use std::alloc::Global;
-use wy_classes::{classes, classes_clash, terms_present};
 use wy_explaining::{Action, why_it_refutes, why_they_clash};
 use wy_judging::is_shut;
-use wy_searching::{copied, with_atom, with_next_atom};
-use wy_stated_facts::Spot;
+use wy_searching::{
+    Spot, classes, classes_clash, copied, terms_present, with_atom, with_next_atom,
+};
 use wy_term::{Cond, NoMemory, Terms};
 
 /// What becomes of a node.

@@ -5,7 +5,7 @@ ghost use Rattle.wy_certifying.specs.Draft.{IsDraft};
 ghost use Rattle.wy_certifying.specs.Nodes.{AreWaiting, IsNext, IsTurned, IsWalk};
 ghost use Rattle.wy_facts.specs.Membership.{AreTypesBelow};
 ghost use Rattle.wy_facts.specs.Seen.{Stays};
-ghost use Rattle.wy_stated_facts.specs.Seen.{IsSpot};
+ghost use Rattle.wy_searching.specs.StatedSeen.{IsSpot};
 ghost use Rattle.wy_term.specs.Nodes.{Plain};
 
 use crate::draft::{Draft, Size, first_draft, size_of};
@@ -16,8 +16,7 @@ use std::collections::VecDeque;
 use wy_cert::Cert;
 use wy_explaining::Action;
 use wy_judging::{add, back_to};
-use wy_searching::first_spot;
-use wy_stated_facts::Spot;
+use wy_searching::{Spot, first_spot};
 use wy_term::{Cond, NoMemory, Terms};
 
 /// The second node of a split that waits: the search's, how much the certificate's node had at the split, and the atom that the

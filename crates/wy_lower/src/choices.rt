@@ -4,23 +4,29 @@ ghost use Rattle.wy_core.specs.CoreSeen.{seen_expr, seen_exprs, seen_stmt};
 ghost use Rattle.wy_lower.specs.StmtsLowered as lowered;
 ghost use Rattle.wy_lower.specs.SeenPairs.{seen_arm};
 
+use crate::operands::{operation, read};
 use std::alloc::{AllocError, Global};
-use wy_build::{any_ty, binary, declare, if_stmt, truth, var};
+use wy_build::{any_ty, declare, if_stmt, truth};
 use wy_core::{Expr, Op, Stmt};
-use wy_items::Items;
+use wy_items::{Boxed, Items};
 
 /// A case: its test and its block.
 #[derive(Drop)]
 pub struct Arm {
-    pub test: Expr,
+    pub test: Boxed<Expr>,
     pub body: Items<Stmt>,
 }
 
 /// `t == c` for each label, joined by `||` from the left. Linear in the labels.
-pub fn is_one_of(alloc: Global, at: u32, variable: u32, labels: &[Expr]) -> Result<Expr, AllocError>
+pub fn is_one_of(
+    alloc: Global,
+    at: u32,
+    variable: u32,
+    labels: &[Expr],
+) -> Result<Boxed<Expr>, AllocError>
     ensures value { IfOk result (λ e. seen_expr e ≡ lowered.is_one_of at variable (seen_exprs labels.now)) }
 {
-    let mut made = truth(at, false);
+    let mut made = Boxed::new(alloc, truth(at, false))?;
     let mut is_first = true;
     for label in labels {
         let next = equals(alloc, at, variable, label)?;
@@ -31,11 +37,12 @@ pub fn is_one_of(alloc: Global, at: u32, variable: u32, labels: &[Expr]) -> Resu
 }
 
 /// `t == c`
-fn equals(alloc: Global, at: u32, variable: u32, label: &Expr) -> Result<Expr, AllocError>
+fn equals(alloc: Global, at: u32, variable: u32, label: &Expr) -> Result<Boxed<Expr>, AllocError>
     ensures value { IfOk result (λ e. seen_expr e ≡ lowered.equals at variable (seen_expr label.now)) }
 {
-    let label = label.copy(alloc)?;
-    binary(alloc, at, Op::Equal, var(at, variable), label)
+    let tested = read(alloc, at, variable)?;
+    let label = Boxed::new(alloc, label.copy(alloc)?)?;
+    operation(alloc, at, Op::Equal, tested, label)
 }
 
 /// The second behind the first, by `||`; the second alone, where it is the first of all.
@@ -43,15 +50,15 @@ fn either(
     alloc: Global,
     at: u32,
     is_first: bool,
-    first: Expr,
-    second: Expr,
-) -> Result<Expr, AllocError>
+    first: Boxed<Expr>,
+    second: Boxed<Expr>,
+) -> Result<Boxed<Expr>, AllocError>
     ensures value { IfOk result (λ e. seen_expr e ≡ lowered.either at is_first (seen_expr first) (seen_expr second)) }
 {
     if is_first {
         Ok(second)
     } else {
-        binary(alloc, at, Op::Or, first, second)
+        operation(alloc, at, Op::Or, first, second)
     }
 }
 
@@ -78,7 +85,7 @@ fn choice(alloc: Global, at: u32, arm: Arm, other: Items<Stmt>) -> Result<Items<
     ensures value { IfOk result (λ made. map seen_stmt made ≡ lowered.choice at (seen_arm arm) (map seen_stmt other)) }
 {
     let Arm { test, body } = arm;
-    one(alloc, if_stmt(at, test, body, other))
+    one(alloc, if_stmt(at, test.into_inner(), body, other))
 }
 
 /// One statement.
@@ -95,13 +102,13 @@ pub fn switched(
     alloc: Global,
     at: u32,
     variable: u32,
-    value: Expr,
+    value: Boxed<Expr>,
     arms: Items<Arm>,
     last: Items<Stmt>,
 ) -> Result<Items<Stmt>, AllocError>
     ensures value { IfOk result (λ made. map seen_stmt made ≡ lowered.switched at variable (seen_expr value) (map seen_arm arms) (map seen_stmt last)) }
 {
-    let start = declare(at, any_ty(at), variable, Some(value));
+    let start = declare(at, any_ty(at), variable, Some(value.into_inner()));
     let mut made = one(alloc, start)?;
     let rest = chain(alloc, at, arms, last)?;
     made.append(rest)?;

@@ -10,14 +10,15 @@ ghost use Rattle.wy_lower.specs.Uses.{seen_templates};
 
 use crate::expressions::in_exprs;
 use crate::numbers::declared;
+use crate::operands::unboxed;
 use crate::statements::in_block;
-use crate::types::in_ty;
+use crate::types::boxed_ty;
 use crate::uses::Template;
 use std::alloc::{AllocError, Global};
 use wy_ast as surface;
 use wy_core::{Alias, Core, Decl, Expr, Output, Param, Routine};
 use wy_data::Name;
-use wy_items::Items;
+use wy_items::{Boxed, Items};
 use wy_scope::Table;
 
 /// The core of the declarations, whose names are bound. The scope holds the names of all of them, and is
@@ -137,7 +138,7 @@ fn in_alias(
     ensures value { IfOk result (λ a. core_alias a ≡ lowered.in_alias (seen_templates templates.now) scope.old (seen_alias alias.now)) }
 {
     let mut variables = Items::new(alloc);
-    let ty = in_ty(alloc, scope, &alias.ty)?;
+    let ty = boxed_ty(alloc, scope, &alias.ty)?;
     let clauses = alias.clauses.as_slice();
     let named = named_clauses(
         alloc,
@@ -153,7 +154,7 @@ fn in_alias(
         at: alias.at,
         name,
         variables,
-        ty,
+        ty: ty.into_inner(),
         variable,
         clauses,
     })
@@ -173,9 +174,12 @@ fn in_params(
 {
     let mut made = Items::new(alloc);
     for param in params {
-        let ty = in_ty(alloc, scope, &param.ty)?;
+        let ty = boxed_ty(alloc, scope, &param.ty)?;
         let variable = declared(alloc, scope, variables, &param.name)?;
-        made.push(Param { ty, variable })?;
+        made.push(Param {
+            ty: ty.into_inner(),
+            variable,
+        })?;
     }
     Ok(made)
 }
@@ -183,7 +187,7 @@ fn in_params(
 /// A result that may be absent, and the clauses that may speak of it.
 #[derive(Drop)]
 struct Outcome {
-    output: Option<Output>,
+    output: Option<Boxed<Output>>,
     clauses: Items<Expr>,
 }
 
@@ -202,11 +206,13 @@ fn in_output(
     ensures output { IfOk result (λ o. seen_output o.output ≡ Some (lowered.in_output scope.old variables.old (surface_seen.seen_ty ty.now) name.now)) }
     ensures value { IfOk result (λ o. seen_exprs o.clauses ≡ (lowered.named_clauses (seen_templates templates.now) scope.old variables.old name.now (surface_seen.seen_exprs clauses.now)).1) }
 {
-    let ty = in_ty(alloc, scope, ty)?;
+    let ty = boxed_ty(alloc, scope, ty)?;
     let named = named_clauses(alloc, scope, templates, variables, name, clauses)?;
     let NamedClauses { variable, clauses } = named;
+    let ty = ty.into_inner();
+    let output = Boxed::new(alloc, Output { ty, variable })?;
     Ok(Outcome {
-        output: Some(Output { ty, variable }),
+        output: Some(output),
         clauses,
     })
 }
@@ -266,7 +272,7 @@ fn in_function(
         is_method: false,
         variables,
         params,
-        result: output,
+        result: unboxed(output),
         preconditions,
         postconditions: clauses,
         body,
@@ -302,7 +308,7 @@ fn in_method(
         is_method: true,
         variables,
         params,
-        result: output,
+        result: unboxed(output),
         preconditions,
         postconditions: clauses,
         body,

@@ -17,7 +17,7 @@ use std::alloc::{AllocError, Global};
 use std::collections::BTreeMap;
 use wy_ast as surface;
 use wy_build::{
-    binary_of, denied, field, index, int, is, len, list, neg, null, record, repeat, truth, var,
+    binary, denied, field, index, int, is, len, list, neg, null, record, repeat, truth, var,
 };
 use wy_core::{Expr, Op};
 use wy_data::Name;
@@ -151,6 +151,22 @@ fn boxed(
     Boxed::new(alloc, part)
 }
 
+/// The core of an expression, in a box.
+pub fn boxed_expr(
+    alloc: Global,
+    scope: &mut Table,
+    templates: &[Template],
+    variables: &mut Items<Name>,
+    expr: &surface::Expr,
+) -> Result<Boxed<Expr>, AllocError>
+    ensures scope { OnOk result (scope.new ≡ scope.old) }
+    ensures variables { OnOk result (variables.new ≡ (lowered.in_expr (seen_templates templates.now) scope.old variables.old (surface_seen.seen_expr expr.now)).0) }
+    ensures value { IfOk result (λ e. seen_expr e ≡ (lowered.in_expr (seen_templates templates.now) scope.old variables.old (surface_seen.seen_expr expr.now)).1) }
+{
+    let expr = in_expr(alloc, scope, templates, variables, expr)?;
+    Boxed::new(alloc, expr)
+}
+
 /// The core of these expressions.
 #[cycle(expr)]
 #[tactic(auto, using(crate::proofs::ListLemmas::exprs_more))]
@@ -189,8 +205,10 @@ fn in_fields(
 {
     let mut map = BTreeMap::new(alloc);
     for field in fields {
+        let name = field.0.copy(alloc)?;
         let value = in_expr(alloc, scope, templates, variables, &field.1)?;
-        map.insert(field.0.copy(alloc)?, value)?;
+        let held = Boxed::new(alloc, value)?;
+        map.insert(name, held)?;
     }
     listed(alloc, map)
 }
@@ -212,7 +230,9 @@ fn in_ranges(
     let mut heads = Items::new(alloc);
     for range in ranges {
         let from = in_expr(alloc, scope, templates, variables, &range.1)?;
+        let from = Boxed::new(alloc, from)?;
         let to = in_expr(alloc, scope, templates, variables, &range.2)?;
+        let to = Boxed::new(alloc, to)?;
         let variable = declared(alloc, scope, variables, &range.0)?;
         heads.push(Head { variable, from, to })?;
     }
@@ -247,12 +267,15 @@ fn in_args(
 }
 
 /// The entries of the map, in its order.
-fn listed(alloc: Global, map: BTreeMap<Name, Expr>) -> Result<Items<(Name, Expr)>, AllocError>
+fn listed(
+    alloc: Global,
+    map: BTreeMap<Name, Boxed<Expr>>,
+) -> Result<Items<(Name, Expr)>, AllocError>
     ensures value { IfOk result (λ items. items ≡ map.entries) }
 {
     let mut items = Items::new(alloc);
-    for entry in map {
-        items.push(entry)?;
+    for (name, value) in map {
+        items.push((name, value.into_inner()))?;
     }
     Ok(items)
 }
@@ -302,25 +325,25 @@ fn operator(
     ensures value { IfOk result (λ e. seen_expr e ≡ lowered.operator at op (seen_expr a) (seen_expr b)) }
 {
     match op {
-        surface::Op::Add => Ok(binary_of(at, Op::Add, a, b)),
-        surface::Op::Sub => Ok(binary_of(at, Op::Sub, a, b)),
-        surface::Op::Mul => Ok(binary_of(at, Op::Mul, a, b)),
-        surface::Op::Div => Ok(binary_of(at, Op::Div, a, b)),
-        surface::Op::Mod => Ok(binary_of(at, Op::Mod, a, b)),
-        surface::Op::Equal => Ok(binary_of(at, Op::Equal, a, b)),
+        surface::Op::Add => Ok(binary(at, Op::Add, a, b)),
+        surface::Op::Sub => Ok(binary(at, Op::Sub, a, b)),
+        surface::Op::Mul => Ok(binary(at, Op::Mul, a, b)),
+        surface::Op::Div => Ok(binary(at, Op::Div, a, b)),
+        surface::Op::Mod => Ok(binary(at, Op::Mod, a, b)),
+        surface::Op::Equal => Ok(binary(at, Op::Equal, a, b)),
         surface::Op::NotEqual => {
-            let equal = Boxed::new(alloc, binary_of(at, Op::Equal, a, b))?;
+            let equal = Boxed::new(alloc, binary(at, Op::Equal, a, b))?;
             Ok(denied(at, equal))
         }
-        surface::Op::Less => Ok(binary_of(at, Op::Less, a, b)),
-        surface::Op::LessEqual => Ok(binary_of(at, Op::LessEqual, a, b)),
-        surface::Op::Greater => Ok(binary_of(at, Op::Greater, a, b)),
-        surface::Op::GreaterEqual => Ok(binary_of(at, Op::GreaterEqual, a, b)),
-        surface::Op::And => Ok(binary_of(at, Op::And, a, b)),
-        surface::Op::Or => Ok(binary_of(at, Op::Or, a, b)),
+        surface::Op::Less => Ok(binary(at, Op::Less, a, b)),
+        surface::Op::LessEqual => Ok(binary(at, Op::LessEqual, a, b)),
+        surface::Op::Greater => Ok(binary(at, Op::Greater, a, b)),
+        surface::Op::GreaterEqual => Ok(binary(at, Op::GreaterEqual, a, b)),
+        surface::Op::And => Ok(binary(at, Op::And, a, b)),
+        surface::Op::Or => Ok(binary(at, Op::Or, a, b)),
         surface::Op::Implies => {
             let a = Boxed::new(alloc, denied(at, a))?;
-            Ok(binary_of(at, Op::Or, a, b))
+            Ok(binary(at, Op::Or, a, b))
         }
     }
 }

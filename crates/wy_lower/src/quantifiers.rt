@@ -13,8 +13,8 @@ use wy_items::{Boxed, Items};
 #[derive(Drop)]
 pub struct Head {
     pub variable: u32,
-    pub from: Expr,
-    pub to: Expr,
+    pub from: Boxed<Expr>,
+    pub to: Boxed<Expr>,
 }
 
 /// A quantifier of the first range over one of the others, and the body last.
@@ -41,8 +41,6 @@ fn around(alloc: Global, at: u32, all: bool, head: Head, body: Expr) -> Result<E
     ensures value { IfOk result (λ e. seen_expr e ≡ lowered.quant_of at all (seen_head head) (seen_expr body)) }
 {
     let Head { variable, from, to } = head;
-    let from = Boxed::new(alloc, from)?;
-    let to = Boxed::new(alloc, to)?;
     let body = Boxed::new(alloc, body)?;
     Ok(quant(at, all, variable, from, to, body))
 }

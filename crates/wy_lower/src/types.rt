@@ -16,7 +16,7 @@ use wy_build::{
 };
 use wy_core::Ty;
 use wy_data::Name;
-use wy_items::Items;
+use wy_items::{Boxed, Items};
 use wy_scope::Table;
 
 /// The type with numbers for its names and its fields rising. Linear in its size, beside the order of
@@ -37,26 +37,38 @@ pub fn in_ty(alloc: Global, scope: &Table, ty: &surface::Ty) -> Result<Ty, Alloc
             let fields = in_fields(alloc, scope, fields.as_slice())?;
             Ok(record_ty(at, fields))
         }
-        surface::TyKind::Array(item) => {
-            let item = in_ty(alloc, scope, item.get())?;
-            array_ty(alloc, at, item)
-        }
+        surface::TyKind::Array(item) => Ok(array_ty(at, boxed(alloc, scope, item)?)),
         surface::TyKind::Union(left, right) => {
-            let left = in_ty(alloc, scope, left.get())?;
-            let right = in_ty(alloc, scope, right.get())?;
-            union_ty(alloc, at, left, right)
+            let left = boxed(alloc, scope, left)?;
+            let right = boxed(alloc, scope, right)?;
+            Ok(union_ty(at, left, right))
         }
         surface::TyKind::Inter(left, right) => {
-            let left = in_ty(alloc, scope, left.get())?;
-            let right = in_ty(alloc, scope, right.get())?;
-            inter_ty(alloc, at, left, right)
+            let left = boxed(alloc, scope, left)?;
+            let right = boxed(alloc, scope, right)?;
+            Ok(inter_ty(at, left, right))
         }
-        surface::TyKind::Not(inner) => {
-            let inner = in_ty(alloc, scope, inner.get())?;
-            not_ty(alloc, at, inner)
-        }
+        surface::TyKind::Not(inner) => Ok(not_ty(at, boxed(alloc, scope, inner)?)),
         surface::TyKind::Named(name) => Ok(named_ty(at, type_of(scope.get(name)))),
     }
+}
+
+/// The core of a part.
+#[cycle(ty)]
+fn boxed(alloc: Global, scope: &Table, part: &Boxed<surface::Ty>) -> Result<Boxed<Ty>, AllocError>
+    ensures value { IfOk result (λ t. seen_ty t ≡ lowered.in_ty scope.now (surface_seen.seen_ty part.now)) }
+{
+    let part = in_ty(alloc, scope, part.get())?;
+    Boxed::new(alloc, part)
+}
+
+/// The core of a type, in a box.
+pub fn boxed_ty(alloc: Global, scope: &Table, ty: &surface::Ty) -> Result<Boxed<Ty>, AllocError>
+    ensures value { IfOk result (λ t. seen_ty t ≡ lowered.in_ty scope.now (surface_seen.seen_ty ty.now)) }
+    ensures place { IfOk result (λ t. place_of_ty t ≡ places.place_of_ty (surface_seen.seen_ty ty.now)) }
+{
+    let ty = in_ty(alloc, scope, ty)?;
+    Boxed::new(alloc, ty)
 }
 
 /// The fields by rising names.
@@ -73,18 +85,19 @@ fn in_fields(
     for field in fields {
         let name = field.0.copy(alloc)?;
         let ty = in_ty(alloc, scope, &field.1)?;
-        map.insert(name, ty)?;
+        let held = Boxed::new(alloc, ty)?;
+        map.insert(name, held)?;
     }
     listed(alloc, map)
 }
 
 /// The entries of the map, in its order.
-fn listed(alloc: Global, map: BTreeMap<Name, Ty>) -> Result<Items<(Name, Ty)>, AllocError>
+fn listed(alloc: Global, map: BTreeMap<Name, Boxed<Ty>>) -> Result<Items<(Name, Ty)>, AllocError>
     ensures value { IfOk result (λ items. items ≡ map.entries) }
 {
     let mut items = Items::new(alloc);
-    for entry in map {
-        items.push(entry)?;
+    for (name, ty) in map {
+        items.push((name, ty.into_inner()))?;
     }
     Ok(items)
 }

@@ -3,3 +3,6 @@ pub mod Seen
 pub mod Turns
 -- what functions inside owe each other
 pub mod Walks
+-- what crates above need too of those below
+pub use Rattle.wy_stated_facts.specs.Seen as StatedSeen
+pub use Rattle.wy_stated_facts.specs.declared.spot.Spot

@@ -3,6 +3,8 @@
 //! `expanding` makes one round of expansion. `turning` judges a node anew and says what becomes of it: it is closed, it is an
 //! open leaf, it splits, or it goes on expanded. `walk` goes through the tree, up to a budget of leaves. Which verdict that
 //! is, `wy_search` defines.
+//!
+//! Of the crates of one step of the search it passes on what certificates of such a search are made with too.
 #![tactic(auto)]
 
 mod expanding;
@@ -14,3 +16,9 @@ pub use expanding::expanded;
 pub use turning::{Next, copied, what_follows, with_atom, with_next_atom};
 pub use verdict::{OpenLeaf, Verdict, Why};
 pub use walk::{first_spot, search};
+pub use wy_bounds::{Bound, Bounds, bounds_of, products_of};
+pub use wy_classes::{classes, classes_clash, standing, terms_present};
+pub use wy_stated_facts::{
+    Spot, facts_of, index_terms, is_element, measured, read_count, with_instances, with_witnesses,
+    written_count,
+};

@@ -2,3 +2,7 @@
 pub mod Texts
 -- what a layout is read as
 pub mod Again
+-- what crates above need too of sources
+pub use Rattle.wy_source.specs.Refusals
+pub use Rattle.wy_source.specs.Sources
+pub use Rattle.wy_source.specs.declared.refusal.Refusal

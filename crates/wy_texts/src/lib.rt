@@ -2,6 +2,8 @@
 //!
 //! `writing` has the call [`text_of`]: it reads the source as far as the text needs, and prints what was read. `kind` has
 //! which texts there are.
+//!
+//! The reading of a source is passed on, so that who needs both names this crate alone.
 #![tactic(auto)]
 
 mod kind;
@@ -9,3 +11,4 @@ mod writing;
 
 pub use kind::Kind;
 pub use writing::text_of;
+pub use wy_source::{Refusal, is_no_memory, offset, read_program, word};

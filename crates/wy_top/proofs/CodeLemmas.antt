@@ -11,7 +11,7 @@ use Rattle.wy_core.specs.Types.{Ty}
 use Rattle.wy_source_ints.proofs.FieldNameLemmas.{named_fields}
 use Rattle.wy_formed.specs.Literals.{Ints}
 use Rattle.wy_named.proofs.LiteralLemmas.{named_ints_alone}
-use Rattle.wy_source.specs.Sources.{IsProgram}
+use Rattle.wy_texts.specs.Sources.{IsProgram}
 use Rattle.wy_source_ints.proofs.ProgramFields.{read-fields}
 use Rattle.wy_source_ints.proofs.ProgramInts.{read-ints}
 

@@ -10,10 +10,10 @@ use Rattle.wy_checking.specs.declared.verdict.Verdict.TheVariants as given
 use Rattle.wy_cert.specs.Steps.{Certificates, NamesItsTerms, steps_of}
 use Rattle.wy_cert.specs.declared.step.Cert.{Cert}
 use Rattle.wy_search.specs.Tree as tree
-use Rattle.wy_searching.specs.Seen as searching
-use Rattle.wy_searching.specs.declared.verdict.OpenLeaf.{OpenLeaf}
-use Rattle.wy_searching.specs.declared.verdict.Verdict.{Verdict as Search}
-use Rattle.wy_searching.specs.declared.verdict.Verdict.TheVariants as search
+use Rattle.wy_certifying.specs.Seen as searching
+use Rattle.wy_certifying.specs.OpenLeaf.{OpenLeaf}
+use Rattle.wy_certifying.specs.Searched.{Verdict as Search}
+use Rattle.wy_certifying.specs.Searched.TheVariants as search
 use Rattle.wy_sound_certificates.specs.Sortedness.{AreSortedSteps}
 use Rattle.wy_term.specs.Condition.{Condition, condition_of}
 use Rattle.wy_term.specs.Nodes.{Plain, tree_at}

@@ -4,9 +4,9 @@ use Rattle.wy_assign.specs.Assigned.{IsAssigned}
 use Rattle.wy_conditions.specs.Limits.{Passing, Within}
 use Rattle.wy_core.specs.CoreTree.{Core}
 use Rattle.wy_core.specs.Types.{Ty}
-use Rattle.wy_source.specs.Refusals as refusals
-use Rattle.wy_source.specs.Sources as sources
-use Rattle.wy_source.specs.declared.refusal.Refusal.{Refusal}
+use Rattle.wy_texts.specs.Refusals as refusals
+use Rattle.wy_texts.specs.Sources as sources
+use Rattle.wy_texts.specs.Refusal.{Refusal}
 use Rattle.wy_vc.specs.Listed as vc
 use Rattle.wy_vc.specs.declared.fault.VcFault.{VcFault}
 use Rattle.wy_vc.specs.declared.fault.VcFault.TheVariants.{TooManyConds, TooManyTerms, NoMemory}

@@ -4,8 +4,8 @@ use Rattle.wy_answers.specs.Calls.{AnswersFault}
 use Rattle.wy_answers.specs.Steps.{Setting, Gives}
 use Rattle.wy_answers.specs.declared.answer.Answer.{Answer}
 use Rattle.wy_answers.proofs.CallLemmas.{called_value, called_fault}
-use Rattle.wy_source.specs.Refusals.{is_no_memory}
-use Rattle.wy_source.specs.declared.refusal.Refusal.{Refusal}
+use Rattle.wy_texts.specs.Refusals.{is_no_memory}
+use Rattle.wy_texts.specs.Refusal.{Refusal}
 use Rattle.wy_texts.specs.Again.{IsAgain}
 use Rattle.wy_texts.specs.Texts.{IsDue, IsRefused, IsText}
 use Rattle.wy_texts.specs.declared.kind.Kind.{Kind}

@@ -8,7 +8,7 @@ use Rattle.wy_core.specs.CoreTree.{Core}
 use Rattle.wy_core.specs.Types.{Ty}
 use Rattle.wy_front.specs.Places.{place_of}
 use Rattle.wy_report.specs.Listing.{listed}
-use Rattle.wy_source.specs.Sources as sources
+use Rattle.wy_texts.specs.Sources as sources
 use Rattle.wy_term.specs.Condition.{word_of}
 use Rattle.wy_vc.specs.declared.fault.VcFault.{VcFault}
 use Rattle.wy_vc.specs.declared.fault.VcFault.TheVariants.{TooManyConds, TooManyTerms, NoMemory}

@@ -7,7 +7,7 @@ use Rattle.wy_cert.specs.declared.step.Cert.{Cert}
 use Rattle.wy_judging.specs.Seen.{seen_literal, AreOver}
 use Rattle.wy_sound_certificates.specs.Sortedness.{AreSortedSteps}
 use Rattle.wy_valid.specs.Validity.{IsValid}
-use Rattle.wy_searching.specs.Seen.{seen_why}
+use Rattle.wy_certifying.specs.Seen.{seen_why}
 use Rattle.wy_top.specs.Known as plain
 use Rattle.wy_top.specs.Known.{Known}
 use Rattle.wy_top.specs.declared.verdict.End.{End}

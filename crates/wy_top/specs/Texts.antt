@@ -8,8 +8,8 @@ use Rattle.wy_answers.specs.Steps.{Came, Sense, stated, due, Setting, and_then, 
 use Rattle.wy_answers.specs.declared.answer.Answer.{Answer}
 use Rattle.wy_front.specs.Places.{place_of}
 use Rattle.wy_report.specs.Lines.{source_fault}
-use Rattle.wy_source.specs.Refusals.{is_no_memory, offset, word}
-use Rattle.wy_source.specs.declared.refusal.Refusal.{Refusal}
+use Rattle.wy_texts.specs.Refusals.{is_no_memory, offset, word}
+use Rattle.wy_texts.specs.Refusal.{Refusal}
 use Rattle.wy_texts.specs.Again.{IsAgain}
 use Rattle.wy_texts.specs.Texts.{IsDue, IsRefused, IsText}
 use Rattle.wy_texts.specs.declared.kind.Kind.{Kind}

@@ -4,7 +4,7 @@ ghost use Rattle.wy_code_ints.specs.Loadable.{IsLoadable};
 ghost use Rattle.wy_compiled.specs.Programs.{code_of};
 ghost use Rattle.wy_core.specs.CoreTree.{Core};
 ghost use Rattle.wy_core.specs.Types.{Ty};
-ghost use Rattle.wy_source.specs.Sources.{IsProgram};
+ghost use Rattle.wy_texts.specs.Sources.{IsProgram};
 
 /// The code of the program that a source has is such as a machine takes.
 pub fn the_code_of_a_source_is_loadable()

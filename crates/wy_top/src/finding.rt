@@ -13,9 +13,8 @@ ghost use Rattle.wy_top.specs.Seen.{known, AreShown, NameTerms};
 use crate::verdict::{End, Verdict};
 use std::alloc::Global;
 use wy_cert::Certs;
-use wy_certifying::certified;
+use wy_certifying::{Verdict as Searched, certified, search};
 use wy_checking::{Verdict as Given, verdicts};
-use wy_searching::{Verdict as Searched, search};
 use wy_term::{Cond, NoMemory, Terms};
 
 /// What is known of each condition, in order, where these certificates are supplied, each for the condition with its number, from 1:

@@ -10,15 +10,15 @@ ghost use Rattle.wy_top.specs.Faults.{is_no_memory};
 ghost use Rattle.wy_top.specs.Owed.{IsDue, IsRefused, Owes, told_by};
 ghost use Rattle.wy_top.specs.declared.fault.OwedFault.{OwedFault};
 ghost use Rattle.wy_shown_conditions.specs.Certified.{AreFormed};
-ghost use Rattle.wy_source.specs.Sources.{IsFormed};
+ghost use Rattle.wy_texts.specs.Sources.{IsFormed};
 ghost use Rattle.wy_term.specs.Condition.{condition_of};
 ghost use Rattle.wy_typing.specs.TypedPrograms.{core_of, flow_of};
 ghost use Rattle.wy_vc.specs.Listed.{seen_conds};
 
 use crate::fault::OwedFault;
 use std::alloc::Global;
-use wy_source::read_program;
 use wy_term::Conds;
+use wy_texts::read_program;
 use wy_typing::Typed;
 use wy_vc::conditions;
 

@@ -3,7 +3,7 @@ ghost use Rattle.std.specs.Prelude.{◌≡◌, ◌≤◌, ◌<◌, ◌^◌, ℕ,
 ghost use Rattle.std.specs.String.{string_bytes};
 ghost use Rattle.wy_answers.specs.Calls.{AnswersFault};
 ghost use Rattle.wy_answers.specs.Steps.{Answers, During, Gives, Setting};
-ghost use Rattle.wy_source.specs.Refusals as refusals;
+ghost use Rattle.wy_texts.specs.Refusals as refusals;
 ghost use Rattle.wy_top.specs.Texts as spec;
 
 use crate::owing::listed;
@@ -13,8 +13,7 @@ use wy_data::Bytes;
 use wy_front::locate;
 use wy_port::Files;
 use wy_report::source_fault;
-use wy_source::{Refusal, is_no_memory, offset, word};
-use wy_texts::{Kind, text_of};
+use wy_texts::{Kind, Refusal, is_no_memory, offset, text_of, word};
 
 /// A text of a source.
 #[derive(Clone, Copy, Debug)]

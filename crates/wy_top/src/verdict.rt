@@ -4,7 +4,7 @@ ghost use Rattle.wy_top.specs.Known as known;
 ghost use Rattle.wy_top.specs.Seen as seen;
 
 use wy_cert::Cert;
-use wy_searching::OpenLeaf;
+use wy_certifying::OpenLeaf;
 
 /// How it ends with a condition.
 #[derive(Drop)]

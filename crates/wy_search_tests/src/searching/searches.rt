@@ -3,7 +3,7 @@ ghost use Rattle.std.specs.Prelude.{◌≡◌, ◌<◌, ◌≤◌, [], All, leng
 ghost use Rattle.wy_facts.specs.Seen.{AreBelow};
 
 use std::alloc::Global;
-use wy_searching::{OpenLeaf, Verdict, Why, search};
+use wy_certifying::{OpenLeaf, Verdict, Why, search};
 use wy_show::show_formula;
 use wy_spell::read_formula;
 use wy_term::{Cond, CondKind, NoMemory, Terms, Unfold};

@@ -1,7 +1,6 @@
 //! How a listing is compared with the one that was worked out by hand.
 use std::alloc::Global;
-use wy_source::{offset, word};
-use wy_texts::{Kind, text_of};
+use wy_texts::{Kind, offset, text_of, word};
 
 // A source that is read is no longer than this.
 const LONGEST: usize = 1_048_576;

@@ -18,8 +18,8 @@ instance-returns-in_ok-instance_fields-in-Record t c = record {
 
 pub instance_fields-loop-field-preserved : goal.instance_fields-loop-field-preserved
 instance_fields-loop-field-preserved t c =
-    fields_turn c.args.at (seen_exprs c.args.args.now) c.args.base c.loop-field.made c.push.new.self c.args.fields.now c.loop-field.field-index c.field-item.result c.in_ok-copy.field-0 c.in_ok-value.value
-    _ c.loop-field-test.true c.field-item.is c.in_ok-copy.ensures.value c.in_ok-value.ensures.value c.in_ok-push.ensures.ok c.loop-field.invariant
+    fields_turn c.args.at (seen_exprs c.args.args.now) c.args.base c.loop-field.made c.push.new.self c.args.fields.now c.loop-field.field-index c.field-item.result c.in_ok-name.name c.in_ok-value.value
+    _ c.loop-field-test.true c.field-item.is c.in_ok-name.ensures.value c.in_ok-value.ensures.value c.in_ok-push.ensures.ok c.loop-field.invariant
 
 pub instance_fields-returns : goal.instance_fields-returns
 instance_fields-returns t c = record {

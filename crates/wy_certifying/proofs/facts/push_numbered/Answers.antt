@@ -1,4 +1,4 @@
-use Rattle.wy_stated_facts.proofs.AddingLemmas.{types_up}
+use Rattle.wy_searching.proofs.AddingLemmas.{types_up}
 use Rattle.wy_certifying.proofs.facts.push_numbered.Goals as goal
 
 pub push_fact-requires-clause-types : goal.push_fact-requires-clause-types

@@ -1,6 +1,6 @@
 use Rattle.std.proofs.Common.{arith}
 use Rattle.wy_facts.proofs.StepLemmas.{stays_on}
-use Rattle.wy_stated_facts.proofs.AddingLemmas.{types_up}
+use Rattle.wy_searching.proofs.AddingLemmas.{types_up}
 use Rattle.wy_certifying.proofs.facts.push_pairs.Goals as goal
 
 pub push_pair-requires-clause-types : goal.push_pair-requires-clause-types

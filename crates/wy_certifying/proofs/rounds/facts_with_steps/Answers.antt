@@ -1,5 +1,5 @@
 use Rattle.wy_facts.proofs.StepLemmas.{below_kept}
-use Rattle.wy_stated_facts.proofs.AddingLemmas.{types_up}
+use Rattle.wy_searching.proofs.AddingLemmas.{types_up}
 use Rattle.wy_judging.proofs.SumsBranchLemmas.{branch_stays}
 use Rattle.wy_certifying.proofs.rounds.facts_with_steps.Goals as goal
 

@@ -1,5 +1,5 @@
 use Rattle.wy_facts.proofs.StepLemmas.{stays_on}
-use Rattle.wy_stated_facts.proofs.AddingLemmas.{types_up}
+use Rattle.wy_searching.proofs.AddingLemmas.{types_up}
 use Rattle.wy_certifying.proofs.DraftLemmas.{draft_stays, waiting_stay}
 use Rattle.wy_certifying.proofs.walking.turn.Goals as goal
 

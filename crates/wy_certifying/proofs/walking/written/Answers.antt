@@ -1,6 +1,6 @@
 use Rattle.std.proofs.Common.{subst}
 use Rattle.wy_facts.proofs.StepLemmas.{stays_same, stays_on}
-use Rattle.wy_stated_facts.proofs.AddingLemmas.{types_up}
+use Rattle.wy_searching.proofs.AddingLemmas.{types_up}
 use Rattle.wy_certifying.specs.Nodes.{IsTurned}
 use Rattle.wy_certifying.proofs.walking.written.Goals as goal
 

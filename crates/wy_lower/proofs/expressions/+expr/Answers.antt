@@ -1,4 +1,4 @@
-use Rattle.std.proofs.Common.{◌≡◌, ◌∙◌, ℕ, List, Result, Ok, Err, IfOk, OnOk, map, refl, subst}
+use Rattle.std.proofs.Common.{◌≡◌, ◌∙◌, ℕ, List, Result, Ok, Err, IfOk, OnOk, ap, map, refl, subst}
 use Rattle.wy_core.specs.CoreSeen.{seen_expr}
 use Rattle.wy_core.specs.CoreTree as core
 use Rattle.wy_lower.specs.Uses.{With, seen_templates}
@@ -12,11 +12,11 @@ pub in_fields-loop-field-preserved : goal.in_fields-loop-field-preserved
 in_fields-loop-field-preserved t c = record {
   scope = c.in_ok-value.ensures.scope ∙ c.loop-field.invariant.scope;
   variables = fields_turn (λ (x : With (List (List ℕ × core.Expr ℕ))). x.0) (seen_templates c.args.templates.now) c.args.scope.now c.loop-field.scope c.args.fields.now c.loop-field.field-index c.field-item.result c.loop-field.variables c.in_expr.new.variables
-      c.loop-field.map.entries c.insert.new.self.entries c.in_ok-copy.field-0 c.in_ok-value.value _ c.loop-field-test.true c.field-item.is c.loop-field.invariant.scope c.in_ok-value.ensures.variables c.in_ok-copy.ensures.value
-      c.in_ok-value.ensures.value c.in_ok-insert.ensures.entries c.loop-field.invariant.variables;
+      c.loop-field.map.entries c.insert.new.self.entries c.in_ok-name.name c.in_ok-held.held _ c.loop-field-test.true c.field-item.is c.loop-field.invariant.scope c.in_ok-value.ensures.variables c.in_ok-name.ensures.value
+      (ap seen_expr c.in_ok-held.ensures ∙ c.in_ok-value.ensures.value) c.in_ok-insert.ensures.entries c.loop-field.invariant.variables;
   value = fields_turn (λ (x : With (List (List ℕ × core.Expr ℕ))). x.1) (seen_templates c.args.templates.now) c.args.scope.now c.loop-field.scope c.args.fields.now c.loop-field.field-index c.field-item.result c.loop-field.variables c.in_expr.new.variables
-      c.loop-field.map.entries c.insert.new.self.entries c.in_ok-copy.field-0 c.in_ok-value.value _ c.loop-field-test.true c.field-item.is c.loop-field.invariant.scope c.in_ok-value.ensures.variables c.in_ok-copy.ensures.value
-      c.in_ok-value.ensures.value c.in_ok-insert.ensures.entries c.loop-field.invariant.value;
+      c.loop-field.map.entries c.insert.new.self.entries c.in_ok-name.name c.in_ok-held.held _ c.loop-field-test.true c.field-item.is c.loop-field.invariant.scope c.in_ok-value.ensures.variables c.in_ok-name.ensures.value
+      (ap seen_expr c.in_ok-held.ensures ∙ c.in_ok-value.ensures.value) c.in_ok-insert.ensures.entries c.loop-field.invariant.value;
 }
 
 on_ok : {T E P : Type 0} (r : Result T E) → P → OnOk r P

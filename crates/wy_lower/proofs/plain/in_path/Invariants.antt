@@ -3,7 +3,7 @@ use Rattle.wy_ast.specs.SurfaceSeen as surface
 use Rattle.wy_core.specs.CoreSeen.{seen_step}
 use Rattle.wy_lower.specs.StmtsLowered.{in_path}
 use Rattle.wy_lower.specs.Uses.{seen_templates}
-use Rattle.wy_lower.proofs.statements.in_path.Given as goal
+use Rattle.wy_lower.proofs.plain.in_path.Given as goal
 
 abbrev pub invariant-loop-step : goal.invariant-loop-step
 invariant-loop-step l = record {

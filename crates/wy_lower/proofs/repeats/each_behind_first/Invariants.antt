@@ -3,7 +3,7 @@ use Rattle.wy_ast.specs.SurfaceSeen.{seen_exprs}
 use Rattle.wy_core.specs.CoreSeen.{seen_expr}
 use Rattle.wy_lower.specs.StmtsLowered.{in_clauses, each_behind_first}
 use Rattle.wy_lower.specs.Uses.{seen_templates}
-use Rattle.wy_lower.proofs.statements.each_behind_first.Given as goal
+use Rattle.wy_lower.proofs.repeats.each_behind_first.Given as goal
 
 abbrev pub invariant-loop-expr : goal.invariant-loop-expr
 invariant-loop-expr l = record {
