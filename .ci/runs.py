@@ -1,0 +1,63 @@
+"""Runs the stored runs of `runs/` against a built program: `runs.py PROGRAM [NAME ..]`.
+
+Each file `runs/NAME.json` is a list of rows. A row has `name`, `words` (the words of the command line), `status`, `out` and `err`
+(what stands on both streams, whole), and, where it needs them, `files` (texts by their names), `bytes` (files as hexadecimal digits)
+and `saved` (files that the run must leave, with their texts). Each row runs in a folder of its own. The last line tells how many agreed.
+"""
+import concurrent.futures
+import glob
+import json
+import os
+import subprocess
+import sys
+import tempfile
+
+HERE = os.path.dirname(os.path.dirname(os.path.abspath(__file__)))
+SECONDS = 60
+
+
+def differs(program, row):
+    """Says how the run differs from its row, or nothing."""
+    with tempfile.TemporaryDirectory(prefix="wy-run-") as room:
+        for name, text in row.get("files", {}).items():
+            with open(f"{room}/{name}", "wb") as file:
+                file.write(text.encode())
+        for name, digits in row.get("bytes", {}).items():
+            with open(f"{room}/{name}", "wb") as file:
+                file.write(bytes.fromhex(digits))
+        try:
+            ran = subprocess.run([program, *row["words"]], cwd=room, capture_output=True, stdin=subprocess.DEVNULL, timeout=SECONDS, check=False)
+        except subprocess.TimeoutExpired:
+            return f"took longer than {SECONDS} seconds"
+        if ran.returncode != row["status"]:
+            return f"status {ran.returncode}, and not {row['status']}: {ran.stderr[:200]!r}"
+        for stream, got in (("out", ran.stdout), ("err", ran.stderr)):
+            if got != row[stream].encode():
+                return f"{stream} is {got[:300]!r}, and not {row[stream][:300]!r}"
+        for name, text in row.get("saved", {}).items():
+            with open(f"{room}/{name}", "rb") as file:
+                if file.read() != text.encode():
+                    return f"{name} has another text"
+    return ""
+
+
+def main():
+    program, names = os.path.abspath(sys.argv[1]), sys.argv[2:]
+    passed, failed = 0, 0
+    for path in sorted(glob.glob(f"{HERE}/runs/*.json")):
+        name = os.path.basename(path)[: -len(".json")]
+        if names and name not in names:
+            continue
+        with open(path, encoding="utf-8") as file:
+            rows = json.load(file)
+        with concurrent.futures.ThreadPoolExecutor(os.cpu_count()) as pool:
+            for row, why in zip(rows, pool.map(lambda row: differs(program, row), rows)):
+                passed += not why
+                failed += bool(why)
+                if why:
+                    print(f"runs/{name}: {row['name']}: {why}")
+    print(f"{passed} passed, {failed} failed")
+    return 1 if failed else 0
+
+
+sys.exit(main())
