@@ -12,5 +12,3 @@ mod flow;
 mod member;
 #[cfg(test)]
 mod types;
-#[cfg(test)]
-mod value;

@@ -1,13 +1,11 @@
 //! Tests of names and lowering, from source to core. They stand in a crate of their own, since they go
 //! through the readers of sources.
 //!
-//! `answers` resolves a source. `faults` has each fault in several constructs, `many` programs of thousands of
-//! declarations, `cores` the cores of programs with the places of their nodes, which `written` writes, and
-//! `vectors` what an independent program answered.
+//! `answers` resolves a source, `many` has programs of thousands of declarations, and `cores` the cores of
+//! programs with the places of their nodes, which `written` writes. Each fault in several constructs stands
+//! in stored runs of the program.
 
 mod answers;
 mod cores;
-mod faults;
 mod many;
-mod vectors;
 mod written;
