@@ -2,7 +2,9 @@
 
 Each file `runs/NAME.json` is a list of rows. A row has `name`, `words` (the words of the command line), `status`, `out` and `err`
 (what stands on both streams, whole), and, where it needs them, `files` (texts by their names), `bytes` (files as hexadecimal digits)
-and `saved` (files that the run must leave, with their texts). Each row runs in a folder of its own. The last line tells how many agreed.
+`saved` (files that the run must leave, with their texts) and `ticks` (of a listing: how many
+expressions, statements, tests of loops, turns of quantifiers, calls and visits of types stand in its source; each has at most 16
+instructions). Each row runs in a folder of its own. The last line tells how many agreed.
 """
 import concurrent.futures
 import glob
@@ -34,6 +36,9 @@ def differs(program, row):
         for stream, got in (("out", ran.stdout), ("err", ran.stderr)):
             if got != row[stream].encode():
                 return f"{stream} is {got[:300]!r}, and not {row[stream][:300]!r}"
+        instructions = sum(line.startswith(" ") for line in row["out"].split("\n"))
+        if "ticks" in row and instructions > 16 * row["ticks"]:
+            return f"{instructions} instructions for {row['ticks']} ticks"
         for name, text in row.get("saved", {}).items():
             with open(f"{room}/{name}", "rb") as file:
                 if file.read() != text.encode():

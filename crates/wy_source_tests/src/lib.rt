@@ -1,8 +1,5 @@
-//! Tests of sources: listings, layouts, last uses.
-//! Tests stand in few crates of their own, since a crate with tests is proved twice.
+//! Tests of `last_uses`, which no command shows. What sources are made of stands in stored runs of the program.
 #![tactic(auto)]
 
 #[cfg(test)]
 mod last_uses;
-#[cfg(test)]
-mod texts;
