@@ -4,7 +4,7 @@ Each file `runs/NAME.json` is a list of rows. A row has `name`, `words` (the wor
 (what stands on both streams, whole), and, where it needs them, `files` (texts by their names), `bytes` (files as hexadecimal digits)
 `saved` (files that the run must leave, with their texts) and `ticks` (of a listing: how many
 expressions, statements, tests of loops, turns of quantifiers, calls and visits of types stand in its source; each has at most 16
-instructions). Each row runs in a folder of its own. The last line tells how many agreed.
+instructions). A long text is a list of pieces, each with the number of times that it stands there. Each row runs in a folder of its own. The last line tells how many agreed.
 """
 import concurrent.futures
 import glob
@@ -18,12 +18,16 @@ HERE = os.path.dirname(os.path.dirname(os.path.abspath(__file__)))
 SECONDS = 60
 
 
+def text_of(value):
+    return value if isinstance(value, str) else "".join(piece * times for piece, times in value)
+
+
 def differs(program, row):
     """Says how the run differs from its row, or nothing."""
     with tempfile.TemporaryDirectory(prefix="wy-run-") as room:
         for name, text in row.get("files", {}).items():
             with open(f"{room}/{name}", "wb") as file:
-                file.write(text.encode())
+                file.write(text_of(text).encode())
         for name, digits in row.get("bytes", {}).items():
             with open(f"{room}/{name}", "wb") as file:
                 file.write(bytes.fromhex(digits))
@@ -34,14 +38,15 @@ def differs(program, row):
         if ran.returncode != row["status"]:
             return f"status {ran.returncode}, and not {row['status']}: {ran.stderr[:200]!r}"
         for stream, got in (("out", ran.stdout), ("err", ran.stderr)):
-            if got != row[stream].encode():
-                return f"{stream} is {got[:300]!r}, and not {row[stream][:300]!r}"
-        instructions = sum(line.startswith(" ") for line in row["out"].split("\n"))
+            wanted = text_of(row[stream])
+            if got != wanted.encode():
+                return f"{stream} is {got[:300]!r}, and not {wanted[:300]!r}"
+        instructions = sum(line.startswith(" ") for line in text_of(row["out"]).split("\n"))
         if "ticks" in row and instructions > 16 * row["ticks"]:
             return f"{instructions} instructions for {row['ticks']} ticks"
         for name, text in row.get("saved", {}).items():
             with open(f"{room}/{name}", "rb") as file:
-                if file.read() != text.encode():
+                if file.read() != text_of(text).encode():
                     return f"{name} has another text"
     return ""
 
