@@ -1,4 +1,0 @@
-mod expressions;
-mod programs;
-mod trees;
-mod types;
