@@ -1,7 +1,7 @@
 """Runs the stored runs of `runs/` against a built program: `runs.py PROGRAM [NAME ..]`.
 
 Each file `runs/NAME.json` is a list of rows. A row has `name`, `words` (the words of the command line), `status`, `out` and `err`
-(what stands on both streams, whole), and, where it needs them, `files` (texts by their names), `bytes` (files as hexadecimal digits)
+(what stands on both streams, whole, or null where it isn't looked at), and, where it needs them, `files` (texts by their names), `bytes` (files as hexadecimal digits)
 `saved` (files that the run must leave, with their texts) and `ticks` (of a listing: how many
 expressions, statements, tests of loops, turns of quantifiers, calls and visits of types stand in its source; each has at most 16
 instructions). A long text is a list of pieces, each with the number of times that it stands there. Each row runs in a folder of its own. The last line tells how many agreed.
@@ -38,10 +38,12 @@ def differs(program, row):
         if ran.returncode != row["status"]:
             return f"status {ran.returncode}, and not {row['status']}: {ran.stderr[:200]!r}"
         for stream, got in (("out", ran.stdout), ("err", ran.stderr)):
+            if row[stream] is None:
+                continue
             wanted = text_of(row[stream])
             if got != wanted.encode():
                 return f"{stream} is {got[:300]!r}, and not {wanted[:300]!r}"
-        instructions = sum(line.startswith(" ") for line in text_of(row["out"]).split("\n"))
+        instructions = sum(line.startswith(" ") for line in text_of(row["out"] or "").split("\n"))
         if "ticks" in row and instructions > 16 * row["ticks"]:
             return f"{instructions} instructions for {row['ticks']} ticks"
         for name, text in row.get("saved", {}).items():
