@@ -2,6 +2,4 @@
 
 mod certificates;
 mod kinds;
-mod loops;
-mod programs;
 mod small;

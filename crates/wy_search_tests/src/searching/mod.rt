@@ -1,6 +1,4 @@
 //! Tests of wy_searching. They stand in a crate of their own, since a crate with tests is proved twice.
 
-mod loops;
-mod programs;
 mod searches;
 mod small;
