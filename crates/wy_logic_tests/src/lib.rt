@@ -1,16 +1,5 @@
-//! Tests of terms, their texts, and certificates.
-//! Tests stand in few crates of their own, since a crate with tests is proved twice.
+//! Tests of certificates. Terms, their texts and what is put into them are in each stored run that lists or judges conditions.
 #![tactic(auto)]
 
 #[cfg(test)]
-mod cert;
-#[cfg(test)]
 mod checking;
-#[cfg(test)]
-mod show;
-#[cfg(test)]
-mod spell;
-#[cfg(test)]
-mod subst;
-#[cfg(test)]
-mod term;

@@ -1,16 +1,6 @@
-//! Tests of names and lowering, pass by pass and as a whole, and of graphs.
-//! Tests stand in few crates of their own, since a crate with tests is proved twice.
+//! Tests of names and lowering as a whole. Each fault in several constructs stands in stored runs of the program,
+//! which go through each pass.
 #![tactic(auto)]
 
 #[cfg(test)]
-mod bind;
-#[cfg(test)]
-mod cycles;
-#[cfg(test)]
-mod expand;
-#[cfg(test)]
 mod names;
-#[cfg(test)]
-mod uses;
-#[cfg(test)]
-mod vc_reach;
