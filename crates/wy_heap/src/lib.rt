@@ -23,8 +23,6 @@ mod settling;
 mod showing;
 mod slots;
 mod table;
-#[cfg(test)]
-mod tests;
 
 pub use heap::{Heap, NoMemory};
 pub use laws::{nothing_dead, nothing_left};
