@@ -12,8 +12,8 @@ use crate::entry::{Entry, entry_of};
 use crate::fault::{StartFault, refusal_for};
 use crate::parts::Start;
 use std::alloc::Global;
-use wy_gen::generate;
 use wy_items::Items;
+use wy_typed_code::generate;
 use wy_typing::Typed;
 use wy_value::{Value, read_values};
 

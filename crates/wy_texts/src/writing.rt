@@ -9,9 +9,9 @@ ghost use Rattle.wy_texts.specs.declared.kind.Kind.TheVariants.{Layout, Listing}
 use crate::kind::Kind;
 use std::alloc::Global;
 use wy_front::{SourceFault, read};
-use wy_gen::listing;
 use wy_print::print;
 use wy_source::{Refusal, read_program};
+use wy_typed_code::listing;
 
 /// The text of this kind that the source has, or the first refusal: of a layout, tokens and program are read; of a listing,
 /// names, types and assignment besides. A layout is read again as the same program, places aside, and is its own layout.

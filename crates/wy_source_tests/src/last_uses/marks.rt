@@ -1,7 +1,7 @@
 //! How the marks of a source are compared with those that were worked out by hand.
 use std::alloc::Global;
-use wy_gen::last_uses;
 use wy_texts::read_program;
+use wy_typed_code::last_uses;
 
 // A source that is read is no longer than this.
 const LONGEST: usize = 1_048_576;

@@ -4,8 +4,8 @@
 #[derive(Clone, Copy, Debug, PartialEq, Eq)]
 pub struct NoMemory;
 
-impl From<crate::wy_pieces::NoMemory> for NoMemory {
-    fn from(_: crate::wy_pieces::NoMemory) -> NoMemory {
+impl From<wy_gen::NoMemory> for NoMemory {
+    fn from(_: wy_gen::NoMemory) -> NoMemory {
         NoMemory
     }
 }

@@ -23,7 +23,7 @@ pub fn generate(alloc: Global, typed: &Typed) -> Result<Code, NoMemory>
     ensures calls { Bound (core_of typed.now) → IfOk result (λ c. All (CallsBelow (length c.routines)) c.routines) }
     ensures shapes { HasFields (core_of typed.now) → IfOk result (λ c. IsShapes c.shapes) }
 {
-    let code = crate::program::generate(alloc, typed.core())?;
+    let code = wy_gen::generate(alloc, typed.core())?;
     Ok(code)
 }
 
