@@ -6,7 +6,7 @@
 //! kept. Every node has the place where it stands, a byte offset in its source.
 //!
 //! `types`, `expressions`, `statements` and `declarations` have the nodes, each file those of one
-//! class of the grammar, and `copies` makes types and expressions once more. `types` also has the normal forms of
+//! class of the grammar, and `copies` makes types, declared types and expressions once more. `types` also has the normal forms of
 //! types, which no source spells. The parts of a node are lists (`wy_items::Items`) and boxes
 //! (`wy_items::Boxed`), which a clause sees as what they hold, so `≡` between two trees says
 //! that they are equal, places included. A definition by clauses goes over the plain data of

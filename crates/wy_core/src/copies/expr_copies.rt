@@ -80,8 +80,9 @@ fn copy_boxed(alloc: Global, expr: &Boxed<Expr>) -> Result<Boxed<Expr>, AllocErr
     Boxed::new(alloc, expr.get().copy(alloc)?)
 }
 
+/// The same list once more, in time linear in its size.
 #[cycle(copy_expr)]
-fn copy_exprs(alloc: Global, all: &[Expr]) -> Result<Items<Expr>, AllocError>
+pub fn copy_exprs(alloc: Global, all: &[Expr]) -> Result<Items<Expr>, AllocError>
     ensures value { IfOk result (λ made. made ≡ all.now) }
 {
     let mut made = Items::new(alloc);
