@@ -4,7 +4,8 @@ Each file `runs/NAME.json` is a list of rows. A row has `name`, `words` (the wor
 (what stands on both streams, whole, or null where it isn't looked at), and, where it needs them, `files` (texts by their names), `bytes` (files as hexadecimal digits)
 `saved` (files that the run must leave, with their texts) and `ticks` (of a listing: how many
 expressions, statements, tests of loops, turns of quantifiers, calls and visits of types stand in its source; each has at most 16
-instructions). A long text is a list of pieces, each with the number of times that it stands there. Each row runs in a folder of its own. The last line tells how many agreed.
+instructions). A long text is a list of pieces: each has the number of times that it stands there, or the first number of those for which it stands there once each and the
+number behind the last, where `<n>` is the number and `<m>` the next one. Each row runs in a folder of its own. The last line tells how many agreed.
 """
 import concurrent.futures
 import glob
@@ -18,8 +19,15 @@ HERE = os.path.dirname(os.path.dirname(os.path.abspath(__file__)))
 SECONDS = 60
 
 
+def piece_of(text, first, *behind):
+    """The text so many times, or once for each number from the first on."""
+    if not behind:
+        return text * first
+    return "".join(text.replace("<n>", str(n)).replace("<m>", str(n + 1)) for n in range(first, behind[0]))
+
+
 def text_of(value):
-    return value if isinstance(value, str) else "".join(piece * times for piece, times in value)
+    return value if isinstance(value, str) else "".join(piece_of(*piece) for piece in value)
 
 
 def differs(program, row):

@@ -1,16 +1,8 @@
-//! Tests of the crates that all others stand on: lists, names, files and sinks, readers, words, types that
-//! are the same. Tests stand in few crates of their own, since a crate with tests is proved twice.
+//! Tests of what no command of the program shows of the crates that all others stand on: files and sinks that
+//! fail, real ones, and the example of a reader.
 #![tactic(auto)]
 
-#[cfg(test)]
-mod data;
-#[cfg(test)]
-mod items;
 #[cfg(test)]
 mod port;
 #[cfg(test)]
 mod reading;
-#[cfg(test)]
-mod same;
-#[cfg(test)]
-mod scan;

@@ -1,6 +1,7 @@
-//! Tests of names and lowering as a whole. Each fault in several constructs stands in stored runs of the program,
-//! which go through each pass.
+//! Tests of what no command of the program shows of names and lowering: cores with the places of their nodes.
 #![tactic(auto)]
 
 #[cfg(test)]
-mod names;
+mod cores;
+#[cfg(test)]
+mod written;
