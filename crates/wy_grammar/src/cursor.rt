@@ -1,6 +1,7 @@
 //! Steps on single tokens.
-ghost use Rattle.std.specs.Prelude.{◌≡◌};
+ghost use Rattle.std.specs.Prelude.{◌≡◌, ◌≢◌, Ok, Err, IfOk, MatchResult};
 ghost use Rattle.wy_reading.specs.Reader.{Reads, refused};
+ghost use Rattle.wy_reading.specs.declared.stop.Stop.TheVariants.{NoMemory};
 ghost use Rattle.wy_reading.specs.Rule.{heads};
 ghost use Rattle.wy_grammar.specs.Sorts as sorts;
 ghost use Rattle.wy_grammar.specs.Steps as steps;
@@ -46,6 +47,15 @@ pub fn mark(tokens: &[Token], wanted: u8) -> Read<'_, u32>
         [first, rest @ ..] if sort(&first.kind) == wanted => Ok((first.at, rest)),
         _ => Err(Stop::Unexpected(tokens.len())),
     }
+}
+
+/// What was read, with the place of a token of the sort that stands behind it.
+pub fn marked<T: Drop>(made: T, tokens: &[Token], wanted: u8) -> Read<'_, (T, u32)>
+    ensures keeps { IfOk result (λ read. read.0.0 ≡ made) }
+    ensures reads { MatchResult result (λ read. steps.mark wanted tokens.now ≡ Ok (read.0.1, read.1.now)) (λ stop. stop ≢ NoMemory → steps.mark wanted tokens.now ≡ Err stop) }
+{
+    let (at, rest) = mark(tokens, wanted)?;
+    Ok(((made, at), rest))
 }
 
 /// A token of the sort that stands inside of a pair, as the bracket that closes it, where there are so
@@ -111,6 +121,15 @@ pub fn name(alloc: Global, tokens: &[Token]) -> Read<'_, (u32, Name)>
         },
         [] => Err(Stop::Unexpected(tokens.len())),
     }
+}
+
+/// What was read, with the name that stands behind it.
+pub fn with_name<T: Drop>(alloc: Global, made: T, tokens: &[Token]) -> Read<'_, (T, (u32, Name))>
+    ensures keeps { IfOk result (λ read. read.0.0 ≡ made) }
+    ensures reads { MatchResult result (λ read. steps.name tokens.now ≡ Ok (read.0.1, read.1.now)) (λ stop. stop ≢ NoMemory → steps.name tokens.now ≡ Err stop) }
+{
+    let (name, rest) = name(alloc, tokens)?;
+    Ok(((made, name), rest))
 }
 
 /// An operator of the class, with its place.

@@ -6,7 +6,7 @@ ghost use Rattle.wy_reading.specs.Reader.{Reads};
 ghost use Rattle.wy_grammar.specs.ExprReading as spec;
 ghost use Rattle.wy_grammar.specs.Nests.{Nests};
 
-use crate::cursor::{Read, inner, inner_name, mark, name, next_in, next_is, too_deep};
+use crate::cursor::{Read, inner, inner_name, mark, marked, name, next_in, next_is, too_deep};
 use crate::expr_nodes::{
     Fields, Ranges, binary_node, call_node, field_node, index_node, leaf, len_node, list_node,
     neg_node, not_node, quant_node, range, record_node, repeat_node,
@@ -194,7 +194,7 @@ impl<
     {
         let (_, rest) = mark(tokens, OPEN_PAREN)?;
         let (inner, rest) = self.inner_expr(rest)?;
-        let (_, rest) = mark(rest, CLOSE_PAREN)?;
+        let ((inner, _), rest) = marked(inner, rest, CLOSE_PAREN)?;
         Ok((inner, rest))
     }
 

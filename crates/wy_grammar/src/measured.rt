@@ -83,11 +83,13 @@ pub fn expr_node(at: u32, kind: Measured<ExprKind>) -> Measured<Expr>
     ensures { result ≡ trees.expr_node at kind }
 {
     match kind {
-        Measured::Low(kind, height) if height < HIGHEST => Measured::Low(
-            Expr { at, kind },
-            height + 1,
-        ),
-        Measured::Low(_, _) => Measured::High(at),
+        Measured::Low(kind, height) => {
+            if height < HIGHEST {
+                return Measured::Low(Expr { at, kind }, height + 1);
+            }
+            drop(kind);
+            Measured::High(at)
+        }
         Measured::High(at) => Measured::High(at),
     }
 }
@@ -97,11 +99,13 @@ pub fn ty_node(at: u32, kind: Measured<TyKind>) -> Measured<Ty>
     ensures { result ≡ trees.ty_node at kind }
 {
     match kind {
-        Measured::Low(kind, height) if height < HIGHEST => Measured::Low(
-            Ty { at, kind },
-            height + 1,
-        ),
-        Measured::Low(_, _) => Measured::High(at),
+        Measured::Low(kind, height) => {
+            if height < HIGHEST {
+                return Measured::Low(Ty { at, kind }, height + 1);
+            }
+            drop(kind);
+            Measured::High(at)
+        }
         Measured::High(at) => Measured::High(at),
     }
 }

@@ -212,6 +212,7 @@ fn unmixed(made: Measured<Expr>, tokens: &[Token], other: u8) -> Read<'_, Measur
     ensures { Reads (barred (sorts.is other) kind.Mixed made tokens.now) result }
 {
     if next_is(tokens, other) {
+        drop(made);
         return Err(Stop::Fault(Kind::Mixed, tokens.len()));
     }
     Ok((made, tokens))

@@ -7,7 +7,9 @@ ghost use Rattle.wy_grammar.specs.Trees as trees;
 ghost use Rattle.wy_grammar.specs.TypeGrammar as grammar;
 ghost use Rattle.wy_grammar.specs.TypeReading as spec;
 
-use crate::cursor::{Read, inner, inside, mark, name, next_in, next_is, too_deep};
+use crate::cursor::{
+    Read, inner, inside, mark, marked, name, next_in, next_is, too_deep, with_name,
+};
 use crate::fault::Kind;
 use crate::measured::{Measured, both, boxed, named, pushed, ty_node};
 use crate::sort::{
@@ -143,7 +145,7 @@ impl<F: Fn(Global, &[Token], usize) -> Result<(Measured<Ty>, &[Token]), Stop<Kin
         if next_is(tokens, OPEN_PAREN) {
             let (_, rest) = mark(tokens, OPEN_PAREN)?;
             let (ty, rest) = self.union(rest)?;
-            let (_, rest) = mark(rest, CLOSE_PAREN)?;
+            let ((ty, _), rest) = marked(ty, rest, CLOSE_PAREN)?;
             return Ok((ty, rest));
         }
         if next_is(tokens, OPEN_BRACE) {
@@ -187,7 +189,7 @@ impl<F: Fn(Global, &[Token], usize) -> Result<(Measured<Ty>, &[Token]), Stop<Kin
         ensures { Reads (spec.field self.now.levels (spec.tight self.now.levels) fields tokens.now) result }
     {
         let (ty, rest) = self.union(tokens)?;
-        let ((_, name), rest) = name(self.alloc, rest)?;
+        let ((ty, (_, name)), rest) = with_name(self.alloc, ty, rest)?;
         Ok((pushed(fields, named(name, ty))?, rest))
     }
 
