@@ -36,7 +36,7 @@ use Rattle.wy_simulation.proofs.FollowLemmas.{follows_spend, follows_then, follo
 use Rattle.wy_simulation.proofs.InstructionLemmas.{share_does, move_does, Hold, emptied, emptied_below, emptied_size, array_does, record_does, IsNone, cleared_other, cleared_size}
 use Rattle.wy_simulation.proofs.PieceLemmas.{stays_last, fork_on, fork_off, clear_runs}
 use Rattle.wy_simulated_expressions.specs.Covered.{IsStrict, Covered, AllCovered, FieldsCovered}
-use Rattle.wy_simulated_expressions.specs.Simulated.{with_table, AreKnown, IsSimulated, ExpressionsAreSimulated}
+use Rattle.wy_simulated_expressions.specs.Standing.{with_table, AreKnown, IsSimulated, ExpressionsAreSimulated}
 use Rattle.wy_simulated_expressions.proofs.KnownLemmas.{with_has, known_before, known_all, known_fields, is_below, still_live}
 use Rattle.wy_simulated_expressions.proofs.PartLemmas.{fills, denied_follows, length_follows, field_follows, negated_follows, item_follows, applied_follows, repeated_follows}
 

@@ -14,16 +14,16 @@ use Rattle.wy_code.specs.declared.routines.Routine.{Routine}
 use Rattle.wy_tables.specs.declared.context.Context.{Context}
 use Rattle.wy_compiled.specs.Expressions.{code, codes, count_of}
 use Rattle.wy_numbered_tables.specs.Numbered.{NumberedExpr, NumberedExprs}
-use Rattle.wy_kept_values.specs.Kept.{StoreProper, ListProper}
+use Rattle.wy_kept_values.specs.Kept.{IsProper, StoreProper, ListProper}
 use Rattle.wy_sem.specs.Meter.{Meter}
 use Rattle.wy_sem.specs.Operations.{longest}
 use Rattle.wy_sem.specs.Expressions.{Store, slot, Setting, eval, eval_all}
 use Rattle.wy_step.specs.Step.{Caller}
 use Rattle.wy_simulation.specs.Places.{StandAt, IsRoutine}
 use Rattle.wy_simulation.specs.Follows.{Follows, at_place, Comes}
-use Rattle.wy_simulation.specs.Registers.{Live, Got}
-use Rattle.wy_simulated_expressions.specs.Simulated.{with_table, AreKnown}
-use Rattle.wy_simulated_expressions.specs.Rests.{Held, Rests}
+use Rattle.wy_simulation.specs.Registers.{Live, Got, Hold}
+use Rattle.wy_simulated_expressions.specs.Standing.{with_table, AreKnown}
+use Rattle.wy_simulated_expressions.specs.Rests.{Rests}
 
 -- the numbers of an expression's names and shapes stand for them, its literals are `int`s, it calls and names only these, and it has at most so many nodes, and no more than arrays may have items
 pub record Fits (c : Context) (wide : ℕ) (C P : ℕ → Type 0) (e : Expr ℕ) : Type 0 where
@@ -43,27 +43,31 @@ pub record FitAll (c : Context) (wide : ℕ) (C P : ℕ → Type 0) (es : Exprs 
   pub nodes : sizes es ≤ wide
   pub few : sizes es ≤ longest
 
--- wherever its code stands, with what is live before it in its registers, the run of the code follows the evaluation: it makes at most 16 steps for each tick, never lacks a step unless the evaluation is a fault, and comes behind the code with the value in register d, with the variables that are live behind it and with the values of the registers before d as they were
+-- a value has come into register d
+abbrev pub Gained : Scope → (n d : ℕ) → Variables → (store before : Store) → Datum → Store → Type 0
+Gained vs n d s store before v regs = IsProper v × Got vs n d s store before v regs
+
+-- wherever its code stands, with what is live before it in its registers, the run of the code follows the evaluation: it makes at most 16 steps for each tick, never lacks a step unless the evaluation is a fault, and comes behind the code with the value in register d, with the variables in scope that are live behind it and with the values of the registers before d as they were
 abbrev pub IsEvaluated : Context → List Routine → ℕ → Routine → Setting ℕ → (n wide most : ℕ) → Expr ℕ → Type 0
 IsEvaluated c routines f r w n wide most e = (o : Offers) (k : ℕ) (vs : Scope) (s : Variables) (d at : ℕ) (store regs : Store) (callers : List Caller) (m : Meter)
-    → BoundExpr o k vs e → k ≤ n → AreKnown n vs s → n ≤ d → StandAt r.body at (code c e s d) → Live (before e s) store regs → StoreProper store → length regs ≡ r.registers → m.ticks ≤ most
-    → Follows (with_table c routines) wide (size e) 0 m (at_place f at regs callers m.output) (eval w true e store m) (Comes f (at + length (code c e s d)) callers (Got n d s store regs))
+    → BoundExpr o k vs e → k ≤ n → AreKnown n vs s → n ≤ d → StandAt r.body at (code c e s d) → Live vs (before e s) store regs → StoreProper store → length regs ≡ r.registers → m.ticks ≤ most
+    → Follows (with_table c routines) wide (size e) 0 m (at_place f at regs callers m.output) (eval w true e store m) (Comes f (at + length (code c e s d)) callers (Gained vs n d s store regs))
 
 -- ---- values in a row
 
 -- the values have come into the registers from d on
-pub record GotAll (n d count : ℕ) (s : Variables) (store first : Store) (vs : List Datum) (regs : Store) : Type 0 where
-  pub values : Held regs d vs
-  pub many : length vs ≡ count
-  pub proper : ListProper vs
-  pub live : Live s store regs
+pub record GotAll (vs : Scope) (n d count : ℕ) (s : Variables) (store first : Store) (us : List Datum) (regs : Store) : Type 0 where
+  pub values : Hold regs d us
+  pub many : length us ≡ count
+  pub proper : ListProper us
+  pub live : Live vs s store regs
   pub kept : (t : ℕ) → n ≤ t → t < d → slot regs t ≡ slot first t
   pub size : length regs ≡ length first
 
 abbrev pub AreEvaluated : Context → List Routine → ℕ → Routine → Setting ℕ → (n wide most : ℕ) → Exprs ℕ → Type 0
 AreEvaluated c routines f r w n wide most es = (o : Offers) (k : ℕ) (vs : Scope) (s : Variables) (d at : ℕ) (store regs : Store) (callers : List Caller) (m : Meter)
-    → BoundExprs o k vs es → k ≤ n → AreKnown n vs s → n ≤ d → StandAt r.body at (codes c es s d) → Live (before_all es s) store regs → StoreProper store → length regs ≡ r.registers → m.ticks ≤ most
-    → Follows (with_table c routines) wide (sizes es) 0 m (at_place f at regs callers m.output) (eval_all w true es store m) (Comes f (at + length (codes c es s d)) callers (GotAll n d (count_of es) s store regs))
+    → BoundExprs o k vs es → k ≤ n → AreKnown n vs s → n ≤ d → StandAt r.body at (codes c es s d) → Live vs (before_all es s) store regs → StoreProper store → length regs ≡ r.registers → m.ticks ≤ most
+    → Follows (with_table c routines) wide (sizes es) 0 m (at_place f at regs callers m.output) (eval_all w true es store m) (Comes f (at + length (codes c es s d)) callers (GotAll vs n d (count_of es) s store regs))
 
 -- ---- the law
 

@@ -1,5 +1,5 @@
 -- What the code of expressions rests on: the code of calls and of tests of types.
-use Rattle.std.specs.Prelude.{◌≡◌, ◌≢◌, ◌<◌, ◌≤◌, ℕ, suc, ◌+◌, List, [], ◌∷◌, length, Bool, true, Some, Option}
+use Rattle.std.specs.Prelude.{◌≡◌, ◌≢◌, ◌<◌, ◌≤◌, ℕ, ◌+◌, List, length, Bool, true, Some, Option}
 use Rattle.wy_value.specs.Datum.{Datum, Truth}
 use Rattle.wy_core.specs.Types.{Ty}
 use Rattle.wy_formed.specs.Recursion.{NamesIn}
@@ -10,7 +10,7 @@ use Rattle.wy_tables.specs.Tables.{target}
 use Rattle.wy_compiled.specs.TypeTests.{test}
 use Rattle.wy_compiled.specs.Expressions.{call}
 use Rattle.wy_numbered_tables.specs.Numbered.{NumberedTy}
-use Rattle.wy_kept_values.specs.Kept.{IsProper, ListProper, CallsGive}
+use Rattle.wy_kept_values.specs.Kept.{IsProper, SlotProper, ListProper}
 use Rattle.wy_sem.specs.Meter.{Meter}
 use Rattle.wy_sem.specs.Operations.{or_null}
 use Rattle.wy_sem.specs.Expressions.{Store, slot, Setting}
@@ -18,17 +18,14 @@ use Rattle.wy_sem.specs.TypeTests.{Test}
 use Rattle.wy_step.specs.Step.{Caller}
 use Rattle.wy_simulation.specs.Places.{StandAt, IsRoutine}
 use Rattle.wy_simulation.specs.Follows.{Follows, at_place, Comes}
-use Rattle.wy_simulated_expressions.specs.Simulated.{with_table}
+use Rattle.wy_simulation.specs.Registers.{Hold}
+use Rattle.wy_simulated_expressions.specs.Standing.{with_table}
 
 -- ---- calls
 
--- the values stand in the registers from d on
-abbrev pub Held : Store → ℕ → List Datum → Type 0
-Held regs d [] = Unit {0}
-Held regs d (v ∷ vs) = (slot regs d ≡ Some v) × Held regs (suc d) vs
-
--- the result of a call has come into register d, null where it has none, and the registers before d hold what they held
+-- the result of a call, a value, has come into register d, null where it has none, and the registers before d hold what they held
 pub record Called (d : ℕ) (before : Store) (v : Option Datum) (regs : Store) : Type 0 where
+  pub proper : SlotProper v
   pub value : slot regs d ≡ Some (or_null v)
   pub kept : (t : ℕ) → t < d → slot regs t ≡ slot before t
   pub size : length regs ≡ length before
@@ -36,7 +33,7 @@ pub record Called (d : ℕ) (before : Store) (v : Option Datum) (regs : Store) :
 -- wherever the code of a call of such a function or method stands, with the arguments in the registers from d on, the run follows the call
 abbrev pub CallsFollow : Context → List Routine → Setting ℕ → (wide most : ℕ) → (ℕ → Type 0) → Type 0
 CallsFollow c routines w wide most C = (f : ℕ) (r : Routine) → IsRoutine (with_table c routines) f r → (g place d at : ℕ) (vs : List Datum) (regs : Store) (callers : List Caller) (m : Meter)
-    → C g → m.ticks ≤ most → ListProper vs → Held regs d vs → length regs ≡ r.registers → StandAt r.body at (call (target c.results g) g d (length vs))
+    → C g → m.ticks ≤ most → ListProper vs → Hold regs d vs → length regs ≡ r.registers → StandAt r.body at (call (target c.results g) g d (length vs))
     → Follows (with_table c routines) wide 0 0 m (at_place f at regs callers m.output) (w.call g place vs m) (Comes f (at + length (call (target c.results g) g d (length vs))) callers (Called d regs))
 
 -- ---- tests of types
@@ -55,8 +52,7 @@ TestsFollow c routines tested wide P = (f : ℕ) (r : Routine) → IsRoutine (wi
 
 -- ---- both
 
--- calls of these give values and are followed, and so are tests of these types, with so many ticks at most
+-- calls of these are followed, with so many ticks at most, and so are tests of these types
 pub record Rests (c : Context) (routines : List Routine) (w : Setting ℕ) (wide most : ℕ) (C P : ℕ → Type 0) : Type 0 where
   pub calls : CallsFollow c routines w wide most C
-  pub values : CallsGive w
   pub tests : TestsFollow c routines (w.test true) wide P
