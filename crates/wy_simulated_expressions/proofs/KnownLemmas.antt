@@ -77,7 +77,7 @@ without_other s x y other = by (has s x)
     by true = bit_other s x y false other
     by false = refl
 
-same_or_not : (x y : ℕ) → (x ≡ y) ⊎ (x ≢ y)
+pub same_or_not : (x y : ℕ) → (x ≡ y) ⊎ (x ≢ y)
 same_or_not zero zero = inl refl
 same_or_not zero (suc y) = inr (λ e. absurd (omega (arith, e)))
 same_or_not (suc x) zero = inr (λ e. absurd (omega (arith, e)))
@@ -210,86 +210,82 @@ module _ (x : ℕ) where
       by (inl g) = g
       by (inr used) = restored_other (has s y) (before body s) y x other (used s)
 
-module _ (o : Offers) (k : ℕ) (x : ℕ) where
-  in_scope : (vs : Scope) (y : ℕ) (s : Variables) → Has vs y → (has s x ≡ true → Has vs x) → (x ≡ y) ⊎ (has s x ≡ true) → Has vs x
-  in_scope vs y s b f (inl e) = subst (λ (z : ℕ). Has vs z) (sym e) b
-  in_scope vs y s b f (inr h) = f h
+restored_less : (b : Bool) (s : Variables) (x y : ℕ) → has (restored b s x) y ≡ true → has s y ≡ true
+restored_less true s x y h = h
+restored_less false s x y h = (without_says s x y h).1
 
-  in_turn : (vs : Scope) (y : ℕ) (s t : Variables) (b : Bool) → has s y ≡ b → (has s x ≡ true → Has vs x) → (has t x ≡ true → (y ≡ x) ⊎ Has vs x) → has (restored b t y) x ≡ true → Has vs x
-  in_turn vs y s t true e f g h = by (g h)
-    where
-      by : (y ≡ x) ⊎ Has vs x → Has vs x
-      by (inl same) = f (subst (λ (z : ℕ). has s z ≡ true) same e)
-      by (inr i) = i
-  in_turn vs y s t false e f g h = by (g (without_says t y x h).1)
-    where
-      by : (y ≡ x) ⊎ Has vs x → Has vs x
-      by (inl same) = absurd ((without_says t y x h).0 (sym same))
-      by (inr i) = i
+-- each variable in scope has one of the first n registers
+abbrev pub AreBelow : ℕ → Scope → Type 0
+AreBelow n vs = (z : ℕ) → Has vs z → z < n
 
-  -- what is live before is in scope, where what is live behind is
+pub below_more : (n : ℕ) (vs : Scope) (y : ℕ) → y < n → AreBelow n vs → AreBelow n (y ∷ vs)
+below_more n vs y less h z i = by i
+  where
+    by : (y ≡ z) ⊎ Has vs z → z < n
+    by (inl e) = omega (arith, less, e)
+    by (inr g) = h z g
+
+module _ (o : Offers) (k n : ℕ) (low : k ≤ n) (x : ℕ) where
+  used_below : (y : ℕ) (s : Variables) → y < n → (has s x ≡ true → x < n) → (x ≡ y) ⊎ (has s x ≡ true) → x < n
+  used_below y s less f (inl e) = omega (arith, less, e)
+  used_below y s less f (inr h) = f h
+
+  -- what is live before has one of the first n registers, where what is live behind has
   mutual
-    scoped : (vs : Scope) (e : Expr ℕ) → BoundExpr o k vs e → (s : Variables) → (has s x ≡ true → Has vs x) → has (before e s) x ≡ true → Has vs x
-    scoped vs (NullExpr at) b s f h = f h
-    scoped vs (BoolExpr at truth) b s f h = f h
-    scoped vs (IntExpr at number) b s f h = f h
-    scoped vs (VarExpr at y) b s f h = in_scope vs y s b f (with_cases s y x h)
-    scoped vs (CallExpr at routine args) b s f h = all_scoped vs args b.1 s f h
-    scoped vs (NegExpr at a) b s f h = scoped vs a b s f h
-    scoped vs (NotExpr at a) b s f h = scoped vs a b s f h
-    scoped vs (LenExpr at a) b s f h = scoped vs a b s f h
-    scoped vs (BinaryExpr at op p q) b s f h = scoped vs p b.0 (before q s) (λ g. scoped vs q b.1 s f g) h
-    scoped vs (IsExpr at a ty) b s f h = scoped vs a b.0 s f h
-    scoped vs (IndexExpr at p q) b s f h = scoped vs p b.0 (before q s) (λ g. scoped vs q b.1 s f g) h
-    scoped vs (FieldExpr at a name) b s f h = scoped vs a b s f h
-    scoped vs (ListExpr at items) b s f h = all_scoped vs items b s f h
-    scoped vs (RepeatExpr at p q) b s f h = scoped vs p b.0 (before q s) (λ g. scoped vs q b.1 s f g) h
-    scoped vs (RecordExpr at fs) b s f h = fields_scoped vs fs b.1 s f h
-    scoped vs (QuantExpr at all y p q body) b s f h =
-        scoped vs p b.1 (before q (turned y body s)) (λ g. scoped vs q b.2 (turned y body s) (λ i. in_turn vs y s (before body s) (has s y) refl f (λ l. scoped (y ∷ vs) body b.3 s (λ z. inr (f z)) l) i) g) h
+    scoped : (vs : Scope) (e : Expr ℕ) → AreBelow n vs → BoundExpr o k vs e → (s : Variables) → (has s x ≡ true → x < n) → has (before e s) x ≡ true → x < n
+    scoped vs (NullExpr at) g b s f h = f h
+    scoped vs (BoolExpr at truth) g b s f h = f h
+    scoped vs (IntExpr at number) g b s f h = f h
+    scoped vs (VarExpr at y) g b s f h = used_below y s (g y b) f (with_cases s y x h)
+    scoped vs (CallExpr at routine args) g b s f h = all_scoped vs args g b.1 s f h
+    scoped vs (NegExpr at a) g b s f h = scoped vs a g b s f h
+    scoped vs (NotExpr at a) g b s f h = scoped vs a g b s f h
+    scoped vs (LenExpr at a) g b s f h = scoped vs a g b s f h
+    scoped vs (BinaryExpr at op p q) g b s f h = scoped vs p g b.0 (before q s) (λ i. scoped vs q g b.1 s f i) h
+    scoped vs (IsExpr at a ty) g b s f h = scoped vs a g b.0 s f h
+    scoped vs (IndexExpr at p q) g b s f h = scoped vs p g b.0 (before q s) (λ i. scoped vs q g b.1 s f i) h
+    scoped vs (FieldExpr at a name) g b s f h = scoped vs a g b s f h
+    scoped vs (ListExpr at items) g b s f h = all_scoped vs items g b s f h
+    scoped vs (RepeatExpr at p q) g b s f h = scoped vs p g b.0 (before q s) (λ i. scoped vs q g b.1 s f i) h
+    scoped vs (RecordExpr at fs) g b s f h = fields_scoped vs fs g b.1 s f h
+    scoped vs (QuantExpr at all y p q body) g b s f h =
+        scoped vs p g b.1 (before q (turned y body s)) (λ i. scoped vs q g b.2 (turned y body s) (λ j. scoped (y ∷ vs) body (below_more n vs y (let l = b.0.0 in omega (arith, l, low)) g) b.3 s f (restored_less (has s y) (before body s) y x j)) i) h
 
-    all_scoped : (vs : Scope) (es : Exprs ℕ) → BoundExprs o k vs es → (s : Variables) → (has s x ≡ true → Has vs x) → has (before_all es s) x ≡ true → Has vs x
-    all_scoped vs NoExprs b s f h = f h
-    all_scoped vs (MoreExprs e es) b s f h = scoped vs e b.0 (before_all es s) (λ g. all_scoped vs es b.1 s f g) h
+    all_scoped : (vs : Scope) (es : Exprs ℕ) → AreBelow n vs → BoundExprs o k vs es → (s : Variables) → (has s x ≡ true → x < n) → has (before_all es s) x ≡ true → x < n
+    all_scoped vs NoExprs g b s f h = f h
+    all_scoped vs (MoreExprs e es) g b s f h = scoped vs e g b.0 (before_all es s) (λ i. all_scoped vs es g b.1 s f i) h
 
-    fields_scoped : (vs : Scope) (fs : Fields ℕ) → BoundFields o k vs fs → (s : Variables) → (has s x ≡ true → Has vs x) → has (before_fields fs s) x ≡ true → Has vs x
-    fields_scoped vs NoFields b s f h = f h
-    fields_scoped vs (MoreFields name e fs) b s f h = scoped vs e b.0 (before_fields fs s) (λ g. fields_scoped vs fs b.1 s f g) h
+    fields_scoped : (vs : Scope) (fs : Fields ℕ) → AreBelow n vs → BoundFields o k vs fs → (s : Variables) → (has s x ≡ true → x < n) → has (before_fields fs s) x ≡ true → x < n
+    fields_scoped vs NoFields g b s f h = f h
+    fields_scoped vs (MoreFields name e fs) g b s f h = scoped vs e g b.0 (before_fields fs s) (λ i. fields_scoped vs fs g b.1 s f i) h
 
-  turned_scoped : (vs : Scope) (y : ℕ) (body : Expr ℕ) → BoundExpr o k (y ∷ vs) body → (s : Variables) → (has s x ≡ true → Has vs x) → has (turned y body s) x ≡ true → Has vs x
-  turned_scoped vs y body b s f h = in_turn vs y s (before body s) (has s y) refl f (λ l. scoped (y ∷ vs) body b s (λ z. inr (f z)) l) h
-
-module _ (o : Offers) (k n : ℕ) (vs : Scope) where
+module _ (o : Offers) (k n : ℕ) (low : k ≤ n) (vs : Scope) where
   pub known_before : (e : Expr ℕ) (s : Variables) → BoundExpr o k vs e → AreKnown n vs s → AreKnown n vs (before e s)
-  known_before e s b h = record { below = h.below; within = λ x i. scoped o k x vs e b s (h.within x) i }
+  known_before e s b h = record { below = h.below; within = λ x i. scoped o k n low x vs e h.below b s (h.within x) i }
 
   pub known_all : (es : Exprs ℕ) (s : Variables) → BoundExprs o k vs es → AreKnown n vs s → AreKnown n vs (before_all es s)
-  known_all es s b h = record { below = h.below; within = λ x i. all_scoped o k x vs es b s (h.within x) i }
+  known_all es s b h = record { below = h.below; within = λ x i. all_scoped o k n low x vs es h.below b s (h.within x) i }
 
   pub known_fields : (fs : Fields ℕ) (s : Variables) → BoundFields o k vs fs → AreKnown n vs s → AreKnown n vs (before_fields fs s)
-  known_fields fs s b h = record { below = h.below; within = λ x i. fields_scoped o k x vs fs b s (h.within x) i }
+  known_fields fs s b h = record { below = h.below; within = λ x i. fields_scoped o k n low x vs fs h.below b s (h.within x) i }
 
-  pub known_turned : (y : ℕ) (body : Expr ℕ) (s : Variables) → BoundExpr o k (y ∷ vs) body → AreKnown n vs s → AreKnown n vs (turned y body s)
-  known_turned y body s b h = record { below = h.below; within = λ x i. turned_scoped o k x vs y body b s (h.within x) i }
+  pub known_turned : (y : ℕ) (body : Expr ℕ) (s : Variables) → y < n → BoundExpr o k (y ∷ vs) body → AreKnown n vs s → AreKnown n vs (turned y body s)
+  known_turned y body s less b h = record { below = h.below; within = λ x i. scoped o k n low x (y ∷ vs) body (below_more n vs y less h.below) b s (h.within x) (restored_less (has s y) (before body s) y x i) }
 
-  -- with the variable of a quantifier
-  pub known_turn : (y : ℕ) (s : Variables) → y < n → AreKnown n vs s → AreKnown n (y ∷ vs) s
-  known_turn y s less h = record { below = λ x i. by x i; within = λ x i. inr (h.within x i) }
-    where
-      by : (x : ℕ) → (y ≡ x) ⊎ Has vs x → x < n
-      by x (inl e) = omega (arith, less, e)
-      by x (inr i) = h.below x i
+-- with one variable more in scope
+pub known_turn : (n : ℕ) (vs : Scope) (y : ℕ) (s : Variables) → y < n → AreKnown n vs s → AreKnown n (y ∷ vs) s
+known_turn n vs y s less h = record { below = below_more n vs y less h.below; within = h.within }
 
 pub is_below : (n : ℕ) (vs : Scope) (s : Variables) → AreKnown n vs s → (x : ℕ) → has s x ≡ true → x < n
-is_below n vs s h x i = h.below x (h.within x i)
+is_below n vs s h x i = h.within x i
 
 -- ---- a value comes into its register
 
-pub got_put : (n : ℕ) (s : Variables) (store first regs : Store) (d : ℕ) (v : Datum) → ((x : ℕ) → has s x ≡ true → x < n) → n ≤ d → d < length regs → Live s store regs → ((t : ℕ) → n ≤ t → t < d → slot regs t ≡ slot first t) → length regs ≡ length first
-    → Got n d s store first v (put regs d (Some v))
-got_put n s store first regs d v below behind room live kept size = record {
+pub got_put : (vs : Scope) (n : ℕ) (s : Variables) (store first regs : Store) (d : ℕ) (v : Datum) → ((x : ℕ) → has s x ≡ true → x < n) → n ≤ d → d < length regs → Live vs s store regs → ((t : ℕ) → n ≤ t → t < d → slot regs t ≡ slot first t) → length regs ≡ length first
+    → Got vs n d s store first v (put regs d (Some v))
+got_put vs n s store first regs d v below behind room live kept size = record {
   value = put_here regs d (Some v) room;
-  live = live_put s store regs d (Some v) (λ x h e. let l = below x h in absurd (omega (arith, l, behind, e))) live;
+  live = live_put vs s store regs d (Some v) (λ x i h e. let l = below x h in absurd (omega (arith, l, behind, e))) live;
   kept = λ t a b. put_other regs d t (Some v) (λ e. absurd (omega (arith, b, e))) ∙ kept t a b;
   size = put_size regs d (Some v) ∙ size;
 }
