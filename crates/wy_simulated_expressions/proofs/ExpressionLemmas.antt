@@ -9,7 +9,7 @@ use Rattle.wy_core.specs.CoreTree.{Expr, NullExpr, BoolExpr, IntExpr, VarExpr, C
 use Rattle.wy_core.specs.declared.expressions.Op.{Op}
 use Rattle.wy_core.specs.declared.expressions.Op.TheVariants as op
 use Rattle.wy_formed.specs.Offers.{Offers}
-use Rattle.wy_formed.specs.Bound.{Scope, BoundExpr, BoundExprs, BoundFields}
+use Rattle.wy_formed.specs.Bound.{Scope, BoundTy, BoundExpr, BoundExprs, BoundFields}
 use Rattle.wy_formed.specs.Calls.{CallsExpr, CallsExprs, CallsFields}
 use Rattle.wy_formed.specs.Literals.{IntsExpr, IntsExprs, IntsFields}
 use Rattle.wy_formed.specs.Recursion.{NamesIn, Mentions, MentionsIn, MentionsInFields}
@@ -200,12 +200,15 @@ module _ (c : Context) (routines : List Routine) (f : ℕ) (r : Routine) (there 
           follows_then mach wide 0 0 0 0 0 0 m (at_place f p regs callers m.output) (w.call g place us m) (λ v. needed place v Done) f to callers (Called d regs) (Comes f to callers R) (omega arith) (omega arith)
           (rests.calls f r there g place d p us regs callers m ok few got.proper got.values (got.size ∙ whole) stood)
           (λ v k last le came. follows_needed mach wide 0 0 k (at_place f to last callers k.output) place v Done (Comes f to callers R)
-          (λ u is. stays_last mach f r there wide to last callers k u R (subst (λ (z : Option Datum). SlotProper z) is came.proper, record {
-            value = came.value ∙ ap (λ (z : Option Datum). Some (or_null z)) is;
-            live = record { holds = λ x y i h e. came.kept x (let l = below x h in omega (arith, l, behind)) ∙ got.live.holds x y i h e };
-            kept = λ t a b. came.kept t b ∙ got.kept t a b;
-            size = came.size ∙ got.size;
-          })))
+          (λ u is. stays_last mach f r there wide to last callers k u R (
+            subst (λ (z : Option Datum). SlotProper z) is came.proper,
+            record {
+              value = came.value ∙ ap (λ (z : Option Datum). Some (or_null z)) is;
+              live = record { holds = λ x y i h e. came.kept x (let l = below x h in omega (arith, l, behind)) ∙ got.live.holds x y i h e };
+              kept = λ t a b. came.kept t b ∙ got.kept t a b;
+              size = came.size ∙ got.size;
+            },
+          )))
 
   -- ---- tests of types
 
@@ -229,16 +232,16 @@ module _ (c : Context) (routines : List Routine) (f : ℕ) (r : Routine) (there 
       (λ t y z. put_other regs2 (suc d) t None (λ e. absurd (omega (arith, z, e))) ∙ far t (omega (arith, z)) (λ e. absurd (omega (arith, z, e))) ∙ kept t y z)
       (put_size regs2 (suc d) None ∙ size2 ∙ size))))
 
-  told_follows : (vs : Scope) (d p : ℕ) (ty : Ty) (s : Variables) (store first regs : Store) (callers : List Caller) (m : Meter) (v : Datum) → NumberedTy c.table ty → ((q : ℕ) → NamesIn true ty q → P q) → size_ty ty ≤ wide → ((x : ℕ) → has s x ≡ true → x < n) → n ≤ d → length first ≡ r.registers → IsProper v → Got vs n d s store first v regs
+  told_follows : (vs : Scope) (d p : ℕ) (ty : Ty) (s : Variables) (store first regs : Store) (callers : List Caller) (m : Meter) (v : Datum) (types : ℕ) → BoundTy types ty → NumberedTy c.table ty → ((q : ℕ) → NamesIn true ty q → P q) → size_ty ty ≤ wide → ((x : ℕ) → has s x ≡ true → x < n) → n ≤ d → length first ≡ r.registers → IsProper v → Got vs n d s store first v regs
       → StandAt r.body p (is_test c ty d) → Follows mach wide (size_ty ty) 3 m (at_place f p regs callers m.output) (w.test true ty v m >>= (λ b. Done (Truth b))) (Comes f (p + length (is_test c ty d)) callers (Got vs n d s store first))
-  told_follows vs d p ty s store first regs callers m v numbered names small below behind whole proper got stands =
+  told_follows vs d p ty s store first regs callers m v types bound numbered names small below behind whole proper got stands =
       let xs = test c ty d (suc d) (suc (suc d)) in
       let ys : List Step = dropped d (suc (suc d)) ++ Does (instr.Move d (suc d)) ∷ [] in
       let l1 : length (xs ++ ys) ≡ length xs + 3 = length-append xs ys in
       let R = Got vs n d s store first in
       follows_at mach wide (size_ty ty) 3 m (at_place f p regs callers m.output) (w.test true ty v m >>= (λ b. Done (Truth b))) f (p + length xs + 3) (p + length (xs ++ ys)) callers R (omega (arith, l1))
       (follows_then mach wide (size_ty ty) 0 0 3 (size_ty ty) 3 m (at_place f p regs callers m.output) (w.test true ty v m) (λ b. Done (Truth b)) f (p + length xs) callers (Told (suc d) (suc (suc d)) regs) (Comes f (p + length xs + 3) callers R) (omega arith) (omega arith)
-      (rests.tests f r there ty d (suc d) (suc (suc d)) p v regs callers m numbered names small proper got.value (omega arith) (omega arith) (λ e. absurd (omega (arith, e))) (got.size ∙ whole) (stand_front r.body p xs ys stands))
+      (rests.tests f r there ty d (suc d) (suc (suc d)) p v regs callers m types bound numbered names small proper got.value (omega arith) (omega arith) (λ e. absurd (omega (arith, e))) (got.size ∙ whole) (stand_front r.body p xs ys stands))
       (λ b k last le told. answered vs d (p + length xs) b s store first last callers k v below behind whole (told.kept d (omega arith) (λ e. absurd (omega (arith, e))) ∙ got.value) told.value
       (record { holds = λ x u i h e. told.kept x (let l = below x h in omega (arith, l, behind)) (λ g. absurd (let l = below x h in omega (arith, l, behind, g))) ∙ got.live.holds x u i h e })
       (λ t a z. told.kept t (omega (arith, z)) (λ e. absurd (omega (arith, z, e))) ∙ got.kept t a z) (told.size ∙ got.size) (stand_back r.body p xs ys stands)))
@@ -325,7 +328,7 @@ module _ (c : Context) (routines : List Routine) (f : ℕ) (r : Routine) (there 
           early c routines f r there w n wide most op.Or tt (w.place i) a e2 (expr a nu.0 iz.0 ca.0 (λ z h. me z (inl h)) (first_fits (size a) (size e2) top le)) (expr e2 nu.1 iz.1 ca.1 (λ z h. me z (inr h)) (second_fits (size a) (size e2) top le)) o k vs s d at store regs callers m b low known behind stands live proper whole few
       expr (IsExpr i a ty) nu iz ca me le o k vs s d at store regs callers m b low known behind stands live proper whole few =
           one_part c routines f r there w n wide most a (expr a nu.0 iz ca (λ z h. me z (inl h)) (first_fits (size a) (size_ty ty) top le)) (is_test c ty d) (λ v j. w.test true ty v j >>= (λ t. Done (Truth t))) (size_ty ty) 3 (size a + size_ty ty + 1) (omega arith) (omega arith) (λ v j p. truth_gives ty v j) o k vs s d at store regs callers m
-          (λ v j p last pv got ys. told_follows vs d p ty s store regs last callers j v nu.1 (λ z h. me z (inr h)) (omega (arith, le, small)) (is_below n vs s known) behind whole pv got ys)
+          (λ v j p last pv got ys. told_follows vs d p ty s store regs last callers j v o.types b.1 nu.1 (λ z h. me z (inr h)) (omega (arith, le, small)) (is_below n vs s known) behind whole pv got ys)
           b.0 low known behind stands live proper whole few
       expr (IndexExpr i a e2) nu iz ca me le o k vs s d at store regs callers m b low known behind stands live proper whole few =
           let ys : List Step = Does (instr.Get d d (suc d)) ∷ [] in
@@ -378,17 +381,17 @@ module _ (c : Context) (routines : List Routine) (f : ℕ) (r : Routine) (there 
           paid c routines f r there w n wide most (size a + size e2 + 0) 5 (size a + size e2 + size body + 1) at regs callers m (λ j. eval w true a store j >>= (λ v t. eval w true e2 store t >>= quantified q (w.place i) F v)) (at + length (code c a (before e2 T) d ++ (code c e2 T (suc d) ++ ys))) (Gained vs n d s store regs) (omega arith) (omega arith)
           (λ j e l. two_parts c routines f r there w n wide most a e2 one two ys (λ v u. quantified q (w.place i) F v u) 0 5 (λ v u t p g. quantified_gives q (w.place i) F v u t) o k vs T s d at store regs callers j
           (λ v u t p middle last le2 pv pu got_a got_b stood.
-            let Q = Comes f (p + length ys) callers (Got vs n d s store regs) in
-            let st = at_place f p last callers t.output in
-            follows_number mach wide 0 5 t st (w.place i) v (λ from. as_number (w.place i) u (λ to. each q (w.place i) F from (span from to))) Q
-            (λ from is_from. follows_number mach wide 0 5 t st (w.place i) u (λ to. each q (w.place i) F from (span from to)) Q
-            (λ to is_to. turns_follow c routines f r there w n wide most q x body three (omega (arith, le, small)) o k low vs b.0 b.3 s known d behind store regs proper whole callers (w.place i) p to (number_int u to is_to pu) stood (span from to) from refl (number_int v from is_from pv) last t (omega (arith, le2, l, few)) (record {
-              count = got_b.kept d behind (omega arith) ∙ got_a.value ∙ ap (λ (z : Datum). Some z) is_from;
-              last = got_b.value ∙ ap (λ (z : Datum). Some z) is_to;
-              live = got_b.live;
-              kept = λ z x1 y1. got_b.kept z x1 (omega (arith, y1)) ∙ got_a.kept z x1 y1;
-              size = got_b.size ∙ got_a.size;
-            }))))
+          let Q = Comes f (p + length ys) callers (Got vs n d s store regs) in
+          let st = at_place f p last callers t.output in
+          follows_number mach wide 0 5 t st (w.place i) v (λ from. as_number (w.place i) u (λ to. each q (w.place i) F from (span from to))) Q
+          (λ from is_from. follows_number mach wide 0 5 t st (w.place i) u (λ to. each q (w.place i) F from (span from to)) Q
+          (λ to is_to. turns_follow c routines f r there w n wide most q x body three (omega (arith, le, small)) o k low vs b.0 b.3 s known d behind store regs proper whole callers (w.place i) p to (number_int u to is_to pu) stood (span from to) from refl (number_int v from is_from pv) last t (omega (arith, le2, l, few)) (record {
+            count = got_b.kept d behind (omega arith) ∙ got_a.value ∙ ap (λ (z : Datum). Some z) is_from;
+            last = got_b.value ∙ ap (λ (z : Datum). Some z) is_to;
+            live = got_b.live;
+            kept = λ z x1 y1. got_b.kept z x1 (omega (arith, y1)) ∙ got_a.kept z x1 y1;
+            size = got_b.size ∙ got_a.size;
+          }))))
           b.1 b.2 low known_T behind stands live proper whole (omega (arith, l, few)))
 
       all : (es : Exprs ℕ) → NumberedExprs c.table es → IntsExprs es → CallsExprs C es → ((q : ℕ) → MentionsIn es q → P q) → sizes es ≤ top → AreEvaluated c routines f r w n wide most es
@@ -435,7 +438,7 @@ brief_one c routines f r there w n wide most C P rests e h = expr c routines f r
 pub evaluated_one : (c : Context) (routines : List Routine) (f : ℕ) (r : Routine) (there : IsRoutine (with_table c routines) f r) (w : Setting ℕ) (n wide most : ℕ) (C P : ℕ → Type 0) → Rests c routines w wide most C P
     → (e : Expr ℕ) → Fits c wide C P e → IsEvaluated c routines f r w n wide most e
 evaluated_one c routines f r there w n wide most C P rests e h o k vs s d at store regs callers m b low known behind stands live proper whole few =
-    leaves_follows (with_table c routines) wide (size e) 1 m (at_place f at regs callers m.output) (eval w true e store m) (Comes f (at + length (code c e s d)) callers (Gained vs n d s store regs))
+    leaves_follows (with_table c routines) wide (size e) 2 m (at_place f at regs callers m.output) (eval w true e store m) (Comes f (at + length (code c e s d)) callers (Gained vs n d s store regs))
     (brief_one c routines f r there w n wide most C P rests e h o k vs s d at store regs callers m b low known behind stands live proper whole few)
 
 pub evaluated_all : (c : Context) (routines : List Routine) (f : ℕ) (r : Routine) (there : IsRoutine (with_table c routines) f r) (w : Setting ℕ) (n wide most : ℕ) (C P : ℕ → Type 0) → Rests c routines w wide most C P

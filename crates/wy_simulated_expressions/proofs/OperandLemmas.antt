@@ -96,18 +96,18 @@ module _ (c : Context) (routines : List Routine) (f : ℕ) (r : Routine) (there 
   abbrev mach : Code
   mach = with_table c routines
 
-  -- the code of the expression does what it does, and leaves a step unused
+  -- the code of the expression does what it does, and leaves two steps unused
   abbrev pub IsBrief : Expr ℕ → Type 0
   IsBrief e = (o : Offers) (k : ℕ) (vs : Scope) (s : Variables) (d at : ℕ) (store regs : Store) (callers : List Caller) (m : Meter)
       → BoundExpr o k vs e → k ≤ n → AreKnown n vs s → n ≤ d → StandAt r.body at (code c e s d) → Live vs (before e s) store regs → StoreProper store → length regs ≡ r.registers → m.ticks ≤ most
-      → Leaves (with_table c routines) wide (size e) 1 m (at_place f at regs callers m.output) (eval w true e store m) (Comes f (at + length (code c e s d)) callers (Gained vs n d s store regs))
+      → Leaves (with_table c routines) wide (size e) 2 m (at_place f at regs callers m.output) (eval w true e store m) (Comes f (at + length (code c e s d)) callers (Gained vs n d s store regs))
 
-  -- a node spends a tick, for which its own instructions may take 15 steps
-  pub paid : {X : Type 0} (lo hi total at : ℕ) (regs : Store) (callers : List Caller) (m : Meter) (next : Run X) (to : ℕ) (R : X → Store → Type 0) → suc lo ≤ total → hi ≤ 15
+  -- a node spends a tick, for which its own instructions may take 14 steps
+  pub paid : {X : Type 0} (lo hi total at : ℕ) (regs : Store) (callers : List Caller) (m : Meter) (next : Run X) (to : ℕ) (R : X → Store → Type 0) → suc lo ≤ total → hi ≤ 14
       → ((j : Meter) → j.output ≡ m.output → j.ticks ≤ m.ticks → Follows (with_table c routines) wide lo hi j (at_place f at regs callers j.output) (next j) (Comes f to callers R))
-      → Leaves (with_table c routines) wide total 1 m (at_place f at regs callers m.output) (spend true next m) (Comes f to callers R)
+      → Leaves (with_table c routines) wide total 2 m (at_place f at regs callers m.output) (spend true next m) (Comes f to callers R)
   paid lo hi total at regs callers m next to R least much h =
-      leaves_spend mach wide lo hi 1 total m (at_place f at regs callers m.output) next (Comes f to callers R) least (omega (arith, much)) refl
+      leaves_spend mach wide lo hi 2 total m (at_place f at regs callers m.output) next (Comes f to callers R) least (omega (arith, much)) refl
       (λ t e. h (record m { ticks = t }) refl (omega (arith, e)))
 
   -- ---- variables
@@ -132,16 +132,16 @@ module _ (c : Context) (routines : List Routine) (f : ℕ) (r : Routine) (there 
       → Follows (with_table c routines) wide lo hi m (at_place f at regs callers m.output) (eval w true a store m >>= tail) (Comes f to callers R)
   first_part a sa lo2 hi lo enough o k vs s d at store regs callers m b low known behind stands live proper whole few tail to R h =
       follows_then mach wide (size a) 0 lo2 hi lo hi m (at_place f at regs callers m.output) (eval w true a store m) tail f (at + length (code c a s d)) callers (Gained vs n d s store regs) (Comes f to callers R) enough (omega arith)
-      (leaves_follows mach wide (size a) 1 m (at_place f at regs callers m.output) (eval w true a store m) (Comes f (at + length (code c a s d)) callers (Gained vs n d s store regs)) (sa o k vs s d at store regs callers m b low known behind stands live proper whole few))
+      (leaves_follows mach wide (size a) 2 m (at_place f at regs callers m.output) (eval w true a store m) (Comes f (at + length (code c a s d)) callers (Gained vs n d s store regs)) (sa o k vs s d at store regs callers m b low known behind stands live proper whole few))
       (λ v j last le g. h v j last le g.0 g.1)
 
   -- ---- one operand
 
-  pub one_part : (a : Expr ℕ) → IsBrief a → (ys : List Step) (tail : Datum → Run Datum) (lo hi total : ℕ) → suc (size a + lo) ≤ total → hi ≤ 15 → ((v : Datum) (j : Meter) → IsProper v → Gives IsProper (tail v j))
+  pub one_part : (a : Expr ℕ) → IsBrief a → (ys : List Step) (tail : Datum → Run Datum) (lo hi total : ℕ) → suc (size a + lo) ≤ total → hi ≤ 14 → ((v : Datum) (j : Meter) → IsProper v → Gives IsProper (tail v j))
       → (o : Offers) (k : ℕ) (vs : Scope) (s : Variables) (d at : ℕ) (store regs : Store) (callers : List Caller) (m : Meter)
       → ((v : Datum) (j : Meter) (p : ℕ) (last : Store) → IsProper v → Got vs n d s store regs v last → StandAt r.body p ys → Follows (with_table c routines) wide lo hi j (at_place f p last callers j.output) (tail v j) (Comes f (p + length ys) callers (Got vs n d s store regs)))
       → BoundExpr o k vs a → k ≤ n → AreKnown n vs s → n ≤ d → StandAt r.body at (code c a s d ++ ys) → Live vs (before a s) store regs → StoreProper store → length regs ≡ r.registers → m.ticks ≤ most
-      → Leaves (with_table c routines) wide total 1 m (at_place f at regs callers m.output) (spend true (λ j. eval w true a store j >>= tail) m) (Comes f (at + length (code c a s d ++ ys)) callers (Gained vs n d s store regs))
+      → Leaves (with_table c routines) wide total 2 m (at_place f at regs callers m.output) (spend true (λ j. eval w true a store j >>= tail) m) (Comes f (at + length (code c a s d ++ ys)) callers (Gained vs n d s store regs))
   one_part a sa ys tail lo hi total enough much gives o k vs s d at store regs callers m finish b low known behind stands live proper whole few =
       let xs = code c a s d in
       let l1 : length (xs ++ ys) ≡ length xs + length ys = length-append xs ys in
@@ -158,7 +158,7 @@ module _ (c : Context) (routines : List Routine) (f : ℕ) (r : Routine) (there 
   pub two_parts : (a b : Expr ℕ) → IsBrief a → IsBrief b → (ys : List Step) (tail : Datum → Datum → Run Datum) (lo hi : ℕ) → ((v u : Datum) (j : Meter) → IsProper v → IsProper u → Gives IsProper (tail v u j))
       → (o : Offers) (k : ℕ) (vs : Scope) (t s : Variables) (d at : ℕ) (store regs : Store) (callers : List Caller) (m : Meter)
       → ((v u : Datum) (j : Meter) (p : ℕ) (middle last : Store) → j.ticks ≤ m.ticks → IsProper v → IsProper u → Got vs n d (before b t) store regs v middle → Got vs n (suc d) t store middle u last → StandAt r.body p ys
-          → Follows (with_table c routines) wide lo hi j (at_place f p last callers j.output) (tail v u j) (Comes f (p + length ys) callers (Got vs n d s store regs)))
+      → Follows (with_table c routines) wide lo hi j (at_place f p last callers j.output) (tail v u j) (Comes f (p + length ys) callers (Got vs n d s store regs)))
       → BoundExpr o k vs a → BoundExpr o k vs b → k ≤ n → AreKnown n vs t → n ≤ d → StandAt r.body at (code c a (before b t) d ++ (code c b t (suc d) ++ ys)) → Live vs (before a (before b t)) store regs → StoreProper store → length regs ≡ r.registers → m.ticks ≤ most
       → Follows (with_table c routines) wide (size a + size b + lo) hi m (at_place f at regs callers m.output) (eval w true a store m >>= (λ v j. eval w true b store j >>= tail v)) (Comes f (at + length (code c a (before b t) d ++ (code c b t (suc d) ++ ys))) callers (Gained vs n d s store regs))
   two_parts a b sa sb ys tail lo hi gives o k vs t s d at store regs callers m finish ba bb low known behind stands live proper whole few =
@@ -178,7 +178,7 @@ module _ (c : Context) (routines : List Routine) (f : ℕ) (r : Routine) (there 
   -- an operator that evaluates both
   pub strict : (q : Op) → IsStrict q → (place : ℕ) (a b : Expr ℕ) → IsBrief a → IsBrief b → (o : Offers) (k : ℕ) (vs : Scope) (s : Variables) (d at : ℕ) (store regs : Store) (callers : List Caller) (m : Meter)
       → BoundExpr o k vs a × BoundExpr o k vs b → k ≤ n → AreKnown n vs s → n ≤ d → StandAt r.body at (code c a (before b s) d ++ (code c b s (suc d) ++ operator q d (is_plain b))) → Live vs (before a (before b s)) store regs → StoreProper store → length regs ≡ r.registers → m.ticks ≤ most
-      → Leaves (with_table c routines) wide (size a + size b + 1) 1 m (at_place f at regs callers m.output) (spend true (λ j. eval w true a store j >>= (λ v i. second q place (eval w true b store) v i)) m)
+      → Leaves (with_table c routines) wide (size a + size b + 1) 2 m (at_place f at regs callers m.output) (spend true (λ j. eval w true a store j >>= (λ v i. second q place (eval w true b store) v i)) m)
       (Comes f (at + length (code c a (before b s) d ++ (code c b s (suc d) ++ operator q d (is_plain b)))) callers (Gained vs n d s store regs))
   strict q is place a b sa sb o k vs s d at store regs callers m bs low known behind stands live proper whole few =
       paid (size a + size b + 0) 2 (size a + size b + 1) at regs callers m (λ j. eval w true a store j >>= (λ v i. second q place (eval w true b store) v i)) (at + length (code c a (before b s) d ++ (code c b s (suc d) ++ operator q d (is_plain b)))) (Gained vs n d s store regs) (omega arith) (omega arith)
@@ -271,7 +271,7 @@ module _ (c : Context) (routines : List Routine) (f : ℕ) (r : Routine) (there 
 
   pub early : (q : Op) → IsEarly q → (place : ℕ) (a b : Expr ℕ) → IsBrief a → IsBrief b → (o : Offers) (k : ℕ) (vs : Scope) (s : Variables) (d at : ℕ) (store regs : Store) (callers : List Caller) (m : Meter)
       → BoundExpr o k vs a × BoundExpr o k vs b → k ≤ n → AreKnown n vs s → n ≤ d → StandAt r.body at (code c a (before b s) d ++ operate q d (code c b s (right_register q d)) (released (before b s) s) (is_plain b)) → Live vs (before a (before b s)) store regs → StoreProper store → length regs ≡ r.registers → m.ticks ≤ most
-      → Leaves (with_table c routines) wide (size a + size b + 1) 1 m (at_place f at regs callers m.output) (spend true (λ j. eval w true a store j >>= operated q place (eval w true b store)) m)
+      → Leaves (with_table c routines) wide (size a + size b + 1) 2 m (at_place f at regs callers m.output) (spend true (λ j. eval w true a store j >>= operated q place (eval w true b store)) m)
       (Comes f (at + length (code c a (before b s) d ++ operate q d (code c b s (right_register q d)) (released (before b s) s) (is_plain b))) callers (Gained vs n d s store regs))
   early q is place a b sa sb o k vs s d at store regs callers m bs low known behind stands live proper whole few =
       let xs = code c a (before b s) d in

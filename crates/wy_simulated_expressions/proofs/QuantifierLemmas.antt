@@ -59,17 +59,17 @@ agrees_not false false e = never (sym e)
 
 module _ (mach : Code) (f : ℕ) (r : Routine) (there : IsRoutine mach f r) (wide : ℕ) (callers : List Caller) where
   -- the same place, said otherwise
-  from_place : {X : Type 0} (lo hi a b : ℕ) (regs : Store) (m : Meter) (o : Outcome X) (Q : X → Meter → State → Type 0) → a ≡ b → Follows mach wide lo hi m (at_place f a regs callers m.output) o Q → Follows mach wide lo hi m (at_place f b regs callers m.output) o Q
+  pub from_place : {X : Type 0} (lo hi a b : ℕ) (regs : Store) (m : Meter) (o : Outcome X) (Q : X → Meter → State → Type 0) → a ≡ b → Follows mach wide lo hi m (at_place f a regs callers m.output) o Q → Follows mach wide lo hi m (at_place f b regs callers m.output) o Q
   from_place lo hi a b regs m o Q e h = subst (λ (t : ℕ). Follows mach wide lo hi m (at_place f t regs callers m.output) o Q) e h
 
   -- an instruction that goes on behind, which stands for many ticks
-  wide_then : {X : Type 0} (lo hi at : ℕ) (i : Instr) (regs after_it : Store) (m : Meter) (o : Outcome X) (to : ℕ) (R : X → Store → Type 0) → lo ≤ wide → instr_at (Some r) at ≡ Some i → effect mach.shapes i regs ≡ goes_on after_it []
+  pub wide_then : {X : Type 0} (lo hi at : ℕ) (i : Instr) (regs after_it : Store) (m : Meter) (o : Outcome X) (to : ℕ) (R : X → Store → Type 0) → lo ≤ wide → instr_at (Some r) at ≡ Some i → effect mach.shapes i regs ≡ goes_on after_it []
       → Follows mach wide lo hi m (at_place f (at + 1) after_it callers m.output) o (Comes f to callers R) → Follows mach wide 0 (hi + 1) m (at_place f at regs callers m.output) o (Comes f to callers R)
   wide_then lo hi at i regs after_it m o to R le stands does h =
       follows_step mach wide 0 (hi + 1) lo hi m (at_place f at regs callers m.output) (at_place f (at + 1) after_it callers m.output) o (Comes f to callers R) (quiet_step mach f r there at i regs after_it callers m.output stands does) (omega (arith, le)) (omega arith) h
 
   -- an instruction that goes elsewhere
-  far_then : {X : Type 0} (lo hi at to : ℕ) (i : Instr) (regs : Store) (m : Meter) (o : Outcome X) (Q : X → Meter → State → Type 0) → instr_at (Some r) at ≡ Some i → effect mach.shapes i regs ≡ GoesTo to
+  pub far_then : {X : Type 0} (lo hi at to : ℕ) (i : Instr) (regs : Store) (m : Meter) (o : Outcome X) (Q : X → Meter → State → Type 0) → instr_at (Some r) at ≡ Some i → effect mach.shapes i regs ≡ GoesTo to
       → Follows mach wide lo hi m (at_place f to regs callers m.output) o Q → Follows mach wide lo (hi + 1) m (at_place f at regs callers m.output) o Q
   far_then lo hi at to i regs m o Q stands does h =
       follows_step mach wide lo (hi + 1) lo hi m (at_place f at regs callers m.output) (at_place f to regs callers m.output) o Q (far_step mach f r there at to i regs callers m.output stands does) (omega arith) (omega arith) h
@@ -84,7 +84,7 @@ module _ (mach : Code) (f : ℕ) (r : Routine) (there : IsRoutine mach f r) (wid
   -- where a turn ends it: the answer of the body, or its contrary, stands in register a
   flip_then : {X : Type 0} (q : Bool) (lo hi t a : ℕ) (rest : List Step) (regs : Store) (b : Bool) (m : Meter) (o : Outcome X) (to : ℕ) (R : X → Store → Type 0) → length regs ≡ r.registers → StandAt r.body t (ends_it q a ++ rest) → slot regs a ≡ Some (Truth b)
       → ((t2 : ℕ) (regs2 : Store) → t2 + length rest ≡ t + length (ends_it q a ++ rest) → StandAt r.body t2 rest → slot regs2 a ≡ Some (Truth (agrees q b)) → ((z : ℕ) → z ≢ a → slot regs2 z ≡ slot regs z) → length regs2 ≡ length regs
-          → Follows mach wide lo hi m (at_place f t2 regs2 callers m.output) o (Comes f to callers R))
+      → Follows mach wide lo hi m (at_place f t2 regs2 callers m.output) o (Comes f to callers R))
       → Follows mach wide lo (hi + 1) m (at_place f t regs callers m.output) o (Comes f to callers R)
   flip_then true lo hi t a rest regs b m o to R whole stands e h =
       follows_more mach wide lo hi lo (hi + 1) m (at_place f t regs callers m.output) o (Comes f to callers R) (omega arith) (omega arith) (h t regs refl stands e (λ z other. refl) refl)
@@ -344,11 +344,11 @@ module _ (c : Context) (routines : List Routine) (f : ℕ) (r : Routine) (there 
         let rest : List Step = GoesOnUnless a (length gone + 5) ∷ Does (instr.Const a (scalar.Int (pos 1))) ∷ Does (instr.Arith d arithmetic.Add d a) ∷ [] in
         flip_then mach f r there wide callers q 0 9 (inner + length work) a rest last b m o (p + length steps) answers (g.size ∙ whole) ending_stands held
         (λ t2 regs2 here stood held2 same size2.
-          let is : t2 + 3 ≡ inner + length (work ++ ending) = let e : t2 + 3 ≡ inner + length work + length ending = here in let l = long_body in omega (arith, e, l) in
-          let g2 = turning_same last regs2 i same size2 g in
-          follows_choose mach wide 0 9 m (at_place f t2 regs2 callers m.output) (agrees q b) (goes j (i +ℤ pos 1)) (Done (Truth b)) (Comes f (p + length steps) callers answers)
-          (λ yes. turn_on j i less ok next t2 regs2 m few is stood (held2 ∙ ap (λ (t : Bool). Some (Truth t)) yes) g2)
-          (λ no. turn_off i b no t2 regs2 m is stood.0 (held2 ∙ ap (λ (t : Bool). Some (Truth t)) no) g2))
+        let is : t2 + 3 ≡ inner + length (work ++ ending) = let e : t2 + 3 ≡ inner + length work + length ending = here in let l = long_body in omega (arith, e, l) in
+        let g2 = turning_same last regs2 i same size2 g in
+        follows_choose mach wide 0 9 m (at_place f t2 regs2 callers m.output) (agrees q b) (goes j (i +ℤ pos 1)) (Done (Truth b)) (Comes f (p + length steps) callers answers)
+        (λ yes. turn_on j i less ok next t2 regs2 m few is stood (held2 ∙ ap (λ (t : Bool). Some (Truth t)) yes) g2)
+        (λ no. turn_off i b no t2 regs2 m is stood.0 (held2 ∙ ap (λ (t : Bool). Some (Truth t)) no) g2))
 
     -- ---- all turns
 
@@ -394,7 +394,7 @@ module _ (c : Context) (routines : List Routine) (f : ℕ) (r : Routine) (there 
         (spend_then mach wide (size body) 2 m (at_place f inner regs2 callers m.output) (eval w true body store2) (judged j i) Q refl
         (λ t e2. first_part c routines f r there w n wide most body sb 0 18 (size body) (omega arith) o k (x ∷ vs) T a inner store2 regs2 callers (record m { ticks = t }) bb low (known_turn n vs x T x_below known_T) (omega (arith, behind)) work_stands (body_live regs1 i g1) (store_proper store x (Whole i) ok proper) size2 (omega (arith, e2, few)) (judged j i) (p + length steps) answers
         (λ v l last le pv got.
-          let few2 : l.ticks ≤ most = omega (arith, le, e2, few) in
-          follows_truth mach wide 0 18 l (at_place f (inner + length work) last callers l.output) place v (λ b. choose (agrees q b) (goes j (i +ℤ pos 1)) (Done (Truth b))) Q
-          (λ b e3. follows_more mach wide 0 10 0 18 l (at_place f (inner + length work) last callers l.output) (choose (agrees q b) (goes j (i +ℤ pos 1)) (Done (Truth b)) l) Q (omega arith) (omega arith)
-          (turn_over j i less ok (λ regs3 m3 few3 g3. turns_follow j (i +ℤ pos 1) left (next_int i to less ok to_int) regs3 m3 few3 g3) b l few2 last (turning_behind regs1 last i v g1 got) (got.value ∙ ap (λ (u : Datum). Some u) e3))))))))
+        let few2 : l.ticks ≤ most = omega (arith, le, e2, few) in
+        follows_truth mach wide 0 18 l (at_place f (inner + length work) last callers l.output) place v (λ b. choose (agrees q b) (goes j (i +ℤ pos 1)) (Done (Truth b))) Q
+        (λ b e3. follows_more mach wide 0 10 0 18 l (at_place f (inner + length work) last callers l.output) (choose (agrees q b) (goes j (i +ℤ pos 1)) (Done (Truth b)) l) Q (omega arith) (omega arith)
+        (turn_over j i less ok (λ regs3 m3 few3 g3. turns_follow j (i +ℤ pos 1) left (next_int i to less ok to_int) regs3 m3 few3 g3) b l few2 last (turning_behind regs1 last i v g1 got) (got.value ∙ ap (λ (u : Datum). Some u) e3))))))))

@@ -2,6 +2,7 @@
 use Rattle.std.specs.Prelude.{◌≡◌, ◌≢◌, ◌<◌, ◌≤◌, ℕ, ◌+◌, List, length, Bool, true, Some, Option}
 use Rattle.wy_value.specs.Datum.{Datum, Truth}
 use Rattle.wy_core.specs.Types.{Ty}
+use Rattle.wy_formed.specs.Bound.{BoundTy}
 use Rattle.wy_formed.specs.Recursion.{NamesIn}
 use Rattle.wy_formed.specs.Sizes.{size_ty}
 use Rattle.wy_code.specs.declared.routines.Routine.{Routine}
@@ -47,7 +48,7 @@ pub record Told (q g : ℕ) (before : Store) (b : Bool) (regs : Store) : Type 0 
 -- wherever the code of a test of a type stands that names such types alone, with the datum in register v, the run follows the test
 abbrev pub TestsFollow : Context → List Routine → (Ty → Datum → Test) → (wide : ℕ) → (ℕ → Type 0) → Type 0
 TestsFollow c routines tested wide P = (f : ℕ) (r : Routine) → IsRoutine (with_table c routines) f r → (t : Ty) (v q g at : ℕ) (d : Datum) (regs : Store) (callers : List Caller) (m : Meter)
-    → NumberedTy c.table t → ((n : ℕ) → NamesIn true t n → P n) → size_ty t ≤ wide → IsProper d → slot regs v ≡ Some d → v < g → q < g → v ≢ q → length regs ≡ r.registers → StandAt r.body at (test c t v q g)
+    → (types : ℕ) → BoundTy types t → NumberedTy c.table t → ((n : ℕ) → NamesIn true t n → P n) → size_ty t ≤ wide → IsProper d → slot regs v ≡ Some d → v < g → q < g → v ≢ q → length regs ≡ r.registers → StandAt r.body at (test c t v q g)
     → Follows (with_table c routines) wide (size_ty t) 0 m (at_place f at regs callers m.output) (tested t d m) (Comes f (at + length (test c t v q g)) callers (Told q g regs))
 
 -- ---- both
