@@ -106,26 +106,27 @@ few_items (MoreExprs e es) = let a = some_node e in let b = few_items es in omeg
 number_int : (v : Datum) (z : ℤ) → v ≡ Whole z → IsProper v → is_int z ≡ true
 number_int v z e p = subst (λ (a : Datum). IsProper a) e p
 
+-- what follows a turn says a truth value
+judged_gives : (q : Bool) (place : ℕ) (next : Run Datum) → ((k : Meter) → Gives IsProper (next k)) → (v : Datum) (k : Meter) → Gives IsProper (as_truth place v (λ b. choose (agrees q b) next (Done (Truth b))) k)
+judged_gives q place next ok (Truth b) k = on (agrees q b)
+  where
+    on : (g : Bool) → Gives IsProper (choose g next (Done (Truth b)) k)
+    on true = ok k
+    on false = tt
+judged_gives q place next ok Null k = tt
+judged_gives q place next ok (Whole z) k = tt
+judged_gives q place next ok (Array ds) k = tt
+judged_gives q place next ok (Record fs) k = tt
+
+turn_gives : (q : Bool) (place : ℕ) (next : Run Datum) → ((k : Meter) → Gives IsProper (next k)) → (o : Outcome Datum) → Gives IsProper (o >>= (λ v. as_truth place v (λ b. choose (agrees q b) next (Done (Truth b)))))
+turn_gives q place next ok (Done v k) = judged_gives q place next ok v k
+turn_gives q place next ok (Fault kind at k) = tt
+turn_gives q place next ok (More k) = tt
+turn_gives q place next ok Spent = tt
+
 each_gives : (q : Bool) (place : ℕ) (body : ℤ → Run Datum) (i : ℤ) (j : ℕ) (m : Meter) → Gives IsProper (each q place body i j m)
 each_gives q place body i zero m = tt
-each_gives q place body i (suc j) m = by (body i m)
-  where
-    on : (g b : Bool) (k : Meter) → Gives IsProper (choose g (each q place body (i +ℤ pos 1) j) (Done (Truth b)) k)
-    on true b k = each_gives q place body (i +ℤ pos 1) j k
-    on false b k = tt
-
-    of : (v : Datum) (k : Meter) → Gives IsProper (as_truth place v (λ b. choose (agrees q b) (each q place body (i +ℤ pos 1) j) (Done (Truth b))) k)
-    of (Truth b) k = on (agrees q b) b k
-    of Null k = tt
-    of (Whole z) k = tt
-    of (Array ds) k = tt
-    of (Record fs) k = tt
-
-    by : (o : Outcome Datum) → Gives IsProper (o >>= (λ v. as_truth place v (λ b. choose (agrees q b) (each q place body (i +ℤ pos 1) j) (Done (Truth b)))))
-    by (Done v k) = of v k
-    by (Fault kind at k) = tt
-    by (More k) = tt
-    by Spent = tt
+each_gives q place body i (suc j) m = turn_gives q place (each q place body (i +ℤ pos 1) j) (λ k. each_gives q place body (i +ℤ pos 1) j k) (body i m)
 
 quantified_gives : (q : Bool) (place : ℕ) (body : ℤ → Run Datum) (v u : Datum) (m : Meter) → Gives IsProper (quantified q place body v u m)
 quantified_gives q place body (Whole x) (Whole y) m = each_gives q place body x (span x y) m

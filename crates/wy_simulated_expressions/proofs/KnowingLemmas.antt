@@ -125,7 +125,7 @@ data_proper (v ∷ vs) h = (h.0, data_proper vs h.1)
 
 pub data_many : (vs : List Datum) → length_of (data_of vs) ≡ length vs
 data_many [] = refl
-data_many (v ∷ vs) = let h = data_many vs in ap suc h
+data_many (v ∷ vs) = let h = data_many vs in omega (arith, h)
 
 -- ---- the numbers of a quantifier
 

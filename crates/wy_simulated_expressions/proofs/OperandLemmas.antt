@@ -228,11 +228,11 @@ module _ (c : Context) (routines : List Routine) (f : ℕ) (r : Routine) (there 
     -- or it is left out
     left_out : (v : Datum) (t g : Bool) (i : Meter) (middle : Store) → v ≡ Truth t → t ≡ g → Got vs n d (before b s) store regs v middle → (p : ℕ) → StandAt r.body p (released (before b s) s)
         → Follows mach wide 0 1 i (at_place f p middle callers i.output) (Done (Truth g) i) (Comes f (p + length (released (before b s) s)) callers (Gained vs n d s store regs))
-    left_out v t g i middle e no one p stood =
-        skipped vs d (before b s) s store regs middle g callers i (is_below n vs (before b s) (known_before o k n low vs b s bb known)) fewer behind (subst (λ (x : Datum). Got vs n d (before b s) store regs x middle) (e ∙ ap (λ (x : Bool). Truth x) no) one) p stood
+    left_out v t g i middle e same one p stood =
+        skipped vs d (before b s) s store regs middle g callers i (is_below n vs (before b s) (known_before o k n low vs b s bb known)) fewer behind (subst (λ (x : Datum). Got vs n d (before b s) store regs x middle) (e ∙ ap (λ (x : Bool). Truth x) same) one) p stood
 
     held : (v : Datum) (t g : Bool) (middle : Store) → v ≡ Truth t → t ≡ g → Got vs n d (before b s) store regs v middle → slot middle d ≡ Some (Truth g)
-    held v t g middle e no one = one.value ∙ ap (λ (x : Datum). Some x) (e ∙ ap (λ (x : Bool). Truth x) no)
+    held v t g middle e same one = one.value ∙ ap (λ (x : Datum). Some x) (e ∙ ap (λ (x : Bool). Truth x) same)
 
     pub early_goes : (q : Op) → IsEarly q → (v : Datum) (i : Meter) (middle : Store) → i.ticks ≤ most → Got vs n d (before b s) store regs v middle → (p : ℕ) → StandAt r.body p (operate q d (code c b s (right_register q d)) (released (before b s) s) (is_plain b))
         → Follows mach wide (size b) 3 i (at_place f p middle callers i.output) (operated q place (eval w true b store) v i) (Comes f (p + length (operate q d (code c b s (right_register q d)) (released (before b s) s) (is_plain b))) callers (Gained vs n d s store regs))

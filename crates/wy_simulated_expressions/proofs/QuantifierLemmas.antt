@@ -328,13 +328,13 @@ module _ (c : Context) (routines : List Routine) (f : ℕ) (r : Routine) (there 
     turn_off : (i : ℤ) (b : Bool) → agrees q b ≡ false → (t2 : ℕ) (regs2 : Store) (m : Meter) → t2 + 3 ≡ inner + length (work ++ ending)
         → instr_at (Some r) t2 ≡ Some (instr.Branch (suc (suc d)) (suc t2 + (length gone + 5))) → slot regs2 (suc (suc d)) ≡ Some (Truth false) → Turning regs2 i
         → Follows mach wide 0 9 m (at_place f t2 regs2 callers m.output) (Done (Truth b) m) (Comes f (p + length steps) callers answers)
-    turn_off i b no t2 regs2 m is stood held g =
+    turn_off i b differs t2 regs2 m is stood held g =
         let a = suc (suc d) in
         let e = suc t2 + (length gone + 5) in
         let Q = Comes f (p + length steps) callers answers in
         follows_more mach wide 0 3 0 9 m (at_place f t2 regs2 callers m.output) (Done (Truth b) m) Q (omega arith) (omega arith)
         (far_then mach f r there wide callers 0 2 t2 e (instr.Branch a e) regs2 m (Done (Truth b) m) Q stood (branch_off mach.shapes regs2 a e held)
-        (subst (λ (t : Bool). Follows mach wide 0 2 m (at_place f e regs2 callers m.output) (Done (Truth t) m) Q) (sym (agrees_not q b no)) (at_second e regs2 i m (omega (arith, is)) g)))
+        (subst (λ (t : Bool). Follows mach wide 0 2 m (at_place f e regs2 callers m.output) (Done (Truth t) m) Q) (sym (agrees_not q b differs)) (at_second e regs2 i m (omega (arith, is)) g)))
 
     turn_over : (j : ℕ) (i : ℤ) → int_lt i to ≡ true → is_int i ≡ true → GoesRound j (i +ℤ pos 1) → (b : Bool) (m : Meter) → m.ticks ≤ most → (last : Store) → Turning last i → slot last (suc (suc d)) ≡ Some (Truth b)
         → Follows mach wide 0 10 m (at_place f (inner + length work) last callers m.output) (choose (agrees q b) (goes j (i +ℤ pos 1)) (Done (Truth b)) m) (Comes f (p + length steps) callers answers)

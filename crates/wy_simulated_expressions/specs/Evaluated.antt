@@ -1,5 +1,5 @@
 -- The code of an expression does what the expression does, where the code of calls and of tests of types does what these do.
-use Rattle.std.specs.Prelude.{◌≡◌, ◌<◌, ◌≤◌, ℕ, ◌+◌, List, length}
+use Rattle.std.specs.Prelude.{◌≡◌, ◌<◌, ◌≤◌, ℕ, ◌+◌, List, length, true}
 use Rattle.wy_value.specs.Datum.{Datum}
 use Rattle.wy_core.specs.CoreTree.{Expr, Exprs}
 use Rattle.wy_formed.specs.Offers.{Offers}

@@ -52,7 +52,7 @@ rest_whole all = record { long = omega arith; same = λ j. refl }
 
 rest_next : (all rest : Data) (d : Datum) (i : ℕ) → IsRest all (item d rest) i → IsRest all rest (i + 1)
 rest_next all rest d i h = record {
-  long = let l : length_of all ≡ i + suc (length_of rest) = h.long in omega (arith, l);
+  long = let l : length_of all ≡ i + (length_of rest + 1) = h.long in omega (arith, l);
   same = λ j. ap (λ (k : ℕ). item_at all k) (let e : i + 1 + j ≡ i + suc j = omega arith in e) ∙ h.same (suc j);
 }
 
@@ -259,20 +259,20 @@ module _ (c : Context) (routines : List Routine) (wide : ℕ) (t : Ty) (small : 
           let regs2 = put regs1 q (Some (Truth true)) in
           let long : length regs ≡ r.registers = turning.size ∙ whole in
           let q_room : q < r.registers = let l = room_far in omega (arith, l, qa) in
-          let no : int_lt (pos i) (pos (length_of all)) ≡ false = not_less i (length_of all) (let l = left.long in omega (arith, l)) in
-          let said : slot regs1 q ≡ Some (Truth false) = put_here regs q (Some (Truth (int_lt (pos i) (pos (length_of all))))) (omega (arith, q_room, long)) ∙ ap (λ (z : Bool). Some (Truth z)) no in
+          let none : int_lt (pos i) (pos (length_of all)) ≡ false = not_less i (length_of all) (let l = left.long in omega (arith, l)) in
+          let said : slot regs1 q ≡ Some (Truth false) = put_here regs q (Some (Truth (int_lt (pos i) (pos (length_of all))))) (omega (arith, q_room, long)) ∙ ap (λ (z : Bool). Some (Truth z)) none in
           let t1 : Turning regs1 i = turning_answer regs i (Some (Truth (int_lt (pos i) (pos (length_of all))))) turning in
           let t2 : Turning regs2 i = turning_answer regs1 i (Some (Truth true)) t1 in
-          let yes : slot regs2 q ≡ Some (Truth true) = put_here regs1 q (Some (Truth true)) (let l = t1.size in omega (arith, q_room, l, whole)) in
+          let tells : slot regs2 q ≡ Some (Truth true) = put_here regs1 q (Some (Truth true)) (let l = t1.size in omega (arith, q_room, l, whole)) in
           does_then mach f r there wide 0 2 p (instr.Compare q comparison.Less (suc g) g) regs regs1 callers m (Done true m) (p + length steps) R stands.0 (compare_does mach.shapes regs comparison.Less q (suc g) g (pos i) (pos (length_of all)) turning.index turning.many)
           (far_then mach f r there wide callers 0 1 (p + 1) far (instr.Branch q far) regs1 m (Done true m) Q stands.1.0 (branch_off mach.shapes regs1 q far said)
           (follows_at mach wide 0 1 m (at_place f far regs1 callers m.output) (Done true m) f (far + 1) (p + length steps) callers R (let l = long_turns in let k = long_all in omega (arith, l, k))
-          (does_last mach f r there wide far (instr.Const q (scalar.Bool true)) regs1 regs2 callers m true R (yes_at far (omega arith)) refl (turning_tells regs2 i true yes t2))))
+          (does_last mach f r there wide far (instr.Const q (scalar.Bool true)) regs1 regs2 callers m true R (yes_at far (omega arith)) refl (turning_tells regs2 i true tells t2))))
       items_follow (item d ds) i left oks regs m turning =
           let a = suc (suc g) in
           let far = suc (p + 1) + (suc (length inside) + 1) in
           let o = items_tested qs (item d ds) t m in
-          let less : i < length_of all = let l : length_of all ≡ i + suc (length_of ds) = left.long in omega (arith, l) in
+          let less : i < length_of all = let l : length_of all ≡ i + (length_of ds + 1) = left.long in omega (arith, l) in
           let regs1 = put regs q (Some (Truth (int_lt (pos i) (pos (length_of all))))) in
           let regs2 = put regs1 a (Some d) in
           let long : length regs ≡ r.registers = turning.size ∙ whole in

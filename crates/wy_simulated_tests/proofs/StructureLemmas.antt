@@ -120,19 +120,19 @@ module _ (c : Context) (routines : List Routine) (wide : ℕ) where
 
   pub unkind : (f : ℕ) (r : Routine) → IsRoutine (with_table c routines) f r → (v q g at : ℕ) (regs : Store) (callers : List Caller) (m : Meter) (k : Kind) (d : Datum) (parts : List Step) → slot regs v ≡ Some d → length regs ≡ r.registers → ((next : Bool → Effect) → kind_answer c.table k d next ≡ next false)
       → StandAt r.body at (Does (instr.Kind q v k) ∷ fork q parts []) → Follows (with_table c routines) wide 0 3 m (at_place f at regs callers m.output) (Done false m) (Comes f (at + suc (length (fork q parts []))) callers (Told q g regs))
-  unkind f r there v q g at regs callers m k d parts held whole no stands =
+  unkind f r there v q g at regs callers m k d parts held whole isnt stands =
       let regs2 = put regs q (Some (Truth false)) in
       let told = told_put q g regs false (let l = room_at mach f r there at q (instr.Kind q v k) (v ∷ []) stands.0 refl in omega (arith, l, whole)) in
       follows_at mach wide 0 3 m (at_place f at regs callers m.output) (Done false m) f (at + 1 + length (fork q parts [])) (at + suc (length (fork q parts []))) callers (Told q g regs) (omega arith)
-      (does_then mach f r there wide 0 2 at (instr.Kind q v k) regs regs2 callers m (Done false m) (at + 1 + length (fork q parts [])) (Told q g regs) stands.0 (kind_does q v regs k d false held no)
+      (does_then mach f r there wide 0 2 at (instr.Kind q v k) regs regs2 callers m (Done false m) (at + 1 + length (fork q parts [])) (Told q g regs) stands.0 (kind_does q v regs k d false held isnt)
       (fork_off mach f r there wide 0 0 (at + 1) q parts [] regs2 callers m (Done false m) (Told q g regs) stands.1 told.value
       (λ p h. follows_at mach wide 0 0 m (at_place f p regs2 callers m.output) (Done false m) f p (p + 0) callers (Told q g regs) (omega arith) (stays_last mach f r there wide p regs2 callers m false (Told q g regs) told))))
 
   -- and where it is of it, the first step is made
   pub kind_then : (f : ℕ) (r : Routine) → IsRoutine (with_table c routines) f r → (lo hi v q at : ℕ) (regs : Store) (callers : List Caller) (m : Meter) (k : Kind) (d : Datum) (o : Outcome Bool) (to : ℕ) (R : Bool → Store → Type 0) → slot regs v ≡ Some d → ((next : Bool → Effect) → kind_answer c.table k d next ≡ next true)
       → instr_at (Some r) at ≡ Some (instr.Kind q v k) → Follows (with_table c routines) wide lo hi m (at_place f (at + 1) (put regs q (Some (Truth true))) callers m.output) o (Comes f to callers R) → Follows (with_table c routines) wide lo (hi + 1) m (at_place f at regs callers m.output) o (Comes f to callers R)
-  kind_then f r there lo hi v q at regs callers m k d o to R held yes stands h =
-      does_then mach f r there wide lo hi at (instr.Kind q v k) regs (put regs q (Some (Truth true))) callers m o to R stands (kind_does q v regs k d true held yes) h
+  kind_then f r there lo hi v q at regs callers m k d o to R held is stands h =
+      does_then mach f r there wide lo hi at (instr.Kind q v k) regs (put regs q (Some (Truth true))) callers m o to R stands (kind_does q v regs k d true held is) h
 
   -- ---- unions, intersections and complements
 
@@ -165,11 +165,11 @@ module _ (c : Context) (routines : List Routine) (wide : ℕ) where
       (leaves_follows mach wide (size_ty s) 9 m (at_place f at regs callers m.output) (A m) (Comes f (at + length xs) callers R) (one f r there v q g at regs callers m held va qa other whole (stand_front r.body at xs zs stands)))
       (λ b k last le told. follows_choose mach wide (size_ty t) 7 k (at_place f (at + length xs) last callers k.output) b (answer true) B (Comes f to callers R)
       (λ yes. let so = told_as q g regs last b true yes told in
-        follows_more mach wide 0 2 (size_ty t) 7 k (at_place f (at + length xs) last callers k.output) (Done true k) (Comes f to callers R) (omega arith) (omega arith)
-        (fork_on mach f r there wide 0 0 (at + length xs) q [] ys last callers k (Done true k) R stood so.value (λ p h. ends_so f r there q g p regs last callers k true so)))
+      follows_more mach wide 0 2 (size_ty t) 7 k (at_place f (at + length xs) last callers k.output) (Done true k) (Comes f to callers R) (omega arith) (omega arith)
+      (fork_on mach f r there wide 0 0 (at + length xs) q [] ys last callers k (Done true k) R stood so.value (λ p h. ends_so f r there q g p regs last callers k true so)))
       (λ no. let so = told_as q g regs last b false no told in
-        follows_more mach wide (size_ty t) 2 (size_ty t) 7 k (at_place f (at + length xs) last callers k.output) (B k) (Comes f to callers R) (omega arith) (omega arith)
-        (fork_off mach f r there wide (size_ty t) 0 (at + length xs) q [] ys last callers k (B k) R stood so.value (λ p h. again B t d two f r there v q g p regs last callers k false held va qa other whole so h)))))
+      follows_more mach wide (size_ty t) 2 (size_ty t) 7 k (at_place f (at + length xs) last callers k.output) (B k) (Comes f to callers R) (omega arith) (omega arith)
+      (fork_off mach f r there wide (size_ty t) 0 (at + length xs) q [] ys last callers k (B k) R stood so.value (λ p h. again B t d two f r there v q g p regs last callers k false held va qa other whole so h)))))
 
   pub both_visited : (s t : Ty) (A B : Test) (d : Datum) → IsTested A s d → IsTested B t d → Visited (size_ty s + size_ty t) (test c (InterTy s t)) (both A B) d
   both_visited s t A B d one two f r there v q g at regs callers m held va qa other whole stands =
@@ -185,11 +185,11 @@ module _ (c : Context) (routines : List Routine) (wide : ℕ) where
       (leaves_follows mach wide (size_ty s) 9 m (at_place f at regs callers m.output) (A m) (Comes f (at + length xs) callers R) (one f r there v q g at regs callers m held va qa other whole (stand_front r.body at xs zs stands)))
       (λ b k last le told. follows_choose mach wide (size_ty t) 7 k (at_place f (at + length xs) last callers k.output) b B (answer false) (Comes f to callers R)
       (λ yes. let so = told_as q g regs last b true yes told in
-        follows_more mach wide (size_ty t) 2 (size_ty t) 7 k (at_place f (at + length xs) last callers k.output) (B k) (Comes f to callers R) (omega arith) (omega arith)
-        (fork_on mach f r there wide (size_ty t) 0 (at + length xs) q ys [] last callers k (B k) R stood so.value (λ p h. again B t d two f r there v q g p regs last callers k true held va qa other whole so h)))
+      follows_more mach wide (size_ty t) 2 (size_ty t) 7 k (at_place f (at + length xs) last callers k.output) (B k) (Comes f to callers R) (omega arith) (omega arith)
+      (fork_on mach f r there wide (size_ty t) 0 (at + length xs) q ys [] last callers k (B k) R stood so.value (λ p h. again B t d two f r there v q g p regs last callers k true held va qa other whole so h)))
       (λ no. let so = told_as q g regs last b false no told in
-        follows_more mach wide 0 2 (size_ty t) 7 k (at_place f (at + length xs) last callers k.output) (Done false k) (Comes f to callers R) (omega arith) (omega arith)
-        (fork_off mach f r there wide 0 0 (at + length xs) q ys [] last callers k (Done false k) R stood so.value (λ p h. ends_so f r there q g p regs last callers k false so)))))
+      follows_more mach wide 0 2 (size_ty t) 7 k (at_place f (at + length xs) last callers k.output) (Done false k) (Comes f to callers R) (omega arith) (omega arith)
+      (fork_off mach f r there wide 0 0 (at + length xs) q ys [] last callers k (Done false k) R stood so.value (λ p h. ends_so f r there q g p regs last callers k false so)))))
 
   pub opposite_visited : (t : Ty) (A : Test) (d : Datum) → IsTested A t d → Visited (size_ty t) (test c (NotTy t)) (opposite A) d
   opposite_visited t A d one f r there v q g at regs callers m held va qa other whole stands =
