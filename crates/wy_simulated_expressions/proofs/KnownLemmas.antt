@@ -70,7 +70,7 @@ without_here s x = by (has s x) refl
     by true e = bit_here s x false
     by false e = e
 
-without_other : (s : Variables) (x y : ℕ) → y ≢ x → has (without s x) y ≡ has s y
+pub without_other : (s : Variables) (x y : ℕ) → y ≢ x → has (without s x) y ≡ has s y
 without_other s x y other = by (has s x)
   where
     by : (b : Bool) → has (cond b (sets.put s x false) s) y ≡ has s y
@@ -88,7 +88,7 @@ same_or_not (suc x) (suc y) = by (same_or_not x y)
     by (inr other) = inr (λ e. other (omega (arith, e)))
 
 -- what is in the set without x is another variable, and in the set
-without_says : (s : Variables) (x y : ℕ) → has (without s x) y ≡ true → (y ≢ x) × (has s y ≡ true)
+pub without_says : (s : Variables) (x y : ℕ) → has (without s x) y ≡ true → (y ≢ x) × (has s y ≡ true)
 without_says s x y h = by (same_or_not y x)
   where
     by : (y ≡ x) ⊎ (y ≢ x) → (y ≢ x) × (has s y ≡ true)
@@ -140,20 +140,20 @@ module _ (x : ℕ) where
 
   -- ---- what is live before and not behind is used, and so is live before whatever is live behind
 
-  abbrev IsUsed : (Variables → Variables) → Type 0
+  abbrev pub IsUsed : (Variables → Variables) → Type 0
   IsUsed f = (u : Variables) → has (f u) x ≡ true
 
-  abbrev Keeps : (Variables → Variables) → Type 0
+  abbrev pub Keeps : (Variables → Variables) → Type 0
   Keeps f = (u : Variables) → has u x ≡ true → has (f u) x ≡ true
 
-  abbrev Cases : (Variables → Variables) → Variables → Type 0
+  abbrev pub Cases : (Variables → Variables) → Variables → Type 0
   Cases f s = (has s x ≡ true) ⊎ IsUsed f
 
-  second_cases : (f g : Variables → Variables) (s : Variables) → Keeps f → Cases g s → Cases (λ u. f (g u)) s
+  pub second_cases : (f g : Variables → Variables) (s : Variables) → Keeps f → Cases g s → Cases (λ u. f (g u)) s
   second_cases f g s keeps (inl h) = inl h
   second_cases f g s keeps (inr used) = inr (λ u. keeps (g u) (used u))
 
-  both_cases : (f g : Variables → Variables) (s : Variables) → Keeps f → Cases f (g s) → (has (g s) x ≡ true → Cases g s) → Cases (λ u. f (g u)) s
+  pub both_cases : (f g : Variables → Variables) (s : Variables) → Keeps f → Cases f (g s) → (has (g s) x ≡ true → Cases g s) → Cases (λ u. f (g u)) s
   both_cases f g s keeps (inl h) next = second_cases f g s keeps (next h)
   both_cases f g s keeps (inr used) next = inr (λ u. used (g u))
 
@@ -170,7 +170,7 @@ module _ (x : ℕ) where
   turn_cases y body s false e h next = let k = without_says (before body s) y x h in turn_used y body s k.0 (next k.1)
 
   mutual
-    before_cases : (e : Expr ℕ) (s : Variables) → has (before e s) x ≡ true → Cases (before e) s
+    pub before_cases : (e : Expr ℕ) (s : Variables) → has (before e s) x ≡ true → Cases (before e) s
     before_cases (NullExpr at) s h = inl h
     before_cases (BoolExpr at truth) s h = inl h
     before_cases (IntExpr at number) s h = inl h
@@ -194,11 +194,11 @@ module _ (x : ℕ) where
         both_cases (before a) (λ u. before b (turned y body u)) s (still_live a) (before_cases a (before b (turned y body s)) h)
         (λ g. both_cases (before b) (turned y body) s (still_live b) (before_cases b (turned y body s) g) (λ k. turn_cases y body s (has s y) refl k (before_cases body s)))
 
-    all_cases : (es : Exprs ℕ) (s : Variables) → has (before_all es s) x ≡ true → Cases (before_all es) s
+    pub all_cases : (es : Exprs ℕ) (s : Variables) → has (before_all es s) x ≡ true → Cases (before_all es) s
     all_cases NoExprs s h = inl h
     all_cases (MoreExprs e es) s h = both_cases (before e) (before_all es) s (still_live e) (before_cases e (before_all es s) h) (all_cases es s)
 
-    fields_cases : (fs : Fields ℕ) (s : Variables) → has (before_fields fs s) x ≡ true → Cases (before_fields fs) s
+    pub fields_cases : (fs : Fields ℕ) (s : Variables) → has (before_fields fs s) x ≡ true → Cases (before_fields fs) s
     fields_cases NoFields s h = inl h
     fields_cases (MoreFields name e fs) s h = both_cases (before e) (before_fields fs) s (still_live e) (before_cases e (before_fields fs s) h) (fields_cases fs s)
 

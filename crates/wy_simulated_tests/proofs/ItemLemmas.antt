@@ -48,7 +48,7 @@ pub record IsRest (all rest : Data) (i : ℕ) : Type 0 where
   pub same : (j : ℕ) → item_at all (i + j) ≡ item_at rest j
 
 pub rest_whole : (all : Data) → IsRest all all 0
-rest_whole all = record { long = omega arith; same = λ j. refl }
+rest_whole all = record { long = omega arith; same = λ j. ap (λ (k : ℕ). item_at all k) (let e : 0 + j ≡ j = omega arith in e) }
 
 rest_next : (all rest : Data) (d : Datum) (i : ℕ) → IsRest all (item d rest) i → IsRest all rest (i + 1)
 rest_next all rest d i h = record {
