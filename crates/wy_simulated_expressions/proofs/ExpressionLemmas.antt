@@ -1,15 +1,14 @@
 -- The code of an expression does what the expression does.
-use Rattle.std.proofs.Common.{◌≡◌, ◌<◌, ◌≤◌, inl, inr, ℕ, zero, suc, ◌+◌, List, [], ◌∷◌, ◌++◌, length, Bool, true, false, cond, Option, Some, None, ℤ, refl, sym, ◌∙◌, ap, subst, arith, length-append}
+use Rattle.std.proofs.Common.{◌≡◌, ◌<◌, ◌≤◌, inl, inr, ℕ, zero, suc, ◌+◌, List, [], ◌∷◌, ◌++◌, length, Bool, true, false, Option, Some, None, ℤ, refl, ◌∙◌, ap, subst, arith, length-append}
 use Rattle.std.specs.Prelude.{◌≢◌, pos, ◌+ℤ◌}
 use Rattle.wy_value.specs.Datum.{Datum, Null, Truth, Whole, Array, Record, Fields, no_fields, field}
 use Rattle.wy_value.specs.Numbers.{is_int}
 use Rattle.wy_core.specs.Types.{Ty}
 use Rattle.wy_core.specs.CoreTree as tree
 use Rattle.wy_core.specs.CoreTree.{Expr, NullExpr, BoolExpr, IntExpr, VarExpr, CallExpr, NegExpr, NotExpr, LenExpr, BinaryExpr, IsExpr, IndexExpr, FieldExpr, ListExpr, RepeatExpr, RecordExpr, QuantExpr, Exprs, NoExprs, MoreExprs, NoFields, MoreFields}
-use Rattle.wy_core.specs.declared.expressions.Op.{Op}
 use Rattle.wy_core.specs.declared.expressions.Op.TheVariants as op
 use Rattle.wy_formed.specs.Offers.{Offers}
-use Rattle.wy_formed.specs.Bound.{Scope, BoundTy, BoundExpr, BoundExprs, BoundFields}
+use Rattle.wy_formed.specs.Bound.{Scope, BoundTy, BoundFields}
 use Rattle.wy_formed.specs.Calls.{CallsExpr, CallsExprs, CallsFields}
 use Rattle.wy_formed.specs.Literals.{IntsExpr, IntsExprs, IntsFields}
 use Rattle.wy_formed.specs.Recursion.{NamesIn, Mentions, MentionsIn, MentionsInFields}
@@ -26,9 +25,9 @@ use Rattle.wy_pieces.specs.declared.steps.Step.{Step}
 use Rattle.wy_pieces.specs.declared.steps.Step.TheVariants.{Does}
 use Rattle.wy_pieces.specs.Steps.{registers_from, dropped}
 use Rattle.wy_compiled.specs.TypeTests.{test}
-use Rattle.wy_compiled.specs.Expressions.{code, codes, field_codes, released, is_plain, operator, operate, right_register, negated, call, is_test, quantify, count_of, field_count, record_of}
+use Rattle.wy_compiled.specs.Expressions.{code, codes, field_codes, released, negated, call, is_test, quantify, count_of, field_count}
 use Rattle.wy_numbered_tables.specs.Numbered.{NumberedTy, NumberedExpr, NumberedExprs, NumberedFields}
-use Rattle.wy_sem.specs.Meter.{Meter, Outcome, Done, Fault, More, Spent, Run, ◌>>=◌, spend, turn, choose}
+use Rattle.wy_sem.specs.Meter.{Meter, Outcome, Done, Fault, More, Spent, Run, ◌>>=◌, turn, choose}
 use Rattle.wy_sem.specs.Operations as operations
 use Rattle.wy_sem.specs.Operations.{longest, agrees, or_null, as_number, as_truth, needed, denied, length_result, item_of, field_of, repeated}
 use Rattle.wy_sem.specs.Expressions.{Store, slot, put, Setting, span, each, quantified, data_of, eval, eval_all, eval_fields}
@@ -36,20 +35,20 @@ use Rattle.wy_step.specs.Step as machine
 use Rattle.wy_step.specs.Step.{Caller, instr_at, shape_names, behind_field}
 use Rattle.wy_simulation.specs.Places.{StandAt, IsRoutine}
 use Rattle.wy_simulation.specs.Follows.{Follows, at_place, Comes}
-use Rattle.wy_simulation.specs.Registers.{Live, Got, Hold}
+use Rattle.wy_simulation.specs.Registers.{Live, Got}
 use Rattle.wy_simulation.proofs.PlaceLemmas.{stand_front, stand_back}
-use Rattle.wy_simulation.proofs.StoreLemmas.{put_here, put_other, put_size, live_put, live_fewer}
-use Rattle.wy_simulation.proofs.FollowLemmas.{follows_then, follows_more, follows_at, follows_number, follows_needed}
+use Rattle.wy_simulation.proofs.StoreLemmas.{put_other, put_size, live_put, live_fewer}
+use Rattle.wy_simulation.proofs.FollowLemmas.{follows_then, follows_at, follows_number, follows_needed}
 use Rattle.wy_simulation.proofs.SpareLemmas.{leaves_follows}
 use Rattle.wy_simulation.proofs.InstructionLemmas.{move_does, emptied, emptied_below, emptied_size, array_does, record_does}
-use Rattle.wy_simulation.proofs.PieceLemmas.{stays_last, does_then, does_last}
-use Rattle.wy_kept_values.specs.Kept.{IsProper, AllProper, FieldsProper, SlotProper, StoreProper, ListProper, Gives}
+use Rattle.wy_simulation.proofs.PieceLemmas.{stays_last, does_then}
+use Rattle.wy_kept_values.specs.Kept.{IsProper, FieldsProper, SlotProper, StoreProper, Gives}
 use Rattle.wy_simulated_expressions.specs.Standing.{with_table, AreKnown}
 use Rattle.wy_simulated_expressions.specs.Rests.{Called, Told, Rests}
 use Rattle.wy_simulated_expressions.specs.Evaluated.{Anything, IsDeclared, Fits, FitAll, Gained, GotAll, IsEvaluated, AreEvaluated, ExpressionsAreEvaluated}
-use Rattle.wy_simulated_expressions.proofs.KnownLemmas.{with_has, known_before, known_all, known_fields, known_turned, is_below, still_live}
+use Rattle.wy_simulated_expressions.proofs.KnownLemmas.{with_has, known_all, known_fields, known_turned, is_below, still_live}
 use Rattle.wy_simulated_expressions.proofs.KnowingLemmas.{slot_proper, literal_proper, negated_proper, denied_proper, length_proper, field_proper, item_proper, repeated_proper, data_proper, data_many}
-use Rattle.wy_simulated_expressions.proofs.PartLemmas.{fills, room_at, denied_follows, length_follows, field_follows, negated_follows, item_follows, repeated_follows}
+use Rattle.wy_simulated_expressions.proofs.PartLemmas.{fills, denied_follows, length_follows, field_follows, negated_follows, item_follows, repeated_follows}
 use Rattle.wy_simulated_expressions.proofs.OperandLemmas.{IsBrief, paid, variable, first_part, one_part, two_parts, strict, early}
 use Rattle.wy_simulated_expressions.proofs.QuantifierLemmas.{turns_follow}
 

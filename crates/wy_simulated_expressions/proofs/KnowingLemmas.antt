@@ -1,10 +1,10 @@
 -- Runs of whose answers something is known, and what is known of the answers of expressions and of their parts.
-use Rattle.std.proofs.Common.{◌≡◌, ◌<◌, ◌≤◌, ℕ, zero, suc, ◌+◌, List, [], ◌∷◌, length, Bool, true, false, Option, Some, None, ℤ, pos, refl, ◌∙◌, ap, subst, arith}
+use Rattle.std.proofs.Common.{◌≡◌, ◌≤◌, ℕ, zero, suc, List, [], ◌∷◌, length, Bool, true, false, Option, Some, None, ℤ, pos, refl, ◌∙◌, ap, subst, arith}
 use Rattle.std.specs.Prelude.{◌&&◌, ◌+ℤ◌, not, int_lt, int_le}
 use Rattle.std.specs.Int.{int_rem_euclid}
 use Rattle.std.proofs.lemmas.Int.{ints}
 use Rattle.wy_value.specs.declared.bounds.TheConstants.{INT_MIN, INT_MAX}
-use Rattle.wy_value.specs.Datum.{Datum, Null, Truth, Whole, Array, Record, Data, no_items, item}
+use Rattle.wy_value.specs.Datum.{Datum, Null, Truth, Whole, Array, Record}
 use Rattle.wy_value.specs.Values.{length_of}
 use Rattle.wy_value.specs.Numbers.{is_int}
 use Rattle.wy_core.specs.CoreTree.{Expr, IntExpr, VarExpr, NegExpr, NotExpr, LenExpr, BinaryExpr, IndexExpr, FieldExpr, RepeatExpr}
@@ -14,11 +14,11 @@ use Rattle.wy_formed.specs.Literals.{IsInt, IntsExpr}
 use Rattle.wy_formed.specs.Sizes.{size}
 use Rattle.wy_term.specs.declared.cond.CondKind.TheVariants as kind
 use Rattle.wy_code.specs.declared.routines.Code.{Code}
-use Rattle.wy_sem.specs.Meter.{Meter, Outcome, Done, Fault, More, Spent, Run, ◌>>=◌, check}
+use Rattle.wy_sem.specs.Meter.{Meter, Outcome, Done, Fault, More, Spent, check}
 use Rattle.wy_sem.specs.Operations.{longest, same_number, negated, denied, length_result, applied, item_of, field_of, repeated}
 use Rattle.wy_sem.specs.Expressions.{Store, slot, put, Setting, no_calls, span, data_of, eval}
 use Rattle.wy_step.specs.Step.{State, Caller}
-use Rattle.wy_simulation.specs.Follows.{Follows, at_place, Comes}
+use Rattle.wy_simulation.specs.Follows.{Follows, Comes}
 use Rattle.wy_kept_values.specs.Kept.{IsProper, AllProper, SlotProper, StoreProper, ListProper, Gives, CallsGive}
 use Rattle.wy_kept_values.proofs.KeptLemmas.{values_kept}
 

@@ -1,5 +1,5 @@
 -- Quantifiers: turns over numbers, of which each spends a tick and may be the last.
-use Rattle.std.proofs.Common.{◌≡◌, ◌<◌, ◌≤◌, ◌⊎◌, inl, inr, ℕ, zero, suc, ◌+◌, ◌-◌, List, [], ◌∷◌, ◌++◌, length, Bool, true, false, cond, Option, Some, None, ℤ, pos, refl, sym, ◌∙◌, ap, subst, arith, length-append}
+use Rattle.std.proofs.Common.{◌≡◌, ◌<◌, ◌≤◌, ◌⊎◌, inl, inr, ℕ, zero, suc, ◌+◌, ◌-◌, List, [], ◌∷◌, ◌++◌, length, Bool, true, false, Option, Some, ℤ, pos, refl, sym, ◌∙◌, ap, subst, arith, length-append}
 use Rattle.std.specs.Prelude.{◌≢◌, ◌+ℤ◌, not, int_lt}
 use Rattle.wy_value.specs.Datum.{Datum, Truth, Whole}
 use Rattle.wy_value.specs.Numbers.{is_int}
@@ -31,11 +31,10 @@ use Rattle.wy_simulation.specs.Registers.{Live, Got}
 use Rattle.wy_simulation.proofs.PlaceLemmas.{stand_front, stand_back, stand_moved}
 use Rattle.wy_simulation.proofs.StoreLemmas.{put_here, put_other, put_size, put_says, live_put}
 use Rattle.wy_simulation.proofs.FollowLemmas.{quiet_step, far_step, follows_step, follows_end, follows_spend, follows_more, follows_at, follows_truth, follows_choose}
-use Rattle.wy_simulation.proofs.InstructionLemmas.{const_does, share_does, arith_does, compare_does, not_does, branch_on, branch_off}
-use Rattle.wy_simulation.proofs.PieceLemmas.{does_then, does_last, clear_runs, jumps}
-use Rattle.wy_kept_values.specs.Kept.{IsProper, StoreProper}
+use Rattle.wy_simulation.proofs.InstructionLemmas.{share_does, arith_does, compare_does, not_does, branch_on, branch_off}
+use Rattle.wy_simulation.proofs.PieceLemmas.{does_then, does_last}
+use Rattle.wy_kept_values.specs.Kept.{StoreProper}
 use Rattle.wy_simulated_expressions.specs.Standing.{with_table, AreKnown}
-use Rattle.wy_simulated_expressions.specs.Evaluated.{Gained}
 use Rattle.wy_simulated_expressions.proofs.KnownLemmas.{turned_live, turned_again, known_turned, known_turn, never, same_or_not, got_put}
 use Rattle.wy_simulated_expressions.proofs.KnowingLemmas.{store_proper, span_more, span_none, next_int}
 use Rattle.wy_simulated_expressions.proofs.PartLemmas.{room_at}
