@@ -47,7 +47,7 @@ told_chain q g first middle last b c one two = record { value = two.value; kept 
 -- the same answer, of which more is known
 pub follows_comes : {X : Type 0} (code : Code) (wide lo hi : ℕ) (m : Meter) (f at : ℕ) (regs : Store) (to : ℕ) (callers : List Caller) (o : Outcome X) (R S : X → Store → Type 0) → ((x : X) (s : Store) → R x s → S x s)
     → Follows code wide lo hi m (at_place f at regs callers m.output) o (Comes f to callers R) → Follows code wide lo hi m (at_place f at regs callers m.output) o (Comes f to callers S)
-follows_comes code wide lo hi m f at regs to callers o R S g h = follows_map code wide lo hi m (at_place f at regs callers m.output) o (Comes f to callers R) (Comes f to callers S) (λ x k s c. record { regs = c.regs; is = c.is; ok = g x c.regs c.ok }) h
+follows_comes code wide lo hi m f at regs to callers o R S g h = follows_map code wide lo hi m (at_place f at regs callers m.output) o (Comes f to callers R) (Comes f to callers S) h (λ x k s c. record { regs = c.regs; is = c.is; ok = g x c.regs c.ok })
 
 same_null : (d : Datum) → machine.is_null d ≡ is_null d
 same_null Null = refl
