@@ -151,7 +151,7 @@ module _ (c : Context) (routines : List Routine) (wide : ℕ) (place : ℕ → �
       (stays_last (with_table c routines) F R here wide p regs callers m true (Inner 0 z R.registers d) inner)
 
   by_variable : (v : Option ℕ) → IsNewOption (length a.variables) [] v → NamesIts v a.clauses → BoundClauses o (length a.variables) (with_option [] v) a.clauses → Follow v a.clauses
-  by_variable None new its b = subst (λ (es : List (Expr ℕ)). Follow None es) (sym its) none_follow
+  by_variable None new its b p regs callers m inner stands = subst (λ (es : List (Expr ℕ)). Follow None es) (sym its) none_follow p regs callers m inner stands
   by_variable (Some x) new its b p regs callers m inner stands =
       let store = put (unset a.variables) x (Some d) in
       let long = unset_size a.variables in
