@@ -1,6 +1,6 @@
 -- The test of a type by its datum and by the names in it, where the clauses of each name are followed.
-use Rattle.std.proofs.Common.{◌≡◌, ◌<◌, ◌≤◌, ℕ, zero, suc, ◌+◌, List, Bool, true, false, inl, inr, length, Option, refl, ap, arith}
-use Rattle.std.specs.Prelude.{not, max, pos, [], ◌∷◌}
+use Rattle.std.proofs.Common.{◌≡◌, ◌<◌, ◌≤◌, ℕ, zero, suc, ◌+◌, List, true, false, inl, inr, length, Option, refl, ap, arith}
+use Rattle.std.specs.Prelude.{max, pos, [], ◌∷◌}
 use Rattle.wy_value.specs.Datum.{Datum, Null, Truth, Whole, Array, Record, Data, no_items, item, Fields, no_fields, field}
 use Rattle.wy_core.specs.Types.{Ty, NullTy, BoolTy, IntTy, AnyTy, VoidTy, RecordTy, ArrayTy, UnionTy, InterTy, NotTy, NamedTy, NormalTy, FieldTys, NoFieldTys, MoreFieldTys}
 use Rattle.wy_core.specs.CoreTree.{Alias}
@@ -18,7 +18,7 @@ use Rattle.wy_pieces.specs.declared.steps.Step.TheVariants.{Does}
 use Rattle.wy_pieces.specs.Steps.{fork}
 use Rattle.wy_compiled.specs.TypeTests.{test, fields_test, record_test, array_test, items_test, named_test}
 use Rattle.wy_compiled.specs.Programs.{type_routine, variable_of}
-use Rattle.wy_numbered_tables.specs.Numbered.{NumberedTy, NumberedFieldTys, IsShape}
+use Rattle.wy_numbered_tables.specs.Numbered.{NumberedTy, NumberedFieldTys}
 use Rattle.wy_kept_values.specs.Kept.{IsProper, AllProper, FieldsProper}
 use Rattle.wy_sem.specs.Meter.{Done, choose}
 use Rattle.wy_sem.specs.TypeTests.{Test, answer, both, either, opposite, Questions, asked, name_asked, asked_of, no_items_asked, no_parts_asked, is_null, is_truth, is_whole, few_enough, same_names, tested, items_tested, parts_tested}
@@ -33,7 +33,6 @@ use Rattle.wy_simulated_tests.proofs.StructureLemmas.{Visited, IsTested, visited
 use Rattle.wy_simulated_tests.proofs.ItemLemmas.{AllTested, array_visited}
 use Rattle.wy_simulated_tests.proofs.FieldLemmas.{FieldsTested, shape_kind, record_visited}
 use Rattle.wy_simulated_tests.proofs.NameLemmas.{ClausesFollow, named_called}
-use Rattle.wy_sem.specs.Operations.{longest}
 
 -- a test in code
 abbrev pub questions : Option ℕ → (ℕ → Ty) → ℕ → (ℕ → Datum → Test) → Questions

@@ -1,14 +1,14 @@
 -- The clauses of a type, one behind the other up to the first that is false.
-use Rattle.std.proofs.Common.{◌≡◌, ◌<◌, ◌≤◌, ◌⊎◌, inl, inr, ℕ, zero, suc, ◌+◌, List, [], ◌∷◌, ◌++◌, length, Bool, true, false, Option, Some, None, refl, sym, ◌∙◌, ap, subst, arith, length-append}
+use Rattle.std.proofs.Common.{◌≡◌, ◌<◌, ◌≤◌, ◌⊎◌, inl, inr, ℕ, zero, suc, ◌+◌, List, [], ◌∷◌, ◌++◌, length, Bool, true, false, Option, Some, refl, sym, ◌∙◌, ap, subst, arith, length-append}
 use Rattle.wy_value.specs.Datum.{Datum, Truth}
 use Rattle.wy_core.specs.Types.{Ty}
 use Rattle.wy_core.specs.CoreTree as tree
 use Rattle.wy_core.specs.CoreTree.{Expr}
 use Rattle.wy_formed.specs.Offers.{Offers}
-use Rattle.wy_formed.specs.Bound.{Scope, Has, BoundExpr, BoundClauses}
-use Rattle.wy_formed.specs.Calls.{CallsExpr, CallsClauses, Nothing}
-use Rattle.wy_formed.specs.Literals.{IntsExpr, IntsClauses}
-use Rattle.wy_formed.specs.Recursion.{Mentions, ClausesMention}
+use Rattle.wy_formed.specs.Bound.{Scope, BoundClauses}
+use Rattle.wy_formed.specs.Calls.{CallsClauses, Nothing}
+use Rattle.wy_formed.specs.Literals.{IntsClauses}
+use Rattle.wy_formed.specs.Recursion.{ClausesMention}
 use Rattle.wy_formed.specs.Sizes.{size, sizes}
 use Rattle.wy_formed.specs.Wholes.{EachClause}
 use Rattle.wy_live.specs.Sets.{Variables, has, with}
@@ -19,12 +19,12 @@ use Rattle.wy_tables.specs.declared.context.Context.{Context}
 use Rattle.wy_pieces.specs.Steps.{fork}
 use Rattle.wy_compiled.specs.Expressions.{code}
 use Rattle.wy_compiled.specs.Programs.{clauses_steps}
-use Rattle.wy_numbered_tables.specs.Numbered.{NumberedExpr, NumberedExprs}
+use Rattle.wy_numbered_tables.specs.Numbered.{NumberedExprs}
 use Rattle.wy_kept_values.specs.Kept.{StoreProper}
 use Rattle.wy_sem.specs.Meter.{Meter, Done, Run, choose}
 use Rattle.wy_sem.specs.Operations.{longest, as_truth}
 use Rattle.wy_sem.specs.Expressions.{Store, slot, Setting, node, no_calls, eval}
-use Rattle.wy_sem.specs.TypeTests.{Test, answer, all_hold}
+use Rattle.wy_sem.specs.TypeTests.{answer, all_hold}
 use Rattle.wy_step.specs.Step.{Caller}
 use Rattle.wy_simulation.specs.Places.{StandAt, IsRoutine}
 use Rattle.wy_simulation.specs.Follows.{Follows, at_place, Comes}

@@ -1,12 +1,12 @@
 -- The test of a record: its shape, and then its fields one by one.
-use Rattle.std.proofs.Common.{◌≡◌, ◌<◌, ◌≤◌, ℕ, zero, suc, ◌+◌, List, [], ◌∷◌, ◌++◌, length, Bool, true, false, Option, Some, None, Ordering, Less, refl, sym, ◌∙◌, ap, subst, arith, length-append, nat_cmp}
-use Rattle.std.specs.Prelude.{◌≢◌, ◌&&◌, bytes_eq, slice_get}
+use Rattle.std.proofs.Common.{◌≡◌, ◌<◌, ℕ, suc, ◌+◌, List, [], ◌∷◌, ◌++◌, length, Bool, true, false, Option, Some, None, Less, refl, sym, ◌∙◌, ap, subst, arith, length-append, nat_cmp}
+use Rattle.std.specs.Prelude.{◌≢◌, ◌&&◌, bytes_eq}
 use Rattle.std.specs.Ordering.{is_eq}
 use Rattle.std.specs.Cmp.Lexicographic.{slice_cmp, nat_list_cmp_total}
 use Rattle.std.proofs.lemmas.Map.Text.{is_eq-slice_cmp}
 use Rattle.wy_value.specs.Datum.{Datum, Truth, Record, Fields, no_fields, field}
 use Rattle.wy_term.proofs.SameLemmas.{bytes_are}
-use Rattle.wy_core.specs.Types.{Ty, FieldTys, NoFieldTys, MoreFieldTys}
+use Rattle.wy_core.specs.Types.{FieldTys, NoFieldTys, MoreFieldTys}
 use Rattle.wy_formed.specs.Bound.{GoesBefore, Rise, names_of_tys}
 use Rattle.wy_formed.specs.Sizes.{size_ty, size_field_tys}
 use Rattle.wy_code.specs.declared.instructions.Kind.TheVariants as kind
@@ -15,15 +15,13 @@ use Rattle.wy_code.specs.declared.routines.Routine.{Routine}
 use Rattle.wy_code.specs.declared.routines.Code.{Code}
 use Rattle.wy_tables.specs.declared.context.Context.{Context}
 use Rattle.wy_tables.specs.Tables.{number_of, shape_number, ty_names_in}
-use Rattle.wy_pieces.specs.declared.steps.Step.{Step}
-use Rattle.wy_pieces.specs.declared.steps.Step.TheVariants.{Does}
 use Rattle.wy_pieces.specs.Steps.{dropped, fork}
 use Rattle.wy_compiled.specs.TypeTests.{test, fields_test, record_test}
 use Rattle.wy_numbered_tables.specs.Numbered.{AreNumbers, IsShape}
 use Rattle.wy_sem.specs.Meter.{Meter, Done, choose}
 use Rattle.wy_sem.specs.Operations.{found_field, find}
 use Rattle.wy_sem.specs.Expressions.{Store, slot, put}
-use Rattle.wy_sem.specs.TypeTests.{Test, answer, Questions, same_names, tested, parts_tested}
+use Rattle.wy_sem.specs.TypeTests.{answer, Questions, same_names, tested, parts_tested}
 use Rattle.wy_step.specs.Step.{Caller, Effect, there as where_there, has_names, is_record, kind_answer}
 use Rattle.wy_simulation.specs.Places.{StandAt, IsRoutine}
 use Rattle.wy_simulation.specs.Follows.{Follows, at_place, Comes}

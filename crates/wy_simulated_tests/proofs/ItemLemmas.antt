@@ -1,10 +1,9 @@
 -- The test of an array: its items one by one, the index in a register.
-use Rattle.std.proofs.Common.{◌≡◌, ◌<◌, ◌≤◌, ℕ, zero, suc, ◌+◌, ◌-◌, List, [], ◌∷◌, ◌++◌, length, Bool, true, false, Option, Some, None, ℤ, pos, refl, sym, ◌∙◌, ap, subst, arith, length-append}
+use Rattle.std.proofs.Common.{◌≡◌, ◌<◌, ◌≤◌, ℕ, suc, ◌+◌, ◌-◌, List, [], ◌∷◌, ◌++◌, length, Bool, true, false, Option, Some, None, ℤ, pos, refl, sym, ◌∙◌, ap, subst, arith, length-append}
 use Rattle.std.specs.Prelude.{◌≢◌, ◌&&◌, ◌+ℤ◌, int_lt, int_le}
 use Rattle.std.proofs.lemmas.Int.{ints}
-use Rattle.std.proofs.lemmas.Bool.{leb-true}
 use Rattle.wy_value.specs.declared.bounds.TheConstants.{INT_MIN, INT_MAX}
-use Rattle.wy_value.specs.Datum.{Datum, Null, Truth, Whole, Array, Record, Data, no_items, item}
+use Rattle.wy_value.specs.Datum.{Datum, Truth, Whole, Array, Data, no_items, item}
 use Rattle.wy_value.specs.Values.{length_of}
 use Rattle.wy_value.specs.Numbers.{is_int}
 use Rattle.wy_core.specs.Types.{Ty}
@@ -13,7 +12,6 @@ use Rattle.wy_code.specs.declared.instructions.Scalar.TheVariants as scalar
 use Rattle.wy_code.specs.declared.instructions.Arithmetic.TheVariants as arithmetic
 use Rattle.wy_code.specs.declared.instructions.Comparison.TheVariants as comparison
 use Rattle.wy_code.specs.declared.instructions.Kind.TheVariants as kind
-use Rattle.wy_code.specs.declared.instructions.Instr.{Instr}
 use Rattle.wy_code.specs.declared.instructions.Instr.TheVariants as instr
 use Rattle.wy_code.specs.declared.routines.Routine.{Routine}
 use Rattle.wy_code.specs.declared.routines.Code.{Code}
@@ -21,24 +19,24 @@ use Rattle.wy_tables.specs.declared.context.Context.{Context}
 use Rattle.wy_pieces.specs.declared.steps.Step.{Step}
 use Rattle.wy_pieces.specs.declared.steps.Step.TheVariants.{Does, GoesBack, GoesOnUnless}
 use Rattle.wy_compiled.specs.TypeTests.{test, item_end, items_test, array_test}
-use Rattle.wy_sem.specs.Meter.{Meter, Outcome, Done, Run, ◌>>=◌, choose}
-use Rattle.wy_sem.specs.Operations.{longest, nat_of, item_at, is_index}
+use Rattle.wy_sem.specs.Meter.{Meter, Done, choose}
+use Rattle.wy_sem.specs.Operations.{longest, item_at, is_index}
 use Rattle.wy_sem.specs.Expressions.{Store, slot, put}
-use Rattle.wy_sem.specs.TypeTests.{Test, answer, Questions, few_enough, tested, items_tested}
+use Rattle.wy_sem.specs.TypeTests.{answer, Questions, few_enough, tested, items_tested}
 use Rattle.wy_step.specs.Step.{Caller, GoesOn as goes_on, effect, gives, gives_int, where_so, instr_at}
 use Rattle.wy_simulation.specs.Places.{StandAt, IsRoutine}
 use Rattle.wy_simulation.specs.Follows.{Follows, at_place, Comes}
-use Rattle.wy_simulation.proofs.PlaceLemmas.{stand_front, stand_back, stand_moved}
+use Rattle.wy_simulation.proofs.PlaceLemmas.{stand_front, stand_back}
 use Rattle.wy_simulation.proofs.StoreLemmas.{put_here, put_other, put_size}
 use Rattle.wy_simulation.proofs.FollowLemmas.{follows_more, follows_at, follows_choose, follows_end}
 use Rattle.wy_simulation.proofs.SpareLemmas.{leaves_then}
-use Rattle.wy_simulation.proofs.InstructionLemmas.{const_does, len_does, get_does, move_does, arith_does, compare_does, branch_on, branch_off}
+use Rattle.wy_simulation.proofs.InstructionLemmas.{len_does, get_does, move_does, arith_does, compare_does, branch_on, branch_off}
 use Rattle.wy_simulation.proofs.PieceLemmas.{does_then, does_last}
 use Rattle.wy_simulated_expressions.specs.Standing.{with_table}
 use Rattle.wy_simulated_expressions.specs.Rests.{Told}
 use Rattle.wy_simulated_expressions.proofs.PartLemmas.{room_at}
 use Rattle.wy_simulated_expressions.proofs.QuantifierLemmas.{from_place, wide_then, far_then}
-use Rattle.wy_simulated_tests.proofs.StructureLemmas.{Visited, IsTested, kind_then, unkind, told_put}
+use Rattle.wy_simulated_tests.proofs.StructureLemmas.{Visited, IsTested, kind_then, told_put}
 
 -- ---- what is left of an array from an index on
 

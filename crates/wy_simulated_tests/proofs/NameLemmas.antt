@@ -1,8 +1,7 @@
 -- The test of a declared type: a call of its routine, which tests the definition and then the clauses.
-use Rattle.std.proofs.Common.{◌≡◌, ◌<◌, ◌≤◌, ℕ, zero, suc, ◌+◌, ◌-◌, List, [], ◌∷◌, ◌++◌, length, Bool, true, false, Option, Some, None, refl, sym, ◌∙◌, ap, subst, arith, length-append}
+use Rattle.std.proofs.Common.{◌≡◌, ◌<◌, ◌≤◌, ℕ, zero, suc, ◌+◌, ◌-◌, List, [], ◌∷◌, ◌++◌, length, Bool, true, false, Option, Some, None, refl, ◌∙◌, ap, subst, arith}
 use Rattle.std.specs.Prelude.{◌≢◌, max}
 use Rattle.wy_value.specs.Datum.{Datum, Truth}
-use Rattle.wy_core.specs.Types.{Ty}
 use Rattle.wy_core.specs.CoreTree as tree
 use Rattle.wy_formed.specs.Sizes.{size_ty}
 use Rattle.wy_live.specs.Sets.{with}
@@ -13,13 +12,13 @@ use Rattle.wy_code.specs.declared.routines.Code.{Code}
 use Rattle.wy_tables.specs.declared.context.Context.{Context}
 use Rattle.wy_pieces.specs.declared.steps.Step.{Step}
 use Rattle.wy_pieces.specs.declared.steps.Step.TheVariants.{Does}
-use Rattle.wy_pieces.specs.Steps.{clear, dropped, fork}
+use Rattle.wy_pieces.specs.Steps.{dropped, fork}
 use Rattle.wy_compiled.specs.TypeTests.{test, named_test}
 use Rattle.wy_compiled.specs.Programs.{clauses_steps, variable_of, taken, type_steps_at, type_routine}
-use Rattle.wy_sem.specs.Meter.{Meter, Outcome, Done, Fault, More, Spent, Run, ◌>>=◌, choose}
+use Rattle.wy_sem.specs.Meter.{Meter, Outcome, Done, Fault, More, Spent, ◌>>=◌, choose}
 use Rattle.wy_sem.specs.Expressions.{Store, slot, put}
 use Rattle.wy_sem.specs.TypeTests.{Test, answer, both}
-use Rattle.wy_step.specs.Step.{State, Frame, Caller, Effect, GoesOn as goes_on, Calls, Returns, effect, there as where_there, stepped, entered, returned, empties, entry_registers, instr_at, step}
+use Rattle.wy_step.specs.Step.{State, Caller, Effect, GoesOn as goes_on, Calls, Returns, effect, there as where_there, stepped, entered, empties, entry_registers, instr_at, step}
 use Rattle.wy_simulation.specs.Places.{StandAt, IsRoutine}
 use Rattle.wy_simulation.specs.Follows.{Follows, at_place, Comes}
 use Rattle.wy_simulation.proofs.PlaceLemmas.{stand_front, stand_back, placed_stand}
@@ -27,11 +26,11 @@ use Rattle.wy_simulation.proofs.StoreLemmas.{put_here, put_other, put_size}
 use Rattle.wy_simulation.proofs.FollowLemmas.{one_step, quiet_step, follows_step, follows_end, follows_more, follows_then, follows_at, follows_choose}
 use Rattle.wy_simulation.proofs.SpareLemmas.{leaves_then}
 use Rattle.wy_simulation.proofs.InstructionLemmas.{share_does, move_does}
-use Rattle.wy_simulation.proofs.PieceLemmas.{does_then, stays_last, fork_on, fork_off}
+use Rattle.wy_simulation.proofs.PieceLemmas.{stays_last, fork_on, fork_off}
 use Rattle.wy_simulated_expressions.specs.Standing.{with_table}
 use Rattle.wy_simulated_expressions.specs.Rests.{Told}
 use Rattle.wy_simulated_expressions.proofs.PartLemmas.{room_at}
-use Rattle.wy_simulated_tests.proofs.StructureLemmas.{Visited, IsTested}
+use Rattle.wy_simulated_tests.proofs.StructureLemmas.{IsTested}
 use Rattle.wy_simulated_tests.proofs.ClauseLemmas.{Inner}
 
 -- an outcome, and then its answer

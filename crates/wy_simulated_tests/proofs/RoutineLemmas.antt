@@ -1,12 +1,12 @@
 -- Where the routines of declared types stand in the code of a program.
-use Rattle.std.proofs.Common.{◌≡◌, ◌<◌, ℕ, zero, suc, ◌+◌, List, [], ◌∷◌, ◌++◌, length, Some, refl, ◌∙◌, ap, subst, arith}
-use Rattle.std.specs.Prelude.{slice_get, All}
+use Rattle.std.proofs.Common.{◌≡◌, ◌<◌, ℕ, zero, suc, ◌+◌, List, [], ◌∷◌, ◌++◌, length, Some, refl, ◌∙◌, ap, arith}
+use Rattle.std.specs.Prelude.{slice_get}
 use Rattle.wy_core.specs.CoreTree as tree
 use Rattle.wy_core.specs.CoreTree.{Core, aliases_of, routines_of}
 use Rattle.wy_code.specs.declared.routines.Routine.{Routine}
 use Rattle.wy_tables.specs.declared.context.Context.{Context}
 use Rattle.wy_tables.specs.Tables.{results_of, context_of}
-use Rattle.wy_compiled.specs.Programs.{type_routine, body_routines, type_routines, code_of}
+use Rattle.wy_compiled.specs.Programs.{type_routine, body_routines, type_routines}
 use Rattle.wy_compiled.specs.Ranges.{IsFramed}
 use Rattle.wy_compiled.proofs.RoutineLemmas.{all_framed}
 use Rattle.wy_sem.specs.TypeTests.{alias_at}

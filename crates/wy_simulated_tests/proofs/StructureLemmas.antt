@@ -1,9 +1,8 @@
 -- Tests of types one node at a time: the code behind a visit does what is asked, and with the tick of the visit leaves nine steps for those who asked.
-use Rattle.std.proofs.Common.{◌≡◌, ◌<◌, ◌≤◌, ℕ, zero, suc, ◌+◌, List, [], ◌∷◌, ◌++◌, length, Bool, true, false, Option, Some, None, refl, sym, ◌∙◌, ap, subst, arith, length-append}
+use Rattle.std.proofs.Common.{◌≡◌, ◌<◌, ◌≤◌, ℕ, suc, ◌+◌, List, [], ◌∷◌, ◌++◌, length, Bool, true, false, Option, Some, refl, sym, ◌∙◌, ap, subst, arith, length-append}
 use Rattle.std.specs.Prelude.{◌≢◌, not}
 use Rattle.wy_value.specs.Datum.{Datum, Null, Truth, Whole, Array, Record}
-use Rattle.wy_value.specs.Numbers.{is_int}
-use Rattle.wy_core.specs.Types.{Ty, NullTy, BoolTy, IntTy, AnyTy, VoidTy, RecordTy, ArrayTy, UnionTy, InterTy, NotTy, NamedTy, NormalTy, FieldTys}
+use Rattle.wy_core.specs.Types.{Ty, NullTy, BoolTy, IntTy, AnyTy, UnionTy, InterTy, NotTy}
 use Rattle.wy_formed.specs.Sizes.{size_ty}
 use Rattle.wy_code.specs.declared.instructions.Scalar.TheVariants as scalar
 use Rattle.wy_code.specs.declared.instructions.Kind.{Kind}
@@ -19,7 +18,7 @@ use Rattle.wy_pieces.specs.Steps.{fork}
 use Rattle.wy_pieces.specs.Placing.{registers_in}
 use Rattle.wy_compiled.specs.TypeTests.{test}
 use Rattle.wy_kept_values.specs.Kept.{IsProper}
-use Rattle.wy_sem.specs.Meter.{Meter, Outcome, Done, Run, ◌>>=◌, turn, choose}
+use Rattle.wy_sem.specs.Meter.{Meter, Outcome, Done, turn, choose}
 use Rattle.wy_sem.specs.Expressions.{Store, slot, put}
 use Rattle.wy_sem.specs.TypeTests.{Test, answer, both, either, opposite, is_null, is_truth, is_whole}
 use Rattle.wy_step.specs.Step as machine

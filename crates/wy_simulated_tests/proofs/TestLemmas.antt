@@ -1,5 +1,5 @@
 -- Tests of types, by levels: a clause tests types of lower levels alone.
-use Rattle.std.proofs.Common.{◌≡◌, ◌<◌, ◌≤◌, inl, inr, ℕ, zero, suc, ◌+◌, List, [], ◌∷◌, length, Bool, true, false, Option, Some, None, refl, sym, ◌∙◌, subst, arith}
+use Rattle.std.proofs.Common.{◌≡◌, ◌<◌, ◌≤◌, inl, inr, ℕ, zero, suc, ◌+◌, List, [], ◌∷◌, length, Bool, true, Option, Some, None, refl, sym, subst, arith}
 use Rattle.std.specs.Prelude.{max}
 use Rattle.wy_value.specs.Datum.{Datum}
 use Rattle.wy_value.specs.declared.shapes.Shapes.{Shapes}
@@ -7,7 +7,7 @@ use Rattle.wy_core.specs.Types.{Ty, NullTy, BoolTy, IntTy, AnyTy, VoidTy, Record
 use Rattle.wy_core.specs.CoreTree as tree
 use Rattle.wy_core.specs.CoreTree.{Expr, Alias, Decl, AliasDecl, RoutineDecl, Core, aliases_of}
 use Rattle.wy_formed.specs.Offers.{Offers, offers_of}
-use Rattle.wy_formed.specs.Bound.{Scope, IsNewOption, with_option, BoundTy, BoundFieldTys, BoundClauses, BoundAlias, BoundDecls}
+use Rattle.wy_formed.specs.Bound.{IsNewOption, with_option, BoundTy, BoundFieldTys, BoundClauses, BoundAlias, BoundDecls}
 use Rattle.wy_formed.specs.Calls.{CallsClauses, Nothing, CallsDecls}
 use Rattle.wy_formed.specs.Formed.{Formed}
 use Rattle.wy_formed.specs.Literals.{IntsClauses, Ints}
@@ -27,7 +27,7 @@ use Rattle.wy_numbered_tables.proofs.NumberLemmas.{stand_for_names}
 use Rattle.wy_kept_values.specs.Kept.{IsProper, StoreProper}
 use Rattle.wy_sem.specs.Meter.{Meter, Done, Run}
 use Rattle.wy_sem.specs.Operations.{longest}
-use Rattle.wy_sem.specs.Expressions.{Store, Setting, slot, put, no_calls}
+use Rattle.wy_sem.specs.Expressions.{Store, Setting, put, no_calls}
 use Rattle.wy_sem.specs.TypeTests.{Test, unset, set_if, alias_at, all_hold, alias_holds, tested, tests}
 use Rattle.wy_step.specs.Step.{Caller}
 use Rattle.wy_simulation.specs.Places.{StandAt, IsRoutine}

@@ -1,6 +1,6 @@
 -- The code of a test of a type does what the test does.
 use Rattle.std.specs.Prelude.{◌≡◌, ◌<◌, ◌≤◌, ℕ, suc, ◌+◌, List, [], length, true, Option, Some, None}
-use Rattle.wy_core.specs.CoreTree.{Alias, Core, aliases_of, exprs_of}
+use Rattle.wy_core.specs.CoreTree.{Core, aliases_of, exprs_of}
 use Rattle.wy_formed.specs.Formed.{Formed}
 use Rattle.wy_formed.specs.Sizes.{size_ty, sizes}
 use Rattle.wy_code.specs.declared.routines.Routine.{Routine}
