@@ -10,7 +10,7 @@ use Rattle.wy_formed.specs.Calls.{CallsClauses, Nothing, CallsRoutine, CallsDecl
 use Rattle.wy_formed.specs.Recursion.{NamesIn, ClausesMention, Recursion}
 use Rattle.wy_formed.specs.Ranks.{Ranked}
 use Rattle.wy_formed.proofs.RankLemmas.{ranked_types}
-use Rattle.wy_sem.specs.Meter.{Outcome, Done, Fault, More, Spent, Run}
+use Rattle.wy_sem.specs.Meter.{Meter, Outcome, Done, Fault, More, Spent, Run}
 use Rattle.wy_sem.specs.Expressions.{Store}
 use Rattle.wy_sem.specs.TypeTests.{alias_at, alias_holds, tests, member, clause_setting, unset, set_if}
 use Rattle.wy_sem.specs.Evaluation.{Callee, Declared, Print, PrintInt, Undeclared, callee, entry_of, start}
@@ -56,14 +56,14 @@ callee_fits o (RoutineDecl r ∷ ds) h k (suc f) = callee_fits o ds h.1 k.1 f
 -- ---- tests end
 
 module _ (place : ℕ → ℕ) (core : Core ℕ) (bound : Bound core) (calls : Calls core) (recurs : Recursion core) where
-  abbrev types : List (Alias ℕ)
+  abbrev pub types : List (Alias ℕ)
   types = aliases_of core
 
-  abbrev high : ℕ → ℕ
+  abbrev pub high : ℕ → ℕ
   high = level types recurs
 
   -- a declared type of at most this level
-  abbrev IsWithin : ℕ → ℕ → Type 0
+  abbrev pub IsWithin : ℕ → ℕ → Type 0
   IsWithin j c = (c < length types) × (high c ≤ j)
 
   ranked : Ranked types
@@ -82,7 +82,7 @@ module _ (place : ℕ → ℕ) (core : Core ℕ) (bound : Bound core) (calls : C
       (clauses_below (offers_of core) (length (alias_at types n).variables) (with_option [] (alias_at types n).variable) (alias_at types n).clauses (is_bound n p.0).clauses c h, omega (arith, l, k))
 
   -- each declared type is of a level that is at most their number
-  low : (c : ℕ) → c < length types → IsWithin (length types) c
+  pub low : (c : ℕ) → c < length types → IsWithin (length types) c
   low c less = (less, level_most types recurs c)
 
   higher : (j c : ℕ) → IsWithin j c → IsWithin (suc j) c
@@ -106,11 +106,11 @@ module _ (place : ℕ → ℕ) (core : Core ℕ) (bound : Bound core) (calls : C
       (set_if (unset (alias_at types n).variables) (alias_at types n).variable (Some d))
 
   -- tests end that nest as deep as the levels of types
-  tests-end : (j : ℕ) (t : Ty) → ((c : ℕ) → NamesIn true t c → IsWithin j c) → (d : Datum) → Ends Bool (tests place None types (suc j) false t d)
+  pub tests-end : (j : ℕ) (t : Ty) → ((c : ℕ) → NamesIn true t c → IsWithin j c) → (d : Datum) → Ends Bool (tests place None types (suc j) false t d)
   tests-end zero t h d = tested-ends ending (IsWithin 0) (λ n. (alias_at types n).ty) (length types) _ (all_end ending 0 _ (λ n p e. absurd (let l = level_least types recurs n p.0 in let k = p.1 in omega (arith, l, k)))) d t h
   tests-end (suc j) t h d = tested-ends ending (IsWithin (suc j)) (λ n. (alias_at types n).ty) (length types) _ (all_end ending (suc j) _ (λ n p e. clause-ends j (tests-end j) n p e)) d t h
 
-  member-answers : (t : Ty) → BoundTy (length types) t → (d : Datum) → Answers Bool (member place None types t d)
+  pub member-answers : (t : Ty) → BoundTy (length types) t → (d : Datum) → Answers Bool (member place None types t d)
   member-answers t b d = tested-ends answering (IsWithin (length types)) (λ n. (alias_at types n).ty) (length types) _
       (all_end answering (length types) _ (λ n p e. pardoned _ (clause-ends (length types) (tests-end (length types)) n (higher (length types) n p) e))) d t (λ c h. low c (named_below (length types) t b c h))
 
@@ -138,17 +138,17 @@ module _ (place : ℕ → ℕ) (core : Core ℕ) (bound : Bound core) (calls : C
   callee-answers PrintInt h args = given Verdict CountFails
   callee-answers Undeclared h args = given Verdict CountFails
 
-  precondition-answers : (f : ℕ) (args : List Datum) → Answered (precondition place None core f args)
+  precondition-answers : (f : ℕ) (args : List Datum) → Answered (start 0) (precondition place None core f args)
   precondition-answers f args = (callee-answers (callee (routines_of core) f) (callee_fits (offers_of core) core bound calls f) args).answers (start 0)
 
-is_answered : (o : Outcome Verdict) → Answered o → IsAnswered o
-is_answered (Done v m) h = record { verdict = v; meter = m; is = refl }
-is_answered (Fault kind at m) h = absurd h
-is_answered (More m) h = absurd h
-is_answered Spent h = absurd h
+is_answered : (k : Meter) (o : Outcome Verdict) → Answered k o → IsAnswered o
+is_answered k (Done v m) h = record { verdict = v; meter = m; is = refl }
+is_answered k (Fault kind at m) h = absurd h
+is_answered k (More m) h = absurd h
+is_answered k Spent h = absurd h
 
 pub are_answered : PreconditionsAreAnswered
-are_answered place core bound calls recurs f args = is_answered _ (precondition-answers place core bound calls recurs f args)
+are_answered place core bound calls recurs f args = is_answered (start 0) _ (precondition-answers place core bound calls recurs f args)
 
 pub are_settled : LimitedPreconditionsAreSettled
 are_settled place core bound calls recurs f args limit =

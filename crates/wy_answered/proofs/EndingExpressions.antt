@@ -8,7 +8,7 @@ use Rattle.wy_core.specs.CoreTree.{Expr, NullExpr, BoolExpr, IntExpr, VarExpr, C
 use Rattle.wy_formed.specs.Calls.{CallsExpr, CallsExprs, CallsFields, CallsClauses, Nothing}
 use Rattle.wy_formed.specs.Recursion.{NamesIn, Mentions, MentionsIn, MentionsInFields, ClausesMention}
 use Rattle.wy_sem.specs.Meter.{Run}
-use Rattle.wy_sem.specs.Expressions.{Store, slot, put, Setting, node, eval, eval_all, eval_fields, data_of, no_calls, holds}
+use Rattle.wy_sem.specs.Expressions.{Store, slot, put, Setting, node, eval, eval_all, eval_fields, data_of, no_calls, holds_at, holds}
 use Rattle.wy_sem.specs.TypeTests.{all_hold}
 use Rattle.wy_answered.proofs.Ends.{Ends, done, bind, turned}
 use Rattle.wy_answered.proofs.EndingOperations.{choose-ends, truth-ends, needed-ends, negated-ends, denied-ends, length-ends, operated-ends, item-ends, field-ends, repeated-ends, quantified-ends}
@@ -54,6 +54,9 @@ module _ (place : ℕ → ℕ) (test : Bool → Ty → Datum → Run Bool) (P : 
   all_hold-ends (e ∷ es) q h s = bind Datum Bool _ _ (eval-ends e q.0 (λ c k. h c (inl k)) s)
       (λ v. truth-ends Bool (place (node e)) v _ (λ b. choose-ends Bool b _ _ (all_hold-ends es q.1 (λ c k. h c (inr k)) s) (done Bool false)))
 
-  -- a clause of a contract
+  -- a clause of a contract, which faults at this place where it is no truth value
+  pub holds_at-ends : (at : ℕ) (e : Expr ℕ) → CallsExpr Nothing e → ((c : ℕ) → Mentions e c → P c) → (s : Store) → Ends Bool (holds_at w at e s)
+  holds_at-ends at e q h s = bind Datum Bool _ _ (eval-ends e q h s) (λ v. truth-ends Bool at v _ (λ b. done Bool b))
+
   pub holds-ends : (e : Expr ℕ) → CallsExpr Nothing e → ((c : ℕ) → Mentions e c → P c) → (s : Store) → Ends Bool (holds w e s)
-  holds-ends e q h s = bind Datum Bool _ _ (eval-ends e q h s) (λ v. truth-ends Bool (place (node e)) v _ (λ b. done Bool b))
+  holds-ends e q h s = holds_at-ends (place (node e)) e q h s

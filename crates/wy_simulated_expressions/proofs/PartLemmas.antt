@@ -2,7 +2,7 @@
 use Rattle.std.proofs.Common.{◌≡◌, ◌<◌, ◌≤◌, ℕ, suc, ◌+◌, List, [], ◌∷◌, length, Bool, true, false, Some, None, ℤ, pos, refl, ◌∙◌, ap, subst, arith}
 use Rattle.std.specs.Prelude.{◌&&◌, not, slice_get, All, ◌+ℤ◌, ◌-ℤ◌, ◌*ℤ◌, neg_ℤ, int_le}
 use Rattle.std.proofs.Math.IntN.{+ℤ_idl}
-use Rattle.std.specs.Int.{int_div_euclid}
+use Rattle.std.specs.Int.{int_div_euclid, int_rem_euclid}
 use Rattle.std.proofs.lemmas.List.Elements.{All-head}
 use Rattle.wy_value.specs.Datum.{Datum, Truth, Whole, Array}
 use Rattle.wy_value.specs.Numbers.{is_int}
@@ -10,6 +10,7 @@ use Rattle.wy_value.specs.Values.{length_of}
 use Rattle.wy_core.specs.declared.expressions.Op.{Op}
 use Rattle.wy_core.specs.declared.expressions.Op.TheVariants as op
 use Rattle.wy_term.specs.declared.cond.CondKind.TheVariants as kind
+use Rattle.wy_formed.specs.Bound.{Scope}
 use Rattle.wy_live.specs.Sets.{Variables, has}
 use Rattle.wy_code.specs.declared.instructions.Scalar.TheVariants as scalar
 use Rattle.wy_code.specs.declared.instructions.Arithmetic.{Arithmetic}
@@ -34,48 +35,67 @@ use Rattle.wy_simulation.proofs.StoreLemmas.{put_here, put_other, put_size, live
 use Rattle.wy_simulation.proofs.FollowLemmas.{follows_number, follows_truth, follows_items, follows_fields, follows_needed, follows_check, follows_more, follows_at}
 use Rattle.wy_simulation.proofs.InstructionLemmas.{arith_does, compare_does, equal_does, not_does, len_does, get_does, field_does, fill_does}
 use Rattle.wy_simulation.proofs.PieceLemmas.{does_then, does_last}
-use Rattle.wy_simulated_expressions.specs.Covered.{IsStrict}
+use Rattle.wy_kept_values.specs.Kept.{IsProper}
 use Rattle.wy_simulated_expressions.proofs.KnownLemmas.{got_put}
+use Rattle.wy_simulated_expressions.proofs.KnowingLemmas.{rest_proper}
+
+-- an operator that evaluates both operands
+abbrev pub IsStrict : Op → Type 0
+IsStrict op.Add = Unit {0}
+IsStrict op.Sub = Unit {0}
+IsStrict op.Mul = Unit {0}
+IsStrict op.Div = Unit {0}
+IsStrict op.Mod = Unit {0}
+IsStrict op.Equal = Unit {0}
+IsStrict op.Less = Unit {0}
+IsStrict op.LessEqual = Unit {0}
+IsStrict op.Greater = Unit {0}
+IsStrict op.GreaterEqual = Unit {0}
+IsStrict op.And = ⊥
+IsStrict op.Or = ⊥
+
+-- the register that an instruction fills is one of the frame
+pub room_at : (mach : Code) (f : ℕ) (r : Routine) → IsRoutine mach f r → (at d : ℕ) (i : Instr) (rest : List ℕ) → instr_at (Some r) at ≡ Some i → registers_in i ≡ d ∷ rest → d < r.registers
+room_at mach f r there at d i rest stands e = All-head (λ (k : ℕ). k < r.registers) d rest (subst (λ (ks : List ℕ). All (λ (k : ℕ). k < r.registers) ks) e (all_at (λ (j : Instr). All (λ (k : ℕ). k < r.registers) (registers_in j)) r.body at i there.room stands))
 
 zero_less : (x : ℤ) → pos 0 -ℤ x ≡ neg_ℤ x
 zero_less x = +ℤ_idl (neg_ℤ x)
 
-module _ (mach : Code) (f : ℕ) (r : Routine) (there : IsRoutine mach f r) (n wide : ℕ) (s : Variables) (below : (x : ℕ) → has s x ≡ true → x < n) (store : Store) where
-  -- the register that an instruction fills is one of the frame
+module _ (mach : Code) (f : ℕ) (r : Routine) (there : IsRoutine mach f r) (n wide : ℕ) (vs : Scope) (s : Variables) (below : (x : ℕ) → has s x ≡ true → x < n) (store : Store) where
   target_room : (at d : ℕ) (i : Instr) (rest : List ℕ) → instr_at (Some r) at ≡ Some i → registers_in i ≡ d ∷ rest → d < r.registers
-  target_room at d i rest stands e = All-head (λ (k : ℕ). k < r.registers) d rest (subst (λ (ks : List ℕ). All (λ (k : ℕ). k < r.registers) ks) e (all_at (λ (j : Instr). All (λ (k : ℕ). k < r.registers) (registers_in j)) r.body at i there.room stands))
+  target_room at d i rest stands e = room_at mach f r there at d i rest stands e
 
   -- an instruction that fills register d, of which the registers before d and the live variables know nothing
   pub fills : (d at : ℕ) (i : Instr) (rest : List ℕ) (regs left first : Store) (callers : List Caller) (m : Meter) (v : Datum) → n ≤ d → instr_at (Some r) at ≡ Some i → registers_in i ≡ d ∷ rest → effect mach.shapes i regs ≡ goes_on (put left d (Some v)) []
-      → length left ≡ r.registers → Live s store left → ((t : ℕ) → n ≤ t → t < d → slot left t ≡ slot first t) → length left ≡ length first
-      → Follows mach wide 0 1 m (at_place f at regs callers m.output) (Done v m) (Comes f (at + 1) callers (Got n d s store first))
+      → length left ≡ r.registers → Live vs s store left → ((t : ℕ) → n ≤ t → t < d → slot left t ≡ slot first t) → length left ≡ length first
+      → Follows mach wide 0 1 m (at_place f at regs callers m.output) (Done v m) (Comes f (at + 1) callers (Got vs n d s store first))
   fills d at i rest regs left first callers m v behind stands names does size live kept same =
-      does_last mach f r there wide at i regs (put left d (Some v)) callers m v (Got n d s store first) stands does
-      (got_put n s store first left d v below behind (let l = target_room at d i rest stands names in omega (arith, l, size)) live kept same)
+      does_last mach f r there wide at i regs (put left d (Some v)) callers m v (Got vs n d s store first) stands does
+      (got_put vs n s store first left d v below behind (let l = target_room at d i rest stands names in omega (arith, l, size)) live kept same)
 
   -- ---- one operand, in register d
 
-  module _ (d at : ℕ) (behind : n ≤ d) (first regs : Store) (whole : length first ≡ r.registers) (callers : List Caller) (place : ℕ) (m : Meter) (v : Datum) (got : Got n d s store first v regs) where
+  module _ (d at : ℕ) (behind : n ≤ d) (first regs : Store) (whole : length first ≡ r.registers) (callers : List Caller) (place : ℕ) (m : Meter) (v : Datum) (got : Got vs n d s store first v regs) where
     long : length regs ≡ r.registers
     long = got.size ∙ whole
 
-    pub denied_follows : instr_at (Some r) at ≡ Some (instr.Not d d) → Follows mach wide 0 1 m (at_place f at regs callers m.output) (denied place v m) (Comes f (at + 1) callers (Got n d s store first))
-    denied_follows stands = follows_truth mach wide 0 1 m (at_place f at regs callers m.output) place v (λ b. Done (Truth (not b))) (Comes f (at + 1) callers (Got n d s store first))
+    pub denied_follows : instr_at (Some r) at ≡ Some (instr.Not d d) → Follows mach wide 0 1 m (at_place f at regs callers m.output) (denied place v m) (Comes f (at + 1) callers (Got vs n d s store first))
+    denied_follows stands = follows_truth mach wide 0 1 m (at_place f at regs callers m.output) place v (λ b. Done (Truth (not b))) (Comes f (at + 1) callers (Got vs n d s store first))
         (λ b e. fills d at (instr.Not d d) (d ∷ []) regs regs first callers m (Truth (not b)) behind stands refl (not_does mach.shapes regs d d b (got.value ∙ ap (λ (u : Datum). Some u) e)) long got.live got.kept got.size)
 
-    pub length_follows : instr_at (Some r) at ≡ Some (instr.Len d d) → Follows mach wide 0 1 m (at_place f at regs callers m.output) (length_result place v m) (Comes f (at + 1) callers (Got n d s store first))
-    length_follows stands = follows_items mach wide 0 1 m (at_place f at regs callers m.output) place v (λ ds. Done (Whole (pos (length_of ds)))) (Comes f (at + 1) callers (Got n d s store first))
+    pub length_follows : instr_at (Some r) at ≡ Some (instr.Len d d) → Follows mach wide 0 1 m (at_place f at regs callers m.output) (length_result place v m) (Comes f (at + 1) callers (Got vs n d s store first))
+    length_follows stands = follows_items mach wide 0 1 m (at_place f at regs callers m.output) place v (λ ds. Done (Whole (pos (length_of ds)))) (Comes f (at + 1) callers (Got vs n d s store first))
         (λ ds e. fills d at (instr.Len d d) (d ∷ []) regs regs first callers m (Whole (pos (length_of ds))) behind stands refl (len_does mach.shapes regs d d ds (got.value ∙ ap (λ (u : Datum). Some u) e)) long got.live got.kept got.size)
 
-    pub field_follows : (k : ℕ) (name : List ℕ) → slice_get mach.shapes.names k ≡ Some name → instr_at (Some r) at ≡ Some (instr.Field d d k) → Follows mach wide 0 1 m (at_place f at regs callers m.output) (field_of place v name m) (Comes f (at + 1) callers (Got n d s store first))
-    field_follows k name named stands = follows_fields mach wide 0 1 m (at_place f at regs callers m.output) place v (λ fs. needed place (find fs name) Done) (Comes f (at + 1) callers (Got n d s store first))
-        (λ fs e. follows_needed mach wide 0 1 m (at_place f at regs callers m.output) place (find fs name) Done (Comes f (at + 1) callers (Got n d s store first))
+    pub field_follows : (k : ℕ) (name : List ℕ) → slice_get mach.shapes.names k ≡ Some name → instr_at (Some r) at ≡ Some (instr.Field d d k) → Follows mach wide 0 1 m (at_place f at regs callers m.output) (field_of place v name m) (Comes f (at + 1) callers (Got vs n d s store first))
+    field_follows k name named stands = follows_fields mach wide 0 1 m (at_place f at regs callers m.output) place v (λ fs. needed place (find fs name) Done) (Comes f (at + 1) callers (Got vs n d s store first))
+        (λ fs e. follows_needed mach wide 0 1 m (at_place f at regs callers m.output) place (find fs name) Done (Comes f (at + 1) callers (Got vs n d s store first))
         (λ u g. fills d at (instr.Field d d k) (d ∷ []) regs regs first callers m u behind stands refl (field_does mach.shapes regs d d k fs name u (got.value ∙ ap (λ (u : Datum). Some u) e) named g) long got.live got.kept got.size))
 
     -- the number is taken from 0
-    pub negated_follows : StandAt r.body at (negated_steps d) → Follows mach wide 0 2 m (at_place f at regs callers m.output) (negated place v m) (Comes f (at + 1 + 1) callers (Got n d s store first))
-    negated_follows stands = follows_number mach wide 0 2 m (at_place f at regs callers m.output) place v (λ x. in_range place (neg_ℤ x)) (Comes f (at + 1 + 1) callers (Got n d s store first))
-        (λ x e. follows_check mach wide 0 2 m (at_place f at regs callers m.output) (is_int (neg_ℤ x)) kind.Range place (Done (Whole (neg_ℤ x))) (Comes f (at + 1 + 1) callers (Got n d s store first)) (λ ok. two x e ok))
+    pub negated_follows : StandAt r.body at (negated_steps d) → Follows mach wide 0 2 m (at_place f at regs callers m.output) (negated place v m) (Comes f (at + 1 + 1) callers (Got vs n d s store first))
+    negated_follows stands = follows_number mach wide 0 2 m (at_place f at regs callers m.output) place v (λ x. in_range place (neg_ℤ x)) (Comes f (at + 1 + 1) callers (Got vs n d s store first))
+        (λ x e. follows_check mach wide 0 2 m (at_place f at regs callers m.output) (is_int (neg_ℤ x)) kind.Range place (Done (Whole (neg_ℤ x))) (Comes f (at + 1 + 1) callers (Got vs n d s store first)) (λ ok. two x e ok))
       where
         room : suc d < length regs
         room = let l = target_room at (suc d) (instr.Const (suc d) (scalar.Int (pos 0))) [] stands.0 refl in omega (arith, l, long)
@@ -92,18 +112,18 @@ module _ (mach : Code) (f : ℕ) (r : Routine) (there : IsRoutine mach f r) (n w
             let b : slot zeroed d ≡ Some (Whole x) = put_other regs (suc d) d (Some (Whole (pos 0))) (λ g. absurd (omega (arith, g))) ∙ got.value ∙ ap (λ (u : Datum). Some u) e in
             arith_does mach.shapes zeroed arithmetic.Sub d (suc d) d (pos 0) x a b ∙ ap (λ (z : ℤ). gives_int zeroed d z) (zero_less x) ∙ is_given zeroed d (neg_ℤ x) ok
 
-        two : (x : ℤ) → v ≡ Whole x → is_int (neg_ℤ x) ≡ true → Follows mach wide 0 2 m (at_place f at regs callers m.output) (Done (Whole (neg_ℤ x)) m) (Comes f (at + 1 + 1) callers (Got n d s store first))
-        two x e ok = does_then mach f r there wide 0 1 at (instr.Const (suc d) (scalar.Int (pos 0))) regs zeroed callers m (Done (Whole (neg_ℤ x)) m) (at + 1 + 1) (Got n d s store first) stands.0 refl
+        two : (x : ℤ) → v ≡ Whole x → is_int (neg_ℤ x) ≡ true → Follows mach wide 0 2 m (at_place f at regs callers m.output) (Done (Whole (neg_ℤ x)) m) (Comes f (at + 1 + 1) callers (Got vs n d s store first))
+        two x e ok = does_then mach f r there wide 0 1 at (instr.Const (suc d) (scalar.Int (pos 0))) regs zeroed callers m (Done (Whole (neg_ℤ x)) m) (at + 1 + 1) (Got vs n d s store first) stands.0 refl
             (fills d (at + 1) (instr.Arith d arithmetic.Sub (suc d) d) (suc d ∷ d ∷ []) zeroed zeroed first callers m (Whole (neg_ℤ x)) behind stands.1.0 refl (sum x e ok)
             (put_size regs (suc d) (Some (Whole (pos 0))) ∙ long)
-            (live_put s store regs (suc d) (Some (Whole (pos 0))) (λ y h g. let l = below y h in absurd (omega (arith, l, behind, g))) got.live)
+            (live_put vs s store regs (suc d) (Some (Whole (pos 0))) (λ y i h g. let l = below y h in absurd (omega (arith, l, behind, g))) got.live)
             (λ t a b. put_other regs (suc d) t (Some (Whole (pos 0))) (λ g. absurd (omega (arith, b, g))) ∙ got.kept t a b)
             (put_size regs (suc d) (Some (Whole (pos 0))) ∙ got.size))
 
   -- ---- two operands, in d and the register behind it
 
   module _ (d at : ℕ) (behind : n ≤ d) (first middle regs : Store) (whole : length first ≡ r.registers) (callers : List Caller) (place : ℕ) (m : Meter) (v u : Datum)
-      (one : slot middle d ≡ Some v) (kept_one : (t : ℕ) → n ≤ t → t < d → slot middle t ≡ slot first t) (size_one : length middle ≡ length first) (got : Got n (suc d) s store middle u regs) where
+      (one : slot middle d ≡ Some v) (kept_one : (t : ℕ) → n ≤ t → t < d → slot middle t ≡ slot first t) (size_one : length middle ≡ length first) (got : Got vs n (suc d) s store middle u regs) where
     left_there : slot regs d ≡ Some v
     left_there = got.kept d behind (omega arith) ∙ one
 
@@ -114,40 +134,40 @@ module _ (mach : Code) (f : ℕ) (r : Routine) (there : IsRoutine mach f r) (n w
     same_size = got.size ∙ size_one
 
     both_filled : (at d2 : ℕ) (i : Instr) (rest : List ℕ) (w : Datum) → instr_at (Some r) at ≡ Some i → registers_in i ≡ d ∷ rest → effect mach.shapes i regs ≡ goes_on (put regs d (Some w)) []
-        → Follows mach wide 0 1 m (at_place f at regs callers m.output) (Done w m) (Comes f (at + 1) callers (Got n d s store first))
+        → Follows mach wide 0 1 m (at_place f at regs callers m.output) (Done w m) (Comes f (at + 1) callers (Got vs n d s store first))
     both_filled at d2 i rest w stands names does = fills d at i rest regs regs first callers m w behind stands names does (same_size ∙ whole) got.live all_kept same_size
 
-    pub item_follows : instr_at (Some r) at ≡ Some (instr.Get d d (suc d)) → Follows mach wide 0 1 m (at_place f at regs callers m.output) (item_of place v u m) (Comes f (at + 1) callers (Got n d s store first))
-    item_follows stands = follows_items mach wide 0 1 m (at_place f at regs callers m.output) place v (λ ds. as_number place u (λ i. check (is_index i ds) kind.Index place (Done (item_at ds (nat_of i))))) (Comes f (at + 1) callers (Got n d s store first))
-        (λ ds e. follows_number mach wide 0 1 m (at_place f at regs callers m.output) place u (λ i. check (is_index i ds) kind.Index place (Done (item_at ds (nat_of i)))) (Comes f (at + 1) callers (Got n d s store first))
-        (λ z g. follows_check mach wide 0 1 m (at_place f at regs callers m.output) (is_index z ds) kind.Index place (Done (item_at ds (nat_of z))) (Comes f (at + 1) callers (Got n d s store first))
+    pub item_follows : instr_at (Some r) at ≡ Some (instr.Get d d (suc d)) → Follows mach wide 0 1 m (at_place f at regs callers m.output) (item_of place v u m) (Comes f (at + 1) callers (Got vs n d s store first))
+    item_follows stands = follows_items mach wide 0 1 m (at_place f at regs callers m.output) place v (λ ds. as_number place u (λ i. check (is_index i ds) kind.Index place (Done (item_at ds (nat_of i))))) (Comes f (at + 1) callers (Got vs n d s store first))
+        (λ ds e. follows_number mach wide 0 1 m (at_place f at regs callers m.output) place u (λ i. check (is_index i ds) kind.Index place (Done (item_at ds (nat_of i)))) (Comes f (at + 1) callers (Got vs n d s store first))
+        (λ z g. follows_check mach wide 0 1 m (at_place f at regs callers m.output) (is_index z ds) kind.Index place (Done (item_at ds (nat_of z))) (Comes f (at + 1) callers (Got vs n d s store first))
         (λ ok. both_filled at d (instr.Get d d (suc d)) (d ∷ suc d ∷ []) (item_at ds (nat_of z)) stands refl (get_does mach.shapes regs d d (suc d) ds z (left_there ∙ ap (λ (x : Datum). Some x) e) (got.value ∙ ap (λ (x : Datum). Some x) g) ok))))
 
     -- a sum, a difference, a product, a quotient or a rest
     arith_follows : (o : Arithmetic) (x y z : ℤ) → instr_at (Some r) at ≡ Some (instr.Arith d o d (suc d)) → v ≡ Whole x → u ≡ Whole y → effect mach.shapes (instr.Arith d o d (suc d)) regs ≡ goes_on (put regs d (Some (Whole z))) []
-        → Follows mach wide 0 1 m (at_place f at regs callers m.output) (Done (Whole z) m) (Comes f (at + 1) callers (Got n d s store first))
+        → Follows mach wide 0 1 m (at_place f at regs callers m.output) (Done (Whole z) m) (Comes f (at + 1) callers (Got vs n d s store first))
     arith_follows o x y z stands e g does = both_filled at d (instr.Arith d o d (suc d)) (d ∷ suc d ∷ []) (Whole z) stands refl does
 
     compare_follows : (o : Comparison) (x y : ℤ) → instr_at (Some r) at ≡ Some (instr.Compare d o d (suc d)) → v ≡ Whole x → u ≡ Whole y
-        → Follows mach wide 0 1 m (at_place f at regs callers m.output) (Done (Truth (compares o x y)) m) (Comes f (at + 1) callers (Got n d s store first))
+        → Follows mach wide 0 1 m (at_place f at regs callers m.output) (Done (Truth (compares o x y)) m) (Comes f (at + 1) callers (Got vs n d s store first))
     compare_follows o x y stands e g = both_filled at d (instr.Compare d o d (suc d)) (d ∷ suc d ∷ []) (Truth (compares o x y)) stands refl
         (compare_does mach.shapes regs o d d (suc d) x y (left_there ∙ ap (λ (x : Datum). Some x) e) (got.value ∙ ap (λ (x : Datum). Some x) g))
 
-    equal_steps : (plain : Bool) → StandAt r.body at (equal plain d) → Follows mach wide 0 2 m (at_place f at regs callers m.output) (Done (Truth (same v u)) m) (Comes f (at + length (equal plain d)) callers (Got n d s store first))
-    equal_steps true stands = follows_more mach wide 0 1 0 2 m (at_place f at regs callers m.output) (Done (Truth (same v u)) m) (Comes f (at + 1) callers (Got n d s store first)) (omega arith) (omega arith)
+    equal_steps : (plain : Bool) → StandAt r.body at (equal plain d) → Follows mach wide 0 2 m (at_place f at regs callers m.output) (Done (Truth (same v u)) m) (Comes f (at + length (equal plain d)) callers (Got vs n d s store first))
+    equal_steps true stands = follows_more mach wide 0 1 0 2 m (at_place f at regs callers m.output) (Done (Truth (same v u)) m) (Comes f (at + 1) callers (Got vs n d s store first)) (omega arith) (omega arith)
         (both_filled at d (instr.Equal d d (suc d)) (d ∷ suc d ∷ []) (Truth (same v u)) stands.0 refl (equal_does mach.shapes regs d d (suc d) v u left_there got.value))
     equal_steps false stands =
-        follows_at mach wide 0 2 m (at_place f at regs callers m.output) (Done (Truth (same v u)) m) f (at + 1 + 1) (at + 2) callers (Got n d s store first) (omega arith)
-        (does_then mach f r there wide 0 1 at (instr.Equal d d (suc d)) regs (put regs d (Some (Truth (same v u)))) callers m (Done (Truth (same v u)) m) (at + 1 + 1) (Got n d s store first) stands.0 (equal_does mach.shapes regs d d (suc d) v u left_there got.value)
-        (does_last mach f r there wide (at + 1) (instr.Clear (suc d ∷ [])) (put regs d (Some (Truth (same v u)))) (put (put regs d (Some (Truth (same v u)))) (suc d) None) callers m (Truth (same v u)) (Got n d s store first) stands.1.0 refl (released (filled stands.0))))
+        follows_at mach wide 0 2 m (at_place f at regs callers m.output) (Done (Truth (same v u)) m) f (at + 1 + 1) (at + 2) callers (Got vs n d s store first) (omega arith)
+        (does_then mach f r there wide 0 1 at (instr.Equal d d (suc d)) regs (put regs d (Some (Truth (same v u)))) callers m (Done (Truth (same v u)) m) (at + 1 + 1) (Got vs n d s store first) stands.0 (equal_does mach.shapes regs d d (suc d) v u left_there got.value)
+        (does_last mach f r there wide (at + 1) (instr.Clear (suc d ∷ [])) (put regs d (Some (Truth (same v u)))) (put (put regs d (Some (Truth (same v u)))) (suc d) None) callers m (Truth (same v u)) (Got vs n d s store first) stands.1.0 refl (released (filled stands.0))))
       where
-        filled : instr_at (Some r) at ≡ Some (instr.Equal d d (suc d)) → Got n d s store first (Truth (same v u)) (put regs d (Some (Truth (same v u))))
-        filled stood = got_put n s store first regs d (Truth (same v u)) below behind (let l = target_room at d (instr.Equal d d (suc d)) (d ∷ suc d ∷ []) stood refl in let z : length regs ≡ r.registers = same_size ∙ whole in omega (arith, l, z)) got.live all_kept same_size
+        filled : instr_at (Some r) at ≡ Some (instr.Equal d d (suc d)) → Got vs n d s store first (Truth (same v u)) (put regs d (Some (Truth (same v u))))
+        filled stood = got_put vs n s store first regs d (Truth (same v u)) below behind (let l = target_room at d (instr.Equal d d (suc d)) (d ∷ suc d ∷ []) stood refl in let z : length regs ≡ r.registers = same_size ∙ whole in omega (arith, l, z)) got.live all_kept same_size
 
-        released : {w : Datum} {after_it : Store} → Got n d s store first w after_it → Got n d s store first w (put after_it (suc d) None)
+        released : {w : Datum} {after_it : Store} → Got vs n d s store first w after_it → Got vs n d s store first w (put after_it (suc d) None)
         released {w} {after_it} g = record {
           value = put_other after_it (suc d) d None (λ e. absurd (omega (arith, e))) ∙ g.value;
-          live = live_put s store after_it (suc d) None (λ y h e. let l = below y h in absurd (omega (arith, l, behind, e))) g.live;
+          live = live_put vs s store after_it (suc d) None (λ y i h e. let l = below y h in absurd (omega (arith, l, behind, e))) g.live;
           kept = λ t a b. put_other after_it (suc d) t None (λ e. absurd (omega (arith, b, e))) ∙ g.kept t a b;
           size = put_size after_it (suc d) None ∙ g.size;
         }
@@ -158,46 +178,54 @@ module _ (mach : Code) (f : ℕ) (r : Routine) (there : IsRoutine mach f r) (n w
     quotient : (x y : ℤ) → not (same_number y (pos 0)) ≡ true → computes arithmetic.Div x y (λ z. gives_int regs d z) ≡ gives_int regs d (int_div_euclid x y)
     quotient x y other = ap (λ (b : Bool). where_so b (gives_int regs d (int_div_euclid x y))) other
 
+    remainder : (x y : ℤ) → not (same_number y (pos 0)) ≡ true → computes arithmetic.Mod x y (λ z. gives_int regs d z) ≡ gives_int regs d (int_rem_euclid x y)
+    remainder x y other = ap (λ (b : Bool). where_so b (gives_int regs d (int_rem_euclid x y))) other
+
+    is_proper : (t : Datum) (z : ℤ) → t ≡ Whole z → IsProper t → is_int z ≡ true
+    is_proper t z e p = subst (λ (a : Datum). IsProper a) e p
+
     -- the operator on two operands that both were evaluated
-    pub applied_follows : (o : Op) (plain : Bool) → IsStrict o → StandAt r.body at (operator o d plain) → Follows mach wide 0 2 m (at_place f at regs callers m.output) (applied o place v u m) (Comes f (at + length (operator o d plain)) callers (Got n d s store first))
-    applied_follows op.Add plain strict stands = follows_number mach wide 0 2 m (at_place f at regs callers m.output) place v (λ x. as_number place u (λ y. in_range place (x +ℤ y))) (Comes f (at + 1) callers (Got n d s store first))
-        (λ x e. follows_number mach wide 0 2 m (at_place f at regs callers m.output) place u (λ y. in_range place (x +ℤ y)) (Comes f (at + 1) callers (Got n d s store first))
-        (λ y g. follows_check mach wide 0 2 m (at_place f at regs callers m.output) (is_int (x +ℤ y)) kind.Range place (Done (Whole (x +ℤ y))) (Comes f (at + 1) callers (Got n d s store first)) (λ ok. follows_more mach wide 0 1 0 2 m (at_place f at regs callers m.output) (Done (Whole (x +ℤ y)) m) (Comes f (at + 1) callers (Got n d s store first)) (omega arith) (omega arith) (arith_follows arithmetic.Add x y (x +ℤ y) stands.0 e g (arith_does mach.shapes regs arithmetic.Add d d (suc d) x y (left_there ∙ ap (λ (t : Datum). Some t) e) (got.value ∙ ap (λ (t : Datum). Some t) g) ∙ is_given (x +ℤ y) ok)))))
-    applied_follows op.Sub plain strict stands = follows_number mach wide 0 2 m (at_place f at regs callers m.output) place v (λ x. as_number place u (λ y. in_range place (x -ℤ y))) (Comes f (at + 1) callers (Got n d s store first))
-        (λ x e. follows_number mach wide 0 2 m (at_place f at regs callers m.output) place u (λ y. in_range place (x -ℤ y)) (Comes f (at + 1) callers (Got n d s store first))
-        (λ y g. follows_check mach wide 0 2 m (at_place f at regs callers m.output) (is_int (x -ℤ y)) kind.Range place (Done (Whole (x -ℤ y))) (Comes f (at + 1) callers (Got n d s store first)) (λ ok. follows_more mach wide 0 1 0 2 m (at_place f at regs callers m.output) (Done (Whole (x -ℤ y)) m) (Comes f (at + 1) callers (Got n d s store first)) (omega arith) (omega arith) (arith_follows arithmetic.Sub x y (x -ℤ y) stands.0 e g (arith_does mach.shapes regs arithmetic.Sub d d (suc d) x y (left_there ∙ ap (λ (t : Datum). Some t) e) (got.value ∙ ap (λ (t : Datum). Some t) g) ∙ is_given (x -ℤ y) ok)))))
-    applied_follows op.Mul plain strict stands = follows_number mach wide 0 2 m (at_place f at regs callers m.output) place v (λ x. as_number place u (λ y. in_range place (x *ℤ y))) (Comes f (at + 1) callers (Got n d s store first))
-        (λ x e. follows_number mach wide 0 2 m (at_place f at regs callers m.output) place u (λ y. in_range place (x *ℤ y)) (Comes f (at + 1) callers (Got n d s store first))
-        (λ y g. follows_check mach wide 0 2 m (at_place f at regs callers m.output) (is_int (x *ℤ y)) kind.Range place (Done (Whole (x *ℤ y))) (Comes f (at + 1) callers (Got n d s store first)) (λ ok. follows_more mach wide 0 1 0 2 m (at_place f at regs callers m.output) (Done (Whole (x *ℤ y)) m) (Comes f (at + 1) callers (Got n d s store first)) (omega arith) (omega arith) (arith_follows arithmetic.Mul x y (x *ℤ y) stands.0 e g (arith_does mach.shapes regs arithmetic.Mul d d (suc d) x y (left_there ∙ ap (λ (t : Datum). Some t) e) (got.value ∙ ap (λ (t : Datum). Some t) g) ∙ is_given (x *ℤ y) ok)))))
-    applied_follows op.Div plain strict stands = follows_number mach wide 0 2 m (at_place f at regs callers m.output) place v (λ x. as_number place u (λ y. check (not (same_number y (pos 0))) kind.Divisor place (in_range place (int_div_euclid x y)))) (Comes f (at + 1) callers (Got n d s store first))
-        (λ x e. follows_number mach wide 0 2 m (at_place f at regs callers m.output) place u (λ y. check (not (same_number y (pos 0))) kind.Divisor place (in_range place (int_div_euclid x y))) (Comes f (at + 1) callers (Got n d s store first))
-        (λ y g. follows_check mach wide 0 2 m (at_place f at regs callers m.output) (not (same_number y (pos 0))) kind.Divisor place (in_range place (int_div_euclid x y)) (Comes f (at + 1) callers (Got n d s store first)) (λ other. follows_check mach wide 0 2 m (at_place f at regs callers m.output) (is_int (int_div_euclid x y)) kind.Range place (Done (Whole (int_div_euclid x y))) (Comes f (at + 1) callers (Got n d s store first)) (λ ok. follows_more mach wide 0 1 0 2 m (at_place f at regs callers m.output) (Done (Whole (int_div_euclid x y)) m) (Comes f (at + 1) callers (Got n d s store first)) (omega arith) (omega arith) (arith_follows arithmetic.Div x y (int_div_euclid x y) stands.0 e g (arith_does mach.shapes regs arithmetic.Div d d (suc d) x y (left_there ∙ ap (λ (t : Datum). Some t) e) (got.value ∙ ap (λ (t : Datum). Some t) g) ∙ quotient x y other ∙ is_given (int_div_euclid x y) ok))))))
-    applied_follows op.Mod plain strict stands = absurd strict
-    applied_follows op.Equal plain strict stands = equal_steps plain stands
-    applied_follows op.Less plain strict stands = follows_number mach wide 0 2 m (at_place f at regs callers m.output) place v (λ x. as_number place u (λ y. Done (Truth (compares comparison.Less x y)))) (Comes f (at + 1) callers (Got n d s store first))
-        (λ x e. follows_number mach wide 0 2 m (at_place f at regs callers m.output) place u (λ y. Done (Truth (compares comparison.Less x y))) (Comes f (at + 1) callers (Got n d s store first))
-        (λ y g. follows_more mach wide 0 1 0 2 m (at_place f at regs callers m.output) (Done (Truth (compares comparison.Less x y)) m) (Comes f (at + 1) callers (Got n d s store first)) (omega arith) (omega arith) (compare_follows comparison.Less x y stands.0 e g)))
-    applied_follows op.LessEqual plain strict stands = follows_number mach wide 0 2 m (at_place f at regs callers m.output) place v (λ x. as_number place u (λ y. Done (Truth (compares comparison.LessEqual x y)))) (Comes f (at + 1) callers (Got n d s store first))
-        (λ x e. follows_number mach wide 0 2 m (at_place f at regs callers m.output) place u (λ y. Done (Truth (compares comparison.LessEqual x y))) (Comes f (at + 1) callers (Got n d s store first))
-        (λ y g. follows_more mach wide 0 1 0 2 m (at_place f at regs callers m.output) (Done (Truth (compares comparison.LessEqual x y)) m) (Comes f (at + 1) callers (Got n d s store first)) (omega arith) (omega arith) (compare_follows comparison.LessEqual x y stands.0 e g)))
-    applied_follows op.Greater plain strict stands = follows_number mach wide 0 2 m (at_place f at regs callers m.output) place v (λ x. as_number place u (λ y. Done (Truth (compares comparison.Greater x y)))) (Comes f (at + 1) callers (Got n d s store first))
-        (λ x e. follows_number mach wide 0 2 m (at_place f at regs callers m.output) place u (λ y. Done (Truth (compares comparison.Greater x y))) (Comes f (at + 1) callers (Got n d s store first))
-        (λ y g. follows_more mach wide 0 1 0 2 m (at_place f at regs callers m.output) (Done (Truth (compares comparison.Greater x y)) m) (Comes f (at + 1) callers (Got n d s store first)) (omega arith) (omega arith) (compare_follows comparison.Greater x y stands.0 e g)))
-    applied_follows op.GreaterEqual plain strict stands = follows_number mach wide 0 2 m (at_place f at regs callers m.output) place v (λ x. as_number place u (λ y. Done (Truth (compares comparison.GreaterEqual x y)))) (Comes f (at + 1) callers (Got n d s store first))
-        (λ x e. follows_number mach wide 0 2 m (at_place f at regs callers m.output) place u (λ y. Done (Truth (compares comparison.GreaterEqual x y))) (Comes f (at + 1) callers (Got n d s store first))
-        (λ y g. follows_more mach wide 0 1 0 2 m (at_place f at regs callers m.output) (Done (Truth (compares comparison.GreaterEqual x y)) m) (Comes f (at + 1) callers (Got n d s store first)) (omega arith) (omega arith) (compare_follows comparison.GreaterEqual x y stands.0 e g)))
-    applied_follows op.And plain strict stands = absurd strict
-    applied_follows op.Or plain strict stands = absurd strict
+    pub applied_follows : (o : Op) (plain : Bool) → IsStrict o → IsProper v → IsProper u → StandAt r.body at (operator o d plain) → Follows mach wide 0 2 m (at_place f at regs callers m.output) (applied o place v u m) (Comes f (at + length (operator o d plain)) callers (Got vs n d s store first))
+    applied_follows op.Add plain strict pv pu stands = follows_number mach wide 0 2 m (at_place f at regs callers m.output) place v (λ x. as_number place u (λ y. in_range place (x +ℤ y))) (Comes f (at + 1) callers (Got vs n d s store first))
+        (λ x e. follows_number mach wide 0 2 m (at_place f at regs callers m.output) place u (λ y. in_range place (x +ℤ y)) (Comes f (at + 1) callers (Got vs n d s store first))
+        (λ y g. follows_check mach wide 0 2 m (at_place f at regs callers m.output) (is_int (x +ℤ y)) kind.Range place (Done (Whole (x +ℤ y))) (Comes f (at + 1) callers (Got vs n d s store first)) (λ ok. follows_more mach wide 0 1 0 2 m (at_place f at regs callers m.output) (Done (Whole (x +ℤ y)) m) (Comes f (at + 1) callers (Got vs n d s store first)) (omega arith) (omega arith) (arith_follows arithmetic.Add x y (x +ℤ y) stands.0 e g (arith_does mach.shapes regs arithmetic.Add d d (suc d) x y (left_there ∙ ap (λ (t : Datum). Some t) e) (got.value ∙ ap (λ (t : Datum). Some t) g) ∙ is_given (x +ℤ y) ok)))))
+    applied_follows op.Sub plain strict pv pu stands = follows_number mach wide 0 2 m (at_place f at regs callers m.output) place v (λ x. as_number place u (λ y. in_range place (x -ℤ y))) (Comes f (at + 1) callers (Got vs n d s store first))
+        (λ x e. follows_number mach wide 0 2 m (at_place f at regs callers m.output) place u (λ y. in_range place (x -ℤ y)) (Comes f (at + 1) callers (Got vs n d s store first))
+        (λ y g. follows_check mach wide 0 2 m (at_place f at regs callers m.output) (is_int (x -ℤ y)) kind.Range place (Done (Whole (x -ℤ y))) (Comes f (at + 1) callers (Got vs n d s store first)) (λ ok. follows_more mach wide 0 1 0 2 m (at_place f at regs callers m.output) (Done (Whole (x -ℤ y)) m) (Comes f (at + 1) callers (Got vs n d s store first)) (omega arith) (omega arith) (arith_follows arithmetic.Sub x y (x -ℤ y) stands.0 e g (arith_does mach.shapes regs arithmetic.Sub d d (suc d) x y (left_there ∙ ap (λ (t : Datum). Some t) e) (got.value ∙ ap (λ (t : Datum). Some t) g) ∙ is_given (x -ℤ y) ok)))))
+    applied_follows op.Mul plain strict pv pu stands = follows_number mach wide 0 2 m (at_place f at regs callers m.output) place v (λ x. as_number place u (λ y. in_range place (x *ℤ y))) (Comes f (at + 1) callers (Got vs n d s store first))
+        (λ x e. follows_number mach wide 0 2 m (at_place f at regs callers m.output) place u (λ y. in_range place (x *ℤ y)) (Comes f (at + 1) callers (Got vs n d s store first))
+        (λ y g. follows_check mach wide 0 2 m (at_place f at regs callers m.output) (is_int (x *ℤ y)) kind.Range place (Done (Whole (x *ℤ y))) (Comes f (at + 1) callers (Got vs n d s store first)) (λ ok. follows_more mach wide 0 1 0 2 m (at_place f at regs callers m.output) (Done (Whole (x *ℤ y)) m) (Comes f (at + 1) callers (Got vs n d s store first)) (omega arith) (omega arith) (arith_follows arithmetic.Mul x y (x *ℤ y) stands.0 e g (arith_does mach.shapes regs arithmetic.Mul d d (suc d) x y (left_there ∙ ap (λ (t : Datum). Some t) e) (got.value ∙ ap (λ (t : Datum). Some t) g) ∙ is_given (x *ℤ y) ok)))))
+    applied_follows op.Div plain strict pv pu stands = follows_number mach wide 0 2 m (at_place f at regs callers m.output) place v (λ x. as_number place u (λ y. check (not (same_number y (pos 0))) kind.Divisor place (in_range place (int_div_euclid x y)))) (Comes f (at + 1) callers (Got vs n d s store first))
+        (λ x e. follows_number mach wide 0 2 m (at_place f at regs callers m.output) place u (λ y. check (not (same_number y (pos 0))) kind.Divisor place (in_range place (int_div_euclid x y))) (Comes f (at + 1) callers (Got vs n d s store first))
+        (λ y g. follows_check mach wide 0 2 m (at_place f at regs callers m.output) (not (same_number y (pos 0))) kind.Divisor place (in_range place (int_div_euclid x y)) (Comes f (at + 1) callers (Got vs n d s store first)) (λ other. follows_check mach wide 0 2 m (at_place f at regs callers m.output) (is_int (int_div_euclid x y)) kind.Range place (Done (Whole (int_div_euclid x y))) (Comes f (at + 1) callers (Got vs n d s store first)) (λ ok. follows_more mach wide 0 1 0 2 m (at_place f at regs callers m.output) (Done (Whole (int_div_euclid x y)) m) (Comes f (at + 1) callers (Got vs n d s store first)) (omega arith) (omega arith) (arith_follows arithmetic.Div x y (int_div_euclid x y) stands.0 e g (arith_does mach.shapes regs arithmetic.Div d d (suc d) x y (left_there ∙ ap (λ (t : Datum). Some t) e) (got.value ∙ ap (λ (t : Datum). Some t) g) ∙ quotient x y other ∙ is_given (int_div_euclid x y) ok))))))
+    applied_follows op.Mod plain strict pv pu stands = follows_number mach wide 0 2 m (at_place f at regs callers m.output) place v (λ x. as_number place u (λ y. check (not (same_number y (pos 0))) kind.Divisor place (Done (Whole (int_rem_euclid x y))))) (Comes f (at + 1) callers (Got vs n d s store first))
+        (λ x e. follows_number mach wide 0 2 m (at_place f at regs callers m.output) place u (λ y. check (not (same_number y (pos 0))) kind.Divisor place (Done (Whole (int_rem_euclid x y)))) (Comes f (at + 1) callers (Got vs n d s store first))
+        (λ y g. follows_check mach wide 0 2 m (at_place f at regs callers m.output) (not (same_number y (pos 0))) kind.Divisor place (Done (Whole (int_rem_euclid x y))) (Comes f (at + 1) callers (Got vs n d s store first)) (λ other. follows_more mach wide 0 1 0 2 m (at_place f at regs callers m.output) (Done (Whole (int_rem_euclid x y)) m) (Comes f (at + 1) callers (Got vs n d s store first)) (omega arith) (omega arith) (arith_follows arithmetic.Mod x y (int_rem_euclid x y) stands.0 e g (arith_does mach.shapes regs arithmetic.Mod d d (suc d) x y (left_there ∙ ap (λ (t : Datum). Some t) e) (got.value ∙ ap (λ (t : Datum). Some t) g) ∙ remainder x y other ∙ is_given (int_rem_euclid x y) (rest_proper x y (is_proper v x e pv) (is_proper u y g pu) other))))))
+    applied_follows op.Equal plain strict pv pu stands = equal_steps plain stands
+    applied_follows op.Less plain strict pv pu stands = follows_number mach wide 0 2 m (at_place f at regs callers m.output) place v (λ x. as_number place u (λ y. Done (Truth (compares comparison.Less x y)))) (Comes f (at + 1) callers (Got vs n d s store first))
+        (λ x e. follows_number mach wide 0 2 m (at_place f at regs callers m.output) place u (λ y. Done (Truth (compares comparison.Less x y))) (Comes f (at + 1) callers (Got vs n d s store first))
+        (λ y g. follows_more mach wide 0 1 0 2 m (at_place f at regs callers m.output) (Done (Truth (compares comparison.Less x y)) m) (Comes f (at + 1) callers (Got vs n d s store first)) (omega arith) (omega arith) (compare_follows comparison.Less x y stands.0 e g)))
+    applied_follows op.LessEqual plain strict pv pu stands = follows_number mach wide 0 2 m (at_place f at regs callers m.output) place v (λ x. as_number place u (λ y. Done (Truth (compares comparison.LessEqual x y)))) (Comes f (at + 1) callers (Got vs n d s store first))
+        (λ x e. follows_number mach wide 0 2 m (at_place f at regs callers m.output) place u (λ y. Done (Truth (compares comparison.LessEqual x y))) (Comes f (at + 1) callers (Got vs n d s store first))
+        (λ y g. follows_more mach wide 0 1 0 2 m (at_place f at regs callers m.output) (Done (Truth (compares comparison.LessEqual x y)) m) (Comes f (at + 1) callers (Got vs n d s store first)) (omega arith) (omega arith) (compare_follows comparison.LessEqual x y stands.0 e g)))
+    applied_follows op.Greater plain strict pv pu stands = follows_number mach wide 0 2 m (at_place f at regs callers m.output) place v (λ x. as_number place u (λ y. Done (Truth (compares comparison.Greater x y)))) (Comes f (at + 1) callers (Got vs n d s store first))
+        (λ x e. follows_number mach wide 0 2 m (at_place f at regs callers m.output) place u (λ y. Done (Truth (compares comparison.Greater x y))) (Comes f (at + 1) callers (Got vs n d s store first))
+        (λ y g. follows_more mach wide 0 1 0 2 m (at_place f at regs callers m.output) (Done (Truth (compares comparison.Greater x y)) m) (Comes f (at + 1) callers (Got vs n d s store first)) (omega arith) (omega arith) (compare_follows comparison.Greater x y stands.0 e g)))
+    applied_follows op.GreaterEqual plain strict pv pu stands = follows_number mach wide 0 2 m (at_place f at regs callers m.output) place v (λ x. as_number place u (λ y. Done (Truth (compares comparison.GreaterEqual x y)))) (Comes f (at + 1) callers (Got vs n d s store first))
+        (λ x e. follows_number mach wide 0 2 m (at_place f at regs callers m.output) place u (λ y. Done (Truth (compares comparison.GreaterEqual x y))) (Comes f (at + 1) callers (Got vs n d s store first))
+        (λ y g. follows_more mach wide 0 1 0 2 m (at_place f at regs callers m.output) (Done (Truth (compares comparison.GreaterEqual x y)) m) (Comes f (at + 1) callers (Got vs n d s store first)) (omega arith) (omega arith) (compare_follows comparison.GreaterEqual x y stands.0 e g)))
+    applied_follows op.And plain strict pv pu stands = absurd strict
+    applied_follows op.Or plain strict pv pu stands = absurd strict
 
     -- an array of copies
-    pub repeated_follows : instr_at (Some r) at ≡ Some (instr.Fill d d (suc d)) → Follows mach wide 0 1 m (at_place f at regs callers m.output) (repeated place v u m) (Comes f (at + 1) callers (Got n d s store first))
-    repeated_follows stands = follows_number mach wide 0 1 m (at_place f at regs callers m.output) place u (λ t. check (int_le (pos 0) t) kind.Length place (check (int_le t (pos longest)) kind.Length place (Done (Array (copies (nat_of t) v))))) (Comes f (at + 1) callers (Got n d s store first))
-        (λ z e. follows_check mach wide 0 1 m (at_place f at regs callers m.output) (int_le (pos 0) z) kind.Length place (check (int_le z (pos longest)) kind.Length place (Done (Array (copies (nat_of z) v)))) (Comes f (at + 1) callers (Got n d s store first))
-        (λ low. follows_check mach wide 0 1 m (at_place f at regs callers m.output) (int_le z (pos longest)) kind.Length place (Done (Array (copies (nat_of z) v))) (Comes f (at + 1) callers (Got n d s store first))
+    pub repeated_follows : instr_at (Some r) at ≡ Some (instr.Fill d d (suc d)) → Follows mach wide 0 1 m (at_place f at regs callers m.output) (repeated place v u m) (Comes f (at + 1) callers (Got vs n d s store first))
+    repeated_follows stands = follows_number mach wide 0 1 m (at_place f at regs callers m.output) place u (λ t. check (int_le (pos 0) t) kind.Length place (check (int_le t (pos longest)) kind.Length place (Done (Array (copies (nat_of t) v))))) (Comes f (at + 1) callers (Got vs n d s store first))
+        (λ z e. follows_check mach wide 0 1 m (at_place f at regs callers m.output) (int_le (pos 0) z) kind.Length place (check (int_le z (pos longest)) kind.Length place (Done (Array (copies (nat_of z) v)))) (Comes f (at + 1) callers (Got vs n d s store first))
+        (λ low. follows_check mach wide 0 1 m (at_place f at regs callers m.output) (int_le z (pos longest)) kind.Length place (Done (Array (copies (nat_of z) v))) (Comes f (at + 1) callers (Got vs n d s store first))
         (λ high. fills d at (instr.Fill d d (suc d)) (d ∷ suc d ∷ []) regs (put regs d None) first callers m (Array (copies (nat_of z) v)) behind stands refl
         (fill_does mach.shapes regs d d (suc d) v z (got.value ∙ ap (λ (t : Datum). Some t) e) left_there (within low high))
         (put_size regs d None ∙ same_size ∙ whole)
-        (live_put s store regs d None (λ y h g. let l = below y h in absurd (omega (arith, l, behind, g))) got.live)
+        (live_put vs s store regs d None (λ y i h g. let l = below y h in absurd (omega (arith, l, behind, g))) got.live)
         (λ t a b. put_other regs d t None (λ g. absurd (omega (arith, b, g))) ∙ all_kept t a b)
         (put_size regs d None ∙ same_size))))
       where

@@ -1,3 +1,4 @@
 -- what public contracts cite
-pub mod Covered
-pub mod Simulated
+pub mod Standing
+pub mod Rests
+pub mod Evaluated

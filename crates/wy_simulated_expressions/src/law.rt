@@ -1,9 +1,9 @@
 //! What is known of the code of expressions.
-ghost use Rattle.wy_simulated_expressions.specs.Simulated.{ExpressionsAreSimulated};
+ghost use Rattle.wy_simulated_expressions.specs.Evaluated.{ExpressionsAreEvaluated};
 
-/// The run of the code of an expression follows its evaluation, for literals, variables, operators, indices, fields, arrays
-/// and records: its value comes into its register within 16 steps a tick, the variables that are live behind it stay in
-/// theirs, and so do the values of the expressions around it.
-pub fn expressions_are_simulated()
-    ensures simulated { ExpressionsAreSimulated }
+/// The run of the code of an expression follows its evaluation, where the code of calls and of tests of types follows these:
+/// its value comes into its register within 16 steps a tick, the variables in scope that are live behind it stay in theirs,
+/// and so do the values of the expressions around it. So do expressions from left to right.
+pub fn expressions_are_evaluated()
+    ensures evaluated { ExpressionsAreEvaluated }
 {}

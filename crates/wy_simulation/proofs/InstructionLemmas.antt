@@ -12,6 +12,7 @@ use Rattle.wy_sem.specs.Operations.{longest, nat_of, same, item_at, find, copies
 use Rattle.wy_sem.specs.Expressions.{Store, slot, put, data_of}
 use Rattle.wy_pieces.specs.Steps.{registers_from}
 use Rattle.wy_step.specs.Step.{Effect, GoesOn, GoesTo, effect, computes, compares, gives_int, scalar_of, gives, there, moved_all, shape_names, record_of, cleared}
+use Rattle.wy_simulation.specs.Registers.{Hold}
 use Rattle.wy_simulation.proofs.StoreLemmas.{put_other, put_size}
 
 module _ (shapes : Shapes) (s : Store) where
@@ -56,11 +57,6 @@ module _ (shapes : Shapes) (s : Store) where
   fill_does d v n u z e f g = rw (e, g, f) refl
 
 -- ---- values in registers that follow on one another
-
--- they stand in the registers from d on
-abbrev pub Hold : Store → ℕ → List Datum → Type 0
-Hold s d [] = Unit {0}
-Hold s d (v ∷ vs) = (slot s d ≡ Some v) × Hold s (suc d) vs
 
 -- so many registers from d on are empty, the others as before
 abbrev pub emptied : Store → ℕ → ℕ → Store

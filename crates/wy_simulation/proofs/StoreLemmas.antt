@@ -2,6 +2,7 @@
 use Rattle.std.proofs.Common.{◌≡◌, ◌<◌, ℕ, zero, suc, [], ◌∷◌, length, true, Option, Some, refl, ◌∙◌, ap, arith}
 use Rattle.std.specs.Prelude.{◌≢◌}
 use Rattle.wy_value.specs.Datum.{Datum}
+use Rattle.wy_formed.specs.Bound.{Scope, Has}
 use Rattle.wy_live.specs.Sets.{Variables, has}
 use Rattle.wy_sem.specs.Expressions.{Store, slot, put}
 use Rattle.wy_simulation.specs.Registers.{Live}
@@ -31,9 +32,9 @@ put_says (u ∷ s) (suc d) v w e = put_says s d v w e
 
 -- ---- live variables
 
-pub live_fewer : (s t : Variables) (store regs : Store) → ((x : ℕ) → has t x ≡ true → has s x ≡ true) → Live s store regs → Live t store regs
-live_fewer s t store regs f h = record { holds = λ x v a e. h.holds x v (f x a) e }
+pub live_fewer : (vs : Scope) (s t : Variables) (store regs : Store) → ((x : ℕ) → has t x ≡ true → has s x ≡ true) → Live vs s store regs → Live vs t store regs
+live_fewer vs s t store regs f h = record { holds = λ x v i a e. h.holds x v i (f x a) e }
 
 -- a register that is no live variable's gets another value
-pub live_put : (s : Variables) (store regs : Store) (d : ℕ) (v : Option Datum) → ((x : ℕ) → has s x ≡ true → x ≢ d) → Live s store regs → Live s store (put regs d v)
-live_put s store regs d v f h = record { holds = λ x w a e. put_other regs d x v (f x a) ∙ h.holds x w a e }
+pub live_put : (vs : Scope) (s : Variables) (store regs : Store) (d : ℕ) (v : Option Datum) → ((x : ℕ) → Has vs x → has s x ≡ true → x ≢ d) → Live vs s store regs → Live vs s store (put regs d v)
+live_put vs s store regs d v f h = record { holds = λ x w i a e. put_other regs d x v (f x i a) ∙ h.holds x w i a e }

@@ -1,0 +1,284 @@
+-- Operands: what stands in front of the instructions of an operator, and what `&&` and `||` leave out.
+use Rattle.std.proofs.Common.{◌≡◌, ◌<◌, ◌≤◌, ℕ, zero, suc, ◌+◌, List, [], ◌∷◌, ◌++◌, length, Bool, true, false, cond, Some, None, refl, ◌∙◌, ap, subst, arith, length-append}
+use Rattle.std.specs.Prelude.{◌&&◌, not}
+use Rattle.wy_value.specs.Datum.{Datum, Truth}
+use Rattle.wy_core.specs.CoreTree.{Expr}
+use Rattle.wy_core.specs.declared.expressions.Op.{Op}
+use Rattle.wy_core.specs.declared.expressions.Op.TheVariants as op
+use Rattle.wy_formed.specs.Offers.{Offers}
+use Rattle.wy_formed.specs.Bound.{Scope, BoundExpr}
+use Rattle.wy_formed.specs.Sizes.{size}
+use Rattle.wy_live.specs.Sets.{Variables, has}
+use Rattle.wy_live.specs.Walks.{before}
+use Rattle.wy_code.specs.declared.instructions.Instr.TheVariants as instr
+use Rattle.wy_code.specs.declared.routines.Routine.{Routine}
+use Rattle.wy_code.specs.declared.routines.Code.{Code}
+use Rattle.wy_tables.specs.declared.context.Context.{Context}
+use Rattle.wy_pieces.specs.declared.steps.Step.{Step}
+use Rattle.wy_pieces.specs.declared.steps.Step.TheVariants.{Does}
+use Rattle.wy_pieces.specs.Steps.{fork}
+use Rattle.wy_compiled.specs.Expressions.{code, lost, lost_below, released, is_plain, operator, operate, right_register}
+use Rattle.wy_sem.specs.Meter.{Meter, Done, Run, ◌>>=◌, spend}
+use Rattle.wy_sem.specs.Operations.{applied, second, operated}
+use Rattle.wy_sem.specs.Expressions.{Store, slot, put, Setting, eval}
+use Rattle.wy_step.specs.Step.{Caller, cleared}
+use Rattle.wy_simulation.specs.Places.{StandAt, IsRoutine}
+use Rattle.wy_simulation.specs.Follows.{Follows, at_place, Comes}
+use Rattle.wy_simulation.specs.Registers.{Live, Got}
+use Rattle.wy_simulation.proofs.PlaceLemmas.{stand_front, stand_back}
+use Rattle.wy_simulation.proofs.StoreLemmas.{put_other, put_size, live_put}
+use Rattle.wy_simulation.proofs.FollowLemmas.{follows_then, follows_more, follows_at, follows_truth, follows_choose}
+use Rattle.wy_simulation.proofs.SpareLemmas.{Leaves, leaves_spend, leaves_follows}
+use Rattle.wy_simulation.proofs.InstructionLemmas.{share_does, move_does, IsNone, cleared_other, cleared_size}
+use Rattle.wy_simulation.proofs.PieceLemmas.{stays_last, fork_on, fork_off, clear_runs}
+use Rattle.wy_kept_values.specs.Kept.{IsProper, StoreProper, Gives}
+use Rattle.wy_simulated_expressions.specs.Standing.{with_table, AreKnown}
+use Rattle.wy_simulated_expressions.specs.Evaluated.{Gained}
+use Rattle.wy_simulated_expressions.proofs.KnownLemmas.{known_before, is_below, still_live}
+use Rattle.wy_simulated_expressions.proofs.KnowingLemmas.{follows_knowing, applied_proper}
+use Rattle.wy_simulated_expressions.proofs.PartLemmas.{IsStrict, fills, applied_follows}
+
+-- ---- what is released
+
+-- each of these variables is in the first set and not in the second
+abbrev pub AreLost : Variables → Variables → List ℕ → Type 0
+AreLost s t [] = Unit {0}
+AreLost s t (x ∷ xs) = ((has s x ≡ true) × (has t x ≡ false)) × AreLost s t xs
+
+lost_more : (s t : Variables) (xs ys : List ℕ) → AreLost s t xs → AreLost s t ys → AreLost s t (xs ++ ys)
+lost_more s t [] ys h g = g
+lost_more s t (x ∷ xs) ys h g = (h.0, lost_more s t xs ys h.1 g)
+
+lost_one : (s t : Variables) (x : ℕ) (a b : Bool) → has s x ≡ a → has t x ≡ b → AreLost s t (cond (a && not b) (x ∷ []) [])
+lost_one s t x true false h g = ((h, g), tt)
+lost_one s t x true true h g = tt
+lost_one s t x false b h g = tt
+
+pub are_lost : (s t : Variables) (k : ℕ) → AreLost s t (lost_below s t k)
+are_lost s t zero = tt
+are_lost s t (suc k) = lost_more s t (lost_below s t k) _ (are_lost s t k) (lost_one s t k (has s k) (has t k) refl refl)
+
+pub none_live : (s t : Variables) (xs : List ℕ) (y : ℕ) → has t y ≡ true → AreLost s t xs → IsNone y xs
+none_live s t [] y e h = tt
+none_live s t (x ∷ xs) y e h = ((λ same. absurd (let a : has t x ≡ true = subst (λ (z : ℕ). has t z ≡ true) same e in let b = h.0.1 in cc)), none_live s t xs y e h.1)
+
+pub none_behind : (n : ℕ) (s t : Variables) (xs : List ℕ) (y : ℕ) → ((x : ℕ) → has s x ≡ true → x < n) → n ≤ y → AreLost s t xs → IsNone y xs
+none_behind n s t [] y below behind h = tt
+none_behind n s t (x ∷ xs) y below behind h = ((λ same. absurd (let l = below x h.0.0 in omega (arith, l, behind, same))), none_behind n s t xs y below behind h.1)
+
+-- the registers of variables that are no longer live are released
+pub got_cleared : (vs : Scope) (n d : ℕ) (s t : Variables) (store first regs : Store) (v : Datum) → ((x : ℕ) → has s x ≡ true → x < n) → ((x : ℕ) → has t x ≡ true → has s x ≡ true) → n ≤ d → Got vs n d s store first v regs → Got vs n d t store first v (cleared regs (lost s t))
+got_cleared vs n d s t store first regs v below fewer behind got =
+    let gone = are_lost s t (length s) in
+    record {
+      value = cleared_other regs (lost s t) d (none_behind n s t (lost s t) d below behind gone) ∙ got.value;
+      live = record { holds = λ x u i h e. cleared_other regs (lost s t) x (none_live s t (lost s t) x h gone) ∙ got.live.holds x u i (fewer x h) e };
+      kept = λ a b l. cleared_other regs (lost s t) a (none_behind n s t (lost s t) a below b gone) ∙ got.kept a b l;
+      size = cleared_size regs (lost s t) ∙ got.size;
+    }
+
+-- an operator that may leave its second operand out
+abbrev pub IsEarly : Op → Type 0
+IsEarly op.And = Unit {0}
+IsEarly op.Or = Unit {0}
+IsEarly op.Add = ⊥
+IsEarly op.Sub = ⊥
+IsEarly op.Mul = ⊥
+IsEarly op.Div = ⊥
+IsEarly op.Mod = ⊥
+IsEarly op.Equal = ⊥
+IsEarly op.Less = ⊥
+IsEarly op.LessEqual = ⊥
+IsEarly op.Greater = ⊥
+IsEarly op.GreaterEqual = ⊥
+
+module _ (c : Context) (routines : List Routine) (f : ℕ) (r : Routine) (there : IsRoutine (with_table c routines) f r) (w : Setting ℕ) (n wide most : ℕ) where
+  abbrev mach : Code
+  mach = with_table c routines
+
+  -- the code of the expression does what it does, and leaves two steps unused
+  abbrev pub IsBrief : Expr ℕ → Type 0
+  IsBrief e = (o : Offers) (k : ℕ) (vs : Scope) (s : Variables) (d at : ℕ) (store regs : Store) (callers : List Caller) (m : Meter)
+      → BoundExpr o k vs e → k ≤ n → AreKnown n vs s → n ≤ d → StandAt r.body at (code c e s d) → Live vs (before e s) store regs → StoreProper store → length regs ≡ r.registers → m.ticks ≤ most
+      → Leaves (with_table c routines) wide (size e) 2 m (at_place f at regs callers m.output) (eval w true e store m) (Comes f (at + length (code c e s d)) callers (Gained vs n d s store regs))
+
+  -- a node spends a tick, for which its own instructions may take 14 steps
+  pub paid : {X : Type 0} (lo hi total at : ℕ) (regs : Store) (callers : List Caller) (m : Meter) (next : Run X) (to : ℕ) (R : X → Store → Type 0) → suc lo ≤ total → hi ≤ 14
+      → ((j : Meter) → j.output ≡ m.output → j.ticks ≤ m.ticks → Follows (with_table c routines) wide lo hi j (at_place f at regs callers j.output) (next j) (Comes f to callers R))
+      → Leaves (with_table c routines) wide total 2 m (at_place f at regs callers m.output) (spend true next m) (Comes f to callers R)
+  paid lo hi total at regs callers m next to R least much h =
+      leaves_spend mach wide lo hi 2 total m (at_place f at regs callers m.output) next (Comes f to callers R) least (omega (arith, much)) refl
+      (λ t e. h (record m { ticks = t }) refl (omega (arith, e)))
+
+  -- ---- variables
+
+  pub variable : (at d x : ℕ) (vs : Scope) (s : Variables) (shared : Bool) (store regs : Store) (callers : List Caller) (m : Meter) (v : Datum) → has s x ≡ shared → AreKnown n vs s → x < n → n ≤ d → StandAt r.body at (Does (cond shared (instr.Share d x) (instr.Move d x)) ∷ []) → slot regs x ≡ Some v
+      → Live vs s store regs → length regs ≡ r.registers → Follows (with_table c routines) wide 0 1 m (at_place f at regs callers m.output) (Done v m) (Comes f (at + 1) callers (Got vs n d s store regs))
+  variable at d x vs s true store regs callers m v e known less behind stands held live size =
+      fills mach f r there n wide vs s (is_below n vs s known) store d at (instr.Share d x) (x ∷ []) regs regs regs callers m v behind stands.0 refl (share_does mach.shapes regs d x v held) size live (λ t a b. refl) refl
+  variable at d x vs s false store regs callers m v e known less behind stands held live size =
+      fills mach f r there n wide vs s (is_below n vs s known) store d at (instr.Move d x) (x ∷ []) regs (put regs x None) regs callers m v behind stands.0 refl (move_does mach.shapes regs d x v held)
+      (put_size regs x None ∙ size)
+      (live_put vs s store regs x None (λ y i h g. absurd (let a : has s x ≡ true = subst (λ (z : ℕ). has s z ≡ true) g h in cc)) live)
+      (λ t a b. put_other regs x t None (λ g. absurd (omega (arith, less, a, g))))
+      (put_size regs x None)
+
+  -- ---- what goes on from the value of an expression
+
+  pub first_part : {Y : Type 0} (a : Expr ℕ) → IsBrief a → (lo2 hi lo : ℕ) → size a + lo2 ≤ lo → (o : Offers) (k : ℕ) (vs : Scope) (s : Variables) (d at : ℕ) (store regs : Store) (callers : List Caller) (m : Meter)
+      → BoundExpr o k vs a → k ≤ n → AreKnown n vs s → n ≤ d → StandAt r.body at (code c a s d) → Live vs (before a s) store regs → StoreProper store → length regs ≡ r.registers → m.ticks ≤ most
+      → (tail : Datum → Run Y) (to : ℕ) (R : Y → Store → Type 0)
+      → ((v : Datum) (j : Meter) (last : Store) → j.ticks ≤ m.ticks → IsProper v → Got vs n d s store regs v last → Follows (with_table c routines) wide lo2 hi j (at_place f (at + length (code c a s d)) last callers j.output) (tail v j) (Comes f to callers R))
+      → Follows (with_table c routines) wide lo hi m (at_place f at regs callers m.output) (eval w true a store m >>= tail) (Comes f to callers R)
+  first_part a sa lo2 hi lo enough o k vs s d at store regs callers m b low known behind stands live proper whole few tail to R h =
+      follows_then mach wide (size a) 0 lo2 hi lo hi m (at_place f at regs callers m.output) (eval w true a store m) tail f (at + length (code c a s d)) callers (Gained vs n d s store regs) (Comes f to callers R) enough (omega arith)
+      (leaves_follows mach wide (size a) 2 m (at_place f at regs callers m.output) (eval w true a store m) (Comes f (at + length (code c a s d)) callers (Gained vs n d s store regs)) (sa o k vs s d at store regs callers m b low known behind stands live proper whole few))
+      (λ v j last le g. h v j last le g.0 g.1)
+
+  -- ---- one operand
+
+  pub one_part : (a : Expr ℕ) → IsBrief a → (ys : List Step) (tail : Datum → Run Datum) (lo hi total : ℕ) → suc (size a + lo) ≤ total → hi ≤ 14 → ((v : Datum) (j : Meter) → IsProper v → Gives IsProper (tail v j))
+      → (o : Offers) (k : ℕ) (vs : Scope) (s : Variables) (d at : ℕ) (store regs : Store) (callers : List Caller) (m : Meter)
+      → ((v : Datum) (j : Meter) (p : ℕ) (last : Store) → IsProper v → Got vs n d s store regs v last → StandAt r.body p ys → Follows (with_table c routines) wide lo hi j (at_place f p last callers j.output) (tail v j) (Comes f (p + length ys) callers (Got vs n d s store regs)))
+      → BoundExpr o k vs a → k ≤ n → AreKnown n vs s → n ≤ d → StandAt r.body at (code c a s d ++ ys) → Live vs (before a s) store regs → StoreProper store → length regs ≡ r.registers → m.ticks ≤ most
+      → Leaves (with_table c routines) wide total 2 m (at_place f at regs callers m.output) (spend true (λ j. eval w true a store j >>= tail) m) (Comes f (at + length (code c a s d ++ ys)) callers (Gained vs n d s store regs))
+  one_part a sa ys tail lo hi total enough much gives o k vs s d at store regs callers m finish b low known behind stands live proper whole few =
+      let xs = code c a s d in
+      let l1 : length (xs ++ ys) ≡ length xs + length ys = length-append xs ys in
+      let R = Gained vs n d s store regs in
+      paid (size a + lo) hi total at regs callers m (λ j. eval w true a store j >>= tail) (at + length (xs ++ ys)) R enough much
+      (λ j e l. follows_at mach wide (size a + lo) hi j (at_place f at regs callers j.output) (eval w true a store j >>= tail) f (at + length xs + length ys) (at + length (xs ++ ys)) callers R (omega (arith, l1))
+      (first_part a sa lo hi (size a + lo) (omega arith) o k vs s d at store regs callers j b low known behind (stand_front r.body at xs ys stands) live proper whole (omega (arith, l, few)) tail (at + length xs + length ys) R
+      (λ v i last le p got. follows_knowing mach wide lo hi i (at_place f (at + length xs) last callers i.output) (tail v i) IsProper f (at + length xs + length ys) callers (Got vs n d s store regs) (gives v i p)
+      (finish v i (at + length xs) last p got (stand_back r.body at xs ys stands)))))
+
+  -- ---- two operands
+
+  -- what follows two expressions whose values come into d and the register behind it
+  pub two_parts : (a b : Expr ℕ) → IsBrief a → IsBrief b → (ys : List Step) (tail : Datum → Datum → Run Datum) (lo hi : ℕ) → ((v u : Datum) (j : Meter) → IsProper v → IsProper u → Gives IsProper (tail v u j))
+      → (o : Offers) (k : ℕ) (vs : Scope) (t s : Variables) (d at : ℕ) (store regs : Store) (callers : List Caller) (m : Meter)
+      → ((v u : Datum) (j : Meter) (p : ℕ) (middle last : Store) → j.ticks ≤ m.ticks → IsProper v → IsProper u → Got vs n d (before b t) store regs v middle → Got vs n (suc d) t store middle u last → StandAt r.body p ys
+      → Follows (with_table c routines) wide lo hi j (at_place f p last callers j.output) (tail v u j) (Comes f (p + length ys) callers (Got vs n d s store regs)))
+      → BoundExpr o k vs a → BoundExpr o k vs b → k ≤ n → AreKnown n vs t → n ≤ d → StandAt r.body at (code c a (before b t) d ++ (code c b t (suc d) ++ ys)) → Live vs (before a (before b t)) store regs → StoreProper store → length regs ≡ r.registers → m.ticks ≤ most
+      → Follows (with_table c routines) wide (size a + size b + lo) hi m (at_place f at regs callers m.output) (eval w true a store m >>= (λ v j. eval w true b store j >>= tail v)) (Comes f (at + length (code c a (before b t) d ++ (code c b t (suc d) ++ ys))) callers (Gained vs n d s store regs))
+  two_parts a b sa sb ys tail lo hi gives o k vs t s d at store regs callers m finish ba bb low known behind stands live proper whole few =
+      let xs = code c a (before b t) d in
+      let zs = code c b t (suc d) in
+      let l1 : length (xs ++ (zs ++ ys)) ≡ length xs + length (zs ++ ys) = length-append xs (zs ++ ys) in
+      let l2 : length (zs ++ ys) ≡ length zs + length ys = length-append zs ys in
+      let behind_a : StandAt r.body (at + length xs) (zs ++ ys) = stand_back r.body at xs (zs ++ ys) stands in
+      let to = at + length xs + length zs + length ys in
+      let R = Gained vs n d s store regs in
+      follows_at mach wide (size a + size b + lo) hi m (at_place f at regs callers m.output) (eval w true a store m >>= (λ v j. eval w true b store j >>= tail v)) f to (at + length (xs ++ (zs ++ ys))) callers R (omega (arith, l1, l2))
+      (first_part a sa (size b + lo) hi (size a + size b + lo) (omega arith) o k vs (before b t) d at store regs callers m ba low (known_before o k n low vs b t bb known) behind (stand_front r.body at xs (zs ++ ys) stands) live proper whole few (λ v j. eval w true b store j >>= tail v) to R
+      (λ v j middle le p one. first_part b sb lo hi (size b + lo) (omega arith) o k vs t (suc d) (at + length xs) store middle callers j bb low known (omega (arith, behind)) (stand_front r.body (at + length xs) zs ys behind_a) one.live proper (one.size ∙ whole) (omega (arith, le, few)) (tail v) to R
+      (λ u i last le2 q two. follows_knowing mach wide lo hi i (at_place f (at + length xs + length zs) last callers i.output) (tail v u i) IsProper f to callers (Got vs n d s store regs) (gives v u i p q)
+      (finish v u i (at + length xs + length zs) middle last (omega (arith, le, le2)) p q one two (stand_back r.body (at + length xs) zs ys behind_a)))))
+
+  -- an operator that evaluates both
+  pub strict : (q : Op) → IsStrict q → (place : ℕ) (a b : Expr ℕ) → IsBrief a → IsBrief b → (o : Offers) (k : ℕ) (vs : Scope) (s : Variables) (d at : ℕ) (store regs : Store) (callers : List Caller) (m : Meter)
+      → BoundExpr o k vs a × BoundExpr o k vs b → k ≤ n → AreKnown n vs s → n ≤ d → StandAt r.body at (code c a (before b s) d ++ (code c b s (suc d) ++ operator q d (is_plain b))) → Live vs (before a (before b s)) store regs → StoreProper store → length regs ≡ r.registers → m.ticks ≤ most
+      → Leaves (with_table c routines) wide (size a + size b + 1) 2 m (at_place f at regs callers m.output) (spend true (λ j. eval w true a store j >>= (λ v i. second q place (eval w true b store) v i)) m)
+      (Comes f (at + length (code c a (before b s) d ++ (code c b s (suc d) ++ operator q d (is_plain b)))) callers (Gained vs n d s store regs))
+  strict q is place a b sa sb o k vs s d at store regs callers m bs low known behind stands live proper whole few =
+      paid (size a + size b + 0) 2 (size a + size b + 1) at regs callers m (λ j. eval w true a store j >>= (λ v i. second q place (eval w true b store) v i)) (at + length (code c a (before b s) d ++ (code c b s (suc d) ++ operator q d (is_plain b)))) (Gained vs n d s store regs) (omega arith) (omega arith)
+      (λ j e l. two_parts a b sa sb (operator q d (is_plain b)) (λ v u i. applied q place v u i) 0 2 (λ v u i p g. applied_proper place i q v u p g) o k vs s s d at store regs callers j
+      (λ v u i p middle last le pv pu one two ys. applied_follows mach f r there n wide vs s (is_below n vs s known) store d p behind regs middle last whole callers place i v u one.value one.kept one.size two q (is_plain b) is pv pu ys)
+      bs.0 bs.1 low known behind stands live proper whole (omega (arith, l, few)))
+
+  -- ---- `&&` and `||`
+
+  -- what the right side alone would have used is released
+  skipped : (vs : Scope) (d : ℕ) (s t : Variables) (store first regs : Store) (v : Bool) (callers : List Caller) (m : Meter) → ((x : ℕ) → has s x ≡ true → x < n) → ((x : ℕ) → has t x ≡ true → has s x ≡ true) → n ≤ d → Got vs n d s store first (Truth v) regs
+      → (p : ℕ) → StandAt r.body p (released s t) → Follows mach wide 0 1 m (at_place f p regs callers m.output) (Done (Truth v) m) (Comes f (p + length (released s t)) callers (Gained vs n d t store first))
+  skipped vs d s t store first regs v callers m below fewer behind got =
+      clear_runs mach f r there wide (lost s t) regs callers m (Truth v) (Gained vs n d t store first) (tt, got_cleared vs n d s t store first regs (Truth v) below fewer behind got)
+
+  -- two in a row keep what both keep
+  both_got : (vs : Scope) (d : ℕ) (s t : Variables) (store first middle regs : Store) (u v : Datum) → Got vs n d s store first u middle → Got vs n d t store middle v regs → Got vs n d t store first v regs
+  both_got vs d s t store first middle regs u v one two = record { value = two.value; live = two.live; kept = λ t a b. two.kept t a b ∙ one.kept t a b; size = two.size ∙ one.size }
+
+  -- the value of the second operand is that of the whole
+  last_truth : (o : Op) → IsEarly o → (place : ℕ) (vs : Scope) (d : ℕ) (s : Variables) (store first : Store) (u v : Datum) (k : Meter) (to : ℕ) (regs : Store) (callers : List Caller) → Got vs n d s store first v regs
+      → Follows mach wide 0 0 k (at_place f to regs callers k.output) (applied o place u v k) (Comes f to callers (Gained vs n d s store first))
+  last_truth op.And early place vs d s store first u v k to regs callers got = follows_truth mach wide 0 0 k (at_place f to regs callers k.output) place v (λ b. Done (Truth b)) (Comes f to callers (Gained vs n d s store first)) (λ b e. stays_last mach f r there wide to regs callers k (Truth b) (Gained vs n d s store first) (tt, subst (λ (x : Datum). Got vs n d s store first x regs) e got))
+  last_truth op.Or early place vs d s store first u v k to regs callers got = follows_truth mach wide 0 0 k (at_place f to regs callers k.output) place v (λ b. Done (Truth b)) (Comes f to callers (Gained vs n d s store first)) (λ b e. stays_last mach f r there wide to regs callers k (Truth b) (Gained vs n d s store first) (tt, subst (λ (x : Datum). Got vs n d s store first x regs) e got))
+  last_truth op.Add early place vs d s store first u v k to regs callers got = absurd early
+  last_truth op.Sub early place vs d s store first u v k to regs callers got = absurd early
+  last_truth op.Mul early place vs d s store first u v k to regs callers got = absurd early
+  last_truth op.Div early place vs d s store first u v k to regs callers got = absurd early
+  last_truth op.Mod early place vs d s store first u v k to regs callers got = absurd early
+  last_truth op.Equal early place vs d s store first u v k to regs callers got = absurd early
+  last_truth op.Less early place vs d s store first u v k to regs callers got = absurd early
+  last_truth op.LessEqual early place vs d s store first u v k to regs callers got = absurd early
+  last_truth op.Greater early place vs d s store first u v k to regs callers got = absurd early
+  last_truth op.GreaterEqual early place vs d s store first u v k to regs callers got = absurd early
+
+  module _ (place : ℕ) (a b : Expr ℕ) (sb : IsBrief b) (o : Offers) (k : ℕ) (vs : Scope) (s : Variables) (d : ℕ) (store regs : Store) (callers : List Caller) (bb : BoundExpr o k vs b) (low : k ≤ n) (known : AreKnown n vs s) (behind : n ≤ d) (proper : StoreProper store) (whole : length regs ≡ r.registers) where
+    fewer : (x : ℕ) → has s x ≡ true → has (before b s) x ≡ true
+    fewer x h = still_live x b s h
+
+    -- the right side is evaluated
+    right_side : (q : Op) → IsEarly q → (v : Datum) (i : Meter) (middle : Store) → i.ticks ≤ most → Got vs n d (before b s) store regs v middle → (p : ℕ) → StandAt r.body p (code c b s d)
+        → Follows mach wide (size b) 0 i (at_place f p middle callers i.output) (second q place (eval w true b store) v i) (Comes f (p + length (code c b s d)) callers (Gained vs n d s store regs))
+    right_side q early v i middle few one p stood =
+        first_part b sb 0 0 (size b) (omega arith) o k vs s d p store middle callers i bb low known behind stood one.live proper (one.size ∙ whole) few (λ u j. applied q place v u j) (p + length (code c b s d)) (Gained vs n d s store regs)
+        (λ u j last le pu two. last_truth q early place vs d s store regs v u j (p + length (code c b s d)) last callers (both_got vs d (before b s) s store regs middle last v u one two))
+
+    -- or it is left out
+    left_out : (v : Datum) (t g : Bool) (i : Meter) (middle : Store) → v ≡ Truth t → t ≡ g → Got vs n d (before b s) store regs v middle → (p : ℕ) → StandAt r.body p (released (before b s) s)
+        → Follows mach wide 0 1 i (at_place f p middle callers i.output) (Done (Truth g) i) (Comes f (p + length (released (before b s) s)) callers (Gained vs n d s store regs))
+    left_out v t g i middle e same one p stood =
+        skipped vs d (before b s) s store regs middle g callers i (is_below n vs (before b s) (known_before o k n low vs b s bb known)) fewer behind (subst (λ (x : Datum). Got vs n d (before b s) store regs x middle) (e ∙ ap (λ (x : Bool). Truth x) same) one) p stood
+
+    held : (v : Datum) (t g : Bool) (middle : Store) → v ≡ Truth t → t ≡ g → Got vs n d (before b s) store regs v middle → slot middle d ≡ Some (Truth g)
+    held v t g middle e same one = one.value ∙ ap (λ (x : Datum). Some x) (e ∙ ap (λ (x : Bool). Truth x) same)
+
+    pub early_goes : (q : Op) → IsEarly q → (v : Datum) (i : Meter) (middle : Store) → i.ticks ≤ most → Got vs n d (before b s) store regs v middle → (p : ℕ) → StandAt r.body p (operate q d (code c b s (right_register q d)) (released (before b s) s) (is_plain b))
+        → Follows mach wide (size b) 3 i (at_place f p middle callers i.output) (operated q place (eval w true b store) v i) (Comes f (p + length (operate q d (code c b s (right_register q d)) (released (before b s) s) (is_plain b))) callers (Gained vs n d s store regs))
+    early_goes op.And early v i middle few one p stood =
+        let R = Comes f (p + length (fork d (code c b s d) (released (before b s) s))) callers (Gained vs n d s store regs) in
+        let st = at_place f p middle callers i.output in
+        follows_truth mach wide (size b) 3 i st place v _ R
+        (λ t e. follows_choose mach wide (size b) 3 i st t (second op.And place (eval w true b store) v) (Done (Truth false)) R
+        (λ yes. follows_more mach wide (size b) 2 (size b) 3 i st (second op.And place (eval w true b store) v i) R (omega arith) (omega arith)
+        (fork_on mach f r there wide (size b) 0 p d (code c b s d) (released (before b s) s) middle callers i (second op.And place (eval w true b store) v i) (Gained vs n d s store regs) stood (held v t true middle e yes one)
+        (λ g there_b. right_side op.And tt v i middle few one g there_b)))
+        (λ no. follows_more mach wide 0 3 (size b) 3 i st (Done (Truth false) i) R (omega arith) (omega arith)
+        (fork_off mach f r there wide 0 1 p d (code c b s d) (released (before b s) s) middle callers i (Done (Truth false) i) (Gained vs n d s store regs) stood (held v t false middle e no one)
+        (λ g there_b. left_out v t false i middle e no one g there_b))))
+    early_goes op.Or early v i middle few one p stood =
+        let R = Comes f (p + length (fork d (released (before b s) s) (code c b s d))) callers (Gained vs n d s store regs) in
+        let st = at_place f p middle callers i.output in
+        follows_truth mach wide (size b) 3 i st place v _ R
+        (λ t e. follows_choose mach wide (size b) 3 i st t (Done (Truth true)) (second op.Or place (eval w true b store) v) R
+        (λ yes. follows_more mach wide 0 3 (size b) 3 i st (Done (Truth true) i) R (omega arith) (omega arith)
+        (fork_on mach f r there wide 0 1 p d (released (before b s) s) (code c b s d) middle callers i (Done (Truth true) i) (Gained vs n d s store regs) stood (held v t true middle e yes one)
+        (λ g there_b. left_out v t true i middle e yes one g there_b)))
+        (λ no. follows_more mach wide (size b) 2 (size b) 3 i st (second op.Or place (eval w true b store) v i) R (omega arith) (omega arith)
+        (fork_off mach f r there wide (size b) 0 p d (released (before b s) s) (code c b s d) middle callers i (second op.Or place (eval w true b store) v i) (Gained vs n d s store regs) stood (held v t false middle e no one)
+        (λ g there_b. right_side op.Or tt v i middle few one g there_b))))
+    early_goes op.Add early v i middle few one p stood = absurd early
+    early_goes op.Sub early v i middle few one p stood = absurd early
+    early_goes op.Mul early v i middle few one p stood = absurd early
+    early_goes op.Div early v i middle few one p stood = absurd early
+    early_goes op.Mod early v i middle few one p stood = absurd early
+    early_goes op.Equal early v i middle few one p stood = absurd early
+    early_goes op.Less early v i middle few one p stood = absurd early
+    early_goes op.LessEqual early v i middle few one p stood = absurd early
+    early_goes op.Greater early v i middle few one p stood = absurd early
+    early_goes op.GreaterEqual early v i middle few one p stood = absurd early
+
+  pub early : (q : Op) → IsEarly q → (place : ℕ) (a b : Expr ℕ) → IsBrief a → IsBrief b → (o : Offers) (k : ℕ) (vs : Scope) (s : Variables) (d at : ℕ) (store regs : Store) (callers : List Caller) (m : Meter)
+      → BoundExpr o k vs a × BoundExpr o k vs b → k ≤ n → AreKnown n vs s → n ≤ d → StandAt r.body at (code c a (before b s) d ++ operate q d (code c b s (right_register q d)) (released (before b s) s) (is_plain b)) → Live vs (before a (before b s)) store regs → StoreProper store → length regs ≡ r.registers → m.ticks ≤ most
+      → Leaves (with_table c routines) wide (size a + size b + 1) 2 m (at_place f at regs callers m.output) (spend true (λ j. eval w true a store j >>= operated q place (eval w true b store)) m)
+      (Comes f (at + length (code c a (before b s) d ++ operate q d (code c b s (right_register q d)) (released (before b s) s) (is_plain b))) callers (Gained vs n d s store regs))
+  early q is place a b sa sb o k vs s d at store regs callers m bs low known behind stands live proper whole few =
+      let xs = code c a (before b s) d in
+      let ys = operate q d (code c b s (right_register q d)) (released (before b s) s) (is_plain b) in
+      let l1 : length (xs ++ ys) ≡ length xs + length ys = length-append xs ys in
+      let R = Gained vs n d s store regs in
+      paid (size a + size b) 3 (size a + size b + 1) at regs callers m (λ j. eval w true a store j >>= operated q place (eval w true b store)) (at + length (xs ++ ys)) R (omega arith) (omega arith)
+      (λ j e l. follows_at mach wide (size a + size b) 3 j (at_place f at regs callers j.output) (eval w true a store j >>= operated q place (eval w true b store)) f (at + length xs + length ys) (at + length (xs ++ ys)) callers R (omega (arith, l1))
+      (first_part a sa (size b) 3 (size a + size b) (omega arith) o k vs (before b s) d at store regs callers j bs.0 low (known_before o k n low vs b s bs.1 known) behind (stand_front r.body at xs ys stands) live proper whole (omega (arith, l, few)) (operated q place (eval w true b store)) (at + length xs + length ys) R
+      (λ v i middle le p one. early_goes place a b sb o k vs s d store regs callers bs.1 low known behind proper whole q is v i middle (omega (arith, le, l, few)) one (at + length xs) (stand_back r.body at xs ys stands))))

@@ -1,0 +1,5 @@
+pub mod RunLemmas
+pub mod ContractLemmas
+pub mod PartLemmas
+pub mod FitLemmas
+pub mod ProgramLemmas

@@ -1,0 +1,5 @@
+-- what public contracts cite
+pub mod Still
+pub mod Parts
+pub mod Led
+pub mod Routines

@@ -1,0 +1,14 @@
+//! What is known of the code of tests of types.
+ghost use Rattle.wy_simulated_tests.specs.Tested.{CodeHasTypeRoutines, TestsAreFollowed};
+
+/// In each formed program in which a type with clauses has a variable, the run of the code of a test of a type follows the
+/// test: it makes at most 16 steps for each visit and each tick of a clause, never lacks a step unless a clause is a fault,
+/// and comes behind the code with the answer in its register and the value where it was.
+pub fn tests_are_followed()
+    ensures followed { TestsAreFollowed }
+{}
+
+/// Behind the routines of functions and methods the code of a program has that of each declared type.
+pub fn code_has_type_routines()
+    ensures has { CodeHasTypeRoutines }
+{}
