@@ -1,5 +1,5 @@
 use Rattle.std.proofs.Common.{◌≡◌}
 use Rattle.wy_lower.proofs.expressions.listed.Given as goal
 
-abbrev pub invariant-loop-entry : goal.invariant-loop-entry
-invariant-loop-entry l = l.items ≡ l.yielded
+abbrev pub invariant-loop-name : goal.invariant-loop-name
+invariant-loop-name l = l.items ≡ l.yielded
