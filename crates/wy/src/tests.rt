@@ -2,6 +2,8 @@
 //! on ample files and sinks stand in stored runs of the program.
 use crate::test_files::FILES;
 use std::alloc::{AllocError, Global};
+use std::num::ParseIntError;
+use std::str::Split;
 use std::test::Fail;
 use wy_port::{MemFiles, MemSink, have_different_names};
 use wy_top::run_words;
@@ -31,256 +33,71 @@ fn words_of(alloc: Global, text: &str) -> Result<Vec<String>, AllocError> {
     Ok(words)
 }
 
-// Where loads and sinks fail: the numbers of the loads that do, the room of each sink, and what follows.
-struct FaultRow {
-    load: u64,
-    out_room: usize,
-    err_room: usize,
-    words: &'static str,
-    status: u8,
-    out: &'static str,
-    err: &'static str,
-}
+// Rows parted by `%`: the number of the load or save that fails, from 0; the room of each sink; words; and then the status, what the sinks
+// took, and how the file `o` begins, if it is saved.
+const ROWS: &str = concat!(
+    "0|99|99|fmt inc.wy|4||wy: inc.wy: load failed\n|%",
+    "9|3|99|fmt inc.wy|5|fun||%",
+    "9|99|4|fmt tab.wy|5||tab.|%",
+    "9|9|99|dis abs.wy|5|routine 0||%",
+    "0|9|99|run inc.wy inc.cert inc (5)|4||wy: inc.wy: load failed\n|%",
+    "1|9|99|run inc.wy inc.cert inc (5)|4||wy: inc.cert: load failed\n|%",
+    "9|1|99|run inc.wy inc.cert inc (5)|5|6||%",
+    "9|9|4|run inc.wy inc.cert inc (100)|5||wy: |%",
+    "9|3|99|run hello.wy none six ()|5|abc||%",
+    "9|4|99|run hello.wy none hello (3)|5|hi 3||%",
+    "9|6|99|run hello.wy none hello (3)|5|hi 3\n3||%",
+    "9|99|3|run share.wy none keep ([1,2]) --stats|5|[1, 2]\n|cop|%",
+    "9|99|3|run inc.wy bad.cert inc (5)|5||bad|%",
+    "9|9|99|check inc.wy none|5|accepted ||%",
+    "1|99|99|check inc.wy inc.cert|4||wy: inc.cert: load failed\n|%",
+    "9|10|99|big 1 7|5|functions ||%",
+    "9|4000|4000|prove inc.wy o|0|accepted 3 conditions\n||wycert 1\n%",
+    "1|4000|4000|prove inc.wy o|5||wy: o: save failed\n|%",
+    "0|4000|4000|prove inc.wy o|4||wy: inc.wy: load failed\n|%",
+    "9|4000|4000|prove inc.wy o --budget 0|1||inc.wy:4:14: condition 1 range: spent 0\ninc.wy:4:14: condition 2 range: spent 0\ninc.wy:4:5: condition 3 ensures: spent 0\nrefused: 3 conditions, 0 open, 3 spent\n|wycert 1\nend\n%",
+    "9|4000|4000|prove tab.wy o|1||tab.wy:3:2: BadIndent\n|",
+);
 
-const FAULT_ROWS: [FaultRow; 16] = [
-    FaultRow {
-        load: 0,
-        out_room: 99,
-        err_room: 99,
-        words: "fmt inc.wy",
-        status: 4,
-        out: "",
-        err: "wy: inc.wy: load failed\n",
-    },
-    FaultRow {
-        load: 9,
-        out_room: 3,
-        err_room: 99,
-        words: "fmt inc.wy",
-        status: 5,
-        out: "fun",
-        err: "",
-    },
-    FaultRow {
-        load: 9,
-        out_room: 99,
-        err_room: 4,
-        words: "fmt tab.wy",
-        status: 5,
-        out: "",
-        err: "tab.",
-    },
-    FaultRow {
-        load: 9,
-        out_room: 9,
-        err_room: 99,
-        words: "dis abs.wy",
-        status: 5,
-        out: "routine 0",
-        err: "",
-    },
-    FaultRow {
-        load: 0,
-        out_room: 9,
-        err_room: 99,
-        words: "run inc.wy inc.cert inc (5)",
-        status: 4,
-        out: "",
-        err: "wy: inc.wy: load failed\n",
-    },
-    FaultRow {
-        load: 1,
-        out_room: 9,
-        err_room: 99,
-        words: "run inc.wy inc.cert inc (5)",
-        status: 4,
-        out: "",
-        err: "wy: inc.cert: load failed\n",
-    },
-    FaultRow {
-        load: 9,
-        out_room: 1,
-        err_room: 99,
-        words: "run inc.wy inc.cert inc (5)",
-        status: 5,
-        out: "6",
-        err: "",
-    },
-    FaultRow {
-        load: 9,
-        out_room: 9,
-        err_room: 4,
-        words: "run inc.wy inc.cert inc (100)",
-        status: 5,
-        out: "",
-        err: "wy: ",
-    },
-    FaultRow {
-        load: 9,
-        out_room: 3,
-        err_room: 99,
-        words: "run hello.wy none six ()",
-        status: 5,
-        out: "abc",
-        err: "",
-    },
-    FaultRow {
-        load: 9,
-        out_room: 4,
-        err_room: 99,
-        words: "run hello.wy none hello (3)",
-        status: 5,
-        out: "hi 3",
-        err: "",
-    },
-    FaultRow {
-        load: 9,
-        out_room: 6,
-        err_room: 99,
-        words: "run hello.wy none hello (3)",
-        status: 5,
-        out: "hi 3\n3",
-        err: "",
-    },
-    FaultRow {
-        load: 9,
-        out_room: 99,
-        err_room: 3,
-        words: "run share.wy none keep ([1,2]) --stats",
-        status: 5,
-        out: "[1, 2]\n",
-        err: "cop",
-    },
-    FaultRow {
-        load: 9,
-        out_room: 99,
-        err_room: 3,
-        words: "run inc.wy bad.cert inc (5)",
-        status: 5,
-        out: "",
-        err: "bad",
-    },
-    FaultRow {
-        load: 9,
-        out_room: 9,
-        err_room: 99,
-        words: "check inc.wy none",
-        status: 5,
-        out: "accepted ",
-        err: "",
-    },
-    FaultRow {
-        load: 1,
-        out_room: 99,
-        err_room: 99,
-        words: "check inc.wy inc.cert",
-        status: 4,
-        out: "",
-        err: "wy: inc.cert: load failed\n",
-    },
-    FaultRow {
-        load: 9,
-        out_room: 10,
-        err_room: 99,
-        words: "big 1 7",
-        status: 5,
-        out: "functions ",
-        err: "",
-    },
-];
-
-#[test]
-fn fault_rows(rt: HostRuntime) -> Result<(), Fail> {
-    let alloc = rt.alloc();
-    for row in &FAULT_ROWS {
-        let all = short_files(alloc)?;
-        assert!(rt; have_different_names(&all));
-        let mut fails = Vec::new(alloc);
-        fails.push(row.load)?;
-        let mut files = MemFiles::new(all, fails);
-        let mut out = MemSink::new(alloc, row.out_room, 7, Vec::new(alloc))?;
-        let mut err = MemSink::new(alloc, row.err_room, 7, Vec::new(alloc))?;
-        let words = words_of(alloc, row.words)?;
-        let status = run_words(alloc, &words, &mut files, &mut out, &mut err);
-        assert_eq!(rt; status, row.status, "{}", row.words);
-        assert_eq!(rt; out.bytes(), row.out.as_bytes(), "{}", row.words);
-        assert_eq!(rt; err.bytes(), row.err.as_bytes(), "{}", row.words);
+// the next field
+fn field<'a>(fields: &mut Split<'a, char>) -> &'a str {
+    match fields.next() {
+        Some(field) => field,
+        None => "",
     }
-    Ok(())
 }
 
-// Saves: the number of the save that fails, counted with the loads, and what follows.
-struct SaveRow {
-    fails: u64,
-    words: &'static str,
-    status: u8,
-    out: &'static str,
-    err: &'static str,
-    saved: &'static str,
+fn number(fields: &mut Split<char>) -> u32 {
+    let parsed: Result<u32, ParseIntError> = field(fields).parse();
+    match parsed {
+        Ok(n) => n,
+        Err(_) => 0,
+    }
 }
-
-const SAVE_ROWS: [SaveRow; 5] = [
-    SaveRow {
-        fails: 9,
-        words: "prove inc.wy o",
-        status: 0,
-        out: "accepted 3 conditions\n",
-        err: "",
-        saved: "wycert 1\n",
-    },
-    SaveRow {
-        fails: 1,
-        words: "prove inc.wy o",
-        status: 5,
-        out: "",
-        err: "wy: o: save failed\n",
-        saved: "",
-    },
-    SaveRow {
-        fails: 0,
-        words: "prove inc.wy o",
-        status: 4,
-        out: "",
-        err: "wy: inc.wy: load failed\n",
-        saved: "",
-    },
-    SaveRow {
-        fails: 9,
-        words: "prove inc.wy o --budget 0",
-        status: 1,
-        out: "",
-        err: "inc.wy:4:14: condition 1 range: spent 0\ninc.wy:4:14: condition 2 range: spent 0\ninc.wy:4:5: condition 3 ensures: spent 0\nrefused: 3 conditions, 0 open, 3 spent\n",
-        saved: "wycert 1\nend\n",
-    },
-    SaveRow {
-        fails: 9,
-        words: "prove tab.wy o",
-        status: 1,
-        out: "",
-        err: "tab.wy:3:2: BadIndent\n",
-        saved: "",
-    },
-];
 
 #[test]
-fn save_rows(rt: HostRuntime) -> Result<(), Fail> {
+fn rows(rt: HostRuntime) -> Result<(), Fail> {
     let alloc = rt.alloc();
-    for row in &SAVE_ROWS {
+    for row in ROWS.split('%') {
+        let mut fields = row.split('|');
         let all = short_files(alloc)?;
         assert!(rt; have_different_names(&all));
         let mut fails = Vec::new(alloc);
-        fails.push(row.fails)?;
+        fails.push(number(&mut fields) as u64)?;
         let mut files = MemFiles::new(all, fails);
-        let mut out = MemSink::new(alloc, 4000, 7, Vec::new(alloc))?;
-        let mut err = MemSink::new(alloc, 4000, 7, Vec::new(alloc))?;
-        let words = words_of(alloc, row.words)?;
+        let out_room = number(&mut fields) as usize;
+        let err_room = number(&mut fields) as usize;
+        let mut out = MemSink::new(alloc, out_room, 7, Vec::new(alloc))?;
+        let mut err = MemSink::new(alloc, err_room, 7, Vec::new(alloc))?;
+        let words = words_of(alloc, field(&mut fields))?;
         let status = run_words(alloc, &words, &mut files, &mut out, &mut err);
-        assert_eq!(rt; status, row.status, "{}", row.words);
-        assert_eq!(rt; out.bytes(), row.out.as_bytes(), "{}", row.words);
-        assert_eq!(rt; err.bytes(), row.err.as_bytes(), "{}", row.words);
+        assert_eq!(rt; status as u32, number(&mut fields), "{}", row);
+        assert_eq!(rt; out.bytes(), field(&mut fields).as_bytes(), "{}", row);
+        assert_eq!(rt; err.bytes(), field(&mut fields).as_bytes(), "{}", row);
+        let begins = field(&mut fields).as_bytes();
         let saved = files.bytes("o").unwrap_or(b"");
-        assert!(rt; saved.starts_with(row.saved.as_bytes()), "{}", row.words);
-        assert_eq!(rt; saved.is_empty(), row.saved.is_empty(), "{}", row.words);
+        assert!(rt; saved.starts_with(begins), "{}", row);
+        assert_eq!(rt; saved.is_empty(), begins.is_empty(), "{}", row);
     }
     Ok(())
 }

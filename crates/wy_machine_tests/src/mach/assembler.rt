@@ -23,7 +23,15 @@ fn word<'a>(words: &mut SplitWhitespace<'a>) -> &'a str {
 
 // the next word as a number
 fn number(words: &mut SplitWhitespace) -> u32 {
-    number_of(word(words))
+    number_or(words, 0)
+}
+
+/// The next word as a number, or this one where there is none.
+pub fn number_or(words: &mut SplitWhitespace, lacking: u32) -> u32 {
+    match words.next() {
+        Some(word) => number_of(word),
+        None => lacking,
+    }
 }
 
 fn number_of(word: &str) -> u32 {

@@ -3,57 +3,41 @@ ghost use Rattle.std.specs.Prelude.{IfOk};
 ghost use Rattle.wy_value.specs.Seen.{seen_items};
 ghost use Rattle.wy_value.specs.Values.{AreValues};
 
-use crate::mach::assembler::code;
+use crate::mach::assembler::{code, number_or};
 use std::alloc::{AllocError, Global};
 use wy_items::Items;
 use wy_mach::{RunEnd, run};
 use wy_port::MemSink;
 use wy_value::{Value, read_values};
 
-/// The second routine of a row that has none of its own: it adds its arguments.
-pub const ADDS: &str = "Arith 0 + 0 1; Return 0";
+// the second routine of a row that has none of its own
+const ADDS: &str = "Arith 0 + 0 1; Return 0";
 
 /// How a row is run: the most holders of a node and the most instructions; how many bytes the sink takes in all, and in
-/// one call, and which of its calls fails, from 0, if one does.
+/// one call, and which of its calls fails, from 0.
 #[derive(Clone, Copy)]
 pub struct Limits {
-    pub cap: u32,
-    pub steps: u64,
-    pub room: usize,
-    pub most: usize,
-    pub fail: Option<u64>,
+    cap: u32,
+    steps: u32,
+    room: u32,
+    most: u32,
+    fail: u32,
 }
 
-/// Room and steps for each row, and so many holders.
-pub fn capped(cap: u32) -> Limits {
+/// The limits of a text: numbers in this order. Those that it lacks are ample.
+pub fn limits(text: &str) -> Limits {
+    let mut words = text.split_whitespace();
+    let cap = number_or(&mut words, 5);
+    let steps = number_or(&mut words, 20_000_000);
+    let room = number_or(&mut words, 4096);
+    let most = number_or(&mut words, 4096);
+    let fail = number_or(&mut words, u32::MAX);
     Limits {
         cap,
-        steps: 20_000_000,
-        room: 4096,
-        most: 4096,
-        fail: None,
-    }
-}
-
-/// A sink that takes so many bytes in all and in one call, and fails at this call.
-pub fn into_sink(room: usize, most: usize, fail: Option<u64>) -> Limits {
-    Limits {
-        cap: 5,
-        steps: 1000,
+        steps,
         room,
         most,
         fail,
-    }
-}
-
-/// So many instructions at most.
-pub fn within(steps: u64) -> Limits {
-    Limits {
-        cap: 5,
-        steps,
-        room: 4096,
-        most: 4096,
-        fail: None,
     }
 }
 
@@ -67,8 +51,7 @@ fn values(alloc: Global, text: &str) -> Result<Items<Value>, AllocError>
     }
 }
 
-/// What a run of two routines ends with, of which the first is the entry: the result's text, copies and nodes, and what
-/// was printed.
+/// What a run of two routines prints and ends with, of which the first is the entry: the result's text, copies and nodes.
 pub fn ends(
     alloc: Global,
     limits: Limits,
@@ -83,18 +66,17 @@ pub fn ends(
     let Ok(params) = u32::try_from(args.len()) else {
         return Err(AllocError);
     };
+    let second = if second.is_empty() { ADDS } else { second };
     let code = code(alloc, params, body, second)?;
     let mut fails = Vec::new(alloc);
-    if let Some(call) = limits.fail {
-        fails.push(call)?;
-    }
-    let mut sink = MemSink::new(alloc, limits.room, limits.most, fails)?;
+    fails.push(limits.fail as u64)?;
+    let mut sink = MemSink::new(alloc, limits.room as usize, limits.most as usize, fails)?;
     let end = run(
         alloc,
         &code,
         0,
         args.as_slice(),
-        limits.steps,
+        limits.steps as u64,
         limits.cap,
         true,
         &mut sink,
@@ -112,11 +94,11 @@ pub fn ends(
                 Some(text) => String::from_utf8_lossy(alloc, text.as_slice())?,
                 None => String::new(alloc),
             };
-            format!(in alloc; "{text} copies {copies} nodes {nodes} {printed}")
+            format!(in alloc; "{printed}> {text} copies {copies} nodes {nodes}")
         }
-        Ok(RunEnd::Spent) => format!(in alloc; "spent {printed}"),
-        Ok(RunEnd::OutFault) => format!(in alloc; "fault {printed}"),
-        Ok(RunEnd::Stuck) => format!(in alloc; "stuck {printed}"),
-        Err(_) => format!(in alloc; "no memory {printed}"),
+        Ok(RunEnd::Spent) => format!(in alloc; "{printed}> spent"),
+        Ok(RunEnd::OutFault) => format!(in alloc; "{printed}> fault"),
+        Ok(RunEnd::Stuck) => format!(in alloc; "{printed}> stuck"),
+        Err(_) => format!(in alloc; "{printed}> no memory"),
     }
 }
