@@ -25,7 +25,7 @@ pub struct Limits {
 }
 
 /// The limits of a text: numbers in this order. Those that it lacks are ample.
-pub fn limits(text: &str) -> Limits {
+pub fn limits_of(text: &str) -> Limits {
     let mut words = text.split_whitespace();
     let cap = number_or(&mut words, 5);
     let steps = number_or(&mut words, 20_000_000);

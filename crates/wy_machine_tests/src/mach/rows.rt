@@ -1,5 +1,5 @@
 //! Small routines, with what each instruction does in one.
-use crate::mach::ends::{ends, limits};
+use crate::mach::ends::{ends, limits_of};
 use std::str::Split;
 use std::test::Fail;
 
@@ -108,7 +108,7 @@ fn field<'a>(fields: &mut Split<'a, char>) -> &'a str {
 fn rows(rt: HostRuntime) -> Result<(), Fail> {
     for row in ROWS.lines() {
         let mut fields = row.split('|');
-        let limits = limits(field(&mut fields));
+        let limits = limits_of(field(&mut fields));
         let body = field(&mut fields);
         let second = field(&mut fields);
         let args = field(&mut fields);
