@@ -1,0 +1,52 @@
+-- The laws of named types.
+use Rattle.std.specs.Prelude.{◌≡◌, ℕ, List, Bool, Option}
+use Rattle.wy_value.specs.Datum.{Datum}
+use Rattle.wy_core.specs.Types.{Ty}
+use Rattle.wy_core.specs.CoreTree.{Core}
+use Rattle.wy_formed.specs.Bound.{Bound}
+use Rattle.wy_formed.specs.Recursion.{Recursion}
+use Rattle.wy_sem.specs.TypeTests.{alias_at, tests, member}
+use Rattle.wy_conditions.specs.Numbered.{Node, numbered_core}
+use Rattle.wy_conditions.specs.Values.{Setting, named_in}
+use Rattle.wy_conditions.specs.Programs.{setting_of, conditions_of}
+use Rattle.wy_formed_conditions.specs.OwedConditions.{owed_conditions}
+use Rattle.wy_sound_expressions.specs.Truth.{AreTrueBy}
+use Rattle.wy_sound_expressions.specs.Laws.{NamesTold}
+use Rattle.wy_sound_types.specs.Denotations.{is_defined}
+use Rattle.wy_sound_types.specs.Members.{MeetFormulas, HoldAlways}
+use Rattle.wy_sound_types.specs.Tests.{TestsTell, HaveVariables, AliasesMeet}
+
+-- what the conditions of a program rest on
+abbrev pub told_by : Core ℕ → List Ty → Setting Node
+told_by core flow = setting_of (numbered_core core) flow
+
+-- of programs whose names lead where they should, and whose types recur through records or arrays
+abbrev pub SomeMembersMeet : Type 0
+SomeMembersMeet = (core : Core ℕ) (flow : List Ty) → Bound core → Recursion core → (members : ℕ → Datum → Bool) × MeetFormulas (told_by core flow) members
+
+-- conditions that are true whatever named types stand for, as long as these meet their formulas, are true by data that meet the formulas of all types
+abbrev pub ConditionsAreTrueBy : Type 0
+ConditionsAreTrueBy =
+    (core : Core ℕ) (flow : List Ty) (members : ℕ → Datum → Bool) → MeetFormulas (told_by core flow) members → HoldAlways (owed_conditions core flow) → AreTrueBy members (conditions_of core flow)
+
+-- what formulas say of named types, written out or not, is true exactly of these data; and a type has the data in its definition of which its clauses are true
+pub record MembersAreTold : Type 0 where
+  pub names : (core : Core ℕ) (flow : List Ty) (members : ℕ → Datum → Bool) → Bound core → Recursion core → MeetFormulas (told_by core flow) members → NamesTold members (named_in (told_by core flow))
+  pub defined : (core : Core ℕ) (flow : List Ty) (members : ℕ → Datum → Bool) → Bound core → Recursion core → MeetFormulas (told_by core flow) members
+      → (b : ℕ) (d : Datum) → members b d ≡ is_defined members (told_by core flow).is_number (alias_at (told_by core flow).types b) d
+
+-- what is asked of a program and of data for its types: the conditions are true by them, types have variables exactly where they have clauses, and what the clauses meet is of the kinds that they ask for
+pub record TypesHold (core : Core ℕ) (flow : List Ty) (members : ℕ → Datum → Bool) : Type 0 where
+  pub bound : Bound core
+  pub recursion : Recursion core
+  pub meet : MeetFormulas (told_by core flow) members
+  pub conditions : AreTrueBy members (conditions_of core flow)
+  pub variables : HaveVariables (told_by core flow).types
+  pub clauses : AliasesMeet (told_by core flow) members
+
+-- tests of types are no faults, and answer as types say: `is` tests in code and in contracts, so many clauses deep, and what contracts ask of values
+pub record TestsAreRight : Type 0 where
+  pub tests : (core : Core ℕ) (flow : List Ty) (members : ℕ → Datum → Bool) → TypesHold core flow members
+      → (place : Node → ℕ) (limit : Option ℕ) (depth : ℕ) (paid : Bool) → TestsTell members (tests place limit (told_by core flow).types depth paid)
+  pub member : (core : Core ℕ) (flow : List Ty) (members : ℕ → Datum → Bool) → TypesHold core flow members
+      → (place : Node → ℕ) (limit : Option ℕ) → TestsTell members (member place limit (told_by core flow).types)
