@@ -239,3 +239,6 @@ module _ (core : Core ℕ) (bound : Bound core) (recurs : Recursion core) where
       let n = at_type b less in
       subst (λ (a : Alias Node). NamesAll (λ c. (c < length types) × (level c < level b)) a.ty) (sym n.is)
       (all_named (λ c. (c < length types) × (level c < level b)) n.alias.ty (λ c h. (counted c (named_below (length (aliases_of core)) n.alias.ty (is_bound b n).ty c h), used_level b c less n (inl h) straight)))
+
+  pub rank_within : (b : ℕ) → b < length types → ranked.rank b < length types
+  rank_within b less = let n = at_type b less in let e = same_count core 0 in let l = ranked.within b n.alias n.stands in omega (arith, e, l)

@@ -8,3 +8,9 @@ pub mod ToldLemmas
 pub mod TestLemmas
 pub mod AliasLemmas
 pub mod RankLemmas
+pub mod ReadingLemmas
+pub mod ExactLemmas
+pub mod RestLemmas
+pub mod EndLemmas
+pub mod TestEndLemmas
+pub mod MembershipLemmas

@@ -34,19 +34,19 @@ module _ (core : Core ℕ) (flow : List Ty) (members : ℕ → Datum → Bool) (
   s = told_by core flow
 
   names_told : NamesTold members (named_in s)
-  names_told = told core flow members h.bound h.recursion h.meet
+  names_told = told core flow members h.types.bound h.types.recursion h.types.meet
 
   abbrev says : ℕ → Datum → Bool
   says b d = alias_denotes members s.is_number (alias_at s.types b) d
 
-  clause_tells : (depth : ℕ) (paid : Bool) → TestsTell members (tests place limit s.types depth paid) → (b : ℕ) (d : Datum) → IsBounded d → is_in members (alias_at s.types b).ty d ≡ true
+  pub clause_tells : (depth : ℕ) (paid : Bool) → TestsTell members (tests place limit s.types depth paid) → (b : ℕ) (d : Datum) → IsBounded d → is_in members (alias_at s.types b).ty d ≡ true
       → Tells (says b d) (alias_holds (setting_to place limit s.types depth) paid (alias_at s.types b) d)
   clause_tells depth paid right b d bounded inside =
       let a = alias_at s.types b in
-      let written : AliasWritten a = alias_written (offers_of core) core h.bound 0 b in
+      let written : AliasWritten a = alias_written (offers_of core) core h.types.bound 0 b in
       record {
         tells = λ m.
-            alias_tells (setting_to place limit s.types depth) paid (program_of (numbered_core core) flow) members names_told a written.ty written.clauses d inside a.variable (h.variables b)
+            alias_tells (setting_to place limit s.types depth) paid (program_of (numbered_core core) flow) members names_told a written.ty written.clauses d inside a.variable (h.types.variables b)
             (alias_true (program_of (numbered_core core) flow) members (numbered_core core) h.conditions b) (λ y e. h.clauses place limit depth paid right b y e d bounded inside) m;
       }
 
@@ -59,10 +59,10 @@ module _ (core : Core ℕ) (flow : List Ty) (members : ℕ → Datum → Bool) (
     clause = (λ n e. alias_holds (setting_to place limit s.types depth) paid (alias_at s.types n) e);
   }
 
-  tests_right : (depth : ℕ) (paid : Bool) → TestsTell members (tests place limit s.types depth paid)
+  pub tests_right : (depth : ℕ) (paid : Bool) → TestsTell members (tests place limit s.types depth paid)
   tests_right zero paid t d m bounded = tt
   tests_right (suc depth) paid t d m bounded =
-      (tested_tells (questions depth paid) members says (λ c e. defined_is core flow members h.bound h.recursion h.meet c e) (λ c e b inside. clause_tells depth paid (tests_right depth paid) c e b inside) d bounded t).tells m
+      (tested_tells (questions depth paid) members says (λ c e. defined_is core flow members h.types.bound h.types.recursion h.types.meet c e) (λ c e b inside. clause_tells depth paid (tests_right depth paid) c e b inside) d bounded t).tells m
 
   abbrev forgiving : Questions
   forgiving = record {
@@ -75,7 +75,7 @@ module _ (core : Core ℕ) (flow : List Ty) (members : ℕ → Datum → Bool) (
 
   member_right : TestsTell members (member place limit s.types)
   member_right t d m bounded =
-      (tested_tells forgiving members says (λ c e. defined_is core flow members h.bound h.recursion h.meet c e)
+      (tested_tells forgiving members says (λ c e. defined_is core flow members h.types.bound h.types.recursion h.types.meet c e)
       (λ c e b inside. tells_forgiven (alias_holds (setting_to place limit s.types (suc (length s.types))) false (alias_at s.types c) e) (says c e) (clause_tells (suc (length s.types)) false (tests_right (suc (length s.types)) false) c e b inside)) d bounded t).tells m
 
 pub are_right : TestsAreRight

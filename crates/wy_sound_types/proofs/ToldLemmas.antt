@@ -48,7 +48,7 @@ alias_written o (AliasDecl a ∷ ds) h k zero = record { ty = bound_written o.ty
 alias_written o (AliasDecl a ∷ ds) h k (suc b) = alias_written o ds h.1 (k + exprs_in_decl (AliasDecl a)) b
 alias_written o (RoutineDecl r ∷ ds) h k b = alias_written o ds h.1 (k + exprs_in_decl (RoutineDecl r)) b
 
-alias_past : {M : Type 0} (types : List (Alias M)) (n : ℕ) → length types ≤ n → alias_at types n ≡ no_alias
+pub alias_past : {M : Type 0} (types : List (Alias M)) (n : ℕ) → length types ≤ n → alias_at types n ≡ no_alias
 alias_past [] n past = refl
 alias_past (a ∷ types) zero past = absurd (omega (arith, past))
 alias_past (a ∷ types) (suc n) past = alias_past types n (omega (arith, past))

@@ -76,6 +76,11 @@ abbrev pub ClausesMeet : {N : Type 0} → sem.Setting N → Bool → Setting N �
 ClausesMeet w paid s members seen st [] = Unit {0}
 ClausesMeet w paid s members seen st (e ∷ es) = ClauseMeets w paid s members seen st e × ClausesMeet w paid s members seen st es
 
+-- none of the clauses calls anything
+abbrev pub AllQuiet : {N : Type 0} → List (Expr N) → Type 0
+AllQuiet [] = Unit {0}
+AllQuiet (e ∷ es) = CallsNothing e × AllQuiet es
+
 -- no variable
 abbrev pub no_variable : ℕ → Bool
 no_variable x = false

@@ -1,5 +1,5 @@
 //! Laws of named types, each as the contract of a function without a body.
-ghost use Rattle.wy_sound_types.specs.Laws.{SomeMembersMeet, ConditionsAreTrueBy, MembersAreTold, TestsAreRight};
+ghost use Rattle.wy_sound_types.specs.Laws.{ConditionsAreTrueBy, MembersAreTold, MembershipIsSaid, SomeMembersMeet, TestsAreRight, TypesAreRead};
 
 /// Where the names of a program lead to declarations and its types recur through records or arrays, there are data for all
 /// named types at once that meet the formulas of all types.
@@ -23,4 +23,16 @@ pub fn members_are_told()
 /// the type, of each datum that a program may hold; and so is what a contract asks of a value.
 pub fn tests_are_right()
     ensures right { TestsAreRight }
+{}
+
+/// What a type says by such data lies between its downward and its upward reading, of data that a program may hold, and is both
+/// where no type with clauses is reached. So the laws of typed expressions and clauses may rest on tests that answer so.
+pub fn types_are_read()
+    ensures read { TypesAreRead }
+{}
+
+/// Membership by evaluation, in which a clause that faults isn't true, is what types say by such data, of data that a program
+/// may hold.
+pub fn membership_is_said()
+    ensures said { MembershipIsSaid }
 {}
