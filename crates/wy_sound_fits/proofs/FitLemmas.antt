@@ -34,7 +34,7 @@ no_call e = absurd cc
 
 -- where nothing may be called, nothing is
 mutual
-  quiet : (r : Rules) (n : ℕ) (seen : ℕ → Bool) (e : Expr ℕ) (k : ℕ) → Ready r true n seen e → CallsNothing (numbered e k)
+  pub quiet : (r : Rules) (n : ℕ) (seen : ℕ → Bool) (e : Expr ℕ) (k : ℕ) → Ready r true n seen e → CallsNothing (numbered e k)
   quiet r n seen (NullExpr at) k h = tt
   quiet r n seen (BoolExpr at b) k h = tt
   quiet r n seen (IntExpr at z) k h = tt
@@ -66,7 +66,7 @@ module _ (p : Program) (r : Rules) (w : sem.Setting Node) (conditions : Setting 
   Suited e k = Suits (kinds_of (sem.quiet w) false conditions members) true seen (numbered e k) s
 
   -- the types behind clauses begin with those before them
-  clauses_begin : (es : List (Expr ℕ)) (flow out : List Ty) → ClausesTyped p env es flow (Gives out) → Begins flow out
+  pub clauses_begin : (es : List (Expr ℕ)) (flow out : List Ty) → ClausesTyped p env es flow (Gives out) → Begins flow out
   clauses_begin [] flow out h = subst (λ (l : List Ty). Begins flow l) (sym (given_is out flow h)) (begins_self flow)
   clauses_begin (e ∷ es) flow out h =
       let t = then_gives _ _ out h in

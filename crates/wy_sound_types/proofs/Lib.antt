@@ -14,3 +14,4 @@ pub mod RestLemmas
 pub mod EndLemmas
 pub mod TestEndLemmas
 pub mod MembershipLemmas
+pub mod TypedLemmas

@@ -6,3 +6,5 @@ pub mod Members
 pub mod Tests
 -- the laws
 pub mod Laws
+-- the clauses of types, as typing finds them
+pub mod Typed

@@ -1,5 +1,6 @@
 //! Laws of named types, each as the contract of a function without a body.
 ghost use Rattle.wy_sound_types.specs.Laws.{ConditionsAreTrueBy, MembersAreTold, MembershipIsSaid, SomeMembersMeet, TestsAreRight, TypesAreRead};
+ghost use Rattle.wy_sound_types.specs.Typed.{ClausesOfTypesMeet};
 
 /// Where the names of a program lead to declarations and its types recur through records or arrays, there are data for all
 /// named types at once that meet the formulas of all types.
@@ -35,4 +36,10 @@ pub fn types_are_read()
 /// may hold.
 pub fn membership_is_said()
     ensures said { MembershipIsSaid }
+{}
+
+/// Clauses of types that are typed, and that call nothing: where tests answer as types say, what they meet is of the kinds that
+/// they ask for, at each datum in their types' definitions that a program may hold, in code and in contracts.
+pub fn clauses_of_types_meet()
+    ensures meet { ClausesOfTypesMeet }
 {}

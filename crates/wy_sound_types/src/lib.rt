@@ -8,6 +8,6 @@
 mod law;
 
 pub use law::{
-    conditions_are_true_by_members, members_are_told, membership_is_said, some_members_meet,
-    tests_are_right, types_are_read,
+    clauses_of_types_meet, conditions_are_true_by_members, members_are_told, membership_is_said,
+    some_members_meet, tests_are_right, types_are_read,
 };
