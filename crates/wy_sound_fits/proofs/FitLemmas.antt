@@ -66,7 +66,7 @@ module _ (p : Program) (r : Rules) (w : sem.Setting Node) (conditions : Setting 
   Suited e k = Suits (kinds_of (sem.quiet w) false conditions members) true seen (numbered e k) s
 
   -- the types behind clauses begin with those before them
-  pub clauses_begin : (es : List (Expr ℕ)) (flow out : List Ty) → ClausesTyped p env es flow (Gives out) → Begins flow out
+  clauses_begin : (es : List (Expr ℕ)) (flow out : List Ty) → ClausesTyped p env es flow (Gives out) → Begins flow out
   clauses_begin [] flow out h = subst (λ (l : List Ty). Begins flow l) (sym (given_is out flow h)) (begins_self flow)
   clauses_begin (e ∷ es) flow out h =
       let t = then_gives _ _ out h in

@@ -32,11 +32,11 @@ use Rattle.wy_sound_kinds.specs.Kinds.{HasValues, HasTypes, Kind, Rests}
 use Rattle.wy_sound_kinds.proofs.TypeLemmas.{then_gives, given_is, put_same, put_length}
 use Rattle.wy_sound_kinds.proofs.KindLemmas.{kind}
 use Rattle.wy_sound_suits.specs.Laws.{Begins, Asks, TellsNumbers}
-use Rattle.wy_sound_suits.proofs.FlowLemmas.{begins_more, flow_of, flow_length}
+use Rattle.wy_sound_suits.proofs.FlowLemmas.{begins_self, begins_more, flow_of, flow_length, flow_begins}
 use Rattle.wy_sound_suits.proofs.KindLemmas.{truth_in}
 use Rattle.wy_sound_suits.proofs.SuitLemmas.{contracts_suit}
 use Rattle.wy_sound_fits.specs.Fit.{ClausesReady}
-use Rattle.wy_sound_fits.proofs.FitLemmas.{quiet, clauses_begin}
+use Rattle.wy_sound_fits.proofs.FitLemmas.{quiet}
 use Rattle.wy_sound_types.specs.Tests.{TestsTell, ClausesMeet, no_variable, setting_to, AliasesMeet}
 use Rattle.wy_sound_types.specs.Laws.{told_by, TypesMeet}
 use Rattle.wy_sound_types.specs.Typed.{TypedAlias, AliasesTyped, AliasesReady, ClausesOfTypesMeet}
@@ -44,6 +44,18 @@ use Rattle.wy_sound_types.proofs.ToldLemmas.{alias_written, alias_past}
 use Rattle.wy_sound_types.proofs.RestLemmas.{read, ordered, rests, asks}
 
 -- ---- clauses
+
+-- the types behind clauses begin with those before them
+clauses_begin : (p : Program) (env : Environment) (es : List (Expr ℕ)) (flow out : List Ty) → ClausesTyped p env es flow (Gives out) → Begins flow out
+clauses_begin p env [] flow out h = subst (λ (l : List Ty). Begins flow l) (sym (given_is out flow h)) (begins_self flow)
+clauses_begin p env (e ∷ es) flow out h =
+    let t = then_gives _ _ out h in
+    let t2 = then_gives _ _ t.0 t.1 in
+    let t3 = then_gives _ _ t2.0 t2.1 in
+    let t4 = then_gives _ _ t2.0 t3.2 in
+    let here = flow_begins e flow t3.0 (flow_of p env e [] flow t3.0 t3.1) in
+    let same : t.0 ≡ t3.0.flow = given_is t.0 t2.0.flow t2.2 ∙ ap (λ (v : Found). v.flow) (given_is t2.0 t3.0 t4.2) in
+    begins_more flow t.0 out (subst (λ (l : List Ty). Begins flow l) (sym same) here) (clauses_begin p env es t.0 out t.2)
 
 module _ (p : Program) (r : Rules) (w : sem.Setting Node) (paid : Bool) (conditions : Setting Node) (members : ℕ → Datum → Bool) (resting : Rests p r w paid (is_in members)) (asking : Asks r w paid (is_in members)) (whole : List Ty) (tells : TellsNumbers conditions.is_number whole)
     (env : Environment) (reached : env.reached ≡ true) (seen : ℕ → Bool) (s : sem.Store) (values : HasValues seen s) (types : HasTypes p.names env [] seen s) where
@@ -59,7 +71,7 @@ module _ (p : Program) (r : Rules) (w : sem.Setting Node) (paid : Bool) (conditi
       let t4 = then_gives _ _ t2.0 t3.2 in
       let at_flow = flow_of p env e [] flow t3.0 t3.1 in
       let same : t.0 ≡ t3.0.flow = given_is t.0 t2.0.flow t2.2 ∙ ap (λ (v : Found). v.flow) (given_is t2.0 t3.0 t4.2) in
-      let rest : Begins t.0 whole = begins_more t.0 out whole (clauses_begin p r w conditions members es t.0 out t.2) b in
+      let rest : Begins t.0 whole = begins_more t.0 out whole (clauses_begin p env es t.0 out t.2) b in
       let here : Begins t3.0.flow whole = subst (λ (l : List Ty). Begins l whole) same rest in
       let next : k + exprs_in e ≡ length t.0 = ap (λ (n : ℕ). n + exprs_in e) is ∙ (sym (flow_length e flow t3.0 at_flow) ∙ ap (λ (l : List Ty). length l) (sym same)) in (
         record {
