@@ -40,9 +40,10 @@ use Rattle.wy_sound_expressions.proofs.GenericWalks.{walk_is}
 use Rattle.wy_sound_expressions.proofs.LawLemmas.{expr_grows, quiet_right, types_told}
 use Rattle.wy_sound_clauses.specs.Quiet.{CallsNothing}
 use Rattle.wy_sound_clauses.proofs.ValueLemmas.{value_is}
-use Rattle.wy_sound_types.specs.Denotations.{is_true, with_value, nothing_had, value_if, denoted, clauses_denote}
-use Rattle.wy_sound_types.specs.Tests.{TestsWritten, ClauseTestsWritten, ClauseMeets, ClausesMeet, no_variable}
-use Rattle.wy_sound_types.proofs.DenotationLemmas.{Have, have_later, put_have, nothing_have, value_told}
+use Rattle.wy_sound_members.specs.Denotations.{is_true, with_value, nothing_had, value_if, denoted, clauses_denote}
+use Rattle.wy_sound_members.specs.Tests.{TestsWritten, ClauseTestsWritten}
+use Rattle.wy_sound_types.specs.Tests.{ClauseMeets, ClausesMeet, no_variable}
+use Rattle.wy_sound_members.proofs.DenotationLemmas.{Have, have_later, put_have, nothing_have, value_told}
 
 -- the term of an expression that calls nothing is that of its walk
 abbrev of_walk : Walked → Valued

@@ -12,7 +12,7 @@ use Rattle.wy_types.specs.Names.{Declared, ty_in, declared_in, named_in, is_arra
 use Rattle.wy_sem.specs.TypeTests.{has_clauses, no_alias, alias_at, mentions, mentions_fields, is_constrained_name, is_constrained}
 use Rattle.wy_vc_reach.proofs.BoundedLemmas.{Grows, bounded}
 use Rattle.wy_grounded_conditions.specs.Uses.{NamesAll, AllNamesAll}
-use Rattle.wy_sound_types.proofs.OperationLemmas.{both_same}
+use Rattle.wy_sound_members.proofs.OperationLemmas.{both_same}
 use Rattle.wy_sound_types.proofs.ReadingLemmas.{Fits}
 
 -- ---- names in types

@@ -1,10 +1,3 @@
-pub mod ApartLemmas
-pub mod WrittenLemmas
-pub mod NamingLemmas
-pub mod OperationLemmas
-pub mod DenotationLemmas
-pub mod MemberLemmas
-pub mod ToldLemmas
 pub mod TestLemmas
 pub mod AliasLemmas
 pub mod RankLemmas

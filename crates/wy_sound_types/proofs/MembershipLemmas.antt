@@ -16,11 +16,12 @@ use Rattle.wy_conditions.specs.Values.{Setting}
 use Rattle.wy_sound_expressions.specs.Suits.{Answers}
 use Rattle.wy_sound_expressions.specs.Types.{each_item, is_array_of, is_record_of, is_in, fields_in}
 use Rattle.wy_sound_kinds.specs.Bounded.{IsBounded, AreBounded, FieldsBounded}
-use Rattle.wy_sound_types.specs.Denotations.{alias_denotes}
+use Rattle.wy_sound_members.specs.Denotations.{alias_denotes}
 use Rattle.wy_sound_types.specs.Tests.{setting_to}
-use Rattle.wy_sound_types.specs.Laws.{told_by, TypesHold, MembershipIsSaid}
-use Rattle.wy_sound_types.proofs.OperationLemmas.{both_same}
-use Rattle.wy_sound_types.proofs.ToldLemmas.{alias_past, defined_is}
+use Rattle.wy_sound_members.specs.Laws.{told_by}
+use Rattle.wy_sound_types.specs.Laws.{TypesHold, MembershipIsSaid}
+use Rattle.wy_sound_members.proofs.OperationLemmas.{both_same}
+use Rattle.wy_sound_members.proofs.ToldLemmas.{alias_past, defined_is}
 use Rattle.wy_sound_types.proofs.ReadingLemmas.{Fits}
 use Rattle.wy_sound_types.proofs.RankLemmas.{clause_tells, tests_right}
 use Rattle.wy_sound_types.proofs.RestLemmas.{found, ordered}

@@ -15,10 +15,11 @@ use Rattle.wy_sound_expressions.specs.Types.{is_in}
 use Rattle.wy_sound_expressions.specs.Laws.{NamesTold}
 use Rattle.wy_sound_expressions.proofs.GoodLemmas.{true_left, true_right}
 use Rattle.wy_sound_kinds.specs.Bounded.{IsBounded}
-use Rattle.wy_sound_types.specs.Denotations.{alias_denotes}
+use Rattle.wy_sound_members.specs.Denotations.{alias_denotes}
 use Rattle.wy_sound_types.specs.Tests.{TestsTell, setting_to}
-use Rattle.wy_sound_types.specs.Laws.{told_by, TypesHold, TestsAreRight}
-use Rattle.wy_sound_types.proofs.ToldLemmas.{AliasWritten, alias_written, told, defined_is}
+use Rattle.wy_sound_members.specs.Laws.{told_by}
+use Rattle.wy_sound_types.specs.Laws.{TypesHold, TestsAreRight}
+use Rattle.wy_sound_members.proofs.ToldLemmas.{AliasWritten, alias_written, told, defined_is}
 use Rattle.wy_sound_types.proofs.TestLemmas.{Tells, tells_forgiven, tested_tells}
 use Rattle.wy_sound_types.proofs.AliasLemmas.{alias_tells}
 

@@ -20,10 +20,11 @@ use Rattle.wy_sound_kinds.specs.Bounded.{IsBounded}
 use Rattle.wy_sound_kinds.specs.Ready.{Rules}
 use Rattle.wy_sound_kinds.specs.Kinds.{Rests}
 use Rattle.wy_sound_suits.specs.Laws.{Asks}
-use Rattle.wy_sound_types.specs.Denotations.{clauses_denote, alias_denotes}
+use Rattle.wy_sound_members.specs.Denotations.{clauses_denote, alias_denotes}
 use Rattle.wy_sound_types.specs.Tests.{TestsTell}
-use Rattle.wy_sound_types.specs.Laws.{told_by, TypesMeet, Gives, TypesAreRead}
-use Rattle.wy_sound_types.proofs.ToldLemmas.{alias_written, defined_is}
+use Rattle.wy_sound_members.specs.Laws.{told_by}
+use Rattle.wy_sound_types.specs.Laws.{TypesMeet, Gives, TypesAreRead}
+use Rattle.wy_sound_members.proofs.ToldLemmas.{alias_written, defined_is}
 use Rattle.wy_sound_types.proofs.ReadingLemmas.{Between, Fits, Defines, between}
 use Rattle.wy_sound_types.proofs.ExactLemmas.{readings_same}
 

@@ -38,9 +38,10 @@ use Rattle.wy_sound_suits.proofs.SuitLemmas.{contracts_suit}
 use Rattle.wy_sound_fits.specs.Fit.{ClausesReady}
 use Rattle.wy_sound_fits.proofs.FitLemmas.{quiet}
 use Rattle.wy_sound_types.specs.Tests.{TestsTell, ClausesMeet, no_variable, setting_to, AliasesMeet}
-use Rattle.wy_sound_types.specs.Laws.{told_by, TypesMeet}
+use Rattle.wy_sound_members.specs.Laws.{told_by}
+use Rattle.wy_sound_types.specs.Laws.{TypesMeet}
 use Rattle.wy_sound_types.specs.Typed.{TypedAlias, AliasesTyped, AliasesReady, ClausesOfTypesMeet}
-use Rattle.wy_sound_types.proofs.ToldLemmas.{alias_written, alias_past}
+use Rattle.wy_sound_members.proofs.ToldLemmas.{alias_written, alias_past}
 use Rattle.wy_sound_types.proofs.RestLemmas.{read, ordered, rests, asks}
 
 -- ---- clauses

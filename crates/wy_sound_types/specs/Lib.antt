@@ -1,8 +1,4 @@
--- what contracts denote, by data alone
-pub mod Denotations
--- data of named types that meet the formulas of all types
-pub mod Members
--- tests of types answer so
+-- how tests of types answer
 pub mod Tests
 -- the laws
 pub mod Laws

@@ -1,8 +1,8 @@
--- Which types the tests of expressions ask about, and how tests of types answer.
+-- How tests of types answer, and what the clauses of types meet.
 use Rattle.std.specs.Prelude.{◌≡◌, ℕ, List, [], ◌∷◌, Bool, true, false, Option, Some, is_some}
 use Rattle.wy_value.specs.Datum.{Datum}
 use Rattle.wy_core.specs.Types.{Ty}
-use Rattle.wy_core.specs.CoreTree.{Expr, NullExpr, BoolExpr, IntExpr, VarExpr, CallExpr, NegExpr, NotExpr, LenExpr, BinaryExpr, IsExpr, IndexExpr, FieldExpr, ListExpr, RepeatExpr, RecordExpr, QuantExpr, Exprs, NoExprs, MoreExprs, Fields, NoFields, MoreFields, Alias}
+use Rattle.wy_core.specs.CoreTree.{Expr, Alias}
 use Rattle.wy_sem.specs.Meter.{Meter}
 use Rattle.wy_sem.specs.Expressions as sem
 use Rattle.wy_sem.specs.Expressions.{no_calls}
@@ -12,43 +12,10 @@ use Rattle.wy_conditions.specs.Values.{Setting}
 use Rattle.wy_sound_terms.specs.Kinds.{IsTruth}
 use Rattle.wy_sound_expressions.specs.Names.{also}
 use Rattle.wy_sound_expressions.specs.Types.{is_in}
-use Rattle.wy_sound_expressions.specs.Written.{IsWritten}
 use Rattle.wy_sound_expressions.specs.Suits.{Each, Answers, Suits}
 use Rattle.wy_sound_expressions.specs.Laws.{kinds_of}
 use Rattle.wy_sound_clauses.specs.Quiet.{CallsNothing}
 use Rattle.wy_sound_kinds.specs.Bounded.{IsBounded}
-
-abbrev mutual
-  -- each type that a test of the expression asks about is one that a source may write
-  pub TestsWritten : {N : Type 0} → Expr N → Type 0
-  TestsWritten (NullExpr k) = Unit {0}
-  TestsWritten (BoolExpr k b) = Unit {0}
-  TestsWritten (IntExpr k z) = Unit {0}
-  TestsWritten (VarExpr k x) = Unit {0}
-  TestsWritten (CallExpr k routine args) = AllTestsWritten args
-  TestsWritten (NegExpr k a) = TestsWritten a
-  TestsWritten (NotExpr k a) = TestsWritten a
-  TestsWritten (LenExpr k a) = TestsWritten a
-  TestsWritten (BinaryExpr k o a b) = TestsWritten a × TestsWritten b
-  TestsWritten (IsExpr k a t) = TestsWritten a × IsWritten t
-  TestsWritten (IndexExpr k a b) = TestsWritten a × TestsWritten b
-  TestsWritten (FieldExpr k a name) = TestsWritten a
-  TestsWritten (ListExpr k items) = AllTestsWritten items
-  TestsWritten (RepeatExpr k a b) = TestsWritten a × TestsWritten b
-  TestsWritten (RecordExpr k fields) = FieldTestsWritten fields
-  TestsWritten (QuantExpr k all x a b body) = TestsWritten a × TestsWritten b × TestsWritten body
-
-  pub AllTestsWritten : {N : Type 0} → Exprs N → Type 0
-  AllTestsWritten NoExprs = Unit {0}
-  AllTestsWritten (MoreExprs e es) = TestsWritten e × AllTestsWritten es
-
-  pub FieldTestsWritten : {N : Type 0} → Fields N → Type 0
-  FieldTestsWritten NoFields = Unit {0}
-  FieldTestsWritten (MoreFields name e fs) = TestsWritten e × FieldTestsWritten fs
-
-abbrev pub ClauseTestsWritten : {N : Type 0} → List (Expr N) → Type 0
-ClauseTestsWritten [] = Unit {0}
-ClauseTestsWritten (e ∷ es) = TestsWritten e × ClauseTestsWritten es
 
 -- ---- tests
 

@@ -13,7 +13,8 @@ use Rattle.wy_sound_kinds.specs.Ready.{Rules}
 use Rattle.wy_sound_suits.specs.Laws.{Begins}
 use Rattle.wy_sound_fits.specs.Fit.{ClausesReady}
 use Rattle.wy_sound_types.specs.Tests.{no_variable, AliasesMeet}
-use Rattle.wy_sound_types.specs.Laws.{told_by, TypesMeet}
+use Rattle.wy_sound_members.specs.Laws.{told_by}
+use Rattle.wy_sound_types.specs.Laws.{TypesMeet}
 
 -- the type with this number: its clauses are typed behind the expressions before them, and have numbers from theirs on
 pub record TypedAlias (core : Core ℕ) (flow : List Ty) (b : ℕ) : Type 0 where

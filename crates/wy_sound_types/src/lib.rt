@@ -1,13 +1,9 @@
-//! Named types: which data they stand for.
+//! Types at run time: tests of types, and membership, answer as types say by data that meet the formulas of all types.
 //!
-//! A condition is true by each choice of data for named types that meets the formulas of the types that it mentions. There is a
-//! choice that meets the formulas of all types at once, so that each condition speaks of it. By it a formula may write a type
-//! out or test it by its name: both say the same.
+//! A clause of a type tests deeper types alone, so by the depth of clauses: what the clauses of a type owe makes them safe on data
+//! of its definition, and their answers are what they denote. So no test of a type is a fault.
 #![tactic(auto)]
 
 mod law;
 
-pub use law::{
-    clauses_of_types_meet, conditions_are_true_by_members, members_are_told, membership_is_said,
-    some_members_meet, tests_are_right, types_are_read,
-};
+pub use law::{clauses_of_types_meet, membership_is_said, tests_are_right, types_are_read};

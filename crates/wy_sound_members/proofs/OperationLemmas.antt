@@ -14,7 +14,7 @@ use Rattle.wy_sem.specs.Operations.{same}
 use Rattle.wy_formed_conditions.proofs.MakingLemmas.{IsOf, num_sorted, formula_sorted}
 use Rattle.wy_sound_terms.proofs.MadeLemmas.{number, datum, holds, all, some, num_means, len_means, add_means, sub_means, mul_means, div_means, rem_means, neg_means, int_means, value_means, at_most_means, denied_means, less_means, equal_means, all_means, some_means}
 use Rattle.wy_sound_expressions.proofs.QuantifierLemmas.{range, bound_means}
-use Rattle.wy_sound_types.specs.Denotations.{is_true, equals, operates, holds_of, holds_between}
+use Rattle.wy_sound_members.specs.Denotations.{is_true, equals, operates, holds_of, holds_between}
 
 pub both_same : {A B C : Type 0} (f : A → B → C) (a c : A) (b d : B) → a ≡ c → b ≡ d → f a b ≡ f c d
 both_same f a c b d p q = ap (λ x. f x b) p ∙ ap (f c) q

@@ -27,8 +27,8 @@ use Rattle.wy_formed_conditions.proofs.ClosedLemmas.{test_closed}
 use Rattle.wy_grounded_conditions.proofs.ReachLemmas.{listed_below, mentioned_listed}
 use Rattle.wy_grounded_conditions.proofs.GroundedLemmas.{stands_for, all_same, grounded}
 use Rattle.wy_sound_expressions.specs.Truth.{AreTrueBy}
-use Rattle.wy_sound_types.specs.Members.{MeetFormulas, HoldAlways}
-use Rattle.wy_sound_types.specs.Laws.{told_by, SomeMembersMeet, ConditionsAreTrueBy}
+use Rattle.wy_sound_members.specs.Members.{MeetFormulas, HoldAlways}
+use Rattle.wy_sound_members.specs.Laws.{told_by, SomeMembersMeet, ConditionsAreTrueBy}
 
 -- ---- a condition that tests all types
 

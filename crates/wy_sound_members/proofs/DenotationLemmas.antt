@@ -22,9 +22,9 @@ use Rattle.wy_sound_expressions.proofs.NameLemmas.{agree_refl, eqb_refl, agree_l
 use Rattle.wy_sound_expressions.proofs.ValueGrows.{holds_grows, value_grows, values_grow, parts_grow}
 use Rattle.wy_sound_expressions.proofs.QuantifierLemmas.{name_means}
 use Rattle.wy_sound_expressions.proofs.LawLemmas.{tells_by}
-use Rattle.wy_sound_types.specs.Denotations.{is_true, operates, holds_between, with_value, nothing_had, value_if, denoted, all_denoted, parts_denoted, clauses_denote, alias_denotes, is_defined}
-use Rattle.wy_sound_types.specs.Tests.{TestsWritten, AllTestsWritten, FieldTestsWritten, ClauseTestsWritten}
-use Rattle.wy_sound_types.proofs.OperationLemmas.{both_same, formula_is, operated_means, negated_means, denial_means, length_means, quantified_means}
+use Rattle.wy_sound_members.specs.Denotations.{is_true, operates, holds_between, with_value, nothing_had, value_if, denoted, all_denoted, parts_denoted, clauses_denote, alias_denotes, is_defined}
+use Rattle.wy_sound_members.specs.Tests.{TestsWritten, AllTestsWritten, FieldTestsWritten, ClauseTestsWritten}
+use Rattle.wy_sound_members.proofs.OperationLemmas.{both_same, formula_is, operated_means, negated_means, denial_means, length_means, quantified_means}
 
 -- ---- variables
 

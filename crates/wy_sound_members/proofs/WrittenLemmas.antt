@@ -9,8 +9,8 @@ use Rattle.wy_conditions.specs.Sizes.{exprs_in}
 use Rattle.wy_conditions.specs.Numbered.{Node, numbered, numbered_all, numbered_fields, numbered_list}
 use Rattle.wy_conditions.specs.Values.{names_of}
 use Rattle.wy_sound_expressions.specs.Written.{AreApart, IsWritten, AreWritten}
-use Rattle.wy_sound_types.specs.Tests.{TestsWritten, AllTestsWritten, FieldTestsWritten, ClauseTestsWritten}
-use Rattle.wy_sound_types.proofs.ApartLemmas.{rising_apart}
+use Rattle.wy_sound_members.specs.Tests.{TestsWritten, AllTestsWritten, FieldTestsWritten, ClauseTestsWritten}
+use Rattle.wy_sound_members.proofs.ApartLemmas.{rising_apart}
 
 same_names : (fields : FieldTys) → names_of_tys fields ≡ names_of fields
 same_names NoFieldTys = refl

@@ -27,13 +27,13 @@ use Rattle.wy_sound_expressions.specs.Written.{IsWritten}
 use Rattle.wy_sound_expressions.specs.Laws.{NamesTold}
 use Rattle.wy_sound_expressions.proofs.NameLemmas.{agree_refl}
 use Rattle.wy_sound_expressions.proofs.ValueGrows.{pick_grows, named_grows}
-use Rattle.wy_sound_types.specs.Denotations.{is_defined}
-use Rattle.wy_sound_types.specs.Tests.{ClauseTestsWritten}
-use Rattle.wy_sound_types.specs.Members.{MeetFormulas}
-use Rattle.wy_sound_types.specs.Laws.{told_by, MembersAreTold}
-use Rattle.wy_sound_types.proofs.NamingLemmas.{defined_same}
-use Rattle.wy_sound_types.proofs.DenotationLemmas.{defined_told}
-use Rattle.wy_sound_types.proofs.WrittenLemmas.{bound_written, clauses_written}
+use Rattle.wy_sound_members.specs.Denotations.{is_defined}
+use Rattle.wy_sound_members.specs.Tests.{ClauseTestsWritten}
+use Rattle.wy_sound_members.specs.Members.{MeetFormulas}
+use Rattle.wy_sound_members.specs.Laws.{told_by, MembersAreTold}
+use Rattle.wy_sound_members.proofs.NamingLemmas.{defined_same}
+use Rattle.wy_sound_members.proofs.DenotationLemmas.{defined_told}
+use Rattle.wy_sound_members.proofs.WrittenLemmas.{bound_written, clauses_written}
 
 -- ---- declared types
 
