@@ -1,5 +1,5 @@
 -- What `print` owes is that each item of its text is a character of ASCII.
-use Rattle.std.proofs.Common.{◌≡◌, ℕ, zero, suc, ◌+◌, ◌-◌, ◌<◌, ◌≤◌, List, [], ◌∷◌, Bool, true, false, ◌&&◌, Option, Some, None, ℤ, pos, ◌-ℤ◌, int_le, refl, sym, ap, ◌∙◌, subst, arith}
+use Rattle.std.proofs.Common.{◌≡◌, ℕ, suc, ◌+◌, ◌<◌, ◌≤◌, List, [], ◌∷◌, Bool, true, false, ◌&&◌, Option, Some, None, ℤ, pos, ◌-ℤ◌, int_le, refl, sym, ap, ◌∙◌, subst, arith}
 use Rattle.std.proofs.lemmas.Int.{ints}
 use Rattle.wy_value.specs.Datum.{Datum, Null, Truth, Whole, Array, Record, Data, no_items, item}
 use Rattle.wy_term.specs.declared.cond.CondKind.TheVariants as kind
@@ -16,7 +16,6 @@ use Rattle.wy_conditions.specs.Clauses.{one_goal, pass_goals}
 use Rattle.wy_conditions.specs.Calls.{are_characters, print_walk}
 use Rattle.wy_formed_conditions.proofs.MakingLemmas.{IsOf, none, more, number_sorted, int_name_sorted, num_sorted, len_sorted, get_sorted, at_most_sorted, all_sorted}
 use Rattle.wy_sound_terms.specs.Kinds.{IsWhole}
-use Rattle.wy_sound_terms.proofs.FollowLemmas.{not_both}
 use Rattle.wy_sound_terms.proofs.MadeLemmas.{holds as true_at, number, datum, num_means, len_means, get_means, at_most_means, all_means}
 use Rattle.wy_sound_expressions.specs.Names.{Agree, Known, Means}
 use Rattle.wy_sound_expressions.specs.Truth.{AreTrueBy, Good}
