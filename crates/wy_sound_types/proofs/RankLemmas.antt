@@ -1,11 +1,12 @@
 -- Tests of types answer as types say, since the clauses of a type test deeper types alone.
-use Rattle.std.proofs.Common.{◌≡◌, ℕ, zero, suc, List, [], ◌∷◌, length, Bool, true, false, Option, Some, refl}
+use Rattle.std.proofs.Common.{◌≡◌, ℕ, zero, suc, List, [], ◌∷◌, length, Bool, true, false, Option, Some, refl, sym, subst}
 use Rattle.wy_value.specs.Datum.{Datum}
 use Rattle.wy_core.specs.Types.{Ty}
 use Rattle.wy_core.specs.CoreTree.{Alias, Decl, AliasDecl, RoutineDecl, Core, aliases_of}
 use Rattle.wy_formed.specs.Offers.{offers_of}
-use Rattle.wy_sem.specs.Meter.{Meter}
-use Rattle.wy_sem.specs.TypeTests.{Questions, alias_at, alias_holds, forgiven, tests, member}
+use Rattle.wy_sem.specs.Meter.{Meter, choose}
+use Rattle.wy_sem.specs.TypeTests.{Questions, answer, alias_at, alias_holds, forgiven, is_constrained, tests, member}
+use Rattle.wy_sem.specs.Evaluation.{owed_member}
 use Rattle.wy_conditions.specs.Numbered.{Node, numbered_core}
 use Rattle.wy_conditions.specs.Values.{Setting, named_in}
 use Rattle.wy_conditions.specs.Walks.{Program}
@@ -14,11 +15,12 @@ use Rattle.wy_sound_expressions.specs.Truth.{AreTrueBy}
 use Rattle.wy_sound_expressions.specs.Types.{is_in}
 use Rattle.wy_sound_expressions.specs.Laws.{NamesTold}
 use Rattle.wy_sound_expressions.proofs.GoodLemmas.{true_left, true_right}
+use Rattle.wy_sound_expressions.specs.Suits.{Answers}
 use Rattle.wy_sound_kinds.specs.Bounded.{IsBounded}
 use Rattle.wy_sound_members.specs.Denotations.{alias_denotes}
 use Rattle.wy_sound_types.specs.Tests.{TestsTell, setting_to}
 use Rattle.wy_sound_members.specs.Laws.{told_by}
-use Rattle.wy_sound_types.specs.Laws.{TypesHold, TestsAreRight}
+use Rattle.wy_sound_types.specs.Laws.{TypesHold, TestsAreRight, ChecksAreRight}
 use Rattle.wy_sound_members.proofs.ToldLemmas.{AliasWritten, alias_written, told, defined_is}
 use Rattle.wy_sound_types.proofs.TestLemmas.{Tells, tells_forgiven, tested_tells}
 use Rattle.wy_sound_types.proofs.AliasLemmas.{alias_tells}
@@ -83,4 +85,11 @@ pub are_right : TestsAreRight
 are_right = record {
   tests = λ core flow members h place limit depth paid t d m bounded. tests_right core flow members h place limit depth paid t d m bounded;
   member = λ core flow members h place limit t d m bounded. member_right core flow members h place limit t d m bounded;
+}
+
+pub checks_are_right : ChecksAreRight
+checks_are_right core flow members h place limit = record {
+  asked = λ t d m bounded e.
+      subst (λ (c : Bool). Answers (is_in members t d) (choose c (member place limit (told_by core flow).types t d) (answer true) m)) (sym e) (member_right core flow members h place limit t d m bounded);
+  free = λ t d m bounded e. subst (λ (c : Bool). Answers true (choose c (member place limit (told_by core flow).types t d) (answer true) m)) (sym e) refl;
 }

@@ -12,6 +12,7 @@ use Rattle.wy_sem.specs.Meter.{Meter, Done}
 use Rattle.wy_sem.specs.Expressions as sem
 use Rattle.wy_sem.specs.TypeTests.{alias_at, is_constrained, tests, member}
 use Rattle.wy_sem.specs.Membership.{is_member}
+use Rattle.wy_sem.specs.Evaluation.{owed_member}
 use Rattle.wy_conditions.specs.Numbered.{Node}
 use Rattle.wy_conditions.specs.Programs.{conditions_of}
 use Rattle.wy_sound_expressions.specs.Truth.{AreTrueBy}
@@ -21,6 +22,7 @@ use Rattle.wy_sound_kinds.specs.Bounded.{IsBounded}
 use Rattle.wy_sound_kinds.specs.Ready.{Rules}
 use Rattle.wy_sound_kinds.specs.Kinds.{AreFor, IsResult, Rests}
 use Rattle.wy_sound_suits.specs.Laws.{Asks}
+use Rattle.wy_sound_calls.specs.CallLaws.{Checks}
 use Rattle.wy_sound_members.specs.Members.{MeetFormulas}
 use Rattle.wy_sound_members.specs.Laws.{told_by}
 use Rattle.wy_sound_types.specs.Tests.{TestsTell, HaveVariables, AllQuiet, AliasesMeet}
@@ -45,6 +47,11 @@ pub record TestsAreRight : Type 0 where
       → (place : Node → ℕ) (limit : Option ℕ) (depth : ℕ) (paid : Bool) → TestsTell members (tests place limit (told_by core flow).types depth paid)
   pub member : (core : Core ℕ) (flow : List Ty) (members : ℕ → Datum → Bool) → TypesHold core flow members
       → (place : Node → ℕ) (limit : Option ℕ) → TestsTell members (member place limit (told_by core flow).types)
+
+-- the checks of types that calls, variables and results make are as the laws of these ask
+abbrev pub ChecksAreRight : Type 0
+ChecksAreRight = (core : Core ℕ) (flow : List Ty) (members : ℕ → Datum → Bool) → TypesHold core flow members → (place : Node → ℕ) (limit : Option ℕ)
+    → Checks (told_by core flow) members (owed_member place limit (told_by core flow).types)
 
 -- ---- types by their readings
 

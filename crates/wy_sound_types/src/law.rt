@@ -1,5 +1,5 @@
 //! Laws of named types, each as the contract of a function without a body.
-ghost use Rattle.wy_sound_types.specs.Laws.{MembershipIsSaid, TestsAreRight, TypesAreRead};
+ghost use Rattle.wy_sound_types.specs.Laws.{ChecksAreRight, MembershipIsSaid, TestsAreRight, TypesAreRead};
 ghost use Rattle.wy_sound_types.specs.Typed.{ClausesOfTypesMeet};
 
 /// Where the conditions of a program are true by data that meet the formulas of all types, and what the clauses of its types meet
@@ -7,6 +7,11 @@ ghost use Rattle.wy_sound_types.specs.Typed.{ClausesOfTypesMeet};
 /// the type, of each datum that a program may hold; and so is what a contract asks of a value.
 pub fn tests_are_right()
     ensures right { TestsAreRight }
+{}
+
+/// The checks of types that calls, variables and results make are no faults, and answer so.
+pub fn checks_are_right()
+    ensures right { ChecksAreRight }
 {}
 
 /// What a type says by such data lies between its downward and its upward reading, of data that a program may hold, and is both

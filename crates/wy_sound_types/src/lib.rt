@@ -6,4 +6,6 @@
 
 mod law;
 
-pub use law::{clauses_of_types_meet, membership_is_said, tests_are_right, types_are_read};
+pub use law::{
+    checks_are_right, clauses_of_types_meet, membership_is_said, tests_are_right, types_are_read,
+};
