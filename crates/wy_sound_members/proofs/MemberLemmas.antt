@@ -39,10 +39,10 @@ all_tests (suc n) = part (Of (in_type n) no_parts) (all_tests n)
 
 all_tested : (k n : ℕ) → n < k → is_among (tests_in_parts (all_tests k)) n ≡ true
 all_tested zero n less = absurd (omega (arith, less))
-all_tested (suc k) n less = by (cases_lt n k) where
-  by : (n < k) ⊎ (k ≤ n) → (eqb k n || is_among (tests_in_parts (all_tests k)) n) ≡ true
-  by (inl l) = or_right (eqb k n) (is_among (tests_in_parts (all_tests k)) n) (all_tested k n l)
-  by (inr past) =
+all_tested (suc k) n less = by (λ l. all_tested k n l) (cases_lt n k) where
+  by : (n < k → is_among (tests_in_parts (all_tests k)) n ≡ true) → (n < k) ⊎ (k ≤ n) → (eqb k n || is_among (tests_in_parts (all_tests k)) n) ≡ true
+  by rest (inl l) = or_right (eqb k n) (is_among (tests_in_parts (all_tests k)) n) (rest l)
+  by rest (inr past) =
       let is : k ≡ n = omega (arith, less, past) in
       or_left (eqb k n) (is_among (tests_in_parts (all_tests k)) n) (subst (λ (m : ℕ). eqb k m ≡ true) is (eqb_self k))
 
@@ -53,17 +53,17 @@ append_nothing (n ∷ ns) = ap (λ (ms : List ℕ). n ∷ ms) (append_nothing ns
 abbrev about_all : ℕ → Owed
 about_all n = record { kind = kind.Member; at = 0; hyps = []; goal = Of all_of (all_tests n) }
 
-some_names : Names
+abbrev some_names : Names
 some_names = record { datum_of = λ w n. Null; number_of = λ w n. pos 0; is_member = λ n d. false }
 
 -- ---- what listed types are told by
 
 unfolded_at : (s : Setting Node) (names : Names) (ns : List ℕ) → AreUnfolded names (map (unfolded s) ns) → (b : ℕ) → is_among ns b ≡ true → (d : Datum) → names.is_member b d ≡ says names (unfolded s b) d
 unfolded_at s names [] h b t d = absurd cc
-unfolded_at s names (n ∷ ns) h b t d = by (or_cases (eqb n b) (is_among ns b) t) where
-  by : (eqb n b ≡ true) ⊎ (is_among ns b ≡ true) → names.is_member b d ≡ says names (unfolded s b) d
-  by (inl e) = subst (λ (m : ℕ). names.is_member m d ≡ says names (unfolded s m) d) (eqb-true n b e) (h.0 d)
-  by (inr e) = unfolded_at s names ns h.1 b e d
+unfolded_at s names (n ∷ ns) h b t d = by (λ e. unfolded_at s names ns h.1 b e d) (or_cases (eqb n b) (is_among ns b) t) where
+  by : (is_among ns b ≡ true → names.is_member b d ≡ says names (unfolded s b) d) → (eqb n b ≡ true) ⊎ (is_among ns b ≡ true) → names.is_member b d ≡ says names (unfolded s b) d
+  by rest (inl e) = subst (λ (m : ℕ). names.is_member m d ≡ says names (unfolded s m) d) (eqb-true n b e) (h.0 d)
+  by rest (inr e) = rest e
 
 unlisted : (s : Setting Node) (ns : List ℕ) (b : ℕ) → ((n : ℕ) → is_among ns n ≡ true → n ≡ b → ⊥) → IsUnlisted b (map (unfolded s) ns)
 unlisted s [] b h = tt

@@ -142,14 +142,12 @@ module _ (core : Core ℕ) (flow : List Ty) (members : ℕ → Datum → Bool) (
 
   -- by levels
   told_to : (k j c : ℕ) → c < count → height c ≤ k → height c ≤ j → Told j c
-  told_to zero j c less le deep = let l = level_above core bound recurs c less in absurd (omega (arith, le, l))
-  told_to (suc k) zero c less le deep = let l = level_above core bound recurs c less in absurd (omega (arith, deep, l))
-  told_to (suc k) (suc i) c less le deep n v names d right is means = by (is_written s.types c) refl where
-    by : (b : Bool) → is_written s.types c ≡ b → (sense names (cond b (defined s (named_to s i) (alias_at s.types c) v n) (valued n (in_type c v))).term).truth ≡ members c d
-    by true e =
-        written_told c i less (not_recursive (is_recursive s.types c) (nat_le (written_nodes s.types (suc count) c) 64) e)
-        (λ j e2 l lower enough. told_to k j e2 l (omega (arith, le, lower)) enough) deep n v names d right is means
-    by false e = test_told c n v names d right means
+  told_to zero j c less le deep n v names d right is means = let l = level_above core bound recurs c less in absurd (omega (arith, le, l))
+  told_to (suc k) zero c less le deep n v names d right is means = let l = level_above core bound recurs c less in absurd (omega (arith, deep, l))
+  told_to (suc k) (suc i) c less le deep n v names d right is means = by (λ j e2 l lower enough. told_to k j e2 l (omega (arith, le, lower)) enough) (is_written s.types c) refl where
+    by : ((j e : ℕ) → e < count → height e < height c → height e ≤ j → Told j e) → (b : Bool) → is_written s.types c ≡ b → (sense names (cond b (defined s (named_to s i) (alias_at s.types c) v n) (valued n (in_type c v))).term).truth ≡ members c d
+    by deeper true e = written_told c i less (not_recursive (is_recursive s.types c) (nat_le (written_nodes s.types (suc count) c) 64) e) deeper deep n v names d right is means
+    by deeper false e = test_told c n v names d right means
 
   pub told : NamesTold members (named_in s)
   told c n v names d right is means = by (cases_lt c count) where

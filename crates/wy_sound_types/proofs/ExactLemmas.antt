@@ -157,16 +157,16 @@ module _ {N : Type 0} (types : List (Alias N)) where
 
     names_exact : (shape : Shape Ty) → Alike shape → (j n : ℕ) → IsFree n → named_in names j shape true n ≡ named_in names j shape false n
     names_exact shape h zero n f = refl
-    names_exact shape h (suc j) n f = by (slice_get names n) (found n) where
+    names_exact shape h (suc j) n f = by (λ m g. names_exact shape h j m g) (slice_get names n) (found n) where
       free : (has_clauses (alias_at types n).clauses ≡ false) × NamesAll IsFree (alias_at types n).ty
       free = free_names n f
 
-      by : (o : Option Declared) → Fits o (alias_at types n) → declared_in (named_in names j shape) shape true o ≡ declared_in (named_in names j shape) shape false o
-      by None fits = refl
-      by (Some e) fits =
+      by : ((m : ℕ) → IsFree m → named_in names j shape true m ≡ named_in names j shape false m) → (o : Option Declared) → Fits o (alias_at types n) → declared_in (named_in names j shape) shape true o ≡ declared_in (named_in names j shape) shape false o
+      by inner None fits = refl
+      by inner (Some e) fits =
           let none : e.constrained ≡ false = fits.1 ∙ (variables n ∙ free.0) in
           let body : ty_in (named_in names j shape) shape true e.ty ≡ ty_in (named_in names j shape) shape false e.ty =
-          type_exact (named_in names j shape) shape h (λ m g. names_exact shape h j m g) e.ty (subst (NamesAll IsFree) (sym fits.0) free.1) in
+          type_exact (named_in names j shape) shape h inner e.ty (subst (NamesAll IsFree) (sym fits.0) free.1) in
           body
           ∙ sym (ap (λ (c : Bool). (false || not c) && ty_in (named_in names j shape) shape false e.ty) none ∙ open_up false (ty_in (named_in names j shape) shape false e.ty))
 

@@ -132,12 +132,12 @@ module _ (core : Core ℕ) (flow : List Ty) (members : ℕ → Datum → Bool) (
       by (Some x) e c = absurd (omega (arith, c))
     name_same (suc j) n b =
         and_when (belongs (name_belongs q d items parts j) d items parts (alias_at s.types n).ty) (is_in members (alias_at s.types n).ty d) (clauses_true place s.types n d) (says n d)
-        (by (slice_get names n) refl (found core 0 n) b) (λ inside. clauses_are n d bounded inside) ∙ sym (members_are n d) where
-      by : (o : Option Declared) → slice_get names n ≡ o → Fits o (alias_at s.types n) → IsDeclaredBelow (order n) (suc j) o → belongs (name_belongs q d items parts j) d items parts (alias_at s.types n).ty ≡ is_in members (alias_at s.types n).ty d
-      by None e fits c = subst (λ (t : Ty). belongs (name_belongs q d items parts j) d items parts t ≡ is_in members t d) (sym fits) refl
-      by (Some x) e fits c =
+        (by (λ m g. name_same j m g) (slice_get names n) refl (found core 0 n) b) (λ inside. clauses_are n d bounded inside) ∙ sym (members_are n d) where
+      by : ((m : ℕ) → IsDeclaredBelow (order m) j (slice_get names m) → name_belongs q d items parts j m ≡ members m d) → (o : Option Declared) → slice_get names n ≡ o → Fits o (alias_at s.types n) → IsDeclaredBelow (order n) (suc j) o → belongs (name_belongs q d items parts j) d items parts (alias_at s.types n).ty ≡ is_in members (alias_at s.types n).ty d
+      by inner None e fits c = subst (λ (t : Ty). belongs (name_belongs q d items parts j) d items parts t ≡ is_in members t d) (sym fits) refl
+      by inner (Some x) e fits c =
           subst (λ (t : Ty). belongs (name_belongs q d items parts j) d items parts t ≡ is_in members t d) fits.0
-          (belongs_same (name_belongs q d items parts j) d items parts hi hp (order n) (λ m g. name_same j m (lower m (order n) j (omega (arith, c)) (slice_get names m) g)) x.ty (is_ordered n x e).1)
+          (belongs_same (name_belongs q d items parts j) d items parts hi hp (order n) (λ m g. inner m (lower m (order n) j (omega (arith, c)) (slice_get names m) g)) x.ty (is_ordered n x e).1)
 
   as_many : length names ≡ length s.types
   as_many = same_lengths core 0

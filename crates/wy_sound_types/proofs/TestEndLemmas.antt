@@ -170,14 +170,20 @@ module _ (core : Core ℕ) (bound_core : Bound core) (recurs : Recursion core) (
       lower : (c : ℕ) → (c < length all) × (height c ≤ height b) → IsTo l c
       lower c g = let x : height b ≤ l = p.1 in let y : height c ≤ height b = g.1 in (g.0, omega (arith, x, y))
 
-  tests_end : (j : ℕ) (t : Ty) → NamesAll (IsTo j) t → (d : Datum) → Ended Bool (tests place None all (suc j) false t d)
-  tests_end j t h d =
+  at_depth : (j : ℕ) → ((b : ℕ) → IsTo j b → (u : Ty) → NamesAll (IsBelow b) u → (e : Datum) → Ended Bool (tests place None all j false u e)) → (t : Ty) → NamesAll (IsTo j) t → (d : Datum) → Ended Bool (tests place None all (suc j) false t d)
+  at_depth j deeper t h d =
       tested_ends (λ n. (alias_at all n).ty) (length all) (λ n e. alias_holds (setting_to place None all j) false (alias_at all n) e) (IsTo j) rank (named_to j) (λ b p. rank_within core bound_core recurs b p.0)
-      (λ b p e. alias_ends b j p.0 (deeper j b p) e) d t h
-    where
-      deeper : (i b : ℕ) → IsTo i b → (u : Ty) → NamesAll (IsBelow b) u → (e : Datum) → Ended Bool (tests place None all i false u e)
-      deeper zero b p u g e = let l = level_above core bound_core recurs b p.0 in let x : height b ≤ 0 = p.1 in absurd (omega (arith, l, x))
-      deeper (suc i) b p u g e = tests_end i u (all_names (IsBelow b) (IsTo i) (λ c k. let x : height b ≤ suc i = p.1 in let y : height c < height b = k.1 in (k.0, omega (arith, x, y))) u g) e
+      (λ b p e. alias_ends b j p.0 (deeper b p) e) d t h
+
+  none_to : {X : Type 0} (b : ℕ) → IsTo 0 b → X
+  none_to b p = let l = level_above core bound_core recurs b p.0 in let x : height b ≤ 0 = p.1 in absurd (omega (arith, l, x))
+
+  below_to : (i b : ℕ) → IsTo (suc i) b → (c : ℕ) → IsBelow b c → IsTo i c
+  below_to i b p c k = let x : height b ≤ suc i = p.1 in let y : height c < height b = k.1 in (k.0, omega (arith, x, y))
+
+  tests_end : (j : ℕ) (t : Ty) → NamesAll (IsTo j) t → (d : Datum) → Ended Bool (tests place None all (suc j) false t d)
+  tests_end zero t h d = at_depth zero (λ b p u g e. none_to b p) t h d
+  tests_end (suc i) t h d = at_depth (suc i) (λ b p u g e. tests_end i u (all_names (IsBelow b) (IsTo i) (below_to i b p) u g) e) t h d
 
   -- the clauses of each type, where contracts ask about values
   pub clauses_end : (b : ℕ) → b < length all → (d : Datum) → Ended Bool (alias_holds (setting_to place None all (suc (length all))) false (alias_at all b) d)
