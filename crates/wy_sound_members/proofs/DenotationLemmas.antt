@@ -60,7 +60,7 @@ put_have n u vars has x t d h g y = by (x == y) refl where
   by true e = subst (λ (z : ℕ). Means n u (variable (put vars x t) z) d) (eqb-true x y e) (subst (λ (s : Term). Means n u s d) (sym (put_here vars x t)) g)
   by false e = subst (λ (s : Term). Means n u s (has y)) (sym (put_there vars x y t (unlike x y e))) (h y)
 
-nothing_have : (n : ℕ) (u : Names) → Have n u [] nothing_had
+pub nothing_have : (n : ℕ) (u : Names) → Have n u [] nothing_had
 nothing_have n u x w a = refl
 
 pub if_have : (n : ℕ) (u : Names) (x : Option ℕ) (v : Term) (d : Datum) → Means n u v d → Have n u (put_if [] x v) (value_if x d)

@@ -120,7 +120,7 @@ module _ (w : sem.Setting Node) (paid : Bool) (p : Program Node) (members : ℕ 
 
 module _ (w : sem.Setting Node) (paid : Bool) (p : Program Node) (members : ℕ → Datum → Bool) (told : NamesTold members (named_in p.setting)) (a : Alias Node) (ty : IsWritten a.ty) (tests : ClauseTestsWritten a.clauses) (d : Datum) (inside : is_in members a.ty d ≡ true) where
   -- every name stands for the datum
-  names : Names
+  abbrev names : Names
   names = record { datum_of = λ word n. d; number_of = λ word n. pos 0; is_member = members }
 
   name_means : (word : List ℕ) → Means 1 names (val_name word 0) d

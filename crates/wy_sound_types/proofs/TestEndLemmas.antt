@@ -159,7 +159,7 @@ module _ (core : Core ℕ) (bound_core : Bound core) (recurs : Recursion core) (
       let a = alias_at all b in
       all_end place all j (IsBelow b) ends a.clauses (quiet b) ((types_levelled core bound_core recurs).tested b less) (set_if (unset a.variables) a.variable (Some d))
 
-  rank : ℕ → ℕ
+  abbrev rank : ℕ → ℕ
   rank = (ranked core bound_core recurs).rank
 
   named_to : (l b : ℕ) → IsTo l b → NamesBare (λ c. IsTo l c × (rank c < rank b)) (IsTo l) (alias_at all b).ty
