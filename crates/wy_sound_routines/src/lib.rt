@@ -1,0 +1,6 @@
+//! Functions and methods: their entries, their contracts, and calls by their depth.
+#![tactic(auto)]
+
+mod law;
+
+pub use law::{contracts_are_safe, entries_stand};
