@@ -72,7 +72,7 @@ module _ (w : sem.Setting Node) (p : Program Node) (members : ℕ → Datum → 
   abbrev known : List Term
   known = (walk_clauses p r.variables r.preconditions vars hyps start).hyps
 
-  middle_known : AllPass w r.preconditions (entry_of r vs) → Known middle entered.names then
+  middle_known : AllPass w r.preconditions (entry_of r vs) → Known middle entered.names known
   middle_known pass = walked_known w p members told r.variables vars entered.names seen (entry_of r vs) entered.right da r.preconditions hyps start fit.first entered.stand entered.known pass
 
   middle_stand : Stand middle entered.names vars seen (entry_of r vs)

@@ -1,2 +1,4 @@
 -- where functions and methods begin, and what their contracts need
 pub mod Entries
+-- calls by their depth
+pub mod Depths

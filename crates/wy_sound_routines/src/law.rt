@@ -1,4 +1,5 @@
 //! Laws of functions and methods, each as the contract of a function without a body.
+ghost use Rattle.wy_sound_routines.specs.Depths.{CallsAreHandled};
 ghost use Rattle.wy_sound_routines.specs.Entries.{ContractsAreSafe, EntriesStand};
 
 /// At the entry of a function or method whose arguments are of their parameters' types, there are names at which the parameters
@@ -11,4 +12,10 @@ pub fn entries_stand()
 /// result of the result's type; and where the requires clauses passed, they are known where the body begins.
 pub fn contracts_are_safe()
     ensures safe { ContractsAreSafe }
+{}
+
+/// Where each body keeps its contract if the calls in it are handled, calls are handled at each depth: where what is owed at a
+/// call is true it is no fault; its walk's term means what it gives; and that is of the result's type.
+pub fn calls_are_handled()
+    ensures handled { CallsAreHandled }
 {}
