@@ -61,16 +61,16 @@ module _ (s : Setting Node) (members : ℕ → Datum → Bool) (owed : Ty → Da
       let two = check_done one.0 kind.Member at next x one.1 k one.3 in
       (by (is_constrained s.types t) refl one.0 one.1 two.0 one.2, (one.1, two.1)) where
     by : (c : Bool) → is_constrained s.types t ≡ c → (b : Bool) (l : Meter) → b ≡ true → owed t d m ≡ Done b l → is_in members t d ≡ true
-    by true q b l yes o = sym (answer_is (is_in members t d) b l (owed t d m) (checks.asked t d m comes.0 q) o) ∙ yes
-    by false q b l yes o = comes.1 q
+    by true q b l holds o = sym (answer_is (is_in members t d) b l (owed t d m) (checks.asked t d m comes.0 q) o) ∙ holds
+    by false q b l holds o = comes.1 q
 
   arguments_done : {X : Type 0} (at : ℕ) (ps : List Param) (vs : List Datum) (next : Run X) (x : X) (m k : Meter) → ArgumentsFit s members ps vs → run.arguments owed at ps vs next m ≡ Done x k → ArgumentsIn members ps vs × GoesOn next x k
   arguments_done at [] vs next x m k fit e = (tt, (m, e))
   arguments_done at (p ∷ ps) [] next x m k fit e = absurd fit
   arguments_done at (p ∷ ps) (v ∷ vs) next x m k fit e =
       let one = given_done at p.ty v (run.arguments owed at ps vs next) x m k fit.1 e in
-      let rest = arguments_done at ps vs next x one.1 k fit.2 one.2 in
-      ((one.0, rest.0), (rest.1, rest.2))
+      let rest = arguments_done at ps vs next x one.1.0 k fit.2 one.1.1 in
+      ((one.0, rest.0), rest.1)
 
 -- a clause that holds passed
 truth_done : (at : ℕ) (v : Datum) (b : Bool) (m k : Meter) → as_truth at v Done m ≡ Done b k → v ≡ Truth b
@@ -88,7 +88,7 @@ clauses_done w why at (c ∷ cs) st next x m k e =
     let inner = bind_done (sem.eval (sem.quiet w) false c st m) (λ v. as_truth (w.place (sem.node c)) v Done) one.0 one.1 one.2 in
     let value : inner.0 ≡ Truth true = truth_done (w.place (sem.node c)) inner.0 one.0 inner.1 one.1 inner.3 ∙ ap Truth two.0 in
     let rest = clauses_done w why at cs st next x one.1 k two.1 in
-    (((m, inner.1, inner.2 ∙ ap (λ (v : Datum). Done v inner.1) value), rest.0), (rest.1, rest.2))
+    (((m, inner.1, inner.2 ∙ ap (λ (v : Datum). Done v inner.1) value), rest.0), rest.1)
 
 -- ---- a call of something declared
 
@@ -107,8 +107,8 @@ routine_done w s members owed checks r at vs m k v fit keeps e =
     let clauses : Run (Option Datum) = sem.clauses w kind.Requires at r.preconditions (entry_of r vs) body in
     let one = check_done (nat_eq (length vs) (length r.params)) kind.Member at (run.arguments owed at r.params vs clauses) v m k e in
     let two = arguments_done s members owed checks at r.params vs clauses v m k fit one.1 in
-    let three = clauses_done w kind.Requires at r.preconditions (entry_of r vs) body v two.1 k two.2 in
-    result_in w s members r vs r.result v (good_done (body three.1) (Leaves w s members r vs r.result) v k (keeps two.0 three.0 three.1) three.2)
+    let three = clauses_done w kind.Requires at r.preconditions (entry_of r vs) body v two.1.0 k two.1.1 in
+    result_in w s members r vs r.result v (good_done (body three.1.0) (Leaves w s members r vs r.result) v k (keeps two.0 three.0 three.1.0) three.1.1)
 
 -- ---- printing
 
@@ -141,10 +141,10 @@ module _ (place : Node → ℕ) (limit : Option ℕ) (core : Core Node) (p : Pro
     abbrev w : sem.Setting Node
     w = w_at depth
 
-    safe : (r : Routine Node) (vs : List Datum) → Taken place limit core p members takes r vs → ArgumentsIn members r.params vs → ContractIsSafe w members r vs
+    pub safe : (r : Routine Node) (vs : List Datum) → Taken place limit core p members takes r vs → ArgumentsIn members r.params vs → ContractIsSafe w members r vs
     safe r vs t inside = contracts_safe.safe w p members h.told r vs (entries_stand p.setting members h.told r vs t.last (t.params inside)) (t.fits depth) t.contract
 
-    keeps : (r : Routine Node) (vs : List Datum) → Taken place limit core p members takes r vs → KeepsContract w p.setting members owed r vs
+    pub keeps : (r : Routine Node) (vs : List Datum) → Taken place limit core p members takes r vs → KeepsContract w p.setting members owed r vs
     keeps r vs t = t.keeps depth before (safe r vs t)
 
     -- what is called, at the next depth
@@ -197,7 +197,7 @@ module _ (place : Node → ℕ) (limit : Option ℕ) (core : Core Node) (p : Pro
     gives = λ f at vs m k v taken e. absurd (no_end m v k e);
   }
 
-  handled : (depth : ℕ) → Handled (w_at depth) p members takes
+  pub handled : (depth : ℕ) → Handled (w_at depth) p members takes
   handled zero = none
   handled (suc depth) = next depth (handled depth)
 

@@ -1,3 +1,4 @@
 pub mod EntryLemmas
 pub mod ContractLemmas
 pub mod DepthLemmas
+pub mod RunLemmas

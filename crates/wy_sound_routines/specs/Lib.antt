@@ -2,3 +2,5 @@
 pub mod Entries
 -- calls by their depth
 pub mod Depths
+-- a program from its entry
+pub mod Runs

@@ -1,6 +1,7 @@
 //! Laws of functions and methods, each as the contract of a function without a body.
 ghost use Rattle.wy_sound_routines.specs.Depths.{CallsAreHandled};
 ghost use Rattle.wy_sound_routines.specs.Entries.{ContractsAreSafe, EntriesStand};
+ghost use Rattle.wy_sound_routines.specs.Runs.{RunsAreSound};
 
 /// At the entry of a function or method whose arguments are of their parameters' types, there are names at which the parameters
 /// stand for the arguments and what is assumed of their types is known.
@@ -18,4 +19,11 @@ pub fn contracts_are_safe()
 /// call is true it is no fault; its walk's term means what it gives; and that is of the result's type.
 pub fn calls_are_handled()
     ensures handled { CallsAreHandled }
+{}
+
+/// So where the arguments of an entry are of their types and each requires clause evaluates to true, the evaluation is no fault at
+/// any number of ticks, and at its end it leaves what the contract says: a value of the result's type, of which each ensures
+/// clause is true.
+pub fn runs_are_sound()
+    ensures sound { RunsAreSound }
 {}

@@ -3,4 +3,4 @@
 
 mod law;
 
-pub use law::{calls_are_handled, contracts_are_safe, entries_stand};
+pub use law::{calls_are_handled, contracts_are_safe, entries_stand, runs_are_sound};
