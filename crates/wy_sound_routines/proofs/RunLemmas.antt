@@ -23,7 +23,7 @@ use Rattle.wy_sound_expressions.specs.Truth.{Good}
 use Rattle.wy_sound_expressions.specs.Types.{is_in}
 use Rattle.wy_sound_expressions.specs.Suits.{Answers}
 use Rattle.wy_sound_expressions.proofs.GoodLemmas.{good_spend}
-use Rattle.wy_sound_clauses.specs.Clauses.{AllFit, IsNoFault, AreSafe, AllPass}
+use Rattle.wy_sound_clauses.specs.Clauses.{AllFit, IsNoFault, AreSafe, Passes, AllPass}
 use Rattle.wy_sound_calls.specs.CallLaws.{Checks, ArgumentsFit, ArgumentsIn, Leaves, with_params, nothing_seen}
 use Rattle.wy_sound_routines.specs.Depths.{setting_at, AllTaken}
 use Rattle.wy_sound_routines.specs.Runs.{RunsAreSound}
@@ -86,7 +86,7 @@ module _ {X : Type 0} (place : Node → ℕ) (core : Core Node) (depth : ℕ) (P
     clauses_pass [] fit safes true_all go m = go tt m
     clauses_pass (e ∷ es) fit safes true_all go m =
         from_outcome e (sem.clauses w why at es st next) m (sem.eval (sem.quiet w) false e st m) refl (safes.0 m) (λ d k q. fit.0.truth d m k q) true_all.0
-        (λ k q l. let passed = (m, k, q) in clauses_pass es fit.1 (safes.1 passed) true_all.1 (λ all i. go (passed, all) i) l)
+        (λ k q l. let passed : Passes w e st = (m, k, q) in clauses_pass es fit.1 (safes.1 passed) true_all.1 (λ all i. go (passed, all) i) l)
 
 -- ---- the entry
 
