@@ -8,3 +8,4 @@ pub mod EndLemmas
 pub mod TestEndLemmas
 pub mod MembershipLemmas
 pub mod TypedLemmas
+pub mod RoutineLemmas

@@ -66,10 +66,10 @@ module _ (core : Core ℕ) (flow : List Ty) (members : ℕ → Datum → Bool) (
   pub ordered : RecurThroughParts names
   ordered = ordered_types core h.bound h.recursion
 
-  read : (d : Datum) → IsBounded d → (t : Ty) → IsWritten t → Between (Down names d t) (is_in members t d) (Up names d t)
+  pub read : (d : Datum) → IsBounded d → (t : Ty) → IsWritten t → Between (Down names d t) (is_in members t d) (Up names d t)
   read d b t w = between names s.types members says (found core 0) defines ordered.0 ordered.1 written d b t w
 
-  rests : (r : Rules) → ((t : Ty) → r.tested t ≡ true → IsWritten t) → (w : sem.Setting Node) (paid : Bool) → TestsTell members (w.test paid) → Gives (program_of core) r w → Rests (program_of core) r w paid (is_in members)
+  pub rests : (r : Rules) → ((t : Ty) → r.tested t ≡ true → IsWritten t) → (w : sem.Setting Node) (paid : Bool) → TestsTell members (w.test paid) → Gives (program_of core) r w → Rests (program_of core) r w paid (is_in members)
   rests r source w paid tells gives = record {
     recur = ordered;
     answers = λ t d m k b tested bounded e. answer_is (is_in members t d) b k (w.test paid t d m) (tells t d m bounded) e;
@@ -78,10 +78,10 @@ module _ (core : Core ℕ) (flow : List Ty) (members : ℕ → Datum → Bool) (
     gives = gives;
   }
 
-  asks : (r : Rules) → ((t : Ty) → r.tested t ≡ true → IsWritten t) → (w : sem.Setting Node) (paid : Bool) → TestsTell members (w.test paid) → Asks r w paid (is_in members)
+  pub asks : (r : Rules) → ((t : Ty) → r.tested t ≡ true → IsWritten t) → (w : sem.Setting Node) (paid : Bool) → TestsTell members (w.test paid) → Asks r w paid (is_in members)
   asks r source w paid tells = record { written = source; answers = λ t d m tested bounded. tells t d m bounded }
 
-  free : (t : Ty) → IsWritten t → is_constrained s.types t ≡ false → (d : Datum) → IsBounded d → Up names d t ≡ true → is_in members t d ≡ true
+  pub free : (t : Ty) → IsWritten t → is_constrained s.types t ≡ false → (d : Datum) → IsBounded d → Up names d t ≡ true → is_in members t d ≡ true
   free t w e d b up = (read d b t w).low_in (sym (readings_same s.types names (found core 0) h.variables t e d) ∙ up)
 
 pub are_read : TypesAreRead

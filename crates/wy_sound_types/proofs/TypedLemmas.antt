@@ -16,7 +16,7 @@ use Rattle.wy_sem.specs.Meter.{Meter, Done}
 use Rattle.wy_sem.specs.Expressions as sem
 use Rattle.wy_sem.specs.Expressions.{slot, put}
 use Rattle.wy_sem.specs.TypeTests.{alias_at, unset, tests}
-use Rattle.wy_conditions.specs.Sizes.{exprs_in}
+use Rattle.wy_conditions.specs.Sizes.{exprs_in, exprs_in_list}
 use Rattle.wy_conditions.specs.Numbered.{Node, numbered, numbered_list, numbered_alias}
 use Rattle.wy_conditions.specs.Values.{Setting}
 use Rattle.wy_sound_parts.proofs.NormLemmas.{norms_same}
@@ -32,7 +32,7 @@ use Rattle.wy_sound_kinds.specs.Kinds.{HasValues, HasTypes, Kind, Rests}
 use Rattle.wy_sound_kinds.proofs.TypeLemmas.{then_gives, given_is, put_same, put_length}
 use Rattle.wy_sound_kinds.proofs.KindLemmas.{kind}
 use Rattle.wy_sound_suits.specs.Laws.{Begins, Asks, TellsNumbers}
-use Rattle.wy_sound_suits.proofs.FlowLemmas.{begins_self, begins_more, flow_of, flow_length, flow_begins}
+use Rattle.wy_sound_suits.proofs.FlowLemmas.{FlowAll, begins_self, begins_more, flow_of, flow_length, flow_begins}
 use Rattle.wy_sound_suits.proofs.KindLemmas.{truth_in}
 use Rattle.wy_sound_suits.proofs.SuitLemmas.{contracts_suit}
 use Rattle.wy_sound_fits.specs.Fit.{ClausesReady}
@@ -46,17 +46,20 @@ use Rattle.wy_sound_types.proofs.RestLemmas.{read, ordered, rests, asks}
 
 -- ---- clauses
 
--- the types behind clauses begin with those before them
-clauses_begin : (p : Program) (env : Environment) (es : List (Expr ℕ)) (flow out : List Ty) → ClausesTyped p env es flow (Gives out) → Begins flow out
-clauses_begin p env [] flow out h = subst (λ (l : List Ty). Begins flow l) (sym (given_is out flow h)) (begins_self flow)
-clauses_begin p env (e ∷ es) flow out h =
+-- the types behind clauses begin with those before them, and are as many more as there are expressions
+pub clauses_flow : (p : Program) (env : Environment) (es : List (Expr ℕ)) (flow out : List Ty) → ClausesTyped p env es flow (Gives out) → FlowAll (exprs_in_list es) flow out
+clauses_flow p env [] flow out h = subst (λ (l : List Ty). FlowAll 0 flow l) (sym (given_is out flow h)) (record { counted = omega arith; begins = begins_self flow })
+clauses_flow p env (e ∷ es) flow out h =
     let t = then_gives _ _ out h in
     let t2 = then_gives _ _ t.0 t.1 in
     let t3 = then_gives _ _ t2.0 t2.1 in
     let t4 = then_gives _ _ t2.0 t3.2 in
-    let here = flow_begins e flow t3.0 (flow_of p env e [] flow t3.0 t3.1) in
+    let at_flow = flow_of p env e [] flow t3.0 t3.1 in
     let same : t.0 ≡ t3.0.flow = given_is t.0 t2.0.flow t2.2 ∙ ap (λ (v : Found). v.flow) (given_is t2.0 t3.0 t4.2) in
-    begins_more flow t.0 out (subst (λ (l : List Ty). Begins flow l) (sym same) here) (clauses_begin p env es t.0 out t.2)
+    let one : length t.0 ≡ length flow + exprs_in e = ap (λ (l : List Ty). length l) same ∙ flow_length e flow t3.0 at_flow in
+    let rest = clauses_flow p env es t.0 out t.2 in
+    let more = rest.counted in
+    record { counted = omega (arith, one, more); begins = begins_more flow t.0 out (subst (λ (l : List Ty). Begins flow l) (sym same) (flow_begins e flow t3.0 at_flow)) rest.begins }
 
 module _ (p : Program) (r : Rules) (w : sem.Setting Node) (paid : Bool) (conditions : Setting Node) (members : ℕ → Datum → Bool) (resting : Rests p r w paid (is_in members)) (asking : Asks r w paid (is_in members)) (whole : List Ty) (tells : TellsNumbers conditions.is_number whole)
     (env : Environment) (reached : env.reached ≡ true) (seen : ℕ → Bool) (s : sem.Store) (values : HasValues seen s) (types : HasTypes p.names env [] seen s) where
@@ -72,7 +75,7 @@ module _ (p : Program) (r : Rules) (w : sem.Setting Node) (paid : Bool) (conditi
       let t4 = then_gives _ _ t2.0 t3.2 in
       let at_flow = flow_of p env e [] flow t3.0 t3.1 in
       let same : t.0 ≡ t3.0.flow = given_is t.0 t2.0.flow t2.2 ∙ ap (λ (v : Found). v.flow) (given_is t2.0 t3.0 t4.2) in
-      let rest : Begins t.0 whole = begins_more t.0 out whole (clauses_begin p env es t.0 out t.2) b in
+      let rest : Begins t.0 whole = begins_more t.0 out whole (clauses_flow p env es t.0 out t.2).begins b in
       let here : Begins t3.0.flow whole = subst (λ (l : List Ty). Begins l whole) same rest in
       let next : k + exprs_in e ≡ length t.0 = ap (λ (n : ℕ). n + exprs_in e) is ∙ (sym (flow_length e flow t3.0 at_flow) ∙ ap (λ (l : List Ty). length l) (sym same)) in (
         record {
@@ -85,17 +88,17 @@ module _ (p : Program) (r : Rules) (w : sem.Setting Node) (paid : Bool) (conditi
 
 -- ---- the variable of a type
 
-slot_put : (slots : List (Option Ty)) (x : ℕ) (t : Ty) → slot_at (put_slot slots x t) x ≡ Some t
+pub slot_put : (slots : List (Option Ty)) (x : ℕ) (t : Ty) → slot_at (put_slot slots x t) x ≡ Some t
 slot_put [] zero t = refl
 slot_put [] (suc x) t = slot_put [] x t
 slot_put (o ∷ slots) zero t = refl
 slot_put (o ∷ slots) (suc x) t = slot_put slots x t
 
-unset_length : (names : List (List ℕ)) → length (unset names) ≡ length names
+pub unset_length : (names : List (List ℕ)) → length (unset names) ≡ length names
 unset_length [] = refl
 unset_length (n ∷ ns) = ap suc (unset_length ns)
 
-same_some : (a b : Datum) → ◌≡◌ {A = Option Datum} (Some a) (Some b) → a ≡ b
+pub same_some : (a b : Datum) → ◌≡◌ {A = Option Datum} (Some a) (Some b) → a ≡ b
 same_some a b p = cc
 
 -- the one variable
@@ -169,7 +172,7 @@ module _ (core : Core ℕ) (flow : List Ty) (members : ℕ → Datum → Bool) (
         (subst (λ (a : Alias Node). IsWritten a.ty) t.is (alias_written (offers_of core) core h.bound 0 b).ty))
     by (inr past) = absurd (none_some (past_none past))
 
-no_answer : (f at : ℕ) (vs : List Datum) (d : Datum) (m k : Meter) → sem.no_calls f at vs m ≡ Done (Some d) k → ⊥
+pub no_answer : (f at : ℕ) (vs : List Datum) (d : Datum) (m k : Meter) → sem.no_calls f at vs m ≡ Done (Some d) k → ⊥
 no_answer f at vs d m k e = absurd cc
 
 pub clauses_of_types_meet : ClausesOfTypesMeet

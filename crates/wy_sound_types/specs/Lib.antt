@@ -4,3 +4,5 @@ pub mod Tests
 pub mod Laws
 -- the clauses of types, as typing finds them
 pub mod Typed
+-- contracts of functions and methods, as typing finds them
+pub mod Routines

@@ -1,5 +1,6 @@
 //! Laws of named types, each as the contract of a function without a body.
 ghost use Rattle.wy_sound_types.specs.Laws.{ChecksAreRight, MembershipIsSaid, TestsAreRight, TypesAreRead};
+ghost use Rattle.wy_sound_types.specs.Routines.{ContractsFit};
 ghost use Rattle.wy_sound_types.specs.Typed.{ClausesOfTypesMeet};
 
 /// Where the conditions of a program are true by data that meet the formulas of all types, and what the clauses of its types meet
@@ -30,4 +31,10 @@ pub fn membership_is_said()
 /// they ask for, at each datum in their types' definitions that a program may hold, in code and in contracts.
 pub fn clauses_of_types_meet()
     ensures meet { ClausesOfTypesMeet }
+{}
+
+/// Arguments in their parameters' types, by their upward readings, fit; and so do typed requires clauses at the entry, and typed
+/// ensures clauses with each result of the result's type that a program may hold.
+pub fn contracts_fit()
+    ensures fit { ContractsFit }
 {}
