@@ -7,7 +7,7 @@ use Rattle.wy_formed.specs.Offers.{offers_of}
 use Rattle.wy_formed_types.proofs.OrderLemmas.{ordered_types}
 use Rattle.wy_types.specs.Names.{Declared, names_in, Up, Down}
 use Rattle.wy_types.specs.Recursion.{RecurThroughParts}
-use Rattle.wy_typing.specs.TypedPrograms.{program_of}
+use Rattle.wy_typing.specs.Programs.{program_of}
 use Rattle.wy_sem.specs.Meter.{Meter, Outcome, Done}
 use Rattle.wy_sem.specs.Expressions as sem
 use Rattle.wy_sem.specs.TypeTests.{has_clauses, alias_at, is_constrained}

@@ -10,7 +10,7 @@ use Rattle.wy_environment.specs.Slots.{slot_at, put_slot}
 use Rattle.wy_environment.specs.Variables.{Environment, nothing_known, or_void, given, type_of}
 use Rattle.wy_typing.specs.Outcomes.{Gives}
 use Rattle.wy_typing.specs.Loops.{ClausesTyped}
-use Rattle.wy_typing.specs.TypedPrograms.{program_of, types_of, WithVariable, WithParams, WithNamed, WithResult}
+use Rattle.wy_typing.specs.Programs.{program_of, types_of, WithVariable, WithParams, WithNamed, WithResult}
 use Rattle.wy_sem.specs.Meter.{Meter, Done}
 use Rattle.wy_sem.specs.Expressions as sem
 use Rattle.wy_sem.specs.Expressions.{slot, put}

@@ -11,7 +11,7 @@ use Rattle.wy_environment.specs.Variables.{Environment, nothing_known, or_void, 
 use Rattle.wy_typing.specs.Outcomes.{Gives}
 use Rattle.wy_typing.specs.Contexts.{Program, Found}
 use Rattle.wy_typing.specs.Loops.{ClausesTyped}
-use Rattle.wy_typing.specs.TypedPrograms.{program_of, AliasTyped}
+use Rattle.wy_typing.specs.Programs.{program_of, AliasTyped}
 use Rattle.wy_sem.specs.Meter.{Meter, Done}
 use Rattle.wy_sem.specs.Expressions as sem
 use Rattle.wy_sem.specs.Expressions.{slot, put}
@@ -145,7 +145,7 @@ module _ (core : Core ℕ) (flow : List Ty) (members : ℕ → Datum → Bool) (
       → ClausesMeet w paid s members (also x no_variable) (put (unset t.alias.variables) x (Some d)) (numbered_list t.alias.clauses (length t.before))
   with_alias b t x is d bounded inside written =
       let own = ready b x t.alias t.stands is in
-      let types = then_gives _ _ t.behind (subst (λ (o : Option ℕ). AliasTyped (program_of core) t.alias t.before (Gives t.behind) o) is t.typed) in
+      let types = then_gives _ _ t.behind (subst (λ (o : Option ℕ). AliasTyped (program_of core) t.alias t.before o (Gives t.behind)) is t.typed) in
       let made = then_gives _ _ types.0 types.1 in
       let env : types.0 ≡ given nothing_known x made.0 = given_is types.0 (given nothing_known x made.0) made.2 in
       let clauses : ClausesTyped (program_of core) (given nothing_known x made.0) t.alias.clauses t.before (Gives t.behind) = subst (λ (e : Environment). ClausesTyped (program_of core) e t.alias.clauses t.before (Gives t.behind)) env types.2 in

@@ -7,7 +7,7 @@ use Rattle.wy_formed.specs.Bound.{Bound}
 use Rattle.wy_formed.specs.Recursion.{Recursion}
 use Rattle.wy_types.specs.Names.{names_in, Up, Down}
 use Rattle.wy_typing.specs.Contexts.{Program}
-use Rattle.wy_typing.specs.TypedPrograms as typing
+use Rattle.wy_typing.specs.Programs as typing
 use Rattle.wy_sem.specs.Meter.{Meter, Done}
 use Rattle.wy_sem.specs.Expressions as sem
 use Rattle.wy_sem.specs.TypeTests.{alias_at, is_constrained, tests, member}

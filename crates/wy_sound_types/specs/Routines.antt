@@ -8,7 +8,7 @@ use Rattle.wy_types.specs.Names.{names_in}
 use Rattle.wy_environment.specs.Variables.{Environment, nothing_known}
 use Rattle.wy_typing.specs.Outcomes.{Gives}
 use Rattle.wy_typing.specs.Loops.{ClausesTyped}
-use Rattle.wy_typing.specs.TypedPrograms.{program_of, types_of, WithParams, WithResult}
+use Rattle.wy_typing.specs.Programs.{program_of, types_of, WithParams, WithResult}
 use Rattle.wy_sem.specs.Expressions as sem
 use Rattle.wy_conditions.specs.Sizes.{exprs_in_list}
 use Rattle.wy_conditions.specs.Numbered.{Node, numbered_routine}

@@ -4,7 +4,7 @@ use Rattle.wy_value.specs.Datum.{Datum}
 use Rattle.wy_core.specs.Types.{Ty}
 use Rattle.wy_core.specs.CoreTree.{Alias, Core, aliases_of}
 use Rattle.wy_typing.specs.Outcomes.{Gives}
-use Rattle.wy_typing.specs.TypedPrograms.{program_of, AliasTyped}
+use Rattle.wy_typing.specs.Programs.{program_of, AliasTyped}
 use Rattle.wy_sem.specs.TypeTests.{alias_at}
 use Rattle.wy_conditions.specs.Numbered.{numbered_alias}
 use Rattle.wy_sound_expressions.specs.Names.{also}
@@ -23,7 +23,7 @@ pub record TypedAlias (core : Core ℕ) (flow : List Ty) (b : ℕ) : Type 0 wher
   pub before : List Ty
   pub behind : List Ty
   pub is : alias_at (told_by core flow).types b ≡ numbered_alias alias (length before)
-  pub typed : AliasTyped (program_of core) alias before (Gives behind) alias.variable
+  pub typed : AliasTyped (program_of core) alias before alias.variable (Gives behind)
   pub begins : Begins behind flow
 
 abbrev pub AliasesTyped : Core ℕ → List Ty → Type 0
