@@ -1,16 +1,16 @@
 -- The term of an expression of a contract means what the expression denotes, and the formula of a type what its definition and its clauses say.
 use Rattle.std.proofs.Common.{◌≡◌, ℕ, zero, suc, ◌≤◌, List, [], ◌∷◌, Bool, true, false, cond, not, neg_ℤ, ◌&&◌, ◌==◌, Option, Some, None, ℤ, refl, sym, ap, ◌∙◌, subst, arith, eqb-true}
 use mathlib.Core.Path.{fun_ext}
-use Rattle.wy_value.specs.Datum.{Datum, Null, Truth, Whole, Array, Record}
+use Rattle.wy_value.specs.Datum.{Datum, Truth, Whole, Array, Record}
 use Rattle.wy_core.specs.CoreTree.{Expr, NullExpr, BoolExpr, IntExpr, VarExpr, CallExpr, NegExpr, NotExpr, LenExpr, BinaryExpr, IsExpr, IndexExpr, FieldExpr, ListExpr, RepeatExpr, RecordExpr, QuantExpr, Exprs, NoExprs, MoreExprs, Fields, NoFields, MoreFields, Alias}
 use Rattle.wy_term.specs.Term.{Term}
-use Rattle.wy_term.specs.Sorts.{val_sort, formula_sort}
+use Rattle.wy_term.specs.Sorts.{val_sort}
 use Rattle.wy_term.specs.Data.{number_in, length_in, element, repeated, field_in, fields_with, items_with}
 use Rattle.wy_term.specs.Meaning.{Names, with_number}
 use Rattle.wy_sem.specs.Expressions.{node}
-use Rattle.wy_conditions.specs.Making.{int_name, number_of, num, int, all_of, formula}
-use Rattle.wy_conditions.specs.Variables.{Vars, slot_at, put, put_if}
-use Rattle.wy_conditions.specs.Values.{Naming, Setting, Valued, ValuedAll, word_at, variable, holds, value, values, field_values, field_names, clause_formulas, defined}
+use Rattle.wy_conditions.specs.Making.{int_name, number_of, num, int, formula}
+use Rattle.wy_conditions.specs.Variables.{Vars, put, put_if}
+use Rattle.wy_conditions.specs.Values.{Naming, Setting, Valued, word_at, variable, holds, value, values, field_values, field_names, clause_formulas, defined}
 use Rattle.wy_formed_conditions.proofs.MakingLemmas.{IsOf, int_sorted, int_name_sorted}
 use Rattle.wy_formed_conditions.proofs.ValueLemmas.{SaysFormulas, AreData, no_data, put_data, put_if_data, term_sorted}
 use Rattle.wy_sound_terms.proofs.MadeLemmas.{number, datum, holds as true_at, all, each_datum, num_means, int_means, value_means, get_means, field_means, repeat_means, array_means, record_means, all_means}

@@ -1,5 +1,5 @@
 -- Data that meet the formulas of all types: there are some, and true conditions are true by them.
-use Rattle.std.proofs.Common.{◌≡◌, ◌<◌, ◌≤◌, ◌+◌, ◌⊎◌, inl, inr, ℕ, zero, suc, Bool, true, false, cond, eqb, ◌||◌, List, [], ◌∷◌, ◌++◌, length, map, pos, refl, sym, ap, ◌∙◌, subst, arith}
+use Rattle.std.proofs.Common.{◌≡◌, ◌<◌, ◌≤◌, ◌⊎◌, inl, inr, ℕ, zero, suc, Bool, true, false, eqb, ◌||◌, List, [], ◌∷◌, ◌++◌, length, map, pos, refl, sym, ap, ◌∙◌, subst, arith}
 use Rattle.std.proofs.lemmas.Bool.{cases_lt, or_cases, or_left, or_right, eqb-true}
 use Rattle.wy_value.specs.Datum.{Datum, Null}
 use Rattle.wy_core.specs.Types.{Ty}
@@ -7,21 +7,21 @@ use Rattle.wy_core.specs.CoreTree.{Core}
 use Rattle.wy_formed.specs.Bound.{Bound}
 use Rattle.wy_formed.specs.Recursion.{Recursion}
 use Rattle.wy_term.specs.declared.cond.CondKind.TheVariants as kind
-use Rattle.wy_term.specs.Term.{Term, Of, Parts, no_parts, part, in_type, all_of}
+use Rattle.wy_term.specs.Term.{Of, Parts, no_parts, part, in_type, all_of}
 use Rattle.wy_term.specs.Scope.{free_names}
-use Rattle.wy_term.specs.Meaning.{Names, with_datum, Sense, sense}
-use Rattle.wy_term.specs.Condition.{Entry, says, AreUnfolded}
+use Rattle.wy_term.specs.Meaning.{Names, with_datum, Sense}
+use Rattle.wy_term.specs.Condition.{says, AreUnfolded}
 use Rattle.wy_term.specs.Unfolding.{IsUnlisted}
 use Rattle.wy_term.proofs.SameLemmas.{eqb_self}
 use Rattle.wy_sem.specs.TypeTests.{alias_at}
 use Rattle.wy_sound_certificates.proofs.FreeLemmas.{rests_on_free_names}
 use Rattle.wy_grounded.specs.Readings.{with_members, IsReading}
 use Rattle.wy_grounded.proofs.ReadingLemmas.{a_reading}
-use Rattle.wy_conditions.specs.Numbered.{Node, numbered_core}
+use Rattle.wy_conditions.specs.Numbered.{Node}
 use Rattle.wy_conditions.specs.Owed.{Owed}
 use Rattle.wy_conditions.specs.Values.{Setting, x_word, word_if, test_name, test_formula}
-use Rattle.wy_conditions.specs.Limits.{tests_in, tests_in_parts, tests_in_all, is_among, types_of, unfolded, unfold_of}
-use Rattle.wy_conditions.specs.Programs.{setting_of, conditions_of}
+use Rattle.wy_conditions.specs.Limits.{tests_in_parts, is_among, types_of, unfolded, unfold_of}
+use Rattle.wy_conditions.specs.Programs.{conditions_of}
 use Rattle.wy_formed_conditions.specs.OwedConditions.{with_types}
 use Rattle.wy_formed_conditions.proofs.ClosedLemmas.{test_closed}
 use Rattle.wy_grounded_conditions.proofs.ReachLemmas.{listed_below, mentioned_listed}

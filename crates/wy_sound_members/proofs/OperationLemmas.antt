@@ -1,6 +1,6 @@
 -- What the terms of operations mean is what the operations denote.
-use Rattle.std.proofs.Common.{◌≡◌, ℕ, List, [], ◌∷◌, Bool, true, false, not, ◌&&◌, ◌||◌, ℤ, neg_ℤ, ◌+ℤ◌, ◌-ℤ◌, ◌*ℤ◌, int_le, int_lt, refl, sym, ap, ◌∙◌}
-use Rattle.wy_value.specs.Datum.{Datum, Truth, Whole}
+use Rattle.std.proofs.Common.{◌≡◌, ℕ, List, [], ◌∷◌, Bool, true, false, not, ◌&&◌, ◌||◌, ℤ, neg_ℤ, ◌+ℤ◌, ◌-ℤ◌, ◌*ℤ◌, int_le, int_lt, refl, ap, ◌∙◌}
+use Rattle.wy_value.specs.Datum.{Truth, Whole}
 use Rattle.wy_core.specs.declared.expressions.Op.{Op}
 use Rattle.wy_core.specs.declared.expressions.Op.TheVariants.{Add, Sub, Mul, Div, Mod, Equal, Less, LessEqual, Greater, GreaterEqual, And, Or}
 use Rattle.wy_term.specs.Term as term
@@ -8,11 +8,10 @@ use Rattle.wy_term.specs.Term.{Term}
 use Rattle.wy_term.specs.Sorts.{val_sort}
 use Rattle.wy_term.specs.Data.{quotient, remainder, number_in, length_in}
 use Rattle.wy_term.specs.Meaning.{Names, with_number, distance}
-use Rattle.wy_conditions.specs.Making.{of_one, of_two, num, len, truth, int, value_of, all_of, any_of, denied, at_most, less_than, equal, formula, bound}
+use Rattle.wy_conditions.specs.Making.{of_one, of_two, num, len, truth, int, all_of, any_of, denied, at_most, less_than, equal, formula, bound}
 use Rattle.wy_conditions.specs.Operations as op
-use Rattle.wy_sem.specs.Operations.{same}
 use Rattle.wy_formed_conditions.proofs.MakingLemmas.{IsOf, num_sorted, formula_sorted}
-use Rattle.wy_sound_terms.proofs.MadeLemmas.{number, datum, holds, all, some, num_means, len_means, add_means, sub_means, mul_means, div_means, rem_means, neg_means, int_means, value_means, at_most_means, denied_means, less_means, equal_means, all_means, some_means}
+use Rattle.wy_sound_terms.proofs.MadeLemmas.{number, datum, holds, all, num_means, len_means, add_means, sub_means, mul_means, div_means, rem_means, neg_means, int_means, value_means, at_most_means, denied_means, less_means, equal_means, all_means, some_means}
 use Rattle.wy_sound_expressions.proofs.QuantifierLemmas.{range, bound_means}
 use Rattle.wy_sound_members.specs.Denotations.{is_true, equals, operates, holds_of, holds_between}
 

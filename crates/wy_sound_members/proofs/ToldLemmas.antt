@@ -1,5 +1,5 @@
 -- What is said of a name that is written out is the same at each depth that is enough for it, so it is told by data that meet the formulas.
-use Rattle.std.proofs.Common.{◌≡◌, ◌<◌, ◌≤◌, ◌+◌, ◌⊎◌, inl, inr, ℕ, zero, suc, Bool, true, false, cond, not, ◌&&◌, nat_lt, pos, List, [], ◌∷◌, length, refl, sym, ap, ◌∙◌, subst, arith}
+use Rattle.std.proofs.Common.{◌≡◌, ◌<◌, ◌≤◌, ◌+◌, ◌⊎◌, inl, inr, ℕ, zero, suc, Bool, true, false, cond, not, ◌&&◌, nat_lt, pos, List, [], ◌∷◌, length, refl, sym, ap, ◌∙◌, arith}
 use Rattle.std.specs.Prelude.{nat_le}
 use Rattle.std.proofs.lemmas.Bool.{and_parts, cases_lt, lt-ltb, ltb-true}
 use Rattle.wy_value.specs.Datum.{Datum}
@@ -14,16 +14,16 @@ use Rattle.wy_term.specs.Meaning.{Names, with_datum, sense}
 use Rattle.wy_kept_sorts.specs.SortKept.{HasSort}
 use Rattle.wy_sem.specs.TypeTests.{no_alias, alias_at}
 use Rattle.wy_conditions.specs.Named.{is_recursive, written_nodes, is_written}
-use Rattle.wy_conditions.specs.Numbered.{Node, exprs_in_decl, numbered_decls, numbered_core}
+use Rattle.wy_conditions.specs.Numbered.{Node, exprs_in_decl, numbered_decls}
 use Rattle.wy_conditions.specs.Making.{falsehood, in_type}
-use Rattle.wy_conditions.specs.Values.{Naming, Setting, Valued, valued, x_word, word_if, defined, named_to, named_in, test_name, test_formula}
+use Rattle.wy_conditions.specs.Values.{Naming, Setting, Valued, valued, x_word, word_if, defined, named_to, named_in, test_name}
 use Rattle.wy_formed_conditions.proofs.MakingLemmas.{IsOf, pick, in_type_sorted, val_name_sorted}
 use Rattle.wy_formed_conditions.proofs.ValueLemmas.{SaysFormulas, named_to_sorted, named_sorted}
 use Rattle.wy_grounded_conditions.specs.Uses.{NamesAll, ClausesTestAll}
 use Rattle.wy_grounded_conditions.proofs.GroundedLemmas.{stands_for}
 use Rattle.wy_grounded_conditions.proofs.LevelLemmas.{level, level_within, level_above, types_levelled, names_lower}
 use Rattle.wy_sound_terms.proofs.MadeLemmas.{holds as true_at, in_type_means, all_means, some_means}
-use Rattle.wy_sound_expressions.specs.Names.{Agree, Means}
+use Rattle.wy_sound_expressions.specs.Names.{Means}
 use Rattle.wy_sound_expressions.specs.Written.{IsWritten}
 use Rattle.wy_sound_expressions.specs.Laws.{NamesTold}
 use Rattle.wy_sound_expressions.proofs.NameLemmas.{agree_refl}

@@ -1,12 +1,11 @@
 -- Types of a bound core are such as a source may write.
-use Rattle.std.proofs.Common.{◌≡◌, ◌<◌, ℕ, ◌+◌, List, [], ◌∷◌, Bool, true, false, Some, refl, sym, subst, ap, ◌∙◌}
-use Rattle.std.specs.Prelude.{bytes_eq}
+use Rattle.std.proofs.Common.{◌≡◌, ℕ, ◌+◌, List, [], ◌∷◌, refl, subst, ap}
 use Rattle.wy_core.specs.Types.{Ty, NullTy, BoolTy, IntTy, AnyTy, VoidTy, RecordTy, ArrayTy, UnionTy, InterTy, NotTy, NamedTy, NormalTy, FieldTys, NoFieldTys, MoreFieldTys}
 use Rattle.wy_core.specs.CoreTree.{Expr, NullExpr, BoolExpr, IntExpr, VarExpr, CallExpr, NegExpr, NotExpr, LenExpr, BinaryExpr, IsExpr, IndexExpr, FieldExpr, ListExpr, RepeatExpr, RecordExpr, QuantExpr, Exprs, NoExprs, MoreExprs, Fields, NoFields, MoreFields}
 use Rattle.wy_formed.specs.Offers.{Offers}
-use Rattle.wy_formed.specs.Bound.{Rise, names_of_tys, Scope, BoundTy, BoundFieldTys, BoundExpr, BoundExprs, BoundFields, BoundClauses}
+use Rattle.wy_formed.specs.Bound.{names_of_tys, Scope, BoundTy, BoundFieldTys, BoundExpr, BoundExprs, BoundFields, BoundClauses}
 use Rattle.wy_conditions.specs.Sizes.{exprs_in}
-use Rattle.wy_conditions.specs.Numbered.{Node, numbered, numbered_all, numbered_fields, numbered_list}
+use Rattle.wy_conditions.specs.Numbered.{numbered, numbered_all, numbered_fields, numbered_list}
 use Rattle.wy_conditions.specs.Values.{names_of}
 use Rattle.wy_sound_expressions.specs.Written.{AreApart, IsWritten, AreWritten}
 use Rattle.wy_sound_members.specs.Tests.{TestsWritten, AllTestsWritten, FieldTestsWritten, ClauseTestsWritten}
