@@ -1,11 +1,10 @@
 -- The clauses of a type answer as they denote, at each datum in the type's definition, where what they owe is true.
-use Rattle.std.proofs.Common.{◌≡◌, ℕ, zero, suc, ◌≤◌, List, [], ◌∷◌, ◌++◌, length, Bool, true, false, ◌&&◌, Option, Some, None, is_some, pos, refl, sym, ap, ◌∙◌, subst, arith}
+use Rattle.std.proofs.Common.{◌≡◌, ℕ, ◌≤◌, List, [], ◌∷◌, length, Bool, true, false, ◌&&◌, Option, Some, None, is_some, pos, refl, sym, ap, ◌∙◌, subst, arith}
 use Rattle.wy_value.specs.Datum.{Datum, Null, Truth, Whole, Array, Record}
 use Rattle.wy_core.specs.CoreTree.{Expr, Alias}
 use Rattle.wy_term.specs.Term.{Term}
-use Rattle.wy_term.specs.Sorts.{val_sort}
 use Rattle.wy_term.specs.Meaning.{Names}
-use Rattle.wy_sem.specs.Meter.{Meter, Outcome, Done, Fault, More, Spent, Run, ◌>>=◌, choose}
+use Rattle.wy_sem.specs.Meter.{Meter, Outcome, Done, Fault, More, Spent, ◌>>=◌, choose}
 use Rattle.wy_sem.specs.Operations.{as_truth}
 use Rattle.wy_sem.specs.Expressions as sem
 use Rattle.wy_sem.specs.Expressions.{node}
@@ -13,18 +12,18 @@ use Rattle.wy_sem.specs.TypeTests.{answer, has_clauses, unset, set_if, all_hold}
 use Rattle.wy_conditions.specs.Numbered.{Node}
 use Rattle.wy_conditions.specs.Making.{val_name, formula}
 use Rattle.wy_conditions.specs.Variables.{Vars, put}
-use Rattle.wy_conditions.specs.Values.{Setting, Valued, valued, word_at, value, named_in}
+use Rattle.wy_conditions.specs.Values.{Valued, valued, word_at, value, named_in}
 use Rattle.wy_conditions.specs.Owed.{assume}
 use Rattle.wy_conditions.specs.Clauses.{assume_in_type, in_type}
 use Rattle.wy_conditions.specs.Calls.{Walked, call_walk}
-use Rattle.wy_conditions.specs.Walks.{Program, walk, walk_expr}
+use Rattle.wy_conditions.specs.Walks.{Program, walk_expr}
 use Rattle.wy_conditions.specs.Statements.{walk_clauses}
 use Rattle.wy_conditions.specs.Programs.{alias_conditions}
-use Rattle.wy_formed_conditions.proofs.MakingLemmas.{IsOf, val_name_sorted}
+use Rattle.wy_formed_conditions.proofs.MakingLemmas.{val_name_sorted}
 use Rattle.wy_formed_conditions.proofs.ValueLemmas.{AreData, no_data, put_data, named_sorted}
 use Rattle.wy_sound_terms.specs.Kinds.{IsTruth}
 use Rattle.wy_sound_terms.proofs.MadeLemmas.{formula_means}
-use Rattle.wy_sound_expressions.specs.Names.{Agree, Known, Means, Stand, also}
+use Rattle.wy_sound_expressions.specs.Names.{Known, Means, Stand, also}
 use Rattle.wy_sound_expressions.specs.Types.{is_in}
 use Rattle.wy_sound_expressions.specs.Written.{IsWritten}
 use Rattle.wy_sound_expressions.specs.Truth.{AreTrueBy, Good}

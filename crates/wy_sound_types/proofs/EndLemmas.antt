@@ -1,5 +1,5 @@
 -- The evaluation of a contract ends: it spends no ticks, and calls nothing.
-use Rattle.std.proofs.Common.{◌≡◌, ℕ, zero, suc, ◌+◌, List, [], ◌∷◌, Bool, true, false, ℤ, pos}
+use Rattle.std.proofs.Common.{ℕ, zero, suc, ◌+◌, List, [], ◌∷◌, Bool, true, false, ℤ, pos}
 use Rattle.std.specs.Prelude.{Option, Some, None, ◌+ℤ◌, ◌-ℤ◌, ◌*ℤ◌, neg_ℤ, not, int_le}
 use Rattle.std.specs.Int.{int_div_euclid}
 use Rattle.wy_value.specs.Datum.{Datum, Null, Truth, Whole, Array, Record, Data, Fields, no_fields, field}
@@ -12,7 +12,7 @@ use Rattle.wy_core.specs.declared.expressions.Op.TheVariants.{Add, Sub, Mul, Div
 use Rattle.wy_term.specs.declared.cond.CondKind.{CondKind}
 use Rattle.wy_term.specs.declared.cond.CondKind.TheVariants.{Range, Divisor, Index, Length}
 use Rattle.wy_sem.specs.Meter.{Meter, Outcome, Done, Fault, More, Spent, Run, ◌>>=◌, check, choose}
-use Rattle.wy_sem.specs.Operations.{same_number, is_index, nat_of, item_at, find, agrees, as_number, as_truth, as_items, as_fields, needed, in_range, negated, denied, length_result, numbers, applied, second, operated, indexed, item_of, field_of, repeated}
+use Rattle.wy_sem.specs.Operations.{same_number, is_index, nat_of, item_at, find, agrees, as_number, as_truth, as_items, as_fields, needed, in_range, negated, denied, length_result, numbers, applied, second, operated, item_of, field_of, repeated}
 use Rattle.wy_sem.specs.Expressions.{Store, slot, put, Setting, no_calls, span, each, quantified, data_of, eval, eval_all, eval_fields}
 use Rattle.wy_grounded_conditions.specs.Uses.{NamesAll, TestsAll, AllTestAll, FieldsTestAll}
 use Rattle.wy_sound_clauses.specs.Quiet.{CallsNothing, AllCallNothing, FieldsCallNothing}

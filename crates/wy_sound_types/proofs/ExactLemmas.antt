@@ -8,7 +8,7 @@ use Rattle.wy_value.specs.Values.{names_of}
 use Rattle.wy_core.specs.Types.{Ty, NullTy, BoolTy, IntTy, AnyTy, VoidTy, RecordTy, ArrayTy, UnionTy, InterTy, NotTy, NamedTy, NormalTy, FieldTys, NoFieldTys, MoreFieldTys}
 use Rattle.wy_core.specs.CoreTree.{Alias}
 use Rattle.wy_types.specs.Shape.{Shape, NullShape, BoolShape, IntShape, ArrayShape, RecordShape}
-use Rattle.wy_types.specs.Names.{Declared, ty_in, declared_in, named_in, is_array, is_record_with, each_in_ty, fields_in_tys, is_in_ty, shape_of, item_readers, field_readers, Up, Down}
+use Rattle.wy_types.specs.Names.{Declared, ty_in, declared_in, named_in, is_array, is_record_with, each_in_ty, fields_in_tys, is_in_ty, item_readers, field_readers, Up, Down}
 use Rattle.wy_sem.specs.TypeTests.{has_clauses, no_alias, alias_at, mentions, mentions_fields, is_constrained_name, is_constrained}
 use Rattle.wy_vc_reach.proofs.BoundedLemmas.{Grows, bounded}
 use Rattle.wy_grounded_conditions.specs.Uses.{NamesAll, AllNamesAll}

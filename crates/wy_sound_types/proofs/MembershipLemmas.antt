@@ -6,8 +6,8 @@ use Rattle.wy_value.specs.Datum.{Datum, Null, Truth, Whole, Array, Record, Data,
 use Rattle.wy_core.specs.Types.{Ty, NullTy, BoolTy, IntTy, AnyTy, VoidTy, RecordTy, ArrayTy, UnionTy, InterTy, NotTy, NamedTy, NormalTy, FieldTys, NoFieldTys, MoreFieldTys}
 use Rattle.wy_core.specs.CoreTree.{Alias, Decl, AliasDecl, RoutineDecl, Core, aliases_of}
 use Rattle.wy_types.specs.Names.{Declared, names_in}
-use Rattle.wy_types.specs.Recursion.{IsDeclaredBelow, HasBareBelow, IsOrdered, RecurThroughParts}
-use Rattle.wy_sem.specs.Meter.{Meter, Outcome, Done, Fault, More, Spent}
+use Rattle.wy_types.specs.Recursion.{IsDeclaredBelow, HasBareBelow, IsOrdered}
+use Rattle.wy_sem.specs.Meter.{Outcome, Done, Fault, More, Spent}
 use Rattle.wy_sem.specs.TypeTests.{few_enough, same_names, alias_at, alias_holds}
 use Rattle.wy_sem.specs.Membership as sem
 use Rattle.wy_sem.specs.Membership.{belongs, name_belongs, belongs_of, is_yes, clauses_true, meaning_of, is_member}
@@ -133,11 +133,11 @@ module _ (core : Core ℕ) (flow : List Ty) (members : ℕ → Datum → Bool) (
     name_same (suc j) n b =
         and_when (belongs (name_belongs q d items parts j) d items parts (alias_at s.types n).ty) (is_in members (alias_at s.types n).ty d) (clauses_true place s.types n d) (says n d)
         (by (λ m g. name_same j m g) (slice_get names n) refl (found core 0 n) b) (λ inside. clauses_are n d bounded inside) ∙ sym (members_are n d) where
-      by : ((m : ℕ) → IsDeclaredBelow (order m) j (slice_get names m) → name_belongs q d items parts j m ≡ members m d) → (o : Option Declared) → slice_get names n ≡ o → Fits o (alias_at s.types n) → IsDeclaredBelow (order n) (suc j) o → belongs (name_belongs q d items parts j) d items parts (alias_at s.types n).ty ≡ is_in members (alias_at s.types n).ty d
-      by inner None e fits c = subst (λ (t : Ty). belongs (name_belongs q d items parts j) d items parts t ≡ is_in members t d) (sym fits) refl
-      by inner (Some x) e fits c =
-          subst (λ (t : Ty). belongs (name_belongs q d items parts j) d items parts t ≡ is_in members t d) fits.0
-          (belongs_same (name_belongs q d items parts j) d items parts hi hp (order n) (λ m g. inner m (lower m (order n) j (omega (arith, c)) (slice_get names m) g)) x.ty (is_ordered n x e).1)
+          by : ((m : ℕ) → IsDeclaredBelow (order m) j (slice_get names m) → name_belongs q d items parts j m ≡ members m d) → (o : Option Declared) → slice_get names n ≡ o → Fits o (alias_at s.types n) → IsDeclaredBelow (order n) (suc j) o → belongs (name_belongs q d items parts j) d items parts (alias_at s.types n).ty ≡ is_in members (alias_at s.types n).ty d
+          by inner None e fits c = subst (λ (t : Ty). belongs (name_belongs q d items parts j) d items parts t ≡ is_in members t d) (sym fits) refl
+          by inner (Some x) e fits c =
+              subst (λ (t : Ty). belongs (name_belongs q d items parts j) d items parts t ≡ is_in members t d) fits.0
+              (belongs_same (name_belongs q d items parts j) d items parts hi hp (order n) (λ m g. inner m (lower m (order n) j (omega (arith, c)) (slice_get names m) g)) x.ty (is_ordered n x e).1)
 
   as_many : length names ≡ length s.types
   as_many = same_lengths core 0

@@ -1,12 +1,11 @@
 -- Tests of types answer as types say, since the clauses of a type test deeper types alone.
-use Rattle.std.proofs.Common.{◌≡◌, ℕ, zero, suc, List, [], ◌∷◌, length, Bool, true, false, Option, Some, refl, sym, subst}
+use Rattle.std.proofs.Common.{◌≡◌, ℕ, zero, suc, List, [], ◌∷◌, length, Bool, true, false, Option, refl, sym, subst}
 use Rattle.wy_value.specs.Datum.{Datum}
 use Rattle.wy_core.specs.Types.{Ty}
-use Rattle.wy_core.specs.CoreTree.{Alias, Decl, AliasDecl, RoutineDecl, Core, aliases_of}
+use Rattle.wy_core.specs.CoreTree.{Decl, AliasDecl, RoutineDecl, Core, aliases_of}
 use Rattle.wy_formed.specs.Offers.{offers_of}
-use Rattle.wy_sem.specs.Meter.{Meter, choose}
-use Rattle.wy_sem.specs.TypeTests.{Questions, answer, alias_at, alias_holds, forgiven, is_constrained, tests, member}
-use Rattle.wy_sem.specs.Evaluation.{owed_member}
+use Rattle.wy_sem.specs.Meter.{choose}
+use Rattle.wy_sem.specs.TypeTests.{Questions, answer, alias_at, alias_holds, forgiven, tests, member}
 use Rattle.wy_conditions.specs.Numbered.{Node, numbered_core}
 use Rattle.wy_conditions.specs.Values.{Setting, named_in}
 use Rattle.wy_conditions.specs.Walks.{Program}

@@ -1,16 +1,16 @@
 -- A type lies between its readings: what the downward one says the type says, and what the type says the upward one says, of data that a program may hold.
-use Rattle.std.proofs.Common.{◌≡◌, refl, sym, ◌∙◌, ap, ℕ, zero, suc, ◌<◌, ◌≤◌, List, [], ◌∷◌, Bool, true, false, length, arith, is_some, slice_get, subst}
+use Rattle.std.proofs.Common.{◌≡◌, refl, sym, ◌∙◌, ap, ℕ, zero, suc, ◌<◌, ◌≤◌, List, Bool, true, false, length, arith, is_some, slice_get, subst}
 use Rattle.std.specs.Prelude.{Option, Some, None, not, ◌&&◌, ◌||◌}
 use Rattle.std.specs.Str.{bytes_eq}
 use Rattle.wy_value.specs.Datum.{Datum, Null, Truth, Whole, Array, Record, Data, no_items, item, Fields, no_fields, field}
 use Rattle.wy_value.specs.Values.{names_of}
 use Rattle.wy_core.specs.Types.{Ty, NullTy, BoolTy, IntTy, AnyTy, VoidTy, RecordTy, ArrayTy, UnionTy, InterTy, NotTy, NamedTy, NormalTy, FieldTys, NoFieldTys, MoreFieldTys}
-use Rattle.wy_core.specs.CoreTree.{Expr, Alias, AliasDecl, RoutineDecl, Core, aliases_of}
+use Rattle.wy_core.specs.CoreTree.{Alias}
 use Rattle.wy_types.specs.Shape as shapes
 use Rattle.wy_types.specs.Shape.{Shape, NullShape, BoolShape, IntShape, ArrayShape, RecordShape}
-use Rattle.wy_types.specs.Names.{Declared, names_in, ty_in, declared_in, named_in, is_array, is_record_with, each_in_ty, fields_in_tys, is_in_ty, shape_of, item_readers, field_readers, Up, Down}
-use Rattle.wy_types.specs.Recursion.{IsDeclaredBelow, HasBareBelow, IsOrdered, RecurThroughParts}
-use Rattle.wy_sem.specs.TypeTests.{is_null, is_truth, is_whole, few_enough, same_names, has_clauses, no_alias, alias_at}
+use Rattle.wy_types.specs.Names.{Declared, ty_in, declared_in, named_in, is_array, is_record_with, each_in_ty, fields_in_tys, is_in_ty, item_readers, field_readers, Up, Down}
+use Rattle.wy_types.specs.Recursion.{IsDeclaredBelow, HasBareBelow, IsOrdered}
+use Rattle.wy_sem.specs.TypeTests.{is_null, is_truth, is_whole, same_names, alias_at}
 use Rattle.wy_sound_expressions.specs.Types.{each_item, is_array_of, is_record_of, is_in, fields_in}
 use Rattle.wy_sound_expressions.specs.Written.{IsWritten, AreWritten}
 use Rattle.wy_sound_kinds.specs.Bounded.{IsBounded, AreBounded, FieldsBounded}
@@ -143,12 +143,12 @@ module _ {N : Type 0} (names : List Declared) (types : List (Alias N)) (members 
       let own = ordered n e is in
       let below : order n < suc j = declared_below n e is b in
       type_between (named_in names j shape) d shape h (order n) (λ m c. names_between d shape h written j m (lower m (order n) j (omega (arith, below)) (slice_get names m) c)) e.ty (written n e is) own.1) where
-    declared_below : (n : ℕ) (e : Declared) → slice_get names n ≡ Some e → IsDeclaredBelow (order n) (suc j) (slice_get names n) → order n < suc j
-    declared_below n e is c = subst (IsDeclaredBelow (order n) (suc j)) is c
+        declared_below : (n : ℕ) (e : Declared) → slice_get names n ≡ Some e → IsDeclaredBelow (order n) (suc j) (slice_get names n) → order n < suc j
+        declared_below n e is c = subst (IsDeclaredBelow (order n) (suc j)) is c
 
-    lower : (m i k : ℕ) → i ≤ k → (o : Option Declared) → IsDeclaredBelow (order m) i o → IsDeclaredBelow (order m) k o
-    lower m i k le None c = tt
-    lower m i k le (Some e) c = omega (arith, le, c)
+        lower : (m i k : ℕ) → i ≤ k → (o : Option Declared) → IsDeclaredBelow (order m) i o → IsDeclaredBelow (order m) k o
+        lower m i k le None c = tt
+        lower m i k le (Some e) c = omega (arith, le, c)
 
   -- each name that stands for something is of an order below their number
   bare_all : (t : Ty) → HasBareBelow names order (length names) t

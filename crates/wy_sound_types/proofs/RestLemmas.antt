@@ -1,8 +1,8 @@
 -- What evaluations rest on, where named types stand for data that meet the formulas.
-use Rattle.std.proofs.Common.{◌≡◌, ℕ, ◌+◌, zero, suc, List, [], ◌∷◌, Bool, true, false, Option, Some, None, is_some, slice_get, refl, sym, ◌∙◌, subst}
+use Rattle.std.proofs.Common.{◌≡◌, ℕ, ◌+◌, zero, suc, List, [], ◌∷◌, Bool, true, false, Option, Some, slice_get, refl, sym, ◌∙◌, subst}
 use Rattle.wy_value.specs.Datum.{Datum}
 use Rattle.wy_core.specs.Types.{Ty}
-use Rattle.wy_core.specs.CoreTree.{Expr, Alias, Decl, AliasDecl, RoutineDecl, Core, aliases_of}
+use Rattle.wy_core.specs.CoreTree.{Expr, Decl, AliasDecl, RoutineDecl, Core, aliases_of}
 use Rattle.wy_formed.specs.Offers.{offers_of}
 use Rattle.wy_formed_types.proofs.OrderLemmas.{ordered_types}
 use Rattle.wy_types.specs.Names.{Declared, names_in, Up, Down}

@@ -1,5 +1,5 @@
 -- Arguments fit, and so do the clauses of contracts.
-use Rattle.std.proofs.Common.{◌≡◌, ◌<◌, ◌≤◌, ℕ, zero, suc, ◌+◌, ◌==◌, ◌||◌, List, [], ◌∷◌, length, Bool, true, false, cond, Option, Some, None, refl, sym, ap, ◌∙◌, subst, arith, eqb-true}
+use Rattle.std.proofs.Common.{◌≡◌, ◌<◌, ℕ, zero, suc, ◌+◌, ◌==◌, ◌||◌, List, [], ◌∷◌, length, Bool, true, false, Option, Some, None, refl, sym, ap, ◌∙◌, subst, arith, eqb-true}
 use Rattle.wy_value.specs.Datum.{Datum}
 use Rattle.wy_core.specs.Types.{Ty}
 use Rattle.wy_core.specs.CoreTree as tree
@@ -11,11 +11,10 @@ use Rattle.wy_environment.specs.Variables.{Environment, nothing_known, or_void, 
 use Rattle.wy_typing.specs.Outcomes.{Gives}
 use Rattle.wy_typing.specs.Loops.{ClausesTyped}
 use Rattle.wy_typing.specs.Programs.{program_of, types_of, WithVariable, WithParams, WithNamed, WithResult}
-use Rattle.wy_sem.specs.Meter.{Meter, Done}
 use Rattle.wy_sem.specs.Expressions as sem
 use Rattle.wy_sem.specs.Expressions.{slot, put}
-use Rattle.wy_sem.specs.TypeTests.{unset, set_if, is_constrained}
-use Rattle.wy_sem.specs.Evaluation.{bound, entry_of}
+use Rattle.wy_sem.specs.TypeTests.{unset, set_if}
+use Rattle.wy_sem.specs.Evaluation.{bound}
 use Rattle.wy_conditions.specs.Sizes.{exprs_in_list}
 use Rattle.wy_conditions.specs.Numbered.{Node, numbered_list, numbered_routine}
 use Rattle.wy_conditions.specs.Values.{Setting}
@@ -195,8 +194,8 @@ module _ (core : Core ℕ) (flow : List Ty) (members : ℕ → Datum → Bool) (
         subst (λ (z : tree.Output). AllFit w s members (also_if z.variable (with_params routine.params nothing_seen)) (numbered_list routine.postconditions (length before + exprs_in_list routine.preconditions)) (set_if (bound routine.params vs (unset routine.variables)) z.variable (Some d))) (same_out o out e)
         (last_fit t.behind (also_if o.variable (with_params routine.params nothing_seen)) (set_if (bound routine.params vs (unset routine.variables)) o.variable (Some d))
         (with_named o.at o.ty o.variable t.behind d among.1 bound_d ((read core flow members h d bound_d o.ty among.0).in_high (subst (λ (z : tree.Output). is_in members z.ty d ≡ true) (sym (same_out o out e)) in_it)) typed) t.postconditions ready) where
-      same_out : (a b : tree.Output) → ◌≡◌ {A = Option tree.Output} (Some a) (Some b) → a ≡ b
-      same_out a b q = cc
+          same_out : (a b : tree.Output) → ◌≡◌ {A = Option tree.Output} (Some a) (Some b) → a ≡ b
+          same_out a b q = cc
 
     nothing_fit : (o : Option tree.Output) → o ≡ None → WithResult names t.entry o (Gives t.behind) → ClausesReady r n (with_result o (with_params routine.params nothing_seen)) routine.postconditions
         → AllFit w s members (with_params routine.params nothing_seen) (numbered_list routine.postconditions (length before + exprs_in_list routine.preconditions)) (bound routine.params vs (unset routine.variables))

@@ -1,12 +1,11 @@
 -- A test of a type in a contract ends, since the clauses of a type test types of lower levels.
-use Rattle.std.proofs.Common.{◌≡◌, ℕ, zero, suc, ◌+◌, ◌<◌, ◌≤◌, List, [], ◌∷◌, length, Bool, true, false, refl, sym, subst, arith}
-use Rattle.std.specs.Prelude.{Option, Some, None, not}
+use Rattle.std.proofs.Common.{ℕ, zero, suc, ◌<◌, ◌≤◌, List, [], ◌∷◌, length, Bool, true, false, arith}
+use Rattle.std.specs.Prelude.{Some, None, not}
 use Rattle.wy_value.specs.Datum.{Datum, Null, Truth, Whole, Array, Record, Data, no_items, item, Fields, no_fields, field}
 use Rattle.wy_core.specs.Types.{Ty, NullTy, BoolTy, IntTy, AnyTy, VoidTy, RecordTy, ArrayTy, UnionTy, InterTy, NotTy, NamedTy, NormalTy, FieldTys, NoFieldTys, MoreFieldTys}
 use Rattle.wy_core.specs.CoreTree.{Expr, Alias, Core}
 use Rattle.wy_formed.specs.Bound.{Bound}
 use Rattle.wy_formed.specs.Recursion.{Recursion}
-use Rattle.wy_sem.specs.Meter.{Meter, Run, choose}
 use Rattle.wy_sem.specs.Expressions.{Store, node}
 use Rattle.wy_sem.specs.TypeTests.{Test, answer, both, either, opposite, Questions, visit, asked, name_asked, asked_of, is_null, is_truth, is_whole, few_enough, same_names, tested, items_tested, parts_tested, alias_at, unset, set_if, all_hold, alias_holds, tests}
 use Rattle.wy_conditions.specs.Numbered.{Node}

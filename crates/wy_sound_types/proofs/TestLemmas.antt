@@ -3,7 +3,7 @@ use Rattle.std.proofs.Common.{◌≡◌, ℕ, zero, suc, ◌+◌, Bool, true, fa
 use Rattle.std.specs.Prelude.{Option, Some, None, not, ◌&&◌, ◌||◌}
 use Rattle.wy_value.specs.Datum.{Datum, Null, Truth, Whole, Array, Record, Data, no_items, item, Fields, no_fields, field}
 use Rattle.wy_core.specs.Types.{Ty, NullTy, BoolTy, IntTy, AnyTy, VoidTy, RecordTy, ArrayTy, UnionTy, InterTy, NotTy, NamedTy, NormalTy, FieldTys, NoFieldTys, MoreFieldTys}
-use Rattle.wy_sem.specs.Meter.{Meter, Outcome, Done, Fault, More, Spent, Run, ◌>>=◌, tick, count, turn, choose}
+use Rattle.wy_sem.specs.Meter.{Meter, Outcome, Done, Fault, More, Spent, ◌>>=◌, tick, count, turn, choose}
 use Rattle.wy_sem.specs.TypeTests.{Test, answer, both, either, opposite, Questions, visit, asked, name_asked, asked_of, is_null, is_truth, is_whole, few_enough, same_names, tested, items_tested, parts_tested, forgiven}
 use Rattle.wy_sound_expressions.specs.Suits.{Answers}
 use Rattle.wy_sound_expressions.specs.Types.{each_item, is_array_of, is_record_of, is_in, fields_in}

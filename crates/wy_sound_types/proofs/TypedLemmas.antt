@@ -1,5 +1,5 @@
 -- What the clauses of types meet is of the kinds that they ask for.
-use Rattle.std.proofs.Common.{◌≡◌, ◌<◌, ◌≤◌, ◌⊎◌, inl, inr, ℕ, zero, suc, ◌+◌, ◌==◌, ◌||◌, List, [], ◌∷◌, length, Bool, true, false, Option, Some, None, slice_get, refl, sym, ap, ◌∙◌, subst, arith, eqb-true}
+use Rattle.std.proofs.Common.{◌≡◌, ◌<◌, ◌≤◌, ◌⊎◌, inl, inr, ℕ, zero, suc, ◌+◌, ◌==◌, ◌||◌, List, [], ◌∷◌, length, Bool, true, false, Option, Some, None, refl, sym, ap, ◌∙◌, subst, arith, eqb-true}
 use Rattle.std.proofs.lemmas.Bool.{cases_lt}
 use Rattle.wy_value.specs.Datum.{Datum}
 use Rattle.wy_core.specs.Types.{Ty}
@@ -15,9 +15,9 @@ use Rattle.wy_typing.specs.Programs.{program_of, AliasTyped}
 use Rattle.wy_sem.specs.Meter.{Meter, Done}
 use Rattle.wy_sem.specs.Expressions as sem
 use Rattle.wy_sem.specs.Expressions.{slot, put}
-use Rattle.wy_sem.specs.TypeTests.{alias_at, unset, tests}
+use Rattle.wy_sem.specs.TypeTests.{alias_at, unset}
 use Rattle.wy_conditions.specs.Sizes.{exprs_in, exprs_in_list}
-use Rattle.wy_conditions.specs.Numbered.{Node, numbered, numbered_list, numbered_alias}
+use Rattle.wy_conditions.specs.Numbered.{Node, numbered, numbered_list}
 use Rattle.wy_conditions.specs.Values.{Setting}
 use Rattle.wy_sound_parts.proofs.NormLemmas.{norms_same}
 use Rattle.wy_sound_expressions.specs.Names.{also}
@@ -37,7 +37,7 @@ use Rattle.wy_sound_suits.proofs.KindLemmas.{truth_in}
 use Rattle.wy_sound_suits.proofs.SuitLemmas.{contracts_suit}
 use Rattle.wy_sound_fits.specs.Fit.{ClausesReady}
 use Rattle.wy_sound_fits.proofs.FitLemmas.{quiet}
-use Rattle.wy_sound_types.specs.Tests.{TestsTell, ClausesMeet, no_variable, setting_to, AliasesMeet}
+use Rattle.wy_sound_types.specs.Tests.{TestsTell, ClausesMeet, no_variable, setting_to}
 use Rattle.wy_sound_members.specs.Laws.{told_by}
 use Rattle.wy_sound_types.specs.Laws.{TypesMeet}
 use Rattle.wy_sound_types.specs.Typed.{TypedAlias, AliasesTyped, AliasesReady, ClausesOfTypesMeet}

@@ -1,5 +1,5 @@
 -- The contracts of functions and methods, as typing finds them.
-use Rattle.std.specs.Prelude.{◌≡◌, ◌+◌, ◌<◌, ℕ, List, [], ◌∷◌, length, Bool, true, false, Option, Some, None}
+use Rattle.std.specs.Prelude.{◌≡◌, ◌<◌, ℕ, List, [], ◌∷◌, length, Bool, true, false, Option, Some, None}
 use Rattle.wy_value.specs.Datum.{Datum}
 use Rattle.wy_core.specs.Types.{Ty}
 use Rattle.wy_core.specs.CoreTree as tree
@@ -10,7 +10,6 @@ use Rattle.wy_typing.specs.Outcomes.{Gives}
 use Rattle.wy_typing.specs.Loops.{ClausesTyped}
 use Rattle.wy_typing.specs.Programs.{program_of, types_of, WithParams, WithResult}
 use Rattle.wy_sem.specs.Expressions as sem
-use Rattle.wy_conditions.specs.Sizes.{exprs_in_list}
 use Rattle.wy_conditions.specs.Numbered.{Node, numbered_routine}
 use Rattle.wy_sound_expressions.specs.Written.{IsWritten}
 use Rattle.wy_sound_kinds.specs.Bounded.{AllBounded}
