@@ -1,5 +1,5 @@
 -- Clauses of contracts are safe where what the contract owes is true, and the requires clauses are known where the body begins.
-use Rattle.std.proofs.Common.{◌≡◌, ℕ, suc, ◌≤◌, List, [], ◌∷◌, ◌++◌, Bool, true, false, Option, Some, None, refl, sym, ap, ◌∙◌, subst, arith}
+use Rattle.std.proofs.Common.{◌≡◌, ℕ, suc, ◌≤◌, List, [], ◌∷◌, Bool, true, Option, Some, None, ◌∙◌, subst, arith}
 use Rattle.wy_value.specs.Datum.{Datum}
 use Rattle.wy_core.specs.CoreTree as tree
 use Rattle.wy_core.specs.CoreTree.{Expr, Routine}
@@ -11,12 +11,12 @@ use Rattle.wy_sem.specs.Evaluation.{entry_of}
 use Rattle.wy_conditions.specs.Numbered.{Node}
 use Rattle.wy_conditions.specs.Making.{val_name, formula}
 use Rattle.wy_conditions.specs.Variables.{Vars, put_if}
-use Rattle.wy_conditions.specs.Values.{Setting, word_if, named_in}
+use Rattle.wy_conditions.specs.Values.{word_if, named_in}
 use Rattle.wy_conditions.specs.Owed.{assume}
 use Rattle.wy_conditions.specs.Clauses.{in_type, assume_in_type}
 use Rattle.wy_conditions.specs.Walks.{Program, walk_expr}
 use Rattle.wy_conditions.specs.Statements.{walk_clauses}
-use Rattle.wy_conditions.specs.Programs.{enter, result_word, enter_result, ensures_conditions, contract_conditions}
+use Rattle.wy_conditions.specs.Programs.{enter, result_word, enter_result, ensures_conditions}
 use Rattle.wy_formed_conditions.proofs.MakingLemmas.{val_name_sorted}
 use Rattle.wy_formed_conditions.proofs.ValueLemmas.{AreData, put_if_data}
 use Rattle.wy_sound_expressions.specs.Names.{Agree, Known, Means, Stand}
@@ -24,7 +24,7 @@ use Rattle.wy_sound_expressions.specs.Truth.{AreTrueBy}
 use Rattle.wy_sound_expressions.specs.Types.{is_in}
 use Rattle.wy_sound_expressions.specs.Written.{IsWritten}
 use Rattle.wy_sound_expressions.specs.Laws.{NamesTold}
-use Rattle.wy_sound_expressions.proofs.NameLemmas.{agree_refl, agree_less, agree_trans, right_later, means_later, known_later, stand_later}
+use Rattle.wy_sound_expressions.proofs.NameLemmas.{agree_refl, agree_less, agree_trans, right_later, means_later, stand_later}
 use Rattle.wy_sound_expressions.proofs.GoodLemmas.{true_left, true_right}
 use Rattle.wy_sound_expressions.proofs.AssumeLemmas.{assumed_true}
 use Rattle.wy_sound_expressions.proofs.CallGrows.{in_type_grows}
@@ -33,10 +33,9 @@ use Rattle.wy_sound_joins.proofs.DatumLemmas.{agree_datum, datum_at}
 use Rattle.wy_sound_clauses.specs.Clauses.{AllFit, AreSafe, AllPass}
 use Rattle.wy_sound_clauses.proofs.ClauseLemmas.{clauses_assumed}
 use Rattle.wy_sound_clauses.proofs.WalkedLemmas.{walked_safe, walked_known}
-use Rattle.wy_sound_kinds.specs.Bounded.{IsBounded}
 use Rattle.wy_sound_calls.specs.CallLaws.{with_params, nothing_seen, also_if, ClausesFit}
 use Rattle.wy_sound_calls.proofs.CallLemmas.{stand_if}
-use Rattle.wy_sound_routines.specs.Entries.{Entered, ContractIsSafe, ContractsAreSafe}
+use Rattle.wy_sound_routines.specs.Entries.{Entered, ContractsAreSafe}
 
 -- clauses that are walked make names from the count on
 walked_grows : (p : Program Node) (words : List (List ℕ)) (es : List (Expr Node)) (vars : Vars) (hyps : List Term) (n : ℕ) → n ≤ (walk_clauses p words es vars hyps n).count

@@ -1,5 +1,5 @@
 -- Calls are handled at each depth, since those in bodies nest less deep.
-use Rattle.std.proofs.Common.{◌≡◌, ℕ, zero, suc, List, [], ◌∷◌, length, Bool, true, false, Option, Some, None, nat_eq, eq-eqb, refl, sym, ap, ◌∙◌, subst}
+use Rattle.std.proofs.Common.{◌≡◌, ℕ, zero, suc, List, [], ◌∷◌, length, Bool, true, false, Option, Some, None, nat_eq, refl, sym, ap, ◌∙◌, subst}
 use Rattle.std.specs.Fmt.{signed_decimal}
 use Rattle.wy_value.specs.Datum.{Datum, Null, Truth, Whole, Array, Record, Data}
 use Rattle.wy_core.specs.Types.{Ty}
@@ -17,8 +17,8 @@ use Rattle.wy_sem.specs.Statements.{given, exec_all}
 use Rattle.wy_sem.specs.Evaluation as run
 use Rattle.wy_sem.specs.Evaluation.{Callee, Declared, Print, PrintInt, Undeclared, callee, entry_of, frame_of, result_of, owed_member, text_of, printed, routine_call, print_call, called}
 use Rattle.wy_conditions.specs.Numbered.{Node}
-use Rattle.wy_conditions.specs.Values.{Setting, named_in}
-use Rattle.wy_conditions.specs.Calls.{Walked, callee_walk, call_walk}
+use Rattle.wy_conditions.specs.Values.{Setting}
+use Rattle.wy_conditions.specs.Calls.{callee_walk, call_walk}
 use Rattle.wy_conditions.specs.Walks.{Program}
 use Rattle.wy_sound_expressions.specs.Names.{Known, AllMean}
 use Rattle.wy_sound_expressions.specs.Truth.{AreTrueBy, Good}
@@ -60,9 +60,9 @@ module _ (s : Setting Node) (members : ℕ → Datum → Bool) (owed : Ty → Da
       let one = bind_done (owed t d m) (λ b. check b kind.Member at next) x k e in
       let two = check_done one.0 kind.Member at next x one.1 k one.3 in
       (by (is_constrained s.types t) refl one.0 one.1 two.0 one.2, (one.1, two.1)) where
-    by : (c : Bool) → is_constrained s.types t ≡ c → (b : Bool) (l : Meter) → b ≡ true → owed t d m ≡ Done b l → is_in members t d ≡ true
-    by true q b l holds o = sym (answer_is (is_in members t d) b l (owed t d m) (checks.asked t d m comes.0 q) o) ∙ holds
-    by false q b l holds o = comes.1 q
+        by : (c : Bool) → is_constrained s.types t ≡ c → (b : Bool) (l : Meter) → b ≡ true → owed t d m ≡ Done b l → is_in members t d ≡ true
+        by true q b l holds o = sym (answer_is (is_in members t d) b l (owed t d m) (checks.asked t d m comes.0 q) o) ∙ holds
+        by false q b l holds o = comes.1 q
 
   arguments_done : {X : Type 0} (at : ℕ) (ps : List Param) (vs : List Datum) (next : Run X) (x : X) (m k : Meter) → ArgumentsFit s members ps vs → run.arguments owed at ps vs next m ≡ Done x k → ArgumentsIn members ps vs × GoesOn next x k
   arguments_done at [] vs next x m k fit e = (tt, (m, e))
@@ -115,8 +115,8 @@ routine_done w s members owed checks r at vs m k v fit keeps e =
 printed_done : (limit : Option ℕ) (at : ℕ) (ds : Data) (v : Option Datum) (m k : Meter) → (text_of limit at ds m >>= printed) ≡ Done v k → v ≡ None
 printed_done limit at ds v m k e =
     let one = bind_done (text_of limit at ds m) printed v k e in none_of one.0 one.1 v k one.3 where
-  none_of : (bytes : List ℕ) (l : Meter) (v : Option Datum) (k : Meter) → printed bytes l ≡ Done v k → v ≡ None
-  none_of bytes l v k q = cc
+      none_of : (bytes : List ℕ) (l : Meter) (v : Option Datum) (k : Meter) → printed bytes l ≡ Done v k → v ≡ None
+      none_of bytes l v k q = cc
 
 number_none : {v : Option Datum} {k : Meter} (bytes : List ℕ) (m : Meter) → printed bytes m ≡ Done v k → v ≡ None
 number_none bytes m e = cc
@@ -155,14 +155,14 @@ module _ (place : Node → ℕ) (limit : Option ℕ) (core : Core Node) (p : Pro
         calls_sound w p.setting members owed r from at n ts hyps names vs m h.told h.checks t.count t.arguments (t.fits depth) (λ inside. (safe r vs t inside).first) (keeps r vs t) right are means kn
     one_sound f from at n ts hyps names vs m taken right are means kn Print e =
         let text = h.texts f vs taken e in by ts are (subst (AllMean n names ts) text.1 means) (subst (λ (us : List Datum). takes f us ≡ true) text.1 taken) where
-      by : (us : List Term) → AreValues us → AllMean n names us (Array (h.texts f vs taken e).0 ∷ []) → takes f (Array (h.texts f vs taken e).0 ∷ []) ≡ true
-          → Good (AreTrueBy members (callee_walk p.setting Print from us hyps n).owed) (called w owed Print at vs m) (Returned n names (callee_walk p.setting Print from us hyps n))
-      by [] a q k = absurd q
-      by (u ∷ x ∷ us) a q k = absurd q.1
-      by (u ∷ []) a q k =
-          let text = h.texts f vs taken e in
-          subst (λ (us : List Datum). Good (AreTrueBy members (callee_walk p.setting Print from (u ∷ []) hyps n).owed) (called w owed Print at us m) (Returned n names (callee_walk p.setting Print from (u ∷ []) hyps n))) (sym text.1)
-          (prints_sound.text members limit from at n u hyps names text.0 m text.2 right a.0 q.0 kn)
+          by : (us : List Term) → AreValues us → AllMean n names us (Array (h.texts f vs taken e).0 ∷ []) → takes f (Array (h.texts f vs taken e).0 ∷ []) ≡ true
+              → Good (AreTrueBy members (callee_walk p.setting Print from us hyps n).owed) (called w owed Print at vs m) (Returned n names (callee_walk p.setting Print from us hyps n))
+          by [] a q k = absurd q
+          by (u ∷ x ∷ us) a q k = absurd q.1
+          by (u ∷ []) a q k =
+              let text = h.texts f vs taken e in
+              subst (λ (us : List Datum). Good (AreTrueBy members (callee_walk p.setting Print from (u ∷ []) hyps n).owed) (called w owed Print at us m) (Returned n names (callee_walk p.setting Print from (u ∷ []) hyps n))) (sym text.1)
+              (prints_sound.text members limit from at n u hyps names text.0 m text.2 right a.0 q.0 kn)
     one_sound f from at n ts hyps names vs m taken right are means kn PrintInt e =
         let number = h.numbers f vs taken e in
         let A = AreTrueBy members (callee_walk p.setting PrintInt from ts hyps n).owed in

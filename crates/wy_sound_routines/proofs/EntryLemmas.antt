@@ -1,10 +1,10 @@
 -- Parameters stand for their arguments at the entry, and their types are known.
-use Rattle.std.proofs.Common.{◌≡◌, ℕ, zero, suc, ◌<◌, ◌≤◌, ◌==◌, ◌||◌, List, [], ◌∷◌, Bool, true, false, Option, Some, None, pos, refl, sym, ap, ◌∙◌, subst, arith}
+use Rattle.std.proofs.Common.{◌≡◌, ℕ, zero, suc, ◌≤◌, ◌==◌, ◌||◌, List, [], ◌∷◌, Bool, true, false, Option, Some, None, pos, refl, sym, ap, ◌∙◌, subst, arith}
 use Rattle.wy_value.specs.Datum.{Datum, Null}
-use Rattle.wy_core.specs.CoreTree.{Param, Routine}
+use Rattle.wy_core.specs.CoreTree.{Param}
 use Rattle.wy_term.specs.Term.{Term}
 use Rattle.wy_term.specs.Sorts.{val_sort}
-use Rattle.wy_term.specs.Meaning.{Names, with_datum, sense}
+use Rattle.wy_term.specs.Meaning.{Names, with_datum}
 use Rattle.wy_kept_sorts.specs.SortKept.{HasSort}
 use Rattle.wy_sem.specs.Expressions as sem
 use Rattle.wy_sem.specs.Expressions.{Store, slot}
@@ -23,15 +23,15 @@ use Rattle.wy_formed_conditions.proofs.ValueLemmas.{variable_sorted}
 use Rattle.wy_sound_expressions.specs.Names.{Agree, Known, Means, Stand, also}
 use Rattle.wy_sound_expressions.specs.Types.{is_in}
 use Rattle.wy_sound_expressions.specs.Written.{IsWritten}
-use Rattle.wy_sound_expressions.specs.Laws.{NamesTold, IsValTerm, AreValTerms}
-use Rattle.wy_sound_expressions.proofs.NameLemmas.{agree_refl, eqb_refl, agree_trans, agree_less, right_later, means_later, known_later, stand_later, stand_put}
+use Rattle.wy_sound_expressions.specs.Laws.{NamesTold, AreValTerms}
+use Rattle.wy_sound_expressions.proofs.NameLemmas.{agree_refl, eqb_refl, agree_trans, agree_less, right_later, means_later, stand_later, stand_put}
 use Rattle.wy_sound_expressions.proofs.AssumeLemmas.{assumed_true}
 use Rattle.wy_sound_expressions.proofs.CallGrows.{in_type_grows}
 use Rattle.wy_sound_expressions.proofs.LawLemmas.{types_told, are_data}
 use Rattle.wy_sound_joins.specs.Points.{Depends, IsPoint}
 use Rattle.wy_sound_joins.proofs.DatumLemmas.{agree_datum, datum_at}
 use Rattle.wy_sound_calls.specs.CallLaws.{with_params, nothing_seen}
-use Rattle.wy_sound_routines.specs.Entries.{ParamsIn, ArgumentsLast, Entered, EntriesStand}
+use Rattle.wy_sound_routines.specs.Entries.{ParamsIn, ArgumentsLast, EntriesStand}
 
 none_is : (t : Term) → ◌≡◌ {A = Option Term} None (Some t) → ⊥
 none_is t e = absurd cc

@@ -1,5 +1,5 @@
 -- A call whose arguments are of their types and whose requires clauses are true goes on to its body.
-use Rattle.std.proofs.Common.{◌≡◌, ℕ, zero, suc, List, [], ◌∷◌, length, Bool, true, false, Option, Some, None, nat_eq, eq-eqb, refl, sym, ap, ◌∙◌, subst}
+use Rattle.std.proofs.Common.{◌≡◌, ℕ, List, [], ◌∷◌, length, Bool, true, false, Option, None, nat_eq, eq-eqb, refl, sym, ap, ◌∙◌, subst}
 use Rattle.wy_value.specs.Datum.{Datum, Null, Truth, Whole, Array, Record}
 use Rattle.wy_core.specs.Types.{Ty}
 use Rattle.wy_core.specs.CoreTree.{Expr, Param, Routine, Core, aliases_of, routines_of}
@@ -17,7 +17,6 @@ use Rattle.wy_sem.specs.Evaluation as run
 use Rattle.wy_sem.specs.Evaluation.{Callee, Declared, callee, place_of, entry_of, frame_of, result_of, owed_member, called, start, evaluate}
 use Rattle.wy_conditions.specs.Numbered.{Node}
 use Rattle.wy_conditions.specs.Values.{Setting}
-use Rattle.wy_conditions.specs.Walks.{Program}
 use Rattle.wy_sound_terms.specs.Kinds.{IsTruth}
 use Rattle.wy_sound_expressions.specs.Truth.{Good}
 use Rattle.wy_sound_expressions.specs.Types.{is_in}
@@ -25,7 +24,7 @@ use Rattle.wy_sound_expressions.specs.Suits.{Answers}
 use Rattle.wy_sound_expressions.proofs.GoodLemmas.{good_spend}
 use Rattle.wy_sound_clauses.specs.Clauses.{AllFit, IsNoFault, AreSafe, Passes, AllPass}
 use Rattle.wy_sound_calls.specs.CallLaws.{Checks, ArgumentsFit, ArgumentsIn, Leaves, with_params, nothing_seen}
-use Rattle.wy_sound_routines.specs.Depths.{setting_at, AllTaken}
+use Rattle.wy_sound_routines.specs.Depths.{setting_at}
 use Rattle.wy_sound_routines.specs.Runs.{RunsAreSound}
 use Rattle.wy_sound_routines.proofs.DepthLemmas.{handled, safe, keeps}
 

@@ -21,7 +21,7 @@ use Rattle.wy_sound_expressions.specs.Laws.{NamesTold}
 use Rattle.wy_sound_kinds.specs.Bounded.{IsBounded}
 use Rattle.wy_sound_calls.specs.CallLaws.{Checks, ArgumentsFit, ArgumentsIn, AreValues, ClausesFit, KeepsContract, Returned}
 use Rattle.wy_sound_calls.specs.PrintLaws.{AllWhole}
-use Rattle.wy_sound_routines.specs.Entries.{ParamsIn, ArgumentsLast, BodyBegins, ContractIsSafe}
+use Rattle.wy_sound_routines.specs.Entries.{ParamsIn, ArgumentsLast, ContractIsSafe}
 
 -- what evaluations of a program rest on, where calls nest so deep
 abbrev pub setting_at : (Node → ℕ) → Option ℕ → Core Node → ℕ → sem.Setting Node

@@ -1,5 +1,5 @@
 -- Where a function or method begins: its parameters stand for the arguments, and each is of its type.
-use Rattle.std.specs.Prelude.{◌≡◌, ℕ, List, [], ◌∷◌, Bool, true, Option, Some, None}
+use Rattle.std.specs.Prelude.{◌≡◌, ℕ, List, [], ◌∷◌, Bool, true, Some, None}
 use Rattle.wy_value.specs.Datum.{Datum}
 use Rattle.wy_core.specs.CoreTree as tree
 use Rattle.wy_core.specs.CoreTree.{Param, Routine}
@@ -10,10 +10,9 @@ use Rattle.wy_sem.specs.TypeTests.{set_if}
 use Rattle.wy_sem.specs.Evaluation.{entry_of}
 use Rattle.wy_conditions.specs.Numbered.{Node}
 use Rattle.wy_conditions.specs.Values.{Setting, named_in}
-use Rattle.wy_conditions.specs.Spots.{is_set, with_hyps}
+use Rattle.wy_conditions.specs.Spots.{is_set}
 use Rattle.wy_conditions.specs.Clauses.{assume_clauses}
 use Rattle.wy_conditions.specs.Walks.{Program}
-use Rattle.wy_conditions.specs.Statements.{Renewed}
 use Rattle.wy_conditions.specs.Programs.{enter, contract_conditions}
 use Rattle.wy_sound_expressions.specs.Names.{Known, Stand}
 use Rattle.wy_sound_expressions.specs.Truth.{AreTrueBy}
@@ -21,9 +20,9 @@ use Rattle.wy_sound_expressions.specs.Types.{is_in}
 use Rattle.wy_sound_expressions.specs.Written.{IsWritten}
 use Rattle.wy_sound_expressions.specs.Laws.{NamesTold, AreValTerms}
 use Rattle.wy_sound_clauses.specs.Clauses.{AreSafe, AllPass}
-use Rattle.wy_sound_joins.specs.Points.{IsPoint, At}
+use Rattle.wy_sound_joins.specs.Points.{IsPoint}
 use Rattle.wy_sound_kinds.specs.Bounded.{IsBounded}
-use Rattle.wy_sound_calls.specs.CallLaws.{ArgumentsIn, with_params, nothing_seen, also_if, ClausesFit}
+use Rattle.wy_sound_calls.specs.CallLaws.{with_params, nothing_seen, ClausesFit}
 
 -- the value of each parameter in the store is of its type
 abbrev pub ParamsIn : (ℕ → Datum → Bool) → List Param → Store → Type 0

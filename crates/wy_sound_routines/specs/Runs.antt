@@ -1,5 +1,5 @@
 -- A program from its entry.
-use Rattle.std.specs.Prelude.{◌≡◌, ℕ, List, length, Bool, true, None}
+use Rattle.std.specs.Prelude.{◌≡◌, ℕ, List, Bool, true, None}
 use Rattle.wy_value.specs.Datum.{Datum}
 use Rattle.wy_core.specs.CoreTree.{Routine, Core, aliases_of}
 use Rattle.wy_sem.specs.TypeTests.{clause_setting}
