@@ -2,3 +2,4 @@ pub mod EntryLemmas
 pub mod ContractLemmas
 pub mod DepthLemmas
 pub mod RunLemmas
+pub mod ParamLemmas

@@ -1,5 +1,5 @@
 -- Where a function or method begins: its parameters stand for the arguments, and each is of its type.
-use Rattle.std.specs.Prelude.{◌≡◌, ℕ, List, [], ◌∷◌, Bool, true, Some, None}
+use Rattle.std.specs.Prelude.{◌≡◌, ℕ, List, [], ◌∷◌, Bool, true, Some, None, ◌<◌, length}
 use Rattle.wy_value.specs.Datum.{Datum}
 use Rattle.wy_core.specs.CoreTree as tree
 use Rattle.wy_core.specs.CoreTree.{Param, Routine}
@@ -67,3 +67,20 @@ pub record ContractsAreSafe : Type 0 where
       → ClausesFit w p.setting members r vs → AreTrueBy members (contract_conditions p r) → ContractIsSafe w members r vs
   pub begins : (w : sem.Setting Node) (p : Program Node) (members : ℕ → Datum → Bool) → NamesTold members (named_in p.setting) → (r : Routine Node) (vs : List Datum) → Entered p.setting members r (entry_of r vs)
       → ClausesFit w p.setting members r vs → AllPass w r.preconditions (entry_of r vs) → BodyBegins p members r (entry_of r vs)
+
+-- ---- parameters with different variables
+
+-- none of the parameters is this variable
+abbrev pub IsNone : ℕ → List Param → Type 0
+IsNone x [] = Unit {0}
+IsNone x (p ∷ ps) = (p.variable ≡ x → ⊥) × IsNone x ps
+
+-- each parameter is a variable of its own, one of so many, of a type that a source may write
+abbrev pub ParamsApart : ℕ → List Param → Type 0
+ParamsApart n [] = Unit {0}
+ParamsApart n (p ∷ ps) = (p.variable < n) × IsWritten p.ty × IsNone p.variable ps × ParamsApart n ps
+
+-- so the entry's store has each argument that is of its type, in its parameter
+pub record ParametersAreIn : Type 0 where
+  pub last : (ps : List Param) (vs : List Datum) → length vs ≡ length ps → ArgumentsLast ps vs
+  pub inside : (members : ℕ → Datum → Bool) (r : Routine Node) (vs : List Datum) → ParamsApart (length r.variables) r.params → length vs ≡ length r.params → ArgumentsIn members r.params vs → ParamsIn members r.params (entry_of r vs)

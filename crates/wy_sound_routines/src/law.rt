@@ -1,12 +1,17 @@
 //! Laws of functions and methods, each as the contract of a function without a body.
 ghost use Rattle.wy_sound_routines.specs.Depths.{CallsAreHandled};
-ghost use Rattle.wy_sound_routines.specs.Entries.{ContractsAreSafe, EntriesStand};
+ghost use Rattle.wy_sound_routines.specs.Entries.{ContractsAreSafe, EntriesStand, ParametersAreIn};
 ghost use Rattle.wy_sound_routines.specs.Runs.{RunsAreSound};
 
 /// At the entry of a function or method whose arguments are of their parameters' types, there are names at which the parameters
 /// stand for the arguments and what is assumed of their types is known.
 pub fn entries_stand()
     ensures stand { EntriesStand }
+{}
+
+/// Where parameters have different variables, the store at the entry has each argument in its parameter.
+pub fn parameters_are_in()
+    ensures inside { ParametersAreIn }
 {}
 
 /// Where what a contract owes is true, its requires clauses are safe at the entry, and its ensures clauses behind them with each

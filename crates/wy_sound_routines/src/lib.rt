@@ -3,4 +3,6 @@
 
 mod law;
 
-pub use law::{calls_are_handled, contracts_are_safe, entries_stand, runs_are_sound};
+pub use law::{
+    calls_are_handled, contracts_are_safe, entries_stand, parameters_are_in, runs_are_sound,
+};
