@@ -22,7 +22,7 @@ use Rattle.wy_sound_expressions.specs.Laws.{NamesTold, AreValTerms}
 use Rattle.wy_sound_clauses.specs.Clauses.{AreSafe, AllPass}
 use Rattle.wy_sound_joins.specs.Points.{IsPoint}
 use Rattle.wy_sound_kinds.specs.Bounded.{IsBounded}
-use Rattle.wy_sound_calls.specs.CallLaws.{with_params, nothing_seen, ClausesFit}
+use Rattle.wy_sound_calls.specs.CallLaws.{ArgumentsIn, with_params, nothing_seen, ClausesFit}
 
 -- the value of each parameter in the store is of its type
 abbrev pub ParamsIn : (ℕ → Datum → Bool) → List Param → Store → Type 0

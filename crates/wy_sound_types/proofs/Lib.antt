@@ -9,3 +9,4 @@ pub mod TestEndLemmas
 pub mod MembershipLemmas
 pub mod TypedLemmas
 pub mod RoutineLemmas
+pub mod QuietLemmas

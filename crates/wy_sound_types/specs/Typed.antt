@@ -3,6 +3,7 @@ use Rattle.std.specs.Prelude.{◌≡◌, ◌<◌, ℕ, List, length, Bool, true,
 use Rattle.wy_value.specs.Datum.{Datum}
 use Rattle.wy_core.specs.Types.{Ty}
 use Rattle.wy_core.specs.CoreTree.{Alias, Core, aliases_of}
+use Rattle.wy_formed.specs.Calls.{Calls}
 use Rattle.wy_typing.specs.Outcomes.{Gives}
 use Rattle.wy_typing.specs.Programs.{program_of, AliasTyped}
 use Rattle.wy_sem.specs.TypeTests.{alias_at}
@@ -12,7 +13,7 @@ use Rattle.wy_sound_expressions.specs.Written.{IsWritten}
 use Rattle.wy_sound_kinds.specs.Ready.{Rules}
 use Rattle.wy_sound_suits.specs.Laws.{Begins}
 use Rattle.wy_sound_fits.specs.Fit.{ClausesReady}
-use Rattle.wy_sound_types.specs.Tests.{no_variable, AliasesMeet}
+use Rattle.wy_sound_types.specs.Tests.{AllQuiet, no_variable, AliasesMeet}
 use Rattle.wy_sound_members.specs.Laws.{told_by}
 use Rattle.wy_sound_types.specs.Laws.{TypesMeet}
 
@@ -38,3 +39,7 @@ abbrev pub ClausesOfTypesMeet : Type 0
 ClausesOfTypesMeet =
     (core : Core ℕ) (flow : List Ty) (members : ℕ → Datum → Bool) → TypesMeet core flow members → AliasesTyped core flow → (r : Rules) → ((t : Ty) → r.tested t ≡ true → IsWritten t) → AliasesReady r core
     → AliasesMeet (told_by core flow) members
+
+-- clauses of types of a program whose calls stand where they may call nothing
+abbrev pub ClausesOfTypesAreQuiet : Type 0
+ClausesOfTypesAreQuiet = (core : Core ℕ) (flow : List Ty) → Calls core → (b : ℕ) → AllQuiet (alias_at (told_by core flow).types b).clauses

@@ -1,7 +1,7 @@
 //! Laws of named types, each as the contract of a function without a body.
 ghost use Rattle.wy_sound_types.specs.Laws.{ChecksAreRight, MembershipIsSaid, TestsAreRight, TypesAreRead};
 ghost use Rattle.wy_sound_types.specs.Routines.{ContractsFit};
-ghost use Rattle.wy_sound_types.specs.Typed.{ClausesOfTypesMeet};
+ghost use Rattle.wy_sound_types.specs.Typed.{ClausesOfTypesAreQuiet, ClausesOfTypesMeet};
 
 /// Where the conditions of a program are true by data that meet the formulas of all types, and what the clauses of its types meet
 /// is of the kinds that they ask for: a test of a type is no fault, in code or in a contract, and its answer is whether the datum is in
@@ -37,4 +37,9 @@ pub fn clauses_of_types_meet()
 /// ensures clauses with each result of the result's type that a program may hold.
 pub fn contracts_fit()
     ensures fit { ContractsFit }
+{}
+
+/// Clauses of types call nothing, where the calls of the program stand where they may.
+pub fn clauses_of_types_are_quiet()
+    ensures quiet { ClausesOfTypesAreQuiet }
 {}

@@ -7,6 +7,6 @@
 mod law;
 
 pub use law::{
-    checks_are_right, clauses_of_types_meet, contracts_fit, membership_is_said, tests_are_right,
-    types_are_read,
+    checks_are_right, clauses_of_types_are_quiet, clauses_of_types_meet, contracts_fit,
+    membership_is_said, tests_are_right, types_are_read,
 };
