@@ -46,9 +46,13 @@ UpdateSuits w b members x path e p s =
     × ((d : Datum) × (slot s x ≡ Some d) × PathSuits w (is_set p.set) path d s × Suits w false (is_set p.set) e s
     × ((slots : List Slot) (v : Datum) (m k i j : Meter) → run.path_of w.setting s path d m ≡ Done slots k → eval w.setting w.paid e s i ≡ Done v j → IsFree b members (type_at b.types x) (updated d slots v)))
 
--- from the store another turn begins at the other one
-abbrev pub Leads : sem.Setting Node → Frame Node → Stmts Node → Store → Store → Type 0
-Leads w fr body s t = (m : Meter) × (k : Meter) × ((run.exec_all w fr body s m ≡ Done (Went t) k) ⊎ ((from : ℕ) × (run.exec_all w fr body s m ≡ Done (Continued from t) k)))
+-- the test has the answer true
+abbrev pub IsTested : Kinds Node → Expr Node → Store → Type 0
+IsTested w e s = (m : Meter) × (k : Meter) × (eval w.setting w.paid e s m ≡ Done (Truth true) k)
+
+-- from the store, where the test is true, another turn begins at the other one
+abbrev pub Leads : Kinds Node → Frame Node → Expr Node → Stmts Node → Store → Store → Type 0
+Leads w fr e body s t = IsTested w e s × ((m : Meter) × (k : Meter) × ((run.exec_all w.setting fr body s m ≡ Done (Went t) k) ⊎ ((from : ℕ) × (run.exec_all w.setting fr body s m ≡ Done (Continued from t) k))))
 
 -- so at the store, and at each to which at most so many turns lead
 abbrev pub AtTurns : (Store → Type 0) → (Store → Store → Type 0) → ℕ → Store → Type 0
@@ -98,8 +102,8 @@ abbrev mutual
       AllFit w.setting b.program.setting members (is_set head.spot.set) invariants t
       × Suits w false (is_set head.spot.set) e t × Each w e t IsTruth
       × Each w e t (λ d. d ≡ Truth true → BlockSuits w fr b members calls invariants body (where_true v head.spot) v.count t)
-      × ((u : Store) (m k : Meter) → run.exec_all w.setting fr body t m ≡ Done (Went u) k → KeepFits w.setting b members invariants turn.ends u))
-      (Leads w.setting fr body) j s)
+      × (IsTested w e t → (u : Store) (m k : Meter) → run.exec_all w.setting fr body t m ≡ Done (Went u) k → KeepFits w.setting b members invariants turn.ends u))
+      (Leads w fr e body) j s)
 
   pub BlockSuits : Kinds Node → Frame Node → Body Node → (ℕ → Datum → Bool) → (ℕ → List Datum → Type 0) → List (Expr Node) → Stmts Node → Spot → ℕ → Store → Type 0
   BlockSuits w fr b members calls around NoStmts p n s = Unit {0}
