@@ -1,8 +1,15 @@
-//! The law of bodies, as the contract of a function without a body.
+//! The laws of statements, each as the contract of a function without a body.
 ghost use Rattle.wy_sound_programs.specs.Bodies.{BodiesLeave};
+ghost use Rattle.wy_sound_programs.specs.Typed.{TypedBlocksSuit};
 
 /// The body of a function or method, from a store at the point before it, and its end. Where each condition that they owe is
 /// true, it is no fault at any number of ticks, and it leaves what the contract says.
 pub fn bodies_leave()
     ensures sound { BodiesLeave }
+{}
+
+/// A typed block of a body, from each store at a point where the variables that are marked have values of their types: the run
+/// meets what soundness asks of it, at each statement and from each store that comes to it. Updates of parts are left out.
+pub fn typed_blocks_suit()
+    ensures suits { TypedBlocksSuit }
 {}

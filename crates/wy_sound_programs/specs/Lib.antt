@@ -1,0 +1,8 @@
+-- bodies from their entry to what they leave
+pub mod Bodies
+-- which variables statements declare and assign
+pub mod Scopes
+-- what is given of each expression along a walk
+pub mod Along
+-- typed blocks meet what is asked of a run
+pub mod Typed
