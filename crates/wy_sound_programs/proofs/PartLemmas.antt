@@ -3,6 +3,7 @@ use Rattle.std.proofs.Common.{◌≡◌, ℕ, List, [], ◌∷◌, Bool, true, f
 use Rattle.wy_core.specs.Types.{Ty, BoolTy, InterTy}
 use Rattle.wy_core.specs.CoreTree.{Expr, Exprs, Step, Stmts, IfStmt, WhileStmt}
 use Rattle.wy_types.specs.Names.{Declared, Up}
+use Rattle.wy_types.specs.Questions.{IsWideWithin}
 use Rattle.wy_parts.specs.Norms.{IsNorm}
 use Rattle.wy_environment.specs.Slots.{slot_at}
 use Rattle.wy_environment.specs.Variables.{Environment, Changes, given, changed, type_of}
@@ -22,13 +23,13 @@ use Rattle.wy_sound_kinds.proofs.TypeLemmas.{then_gives, given_is}
 -- a test, which is a truth value
 pub record Test (p : Program) (env : Environment) (flow : List Ty) (e : Expr ℕ) (v : Found) : Type 0 where
   pub typed : TypedExpr p env e [] flow (Gives v)
-  pub is_bool : IsInside p.names v.ty BoolTy
+  pub within : (IsWideWithin p.names v.ty BoolTy → ⊥) × IsInside p.names v.ty BoolTy
 
 pub test_parts : (p : Program) (at : ℕ) (env : Environment) (flow : List Ty) (e : Expr ℕ) (v : Found) → Tested p at env flow e (Gives v) → Test p env flow e v
 test_parts p at env flow e v h =
     let t = then_gives _ _ v h in
     let u = then_gives _ _ v t.2 in
-    subst (Test p env flow e) (sym (given_is v t.0 u.2)) (record { typed = t.1; is_bool = u.1.1 })
+    subst (Test p env flow e) (sym (given_is v t.0 u.2)) (record { typed = t.1; within = u.1 })
 
 -- the variable has a normal type, where a path gets
 pub record Normal (names : List Declared) (x : ℕ) (t : Ty) (env out : Environment) : Type 0 where

@@ -1,0 +1,14 @@
+pub mod BodyLemmas
+pub mod SlotLemmas
+pub mod MarkLemmas
+pub mod LoopLemmas
+pub mod JoinLemmas
+pub mod PartLemmas
+pub mod ScopeLemmas
+pub mod GrewLemmas
+pub mod HeadLemmas
+pub mod StaticLemmas
+pub mod StoreLemmas
+pub mod RunLemmas
+pub mod MoreLemmas
+pub mod SuitLemmas
