@@ -47,7 +47,7 @@ flow_clauses p env (e ∷ es) flow out h =
     let first = subst (FlowAll (exprs_in e) flow) (sym (given_is t.0 u.0.flow u.2)) (flow_one p env e flow u.0 v.typed) in
     flow_more (exprs_in e) (exprs_in_list es) flow t.0 out first (flow_clauses p env es t.0 out t.2)
 
-flow_step : (p : Program) (env : Environment) (flow : List Ty) (t : Ty) (step : Step ℕ) (out : Reached) → StepType p env flow t step (Gives out) → FlowAll (exprs_in_step step) flow out.flow
+pub flow_step : (p : Program) (env : Environment) (flow : List Ty) (t : Ty) (step : Step ℕ) (out : Reached) → StepType p env flow t step (Gives out) → FlowAll (exprs_in_step step) flow out.flow
 flow_step p env flow t (IndexStep at e) out h =
     let a = then_gives _ _ out h in
     let c = then_gives _ _ out a.2 in
@@ -102,7 +102,7 @@ dead_no env v e = stays env (changed env v.no) (changed_stays v.no env e) e
 pub head_dead : (names : List Declared) (at : ℕ) (s : State) (xs : List ℕ) (out : Environment) → Head names at s xs (Gives out) → s.env.reached ≡ false → out ≡ s.env
 head_dead names at s xs out h e = given_is out s.env (subst (λ (b : Bool). cond b (RenewedAll names at s.declared xs s.env (Gives out)) (Give s.env (Gives out))) e h)
 
-one_end : {X : Type 0} (xs : List X) (x c : X) → IsOne c (xs ++ x ∷ []) → IsOne c xs ⊎ (x ≡ c)
+pub one_end : {X : Type 0} (xs : List X) (x c : X) → IsOne c (xs ++ x ∷ []) → IsOne c xs ⊎ (x ≡ c)
 one_end [] x c (inl e) = inr e
 one_end [] x c (inr o) = absurd o
 one_end (y ∷ ys) x c (inl e) = inl (inl e)

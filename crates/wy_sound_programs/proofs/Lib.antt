@@ -9,6 +9,8 @@ pub mod GrewLemmas
 pub mod HeadLemmas
 pub mod StaticLemmas
 pub mod StoreLemmas
+pub mod ValueLemmas
+pub mod UpdateLemmas
 pub mod RunLemmas
 pub mod MoreLemmas
 pub mod SuitLemmas

@@ -1,10 +1,12 @@
 -- What a typed statement consists of.
-use Rattle.std.proofs.Common.{◌≡◌, ℕ, List, [], ◌∷◌, Bool, true, false, cond, Option, Some, None, refl, sym, ap, ◌∙◌, subst}
-use Rattle.wy_core.specs.Types.{Ty, BoolTy, InterTy}
-use Rattle.wy_core.specs.CoreTree.{Expr, Exprs, Step, Stmts, IfStmt, WhileStmt}
+use Rattle.std.proofs.Common.{◌≡◌, ℕ, List, [], ◌∷◌, ◌++◌, Bool, true, false, cond, Option, Some, None, refl, sym, ap, ◌∙◌, subst}
+use Rattle.wy_core.specs.Types.{Ty, BoolTy, IntTy, AnyTy, ArrayTy, InterTy}
+use Rattle.wy_core.specs.CoreTree.{Expr, Exprs, Step, IndexStep, FieldStep, Stmts, IfStmt, WhileStmt}
 use Rattle.wy_types.specs.Names.{Declared, Up}
 use Rattle.wy_types.specs.Questions.{IsWideWithin}
 use Rattle.wy_parts.specs.Norms.{IsNorm}
+use Rattle.wy_parts.specs.Items.{IsElement}
+use Rattle.wy_parts.specs.Fields.{AllHave, IsField}
 use Rattle.wy_environment.specs.Slots.{slot_at}
 use Rattle.wy_environment.specs.Variables.{Environment, Changes, given, changed, type_of}
 use Rattle.wy_typing.specs.Outcomes.{Gives, Give, Then}
@@ -16,9 +18,9 @@ use Rattle.wy_typing.specs.Expressions.{TypedExpr, TypedExprs, none_yet}
 use Rattle.wy_typing.specs.States.{State, left, declare, with_flow, with_env, GiveNormal, ComesInto, Tested}
 use Rattle.wy_typing.specs.Assigned.{assigned_in}
 use Rattle.wy_typing.specs.Loops.{Head, Exit, ClausesTyped, Begun, begun}
-use Rattle.wy_typing.specs.Paths.{TypesAlong, Updated}
+use Rattle.wy_typing.specs.Paths.{Reached, StepType, step_more, PathTypes, TypesAlong, Updated}
 use Rattle.wy_typing.specs.Statements.{DeclareTyped, WholeTyped, IntoDeclared, NewDeclared, PartTyped, CallTyped, ReturnTyped, FitsResult, AssertTyped, branches, TypedStmt, TypedBlock}
-use Rattle.wy_sound_kinds.proofs.TypeLemmas.{then_gives, given_is}
+use Rattle.wy_sound_kinds.proofs.TypeLemmas.{then_gives, given_is, nil_right, append_assoc}
 
 -- a test, which is a truth value
 pub record Test (p : Program) (env : Environment) (flow : List Ty) (e : Expr ℕ) (v : Found) : Type 0 where
@@ -115,6 +117,10 @@ update_parts p at x path e s out h =
 pub new_parts : (names : List Declared) (at x : ℕ) (v t : Ty) (env : Environment) (o : Option Ty) (out : Environment) → env.reached ≡ true → o ≡ Some t → NewDeclared names at x v env o (Gives out) → Normal names x v env out
 new_parts names at x v t env o out e q h =
     let u = then_gives _ _ out (subst (λ (y : Option Ty). NewDeclared names at x v env y (Gives out)) q h) in normal_parts names at x v env out e u.2
+
+-- which is of the declared type
+pub new_inside : (names : List Declared) (at x : ℕ) (v t : Ty) (env : Environment) (o : Option Ty) (out : Environment) → o ≡ Some t → NewDeclared names at x v env o (Gives out) → IsInside names v t
+new_inside names at x v t env o out q h = (then_gives _ _ out (subst (λ (y : Option Ty). NewDeclared names at x v env y (Gives out)) q h)).1.1
 
 pub record Call (p : Program) (at f : ℕ) (es : Exprs ℕ) (s out : State) : Type 0 where
   pub all : FoundAll
@@ -229,3 +235,45 @@ loop_parts p result at e invariants body s out h =
       exit = subst (λ (y : Environment). Exit p.names at d.0.breaks y (Gives j.0)) (ap (λ (y : Begun). y.outside) is) j.1;
       is = given_is out (record d.0 { env = j.0; breaks = s.breaks }) j.2;
     }
+
+-- a step to an item
+pub record Item (p : Program) (env : Environment) (flow : List Ty) (t : Ty) (e : Expr ℕ) (out : Reached) : Type 0 where
+  pub v : Found
+  pub ty : Ty
+  pub typed : TypedExpr p env e [] flow (Gives v)
+  pub is_array : IsInside p.names t (ArrayTy AnyTy)
+  pub is_int : IsInside p.names v.ty IntTy
+  pub element : IsElement p.names t ty
+  pub is : out ≡ record { ty = ty; flow = v.flow }
+
+pub index_parts : (p : Program) (env : Environment) (flow : List Ty) (t : Ty) (at : ℕ) (e : Expr ℕ) (out : Reached) → StepType p env flow t (IndexStep at e) (Gives out) → Item p env flow t e out
+index_parts p env flow t at e out h =
+    let a = then_gives _ _ out h in
+    let c = then_gives _ _ out a.2 in
+    let x = then_gives _ _ c.0 c.1 in
+    let y = then_gives _ _ c.0 x.2 in
+    record { v = a.0; ty = c.0; typed = a.1; is_array = x.1.1; is_int = y.1.1; element = y.2.1; is = given_is out (record { ty = c.0; flow = a.0.flow }) c.2 }
+
+-- a step to a field
+pub record Taken (p : Program) (flow : List Ty) (t : Ty) (f : List ℕ) (out : Reached) : Type 0 where
+  pub ty : Ty
+  pub all : AllHave p.names f t
+  pub taken : IsField p.names f t ty
+  pub is : out ≡ record { ty = ty; flow = flow }
+
+pub field_parts : (p : Program) (env : Environment) (flow : List Ty) (t : Ty) (at : ℕ) (f : List ℕ) (out : Reached) → StepType p env flow t (FieldStep at f) (Gives out) → Taken p flow t f out
+field_parts p env flow t at f out h =
+    let a = then_gives _ _ out h in record { ty = a.0; all = a.1.1; taken = a.1.2; is = given_is out (record { ty = a.0; flow = flow }) a.2 }
+
+-- the types along a path
+abbrev pub Steps : Program → Environment → List (Step ℕ) → Ty → List Ty → List Ty → List Ty → Type 0
+Steps p env [] t flow rest out = (rest ≡ []) × (out ≡ flow)
+Steps p env (step ∷ steps) t flow rest out = (r : Reached) × (more : List Ty) × StepType p env flow t step (Gives r) × (rest ≡ r.ty ∷ more) × Steps p env steps r.ty r.flow more out
+
+pub path_parts : (p : Program) (env : Environment) (path : List (Step ℕ)) (t : Ty) (all out : FoundAll) → PathTypes p env path t all (Gives out) → (rest : List Ty) × (out.types ≡ all.types ++ rest) × Steps p env path t all.flow rest out.flow
+path_parts p env [] t all out h =
+    let is = given_is out all h in ([], ap (λ (a : FoundAll). a.types) is ∙ sym (nil_right all.types), (refl, ap (λ (a : FoundAll). a.flow) is))
+path_parts p env (step ∷ steps) t all out h =
+    let a = then_gives _ _ out h in
+    let r = path_parts p env steps a.0.ty (step_more a.0 all) out a.2 in
+    (a.0.ty ∷ r.0, r.1 ∙ append_assoc all.types (a.0.ty ∷ []) r.0, (a.0, r.0, a.1, refl, r.2))

@@ -18,17 +18,18 @@ use Rattle.wy_typing.specs.Joins.{Joined}
 use Rattle.wy_typing.specs.Loops.{Exit as LoopExit}
 use Rattle.wy_typing.specs.States.{State, left, broken, declare, with_flow, with_env}
 use Rattle.wy_typing.specs.Assigned.{assigned_in}
+use Rattle.wy_typing.specs.Paths.{Updated}
 use Rattle.wy_typing.specs.Programs.{result_type}
 use Rattle.wy_typing.specs.Statements.{TypedStmt, TypedBlock}
 use Rattle.wy_sem.specs.Meter.{Meter, Outcome, Done, Fault, More, Spent, Run, ◌>>=◌, check, choose}
-use Rattle.wy_sem.specs.Operations.{as_truth}
+use Rattle.wy_sem.specs.Operations.{needed, Slot, updated}
 use Rattle.wy_sem.specs.Expressions as sem
 use Rattle.wy_sem.specs.Expressions.{Store, slot, put}
 use Rattle.wy_sem.specs.TypeTests.{is_constrained, set_if}
 use Rattle.wy_sem.specs.Statements as run
 use Rattle.wy_sem.specs.Statements.{Exit, Went, Broke, Continued, Gave, Frame, type_at}
 use Rattle.wy_conditions.specs.Sizes.{exprs_in, exprs_in_list, exprs_in_path, exprs_in_stmt, exprs_in_block}
-use Rattle.wy_conditions.specs.Numbered.{Node, numbered, numbered_all, numbered_option, numbered_stmt, numbered_block}
+use Rattle.wy_conditions.specs.Numbered.{Node, numbered, numbered_all, numbered_path, numbered_stmt, numbered_block}
 use Rattle.wy_conditions.specs.Owed.{assume}
 use Rattle.wy_conditions.specs.Making.{formula, denied}
 use Rattle.wy_conditions.specs.Spots.{Spot, Flow, is_set, mark, as_list, go_on, followed, with_hyps}
@@ -36,19 +37,17 @@ use Rattle.wy_conditions.specs.Assigned.{assigns, assigns_in}
 use Rattle.wy_conditions.specs.Joins.{meet}
 use Rattle.wy_conditions.specs.Statements.{Body, words, expr, where_true, where_false, exec, exec_all}
 use Rattle.wy_sound_expressions.specs.Types.{is_in}
-use Rattle.wy_sound_expressions.specs.Suits.{Answers}
 use Rattle.wy_sound_joins.specs.Joins.{IsOne}
 use Rattle.wy_sound_points.proofs.SetLemmas.{Point, PointIf, point_more, with_point}
 use Rattle.wy_sound_points.proofs.StayLemmas.{expr_up, statement_points, block_points}
 use Rattle.wy_sound_frames.specs.Frames.{unsets, unsets_in, Keeps}
-use Rattle.wy_sound_frames.proofs.EveryLemmas.{Every, every_bind, every_map, every_told, every_of, every_spend, every_check, every_choose, every_truth}
+use Rattle.wy_sound_frames.proofs.EveryLemmas.{Every, every_bind, every_map, every_told, every_of, every_spend, every_check, every_choose, every_needed}
 use Rattle.wy_sound_frames.proofs.FrameLemmas.{statements_keep}
+use Rattle.wy_sound_parts.proofs.NormLemmas.{norms_same}
 use Rattle.wy_sound_kinds.specs.Bounded.{IsBounded}
 use Rattle.wy_sound_kinds.specs.Ready.{Ready, AllReady}
 use Rattle.wy_sound_kinds.specs.Kinds.{HasTypes, Kind}
 use Rattle.wy_sound_kinds.proofs.TypeLemmas.{then_gives, given_is}
-use Rattle.wy_sound_kinds.proofs.KindLemmas.{kind}
-use Rattle.wy_sound_statements.specs.StatementSuits.{IsFree}
 use Rattle.wy_sound_statements.specs.Ends.{frame_at}
 use Rattle.wy_sound_statements.proofs.PlaceLemmas.{one_left, one_right}
 use Rattle.wy_sound_programs.specs.Scopes.{Scope, declares, declares_in, Scoped, AllScoped}
@@ -58,12 +57,14 @@ use Rattle.wy_sound_programs.proofs.SlotLemmas.{no_slot, no_truth, changed_reach
 use Rattle.wy_sound_programs.proofs.MarkLemmas.{Meets, MeetsIf}
 use Rattle.wy_sound_programs.proofs.LoopLemmas.{clauses, inner, head, test, turn, met, head_marks, to_head, from_head, body_point, loop_meets}
 use Rattle.wy_sound_programs.proofs.JoinLemmas.{In, HasIf, in_left, in_right, exit_first, exit_break}
-use Rattle.wy_sound_programs.proofs.PartLemmas.{Normal, normal_parts, Comes, Test, declaration_parts, unset_parts, assignment_parts, into_parts, call_parts, return_parts, assertion_parts, on_yes, on_no, Branches, if_parts, in_loop, Loop, loop_parts}
+use Rattle.wy_sound_programs.proofs.PartLemmas.{Normal, normal_parts, Comes, Test, declaration_parts, unset_parts, assignment_parts, into_parts, new_parts, new_inside, update_parts, path_parts, call_parts, return_parts, assertion_parts, on_yes, on_no, Branches, if_parts, in_loop, Loop, loop_parts}
 use Rattle.wy_sound_programs.proofs.ScopeLemmas.{stays_declared, all_stay_declared, not_unset, none_unset, all_among}
 use Rattle.wy_sound_programs.proofs.GrewLemmas.{Grew, grew, all_grew}
 use Rattle.wy_sound_programs.proofs.HeadLemmas.{Headed, Old, headed}
 use Rattle.wy_sound_programs.proofs.StaticLemmas.{true_false, MarksAre, EndStands, Static, static, all_static, changed_stands, begin_stands, test_has, break_has, if_meets}
-use Rattle.wy_sound_programs.proofs.StoreLemmas.{in_both, fewer, put_holds, unset_holds, changed_holds, meets_holds, Renews, carry, head_holds, head_renews}
+use Rattle.wy_sound_programs.proofs.UpdateLemmas.{Leads, path_leads}
+use Rattle.wy_sound_programs.proofs.ValueLemmas.{value, quiet_value, truth_of, free_at, stored_in}
+use Rattle.wy_sound_programs.proofs.StoreLemmas.{in_both, bounded_at, fewer, put_holds, unset_holds, changed_holds, meets_holds, Renews, carry, head_holds, head_renews}
 
 -- ---- what has no store
 
@@ -81,12 +82,6 @@ leaves_any w fr at (Some o) (Some v) m P h =
     every_bind (fr.member o.ty v m) (λ b. check b kind.Member at (sem.clauses w kind.Ensures at fr.postconditions (set_if fr.entry o.variable (Some v)) (Done (Gave (Some v))))) (λ b. Unit {0}) P (every_told _ _ (λ b k e. tt))
     (λ b k e q. every_check b kind.Member at (sem.clauses w kind.Ensures at fr.postconditions (set_if fr.entry o.variable (Some v)) (Done (Gave (Some v)))) k P
     (λ on. clauses_any w kind.Ensures at fr.postconditions (set_if fr.entry o.variable (Some v)) (Done (Gave (Some v))) k P (λ l. h (Some v))))
-
-every_answer : (v : Bool) (o : Outcome Bool) → Answers v o → Every o (λ r. r ≡ true → v ≡ true)
-every_answer v (Done r i) h = λ y. sym h ∙ y
-every_answer v (Fault kind at i) h = absurd h
-every_answer v (More i) h = tt
-every_answer v Spent h = tt
 
 module _ (c : Setting) (g : Grounds c) where
   abbrev p : Program
@@ -121,40 +116,6 @@ module _ (c : Setting) (g : Grounds c) where
 
   abbrev pub Still : (ℕ → Bool) → Flow → State → State → Type 0
   Still = Static c.program (result_type c.body.routine.result) c.body (scope_of c)
-
-  -- ---- values
-
-  pub value : (e : Expr ℕ) (k : ℕ) (env : Environment) (flow : List Ty) (u : Found) (seen : ℕ → Bool) (s : Store) → env.reached ≡ true → TypedExpr c.program env e [] flow (Gives u) → Ready c.allowed.rules false c.allowed.many seen e → H env seen s
-      → (m : Meter) → Every (sem.eval c.evaluation true (numbered e k) s m) (Kind c.program.names env [] seen s u)
-  value e k env flow u seen s reached t ready h m =
-      kind p c.allowed.rules w true (is_in c.members) g.code env reached false seen s h.values e k [] flow u t (subst (λ (n : ℕ). Ready c.allowed.rules false n seen e) (sym h.size) ready) h.typed m
-
-  quiet_value : (e : Expr ℕ) (k : ℕ) (env : Environment) (flow : List Ty) (u : Found) (seen : ℕ → Bool) (s : Store) → env.reached ≡ true → TypedExpr p env e [] flow (Gives u) → Ready c.allowed.rules true c.allowed.many seen e → H env seen s
-      → (m : Meter) → Every (sem.eval (sem.quiet w) false (numbered e k) s m) (Kind names env [] seen s u)
-  quiet_value e k env flow u seen s reached t ready h m =
-      kind p c.allowed.rules (sem.quiet w) false (is_in c.members) g.contract env reached true seen s h.values e k [] flow u t (subst (λ (n : ℕ). Ready c.allowed.rules true n seen e) (sym h.size) ready) h.typed m
-
-  -- what a test gives
-  truth_of : (o : Outcome Datum) (at : ℕ) (env : Environment) (seen : ℕ → Bool) (s : Store) (u : Found) → Every o (Kind names env [] seen s u) → Every (o >>= (λ v. as_truth at v Done)) (λ r. Kind names env [] seen s u (Truth r))
-  truth_of o at env seen s u h =
-      every_bind o (λ v. as_truth at v Done) (Kind names env [] seen s u) (λ r. Kind names env [] seen s u (Truth r)) h
-      (λ d l e kd. every_truth at d Done l (λ r. Kind names env [] seen s u (Truth r)) (λ r is. subst (Kind names env [] seen s u) is kd))
-
-  -- a value of a declared type that isn't asked about
-  pub free_at : (x : ℕ) (t : Ty) (d : Datum) → type_at c.body.types x ≡ t → IsBounded d → Up c.program.names d t ≡ true → IsFree c.body c.members t d
-  free_at x t d is bounded = subst (λ (u : Ty). Up c.program.names d u ≡ true → IsFree c.body c.members u d) is (g.free x d bounded)
-
-  owed_says : (t : Ty) (d : Datum) (m : Meter) → IsFree b c.members t d → Every (c.owed t d m) (λ r. r ≡ true → is_in c.members t d ≡ true)
-  owed_says t d m free = by (is_constrained b.program.setting.types t) refl where
-    by : (y : Bool) → is_constrained b.program.setting.types t ≡ y → Every (c.owed t d m) (λ r. r ≡ true → is_in c.members t d ≡ true)
-    by true q = every_answer (is_in c.members t d) (c.owed t d m) (g.checks.asked t d m q)
-    by false q = every_told (c.owed t d m) (λ r. r ≡ true → is_in c.members t d ≡ true) (λ r i e y. free q)
-
-  -- a value that is stored is in its type
-  stored_in : (at x : ℕ) (t : Ty) (s : Store) (d : Datum) (m : Meter) (P : Exit → Type 0) → IsFree b c.members t d → (is_in c.members t d ≡ true → P (Went (put s x (Some d)))) → Every (run.stored fr at x t s d m) P
-  stored_in at x t s d m P free h =
-      every_bind (c.owed t d m) (λ r. check r kind.Member at (Done (Went (put s x (Some d))))) (λ r. r ≡ true → is_in c.members t d ≡ true) P (owed_says t d m free)
-      (λ r i e on. every_check r kind.Member at (Done (Went (put s x (Some d)))) i P (λ q. h (on q)))
 
   -- ---- ends
 
@@ -406,7 +367,7 @@ module _ (c : Setting) (g : Grounds c) where
         let go : Bool → Run Exit = λ r. choose r (λ z. run.exec_all w fr block t z >>= run.go_round at keeping (next j)) (Done (Went t)) in
         every_spend true (λ z. run.tested_truth w at (numbered e k) t z >>= go) P
         (λ z. every_bind (run.tested_truth w at (numbered e k) t z) go (λ r. Kind names i.start [] marked t i.v (Truth r)) P
-        (truth_of (sem.eval w true (numbered e k) t z) at i.start marked t i.v (value e k i.start s.flow i.v marked t loop_head.reached i.test.typed ready h z))
+        (truth_of c g (sem.eval w true (numbered e k) t z) at i.start marked t i.v (value c g e k i.start s.flow i.v marked t loop_head.reached i.test.typed ready h z))
         (λ r y eq kd. every_choose r (λ z. run.exec_all w fr block t z >>= run.go_round at keeping (next j)) (Done (Went t)) y P
         (λ yes. every_bind (run.exec_all w fr block t y) (run.go_round at keeping (next j)) (After i.start marked one i.turn) P (runs t y h (yes_holds t h (subst (λ (a : Bool). Kind names i.start [] marked t i.v (Truth a)) yes kd)))
         (λ x o eq2 af. ended j t h (rounds_run runs ready j) x y o eq2 af))
@@ -419,13 +380,13 @@ module _ (c : Setting) (g : Grounds c) where
 
   -- ---- statements
 
-  abbrev Ren : Environment → (ℕ → Bool) → (ℕ → Bool) → Type 0
+  abbrev pub Ren : Environment → (ℕ → Bool) → (ℕ → Bool) → Type 0
   Ren = Renews c.program.names c.body.types c.members c.allowed.many
 
-  ren_first : (start : Environment) (kept a z : ℕ → Bool) → Ren start kept (λ y. a y || z y) → Ren start kept a
+  pub ren_first : (start : Environment) (kept a z : ℕ → Bool) → Ren start kept (λ y. a y || z y) → Ren start kept a
   ren_first start kept a z h x on e = h x on (or_left (a x) (z x) e)
 
-  ren_second : (start : Environment) (kept a z : ℕ → Bool) → Ren start kept (λ y. a y || z y) → Ren start kept z
+  pub ren_second : (start : Environment) (kept a z : ℕ → Bool) → Ren start kept (λ y. a y || z y) → Ren start kept z
   ren_second start kept a z h x on e = h x on (or_right (a x) (z x) e)
 
   mutual
@@ -445,10 +406,10 @@ module _ (c : Setting) (g : Grounds c) where
         let a = declare x t (with_env i.env (with_flow i.v.flow s)) in
         as_out start kept f a out (run.exec w fr (numbered_stmt (DeclareStmt at t x (Some e)) k) v l) i.is
         (every_spend true (λ z. sem.eval w true (numbered e k) v z >>= run.stored fr at x t v) (After start kept f a)
-        (λ z. every_bind (sem.eval w true (numbered e k) v z) (run.stored fr at x t v) (Kind names s.env [] (is_set q.set) v i.v) (After start kept f a) (value e k s.env s.flow i.v (is_set q.set) v st.reached i.typed ready h z)
+        (λ z. every_bind (sem.eval w true (numbered e k) v z) (run.stored fr at x t v) (Kind names s.env [] (is_set q.set) v i.v) (After start kept f a) (value c g e k s.env s.flow i.v (is_set q.set) v st.reached i.typed ready h z)
         (λ d y eq kd.
         let up = i.comes.inside d kd.inside in
-        stored_in at x t v d y (After start kept f a) (free_at x t d scoped.2 kd.bounded up)
+        stored_in c g at x t v d y (After start kept f a) (free_at c g x t d scoped.2 kd.bounded up)
         (λ member. put_end f.ends s.env i.env q v x n.made d refl st.reached n.is h scoped.0 kd.bounded (in_both names g.code.recur i.v.ty t n.made n.normal d kd.inside up) (subst (λ (u : Ty). is_in c.members u d ≡ true) (sym scoped.2) member)))) l)
     run_stmt start kept around (AssignStmt at x [] e) k q m s out v l pt scoped st typed ready ren hc h =
         let i = assignment_parts p at x e s out typed in
@@ -460,12 +421,37 @@ module _ (c : Setting) (g : Grounds c) where
         let number = k + exprs_in_path {N = ℕ} [] in
         as_out start kept f a out (run.exec w fr (numbered_stmt (AssignStmt at x [] e) k) v l) i.is
         (every_spend true (λ z. sem.eval w true (numbered e number) v z >>= run.stored fr at x t v) (After start kept f a)
-        (λ z. every_bind (sem.eval w true (numbered e number) v z) (run.stored fr at x t v) (Kind names s.env [] (is_set q.set) v i.v) (After start kept f a) (value e number s.env s.flow i.v (is_set q.set) v st.reached i.typed ready h z)
+        (λ z. every_bind (sem.eval w true (numbered e number) v z) (run.stored fr at x t v) (Kind names s.env [] (is_set q.set) v i.v) (After start kept f a) (value c g e number s.env s.flow i.v (is_set q.set) v st.reached i.typed ready h z)
         (λ d y eq kd.
         let up = comes.inside d kd.inside in
-        stored_in at x t v d y (After start kept f a) (free_at x t d refl kd.bounded up)
+        stored_in c g at x t v d y (After start kept f a) (free_at c g x t d refl kd.bounded up)
         (λ member. put_end f.ends s.env i.env q v x n.made d refl st.reached n.is h scoped.0 kd.bounded (in_both names g.code.recur i.v.ty t n.made n.normal d kd.inside up) member))) l)
-    run_stmt start kept around (AssignStmt at x (step ∷ steps) e) k q m s out v l pt scoped st typed ready ren hc h = absurd ready
+    run_stmt start kept around (AssignStmt at x (step ∷ steps) e) k q m s out v l pt scoped st typed ready ren hc h =
+        let path = step ∷ steps in
+        let i = update_parts p at x path e s out typed in
+        let t = type_at types x in
+        let n = new_parts names at x i.ty t s.env (slot_at s.declared x) i.env st.reached scoped.1 i.new in
+        let y = path_parts p s.env path (type_of s.env [] x) (record { types = type_of s.env [] x ∷ []; flow = s.flow }) i.along i.types in
+        let f = exec b around (numbered_stmt (AssignStmt at x path e) k) q m in
+        let a = with_env i.env (with_flow i.v.flow s) in
+        let number = k + exprs_in_path path in
+        let nodes = numbered_path path k in
+        let P : Exit → Type 0 = After start kept f a in
+        let last : Datum → List Slot → Run Exit = λ d slots z. sem.eval w true (numbered e number) v z >>= (λ r. run.stored fr at x t v (updated d slots r)) in
+        as_out start kept f a out (run.exec w fr (numbered_stmt (AssignStmt at x path e) k) v l) i.is
+        (every_spend true (needed at (slot v x) (λ d z. run.path_of w v nodes d z >>= last d)) P
+        (λ z. every_needed at (slot v x) (λ d z. run.path_of w v nodes d z >>= last d) z P
+        (λ d is.
+        let bounded = bounded_at names types c.members c.allowed.many s.env (is_set q.set) v x d h ready.0 is in
+        every_bind (run.path_of w v nodes d z) (last d) (Leads c g s.env st.reached q v h at path (type_of s.env [] x ∷ y.0) d) P
+        (path_leads c g s.env st.reached q v h at path k (type_of s.env [] x) s.flow y.0 i.along.flow d z y.2 ready.1 (h.typed x d ready.0 is) bounded)
+        (λ slots o eq leads. every_bind (sem.eval w true (numbered e number) v o) (λ r. run.stored fr at x t v (updated d slots r)) (Kind names s.env [] (is_set q.set) v i.v) P
+        (value c g e number s.env i.along.flow i.v (is_set q.set) v st.reached i.typed ready.2 h o)
+        (λ r z2 eq2 kd.
+        let new = leads r i.v.ty i.ty (subst (λ (ts : List Ty). Updated names at path ts i.v.ty (Gives i.ty)) y.1 i.updated) kd.inside kd.bounded in
+        let up = new_inside names at x i.ty t s.env (slot_at s.declared x) i.env scoped.1 i.new (updated d slots r) new.0 in
+        stored_in c g at x t v (updated d slots r) z2 P (free_at c g x t (updated d slots r) refl new.1 up)
+        (λ member. put_end f.ends s.env i.env q v x n.made (updated d slots r) refl st.reached n.is h scoped.0 new.1 (norms_same names g.code.recur i.ty n.made n.normal (updated d slots r) ∙ new.0) member))))) l)
     run_stmt start kept around (CallStmt at f es) k q m s out v l pt scoped st typed ready ren hc h =
         let i = call_parts p at f es s out typed in
         let fl = exec b around (numbered_stmt (CallStmt at f es) k) q m in
@@ -489,7 +475,7 @@ module _ (c : Setting) (g : Grounds c) where
         as_out start kept f a out (run.exec w fr (numbered_stmt (AssertStmt at e) k) v l) i.is
         (every_spend true (λ z. sem.holds_at w at (numbered e k) v z >>= (λ r. check r kind.Assert at (Done (Went v)))) (After start kept f a)
         (λ z. every_bind (sem.holds_at w at (numbered e k) v z) (λ r. check r kind.Assert at (Done (Went v))) (λ r. Kind names s.env [] (is_set q.set) v i.v (Truth r)) (After start kept f a)
-        (truth_of (sem.eval (sem.quiet w) false (numbered e k) v z) at s.env (is_set q.set) v i.v (quiet_value e k s.env s.flow i.v (is_set q.set) v st.reached i.test.typed ready h z))
+        (truth_of c g (sem.eval (sem.quiet w) false (numbered e k) v z) at s.env (is_set q.set) v i.v (quiet_value c g e k s.env s.flow i.v (is_set q.set) v st.reached i.test.typed ready h z))
         (λ r y eq kd. every_check r kind.Assert at (Done (Went v)) y (After start kept f a)
         (λ yes. same_end f.ends (changed s.env i.v.yes) q v refl (changed_holds names types c.members c.allowed.many s.env i.v.yes (is_set q.set) v st.reached (kd.if_true (ap Truth yes)) h)))) l)
     run_stmt start kept around (BreakStmt at) k q m s out v l pt scoped st typed ready ren hc h =
@@ -535,7 +521,7 @@ module _ (c : Setting) (g : Grounds c) where
         as_out start kept f a out (run.exec w fr (numbered_stmt (IfStmt at e first second) k) v l) i.is
         (every_spend true (λ z. run.tested_truth w at (numbered e k) v z >>= (λ r. choose r (run.exec_all w fr b1 v) (run.exec_all w fr b2 v))) P
         (λ z. every_bind (run.tested_truth w at (numbered e k) v z) (λ r. choose r (run.exec_all w fr b1 v) (run.exec_all w fr b2 v)) (λ r. Kind names s.env [] (is_set q.set) v i.v (Truth r)) P
-        (truth_of (sem.eval w true (numbered e k) v z) at s.env (is_set q.set) v i.v (value e k s.env s.flow i.v (is_set q.set) v st.reached i.test.typed ready.0 h z))
+        (truth_of c g (sem.eval w true (numbered e k) v z) at s.env (is_set q.set) v i.v (value c g e k s.env s.flow i.v (is_set q.set) v st.reached i.test.typed ready.0 h z))
         (λ r y eq kd. every_choose r (run.exec_all w fr b1 v) (run.exec_all w fr b2 v) y P
         (λ yes. every_map (run.exec_all w fr b1 v y) (After start kept one i.one) P
         (run_block start kept around first k1 (where_true x q) x.count (on_yes s i.v) i.one v y pt1 scoped.0 st1 i.on_first ready.1 ren1 hc (changed_holds names types c.members c.allowed.many s.env i.v.yes (is_set q.set) v st.reached (kd.if_true (ap Truth yes)) h))

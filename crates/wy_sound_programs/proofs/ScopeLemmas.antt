@@ -79,10 +79,7 @@ among_end (y ∷ ys) x = or_right (y == x) (is_among (ys ++ x ∷ []) x) (among_
 
 among_more : (xs : List ℕ) (y x : ℕ) → is_among xs x ≡ true → is_among (xs ++ y ∷ []) x ≡ true
 among_more [] y x e = no_truth e
-among_more (z ∷ xs) y x e = by (or_cases (z == x) (is_among xs x) e) where
-  by : ((z == x) ≡ true) ⊎ (is_among xs x ≡ true) → ((z == x) || is_among (xs ++ y ∷ []) x) ≡ true
-  by (inl q) = or_left (z == x) (is_among (xs ++ y ∷ []) x) q
-  by (inr q) = or_right (z == x) (is_among (xs ++ y ∷ []) x) (among_more xs y x q)
+among_more (z ∷ xs) y x e = either (or_cases (z == x) (is_among xs x) e) (λ q. or_left (z == x) (is_among (xs ++ y ∷ []) x) q) (λ q. or_right (z == x) (is_among (xs ++ y ∷ []) x) (among_more xs y x q))
 
 with_itself : (xs : List ℕ) (x : ℕ) → is_among (with_variable xs x) x ≡ true
 with_itself xs x = by (is_among xs x) refl where

@@ -1,5 +1,5 @@
 -- Points of the walk stand at points of typing: from a point that does, so do the point behind a statement and those at its `break`s.
-use Rattle.std.proofs.Common.{◌≡◌, ◌⊎◌, inl, inr, ℕ, suc, ◌+◌, List, [], ◌∷◌, ◌++◌, Bool, true, false, Option, Some, None, refl, sym, ap, ◌∙◌, subst}
+use Rattle.std.proofs.Common.{◌≡◌, ◌⊎◌, inl, inr, ℕ, suc, ◌+◌, List, [], ◌∷◌, ◌++◌, ◌≤◌, Bool, true, false, ◌==◌, Option, Some, None, refl, sym, ap, ◌∙◌, subst}
 use Rattle.wy_core.specs.Types.{Ty, InterTy}
 use Rattle.wy_core.specs.CoreTree.{Expr, Step, Stmt, DeclareStmt, AssignStmt, CallStmt, ReturnStmt, AssertStmt, BreakStmt, ContinueStmt, SkipStmt, FailStmt, IfStmt, WhileStmt, Stmts, NoStmts, MoreStmts}
 use Rattle.wy_term.specs.declared.cond.CondKind.TheVariants as kind
@@ -41,7 +41,7 @@ use Rattle.wy_sound_programs.proofs.ScopeLemmas.{all_stay_declared}
 use Rattle.wy_sound_programs.proofs.GrewLemmas.{Grew, one_end, grew, all_grew}
 use Rattle.wy_sound_programs.proofs.HeadLemmas.{Headed, Old, New, headed}
 
-true_false : {X : Type 0} (b : Bool) → b ≡ true → b ≡ false → X
+pub true_false : {X : Type 0} (b : Bool) → b ≡ true → b ≡ false → X
 true_false b e f = absurd (cc (e, f))
 
 pub one_of_both : {X : Type 0} (x : X) (ps qs : List X) → IsOne x (ps ++ qs) → IsOne x ps ⊎ IsOne x qs
@@ -124,7 +124,7 @@ module _ (p : Program) (result : Option Ty) (b : Body Node) (c : Scope) where
   new_kept kept q s x v h none e = no_slot (type_at c.types x) (sym none ∙ h.declared x (h.keeps x e))
 
   -- changes by a test, where declarations may have been added
-  changed_stands : (kept : ℕ → Bool) (q r : Spot) (s t : State) (cs : List (ℕ × Ty)) → r.set ≡ q.set → t.env ≡ changed s.env cs → ((x : ℕ) (u : Ty) → slot_at s.declared x ≡ Some u → slot_at t.declared x ≡ Some u) → Stands c.types kept q s → Stands c.types kept r t
+  pub changed_stands : (kept : ℕ → Bool) (q r : Spot) (s t : State) (cs : List (ℕ × Ty)) → r.set ≡ q.set → t.env ≡ changed s.env cs → ((x : ℕ) (u : Ty) → slot_at s.declared x ≡ Some u → slot_at t.declared x ≡ Some u) → Stands c.types kept q s → Stands c.types kept r t
   changed_stands kept q r s t cs set is on h = record {
     reached = ap (λ (e : Environment). e.reached) is ∙ changed_reached cs s.env h.reached;
     typed = λ x e. subst (λ (w : Environment). Has w x) (sym is) (changed_has cs s.env x h.reached (h.typed x (back x e)));

@@ -7,22 +7,24 @@ use Rattle.wy_core.specs.CoreTree as tree
 use Rattle.wy_core.specs.CoreTree.{Expr, Exprs, Step, Stmt, DeclareStmt, AssignStmt, CallStmt, ReturnStmt, AssertStmt, BreakStmt, ContinueStmt, SkipStmt, FailStmt, IfStmt, WhileStmt, Stmts, NoStmts, MoreStmts}
 use Rattle.wy_types.specs.Names.{Declared, Up}
 use Rattle.wy_environment.specs.Slots.{slot_at}
-use Rattle.wy_environment.specs.Variables.{Environment, nothing_known, changed}
+use Rattle.wy_environment.specs.Variables.{Environment, nothing_known, changed, type_of}
 use Rattle.wy_typing.specs.Outcomes.{Gives, gave}
 use Rattle.wy_typing.specs.Contexts.{Program, Found, FoundAll}
 use Rattle.wy_typing.specs.Expressions.{TypedExpr, TypedExprs, none_yet}
 use Rattle.wy_typing.specs.Calls.{FitCall}
 use Rattle.wy_typing.specs.Loops.{ClausesTyped}
 use Rattle.wy_typing.specs.States.{State, with_flow, with_env}
+use Rattle.wy_typing.specs.Paths.{Updated}
 use Rattle.wy_typing.specs.Programs.{result_type}
 use Rattle.wy_typing.specs.Statements.{FitsResult, TypedStmt, TypedBlock}
 use Rattle.wy_sem.specs.Meter.{Meter, Done}
+use Rattle.wy_sem.specs.Operations.{updated}
 use Rattle.wy_sem.specs.Expressions as sem
 use Rattle.wy_sem.specs.Expressions.{Store, slot}
 use Rattle.wy_sem.specs.Statements as run
 use Rattle.wy_sem.specs.Statements.{Exit, Went, Broke, Continued, Gave, Frame, type_at}
 use Rattle.wy_conditions.specs.Sizes.{exprs_in, exprs_in_list, exprs_in_path, exprs_in_stmt, exprs_in_block}
-use Rattle.wy_conditions.specs.Numbered.{Node, numbered, numbered_all, numbered_list, numbered_stmt, numbered_block}
+use Rattle.wy_conditions.specs.Numbered.{Node, numbered, numbered_all, numbered_list, numbered_path, numbered_stmt, numbered_block}
 use Rattle.wy_conditions.specs.Owed.{assume}
 use Rattle.wy_conditions.specs.Making.{formula, denied}
 use Rattle.wy_conditions.specs.Spots.{Spot, Flow, is_set}
@@ -56,17 +58,15 @@ use Rattle.wy_sound_programs.specs.Along.{in_statements, CodeReady, WhereGoes, R
 use Rattle.wy_sound_programs.specs.Typed.{Setting, scope_of, Grounds, Has, Stands, Holds, nothing_kept, TypedBlocksSuit}
 use Rattle.wy_sound_programs.proofs.SlotLemmas.{no_truth}
 use Rattle.wy_sound_programs.proofs.LoopLemmas.{clauses, inner, head, test, turn, head_marks, body_point}
-use Rattle.wy_sound_programs.proofs.PartLemmas.{Test, declaration_parts, assignment_parts, into_parts, Call, call_parts, Return, return_parts, assertion_parts, on_yes, on_no, if_parts, in_loop, Loop, loop_parts}
+use Rattle.wy_sound_programs.proofs.PartLemmas.{Test, declaration_parts, assignment_parts, into_parts, new_inside, update_parts, path_parts, Call, call_parts, Return, return_parts, assertion_parts, on_yes, on_no, if_parts, in_loop, Loop, loop_parts}
 use Rattle.wy_sound_programs.proofs.ScopeLemmas.{all_stay_declared, not_unset}
 use Rattle.wy_sound_programs.proofs.GrewLemmas.{flow_one, flow_clauses, grew, all_grew}
 use Rattle.wy_sound_programs.proofs.StaticLemmas.{static, changed_stands}
+use Rattle.wy_sound_programs.proofs.UpdateLemmas.{Leads, path_leads, steps_begin, path_suits}
+use Rattle.wy_sound_programs.proofs.ValueLemmas.{free_at, value_suits, each_value, all_fit}
 use Rattle.wy_sound_programs.proofs.StoreLemmas.{changed_holds}
-use Rattle.wy_sound_programs.proofs.RunLemmas.{H, Ends, EndsAt, After, Ren, value, free_at, carried, ren_first, ren_second, loop_head, loop_begun, loop_still, loop_lasts, loop_renews, loop_starts, yes_holds, turned, run_stmt, run_block}
+use Rattle.wy_sound_programs.proofs.RunLemmas.{Ends, EndsAt, After, Ren, carried, ren_first, ren_second, loop_head, loop_begun, loop_still, loop_lasts, loop_renews, loop_starts, yes_holds, turned, run_stmt, run_block}
 use Rattle.wy_sound_programs.proofs.MoreLemmas.{more_fit, signature_fit, none_of, some_of}
-
--- clauses are ready where a store has so many variables
-clauses_ready : (r : Rules) (n m : ℕ) (seen : ℕ → Bool) (es : List (Expr ℕ)) → n ≡ m → ClausesReady r n seen es → ClausesReady r m seen es
-clauses_ready r n m seen es e h = subst (λ (i : ℕ). ClausesReady r i seen es) e h
 
 -- a test is a typed clause
 as_clause : (p : Program) (env : Environment) (flow : List Ty) (e : Expr ℕ) (v : Found) → Test p env flow e v → ClausesTyped p env (e ∷ []) flow (Gives v.flow)
@@ -99,24 +99,6 @@ module _ (c : Setting) (g : Grounds c) where
 
   abbrev Hold : Environment → (ℕ → Bool) → Store → Type 0
   Hold = Holds c.program.names c.body.types c.members c.allowed.many
-
-  -- ---- values
-
-  value_suits : (e : Expr ℕ) (k : ℕ) (env : Environment) (flow : List Ty) (u : Found) (seen : ℕ → Bool) (s : Store) → k ≡ length flow → env.reached ≡ true → TypedExpr p env e [] flow (Gives u) → Begins u.flow c.flow → Ready c.allowed.rules false c.allowed.many seen e → Hold env seen s
-      → Suits W false seen (numbered e k) s
-  value_suits e k env flow u seen s is reached t begins ready h =
-      suits p c.allowed.rules c.evaluation true (is_in c.members) g.code g.code_asks c.body.program.setting.is_number c.flow g.tells env reached (λ f vs. c.in_expressions f vs ≡ true) e k [] flow u false seen s is t begins
-      (subst (λ (n : ℕ). Ready c.allowed.rules false n seen e) (sym h.size) ready) (λ none f vs these. g.taken f vs these) h.values h.typed
-
-  each_value : (e : Expr ℕ) (k : ℕ) (env : Environment) (flow : List Ty) (u : Found) (seen : ℕ → Bool) (s : Store) → env.reached ≡ true → TypedExpr p env e [] flow (Gives u) → Ready c.allowed.rules false c.allowed.many seen e → Hold env seen s → Each W (numbered e k) s (Kind p.names env [] seen s u)
-  each_value e k env flow u seen s reached t ready h d m j eq = every_of (sem.eval c.evaluation true (numbered e k) s m) (Kind p.names env [] seen s u) (value c g e k env flow u seen s reached t ready h m) d j eq
-
-  -- clauses at a store
-  all_fit : (env : Environment) (es : List (Expr ℕ)) (k : ℕ) (flow out : List Ty) (seen : ℕ → Bool) (s : Store) → env.reached ≡ true → k ≡ length flow → ClausesTyped p env es flow (Gives out) → Begins out c.flow → ClausesReady c.allowed.rules c.allowed.many seen es → Hold env seen s
-      → AllFit c.evaluation c.body.program.setting c.members seen (numbered_list es k) s
-  all_fit env es k flow out seen s reached is t begins ready h =
-      subst (λ (n : ℕ). AllFit c.evaluation c.body.program.setting c.members seen (numbered_list es n) s) (sym is)
-      (clauses_fit p c.allowed.rules c.evaluation c.body.program.setting c.members g.contract g.contract_asks c.flow g.tells env reached es flow out seen s t begins (clauses_ready c.allowed.rules c.allowed.many (length s) seen es (sym h.size) ready) h.values h.typed)
 
   -- ---- calls
 
@@ -193,15 +175,15 @@ module _ (c : Setting) (g : Grounds c) where
     test_begins = begins_more i.v.flow i.flow c.flow (flow_clauses p i.start invariants i.v.flow i.flow i.clauses).begins flow_begins
 
     fits_at : (t : Store) → Hold i.start marked t → AllFit c.evaluation c.body.program.setting c.members marked clause t
-    fits_at t h = all_fit i.start invariants (k + exprs_in e) i.v.flow i.flow marked t started second_number i.clauses flow_begins ready.0 h
+    fits_at t h = all_fit c g i.start invariants (k + exprs_in e) i.v.flow i.flow marked t started second_number i.clauses flow_begins ready.0 h
 
     test_kind : (t : Store) → Hold i.start marked t → Each W (numbered e k) t (Kind p.names i.start [] marked t i.v)
-    test_kind t h = each_value e k i.start s.flow i.v marked t started i.test.typed ready.1 h
+    test_kind t h = each_value c g e k i.start s.flow i.v marked t started i.test.typed ready.1 h
 
     -- the body from a store at the head, where the test is true
     body_after : (t : Store) (x : Exit) (l o : Meter) → Hold i.start marked t → IsTested W (numbered e k) t → run.exec_all c.evaluation fr block t l ≡ Done x o → After c g i.start marked one i.turn x
-    body_after t x l o h yes eq =
-        let kd = test_kind t h (Truth true) yes.0 yes.1 yes.2 in
+    body_after t x l o h sure eq =
+        let kd = test_kind t h (Truth true) sure.0 sure.1 sure.2 in
         every_of (run.exec_all c.evaluation fr block t l) (After c g i.start marked one i.turn)
         (run_block c g i.start marked clause body third on_true count begin i.turn t l (body_point b at e invariants body k q m pt) scoped (loop_begun c g start kept around at e invariants body k q m s out pt scoped stands i) i.typed ready.2
         (loop_renews c g start kept around at e invariants body k q m s out pt scoped stands i) h (yes_holds c g start kept around at e invariants body k q m s out pt scoped stands i t h kd)) x o eq
@@ -231,7 +213,7 @@ module _ (c : Setting) (g : Grounds c) where
     here suit t h =
         let marks = sym (head_marks b at e invariants body k q m) in (
           subst (λ (l : List Bool). AllFit c.evaluation c.body.program.setting c.members (is_set l) clause t) marks (fits_at t h),
-          subst (λ (l : List Bool). Suits W false (is_set l) (numbered e k) t) marks (value_suits e k i.start s.flow i.v marked t is started i.test.typed test_begins ready.1 h),
+          subst (λ (l : List Bool). Suits W false (is_set l) (numbered e k) t) marks (value_suits c g e k i.start s.flow i.v marked t is started i.test.typed test_begins ready.1 h),
           (λ d l o eq. truth_in p.names d (i.test.within.1 d (test_kind t h d l o eq).inside)),
           (λ d l o eq yes. suit t h (yes_holds c g start kept around at e invariants body k q m s out pt scoped stands i t h (subst (Kind p.names i.start [] marked t i.v) yes (test_kind t h d l o eq)))),
           λ yes u l o eq.
@@ -271,9 +253,9 @@ module _ (c : Setting) (g : Grounds c) where
     suit_stmt start kept around fits (DeclareStmt at t x (Some e)) k q m s out v is pt scoped st typed begins ready ren hc h =
         let i = declaration_parts p at t x s e out typed in
         let behind : Begins i.v.flow c.flow = subst (λ (z : State). Begins z.flow c.flow) i.is begins in (
-          value_suits e k s.env s.flow i.v (is_set q.set) v is st.reached i.typed behind ready h,
+          value_suits c g e k s.env s.flow i.v (is_set q.set) v is st.reached i.typed behind ready h,
           scoped.2,
-          λ d l o eq. let kd = each_value e k s.env s.flow i.v (is_set q.set) v st.reached i.typed ready h d l o eq in free_at c g x t d scoped.2 kd.bounded (i.comes.inside d kd.inside),
+          λ d l o eq. let kd = each_value c g e k s.env s.flow i.v (is_set q.set) v st.reached i.typed ready h d l o eq in free_at c g x t d scoped.2 kd.bounded (i.comes.inside d kd.inside),
         )
     suit_stmt start kept around fits (AssignStmt at x [] e) k q m s out v is pt scoped st typed begins ready ren hc h =
         let i = assignment_parts p at x e s out typed in
@@ -282,23 +264,48 @@ module _ (c : Setting) (g : Grounds c) where
         let number = k + exprs_in_path {N = ℕ} [] in
         let same : number ≡ length s.flow = omega (arith, is) in
         let behind : Begins i.v.flow c.flow = subst (λ (z : State). Begins z.flow c.flow) i.is begins in (
-          value_suits e number s.env s.flow i.v (is_set q.set) v same st.reached i.typed behind ready h,
-          λ d l o eq. let kd = each_value e number s.env s.flow i.v (is_set q.set) v st.reached i.typed ready h d l o eq in free_at c g x t d refl kd.bounded (comes.inside d kd.inside),
+          value_suits c g e number s.env s.flow i.v (is_set q.set) v same st.reached i.typed behind ready h,
+          λ d l o eq. let kd = each_value c g e number s.env s.flow i.v (is_set q.set) v st.reached i.typed ready h d l o eq in free_at c g x t d refl kd.bounded (comes.inside d kd.inside),
         )
-    suit_stmt start kept around fits (AssignStmt at x (step ∷ steps) e) k q m s out v is pt scoped st typed begins ready ren hc h = absurd ready
+    suit_stmt start kept around fits (AssignStmt at x (step ∷ steps) e) k q m s out v is pt scoped st typed begins ready ren hc h =
+        let path = step ∷ steps in
+        let i = update_parts p at x path e s out typed in
+        let t = type_at types x in
+        let y = path_parts p s.env path (type_of s.env [] x) (record { types = type_of s.env [] x ∷ []; flow = s.flow }) i.along i.types in
+        let number = k + exprs_in_path path in
+        let value_begins : Begins i.v.flow c.flow = subst (λ (z : State). Begins z.flow c.flow) i.is begins in
+        let path_begins : Begins i.along.flow c.flow = begins_more i.along.flow i.v.flow c.flow (flow_one p s.env e i.along.flow i.v i.typed).begins value_begins in
+        let next : number ≡ length i.along.flow = ap (λ (n : ℕ). n + exprs_in_path path) is ∙ sym (steps_begin c g s.env st.reached q v h path (type_of s.env [] x) s.flow y.0 i.along.flow y.2).counted in
+        let o = h.values x ready.0 in
+        let inside = h.typed x o.0 ready.0 o.1 in
+        (
+          ready.0,
+          (
+            o.0,
+            o.1,
+            path_suits c g s.env st.reached q v h path k (type_of s.env [] x) s.flow y.0 i.along.flow o.0 is y.2 path_begins ready.1 inside o.2,
+            value_suits c g e number s.env i.along.flow i.v (is_set q.set) v next st.reached i.typed value_begins ready.2 h,
+            λ slots r l z u z2 eq eq2.
+                let leads = every_of (run.path_of c.evaluation v (numbered_path path k) o.0 l) (Leads c g s.env st.reached q v h at path (type_of s.env [] x ∷ y.0) o.0)
+                (path_leads c g s.env st.reached q v h at path k (type_of s.env [] x) s.flow y.0 i.along.flow o.0 l y.2 ready.1 inside o.2) slots z eq in
+                let kd = each_value c g e number s.env i.along.flow i.v (is_set q.set) v st.reached i.typed ready.2 h r u z2 eq2 in
+                let new = leads r i.v.ty i.ty (subst (λ (ts : List Ty). Updated p.names at path ts i.v.ty (Gives i.ty)) y.1 i.updated) kd.inside kd.bounded in
+                free_at c g x t (updated o.0 slots r) refl new.1 (new_inside p.names at x i.ty t s.env (slot_at s.declared x) i.env scoped.1 i.new (updated o.0 slots r) new.0),
+          ),
+        )
     suit_stmt start kept around fits (CallStmt at f es) k q m s out v is pt scoped st typed begins ready ren hc h = call_suits at f es k s out (is_set q.set) v is st.reached (call_parts p at f es s out typed) begins ready.0 ready.1 h
     suit_stmt start kept around fits (ReturnStmt at None) k q m s out v is pt scoped st typed begins ready ren hc h = none_of c.body.routine.result scoped
     suit_stmt start kept around fits (ReturnStmt at (Some e)) k q m s out v is pt scoped st typed begins ready ren hc h =
         let i = return_parts p at result e s out typed in
         let o = some_of c.body.routine.result scoped in
         let behind : Begins i.v.flow c.flow = subst (λ (z : State). Begins z.flow c.flow) i.is begins in (
-          value_suits e k s.env s.flow i.v (is_set q.set) v is st.reached i.typed behind ready h,
-          (o.0, o.1, λ d l z eq. let kd = each_value e k s.env s.flow i.v (is_set q.set) v st.reached i.typed ready h d l z eq in g.result_free o.0 d o.1 kd.bounded (result_in at i.v.ty o.0 i.done o.1 i.fits d kd.inside)),
+          value_suits c g e k s.env s.flow i.v (is_set q.set) v is st.reached i.typed behind ready h,
+          (o.0, o.1, λ d l z eq. let kd = each_value c g e k s.env s.flow i.v (is_set q.set) v st.reached i.typed ready h d l z eq in g.result_free o.0 d o.1 kd.bounded (result_in at i.v.ty o.0 i.done o.1 i.fits d kd.inside)),
         )
     suit_stmt start kept around fits (AssertStmt at e) k q m s out v is pt scoped st typed begins ready ren hc h =
         let i = assertion_parts p at e s out typed in
         let behind : Begins i.v.flow c.flow = subst (λ (z : State). Begins z.flow c.flow) i.is begins in
-        (all_fit s.env (e ∷ []) k s.flow i.v.flow (is_set q.set) v st.reached is (as_clause p s.env s.flow e i.v i.test) behind (ready, tt) h).0
+        (all_fit c g s.env (e ∷ []) k s.flow i.v.flow (is_set q.set) v st.reached is (as_clause p s.env s.flow e i.v i.test) behind (ready, tt) h).0
     suit_stmt start kept around fits (BreakStmt at) k q m s out v is pt scoped st typed begins ready ren hc h = tt
     suit_stmt start kept around fits (ContinueStmt at) k q m s out v is pt scoped st typed begins ready ren hc h = more_fit c.evaluation c.body.program.setting c.members kept (is_set q.set) around v (λ x on. st.keeps x on) (fits v hc)
     suit_stmt start kept around fits (SkipStmt at) k q m s out v is pt scoped st typed begins ready ren hc h = tt
@@ -328,8 +335,8 @@ module _ (c : Setting) (g : Grounds c) where
         let front : Begins i.v.flow c.flow = begins_more i.v.flow i.one.flow c.flow g1.flow.begins middle in
         let n1 : k1 ≡ length i.v.flow = ap (λ (n : ℕ). n + exprs_in e) is ∙ sym (flow_one p s.env e s.flow i.v i.test.typed).counted in
         let n2 : k2 ≡ length i.one.flow = ap (λ (n : ℕ). n + exprs_in_block first) n1 ∙ sym g1.flow.counted in
-        let kd = each_value e k s.env s.flow i.v (is_set q.set) v st.reached i.test.typed ready.0 h in (
-          value_suits e k s.env s.flow i.v (is_set q.set) v is st.reached i.test.typed front ready.0 h,
+        let kd = each_value c g e k s.env s.flow i.v (is_set q.set) v st.reached i.test.typed ready.0 h in (
+          value_suits c g e k s.env s.flow i.v (is_set q.set) v is st.reached i.test.typed front ready.0 h,
           (λ d l o eq. truth_in p.names d (i.test.within.1 d (kd d l o eq).inside)),
           (λ d l o eq yes. suit_block start kept around fits first k1 (where_true x q) x.count (on_yes s i.v) i.one v n1 pt1 scoped.0 st1 i.on_first middle ready.1 ren1 hc
               (changed_holds p.names types c.members c.allowed.many s.env i.v.yes (is_set q.set) v st.reached ((kd d l o eq).if_true yes) h)),

@@ -1,6 +1,6 @@
 -- What a formed and assigned body gives of each expression, along the points of the walk through its conditions.
 use Rattle.std.specs.Prelude.{◌≡◌, ℕ, ◌+◌, Bool, true, false, List, [], ◌∷◌, Option, Some, None}
-use Rattle.wy_core.specs.CoreTree.{Expr, Stmt, DeclareStmt, AssignStmt, CallStmt, ReturnStmt, AssertStmt, BreakStmt, ContinueStmt, SkipStmt, FailStmt, IfStmt, WhileStmt, Stmts, NoStmts, MoreStmts}
+use Rattle.wy_core.specs.CoreTree.{Expr, Step, IndexStep, FieldStep, Stmt, DeclareStmt, AssignStmt, CallStmt, ReturnStmt, AssertStmt, BreakStmt, ContinueStmt, SkipStmt, FailStmt, IfStmt, WhileStmt, Stmts, NoStmts, MoreStmts}
 use Rattle.wy_term.specs.declared.cond.CondKind.TheVariants as kind
 use Rattle.wy_conditions.specs.Sizes.{exprs_in, exprs_in_list, exprs_in_stmt, exprs_in_block}
 use Rattle.wy_conditions.specs.Numbered.{Node, numbered, numbered_list, numbered_stmt, numbered_block}
@@ -29,13 +29,19 @@ abbrev pub WhereGoes : (Spot → Type 0) → Option Spot → Type 0
 WhereGoes Next None = Unit {0}
 WhereGoes Next (Some q) = Next q
 
+-- the indices of a path
+abbrev pub PathReady : Allowed → Spot → List (Step ℕ) → Type 0
+PathReady a p [] = Unit {0}
+PathReady a p (IndexStep at e ∷ steps) = CodeReady a p e × PathReady a p steps
+PathReady a p (FieldStep at name ∷ steps) = PathReady a p steps
+
 abbrev mutual
-  -- a statement, the first of whose expressions has this number, in a loop with these invariants, at the point, where so many names were made. Updates of parts are left out
+  -- a statement, the first of whose expressions has this number, in a loop with these invariants, at the point, where so many names were made
   pub ReadyAlong : Allowed → Body Node → List (Expr Node) → Stmt ℕ → ℕ → Spot → ℕ → Type 0
   ReadyAlong a b around (DeclareStmt at t x None) k p m = Unit {0}
   ReadyAlong a b around (DeclareStmt at t x (Some e)) k p m = CodeReady a p e
   ReadyAlong a b around (AssignStmt at x [] e) k p m = CodeReady a p e
-  ReadyAlong a b around (AssignStmt at x (step ∷ steps) e) k p m = ⊥
+  ReadyAlong a b around (AssignStmt at x (step ∷ steps) e) k p m = (is_set p.set x ≡ true) × PathReady a p (step ∷ steps) × CodeReady a p e
   ReadyAlong a b around (CallStmt at f es) k p m = AllReady a.rules false a.many (is_set p.set) es × (a.statements f (count_of es) ≡ true)
   ReadyAlong a b around (ReturnStmt at None) k p m = Unit {0}
   ReadyAlong a b around (ReturnStmt at (Some e)) k p m = CodeReady a p e

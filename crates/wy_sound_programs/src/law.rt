@@ -9,7 +9,7 @@ pub fn bodies_leave()
 {}
 
 /// A typed block of a body, from each store at a point where the variables that are marked have values of their types: the run
-/// meets what soundness asks of it, at each statement and from each store that comes to it. Updates of parts are left out.
+/// meets what soundness asks of it, at each statement and from each store that comes to it.
 pub fn typed_blocks_suit()
     ensures suits { TypedBlocksSuit }
 {}

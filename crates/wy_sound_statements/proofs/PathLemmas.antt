@@ -62,7 +62,7 @@ module _ (w : sem.Setting Node) (b : Body Node) (members : ℕ → Datum → Boo
 
   -- the index was checked: where it is that of an item the path goes on there
   checked : (at : ℕ) (steps : List (Step Node)) (whole index : Term) (ds : Data) (z : ℤ) (hyps : List Term) (n c : ℕ) (names later : Names) (k : Meter) → n ≤ c → Agree n names later → later.is_member ≡ members → Stand c later vars seen st → Known c later hyps → Means c later whole (Array ds) → Means c later index (Whole z)
-      → ((i : ℕ) → z ≡ pos i → PathSuits (code_kinds w b members takes) seen steps (item_at ds i) st) → Path steps → (bit : Bool) → is_index z ds ≡ bit
+      → ((i : ℕ) → z ≡ pos i → is_index z ds ≡ true → PathSuits (code_kinds w b members takes) seen steps (item_at ds i) st) → Path steps → (bit : Bool) → is_index z ds ≡ bit
       → Good (AreTrueBy members (owe kind.Index at hyps (index_goals whole index) ++ (along b steps (op.element whole index) vars (assume_all hyps (index_goals whole index)) c).owed))
       (check bit kind.Index at (λ j. run.path_of w st steps (item_at ds (nat_of z)) j >>= (λ slots. Done (ItemSlot (nat_of z) ∷ slots))) k)
       (OkPath n names (along b steps (op.element whole index) vars (assume_all hyps (index_goals whole index)) c).count (along b steps (op.element whole index) vars (assume_all hyps (index_goals whole index)) c).hyps
@@ -85,7 +85,7 @@ module _ (w : sem.Setting Node) (b : Body Node) (members : ℕ → Datum → Boo
       let known : Known c later hyps2 = λ u q. all_assumed_true u hyps goals (h u q) (all_true u goals (index_is u whole index ds z (mw u q) (mi u q) ∙ e)) in
       let up = along_up b steps (op.element whole index) vars hyps2 c in
       good_bind A B (Unit {0}) (run.path_of w st steps (item_at ds i) k) (λ slots. Done (ItemSlot i ∷ slots)) (OkPath c later rest.count rest.hyps rest.parts (item_at ds i)) P (true_right members (owe kind.Index at hyps goals) rest.owed) (λ t. tt)
-      (more (op.element whole index) (item_at ds i) hyps2 c later k (su i is) right sd known (λ u q. element_means u whole index ds z (mw u q) (mi u q) e))
+      (more (op.element whole index) (item_at ds i) hyps2 c later k (su i is e) right sd known (λ u q. element_means u whole index ds z (mw u q) (mi u q) e))
       (λ slots j q o. record {
         later = o.later;
         agree = agree_trans n c names later o.later le a o.agree;
@@ -96,13 +96,13 @@ module _ (w : sem.Setting Node) (b : Body Node) (members : ℕ → Datum → Boo
       })
 
   by_index : (at : ℕ) (steps : List (Step Node)) (whole index : Term) (d c : Datum) (hyps : List Term) (n m : ℕ) (names later : Names) (k : Meter) → n ≤ m → Agree n names later → later.is_member ≡ members → Stand m later vars seen st → Known m later hyps → Means m later whole d → Means m later index c
-      → IsArray d → IsWhole c → ((ds : Data) (i : ℕ) → d ≡ Array ds → c ≡ Whole (pos i) → PathSuits (code_kinds w b members takes) seen steps (item_at ds i) st) → Path steps
+      → IsArray d → IsWhole c → ((ds : Data) (i : ℕ) → d ≡ Array ds → c ≡ Whole (pos i) → is_index (pos i) ds ≡ true → PathSuits (code_kinds w b members takes) seen steps (item_at ds i) st) → Path steps
       → Good (AreTrueBy members (owe kind.Index at hyps (index_goals whole index) ++ (along b steps (op.element whole index) vars (assume_all hyps (index_goals whole index)) m).owed))
       (indexed at d c (λ ds i j. run.path_of w st steps (item_at ds i) j >>= (λ slots. Done (ItemSlot i ∷ slots))) k)
       (OkPath n names (along b steps (op.element whole index) vars (assume_all hyps (index_goals whole index)) m).count (along b steps (op.element whole index) vars (assume_all hyps (index_goals whole index)) m).hyps
       (ElementOf whole index ∷ (along b steps (op.element whole index) vars (assume_all hyps (index_goals whole index)) m).parts) d)
   by_index at steps whole index (Array ds) (Whole z) hyps n m names later k le a right sd h mw mi ar wh su more =
-      checked at steps whole index ds z hyps n m names later k le a right sd h mw mi (λ i e. su ds i refl (ap Whole e)) more (is_index z ds) refl
+      checked at steps whole index ds z hyps n m names later k le a right sd h mw mi (λ i e q. su ds i refl (ap Whole e) (subst (λ (y : ℤ). is_index y ds ≡ true) e q)) more (is_index z ds) refl
   by_index at steps whole index (Array ds) Null hyps n m names later k le a right sd h mw mi ar wh su more = absurd wh
   by_index at steps whole index (Array ds) (Truth x) hyps n m names later k le a right sd h mw mi ar wh su more = absurd wh
   by_index at steps whole index (Array ds) (Array es) hyps n m names later k le a right sd h mw mi ar wh su more = absurd wh

@@ -361,18 +361,18 @@ module _ (w : sem.Setting Node) (b : Body Node) (members : ℕ → Datum → Boo
 
         ended : (j : ℕ) (t : Store) → IsTurn b members body p first t → Here t → Yes t → ((u : Store) → Lead t u → AtTurns Here Lead j u) → From j
             → (x : Exit) (i k : Meter) → run.exec_all w fr body t i ≡ Done x k → X invariants turn x → Good A (run.go_round at keeping (next j) x k) Q
-        ended j t is here yes lead more (Went u) i k q h =
-            let on = lead u (yes, (i, k, inl q)) in
+        ended j t is here sure lead more (Went u) i k q h =
+            let on = lead u (sure, (i, k, inl q)) in
             let again = next_turn t u is (statements_keep.block w fr body t (Went u) i k q) h.1 in
             clauses_go w A Q kind.Keep at u (next j u) invariants (λ a. head_safe u again (first_of j u on).0 (owes_inside a))
-            (λ a. kept_hold at invariants turn.ends turn.count u h.0 body_points.ends (here.4 yes u i k q) (true_right members turn.owed kept.owed (owes_both a)))
+            (λ a. kept_hold at invariants turn.ends turn.count u h.0 body_points.ends (here.4 sure u i k q) (true_right members turn.owed kept.owed (owes_both a)))
             (λ l pass. more u again h.1 on pass l) k
-        ended j t is here yes lead more (Continued from u) i k q h =
-            let on = lead u (yes, (i, k, inr (from, q))) in
+        ended j t is here sure lead more (Continued from u) i k q h =
+            let on = lead u (sure, (i, k, inr (from, q))) in
             let again = next_turn t u is (statements_keep.block w fr body t (Continued from u) i k q) h.1 in
             clauses_go w A Q kind.Keep from u (next j u) invariants (λ a. head_safe u again (first_of j u on).0 (owes_inside a)) (λ a. h.0 (true_left members turn.owed kept.owed (owes_both a))) (λ l pass. more u again h.1 on pass l) k
-        ended j t is here yes lead more (Broke u) i k q h = went u (behind u (h.0.0, inr h.0.1, at_more n turn.count kept.count names h.0.0 u g6 h.0.2)) h.1
-        ended j t is here yes lead more (Gave r) i k q h = gave r h
+        ended j t is here sure lead more (Broke u) i k q h = went u (behind u (h.0.0, inr h.0.1, at_more n turn.count kept.count names h.0.0 u g6 h.0.2)) h.1
+        ended j t is here sure lead more (Gave r) i k q h = gave r h
 
         -- where the test is true the body runs, and else the loop ends
         chosen : (j : ℕ) (t : Store) → (is : IsTurn b members body p first t) → AreDeclared b.types members t → (here : Here t) → ((u : Store) → Lead t u → AtTurns Here Lead j u) → From j

@@ -6,7 +6,7 @@ use Rattle.wy_core.specs.Types.{Ty}
 use Rattle.wy_core.specs.CoreTree as tree
 use Rattle.wy_core.specs.CoreTree.{Expr, Step, IndexStep, FieldStep, Stmt, DeclareStmt, AssignStmt, CallStmt, ReturnStmt, AssertStmt, BreakStmt, ContinueStmt, SkipStmt, FailStmt, IfStmt, WhileStmt, Stmts, NoStmts, MoreStmts}
 use Rattle.wy_sem.specs.Meter.{Meter, Done}
-use Rattle.wy_sem.specs.Operations.{item_at, find, Slot, updated}
+use Rattle.wy_sem.specs.Operations.{is_index, item_at, find, Slot, updated}
 use Rattle.wy_sem.specs.Expressions as sem
 use Rattle.wy_sem.specs.Expressions.{Store, slot, eval, eval_all}
 use Rattle.wy_sem.specs.TypeTests.{is_constrained}
@@ -32,11 +32,11 @@ abbrev pub ReturnSuits : Kinds Node → Body Node → (ℕ → Datum → Bool) �
 ReturnSuits w b members None p s = b.routine.result ≡ None
 ReturnSuits w b members (Some e) p s = Suits w false (is_set p.set) e s × ((out : tree.Output) × (b.routine.result ≡ Some out) × Each w e s (IsFree b members out.ty))
 
--- the steps of a path into a datum: indices are numbers, of arrays, and the records whose fields are taken have them, and their names rise
+-- the steps of a path into a datum: indices are numbers, of arrays, and where one is that of an item the path goes on there; and the records whose fields are taken have them, and their names rise
 abbrev pub PathSuits : Kinds Node → (ℕ → Bool) → List (Step Node) → Datum → Store → Type 0
 PathSuits w seen [] d s = Unit {0}
 PathSuits w seen (IndexStep at e ∷ steps) d s =
-    Suits w false seen e s × IsArray d × Each w e s (λ c. IsWhole c × ((ds : Data) (i : ℕ) → d ≡ Array ds → c ≡ Whole (pos i) → PathSuits w seen steps (item_at ds i) s))
+    Suits w false seen e s × IsArray d × Each w e s (λ c. IsWhole c × ((ds : Data) (i : ℕ) → d ≡ Array ds → c ≡ Whole (pos i) → is_index (pos i) ds ≡ true → PathSuits w seen steps (item_at ds i) s))
 PathSuits w seen (FieldStep at name ∷ steps) d s = (fs : Fields) × (d ≡ Record fs) × Rise (names_of fs) × ((part : Datum) × (find fs name ≡ Some part) × PathSuits w seen steps part s)
 
 -- an update of a part of a variable
