@@ -9,8 +9,10 @@ pub mod GrewLemmas
 pub mod HeadLemmas
 pub mod StaticLemmas
 pub mod StoreLemmas
+pub mod WithLemmas
 pub mod ValueLemmas
 pub mod UpdateLemmas
 pub mod RunLemmas
 pub mod MoreLemmas
 pub mod SuitLemmas
+pub mod OnceLemmas

@@ -62,7 +62,7 @@ use Rattle.wy_sound_programs.proofs.ScopeLemmas.{stays_declared, all_stay_declar
 use Rattle.wy_sound_programs.proofs.GrewLemmas.{Grew, grew, all_grew}
 use Rattle.wy_sound_programs.proofs.HeadLemmas.{Headed, Old, headed}
 use Rattle.wy_sound_programs.proofs.StaticLemmas.{true_false, MarksAre, EndStands, Static, static, all_static, changed_stands, begin_stands, test_has, break_has, if_meets}
-use Rattle.wy_sound_programs.proofs.UpdateLemmas.{Leads, path_leads}
+use Rattle.wy_sound_programs.proofs.UpdateLemmas.{Replaced, path_leads}
 use Rattle.wy_sound_programs.proofs.ValueLemmas.{value, quiet_value, truth_of, free_at, stored_in}
 use Rattle.wy_sound_programs.proofs.StoreLemmas.{in_both, bounded_at, fewer, put_holds, unset_holds, changed_holds, meets_holds, Renews, carry, head_holds, head_renews}
 
@@ -443,7 +443,7 @@ module _ (c : Setting) (g : Grounds c) where
         (λ z. every_needed at (slot v x) (λ d z. run.path_of w v nodes d z >>= last d) z P
         (λ d is.
         let bounded = bounded_at names types c.members c.allowed.many s.env (is_set q.set) v x d h ready.0 is in
-        every_bind (run.path_of w v nodes d z) (last d) (Leads c g s.env st.reached q v h at path (type_of s.env [] x ∷ y.0) d) P
+        every_bind (run.path_of w v nodes d z) (last d) (Replaced c g s.env st.reached q v h at path (type_of s.env [] x ∷ y.0) d) P
         (path_leads c g s.env st.reached q v h at path k (type_of s.env [] x) s.flow y.0 i.along.flow d z y.2 ready.1 (h.typed x d ready.0 is) bounded)
         (λ slots o eq leads. every_bind (sem.eval w true (numbered e number) v o) (λ r. run.stored fr at x t v (updated d slots r)) (Kind names s.env [] (is_set q.set) v i.v) P
         (value c g e number s.env i.along.flow i.v (is_set q.set) v st.reached i.typed ready.2 h o)

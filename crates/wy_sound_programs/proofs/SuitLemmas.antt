@@ -62,7 +62,7 @@ use Rattle.wy_sound_programs.proofs.PartLemmas.{Test, declaration_parts, assignm
 use Rattle.wy_sound_programs.proofs.ScopeLemmas.{all_stay_declared, not_unset}
 use Rattle.wy_sound_programs.proofs.GrewLemmas.{flow_one, flow_clauses, grew, all_grew}
 use Rattle.wy_sound_programs.proofs.StaticLemmas.{static, changed_stands}
-use Rattle.wy_sound_programs.proofs.UpdateLemmas.{Leads, path_leads, steps_begin, path_suits}
+use Rattle.wy_sound_programs.proofs.UpdateLemmas.{Replaced, path_leads, steps_begin, path_suits}
 use Rattle.wy_sound_programs.proofs.ValueLemmas.{free_at, value_suits, each_value, all_fit}
 use Rattle.wy_sound_programs.proofs.StoreLemmas.{changed_holds}
 use Rattle.wy_sound_programs.proofs.RunLemmas.{Ends, EndsAt, After, Ren, carried, ren_first, ren_second, loop_head, loop_begun, loop_still, loop_lasts, loop_renews, loop_starts, yes_holds, turned, run_stmt, run_block}
@@ -286,7 +286,7 @@ module _ (c : Setting) (g : Grounds c) where
             path_suits c g s.env st.reached q v h path k (type_of s.env [] x) s.flow y.0 i.along.flow o.0 is y.2 path_begins ready.1 inside o.2,
             value_suits c g e number s.env i.along.flow i.v (is_set q.set) v next st.reached i.typed value_begins ready.2 h,
             λ slots r l z u z2 eq eq2.
-                let leads = every_of (run.path_of c.evaluation v (numbered_path path k) o.0 l) (Leads c g s.env st.reached q v h at path (type_of s.env [] x ∷ y.0) o.0)
+                let leads = every_of (run.path_of c.evaluation v (numbered_path path k) o.0 l) (Replaced c g s.env st.reached q v h at path (type_of s.env [] x ∷ y.0) o.0)
                 (path_leads c g s.env st.reached q v h at path k (type_of s.env [] x) s.flow y.0 i.along.flow o.0 l y.2 ready.1 inside o.2) slots z eq in
                 let kd = each_value c g e number s.env i.along.flow i.v (is_set q.set) v st.reached i.typed ready.2 h r u z2 eq2 in
                 let new = leads r i.v.ty i.ty (subst (λ (ts : List Ty). Updated p.names at path ts i.v.ty (Gives i.ty)) y.1 i.updated) kd.inside kd.bounded in

@@ -41,7 +41,8 @@ use Rattle.wy_sound_suits.proofs.KindLemmas.{array_in, whole_in}
 use Rattle.wy_sound_statements.specs.StatementSuits.{PathSuits}
 use Rattle.wy_sound_statements.specs.Ends.{code_kinds}
 use Rattle.wy_sound_programs.specs.Along.{CodeReady, PathReady}
-use Rattle.wy_sound_programs.specs.Typed.{Setting, Grounds, Holds, WithsAreIn}
+use Rattle.wy_sound_programs.specs.Typed.{Setting, Grounds, Holds}
+use Rattle.wy_sound_programs.proofs.WithLemmas.{withs_are_in}
 use Rattle.wy_sound_programs.proofs.PartLemmas.{Item, Taken, index_parts, field_parts, Steps}
 use Rattle.wy_sound_programs.proofs.GrewLemmas.{flow_none, flow_more, flow_step}
 use Rattle.wy_sound_programs.proofs.ValueLemmas.{value, value_suits, each_value}
@@ -116,11 +117,11 @@ module _ (c : Setting) (g : Grounds c) (env : Environment) (reached : env.reache
   W = code_kinds c.evaluation c.body c.members c.in_expressions
 
   -- with a value at the end of the steps the datum is in the type that typing makes of theirs
-  abbrev pub Leads : ℕ → List (Step ℕ) → List Ty → Datum → List Slot → Type 0
-  Leads at path types d slots = (v : Datum) (new made : Ty) → Updated c.program.names at path types new (Gives made) → Up c.program.names v new ≡ true → IsBounded v → (Up c.program.names (updated d slots v) made ≡ true) × IsBounded (updated d slots v)
+  abbrev pub Replaced : ℕ → List (Step ℕ) → List Ty → Datum → List Slot → Type 0
+  Replaced at path types d slots = (v : Datum) (new made : Ty) → Updated c.program.names at path types new (Gives made) → Up c.program.names v new ≡ true → IsBounded v → (Up c.program.names (updated d slots v) made ≡ true) × IsBounded (updated d slots v)
 
-  item_leads : (at from : ℕ) (e : Expr ℕ) (steps : List (Step ℕ)) (t u : Ty) (rest : List Ty) (ds : Data) (i : ℕ) (slots : List Slot) → IsBounded (Array ds) → ((d : Datum) → IsItem d ds → Up names d u ≡ true) → Leads at steps (u ∷ rest) (item_at ds i) slots
-      → Leads at (IndexStep from e ∷ steps) (t ∷ u ∷ rest) (Array ds) (ItemSlot i ∷ slots)
+  item_leads : (at from : ℕ) (e : Expr ℕ) (steps : List (Step ℕ)) (t u : Ty) (rest : List Ty) (ds : Data) (i : ℕ) (slots : List Slot) → IsBounded (Array ds) → ((d : Datum) → IsItem d ds → Up names d u ≡ true) → Replaced at steps (u ∷ rest) (item_at ds i) slots
+      → Replaced at (IndexStep from e ∷ steps) (t ∷ u ∷ rest) (Array ds) (ItemSlot i ∷ slots)
   item_leads at from e steps t u rest ds i slots bounded items leads v new made typed inside vb =
       let a = then_gives _ _ made typed in
       let r = leads v new a.0 a.1 inside vb in
@@ -128,24 +129,24 @@ module _ (c : Setting) (g : Grounds c) (env : Environment) (reached : env.reache
       let part = updated (item_at ds i) slots v in
       (ap (Up names (Array (set_item ds i part))) is ∙ set_either names u a.0 ds i part items r.0, array_bounded ds i part bounded r.1)
 
-  field_leads : (at from : ℕ) (f : List ℕ) (steps : List (Step ℕ)) (t u : Ty) (rest : List Ty) (fs : Fields) (x : Datum) (slots : List Slot) → IsBounded (Record fs) → AllHave names f t → Up names (Record fs) t ≡ true → find fs f ≡ Some x → Leads at steps (u ∷ rest) x slots
-      → Leads at (FieldStep from f ∷ steps) (t ∷ u ∷ rest) (Record fs) (FieldSlot f ∷ slots)
+  field_leads : (at from : ℕ) (f : List ℕ) (steps : List (Step ℕ)) (t u : Ty) (rest : List Ty) (fs : Fields) (x : Datum) (slots : List Slot) → IsBounded (Record fs) → AllHave names f t → Up names (Record fs) t ≡ true → find fs f ≡ Some x → Replaced at steps (u ∷ rest) x slots
+      → Replaced at (FieldStep from f ∷ steps) (t ∷ u ∷ rest) (Record fs) (FieldSlot f ∷ slots)
   field_leads at from f steps t u rest fs x slots bounded all whole found leads v new made typed inside vb =
       let a = then_gives _ _ made typed in
       let r = leads v new a.0 a.1 inside vb in
       let part : updated x slots v ≡ updated (or_null (find fs f)) slots v = ap (λ (o : Option Datum). updated (or_null o) slots v) (sym found) in
       (
-        subst (λ (y : Datum). Up names (Record (set_field fs f y)) made ≡ true) part (g.withs f t a.0 made all a.2.1 fs (updated x slots v) bounded.0 whole r.0),
+        subst (λ (y : Datum). Up names (Record (set_field fs f y)) made ≡ true) part (withs_are_in names g.code.recur f t a.0 made all a.2.1 fs (updated x slots v) bounded.0 whole r.0),
         subst (λ (y : Datum). IsBounded (Record (set_field fs f y))) part (record_bounded fs f (updated x slots v) bounded r.1),
       )
 
   -- a path that is run
   pub path_leads : (at : ℕ) (path : List (Step ℕ)) (k : ℕ) (t : Ty) (flow rest out : List Ty) (d : Datum) (m : Meter) → Steps c.program env path t flow rest out → PathReady c.allowed q path → Up names d t ≡ true → IsBounded d
-      → Every (run.path_of c.evaluation s (numbered_path path k) d m) (Leads at path (t ∷ rest) d)
+      → Every (run.path_of c.evaluation s (numbered_path path k) d m) (Replaced at path (t ∷ rest) d)
   path_leads at [] k t flow rest out d m typed ready inside bounded = λ v new made u up vb. let is = given_is made new u in (ap (Up names v) is ∙ up, vb)
   path_leads at (IndexStep from e ∷ steps) k t flow rest out d m typed ready inside bounded =
       let i = index_parts c.program env flow t from e typed.0 typed.2 in
-      let P : List Slot → Type 0 = Leads at (IndexStep from e ∷ steps) (t ∷ rest) d in
+      let P : List Slot → Type 0 = Replaced at (IndexStep from e ∷ steps) (t ∷ rest) d in
       let u = typed.0.ty in
       let number = k + exprs_in e in
       let next : Data → ℕ → Run (List Slot) = λ ds j o. run.path_of c.evaluation s (numbered_path steps number) (item_at ds j) o >>= (λ slots. Done (ItemSlot j ∷ slots)) in
@@ -159,14 +160,14 @@ module _ (c : Setting) (g : Grounds c) (env : Environment) (reached : env.reache
       let b : IsBounded (Array ds) = subst IsBounded is bounded in
       let inn : Up names (Array ds) t ≡ true = subst (λ (y : Datum). Up names y t ≡ true) is inside in
       let items : (x : Datum) → IsItem x ds → Up names x u ≡ true = λ x o. ap (Up names x) same ∙ items_are_in names g.code.recur t i.ty i.element x (ds, o, inn) in
-      every_bind (run.path_of c.evaluation s (numbered_path steps number) (item_at ds (nat_of z)) l) (λ slots. Done (ItemSlot (nat_of z) ∷ slots)) (Leads at steps (u ∷ typed.1) (item_at ds (nat_of z))) P
+      every_bind (run.path_of c.evaluation s (numbered_path steps number) (item_at ds (nat_of z)) l) (λ slots. Done (ItemSlot (nat_of z) ∷ slots)) (Replaced at steps (u ∷ typed.1) (item_at ds (nat_of z))) P
       (path_leads at steps number u typed.0.flow typed.1 out (item_at ds (nat_of z)) l typed.4 ready.1 (items (item_at ds (nat_of z)) (item_is ds (nat_of z) (index_below ds z good))) (item_bounded ds (nat_of z) b.1))
       (λ slots o eq2 leads.
-      subst (λ (r : List Ty). Leads at (IndexStep from e ∷ steps) (t ∷ r) d (ItemSlot (nat_of z) ∷ slots)) (sym typed.3)
-      (subst (λ (y : Datum). Leads at (IndexStep from e ∷ steps) (t ∷ u ∷ typed.1) y (ItemSlot (nat_of z) ∷ slots)) (sym is) (item_leads at from e steps t u typed.1 ds (nat_of z) slots b items leads)))))))
+      subst (λ (r : List Ty). Replaced at (IndexStep from e ∷ steps) (t ∷ r) d (ItemSlot (nat_of z) ∷ slots)) (sym typed.3)
+      (subst (λ (y : Datum). Replaced at (IndexStep from e ∷ steps) (t ∷ u ∷ typed.1) y (ItemSlot (nat_of z) ∷ slots)) (sym is) (item_leads at from e steps t u typed.1 ds (nat_of z) slots b items leads)))))))
   path_leads at (FieldStep from f ∷ steps) k t flow rest out d m typed ready inside bounded =
       let i = field_parts c.program env flow t from f typed.0 typed.2 in
-      let P : List Slot → Type 0 = Leads at (FieldStep from f ∷ steps) (t ∷ rest) d in
+      let P : List Slot → Type 0 = Replaced at (FieldStep from f ∷ steps) (t ∷ rest) d in
       let u = typed.0.ty in
       let next : Datum → Run (List Slot) = λ x o. run.path_of c.evaluation s (numbered_path steps k) x o >>= (λ slots. Done (FieldSlot f ∷ slots)) in
       let same : u ≡ i.ty = ap (λ (r : Reached). r.ty) i.is in
@@ -176,11 +177,11 @@ module _ (c : Setting) (g : Grounds c) (env : Environment) (reached : env.reache
       let b : IsBounded (Record fs) = subst IsBounded is bounded in
       let inn : Up names (Record fs) t ≡ true = subst (λ (y : Datum). Up names y t ≡ true) is inside in
       let part : Up names x u ≡ true = ap (Up names x) same ∙ values_are_in names g.code.recur f t i.ty i.taken x (fs, found_at fs f ∙ found, inn) in
-      every_bind (run.path_of c.evaluation s (numbered_path steps k) x m) (λ slots. Done (FieldSlot f ∷ slots)) (Leads at steps (u ∷ typed.1) x) P
+      every_bind (run.path_of c.evaluation s (numbered_path steps k) x m) (λ slots. Done (FieldSlot f ∷ slots)) (Replaced at steps (u ∷ typed.1) x) P
       (path_leads at steps k u typed.0.flow typed.1 out x m typed.4 ready part (field_bounded fs f x b.1 found))
       (λ slots o eq2 leads.
-      subst (λ (r : List Ty). Leads at (FieldStep from f ∷ steps) (t ∷ r) d (FieldSlot f ∷ slots)) (sym typed.3)
-      (subst (λ (y : Datum). Leads at (FieldStep from f ∷ steps) (t ∷ u ∷ typed.1) y (FieldSlot f ∷ slots)) (sym is) (field_leads at from f steps t u typed.1 fs x slots b i.all inn found leads)))))
+      subst (λ (r : List Ty). Replaced at (FieldStep from f ∷ steps) (t ∷ r) d (FieldSlot f ∷ slots)) (sym typed.3)
+      (subst (λ (y : Datum). Replaced at (FieldStep from f ∷ steps) (t ∷ u ∷ typed.1) y (FieldSlot f ∷ slots)) (sym is) (field_leads at from f steps t u typed.1 fs x slots b i.all inn found leads)))))
 
   -- the types of expressions along a path
   pub steps_begin : (path : List (Step ℕ)) (t : Ty) (flow rest out : List Ty) → Steps c.program env path t flow rest out → FlowAll (exprs_in_path path) flow out

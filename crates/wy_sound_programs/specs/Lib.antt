@@ -2,6 +2,8 @@
 pub mod Bodies
 -- which variables statements declare and assign
 pub mod Scopes
+-- functions and methods whose variables are declared once
+pub mod Once
 -- what is given of each expression along a walk
 pub mod Along
 -- typed blocks meet what is asked of a run

@@ -1,13 +1,10 @@
 -- Typed blocks meet what soundness asks of their run.
 use Rattle.std.specs.Prelude.{◌≡◌, ℕ, List, [], length, Bool, true, false, Option, Some, is_some}
-use Rattle.wy_value.specs.Datum.{Datum, Record, Fields}
-use Rattle.wy_value.specs.Values.{Rise, names_of}
+use Rattle.wy_value.specs.Datum.{Datum}
 use Rattle.wy_core.specs.Types.{Ty}
 use Rattle.wy_core.specs.CoreTree as tree
 use Rattle.wy_core.specs.CoreTree.{Stmts}
 use Rattle.wy_types.specs.Names.{Declared, Up}
-use Rattle.wy_parts.specs.Fields.{AllHave}
-use Rattle.wy_updates.specs.Updates.{IsWith}
 use Rattle.wy_environment.specs.Slots.{slot_at}
 use Rattle.wy_environment.specs.Variables.{Environment}
 use Rattle.wy_typing.specs.Outcomes.{Gives}
@@ -15,7 +12,6 @@ use Rattle.wy_typing.specs.Contexts.{Program}
 use Rattle.wy_typing.specs.States.{State}
 use Rattle.wy_typing.specs.Programs.{result_type}
 use Rattle.wy_typing.specs.Statements.{TypedBlock}
-use Rattle.wy_sem.specs.Operations.{set_field}
 use Rattle.wy_sem.specs.Expressions as sem
 use Rattle.wy_sem.specs.TypeTests.{Test}
 use Rattle.wy_sem.specs.Statements.{type_at}
@@ -51,11 +47,7 @@ pub record Setting : Type 0 where
 abbrev pub scope_of : Setting → Scope
 scope_of c = record { types = c.body.types; many = c.allowed.many; has_result = is_some c.body.routine.result }
 
--- a record of the type with a value of the other one at the field is in the type that typing makes of both
-abbrev pub WithsAreIn : List Declared → Type 0
-WithsAreIn names = (f : List ℕ) (t value made : Ty) → AllHave names f t → IsWith names f t value made → (fs : Fields) (v : Datum) → Rise (names_of fs) → Up names (Record fs) t ≡ true → Up names v value ≡ true → Up names (Record (set_field fs f v)) made ≡ true
-
--- what is known of tests, calls and types: in code and in contracts, tests answer as types say; calls with arguments of their parameters' types are among those that are taken; records keep to their types with other values at their fields; a value of a declared type is in it by upward reading; and one that is so by upward reading is in it where it isn't asked about
+-- what is known of tests, calls and types: in code and in contracts, tests answer as types say; calls with arguments of their parameters' types are among those that are taken; a value of a declared type is in it by upward reading; and one that is so by upward reading is in it where it isn't asked about
 pub record Grounds (c : Setting) : Type 0 where
   pub code : Rests c.program c.allowed.rules c.evaluation true (is_in c.members)
   pub code_asks : Asks c.allowed.rules c.evaluation true (is_in c.members)
@@ -65,7 +57,6 @@ pub record Grounds (c : Setting) : Type 0 where
   pub checks : Checks c.body.program.setting c.members c.owed
   pub taken : (f : ℕ) (vs : List Datum) → AreFor c.program c.allowed.rules f vs → c.in_expressions f vs ≡ true
   pub called : (f : ℕ) (vs : List Datum) → AreFor c.program (in_statements c.allowed) f vs → c.by_statements f vs ≡ true
-  pub withs : WithsAreIn c.program.names
   pub upward : (x : ℕ) (d : Datum) → IsBounded d → is_in c.members (type_at c.body.types x) d ≡ true → Up c.program.names d (type_at c.body.types x) ≡ true
   pub free : (x : ℕ) (d : Datum) → IsBounded d → Up c.program.names d (type_at c.body.types x) ≡ true → IsFree c.body c.members (type_at c.body.types x) d
   pub result_free : (out : tree.Output) (d : Datum) → c.body.routine.result ≡ Some out → IsBounded d → Up c.program.names d out.ty ≡ true → IsFree c.body c.members out.ty d

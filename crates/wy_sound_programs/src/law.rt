@@ -1,5 +1,6 @@
 //! The laws of statements, each as the contract of a function without a body.
 ghost use Rattle.wy_sound_programs.specs.Bodies.{BodiesLeave};
+ghost use Rattle.wy_sound_programs.specs.Once.{RoutinesAreScoped};
 ghost use Rattle.wy_sound_programs.specs.Typed.{TypedBlocksSuit};
 
 /// The body of a function or method, from a store at the point before it, and its end. Where each condition that they owe is
@@ -12,4 +13,10 @@ pub fn bodies_leave()
 /// meets what soundness asks of it, at each statement and from each store that comes to it.
 pub fn typed_blocks_suit()
     ensures suits { TypedBlocksSuit }
+{}
+
+/// A function or method whose names lead where they should, and whose variables are each declared once: variables are declared
+/// before they are assigned, and have the types that the conditions have for them.
+pub fn routines_are_scoped()
+    ensures scoped { RoutinesAreScoped }
 {}
