@@ -154,7 +154,7 @@ module _ (w : sem.Setting Node) (b : Body Node) (members : ℕ → Datum → Boo
       let P : Exit → Type 0 = X around f in
       let there : Agree n names x.later = agree_trans n m names later x.later le a x.goes in
       let go : Good A (run.leave w fr at (Some out) (Some d) k) (λ y. (y ≡ Gave (Some d)) × Leaves w b.program.setting members b.routine vs (Some out) (Some d)) =
-      results_leave.value w owed b members vs out at at v.count v.term v.hyps x.later d k rests.told rests.checks is (rests.result_written out is) free (rests.value_fits out d is) (rests.value_safe out d is)
+      results_leave.value w owed b members vs out at at v.count v.term v.hyps x.later d k rests.told rests.checks is (rests.result_written out is) free (λ q. rests.value_fits out d is free.0 q) (λ q. rests.value_safe out d is free.0 q)
       (ending v.count x.later (omega (arith, le, up)) there) x.is x.means x.known in
       subst (λ (o : Option tree.Output). Good A (run.leave w fr at o (Some d) k) P) (sym is)
       (good_map A (run.leave w fr at (Some out) (Some d) k) (λ y. (y ≡ Gave (Some d)) × Leaves w b.program.setting members b.routine vs (Some out) (Some d)) P go

@@ -9,7 +9,6 @@ use Rattle.wy_sem.specs.Meter.{Meter, Done}
 use Rattle.wy_sem.specs.Operations.{is_index, item_at, find, Slot, updated}
 use Rattle.wy_sem.specs.Expressions as sem
 use Rattle.wy_sem.specs.Expressions.{Store, slot, eval, eval_all}
-use Rattle.wy_sem.specs.TypeTests.{is_constrained}
 use Rattle.wy_sem.specs.Statements as run
 use Rattle.wy_sem.specs.Statements.{Exit, Went, Broke, Continued, Gave, Frame, type_at}
 use Rattle.wy_term.specs.declared.cond.CondKind.TheVariants as kind
@@ -19,14 +18,14 @@ use Rattle.wy_conditions.specs.Spots.{Spot, is_set, with_hyps}
 use Rattle.wy_conditions.specs.Assigned.{assigns_in}
 use Rattle.wy_conditions.specs.Statements.{Body, words, expr, renew, walk_clauses, where_true, where_false, exec, exec_all}
 use Rattle.wy_sound_terms.specs.Kinds.{IsWhole, IsTruth, IsArray}
-use Rattle.wy_sound_expressions.specs.Types.{is_in}
 use Rattle.wy_sound_expressions.specs.Suits.{Kinds, Each, Suits, AllSuit}
 use Rattle.wy_sound_clauses.specs.Clauses.{Fits, AllFit}
+use Rattle.wy_sound_calls.specs.CallLaws.{ComesAs}
 use Rattle.wy_sound_frames.specs.Frames.{unsets_in}
 
--- a value of a type that isn't asked about is in it
+-- a value that is given a type: a program may hold it, and where it isn't asked about it is in the type
 abbrev pub IsFree : Body Node → (ℕ → Datum → Bool) → Ty → Datum → Type 0
-IsFree b members t d = is_constrained b.program.setting.types t ≡ false → is_in members t d ≡ true
+IsFree b members t d = ComesAs b.program.setting members t d
 
 abbrev pub ReturnSuits : Kinds Node → Body Node → (ℕ → Datum → Bool) → Option (Expr Node) → Spot → Store → Type 0
 ReturnSuits w b members None p s = b.routine.result ≡ None
