@@ -300,7 +300,7 @@ module _ (c : Setting) (g : Grounds c) where
         let o = some_of c.body.routine.result scoped in
         let behind : Begins i.v.flow c.flow = subst (λ (z : State). Begins z.flow c.flow) i.is begins in (
           value_suits c g e k s.env s.flow i.v (is_set q.set) v is st.reached i.typed behind ready h,
-          (o.0, o.1, λ d l z eq. let kd = each_value c g e k s.env s.flow i.v (is_set q.set) v st.reached i.typed ready h d l z eq in g.result_free o.0 d o.1 kd.bounded (result_in at i.v.ty o.0 i.done o.1 i.fits d kd.inside)),
+          (o.0, o.1, λ d l z eq. let kd = each_value c g e k s.env s.flow i.v (is_set q.set) v st.reached i.typed ready h d l z eq in (kd.bounded, g.result_free o.0 d o.1 kd.bounded (result_in at i.v.ty o.0 i.done o.1 i.fits d kd.inside))),
         )
     suit_stmt start kept around fits (AssertStmt at e) k q m s out v is pt scoped st typed begins ready ren hc h =
         let i = assertion_parts p at e s out typed in

@@ -85,15 +85,18 @@ module _ (c : Setting) (g : Grounds c) where
       every_bind o (λ v. as_truth at v Done) (Kind names env [] seen s u) (λ r. Kind names env [] seen s u (Truth r)) h
       (λ d l e kd. every_truth at d Done l (λ r. Kind names env [] seen s u (Truth r)) (λ r is. subst (Kind names env [] seen s u) is kd))
 
-  -- a value of a declared type that isn't asked about
+  -- a value of a declared type
   pub free_at : (x : ℕ) (t : Ty) (d : Datum) → type_at c.body.types x ≡ t → IsBounded d → Up c.program.names d t ≡ true → IsFree c.body c.members t d
-  free_at x t d is bounded = subst (λ (u : Ty). Up c.program.names d u ≡ true → IsFree c.body c.members u d) is (g.free x d bounded)
+  free_at x t d is bounded up = (
+    bounded,
+    subst (λ (u : Ty). Up c.program.names d u ≡ true → is_constrained c.body.program.setting.types u ≡ false → is_in c.members u d ≡ true) is (g.free x d bounded) up,
+  )
 
   owed_says : (t : Ty) (d : Datum) (m : Meter) → IsFree b c.members t d → Every (c.owed t d m) (λ r. r ≡ true → is_in c.members t d ≡ true)
   owed_says t d m free = by (is_constrained b.program.setting.types t) refl where
     by : (y : Bool) → is_constrained b.program.setting.types t ≡ y → Every (c.owed t d m) (λ r. r ≡ true → is_in c.members t d ≡ true)
-    by true q = every_answer (is_in c.members t d) (c.owed t d m) (g.checks.asked t d m q)
-    by false q = every_told (c.owed t d m) (λ r. r ≡ true → is_in c.members t d ≡ true) (λ r i e y. free q)
+    by true q = every_answer (is_in c.members t d) (c.owed t d m) (g.checks.asked t d m free.0 q)
+    by false q = every_told (c.owed t d m) (λ r. r ≡ true → is_in c.members t d ≡ true) (λ r i e y. free.1 q)
 
   -- a value that is stored is in its type
   pub stored_in : (at x : ℕ) (t : Ty) (s : Store) (d : Datum) (m : Meter) (P : Exit → Type 0) → IsFree b c.members t d → (is_in c.members t d ≡ true → P (Went (put s x (Some d)))) → Every (run.stored fr at x t s d m) P

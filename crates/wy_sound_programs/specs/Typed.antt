@@ -13,7 +13,7 @@ use Rattle.wy_typing.specs.States.{State}
 use Rattle.wy_typing.specs.Programs.{result_type}
 use Rattle.wy_typing.specs.Statements.{TypedBlock}
 use Rattle.wy_sem.specs.Expressions as sem
-use Rattle.wy_sem.specs.TypeTests.{Test}
+use Rattle.wy_sem.specs.TypeTests.{Test, is_constrained}
 use Rattle.wy_sem.specs.Statements.{type_at}
 use Rattle.wy_conditions.specs.Numbered.{Node, numbered_block}
 use Rattle.wy_conditions.specs.Spots.{Spot, is_set}
@@ -26,7 +26,7 @@ use Rattle.wy_sound_kinds.specs.Bounded.{IsBounded}
 use Rattle.wy_sound_kinds.specs.Ready.{Rules}
 use Rattle.wy_sound_kinds.specs.Kinds.{HasValues, HasTypes, AreFor, Rests}
 use Rattle.wy_sound_suits.specs.Laws.{Begins, Asks, TellsNumbers}
-use Rattle.wy_sound_statements.specs.StatementSuits.{IsFree, BlockSuits}
+use Rattle.wy_sound_statements.specs.StatementSuits.{BlockSuits}
 use Rattle.wy_sound_statements.specs.Ends.{AreDeclared, frame_at, code_kinds}
 use Rattle.wy_sound_programs.specs.Scopes.{Scope, AllScoped}
 use Rattle.wy_sound_programs.specs.Along.{Allowed, in_statements, AllReadyAlong}
@@ -58,8 +58,8 @@ pub record Grounds (c : Setting) : Type 0 where
   pub taken : (f : ℕ) (vs : List Datum) → AreFor c.program c.allowed.rules f vs → c.in_expressions f vs ≡ true
   pub called : (f : ℕ) (vs : List Datum) → AreFor c.program (in_statements c.allowed) f vs → c.by_statements f vs ≡ true
   pub upward : (x : ℕ) (d : Datum) → IsBounded d → is_in c.members (type_at c.body.types x) d ≡ true → Up c.program.names d (type_at c.body.types x) ≡ true
-  pub free : (x : ℕ) (d : Datum) → IsBounded d → Up c.program.names d (type_at c.body.types x) ≡ true → IsFree c.body c.members (type_at c.body.types x) d
-  pub result_free : (out : tree.Output) (d : Datum) → c.body.routine.result ≡ Some out → IsBounded d → Up c.program.names d out.ty ≡ true → IsFree c.body c.members out.ty d
+  pub free : (x : ℕ) (d : Datum) → IsBounded d → Up c.program.names d (type_at c.body.types x) ≡ true → is_constrained c.body.program.setting.types (type_at c.body.types x) ≡ false → is_in c.members (type_at c.body.types x) d ≡ true
+  pub result_free : (out : tree.Output) (d : Datum) → c.body.routine.result ≡ Some out → IsBounded d → Up c.program.names d out.ty ≡ true → is_constrained c.body.program.setting.types out.ty ≡ false → is_in c.members out.ty d ≡ true
 
 -- the variable has a type at the point of typing
 abbrev pub Has : Environment → ℕ → Type 0
