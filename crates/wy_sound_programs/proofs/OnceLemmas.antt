@@ -114,6 +114,23 @@ known_behind (FailStmt at) vs slots h k y i = known_last (FailStmt at) vs slots 
 known_behind (IfStmt at v first second) vs slots h k y i = known_last (IfStmt at v first second) vs slots h k y i
 known_behind (WhileStmt at v invariants body) vs slots h k y i = known_last (WhileStmt at v invariants body) vs slots h k y i
 
+few_new : (n x : ℕ) (vs : bound.Scope) → x < n → ((y : ℕ) → bound.Has vs y → y < n) → (y : ℕ) → (x ≡ y) ⊎ bound.Has vs y → y < n
+few_new n x vs lt few y (inl e) = subst (λ (z : ℕ). z < n) e lt
+few_new n x vs lt few y (inr i) = few y i
+
+few_behind : (o : Offers) (n : ℕ) (st : Stmt ℕ) (vs : bound.Scope) (a : Around) → BoundStmt o n a vs st → ((x : ℕ) → bound.Has vs x → x < n) → (x : ℕ) → bound.Has (behind vs st) x → x < n
+few_behind o n (DeclareStmt at t x value) vs a b few y i = few_new n x vs b.2.0 few y i
+few_behind o n (AssignStmt at x path v) vs a b few y i = few y i
+few_behind o n (CallStmt at f es) vs a b few y i = few y i
+few_behind o n (ReturnStmt at value) vs a b few y i = few y i
+few_behind o n (AssertStmt at v) vs a b few y i = few y i
+few_behind o n (BreakStmt at) vs a b few y i = few y i
+few_behind o n (ContinueStmt at) vs a b few y i = few y i
+few_behind o n (SkipStmt at) vs a b few y i = few y i
+few_behind o n (FailStmt at) vs a b few y i = few y i
+few_behind o n (IfStmt at v first second) vs a b few y i = few y i
+few_behind o n (WhileStmt at v invariants body) vs a b few y i = few y i
+
 module _ (o : Offers) (c : Scope) where
   -- what is declared at the end has the types of the conditions
   abbrev Ends : List (Option Ty) → Type 0
@@ -140,22 +157,8 @@ module _ (o : Offers) (c : Scope) where
     all_scoped NoStmts a vs slots r b h k ends few = tt
     all_scoped (MoreStmts first rest) a vs slots r b h k ends few = (
       scoped first a vs slots r b.0 h.0 k (λ x t e. ends x t (all_last rest (declares first slots) x t h.1 e)) few,
-      all_scoped rest a (behind vs first) (declares first slots) r b.1 h.1 (known_behind first vs slots h.0 k) ends (few_behind first vs a b.0 few),
+      all_scoped rest a (behind vs first) (declares first slots) r b.1 h.1 (known_behind first vs slots h.0 k) ends (few_behind o c.many first vs a b.0 few),
     )
-
-    few_behind : (st : Stmt ℕ) (vs : bound.Scope) (a : Around) → BoundStmt o c.many a vs st → ((x : ℕ) → bound.Has vs x → x < c.many) → (x : ℕ) → bound.Has (behind vs st) x → x < c.many
-    few_behind (DeclareStmt at t x value) vs a b few y (inl e) = subst (λ (z : ℕ). z < c.many) e b.2.0
-    few_behind (DeclareStmt at t x value) vs a b few y (inr i) = few y i
-    few_behind (AssignStmt at x path v) vs a b few y i = few y i
-    few_behind (CallStmt at f es) vs a b few y i = few y i
-    few_behind (ReturnStmt at value) vs a b few y i = few y i
-    few_behind (AssertStmt at v) vs a b few y i = few y i
-    few_behind (BreakStmt at) vs a b few y i = few y i
-    few_behind (ContinueStmt at) vs a b few y i = few y i
-    few_behind (SkipStmt at) vs a b few y i = few y i
-    few_behind (FailStmt at) vs a b few y i = few y i
-    few_behind (IfStmt at v first second) vs a b few y i = few y i
-    few_behind (WhileStmt at v invariants body) vs a b few y i = few y i
 
 -- ---- parameters
 

@@ -4,7 +4,7 @@ use Rattle.std.proofs.lemmas.Bool.{or_left, or_right}
 use Rattle.wy_value.specs.Datum.{Datum, Truth}
 use Rattle.wy_core.specs.Types.{Ty, InterTy}
 use Rattle.wy_core.specs.CoreTree as tree
-use Rattle.wy_core.specs.CoreTree.{Expr, Exprs, Step, Stmt, DeclareStmt, AssignStmt, CallStmt, ReturnStmt, AssertStmt, BreakStmt, ContinueStmt, SkipStmt, FailStmt, IfStmt, WhileStmt, Stmts, NoStmts, MoreStmts}
+use Rattle.wy_core.specs.CoreTree.{Expr, Exprs, Step, IndexStep, FieldStep, Stmt, DeclareStmt, AssignStmt, CallStmt, ReturnStmt, AssertStmt, BreakStmt, ContinueStmt, SkipStmt, FailStmt, IfStmt, WhileStmt, Stmts, NoStmts, MoreStmts}
 use Rattle.wy_term.specs.declared.cond.CondKind.{CondKind}
 use Rattle.wy_term.specs.declared.cond.CondKind.TheVariants as kind
 use Rattle.wy_types.specs.Names.{Declared, Up}
@@ -51,13 +51,13 @@ use Rattle.wy_sound_kinds.proofs.TypeLemmas.{then_gives, given_is}
 use Rattle.wy_sound_statements.specs.Ends.{frame_at}
 use Rattle.wy_sound_statements.proofs.PlaceLemmas.{one_left, one_right}
 use Rattle.wy_sound_programs.specs.Scopes.{Scope, declares, declares_in, Scoped, AllScoped}
-use Rattle.wy_sound_programs.specs.Along.{CodeReady, WhereGoes, ReadyAlong, AllReadyAlong}
+use Rattle.wy_sound_programs.specs.Along.{CodeReady, PathReady, WhereGoes, ReadyAlong, AllReadyAlong}
 use Rattle.wy_sound_programs.specs.Typed.{Setting, scope_of, Grounds, Has, Stands, Holds}
 use Rattle.wy_sound_programs.proofs.SlotLemmas.{no_slot, no_truth, changed_reached}
 use Rattle.wy_sound_programs.proofs.MarkLemmas.{Meets, MeetsIf}
 use Rattle.wy_sound_programs.proofs.LoopLemmas.{clauses, inner, head, test, turn, met, head_marks, to_head, from_head, body_point, loop_meets}
 use Rattle.wy_sound_programs.proofs.JoinLemmas.{In, HasIf, in_left, in_right, exit_first, exit_break}
-use Rattle.wy_sound_programs.proofs.PartLemmas.{Normal, normal_parts, Comes, Test, declaration_parts, unset_parts, assignment_parts, into_parts, new_parts, new_inside, update_parts, path_parts, call_parts, return_parts, assertion_parts, on_yes, on_no, Branches, if_parts, in_loop, Loop, loop_parts}
+use Rattle.wy_sound_programs.proofs.PartLemmas.{Normal, normal_parts, Comes, Test, declaration_parts, unset_parts, assignment_parts, into_parts, new_parts, new_inside, Update, update_parts, path_parts, call_parts, return_parts, assertion_parts, on_yes, on_no, Branches, if_parts, in_loop, Loop, loop_parts}
 use Rattle.wy_sound_programs.proofs.ScopeLemmas.{stays_declared, all_stay_declared, not_unset, none_unset, all_among}
 use Rattle.wy_sound_programs.proofs.GrewLemmas.{Grew, grew, all_grew}
 use Rattle.wy_sound_programs.proofs.HeadLemmas.{Headed, Old, headed}
@@ -246,6 +246,33 @@ module _ (c : Setting) (g : Grounds c) where
   goes start kept around rest k s out one l (Continued at t) ends pt ready hc grows next h = h
   goes start kept around rest k s out one l (Gave v) ends pt ready hc grows next h = tt
 
+  -- ---- updates of parts
+
+  -- the steps, then the value, which comes into the variable
+  abbrev updating : ℕ → ℕ → List (Step ℕ) → Expr ℕ → ℕ → Store → Run Exit
+  updating at x path e k v = needed at (slot v x) (λ d z. run.path_of w v (numbered_path path k) d z >>= (λ slots y. sem.eval w true (numbered e (k + exprs_in_path path)) v y >>= (λ r. run.stored fr at x (type_at types x) v (updated d slots r))))
+
+  update_run : (start : Environment) (kept : ℕ → Bool) (f : Flow) (at x : ℕ) (path : List (Step ℕ)) (e : Expr ℕ) (k : ℕ) (q : Spot) (s out : State) (v : Store) (z : Meter) → MarksAre f.ends (mark q.set x true) → x < c.allowed.many → slot_at s.declared x ≡ Some (type_at types x) → Stands types kept q s
+      → (i : Update p at x path e s out) → is_set q.set x ≡ true → PathReady c.allowed q path → CodeReady c.allowed q e → H s.env (is_set q.set) v → Every (updating at x path e k v z) (After start kept f (with_env i.env (with_flow i.v.flow s)))
+  update_run start kept f at x path e k q s out v z set lt known st i on ready last h =
+      let t = type_at types x in
+      let n = new_parts names at x i.ty t s.env (slot_at s.declared x) i.env st.reached known i.new in
+      let y = path_parts p s.env path (type_of s.env [] x) (record { types = type_of s.env [] x ∷ []; flow = s.flow }) i.along i.types in
+      let number = k + exprs_in_path path in
+      let P : Exit → Type 0 = After start kept f (with_env i.env (with_flow i.v.flow s)) in
+      let end : Datum → List Slot → Run Exit = λ d slots o. sem.eval w true (numbered e number) v o >>= (λ r. run.stored fr at x t v (updated d slots r)) in
+      every_needed at (slot v x) (λ d o. run.path_of w v (numbered_path path k) d o >>= end d) z P
+      (λ d is.
+      every_bind (run.path_of w v (numbered_path path k) d z) (end d) (Replaced c g s.env st.reached q v h at path (type_of s.env [] x ∷ y.0) d) P
+      (path_leads c g s.env st.reached q v h at path k (type_of s.env [] x) s.flow y.0 i.along.flow d z y.2 ready (h.typed x d on is) (bounded_at names types c.members c.allowed.many s.env (is_set q.set) v x d h on is))
+      (λ slots o eq leads. every_bind (sem.eval w true (numbered e number) v o) (λ r. run.stored fr at x t v (updated d slots r)) (Kind names s.env [] (is_set q.set) v i.v) P
+      (value c g e number s.env i.along.flow i.v (is_set q.set) v st.reached i.typed last h o)
+      (λ r o2 eq2 kd.
+      let new = leads r i.v.ty i.ty (subst (λ (ts : List Ty). Updated names at path ts i.v.ty (Gives i.ty)) y.1 i.updated) kd.inside kd.bounded in
+      let up = new_inside names at x i.ty t s.env (slot_at s.declared x) i.env known i.new (updated d slots r) new.0 in
+      stored_in c g at x t v (updated d slots r) o2 P (free_at c g x t (updated d slots r) refl new.1 up)
+      (λ member. put_end f.ends s.env i.env q v x n.made (updated d slots r) set st.reached n.is h lt new.1 (norms_same names g.code.recur i.ty n.made n.normal (updated d slots r) ∙ new.0) member))))
+
   -- ---- loops
 
   module _ (start : Environment) (kept : ℕ → Bool) (around : List (Expr Node)) (at : ℕ) (e : Expr ℕ) (invariants : List (Expr ℕ)) (body : Stmts ℕ) (k : ℕ) (q : Spot) (m : ℕ) (s out : State) (pt : Point m q) (scoped : AllScoped sc s.declared body)
@@ -426,32 +453,20 @@ module _ (c : Setting) (g : Grounds c) where
         let up = comes.inside d kd.inside in
         stored_in c g at x t v d y (After start kept f a) (free_at c g x t d refl kd.bounded up)
         (λ member. put_end f.ends s.env i.env q v x n.made d refl st.reached n.is h scoped.0 kd.bounded (in_both names g.code.recur i.v.ty t n.made n.normal d kd.inside up) member))) l)
-    run_stmt start kept around (AssignStmt at x (step ∷ steps) e) k q m s out v l pt scoped st typed ready ren hc h =
-        let path = step ∷ steps in
+    run_stmt start kept around (AssignStmt at x (IndexStep from index ∷ steps) e) k q m s out v l pt scoped st typed ready ren hc h =
+        let path = IndexStep from index ∷ steps in
         let i = update_parts p at x path e s out typed in
-        let t = type_at types x in
-        let n = new_parts names at x i.ty t s.env (slot_at s.declared x) i.env st.reached scoped.1 i.new in
-        let y = path_parts p s.env path (type_of s.env [] x) (record { types = type_of s.env [] x ∷ []; flow = s.flow }) i.along i.types in
         let f = exec b around (numbered_stmt (AssignStmt at x path e) k) q m in
         let a = with_env i.env (with_flow i.v.flow s) in
-        let number = k + exprs_in_path path in
-        let nodes = numbered_path path k in
-        let P : Exit → Type 0 = After start kept f a in
-        let last : Datum → List Slot → Run Exit = λ d slots z. sem.eval w true (numbered e number) v z >>= (λ r. run.stored fr at x t v (updated d slots r)) in
         as_out start kept f a out (run.exec w fr (numbered_stmt (AssignStmt at x path e) k) v l) i.is
-        (every_spend true (needed at (slot v x) (λ d z. run.path_of w v nodes d z >>= last d)) P
-        (λ z. every_needed at (slot v x) (λ d z. run.path_of w v nodes d z >>= last d) z P
-        (λ d is.
-        let bounded = bounded_at names types c.members c.allowed.many s.env (is_set q.set) v x d h ready.0 is in
-        every_bind (run.path_of w v nodes d z) (last d) (Replaced c g s.env st.reached q v h at path (type_of s.env [] x ∷ y.0) d) P
-        (path_leads c g s.env st.reached q v h at path k (type_of s.env [] x) s.flow y.0 i.along.flow d z y.2 ready.1 (h.typed x d ready.0 is) bounded)
-        (λ slots o eq leads. every_bind (sem.eval w true (numbered e number) v o) (λ r. run.stored fr at x t v (updated d slots r)) (Kind names s.env [] (is_set q.set) v i.v) P
-        (value c g e number s.env i.along.flow i.v (is_set q.set) v st.reached i.typed ready.2 h o)
-        (λ r z2 eq2 kd.
-        let new = leads r i.v.ty i.ty (subst (λ (ts : List Ty). Updated names at path ts i.v.ty (Gives i.ty)) y.1 i.updated) kd.inside kd.bounded in
-        let up = new_inside names at x i.ty t s.env (slot_at s.declared x) i.env scoped.1 i.new (updated d slots r) new.0 in
-        stored_in c g at x t v (updated d slots r) z2 P (free_at c g x t (updated d slots r) refl new.1 up)
-        (λ member. put_end f.ends s.env i.env q v x n.made (updated d slots r) refl st.reached n.is h scoped.0 new.1 (norms_same names g.code.recur i.ty n.made n.normal (updated d slots r) ∙ new.0) member))))) l)
+        (every_spend true (updating at x path e k v) (After start kept f a) (λ z. update_run start kept f at x path e k q s out v z refl scoped.0 scoped.1 st i ready.0 ready.1 ready.2 h) l)
+    run_stmt start kept around (AssignStmt at x (FieldStep from name ∷ steps) e) k q m s out v l pt scoped st typed ready ren hc h =
+        let path = FieldStep from name ∷ steps in
+        let i = update_parts p at x path e s out typed in
+        let f = exec b around (numbered_stmt (AssignStmt at x path e) k) q m in
+        let a = with_env i.env (with_flow i.v.flow s) in
+        as_out start kept f a out (run.exec w fr (numbered_stmt (AssignStmt at x path e) k) v l) i.is
+        (every_spend true (updating at x path e k v) (After start kept f a) (λ z. update_run start kept f at x path e k q s out v z refl scoped.0 scoped.1 st i ready.0 ready.1 ready.2 h) l)
     run_stmt start kept around (CallStmt at f es) k q m s out v l pt scoped st typed ready ren hc h =
         let i = call_parts p at f es s out typed in
         let fl = exec b around (numbered_stmt (CallStmt at f es) k) q m in

@@ -4,7 +4,7 @@ use Rattle.std.specs.Prelude.{slice_get, is_some}
 use Rattle.wy_value.specs.Datum.{Datum, Truth}
 use Rattle.wy_core.specs.Types.{Ty}
 use Rattle.wy_core.specs.CoreTree as tree
-use Rattle.wy_core.specs.CoreTree.{Expr, Exprs, Step, Stmt, DeclareStmt, AssignStmt, CallStmt, ReturnStmt, AssertStmt, BreakStmt, ContinueStmt, SkipStmt, FailStmt, IfStmt, WhileStmt, Stmts, NoStmts, MoreStmts}
+use Rattle.wy_core.specs.CoreTree.{Expr, Exprs, Step, IndexStep, FieldStep, Stmt, DeclareStmt, AssignStmt, CallStmt, ReturnStmt, AssertStmt, BreakStmt, ContinueStmt, SkipStmt, FailStmt, IfStmt, WhileStmt, Stmts, NoStmts, MoreStmts}
 use Rattle.wy_types.specs.Names.{Declared, Up}
 use Rattle.wy_environment.specs.Slots.{slot_at}
 use Rattle.wy_environment.specs.Variables.{Environment, nothing_known, changed, type_of}
@@ -51,14 +51,14 @@ use Rattle.wy_sound_suits.proofs.KindLemmas.{truth_in}
 use Rattle.wy_sound_suits.proofs.SuitLemmas.{suits, all_suit}
 use Rattle.wy_sound_fits.specs.Fit.{ClausesReady}
 use Rattle.wy_sound_fits.proofs.FitLemmas.{clauses_fit}
-use Rattle.wy_sound_statements.specs.StatementSuits.{IsFree, IsTested, Leads, AtTurns, KeepFits, Behind, StmtSuits, BlockSuits}
+use Rattle.wy_sound_statements.specs.StatementSuits.{IsFree, IsTested, Leads, AtTurns, KeepFits, Behind, UpdateSuits, StmtSuits, BlockSuits}
 use Rattle.wy_sound_statements.specs.Ends.{frame_at, code_kinds}
 use Rattle.wy_sound_programs.specs.Scopes.{Scope, declares, Scoped, AllScoped}
-use Rattle.wy_sound_programs.specs.Along.{in_statements, CodeReady, WhereGoes, ReadyAlong, AllReadyAlong}
+use Rattle.wy_sound_programs.specs.Along.{in_statements, CodeReady, PathReady, WhereGoes, ReadyAlong, AllReadyAlong}
 use Rattle.wy_sound_programs.specs.Typed.{Setting, scope_of, Grounds, Has, Stands, Holds, nothing_kept, TypedBlocksSuit}
 use Rattle.wy_sound_programs.proofs.SlotLemmas.{no_truth}
 use Rattle.wy_sound_programs.proofs.LoopLemmas.{clauses, inner, head, test, turn, head_marks, body_point}
-use Rattle.wy_sound_programs.proofs.PartLemmas.{Test, declaration_parts, assignment_parts, into_parts, new_inside, update_parts, path_parts, Call, call_parts, Return, return_parts, assertion_parts, on_yes, on_no, if_parts, in_loop, Loop, loop_parts}
+use Rattle.wy_sound_programs.proofs.PartLemmas.{Test, declaration_parts, assignment_parts, into_parts, new_inside, Update, update_parts, path_parts, Call, call_parts, Return, return_parts, assertion_parts, on_yes, on_no, if_parts, in_loop, Loop, loop_parts}
 use Rattle.wy_sound_programs.proofs.ScopeLemmas.{all_stay_declared, not_unset}
 use Rattle.wy_sound_programs.proofs.GrewLemmas.{flow_one, flow_clauses, grew, all_grew}
 use Rattle.wy_sound_programs.proofs.StaticLemmas.{static, changed_stands}
@@ -124,6 +124,35 @@ module _ (c : Setting) (g : Grounds c) where
 
   result_in : (at : ℕ) (v : Ty) (o : tree.Output) (u : Unit {0}) → c.body.routine.result ≡ Some o → FitsResult p.names at v result (Gives u) → (d : Datum) → Up p.names d v ≡ true → Up p.names d o.ty ≡ true
   result_in at v o u is h = (subst (λ (r : Option tree.Output). FitsResult p.names at v (result_type r) (Gives u)) is h).1
+
+  -- ---- updates of parts
+
+  update_suits : (at x : ℕ) (path : List (Step ℕ)) (e : Expr ℕ) (k : ℕ) (q : Spot) (s out : State) (v : Store) → k ≡ length s.flow → (reached : s.env.reached ≡ true) → slot_at s.declared x ≡ Some (type_at types x) → Update p at x path e s out → Begins out.flow c.flow
+      → is_set q.set x ≡ true → PathReady c.allowed q path → CodeReady c.allowed q e → Hold s.env (is_set q.set) v → UpdateSuits W c.body c.members x (numbered_path path k) (numbered e (k + exprs_in_path path)) q v
+  update_suits at x path e k q s out v is reached known i begins on ready last h =
+      let t = type_at types x in
+      let y = path_parts p s.env path (type_of s.env [] x) (record { types = type_of s.env [] x ∷ []; flow = s.flow }) i.along i.types in
+      let number = k + exprs_in_path path in
+      let value_begins : Begins i.v.flow c.flow = subst (λ (z : State). Begins z.flow c.flow) i.is begins in
+      let path_begins : Begins i.along.flow c.flow = begins_more i.along.flow i.v.flow c.flow (flow_one p s.env e i.along.flow i.v i.typed).begins value_begins in
+      let next : number ≡ length i.along.flow = ap (λ (n : ℕ). n + exprs_in_path path) is ∙ sym (steps_begin c g s.env reached q v h path (type_of s.env [] x) s.flow y.0 i.along.flow y.2).counted in
+      let o = h.values x on in
+      let inside = h.typed x o.0 on o.1 in
+      (
+        on,
+        (
+          o.0,
+          o.1,
+          path_suits c g s.env reached q v h path k (type_of s.env [] x) s.flow y.0 i.along.flow o.0 is y.2 path_begins ready inside o.2,
+          value_suits c g e number s.env i.along.flow i.v (is_set q.set) v next reached i.typed value_begins last h,
+          λ slots r l z u z2 eq eq2.
+              let leads = every_of (run.path_of c.evaluation v (numbered_path path k) o.0 l) (Replaced c g s.env reached q v h at path (type_of s.env [] x ∷ y.0) o.0)
+              (path_leads c g s.env reached q v h at path k (type_of s.env [] x) s.flow y.0 i.along.flow o.0 l y.2 ready inside o.2) slots z eq in
+              let kd = each_value c g e number s.env i.along.flow i.v (is_set q.set) v reached i.typed last h r u z2 eq2 in
+              let new = leads r i.v.ty i.ty (subst (λ (ts : List Ty). Updated p.names at path ts i.v.ty (Gives i.ty)) y.1 i.updated) kd.inside kd.bounded in
+              free_at c g x t (updated o.0 slots r) refl new.1 (new_inside p.names at x i.ty t s.env (slot_at s.declared x) i.env known i.new (updated o.0 slots r) new.0),
+        ),
+      )
 
   -- ---- loops
 
@@ -237,8 +266,8 @@ module _ (c : Setting) (g : Grounds c) where
 
   on_behind : (around : List (Expr Node)) (rest : Stmts Node) (n : ℕ) (s : State) (kept : ℕ → Bool) (ready : Spot → Type 0) (o : Option Spot) (t : Store) → Ends c g kept o s → EndsAt c g o s.env t → WhereGoes ready o → PointIf n o
       → ((q : Spot) → Point n q → Stands types kept q s → Hold s.env (is_set q.set) t → ready q → BlockSuits W fr c.body c.members calls around rest q n t) → Behind (λ q u. BlockSuits W fr c.body c.members calls around rest q n u) o t
-  on_behind around rest n s kept ready None t ends here r pt go = tt
-  on_behind around rest n s kept ready (Some q) t ends here r pt go = go q pt ends here r
+  on_behind around rest n s kept ready None t ends there r pt go = tt
+  on_behind around rest n s kept ready (Some q) t ends there r pt go = go q pt ends there r
 
   abbrev Fitting : Environment → (ℕ → Bool) → List (Expr Node) → Type 0
   Fitting start kept around = (t : Store) → Hold start kept t → AllFit c.evaluation c.body.program.setting c.members kept around t
@@ -267,32 +296,10 @@ module _ (c : Setting) (g : Grounds c) where
           value_suits c g e number s.env s.flow i.v (is_set q.set) v same st.reached i.typed behind ready h,
           λ d l o eq. let kd = each_value c g e number s.env s.flow i.v (is_set q.set) v st.reached i.typed ready h d l o eq in free_at c g x t d refl kd.bounded (comes.inside d kd.inside),
         )
-    suit_stmt start kept around fits (AssignStmt at x (step ∷ steps) e) k q m s out v is pt scoped st typed begins ready ren hc h =
-        let path = step ∷ steps in
-        let i = update_parts p at x path e s out typed in
-        let t = type_at types x in
-        let y = path_parts p s.env path (type_of s.env [] x) (record { types = type_of s.env [] x ∷ []; flow = s.flow }) i.along i.types in
-        let number = k + exprs_in_path path in
-        let value_begins : Begins i.v.flow c.flow = subst (λ (z : State). Begins z.flow c.flow) i.is begins in
-        let path_begins : Begins i.along.flow c.flow = begins_more i.along.flow i.v.flow c.flow (flow_one p s.env e i.along.flow i.v i.typed).begins value_begins in
-        let next : number ≡ length i.along.flow = ap (λ (n : ℕ). n + exprs_in_path path) is ∙ sym (steps_begin c g s.env st.reached q v h path (type_of s.env [] x) s.flow y.0 i.along.flow y.2).counted in
-        let o = h.values x ready.0 in
-        let inside = h.typed x o.0 ready.0 o.1 in
-        (
-          ready.0,
-          (
-            o.0,
-            o.1,
-            path_suits c g s.env st.reached q v h path k (type_of s.env [] x) s.flow y.0 i.along.flow o.0 is y.2 path_begins ready.1 inside o.2,
-            value_suits c g e number s.env i.along.flow i.v (is_set q.set) v next st.reached i.typed value_begins ready.2 h,
-            λ slots r l z u z2 eq eq2.
-                let leads = every_of (run.path_of c.evaluation v (numbered_path path k) o.0 l) (Replaced c g s.env st.reached q v h at path (type_of s.env [] x ∷ y.0) o.0)
-                (path_leads c g s.env st.reached q v h at path k (type_of s.env [] x) s.flow y.0 i.along.flow o.0 l y.2 ready.1 inside o.2) slots z eq in
-                let kd = each_value c g e number s.env i.along.flow i.v (is_set q.set) v st.reached i.typed ready.2 h r u z2 eq2 in
-                let new = leads r i.v.ty i.ty (subst (λ (ts : List Ty). Updated p.names at path ts i.v.ty (Gives i.ty)) y.1 i.updated) kd.inside kd.bounded in
-                free_at c g x t (updated o.0 slots r) refl new.1 (new_inside p.names at x i.ty t s.env (slot_at s.declared x) i.env scoped.1 i.new (updated o.0 slots r) new.0),
-          ),
-        )
+    suit_stmt start kept around fits (AssignStmt at x (IndexStep from index ∷ steps) e) k q m s out v is pt scoped st typed begins ready ren hc h =
+        update_suits at x (IndexStep from index ∷ steps) e k q s out v is st.reached scoped.1 (update_parts p at x (IndexStep from index ∷ steps) e s out typed) begins ready.0 ready.1 ready.2 h
+    suit_stmt start kept around fits (AssignStmt at x (FieldStep from name ∷ steps) e) k q m s out v is pt scoped st typed begins ready ren hc h =
+        update_suits at x (FieldStep from name ∷ steps) e k q s out v is st.reached scoped.1 (update_parts p at x (FieldStep from name ∷ steps) e s out typed) begins ready.0 ready.1 ready.2 h
     suit_stmt start kept around fits (CallStmt at f es) k q m s out v is pt scoped st typed begins ready ren hc h = call_suits at f es k s out (is_set q.set) v is st.reached (call_parts p at f es s out typed) begins ready.0 ready.1 h
     suit_stmt start kept around fits (ReturnStmt at None) k q m s out v is pt scoped st typed begins ready ren hc h = none_of c.body.routine.result scoped
     suit_stmt start kept around fits (ReturnStmt at (Some e)) k q m s out v is pt scoped st typed begins ready ren hc h =
