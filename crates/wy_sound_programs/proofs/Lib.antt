@@ -16,3 +16,5 @@ pub mod RunLemmas
 pub mod MoreLemmas
 pub mod SuitLemmas
 pub mod OnceLemmas
+pub mod WayLemmas
+pub mod FormedLemmas

@@ -1,5 +1,5 @@
--- The walk of a loop: its head, its test, a turn, and the point behind it.
-use Rattle.std.proofs.Common.{◌≡◌, ℕ, ◌+◌, ◌≤◌, List, [], ◌∷◌, Bool, true, Option, Some, None, refl, sym, ap, ◌∙◌, subst, arith}
+-- The walks of `if` and of loops: the points behind them.
+use Rattle.std.proofs.Common.{◌≡◌, ℕ, ◌+◌, ◌≤◌, List, [], ◌∷◌, ◌++◌, Bool, true, Option, Some, None, refl, sym, ap, ◌∙◌, subst, arith}
 use Rattle.wy_core.specs.CoreTree.{Expr, Stmts}
 use Rattle.wy_term.specs.declared.cond.CondKind.TheVariants as kind
 use Rattle.wy_conditions.specs.Sizes.{exprs_in, exprs_in_list}
@@ -8,13 +8,28 @@ use Rattle.wy_conditions.specs.Owed.{assume}
 use Rattle.wy_conditions.specs.Making.{formula, denied}
 use Rattle.wy_conditions.specs.Clauses.{Passed, owe_clauses}
 use Rattle.wy_conditions.specs.Calls.{Walked}
-use Rattle.wy_conditions.specs.Spots.{Spot, Flow, is_set, with_hyps}
+use Rattle.wy_conditions.specs.Spots.{Spot, Flow, is_set, as_list, with_hyps}
 use Rattle.wy_conditions.specs.Joins.{Met, meet}
 use Rattle.wy_conditions.specs.Statements.{Body, words, expr, Renewed, renew, walk_clauses, keep, where_true, where_false, exec_all}
 use Rattle.wy_sound_expressions.proofs.CallGrows.{clauses_grow}
-use Rattle.wy_sound_points.proofs.SetLemmas.{Point, FlowPoints, point_more, points_more, with_point}
+use Rattle.wy_sound_points.proofs.SetLemmas.{Point, FlowPoints, point_more, point_if_more, points_more, both_points, list_points, with_point}
 use Rattle.wy_sound_points.proofs.StayLemmas.{expr_up, walked_up, keep_up, head_renewed, block_points}
 use Rattle.wy_sound_programs.proofs.MarkLemmas.{MeetsIf, meets, head_set}
+
+module _ (b : Body Node) where
+  -- the points behind both blocks of an `if` meet
+  pub if_meets : (around : List (Expr Node)) (v : Walked) (first second : Stmts Node) (q : Spot) (m : ℕ) → m ≤ v.count → Point m q
+      → let one = exec_all b around first (where_true v q) v.count in
+      let two = exec_all b around second (where_false v q) one.count in
+      MeetsIf (as_list one.ends ++ as_list two.ends) (meet (words b) v.hyps (as_list one.ends ++ as_list two.ends) two.count).ends
+  if_meets around v first second q m up pt =
+      let here = point_more m v.count q up pt in
+      let one = exec_all b around first (where_true v q) v.count in
+      let k = block_points b around first (where_true v q) v.count (with_point v.count q (assume v.hyps (formula v.term)) here) in
+      let two = exec_all b around second (where_false v q) one.count in
+      let l = block_points b around second (where_false v q) one.count (with_point one.count q (assume v.hyps (denied (formula v.term))) (point_more v.count one.count q k.grows here)) in
+      meets (words b) v.hyps (as_list one.ends ++ as_list two.ends) two.count two.count
+      (both_points two.count (as_list one.ends) (as_list two.ends) (list_points two.count one.ends (point_if_more one.count two.count one.ends l.grows k.ends)) (list_points two.count two.ends l.ends))
 
 module _ (b : Body Node) (at : ℕ) (e : Expr ℕ) (invariants : List (Expr ℕ)) (body : Stmts ℕ) (k : ℕ) (q : Spot) (m : ℕ) where
   abbrev pub clauses : List (Expr Node)

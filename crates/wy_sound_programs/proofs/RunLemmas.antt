@@ -55,13 +55,13 @@ use Rattle.wy_sound_programs.specs.Along.{CodeReady, PathReady, WhereGoes, Ready
 use Rattle.wy_sound_programs.specs.Typed.{Setting, scope_of, Grounds, Has, Stands, Holds}
 use Rattle.wy_sound_programs.proofs.SlotLemmas.{no_slot, no_truth, changed_reached}
 use Rattle.wy_sound_programs.proofs.MarkLemmas.{Meets, MeetsIf}
-use Rattle.wy_sound_programs.proofs.LoopLemmas.{clauses, inner, head, test, turn, met, head_marks, to_head, from_head, body_point, loop_meets}
+use Rattle.wy_sound_programs.proofs.LoopLemmas.{if_meets, clauses, inner, head, test, turn, met, head_marks, to_head, from_head, body_point, loop_meets}
 use Rattle.wy_sound_programs.proofs.JoinLemmas.{In, HasIf, in_left, in_right, exit_first, exit_break}
 use Rattle.wy_sound_programs.proofs.PartLemmas.{Normal, normal_parts, Comes, Test, declaration_parts, unset_parts, assignment_parts, into_parts, new_parts, new_inside, Update, update_parts, path_parts, call_parts, return_parts, assertion_parts, on_yes, on_no, Branches, if_parts, in_loop, Loop, loop_parts}
 use Rattle.wy_sound_programs.proofs.ScopeLemmas.{stays_declared, all_stay_declared, not_unset, none_unset, all_among}
 use Rattle.wy_sound_programs.proofs.GrewLemmas.{Grew, grew, all_grew}
 use Rattle.wy_sound_programs.proofs.HeadLemmas.{Headed, Old, headed}
-use Rattle.wy_sound_programs.proofs.StaticLemmas.{true_false, MarksAre, EndStands, Static, static, all_static, changed_stands, begin_stands, test_has, break_has, if_meets}
+use Rattle.wy_sound_programs.proofs.StaticLemmas.{true_false, MarksAre, EndStands, Static, static, all_static, changed_stands, begin_stands, test_has, break_has}
 use Rattle.wy_sound_programs.proofs.UpdateLemmas.{Replaced, path_leads}
 use Rattle.wy_sound_programs.proofs.ValueLemmas.{value, quiet_value, truth_of, free_at, stored_in}
 use Rattle.wy_sound_programs.proofs.StoreLemmas.{in_both, bounded_at, fewer, put_holds, unset_holds, changed_holds, meets_holds, Renews, carry, head_holds, head_renews}
@@ -530,7 +530,7 @@ module _ (c : Setting) (g : Grounds c) where
         let f = exec b around (numbered_stmt (IfStmt at e first second) k) q m in
         let a = with_env i.env i.two in
         let P : Exit → Type 0 = After start kept f a in
-        let met = if_meets p result b sc around x b1 b2 q m up pt in
+        let met = if_meets b around x b1 b2 q m up pt in
         let ren1 = ren_first start kept (λ y. assigns_in y b1) (λ y. assigns_in y b2) ren in
         let ren2 = ren_second start kept (λ y. assigns_in y b1) (λ y. assigns_in y b2) ren in
         as_out start kept f a out (run.exec w fr (numbered_stmt (IfStmt at e first second) k) v l) i.is

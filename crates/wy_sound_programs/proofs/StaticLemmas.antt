@@ -34,7 +34,7 @@ use Rattle.wy_sound_programs.specs.Scopes.{Scope, declares, declares_in, Scoped,
 use Rattle.wy_sound_programs.specs.Typed.{Has, Stands}
 use Rattle.wy_sound_programs.proofs.SlotLemmas.{no_slot, no_truth, apart_of, same_or_apart, slot_put, slot_other, mark_same, mark_other, given_reached, given_same, given_has, changed_reached, changed_has}
 use Rattle.wy_sound_programs.proofs.MarkLemmas.{Meets, MeetsIf, meets, head_set}
-use Rattle.wy_sound_programs.proofs.LoopLemmas.{clauses, head, test, turn, met, head_marks, body_point, loop_meets}
+use Rattle.wy_sound_programs.proofs.LoopLemmas.{if_meets, clauses, head, test, turn, met, head_marks, body_point, loop_meets}
 use Rattle.wy_sound_programs.proofs.JoinLemmas.{HasIf, reached_left, reached_right, both_dead, joined_has, exit_reached, exit_has}
 use Rattle.wy_sound_programs.proofs.PartLemmas.{Normal, normal_parts, Comes, declaration_parts, unset_parts, assignment_parts, into_parts, new_parts, update_parts, call_parts, return_parts, assertion_parts, on_yes, on_no, if_parts, in_loop, loop_parts}
 use Rattle.wy_sound_programs.proofs.ScopeLemmas.{all_stay_declared}
@@ -210,20 +210,6 @@ module _ (p : Program) (result : Option Ty) (b : Body Node) (c : Scope) where
     holds q x e (inl o) = (end_list kept a one ha q o).keeps x e
     holds q x e (inr o) = (end_list kept z two hz q o).keeps x e
 
-  -- the points behind both blocks of an `if` meet
-  pub if_meets : (around : List (Expr Node)) (v : Walked) (first second : Stmts Node) (q : Spot) (m : ℕ) → m ≤ v.count → Point m q
-      → let one = exec_all b around first (where_true v q) v.count in
-      let two = exec_all b around second (where_false v q) one.count in
-      MeetsIf (as_list one.ends ++ as_list two.ends) (meet (words b) v.hyps (as_list one.ends ++ as_list two.ends) two.count).ends
-  if_meets around v first second q m up pt =
-      let here = point_more m v.count q up pt in
-      let one = exec_all b around first (where_true v q) v.count in
-      let k = block_points b around first (where_true v q) v.count (with_point v.count q (assume v.hyps (formula v.term)) here) in
-      let two = exec_all b around second (where_false v q) one.count in
-      let l = block_points b around second (where_false v q) one.count (with_point one.count q (assume v.hyps (denied (formula v.term))) (point_more v.count one.count q k.grows here)) in
-      meets (words b) v.hyps (as_list one.ends ++ as_list two.ends) two.count two.count
-      (both_points two.count (as_list one.ends) (as_list two.ends) (list_points two.count one.ends (point_if_more one.count two.count one.ends l.grows k.ends)) (list_points two.count two.ends l.ends))
-
   -- ---- loops
 
   -- where the body of a loop begins
@@ -344,7 +330,7 @@ module _ (p : Program) (result : Option Ty) (b : Body Node) (c : Scope) where
         subst (Static kept (exec b around (numbered_stmt (IfStmt at e first second) k) q m) s) (sym i.is)
         (record {
           ends = joined_stands kept at one.ends two.ends i.one i.two i.env i.joined s1.ends s2.ends known2 (meet (words b) v.hyps (as_list one.ends ++ as_list two.ends) two.count).ends
-              (if_meets around v (numbered_block first (k + exprs_in e)) (numbered_block second (k + exprs_in e + exprs_in_block first)) q m up pt);
+              (if_meets b around v (numbered_block first (k + exprs_in e)) (numbered_block second (k + exprs_in e + exprs_in_block first)) q m up pt);
           breaks = s3.breaks;
           stay = s3.stay;
         })

@@ -27,8 +27,8 @@ use Rattle.wy_sound_programs.specs.Along.{Allowed, CodeReady, WhereGoes, PathRea
 use Rattle.wy_sound_programs.specs.Ways.{all_marked, WellMade, PathMade, Made, AllMade, IsClean, CleanBlocksAreReady, WalksFollowPaths}
 use Rattle.wy_sound_programs.proofs.SlotLemmas.{no_truth, apart_of, apart_back, same_or_apart, mark_same, mark_other}
 use Rattle.wy_sound_programs.proofs.MarkLemmas.{Meets, MeetsIf}
-use Rattle.wy_sound_programs.proofs.LoopLemmas.{clauses, inner, head, test, turn, met, head_marks, to_head, from_head, body_point, loop_meets}
-use Rattle.wy_sound_programs.proofs.StaticLemmas.{true_false, one_of_both, if_meets}
+use Rattle.wy_sound_programs.proofs.LoopLemmas.{if_meets, clauses, inner, head, test, turn, met, head_marks, to_head, from_head, body_point, loop_meets}
+use Rattle.wy_sound_programs.proofs.StaticLemmas.{true_false, one_of_both}
 
 -- ---- truths
 
@@ -57,23 +57,23 @@ abbrev NoUse : Through → ℕ → Type 0
 NoUse way x = (p : List Event) (at : ℕ) → way p → UsesUnset x at true p → ⊥
 
 no_left : (A B : Through) (x : ℕ) → Calm B → NoUse (Then A B) x → NoUse A x
-no_left A B x b no p at h u = no (p ++ b.some) at (p, b.some, refl, h, b.is_some) (uses_left x at true p b.some u)
+no_left A B x b bare p at h u = bare (p ++ b.some) at (p, b.some, refl, h, b.is_some) (uses_left x at true p b.some u)
 
 no_right : (A B : Through) (x : ℕ) → Calm A → NoUse (Then A B) x → NoUse B x
-no_right A B x a no p at h u = no (a.some ++ p) at (a.some, p, refl, a.is_some, h) (uses_right x at true a.some p (subst (λ (v : Bool). UsesUnset x at v p) (sym (behind_reads (Some x) true a.some a.reads)) u))
+no_right A B x a bare p at h u = bare (a.some ++ p) at (a.some, p, refl, a.is_some, h) (uses_right x at true a.some p (subst (λ (v : Bool). UsesUnset x at v p) (sym (behind_reads (Some x) true a.some a.reads)) u))
 
 no_maybe : (b : Bool) (A : Through) (x : ℕ) → NoUse (Maybe b A) x → NoUse A x
-no_maybe true A x no p at h u = no p at (inr h) u
-no_maybe false A x no p at h u = no p at h u
+no_maybe true A x bare p at h u = bare p at (inr h) u
+no_maybe false A x bare p at h u = bare p at h u
 
 -- behind it a value is given
 no_given : (A : Through) (x y : ℕ) → NoUse (Then A (One (Sets x))) y → NoUse A y
-no_given A x y no p at h u = no (p ++ Sets x ∷ []) at (p, Sets x ∷ [], refl, h, refl) (uses_left y at true p (Sets x ∷ []) u)
+no_given A x y bare p at h u = bare (p ++ Sets x ∷ []) at (p, Sets x ∷ [], refl, h, refl) (uses_left y at true p (Sets x ∷ []) u)
 
 -- one turn of a quantifier
 no_turn : (A : Through) (x y : ℕ) → (x == y) ≡ false → NoUse (AnyTimes (Then (One (Sets x)) A)) y → NoUse A y
-no_turn A x y apart no p at h u =
-    no (((Sets x ∷ []) ++ p) ++ []) at (suc zero, ((Sets x ∷ []) ++ p, [], refl, (Sets x ∷ [], p, refl, refl, h), refl))
+no_turn A x y apart bare p at h u =
+    bare (((Sets x ∷ []) ++ p) ++ []) at (suc zero, ((Sets x ∷ []) ++ p, [], refl, (Sets x ∷ [], p, refl, refl, h), refl))
     (subst (λ (b : Bool). UsesUnset y at (cond b false true) (p ++ [])) (sym (differs (same_or_apart y x))) (uses_left y at true p [] u))
   where
     differs : (y ≡ x) ⊎ ((y == x) ≡ false) → (y == x) ≡ false
@@ -90,31 +90,31 @@ with_one_old x seen y e = by (x == y) (seen y) e where
 
 mutual
   expr_ready : (r : Rules) (q : Bool) (n : ℕ) (all seen : ℕ → Bool) (e : Expr ℕ) → Ready r q n all e → ((x : ℕ) → seen x ≡ false → NoUse (λ p. ExprPath e p) x) → Ready r q n seen e
-  expr_ready r q n all seen (NullExpr at) h no = tt
-  expr_ready r q n all seen (BoolExpr at b) h no = tt
-  expr_ready r q n all seen (IntExpr at z) h no = h
-  expr_ready r q n all seen (VarExpr at x) h no = either (true_or_false (seen x)) (λ e. e) (λ e. absurd (no x e (Uses at x ∷ []) at refl (inl (refl, eqb_self x, refl))))
-  expr_ready r q n all seen (CallExpr at f es) h no = (h.0, h.1, exprs_ready r q n all seen es h.2 no)
-  expr_ready r q n all seen (NegExpr at a) h no = expr_ready r q n all seen a h no
-  expr_ready r q n all seen (NotExpr at a) h no = expr_ready r q n all seen a h no
-  expr_ready r q n all seen (LenExpr at a) h no = expr_ready r q n all seen a h no
-  expr_ready r q n all seen (BinaryExpr at o a b) h no = (
-    expr_ready r q n all seen a h.0 (λ x e. no_left (λ p. ExprPath a p) (Maybe (is_early o) (λ p. ExprPath b p)) x (calm_maybe (is_early o) (λ p. ExprPath b p) (calm_expr b)) (no x e)),
-    expr_ready r q n all seen b h.1 (λ x e. no_maybe (is_early o) (λ p. ExprPath b p) x (no_right (λ p. ExprPath a p) (Maybe (is_early o) (λ p. ExprPath b p)) x (calm_expr a) (no x e))),
+  expr_ready r q n all seen (NullExpr at) h bare = tt
+  expr_ready r q n all seen (BoolExpr at b) h bare = tt
+  expr_ready r q n all seen (IntExpr at z) h bare = h
+  expr_ready r q n all seen (VarExpr at x) h bare = either (true_or_false (seen x)) (λ e. e) (λ e. absurd (bare x e (Uses at x ∷ []) at refl (inl (refl, eqb_self x, refl))))
+  expr_ready r q n all seen (CallExpr at f es) h bare = (h.0, h.1, exprs_ready r q n all seen es h.2 bare)
+  expr_ready r q n all seen (NegExpr at a) h bare = expr_ready r q n all seen a h bare
+  expr_ready r q n all seen (NotExpr at a) h bare = expr_ready r q n all seen a h bare
+  expr_ready r q n all seen (LenExpr at a) h bare = expr_ready r q n all seen a h bare
+  expr_ready r q n all seen (BinaryExpr at o a b) h bare = (
+    expr_ready r q n all seen a h.0 (λ x e. no_left (λ p. ExprPath a p) (Maybe (is_early o) (λ p. ExprPath b p)) x (calm_maybe (is_early o) (λ p. ExprPath b p) (calm_expr b)) (bare x e)),
+    expr_ready r q n all seen b h.1 (λ x e. no_maybe (is_early o) (λ p. ExprPath b p) x (no_right (λ p. ExprPath a p) (Maybe (is_early o) (λ p. ExprPath b p)) x (calm_expr a) (bare x e))),
   )
-  expr_ready r q n all seen (IsExpr at a t) h no = (h.0, expr_ready r q n all seen a h.1 no)
-  expr_ready r q n all seen (IndexExpr at a b) h no = (
-    expr_ready r q n all seen a h.0 (λ x e. no_left (λ p. ExprPath a p) (λ p. ExprPath b p) x (calm_expr b) (no x e)),
-    expr_ready r q n all seen b h.1 (λ x e. no_right (λ p. ExprPath a p) (λ p. ExprPath b p) x (calm_expr a) (no x e)),
+  expr_ready r q n all seen (IsExpr at a t) h bare = (h.0, expr_ready r q n all seen a h.1 bare)
+  expr_ready r q n all seen (IndexExpr at a b) h bare = (
+    expr_ready r q n all seen a h.0 (λ x e. no_left (λ p. ExprPath a p) (λ p. ExprPath b p) x (calm_expr b) (bare x e)),
+    expr_ready r q n all seen b h.1 (λ x e. no_right (λ p. ExprPath a p) (λ p. ExprPath b p) x (calm_expr a) (bare x e)),
   )
-  expr_ready r q n all seen (FieldExpr at a name) h no = expr_ready r q n all seen a h no
-  expr_ready r q n all seen (ListExpr at es) h no = (h.0, exprs_ready r q n all seen es h.1 no)
-  expr_ready r q n all seen (RepeatExpr at a b) h no = (
-    expr_ready r q n all seen a h.0 (λ x e. no_left (λ p. ExprPath a p) (λ p. ExprPath b p) x (calm_expr b) (no x e)),
-    expr_ready r q n all seen b h.1 (λ x e. no_right (λ p. ExprPath a p) (λ p. ExprPath b p) x (calm_expr a) (no x e)),
+  expr_ready r q n all seen (FieldExpr at a name) h bare = expr_ready r q n all seen a h bare
+  expr_ready r q n all seen (ListExpr at es) h bare = (h.0, exprs_ready r q n all seen es h.1 bare)
+  expr_ready r q n all seen (RepeatExpr at a b) h bare = (
+    expr_ready r q n all seen a h.0 (λ x e. no_left (λ p. ExprPath a p) (λ p. ExprPath b p) x (calm_expr b) (bare x e)),
+    expr_ready r q n all seen b h.1 (λ x e. no_right (λ p. ExprPath a p) (λ p. ExprPath b p) x (calm_expr a) (bare x e)),
   )
-  expr_ready r q n all seen (RecordExpr at fs) h no = (h.0, fields_ready r q n all seen fs h.1 no)
-  expr_ready r q n all seen (QuantExpr at every v a b body) h no =
+  expr_ready r q n all seen (RecordExpr at fs) h bare = (h.0, fields_ready r q n all seen fs h.1 bare)
+  expr_ready r q n all seen (QuantExpr at every v a b body) h bare =
       let A : Through = λ p. ExprPath a p in
       let B : Through = λ p. ExprPath b p in
       let C : Through = λ p. ExprPath body p in
@@ -122,40 +122,40 @@ mutual
       let calm_turns : Calm T = calm_times (Then (One (Sets v)) C) (then_quiet (One (Sets v)) C (set_quiet v) (calm_expr body).quiet) in
       (
         h.0,
-        expr_ready r q n all seen a h.1 (λ x e. no_left A (Then B T) x (calm_then B T (calm_expr b) calm_turns) (no x e)),
-        expr_ready r q n all seen b h.2 (λ x e. no_left B T x calm_turns (no_right A (Then B T) x (calm_expr a) (no x e))),
+        expr_ready r q n all seen a h.1 (λ x e. no_left A (Then B T) x (calm_then B T (calm_expr b) calm_turns) (bare x e)),
+        expr_ready r q n all seen b h.2 (λ x e. no_left B T x calm_turns (no_right A (Then B T) x (calm_expr a) (bare x e))),
         expr_ready r true n (with_one v all) (with_one v seen) body h.3
-            (λ x e. let o = with_one_old v seen x e in no_turn C v x o.0 (no_right B T x (calm_expr b) (no_right A (Then B T) x (calm_expr a) (no x o.1)))),
+            (λ x e. let o = with_one_old v seen x e in no_turn C v x o.0 (no_right B T x (calm_expr b) (no_right A (Then B T) x (calm_expr a) (bare x o.1)))),
       )
 
   exprs_ready : (r : Rules) (q : Bool) (n : ℕ) (all seen : ℕ → Bool) (es : Exprs ℕ) → AllReady r q n all es → ((x : ℕ) → seen x ≡ false → NoUse (λ p. ExprsPath es p) x) → AllReady r q n seen es
-  exprs_ready r q n all seen NoExprs h no = tt
-  exprs_ready r q n all seen (MoreExprs e es) h no = (
-    expr_ready r q n all seen e h.0 (λ x o. no_left (λ p. ExprPath e p) (λ p. ExprsPath es p) x (calm_exprs es) (no x o)),
-    exprs_ready r q n all seen es h.1 (λ x o. no_right (λ p. ExprPath e p) (λ p. ExprsPath es p) x (calm_expr e) (no x o)),
+  exprs_ready r q n all seen NoExprs h bare = tt
+  exprs_ready r q n all seen (MoreExprs e es) h bare = (
+    expr_ready r q n all seen e h.0 (λ x o. no_left (λ p. ExprPath e p) (λ p. ExprsPath es p) x (calm_exprs es) (bare x o)),
+    exprs_ready r q n all seen es h.1 (λ x o. no_right (λ p. ExprPath e p) (λ p. ExprsPath es p) x (calm_expr e) (bare x o)),
   )
 
   fields_ready : (r : Rules) (q : Bool) (n : ℕ) (all seen : ℕ → Bool) (fs : Fields ℕ) → FieldsReady r q n all fs → ((x : ℕ) → seen x ≡ false → NoUse (λ p. FieldsPath fs p) x) → FieldsReady r q n seen fs
-  fields_ready r q n all seen NoFields h no = tt
-  fields_ready r q n all seen (MoreFields name e fs) h no = (
-    expr_ready r q n all seen e h.0 (λ x o. no_left (λ p. ExprPath e p) (λ p. FieldsPath fs p) x (calm_fields fs) (no x o)),
-    fields_ready r q n all seen fs h.1 (λ x o. no_right (λ p. ExprPath e p) (λ p. FieldsPath fs p) x (calm_expr e) (no x o)),
+  fields_ready r q n all seen NoFields h bare = tt
+  fields_ready r q n all seen (MoreFields name e fs) h bare = (
+    expr_ready r q n all seen e h.0 (λ x o. no_left (λ p. ExprPath e p) (λ p. FieldsPath fs p) x (calm_fields fs) (bare x o)),
+    fields_ready r q n all seen fs h.1 (λ x o. no_right (λ p. ExprPath e p) (λ p. FieldsPath fs p) x (calm_expr e) (bare x o)),
   )
 
 pub all_clauses_ready : (r : Rules) (n : ℕ) (all seen : ℕ → Bool) (es : List (Expr ℕ)) → ClausesReady r n all es → ((x : ℕ) → seen x ≡ false → NoUse (ClausesPath es) x) → ClausesReady r n seen es
-all_clauses_ready r n all seen [] h no = tt
-all_clauses_ready r n all seen (e ∷ es) h no = (
-  expr_ready r true n all seen e h.0 (λ x o. no_left (λ p. ExprPath e p) (ClausesPath es) x (calm_clauses es) (no x o)),
-  all_clauses_ready r n all seen es h.1 (λ x o. no_right (λ p. ExprPath e p) (ClausesPath es) x (calm_expr e) (no x o)),
+all_clauses_ready r n all seen [] h bare = tt
+all_clauses_ready r n all seen (e ∷ es) h bare = (
+  expr_ready r true n all seen e h.0 (λ x o. no_left (λ p. ExprPath e p) (ClausesPath es) x (calm_clauses es) (bare x o)),
+  all_clauses_ready r n all seen es h.1 (λ x o. no_right (λ p. ExprPath e p) (ClausesPath es) x (calm_expr e) (bare x o)),
 )
 
 path_ready : (a : Allowed) (q : Spot) (path : List (Step ℕ)) → PathMade a path → ((x : ℕ) → is_set q.set x ≡ false → NoUse (StepsPath path) x) → PathReady a q path
-path_ready a q [] h no = tt
-path_ready a q (IndexStep at e ∷ steps) h no = (
-  expr_ready a.rules false a.many all_marked (is_set q.set) e h.0 (λ x o. no_left (StepPath (IndexStep at e)) (StepsPath steps) x (calm_steps steps) (no x o)),
-  path_ready a q steps h.1 (λ x o. no_right (StepPath (IndexStep at e)) (StepsPath steps) x (calm_step (IndexStep at e)) (no x o)),
+path_ready a q [] h bare = tt
+path_ready a q (IndexStep at e ∷ steps) h bare = (
+  expr_ready a.rules false a.many all_marked (is_set q.set) e h.0 (λ x o. no_left (StepPath (IndexStep at e)) (StepsPath steps) x (calm_steps steps) (bare x o)),
+  path_ready a q steps h.1 (λ x o. no_right (StepPath (IndexStep at e)) (StepsPath steps) x (calm_step (IndexStep at e)) (bare x o)),
 )
-path_ready a q (FieldStep at name ∷ steps) h no = path_ready a q steps h (λ x o. no_right (StepPath (FieldStep at name)) (StepsPath steps) x (calm_step (FieldStep at name)) (no x o))
+path_ready a q (FieldStep at name ∷ steps) h bare = path_ready a q steps h (λ x o. no_right (StepPath (FieldStep at name)) (StepsPath steps) x (calm_step (FieldStep at name)) (bare x o))
 
 -- ---- statements
 
@@ -177,7 +177,7 @@ record Ways (C : Course) (f : Flow) (set : List Bool) : Type 0 where
 
 -- no way behind
 no_way : (C : Course) (n : ℕ) (set : List Bool) (f : Flow) → f.ends ≡ None → f.breaks ≡ [] → Ways C f set
-no_way C n set f none no = record { ends = subst (λ (o : Option Spot). EndWay C o set) (sym none) tt; breaks = λ r o x. absurd (subst (λ (l : List Spot). IsOne r l) no o) }
+no_way C n set f none bare = record { ends = subst (λ (o : Option Spot). EndWay C o set) (sym none) tt; breaks = λ r o x. absurd (subst (λ (l : List Spot). IsOne r l) bare o) }
 
 -- events that are uses alone
 reads_way : (x : ℕ) (set : List Bool) (p : List Event) → Reads p → is_set set x ≡ false → unset_behind x (not (is_set set x)) p ≡ true
@@ -296,19 +296,19 @@ module _ (b : Body Node) where
 
   -- one end, behind events that are uses alone
   reads_ways : (A : Through) (f : Flow) (set : List Bool) → Calm A → SameMarks f.ends set → f.breaks ≡ [] → Ways (Ending Falls A) f set
-  reads_ways A f set a same no = record { ends = by f.ends same; breaks = λ r o x. absurd (subst (λ (l : List Spot). IsOne r l) no o) } where
+  reads_ways A f set a same bare = record { ends = by f.ends same; breaks = λ r o x. absurd (subst (λ (l : List Spot). IsOne r l) bare o) } where
     by : (o : Option Spot) → SameMarks o set → EndWay (Ending Falls A) o set
     by None s = tt
     by (Some r) s = λ x. (a.some, (refl, a.is_some), λ off. reads_way x set a.some a.reads (s x off))
 
   given_ways : (A : Through) (x : ℕ) (f : Flow) (set : List Bool) → Calm A → SetMarks f.ends set x → f.breaks ≡ [] → Ways (Ending Falls (Then A (One (Sets x)))) f set
-  given_ways A x f set a same no = record { ends = by f.ends same; breaks = λ r o y. absurd (subst (λ (l : List Spot). IsOne r l) no o) } where
+  given_ways A x f set a same bare = record { ends = by f.ends same; breaks = λ r o y. absurd (subst (λ (l : List Spot). IsOne r l) bare o) } where
     by : (o : Option Spot) → SetMarks o set x → EndWay (Ending Falls (Then A (One (Sets x)))) o set
     by None s = tt
     by (Some r) s = λ y. (a.some ++ Sets x ∷ [], (refl, (a.some, Sets x ∷ [], refl, a.is_some, refl)), λ off. set_way x y set a.some a.reads (s y off))
 
   unset_ways : (x : ℕ) (f : Flow) (set : List Bool) → UnsetMarks f.ends set x → f.breaks ≡ [] → Ways (Ending Falls (One (Unsets x))) f set
-  unset_ways x f set same no = record { ends = by f.ends same; breaks = λ r o y. absurd (subst (λ (l : List Spot). IsOne r l) no o) } where
+  unset_ways x f set same bare = record { ends = by f.ends same; breaks = λ r o y. absurd (subst (λ (l : List Spot). IsOne r l) bare o) } where
     by : (o : Option Spot) → UnsetMarks o set x → EndWay (Ending Falls (One (Unsets x))) o set
     by None s = tt
     by (Some r) s = λ y. (Unsets x ∷ [], (refl, refl), λ off. unset_way x y set (s y off))
@@ -392,7 +392,7 @@ module _ (b : Body Node) where
   module _ (a : Allowed) where
     -- an expression, of which no path uses a variable that isn't marked
     code_ready : (q : Spot) (e : Expr ℕ) → WellMade a false e → ((x : ℕ) → is_set q.set x ≡ false → NoUse (λ p. ExprPath e p) x) → CodeReady a q e
-    code_ready q e h no = expr_ready a.rules false a.many all_marked (is_set q.set) e h no
+    code_ready q e h bare = expr_ready a.rules false a.many all_marked (is_set q.set) e h bare
 
     -- from the state before
     at_unset : (C : Course) (x : ℕ) (set : List Bool) → Clean C x (not (is_set set x)) → is_set set x ≡ false → Clean C x true
@@ -441,33 +441,33 @@ module _ (b : Body Node) where
 
     mutual
       ready : (around : List (Expr Node)) (st : Stmt ℕ) (k : ℕ) (q : Spot) (m : ℕ) → Point m q → Made a st → ((x : ℕ) → Clean (λ p end. StmtPath st p end) x (not (is_set q.set x))) → ReadyAlong a b around st k q m
-      ready around (DeclareStmt at t x None) k q m pt h no = tt
-      ready around (DeclareStmt at t x (Some e)) k q m pt h no =
+      ready around (DeclareStmt at t x None) k q m pt h bare = tt
+      ready around (DeclareStmt at t x (Some e)) k q m pt h bare =
           let A : Through = λ p. ExprPath e p in
-          code_ready q e h (λ y off. no_given A x y (ended Falls (Then A (One (Sets x))) y (at_unset (λ p end. StmtPath (DeclareStmt at t x (Some e)) p end) y q.set (no y) off)))
-      ready around (AssignStmt at x [] e) k q m pt h no =
+          code_ready q e h (λ y off. no_given A x y (ended Falls (Then A (One (Sets x))) y (at_unset (λ p end. StmtPath (DeclareStmt at t x (Some e)) p end) y q.set (bare y) off)))
+      ready around (AssignStmt at x [] e) k q m pt h bare =
           let A : Through = λ p. ExprPath e p in
-          code_ready q e h.1 (λ y off. no_given A x y (ended Falls (Then A (One (Sets x))) y (at_unset (λ p end. StmtPath (AssignStmt at x [] e) p end) y q.set (no y) off)))
-      ready around (AssignStmt at x (step ∷ steps) e) k q m pt h no =
+          code_ready q e h.1 (λ y off. no_given A x y (ended Falls (Then A (One (Sets x))) y (at_unset (λ p end. StmtPath (AssignStmt at x [] e) p end) y q.set (bare y) off)))
+      ready around (AssignStmt at x (step ∷ steps) e) k q m pt h bare =
           let A : Through = One (Uses at x) in
           let B : Through = StepsPath (step ∷ steps) in
           let C : Through = λ p. ExprPath e p in
-          let whole : (y : ℕ) → is_set q.set y ≡ false → NoUse (Then A (Then B C)) y = λ y off. ended Falls (Then A (Then B C)) y (at_unset (λ p end. StmtPath (AssignStmt at x (step ∷ steps) e) p end) y q.set (no y) off) in
+          let whole : (y : ℕ) → is_set q.set y ≡ false → NoUse (Then A (Then B C)) y = λ y off. ended Falls (Then A (Then B C)) y (at_unset (λ p end. StmtPath (AssignStmt at x (step ∷ steps) e) p end) y q.set (bare y) off) in
           (
             either (true_or_false (is_set q.set x)) (λ on. on) (λ off. absurd (no_left A (Then B C) x (calm_then B C (calm_steps (step ∷ steps)) (calm_expr e)) (whole x off) (Uses at x ∷ []) at refl (inl (refl, eqb_self x, refl)))),
             path_ready a q (step ∷ steps) h.0 (λ y off. no_left B C y (calm_expr e) (no_right A (Then B C) y (calm_one at x) (whole y off))),
             code_ready q e h.1 (λ y off. no_right B C y (calm_steps (step ∷ steps)) (no_right A (Then B C) y (calm_one at x) (whole y off))),
           )
-      ready around (CallStmt at f es) k q m pt h no =
-          (exprs_ready a.rules false a.many all_marked (is_set q.set) es h.0 (λ y off. ended Falls (λ p. ExprsPath es p) y (at_unset (λ p end. StmtPath (CallStmt at f es) p end) y q.set (no y) off)), h.1)
-      ready around (ReturnStmt at None) k q m pt h no = tt
-      ready around (ReturnStmt at (Some e)) k q m pt h no = code_ready q e h (λ y off. ended Leaves (λ p. ExprPath e p) y (at_unset (λ p end. StmtPath (ReturnStmt at (Some e)) p end) y q.set (no y) off))
-      ready around (AssertStmt at e) k q m pt h no = expr_ready a.rules true a.many all_marked (is_set q.set) e h (λ y off. ended Falls (λ p. ExprPath e p) y (at_unset (λ p end. StmtPath (AssertStmt at e) p end) y q.set (no y) off))
-      ready around (BreakStmt at) k q m pt h no = tt
-      ready around (ContinueStmt at) k q m pt h no = tt
-      ready around (SkipStmt at) k q m pt h no = tt
-      ready around (FailStmt at) k q m pt h no = tt
-      ready around (IfStmt at e first second) k q m pt h no =
+      ready around (CallStmt at f es) k q m pt h bare =
+          (exprs_ready a.rules false a.many all_marked (is_set q.set) es h.0 (λ y off. ended Falls (λ p. ExprsPath es p) y (at_unset (λ p end. StmtPath (CallStmt at f es) p end) y q.set (bare y) off)), h.1)
+      ready around (ReturnStmt at None) k q m pt h bare = tt
+      ready around (ReturnStmt at (Some e)) k q m pt h bare = code_ready q e h (λ y off. ended Leaves (λ p. ExprPath e p) y (at_unset (λ p end. StmtPath (ReturnStmt at (Some e)) p end) y q.set (bare y) off))
+      ready around (AssertStmt at e) k q m pt h bare = expr_ready a.rules true a.many all_marked (is_set q.set) e h (λ y off. ended Falls (λ p. ExprPath e p) y (at_unset (λ p end. StmtPath (AssertStmt at e) p end) y q.set (bare y) off))
+      ready around (BreakStmt at) k q m pt h bare = tt
+      ready around (ContinueStmt at) k q m pt h bare = tt
+      ready around (SkipStmt at) k q m pt h bare = tt
+      ready around (FailStmt at) k q m pt h bare = tt
+      ready around (IfStmt at e first second) k q m pt h bare =
           let k1 = k + exprs_in e in
           let k2 = k + exprs_in e + exprs_in_block first in
           let b1 = numbered_block first k1 in
@@ -482,36 +482,36 @@ module _ (b : Body Node) where
           let C2 : Course = λ p end. StmtsPath second p end in
           let s1 = some_paths first in
           (
-            code_ready q e h.0 (λ y off. before_first A (Either C1 C2) y s1.0 s1.1 (inl s1.2) (at_unset (λ p end. StmtPath (IfStmt at e first second) p end) y q.set (no y) off)),
-            all_ready around first k1 (where_true v q) v.count pt1 h.1 (λ y p end i w us. before_second A (Either C1 C2) y (not (is_set q.set y)) (calm_expr e) (no y) p end i (inl w) us),
-            all_ready around second k2 (where_false v q) one.count pt2 h.2 (λ y p end i w us. before_second A (Either C1 C2) y (not (is_set q.set y)) (calm_expr e) (no y) p end i (inr w) us),
+            code_ready q e h.0 (λ y off. before_first A (Either C1 C2) y s1.0 s1.1 (inl s1.2) (at_unset (λ p end. StmtPath (IfStmt at e first second) p end) y q.set (bare y) off)),
+            all_ready around first k1 (where_true v q) v.count pt1 h.1 (λ y p end i w us. before_second A (Either C1 C2) y (not (is_set q.set y)) (calm_expr e) (bare y) p end i (inl w) us),
+            all_ready around second k2 (where_false v q) one.count pt2 h.2 (λ y p end i w us. before_second A (Either C1 C2) y (not (is_set q.set y)) (calm_expr e) (bare y) p end i (inr w) us),
           )
-      ready around (WhileStmt at e invariants body) k q m pt h no =
+      ready around (WhileStmt at e invariants body) k q m pt h bare =
           let H : Through = Then (ClausesPath invariants) (λ p. ExprPath e p) in
           let C : Course = λ p end. StmtsPath body p end in
           let calm : Calm H = calm_then (ClausesPath invariants) (λ p. ExprPath e p) (calm_clauses invariants) (calm_expr e) in
           let v = test b at e invariants body k q m in
           let marks = head_marks b at e invariants body k q m in
-          let first : (y : ℕ) → is_set q.set y ≡ false → NoUse H y = λ y off p i w us. at_unset (Loop H C) y q.set (no y) off p Falls i (zero, (refl, w)) us in
+          let first : (y : ℕ) → is_set q.set y ≡ false → NoUse H y = λ y off p i w us. at_unset (Loop H C) y q.set (bare y) off p Falls i (zero, (refl, w)) us in
           (
             all_clauses_ready a.rules a.many all_marked (is_set q.set) invariants h.0 (λ y off. no_left (ClausesPath invariants) (λ p. ExprPath e p) y (calm_expr e) (first y off)),
             code_ready q e h.1 (λ y off. no_right (ClausesPath invariants) (λ p. ExprPath e p) y (calm_clauses invariants) (first y off)),
             all_ready (clauses b at e invariants body k q m) body (k + exprs_in e + exprs_in_list invariants) (where_true v (head b at e invariants body k q m).spot) v.count (body_point b at e invariants body k q m pt) h.2
-                (λ y. subst (λ (l : List Bool). Clean C y (not (is_set l y))) (sym marks) (loop_body H C y (not (is_set q.set y)) calm (no y))),
+                (λ y. subst (λ (l : List Bool). Clean C y (not (is_set l y))) (sym marks) (loop_body H C y (not (is_set q.set y)) calm (bare y))),
           )
 
       all_ready : (around : List (Expr Node)) (block : Stmts ℕ) (k : ℕ) (q : Spot) (m : ℕ) → Point m q → AllMade a block → ((x : ℕ) → Clean (λ p end. StmtsPath block p end) x (not (is_set q.set x))) → AllReadyAlong a b around block k q m
-      all_ready around NoStmts k q m pt h no = tt
-      all_ready around (MoreStmts first rest) k q m pt h no =
+      all_ready around NoStmts k q m pt h bare = tt
+      all_ready around (MoreStmts first rest) k q m pt h bare =
           let one = exec b around (numbered_stmt first k) q m in
           let points = statement_points b around (numbered_stmt first k) q m pt in
           let C : Course = λ p end. StmtPath first p end in
           let D : Course = λ p end. StmtsPath rest p end in
           let w = way around first k q m pt in
           (
-            ready around first k q m pt h.0 (λ x. in_order_first C rest x (not (is_set q.set x)) (no x)),
+            ready around first k q m pt h.0 (λ x. in_order_first C rest x (not (is_set q.set x)) (bare x)),
             follows around rest (k + exprs_in_stmt first) one.count one.ends points.ends
-                (λ r is ptr. all_ready around rest (k + exprs_in_stmt first) r one.count ptr h.1 (λ x. in_order_second C D x q.set r.set (end_at C q.set one.ends r is w.ends x) (no x))),
+                (λ r is ptr. all_ready around rest (k + exprs_in_stmt first) r one.count ptr h.1 (λ x. in_order_second C D x q.set r.set (end_at C q.set one.ends r is w.ends x) (bare x))),
           )
 
 as_point_of : (q : Spot) (m : ℕ) → AreValTerms q.vars → IsPoint m q → Point m q

@@ -8,3 +8,7 @@ pub mod Once
 pub mod Along
 -- typed blocks meet what is asked of a run
 pub mod Typed
+-- blocks of which no path uses a variable without a value
+pub mod Ways
+-- bodies and contracts of formed programs
+pub mod FormedBodies
