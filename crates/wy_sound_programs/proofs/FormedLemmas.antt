@@ -204,6 +204,6 @@ module _ (o : Offers) (a : Allowed) (offers : Offering o a) where
 
 pub formed_made : FormedBodiesAreMade
 formed_made = record {
-  body = λ o a around vs P ss offers b calls i quiet small. block o a offers ss around vs P b calls i quiet small;
+  body = λ o a around vs method ss offers b calls i quiet small. block o a offers ss around vs (MayCall o method) b calls i quiet small;
   clauses = λ o a vs es offers b calls i small. all_clauses o a offers es vs b calls i small;
 }

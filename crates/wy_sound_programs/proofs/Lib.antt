@@ -18,3 +18,5 @@ pub mod SuitLemmas
 pub mod OnceLemmas
 pub mod WayLemmas
 pub mod FormedLemmas
+pub mod EntryLemmas
+pub mod BeginLemmas

@@ -11,7 +11,7 @@ use Rattle.wy_formed.specs.Offers.{Offers}
 use Rattle.wy_formed.specs.Bound as bound
 use Rattle.wy_formed.specs.Bound.{Around, looped, behind, with_params, BoundStmt, BoundStmts, BoundParams, BoundRoutine}
 use Rattle.wy_sound_programs.specs.Scopes.{Scope, declares, declares_in, Scoped, AllScoped}
-use Rattle.wy_sound_programs.specs.Once.{Once, AllOnce, OnceRoutine, routine_scope, RoutinesAreScoped}
+use Rattle.wy_sound_programs.specs.Once.{Once, AllOnce, OnceRoutine, routine_scope, ParamsScoped, RoutinesAreScoped}
 use Rattle.wy_sound_programs.proofs.SlotLemmas.{no_slot, same_slot, same_or_apart, apart_of, slot_put, slot_other}
 
 -- ---- declarations last
@@ -200,11 +200,39 @@ params_on o n (p ∷ ps) vs slots ts b h =
 none_params : (names : List (List ℕ)) → Params [] [] (any_types names) (length names)
 none_params names = record { many = any_length names; agrees = λ x t e. no_slot t e; known = λ x i. absurd i; few = λ x i. absurd i; scoped = λ x t e. no_slot t e }
 
+-- a parameter stays declared behind others
+params_keep : (o : Offers) (n : ℕ) (ps : List Param) (vs : bound.Scope) (slots : List (Option Ty)) (x : ℕ) (t : Ty) → BoundParams o n vs ps → bound.Has vs x → slot_at slots x ≡ Some t → slot_at (declared_params slots ps) x ≡ Some t
+params_keep o n [] vs slots x t b h e = e
+params_keep o n (p ∷ ps) vs slots x t b h e =
+    params_keep o n ps (p.variable ∷ vs) (put_slot slots p.variable p.ty) x t b.2 (inr h) (slot_other slots p.variable p.ty x (λ q. b.1.1 (subst (bound.Has vs) (sym q) h)) ∙ e)
+
+params_scoped : (o : Offers) (c : Scope) (ps : List Param) (vs : bound.Scope) (slots : List (Option Ty)) → BoundParams o c.many vs ps → ((x : ℕ) (t : Ty) → slot_at (declared_params slots ps) x ≡ Some t → type_at c.types x ≡ t) → ParamsScoped c ps
+params_scoped o c [] vs slots b ends = tt
+params_scoped o c (p ∷ ps) vs slots b ends = (
+  b.1.0,
+  ends p.variable p.ty (params_keep o c.many ps (p.variable ∷ vs) (put_slot slots p.variable p.ty) p.variable p.ty b.2 (inl refl) (slot_put slots p.variable p.ty)),
+  params_scoped o c ps (p.variable ∷ vs) (put_slot slots p.variable p.ty) b.2 ends,
+)
+
+module _ (o : Offers) (r : Routine ℕ) (b : BoundRoutine o r) (once : OnceRoutine r) where
+  abbrev slots : List (Option Ty)
+  slots = declared_params [] r.params
+
+  abbrev around : Around
+  around = record { in_loop = false; has_result = is_some r.result }
+
+  entered : Params (with_params [] r.params) slots (param_types r.params (any_types r.variables)) (length r.variables)
+  entered = params_on o (length r.variables) r.params [] [] (any_types r.variables) b.params (none_params r.variables)
+
+  -- what is declared at the end has the types of the conditions
+  ended : (x : ℕ) (t : Ty) → slot_at (declares_in r.body slots) x ≡ Some t → type_at (types_of r) x ≡ t
+  ended x t e = ((all_agree o (length r.variables) r.body around (with_params [] r.params) slots (param_types r.params (any_types r.variables)) b.body entered.many entered.agrees).0 x t e).1
+
+  body_scoped : AllScoped (routine_scope r) slots r.body
+  body_scoped = all_scoped o (routine_scope r) r.body around (with_params [] r.params) slots refl b.body once entered.known ended entered.few
+
+  all_params : ParamsScoped (routine_scope r) r.params
+  all_params = params_scoped o (routine_scope r) r.params [] [] b.params (λ x t e. ended x t (all_last r.body slots x t once e))
+
 pub routines_scoped : RoutinesAreScoped
-routines_scoped o r b once =
-    let n = length r.variables in
-    let h = params_on o n r.params [] [] (any_types r.variables) b.params (none_params r.variables) in
-    let slots = declared_params [] r.params in
-    let a : Around = record { in_loop = false; has_result = is_some r.result } in
-    let last = all_agree o n r.body a (with_params [] r.params) slots (param_types r.params (any_types r.variables)) b.body h.many h.agrees in
-    all_scoped o (routine_scope r) r.body a (with_params [] r.params) slots refl b.body once h.known (λ x t e. (last.0 x t e).1) h.few
+routines_scoped = record { body = body_scoped; params = all_params }

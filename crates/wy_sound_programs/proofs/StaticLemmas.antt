@@ -95,7 +95,7 @@ module _ (p : Program) (result : Option Ty) (b : Body Node) (c : Scope) where
   -- ---- values that come into variables
 
   -- the variable is marked or not, and has a type
-  put_stands : (kept : ℕ → Bool) (q : Spot) (s : State) (x : ℕ) (v : Bool) (made : Ty) (env : Environment) (declared : List (Option Ty)) (r : Spot) (flow : List Ty) (set : r.set ≡ mark q.set x v) → Stands c.types kept q s → env ≡ given s.env x made
+  pub put_stands : (kept : ℕ → Bool) (q : Spot) (s : State) (x : ℕ) (v : Bool) (made : Ty) (env : Environment) (declared : List (Option Ty)) (r : Spot) (flow : List Ty) (set : r.set ≡ mark q.set x v) → Stands c.types kept q s → env ≡ given s.env x made
       → slot_at declared x ≡ Some (type_at c.types x) → ((y : ℕ) → (x ≡ y → ⊥) → slot_at declared y ≡ slot_at s.declared y) → (kept x ≡ true → v ≡ true)
       → Stands c.types kept r (record { env = env; declared = declared; breaks = s.breaks; flow = flow })
   put_stands kept q s x v made env declared r flow set h is known others on = record {

@@ -1,10 +1,10 @@
 -- Bodies and contracts of formed programs are such as the kinds of expressions ask for.
-use Rattle.std.specs.Prelude.{◌≡◌, ℕ, List, true}
+use Rattle.std.specs.Prelude.{◌≡◌, ℕ, Bool, List, true, false}
 use Rattle.wy_core.specs.Types.{Ty}
 use Rattle.wy_core.specs.CoreTree.{Expr, Stmts}
 use Rattle.wy_formed.specs.Offers.{Offers, IsCall}
 use Rattle.wy_formed.specs.Bound.{Scope, Around, BoundTy, BoundClauses, BoundStmts}
-use Rattle.wy_formed.specs.Calls.{Nothing, CallsClauses, CallsStmts}
+use Rattle.wy_formed.specs.Calls.{Nothing, MayCall, CallsClauses, CallsStmts}
 use Rattle.wy_formed.specs.Literals.{IntsClauses, IntsStmts}
 use Rattle.wy_formed.specs.Sizes.{IsSmall}
 use Rattle.wy_formed.specs.Wholes.{IsQuiet, EachClause, EachWholeIn}
@@ -19,5 +19,5 @@ pub record Offering (o : Offers) (a : Allowed) : Type 0 where
   pub stated : (f n : ℕ) → IsCall o false f n → a.statements f n ≡ true
 
 pub record FormedBodiesAreMade : Type 0 where
-  pub body : (o : Offers) (a : Allowed) (around : Around) (vs : Scope) (P : ℕ → Type 0) (block : Stmts ℕ) → Offering o a → BoundStmts o a.many around vs block → CallsStmts P block → IntsStmts block → EachWholeIn IsQuiet block → EachWholeIn IsSmall block → AllMade a block
+  pub body : (o : Offers) (a : Allowed) (around : Around) (vs : Scope) (method : Bool) (block : Stmts ℕ) → Offering o a → BoundStmts o a.many around vs block → CallsStmts (MayCall o method) block → IntsStmts block → EachWholeIn IsQuiet block → EachWholeIn IsSmall block → AllMade a block
   pub clauses : (o : Offers) (a : Allowed) (vs : Scope) (es : List (Expr ℕ)) → Offering o a → BoundClauses o a.many vs es → CallsClauses Nothing es → IntsClauses es → EachClause IsSmall es → ClausesReady a.rules a.many all_marked es

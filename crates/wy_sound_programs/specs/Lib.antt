@@ -12,3 +12,5 @@ pub mod Typed
 pub mod Ways
 -- bodies and contracts of formed programs
 pub mod FormedBodies
+-- where bodies begin, and how they end
+pub mod Entries

@@ -1,9 +1,10 @@
 -- Functions and methods whose variables are each declared once.
-use Rattle.std.specs.Prelude.{◌≡◌, ℕ, List, [], length, Option, Some, None, is_some}
+use Rattle.std.specs.Prelude.{◌≡◌, ℕ, ◌<◌, List, [], ◌∷◌, length, Option, Some, None, is_some}
 use Rattle.wy_core.specs.Types.{Ty}
-use Rattle.wy_core.specs.CoreTree.{Routine, Stmt, DeclareStmt, AssignStmt, CallStmt, ReturnStmt, AssertStmt, BreakStmt, ContinueStmt, SkipStmt, FailStmt, IfStmt, WhileStmt, Stmts, NoStmts, MoreStmts}
+use Rattle.wy_core.specs.CoreTree.{Param, Routine, Stmt, DeclareStmt, AssignStmt, CallStmt, ReturnStmt, AssertStmt, BreakStmt, ContinueStmt, SkipStmt, FailStmt, IfStmt, WhileStmt, Stmts, NoStmts, MoreStmts}
 use Rattle.wy_environment.specs.Slots.{slot_at}
 use Rattle.wy_typing.specs.Programs.{declared_params}
+use Rattle.wy_sem.specs.Statements.{type_at}
 use Rattle.wy_sem.specs.Evaluation.{types_of}
 use Rattle.wy_formed.specs.Offers.{Offers}
 use Rattle.wy_formed.specs.Bound.{BoundRoutine}
@@ -36,6 +37,12 @@ OnceRoutine r = AllOnce (declared_params [] r.params) r.body
 abbrev pub routine_scope : Routine ℕ → Scope
 routine_scope r = record { types = types_of r; many = length r.variables; has_result = is_some r.result }
 
+-- parameters are variables of these types
+abbrev pub ParamsScoped : Scope → List Param → Type 0
+ParamsScoped c [] = Unit {0}
+ParamsScoped c (p ∷ ps) = (p.variable < c.many) × (type_at c.types p.variable ≡ p.ty) × ParamsScoped c ps
+
 -- where names lead where they should and each variable is declared once, variables are declared before they are assigned, and have the types that the conditions have for them
-abbrev pub RoutinesAreScoped : Type 0
-RoutinesAreScoped = (o : Offers) (r : Routine ℕ) → BoundRoutine o r → OnceRoutine r → AllScoped (routine_scope r) (declared_params [] r.params) r.body
+pub record RoutinesAreScoped : Type 0 where
+  pub body : (o : Offers) (r : Routine ℕ) → BoundRoutine o r → OnceRoutine r → AllScoped (routine_scope r) (declared_params [] r.params) r.body
+  pub params : (o : Offers) (r : Routine ℕ) → BoundRoutine o r → OnceRoutine r → ParamsScoped (routine_scope r) r.params

@@ -1,5 +1,6 @@
 //! The laws of statements, each as the contract of a function without a body.
 ghost use Rattle.wy_sound_programs.specs.Bodies.{BodiesLeave};
+ghost use Rattle.wy_sound_programs.specs.Entries.{EntriesMarkParams, BodiesBegin, AssignedBodiesAreClean, BodiesStayInside};
 ghost use Rattle.wy_sound_programs.specs.FormedBodies.{FormedBodiesAreMade};
 ghost use Rattle.wy_sound_programs.specs.Once.{RoutinesAreScoped};
 ghost use Rattle.wy_sound_programs.specs.Typed.{TypedBlocksSuit};
@@ -34,4 +35,13 @@ pub fn variables_are_marked()
 /// are of functions and methods that the program offers, with as many arguments as these have; and clauses call nothing.
 pub fn formed_bodies_are_made()
     ensures made { FormedBodiesAreMade }
+{}
+
+/// Where the body of a function or method begins, its parameters are marked and have values of their types; no path of an assigned program uses a variable that has
+/// no value there, and none of a body with a result gets to its end; and no `break` or `continue` leaves a body.
+pub fn bodies_begin_and_end()
+    ensures begin { EntriesMarkParams }
+    ensures entry { BodiesBegin }
+    ensures assigned { AssignedBodiesAreClean }
+    ensures inside { BodiesStayInside }
 {}
