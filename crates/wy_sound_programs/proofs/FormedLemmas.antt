@@ -12,7 +12,7 @@ use Rattle.wy_core.specs.CoreTree.{Expr, NullExpr, BoolExpr, IntExpr, VarExpr, C
 use Rattle.wy_formed.specs.Offers.{Offers, IsCall}
 use Rattle.wy_formed.specs.Bound as bound
 use Rattle.wy_formed.specs.Bound.{Around, looped, behind, BoundTy, BoundExpr, BoundExprs, BoundFields, BoundClauses, BoundOption, BoundPath, BoundStmt, BoundStmts}
-use Rattle.wy_formed.specs.Calls.{Nothing, CallsExpr, CallsExprs, CallsFields, CallsClauses, CallsOption, CallsPath, CallsStmt, CallsStmts}
+use Rattle.wy_formed.specs.Calls.{Nothing, MayCall, CallsExpr, CallsExprs, CallsFields, CallsClauses, CallsOption, CallsPath, CallsStmt, CallsStmts}
 use Rattle.wy_formed.specs.Literals.{IsInt, IntsExpr, IntsExprs, IntsFields, IntsClauses, IntsPath, IntsStmt, IntsStmts}
 use Rattle.wy_formed.specs.Sizes.{size, sizes, field_sizes, IsSmall}
 use Rattle.wy_formed.specs.Wholes.{IsQuiet, AreQuiet, FieldsQuiet, EachArgument, EachClause, EachIndex, EachWhole, EachWholeIn}
