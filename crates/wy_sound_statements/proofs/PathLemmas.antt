@@ -1,15 +1,14 @@
 -- The steps of a path follow their walk.
-use Rattle.std.proofs.Common.{◌≡◌, ℕ, ◌≤◌, List, [], ◌∷◌, ◌++◌, Bool, true, false, ◌&&◌, Option, Some, None, ℤ, pos, negsuc, int_le, int_lt, refl, sym, ap, ◌∙◌, subst, arith}
-use Rattle.wy_value.specs.Datum.{Datum, Null, Truth, Whole, Array, Record, Data, Fields}
+use Rattle.std.proofs.Common.{◌≡◌, ℕ, ◌≤◌, List, [], ◌∷◌, ◌++◌, Bool, true, false, ◌&&◌, Option, ℤ, pos, negsuc, int_le, int_lt, refl, sym, ap, ◌∙◌, subst}
+use Rattle.wy_value.specs.Datum.{Datum, Null, Truth, Whole, Array, Record, Data}
 use Rattle.wy_value.specs.Values.{length_of}
-use Rattle.wy_core.specs.CoreTree.{Step, IndexStep, FieldStep, Expr}
+use Rattle.wy_core.specs.CoreTree.{Step, IndexStep, FieldStep}
 use Rattle.wy_term.specs.declared.cond.CondKind.TheVariants as kind
 use Rattle.wy_term.specs.Term.{Term}
 use Rattle.wy_term.specs.Data as shapes
-use Rattle.wy_term.specs.Meaning.{Names, sense}
-use Rattle.wy_term.specs.Condition.{AllTrue}
-use Rattle.wy_sem.specs.Meter.{Meter, Outcome, Done, Fault, Run, ◌>>=◌, check}
-use Rattle.wy_sem.specs.Operations.{nat_of, item_at, find, is_index, as_items, as_fields, as_number, needed, indexed, Slot, ItemSlot, FieldSlot}
+use Rattle.wy_term.specs.Meaning.{Names}
+use Rattle.wy_sem.specs.Meter.{Meter, Done, Run, ◌>>=◌, check}
+use Rattle.wy_sem.specs.Operations.{nat_of, item_at, find, is_index, as_fields, needed, indexed, Slot, ItemSlot, FieldSlot}
 use Rattle.wy_sem.specs.Expressions as sem
 use Rattle.wy_sem.specs.Expressions.{Store}
 use Rattle.wy_sem.specs.Statements as run
@@ -20,7 +19,7 @@ use Rattle.wy_conditions.specs.Values.{named_in}
 use Rattle.wy_conditions.specs.Owed.{assume_all, owe}
 use Rattle.wy_conditions.specs.Operations as op
 use Rattle.wy_conditions.specs.Walks.{index_goals}
-use Rattle.wy_conditions.specs.Statements.{Body, words, expr, Part, ElementOf, FieldOf, Along, along}
+use Rattle.wy_conditions.specs.Statements.{Body, expr, Part, ElementOf, FieldOf, along}
 use Rattle.wy_formed_conditions.proofs.ValueLemmas.{AreData}
 use Rattle.wy_sound_terms.specs.Kinds.{IsWhole, IsArray}
 use Rattle.wy_sound_terms.specs.Updates.{Leads}
@@ -30,11 +29,10 @@ use Rattle.wy_sound_terms.proofs.MadeLemmas.{all, field_means}
 use Rattle.wy_sound_terms.proofs.OtherLemmas.{index_is, element_means}
 use Rattle.wy_sound_expressions.specs.Names.{Agree, Known, Means, Stand}
 use Rattle.wy_sound_expressions.specs.Truth.{AreTrueBy, Good}
-use Rattle.wy_sound_expressions.specs.Suits.{Each}
 use Rattle.wy_sound_expressions.specs.Sound.{Ok}
 use Rattle.wy_sound_expressions.specs.Laws.{NamesTold}
-use Rattle.wy_sound_expressions.proofs.NameLemmas.{agree_refl, agree_trans, agree_less, known_later, means_later, stand_later, right_later}
-use Rattle.wy_sound_expressions.proofs.GoodLemmas.{true_left, true_right, good_map, good_bind}
+use Rattle.wy_sound_expressions.proofs.NameLemmas.{agree_refl, agree_trans, means_later, stand_later, right_later}
+use Rattle.wy_sound_expressions.proofs.GoodLemmas.{true_left, true_right, good_bind}
 use Rattle.wy_sound_expressions.proofs.AssumeLemmas.{all_assumed_true, owed_true}
 use Rattle.wy_sound_points.proofs.StayLemmas.{expr_up, along_up}
 use Rattle.wy_sound_statements.specs.StatementSuits.{PathSuits}

@@ -1,42 +1,41 @@
 -- Statements follow their walk.
-use Rattle.std.proofs.Common.{◌≡◌, ◌⊎◌, inl, inr, ℕ, zero, suc, ◌+◌, ◌≤◌, List, [], ◌∷◌, ◌++◌, Bool, true, false, ◌||◌, Option, Some, None, refl, sym, ap, ◌∙◌, subst, arith}
+use Rattle.std.proofs.Common.{◌≡◌, inl, inr, ℕ, zero, suc, ◌≤◌, List, [], ◌∷◌, ◌++◌, Bool, true, false, Option, Some, None, refl, sym, ap, ◌∙◌, subst, arith}
 use Rattle.wy_value.specs.Datum.{Datum, Truth}
 use Rattle.wy_core.specs.Types.{Ty}
 use Rattle.wy_core.specs.CoreTree as tree
 use Rattle.wy_core.specs.CoreTree.{Expr, Step, Stmt, DeclareStmt, AssignStmt, CallStmt, ReturnStmt, AssertStmt, BreakStmt, ContinueStmt, SkipStmt, FailStmt, IfStmt, WhileStmt, Stmts, NoStmts, MoreStmts}
 use Rattle.wy_term.specs.declared.cond.CondKind.TheVariants as kind
 use Rattle.wy_term.specs.Term.{Term}
-use Rattle.wy_term.specs.Meaning.{Names, sense}
-use Rattle.wy_sem.specs.Meter.{Meter, Outcome, Done, Fault, Run, ◌>>=◌, spend, check, choose}
+use Rattle.wy_term.specs.Meaning.{Names}
+use Rattle.wy_sem.specs.Meter.{Meter, Done, Fault, Run, ◌>>=◌, spend, check, choose}
 use Rattle.wy_sem.specs.Operations.{as_truth, needed, Slot, updated}
 use Rattle.wy_sem.specs.Expressions as sem
 use Rattle.wy_sem.specs.Expressions.{Store, slot, put}
-use Rattle.wy_sem.specs.TypeTests.{Test, set_if}
+use Rattle.wy_sem.specs.TypeTests.{Test}
 use Rattle.wy_sem.specs.Statements as run
 use Rattle.wy_sem.specs.Statements.{Exit, Went, Broke, Continued, Gave, Frame, type_at}
-use Rattle.wy_sem.specs.Evaluation.{entry_of, frame_of}
+use Rattle.wy_sem.specs.Evaluation.{entry_of}
 use Rattle.wy_conditions.specs.Making.{val_name, falsehood, denied, formula}
 use Rattle.wy_conditions.specs.Numbered.{Node}
-use Rattle.wy_conditions.specs.Values.{valued, word_at, variable, named_in}
+use Rattle.wy_conditions.specs.Values.{word_at, variable}
 use Rattle.wy_conditions.specs.Owed.{Owed, assume, owe}
-use Rattle.wy_conditions.specs.Clauses.{Passed, one_goal, pass_goals, owe_clauses, owe_member}
+use Rattle.wy_conditions.specs.Clauses.{Passed, owe_clauses, owe_member}
 use Rattle.wy_conditions.specs.Calls.{Walked, call_walk}
 use Rattle.wy_conditions.specs.Walks.{walk_all}
-use Rattle.wy_conditions.specs.Spots.{Spot, Flow, is_set, as_list, go_on, followed, declare, with_hyps}
+use Rattle.wy_conditions.specs.Spots.{Spot, Flow, is_set, as_list, go_on, followed, with_hyps}
 use Rattle.wy_conditions.specs.Joins.{meet}
 use Rattle.wy_conditions.specs.Assigned.{assigns_in}
-use Rattle.wy_conditions.specs.Statements.{Body, words, expr, along, rebuilt, assigned, leave, renew, walk_clauses, keep, where_true, where_false, behind_if, behind_loop, exec, exec_all}
+use Rattle.wy_conditions.specs.Statements.{Body, words, expr, along, rebuilt, assigned, leave, renew, walk_clauses, keep, where_true, where_false, behind_if, exec, exec_all}
 use Rattle.wy_formed_conditions.proofs.ValueLemmas.{variable_sorted}
 use Rattle.wy_sound_terms.specs.Kinds.{IsTruth}
 use Rattle.wy_sound_terms.proofs.UpdateLemmas.{updates_agree}
-use Rattle.wy_sound_terms.proofs.MadeLemmas.{holds as true_at, formula_means, denied_means}
-use Rattle.wy_sound_expressions.specs.Names.{Agree, Known, Means, Stand}
+use Rattle.wy_sound_terms.proofs.MadeLemmas.{formula_means, denied_means}
+use Rattle.wy_sound_expressions.specs.Names.{Agree, Known}
 use Rattle.wy_sound_expressions.specs.Truth.{AreTrueBy, Good}
-use Rattle.wy_sound_expressions.specs.Types.{is_in}
 use Rattle.wy_sound_expressions.specs.Written.{IsWritten}
 use Rattle.wy_sound_expressions.specs.Suits.{Each, Suits}
 use Rattle.wy_sound_expressions.specs.Sound.{Ok}
-use Rattle.wy_sound_expressions.proofs.NameLemmas.{agree_refl, agree_trans, agree_less, known_later, stand_later, right_later}
+use Rattle.wy_sound_expressions.proofs.NameLemmas.{agree_refl, agree_trans, stand_later, right_later}
 use Rattle.wy_sound_expressions.proofs.GoodLemmas.{true_left, true_right, true_after, good_weaken, good_map, good_bind, good_spend}
 use Rattle.wy_sound_expressions.proofs.AssumeLemmas.{assumed_true}
 use Rattle.wy_sound_expressions.proofs.CallGrows.{clauses_grow, call_grows}
@@ -46,26 +45,26 @@ use Rattle.wy_sound_clauses.specs.Clauses.{AllFit, AreSafe, AllPass, AreTrueIfDo
 use Rattle.wy_sound_clauses.proofs.HoldLemmas.{owed_hold}
 use Rattle.wy_sound_clauses.proofs.WalkedLemmas.{walked_safe, walked_known}
 use Rattle.wy_sound_joins.specs.Points.{At}
-use Rattle.wy_sound_joins.specs.Joins.{IsOne, ArePoints, AtEnd}
+use Rattle.wy_sound_joins.specs.Joins.{AtEnd}
 use Rattle.wy_sound_joins.proofs.JoinLemmas.{joins_sound}
 use Rattle.wy_sound_heads.specs.Heads.{IsTurn}
 use Rattle.wy_sound_heads.proofs.HeadLemmas.{heads_sound}
 use Rattle.wy_sound_calls.specs.CallLaws.{Returned, Leaves}
-use Rattle.wy_sound_steps.specs.Steps.{Ending, ResultsLeave}
+use Rattle.wy_sound_steps.specs.Steps.{Ending}
 use Rattle.wy_sound_steps.proofs.StepLemmas.{results_leave}
-use Rattle.wy_sound_depends.specs.Begins.{Begins, AllBegin, EndBegins}
+use Rattle.wy_sound_depends.specs.Begins.{AllBegin}
 use Rattle.wy_sound_depends.proofs.BeginLemmas.{begins_assumed}
 use Rattle.wy_sound_depends.proofs.BlockLemmas.{blocks_begin}
 use Rattle.wy_sound_depends.proofs.ValueLemmas.{all_more, variable_depends}
-use Rattle.wy_sound_depends.proofs.WalkLemmas.{code_grows, codes_grow}
+use Rattle.wy_sound_depends.proofs.WalkLemmas.{codes_grow}
 use Rattle.wy_sound_points.proofs.SetLemmas.{Point, PointIf, AllPoints, FlowPoints, point_more, point_if_more, points_more, both_points, list_points, with_point, depend_from}
 use Rattle.wy_sound_points.proofs.MeetLemmas.{meet_points}
 use Rattle.wy_sound_points.proofs.StayLemmas.{Rests as TermRests, RenewedPoint, parts_on, rebuilt_rests, expr_rests, along_rests, along_up, expr_up, walked_up, keep_up, head_renewed, statement_points, block_points}
-use Rattle.wy_sound_frames.specs.Frames.{unsets_in, Keeps, AtExit}
+use Rattle.wy_sound_frames.specs.Frames.{unsets_in, Keeps}
 use Rattle.wy_sound_frames.proofs.FrameLemmas.{statements_keep}
 use Rattle.wy_sound_statements.specs.StatementSuits.{IsFree, PathSuits, UpdateSuits, IsTested, Leads, AtTurns, KeepFits, Behind, StmtSuits, BlockSuits}
 use Rattle.wy_sound_statements.specs.Ends.{AreDeclared, AtSome, frame_at, Exits, Rests, AreHandled, GiveValues, code_kinds, BlocksAreSound}
-use Rattle.wy_sound_statements.proofs.PlaceLemmas.{at_more, at_back, some_left, some_right, end_some, are_points, list_begins, both_begin, begins_less, end_begins_less, all_begin_less, val_terms, are_values}
+use Rattle.wy_sound_statements.proofs.PlaceLemmas.{at_more, some_left, some_right, end_some, are_points, list_begins, both_begin, end_begins_less, all_begin_less, val_terms, are_values}
 use Rattle.wy_sound_statements.proofs.StoreLemmas.{declared_unset, declare_at, clauses_go, owed_known, passed_known}
 use Rattle.wy_sound_statements.proofs.PathLemmas.{OkPath, path_right}
 use Rattle.wy_sound_statements.proofs.CodeLemmas.{truth_end, code_right, codes_right, Tested, test_right, comes_right}

@@ -15,7 +15,6 @@ use Rattle.wy_term.specs.declared.cond.CondKind.TheVariants as kind
 use Rattle.wy_conditions.specs.Numbered.{Node}
 use Rattle.wy_conditions.specs.Clauses.{owe_clauses}
 use Rattle.wy_conditions.specs.Spots.{Spot, is_set, with_hyps}
-use Rattle.wy_conditions.specs.Assigned.{assigns_in}
 use Rattle.wy_conditions.specs.Statements.{Body, words, expr, renew, walk_clauses, where_true, where_false, exec, exec_all}
 use Rattle.wy_sound_terms.specs.Kinds.{IsWhole, IsTruth, IsArray}
 use Rattle.wy_sound_expressions.specs.Suits.{Kinds, Each, Suits, AllSuit}
