@@ -34,12 +34,15 @@ use Rattle.wy_sound_statements.specs.Ends.{frame_at, Exits, Rests}
 use Rattle.wy_sound_statements.proofs.StatementLemmas.{blocks_sound}
 use Rattle.wy_sound_programs.specs.Bodies.{NoneLeft, EndsBefore, BodiesLeave}
 
+no_point : {X : Type 0} (q : Spot) → Some q ≡ None → X
+no_point q e = absurd cc
+
 module _ (w : sem.Setting Node) (p : Program Node) (r : Routine Node) (vars : Vars) (members : ℕ → Datum → Bool) (owed : Ty → Datum → Test) (vs : List Datum) (n : ℕ) (names : Names) (rests : Rests w (body_of p r vars) members owed vs n names) where
   -- the end of a body, which leaves what the contract says of no result
   ended : (o : Option tree.Output) → r.result ≡ o → (ends : Option Spot) (c : ℕ) (t : Store) (j : Meter) → EndsBefore o ends → n ≤ c → AtEnd n names c ends t
       → Good (AreTrueBy members (end_of (body_of p r vars) o ends c)) (run.leave w (frame_of owed r vs) r.at o None j >>= result_given r.at) (Leaves w p.setting members r vs o)
   ended o is None c t j before le h = absurd h
-  ended (Some out) is (Some q) c t j before le h = absurd before
+  ended (Some out) is (Some q) c t j before le h = no_point q before
   ended None is (Some q) c t j before le h =
       let A = AreTrueBy members (leave (body_of p r vars) r.at None q.hyps c).owed in
       let last : Ending w (body_of p r vars) members vs c h.later = record {

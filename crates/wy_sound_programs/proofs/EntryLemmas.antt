@@ -7,8 +7,6 @@ use Rattle.wy_core.specs.CoreTree as tree
 use Rattle.wy_core.specs.CoreTree.{Param, Routine, Core, Decl, AliasDecl, RoutineDecl, Expr, Step, IndexStep, FieldStep, Stmt, DeclareStmt, AssignStmt, CallStmt, ReturnStmt, AssertStmt, BreakStmt, ContinueStmt, SkipStmt, FailStmt, IfStmt, WhileStmt, Stmts, NoStmts, MoreStmts}
 use Rattle.wy_term.specs.declared.cond.CondKind.{CondKind}
 use Rattle.wy_term.specs.declared.cond.CondKind.TheVariants as kind
-use Rattle.wy_assign.specs.Paths.{Event, End, Falls, Breaks, Continues, Leaves, StmtsPath}
-use Rattle.wy_assign.specs.Assigned.{IsAssigned, UsesUnset, without_params, all_unset, UnsetIn, IsUnset, OpenIn, IsOpen, leaves}
 use Rattle.wy_sem.specs.Meter.{Meter, Outcome, Done, Fault, Run, ◌>>=◌, check, choose}
 use Rattle.wy_sem.specs.Operations.{needed, updated}
 use Rattle.wy_sem.specs.Expressions as sem
@@ -28,8 +26,7 @@ use Rattle.wy_conditions.specs.Spots.{Spot, spot, is_set, mark, assign, with_hyp
 use Rattle.wy_conditions.specs.Programs.{name_params, assume_params, enter}
 use Rattle.wy_sound_frames.proofs.EveryLemmas.{Every, every_bind, every_map, every_told, every_of, every_spend, every_check, every_choose, every_needed}
 use Rattle.wy_sound_programs.specs.Bodies.{NoneLeft}
-use Rattle.wy_sound_programs.specs.Ways.{IsClean}
-use Rattle.wy_sound_programs.specs.Entries.{marked_params, EntriesMarkParams, IsDecl, AssignedBodiesAreClean, BodiesStayInside}
+use Rattle.wy_sound_programs.specs.Entries.{marked_params, EntriesMarkParams, BodiesStayInside}
 use Rattle.wy_sound_programs.proofs.SlotLemmas.{same_or_apart, apart_of, mark_same, mark_other}
 
 -- ---- marks of parameters
@@ -44,44 +41,6 @@ assumed_set s (x ∷ xs) p n = let f = assume_in_type s x.ty (variable p.vars x.
 
 pub entries_mark : EntriesMarkParams
 entries_mark s r = let start = name_params r.variables r.params (spot [] [] []) 0 in assumed_set s r.params start.spot start.count ∙ named_set r.variables r.params (spot [] [] []) 0
-
--- ---- paths of bodies
-
-eqb_self : (n : ℕ) → (n == n) ≡ true
-eqb_self n = search (arith)
-
-marked_start : (start : ℕ → Bool) (set : List Bool) (v y : ℕ) → start y ≡ not (is_set set y) → cond (y == v) false (start y) ≡ not (is_set (mark set v true) y)
-marked_start start set v y h = by (same_or_apart y v) where
-  by : (y ≡ v) ⊎ ((y == v) ≡ false) → cond (y == v) false (start y) ≡ not (is_set (mark set v true) y)
-  by (inl e) = ap (λ (c : Bool). cond c false (start y)) (subst (λ (z : ℕ). (y == z) ≡ true) e (eqb_self y)) ∙ ap not (sym (ap (is_set (mark set v true)) e ∙ mark_same set v true))
-  by (inr e) = ap (λ (c : Bool). cond c false (start y)) e ∙ (h ∙ ap not (sym (mark_other set v true y (λ i. apart_of y v e (sym i)))))
-
-params_start : (ps : List Param) (start : ℕ → Bool) (set : List Bool) → ((y : ℕ) → start y ≡ not (is_set set y)) → (x : ℕ) → without_params ps start x ≡ not (is_set (marked_params ps set) x)
-params_start [] start set h x = h x
-params_start (p ∷ ps) start set h x = params_start ps (λ y. cond (y == p.variable) false (start y)) (mark set p.variable true) (λ y. marked_start start set p.variable y (h y)) x
-
-unset_at : (core : Core ℕ) (r : Routine ℕ) (at x : ℕ) (p : List Event) (end : End) → IsDecl (RoutineDecl r) core → StmtsPath r.body p end → UsesUnset x at (without_params r.params all_unset x) p → IsUnset core at
-unset_at [] r at x p end h w u = absurd h
-unset_at (d ∷ ds) r at x p end (inl e) w u = inl (subst (λ (y : Decl ℕ). UnsetIn y at) (sym e) (inr (inr (x, p, (end, w), u))))
-unset_at (d ∷ ds) r at x p end (inr h) w u = inr (unset_at ds r at x p end h w u)
-
-open_at : (core : Core ℕ) (r : Routine ℕ) (p : List Event) (end : End) → IsDecl (RoutineDecl r) core → is_some r.result ≡ true → StmtsPath r.body p end → leaves end ≡ false → IsOpen core r.at
-open_at [] r p end h some w l = absurd h
-open_at (d ∷ ds) r p end (inl e) some w l = inl (subst (λ (y : Decl ℕ). OpenIn y r.at) (sym e) (some, refl, (p, end, w, l)))
-open_at (d ∷ ds) r p end (inr h) some w l = inr (open_at ds r p end h some w l)
-
-leaves_or : (end : End) → (leaves end ≡ false → ⊥) → end ≡ Leaves
-leaves_or Leaves h = refl
-leaves_or Falls h = absurd (h refl)
-leaves_or Breaks h = absurd (h refl)
-leaves_or Continues h = absurd (h refl)
-
-pub assigned_clean : AssignedBodiesAreClean
-assigned_clean = record {
-  clean = λ core r assigned is x p end at w u.
-      assigned.set at (unset_at core r at x p end is w (subst (λ (b : Bool). UsesUnset x at b p) (sym (params_start r.params all_unset [] (λ y. refl) x)) u));
-  closed = λ core r assigned is some p end w. leaves_or end (λ l. assigned.closed r.at (open_at core r p end is some w l));
-}
 
 -- ---- ends of bodies
 

@@ -19,7 +19,7 @@ use Rattle.wy_formed.specs.Wholes.{IsQuiet, AreQuiet, FieldsQuiet, EachArgument,
 use Rattle.wy_sound_kinds.specs.Ready.{Rules, with_one, count_of, names_in, Ready, AllReady, FieldsReady}
 use Rattle.wy_sound_fits.specs.Fit.{ClausesReady}
 use Rattle.wy_sound_programs.specs.Along.{Allowed}
-use Rattle.wy_sound_programs.specs.Ways.{all_marked, PathMade, Made, AllMade}
+use Rattle.wy_sound_programs.specs.Made.{all_marked, PathMade, Made, AllMade}
 use Rattle.wy_sound_programs.specs.FormedBodies.{Offering, FormedBodiesAreMade}
 
 no_quiet : {X : Type 0} → false ≡ true → X

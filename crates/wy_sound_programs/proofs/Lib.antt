@@ -9,6 +9,7 @@ pub mod GrewLemmas
 pub mod HeadLemmas
 pub mod StaticLemmas
 pub mod StoreLemmas
+pub mod OtherLemmas
 pub mod WithLemmas
 pub mod ValueLemmas
 pub mod UpdateLemmas
@@ -16,7 +17,6 @@ pub mod RunLemmas
 pub mod MoreLemmas
 pub mod SuitLemmas
 pub mod OnceLemmas
-pub mod WayLemmas
 pub mod FormedLemmas
 pub mod EntryLemmas
 pub mod BeginLemmas

@@ -37,8 +37,8 @@ use Rattle.wy_subtype.proofs.MarkLemmas.{or_left, or_right}
 use Rattle.wy_subtype.proofs.ValueLemmas.{part_in-inside}
 use Rattle.wy_subtype.proofs.ValuedLemmas.{any_in-valued, valued_have}
 use Rattle.wy_parts.specs.Fields.{AllHave, has_value_at, atom_has, all_have}
-use Rattle.wy_parts.proofs.FieldLemmas.{some_other}
 use Rattle.wy_updates.specs.Updates.{part_at, replaced, with_record, records_of, all_of, second_part, IsWith}
+use Rattle.wy_sound_programs.proofs.OtherLemmas.{some_other}
 
 false_true : {X : Type 0} → false ≡ true → X
 false_true e = absurd cc

@@ -3,9 +3,7 @@ use Rattle.std.specs.Prelude.{◌≡◌, ◌⊎◌, ℕ, Bool, true, false, List
 use Rattle.wy_value.specs.Datum.{Datum}
 use Rattle.wy_core.specs.Types.{Ty}
 use Rattle.wy_core.specs.CoreTree as tree
-use Rattle.wy_core.specs.CoreTree.{Param, Routine, Core, Decl, AliasDecl, RoutineDecl}
-use Rattle.wy_assign.specs.Paths.{Event, End, Leaves, StmtsPath, ClausesPath}
-use Rattle.wy_assign.specs.Assigned.{IsAssigned, UsesUnset}
+use Rattle.wy_core.specs.CoreTree.{Param, Routine}
 use Rattle.wy_types.specs.Names.{Declared, Up}
 use Rattle.wy_types.specs.Recursion.{RecurThroughParts}
 use Rattle.wy_environment.specs.Variables.{Environment, nothing_known}
@@ -31,7 +29,6 @@ use Rattle.wy_sound_kinds.specs.Bounded.{IsBounded}
 use Rattle.wy_sound_programs.specs.Bodies.{NoneLeft}
 use Rattle.wy_sound_programs.specs.Once.{routine_scope, ParamsScoped}
 use Rattle.wy_sound_programs.specs.Typed.{Stands, Holds, nothing_kept}
-use Rattle.wy_sound_programs.specs.Ways.{IsClean}
 
 -- the marks with those of parameters
 abbrev pub marked_params : List Param → List Bool → List Bool
@@ -41,16 +38,6 @@ marked_params (p ∷ ps) set = marked_params ps (mark set p.variable true)
 -- the marks at the entry are those of the parameters
 abbrev pub EntriesMarkParams : Type 0
 EntriesMarkParams = (s : Setting Node) (r : Routine Node) → (enter s r).spot.set ≡ marked_params r.params []
-
--- the declaration is one of the core's
-abbrev pub IsDecl : Decl ℕ → Core ℕ → Type 0
-IsDecl d [] = ⊥
-IsDecl d (x ∷ xs) = (x ≡ d) ⊎ IsDecl d xs
-
--- no path of the body of an assigned core uses a variable that has no value there, where the parameters alone have one before it; and where there is a result, each path of the body ends by `return` or `fail`
-pub record AssignedBodiesAreClean : Type 0 where
-  pub clean : (core : Core ℕ) (r : Routine ℕ) → IsAssigned core → IsDecl (RoutineDecl r) core → IsClean (is_set (marked_params r.params [])) r.body
-  pub closed : (core : Core ℕ) (r : Routine ℕ) → IsAssigned core → IsDecl (RoutineDecl r) core → is_some r.result ≡ true → (p : List Event) (end : End) → StmtsPath r.body p end → end ≡ Leaves
 
 -- a body that stands in no loop isn't left by `break` or `continue`
 abbrev pub BodiesStayInside : Type 0

@@ -10,7 +10,7 @@ use Rattle.wy_formed.specs.Sizes.{IsSmall}
 use Rattle.wy_formed.specs.Wholes.{IsQuiet, EachClause, EachWholeIn}
 use Rattle.wy_sound_fits.specs.Fit.{ClausesReady}
 use Rattle.wy_sound_programs.specs.Along.{Allowed}
-use Rattle.wy_sound_programs.specs.Ways.{all_marked, AllMade}
+use Rattle.wy_sound_programs.specs.Made.{all_marked, AllMade}
 
 -- what a program offers may be asked about and called
 pub record Offering (o : Offers) (a : Allowed) : Type 0 where

@@ -8,8 +8,8 @@ pub mod Once
 pub mod Along
 -- typed blocks meet what is asked of a run
 pub mod Typed
--- blocks of which no path uses a variable without a value
-pub mod Ways
+-- blocks whose expressions are as a formed program has them
+pub mod Made
 -- bodies and contracts of formed programs
 pub mod FormedBodies
 -- where bodies begin, and how they end

@@ -1,10 +1,9 @@
 //! The laws of statements, each as the contract of a function without a body.
 ghost use Rattle.wy_sound_programs.specs.Bodies.{BodiesLeave};
-ghost use Rattle.wy_sound_programs.specs.Entries.{EntriesMarkParams, BodiesBegin, AssignedBodiesAreClean, BodiesStayInside};
+ghost use Rattle.wy_sound_programs.specs.Entries.{EntriesMarkParams, BodiesBegin, BodiesStayInside};
 ghost use Rattle.wy_sound_programs.specs.FormedBodies.{FormedBodiesAreMade};
 ghost use Rattle.wy_sound_programs.specs.Once.{RoutinesAreScoped};
 ghost use Rattle.wy_sound_programs.specs.Typed.{TypedBlocksSuit};
-ghost use Rattle.wy_sound_programs.specs.Ways.{CleanBlocksAreReady, WalksFollowPaths};
 
 /// The body of a function or method, from a store at the point before it, and its end. Where each condition that they owe is
 /// true, it is no fault at any number of ticks, and it leaves what the contract says.
@@ -24,24 +23,16 @@ pub fn routines_are_scoped()
     ensures scoped { RoutinesAreScoped }
 {}
 
-/// A block of which no path uses a variable that has no value there: each variable that is used along the walk is marked there; and
-/// the walk gets behind a block only where a path does.
-pub fn variables_are_marked()
-    ensures ready { CleanBlocksAreReady }
-    ensures follow { WalksFollowPaths }
-{}
-
 /// Bodies and clauses of a formed program: numbers are `int`s, lists are short, names of fields rise, tests ask about types and calls
 /// are of functions and methods that the program offers, with as many arguments as these have; and clauses call nothing.
 pub fn formed_bodies_are_made()
     ensures made { FormedBodiesAreMade }
 {}
 
-/// Where the body of a function or method begins, its parameters are marked and have values of their types; no path of an assigned program uses a variable that has
-/// no value there, and none of a body with a result gets to its end; and no `break` or `continue` leaves a body.
+/// Where the body of a function or method begins, its parameters are marked and have values of their types; and no `break` or
+/// `continue` leaves a body.
 pub fn bodies_begin_and_end()
     ensures begin { EntriesMarkParams }
     ensures entry { BodiesBegin }
-    ensures assigned { AssignedBodiesAreClean }
     ensures inside { BodiesStayInside }
 {}

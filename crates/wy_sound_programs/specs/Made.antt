@@ -1,16 +1,9 @@
--- Blocks whose expressions are as a formed program has them; and of which no path uses a variable without a value.
-use Rattle.std.specs.Prelude.{◌≡◌, ℕ, Bool, true, false, not, List, [], ◌∷◌, Option, Some, None}
+-- Blocks whose expressions are as a formed program has them.
+use Rattle.std.specs.Prelude.{◌≡◌, ℕ, Bool, true, false, List, [], ◌∷◌, Option, Some, None}
 use Rattle.wy_core.specs.CoreTree.{Expr, Step, IndexStep, FieldStep, Stmt, DeclareStmt, AssignStmt, CallStmt, ReturnStmt, AssertStmt, BreakStmt, ContinueStmt, SkipStmt, FailStmt, IfStmt, WhileStmt, Stmts, NoStmts, MoreStmts}
-use Rattle.wy_assign.specs.Paths.{Event, End, StmtsPath}
-use Rattle.wy_assign.specs.Assigned.{UsesUnset}
-use Rattle.wy_conditions.specs.Numbered.{Node, numbered_block}
-use Rattle.wy_conditions.specs.Spots.{Spot, is_set}
-use Rattle.wy_conditions.specs.Statements.{Body, exec_all}
-use Rattle.wy_sound_expressions.specs.Laws.{AreValTerms}
-use Rattle.wy_sound_joins.specs.Points.{IsPoint}
 use Rattle.wy_sound_kinds.specs.Ready.{count_of, Ready, AllReady}
 use Rattle.wy_sound_fits.specs.Fit.{ClausesReady}
-use Rattle.wy_sound_programs.specs.Along.{Allowed, AllReadyAlong}
+use Rattle.wy_sound_programs.specs.Along.{Allowed}
 
 -- every variable is marked
 abbrev pub all_marked : ℕ → Bool
@@ -45,15 +38,3 @@ abbrev mutual
   pub AllMade : Allowed → Stmts ℕ → Type 0
   AllMade a NoStmts = Unit {0}
   AllMade a (MoreStmts first rest) = Made a first × AllMade a rest
-
--- no path through the block uses a variable that has no value there, where those that aren't marked have none before it
-abbrev pub IsClean : (ℕ → Bool) → Stmts ℕ → Type 0
-IsClean seen block = (x : ℕ) (p : List Event) (end : End) (at : ℕ) → StmtsPath block p end → UsesUnset x at (not (seen x)) p → ⊥
-
--- then each variable that is used along the walk is marked
-abbrev pub CleanBlocksAreReady : Type 0
-CleanBlocksAreReady = (a : Allowed) (b : Body Node) (around : List (Expr Node)) (block : Stmts ℕ) (k : ℕ) (p : Spot) (m : ℕ) → AreValTerms p.vars → IsPoint m p → AllMade a block → IsClean (is_set p.set) block → AllReadyAlong a b around block k p m
-
--- and the walk gets behind a block only where a path does
-abbrev pub WalksFollowPaths : Type 0
-WalksFollowPaths = (b : Body Node) (around : List (Expr Node)) (block : Stmts ℕ) (k : ℕ) (p : Spot) (m : ℕ) → AreValTerms p.vars → IsPoint m p → ((q : List Event) (end : End) → StmtsPath block q end → end ≡ End.Leaves) → (exec_all b around (numbered_block block k) p m).ends ≡ None
