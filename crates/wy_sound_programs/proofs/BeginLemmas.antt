@@ -1,32 +1,29 @@
 -- The store at the entry of a typed body is as typing has it.
-use Rattle.std.proofs.Common.{◌≡◌, ◌⊎◌, inl, inr, ℕ, zero, suc, List, [], ◌∷◌, length, Bool, true, false, Option, Some, None, refl, sym, ap, ◌∙◌, subst}
-use Rattle.std.specs.Prelude.{is_some}
+use Rattle.std.proofs.Common.{◌≡◌, ℕ, zero, suc, List, [], ◌∷◌, length, Bool, true, Option, Some, None, refl, sym, ap, ◌∙◌, subst}
 use Rattle.wy_value.specs.Datum.{Datum}
 use Rattle.wy_core.specs.Types.{Ty}
-use Rattle.wy_core.specs.CoreTree.{Param, Routine}
-use Rattle.wy_types.specs.Names.{Declared, Up}
+use Rattle.wy_core.specs.CoreTree.{Param}
+use Rattle.wy_types.specs.Names.{Declared}
 use Rattle.wy_types.specs.Recursion.{RecurThroughParts}
-use Rattle.wy_environment.specs.Slots.{slot_at, put_slot}
+use Rattle.wy_environment.specs.Slots.{put_slot}
 use Rattle.wy_environment.specs.Variables.{Environment, nothing_known, given}
 use Rattle.wy_typing.specs.Outcomes.{Gives}
 use Rattle.wy_typing.specs.Contexts.{Program}
 use Rattle.wy_typing.specs.States.{State}
-use Rattle.wy_typing.specs.Programs.{WithVariable, WithParams, declared_params, entry}
+use Rattle.wy_typing.specs.Programs.{WithVariable, WithParams, declared_params}
 use Rattle.wy_sem.specs.Expressions.{Store, slot, put}
 use Rattle.wy_sem.specs.TypeTests.{unset}
-use Rattle.wy_sem.specs.Statements.{type_at}
 use Rattle.wy_sem.specs.Evaluation.{types_of, bound, entry_of}
 use Rattle.wy_conditions.specs.Numbered.{Node}
 use Rattle.wy_conditions.specs.Spots.{Spot, spot, is_set, mark}
 use Rattle.wy_conditions.specs.Statements.{Body}
 use Rattle.wy_sound_expressions.specs.Types.{is_in}
 use Rattle.wy_sound_parts.proofs.NormLemmas.{norms_same}
-use Rattle.wy_sound_kinds.specs.Bounded.{IsBounded}
 use Rattle.wy_sound_kinds.proofs.TypeLemmas.{then_gives, given_is}
 use Rattle.wy_sound_programs.specs.Scopes.{Scope}
 use Rattle.wy_sound_programs.specs.Once.{routine_scope, ParamsScoped}
 use Rattle.wy_sound_programs.specs.Typed.{Stands, Holds, nothing_kept}
-use Rattle.wy_sound_programs.specs.Entries.{marked_params, Arrive, BodyBegins, BodiesBegin}
+use Rattle.wy_sound_programs.specs.Entries.{marked_params, Arrive, BodiesBegin}
 use Rattle.wy_sound_programs.proofs.SlotLemmas.{no_truth, slot_put, slot_other}
 use Rattle.wy_sound_programs.proofs.PartLemmas.{Normal}
 use Rattle.wy_sound_programs.proofs.StaticLemmas.{put_stands}

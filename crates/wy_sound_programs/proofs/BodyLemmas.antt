@@ -1,11 +1,11 @@
 -- A body follows its walk, and so does its end.
-use Rattle.std.proofs.Common.{◌≡◌, ℕ, ◌≤◌, List, [], ◌∷◌, ◌++◌, Bool, true, Option, Some, None, refl, sym, subst, arith}
+use Rattle.std.proofs.Common.{◌≡◌, ℕ, ◌≤◌, List, [], ◌++◌, Bool, Option, Some, None, refl, sym, subst, arith}
 use Rattle.wy_value.specs.Datum.{Datum}
 use Rattle.wy_core.specs.Types.{Ty}
 use Rattle.wy_core.specs.CoreTree as tree
 use Rattle.wy_core.specs.CoreTree.{Routine}
 use Rattle.wy_term.specs.Meaning.{Names}
-use Rattle.wy_sem.specs.Meter.{Meter, Outcome, Done, Run, ◌>>=◌}
+use Rattle.wy_sem.specs.Meter.{Meter, ◌>>=◌}
 use Rattle.wy_sem.specs.Expressions as sem
 use Rattle.wy_sem.specs.Expressions.{Store}
 use Rattle.wy_sem.specs.TypeTests.{Test}
@@ -16,21 +16,19 @@ use Rattle.wy_conditions.specs.Numbered.{Node}
 use Rattle.wy_conditions.specs.Variables.{Vars}
 use Rattle.wy_conditions.specs.Walks.{Program}
 use Rattle.wy_conditions.specs.Spots.{Spot, Flow}
-use Rattle.wy_conditions.specs.Statements.{Body, leave, exec_all}
+use Rattle.wy_conditions.specs.Statements.{leave, exec_all}
 use Rattle.wy_conditions.specs.Programs.{body_of, end_of}
-use Rattle.wy_sound_expressions.specs.Names.{Agree, Known}
 use Rattle.wy_sound_expressions.specs.Truth.{AreTrueBy, Good}
 use Rattle.wy_sound_expressions.proofs.NameLemmas.{stand_later, right_later}
 use Rattle.wy_sound_expressions.proofs.GoodLemmas.{true_left, true_right, good_bind}
-use Rattle.wy_sound_joins.specs.Points.{At}
 use Rattle.wy_sound_joins.specs.Joins.{AtEnd}
 use Rattle.wy_sound_calls.specs.CallLaws.{Leaves, with_params, nothing_seen}
 use Rattle.wy_sound_expressions.proofs.LawLemmas.{are_data}
-use Rattle.wy_sound_points.proofs.SetLemmas.{Point, FlowPoints, depend_from}
+use Rattle.wy_sound_points.proofs.SetLemmas.{Point, depend_from}
 use Rattle.wy_sound_points.proofs.StayLemmas.{block_points}
-use Rattle.wy_sound_steps.specs.Steps.{Ending, ResultsLeave}
+use Rattle.wy_sound_steps.specs.Steps.{Ending}
 use Rattle.wy_sound_steps.proofs.StepLemmas.{results_leave}
-use Rattle.wy_sound_statements.specs.Ends.{frame_at, Exits, Rests}
+use Rattle.wy_sound_statements.specs.Ends.{Exits, Rests}
 use Rattle.wy_sound_statements.proofs.StatementLemmas.{blocks_sound}
 use Rattle.wy_sound_programs.specs.Bodies.{NoneLeft, EndsBefore, BodiesLeave}
 

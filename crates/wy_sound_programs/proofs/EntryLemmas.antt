@@ -1,14 +1,13 @@
 -- Where the body of a function or method begins, and how it ends.
-use Rattle.std.proofs.Common.{◌≡◌, ◌⊎◌, inl, inr, ℕ, zero, suc, ◌+◌, List, [], ◌∷◌, Bool, true, false, cond, not, ◌==◌, Option, Some, None, refl, sym, ap, ◌∙◌, subst, arith}
-use Rattle.std.specs.Prelude.{is_some}
+use Rattle.std.proofs.Common.{◌≡◌, ℕ, zero, suc, ◌+◌, List, [], ◌∷◌, Bool, true, false, Option, Some, None, refl, ◌∙◌}
 use Rattle.wy_value.specs.Datum.{Datum}
 use Rattle.wy_core.specs.Types.{Ty}
 use Rattle.wy_core.specs.CoreTree as tree
 use Rattle.wy_core.specs.CoreTree.{Param, Routine, Core, Decl, AliasDecl, RoutineDecl, Expr, Step, IndexStep, FieldStep, Stmt, DeclareStmt, AssignStmt, CallStmt, ReturnStmt, AssertStmt, BreakStmt, ContinueStmt, SkipStmt, FailStmt, IfStmt, WhileStmt, Stmts, NoStmts, MoreStmts}
 use Rattle.wy_term.specs.declared.cond.CondKind.{CondKind}
 use Rattle.wy_term.specs.declared.cond.CondKind.TheVariants as kind
-use Rattle.wy_sem.specs.Meter.{Meter, Outcome, Done, Fault, Run, ◌>>=◌, check, choose}
-use Rattle.wy_sem.specs.Operations.{needed, updated}
+use Rattle.wy_sem.specs.Meter.{Meter, Done, Fault, Run, ◌>>=◌, check, choose}
+use Rattle.wy_sem.specs.Operations.{updated}
 use Rattle.wy_sem.specs.Expressions as sem
 use Rattle.wy_sem.specs.Expressions.{Store, slot, put}
 use Rattle.wy_sem.specs.TypeTests.{set_if}
@@ -22,12 +21,11 @@ use Rattle.wy_conditions.specs.Sizes.{exprs_in, exprs_in_list, exprs_in_path, ex
 use Rattle.wy_conditions.specs.Numbered.{Node, numbered, numbered_all, numbered_list, numbered_path, numbered_stmt, numbered_block}
 use Rattle.wy_conditions.specs.Values.{Setting, word_at, variable}
 use Rattle.wy_conditions.specs.Clauses.{assume_in_type}
-use Rattle.wy_conditions.specs.Spots.{Spot, spot, is_set, mark, assign, with_hyps}
-use Rattle.wy_conditions.specs.Programs.{name_params, assume_params, enter}
-use Rattle.wy_sound_frames.proofs.EveryLemmas.{Every, every_bind, every_map, every_told, every_of, every_spend, every_check, every_choose, every_needed}
+use Rattle.wy_conditions.specs.Spots.{Spot, spot, assign, with_hyps}
+use Rattle.wy_conditions.specs.Programs.{name_params, assume_params}
+use Rattle.wy_sound_frames.proofs.EveryLemmas.{Every, every_bind, every_told, every_of, every_spend, every_check, every_choose, every_needed}
 use Rattle.wy_sound_programs.specs.Bodies.{NoneLeft}
 use Rattle.wy_sound_programs.specs.Entries.{marked_params, EntriesMarkParams, BodiesStayInside}
-use Rattle.wy_sound_programs.proofs.SlotLemmas.{same_or_apart, apart_of, mark_same, mark_other}
 
 -- ---- marks of parameters
 

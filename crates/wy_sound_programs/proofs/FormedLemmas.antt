@@ -1,5 +1,5 @@
 -- Bodies and contracts of formed programs are such as the kinds of expressions ask for.
-use Rattle.std.proofs.Common.{◌≡◌, ◌⊎◌, inl, inr, ℕ, ◌+◌, ◌-◌, ◌^◌, ◌≤◌, List, [], ◌∷◌, Bool, true, false, ◌||◌, ◌==◌, Option, Some, None, ℤ, int_le, ◌≤ℤ◌, Less, nat_cmp, refl, sym, ap, ◌∙◌, subst, arith}
+use Rattle.std.proofs.Common.{◌≡◌, ℕ, ◌+◌, ◌≤◌, List, [], ◌∷◌, Bool, true, false, ◌==◌, Some, None, ℤ, int_le, ◌≤ℤ◌, Less, nat_cmp, refl, ap, subst, arith}
 use Rattle.std.proofs.lemmas.Int.{ints}
 use Rattle.std.proofs.lemmas.Bool.{or_right}
 use Rattle.std.specs.Cmp.Lexicographic.{slice_cmp, nat_list_cmp_total}
@@ -12,11 +12,11 @@ use Rattle.wy_core.specs.CoreTree.{Expr, NullExpr, BoolExpr, IntExpr, VarExpr, C
 use Rattle.wy_formed.specs.Offers.{Offers, IsCall}
 use Rattle.wy_formed.specs.Bound as bound
 use Rattle.wy_formed.specs.Bound.{Around, looped, behind, BoundTy, BoundExpr, BoundExprs, BoundFields, BoundClauses, BoundOption, BoundPath, BoundStmt, BoundStmts}
-use Rattle.wy_formed.specs.Calls.{Nothing, MayCall, CallsExpr, CallsExprs, CallsFields, CallsClauses, CallsOption, CallsPath, CallsStmt, CallsStmts}
+use Rattle.wy_formed.specs.Calls.{Nothing, MayCall, CallsExpr, CallsExprs, CallsFields, CallsClauses, CallsStmt, CallsStmts}
 use Rattle.wy_formed.specs.Literals.{IsInt, IntsExpr, IntsExprs, IntsFields, IntsClauses, IntsPath, IntsStmt, IntsStmts}
 use Rattle.wy_formed.specs.Sizes.{size, sizes, field_sizes, IsSmall}
 use Rattle.wy_formed.specs.Wholes.{IsQuiet, AreQuiet, FieldsQuiet, EachArgument, EachClause, EachIndex, EachWhole, EachWholeIn}
-use Rattle.wy_sound_kinds.specs.Ready.{Rules, with_one, count_of, names_in, Ready, AllReady, FieldsReady}
+use Rattle.wy_sound_kinds.specs.Ready.{with_one, count_of, names_in, Ready, AllReady, FieldsReady}
 use Rattle.wy_sound_fits.specs.Fit.{ClausesReady}
 use Rattle.wy_sound_programs.specs.Along.{Allowed}
 use Rattle.wy_sound_programs.specs.Made.{all_marked, PathMade, Made, AllMade}

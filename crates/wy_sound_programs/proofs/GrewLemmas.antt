@@ -1,5 +1,5 @@
 -- How the state of typing goes on: the types of expressions and the `break`s so far are kept, declarations are those of the statements, and where no path gets to a statement, none gets behind it.
-use Rattle.std.proofs.Common.{◌≡◌, ◌⊎◌, inl, inr, ℕ, ◌+◌, List, [], ◌∷◌, ◌++◌, length, Bool, true, false, cond, Option, Some, None, refl, sym, ap, ◌∙◌, subst, arith}
+use Rattle.std.proofs.Common.{◌≡◌, ◌⊎◌, inl, inr, ℕ, ◌+◌, List, [], ◌∷◌, ◌++◌, Bool, true, false, cond, Option, Some, None, refl, sym, ap, ◌∙◌, subst, arith}
 use Rattle.wy_core.specs.Types.{Ty, InterTy}
 use Rattle.wy_core.specs.CoreTree.{Expr, Step, IndexStep, FieldStep, Stmt, DeclareStmt, AssignStmt, CallStmt, ReturnStmt, AssertStmt, BreakStmt, ContinueStmt, SkipStmt, FailStmt, IfStmt, WhileStmt, Stmts, NoStmts, MoreStmts}
 use Rattle.wy_types.specs.Names.{Declared}
@@ -11,18 +11,17 @@ use Rattle.wy_typing.specs.Expressions.{TypedExpr, none_yet}
 use Rattle.wy_typing.specs.States.{State, left, broken, declare, with_flow, with_env, GiveNormal}
 use Rattle.wy_typing.specs.Assigned.{assigned_in}
 use Rattle.wy_typing.specs.Loops.{RenewedAll, Head, ClausesTyped}
-use Rattle.wy_typing.specs.Paths.{StepType, PathTypes, TypesAlong, Reached, step_more}
+use Rattle.wy_typing.specs.Paths.{StepType, PathTypes, Reached, step_more}
 use Rattle.wy_typing.specs.Statements.{IntoDeclared, NewDeclared, TypedStmt, TypedBlock}
 use Rattle.wy_conditions.specs.Sizes.{exprs_in, exprs_in_list, exprs_in_path, exprs_in_step, exprs_in_stmt, exprs_in_block}
 use Rattle.wy_sound_joins.specs.Joins.{IsOne}
 use Rattle.wy_sound_kinds.proofs.TypeLemmas.{then_gives, given_is}
-use Rattle.wy_sound_suits.specs.Laws.{Begins}
-use Rattle.wy_sound_suits.proofs.FlowLemmas.{begins_self, begins_more, Flow, FlowAll, flow_length, flow_begins, flow_of, flows_of}
+use Rattle.wy_sound_suits.proofs.FlowLemmas.{begins_self, begins_more, FlowAll, flow_length, flow_begins, flow_of, flows_of}
 use Rattle.wy_sound_statements.proofs.PlaceLemmas.{one_left}
 use Rattle.wy_sound_programs.specs.Scopes.{declares, declares_in}
 use Rattle.wy_sound_programs.proofs.SlotLemmas.{changed_stays}
 use Rattle.wy_sound_programs.proofs.JoinLemmas.{both_dead, exit_dead}
-use Rattle.wy_sound_programs.proofs.PartLemmas.{Test, test_parts, normal_dead, Comes, comes_parts, declaration_parts, unset_parts, assignment_parts, into_parts, update_parts, call_parts, return_parts, assertion_parts, on_yes, on_no, if_parts, in_loop, loop_parts}
+use Rattle.wy_sound_programs.proofs.PartLemmas.{test_parts, normal_dead, comes_parts, declaration_parts, unset_parts, assignment_parts, update_parts, call_parts, return_parts, assertion_parts, on_yes, on_no, if_parts, in_loop, loop_parts}
 
 -- ---- types of expressions
 

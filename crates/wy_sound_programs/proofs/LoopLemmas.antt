@@ -1,5 +1,5 @@
 -- The walks of `if` and of loops: the points behind them.
-use Rattle.std.proofs.Common.{◌≡◌, ℕ, ◌+◌, ◌≤◌, List, [], ◌∷◌, ◌++◌, Bool, true, Option, Some, None, refl, sym, ap, ◌∙◌, subst, arith}
+use Rattle.std.proofs.Common.{◌≡◌, ℕ, ◌+◌, ◌≤◌, List, ◌∷◌, ◌++◌, Bool, true, sym, ap, ◌∙◌, arith}
 use Rattle.wy_core.specs.CoreTree.{Expr, Stmts}
 use Rattle.wy_term.specs.declared.cond.CondKind.TheVariants as kind
 use Rattle.wy_conditions.specs.Sizes.{exprs_in, exprs_in_list}

@@ -1,5 +1,5 @@
 -- Marks where paths come together, and at the head of a loop.
-use Rattle.std.proofs.Common.{◌≡◌, ◌⊎◌, inl, inr, ℕ, zero, suc, ◌+◌, ◌<◌, ◌≤◌, List, [], ◌∷◌, map, length, Bool, true, false, ◌&&◌, if◌then◌else◌, Option, Some, None, refl, sym, ap, ap₂, ◌∙◌, subst, arith}
+use Rattle.std.proofs.Common.{◌≡◌, ◌⊎◌, inl, inr, ℕ, zero, suc, ◌+◌, ◌<◌, ◌≤◌, List, [], ◌∷◌, map, length, Bool, true, false, ◌&&◌, if◌then◌else◌, Option, Some, None, refl, sym, ap₂, ◌∙◌, subst, arith}
 use Rattle.wy_core.specs.CoreTree.{Stmts}
 use Rattle.wy_term.specs.Term.{Term}
 use Rattle.wy_sem.specs.Statements.{type_at}

@@ -1,5 +1,5 @@
 -- What fits fits where more variables are marked; and arguments that fit are of the types of the parameters.
-use Rattle.std.proofs.Common.{◌≡◌, ◌⊎◌, inl, inr, ℕ, List, [], ◌∷◌, Bool, true, false, ◌||◌, ◌==◌, Option, Some, None, refl, sym, ap, ◌∙◌, subst}
+use Rattle.std.proofs.Common.{◌≡◌, ◌⊎◌, inl, inr, ℕ, List, [], ◌∷◌, Bool, true, false, ◌||◌, ◌==◌, Option, Some, None, refl}
 use Rattle.std.proofs.lemmas.Bool.{or_cases, or_left, or_right}
 use Rattle.std.specs.Prelude.{is_some}
 use Rattle.wy_value.specs.Datum.{Datum}
@@ -15,7 +15,7 @@ use Rattle.wy_sem.specs.Expressions.{Store}
 use Rattle.wy_conditions.specs.Values.{Setting}
 use Rattle.wy_sound_expressions.specs.Names.{also}
 use Rattle.wy_sound_expressions.specs.Suits.{Kinds, Suits, AllSuit, FieldsSuit}
-use Rattle.wy_sound_clauses.specs.Clauses.{clause_kinds, Fits, AllFit}
+use Rattle.wy_sound_clauses.specs.Clauses.{clause_kinds, AllFit}
 use Rattle.wy_sound_kinds.specs.Kinds.{AreIn, AreArguments}
 use Rattle.wy_sound_kinds.proofs.TypeLemmas.{then_gives, AllIn}
 

@@ -1,5 +1,5 @@
 -- Variables are declared before they are assigned, and have the types that the conditions have for them.
-use Rattle.std.proofs.Common.{◌≡◌, ◌⊎◌, inl, inr, ℕ, zero, suc, ◌<◌, List, [], ◌∷◌, length, Bool, true, false, ◌==◌, Option, Some, None, refl, sym, ap, ◌∙◌, subst, arith}
+use Rattle.std.proofs.Common.{◌≡◌, ◌⊎◌, inl, inr, ℕ, zero, suc, ◌<◌, List, [], ◌∷◌, length, false, ◌==◌, Option, Some, None, refl, sym, ap, ◌∙◌, subst, arith}
 use Rattle.std.specs.Prelude.{is_some}
 use Rattle.wy_core.specs.Types.{Ty}
 use Rattle.wy_core.specs.CoreTree.{Param, Routine, Stmt, DeclareStmt, AssignStmt, CallStmt, ReturnStmt, AssertStmt, BreakStmt, ContinueStmt, SkipStmt, FailStmt, IfStmt, WhileStmt, Stmts, NoStmts, MoreStmts}
@@ -64,8 +64,7 @@ agrees_put : (slots : List (Option Ty)) (ts : List Ty) (x : ℕ) (t : Ty) → x 
 agrees_put slots ts x t lt h y u e = by (same_or_apart x y) where
   by : (x ≡ y) ⊎ ((x == y) ≡ false) → (y < length (set_type ts x t)) × (type_at (set_type ts x t) y ≡ u)
   by (inl q) =
-      let is : t ≡ u = same_slot t u (sym (slot_put slots x t) ∙ (ap (slot_at (put_slot slots x t)) q ∙ e)) in
-      (
+      let is : t ≡ u = same_slot t u (sym (slot_put slots x t) ∙ (ap (slot_at (put_slot slots x t)) q ∙ e)) in (
         subst (λ (n : ℕ). y < n) (sym (set_length ts x t)) (subst (λ (z : ℕ). z < length ts) q lt),
         subst (λ (z : ℕ). type_at (set_type ts x t) z ≡ u) q (set_same ts x t lt ∙ is),
       )

@@ -2,13 +2,13 @@
 use Rattle.std.proofs.Common.{◌≡◌, ℕ, List, [], ◌∷◌, ◌++◌, Bool, true, false, cond, Option, Some, None, refl, sym, ap, ◌∙◌, subst}
 use Rattle.wy_core.specs.Types.{Ty, BoolTy, IntTy, AnyTy, ArrayTy, InterTy}
 use Rattle.wy_core.specs.CoreTree.{Expr, Exprs, Step, IndexStep, FieldStep, Stmts, IfStmt, WhileStmt}
-use Rattle.wy_types.specs.Names.{Declared, Up}
+use Rattle.wy_types.specs.Names.{Declared}
 use Rattle.wy_types.specs.Questions.{IsWideWithin}
 use Rattle.wy_parts.specs.Norms.{IsNorm}
 use Rattle.wy_parts.specs.Items.{IsElement}
 use Rattle.wy_parts.specs.Fields.{AllHave, IsField}
 use Rattle.wy_environment.specs.Slots.{slot_at}
-use Rattle.wy_environment.specs.Variables.{Environment, Changes, given, changed, type_of}
+use Rattle.wy_environment.specs.Variables.{Environment, given, changed, type_of}
 use Rattle.wy_typing.specs.Outcomes.{Gives, Give, Then}
 use Rattle.wy_typing.specs.Contexts.{Program, Found, FoundAll}
 use Rattle.wy_typing.specs.Asked.{IsInside, Norm}

@@ -1,9 +1,9 @@
 -- Variables that were declared before a statement stay so, and it neither declares them nor unsets them; and what it assigns is found by typing.
-use Rattle.std.proofs.Common.{◌≡◌, ◌⊎◌, inl, inr, ℕ, zero, suc, ◌+◌, List, [], ◌∷◌, ◌++◌, Bool, true, false, cond, ◌||◌, ◌==◌, eqb-true, Option, Some, None, refl, sym, ap, ◌∙◌, subst, arith}
+use Rattle.std.proofs.Common.{◌≡◌, ◌⊎◌, inl, inr, ℕ, ◌+◌, List, [], ◌∷◌, ◌++◌, Bool, true, false, cond, ◌||◌, ◌==◌, eqb-true, Option, Some, None, refl, sym, ap, ◌∙◌, subst, arith}
 use Rattle.std.proofs.lemmas.Bool.{or_cases, or_from, or_left, or_right}
 use Rattle.wy_core.specs.Types.{Ty}
 use Rattle.wy_core.specs.CoreTree.{Stmt, DeclareStmt, AssignStmt, CallStmt, ReturnStmt, AssertStmt, BreakStmt, ContinueStmt, SkipStmt, FailStmt, IfStmt, WhileStmt, Stmts, NoStmts, MoreStmts}
-use Rattle.wy_environment.specs.Slots.{slot_at, put_slot}
+use Rattle.wy_environment.specs.Slots.{slot_at}
 use Rattle.wy_typing.specs.Narrowing.{is_among, with_variable}
 use Rattle.wy_typing.specs.Assigned.{assigned_by, assigned_in}
 use Rattle.wy_conditions.specs.Sizes.{exprs_in, exprs_in_list, exprs_in_stmt, exprs_in_block}

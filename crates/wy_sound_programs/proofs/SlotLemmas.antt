@@ -1,9 +1,7 @@
 -- Types of variables by their numbers, marks, and types under changes.
-use Rattle.std.proofs.Common.{◌≡◌, ◌⊎◌, inl, inr, ℕ, zero, suc, ◌+◌, ◌<◌, List, [], ◌∷◌, Bool, true, false, cond, ◌||◌, ◌==◌, eqb-true, Option, Some, None, refl, sym, ap, ◌∙◌, subst, arith}
-use Rattle.std.specs.Prelude.{slice_get}
-use Rattle.wy_value.specs.Datum.{Datum}
+use Rattle.std.proofs.Common.{◌≡◌, ◌⊎◌, inl, inr, ℕ, zero, suc, List, [], ◌∷◌, Bool, true, false, cond, ◌==◌, eqb-true, Option, Some, None, refl, sym, ap, ◌∙◌, subst, arith}
 use Rattle.wy_core.specs.Types.{Ty}
-use Rattle.wy_environment.specs.Slots.{or_none, slot_at, put_slot}
+use Rattle.wy_environment.specs.Slots.{slot_at, put_slot}
 use Rattle.wy_environment.specs.Variables.{Environment, Changes, void_type, or_void, with_change, latest, type_of, given, changed}
 use Rattle.wy_conditions.specs.Spots.{is_set, mark}
 use Rattle.wy_sound_programs.specs.Typed.{Has}

@@ -1,8 +1,7 @@
 -- Stores at points of typing: with another value for a variable, behind a test, where paths meet, and along a loop.
-use Rattle.std.proofs.Common.{◌≡◌, ◌⊎◌, inl, inr, ℕ, ◌<◌, List, [], ◌∷◌, ◌++◌, length, Bool, true, false, ◌==◌, Option, Some, None, refl, sym, ap, ◌∙◌, subst}
-use Rattle.wy_value.specs.Datum.{Datum, Truth}
+use Rattle.std.proofs.Common.{◌≡◌, ◌⊎◌, inl, inr, ℕ, ◌<◌, List, [], Bool, true, false, ◌==◌, Option, Some, None, refl, sym, ap, ◌∙◌, subst}
+use Rattle.wy_value.specs.Datum.{Datum}
 use Rattle.wy_core.specs.Types.{Ty, InterTy}
-use Rattle.wy_core.specs.CoreTree as tree
 use Rattle.wy_types.specs.Names.{Declared, Up}
 use Rattle.wy_types.specs.Recursion.{RecurThroughParts}
 use Rattle.wy_types.proofs.TruthLemmas.{two_true}
@@ -16,10 +15,10 @@ use Rattle.wy_sound_expressions.specs.Types.{is_in}
 use Rattle.wy_sound_frames.specs.Frames.{Keeps}
 use Rattle.wy_sound_parts.proofs.NormLemmas.{norms_same}
 use Rattle.wy_sound_kinds.specs.Bounded.{IsBounded}
-use Rattle.wy_sound_kinds.specs.Kinds.{HasValues, HasTypes}
+use Rattle.wy_sound_kinds.specs.Kinds.{HasTypes}
 use Rattle.wy_sound_kinds.proofs.TypeLemmas.{put_length, put_same, put_other}
 use Rattle.wy_sound_statements.proofs.StoreLemmas.{declared_put, declared_unset}
-use Rattle.wy_sound_programs.specs.Typed.{Has, Stands, Holds}
+use Rattle.wy_sound_programs.specs.Typed.{Has, Holds}
 use Rattle.wy_sound_programs.proofs.SlotLemmas.{no_truth, apart_of, same_or_apart, same_slot, mark_same, mark_other, given_reached, given_same, given_other, type_here, type_same, changed_types}
 use Rattle.wy_sound_programs.proofs.JoinLemmas.{In}
 use Rattle.wy_sound_programs.proofs.HeadLemmas.{Headed, Old, New}

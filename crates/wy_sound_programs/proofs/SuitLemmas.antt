@@ -1,19 +1,18 @@
 -- Typed statements meet what is asked of their run.
-use Rattle.std.proofs.Common.{◌≡◌, ◌⊎◌, inl, inr, ℕ, zero, suc, ◌+◌, List, [], ◌∷◌, ◌++◌, length, Bool, true, false, Option, Some, None, refl, sym, ap, ◌∙◌, subst, arith}
-use Rattle.std.specs.Prelude.{slice_get, is_some}
+use Rattle.std.proofs.Common.{◌≡◌, ◌⊎◌, inl, inr, ℕ, zero, suc, ◌+◌, List, [], ◌∷◌, length, Bool, true, false, Option, Some, None, refl, sym, ap, ◌∙◌, subst, arith}
+use Rattle.std.specs.Prelude.{slice_get}
 use Rattle.wy_value.specs.Datum.{Datum, Truth}
 use Rattle.wy_core.specs.Types.{Ty}
 use Rattle.wy_core.specs.CoreTree as tree
 use Rattle.wy_core.specs.CoreTree.{Expr, Exprs, Step, IndexStep, FieldStep, Stmt, DeclareStmt, AssignStmt, CallStmt, ReturnStmt, AssertStmt, BreakStmt, ContinueStmt, SkipStmt, FailStmt, IfStmt, WhileStmt, Stmts, NoStmts, MoreStmts}
-use Rattle.wy_types.specs.Names.{Declared, Up}
+use Rattle.wy_types.specs.Names.{Up}
 use Rattle.wy_environment.specs.Slots.{slot_at}
 use Rattle.wy_environment.specs.Variables.{Environment, nothing_known, changed, type_of}
 use Rattle.wy_typing.specs.Outcomes.{Gives, gave}
-use Rattle.wy_typing.specs.Contexts.{Program, Found, FoundAll}
-use Rattle.wy_typing.specs.Expressions.{TypedExpr, TypedExprs, none_yet}
-use Rattle.wy_typing.specs.Calls.{FitCall}
+use Rattle.wy_typing.specs.Contexts.{Program, Found}
+use Rattle.wy_typing.specs.Expressions.{none_yet}
 use Rattle.wy_typing.specs.Loops.{ClausesTyped}
-use Rattle.wy_typing.specs.States.{State, with_flow, with_env}
+use Rattle.wy_typing.specs.States.{State}
 use Rattle.wy_typing.specs.Paths.{Updated}
 use Rattle.wy_typing.specs.Programs.{result_type}
 use Rattle.wy_typing.specs.Statements.{FitsResult, TypedStmt, TypedBlock}
@@ -24,7 +23,7 @@ use Rattle.wy_sem.specs.Expressions.{Store, slot}
 use Rattle.wy_sem.specs.Statements as run
 use Rattle.wy_sem.specs.Statements.{Exit, Went, Broke, Continued, Gave, Frame, type_at}
 use Rattle.wy_conditions.specs.Sizes.{exprs_in, exprs_in_list, exprs_in_path, exprs_in_stmt, exprs_in_block}
-use Rattle.wy_conditions.specs.Numbered.{Node, numbered, numbered_all, numbered_list, numbered_path, numbered_stmt, numbered_block}
+use Rattle.wy_conditions.specs.Numbered.{Node, numbered, numbered_all, numbered_path, numbered_stmt, numbered_block}
 use Rattle.wy_conditions.specs.Owed.{assume}
 use Rattle.wy_conditions.specs.Making.{formula, denied}
 use Rattle.wy_conditions.specs.Spots.{Spot, Flow, is_set}
@@ -34,31 +33,29 @@ use Rattle.wy_sound_terms.specs.Kinds.{IsTruth}
 use Rattle.wy_sound_expressions.specs.Types.{is_in}
 use Rattle.wy_sound_expressions.specs.Suits.{Kinds, Each, Suits, AllSuit}
 use Rattle.wy_sound_expressions.proofs.LawLemmas.{are_data}
-use Rattle.wy_sound_clauses.specs.Clauses.{Fits, AllFit}
+use Rattle.wy_sound_clauses.specs.Clauses.{AllFit}
 use Rattle.wy_sound_points.proofs.SetLemmas.{Point, PointIf, point_more, with_point, depend_from}
 use Rattle.wy_sound_points.proofs.StayLemmas.{expr_up, statement_points, block_points}
-use Rattle.wy_sound_frames.specs.Frames.{unsets, unsets_in}
+use Rattle.wy_sound_frames.specs.Frames.{unsets}
 use Rattle.wy_sound_frames.proofs.EveryLemmas.{every_of}
 use Rattle.wy_sound_frames.proofs.FrameLemmas.{statements_keep}
-use Rattle.wy_sound_kinds.specs.Ready.{Rules, count_of, Ready, AllReady}
-use Rattle.wy_sound_kinds.specs.Kinds.{HasValues, HasTypes, Kind, AreFor}
-use Rattle.wy_sound_kinds.proofs.TypeLemmas.{then_gives, given_is, AllIn}
+use Rattle.wy_sound_kinds.specs.Ready.{count_of, AllReady}
+use Rattle.wy_sound_kinds.specs.Kinds.{Kind}
+use Rattle.wy_sound_kinds.proofs.TypeLemmas.{then_gives, AllIn}
 use Rattle.wy_sound_kinds.proofs.KindLemmas as typed
 use Rattle.wy_sound_kinds.proofs.KindLemmas.{kinds}
 use Rattle.wy_sound_suits.specs.Laws.{Begins}
 use Rattle.wy_sound_suits.proofs.FlowLemmas.{begins_more}
 use Rattle.wy_sound_suits.proofs.KindLemmas.{truth_in}
-use Rattle.wy_sound_suits.proofs.SuitLemmas.{suits, all_suit}
-use Rattle.wy_sound_fits.specs.Fit.{ClausesReady}
-use Rattle.wy_sound_fits.proofs.FitLemmas.{clauses_fit}
-use Rattle.wy_sound_statements.specs.StatementSuits.{IsFree, IsTested, Leads, AtTurns, KeepFits, Behind, UpdateSuits, StmtSuits, BlockSuits}
+use Rattle.wy_sound_suits.proofs.SuitLemmas.{all_suit}
+use Rattle.wy_sound_statements.specs.StatementSuits.{IsTested, Leads, AtTurns, KeepFits, Behind, UpdateSuits, StmtSuits, BlockSuits}
 use Rattle.wy_sound_statements.specs.Ends.{frame_at, code_kinds}
-use Rattle.wy_sound_programs.specs.Scopes.{Scope, declares, Scoped, AllScoped}
-use Rattle.wy_sound_programs.specs.Along.{in_statements, CodeReady, PathReady, WhereGoes, ReadyAlong, AllReadyAlong}
-use Rattle.wy_sound_programs.specs.Typed.{Setting, scope_of, Grounds, Has, Stands, Holds, nothing_kept, TypedBlocksSuit}
+use Rattle.wy_sound_programs.specs.Scopes.{Scope, Scoped, AllScoped}
+use Rattle.wy_sound_programs.specs.Along.{CodeReady, PathReady, WhereGoes, ReadyAlong, AllReadyAlong}
+use Rattle.wy_sound_programs.specs.Typed.{Setting, scope_of, Grounds, Stands, Holds, nothing_kept, TypedBlocksSuit}
 use Rattle.wy_sound_programs.proofs.SlotLemmas.{no_truth}
 use Rattle.wy_sound_programs.proofs.LoopLemmas.{clauses, inner, head, test, turn, head_marks, body_point}
-use Rattle.wy_sound_programs.proofs.PartLemmas.{Test, declaration_parts, assignment_parts, into_parts, new_inside, Update, update_parts, path_parts, Call, call_parts, Return, return_parts, assertion_parts, on_yes, on_no, if_parts, in_loop, Loop, loop_parts}
+use Rattle.wy_sound_programs.proofs.PartLemmas.{Test, declaration_parts, assignment_parts, into_parts, new_inside, Update, update_parts, path_parts, Call, call_parts, return_parts, assertion_parts, on_yes, on_no, if_parts, in_loop, Loop, loop_parts}
 use Rattle.wy_sound_programs.proofs.ScopeLemmas.{all_stay_declared, not_unset}
 use Rattle.wy_sound_programs.proofs.GrewLemmas.{flow_one, flow_clauses, grew, all_grew}
 use Rattle.wy_sound_programs.proofs.StaticLemmas.{static, changed_stands}
@@ -137,8 +134,7 @@ module _ (c : Setting) (g : Grounds c) where
       let path_begins : Begins i.along.flow c.flow = begins_more i.along.flow i.v.flow c.flow (flow_one p s.env e i.along.flow i.v i.typed).begins value_begins in
       let next : number ≡ length i.along.flow = ap (λ (n : ℕ). n + exprs_in_path path) is ∙ sym (steps_begin c g s.env reached q v h path (type_of s.env [] x) s.flow y.0 i.along.flow y.2).counted in
       let o = h.values x on in
-      let inside = h.typed x o.0 on o.1 in
-      (
+      let inside = h.typed x o.0 on o.1 in (
         on,
         (
           o.0,
@@ -383,7 +379,7 @@ module _ (c : Setting) (g : Grounds c) where
               let here = every_of (run.exec c.evaluation fr front v l) (After c g start kept one t.0) (run_stmt c g start kept around first k q m s t.0 v l pt scoped.0 st t.1 ready.0 ren1 hc h) (Went u) o eq in
               let hcu = carried c g start kept (λ y. assigns y front) (λ y. unsets y front) v u one.ends t.0 ren1 lasts hc (statements_keep.statement c.evaluation fr front v (Went u) l o eq) still.ends here in
               on_behind around tail one.count t.0 kept (λ r. AllReadyAlong c.allowed b around rest n r one.count) one.ends u still.ends here ready.1 points.ends
-                  (λ r ptr str hu rr. suit_block start kept around fits rest n r one.count t.0 out u next ptr sc2 str t.2 begins rr ren2 hcu hu),
+              (λ r ptr str hu rr. suit_block start kept around fits rest n r one.count t.0 out u next ptr sc2 str t.2 begins rr ren2 hcu hu),
         )
 
 pub typed_blocks_suit : TypedBlocksSuit

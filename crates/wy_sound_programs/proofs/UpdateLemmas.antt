@@ -1,49 +1,44 @@
 -- Updates of parts of a variable: what the steps of a typed path meet, and the type of the datum with a new value at the end of the path.
-use Rattle.std.proofs.Common.{◌≡◌, ◌⊎◌, inl, inr, ℕ, zero, suc, ◌+◌, ◌-◌, ◌^◌, ◌≤◌, List, [], ◌∷◌, ◌++◌, length, Bool, true, false, cond, Option, Some, None, ℤ, pos, int_le, bytes_eq, refl, sym, ap, ◌∙◌, subst, arith}
+use Rattle.std.proofs.Common.{◌≡◌, inl, inr, ℕ, zero, suc, ◌+◌, List, [], ◌∷◌, length, Bool, true, false, cond, Option, Some, None, pos, int_le, bytes_eq, refl, sym, ap, ◌∙◌, subst, arith}
 use Rattle.std.specs.Prelude.{is_some}
 use Rattle.wy_value.specs.Datum.{Datum, Null, Truth, Whole, Array, Record, Data, no_items, item, Fields, no_fields, field}
 use Rattle.wy_value.specs.Values.{Rise, length_of, names_of}
-use Rattle.wy_core.specs.Types.{Ty, ArrayTy, UnionTy, AnyTy}
+use Rattle.wy_core.specs.Types.{Ty, ArrayTy, UnionTy}
 use Rattle.wy_core.specs.CoreTree.{Expr, Step, IndexStep, FieldStep}
 use Rattle.wy_term.specs.declared.cond.CondKind.TheVariants as kind
 use Rattle.wy_types.specs.Names.{Declared, Up, each_in_ty, item_readers}
-use Rattle.wy_types.specs.Recursion.{RecurThroughParts}
 use Rattle.wy_types.proofs.TruthLemmas.{two_true}
 use Rattle.wy_subtype.proofs.MarkLemmas.{or_left, or_right}
-use Rattle.wy_parts.specs.Items.{IsElement, IsItem}
+use Rattle.wy_parts.specs.Items.{IsItem}
 use Rattle.wy_parts.specs.Fields.{AllHave, has_value_at, value_at}
 use Rattle.wy_environment.specs.Variables.{Environment}
 use Rattle.wy_typing.specs.Outcomes.{Gives}
-use Rattle.wy_typing.specs.Contexts.{Program, Found, FoundAll}
-use Rattle.wy_typing.specs.Asked.{IsInside}
-use Rattle.wy_typing.specs.Expressions.{TypedExpr}
-use Rattle.wy_typing.specs.Paths.{Reached, StepType, step_more, PathTypes, StepUpdated, Updated}
+use Rattle.wy_typing.specs.Paths.{Reached, Updated}
 use Rattle.wy_sem.specs.Meter.{Meter, Done, Run, ◌>>=◌, check}
-use Rattle.wy_sem.specs.Operations.{longest, nat_of, is_index, item_at, set_item, find, set_field, as_items, as_number, as_fields, needed, indexed, or_null, Slot, ItemSlot, FieldSlot, updated}
+use Rattle.wy_sem.specs.Operations.{longest, nat_of, is_index, item_at, set_item, find, set_field, as_number, needed, indexed, or_null, Slot, ItemSlot, FieldSlot, updated}
 use Rattle.wy_sem.specs.Expressions as sem
 use Rattle.wy_sem.specs.Expressions.{Store}
 use Rattle.wy_sem.specs.Statements as run
 use Rattle.wy_conditions.specs.Sizes.{exprs_in, exprs_in_step, exprs_in_path}
 use Rattle.wy_conditions.specs.Numbered.{Node, numbered, numbered_path}
 use Rattle.wy_conditions.specs.Spots.{Spot, is_set}
-use Rattle.wy_sound_terms.specs.Kinds.{IsWhole, IsArray}
-use Rattle.wy_sound_expressions.specs.Suits.{Kinds, Each, Suits}
-use Rattle.wy_sound_frames.proofs.EveryLemmas.{Every, every_bind, every_told, every_of, every_check, every_number, every_items, every_fields, every_needed}
+use Rattle.wy_sound_expressions.specs.Suits.{Kinds}
+use Rattle.wy_sound_frames.proofs.EveryLemmas.{Every, every_bind, every_check, every_number, every_items, every_fields, every_needed}
 use Rattle.wy_sound_parts.proofs.ItemLemmas.{items_are_in}
 use Rattle.wy_sound_parts.proofs.ValueLemmas.{values_are_in}
 use Rattle.wy_sound_kinds.specs.Bounded.{IsBounded, AreBounded, FieldsBounded}
 use Rattle.wy_sound_kinds.specs.Kinds.{Kind}
-use Rattle.wy_sound_kinds.proofs.TypeLemmas.{then_gives, given_is, nil_right, append_assoc}
+use Rattle.wy_sound_kinds.proofs.TypeLemmas.{then_gives, given_is}
 use Rattle.wy_sound_kinds.proofs.DatumLemmas.{index_below, item_is, item_bounded, found_at, field_bounded}
 use Rattle.wy_sound_suits.specs.Laws.{Begins}
 use Rattle.wy_sound_suits.proofs.FlowLemmas.{FlowAll, begins_more}
 use Rattle.wy_sound_suits.proofs.KindLemmas.{array_in, whole_in}
 use Rattle.wy_sound_statements.specs.StatementSuits.{PathSuits}
 use Rattle.wy_sound_statements.specs.Ends.{code_kinds}
-use Rattle.wy_sound_programs.specs.Along.{CodeReady, PathReady}
+use Rattle.wy_sound_programs.specs.Along.{PathReady}
 use Rattle.wy_sound_programs.specs.Typed.{Setting, Grounds, Holds}
 use Rattle.wy_sound_programs.proofs.WithLemmas.{withs_are_in}
-use Rattle.wy_sound_programs.proofs.PartLemmas.{Item, Taken, index_parts, field_parts, Steps}
+use Rattle.wy_sound_programs.proofs.PartLemmas.{index_parts, field_parts, Steps}
 use Rattle.wy_sound_programs.proofs.GrewLemmas.{flow_none, flow_more, flow_step}
 use Rattle.wy_sound_programs.proofs.ValueLemmas.{value, value_suits, each_value}
 
@@ -134,8 +129,7 @@ module _ (c : Setting) (g : Grounds c) (env : Environment) (reached : env.reache
   field_leads at from f steps t u rest fs x slots bounded all whole found leads v new made typed inside vb =
       let a = then_gives _ _ made typed in
       let r = leads v new a.0 a.1 inside vb in
-      let part : updated x slots v ≡ updated (or_null (find fs f)) slots v = ap (λ (o : Option Datum). updated (or_null o) slots v) (sym found) in
-      (
+      let part : updated x slots v ≡ updated (or_null (find fs f)) slots v = ap (λ (o : Option Datum). updated (or_null o) slots v) (sym found) in (
         subst (λ (y : Datum). Up names (Record (set_field fs f y)) made ≡ true) part (withs_are_in names g.code.recur f t a.0 made all a.2.1 fs (updated x slots v) bounded.0 whole r.0),
         subst (λ (y : Datum). IsBounded (Record (set_field fs f y))) part (record_bounded fs f (updated x slots v) bounded r.1),
       )
@@ -203,11 +197,11 @@ module _ (c : Setting) (g : Grounds c) (env : Environment) (reached : env.reache
         value_suits c g e k env flow i.v (is_set q.set) s is reached i.typed front ready.0 h,
         array_in names d (i.is_array d inside),
         λ v l o eq. (
-            whole_in names v (i.is_int v (each_value c g e k env flow i.v (is_set q.set) s reached i.typed ready.0 h v l o eq).inside),
-            λ ds j is_array is_index good.
-                let inn : Up names (Array ds) t ≡ true = subst (λ (y : Datum). Up names y t ≡ true) is_array inside in
-                let b : IsBounded (Array ds) = subst IsBounded is_array bounded in
-                path_suits steps (k + exprs_in e) u typed.0.flow typed.1 out (item_at ds j) next typed.4 begins ready.1 (ap (Up names (item_at ds j)) same ∙ items_are_in names g.code.recur t i.ty i.element (item_at ds j) (ds, item_is ds j (index_below ds (pos j) good), inn)) (item_bounded ds j b.1),
+          whole_in names v (i.is_int v (each_value c g e k env flow i.v (is_set q.set) s reached i.typed ready.0 h v l o eq).inside),
+          λ ds j is_array is_index good.
+              let inn : Up names (Array ds) t ≡ true = subst (λ (y : Datum). Up names y t ≡ true) is_array inside in
+              let b : IsBounded (Array ds) = subst IsBounded is_array bounded in
+              path_suits steps (k + exprs_in e) u typed.0.flow typed.1 out (item_at ds j) next typed.4 begins ready.1 (ap (Up names (item_at ds j)) same ∙ items_are_in names g.code.recur t i.ty i.element (item_at ds j) (ds, item_is ds j (index_below ds (pos j) good), inn)) (item_bounded ds j b.1),
         ),
       )
   path_suits (FieldStep from f ∷ steps) k t flow rest out d is typed begins ready inside bounded =

@@ -1,5 +1,5 @@
 -- Records keep to the type that typing makes of theirs and of a value's, with the value at the field.
-use Rattle.std.proofs.Common.{◌≡◌, ◌⊎◌, inl, inr, ℕ, List, [], ◌∷◌, ◌++◌, Bool, true, false, cond, ◌&&◌, ◌||◌, Option, Some, None, Less, nat_cmp, refl, sym, ap, ◌∙◌, subst}
+use Rattle.std.proofs.Common.{◌≡◌, ◌⊎◌, inl, inr, ℕ, List, [], ◌∷◌, ◌++◌, Bool, true, false, cond, ◌&&◌, ◌||◌, Less, nat_cmp, refl, sym, ap, ◌∙◌, subst}
 use Rattle.std.specs.Str.{bytes_eq}
 use Rattle.std.specs.Cmp.Lexicographic.{slice_cmp, nat_list_cmp_total}
 use Rattle.std.specs.List.{AllByRecursion}
@@ -25,7 +25,6 @@ use Rattle.wy_types.specs.NodeLaws.{bytes_are}
 use Rattle.wy_types.specs.Questions.{numbered, first_part}
 use Rattle.wy_types.specs.Ranked.{IsRanked}
 use Rattle.wy_types.specs.Conjuncts.{same_term}
-use Rattle.wy_types.specs.Same.{united_conjuncts}
 use Rattle.wy_types.proofs.OnceLemmas.{any_in-united_conjuncts}
 use Rattle.wy_types.proofs.QuestionLemmas.{is_asked, question_ranked, first_agrees, second_agrees, conjuncts_agree}
 use Rattle.wy_types.proofs.RankedLemmas.{has_laws}
@@ -36,7 +35,7 @@ use Rattle.wy_subtype.specs.Valued.{ways_of, all_ways, IsInhabited, AreInhabited
 use Rattle.wy_subtype.proofs.MarkLemmas.{or_left, or_right}
 use Rattle.wy_subtype.proofs.ValueLemmas.{part_in-inside}
 use Rattle.wy_subtype.proofs.ValuedLemmas.{any_in-valued, valued_have}
-use Rattle.wy_parts.specs.Fields.{AllHave, has_value_at, atom_has, all_have}
+use Rattle.wy_parts.specs.Fields.{AllHave, atom_has, all_have}
 use Rattle.wy_updates.specs.Updates.{part_at, replaced, with_record, records_of, all_of, second_part, IsWith}
 use Rattle.wy_sound_programs.proofs.OtherLemmas.{some_other}
 

@@ -1,5 +1,5 @@
 -- Typed blocks meet what soundness asks of their run.
-use Rattle.std.specs.Prelude.{◌≡◌, ℕ, List, [], length, Bool, true, false, Option, Some, is_some}
+use Rattle.std.specs.Prelude.{◌≡◌, ℕ, List, [], length, Bool, true, false, Some, is_some}
 use Rattle.wy_value.specs.Datum.{Datum}
 use Rattle.wy_core.specs.Types.{Ty}
 use Rattle.wy_core.specs.CoreTree as tree
@@ -23,7 +23,6 @@ use Rattle.wy_sound_expressions.specs.Laws.{AreValTerms}
 use Rattle.wy_sound_joins.specs.Points.{IsPoint}
 use Rattle.wy_sound_calls.specs.CallLaws.{Checks}
 use Rattle.wy_sound_kinds.specs.Bounded.{IsBounded}
-use Rattle.wy_sound_kinds.specs.Ready.{Rules}
 use Rattle.wy_sound_kinds.specs.Kinds.{HasValues, HasTypes, AreFor, Rests}
 use Rattle.wy_sound_suits.specs.Laws.{Begins, Asks, TellsNumbers}
 use Rattle.wy_sound_statements.specs.StatementSuits.{BlockSuits}

@@ -6,4 +6,7 @@
 
 mod law;
 
-pub use law::{bodies_begin_and_end, bodies_leave, formed_bodies_are_made, routines_are_scoped, typed_blocks_suit};
+pub use law::{
+    bodies_begin_and_end, bodies_leave, formed_bodies_are_made, routines_are_scoped,
+    typed_blocks_suit,
+};
