@@ -3,3 +3,4 @@ pub mod ContractLemmas
 pub mod DepthLemmas
 pub mod RunLemmas
 pub mod ParamLemmas
+pub mod TakeLemmas

@@ -1,5 +1,5 @@
 -- The entry's store has each argument in its parameter.
-use Rattle.std.proofs.Common.{◌≡◌, ◌<◌, ℕ, suc, List, [], ◌∷◌, length, Some, refl, ap, ◌∙◌, arith}
+use Rattle.std.proofs.Common.{◌≡◌, ◌<◌, ℕ, suc, List, [], ◌∷◌, length, Bool, Some, refl, ap, ◌∙◌, arith}
 use Rattle.wy_value.specs.Datum.{Datum}
 use Rattle.wy_core.specs.CoreTree.{Param}
 use Rattle.wy_sem.specs.Expressions.{Store, slot, put}

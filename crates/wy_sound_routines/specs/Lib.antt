@@ -4,3 +4,5 @@ pub mod Entries
 pub mod Depths
 -- a program from its entry
 pub mod Runs
+-- what the calls of a typed program take
+pub mod Takes

@@ -2,6 +2,7 @@
 ghost use Rattle.wy_sound_routines.specs.Depths.{CallsAreHandled};
 ghost use Rattle.wy_sound_routines.specs.Entries.{ContractsAreSafe, EntriesStand, ParametersAreIn};
 ghost use Rattle.wy_sound_routines.specs.Runs.{RunsAreSound};
+ghost use Rattle.wy_sound_routines.specs.Takes.{TypedCallsAreTaken};
 
 /// At the entry of a function or method whose arguments are of their parameters' types, there are names at which the parameters
 /// stand for the arguments and what is assumed of their types is known.
@@ -31,4 +32,10 @@ pub fn calls_are_handled()
 /// clause is true.
 pub fn runs_are_sound()
     ensures sound { RunsAreSound }
+{}
+
+/// Calls of a typed program are taken as the law of depths asks, where their arguments are in the types of the parameters by
+/// their upward readings, contracts are typed, and bodies keep their contracts where the calls in them are handled.
+pub fn typed_calls_are_taken()
+    ensures taken { TypedCallsAreTaken }
 {}
