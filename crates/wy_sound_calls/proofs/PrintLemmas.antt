@@ -103,9 +103,9 @@ module _ (A : Type 0) (limit : Option ℕ) (at : ℕ) where
   text_right (item (Whole z) ds) w h m =
       good_turn A limit false (as_number at (Whole z) (λ y. check (is_ascii y) kind.Requires at (λ k. text_of limit at ds k >>= (λ bytes. Done (nat_of y ∷ bytes))))) (λ bytes. (is_ascii z && each_item is_character ds) ≡ true)
       (λ k. one_more (is_ascii z) z ds k refl h (λ e. text_right ds w.1 (λ a. rest (is_ascii z) (each_item is_character ds) (h a)) k)) m where
-    rest : (a b : Bool) → (a && b) ≡ true → b ≡ true
-    rest true b e = e
-    rest false b e = absurd cc
+        rest : (a b : Bool) → (a && b) ≡ true → b ≡ true
+        rest true b e = e
+        rest false b e = absurd cc
   text_right (item Null ds) w h m = absurd w.0
   text_right (item (Truth b) ds) w h m = absurd w.0
   text_right (item (Array es) ds) w h m = absurd w.0
