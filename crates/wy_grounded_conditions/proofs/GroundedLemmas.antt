@@ -35,14 +35,14 @@ use Rattle.wy_grounded_conditions.proofs.LevelLemmas.{level, ranked, types_level
 -- ---- names
 
 -- the Val name stands for the datum
-stands_for : (names : Names) (w : List ℕ) (d : Datum) → (with_datum names w 0 d).datum_of w 0 ≡ d
+pub stands_for : (names : Names) (w : List ℕ) (d : Datum) → (with_datum names w 0 d).datum_of w 0 ≡ d
 stands_for names w d = ap (λ (b : Bool). cond b d (names.datum_of w 0)) (own w 0)
   where
     own : (w : List ℕ) (n : ℕ) → (bytes_eq w w && eqb n n) ≡ true
     own w n = rw (bytes_self w, eqb_self n) refl
 
 -- names that agree on the one name of a list
-all_same : (names others : Names) (x : Term) (ys : List Term) → SameAt names others x → AreAll x ys → AllSame names others ys
+pub all_same : (names others : Names) (x : Term) (ys : List Term) → SameAt names others x → AreAll x ys → AllSame names others ys
 all_same names others x [] same h = tt
 all_same names others x (y ∷ ys) same h = (subst (SameAt names others) (sym h.0) same, all_same names others x ys same h.1)
 
@@ -112,7 +112,7 @@ module _ (core : Core ℕ) (bound : Bound core) (recurs : Recursion core) (flow 
   all_ask c [] within = tt
   all_ask c (n ∷ ns) within = (asks c n (within n (or_left (eqb n n) (is_among ns n) (eqb_self n))), all_ask c ns (λ b h. within b (or_right (eqb n b) (is_among ns b) h)))
 
-  grounded : (c : Owed) → AreGrounded (unfold_of s c)
+  pub grounded : (c : Owed) → AreGrounded (unfold_of s c)
   grounded c = record {
     once = types_once s c;
     closed = tests_closed s (types_of s c);

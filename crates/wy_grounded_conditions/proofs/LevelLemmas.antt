@@ -10,7 +10,7 @@ use Rattle.wy_formed.specs.Ranks.{Ranked}
 use Rattle.wy_formed.proofs.RankLemmas.{ranked_types}
 use Rattle.wy_term.proofs.SameLemmas.{eqb_self}
 use Rattle.wy_sem.specs.TypeTests.{no_alias, alias_at, mentions}
-use Rattle.wy_conditions.specs.Named.{some_test_in, alias_mentions, leads_to}
+use Rattle.wy_conditions.specs.Named.{some_test_in, alias_mentions, leads_to, is_recursive}
 use Rattle.wy_conditions.specs.Numbered.{Node, numbered_list, numbered_alias, exprs_in_decl, numbered_decls, numbered_core}
 use Rattle.wy_vc_reach.proofs.BoundedLemmas.{Grows, bounded}
 use Rattle.wy_grounded_conditions.specs.Uses.{NamesAll, NamesBare, ClausesTestAll}
@@ -49,6 +49,10 @@ fewer p q up (suc k) m less f t = by (λ l. fewer p q up k m l f t) (cases_lt m 
     by : (m < k → how_many p k < how_many q k) → (m < k) ⊎ (k ≤ m) → one_if (p k) + how_many p k < one_if (q k) + how_many q k
     by rest (inl l) = let h = rest l in let g = one_within (p k) (q k) (up k) in omega (arith, h, g)
     by rest (inr past) = here (omega (arith, less, past))
+
+how_many_within : (p : ℕ → Bool) (k : ℕ) → how_many p k ≤ k
+how_many_within p zero = omega arith
+how_many_within p (suc k) = let h = how_many_within p k in let l = one_within (p k) true (λ e. refl) in omega (arith, h, l)
 
 -- ---- numbered types
 
@@ -183,6 +187,22 @@ module _ (core : Core ℕ) (bound : Bound core) (recurs : Recursion core) where
       fewer (led c) (led b) (λ m g. led_on b c m n (inr h) g) count b less (or_from (c == b) (leads_to types b count c) (is_false (c == b) (λ e. recurs.mention b c n.alias n.stands h (stays (eqb-true c b e)))) (is_false (leads_to types b count c) (λ e. recurs.mention b c n.alias n.stands h (reaches b count c e))))
       (or_left (b == b) (leads_to types b count b) (eqb_self b))
 
+  -- what a type that doesn't lead back to itself uses is of a lower level
+  used_level : (b c : ℕ) → b < count → (n : IsNumbered core types b) → UsesType true n.alias c → is_recursive types b ≡ false → level c < level b
+  used_level b c less n u straight =
+      fewer (led c) (led b) (λ m h. led_on b c m n u h) count b less (is_false (led c b) (λ e. back e)) (or_left (b == b) (leads_to types b count b) (eqb_self b))
+    where
+      back : led c b ≡ true → ⊥
+      back e = let r : is_recursive types b ≡ true = bounded (leads_to types b) count (leads_grow b) (suc count) b (one_step b count b c n u e) in absurd cc
+
+  pub level_within : (b : ℕ) → level b ≤ length types
+  level_within b = how_many_within (led b) count
+
+  pub level_above : (b : ℕ) → b < length types → 0 < level b
+  level_above b less =
+      let h = fewer (λ m. false) (led b) (λ m e. absurd (let f : false ≡ true = e in cc)) count b less refl (or_left (b == b) (leads_to types b count b) (eqb_self b)) in
+      omega (arith, h)
+
   -- ---- formed types
 
   abbrev pub ranked : Ranked (aliases_of core)
@@ -212,3 +232,13 @@ module _ (core : Core ℕ) (bound : Bound core) (recurs : Recursion core) where
         let n = at_type b less in
         subst (λ (a : Alias Node). ClausesTestAll (λ c. (c < count) × (level c < level b)) a.clauses) (sym n.is) (all_clauses_tested (λ c. (c < count) × (level c < level b)) n.alias.clauses n.number (λ c h. test_is b c less n h));
   }
+
+  -- a type that doesn't lead back to itself names types of lower levels alone
+  pub names_lower : (b : ℕ) → b < length types → is_recursive types b ≡ false → NamesAll (λ c. (c < length types) × (level c < level b)) (alias_at types b).ty
+  names_lower b less straight =
+      let n = at_type b less in
+      subst (λ (a : Alias Node). NamesAll (λ c. (c < length types) × (level c < level b)) a.ty) (sym n.is)
+      (all_named (λ c. (c < length types) × (level c < level b)) n.alias.ty (λ c h. (counted c (named_below (length (aliases_of core)) n.alias.ty (is_bound b n).ty c h), used_level b c less n (inl h) straight)))
+
+  pub rank_within : (b : ℕ) → b < length types → ranked.rank b < length types
+  rank_within b less = let n = at_type b less in let e = same_count core 0 in let l = ranked.within b n.alias n.stands in omega (arith, e, l)

@@ -201,3 +201,9 @@ module _ {N : Type 0} (s : Setting N) where
       let begun = tests_in_all (c.hyps ++ c.goal ∷ []) in
       let r = rising_is (mentioned s (length s.types) begun) 0 (length s.types) n h in
       rising_has (mentioned s (length s.types) begun) 0 (length s.types) k (omega arith) (omega (arith, less)) (closed begun n k r.among g less)
+
+  -- what the condition itself tests is listed
+  pub mentioned_listed : (c : Owed) (n : ℕ) → is_among (tests_in_all (c.hyps ++ c.goal ∷ [])) n ≡ true → n < length s.types → is_among (types_of s c) n ≡ true
+  mentioned_listed c n h less =
+      let begun = tests_in_all (c.hyps ++ c.goal ∷ []) in
+      rising_has (mentioned s (length s.types) begun) 0 (length s.types) n (omega arith) (omega (arith, less)) (mentioned_more (length s.types) begun n h)

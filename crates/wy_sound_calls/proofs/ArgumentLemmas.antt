@@ -32,7 +32,7 @@ use Rattle.wy_sound_expressions.proofs.GoodLemmas.{true_left, true_right}
 use Rattle.wy_sound_expressions.proofs.AssumeLemmas.{assumed_true}
 use Rattle.wy_sound_expressions.proofs.CallGrows.{in_type_grows, member_grows}
 use Rattle.wy_sound_expressions.proofs.LawLemmas.{types_told}
-use Rattle.wy_sound_calls.specs.CallLaws.{Checks, ArgumentsFit, ArgumentsIn, AreValues, with_params}
+use Rattle.wy_sound_calls.specs.CallLaws.{Checks, ComesAs, ArgumentsFit, ArgumentsIn, AreValues, with_params}
 
 -- ---- a value that is given a type
 
@@ -46,7 +46,7 @@ checked A P at next b Spent e t go = tt
 
 module _ (s : Setting Node) (members : ℕ → Datum → Bool) (owed : Ty → Datum → Test) (told : NamesTold members (named_in s)) (checks : Checks s members owed) where
   -- what is owed and known of it
-  pub given_right : {X : Type 0} (A : Type 0) (P : X → Type 0) (from at n : ℕ) (t : Ty) (v : Term) (hyps : List Term) (names : Names) (d : Datum) (next : Run X) → IsWritten t → (is_constrained s.types t ≡ false → is_in members t d ≡ true) → names.is_member ≡ members → IsOf val_sort v → Means n names v d → Known n names hyps
+  pub given_right : {X : Type 0} (A : Type 0) (P : X → Type 0) (from at n : ℕ) (t : Ty) (v : Term) (hyps : List Term) (names : Names) (d : Datum) (next : Run X) → IsWritten t → ComesAs s members t d → names.is_member ≡ members → IsOf val_sort v → Means n names v d → Known n names hyps
       → (A → AreTrueBy members (owe_member s from t v hyps n).owed) → (is_in members t d ≡ true → Known (owe_member s from t v hyps n).count names (owe_member s from t v hyps n).hyps → (m : Meter) → Good A (next m) P) → (m : Meter) → Good A (given owed at t d next m) P
   given_right {X} A P from at n t v hyps names d next wr free right is means h true_of go m = by (is_constrained s.types t) refl true_of go where
     f : Valued
@@ -55,10 +55,10 @@ module _ (s : Setting Node) (members : ℕ → Datum → Bool) (owed : Ty → Da
     by : (c : Bool) → is_constrained s.types t ≡ c → (A → AreTrueBy members (if c then pass_goals kind.Member from (one_goal f) hyps else passed n hyps []).owed)
         → (is_in members t d ≡ true → Known (if c then pass_goals kind.Member from (one_goal f) hyps else passed n hyps []).count names (if c then pass_goals kind.Member from (one_goal f) hyps else passed n hyps []).hyps → (l : Meter) → Good A (next l) P)
         → Good A (given owed at t d next m) P
-    by false e tr g = checked A P at next true (owed t d m) (checks.free t d m e) (λ a. refl) (λ q l. g (free e) h l)
+    by false e tr g = checked A P at next true (owed t d m) (checks.free t d m free.0 e) (λ a. refl) (λ q l. g (free.1 e) h l)
     by true e tr g =
         let grows = in_type_grows s t v n in
-        checked A P at next (is_in members t d) (owed t d m) (checks.asked t d m e)
+        checked A P at next (is_in members t d) (owed t d m) (checks.asked t d m free.0 e)
         (λ a. sym (types_told s members told t n v names d wr right is.has means) ∙ (tr a).0 names right (h names (agree_refl n names)))
         (λ q l. g q (λ u b. assumed_true u hyps f.term (h u (agree_less n f.count names u grows b))
         (types_told s members told t n v u d wr (right_later members n names u right (agree_less n f.count names u grows b)) is.has (means_later n n names u v d (omega arith) (agree_less n f.count names u grows b) means) ∙ q)) l)

@@ -81,7 +81,7 @@ module _ (w : sem.Setting Node) (s : Setting Node) (members : ℕ → Datum → 
       let typed : Known f.count later (assume hyps f.term) = λ u a.
       assumed_true u hyps f.term (before u (agree_trans n f.count names later u (omega (arith, g)) there a))
       (types_told s members told out.ty (suc n) name u d (fit.written out e) (right_later members f.count later u right2 a) (val_name_sorted r.name n).has
-      (means_later (suc n) (suc n) later u name d (omega arith) (agree_less (suc n) f.count later u g a) name_is) ∙ l.0) in
+      (means_later (suc n) (suc n) later u name d (omega arith) (agree_less (suc n) f.count later u g a) name_is) ∙ l.1) in
       let vars2 = put_if vars out.variable name in
       let c = assume_clauses s r.variables r.postconditions vars2 (assume hyps f.term) f.count in
       let more = assumed_grow s r.variables r.postconditions vars2 (assume hyps f.term) f.count in
@@ -89,7 +89,7 @@ module _ (w : sem.Setting Node) (s : Setting Node) (members : ℕ → Datum → 
         later = later;
         agree = there;
         known = clauses_assumed w s members told r.variables vars2 later (also_if out.variable (with_params r.params nothing_seen)) (set_if (entry_of r vs) out.variable (Some d)) right2 (put_if_data out.variable da (val_name_sorted r.name n))
-            r.postconditions f.count (assume hyps f.term) (fit.last out d e) l.1
+            r.postconditions f.count (assume hyps f.term) (fit.last out d e l.0 l.1) l.2
             (stand_if f.count later vars (with_params r.params nothing_seen) (entry_of r vs) out.variable name d (stand_later n f.count names later vars (with_params r.params nothing_seen) (entry_of r vs) (omega (arith, g)) there stand) (means_later (suc n) f.count later later name d g (agree_refl (suc n) later) name_is))
             typed;
         means = λ x q. subst (λ (y : Datum). Means c.count later name y) (some_same d x q) (means_later (suc n) c.count later later name d (omega (arith, g, more)) (agree_refl (suc n) later) name_is);

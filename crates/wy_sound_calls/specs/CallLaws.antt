@@ -21,18 +21,23 @@ use Rattle.wy_sound_expressions.specs.Written.{IsWritten}
 use Rattle.wy_sound_expressions.specs.Suits.{Answers}
 use Rattle.wy_sound_expressions.specs.Laws.{NamesTold, IsValTerm}
 use Rattle.wy_sound_clauses.specs.Clauses.{AllFit, AreSafe, AllPass}
+use Rattle.wy_sound_kinds.specs.Bounded.{IsBounded}
 
--- the checks of types that calls make: a type from which one with clauses is reached is asked about, and no other
+-- the checks of types that calls make, of data that a program may hold: a type from which one with clauses is reached is asked about, and no other
 pub record Checks (s : Setting Node) (members : ℕ → Datum → Bool) (owed : Ty → Datum → Test) : Type 0 where
-  pub asked : (t : Ty) (d : Datum) (m : Meter) → is_constrained s.types t ≡ true → Answers (is_in members t d) (owed t d m)
-  pub free : (t : Ty) (d : Datum) (m : Meter) → is_constrained s.types t ≡ false → Answers true (owed t d m)
+  pub asked : (t : Ty) (d : Datum) (m : Meter) → IsBounded d → is_constrained s.types t ≡ true → Answers (is_in members t d) (owed t d m)
+  pub free : (t : Ty) (d : Datum) (m : Meter) → IsBounded d → is_constrained s.types t ≡ false → Answers true (owed t d m)
+
+-- a datum that is given a type: a program may hold it, and where it isn't asked about it is in the type
+abbrev pub ComesAs : Setting Node → (ℕ → Datum → Bool) → Ty → Datum → Type 0
+ComesAs s members t d = IsBounded d × (is_constrained s.types t ≡ false → is_in members t d ≡ true)
 
 -- each argument that isn't asked about is of its type
 abbrev pub ArgumentsFit : Setting Node → (ℕ → Datum → Bool) → List Param → List Datum → Type 0
 ArgumentsFit s members [] [] = Unit {0}
 ArgumentsFit s members [] (v ∷ vs) = ⊥
 ArgumentsFit s members (p ∷ ps) [] = ⊥
-ArgumentsFit s members (p ∷ ps) (v ∷ vs) = IsWritten p.ty × (is_constrained s.types p.ty ≡ false → is_in members p.ty v ≡ true) × ArgumentsFit s members ps vs
+ArgumentsFit s members (p ∷ ps) (v ∷ vs) = IsWritten p.ty × ComesAs s members p.ty v × ArgumentsFit s members ps vs
 
 -- each argument is of its type
 abbrev pub ArgumentsIn : (ℕ → Datum → Bool) → List Param → List Datum → Type 0
@@ -56,12 +61,12 @@ also_if (Some x) seen = also x seen
 abbrev pub Leaves : sem.Setting Node → Setting Node → (ℕ → Datum → Bool) → Routine Node → List Datum → Option tree.Output → Option Datum → Type 0
 Leaves w s members r vs None v = (v ≡ None) × AllPass w r.postconditions (entry_of r vs)
 Leaves w s members r vs (Some out) None = ⊥
-Leaves w s members r vs (Some out) (Some d) = (is_in members out.ty d ≡ true) × AllPass w r.postconditions (set_if (entry_of r vs) out.variable (Some d))
+Leaves w s members r vs (Some out) (Some d) = IsBounded d × (is_in members out.ty d ≡ true) × AllPass w r.postconditions (set_if (entry_of r vs) out.variable (Some d))
 
--- the clauses fit each store at which they are asked: at the entry, and with a result
+-- the clauses fit each store at which they are asked: at the entry, and with a result, which is of its type
 pub record ClausesFit (w : sem.Setting Node) (s : Setting Node) (members : ℕ → Datum → Bool) (r : Routine Node) (vs : List Datum) : Type 0 where
   pub first : AllFit w s members (with_params r.params nothing_seen) r.preconditions (entry_of r vs)
-  pub last : (out : tree.Output) (d : Datum) → r.result ≡ Some out → AllFit w s members (also_if out.variable (with_params r.params nothing_seen)) r.postconditions (set_if (entry_of r vs) out.variable (Some d))
+  pub last : (out : tree.Output) (d : Datum) → r.result ≡ Some out → IsBounded d → is_in members out.ty d ≡ true → AllFit w s members (also_if out.variable (with_params r.params nothing_seen)) r.postconditions (set_if (entry_of r vs) out.variable (Some d))
   pub none : r.result ≡ None → AllFit w s members (with_params r.params nothing_seen) r.postconditions (entry_of r vs)
   pub written : (out : tree.Output) → r.result ≡ Some out → IsWritten out.ty
 

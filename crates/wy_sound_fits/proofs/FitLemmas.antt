@@ -34,7 +34,7 @@ no_call e = absurd cc
 
 -- where nothing may be called, nothing is
 mutual
-  quiet : (r : Rules) (n : ℕ) (seen : ℕ → Bool) (e : Expr ℕ) (k : ℕ) → Ready r true n seen e → CallsNothing (numbered e k)
+  pub quiet : (r : Rules) (n : ℕ) (seen : ℕ → Bool) (e : Expr ℕ) (k : ℕ) → Ready r true n seen e → CallsNothing (numbered e k)
   quiet r n seen (NullExpr at) k h = tt
   quiet r n seen (BoolExpr at b) k h = tt
   quiet r n seen (IntExpr at z) k h = tt

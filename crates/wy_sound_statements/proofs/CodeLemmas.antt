@@ -1,17 +1,16 @@
 -- Expressions of code, calls in them, tests, and values that come into variables.
-use Rattle.std.proofs.Common.{◌≡◌, ℕ, ◌≤◌, List, [], ◌∷◌, ◌++◌, length, Bool, true, false, Option, Some, None, refl, sym, ap, ◌∙◌, subst, arith}
+use Rattle.std.proofs.Common.{◌≡◌, ℕ, ◌≤◌, List, length, Bool, true, false, Some, refl, sym, ap, ◌∙◌, subst, arith}
 use Rattle.wy_value.specs.Datum.{Datum, Null, Truth, Whole, Array, Record}
 use Rattle.wy_core.specs.Types.{Ty}
 use Rattle.wy_core.specs.CoreTree.{Expr, Exprs}
 use Rattle.wy_term.specs.Term.{Term}
 use Rattle.wy_term.specs.Sorts.{val_sort}
 use Rattle.wy_term.specs.Meaning.{Names}
-use Rattle.wy_kept_sorts.specs.SortKept.{HasSort}
-use Rattle.wy_sem.specs.Meter.{Meter, Outcome, Done, Run, ◌>>=◌}
+use Rattle.wy_sem.specs.Meter.{Meter, Done}
 use Rattle.wy_sem.specs.Operations.{as_truth}
 use Rattle.wy_sem.specs.Expressions as sem
 use Rattle.wy_sem.specs.Expressions.{Store, put}
-use Rattle.wy_sem.specs.TypeTests.{Test, is_constrained}
+use Rattle.wy_sem.specs.TypeTests.{Test}
 use Rattle.wy_sem.specs.Statements as run
 use Rattle.wy_sem.specs.Statements.{Exit, Went, Frame, type_at}
 use Rattle.wy_conditions.specs.Numbered.{Node}
@@ -21,20 +20,20 @@ use Rattle.wy_conditions.specs.Owed.{Owed}
 use Rattle.wy_conditions.specs.Clauses.{in_type, owe_member}
 use Rattle.wy_conditions.specs.Calls.{Walked, call_walk}
 use Rattle.wy_conditions.specs.Walks.{WalkedAll, walk_all}
-use Rattle.wy_conditions.specs.Spots.{Spot, Flow, is_set}
+use Rattle.wy_conditions.specs.Spots.{Spot, is_set}
 use Rattle.wy_conditions.specs.Statements.{Body, words, expr as walked_expr, given}
-use Rattle.wy_formed_conditions.proofs.MakingLemmas.{IsOf, AllOf}
+use Rattle.wy_formed_conditions.proofs.MakingLemmas.{AllOf}
 use Rattle.wy_formed_conditions.proofs.ValueLemmas.{AreData, holds_sorted, named_sorted}
 use Rattle.wy_sound_terms.specs.Kinds.{IsTruth}
-use Rattle.wy_sound_expressions.specs.Names.{Agree, Known, Means, AllMean, Stand}
+use Rattle.wy_sound_expressions.specs.Names.{Agree, Known, AllMean, Stand}
 use Rattle.wy_sound_expressions.specs.Truth.{AreTrueBy, Good}
 use Rattle.wy_sound_expressions.specs.Types.{is_in}
 use Rattle.wy_sound_expressions.specs.Written.{IsWritten}
-use Rattle.wy_sound_expressions.specs.Suits.{Kinds, Each, Suits, AllSuit}
+use Rattle.wy_sound_expressions.specs.Suits.{Each, Suits, AllSuit}
 use Rattle.wy_sound_expressions.specs.Sound.{Ok}
 use Rattle.wy_sound_expressions.specs.Laws.{NamesTold}
-use Rattle.wy_sound_expressions.proofs.NameLemmas.{agree_refl, agree_trans, right_later, stand_later}
-use Rattle.wy_sound_expressions.proofs.GoodLemmas.{true_left, true_right, good_map, good_bind}
+use Rattle.wy_sound_expressions.proofs.NameLemmas.{agree_trans, right_later, stand_later}
+use Rattle.wy_sound_expressions.proofs.GoodLemmas.{good_map, good_bind}
 use Rattle.wy_sound_expressions.proofs.ValueGrows.{named_grows}
 use Rattle.wy_sound_expressions.proofs.CallGrows.{in_type_grows, call_grows, call_sorted}
 use Rattle.wy_sound_expressions.proofs.GenericWalks.{walk_is, all_is}
@@ -42,12 +41,10 @@ use Rattle.wy_sound_expressions.proofs.ListLemmas.{OkAll, OkResult}
 use Rattle.wy_sound_expressions.proofs.ExpressionLemmas.{expr, exprs}
 use Rattle.wy_sound_expressions.proofs.LawLemmas.{tells_by}
 use Rattle.wy_sound_joins.specs.Points.{At}
-use Rattle.wy_sound_joins.specs.Joins.{AtEnd}
-use Rattle.wy_sound_calls.specs.CallLaws.{Checks, Returned}
+use Rattle.wy_sound_calls.specs.CallLaws.{Returned}
 use Rattle.wy_sound_calls.proofs.ArgumentLemmas.{given_right}
 use Rattle.wy_sound_steps.specs.Steps.{Behind, IsIn}
 use Rattle.wy_sound_steps.proofs.StepLemmas.{values_come_in}
-use Rattle.wy_sound_depends.proofs.WalkLemmas.{code_grows}
 use Rattle.wy_sound_statements.specs.StatementSuits.{IsFree}
 use Rattle.wy_sound_statements.specs.Ends.{AreDeclared, frame_at, Exits, Rests, AreHandled, GiveValues, code_kinds}
 use Rattle.wy_sound_statements.proofs.PlaceLemmas.{end_back, are_values, good_both}

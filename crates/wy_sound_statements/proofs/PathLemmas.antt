@@ -1,15 +1,14 @@
 -- The steps of a path follow their walk.
-use Rattle.std.proofs.Common.{◌≡◌, ℕ, ◌≤◌, List, [], ◌∷◌, ◌++◌, Bool, true, false, ◌&&◌, Option, Some, None, ℤ, pos, negsuc, int_le, int_lt, refl, sym, ap, ◌∙◌, subst, arith}
-use Rattle.wy_value.specs.Datum.{Datum, Null, Truth, Whole, Array, Record, Data, Fields}
+use Rattle.std.proofs.Common.{◌≡◌, ℕ, ◌≤◌, List, [], ◌∷◌, ◌++◌, Bool, true, false, ◌&&◌, Option, ℤ, pos, negsuc, int_le, int_lt, refl, sym, ap, ◌∙◌, subst}
+use Rattle.wy_value.specs.Datum.{Datum, Null, Truth, Whole, Array, Record, Data}
 use Rattle.wy_value.specs.Values.{length_of}
-use Rattle.wy_core.specs.CoreTree.{Step, IndexStep, FieldStep, Expr}
+use Rattle.wy_core.specs.CoreTree.{Step, IndexStep, FieldStep}
 use Rattle.wy_term.specs.declared.cond.CondKind.TheVariants as kind
 use Rattle.wy_term.specs.Term.{Term}
 use Rattle.wy_term.specs.Data as shapes
-use Rattle.wy_term.specs.Meaning.{Names, sense}
-use Rattle.wy_term.specs.Condition.{AllTrue}
-use Rattle.wy_sem.specs.Meter.{Meter, Outcome, Done, Fault, Run, ◌>>=◌, check}
-use Rattle.wy_sem.specs.Operations.{nat_of, item_at, find, is_index, as_items, as_fields, as_number, needed, indexed, Slot, ItemSlot, FieldSlot}
+use Rattle.wy_term.specs.Meaning.{Names}
+use Rattle.wy_sem.specs.Meter.{Meter, Done, Run, ◌>>=◌, check}
+use Rattle.wy_sem.specs.Operations.{nat_of, item_at, find, is_index, as_fields, needed, indexed, Slot, ItemSlot, FieldSlot}
 use Rattle.wy_sem.specs.Expressions as sem
 use Rattle.wy_sem.specs.Expressions.{Store}
 use Rattle.wy_sem.specs.Statements as run
@@ -20,7 +19,7 @@ use Rattle.wy_conditions.specs.Values.{named_in}
 use Rattle.wy_conditions.specs.Owed.{assume_all, owe}
 use Rattle.wy_conditions.specs.Operations as op
 use Rattle.wy_conditions.specs.Walks.{index_goals}
-use Rattle.wy_conditions.specs.Statements.{Body, words, expr, Part, ElementOf, FieldOf, Along, along}
+use Rattle.wy_conditions.specs.Statements.{Body, expr, Part, ElementOf, FieldOf, along}
 use Rattle.wy_formed_conditions.proofs.ValueLemmas.{AreData}
 use Rattle.wy_sound_terms.specs.Kinds.{IsWhole, IsArray}
 use Rattle.wy_sound_terms.specs.Updates.{Leads}
@@ -30,11 +29,10 @@ use Rattle.wy_sound_terms.proofs.MadeLemmas.{all, field_means}
 use Rattle.wy_sound_terms.proofs.OtherLemmas.{index_is, element_means}
 use Rattle.wy_sound_expressions.specs.Names.{Agree, Known, Means, Stand}
 use Rattle.wy_sound_expressions.specs.Truth.{AreTrueBy, Good}
-use Rattle.wy_sound_expressions.specs.Suits.{Each}
 use Rattle.wy_sound_expressions.specs.Sound.{Ok}
 use Rattle.wy_sound_expressions.specs.Laws.{NamesTold}
-use Rattle.wy_sound_expressions.proofs.NameLemmas.{agree_refl, agree_trans, agree_less, known_later, means_later, stand_later, right_later}
-use Rattle.wy_sound_expressions.proofs.GoodLemmas.{true_left, true_right, good_map, good_bind}
+use Rattle.wy_sound_expressions.proofs.NameLemmas.{agree_refl, agree_trans, means_later, stand_later, right_later}
+use Rattle.wy_sound_expressions.proofs.GoodLemmas.{true_left, true_right, good_bind}
 use Rattle.wy_sound_expressions.proofs.AssumeLemmas.{all_assumed_true, owed_true}
 use Rattle.wy_sound_points.proofs.StayLemmas.{expr_up, along_up}
 use Rattle.wy_sound_statements.specs.StatementSuits.{PathSuits}
@@ -62,7 +60,7 @@ module _ (w : sem.Setting Node) (b : Body Node) (members : ℕ → Datum → Boo
 
   -- the index was checked: where it is that of an item the path goes on there
   checked : (at : ℕ) (steps : List (Step Node)) (whole index : Term) (ds : Data) (z : ℤ) (hyps : List Term) (n c : ℕ) (names later : Names) (k : Meter) → n ≤ c → Agree n names later → later.is_member ≡ members → Stand c later vars seen st → Known c later hyps → Means c later whole (Array ds) → Means c later index (Whole z)
-      → ((i : ℕ) → z ≡ pos i → PathSuits (code_kinds w b members takes) seen steps (item_at ds i) st) → Path steps → (bit : Bool) → is_index z ds ≡ bit
+      → ((i : ℕ) → z ≡ pos i → is_index z ds ≡ true → PathSuits (code_kinds w b members takes) seen steps (item_at ds i) st) → Path steps → (bit : Bool) → is_index z ds ≡ bit
       → Good (AreTrueBy members (owe kind.Index at hyps (index_goals whole index) ++ (along b steps (op.element whole index) vars (assume_all hyps (index_goals whole index)) c).owed))
       (check bit kind.Index at (λ j. run.path_of w st steps (item_at ds (nat_of z)) j >>= (λ slots. Done (ItemSlot (nat_of z) ∷ slots))) k)
       (OkPath n names (along b steps (op.element whole index) vars (assume_all hyps (index_goals whole index)) c).count (along b steps (op.element whole index) vars (assume_all hyps (index_goals whole index)) c).hyps
@@ -85,7 +83,7 @@ module _ (w : sem.Setting Node) (b : Body Node) (members : ℕ → Datum → Boo
       let known : Known c later hyps2 = λ u q. all_assumed_true u hyps goals (h u q) (all_true u goals (index_is u whole index ds z (mw u q) (mi u q) ∙ e)) in
       let up = along_up b steps (op.element whole index) vars hyps2 c in
       good_bind A B (Unit {0}) (run.path_of w st steps (item_at ds i) k) (λ slots. Done (ItemSlot i ∷ slots)) (OkPath c later rest.count rest.hyps rest.parts (item_at ds i)) P (true_right members (owe kind.Index at hyps goals) rest.owed) (λ t. tt)
-      (more (op.element whole index) (item_at ds i) hyps2 c later k (su i is) right sd known (λ u q. element_means u whole index ds z (mw u q) (mi u q) e))
+      (more (op.element whole index) (item_at ds i) hyps2 c later k (su i is e) right sd known (λ u q. element_means u whole index ds z (mw u q) (mi u q) e))
       (λ slots j q o. record {
         later = o.later;
         agree = agree_trans n c names later o.later le a o.agree;
@@ -96,13 +94,13 @@ module _ (w : sem.Setting Node) (b : Body Node) (members : ℕ → Datum → Boo
       })
 
   by_index : (at : ℕ) (steps : List (Step Node)) (whole index : Term) (d c : Datum) (hyps : List Term) (n m : ℕ) (names later : Names) (k : Meter) → n ≤ m → Agree n names later → later.is_member ≡ members → Stand m later vars seen st → Known m later hyps → Means m later whole d → Means m later index c
-      → IsArray d → IsWhole c → ((ds : Data) (i : ℕ) → d ≡ Array ds → c ≡ Whole (pos i) → PathSuits (code_kinds w b members takes) seen steps (item_at ds i) st) → Path steps
+      → IsArray d → IsWhole c → ((ds : Data) (i : ℕ) → d ≡ Array ds → c ≡ Whole (pos i) → is_index (pos i) ds ≡ true → PathSuits (code_kinds w b members takes) seen steps (item_at ds i) st) → Path steps
       → Good (AreTrueBy members (owe kind.Index at hyps (index_goals whole index) ++ (along b steps (op.element whole index) vars (assume_all hyps (index_goals whole index)) m).owed))
       (indexed at d c (λ ds i j. run.path_of w st steps (item_at ds i) j >>= (λ slots. Done (ItemSlot i ∷ slots))) k)
       (OkPath n names (along b steps (op.element whole index) vars (assume_all hyps (index_goals whole index)) m).count (along b steps (op.element whole index) vars (assume_all hyps (index_goals whole index)) m).hyps
       (ElementOf whole index ∷ (along b steps (op.element whole index) vars (assume_all hyps (index_goals whole index)) m).parts) d)
   by_index at steps whole index (Array ds) (Whole z) hyps n m names later k le a right sd h mw mi ar wh su more =
-      checked at steps whole index ds z hyps n m names later k le a right sd h mw mi (λ i e. su ds i refl (ap Whole e)) more (is_index z ds) refl
+      checked at steps whole index ds z hyps n m names later k le a right sd h mw mi (λ i e q. su ds i refl (ap Whole e) (subst (λ (y : ℤ). is_index y ds ≡ true) e q)) more (is_index z ds) refl
   by_index at steps whole index (Array ds) Null hyps n m names later k le a right sd h mw mi ar wh su more = absurd wh
   by_index at steps whole index (Array ds) (Truth x) hyps n m names later k le a right sd h mw mi ar wh su more = absurd wh
   by_index at steps whole index (Array ds) (Array es) hyps n m names later k le a right sd h mw mi ar wh su more = absurd wh

@@ -1,15 +1,14 @@
 -- Stores at points: at later names, with more names made, and among more points.
-use Rattle.std.proofs.Common.{◌≡◌, ◌⊎◌, inl, inr, ℕ, ◌≤◌, List, [], ◌∷◌, ◌++◌, Bool, true, false, Option, Some, None, refl, sym, ap, subst, arith}
-use Rattle.wy_value.specs.Datum.{Datum}
+use Rattle.std.proofs.Common.{◌≡◌, inl, inr, ℕ, ◌≤◌, List, [], ◌∷◌, ◌++◌, Option, Some, None, refl, ap, subst}
 use Rattle.wy_term.specs.Term.{Term}
 use Rattle.wy_term.specs.Sorts.{val_sort}
 use Rattle.wy_term.specs.Meaning.{Names}
-use Rattle.wy_sem.specs.Meter.{Meter, Outcome, Done, Fault, More, Spent}
+use Rattle.wy_sem.specs.Meter.{Outcome, Done, Fault, More, Spent}
 use Rattle.wy_sem.specs.Expressions.{Store}
 use Rattle.wy_conditions.specs.Variables.{Vars}
 use Rattle.wy_conditions.specs.Spots.{Spot, is_set, as_list}
 use Rattle.wy_formed_conditions.proofs.MakingLemmas.{AllOf, none, more}
-use Rattle.wy_formed_conditions.proofs.ValueLemmas.{IsDatum, no_datum, datum, AreData, no_data, next}
+use Rattle.wy_formed_conditions.proofs.ValueLemmas.{IsDatum, datum, AreData, next}
 use Rattle.wy_sound_expressions.specs.Names.{Agree}
 use Rattle.wy_sound_expressions.specs.Truth.{Good}
 use Rattle.wy_sound_expressions.specs.Laws.{IsValTerm, AreValTerms}
@@ -18,7 +17,7 @@ use Rattle.wy_sound_joins.specs.Points.{At}
 use Rattle.wy_sound_joins.specs.Joins.{IsOne, ArePoints, AtEnd}
 use Rattle.wy_sound_calls.specs.CallLaws.{AreValues}
 use Rattle.wy_sound_depends.specs.Begins.{Begins, AllBegin, EndBegins}
-use Rattle.wy_sound_points.proofs.SetLemmas.{Point, PointIf, AllPoints, as_point}
+use Rattle.wy_sound_points.proofs.SetLemmas.{AllPoints, as_point}
 use Rattle.wy_sound_statements.specs.Ends.{AtSome}
 
 -- ---- points

@@ -1,42 +1,41 @@
 -- Statements follow their walk.
-use Rattle.std.proofs.Common.{◌≡◌, ◌⊎◌, inl, inr, ℕ, zero, suc, ◌+◌, ◌≤◌, List, [], ◌∷◌, ◌++◌, Bool, true, false, ◌||◌, Option, Some, None, refl, sym, ap, ◌∙◌, subst, arith}
+use Rattle.std.proofs.Common.{◌≡◌, inl, inr, ℕ, zero, suc, ◌≤◌, List, [], ◌∷◌, ◌++◌, Bool, true, false, Option, Some, None, refl, sym, ap, ◌∙◌, subst, arith}
 use Rattle.wy_value.specs.Datum.{Datum, Truth}
 use Rattle.wy_core.specs.Types.{Ty}
 use Rattle.wy_core.specs.CoreTree as tree
 use Rattle.wy_core.specs.CoreTree.{Expr, Step, Stmt, DeclareStmt, AssignStmt, CallStmt, ReturnStmt, AssertStmt, BreakStmt, ContinueStmt, SkipStmt, FailStmt, IfStmt, WhileStmt, Stmts, NoStmts, MoreStmts}
 use Rattle.wy_term.specs.declared.cond.CondKind.TheVariants as kind
 use Rattle.wy_term.specs.Term.{Term}
-use Rattle.wy_term.specs.Meaning.{Names, sense}
-use Rattle.wy_sem.specs.Meter.{Meter, Outcome, Done, Fault, Run, ◌>>=◌, spend, check, choose}
+use Rattle.wy_term.specs.Meaning.{Names}
+use Rattle.wy_sem.specs.Meter.{Meter, Done, Fault, Run, ◌>>=◌, spend, check, choose}
 use Rattle.wy_sem.specs.Operations.{as_truth, needed, Slot, updated}
 use Rattle.wy_sem.specs.Expressions as sem
 use Rattle.wy_sem.specs.Expressions.{Store, slot, put}
-use Rattle.wy_sem.specs.TypeTests.{Test, set_if}
+use Rattle.wy_sem.specs.TypeTests.{Test}
 use Rattle.wy_sem.specs.Statements as run
 use Rattle.wy_sem.specs.Statements.{Exit, Went, Broke, Continued, Gave, Frame, type_at}
-use Rattle.wy_sem.specs.Evaluation.{entry_of, frame_of}
+use Rattle.wy_sem.specs.Evaluation.{entry_of}
 use Rattle.wy_conditions.specs.Making.{val_name, falsehood, denied, formula}
 use Rattle.wy_conditions.specs.Numbered.{Node}
-use Rattle.wy_conditions.specs.Values.{valued, word_at, variable, named_in}
+use Rattle.wy_conditions.specs.Values.{word_at, variable}
 use Rattle.wy_conditions.specs.Owed.{Owed, assume, owe}
-use Rattle.wy_conditions.specs.Clauses.{Passed, one_goal, pass_goals, owe_clauses, owe_member}
+use Rattle.wy_conditions.specs.Clauses.{Passed, owe_clauses, owe_member}
 use Rattle.wy_conditions.specs.Calls.{Walked, call_walk}
 use Rattle.wy_conditions.specs.Walks.{walk_all}
-use Rattle.wy_conditions.specs.Spots.{Spot, Flow, is_set, as_list, go_on, followed, declare, with_hyps}
+use Rattle.wy_conditions.specs.Spots.{Spot, Flow, is_set, as_list, go_on, followed, with_hyps}
 use Rattle.wy_conditions.specs.Joins.{meet}
 use Rattle.wy_conditions.specs.Assigned.{assigns_in}
-use Rattle.wy_conditions.specs.Statements.{Body, words, expr, along, rebuilt, assigned, leave, renew, walk_clauses, keep, where_true, where_false, behind_if, behind_loop, exec, exec_all}
+use Rattle.wy_conditions.specs.Statements.{Body, words, expr, along, rebuilt, assigned, leave, renew, walk_clauses, keep, where_true, where_false, behind_if, exec, exec_all}
 use Rattle.wy_formed_conditions.proofs.ValueLemmas.{variable_sorted}
 use Rattle.wy_sound_terms.specs.Kinds.{IsTruth}
 use Rattle.wy_sound_terms.proofs.UpdateLemmas.{updates_agree}
-use Rattle.wy_sound_terms.proofs.MadeLemmas.{holds as true_at, formula_means, denied_means}
-use Rattle.wy_sound_expressions.specs.Names.{Agree, Known, Means, Stand}
+use Rattle.wy_sound_terms.proofs.MadeLemmas.{formula_means, denied_means}
+use Rattle.wy_sound_expressions.specs.Names.{Agree, Known}
 use Rattle.wy_sound_expressions.specs.Truth.{AreTrueBy, Good}
-use Rattle.wy_sound_expressions.specs.Types.{is_in}
 use Rattle.wy_sound_expressions.specs.Written.{IsWritten}
 use Rattle.wy_sound_expressions.specs.Suits.{Each, Suits}
 use Rattle.wy_sound_expressions.specs.Sound.{Ok}
-use Rattle.wy_sound_expressions.proofs.NameLemmas.{agree_refl, agree_trans, agree_less, known_later, stand_later, right_later}
+use Rattle.wy_sound_expressions.proofs.NameLemmas.{agree_refl, agree_trans, stand_later, right_later}
 use Rattle.wy_sound_expressions.proofs.GoodLemmas.{true_left, true_right, true_after, good_weaken, good_map, good_bind, good_spend}
 use Rattle.wy_sound_expressions.proofs.AssumeLemmas.{assumed_true}
 use Rattle.wy_sound_expressions.proofs.CallGrows.{clauses_grow, call_grows}
@@ -46,26 +45,26 @@ use Rattle.wy_sound_clauses.specs.Clauses.{AllFit, AreSafe, AllPass, AreTrueIfDo
 use Rattle.wy_sound_clauses.proofs.HoldLemmas.{owed_hold}
 use Rattle.wy_sound_clauses.proofs.WalkedLemmas.{walked_safe, walked_known}
 use Rattle.wy_sound_joins.specs.Points.{At}
-use Rattle.wy_sound_joins.specs.Joins.{IsOne, ArePoints, AtEnd}
+use Rattle.wy_sound_joins.specs.Joins.{AtEnd}
 use Rattle.wy_sound_joins.proofs.JoinLemmas.{joins_sound}
 use Rattle.wy_sound_heads.specs.Heads.{IsTurn}
 use Rattle.wy_sound_heads.proofs.HeadLemmas.{heads_sound}
 use Rattle.wy_sound_calls.specs.CallLaws.{Returned, Leaves}
-use Rattle.wy_sound_steps.specs.Steps.{Ending, ResultsLeave}
+use Rattle.wy_sound_steps.specs.Steps.{Ending}
 use Rattle.wy_sound_steps.proofs.StepLemmas.{results_leave}
-use Rattle.wy_sound_depends.specs.Begins.{Begins, AllBegin, EndBegins}
+use Rattle.wy_sound_depends.specs.Begins.{AllBegin}
 use Rattle.wy_sound_depends.proofs.BeginLemmas.{begins_assumed}
 use Rattle.wy_sound_depends.proofs.BlockLemmas.{blocks_begin}
 use Rattle.wy_sound_depends.proofs.ValueLemmas.{all_more, variable_depends}
-use Rattle.wy_sound_depends.proofs.WalkLemmas.{code_grows, codes_grow}
+use Rattle.wy_sound_depends.proofs.WalkLemmas.{codes_grow}
 use Rattle.wy_sound_points.proofs.SetLemmas.{Point, PointIf, AllPoints, FlowPoints, point_more, point_if_more, points_more, both_points, list_points, with_point, depend_from}
 use Rattle.wy_sound_points.proofs.MeetLemmas.{meet_points}
 use Rattle.wy_sound_points.proofs.StayLemmas.{Rests as TermRests, RenewedPoint, parts_on, rebuilt_rests, expr_rests, along_rests, along_up, expr_up, walked_up, keep_up, head_renewed, statement_points, block_points}
-use Rattle.wy_sound_frames.specs.Frames.{unsets_in, Keeps, AtExit}
+use Rattle.wy_sound_frames.specs.Frames.{unsets_in, Keeps}
 use Rattle.wy_sound_frames.proofs.FrameLemmas.{statements_keep}
-use Rattle.wy_sound_statements.specs.StatementSuits.{IsFree, PathSuits, UpdateSuits, Leads, AtTurns, KeepFits, Behind, StmtSuits, BlockSuits}
+use Rattle.wy_sound_statements.specs.StatementSuits.{IsFree, PathSuits, UpdateSuits, IsTested, Leads, AtTurns, KeepFits, Behind, StmtSuits, BlockSuits}
 use Rattle.wy_sound_statements.specs.Ends.{AreDeclared, AtSome, frame_at, Exits, Rests, AreHandled, GiveValues, code_kinds, BlocksAreSound}
-use Rattle.wy_sound_statements.proofs.PlaceLemmas.{at_more, at_back, some_left, some_right, end_some, are_points, list_begins, both_begin, begins_less, end_begins_less, all_begin_less, val_terms, are_values}
+use Rattle.wy_sound_statements.proofs.PlaceLemmas.{at_more, some_left, some_right, end_some, are_points, list_begins, both_begin, end_begins_less, all_begin_less, val_terms, are_values}
 use Rattle.wy_sound_statements.proofs.StoreLemmas.{declared_unset, declare_at, clauses_go, owed_known, passed_known}
 use Rattle.wy_sound_statements.proofs.PathLemmas.{OkPath, path_right}
 use Rattle.wy_sound_statements.proofs.CodeLemmas.{truth_end, code_right, codes_right, Tested, test_right, comes_right}
@@ -154,7 +153,7 @@ module _ (w : sem.Setting Node) (b : Body Node) (members : ℕ → Datum → Boo
       let P : Exit → Type 0 = X around f in
       let there : Agree n names x.later = agree_trans n m names later x.later le a x.goes in
       let go : Good A (run.leave w fr at (Some out) (Some d) k) (λ y. (y ≡ Gave (Some d)) × Leaves w b.program.setting members b.routine vs (Some out) (Some d)) =
-      results_leave.value w owed b members vs out at at v.count v.term v.hyps x.later d k rests.told rests.checks is (rests.result_written out is) free (rests.value_fits out d is) (rests.value_safe out d is)
+      results_leave.value w owed b members vs out at at v.count v.term v.hyps x.later d k rests.told rests.checks is (rests.result_written out is) free (λ q. rests.value_fits out d is free.0 q) (λ q. rests.value_safe out d is free.0 q)
       (ending v.count x.later (omega (arith, le, up)) there) x.is x.means x.known in
       subst (λ (o : Option tree.Output). Good A (run.leave w fr at o (Some d) k) P) (sym is)
       (good_map A (run.leave w fr at (Some out) (Some d) k) (λ y. (y ≡ Gave (Some d)) × Leaves w b.program.setting members b.routine vs (Some out) (Some d)) P go
@@ -249,16 +248,23 @@ module _ (w : sem.Setting Node) (b : Body Node) (members : ℕ → Datum → Boo
     abbrev met_ends : Option Spot
     met_ends = (meet (words b) test.hyps paths kept.count).ends
 
+    -- the test is true there, and a turn leads from there
+    abbrev Yes : Store → Type 0
+    Yes t = IsTested (code_kinds w b members takes) e t
+
+    abbrev Lead : Store → Store → Type 0
+    Lead t u = Leads (code_kinds w b members takes) fr e body t u
+
     -- what is asked at a turn
     abbrev Here : Store → Type 0
     Here t =
         AllFit w b.program.setting members (is_set head.set) invariants t
         × Suits (code_kinds w b members takes) false (is_set head.set) e t × Each (code_kinds w b members takes) e t IsTruth
         × Each (code_kinds w b members takes) e t (λ d. d ≡ Truth true → SuitAll invariants body (where_true test head) test.count t)
-        × ((u : Store) (i k : Meter) → run.exec_all w fr body t i ≡ Done (Went u) k → KeepFits w b members invariants turn.ends u)
+        × (Yes t → (u : Store) (i k : Meter) → run.exec_all w fr body t i ≡ Done (Went u) k → KeepFits w b members invariants turn.ends u)
 
     module _ (first : Store) (le : n ≤ m) (start : At n names m p first) (pt : Point m p) (apart : (x : ℕ) → is_set p.set x ≡ true → unsets_in x body ≡ false) (sound : SoundFrom invariants body) where
-      first_of : (j : ℕ) (t : Store) → AtTurns Here (Leads w fr body) j t → Here t
+      first_of : (j : ℕ) (t : Store) → AtTurns Here Lead j t → Here t
       first_of zero t h = h
       first_of (suc j) t h = h.0
 
@@ -350,32 +356,32 @@ module _ (w : sem.Setting Node) (b : Body Node) (members : ℕ → Datum → Boo
 
         -- another turn from a store, where the invariants passed
         abbrev From : ℕ → Type 0
-        From j = (u : Store) → IsTurn b members body p first u → AreDeclared b.types members u → AtTurns Here (Leads w fr body) j u → AllPass w invariants u → (l : Meter) → Good A (next j u l) Q
+        From j = (u : Store) → IsTurn b members body p first u → AreDeclared b.types members u → AtTurns Here Lead j u → AllPass w invariants u → (l : Meter) → Good A (next j u l) Q
 
-        ended : (j : ℕ) (t : Store) → IsTurn b members body p first t → Here t → ((u : Store) → Leads w fr body t u → AtTurns Here (Leads w fr body) j u) → From j
+        ended : (j : ℕ) (t : Store) → IsTurn b members body p first t → Here t → Yes t → ((u : Store) → Lead t u → AtTurns Here Lead j u) → From j
             → (x : Exit) (i k : Meter) → run.exec_all w fr body t i ≡ Done x k → X invariants turn x → Good A (run.go_round at keeping (next j) x k) Q
-        ended j t is here lead more (Went u) i k q h =
-            let on = lead u (i, k, inl q) in
+        ended j t is here sure lead more (Went u) i k q h =
+            let on = lead u (sure, (i, k, inl q)) in
             let again = next_turn t u is (statements_keep.block w fr body t (Went u) i k q) h.1 in
             clauses_go w A Q kind.Keep at u (next j u) invariants (λ a. head_safe u again (first_of j u on).0 (owes_inside a))
-            (λ a. kept_hold at invariants turn.ends turn.count u h.0 body_points.ends (here.4 u i k q) (true_right members turn.owed kept.owed (owes_both a)))
+            (λ a. kept_hold at invariants turn.ends turn.count u h.0 body_points.ends (here.4 sure u i k q) (true_right members turn.owed kept.owed (owes_both a)))
             (λ l pass. more u again h.1 on pass l) k
-        ended j t is here lead more (Continued from u) i k q h =
-            let on = lead u (i, k, inr (from, q)) in
+        ended j t is here sure lead more (Continued from u) i k q h =
+            let on = lead u (sure, (i, k, inr (from, q))) in
             let again = next_turn t u is (statements_keep.block w fr body t (Continued from u) i k q) h.1 in
             clauses_go w A Q kind.Keep from u (next j u) invariants (λ a. head_safe u again (first_of j u on).0 (owes_inside a)) (λ a. h.0 (true_left members turn.owed kept.owed (owes_both a))) (λ l pass. more u again h.1 on pass l) k
-        ended j t is here lead more (Broke u) i k q h = went u (behind u (h.0.0, inr h.0.1, at_more n turn.count kept.count names h.0.0 u g6 h.0.2)) h.1
-        ended j t is here lead more (Gave r) i k q h = gave r h
+        ended j t is here sure lead more (Broke u) i k q h = went u (behind u (h.0.0, inr h.0.1, at_more n turn.count kept.count names h.0.0 u g6 h.0.2)) h.1
+        ended j t is here sure lead more (Gave r) i k q h = gave r h
 
         -- where the test is true the body runs, and else the loop ends
-        chosen : (j : ℕ) (t : Store) → (is : IsTurn b members body p first t) → AreDeclared b.types members t → (here : Here t) → ((u : Store) → Leads w fr body t u → AtTurns Here (Leads w fr body) j u) → From j
+        chosen : (j : ℕ) (t : Store) → (is : IsTurn b members body p first t) → AreDeclared b.types members t → (here : Here t) → ((u : Store) → Lead t u → AtTurns Here Lead j u) → From j
             → (inner : At n names inside.count (with_hyps inside.hyps head) t) → (c : Bool) (l : Meter) → Tested w b members takes rests.told taken gives e t inside.count inner.later test c
             → Good A (choose c (λ k. run.exec_all w fr body t k >>= run.go_round at keeping (next j)) (Done (Went t)) l) Q
         chosen j t is decl here lead more inner true l x =
             good_bind A (AreTrueBy members turn.owed) A (run.exec_all w fr body t l) (run.go_round at keeping (next j)) (X invariants turn) Q (λ a. true_left members turn.owed kept.owed (owes_both a)) (λ a. a)
             (sound (where_true test head) test.count t l (let x2 = g2 in let x3 = g3 in let x4 = g4 in omega (arith, le, x2, x3, x4)) (with_point test.count head (assume test.hyps (formula test.term)) here_point)
             (true_at_test inside.count (with_hyps inside.hyps head) t test (let x2 = g2 in let x3 = g3 in omega (arith, le, x2, x3)) g4 inner x.0) decl (here.3 (Truth true) x.1.0 x.1.1 x.1.2 refl))
-            (λ y k q h. ended j t is here lead more y l k q h)
+            (λ y k q h. ended j t is here x.1 lead more y l k q h)
         chosen j t is decl here lead more inner false l x =
             went t (behind t (
               where_false test head,
@@ -438,7 +444,7 @@ module _ (w : sem.Setting Node) (b : Body Node) (members : ℕ → Datum → Boo
     abbrev All : Type 0
     All = AreTrueBy members (entry.owed ++ rest)
 
-    loop_right : (k : Meter) → ((j : ℕ) → AtTurns (Here at e invariants body met entry.count) (Leads w fr body) j s) → Good All (run.exec w fr (WhileStmt at e invariants body) s k) Ends
+    loop_right : (k : Meter) → ((j : ℕ) → AtTurns (Here at e invariants body met entry.count) (Lead at e invariants body met entry.count) j s) → Good All (run.exec w fr (WhileStmt at e invariants body) s k) Ends
     loop_right k turns =
         let go : Run Exit = λ l. run.rounds (suc l.ticks) at (run.tested_truth w at e) (run.exec_all w fr body) (λ from. sem.clauses w kind.Keep from invariants) s l in
         good_spend All true (sem.clauses w kind.Entry at invariants s go) Ends

@@ -1,5 +1,5 @@
 -- Stores with another value for a variable, and clauses that go on where each answer is true.
-use Rattle.std.proofs.Common.{◌≡◌, ◌⊎◌, inl, inr, ℕ, zero, suc, ◌+◌, ◌≤◌, List, [], ◌∷◌, Bool, true, false, ◌==◌, Option, Some, None, ℤ, refl, sym, ap, ◌∙◌, subst, arith}
+use Rattle.std.proofs.Common.{◌≡◌, ◌⊎◌, inl, inr, ℕ, zero, suc, List, [], ◌∷◌, Bool, true, false, Option, Some, None, refl, ap, subst, arith}
 use Rattle.wy_value.specs.Datum.{Datum, Null, Truth, Whole, Array, Record}
 use Rattle.wy_core.specs.Types.{Ty}
 use Rattle.wy_core.specs.CoreTree.{Expr}
@@ -11,7 +11,6 @@ use Rattle.wy_sem.specs.Operations.{as_truth}
 use Rattle.wy_sem.specs.Expressions as sem
 use Rattle.wy_sem.specs.Expressions.{Store, slot, put}
 use Rattle.wy_sem.specs.Statements.{type_at}
-use Rattle.wy_conditions.specs.Making.{val_name}
 use Rattle.wy_conditions.specs.Variables.{Vars}
 use Rattle.wy_conditions.specs.Values.{Setting, variable, named_in}
 use Rattle.wy_conditions.specs.Owed.{assume_all, owe}
@@ -27,7 +26,7 @@ use Rattle.wy_sound_expressions.proofs.NameLemmas.{agree_refl, agree_less, known
 use Rattle.wy_sound_expressions.proofs.GoodLemmas.{true_left, true_right}
 use Rattle.wy_sound_expressions.proofs.AssumeLemmas.{all_assumed_true, owed_true}
 use Rattle.wy_sound_expressions.proofs.CallGrows.{goals_grow}
-use Rattle.wy_sound_clauses.specs.Clauses.{AllFit, IsNoFault, IsSafe, Passes, AllPass, AreSafe, IsTrueIfDone, AreTrueIfDone}
+use Rattle.wy_sound_clauses.specs.Clauses.{AllFit, IsNoFault, AllPass, AreSafe, AreTrueIfDone}
 use Rattle.wy_sound_clauses.proofs.ClauseLemmas.{goals_at}
 use Rattle.wy_sound_joins.specs.Points.{At}
 use Rattle.wy_sound_statements.specs.Ends.{AreDeclared}

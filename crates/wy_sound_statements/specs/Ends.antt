@@ -1,5 +1,5 @@
 -- How statements end: at the points behind them, and with what the contract says; and the law.
-use Rattle.std.specs.Prelude.{◌≡◌, ℕ, ◌≤◌, List, [], ◌∷◌, Bool, true, false, Option, Some, None}
+use Rattle.std.specs.Prelude.{◌≡◌, ℕ, ◌≤◌, List, Bool, true, Option, Some, None}
 use Rattle.wy_value.specs.Datum.{Datum}
 use Rattle.wy_core.specs.Types.{Ty}
 use Rattle.wy_core.specs.CoreTree as tree
@@ -27,6 +27,7 @@ use Rattle.wy_sound_expressions.specs.Laws.{NamesTold, AreValTerms}
 use Rattle.wy_sound_clauses.specs.Clauses.{AllFit, AreSafe, AreTrueIfDone}
 use Rattle.wy_sound_joins.specs.Points.{IsPoint, At}
 use Rattle.wy_sound_joins.specs.Joins.{IsOne, AtEnd}
+use Rattle.wy_sound_kinds.specs.Bounded.{IsBounded}
 use Rattle.wy_sound_calls.specs.CallLaws.{Checks, Leaves, Returned, AreValues, with_params, nothing_seen, also_if}
 use Rattle.wy_sound_statements.specs.StatementSuits.{BlockSuits}
 
@@ -55,8 +56,8 @@ pub record Rests (w : sem.Setting Node) (b : Body Node) (members : ℕ → Datum
   pub checks : Checks b.program.setting members owed
   pub written : (x : ℕ) → IsWritten (type_at b.types x)
   pub result_written : (out : tree.Output) → b.routine.result ≡ Some out → IsWritten out.ty
-  pub value_fits : (out : tree.Output) (d : Datum) → b.routine.result ≡ Some out → AllFit w b.program.setting members (also_if out.variable (with_params b.routine.params nothing_seen)) b.routine.postconditions (set_if (entry_of b.routine vs) out.variable (Some d))
-  pub value_safe : (out : tree.Output) (d : Datum) → b.routine.result ≡ Some out → is_in members out.ty d ≡ true → AreSafe w b.routine.postconditions (set_if (entry_of b.routine vs) out.variable (Some d))
+  pub value_fits : (out : tree.Output) (d : Datum) → b.routine.result ≡ Some out → IsBounded d → is_in members out.ty d ≡ true → AllFit w b.program.setting members (also_if out.variable (with_params b.routine.params nothing_seen)) b.routine.postconditions (set_if (entry_of b.routine vs) out.variable (Some d))
+  pub value_safe : (out : tree.Output) (d : Datum) → b.routine.result ≡ Some out → IsBounded d → is_in members out.ty d ≡ true → AreSafe w b.routine.postconditions (set_if (entry_of b.routine vs) out.variable (Some d))
   pub nothing_fits : b.routine.result ≡ None → AllFit w b.program.setting members (with_params b.routine.params nothing_seen) b.routine.postconditions (entry_of b.routine vs)
   pub nothing_safe : b.routine.result ≡ None → AreSafe w b.routine.postconditions (entry_of b.routine vs)
   pub right : names.is_member ≡ members

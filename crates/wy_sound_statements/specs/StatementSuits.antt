@@ -6,37 +6,35 @@ use Rattle.wy_core.specs.Types.{Ty}
 use Rattle.wy_core.specs.CoreTree as tree
 use Rattle.wy_core.specs.CoreTree.{Expr, Step, IndexStep, FieldStep, Stmt, DeclareStmt, AssignStmt, CallStmt, ReturnStmt, AssertStmt, BreakStmt, ContinueStmt, SkipStmt, FailStmt, IfStmt, WhileStmt, Stmts, NoStmts, MoreStmts}
 use Rattle.wy_sem.specs.Meter.{Meter, Done}
-use Rattle.wy_sem.specs.Operations.{item_at, find, Slot, updated}
+use Rattle.wy_sem.specs.Operations.{is_index, item_at, find, Slot, updated}
 use Rattle.wy_sem.specs.Expressions as sem
 use Rattle.wy_sem.specs.Expressions.{Store, slot, eval, eval_all}
-use Rattle.wy_sem.specs.TypeTests.{is_constrained}
 use Rattle.wy_sem.specs.Statements as run
 use Rattle.wy_sem.specs.Statements.{Exit, Went, Broke, Continued, Gave, Frame, type_at}
 use Rattle.wy_term.specs.declared.cond.CondKind.TheVariants as kind
 use Rattle.wy_conditions.specs.Numbered.{Node}
 use Rattle.wy_conditions.specs.Clauses.{owe_clauses}
 use Rattle.wy_conditions.specs.Spots.{Spot, is_set, with_hyps}
-use Rattle.wy_conditions.specs.Assigned.{assigns_in}
 use Rattle.wy_conditions.specs.Statements.{Body, words, expr, renew, walk_clauses, where_true, where_false, exec, exec_all}
 use Rattle.wy_sound_terms.specs.Kinds.{IsWhole, IsTruth, IsArray}
-use Rattle.wy_sound_expressions.specs.Types.{is_in}
 use Rattle.wy_sound_expressions.specs.Suits.{Kinds, Each, Suits, AllSuit}
 use Rattle.wy_sound_clauses.specs.Clauses.{Fits, AllFit}
+use Rattle.wy_sound_calls.specs.CallLaws.{ComesAs}
 use Rattle.wy_sound_frames.specs.Frames.{unsets_in}
 
--- a value of a type that isn't asked about is in it
+-- a value that is given a type: a program may hold it, and where it isn't asked about it is in the type
 abbrev pub IsFree : Body Node → (ℕ → Datum → Bool) → Ty → Datum → Type 0
-IsFree b members t d = is_constrained b.program.setting.types t ≡ false → is_in members t d ≡ true
+IsFree b members t d = ComesAs b.program.setting members t d
 
 abbrev pub ReturnSuits : Kinds Node → Body Node → (ℕ → Datum → Bool) → Option (Expr Node) → Spot → Store → Type 0
 ReturnSuits w b members None p s = b.routine.result ≡ None
 ReturnSuits w b members (Some e) p s = Suits w false (is_set p.set) e s × ((out : tree.Output) × (b.routine.result ≡ Some out) × Each w e s (IsFree b members out.ty))
 
--- the steps of a path into a datum: indices are numbers, of arrays, and the records whose fields are taken have them, and their names rise
+-- the steps of a path into a datum: indices are numbers, of arrays, and where one is that of an item the path goes on there; and the records whose fields are taken have them, and their names rise
 abbrev pub PathSuits : Kinds Node → (ℕ → Bool) → List (Step Node) → Datum → Store → Type 0
 PathSuits w seen [] d s = Unit {0}
 PathSuits w seen (IndexStep at e ∷ steps) d s =
-    Suits w false seen e s × IsArray d × Each w e s (λ c. IsWhole c × ((ds : Data) (i : ℕ) → d ≡ Array ds → c ≡ Whole (pos i) → PathSuits w seen steps (item_at ds i) s))
+    Suits w false seen e s × IsArray d × Each w e s (λ c. IsWhole c × ((ds : Data) (i : ℕ) → d ≡ Array ds → c ≡ Whole (pos i) → is_index (pos i) ds ≡ true → PathSuits w seen steps (item_at ds i) s))
 PathSuits w seen (FieldStep at name ∷ steps) d s = (fs : Fields) × (d ≡ Record fs) × Rise (names_of fs) × ((part : Datum) × (find fs name ≡ Some part) × PathSuits w seen steps part s)
 
 -- an update of a part of a variable
@@ -46,9 +44,13 @@ UpdateSuits w b members x path e p s =
     × ((d : Datum) × (slot s x ≡ Some d) × PathSuits w (is_set p.set) path d s × Suits w false (is_set p.set) e s
     × ((slots : List Slot) (v : Datum) (m k i j : Meter) → run.path_of w.setting s path d m ≡ Done slots k → eval w.setting w.paid e s i ≡ Done v j → IsFree b members (type_at b.types x) (updated d slots v)))
 
--- from the store another turn begins at the other one
-abbrev pub Leads : sem.Setting Node → Frame Node → Stmts Node → Store → Store → Type 0
-Leads w fr body s t = (m : Meter) × (k : Meter) × ((run.exec_all w fr body s m ≡ Done (Went t) k) ⊎ ((from : ℕ) × (run.exec_all w fr body s m ≡ Done (Continued from t) k)))
+-- the test has the answer true
+abbrev pub IsTested : Kinds Node → Expr Node → Store → Type 0
+IsTested w e s = (m : Meter) × (k : Meter) × (eval w.setting w.paid e s m ≡ Done (Truth true) k)
+
+-- from the store, where the test is true, another turn begins at the other one
+abbrev pub Leads : Kinds Node → Frame Node → Expr Node → Stmts Node → Store → Store → Type 0
+Leads w fr e body s t = IsTested w e s × ((m : Meter) × (k : Meter) × ((run.exec_all w.setting fr body s m ≡ Done (Went t) k) ⊎ ((from : ℕ) × (run.exec_all w.setting fr body s m ≡ Done (Continued from t) k))))
 
 -- so at the store, and at each to which at most so many turns lead
 abbrev pub AtTurns : (Store → Type 0) → (Store → Store → Type 0) → ℕ → Store → Type 0
@@ -98,8 +100,8 @@ abbrev mutual
       AllFit w.setting b.program.setting members (is_set head.spot.set) invariants t
       × Suits w false (is_set head.spot.set) e t × Each w e t IsTruth
       × Each w e t (λ d. d ≡ Truth true → BlockSuits w fr b members calls invariants body (where_true v head.spot) v.count t)
-      × ((u : Store) (m k : Meter) → run.exec_all w.setting fr body t m ≡ Done (Went u) k → KeepFits w.setting b members invariants turn.ends u))
-      (Leads w.setting fr body) j s)
+      × (IsTested w e t → (u : Store) (m k : Meter) → run.exec_all w.setting fr body t m ≡ Done (Went u) k → KeepFits w.setting b members invariants turn.ends u))
+      (Leads w fr e body) j s)
 
   pub BlockSuits : Kinds Node → Frame Node → Body Node → (ℕ → Datum → Bool) → (ℕ → List Datum → Type 0) → List (Expr Node) → Stmts Node → Spot → ℕ → Store → Type 0
   BlockSuits w fr b members calls around NoStmts p n s = Unit {0}

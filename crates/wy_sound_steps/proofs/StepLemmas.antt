@@ -143,9 +143,9 @@ results_leave = record {
       let go : Good (AreTrueBy members (member.owed ++ rest.owed)) (run.leave w (frame_of owed r vs) at (Some out) (Some d) m) P =
       given_right s members owed told checks (AreTrueBy members (member.owed ++ rest.owed)) P from at n out.ty v hyps names d (sem.clauses w kind.Ensures at r.postconditions st (Done (Gave (Some d)))) wr free end.right (record { has = v_is }) means h (true_left members member.owed rest.owed)
       (λ q known l.
-      clauses_owed w s members told (words b) (AreTrueBy members (member.owed ++ rest.owed)) P kind.Ensures kind.Ensures from at (Done (Gave (Some d))) vars names (also_if out.variable seen) st end.right (put_if_data out.variable (are_data b.entry end.terms) (record { has = v_is })) r.postconditions member.count member.hyps fit (safe q)
+      clauses_owed w s members told (words b) (AreTrueBy members (member.owed ++ rest.owed)) P kind.Ensures kind.Ensures from at (Done (Gave (Some d))) vars names (also_if out.variable seen) st end.right (put_if_data out.variable (are_data b.entry end.terms) (record { has = v_is })) r.postconditions member.count member.hyps (fit q) (safe q)
       (stand_later n member.count names names vars (also_if out.variable seen) st g (agree_refl n names) (stand_if n names b.entry seen (entry_of r vs) out.variable v d end.stand means)) known
-      (true_right members member.owed rest.owed) (λ i pass kn. (refl, (q, pass))) l)
+      (true_right members member.owed rest.owed) (λ i pass kn. (refl, (free.0, q, pass))) l)
       m in
       subst (λ (o : Option tree.Output). Good (AreTrueBy members ((owe_result b from o (Some v) hyps n).owed ++ (owe_clauses s kind.Ensures from (words b) r.postconditions (with_result o (Some v) b.entry) (owe_result b from o (Some v) hyps n).hyps (owe_result b from o (Some v) hyps n).count).owed)) (run.leave w (frame_of owed r vs) at (Some out) (Some d) m) P) (sym is) go;
   nothing = λ w owed b members vs from at n hyps names m told is fit safe end h.

@@ -10,7 +10,7 @@ use Rattle.wy_term.specs.Meaning.{Names}
 use Rattle.wy_kept_sorts.specs.SortKept.{HasSort}
 use Rattle.wy_sem.specs.Meter.{Meter}
 use Rattle.wy_sem.specs.Expressions as sem
-use Rattle.wy_sem.specs.TypeTests.{Test, is_constrained, set_if}
+use Rattle.wy_sem.specs.TypeTests.{Test, set_if}
 use Rattle.wy_sem.specs.Statements as run
 use Rattle.wy_sem.specs.Statements.{Exit, Went, Gave, Frame}
 use Rattle.wy_sem.specs.Evaluation.{types_of, entry_of, frame_of}
@@ -28,7 +28,7 @@ use Rattle.wy_sound_expressions.specs.Laws.{NamesTold, AreValTerms}
 use Rattle.wy_sound_clauses.specs.Clauses.{AllFit, AreSafe}
 use Rattle.wy_sound_joins.specs.Points.{At}
 use Rattle.wy_sound_joins.specs.Joins.{AtEnd}
-use Rattle.wy_sound_calls.specs.CallLaws.{Checks, Leaves, with_params, nothing_seen, also_if}
+use Rattle.wy_sound_calls.specs.CallLaws.{Checks, ComesAs, Leaves, with_params, nothing_seen, also_if}
 
 -- a value of a term, behind an expression: names at which the hypotheses are known, at which the variables of the point stand for the store, and at which the term means the value
 pub record Behind (members : ℕ → Datum → Bool) (p : Spot) (hyps : List Term) (n : ℕ) (names : Names) (st : sem.Store) (v : Term) (d : Datum) : Type 0 where
@@ -47,7 +47,7 @@ abbrev pub ValuesComeIn : Type 0
 ValuesComeIn =
     (fr : Frame Node) (b : Body Node) (members : ℕ → Datum → Bool) → NamesTold members (named_in b.program.setting) → Checks b.program.setting members fr.member
     → (from at : ℕ) (t : Ty) (x : ℕ) (v : Term) (owed : List Owed) (p : Spot) (hyps : List Term) (n : ℕ) (names : Names) (st : sem.Store) (d : Datum) (m : Meter)
-    → IsWritten t → (is_constrained b.program.setting.types t ≡ false → is_in members t d ≡ true) → Behind members p hyps n names st v d
+    → IsWritten t → ComesAs b.program.setting members t d → Behind members p hyps n names st v d
     → Good (AreTrueBy members (owe_member b.program.setting from t v hyps n).owed) (run.stored fr at x t st d m)
     (IsIn n names (given b from t x v owed p hyps n).count (given b from t x v owed p hyps n).ends (sem.put st x (Some d)))
 
@@ -60,8 +60,8 @@ pub record Ending (w : sem.Setting Node) (b : Body Node) (members : ℕ → Datu
 -- a result is given: where what is owed is true it is no fault, and it leaves what the contract says
 pub record ResultsLeave : Type 0 where
   pub value : (w : sem.Setting Node) (owed : Ty → Datum → Test) (b : Body Node) (members : ℕ → Datum → Bool) (vs : List Datum) (out : tree.Output) (from at n : ℕ) (v : Term) (hyps : List Term) (names : Names) (d : Datum) (m : Meter)
-      → NamesTold members (named_in b.program.setting) → Checks b.program.setting members owed → b.routine.result ≡ Some out → IsWritten out.ty → (is_constrained b.program.setting.types out.ty ≡ false → is_in members out.ty d ≡ true)
-      → AllFit w b.program.setting members (also_if out.variable (with_params b.routine.params nothing_seen)) b.routine.postconditions (set_if (entry_of b.routine vs) out.variable (Some d))
+      → NamesTold members (named_in b.program.setting) → Checks b.program.setting members owed → b.routine.result ≡ Some out → IsWritten out.ty → ComesAs b.program.setting members out.ty d
+      → (is_in members out.ty d ≡ true → AllFit w b.program.setting members (also_if out.variable (with_params b.routine.params nothing_seen)) b.routine.postconditions (set_if (entry_of b.routine vs) out.variable (Some d)))
       → (is_in members out.ty d ≡ true → AreSafe w b.routine.postconditions (set_if (entry_of b.routine vs) out.variable (Some d)))
       → Ending w b members vs n names → HasSort v val_sort → Means n names v d → Known n names hyps
       → Good (AreTrueBy members (leave b from (Some v) hyps n).owed) (run.leave w (frame_of owed b.routine vs) at (Some out) (Some d) m) (λ x. (x ≡ Gave (Some d)) × Leaves w b.program.setting members b.routine vs (Some out) (Some d))

@@ -1,0 +1,16 @@
+-- bodies from their entry to what they leave
+pub mod Bodies
+-- which variables statements declare and assign
+pub mod Scopes
+-- functions and methods whose variables are declared once
+pub mod Once
+-- what is given of each expression along a walk
+pub mod Along
+-- typed blocks meet what is asked of a run
+pub mod Typed
+-- blocks whose expressions are as a formed program has them
+pub mod Made
+-- bodies and contracts of formed programs
+pub mod FormedBodies
+-- where bodies begin, and how they end
+pub mod Entries

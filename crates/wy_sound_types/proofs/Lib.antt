@@ -1,0 +1,12 @@
+pub mod TestLemmas
+pub mod AliasLemmas
+pub mod RankLemmas
+pub mod ReadingLemmas
+pub mod ExactLemmas
+pub mod RestLemmas
+pub mod EndLemmas
+pub mod TestEndLemmas
+pub mod MembershipLemmas
+pub mod TypedLemmas
+pub mod RoutineLemmas
+pub mod QuietLemmas
