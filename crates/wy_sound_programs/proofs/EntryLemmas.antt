@@ -29,11 +29,11 @@ use Rattle.wy_sound_programs.specs.Entries.{marked_params, EntriesMarkParams, Bo
 
 -- ---- marks of parameters
 
-named_set : (words : List (List ℕ)) (ps : List Param) (p : Spot) (n : ℕ) → (name_params words ps p n).spot.set ≡ marked_params ps p.set
+pub named_set : (words : List (List ℕ)) (ps : List Param) (p : Spot) (n : ℕ) → (name_params words ps p n).spot.set ≡ marked_params ps p.set
 named_set words [] p n = refl
 named_set words (x ∷ xs) p n = named_set words xs (assign x.variable (val_name (word_at words x.variable) n) p) (suc n)
 
-assumed_set : (s : Setting Node) (ps : List Param) (p : Spot) (n : ℕ) → (assume_params s ps p n).spot.set ≡ p.set
+pub assumed_set : (s : Setting Node) (ps : List Param) (p : Spot) (n : ℕ) → (assume_params s ps p n).spot.set ≡ p.set
 assumed_set s [] p n = refl
 assumed_set s (x ∷ xs) p n = let f = assume_in_type s x.ty (variable p.vars x.variable) p.hyps n in assumed_set s xs (with_hyps f.hyps p) f.count
 

@@ -20,3 +20,4 @@ pub mod OnceLemmas
 pub mod FormedLemmas
 pub mod EntryLemmas
 pub mod BeginLemmas
+pub mod BegunLemmas

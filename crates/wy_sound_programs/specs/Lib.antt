@@ -14,3 +14,5 @@ pub mod Made
 pub mod FormedBodies
 -- where bodies begin, and how they end
 pub mod Entries
+-- the point where a body begins, and contracts that are kept
+pub mod Begun

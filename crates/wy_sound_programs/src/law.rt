@@ -1,4 +1,5 @@
 //! The laws of statements, each as the contract of a function without a body.
+ghost use Rattle.wy_sound_programs.specs.Begun.{BodiesAreBegun, BodiesKeep};
 ghost use Rattle.wy_sound_programs.specs.Bodies.{BodiesLeave};
 ghost use Rattle.wy_sound_programs.specs.Entries.{EntriesMarkParams, BodiesBegin, BodiesStayInside};
 ghost use Rattle.wy_sound_programs.specs.FormedBodies.{FormedBodiesAreMade};
@@ -35,4 +36,11 @@ pub fn bodies_begin_and_end()
     ensures begin { EntriesMarkParams }
     ensures entry { BodiesBegin }
     ensures inside { BodiesStayInside }
+{}
+
+/// A function or method whose requires clauses are true of the arguments: its body begins at a point, where the parameters stand for
+/// the arguments and what is assumed of them is known; and where what its body owes is true, it keeps its contract.
+pub fn bodies_keep()
+    ensures begun { BodiesAreBegun }
+    ensures keep { BodiesKeep }
 {}
