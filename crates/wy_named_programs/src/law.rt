@@ -1,0 +1,12 @@
+//! What is known of the cores of programs.
+ghost use Rattle.wy_named_programs.specs.NamedPrograms.{NamedAreInOrder, NamedNameTheirs};
+
+/// The parameters of each function and method of a core have the first numbers, in order.
+pub fn named_parameters_are_in_order()
+    ensures order { NamedAreInOrder }
+{}
+
+/// Where each type as it is written has a variable where it has clauses, so has each type of the core.
+pub fn named_clauses_have_variables()
+    ensures theirs { NamedNameTheirs }
+{}
