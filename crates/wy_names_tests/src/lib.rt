@@ -1,7 +1,6 @@
-//! Tests of what no command of the program shows of names and lowering: cores with the places of their nodes.
+//! Tests of names and lowering as a whole. Each fault in several constructs stands in stored runs of the program,
+//! which go through each pass.
 #![tactic(auto)]
 
 #[cfg(test)]
-mod cores;
-#[cfg(test)]
-mod written;
+mod names;
