@@ -1,12 +1,11 @@
 -- Bodies of assigned programs: along the walk of their conditions each variable that is used is marked, and the walk of a body with a result doesn't get to its end.
 use Rattle.std.specs.Prelude.{◌≡◌, ℕ, List, [], Some, slice_get}
-use Rattle.wy_core.specs.CoreTree.{Expr, Routine, Core, routines_of}
+use Rattle.wy_core.specs.CoreTree.{Routine, Core, routines_of}
 use Rattle.wy_assign.specs.Assigned.{IsAssigned}
-use Rattle.wy_conditions.specs.Numbered.{Node, numbered_routine, numbered_block}
+use Rattle.wy_conditions.specs.Numbered.{Node, numbered_routine}
 use Rattle.wy_conditions.specs.Variables.{Vars}
 use Rattle.wy_conditions.specs.Walks.{Program}
-use Rattle.wy_conditions.specs.Spots.{Spot}
-use Rattle.wy_conditions.specs.Statements.{Body, exec_all}
+use Rattle.wy_conditions.specs.Statements.{exec_all}
 use Rattle.wy_conditions.specs.Programs.{body_of}
 use Rattle.wy_sound_programs.specs.Along.{Allowed, AllReadyAlong}
 use Rattle.wy_sound_programs.specs.Made.{AllMade}
@@ -19,8 +18,8 @@ BodiesAreReady =
     (core : Core ℕ) → IsAssigned core → (f : ℕ) (r : Routine ℕ) → slice_get (routines_of core) f ≡ Some r → (a : Allowed) → AllMade a r.body
     → (p : Program Node) (vars : Vars) (j k : ℕ) → let n = numbered_routine r j in AllReadyAlong a (body_of p n vars) [] r.body k (begun p n).spot (begun p n).count
 
--- the walk of a body with a result doesn't get to its end, whatever it begins with
+-- the walk of a body with a result, from the point where it begins, doesn't get to its end
 abbrev pub BodiesEnd : Type 0
 BodiesEnd =
     (core : Core ℕ) → IsAssigned core → (f : ℕ) (r : Routine ℕ) → slice_get (routines_of core) f ≡ Some r
-    → (b : Body Node) (around : List (Expr Node)) (k : ℕ) (q : Spot) (m : ℕ) → EndsBefore r.result (exec_all b around (numbered_block r.body k) q m).ends
+    → (p : Program Node) (vars : Vars) (j : ℕ) → let n = numbered_routine r j in EndsBefore n.result (exec_all (body_of p n vars) [] n.body (begun p n).spot (begun p n).count).ends
