@@ -11,7 +11,7 @@ use Rattle.wy_sound_calls.specs.CallLaws.{with_params, nothing_seen, also_if}
 use Rattle.wy_sound_programs.specs.Made.{all_marked}
 use Rattle.wy_sound_types.specs.Tests.{no_variable}
 use Rattle.wy_sound_types.specs.Routines.{with_result}
-use Rattle.wy_sound_marks.specs.Contracts.{ContractsAreReady, TypesAreReady}
+use Rattle.wy_sound_marks.specs.Clauses.{ContractsAreReady, TypesAreReady}
 use Rattle.wy_sound_marks.proofs.UseLemmas.{NoUse, given}
 use Rattle.wy_sound_marks.proofs.MarkedLemmas.{Unmarked, unmarked_one, clauses_marked}
 use Rattle.wy_sound_marks.proofs.DeclLemmas.{unset_routine, unset_alias, bound_alias}

@@ -1,6 +1,6 @@
 //! The laws of assigned programs, each as the contract of a function without a body.
 ghost use Rattle.wy_sound_marks.specs.Bodies.{BodiesAreReady, BodiesEnd};
-ghost use Rattle.wy_sound_marks.specs.Contracts.{ContractsAreReady, TypesAreReady};
+ghost use Rattle.wy_sound_marks.specs.Clauses.{ContractsAreReady, TypesAreReady};
 
 /// Along the walk of the conditions of a body of an assigned program, from the point where it begins, each variable that is used
 /// is marked at the point where it is used.

@@ -1,7 +1,7 @@
 //! What assignment gives of the conditions: where a program is assigned, each variable that a walk of its conditions comes
 //! upon is marked where it is used, and the walk of a body with a result doesn't get to its end.
 //!
-//! `specs/Bodies` and `specs/Contracts` say the laws.
+//! `specs/Bodies` and `specs/Clauses` say the laws.
 #![tactic(auto)]
 
 mod law;
