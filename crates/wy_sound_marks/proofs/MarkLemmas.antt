@@ -1,0 +1,36 @@
+-- What isn't marked behind an assignment or a declaration.
+use Rattle.std.proofs.Common.{◌≡◌, ◌⊎◌, inl, inr, ℕ, List, Bool, true, false, not, cond, ◌==◌, sym, ap, ◌∙◌, subst, arith}
+use Rattle.wy_conditions.specs.Spots.{is_set, mark}
+use Rattle.wy_sound_programs.proofs.SlotLemmas.{same_or_apart, apart_back, mark_same, mark_other}
+use Rattle.wy_sound_marks.proofs.EventLemmas.{never}
+
+-- whether the variable has no mark
+abbrev pub unmarked : List Bool → ℕ → Bool
+unmarked set x = not (is_set set x)
+
+same_test : (x y : ℕ) → x ≡ y → (x == y) ≡ true
+same_test x y e = subst (λ (z : ℕ). (x == z) ≡ true) e (eqb_self x) where
+  eqb_self : (n : ℕ) → (n == n) ≡ true
+  eqb_self n = search (arith)
+
+-- behind a declaration without a value the variable has none, and the others are as they were
+pub declared_unset : (set : List Bool) (x y : ℕ) → unmarked (mark set x false) y ≡ true → cond (y == x) true (unmarked set y) ≡ true
+declared_unset set x y e = by (same_or_apart y x) where
+  by : (y ≡ x) ⊎ ((y == x) ≡ false) → cond (y == x) true (unmarked set y) ≡ true
+  by (inl q) = ap (λ (b : Bool). cond b true (unmarked set y)) (same_test y x q)
+  by (inr q) = ap (λ (b : Bool). cond b true (unmarked set y)) q ∙ (sym (ap not (mark_other set x false y (apart_back y x q))) ∙ e)
+
+-- behind an assignment it has one
+pub assigned_unset : (set : List Bool) (x y : ℕ) → unmarked (mark set x true) y ≡ true → cond (y == x) false (unmarked set y) ≡ true
+assigned_unset set x y e = by (same_or_apart y x) where
+  by : (y ≡ x) ⊎ ((y == x) ≡ false) → cond (y == x) false (unmarked set y) ≡ true
+  by (inl q) = never (sym (ap not (subst (λ (z : ℕ). is_set (mark set x true) z ≡ true) (sym q) (mark_same set x true))) ∙ e)
+  by (inr q) = ap (λ (b : Bool). cond b false (unmarked set y)) q ∙ (sym (ap not (mark_other set x true y (apart_back y x q))) ∙ e)
+
+cond_less : (b u : Bool) → cond b false u ≡ true → u ≡ true
+cond_less true u e = never e
+cond_less false u e = e
+
+-- and what has none had none
+pub assigned_less : (set : List Bool) (x y : ℕ) → unmarked (mark set x true) y ≡ true → unmarked set y ≡ true
+assigned_less set x y e = cond_less (y == x) (unmarked set y) (assigned_unset set x y e)
