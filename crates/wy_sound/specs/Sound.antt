@@ -1,5 +1,5 @@
 -- The law of contract soundness: a program whose conditions are true never faults, and what it returns meets its contract.
-use Rattle.std.specs.Prelude.{◌≡◌, ℕ, List, [], ◌∷◌, Bool, true, Option, Some, None}
+use Rattle.std.specs.Prelude.{◌≡◌, ℕ, List, true, Option, Some, None}
 use Rattle.wy_value.specs.Datum.{Datum}
 use Rattle.wy_core.specs.Types.{Ty, NamedTy}
 use Rattle.wy_core.specs.CoreTree.{Output, Routine, Core, aliases_of, routines_of}
@@ -17,13 +17,7 @@ use Rattle.wy_shown_conditions.specs.Certified.{AllHold}
 use Rattle.wy_sound_kinds.specs.Bounded.{IsBounded, AllBounded}
 use Rattle.wy_sound_members.specs.Members.{MeetFormulas}
 use Rattle.wy_sound_members.specs.Laws.{told_by}
-use Rattle.wy_sound_types.specs.Tests.{HaveVariables}
-use Rattle.wy_sound_programs.specs.Once.{OnceRoutine}
-
--- each function and method declares each of its variables once
-abbrev pub AreOnce : List (Routine ℕ) → Type 0
-AreOnce [] = Unit {0}
-AreOnce (r ∷ rs) = OnceRoutine r × AreOnce rs
+use Rattle.wy_sound.specs.GivenSources.{Sourced}
 
 -- a program of which nothing is left to show
 pub record Shown (core : Core ℕ) (flow : List Ty) : Type 0 where
@@ -31,9 +25,8 @@ pub record Shown (core : Core ℕ) (flow : List Ty) : Type 0 where
   pub formed : Formed core
   pub typed : IsTyped core flow
   pub assigned : IsAssigned core
-  -- each type has a variable exactly where it has clauses, and each variable of a function or method is declared once
-  pub variables : HaveVariables (aliases_of core)
-  pub once : AreOnce (routines_of core)
+  -- each type has a variable exactly where it has clauses, and each variable of a function or method is declared once, as in each core that names give
+  pub sourced : Sourced core
   -- every condition that it owes is true, whatever its names stand for
   pub holds : AllHold (owed_conditions core flow)
 
