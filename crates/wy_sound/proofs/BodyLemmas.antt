@@ -256,7 +256,7 @@ module _ (core : Core ℕ) (flow : List Ty) (members : ℕ → Datum → Bool) (
             bodies_inside w (frame_of owed m vs) (offers_of core) (length r.variables) (record { in_loop = false; has_result = is_some r.result }) (scope_with [] r.params) r.body
             (length t.before + exprs_in_list r.preconditions + exprs_in_list r.postconditions) (entry_of m vs) x i j refl t.bound.body e
 
-        body_keeps : AreTrueBy members (body_conditions p m) → ContractIsSafe w members m vs → KeepsContract w p.setting members owed m vs
+        pub body_keeps : AreTrueBy members (body_conditions p m) → ContractIsSafe w members m vs → KeepsContract w p.setting members owed m vs
         body_keeps truths safe args pass k =
             let b = bodies_begun w p members owed m vs stated pass in
             let suits : Suited (length t.second) =
