@@ -1,22 +1,20 @@
 -- Each type of a typed program is typed behind the expressions before it.
-use Rattle.std.proofs.Common.{◌≡◌, ◌<◌, ℕ, zero, suc, ◌+◌, List, [], ◌∷◌, length, Option, Some, None, refl, sym, ap, ◌∙◌, subst, arith}
+use Rattle.std.proofs.Common.{◌≡◌, ◌<◌, ℕ, zero, suc, ◌+◌, List, [], ◌∷◌, length, Some, refl, sym, ap, ◌∙◌, subst, arith}
 use Rattle.std.specs.Prelude.{slice_get}
 use Rattle.wy_core.specs.Types.{Ty}
-use Rattle.wy_core.specs.CoreTree.{Expr, Alias, Decl, AliasDecl, RoutineDecl, Core, aliases_of}
+use Rattle.wy_core.specs.CoreTree.{Expr, Alias, Decl, AliasDecl, RoutineDecl, aliases_of}
 use Rattle.wy_typing.specs.Outcomes.{Gives}
 use Rattle.wy_typing.specs.Contexts.{Program}
-use Rattle.wy_typing.specs.Programs.{program_of, AliasTyped, DeclsTyped, IsTyped}
+use Rattle.wy_typing.specs.Programs.{program_of, AliasTyped, DeclsTyped}
 use Rattle.wy_sem.specs.TypeTests.{alias_at, has_clauses}
-use Rattle.wy_conditions.specs.Numbered.{Node, numbered_alias, numbered_list, numbered_decls, exprs_in_decl}
+use Rattle.wy_conditions.specs.Numbered.{numbered_alias, numbered_list, numbered_decls, exprs_in_decl}
 use Rattle.wy_sound_kinds.proofs.TypeLemmas.{then_gives, given_is}
 use Rattle.wy_sound_suits.specs.Laws.{Begins}
 use Rattle.wy_sound_suits.proofs.FlowLemmas.{FlowAll, begins_self, begins_more}
 use Rattle.wy_sound_types.specs.Tests.{HaveVariables}
-use Rattle.wy_sound_types.specs.Typed.{TypedAlias, AliasesTyped}
-use Rattle.wy_sound_members.specs.Laws.{told_by}
 use Rattle.wy_sound_typing.specs.Sources.{NumberedHaveVariables}
 use Rattle.wy_sound_typing.specs.Typed.{AliasesAreTyped}
-use Rattle.wy_sound_typing.proofs.FlowLemmas.{IsWell, alias_flow, decl_flow}
+use Rattle.wy_sound_typing.proofs.FlowLemmas.{IsWell, decl_flow}
 
 -- ---- with numbers
 

@@ -1,9 +1,9 @@
 -- Where names lead where they should, parameters and results are variables of their own, of types that a source may write.
-use Rattle.std.proofs.Common.{◌≡◌, ◌⊎◌, inl, inr, ◌<◌, ℕ, List, [], ◌∷◌, length, Option, Some, None, sym, subst}
+use Rattle.std.proofs.Common.{◌≡◌, inl, inr, ◌<◌, ℕ, List, [], ◌∷◌, Option, Some, None, sym, subst}
 use Rattle.wy_core.specs.CoreTree as tree
 use Rattle.wy_core.specs.CoreTree.{Param, Routine}
 use Rattle.wy_formed.specs.Offers.{Offers}
-use Rattle.wy_formed.specs.Bound.{Scope, Has, IsNew, IsNewOption, BoundParams, BoundResult, result_variable}
+use Rattle.wy_formed.specs.Bound.{Scope, Has, IsNewOption, BoundParams, BoundResult, result_variable}
 use Rattle.wy_sound_members.proofs.WrittenLemmas.{bound_written}
 use Rattle.wy_sound_types.specs.Routines.{ParamsAmong, ResultAmong}
 use Rattle.wy_sound_routines.specs.Entries.{IsNone, ParamsApart}

@@ -1,8 +1,7 @@
 -- The types of expressions behind a declaration are those before it, and as many more as it has expressions.
-use Rattle.std.proofs.Common.{◌≡◌, ℕ, ◌+◌, List, [], ◌∷◌, Bool, true, false, Option, Some, None, is_some, refl, sym, ap, ◌∙◌, subst, arith}
+use Rattle.std.proofs.Common.{◌≡◌, ℕ, ◌+◌, List, [], ◌∷◌, false, Option, Some, None, is_some, sym, subst}
 use Rattle.wy_core.specs.Types.{Ty}
 use Rattle.wy_core.specs.CoreTree.{Expr, Alias, Routine, Decl, AliasDecl, RoutineDecl}
-use Rattle.wy_types.specs.Names.{Declared}
 use Rattle.wy_environment.specs.Variables.{Environment, nothing_known}
 use Rattle.wy_typing.specs.Outcomes.{Gives}
 use Rattle.wy_typing.specs.Contexts.{Program}
@@ -15,7 +14,7 @@ use Rattle.wy_sem.specs.TypeTests.{has_clauses}
 use Rattle.wy_conditions.specs.Sizes.{exprs_in_list, exprs_in_block}
 use Rattle.wy_conditions.specs.Numbered.{exprs_in_decl}
 use Rattle.wy_sound_kinds.proofs.TypeLemmas.{then_gives, given_is}
-use Rattle.wy_sound_suits.proofs.FlowLemmas.{FlowAll, begins_self, begins_more}
+use Rattle.wy_sound_suits.proofs.FlowLemmas.{FlowAll}
 use Rattle.wy_sound_programs.proofs.GrewLemmas.{flow_none, flow_more, flow_clauses, all_grew}
 
 -- ---- a function or method

@@ -1,7 +1,7 @@
 -- What holds of a formed program holds of each of its types, functions and methods.
-use Rattle.std.proofs.Common.{◌≡◌, ℕ, zero, suc, List, [], ◌∷◌, Option, Some, None, subst}
+use Rattle.std.proofs.Common.{◌≡◌, ℕ, zero, suc, List, [], ◌∷◌, Option, Some, subst}
 use Rattle.std.specs.Prelude.{slice_get}
-use Rattle.wy_core.specs.CoreTree.{Alias, Routine, Decl, AliasDecl, RoutineDecl, Core, aliases_of, routines_of}
+use Rattle.wy_core.specs.CoreTree.{Alias, Routine, Decl, AliasDecl, RoutineDecl, aliases_of, routines_of}
 use Rattle.wy_formed.specs.Offers.{Offers, offers_of}
 use Rattle.wy_formed.specs.Bound.{BoundDecls}
 use Rattle.wy_formed.specs.Calls.{CallsDecls}

@@ -1,23 +1,23 @@
 -- Each function and method of a typed program is typed behind the expressions before it.
-use Rattle.std.proofs.Common.{◌≡◌, ℕ, zero, suc, ◌+◌, List, [], ◌∷◌, length, Option, Some, None, refl, sym, ap, ◌∙◌, subst, arith}
+use Rattle.std.proofs.Common.{◌≡◌, ℕ, zero, suc, ◌+◌, List, [], ◌∷◌, length, Some, refl, sym, ap, ◌∙◌, subst, arith}
 use Rattle.std.specs.Prelude.{slice_get}
 use Rattle.wy_core.specs.Types.{Ty}
-use Rattle.wy_core.specs.CoreTree.{Routine, Decl, AliasDecl, RoutineDecl, Core, aliases_of, routines_of}
+use Rattle.wy_core.specs.CoreTree.{Routine, Decl, AliasDecl, RoutineDecl, aliases_of, routines_of}
 use Rattle.wy_typing.specs.Outcomes.{Gives}
 use Rattle.wy_typing.specs.Contexts.{Program}
-use Rattle.wy_typing.specs.Programs.{program_of, DeclsTyped, IsTyped}
+use Rattle.wy_typing.specs.Programs.{program_of, DeclsTyped}
 use Rattle.wy_formed.specs.Offers.{Offers, offers_of}
 use Rattle.wy_formed.specs.Bound.{BoundRoutine, BoundDecls, with_params}
-use Rattle.wy_sem.specs.Evaluation.{Callee, Declared, Print, PrintInt, Undeclared, callee}
+use Rattle.wy_sem.specs.Evaluation.{Callee, Declared, callee}
 use Rattle.wy_conditions.specs.Sizes.{exprs_in_list}
 use Rattle.wy_conditions.specs.Numbered.{Node, numbered_routine, numbered_decls, exprs_in_decl}
 use Rattle.wy_sound_kinds.proofs.TypeLemmas.{then_gives}
 use Rattle.wy_sound_suits.specs.Laws.{Begins}
 use Rattle.wy_sound_suits.proofs.FlowLemmas.{begins_more}
 use Rattle.wy_sound_types.specs.Tests.{HaveVariables}
-use Rattle.wy_sound_typing.specs.Typed.{TypedRoutine, RoutinesAreTyped}
+use Rattle.wy_sound_typing.specs.Typed.{RoutinesAreTyped}
 use Rattle.wy_sound_typing.proofs.FlowLemmas.{Found, found, first_flow, contract_flow, body_flow, decl_flow}
-use Rattle.wy_sound_typing.proofs.AliasLemmas.{first_well, rest_have, decls_begin, counted_on}
+use Rattle.wy_sound_typing.proofs.AliasLemmas.{rest_have, decls_begin, counted_on}
 use Rattle.wy_sound_typing.proofs.BoundLemmas.{params_among, params_apart, result_among}
 
 -- the function or method with this number, where it stands behind these types

@@ -3,11 +3,11 @@ use Rattle.std.proofs.Common.{◌≡◌, ℕ, zero, suc, ◌+◌, List, [], ◌�
 use Rattle.wy_core.specs.Types.{Ty}
 use Rattle.wy_core.specs.CoreTree.{Param, Routine, Stmt, DeclareStmt, AssignStmt, CallStmt, ReturnStmt, AssertStmt, BreakStmt, ContinueStmt, SkipStmt, FailStmt, IfStmt, WhileStmt, Stmts, NoStmts, MoreStmts}
 use Rattle.wy_formed.specs.Offers.{Offers}
-use Rattle.wy_formed.specs.Bound.{Scope, Around, looped, behind, with_params, BoundParams, BoundStmt, BoundStmts, BoundRoutine}
+use Rattle.wy_formed.specs.Bound.{Scope, Around, looped, behind, with_params, BoundParams, BoundStmt, BoundStmts}
 use Rattle.wy_sem.specs.Statements.{type_at}
 use Rattle.wy_sem.specs.Evaluation.{set_type, any_types, param_types, declared_in, declared_in_all, types_of}
 use Rattle.wy_conditions.specs.Sizes.{exprs_in, exprs_in_list, exprs_in_stmt, exprs_in_block}
-use Rattle.wy_conditions.specs.Numbered.{Node, numbered_stmt, numbered_block, numbered_routine}
+use Rattle.wy_conditions.specs.Numbered.{numbered_stmt, numbered_block, numbered_routine}
 use Rattle.wy_sound_expressions.specs.Written.{IsWritten}
 use Rattle.wy_sound_members.proofs.WrittenLemmas.{bound_written}
 use Rattle.wy_sound_typing.specs.Parts.{VariablesHaveTypes}
