@@ -58,7 +58,7 @@ use Rattle.wy_sound_programs.proofs.BegunLemmas.{bodies_begun, bodies_keep}
 use Rattle.wy_sound_programs.proofs.EntryLemmas.{entries_mark, bodies_inside}
 use Rattle.wy_sound_programs.proofs.OnceLemmas.{routines_scoped}
 use Rattle.wy_sound_programs.proofs.SuitLemmas.{typed_blocks_suit}
-use Rattle.wy_sound.specs.GivenTyped.{TypedRoutine}
+use Rattle.wy_sound_typing.specs.Typed.{TypedRoutine}
 use Rattle.wy_sound.proofs.HeldLemmas.{no_way}
 use Rattle.wy_sound.proofs.CalleeLemmas.{called_in, taken_by, takes_of, gives_value, values_of, rules_of, rules_written, allowed_of, IsSigned, signed, called_taken, stated_taken}
 use Rattle.wy_sound.proofs.VariableLemmas.{params_typed, all_arrive}

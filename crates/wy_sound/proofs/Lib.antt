@@ -2,7 +2,6 @@ mod HeldLemmas
 mod TestedLemmas
 mod CalleeLemmas
 mod VariableLemmas
-mod Premises
 mod BodyLemmas
 mod ShownLemmas
 mod PlainLemmas

@@ -31,10 +31,15 @@ use Rattle.wy_sound_routines.proofs.TakeLemmas.{calls_taken}
 use Rattle.wy_sound_programs.specs.Begun.{begun}
 use Rattle.wy_sound_programs.specs.Made.{all_marked, AllMade}
 use Rattle.wy_sound_programs.proofs.FormedLemmas.{formed_made}
-use Rattle.wy_sound.specs.GivenParts.{FormedAlias, FormedRoutine}
-use Rattle.wy_sound.specs.GivenTyped.{TypedRoutine}
+use Rattle.wy_sound_typing.specs.Parts.{FormedAlias, FormedRoutine}
+use Rattle.wy_sound_typing.specs.Typed.{TypedRoutine}
+use Rattle.wy_sound_marks.proofs.BodyLemmas.{bodies_ready, bodies_end}
+use Rattle.wy_sound_marks.proofs.ClauseLemmas.{contracts_ready, types_ready}
+use Rattle.wy_sound_typing.proofs.AliasLemmas.{aliases_typed, numbered_types_have}
+use Rattle.wy_sound_typing.proofs.PartLemmas.{parts_formed}
+use Rattle.wy_sound_typing.proofs.RoutineLemmas.{routines_typed}
+use Rattle.wy_sound_typing.proofs.TypeLemmas.{variables_typed}
 use Rattle.wy_sound.specs.Sound.{Shown}
-use Rattle.wy_sound.proofs.Premises.{Laws}
 use Rattle.wy_sound.proofs.HeldLemmas.{no_way}
 use Rattle.wy_sound.proofs.CalleeLemmas.{called_in, taken_by, takes_of, text_given, number_given, given_well, rules_of, rules_written, allowed_of, offered}
 use Rattle.wy_sound.proofs.BodyLemmas.{body_keeps}
@@ -43,12 +48,12 @@ always : (cs : List Condition) → AllHold cs → HoldAlways cs
 always [] h = tt
 always (c ∷ cs) h = (h.0, always cs h.1)
 
-module _ (laws : Laws) (core : Core ℕ) (flow : List Ty) (shown : Shown core flow) where
+module _ (core : Core ℕ) (flow : List Ty) (shown : Shown core flow) where
   -- ---- types
 
   alias_made : (b : ℕ) (a : Alias ℕ) → slice_get (aliases_of core) b ≡ Some a → ClausesReady (rules_of core) (length a.variables) all_marked a.clauses
   alias_made b a is =
-      let f : FormedAlias (offers_of core) a = laws.parts_formed.aliases core shown.formed b a is in
+      let f : FormedAlias (offers_of core) a = parts_formed.aliases core shown.formed b a is in
       formed_made.clauses (offers_of core) (allowed_of core (length a.variables)) (with_option [] a.variable) a.clauses (offered core (length a.variables)) f.bound.clauses f.calls f.ints f.small
 
   module _ (members : ℕ → Datum → Bool) (meet : MeetFormulas (told_by core flow) members) where
@@ -57,7 +62,7 @@ module _ (laws : Laws) (core : Core ℕ) (flow : List Ty) (shown : Shown core fl
       bound = shown.formed.bound;
       recursion = shown.formed.recursion;
       meet = meet;
-      variables = laws.numbered_types_have core flow shown.sourced.variables;
+      variables = numbered_types_have core flow shown.sourced.variables;
       quiet = clauses_of_types_quiet core flow shown.formed.calls;
     }
 
@@ -65,14 +70,14 @@ module _ (laws : Laws) (core : Core ℕ) (flow : List Ty) (shown : Shown core fl
     types_hold = record {
       types = types_meet;
       conditions = are_true_by core flow members meet (always _ shown.holds);
-      clauses = clauses_of_types_meet core flow members types_meet (laws.aliases_typed core flow shown.typed shown.sourced.variables) (rules_of core) (rules_written core)
-          (laws.types_ready core shown.assigned shown.formed.bound (rules_of core) alias_made);
+      clauses = clauses_of_types_meet core flow members types_meet (aliases_typed core flow shown.typed shown.sourced.variables) (rules_of core) (rules_written core)
+          (types_ready core shown.assigned shown.formed.bound (rules_of core) alias_made);
     }
 
     -- ---- functions and methods
 
     pub typed : (f : ℕ) (n : Routine Node) → called_in core f ≡ calls.Declared n → TypedRoutine core flow f n
-    typed f n is = laws.routines_typed core flow shown.typed shown.formed.bound shown.sourced.variables f n is
+    typed f n is = routines_typed core flow shown.typed shown.formed.bound shown.sourced.variables f n is
 
     module _ (f : ℕ) (n : Routine Node) (t : TypedRoutine core flow f n) where
       abbrev r : Routine ℕ
@@ -82,7 +87,7 @@ module _ (laws : Laws) (core : Core ℕ) (flow : List Ty) (shown : Shown core fl
       many = length r.variables
 
       formed : FormedRoutine (offers_of core) r
-      formed = laws.parts_formed.routines core shown.formed f r t.stands
+      formed = parts_formed.routines core shown.formed f r t.stands
 
       contract : TypedContract core flow (rules_of core) r t.before
       contract = record {
@@ -97,9 +102,9 @@ module _ (laws : Laws) (core : Core ℕ) (flow : List Ty) (shown : Shown core fl
         begins = t.contract_begins;
         among = t.among;
         result_among = t.result_among;
-        first_ready = laws.contracts_ready.first core shown.assigned f r t.stands (rules_of core) many
+        first_ready = contracts_ready.first core shown.assigned f r t.stands (rules_of core) many
             (formed_made.clauses (offers_of core) (allowed_of core many) (with_params [] r.params) r.preconditions (offered core many) formed.bound.preconditions formed.calls.preconditions formed.ints.preconditions formed.small.preconditions);
-        last_ready = laws.contracts_ready.last core shown.assigned f r t.stands (rules_of core) many
+        last_ready = contracts_ready.last core shown.assigned f r t.stands (rules_of core) many
             (formed_made.clauses (offers_of core) (allowed_of core many) (with_option (with_params [] r.params) (result_variable r.result)) r.postconditions (offered core many) formed.bound.postconditions formed.calls.postconditions formed.ints.postconditions formed.small.postconditions);
       }
 
@@ -120,10 +125,9 @@ module _ (laws : Laws) (core : Core ℕ) (flow : List Ty) (shown : Shown core fl
         kept vs taken truths safe inside pass k =
             let g = given_well (names_in core) m vs taken in
             let vars = (enter (told_by core flow) m).spot.vars in
-            let q = begun (program_of (numbered_core core) flow) m in
-            let ready = laws.bodies_ready core shown.assigned f r t.stands (allowed_of core many) body_made (program_of (numbered_core core) flow) vars (length t.before) (length t.second) in
-            let ends = laws.bodies_end core shown.assigned f r t.stands (body_of (program_of (numbered_core core) flow) m vars) [] (length t.before + exprs_in_list r.preconditions + exprs_in_list r.postconditions) q.spot q.count in
-            body_keeps core flow members types_hold place limit typed depth handled f n t (shown.sourced.once f r t.stands) (laws.variables_typed.same r (length t.before)) (laws.variables_typed.written (offers_of core) r t.bound) contract
+            let ready = bodies_ready core shown.assigned f r t.stands (allowed_of core many) body_made (program_of (numbered_core core) flow) vars (length t.before) (length t.second) in
+            let ends = bodies_end core shown.assigned f r t.stands (program_of (numbered_core core) flow) vars (length t.before) in
+            body_keeps core flow members types_hold place limit typed depth handled f n t (shown.sourced.once f r t.stands) (variables_typed.same r (length t.before)) (variables_typed.written (offers_of core) r t.bound) contract
             ready ends vs g.0 g.1 g.2 inside truths (safe inside) inside pass k
 
         n_kept : (vs : List Datum) → takes_of core f vs ≡ true → called_in core f ≡ calls.Declared n → AreTrueBy members (body_conditions (program_of (numbered_core core) flow) n) → Safe n vs → Kept n vs

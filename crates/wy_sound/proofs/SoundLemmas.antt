@@ -36,9 +36,8 @@ use Rattle.wy_sound_types.proofs.MembershipLemmas.{membership_said}
 use Rattle.wy_sound_types.proofs.RestLemmas.{read}
 use Rattle.wy_sound_routines.specs.Depths.{setting_at}
 use Rattle.wy_sound_routines.proofs.RunLemmas.{runs_sound}
-use Rattle.wy_sound.specs.GivenTyped.{TypedRoutine}
+use Rattle.wy_sound_typing.specs.Typed.{TypedRoutine}
 use Rattle.wy_sound.specs.Sound.{Shown, IsReturned, IsSound, ProgramsAreSound, MembershipAgrees}
-use Rattle.wy_sound.proofs.Premises.{Laws}
 use Rattle.wy_sound.proofs.CalleeLemmas.{called_in, takes_of, taken_by, well_given}
 use Rattle.wy_sound.proofs.PlainLemmas.{callee_numbered, true_numbered, true_plain, member_same}
 use Rattle.wy_sound.proofs.ShownLemmas.{types_hold, typed, all_taken}
@@ -57,12 +56,12 @@ module _ (place : Node → ℕ) (core : Core Node) (depth : ℕ) where
 
 -- ---- a program
 
-module _ (laws : Laws) (core : Core ℕ) (flow : List Ty) (shown : Shown core flow) (members : ℕ → Datum → Bool) (meet : MeetFormulas (told_by core flow) members) (place : ℕ → ℕ) where
+module _ (core : Core ℕ) (flow : List Ty) (shown : Shown core flow) (members : ℕ → Datum → Bool) (meet : MeetFormulas (told_by core flow) members) (place : ℕ → ℕ) where
   abbrev others : Core Node
   others = numbered_core core
 
   hold : TypesHold core flow members
-  hold = types_hold laws core flow shown members meet
+  hold = types_hold core flow shown members meet
 
   -- membership by the semantics is what types say by these data
   pub member_is : (d : Datum) → IsBounded d → (t : Ty) → is_member place (aliases_of core) d t ≡ is_in members t d
@@ -90,7 +89,7 @@ module _ (laws : Laws) (core : Core ℕ) (flow : List Ty) (shown : Shown core fl
     n_is = (callee_numbered core 0 f r is).1
 
     found : TypedRoutine core flow f n
-    found = typed laws core flow shown members meet f n n_is
+    found = typed core flow shown members meet f n n_is
 
     inside : ArgumentsIn members r.params vs
     inside = members_in r.params vs bounded meets.members
@@ -121,16 +120,16 @@ module _ (laws : Laws) (core : Core ℕ) (flow : List Ty) (shown : Shown core fl
     sound_from =
         subst (IsSound (IsReturned place core r vs r.result)) (numbers_nothing place core f vs ticks)
         (ended (evaluate (place_of place) others f vs ticks)
-        (runs_sound (place_of place) others (program_of others flow) members (takes_of core) (all_taken laws core flow shown members meet (place_of place) None) f vs n taken n_is inside
+        (runs_sound (place_of place) others (program_of others flow) members (takes_of core) (all_taken core flow shown members meet (place_of place) None) f vs n taken n_is inside
         (true_numbered place core r.preconditions from (entry_of r vs) meets.requires_hold) ticks))
 
 meets_declared : (place : ℕ → ℕ) (core : Core ℕ) (f : ℕ) (r : Routine ℕ) (vs : List Datum) → callee (routines_of core) f ≡ Declared r → Meets place core f vs → RoutineMeets place (aliases_of core) r vs
 meets_declared place core f r vs is h = subst (λ (c : Callee ℕ). CalleeMeets place (aliases_of core) c vs) is h
 
-pub programs_sound : Laws → ProgramsAreSound
-programs_sound laws place core flow shown f r vs is bounded meets ticks =
+pub programs_sound : ProgramsAreSound
+programs_sound place core flow shown f r vs is bounded meets ticks =
     let some = some_meet core flow shown.formed.bound shown.formed.recursion in
-    sound_from laws core flow shown some.0 some.1 place f r vs is bounded (meets_declared place core f r vs is meets) ticks
+    sound_from core flow shown some.0 some.1 place f r vs is bounded (meets_declared place core f r vs is meets) ticks
 
-pub membership_same : Laws → MembershipAgrees
-membership_same laws place core flow shown names meet n d b = sym (member_is laws core flow shown names.is_member meet place d b (NamedTy n))
+pub membership_same : MembershipAgrees
+membership_same place core flow shown names meet n d b = sym (member_is core flow shown names.is_member meet place d b (NamedTy n))

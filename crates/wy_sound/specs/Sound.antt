@@ -17,7 +17,7 @@ use Rattle.wy_shown_conditions.specs.Certified.{AllHold}
 use Rattle.wy_sound_kinds.specs.Bounded.{IsBounded, AllBounded}
 use Rattle.wy_sound_members.specs.Members.{MeetFormulas}
 use Rattle.wy_sound_members.specs.Laws.{told_by}
-use Rattle.wy_sound.specs.GivenSources.{Sourced}
+use Rattle.wy_sound_typing.specs.Sources.{Sourced}
 
 -- a program of which nothing is left to show
 pub record Shown (core : Core ℕ) (flow : List Ty) : Type 0 where
