@@ -6,3 +6,4 @@ mod BodyLemmas
 mod ShownLemmas
 mod PlainLemmas
 pub mod SoundLemmas
+mod AcceptedLemmas

@@ -4,4 +4,6 @@
 
 mod law;
 
-pub use law::{membership_agrees, programs_are_sound};
+pub use law::{
+    accepted_programs_are_shown, membership_agrees, programs_are_sound, values_are_held,
+};
