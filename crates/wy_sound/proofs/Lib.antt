@@ -7,3 +7,4 @@ mod ShownLemmas
 mod PlainLemmas
 pub mod SoundLemmas
 mod AcceptedLemmas
+mod ReadingLemmas

@@ -5,5 +5,6 @@
 mod law;
 
 pub use law::{
-    accepted_programs_are_shown, membership_agrees, programs_are_sound, values_are_held,
+    accepted_programs_are_shown, conditions_tell_members, membership_agrees, programs_are_sound,
+    values_are_held,
 };
