@@ -1,0 +1,4 @@
+pub mod StartedLemmas
+pub mod RunLemmas
+pub mod CommandLemmas
+pub mod SeenLemmas
