@@ -1,0 +1,2 @@
+-- the law, and what it speaks of
+pub mod Sound

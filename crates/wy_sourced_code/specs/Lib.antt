@@ -1,0 +1,2 @@
+-- the cores of sources
+pub mod Cores

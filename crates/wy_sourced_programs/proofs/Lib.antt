@@ -1,0 +1,5 @@
+pub mod FreshLemmas
+pub mod StmtLemmas
+pub mod OnceLemmas
+pub mod VariableLemmas
+pub mod SourceLemmas

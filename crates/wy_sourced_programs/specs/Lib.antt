@@ -1,0 +1,2 @@
+-- the cores of programs with names, and of sources
+pub mod Cores

@@ -1,0 +1,2 @@
+-- which types have a variable
+pub mod SourceVariables
