@@ -31,7 +31,6 @@ use Rattle.wy_top.specs.declared.texts.Text.{Text}
 use Rattle.wy_top.specs.declared.texts.Text.TheVariants as kind_of
 use Rattle.wy_words.specs.CommandLine.{Asked, check, run, prove, conds, fmt, dis, big, command_of}
 use Rattle.wy_headline.specs.Commands.{AnswersLarge, ComesToLarge, ComesToRun, large_start, line_written, ran, ran_large, refused_large, refused_run, steps_spend}
-use Rattle.wy_headline.specs.Owed.{LawsHold}
 use Rattle.wy_headline.specs.Runs as of_runs
 use Rattle.wy_headline.specs.Runs.{Entry}
 use Rattle.wy_headline.specs.Seen.{IsNeverStuck, NeverSticks}
@@ -219,7 +218,7 @@ ran_fine e lines wanted asked steps status k (of_runs.sink_failed is rose out er
 ran_fine e lines wanted asked steps status k (of_runs.no_memory is out err) = others 9 status k is no_9
 
 run_comes : (s : Setting) (source cert name arguments : List ℕ) (budget steps : ℕ) (stats : Bool) (status : ℕ) (k : Sinks) → ComesToRun s source cert name arguments budget steps stats status k → IsNeverStuck status k
-run_comes s source cert name arguments budget steps stats status k (ran l of shown) = ran_fine _ _ _ _ _ status k shown
+run_comes s source cert name arguments budget steps stats status k (ran l h) = ran_fine _ _ _ _ _ status k h.shows
 run_comes s source cert name arguments budget steps stats status k (refused_run a (inl h) shown) = shown_fine a status k (run_fine s source cert name arguments budget a h) shown
 run_comes s source cert name arguments budget steps stats status k (refused_run a (inr h) shown) = shown_fine a status k (outside_fine s a h) shown
 
@@ -271,22 +270,21 @@ proved_fine s source output budget v status k (Err a) (inr h) shown = shown_fine
 
 -- ---- all commands
 
-module _ (laws : LawsHold) where
-  done_fine : (asked : Asked) (s : Setting) (v : Saving) (status : ℕ) (k : Sinks) → Does asked s v status k → IsNeverStuck status k
-  done_fine (check source cert budget) s v status k h = answered_fine s (check_steps s source cert budget) (check_good s source cert budget) (check_bad s source cert budget) status k h
-  done_fine (run source cert name arguments budget steps stats) s v status k h = run_comes s source cert name arguments budget steps stats status k (runs_right laws s source cert name arguments budget steps stats status k h)
-  done_fine (prove source output budget) s v status k h = proved_fine s source output budget v status k h.proof h.gives.comes h.shown
-  done_fine (conds source) s v status k h = answered_fine s (text_steps s kind_of.Conditions source) (text_good s kind_of.Conditions source) (text_bad s kind_of.Conditions source) status k h
-  done_fine (fmt source) s v status k h = answered_fine s (text_steps s kind_of.Layout source) (text_good s kind_of.Layout source) (text_bad s kind_of.Layout source) status k h
-  done_fine (dis source) s v status k h = answered_fine s (text_steps s kind_of.Listing source) (text_good s kind_of.Listing source) (text_bad s kind_of.Listing source) status k h
-  done_fine (big functions seed budget steps) s v status k h =
-      let g = large_right laws s functions seed budget steps status k h in
-      shown_fine g.answer status k (large_comes s functions seed budget steps g.answer g.comes) g.shown
+done_fine : (asked : Asked) (s : Setting) (v : Saving) (status : ℕ) (k : Sinks) → Does asked s v status k → IsNeverStuck status k
+done_fine (check source cert budget) s v status k h = answered_fine s (check_steps s source cert budget) (check_good s source cert budget) (check_bad s source cert budget) status k h
+done_fine (run source cert name arguments budget steps stats) s v status k h = run_comes s source cert name arguments budget steps stats status k (runs_right s source cert name arguments budget steps stats status k h).comes
+done_fine (prove source output budget) s v status k h = proved_fine s source output budget v status k h.proof h.gives.comes h.shown
+done_fine (conds source) s v status k h = answered_fine s (text_steps s kind_of.Conditions source) (text_good s kind_of.Conditions source) (text_bad s kind_of.Conditions source) status k h
+done_fine (fmt source) s v status k h = answered_fine s (text_steps s kind_of.Layout source) (text_good s kind_of.Layout source) (text_bad s kind_of.Layout source) status k h
+done_fine (dis source) s v status k h = answered_fine s (text_steps s kind_of.Listing source) (text_good s kind_of.Listing source) (text_bad s kind_of.Listing source) status k h
+done_fine (big functions seed budget steps) s v status k h =
+    let g = large_right s functions seed budget steps status k h in
+    shown_fine g.answer status k (large_comes s functions seed budget steps g.answer g.comes) g.shown
 
-  asked_fine : (asked : Option Asked) (s : Setting) (v : Saving) (status : ℕ) (k : Sinks) → DoesIf asked s v status k → IsNeverStuck status k
-  asked_fine (Some asked) s v status k h = done_fine asked s v status k h
-  asked_fine None s v status k shown = shown_fine _ status k (other 2 _ _ refl refl no_2) shown
+asked_fine : (asked : Option Asked) (s : Setting) (v : Saving) (status : ℕ) (k : Sinks) → DoesIf asked s v status k → IsNeverStuck status k
+asked_fine (Some asked) s v status k h = done_fine asked s v status k h
+asked_fine None s v status k shown = shown_fine (refused 2 words_refused) status k (refused_fine 2 words_refused no_2) shown
 
 pub never_sticks : NeverSticks
-never_sticks laws words s v status k (inl h) = asked_fine laws (command_of words) s v status k h
-never_sticks laws words s v status k (inr shown) = shown_fine no_memory status k (other 9 _ _ refl refl no_9) shown
+never_sticks words s v status k (inl h) = asked_fine (command_of words) s v status k h
+never_sticks words s v status k (inr shown) = shown_fine no_memory status k (refused_fine 9 [] no_9) shown

@@ -1,20 +1,18 @@
 -- Which program was started, read off the steps of a command; and that its run is right.
-use Rattle.std.proofs.Common.{◌≡◌, ℕ, zero, suc, List, [], ◌∷◌, length, map, Option, Some, None, Ok, Err, refl, sym, ◌∙◌, ap, subst}
+use Rattle.std.proofs.Common.{◌≡◌, ℕ, zero, suc, List, [], ◌∷◌, map, Option, Some, None, Ok, Err, sym, ap, subst}
 use Rattle.std.specs.Prelude.{slice_get}
 use Rattle.wy_answers.specs.Steps.{Came, Follows, goes_on, ends, Setting, stated}
 use Rattle.wy_answers.specs.declared.answer.Answer.{Answer}
 use Rattle.wy_cert.specs.Steps.{Certificates}
-use Rattle.wy_core.specs.CoreTree.{Core, Routine, routines_of, aliases_of}
+use Rattle.wy_core.specs.CoreTree.{Routine, routines_of}
 use Rattle.wy_eval_expressions.specs.Settings.{here}
 use Rattle.wy_running.specs.Running.{state_of}
 use Rattle.wy_running.specs.Starting.{Starts}
 use Rattle.wy_running.specs.declared.parts.Start.{Start}
-use Rattle.wy_sem.specs.Evaluation.{Callee, Declared, callee}
-use Rattle.wy_sem.specs.Precondition.{CalleeMeets, RoutineMeets}
+use Rattle.wy_sem.specs.Evaluation.{Declared, callee}
 use Rattle.wy_shown_conditions.specs.Certified.{AllHold}
 use Rattle.wy_sound_runs.specs.Runs.{RunsRightly}
-use Rattle.wy_sound_runs.proofs.RunLemmas.{run_rightly}
-use Rattle.wy_sound_runs.proofs.ProperLemmas.{values_proper}
+use Rattle.wy_accepted_runs.proofs.AcceptedLemmas.{sources_rightly}
 use Rattle.wy_supplied.specs.Certificates.{certificates}
 use Rattle.wy_top.specs.Acceptance.{Acceptance, IsAccepted, accepts_file, accepts_source}
 use Rattle.wy_top.specs.Launching.{run_steps}
@@ -22,7 +20,6 @@ use Rattle.wy_top.specs.Owed.{Owes}
 use Rattle.wy_top.specs.Programs.{Program, conditions_of, count_of}
 use Rattle.wy_top.specs.declared.launching.Launch.{Launch}
 use Rattle.wy_value.specs.Seen.{seen}
-use Rattle.wy_headline.specs.Owed.{LawsHold}
 use Rattle.wy_headline.specs.Started.{AcceptsBytes, AcceptsFile, IsRunOf}
 
 -- ---- steps
@@ -79,13 +76,8 @@ callee_at [] f r e = absurd (no_some r e)
 callee_at (q ∷ rs) zero r e = ap (λ (x : Routine ℕ). Declared x) (some_is q r e)
 callee_at (q ∷ rs) (suc f) r e = callee_at rs f r e
 
-pub right_run : LawsHold → (s : Setting) (cert : List ℕ) (budget : ℕ) (bytes : List ℕ) (a : Acceptance) → AcceptsBytes s cert budget bytes a → (name arguments : List ℕ) (start : Start) (st : Starts a.program.core name arguments start)
+pub right_run : (s : Setting) (cert : List ℕ) (budget : ℕ) (bytes : List ℕ) (a : Acceptance) → AcceptsBytes s cert budget bytes a → (name arguments : List ℕ) (start : Start) (st : Starts a.program.core name arguments start)
     → RunsRightly here a.program.core start.entry st.routine (map seen start.args) (state_of start)
-right_run laws s cert budget bytes a h name arguments start st =
-    let core = a.program.core in
-    let flow = a.program.flow in
-    let p = h.owes.program in
-    let declared : callee (routines_of core) start.entry ≡ Declared st.routine = callee_at (routines_of core) start.entry st.routine st.entry.there in
-    let meets : RoutineMeets here (aliases_of core) st.routine (map seen start.args) = subst (λ (c : Callee ℕ). CalleeMeets here (aliases_of core) c (map seen start.args)) declared st.met.met in
-    run_rightly here core (laws.formed.formed bytes core flow p) (laws.formed.order bytes core flow p) (laws.formed.names bytes core flow p) start.code st.code start.entry st.routine (map seen start.args) declared meets.count
-    (values_proper start.args st.values) (laws.sound bytes core flow p h.holds start.entry st.routine start.args declared st.values st.met.met)
+right_run s cert budget bytes a h name arguments start st =
+    sources_rightly here bytes a.program.core a.program.flow h.owes.program h.holds start.code st.code start.entry st.routine start.args
+    (callee_at (routines_of a.program.core) start.entry st.routine st.entry.there) st.values st.met.met

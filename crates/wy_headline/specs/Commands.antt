@@ -3,7 +3,7 @@ use Rattle.std.specs.Prelude.{◌≡◌, ◌⊎◌, ◌++◌, ◌≤◌, ℕ, Li
 use Rattle.wy_answers.specs.Answers.{refused, written as writes}
 use Rattle.wy_answers.specs.Loading.{source_limit}
 use Rattle.wy_answers.specs.Showing.{Shown, Sinks}
-use Rattle.wy_answers.specs.Steps.{Came, IsOutside, Sense, Setting, and_then, stated}
+use Rattle.wy_answers.specs.Steps.{Came, IsOutside, IsTold, Sense, Setting, and_then, due, stated}
 use Rattle.wy_answers.specs.declared.answer.Answer.{Answer}
 use Rattle.wy_big.specs.Source.{argument_text, entry, source_of}
 use Rattle.wy_core.specs.CoreTree.{Core, Routine}
@@ -15,6 +15,7 @@ use Rattle.wy_running.specs.declared.parts.Start.{Start}
 use Rattle.wy_sound_runs.specs.Runs.{GoesOn}
 use Rattle.wy_supplied.specs.Certificates.{no_file}
 use Rattle.wy_top.specs.Acceptance.{Acceptance, accepts_source}
+use Rattle.wy_top.specs.Exact.{IsElse}
 use Rattle.wy_top.specs.Large.{big_steps, head, large_name, makes}
 use Rattle.wy_top.specs.Launching.{IsLaunched, run_steps, starts}
 use Rattle.wy_top.specs.Programs.{count_of}
@@ -22,7 +23,6 @@ use Rattle.wy_top.specs.Statement.{IsAnswered, IsRun}
 use Rattle.wy_top.specs.declared.launching.Launch.{Launch}
 use Rattle.wy_value.specs.Datum.{Datum}
 use Rattle.wy_value.specs.Seen.{seen}
-use Rattle.wy_headline.specs.Owed.{LawsHold}
 use Rattle.wy_headline.specs.Runs.{Entry, IsDone, ShowsRun}
 use Rattle.wy_headline.specs.Started.{AcceptsBytes, IsRunOf}
 
@@ -32,20 +32,29 @@ entry_of core name arguments s h = record { core = core; number = s.entry; routi
 
 -- ---- the command `run`
 
+-- the accepted program ran from this start, and what it shows is what it does
+pub record Ran (s : Setting) (source cert name arguments : List ℕ) (budget steps : ℕ) (stats : Bool) (status : ℕ) (k : Sinks) (l : Launch) : Type 0 where
+  pub of : IsRunOf s source cert name arguments budget l
+  pub shows : ShowsRun (entry_of of.acceptance.program.core name arguments l.start of.launched.starts) l.lines l.start.has_result stats steps status k
+
 -- there is no run: these steps came to the answer, or it came from outside
 abbrev pub HasNoRun : Setting → List ℕ → List ℕ → List ℕ → List ℕ → ℕ → Answer → Type 0
 HasNoRun s source cert name arguments budget a = run_steps s source cert name arguments budget stated (Err a) ⊎ IsOutside s a
 
 pub data ComesToRun (s : Setting) (source cert name arguments : List ℕ) (budget steps : ℕ) (stats : Bool) (status : ℕ) (k : Sinks) : Type 0 where
-  -- the accepted program ran, and what it shows is what it does
-  ran : (l : Launch) (of : IsRunOf s source cert name arguments budget l) → ShowsRun (entry_of of.acceptance.program.core name arguments l.start of.launched.starts) l.lines l.start.has_result stats steps status k
-      → ComesToRun s source cert name arguments budget steps stats status k
-  -- it wasn't accepted or not started, and the answer of why is shown
+  -- it was accepted and started
+  ran : (l : Launch) → Ran s source cert name arguments budget steps stats status k l → ComesToRun s source cert name arguments budget steps stats status k
+  -- it wasn't, and the answer of why is shown
   refused_run : (a : Answer) → HasNoRun s source cert name arguments budget a → Shown a status k → ComesToRun s source cert name arguments budget steps stats status k
 
+-- what the command comes to; and where files are told, a run that is due is what it comes to, but for a failed load, a failed sink, want of memory, and a condition that was found and not certified
+pub record MeansRun (s : Setting) (source cert name arguments : List ℕ) (budget steps : ℕ) (stats : Bool) (status : ℕ) (k : Sinks) : Type 0 where
+  pub comes : ComesToRun s source cert name arguments budget steps stats status k
+  pub is_due : IsTold s → (l : Launch) → run_steps s source cert name arguments budget due (Ok l) → Ran s source cert name arguments budget steps stats status k l ⊎ IsElse status
+
 abbrev pub RunsAreRight : Type 0
-RunsAreRight = LawsHold → (s : Setting) (source cert name arguments : List ℕ) (budget steps : ℕ) (stats : Bool) (status : ℕ) (k : Sinks)
-    → IsRun s source cert name arguments budget steps stats status k → ComesToRun s source cert name arguments budget steps stats status k
+RunsAreRight = (s : Setting) (source cert name arguments : List ℕ) (budget steps : ℕ) (stats : Bool) (status : ℕ) (k : Sinks)
+    → IsRun s source cert name arguments budget steps stats status k → MeansRun s source cert name arguments budget steps stats status k
 
 -- ---- the command `big`
 
@@ -80,4 +89,4 @@ pub record ShowsLarge (s : Setting) (functions seed budget steps : ℕ) (status 
   pub shown : Shown answer status k
 
 abbrev pub LargeRunsAreRight : Type 0
-LargeRunsAreRight = LawsHold → (s : Setting) (functions seed budget steps : ℕ) (status : ℕ) (k : Sinks) → IsAnswered s (big_steps s functions seed budget steps) status k → ShowsLarge s functions seed budget steps status k
+LargeRunsAreRight = (s : Setting) (functions seed budget steps : ℕ) (status : ℕ) (k : Sinks) → IsAnswered s (big_steps s functions seed budget steps) status k → ShowsLarge s functions seed budget steps status k

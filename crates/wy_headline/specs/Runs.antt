@@ -1,5 +1,5 @@
 -- What do the sinks take of a run, said by what the program does?
-use Rattle.std.specs.Prelude.{◌≡◌, ◌⊎◌, ◌++◌, ℕ, List, Bool, Option}
+use Rattle.std.specs.Prelude.{◌≡◌, ◌⊎◌, ◌++◌, ◌≤◌, ◌+◌, ◌*◌, ℕ, List, Bool, Option}
 use Rattle.wy_answers.specs.Showing.{Sinks}
 use Rattle.wy_core.specs.CoreTree.{Core, Routine}
 use Rattle.wy_eval_expressions.specs.Settings.{here}
@@ -7,6 +7,9 @@ use Rattle.wy_port.specs.Count.{Rose}
 use Rattle.wy_port.specs.Taken.{TookFront, with_taken}
 use Rattle.wy_report.specs.Lines.{steps_spent}
 use Rattle.wy_running.specs.Running.{Leaves, written}
+use Rattle.wy_sem.specs.Evaluation.{evaluate}
+use Rattle.wy_sem.specs.Meter.{Meter, Done}
+use Rattle.wy_sem.specs.Operations.{or_null}
 use Rattle.wy_simulated_programs.specs.Programs.{PrintsThat}
 use Rattle.wy_sound_runs.specs.Runs.{Gives, GoesOn}
 use Rattle.wy_top.specs.Runs.{TookOf, done_text}
@@ -47,3 +50,15 @@ pub data ShowsRun (e : Entry) (lines : List ℕ) (wanted asked : Bool) (steps st
       → TookOfRun e wanted k.out_before k.out_after → TookOf lines k.err_before k.err_after → ShowsRun e lines wanted asked steps status k
   -- memory ran out: out took a front of what the program may write
   no_memory : status ≡ 9 → TookOfRun e wanted k.out_before k.out_after → k.err_after ≡ with_taken k.err_before lines → ShowsRun e lines wanted asked steps status k
+
+-- ---- steps enough
+
+-- the run is done: out took the output and, where it is wanted, the text of the result
+pub record EndsDone (wanted : Bool) (v : Datum) (output : List ℕ) (status : ℕ) (k : Sinks) : Type 0 where
+  pub done : status ≡ 0
+  pub out : k.out_after ≡ with_taken k.out_before (written wanted output v)
+
+-- where the program is done, having spent so many ticks, and there are 16 steps for each of them and 16 more, the run is done so, but for a fault of a sink and want of memory
+abbrev pub EnoughStepsEnd : Type 0
+EnoughStepsEnd = (e : Entry) (lines : List ℕ) (wanted asked : Bool) (steps status : ℕ) (k : Sinks) → ShowsRun e lines wanted asked steps status k
+    → (spent : ℕ) (v : Option Datum) (m : Meter) → evaluate here e.core e.number e.values (m.ticks + spent) ≡ Done v m → 16 * spent + 16 ≤ steps → EndsDone wanted (or_null v) m.output status k ⊎ ((status ≡ 5) ⊎ (status ≡ 9))
