@@ -1,12 +1,12 @@
 -- Bodies of a typed and assigned program keep their contracts, where the calls in them are handled.
-use Rattle.std.proofs.Common.{◌≡◌, ℕ, suc, ◌+◌, List, [], ◌∷◌, length, Bool, true, false, Option, Some, None, refl, sym, ap, ◌∙◌, subst}
+use Rattle.std.proofs.Common.{◌≡◌, ℕ, suc, ◌+◌, List, [], length, Bool, true, false, Option, Some, None, refl, sym, subst}
 use Rattle.std.specs.Prelude.{is_some, slice_get}
 use Rattle.std.proofs.lemmas.Bool.{and_parts}
 use Rattle.wy_value.specs.Datum.{Datum}
 use Rattle.wy_core.specs.Types.{Ty}
 use Rattle.wy_core.specs.CoreTree as tree
 use Rattle.wy_core.specs.CoreTree.{Routine, Core, aliases_of, routines_of}
-use Rattle.wy_types.specs.Names.{names_in, Up}
+use Rattle.wy_types.specs.Names.{names_in}
 use Rattle.wy_typing.specs.Contexts as contexts
 use Rattle.wy_typing.specs.Programs as typing
 use Rattle.wy_typing.specs.Programs.{types_of as params_of, result_type}
@@ -24,7 +24,7 @@ use Rattle.wy_conditions.specs.Numbered.{Node, numbered_block, numbered_routine,
 use Rattle.wy_conditions.specs.Spots.{Spot, is_set}
 use Rattle.wy_conditions.specs.Variables.{Vars}
 use Rattle.wy_conditions.specs.Walks.{Program}
-use Rattle.wy_conditions.specs.Statements.{Body, exec_all}
+use Rattle.wy_conditions.specs.Statements.{exec_all}
 use Rattle.wy_conditions.specs.Programs.{program_of, enter, body_of, body_conditions}
 use Rattle.wy_sound_expressions.specs.Truth.{AreTrueBy}
 use Rattle.wy_sound_expressions.specs.Types.{is_in}
@@ -39,7 +39,7 @@ use Rattle.wy_sound_types.proofs.RestLemmas.{read, ordered, rests, asks, free}
 use Rattle.wy_sound_types.proofs.RoutineLemmas.{contracts_fit}
 use Rattle.wy_sound_types.proofs.TypedLemmas.{no_answer}
 use Rattle.wy_sound_kinds.specs.Bounded.{IsBounded, AllBounded}
-use Rattle.wy_sound_kinds.specs.Kinds.{AreIn, AreFor, IsResult, Rests}
+use Rattle.wy_sound_kinds.specs.Kinds.{AreIn, IsResult, Rests}
 use Rattle.wy_sound_suits.specs.Laws.{Asks}
 use Rattle.wy_sound_calls.specs.CallLaws.{ArgumentsIn, KeepsContract}
 use Rattle.wy_sound_routines.specs.Entries.{ContractIsSafe}
@@ -48,7 +48,7 @@ use Rattle.wy_sound_statements.specs.Ends.{AreHandled, GiveValues, code_kinds}
 use Rattle.wy_sound_statements.specs.StatementSuits.{BlockSuits}
 use Rattle.wy_sound_programs.specs.Along.{AllReadyAlong}
 use Rattle.wy_sound_programs.specs.Bodies.{NoneLeft, EndsBefore}
-use Rattle.wy_sound_programs.specs.Begun.{begun, ParamsTyped, Stated, SafeEnds}
+use Rattle.wy_sound_programs.specs.Begun.{begun, ParamsTyped, Stated}
 use Rattle.wy_sound_programs.specs.Entries.{BodyBegins}
 use Rattle.wy_sound_programs.specs.Once.{OnceRoutine, ParamsScoped, routine_scope}
 use Rattle.wy_sound_programs.specs.Scopes.{AllScoped}
@@ -60,7 +60,7 @@ use Rattle.wy_sound_programs.proofs.OnceLemmas.{routines_scoped}
 use Rattle.wy_sound_programs.proofs.SuitLemmas.{typed_blocks_suit}
 use Rattle.wy_sound_typing.specs.Typed.{TypedRoutine}
 use Rattle.wy_sound.proofs.HeldLemmas.{no_way}
-use Rattle.wy_sound.proofs.CalleeLemmas.{called_in, taken_by, takes_of, gives_value, values_of, rules_of, rules_written, allowed_of, IsSigned, signed, called_taken, stated_taken}
+use Rattle.wy_sound.proofs.CalleeLemmas.{called_in, takes_of, gives_value, values_of, rules_of, rules_written, allowed_of, IsSigned, signed, called_taken, stated_taken}
 use Rattle.wy_sound.proofs.VariableLemmas.{params_typed, all_arrive}
 
 no_result : {X : Type 0} (d : Datum) → ◌≡◌ {A = Option Datum} (Some d) None → X

@@ -1,5 +1,5 @@
 -- What is asked of arguments and said of results is the same where expressions have numbers.
-use Rattle.std.proofs.Common.{◌≡◌, ℕ, zero, suc, ◌+◌, List, [], ◌∷◌, length, Bool, true, false, Some, None, refl, sym, ap, ap₂, ◌∙◌}
+use Rattle.std.proofs.Common.{◌≡◌, ℕ, zero, suc, ◌+◌, List, [], ◌∷◌, length, Bool, false, Some, None, refl, sym, ap, ap₂, ◌∙◌}
 use mathlib.Core.Path.{fun_ext}
 use Rattle.wy_value.specs.Datum.{Datum}
 use Rattle.wy_core.specs.Types.{Ty}
@@ -8,7 +8,7 @@ use Rattle.wy_sem.specs.Meter.{Run, ◌>>=◌, choose}
 use Rattle.wy_sem.specs.Operations.{as_truth}
 use Rattle.wy_sem.specs.Expressions.{Store, Setting, no_calls, node, eval, holds}
 use Rattle.wy_sem.specs.TypeTests.{Test, answer, alias_at, unset, set_if, all_hold, alias_holds, tests, clause_setting}
-use Rattle.wy_sem.specs.Membership.{Meaning, is_in, is_yes, clauses_true, meaning_of, is_member}
+use Rattle.wy_sem.specs.Membership.{Meaning, is_in, is_yes, clauses_true, is_member}
 use Rattle.wy_sem.specs.Precondition.{AreTrue}
 use Rattle.wy_sem.specs.Evaluation.{Callee, Declared, Print, PrintInt, Undeclared, callee, start}
 use Rattle.wy_conditions.specs.Sizes.{exprs_in}

@@ -1,9 +1,9 @@
 -- A program of which nothing is left to show: tests of its types answer as types say, and its calls are taken.
-use Rattle.std.proofs.Common.{◌≡◌, ℕ, ◌+◌, List, [], ◌∷◌, length, Bool, true, Option, Some, sym, subst}
+use Rattle.std.proofs.Common.{◌≡◌, ℕ, List, [], ◌∷◌, length, Bool, true, Option, Some, sym, subst}
 use Rattle.std.specs.Prelude.{slice_get}
 use Rattle.wy_value.specs.Datum.{Datum}
 use Rattle.wy_core.specs.Types.{Ty}
-use Rattle.wy_core.specs.CoreTree.{Alias, Routine, Core, aliases_of, routines_of}
+use Rattle.wy_core.specs.CoreTree.{Alias, Routine, Core, aliases_of}
 use Rattle.wy_types.specs.Names.{names_in}
 use Rattle.wy_term.specs.Condition.{Condition}
 use Rattle.wy_formed.specs.Offers.{offers_of}
@@ -11,8 +11,7 @@ use Rattle.wy_formed.specs.Bound.{with_option, with_params, result_variable}
 use Rattle.wy_sem.specs.Evaluation.{Callee, Print, PrintInt, Undeclared, owed_member}
 use Rattle.wy_sem.specs.Evaluation as calls
 use Rattle.wy_conditions.specs.Numbered.{Node, numbered_routine, numbered_core}
-use Rattle.wy_conditions.specs.Sizes.{exprs_in_list}
-use Rattle.wy_conditions.specs.Programs.{program_of, enter, body_of, body_conditions}
+use Rattle.wy_conditions.specs.Programs.{program_of, enter, body_conditions}
 use Rattle.wy_shown_conditions.specs.Certified.{AllHold}
 use Rattle.wy_sound_expressions.specs.Truth.{AreTrueBy}
 use Rattle.wy_sound_members.specs.Members.{MeetFormulas, HoldAlways}
@@ -28,7 +27,6 @@ use Rattle.wy_sound_routines.specs.Entries.{ContractIsSafe}
 use Rattle.wy_sound_routines.specs.Depths.{setting_at, Handled, AllTaken}
 use Rattle.wy_sound_routines.specs.Takes.{RoutineStands, TakesWell}
 use Rattle.wy_sound_routines.proofs.TakeLemmas.{calls_taken}
-use Rattle.wy_sound_programs.specs.Begun.{begun}
 use Rattle.wy_sound_programs.specs.Made.{all_marked, AllMade}
 use Rattle.wy_sound_programs.proofs.FormedLemmas.{formed_made}
 use Rattle.wy_sound_typing.specs.Parts.{FormedAlias, FormedRoutine}

@@ -1,13 +1,12 @@
 -- Programs are sound: what numbered programs do from their entries, read without numbers.
-use Rattle.std.proofs.Common.{◌≡◌, ℕ, ◌+◌, List, [], ◌∷◌, length, Bool, true, Option, Some, None, refl, sym, ap, ◌∙◌, subst}
-use Rattle.wy_value.specs.Datum.{Datum, Truth}
+use Rattle.std.proofs.Common.{◌≡◌, ℕ, ◌+◌, List, [], ◌∷◌, length, Bool, true, Option, Some, None, sym, ap, ◌∙◌, subst}
+use Rattle.wy_value.specs.Datum.{Datum}
 use Rattle.wy_core.specs.Types.{Ty, NamedTy}
 use Rattle.wy_core.specs.CoreTree as tree
 use Rattle.wy_core.specs.CoreTree.{Expr, Param, Routine, Core, aliases_of, routines_of}
-use Rattle.wy_types.specs.Names.{names_in, Up}
+use Rattle.wy_types.specs.Names.{names_in}
 use Rattle.wy_typing.specs.Programs.{types_of}
-use Rattle.wy_term.specs.Meaning.{Names}
-use Rattle.wy_sem.specs.Meter.{Meter, Outcome, Done, Fault, More, Spent, ◌>>=◌}
+use Rattle.wy_sem.specs.Meter.{Outcome, Done, Fault, More, Spent, ◌>>=◌}
 use Rattle.wy_sem.specs.Operations.{as_truth}
 use Rattle.wy_sem.specs.Expressions as sem
 use Rattle.wy_sem.specs.TypeTests.{set_if, forgiven, clause_setting}
@@ -16,13 +15,12 @@ use Rattle.wy_sem.specs.Precondition.{AreMembers, AreTrue, RoutineMeets, CalleeM
 use Rattle.wy_sem.specs.Evaluation.{Callee, Declared, callee, entry_of, start, evaluate}
 use Rattle.wy_sem.proofs.MemberAnswers.{holds-says}
 use Rattle.wy_conditions.specs.Sizes.{exprs_in_list}
-use Rattle.wy_conditions.specs.Numbered.{Node, numbered_list, numbered_routine, numbered_core}
+use Rattle.wy_conditions.specs.Numbered.{Node, numbered_routine, numbered_core}
 use Rattle.wy_conditions.specs.Programs.{program_of}
 use Rattle.wy_sound_numbers.specs.Numbers.{place_of}
 use Rattle.wy_sound_numbers.proofs.ProgramLemmas.{numbers_nothing}
 use Rattle.wy_sound_expressions.specs.Truth.{Good}
 use Rattle.wy_sound_expressions.specs.Types.{is_in}
-use Rattle.wy_sound_expressions.specs.Written.{IsWritten}
 use Rattle.wy_sound_clauses.specs.Clauses.{Passes, AllPass}
 use Rattle.wy_sound_kinds.specs.Bounded.{IsBounded, AllBounded}
 use Rattle.wy_sound_kinds.specs.Kinds.{AreIn}

@@ -1,7 +1,6 @@
 -- Parameters have the types that the conditions have for them.
-use Rattle.std.proofs.Common.{◌≡◌, ℕ, suc, List, [], ◌∷◌, length, Bool, true, arith}
+use Rattle.std.proofs.Common.{◌≡◌, ℕ, suc, List, [], ◌∷◌, length, Bool, arith}
 use Rattle.wy_value.specs.Datum.{Datum}
-use Rattle.wy_core.specs.Types.{Ty}
 use Rattle.wy_core.specs.CoreTree.{Param}
 use Rattle.wy_types.specs.Names.{Declared}
 use Rattle.wy_typing.specs.Programs.{types_of}
