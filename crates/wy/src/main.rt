@@ -1,6 +1,6 @@
 //! The program `wy`: a verifying compiler on the command line.
 //!
-//! It hands the words behind its own name to `wy_top`, with the files of the system and the two standard streams, and
+//! It hands the words behind its own name to `wy_headline`, with the files of the system and the two standard streams, and
 //! ends with the status that comes back.
 #![tactic(auto)]
 
@@ -12,8 +12,8 @@ mod tests;
 use std::env;
 use std::io::ErrorKind;
 use std::process::ExitCode;
+use wy_headline::run_words;
 use wy_port::{DiskFiles, StdSink};
-use wy_top::run_words;
 
 /// The status where memory ran out.
 const NO_MEMORY: u8 = 9;

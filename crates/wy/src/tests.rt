@@ -5,8 +5,8 @@ use std::alloc::{AllocError, Global};
 use std::num::ParseIntError;
 use std::str::Split;
 use std::test::Fail;
+use wy_headline::run_words;
 use wy_port::{MemFiles, MemSink, have_different_names};
-use wy_top::run_words;
 
 fn file(alloc: Global, name: &str, text: &str) -> Result<(String, Vec<u8>), AllocError> {
     Ok((

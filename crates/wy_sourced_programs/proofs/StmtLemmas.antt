@@ -97,7 +97,7 @@ module _ (ts : List Template) where
         let v = for_span ts s vs from to in
         let c = for_invariants ts s vs name from to invariants in
         let b = in_stmts ts (renamed s name v.i) c.0 body in
-        let spanned = length_span stop.0 name in
+        let spanned = length_span ts stop.0 name in
         let wide : length stop.0 + 4 ≤ length c.0 = through (let w : length stop.0 + 4 ≤ length (with_span stop.0 name) = omega (arith, spanned) in w) (grows_clauses ts (renamed s name v.t) (with_span stop.0 name) invariants) in
         fresh_from (length vs) (length stop.0) (length b.0) (counted at v start.1 stop.1 c.1 b.1) (through (grows_expr ts s vs from) (grows_expr ts s start.0 to))
         (fresh_counted (length stop.0) (length c.0) (length b.0) at v start.1 stop.1 c.1 b.1 refl refl refl refl wide (fresh_stmts (renamed s name v.i) c.0 body))

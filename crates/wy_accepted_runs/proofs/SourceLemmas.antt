@@ -1,0 +1,29 @@
+-- The program of a source has all that the laws ask for.
+use Rattle.std.proofs.Common.{◌≡◌, ℕ, List, subst}
+use Rattle.wy_assign.specs.Assigned.{IsAssigned}
+use Rattle.wy_core.specs.CoreTree.{Core}
+use Rattle.wy_core.specs.Types.{Ty}
+use Rattle.wy_formed.specs.Formed.{Formed}
+use Rattle.wy_sound_typing.specs.Sources.{Sourced}
+use Rattle.wy_source_ints.proofs.FormedInts.{source-formed}
+use Rattle.wy_sourced_code.specs.Cores.{AsCodeAsks}
+use Rattle.wy_sourced_code.proofs.SourceLemmas.{spelled_as_asked}
+use Rattle.wy_sourced_programs.proofs.SourceLemmas.{spelled_sourced}
+use Rattle.wy_typing.specs.Programs.{IsTyped}
+use Rattle.wy_accepted_runs.specs.Sources.{SourcesAreShown}
+
+pub source_shown : SourcesAreShown
+source_shown bytes core flow p holds =
+    let program = p.named.program in
+    let spelled = p.named.spelled in
+    let named = p.named.holds in
+    record {
+      shown = record {
+        formed = subst Formed p.holds.0 (source-formed bytes program p.core spelled named);
+        typed = subst (λ (c : Core ℕ). IsTyped c flow) p.holds.0 p.holds.1;
+        assigned = subst IsAssigned p.holds.0 p.holds.2;
+        sourced = subst Sourced p.holds.0 (spelled_sourced bytes program p.core spelled named);
+        holds = holds;
+      };
+      asked = subst AsCodeAsks p.holds.0 (spelled_as_asked bytes program p.core spelled named);
+    }

@@ -1,0 +1,83 @@
+-- Which program was started, read off the steps of a command; and that its run is right.
+use Rattle.std.proofs.Common.{◌≡◌, ℕ, zero, suc, List, [], ◌∷◌, map, Option, Some, None, Ok, Err, sym, ap, subst}
+use Rattle.std.specs.Prelude.{slice_get}
+use Rattle.wy_answers.specs.Steps.{Came, Follows, goes_on, ends, Setting, stated}
+use Rattle.wy_answers.specs.declared.answer.Answer.{Answer}
+use Rattle.wy_cert.specs.Steps.{Certificates}
+use Rattle.wy_core.specs.CoreTree.{Routine, routines_of}
+use Rattle.wy_eval_expressions.specs.Settings.{here}
+use Rattle.wy_running.specs.Running.{state_of}
+use Rattle.wy_running.specs.Starting.{Starts}
+use Rattle.wy_running.specs.declared.parts.Start.{Start}
+use Rattle.wy_sem.specs.Evaluation.{Declared, callee}
+use Rattle.wy_shown_conditions.specs.Certified.{AllHold}
+use Rattle.wy_sound_runs.specs.Runs.{RunsRightly}
+use Rattle.wy_accepted_runs.proofs.AcceptedLemmas.{sources_rightly}
+use Rattle.wy_supplied.specs.Certificates.{certificates}
+use Rattle.wy_top.specs.Acceptance.{Acceptance, IsAccepted, accepts_file, accepts_source}
+use Rattle.wy_top.specs.Launching.{run_steps}
+use Rattle.wy_top.specs.Owed.{Owes}
+use Rattle.wy_top.specs.Programs.{Program, conditions_of, count_of}
+use Rattle.wy_top.specs.declared.launching.Launch.{Launch}
+use Rattle.wy_value.specs.Seen.{seen}
+use Rattle.wy_headline.specs.Started.{AcceptsBytes, AcceptsFile, IsRunOf}
+
+-- ---- steps
+
+is_no_err : {X : Type 0} (x : X) (a : Answer) → (let r : Came X = Ok x in r ≡ Err a) → ⊥
+is_no_err x a e = absurd cc
+
+-- where two steps come to a value, so does the first
+pub record Both {X Y : Type 0} (first : Came X → Type 0) (next : X → Came Y → Type 0) (y : Y) : Type 0 where
+  pub value : X
+  pub came : first (Ok value)
+  pub then : next value (Ok y)
+
+pub both_came : {X Y : Type 0} (first : Came X → Type 0) (next : X → Came Y → Type 0) (y : Y) → Follows first next (Ok y) → Both first next y
+both_came first next y (goes_on x h g) = record { value = x; came = h; then = g }
+both_came first next y (ends a h e) = absurd (is_no_err y a e)
+
+-- ---- acceptance
+
+-- the program is the one that is kept
+pub record AcceptedAs (s : Setting) (cert : List ℕ) (budget : ℕ) (bytes : List ℕ) (certs : Certificates) (a : Acceptance) (p : Program) : Type 0 where
+  pub owes : Owes bytes p.core p.flow
+  pub given : certificates s cert (count_of p) (Ok certs)
+  pub accepted : IsAccepted cert p certs budget a
+  pub holds : AllHold (conditions_of p)
+
+kept : (s : Setting) (cert : List ℕ) (budget : ℕ) (bytes : List ℕ) (certs : Certificates) (a : Acceptance) (p : Program) → AcceptedAs s cert budget bytes certs a p → AcceptsBytes s cert budget bytes a
+kept s cert budget bytes certs a p h =
+    let g = subst (AcceptedAs s cert budget bytes certs a) (sym h.accepted.program) h in
+    record { owes = g.owes; certs = certs; given = g.given; accepted = g.accepted; holds = g.holds }
+
+pub accepts_bytes : (s : Setting) (source cert : List ℕ) (budget : ℕ) (bytes : List ℕ) (a : Acceptance) → accepts_source s source cert budget bytes stated (Ok a) → AcceptsBytes s cert budget bytes a
+accepts_bytes s source cert budget bytes a h =
+    let f = both_came _ _ a h in
+    let g = both_came _ _ a f.then in
+    kept s cert budget bytes g.value a f.value (record { owes = f.came; given = g.came; accepted = g.then.0; holds = g.then.1 })
+
+accepts_in : (s : Setting) (source cert : List ℕ) (budget : ℕ) (a : Acceptance) → accepts_file s source cert budget stated (Ok a) → AcceptsFile s source cert budget a
+accepts_in s source cert budget a h = let f = both_came _ _ a h in record { bytes = f.value; loads = f.came; accepts = accepts_bytes s source cert budget f.value a f.then }
+
+pub run_of_steps : (s : Setting) (source cert name arguments : List ℕ) (budget : ℕ) (l : Launch) → run_steps s source cert name arguments budget stated (Ok l) → IsRunOf s source cert name arguments budget l
+run_of_steps s source cert name arguments budget l h = let f = both_came _ _ l h in record { acceptance = f.value; file = accepts_in s source cert budget f.value f.came; launched = f.then }
+
+-- ---- the run
+
+no_some : {X : Type 0} (x : X) → (let n : Option X = None in n ≡ Some x) → ⊥
+no_some x e = absurd cc
+
+some_is : {X : Type 0} (x y : X) → Some x ≡ Some y → x ≡ y
+some_is x y e = cc
+
+callee_at : (rs : List (Routine ℕ)) (f : ℕ) (r : Routine ℕ) → slice_get rs f ≡ Some r → callee rs f ≡ Declared r
+callee_at [] f r e = absurd (no_some r e)
+callee_at (q ∷ rs) zero r e = ap (λ (x : Routine ℕ). Declared x) (some_is q r e)
+callee_at (q ∷ rs) (suc f) r e = callee_at rs f r e
+
+pub right_run : (s : Setting) (cert : List ℕ) (budget : ℕ) (bytes : List ℕ) (a : Acceptance) → AcceptsBytes s cert budget bytes a → (name arguments : List ℕ) (start : Start) (st : Starts a.program.core name arguments start)
+    → RunsRightly here a.program.core start.entry st.routine (map seen start.args) (state_of start)
+right_run s cert budget bytes a h name arguments start st =
+    sources_rightly here bytes a.program.core a.program.flow h.owes.program h.holds start.code st.code start.entry st.routine start.args
+    (callee_at (routines_of a.program.core) start.entry st.routine st.entry.there) st.values st.met.met

@@ -1,0 +1,6 @@
+-- what public contracts cite
+pub mod Started
+pub mod Runs
+pub mod Commands
+pub mod Seen
+pub mod Means

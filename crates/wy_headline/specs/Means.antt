@@ -1,0 +1,33 @@
+-- What does a call on these words mean, said by what programs do?
+use Rattle.std.specs.Prelude.{◌⊎◌, ℕ, List, Option, Some, None, ⊤}
+use Rattle.wy_answers.specs.Answers.{no_memory}
+use Rattle.wy_answers.specs.Showing.{Shown, Sinks}
+use Rattle.wy_answers.specs.Steps.{Setting}
+use Rattle.wy_top.specs.Saves.{Saving}
+use Rattle.wy_top.specs.Statement.{Comes}
+use Rattle.wy_words.specs.CommandLine.{Asked, check, run, prove, conds, fmt, dis, big, command_of}
+use Rattle.wy_headline.specs.Commands.{MeansRun, ShowsLarge}
+use Rattle.wy_headline.specs.Seen.{IsNeverStuck}
+
+-- of the commands that run programs
+abbrev pub MeansAsked : Asked → Setting → ℕ → Sinks → Type 0
+MeansAsked (check source cert budget) s status k = ⊤
+MeansAsked (run source cert name arguments budget steps stats) s status k = MeansRun s source cert name arguments budget steps stats status k
+MeansAsked (prove source output budget) s status k = ⊤
+MeansAsked (conds source) s status k = ⊤
+MeansAsked (fmt source) s status k = ⊤
+MeansAsked (dis source) s status k = ⊤
+MeansAsked (big functions seed budget steps) s status k = ShowsLarge s functions seed budget steps status k
+
+abbrev pub MeansIf : Option Asked → Setting → ℕ → Sinks → Type 0
+MeansIf (Some asked) s status k = MeansAsked asked s status k
+MeansIf None s status k = ⊤
+
+-- a run that words ask for does what the program does, want of memory to read them aside; and whatever they ask for, the machine never sticks
+pub record Means (words : List (List ℕ)) (s : Setting) (status : ℕ) (k : Sinks) : Type 0 where
+  pub asked : MeansIf (command_of words) s status k ⊎ Shown no_memory status k
+  pub never : IsNeverStuck status k
+
+-- so does each call of which the clause of `run_words` holds
+abbrev pub CallsMean : Type 0
+CallsMean = (words : List (List ℕ)) (s : Setting) (v : Saving) (status : ℕ) (k : Sinks) → Comes words s v status k → Means words s status k

@@ -1,0 +1,40 @@
+//! The call of the program, with what it means.
+ghost use Rattle.std.specs.Prelude.{◌≡◌, ℕ, List};
+ghost use Rattle.wy_answers.specs.Showing.{sinks};
+ghost use Rattle.wy_answers.specs.Steps.{setting};
+ghost use Rattle.wy_headline.specs.Means.{Means};
+ghost use Rattle.wy_top.specs.Saves.{saving};
+ghost use Rattle.wy_top.specs.Statement.{Comes, IsKeptBy, saved_name};
+ghost use Rattle.wy_words.specs.CommandLine.{command_of};
+ghost use Rattle.wy_words.specs.Plain.{words_in};
+
+use std::alloc::Global;
+use wy_port::{Files, Sink};
+
+/// Does what `words` say, over `files`, and answers the exit status: `run_words` of wy_top, with its promises. What they say of
+/// runs by the steps of the code is said here by the value semantics too.
+pub fn run_words<F: Files, O: Sink, E: Sink>(
+    alloc: Global,
+    words: &[String],
+    files: &mut F,
+    out: &mut O,
+    err: &mut E,
+) -> u8
+    // What words, files and sinks show, with the steps of the code.
+    ensures comes { Comes (words_in words.now)
+        (setting (F.told files.old) (F.load_faults files.old) (F.load_faults files.new) (F.misses files.old) (F.misses files.new))
+        (saving (F.told files.old (saved_name (command_of (words_in words.now)))) (F.told files.new (saved_name (command_of (words_in words.now)))) (F.save_faults files.old) (F.save_faults files.new))
+        result
+        (sinks (O.taken out.old) (O.taken out.new) (O.faults out.old) (O.faults out.new) (E.taken err.old) (E.taken err.new) (E.faults err.old) (E.faults err.new)) }
+
+    // An accepted program runs as the value semantics says, and its contract holds of what it gives; the machine never sticks.
+    ensures means { Means (words_in words.now)
+        (setting (F.told files.old) (F.load_faults files.old) (F.load_faults files.new) (F.misses files.old) (F.misses files.new))
+        result
+        (sinks (O.taken out.old) (O.taken out.new) (O.faults out.old) (O.faults out.new) (E.taken err.old) (E.taken err.new) (E.faults err.old) (E.faults err.new)) }
+
+    // No file is changed but the one that `prove` saves.
+    ensures kept { (other : List ℕ) → IsKeptBy (command_of (words_in words.now)) other → F.told files.new other ≡ F.told files.old other }
+{
+    wy_top::run_words(alloc, words, files, out, err)
+}

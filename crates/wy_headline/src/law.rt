@@ -1,0 +1,38 @@
+//! What is known of the commands that run programs.
+ghost use Rattle.wy_headline.specs.Commands.{LargeRunsAreRight, RunsAreRight};
+ghost use Rattle.wy_headline.specs.Means.{CallsMean};
+ghost use Rattle.wy_headline.specs.Runs.{EnoughStepsEnd};
+ghost use Rattle.wy_headline.specs.Seen.{NeverSticks};
+
+/// The command `run`. Either there is no run, and the answer of why is shown; or the source is a typed and assigned program, each
+/// of its conditions has a certificate, supplied or found, and is true, the words name an entry and spell arguments that meet
+/// it. Then the status is 0 where the program is done on them, with its output and the text of its value on out, and its
+/// contract holds of these; 8 where the steps are spent, and the program isn't done at any number of ticks for which they were
+/// enough; 5 where a sink counted a fault, and 9 for want of memory, with fronts of what the program prints. There is no other.
+/// Where files are told, a run that is due is one that comes, but for failed loads (4), failed sinks (5), want of memory (9) and
+/// a condition that was found and not certified (13).
+pub fn runs_are_right()
+    ensures right { RunsAreRight }
+{}
+
+/// Where the program is done, having spent so many ticks, and there are 16 steps for each of them and 16 more, the status of its
+/// run is 0, and out took its output and the text of its value; or a sink counted a fault (5), or memory ran out (9).
+pub fn enough_steps_end_the_run()
+    ensures end { EnoughStepsEnd }
+{}
+
+/// The command `big`: likewise of the source that it makes, with its one line.
+pub fn big_runs_are_right()
+    ensures right { LargeRunsAreRight }
+{}
+
+/// Whatever the words, no call says that the machine found no step: status 13 comes for a condition that was found and not
+/// certified, and for nothing else.
+pub fn the_machine_never_sticks()
+    ensures never { NeverSticks }
+{}
+
+/// What the clause of `run_words` says by the steps of the code means all of this.
+pub fn calls_mean_what_programs_do()
+    ensures mean { CallsMean }
+{}
