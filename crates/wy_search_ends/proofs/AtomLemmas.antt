@@ -3,7 +3,6 @@ use Rattle.std.proofs.Common.{◌≡◌, ◌⊎◌, ◌∙◌, ◌<◌, ◌≤�
 use Rattle.std.specs.Bool.{beq}
 use Rattle.wy_term.specs.Term as term
 use Rattle.wy_term.specs.Term.{Term, Of, Parts, no_parts, part}
-use Rattle.wy_term.specs.Same.{same_term}
 use Rattle.wy_term.specs.Sorts.{formula_sort, sort_in}
 use Rattle.wy_term.proofs.SameLemmas.{terms_self}
 use Rattle.wy_sorted.specs.Sorted.{AreSorted, each}

@@ -1,9 +1,9 @@
 -- A node takes so many turns, behind which the walk has a verdict or goes on with the nodes behind it.
-use Rattle.std.proofs.Common.{◌≡◌, ◌∙◌, ◌+◌, ◌-◌, ◌<◌, ◌≤◌, ◌||◌, ℕ, zero, suc, List, [], ◌∷◌, Bool, true, false, cond, eqb, Option, Some, None, refl, sym, ap, subst, arith}
+use Rattle.std.proofs.Common.{◌≡◌, ◌∙◌, ◌+◌, ◌<◌, ◌≤◌, ◌||◌, ℕ, zero, suc, List, [], ◌∷◌, Bool, true, false, cond, eqb, Option, Some, None, refl, ap, arith}
 use Rattle.std.specs.Prelude.{nat_lt}
 use Rattle.wy_term.specs.Term.{Term}
 use Rattle.wy_term.specs.Condition.{Entry}
-use Rattle.wy_judge.specs.Node.{Node, added, denied_one}
+use Rattle.wy_judge.specs.Node.{added, denied_one}
 use Rattle.wy_valid.specs.Literals.{is_shut}
 use Rattle.wy_search.specs.Classes.{clashes}
 use Rattle.wy_search.specs.Bounds.{Ending, consistent, crowded, ending, refuted, wide}

@@ -1,6 +1,6 @@
 -- A round keeps formulas sorted, and so each search ends.
-use Rattle.std.proofs.Common.{List, [], ◌∷◌}
-use Rattle.wy_term.specs.Condition.{Condition, Entry}
+use Rattle.std.proofs.Common.{List}
+use Rattle.wy_term.specs.Condition.{Entry}
 use Rattle.wy_term.specs.Unfolding.{AreClosed}
 use Rattle.wy_search.specs.Expansion.{Spot, expanded, index_terms, with_facts, with_instances, with_products, with_witnesses}
 use Rattle.wy_search.specs.Tree.{first_spot}
