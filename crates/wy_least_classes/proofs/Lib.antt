@@ -1,0 +1,5 @@
+mod SizeLemmas
+mod PlaceLemmas
+mod RoundLemmas
+mod SoundLemmas
+mod LeastLemmas
