@@ -1,0 +1,3 @@
+pub mod SafeLemmas
+pub mod RunLemmas
+pub mod PieceLemmas

@@ -1,0 +1,4 @@
+-- when a register is live at a place of code
+pub mod Alive
+-- code that keeps nothing dead, whatever it holds
+pub mod Safe
