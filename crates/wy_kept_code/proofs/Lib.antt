@@ -1,3 +1,4 @@
 pub mod SafeLemmas
 pub mod RunLemmas
 pub mod PieceLemmas
+pub mod TestLemmas

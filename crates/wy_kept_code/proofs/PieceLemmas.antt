@@ -34,6 +34,11 @@ none_below r d (x ∷ xs) l h = ((λ e. let k = h.0 in absurd (omega (arith, e, 
 pub less_not : (r d : ℕ) → r < d → r ≢ d
 less_not r d l e = absurd (omega (arith, e, l))
 
+-- from one count of instructions to the next
+pub nat_up : (C : ℕ → Type 0) → C zero → ((k : ℕ) → C k → C (suc k)) → (k : ℕ) → C k
+nat_up C z s zero = z
+nat_up C z s (suc k) = s k (nat_up C z s k)
+
 module _ (body : List Instr) where
   -- the steps stand in the routine from the one place up to the other
   abbrev pub Spans : ℕ → List Step → ℕ → Type 0
@@ -100,6 +105,7 @@ module _ (body : List Instr) where
     pub branches : slice_get body branch ≡ Some (instr.Branch d next)
     pub inside : Spans (branch + 1) inner jump
     pub jumps : slice_get body jump ≡ Some (instr.Jump at)
+    pub behind : jump + 1 ≡ next
 
   pub turning : (at : ℕ) (test : List Step) (d : ℕ) (inner : List Step) (next : ℕ) → Spans at (turns test d inner) next → Turning at test d inner next
   turning at test d inner next h =
@@ -119,7 +125,8 @@ module _ (body : List Instr) where
         tests = front at test (GoesOnUnless d (length inner + 1) ∷ (inner ++ GoesBack long ∷ [])) next h;
         branches = subst (λ (z : ℕ). slice_get body b ≡ Some (instr.Branch d z)) there rest.0.0;
         inside = front (b + 1) inner (GoesBack long ∷ []) next more;
-        jumps = subst (λ (z : ℕ). slice_get body j ≡ Some (instr.Jump z)) home last.0.0
+        jumps = subst (λ (z : ℕ). slice_get body j ≡ Some (instr.Jump z)) home last.0.0;
+        behind = (let z = last.1 in omega (arith, z))
       }
 
   -- ---- what is safe
@@ -152,6 +159,29 @@ module _ (body : List Instr) where
       where
         held : (r : ℕ) → After t f (instr.Clear rs) P r → P r × IsNone r rs
         held r (inl g) = g
+        held r (inr g) = absurd g
+
+    -- an instruction that goes on behind, whatever the count
+    pub safe_step : (m p : ℕ) (i : Instr) (P Q : ℕ → Type 0) → slice_get body p ≡ Some i → Lives p P → ((n : ℕ) → Safe t f body n (p + 1) (After t f i P) → Onward t f (Safe t f body n) p i P)
+        → Less t f (After t f i P) Q → Safe t f body m (p + 1) Q → Safe t f body m p P
+    safe_step zero p i P Q is live onward less safe = tt
+    safe_step (suc n) p i P Q is live onward less safe = safe_does n p i P Q is live (onward n) less safe
+
+    -- live in front of an instruction that changes none of these
+    pub lives_on : (p : ℕ) (i : Instr) (P : ℕ → Type 0) → slice_get body p ≡ Some i → ((q : ℕ) → P q → IsNone q (changes i)) → IsOne (p + 1) (nexts p i) → Lives (p + 1) P → Lives p P
+    lives_on p i P is none to live r u l = live_on p (p + 1) r i is (none r l) to (live r u l)
+
+    pub lives_at : (p q : ℕ) (P : ℕ → Type 0) → p ≡ q → Lives p P → Lives q P
+    lives_at p q P e h = subst (λ (z : ℕ). Lives z P) e h
+
+    -- back to a place that is safe for one instruction less
+    pub safe_loops : (n p q : ℕ) (P Q : ℕ → Type 0) → slice_get body p ≡ Some (instr.Jump q) → Lives q Q → Less t f P Q → Safe t f body n q Q → Safe t f body (suc n) p P
+    safe_loops n p q P Q is live less safe = λ j e.
+        subst (λ (k : Instr). Fine t f body p k P × Onward t f (Safe t f body n) p k P) (same_instr (instr.Jump q) j (sym is ∙ e))
+        ((λ c r u l. live_on p q r (instr.Jump q) is tt (inl refl) (live r u (less r u l))), safe_less t f body n q (After t f (instr.Jump q) P) Q (λ r u l. less r u (held r l)) safe)
+      where
+        held : (r : ℕ) → After t f (instr.Jump q) P r → P r
+        held r (inl g) = g.0
         held r (inr g) = absurd g
 
     pub safe_jumps : (m p q : ℕ) (P Q : ℕ → Type 0) → slice_get body p ≡ Some (instr.Jump q) → Lives q Q → Less t f P Q → Safe t f body m q Q → Safe t f body m p P

@@ -2,3 +2,5 @@
 pub mod Alive
 -- code that keeps nothing dead, whatever it holds
 pub mod Safe
+-- of which registers something is said
+pub mod Telling
