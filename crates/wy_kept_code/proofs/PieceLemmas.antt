@@ -11,7 +11,7 @@ use Rattle.wy_simulation.proofs.PlaceLemmas.{stand_front, stand_back, stand_move
 use Rattle.wy_kept_registers.specs.Keeping.{IsNone}
 use Rattle.wy_kept_code.specs.Alive.{IsOne, reads, changes, nexts, ReadWithin, LiveAt, is_clear}
 use Rattle.wy_kept_code.specs.Safe.{Told, gone, Into, After, Onward, Fine, Safe}
-use Rattle.wy_kept_code.proofs.SafeLemmas.{Less, safe_less, safe_sooner}
+use Rattle.wy_kept_code.proofs.SafeLemmas.{told_or_not, Within, Less, safe_less, safe_sooner}
 
 pub either : {A B C : Type 0} → (A → C) → (B → C) → A ⊎ B → C
 either f g (inl a) = f a
@@ -136,34 +136,47 @@ module _ (body : List Instr) where
     abbrev pub Lives : ℕ → (ℕ → Type 0) → Type 0
     Lives p P = (r : ℕ) → t.untold f r ≡ false → P r → LiveAt body p r
 
-    abbrev pub Stays : ℕ → ℕ → (ℕ → Type 0) → Type 0
-    Stays n p P = Safe t f body n p P
+    -- at most these registers of which something is said hold lists or records
+    abbrev pub Told_of : (ℕ → Type 0) → ℕ → Type 0
+    Told_of P r = P r ⊎ (t.untold f r ≡ true)
+
+    -- for so many instructions from the place on
+    abbrev pub Sure : ℕ → ℕ → (ℕ → Type 0) → Type 0
+    Sure m p P = Safe t f body m p (Told_of P)
+
+    -- what may hold a list or a record behind an instruction
+    abbrev pub Behind : Instr → (ℕ → Type 0) → ℕ → Type 0
+    Behind i P r = (P r × IsNone r (gone i)) ⊎ Into t f i (Told_of P) r
+
+    pub told_less : (P Q : ℕ → Type 0) → Less t f P Q → Within t f (Told_of P) (Told_of Q)
+    told_less P Q h r (inr u) = inr u
+    told_less P Q h r (inl l) = either (λ u. inr u) (λ u. inl (h r u l)) (told_or_not (t.untold f r))
+
+    told_after : (i : Instr) (P Q : ℕ → Type 0) → Less t f (Behind i P) Q → Within t f (After t f i (Told_of P)) (Told_of Q)
+    told_after i P Q h r l = either (λ u. inr u) (λ u. inl (h r u (either (λ k. inl (either (λ z. z) (λ w. absurd (let x : true ≡ false = sym w ∙ u in cc)) k.0, k.1)) (λ k. inr k) l))) (told_or_not (t.untold f r))
+
+    -- fewer registers
+    pub sure_less : (m p : ℕ) (P Q : ℕ → Type 0) → Less t f P Q → Sure m p Q → Sure m p P
+    sure_less m p P Q h k = safe_less t f body m p (Told_of P) (Told_of Q) (told_less P Q h) k
 
     same_instr : (i j : Instr) → Some i ≡ Some j → i ≡ j
     same_instr i j e = cc
 
-    -- one instruction that goes on behind
-    pub safe_does : (n p : ℕ) (i : Instr) (P Q : ℕ → Type 0) → slice_get body p ≡ Some i → Lives p P → (Safe t f body n (p + 1) (After t f i P) → Onward t f (Safe t f body n) p i P)
-        → Less t f (After t f i P) Q → Safe t f body (suc n) (p + 1) Q → Safe t f body (suc n) p P
+    -- what of these registers is told is live
+    fine_of : (p : ℕ) (i : Instr) (P : ℕ → Type 0) → Lives p P → Fine t f body p i (Told_of P)
+    fine_of p i P live c r u (inl l) = live r u l
+    fine_of p i P live c r u (inr w) = absurd (let x : true ≡ false = sym w ∙ u in cc)
+
+    -- one instruction, which goes on behind
+    pub safe_does : (n p : ℕ) (i : Instr) (P Q : ℕ → Type 0) → slice_get body p ≡ Some i → Lives p P → (Safe t f body n (p + 1) (After t f i (Told_of P)) → Onward t f (Safe t f body n) p i (Told_of P))
+        → Less t f (Behind i P) Q → Sure (suc n) (p + 1) Q → Sure (suc n) p P
     safe_does n p i P Q is live onward less safe j e =
-        subst (λ (k : Instr). Fine t f body p k P × Onward t f (Safe t f body n) p k P) (same_instr i j (sym is ∙ e))
-        ((λ c r u l. live r u l), onward (safe_less t f body n (p + 1) (After t f i P) Q less (safe_sooner t f body n (p + 1) Q safe)))
+        subst (λ (k : Instr). Fine t f body p k (Told_of P) × Onward t f (Safe t f body n) p k (Told_of P)) (same_instr i j (sym is ∙ e))
+        (fine_of p i P live, onward (safe_less t f body n (p + 1) (After t f i (Told_of P)) (Told_of Q) (told_after i P Q less) (safe_sooner t f body n (p + 1) (Told_of Q) safe)))
 
-    -- a release
-    pub safe_clears : (m p : ℕ) (rs : List ℕ) (P Q : ℕ → Type 0) → slice_get body p ≡ Some (instr.Clear rs)
-        → Less t f (λ r. P r × IsNone r rs) Q → Safe t f body m (p + 1) Q → Safe t f body m p P
-    safe_clears zero p rs P Q is less safe = tt
-    safe_clears (suc n) p rs P Q is less safe = λ j e.
-        subst (λ (k : Instr). Fine t f body p k P × Onward t f (Safe t f body n) p k P) (same_instr (instr.Clear rs) j (sym is ∙ e))
-        ((λ c r u l. absurd (let z : true ≡ false = c in cc)), safe_less t f body n (p + 1) (After t f (instr.Clear rs) P) Q (λ r u l. less r u (held r l)) (safe_sooner t f body n (p + 1) Q safe))
-      where
-        held : (r : ℕ) → After t f (instr.Clear rs) P r → P r × IsNone r rs
-        held r (inl g) = g
-        held r (inr g) = absurd g
-
-    -- an instruction that goes on behind, whatever the count
-    pub safe_step : (m p : ℕ) (i : Instr) (P Q : ℕ → Type 0) → slice_get body p ≡ Some i → Lives p P → ((n : ℕ) → Safe t f body n (p + 1) (After t f i P) → Onward t f (Safe t f body n) p i P)
-        → Less t f (After t f i P) Q → Safe t f body m (p + 1) Q → Safe t f body m p P
+    -- the same, whatever the count
+    pub safe_step : (m p : ℕ) (i : Instr) (P Q : ℕ → Type 0) → slice_get body p ≡ Some i → Lives p P → ((n : ℕ) → Safe t f body n (p + 1) (After t f i (Told_of P)) → Onward t f (Safe t f body n) p i (Told_of P))
+        → Less t f (Behind i P) Q → Sure m (p + 1) Q → Sure m p P
     safe_step zero p i P Q is live onward less safe = tt
     safe_step (suc n) p i P Q is live onward less safe = safe_does n p i P Q is live (onward n) less safe
 
@@ -174,48 +187,54 @@ module _ (body : List Instr) where
     pub lives_at : (p q : ℕ) (P : ℕ → Type 0) → p ≡ q → Lives p P → Lives q P
     lives_at p q P e h = subst (λ (z : ℕ). Lives z P) e h
 
-    -- back to a place that is safe for one instruction less
-    pub safe_loops : (n p q : ℕ) (P Q : ℕ → Type 0) → slice_get body p ≡ Some (instr.Jump q) → Lives q Q → Less t f P Q → Safe t f body n q Q → Safe t f body (suc n) p P
-    safe_loops n p q P Q is live less safe = λ j e.
-        subst (λ (k : Instr). Fine t f body p k P × Onward t f (Safe t f body n) p k P) (same_instr (instr.Jump q) j (sym is ∙ e))
-        ((λ c r u l. live_on p q r (instr.Jump q) is tt (inl refl) (live r u (less r u l))), safe_less t f body n q (After t f (instr.Jump q) P) Q (λ r u l. less r u (held r l)) safe)
+    -- a release
+    pub safe_clears : (m p : ℕ) (rs : List ℕ) (P Q : ℕ → Type 0) → slice_get body p ≡ Some (instr.Clear rs)
+        → Less t f (λ r. P r × IsNone r rs) Q → Sure m (p + 1) Q → Sure m p P
+    safe_clears zero p rs P Q is less safe = tt
+    safe_clears (suc n) p rs P Q is less safe = λ j e.
+        subst (λ (k : Instr). Fine t f body p k (Told_of P) × Onward t f (Safe t f body n) p k (Told_of P)) (same_instr (instr.Clear rs) j (sym is ∙ e))
+        ((λ c r u l. absurd (let z : true ≡ false = c in cc)), safe_less t f body n (p + 1) (After t f (instr.Clear rs) (Told_of P)) (Told_of Q) (told_after (instr.Clear rs) P Q (λ r u l. less r u (held r l))) (safe_sooner t f body n (p + 1) (Told_of Q) safe))
       where
-        held : (r : ℕ) → After t f (instr.Jump q) P r → P r
-        held r (inl g) = g.0
+        held : (r : ℕ) → Behind (instr.Clear rs) P r → P r × IsNone r rs
+        held r (inl g) = g
         held r (inr g) = absurd g
 
-    pub safe_jumps : (m p q : ℕ) (P Q : ℕ → Type 0) → slice_get body p ≡ Some (instr.Jump q) → Lives q Q → Less t f P Q → Safe t f body m q Q → Safe t f body m p P
+    jumped : (q : ℕ) (P Q : ℕ → Type 0) → Less t f P Q → Less t f (Behind (instr.Jump q) P) Q
+    jumped q P Q h r u (inl g) = h r u g.0
+    jumped q P Q h r u (inr g) = absurd g
+
+    -- back to a place that is safe for one instruction less
+    pub safe_loops : (n p q : ℕ) (P Q : ℕ → Type 0) → slice_get body p ≡ Some (instr.Jump q) → Lives q Q → Less t f P Q → Sure n q Q → Sure (suc n) p P
+    safe_loops n p q P Q is live less safe = λ j e.
+        subst (λ (k : Instr). Fine t f body p k (Told_of P) × Onward t f (Safe t f body n) p k (Told_of P)) (same_instr (instr.Jump q) j (sym is ∙ e))
+        (fine_of p (instr.Jump q) P (λ r u l. live_on p q r (instr.Jump q) is tt (inl refl) (live r u (less r u l))), safe_less t f body n q (After t f (instr.Jump q) (Told_of P)) (Told_of Q) (told_after (instr.Jump q) P Q (jumped q P Q less)) safe)
+
+    pub safe_jumps : (m p q : ℕ) (P Q : ℕ → Type 0) → slice_get body p ≡ Some (instr.Jump q) → Lives q Q → Less t f P Q → Sure m q Q → Sure m p P
     safe_jumps zero p q P Q is live less safe = tt
-    safe_jumps (suc n) p q P Q is live less safe = λ j e.
-        subst (λ (k : Instr). Fine t f body p k P × Onward t f (Safe t f body n) p k P) (same_instr (instr.Jump q) j (sym is ∙ e))
-        ((λ c r u l. live_on p q r (instr.Jump q) is tt (inl refl) (live r u (less r u l))), safe_less t f body n q (After t f (instr.Jump q) P) Q (λ r u l. less r u (held r l)) (safe_sooner t f body n q Q safe))
-      where
-        held : (r : ℕ) → After t f (instr.Jump q) P r → P r
-        held r (inl g) = g.0
-        held r (inr g) = absurd g
+    safe_jumps (suc n) p q P Q is live less safe = safe_loops n p q P Q is live less (safe_sooner t f body n q (Told_of Q) safe)
 
     pub safe_branches : (m p d q : ℕ) (P Q R : ℕ → Type 0) → slice_get body p ≡ Some (instr.Branch d q) → Lives p P
-        → Less t f (λ r. P r × (r ≢ d)) Q → Less t f (λ r. P r × (r ≢ d)) R → Safe t f body m (p + 1) Q → Safe t f body m q R → Safe t f body m p P
+        → Less t f (λ r. P r × (r ≢ d)) Q → Less t f (λ r. P r × (r ≢ d)) R → Sure m (p + 1) Q → Sure m q R → Sure m p P
     safe_branches zero p d q P Q R is live one two safe also = tt
     safe_branches (suc n) p d q P Q R is live one two safe also = λ j e.
-        subst (λ (k : Instr). Fine t f body p k P × Onward t f (Safe t f body n) p k P) (same_instr (instr.Branch d q) j (sym is ∙ e))
-        ((λ c r u l. live r u l),
-        (safe_less t f body n (p + 1) (After t f (instr.Branch d q) P) Q (λ r u l. one r u (held r l)) (safe_sooner t f body n (p + 1) Q safe),
-        safe_less t f body n q (After t f (instr.Branch d q) P) R (λ r u l. two r u (held r l)) (safe_sooner t f body n q R also)))
+        subst (λ (k : Instr). Fine t f body p k (Told_of P) × Onward t f (Safe t f body n) p k (Told_of P)) (same_instr (instr.Branch d q) j (sym is ∙ e))
+        (fine_of p (instr.Branch d q) P live,
+        (safe_less t f body n (p + 1) (After t f (instr.Branch d q) (Told_of P)) (Told_of Q) (told_after (instr.Branch d q) P Q (λ r u l. one r u (held r l))) (safe_sooner t f body n (p + 1) (Told_of Q) safe),
+        safe_less t f body n q (After t f (instr.Branch d q) (Told_of P)) (Told_of R) (told_after (instr.Branch d q) P R (λ r u l. two r u (held r l))) (safe_sooner t f body n q (Told_of R) also)))
       where
-        held : (r : ℕ) → After t f (instr.Branch d q) P r → P r × (r ≢ d)
+        held : (r : ℕ) → Behind (instr.Branch d q) P r → P r × (r ≢ d)
         held r (inl g) = (g.0, g.1.0)
         held r (inr g) = absurd g
 
-    pub safe_at : (m p q : ℕ) (P : ℕ → Type 0) → p ≡ q → Safe t f body m p P → Safe t f body m q P
-    safe_at m p q P e h = subst (λ (z : ℕ). Safe t f body m z P) e h
+    pub safe_at : (m p q : ℕ) (P : ℕ → Type 0) → p ≡ q → Sure m p P → Sure m q P
+    safe_at m p q P e h = subst (λ (z : ℕ). Sure m z P) e h
 
     -- a fork: the register of its test is read where there is any code
     pub safe_fork : (m at next d : ℕ) (first second : List Step) (P A B Q : ℕ → Type 0) → Spans at (fork d first second) next
         → Lives at P → (first ≡ [] → second ≡ [] → Less t f P A) → Less t f (λ r. P r × (r ≢ d)) A → Less t f (λ r. P r × (r ≢ d)) B → Lives next Q
-        → ((p q : ℕ) → Spans p first q → Lives q Q → Safe t f body m q Q → Safe t f body m p A) → ((p : ℕ) → Spans p second next → Safe t f body m p B)
-        → Safe t f body m next Q → Safe t f body m at P
-    safe_fork m at next d [] [] P A B Q h live none one two lq a b safe = safe_less t f body m at P A (none refl refl) (a at next h lq safe)
+        → ((p q : ℕ) → Spans p first q → Lives q Q → Sure m q Q → Sure m p A) → ((p : ℕ) → Spans p second next → Sure m p B)
+        → Sure m next Q → Sure m at P
+    safe_fork m at next d [] [] P A B Q h live none one two lq a b safe = sure_less m at P A (none refl refl) (a at next h lq safe)
     safe_fork m at next d (s ∷ first) [] P A B Q h live none one two lq a b safe =
         let to : suc at + length (s ∷ first) ≡ next = (let e = h.1 in omega (arith, e)) in
         safe_branches m at d (suc at + length (s ∷ first)) P A B h.0.0 live one two

@@ -190,7 +190,7 @@ module _ (t : Told) (f : ℕ) (body : List Instr) (p : ℕ) (regs : Store) where
 
   -- fewer registers hold something large than may do so
   lessen : (q : ℕ) (P Q : ℕ → Type 0) → ((r : ℕ) → P r → Q r) → Always q Q → Always q P
-  lessen q P Q h k = λ n. safe_less t f body n q P Q (λ r u l. h r l) (k n)
+  lessen q P Q h k = λ n. safe_less t f body n q P Q h (k n)
 
   -- a small value comes into a register
   small_put : (d : ℕ) (v : Datum) (r : ℕ) → (IsLarge v → ⊥) → Large (put regs d (Some v)) r → (r ≢ d) × Large regs r
@@ -224,14 +224,14 @@ module _ (t : Told) (f : ℕ) (body : List Instr) (p : ℕ) (regs : Store) where
     where
       by : (((r ≢ d) × IsNone r (s ∷ [])) × Large regs r) ⊎ ((r ≡ d) × IsLarge v) → Behind (instr.Move d s) r
       by (inl g) = inl (g.1, g.0)
-      by (inr g) = inr (g.0, inl (source_large s v e g.1))
+      by (inr g) = inr (g.0, source_large s v e g.1)
 
   shared_in : (d s : ℕ) (v : Datum) (r : ℕ) → slot regs s ≡ Some v → Large (put regs d (Some v)) r → Behind (instr.Share d s) r
   shared_in d s v r e h = by (any_put [] d regs v r (λ x l. (tt, l)) h)
     where
       by : (((r ≢ d) × IsNone r []) × Large regs r) ⊎ ((r ≡ d) × IsLarge v) → Behind (instr.Share d s) r
       by (inl g) = inl (g.1, (g.0.0, tt))
-      by (inr g) = inr (g.0, inl (source_large s v e g.1))
+      by (inr g) = inr (g.0, source_large s v e g.1)
 
   filled_in : (d v n : ℕ) (u : Datum) (r : ℕ) → IsSmall n → Large (put (put regs v None) d (Some u)) r → Behind (instr.Fill d v n) r
   filled_in d v n u r small h = by (any_put (v ∷ []) d (put regs v None) u r (one_gone v) h)
@@ -320,7 +320,7 @@ module _ (t : Told) (f : ℕ) (body : List Instr) (p : ℕ) (regs : Store) where
     effect_keeps shapes (instr.Call d g rs) is = moved_all_keeps regs rs _ (λ vs rest h.
         ((λ r u l. let o = h r l in (here 0 (instr.Call d g rs) is).0 r u o.1 o.0),
         lessen (p + 1) (λ r. Large rest r ⊎ ((r ≡ d) × (t.results g ≡ true))) (Behind (instr.Call d g rs)) (λ r l. called_in d g rs rest r h l) (λ n. (here n (instr.Call d g rs) is).1)))
-    effect_keeps shapes (instr.Return s) is = there_keeps (slot regs s) _ (λ v e h. here 0 (instr.Return s) is (inl (source_large s v e h)))
+    effect_keeps shapes (instr.Return s) is = there_keeps (slot regs s) _ (λ v e h. here 0 (instr.Return s) is (source_large s v e h))
     effect_keeps shapes (instr.Print a) is = there_keeps (slot regs a) _ (λ v e. items_keep v _ (λ ds. bytes_keep ds _ (λ bytes. lessen (p + 1) (Large regs) (Behind (instr.Print a)) (λ r l. inl (l, tt)) (λ n. here n (instr.Print a) is))))
     effect_keeps shapes (instr.PrintInt a) is = there_keeps (slot regs a) _ (λ v e. number_keeps v _ (λ z g. lessen (p + 1) (Large regs) (Behind (instr.PrintInt a)) (λ r l. inl (l, (other_than a r (number_small a v z e g) l, tt))) (λ n. here n (instr.PrintInt a) is)))
 
@@ -365,12 +365,12 @@ module _ (t : Told) (code : Code) (safe : SafeCode t code) where
 
       by : (b : Bool) → nat_eq (length vs) r.params ≡ b → StateSafe (cond b (Runs (record { routine = f; at = 0; registers = entry_registers r vs }) callers output) Stuck)
       by true g = ((λ r2 e2 n. safe_less t f r2.body n 0 (λ x. HoldsLarge (slot (entry_registers r vs) x)) (λ x. x < r2.params)
-          (λ x u l. let m = entry_large vs (r.registers - length vs) x l in let i = equal_numbers (length vs) r.params g in let same : r.params ≡ r2.params = ap (λ (z : Routine). z.params) (some_same r r2 (sym e ∙ e2)) in omega (arith, m, i, same)) (safe f r2 e2 n)), h)
+          (λ x l. let m = entry_large vs (r.registers - length vs) x l in let i = equal_numbers (length vs) r.params g in let same : r.params ≡ r2.params = ap (λ (z : Routine). z.params) (some_same r r2 (sym e ∙ e2)) in omega (arith, m, i, same)) (safe f r2 e2 n)), h)
       by false g = tt
 
   returned_safe : (f : ℕ) (v : Datum) (callers : List Caller) (output : List ℕ) → CallersSafe f callers → (IsLarge v → t.results f ≡ true) → StateSafe (returned v callers output)
   returned_safe f v [] output h g = tt
-  returned_safe f v (c ∷ callers) output h g = ((λ r e n. safe_less t c.frame.routine r.body n c.frame.at (λ x. HoldsLarge (slot (put c.frame.registers c.target (Some v)) x)) (λ x. HoldsLarge (slot c.frame.registers x) ⊎ ((x ≡ c.target) × (t.results f ≡ true))) (λ x u l. by x (put_large c.frame.registers c.target x (Some v) l)) (h.1 r e n)), h.2)
+  returned_safe f v (c ∷ callers) output h g = ((λ r e n. safe_less t c.frame.routine r.body n c.frame.at (λ x. HoldsLarge (slot (put c.frame.registers c.target (Some v)) x)) (λ x. HoldsLarge (slot c.frame.registers x) ⊎ ((x ≡ c.target) × (t.results f ≡ true))) (λ x l. by x (put_large c.frame.registers c.target x (Some v) l)) (h.1 r e n)), h.2)
     where
       by : (x : ℕ) → ((x ≡ c.target) × IsLarge v) ⊎ ((x ≢ c.target) × HoldsLarge (slot c.frame.registers x)) → HoldsLarge (slot c.frame.registers x) ⊎ ((x ≡ c.target) × (t.results f ≡ true))
       by x (inl k) = inr (k.0, g k.1)

@@ -12,22 +12,18 @@ told_or_not true = inl refl
 told_or_not false = inr refl
 
 module _ (t : Told) (f : ℕ) where
-  -- the registers of the one set of which something is said are in the other
+  -- the registers of the one set are in the other
+  abbrev pub Within : (ℕ → Type 0) → (ℕ → Type 0) → Type 0
+  Within P Q = (r : ℕ) → P r → Q r
+
+  -- those of which something is said
   abbrev pub Less : (ℕ → Type 0) → (ℕ → Type 0) → Type 0
   Less P Q = (r : ℕ) → t.untold f r ≡ false → P r → Q r
 
-  into_source : (P Q : ℕ → Type 0) → Less P Q → (s : ℕ) → P s ⊎ (t.untold f s ≡ true) → Q s ⊎ (t.untold f s ≡ true)
-  into_source P Q h s (inr e) = inr e
-  into_source P Q h s (inl p) = by (told_or_not (t.untold f s))
-    where
-      by : (t.untold f s ≡ true) ⊎ (t.untold f s ≡ false) → Q s ⊎ (t.untold f s ≡ true)
-      by (inl e) = inr e
-      by (inr e) = inl (h s e p)
-
-  into_less : (i : Instr) (P Q : ℕ → Type 0) → Less P Q → (r : ℕ) → Into t f i P r → Into t f i Q r
+  into_less : (i : Instr) (P Q : ℕ → Type 0) → Within P Q → (r : ℕ) → Into t f i P r → Into t f i Q r
   into_less (instr.Const d c) P Q h r k = k
-  into_less (instr.Move d s) P Q h r k = (k.0, into_source P Q h s k.1)
-  into_less (instr.Share d s) P Q h r k = (k.0, into_source P Q h s k.1)
+  into_less (instr.Move d s) P Q h r k = (k.0, h s k.1)
+  into_less (instr.Share d s) P Q h r k = (k.0, h s k.1)
   into_less (instr.Clear rs) P Q h r k = k
   into_less (instr.Arith d op a b) P Q h r k = k
   into_less (instr.Compare d op a b) P Q h r k = k
@@ -48,13 +44,13 @@ module _ (t : Told) (f : ℕ) where
   into_less (instr.Print a) P Q h r k = k
   into_less (instr.PrintInt a) P Q h r k = k
 
-  after_less : (i : Instr) (P Q : ℕ → Type 0) → Less P Q → Less (After t f i P) (After t f i Q)
-  after_less i P Q h r u (inl k) = inl (h r u k.0, k.1)
-  after_less i P Q h r u (inr k) = inr (into_less i P Q h r k)
+  after_less : (i : Instr) (P Q : ℕ → Type 0) → Within P Q → Within (After t f i P) (After t f i Q)
+  after_less i P Q h r (inl k) = inl (h r k.0, k.1)
+  after_less i P Q h r (inr k) = inr (into_less i P Q h r k)
 
   module _ (body : List Instr) where
-    onward_less : (n p : ℕ) (i : Instr) (P Q : ℕ → Type 0) → Less P Q
-        → ((q : ℕ) (A B : ℕ → Type 0) → Less A B → Safe t f body n q B → Safe t f body n q A)
+    onward_less : (n p : ℕ) (i : Instr) (P Q : ℕ → Type 0) → Within P Q
+        → ((q : ℕ) (A B : ℕ → Type 0) → Within A B → Safe t f body n q B → Safe t f body n q A)
         → Onward t f (Safe t f body n) p i Q → Onward t f (Safe t f body n) p i P
     onward_less n p (instr.Const d c) P Q h go k = go (p + 1) (After t f (instr.Const d c) P) (After t f (instr.Const d c) Q) (after_less (instr.Const d c) P Q h) k
     onward_less n p (instr.Move d s) P Q h go k = go (p + 1) (After t f (instr.Move d s) P) (After t f (instr.Move d s) Q) (after_less (instr.Move d s) P Q h) k
@@ -77,15 +73,15 @@ module _ (t : Told) (f : ℕ) where
     onward_less n p (instr.Put a path v) P Q h go k = go (p + 1) (After t f (instr.Put a path v) P) (After t f (instr.Put a path v) Q) (after_less (instr.Put a path v) P Q h) k
     onward_less n p (instr.Kind d a m) P Q h go k = go (p + 1) (After t f (instr.Kind d a m) P) (After t f (instr.Kind d a m) Q) (after_less (instr.Kind d a m) P Q h) k
     onward_less n p (instr.Call d g rs) P Q h go k =
-        ((λ r u l none. k.0 r u (h r u l) none), go (p + 1) (After t f (instr.Call d g rs) P) (After t f (instr.Call d g rs) Q) (after_less (instr.Call d g rs) P Q h) k.1)
-    onward_less n p (instr.Return s) P Q h go k = λ l. k (into_source P Q h s l)
+        ((λ r u l none. k.0 r u (h r l) none), go (p + 1) (After t f (instr.Call d g rs) P) (After t f (instr.Call d g rs) Q) (after_less (instr.Call d g rs) P Q h) k.1)
+    onward_less n p (instr.Return s) P Q h go k = λ l. k (h s l)
     onward_less n p (instr.Print a) P Q h go k = go (p + 1) (After t f (instr.Print a) P) (After t f (instr.Print a) Q) (after_less (instr.Print a) P Q h) k
     onward_less n p (instr.PrintInt a) P Q h go k = go (p + 1) (After t f (instr.PrintInt a) P) (After t f (instr.PrintInt a) Q) (after_less (instr.PrintInt a) P Q h) k
 
     -- fewer registers
-    pub safe_less : (n p : ℕ) (P Q : ℕ → Type 0) → Less P Q → Safe t f body n p Q → Safe t f body n p P
+    pub safe_less : (n p : ℕ) (P Q : ℕ → Type 0) → Within P Q → Safe t f body n p Q → Safe t f body n p P
     safe_less zero p P Q h k = tt
-    safe_less (suc n) p P Q h k = λ i e. ((λ c r u l. (k i e).0 c r u (h r u l)), onward_less n p i P Q h (λ q A B g l. safe_less n q A B g l) (k i e).1)
+    safe_less (suc n) p P Q h k = λ i e. ((λ c r u l. (k i e).0 c r u (h r l)), onward_less n p i P Q h (λ q A B g l. safe_less n q A B g l) (k i e).1)
 
     onward_sooner : (n p : ℕ) (i : Instr) (P : ℕ → Type 0) → ((q : ℕ) (A : ℕ → Type 0) → Safe t f body (suc n) q A → Safe t f body n q A)
         → Onward t f (Safe t f body (suc n)) p i P → Onward t f (Safe t f body n) p i P

@@ -20,8 +20,8 @@ use Rattle.wy_kept_registers.specs.Keeping.{IsNone}
 use Rattle.wy_kept_code.specs.Alive.{IsOne, reads, changes, nexts, LiveAt}
 use Rattle.wy_kept_code.specs.Safe.{Told, gone, Into, After, Onward, Fine, Safe}
 use Rattle.wy_kept_code.specs.Telling.{Tells}
-use Rattle.wy_kept_code.proofs.SafeLemmas.{Less, safe_less, safe_sooner}
-use Rattle.wy_kept_code.proofs.PieceLemmas.{either, nat_up, less_not, Spans, front, back, tail, ended, live_reads, live_on, live_last, live_first, live_second, Turning, turning, Lives, safe_step, safe_clears, safe_jumps, safe_loops, safe_branches, safe_at, safe_fork, lives_on, lives_at}
+use Rattle.wy_kept_code.proofs.SafeLemmas.{Less, safe_sooner}
+use Rattle.wy_kept_code.proofs.PieceLemmas.{either, nat_up, Told_of, Sure, Behind, less_not, Spans, front, back, tail, ended, live_reads, live_on, live_last, live_first, live_second, Turning, turning, Lives, safe_step, safe_clears, safe_jumps, safe_loops, safe_branches, safe_at, safe_fork, lives_on, lives_at}
 
 module _ (body : List Instr) where
   -- where a register is live behind code that isn't gone through
@@ -56,7 +56,7 @@ module _ (body : List Instr) where
         (live_last body mid next q (instr.Not r r) (back body at (test c a v r g) (Does (instr.Not r r) ∷ []) next h) (other, tt) (inl refl) l)
     test_live (NamedTy k) v r g at next q h low other l =
         let i : Instr = instr.Share g v in let j : Instr = instr.Call r (length c.results + k) (g ∷ []) in
-        live_on body at (at + 1) q i h.0.0 (less_not q g low, tt) (inl refl) (live_last body (at + 1) next q j (tail body at i (Does j ∷ []) next h) (other, less_not q g low, tt) (inl refl) l)
+        live_on body at (at + 1) q i h.0.0 (less_not q g low, tt) (inl refl) (live_last body (at + 1) next q j (tail body at i (Does j ∷ []) next h) (other, (less_not q g low, tt)) (inl refl) l)
     test_live (NormalTy cs) v r g at next q h low other l = live_last body at next q (instr.Const r (scalar.Bool false)) h (other, tt) (inl refl) l
 
     -- a test of a field and what is behind it
@@ -74,7 +74,7 @@ module _ (body : List Instr) where
         let not_more : q ≢ suc g = less_not q (suc g) (omega (arith, low)) in
         live_on body at (at + 1) q i h.0.0 (not_g, tt) (inl refl)
         (test_live ty g r (suc g) (at + 1) mid q (front body (at + 1) one (field_end r g rest) next inner) (omega (arith, low)) other
-        (live_on body mid (mid + 1) q (instr.Move (suc g) g) last.0.0 (not_more, not_g, tt) (inl refl)
+        (live_on body mid (mid + 1) q (instr.Move (suc g) g) last.0.0 (not_more, (not_g, tt)) (inl refl)
         (live_on body (mid + 1) (mid + 1 + 1) q (instr.Clear (suc g ∷ [])) two.0.0 (not_more, tt) (inl refl)
         (live_second body (mid + 1 + 1) next r rest [] q three (λ p s. at_end p next q s l)))))
 
@@ -84,41 +84,42 @@ module _ (body : List Instr) where
       Untouched r g P = (q : ℕ) → P q → (q < g) × (q ≢ r)
 
       -- an instruction whose small answer comes into r
-      answered : (m at next r : ℕ) (i : Instr) (P : ℕ → Type 0) → Spans body at (Does i ∷ []) next → ((q : ℕ) → P q → IsNone q (changes i)) → IsOne (at + 1) (nexts at i) → ((k : ℕ) → Safe t f body k (at + 1) (After t f i P) → Onward t f (Safe t f body k) at i P)
-          → Less t f (After t f i P) P → Lives body t f next P → Safe t f body m next P → Safe t f body m at P
+      answered : (m at next r : ℕ) (i : Instr) (P : ℕ → Type 0) → Spans body at (Does i ∷ []) next → ((q : ℕ) → P q → IsNone q (changes i)) → IsOne (at + 1) (nexts at i) → ((k : ℕ) → Safe t f body k (at + 1) (After t f i (Told_of body t f P)) → Onward t f (Safe t f body k) at i (Told_of body t f P))
+          → Less t f (Behind body t f i P) P → Lives body t f next P → Sure body t f m next P → Sure body t f m at P
       answered m at next r i P h none to onward less live safe =
           let e : next ≡ at + 1 = (let z = h.1 in omega (arith, z)) in
           safe_step body t f m at i P P h.0.0 (lives_on body t f at i P h.0.0 none to (lives_at body t f next (at + 1) P e live)) onward less (safe_at body t f m next (at + 1) P e safe)
 
-      kept_only : (i : Instr) (P : ℕ → Type 0) → ((q : ℕ) → Into t f i P q → ⊥) → Less t f (After t f i P) P
+      kept_only : (i : Instr) (P : ℕ → Type 0) → ((q : ℕ) → Into t f i (Told_of body t f P) q → ⊥) → Less t f (Behind body t f i P) P
       kept_only i P none q u (inl h) = h.0
       kept_only i P none q u (inr h) = absurd (none q h)
 
-      kind_safe : (m at next v r g : ℕ) (k : Kind) (P : ℕ → Type 0) → Spans body at (Does (instr.Kind r v k) ∷ []) next → Untouched r g P → Lives body t f next P → Safe t f body m next P → Safe t f body m at P
+      kind_safe : (m at next v r g : ℕ) (k : Kind) (P : ℕ → Type 0) → Spans body at (Does (instr.Kind r v k) ∷ []) next → Untouched r g P → Lives body t f next P → Sure body t f m next P → Sure body t f m at P
       kind_safe m at next v r g k P h un live safe = answered m at next r (instr.Kind r v k) P h (λ q l. ((un q l).1, tt)) (inl refl) (λ x s. s) (kept_only (instr.Kind r v k) P (λ q z. z)) live safe
 
-      const_safe : (m at next r g : ℕ) (k : Scalar) (P : ℕ → Type 0) → Spans body at (Does (instr.Const r k) ∷ []) next → Untouched r g P → Lives body t f next P → Safe t f body m next P → Safe t f body m at P
+      const_safe : (m at next r g : ℕ) (k : Scalar) (P : ℕ → Type 0) → Spans body at (Does (instr.Const r k) ∷ []) next → Untouched r g P → Lives body t f next P → Sure body t f m next P → Sure body t f m at P
       const_safe m at next r g k P h un live safe = answered m at next r (instr.Const r k) P h (λ q l. ((un q l).1, tt)) (inl refl) (λ x s. s) (kept_only (instr.Const r k) P (λ q z. z)) live safe
 
       -- with one register more
       abbrev pub With : (ℕ → Type 0) → ℕ → ℕ → Type 0
       With P x q = P q ⊎ (q ≡ x)
 
-      -- a value in g is released by way of the register behind
-      dropped_safe : (m at next g : ℕ) (rest : List Step) (P : ℕ → Type 0) → Spans body at (dropped g (suc g) ++ rest) next → ((q : ℕ) → P q → q < g) → Lives body t f (at + 1 + 1) P → Safe t f body m (at + 1 + 1) P → Safe t f body m at (With P g) × Lives body t f at (With P g)
-      dropped_safe m at next g rest P h low live safe =
-          let two = tail body at (instr.Move (suc g) g) (Does (instr.Clear (suc g ∷ [])) ∷ rest) next h in
-          let there : Lives body t f at (With P g) = λ q u l. either (λ k. live_on body at (at + 1) q (instr.Move (suc g) g) h.0.0 (less_not q (suc g) (let z = low q k in omega (arith, z)), less_not q g (low q k), tt) (inl refl)
-              (live_on body (at + 1) (at + 1 + 1) q (instr.Clear (suc g ∷ [])) two.0.0 (less_not q (suc g) (let z = low q k in omega (arith, z)), tt) (inl refl) (live q u k)))
-              (λ e. live_reads body at q (instr.Move (suc g) g) h.0.0 (inl e)) l in
-          (safe_step body t f m at (instr.Move (suc g) g) (With P g) (With P (suc g)) h.0.0 there (λ x s. s) behind
-          (safe_clears body t f m (at + 1) (suc g ∷ []) (With P (suc g)) P two.0.0 cleared safe), there)
+      -- a value in g is released by way of a free register
+      pub dropped_safe : (m at next g free : ℕ) (rest : List Step) (P : ℕ → Type 0) → Spans body at (dropped g free ++ rest) next → ((q : ℕ) → P q → (q ≢ g) × (q ≢ free)) → Lives body t f (at + 1 + 1) P → Sure body t f m (at + 1 + 1) P → Sure body t f m at (With P g) × Lives body t f at (With P g)
+      dropped_safe m at next g free rest P h low live safe =
+          let move : Instr = instr.Move free g in
+          let two = tail body at move (Does (instr.Clear (free ∷ [])) ∷ rest) next h in
+          let there : Lives body t f at (With P g) = λ q u l. either (λ k. live_on body at (at + 1) q move h.0.0 ((low q k).1, ((low q k).0, tt)) (inl refl)
+              (live_on body (at + 1) (at + 1 + 1) q (instr.Clear (free ∷ [])) two.0.0 ((low q k).1, tt) (inl refl) (live q u k)))
+              (λ e. live_reads body at q move h.0.0 (inl e)) l in
+          (safe_step body t f m at move (With P g) (With P free) h.0.0 there (λ x s. s) behind
+          (safe_clears body t f m (at + 1) (free ∷ []) (With P free) P two.0.0 cleared safe), there)
         where
-          behind : Less t f (After t f (instr.Move (suc g) g) (With P g)) (With P (suc g))
+          behind : Less t f (Behind body t f (instr.Move free g) (With P g)) (With P free)
           behind q u (inl k) = either (λ z. inl z) (λ e. absurd (k.1.1.0 e)) k.0
           behind q u (inr k) = inr k.0
 
-          cleared : Less t f (λ q. With P (suc g) q × IsNone q (suc g ∷ [])) P
+          cleared : Less t f (λ q. With P free q × IsNone q (free ∷ [])) P
           cleared q u k = either (λ z. z) (λ e. absurd (k.1.0 e)) k.0
 
       module _ (v r g : ℕ) (P : ℕ → Type 0) (un : Untouched r g P) (r_low : r < g) (above : n ≤ r) where
@@ -127,15 +128,15 @@ module _ (body : List Instr) where
 
         -- the test of an item, which is in the register behind the index
         abbrev ItemSafe : List Step → Type 0
-        ItemSafe one = (k p next : ℕ) → Spans body p one next → Lives body t f next (With P (suc (suc g))) → Safe t f body k next (With P (suc (suc g))) → Safe t f body k p (With P (suc (suc g)))
+        ItemSafe one = (k p next : ℕ) → Spans body p one next → Lives body t f next (With P (suc (suc g))) → Sure body t f k next (With P (suc (suc g))) → Sure body t f k p (With P (suc (suc g)))
 
         -- what isn't changed by the test of an item is live through it
         abbrev ItemLive : List Step → Type 0
         ItemLive one = (p next q : ℕ) → Spans body p one next → q < suc (suc (suc g)) → q ≢ r → LiveAt body next q → LiveAt body p q
 
         -- behind the test of an item
-        item_end_safe : (m p next out : ℕ) → Spans body p (item_end r g) next → out ≡ next + 1 + 1 → Lives body t f next P → Lives body t f out P → Safe t f body m next P → Safe t f body m out P
-            → Safe t f body m p (With P (suc (suc g))) × Lives body t f p (With P (suc (suc g)))
+        item_end_safe : (m p next out : ℕ) → Spans body p (item_end r g) next → out ≡ next + 1 + 1 → Lives body t f next P → Lives body t f out P → Sure body t f m next P → Sure body t f m out P
+            → Sure body t f m p (With P (suc (suc g))) × Lives body t f p (With P (suc (suc g)))
         item_end_safe m p next out h there live out_live safe out_safe =
             let rest : List Step = GoesOnUnless r 4 ∷ Does (instr.Const (suc (suc g)) (scalar.Int (pos 1))) ∷ Does (instr.Arith (suc g) Add (suc g) (suc (suc g))) ∷ [] in
             let two = tail body p (instr.Move (suc (suc (suc g))) (suc (suc g))) (Does (instr.Clear (suc (suc (suc g)) ∷ [])) ∷ rest) next h in
@@ -149,13 +150,13 @@ module _ (body : List Instr) where
             let live_a : Lives body t f (b + 1 + 1) P = lives_on body t f (b + 1 + 1) a1 P three.0.1.1.0 (λ q l. (less_not q (suc g) (let z = low_of q l in omega (arith, z)), tt)) (inl refl) (lives_at body t f next (b + 1 + 1 + 1) P (sym e) live) in
             let live_c : Lives body t f (b + 1) P = lives_on body t f (b + 1) c1 P three.0.1.0 (λ q l. (less_not q (suc (suc g)) (let z = low_of q l in omega (arith, z)), tt)) (inl refl) live_a in
             let live_b : Lives body t f b P = λ q u l. live_on body b (b + 1) q (instr.Branch r out) branch tt (inl refl) (live_c q u l) in
-            dropped_safe m p next (suc (suc g)) rest P h (λ q l. let z = low_of q l in omega (arith, z)) live_b
+            dropped_safe m p next (suc (suc g)) (suc (suc (suc g))) rest P h (λ q l. let z = low_of q l in (less_not q (suc (suc g)) (omega (arith, z)), less_not q (suc (suc (suc g))) (omega (arith, z)))) live_b
             (safe_branches body t f m b r out P P P branch live_b (λ q u k. k.0) (λ q u k. k.0)
             (safe_step body t f m (b + 1) c1 P P three.0.1.0 live_c (λ x s. s) (kept_only c1 P (λ q z. z))
             (safe_step body t f m (b + 1 + 1) a1 P P three.0.1.1.0 live_a (λ x s. s) (kept_only a1 P (λ q z. z)) (safe_at body t f m next (b + 1 + 1 + 1) P (sym e) safe)))
             out_safe)
 
-        items_safe : (one : List Step) (m at next : ℕ) → Spans body at (items_test v r g one) next → ItemSafe one → ItemLive one → Lives body t f next P → Safe t f body m next P → Safe t f body m at P × Lives body t f at P
+        items_safe : (one : List Step) (m at next : ℕ) → Spans body at (items_test v r g one) next → ItemSafe one → ItemLive one → Lives body t f next P → Sure body t f m next P → Sure body t f m at P × Lives body t f at P
         items_safe one m at next h item passes live safe =
             let compare : Instr = instr.Compare r comparison.Less (suc g) g in
             let get : Instr = instr.Get (suc (suc g)) v (suc g) in
@@ -175,10 +176,10 @@ module _ (body : List Instr) where
             let p3 = p2 + length one in
             let end_span = back body p2 one (item_end r g) parts.jump i1 in
             let jump_next : parts.jump + 1 ≡ long = parts.behind in
-            let safe_yes : (k : ℕ) → Safe t f body k next P → Safe t f body k long P = λ k s. const_safe k long next r g (scalar.Bool true) P last un live s in
+            let safe_yes : (k : ℕ) → Sure body t f k next P → Sure body t f k long P = λ k s. const_safe k long next r g (scalar.Bool true) P last un live s in
             let live_jump : Lives body t f parts.jump P = λ q u l. live_on body parts.jump at q (instr.Jump at) parts.jumps tt (inl refl) (live_head q u l) in
-            let head : (k : ℕ) → Safe t f body k next P → Safe t f body k at P = nat_up (λ k. Safe t f body k next P → Safe t f body k at P) (λ s. tt) (λ k less s.
-                let end_facts = item_end_safe (suc k) p3 parts.jump next end_span (omega (arith, jump_next, yes_at)) live_jump live (safe_loops body t f k parts.jump at P P parts.jumps live_head (λ q u l. l) (less (safe_sooner t f body k next P s))) s in
+            let head : (k : ℕ) → Sure body t f k next P → Sure body t f k at P = nat_up (λ k. Sure body t f k next P → Sure body t f k at P) (λ s. tt) (λ k less s.
+                let end_facts = item_end_safe (suc k) p3 parts.jump next end_span (omega (arith, jump_next, yes_at)) live_jump live (safe_loops body t f k parts.jump at P P parts.jumps live_head (λ q u l. l) (less (safe_sooner t f body k next (Told_of body t f P) s))) s in
                 safe_step body t f (suc k) at compare P P parts.tests.0.0 live_head (λ x z. z) (kept_only compare P (λ q z. z))
                 (safe_at body t f (suc k) b (at + 1) P (sym first_at)
                 (safe_branches body t f (suc k) b r long P P P parts.branches live_b (λ q u z. z.0) (λ q u z. z.0)
@@ -194,12 +195,12 @@ module _ (body : List Instr) where
       with_untouched r g x P un low le q (inr e) = (omega (arith, e), λ same. absurd (omega (arith, e, same, low, le)))
 
       -- a code of nothing
-      empty_safe : (m p q : ℕ) (P : ℕ → Type 0) → Spans body p [] q → Safe t f body m q P → Safe t f body m p P
+      empty_safe : (m p q : ℕ) (P : ℕ → Type 0) → Spans body p [] q → Sure body t f m q P → Sure body t f m p P
       empty_safe m p q P h safe = safe_at body t f m q p P (sym (ended body p q h)) safe
 
       mutual
         -- a test of a type keeps nothing dead, where what it leaves as it is is live behind it
-        pub test_safe : (ty : Ty) (m at next v r g : ℕ) (P : ℕ → Type 0) → Spans body at (test c ty v r g) next → Untouched r g P → r < g → n ≤ r → Lives body t f next P → Safe t f body m next P → Safe t f body m at P
+        pub test_safe : (ty : Ty) (m at next v r g : ℕ) (P : ℕ → Type 0) → Spans body at (test c ty v r g) next → Untouched r g P → r < g → n ≤ r → Lives body t f next P → Sure body t f m next P → Sure body t f m at P
         test_safe NullTy m at next v r g P h un low above live safe = kind_safe m at next v r g kind.Null P h un live safe
         test_safe BoolTy m at next v r g P h un low above live safe = kind_safe m at next v r g kind.Bool P h un live safe
         test_safe IntTy m at next v r g P h un low above live safe = kind_safe m at next v r g kind.Int P h un live safe
@@ -260,9 +261,9 @@ module _ (body : List Instr) where
             let i : Instr = instr.Share g v in let j : Instr = instr.Call r (length c.results + k) (g ∷ []) in
             let two = tail body at i (Does j ∷ []) next h in
             let e : next ≡ at + 1 + 1 = (let z = two.1 in omega (arith, z)) in
-            let live_call : Lives body t f (at + 1) (With P g) = λ q u l. either (λ p. live_on body (at + 1) (at + 1 + 1) q j two.0.0 ((un q p).1, less_not q g (un q p).0, tt) (inl refl) (lives_at body t f next (at + 1 + 1) P e live q u p)) (λ s. live_reads body (at + 1) q j two.0.0 (inl s)) l in
-            let waits : (q : ℕ) → t.untold f q ≡ false → With P g q → IsNone q (g ∷ []) → q ≢ r = λ q u l none. either (λ p. (un q p).1) (λ s. absurd (none.0 s)) l in
-            let after : Less t f (After t f j (With P g)) P = λ q u l. either (λ z. either (λ p. p) (λ s. absurd (z.1.0 s)) z.0) (λ z. absurd (told_not q r z.0 u (tells.answers k r above z.1))) l in
+            let live_call : Lives body t f (at + 1) (With P g) = λ q u l. either (λ p. live_on body (at + 1) (at + 1 + 1) q j two.0.0 ((un q p).1, (less_not q g (un q p).0, tt)) (inl refl) (lives_at body t f next (at + 1 + 1) P e live q u p)) (λ s. live_reads body (at + 1) q j two.0.0 (inl s)) l in
+            let waits : (q : ℕ) → t.untold f q ≡ false → Told_of body t f (With P g) q → IsNone q (g ∷ []) → q ≢ r = λ q u l none. either (λ k. either (λ p. (un q p).1) (λ s. absurd (none.0 s)) k) (λ w. absurd (let x : true ≡ false = sym w ∙ u in cc)) l in
+            let after : Less t f (Behind body t f j (With P g)) P = λ q u l. either (λ z. either (λ p. p) (λ s. absurd (z.1.0 s)) z.0) (λ z. absurd (told_not q r z.0 u (tells.answers k r above z.1))) l in
             safe_step body t f m at i P (With P g) h.0.0 (λ q u l. live_on body at (at + 1) q i h.0.0 (less_not q g (un q l).0, tt) (inl refl) (live_call q u (inl l))) (λ x s. s) (λ q u l. either (λ z. inl z.0) (λ z. inr z.0) l)
             (safe_step body t f m (at + 1) j (With P g) P two.0.0 live_call (λ x s. (waits, s)) after (safe_at body t f m next (at + 1 + 1) P e safe))
           where
@@ -270,7 +271,7 @@ module _ (body : List Instr) where
             told_not q r same u w = absurd (let z : t.untold f r ≡ false = subst (λ (x : ℕ). t.untold f x ≡ false) same u in let y : true ≡ false = sym w ∙ z in cc)
         test_safe (NormalTy cs) m at next v r g P h un low above live safe = const_safe m at next r g (scalar.Bool false) P h un live safe
 
-        fields_safe : (fs : FieldTys) (m at next v r g : ℕ) (P : ℕ → Type 0) → Spans body at (fields_test c fs v r g) next → Untouched r g P → r < g → n ≤ r → Lives body t f next P → Safe t f body m next P → Safe t f body m at P
+        fields_safe : (fs : FieldTys) (m at next v r g : ℕ) (P : ℕ → Type 0) → Spans body at (fields_test c fs v r g) next → Untouched r g P → r < g → n ≤ r → Lives body t f next P → Sure body t f m next P → Sure body t f m at P
         fields_safe NoFieldTys m at next v r g P h un low above live safe = empty_safe m at next P h safe
         fields_safe (MoreFieldTys name ty fs) m at next v r g P h un low above live safe =
             let i : Instr = instr.Field g v (number_of name c.table.names) in
@@ -282,7 +283,7 @@ module _ (body : List Instr) where
             let two = tail body mid (instr.Move (suc g) g) (Does (instr.Clear (suc g ∷ [])) ∷ fork r rest []) next last in
             let three = tail body (mid + 1) (instr.Clear (suc g ∷ [])) (fork r rest []) next two in
             let live_fork : Lives body t f (mid + 1 + 1) P = λ q u l. live_second body (mid + 1 + 1) next r rest [] q three (λ p s. at_end p next q s (live q u l)) in
-            let facts = dropped_safe m mid next g (fork r rest []) P last (λ q l. (un q l).0) live_fork
+            let facts = dropped_safe m mid next g (suc g) (fork r rest []) P last (λ q l. let z = (un q l).0 in (less_not q g z, less_not q (suc g) (omega (arith, z)))) live_fork
                 (safe_fork body t f m (mid + 1 + 1) next r rest [] P P P P three live_fork (λ e1 e2 q u l. l) (λ q u k. k.0) (λ q u k. k.0) live
                 (λ p q s lq sq. fields_safe fs m p q v r g P s un low above lq sq) (λ p s. empty_safe m p next P s safe) safe) in
             safe_step body t f m at i P (With P g) h.0.0

@@ -4,3 +4,5 @@ pub mod Alive
 pub mod Safe
 -- of which registers something is said
 pub mod Telling
+-- what is asked of expressions and statements
+pub mod Fitting

@@ -44,8 +44,8 @@ pub record Told : Type 0 where
 -- such a value may come into this register
 abbrev pub Into : Told → ℕ → Instr → (ℕ → Type 0) → ℕ → Type 0
 Into t f (instr.Const d c) P r = ⊥
-Into t f (instr.Move d s) P r = (r ≡ d) × (P s ⊎ (t.untold f s ≡ true))
-Into t f (instr.Share d s) P r = (r ≡ d) × (P s ⊎ (t.untold f s ≡ true))
+Into t f (instr.Move d s) P r = (r ≡ d) × P s
+Into t f (instr.Share d s) P r = (r ≡ d) × P s
 Into t f (instr.Clear rs) P r = ⊥
 Into t f (instr.Arith d op a b) P r = ⊥
 Into t f (instr.Compare d op a b) P r = ⊥
@@ -91,7 +91,7 @@ Onward t f K p (instr.Field d a k) P = K (p + 1) (After t f (instr.Field d a k) 
 Onward t f K p (instr.Put a path v) P = K (p + 1) (After t f (instr.Put a path v) P)
 Onward t f K p (instr.Kind d a k) P = K (p + 1) (After t f (instr.Kind d a k) P)
 Onward t f K p (instr.Call d g rs) P = ((r : ℕ) → t.untold f r ≡ false → P r → IsNone r rs → r ≢ d) × K (p + 1) (After t f (instr.Call d g rs) P)
-Onward t f K p (instr.Return s) P = (P s ⊎ (t.untold f s ≡ true)) → t.results f ≡ true
+Onward t f K p (instr.Return s) P = P s → t.results f ≡ true
 Onward t f K p (instr.Print a) P = K (p + 1) (After t f (instr.Print a) P)
 Onward t f K p (instr.PrintInt a) P = K (p + 1) (After t f (instr.PrintInt a) P)
 
