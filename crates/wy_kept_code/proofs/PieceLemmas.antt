@@ -5,7 +5,7 @@ use Rattle.wy_code.specs.declared.instructions.Instr.{Instr}
 use Rattle.wy_code.specs.declared.instructions.Instr.TheVariants as instr
 use Rattle.wy_pieces.specs.declared.steps.Step.{Step}
 use Rattle.wy_pieces.specs.declared.steps.Step.TheVariants.{Does, GoesOn, GoesBack, GoesOnUnless}
-use Rattle.wy_pieces.specs.Steps.{clear, fork, turns}
+use Rattle.wy_pieces.specs.Steps.{clear, fork, over, turns}
 use Rattle.wy_simulation.specs.Places.{StandAt}
 use Rattle.wy_simulation.proofs.PlaceLemmas.{stand_front, stand_back, stand_moved}
 use Rattle.wy_kept_registers.specs.Keeping.{IsNone}
@@ -69,18 +69,22 @@ module _ (body : List Instr) where
   live_last p next r i h none to l = live_on p (p + 1) r i h.0.0 none to (subst (λ (q : ℕ). LiveAt body q r) (let e = h.1 in omega (arith, e)) l)
 
   -- either way through a fork
-  pub live_first : (at next d : ℕ) (first second : List Step) (r : ℕ) → Spans at (fork d first second) next
-      → ((p q : ℕ) → Spans p first q → (LiveAt body next r → LiveAt body q r) → LiveAt body p r) → LiveAt body at r
-  live_first at next d [] [] r h one = one at next h (λ l. l)
-  live_first at next d (s ∷ first) [] r h one =
-      live_on at (at + 1) r (instr.Branch d (suc at + length (s ∷ first))) h.0.0 tt (inl refl) (one (at + 1) next (h.0.1, let e = h.1 in omega (arith, e)) (λ l. l))
-  live_first at next d first (s ∷ second) r h one =
+  pub live_first_over : (at next d : ℕ) (first second : List Step) (r : ℕ) → Spans at (fork d first second) next
+      → ((p q : ℕ) → Spans p first q → q + over second ≡ next → (LiveAt body next r → LiveAt body q r) → LiveAt body p r) → LiveAt body at r
+  live_first_over at next d [] [] r h one = one at next h (omega arith) (λ l. l)
+  live_first_over at next d (s ∷ first) [] r h one =
+      live_on at (at + 1) r (instr.Branch d (suc at + length (s ∷ first))) h.0.0 tt (inl refl) (one (at + 1) next (h.0.1, let e = h.1 in omega (arith, e)) (omega arith) (λ l. l))
+  live_first_over at next d first (s ∷ second) r h one =
       let rest : Spans (at + 1) (first ++ GoesOn (length (s ∷ second)) ∷ s ∷ second) next = (h.0.1, let e = h.1 in omega (arith, e)) in
       let q = at + 1 + length first in
       let behind = back (at + 1) first (GoesOn (length (s ∷ second)) ∷ s ∷ second) next rest in
       live_on at (at + 1) r (instr.Branch d (suc at + (length first + 1))) h.0.0 tt (inl refl)
-      (one (at + 1) q (front (at + 1) first (GoesOn (length (s ∷ second)) ∷ s ∷ second) next rest)
+      (one (at + 1) q (front (at + 1) first (GoesOn (length (s ∷ second)) ∷ s ∷ second) next rest) (let e = behind.1 in omega (arith, e))
       (λ l. live_on q (suc q + length (s ∷ second)) r (instr.Jump (suc q + length (s ∷ second))) behind.0.0 tt (inl refl) (subst (λ (z : ℕ). LiveAt body z r) (let e = behind.1 in omega (arith, e)) l)))
+
+  pub live_first : (at next d : ℕ) (first second : List Step) (r : ℕ) → Spans at (fork d first second) next
+      → ((p q : ℕ) → Spans p first q → (LiveAt body next r → LiveAt body q r) → LiveAt body p r) → LiveAt body at r
+  live_first at next d first second r h one = live_first_over at next d first second r h (λ p q sp e go. one p q sp go)
 
   pub live_second : (at next d : ℕ) (first second : List Step) (r : ℕ) → Spans at (fork d first second) next
       → ((p : ℕ) → Spans p second next → LiveAt body p r) → LiveAt body at r
@@ -180,6 +184,27 @@ module _ (body : List Instr) where
     safe_step zero p i P Q is live onward less safe = tt
     safe_step (suc n) p i P Q is live onward less safe = safe_does n p i P Q is live (onward n) less safe
 
+    -- the same of sets that say something of each register
+    pub raw_step : (m p : ℕ) (i : Instr) (P Q : ℕ → Type 0) → slice_get body p ≡ Some i → Lives p P → ((n : ℕ) → Safe t f body n (p + 1) (After t f i P) → Onward t f (Safe t f body n) p i P)
+        → Within t f (After t f i P) Q → Safe t f body m (p + 1) Q → Safe t f body m p P
+    raw_step zero p i P Q is live onward less safe = tt
+    raw_step (suc n) p i P Q is live onward less safe = λ j e.
+        subst (λ (k : Instr). Fine t f body p k P × Onward t f (Safe t f body n) p k P) (same_instr i j (sym is ∙ e))
+        ((λ c r u l. live r u l), onward n (safe_less t f body n (p + 1) (After t f i P) Q less (safe_sooner t f body n (p + 1) Q safe)))
+
+    pub raw_branches : (m p d q : ℕ) (P Q R : ℕ → Type 0) → slice_get body p ≡ Some (instr.Branch d q) → Lives p P
+        → Within t f P Q → Within t f P R → Safe t f body m (p + 1) Q → Safe t f body m q R → Safe t f body m p P
+    raw_branches zero p d q P Q R is live one two safe also = tt
+    raw_branches (suc n) p d q P Q R is live one two safe also = λ j e.
+        subst (λ (k : Instr). Fine t f body p k P × Onward t f (Safe t f body n) p k P) (same_instr (instr.Branch d q) j (sym is ∙ e))
+        ((λ c r u l. live r u l),
+        (safe_less t f body n (p + 1) (After t f (instr.Branch d q) P) Q (λ r l. one r (held r l)) (safe_sooner t f body n (p + 1) Q safe),
+        safe_less t f body n q (After t f (instr.Branch d q) P) R (λ r l. two r (held r l)) (safe_sooner t f body n q R also)))
+      where
+        held : (r : ℕ) → After t f (instr.Branch d q) P r → P r
+        held r (inl g) = g.0
+        held r (inr g) = absurd g
+
     -- live in front of an instruction that changes none of these
     pub lives_on : (p : ℕ) (i : Instr) (P : ℕ → Type 0) → slice_get body p ≡ Some i → ((q : ℕ) → P q → IsNone q (changes i)) → IsOne (p + 1) (nexts p i) → Lives (p + 1) P → Lives p P
     lives_on p i P is none to live r u l = live_on p (p + 1) r i is (none r l) to (live r u l)
@@ -230,16 +255,16 @@ module _ (body : List Instr) where
     safe_at m p q P e h = subst (λ (z : ℕ). Sure m z P) e h
 
     -- a fork: the register of its test is read where there is any code
-    pub safe_fork : (m at next d : ℕ) (first second : List Step) (P A B Q : ℕ → Type 0) → Spans at (fork d first second) next
+    pub safe_fork_over : (m at next d : ℕ) (first second : List Step) (P A B Q : ℕ → Type 0) → Spans at (fork d first second) next
         → Lives at P → (first ≡ [] → second ≡ [] → Less t f P A) → Less t f (λ r. P r × (r ≢ d)) A → Less t f (λ r. P r × (r ≢ d)) B → Lives next Q
-        → ((p q : ℕ) → Spans p first q → Lives q Q → Sure m q Q → Sure m p A) → ((p : ℕ) → Spans p second next → Sure m p B)
+        → ((p q : ℕ) → Spans p first q → q + over second ≡ next → Lives q Q → Sure m q Q → Sure m p A) → ((p : ℕ) → Spans p second next → Sure m p B)
         → Sure m next Q → Sure m at P
-    safe_fork m at next d [] [] P A B Q h live none one two lq a b safe = sure_less m at P A (none refl refl) (a at next h lq safe)
-    safe_fork m at next d (s ∷ first) [] P A B Q h live none one two lq a b safe =
+    safe_fork_over m at next d [] [] P A B Q h live none one two lq a b safe = sure_less m at P A (none refl refl) (a at next h (omega arith) lq safe)
+    safe_fork_over m at next d (s ∷ first) [] P A B Q h live none one two lq a b safe =
         let to : suc at + length (s ∷ first) ≡ next = (let e = h.1 in omega (arith, e)) in
         safe_branches m at d (suc at + length (s ∷ first)) P A B h.0.0 live one two
-        (a (at + 1) next (h.0.1, let e = h.1 in omega (arith, e)) lq safe) (b (suc at + length (s ∷ first)) (tt, omega (arith, to)))
-    safe_fork m at next d first (s ∷ second) P A B Q h live none one two lq a b safe =
+        (a (at + 1) next (h.0.1, let e = h.1 in omega (arith, e)) (omega arith) lq safe) (b (suc at + length (s ∷ first)) (tt, omega (arith, to)))
+    safe_fork_over m at next d first (s ∷ second) P A B Q h live none one two lq a b safe =
         let rest : Spans (at + 1) (first ++ GoesOn (length (s ∷ second)) ∷ s ∷ second) next = (h.0.1, let e = h.1 in omega (arith, e)) in
         let q = at + 1 + length first in
         let behind = back (at + 1) first (GoesOn (length (s ∷ second)) ∷ s ∷ second) next rest in
@@ -248,6 +273,11 @@ module _ (body : List Instr) where
         let lq2 : Lives (suc q + length (s ∷ second)) Q = subst (λ (z : ℕ). Lives z Q) (sym out) lq in
         let at_q : Lives q Q = λ r u l. live_on q (suc q + length (s ∷ second)) r (instr.Jump (suc q + length (s ∷ second))) behind.0.0 tt (inl refl) (lq2 r u l) in
         safe_branches m at d (suc at + (length first + 1)) P A B h.0.0 live one two
-        (a (at + 1) q (front (at + 1) first (GoesOn (length (s ∷ second)) ∷ s ∷ second) next rest) at_q
+        (a (at + 1) q (front (at + 1) first (GoesOn (length (s ∷ second)) ∷ s ∷ second) next rest) (let e = behind.1 in omega (arith, e)) at_q
         (safe_jumps m q (suc q + length (s ∷ second)) Q Q behind.0.0 lq2 (λ r u l. l) (safe_at m next (suc q + length (s ∷ second)) Q (sym out) safe)))
         (b (suc at + (length first + 1)) (stand_moved body (q + 1) (suc at + (length first + 1)) (s ∷ second) place behind.0.1, let e = behind.1 in omega (arith, e)))
+    pub safe_fork : (m at next d : ℕ) (first second : List Step) (P A B Q : ℕ → Type 0) → Spans at (fork d first second) next
+        → Lives at P → (first ≡ [] → second ≡ [] → Less t f P A) → Less t f (λ r. P r × (r ≢ d)) A → Less t f (λ r. P r × (r ≢ d)) B → Lives next Q
+        → ((p q : ℕ) → Spans p first q → Lives q Q → Sure m q Q → Sure m p A) → ((p : ℕ) → Spans p second next → Sure m p B)
+        → Sure m next Q → Sure m at P
+    safe_fork m at next d first second P A B Q h live none one two lq a b safe = safe_fork_over m at next d first second P A B Q h live none one two lq (λ p q sp e l s. a p q sp l s) b safe

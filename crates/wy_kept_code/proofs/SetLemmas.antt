@@ -5,9 +5,9 @@ use Rattle.wy_core.specs.CoreTree.{Expr, Exprs, Fields}
 use Rattle.wy_live.specs.Paths.{occurs, any_occurs, any_field_occurs}
 use Rattle.wy_live.specs.Sets.{Variables, has, with, without, joined}
 use Rattle.wy_live.specs.Walks.{before, before_all, before_fields, turned}
-use Rattle.wy_live.proofs.SetLemmas.{has-with, has-without, has-joined, has-nothing}
-use Rattle.wy_live.proofs.UseLemmas.{has-before, has-before_all, has-before_fields, has-turned}
-use Rattle.wy_live.proofs.LiveLemmas.{or_cases, or_true, and_not, not_and}
+use Rattle.wy_kept_code.proofs.LiveSetLemmas.{has-with, has-without, has-joined, has-nothing}
+use Rattle.wy_kept_code.proofs.LiveUseLemmas.{has-before, has-before_all, has-before_fields, has-turned}
+use Rattle.wy_kept_code.proofs.LiveLemmas.{or_cases, or_true, and_not, not_and}
 use Rattle.wy_compiled.specs.Expressions.{lost_below, lost}
 use Rattle.wy_kept_registers.specs.Keeping.{IsNone}
 use Rattle.wy_kept_code.specs.Alive.{IsOne}

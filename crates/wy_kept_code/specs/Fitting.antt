@@ -58,3 +58,64 @@ abbrev mutual
   pub FitFields : Context → ℕ → Type 0 → Fields ℕ → (ℕ → Type 0) → Type 0
   FitFields c n L NoFields U = Unit {0}
   FitFields c n L (MoreFields name e fs) U = Fits c n L e U × FitFields c n L fs U
+
+-- ---- statements
+
+abbrev pub FitsOption : Context → ℕ → Type 0 → Option (Expr ℕ) → (ℕ → Type 0) → Type 0
+FitsOption c n L None U = Unit {0}
+FitsOption c n L (Some e) U = Fits c n L e U
+
+abbrev pub FitsPath : Context → ℕ → Type 0 → List (Step ℕ) → (ℕ → Type 0) → Type 0
+FitsPath c n L [] U = Unit {0}
+FitsPath c n L (IndexStep at e ∷ path) U = Fits c n L e U × FitsPath c n L path U
+FitsPath c n L (FieldStep at name ∷ path) U = FitsPath c n L path U
+
+-- something is called, on as many values as it takes where that is known
+abbrev pub IsAction : Target → ℕ → Type 0
+IsAction (Declared gives) k = Unit {0}
+IsAction Prints k = k ≡ 1
+IsAction PrintsInt k = k ≡ 1
+IsAction Nothing k = ⊥
+
+-- a value is given where the routine may give one
+abbrev pub MayGive : Type 0 → Option (Expr ℕ) → Type 0
+MayGive R None = Unit {0}
+MayGive R (Some e) = R
+
+-- the statement has code
+abbrev pub HasCode : Stmt ℕ → Type 0
+HasCode (DeclareStmt at ty x None) = ⊥
+HasCode (DeclareStmt at ty x (Some e)) = Unit {0}
+HasCode (AssignStmt at x path e) = Unit {0}
+HasCode (CallStmt at g args) = Unit {0}
+HasCode (ReturnStmt at value) = Unit {0}
+HasCode (AssertStmt at e) = ⊥
+HasCode (BreakStmt at) = Unit {0}
+HasCode (ContinueStmt at) = Unit {0}
+HasCode (SkipStmt at) = ⊥
+HasCode (FailStmt at) = Unit {0}
+HasCode (IfStmt at e first second) = Unit {0}
+HasCode (WhileStmt at e invariants inner) = Unit {0}
+
+abbrev pub SomeCode : Stmts ℕ → Type 0
+SomeCode NoStmts = ⊥
+SomeCode (MoreStmts st rest) = HasCode st ⊎ SomeCode rest
+
+abbrev mutual
+  -- where the blocks of an `if` have no code, nothing tests its value
+  pub FitsStmt : Context → ℕ → Type 0 → Type 0 → Stmt ℕ → (ℕ → Type 0) → Type 0
+  FitsStmt c n L R (DeclareStmt at ty x value) U = U x × FitsOption c n L value U
+  FitsStmt c n L R (AssignStmt at x path e) U = U x × FitsPath c n L path U × Fits c n L e U
+  FitsStmt c n L R (CallStmt at g args) U = IsAction (target c.results g) (count_of args) × FitAll c n L args U
+  FitsStmt c n L R (ReturnStmt at value) U = FitsOption c n L value U × MayGive R value
+  FitsStmt c n L R (AssertStmt at e) U = Unit {0}
+  FitsStmt c n L R (BreakStmt at) U = Unit {0}
+  FitsStmt c n L R (ContinueStmt at) U = Unit {0}
+  FitsStmt c n L R (SkipStmt at) U = Unit {0}
+  FitsStmt c n L R (FailStmt at) U = Unit {0}
+  FitsStmt c n L R (IfStmt at e first second) U = Fits c n L e U × FitsStmts c n L R first U × FitsStmts c n L R second U × (((is_plain e ≡ true) ⊎ L) ⊎ (SomeCode first ⊎ SomeCode second))
+  FitsStmt c n L R (WhileStmt at e invariants inner) U = Fits c n L e U × FitsStmts c n L R inner U
+
+  pub FitsStmts : Context → ℕ → Type 0 → Type 0 → Stmts ℕ → (ℕ → Type 0) → Type 0
+  FitsStmts c n L R NoStmts U = Unit {0}
+  FitsStmts c n L R (MoreStmts st rest) U = FitsStmt c n L R st U × FitsStmts c n L R rest U
