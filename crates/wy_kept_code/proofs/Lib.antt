@@ -16,3 +16,8 @@ pub mod OperandLemmas
 pub mod ChoiceLemmas
 pub mod QuantifierLemmas
 pub mod ExpressionLemmas
+-- statements
+pub mod StatementReadLemmas
+pub mod StatementLemmas
+-- programs
+pub mod FitLemmas

@@ -71,11 +71,11 @@ module _ (body : List Instr) (c : Context) (n : ℕ) (L : Type 0) where
   operate_some o d right skipped plain [] h e = h refl
   operate_some o d right skipped plain (x ∷ xs) h e = cc
 
-  front_some : (a b : List Step) → (a ≡ [] → ⊥) → a ++ b ≡ [] → ⊥
+  pub front_some : (a b : List Step) → (a ≡ [] → ⊥) → a ++ b ≡ [] → ⊥
   front_some [] b h e = h refl
   front_some (x ∷ xs) b h e = cc
 
-  back_some : (a b : List Step) → (b ≡ [] → ⊥) → a ++ b ≡ [] → ⊥
+  pub back_some : (a b : List Step) → (b ≡ [] → ⊥) → a ++ b ≡ [] → ⊥
   back_some a b h e = h (back_empty a b e)
 
   -- each expression has code

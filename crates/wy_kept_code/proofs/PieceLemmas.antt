@@ -71,7 +71,7 @@ module _ (body : List Instr) where
   -- either way through a fork
   pub live_first_over : (at next d : ℕ) (first second : List Step) (r : ℕ) → Spans at (fork d first second) next
       → ((p q : ℕ) → Spans p first q → q + over second ≡ next → (LiveAt body next r → LiveAt body q r) → LiveAt body p r) → LiveAt body at r
-  live_first_over at next d [] [] r h one = one at next h (omega arith) (λ l. l)
+  live_first_over at next d [] [] r h one = one at next h (let e = h.1 in omega (arith, e)) (λ l. l)
   live_first_over at next d (s ∷ first) [] r h one =
       live_on at (at + 1) r (instr.Branch d (suc at + length (s ∷ first))) h.0.0 tt (inl refl) (one (at + 1) next (h.0.1, let e = h.1 in omega (arith, e)) (omega arith) (λ l. l))
   live_first_over at next d first (s ∷ second) r h one =
@@ -238,6 +238,13 @@ module _ (body : List Instr) where
     safe_jumps zero p q P Q is live less safe = tt
     safe_jumps (suc n) p q P Q is live less safe = safe_loops n p q P Q is live less (safe_sooner t f body n q (Told_of Q) safe)
 
+    -- the end of a routine
+    pub safe_returns : (m p d : ℕ) (P : ℕ → Type 0) → slice_get body p ≡ Some (instr.Return d) → Lives p P → (Told_of P d → t.results f ≡ true) → Sure m p P
+    safe_returns zero p d P is live gives = tt
+    safe_returns (suc n) p d P is live gives = λ j e.
+        subst (λ (k : Instr). Fine t f body p k (Told_of P) × Onward t f (Safe t f body n) p k (Told_of P)) (same_instr (instr.Return d) j (sym is ∙ e))
+        (fine_of p (instr.Return d) P live, gives)
+
     pub safe_branches : (m p d q : ℕ) (P Q R : ℕ → Type 0) → slice_get body p ≡ Some (instr.Branch d q) → Lives p P
         → Less t f (λ r. P r × (r ≢ d)) Q → Less t f (λ r. P r × (r ≢ d)) R → Sure m (p + 1) Q → Sure m q R → Sure m p P
     safe_branches zero p d q P Q R is live one two safe also = tt
@@ -259,7 +266,7 @@ module _ (body : List Instr) where
         → Lives at P → (first ≡ [] → second ≡ [] → Less t f P A) → Less t f (λ r. P r × (r ≢ d)) A → Less t f (λ r. P r × (r ≢ d)) B → Lives next Q
         → ((p q : ℕ) → Spans p first q → q + over second ≡ next → Lives q Q → Sure m q Q → Sure m p A) → ((p : ℕ) → Spans p second next → Sure m p B)
         → Sure m next Q → Sure m at P
-    safe_fork_over m at next d [] [] P A B Q h live none one two lq a b safe = sure_less m at P A (none refl refl) (a at next h (omega arith) lq safe)
+    safe_fork_over m at next d [] [] P A B Q h live none one two lq a b safe = sure_less m at P A (none refl refl) (a at next h (let e = h.1 in omega (arith, e)) lq safe)
     safe_fork_over m at next d (s ∷ first) [] P A B Q h live none one two lq a b safe =
         let to : suc at + length (s ∷ first) ≡ next = (let e = h.1 in omega (arith, e)) in
         safe_branches m at d (suc at + length (s ∷ first)) P A B h.0.0 live one two

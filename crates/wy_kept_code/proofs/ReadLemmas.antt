@@ -210,12 +210,12 @@ module _ (body : List Instr) where
     keeps_turned x inner s r (inr l) = inr l
 
     -- two parts, one behind the other
-    two_ways : (used other : Bool) (s t : Variables) (at mid next r : ℕ) → (Keeps s r → Keeps t r) → (other ≡ true → Keeps t r)
+    pub two_ways : (used other : Bool) (s t : Variables) (at mid next r : ℕ) → (Keeps s r → Keeps t r) → (other ≡ true → Keeps t r)
         → (Goes used t mid r → LiveAt body at r) → (Goes other s next r → LiveAt body mid r) → Goes (used || other) s next r → LiveAt body at r
     two_ways used other s t at mid next r keep keep_used one two (inl u) = either (λ k. one (inl k)) (λ k. one (inr (keep_used k, two (inl k)))) (or_cases used other u)
     two_ways used other s t at mid next r keep keep_used one two (inr k) = one (inr (keep k.0, two (inr k)))
 
-    goes_on : (used : Bool) (s : Variables) (mid next r : ℕ) → (LiveAt body next r → LiveAt body mid r) → Goes used s next r → Goes used s mid r
+    pub goes_on : (used : Bool) (s : Variables) (mid next r : ℕ) → (LiveAt body next r → LiveAt body mid r) → Goes used s next r → Goes used s mid r
     goes_on used s mid next r f (inl u) = inl u
     goes_on used s mid next r f (inr k) = inr (k.0, f k.1)
 

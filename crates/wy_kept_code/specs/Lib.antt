@@ -6,3 +6,5 @@ pub mod Safe
 pub mod Telling
 -- what is asked of expressions and statements
 pub mod Fitting
+-- the law on programs
+pub mod Dead
