@@ -1,0 +1,216 @@
+-- What the code of operators, tests, calls and lists keeps.
+use Rattle.std.proofs.Common.{◌≡◌, ◌≢◌, ◌<◌, ◌≤◌, ◌⊎◌, inl, inr, ℕ, zero, suc, ◌+◌, List, [], ◌∷◌, ◌++◌, length, Bool, true, false, not, ◌&&◌, ◌||◌, ◌==◌, cond, Some, pos, refl, sym, ap, ◌∙◌, subst, arith, length-append}
+use Rattle.std.specs.Prelude.{slice_get}
+use Rattle.wy_core.specs.Types.{Ty}
+use Rattle.wy_core.specs.CoreTree.{Expr, NullExpr, BoolExpr, IntExpr, VarExpr, CallExpr, NegExpr, NotExpr, LenExpr, BinaryExpr, IsExpr, IndexExpr, FieldExpr, ListExpr, RepeatExpr, RecordExpr, QuantExpr, Exprs, NoExprs, MoreExprs, Fields, NoFields, MoreFields}
+use Rattle.wy_core.specs.declared.expressions.Op.{Op}
+use Rattle.wy_core.specs.declared.expressions.Op.TheVariants as op
+use Rattle.wy_code.specs.declared.instructions.Scalar.{Scalar}
+use Rattle.wy_code.specs.declared.instructions.Scalar.TheVariants as scalar
+use Rattle.wy_code.specs.declared.instructions.Arithmetic.{Arithmetic}
+use Rattle.wy_code.specs.declared.instructions.Arithmetic.TheVariants as arithmetic
+use Rattle.wy_code.specs.declared.instructions.Comparison.{Comparison}
+use Rattle.wy_code.specs.declared.instructions.Comparison.TheVariants as comparison
+use Rattle.wy_code.specs.declared.instructions.Instr.{Instr}
+use Rattle.wy_code.specs.declared.instructions.Instr.TheVariants as instr
+use Rattle.wy_tables.specs.declared.context.Context.{Context}
+use Rattle.wy_tables.specs.declared.targets.Target.{Target}
+use Rattle.wy_tables.specs.declared.targets.Target.TheVariants.{Declared, Prints, PrintsInt, Nothing}
+use Rattle.wy_tables.specs.Tables.{target, number_of, shape_number, names_in}
+use Rattle.wy_live.specs.Paths.{occurs, any_occurs, any_field_occurs}
+use Rattle.wy_live.specs.Sets.{Variables, has, with}
+use Rattle.wy_live.specs.Walks.{before, before_all, before_fields, turned}
+use Rattle.wy_pieces.specs.declared.steps.Step.{Step}
+use Rattle.wy_pieces.specs.declared.steps.Step.TheVariants.{Does, GoesOn, GoesBack, GoesOnUnless}
+use Rattle.wy_pieces.specs.Steps.{clear, dropped, fork, turns, registers_from}
+use Rattle.wy_compiled.specs.TypeTests.{test}
+use Rattle.wy_compiled.specs.Expressions.{lost, released, is_plain, release_unless, arith as arith_code, compare, equal, operator, operate, right_register, call, count_of, field_count, is_test, negated, list, record_of, ends_it, turn_end, said, ends, number_turns, quantify, code, codes, field_codes}
+use Rattle.wy_kept_registers.specs.Keeping.{IsNone}
+use Rattle.wy_kept_code.specs.Alive.{IsOne, reads, changes, nexts, LiveAt}
+use Rattle.wy_kept_code.specs.Safe.{Told, gone, Into, After, Onward, Fine, Safe}
+use Rattle.wy_kept_code.specs.Telling.{Tells}
+use Rattle.wy_kept_code.specs.Fitting.{Checked, IsValue, Fits, FitAll, FitFields}
+use Rattle.wy_kept_code.proofs.SafeLemmas.{Less, Within, safe_less, safe_sooner}
+use Rattle.wy_kept_code.proofs.PieceLemmas.{either, nat_up, one_not_none, less_not, From, none_below, Spans, front, back, tail, ended, live_reads, live_on, live_last, live_first, live_second, Turning, turning, Lives, Told_of, Sure, Behind, sure_less, safe_step, raw_step, raw_branches, safe_clears, safe_jumps, safe_loops, safe_branches, safe_at, safe_fork, lives_on, lives_at}
+use Rattle.wy_kept_code.proofs.SetLemmas.{never, not_both, same_of, same_to, other_of, Vars, before_cases, before_of, all_cases, all_of, fields_cases, fields_of, turned_cases, turned_of, with_cases, with_of, not_lost, still_has}
+use Rattle.wy_kept_code.proofs.TestLemmas.{at_end, test_live, Untouched, With, dropped_safe, test_safe}
+use Rattle.wy_kept_code.proofs.ReadLemmas.{from_registers, clear_live, Low, low_more, occurs_used, all_used, fields_used, right_live, turns_of, quantifier, branch_live, ends_live, kept_lost, code_live, codes_live, field_codes_live}
+
+use Rattle.wy_kept_code.proofs.OperandLemmas.{Range, in_range, code_some, fork_reads, told_not, ready_less, ready_at, exit_at, base_low, known_before, around_more, code_lives, operands_ready, clear_sure, unary_safe, pair_safe, pair_ready, exit_none, operator_ready}
+
+module _ (body : List Instr) (c : Context) (n : ℕ) (L : Type 0) (t : Told) (f : ℕ) (tells : Tells t f c n L) where
+  -- live variables, and the registers of the expressions around
+  abbrev B : Variables → (ℕ → Type 0) → ℕ → Type 0
+  B s A r = Vars s r ⊎ A r
+
+  -- a value that may be a list or a record
+  abbrev H : Expr ℕ → ℕ → ℕ → Type 0
+  H e d r = (r ≡ d) × (is_plain e ≡ false)
+
+  abbrev Comes : ℕ → ℕ → (ℕ → Type 0) → Type 0
+  Comes m p P = Lives body t f p P × Sure body t f m p P
+
+  abbrev Leaves : ℕ → ℕ → (ℕ → Type 0) → (ℕ → Type 0) → Type 0
+  Leaves m p P Q = Lives body t f p P × Sure body t f m p (λ r. P r ⊎ Q r)
+
+  abbrev Kn : Variables → (ℕ → Type 0) → Type 0
+  Kn s U = (r : ℕ) → Vars s r → U r
+
+  abbrev Ar : ℕ → (ℕ → Type 0) → Type 0
+  Ar d A = (r : ℕ) → A r → (n ≤ r) × (r < d)
+
+  abbrev Lo : (ℕ → Type 0) → Type 0
+  Lo U = (x : ℕ) → U x → x < n
+
+  abbrev Sf : Expr ℕ → (ℕ → Type 0) → Type 1
+  Sf e U = (m : ℕ) (s : Variables) (A : ℕ → Type 0) (d at next : ℕ) → Kn s U → n ≤ d → Ar d A → Spans body at (code c e s d) next → Leaves m next (B s A) (H e d) → Comes m at (B (before e s) A)
+
+  -- a right operand that isn't tested gives no list and no record, or nothing is said
+  unchecked : {X : Type 0} (b : Expr ℕ) (d r : ℕ) → n ≤ d → (is_plain b ≡ true) ⊎ L → t.untold f r ≡ false → H b d r → X
+  unchecked b d r nd (inl p) u h = not_both (is_plain b) p h.1
+  unchecked b d r nd (inr l) u h = told_not body c n L t f tells r d h.0 u (tells.loose l d nd)
+
+  module _ (U : ℕ → Type 0) (low : Lo U) where
+    -- what is released where the right operand is left out
+    skipped_sure : (b : Expr ℕ) (m : ℕ) (s : Variables) (A : ℕ → Type 0) (p next : ℕ) → Spans body p (released (before b s) s) next → Sure body t f m next (B s A) → Sure body t f m p (B (before b s) A)
+    skipped_sure b m s A p next h safe = clear_sure body c n L t f tells m p next (lost (before b s) s) (B (before b s) A) (B s A) h (λ r l none. either (λ v. inl (still_has (before b s) s r v none)) (λ a. inr a) l) safe
+
+    -- a register that is live in front of an expression, by way of it
+    through : (b : Expr ℕ) → Fits c n L b U → (s : Variables) (A : ℕ → Type 0) (d p q next r : ℕ) → Kn s U → n ≤ d → Ar d A → Spans body p (code c b s d) q → t.untold f r ≡ false → Lives body t f next (B s A) → (LiveAt body next r → LiveAt body q r) → B (before b s) A r → LiveAt body p r
+    through b fit s A d p q next r known nd around h u live go l =
+        code_live body c n L b U s d p q r fit low nd h (base_low body c n L t f tells (before b s) A U d (known_before body c n L t f tells b U s fit known) low nd around r l)
+        (either (λ v. either (λ o. inl o) (λ k. inr (inl k, go (live r u (inl k)))) (before_cases b s r v)) (λ a. inr (inr (around r a).0, go (live r u (inr a)))) l)
+
+    and_safe : (a b : Expr ℕ) → Sf a U → Sf b U → Fits c n L b U → (is_plain b ≡ true) ⊎ L → (m : ℕ) (s : Variables) (A : ℕ → Type 0) (d at next : ℕ) → Kn s U → n ≤ d → Ar d A
+        → Spans body at (code c a (before b s) d ++ fork d (code c b s d) (released (before b s) s)) next → Comes m next (B s A) → Comes m at (B (before a (before b s)) A)
+    and_safe a b one two fit checked m s A d at next known nd around h exit =
+        let T = before b s in
+        let mid = at + length (code c a T d) in
+        let rest = back body at (code c a T d) (fork d (code c b s d) (released T s)) next h in
+        let some : code c b s d ≡ [] → ⊥ = code_some body c n L b U s d fit in
+        let live : Lives body t f mid (B T A) = λ r u l. live_first body mid next d (code c b s d) (released T s) r rest (λ p q sp go. through b fit s A d p q next r known nd around sp u exit.0 go l) in
+        let at_d : LiveAt body mid d = fork_reads body c n L mid next d (code c b s d) (released T s) rest (λ e g. some e) in
+        one m T A d at mid (known_before body c n L t f tells b U s fit known) nd around (front body at (code c a T d) (fork d (code c b s d) (released T s)) next h)
+        (live, safe_fork body t f m mid next d (code c b s d) (released T s) (λ r. B T A r ⊎ H a d r) (B T A) (B T A) (B s A) rest
+            (λ r u l. either (λ k. live r u k) (λ k. subst (λ (z : ℕ). LiveAt body mid z) (sym k.0) at_d) l)
+            (λ e g. absurd (some e)) (λ r u l. either (λ k. k) (λ k. absurd (l.1 k.0)) l.0) (λ r u l. either (λ k. k) (λ k. absurd (l.1 k.0)) l.0) exit.0
+            (λ p q sp lq sq. (two m s A d p q known nd around sp (lq, sure_less body t f m q (λ r. B s A r ⊎ H b d r) (B s A) (λ r u l. either (λ k. k) (λ k. unchecked b d r nd checked u k) l) sq)).1)
+            (λ p sp. skipped_sure b m s A p next sp exit.1) exit.1)
+
+    or_safe : (a b : Expr ℕ) → Sf a U → Sf b U → Fits c n L b U → (is_plain b ≡ true) ⊎ L → (m : ℕ) (s : Variables) (A : ℕ → Type 0) (d at next : ℕ) → Kn s U → n ≤ d → Ar d A
+        → Spans body at (code c a (before b s) d ++ fork d (released (before b s) s) (code c b s d)) next → Comes m next (B s A) → Comes m at (B (before a (before b s)) A)
+    or_safe a b one two fit checked m s A d at next known nd around h exit =
+        let T = before b s in
+        let mid = at + length (code c a T d) in
+        let rest = back body at (code c a T d) (fork d (released T s) (code c b s d)) next h in
+        let some : code c b s d ≡ [] → ⊥ = code_some body c n L b U s d fit in
+        let live : Lives body t f mid (B T A) = λ r u l. live_second body mid next d (released T s) (code c b s d) r rest (λ p sp. through b fit s A d p next next r known nd around sp u exit.0 (λ z. z) l) in
+        let at_d : LiveAt body mid d = fork_reads body c n L mid next d (released T s) (code c b s d) rest (λ e g. some g) in
+        one m T A d at mid (known_before body c n L t f tells b U s fit known) nd around (front body at (code c a T d) (fork d (released T s) (code c b s d)) next h)
+        (live, safe_fork body t f m mid next d (released T s) (code c b s d) (λ r. B T A r ⊎ H a d r) (B T A) (B T A) (B s A) rest
+            (λ r u l. either (λ k. live r u k) (λ k. subst (λ (z : ℕ). LiveAt body mid z) (sym k.0) at_d) l)
+            (λ e g. absurd (some g)) (λ r u l. either (λ k. k) (λ k. absurd (l.1 k.0)) l.0) (λ r u l. either (λ k. k) (λ k. absurd (l.1 k.0)) l.0) exit.0
+            (λ p q sp lq sq. skipped_sure b m s A p q sp sq)
+            (λ p sp. (two m s A d p next known nd around sp (exit.0, sure_less body t f m next (λ r. B s A r ⊎ H b d r) (B s A) (λ r u l. either (λ k. k) (λ k. unchecked b d r nd checked u k) l) exit.1)).1) exit.1)
+
+    strict_safe : (o : Op) (a b : Expr ℕ) → (o ≡ op.And → ⊥) → (o ≡ op.Or → ⊥) → Sf a U → Sf b U → Fits c n L b U → (m : ℕ) (s : Variables) (A : ℕ → Type 0) (d at next : ℕ) → Kn s U → n ≤ d → Ar d A
+        → Spans body at (code c a (before b s) d ++ (code c b s (suc d) ++ operator o d (is_plain b))) next → Comes m next (B s A) → Comes m at (B (before a (before b s)) A)
+    strict_safe o a b x y one two fit m s A d at next known nd around h exit =
+        pair_safe body c n L t f tells U low a b one two fit m s A d at next (operator o d (is_plain b)) known nd around h
+        (λ p sp. operator_ready body c n L t f tells U low o a b m s A d p next known nd around sp (exit.0, sure_less body t f m next (λ r. B s A r ⊎ ⊥) (B s A) (λ r u l. either (λ k. k) (λ z. absurd z) l) exit.1) x y)
+
+    pub binary_safe : (o : Op) (a b : Expr ℕ) → Sf a U → Sf b U → Fits c n L b U → Checked o b L → (m : ℕ) (s : Variables) (A : ℕ → Type 0) (d at next : ℕ) → Kn s U → n ≤ d → Ar d A
+        → Spans body at (code c a (before b s) d ++ operate o d (code c b s (right_register o d)) (released (before b s) s) (is_plain b)) next → Comes m next (B s A) → Comes m at (B (before a (before b s)) A)
+    binary_safe op.Add a b one two fit checked = strict_safe op.Add a b (λ e. cc) (λ e. cc) one two fit
+    binary_safe op.Sub a b one two fit checked = strict_safe op.Sub a b (λ e. cc) (λ e. cc) one two fit
+    binary_safe op.Mul a b one two fit checked = strict_safe op.Mul a b (λ e. cc) (λ e. cc) one two fit
+    binary_safe op.Div a b one two fit checked = strict_safe op.Div a b (λ e. cc) (λ e. cc) one two fit
+    binary_safe op.Mod a b one two fit checked = strict_safe op.Mod a b (λ e. cc) (λ e. cc) one two fit
+    binary_safe op.Equal a b one two fit checked = strict_safe op.Equal a b (λ e. cc) (λ e. cc) one two fit
+    binary_safe op.Less a b one two fit checked = strict_safe op.Less a b (λ e. cc) (λ e. cc) one two fit
+    binary_safe op.LessEqual a b one two fit checked = strict_safe op.LessEqual a b (λ e. cc) (λ e. cc) one two fit
+    binary_safe op.Greater a b one two fit checked = strict_safe op.Greater a b (λ e. cc) (λ e. cc) one two fit
+    binary_safe op.GreaterEqual a b one two fit checked = strict_safe op.GreaterEqual a b (λ e. cc) (λ e. cc) one two fit
+    binary_safe op.And a b one two fit checked = and_safe a b one two fit checked
+    binary_safe op.Or a b one two fit checked = or_safe a b one two fit checked
+
+    -- ---- one instruction without operands
+
+    pub const_ready : (m : ℕ) (s : Variables) (A : ℕ → Type 0) (d at next : ℕ) (k : Scalar) → Kn s U → n ≤ d → Ar d A → Spans body at (Does (instr.Const d k) ∷ []) next → Comes m next (B s A) → Comes m at (B s A)
+    const_ready m s A d at next k known nd around h exit =
+        let e : next ≡ at + 1 = (let z = h.1 in omega (arith, z)) in
+        let live : Lives body t f at (B s A) = lives_on body t f at (instr.Const d k) (B s A) h.0.0 (λ r b. (less_not r d (base_low body c n L t f tells s A U d known low nd around r b), tt)) (inl refl) (lives_at body t f next (at + 1) (B s A) e exit.0) in
+        (live, safe_step body t f m at (instr.Const d k) (B s A) (B s A) h.0.0 live (λ x w. w) (λ r u l. either (λ z. z.0) (λ z. absurd z) l) (safe_at body t f m next (at + 1) (B s A) e exit.1))
+
+    -- a variable is shared where it is live behind, or else moved
+    pub var_sure : (b : Bool) (x : ℕ) (m : ℕ) (s : Variables) (A : ℕ → Type 0) (d at : ℕ) → has s x ≡ b → slice_get body at ≡ Some (cond b (instr.Share d x) (instr.Move d x)) → Lives body t f at (B (with s x) A)
+        → Sure body t f m (at + 1) (λ r. B s A r ⊎ ((r ≡ d) × (false ≡ false))) → Sure body t f m at (B (with s x) A)
+    var_sure true x m s A d at e is live safe = safe_step body t f m at (instr.Share d x) (B (with s x) A) (λ r. B s A r ⊎ ((r ≡ d) × (false ≡ false))) is live (λ k w. w)
+        (λ r u l. either (λ z. inl (either (λ v. inl (either (λ w. subst (λ (y : ℕ). has s y ≡ true) (sym w) e) (λ w. w) (with_cases s x r v))) (λ a. inr a) z.0)) (λ z. inr (z.0, refl)) l) safe
+    var_sure false x m s A d at e is live safe = safe_step body t f m at (instr.Move d x) (B (with s x) A) (λ r. B s A r ⊎ ((r ≡ d) × (false ≡ false))) is live (λ k w. w)
+        (λ r u l. either (λ z. inl (either (λ v. inl (either (λ w. absurd (z.1.1.0 w)) (λ w. w) (with_cases s x r v))) (λ a. inr a) z.0)) (λ z. inr (z.0, refl)) l) safe
+
+    -- ---- a test of a type, behind which the value is released
+
+    pub is_test_ready : (ty : Ty) (a : Expr ℕ) (m : ℕ) (s : Variables) (A : ℕ → Type 0) (d p next : ℕ) → Kn s U → n ≤ d → Ar d A → Spans body p (is_test c ty d) next → Comes m next (B s A) → Comes m p (λ r. B s A r ⊎ (r ≡ d))
+    is_test_ready ty a m s A d p next known nd around h exit =
+        let one = test c ty d (suc d) (suc (suc d)) in
+        let last : Instr = instr.Move d (suc d) in
+        let rest = dropped d (suc (suc d)) ++ Does last ∷ [] in
+        let mid = p + length one in
+        let two = back body p one rest next h in
+        let three = tail body mid (instr.Move (suc (suc d)) d) (Does (instr.Clear (suc (suc d) ∷ [])) ∷ Does last ∷ []) next two in
+        let four = tail body (mid + 1) (instr.Clear (suc (suc d) ∷ [])) (Does last ∷ []) next three in
+        let q = mid + 1 + 1 in
+        let e : next ≡ q + 1 = (let z = four.1 in omega (arith, z)) in
+        let lows = base_low body c n L t f tells s A U d known low nd around in
+        let live : Lives body t f q (B s A) = lives_on body t f q last (B s A) four.0.0 (λ r b. (less_not r d (lows r b), (less_not r (suc d) (let z = lows r b in omega (arith, z)), tt))) (inl refl) (lives_at body t f next (q + 1) (B s A) e exit.0) in
+        let safe : Sure body t f m q (B s A) = safe_step body t f m q last (B s A) (B s A) four.0.0 live (λ x w. w)
+            (λ r u l. either (λ z. z.0) (λ z. either (λ b. absurd (let w = lows (suc d) b in omega (arith, w))) (λ w. told_not body c n L t f tells r d z.0 u (tells.even (suc d) d (omega (arith, nd)) nd w)) z.1) l)
+            (safe_at body t f m next (q + 1) (B s A) e exit.1) in
+        let facts = dropped_safe body c t f n L tells m mid next d (suc (suc d)) (Does last ∷ []) (B s A) two (λ r b. (less_not r d (lows r b), less_not r (suc (suc d)) (let z = lows r b in omega (arith, z)))) live safe in
+        let un : (r : ℕ) → B s A r ⊎ (r ≡ d) → (r < suc (suc d)) × (r ≢ suc d) = λ r l. either (λ b. let z = lows r b in (omega (arith, z), less_not r (suc d) (omega (arith, z)))) (λ w. (omega (arith, w), λ g. absurd (omega (arith, w, g)))) l in
+        ((λ r u l. test_live body c ty d (suc d) (suc (suc d)) p mid r (front body p one rest next h) (un r l).0 (un r l).1 (facts.1 r u l)),
+        test_safe body c t f n L tells ty m p mid d (suc d) (suc (suc d)) (λ r. B s A r ⊎ (r ≡ d)) (front body p one rest next h) un (omega arith) (omega (arith, nd)) facts.1 facts.0)
+
+    -- ---- calls, lists and records
+
+    -- the register of the value and those behind it stand for the operands
+    pub call_ready : (a : Target) → IsValue a → (g k m : ℕ) (s : Variables) (A : ℕ → Type 0) (d p next : ℕ) → Kn s U → n ≤ d → Ar d A → Spans body p (call a g d k) next → Leaves m next (B s A) (λ r. (r ≡ d) × (false ≡ false)) → Comes m p (λ r. B s A r ⊎ Range d k r)
+    call_ready (Declared gives) v g k m s A d p next known nd around h exit =
+        let i : Instr = instr.Call d g (registers_from d k) in
+        let lows = base_low body c n L t f tells s A U d known low nd around in
+        operands_ready body c n L t f tells m p next i (B s A) (Range d k) (λ r. (r ≡ d) × (false ≡ false)) h
+        (λ r b. (less_not r d (lows r b), none_below r d (registers_from d k) (lows r b) (from_registers d d k (omega arith)))) (inl refl) (λ r x. in_range d k r x) (λ r x none. absurd (one_not_none r (registers_from d k) (in_range d k r x) none))
+        (λ r u z. (z.0, refl))
+        (λ q w. ((λ r u l none. either (λ y. either (λ b. less_not r d (lows r b)) (λ x. absurd (one_not_none r (registers_from d k) (in_range d k r x) none)) y) (λ w2. told_not body c n L t f tells r r refl u w2) l), w)) exit
+    call_ready Prints v g k m s A d p next known nd around h exit = absurd v
+    call_ready PrintsInt v g k m s A d p next known nd around h exit = absurd v
+    call_ready Nothing v g k m s A d p next known nd around h exit = absurd v
+
+    pub list_ready : (k m : ℕ) (s : Variables) (A : ℕ → Type 0) (d p next : ℕ) → Kn s U → n ≤ d → Ar d A → Spans body p (list k d) next → Leaves m next (B s A) (λ r. (r ≡ d) × (false ≡ false)) → Comes m p (λ r. B s A r ⊎ Range d k r)
+    list_ready k m s A d p next known nd around h exit =
+        let i : Instr = instr.Array d (registers_from d k) in
+        let lows = base_low body c n L t f tells s A U d known low nd around in
+        operands_ready body c n L t f tells m p next i (B s A) (Range d k) (λ r. (r ≡ d) × (false ≡ false)) h
+        (λ r b. (less_not r d (lows r b), none_below r d (registers_from d k) (lows r b) (from_registers d d k (omega arith)))) (inl refl) (λ r x. in_range d k r x) (λ r x none. absurd (one_not_none r (registers_from d k) (in_range d k r x) none.1))
+        (λ r u z. (z, refl)) (λ q w. w) exit
+
+    pub record_ready : (j k m : ℕ) (s : Variables) (A : ℕ → Type 0) (d p next : ℕ) → Kn s U → n ≤ d → Ar d A → Spans body p (Does (instr.Record d j (registers_from d k)) ∷ []) next → Leaves m next (B s A) (λ r. (r ≡ d) × (false ≡ false)) → Comes m p (λ r. B s A r ⊎ Range d k r)
+    record_ready j k m s A d p next known nd around h exit =
+        let i : Instr = instr.Record d j (registers_from d k) in
+        let lows = base_low body c n L t f tells s A U d known low nd around in
+        operands_ready body c n L t f tells m p next i (B s A) (Range d k) (λ r. (r ≡ d) × (false ≡ false)) h
+        (λ r b. (less_not r d (lows r b), none_below r d (registers_from d k) (lows r b) (from_registers d d k (omega arith)))) (inl refl) (λ r x. in_range d k r x) (λ r x none. absurd (one_not_none r (registers_from d k) (in_range d k r x) none.1))
+        (λ r u z. (z, refl)) (λ q w. w) exit
+
+    -- the first of the operands, and the others behind it
+    pub first_of_range : (s : Variables) (A : ℕ → Type 0) (d k r : ℕ) → (Vars s r ⊎ (A r ⊎ (r ≡ d))) ⊎ Range (suc d) k r → B s A r ⊎ Range d (suc k) r
+    first_of_range s A d k r (inl (inl v)) = inl (inl v)
+    first_of_range s A d k r (inl (inr (inl a))) = inl (inr a)
+    first_of_range s A d k r (inl (inr (inr e))) = inr (omega (arith, e), omega (arith, e))
+    first_of_range s A d k r (inr x) = inr (let l = x.0 in omega (arith, l), let l = x.1 in omega (arith, l))
+
+    pub more_of_one : (s u : Variables) (A : ℕ → Type 0) (e : Expr ℕ) (m d p : ℕ) → Comes m p (λ r. Vars s r ⊎ (A r ⊎ (r ≡ d))) → Leaves m p (B s A) (H e d)
+    more_of_one s u A e m d p k = ((λ r w l. k.0 r w (either (λ v. inl v) (λ a. inr (inl a)) l)),
+        sure_less body t f m p (λ r. B s A r ⊎ H e d r) (λ r. Vars s r ⊎ (A r ⊎ (r ≡ d))) (λ r w l. either (λ b. either (λ v. inl v) (λ a. inr (inl a)) b) (λ x. inr (inr x.0)) l) k.1)

@@ -1,0 +1,23 @@
+-- safe code, and its runs
+pub mod SafeLemmas
+pub mod RunLemmas
+-- pieces of code
+pub mod PieceLemmas
+pub mod TestLemmas
+-- what is live by the source, as wy_live has it
+pub mod LiveSetLemmas
+pub mod LiveUseLemmas
+pub mod LivePathLemmas
+pub mod LiveLemmas
+pub mod SetLemmas
+-- expressions
+pub mod ReadLemmas
+pub mod OperandLemmas
+pub mod ChoiceLemmas
+pub mod QuantifierLemmas
+pub mod ExpressionLemmas
+-- statements
+pub mod StatementReadLemmas
+pub mod StatementLemmas
+-- programs
+pub mod FitLemmas

@@ -1,0 +1,272 @@
+-- The code of a program keeps nothing dead.
+use Rattle.std.proofs.Common.{◌≡◌, ◌≢◌, ◌<◌, ◌≤◌, ◌⊎◌, inl, inr, ℕ, zero, suc, ◌+◌, List, [], ◌∷◌, ◌++◌, length, Bool, true, false, not, ◌&&◌, ◌||◌, nat_lt, cond, Option, Some, None, refl, sym, ap, ◌∙◌, subst, arith}
+use Rattle.std.specs.Prelude.{slice_get, is_some, max}
+use Rattle.std.proofs.lemmas.Bool.Decides.{nat_tests}
+use Rattle.wy_core.specs.CoreTree as tree
+use Rattle.wy_core.specs.CoreTree.{Expr, Param, Alias, Decl, AliasDecl, RoutineDecl, Core, aliases_of, routines_of}
+use Rattle.wy_formed.specs.Offers.{Offers, offers_of}
+use Rattle.wy_formed.specs.Bound.{Scope, Has, BoundExpr, BoundClauses, BoundAlias, BoundRoutine, BoundDecls, with_params}
+use Rattle.wy_formed.specs.Formed.{Formed}
+use Rattle.wy_code.specs.declared.instructions.Instr.{Instr}
+use Rattle.wy_code.specs.declared.instructions.Instr.TheVariants as instr
+use Rattle.wy_code.specs.declared.routines.Routine.{Routine}
+use Rattle.wy_tables.specs.declared.context.Context.{Context}
+use Rattle.wy_tables.specs.declared.targets.Target.{Target}
+use Rattle.wy_tables.specs.declared.targets.Target.TheVariants.{Declared, Prints, PrintsInt, Nothing}
+use Rattle.wy_tables.specs.Tables.{context_of, results_of, target}
+use Rattle.wy_live.specs.Sets.{Variables, has, with}
+use Rattle.wy_live.specs.Walks.{before, live_all, nothing}
+use Rattle.wy_pieces.specs.declared.steps.Step as steps
+use Rattle.wy_pieces.specs.declared.steps.Step.TheVariants.{Does}
+use Rattle.wy_pieces.specs.Steps.{clear, dropped, fork}
+use Rattle.wy_pieces.specs.Placing.{placed}
+use Rattle.wy_compiled.specs.TypeTests.{test}
+use Rattle.wy_compiled.specs.Expressions.{is_plain, code}
+use Rattle.wy_compiled.specs.Statements.{gives_null, stmts_code}
+use Rattle.wy_compiled.specs.Programs.{unused_params, body_steps, body_routine, clauses_steps, variable_of, taken, type_steps_at, type_routine, body_routines, type_routines, code_of}
+use Rattle.wy_sem.specs.TypeTests.{alias_at}
+use Rattle.wy_simulation.proofs.PlaceLemmas.{placed_stand}
+use Rattle.wy_simulated_tests.specs.Tested.{NamesIts, ClausesNameTheirs}
+use Rattle.wy_simulated_statements.specs.Routines.{InOrder}
+use Rattle.wy_simulated_programs.specs.Programs.{AllInOrder}
+use Rattle.wy_kept_registers.specs.Keeping.{IsNone}
+use Rattle.wy_kept_code.specs.Alive.{IsOne, LiveAt}
+use Rattle.wy_kept_code.specs.Safe.{Told, Safe, SafeCode}
+use Rattle.wy_kept_code.specs.Telling.{Tells}
+use Rattle.wy_kept_code.specs.Fitting.{Fits, FitsStmts}
+use Rattle.wy_kept_code.specs.Dead.{CountsStmts, DeclaresIn, IsParam, IsDeclared, OwnCounters, Truths, TruthsStmts, LastTruth, TruthsClauses, TruthsTypes, TruthsRoutines, TruthsByForm, variables_in, result_at, told_of, Asked, NothingDeadIsKept, NoDeadVariableIsKept}
+use Rattle.wy_kept_code.proofs.SafeLemmas.{Less, safe_less}
+use Rattle.wy_kept_code.proofs.RunLemmas.{safe_runs}
+use Rattle.wy_kept_code.proofs.PieceLemmas.{either, less_not, Spans, front, back, tail, ended, live_reads, live_second, Lives, Told_of, Sure, Behind, sure_less, safe_step, safe_returns, safe_at, safe_fork, lives_at}
+use Rattle.wy_kept_code.proofs.SetLemmas.{not_both, Vars, before_of, with_cases, with_of, none_has}
+use Rattle.wy_kept_code.proofs.TestLemmas.{at_end, With, dropped_safe, test_live, test_safe}
+use Rattle.wy_kept_code.proofs.ReadLemmas.{Low}
+use Rattle.wy_kept_code.proofs.OperandLemmas.{told_not, ready_less, clear_sure, front_some, code_some, fork_reads}
+use Rattle.wy_kept_code.proofs.StatementLemmas.{gives_null_sure, value_safe, stmts_safe}
+use Rattle.wy_kept_code.proofs.FitLemmas.{fits_expr, fits_stmts, declares_all_low, params_low, params_scope, types_loose, routines_loose}
+
+-- ---- what is said of which registers
+
+less_true : (a b : ℕ) → nat_lt a b ≡ true → a < b
+less_true a b h = first_of (grind (arith, nat_tests), search arith)
+
+not_less : (r n : ℕ) → n ≤ r → nat_lt r n ≡ false
+not_less r n h = by (nat_lt r n) refl
+  where
+    by : (b : Bool) → nat_lt r n ≡ b → nat_lt r n ≡ false
+    by true e = absurd (let l = less_true r n e in omega (arith, l, h))
+    by false e = e
+
+and_first : (a b : Bool) → (a && b) ≡ true → a ≡ true
+and_first true b e = refl
+and_first false b e = e
+
+and_yes : (a b : Bool) → a ≡ true → b ≡ true → (a && b) ≡ true
+and_yes true b e g = g
+and_yes false b e g = e
+
+or_first : (a b : Bool) → a ≡ true → (a || b) ≡ true
+or_first true b e = refl
+or_first false b e = absurd (let z : false ≡ true = e in cc)
+
+or_second : (a b : Bool) → b ≡ true → (a || b) ≡ true
+or_second true b e = refl
+or_second false b e = e
+
+or_left : (a b : Bool) → (a || b) ≡ true → b ≡ false → a ≡ true
+or_left true b e g = refl
+or_left false b e g = absurd (let z : true ≡ false = sym e ∙ g in cc)
+
+beyond : (bs : List Bool) (k : ℕ) → result_at bs (length bs + k) ≡ false
+beyond [] k = refl
+beyond (b ∷ bs) k = subst (λ (z : ℕ). result_at (b ∷ bs) z ≡ false) (next_place (length bs) k) (beyond bs k)
+  where
+    next_place : (a k : ℕ) → suc (a + k) ≡ suc a + k
+    next_place a k = omega arith
+
+no_result : (bs : List Bool) (g : ℕ) → target bs g ≡ Declared false → result_at bs g ≡ false
+no_result [] g e = refl
+no_result (b ∷ bs) zero e = declared_same b false e
+  where
+    declared_same : (a d : Bool) → Declared a ≡ Declared d → a ≡ d
+    declared_same a d e = cc
+no_result (b ∷ bs) (suc g) e = no_result bs g e
+
+module _ (core : Core ℕ) (loose : Bool) where
+  abbrev c : Context
+  c = context_of core
+
+  abbrev L : Type 0
+  L = loose ≡ true
+
+  abbrev t : Told
+  t = told_of core loose
+
+  abbrev size_at : ℕ → ℕ
+  size_at f = variables_in (routines_of core) (aliases_of core) f
+
+  untold_all : (f r : ℕ) → L → size_at f ≤ r → t.untold f r ≡ true
+  untold_all f r l h = and_yes loose (not (nat_lt r (size_at f))) l (ap (λ (b : Bool). not b) (not_less r (size_at f) h))
+
+  untold_loose : (f r : ℕ) → t.untold f r ≡ true → L
+  untold_loose f r u = and_first loose (not (nat_lt r (size_at f))) u
+
+  tells_of : (f : ℕ) → Tells t f c (size_at f) L
+  tells_of f = record {
+    even = (λ r q nr nq u. untold_all f q (untold_loose f r u) nq);
+    loose = (λ l r nr. untold_all f r l nr);
+    answers = (λ k r nr h. untold_all f r (or_left loose (result_at c.results (length c.results + k)) h (beyond c.results k)) nr);
+    nothing = (λ g r nr is h. untold_all f r (or_left loose (result_at c.results g) h (no_result c.results g is)) nr)
+  }
+
+  tells_at : (f n : ℕ) → size_at f ≡ n → Tells t f c n L
+  tells_at f n e = subst (λ (z : ℕ). Tells t f c z L) e (tells_of f)
+
+  any_gives : (f r : ℕ) → t.untold f r ≡ true → t.results f ≡ true
+  any_gives f r u = or_first loose (result_at c.results f) (untold_loose f r u)
+
+  -- ---- functions and methods
+
+  first_or_more : (d r : ℕ) → d ≤ r → (r ≡ d) ⊎ (suc d ≤ r)
+  first_or_more zero zero h = inl refl
+  first_or_more zero (suc r) h = inr (omega arith)
+  first_or_more (suc d) zero h = absurd (omega (arith, h))
+  first_or_more (suc d) (suc r) h = either (λ e. inl (ap suc e)) (λ l. inr (omega (arith, l))) (first_or_more d r (omega (arith, h)))
+
+  -- a parameter that isn't released at entry is live
+  params_kept : (s : Variables) (ps : List Param) (k : ℕ) → InOrder k ps → (x : ℕ) → k ≤ x → x < k + length ps → IsNone x (unused_params s ps) → Vars s x
+  params_kept s [] k order x low high none = absurd (omega (arith, low, high))
+  params_kept s (p ∷ ps) k order x low high none = by (has s p.variable) refl none
+    where
+      by : (b : Bool) → has s p.variable ≡ b → IsNone x (cond b (unused_params s ps) (p.variable ∷ unused_params s ps)) → Vars s x
+      by true e g = either (λ same. subst (λ (z : ℕ). has s z ≡ true) (order.0 ∙ sym same) e) (λ more. params_kept s ps (suc k) order.1 x more (omega (arith, high)) g) (first_or_more k x low)
+      by false e g = either (λ same. absurd (g.0 (same ∙ sym order.0))) (λ more. params_kept s ps (suc k) order.1 x more (omega (arith, high)) g.1) (first_or_more k x low)
+
+  body_safe : (f : ℕ) (r : tree.Routine ℕ) → size_at f ≡ length r.variables → result_at c.results f ≡ is_some r.result → BoundRoutine (offers_of core) r → InOrder 0 r.params → ((x : ℕ) → CountsStmts r.body x → IsDeclared r x → ⊥) → TruthsStmts L r.body
+      → (m : ℕ) → Safe t f (body_routine c r).body m 0 (λ x. x < length r.params)
+  body_safe f r e given bound order own truths m =
+      let n = length r.variables in
+      let all = body_steps c r in
+      let body = placed 0 all in
+      let U : ℕ → Type 0 = IsDeclared r in
+      let R : Type 0 = t.results f ≡ true in
+      let low : Low body c n L U = λ x u. either (λ k. params_low (offers_of core) n r.params [] bound.params x k) (λ k. declares_all_low (offers_of core) n r.body (record { in_loop = false; has_result = is_some r.result }) (with_params [] r.params) bound.body x k) u in
+      let gives : is_some r.result ≡ true → R = λ g. or_second loose (result_at c.results f) (given ∙ g) in
+      let fit : FitsStmts c n L R r.body U = fits_stmts core (offers_of core) refl c refl n L U R r.body (record { in_loop = false; has_result = is_some r.result }) (with_params [] r.params)
+          (λ x h. either (λ k. inl k) (λ k. absurd k) (params_scope r.params [] x h)) (λ x k. inr k) gives bound.body truths own in
+      let tells = tells_at f n e in
+      let free : (x : ℕ) → n ≤ x → t.untold f x ≡ true → R = λ x h u. any_gives f x u in
+      let s = live_all r.body [] nothing in
+      let un = unused_params s r.params in
+      let two = stmts_code c r.body [] nothing n 0 0 in
+      let rest = two ++ gives_null n in
+      let next = 0 + length all in
+      let whole : Spans body 0 (clear un ++ rest) next = (placed_stand all, refl) in
+      let p1 = 0 + length (clear un) in
+      let p2 = p1 + length two in
+      let behind = back body 0 (clear un) rest next whole in
+      let last = back body p1 two (gives_null n) next behind in
+      let nothing_live : Lives body t f p2 (Vars []) = λ x u v. none_has x v in
+      let null = gives_null_sure body c n L R U low t f tells (λ g. g) free m p2 next last in
+      let null0 : Lives body t f (p2 + 0) (Vars []) × Sure body t f m (p2 + 0) (Vars []) = ((λ x u v. none_has x v), safe_at body t f m p2 (p2 + 0) (Vars []) (omega arith) null) in
+      let at1 = stmts_safe body c n L R U low t f tells (λ g. g) free r.body fit m [] nothing 0 0 p1 p2 (λ x v. none_has x v) (λ x v. none_has x v) (λ x v. none_has x v) (front body p1 two (gives_null n) next behind) (nothing_live, null) null0 null0 in
+      let at0 = clear_sure body c n L t f tells m 0 p1 un (λ x. x < length r.params) (Vars s) (front body 0 (clear un) rest next whole) (λ x l none. params_kept s r.params 0 order x (omega arith) (omega (arith, l)) none) at1 in
+      safe_less t f body m 0 (λ x. x < length r.params) (Told_of body t f (λ x. x < length r.params)) (λ x l. inl l) at0
+
+  -- ---- tests of types
+
+  module _ (f n x : ℕ) (tells : Tells t f c n L) (xn : x < n) (body : List Instr) where
+    abbrev U : ℕ → Type 0
+    U r = r ≡ x
+
+    abbrev s : Variables
+    s = with [] x
+
+    low : Low body c n L U
+    low r e = omega (arith, e, xn)
+
+    is_x : (r : ℕ) → Vars s r → r ≡ x
+    is_x r v = either (λ e. e) (λ k. none_has r k) (with_cases [] x r v)
+
+    abbrev R : Type 0
+    R = t.results f ≡ true
+
+    abbrev Comes : ℕ → ℕ → Type 0
+    Comes m p = Lives body t f p (Vars s) × Sure body t f m p (Vars s)
+
+    FitsClauses : List (Expr ℕ) → Type 0
+    unfolding
+    FitsClauses [] = Unit {0}
+    FitsClauses (e ∷ es) = Fits c n L e U × FitsClauses es
+
+    clauses_some : (e : Expr ℕ) (es : List (Expr ℕ)) → Fits c n L e U → clauses_steps c (e ∷ es) s n ≡ [] → ⊥
+    clauses_some e es fit g = front_some body c n L (code c e s n) (fork n (clauses_steps c es s n) []) (code_some body c n L e U s n fit) g
+
+    -- the value of a clause that isn't the last is tested, and the last is a truth value by its form
+    tested : (e : Expr ℕ) (es : List (Expr ℕ)) → FitsClauses (e ∷ es) → LastTruth L (e ∷ es) → ((is_plain e ≡ true) ⊎ L) ⊎ (clauses_steps c es s n ≡ [] → ⊥)
+    unfolding FitsClauses
+    tested e [] fit last = inl last
+    tested e (d ∷ es) fit last = inr (clauses_some d es fit.1.0)
+
+    last_of : (e : Expr ℕ) (es : List (Expr ℕ)) → LastTruth L (e ∷ es) → LastTruth L es
+    last_of e [] last = tt
+    last_of e (d ∷ es) last = last
+
+    clauses_ready : (es : List (Expr ℕ)) → FitsClauses es → LastTruth L es → (m p next : ℕ) → Spans body p (clauses_steps c es s n) next → Comes m next → Comes m p
+    unfolding FitsClauses
+    clauses_ready [] fit last m p next h exit = let e = sym (ended body p next h) in (lives_at body t f next p (Vars s) e exit.0, safe_at body t f m next p (Vars s) e exit.1)
+    clauses_ready (e ∷ es) fit last m p next h exit =
+        let more = clauses_steps c es s n in
+        let one = code c e s n in let mid = p + length one in
+        let rest = back body p one (fork n more []) next h in
+        let P : ℕ → Type 0 = λ r. Vars s r ⊎ ((r ≡ n) × (is_plain e ≡ false)) in
+        let live_s : Lives body t f mid (Vars s) = λ r u v. live_second body mid next n more [] r rest (λ q sp. at_end body q next r sp (exit.0 r u v)) in
+        let plain_no : (r : ℕ) → t.untold f r ≡ false → (is_plain e ≡ true) ⊎ L → (r ≡ n) × (is_plain e ≡ false) → ⊥ = λ r u k z. either (λ y. not_both (is_plain e) y z.1) (λ y. told_not body c n L t f tells r n z.0 u (tells.loose y n (omega arith))) k in
+        let live_P : Lives body t f mid P = λ r u l. either (λ v. live_s r u v) (λ z. either (λ k. absurd (plain_no r u k z)) (λ k. subst (λ (y : ℕ). LiveAt body mid y) (sym z.0) (fork_reads body c n L mid next n more [] rest (λ g1 g2. k g1))) (tested e es fit last)) l in
+        let at_p = value_safe body c n L R U low t f tells (λ g. g) (λ r h2 u. any_gives f r u) e fit.0 m s p mid (λ r v. is_x r v) (front body p one (fork n more []) next h)
+            (live_s, safe_fork body t f m mid next n more [] P (Vars s) (Vars s) (Vars s) rest live_P
+                (λ g1 g2 r u l. either (λ v. v) (λ z. either (λ k. absurd (plain_no r u k z)) (λ k. absurd (k g1)) (tested e es fit last)) l)
+                (λ r u l. either (λ v. v) (λ z. absurd (l.1 z.0)) l.0) (λ r u l. either (λ v. v) (λ z. absurd (l.1 z.0)) l.0) exit.0
+                (λ p2 q2 sp lq sq. (clauses_ready es fit.1 (last_of e es last) m p2 q2 sp (lq, sq)).1)
+                (λ p2 sp. safe_at body t f m next p2 (Vars s) (sym (ended body p2 next sp)) exit.1) exit.1) in
+        ready_less body c n L t f tells m p (Vars s) (Vars (before e s)) (λ r v. before_of e s r (inr v)) at_p
+
+    -- the argument comes into the variable
+    taken_sure : (y m next : ℕ) → y ≡ x → Spans body 0 (taken y) next → Comes m next → Sure body t f m 0 (λ r. r < 1)
+    taken_sure zero m next same h exit = safe_at body t f m next 0 (λ r. r < 1) (sym (ended body 0 next h)) (sure_less body t f m next (λ r. r < 1) (Vars s) (λ r u l. with_of [] x r (inl (omega (arith, l, same)))) exit.1)
+    taken_sure (suc y) m next same h exit =
+        let i : Instr = instr.Move (suc y) 0 in
+        let e : next ≡ 0 + 1 = (let z = h.1 in omega (arith, z)) in
+        safe_step body t f m 0 i (λ r. r < 1) (Vars s) h.0.0 (λ r u l. live_reads body 0 r i h.0.0 (inl (omega (arith, l)))) (λ k w. w)
+        (λ r u l. either (λ z. absurd (z.1.1.0 (let w = z.0 in omega (arith, w)))) (λ z. with_of [] x r (inl (z.0 ∙ same))) l) (safe_at body t f m next (0 + 1) (Vars s) e exit.1)
+
+    type_body_safe : (a : Alias ℕ) → FitsClauses a.clauses → LastTruth L a.clauses → (next m : ℕ) → Spans body 0 (type_steps_at c a x n) next → Sure body t f m 0 (λ r. r < 1)
+    type_body_safe a fit last next m h =
+        let returns : Instr = instr.Return n in
+        let end = dropped x (suc n) ++ Does returns ∷ [] in
+        let clauses = clauses_steps c a.clauses s n in
+        let three = fork n clauses [] ++ end in
+        let tests = test c a.ty x n (suc n) in
+        let two = tests ++ three in
+        let p1 = 0 + length (taken x) in let p2 = p1 + length tests in let p3 = p2 + length (fork n clauses []) in
+        let h1 = back body 0 (taken x) two next h in
+        let h2 = back body p1 tests three next h1 in
+        let h3 = back body p2 (fork n clauses []) end next h2 in
+        let h4 = tail body p3 (instr.Move (suc n) x) (Does (instr.Clear (suc n ∷ [])) ∷ Does returns ∷ []) next h3 in
+        let h5 = tail body (p3 + 1) (instr.Clear (suc n ∷ [])) (Does returns ∷ []) next h4 in
+        let none : ℕ → Type 0 = λ r. ⊥ in
+        let at_return : Sure body t f m (p3 + 1 + 1) none = safe_returns body t f m (p3 + 1 + 1) n none h5.0.0 (λ r u l. absurd l) (λ l. either (λ z. absurd z) (λ u. any_gives f n u) l) in
+        let facts = dropped_safe body c t f n L tells m p3 next x (suc n) (Does returns ∷ []) none h3 (λ r z. absurd z) (λ r u l. absurd l) at_return in
+        let at3 : Comes m p3 = ready_less body c n L t f tells m p3 (Vars s) (λ r. none r ⊎ (r ≡ x)) (λ r v. inr (is_x r v)) (facts.1, facts.0) in
+        let span3 = front body p2 (fork n clauses []) end next h2 in
+        let live2 : Lives body t f p2 (Vars s) = λ r u v. live_second body p2 p3 n clauses [] r span3 (λ q sp. at_end body q p3 r sp (at3.0 r u v)) in
+        let at2 : Sure body t f m p2 (Vars s) = safe_fork body t f m p2 p3 n clauses [] (Vars s) (Vars s) (Vars s) (Vars s) span3 live2 (λ g1 g2 r u l. l) (λ r u l. l.0) (λ r u l. l.0) at3.0
+            (λ q z sp lq sq. (clauses_ready a.clauses fit last m q z sp (lq, sq)).1) (λ q sp. safe_at body t f m p3 q (Vars s) (sym (ended body q p3 sp)) at3.1) at3.1 in
+        let un : (r : ℕ) → Vars s r → (r < suc n) × (r ≢ n) = λ r v. let e = is_x r v in (omega (arith, e, xn), less_not r n (omega (arith, e, xn))) in
+        let span1 = front body p1 tests three next h1 in
+        let at1 : Sure body t f m p1 (Vars s) = test_safe body c t f n L tells a.ty m p1 p2 x n (suc n) (Vars s) span1 un (omega arith) (omega arith) live2 at2 in
+        taken_sure x m p1 refl (front body 0 (taken x) two next h) ((λ r u v. test_lives r u v live2), at1)
+      where
+        test_lives : (r : ℕ) → t.untold f r ≡ false → Vars s r → Lives body t f (0 + length (taken x) + length (test c a.ty x n (suc n))) (Vars s) → LiveAt body (0 + length (taken x)) r
+        test_lives r u v l = test_live body c a.ty x n (suc n) (0 + length (taken x)) (0 + length (taken x) + length (test c a.ty x n (suc n))) r (front body (0 + length (taken x)) (test c a.ty x n (suc n)) (fork n (clauses_steps c a.clauses s n) [] ++ (dropped x (suc n) ++ Does (instr.Return n) ∷ [])) next
+            (back body 0 (taken x) (test c a.ty x n (suc n) ++ (fork n (clauses_steps c a.clauses s n) [] ++ (dropped x (suc n) ++ Does (instr.Return n) ∷ []))) next h)) (let e = is_x r v in omega (arith, e, xn)) (less_not r n (let e = is_x r v in omega (arith, e, xn))) (l r u v)
