@@ -2,4 +2,4 @@ use Rattle.wy_headline.proofs.MeansLemmas.{calls_mean}
 use Rattle.wy_headline.proofs.commands.run_words.Goals as goal
 
 pub returns-clause-means : goal.returns-clause-means
-returns-clause-means c = calls_mean _ _ _ _ _ c.run_words.ensures.comes
+returns-clause-means g c = calls_mean _ _ _ _ _ c.run_words.ensures.comes
