@@ -1,5 +1,5 @@
 mod SizeLemmas
 mod PlaceLemmas
 mod RoundLemmas
-mod SoundLemmas
+pub mod SoundLemmas
 mod LeastLemmas
