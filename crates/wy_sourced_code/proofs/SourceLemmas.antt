@@ -1,5 +1,5 @@
 -- The core of each source is as the law on code asks.
-use Rattle.std.proofs.Common.{◌≡◌, List, [], ◌∷◌, Bool, Option, Some, None, is_some, ℕ, map, refl}
+use Rattle.std.proofs.Common.{◌≡◌, List, [], ◌∷◌, Option, Some, None, is_some, ℕ, map, refl}
 use Rattle.wy_ast.specs.SurfaceTree.{Expr, Decl, AliasDecl, FunctionDecl, MethodDecl, PropertyDecl}
 use Rattle.wy_ast.specs.SurfaceSeen.{seen_decl}
 use Rattle.wy_spelled_types.specs.SourceVariables.{has_one, HaveOwnVariables}

@@ -1,7 +1,7 @@
 -- Statements that declare variables with new numbers alone.
-use Rattle.std.proofs.Common.{◌≡◌, ◌<◌, ◌≤◌, ℕ, zero, suc, ◌+◌, List, [], ◌∷◌, ◌++◌, Option, Some, None, refl, sym, ap, ◌∙◌, subst, arith}
+use Rattle.std.proofs.Common.{◌≡◌, ◌<◌, ◌≤◌, ℕ, zero, suc, List, [], ◌∷◌, ◌++◌, Option, None, refl, sym, ◌∙◌, subst, arith}
 use Rattle.wy_core.specs.Types.{Ty}
-use Rattle.wy_core.specs.CoreTree.{Expr, Stmt, DeclareStmt, IfStmt, WhileStmt, Stmts, NoStmts, MoreStmts, stmts_of}
+use Rattle.wy_core.specs.CoreTree.{Expr, Stmt, DeclareStmt, IfStmt, WhileStmt, stmts_of}
 use Rattle.wy_environment.specs.Slots.{slot_at, put_slot}
 use Rattle.wy_lower.specs.StmtsLowered.{Arm, chain}
 use Rattle.wy_sound_programs.specs.Scopes.{declares, declares_in}

@@ -1,6 +1,5 @@
 -- Functions and methods of a program with names declare each of their variables once.
-use Rattle.std.proofs.Common.{◌≡◌, ◌≤◌, ℕ, zero, suc, ◌+◌, List, [], ◌∷◌, length, Option, Some, None, sym, subst, arith}
-use Rattle.std.specs.Prelude.{slice_get}
+use Rattle.std.proofs.Common.{◌≡◌, ◌≤◌, ℕ, zero, suc, List, [], ◌∷◌, length, Option, Some, None, sym, subst, arith}
 use Rattle.wy_ast.specs.SurfaceTree as surface
 use Rattle.wy_ast.specs.SurfaceTree.{AliasDecl, FunctionDecl, MethodDecl, PropertyDecl}
 use Rattle.wy_core.specs.Types.{Ty}
@@ -13,7 +12,7 @@ use Rattle.wy_lower.specs.Variables.{Variables, named, declared}
 use Rattle.wy_lower.specs.Uses.{Template}
 use Rattle.wy_lower.specs.TypesLowered.{in_ty}
 use Rattle.wy_lower.specs.Templates.{params_scope, params_named, templates}
-use Rattle.wy_lower.specs.DeclsLowered.{Parts, in_params, before, after, block, in_routine, result_clauses, name_scope, name_named, in_decls, function_parts, method_parts}
+use Rattle.wy_lower.specs.DeclsLowered.{Parts, in_params, before, after, in_routine, result_clauses, name_scope, name_named, in_decls, function_parts, method_parts}
 use Rattle.wy_names.specs.Named.{scope_of, expansions_of}
 use Rattle.wy_named.proofs.GrowLemmas.{through, length_named, grows_named, grows_clauses}
 use Rattle.wy_sound_programs.specs.Once.{OnceRoutine}

@@ -1,5 +1,5 @@
 -- Each statement is lowered to such that declare variables with new numbers alone.
-use Rattle.std.proofs.Common.{◌≡◌, ◌≤◌, ◌<◌, ℕ, suc, ◌+◌, Bool, true, false, List, [], ◌∷◌, length, Option, Some, None, refl, arith, codes}
+use Rattle.std.proofs.Common.{◌≡◌, ◌≤◌, ℕ, suc, ◌+◌, true, false, List, [], ◌∷◌, length, Some, refl, arith, codes}
 use Rattle.wy_ast.specs.SurfaceTree as surface
 use Rattle.wy_ast.specs.SurfaceTree.{DeclareStmt, AssignStmt, CallStmt, ReturnStmt, AssertStmt, BreakStmt, ContinueStmt, SkipStmt, FailStmt, IfStmt, WhileStmt, DoStmt, ForStmt, SwitchStmt, SwitchElseStmt, NoStmts, MoreStmts, NoCases, MoreCases}
 use Rattle.wy_core.specs.Types.{BoolTy, IntTy, AnyTy}
@@ -10,7 +10,7 @@ use Rattle.wy_lower.specs.Variables.{Variables, named}
 use Rattle.wy_lower.specs.Uses.{Template}
 use Rattle.wy_lower.specs.TypesLowered.{in_ty}
 use Rattle.wy_lower.specs.ExprsLowered.{in_expr}
-use Rattle.wy_lower.specs.StmtsLowered.{Arm, Span, in_option, in_clauses, in_stmt, in_stmts, in_cases, scope_behind, do_test, do_invariants, behind_first, each_behind_first, repeated, for_from, for_to, for_span, for_invariants, renamed, with_span, bounds, next_turn, starts, turns, counted, chain, switched, switch_value, switch_variables, switch_number}
+use Rattle.wy_lower.specs.StmtsLowered.{Arm, Span, in_option, in_clauses, in_stmt, in_stmts, in_cases, scope_behind, do_test, do_invariants, behind_first, each_behind_first, repeated, for_from, for_to, for_span, for_invariants, renamed, with_span, next_turn, starts, turns, counted, chain, switched, switch_value, switch_variables, switch_number}
 use Rattle.wy_named.proofs.GrowLemmas.{through, length_named, grows_option, grows_expr, grows_clauses, grows_stmt, length_span}
 use Rattle.wy_sourced_programs.proofs.FreshLemmas.{Fresh, fresh_none, fresh_from, fresh_quiet, fresh_declare, fresh_more, fresh_append, fresh_if, fresh_while, ArmsFresh, fresh_chain}
 

@@ -1,5 +1,5 @@
 -- Types of a program with names have a variable exactly where they have clauses.
-use Rattle.std.proofs.Common.{◌≡◌, ℕ, zero, suc, List, [], ◌∷◌, Bool, true, false, Option, Some, None, is_some, refl, sym, subst}
+use Rattle.std.proofs.Common.{◌≡◌, ℕ, zero, suc, List, [], ◌∷◌, Option, Some, None, is_some, refl, sym, subst}
 use Rattle.wy_ast.specs.SurfaceTree as surface
 use Rattle.wy_ast.specs.SurfaceTree.{AliasDecl, FunctionDecl, MethodDecl, PropertyDecl}
 use Rattle.wy_core.specs.CoreTree as core

@@ -1,5 +1,5 @@
 -- What the rules of a program spell: a type with a variable has clauses, and one without has none.
-use Rattle.std.proofs.Common.{◌≡◌, ◌∙◌, inl, inr, ℕ, ◌+◌, Bool, true, false, nat_lt, List, [], ◌∷◌, ◌++◌, map, Option, Some, None, is_some, refl, sym, subst}
+use Rattle.std.proofs.Common.{◌≡◌, ◌∙◌, inl, inr, ℕ, Bool, true, false, nat_lt, List, [], ◌∷◌, ◌++◌, map, Option, Some, None, is_some, refl, sym, subst}
 use Rattle.wy_reading.specs.Places.{IsText}
 use Rattle.wy_reading.specs.Rule.{Turns, stop, more}
 use Rattle.wy_ast.specs.SurfaceSeen.{seen_decl, seen_exprs}
