@@ -6,3 +6,5 @@ mod BodyLemmas
 mod ShownLemmas
 mod PlainLemmas
 pub mod SoundLemmas
+mod AcceptedLemmas
+mod ReadingLemmas

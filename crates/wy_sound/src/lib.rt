@@ -4,4 +4,7 @@
 
 mod law;
 
-pub use law::{membership_agrees, programs_are_sound};
+pub use law::{
+    accepted_programs_are_shown, conditions_tell_members, membership_agrees, programs_are_sound,
+    values_are_held,
+};

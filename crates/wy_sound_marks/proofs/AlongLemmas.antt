@@ -1,5 +1,5 @@
 -- Along the walk of a block of which no path uses a variable without a value, each variable that is used is marked.
-use Rattle.std.proofs.Common.{◌≡◌, inl, ℕ, ◌+◌, ◌≤◌, List, [], ◌∷◌, length, Bool, true, false, not, Option, Some, None, refl, sym, ap, subst, arith}
+use Rattle.std.proofs.Common.{inl, ℕ, ◌+◌, List, [], ◌∷◌, Bool, true, false, not, Option, Some, None, sym, ap, subst}
 use Rattle.wy_core.specs.CoreTree.{Expr, Step, IndexStep, FieldStep, Stmt, DeclareStmt, AssignStmt, CallStmt, ReturnStmt, AssertStmt, BreakStmt, ContinueStmt, SkipStmt, FailStmt, IfStmt, WhileStmt, Stmts, NoStmts, MoreStmts}
 use Rattle.wy_term.specs.declared.cond.CondKind.TheVariants as kind
 use Rattle.wy_conditions.specs.Sizes.{exprs_in, exprs_in_list, exprs_in_stmt, exprs_in_block}
@@ -7,16 +7,17 @@ use Rattle.wy_conditions.specs.Numbered.{Node, numbered, numbered_list, numbered
 use Rattle.wy_conditions.specs.Clauses.{owe_clauses}
 use Rattle.wy_conditions.specs.Spots.{Spot, is_set, with_hyps}
 use Rattle.wy_conditions.specs.Statements.{Body, words, expr, renew, walk_clauses, where_true, where_false, exec, exec_all}
-use Rattle.wy_assign.specs.Paths.{Uses, Sets, Falls, Leaves, Course, One, Then, ExprPath, ExprsPath, ClausesPath, OptionPath, StepPath, StepsPath, Either, StmtPath, StmtsPath}
+use Rattle.wy_assign.specs.Paths.{Uses, Sets, Falls, Leaves, Course, One, Then, ExprPath, ExprsPath, ClausesPath, StepPath, StepsPath, Either, StmtPath, StmtsPath}
 use Rattle.wy_sound_kinds.specs.Ready.{Ready}
 use Rattle.wy_sound_programs.specs.Along.{Allowed, WhereGoes, PathReady, ReadyAlong, AllReadyAlong}
 use Rattle.wy_sound_programs.specs.Made.{all_marked, WellMade, PathMade, Made, AllMade}
+use Rattle.wy_sound_programs.proofs.MarkLemmas.{head_set}
 use Rattle.wy_sound_marks.proofs.ReadLemmas.{read_one, read_then, read_expr, read_clauses, read_step, read_steps}
 use Rattle.wy_sound_marks.proofs.UseLemmas.{NoUse, then_first, then_second, one_set}
 use Rattle.wy_sound_marks.proofs.MarkedLemmas.{Unmarked, seen_of, marked, exprs_marked, clauses_marked}
 use Rattle.wy_sound_marks.proofs.MarkLemmas.{unmarked}
 use Rattle.wy_sound_marks.proofs.MeetLemmas.{Wide, Reached, ReachedIf}
-use Rattle.wy_sound_marks.proofs.HeadLemmas.{keeps_head}
+use Rattle.wy_sound_marks.proofs.HeadLemmas.{head_wide}
 use Rattle.wy_sound_marks.proofs.ReachLemmas.{reaches}
 use Rattle.wy_sound_marks.proofs.CleanLemmas.{Clean, all_have_path, clean_ending, clean_value, clean_first, clean_rest, clean_test, clean_behind, clean_left, clean_right, clean_head, clean_turn}
 
@@ -83,10 +84,8 @@ module _ (a : Allowed) where
           let head = renew b inner (with_hyps entry.hyps p) entry.count in
           let inside = walk_clauses b.program (words b) clauses head.spot.vars head.spot.hyps head.count in
           let v = expr b (numbered e k) head.spot.vars inside.hyps inside.count in
-          let keeps = keeps_head b inner (with_hyps entry.hyps p) entry.count in
-          let same : head.spot.set ≡ p.set = keeps.marks in
-          let more : length p.vars ≤ length head.spot.vars = keeps.vars in
-          let wide : Wide head.spot = subst (λ (s : List Bool). length s ≤ length head.spot.vars) (sym same) (omega (arith, h, more)) in
+          let same = head_set b inner (with_hyps entry.hyps p) entry.count in
+          let wide = head_wide b inner (with_hyps entry.hyps p) entry.count h in
           let I = ClausesPath invariants in
           let E = ExprPath e in
           let u = unmarked p.set in

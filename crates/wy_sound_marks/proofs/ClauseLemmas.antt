@@ -1,10 +1,9 @@
 -- Clauses of contracts and of types use parameters, results and variables of types alone.
-use Rattle.std.proofs.Common.{◌≡◌, inl, inr, ℕ, ◌<◌, List, [], ◌∷◌, length, Bool, true, false, cond, ◌==◌, Option, Some, None, refl, sym, subst}
+use Rattle.std.proofs.Common.{inl, inr, ℕ, List, [], ◌∷◌, length, Bool, Option, Some, None, refl, sym, subst}
 use Rattle.wy_core.specs.CoreTree as tree
 use Rattle.wy_core.specs.CoreTree.{Param, Alias, Routine, Core}
 use Rattle.wy_formed.specs.Offers.{offers_of}
 use Rattle.wy_formed.specs.Bound.{IsNewOption}
-use Rattle.wy_assign.specs.Paths.{ClausesPath}
 use Rattle.wy_assign.specs.Assigned.{without_params, without_option, all_unset, result_variable}
 use Rattle.wy_sound_expressions.specs.Names.{also}
 use Rattle.wy_sound_calls.specs.CallLaws.{with_params, nothing_seen, also_if}
@@ -12,7 +11,7 @@ use Rattle.wy_sound_programs.specs.Made.{all_marked}
 use Rattle.wy_sound_types.specs.Tests.{no_variable}
 use Rattle.wy_sound_types.specs.Routines.{with_result}
 use Rattle.wy_sound_marks.specs.Clauses.{ContractsAreReady, TypesAreReady}
-use Rattle.wy_sound_marks.proofs.UseLemmas.{NoUse, given}
+use Rattle.wy_sound_marks.proofs.UseLemmas.{given}
 use Rattle.wy_sound_marks.proofs.MarkedLemmas.{Unmarked, unmarked_one, clauses_marked}
 use Rattle.wy_sound_marks.proofs.DeclLemmas.{unset_routine, unset_alias, bound_alias}
 

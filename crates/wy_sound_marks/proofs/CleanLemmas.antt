@@ -1,7 +1,7 @@
 -- Blocks of which no path uses a variable without a value, and their parts.
-use Rattle.std.proofs.Common.{◌≡◌, ◌⊎◌, inl, inr, ℕ, zero, suc, Bool, List, [], ◌∷◌, ◌++◌, Option, Some, None, refl}
-use Rattle.wy_core.specs.CoreTree.{Expr, Stmt, DeclareStmt, AssignStmt, CallStmt, ReturnStmt, AssertStmt, BreakStmt, ContinueStmt, SkipStmt, FailStmt, IfStmt, WhileStmt, Stmts, NoStmts, MoreStmts}
-use Rattle.wy_assign.specs.Paths.{Event, Uses, Sets, Unsets, End, Falls, Breaks, Continues, Leaves, Through, Course, Nothing, One, Then, ExprPath, ExprsPath, ClausesPath, OptionPath, StepsPath, Ending, Before, Either, InOrder, Around, Turns, Loop, StmtPath, StmtsPath}
+use Rattle.std.proofs.Common.{◌⊎◌, inl, inr, ℕ, Bool, List, [], ◌∷◌, ◌++◌, Some, None, refl}
+use Rattle.wy_core.specs.CoreTree.{Stmt, DeclareStmt, AssignStmt, CallStmt, ReturnStmt, AssertStmt, BreakStmt, ContinueStmt, SkipStmt, FailStmt, IfStmt, WhileStmt, Stmts, NoStmts, MoreStmts}
+use Rattle.wy_assign.specs.Paths.{Event, Uses, Sets, Unsets, End, Falls, Breaks, Continues, Leaves, Through, Course, One, Then, ExprPath, ExprsPath, ClausesPath, OptionPath, StepsPath, Ending, Before, Either, InOrder, Loop, StmtPath, StmtsPath}
 use Rattle.wy_assign.specs.Assigned.{unset_behind, UsesUnset}
 use Rattle.wy_sound_marks.proofs.EventLemmas.{uses_more, uses_left, uses_right}
 use Rattle.wy_sound_marks.proofs.ReadLemmas.{Reading, read_expr, read_exprs, read_clauses, read_option, read_one, read_steps, read_then}

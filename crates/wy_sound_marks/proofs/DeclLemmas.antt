@@ -1,7 +1,7 @@
 -- The declarations of a program: what no path of any does, none of each function, method and type does.
-use Rattle.std.proofs.Common.{◌≡◌, ◌⊎◌, inl, inr, ℕ, zero, suc, List, [], ◌∷◌, Option, Some, None, refl, sym, subst}
+use Rattle.std.proofs.Common.{◌≡◌, inl, inr, ℕ, zero, suc, [], ◌∷◌, Option, Some, None, sym, subst}
 use Rattle.std.specs.Prelude.{slice_get}
-use Rattle.wy_core.specs.CoreTree.{Alias, Routine, Decl, AliasDecl, RoutineDecl, Core, aliases_of, routines_of}
+use Rattle.wy_core.specs.CoreTree.{Alias, Routine, AliasDecl, RoutineDecl, Core, aliases_of, routines_of}
 use Rattle.wy_formed.specs.Offers.{Offers}
 use Rattle.wy_formed.specs.Bound.{BoundAlias, BoundDecls}
 use Rattle.wy_assign.specs.Assigned.{UnsetInRoutine, UnsetIn, IsUnset, OpenIn, IsOpen}

@@ -1,5 +1,5 @@
 -- The marks where a contract or a body begins and at the head of a loop; and variables with marks are among those with terms.
-use Rattle.std.proofs.Common.{◌≡◌, ℕ, zero, suc, ◌<◌, ◌≤◌, List, [], ◌∷◌, length, Bool, true, false, ◌&&◌, if◌then◌else◌, Some, refl, sym, ◌∙◌, arith}
+use Rattle.std.proofs.Common.{ℕ, zero, suc, ◌≤◌, List, [], ◌∷◌, length, Bool, true, false, ◌&&◌, if◌then◌else◌, sym, subst, arith}
 use Rattle.wy_core.specs.CoreTree.{Param, Routine, Stmts}
 use Rattle.wy_term.specs.Term.{Term}
 use Rattle.wy_sem.specs.Statements.{type_at}
@@ -12,6 +12,7 @@ use Rattle.wy_conditions.specs.Spots.{Spot, spot, is_set, mark, assign, with_hyp
 use Rattle.wy_conditions.specs.Assigned.{assigns_in, bound_in}
 use Rattle.wy_conditions.specs.Statements.{Body, words, Renewed, renew_vars, renew_types, renew}
 use Rattle.wy_conditions.specs.Programs.{name_params, assume_params, enter}
+use Rattle.wy_sound_programs.proofs.MarkLemmas.{head_set}
 use Rattle.wy_sound_marks.proofs.MeetLemmas.{Wide}
 
 -- ---- one variable
@@ -34,41 +35,36 @@ put_wide (v ∷ vars) (suc x) t = let g = put_wide vars x t in omega (arith, g)
 
 -- ---- the head of a loop
 
--- no mark is changed, and no fewer variables have terms
-pub record Keeps (p : Spot) (r : Renewed) : Type 0 where
-  pub marks : r.spot.set ≡ p.set
-  pub vars : length p.vars ≤ length r.spot.vars
+-- no fewer variables have terms
+abbrev More : Spot → Renewed → Type 0
+More p r = length p.vars ≤ length r.spot.vars
 
 picked : (P : Renewed → Type 0) (c : Bool) (i j : Renewed) → P i → P j → P (if c then i else j)
 picked P true i j h g = h
 picked P false i j h g = g
 
-keeps_vars : (words : List (List ℕ)) (body : Stmts Node) (x j : ℕ) (p : Spot) (n : ℕ) → Keeps p (renew_vars words body x j p n)
-keeps_vars words body x zero p n = record { marks = refl; vars = omega arith }
-keeps_vars words body x (suc j) p n =
+more_vars : (words : List (List ℕ)) (body : Stmts Node) (x j : ℕ) (p : Spot) (n : ℕ) → More p (renew_vars words body x j p n)
+more_vars words body x zero p n = omega arith
+more_vars words body x (suc j) p n =
     let q : Spot = record p { vars = put p.vars x (val_name (word_at words x) n) } in
-    let new = keeps_vars words body (suc x) j q (suc n) in
     let grown = put_wide p.vars x (val_name (word_at words x) n) in
-    let more = new.vars in
-    picked (Keeps p) (assigns_in x body) (renew_vars words body (suc x) j q (suc n)) (renew_vars words body (suc x) j p n)
-    (record { marks = new.marks; vars = omega (arith, grown, more) }) (keeps_vars words body (suc x) j p n)
+    let more = more_vars words body (suc x) j q (suc n) in
+    picked (More p) (assigns_in x body) (renew_vars words body (suc x) j q (suc n)) (renew_vars words body (suc x) j p n) (omega (arith, grown, more)) (more_vars words body (suc x) j p n)
 
-keeps_types : (b : Body Node) (body : Stmts Node) (x j : ℕ) (p : Spot) (n : ℕ) → Keeps p (renew_types b body x j p n)
-keeps_types b body x zero p n = record { marks = refl; vars = omega arith }
-keeps_types b body x (suc j) p n =
+more_types : (b : Body Node) (body : Stmts Node) (x j : ℕ) (p : Spot) (n : ℕ) → More p (renew_types b body x j p n)
+more_types b body x zero p n = omega arith
+more_types b body x (suc j) p n =
     let f = assume_in_type b.program.setting (type_at b.types x) (variable p.vars x) p.hyps n in
-    let new = keeps_types b body (suc x) j (with_hyps f.hyps p) f.count in
-    picked (Keeps p) (assigns_in x body && is_set p.set x) (renew_types b body (suc x) j (with_hyps f.hyps p) f.count) (renew_types b body (suc x) j p n)
-    (record { marks = new.marks; vars = new.vars }) (keeps_types b body (suc x) j p n)
+    picked (More p) (assigns_in x body && is_set p.set x) (renew_types b body (suc x) j (with_hyps f.hyps p) f.count) (renew_types b body (suc x) j p n)
+    (more_types b body (suc x) j (with_hyps f.hyps p) f.count) (more_types b body (suc x) j p n)
 
-pub keeps_head : (b : Body Node) (body : Stmts Node) (p : Spot) (n : ℕ) → Keeps p (renew b body p n)
-keeps_head b body p n =
+pub head_wide : (b : Body Node) (body : Stmts Node) (p : Spot) (n : ℕ) → Wide p → Wide (renew b body p n).spot
+head_wide b body p n h =
+    let head = renew b body p n in
     let r = renew_vars (words b) body 0 (bound_in body) p n in
-    let first = keeps_vars (words b) body 0 (bound_in body) p n in
-    let second = keeps_types b body 0 (bound_in body) r.spot r.count in
-    let f = first.vars in
-    let s = second.vars in
-    record { marks = second.marks ∙ first.marks; vars = omega (arith, f, s) }
+    let first = more_vars (words b) body 0 (bound_in body) p n in
+    let second = more_types b body 0 (bound_in body) r.spot r.count in
+    subst (λ (s : List Bool). length s ≤ length head.spot.vars) (sym (head_set b body p n)) (omega (arith, h, first, second))
 
 -- ---- the entry
 

@@ -1,7 +1,7 @@
 -- An expression of which no path uses a variable without a value, and which is well made but for variables, is so with its variables.
-use Rattle.std.proofs.Common.{◌≡◌, ◌⊎◌, inl, inr, ℕ, Bool, true, false, cond, ◌||◌, ◌==◌, eqb-true, List, [], ◌∷◌, refl, sym, ap, ◌∙◌, subst, arith}
+use Rattle.std.proofs.Common.{◌≡◌, ℕ, Bool, true, false, cond, ◌||◌, ◌==◌, eqb-true, List, [], ◌∷◌, refl, sym, ap, ◌∙◌, subst, arith}
 use Rattle.wy_core.specs.CoreTree.{Expr, NullExpr, BoolExpr, IntExpr, VarExpr, CallExpr, NegExpr, NotExpr, LenExpr, BinaryExpr, IsExpr, IndexExpr, FieldExpr, ListExpr, RepeatExpr, RecordExpr, QuantExpr, Exprs, NoExprs, MoreExprs, Fields, NoFields, MoreFields}
-use Rattle.wy_assign.specs.Paths.{Sets, Through, One, Then, Maybe, AnyTimes, is_early, ExprPath, ExprsPath, FieldsPath, ClausesPath}
+use Rattle.wy_assign.specs.Paths.{Sets, One, Then, Maybe, AnyTimes, is_early, ExprPath, ExprsPath, FieldsPath, ClausesPath}
 use Rattle.wy_sound_kinds.specs.Ready.{Rules, with_one, Ready, AllReady, FieldsReady}
 use Rattle.wy_sound_fits.specs.Fit.{ClausesReady}
 use Rattle.wy_sound_marks.proofs.EventLemmas.{never}

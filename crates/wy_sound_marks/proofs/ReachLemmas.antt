@@ -1,5 +1,5 @@
 -- Paths lead to each point of a walk, on which the variables that aren't marked there have no value.
-use Rattle.std.proofs.Common.{◌≡◌, ℕ, ◌+◌, ◌≤◌, List, [], ◌∷◌, ◌++◌, length, Bool, true, false, Option, Some, None, refl, sym, ap, subst, arith}
+use Rattle.std.proofs.Common.{ℕ, ◌+◌, List, [], ◌∷◌, ◌++◌, Bool, true, false, Option, Some, None, refl, subst}
 use Rattle.wy_core.specs.CoreTree.{Expr, Step, Stmt, DeclareStmt, AssignStmt, CallStmt, ReturnStmt, AssertStmt, BreakStmt, ContinueStmt, SkipStmt, FailStmt, IfStmt, WhileStmt, Stmts, NoStmts, MoreStmts}
 use Rattle.wy_term.specs.declared.cond.CondKind.TheVariants as kind
 use Rattle.wy_conditions.specs.Sizes.{exprs_in, exprs_in_list, exprs_in_stmt, exprs_in_block}
@@ -7,12 +7,13 @@ use Rattle.wy_conditions.specs.Numbered.{Node, numbered, numbered_list, numbered
 use Rattle.wy_conditions.specs.Clauses.{owe_clauses}
 use Rattle.wy_conditions.specs.Spots.{Spot, Flow, mark, as_list, with_hyps, go_on, followed}
 use Rattle.wy_conditions.specs.Statements.{Body, words, expr, renew, walk_clauses, keep, where_true, where_false, exec, exec_all}
-use Rattle.wy_assign.specs.Paths.{Event, Uses, Sets, Unsets, End, Falls, Breaks, Continues, Leaves, Course, Nothing, One, Then, ExprPath, ExprsPath, ClausesPath, StepsPath, Ending, Before, Either, InOrder, Loop, StmtPath, StmtsPath}
+use Rattle.wy_assign.specs.Paths.{Uses, Sets, Unsets, End, Falls, Breaks, Course, One, Then, ExprPath, ExprsPath, ClausesPath, StepsPath, Before, Either, InOrder, Loop, StmtPath, StmtsPath}
+use Rattle.wy_sound_programs.proofs.MarkLemmas.{head_set}
 use Rattle.wy_sound_marks.proofs.ReadLemmas.{read_one, read_then, read_expr, read_exprs, read_clauses, read_steps}
-use Rattle.wy_sound_marks.proofs.WayLemmas.{Way, way_reads, way_nothing, way_event, way_less, way_order, way_first, way_before, way_left, way_right, way_past, way_broken}
+use Rattle.wy_sound_marks.proofs.WayLemmas.{way_reads, way_nothing, way_event, way_less, way_order, way_first, way_before, way_left, way_right, way_past, way_broken}
 use Rattle.wy_sound_marks.proofs.MarkLemmas.{unmarked, declared_unset, assigned_unset, assigned_less}
 use Rattle.wy_sound_marks.proofs.MeetLemmas.{Leads, Wide, Reached, ReachedIf, AllReached, reach_if, reach_all, reach_list, reach_both, meet_reached}
-use Rattle.wy_sound_marks.proofs.HeadLemmas.{mark_wide, Keeps, keeps_head}
+use Rattle.wy_sound_marks.proofs.HeadLemmas.{mark_wide, head_wide}
 
 -- paths lead behind the flow and to its `break`s
 pub record Exits (C : Course) (set : List Bool) (f : Flow) : Type 0 where
@@ -105,10 +106,8 @@ module _ (b : Body Node) where
         let v = expr b (numbered e k) head.spot.vars inside.hyps inside.count in
         let turn = exec_all b clauses inner (where_true v head.spot) v.count in
         let kept = keep b at clauses turn.ends turn.count in
-        let keeps = keeps_head b inner (with_hyps entry.hyps p) entry.count in
-        let same : head.spot.set ≡ p.set = keeps.marks in
-        let more : length p.vars ≤ length head.spot.vars = keeps.vars in
-        let wide : Wide head.spot = subst (λ (s : List Bool). length s ≤ length head.spot.vars) (sym same) (omega (arith, h, more)) in
+        let same = head_set b inner (with_hyps entry.hyps p) entry.count in
+        let wide = head_wide b inner (with_hyps entry.hyps p) entry.count h in
         let r = reaches_all body (k + exprs_in e + exprs_in_list invariants) clauses (where_true v head.spot) v.count wide in
         let A = Then (ClausesPath invariants) (ExprPath e) in
         let C = Loop A (λ q i. StmtsPath body q i) in

@@ -1,8 +1,8 @@
 -- Where no path uses a variable without a value, none through a part does.
-use Rattle.std.proofs.Common.{◌≡◌, ◌⊎◌, inl, inr, ℕ, Bool, true, false, cond, ◌==◌, List, [], ◌∷◌, ◌++◌, refl, sym, subst, arith}
+use Rattle.std.proofs.Common.{◌≡◌, inl, inr, ℕ, Bool, true, false, cond, ◌==◌, List, [], ◌∷◌, ◌++◌, refl, sym, subst, arith}
 use Rattle.std.proofs.lemmas.List.{append-nil}
 use Rattle.wy_assign.specs.Paths.{Event, Uses, Sets, Through, One, Then, Maybe, AnyTimes}
-use Rattle.wy_assign.specs.Assigned.{unset_behind, UsesUnset, SomeUse}
+use Rattle.wy_assign.specs.Assigned.{UsesUnset, SomeUse}
 use Rattle.wy_sound_marks.proofs.EventLemmas.{uses_left, uses_right, unset_reads}
 use Rattle.wy_sound_marks.proofs.ReadLemmas.{Reading}
 

@@ -1,6 +1,6 @@
 -- Paths on which a variable has no value behind them: of courses, by their parts.
-use Rattle.std.proofs.Common.{◌≡◌, ◌⊎◌, inl, inr, ℕ, zero, suc, Bool, true, false, List, [], ◌∷◌, ◌++◌, refl, sym, ◌∙◌, subst}
-use Rattle.wy_assign.specs.Paths.{Event, Uses, Sets, Unsets, End, Falls, Breaks, Continues, Leaves, Through, Course, Nothing, One, Then, Ending, Before, Either, InOrder, Around, Turns, Loop}
+use Rattle.std.proofs.Common.{◌≡◌, inl, inr, ℕ, Bool, true, List, [], ◌∷◌, ◌++◌, refl, sym, ◌∙◌, subst}
+use Rattle.wy_assign.specs.Paths.{Event, End, Falls, Breaks, Through, Course, Nothing, One, Then, Ending, Before, Either, InOrder, Loop}
 use Rattle.wy_assign.specs.Assigned.{unset_behind}
 use Rattle.wy_sound_marks.proofs.EventLemmas.{unset_more, unset-append, unset_reads}
 use Rattle.wy_sound_marks.proofs.ReadLemmas.{Reading}

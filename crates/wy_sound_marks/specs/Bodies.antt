@@ -1,5 +1,5 @@
 -- Bodies of assigned programs: along the walk of their conditions each variable that is used is marked, and the walk of a body with a result doesn't get to its end.
-use Rattle.std.specs.Prelude.{◌≡◌, ℕ, List, [], Some, slice_get}
+use Rattle.std.specs.Prelude.{◌≡◌, ℕ, [], Some, slice_get}
 use Rattle.wy_core.specs.CoreTree.{Routine, Core, routines_of}
 use Rattle.wy_assign.specs.Assigned.{IsAssigned}
 use Rattle.wy_conditions.specs.Numbered.{Node, numbered_routine}

@@ -1,0 +1,56 @@
+-- Whatever names a condition is read by, its types have the data that they have by the semantics.
+use Rattle.std.proofs.Common.{◌≡◌, ◌<◌, ℕ, Bool, true, List, [], ◌∷◌, length, map, refl, sym, ap, ◌∙◌}
+use Rattle.std.proofs.lemmas.Bool.{or_left, or_right}
+use Rattle.std.specs.Prelude.{eqb}
+use Rattle.wy_value.specs.Datum.{Datum}
+use Rattle.wy_core.specs.Types.{Ty, NamedTy}
+use Rattle.wy_core.specs.CoreTree.{Core}
+use Rattle.wy_term.specs.Meaning.{Names}
+use Rattle.wy_term.specs.Condition.{Entry, AreUnfolded}
+use Rattle.wy_term.proofs.SameLemmas.{eqb_self}
+use Rattle.wy_grounded.specs.Readings.{with_members, AlikeOn}
+use Rattle.wy_grounded.proofs.UniqueLemmas.{one_reading}
+use Rattle.wy_grounded_conditions.proofs.ReachLemmas.{listed_below}
+use Rattle.wy_grounded_conditions.proofs.GroundedLemmas.{grounded}
+use Rattle.wy_conditions.specs.Numbered.{Node}
+use Rattle.wy_conditions.specs.Owed.{Owed}
+use Rattle.wy_conditions.specs.Values.{Setting}
+use Rattle.wy_conditions.specs.Limits.{is_among, types_of, unfolded, unfold_of}
+use Rattle.wy_conditions.specs.Programs.{conditions_of}
+use Rattle.wy_formed_conditions.specs.OwedConditions.{with_types}
+use Rattle.wy_sound_members.specs.Members.{MeetFormulas}
+use Rattle.wy_sound_members.specs.Laws.{told_by}
+use Rattle.wy_sound_members.proofs.MemberLemmas.{some_meet}
+use Rattle.wy_sound.specs.Sound.{Shown}
+use Rattle.wy_sound.specs.Readings.{TellMembers, AllTellMembers, ConditionsTellMembers}
+use Rattle.wy_sound.proofs.SoundLemmas.{member_is}
+
+-- data that meet the formulas of all types meet those of listed types
+all_unfolded : (s : Setting Node) (names : Names) (members : ℕ → Datum → Bool) → MeetFormulas s members → names.is_member ≡ members → (ns : List ℕ) → ((n : ℕ) → is_among ns n ≡ true → n < length s.types) → AreUnfolded names (map (unfolded s) ns)
+all_unfolded s names members meet right [] below = tt
+all_unfolded s names members meet right (n ∷ ns) below = (
+  λ d. ap (λ (m : ℕ → Datum → Bool). m n d) right ∙ meet.told n (below n (or_left (eqb n n) (is_among ns n) (eqb_self n))) names right d,
+  all_unfolded s names members meet right ns (λ m t. below m (or_right (eqb n m) (is_among ns m) t)),
+)
+
+module _ (core : Core ℕ) (flow : List Ty) (shown : Shown core flow) (members : ℕ → Datum → Bool) (meet : MeetFormulas (told_by core flow) members) (place : ℕ → ℕ) where
+  abbrev s : Setting Node
+  s = told_by core flow
+
+  alike_tell : (names : Names) (es : List Entry) → AlikeOn es names (with_members names members) → TellMembers place core names es
+  alike_tell names [] h = tt
+  alike_tell names (e ∷ es) h = (λ d b. h.0 d ∙ sym (member_is core flow shown members meet place d b (NamedTy e.type_number)), alike_tell names es h.1)
+
+  all_tell : (cs : List Owed) → AllTellMembers place core (map (with_types s) cs)
+  all_tell [] = tt
+  all_tell (c ∷ cs) = (
+    λ names h.
+        alike_tell names (unfold_of s c)
+        (one_reading (unfold_of s c) (grounded core shown.formed.bound shown.formed.recursion flow c) names (with_members names members) h
+        (all_unfolded s (with_members names members) members meet refl (types_of s c) (λ n t. listed_below s c n t))),
+    all_tell cs,
+  )
+
+pub conditions_tell : ConditionsTellMembers
+conditions_tell place core flow shown =
+    let some = some_meet core flow shown.formed.bound shown.formed.recursion in all_tell core flow shown some.0 some.1 place (conditions_of core flow)
