@@ -5,7 +5,7 @@ use Rattle.std.proofs.lemmas.Bool.Decides.{nat_tests}
 use Rattle.wy_core.specs.CoreTree as tree
 use Rattle.wy_core.specs.CoreTree.{Expr, Param, Alias, Decl, AliasDecl, RoutineDecl, Core, aliases_of, routines_of}
 use Rattle.wy_formed.specs.Offers.{Offers, offers_of}
-use Rattle.wy_formed.specs.Bound.{Scope, Has, BoundExpr, BoundClauses, BoundAlias, BoundRoutine, BoundDecls, with_params}
+use Rattle.wy_formed.specs.Bound.{Scope, Has, BoundExpr, BoundClauses, IsNewOption, with_option, BoundAlias, BoundRoutine, BoundDecls, with_params}
 use Rattle.wy_formed.specs.Formed.{Formed}
 use Rattle.wy_code.specs.declared.instructions.Instr.{Instr}
 use Rattle.wy_code.specs.declared.instructions.Instr.TheVariants as instr
@@ -175,6 +175,11 @@ module _ (core : Core ℕ) (loose : Bool) where
 
   -- ---- tests of types
 
+  -- clauses that speak of one variable
+  abbrev ClauseFits : ℕ → ℕ → List (Expr ℕ) → Type 0
+  ClauseFits n x [] = Unit {0}
+  ClauseFits n x (e ∷ es) = Fits c n L e (λ r. r ≡ x) × ClauseFits n x es
+
   module _ (f n x : ℕ) (tells : Tells t f c n L) (xn : x < n) (body : List Instr) where
     abbrev U : ℕ → Type 0
     U r = r ≡ x
@@ -194,17 +199,14 @@ module _ (core : Core ℕ) (loose : Bool) where
     abbrev Comes : ℕ → ℕ → Type 0
     Comes m p = Lives body t f p (Vars s) × Sure body t f m p (Vars s)
 
-    FitsClauses : List (Expr ℕ) → Type 0
-    unfolding
-    FitsClauses [] = Unit {0}
-    FitsClauses (e ∷ es) = Fits c n L e U × FitsClauses es
+    abbrev FitsClauses : List (Expr ℕ) → Type 0
+    FitsClauses es = ClauseFits n x es
 
     clauses_some : (e : Expr ℕ) (es : List (Expr ℕ)) → Fits c n L e U → clauses_steps c (e ∷ es) s n ≡ [] → ⊥
     clauses_some e es fit g = front_some body c n L (code c e s n) (fork n (clauses_steps c es s n) []) (code_some body c n L e U s n fit) g
 
     -- the value of a clause that isn't the last is tested, and the last is a truth value by its form
     tested : (e : Expr ℕ) (es : List (Expr ℕ)) → FitsClauses (e ∷ es) → LastTruth L (e ∷ es) → ((is_plain e ≡ true) ⊎ L) ⊎ (clauses_steps c es s n ≡ [] → ⊥)
-    unfolding FitsClauses
     tested e [] fit last = inl last
     tested e (d ∷ es) fit last = inr (clauses_some d es fit.1.0)
 
@@ -213,7 +215,6 @@ module _ (core : Core ℕ) (loose : Bool) where
     last_of e (d ∷ es) last = last
 
     clauses_ready : (es : List (Expr ℕ)) → FitsClauses es → LastTruth L es → (m p next : ℕ) → Spans body p (clauses_steps c es s n) next → Comes m next → Comes m p
-    unfolding FitsClauses
     clauses_ready [] fit last m p next h exit = let e = sym (ended body p next h) in (lives_at body t f next p (Vars s) e exit.0, safe_at body t f m next p (Vars s) e exit.1)
     clauses_ready (e ∷ es) fit last m p next h exit =
         let more = clauses_steps c es s n in
@@ -270,3 +271,102 @@ module _ (core : Core ℕ) (loose : Bool) where
         test_lives : (r : ℕ) → t.untold f r ≡ false → Vars s r → Lives body t f (0 + length (taken x) + length (test c a.ty x n (suc n))) (Vars s) → LiveAt body (0 + length (taken x)) r
         test_lives r u v l = test_live body c a.ty x n (suc n) (0 + length (taken x)) (0 + length (taken x) + length (test c a.ty x n (suc n))) r (front body (0 + length (taken x)) (test c a.ty x n (suc n)) (fork n (clauses_steps c a.clauses s n) [] ++ (dropped x (suc n) ++ Does (instr.Return n) ∷ [])) next
             (back body 0 (taken x) (test c a.ty x n (suc n) ++ (fork n (clauses_steps c a.clauses s n) [] ++ (dropped x (suc n) ++ Does (instr.Return n) ∷ []))) next h)) (let e = is_x r v in omega (arith, e, xn)) (less_not r n (let e = is_x r v in omega (arith, e, xn))) (l r u v)
+
+  fits_clauses : (n x : ℕ) (es : List (Expr ℕ)) → BoundClauses (offers_of core) n (x ∷ []) es → TruthsClauses L es → ClauseFits n x es
+  fits_clauses n x [] b tr = tt
+  fits_clauses n x (e ∷ es) b tr =
+      (fits_expr core (offers_of core) refl c refl n L (λ r. ⊥) e (x ∷ []) (λ r. r ≡ x) ((λ r h. either (λ k. sym k) (λ k. absurd k) h), (λ r w. inr (inl (sym w)))) b.0 tr.0 (λ y k z. z), fits_clauses n x es b.1 tr.1)
+
+  -- the variable of a type has a register, and its clauses fit
+  variable_fits : (v : Option ℕ) (k : ℕ) (es : List (Expr ℕ)) → IsNewOption k [] v → BoundClauses (offers_of core) k (with_option [] v) es → NamesIts v es → TruthsClauses L es → (variable_of v < max 1 k) × ClauseFits (max 1 k) (variable_of v) es
+  variable_fits None k es new b names tr = (omega arith, subst (λ (z : List (Expr ℕ)). ClauseFits (max 1 k) 0 z) (sym names) tt)
+  variable_fits (Some x) k es new b names tr =
+      let l = new.0 in
+      let same : k ≡ max 1 k = omega (arith, l) in
+      (omega (arith, l), subst (λ (z : ℕ). ClauseFits z x es) same (fits_clauses k x es b tr))
+
+  type_safe : (f : ℕ) (a : Alias ℕ) → size_at f ≡ max 1 (length a.variables) → BoundAlias (offers_of core) a → NamesIts a.variable a.clauses → TruthsClauses L a.clauses → LastTruth L a.clauses → (m : ℕ) → Safe t f (type_routine c a).body m 0 (λ x. x < 1)
+  type_safe f a e bound names truths last m =
+      let x = variable_of a.variable in let n = max 1 (length a.variables) in
+      let all = type_steps_at c a x n in
+      let body = placed 0 all in
+      let fits = variable_fits a.variable (length a.variables) a.clauses bound.variable bound.clauses names truths in
+      safe_less t f body m 0 (λ r. r < 1) (Told_of body t f (λ r. r < 1)) (λ r l. inl l)
+      (type_body_safe f n x (tells_at f n e) fits.0 body a fits.1 last (0 + length all) m (placed_stand all, refl))
+
+  -- ---- all of them
+
+  abbrev RoutineFits : tree.Routine ℕ → Type 0
+  RoutineFits r = BoundRoutine (offers_of core) r × InOrder 0 r.params × ((x : ℕ) → CountsStmts r.body x → IsDeclared r x → ⊥) × TruthsStmts L r.body
+
+  abbrev TypeFits : Alias ℕ → Type 0
+  TypeFits a = BoundAlias (offers_of core) a × NamesIts a.variable a.clauses × TruthsClauses L a.clauses × LastTruth L a.clauses
+
+  abbrev AllRoutines : List (tree.Routine ℕ) → Type 0
+  AllRoutines [] = Unit {0}
+  AllRoutines (r ∷ rs) = RoutineFits r × AllRoutines rs
+
+  abbrev AllTypes : List (Alias ℕ) → Type 0
+  AllTypes [] = Unit {0}
+  AllTypes (a ∷ more) = TypeFits a × AllTypes more
+
+  all_routines : (ds : List (Decl ℕ)) → BoundDecls (offers_of core) ds → AllInOrder (routines_of ds) → OwnCounters (routines_of ds) → TruthsRoutines L (routines_of ds) → AllRoutines (routines_of ds)
+  all_routines [] b order own truths = tt
+  all_routines (AliasDecl a ∷ ds) b order own truths = all_routines ds b.1 order own truths
+  all_routines (RoutineDecl r ∷ ds) b order own truths = ((b.0, order.0, own.0, truths.0), all_routines ds b.1 order.1 own.1 truths.1)
+
+  all_types : (ds : List (Decl ℕ)) → BoundDecls (offers_of core) ds → ((k : ℕ) → k < length (aliases_of ds) → NamesIts (alias_at (aliases_of ds) k).variable (alias_at (aliases_of ds) k).clauses) → TruthsTypes L (aliases_of ds) → AllTypes (aliases_of ds)
+  all_types [] b names truths = tt
+  all_types (AliasDecl a ∷ ds) b names truths = ((b.0, names 0 (omega arith), truths.0, truths.1), all_types ds b.1 (λ k l. names (suc k) (omega (arith, l))) truths.2)
+  all_types (RoutineDecl r ∷ ds) b names truths = all_types ds b.1 names truths
+
+  -- the routine with a number is that of a function or method, or tests a type
+  record IsBody (rs : List (tree.Routine ℕ)) (more : List (Alias ℕ)) (f : ℕ) (q : Routine) : Type 0 where
+    pub routine : tree.Routine ℕ
+    pub same : body_routine c routine ≡ q
+    pub size : variables_in rs more f ≡ length routine.variables
+    pub result : result_at (results_of rs) f ≡ is_some routine.result
+    pub fits : RoutineFits routine
+
+  record IsTest (rs : List (tree.Routine ℕ)) (more : List (Alias ℕ)) (f : ℕ) (q : Routine) : Type 0 where
+    pub alias : Alias ℕ
+    pub same : type_routine c alias ≡ q
+    pub size : variables_in rs more f ≡ max 1 (length alias.variables)
+    pub fits : TypeFits alias
+
+  no_routine : {X : Type 0} (q : Routine) → None ≡ Some q → X
+  no_routine q e = absurd cc
+
+  this_routine : (p q : Routine) → Some p ≡ Some q → p ≡ q
+  this_routine p q e = cc
+
+  test_at : (more : List (Alias ℕ)) (f : ℕ) (q : Routine) → AllTypes more → slice_get (type_routines c more) f ≡ Some q → IsTest [] more f q
+  test_at [] f q fits e = no_routine q e
+  test_at (a ∷ more) zero q fits e = record { alias = a; same = this_routine (type_routine c a) q e; size = refl; fits = fits.0 }
+  test_at (a ∷ more) (suc f) q fits e = let k = test_at more f q fits.1 e in record { alias = k.alias; same = k.same; size = k.size; fits = k.fits }
+
+  routine_at : (rs : List (tree.Routine ℕ)) (more : List (Alias ℕ)) (f : ℕ) (q : Routine) → AllRoutines rs → AllTypes more → slice_get (body_routines c rs ++ type_routines c more) f ≡ Some q → IsBody rs more f q ⊎ IsTest rs more f q
+  routine_at [] more f q one two e = inr (test_at more f q two e)
+  routine_at (r ∷ rs) more zero q one two e = inl (record { routine = r; same = this_routine (body_routine c r) q e; size = refl; result = refl; fits = one.0 })
+  routine_at (r ∷ rs) more (suc f) q one two e =
+      either (λ k. inl (record { routine = k.routine; same = k.same; size = k.size; result = k.result; fits = k.fits })) (λ k. inr (record { alias = k.alias; same = k.same; size = k.size; fits = k.fits })) (routine_at rs more f q one.1 two e)
+
+  pub program_safe : Asked core → TruthsByForm L core → SafeCode t (code_of core)
+  program_safe asked truths f q is m =
+      either
+      (λ k. let fits = k.fits in subst (λ (z : Routine). Safe t f z.body m 0 (λ x. x < z.params)) k.same (body_safe f k.routine k.size k.result fits.0 fits.1 fits.2 fits.3 m))
+      (λ k. let fits = k.fits in subst (λ (z : Routine). Safe t f z.body m 0 (λ x. x < z.params)) k.same (type_safe f k.alias k.size fits.0 fits.1 fits.2 fits.3 m))
+      (routine_at (routines_of core) (aliases_of core) f q
+          (all_routines core asked.formed.bound asked.order asked.counters truths.0) (all_types core asked.formed.bound asked.names truths.1) is)
+
+-- ---- the laws
+
+module _ (L : Type 0) where
+  use_it : (l : L) (core : Core ℕ) → TruthsByForm L core
+  use_it l core = (routines_loose L l (routines_of core), types_loose L l (aliases_of core))
+
+pub no_dead_variable : NoDeadVariableIsKept
+no_dead_variable core asked f vs n = safe_runs (told_of core true) (code_of core) (program_safe core true asked (use_it (true ≡ true) refl core)) f vs n
+
+pub nothing_dead : NothingDeadIsKept
+nothing_dead core asked truths f vs n = safe_runs (told_of core false) (code_of core) (program_safe core false asked truths) f vs n

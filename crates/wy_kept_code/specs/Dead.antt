@@ -205,8 +205,8 @@ told_of core loose = record {
   results = (λ f. loose || result_at (results_of (routines_of core)) f)
 }
 
-abbrev pub Runs_keep : Core ℕ → Bool → Type 0
-Runs_keep core loose = (f : ℕ) (vs : List Datum) (n : ℕ) → KeepsNothing (told_of core loose) (code_of core) (after (code_of core) n (start (code_of core) f vs))
+abbrev pub RunsKeep : Core ℕ → Bool → Type 0
+RunsKeep core loose = (f : ℕ) (vs : List Datum) (n : ℕ) → KeepsNothing (told_of core loose) (code_of core) (after (code_of core) n (start (code_of core) f vs))
 
 -- what is asked of each program
 pub record Asked (core : Core ℕ) : Type 0 where
@@ -217,8 +217,8 @@ pub record Asked (core : Core ℕ) : Type 0 where
 
 -- in each run of the code, on whatever arguments, whenever the next instruction of a frame is no `Clear`: each register of the frame that holds a list or a record is live at the frame's place, where each truth value that nothing tests is one by its form
 abbrev pub NothingDeadIsKept : Type 0
-NothingDeadIsKept = (core : Core ℕ) → Asked core → TruthsByForm ⊥ core → Runs_keep core false
+NothingDeadIsKept = (core : Core ℕ) → Asked core → TruthsByForm (false ≡ true) core → RunsKeep core false
 
 -- in each program, the register of each variable that holds a list or a record is
 abbrev pub NoDeadVariableIsKept : Type 0
-NoDeadVariableIsKept = (core : Core ℕ) → Asked core → Runs_keep core true
+NoDeadVariableIsKept = (core : Core ℕ) → Asked core → RunsKeep core true
