@@ -13,7 +13,7 @@ use Rattle.wy_tables.specs.declared.targets.Target.{Target}
 use Rattle.wy_tables.specs.declared.targets.Target.TheVariants.{Declared, Prints, PrintsInt, Nothing}
 use Rattle.wy_tables.specs.Tables.{target, results_of}
 use Rattle.wy_compiled.specs.Expressions.{is_plain, count_of}
-use Rattle.wy_kept_code.specs.Fitting.{Checked, IsValue, Fits, FitAll, FitFields, FitsOption, FitsPath, IsAction, MayGive, SomeCode, FitsStmt, FitsStmts}
+use Rattle.wy_kept_code.specs.Fitting.{Settled, SettledOption, SettledAt, Checked, IsValue, Fits, FitAll, FitFields, FitsOption, FitsPath, IsAction, MayGive, SomeCode, FitsStmt, FitsStmts}
 use Rattle.wy_kept_code.specs.Dead.{Counts, CountsAll, CountsFields, CountsOption, CountsPath, CountsStmt, CountsStmts, Declares, DeclaresIn, IsParam, Truths, TruthsAll, TruthsFields, TruthsOption, TruthsPath, TruthsStmt, TruthsStmts, LastTruth, TruthsClauses, TruthsTypes, TruthsRoutines}
 use Rattle.wy_kept_code.proofs.PieceLemmas.{either}
 
@@ -80,10 +80,13 @@ module _ (ds : List (Decl ℕ)) (o : Offers) (offers : o.routines ≡ signatures
       fits_expr (ListExpr at items) vs W both b tr own = fits_all items vs W both b tr own
       fits_expr (RepeatExpr at a d) vs W both b tr own = (fits_expr a vs W both b.0 tr.0 (λ x k. own x (inl k)), fits_expr d vs W both b.1 tr.1 (λ x k. own x (inr k)))
       fits_expr (RecordExpr at fs) vs W both b tr own = fits_fields fs vs W both b.1 tr own
-      fits_expr (QuantExpr at all y a d body) vs W both b tr own =
-          (fits_expr a vs W both b.1 tr.0 (λ x k. own x (inr (inl k))), fits_expr d vs W both b.2 tr.1 (λ x k. own x (inr (inr (inl k)))),
-          (λ w. either (λ u. own y (inl refl) u) (λ h. b.0.1 h) (both.1 y w)), b.0.0,
-          fits_expr body (y ∷ vs) (λ r. W r ⊎ (r ≡ y)) (both_more vs W y both) b.3 tr.2 (λ x k. own x (inr (inr (inr k)))))
+      fits_expr (QuantExpr at all y a d body) vs W both b tr own = (
+        fits_expr a vs W both b.1 tr.0 (λ x k. own x (inr (inl k))),
+        fits_expr d vs W both b.2 tr.1 (λ x k. own x (inr (inr (inl k)))),
+        (λ w. either (λ u. own y (inl refl) u) (λ h. b.0.1 h) (both.1 y w)),
+        b.0.0,
+        fits_expr body (y ∷ vs) (λ r. W r ⊎ (r ≡ y)) (both_more vs W y both) b.3 tr.2 (λ x k. own x (inr (inr (inr k)))),
+      )
 
       pub fits_all : (es : Exprs ℕ) (vs : Scope) (W : ℕ → Type 0) → Both vs W → BoundExprs o n vs es → TruthsAll L es → ((x : ℕ) → CountsAll es x → U x → ⊥) → FitAll c n L es W
       fits_all NoExprs vs W both b tr own = tt
@@ -127,8 +130,8 @@ module _ (ds : List (Decl ℕ)) (o : Offers) (offers : o.routines ≡ signatures
 
       mutual
         pub fits_stmt : (st : Stmt ℕ) (a : Around) (vs : Scope) → ((r : ℕ) → Has vs r → U r) → ((x : ℕ) → Declares st x → U x) → (a.has_result ≡ true → R) → BoundStmt o n a vs st → TruthsStmt L st → ((x : ℕ) → CountsStmt st x → U x → ⊥) → FitsStmt c n L R st U
-        fits_stmt (DeclareStmt at ty y value) a vs inside dec gives b tr own = (dec y refl, fits_option value vs inside b.1 tr own)
-        fits_stmt (AssignStmt at y path e) a vs inside dec gives b tr own = (inside y b.0, fits_path path vs inside b.1 tr.0 (λ x k. own x (inl k)), fits_expr e vs U (own_scope vs inside) b.2 tr.1 (λ x k. own x (inr k)))
+        fits_stmt (DeclareStmt at ty y value) a vs inside dec gives b tr own = (dec y refl, fits_option value vs inside b.1 tr.0 own, tr.1)
+        fits_stmt (AssignStmt at y path e) a vs inside dec gives b tr own = (inside y b.0, fits_path path vs inside b.1 tr.0 (λ x k. own x (inl k)), fits_expr e vs U (own_scope vs inside) b.2 tr.1 (λ x k. own x (inr k)), tr.2)
         fits_stmt (CallStmt at g args) a vs inside dec gives b tr own = (calls_action g (count_of args) false (subst (λ (k : ℕ). IsCall o false g k) (same_count args) b.0), fits_all args vs U (own_scope vs inside) b.1 tr own)
         fits_stmt (ReturnStmt at value) a vs inside dec gives b tr own = (fits_option value vs inside b.1 tr own, may_give value a.has_result b.0 gives)
         fits_stmt (AssertStmt at e) a vs inside dec gives b tr own = tt
@@ -143,9 +146,10 @@ module _ (ds : List (Decl ℕ)) (o : Offers) (offers : o.routines ≡ signatures
 
         pub fits_stmts : (ss : Stmts ℕ) (a : Around) (vs : Scope) → ((r : ℕ) → Has vs r → U r) → ((x : ℕ) → DeclaresIn ss x → U x) → (a.has_result ≡ true → R) → BoundStmts o n a vs ss → TruthsStmts L ss → ((x : ℕ) → CountsStmts ss x → U x → ⊥) → FitsStmts c n L R ss U
         fits_stmts NoStmts a vs inside dec gives b tr own = tt
-        fits_stmts (MoreStmts st rest) a vs inside dec gives b tr own =
-            (fits_stmt st a vs inside (λ x k. dec x (inl k)) gives b.0 tr.0 (λ x k. own x (inl k)),
-            fits_stmts rest a (behind vs st) (λ r h. behind_inside st vs inside (λ x k. dec x (inl k)) r h) (λ x k. dec x (inr k)) gives b.1 tr.1 (λ x k. own x (inr k)))
+        fits_stmts (MoreStmts st rest) a vs inside dec gives b tr own = (
+          fits_stmt st a vs inside (λ x k. dec x (inl k)) gives b.0 tr.0 (λ x k. own x (inl k)),
+          fits_stmts rest a (behind vs st) (λ r h. behind_inside st vs inside (λ x k. dec x (inl k)) r h) (λ x k. dec x (inr k)) gives b.1 tr.1 (λ x k. own x (inr k)),
+        )
 
 -- ---- declared variables have registers
 
@@ -186,13 +190,21 @@ module _ (L : Type 0) (l : L) where
   checked_loose op.Mul b = tt
   checked_loose op.Div b = tt
   checked_loose op.Mod b = tt
-  checked_loose op.Equal b = tt
+  checked_loose op.Equal b = inr l
   checked_loose op.Less b = tt
   checked_loose op.LessEqual b = tt
   checked_loose op.Greater b = tt
   checked_loose op.GreaterEqual b = tt
-  checked_loose op.And b = inr l
-  checked_loose op.Or b = inr l
+  checked_loose op.And b = tt
+  checked_loose op.Or b = tt
+
+  settled_option : (value : Option (Expr ℕ)) → SettledOption value L
+  settled_option None = tt
+  settled_option (Some e) = inr l
+
+  settled_at : (path : List (Step ℕ)) (e : Expr ℕ) → SettledAt path e L
+  settled_at [] e = inr l
+  settled_at (step ∷ path) e = tt
 
   mutual
     truths_loose : (e : Expr ℕ) → Truths L e
@@ -232,8 +244,8 @@ module _ (L : Type 0) (l : L) where
 
   mutual
     stmt_loose : (st : Stmt ℕ) → TruthsStmt L st
-    stmt_loose (DeclareStmt at ty y value) = option_loose value
-    stmt_loose (AssignStmt at y path e) = (path_loose path, truths_loose e)
+    stmt_loose (DeclareStmt at ty y value) = (option_loose value, settled_option value)
+    stmt_loose (AssignStmt at y path e) = (path_loose path, truths_loose e, settled_at path e)
     stmt_loose (CallStmt at g args) = all_loose args
     stmt_loose (ReturnStmt at value) = option_loose value
     stmt_loose (AssertStmt at e) = tt

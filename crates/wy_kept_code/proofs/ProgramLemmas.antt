@@ -33,7 +33,7 @@ use Rattle.wy_kept_registers.specs.Keeping.{IsNone}
 use Rattle.wy_kept_code.specs.Alive.{IsOne, LiveAt}
 use Rattle.wy_kept_code.specs.Safe.{Told, Safe, SafeCode}
 use Rattle.wy_kept_code.specs.Telling.{Tells}
-use Rattle.wy_kept_code.specs.Fitting.{Fits, FitsStmts}
+use Rattle.wy_kept_code.specs.Fitting.{is_sure, Fits, FitsStmts}
 use Rattle.wy_kept_code.specs.Dead.{CountsStmts, DeclaresIn, IsParam, IsDeclared, OwnCounters, Truths, TruthsStmts, LastTruth, TruthsClauses, TruthsTypes, TruthsRoutines, TruthsByForm, variables_in, result_at, told_of, Asked, NothingDeadIsKept, NoDeadVariableIsKept}
 use Rattle.wy_kept_code.proofs.SafeLemmas.{Less, safe_less}
 use Rattle.wy_kept_code.proofs.RunLemmas.{safe_runs}
@@ -116,7 +116,7 @@ module _ (core : Core ℕ) (loose : Bool) where
     even = (λ r q nr nq u. untold_all f q (untold_loose f r u) nq);
     loose = (λ l r nr. untold_all f r l nr);
     answers = (λ k r nr h. untold_all f r (or_left loose (result_at c.results (length c.results + k)) h (beyond c.results k)) nr);
-    nothing = (λ g r nr is h. untold_all f r (or_left loose (result_at c.results g) h (no_result c.results g is)) nr)
+    nothing = (λ g r nr is h. untold_all f r (or_left loose (result_at c.results g) h (no_result c.results g is)) nr);
   }
 
   tells_at : (f n : ℕ) → size_at f ≡ n → Tells t f c n L
@@ -136,11 +136,11 @@ module _ (core : Core ℕ) (loose : Bool) where
   -- a parameter that isn't released at entry is live
   params_kept : (s : Variables) (ps : List Param) (k : ℕ) → InOrder k ps → (x : ℕ) → k ≤ x → x < k + length ps → IsNone x (unused_params s ps) → Vars s x
   params_kept s [] k order x low high none = absurd (omega (arith, low, high))
-  params_kept s (p ∷ ps) k order x low high none = by (has s p.variable) refl none
+  params_kept s (p ∷ ps) k order x low high none = by (has s p.variable) refl none (λ more g. params_kept s ps (suc k) order.1 x more (omega (arith, high)) g)
     where
-      by : (b : Bool) → has s p.variable ≡ b → IsNone x (cond b (unused_params s ps) (p.variable ∷ unused_params s ps)) → Vars s x
-      by true e g = either (λ same. subst (λ (z : ℕ). has s z ≡ true) (order.0 ∙ sym same) e) (λ more. params_kept s ps (suc k) order.1 x more (omega (arith, high)) g) (first_or_more k x low)
-      by false e g = either (λ same. absurd (g.0 (same ∙ sym order.0))) (λ more. params_kept s ps (suc k) order.1 x more (omega (arith, high)) g.1) (first_or_more k x low)
+      by : (b : Bool) → has s p.variable ≡ b → IsNone x (cond b (unused_params s ps) (p.variable ∷ unused_params s ps)) → (suc k ≤ x → IsNone x (unused_params s ps) → Vars s x) → Vars s x
+      by true e g rest = either (λ same. subst (λ (z : ℕ). has s z ≡ true) (order.0 ∙ sym same) e) (λ more. rest more g) (first_or_more k x low)
+      by false e g rest = either (λ same. absurd (g.0 (same ∙ sym order.0))) (λ more. rest more g.1) (first_or_more k x low)
 
   body_safe : (f : ℕ) (r : tree.Routine ℕ) → size_at f ≡ length r.variables → result_at c.results f ≡ is_some r.result → BoundRoutine (offers_of core) r → InOrder 0 r.params → ((x : ℕ) → CountsStmts r.body x → IsDeclared r x → ⊥) → TruthsStmts L r.body
       → (m : ℕ) → Safe t f (body_routine c r).body m 0 (λ x. x < length r.params)
@@ -153,7 +153,7 @@ module _ (core : Core ℕ) (loose : Bool) where
       let low : Low body c n L U = λ x u. either (λ k. params_low (offers_of core) n r.params [] bound.params x k) (λ k. declares_all_low (offers_of core) n r.body (record { in_loop = false; has_result = is_some r.result }) (with_params [] r.params) bound.body x k) u in
       let gives : is_some r.result ≡ true → R = λ g. or_second loose (result_at c.results f) (given ∙ g) in
       let fit : FitsStmts c n L R r.body U = fits_stmts core (offers_of core) refl c refl n L U R r.body (record { in_loop = false; has_result = is_some r.result }) (with_params [] r.params)
-          (λ x h. either (λ k. inl k) (λ k. absurd k) (params_scope r.params [] x h)) (λ x k. inr k) gives bound.body truths own in
+      (λ x h. either (λ k. inl k) (λ k. absurd k) (params_scope r.params [] x h)) (λ x k. inr k) gives bound.body truths own in
       let tells = tells_at f n e in
       let free : (x : ℕ) → n ≤ x → t.untold f x ≡ true → R = λ x h u. any_gives f x u in
       let s = live_all r.body [] nothing in
@@ -206,7 +206,7 @@ module _ (core : Core ℕ) (loose : Bool) where
     clauses_some e es fit g = front_some body c n L (code c e s n) (fork n (clauses_steps c es s n) []) (code_some body c n L e U s n fit) g
 
     -- the value of a clause that isn't the last is tested, and the last is a truth value by its form
-    tested : (e : Expr ℕ) (es : List (Expr ℕ)) → FitsClauses (e ∷ es) → LastTruth L (e ∷ es) → ((is_plain e ≡ true) ⊎ L) ⊎ (clauses_steps c es s n ≡ [] → ⊥)
+    tested : (e : Expr ℕ) (es : List (Expr ℕ)) → FitsClauses (e ∷ es) → LastTruth L (e ∷ es) → ((is_sure e ≡ true) ⊎ L) ⊎ (clauses_steps c es s n ≡ [] → ⊥)
     tested e [] fit last = inl last
     tested e (d ∷ es) fit last = inr (clauses_some d es fit.1.0)
 
@@ -220,16 +220,19 @@ module _ (core : Core ℕ) (loose : Bool) where
         let more = clauses_steps c es s n in
         let one = code c e s n in let mid = p + length one in
         let rest = back body p one (fork n more []) next h in
-        let P : ℕ → Type 0 = λ r. Vars s r ⊎ ((r ≡ n) × (is_plain e ≡ false)) in
+        let P : ℕ → Type 0 = λ r. Vars s r ⊎ ((r ≡ n) × (is_sure e ≡ false)) in
         let live_s : Lives body t f mid (Vars s) = λ r u v. live_second body mid next n more [] r rest (λ q sp. at_end body q next r sp (exit.0 r u v)) in
-        let plain_no : (r : ℕ) → t.untold f r ≡ false → (is_plain e ≡ true) ⊎ L → (r ≡ n) × (is_plain e ≡ false) → ⊥ = λ r u k z. either (λ y. not_both (is_plain e) y z.1) (λ y. told_not body c n L t f tells r n z.0 u (tells.loose y n (omega arith))) k in
+        let plain_no : (r : ℕ) → t.untold f r ≡ false → (is_sure e ≡ true) ⊎ L → (r ≡ n) × (is_sure e ≡ false) → ⊥ = λ r u k z. either (λ y. not_both (is_sure e) y z.1) (λ y. told_not body c n L t f tells r n z.0 u (tells.loose y n (omega arith))) k in
         let live_P : Lives body t f mid P = λ r u l. either (λ v. live_s r u v) (λ z. either (λ k. absurd (plain_no r u k z)) (λ k. subst (λ (y : ℕ). LiveAt body mid y) (sym z.0) (fork_reads body c n L mid next n more [] rest (λ g1 g2. k g1))) (tested e es fit last)) l in
-        let at_p = value_safe body c n L R U low t f tells (λ g. g) (λ r h2 u. any_gives f r u) e fit.0 m s p mid (λ r v. is_x r v) (front body p one (fork n more []) next h)
-            (live_s, safe_fork body t f m mid next n more [] P (Vars s) (Vars s) (Vars s) rest live_P
-                (λ g1 g2 r u l. either (λ v. v) (λ z. either (λ k. absurd (plain_no r u k z)) (λ k. absurd (k g1)) (tested e es fit last)) l)
-                (λ r u l. either (λ v. v) (λ z. absurd (l.1 z.0)) l.0) (λ r u l. either (λ v. v) (λ z. absurd (l.1 z.0)) l.0) exit.0
-                (λ p2 q2 sp lq sq. (clauses_ready es fit.1 (last_of e es last) m p2 q2 sp (lq, sq)).1)
-                (λ p2 sp. safe_at body t f m next p2 (Vars s) (sym (ended body p2 next sp)) exit.1) exit.1) in
+        let at_p = value_safe body c n L R U low t f tells (λ g. g) (λ r h2 u. any_gives f r u) e fit.0 m s p mid (λ r v. is_x r v) (front body p one (fork n more []) next h) (
+          live_s,
+          safe_fork body t f m mid next n more [] P (Vars s) (Vars s) (Vars s) rest live_P
+              (λ g1 g2 r u l. either (λ v. v) (λ z. either (λ k. absurd (plain_no r u k z)) (λ k. absurd (k g1)) (tested e es fit last)) l)
+              (λ r u l. either (λ v. v) (λ z. absurd (l.1 z.0)) l.0) (λ r u l. either (λ v. v) (λ z. absurd (l.1 z.0)) l.0) exit.0
+              (λ p2 q2 sp lq sq. (clauses_ready es fit.1 (last_of e es last) m p2 q2 sp (lq, sq)).1)
+              (λ p2 sp. safe_at body t f m next p2 (Vars s) (sym (ended body p2 next sp)) exit.1) exit.1,
+          (λ r u z. live_P r u (inr (z.0, z.1.0))),
+        ) in
         ready_less body c n L t f tells m p (Vars s) (Vars (before e s)) (λ r v. before_of e s r (inr v)) at_p
 
     -- the argument comes into the variable
@@ -262,7 +265,7 @@ module _ (core : Core ℕ) (loose : Bool) where
         let span3 = front body p2 (fork n clauses []) end next h2 in
         let live2 : Lives body t f p2 (Vars s) = λ r u v. live_second body p2 p3 n clauses [] r span3 (λ q sp. at_end body q p3 r sp (at3.0 r u v)) in
         let at2 : Sure body t f m p2 (Vars s) = safe_fork body t f m p2 p3 n clauses [] (Vars s) (Vars s) (Vars s) (Vars s) span3 live2 (λ g1 g2 r u l. l) (λ r u l. l.0) (λ r u l. l.0) at3.0
-            (λ q z sp lq sq. (clauses_ready a.clauses fit last m q z sp (lq, sq)).1) (λ q sp. safe_at body t f m p3 q (Vars s) (sym (ended body q p3 sp)) at3.1) at3.1 in
+        (λ q z sp lq sq. (clauses_ready a.clauses fit last m q z sp (lq, sq)).1) (λ q sp. safe_at body t f m p3 q (Vars s) (sym (ended body q p3 sp)) at3.1) at3.1 in
         let un : (r : ℕ) → Vars s r → (r < suc n) × (r ≢ n) = λ r v. let e = is_x r v in (omega (arith, e, xn), less_not r n (omega (arith, e, xn))) in
         let span1 = front body p1 tests three next h1 in
         let at1 : Sure body t f m p1 (Vars s) = test_safe body c t f n L tells a.ty m p1 p2 x n (suc n) (Vars s) span1 un (omega arith) (omega arith) live2 at2 in
@@ -357,7 +360,7 @@ module _ (core : Core ℕ) (loose : Bool) where
       (λ k. let fits = k.fits in subst (λ (z : Routine). Safe t f z.body m 0 (λ x. x < z.params)) k.same (body_safe f k.routine k.size k.result fits.0 fits.1 fits.2 fits.3 m))
       (λ k. let fits = k.fits in subst (λ (z : Routine). Safe t f z.body m 0 (λ x. x < z.params)) k.same (type_safe f k.alias k.size fits.0 fits.1 fits.2 fits.3 m))
       (routine_at (routines_of core) (aliases_of core) f q
-          (all_routines core asked.formed.bound asked.order asked.counters truths.0) (all_types core asked.formed.bound asked.names truths.1) is)
+      (all_routines core asked.formed.bound asked.order asked.counters truths.0) (all_types core asked.formed.bound asked.names truths.1) is)
 
 -- ---- the laws
 

@@ -61,9 +61,10 @@ module _ (t : Told) (f : ℕ) where
     onward_less n p (instr.Equal d a b) P Q h go k = go (p + 1) (After t f (instr.Equal d a b) P) (After t f (instr.Equal d a b) Q) (after_less (instr.Equal d a b) P Q h) k
     onward_less n p (instr.Not d a) P Q h go k = go (p + 1) (After t f (instr.Not d a) P) (After t f (instr.Not d a) Q) (after_less (instr.Not d a) P Q h) k
     onward_less n p (instr.Jump q) P Q h go k = go q (After t f (instr.Jump q) P) (After t f (instr.Jump q) Q) (after_less (instr.Jump q) P Q h) k
-    onward_less n p (instr.Branch s q) P Q h go k =
-        (go (p + 1) (After t f (instr.Branch s q) P) (After t f (instr.Branch s q) Q) (after_less (instr.Branch s q) P Q h) k.0,
-        go q (After t f (instr.Branch s q) P) (After t f (instr.Branch s q) Q) (after_less (instr.Branch s q) P Q h) k.1)
+    onward_less n p (instr.Branch s q) P Q h go k = (
+      go (p + 1) (After t f (instr.Branch s q) P) (After t f (instr.Branch s q) Q) (after_less (instr.Branch s q) P Q h) k.0,
+      go q (After t f (instr.Branch s q) P) (After t f (instr.Branch s q) Q) (after_less (instr.Branch s q) P Q h) k.1,
+    )
     onward_less n p (instr.Array d rs) P Q h go k = go (p + 1) (After t f (instr.Array d rs) P) (After t f (instr.Array d rs) Q) (after_less (instr.Array d rs) P Q h) k
     onward_less n p (instr.Record d m rs) P Q h go k = go (p + 1) (After t f (instr.Record d m rs) P) (After t f (instr.Record d m rs) Q) (after_less (instr.Record d m rs) P Q h) k
     onward_less n p (instr.Fill d v m) P Q h go k = go (p + 1) (After t f (instr.Fill d v m) P) (After t f (instr.Fill d v m) Q) (after_less (instr.Fill d v m) P Q h) k

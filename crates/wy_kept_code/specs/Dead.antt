@@ -5,13 +5,12 @@ use Rattle.wy_core.specs.CoreTree as tree
 use Rattle.wy_core.specs.CoreTree.{Expr, NullExpr, BoolExpr, IntExpr, VarExpr, CallExpr, NegExpr, NotExpr, LenExpr, BinaryExpr, IsExpr, IndexExpr, FieldExpr, ListExpr, RepeatExpr, RecordExpr, QuantExpr, Exprs, NoExprs, MoreExprs, Fields, NoFields, MoreFields, Step, IndexStep, FieldStep, Stmt, DeclareStmt, AssignStmt, CallStmt, ReturnStmt, AssertStmt, BreakStmt, ContinueStmt, SkipStmt, FailStmt, IfStmt, WhileStmt, Stmts, NoStmts, MoreStmts, Param, Alias, Core, aliases_of, routines_of}
 use Rattle.wy_formed.specs.Formed.{Formed}
 use Rattle.wy_tables.specs.Tables.{results_of}
-use Rattle.wy_compiled.specs.Expressions.{is_plain}
 use Rattle.wy_compiled.specs.Programs.{code_of}
 use Rattle.wy_step.specs.Step.{start, after}
 use Rattle.wy_simulated_tests.specs.Tested.{ClausesNameTheirs}
 use Rattle.wy_simulated_programs.specs.Programs.{AllInOrder}
 use Rattle.wy_kept_code.specs.Safe.{Told, KeepsNothing}
-use Rattle.wy_kept_code.specs.Fitting.{Checked, SomeCode}
+use Rattle.wy_kept_code.specs.Fitting.{is_sure, Checked, SettledOption, SettledAt, SomeCode}
 
 -- ---- the variables of quantifiers
 
@@ -106,7 +105,7 @@ OwnCounters (r ∷ rs) = ((x : ℕ) → CountsStmts r.body x → IsDeclared r x 
 -- ---- truth values that nothing tests
 
 abbrev mutual
-  -- each right operand of `&&` and `||` is by its form no list and no record; or nothing is asked, where L
+  -- the right side of each equation that the code takes to be no list and no record is none by its form; or nothing is asked, where L
   pub Truths : Type 0 → Expr ℕ → Type 0
   Truths L (NullExpr at) = Unit {0}
   Truths L (BoolExpr at truth) = Unit {0}
@@ -143,10 +142,10 @@ TruthsPath L (IndexStep at e ∷ path) = Truths L e × TruthsPath L path
 TruthsPath L (FieldStep at name ∷ path) = TruthsPath L path
 
 abbrev mutual
-  -- so is the test of an `if` without code in its blocks
+  -- so is what comes into a whole variable, and the test of an `if` without code in its blocks is none by its form
   pub TruthsStmt : Type 0 → Stmt ℕ → Type 0
-  TruthsStmt L (DeclareStmt at ty y value) = TruthsOption L value
-  TruthsStmt L (AssignStmt at y path e) = TruthsPath L path × Truths L e
+  TruthsStmt L (DeclareStmt at ty y value) = TruthsOption L value × SettledOption value L
+  TruthsStmt L (AssignStmt at y path e) = TruthsPath L path × Truths L e × SettledAt path e L
   TruthsStmt L (CallStmt at g args) = TruthsAll L args
   TruthsStmt L (ReturnStmt at value) = TruthsOption L value
   TruthsStmt L (AssertStmt at e) = Unit {0}
@@ -154,7 +153,7 @@ abbrev mutual
   TruthsStmt L (ContinueStmt at) = Unit {0}
   TruthsStmt L (SkipStmt at) = Unit {0}
   TruthsStmt L (FailStmt at) = Unit {0}
-  TruthsStmt L (IfStmt at e first second) = Truths L e × TruthsStmts L first × TruthsStmts L second × (((is_plain e ≡ true) ⊎ L) ⊎ (SomeCode first ⊎ SomeCode second))
+  TruthsStmt L (IfStmt at e first second) = Truths L e × TruthsStmts L first × TruthsStmts L second × (((is_sure e ≡ true) ⊎ L) ⊎ (SomeCode first ⊎ SomeCode second))
   TruthsStmt L (WhileStmt at e invariants body) = Truths L e × TruthsStmts L body
 
   pub TruthsStmts : Type 0 → Stmts ℕ → Type 0
@@ -164,7 +163,7 @@ abbrev mutual
 -- so is the last clause of a type
 abbrev pub LastTruth : Type 0 → List (Expr ℕ) → Type 0
 LastTruth L [] = Unit {0}
-LastTruth L (e ∷ []) = (is_plain e ≡ true) ⊎ L
+LastTruth L (e ∷ []) = (is_sure e ≡ true) ⊎ L
 LastTruth L (e ∷ (d ∷ es)) = LastTruth L (d ∷ es)
 
 abbrev pub TruthsClauses : Type 0 → List (Expr ℕ) → Type 0
@@ -202,7 +201,7 @@ result_at (b ∷ bs) (suc f) = result_at bs f
 abbrev pub told_of : Core ℕ → Bool → Told
 told_of core loose = record {
   untold = (λ f r. loose && not (nat_lt r (variables_in (routines_of core) (aliases_of core) f)));
-  results = (λ f. loose || result_at (results_of (routines_of core)) f)
+  results = (λ f. loose || result_at (results_of (routines_of core)) f);
 }
 
 abbrev pub RunsKeep : Core ℕ → Bool → Type 0

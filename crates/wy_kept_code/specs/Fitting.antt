@@ -9,20 +9,67 @@ use Rattle.wy_tables.specs.declared.targets.Target.TheVariants.{Declared, Prints
 use Rattle.wy_tables.specs.Tables.{target}
 use Rattle.wy_compiled.specs.Expressions.{is_plain, count_of}
 
--- `&&` and `||` don't test their right operand: by its form it is no list and no record, or nothing is said
+-- what is so of `&&` and `||` where it is so of their right operand, and of each other operator
+abbrev pub right_or : Op → Bool → Bool
+right_or op.Add right = true
+right_or op.Sub right = true
+right_or op.Mul right = true
+right_or op.Div right = true
+right_or op.Mod right = true
+right_or op.Equal right = true
+right_or op.Less right = true
+right_or op.LessEqual right = true
+right_or op.Greater right = true
+right_or op.GreaterEqual right = true
+right_or op.And right = right
+right_or op.Or right = right
+
+-- by its form the value is no list and no record: `&&` and `||` don't test their right operand, so theirs is none where that is so of it
+abbrev pub is_sure : {N : Type 0} → Expr N → Bool
+is_sure (NullExpr at) = true
+is_sure (BoolExpr at truth) = true
+is_sure (IntExpr at number) = true
+is_sure (VarExpr at x) = false
+is_sure (CallExpr at routine args) = false
+is_sure (NegExpr at a) = true
+is_sure (NotExpr at a) = true
+is_sure (LenExpr at a) = true
+is_sure (BinaryExpr at o a b) = right_or o (is_sure b)
+is_sure (IsExpr at a ty) = true
+is_sure (IndexExpr at a b) = false
+is_sure (FieldExpr at a name) = false
+is_sure (ListExpr at items) = false
+is_sure (RepeatExpr at a b) = false
+is_sure (RecordExpr at fs) = false
+is_sure (QuantExpr at all x a b body) = true
+
+-- where the code takes the value to be no list and no record, and so doesn't release it, it is none by its form; or nothing is asked, where L
+abbrev pub Settled : {N : Type 0} → Expr N → Type 0 → Type 0
+Settled e L = ((is_plain e ≡ false) ⊎ (is_sure e ≡ true)) ⊎ L
+
+-- so of the right side of an equation
 abbrev pub Checked : Op → {N : Type 0} → Expr N → Type 0 → Type 0
 Checked op.Add b L = Unit {0}
 Checked op.Sub b L = Unit {0}
 Checked op.Mul b L = Unit {0}
 Checked op.Div b L = Unit {0}
 Checked op.Mod b L = Unit {0}
-Checked op.Equal b L = Unit {0}
+Checked op.Equal b L = Settled b L
 Checked op.Less b L = Unit {0}
 Checked op.LessEqual b L = Unit {0}
 Checked op.Greater b L = Unit {0}
 Checked op.GreaterEqual b L = Unit {0}
-Checked op.And b L = (is_plain b ≡ true) ⊎ L
-Checked op.Or b L = (is_plain b ≡ true) ⊎ L
+Checked op.And b L = Unit {0}
+Checked op.Or b L = Unit {0}
+
+-- so of what comes into a variable
+abbrev pub SettledOption : Option (Expr ℕ) → Type 0 → Type 0
+SettledOption None L = Unit {0}
+SettledOption (Some e) L = Settled e L
+
+abbrev pub SettledAt : List (Step ℕ) → Expr ℕ → Type 0 → Type 0
+SettledAt [] e L = Settled e L
+SettledAt (step ∷ path) e L = Unit {0}
 
 -- a function or method of the program with a result
 abbrev pub IsValue : Target → Type 0
@@ -104,8 +151,8 @@ SomeCode (MoreStmts st rest) = HasCode st ⊎ SomeCode rest
 abbrev mutual
   -- where the blocks of an `if` have no code, nothing tests its value
   pub FitsStmt : Context → ℕ → Type 0 → Type 0 → Stmt ℕ → (ℕ → Type 0) → Type 0
-  FitsStmt c n L R (DeclareStmt at ty x value) U = U x × FitsOption c n L value U
-  FitsStmt c n L R (AssignStmt at x path e) U = U x × FitsPath c n L path U × Fits c n L e U
+  FitsStmt c n L R (DeclareStmt at ty x value) U = U x × FitsOption c n L value U × SettledOption value L
+  FitsStmt c n L R (AssignStmt at x path e) U = U x × FitsPath c n L path U × Fits c n L e U × SettledAt path e L
   FitsStmt c n L R (CallStmt at g args) U = IsAction (target c.results g) (count_of args) × FitAll c n L args U
   FitsStmt c n L R (ReturnStmt at value) U = FitsOption c n L value U × MayGive R value
   FitsStmt c n L R (AssertStmt at e) U = Unit {0}
@@ -113,7 +160,7 @@ abbrev mutual
   FitsStmt c n L R (ContinueStmt at) U = Unit {0}
   FitsStmt c n L R (SkipStmt at) U = Unit {0}
   FitsStmt c n L R (FailStmt at) U = Unit {0}
-  FitsStmt c n L R (IfStmt at e first second) U = Fits c n L e U × FitsStmts c n L R first U × FitsStmts c n L R second U × (((is_plain e ≡ true) ⊎ L) ⊎ (SomeCode first ⊎ SomeCode second))
+  FitsStmt c n L R (IfStmt at e first second) U = Fits c n L e U × FitsStmts c n L R first U × FitsStmts c n L R second U × (((is_sure e ≡ true) ⊎ L) ⊎ (SomeCode first ⊎ SomeCode second))
   FitsStmt c n L R (WhileStmt at e invariants inner) U = Fits c n L e U × FitsStmts c n L R inner U
 
   pub FitsStmts : Context → ℕ → Type 0 → Type 0 → Stmts ℕ → (ℕ → Type 0) → Type 0
