@@ -33,7 +33,7 @@ use Rattle.wy_kept_registers.specs.Keeping.{IsNone}
 use Rattle.wy_kept_code.specs.Alive.{IsOne, LiveAt}
 use Rattle.wy_kept_code.specs.Safe.{Told, Safe, SafeCode}
 use Rattle.wy_kept_code.specs.Telling.{Tells}
-use Rattle.wy_kept_code.specs.Fitting.{is_sure, Fits, FitsStmts}
+use Rattle.wy_kept_code.specs.Fitting.{is_sure, Fits, FitsStmts, SettledStmts}
 use Rattle.wy_kept_code.specs.Dead.{CountsStmts, DeclaresIn, IsParam, IsDeclared, OwnCounters, Truths, TruthsStmts, LastTruth, TruthsClauses, TruthsTypes, TruthsRoutines, TruthsByForm, variables_in, result_at, told_of, Asked, NothingDeadIsKept, NoDeadVariableIsKept}
 use Rattle.wy_kept_code.proofs.SafeLemmas.{Less, safe_less}
 use Rattle.wy_kept_code.proofs.RunLemmas.{safe_runs}
@@ -142,7 +142,7 @@ module _ (core : Core ℕ) (loose : Bool) where
       by true e g rest = either (λ same. subst (λ (z : ℕ). has s z ≡ true) (order.0 ∙ sym same) e) (λ more. rest more g) (first_or_more k x low)
       by false e g rest = either (λ same. absurd (g.0 (same ∙ sym order.0))) (λ more. rest more g.1) (first_or_more k x low)
 
-  body_safe : (f : ℕ) (r : tree.Routine ℕ) → size_at f ≡ length r.variables → result_at c.results f ≡ is_some r.result → BoundRoutine (offers_of core) r → InOrder 0 r.params → ((x : ℕ) → CountsStmts r.body x → IsDeclared r x → ⊥) → TruthsStmts L r.body
+  body_safe : (f : ℕ) (r : tree.Routine ℕ) → size_at f ≡ length r.variables → result_at c.results f ≡ is_some r.result → BoundRoutine (offers_of core) r → InOrder 0 r.params → ((x : ℕ) → CountsStmts r.body x → IsDeclared r x → ⊥) → TruthsStmts L r.body × SettledStmts L r.body [] nothing
       → (m : ℕ) → Safe t f (body_routine c r).body m 0 (λ x. x < length r.params)
   body_safe f r e given bound order own truths m =
       let n = length r.variables in
@@ -153,7 +153,7 @@ module _ (core : Core ℕ) (loose : Bool) where
       let low : Low body c n L U = λ x u. either (λ k. params_low (offers_of core) n r.params [] bound.params x k) (λ k. declares_all_low (offers_of core) n r.body (record { in_loop = false; has_result = is_some r.result }) (with_params [] r.params) bound.body x k) u in
       let gives : is_some r.result ≡ true → R = λ g. or_second loose (result_at c.results f) (given ∙ g) in
       let fit : FitsStmts c n L R r.body U = fits_stmts core (offers_of core) refl c refl n L U R r.body (record { in_loop = false; has_result = is_some r.result }) (with_params [] r.params)
-      (λ x h. either (λ k. inl k) (λ k. absurd k) (params_scope r.params [] x h)) (λ x k. inr k) gives bound.body truths own in
+      (λ x h. either (λ k. inl k) (λ k. absurd k) (params_scope r.params [] x h)) (λ x k. inr k) gives bound.body truths.0 own in
       let tells = tells_at f n e in
       let free : (x : ℕ) → n ≤ x → t.untold f x ≡ true → R = λ x h u. any_gives f x u in
       let s = live_all r.body [] nothing in
@@ -169,7 +169,7 @@ module _ (core : Core ℕ) (loose : Bool) where
       let nothing_live : Lives body t f p2 (Vars []) = λ x u v. none_has x v in
       let null = gives_null_sure body c n L R U low t f tells (λ g. g) free m p2 next last in
       let null0 : Lives body t f (p2 + 0) (Vars []) × Sure body t f m (p2 + 0) (Vars []) = ((λ x u v. none_has x v), safe_at body t f m p2 (p2 + 0) (Vars []) (omega arith) null) in
-      let at1 = stmts_safe body c n L R U low t f tells (λ g. g) free r.body fit m [] nothing 0 0 p1 p2 (λ x v. none_has x v) (λ x v. none_has x v) (λ x v. none_has x v) (front body p1 two (gives_null n) next behind) (nothing_live, null) null0 null0 in
+      let at1 = stmts_safe body c n L R U low t f tells (λ g. g) free r.body fit m [] nothing 0 0 p1 p2 truths.1 (λ x v. none_has x v) (λ x v. none_has x v) (λ x v. none_has x v) (front body p1 two (gives_null n) next behind) (nothing_live, null) null0 null0 in
       let at0 = clear_sure body c n L t f tells m 0 p1 un (λ x. x < length r.params) (Vars s) (front body 0 (clear un) rest next whole) (λ x l none. params_kept s r.params 0 order x (omega arith) (omega (arith, l)) none) at1 in
       safe_less t f body m 0 (λ x. x < length r.params) (Told_of body t f (λ x. x < length r.params)) (λ x l. inl l) at0
 
@@ -300,7 +300,7 @@ module _ (core : Core ℕ) (loose : Bool) where
   -- ---- all of them
 
   abbrev RoutineFits : tree.Routine ℕ → Type 0
-  RoutineFits r = BoundRoutine (offers_of core) r × InOrder 0 r.params × ((x : ℕ) → CountsStmts r.body x → IsDeclared r x → ⊥) × TruthsStmts L r.body
+  RoutineFits r = BoundRoutine (offers_of core) r × InOrder 0 r.params × ((x : ℕ) → CountsStmts r.body x → IsDeclared r x → ⊥) × (TruthsStmts L r.body × SettledStmts L r.body [] nothing)
 
   abbrev TypeFits : Alias ℕ → Type 0
   TypeFits a = BoundAlias (offers_of core) a × NamesIts a.variable a.clauses × TruthsClauses L a.clauses × LastTruth L a.clauses
