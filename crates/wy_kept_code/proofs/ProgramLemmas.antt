@@ -4,42 +4,39 @@ use Rattle.std.specs.Prelude.{slice_get, is_some, max}
 use Rattle.std.proofs.lemmas.Bool.Decides.{nat_tests}
 use Rattle.wy_core.specs.CoreTree as tree
 use Rattle.wy_core.specs.CoreTree.{Expr, Param, Alias, Decl, AliasDecl, RoutineDecl, Core, aliases_of, routines_of}
-use Rattle.wy_formed.specs.Offers.{Offers, offers_of}
-use Rattle.wy_formed.specs.Bound.{Scope, Has, BoundExpr, BoundClauses, IsNewOption, with_option, BoundAlias, BoundRoutine, BoundDecls, with_params}
-use Rattle.wy_formed.specs.Formed.{Formed}
+use Rattle.wy_formed.specs.Offers.{offers_of}
+use Rattle.wy_formed.specs.Bound.{BoundClauses, IsNewOption, with_option, BoundAlias, BoundRoutine, BoundDecls, with_params}
 use Rattle.wy_code.specs.declared.instructions.Instr.{Instr}
 use Rattle.wy_code.specs.declared.instructions.Instr.TheVariants as instr
 use Rattle.wy_code.specs.declared.routines.Routine.{Routine}
 use Rattle.wy_tables.specs.declared.context.Context.{Context}
-use Rattle.wy_tables.specs.declared.targets.Target.{Target}
-use Rattle.wy_tables.specs.declared.targets.Target.TheVariants.{Declared, Prints, PrintsInt, Nothing}
+use Rattle.wy_tables.specs.declared.targets.Target.TheVariants.{Declared}
 use Rattle.wy_tables.specs.Tables.{context_of, results_of, target}
 use Rattle.wy_live.specs.Sets.{Variables, has, with}
 use Rattle.wy_live.specs.Walks.{before, live_all, nothing}
-use Rattle.wy_pieces.specs.declared.steps.Step as steps
 use Rattle.wy_pieces.specs.declared.steps.Step.TheVariants.{Does}
 use Rattle.wy_pieces.specs.Steps.{clear, dropped, fork}
 use Rattle.wy_pieces.specs.Placing.{placed}
 use Rattle.wy_compiled.specs.TypeTests.{test}
-use Rattle.wy_compiled.specs.Expressions.{is_plain, code}
+use Rattle.wy_compiled.specs.Expressions.{code}
 use Rattle.wy_compiled.specs.Statements.{gives_null, stmts_code}
 use Rattle.wy_compiled.specs.Programs.{unused_params, body_steps, body_routine, clauses_steps, variable_of, taken, type_steps_at, type_routine, body_routines, type_routines, code_of}
 use Rattle.wy_sem.specs.TypeTests.{alias_at}
 use Rattle.wy_simulation.proofs.PlaceLemmas.{placed_stand}
-use Rattle.wy_simulated_tests.specs.Tested.{NamesIts, ClausesNameTheirs}
+use Rattle.wy_simulated_tests.specs.Tested.{NamesIts}
 use Rattle.wy_simulated_statements.specs.Routines.{InOrder}
 use Rattle.wy_simulated_programs.specs.Programs.{AllInOrder}
 use Rattle.wy_kept_registers.specs.Keeping.{IsNone}
-use Rattle.wy_kept_code.specs.Alive.{IsOne, LiveAt}
+use Rattle.wy_kept_code.specs.Alive.{LiveAt}
 use Rattle.wy_kept_code.specs.Safe.{Told, Safe, SafeCode}
 use Rattle.wy_kept_code.specs.Telling.{Tells}
 use Rattle.wy_kept_code.specs.Fitting.{is_sure, Fits, FitsStmts, SettledStmts}
-use Rattle.wy_kept_code.specs.Dead.{CountsStmts, DeclaresIn, IsParam, IsDeclared, OwnCounters, Truths, TruthsStmts, LastTruth, TruthsClauses, TruthsTypes, TruthsRoutines, TruthsByForm, variables_in, result_at, told_of, Asked, NothingDeadIsKept, NoDeadVariableIsKept}
-use Rattle.wy_kept_code.proofs.SafeLemmas.{Less, safe_less}
+use Rattle.wy_kept_code.specs.Dead.{CountsStmts, IsDeclared, OwnCounters, TruthsStmts, LastTruth, TruthsClauses, TruthsTypes, TruthsRoutines, TruthsByForm, variables_in, result_at, told_of, Asked, NothingDeadIsKept, NoDeadVariableIsKept}
+use Rattle.wy_kept_code.proofs.SafeLemmas.{safe_less}
 use Rattle.wy_kept_code.proofs.RunLemmas.{safe_runs}
-use Rattle.wy_kept_code.proofs.PieceLemmas.{either, less_not, Spans, front, back, tail, ended, live_reads, live_second, Lives, Told_of, Sure, Behind, sure_less, safe_step, safe_returns, safe_at, safe_fork, lives_at}
+use Rattle.wy_kept_code.proofs.PieceLemmas.{either, less_not, Spans, front, back, tail, ended, live_reads, live_second, Lives, Told_of, Sure, sure_less, safe_step, safe_returns, safe_at, safe_fork, lives_at}
 use Rattle.wy_kept_code.proofs.SetLemmas.{not_both, Vars, before_of, with_cases, with_of, none_has}
-use Rattle.wy_kept_code.proofs.TestLemmas.{at_end, With, dropped_safe, test_live, test_safe}
+use Rattle.wy_kept_code.proofs.TestLemmas.{at_end, dropped_safe, test_live, test_safe}
 use Rattle.wy_kept_code.proofs.ReadLemmas.{Low}
 use Rattle.wy_kept_code.proofs.OperandLemmas.{told_not, ready_less, clear_sure, front_some, code_some, fork_reads}
 use Rattle.wy_kept_code.proofs.StatementLemmas.{gives_null_sure, value_safe, stmts_safe}

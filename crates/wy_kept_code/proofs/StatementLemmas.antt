@@ -1,6 +1,5 @@
 -- The code of a statement keeps nothing dead.
-use Rattle.std.proofs.Common.{◌≡◌, ◌≢◌, ◌<◌, ◌≤◌, ◌⊎◌, inl, inr, ℕ, zero, suc, ◌+◌, List, [], ◌∷◌, ◌++◌, length, Bool, true, false, not, ◌&&◌, ◌||◌, ◌==◌, cond, Option, Some, None, refl, sym, ap, ◌∙◌, subst, arith, length-append}
-use Rattle.std.specs.Prelude.{slice_get}
+use Rattle.std.proofs.Common.{◌≡◌, ◌<◌, ◌≤◌, ◌⊎◌, inl, inr, ℕ, suc, ◌+◌, List, [], ◌∷◌, ◌++◌, length, Bool, true, false, cond, Option, Some, None, refl, sym, ◌∙◌, subst, arith}
 use Rattle.wy_core.specs.CoreTree.{Expr, Exprs, Step, IndexStep, FieldStep, Stmt, DeclareStmt, AssignStmt, CallStmt, ReturnStmt, AssertStmt, BreakStmt, ContinueStmt, SkipStmt, FailStmt, IfStmt, WhileStmt, Stmts, NoStmts, MoreStmts}
 use Rattle.wy_code.specs.declared.instructions.Scalar.TheVariants as scalar
 use Rattle.wy_code.specs.declared.instructions.Instr.{Instr}
@@ -9,38 +8,36 @@ use Rattle.wy_tables.specs.declared.context.Context.{Context}
 use Rattle.wy_tables.specs.declared.targets.Target.{Target}
 use Rattle.wy_tables.specs.declared.targets.Target.TheVariants.{Declared, Prints, PrintsInt, Nothing}
 use Rattle.wy_tables.specs.Tables.{target}
-use Rattle.wy_live.specs.Paths.{occurs, any_occurs, step_occurs, any_step_occurs, Used, UsedOrKept, DeclareLive, AssignLive, ReturnLive, Turns, IsLive, AreLive}
+use Rattle.wy_live.specs.Paths.{occurs, any_step_occurs}
 use Rattle.wy_live.specs.Sets.{Variables, has, with, without, joined}
 use Rattle.wy_live.specs.Walks.{before, before_all, before_steps, return_live, live, live_all, alone, head_live, around}
 use Rattle.wy_live.specs.declared.walk.Ends.{Ends}
 use Rattle.wy_pieces.specs.declared.steps.Step as steps
-use Rattle.wy_pieces.specs.declared.steps.Step.TheVariants.{Does, GoesOn, GoesBack, GoesOnUnless}
+use Rattle.wy_pieces.specs.declared.steps.Step.TheVariants.{Does, GoesBack, GoesOnUnless}
 use Rattle.wy_pieces.specs.Placing.{slot_registers}
 use Rattle.wy_pieces.specs.Steps.{clear, fork, over, turns, registers_from}
 use Rattle.wy_compiled.specs.Expressions.{lost, released, is_plain, release_unless, count_of, code, codes}
-use Rattle.wy_compiled.specs.Statements.{store, set, declare, index_count, slots, indices, kept, update, assign, release_where, call_step, call, gives_null, give, choice, inside, turn, stmt_code, stmts_code}
+use Rattle.wy_compiled.specs.Statements.{store, set, index_count, slots, indices, kept, update, call_step, call, gives_null, give, choice, inside, turn, stmt_code, stmts_code}
 use Rattle.wy_kept_registers.specs.Keeping.{IsNone}
-use Rattle.wy_kept_code.specs.Alive.{IsOne, reads, changes, nexts, LiveAt}
+use Rattle.wy_kept_code.specs.Alive.{IsOne, LiveAt}
 use Rattle.wy_kept_code.specs.Fitting.{Fits, FitAll, FitsOption, FitsPath, IsAction, FitsStmt, FitsStmts}
-use Rattle.wy_kept_code.proofs.PieceLemmas.{either, nat_up, less_not, From, none_below, Spans, front, back, tail, ended, live_reads, live_on, live_last, live_first_over, live_second, Turning, turning}
-use Rattle.wy_kept_code.proofs.LivePathLemmas.{live_more, lives_more}
-use Rattle.wy_kept_code.proofs.LiveLemmas.{or_cases, of_path, of_paths}
+use Rattle.wy_kept_code.proofs.PieceLemmas.{either, nat_up, less_not, Spans, front, back, tail, ended, live_reads, live_on, live_first_over, live_second, turning}
+use Rattle.wy_kept_code.proofs.LivePathLemmas.{lives_more}
+use Rattle.wy_kept_code.proofs.LiveLemmas.{or_cases, of_paths}
 use Rattle.wy_kept_code.proofs.LiveUseLemmas.{has-before_steps}
-use Rattle.wy_kept_code.proofs.LiveSetLemmas.{by_same}
-use Rattle.wy_kept_code.proofs.SetLemmas.{never, not_both, same_of, other_of, Vars, before_of, all_of, without_of, with_of, joined_of, not_lost}
-use Rattle.wy_kept_code.proofs.TestLemmas.{at_end}
-use Rattle.wy_kept_code.proofs.ReadLemmas.{from_registers, clear_live, Low, Goes, goes_on, two_ways, code_live, codes_live}
+use Rattle.wy_kept_code.proofs.SetLemmas.{never, not_both, Vars, before_of, joined_of, not_lost}
+use Rattle.wy_kept_code.proofs.ReadLemmas.{clear_live, Low}
 use Rattle.wy_kept_code.specs.Fitting.{is_sure, Settled, IsPutAway, SettledStmt, SettledStmts, HasCode, SomeCode, MayGive}
-use Rattle.wy_kept_code.specs.Safe.{Told, gone, Into, After, Onward, Fine, Safe}
+use Rattle.wy_kept_code.specs.Safe.{Told}
 use Rattle.wy_kept_code.specs.Telling.{Tells}
-use Rattle.wy_kept_code.proofs.SafeLemmas.{Less, Within, safe_less, safe_sooner}
-use Rattle.wy_kept_code.proofs.PieceLemmas.{one_not_none, live_first, Lives, Told_of, Sure, Behind, sure_less, safe_step, safe_clears, safe_jumps, safe_loops, safe_branches, safe_at, safe_fork_over, safe_returns, lives_on, lives_at}
+use Rattle.wy_kept_code.proofs.SafeLemmas.{Less, safe_sooner}
+use Rattle.wy_kept_code.proofs.PieceLemmas.{one_not_none, Lives, Told_of, Sure, Behind, sure_less, safe_step, safe_clears, safe_jumps, safe_loops, safe_branches, safe_at, safe_fork_over, safe_returns, lives_at}
 use Rattle.wy_kept_code.proofs.LiveLemmas.{to_path, to_paths}
 use Rattle.wy_kept_code.proofs.SetLemmas.{before_cases, all_cases, without_cases, with_cases, joined_cases, none_has, still_has}
 use Rattle.wy_kept_code.proofs.ReadLemmas.{occurs_used, all_used}
-use Rattle.wy_kept_code.proofs.OperandLemmas.{Range, in_range, back_empty, front_some, back_some, code_some, fork_reads, told_not, ready_less, ready_at, known_before, clear_sure}
+use Rattle.wy_kept_code.proofs.OperandLemmas.{Range, in_range, back_empty, front_some, back_some, code_some, fork_reads, told_not, ready_less, clear_sure}
 use Rattle.wy_kept_code.proofs.ExpressionLemmas.{code_safe, codes_safe}
-use Rattle.wy_kept_code.proofs.StatementReadLemmas.{same_or_other, steps_of, slots_registers, kept_live, call_step_live, stmt_live, stmts_live}
+use Rattle.wy_kept_code.proofs.StatementReadLemmas.{same_or_other, slots_registers, kept_live, call_step_live, stmt_live, stmts_live}
 
 module _ (body : List Instr) (c : Context) (n : ℕ) (L R : Type 0) (U : ℕ → Type 0) (low : Low body c n L U) where
   -- ---- which variables are live at all
