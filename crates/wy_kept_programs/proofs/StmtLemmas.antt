@@ -38,7 +38,7 @@ use Rattle.wy_lower.specs.StmtsLowered.{Arm, switch_number, is_one_of, or_labels
 use Rattle.wy_lower.specs.StmtsLowered as lower
 use Rattle.wy_named.proofs.ScopeLemmas.{below, has_below, below_has}
 use Rattle.wy_kept_code.specs.Dead.{Counts, CountsAll, CountsOption, CountsPath, CountsStmt, CountsStmts, Declares, DeclaresIn}
-use Rattle.wy_named_counters.proofs.ApartLemmas.{either, Apart, apart_none, apart_less, apart_wide, apart_both, apart_one, expr_apart, clauses_apart, BlockApart, blocks_apart}
+use Rattle.wy_kept_programs.proofs.ApartLemmas.{either, Apart, apart_none, apart_less, apart_wide, apart_both, apart_one, expr_apart, clauses_apart, BlockApart, blocks_apart}
 
 module _ (o : Offers) (ts : List Template) where
   -- all numbers below are in scope

@@ -32,9 +32,9 @@ use Rattle.wy_named.proofs.DeclLemmas.{before_decls, grows_params, same_params, 
 use Rattle.wy_named.proofs.OfferLemmas.{offered, scope_leads, scope_plain, templates_lead}
 use Rattle.wy_named.proofs.ResolvedCoreLemmas.{nothing_bound}
 use Rattle.wy_kept_code.specs.Dead.{CountsStmts, DeclaresIn, IsParam, OwnCounters}
-use Rattle.wy_named_counters.specs.NamedCounters.{NamedCountersAreOwn}
-use Rattle.wy_named_counters.proofs.ApartLemmas.{either, Apart}
-use Rattle.wy_named_counters.proofs.StmtLemmas.{Lead, lead_later, own_stmts}
+use Rattle.wy_kept_programs.specs.NamedCounters.{NamedCountersAreOwn}
+use Rattle.wy_kept_programs.proofs.ApartLemmas.{either, Apart}
+use Rattle.wy_kept_programs.proofs.StmtLemmas.{Lead, lead_later, own_stmts}
 
 -- the numbers of parameters
 params_range : (s : Scope) (names : Variables) (ps : List surface.Param) (x : ℕ) → IsParam (in_params s names ps) x → x < length (params_named names ps)
