@@ -1,42 +1,31 @@
 -- What the code of operators, tests, calls and lists keeps.
-use Rattle.std.proofs.Common.{◌≡◌, ◌≢◌, ◌<◌, ◌≤◌, ◌⊎◌, inl, inr, ℕ, zero, suc, ◌+◌, List, [], ◌∷◌, ◌++◌, length, Bool, true, false, not, ◌&&◌, ◌||◌, ◌==◌, cond, Some, pos, refl, sym, ap, ◌∙◌, subst, arith, length-append}
+use Rattle.std.proofs.Common.{◌≡◌, ◌≢◌, ◌<◌, ◌≤◌, ◌⊎◌, inl, inr, ℕ, suc, ◌+◌, List, [], ◌∷◌, ◌++◌, length, Bool, true, false, cond, Some, refl, sym, subst, arith}
 use Rattle.std.specs.Prelude.{slice_get}
 use Rattle.wy_core.specs.Types.{Ty}
-use Rattle.wy_core.specs.CoreTree.{Expr, NullExpr, BoolExpr, IntExpr, VarExpr, CallExpr, NegExpr, NotExpr, LenExpr, BinaryExpr, IsExpr, IndexExpr, FieldExpr, ListExpr, RepeatExpr, RecordExpr, QuantExpr, Exprs, NoExprs, MoreExprs, Fields, NoFields, MoreFields}
+use Rattle.wy_core.specs.CoreTree.{Expr, BinaryExpr}
 use Rattle.wy_core.specs.declared.expressions.Op.{Op}
 use Rattle.wy_core.specs.declared.expressions.Op.TheVariants as op
 use Rattle.wy_code.specs.declared.instructions.Scalar.{Scalar}
-use Rattle.wy_code.specs.declared.instructions.Scalar.TheVariants as scalar
-use Rattle.wy_code.specs.declared.instructions.Arithmetic.{Arithmetic}
-use Rattle.wy_code.specs.declared.instructions.Arithmetic.TheVariants as arithmetic
-use Rattle.wy_code.specs.declared.instructions.Comparison.{Comparison}
-use Rattle.wy_code.specs.declared.instructions.Comparison.TheVariants as comparison
 use Rattle.wy_code.specs.declared.instructions.Instr.{Instr}
 use Rattle.wy_code.specs.declared.instructions.Instr.TheVariants as instr
 use Rattle.wy_tables.specs.declared.context.Context.{Context}
 use Rattle.wy_tables.specs.declared.targets.Target.{Target}
 use Rattle.wy_tables.specs.declared.targets.Target.TheVariants.{Declared, Prints, PrintsInt, Nothing}
-use Rattle.wy_tables.specs.Tables.{target, number_of, shape_number, names_in}
-use Rattle.wy_live.specs.Paths.{occurs, any_occurs, any_field_occurs}
 use Rattle.wy_live.specs.Sets.{Variables, has, with}
-use Rattle.wy_live.specs.Walks.{before, before_all, before_fields, turned}
-use Rattle.wy_pieces.specs.declared.steps.Step.{Step}
-use Rattle.wy_pieces.specs.declared.steps.Step.TheVariants.{Does, GoesOn, GoesBack, GoesOnUnless}
-use Rattle.wy_pieces.specs.Steps.{clear, dropped, fork, turns, registers_from}
+use Rattle.wy_live.specs.Walks.{before}
+use Rattle.wy_pieces.specs.declared.steps.Step.TheVariants.{Does}
+use Rattle.wy_pieces.specs.Steps.{dropped, fork, registers_from}
 use Rattle.wy_compiled.specs.TypeTests.{test}
-use Rattle.wy_compiled.specs.Expressions.{lost, released, is_plain, release_unless, arith as arith_code, compare, equal, operator, operate, right_register, call, count_of, field_count, is_test, negated, list, record_of, ends_it, turn_end, said, ends, number_turns, quantify, code, codes, field_codes}
-use Rattle.wy_kept_registers.specs.Keeping.{IsNone}
-use Rattle.wy_kept_code.specs.Alive.{IsOne, reads, changes, nexts, LiveAt}
-use Rattle.wy_kept_code.specs.Safe.{Told, gone, Into, After, Onward, Fine, Safe}
+use Rattle.wy_compiled.specs.Expressions.{lost, released, is_plain, operator, operate, right_register, call, is_test, list, code}
+use Rattle.wy_kept_code.specs.Alive.{LiveAt}
+use Rattle.wy_kept_code.specs.Safe.{Told}
 use Rattle.wy_kept_code.specs.Telling.{Tells}
-use Rattle.wy_kept_code.specs.Fitting.{Checked, IsValue, Fits, FitAll, FitFields}
-use Rattle.wy_kept_code.proofs.SafeLemmas.{Less, Within, safe_less, safe_sooner}
-use Rattle.wy_kept_code.proofs.PieceLemmas.{either, nat_up, one_not_none, less_not, From, none_below, Spans, front, back, tail, ended, live_reads, live_on, live_last, live_first, live_second, Turning, turning, Lives, Told_of, Sure, Behind, sure_less, safe_step, raw_step, raw_branches, safe_clears, safe_jumps, safe_loops, safe_branches, safe_at, safe_fork, lives_on, lives_at}
-use Rattle.wy_kept_code.proofs.SetLemmas.{never, not_both, same_of, same_to, other_of, Vars, before_cases, before_of, all_cases, all_of, fields_cases, fields_of, turned_cases, turned_of, with_cases, with_of, not_lost, still_has}
-use Rattle.wy_kept_code.proofs.TestLemmas.{at_end, test_live, Untouched, With, dropped_safe, test_safe}
-use Rattle.wy_kept_code.proofs.ReadLemmas.{from_registers, clear_live, Low, low_more, occurs_used, all_used, fields_used, right_live, turns_of, quantifier, branch_live, ends_live, kept_lost, code_live, codes_live, field_codes_live}
-
-use Rattle.wy_kept_code.proofs.OperandLemmas.{Range, in_range, code_some, fork_reads, told_not, ready_less, ready_at, exit_at, base_low, known_before, around_more, code_lives, operands_ready, clear_sure, unary_safe, pair_safe, pair_ready, exit_none, operator_ready}
+use Rattle.wy_kept_code.specs.Fitting.{is_sure, Checked, IsValue, Fits}
+use Rattle.wy_kept_code.proofs.PieceLemmas.{either, one_not_none, less_not, none_below, Spans, front, back, tail, live_first, live_second, Lives, Sure, sure_less, safe_step, safe_at, safe_fork, lives_on, lives_at}
+use Rattle.wy_kept_code.proofs.SetLemmas.{Vars, before_cases, with_cases, still_has}
+use Rattle.wy_kept_code.proofs.TestLemmas.{test_live, dropped_safe, test_safe}
+use Rattle.wy_kept_code.proofs.ReadLemmas.{from_registers, code_live}
+use Rattle.wy_kept_code.proofs.OperandLemmas.{Range, in_range, code_some, fork_reads, told_not, base_low, known_before, operands_ready, clear_sure, pair_safe, operator_ready}
 
 module _ (body : List Instr) (c : Context) (n : ℕ) (L : Type 0) (t : Told) (f : ℕ) (tells : Tells t f c n L) where
   -- live variables, and the registers of the expressions around
@@ -45,13 +34,20 @@ module _ (body : List Instr) (c : Context) (n : ℕ) (L : Type 0) (t : Told) (f 
 
   -- a value that may be a list or a record
   abbrev H : Expr ℕ → ℕ → ℕ → Type 0
-  H e d r = (r ≡ d) × (is_plain e ≡ false)
+  H e d r = (r ≡ d) × (is_sure e ≡ false)
+
+  -- one that the code takes to be none
+  abbrev K : Expr ℕ → ℕ → ℕ → Type 0
+  K e d r = (r ≡ d) × ((is_sure e ≡ false) × (is_plain e ≡ true))
 
   abbrev Comes : ℕ → ℕ → (ℕ → Type 0) → Type 0
   Comes m p P = Lives body t f p P × Sure body t f m p P
 
   abbrev Leaves : ℕ → ℕ → (ℕ → Type 0) → (ℕ → Type 0) → Type 0
   Leaves m p P Q = Lives body t f p P × Sure body t f m p (λ r. P r ⊎ Q r)
+
+  abbrev Full : ℕ → ℕ → (ℕ → Type 0) → Expr ℕ → ℕ → Type 0
+  Full m p P e d = Lives body t f p P × Sure body t f m p (λ r. P r ⊎ H e d r) × Lives body t f p (K e d)
 
   abbrev Kn : Variables → (ℕ → Type 0) → Type 0
   Kn s U = (r : ℕ) → Vars s r → U r
@@ -63,12 +59,11 @@ module _ (body : List Instr) (c : Context) (n : ℕ) (L : Type 0) (t : Told) (f 
   Lo U = (x : ℕ) → U x → x < n
 
   abbrev Sf : Expr ℕ → (ℕ → Type 0) → Type 1
-  Sf e U = (m : ℕ) (s : Variables) (A : ℕ → Type 0) (d at next : ℕ) → Kn s U → n ≤ d → Ar d A → Spans body at (code c e s d) next → Leaves m next (B s A) (H e d) → Comes m at (B (before e s) A)
+  Sf e U = (m : ℕ) (s : Variables) (A : ℕ → Type 0) (d at next : ℕ) → Kn s U → n ≤ d → Ar d A → Spans body at (code c e s d) next → Full m next (B s A) e d → Comes m at (B (before e s) A)
 
-  -- a right operand that isn't tested gives no list and no record, or nothing is said
-  unchecked : {X : Type 0} (b : Expr ℕ) (d r : ℕ) → n ≤ d → (is_plain b ≡ true) ⊎ L → t.untold f r ≡ false → H b d r → X
-  unchecked b d r nd (inl p) u h = not_both (is_plain b) p h.1
-  unchecked b d r nd (inr l) u h = told_not body c n L t f tells r d h.0 u (tells.loose l d nd)
+  -- what `&&` and `||` leave: their value is live there, where it isn't none by its form
+  abbrev Open : ℕ → ℕ → (ℕ → Type 0) → Expr ℕ → ℕ → Type 0
+  Open m p P b d = Lives body t f p P × Sure body t f m p (λ r. P r ⊎ H b d r) × Lives body t f p (H b d)
 
   module _ (U : ℕ → Type 0) (low : Lo U) where
     -- what is released where the right operand is left out
@@ -81,58 +76,64 @@ module _ (body : List Instr) (c : Context) (n : ℕ) (L : Type 0) (t : Told) (f 
         code_live body c n L b U s d p q r fit low nd h (base_low body c n L t f tells (before b s) A U d (known_before body c n L t f tells b U s fit known) low nd around r l)
         (either (λ v. either (λ o. inl o) (λ k. inr (inl k, go (live r u (inl k)))) (before_cases b s r v)) (λ a. inr (inr (around r a).0, go (live r u (inr a)))) l)
 
-    and_safe : (a b : Expr ℕ) → Sf a U → Sf b U → Fits c n L b U → (is_plain b ≡ true) ⊎ L → (m : ℕ) (s : Variables) (A : ℕ → Type 0) (d at next : ℕ) → Kn s U → n ≤ d → Ar d A
-        → Spans body at (code c a (before b s) d ++ fork d (code c b s d) (released (before b s) s)) next → Comes m next (B s A) → Comes m at (B (before a (before b s)) A)
-    and_safe a b one two fit checked m s A d at next known nd around h exit =
+    and_safe : (a b : Expr ℕ) → Sf a U → Sf b U → Fits c n L b U → (m : ℕ) (s : Variables) (A : ℕ → Type 0) (d at next : ℕ) → Kn s U → n ≤ d → Ar d A
+        → Spans body at (code c a (before b s) d ++ fork d (code c b s d) (released (before b s) s)) next → Open m next (B s A) b d → Comes m at (B (before a (before b s)) A)
+    and_safe a b one two fit m s A d at next known nd around h exit =
         let T = before b s in
         let mid = at + length (code c a T d) in
         let rest = back body at (code c a T d) (fork d (code c b s d) (released T s)) next h in
         let some : code c b s d ≡ [] → ⊥ = code_some body c n L b U s d fit in
         let live : Lives body t f mid (B T A) = λ r u l. live_first body mid next d (code c b s d) (released T s) r rest (λ p q sp go. through b fit s A d p q next r known nd around sp u exit.0 go l) in
         let at_d : LiveAt body mid d = fork_reads body c n L mid next d (code c b s d) (released T s) rest (λ e g. some e) in
-        one m T A d at mid (known_before body c n L t f tells b U s fit known) nd around (front body at (code c a T d) (fork d (code c b s d) (released T s)) next h)
-        (live, safe_fork body t f m mid next d (code c b s d) (released T s) (λ r. B T A r ⊎ H a d r) (B T A) (B T A) (B s A) rest
-            (λ r u l. either (λ k. live r u k) (λ k. subst (λ (z : ℕ). LiveAt body mid z) (sym k.0) at_d) l)
-            (λ e g. absurd (some e)) (λ r u l. either (λ k. k) (λ k. absurd (l.1 k.0)) l.0) (λ r u l. either (λ k. k) (λ k. absurd (l.1 k.0)) l.0) exit.0
-            (λ p q sp lq sq. (two m s A d p q known nd around sp (lq, sure_less body t f m q (λ r. B s A r ⊎ H b d r) (B s A) (λ r u l. either (λ k. k) (λ k. unchecked b d r nd checked u k) l) sq)).1)
-            (λ p sp. skipped_sure b m s A p next sp exit.1) exit.1)
+        one m T A d at mid (known_before body c n L t f tells b U s fit known) nd around (front body at (code c a T d) (fork d (code c b s d) (released T s)) next h) (
+          live,
+          safe_fork body t f m mid next d (code c b s d) (released T s) (λ r. B T A r ⊎ H a d r) (B T A) (B T A) (λ r. B s A r ⊎ H b d r) rest
+              (λ r u l. either (λ k. live r u k) (λ k. subst (λ (z : ℕ). LiveAt body mid z) (sym k.0) at_d) l)
+              (λ e g. absurd (some e)) (λ r u l. either (λ k. k) (λ k. absurd (l.1 k.0)) l.0) (λ r u l. either (λ k. k) (λ k. absurd (l.1 k.0)) l.0) (λ r u l. either (λ k. exit.0 r u k) (λ k. exit.2 r u k) l)
+              (λ p q sp lq sq. (two m s A d p q known nd around sp ((λ r u k. lq r u (inl k)), sq, (λ r u z. lq r u (inr (z.0, z.1.0))))).1)
+              (λ p sp. skipped_sure b m s A p next sp (sure_less body t f m next (B s A) (λ r. B s A r ⊎ H b d r) (λ r u l. inl l) exit.1)) exit.1,
+          (λ r u z. subst (λ (y : ℕ). LiveAt body mid y) (sym z.0) at_d),
+        )
 
-    or_safe : (a b : Expr ℕ) → Sf a U → Sf b U → Fits c n L b U → (is_plain b ≡ true) ⊎ L → (m : ℕ) (s : Variables) (A : ℕ → Type 0) (d at next : ℕ) → Kn s U → n ≤ d → Ar d A
-        → Spans body at (code c a (before b s) d ++ fork d (released (before b s) s) (code c b s d)) next → Comes m next (B s A) → Comes m at (B (before a (before b s)) A)
-    or_safe a b one two fit checked m s A d at next known nd around h exit =
+    or_safe : (a b : Expr ℕ) → Sf a U → Sf b U → Fits c n L b U → (m : ℕ) (s : Variables) (A : ℕ → Type 0) (d at next : ℕ) → Kn s U → n ≤ d → Ar d A
+        → Spans body at (code c a (before b s) d ++ fork d (released (before b s) s) (code c b s d)) next → Open m next (B s A) b d → Comes m at (B (before a (before b s)) A)
+    or_safe a b one two fit m s A d at next known nd around h exit =
         let T = before b s in
         let mid = at + length (code c a T d) in
         let rest = back body at (code c a T d) (fork d (released T s) (code c b s d)) next h in
         let some : code c b s d ≡ [] → ⊥ = code_some body c n L b U s d fit in
         let live : Lives body t f mid (B T A) = λ r u l. live_second body mid next d (released T s) (code c b s d) r rest (λ p sp. through b fit s A d p next next r known nd around sp u exit.0 (λ z. z) l) in
         let at_d : LiveAt body mid d = fork_reads body c n L mid next d (released T s) (code c b s d) rest (λ e g. some g) in
-        one m T A d at mid (known_before body c n L t f tells b U s fit known) nd around (front body at (code c a T d) (fork d (released T s) (code c b s d)) next h)
-        (live, safe_fork body t f m mid next d (released T s) (code c b s d) (λ r. B T A r ⊎ H a d r) (B T A) (B T A) (B s A) rest
-            (λ r u l. either (λ k. live r u k) (λ k. subst (λ (z : ℕ). LiveAt body mid z) (sym k.0) at_d) l)
-            (λ e g. absurd (some g)) (λ r u l. either (λ k. k) (λ k. absurd (l.1 k.0)) l.0) (λ r u l. either (λ k. k) (λ k. absurd (l.1 k.0)) l.0) exit.0
-            (λ p q sp lq sq. skipped_sure b m s A p q sp sq)
-            (λ p sp. (two m s A d p next known nd around sp (exit.0, sure_less body t f m next (λ r. B s A r ⊎ H b d r) (B s A) (λ r u l. either (λ k. k) (λ k. unchecked b d r nd checked u k) l) exit.1)).1) exit.1)
+        one m T A d at mid (known_before body c n L t f tells b U s fit known) nd around (front body at (code c a T d) (fork d (released T s) (code c b s d)) next h) (
+          live,
+          safe_fork body t f m mid next d (released T s) (code c b s d) (λ r. B T A r ⊎ H a d r) (B T A) (B T A) (λ r. B s A r ⊎ H b d r) rest
+              (λ r u l. either (λ k. live r u k) (λ k. subst (λ (z : ℕ). LiveAt body mid z) (sym k.0) at_d) l)
+              (λ e g. absurd (some g)) (λ r u l. either (λ k. k) (λ k. absurd (l.1 k.0)) l.0) (λ r u l. either (λ k. k) (λ k. absurd (l.1 k.0)) l.0) (λ r u l. either (λ k. exit.0 r u k) (λ k. exit.2 r u k) l)
+              (λ p q sp lq sq. skipped_sure b m s A p q sp (sure_less body t f m q (B s A) (λ r. B s A r ⊎ H b d r) (λ r u l. inl l) sq))
+              (λ p sp. (two m s A d p next known nd around sp (exit.0, exit.1, (λ r u z. exit.2 r u (z.0, z.1.0)))).1) exit.1,
+          (λ r u z. subst (λ (y : ℕ). LiveAt body mid y) (sym z.0) at_d),
+        )
 
-    strict_safe : (o : Op) (a b : Expr ℕ) → (o ≡ op.And → ⊥) → (o ≡ op.Or → ⊥) → Sf a U → Sf b U → Fits c n L b U → (m : ℕ) (s : Variables) (A : ℕ → Type 0) (d at next : ℕ) → Kn s U → n ≤ d → Ar d A
+    strict_safe : (o : Op) (a b : Expr ℕ) → Checked o b L → (o ≡ op.And → ⊥) → (o ≡ op.Or → ⊥) → Sf a U → Sf b U → Fits c n L b U → (m : ℕ) (s : Variables) (A : ℕ → Type 0) (d at next : ℕ) → Kn s U → n ≤ d → Ar d A
         → Spans body at (code c a (before b s) d ++ (code c b s (suc d) ++ operator o d (is_plain b))) next → Comes m next (B s A) → Comes m at (B (before a (before b s)) A)
-    strict_safe o a b x y one two fit m s A d at next known nd around h exit =
+    strict_safe o a b checked x y one two fit m s A d at next known nd around h exit =
         pair_safe body c n L t f tells U low a b one two fit m s A d at next (operator o d (is_plain b)) known nd around h
-        (λ p sp. operator_ready body c n L t f tells U low o a b m s A d p next known nd around sp (exit.0, sure_less body t f m next (λ r. B s A r ⊎ ⊥) (B s A) (λ r u l. either (λ k. k) (λ z. absurd z) l) exit.1) x y)
+        (λ p sp. operator_ready body c n L t f tells U low o a b m s A d p next known nd around sp (exit.0, sure_less body t f m next (λ r. B s A r ⊎ ⊥) (B s A) (λ r u l. either (λ k. k) (λ z. absurd z) l) exit.1) checked x y)
 
-    pub binary_safe : (o : Op) (a b : Expr ℕ) → Sf a U → Sf b U → Fits c n L b U → Checked o b L → (m : ℕ) (s : Variables) (A : ℕ → Type 0) (d at next : ℕ) → Kn s U → n ≤ d → Ar d A
-        → Spans body at (code c a (before b s) d ++ operate o d (code c b s (right_register o d)) (released (before b s) s) (is_plain b)) next → Comes m next (B s A) → Comes m at (B (before a (before b s)) A)
-    binary_safe op.Add a b one two fit checked = strict_safe op.Add a b (λ e. cc) (λ e. cc) one two fit
-    binary_safe op.Sub a b one two fit checked = strict_safe op.Sub a b (λ e. cc) (λ e. cc) one two fit
-    binary_safe op.Mul a b one two fit checked = strict_safe op.Mul a b (λ e. cc) (λ e. cc) one two fit
-    binary_safe op.Div a b one two fit checked = strict_safe op.Div a b (λ e. cc) (λ e. cc) one two fit
-    binary_safe op.Mod a b one two fit checked = strict_safe op.Mod a b (λ e. cc) (λ e. cc) one two fit
-    binary_safe op.Equal a b one two fit checked = strict_safe op.Equal a b (λ e. cc) (λ e. cc) one two fit
-    binary_safe op.Less a b one two fit checked = strict_safe op.Less a b (λ e. cc) (λ e. cc) one two fit
-    binary_safe op.LessEqual a b one two fit checked = strict_safe op.LessEqual a b (λ e. cc) (λ e. cc) one two fit
-    binary_safe op.Greater a b one two fit checked = strict_safe op.Greater a b (λ e. cc) (λ e. cc) one two fit
-    binary_safe op.GreaterEqual a b one two fit checked = strict_safe op.GreaterEqual a b (λ e. cc) (λ e. cc) one two fit
-    binary_safe op.And a b one two fit checked = and_safe a b one two fit checked
-    binary_safe op.Or a b one two fit checked = or_safe a b one two fit checked
+    pub binary_safe : (i : ℕ) (o : Op) (a b : Expr ℕ) → Sf a U → Sf b U → Fits c n L b U → Checked o b L → (m : ℕ) (s : Variables) (A : ℕ → Type 0) (d at next : ℕ) → Kn s U → n ≤ d → Ar d A
+        → Spans body at (code c a (before b s) d ++ operate o d (code c b s (right_register o d)) (released (before b s) s) (is_plain b)) next → Full m next (B s A) (BinaryExpr i o a b) d → Comes m at (B (before a (before b s)) A)
+    binary_safe i op.Add a b one two fit checked m s A d at next known nd around h exit = strict_safe op.Add a b checked (λ e. cc) (λ e. cc) one two fit m s A d at next known nd around h (exit.0, sure_less body t f m next (B s A) (λ r. B s A r ⊎ H (BinaryExpr i op.Add a b) d r) (λ r u l. inl l) exit.1)
+    binary_safe i op.Sub a b one two fit checked m s A d at next known nd around h exit = strict_safe op.Sub a b checked (λ e. cc) (λ e. cc) one two fit m s A d at next known nd around h (exit.0, sure_less body t f m next (B s A) (λ r. B s A r ⊎ H (BinaryExpr i op.Sub a b) d r) (λ r u l. inl l) exit.1)
+    binary_safe i op.Mul a b one two fit checked m s A d at next known nd around h exit = strict_safe op.Mul a b checked (λ e. cc) (λ e. cc) one two fit m s A d at next known nd around h (exit.0, sure_less body t f m next (B s A) (λ r. B s A r ⊎ H (BinaryExpr i op.Mul a b) d r) (λ r u l. inl l) exit.1)
+    binary_safe i op.Div a b one two fit checked m s A d at next known nd around h exit = strict_safe op.Div a b checked (λ e. cc) (λ e. cc) one two fit m s A d at next known nd around h (exit.0, sure_less body t f m next (B s A) (λ r. B s A r ⊎ H (BinaryExpr i op.Div a b) d r) (λ r u l. inl l) exit.1)
+    binary_safe i op.Mod a b one two fit checked m s A d at next known nd around h exit = strict_safe op.Mod a b checked (λ e. cc) (λ e. cc) one two fit m s A d at next known nd around h (exit.0, sure_less body t f m next (B s A) (λ r. B s A r ⊎ H (BinaryExpr i op.Mod a b) d r) (λ r u l. inl l) exit.1)
+    binary_safe i op.Equal a b one two fit checked m s A d at next known nd around h exit = strict_safe op.Equal a b checked (λ e. cc) (λ e. cc) one two fit m s A d at next known nd around h (exit.0, sure_less body t f m next (B s A) (λ r. B s A r ⊎ H (BinaryExpr i op.Equal a b) d r) (λ r u l. inl l) exit.1)
+    binary_safe i op.Less a b one two fit checked m s A d at next known nd around h exit = strict_safe op.Less a b checked (λ e. cc) (λ e. cc) one two fit m s A d at next known nd around h (exit.0, sure_less body t f m next (B s A) (λ r. B s A r ⊎ H (BinaryExpr i op.Less a b) d r) (λ r u l. inl l) exit.1)
+    binary_safe i op.LessEqual a b one two fit checked m s A d at next known nd around h exit = strict_safe op.LessEqual a b checked (λ e. cc) (λ e. cc) one two fit m s A d at next known nd around h (exit.0, sure_less body t f m next (B s A) (λ r. B s A r ⊎ H (BinaryExpr i op.LessEqual a b) d r) (λ r u l. inl l) exit.1)
+    binary_safe i op.Greater a b one two fit checked m s A d at next known nd around h exit = strict_safe op.Greater a b checked (λ e. cc) (λ e. cc) one two fit m s A d at next known nd around h (exit.0, sure_less body t f m next (B s A) (λ r. B s A r ⊎ H (BinaryExpr i op.Greater a b) d r) (λ r u l. inl l) exit.1)
+    binary_safe i op.GreaterEqual a b one two fit checked m s A d at next known nd around h exit = strict_safe op.GreaterEqual a b checked (λ e. cc) (λ e. cc) one two fit m s A d at next known nd around h (exit.0, sure_less body t f m next (B s A) (λ r. B s A r ⊎ H (BinaryExpr i op.GreaterEqual a b) d r) (λ r u l. inl l) exit.1)
+    binary_safe i op.And a b one two fit checked m s A d at next known nd around h exit = and_safe a b one two fit m s A d at next known nd around h (exit.0, exit.1, (λ r u z. exit.2 r u (z.0, (z.1, refl))))
+    binary_safe i op.Or a b one two fit checked m s A d at next known nd around h exit = or_safe a b one two fit m s A d at next known nd around h (exit.0, exit.1, (λ r u z. exit.2 r u (z.0, (z.1, refl))))
 
     -- ---- one instruction without operands
 
@@ -166,12 +167,13 @@ module _ (body : List Instr) (c : Context) (n : ℕ) (L : Type 0) (t : Told) (f 
         let lows = base_low body c n L t f tells s A U d known low nd around in
         let live : Lives body t f q (B s A) = lives_on body t f q last (B s A) four.0.0 (λ r b. (less_not r d (lows r b), (less_not r (suc d) (let z = lows r b in omega (arith, z)), tt))) (inl refl) (lives_at body t f next (q + 1) (B s A) e exit.0) in
         let safe : Sure body t f m q (B s A) = safe_step body t f m q last (B s A) (B s A) four.0.0 live (λ x w. w)
-            (λ r u l. either (λ z. z.0) (λ z. either (λ b. absurd (let w = lows (suc d) b in omega (arith, w))) (λ w. told_not body c n L t f tells r d z.0 u (tells.even (suc d) d (omega (arith, nd)) nd w)) z.1) l)
-            (safe_at body t f m next (q + 1) (B s A) e exit.1) in
+        (λ r u l. either (λ z. z.0) (λ z. either (λ b. absurd (let w = lows (suc d) b in omega (arith, w))) (λ w. told_not body c n L t f tells r d z.0 u (tells.even (suc d) d (omega (arith, nd)) nd w)) z.1) l)
+        (safe_at body t f m next (q + 1) (B s A) e exit.1) in
         let facts = dropped_safe body c t f n L tells m mid next d (suc (suc d)) (Does last ∷ []) (B s A) two (λ r b. (less_not r d (lows r b), less_not r (suc (suc d)) (let z = lows r b in omega (arith, z)))) live safe in
-        let un : (r : ℕ) → B s A r ⊎ (r ≡ d) → (r < suc (suc d)) × (r ≢ suc d) = λ r l. either (λ b. let z = lows r b in (omega (arith, z), less_not r (suc d) (omega (arith, z)))) (λ w. (omega (arith, w), λ g. absurd (omega (arith, w, g)))) l in
-        ((λ r u l. test_live body c ty d (suc d) (suc (suc d)) p mid r (front body p one rest next h) (un r l).0 (un r l).1 (facts.1 r u l)),
-        test_safe body c t f n L tells ty m p mid d (suc d) (suc (suc d)) (λ r. B s A r ⊎ (r ≡ d)) (front body p one rest next h) un (omega arith) (omega (arith, nd)) facts.1 facts.0)
+        let un : (r : ℕ) → B s A r ⊎ (r ≡ d) → (r < suc (suc d)) × (r ≢ suc d) = λ r l. either (λ b. let z = lows r b in (omega (arith, z), less_not r (suc d) (omega (arith, z)))) (λ w. (omega (arith, w), λ g. absurd (omega (arith, w, g)))) l in (
+          (λ r u l. test_live body c ty d (suc d) (suc (suc d)) p mid r (front body p one rest next h) (un r l).0 (un r l).1 (facts.1 r u l)),
+          test_safe body c t f n L tells ty m p mid d (suc d) (suc (suc d)) (λ r. B s A r ⊎ (r ≡ d)) (front body p one rest next h) un (omega arith) (omega (arith, nd)) facts.1 facts.0,
+        )
 
     -- ---- calls, lists and records
 
@@ -211,6 +213,9 @@ module _ (body : List Instr) (c : Context) (n : ℕ) (L : Type 0) (t : Told) (f 
     first_of_range s A d k r (inl (inr (inr e))) = inr (omega (arith, e), omega (arith, e))
     first_of_range s A d k r (inr x) = inr (let l = x.0 in omega (arith, l), let l = x.1 in omega (arith, l))
 
-    pub more_of_one : (s u : Variables) (A : ℕ → Type 0) (e : Expr ℕ) (m d p : ℕ) → Comes m p (λ r. Vars s r ⊎ (A r ⊎ (r ≡ d))) → Leaves m p (B s A) (H e d)
-    more_of_one s u A e m d p k = ((λ r w l. k.0 r w (either (λ v. inl v) (λ a. inr (inl a)) l)),
-        sure_less body t f m p (λ r. B s A r ⊎ H e d r) (λ r. Vars s r ⊎ (A r ⊎ (r ≡ d))) (λ r w l. either (λ b. either (λ v. inl v) (λ a. inr (inl a)) b) (λ x. inr (inr x.0)) l) k.1)
+    pub more_of_one : (s u : Variables) (A : ℕ → Type 0) (e : Expr ℕ) (m d p : ℕ) → Comes m p (λ r. Vars s r ⊎ (A r ⊎ (r ≡ d))) → Full m p (B s A) e d
+    more_of_one s u A e m d p k = (
+      (λ r w l. k.0 r w (either (λ v. inl v) (λ a. inr (inl a)) l)),
+      sure_less body t f m p (λ r. B s A r ⊎ H e d r) (λ r. Vars s r ⊎ (A r ⊎ (r ≡ d))) (λ r w l. either (λ b. either (λ v. inl v) (λ a. inr (inl a)) b) (λ x. inr (inr x.0)) l) k.1,
+      (λ r w z. k.0 r w (inr (inr z.0))),
+    )

@@ -1,19 +1,20 @@
 -- A formed program is as the law on its code asks.
-use Rattle.std.proofs.Common.{◌≡◌, ◌≢◌, ◌<◌, ◌≤◌, ◌⊎◌, inl, inr, ℕ, zero, suc, ◌+◌, List, [], ◌∷◌, ◌++◌, length, Bool, true, false, Option, Some, None, refl, sym, ap, ◌∙◌, subst, arith}
+use Rattle.std.proofs.Common.{◌≡◌, ◌<◌, ◌⊎◌, inl, inr, ℕ, zero, suc, List, [], ◌∷◌, length, Bool, true, false, Option, Some, None, refl, sym, ap, ◌∙◌, subst, arith}
 use Rattle.std.specs.Prelude.{slice_get, is_some}
 use Rattle.wy_core.specs.CoreTree as tree
 use Rattle.wy_core.specs.CoreTree.{Expr, NullExpr, BoolExpr, IntExpr, VarExpr, CallExpr, NegExpr, NotExpr, LenExpr, BinaryExpr, IsExpr, IndexExpr, FieldExpr, ListExpr, RepeatExpr, RecordExpr, QuantExpr, Exprs, NoExprs, MoreExprs, Fields, NoFields, MoreFields, Step, IndexStep, FieldStep, Stmt, DeclareStmt, AssignStmt, CallStmt, ReturnStmt, AssertStmt, BreakStmt, ContinueStmt, SkipStmt, FailStmt, IfStmt, WhileStmt, Stmts, NoStmts, MoreStmts, Param, Alias, Decl, AliasDecl, RoutineDecl, Core, aliases_of, routines_of}
 use Rattle.wy_core.specs.declared.expressions.Op.{Op}
 use Rattle.wy_core.specs.declared.expressions.Op.TheVariants as op
-use Rattle.wy_formed.specs.Offers.{Signature, Offers, offers_of, signatures_of, IsCall}
+use Rattle.wy_formed.specs.Offers.{Signature, Offers, signatures_of, IsCall}
 use Rattle.wy_formed.specs.Bound as formed
 use Rattle.wy_formed.specs.Bound.{Scope, Has, IsNew, BoundExpr, BoundExprs, BoundFields, BoundOption, BoundPath, BoundStmt, BoundStmts, BoundClauses, BoundParams, Around, looped, behind, with_params}
 use Rattle.wy_tables.specs.declared.context.Context.{Context}
-use Rattle.wy_tables.specs.declared.targets.Target.{Target}
-use Rattle.wy_tables.specs.declared.targets.Target.TheVariants.{Declared, Prints, PrintsInt, Nothing}
 use Rattle.wy_tables.specs.Tables.{target, results_of}
-use Rattle.wy_compiled.specs.Expressions.{is_plain, count_of}
-use Rattle.wy_kept_code.specs.Fitting.{Checked, IsValue, Fits, FitAll, FitFields, FitsOption, FitsPath, IsAction, MayGive, SomeCode, FitsStmt, FitsStmts}
+use Rattle.wy_live.specs.Sets.{Variables}
+use Rattle.wy_live.specs.Walks.{live_all, head_live, around, nothing}
+use Rattle.wy_live.specs.declared.walk.Ends.{Ends}
+use Rattle.wy_compiled.specs.Expressions.{count_of}
+use Rattle.wy_kept_code.specs.Fitting.{SettledOption, SettledAt, SettledStmt, SettledStmts, Checked, IsValue, Fits, FitAll, FitFields, FitsOption, FitsPath, IsAction, MayGive, FitsStmt, FitsStmts}
 use Rattle.wy_kept_code.specs.Dead.{Counts, CountsAll, CountsFields, CountsOption, CountsPath, CountsStmt, CountsStmts, Declares, DeclaresIn, IsParam, Truths, TruthsAll, TruthsFields, TruthsOption, TruthsPath, TruthsStmt, TruthsStmts, LastTruth, TruthsClauses, TruthsTypes, TruthsRoutines}
 use Rattle.wy_kept_code.proofs.PieceLemmas.{either}
 
@@ -80,10 +81,13 @@ module _ (ds : List (Decl ℕ)) (o : Offers) (offers : o.routines ≡ signatures
       fits_expr (ListExpr at items) vs W both b tr own = fits_all items vs W both b tr own
       fits_expr (RepeatExpr at a d) vs W both b tr own = (fits_expr a vs W both b.0 tr.0 (λ x k. own x (inl k)), fits_expr d vs W both b.1 tr.1 (λ x k. own x (inr k)))
       fits_expr (RecordExpr at fs) vs W both b tr own = fits_fields fs vs W both b.1 tr own
-      fits_expr (QuantExpr at all y a d body) vs W both b tr own =
-          (fits_expr a vs W both b.1 tr.0 (λ x k. own x (inr (inl k))), fits_expr d vs W both b.2 tr.1 (λ x k. own x (inr (inr (inl k)))),
-          (λ w. either (λ u. own y (inl refl) u) (λ h. b.0.1 h) (both.1 y w)), b.0.0,
-          fits_expr body (y ∷ vs) (λ r. W r ⊎ (r ≡ y)) (both_more vs W y both) b.3 tr.2 (λ x k. own x (inr (inr (inr k)))))
+      fits_expr (QuantExpr at all y a d body) vs W both b tr own = (
+        fits_expr a vs W both b.1 tr.0 (λ x k. own x (inr (inl k))),
+        fits_expr d vs W both b.2 tr.1 (λ x k. own x (inr (inr (inl k)))),
+        (λ w. either (λ u. own y (inl refl) u) (λ h. b.0.1 h) (both.1 y w)),
+        b.0.0,
+        fits_expr body (y ∷ vs) (λ r. W r ⊎ (r ≡ y)) (both_more vs W y both) b.3 tr.2 (λ x k. own x (inr (inr (inr k)))),
+      )
 
       pub fits_all : (es : Exprs ℕ) (vs : Scope) (W : ℕ → Type 0) → Both vs W → BoundExprs o n vs es → TruthsAll L es → ((x : ℕ) → CountsAll es x → U x → ⊥) → FitAll c n L es W
       fits_all NoExprs vs W both b tr own = tt
@@ -143,9 +147,10 @@ module _ (ds : List (Decl ℕ)) (o : Offers) (offers : o.routines ≡ signatures
 
         pub fits_stmts : (ss : Stmts ℕ) (a : Around) (vs : Scope) → ((r : ℕ) → Has vs r → U r) → ((x : ℕ) → DeclaresIn ss x → U x) → (a.has_result ≡ true → R) → BoundStmts o n a vs ss → TruthsStmts L ss → ((x : ℕ) → CountsStmts ss x → U x → ⊥) → FitsStmts c n L R ss U
         fits_stmts NoStmts a vs inside dec gives b tr own = tt
-        fits_stmts (MoreStmts st rest) a vs inside dec gives b tr own =
-            (fits_stmt st a vs inside (λ x k. dec x (inl k)) gives b.0 tr.0 (λ x k. own x (inl k)),
-            fits_stmts rest a (behind vs st) (λ r h. behind_inside st vs inside (λ x k. dec x (inl k)) r h) (λ x k. dec x (inr k)) gives b.1 tr.1 (λ x k. own x (inr k)))
+        fits_stmts (MoreStmts st rest) a vs inside dec gives b tr own = (
+          fits_stmt st a vs inside (λ x k. dec x (inl k)) gives b.0 tr.0 (λ x k. own x (inl k)),
+          fits_stmts rest a (behind vs st) (λ r h. behind_inside st vs inside (λ x k. dec x (inl k)) r h) (λ x k. dec x (inr k)) gives b.1 tr.1 (λ x k. own x (inr k)),
+        )
 
 -- ---- declared variables have registers
 
@@ -186,13 +191,39 @@ module _ (L : Type 0) (l : L) where
   checked_loose op.Mul b = tt
   checked_loose op.Div b = tt
   checked_loose op.Mod b = tt
-  checked_loose op.Equal b = tt
+  checked_loose op.Equal b = inr l
   checked_loose op.Less b = tt
   checked_loose op.LessEqual b = tt
   checked_loose op.Greater b = tt
   checked_loose op.GreaterEqual b = tt
-  checked_loose op.And b = inr l
-  checked_loose op.Or b = inr l
+  checked_loose op.And b = tt
+  checked_loose op.Or b = tt
+
+  settled_option : (x : ℕ) (value : Option (Expr ℕ)) (s : Variables) → SettledOption x value s L
+  settled_option x None s = tt
+  settled_option x (Some e) s = inr (inr l)
+
+  settled_at : (x : ℕ) (path : List (Step ℕ)) (e : Expr ℕ) (s : Variables) → SettledAt x path e s L
+  settled_at x [] e s = inr (inr l)
+  settled_at x (step ∷ path) e s = tt
+
+  mutual
+    settled_stmt : (st : Stmt ℕ) (s : Variables) (ends : Ends) → SettledStmt L st s ends
+    settled_stmt (DeclareStmt at ty x value) s ends = settled_option x value s
+    settled_stmt (AssignStmt at x path e) s ends = settled_at x path e s
+    settled_stmt (CallStmt at g args) s ends = tt
+    settled_stmt (ReturnStmt at value) s ends = tt
+    settled_stmt (AssertStmt at e) s ends = tt
+    settled_stmt (BreakStmt at) s ends = tt
+    settled_stmt (ContinueStmt at) s ends = tt
+    settled_stmt (SkipStmt at) s ends = tt
+    settled_stmt (FailStmt at) s ends = tt
+    settled_stmt (IfStmt at e first second) s ends = (settled_stmts first s ends, settled_stmts second s ends)
+    settled_stmt (WhileStmt at e invariants inner) s ends = settled_stmts inner (head_live e inner s) (around s (head_live e inner s))
+
+    settled_stmts : (ss : Stmts ℕ) (s : Variables) (ends : Ends) → SettledStmts L ss s ends
+    settled_stmts NoStmts s ends = tt
+    settled_stmts (MoreStmts st rest) s ends = (settled_stmt st (live_all rest s ends) ends, settled_stmts rest s ends)
 
   mutual
     truths_loose : (e : Expr ℕ) → Truths L e
@@ -263,4 +294,4 @@ module _ (L : Type 0) (l : L) where
 
   pub routines_loose : (rs : List (tree.Routine ℕ)) → TruthsRoutines L rs
   routines_loose [] = tt
-  routines_loose (r ∷ rs) = (stmts_loose r.body, routines_loose rs)
+  routines_loose (r ∷ rs) = ((stmts_loose r.body, settled_stmts r.body [] nothing), routines_loose rs)

@@ -21,3 +21,4 @@ pub mod StatementReadLemmas
 pub mod StatementLemmas
 -- programs
 pub mod FitLemmas
+pub mod ProgramLemmas

@@ -1,12 +1,8 @@
 -- What the code of operands and of their instructions keeps.
-use Rattle.std.proofs.Common.{◌≡◌, ◌≢◌, ◌<◌, ◌≤◌, ◌⊎◌, inl, inr, ℕ, zero, suc, ◌+◌, List, [], ◌∷◌, ◌++◌, length, Bool, true, false, not, ◌&&◌, ◌||◌, ◌==◌, cond, Some, pos, refl, sym, ap, ◌∙◌, subst, arith, length-append}
-use Rattle.std.specs.Prelude.{slice_get}
-use Rattle.wy_core.specs.Types.{Ty}
-use Rattle.wy_core.specs.CoreTree.{Expr, NullExpr, BoolExpr, IntExpr, VarExpr, CallExpr, NegExpr, NotExpr, LenExpr, BinaryExpr, IsExpr, IndexExpr, FieldExpr, ListExpr, RepeatExpr, RecordExpr, QuantExpr, Exprs, NoExprs, MoreExprs, Fields, NoFields, MoreFields}
+use Rattle.std.proofs.Common.{◌≡◌, ◌<◌, ◌≤◌, ◌⊎◌, inl, inr, ℕ, zero, suc, ◌+◌, List, [], ◌∷◌, ◌++◌, length, Bool, true, false, refl, sym, ap, ◌∙◌, subst, arith}
+use Rattle.wy_core.specs.CoreTree.{Expr, NullExpr, BoolExpr, IntExpr, VarExpr, CallExpr, NegExpr, NotExpr, LenExpr, BinaryExpr, IsExpr, IndexExpr, FieldExpr, ListExpr, RepeatExpr, RecordExpr, QuantExpr}
 use Rattle.wy_core.specs.declared.expressions.Op.{Op}
 use Rattle.wy_core.specs.declared.expressions.Op.TheVariants as op
-use Rattle.wy_code.specs.declared.instructions.Scalar.{Scalar}
-use Rattle.wy_code.specs.declared.instructions.Scalar.TheVariants as scalar
 use Rattle.wy_code.specs.declared.instructions.Arithmetic.{Arithmetic}
 use Rattle.wy_code.specs.declared.instructions.Arithmetic.TheVariants as arithmetic
 use Rattle.wy_code.specs.declared.instructions.Comparison.{Comparison}
@@ -16,25 +12,21 @@ use Rattle.wy_code.specs.declared.instructions.Instr.TheVariants as instr
 use Rattle.wy_tables.specs.declared.context.Context.{Context}
 use Rattle.wy_tables.specs.declared.targets.Target.{Target}
 use Rattle.wy_tables.specs.declared.targets.Target.TheVariants.{Declared, Prints, PrintsInt, Nothing}
-use Rattle.wy_tables.specs.Tables.{target, number_of, shape_number, names_in}
-use Rattle.wy_live.specs.Paths.{occurs, any_occurs, any_field_occurs}
-use Rattle.wy_live.specs.Sets.{Variables, has, with}
-use Rattle.wy_live.specs.Walks.{before, before_all, before_fields, turned}
+use Rattle.wy_tables.specs.Tables.{target, number_of}
+use Rattle.wy_live.specs.Sets.{Variables}
+use Rattle.wy_live.specs.Walks.{before, turned}
 use Rattle.wy_pieces.specs.declared.steps.Step.{Step}
-use Rattle.wy_pieces.specs.declared.steps.Step.TheVariants.{Does, GoesOn, GoesBack, GoesOnUnless}
-use Rattle.wy_pieces.specs.Steps.{clear, dropped, fork, turns, registers_from}
-use Rattle.wy_compiled.specs.TypeTests.{test}
-use Rattle.wy_compiled.specs.Expressions.{lost, released, is_plain, release_unless, arith as arith_code, compare, equal, operator, operate, right_register, call, count_of, field_count, is_test, negated, list, record_of, ends_it, turn_end, said, ends, number_turns, quantify, code, codes, field_codes}
+use Rattle.wy_pieces.specs.declared.steps.Step.TheVariants.{Does}
+use Rattle.wy_pieces.specs.Steps.{clear, fork, registers_from}
+use Rattle.wy_compiled.specs.Expressions.{released, is_plain, arith as arith_code, compare, equal, operator, operate, right_register, call, count_of, is_test, negated, list, record_of, quantify, code, codes, field_codes}
 use Rattle.wy_kept_registers.specs.Keeping.{IsNone}
 use Rattle.wy_kept_code.specs.Alive.{IsOne, reads, changes, nexts, LiveAt}
-use Rattle.wy_kept_code.specs.Safe.{Told, gone, Into, After, Onward, Fine, Safe}
+use Rattle.wy_kept_code.specs.Safe.{Told, gone, Into, After, Onward, Safe}
 use Rattle.wy_kept_code.specs.Telling.{Tells}
-use Rattle.wy_kept_code.specs.Fitting.{Checked, IsValue, Fits, FitAll, FitFields}
-use Rattle.wy_kept_code.proofs.SafeLemmas.{Less, Within, safe_less, safe_sooner}
-use Rattle.wy_kept_code.proofs.PieceLemmas.{either, nat_up, one_not_none, less_not, From, none_below, Spans, front, back, tail, ended, live_reads, live_on, live_last, live_first, live_second, Turning, turning, Lives, Told_of, Sure, Behind, sure_less, safe_step, raw_step, raw_branches, safe_clears, safe_jumps, safe_loops, safe_branches, safe_at, safe_fork, lives_on, lives_at}
-use Rattle.wy_kept_code.proofs.SetLemmas.{never, not_both, same_of, same_to, other_of, Vars, before_cases, before_of, all_cases, all_of, fields_cases, fields_of, turned_cases, turned_of, with_cases, with_of, not_lost, still_has}
-use Rattle.wy_kept_code.proofs.TestLemmas.{at_end, test_live, Untouched, With, dropped_safe, test_safe}
-use Rattle.wy_kept_code.proofs.ReadLemmas.{from_registers, clear_live, Low, low_more, occurs_used, all_used, fields_used, right_live, turns_of, quantifier, branch_live, ends_live, kept_lost, code_live, codes_live, field_codes_live}
+use Rattle.wy_kept_code.specs.Fitting.{is_sure, Settled, Checked, IsValue, Fits}
+use Rattle.wy_kept_code.proofs.PieceLemmas.{either, less_not, Spans, front, back, tail, ended, live_reads, live_on, Lives, Told_of, Sure, sure_less, safe_step, safe_clears, safe_at, lives_on, lives_at}
+use Rattle.wy_kept_code.proofs.SetLemmas.{not_both, Vars, before_cases}
+use Rattle.wy_kept_code.proofs.ReadLemmas.{Low, occurs_used, code_live}
 
 -- ---- a range of registers
 
@@ -111,7 +103,11 @@ module _ (body : List Instr) (c : Context) (n : ℕ) (L : Type 0) where
 
     -- a value that may be a list or a record
     abbrev pub Held : Expr ℕ → ℕ → ℕ → Type 0
-    Held e d r = (r ≡ d) × (is_plain e ≡ false)
+    Held e d r = (r ≡ d) × (is_sure e ≡ false)
+
+    -- one that the code takes to be none, so that it doesn't release it
+    abbrev pub Kept : Expr ℕ → ℕ → ℕ → Type 0
+    Kept e d r = (r ≡ d) × ((is_sure e ≡ false) × (is_plain e ≡ true))
 
     abbrev pub Around : ℕ → (ℕ → Type 0) → Type 0
     Around d A = (r : ℕ) → A r → (n ≤ r) × (r < d)
@@ -126,6 +122,10 @@ module _ (body : List Instr) (c : Context) (n : ℕ) (L : Type 0) where
     -- the first of these are live there, and it is safe from there on with the others too
     abbrev pub Exit : ℕ → ℕ → (ℕ → Type 0) → (ℕ → Type 0) → Type 0
     Exit m p P Q = Lives body t f p P × Sure body t f m p (λ r. P r ⊎ Q r)
+
+    -- so, and what the code doesn't release is live
+    abbrev pub Full : ℕ → ℕ → (ℕ → Type 0) → Expr ℕ → ℕ → Type 0
+    Full m p P e d = Lives body t f p P × Sure body t f m p (λ r. P r ⊎ Held e d r) × Lives body t f p (Kept e d)
 
     pub told_not : {X : Type 0} (r q : ℕ) → r ≡ q → t.untold f r ≡ false → t.untold f q ≡ true → X
     told_not r q same u w = absurd (let z : t.untold f q ≡ false = subst (λ (x : ℕ). t.untold f x ≡ false) same u in let y : true ≡ false = sym w ∙ z in cc)
@@ -167,9 +167,11 @@ module _ (body : List Instr) (c : Context) (n : ℕ) (L : Type 0) where
     operands_ready m p next i B X H h none to read stays into onward exit =
         let e : next ≡ p + 1 = (let z = h.1 in omega (arith, z)) in
         let there = exit_at m next (p + 1) B H e exit in
-        let live : Lives body t f p (λ r. B r ⊎ X r) = λ r u l. either (λ b. live_on body p (p + 1) r i h.0.0 (none r b) to (there.0 r u b)) (λ x. live_reads body p r i h.0.0 (read r x)) l in
-        (live, safe_step body t f m p i (λ r. B r ⊎ X r) (λ r. B r ⊎ H r) h.0.0 live onward
-        (λ r u l. either (λ k. either (λ b. inl b) (λ x. inr (stays r x k.1)) k.0) (λ k. inr (into r u k)) l) there.1)
+        let live : Lives body t f p (λ r. B r ⊎ X r) = λ r u l. either (λ b. live_on body p (p + 1) r i h.0.0 (none r b) to (there.0 r u b)) (λ x. live_reads body p r i h.0.0 (read r x)) l in (
+          live,
+          safe_step body t f m p i (λ r. B r ⊎ X r) (λ r. B r ⊎ H r) h.0.0 live onward
+              (λ r u l. either (λ k. either (λ b. inl b) (λ x. inr (stays r x k.1)) k.0) (λ k. inr (into r u k)) l) there.1,
+        )
 
     pub clear_sure : (m p next : ℕ) (rs : List ℕ) (P Q : ℕ → Type 0) → Spans body p (clear rs) next → ((r : ℕ) → P r → IsNone r rs → Q r) → Sure body t f m next Q → Sure body t f m p P
     clear_sure m p next [] P Q h less safe = safe_at body t f m next p P (sym (ended body p next h)) (sure_less body t f m next P Q (λ r u l. less r l tt) safe)
@@ -179,7 +181,7 @@ module _ (body : List Instr) (c : Context) (n : ℕ) (L : Type 0) where
 
     -- what is shown of the code of an expression
     abbrev pub Safely : Expr ℕ → (ℕ → Type 0) → Type 1
-    Safely e U = (m : ℕ) (s : Variables) (A : ℕ → Type 0) (d at next : ℕ) → Known s U → n ≤ d → Around d A → Spans body at (code c e s d) next → Exit m next (Base s A) (Held e d) → Ready m at (Base (before e s) A)
+    Safely e U = (m : ℕ) (s : Variables) (A : ℕ → Type 0) (d at next : ℕ) → Known s U → n ≤ d → Around d A → Spans body at (code c e s d) next → Full m next (Base s A) e d → Ready m at (Base (before e s) A)
 
     module _ (U : ℕ → Type 0) (low : Low body c n L U) where
       -- an operand and an instruction that reads it
@@ -191,8 +193,8 @@ module _ (body : List Instr) (c : Context) (n : ℕ) (L : Type 0) where
           let mid = at + length (code c a s d) in
           is m s A d at mid known nd around (front body at (code c a s d) (Does i ∷ []) next h)
           (let k = operands_ready m mid next i (Base s A) (Held a d) H (back body at (code c a s d) (Does i ∷ []) next h) (λ r b. none r (base_low s A U d known low nd around r b)) (to mid)
-              (λ r x. subst (λ (z : ℕ). IsOne z (reads i)) (sym x.0) read) (λ r x g. absurd (left (subst (λ (z : ℕ). IsNone z (gone i)) x.0 g)))
-              (λ r u g. into r (Told_of body t f (λ q. Base s A q ⊎ Held a d q)) g) (λ q w. onward q mid (Told_of body t f (λ z. Base s A z ⊎ Held a d z)) w) exit in ((λ r u l. k.0 r u (inl l)), k.1))
+          (λ r x. subst (λ (z : ℕ). IsOne z (reads i)) (sym x.0) read) (λ r x g. absurd (left (subst (λ (z : ℕ). IsNone z (gone i)) x.0 g)))
+          (λ r u g. into r (Told_of body t f (λ q. Base s A q ⊎ Held a d q)) g) (λ q w. onward q mid (Told_of body t f (λ z. Base s A z ⊎ Held a d z)) w) exit in ((λ r u l. k.0 r u (inl l)), k.1, (λ r u z. k.0 r u (inr (z.0, z.1.0)))))
 
       -- two operands, the first of which waits
       pub pair_safe : (a b : Expr ℕ) → Safely a U → Safely b U → Fits c n L b U → (m : ℕ) (s : Variables) (A : ℕ → Type 0) (d at next : ℕ) (rest : List Step) → Known s U → n ≤ d → Around d A
@@ -204,11 +206,13 @@ module _ (body : List Instr) (c : Context) (n : ℕ) (L : Type 0) where
           let mid2 = mid + length (code c b s (suc d)) in
           let k = last mid2 (back body mid (code c b s (suc d)) rest next behind) in
           let B : ℕ → Type 0 = λ r. A r ⊎ Held a d r in
-          let there = two m s B (suc d) mid mid2 known (omega (arith, nd)) (around_more d A (Held a d) nd around (λ r x. x.0)) (front body mid (code c b s (suc d)) rest next behind)
-              ((λ r u l. k.0 r u (regroup s A a d r l)),
-              sure_less body t f m mid2 (λ r. Base s B r ⊎ Held b (suc d) r) (λ r. Base s A r ⊎ (Held a d r ⊎ Held b (suc d) r)) (λ r u l. either (λ z. either (λ v. inl v) (λ w. inr (inl w)) (regroup2 s A a d r z)) (λ w. inr (inr w)) l) k.1) in
+          let there = two m s B (suc d) mid mid2 known (omega (arith, nd)) (around_more d A (Held a d) nd around (λ r x. x.0)) (front body mid (code c b s (suc d)) rest next behind) (
+            (λ r u l. k.0 r u (regroup s A a d r l)),
+            sure_less body t f m mid2 (λ r. Base s B r ⊎ Held b (suc d) r) (λ r. Base s A r ⊎ (Held a d r ⊎ Held b (suc d) r)) (λ r u l. either (λ z. either (λ v. inl v) (λ w. inr (inl w)) (regroup2 s A a d r z)) (λ w. inr (inr w)) l) k.1,
+            (λ r u z. k.0 r u (inr (inr (z.0, z.1.0)))),
+          ) in
           one m (before b s) A d at mid (known_before b U s fit_b known) nd around (front body at (code c a (before b s) d) (code c b s (suc d) ++ rest) next h)
-          ((λ r u l. there.0 r u (either (λ v. inl v) (λ w. inr (inl w)) l)), sure_less body t f m mid (λ r. Base (before b s) A r ⊎ Held a d r) (Base (before b s) B) (λ r u l. either (λ z. either (λ v. inl v) (λ w. inr (inl w)) z) (λ w. inr (inr w)) l) there.1)
+          ((λ r u l. there.0 r u (either (λ v. inl v) (λ w. inr (inl w)) l)), sure_less body t f m mid (λ r. Base (before b s) A r ⊎ Held a d r) (Base (before b s) B) (λ r u l. either (λ z. either (λ v. inl v) (λ w. inr (inl w)) z) (λ w. inr (inr w)) l) there.1, (λ r u z. there.0 r u (inr (inr (z.0, z.1.0)))))
         where
           regroup : (s : Variables) (A : ℕ → Type 0) (a : Expr ℕ) (d r : ℕ) → Base s (λ q. A q ⊎ Held a d q) r → Base s A r ⊎ (Held a d r ⊎ Held b (suc d) r)
           regroup s A a d r (inl v) = inl (inl v)
@@ -222,7 +226,7 @@ module _ (body : List Instr) (c : Context) (n : ℕ) (L : Type 0) where
 
       -- the instruction that reads both
       pub pair_ready : (a b : Expr ℕ) (m : ℕ) (s : Variables) (A : ℕ → Type 0) (d p next : ℕ) (i : Instr) (H : ℕ → Type 0) → Known s U → n ≤ d → Around d A → Spans body p (Does i ∷ []) next
-          → ((r : ℕ) → r < d → IsNone r (changes i)) → IsOne (p + 1) (nexts p i) → IsOne d (reads i) → IsOne (suc d) (reads i) → (IsNone d (gone i) → ⊥) → ((is_plain b ≡ false) → IsNone (suc d) (gone i) → H (suc d))
+          → ((r : ℕ) → r < d → IsNone r (changes i)) → IsOne (p + 1) (nexts p i) → IsOne d (reads i) → IsOne (suc d) (reads i) → (IsNone d (gone i) → ⊥) → ((is_sure b ≡ false) → IsNone (suc d) (gone i) → H (suc d))
           → ((r : ℕ) (P : ℕ → Type 0) → Into t f i P r → H r) → ((k : ℕ) (P : ℕ → Type 0) → Safe t f body k (p + 1) (After t f i P) → Onward t f (Safe t f body k) p i P)
           → Exit m next (Base s A) H → Ready m p (λ r. Base s A r ⊎ (Held a d r ⊎ Held b (suc d) r))
       pair_ready a b m s A d p next i H known nd around h none to one two left also into onward exit =
@@ -247,10 +251,11 @@ module _ (body : List Instr) (c : Context) (n : ℕ) (L : Type 0) where
           pair_ready a b m s A d p next (instr.Compare d o d (suc d)) Nothing_more known nd around h (λ r l. (less_not r d l, tt)) (inl refl) (inl refl) (inr (inl refl)) (λ g. g.0 refl) (λ e g. g.1.1.0 refl) (λ r P g. g) (λ k P w. w) exit
 
       -- behind an equation its right operand is released where it may be a list or a record
-      equal_ready : (a b : Expr ℕ) (plain : Bool) → is_plain b ≡ plain → (m : ℕ) (s : Variables) (A : ℕ → Type 0) (d p next : ℕ) → Known s U → n ≤ d → Around d A → Spans body p (equal plain d) next → Exit m next (Base s A) Nothing_more → Ready m p (λ r. Base s A r ⊎ (Held a d r ⊎ Held b (suc d) r))
-      equal_ready a b true same m s A d p next known nd around h exit =
-          pair_ready a b m s A d p next (instr.Equal d d (suc d)) Nothing_more known nd around h (λ r l. (less_not r d l, tt)) (inl refl) (inl refl) (inr (inl refl)) (λ g. g.0 refl) (λ e g. not_both (is_plain b) same e) (λ r P g. g) (λ k P w. w) exit
-      equal_ready a b false same m s A d p next known nd around h exit =
+      equal_ready : (a b : Expr ℕ) (plain : Bool) → is_plain b ≡ plain → Settled b L → (m : ℕ) (s : Variables) (A : ℕ → Type 0) (d p next : ℕ) → Known s U → n ≤ d → Around d A → Spans body p (equal plain d) next → Exit m next (Base s A) Nothing_more → Ready m p (λ r. Base s A r ⊎ (Held a d r ⊎ Held b (suc d) r))
+      equal_ready a b true same settled m s A d p next known nd around h exit =
+          pair_ready a b m s A d p next (instr.Equal d d (suc d)) (λ r. (r ≡ suc d) × L) known nd around h (λ r l. (less_not r d l, tt)) (inl refl) (inl refl) (inr (inl refl)) (λ g. g.0 refl) (λ e g. (refl, either (λ k. either (λ z. not_both (is_plain b) same z) (λ z. not_both (is_sure b) z e) k) (λ l. l) settled)) (λ r P g. absurd g) (λ k P w. w)
+          (exit.0, sure_less body t f m next (λ r. Base s A r ⊎ ((r ≡ suc d) × L)) (λ r. Base s A r ⊎ ⊥) (λ r u l. either (λ z. inl z) (λ z. told_not r (suc d) z.0 u (tells.loose z.1 (suc d) (omega (arith, nd)))) l) exit.1)
+      equal_ready a b false same settled m s A d p next known nd around h exit =
           let clears : Instr = instr.Clear (suc d ∷ []) in
           let two = tail body p (instr.Equal d d (suc d)) (Does clears ∷ []) next h in
           let e : next ≡ p + 1 + 1 = (let z = two.1 in omega (arith, z)) in
@@ -259,16 +264,16 @@ module _ (body : List Instr) (c : Context) (n : ℕ) (L : Type 0) where
           pair_ready a b m s A d p (p + 1) (instr.Equal d d (suc d)) (λ r. r ≡ suc d) known nd around ((h.0.0, tt), omega arith) (λ r l. (less_not r d l, tt)) (inl refl) (inl refl) (inr (inl refl)) (λ g. g.0 refl) (λ z g. refl) (λ r P g. absurd g) (λ k P w. w)
           (live, safe_clears body t f m (p + 1) (suc d ∷ []) (λ r. Base s A r ⊎ (r ≡ suc d)) (λ r. Base s A r ⊎ ⊥) two.0.0 (λ r u l. either (λ b. inl b) (λ z. absurd (l.1.0 z)) l.0) (safe_at body t f m next (p + 1 + 1) (λ r. Base s A r ⊎ ⊥) e exit.1))
 
-      pub operator_ready : (o : Op) (a b : Expr ℕ) (m : ℕ) (s : Variables) (A : ℕ → Type 0) (d p next : ℕ) → Known s U → n ≤ d → Around d A → Spans body p (operator o d (is_plain b)) next → Exit m next (Base s A) Nothing_more → (o ≡ op.And → ⊥) → (o ≡ op.Or → ⊥) → Ready m p (λ r. Base s A r ⊎ (Held a d r ⊎ Held b (suc d) r))
-      operator_ready op.Add a b m s A d p next known nd around h exit x y = arith_ready a b arithmetic.Add m s A d p next known nd around h exit
-      operator_ready op.Sub a b m s A d p next known nd around h exit x y = arith_ready a b arithmetic.Sub m s A d p next known nd around h exit
-      operator_ready op.Mul a b m s A d p next known nd around h exit x y = arith_ready a b arithmetic.Mul m s A d p next known nd around h exit
-      operator_ready op.Div a b m s A d p next known nd around h exit x y = arith_ready a b arithmetic.Div m s A d p next known nd around h exit
-      operator_ready op.Mod a b m s A d p next known nd around h exit x y = arith_ready a b arithmetic.Mod m s A d p next known nd around h exit
-      operator_ready op.Equal a b m s A d p next known nd around h exit x y = equal_ready a b (is_plain b) refl m s A d p next known nd around h exit
-      operator_ready op.Less a b m s A d p next known nd around h exit x y = compare_ready a b comparison.Less m s A d p next known nd around h exit
-      operator_ready op.LessEqual a b m s A d p next known nd around h exit x y = compare_ready a b comparison.LessEqual m s A d p next known nd around h exit
-      operator_ready op.Greater a b m s A d p next known nd around h exit x y = compare_ready a b comparison.Greater m s A d p next known nd around h exit
-      operator_ready op.GreaterEqual a b m s A d p next known nd around h exit x y = compare_ready a b comparison.GreaterEqual m s A d p next known nd around h exit
-      operator_ready op.And a b m s A d p next known nd around h exit x y = absurd (x refl)
-      operator_ready op.Or a b m s A d p next known nd around h exit x y = absurd (y refl)
+      pub operator_ready : (o : Op) (a b : Expr ℕ) (m : ℕ) (s : Variables) (A : ℕ → Type 0) (d p next : ℕ) → Known s U → n ≤ d → Around d A → Spans body p (operator o d (is_plain b)) next → Exit m next (Base s A) Nothing_more → Checked o b L → (o ≡ op.And → ⊥) → (o ≡ op.Or → ⊥) → Ready m p (λ r. Base s A r ⊎ (Held a d r ⊎ Held b (suc d) r))
+      operator_ready op.Add a b m s A d p next known nd around h exit checked x y = arith_ready a b arithmetic.Add m s A d p next known nd around h exit
+      operator_ready op.Sub a b m s A d p next known nd around h exit checked x y = arith_ready a b arithmetic.Sub m s A d p next known nd around h exit
+      operator_ready op.Mul a b m s A d p next known nd around h exit checked x y = arith_ready a b arithmetic.Mul m s A d p next known nd around h exit
+      operator_ready op.Div a b m s A d p next known nd around h exit checked x y = arith_ready a b arithmetic.Div m s A d p next known nd around h exit
+      operator_ready op.Mod a b m s A d p next known nd around h exit checked x y = arith_ready a b arithmetic.Mod m s A d p next known nd around h exit
+      operator_ready op.Equal a b m s A d p next known nd around h exit checked x y = equal_ready a b (is_plain b) refl checked m s A d p next known nd around h exit
+      operator_ready op.Less a b m s A d p next known nd around h exit checked x y = compare_ready a b comparison.Less m s A d p next known nd around h exit
+      operator_ready op.LessEqual a b m s A d p next known nd around h exit checked x y = compare_ready a b comparison.LessEqual m s A d p next known nd around h exit
+      operator_ready op.Greater a b m s A d p next known nd around h exit checked x y = compare_ready a b comparison.Greater m s A d p next known nd around h exit
+      operator_ready op.GreaterEqual a b m s A d p next known nd around h exit checked x y = compare_ready a b comparison.GreaterEqual m s A d p next known nd around h exit
+      operator_ready op.And a b m s A d p next known nd around h exit checked x y = absurd (x refl)
+      operator_ready op.Or a b m s A d p next known nd around h exit checked x y = absurd (y refl)

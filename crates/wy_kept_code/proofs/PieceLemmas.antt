@@ -1,15 +1,15 @@
 -- Pieces of code: where they stand, which registers are live through them, and what makes them safe.
-use Rattle.std.proofs.Common.{◌≡◌, ◌≢◌, ◌<◌, ◌≤◌, ◌⊎◌, inl, inr, ℕ, zero, suc, ◌+◌, ◌-◌, List, [], ◌∷◌, ◌++◌, length, Bool, true, false, Some, refl, sym, ap, ◌∙◌, subst, arith, length-append}
+use Rattle.std.proofs.Common.{◌≡◌, ◌≢◌, ◌<◌, ◌≤◌, ◌⊎◌, inl, inr, ℕ, zero, suc, ◌+◌, ◌-◌, List, [], ◌∷◌, ◌++◌, length, true, false, Some, refl, sym, ◌∙◌, subst, arith, length-append}
 use Rattle.std.specs.Prelude.{slice_get}
 use Rattle.wy_code.specs.declared.instructions.Instr.{Instr}
 use Rattle.wy_code.specs.declared.instructions.Instr.TheVariants as instr
 use Rattle.wy_pieces.specs.declared.steps.Step.{Step}
 use Rattle.wy_pieces.specs.declared.steps.Step.TheVariants.{Does, GoesOn, GoesBack, GoesOnUnless}
-use Rattle.wy_pieces.specs.Steps.{clear, fork, over, turns}
+use Rattle.wy_pieces.specs.Steps.{fork, over, turns}
 use Rattle.wy_simulation.specs.Places.{StandAt}
 use Rattle.wy_simulation.proofs.PlaceLemmas.{stand_front, stand_back, stand_moved}
 use Rattle.wy_kept_registers.specs.Keeping.{IsNone}
-use Rattle.wy_kept_code.specs.Alive.{IsOne, reads, changes, nexts, ReadWithin, LiveAt, is_clear}
+use Rattle.wy_kept_code.specs.Alive.{IsOne, reads, changes, nexts, LiveAt}
 use Rattle.wy_kept_code.specs.Safe.{Told, gone, Into, After, Onward, Fine, Safe}
 use Rattle.wy_kept_code.proofs.SafeLemmas.{told_or_not, Within, Less, safe_less, safe_sooner}
 
@@ -130,7 +130,7 @@ module _ (body : List Instr) where
         branches = subst (λ (z : ℕ). slice_get body b ≡ Some (instr.Branch d z)) there rest.0.0;
         inside = front (b + 1) inner (GoesBack long ∷ []) next more;
         jumps = subst (λ (z : ℕ). slice_get body j ≡ Some (instr.Jump z)) home last.0.0;
-        behind = (let z = last.1 in omega (arith, z))
+        behind = (let z = last.1 in omega (arith, z));
       }
 
   -- ---- what is safe
@@ -196,10 +196,13 @@ module _ (body : List Instr) where
         → Within t f P Q → Within t f P R → Safe t f body m (p + 1) Q → Safe t f body m q R → Safe t f body m p P
     raw_branches zero p d q P Q R is live one two safe also = tt
     raw_branches (suc n) p d q P Q R is live one two safe also = λ j e.
-        subst (λ (k : Instr). Fine t f body p k P × Onward t f (Safe t f body n) p k P) (same_instr (instr.Branch d q) j (sym is ∙ e))
-        ((λ c r u l. live r u l),
-        (safe_less t f body n (p + 1) (After t f (instr.Branch d q) P) Q (λ r l. one r (held r l)) (safe_sooner t f body n (p + 1) Q safe),
-        safe_less t f body n q (After t f (instr.Branch d q) P) R (λ r l. two r (held r l)) (safe_sooner t f body n q R also)))
+        subst (λ (k : Instr). Fine t f body p k P × Onward t f (Safe t f body n) p k P) (same_instr (instr.Branch d q) j (sym is ∙ e)) (
+          (λ c r u l. live r u l),
+          (
+            safe_less t f body n (p + 1) (After t f (instr.Branch d q) P) Q (λ r l. one r (held r l)) (safe_sooner t f body n (p + 1) Q safe),
+            safe_less t f body n q (After t f (instr.Branch d q) P) R (λ r l. two r (held r l)) (safe_sooner t f body n q R also),
+          ),
+        )
       where
         held : (r : ℕ) → After t f (instr.Branch d q) P r → P r
         held r (inl g) = g.0
@@ -249,10 +252,13 @@ module _ (body : List Instr) where
         → Less t f (λ r. P r × (r ≢ d)) Q → Less t f (λ r. P r × (r ≢ d)) R → Sure m (p + 1) Q → Sure m q R → Sure m p P
     safe_branches zero p d q P Q R is live one two safe also = tt
     safe_branches (suc n) p d q P Q R is live one two safe also = λ j e.
-        subst (λ (k : Instr). Fine t f body p k (Told_of P) × Onward t f (Safe t f body n) p k (Told_of P)) (same_instr (instr.Branch d q) j (sym is ∙ e))
-        (fine_of p (instr.Branch d q) P live,
-        (safe_less t f body n (p + 1) (After t f (instr.Branch d q) (Told_of P)) (Told_of Q) (told_after (instr.Branch d q) P Q (λ r u l. one r u (held r l))) (safe_sooner t f body n (p + 1) (Told_of Q) safe),
-        safe_less t f body n q (After t f (instr.Branch d q) (Told_of P)) (Told_of R) (told_after (instr.Branch d q) P R (λ r u l. two r u (held r l))) (safe_sooner t f body n q (Told_of R) also)))
+        subst (λ (k : Instr). Fine t f body p k (Told_of P) × Onward t f (Safe t f body n) p k (Told_of P)) (same_instr (instr.Branch d q) j (sym is ∙ e)) (
+          fine_of p (instr.Branch d q) P live,
+          (
+            safe_less t f body n (p + 1) (After t f (instr.Branch d q) (Told_of P)) (Told_of Q) (told_after (instr.Branch d q) P Q (λ r u l. one r u (held r l))) (safe_sooner t f body n (p + 1) (Told_of Q) safe),
+            safe_less t f body n q (After t f (instr.Branch d q) (Told_of P)) (Told_of R) (told_after (instr.Branch d q) P R (λ r u l. two r u (held r l))) (safe_sooner t f body n q (Told_of R) also),
+          ),
+        )
       where
         held : (r : ℕ) → Behind (instr.Branch d q) P r → P r × (r ≢ d)
         held r (inl g) = (g.0, g.1.0)
@@ -283,6 +289,7 @@ module _ (body : List Instr) where
         (a (at + 1) q (front (at + 1) first (GoesOn (length (s ∷ second)) ∷ s ∷ second) next rest) (let e = behind.1 in omega (arith, e)) at_q
         (safe_jumps m q (suc q + length (s ∷ second)) Q Q behind.0.0 lq2 (λ r u l. l) (safe_at m next (suc q + length (s ∷ second)) Q (sym out) safe)))
         (b (suc at + (length first + 1)) (stand_moved body (q + 1) (suc at + (length first + 1)) (s ∷ second) place behind.0.1, let e = behind.1 in omega (arith, e)))
+
     pub safe_fork : (m at next d : ℕ) (first second : List Step) (P A B Q : ℕ → Type 0) → Spans at (fork d first second) next
         → Lives at P → (first ≡ [] → second ≡ [] → Less t f P A) → Less t f (λ r. P r × (r ≢ d)) A → Less t f (λ r. P r × (r ≢ d)) B → Lives next Q
         → ((p q : ℕ) → Spans p first q → Lives q Q → Sure m q Q → Sure m p A) → ((p : ℕ) → Spans p second next → Sure m p B)

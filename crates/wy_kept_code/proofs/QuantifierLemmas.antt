@@ -1,42 +1,29 @@
 -- The code of a quantifier keeps nothing dead.
-use Rattle.std.proofs.Common.{◌≡◌, ◌≢◌, ◌<◌, ◌≤◌, ◌⊎◌, inl, inr, ℕ, zero, suc, ◌+◌, List, [], ◌∷◌, ◌++◌, length, Bool, true, false, not, ◌&&◌, ◌||◌, ◌==◌, cond, Some, pos, refl, sym, ap, ◌∙◌, subst, arith, length-append}
+use Rattle.std.proofs.Common.{◌≡◌, ◌≢◌, ◌<◌, ◌≤◌, ◌⊎◌, inl, inr, ℕ, suc, ◌+◌, List, [], ◌∷◌, ◌++◌, length, Bool, true, false, not, Some, pos, refl, sym, subst, arith}
 use Rattle.std.specs.Prelude.{slice_get}
-use Rattle.wy_core.specs.Types.{Ty}
-use Rattle.wy_core.specs.CoreTree.{Expr, NullExpr, BoolExpr, IntExpr, VarExpr, CallExpr, NegExpr, NotExpr, LenExpr, BinaryExpr, IsExpr, IndexExpr, FieldExpr, ListExpr, RepeatExpr, RecordExpr, QuantExpr, Exprs, NoExprs, MoreExprs, Fields, NoFields, MoreFields}
-use Rattle.wy_core.specs.declared.expressions.Op.{Op}
-use Rattle.wy_core.specs.declared.expressions.Op.TheVariants as op
-use Rattle.wy_code.specs.declared.instructions.Scalar.{Scalar}
+use Rattle.wy_core.specs.CoreTree.{Expr}
 use Rattle.wy_code.specs.declared.instructions.Scalar.TheVariants as scalar
-use Rattle.wy_code.specs.declared.instructions.Arithmetic.{Arithmetic}
 use Rattle.wy_code.specs.declared.instructions.Arithmetic.TheVariants as arithmetic
-use Rattle.wy_code.specs.declared.instructions.Comparison.{Comparison}
 use Rattle.wy_code.specs.declared.instructions.Comparison.TheVariants as comparison
 use Rattle.wy_code.specs.declared.instructions.Instr.{Instr}
 use Rattle.wy_code.specs.declared.instructions.Instr.TheVariants as instr
 use Rattle.wy_tables.specs.declared.context.Context.{Context}
-use Rattle.wy_tables.specs.declared.targets.Target.{Target}
-use Rattle.wy_tables.specs.declared.targets.Target.TheVariants.{Declared, Prints, PrintsInt, Nothing}
-use Rattle.wy_tables.specs.Tables.{target, number_of, shape_number, names_in}
-use Rattle.wy_live.specs.Paths.{occurs, any_occurs, any_field_occurs}
-use Rattle.wy_live.specs.Sets.{Variables, has, with}
-use Rattle.wy_live.specs.Walks.{before, before_all, before_fields, turned}
+use Rattle.wy_live.specs.Sets.{Variables}
+use Rattle.wy_live.specs.Walks.{before, turned}
 use Rattle.wy_pieces.specs.declared.steps.Step.{Step}
-use Rattle.wy_pieces.specs.declared.steps.Step.TheVariants.{Does, GoesOn, GoesBack, GoesOnUnless}
-use Rattle.wy_pieces.specs.Steps.{clear, dropped, fork, turns, registers_from}
-use Rattle.wy_compiled.specs.TypeTests.{test}
-use Rattle.wy_compiled.specs.Expressions.{lost, released, is_plain, release_unless, arith as arith_code, compare, equal, operator, operate, right_register, call, count_of, field_count, is_test, negated, list, record_of, ends_it, turn_end, said, ends, number_turns, quantify, code, codes, field_codes}
+use Rattle.wy_pieces.specs.declared.steps.Step.TheVariants.{Does, GoesOn, GoesOnUnless}
+use Rattle.wy_pieces.specs.Steps.{clear}
+use Rattle.wy_compiled.specs.Expressions.{lost, released, is_plain, turn_end, said, ends, quantify, code}
 use Rattle.wy_kept_registers.specs.Keeping.{IsNone}
-use Rattle.wy_kept_code.specs.Alive.{IsOne, reads, changes, nexts, LiveAt}
-use Rattle.wy_kept_code.specs.Safe.{Told, gone, Into, After, Onward, Fine, Safe}
+use Rattle.wy_kept_code.specs.Alive.{LiveAt}
+use Rattle.wy_kept_code.specs.Safe.{Told, Safe}
 use Rattle.wy_kept_code.specs.Telling.{Tells}
-use Rattle.wy_kept_code.specs.Fitting.{Checked, IsValue, Fits, FitAll, FitFields}
-use Rattle.wy_kept_code.proofs.SafeLemmas.{Less, Within, safe_less, safe_sooner}
-use Rattle.wy_kept_code.proofs.PieceLemmas.{either, nat_up, one_not_none, less_not, From, none_below, Spans, front, back, tail, ended, live_reads, live_on, live_last, live_first, live_second, Turning, turning, Lives, Told_of, Sure, Behind, sure_less, safe_step, raw_step, raw_branches, safe_clears, safe_jumps, safe_loops, safe_branches, safe_at, safe_fork, lives_on, lives_at}
-use Rattle.wy_kept_code.proofs.SetLemmas.{never, not_both, same_of, same_to, other_of, Vars, before_cases, before_of, all_cases, all_of, fields_cases, fields_of, turned_cases, turned_of, with_cases, with_of, not_lost, still_has}
-use Rattle.wy_kept_code.proofs.TestLemmas.{at_end, test_live, Untouched, With, dropped_safe, test_safe}
-use Rattle.wy_kept_code.proofs.ReadLemmas.{from_registers, clear_live, Low, low_more, occurs_used, all_used, fields_used, right_live, turns_of, quantifier, branch_live, ends_live, kept_lost, code_live, codes_live, field_codes_live}
-
-use Rattle.wy_kept_code.proofs.OperandLemmas.{Range, in_range, code_some, fork_reads, told_not, ready_less, ready_at, exit_at, base_low, known_before, around_more, code_lives, operands_ready, clear_sure, unary_safe, pair_safe, pair_ready, exit_none, operator_ready}
+use Rattle.wy_kept_code.specs.Fitting.{is_sure, Fits}
+use Rattle.wy_kept_code.proofs.SafeLemmas.{safe_sooner}
+use Rattle.wy_kept_code.proofs.PieceLemmas.{either, nat_up, less_not, Spans, front, back, tail, live_reads, live_on, Lives, Sure, sure_less, safe_step, raw_step, raw_branches, safe_jumps, safe_loops, safe_branches, safe_at, lives_on, lives_at}
+use Rattle.wy_kept_code.proofs.SetLemmas.{Vars, before_of, turned_cases, still_has}
+use Rattle.wy_kept_code.proofs.ReadLemmas.{low_more, occurs_used, turns_of, quantifier, branch_live, kept_lost, code_live}
+use Rattle.wy_kept_code.proofs.OperandLemmas.{told_not, base_low, clear_sure}
 
 module _ (body : List Instr) (c : Context) (n : ℕ) (L : Type 0) (t : Told) (f : ℕ) (tells : Tells t f c n L) where
   -- live variables, and the registers of the expressions around
@@ -45,13 +32,20 @@ module _ (body : List Instr) (c : Context) (n : ℕ) (L : Type 0) (t : Told) (f 
 
   -- a value that may be a list or a record
   abbrev H : Expr ℕ → ℕ → ℕ → Type 0
-  H e d r = (r ≡ d) × (is_plain e ≡ false)
+  H e d r = (r ≡ d) × (is_sure e ≡ false)
+
+  -- one that the code takes to be none
+  abbrev K : Expr ℕ → ℕ → ℕ → Type 0
+  K e d r = (r ≡ d) × ((is_sure e ≡ false) × (is_plain e ≡ true))
 
   abbrev Comes : ℕ → ℕ → (ℕ → Type 0) → Type 0
   Comes m p P = Lives body t f p P × Sure body t f m p P
 
   abbrev Leaves : ℕ → ℕ → (ℕ → Type 0) → (ℕ → Type 0) → Type 0
   Leaves m p P Q = Lives body t f p P × Sure body t f m p (λ r. P r ⊎ Q r)
+
+  abbrev Full : ℕ → ℕ → (ℕ → Type 0) → Expr ℕ → ℕ → Type 0
+  Full m p P e d = Lives body t f p P × Sure body t f m p (λ r. P r ⊎ H e d r) × Lives body t f p (K e d)
 
   abbrev Kn : Variables → (ℕ → Type 0) → Type 0
   Kn s U = (r : ℕ) → Vars s r → U r
@@ -63,7 +57,7 @@ module _ (body : List Instr) (c : Context) (n : ℕ) (L : Type 0) (t : Told) (f 
   Lo U = (x : ℕ) → U x → x < n
 
   abbrev Sf : Expr ℕ → (ℕ → Type 0) → Type 1
-  Sf e U = (m : ℕ) (s : Variables) (A : ℕ → Type 0) (d at next : ℕ) → Kn s U → n ≤ d → Ar d A → Spans body at (code c e s d) next → Leaves m next (B s A) (H e d) → Comes m at (B (before e s) A)
+  Sf e U = (m : ℕ) (s : Variables) (A : ℕ → Type 0) (d at next : ℕ) → Kn s U → n ≤ d → Ar d A → Spans body at (code c e s d) next → Full m next (B s A) e d → Comes m at (B (before e s) A)
 
   abbrev Told_by : (ℕ → Type 0) → ℕ → Type 0
   Told_by P r = P r ⊎ (t.untold f r ≡ true)
@@ -86,13 +80,14 @@ module _ (body : List Instr) (c : Context) (n : ℕ) (L : Type 0) (t : Told) (f 
       let q2 = q + 1 + 1 + length (clear rs) in
       let last = back body (q + 1 + 1) (clear rs) (Does two ∷ []) next third in
       let e2 : next ≡ q2 + 1 = (let z = last.1 in omega (arith, z)) in
-      let live_two : Lives body t f q2 Q = lives_on body t f q2 two Q last.0.0 (λ r l. (less_not r d (low r l), tt)) (inl refl) (lives_at body t f next (q2 + 1) Q e2 exit.0) in
-      (clear_sure body c n L t f tells m p q rs P Q (front body p (clear rs) rest next h) less
-      (safe_step body t f m q one Q Q first.0.0 live_const (λ x w. w) (λ r u l. either (λ z. z.0) (λ z. absurd z) l)
-      (safe_jumps body t f m (q + 1) next Q Q jump exit.0 (λ r u l. l) exit.1)),
-      safe_at body t f m (q + 1 + 1) (suc (suc q)) P (omega arith)
-      (clear_sure body c n L t f tells m (q + 1 + 1) q2 rs P Q (front body (q + 1 + 1) (clear rs) (Does two ∷ []) next third) less
-      (safe_step body t f m q2 two Q Q last.0.0 live_two (λ x w. w) (λ r u l. either (λ z. z.0) (λ z. absurd z) l) (safe_at body t f m next (q2 + 1) Q e2 exit.1))))
+      let live_two : Lives body t f q2 Q = lives_on body t f q2 two Q last.0.0 (λ r l. (less_not r d (low r l), tt)) (inl refl) (lives_at body t f next (q2 + 1) Q e2 exit.0) in (
+        clear_sure body c n L t f tells m p q rs P Q (front body p (clear rs) rest next h) less
+            (safe_step body t f m q one Q Q first.0.0 live_const (λ x w. w) (λ r u l. either (λ z. z.0) (λ z. absurd z) l)
+            (safe_jumps body t f m (q + 1) next Q Q jump exit.0 (λ r u l. l) exit.1)),
+        safe_at body t f m (q + 1 + 1) (suc (suc q)) P (omega arith)
+            (clear_sure body c n L t f tells m (q + 1 + 1) q2 rs P Q (front body (q + 1 + 1) (clear rs) (Does two ∷ []) next third) less
+            (safe_step body t f m q2 two Q Q last.0.0 live_two (λ x w. w) (λ r u l. either (λ z. z.0) (λ z. absurd z) l) (safe_at body t f m next (q2 + 1) Q e2 exit.1))),
+      )
 
   -- behind what the body says
   turn_branch : (m d k p next out : ℕ) (P : ℕ → Type 0) → ((r : ℕ) → P r → r < d)
@@ -105,10 +100,12 @@ module _ (body : List Instr) (c : Context) (n : ℕ) (L : Type 0) (t : Told) (f 
       let e : next ≡ p + 1 + 1 + 1 = (let z = h.1 in omega (arith, z)) in
       let live_a : Lives body t f (p + 1 + 1) P = lives_on body t f (p + 1 + 1) a1 P h.0.1.1.0 (λ r l. (less_not r d (low r l), tt)) (inl refl) (lives_at body t f next (p + 1 + 1 + 1) P e exit.0) in
       let live_c : Lives body t f (p + 1) P = lives_on body t f (p + 1) c1 P h.0.1.0 (λ r l. (less_not r (suc (suc d)) (let z = low r l in omega (arith, z)), tt)) (inl refl) live_a in
-      let live : Lives body t f p (λ r. P r ⊎ (r ≡ suc (suc d))) = λ r u l. either (λ b. live_on body p (p + 1) r (instr.Branch (suc (suc d)) out) branch tt (inl refl) (live_c r u b)) (λ z. live_reads body p r (instr.Branch (suc (suc d)) out) branch (inl z)) l in
-      (live, safe_branches body t f m p (suc (suc d)) out (λ r. P r ⊎ (r ≡ suc (suc d))) P P branch live (λ r u l. either (λ b. b) (λ z. absurd (l.1 z)) l.0) (λ r u l. either (λ b. b) (λ z. absurd (l.1 z)) l.0)
-      (safe_step body t f m (p + 1) c1 P P h.0.1.0 live_c (λ x w. w) (λ r u l. either (λ z. z.0) (λ z. absurd z) l)
-      (safe_step body t f m (p + 1 + 1) a1 P P h.0.1.1.0 live_a (λ x w. w) (λ r u l. either (λ z. z.0) (λ z. absurd z) l) (safe_at body t f m next (p + 1 + 1 + 1) P e exit.1))) other)
+      let live : Lives body t f p (λ r. P r ⊎ (r ≡ suc (suc d))) = λ r u l. either (λ b. live_on body p (p + 1) r (instr.Branch (suc (suc d)) out) branch tt (inl refl) (live_c r u b)) (λ z. live_reads body p r (instr.Branch (suc (suc d)) out) branch (inl z)) l in (
+        live,
+        safe_branches body t f m p (suc (suc d)) out (λ r. P r ⊎ (r ≡ suc (suc d))) P P branch live (λ r u l. either (λ b. b) (λ z. absurd (l.1 z)) l.0) (λ r u l. either (λ b. b) (λ z. absurd (l.1 z)) l.0)
+            (safe_step body t f m (p + 1) c1 P P h.0.1.0 live_c (λ x w. w) (λ r u l. either (λ z. z.0) (λ z. absurd z) l)
+            (safe_step body t f m (p + 1 + 1) a1 P P h.0.1.1.0 live_a (λ x w. w) (λ r u l. either (λ z. z.0) (λ z. absurd z) l) (safe_at body t f m next (p + 1 + 1 + 1) P e exit.1))) other,
+      )
 
   turn_end_ready : (all : Bool) (m d : ℕ) (gone_code : List Step) (p next out : ℕ) (P : ℕ → Type 0) → ((r : ℕ) → P r → r < d) → Spans body p (turn_end all d gone_code) next → out ≡ next + 3 + length gone_code → Comes m next P → Sure body t f m out P
       → Comes m p (λ r. P r ⊎ (r ≡ suc (suc d)))
@@ -148,11 +145,11 @@ module _ (body : List Instr) (c : Context) (n : ℕ) (L : Type 0) (t : Told) (f 
         let lows_T = base_low body c n L t f tells T A U d known_T low nd around in
         let nd2 : n ≤ suc (suc d) = omega (arith, nd) in
         let live_1 : Lives body t f (p + 1) P = λ r u l. branch_live body c n L all x d inn rs p next r h (lows_T r l)
-            (either (λ v. either (λ z. inl (λ q e sp. (z.0, code_live body c n L inner V T (suc (suc d)) q e r fit low_V nd2 sp (let w = lows_T r l in omega (arith, w)) (inl z.1))))
-                (λ k. inr (kept_lost body c n L x inner U s r low xn fit (inl k), exit.0 r u (inl k))) (turned_cases x inner s r v))
-            (λ a. inr (kept_lost body c n L x inner U s r low xn fit (inr (around r a).0), exit.0 r u (inr a))) l) in
+        (either (λ v. either (λ z. inl (λ q e sp. (z.0, code_live body c n L inner V T (suc (suc d)) q e r fit low_V nd2 sp (let w = lows_T r l in omega (arith, w)) (inl z.1))))
+        (λ k. inr (kept_lost body c n L x inner U s r low xn fit (inl k), exit.0 r u (inl k))) (turned_cases x inner s r v))
+        (λ a. inr (kept_lost body c n L x inner U s r low xn fit (inr (around r a).0), exit.0 r u (inr a))) l) in
         let live_p : Lives body t f p P0 = λ r u l. either (λ k. live_on body p (p + 1) r compare_it parts.tests.0.0 (less_not r (suc (suc d)) (let w = lows_T r k in omega (arith, w)), tt) (inl refl) (live_1 r u k))
-            (λ k. live_reads body p r compare_it parts.tests.0.0 (either (λ e. inl e) (λ e. inr (inl e)) (two_of r k))) l in
+        (λ k. live_reads body p r compare_it parts.tests.0.0 (either (λ e. inl e) (λ e. inr (inl e)) (two_of r k))) l in
         let first_at : p + 1 ≡ b = (let z = parts.tests.1 in omega (arith, z)) in
         let live_b = lives_at body t f (p + 1) b P first_at live_1 in
         let live_j : Lives body t f j P = λ r u l. live_on body j p r (instr.Jump p) parts.jumps tt (inl refl) (live_p r u (inl l)) in
@@ -160,20 +157,22 @@ module _ (body : List Instr) (c : Context) (n : ℕ) (L : Type 0) (t : Told) (f 
         let p3 = b + 1 + 1 in let p4 = p3 + length inn in
         let span_ends = back body p (turns_of body c n L all x d inn rs) (ends all d (clear rs)) next h in
         let behind = parts.behind in
-        let untold_no : (r : ℕ) → t.untold f r ≡ false → t.untold f r ≡ true → LiveAt body b r = λ r u w. told_not body c n L t f tells r r refl u w in
-        (live_p, nat_up (λ k. Sure body t f k next (B s A) → Sure body t f k p P0) (λ z. tt) (λ k less safe.
-            let es = ends_sure all (suc k) d rs long next P (B s A) span_ends lows (λ r l none. either (λ v. inl (still_has T s r v none)) (λ a. inr a) l) (exit.0, safe) in
-            let at_j : Sure body t f (suc k) j P = safe_loops body t f k j p P P0 parts.jumps live_p (λ r u l. inl l) (less (safe_sooner t f body k next (Told_by (B s A)) safe)) in
-            let te = turn_end_ready all (suc k) d (clear rs) p4 j (suc (suc (long + length (clear rs)))) P lows_T (back body p3 inn (turn_end all d (clear rs)) j i1) (omega (arith, behind)) (live_j, at_j) es.1 in
-            let body_in = inner_safe (suc k) T A (suc (suc d)) p3 p4 (λ r v. inl (known_T r v)) nd2 (λ r a. let w = around r a in (w.0, let l = w.1 in omega (arith, l))) (front body p3 inn (turn_end all d (clear rs)) j i1)
-                ((λ r u l. te.0 r u (inl l)), sure_less body t f (suc k) p4 (λ r. B T A r ⊎ H inner (suc (suc d)) r) (λ r. P r ⊎ (r ≡ suc (suc d))) (λ r u l. either (λ z. inl z) (λ z. inr z.0) l) te.1) in
-            let to_inner : (r : ℕ) → P r → B (before inner T) A r = λ r l. either (λ v. inl (before_of inner T r (inr v))) (λ a. inr a) l in
-            let at_3 : Safe t f body (suc k) p3 (Told_by P) = sure_less body t f (suc k) p3 P (B (before inner T) A) (λ r u l. to_inner r l) body_in.1 in
-            let live_share : Lives body t f (b + 1) R1 = λ r u l. either (λ z. live_on body (b + 1) p3 r share parts.inside.0.0 (not_x s A d r known around z, tt) (inl refl) (body_in.0 r u (to_inner r z))) (λ w. told_not body c n L t f tells r r refl u w) l.0 in
-            let at_2 : Safe t f body (suc k) (b + 1) R1 = raw_step body t f (suc k) (b + 1) share R1 (Told_by P) parts.inside.0.0 live_share (λ y w. w) (λ r l. either (λ z. z.0.0) (λ z. absurd (z.1.1 refl)) l) at_3 in
-            let live_r : Lives body t f b R1 = λ r u l. either (λ z. live_b r u z) (λ w. told_not body c n L t f tells r r refl u w) l.0 in
-            let at_b : Safe t f body (suc k) b R1 = raw_branches body t f (suc k) b (suc (suc d)) long R1 R1 (Told_by P) parts.branches live_r (λ r l. l) (λ r l. l.0) at_2 es.0 in
-            let live_raw : Lives body t f p (Told_by P0) = λ r u l. either (λ z. live_p r u z) (λ w. told_not body c n L t f tells r r refl u w) l in
-            raw_step body t f (suc k) p compare_it (Told_by P0) R1 parts.tests.0.0 live_raw (λ y w. w)
-            (λ r l. either (λ z. (either (λ w. either (λ y. inl y) (λ y. either (λ e. absurd (z.1.1.0 e)) (λ e. absurd (z.1.1.1.0 e)) (two_of r y)) w) (λ w. inr w) z.0, z.1.1.0)) (λ z. absurd z) l)
-            (subst (λ (z : ℕ). Safe t f body (suc k) z R1) (sym first_at) at_b)) m exit.1)
+        let untold_no : (r : ℕ) → t.untold f r ≡ false → t.untold f r ≡ true → LiveAt body b r = λ r u w. told_not body c n L t f tells r r refl u w in (
+          live_p,
+          nat_up (λ k. Sure body t f k next (B s A) → Sure body t f k p P0) (λ z. tt) (λ k less safe.
+              let es = ends_sure all (suc k) d rs long next P (B s A) span_ends lows (λ r l none. either (λ v. inl (still_has T s r v none)) (λ a. inr a) l) (exit.0, safe) in
+              let at_j : Sure body t f (suc k) j P = safe_loops body t f k j p P P0 parts.jumps live_p (λ r u l. inl l) (less (safe_sooner t f body k next (Told_by (B s A)) safe)) in
+              let te = turn_end_ready all (suc k) d (clear rs) p4 j (suc (suc (long + length (clear rs)))) P lows_T (back body p3 inn (turn_end all d (clear rs)) j i1) (omega (arith, behind)) (live_j, at_j) es.1 in
+              let body_in = inner_safe (suc k) T A (suc (suc d)) p3 p4 (λ r v. inl (known_T r v)) nd2 (λ r a. let w = around r a in (w.0, let l = w.1 in omega (arith, l))) (front body p3 inn (turn_end all d (clear rs)) j i1)
+              ((λ r u l. te.0 r u (inl l)), sure_less body t f (suc k) p4 (λ r. B T A r ⊎ H inner (suc (suc d)) r) (λ r. P r ⊎ (r ≡ suc (suc d))) (λ r u l. either (λ z. inl z) (λ z. inr z.0) l) te.1, (λ r u z. te.0 r u (inr z.0))) in
+              let to_inner : (r : ℕ) → P r → B (before inner T) A r = λ r l. either (λ v. inl (before_of inner T r (inr v))) (λ a. inr a) l in
+              let at_3 : Safe t f body (suc k) p3 (Told_by P) = sure_less body t f (suc k) p3 P (B (before inner T) A) (λ r u l. to_inner r l) body_in.1 in
+              let live_share : Lives body t f (b + 1) R1 = λ r u l. either (λ z. live_on body (b + 1) p3 r share parts.inside.0.0 (not_x s A d r known around z, tt) (inl refl) (body_in.0 r u (to_inner r z))) (λ w. told_not body c n L t f tells r r refl u w) l.0 in
+              let at_2 : Safe t f body (suc k) (b + 1) R1 = raw_step body t f (suc k) (b + 1) share R1 (Told_by P) parts.inside.0.0 live_share (λ y w. w) (λ r l. either (λ z. z.0.0) (λ z. absurd (z.1.1 refl)) l) at_3 in
+              let live_r : Lives body t f b R1 = λ r u l. either (λ z. live_b r u z) (λ w. told_not body c n L t f tells r r refl u w) l.0 in
+              let at_b : Safe t f body (suc k) b R1 = raw_branches body t f (suc k) b (suc (suc d)) long R1 R1 (Told_by P) parts.branches live_r (λ r l. l) (λ r l. l.0) at_2 es.0 in
+              let live_raw : Lives body t f p (Told_by P0) = λ r u l. either (λ z. live_p r u z) (λ w. told_not body c n L t f tells r r refl u w) l in
+              raw_step body t f (suc k) p compare_it (Told_by P0) R1 parts.tests.0.0 live_raw (λ y w. w)
+              (λ r l. either (λ z. (either (λ w. either (λ y. inl y) (λ y. either (λ e. absurd (z.1.1.0 e)) (λ e. absurd (z.1.1.1.0 e)) (two_of r y)) w) (λ w. inr w) z.0, z.1.1.0)) (λ z. absurd z) l)
+              (subst (λ (z : ℕ). Safe t f body (suc k) z R1) (sym first_at) at_b)) m exit.1,
+        )

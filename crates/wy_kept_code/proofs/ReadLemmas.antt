@@ -1,5 +1,5 @@
 -- Which registers are live in front of the code of an expression.
-use Rattle.std.proofs.Common.{◌≡◌, ◌≢◌, ◌<◌, ◌≤◌, ◌⊎◌, inl, inr, ℕ, zero, suc, ◌+◌, List, [], ◌∷◌, ◌++◌, length, Bool, true, false, not, ◌&&◌, ◌||◌, ◌==◌, cond, Some, pos, refl, sym, ap, ◌∙◌, subst, arith}
+use Rattle.std.proofs.Common.{◌≡◌, ◌≢◌, ◌<◌, ◌≤◌, ◌⊎◌, inl, inr, ℕ, zero, suc, ◌+◌, List, [], ◌∷◌, ◌++◌, length, Bool, true, false, not, ◌&&◌, ◌||◌, ◌==◌, cond, Some, pos, refl, sym, subst, arith}
 use Rattle.std.specs.Prelude.{slice_get}
 use Rattle.wy_core.specs.Types.{Ty}
 use Rattle.wy_core.specs.CoreTree.{Expr, NullExpr, BoolExpr, IntExpr, VarExpr, CallExpr, NegExpr, NotExpr, LenExpr, BinaryExpr, IsExpr, IndexExpr, FieldExpr, ListExpr, RepeatExpr, RecordExpr, QuantExpr, Exprs, NoExprs, MoreExprs, Fields, NoFields, MoreFields}
@@ -19,14 +19,14 @@ use Rattle.wy_live.specs.Sets.{Variables, has}
 use Rattle.wy_live.specs.Walks.{before, before_all, before_fields, turned}
 use Rattle.wy_kept_code.proofs.LiveLemmas.{or_cases, and_not}
 use Rattle.wy_pieces.specs.declared.steps.Step.{Step}
-use Rattle.wy_pieces.specs.declared.steps.Step.TheVariants.{Does, GoesOn, GoesBack, GoesOnUnless}
-use Rattle.wy_pieces.specs.Steps.{clear, dropped, fork, turns, registers_from}
+use Rattle.wy_pieces.specs.declared.steps.Step.TheVariants.{Does, GoesOn}
+use Rattle.wy_pieces.specs.Steps.{clear, registers_from}
 use Rattle.wy_compiled.specs.TypeTests.{test}
-use Rattle.wy_compiled.specs.Expressions.{lost, released, is_plain, release_unless, arith as arith_code, compare, equal, operator, operate, right_register, call, count_of, field_count, is_test, negated, list, record_of, ends_it, turn_end, said, ends, number_turns, quantify, code, codes, field_codes}
+use Rattle.wy_compiled.specs.Expressions.{lost, released, is_plain, operator, operate, right_register, call, count_of, field_count, is_test, negated, list, record_of, turn_end, said, ends, number_turns, quantify, code, codes, field_codes}
 use Rattle.wy_kept_registers.specs.Keeping.{IsNone}
-use Rattle.wy_kept_code.specs.Alive.{IsOne, reads, changes, nexts, LiveAt}
-use Rattle.wy_kept_code.specs.Fitting.{Checked, IsValue, Fits, FitAll, FitFields}
-use Rattle.wy_kept_code.proofs.PieceLemmas.{either, less_not, From, none_below, Spans, front, back, tail, ended, live_reads, live_on, live_last, live_first, live_second, Turning, turning}
+use Rattle.wy_kept_code.specs.Alive.{IsOne, changes, nexts, LiveAt}
+use Rattle.wy_kept_code.specs.Fitting.{IsValue, Fits, FitAll, FitFields}
+use Rattle.wy_kept_code.proofs.PieceLemmas.{either, less_not, From, none_below, Spans, front, back, tail, live_reads, live_on, live_last, live_first, live_second, Turning, turning}
 use Rattle.wy_kept_code.proofs.SetLemmas.{never, not_both, same_of, same_to, other_of, Vars, before_of, all_of, fields_of, turned_cases, turned_of, not_lost}
 use Rattle.wy_kept_code.proofs.TestLemmas.{at_end, test_live}
 
@@ -183,11 +183,11 @@ module _ (body : List Instr) where
         let first_at : p + 1 ≡ b = (let z = parts.tests.1 in omega (arith, z)) in
         let i1 = tail body (b + 1) share (inner ++ turn_end all d (clear rs)) parts.jump parts.inside in
         let at_b : LiveAt body b r = either
-            (λ f. let k = f (b + 1 + 1) (b + 1 + 1 + length inner) (front body (b + 1 + 1) inner (turn_end all d (clear rs)) parts.jump i1) in
-                live_on body b (b + 1) r (instr.Branch (suc (suc d)) long) parts.branches tt (inl refl)
-                (live_on body (b + 1) (b + 1 + 1) r share parts.inside.0.0 (k.0, tt) (inl refl) k.1))
-            (λ k. live_on body b long r (instr.Branch (suc (suc d)) long) parts.branches tt (inr (inl refl))
-                (ends_live all d rs long next r (back body p (turns_of all x d inner rs) (ends all d (clear rs)) next h) k.0 (less_not r d low) k.1)) way in
+        (λ f. let k = f (b + 1 + 1) (b + 1 + 1 + length inner) (front body (b + 1 + 1) inner (turn_end all d (clear rs)) parts.jump i1) in
+        live_on body b (b + 1) r (instr.Branch (suc (suc d)) long) parts.branches tt (inl refl)
+        (live_on body (b + 1) (b + 1 + 1) r share parts.inside.0.0 (k.0, tt) (inl refl) k.1))
+        (λ k. live_on body b long r (instr.Branch (suc (suc d)) long) parts.branches tt (inr (inl refl))
+        (ends_live all d rs long next r (back body p (turns_of all x d inner rs) (ends all d (clear rs)) next h) k.0 (less_not r d low) k.1)) way in
         subst (λ (z : ℕ). LiveAt body z r) (sym first_at) at_b
 
     quantify_live : (all : Bool) (x d : ℕ) (inner : List Step) (rs : List ℕ) (p next r : ℕ) → Spans body p (quantify all x d inner (clear rs)) next → r < d
@@ -321,11 +321,11 @@ module _ (body : List Instr) where
           (λ k. inl (before_of b T r (either (λ z. inl z) (λ z. inr (turned_of x inner s r (inl (let w = and_not (r == x) (occurs inner r) z in (other_of r x w.0, w.1))))) (or_cases (occurs b r) (not (r == x) && occurs inner r) k))))
           (λ g. code_live a U (before b T) d at mid r fit.0 lows nd (front body at (code c a (before b T) d) (code c b T (suc d) ++ last) next h) low g)
           (λ g. two_ways (occurs b r) (not (r == x) && occurs inner r) s T mid mid2 next r (keeps_turned x inner s r)
-              (λ z. inl (turned_of x inner s r (inl (let w = and_not (r == x) (occurs inner r) z in (other_of r x w.0, w.1)))))
-              (λ k. code_live b U T (suc d) mid mid2 r fit.1 lows (omega (arith, nd)) (front body mid (code c b T (suc d)) last next behind) (omega (arith, low)) k)
-              (λ k. quantify_live all x d (code c inner T (suc (suc d))) (lost T s) mid2 next r (back body mid (code c b T (suc d)) last next behind) low
-                  (either (λ z. let w = and_not (r == x) (occurs inner r) z in inl (λ q e sp. (other_of r x w.0, code_live inner (λ y. U y ⊎ (y ≡ x)) T (suc (suc d)) q e r fit.4 (low_more U x lows fit.3) (omega (arith, nd)) sp (omega (arith, low)) (inl w.1))))
-                  (λ z. inr (kept_lost x inner U s r lows fit.3 fit.4 z.0, z.1)) k)) g) way
+          (λ z. inl (turned_of x inner s r (inl (let w = and_not (r == x) (occurs inner r) z in (other_of r x w.0, w.1)))))
+          (λ k. code_live b U T (suc d) mid mid2 r fit.1 lows (omega (arith, nd)) (front body mid (code c b T (suc d)) last next behind) (omega (arith, low)) k)
+          (λ k. quantify_live all x d (code c inner T (suc (suc d))) (lost T s) mid2 next r (back body mid (code c b T (suc d)) last next behind) low
+          (either (λ z. let w = and_not (r == x) (occurs inner r) z in inl (λ q e sp. (other_of r x w.0, code_live inner (λ y. U y ⊎ (y ≡ x)) T (suc (suc d)) q e r fit.4 (low_more U x lows fit.3) (omega (arith, nd)) sp (omega (arith, low)) (inl w.1))))
+          (λ z. inr (kept_lost x inner U s r lows fit.3 fit.4 z.0, z.1)) k)) g) way
 
       pub codes_live : (es : Exprs ℕ) (U : ℕ → Type 0) (s : Variables) (d at next r : ℕ) → FitAll c n L es U → Low U → n ≤ d → Spans body at (codes c es s d) next → r < d → Goes (any_occurs es r) s next r → LiveAt body at r
       codes_live NoExprs U s d at next r fit lows nd h low (inl u) = never u

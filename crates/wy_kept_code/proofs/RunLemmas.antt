@@ -25,8 +25,7 @@ use Rattle.wy_step.specs.Step as machine
 use Rattle.wy_step.specs.Step.{State, Runs, Ended, Stuck, Frame, Caller, Effect, GoesOn, GoesTo, Calls, Returns, Fails, there, held, moved, moved_all, cleared, where_so, numbers, scalar_of, gives_int, computes, compares, record_of, shape_names, slots_of, has_path, kind_answer, as_bytes, effect, empties, holding, entry_registers, entered, returned, next_of, stepped, executed, step, start, after}
 use Rattle.wy_pieces.specs.Placing.{slot_registers}
 use Rattle.wy_kept_registers.specs.Keeping.{IsLarge, HoldsLarge, IsNone}
-use Rattle.wy_kept_code.specs.Alive.{LiveAt, is_clear}
-use Rattle.wy_kept_code.specs.Safe.{Told, gone, Into, After, Onward, Fine, Safe, SafeCode, FrameKeeps, CallersKeep, KeepsNothing, SafeRunsKeepNothing}
+use Rattle.wy_kept_code.specs.Safe.{Told, After, Onward, Safe, SafeCode, FrameKeeps, CallersKeep, KeepsNothing, SafeRunsKeepNothing}
 use Rattle.wy_kept_code.proofs.SafeLemmas.{safe_less}
 
 -- ---- registers, one of which gets another value
@@ -317,9 +316,10 @@ module _ (t : Told) (f : ℕ) (body : List Instr) (p : ℕ) (regs : Store) where
     effect_keeps shapes (instr.Put a path v) is = slots_keep shapes path _ (λ ps small. there_keeps (slot regs v) _ (λ u e. there_keeps (slot (put regs v None) a) _ (λ whole g. where_keeps (has_path ps whole) _
         (lessen (p + 1) (Large (put (put regs v None) a (Some (updated whole ps u)))) (Behind (instr.Put a path v)) (λ r l. updated_in a path v (updated whole ps u) r small l) (λ n. here n (instr.Put a path v) is)))))
     effect_keeps shapes (instr.Kind d a m) is = there_keeps (slot regs a) _ (λ v e. kind_keeps shapes m v _ (λ b. lessen (p + 1) (Large (put regs d (Some (Truth b)))) (Behind (instr.Kind d a m)) (λ r l. let o = small_put d (Truth b) r (λ w. w) l in inl (o.1, (o.0, tt))) (λ n. here n (instr.Kind d a m) is)))
-    effect_keeps shapes (instr.Call d g rs) is = moved_all_keeps regs rs _ (λ vs rest h.
-        ((λ r u l. let o = h r l in (here 0 (instr.Call d g rs) is).0 r u o.1 o.0),
-        lessen (p + 1) (λ r. Large rest r ⊎ ((r ≡ d) × (t.results g ≡ true))) (Behind (instr.Call d g rs)) (λ r l. called_in d g rs rest r h l) (λ n. (here n (instr.Call d g rs) is).1)))
+    effect_keeps shapes (instr.Call d g rs) is = moved_all_keeps regs rs _ (λ vs rest h. (
+      (λ r u l. let o = h r l in (here 0 (instr.Call d g rs) is).0 r u o.1 o.0),
+      lessen (p + 1) (λ r. Large rest r ⊎ ((r ≡ d) × (t.results g ≡ true))) (Behind (instr.Call d g rs)) (λ r l. called_in d g rs rest r h l) (λ n. (here n (instr.Call d g rs) is).1),
+    ))
     effect_keeps shapes (instr.Return s) is = there_keeps (slot regs s) _ (λ v e h. here 0 (instr.Return s) is (source_large s v e h))
     effect_keeps shapes (instr.Print a) is = there_keeps (slot regs a) _ (λ v e. items_keep v _ (λ ds. bytes_keep ds _ (λ bytes. lessen (p + 1) (Large regs) (Behind (instr.Print a)) (λ r l. inl (l, tt)) (λ n. here n (instr.Print a) is))))
     effect_keeps shapes (instr.PrintInt a) is = there_keeps (slot regs a) _ (λ v e. number_keeps v _ (λ z g. lessen (p + 1) (Large regs) (Behind (instr.PrintInt a)) (λ r l. inl (l, (other_than a r (number_small a v z e g) l, tt))) (λ n. here n (instr.PrintInt a) is)))
@@ -364,8 +364,11 @@ module _ (t : Told) (code : Code) (safe : SafeCode t code) where
       equal_numbers a b g = grind (arith, nat_tests)
 
       by : (b : Bool) → nat_eq (length vs) r.params ≡ b → StateSafe (cond b (Runs (record { routine = f; at = 0; registers = entry_registers r vs }) callers output) Stuck)
-      by true g = ((λ r2 e2 n. safe_less t f r2.body n 0 (λ x. HoldsLarge (slot (entry_registers r vs) x)) (λ x. x < r2.params)
-          (λ x l. let m = entry_large vs (r.registers - length vs) x l in let i = equal_numbers (length vs) r.params g in let same : r.params ≡ r2.params = ap (λ (z : Routine). z.params) (some_same r r2 (sym e ∙ e2)) in omega (arith, m, i, same)) (safe f r2 e2 n)), h)
+      by true g = (
+        (λ r2 e2 n. safe_less t f r2.body n 0 (λ x. HoldsLarge (slot (entry_registers r vs) x)) (λ x. x < r2.params)
+            (λ x l. let m = entry_large vs (r.registers - length vs) x l in let i = equal_numbers (length vs) r.params g in let same : r.params ≡ r2.params = ap (λ (z : Routine). z.params) (some_same r r2 (sym e ∙ e2)) in omega (arith, m, i, same)) (safe f r2 e2 n)),
+        h,
+      )
       by false g = tt
 
   returned_safe : (f : ℕ) (v : Datum) (callers : List Caller) (output : List ℕ) → CallersSafe f callers → (IsLarge v → t.results f ≡ true) → StateSafe (returned v callers output)

@@ -1,11 +1,8 @@
 -- What is safe stays so for fewer instructions, and for fewer registers.
-use Rattle.std.proofs.Common.{◌≡◌, ◌≢◌, ◌<◌, ◌≤◌, ◌⊎◌, inl, inr, ℕ, zero, suc, ◌+◌, List, [], ◌∷◌, Bool, true, false, Some, refl, sym, subst, arith}
-use Rattle.std.specs.Prelude.{slice_get}
+use Rattle.std.proofs.Common.{◌≡◌, ◌⊎◌, inl, inr, ℕ, zero, suc, ◌+◌, List, Bool, true, false, refl}
 use Rattle.wy_code.specs.declared.instructions.Instr.{Instr}
 use Rattle.wy_code.specs.declared.instructions.Instr.TheVariants as instr
-use Rattle.wy_kept_registers.specs.Keeping.{IsNone}
-use Rattle.wy_kept_code.specs.Alive.{IsOne, reads, changes, nexts, ReadWithin, LiveAt, is_clear}
-use Rattle.wy_kept_code.specs.Safe.{Told, gone, Into, After, Onward, Fine, Safe}
+use Rattle.wy_kept_code.specs.Safe.{Told, Into, After, Onward, Safe}
 
 pub told_or_not : (b : Bool) → (b ≡ true) ⊎ (b ≡ false)
 told_or_not true = inl refl
@@ -61,9 +58,10 @@ module _ (t : Told) (f : ℕ) where
     onward_less n p (instr.Equal d a b) P Q h go k = go (p + 1) (After t f (instr.Equal d a b) P) (After t f (instr.Equal d a b) Q) (after_less (instr.Equal d a b) P Q h) k
     onward_less n p (instr.Not d a) P Q h go k = go (p + 1) (After t f (instr.Not d a) P) (After t f (instr.Not d a) Q) (after_less (instr.Not d a) P Q h) k
     onward_less n p (instr.Jump q) P Q h go k = go q (After t f (instr.Jump q) P) (After t f (instr.Jump q) Q) (after_less (instr.Jump q) P Q h) k
-    onward_less n p (instr.Branch s q) P Q h go k =
-        (go (p + 1) (After t f (instr.Branch s q) P) (After t f (instr.Branch s q) Q) (after_less (instr.Branch s q) P Q h) k.0,
-        go q (After t f (instr.Branch s q) P) (After t f (instr.Branch s q) Q) (after_less (instr.Branch s q) P Q h) k.1)
+    onward_less n p (instr.Branch s q) P Q h go k = (
+      go (p + 1) (After t f (instr.Branch s q) P) (After t f (instr.Branch s q) Q) (after_less (instr.Branch s q) P Q h) k.0,
+      go q (After t f (instr.Branch s q) P) (After t f (instr.Branch s q) Q) (after_less (instr.Branch s q) P Q h) k.1,
+    )
     onward_less n p (instr.Array d rs) P Q h go k = go (p + 1) (After t f (instr.Array d rs) P) (After t f (instr.Array d rs) Q) (after_less (instr.Array d rs) P Q h) k
     onward_less n p (instr.Record d m rs) P Q h go k = go (p + 1) (After t f (instr.Record d m rs) P) (After t f (instr.Record d m rs) Q) (after_less (instr.Record d m rs) P Q h) k
     onward_less n p (instr.Fill d v m) P Q h go k = go (p + 1) (After t f (instr.Fill d v m) P) (After t f (instr.Fill d v m) Q) (after_less (instr.Fill d v m) P Q h) k

@@ -1,35 +1,30 @@
 -- Which variables are live in front of the code of a statement: those that some path from there uses before it assigns them.
-use Rattle.std.proofs.Common.{◌≡◌, ◌≢◌, ◌<◌, ◌≤◌, ◌⊎◌, inl, inr, ℕ, zero, suc, ◌+◌, List, [], ◌∷◌, ◌++◌, length, Bool, true, false, not, ◌&&◌, ◌||◌, ◌==◌, cond, Option, Some, None, refl, sym, ap, ◌∙◌, subst, arith, length-append}
-use Rattle.std.specs.Prelude.{slice_get}
-use Rattle.wy_core.specs.CoreTree.{Expr, Exprs, Step, IndexStep, FieldStep, Stmt, DeclareStmt, AssignStmt, CallStmt, ReturnStmt, AssertStmt, BreakStmt, ContinueStmt, SkipStmt, FailStmt, IfStmt, WhileStmt, Stmts, NoStmts, MoreStmts}
-use Rattle.wy_code.specs.declared.instructions.Scalar.TheVariants as scalar
+use Rattle.std.proofs.Common.{◌≡◌, ◌≢◌, ◌<◌, ◌≤◌, ◌⊎◌, inl, inr, ℕ, zero, suc, ◌+◌, List, [], ◌∷◌, ◌++◌, length, Bool, true, false, ◌||◌, ◌==◌, cond, Some, None, refl, ap, ◌∙◌, subst, arith}
+use Rattle.wy_core.specs.CoreTree.{Expr, Step, IndexStep, FieldStep, Stmt, DeclareStmt, AssignStmt, CallStmt, ReturnStmt, AssertStmt, BreakStmt, ContinueStmt, SkipStmt, FailStmt, IfStmt, WhileStmt, Stmts, NoStmts, MoreStmts}
 use Rattle.wy_code.specs.declared.instructions.Instr.{Instr}
 use Rattle.wy_code.specs.declared.instructions.Instr.TheVariants as instr
 use Rattle.wy_tables.specs.declared.context.Context.{Context}
 use Rattle.wy_tables.specs.declared.targets.Target.{Target}
 use Rattle.wy_tables.specs.declared.targets.Target.TheVariants.{Declared, Prints, PrintsInt, Nothing}
 use Rattle.wy_tables.specs.Tables.{target}
-use Rattle.wy_live.specs.Paths.{occurs, any_occurs, step_occurs, any_step_occurs, Used, UsedOrKept, DeclareLive, AssignLive, ReturnLive, Turns, IsLive, AreLive}
-use Rattle.wy_live.specs.Sets.{Variables, has, with, without, joined}
-use Rattle.wy_live.specs.Walks.{before, before_all, before_steps, live, live_all, alone, head_live, around}
+use Rattle.wy_live.specs.Paths.{occurs, any_step_occurs, Used, UsedOrKept, Turns, IsLive, AreLive}
+use Rattle.wy_live.specs.Sets.{Variables, has, with, without}
+use Rattle.wy_live.specs.Walks.{before, before_steps, live, live_all, head_live, around}
 use Rattle.wy_live.specs.declared.walk.Ends.{Ends}
-use Rattle.wy_pieces.specs.declared.steps.Step as steps
-use Rattle.wy_pieces.specs.declared.steps.Step.TheVariants.{Does, GoesOn, GoesBack, GoesOnUnless}
+use Rattle.wy_pieces.specs.declared.steps.Step.TheVariants.{Does}
 use Rattle.wy_pieces.specs.Placing.{slot_registers}
 use Rattle.wy_pieces.specs.Steps.{clear, fork, over, turns, registers_from}
 use Rattle.wy_compiled.specs.Expressions.{lost, released, is_plain, release_unless, count_of, code, codes}
-use Rattle.wy_compiled.specs.Statements.{store, set, declare, index_count, slots, indices, kept, update, assign, release_where, call_step, call, gives_null, give, choice, inside, turn, stmt_code, stmts_code}
-use Rattle.wy_kept_registers.specs.Keeping.{IsNone}
-use Rattle.wy_kept_code.specs.Alive.{IsOne, reads, changes, nexts, LiveAt}
-use Rattle.wy_kept_code.specs.Fitting.{Fits, FitAll, FitsOption, FitsPath, IsAction, FitsStmt, FitsStmts}
-use Rattle.wy_kept_code.proofs.PieceLemmas.{either, nat_up, less_not, From, none_below, Spans, front, back, tail, ended, live_reads, live_on, live_last, live_first_over, live_second, Turning, turning}
+use Rattle.wy_compiled.specs.Statements.{store, set, index_count, slots, indices, kept, update, call_step, choice, inside, turn, stmt_code, stmts_code}
+use Rattle.wy_kept_code.specs.Alive.{LiveAt}
+use Rattle.wy_kept_code.specs.Fitting.{Fits, FitsPath, FitsStmt, FitsStmts}
+use Rattle.wy_kept_code.proofs.PieceLemmas.{either, nat_up, less_not, none_below, Spans, front, back, tail, live_reads, live_on, live_last, live_first_over, live_second, turning}
 use Rattle.wy_kept_code.proofs.LivePathLemmas.{live_more, lives_more}
 use Rattle.wy_kept_code.proofs.LiveLemmas.{or_cases, of_path, of_paths}
 use Rattle.wy_kept_code.proofs.LiveUseLemmas.{has-before_steps}
-use Rattle.wy_kept_code.proofs.LiveSetLemmas.{by_same}
-use Rattle.wy_kept_code.proofs.SetLemmas.{never, not_both, same_of, other_of, Vars, before_of, all_of, without_of, with_of, joined_of, not_lost}
+use Rattle.wy_kept_code.proofs.SetLemmas.{never, not_both, same_of, other_of, Vars, before_of, without_of, with_of, joined_of, not_lost}
 use Rattle.wy_kept_code.proofs.TestLemmas.{at_end}
-use Rattle.wy_kept_code.proofs.ReadLemmas.{from_registers, clear_live, Low, Goes, goes_on, two_ways, code_live, codes_live}
+use Rattle.wy_kept_code.proofs.ReadLemmas.{from_registers, clear_live, Low, two_ways, code_live, codes_live}
 
 pub same_or_other : (r x : ℕ) → (r ≡ x) ⊎ (r ≢ x)
 same_or_other zero zero = inl refl
@@ -106,7 +101,7 @@ module _ (body : List Instr) (c : Context) (n : ℕ) (L R : Type 0) (U : ℕ →
       let rest = back body at one (two ++ Does put ∷ kept x s) next h in
       let last = back body mid two (Does put ∷ kept x s) next rest in
       let at_put : (r ≡ x) ⊎ A → LiveAt body mid2 r = λ k. either (λ e2. live_reads body mid2 r put last.0.0 (inl e2))
-          (λ a. either (λ e2. live_reads body mid2 r put last.0.0 (inl e2)) (λ other. live_on body mid2 (mid2 + 1) r put last.0.0 (other, (less_not r d (omega (arith, rn)), tt)) (inl refl) (kept_live (has s x) x (mid2 + 1) next r (tail body mid2 put (kept x s) next last) other (on a).1)) (same_or_other r x)) k in
+      (λ a. either (λ e2. live_reads body mid2 r put last.0.0 (inl e2)) (λ other. live_on body mid2 (mid2 + 1) r put last.0.0 (other, (less_not r d (omega (arith, rn)), tt)) (inl refl) (kept_live (has s x) x (mid2 + 1) next r (tail body mid2 put (kept x s) next last) other (on a).1)) (same_or_other r x)) k in
       let keeps : (r ≡ x) ⊎ A → Vars S r = λ k. with_of s x r (either (λ e2. inl e2) (λ a. inr (on a).0) k) in
       let tail_way : (occurs e r ≡ true) ⊎ ((r ≡ x) ⊎ A) → LiveAt body mid r = λ k. reads_code e fe S d mid mid2 r (omega arith) (front body mid two (Does put ∷ kept x s) next rest) rn (either (λ u. inl u) (λ z. inr (inl (keeps z), at_put z)) k) in
       let before_keeps : (occurs e r ≡ true) ⊎ ((r ≡ x) ⊎ A) → Vars (before e S) r = λ k. before_of e S r (either (λ u. inl u) (λ z. inr (keeps z)) k) in
@@ -160,20 +155,22 @@ module _ (body : List Instr) (c : Context) (n : ℕ) (L R : Type 0) (U : ℕ →
       let gone_end = after_all.1 in
       let C : ℕ → Type 0 = λ k. Turns k (occurs e r) (λ z. AreLive inner r z A z) A in
       let exits : A → Vars both r × LiveAt body b r = λ a. let o = on a in
-          (joined_of (inside e inner s) s r (inr o.0), live_on body b long r (instr.Branch n long) parts.branches tt (inr (inl refl)) (clear_passes both s long next r after_all (λ v. o.0) o.1)) in
+      (joined_of (inside e inner s) s r (inr o.0), live_on body b long r (instr.Branch n long) parts.branches tt (inr (inl refl)) (clear_passes both s long next r after_all (λ v. o.0) o.1)) in
       let head_in : (k : ℕ) → C k → Vars head r = λ k way. in_after (WhileStmt 0 e [] inner) s (around s s) r A ⊥ ⊥ (λ a. (on a).0) (λ z. absurd z) (λ z. absurd z) (k, way) in
       let mid = b + 1 + length start in
       let block_span = back body (b + 1) start block j parts.inside in
       nat_up (λ k. C k → LiveAt body p r)
       (λ way. reads_code e fit both n p b r (omega arith) parts.tests rn (either (λ u. inl u) (λ a. let x = exits a in inr (inl x.0, x.1)) way))
       (λ k go way. reads_code e fit both n p b r (omega arith) parts.tests rn (either (λ u. inl u) (λ z.
-          let in_inside : Vars (inside e inner s) r = in_all inner head (around s head) r (C k) A (C k) (head_in k) (λ a. (on a).0) (head_in k) z in
-          let home : C k → LiveAt body j r = λ w. live_on body j p r (instr.Jump p) parts.jumps tt (inl refl) (go w) in
-          inr (inl (joined_of (inside e inner s) s r (inl in_inside)),
-          live_on body b (b + 1) r (instr.Branch n long) parts.branches tt (inl refl)
-          (clear_passes both (inside e inner s) (b + 1) mid r (front body (b + 1) start block j parts.inside) (λ v. in_inside)
-          (inner_live head (around s head) (length gone + 1) 0 mid j (C k) A (C k) block_span (λ w. (head_in k w, home w))
-          (λ a. ((on a).0, place_of next (j + (length gone + 1)) r (omega (arith, behind, gone_end)) (on a).1)) (λ w. (head_in k w, place_of j (j + 0) r (omega arith) (home w))) z)))) way))
+      let in_inside : Vars (inside e inner s) r = in_all inner head (around s head) r (C k) A (C k) (head_in k) (λ a. (on a).0) (head_in k) z in
+      let home : C k → LiveAt body j r = λ w. live_on body j p r (instr.Jump p) parts.jumps tt (inl refl) (go w) in
+      inr (
+        inl (joined_of (inside e inner s) s r (inl in_inside)),
+        live_on body b (b + 1) r (instr.Branch n long) parts.branches tt (inl refl)
+            (clear_passes both (inside e inner s) (b + 1) mid r (front body (b + 1) start block j parts.inside) (λ v. in_inside)
+            (inner_live head (around s head) (length gone + 1) 0 mid j (C k) A (C k) block_span (λ w. (head_in k w, home w))
+            (λ a. ((on a).0, place_of next (j + (length gone + 1)) r (omega (arith, behind, gone_end)) (on a).1)) (λ w. (head_in k w, place_of j (j + 0) r (omega arith) (home w))) z)),
+      )) way))
 
   mutual
     -- a variable that some path from the statement on uses before it assigns it is live in front of its code
@@ -209,17 +206,19 @@ module _ (body : List Instr) (c : Context) (n : ℕ) (L R : Type 0) (U : ℕ →
         let to_s : A → Vars s r = λ a. (on a).0 in let to_e : E → Vars ends.exit r = λ w. (one w).0 in let to_y : Y → Vars ends.again r = λ w. (two w).0 in
         reads_code e fit.0 both n at mid r (omega arith) (front body at test (fork n code1 code2) next h) rn
         (either (λ u. inl u) (λ w. inr (either
-            (λ z. let v = in_all first s ends r A E Y to_s to_e to_y z in
-                (inl (joined_of (live_all first s ends) (live_all second s ends) r (inl v)),
-                live_first_over body mid next n code1 code2 r rest (λ p q sp eq go.
-                    clear_passes both (live_all first s ends) p (p + length clear1) r (front body p clear1 block1 q sp) (λ y. v)
-                    (stmts_live first fit.1 s ends (over code2 + exit) (over code2 + again) (p + length clear1) q r A E Y rn (back body p clear1 block1 q sp) (λ a. ((on a).0, go (on a).1))
-                    (λ y. ((one y).0, place_of (next + exit) (q + (over code2 + exit)) r (omega (arith, eq)) (one y).1)) (λ y. ((two y).0, place_of (next + again) (q + (over code2 + again)) r (omega (arith, eq)) (two y).1)) z))))
-            (λ z. let v = in_all second s ends r A E Y to_s to_e to_y z in
-                (inl (joined_of (live_all first s ends) (live_all second s ends) r (inr v)),
-                live_second body mid next n code1 code2 r rest (λ p sp.
-                    clear_passes both (live_all second s ends) p (p + length clear2) r (front body p clear2 block2 next sp) (λ y. v)
-                    (stmts_live second fit.2 s ends exit again (p + length clear2) next r A E Y rn (back body p clear2 block2 next sp) on one two z)))) w)) way)
+        (λ z. let v = in_all first s ends r A E Y to_s to_e to_y z in (
+          inl (joined_of (live_all first s ends) (live_all second s ends) r (inl v)),
+          live_first_over body mid next n code1 code2 r rest (λ p q sp eq go.
+              clear_passes both (live_all first s ends) p (p + length clear1) r (front body p clear1 block1 q sp) (λ y. v)
+              (stmts_live first fit.1 s ends (over code2 + exit) (over code2 + again) (p + length clear1) q r A E Y rn (back body p clear1 block1 q sp) (λ a. ((on a).0, go (on a).1))
+              (λ y. ((one y).0, place_of (next + exit) (q + (over code2 + exit)) r (omega (arith, eq)) (one y).1)) (λ y. ((two y).0, place_of (next + again) (q + (over code2 + again)) r (omega (arith, eq)) (two y).1)) z)),
+        ))
+        (λ z. let v = in_all second s ends r A E Y to_s to_e to_y z in (
+          inl (joined_of (live_all first s ends) (live_all second s ends) r (inr v)),
+          live_second body mid next n code1 code2 r rest (λ p sp.
+              clear_passes both (live_all second s ends) p (p + length clear2) r (front body p clear2 block2 next sp) (λ y. v)
+              (stmts_live second fit.2 s ends exit again (p + length clear2) next r A E Y rn (back body p clear2 block2 next sp) on one two z)),
+        )) w)) way)
     stmt_live (WhileStmt i e invariants inner) fit s ends exit again at next r A E Y rn h on one two way =
         turns_live e inner fit.0 s at next r A rn (λ u ends2 exit2 again2 at2 to X E2 Y2 sp o1 o2 o3 z. stmts_live inner fit.1 u ends2 exit2 again2 at2 to r X E2 Y2 rn sp o1 o2 o3 z) h on way.0 way.1
 

@@ -1,5 +1,5 @@
 -- The code of a test of a type keeps nothing dead.
-use Rattle.std.proofs.Common.{◌≡◌, ◌≢◌, ◌<◌, ◌≤◌, ◌⊎◌, inl, inr, ℕ, zero, suc, ◌+◌, List, [], ◌∷◌, ◌++◌, length, Bool, true, false, Some, pos, refl, sym, ap, ◌∙◌, subst, arith}
+use Rattle.std.proofs.Common.{◌≡◌, ◌≢◌, ◌<◌, ◌≤◌, ◌⊎◌, inl, inr, ℕ, suc, ◌+◌, List, [], ◌∷◌, ◌++◌, length, true, false, Some, pos, refl, sym, ◌∙◌, subst, arith}
 use Rattle.std.specs.Prelude.{slice_get}
 use Rattle.wy_core.specs.Types.{Ty, NullTy, BoolTy, IntTy, AnyTy, VoidTy, RecordTy, ArrayTy, UnionTy, InterTy, NotTy, NamedTy, NormalTy, FieldTys, NoFieldTys, MoreFieldTys}
 use Rattle.wy_code.specs.declared.instructions.Scalar.{Scalar}
@@ -13,15 +13,15 @@ use Rattle.wy_code.specs.declared.instructions.Instr.TheVariants as instr
 use Rattle.wy_tables.specs.declared.context.Context.{Context}
 use Rattle.wy_tables.specs.Tables.{number_of, shape_number, ty_names_in}
 use Rattle.wy_pieces.specs.declared.steps.Step.{Step}
-use Rattle.wy_pieces.specs.declared.steps.Step.TheVariants.{Does, GoesOn, GoesBack, GoesOnUnless}
-use Rattle.wy_pieces.specs.Steps.{clear, dropped, fork, turns}
-use Rattle.wy_compiled.specs.TypeTests.{item_end, item_turns, yes, items_test, named_test, array_test, record_test, field_end, test, fields_test}
+use Rattle.wy_pieces.specs.declared.steps.Step.TheVariants.{Does, GoesOnUnless}
+use Rattle.wy_pieces.specs.Steps.{dropped, fork}
+use Rattle.wy_compiled.specs.TypeTests.{item_end, item_turns, yes, items_test, field_end, test, fields_test}
 use Rattle.wy_kept_registers.specs.Keeping.{IsNone}
-use Rattle.wy_kept_code.specs.Alive.{IsOne, reads, changes, nexts, LiveAt}
-use Rattle.wy_kept_code.specs.Safe.{Told, gone, Into, After, Onward, Fine, Safe}
+use Rattle.wy_kept_code.specs.Alive.{IsOne, changes, nexts, LiveAt}
+use Rattle.wy_kept_code.specs.Safe.{Told, Into, After, Onward, Safe}
 use Rattle.wy_kept_code.specs.Telling.{Tells}
 use Rattle.wy_kept_code.proofs.SafeLemmas.{Less, safe_sooner}
-use Rattle.wy_kept_code.proofs.PieceLemmas.{either, nat_up, Told_of, Sure, Behind, less_not, Spans, front, back, tail, ended, live_reads, live_on, live_last, live_first, live_second, Turning, turning, Lives, safe_step, safe_clears, safe_jumps, safe_loops, safe_branches, safe_at, safe_fork, lives_on, lives_at}
+use Rattle.wy_kept_code.proofs.PieceLemmas.{either, nat_up, Told_of, Sure, Behind, less_not, Spans, front, back, tail, ended, live_reads, live_on, live_last, live_first, live_second, turning, Lives, safe_step, safe_clears, safe_loops, safe_branches, safe_at, safe_fork, lives_on, lives_at}
 
 module _ (body : List Instr) where
   -- where a register is live behind code that isn't gone through
@@ -110,10 +110,12 @@ module _ (body : List Instr) where
           let move : Instr = instr.Move free g in
           let two = tail body at move (Does (instr.Clear (free ∷ [])) ∷ rest) next h in
           let there : Lives body t f at (With P g) = λ q u l. either (λ k. live_on body at (at + 1) q move h.0.0 ((low q k).1, ((low q k).0, tt)) (inl refl)
-              (live_on body (at + 1) (at + 1 + 1) q (instr.Clear (free ∷ [])) two.0.0 ((low q k).1, tt) (inl refl) (live q u k)))
-              (λ e. live_reads body at q move h.0.0 (inl e)) l in
-          (safe_step body t f m at move (With P g) (With P free) h.0.0 there (λ x s. s) behind
-          (safe_clears body t f m (at + 1) (free ∷ []) (With P free) P two.0.0 cleared safe), there)
+          (live_on body (at + 1) (at + 1 + 1) q (instr.Clear (free ∷ [])) two.0.0 ((low q k).1, tt) (inl refl) (live q u k)))
+          (λ e. live_reads body at q move h.0.0 (inl e)) l in (
+            safe_step body t f m at move (With P g) (With P free) h.0.0 there (λ x s. s) behind
+                (safe_clears body t f m (at + 1) (free ∷ []) (With P free) P two.0.0 cleared safe),
+            there,
+          )
         where
           behind : Less t f (Behind body t f (instr.Move free g) (With P g)) (With P free)
           behind q u (inl k) = either (λ z. inl z) (λ e. absurd (k.1.1.0 e)) k.0
@@ -179,15 +181,15 @@ module _ (body : List Instr) where
             let safe_yes : (k : ℕ) → Sure body t f k next P → Sure body t f k long P = λ k s. const_safe k long next r g (scalar.Bool true) P last un live s in
             let live_jump : Lives body t f parts.jump P = λ q u l. live_on body parts.jump at q (instr.Jump at) parts.jumps tt (inl refl) (live_head q u l) in
             let head : (k : ℕ) → Sure body t f k next P → Sure body t f k at P = nat_up (λ k. Sure body t f k next P → Sure body t f k at P) (λ s. tt) (λ k less s.
-                let end_facts = item_end_safe (suc k) p3 parts.jump next end_span (omega (arith, jump_next, yes_at)) live_jump live (safe_loops body t f k parts.jump at P P parts.jumps live_head (λ q u l. l) (less (safe_sooner t f body k next (Told_of body t f P) s))) s in
-                safe_step body t f (suc k) at compare P P parts.tests.0.0 live_head (λ x z. z) (kept_only compare P (λ q z. z))
-                (safe_at body t f (suc k) b (at + 1) P (sym first_at)
-                (safe_branches body t f (suc k) b r long P P P parts.branches live_b (λ q u z. z.0) (λ q u z. z.0)
-                (safe_step body t f (suc k) (b + 1) get P (With P (suc (suc g))) parts.inside.0.0
-                (λ q u l. live_on body (b + 1) (b + 1 + 1) q get parts.inside.0.0 (less_not q (suc (suc g)) (let z = low_of q l in omega (arith, z)), tt) (inl refl) (passes p2 p3 q (front body p2 one (item_end r g) parts.jump i1) (let z = low_of q l in omega (arith, z)) (un q l).1 (end_facts.1 q u (inl l))))
-                (λ x z. z) (λ q u z. either (λ y. inl y.0) (λ y. inr y) z)
-                (item (suc k) p2 p3 (front body p2 one (item_end r g) parts.jump i1) end_facts.1 end_facts.0))
-                (safe_yes (suc k) s)))) in
+            let end_facts = item_end_safe (suc k) p3 parts.jump next end_span (omega (arith, jump_next, yes_at)) live_jump live (safe_loops body t f k parts.jump at P P parts.jumps live_head (λ q u l. l) (less (safe_sooner t f body k next (Told_of body t f P) s))) s in
+            safe_step body t f (suc k) at compare P P parts.tests.0.0 live_head (λ x z. z) (kept_only compare P (λ q z. z))
+            (safe_at body t f (suc k) b (at + 1) P (sym first_at)
+            (safe_branches body t f (suc k) b r long P P P parts.branches live_b (λ q u z. z.0) (λ q u z. z.0)
+            (safe_step body t f (suc k) (b + 1) get P (With P (suc (suc g))) parts.inside.0.0
+            (λ q u l. live_on body (b + 1) (b + 1 + 1) q get parts.inside.0.0 (less_not q (suc (suc g)) (let z = low_of q l in omega (arith, z)), tt) (inl refl) (passes p2 p3 q (front body p2 one (item_end r g) parts.jump i1) (let z = low_of q l in omega (arith, z)) (un q l).1 (end_facts.1 q u (inl l))))
+            (λ x z. z) (λ q u z. either (λ y. inl y.0) (λ y. inr y) z)
+            (item (suc k) p2 p3 (front body p2 one (item_end r g) parts.jump i1) end_facts.1 end_facts.0))
+            (safe_yes (suc k) s)))) in
             (head m safe, live_head)
 
       with_untouched : (r g x : ℕ) (P : ℕ → Type 0) → Untouched r g P → r < g → g ≤ x → Untouched r (suc x) (With P x)
@@ -226,15 +228,15 @@ module _ (body : List Instr) where
             safe_step body t f m at i P P h.0.0 (lives_on body t f at i P h.0.0 (λ q l. ((un q l).1, tt)) (inl refl) live_fork) (λ x s. s) (kept_only i P (λ q z. z))
             (safe_fork body t f m (at + 1) next r first [] P P P P rest live_fork (λ e1 e2 q u l. l) (λ q u k. k.0) (λ q u k. k.0) live
             (λ p q s lq sq.
-                let two = tail body p len (Does con ∷ items) q s in
-                let three = tail body (p + 1) con items q two in
-                let facts = items_safe v r g P un low above one m (p + 1 + 1) q three
-                    (λ k z w zs lz sz. test_safe ty k z w (suc (suc g)) r (suc (suc (suc g))) (With P (suc (suc g))) zs (with_untouched r g (suc (suc g)) P un low (omega arith)) (omega (arith, low)) above lz sz)
-                    (λ z w x zs lx ox l. test_live ty (suc (suc g)) r (suc (suc (suc g))) z w x zs lx ox l) lq sq in
-                let live_con : Lives body t f (p + 1) P = lives_on body t f (p + 1) con P two.0.0 (λ x l. (less_not x (suc g) (let z = (un x l).0 in omega (arith, z)), tt)) (inl refl) facts.1 in
-                let live_len : Lives body t f p P = lives_on body t f p len P s.0.0 (λ x l. (less_not x g (un x l).0, tt)) (inl refl) live_con in
-                safe_step body t f m p len P P s.0.0 live_len (λ x z. z) (kept_only len P (λ x z. z))
-                (safe_step body t f m (p + 1) con P P two.0.0 live_con (λ x z. z) (kept_only con P (λ x z. z)) facts.0))
+            let two = tail body p len (Does con ∷ items) q s in
+            let three = tail body (p + 1) con items q two in
+            let facts = items_safe v r g P un low above one m (p + 1 + 1) q three
+            (λ k z w zs lz sz. test_safe ty k z w (suc (suc g)) r (suc (suc (suc g))) (With P (suc (suc g))) zs (with_untouched r g (suc (suc g)) P un low (omega arith)) (omega (arith, low)) above lz sz)
+            (λ z w x zs lx ox l. test_live ty (suc (suc g)) r (suc (suc (suc g))) z w x zs lx ox l) lq sq in
+            let live_con : Lives body t f (p + 1) P = lives_on body t f (p + 1) con P two.0.0 (λ x l. (less_not x (suc g) (let z = (un x l).0 in omega (arith, z)), tt)) (inl refl) facts.1 in
+            let live_len : Lives body t f p P = lives_on body t f p len P s.0.0 (λ x l. (less_not x g (un x l).0, tt)) (inl refl) live_con in
+            safe_step body t f m p len P P s.0.0 live_len (λ x z. z) (kept_only len P (λ x z. z))
+            (safe_step body t f m (p + 1) con P P two.0.0 live_con (λ x z. z) (kept_only con P (λ x z. z)) facts.0))
             (λ p s. empty_safe m p next P s safe) safe)
         test_safe (UnionTy a b) m at next v r g P h un low above live safe =
             let mid = at + length (test c a v r g) in
@@ -284,8 +286,8 @@ module _ (body : List Instr) where
             let three = tail body (mid + 1) (instr.Clear (suc g ∷ [])) (fork r rest []) next two in
             let live_fork : Lives body t f (mid + 1 + 1) P = λ q u l. live_second body (mid + 1 + 1) next r rest [] q three (λ p s. at_end p next q s (live q u l)) in
             let facts = dropped_safe m mid next g (suc g) (fork r rest []) P last (λ q l. let z = (un q l).0 in (less_not q g z, less_not q (suc g) (omega (arith, z)))) live_fork
-                (safe_fork body t f m (mid + 1 + 1) next r rest [] P P P P three live_fork (λ e1 e2 q u l. l) (λ q u k. k.0) (λ q u k. k.0) live
-                (λ p q s lq sq. fields_safe fs m p q v r g P s un low above lq sq) (λ p s. empty_safe m p next P s safe) safe) in
+            (safe_fork body t f m (mid + 1 + 1) next r rest [] P P P P three live_fork (λ e1 e2 q u l. l) (λ q u k. k.0) (λ q u k. k.0) live
+            (λ p q s lq sq. fields_safe fs m p q v r g P s un low above lq sq) (λ p s. empty_safe m p next P s safe) safe) in
             safe_step body t f m at i P (With P g) h.0.0
             (λ q u l. live_on body at (at + 1) q i h.0.0 (less_not q g (un q l).0, tt) (inl refl) (test_live ty g r (suc g) (at + 1) mid q one_span (let z = (un q l).0 in omega (arith, z)) (un q l).1 (facts.1 q u (inl l))))
             (λ x s. s) (λ q u l. either (λ z. inl z.0) (λ z. inr z) l)

@@ -5,13 +5,13 @@ use Rattle.wy_core.specs.CoreTree as tree
 use Rattle.wy_core.specs.CoreTree.{Expr, NullExpr, BoolExpr, IntExpr, VarExpr, CallExpr, NegExpr, NotExpr, LenExpr, BinaryExpr, IsExpr, IndexExpr, FieldExpr, ListExpr, RepeatExpr, RecordExpr, QuantExpr, Exprs, NoExprs, MoreExprs, Fields, NoFields, MoreFields, Step, IndexStep, FieldStep, Stmt, DeclareStmt, AssignStmt, CallStmt, ReturnStmt, AssertStmt, BreakStmt, ContinueStmt, SkipStmt, FailStmt, IfStmt, WhileStmt, Stmts, NoStmts, MoreStmts, Param, Alias, Core, aliases_of, routines_of}
 use Rattle.wy_formed.specs.Formed.{Formed}
 use Rattle.wy_tables.specs.Tables.{results_of}
-use Rattle.wy_compiled.specs.Expressions.{is_plain}
+use Rattle.wy_live.specs.Walks.{nothing}
 use Rattle.wy_compiled.specs.Programs.{code_of}
 use Rattle.wy_step.specs.Step.{start, after}
 use Rattle.wy_simulated_tests.specs.Tested.{ClausesNameTheirs}
 use Rattle.wy_simulated_programs.specs.Programs.{AllInOrder}
 use Rattle.wy_kept_code.specs.Safe.{Told, KeepsNothing}
-use Rattle.wy_kept_code.specs.Fitting.{Checked, SomeCode}
+use Rattle.wy_kept_code.specs.Fitting.{is_sure, Checked, SomeCode, SettledStmts}
 
 -- ---- the variables of quantifiers
 
@@ -106,7 +106,7 @@ OwnCounters (r ∷ rs) = ((x : ℕ) → CountsStmts r.body x → IsDeclared r x 
 -- ---- truth values that nothing tests
 
 abbrev mutual
-  -- each right operand of `&&` and `||` is by its form no list and no record; or nothing is asked, where L
+  -- the right side of each equation that the code takes to be no list and no record is none by its form; or nothing is asked, where L
   pub Truths : Type 0 → Expr ℕ → Type 0
   Truths L (NullExpr at) = Unit {0}
   Truths L (BoolExpr at truth) = Unit {0}
@@ -143,7 +143,7 @@ TruthsPath L (IndexStep at e ∷ path) = Truths L e × TruthsPath L path
 TruthsPath L (FieldStep at name ∷ path) = TruthsPath L path
 
 abbrev mutual
-  -- so is the test of an `if` without code in its blocks
+  -- the test of an `if` without code in its blocks is none by its form
   pub TruthsStmt : Type 0 → Stmt ℕ → Type 0
   TruthsStmt L (DeclareStmt at ty y value) = TruthsOption L value
   TruthsStmt L (AssignStmt at y path e) = TruthsPath L path × Truths L e
@@ -154,7 +154,7 @@ abbrev mutual
   TruthsStmt L (ContinueStmt at) = Unit {0}
   TruthsStmt L (SkipStmt at) = Unit {0}
   TruthsStmt L (FailStmt at) = Unit {0}
-  TruthsStmt L (IfStmt at e first second) = Truths L e × TruthsStmts L first × TruthsStmts L second × (((is_plain e ≡ true) ⊎ L) ⊎ (SomeCode first ⊎ SomeCode second))
+  TruthsStmt L (IfStmt at e first second) = Truths L e × TruthsStmts L first × TruthsStmts L second × (((is_sure e ≡ true) ⊎ L) ⊎ (SomeCode first ⊎ SomeCode second))
   TruthsStmt L (WhileStmt at e invariants body) = Truths L e × TruthsStmts L body
 
   pub TruthsStmts : Type 0 → Stmts ℕ → Type 0
@@ -164,7 +164,7 @@ abbrev mutual
 -- so is the last clause of a type
 abbrev pub LastTruth : Type 0 → List (Expr ℕ) → Type 0
 LastTruth L [] = Unit {0}
-LastTruth L (e ∷ []) = (is_plain e ≡ true) ⊎ L
+LastTruth L (e ∷ []) = (is_sure e ≡ true) ⊎ L
 LastTruth L (e ∷ (d ∷ es)) = LastTruth L (d ∷ es)
 
 abbrev pub TruthsClauses : Type 0 → List (Expr ℕ) → Type 0
@@ -175,9 +175,10 @@ abbrev pub TruthsTypes : Type 0 → List (Alias ℕ) → Type 0
 TruthsTypes L [] = Unit {0}
 TruthsTypes L (a ∷ more) = TruthsClauses L a.clauses × LastTruth L a.clauses × TruthsTypes L more
 
+-- what comes into a whole variable that isn't live behind is none by its form, where the code takes it to be none
 abbrev pub TruthsRoutines : Type 0 → List (tree.Routine ℕ) → Type 0
 TruthsRoutines L [] = Unit {0}
-TruthsRoutines L (r ∷ rs) = TruthsStmts L r.body × TruthsRoutines L rs
+TruthsRoutines L (r ∷ rs) = (TruthsStmts L r.body × SettledStmts L r.body [] nothing) × TruthsRoutines L rs
 
 -- of a whole program
 abbrev pub TruthsByForm : Type 0 → Core ℕ → Type 0
@@ -202,11 +203,11 @@ result_at (b ∷ bs) (suc f) = result_at bs f
 abbrev pub told_of : Core ℕ → Bool → Told
 told_of core loose = record {
   untold = (λ f r. loose && not (nat_lt r (variables_in (routines_of core) (aliases_of core) f)));
-  results = (λ f. loose || result_at (results_of (routines_of core)) f)
+  results = (λ f. loose || result_at (results_of (routines_of core)) f);
 }
 
-abbrev pub Runs_keep : Core ℕ → Bool → Type 0
-Runs_keep core loose = (f : ℕ) (vs : List Datum) (n : ℕ) → KeepsNothing (told_of core loose) (code_of core) (after (code_of core) n (start (code_of core) f vs))
+abbrev pub RunsKeep : Core ℕ → Bool → Type 0
+RunsKeep core loose = (f : ℕ) (vs : List Datum) (n : ℕ) → KeepsNothing (told_of core loose) (code_of core) (after (code_of core) n (start (code_of core) f vs))
 
 -- what is asked of each program
 pub record Asked (core : Core ℕ) : Type 0 where
@@ -217,8 +218,8 @@ pub record Asked (core : Core ℕ) : Type 0 where
 
 -- in each run of the code, on whatever arguments, whenever the next instruction of a frame is no `Clear`: each register of the frame that holds a list or a record is live at the frame's place, where each truth value that nothing tests is one by its form
 abbrev pub NothingDeadIsKept : Type 0
-NothingDeadIsKept = (core : Core ℕ) → Asked core → TruthsByForm ⊥ core → Runs_keep core false
+NothingDeadIsKept = (core : Core ℕ) → Asked core → TruthsByForm (false ≡ true) core → RunsKeep core false
 
 -- in each program, the register of each variable that holds a list or a record is
 abbrev pub NoDeadVariableIsKept : Type 0
-NoDeadVariableIsKept = (core : Core ℕ) → Asked core → Runs_keep core true
+NoDeadVariableIsKept = (core : Core ℕ) → Asked core → RunsKeep core true

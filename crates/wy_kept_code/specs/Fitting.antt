@@ -7,22 +7,63 @@ use Rattle.wy_tables.specs.declared.context.Context.{Context}
 use Rattle.wy_tables.specs.declared.targets.Target.{Target}
 use Rattle.wy_tables.specs.declared.targets.Target.TheVariants.{Declared, Prints, PrintsInt, Nothing}
 use Rattle.wy_tables.specs.Tables.{target}
+use Rattle.wy_live.specs.Sets.{Variables, has}
+use Rattle.wy_live.specs.Walks.{live_all, head_live, around}
+use Rattle.wy_live.specs.declared.walk.Ends.{Ends}
 use Rattle.wy_compiled.specs.Expressions.{is_plain, count_of}
 
--- `&&` and `||` don't test their right operand: by its form it is no list and no record, or nothing is said
+-- what is so of `&&` and `||` where it is so of their right operand, and of each other operator
+abbrev pub right_or : Op → Bool → Bool
+right_or op.Add right = true
+right_or op.Sub right = true
+right_or op.Mul right = true
+right_or op.Div right = true
+right_or op.Mod right = true
+right_or op.Equal right = true
+right_or op.Less right = true
+right_or op.LessEqual right = true
+right_or op.Greater right = true
+right_or op.GreaterEqual right = true
+right_or op.And right = right
+right_or op.Or right = right
+
+-- by its form the value is no list and no record: `&&` and `||` don't test their right operand, so theirs is none where that is so of it
+abbrev pub is_sure : {N : Type 0} → Expr N → Bool
+is_sure (NullExpr at) = true
+is_sure (BoolExpr at truth) = true
+is_sure (IntExpr at number) = true
+is_sure (VarExpr at x) = false
+is_sure (CallExpr at routine args) = false
+is_sure (NegExpr at a) = true
+is_sure (NotExpr at a) = true
+is_sure (LenExpr at a) = true
+is_sure (BinaryExpr at o a b) = right_or o (is_sure b)
+is_sure (IsExpr at a ty) = true
+is_sure (IndexExpr at a b) = false
+is_sure (FieldExpr at a name) = false
+is_sure (ListExpr at items) = false
+is_sure (RepeatExpr at a b) = false
+is_sure (RecordExpr at fs) = false
+is_sure (QuantExpr at all x a b body) = true
+
+-- where the code takes the value to be no list and no record, and so doesn't release it, it is none by its form; or nothing is asked, where L
+abbrev pub Settled : {N : Type 0} → Expr N → Type 0 → Type 0
+Settled e L = ((is_plain e ≡ false) ⊎ (is_sure e ≡ true)) ⊎ L
+
+-- so of the right side of an equation
 abbrev pub Checked : Op → {N : Type 0} → Expr N → Type 0 → Type 0
 Checked op.Add b L = Unit {0}
 Checked op.Sub b L = Unit {0}
 Checked op.Mul b L = Unit {0}
 Checked op.Div b L = Unit {0}
 Checked op.Mod b L = Unit {0}
-Checked op.Equal b L = Unit {0}
+Checked op.Equal b L = Settled b L
 Checked op.Less b L = Unit {0}
 Checked op.LessEqual b L = Unit {0}
 Checked op.Greater b L = Unit {0}
 Checked op.GreaterEqual b L = Unit {0}
-Checked op.And b L = (is_plain b ≡ true) ⊎ L
-Checked op.Or b L = (is_plain b ≡ true) ⊎ L
+Checked op.And b L = Unit {0}
+Checked op.Or b L = Unit {0}
 
 -- a function or method of the program with a result
 abbrev pub IsValue : Target → Type 0
@@ -113,9 +154,42 @@ abbrev mutual
   FitsStmt c n L R (ContinueStmt at) U = Unit {0}
   FitsStmt c n L R (SkipStmt at) U = Unit {0}
   FitsStmt c n L R (FailStmt at) U = Unit {0}
-  FitsStmt c n L R (IfStmt at e first second) U = Fits c n L e U × FitsStmts c n L R first U × FitsStmts c n L R second U × (((is_plain e ≡ true) ⊎ L) ⊎ (SomeCode first ⊎ SomeCode second))
+  FitsStmt c n L R (IfStmt at e first second) U = Fits c n L e U × FitsStmts c n L R first U × FitsStmts c n L R second U × (((is_sure e ≡ true) ⊎ L) ⊎ (SomeCode first ⊎ SomeCode second))
   FitsStmt c n L R (WhileStmt at e invariants inner) U = Fits c n L e U × FitsStmts c n L R inner U
 
   pub FitsStmts : Context → ℕ → Type 0 → Type 0 → Stmts ℕ → (ℕ → Type 0) → Type 0
   FitsStmts c n L R NoStmts U = Unit {0}
   FitsStmts c n L R (MoreStmts st rest) U = FitsStmt c n L R st U × FitsStmts c n L R rest U
+
+-- ---- what comes into variables that aren't live
+
+-- it is released, or it is no list and no record by its form
+abbrev pub IsPutAway : ℕ → Expr ℕ → Variables → Type 0 → Type 0
+IsPutAway x e s L = (has s x ≡ true) ⊎ Settled e L
+
+abbrev pub SettledOption : ℕ → Option (Expr ℕ) → Variables → Type 0 → Type 0
+SettledOption x None s L = Unit {0}
+SettledOption x (Some e) s L = IsPutAway x e s L
+
+abbrev pub SettledAt : ℕ → List (Step ℕ) → Expr ℕ → Variables → Type 0 → Type 0
+SettledAt x [] e s L = IsPutAway x e s L
+SettledAt x (step ∷ path) e s L = Unit {0}
+
+abbrev mutual
+  -- so of each value that comes into a whole variable, where this is live behind the statement
+  pub SettledStmt : Type 0 → Stmt ℕ → Variables → Ends → Type 0
+  SettledStmt L (DeclareStmt at ty x value) s ends = SettledOption x value s L
+  SettledStmt L (AssignStmt at x path e) s ends = SettledAt x path e s L
+  SettledStmt L (CallStmt at g args) s ends = Unit {0}
+  SettledStmt L (ReturnStmt at value) s ends = Unit {0}
+  SettledStmt L (AssertStmt at e) s ends = Unit {0}
+  SettledStmt L (BreakStmt at) s ends = Unit {0}
+  SettledStmt L (ContinueStmt at) s ends = Unit {0}
+  SettledStmt L (SkipStmt at) s ends = Unit {0}
+  SettledStmt L (FailStmt at) s ends = Unit {0}
+  SettledStmt L (IfStmt at e first second) s ends = SettledStmts L first s ends × SettledStmts L second s ends
+  SettledStmt L (WhileStmt at e invariants inner) s ends = SettledStmts L inner (head_live e inner s) (around s (head_live e inner s))
+
+  pub SettledStmts : Type 0 → Stmts ℕ → Variables → Ends → Type 0
+  SettledStmts L NoStmts s ends = Unit {0}
+  SettledStmts L (MoreStmts st rest) s ends = SettledStmt L st (live_all rest s ends) ends × SettledStmts L rest s ends

@@ -5,4 +5,6 @@
 
 mod law;
 
-pub use law::runs_of_safe_code_keep_nothing_dead;
+pub use law::{
+    no_dead_variable_is_kept, nothing_dead_is_kept, runs_of_safe_code_keep_nothing_dead,
+};
