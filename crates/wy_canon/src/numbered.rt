@@ -1,5 +1,5 @@
 //! Parts and conjuncts by number, found by their digests.
-ghost use Rattle.std.specs.Prelude.{◌≡◌, ℕ, true, ◌<◌, ◌++◌, ◌∷◌, [], length, Some, IfSome, IfOk, OnOk, OnErr, slice_get, is_some};
+ghost use Rattle.std.specs.Prelude.{◌≡◌, ℕ, true, ◌<◌, ◌++◌, ◌∷◌, [], length, Some, IfSome, IfOk, OnOk, OnErr, OnSome, slice_get, is_some};
 ghost use Rattle.std.specs.Option.{option_copied};
 ghost use Rattle.wy_types.specs.Conjuncts.{same_term};
 ghost use Rattle.wy_types.specs.Same as same;
@@ -204,7 +204,7 @@ impl NumberedParts {
 
     /// How many parts there are.
     pub fn len(&self) -> usize
-        ensures value { result ≡ length self.now }
+        ensures { result ≡ length self.now }
     {
         self.row.len()
     }
@@ -278,20 +278,21 @@ impl NumberedConjuncts {
     /// The conjunct with this number, in constant time.
     pub fn get(&self, number: usize) -> Option<&Conjunct<u32>>
         ensures value { option_copied result ≡ slice_get self.now number }
+        ensures within { OnSome result (number < length self.now) }
     {
         self.row.get(number)
     }
 
     /// The conjuncts, lent as a slice.
     pub fn as_slice(&self) -> &[Conjunct<u32>]
-        ensures value { result.now ≡ self.now }
+        ensures { result.now ≡ self.now }
     {
         self.row.as_slice()
     }
 
     /// How many conjuncts there are.
     pub fn len(&self) -> usize
-        ensures value { result ≡ length self.now }
+        ensures { result ≡ length self.now }
     {
         self.row.len()
     }
