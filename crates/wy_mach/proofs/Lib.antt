@@ -13,14 +13,17 @@ pub mod FillLemmas
 pub mod RecordLemmas
 pub mod KindLemmas
 pub mod EntryLemmas
+pub mod ShareLemmas
 pub mod FieldLemmas
 pub mod PartLemmas
 pub mod PathLemmas
 pub mod UpdateLemmas
+pub mod WriteLemmas
 pub mod TextLemmas
 pub mod PrintLemmas
 pub mod StateLemmas
 pub mod TurnLemmas
 pub mod CallLemmas
+pub mod SharedTurnLemmas
 pub mod StartLemmas
 pub mod RunLemmas

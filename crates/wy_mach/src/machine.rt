@@ -1,10 +1,11 @@
 //! The machine: a heap, the frame that runs and those that wait for it.
-ghost use Rattle.std.specs.Prelude.{◌≡◌, ◌≤◌, ◌<◌, [], ℕ, List, Option, reverse, IfOk, OnErr};
+ghost use Rattle.std.specs.Prelude.{◌≡◌, ◌≤◌, ◌<◌, vec_capacity, [], ℕ, List, Option, reverse, IfOk, OnErr};
 ghost use Rattle.wy_heap.specs.Standing.{Stands};
 ghost use Rattle.wy_code.specs.declared.routines.Code.{Code};
 ghost use Rattle.wy_code.specs.declared.instructions.Instr.{Instr};
 ghost use Rattle.wy_mach.specs.States.{IsMachine, places_of, places_below};
 ghost use Rattle.wy_mach.specs.Running.{Turned, TurnsBy, IsPlain, HasInt, KeepsRest, MayTakeMemory, MayWantMemory, next_in, next_by, instr_of};
+ghost use Rattle.wy_mach.specs.SharedTurns.{SameHeld, SharesPlain, SharesBy, SharesStep, WantsIn, WantsBy, WantsNext};
 
 use crate::frames::{Caller, Frame, leave};
 use crate::operands::truth;
@@ -54,7 +55,10 @@ impl Machine {
         requires is { IsMachine code.now self.old }
         ensures is { IsMachine code.now self.new }
         ensures turned { IfOk result (Turned (next_in code.now) self.old self.new (O.taken out.old) (O.taken out.new) (O.faults out.old) (O.faults out.new)) }
+        ensures shares { IfOk result (λ turn. turn ≡ Turn.Went → SharesStep code.now self.old self.new) }
         ensures no_memory { OnErr result (MayWantMemory (instr_of code.now self.old)) }
+        ensures wants { OnErr result (WantsNext (instr_of code.now self.old) self.old) }
+        ensures room { vec_capacity self.old.path ≤ vec_capacity self.new.path }
         ensures nothing { OnErr result (O.taken out.new ≡ O.taken out.old) }
         ensures count { O.faults out.old ≤ O.faults out.new }
         ensures has_result { self.new.has_result ≡ self.old.has_result }
@@ -79,7 +83,9 @@ impl Machine {
         ensures stands { Stands self.new.heap (places_of self.new) }
         ensures kept { KeepsRest self.old self.new }
         ensures turned { IfOk result (Turned (next_by code.now instr.now) self.old self.new (O.taken out.old) (O.taken out.new) (O.faults out.old) (O.faults out.new)) }
+        ensures shares { IfOk result (λ turn. turn ≡ Turn.Went → SharesBy code.now instr.now self.old self.new) }
         ensures no_memory { OnErr result (MayTakeMemory instr.now) }
+        ensures wants { OnErr result (WantsBy instr.now self.old) }
         ensures nothing { OnErr result (O.taken out.new ≡ O.taken out.old) }
         ensures count { O.faults out.old ≤ O.faults out.new }
     {
@@ -108,7 +114,9 @@ impl Machine {
         ensures stands { Stands self.new.heap (places_of self.new) }
         ensures kept { KeepsRest self.old self.new }
         ensures turned { IfOk result (λ turn. (before : Option (List ℕ)) (failed : ℕ) → Turned (next_by code.now instr.now) self.old self.new before before failed failed turn) }
+        ensures shares { IfOk result (λ turn. turn ≡ Turn.Went → SharesPlain instr.now self.old self.new) }
         ensures no_memory { OnErr result (MayTakeMemory instr.now) }
+        ensures wants { OnErr result (WantsIn instr.now self.old.heap self.old.frame.registers.items (vec_capacity self.old.path)) }
     {
         let alloc = self.alloc;
         let registers = self.frame.registers.as_mut_slice();
@@ -136,6 +144,7 @@ impl Machine {
         ensures stands { Stands self.new.heap (places_of self.new) }
         ensures kept { KeepsRest self.old self.new }
         ensures turned { TurnsBy (Instr.Branch from to) self.old self.new result }
+        ensures shares { SameHeld self.old self.new }
     {
         match truth(&self.heap, self.frame.registers.as_slice(), from) {
             Some(true) => {
@@ -157,6 +166,7 @@ impl Machine {
         ensures stands { Stands self.new.heap (places_of self.new) }
         ensures kept { KeepsRest self.old self.new }
         ensures turned { (code : Code) → Turned (next_by code (Instr.Print from)) self.old self.new (O.taken out.old) (O.taken out.new) (O.faults out.old) (O.faults out.new) result }
+        ensures shares { SameHeld self.old self.new }
         ensures count { O.faults out.old ≤ O.faults out.new }
     {
         match print(&self.heap, self.frame.registers.as_slice(), from, out) {
@@ -176,6 +186,7 @@ impl Machine {
         ensures stands { Stands self.new.heap (places_of self.new) }
         ensures kept { KeepsRest self.old self.new }
         ensures turned { (code : Code) → Turned (next_by code (Instr.PrintInt from)) self.old self.new (O.taken out.old) (O.taken out.new) (O.faults out.old) (O.faults out.new) result }
+        ensures shares { SameHeld self.old self.new }
         ensures count { O.faults out.old ≤ O.faults out.new }
     {
         match print_int(&self.heap, self.frame.registers.as_slice(), from, out) {

@@ -1,0 +1,161 @@
+-- The step on shared nodes. Registers hold scalars and keys, and a heap is a map from keys to nodes; how many holders a key has is what the heap counts, which are the registers of all frames and the slots of all nodes that hold it (`Stands`). A key without holders has no node. What a node stands for is not said here: that is what the step on values says.
+use Rattle.std.specs.Prelude.{◌≡◌, ◌≤◌, ℕ, zero, suc, ◌+◌, ◌-◌, pos, List, [], ◌∷◌, ◌++◌, length, Option, Some, None, Vec, vec_capacity, slice_set, slice_get, ⊤}
+use Rattle.std.specs.declared.alloc.Global.{Global}
+use Rattle.wy_value.specs.Datum.{Datum, Whole}
+use Rattle.wy_heap.specs.declared.part.Part.{Part}
+use Rattle.wy_heap.specs.declared.part.Part.TheVariants.{Null}
+use Rattle.wy_heap.specs.declared.part.Slot.TheVariants.{Field}
+use Rattle.wy_heap.specs.declared.heap.Heap.{Heap}
+use Rattle.wy_heap.specs.Nodes.{list_form, map_of}
+use Rattle.wy_heap.specs.Parts.{scalar_part, IsBelow}
+use Rattle.wy_heap.specs.Slots.{part_at, item_at, step_of}
+use Rattle.wy_code.specs.declared.instructions.Instr.{Instr}
+use Rattle.wy_code.specs.declared.instructions.Instr.TheVariants as instr
+use Rattle.wy_code.specs.declared.routines.Routine.{Routine}
+use Rattle.wy_code.specs.declared.routines.Code.{Code}
+use Rattle.wy_sem.specs.Expressions.{Store, slot}
+use Rattle.wy_mach.specs.Showing.{Shows, scalar_kind}
+use Rattle.wy_mach.specs.Taking.{taken, emptied, nulls}
+use Rattle.wy_mach.specs.Sharing.{Spares, PutsIn, PutsScalar, PutsSecond, PutsNew, PutsFilled, part_in, shape_form}
+use Rattle.wy_mach.specs.Writing.{WritesPath, IsNotSole}
+use Rattle.wy_mach.specs.declared.frames.Caller.{Caller}
+use Rattle.wy_mach.specs.declared.machine.Machine.{Machine}
+use Rattle.wy_mach.specs.declared.runs.RunEnd.{RunEnd}
+use Rattle.wy_mach.specs.declared.runs.RunEnd.TheVariants as run_end
+use Rattle.wy_mach.specs.Running.{IsDone, Starts, next_in, instr_of}
+
+-- what an instruction that goes on behind and prints nothing does to the registers of its frame and to the nodes
+abbrev pub SharesIn : Instr → Heap → Heap → List Part → List Part → Type 0
+SharesIn (instr.Const d c) old new before after = PutsIn old new before after d (scalar_part (scalar_kind c))
+SharesIn (instr.Move d r) old new before after = PutsIn old new (slice_set before r Null) after d (part_in before r)
+SharesIn (instr.Share d r) old new before after = PutsSecond old new before after d (part_in before r)
+SharesIn (instr.Clear rs) old new before after = (after ≡ emptied before rs) × Spares old new
+SharesIn (instr.Arith d op a b) old new before after = PutsScalar old new before after d
+SharesIn (instr.Compare d op a b) old new before after = PutsScalar old new before after d
+SharesIn (instr.Equal d a b) old new before after = PutsScalar old new before after d
+SharesIn (instr.Not d a) old new before after = PutsScalar old new before after d
+SharesIn (instr.Jump t) old new before after = ⊤
+SharesIn (instr.Branch r t) old new before after = ⊤
+SharesIn (instr.Array d rs) old new before after = PutsNew old new (emptied before rs) after d list_form (taken before rs)
+SharesIn (instr.Record d k rs) old new before after = PutsNew old new (emptied before rs) after d (shape_form old.shapes k) (taken before rs)
+SharesIn (instr.Fill d v n) old new before after = (s : Store) (k : ℕ) → Shows (map_of old) s before → slot s n ≡ Some (Whole (pos k)) → PutsFilled old new (slice_set before v Null) after d k (part_in before v)
+SharesIn (instr.Len d a) old new before after = PutsScalar old new before after d
+SharesIn (instr.Get d a i) old new before after = (s : Store) (k : ℕ) → Shows (map_of old) s before → slot s i ≡ Some (Whole (pos k)) → PutsSecond old new before after d (part_at (map_of old) (part_in before a) (item_at k))
+SharesIn (instr.Field d a f) old new before after = PutsSecond old new before after d (part_at (map_of old) (part_in before a) (step_of old.shapes (Field f)))
+SharesIn (instr.Put a path v) old new before after = WritesPath old new before after a path v
+SharesIn (instr.Kind d a k) old new before after = PutsScalar old new before after d
+SharesIn (instr.Call d f rs) old new before after = ⊤
+SharesIn (instr.Return r) old new before after = ⊤
+SharesIn (instr.Print a) old new before after = ⊤
+SharesIn (instr.PrintInt a) old new before after = ⊤
+
+-- the nodes, the registers of the frame and those that wait are as before
+pub record SameHeld (old new : Machine) : Type 0 where
+  pub heap : new.heap ≡ old.heap
+  pub registers : new.frame.registers.items ≡ old.frame.registers.items
+  pub callers : new.callers.items ≡ old.callers.items
+
+-- the instruction did what it does to the registers of its frame, and those that wait are as before
+pub record SharesPlain (i : Instr) (old new : Machine) : Type 0 where
+  pub shares : SharesIn i old.heap new.heap old.frame.registers.items new.frame.registers.items
+  pub callers : new.callers.items ≡ old.callers.items
+
+-- the registers that are named went over to the routine's, and the frame that ran waits with the others
+pub record SharesCall (code : Code) (old new : Machine) (to number : ℕ) (rs : List ℕ) : Type 0 where
+  pub heap : new.heap ≡ old.heap
+  pub routine : Routine
+  pub is : slice_get code.routines number ≡ Some routine
+  pub registers : new.frame.registers.items ≡ taken old.frame.registers.items rs ++ nulls (routine.registers - length rs)
+  pub waiting : Caller
+  pub callers : new.callers.items ≡ old.callers.items ++ waiting ∷ []
+  pub left : waiting.frame.registers.items ≡ emptied old.frame.registers.items rs
+  pub target : waiting.target ≡ to
+
+-- the last that waits runs again with the result in its register, and what the frame held is let go of
+pub record SharesReturn (old new : Machine) (from : ℕ) : Type 0 where
+  pub waiting : Caller
+  pub callers : old.callers.items ≡ new.callers.items ++ waiting ∷ []
+  pub registers : new.frame.registers.items ≡ slice_set waiting.frame.registers.items waiting.target (part_in old.frame.registers.items from)
+  pub spares : Spares old.heap new.heap
+
+-- what an instruction that went did
+abbrev pub SharesBy : Code → Instr → Machine → Machine → Type 0
+SharesBy code (instr.Jump t) old new = SameHeld old new
+SharesBy code (instr.Branch r t) old new = SameHeld old new
+SharesBy code (instr.Call d f rs) old new = SharesCall code old new d f rs
+SharesBy code (instr.Return r) old new = SharesReturn old new r
+SharesBy code (instr.Print a) old new = SameHeld old new
+SharesBy code (instr.PrintInt a) old new = SameHeld old new
+SharesBy code i old new = SharesPlain i old new
+
+-- ---- want of memory
+
+-- where there is so much room for paths, an instruction that goes on behind wants memory only where it compares or makes a node, where it shares what has as many holders as the cap, or where it writes below a node with a second holder
+abbrev pub WantsIn : Instr → Heap → List Part → ℕ → Type 0
+WantsIn (instr.Const d c) h ps room = ⊥
+WantsIn (instr.Move d r) h ps room = ⊥
+WantsIn (instr.Share d r) h ps room = IsBelow h h.cap (part_in ps r) → ⊥
+WantsIn (instr.Clear rs) h ps room = ⊥
+WantsIn (instr.Arith d op a b) h ps room = ⊥
+WantsIn (instr.Compare d op a b) h ps room = ⊥
+WantsIn (instr.Equal d a b) h ps room = ⊤
+WantsIn (instr.Not d a) h ps room = ⊥
+WantsIn (instr.Jump t) h ps room = ⊥
+WantsIn (instr.Branch r t) h ps room = ⊥
+WantsIn (instr.Array d rs) h ps room = ⊤
+WantsIn (instr.Record d k rs) h ps room = ⊤
+WantsIn (instr.Fill d v n) h ps room = ⊤
+WantsIn (instr.Len d a) h ps room = ⊥
+WantsIn (instr.Get d a i) h ps room = (s : Store) (k : ℕ) → Shows (map_of h) s ps → slot s i ≡ Some (Whole (pos k)) → IsBelow h h.cap (part_at (map_of h) (part_in ps a) (item_at k)) → ⊥
+WantsIn (instr.Field d a f) h ps room = IsBelow h h.cap (part_at (map_of h) (part_in ps a) (step_of h.shapes (Field f))) → ⊥
+WantsIn (instr.Put a path v) h ps room = length path ≤ room → IsNotSole h ps a path v
+WantsIn (instr.Kind d a k) h ps room = ⊥
+WantsIn (instr.Call d f rs) h ps room = ⊥
+WantsIn (instr.Return r) h ps room = ⊥
+WantsIn (instr.Print a) h ps room = ⊥
+WantsIn (instr.PrintInt a) h ps room = ⊥
+
+-- a call may want memory, and a return only where it ends the run
+abbrev pub WantsBy : Instr → Machine → Type 0
+WantsBy (instr.Call d f rs) k = ⊤
+WantsBy (instr.Return r) k = k.callers.items ≡ []
+WantsBy i k = WantsIn i k.heap k.frame.registers.items (vec_capacity k.path)
+
+abbrev pub WantsNext : Option Instr → Machine → Type 0
+WantsNext None k = ⊥
+WantsNext (Some i) k = WantsBy i k
+
+-- ---- runs
+
+-- the next instruction of the first machine led to the second
+pub record SharesStep (code : Code) (old new : Machine) : Type 0 where
+  pub instr : Instr
+  pub is : instr_of code old ≡ Some instr
+  pub shares : SharesBy code instr old new
+
+-- so many steps on shared nodes lead from the first machine to the last
+abbrev pub SharesAlong : Code → ℕ → Machine → Machine → Type 0
+SharesAlong code zero first last = last ≡ first
+SharesAlong code (suc n) first last = (k : Machine) × SharesAlong code n first k × SharesStep code k last
+
+-- steps on shared nodes lead to a machine whose next instruction ends the run: so many copies are counted there, and so many nodes are left of it where the value alone is held
+pub record EndsShared (code : Code) (first : Machine) (steps : ℕ) (text : Option (Vec ℕ Global)) (copies nodes : ℕ) : Type 0 where
+  pub made : ℕ
+  pub within : made + 1 ≤ steps
+  pub last : Machine
+  pub along : SharesAlong code made first last
+  pub ends : IsDone (next_in code) last text copies nodes
+
+-- how a run ended that was done
+abbrev pub DoneShared : Code → Machine → ℕ → RunEnd → Type 0
+DoneShared code first steps (run_end.Done text copies nodes) = EndsShared code first steps text copies nodes
+DoneShared code first steps run_end.Spent = ⊤
+DoneShared code first steps run_end.OutFault = ⊤
+DoneShared code first steps run_end.Stuck = ⊤
+
+-- the same, from a machine that shows the first state of the run, at which no copy is counted
+pub record RanShared (code : Code) (entry : ℕ) (args : List Datum) (steps : ℕ) (end : RunEnd) : Type 0 where
+  pub first : Machine
+  pub starts : Starts code entry args first
+  pub none : first.heap.copies ≡ 0
+  pub done : DoneShared code first steps end
