@@ -25,5 +25,7 @@ pub mod StateLemmas
 pub mod TurnLemmas
 pub mod CallLemmas
 pub mod SharedTurnLemmas
+pub mod SharedStepLemmas
+pub mod LongestLemmas
 pub mod StartLemmas
 pub mod RunLemmas

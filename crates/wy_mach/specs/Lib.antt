@@ -18,5 +18,6 @@ pub mod Printed
 pub mod States
 -- what a turn and a run do
 pub mod Running
--- the step on shared nodes
+-- the step on shared nodes, and turns as steps
+pub mod SharedSteps
 pub mod SharedTurns

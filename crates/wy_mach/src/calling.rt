@@ -9,7 +9,7 @@ ghost use Rattle.wy_code.specs.declared.instructions.Instr.{Instr};
 ghost use Rattle.wy_mach.specs.Taking.{nulls};
 ghost use Rattle.wy_mach.specs.Sharing.{Spares};
 ghost use Rattle.wy_mach.specs.States.{places_of, places_below, callers_of};
-ghost use Rattle.wy_mach.specs.SharedTurns.{SharesCall, SharesReturn};
+ghost use Rattle.wy_mach.specs.SharedTurns.{SharesCall, SharesReturn, LeavesNodes, ReturnsLast, EndsSo, IsNoEnd};
 ghost use Rattle.wy_mach.specs.Running.{TurnsBy, Turned, KeepsRest, HasTextOf, Enters, Resumes, IsEnd, next_by};
 
 use crate::entering::entry_registers;
@@ -37,6 +37,7 @@ impl Machine {
         ensures kept { KeepsRest self.old self.new }
         ensures turned { IfOk result (λ turn. (before : Option (List ℕ)) (failed : ℕ) → Turned (next_by code.now (Instr.Call to number numbers.now)) self.old self.new before before failed failed turn) }
         ensures shares { IfOk result (λ turn. turn ≡ Turn.Went → SharesCall code.now self.old self.new to number numbers.now) }
+        ensures no_end { IfOk result IsNoEnd }
     {
         let Some(routine) = code.routines.get(number as usize) else {
             return Ok(Turn::Stuck);
@@ -111,6 +112,7 @@ impl Machine {
         ensures kept { KeepsRest self.old self.new }
         ensures turned { IfOk result (TurnsBy (Instr.Return from) self.old self.new) }
         ensures shares { IfOk result (λ turn. turn ≡ Turn.Went → SharesReturn self.old self.new from) }
+        ensures ends { IfOk result (EndsSo (ReturnsLast self.old from)) }
         ensures wants { OnErr result (self.old.callers.items ≡ []) }
     {
         if from as usize >= self.frame.registers.len() {
@@ -151,6 +153,7 @@ impl Machine {
         ensures stands { Stands self.new.heap (places_of self.new) }
         ensures kept { KeepsRest self.old self.new }
         ensures done { IfOk result (IsEnd self.old given) }
+        ensures leaves { IfOk result (EndsSo (LeavesNodes self.old.heap given)) }
     {
         let alloc = self.alloc;
         let registers = mem::replace(&mut self.frame.registers, Vec::new(alloc));

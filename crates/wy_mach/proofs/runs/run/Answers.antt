@@ -40,9 +40,9 @@ returns-clause-no_memory g c =
     on_err c.turns-end.result ((st : State) → ShowsFirst k st → PrintsFront before now (after code c.args.steps st)) (PrintsFront before now (after code c.args.steps first))
     (λ front. front first c.in-Ok.ensures.starts) c.turns-end.ensures.no_memory
 
-pub returns-clause-shares : goal.returns-clause-shares
-returns-clause-shares g c =
+pub returns-clause-shared : goal.returns-clause-shared
+returns-clause-shared g c =
     let code = c.args.code.now in
     let k = c.in-Ok.machine in
-    if_ok c.turns-end.result (DoneShared code k c.args.steps) (RanShared code c.args.entry (map seen c.args.args.now) c.args.steps)
-    (λ e done. record { first = k; starts = c.in-Ok.ensures.starts; none = c.in-Ok.ensures.copies; done = done }) c.turns-end.ensures.shares
+    if_ok c.turns-end.result (DoneShared code k c.args.steps) (RanShared code c.args.entry (map seen c.args.args.now) c.args.steps c.args.cap)
+    (λ e done. record { first = k; is = c.in-Ok.ensures.is; starts = c.in-Ok.ensures.starts; cap_is = c.in-Ok.ensures.cap; none = c.in-Ok.ensures.copies; done = done }) c.turns-end.ensures.shared

@@ -9,8 +9,9 @@ use Rattle.wy_mach.specs.declared.machine.Turn.{Turn}
 use Rattle.wy_mach.specs.declared.machine.Turn.TheVariants as turn
 use Rattle.wy_mach.specs.Running.{Turned, Enters, next_by}
 use Rattle.wy_mach.proofs.CallLemmas.{no_routine, other_count, no_argument, call_steps, taken_places, entered_turned}
-use Rattle.wy_mach.specs.SharedTurns.{SharesCall}
-use Rattle.wy_mach.proofs.SharedTurnLemmas.{on_both, shares_call}
+use Rattle.wy_mach.specs.SharedTurns.{SharesCall, IsNoEnd}
+use Rattle.wy_mach.proofs.TurnLemmas.{if_ok}
+use Rattle.wy_mach.proofs.SharedTurnLemmas.{on_both, shares_call, went_no_end}
 use Rattle.wy_mach.proofs.machine.Machine.call.Goals as goal
 
 pub returns-in_default-clause-turned : goal.returns-in_default-clause-turned
@@ -70,7 +71,10 @@ returns-in-Ok-clause-shares c =
     let kept_items : (with_items old.frame.registers c.take_all.new.registers).items ≡ c.take_all.new.registers = with_items_is old.frame.registers c.take_all.new.registers long in
     on_both c.enter.result (Enters mid new c.args.number c.args.to r.registers arguments) (new.frame.registers.items ≡ arguments ++ nulls (r.registers - length arguments))
     (λ (t : Turn). t ≡ turn.Went → SharesCall code old new c.args.to c.args.number rs)
-    (λ t enters registers w. shares_call code old mid new c.args.to c.args.number rs r arguments (sym c.in-Some.ensures.value) refl
+    (λ t enters registers w. shares_call code old mid new c.args.to c.args.number rs r arguments (sym c.in-Some.ensures.value) refl refl refl
     (kept_items ∙ c.in-Ok.ensures.taken.1 ∙ ap (λ (l : List Part). emptied l rs) c.as_mut_slice.ensures.value) c.reserve.ensures.items
     (c.in-Ok.ensures.taken.0 ∙ ap (λ (l : List Part). taken l rs) c.as_mut_slice.ensures.value) enters registers)
     c.enter.ensures.entered c.enter.ensures.registers
+
+pub returns-in-Ok-clause-no_end : goal.returns-in-Ok-clause-no_end
+returns-in-Ok-clause-no_end c = if_ok c.enter.result (λ (t : Turn). t ≡ turn.Went) IsNoEnd went_no_end c.enter.ensures.went

@@ -18,7 +18,7 @@ returns-in-Ok-clause-stands c =
     c.in-Ok.ensures.registers c.push_frame.ensures.heap (ap (λ (f : Frame). f.registers.items) c.push_frame.ensures.frame) c.push_frame.ensures.callers c.requires.stands
 
 pub returns-in-Ok-clause-kept : goal.returns-in-Ok-clause-kept
-returns-in-Ok-clause-kept c = record { shapes = ap (λ (h : Heap). h.shapes) c.push_frame.ensures.heap; has_result = c.push_frame.ensures.has_result; room = omega (arith, ap (λ (p : Vec Slot Global). vec_capacity p) c.push_frame.ensures.path) }
+returns-in-Ok-clause-kept c = record { cap = ap (λ (h : Heap). h.cap) c.push_frame.ensures.heap; shapes = ap (λ (h : Heap). h.shapes) c.push_frame.ensures.heap; has_result = c.push_frame.ensures.has_result; room = omega (arith, ap (λ (p : Vec Slot Global). vec_capacity p) c.push_frame.ensures.path) }
 
 pub returns-in-Ok-clause-entered : goal.returns-in-Ok-clause-entered
 returns-in-Ok-clause-entered c = record {

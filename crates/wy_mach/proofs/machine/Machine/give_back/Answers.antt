@@ -13,8 +13,8 @@ use Rattle.wy_mach.proofs.TurnLemmas.{if_ok, on_any_err}
 use Rattle.wy_mach.proofs.CallLemmas.{no_register, given_places, popped_places, return_steps, end_turns}
 use Rattle.wy_mach.specs.declared.machine.Turn.{Turn}
 use Rattle.wy_mach.specs.declared.machine.Turn.TheVariants as turn
-use Rattle.wy_mach.specs.SharedTurns.{SharesReturn}
-use Rattle.wy_mach.proofs.SharedTurnLemmas.{shares_return, ends_elsewhere}
+use Rattle.wy_mach.specs.SharedTurns.{SharesReturn, LeavesNodes, ReturnsLast, EndsSo}
+use Rattle.wy_mach.proofs.SharedTurnLemmas.{shares_return, ends_elsewhere, ends_so}
 use Rattle.wy_mach.proofs.machine.Machine.give_back.Goals as goal
 
 pub returns-then-from-len-clause-turned : goal.returns-then-from-len-clause-turned
@@ -87,3 +87,15 @@ returns-in-None-clause-wants c =
     let nobody : c.pop.new.self.items ≡ [] = search rules in
     let none : old.callers.items ≡ [] = c.pop.ensures.items ∙ ap (λ (r : Option Caller). c.pop.new.self.items ++ option_to_list r) c.in-None.is ∙ append-nil c.pop.new.self.items ∙ nobody in
     on_any_err c.end.result (old.callers.items ≡ []) none
+
+pub returns-in-None-clause-ends : goal.returns-in-None-clause-ends
+returns-in-None-clause-ends c =
+    let old = c.args.self.now in
+    let given = c.take-given.result in
+    let is : given ≡ get_or old.frame.registers.items c.args.from Null = c.take-given.ensures.value ∙ ap (λ (l : List Part). get_or l c.args.from Null) c.as_mut_slice.ensures.value in
+    let nobody : c.pop.new.self.items ≡ [] = search rules in
+    let none : old.callers.items ≡ [] = c.pop.ensures.items ∙ ap (λ (r : Option Caller). c.pop.new.self.items ++ option_to_list r) c.in-None.is ∙ append-nil c.pop.new.self.items ∙ nobody in
+    if_ok c.end.result (EndsSo (LeavesNodes old.heap given)) (EndsSo (ReturnsLast old c.args.from))
+    (λ t ends. ends_so t (LeavesNodes old.heap given) (ReturnsLast old c.args.from)
+    (λ copies nodes leaves. record { last = none; leaves = subst (λ (p : Part). LeavesNodes old.heap p copies nodes) is leaves }) ends)
+    c.end.ensures.leaves

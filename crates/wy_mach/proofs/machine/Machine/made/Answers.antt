@@ -5,9 +5,9 @@ use Rattle.wy_mach.specs.declared.machine.Turn.{Turn}
 use Rattle.wy_mach.specs.declared.machine.Turn.TheVariants as turn
 use Rattle.wy_mach.specs.Running.{Steps, Turned, TurnsBy, MayTakeMemory, next_by}
 use Rattle.wy_mach.proofs.TurnLemmas.{machine_at, jump_steps, if_ok, on_any_err, is_plain, on_err}
-use Rattle.wy_mach.specs.SharedTurns.{SharesPlain, SharesCall, SharesReturn, SharesBy, WantsIn, WantsBy}
-use Rattle.wy_mach.proofs.SharedTurnLemmas.{plain_by, plain_wants}
-use Rattle.std.specs.Prelude.{vec_capacity, OnErr}
+use Rattle.wy_mach.specs.SharedTurns.{SharesPlain, SharesCall, SharesReturn, SharesBy, EndsSo, EndsBy, IsNoEnd, WantsIn, WantsBy}
+use Rattle.wy_mach.proofs.SharedTurnLemmas.{plain_by, plain_wants, no_end_so}
+use Rattle.std.specs.Prelude.{vec_capacity, OnErr, IfOk}
 use Rattle.wy_mach.proofs.machine.Machine.made.Goals as goal
 
 pub returns-in-Jump-clause-turned : goal.returns-in-Jump-clause-turned
@@ -81,11 +81,11 @@ returns-in_default-clause-turned g c =
 pub returns-in-Jump-clause-shares : goal.returns-in-Jump-clause-shares
 returns-in-Jump-clause-shares g c w =
     let old = c.args.self.now in
-    subst (λ (i : Instr). SharesBy c.args.code.now i old (machine_at old c.in-Jump.to)) (sym c.in-Jump.is) (record { heap = refl; registers = refl; callers = refl })
+    subst (λ (i : Instr). SharesBy c.args.code.now i old (machine_at old c.in-Jump.to)) (sym c.in-Jump.is) (record { heap = refl; registers = refl; routine = refl; callers = refl }, refl)
 
 pub returns-in-Branch-clause-shares : goal.returns-in-Branch-clause-shares
 returns-in-Branch-clause-shares g c w =
-    subst (λ (i : Instr). SharesBy c.args.code.now i c.args.self.now c.branch-self.new.self) (sym c.in-Branch.is) c.branch-self.ensures.shares
+    subst (λ (i : Instr). SharesBy c.args.code.now i c.args.self.now c.branch-self.new.self) (sym c.in-Branch.is) (c.branch-self.ensures.shares w)
 
 pub returns-in-Call-clause-shares : goal.returns-in-Call-clause-shares
 returns-in-Call-clause-shares g c =
@@ -107,11 +107,11 @@ returns-in-Return-clause-shares g c =
 
 pub returns-in-Print-clause-shares : goal.returns-in-Print-clause-shares
 returns-in-Print-clause-shares g c w =
-    subst (λ (i : Instr). SharesBy c.args.code.now i c.args.self.now c.printed.new.self) (sym c.in-Print.is) c.printed.ensures.shares
+    subst (λ (i : Instr). SharesBy c.args.code.now i c.args.self.now c.printed.new.self) (sym c.in-Print.is) (c.printed.ensures.shares w)
 
 pub returns-in-PrintInt-clause-shares : goal.returns-in-PrintInt-clause-shares
 returns-in-PrintInt-clause-shares g c w =
-    subst (λ (i : Instr). SharesBy c.args.code.now i c.args.self.now c.number_printed.new.self) (sym c.in-PrintInt.is) c.number_printed.ensures.shares
+    subst (λ (i : Instr). SharesBy c.args.code.now i c.args.self.now c.number_printed.new.self) (sym c.in-PrintInt.is) (c.number_printed.ensures.shares w)
 
 pub returns-in_default-clause-shares : goal.returns-in_default-clause-shares
 returns-in_default-clause-shares g c =
@@ -137,3 +137,27 @@ returns-in_default-clause-wants g c =
     let i = c.args.instr.now in
     let plain = is_plain i c.in_default.not-Jump c.in_default.not-Branch c.in_default.not-Call c.in_default.not-Return c.in_default.not-Print c.in_default.not-PrintInt in
     on_err c.went.result (WantsIn i old.heap old.frame.registers.items (vec_capacity old.path)) (WantsBy i old) (plain_wants i old plain) c.went.ensures.wants
+
+pub returns-in-Branch-clause-ends : goal.returns-in-Branch-clause-ends
+returns-in-Branch-clause-ends g c = no_end_so c.branch-self.result (EndsBy c.args.instr.now c.args.self.now) c.branch-self.ensures.no_end
+
+pub returns-in-Call-clause-ends : goal.returns-in-Call-clause-ends
+returns-in-Call-clause-ends g c =
+    let ends = EndsBy c.args.instr.now c.args.self.now in
+    if_ok c.call.result IsNoEnd (EndsSo ends) (λ t none. no_end_so t ends none) c.call.ensures.no_end
+
+pub returns-in-Return-clause-ends : goal.returns-in-Return-clause-ends
+returns-in-Return-clause-ends g c =
+    let old = c.args.self.now in
+    subst (λ (i : Instr). IfOk c.give_back.result (EndsSo (EndsBy i old))) (sym c.in-Return.is) c.give_back.ensures.ends
+
+pub returns-in-Print-clause-ends : goal.returns-in-Print-clause-ends
+returns-in-Print-clause-ends g c = no_end_so c.printed.result (EndsBy c.args.instr.now c.args.self.now) c.printed.ensures.no_end
+
+pub returns-in-PrintInt-clause-ends : goal.returns-in-PrintInt-clause-ends
+returns-in-PrintInt-clause-ends g c = no_end_so c.number_printed.result (EndsBy c.args.instr.now c.args.self.now) c.number_printed.ensures.no_end
+
+pub returns-in_default-clause-ends : goal.returns-in_default-clause-ends
+returns-in_default-clause-ends g c =
+    let ends = EndsBy c.args.instr.now c.args.self.now in
+    if_ok c.went.result IsNoEnd (EndsSo ends) (λ t none. no_end_so t ends none) c.went.ensures.no_end

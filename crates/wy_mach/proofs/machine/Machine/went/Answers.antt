@@ -86,6 +86,8 @@ returns-in-Ok-clause-shares c w =
     let kept_items : (with_items old.frame.registers qs).items ≡ qs = with_items_is old.frame.registers qs long in
     record {
       shares = subst (λ (l : List Part). SharesIn i old.heap n old.frame.registers.items l) (sym kept_items) (subst (λ (l : List Part). SharesIn i old.heap n l qs) c.as_mut_slice-registers.ensures.value c.in-Ok.ensures.shares);
+      routine = refl;
+      next = refl;
       callers = refl;
     }
 
