@@ -26,6 +26,7 @@ pub mod TurnLemmas
 pub mod CallLemmas
 pub mod SharedTurnLemmas
 pub mod SharedStepLemmas
+pub mod SharedRunLemmas
 pub mod LongestLemmas
 pub mod StartLemmas
 pub mod RunLemmas

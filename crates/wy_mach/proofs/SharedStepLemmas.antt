@@ -31,14 +31,14 @@ use Rattle.wy_step.specs.Step.{instr_at}
 use Rattle.wy_mach.specs.Showing.{ShowsSlot, Shows}
 use Rattle.wy_mach.specs.Operands.{Reads, number_in, truth_in}
 use Rattle.wy_mach.specs.Paths.{IsSlotOf, AreSlotsOf}
-use Rattle.wy_mach.specs.Sharing.{part_in, PutsIn, PutsScalar, PutsNew}
+use Rattle.wy_mach.specs.Sharing.{part_in, PutsFilled}
 use Rattle.wy_mach.specs.declared.frames.Caller.{Caller}
 use Rattle.wy_mach.specs.declared.machine.Machine.{Machine}
 use Rattle.wy_mach.specs.States.{places_below, places_of, callers_of, IsMachine, PathsFit}
 use Rattle.wy_mach.specs.declared.machine.Turn.{Turn}
 use Rattle.wy_mach.specs.declared.machine.Turn.TheVariants as turn
 use Rattle.wy_mach.specs.Running.{KeepsRest, instr_of}
-use Rattle.wy_mach.specs.SharedSteps.{Waiting, Shared, held_below, places_in, holders, HasNoDead, HasOne, WrittenAlong, IsWritten, HaveOne, LeadsTo, LeadAlong, Does, GoesBehind, Makes, CanTake, WriteFits, HasRoom, HasRoomNext, TakesMemory, LeadsToMany, EndsIn, instr_next}
+use Rattle.wy_mach.specs.SharedSteps.{Waiting, Shared, held_below, places_in, holders, HasNoDead, HasOne, WrittenAlong, IsWritten, HaveOne, LeadsTo, LeadAlong, Does, GivesFilled, GoesBehind, Makes, CanTake, WriteFits, HasRoom, HasRoomNext, TakesMemory, LeadsToMany, EndsIn, instr_next}
 use Rattle.wy_mach.specs.SharedTurns.{SameHeld, SharesPlain, SharesBy, LeavesNodes, ReturnsLast, EndsSo, EndsBy, WantsBy, waiting_of, state_of, Follows, TurnsShared}
 use Rattle.wy_mach.proofs.RegisterLemmas.{shows_slot}
 use Rattle.wy_mach.proofs.CallLemmas.{pushed}
@@ -212,6 +212,13 @@ waiting_is c r a t ps routine next registers target =
     ∙ ap (λ (l : List Part). record { routine = r; at = a; registers = l; target = c.target }) registers
     ∙ ap (λ (n : ℕ). record { routine = r; at = a; registers = ps; target = n }) target
 
+-- what a fill gives, the nodes before what has no holder is gone, and that no copy was counted
+filled_as : (h n : Heap) (left qs : List Part) (to many : ℕ) (item : Part) → CanHave h many item → PutsFilled h n left qs to many item → (between : Map) × GivesFilled (map_of h) left to many item between qs 0 × Lasts between (map_of n) × (n.copies ≡ h.copies)
+filled_as h n left qs to zero item can puts = (puts.between, record { key = puts.key; is = puts.is; others = puts.others; registers = puts.registers; none = refl }, puts.lasts, puts.copies)
+filled_as h n left qs to (suc more) item can puts =
+    let new = puts can in
+    (new.between, record { made = new.made; is_new = new.is_new; registers = new.registers; none = refl }, new.lasts, new.copies)
+
 pub makes : (code : Code) (i : Instr) (old new : Machine) → Stands old.heap (places_of old) → SharesBy code i old new → HasRoom old.heap.cap i (state_of old) → Made code i old new
 makes code (instr.Const d c) old new stands shares room =
     (0, behind (instr.Const d c) old new (map_of old.heap) 0 (refl, shares.shares.registers, refl) shares.shares.spares.lasts shares, shares.shares.spares.copies)
@@ -260,8 +267,9 @@ makes code (instr.Record d k rs) old new stands shares room =
 makes code (instr.Fill d v n) old new stands shares room =
     let sh = machine_shown old stands in
     let ps = old.frame.registers.items in
-    let puts = shares.shares sh.0 room.0 sh.1 (shows_int (map_of old.heap) sh.0 ps n (pos room.0) sh.1 room.1) room.2 (can_have old.heap (holders (state_of old)) (holders_are old stands) (part_in ps v) room.0 room.3) in
-    (0, behind (instr.Fill d v n) old new puts.between 0 (room.0, room.1, record { made = puts.made; is_new = puts.is_new; registers = puts.registers; none = refl }) puts.lasts shares, puts.copies)
+    let filled = filled_as old.heap new.heap (set ps v Null) new.frame.registers.items d room.0 (part_in ps v) (can_have old.heap (holders (state_of old)) (holders_are old stands) (part_in ps v) room.0 room.2)
+    (shares.shares sh.0 room.0 sh.1 (shows_int (map_of old.heap) sh.0 ps n (pos room.0) sh.1 room.1)) in
+    (0, behind (instr.Fill d v n) old new filled.0 0 (room.0, room.1, filled.1) filled.2 shares, filled.3)
 makes code (instr.Len d a) old new stands shares room =
     (0, behind (instr.Len d a) old new (map_of old.heap) 0 (shares.shares.0, shares.shares.1, (refl, shares.shares.2.registers, refl)) shares.shares.2.spares.lasts shares, shares.shares.2.spares.copies)
 makes code (instr.Get d a i) old new stands shares room =
@@ -343,7 +351,7 @@ follows code i old new is stands after shapes cap shares = record {
   cap = cap;
   step = λ room.
       let made = makes code i old new stands shares (subst (λ (o : Option Instr). HasRoomNext old.heap.cap o (state_of old)) is room) in
-      (made.0, record { instr = i; is = is; makes = made.1; no_dead = no_dead new after; shapes = shapes }, made.2);
+      (made.0, record { by = i; is = is; makes = made.1; no_dead = no_dead new after; shapes = shapes }, made.2);
 }
 
 -- ---- the end of a run

@@ -119,6 +119,19 @@ pub record GivesNew (m : Map) (left : List Part) (to : ℕ) (form : Form) (parts
   pub registers : after ≡ slice_set left to made
   pub none : copied ≡ 0
 
+-- a node of no parts has the hold that comes into one of the registers that are left, and each old node is as before or gone
+pub record GivesEmpty (m : Map) (left : List Part) (to : ℕ) (between : Map) (after : List Part) (copied : ℕ) : Type 0 where
+  pub key : ℕ
+  pub is : at between key ≡ Some (record { form = list_form; parts = [] })
+  pub others : (k : ℕ) → IsSome (at m k) → (at between k ≡ None) ⊎ (at between k ≡ at m k)
+  pub registers : after ≡ slice_set left to (Key key)
+  pub none : copied ≡ 0
+
+-- a node of so many holds on the item comes
+abbrev pub GivesFilled : Map → List Part → ℕ → ℕ → Part → Map → List Part → ℕ → Type 0
+GivesFilled m left to zero item between after copied = GivesEmpty m left to between after copied
+GivesFilled m left to (suc more) item between after copied = GivesNew m left to list_form (replicate (suc more) item) between after copied
+
 -- the item comes to the end of the path into the place, and what that makes into one of the registers that are left; each node beside the path is as before or gone
 pub record GivesWritten (count : ℕ → ℕ) (m : Map) (left : List Part) (to : ℕ) (place item : Part) (path : List Step) (between : Map) (after : List Part) (copied : ℕ) : Type 0 where
   pub made : Part
@@ -145,7 +158,7 @@ Does (instr.Jump n) count t m ps between after copied = ⊥
 Does (instr.Branch r n) count t m ps between after copied = ⊥
 Does (instr.Array d rs) count t m ps between after copied = GivesNew m (emptied ps rs) d list_form (taken ps rs) between after copied
 Does (instr.Record d k rs) count t m ps between after copied = GivesNew m (emptied ps rs) d (shape_form t k) (taken ps rs) between after copied
-Does (instr.Fill d v n) count t m ps between after copied = (k : ℕ) × (part_in ps n ≡ Int (pos k)) × GivesNew m (slice_set ps v Null) d list_form (replicate k (part_in ps v)) between after copied
+Does (instr.Fill d v n) count t m ps between after copied = (k : ℕ) × (part_in ps n ≡ Int (pos k)) × GivesFilled m (slice_set ps v Null) d k (part_in ps v) between after copied
 Does (instr.Len d a) count t m ps between after copied = GivesScalar m ps d between after copied
 Does (instr.Get d a i) count t m ps between after copied = (k : ℕ) × (part_in ps i ≡ Int (pos k)) × Gives m ps d (part_at m (part_in ps a) (item_at k)) between after copied
 Does (instr.Field d a f) count t m ps between after copied = Gives m ps d (part_at m (part_in ps a) (step_of t (heap_slot.Field f))) between after copied
@@ -216,9 +229,9 @@ instr_next code st = instr_at (slice_get code.routines st.routine) st.next
 
 -- one step, in which so many nodes are copied
 pub record ShareStep (code : Code) (st new : Shared) (copied : ℕ) : Type 0 where
-  pub instr : Instr
-  pub is : instr_next code st ≡ Some instr
-  pub makes : Makes code instr st new copied
+  pub by : Instr
+  pub is : instr_next code st ≡ Some by
+  pub makes : Makes code by st new copied
   pub no_dead : HasNoDead new
   pub shapes : new.shapes ≡ st.shapes
 
@@ -244,10 +257,10 @@ WriteFits count cap m whole (s ∷ path) =
     (HasOne count whole → WriteFits count cap m (part_at m whole s) path)
     × ((HasOne count whole → ⊥) → CopiesFit count cap m whole (s ∷ path))
 
--- the holders that the instruction adds take no key past the cap; and an array that it fills isn't empty, and its count or its index is a number
+-- the holders that the instruction adds take no key past the cap; and its count or its index, where it has one, is a number
 abbrev pub HasRoom : ℕ → Instr → Shared → Type 0
 HasRoom cap (instr.Share d r) st = CanTake (holders st) cap (part_in st.registers r) 1
-HasRoom cap (instr.Fill d v n) st = (k : ℕ) × (part_in st.registers n ≡ Int (pos k)) × (1 ≤ k) × CanTake (holders st) cap (part_in st.registers v) k
+HasRoom cap (instr.Fill d v n) st = (k : ℕ) × (part_in st.registers n ≡ Int (pos k)) × CanTake (holders st) cap (part_in st.registers v) k
 HasRoom cap (instr.Get d a i) st = (k : ℕ) × (part_in st.registers i ≡ Int (pos k)) × CanTake (holders st) cap (part_at st.nodes (part_in st.registers a) (item_at k)) 1
 HasRoom cap (instr.Field d a f) st = CanTake (holders st) cap (part_at st.nodes (part_in st.registers a) (step_of st.shapes (heap_slot.Field f))) 1
 HasRoom cap (instr.Put a path v) st = (steps : List Step) → LeadAlong st.shapes st.registers path steps → WriteFits (holders st) cap st.nodes (part_in (slice_set st.registers v Null) a) steps

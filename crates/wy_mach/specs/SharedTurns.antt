@@ -1,5 +1,6 @@
 -- What turns of the machine do to its registers and its heap, and that these are steps on shared nodes.
-use Rattle.std.specs.Prelude.{◌≡◌, ◌⊎◌, ◌≤◌, ℕ, zero, suc, ◌+◌, ◌-◌, pos, List, [], ◌∷◌, ◌++◌, length, map, Bool, true, false, Option, Some, None, slice_set, slice_get, ⊤}
+use Rattle.std.specs.Prelude.{◌≡◌, ◌⊎◌, ◌≤◌, ℕ, zero, suc, ◌+◌, ◌-◌, pos, List, [], ◌∷◌, ◌++◌, length, map, Bool, true, false, Option, Some, None, Vec, slice_set, slice_get, vec_capacity, ⊤}
+use Rattle.std.specs.declared.alloc.Global.{Global}
 use Rattle.wy_value.specs.Datum.{Datum, Whole}
 use Rattle.wy_heap.specs.declared.part.Part.{Part}
 use Rattle.wy_heap.specs.declared.part.Part.TheVariants.{Null}
@@ -29,7 +30,7 @@ use Rattle.wy_mach.specs.declared.runs.RunEnd.{RunEnd}
 use Rattle.wy_mach.specs.declared.runs.RunEnd.TheVariants as run_end
 use Rattle.wy_mach.specs.States.{IsMachine, callers_of}
 use Rattle.wy_mach.specs.Running.{Starts, instr_of}
-use Rattle.wy_mach.specs.SharedSteps.{Waiting, Shared, ShareStep, HasRoomNext, EndsIn, instr_next}
+use Rattle.wy_mach.specs.SharedSteps.{Waiting, Shared, HasNoDead, ShareStep, ShareSteps, HasRoomNext, EndsIn, instr_next}
 
 -- ---- inside a turn
 
@@ -236,3 +237,21 @@ pub record RanShared (code : Code) (entry : ℕ) (args : List Datum) (steps cap 
   pub cap_is : first.heap.cap ≡ cap
   pub none : first.heap.copies ≡ 0
   pub done : DoneShared code first steps end
+
+-- at each of these turns the holders that the instruction adds take no key past the cap
+abbrev pub HaveRoom : (code : Code) (n : ℕ) (first last : Machine) → FollowsAlong code n first last → Type 0
+HaveRoom code zero first last along = ⊤
+HaveRoom code (suc n) first last along = HaveRoom code n first along.0 along.1 × HasRoomNext along.0.heap.cap (instr_next code (state_of along.0)) (state_of along.0)
+
+-- where no turn of a run meets the cap, its turns are steps on shared nodes from the run's first state on; `copies` is the number of nodes that these copied, up to 2^64 - 1, and `nodes` that of the keys that the result leads to in the last state
+pub record IsCounted (code : Code) (first last : Machine) (made copies nodes : ℕ) : Type 0 where
+  pub copied : ℕ
+  pub begins : HasNoDead (state_of first)
+  pub steps : ShareSteps code made (state_of first) (state_of last) copied
+  pub copies_are : copies ≡ raised 0 copied
+  pub ends : EndsIn code (state_of last) nodes
+
+abbrev pub RunsAreCounted : Type 0
+RunsAreCounted =
+    (code : Code) (entry : ℕ) (args : List Datum) (steps cap : ℕ) (text : Option (Vec ℕ Global)) (copies nodes : ℕ) (ran : RanShared code entry args steps cap (run_end.Done text copies nodes))
+    → HaveRoom code ran.done.made ran.first ran.done.last ran.done.along → IsCounted code ran.first ran.done.last ran.done.made copies nodes

@@ -3,7 +3,7 @@ use Rattle.wy_mach.proofs.LongestLemmas.{routines_more, all_routines}
 use Rattle.wy_mach.proofs.starting.longest_of.Goals as goal
 
 pub loop-f-preserved : goal.loop-f-preserved
-loop-f-preserved c = routines_more c.args.routines.now c.loop-f.f c.loop-f.most c.longer_in.result c.index-routines-f.result c.index-routines-f.is c.longer_in.ensures.more c.longer_in.ensures.fits c.loop-f.invariant
+loop-f-preserved c = routines_more c.args.routines.now c.loop-f.f c.loop-f.most c.longer_in-most.result c.index-routines-f.result c.index-routines-f.is c.longer_in-most.ensures.more c.longer_in-most.ensures.fits c.loop-f.invariant
 
 pub returns : goal.returns
 returns c =
