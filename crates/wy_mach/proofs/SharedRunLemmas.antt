@@ -20,7 +20,7 @@ raised_twice a (suc b) (suc c) = let same : suc (b + suc c) ≡ suc b + suc c = 
 
 -- the copies of all turns are those of the steps
 copies_add : (code : Code) (n : ℕ) (first last : Machine) (along : FollowsAlong code n first last) → HaveRoom code n first last along → (copied : ℕ) × ShareSteps code n (state_of first) (state_of last) copied × (last.heap.copies ≡ raised first.heap.copies copied)
-copies_add code zero first last along room = (0, (ap state_of along, refl), ap (λ (k : Machine). k.heap.copies) along)
+copies_add code zero first last along room = (0, (ap (λ (k : Machine). state_of k) along, refl), ap (λ (k : Machine). k.heap.copies) along)
 copies_add code (suc n) first last along room =
     let before = copies_add code n first along.0 along.1 room.0 in
     let now = along.2.step room.1 in (

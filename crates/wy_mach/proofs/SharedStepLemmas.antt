@@ -6,11 +6,12 @@ use Rattle.wy_value.specs.Datum as datum
 use Rattle.wy_heap.specs.declared.part.Part.{Part}
 use Rattle.wy_heap.specs.declared.part.Part.TheVariants.{Null, Bool, Int, Key}
 use Rattle.wy_heap.specs.declared.part.Slot as of_heap
+use Rattle.wy_heap.specs.declared.part.Slot.TheVariants as heap_slot
 use Rattle.wy_heap.specs.declared.heap.Heap.{Heap}
 use Rattle.wy_heap.specs.Nodes.{Body, Map, map_of, at, count_at, holds, held, size}
 use Rattle.wy_heap.specs.Meaning.{Means, IsMeant}
 use Rattle.wy_heap.specs.Parts.{IsBelow}
-use Rattle.wy_heap.specs.Slots.{Step, steps_of, step_of, part_at}
+use Rattle.wy_heap.specs.Slots.{Step, steps_of, step_of, item_at, part_at}
 use Rattle.wy_heap.specs.Making.{CanHave}
 use Rattle.wy_heap.specs.Standing.{Stands}
 use Rattle.wy_heap.specs.Putting.{IsSole, Sole, PutAlong, IsInPlace, RoomAlong}
@@ -31,6 +32,7 @@ use Rattle.wy_step.specs.Step.{instr_at}
 use Rattle.wy_mach.specs.Showing.{ShowsSlot, Shows}
 use Rattle.wy_mach.specs.Operands.{Reads, number_in, truth_in}
 use Rattle.wy_mach.specs.Paths.{IsSlotOf, AreSlotsOf}
+use Rattle.wy_mach.specs.Taking.{emptied}
 use Rattle.wy_mach.specs.Sharing.{part_in, PutsFilled}
 use Rattle.wy_mach.specs.declared.frames.Caller.{Caller}
 use Rattle.wy_mach.specs.declared.machine.Machine.{Machine}
@@ -205,12 +207,15 @@ behind i old new between copied does lasts shares = record {
   waiting = same_waiting old new shares.callers;
 }
 
-waiting_is : (c : Caller) (r a t : ℕ) (ps : List Part) → c.frame.routine ≡ r → c.frame.at ≡ a → c.frame.registers.items ≡ ps → c.target ≡ t → waiting_of c ≡ record { routine = r; at = a; registers = ps; target = t }
+abbrev waits : ℕ → ℕ → List Part → ℕ → Waiting
+waits r a ps t = record { routine = r; at = a; registers = ps; target = t }
+
+waiting_is : (c : Caller) (r a t : ℕ) (ps : List Part) → c.frame.routine ≡ r → c.frame.at ≡ a → c.frame.registers.items ≡ ps → c.target ≡ t → waiting_of c ≡ waits r a ps t
 waiting_is c r a t ps routine next registers target =
-    ap (λ (n : ℕ). record { routine = n; at = c.frame.at; registers = c.frame.registers.items; target = c.target }) routine
-    ∙ ap (λ (n : ℕ). record { routine = r; at = n; registers = c.frame.registers.items; target = c.target }) next
-    ∙ ap (λ (l : List Part). record { routine = r; at = a; registers = l; target = c.target }) registers
-    ∙ ap (λ (n : ℕ). record { routine = r; at = a; registers = ps; target = n }) target
+    ap (λ (n : ℕ). waits n c.frame.at c.frame.registers.items c.target) routine
+    ∙ ap (λ (n : ℕ). waits r n c.frame.registers.items c.target) next
+    ∙ ap (λ (l : List Part). waits r a l c.target) registers
+    ∙ ap (λ (n : ℕ). waits r a ps n) target
 
 -- what a fill gives, the nodes before what has no holder is gone, and that no copy was counted
 filled_as : (h n : Heap) (left qs : List Part) (to many : ℕ) (item : Part) → CanHave h many item → PutsFilled h n left qs to many item → (between : Map) × GivesFilled (map_of h) left to many item between qs 0 × Lasts between (map_of n) × (n.copies ≡ h.copies)
@@ -275,10 +280,10 @@ makes code (instr.Len d a) old new stands shares room =
 makes code (instr.Get d a i) old new stands shares room =
     let sh = machine_shown old stands in
     let ps = old.frame.registers.items in
-    let puts = shares.shares sh.0 room.0 sh.1 (shows_int (map_of old.heap) sh.0 ps i (pos room.0) sh.1 room.1) (below_of old.heap (holders (state_of old)) (holders_are old stands) _ room.2) in
+    let puts = shares.shares sh.0 room.0 sh.1 (shows_int (map_of old.heap) sh.0 ps i (pos room.0) sh.1 room.1) (below_of old.heap (holders (state_of old)) (holders_are old stands) (part_at (map_of old.heap) (part_in ps a) (item_at room.0)) room.2) in
     (0, behind (instr.Get d a i) old new (map_of old.heap) 0 (room.0, room.1, (refl, puts.registers, refl)) puts.spares.lasts shares, puts.spares.copies)
 makes code (instr.Field d a f) old new stands shares room =
-    let puts = shares.shares (below_of old.heap (holders (state_of old)) (holders_are old stands) _ room) in
+    let puts = shares.shares (below_of old.heap (holders (state_of old)) (holders_are old stands) (part_at (map_of old.heap) (part_in old.frame.registers.items a) (step_of old.heap.shapes (heap_slot.Field f))) room) in
     (0, behind (instr.Field d a f) old new (map_of old.heap) 0 (refl, puts.registers, refl) puts.spares.lasts shares, puts.spares.copies)
 makes code (instr.Put a path v) old new stands shares room =
     let sh = machine_shown old stands in
@@ -315,7 +320,7 @@ makes code (instr.Call d f rs) old new stands shares room = (
     routine = shares.routine;
     next = shares.next;
     waiting = ap (map waiting_of) (pushed old.callers.items shares.waiting new.callers.items shares.callers)
-        ∙ ap (λ (w : Waiting). w ∷ map waiting_of (callers_of old)) (waiting_is shares.waiting old.frame.routine (old.frame.at + 1) d _ shares.left_routine shares.left_next shares.left shares.target);
+        ∙ ap (λ (w : Waiting). w ∷ map waiting_of (callers_of old)) (waiting_is shares.waiting old.frame.routine (old.frame.at + 1) d (emptied old.frame.registers.items rs) shares.left_routine shares.left_next shares.left shares.target);
     nodes = ap map_of shares.heap;
     none = refl;
   },
@@ -415,8 +420,8 @@ takes_memory code (instr.Fill d v n) k at_is is wants = tt
 takes_memory code (instr.Len d a) k at_is is wants = absurd wants
 takes_memory code (instr.Get d a i) k at_is is wants = λ j number can.
     let sh = machine_shown k is.stands in
-    wants sh.0 j sh.1 (shows_int (map_of k.heap) sh.0 k.frame.registers.items i (pos j) sh.1 number) (below_of k.heap (holders (state_of k)) (holders_are k is.stands) _ can)
-takes_memory code (instr.Field d a f) k at_is is wants = λ can. wants (below_of k.heap (holders (state_of k)) (holders_are k is.stands) _ can)
+    wants sh.0 j sh.1 (shows_int (map_of k.heap) sh.0 k.frame.registers.items i (pos j) sh.1 number) (below_of k.heap (holders (state_of k)) (holders_are k is.stands) (part_at (map_of k.heap) (part_in k.frame.registers.items a) (item_at j)) can)
+takes_memory code (instr.Field d a f) k at_is is wants = λ can. wants (below_of k.heap (holders (state_of k)) (holders_are k is.stands) (part_at (map_of k.heap) (part_in k.frame.registers.items a) (step_of k.heap.shapes (heap_slot.Field f))) can)
 takes_memory code (instr.Put a path v) k at_is is wants =
     let sh = machine_shown k is.stands in
     let h = k.heap in

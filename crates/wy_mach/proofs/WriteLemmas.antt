@@ -13,4 +13,4 @@ puts_along_as h n two left qs whole place p item q path left_is place_is item_is
 
 -- an answer that failed didn't go
 pub no_done : (e : Part) (r : Result (Unit {0}) Part) → r ≡ Err e → IsOk r → ⊥
-no_done e r is done = subst IsOk is done
+no_done e r is done = let wrong : IsOk {T = Unit {0}} (Err e) = subst IsOk is done in absurd (cc)
