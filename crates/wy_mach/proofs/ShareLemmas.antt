@@ -1,5 +1,5 @@
 -- What instructions do to registers that hold scalars and keys, and to nodes.
-use Rattle.std.proofs.Common.{◌≡◌, ◌⊎◌, inl, inr, ◌≤◌, ℕ, zero, suc, ℤ, pos, List, [], ◌∷◌, get_or, set, Option, Some, None, IsSome, refl, sym, ◌∙◌, ap, subst, arith}
+use Rattle.std.proofs.Common.{◌≡◌, ◌⊎◌, inl, inr, ◌≤◌, ℕ, zero, suc, ℤ, pos, List, [], ◌∷◌, set, Some, None, IsSome, refl, sym, ◌∙◌, ap, subst, arith}
 use Rattle.std.specs.Prelude.{Result, Ok, Err, replicate}
 use Rattle.wy_heap.specs.declared.part.Part.{Part}
 use Rattle.wy_heap.specs.declared.part.Part.TheVariants.{Null}
@@ -8,7 +8,6 @@ use Rattle.wy_heap.specs.declared.heap.NoMemory.{NoMemory}
 use Rattle.wy_heap.specs.Nodes.{Form, list_form, Map, at, map_of, holds}
 use Rattle.wy_heap.specs.Meaning.{Means, IsMeant}
 use Rattle.wy_heap.specs.Standing.{IsWithin}
-use Rattle.wy_heap.specs.Parts.{IsBelow}
 use Rattle.wy_heap.specs.Making.{IsNew, CanHave, repeated}
 use Rattle.wy_heap.specs.Changing.{Lasts}
 use Rattle.wy_value.specs.Datum.{Datum, Whole, Array}
@@ -16,7 +15,7 @@ use Rattle.wy_sem.specs.Expressions.{Store, slot}
 use Rattle.wy_mach.specs.Showing.{Shows}
 use Rattle.wy_mach.specs.Operands.{Reads, number_in}
 use Rattle.wy_mach.specs.Taking.{emptied}
-use Rattle.wy_mach.specs.Sharing.{Spares, PutsIn, PutsScalar, PutsSecond, PutsNew, PutsFilled}
+use Rattle.wy_mach.specs.Sharing.{PutsIn, PutsScalar, PutsNew, PutsFilled}
 use Rattle.wy_mach.proofs.ItemLemmas.{same_pos}
 
 -- each node that is left of those that are left is as it was

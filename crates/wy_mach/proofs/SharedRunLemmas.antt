@@ -1,5 +1,5 @@
 -- Copies over a run.
-use Rattle.std.proofs.Common.{◌≡◌, ℕ, zero, suc, ◌+◌, List, refl, ◌∙◌, ap, arith}
+use Rattle.std.proofs.Common.{◌≡◌, ℕ, zero, suc, ◌+◌, refl, ◌∙◌, ap, arith}
 use Rattle.wy_heap.specs.Copying.{raised}
 use Rattle.wy_code.specs.declared.routines.Code.{Code}
 use Rattle.wy_mach.specs.declared.machine.Machine.{Machine}

@@ -1,5 +1,5 @@
 -- What the machine's turns do to registers and nodes is the step on shared nodes.
-use Rattle.std.proofs.Common.{◌≡◌, ◌⊎◌, inl, inr, ◌↔◌, ℕ, zero, suc, ℤ, pos, ◌+◌, ◌-◌, ◌≤◌, List, [], ◌∷◌, ◌++◌, length, get_or, set, reverse, map, Bool as Boolean, true, false, Option, Some, None, IsSome, refl, sym, ◌∙◌, ap, subst, arith}
+use Rattle.std.proofs.Common.{◌≡◌, inl, inr, ◌↔◌, ℕ, zero, suc, ℤ, pos, ◌+◌, ◌≤◌, List, [], ◌∷◌, ◌++◌, length, get_or, set, reverse, map, Bool as Boolean, true, false, Option, Some, None, IsSome, refl, sym, ◌∙◌, ap, subst, arith}
 use Rattle.std.specs.Prelude.{Result, Ok, Err, IfOk, vec_capacity, slice_get}
 use Rattle.wy_value.specs.Datum.{Datum, Truth, Whole, Array, Record}
 use Rattle.wy_value.specs.Datum as datum
@@ -8,8 +8,8 @@ use Rattle.wy_heap.specs.declared.part.Part.TheVariants.{Null, Bool, Int, Key}
 use Rattle.wy_heap.specs.declared.part.Slot as of_heap
 use Rattle.wy_heap.specs.declared.part.Slot.TheVariants as heap_slot
 use Rattle.wy_heap.specs.declared.heap.Heap.{Heap}
-use Rattle.wy_heap.specs.Nodes.{Body, Map, map_of, at, count_at, holds, held, size}
-use Rattle.wy_heap.specs.Meaning.{Means, IsMeant}
+use Rattle.wy_heap.specs.Nodes.{Map, map_of, at, count_at, holds, held}
+use Rattle.wy_heap.specs.Meaning.{IsMeant}
 use Rattle.wy_heap.specs.Parts.{IsBelow}
 use Rattle.wy_heap.specs.Slots.{Step, steps_of, step_of, item_at, part_at}
 use Rattle.wy_heap.specs.Making.{CanHave}
@@ -40,8 +40,8 @@ use Rattle.wy_mach.specs.States.{places_below, places_of, callers_of, IsMachine,
 use Rattle.wy_mach.specs.declared.machine.Turn.{Turn}
 use Rattle.wy_mach.specs.declared.machine.Turn.TheVariants as turn
 use Rattle.wy_mach.specs.Running.{KeepsRest, instr_of}
-use Rattle.wy_mach.specs.SharedSteps.{Waiting, Shared, held_below, places_in, holders, HasNoDead, HasOne, WrittenAlong, IsWritten, HaveOne, LeadsTo, LeadAlong, Does, GivesFilled, GoesBehind, Makes, CanTake, WriteFits, HasRoom, HasRoomNext, TakesMemory, LeadsToMany, EndsIn, instr_next}
-use Rattle.wy_mach.specs.SharedTurns.{SameHeld, SharesPlain, SharesBy, LeavesNodes, ReturnsLast, EndsSo, EndsBy, WantsBy, waiting_of, state_of, Follows, TurnsShared}
+use Rattle.wy_mach.specs.SharedSteps.{Waiting, held_below, places_in, holders, HasNoDead, HasOne, WrittenAlong, IsWritten, HaveOne, LeadsTo, LeadAlong, Does, GivesFilled, GoesBehind, Makes, CanTake, WriteFits, HasRoom, HasRoomNext, TakesMemory, LeadsToMany, EndsIn}
+use Rattle.wy_mach.specs.SharedTurns.{SharesPlain, SharesBy, LeavesNodes, ReturnsLast, EndsSo, EndsBy, WantsBy, waiting_of, state_of, Follows, TurnsShared}
 use Rattle.wy_mach.proofs.RegisterLemmas.{shows_slot}
 use Rattle.wy_mach.proofs.CallLemmas.{pushed}
 use Rattle.wy_mach.proofs.SharedTurnLemmas.{turns_shared, ends_so, by_return}

@@ -1,6 +1,6 @@
 -- What a write at the end of a path does to registers and nodes, told of equal registers and parts.
 use Rattle.std.proofs.Common.{◌≡◌, ℕ, List, subst}
-use Rattle.std.specs.Prelude.{Result, Ok, Err, IsOk}
+use Rattle.std.specs.Prelude.{Result, Err, IsOk}
 use Rattle.wy_heap.specs.declared.part.Part.{Part}
 use Rattle.wy_heap.specs.declared.heap.Heap.{Heap}
 use Rattle.wy_heap.specs.Slots.{Step}

@@ -1,5 +1,5 @@
 -- What turns of the machine do to its registers and its heap, and that these are steps on shared nodes.
-use Rattle.std.specs.Prelude.{◌≡◌, ◌⊎◌, ◌≤◌, ℕ, zero, suc, ◌+◌, ◌-◌, pos, List, [], ◌∷◌, ◌++◌, length, map, Bool, true, false, Option, Some, None, Vec, slice_set, slice_get, vec_capacity, ⊤}
+use Rattle.std.specs.Prelude.{◌≡◌, ◌⊎◌, ◌≤◌, ℕ, zero, suc, ◌+◌, ◌-◌, pos, List, [], ◌∷◌, ◌++◌, length, map, true, false, Option, Some, Vec, slice_set, slice_get, vec_capacity, ⊤}
 use Rattle.std.specs.declared.alloc.Global.{Global}
 use Rattle.wy_value.specs.Datum.{Datum, Whole}
 use Rattle.wy_heap.specs.declared.part.Part.{Part}
@@ -29,7 +29,7 @@ use Rattle.wy_mach.specs.declared.machine.Turn.TheVariants as turn
 use Rattle.wy_mach.specs.declared.runs.RunEnd.{RunEnd}
 use Rattle.wy_mach.specs.declared.runs.RunEnd.TheVariants as run_end
 use Rattle.wy_mach.specs.States.{IsMachine, callers_of}
-use Rattle.wy_mach.specs.Running.{Starts, instr_of}
+use Rattle.wy_mach.specs.Running.{Starts}
 use Rattle.wy_mach.specs.SharedSteps.{Waiting, Shared, HasNoDead, ShareStep, ShareSteps, HasRoomNext, EndsIn, instr_next}
 
 -- ---- inside a turn

@@ -1,4 +1,4 @@
-use Rattle.std.proofs.Common.{◌≡◌, ◌∷◌, [], ◌<◌, ◌≤◌, length, true, false, Option, None, ℤ, subst, ◌∙◌, sym, rules, ap, ℕ, List, Some, pos, set}
+use Rattle.std.proofs.Common.{◌≡◌, ◌∷◌, [], ◌<◌, ◌≤◌, length, true, false, Option, None, ℤ, subst, ◌∙◌, sym, rules, ℕ, Some, pos, set}
 use Rattle.std.specs.Int.{w128}
 use Rattle.std.proofs.lemmas.Int.{to_z-of_z}
 use mir.Val.{SFits}
@@ -12,8 +12,7 @@ use Rattle.wy_mach.specs.Taking.{GivesMade}
 use Rattle.wy_mach.specs.Filling.{is_length, filled}
 use Rattle.wy_mach.proofs.MakeLemmas.{on_ok}
 use Rattle.wy_mach.proofs.FillLemmas.{fill_no_number, fill_no_length, fill_beyond, fill_goes, one_taken, one_turns}
-use Rattle.wy_value.specs.Datum.{Datum, Whole}
-use Rattle.wy_heap.specs.declared.part.Part.{Part}
+use Rattle.wy_value.specs.Datum.{Whole}
 use Rattle.wy_heap.specs.declared.part.Part.TheVariants.{Null}
 use Rattle.wy_sem.specs.Expressions.{Store, slot}
 use Rattle.wy_mach.specs.Sharing.{PutsFilled, part_in}

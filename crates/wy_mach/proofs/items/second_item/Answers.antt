@@ -6,7 +6,6 @@ use Rattle.wy_heap.specs.Nodes.{map_of}
 use Rattle.wy_heap.specs.Meaning.{Means}
 use Rattle.wy_heap.specs.Slots.{child, item_at, part_at}
 use Rattle.wy_mach.proofs.ItemLemmas.{item_there, item_within, item_somewhere, same_pos}
-use Rattle.wy_heap.specs.declared.part.Part.{Part}
 use Rattle.wy_heap.specs.Parts.{IsBelow}
 use Rattle.wy_mach.proofs.ShareLemmas.{same_part, no_part}
 use Rattle.wy_mach.proofs.items.second_item.Goals as goal

@@ -1,4 +1,3 @@
-use Rattle.std.proofs.Common.{◌∙◌, refl, sym}
 use Rattle.wy_heap.specs.Nodes.{map_of}
 use Rattle.wy_heap.specs.Slots.{part_at, step_of}
 use Rattle.wy_mach.proofs.ShareLemmas.{same_part, no_part}

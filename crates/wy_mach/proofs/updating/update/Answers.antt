@@ -17,7 +17,6 @@ use Rattle.wy_heap.specs.declared.part.Part.TheVariants.{Null}
 use Rattle.wy_mach.specs.Writing.{PutsAlong, WritesPath, IsNotSole}
 use Rattle.wy_mach.proofs.WriteLemmas.{puts_along_as}
 use Rattle.wy_heap.specs.Putting.{Sole}
-use Rattle.wy_heap.specs.declared.part.Slot.{Slot}
 use Rattle.std.specs.Prelude.{vec_capacity}
 use Rattle.wy_mach.proofs.updating.update.Goals as goal
 
