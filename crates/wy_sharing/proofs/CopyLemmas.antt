@@ -9,8 +9,8 @@ use Rattle.wy_code.specs.declared.instructions.Instr.{Instr}
 use Rattle.wy_code.specs.declared.instructions.Instr.TheVariants as instr
 use Rattle.wy_code.specs.declared.routines.Code.{Code}
 use Rattle.wy_mach.specs.Sharing.{part_in}
-use Rattle.wy_mach.specs.SharedSteps.{Shared, holders, HasOne, WrittenAlong, GivesFilled, GoesBehind, Makes}
-use Rattle.wy_sharing.specs.Room.{CopiesAreOne}
+use Rattle.wy_mach.specs.SharedSteps.{Shared, holders, HasOne, HaveOne, WrittenAlong, GivesFilled, GoesBehind, Makes}
+use Rattle.wy_sharing.specs.Room.{CopiesAreOne, NoneAreCopied, HasNoSecond, IsInPlace}
 use Rattle.wy_sharing.proofs.RoomLemmas.{path_unique}
 
 same_key : (j k : ℕ) → Key j ≡ Key k → j ≡ k
@@ -76,3 +76,48 @@ pub copies_one : CopiesAreOne
 copies_one code st a b c d first second =
     let same = same_instr second.by first.by (sym second.is ∙ first.is) in
     makes_one code first.by st a b c d first.makes (subst (λ (i : Instr). Makes code i st b d) same second.makes)
+
+-- ---- nothing copied
+
+written_none : (count : ℕ → ℕ) (m n : Map) (path : List Step) (whole item made : Part) (c : ℕ) → HaveOne count m whole path → WrittenAlong count m n whole path item c made → c ≡ 0
+written_none count m n [] whole item made c have along = along.1
+written_none count m n (s ∷ path) whole item made c have along = elim along [
+  | inl here ↦ written_none count m n path (part_at m whole s) item here.below c have.1 here.goes_on
+  | inr there ↦ absurd (there.many have.0)
+]
+
+put_none : (st a : Shared) (w : ℕ) (path : List Slot) (v c : ℕ) → IsInPlace st w path v → GoesBehind (instr.Put w path v) st a c → c ≡ 0
+put_none st a w path v c lacks made =
+    let place = part_in (set st.registers v Null) w in
+    let same = path_unique st.shapes st.registers path lacks.0 made.does.0 lacks.1 made.does.1 in
+    written_none (holders st) st.nodes made.between made.does.0 place (part_in st.registers v) made.does.2.made c
+    (subst (λ (l : List Step). HaveOne (holders st) st.nodes place l) same lacks.2) made.does.2.along
+
+makes_none : (code : Code) (i : Instr) (st a : Shared) (c : ℕ) → HasNoSecond i st → Makes code i st a c → c ≡ 0
+makes_none code (instr.Const t k) st a c lacks made = made.does.2
+makes_none code (instr.Move t r) st a c lacks made = made.does.2
+makes_none code (instr.Share t r) st a c lacks made = made.does.2
+makes_none code (instr.Clear rs) st a c lacks made = made.does.2
+makes_none code (instr.Arith t op x y) st a c lacks made = made.does.2.2
+makes_none code (instr.Compare t op x y) st a c lacks made = made.does.2.2
+makes_none code (instr.Equal t x y) st a c lacks made = made.does.2.2
+makes_none code (instr.Not t x) st a c lacks made = made.does.2.2
+makes_none code (instr.Jump n) st a c lacks made = made.none
+makes_none code (instr.Branch r n) st a c lacks made = made.none
+makes_none code (instr.Array t rs) st a c lacks made = made.does.none
+makes_none code (instr.Record t k rs) st a c lacks made = made.does.none
+makes_none code (instr.Fill t v n) st a c lacks made = filled_none st.nodes (set st.registers v Null) t made.does.0 (part_in st.registers v) made.between a.registers c made.does.2
+makes_none code (instr.Len t x) st a c lacks made = made.does.2.2
+makes_none code (instr.Get t x i) st a c lacks made = made.does.2.2
+makes_none code (instr.Field t x f) st a c lacks made = made.does.2
+makes_none code (instr.Put w path v) st a c lacks made = put_none st a w path v c lacks made
+makes_none code (instr.Kind t x k) st a c lacks made = made.does.2.2
+makes_none code (instr.Call t f rs) st a c lacks made = made.none
+makes_none code (instr.Return r) st a c lacks made = made.none
+makes_none code (instr.Print x) st a c lacks made = made.none
+makes_none code (instr.PrintInt x) st a c lacks made = made.none
+
+pub none_copied : NoneAreCopied
+none_copied code st new i copied step is lacks =
+    let same = same_instr step.by i (sym step.is ∙ is) in
+    makes_none code i st new copied lacks (subst (λ (j : Instr). Makes code j st new copied) same step.makes)

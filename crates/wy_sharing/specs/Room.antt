@@ -1,5 +1,5 @@
 -- When a step on shared nodes has room below the cap.
-use Rattle.std.specs.Prelude.{◌≡◌, ℕ, ◌<◌, pos, List, slice_set, ⊤}
+use Rattle.std.specs.Prelude.{◌≡◌, ℕ, ◌<◌, pos, List, Some, slice_set, ⊤}
 use Rattle.wy_heap.specs.declared.part.Part.TheVariants.{Null, Int}
 use Rattle.wy_heap.specs.Slots.{Step}
 use Rattle.wy_code.specs.declared.instructions.Slot.{Slot}
@@ -7,7 +7,7 @@ use Rattle.wy_code.specs.declared.instructions.Instr.{Instr}
 use Rattle.wy_code.specs.declared.instructions.Instr.TheVariants as instr
 use Rattle.wy_code.specs.declared.routines.Code.{Code}
 use Rattle.wy_mach.specs.Sharing.{part_in}
-use Rattle.wy_mach.specs.SharedSteps.{Shared, holders, LeadAlong, HaveOne, HasRoom, TakesMemory, ShareStep}
+use Rattle.wy_mach.specs.SharedSteps.{Shared, holders, LeadAlong, HaveOne, HasRoom, TakesMemory, ShareStep, instr_next}
 
 -- each key has fewer holders than the cap
 abbrev pub NoneFull : ℕ → Shared → Type 0
@@ -34,3 +34,12 @@ pub record RoomBelowCap : Type 0 where
 -- a state determines how many nodes its next step copies
 abbrev pub CopiesAreOne : Type 0
 CopiesAreOne = (code : Code) (st one other : Shared) (copied more : ℕ) → ShareStep code st one copied → ShareStep code st other more → copied ≡ more
+
+-- where the instruction is a write, each node on its path has one holder
+abbrev pub HasNoSecond : Instr → Shared → Type 0
+HasNoSecond (instr.Put a path v) st = IsInPlace st a path v
+HasNoSecond _ st = ⊤
+
+-- a step copies nodes only where it writes below one with a second holder
+abbrev pub NoneAreCopied : Type 0
+NoneAreCopied = (code : Code) (st new : Shared) (i : Instr) (copied : ℕ) → ShareStep code st new copied → instr_next code st ≡ Some i → HasNoSecond i st → copied ≡ 0
