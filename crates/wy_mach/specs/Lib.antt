@@ -8,6 +8,9 @@ pub mod Kinds
 -- definitions of contracts
 pub mod Parts
 pub mod Paths
+-- what instructions do to registers that hold scalars and keys, and to nodes
+pub mod Sharing
+pub mod Writing
 -- definitions of contracts
 pub mod Texts
 pub mod Printed
@@ -15,3 +18,6 @@ pub mod Printed
 pub mod States
 -- what a turn and a run do
 pub mod Running
+-- the step on shared nodes, and turns as steps
+pub mod SharedSteps
+pub mod SharedTurns

@@ -1,5 +1,5 @@
 -- What a turn of the machine and a whole run do, by the step on values.
-use Rattle.std.specs.Prelude.{◌≡◌, ℕ, ◌+◌, ◌-◌, List, [], ◌∷◌, ◌++◌, Bool, true, false, Option, Some, None, Result, Ok, Err, Vec, MatchOption, slice_get, slice_set, length, ⊤}
+use Rattle.std.specs.Prelude.{◌≡◌, ◌≤◌, vec_capacity, ℕ, ◌+◌, ◌-◌, List, [], ◌∷◌, ◌++◌, Bool, true, false, Option, Some, None, Result, Ok, Err, Vec, MatchOption, slice_get, slice_set, length, ⊤}
 use Rattle.std.specs.declared.alloc.Global.{Global}
 use Rattle.wy_value.specs.Datum.{Datum}
 use Rattle.wy_value.specs.Shown.{shown}
@@ -156,8 +156,10 @@ TurnsBy i old new t = (code : Code) (before : Option (List ℕ)) (failed : ℕ) 
 abbrev pub instr_of : Code → Machine → Option Instr
 instr_of code k = instr_at (slice_get code.routines k.frame.routine) k.frame.at
 
--- the table and what is wanted of the result are as before
+-- the cap, the table and what is wanted of the result are as before, and there is as much room for paths
 pub record KeepsRest (old new : Machine) : Type 0 where
+  pub cap : new.heap.cap ≡ old.heap.cap
+  pub room : vec_capacity old.path ≤ vec_capacity new.path
   pub shapes : new.heap.shapes ≡ old.heap.shapes
   pub has_result : new.has_result ≡ old.has_result
 

@@ -1,12 +1,15 @@
 //! The instructions that call and return.
-ghost use Rattle.std.specs.Prelude.{◌≡◌, ◌≤◌, ◌<◌, ◌+◌, ◌∷◌, [], ◌++◌, ℕ, List, Option, reverse, IfOk, OnOk, OnErr, length, vec_len, vec_capacity};
+ghost use Rattle.std.specs.Prelude.{◌≡◌, ◌≤◌, ◌<◌, ◌+◌, ◌-◌, ◌∷◌, [], ◌++◌, ℕ, List, Option, reverse, IfOk, OnOk, OnErr, length, vec_len, vec_capacity};
 ghost use Rattle.wy_value.specs.Datum.{Datum};
 ghost use Rattle.wy_heap.specs.declared.part.Part.{Part};
 ghost use Rattle.wy_heap.specs.Nodes.{map_of};
 ghost use Rattle.wy_heap.specs.Meaning.{Means};
 ghost use Rattle.wy_heap.specs.Standing.{Stands, AreHeld};
 ghost use Rattle.wy_code.specs.declared.instructions.Instr.{Instr};
+ghost use Rattle.wy_mach.specs.Taking.{nulls};
+ghost use Rattle.wy_mach.specs.Sharing.{Spares};
 ghost use Rattle.wy_mach.specs.States.{places_of, places_below, callers_of};
+ghost use Rattle.wy_mach.specs.SharedTurns.{SharesCall, SharesReturn, LeavesNodes, ReturnsLast, EndsSo, IsNoEnd};
 ghost use Rattle.wy_mach.specs.Running.{TurnsBy, Turned, KeepsRest, HasTextOf, Enters, Resumes, IsEnd, next_by};
 
 use crate::entering::entry_registers;
@@ -33,6 +36,8 @@ impl Machine {
         ensures stands { Stands self.new.heap (places_of self.new) }
         ensures kept { KeepsRest self.old self.new }
         ensures turned { IfOk result (λ turn. (before : Option (List ℕ)) (failed : ℕ) → Turned (next_by code.now (Instr.Call to number numbers.now)) self.old self.new before before failed failed turn) }
+        ensures shares { IfOk result (λ turn. turn ≡ Turn.Went → SharesCall code.now self.old self.new to number numbers.now) }
+        ensures no_end { IfOk result IsNoEnd }
     {
         let Some(routine) = code.routines.get(number as usize) else {
             return Ok(Turn::Stuck);
@@ -65,6 +70,7 @@ impl Machine {
         ensures stands { Stands self.new.heap (places_of self.new) }
         ensures kept { KeepsRest self.old self.new }
         ensures entered { OnOk result (Enters self.old self.new number to registers arguments.items) }
+        ensures registers { OnOk result (self.new.frame.registers.items ≡ arguments.items ++ nulls (registers - length arguments.items)) }
         ensures went { IfOk result (λ turn. turn ≡ Turn.Went) }
     {
         match entry_registers(registers, arguments) {
@@ -87,6 +93,7 @@ impl Machine {
         ensures callers { self.new.callers.items ≡ self.old.callers.items ++ record { frame = record self.old.frame { at = self.old.frame.at + 1 }; target = to } ∷ [] }
         ensures heap { self.new.heap ≡ self.old.heap }
         ensures has_result { self.new.has_result ≡ self.old.has_result }
+        ensures path { self.new.path ≡ self.old.path }
     {
         let entered = Frame {
             routine: number,
@@ -104,6 +111,9 @@ impl Machine {
         ensures stands { Stands self.new.heap (places_of self.new) }
         ensures kept { KeepsRest self.old self.new }
         ensures turned { IfOk result (TurnsBy (Instr.Return from) self.old self.new) }
+        ensures shares { IfOk result (λ turn. turn ≡ Turn.Went → SharesReturn self.old self.new from) }
+        ensures ends { IfOk result (EndsSo (ReturnsLast self.old from)) }
+        ensures wants { OnErr result (self.old.callers.items ≡ []) }
     {
         if from as usize >= self.frame.registers.len() {
             return Ok(Turn::Stuck);
@@ -122,6 +132,7 @@ impl Machine {
     fn resume(&mut self, caller: Caller, given: Place)
         requires stands { Stands self.old.heap (given ∷ (self.old.frame.registers.items ++ (caller.frame.registers.items ++ places_below (callers_of self.old)))) }
         ensures resumed { Resumes self.old self.new caller given }
+        ensures spares { Spares self.old.heap self.new.heap }
         ensures kept { KeepsRest self.old self.new }
     {
         let Caller { frame, target } = caller;
@@ -142,6 +153,7 @@ impl Machine {
         ensures stands { Stands self.new.heap (places_of self.new) }
         ensures kept { KeepsRest self.old self.new }
         ensures done { IfOk result (IsEnd self.old given) }
+        ensures leaves { IfOk result (EndsSo (LeavesNodes self.old.heap given)) }
     {
         let alloc = self.alloc;
         let registers = mem::replace(&mut self.frame.registers, Vec::new(alloc));

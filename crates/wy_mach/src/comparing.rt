@@ -7,6 +7,7 @@ ghost use Rattle.wy_heap.specs.Standing.{SameTable};
 ghost use Rattle.wy_code.specs.declared.instructions.Instr.{Instr};
 ghost use Rattle.wy_step.specs.Step.{effect};
 ghost use Rattle.wy_mach.specs.Showing.{WentOn, IsStop, Turns, AreRegisters};
+ghost use Rattle.wy_mach.specs.Sharing.{PutsScalar};
 ghost use Rattle.wy_mach.specs.Operands.{TellsSame, ComparesNone};
 
 use crate::registers::put;
@@ -26,6 +27,7 @@ pub fn equal(
     ensures turns { Turns heap.old heap.new registers.old registers.new }
     ensures value { OnOk result ((shapes : Shapes) → WentOn (map_of heap.old) (map_of heap.new) registers.old registers.new (effect shapes (Instr.Equal to left right))) }
     ensures stop { IfErr result (λ stop. (shapes : Shapes) → IsStop (map_of heap.old) registers.old (effect shapes (Instr.Equal to left right)) stop) }
+    ensures shares { OnOk result (PutsScalar heap.old heap.new registers.old registers.new to) }
     ensures kept { SameTable heap.old heap.new }
     ensures copies { heap.new.copies ≡ heap.old.copies }
 {

@@ -1,12 +1,16 @@
 //! The instruction `Fill`.
-ghost use Rattle.std.specs.Prelude.{◌≡◌, ◌∷◌, [], ◌++◌, ℕ, pos, List, true, false, OnOk, OnErr, IfErr, MatchOption};
+ghost use Rattle.std.specs.Prelude.{◌≡◌, ◌∷◌, [], ◌++◌, ℕ, pos, List, Some, true, false, OnOk, OnErr, IfErr, MatchOption, slice_set};
+ghost use Rattle.wy_value.specs.Datum.{Datum};
 ghost use Rattle.wy_value.specs.declared.shapes.Shapes.{Shapes};
 ghost use Rattle.wy_heap.specs.declared.part.Part.{Part};
+ghost use Rattle.wy_heap.specs.declared.part.Part.TheVariants.{Null};
 ghost use Rattle.wy_heap.specs.Nodes.{map_of};
 ghost use Rattle.wy_heap.specs.Standing.{SameTable};
 ghost use Rattle.wy_code.specs.declared.instructions.Instr.{Instr};
 ghost use Rattle.wy_step.specs.Step.{effect};
-ghost use Rattle.wy_mach.specs.Showing.{WentOn, IsStop, Turns, AreRegisters};
+ghost use Rattle.wy_sem.specs.Expressions.{Store, slot};
+ghost use Rattle.wy_mach.specs.Showing.{Shows, WentOn, IsStop, Turns, AreRegisters};
+ghost use Rattle.wy_mach.specs.Sharing.{PutsFilled, part_in};
 ghost use Rattle.wy_mach.specs.Taking.{AreTaken, TakenTurns, GivesMade};
 ghost use Rattle.wy_mach.specs.Filling.{is_length, filled};
 
@@ -28,6 +32,7 @@ pub fn fill(
     ensures turns { Turns heap.old heap.new registers.old registers.new }
     ensures value { OnOk result ((shapes : Shapes) → WentOn (map_of heap.old) (map_of heap.new) registers.old registers.new (effect shapes (Instr.Fill to from count))) }
     ensures stop { IfErr result (λ stop. (shapes : Shapes) → IsStop (map_of heap.old) registers.old (effect shapes (Instr.Fill to from count)) stop) }
+    ensures shares { OnOk result ((s : Store) (n : ℕ) → Shows (map_of heap.old) s registers.old → slot s count ≡ Some (Datum.Whole (pos n)) → PutsFilled heap.old heap.new (slice_set registers.old from Null) registers.new to n (part_in registers.old from)) }
     ensures kept { SameTable heap.old heap.new }
 {
     let Some(number) = number(heap, registers, count) else {
@@ -54,6 +59,7 @@ fn fill_of(
     requires held { AreTaken heap.old (item ∷ []) registers.old }
     ensures turns { TakenTurns heap.old heap.new (item ∷ []) registers.old registers.new }
     ensures value { OnOk result (GivesMade heap.old heap.new (item ∷ []) registers.old registers.new to (filled many)) }
+    ensures shares { OnOk result (PutsFilled heap.old heap.new registers.old registers.new to many item) }
     ensures no_memory { IfErr result (λ stop. stop ≡ Stop.NoMemory) }
     ensures kept { SameTable heap.old heap.new }
 {

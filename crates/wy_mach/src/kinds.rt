@@ -8,6 +8,7 @@ ghost use Rattle.wy_heap.specs.Standing.{SameTable};
 ghost use Rattle.wy_code.specs.declared.instructions.Instr.{Instr};
 ghost use Rattle.wy_step.specs.Step.{effect};
 ghost use Rattle.wy_mach.specs.Showing.{WentOn, HasNone, Turns, AreRegisters};
+ghost use Rattle.wy_mach.specs.Sharing.{PutsScalar};
 ghost use Rattle.wy_mach.specs.Kinds.{is_null_kind, is_bool_kind, is_int_kind, is_array_kind, is_shape_kind, kind_told};
 
 use crate::operands::kind_in;
@@ -34,6 +35,7 @@ pub fn kind(
     ensures turns { Turns heap.old heap.new registers.old registers.new }
     ensures value { OnOk result (WentOn (map_of heap.old) (map_of heap.new) registers.old registers.new (effect shapes.now (Instr.Kind to from asked))) }
     ensures stuck { OnErr result (HasNone (map_of heap.old) registers.old (effect shapes.now (Instr.Kind to from asked))) }
+    ensures shares { OnOk result (PutsScalar heap.old heap.new registers.old registers.new to) }
     ensures kept { SameTable heap.old heap.new }
     ensures copies { heap.new.copies ≡ heap.old.copies }
 {

@@ -35,6 +35,7 @@ mod filling;
 mod frames;
 mod items;
 mod kinds;
+mod laws;
 mod looking;
 mod machine;
 mod making;
@@ -53,4 +54,5 @@ mod stop;
 mod texts;
 mod updating;
 
+pub use laws::runs_are_counted;
 pub use runs::{RunEnd, run};

@@ -9,6 +9,7 @@ ghost use Rattle.wy_heap.specs.Standing.{AreHeld, SameTable};
 ghost use Rattle.wy_code.specs.declared.instructions.Instr.{Instr};
 ghost use Rattle.wy_step.specs.Step.{effect};
 ghost use Rattle.wy_mach.specs.Showing.{WentOn, HasNone, Turns, AreRegisters};
+ghost use Rattle.wy_mach.specs.Sharing.{PutsScalar};
 ghost use Rattle.wy_mach.specs.Operands.{Reads};
 ghost use Rattle.wy_mach.specs.Looking.{length_in};
 
@@ -23,6 +24,7 @@ pub fn length(heap: &mut Heap, registers: &mut [Place], to: u32, from: u32) -> R
     ensures turns { Turns heap.old heap.new registers.old registers.new }
     ensures value { OnOk result ((shapes : Shapes) → WentOn (map_of heap.old) (map_of heap.new) registers.old registers.new (effect shapes (Instr.Len to from))) }
     ensures stuck { OnErr result ((shapes : Shapes) → HasNone (map_of heap.old) registers.old (effect shapes (Instr.Len to from))) }
+    ensures shares { OnOk result (PutsScalar heap.old heap.new registers.old registers.new to) }
     ensures kept { SameTable heap.old heap.new }
     ensures copies { heap.new.copies ≡ heap.old.copies }
 {

@@ -1,10 +1,12 @@
 //! The machine: a heap, the frame that runs and those that wait for it.
-ghost use Rattle.std.specs.Prelude.{◌≡◌, ◌≤◌, ◌<◌, [], ℕ, List, Option, reverse, IfOk, OnErr};
+ghost use Rattle.std.specs.Prelude.{◌≡◌, ◌≤◌, ◌<◌, ◌+◌, vec_capacity, [], ℕ, List, Option, reverse, IfOk, OnErr};
 ghost use Rattle.wy_heap.specs.Standing.{Stands};
 ghost use Rattle.wy_code.specs.declared.routines.Code.{Code};
 ghost use Rattle.wy_code.specs.declared.instructions.Instr.{Instr};
 ghost use Rattle.wy_mach.specs.States.{IsMachine, places_of, places_below};
 ghost use Rattle.wy_mach.specs.Running.{Turned, TurnsBy, IsPlain, HasInt, KeepsRest, MayTakeMemory, MayWantMemory, next_in, next_by, instr_of};
+ghost use Rattle.wy_mach.specs.SharedSteps.{TakesMemoryNext, instr_next};
+ghost use Rattle.wy_mach.specs.SharedTurns.{SameHeld, SharesPlain, BranchesBy, SharesBy, IsNoEnd, EndsSo, EndsBy, WantsIn, WantsBy, TurnsShared, state_of};
 
 use crate::frames::{Caller, Frame, leave};
 use crate::operands::truth;
@@ -54,7 +56,9 @@ impl Machine {
         requires is { IsMachine code.now self.old }
         ensures is { IsMachine code.now self.new }
         ensures turned { IfOk result (Turned (next_in code.now) self.old self.new (O.taken out.old) (O.taken out.new) (O.faults out.old) (O.faults out.new)) }
+        ensures shared { IfOk result (TurnsShared code.now self.old self.new) }
         ensures no_memory { OnErr result (MayWantMemory (instr_of code.now self.old)) }
+        ensures takes_memory { OnErr result (TakesMemoryNext self.old.heap.cap (instr_next code.now (state_of self.old)) (state_of self.old)) }
         ensures nothing { OnErr result (O.taken out.new ≡ O.taken out.old) }
         ensures count { O.faults out.old ≤ O.faults out.new }
         ensures has_result { self.new.has_result ≡ self.old.has_result }
@@ -79,7 +83,10 @@ impl Machine {
         ensures stands { Stands self.new.heap (places_of self.new) }
         ensures kept { KeepsRest self.old self.new }
         ensures turned { IfOk result (Turned (next_by code.now instr.now) self.old self.new (O.taken out.old) (O.taken out.new) (O.faults out.old) (O.faults out.new)) }
+        ensures shares { IfOk result (λ turn. turn ≡ Turn.Went → SharesBy code.now instr.now self.old self.new) }
+        ensures ends { IfOk result (EndsSo (EndsBy instr.now self.old)) }
         ensures no_memory { OnErr result (MayTakeMemory instr.now) }
+        ensures wants { OnErr result (WantsBy instr.now self.old) }
         ensures nothing { OnErr result (O.taken out.new ≡ O.taken out.old) }
         ensures count { O.faults out.old ≤ O.faults out.new }
     {
@@ -108,7 +115,10 @@ impl Machine {
         ensures stands { Stands self.new.heap (places_of self.new) }
         ensures kept { KeepsRest self.old self.new }
         ensures turned { IfOk result (λ turn. (before : Option (List ℕ)) (failed : ℕ) → Turned (next_by code.now instr.now) self.old self.new before before failed failed turn) }
+        ensures shares { IfOk result (λ turn. turn ≡ Turn.Went → SharesPlain instr.now self.old self.new) }
+        ensures no_end { IfOk result IsNoEnd }
         ensures no_memory { OnErr result (MayTakeMemory instr.now) }
+        ensures wants { OnErr result (WantsIn instr.now self.old.heap self.old.frame.registers.items (vec_capacity self.old.path)) }
     {
         let alloc = self.alloc;
         let registers = self.frame.registers.as_mut_slice();
@@ -136,6 +146,8 @@ impl Machine {
         ensures stands { Stands self.new.heap (places_of self.new) }
         ensures kept { KeepsRest self.old self.new }
         ensures turned { TurnsBy (Instr.Branch from to) self.old self.new result }
+        ensures shares { result ≡ Turn.Went → SameHeld self.old self.new × BranchesBy self.old from to self.new.frame.at }
+        ensures no_end { IsNoEnd result }
     {
         match truth(&self.heap, self.frame.registers.as_slice(), from) {
             Some(true) => {
@@ -157,6 +169,8 @@ impl Machine {
         ensures stands { Stands self.new.heap (places_of self.new) }
         ensures kept { KeepsRest self.old self.new }
         ensures turned { (code : Code) → Turned (next_by code (Instr.Print from)) self.old self.new (O.taken out.old) (O.taken out.new) (O.faults out.old) (O.faults out.new) result }
+        ensures shares { result ≡ Turn.Went → SameHeld self.old self.new × (self.new.frame.at ≡ self.old.frame.at + 1) }
+        ensures no_end { IsNoEnd result }
         ensures count { O.faults out.old ≤ O.faults out.new }
     {
         match print(&self.heap, self.frame.registers.as_slice(), from, out) {
@@ -176,6 +190,8 @@ impl Machine {
         ensures stands { Stands self.new.heap (places_of self.new) }
         ensures kept { KeepsRest self.old self.new }
         ensures turned { (code : Code) → Turned (next_by code (Instr.PrintInt from)) self.old self.new (O.taken out.old) (O.taken out.new) (O.faults out.old) (O.faults out.new) result }
+        ensures shares { result ≡ Turn.Went → SameHeld self.old self.new × (self.new.frame.at ≡ self.old.frame.at + 1) }
+        ensures no_end { IsNoEnd result }
         ensures count { O.faults out.old ≤ O.faults out.new }
     {
         match print_int(&self.heap, self.frame.registers.as_slice(), from, out) {

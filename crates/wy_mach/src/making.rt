@@ -2,13 +2,14 @@
 ghost use Rattle.std.specs.Prelude.{◌≡◌, ◌∷◌, [], ◌++◌, ◌<◌, ◌≤◌, ℕ, List, OnOk, OnErr, IfOk, IfErr, IsTrue, false, length};
 ghost use Rattle.wy_value.specs.declared.shapes.Shapes.{Shapes};
 ghost use Rattle.wy_heap.specs.declared.part.Part.{Part};
-ghost use Rattle.wy_heap.specs.Nodes.{map_of};
+ghost use Rattle.wy_heap.specs.Nodes.{map_of, list_form};
 ghost use Rattle.wy_heap.specs.Standing.{Stands, AreHeld, Acts, SameTable};
 ghost use Rattle.wy_heap.specs.Changing.{Lasts};
 ghost use Rattle.wy_code.specs.declared.instructions.Instr.{Instr};
 ghost use Rattle.wy_step.specs.Step.{effect};
 ghost use Rattle.wy_mach.specs.Showing.{WentOn, IsStop, Turns, AreRegisters};
 ghost use Rattle.wy_mach.specs.Taking.{taken, emptied, AreWithin, AreTaken, TakenTurns, GivesMade, array_made};
+ghost use Rattle.wy_mach.specs.Sharing.{PutsNew};
 
 use crate::registers::{put, take};
 use crate::stop::Stop;
@@ -28,6 +29,7 @@ pub fn array(
     ensures turns { Turns heap.old heap.new registers.old registers.new }
     ensures value { OnOk result ((shapes : Shapes) → WentOn (map_of heap.old) (map_of heap.new) registers.old registers.new (effect shapes (Instr.Array to numbers.now))) }
     ensures stop { IfErr result (λ stop. (shapes : Shapes) → IsStop (map_of heap.old) registers.old (effect shapes (Instr.Array to numbers.now)) stop) }
+    ensures shares { OnOk result (PutsNew heap.old heap.new (emptied registers.old numbers.now) registers.new to list_form (taken registers.old numbers.now)) }
     ensures kept { SameTable heap.old heap.new }
     ensures copies { heap.new.copies ≡ heap.old.copies }
 {
@@ -47,6 +49,7 @@ fn array_of(
     requires held { AreTaken heap.old items.items registers.old }
     ensures turns { TakenTurns heap.old heap.new items.items registers.old registers.new }
     ensures value { OnOk result (GivesMade heap.old heap.new items.items registers.old registers.new to array_made) }
+    ensures shares { OnOk result (PutsNew heap.old heap.new registers.old registers.new to list_form items.items) }
     ensures no_memory { IfErr result (λ stop. stop ≡ Stop.NoMemory) }
     ensures kept { SameTable heap.old heap.new }
     ensures copies { heap.new.copies ≡ heap.old.copies }

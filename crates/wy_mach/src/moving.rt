@@ -5,10 +5,13 @@ ghost use Rattle.wy_heap.specs.declared.part.Part.{Part};
 ghost use Rattle.wy_heap.specs.declared.part.Part.TheVariants.{Null};
 ghost use Rattle.wy_heap.specs.Nodes.{map_of};
 ghost use Rattle.wy_heap.specs.Standing.{Stands, Acts, SameTable};
-ghost use Rattle.wy_heap.specs.Parts.{IsScalar};
+ghost use Rattle.wy_heap.specs.Parts.{IsScalar, IsBelow, scalar_part};
+ghost use Rattle.wy_heap.specs.Changing.{Lasts};
 ghost use Rattle.wy_code.specs.declared.instructions.Instr.{Instr};
 ghost use Rattle.wy_step.specs.Step.{effect};
 ghost use Rattle.wy_mach.specs.Showing.{WentOn, HasNone, IsStop, Turns, AreRegisters, IsNoInt, scalar_kind};
+ghost use Rattle.wy_mach.specs.Taking.{emptied};
+ghost use Rattle.wy_mach.specs.Sharing.{PutsIn, PutsSecond, part_in};
 
 use crate::registers::{put, take};
 use crate::stop::{Stop, Stuck};
@@ -28,6 +31,7 @@ pub fn load(
     ensures turns { Turns heap.old heap.new registers.old registers.new }
     ensures value { OnOk result ((shapes : Shapes) → WentOn (map_of heap.old) (map_of heap.new) registers.old registers.new (effect shapes (Instr.Const to constant))) }
     ensures stuck { OnErr result (IsNoInt constant) }
+    ensures shares { OnOk result (PutsIn heap.old heap.new registers.old registers.new to (scalar_part (scalar_kind constant))) }
     ensures kept { SameTable heap.old heap.new }
     ensures copies { heap.new.copies ≡ heap.old.copies }
 {
@@ -61,6 +65,7 @@ pub fn move_to(heap: &mut Heap, registers: &mut [Place], to: u32, from: u32) -> 
     ensures turns { Turns heap.old heap.new registers.old registers.new }
     ensures value { OnOk result ((shapes : Shapes) → WentOn (map_of heap.old) (map_of heap.new) registers.old registers.new (effect shapes (Instr.Move to from))) }
     ensures stuck { OnErr result ((shapes : Shapes) → HasNone (map_of heap.old) registers.old (effect shapes (Instr.Move to from))) }
+    ensures shares { OnOk result (PutsIn heap.old heap.new (slice_set registers.old from Null) registers.new to (part_in registers.old from)) }
     ensures kept { SameTable heap.old heap.new }
     ensures copies { heap.new.copies ≡ heap.old.copies }
 {
@@ -79,6 +84,8 @@ pub fn share(heap: &mut Heap, registers: &mut [Place], to: u32, from: u32) -> Re
     ensures turns { Turns heap.old heap.new registers.old registers.new }
     ensures value { OnOk result ((shapes : Shapes) → WentOn (map_of heap.old) (map_of heap.new) registers.old registers.new (effect shapes (Instr.Share to from))) }
     ensures stop { IfErr result (λ stop. (shapes : Shapes) → IsStop (map_of heap.old) registers.old (effect shapes (Instr.Share to from)) stop) }
+    ensures shares { OnOk result (PutsSecond heap.old heap.new registers.old registers.new to (part_in registers.old from)) }
+    ensures memory { IfErr result (λ stop. stop ≡ Stop.NoMemory → IsBelow heap.old heap.old.cap (part_in registers.old from) → ⊥) }
     ensures kept { SameTable heap.old heap.new }
 {
     let index = from as usize;
@@ -95,6 +102,8 @@ pub fn clear(heap: &mut Heap, registers: &mut [Place], numbers: &[u32])
     requires held { AreRegisters heap.old registers.old }
     ensures turns { Turns heap.old heap.new registers.old registers.new }
     ensures value { (shapes : Shapes) → WentOn (map_of heap.old) (map_of heap.new) registers.old registers.new (effect shapes (Instr.Clear numbers.now)) }
+    ensures shares { registers.new ≡ emptied registers.old numbers.now }
+    ensures lasts { Lasts (map_of heap.old) (map_of heap.new) }
     ensures kept { SameTable heap.old heap.new }
     ensures copies { heap.new.copies ≡ heap.old.copies }
 {

@@ -8,6 +8,7 @@ ghost use Rattle.wy_heap.specs.Standing.{SameTable};
 ghost use Rattle.wy_code.specs.declared.instructions.Instr.{Instr};
 ghost use Rattle.wy_step.specs.Step.{Effect, effect, there, where_so, computes, compares};
 ghost use Rattle.wy_mach.specs.Showing.{WentOn, HasNone, Turns, AreRegisters};
+ghost use Rattle.wy_mach.specs.Sharing.{PutsScalar};
 
 use crate::operands::{number, truth};
 use crate::registers::put;
@@ -30,6 +31,7 @@ pub fn arith(
     ensures turns { Turns heap.old heap.new registers.old registers.new }
     ensures value { OnOk result ((shapes : Shapes) → WentOn (map_of heap.old) (map_of heap.new) registers.old registers.new (effect shapes (Instr.Arith to op left right))) }
     ensures stuck { OnErr result ((shapes : Shapes) → HasNone (map_of heap.old) registers.old (effect shapes (Instr.Arith to op left right))) }
+    ensures shares { OnOk result (PutsScalar heap.old heap.new registers.old registers.new to) }
     ensures kept { SameTable heap.old heap.new }
     ensures copies { heap.new.copies ≡ heap.old.copies }
 {
@@ -60,6 +62,7 @@ pub fn compare(
     ensures turns { Turns heap.old heap.new registers.old registers.new }
     ensures value { OnOk result ((shapes : Shapes) → WentOn (map_of heap.old) (map_of heap.new) registers.old registers.new (effect shapes (Instr.Compare to op left right))) }
     ensures stuck { OnErr result ((shapes : Shapes) → HasNone (map_of heap.old) registers.old (effect shapes (Instr.Compare to op left right))) }
+    ensures shares { OnOk result (PutsScalar heap.old heap.new registers.old registers.new to) }
     ensures kept { SameTable heap.old heap.new }
     ensures copies { heap.new.copies ≡ heap.old.copies }
 {
@@ -84,6 +87,7 @@ pub fn negate(heap: &mut Heap, registers: &mut [Place], to: u32, from: u32) -> R
     ensures turns { Turns heap.old heap.new registers.old registers.new }
     ensures value { OnOk result ((shapes : Shapes) → WentOn (map_of heap.old) (map_of heap.new) registers.old registers.new (effect shapes (Instr.Not to from))) }
     ensures stuck { OnErr result ((shapes : Shapes) → HasNone (map_of heap.old) registers.old (effect shapes (Instr.Not to from))) }
+    ensures shares { OnOk result (PutsScalar heap.old heap.new registers.old registers.new to) }
     ensures kept { SameTable heap.old heap.new }
     ensures copies { heap.new.copies ≡ heap.old.copies }
 {

@@ -6,11 +6,13 @@ ghost use Rattle.wy_heap.specs.declared.part.Part.{Part};
 ghost use Rattle.wy_heap.specs.Nodes.{map_of};
 ghost use Rattle.wy_heap.specs.Meaning.{Means};
 ghost use Rattle.wy_heap.specs.Extending.{Extends};
-ghost use Rattle.wy_heap.specs.Slots.{child, step_of, IsSlot};
+ghost use Rattle.wy_heap.specs.Parts.{IsBelow};
+ghost use Rattle.wy_heap.specs.Slots.{child, step_of, part_at, IsSlot};
 ghost use Rattle.wy_heap.specs.Standing.{Stands, AreHeld, Acts, SameTable, IsAsBefore};
 ghost use Rattle.wy_code.specs.declared.instructions.Instr.{Instr};
 ghost use Rattle.wy_step.specs.Step.{effect};
 ghost use Rattle.wy_mach.specs.Showing.{WentOn, IsStop, Turns, AreRegisters};
+ghost use Rattle.wy_mach.specs.Sharing.{PutsSecond, part_in};
 ghost use Rattle.wy_mach.specs.Parts.{GivesPart, LacksPart};
 
 use crate::registers::put;
@@ -30,6 +32,8 @@ pub fn field(
     ensures turns { Turns heap.old heap.new registers.old registers.new }
     ensures value { OnOk result ((shapes : Shapes) → Extends shapes heap.old.shapes → WentOn (map_of heap.old) (map_of heap.new) registers.old registers.new (effect shapes (Instr.Field to from name))) }
     ensures stop { IfErr result (λ stop. (shapes : Shapes) → Extends shapes heap.old.shapes → IsStop (map_of heap.old) registers.old (effect shapes (Instr.Field to from name)) stop) }
+    ensures shares { OnOk result (PutsSecond heap.old heap.new registers.old registers.new to (part_at (map_of heap.old) (part_in registers.old from) (step_of heap.old.shapes (Slot.Field name)))) }
+    ensures memory { IfErr result (λ stop. stop ≡ Stop.NoMemory → IsBelow heap.old heap.old.cap (part_at (map_of heap.old) (part_in registers.old from) (step_of heap.old.shapes (Slot.Field name))) → ⊥) }
     ensures kept { SameTable heap.old heap.new }
 {
     match part(heap, registers, to, from, Slot::Field(name)) {
@@ -50,6 +54,8 @@ fn part(
     ensures turns { Turns heap.old heap.new registers.old registers.new }
     ensures value { OnOk result (GivesPart heap.old heap.new registers.old registers.new to from (step_of heap.old.shapes slot)) }
     ensures stop { IfErr result (LacksPart heap.old registers.old from (step_of heap.old.shapes slot)) }
+    ensures shares { OnOk result (PutsSecond heap.old heap.new registers.old registers.new to (part_at (map_of heap.old) (part_in registers.old from) (step_of heap.old.shapes slot))) }
+    ensures memory { IfErr result (λ stop. stop ≡ Stop.NoMemory → IsBelow heap.old heap.old.cap (part_at (map_of heap.old) (part_in registers.old from) (step_of heap.old.shapes slot)) → ⊥) }
     ensures kept { SameTable heap.old heap.new }
 {
     let index = from as usize;
@@ -72,6 +78,8 @@ fn second(heap: &mut Heap, place: &Place, slot: Slot) -> Result<Place, Stop>
     ensures there { OnOk result (IsSlot heap.old place.now slot) }
     ensures value { IfOk result (λ made. (d : Datum) → Means (map_of heap.old) d place.now → Means (map_of heap.new) (child d (step_of heap.old.shapes slot)) made) }
     ensures stop { IfErr result (λ stop. stop ≡ Stop.Stuck → IsSlot heap.old place.now slot → ⊥) }
+    ensures below { IfOk result (λ made. let p = part_at (map_of heap.old) place.now (step_of heap.old.shapes slot) in IsBelow heap.old heap.old.cap p → (made ≡ p) × (map_of heap.new ≡ map_of heap.old) × (heap.new.copies ≡ heap.old.copies)) }
+    ensures memory { IfErr result (λ stop. stop ≡ Stop.NoMemory → IsBelow heap.old heap.old.cap (part_at (map_of heap.old) place.now (step_of heap.old.shapes slot)) → ⊥) }
     ensures no_memory { OnErr result (IsAsBefore heap.old heap.new) }
     ensures kept { SameTable heap.old heap.new }
 {

@@ -1,5 +1,5 @@
 //! The slots of a heap that the steps of a path lead to.
-ghost use Rattle.std.specs.Prelude.{◌≡◌, ◌<◌, pos, int_le, true, false, OnOk, IfErr, MatchOption, length, min, slice_index_or};
+ghost use Rattle.std.specs.Prelude.{◌≡◌, ◌<◌, ◌≤◌, vec_capacity, pos, int_le, true, false, OnOk, IfErr, MatchOption, length, min, slice_index_or};
 ghost use Rattle.wy_sem.specs.Operations.{nat_of};
 ghost use Rattle.wy_mach.specs.Showing.{AreRegisters};
 ghost use Rattle.wy_mach.specs.Paths.{IsSlotOf, AreSlotsOf, LacksSlot, LacksSlots};
@@ -19,6 +19,8 @@ pub(crate) fn slots(
     requires held { AreRegisters heap.now registers.now }
     ensures value { OnOk result (AreSlotsOf heap.now registers.now steps.now path.new.items) }
     ensures stop { IfErr result (λ stop. stop ≡ Stop.Stuck → LacksSlots heap.now registers.now steps.now) }
+    ensures memory { IfErr result (λ stop. stop ≡ Stop.NoMemory → vec_capacity path.old < length steps.now) }
+    ensures room { vec_capacity path.old ≤ vec_capacity path.new }
 {
     path.clear();
     if path.reserve(steps.len()).is_err() {

@@ -1,5 +1,5 @@
 //! The instructions that go on behind and print nothing.
-ghost use Rattle.std.specs.Prelude.{◌≡◌, OnOk, OnErr, IfErr};
+ghost use Rattle.std.specs.Prelude.{◌≡◌, ◌≤◌, vec_capacity, OnOk, OnErr, IfErr};
 ghost use Rattle.wy_value.specs.Shapes.{IsShapes};
 ghost use Rattle.wy_heap.specs.Nodes.{map_of};
 ghost use Rattle.wy_heap.specs.Extending.{Extends};
@@ -7,6 +7,7 @@ ghost use Rattle.wy_heap.specs.Standing.{SameTable};
 ghost use Rattle.wy_step.specs.Step.{effect};
 ghost use Rattle.wy_mach.specs.Showing.{WentOn, HasNone, IsStop, Turns, AreRegisters};
 ghost use Rattle.wy_mach.specs.Running.{IsPlain, IsMoving, HasInt, MayTakeMemory, stop_result};
+ghost use Rattle.wy_mach.specs.SharedTurns.{SharesIn, WantsIn};
 
 use crate::comparing::equal;
 use crate::filling::fill;
@@ -41,8 +42,11 @@ pub(crate) fn plain(
     requires int { HasInt instr.now }
     ensures turns { Turns heap.old heap.new registers.old registers.new }
     ensures value { OnOk result (WentOn (map_of heap.old) (map_of heap.new) registers.old registers.new (effect shapes.now instr.now)) }
+    ensures shares { OnOk result (SharesIn instr.now heap.old heap.new registers.old registers.new) }
     ensures stop { IfErr result (IsStop (map_of heap.old) registers.old (effect shapes.now instr.now)) }
     ensures memory { IfErr result (λ stop. stop ≡ Stop.NoMemory → MayTakeMemory instr.now) }
+    ensures wants { IfErr result (λ stop. stop ≡ Stop.NoMemory → WantsIn instr.now heap.old registers.old (vec_capacity path.old)) }
+    ensures room { vec_capacity path.old ≤ vec_capacity path.new }
     ensures kept { SameTable heap.old heap.new }
 {
     match instr {
@@ -84,6 +88,7 @@ fn moving(
     requires int { HasInt instr.now }
     ensures turns { Turns heap.old heap.new registers.old registers.new }
     ensures value { OnOk result (WentOn (map_of heap.old) (map_of heap.new) registers.old registers.new (effect shapes.now instr.now)) }
+    ensures shares { OnOk result (SharesIn instr.now heap.old heap.new registers.old registers.new) }
     ensures stuck { OnErr result (HasNone (map_of heap.old) registers.old (effect shapes.now instr.now)) }
     ensures kept { SameTable heap.old heap.new }
 {

@@ -9,7 +9,8 @@ ghost use Rattle.wy_heap.specs.Standing.{SameTable};
 ghost use Rattle.wy_code.specs.declared.instructions.Instr.{Instr};
 ghost use Rattle.wy_step.specs.Step.{effect};
 ghost use Rattle.wy_mach.specs.Showing.{WentOn, IsStop, Turns, AreRegisters};
-ghost use Rattle.wy_mach.specs.Taking.{AreTaken, TakenTurns, GivesMade};
+ghost use Rattle.wy_mach.specs.Taking.{taken, emptied, AreTaken, TakenTurns, GivesMade};
+ghost use Rattle.wy_mach.specs.Sharing.{PutsNew, shape_form};
 ghost use Rattle.wy_mach.specs.Records.{record_made};
 
 use crate::making::{release_all, take_all};
@@ -37,6 +38,7 @@ pub fn record(
     ensures turns { Turns heap.old heap.new registers.old registers.new }
     ensures value { OnOk result (WentOn (map_of heap.old) (map_of heap.new) registers.old registers.new (effect shapes.now (Instr.Record to shape numbers.now))) }
     ensures stop { IfErr result (λ stop. IsStop (map_of heap.old) registers.old (effect shapes.now (Instr.Record to shape numbers.now)) stop) }
+    ensures shares { OnOk result (PutsNew heap.old heap.new (emptied registers.old numbers.now) registers.new to (shape_form heap.old.shapes shape) (taken registers.old numbers.now)) }
     ensures kept { SameTable heap.old heap.new }
     ensures copies { heap.new.copies ≡ heap.old.copies }
 {
@@ -64,6 +66,7 @@ fn record_of(
     requires shape { HasShape heap.old.shapes shape (length items.items) }
     ensures turns { TakenTurns heap.old heap.new items.items registers.old registers.new }
     ensures value { OnOk result ((list : List ℕ) → slice_get heap.old.shapes.lists shape ≡ Some list → GivesMade heap.old heap.new items.items registers.old registers.new to (record_made (named heap.old.shapes.names list))) }
+    ensures shares { OnOk result (PutsNew heap.old heap.new registers.old registers.new to (shape_form heap.old.shapes shape) items.items) }
     ensures no_memory { IfErr result (λ stop. stop ≡ Stop.NoMemory) }
     ensures kept { SameTable heap.old heap.new }
     ensures copies { heap.new.copies ≡ heap.old.copies }

@@ -2,7 +2,9 @@
 ghost use Rattle.std.specs.Prelude.{◌≡◌, ◌<◌, ◌∷◌, [], ◌++◌, ℕ, List, length, slice_set, slice_index_or};
 ghost use Rattle.wy_heap.specs.declared.part.Part.{Part};
 ghost use Rattle.wy_heap.specs.declared.part.Part.TheVariants.{Null};
+ghost use Rattle.wy_heap.specs.Nodes.{map_of};
 ghost use Rattle.wy_heap.specs.Standing.{Stands, Acts, SameTable};
+ghost use Rattle.wy_heap.specs.Changing.{Lasts};
 ghost use Rattle.wy_mach.specs.Showing.{IsBeside, Puts};
 
 use std::mem;
@@ -14,6 +16,7 @@ pub fn put(heap: &mut Heap, registers: &mut [Place], number: u32, place: Place)
     requires held { IsBeside heap.old place registers.old }
     ensures registers { registers.new ≡ slice_set registers.old number place }
     ensures acts { Puts heap.old heap.new registers.old place registers.new }
+    ensures lasts { Lasts (map_of heap.old) (map_of heap.new) }
     ensures kept { SameTable heap.old heap.new }
     ensures copies { heap.new.copies ≡ heap.old.copies }
 {

@@ -7,6 +7,7 @@ ghost use Rattle.wy_code.specs.declared.routines.Routine.{Routine};
 ghost use Rattle.wy_step.specs.Step.{State, after};
 ghost use Rattle.wy_mach.specs.States.{IsMachine, HasInts};
 ghost use Rattle.wy_mach.specs.Running.{Ran, PrintsFront, ShowsFirst, state_behind};
+ghost use Rattle.wy_mach.specs.SharedTurns.{DoneShared, RanShared};
 
 use crate::machine::{Machine, Turn};
 use std::alloc::Global;
@@ -51,6 +52,7 @@ pub fn run<O: Sink>(
     requires args { AreValues (seen_items args.now) }
     requires cap { 1 ≤ cap }
     ensures ran { IfOk result (Ran (state_behind code.now entry (map seen args.now) steps) has_result (O.taken out.old) (O.taken out.new) (O.faults out.old) (O.faults out.new)) }
+    ensures shared { IfOk result (RanShared code.now entry (map seen args.now) steps cap) }
     ensures no_memory { OnErr result (PrintsFront (O.taken out.old) (O.taken out.new) (state_behind code.now entry (map seen args.now) steps)) }
     ensures count { O.faults out.old ≤ O.faults out.new }
 {
@@ -72,6 +74,7 @@ fn turns<O: Sink>(
     requires is { IsMachine code.now machine.old }
     ensures is { IsMachine code.now machine.new }
     ensures ran { IfOk result (λ end. (st : State) → ShowsFirst machine.old st → Ran (after code.now steps st) machine.old.has_result (O.taken out.old) (O.taken out.new) (O.faults out.old) (O.faults out.new) end) }
+    ensures shared { IfOk result (DoneShared code.now machine.old steps) }
     ensures no_memory { OnErr result ((st : State) → ShowsFirst machine.old st → PrintsFront (O.taken out.old) (O.taken out.new) (after code.now steps st)) }
     ensures count { O.faults out.old ≤ O.faults out.new }
 {

@@ -1,5 +1,5 @@
 //! The start of a run.
-ghost use Rattle.std.specs.Prelude.{◌≡◌, ◌≤◌, ◌-◌, [], ◌++◌, Some, IfOk, OnOk, length, map, slice_get};
+ghost use Rattle.std.specs.Prelude.{◌≡◌, ◌≤◌, ◌-◌, [], ◌++◌, Some, IfOk, OnOk, length, map, slice_get, vec_capacity};
 ghost use Rattle.wy_value.specs.Seen.{seen, seen_items};
 ghost use Rattle.wy_value.specs.Shapes.{IsShapes};
 ghost use Rattle.wy_value.specs.Values.{AreValues};
@@ -10,7 +10,7 @@ ghost use Rattle.wy_heap.specs.Standing.{Stands};
 ghost use Rattle.wy_code.specs.declared.routines.Routine.{Routine};
 ghost use Rattle.wy_step.specs.Step.{holding, empties};
 ghost use Rattle.wy_mach.specs.Showing.{Shows};
-ghost use Rattle.wy_mach.specs.States.{IsMachine, HasInts};
+ghost use Rattle.wy_mach.specs.States.{IsMachine, HasInts, PathsFit, RoutinesPathsFit, BodyPathsFit, InstrPathFits};
 ghost use Rattle.wy_mach.specs.Running.{Starts};
 
 use crate::entering::entry_registers;
@@ -18,7 +18,7 @@ use crate::frames::Frame;
 use crate::machine::Machine;
 use crate::making::release_all;
 use std::alloc::{AllocError, Global};
-use wy_code::{Code, Instr};
+use wy_code::{Code, Instr, Routine};
 use wy_data::Name;
 use wy_heap::{Heap, NoMemory, Place, Slot};
 use wy_items::Items;
@@ -46,6 +46,7 @@ impl Machine {
         ensures starts { IfOk result (Starts code.now entry (map seen args.now)) }
         ensures has_result { IfOk result (λ machine. machine.has_result ≡ has_result) }
         ensures copies { IfOk result (λ machine. machine.heap.copies ≡ 0) }
+        ensures cap { IfOk result (λ machine. machine.heap.cap ≡ cap) }
     {
         let Some(routine) = code.routines.get(entry as usize) else {
             unreachable!()
@@ -82,6 +83,7 @@ fn first_registers(
     ensures shows { IfOk result (λ all. Shows (map_of heap.new) (holding (map seen args.now) ++ empties (many - length (map seen args.now))) all.items) }
     ensures extends { OnOk result (Extends heap.old.shapes heap.new.shapes) }
     ensures copies { OnOk result (heap.new.copies ≡ heap.old.copies) }
+    ensures cap { OnOk result (heap.new.cap ≡ heap.old.cap) }
 {
     let places = imported(alloc, heap, args)?;
     match entry_registers(many, places) {
@@ -101,6 +103,7 @@ fn imported(alloc: Global, heap: &mut Heap, args: &[Value]) -> Result<Vec<Place>
     ensures mean { IfOk result (λ places. MeanAll (map_of heap.new) (seen_items args.now) places.items) }
     ensures extends { OnOk result (Extends heap.old.shapes heap.new.shapes) }
     ensures copies { OnOk result (heap.new.copies ≡ heap.old.copies) }
+    ensures cap { OnOk result (heap.new.cap ≡ heap.old.cap) }
 {
     let Ok(mut places) = Vec::with_capacity(alloc, args.len()) else {
         return Err(NoMemory);
@@ -118,26 +121,63 @@ fn imported(alloc: Global, heap: &mut Heap, args: &[Value]) -> Result<Vec<Place>
 }
 
 // room for the longest path of the code
-fn path_room(alloc: Global, code: &Code) -> Result<Vec<Slot>, NoMemory> {
-    let mut most = 0usize;
-    for routine in code.routines.as_slice() {
-        most = most.max(longest_path(routine.body.as_slice()));
-    }
+fn path_room(alloc: Global, code: &Code) -> Result<Vec<Slot>, NoMemory>
+    ensures { IfOk result (λ path. PathsFit code.now (vec_capacity path)) }
+{
+    let most = longest_of(code.routines.as_slice());
     match Vec::with_capacity(alloc, most) {
         Ok(path) => Ok(path),
         Err(_) => Err(NoMemory),
     }
 }
 
-// how many steps the longest path of these has
-fn longest_path(body: &[Instr]) -> usize {
+// how many steps the longest path of these routines has
+fn longest_of(routines: &[Routine]) -> usize
+    ensures { RoutinesPathsFit routines.now result }
+{
     let mut most = 0usize;
-    for instr in body {
-        if let Instr::Put(_, steps, _) = instr {
-            most = most.max(steps.len());
-        }
+    for f in 0..routines.len() {
+        most = longer_in(most, &routines[f]);
     }
     most
+}
+
+// the longest path of a routine, where that is longer
+fn longer_in(most: usize, routine: &Routine) -> usize
+    ensures more { most ≤ result }
+    ensures fits { BodyPathsFit routine.now.body result }
+{
+    let longest = longest_path(routine.body.as_slice());
+    if longest > most { longest } else { most }
+}
+
+// how many steps the longest path of these has
+fn longest_path(body: &[Instr]) -> usize
+    ensures { BodyPathsFit body.now result }
+{
+    let mut most = 0usize;
+    for i in 0..body.len() {
+        most = longer(most, &body[i]);
+    }
+    most
+}
+
+// the path of an instruction, where that is longer
+fn longer(most: usize, instr: &Instr) -> usize
+    ensures more { most ≤ result }
+    ensures fits { InstrPathFits instr.now result }
+{
+    match instr {
+        Instr::Put(_, steps, _) => longest_one(most, steps.len()),
+        _ => most,
+    }
+}
+
+fn longest_one(most: usize, other: usize) -> usize
+    ensures more { most ≤ result }
+    ensures other { other ≤ result }
+{
+    if other > most { other } else { most }
 }
 
 // the same table once more

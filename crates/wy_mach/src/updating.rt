@@ -1,5 +1,5 @@
 //! The instruction `Put`.
-ghost use Rattle.std.specs.Prelude.{◌≡◌, ◌∷◌, [], ◌++◌, ℕ, List, OnOk, IfErr};
+ghost use Rattle.std.specs.Prelude.{◌≡◌, ◌≤◌, length, vec_capacity, ◌∷◌, [], ◌++◌, ℕ, List, OnOk, IfErr};
 ghost use Rattle.wy_value.specs.declared.shapes.Shapes.{Shapes};
 ghost use Rattle.wy_heap.specs.declared.part.Part.{Part};
 ghost use Rattle.wy_heap.specs.Nodes.{map_of};
@@ -11,6 +11,8 @@ ghost use Rattle.wy_step.specs.Step.{effect};
 ghost use Rattle.wy_mach.specs.Showing.{WentOn, IsStop, Turns, AreRegisters};
 ghost use Rattle.wy_mach.specs.Taking.{AreTaken, TakenTurns, GivesMade};
 ghost use Rattle.wy_mach.specs.Paths.{written_made};
+ghost use Rattle.wy_heap.specs.Putting.{Sole};
+ghost use Rattle.wy_mach.specs.Writing.{PutsAlong, WritesPath, IsNotSole};
 
 use crate::paths::slots;
 use crate::registers::{put, take};
@@ -35,6 +37,9 @@ pub fn update(
     ensures turns { Turns heap.old heap.new registers.old registers.new }
     ensures value { OnOk result ((shapes : Shapes) → Extends shapes heap.old.shapes → WentOn (map_of heap.old) (map_of heap.new) registers.old registers.new (effect shapes (Instr.Put whole steps.now from))) }
     ensures stop { IfErr result (λ stop. (shapes : Shapes) → Extends shapes heap.old.shapes → IsStop (map_of heap.old) registers.old (effect shapes (Instr.Put whole steps.now from)) stop) }
+    ensures shares { OnOk result (WritesPath heap.old heap.new registers.old registers.new whole steps.now from) }
+    ensures memory { IfErr result (λ stop. stop ≡ Stop.NoMemory → length steps.now ≤ vec_capacity path.old → IsNotSole heap.old registers.old whole steps.now from) }
+    ensures room { vec_capacity path.old ≤ vec_capacity path.new }
     ensures kept { SameTable heap.old heap.new }
 {
     match slots(heap, registers, steps, path) {
@@ -67,6 +72,8 @@ fn written(
     ensures turns { TakenTurns heap.old heap.new (item ∷ place ∷ []) registers.old registers.new }
     ensures value { OnOk result (GivesMade heap.old heap.new (item ∷ place ∷ []) registers.old registers.new whole (written_made (steps_of heap.old.shapes path.now))) }
     ensures stop { IfErr result (λ stop. stop ≡ Stop.Stuck → IsPath heap.old place path.now → ⊥) }
+    ensures shares { OnOk result (PutsAlong heap.old heap.new registers.old registers.new whole place item (steps_of heap.old.shapes path.now)) }
+    ensures memory { IfErr result (λ stop. stop ≡ Stop.NoMemory → Sole heap.old place (steps_of heap.old.shapes path.now) → ⊥) }
     ensures kept { SameTable heap.old heap.new }
 {
     let mut place = place;

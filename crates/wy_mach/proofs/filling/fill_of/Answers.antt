@@ -1,8 +1,11 @@
-use Rattle.std.proofs.Common.{◌∷◌, []}
+use Rattle.std.proofs.Common.{◌∷◌, [], ◌++◌}
 use Rattle.wy_heap.specs.Nodes.{map_of}
+use Rattle.wy_heap.proofs.LeadLemmas.{among_meant}
 use Rattle.wy_mach.specs.Filling.{filled}
 use Rattle.wy_mach.proofs.MakeLemmas.{taken_are_held, made_beside, made_turns, gives_made, refused_held, refused_turns}
 use Rattle.wy_mach.proofs.FillLemmas.{fill_means, one_list}
+use Rattle.wy_mach.proofs.RegisterLemmas.{among_first}
+use Rattle.wy_mach.proofs.ShareLemmas.{puts_filled}
 use Rattle.wy_mach.proofs.filling.fill_of.Goals as goal
 
 pub fill-requires : goal.fill-requires
@@ -26,3 +29,12 @@ release-requires c = record { held = refused_held c.args.heap.now c.fill.new.sel
 pub returns-in-Err-clause-turns : goal.returns-in-Err-clause-turns
 returns-in-Err-clause-turns c =
     refused_turns c.args.heap.now c.fill.new.self c.release.new.self (c.args.item ∷ []) c.args.registers.now (c.in-Err.item ∷ []) (one_list c.in-Err.item c.args.item c.in-Err.ensures.back) c.in-Err.ensures.no_memory c.fill.ensures.kept c.release.ensures.acts
+
+pub returns-in-Ok-clause-shares : goal.returns-in-Ok-clause-shares
+returns-in-Ok-clause-shares c =
+    let h = c.args.heap.now in
+    let item = c.args.item in
+    let held = c.requires.held in
+    let meant = among_meant h (item ∷ (c.args.registers.now ++ held.0)) item held.1.counts (among_first item (c.args.registers.now ++ held.0)) in
+    puts_filled h c.fill.new.self c.put.new.heap c.args.registers.now c.put.new.registers c.args.to c.args.many item c.in-Ok.made c.in-Ok.ensures.new c.fill.ensures.below c.in-Ok.ensures.others c.in-Ok.ensures.value meant held.1.within
+    c.put.ensures.registers c.put.ensures.lasts c.put.ensures.copies

@@ -1,11 +1,13 @@
-use Rattle.std.proofs.Common.{◌≡◌, ℕ, None, sym, ◌∙◌, subst, arith, rules}
+use Rattle.std.proofs.Common.{◌≡◌, ℕ, None, sym, ◌∙◌, subst, arith, rules, ap}
 use Rattle.std.specs.Int.{w128}
 use Rattle.std.proofs.lemmas.Int.{to_z-of_z}
 use mir.Val.{SFits}
 use Rattle.wy_heap.specs.Nodes.{map_of}
 use Rattle.wy_heap.specs.Meaning.{Means}
-use Rattle.wy_heap.specs.Slots.{child, item_at}
+use Rattle.wy_heap.specs.Slots.{child, item_at, part_at}
 use Rattle.wy_mach.proofs.ItemLemmas.{item_there, item_within, item_somewhere, same_pos}
+use Rattle.wy_heap.specs.Parts.{IsBelow}
+use Rattle.wy_mach.proofs.ShareLemmas.{same_part, no_part}
 use Rattle.wy_mach.proofs.items.second_item.Goals as goal
 
 pub returns-in_default-clause-stop : goal.returns-in_default-clause-stop
@@ -34,3 +36,21 @@ pub returns-in-Ok-clause-value : goal.returns-in-Ok-clause-value
 returns-in-Ok-clause-value c i d e means =
     let fits : SFits w128 c.args.number = search rules in
     subst (λ (j : ℕ). Means (map_of c.get.new.self) (child d (item_at j)) c.in-Ok.made) (same_pos c.in-Some-index_in.index i (sym c.in-Some-index_in.ensures.0 ∙ to_z-of_z w128 c.args.number fits ∙ e)) (c.in-Ok.ensures.value d means)
+
+pub returns-in-Ok-clause-below : goal.returns-in-Ok-clause-below
+returns-in-Ok-clause-below c i e under =
+    let h = c.args.heap.now in
+    let p = c.args.place.now in
+    let fits : SFits w128 c.args.number = search rules in
+    let at : c.in-Some-index_in.index ≡ i = same_pos c.in-Some-index_in.index i (sym c.in-Some-index_in.ensures.0 ∙ to_z-of_z w128 c.args.number fits ∙ e) in
+    let told = c.get.ensures.below (subst (λ (j : ℕ). IsBelow h h.cap (part_at (map_of h) p (item_at j))) (sym at) under) in
+    (same_part c.in-Ok.made (part_at (map_of h) p (item_at c.in-Some-index_in.index)) c.get.result c.in-Ok.is told.0 ∙ ap (λ (j : ℕ). part_at (map_of h) p (item_at j)) at, told.1, told.2)
+
+pub returns-in-Err-clause-memory : goal.returns-in-Err-clause-memory
+returns-in-Err-clause-memory c none i e under =
+    let h = c.args.heap.now in
+    let p = c.args.place.now in
+    let fits : SFits w128 c.args.number = search rules in
+    let at : c.in-Some-index_in.index ≡ i = same_pos c.in-Some-index_in.index i (sym c.in-Some-index_in.ensures.0 ∙ to_z-of_z w128 c.args.number fits ∙ e) in
+    let told = c.get.ensures.below (subst (λ (j : ℕ). IsBelow h h.cap (part_at (map_of h) p (item_at j))) (sym at) under) in
+    no_part c.in-Err.field-0 (part_at (map_of h) p (item_at c.in-Some-index_in.index)) c.get.result c.in-Err.is told.0

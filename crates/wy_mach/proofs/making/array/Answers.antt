@@ -1,10 +1,12 @@
 use Rattle.wy_value.specs.declared.shapes.Shapes.{Shapes}
-use Rattle.wy_heap.specs.Nodes.{map_of}
+use Rattle.wy_heap.specs.Nodes.{map_of, list_form}
 use Rattle.wy_code.specs.declared.instructions.Instr.TheVariants as instr
 use Rattle.wy_step.specs.Step.{effect, gives}
 use Rattle.wy_mach.specs.Showing.{WentOn}
-use Rattle.wy_mach.specs.Taking.{GivesMade, array_made}
+use Rattle.wy_mach.specs.Taking.{GivesMade, array_made, taken, emptied}
 use Rattle.wy_mach.proofs.MakeLemmas.{on_ok, are_taken, taken_turns, taken_goes, take_stops}
+use Rattle.wy_mach.specs.Sharing.{PutsNew}
+use Rattle.wy_mach.proofs.ShareLemmas.{puts_new_as}
 use Rattle.wy_mach.proofs.making.array.Goals as goal
 
 pub array_of-requires : goal.array_of-requires
@@ -29,3 +31,14 @@ returns-in-Ok-clause-value c =
 pub returns-in-Err-clause-stop : goal.returns-in-Err-clause-stop
 returns-in-Err-clause-stop c shapes =
     take_stops c.args.heap.now c.args.registers.now c.args.numbers.now (λ s vs last. gives last c.args.to (array_made vs)) c.in-Err.stop c.in-Err.ensures.stuck
+
+pub returns-in-Ok-clause-shares : goal.returns-in-Ok-clause-shares
+returns-in-Ok-clause-shares c =
+    let h = c.args.heap.now in
+    let n = c.array_of.new.heap in
+    let ps = c.args.registers.now in
+    let rs = c.args.numbers.now in
+    let qs = c.array_of.new.registers in
+    let form = list_form in
+    on_ok c.array_of.result (PutsNew h n c.take_all.new.registers qs c.args.to form c.in-Ok.items.items) (PutsNew h n (emptied ps rs) qs c.args.to form (taken ps rs))
+    (puts_new_as h n c.take_all.new.registers (emptied ps rs) qs c.args.to form (taken ps rs) c.in-Ok.items.items c.in-Ok.ensures.taken.1 c.in-Ok.ensures.taken.0) c.array_of.ensures.shares

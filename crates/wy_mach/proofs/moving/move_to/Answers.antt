@@ -1,10 +1,12 @@
-use Rattle.std.proofs.Common.{◌<◌, ◌≤◌, length, None, rules}
+use Rattle.std.proofs.Common.{◌<◌, ◌≤◌, length, None, rules, refl, get_or, set}
 use Rattle.wy_heap.specs.Nodes.{map_of}
 use Rattle.wy_sem.specs.Expressions.{put, slot}
 use Rattle.wy_step.specs.Step.{gives}
 use Rattle.wy_mach.proofs.RegisterLemmas.{slot_beyond}
 use Rattle.wy_mach.proofs.NumberLemmas.{there_none}
 use Rattle.wy_mach.proofs.MoveLemmas.{taken_beside, moved_turns, moved_goes}
+use Rattle.wy_heap.specs.declared.part.Part.TheVariants.{Null}
+use Rattle.wy_mach.proofs.ShareLemmas.{puts_in}
 use Rattle.wy_mach.proofs.moving.move_to.Goals as goal
 
 pub returns-then-from-registers-clause-stuck : goal.returns-then-from-registers-clause-stuck
@@ -26,3 +28,9 @@ pub returns-clause-value : goal.returns-clause-value
 returns-clause-value c shapes =
     let below : c.args.from < length c.args.registers.now = search rules in
     moved_goes c.args.heap.now c.put.new.heap c.take-place.result c.args.registers.now c.take-place.new.registers c.put.new.registers c.args.from c.args.to c.take-place.ensures.value below c.take-place.ensures.registers c.put.ensures.registers c.requires.held c.put.ensures.acts
+
+pub returns-clause-shares : goal.returns-clause-shares
+returns-clause-shares c =
+    let h = c.args.heap.now in
+    let ps = c.args.registers.now in
+    puts_in h h c.put.new.heap c.take-place.new.registers (set ps c.args.from Null) c.put.new.registers c.args.to (get_or ps c.args.from Null) c.take-place.result refl refl c.take-place.ensures.registers c.take-place.ensures.value c.put.ensures.registers c.put.ensures.lasts c.put.ensures.copies

@@ -1,10 +1,18 @@
-use Rattle.std.proofs.Common.{◌<◌, ◌≤◌, length, get_or, refl, rules}
+use Rattle.std.proofs.Common.{◌≡◌, ◌<◌, ◌≤◌, length, get_or, refl, rules, subst, sym, ◌∙◌}
+use Rattle.std.specs.Prelude.{Ok}
 use Rattle.wy_heap.specs.Nodes.{map_of}
 use Rattle.wy_sem.specs.Expressions.{slot}
 use Rattle.wy_step.specs.Step.{gives}
 use Rattle.wy_mach.proofs.RegisterLemmas.{read_part, slot_beyond}
 use Rattle.wy_mach.proofs.NumberLemmas.{there_none}
 use Rattle.wy_mach.proofs.MoveLemmas.{register_held, second_beside, second_turns, shared_goes, unchanged}
+use Rattle.wy_heap.specs.declared.part.Part.TheVariants.{Null}
+use Rattle.wy_heap.specs.Parts.{IsBelow}
+use Rattle.wy_heap.specs.declared.part.Part.{Part}
+use Rattle.wy_mach.specs.declared.stop.Stop.{Stop}
+use Rattle.wy_mach.specs.declared.stop.Stop.TheVariants as stop
+use Rattle.wy_mach.proofs.TurnLemmas.{all_err}
+use Rattle.wy_mach.proofs.ShareLemmas.{puts_in, same_part}
 use Rattle.wy_mach.proofs.moving.share.Goals as goal
 
 pub returns-then-index-registers-clause-stop : goal.returns-then-index-registers-clause-stop
@@ -42,3 +50,24 @@ returns-clause-value c shapes =
     let p = get_or ps c.args.from c.index-registers-index.result in
     let below : c.args.from < length ps = search rules in
     shared_goes c.args.heap.now c.share.new.self c.put.new.heap p c.in_ok-made.made ps c.put.new.registers c.args.from c.args.to (read_part ps c.args.from p c.index-registers-index.result below refl) below c.requires.held c.in_ok-made.ensures.acts c.in_ok-made.ensures.value c.put.ensures.acts c.put.ensures.registers
+
+pub returns-clause-shares : goal.returns-clause-shares
+returns-clause-shares c under =
+    let h = c.args.heap.now in
+    let ps = c.args.registers.now in
+    let p = get_or ps c.args.from c.index-registers-index.result in
+    let below : c.args.from < length ps = search rules in
+    let is = read_part ps c.args.from p c.index-registers-index.result below refl in
+    let told = c.share.ensures.below (subst (λ (q : Part). IsBelow h h.cap q) (sym is) under) in
+    let was : c.share.result ≡ Ok c.in_ok-made.made = search rules in
+    puts_in h c.share.new.self c.put.new.heap ps ps c.put.new.registers c.args.to (get_or ps c.args.from Null) c.in_ok-made.made told.1 told.2 refl (same_part c.in_ok-made.made p c.share.result was told.0 ∙ is) c.put.ensures.registers c.put.ensures.lasts c.put.ensures.copies
+
+pub returns-in_err-made-clause-memory : goal.returns-in_err-made-clause-memory
+returns-in_err-made-clause-memory c = all_err c.from_residual.result (λ (e : Stop). e ≡ stop.NoMemory → IsBelow c.args.heap.now c.args.heap.now.cap (get_or c.args.registers.now c.args.from Null) → ⊥) (λ e none under.
+    let h = c.args.heap.now in
+    let ps = c.args.registers.now in
+    let p = get_or ps c.args.from c.index-registers-index.result in
+    let below : c.args.from < length ps = search rules in
+    let is = read_part ps c.args.from p c.index-registers-index.result below refl in
+    let told = (c.share.ensures.below (subst (λ (q : Part). IsBelow h h.cap q) (sym is) under)).0 in
+    absurd (grind (rules, told)))

@@ -9,6 +9,7 @@ use Rattle.wy_step.specs.Step.{Effect, computes, where_so, there}
 use Rattle.wy_mach.specs.Operands.{Reads, number_in}
 use Rattle.wy_mach.proofs.RegisterLemmas.{scalar_turns}
 use Rattle.wy_mach.proofs.NumberLemmas.{computed_at, result_stuck, arith_goes}
+use Rattle.wy_mach.proofs.ShareLemmas.{puts_scalar}
 use Rattle.wy_mach.proofs.numbers.arith.Goals as goal
 
 pub returns-in_default-computed-clause-stuck : goal.returns-in_default-computed-clause-stuck
@@ -45,3 +46,7 @@ returns-clause-value c shapes =
     let exact = computed_at c.args.op x y (to_z w128 (of_z w128 x)) (to_z w128 (of_z w128 y)) c.computed.result (to_z-of_z w128 x fits_x) (to_z-of_z w128 y fits_y) c.computed.ensures.value in
     let told = subst (λ (r : Option ℤ). (next : ℤ → Effect) → computes c.args.op x y (λ n. where_so (is_int n) (next n)) ≡ there r next) c.in-Some-computed.is exact in
     arith_goes h c.put.new.heap ps c.put.new.registers c.args.to c.args.left c.args.right c.args.op c.in-Some.x c.in-Some-number.y c.in-Some-computed.z c.scalar.result c.requires.held left right told (c.scalar.ensures.value ∙ ap (λ (n : ℤ). part.Int n) (to_z-of_z w128 z fits_z)) c.put.ensures.acts c.put.ensures.registers
+
+pub returns-clause-shares : goal.returns-clause-shares
+returns-clause-shares c =
+    puts_scalar c.args.heap.now c.put.new.heap c.args.registers.now c.put.new.registers c.args.to c.scalar.result (λ k. ap (holds k) c.scalar.ensures.value) c.put.ensures.registers c.put.ensures.lasts c.put.ensures.copies

@@ -4,6 +4,7 @@ use Rattle.wy_mach.specs.Operands.{Reads, truth_in}
 use Rattle.wy_heap.specs.Nodes.{holds}
 use Rattle.wy_mach.proofs.RegisterLemmas.{scalar_turns}
 use Rattle.wy_mach.proofs.NumberLemmas.{negate_goes}
+use Rattle.wy_mach.proofs.ShareLemmas.{puts_scalar}
 use Rattle.wy_mach.proofs.numbers.negate.Goals as goal
 
 pub returns-clause-turns : goal.returns-clause-turns
@@ -18,3 +19,8 @@ returns-clause-value c shapes =
     let reads = subst (λ (r : Option Bool). Reads h ps c.args.from truth_in r) c.in-Some.is c.truth.ensures in
     let is : c.scalar.result ≡ part.Bool (not c.in-Some.b) = search rules in
     negate_goes h c.put.new.heap ps c.put.new.registers c.args.to c.args.from c.in-Some.b c.scalar.result c.requires.held reads is c.put.ensures.acts c.put.ensures.registers
+
+pub returns-clause-shares : goal.returns-clause-shares
+returns-clause-shares c =
+    let is : c.scalar.result ≡ part.Bool (not c.in-Some.b) = search rules in
+    puts_scalar c.args.heap.now c.put.new.heap c.args.registers.now c.put.new.registers c.args.to c.scalar.result (λ k. ap (holds k) is) c.put.ensures.registers c.put.ensures.lasts c.put.ensures.copies

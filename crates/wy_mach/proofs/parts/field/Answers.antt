@@ -8,3 +8,9 @@ returns-in-Ok-clause-value c shapes extends =
 pub returns-in-Err-clause-stop : goal.returns-in-Err-clause-stop
 returns-in-Err-clause-stop c shapes extends =
     field_stops c.args.heap.now shapes c.args.registers.now c.args.to c.args.from c.args.name c.in-Err.stop extends c.in-Err.ensures.stop
+
+pub returns-in-Ok-clause-shares : goal.returns-in-Ok-clause-shares
+returns-in-Ok-clause-shares c = c.in-Ok.ensures.shares
+
+pub returns-in-Err-clause-memory : goal.returns-in-Err-clause-memory
+returns-in-Err-clause-memory c = c.in-Err.ensures.memory

@@ -1,8 +1,13 @@
-use Rattle.std.proofs.Common.{◌<◌, ◌≤◌, length, get_or, refl, rules}
-use Rattle.wy_heap.specs.Slots.{step_of}
+use Rattle.std.proofs.Common.{◌<◌, ◌≤◌, length, get_or, refl, rules, subst, sym, ap, ◌∙◌}
+use Rattle.wy_heap.specs.Slots.{step_of, part_at}
 use Rattle.wy_mach.proofs.RegisterLemmas.{read_part}
 use Rattle.wy_mach.proofs.MoveLemmas.{register_held, second_beside, second_turns, unchanged}
 use Rattle.wy_mach.proofs.PartLemmas.{gives_part, lacks_beyond, lacks_by}
+use Rattle.wy_heap.specs.declared.part.Part.{Part}
+use Rattle.wy_heap.specs.declared.part.Part.TheVariants.{Null}
+use Rattle.wy_heap.specs.Nodes.{map_of}
+use Rattle.wy_heap.specs.Parts.{IsBelow}
+use Rattle.wy_mach.proofs.ShareLemmas.{puts_in}
 use Rattle.wy_mach.proofs.parts.part.Goals as goal
 
 pub returns-then-index-registers-clause-stop : goal.returns-then-index-registers-clause-stop
@@ -47,3 +52,24 @@ returns-in-Err-clause-stop c =
     let p = get_or ps c.args.from c.index-registers-index.result in
     let below : c.args.from < length ps = search rules in
     lacks_by c.args.heap.now ps c.args.from c.args.slot p c.in-Err.stop (read_part ps c.args.from p c.index-registers-index.result below refl) c.in-Err.ensures.stop
+
+pub returns-in-Ok-clause-shares : goal.returns-in-Ok-clause-shares
+returns-in-Ok-clause-shares c under =
+    let h = c.args.heap.now in
+    let ps = c.args.registers.now in
+    let step = step_of h.shapes c.args.slot in
+    let p = get_or ps c.args.from c.index-registers-index.result in
+    let below : c.args.from < length ps = search rules in
+    let here = read_part ps c.args.from p c.index-registers-index.result below refl in
+    let told = c.in-Ok.ensures.below (subst (λ (q : Part). IsBelow h h.cap (part_at (map_of h) q step)) (sym here) under) in
+    puts_in h c.second.new.heap c.put.new.heap ps ps c.put.new.registers c.args.to (part_at (map_of h) (get_or ps c.args.from Null) step) c.in-Ok.made told.1 told.2 refl (told.0 ∙ ap (λ (q : Part). part_at (map_of h) q step) here) c.put.ensures.registers c.put.ensures.lasts c.put.ensures.copies
+
+pub returns-in-Err-clause-memory : goal.returns-in-Err-clause-memory
+returns-in-Err-clause-memory c none under =
+    let h = c.args.heap.now in
+    let ps = c.args.registers.now in
+    let step = step_of h.shapes c.args.slot in
+    let p = get_or ps c.args.from c.index-registers-index.result in
+    let below : c.args.from < length ps = search rules in
+    let here = read_part ps c.args.from p c.index-registers-index.result below refl in
+    c.in-Err.ensures.memory none (subst (λ (q : Part). IsBelow h h.cap (part_at (map_of h) q step)) (sym here) under)

@@ -16,6 +16,7 @@ loop-i-init c =
       more = λ rest are. subst (λ (l : List of_heap.Slot). AreSlotsOf h ps steps (l ++ rest)) (sym empty) are;
       none = λ lacks. lacks;
       room = search rules;
+      kept = omega (arith, c.clear.ensures.capacity, c.reserve.ensures.capacity);
     }
 
 pub loop-i-preserved : goal.loop-i-preserved
@@ -36,6 +37,7 @@ loop-i-preserved c =
           (λ r a. c.loop-i.invariant.more r (subst (λ (l : List of_code.Slot). AreSlotsOf h ps l r) (sym here) a)) rest are);
       none = λ lacks. c.loop-i.invariant.none (subst (LacksSlots h ps) (sym here) (lacks_more h ps step (drop (i + 1) steps) lacks));
       room = omega (arith, c.push_reserved.ensures.len, c.push_reserved.ensures.capacity, c.loop-i.invariant.room, below);
+      kept = omega (arith, c.push_reserved.ensures.capacity, c.loop-i.invariant.kept);
     }
 
 pub returns-in_default-clause-stop : goal.returns-in_default-clause-stop

@@ -9,4 +9,5 @@ invariant-loop-i l = record {
   more : (rest : List Slot) → AreSlotsOf l.heap l.registers (drop l.i l.steps) rest → AreSlotsOf l.heap l.registers l.steps (l.path.items ++ rest);
   none : LacksSlots l.heap l.registers (drop l.i l.steps) → LacksSlots l.heap l.registers l.steps;
   room : vec_len l.path + (length l.steps - l.i) ≤ vec_capacity l.path;
+  kept : vec_capacity l.fn.path ≤ vec_capacity l.path;
 }

@@ -9,6 +9,7 @@ use Rattle.wy_mach.specs.Showing.{WentOn, HasNone, IsNoInt}
 use Rattle.wy_mach.proofs.MakeLemmas.{on_ok}
 use Rattle.wy_mach.specs.Running.{HasInt}
 use Rattle.wy_mach.proofs.TurnLemmas.{on_err, none_moves}
+use Rattle.wy_mach.specs.SharedTurns.{SharesIn}
 use Rattle.wy_mach.proofs.plain.moving.Goals as goal
 
 pub returns-in-Const-clause-value : goal.returns-in-Const-clause-value
@@ -172,3 +173,75 @@ returns-in-Kind-clause-stuck c =
 pub unreachable-requires : goal.unreachable-requires
 unreachable-requires c =
     none_moves c.args.instr.now c.requires.moving c.in_default.not-Const c.in_default.not-Move c.in_default.not-Clear c.in_default.not-Arith c.in_default.not-Compare c.in_default.not-Not c.in_default.not-Len c.in_default.not-Kind
+
+pub returns-in-Const-clause-shares : goal.returns-in-Const-clause-shares
+returns-in-Const-clause-shares c =
+    let h = c.args.heap.now in
+    let n = c.load.new.heap in
+    let ps = c.args.registers.now in
+    let qs = c.load.new.registers in
+    let is : c.args.instr.now ≡ instr.Const c.in-Const.to c.in-Const.constant = c.in-Const.is in
+    subst (λ (i : Instr). OnOk c.load.result (SharesIn i h n ps qs)) (sym is) c.load.ensures.shares
+
+pub returns-in-Move-clause-shares : goal.returns-in-Move-clause-shares
+returns-in-Move-clause-shares c =
+    let h = c.args.heap.now in
+    let n = c.move_to.new.heap in
+    let ps = c.args.registers.now in
+    let qs = c.move_to.new.registers in
+    let is : c.args.instr.now ≡ instr.Move c.in-Move.to c.in-Move.from = c.in-Move.is in
+    subst (λ (i : Instr). OnOk c.move_to.result (SharesIn i h n ps qs)) (sym is) c.move_to.ensures.shares
+
+pub returns-in-Clear-clause-shares : goal.returns-in-Clear-clause-shares
+returns-in-Clear-clause-shares c =
+    let h = c.args.heap.now in
+    let n = c.clear.new.heap in
+    let ps = c.args.registers.now in
+    let qs = c.clear.new.registers in
+    let is : c.args.instr.now ≡ instr.Clear c.as_slice.result.now = c.in-Clear.is ∙ ap (λ (l : List ℕ). instr.Clear l) (sym c.as_slice.ensures) in
+    subst (λ (i : Instr). SharesIn i h n ps qs) (sym is) (c.clear.ensures.shares, record { lasts = c.clear.ensures.lasts; copies = c.clear.ensures.copies })
+
+pub returns-in-Arith-clause-shares : goal.returns-in-Arith-clause-shares
+returns-in-Arith-clause-shares c =
+    let h = c.args.heap.now in
+    let n = c.arith.new.heap in
+    let ps = c.args.registers.now in
+    let qs = c.arith.new.registers in
+    let is : c.args.instr.now ≡ instr.Arith c.in-Arith.to c.in-Arith.op c.in-Arith.left c.in-Arith.right = c.in-Arith.is in
+    subst (λ (i : Instr). OnOk c.arith.result (SharesIn i h n ps qs)) (sym is) c.arith.ensures.shares
+
+pub returns-in-Compare-clause-shares : goal.returns-in-Compare-clause-shares
+returns-in-Compare-clause-shares c =
+    let h = c.args.heap.now in
+    let n = c.compare.new.heap in
+    let ps = c.args.registers.now in
+    let qs = c.compare.new.registers in
+    let is : c.args.instr.now ≡ instr.Compare c.in-Compare.to c.in-Compare.op c.in-Compare.left c.in-Compare.right = c.in-Compare.is in
+    subst (λ (i : Instr). OnOk c.compare.result (SharesIn i h n ps qs)) (sym is) c.compare.ensures.shares
+
+pub returns-in-Not-clause-shares : goal.returns-in-Not-clause-shares
+returns-in-Not-clause-shares c =
+    let h = c.args.heap.now in
+    let n = c.negate.new.heap in
+    let ps = c.args.registers.now in
+    let qs = c.negate.new.registers in
+    let is : c.args.instr.now ≡ instr.Not c.in-Not.to c.in-Not.from = c.in-Not.is in
+    subst (λ (i : Instr). OnOk c.negate.result (SharesIn i h n ps qs)) (sym is) c.negate.ensures.shares
+
+pub returns-in-Len-clause-shares : goal.returns-in-Len-clause-shares
+returns-in-Len-clause-shares c =
+    let h = c.args.heap.now in
+    let n = c.length.new.heap in
+    let ps = c.args.registers.now in
+    let qs = c.length.new.registers in
+    let is : c.args.instr.now ≡ instr.Len c.in-Len.to c.in-Len.from = c.in-Len.is in
+    subst (λ (i : Instr). OnOk c.length.result (SharesIn i h n ps qs)) (sym is) c.length.ensures.shares
+
+pub returns-in-Kind-clause-shares : goal.returns-in-Kind-clause-shares
+returns-in-Kind-clause-shares c =
+    let h = c.args.heap.now in
+    let n = c.kind.new.heap in
+    let ps = c.args.registers.now in
+    let qs = c.kind.new.registers in
+    let is : c.args.instr.now ≡ instr.Kind c.in-Kind.to c.in-Kind.from c.in-Kind.asked = c.in-Kind.is in
+    subst (λ (i : Instr). OnOk c.kind.result (SharesIn i h n ps qs)) (sym is) c.kind.ensures.shares

@@ -1,5 +1,5 @@
 use Rattle.std.proofs.Common.{◌≡◌, ℕ, List, sym, subst, ap, ◌∙◌}
-use Rattle.std.specs.Prelude.{OnOk, IfErr}
+use Rattle.std.specs.Prelude.{OnOk, IfErr, vec_capacity}
 use Rattle.wy_value.specs.declared.shapes.Shapes.{Shapes}
 use Rattle.wy_heap.specs.Nodes.{map_of}
 use Rattle.wy_heap.specs.Extending.{Extends}
@@ -13,6 +13,7 @@ use Rattle.wy_mach.specs.Showing.{WentOn, IsStop}
 use Rattle.wy_mach.proofs.MakeLemmas.{on_ok}
 use Rattle.wy_mach.specs.Running.{MayTakeMemory}
 use Rattle.wy_mach.proofs.TurnLemmas.{if_err, all_err, ok_of_stop, err_of_stop, not_memory, is_moving}
+use Rattle.wy_mach.specs.SharedTurns.{SharesIn, WantsIn}
 use Rattle.wy_mach.proofs.plain.plain.Goals as goal
 
 pub returns-in-Share-clause-value : goal.returns-in-Share-clause-value
@@ -239,3 +240,146 @@ returns-in_default-clause-stop c =
 
 pub returns-in_default-clause-memory : goal.returns-in_default-clause-memory
 returns-in_default-clause-memory c = not_memory c.moving.result c.stop_of.result (MayTakeMemory c.args.instr.now) c.stop_of.ensures
+
+pub returns-in-Share-clause-shares : goal.returns-in-Share-clause-shares
+returns-in-Share-clause-shares c =
+    let h = c.args.heap.now in
+    let n = c.share.new.heap in
+    let ps = c.args.registers.now in
+    let qs = c.share.new.registers in
+    let is : c.args.instr.now ≡ instr.Share c.in-Share.to c.in-Share.from = c.in-Share.is in
+    subst (λ (i : Instr). OnOk c.share.result (SharesIn i h n ps qs)) (sym is) c.share.ensures.shares
+
+pub returns-in-Equal-clause-shares : goal.returns-in-Equal-clause-shares
+returns-in-Equal-clause-shares c =
+    let h = c.args.heap.now in
+    let n = c.equal.new.heap in
+    let ps = c.args.registers.now in
+    let qs = c.equal.new.registers in
+    let is : c.args.instr.now ≡ instr.Equal c.in-Equal.to c.in-Equal.left c.in-Equal.right = c.in-Equal.is in
+    subst (λ (i : Instr). OnOk c.equal.result (SharesIn i h n ps qs)) (sym is) c.equal.ensures.shares
+
+pub returns-in-Array-clause-shares : goal.returns-in-Array-clause-shares
+returns-in-Array-clause-shares c =
+    let h = c.args.heap.now in
+    let n = c.array.new.heap in
+    let ps = c.args.registers.now in
+    let qs = c.array.new.registers in
+    let is : c.args.instr.now ≡ instr.Array c.in-Array.to c.as_slice.result.now = c.in-Array.is ∙ ap (λ (l : List ℕ). instr.Array c.in-Array.to l) (sym c.as_slice.ensures) in
+    subst (λ (i : Instr). OnOk c.array.result (SharesIn i h n ps qs)) (sym is) c.array.ensures.shares
+
+pub returns-in-Record-clause-shares : goal.returns-in-Record-clause-shares
+returns-in-Record-clause-shares c =
+    let h = c.args.heap.now in
+    let n = c.record.new.heap in
+    let ps = c.args.registers.now in
+    let qs = c.record.new.registers in
+    let is : c.args.instr.now ≡ instr.Record c.in-Record.to c.in-Record.shape c.as_slice-in-Record.result.now = c.in-Record.is ∙ ap (λ (l : List ℕ). instr.Record c.in-Record.to c.in-Record.shape l) (sym c.as_slice-in-Record.ensures) in
+    subst (λ (i : Instr). OnOk c.record.result (SharesIn i h n ps qs)) (sym is) c.record.ensures.shares
+
+pub returns-in-Fill-clause-shares : goal.returns-in-Fill-clause-shares
+returns-in-Fill-clause-shares c =
+    let h = c.args.heap.now in
+    let n = c.fill.new.heap in
+    let ps = c.args.registers.now in
+    let qs = c.fill.new.registers in
+    let is : c.args.instr.now ≡ instr.Fill c.in-Fill.to c.in-Fill.from c.in-Fill.count = c.in-Fill.is in
+    subst (λ (i : Instr). OnOk c.fill.result (SharesIn i h n ps qs)) (sym is) c.fill.ensures.shares
+
+pub returns-in-Get-clause-shares : goal.returns-in-Get-clause-shares
+returns-in-Get-clause-shares c =
+    let h = c.args.heap.now in
+    let n = c.item.new.heap in
+    let ps = c.args.registers.now in
+    let qs = c.item.new.registers in
+    let is : c.args.instr.now ≡ instr.Get c.in-Get.to c.in-Get.from c.in-Get.index = c.in-Get.is in
+    subst (λ (i : Instr). OnOk c.item.result (SharesIn i h n ps qs)) (sym is) c.item.ensures.shares
+
+pub returns-in-Field-clause-shares : goal.returns-in-Field-clause-shares
+returns-in-Field-clause-shares c =
+    let h = c.args.heap.now in
+    let n = c.field.new.heap in
+    let ps = c.args.registers.now in
+    let qs = c.field.new.registers in
+    let is : c.args.instr.now ≡ instr.Field c.in-Field.to c.in-Field.from c.in-Field.name = c.in-Field.is in
+    subst (λ (i : Instr). OnOk c.field.result (SharesIn i h n ps qs)) (sym is) c.field.ensures.shares
+
+pub returns-in-Put-clause-shares : goal.returns-in-Put-clause-shares
+returns-in-Put-clause-shares c =
+    let h = c.args.heap.now in
+    let n = c.update.new.heap in
+    let ps = c.args.registers.now in
+    let qs = c.update.new.registers in
+    let is : c.args.instr.now ≡ instr.Put c.in-Put.whole c.as_slice-in-Put.result.now c.in-Put.from = c.in-Put.is ∙ ap (λ (l : List Slot). instr.Put c.in-Put.whole l c.in-Put.from) (sym c.as_slice-in-Put.ensures) in
+    subst (λ (i : Instr). OnOk c.update.result (SharesIn i h n ps qs)) (sym is) c.update.ensures.shares
+
+pub returns-in_default-clause-shares : goal.returns-in_default-clause-shares
+returns-in_default-clause-shares c =
+    ok_of_stop c.moving.result c.stop_of.result (SharesIn c.args.instr.now c.args.heap.now c.moving.new.heap c.args.registers.now c.moving.new.registers) c.stop_of.ensures c.moving.ensures.shares
+
+pub returns-in-Share-clause-wants : goal.returns-in-Share-clause-wants
+returns-in-Share-clause-wants c =
+    let h = c.args.heap.now in
+    let ps = c.args.registers.now in
+    let is : c.args.instr.now ≡ instr.Share c.in-Share.to c.in-Share.from = c.in-Share.is in
+    let room = vec_capacity c.args.path.now in
+    subst (λ (i : Instr). IfErr c.share.result (λ (e : Stop). e ≡ stop.NoMemory → WantsIn i h ps room)) (sym is) c.share.ensures.memory
+
+pub returns-in-Equal-clause-wants : goal.returns-in-Equal-clause-wants
+returns-in-Equal-clause-wants c =
+    let h = c.args.heap.now in
+    let ps = c.args.registers.now in
+    let is : c.args.instr.now ≡ instr.Equal c.in-Equal.to c.in-Equal.left c.in-Equal.right = c.in-Equal.is in
+    let room = vec_capacity c.args.path.now in
+    all_err c.equal.result (λ (e : Stop). e ≡ stop.NoMemory → WantsIn c.args.instr.now h ps room) (λ e no. subst (λ (i : Instr). WantsIn i h ps room) (sym is) tt)
+
+pub returns-in-Array-clause-wants : goal.returns-in-Array-clause-wants
+returns-in-Array-clause-wants c =
+    let h = c.args.heap.now in
+    let ps = c.args.registers.now in
+    let is : c.args.instr.now ≡ instr.Array c.in-Array.to c.as_slice.result.now = c.in-Array.is ∙ ap (λ (l : List ℕ). instr.Array c.in-Array.to l) (sym c.as_slice.ensures) in
+    let room = vec_capacity c.args.path.now in
+    all_err c.array.result (λ (e : Stop). e ≡ stop.NoMemory → WantsIn c.args.instr.now h ps room) (λ e no. subst (λ (i : Instr). WantsIn i h ps room) (sym is) tt)
+
+pub returns-in-Record-clause-wants : goal.returns-in-Record-clause-wants
+returns-in-Record-clause-wants c =
+    let h = c.args.heap.now in
+    let ps = c.args.registers.now in
+    let is : c.args.instr.now ≡ instr.Record c.in-Record.to c.in-Record.shape c.as_slice-in-Record.result.now = c.in-Record.is ∙ ap (λ (l : List ℕ). instr.Record c.in-Record.to c.in-Record.shape l) (sym c.as_slice-in-Record.ensures) in
+    let room = vec_capacity c.args.path.now in
+    all_err c.record.result (λ (e : Stop). e ≡ stop.NoMemory → WantsIn c.args.instr.now h ps room) (λ e no. subst (λ (i : Instr). WantsIn i h ps room) (sym is) tt)
+
+pub returns-in-Fill-clause-wants : goal.returns-in-Fill-clause-wants
+returns-in-Fill-clause-wants c =
+    let h = c.args.heap.now in
+    let ps = c.args.registers.now in
+    let is : c.args.instr.now ≡ instr.Fill c.in-Fill.to c.in-Fill.from c.in-Fill.count = c.in-Fill.is in
+    let room = vec_capacity c.args.path.now in
+    all_err c.fill.result (λ (e : Stop). e ≡ stop.NoMemory → WantsIn c.args.instr.now h ps room) (λ e no. subst (λ (i : Instr). WantsIn i h ps room) (sym is) tt)
+
+pub returns-in-Get-clause-wants : goal.returns-in-Get-clause-wants
+returns-in-Get-clause-wants c =
+    let h = c.args.heap.now in
+    let ps = c.args.registers.now in
+    let is : c.args.instr.now ≡ instr.Get c.in-Get.to c.in-Get.from c.in-Get.index = c.in-Get.is in
+    let room = vec_capacity c.args.path.now in
+    subst (λ (i : Instr). IfErr c.item.result (λ (e : Stop). e ≡ stop.NoMemory → WantsIn i h ps room)) (sym is) c.item.ensures.memory
+
+pub returns-in-Field-clause-wants : goal.returns-in-Field-clause-wants
+returns-in-Field-clause-wants c =
+    let h = c.args.heap.now in
+    let ps = c.args.registers.now in
+    let is : c.args.instr.now ≡ instr.Field c.in-Field.to c.in-Field.from c.in-Field.name = c.in-Field.is in
+    let room = vec_capacity c.args.path.now in
+    subst (λ (i : Instr). IfErr c.field.result (λ (e : Stop). e ≡ stop.NoMemory → WantsIn i h ps room)) (sym is) c.field.ensures.memory
+
+pub returns-in-Put-clause-wants : goal.returns-in-Put-clause-wants
+returns-in-Put-clause-wants c =
+    let h = c.args.heap.now in
+    let ps = c.args.registers.now in
+    let is : c.args.instr.now ≡ instr.Put c.in-Put.whole c.as_slice-in-Put.result.now c.in-Put.from = c.in-Put.is ∙ ap (λ (l : List Slot). instr.Put c.in-Put.whole l c.in-Put.from) (sym c.as_slice-in-Put.ensures) in
+    let room = vec_capacity c.args.path.now in
+    subst (λ (i : Instr). IfErr c.update.result (λ (e : Stop). e ≡ stop.NoMemory → WantsIn i h ps room)) (sym is) c.update.ensures.memory
+
+pub returns-in_default-clause-wants : goal.returns-in_default-clause-wants
+returns-in_default-clause-wants c = not_memory c.moving.result c.stop_of.result (WantsIn c.args.instr.now c.args.heap.now c.args.registers.now (vec_capacity c.args.path.now)) c.stop_of.ensures

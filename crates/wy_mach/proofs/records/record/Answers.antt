@@ -4,10 +4,12 @@ use Rattle.wy_heap.specs.Nodes.{map_of}
 use Rattle.wy_code.specs.declared.instructions.Instr.TheVariants as instr
 use Rattle.wy_step.specs.Step.{effect}
 use Rattle.wy_mach.specs.Showing.{WentOn}
-use Rattle.wy_mach.specs.Taking.{GivesMade}
+use Rattle.wy_mach.specs.Taking.{GivesMade, taken, emptied}
 use Rattle.wy_mach.specs.Records.{record_made}
 use Rattle.wy_mach.proofs.MakeLemmas.{on_ok, are_taken, taken_turns}
 use Rattle.wy_mach.proofs.RecordLemmas.{length-taken, fields_stuck, record_stops, record_goes}
+use Rattle.wy_mach.specs.Sharing.{PutsNew, shape_form}
+use Rattle.wy_mach.proofs.ShareLemmas.{puts_new_as}
 use Rattle.wy_mach.proofs.records.record.Goals as goal
 
 pub returns-then-len-numbers-clause-stop : goal.returns-then-len-numbers-clause-stop
@@ -54,3 +56,14 @@ pub returns-in-Err-clause-stop : goal.returns-in-Err-clause-stop
 returns-in-Err-clause-stop c =
     let is : slice_get c.args.shapes.now.lists c.args.shape ≡ Some c.in-Some.list.now = sym c.in-Some.ensures.value in
     record_stops c.args.heap.now c.args.registers.now c.args.shapes.now c.args.shape c.in-Some.list.now c.args.numbers.now c.args.to c.in-Err.stop is c.in-Err.ensures.stuck
+
+pub returns-in-Ok-clause-shares : goal.returns-in-Ok-clause-shares
+returns-in-Ok-clause-shares c =
+    let h = c.args.heap.now in
+    let n = c.record_of.new.heap in
+    let ps = c.args.registers.now in
+    let rs = c.args.numbers.now in
+    let qs = c.record_of.new.registers in
+    let form = (shape_form h.shapes c.args.shape) in
+    on_ok c.record_of.result (PutsNew h n c.take_all.new.registers qs c.args.to form c.in-Ok.items.items) (PutsNew h n (emptied ps rs) qs c.args.to form (taken ps rs))
+    (puts_new_as h n c.take_all.new.registers (emptied ps rs) qs c.args.to form (taken ps rs) c.in-Ok.items.items c.in-Ok.ensures.taken.1 c.in-Ok.ensures.taken.0) c.record_of.ensures.shares

@@ -1,8 +1,10 @@
-use Rattle.std.proofs.Common.{ap}
+use Rattle.std.proofs.Common.{ap, refl}
 use Rattle.wy_value.specs.Shapes.{named}
 use Rattle.wy_sem.specs.Expressions.{data_of}
 use Rattle.wy_mach.specs.Records.{record_made}
 use Rattle.wy_mach.proofs.MakeLemmas.{taken_are_held, made_beside, made_turns, gives_made, refused_held, refused_turns}
+use Rattle.wy_mach.specs.Sharing.{shape_form}
+use Rattle.wy_mach.proofs.ShareLemmas.{puts_new}
 use Rattle.wy_mach.proofs.records.record_of.Goals as goal
 
 pub record-requires-clause-held : goal.record-requires-clause-held
@@ -26,3 +28,9 @@ release_all-requires c =
 pub returns-in-Err-clause-turns : goal.returns-in-Err-clause-turns
 returns-in-Err-clause-turns c =
     refused_turns c.args.heap.now c.record.new.self c.release_all.new.heap c.args.items.items c.args.registers.now c.in-Err.items.items (ap (λ v. v.items) c.in-Err.ensures.back) c.in-Err.ensures.no_memory c.record.ensures.kept c.release_all.ensures.acts
+
+pub returns-in-Ok-clause-shares : goal.returns-in-Ok-clause-shares
+returns-in-Ok-clause-shares c =
+    let items = c.args.items.items in
+    let left = c.args.registers.now in
+    puts_new c.args.heap.now c.record.new.self c.put.new.heap left left c.put.new.registers c.args.to (shape_form c.args.heap.now.shapes c.args.shape) items items c.in-Ok.made c.in-Ok.ensures.new c.record.ensures.copies refl refl c.put.ensures.registers c.put.ensures.lasts c.put.ensures.copies

@@ -27,3 +27,9 @@ returns-then-index-registers-clause-acts c =
 pub returns-else-index-registers-clause-acts : goal.returns-else-index-registers-clause-acts
 returns-else-index-registers-clause-acts c =
     beyond_acts c.args.heap.now c.release-else-index-registers.new.self c.args.place c.args.registers.now c.release-else-index-registers.ensures.acts
+
+pub returns-then-index-registers-clause-lasts : goal.returns-then-index-registers-clause-lasts
+returns-then-index-registers-clause-lasts c = c.release.ensures.lasts
+
+pub returns-else-index-registers-clause-lasts : goal.returns-else-index-registers-clause-lasts
+returns-else-index-registers-clause-lasts c = c.release-else-index-registers.ensures.lasts

@@ -5,6 +5,7 @@ use Rattle.wy_mach.specs.declared.runs.RunEnd.{RunEnd}
 use Rattle.wy_mach.specs.Running.{Ran, PrintsFront, ShowsFirst, state_behind}
 use Rattle.wy_mach.proofs.TurnLemmas.{if_ok, on_err}
 use Rattle.wy_mach.proofs.RunLemmas.{no_front}
+use Rattle.wy_mach.specs.SharedTurns.{DoneShared, RanShared}
 use Rattle.wy_mach.proofs.runs.run.Goals as goal
 
 pub returns-in_default-clause-no_memory : goal.returns-in_default-clause-no_memory
@@ -38,3 +39,10 @@ returns-clause-no_memory g c =
     let now = g.O.Sink.taken c.turns-end.new.out in
     on_err c.turns-end.result ((st : State) → ShowsFirst k st → PrintsFront before now (after code c.args.steps st)) (PrintsFront before now (after code c.args.steps first))
     (λ front. front first c.in-Ok.ensures.starts) c.turns-end.ensures.no_memory
+
+pub returns-clause-shared : goal.returns-clause-shared
+returns-clause-shared g c =
+    let code = c.args.code.now in
+    let k = c.in-Ok.machine in
+    if_ok c.turns-end.result (DoneShared code k c.args.steps) (RanShared code c.args.entry (map seen c.args.args.now) c.args.steps c.args.cap)
+    (λ e done. record { first = k; is = c.in-Ok.ensures.is; starts = c.in-Ok.ensures.starts; cap_is = c.in-Ok.ensures.cap; none = c.in-Ok.ensures.copies; done = done }) c.turns-end.ensures.shared

@@ -3,12 +3,15 @@ use Rattle.wy_step.specs.Step.{State, after}
 use Rattle.wy_mach.specs.Running.{Turned, PrintsFront, ShowsFirst, next_in}
 use Rattle.wy_mach.proofs.TurnLemmas.{on_any_err}
 use Rattle.wy_mach.proofs.RunLemmas.{follows_first, follows_on, run_done, run_fault, run_front, run_stuck, run_spent, rose_later}
+use Rattle.wy_mach.specs.SharedTurns.{TurnsShared}
+use Rattle.wy_mach.proofs.SharedTurnLemmas.{along_more, ends_shared}
 use Rattle.wy_mach.proofs.runs.turns.Goals as goal
 
 pub loop-i-init : goal.loop-i-init
 loop-i-init g c = record {
   is = c.requires.is;
   follows = follows_first c.args.code.now c.args.machine.now (g.O.Sink.taken c.args.out.now) c.args.steps (c.args.steps - 0) (omega arith);
+  along = refl;
   has_result = refl;
   faults = omega arith;
 }
@@ -28,6 +31,7 @@ loop-i-preserved g c =
       is = c.turn.ensures.is;
       follows = follows_on code c.args.machine.now old new first before now steps (steps - i) (steps - (i + 1)) less c.loop-i.invariant.follows
           (subst (Turned (next_in code) old new before now (g.O.Sink.faults c.loop-i.out) (g.O.Sink.faults c.turn.new.out)) c.in-Went.is c.in_ok-turn.ensures.turned);
+      along = along_more code i (i + 1) c.args.machine.now old new (omega arith) c.loop-i.invariant.along (subst (TurnsShared code old new) c.in-Went.is c.in_ok-turn.ensures.shared);
       has_result = c.turn.ensures.has_result ∙ c.loop-i.invariant.has_result;
       faults = omega (arith, c.turn.ensures.count, c.loop-i.invariant.faults);
     }
@@ -85,3 +89,11 @@ pub returns-clause-ran : goal.returns-clause-ran
 returns-clause-ran g c st shows =
     let past : c.args.steps ≤ c.loop-i.i = search rules in
     run_spent c.args.code.now c.args.machine.now c.loop-i.machine (g.O.Sink.taken c.args.out.now) (g.O.Sink.taken c.loop-i.out) c.args.steps (c.args.steps - c.loop-i.i) (omega (arith, past)) c.loop-i.invariant.follows st shows
+
+pub returns-in-Done-clause-shared : goal.returns-in-Done-clause-shared
+returns-in-Done-clause-shared g c =
+    let code = c.args.code.now in
+    let old = c.loop-i.machine in
+    let new = c.turn.new.self in
+    let ends = subst (TurnsShared code old new) c.in-Done.is c.in_ok-turn.ensures.shared in
+    ends_shared code c.args.machine.now old c.loop-i.i c.args.steps c.in-Done.copies c.in-Done.nodes (omega (arith, c.loop-i-test.true)) c.loop-i.invariant.along ends.0 ends.1

@@ -15,6 +15,7 @@ loop-i-init c = record {
   mean = c.in-Ok.ensures.items;
   extends = extends_same c.args.heap.now.shapes c.args.heap.now.shapes refl;
   copies = refl;
+  cap = refl;
   room = search rules;
 }
 
@@ -38,6 +39,7 @@ loop-i-preserved c =
       mean = both.1;
       extends = extends_on c.args.heap.now.shapes h.shapes n.shapes c.loop-i.invariant.extends c.import.ensures.grew.extends;
       copies = c.import.ensures.grew.copies ∙ c.loop-i.invariant.copies;
+      cap = c.import.ensures.grew.cap ∙ c.loop-i.invariant.cap;
       room = omega (arith, c.push_reserved.ensures.len, c.push_reserved.ensures.capacity, c.loop-i.invariant.room, c.loop-i-test.true);
     }
 

@@ -13,5 +13,6 @@ invariant-loop-i l = record {
   mean : MeanAll (map_of l.heap) (seen_items (take l.i l.args)) l.places.items;
   extends : Extends l.fn.heap.shapes l.heap.shapes;
   copies : l.heap.copies ≡ l.fn.heap.copies;
+  cap : l.heap.cap ≡ l.fn.heap.cap;
   room : vec_len l.places + (length l.args - l.i) ≤ vec_capacity l.places;
 }

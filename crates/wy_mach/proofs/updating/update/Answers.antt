@@ -1,4 +1,4 @@
-use Rattle.std.proofs.Common.{◌≡◌, ◌≤◌, ◌<◌, ◌∷◌, [], length, sym, subst, rules}
+use Rattle.std.proofs.Common.{◌≡◌, ◌≤◌, ◌<◌, ◌∷◌, [], length, sym, subst, rules, ap, ◌∙◌, set, get_or, List}
 use Rattle.wy_value.specs.declared.shapes.Shapes.{Shapes}
 use Rattle.wy_heap.specs.Nodes.{map_of}
 use Rattle.wy_heap.specs.Extending.{Extends}
@@ -12,6 +12,12 @@ use Rattle.wy_mach.specs.Taking.{GivesMade}
 use Rattle.wy_mach.proofs.MakeLemmas.{are_taken, taken_turns, on_ok}
 use Rattle.wy_mach.specs.Paths.{AreSlotsOf, written_made}
 use Rattle.wy_mach.proofs.UpdateLemmas.{two_taken, two_emptied, two_within, put_goes, put_lacks, put_beyond, whole_beyond, put_stops, on_err}
+use Rattle.wy_heap.specs.declared.part.Part.{Part}
+use Rattle.wy_heap.specs.declared.part.Part.TheVariants.{Null}
+use Rattle.wy_mach.specs.Writing.{PutsAlong, WritesPath, IsNotSole}
+use Rattle.wy_mach.proofs.WriteLemmas.{puts_along_as}
+use Rattle.wy_heap.specs.Putting.{Sole}
+use Rattle.std.specs.Prelude.{vec_capacity}
 use Rattle.wy_mach.proofs.updating.update.Goals as goal
 
 pub returns-in-Err-clause-stop : goal.returns-in-Err-clause-stop
@@ -89,3 +95,37 @@ returns-clause-stop c =
     (λ (e : Stop). (shapes : Shapes) → Extends shapes h.shapes → IsStop (map_of h) ps (effect shapes (instr.Put whole c.args.steps.now from)) e)
     (λ e none shapes extends. put_stops h shapes ps one place whole from c.args.steps.now path e extends are c.take-item.ensures.registers c.take-place.ensures.value none)
     c.written.ensures.stop
+
+pub returns-clause-shares : goal.returns-clause-shares
+returns-clause-shares c =
+    let h = c.args.heap.now in
+    let n = c.written.new.heap in
+    let ps = c.args.registers.now in
+    let one = c.take-item.new.registers in
+    let two = c.take-place.new.registers in
+    let qs = c.written.new.registers in
+    let from = c.args.from in
+    let whole = c.args.whole in
+    let left = set ps from Null in
+    let path = c.as_slice.result.now in
+    let are : AreSlotsOf h ps c.args.steps.now path = subst (AreSlotsOf h ps c.args.steps.now) (sym c.as_slice.ensures.value) c.in-Ok.ensures.value in
+    let left_is = c.take-place.ensures.registers ∙ ap (λ (l : List Part). set l whole Null) c.take-item.ensures.registers in
+    let place_is = c.take-place.ensures.value ∙ ap (λ (l : List Part). get_or l whole Null) c.take-item.ensures.registers in
+    on_ok c.written.result (PutsAlong h n two qs whole c.take-place.result c.take-item.result (steps_of h.shapes path)) (WritesPath h n ps qs whole c.args.steps.now from)
+    (λ puts. (path, are, puts_along_as h n two (set left whole Null) qs whole c.take-place.result (get_or left whole Null) c.take-item.result (get_or ps from Null) (steps_of h.shapes path) left_is place_is c.take-item.ensures.value puts))
+    c.written.ensures.shares
+
+pub returns-clause-memory : goal.returns-clause-memory
+returns-clause-memory c =
+    let h = c.args.heap.now in
+    let ps = c.args.registers.now in
+    let from = c.args.from in
+    let whole = c.args.whole in
+    let left = set ps from Null in
+    let path = c.as_slice.result.now in
+    let are : AreSlotsOf h ps c.args.steps.now path = subst (AreSlotsOf h ps c.args.steps.now) (sym c.as_slice.ensures.value) c.in-Ok.ensures.value in
+    let place_is = c.take-place.ensures.value ∙ ap (λ (l : List Part). get_or l whole Null) c.take-item.ensures.registers in
+    on_err c.written.result (λ (e : Stop). e ≡ stop.NoMemory → Sole h c.take-place.result (steps_of h.shapes path) → ⊥)
+    (λ (e : Stop). e ≡ stop.NoMemory → length c.args.steps.now ≤ vec_capacity c.args.path.now → IsNotSole h ps whole c.args.steps.now from)
+    (λ e none no room. (path, are, λ sole. none no (subst (λ (p : Part). Sole h p (steps_of h.shapes path)) (sym place_is) sole)))
+    c.written.ensures.memory

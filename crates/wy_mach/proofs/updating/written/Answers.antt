@@ -5,6 +5,7 @@ use Rattle.wy_mach.proofs.MakeLemmas.{taken_are_held, made_beside, made_turns, g
 use Rattle.wy_mach.proofs.RegisterLemmas.{acts_others}
 use Rattle.wy_mach.specs.Paths.{written_made}
 use Rattle.wy_mach.proofs.UpdateLemmas.{second_held, both_held, set_spends, set_value}
+use Rattle.wy_mach.proofs.WriteLemmas.{no_done}
 use Rattle.wy_mach.proofs.updating.written.Goals as goal
 
 pub has_path-requires : goal.has_path-requires
@@ -61,3 +62,19 @@ returns-in-Err-clause-turns c =
     let back = c.in-Err.item ∷ c.set.new.p ∷ [] in
     let same : back ≡ c.args.item ∷ c.args.place ∷ [] = ap (λ (p : Part). p ∷ c.set.new.p ∷ []) c.in-Err.ensures.back ∙ ap (λ (q : Part). c.args.item ∷ q ∷ []) c.in-Err.ensures.same in
     refused_turns h c.set.new.self c.give_up-in-Err.new.heap (c.args.item ∷ c.args.place ∷ []) c.args.registers.now back same c.in-Err.ensures.no_memory c.set.ensures.kept c.give_up-in-Err.ensures.acts
+
+pub returns-in-Ok-clause-shares : goal.returns-in-Ok-clause-shares
+returns-in-Ok-clause-shares c = record {
+  room = λ room. record {
+    made = c.set.new.p;
+    between = c.set.new.self;
+    puts = c.in-Ok.ensures.puts room;
+    registers = c.put.ensures.registers;
+    lasts = c.put.ensures.lasts;
+    copies = c.put.ensures.copies;
+  };
+  sole = λ sole. c.put.ensures.copies ∙ c.in-Ok.ensures.copies.none sole;
+}
+
+pub returns-in-Err-clause-memory : goal.returns-in-Err-clause-memory
+returns-in-Err-clause-memory c none sole = no_done c.in-Err.item c.set.result c.in-Err.is (c.set.ensures.sole sole)

@@ -43,3 +43,14 @@ returns-clause-done c d means =
       c.in_ok-text.ensures.text d (result_means old.heap n c.args.given ps d places acts means),
       leaves_result old.heap n c.args.given ps c.copies-copies.result c.live-nodes.result d places acts c.release_all.ensures.lasts c.live-nodes.ensures.value c.copies-copies.ensures.value c.release_all.ensures.copies means,
     )
+
+pub returns-clause-leaves : goal.returns-clause-leaves
+returns-clause-leaves c =
+    let old = c.args.self.now in
+    record {
+      heap = c.release_all.new.heap;
+      stands = (c.release_all.ensures.acts (c.args.given ∷ []) (subst (λ (v : Vec Part Global). Stands old.heap (v.items ++ c.args.given ∷ [])) (sym c.replace-registers.ensures.value) (last_places old c.args.given c.requires.last c.requires.stands))).stands;
+      lasts = c.release_all.ensures.lasts;
+      nodes_are = c.live-nodes.ensures.value;
+      copies_are = c.copies-copies.ensures.value ∙ c.release_all.ensures.copies;
+    }

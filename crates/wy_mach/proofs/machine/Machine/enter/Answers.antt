@@ -1,4 +1,4 @@
-use Rattle.std.proofs.Common.{◌+◌, ◌-◌, List, ◌++◌, length, sym, subst, ap}
+use Rattle.std.proofs.Common.{◌+◌, ◌-◌, List, ◌++◌, length, sym, subst, ap, ◌∙◌, arith, Vec}
 use Rattle.wy_heap.specs.declared.part.Part.{Part}
 use Rattle.wy_heap.specs.declared.heap.Heap.{Heap}
 use Rattle.wy_heap.specs.Standing.{Stands}
@@ -7,6 +7,9 @@ use Rattle.wy_mach.specs.Showing.{Shows}
 use Rattle.wy_mach.specs.declared.frames.Frame.{Frame}
 use Rattle.wy_mach.specs.States.{places_of}
 use Rattle.wy_mach.proofs.CallLemmas.{pushed_places}
+use Rattle.std.specs.Prelude.{vec_capacity}
+use Rattle.std.specs.declared.alloc.Global.{Global}
+use Rattle.wy_heap.specs.declared.part.Slot.{Slot}
 use Rattle.wy_mach.proofs.machine.Machine.enter.Goals as goal
 
 pub returns-in-Ok-clause-stands : goal.returns-in-Ok-clause-stands
@@ -15,7 +18,7 @@ returns-in-Ok-clause-stands c =
     c.in-Ok.ensures.registers c.push_frame.ensures.heap (ap (λ (f : Frame). f.registers.items) c.push_frame.ensures.frame) c.push_frame.ensures.callers c.requires.stands
 
 pub returns-in-Ok-clause-kept : goal.returns-in-Ok-clause-kept
-returns-in-Ok-clause-kept c = record { shapes = ap (λ (h : Heap). h.shapes) c.push_frame.ensures.heap; has_result = c.push_frame.ensures.has_result }
+returns-in-Ok-clause-kept c = record { cap = ap (λ (h : Heap). h.cap) c.push_frame.ensures.heap; shapes = ap (λ (h : Heap). h.shapes) c.push_frame.ensures.heap; has_result = c.push_frame.ensures.has_result; room = omega (arith, ap (λ (p : Vec Slot Global). vec_capacity p) c.push_frame.ensures.path) }
 
 pub returns-in-Ok-clause-entered : goal.returns-in-Ok-clause-entered
 returns-in-Ok-clause-entered c = record {
@@ -35,3 +38,6 @@ pub returns-in-Err-clause-stands : goal.returns-in-Err-clause-stands
 returns-in-Err-clause-stands c =
     let h = c.args.self.now.heap in
     (c.release_all.ensures.acts (places_of c.args.self.now) (subst (λ (l : List Part). Stands h (l ++ places_of c.args.self.now)) (sym c.in-Err.ensures.back) c.requires.stands)).stands
+
+pub returns-in-Ok-clause-registers : goal.returns-in-Ok-clause-registers
+returns-in-Ok-clause-registers c = ap (λ (f : Frame). f.registers.items) c.push_frame.ensures.frame ∙ c.in-Ok.ensures.registers

@@ -1,9 +1,13 @@
-use Rattle.std.proofs.Common.{◌≡◌, ℕ, List, Option, sym, ◌∙◌, ap, subst}
+use Rattle.std.proofs.Common.{◌≡◌, ℕ, List, Option, sym, ◌∙◌, ap, subst, refl}
 use Rattle.wy_code.specs.declared.instructions.Instr.{Instr}
 use Rattle.wy_code.specs.declared.instructions.Instr.TheVariants as instr
 use Rattle.wy_mach.specs.declared.machine.Turn.{Turn}
+use Rattle.wy_mach.specs.declared.machine.Turn.TheVariants as turn
 use Rattle.wy_mach.specs.Running.{Steps, Turned, TurnsBy, MayTakeMemory, next_by}
-use Rattle.wy_mach.proofs.TurnLemmas.{machine_at, jump_steps, if_ok, on_any_err, is_plain}
+use Rattle.wy_mach.proofs.TurnLemmas.{machine_at, jump_steps, if_ok, on_any_err, is_plain, on_err}
+use Rattle.wy_mach.specs.SharedTurns.{SharesPlain, SharesCall, SharesReturn, SharesBy, EndsSo, EndsBy, IsNoEnd, WantsIn, WantsBy}
+use Rattle.wy_mach.proofs.SharedTurnLemmas.{plain_by, plain_wants, no_end_so}
+use Rattle.std.specs.Prelude.{vec_capacity, OnErr, IfOk}
 use Rattle.wy_mach.proofs.machine.Machine.made.Goals as goal
 
 pub returns-in-Jump-clause-turned : goal.returns-in-Jump-clause-turned
@@ -73,3 +77,87 @@ returns-in_default-clause-turned g c =
     let failed = g.O.Sink.faults c.args.out.now in
     if_ok c.went.result (λ (t : Turn). (before : Option (List ℕ)) (fails : ℕ) → Turned (next_by code c.args.instr.now) old c.went.new.self before before fails fails t)
     (λ (t : Turn). Turned (next_by code c.args.instr.now) old c.went.new.self known known failed failed t) (λ t turned. turned known failed) c.went.ensures.turned
+
+pub returns-in-Jump-clause-shares : goal.returns-in-Jump-clause-shares
+returns-in-Jump-clause-shares g c w =
+    let old = c.args.self.now in
+    subst (λ (i : Instr). SharesBy c.args.code.now i old (machine_at old c.in-Jump.to)) (sym c.in-Jump.is) (record { heap = refl; registers = refl; routine = refl; callers = refl }, refl)
+
+pub returns-in-Branch-clause-shares : goal.returns-in-Branch-clause-shares
+returns-in-Branch-clause-shares g c w =
+    subst (λ (i : Instr). SharesBy c.args.code.now i c.args.self.now c.branch-self.new.self) (sym c.in-Branch.is) (c.branch-self.ensures.shares w)
+
+pub returns-in-Call-clause-shares : goal.returns-in-Call-clause-shares
+returns-in-Call-clause-shares g c =
+    let old = c.args.self.now in
+    let new = c.call.new.self in
+    let code = c.args.code.now in
+    let called = instr.Call c.in-Call.to c.in-Call.routine c.as_slice.result.now in
+    let is : c.args.instr.now ≡ called = c.in-Call.is ∙ ap (λ (l : List ℕ). instr.Call c.in-Call.to c.in-Call.routine l) (sym c.as_slice.ensures) in
+    if_ok c.call.result (λ (t : Turn). t ≡ turn.Went → SharesCall code old new c.in-Call.to c.in-Call.routine c.as_slice.result.now) (λ (t : Turn). t ≡ turn.Went → SharesBy code c.args.instr.now old new)
+    (λ t shares w. subst (λ (i : Instr). SharesBy code i old new) (sym is) (shares w)) c.call.ensures.shares
+
+pub returns-in-Return-clause-shares : goal.returns-in-Return-clause-shares
+returns-in-Return-clause-shares g c =
+    let old = c.args.self.now in
+    let new = c.give_back.new.self in
+    let code = c.args.code.now in
+    if_ok c.give_back.result (λ (t : Turn). t ≡ turn.Went → SharesReturn old new c.in-Return.from) (λ (t : Turn). t ≡ turn.Went → SharesBy code c.args.instr.now old new)
+    (λ t shares w. subst (λ (i : Instr). SharesBy code i old new) (sym c.in-Return.is) (shares w)) c.give_back.ensures.shares
+
+pub returns-in-Print-clause-shares : goal.returns-in-Print-clause-shares
+returns-in-Print-clause-shares g c w =
+    subst (λ (i : Instr). SharesBy c.args.code.now i c.args.self.now c.printed.new.self) (sym c.in-Print.is) (c.printed.ensures.shares w)
+
+pub returns-in-PrintInt-clause-shares : goal.returns-in-PrintInt-clause-shares
+returns-in-PrintInt-clause-shares g c w =
+    subst (λ (i : Instr). SharesBy c.args.code.now i c.args.self.now c.number_printed.new.self) (sym c.in-PrintInt.is) (c.number_printed.ensures.shares w)
+
+pub returns-in_default-clause-shares : goal.returns-in_default-clause-shares
+returns-in_default-clause-shares g c =
+    let old = c.args.self.now in
+    let new = c.went.new.self in
+    let code = c.args.code.now in
+    let i = c.args.instr.now in
+    let plain = is_plain i c.in_default.not-Jump c.in_default.not-Branch c.in_default.not-Call c.in_default.not-Return c.in_default.not-Print c.in_default.not-PrintInt in
+    if_ok c.went.result (λ (t : Turn). t ≡ turn.Went → SharesPlain i old new) (λ (t : Turn). t ≡ turn.Went → SharesBy code i old new)
+    (λ t shares w. plain_by code i old new plain (shares w)) c.went.ensures.shares
+
+pub returns-in-Call-clause-wants : goal.returns-in-Call-clause-wants
+returns-in-Call-clause-wants g c = on_any_err c.call.result (WantsBy c.args.instr.now c.args.self.now) (subst (λ (i : Instr). WantsBy i c.args.self.now) (sym c.in-Call.is) tt)
+
+pub returns-in-Return-clause-wants : goal.returns-in-Return-clause-wants
+returns-in-Return-clause-wants g c =
+    let old = c.args.self.now in
+    subst (λ (i : Instr). OnErr c.give_back.result (WantsBy i old)) (sym c.in-Return.is) c.give_back.ensures.wants
+
+pub returns-in_default-clause-wants : goal.returns-in_default-clause-wants
+returns-in_default-clause-wants g c =
+    let old = c.args.self.now in
+    let i = c.args.instr.now in
+    let plain = is_plain i c.in_default.not-Jump c.in_default.not-Branch c.in_default.not-Call c.in_default.not-Return c.in_default.not-Print c.in_default.not-PrintInt in
+    on_err c.went.result (WantsIn i old.heap old.frame.registers.items (vec_capacity old.path)) (WantsBy i old) (plain_wants i old plain) c.went.ensures.wants
+
+pub returns-in-Branch-clause-ends : goal.returns-in-Branch-clause-ends
+returns-in-Branch-clause-ends g c = no_end_so c.branch-self.result (EndsBy c.args.instr.now c.args.self.now) c.branch-self.ensures.no_end
+
+pub returns-in-Call-clause-ends : goal.returns-in-Call-clause-ends
+returns-in-Call-clause-ends g c =
+    let ends = EndsBy c.args.instr.now c.args.self.now in
+    if_ok c.call.result IsNoEnd (EndsSo ends) (λ t none. no_end_so t ends none) c.call.ensures.no_end
+
+pub returns-in-Return-clause-ends : goal.returns-in-Return-clause-ends
+returns-in-Return-clause-ends g c =
+    let old = c.args.self.now in
+    subst (λ (i : Instr). IfOk c.give_back.result (EndsSo (EndsBy i old))) (sym c.in-Return.is) c.give_back.ensures.ends
+
+pub returns-in-Print-clause-ends : goal.returns-in-Print-clause-ends
+returns-in-Print-clause-ends g c = no_end_so c.printed.result (EndsBy c.args.instr.now c.args.self.now) c.printed.ensures.no_end
+
+pub returns-in-PrintInt-clause-ends : goal.returns-in-PrintInt-clause-ends
+returns-in-PrintInt-clause-ends g c = no_end_so c.number_printed.result (EndsBy c.args.instr.now c.args.self.now) c.number_printed.ensures.no_end
+
+pub returns-in_default-clause-ends : goal.returns-in_default-clause-ends
+returns-in_default-clause-ends g c =
+    let ends = EndsBy c.args.instr.now c.args.self.now in
+    if_ok c.went.result IsNoEnd (EndsSo ends) (λ t none. no_end_so t ends none) c.went.ensures.no_end

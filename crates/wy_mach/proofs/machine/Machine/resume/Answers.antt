@@ -7,6 +7,7 @@ use Rattle.wy_heap.specs.Standing.{Stands, Keeps}
 use Rattle.wy_mach.specs.declared.frames.Frame.{Frame}
 use Rattle.wy_mach.specs.States.{places_below, callers_of}
 use Rattle.wy_mach.proofs.CallLemmas.{ended_first, resumed_keeps}
+use Rattle.wy_mach.proofs.ShareLemmas.{lasts_more}
 use Rattle.wy_mach.proofs.machine.Machine.resume.Goals as goal
 
 pub leave-requires : goal.leave-requires
@@ -51,3 +52,9 @@ returns-clause-resumed c =
       stands = subst (λ (l : List Part). Stands o (l ++ below)) (sym kept_items) both.0;
       keeps = subst (λ (l : List Part). Keeps (map_of old.heap) (map_of o) (l ++ below)) (sym kept_items) both.1;
     }
+
+pub returns-clause-spares : goal.returns-clause-spares
+returns-clause-spares c = record {
+  lasts = lasts_more (map_of c.args.self.now.heap) (map_of c.leave.new.heap) (map_of c.put.new.heap) c.leave.ensures.lasts c.put.ensures.lasts;
+  copies = c.put.ensures.copies ∙ c.leave.ensures.copies;
+}

@@ -9,6 +9,8 @@ use Rattle.wy_mach.specs.Showing.{WentOn, HasNone, IsStop, Turns, AreRegisters}
 use Rattle.wy_mach.specs.declared.machine.Machine.{Machine}
 use Rattle.wy_mach.proofs.StateLemmas.{registers_held, stands_turned}
 use Rattle.wy_mach.proofs.TurnLemmas.{plain_steps, no_step}
+use Rattle.wy_mach.specs.SharedTurns.{SharesIn, WantsIn}
+use Rattle.std.specs.Prelude.{vec_capacity}
 use Rattle.wy_mach.proofs.machine.Machine.went.Goals as goal
 
 pub plain-requires-clause-held : goal.plain-requires-clause-held
@@ -73,3 +75,23 @@ returns-in-Err-NoMemory-clause-stands c =
 
 pub returns-in-Err-NoMemory-clause-no_memory : goal.returns-in-Err-NoMemory-clause-no_memory
 returns-in-Err-NoMemory-clause-no_memory c = c.in-Err-NoMemory.ensures.memory c.in-Err-NoMemory.field-0-is
+
+pub returns-in-Ok-clause-shares : goal.returns-in-Ok-clause-shares
+returns-in-Ok-clause-shares c w =
+    let old = c.args.self.now in
+    let i = c.args.instr.now in
+    let n = c.plain.new.heap in
+    let qs = c.plain.new.registers in
+    let long : length qs ≡ old.frame.registers.len = omega (arith, c.plain.auto.registers, ap length c.as_mut_slice-registers.ensures.value, old.frame.registers.ok) in
+    let kept_items : (with_items old.frame.registers qs).items ≡ qs = with_items_is old.frame.registers qs long in
+    record {
+      shares = subst (λ (l : List Part). SharesIn i old.heap n old.frame.registers.items l) (sym kept_items) (subst (λ (l : List Part). SharesIn i old.heap n l qs) c.as_mut_slice-registers.ensures.value c.in-Ok.ensures.shares);
+      routine = refl;
+      next = refl;
+      callers = refl;
+    }
+
+pub returns-in-Err-NoMemory-clause-wants : goal.returns-in-Err-NoMemory-clause-wants
+returns-in-Err-NoMemory-clause-wants c =
+    let old = c.args.self.now in
+    subst (λ (l : List Part). WantsIn c.args.instr.now old.heap l (vec_capacity old.path)) c.as_mut_slice-registers.ensures.value (c.in-Err-NoMemory.ensures.wants c.in-Err-NoMemory.field-0-is)
