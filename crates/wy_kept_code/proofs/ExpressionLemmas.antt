@@ -1,41 +1,23 @@
 -- The code of an expression keeps nothing dead.
-use Rattle.std.proofs.Common.{◌≡◌, ◌≢◌, ◌<◌, ◌≤◌, ◌⊎◌, inl, inr, ℕ, zero, suc, ◌+◌, List, [], ◌∷◌, ◌++◌, length, Bool, true, false, not, ◌&&◌, ◌||◌, ◌==◌, cond, Some, pos, refl, sym, ap, ◌∙◌, subst, arith, length-append}
-use Rattle.std.specs.Prelude.{slice_get}
-use Rattle.wy_core.specs.Types.{Ty}
+use Rattle.std.proofs.Common.{◌≡◌, ◌<◌, ◌≤◌, ◌⊎◌, inl, inr, ℕ, suc, ◌+◌, List, [], ◌∷◌, ◌++◌, length, true, false, pos, refl, sym, arith}
 use Rattle.wy_core.specs.CoreTree.{Expr, NullExpr, BoolExpr, IntExpr, VarExpr, CallExpr, NegExpr, NotExpr, LenExpr, BinaryExpr, IsExpr, IndexExpr, FieldExpr, ListExpr, RepeatExpr, RecordExpr, QuantExpr, Exprs, NoExprs, MoreExprs, Fields, NoFields, MoreFields}
-use Rattle.wy_core.specs.declared.expressions.Op.{Op}
-use Rattle.wy_core.specs.declared.expressions.Op.TheVariants as op
-use Rattle.wy_code.specs.declared.instructions.Scalar.{Scalar}
 use Rattle.wy_code.specs.declared.instructions.Scalar.TheVariants as scalar
-use Rattle.wy_code.specs.declared.instructions.Arithmetic.{Arithmetic}
 use Rattle.wy_code.specs.declared.instructions.Arithmetic.TheVariants as arithmetic
-use Rattle.wy_code.specs.declared.instructions.Comparison.{Comparison}
-use Rattle.wy_code.specs.declared.instructions.Comparison.TheVariants as comparison
 use Rattle.wy_code.specs.declared.instructions.Instr.{Instr}
 use Rattle.wy_code.specs.declared.instructions.Instr.TheVariants as instr
 use Rattle.wy_tables.specs.declared.context.Context.{Context}
-use Rattle.wy_tables.specs.declared.targets.Target.{Target}
-use Rattle.wy_tables.specs.declared.targets.Target.TheVariants.{Declared, Prints, PrintsInt, Nothing}
 use Rattle.wy_tables.specs.Tables.{target, number_of, shape_number, names_in}
-use Rattle.wy_live.specs.Paths.{occurs, any_occurs, any_field_occurs}
-use Rattle.wy_live.specs.Sets.{Variables, has, with}
+use Rattle.wy_live.specs.Sets.{Variables, has}
 use Rattle.wy_live.specs.Walks.{before, before_all, before_fields, turned}
-use Rattle.wy_pieces.specs.declared.steps.Step.{Step}
-use Rattle.wy_pieces.specs.declared.steps.Step.TheVariants.{Does, GoesOn, GoesBack, GoesOnUnless}
-use Rattle.wy_pieces.specs.Steps.{clear, dropped, fork, turns, registers_from}
-use Rattle.wy_compiled.specs.TypeTests.{test}
-use Rattle.wy_compiled.specs.Expressions.{lost, released, is_plain, release_unless, arith as arith_code, compare, equal, operator, operate, right_register, call, count_of, field_count, is_test, negated, list, record_of, ends_it, turn_end, said, ends, number_turns, quantify, code, codes, field_codes}
-use Rattle.wy_kept_registers.specs.Keeping.{IsNone}
-use Rattle.wy_kept_code.specs.Alive.{IsOne, reads, changes, nexts, LiveAt}
-use Rattle.wy_kept_code.specs.Safe.{Told, gone, Into, After, Onward, Fine, Safe}
+use Rattle.wy_pieces.specs.declared.steps.Step.TheVariants.{Does}
+use Rattle.wy_compiled.specs.Expressions.{released, is_plain, call, count_of, field_count, is_test, negated, list, record_of, quantify, code, codes, field_codes}
+use Rattle.wy_kept_code.specs.Safe.{Told}
 use Rattle.wy_kept_code.specs.Telling.{Tells}
-use Rattle.wy_kept_code.specs.Fitting.{is_sure, Settled, Checked, IsValue, Fits, FitAll, FitFields}
-use Rattle.wy_kept_code.proofs.SafeLemmas.{Less, Within, safe_less, safe_sooner}
-use Rattle.wy_kept_code.proofs.PieceLemmas.{either, nat_up, one_not_none, less_not, From, none_below, Spans, front, back, tail, ended, live_reads, live_on, live_last, live_first, live_second, Turning, turning, Lives, Told_of, Sure, Behind, sure_less, safe_step, raw_step, raw_branches, safe_clears, safe_jumps, safe_loops, safe_branches, safe_at, safe_fork, lives_on, lives_at}
-use Rattle.wy_kept_code.proofs.SetLemmas.{never, not_both, same_of, same_to, other_of, Vars, before_cases, before_of, all_cases, all_of, fields_cases, fields_of, turned_cases, turned_of, with_cases, with_of, not_lost, still_has}
-use Rattle.wy_kept_code.proofs.TestLemmas.{at_end, test_live, Untouched, With, dropped_safe, test_safe}
-use Rattle.wy_kept_code.proofs.ReadLemmas.{from_registers, clear_live, Low, low_more, occurs_used, all_used, fields_used, right_live, turns_of, quantifier, branch_live, ends_live, kept_lost, code_live, codes_live, field_codes_live}
-use Rattle.wy_kept_code.proofs.OperandLemmas.{Range, in_range, code_some, fork_reads, told_not, ready_less, ready_at, exit_at, base_low, known_before, around_more, code_lives, operands_ready, clear_sure, unary_safe, pair_safe, pair_ready, exit_none, operator_ready}
+use Rattle.wy_kept_code.specs.Fitting.{is_sure, Fits, FitAll, FitFields}
+use Rattle.wy_kept_code.proofs.PieceLemmas.{either, less_not, Spans, front, back, tail, ended, Lives, Sure, sure_less, safe_step, safe_at, lives_on}
+use Rattle.wy_kept_code.proofs.SetLemmas.{Vars, all_cases, fields_cases}
+use Rattle.wy_kept_code.proofs.ReadLemmas.{low_more, all_used, fields_used}
+use Rattle.wy_kept_code.proofs.OperandLemmas.{Range, ready_less, ready_at, base_low, around_more, code_lives, operands_ready, unary_safe, pair_safe, pair_ready}
 use Rattle.wy_kept_code.proofs.ChoiceLemmas.{binary_safe, const_ready, var_sure, is_test_ready, call_ready, list_ready, record_ready, first_of_range, more_of_one}
 use Rattle.wy_kept_code.proofs.QuantifierLemmas.{turned_known, quantify_ready}
 

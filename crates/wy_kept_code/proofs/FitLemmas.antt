@@ -1,19 +1,20 @@
 -- A formed program is as the law on its code asks.
-use Rattle.std.proofs.Common.{◌≡◌, ◌≢◌, ◌<◌, ◌≤◌, ◌⊎◌, inl, inr, ℕ, zero, suc, ◌+◌, List, [], ◌∷◌, ◌++◌, length, Bool, true, false, Option, Some, None, refl, sym, ap, ◌∙◌, subst, arith}
+use Rattle.std.proofs.Common.{◌≡◌, ◌<◌, ◌⊎◌, inl, inr, ℕ, zero, suc, List, [], ◌∷◌, length, Bool, true, false, Option, Some, None, refl, sym, ap, ◌∙◌, subst, arith}
 use Rattle.std.specs.Prelude.{slice_get, is_some}
 use Rattle.wy_core.specs.CoreTree as tree
 use Rattle.wy_core.specs.CoreTree.{Expr, NullExpr, BoolExpr, IntExpr, VarExpr, CallExpr, NegExpr, NotExpr, LenExpr, BinaryExpr, IsExpr, IndexExpr, FieldExpr, ListExpr, RepeatExpr, RecordExpr, QuantExpr, Exprs, NoExprs, MoreExprs, Fields, NoFields, MoreFields, Step, IndexStep, FieldStep, Stmt, DeclareStmt, AssignStmt, CallStmt, ReturnStmt, AssertStmt, BreakStmt, ContinueStmt, SkipStmt, FailStmt, IfStmt, WhileStmt, Stmts, NoStmts, MoreStmts, Param, Alias, Decl, AliasDecl, RoutineDecl, Core, aliases_of, routines_of}
 use Rattle.wy_core.specs.declared.expressions.Op.{Op}
 use Rattle.wy_core.specs.declared.expressions.Op.TheVariants as op
-use Rattle.wy_formed.specs.Offers.{Signature, Offers, offers_of, signatures_of, IsCall}
+use Rattle.wy_formed.specs.Offers.{Signature, Offers, signatures_of, IsCall}
 use Rattle.wy_formed.specs.Bound as formed
 use Rattle.wy_formed.specs.Bound.{Scope, Has, IsNew, BoundExpr, BoundExprs, BoundFields, BoundOption, BoundPath, BoundStmt, BoundStmts, BoundClauses, BoundParams, Around, looped, behind, with_params}
 use Rattle.wy_tables.specs.declared.context.Context.{Context}
-use Rattle.wy_tables.specs.declared.targets.Target.{Target}
-use Rattle.wy_tables.specs.declared.targets.Target.TheVariants.{Declared, Prints, PrintsInt, Nothing}
 use Rattle.wy_tables.specs.Tables.{target, results_of}
-use Rattle.wy_compiled.specs.Expressions.{is_plain, count_of}
-use Rattle.wy_kept_code.specs.Fitting.{Settled, SettledOption, SettledAt, Checked, IsValue, Fits, FitAll, FitFields, FitsOption, FitsPath, IsAction, MayGive, SomeCode, FitsStmt, FitsStmts}
+use Rattle.wy_live.specs.Sets.{Variables}
+use Rattle.wy_live.specs.Walks.{live_all, head_live, around, nothing}
+use Rattle.wy_live.specs.declared.walk.Ends.{Ends}
+use Rattle.wy_compiled.specs.Expressions.{count_of}
+use Rattle.wy_kept_code.specs.Fitting.{SettledOption, SettledAt, SettledStmt, SettledStmts, Checked, IsValue, Fits, FitAll, FitFields, FitsOption, FitsPath, IsAction, MayGive, FitsStmt, FitsStmts}
 use Rattle.wy_kept_code.specs.Dead.{Counts, CountsAll, CountsFields, CountsOption, CountsPath, CountsStmt, CountsStmts, Declares, DeclaresIn, IsParam, Truths, TruthsAll, TruthsFields, TruthsOption, TruthsPath, TruthsStmt, TruthsStmts, LastTruth, TruthsClauses, TruthsTypes, TruthsRoutines}
 use Rattle.wy_kept_code.proofs.PieceLemmas.{either}
 
@@ -130,8 +131,8 @@ module _ (ds : List (Decl ℕ)) (o : Offers) (offers : o.routines ≡ signatures
 
       mutual
         pub fits_stmt : (st : Stmt ℕ) (a : Around) (vs : Scope) → ((r : ℕ) → Has vs r → U r) → ((x : ℕ) → Declares st x → U x) → (a.has_result ≡ true → R) → BoundStmt o n a vs st → TruthsStmt L st → ((x : ℕ) → CountsStmt st x → U x → ⊥) → FitsStmt c n L R st U
-        fits_stmt (DeclareStmt at ty y value) a vs inside dec gives b tr own = (dec y refl, fits_option value vs inside b.1 tr.0 own, tr.1)
-        fits_stmt (AssignStmt at y path e) a vs inside dec gives b tr own = (inside y b.0, fits_path path vs inside b.1 tr.0 (λ x k. own x (inl k)), fits_expr e vs U (own_scope vs inside) b.2 tr.1 (λ x k. own x (inr k)), tr.2)
+        fits_stmt (DeclareStmt at ty y value) a vs inside dec gives b tr own = (dec y refl, fits_option value vs inside b.1 tr own)
+        fits_stmt (AssignStmt at y path e) a vs inside dec gives b tr own = (inside y b.0, fits_path path vs inside b.1 tr.0 (λ x k. own x (inl k)), fits_expr e vs U (own_scope vs inside) b.2 tr.1 (λ x k. own x (inr k)))
         fits_stmt (CallStmt at g args) a vs inside dec gives b tr own = (calls_action g (count_of args) false (subst (λ (k : ℕ). IsCall o false g k) (same_count args) b.0), fits_all args vs U (own_scope vs inside) b.1 tr own)
         fits_stmt (ReturnStmt at value) a vs inside dec gives b tr own = (fits_option value vs inside b.1 tr own, may_give value a.has_result b.0 gives)
         fits_stmt (AssertStmt at e) a vs inside dec gives b tr own = tt
@@ -198,13 +199,31 @@ module _ (L : Type 0) (l : L) where
   checked_loose op.And b = tt
   checked_loose op.Or b = tt
 
-  settled_option : (value : Option (Expr ℕ)) → SettledOption value L
-  settled_option None = tt
-  settled_option (Some e) = inr l
+  settled_option : (x : ℕ) (value : Option (Expr ℕ)) (s : Variables) → SettledOption x value s L
+  settled_option x None s = tt
+  settled_option x (Some e) s = inr (inr l)
 
-  settled_at : (path : List (Step ℕ)) (e : Expr ℕ) → SettledAt path e L
-  settled_at [] e = inr l
-  settled_at (step ∷ path) e = tt
+  settled_at : (x : ℕ) (path : List (Step ℕ)) (e : Expr ℕ) (s : Variables) → SettledAt x path e s L
+  settled_at x [] e s = inr (inr l)
+  settled_at x (step ∷ path) e s = tt
+
+  mutual
+    settled_stmt : (st : Stmt ℕ) (s : Variables) (ends : Ends) → SettledStmt L st s ends
+    settled_stmt (DeclareStmt at ty x value) s ends = settled_option x value s
+    settled_stmt (AssignStmt at x path e) s ends = settled_at x path e s
+    settled_stmt (CallStmt at g args) s ends = tt
+    settled_stmt (ReturnStmt at value) s ends = tt
+    settled_stmt (AssertStmt at e) s ends = tt
+    settled_stmt (BreakStmt at) s ends = tt
+    settled_stmt (ContinueStmt at) s ends = tt
+    settled_stmt (SkipStmt at) s ends = tt
+    settled_stmt (FailStmt at) s ends = tt
+    settled_stmt (IfStmt at e first second) s ends = (settled_stmts first s ends, settled_stmts second s ends)
+    settled_stmt (WhileStmt at e invariants inner) s ends = settled_stmts inner (head_live e inner s) (around s (head_live e inner s))
+
+    settled_stmts : (ss : Stmts ℕ) (s : Variables) (ends : Ends) → SettledStmts L ss s ends
+    settled_stmts NoStmts s ends = tt
+    settled_stmts (MoreStmts st rest) s ends = (settled_stmt st (live_all rest s ends) ends, settled_stmts rest s ends)
 
   mutual
     truths_loose : (e : Expr ℕ) → Truths L e
@@ -244,8 +263,8 @@ module _ (L : Type 0) (l : L) where
 
   mutual
     stmt_loose : (st : Stmt ℕ) → TruthsStmt L st
-    stmt_loose (DeclareStmt at ty y value) = (option_loose value, settled_option value)
-    stmt_loose (AssignStmt at y path e) = (path_loose path, truths_loose e, settled_at path e)
+    stmt_loose (DeclareStmt at ty y value) = option_loose value
+    stmt_loose (AssignStmt at y path e) = (path_loose path, truths_loose e)
     stmt_loose (CallStmt at g args) = all_loose args
     stmt_loose (ReturnStmt at value) = option_loose value
     stmt_loose (AssertStmt at e) = tt
@@ -275,4 +294,4 @@ module _ (L : Type 0) (l : L) where
 
   pub routines_loose : (rs : List (tree.Routine ℕ)) → TruthsRoutines L rs
   routines_loose [] = tt
-  routines_loose (r ∷ rs) = (stmts_loose r.body, routines_loose rs)
+  routines_loose (r ∷ rs) = ((stmts_loose r.body, settled_stmts r.body [] nothing), routines_loose rs)

@@ -1,15 +1,15 @@
 -- Pieces of code: where they stand, which registers are live through them, and what makes them safe.
-use Rattle.std.proofs.Common.{◌≡◌, ◌≢◌, ◌<◌, ◌≤◌, ◌⊎◌, inl, inr, ℕ, zero, suc, ◌+◌, ◌-◌, List, [], ◌∷◌, ◌++◌, length, Bool, true, false, Some, refl, sym, ap, ◌∙◌, subst, arith, length-append}
+use Rattle.std.proofs.Common.{◌≡◌, ◌≢◌, ◌<◌, ◌≤◌, ◌⊎◌, inl, inr, ℕ, zero, suc, ◌+◌, ◌-◌, List, [], ◌∷◌, ◌++◌, length, true, false, Some, refl, sym, ◌∙◌, subst, arith, length-append}
 use Rattle.std.specs.Prelude.{slice_get}
 use Rattle.wy_code.specs.declared.instructions.Instr.{Instr}
 use Rattle.wy_code.specs.declared.instructions.Instr.TheVariants as instr
 use Rattle.wy_pieces.specs.declared.steps.Step.{Step}
 use Rattle.wy_pieces.specs.declared.steps.Step.TheVariants.{Does, GoesOn, GoesBack, GoesOnUnless}
-use Rattle.wy_pieces.specs.Steps.{clear, fork, over, turns}
+use Rattle.wy_pieces.specs.Steps.{fork, over, turns}
 use Rattle.wy_simulation.specs.Places.{StandAt}
 use Rattle.wy_simulation.proofs.PlaceLemmas.{stand_front, stand_back, stand_moved}
 use Rattle.wy_kept_registers.specs.Keeping.{IsNone}
-use Rattle.wy_kept_code.specs.Alive.{IsOne, reads, changes, nexts, ReadWithin, LiveAt, is_clear}
+use Rattle.wy_kept_code.specs.Alive.{IsOne, reads, changes, nexts, LiveAt}
 use Rattle.wy_kept_code.specs.Safe.{Told, gone, Into, After, Onward, Fine, Safe}
 use Rattle.wy_kept_code.proofs.SafeLemmas.{told_or_not, Within, Less, safe_less, safe_sooner}
 

@@ -4,42 +4,39 @@ use Rattle.std.specs.Prelude.{slice_get, is_some, max}
 use Rattle.std.proofs.lemmas.Bool.Decides.{nat_tests}
 use Rattle.wy_core.specs.CoreTree as tree
 use Rattle.wy_core.specs.CoreTree.{Expr, Param, Alias, Decl, AliasDecl, RoutineDecl, Core, aliases_of, routines_of}
-use Rattle.wy_formed.specs.Offers.{Offers, offers_of}
-use Rattle.wy_formed.specs.Bound.{Scope, Has, BoundExpr, BoundClauses, IsNewOption, with_option, BoundAlias, BoundRoutine, BoundDecls, with_params}
-use Rattle.wy_formed.specs.Formed.{Formed}
+use Rattle.wy_formed.specs.Offers.{offers_of}
+use Rattle.wy_formed.specs.Bound.{BoundClauses, IsNewOption, with_option, BoundAlias, BoundRoutine, BoundDecls, with_params}
 use Rattle.wy_code.specs.declared.instructions.Instr.{Instr}
 use Rattle.wy_code.specs.declared.instructions.Instr.TheVariants as instr
 use Rattle.wy_code.specs.declared.routines.Routine.{Routine}
 use Rattle.wy_tables.specs.declared.context.Context.{Context}
-use Rattle.wy_tables.specs.declared.targets.Target.{Target}
-use Rattle.wy_tables.specs.declared.targets.Target.TheVariants.{Declared, Prints, PrintsInt, Nothing}
+use Rattle.wy_tables.specs.declared.targets.Target.TheVariants.{Declared}
 use Rattle.wy_tables.specs.Tables.{context_of, results_of, target}
 use Rattle.wy_live.specs.Sets.{Variables, has, with}
 use Rattle.wy_live.specs.Walks.{before, live_all, nothing}
-use Rattle.wy_pieces.specs.declared.steps.Step as steps
 use Rattle.wy_pieces.specs.declared.steps.Step.TheVariants.{Does}
 use Rattle.wy_pieces.specs.Steps.{clear, dropped, fork}
 use Rattle.wy_pieces.specs.Placing.{placed}
 use Rattle.wy_compiled.specs.TypeTests.{test}
-use Rattle.wy_compiled.specs.Expressions.{is_plain, code}
+use Rattle.wy_compiled.specs.Expressions.{code}
 use Rattle.wy_compiled.specs.Statements.{gives_null, stmts_code}
 use Rattle.wy_compiled.specs.Programs.{unused_params, body_steps, body_routine, clauses_steps, variable_of, taken, type_steps_at, type_routine, body_routines, type_routines, code_of}
 use Rattle.wy_sem.specs.TypeTests.{alias_at}
 use Rattle.wy_simulation.proofs.PlaceLemmas.{placed_stand}
-use Rattle.wy_simulated_tests.specs.Tested.{NamesIts, ClausesNameTheirs}
+use Rattle.wy_simulated_tests.specs.Tested.{NamesIts}
 use Rattle.wy_simulated_statements.specs.Routines.{InOrder}
 use Rattle.wy_simulated_programs.specs.Programs.{AllInOrder}
 use Rattle.wy_kept_registers.specs.Keeping.{IsNone}
-use Rattle.wy_kept_code.specs.Alive.{IsOne, LiveAt}
+use Rattle.wy_kept_code.specs.Alive.{LiveAt}
 use Rattle.wy_kept_code.specs.Safe.{Told, Safe, SafeCode}
 use Rattle.wy_kept_code.specs.Telling.{Tells}
-use Rattle.wy_kept_code.specs.Fitting.{is_sure, Fits, FitsStmts}
-use Rattle.wy_kept_code.specs.Dead.{CountsStmts, DeclaresIn, IsParam, IsDeclared, OwnCounters, Truths, TruthsStmts, LastTruth, TruthsClauses, TruthsTypes, TruthsRoutines, TruthsByForm, variables_in, result_at, told_of, Asked, NothingDeadIsKept, NoDeadVariableIsKept}
-use Rattle.wy_kept_code.proofs.SafeLemmas.{Less, safe_less}
+use Rattle.wy_kept_code.specs.Fitting.{is_sure, Fits, FitsStmts, SettledStmts}
+use Rattle.wy_kept_code.specs.Dead.{CountsStmts, IsDeclared, OwnCounters, TruthsStmts, LastTruth, TruthsClauses, TruthsTypes, TruthsRoutines, TruthsByForm, variables_in, result_at, told_of, Asked, NothingDeadIsKept, NoDeadVariableIsKept}
+use Rattle.wy_kept_code.proofs.SafeLemmas.{safe_less}
 use Rattle.wy_kept_code.proofs.RunLemmas.{safe_runs}
-use Rattle.wy_kept_code.proofs.PieceLemmas.{either, less_not, Spans, front, back, tail, ended, live_reads, live_second, Lives, Told_of, Sure, Behind, sure_less, safe_step, safe_returns, safe_at, safe_fork, lives_at}
+use Rattle.wy_kept_code.proofs.PieceLemmas.{either, less_not, Spans, front, back, tail, ended, live_reads, live_second, Lives, Told_of, Sure, sure_less, safe_step, safe_returns, safe_at, safe_fork, lives_at}
 use Rattle.wy_kept_code.proofs.SetLemmas.{not_both, Vars, before_of, with_cases, with_of, none_has}
-use Rattle.wy_kept_code.proofs.TestLemmas.{at_end, With, dropped_safe, test_live, test_safe}
+use Rattle.wy_kept_code.proofs.TestLemmas.{at_end, dropped_safe, test_live, test_safe}
 use Rattle.wy_kept_code.proofs.ReadLemmas.{Low}
 use Rattle.wy_kept_code.proofs.OperandLemmas.{told_not, ready_less, clear_sure, front_some, code_some, fork_reads}
 use Rattle.wy_kept_code.proofs.StatementLemmas.{gives_null_sure, value_safe, stmts_safe}
@@ -142,7 +139,7 @@ module _ (core : Core ℕ) (loose : Bool) where
       by true e g rest = either (λ same. subst (λ (z : ℕ). has s z ≡ true) (order.0 ∙ sym same) e) (λ more. rest more g) (first_or_more k x low)
       by false e g rest = either (λ same. absurd (g.0 (same ∙ sym order.0))) (λ more. rest more g.1) (first_or_more k x low)
 
-  body_safe : (f : ℕ) (r : tree.Routine ℕ) → size_at f ≡ length r.variables → result_at c.results f ≡ is_some r.result → BoundRoutine (offers_of core) r → InOrder 0 r.params → ((x : ℕ) → CountsStmts r.body x → IsDeclared r x → ⊥) → TruthsStmts L r.body
+  body_safe : (f : ℕ) (r : tree.Routine ℕ) → size_at f ≡ length r.variables → result_at c.results f ≡ is_some r.result → BoundRoutine (offers_of core) r → InOrder 0 r.params → ((x : ℕ) → CountsStmts r.body x → IsDeclared r x → ⊥) → TruthsStmts L r.body × SettledStmts L r.body [] nothing
       → (m : ℕ) → Safe t f (body_routine c r).body m 0 (λ x. x < length r.params)
   body_safe f r e given bound order own truths m =
       let n = length r.variables in
@@ -153,7 +150,7 @@ module _ (core : Core ℕ) (loose : Bool) where
       let low : Low body c n L U = λ x u. either (λ k. params_low (offers_of core) n r.params [] bound.params x k) (λ k. declares_all_low (offers_of core) n r.body (record { in_loop = false; has_result = is_some r.result }) (with_params [] r.params) bound.body x k) u in
       let gives : is_some r.result ≡ true → R = λ g. or_second loose (result_at c.results f) (given ∙ g) in
       let fit : FitsStmts c n L R r.body U = fits_stmts core (offers_of core) refl c refl n L U R r.body (record { in_loop = false; has_result = is_some r.result }) (with_params [] r.params)
-      (λ x h. either (λ k. inl k) (λ k. absurd k) (params_scope r.params [] x h)) (λ x k. inr k) gives bound.body truths own in
+      (λ x h. either (λ k. inl k) (λ k. absurd k) (params_scope r.params [] x h)) (λ x k. inr k) gives bound.body truths.0 own in
       let tells = tells_at f n e in
       let free : (x : ℕ) → n ≤ x → t.untold f x ≡ true → R = λ x h u. any_gives f x u in
       let s = live_all r.body [] nothing in
@@ -169,7 +166,7 @@ module _ (core : Core ℕ) (loose : Bool) where
       let nothing_live : Lives body t f p2 (Vars []) = λ x u v. none_has x v in
       let null = gives_null_sure body c n L R U low t f tells (λ g. g) free m p2 next last in
       let null0 : Lives body t f (p2 + 0) (Vars []) × Sure body t f m (p2 + 0) (Vars []) = ((λ x u v. none_has x v), safe_at body t f m p2 (p2 + 0) (Vars []) (omega arith) null) in
-      let at1 = stmts_safe body c n L R U low t f tells (λ g. g) free r.body fit m [] nothing 0 0 p1 p2 (λ x v. none_has x v) (λ x v. none_has x v) (λ x v. none_has x v) (front body p1 two (gives_null n) next behind) (nothing_live, null) null0 null0 in
+      let at1 = stmts_safe body c n L R U low t f tells (λ g. g) free r.body fit m [] nothing 0 0 p1 p2 truths.1 (λ x v. none_has x v) (λ x v. none_has x v) (λ x v. none_has x v) (front body p1 two (gives_null n) next behind) (nothing_live, null) null0 null0 in
       let at0 = clear_sure body c n L t f tells m 0 p1 un (λ x. x < length r.params) (Vars s) (front body 0 (clear un) rest next whole) (λ x l none. params_kept s r.params 0 order x (omega arith) (omega (arith, l)) none) at1 in
       safe_less t f body m 0 (λ x. x < length r.params) (Told_of body t f (λ x. x < length r.params)) (λ x l. inl l) at0
 
@@ -300,7 +297,7 @@ module _ (core : Core ℕ) (loose : Bool) where
   -- ---- all of them
 
   abbrev RoutineFits : tree.Routine ℕ → Type 0
-  RoutineFits r = BoundRoutine (offers_of core) r × InOrder 0 r.params × ((x : ℕ) → CountsStmts r.body x → IsDeclared r x → ⊥) × TruthsStmts L r.body
+  RoutineFits r = BoundRoutine (offers_of core) r × InOrder 0 r.params × ((x : ℕ) → CountsStmts r.body x → IsDeclared r x → ⊥) × (TruthsStmts L r.body × SettledStmts L r.body [] nothing)
 
   abbrev TypeFits : Alias ℕ → Type 0
   TypeFits a = BoundAlias (offers_of core) a × NamesIts a.variable a.clauses × TruthsClauses L a.clauses × LastTruth L a.clauses

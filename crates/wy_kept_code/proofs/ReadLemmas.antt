@@ -1,5 +1,5 @@
 -- Which registers are live in front of the code of an expression.
-use Rattle.std.proofs.Common.{◌≡◌, ◌≢◌, ◌<◌, ◌≤◌, ◌⊎◌, inl, inr, ℕ, zero, suc, ◌+◌, List, [], ◌∷◌, ◌++◌, length, Bool, true, false, not, ◌&&◌, ◌||◌, ◌==◌, cond, Some, pos, refl, sym, ap, ◌∙◌, subst, arith}
+use Rattle.std.proofs.Common.{◌≡◌, ◌≢◌, ◌<◌, ◌≤◌, ◌⊎◌, inl, inr, ℕ, zero, suc, ◌+◌, List, [], ◌∷◌, ◌++◌, length, Bool, true, false, not, ◌&&◌, ◌||◌, ◌==◌, cond, Some, pos, refl, sym, subst, arith}
 use Rattle.std.specs.Prelude.{slice_get}
 use Rattle.wy_core.specs.Types.{Ty}
 use Rattle.wy_core.specs.CoreTree.{Expr, NullExpr, BoolExpr, IntExpr, VarExpr, CallExpr, NegExpr, NotExpr, LenExpr, BinaryExpr, IsExpr, IndexExpr, FieldExpr, ListExpr, RepeatExpr, RecordExpr, QuantExpr, Exprs, NoExprs, MoreExprs, Fields, NoFields, MoreFields}
@@ -19,14 +19,14 @@ use Rattle.wy_live.specs.Sets.{Variables, has}
 use Rattle.wy_live.specs.Walks.{before, before_all, before_fields, turned}
 use Rattle.wy_kept_code.proofs.LiveLemmas.{or_cases, and_not}
 use Rattle.wy_pieces.specs.declared.steps.Step.{Step}
-use Rattle.wy_pieces.specs.declared.steps.Step.TheVariants.{Does, GoesOn, GoesBack, GoesOnUnless}
-use Rattle.wy_pieces.specs.Steps.{clear, dropped, fork, turns, registers_from}
+use Rattle.wy_pieces.specs.declared.steps.Step.TheVariants.{Does, GoesOn}
+use Rattle.wy_pieces.specs.Steps.{clear, registers_from}
 use Rattle.wy_compiled.specs.TypeTests.{test}
-use Rattle.wy_compiled.specs.Expressions.{lost, released, is_plain, release_unless, arith as arith_code, compare, equal, operator, operate, right_register, call, count_of, field_count, is_test, negated, list, record_of, ends_it, turn_end, said, ends, number_turns, quantify, code, codes, field_codes}
+use Rattle.wy_compiled.specs.Expressions.{lost, released, is_plain, operator, operate, right_register, call, count_of, field_count, is_test, negated, list, record_of, turn_end, said, ends, number_turns, quantify, code, codes, field_codes}
 use Rattle.wy_kept_registers.specs.Keeping.{IsNone}
-use Rattle.wy_kept_code.specs.Alive.{IsOne, reads, changes, nexts, LiveAt}
-use Rattle.wy_kept_code.specs.Fitting.{Checked, IsValue, Fits, FitAll, FitFields}
-use Rattle.wy_kept_code.proofs.PieceLemmas.{either, less_not, From, none_below, Spans, front, back, tail, ended, live_reads, live_on, live_last, live_first, live_second, Turning, turning}
+use Rattle.wy_kept_code.specs.Alive.{IsOne, changes, nexts, LiveAt}
+use Rattle.wy_kept_code.specs.Fitting.{IsValue, Fits, FitAll, FitFields}
+use Rattle.wy_kept_code.proofs.PieceLemmas.{either, less_not, From, none_below, Spans, front, back, tail, live_reads, live_on, live_last, live_first, live_second, Turning, turning}
 use Rattle.wy_kept_code.proofs.SetLemmas.{never, not_both, same_of, same_to, other_of, Vars, before_of, all_of, fields_of, turned_cases, turned_of, not_lost}
 use Rattle.wy_kept_code.proofs.TestLemmas.{at_end, test_live}
 

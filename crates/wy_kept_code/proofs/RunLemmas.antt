@@ -25,8 +25,7 @@ use Rattle.wy_step.specs.Step as machine
 use Rattle.wy_step.specs.Step.{State, Runs, Ended, Stuck, Frame, Caller, Effect, GoesOn, GoesTo, Calls, Returns, Fails, there, held, moved, moved_all, cleared, where_so, numbers, scalar_of, gives_int, computes, compares, record_of, shape_names, slots_of, has_path, kind_answer, as_bytes, effect, empties, holding, entry_registers, entered, returned, next_of, stepped, executed, step, start, after}
 use Rattle.wy_pieces.specs.Placing.{slot_registers}
 use Rattle.wy_kept_registers.specs.Keeping.{IsLarge, HoldsLarge, IsNone}
-use Rattle.wy_kept_code.specs.Alive.{LiveAt, is_clear}
-use Rattle.wy_kept_code.specs.Safe.{Told, gone, Into, After, Onward, Fine, Safe, SafeCode, FrameKeeps, CallersKeep, KeepsNothing, SafeRunsKeepNothing}
+use Rattle.wy_kept_code.specs.Safe.{Told, After, Onward, Safe, SafeCode, FrameKeeps, CallersKeep, KeepsNothing, SafeRunsKeepNothing}
 use Rattle.wy_kept_code.proofs.SafeLemmas.{safe_less}
 
 -- ---- registers, one of which gets another value

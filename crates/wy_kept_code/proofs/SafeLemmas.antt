@@ -1,11 +1,8 @@
 -- What is safe stays so for fewer instructions, and for fewer registers.
-use Rattle.std.proofs.Common.{◌≡◌, ◌≢◌, ◌<◌, ◌≤◌, ◌⊎◌, inl, inr, ℕ, zero, suc, ◌+◌, List, [], ◌∷◌, Bool, true, false, Some, refl, sym, subst, arith}
-use Rattle.std.specs.Prelude.{slice_get}
+use Rattle.std.proofs.Common.{◌≡◌, ◌⊎◌, inl, inr, ℕ, zero, suc, ◌+◌, List, Bool, true, false, refl}
 use Rattle.wy_code.specs.declared.instructions.Instr.{Instr}
 use Rattle.wy_code.specs.declared.instructions.Instr.TheVariants as instr
-use Rattle.wy_kept_registers.specs.Keeping.{IsNone}
-use Rattle.wy_kept_code.specs.Alive.{IsOne, reads, changes, nexts, ReadWithin, LiveAt, is_clear}
-use Rattle.wy_kept_code.specs.Safe.{Told, gone, Into, After, Onward, Fine, Safe}
+use Rattle.wy_kept_code.specs.Safe.{Told, Into, After, Onward, Safe}
 
 pub told_or_not : (b : Bool) → (b ≡ true) ⊎ (b ≡ false)
 told_or_not true = inl refl

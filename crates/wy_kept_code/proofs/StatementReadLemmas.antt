@@ -1,35 +1,30 @@
 -- Which variables are live in front of the code of a statement: those that some path from there uses before it assigns them.
-use Rattle.std.proofs.Common.{◌≡◌, ◌≢◌, ◌<◌, ◌≤◌, ◌⊎◌, inl, inr, ℕ, zero, suc, ◌+◌, List, [], ◌∷◌, ◌++◌, length, Bool, true, false, not, ◌&&◌, ◌||◌, ◌==◌, cond, Option, Some, None, refl, sym, ap, ◌∙◌, subst, arith, length-append}
-use Rattle.std.specs.Prelude.{slice_get}
-use Rattle.wy_core.specs.CoreTree.{Expr, Exprs, Step, IndexStep, FieldStep, Stmt, DeclareStmt, AssignStmt, CallStmt, ReturnStmt, AssertStmt, BreakStmt, ContinueStmt, SkipStmt, FailStmt, IfStmt, WhileStmt, Stmts, NoStmts, MoreStmts}
-use Rattle.wy_code.specs.declared.instructions.Scalar.TheVariants as scalar
+use Rattle.std.proofs.Common.{◌≡◌, ◌≢◌, ◌<◌, ◌≤◌, ◌⊎◌, inl, inr, ℕ, zero, suc, ◌+◌, List, [], ◌∷◌, ◌++◌, length, Bool, true, false, ◌||◌, ◌==◌, cond, Some, None, refl, ap, ◌∙◌, subst, arith}
+use Rattle.wy_core.specs.CoreTree.{Expr, Step, IndexStep, FieldStep, Stmt, DeclareStmt, AssignStmt, CallStmt, ReturnStmt, AssertStmt, BreakStmt, ContinueStmt, SkipStmt, FailStmt, IfStmt, WhileStmt, Stmts, NoStmts, MoreStmts}
 use Rattle.wy_code.specs.declared.instructions.Instr.{Instr}
 use Rattle.wy_code.specs.declared.instructions.Instr.TheVariants as instr
 use Rattle.wy_tables.specs.declared.context.Context.{Context}
 use Rattle.wy_tables.specs.declared.targets.Target.{Target}
 use Rattle.wy_tables.specs.declared.targets.Target.TheVariants.{Declared, Prints, PrintsInt, Nothing}
 use Rattle.wy_tables.specs.Tables.{target}
-use Rattle.wy_live.specs.Paths.{occurs, any_occurs, step_occurs, any_step_occurs, Used, UsedOrKept, DeclareLive, AssignLive, ReturnLive, Turns, IsLive, AreLive}
-use Rattle.wy_live.specs.Sets.{Variables, has, with, without, joined}
-use Rattle.wy_live.specs.Walks.{before, before_all, before_steps, live, live_all, alone, head_live, around}
+use Rattle.wy_live.specs.Paths.{occurs, any_step_occurs, Used, UsedOrKept, Turns, IsLive, AreLive}
+use Rattle.wy_live.specs.Sets.{Variables, has, with, without}
+use Rattle.wy_live.specs.Walks.{before, before_steps, live, live_all, head_live, around}
 use Rattle.wy_live.specs.declared.walk.Ends.{Ends}
-use Rattle.wy_pieces.specs.declared.steps.Step as steps
-use Rattle.wy_pieces.specs.declared.steps.Step.TheVariants.{Does, GoesOn, GoesBack, GoesOnUnless}
+use Rattle.wy_pieces.specs.declared.steps.Step.TheVariants.{Does}
 use Rattle.wy_pieces.specs.Placing.{slot_registers}
 use Rattle.wy_pieces.specs.Steps.{clear, fork, over, turns, registers_from}
 use Rattle.wy_compiled.specs.Expressions.{lost, released, is_plain, release_unless, count_of, code, codes}
-use Rattle.wy_compiled.specs.Statements.{store, set, declare, index_count, slots, indices, kept, update, assign, release_where, call_step, call, gives_null, give, choice, inside, turn, stmt_code, stmts_code}
-use Rattle.wy_kept_registers.specs.Keeping.{IsNone}
-use Rattle.wy_kept_code.specs.Alive.{IsOne, reads, changes, nexts, LiveAt}
-use Rattle.wy_kept_code.specs.Fitting.{Fits, FitAll, FitsOption, FitsPath, IsAction, FitsStmt, FitsStmts}
-use Rattle.wy_kept_code.proofs.PieceLemmas.{either, nat_up, less_not, From, none_below, Spans, front, back, tail, ended, live_reads, live_on, live_last, live_first_over, live_second, Turning, turning}
+use Rattle.wy_compiled.specs.Statements.{store, set, index_count, slots, indices, kept, update, call_step, choice, inside, turn, stmt_code, stmts_code}
+use Rattle.wy_kept_code.specs.Alive.{LiveAt}
+use Rattle.wy_kept_code.specs.Fitting.{Fits, FitsPath, FitsStmt, FitsStmts}
+use Rattle.wy_kept_code.proofs.PieceLemmas.{either, nat_up, less_not, none_below, Spans, front, back, tail, live_reads, live_on, live_last, live_first_over, live_second, turning}
 use Rattle.wy_kept_code.proofs.LivePathLemmas.{live_more, lives_more}
 use Rattle.wy_kept_code.proofs.LiveLemmas.{or_cases, of_path, of_paths}
 use Rattle.wy_kept_code.proofs.LiveUseLemmas.{has-before_steps}
-use Rattle.wy_kept_code.proofs.LiveSetLemmas.{by_same}
-use Rattle.wy_kept_code.proofs.SetLemmas.{never, not_both, same_of, other_of, Vars, before_of, all_of, without_of, with_of, joined_of, not_lost}
+use Rattle.wy_kept_code.proofs.SetLemmas.{never, not_both, same_of, other_of, Vars, before_of, without_of, with_of, joined_of, not_lost}
 use Rattle.wy_kept_code.proofs.TestLemmas.{at_end}
-use Rattle.wy_kept_code.proofs.ReadLemmas.{from_registers, clear_live, Low, Goes, goes_on, two_ways, code_live, codes_live}
+use Rattle.wy_kept_code.proofs.ReadLemmas.{from_registers, clear_live, Low, two_ways, code_live, codes_live}
 
 pub same_or_other : (r x : ℕ) → (r ≡ x) ⊎ (r ≢ x)
 same_or_other zero zero = inl refl

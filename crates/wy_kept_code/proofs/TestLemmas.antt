@@ -1,5 +1,5 @@
 -- The code of a test of a type keeps nothing dead.
-use Rattle.std.proofs.Common.{◌≡◌, ◌≢◌, ◌<◌, ◌≤◌, ◌⊎◌, inl, inr, ℕ, zero, suc, ◌+◌, List, [], ◌∷◌, ◌++◌, length, Bool, true, false, Some, pos, refl, sym, ap, ◌∙◌, subst, arith}
+use Rattle.std.proofs.Common.{◌≡◌, ◌≢◌, ◌<◌, ◌≤◌, ◌⊎◌, inl, inr, ℕ, suc, ◌+◌, List, [], ◌∷◌, ◌++◌, length, true, false, Some, pos, refl, sym, ◌∙◌, subst, arith}
 use Rattle.std.specs.Prelude.{slice_get}
 use Rattle.wy_core.specs.Types.{Ty, NullTy, BoolTy, IntTy, AnyTy, VoidTy, RecordTy, ArrayTy, UnionTy, InterTy, NotTy, NamedTy, NormalTy, FieldTys, NoFieldTys, MoreFieldTys}
 use Rattle.wy_code.specs.declared.instructions.Scalar.{Scalar}
@@ -13,14 +13,14 @@ use Rattle.wy_code.specs.declared.instructions.Instr.TheVariants as instr
 use Rattle.wy_tables.specs.declared.context.Context.{Context}
 use Rattle.wy_tables.specs.Tables.{number_of, shape_number, ty_names_in}
 use Rattle.wy_pieces.specs.declared.steps.Step.{Step}
-use Rattle.wy_pieces.specs.declared.steps.Step.TheVariants.{Does, GoesOn, GoesBack, GoesOnUnless}
-use Rattle.wy_pieces.specs.Steps.{clear, dropped, fork, turns}
-use Rattle.wy_compiled.specs.TypeTests.{item_end, item_turns, yes, items_test, named_test, array_test, record_test, field_end, test, fields_test}
+use Rattle.wy_pieces.specs.declared.steps.Step.TheVariants.{Does, GoesOnUnless}
+use Rattle.wy_pieces.specs.Steps.{dropped, fork}
+use Rattle.wy_compiled.specs.TypeTests.{item_end, item_turns, yes, items_test, field_end, test, fields_test}
 use Rattle.wy_kept_registers.specs.Keeping.{IsNone}
-use Rattle.wy_kept_code.specs.Alive.{IsOne, reads, changes, nexts, LiveAt}
-use Rattle.wy_kept_code.specs.Safe.{Told, gone, Into, After, Onward, Fine, Safe}
+use Rattle.wy_kept_code.specs.Alive.{IsOne, changes, nexts, LiveAt}
+use Rattle.wy_kept_code.specs.Safe.{Told, Into, After, Onward, Safe}
 use Rattle.wy_kept_code.proofs.SafeLemmas.{Less, safe_sooner}
-use Rattle.wy_kept_code.proofs.PieceLemmas.{either, nat_up, Told_of, Sure, Behind, less_not, Spans, front, back, tail, ended, live_reads, live_on, live_last, live_first, live_second, Turning, turning, Lives, safe_step, safe_clears, safe_jumps, safe_loops, safe_branches, safe_at, safe_fork, lives_on, lives_at}
+use Rattle.wy_kept_code.proofs.PieceLemmas.{either, nat_up, Told_of, Sure, Behind, sure_less, less_not, Spans, front, back, tail, ended, live_reads, live_on, live_last, live_first, live_second, turning, Lives, safe_step, safe_clears, safe_loops, safe_branches, safe_at, safe_fork, lives_on, lives_at}
 
 -- with one register more
 abbrev pub With : (ℕ → Type 0) → ℕ → ℕ → Type 0

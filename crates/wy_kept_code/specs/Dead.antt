@@ -5,12 +5,13 @@ use Rattle.wy_core.specs.CoreTree as tree
 use Rattle.wy_core.specs.CoreTree.{Expr, NullExpr, BoolExpr, IntExpr, VarExpr, CallExpr, NegExpr, NotExpr, LenExpr, BinaryExpr, IsExpr, IndexExpr, FieldExpr, ListExpr, RepeatExpr, RecordExpr, QuantExpr, Exprs, NoExprs, MoreExprs, Fields, NoFields, MoreFields, Step, IndexStep, FieldStep, Stmt, DeclareStmt, AssignStmt, CallStmt, ReturnStmt, AssertStmt, BreakStmt, ContinueStmt, SkipStmt, FailStmt, IfStmt, WhileStmt, Stmts, NoStmts, MoreStmts, Param, Alias, Core, aliases_of, routines_of}
 use Rattle.wy_formed.specs.Formed.{Formed}
 use Rattle.wy_tables.specs.Tables.{results_of}
+use Rattle.wy_live.specs.Walks.{nothing}
 use Rattle.wy_compiled.specs.Programs.{code_of}
 use Rattle.wy_step.specs.Step.{start, after}
 use Rattle.wy_simulated_tests.specs.Tested.{ClausesNameTheirs}
 use Rattle.wy_simulated_programs.specs.Programs.{AllInOrder}
 use Rattle.wy_kept_code.specs.Safe.{Told, KeepsNothing}
-use Rattle.wy_kept_code.specs.Fitting.{is_sure, Checked, SettledOption, SettledAt, SomeCode}
+use Rattle.wy_kept_code.specs.Fitting.{is_sure, Checked, SomeCode, SettledStmts}
 
 -- ---- the variables of quantifiers
 
@@ -142,10 +143,10 @@ TruthsPath L (IndexStep at e ∷ path) = Truths L e × TruthsPath L path
 TruthsPath L (FieldStep at name ∷ path) = TruthsPath L path
 
 abbrev mutual
-  -- so is what comes into a whole variable, and the test of an `if` without code in its blocks is none by its form
+  -- the test of an `if` without code in its blocks is none by its form
   pub TruthsStmt : Type 0 → Stmt ℕ → Type 0
-  TruthsStmt L (DeclareStmt at ty y value) = TruthsOption L value × SettledOption value L
-  TruthsStmt L (AssignStmt at y path e) = TruthsPath L path × Truths L e × SettledAt path e L
+  TruthsStmt L (DeclareStmt at ty y value) = TruthsOption L value
+  TruthsStmt L (AssignStmt at y path e) = TruthsPath L path × Truths L e
   TruthsStmt L (CallStmt at g args) = TruthsAll L args
   TruthsStmt L (ReturnStmt at value) = TruthsOption L value
   TruthsStmt L (AssertStmt at e) = Unit {0}
@@ -174,9 +175,10 @@ abbrev pub TruthsTypes : Type 0 → List (Alias ℕ) → Type 0
 TruthsTypes L [] = Unit {0}
 TruthsTypes L (a ∷ more) = TruthsClauses L a.clauses × LastTruth L a.clauses × TruthsTypes L more
 
+-- what comes into a whole variable that isn't live behind is none by its form, where the code takes it to be none
 abbrev pub TruthsRoutines : Type 0 → List (tree.Routine ℕ) → Type 0
 TruthsRoutines L [] = Unit {0}
-TruthsRoutines L (r ∷ rs) = TruthsStmts L r.body × TruthsRoutines L rs
+TruthsRoutines L (r ∷ rs) = (TruthsStmts L r.body × SettledStmts L r.body [] nothing) × TruthsRoutines L rs
 
 -- of a whole program
 abbrev pub TruthsByForm : Type 0 → Core ℕ → Type 0

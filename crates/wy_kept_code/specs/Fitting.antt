@@ -7,6 +7,9 @@ use Rattle.wy_tables.specs.declared.context.Context.{Context}
 use Rattle.wy_tables.specs.declared.targets.Target.{Target}
 use Rattle.wy_tables.specs.declared.targets.Target.TheVariants.{Declared, Prints, PrintsInt, Nothing}
 use Rattle.wy_tables.specs.Tables.{target}
+use Rattle.wy_live.specs.Sets.{Variables, has}
+use Rattle.wy_live.specs.Walks.{live_all, head_live, around}
+use Rattle.wy_live.specs.declared.walk.Ends.{Ends}
 use Rattle.wy_compiled.specs.Expressions.{is_plain, count_of}
 
 -- what is so of `&&` and `||` where it is so of their right operand, and of each other operator
@@ -61,15 +64,6 @@ Checked op.Greater b L = Unit {0}
 Checked op.GreaterEqual b L = Unit {0}
 Checked op.And b L = Unit {0}
 Checked op.Or b L = Unit {0}
-
--- so of what comes into a variable
-abbrev pub SettledOption : Option (Expr ℕ) → Type 0 → Type 0
-SettledOption None L = Unit {0}
-SettledOption (Some e) L = Settled e L
-
-abbrev pub SettledAt : List (Step ℕ) → Expr ℕ → Type 0 → Type 0
-SettledAt [] e L = Settled e L
-SettledAt (step ∷ path) e L = Unit {0}
 
 -- a function or method of the program with a result
 abbrev pub IsValue : Target → Type 0
@@ -151,8 +145,8 @@ SomeCode (MoreStmts st rest) = HasCode st ⊎ SomeCode rest
 abbrev mutual
   -- where the blocks of an `if` have no code, nothing tests its value
   pub FitsStmt : Context → ℕ → Type 0 → Type 0 → Stmt ℕ → (ℕ → Type 0) → Type 0
-  FitsStmt c n L R (DeclareStmt at ty x value) U = U x × FitsOption c n L value U × SettledOption value L
-  FitsStmt c n L R (AssignStmt at x path e) U = U x × FitsPath c n L path U × Fits c n L e U × SettledAt path e L
+  FitsStmt c n L R (DeclareStmt at ty x value) U = U x × FitsOption c n L value U
+  FitsStmt c n L R (AssignStmt at x path e) U = U x × FitsPath c n L path U × Fits c n L e U
   FitsStmt c n L R (CallStmt at g args) U = IsAction (target c.results g) (count_of args) × FitAll c n L args U
   FitsStmt c n L R (ReturnStmt at value) U = FitsOption c n L value U × MayGive R value
   FitsStmt c n L R (AssertStmt at e) U = Unit {0}
@@ -166,3 +160,36 @@ abbrev mutual
   pub FitsStmts : Context → ℕ → Type 0 → Type 0 → Stmts ℕ → (ℕ → Type 0) → Type 0
   FitsStmts c n L R NoStmts U = Unit {0}
   FitsStmts c n L R (MoreStmts st rest) U = FitsStmt c n L R st U × FitsStmts c n L R rest U
+
+-- ---- what comes into variables that aren't live
+
+-- it is released, or it is no list and no record by its form
+abbrev pub IsPutAway : ℕ → Expr ℕ → Variables → Type 0 → Type 0
+IsPutAway x e s L = (has s x ≡ true) ⊎ Settled e L
+
+abbrev pub SettledOption : ℕ → Option (Expr ℕ) → Variables → Type 0 → Type 0
+SettledOption x None s L = Unit {0}
+SettledOption x (Some e) s L = IsPutAway x e s L
+
+abbrev pub SettledAt : ℕ → List (Step ℕ) → Expr ℕ → Variables → Type 0 → Type 0
+SettledAt x [] e s L = IsPutAway x e s L
+SettledAt x (step ∷ path) e s L = Unit {0}
+
+abbrev mutual
+  -- so of each value that comes into a whole variable, where this is live behind the statement
+  pub SettledStmt : Type 0 → Stmt ℕ → Variables → Ends → Type 0
+  SettledStmt L (DeclareStmt at ty x value) s ends = SettledOption x value s L
+  SettledStmt L (AssignStmt at x path e) s ends = SettledAt x path e s L
+  SettledStmt L (CallStmt at g args) s ends = Unit {0}
+  SettledStmt L (ReturnStmt at value) s ends = Unit {0}
+  SettledStmt L (AssertStmt at e) s ends = Unit {0}
+  SettledStmt L (BreakStmt at) s ends = Unit {0}
+  SettledStmt L (ContinueStmt at) s ends = Unit {0}
+  SettledStmt L (SkipStmt at) s ends = Unit {0}
+  SettledStmt L (FailStmt at) s ends = Unit {0}
+  SettledStmt L (IfStmt at e first second) s ends = SettledStmts L first s ends × SettledStmts L second s ends
+  SettledStmt L (WhileStmt at e invariants inner) s ends = SettledStmts L inner (head_live e inner s) (around s (head_live e inner s))
+
+  pub SettledStmts : Type 0 → Stmts ℕ → Variables → Ends → Type 0
+  SettledStmts L NoStmts s ends = Unit {0}
+  SettledStmts L (MoreStmts st rest) s ends = SettledStmt L st (live_all rest s ends) ends × SettledStmts L rest s ends

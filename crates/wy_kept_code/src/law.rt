@@ -16,9 +16,9 @@ pub fn no_dead_variable_is_kept()
     ensures keep { NoDeadVariableIsKept }
 {}
 
-/// The same of all registers, where each truth value that no instruction tests or moves on is one by its form: what comes into a
-/// whole variable, or stands at the right of `==`, is no `&&` or `||` whose last operand is a variable, a call, an item or a
-/// field; nor are these the test of an `if` without code in its blocks, or the last clause of a type.
+/// The same of all registers, where each truth value that no instruction reads is one by its form: what comes into a whole
+/// variable that isn't live behind, or stands at the right of `==`, is no `&&` or `||` whose last operand is a variable, a call,
+/// an item or a field; nor are these the test of an `if` without code in its blocks, or the last clause of a type.
 pub fn nothing_dead_is_kept()
     ensures keep { NothingDeadIsKept }
 {}

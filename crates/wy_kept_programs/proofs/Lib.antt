@@ -1,0 +1,4 @@
+pub mod ApartLemmas
+pub mod StmtLemmas
+pub mod DeclLemmas
+pub mod KeepLemmas

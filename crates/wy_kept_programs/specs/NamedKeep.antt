@@ -1,0 +1,25 @@
+-- Nothing dead is kept in the code of a program with names.
+use Rattle.std.specs.Prelude.{◌≡◌, ◌<◌, List, length, true, false}
+use Rattle.wy_ast.specs.SurfaceTree.{Decl}
+use Rattle.wy_core.specs.CoreSeen.{seen_core}
+use Rattle.wy_core.specs.declared.declarations.Core.{Core}
+use Rattle.wy_names.specs.Named.{IsNamed}
+use Rattle.wy_named.specs.SourceLiterals.{SourceInts}
+use Rattle.wy_named.specs.SourceClauses.{HaveClauses}
+use Rattle.wy_named_programs.specs.NamedPrograms.{SourcesName}
+use Rattle.wy_kept_code.specs.Dead.{TruthsByForm, RunsKeep}
+
+-- what is so of each program that is read from a text: it has fewer than 2^32 declarations, its numbers are `int`s, each property has a clause, and each type with clauses has a variable
+pub record IsSource (ds : List Decl) : Type 0 where
+  pub few : length ds < 4294967296
+  pub ints : SourceInts ds
+  pub clauses : HaveClauses ds
+  pub names : SourcesName ds
+
+-- the registers of variables
+abbrev pub NamedKeepNoDeadVariable : Type 0
+NamedKeepNoDeadVariable = (ds : List Decl) (core : Core) → IsSource ds → IsNamed ds core → RunsKeep (seen_core core) true
+
+-- all registers
+abbrev pub NamedKeepNothingDead : Type 0
+NamedKeepNothingDead = (ds : List Decl) (core : Core) → IsSource ds → IsNamed ds core → TruthsByForm (false ≡ true) (seen_core core) → RunsKeep (seen_core core) false

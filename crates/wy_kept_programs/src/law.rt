@@ -1,0 +1,20 @@
+//! What is known of the code of programs with names.
+ghost use Rattle.wy_kept_programs.specs.NamedCounters.{NamedCountersAreOwn};
+ghost use Rattle.wy_kept_programs.specs.NamedKeep.{NamedKeepNoDeadVariable, NamedKeepNothingDead};
+
+/// In the core of a program with names no variable of a quantifier that is run has the number of a parameter or of a variable
+/// that a statement declares.
+pub fn named_counters_are_own()
+    ensures own { NamedCountersAreOwn }
+{}
+
+/// In each run of the code of a program with names, on whatever arguments, whenever the next instruction of a frame is no
+/// `Clear`, each register of a variable that holds a list or a record is live at the frame's place.
+pub fn named_programs_keep_no_dead_variable()
+    ensures keep { NamedKeepNoDeadVariable }
+{}
+
+/// The same of all registers, where each truth value that no instruction reads is one by its form.
+pub fn named_programs_keep_nothing_dead()
+    ensures keep { NamedKeepNothingDead }
+{}
