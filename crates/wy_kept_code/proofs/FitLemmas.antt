@@ -14,8 +14,8 @@ use Rattle.wy_live.specs.Sets.{Variables}
 use Rattle.wy_live.specs.Walks.{live_all, head_live, around, nothing}
 use Rattle.wy_live.specs.declared.walk.Ends.{Ends}
 use Rattle.wy_compiled.specs.Expressions.{count_of}
-use Rattle.wy_kept_code.specs.Fitting.{SettledOption, SettledAt, SettledStmt, SettledStmts, Checked, IsValue, Fits, FitAll, FitFields, FitsOption, FitsPath, IsAction, MayGive, FitsStmt, FitsStmts}
-use Rattle.wy_kept_code.specs.Dead.{Counts, CountsAll, CountsFields, CountsOption, CountsPath, CountsStmt, CountsStmts, Declares, DeclaresIn, IsParam, Truths, TruthsAll, TruthsFields, TruthsOption, TruthsPath, TruthsStmt, TruthsStmts, LastTruth, TruthsClauses, TruthsTypes, TruthsRoutines}
+use Rattle.wy_kept_code.specs.Fitting.{IsValue, Fits, FitAll, FitFields, FitsOption, FitsPath, IsAction, MayGive, FitsStmt, FitsStmts}
+use Rattle.wy_kept_code.specs.Dead.{Counts, CountsAll, CountsFields, CountsOption, CountsPath, CountsStmt, CountsStmts, Declares, DeclaresIn, IsParam}
 use Rattle.wy_kept_code.proofs.PieceLemmas.{either}
 
 -- ---- what numbers call

@@ -30,8 +30,8 @@ use Rattle.wy_kept_registers.specs.Keeping.{IsNone}
 use Rattle.wy_kept_code.specs.Alive.{LiveAt}
 use Rattle.wy_kept_code.specs.Safe.{Told, Safe, SafeCode}
 use Rattle.wy_kept_code.specs.Telling.{Tells}
-use Rattle.wy_kept_code.specs.Fitting.{is_sure, Fits, FitsStmts, SettledStmts}
-use Rattle.wy_kept_code.specs.Dead.{CountsStmts, IsDeclared, OwnCounters, TruthsStmts, LastTruth, TruthsClauses, TruthsTypes, TruthsRoutines, TruthsByForm, variables_in, result_at, told_of, Asked, NothingDeadIsKept, NoDeadVariableIsKept}
+use Rattle.wy_kept_code.specs.Fitting.{Fits, FitsStmts}
+use Rattle.wy_kept_code.specs.Dead.{CountsStmts, IsDeclared, OwnCounters, variables_in, result_at, told_of, Asked, NothingDeadIsKept, NoDeadVariableIsKept}
 use Rattle.wy_kept_code.proofs.SafeLemmas.{safe_less}
 use Rattle.wy_kept_code.proofs.RunLemmas.{safe_runs}
 use Rattle.wy_kept_code.proofs.PieceLemmas.{either, less_not, Spans, front, back, tail, ended, live_reads, live_second, Lives, Told_of, Sure, sure_less, safe_step, safe_returns, safe_at, safe_fork, lives_at}
@@ -203,7 +203,7 @@ module _ (core : Core ℕ) (loose : Bool) where
     clauses_some e es fit g = front_some body c n L (code c e s n) (fork n (clauses_steps c es s n) []) (code_some body c n L e U s n fit) g
 
     -- the value of a clause that isn't the last is tested, and the last is a truth value by its form
-    tested : (e : Expr ℕ) (es : List (Expr ℕ)) → FitsClauses (e ∷ es) → LastTruth L (e ∷ es) → ((is_sure e ≡ true) ⊎ L) ⊎ (clauses_steps c es s n ≡ [] → ⊥)
+    tested : (e : Expr ℕ) (es : List (Expr ℕ)) → FitsClauses (e ∷ es) → LastTruth L (e ∷ es) → ((is_plain e ≡ true) ⊎ L) ⊎ (clauses_steps c es s n ≡ [] → ⊥)
     tested e [] fit last = inl last
     tested e (d ∷ es) fit last = inr (clauses_some d es fit.1.0)
 
@@ -217,9 +217,9 @@ module _ (core : Core ℕ) (loose : Bool) where
         let more = clauses_steps c es s n in
         let one = code c e s n in let mid = p + length one in
         let rest = back body p one (fork n more []) next h in
-        let P : ℕ → Type 0 = λ r. Vars s r ⊎ ((r ≡ n) × (is_sure e ≡ false)) in
+        let P : ℕ → Type 0 = λ r. Vars s r ⊎ ((r ≡ n) × (is_plain e ≡ false)) in
         let live_s : Lives body t f mid (Vars s) = λ r u v. live_second body mid next n more [] r rest (λ q sp. at_end body q next r sp (exit.0 r u v)) in
-        let plain_no : (r : ℕ) → t.untold f r ≡ false → (is_sure e ≡ true) ⊎ L → (r ≡ n) × (is_sure e ≡ false) → ⊥ = λ r u k z. either (λ y. not_both (is_sure e) y z.1) (λ y. told_not body c n L t f tells r n z.0 u (tells.loose y n (omega arith))) k in
+        let plain_no : (r : ℕ) → t.untold f r ≡ false → (is_plain e ≡ true) ⊎ L → (r ≡ n) × (is_plain e ≡ false) → ⊥ = λ r u k z. either (λ y. not_both (is_plain e) y z.1) (λ y. told_not body c n L t f tells r n z.0 u (tells.loose y n (omega arith))) k in
         let live_P : Lives body t f mid P = λ r u l. either (λ v. live_s r u v) (λ z. either (λ k. absurd (plain_no r u k z)) (λ k. subst (λ (y : ℕ). LiveAt body mid y) (sym z.0) (fork_reads body c n L mid next n more [] rest (λ g1 g2. k g1))) (tested e es fit last)) l in
         let at_p = value_safe body c n L R U low t f tells (λ g. g) (λ r h2 u. any_gives f r u) e fit.0 m s p mid (λ r v. is_x r v) (front body p one (fork n more []) next h) (
           live_s,

@@ -110,10 +110,10 @@ module _ (body : List Instr) where
       const_safe m at next r g k P h un live safe = answered m at next r (instr.Const r k) P h (λ q l. ((un q l).1, tt)) (inl refl) (λ x s. s) (kept_only (instr.Const r k) P (λ q z. z)) live safe
 
       -- without it again
-      live_less : (p x : ℕ) (P : ℕ → Type 0) → Lives body t f p (With P x) → Lives body t f p P
+      pub live_less : (p x : ℕ) (P : ℕ → Type 0) → Lives body t f p (With P x) → Lives body t f p P
       live_less p x P live q u l = live q u (inl l)
 
-      sure_less_one : (m p x : ℕ) (P : ℕ → Type 0) → Sure body t f m p (With P x) → Sure body t f m p P
+      pub sure_less_one : (m p x : ℕ) (P : ℕ → Type 0) → Sure body t f m p (With P x) → Sure body t f m p P
       sure_less_one m p x P safe = sure_less body t f m p P (With P x) (λ q u l. inl l) safe
 
       -- two more, in either order
@@ -122,19 +122,19 @@ module _ (body : List Instr) where
       turned P x y q (inl (inr e)) = inr e
       turned P x y q (inr e) = inl (inr e)
 
-      live_turned : (p x y : ℕ) (P : ℕ → Type 0) → Lives body t f p (With (With P x) y) → Lives body t f p (With (With P y) x)
+      pub live_turned : (p x y : ℕ) (P : ℕ → Type 0) → Lives body t f p (With (With P x) y) → Lives body t f p (With (With P y) x)
       live_turned p x y P live q u l = live q u (turned P y x q l)
 
-      sure_turned : (m p x y : ℕ) (P : ℕ → Type 0) → Sure body t f m p (With (With P x) y) → Sure body t f m p (With (With P y) x)
+      pub sure_turned : (m p x y : ℕ) (P : ℕ → Type 0) → Sure body t f m p (With (With P x) y) → Sure body t f m p (With (With P y) x)
       sure_turned m p x y P safe = sure_less body t f m p (With (With P y) x) (With (With P x) y) (λ q u l. turned P y x q l) safe
 
       -- the answer is live in front of a fork that asks it
-      asked_lives : (p next r : ℕ) (first second : List Step) (P : ℕ → Type 0) → Spans body p (fork r first second) next → Lives body t f p P → Lives body t f next (With P r) → Lives body t f p (With P r)
+      pub asked_lives : (p next r : ℕ) (first second : List Step) (P : ℕ → Type 0) → Spans body p (fork r first second) next → Lives body t f p P → Lives body t f next (With P r) → Lives body t f p (With P r)
       asked_lives p next r first second P h live behind q u (inl l) = live q u l
       asked_lives p next r first second P h live behind q u (inr e) = subst (λ (z : ℕ). LiveAt body p z) (sym e) (asked_live p next r first second h (behind r (subst (λ (z : ℕ). t.untold f z ≡ false) e u) (inr refl)))
 
       -- where it isn't the answer
-      unasked : (P : ℕ → Type 0) (r q : ℕ) → With P r q × (q ≢ r) → P q
+      pub unasked : (P : ℕ → Type 0) (r q : ℕ) → With P r q × (q ≢ r) → P q
       unasked P r q k = either (λ l. l) (λ e. absurd (k.1 e)) k.0
 
       -- a value in g is released by way of a free register
@@ -239,7 +239,7 @@ module _ (body : List Instr) where
       empty_safe m p q P h safe = safe_at body t f m q p P (sym (ended body p q h)) safe
 
       -- more code where the answer is true, or nothing
-      one_safe : (rest : List Step) (m at next r : ℕ) (P : ℕ → Type 0) → Spans body at (fork r rest []) next → Lives body t f at (With P r) → Lives body t f next (With P r) → Sure body t f m next (With P r)
+      pub one_safe : (rest : List Step) (m at next r : ℕ) (P : ℕ → Type 0) → Spans body at (fork r rest []) next → Lives body t f at (With P r) → Lives body t f next (With P r) → Sure body t f m next (With P r)
           → ((p q : ℕ) → Spans body p rest q → Lives body t f q (With P r) → Sure body t f m q (With P r) → Sure body t f m p P) → Sure body t f m at (With P r)
       one_safe [] m at next r P h here live safe inner = safe_at body t f m next at (With P r) (sym (ended body at next h)) safe
       one_safe (s ∷ rest) m at next r P h here live safe inner =

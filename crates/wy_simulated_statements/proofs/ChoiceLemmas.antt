@@ -1,5 +1,5 @@
 -- Places and scopes of what statements lead to, releases between blocks, and the two blocks of an `if`.
-use Rattle.std.proofs.Common.{◌≡◌, ◌≤◌, ℕ, ◌+◌, List, [], ◌∷◌, ◌++◌, length, Bool, true, false, Some, ◌∙◌, ap, arith, length-append}
+use Rattle.std.proofs.Common.{◌≡◌, ◌≤◌, ℕ, ◌+◌, List, [], ◌∷◌, ◌++◌, length, Bool, true, false, Some, refl, ◌∙◌, ap, arith, length-append}
 use Rattle.wy_value.specs.Datum.{Truth}
 use Rattle.wy_core.specs.CoreTree.{Expr, Stmts, IfStmt}
 use Rattle.wy_formed.specs.Offers.{Offers}
@@ -94,24 +94,24 @@ module _ (c : Context) (routines : List Routine) (f : ℕ) (r : Routine) (there 
     abbrev Block : (exit again : ℕ) → List Step → Type 0
     Block exit again steps = (now : Store) → Kept vs both r.registers store now → Runs mach f r there wide lo 1 m o now callers r.registers vs vs s ends exit again steps
 
-    released_first : StandAt r.body at (release_unless false n) → Block (0 + exit) (0 + again) [] → Branched (release_unless false n)
-    released_first h run =
+    released_first : (x y : ℕ) → x ≡ exit → y ≡ again → StandAt r.body at (release_unless false n) → Block x y [] → Branched (release_unless false n)
+    released_first x y x_is y_is h run =
         follows_more mach wide lo 2 lo 3 m (at_place f at regs callers m.output) o (Leads f callers r.registers (record { after = at + 1; exit = at + 1 + exit; again = at + 1 + again }) vs vs s ends) (omega arith) (omega arith)
         (then_cleared mach f r there wide lo 1 at (n ∷ []) regs callers m o (Leads f callers r.registers (record { after = at + 1; exit = at + 1 + exit; again = at + 1 + again }) vs vs s ends) h
-        (follows_map mach wide lo 1 m (at_place f (at + 1) (cleared regs (n ∷ [])) callers m.output) o (Leads f callers r.registers (record { after = at + 1 + 0; exit = at + 1 + 0 + (0 + exit); again = at + 1 + 0 + (0 + again) }) vs vs s ends)
+        (follows_map mach wide lo 1 m (at_place f (at + 1) (cleared regs (n ∷ [])) callers m.output) o (Leads f callers r.registers (record { after = at + 1 + 0; exit = at + 1 + 0 + x; again = at + 1 + 0 + y }) vs vs s ends)
         (Leads f callers r.registers (record { after = at + 1; exit = at + 1 + exit; again = at + 1 + again }) vs vs s ends)
         (run (cleared regs (n ∷ [])) (kept_free vs both r.registers store regs known kept) (at + 1) tt)
-        (leads_moved f callers r.registers (record { after = at + 1 + 0; exit = at + 1 + 0 + (0 + exit); again = at + 1 + 0 + (0 + again) }) (record { after = at + 1; exit = at + 1 + exit; again = at + 1 + again }) vs vs vs s ends (λ x i. i) (λ x i. i) (omega arith) (omega arith) (omega arith))))
+        (leads_moved f callers r.registers (record { after = at + 1 + 0; exit = at + 1 + 0 + x; again = at + 1 + 0 + y }) (record { after = at + 1; exit = at + 1 + exit; again = at + 1 + again }) vs vs vs s ends (λ z i. i) (λ z i. i) (omega arith) (omega (arith, x_is)) (omega (arith, y_is)))))
 
     branches_on : (plain : Bool) (first second : List Step) → StandAt r.body at (branches n plain first second) → slot regs n ≡ Some (Truth true) → Block (over second + exit) (over second + again) first → Branched (branches n plain first second)
     branches_on true [] [] h e run = fork_on mach f r there wide lo 1 at n regs callers m o r.registers vs vs s ends exit again [] [] h e (run regs kept)
-    branches_on false [] [] h e run = released_first h run
+    branches_on false [] [] h e run = released_first (0 + exit) (0 + again) (omega arith) (omega arith) h run
     branches_on plain (q ∷ first) [] h e run = fork_on mach f r there wide lo 1 at n regs callers m o r.registers vs vs s ends exit again (q ∷ first) [] h e (run regs kept)
     branches_on plain first (q ∷ second) h e run = fork_on mach f r there wide lo 1 at n regs callers m o r.registers vs vs s ends exit again first (q ∷ second) h e (run regs kept)
 
     branches_off : (plain : Bool) (first second : List Step) → StandAt r.body at (branches n plain first second) → slot regs n ≡ Some (Truth false) → Block exit again second → Branched (branches n plain first second)
     branches_off true [] [] h e run = fork_off mach f r there wide lo 1 at n regs callers m o r.registers vs vs s ends exit again [] [] h e (run regs kept)
-    branches_off false [] [] h e run = released_first h run
+    branches_off false [] [] h e run = released_first exit again refl refl h run
     branches_off plain (q ∷ first) [] h e run = fork_off mach f r there wide lo 1 at n regs callers m o r.registers vs vs s ends exit again (q ∷ first) [] h e (run regs kept)
     branches_off plain first (q ∷ second) h e run = fork_off mach f r there wide lo 1 at n regs callers m o r.registers vs vs s ends exit again first (q ∷ second) h e (run regs kept)
 
