@@ -21,8 +21,8 @@ use Rattle.wy_kept_code.specs.Alive.{LiveAt}
 use Rattle.wy_kept_code.specs.Safe.{Told}
 use Rattle.wy_kept_code.specs.Telling.{Tells}
 use Rattle.wy_kept_code.specs.Fitting.{IsValue, Fits}
-use Rattle.wy_kept_code.proofs.PieceLemmas.{either, one_not_none, less_not, none_below, Spans, front, back, tail, live_reads, live_on, live_first, live_second, Lives, Sure, sure_less, safe_step, safe_at, safe_fork, lives_on, lives_at}
-use Rattle.wy_kept_code.proofs.SetLemmas.{Vars, before_cases, with_cases, still_has}
+use Rattle.wy_kept_code.proofs.PieceLemmas.{either, one_not_none, less_not, none_below, Spans, front, back, tail, live_reads, live_on, live_first, live_second, Lives, Sure, sure_less, safe_step, safe_at, safe_fork_passes, lives_on, lives_at}
+use Rattle.wy_kept_code.proofs.SetLemmas.{not_both, Vars, before_cases, with_cases, still_has}
 use Rattle.wy_kept_code.proofs.TestLemmas.{With, test_live, live_turned, sure_turned, dropped_safe, test_safe}
 use Rattle.wy_kept_code.proofs.ReadLemmas.{from_registers, code_live}
 use Rattle.wy_kept_code.proofs.OperandLemmas.{Range, in_range, code_some, fork_reads, told_not, base_low, known_before, operands_ready, clear_sure, pair_safe, operator_ready}
@@ -61,9 +61,12 @@ module _ (body : List Instr) (c : Context) (n : ℕ) (L : Type 0) (t : Told) (f 
   abbrev Sf : Expr ℕ → (ℕ → Type 0) → Type 1
   Sf e U = (m : ℕ) (s : Variables) (A : ℕ → Type 0) (d at next : ℕ) → Kn s U → n ≤ d → Ar d A → Spans body at (code c e s d) next → Full m next (B s A) e d → Comes m at (B (before e s) A)
 
-  -- what `&&` and `||` leave: their value is live there, where it isn't none by its form
+  -- what `&&` and `||` leave is what their right operand leaves
   abbrev Open : ℕ → ℕ → (ℕ → Type 0) → Expr ℕ → ℕ → Type 0
-  Open m p P b d = Lives body t f p P × Sure body t f m p (λ r. P r ⊎ H b d r) × Lives body t f p (H b d)
+  Open m p P b d = Lives body t f p P × Sure body t f m p (λ r. P r ⊎ H b d r)
+
+  sure_both : {X : Type 0} (e : Expr ℕ) (d r : ℕ) → K e d r → X
+  sure_both e d r z = not_both (is_plain e) z.1.1 z.1.0
 
   module _ (U : ℕ → Type 0) (low : Lo U) where
     -- what is released where the right operand is left out
@@ -87,10 +90,10 @@ module _ (body : List Instr) (c : Context) (n : ℕ) (L : Type 0) (t : Told) (f 
         let at_d : LiveAt body mid d = fork_reads body c n L mid next d (code c b s d) (released T s) rest (λ e g. some e) in
         one m T A d at mid (known_before body c n L t f tells b U s fit known) nd around (front body at (code c a T d) (fork d (code c b s d) (released T s)) next h) (
           live,
-          safe_fork body t f m mid next d (code c b s d) (released T s) (λ r. B T A r ⊎ H a d r) (B T A) (B T A) (λ r. B s A r ⊎ H b d r) rest
+          safe_fork_passes body t f m mid next d (code c b s d) (released T s) (λ r. B T A r ⊎ H a d r) (B T A) (B T A) (B s A) (H b d) rest
               (λ r u l. either (λ k. live r u k) (λ k. subst (λ (z : ℕ). LiveAt body mid z) (sym k.0) at_d) l)
-              (λ e g. absurd (some e)) (λ r u l. either (λ k. k) (λ k. absurd (l.1 k.0)) l.0) (λ r u l. either (λ k. k) (λ k. absurd (l.1 k.0)) l.0) (λ r u l. either (λ k. exit.0 r u k) (λ k. exit.2 r u k) l)
-              (λ p q sp lq sq. (two m s A d p q known nd around sp ((λ r u k. lq r u (inl k)), sq, (λ r u z. lq r u (inr (z.0, z.1.0))))).1)
+              (λ e g. absurd (some e)) (λ r u l. either (λ k. k) (λ k. absurd (l.1 k.0)) l.0) (λ r u l. either (λ k. k) (λ k. absurd (l.1 k.0)) l.0) exit.0 (λ r w. tells.passes r (let e = w.0 in omega (arith, nd, e)))
+              (λ p q sp lq sq. (two m s A d p q known nd around sp (lq, sq, (λ r u z. sure_both b d r z))).1)
               (λ p sp. skipped_sure b m s A p next sp (sure_less body t f m next (B s A) (λ r. B s A r ⊎ H b d r) (λ r u l. inl l) exit.1)) exit.1,
           (λ r u z. subst (λ (y : ℕ). LiveAt body mid y) (sym z.0) at_d),
         )
@@ -106,11 +109,11 @@ module _ (body : List Instr) (c : Context) (n : ℕ) (L : Type 0) (t : Told) (f 
         let at_d : LiveAt body mid d = fork_reads body c n L mid next d (released T s) (code c b s d) rest (λ e g. some g) in
         one m T A d at mid (known_before body c n L t f tells b U s fit known) nd around (front body at (code c a T d) (fork d (released T s) (code c b s d)) next h) (
           live,
-          safe_fork body t f m mid next d (released T s) (code c b s d) (λ r. B T A r ⊎ H a d r) (B T A) (B T A) (λ r. B s A r ⊎ H b d r) rest
+          safe_fork_passes body t f m mid next d (released T s) (code c b s d) (λ r. B T A r ⊎ H a d r) (B T A) (B T A) (B s A) (H b d) rest
               (λ r u l. either (λ k. live r u k) (λ k. subst (λ (z : ℕ). LiveAt body mid z) (sym k.0) at_d) l)
-              (λ e g. absurd (some g)) (λ r u l. either (λ k. k) (λ k. absurd (l.1 k.0)) l.0) (λ r u l. either (λ k. k) (λ k. absurd (l.1 k.0)) l.0) (λ r u l. either (λ k. exit.0 r u k) (λ k. exit.2 r u k) l)
+              (λ e g. absurd (some g)) (λ r u l. either (λ k. k) (λ k. absurd (l.1 k.0)) l.0) (λ r u l. either (λ k. k) (λ k. absurd (l.1 k.0)) l.0) exit.0 (λ r w. tells.passes r (let e = w.0 in omega (arith, nd, e)))
               (λ p q sp lq sq. skipped_sure b m s A p q sp (sure_less body t f m q (B s A) (λ r. B s A r ⊎ H b d r) (λ r u l. inl l) sq))
-              (λ p sp. (two m s A d p next known nd around sp (exit.0, exit.1, (λ r u z. exit.2 r u (z.0, z.1.0)))).1) exit.1,
+              (λ p sp. (two m s A d p next known nd around sp (exit.0, exit.1, (λ r u z. sure_both b d r z))).1) exit.1,
           (λ r u z. subst (λ (y : ℕ). LiveAt body mid y) (sym z.0) at_d),
         )
 
@@ -132,8 +135,8 @@ module _ (body : List Instr) (c : Context) (n : ℕ) (L : Type 0) (t : Told) (f 
     binary_safe i op.LessEqual a b one two fit m s A d at next known nd around h exit = strict_safe op.LessEqual a b (λ e. cc) (λ e. cc) one two fit m s A d at next known nd around h (exit.0, sure_less body t f m next (B s A) (λ r. B s A r ⊎ H (BinaryExpr i op.LessEqual a b) d r) (λ r u l. inl l) exit.1)
     binary_safe i op.Greater a b one two fit m s A d at next known nd around h exit = strict_safe op.Greater a b (λ e. cc) (λ e. cc) one two fit m s A d at next known nd around h (exit.0, sure_less body t f m next (B s A) (λ r. B s A r ⊎ H (BinaryExpr i op.Greater a b) d r) (λ r u l. inl l) exit.1)
     binary_safe i op.GreaterEqual a b one two fit m s A d at next known nd around h exit = strict_safe op.GreaterEqual a b (λ e. cc) (λ e. cc) one two fit m s A d at next known nd around h (exit.0, sure_less body t f m next (B s A) (λ r. B s A r ⊎ H (BinaryExpr i op.GreaterEqual a b) d r) (λ r u l. inl l) exit.1)
-    binary_safe i op.And a b one two fit m s A d at next known nd around h exit = and_safe a b one two fit m s A d at next known nd around h (exit.0, exit.1, (λ r u z. exit.2 r u (z.0, (z.1, refl))))
-    binary_safe i op.Or a b one two fit m s A d at next known nd around h exit = or_safe a b one two fit m s A d at next known nd around h (exit.0, exit.1, (λ r u z. exit.2 r u (z.0, (z.1, refl))))
+    binary_safe i op.And a b one two fit m s A d at next known nd around h exit = and_safe a b one two fit m s A d at next known nd around h (exit.0, exit.1)
+    binary_safe i op.Or a b one two fit m s A d at next known nd around h exit = or_safe a b one two fit m s A d at next known nd around h (exit.0, exit.1)
 
     -- ---- one instruction without operands
 

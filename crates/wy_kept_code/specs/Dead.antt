@@ -118,10 +118,11 @@ result_at [] f = true
 result_at (b ∷ bs) zero = b
 result_at (b ∷ bs) (suc f) = result_at bs f
 
--- of each register something is said; or, where the program is loose, of those of variables alone
+-- of each register something is said, while a jump is next of those of variables alone; or, where the program is loose, of these alone
 abbrev pub told_of : Core ℕ → Bool → Told
 told_of core loose = record {
   untold = (λ f r. loose && not (nat_lt r (variables_in (routines_of core) (aliases_of core) f)));
+  passing = (λ f r. not (nat_lt r (variables_in (routines_of core) (aliases_of core) f)));
   results = (λ f. loose || result_at (results_of (routines_of core)) f);
 }
 
