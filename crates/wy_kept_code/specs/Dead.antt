@@ -136,7 +136,7 @@ pub record Asked (core : Core ℕ) : Type 0 where
   pub names : ClausesNameTheirs core
   pub counters : OwnCounters (routines_of core)
 
--- in each run of the code, on whatever arguments, whenever the next instruction of a frame is no `Clear`: each register of the frame that holds a list or a record is live at the frame's place
+-- in each run of the code, on whatever arguments, whenever the next instruction of a frame is no `Clear`: each register of the frame that holds a list or a record is live at the frame's place; of a value's register nothing is said while a jump is next
 abbrev pub NothingDeadIsKept : Type 0
 NothingDeadIsKept = (core : Core ℕ) → Asked core → RunsKeep core false
 
