@@ -74,7 +74,7 @@ module _ (ds : List (Decl ℕ)) (o : Offers) (offers : o.routines ≡ signatures
       fits_expr (NegExpr at a) vs W both b own = fits_expr a vs W both b own
       fits_expr (NotExpr at a) vs W both b own = fits_expr a vs W both b own
       fits_expr (LenExpr at a) vs W both b own = fits_expr a vs W both b own
-      fits_expr (BinaryExpr at q a d) vs W both b own = (fits_expr a vs W both b.0 (λ x k. own x (inl k)), fits_expr d vs W both b.1 (λ x k. own x (inr k)),)
+      fits_expr (BinaryExpr at q a d) vs W both b own = (fits_expr a vs W both b.0 (λ x k. own x (inl k)), fits_expr d vs W both b.1 (λ x k. own x (inr k)))
       fits_expr (IsExpr at a ty) vs W both b own = fits_expr a vs W both b.0 own
       fits_expr (IndexExpr at a d) vs W both b own = (fits_expr a vs W both b.0 (λ x k. own x (inl k)), fits_expr d vs W both b.1 (λ x k. own x (inr k)))
       fits_expr (FieldExpr at a name) vs W both b own = fits_expr a vs W both b own
@@ -141,7 +141,7 @@ module _ (ds : List (Decl ℕ)) (o : Offers) (offers : o.routines ≡ signatures
         fits_stmt (SkipStmt at) a vs inside dec gives b own = tt
         fits_stmt (FailStmt at) a vs inside dec gives b own = tt
         fits_stmt (IfStmt at e first second) a vs inside dec gives b own =
-            (fits_expr e vs U (own_scope vs inside) b.0 (λ x k. own x (inl k)), fits_stmts first a vs inside (λ x k. dec x (inl k)) gives b.1 (λ x k. own x (inr (inl k))), fits_stmts second a vs inside (λ x k. dec x (inr k)) gives b.2 (λ x k. own x (inr (inr k))),)
+            (fits_expr e vs U (own_scope vs inside) b.0 (λ x k. own x (inl k)), fits_stmts first a vs inside (λ x k. dec x (inl k)) gives b.1 (λ x k. own x (inr (inl k))), fits_stmts second a vs inside (λ x k. dec x (inr k)) gives b.2 (λ x k. own x (inr (inr k))))
         fits_stmt (WhileStmt at e invariants body) a vs inside dec gives b own =
             (fits_expr e vs U (own_scope vs inside) b.0 (λ x k. own x (inl k)), fits_stmts body (looped a) vs inside dec gives b.2 (λ x k. own x (inr k)))
 
