@@ -22,3 +22,5 @@ pub mod StatementLemmas
 -- programs
 pub mod FitLemmas
 pub mod ProgramLemmas
+-- a program that keeps something dead
+pub mod ExampleLemmas

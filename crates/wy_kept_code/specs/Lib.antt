@@ -8,3 +8,5 @@ pub mod Telling
 pub mod Fitting
 -- the law on programs
 pub mod Dead
+-- a program that keeps something dead
+pub mod Examples

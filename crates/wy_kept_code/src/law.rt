@@ -1,6 +1,7 @@
 //! Which registers of a run may hold lists and records.
 ghost use Rattle.wy_kept_code.specs.Safe.{SafeRunsKeepNothing};
 ghost use Rattle.wy_kept_code.specs.Dead.{NoDeadVariableIsKept, NothingDeadIsKept};
+ghost use Rattle.wy_kept_code.specs.Examples.{AnUntestedTruthIsKept};
 
 /// Where code is safe from each routine's entry on, whatever its arguments, then in each run of it, whenever the next
 /// instruction of a frame is no `Clear`, each register of the frame that holds a list or a record is live at the frame's place.
@@ -21,4 +22,9 @@ pub fn no_dead_variable_is_kept()
 /// an item or a field; nor are these the test of an `if` without code in its blocks, or the last clause of a type.
 pub fn nothing_dead_is_kept()
     ensures keep { NothingDeadIsKept }
+{}
+
+/// Not so of each formed program: `bool t = true && xs` and `return 0`, which types refuse, keeps the array.
+pub fn an_untested_truth_is_kept()
+    ensures kept { AnUntestedTruthIsKept }
 {}
