@@ -1,18 +1,12 @@
 -- A formed program is as the law on its code asks.
 use Rattle.std.proofs.Common.{◌≡◌, ◌<◌, ◌⊎◌, inl, inr, ℕ, zero, suc, List, [], ◌∷◌, length, Bool, true, false, Option, Some, None, refl, sym, ap, ◌∙◌, subst, arith}
 use Rattle.std.specs.Prelude.{slice_get, is_some}
-use Rattle.wy_core.specs.CoreTree as tree
-use Rattle.wy_core.specs.CoreTree.{Expr, NullExpr, BoolExpr, IntExpr, VarExpr, CallExpr, NegExpr, NotExpr, LenExpr, BinaryExpr, IsExpr, IndexExpr, FieldExpr, ListExpr, RepeatExpr, RecordExpr, QuantExpr, Exprs, NoExprs, MoreExprs, Fields, NoFields, MoreFields, Step, IndexStep, FieldStep, Stmt, DeclareStmt, AssignStmt, CallStmt, ReturnStmt, AssertStmt, BreakStmt, ContinueStmt, SkipStmt, FailStmt, IfStmt, WhileStmt, Stmts, NoStmts, MoreStmts, Param, Alias, Decl, AliasDecl, RoutineDecl, Core, aliases_of, routines_of}
-use Rattle.wy_core.specs.declared.expressions.Op.{Op}
-use Rattle.wy_core.specs.declared.expressions.Op.TheVariants as op
+use Rattle.wy_core.specs.CoreTree.{Expr, NullExpr, BoolExpr, IntExpr, VarExpr, CallExpr, NegExpr, NotExpr, LenExpr, BinaryExpr, IsExpr, IndexExpr, FieldExpr, ListExpr, RepeatExpr, RecordExpr, QuantExpr, Exprs, NoExprs, MoreExprs, Fields, NoFields, MoreFields, Step, IndexStep, FieldStep, Stmt, DeclareStmt, AssignStmt, CallStmt, ReturnStmt, AssertStmt, BreakStmt, ContinueStmt, SkipStmt, FailStmt, IfStmt, WhileStmt, Stmts, NoStmts, MoreStmts, Param, Decl, AliasDecl, RoutineDecl, routines_of}
 use Rattle.wy_formed.specs.Offers.{Signature, Offers, signatures_of, IsCall}
 use Rattle.wy_formed.specs.Bound as formed
 use Rattle.wy_formed.specs.Bound.{Scope, Has, IsNew, BoundExpr, BoundExprs, BoundFields, BoundOption, BoundPath, BoundStmt, BoundStmts, BoundClauses, BoundParams, Around, looped, behind, with_params}
 use Rattle.wy_tables.specs.declared.context.Context.{Context}
 use Rattle.wy_tables.specs.Tables.{target, results_of}
-use Rattle.wy_live.specs.Sets.{Variables}
-use Rattle.wy_live.specs.Walks.{live_all, head_live, around, nothing}
-use Rattle.wy_live.specs.declared.walk.Ends.{Ends}
 use Rattle.wy_compiled.specs.Expressions.{count_of}
 use Rattle.wy_kept_code.specs.Fitting.{IsValue, Fits, FitAll, FitFields, FitsOption, FitsPath, IsAction, MayGive, FitsStmt, FitsStmts}
 use Rattle.wy_kept_code.specs.Dead.{Counts, CountsAll, CountsFields, CountsOption, CountsPath, CountsStmt, CountsStmts, Declares, DeclaresIn, IsParam}

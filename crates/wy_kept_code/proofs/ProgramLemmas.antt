@@ -34,11 +34,11 @@ use Rattle.wy_kept_code.specs.Fitting.{Fits, FitsStmts}
 use Rattle.wy_kept_code.specs.Dead.{CountsStmts, IsDeclared, OwnCounters, variables_in, result_at, told_of, Asked, NothingDeadIsKept, NoDeadVariableIsKept}
 use Rattle.wy_kept_code.proofs.SafeLemmas.{safe_less}
 use Rattle.wy_kept_code.proofs.RunLemmas.{safe_runs}
-use Rattle.wy_kept_code.proofs.PieceLemmas.{either, less_not, Spans, front, back, tail, ended, live_reads, live_second, Lives, Told_of, Sure, sure_less, safe_step, safe_returns, safe_at, safe_fork, lives_at}
+use Rattle.wy_kept_code.proofs.PieceLemmas.{either, less_not, Spans, front, back, tail, ended, live_reads, live_second, Lives, Told_of, Sure, sure_less, safe_step, safe_returns, safe_at, lives_at}
 use Rattle.wy_kept_code.proofs.SetLemmas.{not_both, Vars, before_of, with_cases, with_of, none_has}
 use Rattle.wy_kept_code.proofs.TestLemmas.{at_end, With, live_less, sure_less_one, asked_lives, one_safe, dropped_safe, test_live, test_safe}
 use Rattle.wy_kept_code.proofs.ReadLemmas.{Low}
-use Rattle.wy_kept_code.proofs.OperandLemmas.{told_not, ready_less, clear_sure, front_some, code_some, fork_reads}
+use Rattle.wy_kept_code.proofs.OperandLemmas.{ready_less, clear_sure}
 use Rattle.wy_kept_code.proofs.StatementLemmas.{gives_null_sure, value_safe, stmts_safe}
 use Rattle.wy_kept_code.proofs.FitLemmas.{fits_expr, fits_stmts, declares_all_low, params_low, params_scope}
 

@@ -12,8 +12,7 @@ use Rattle.wy_live.specs.Paths.{occurs, any_step_occurs}
 use Rattle.wy_live.specs.Sets.{Variables, has, with, without, joined}
 use Rattle.wy_live.specs.Walks.{before, before_all, before_steps, return_live, live, live_all, alone, head_live, around}
 use Rattle.wy_live.specs.declared.walk.Ends.{Ends}
-use Rattle.wy_pieces.specs.declared.steps.Step as steps
-use Rattle.wy_pieces.specs.declared.steps.Step.TheVariants.{Does, GoesBack, GoesOnUnless}
+use Rattle.wy_pieces.specs.declared.steps.Step.TheVariants.{Does}
 use Rattle.wy_pieces.specs.Placing.{slot_registers}
 use Rattle.wy_pieces.specs.Steps.{clear, over, turns, registers_from}
 use Rattle.wy_compiled.specs.Expressions.{lost, released, is_plain, release_unless, count_of, code, codes}
@@ -21,7 +20,7 @@ use Rattle.wy_compiled.specs.Statements.{store, set, index_count, slots, indices
 use Rattle.wy_kept_registers.specs.Keeping.{IsNone}
 use Rattle.wy_kept_code.specs.Alive.{IsOne, LiveAt}
 use Rattle.wy_kept_code.specs.Fitting.{Fits, FitAll, FitsOption, FitsPath, IsAction, FitsStmt, FitsStmts}
-use Rattle.wy_kept_code.proofs.PieceLemmas.{either, nat_up, less_not, Spans, front, back, tail, ended, live_reads, live_on, live_first_over, live_second, turning}
+use Rattle.wy_kept_code.proofs.PieceLemmas.{either, nat_up, less_not, Spans, front, back, tail, ended, live_reads, live_on, turning}
 use Rattle.wy_kept_code.proofs.LivePathLemmas.{lives_more}
 use Rattle.wy_kept_code.proofs.LiveLemmas.{or_cases, of_paths}
 use Rattle.wy_kept_code.proofs.LiveUseLemmas.{has-before_steps}
@@ -31,11 +30,11 @@ use Rattle.wy_kept_code.specs.Fitting.{MayGive}
 use Rattle.wy_kept_code.specs.Safe.{Told}
 use Rattle.wy_kept_code.specs.Telling.{Tells}
 use Rattle.wy_kept_code.proofs.SafeLemmas.{Less, safe_sooner}
-use Rattle.wy_kept_code.proofs.PieceLemmas.{one_not_none, Lives, Told_of, Sure, Behind, sure_less, safe_step, safe_clears, safe_jumps, safe_loops, safe_branches, safe_at, safe_fork_over, safe_returns, lives_at}
+use Rattle.wy_kept_code.proofs.PieceLemmas.{one_not_none, Lives, Told_of, Sure, Behind, sure_less, safe_step, safe_clears, safe_jumps, safe_loops, safe_branches, safe_at, safe_returns, lives_at}
 use Rattle.wy_kept_code.proofs.LiveLemmas.{to_path, to_paths}
 use Rattle.wy_kept_code.proofs.SetLemmas.{before_cases, all_cases, without_cases, with_cases, joined_cases, none_has, still_has}
 use Rattle.wy_kept_code.proofs.ReadLemmas.{occurs_used, all_used}
-use Rattle.wy_kept_code.proofs.OperandLemmas.{Range, in_range, back_empty, front_some, back_some, code_some, fork_reads, told_not, ready_less, clear_sure}
+use Rattle.wy_kept_code.proofs.OperandLemmas.{Range, in_range, told_not, ready_less, clear_sure}
 use Rattle.wy_kept_code.proofs.BranchLemmas.{branches_first, branches_second, branches_sure}
 use Rattle.wy_kept_code.proofs.ExpressionLemmas.{code_safe, codes_safe}
 use Rattle.wy_kept_code.proofs.StatementReadLemmas.{same_or_other, slots_registers, kept_live, call_step_live, stmt_live, stmts_live}

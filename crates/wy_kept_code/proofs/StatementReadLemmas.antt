@@ -18,7 +18,7 @@ use Rattle.wy_compiled.specs.Expressions.{lost, released, is_plain, release_unle
 use Rattle.wy_compiled.specs.Statements.{store, set, index_count, slots, indices, kept, update, call_step, choice, branches, inside, turn, stmt_code, stmts_code}
 use Rattle.wy_kept_code.specs.Alive.{LiveAt}
 use Rattle.wy_kept_code.specs.Fitting.{Fits, FitsPath, FitsStmt, FitsStmts}
-use Rattle.wy_kept_code.proofs.PieceLemmas.{either, nat_up, less_not, none_below, Spans, front, back, tail, live_reads, live_on, live_last, live_first_over, live_second, turning}
+use Rattle.wy_kept_code.proofs.PieceLemmas.{either, nat_up, less_not, none_below, Spans, front, back, tail, live_reads, live_on, live_last, turning}
 use Rattle.wy_kept_code.proofs.LivePathLemmas.{live_more, lives_more}
 use Rattle.wy_kept_code.proofs.LiveLemmas.{or_cases, of_path, of_paths}
 use Rattle.wy_kept_code.proofs.LiveUseLemmas.{has-before_steps}
