@@ -75,6 +75,11 @@ give_ints : (c : Context) (value : Option (Expr ℕ)) (n : ℕ) → IntsOption v
 give_ints c None n h = (tt, (tt, tt))
 give_ints c (Some e) n h = ints_append (code c e [] n) _ (code_ints c e [] n h) (tt, tt)
 
+branches_ints : (r : ℕ) (plain : Bool) (first second : List steps.Step) → AllPut first → AllPut second → AllPut (spec.branches r plain first second)
+branches_ints r plain [] [] a b = unless_ints plain r
+branches_ints r plain (s ∷ first) [] a b = fork_ints r (s ∷ first) [] a b
+branches_ints r plain first (s ∷ second) a b = fork_ints r first (s ∷ second) a b
+
 mutual
   stmt_ints : (c : Context) (st : Stmt ℕ) (s : Variables) (ends : Ends) (n exit again : ℕ) → IntsStmt st → AllPut (spec.stmt_code c st s ends n exit again)
   stmt_ints c (DeclareStmt at ty x value) s ends n exit again h = declare_ints c x value s n h
@@ -90,8 +95,8 @@ mutual
       let both = spec.choice first second s ends in
       let two = released both (live_all second s ends) ++ spec.stmts_code c second s ends n exit again in
       let one = released both (live_all first s ends) ++ spec.stmts_code c first s ends n (over two + exit) (over two + again) in
-      ints_append (code c e both n) (fork n one two) (code_ints c e both n h.0)
-      (fork_ints n one two
+      ints_append (code c e both n) (spec.branches n (is_plain e) one two) (code_ints c e both n h.0)
+      (branches_ints n (is_plain e) one two
       (ints_append (released both (live_all first s ends)) _ (released_ints both (live_all first s ends)) (stmts_ints c first s ends n (over two + exit) (over two + again) h.1))
       (ints_append (released both (live_all second s ends)) _ (released_ints both (live_all second s ends)) (stmts_ints c second s ends n exit again h.2)))
   stmt_ints c (WhileStmt at e invariants body) s ends n exit again h =

@@ -12,9 +12,9 @@ use Rattle.wy_tables.specs.declared.targets.Target.TheVariants.{Declared, Prints
 use Rattle.wy_tables.specs.Tables.{target}
 use Rattle.wy_pieces.specs.declared.steps.Step.{Step}
 use Rattle.wy_pieces.specs.declared.steps.Step.TheVariants.{Does}
-use Rattle.wy_pieces.specs.Steps.{clear, fork, turns}
+use Rattle.wy_pieces.specs.Steps.{clear, turns}
 use Rattle.wy_compiled.specs.Expressions.{released, is_plain, release_unless, count_of, code, codes}
-use Rattle.wy_compiled.specs.Statements.{store, set, declare, slots, index_count, indices, kept, update, assign, release_where, call_step, call, give, choice, inside, turn, stmt_code, stmts_code}
+use Rattle.wy_compiled.specs.Statements.{store, set, declare, slots, index_count, indices, kept, update, assign, release_where, call_step, call, give, choice, branches, inside, turn, stmt_code, stmts_code}
 use Rattle.wy_code_ints.specs.Ticks.{ticks, all_ticks, option_ticks, path_ticks, stmt_ticks, stmts_ticks}
 use Rattle.wy_code_ints.proofs.PieceLemmas.{clear_small, cond_small, fork_small, turns_small}
 use Rattle.wy_code_ints.proofs.ExpressionLemmas.{released_small, release_small, expr_small, codes_small}
@@ -75,10 +75,17 @@ give_small c (Some e) n = let h : length (code c e [] n) + 2 ≤ 16 * ticks e = 
 
 -- ---- blocks
 
-if_sum : (xs one two : List Step) (r : ℕ) (gone lost : List Step) (t u v : ℕ) → length xs + 2 ≤ 16 * t → length gone ≤ 1 → length lost ≤ 1 → length one ≤ 16 * u → length two ≤ 16 * v → length (xs ++ fork r (gone ++ one) (lost ++ two)) ≤ 16 * suc (t + (u + v))
-if_sum xs one two r gone lost t u v h g k l m =
-    let f : length (fork r (gone ++ one) (lost ++ two)) ≤ length (gone ++ one) + length (lost ++ two) + 2 = fork_small r (gone ++ one) (lost ++ two) in
-    omega (arith, length-append xs (fork r (gone ++ one) (lost ++ two)), length-append gone one, length-append lost two)
+branches_small : (r : ℕ) (plain : Bool) (first second : List Step) → length (branches r plain first second) ≤ length first + length second + 2
+branches_small r true [] [] = omega arith
+branches_small r false [] [] = omega arith
+branches_small r plain (s ∷ first) [] = fork_small r (s ∷ first) []
+branches_small r plain first (s ∷ second) = fork_small r first (s ∷ second)
+
+if_sum : (xs one two : List Step) (r : ℕ) (plain : Bool) (gone lost : List Step) (t u v : ℕ) → length xs + 2 ≤ 16 * t → length gone ≤ 1 → length lost ≤ 1 → length one ≤ 16 * u → length two ≤ 16 * v
+    → length (xs ++ branches r plain (gone ++ one) (lost ++ two)) ≤ 16 * suc (t + (u + v))
+if_sum xs one two r plain gone lost t u v h g k l m =
+    let f : length (branches r plain (gone ++ one) (lost ++ two)) ≤ length (gone ++ one) + length (lost ++ two) + 2 = branches_small r plain (gone ++ one) (lost ++ two) in
+    omega (arith, length-append xs (branches r plain (gone ++ one) (lost ++ two)), length-append gone one, length-append lost two)
 
 while_sum : (xs body gone lost : List Step) (r : ℕ) (t u : ℕ) → length xs + 2 ≤ 16 * t → length gone ≤ 1 → length lost ≤ 1 → length body ≤ 16 * u → length (turns xs r (gone ++ body) ++ lost) ≤ 16 * suc (suc (t + u))
 while_sum xs body gone lost r t u h g k l =
@@ -101,7 +108,7 @@ mutual
   stmt_small c (FailStmt at) s ends n exit again = omega arith
   stmt_small c (IfStmt at e first second) s ends n exit again =
       let both = choice first second s ends in
-      if_sum (code c e both n) _ _ n _ _ (ticks e) (stmts_ticks first) (stmts_ticks second) (expr_small c e both n)
+      if_sum (code c e both n) _ _ n (is_plain e) _ _ (ticks e) (stmts_ticks first) (stmts_ticks second) (expr_small c e both n)
       (released_small both (live_all first s ends)) (released_small both (live_all second s ends))
       (stmts_small c first s ends n _ _) (stmts_small c second s ends n exit again)
   stmt_small c (WhileStmt at e invariants body) s ends n exit again =

@@ -79,6 +79,12 @@ give_calls : (c : Context) (o : Offers) (m : ℕ) (vs : Scope) (value : Option (
 give_calls c o m vs None n h = (tt, (tt, tt))
 give_calls c o m vs (Some e) n h = calls_append (length c.results + o.types) (code c e [] n) _ (code_calls c o m vs e [] n h) (tt, tt)
 
+branches_calls : (t r : ℕ) (plain : Bool) (first second : List steps.Step) → AllCall t first → AllCall t second → AllCall t (spec.branches r plain first second)
+branches_calls t r true [] [] a b = tt
+branches_calls t r false [] [] a b = (tt, tt)
+branches_calls t r plain (s ∷ first) [] a b = fork_calls t r (s ∷ first) [] a b
+branches_calls t r plain first (s ∷ second) a b = fork_calls t r first (s ∷ second) a b
+
 mutual
   stmt_calls : (c : Context) (o : Offers) (m : ℕ) (w : Around) (vs : Scope) (st : Stmt ℕ) (s : Variables) (ends : Ends) (n exit again : ℕ) → BoundStmt o m w vs st → AllCall (length c.results + o.types) (spec.stmt_code c st s ends n exit again)
   stmt_calls c o m w vs (DeclareStmt at ty x value) s ends n exit again h = declare_calls c o m vs x value s n h.1
@@ -94,8 +100,8 @@ mutual
       let both = spec.choice first second s ends in
       let two = released both (live_all second s ends) ++ spec.stmts_code c second s ends n exit again in
       let one = released both (live_all first s ends) ++ spec.stmts_code c first s ends n (over two + exit) (over two + again) in
-      calls_append (length c.results + o.types) (code c e both n) (fork n one two) (code_calls c o m vs e both n h.0)
-      (fork_calls (length c.results + o.types) n one two
+      calls_append (length c.results + o.types) (code c e both n) (spec.branches n (is_plain e) one two) (code_calls c o m vs e both n h.0)
+      (branches_calls (length c.results + o.types) n (is_plain e) one two
       (calls_append (length c.results + o.types) (released both (live_all first s ends)) _ (released_calls (length c.results + o.types) both (live_all first s ends)) (stmts_calls c o m w vs first s ends n (over two + exit) (over two + again) h.1))
       (calls_append (length c.results + o.types) (released both (live_all second s ends)) _ (released_calls (length c.results + o.types) both (live_all second s ends)) (stmts_calls c o m w vs second s ends n exit again h.2)))
   stmt_calls c o m w vs (WhileStmt at e invariants body) s ends n exit again h =

@@ -82,6 +82,12 @@ give_names : (c : Context) (value : Option (Expr ℕ)) (n : ℕ) → StandsOptio
 give_names c None n h = ((tt, tt), ((tt, tt), tt))
 give_names c (Some e) n h = names_append c.table (code c e [] n) _ (code_names c e [] n h) ((tt, tt), tt)
 
+branches_names : (t : Shapes) (r : ℕ) (plain : Bool) (first second : List steps.Step) → AllName t first → AllName t second → AllName t (spec.branches r plain first second)
+branches_names t r true [] [] a b = tt
+branches_names t r false [] [] a b = ((tt, tt), tt)
+branches_names t r plain (s ∷ first) [] a b = fork_names t r (s ∷ first) [] a b
+branches_names t r plain first (s ∷ second) a b = fork_names t r first (s ∷ second) a b
+
 mutual
   stmt_names : (c : Context) (st : Stmt ℕ) (s : Variables) (ends : Ends) (n exit again : ℕ) → StandsStmt c.table st → AllName c.table (spec.stmt_code c st s ends n exit again)
   stmt_names c (DeclareStmt at ty x value) s ends n exit again h = declare_names c x value s n h
@@ -97,8 +103,8 @@ mutual
       let both = spec.choice first second s ends in
       let two = released both (live_all second s ends) ++ spec.stmts_code c second s ends n exit again in
       let one = released both (live_all first s ends) ++ spec.stmts_code c first s ends n (over two + exit) (over two + again) in
-      names_append c.table (code c e both n) (fork n one two) (code_names c e both n h.0)
-      (fork_names c.table n one two
+      names_append c.table (code c e both n) (spec.branches n (is_plain e) one two) (code_names c e both n h.0)
+      (branches_names c.table n (is_plain e) one two
       (names_append c.table (released both (live_all first s ends)) _ (released_names c.table both (live_all first s ends)) (stmts_names c first s ends n (over two + exit) (over two + again) h.1.0))
       (names_append c.table (released both (live_all second s ends)) _ (released_names c.table both (live_all second s ends)) (stmts_names c second s ends n exit again h.1.1)))
   stmt_names c (WhileStmt at e invariants body) s ends n exit again h =

@@ -5,6 +5,7 @@ use Rattle.wy_live.specs.Sets.{Variables, has, with, without}
 use Rattle.wy_live.specs.Walks.{before, before_steps, live_all, head_live, around}
 use Rattle.wy_live.specs.declared.walk.Ends.{Ends}
 use Rattle.wy_code.specs.declared.instructions.Instr.TheVariants as instr
+use Rattle.wy_pieces.specs.declared.steps.Step as steps
 use Rattle.wy_pieces.specs.declared.steps.Step.TheVariants.{Does}
 use Rattle.wy_pieces.specs.Steps.{clear, fork, over, turns}
 use Rattle.wy_tables.specs.declared.context.Context.{Context}
@@ -65,6 +66,12 @@ give_within : (c : Context) (value : Option (Expr ℕ)) (n b : ℕ) → Within b
 give_within c None n b = (refl, (refl, tt))
 give_within c (Some e) n b = within_append b (code c e [] n) _ (code_within c e [] n _) (refl, tt)
 
+branches_within : (b r : ℕ) (plain : Bool) (first second : List steps.Step) → Within (over second + b) first → Within b second → Within b (spec.branches r plain first second)
+branches_within b r true [] [] w v = tt
+branches_within b r false [] [] w v = (refl, tt)
+branches_within b r plain (s ∷ first) [] w v = fork_within b r (s ∷ first) [] w v
+branches_within b r plain first (s ∷ second) w v = fork_within b r first (s ∷ second) w v
+
 mutual
   pub stmt_within : (c : Context) (st : Stmt ℕ) (s : Variables) (ends : Ends) (n exit again b : ℕ) → exit ≤ b → again ≤ b → Within b (spec.stmt_code c st s ends n exit again)
   stmt_within c (DeclareStmt at ty x value) s ends n exit again b h k = declare_within c x value s n b
@@ -83,7 +90,7 @@ mutual
       let w : Within b two = within_append b (released both (live_all second s ends)) (spec.stmts_code c second s ends n exit again) (released_within _ both (live_all second s ends)) (stmts_within c second s ends n exit again b h k) in
       let v : Within (over two + b) one = within_append (over two + b) (released both (live_all first s ends)) (spec.stmts_code c first s ends n (over two + exit) (over two + again)) (released_within _ both (live_all first s ends))
       (stmts_within c first s ends n (over two + exit) (over two + again) (over two + b) (omega arith) (omega arith)) in
-      within_append b (code c e both n) (fork n one two) (code_within c e both n _) (fork_within b n one two v w)
+      within_append b (code c e both n) (spec.branches n (is_plain e) one two) (code_within c e both n _) (branches_within b n (is_plain e) one two v w)
   stmt_within c (WhileStmt at e invariants body) s ends n exit again b h k =
       let head = head_live e body s in let both = spec.turn e body s in let gone = released both s in
       let inner = spec.stmts_code c body head (around s head) n (length gone + 1) 0 in

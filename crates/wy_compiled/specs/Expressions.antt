@@ -38,7 +38,22 @@ released s t = clear (lost s t)
 
 -- ---- operators
 
--- the value is never a list or a record
+-- what is so of `&&` and `||` where it is so of their right operand, and of each other operator
+abbrev pub right_or : Op → Bool → Bool
+right_or op.Add right = true
+right_or op.Sub right = true
+right_or op.Mul right = true
+right_or op.Div right = true
+right_or op.Mod right = true
+right_or op.Equal right = true
+right_or op.Less right = true
+right_or op.LessEqual right = true
+right_or op.Greater right = true
+right_or op.GreaterEqual right = true
+right_or op.And right = right
+right_or op.Or right = right
+
+-- whatever the variables hold, the value is no list and no record: no instruction tests the right operand of `&&` and `||`, nor what the last clause of a type says
 abbrev pub is_plain : {N : Type 0} → Expr N → Bool
 is_plain (NullExpr at) = true
 is_plain (BoolExpr at truth) = true
@@ -48,8 +63,8 @@ is_plain (CallExpr at routine args) = false
 is_plain (NegExpr at a) = true
 is_plain (NotExpr at a) = true
 is_plain (LenExpr at a) = true
-is_plain (BinaryExpr at o a b) = true
-is_plain (IsExpr at a ty) = true
+is_plain (BinaryExpr at o a b) = right_or o (is_plain b)
+is_plain (IsExpr at a ty) = false
 is_plain (IndexExpr at a b) = false
 is_plain (FieldExpr at a name) = false
 is_plain (ListExpr at items) = false

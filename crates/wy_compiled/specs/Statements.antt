@@ -100,6 +100,16 @@ inside e body s = live_all body (head_live e body s) (around s (head_live e body
 abbrev pub turn : Expr ℕ → Stmts ℕ → Variables → Variables
 turn e body s = joined (inside e body s) s
 
+-- what stands for the first block where the second one has no code: where the first has none either, nothing asks for the value of the test, which is released
+abbrev pub only_first : ℕ → Bool → List steps.Step → List steps.Step
+only_first r plain [] = release_unless plain r
+only_first r plain (s ∷ first) = fork r (s ∷ first) []
+
+-- the two blocks of an `if`, the value of whose test is in the register
+abbrev pub branches : ℕ → Bool → List steps.Step → List steps.Step → List steps.Step
+branches r plain first [] = only_first r plain first
+branches r plain first (s ∷ second) = fork r first (s ∷ second)
+
 abbrev mutual
   -- the code of a statement behind which this is live; so many steps stand between its end and the end of the loop around, and between its end and that loop's step back
   pub stmt_code : Context → Stmt ℕ → Variables → Ends → ℕ → ℕ → ℕ → List steps.Step
@@ -118,7 +128,7 @@ abbrev mutual
       let both = choice first second s ends in
       let two = released both (live_all second s ends) ++ stmts_code c second s ends n exit again in
       let one = released both (live_all first s ends) ++ stmts_code c first s ends n (over two + exit) (over two + again) in
-      code c e both n ++ fork n one two
+      code c e both n ++ branches n (is_plain e) one two
   -- what only the turns use is released behind them, and what only the code behind uses before a turn
   stmt_code c (WhileStmt at e invariants body) s ends n exit again =
       let head = head_live e body s in let both = turn e body s in

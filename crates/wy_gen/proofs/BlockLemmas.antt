@@ -1,5 +1,5 @@
 -- An `if` and a loop, whose parts are made from the end to the beginning.
-use Rattle.std.proofs.Common.{◌≡◌, ◌∙◌, ◌<◌, ◌≤◌, ◌+◌, ◌-◌, ℕ, suc, List, [], ◌∷◌, ◌++◌, length, drop, get_or, rules, ap, sym, append_assoc, length-append, arith}
+use Rattle.std.proofs.Common.{◌≡◌, ◌∙◌, ◌<◌, ◌≤◌, ◌+◌, ◌-◌, ℕ, suc, List, [], ◌∷◌, ◌++◌, length, Bool, drop, get_or, rules, refl, ap, sym, append_assoc, length-append, arith}
 use Rattle.wy_core.specs.CoreTree as tree
 use Rattle.wy_core.specs.CoreSeen.{seen_expr, seen_exprs, seen_block, seen_stmt}
 use Rattle.wy_core.specs.declared.expressions.Expr.{Expr}
@@ -13,9 +13,9 @@ use Rattle.wy_pieces.specs.declared.steps.Step.{Step}
 use Rattle.wy_pieces.specs.declared.steps.Step.TheVariants.{GoesBack}
 use Rattle.wy_pieces.specs.Steps.{fork, jumped, over, turns}
 use Rattle.wy_tables.specs.declared.context.Context.{Context}
-use Rattle.wy_compiled.specs.Expressions.{code, released}
+use Rattle.wy_compiled.specs.Expressions.{code, released, is_plain, release_unless}
 use Rattle.wy_gen.proofs.LoopLemmas.{drop_back}
-use Rattle.wy_compiled.specs.Statements.{choice, inside, turn, stmt_code, stmts_code}
+use Rattle.wy_compiled.specs.Statements.{choice, branches, inside, turn, stmt_code, stmts_code}
 
 pub seen_if : (x : Stmt) (e : Expr) (a b : List Stmt) → x.kind ≡ kind.If e a b → seen_stmt x ≡ tree.IfStmt x.at (seen_expr e) (seen_block a) (seen_block b)
 seen_if x e a b is = search (rules, s.the_lemmas)
@@ -27,6 +27,18 @@ pub jumped_length : (two old : List Step) → length (jumped two old) ≡ over t
 jumped_length [] old = omega arith
 jumped_length (x ∷ two) old = omega (arith, length-append (x ∷ two) old)
 
+-- two blocks without code
+pub no_blocks : (r : ℕ) (plain : Bool) (one two old steps : List Step) → steps ≡ one ++ jumped two old → length steps ≡ length old → release_unless plain r ++ steps ≡ branches r plain one two ++ old
+no_blocks r plain [] [] old steps is h = ap (λ (l : List Step). release_unless plain r ++ l) is
+no_blocks r plain (s ∷ one) [] old steps is h = absurd (omega (arith, ap length is, h, length-append (s ∷ one) old))
+no_blocks r plain one (s ∷ two) old steps is h = absurd (omega (arith, ap length is, h, length-append one (jumped (s ∷ two) old), jumped_length (s ∷ two) old))
+
+-- else there is a fork
+pub some_block : (r : ℕ) (plain : Bool) (one two old steps : List Step) → steps ≡ one ++ jumped two old → (length steps ≡ length old → ⊥) → fork r one two ++ old ≡ branches r plain one two ++ old
+some_block r plain [] [] old steps is h = absurd (h (ap length is))
+some_block r plain (s ∷ one) [] old steps is h = refl
+some_block r plain one (s ∷ two) old steps is h = refl
+
 -- the steps that stand behind the first block, and how many of them stand before the end of the loop around
 behind_more : (two old : List Step) (start : List Step) (k : ℕ) → start ≡ jumped two old → k ≤ length old → length start - k ≡ over two + (length old - k)
 behind_more two old start k is h = omega (arith, ap length is, jumped_length two old)
@@ -35,7 +47,7 @@ pub if_same : (c : Context) (at : ℕ) (e : tree.Expr ℕ) (first second : tree.
     → again_live ≡ s → begun ≡ again_live → live2 ≡ live_all second s ends → both ≡ joined (live_all first again_live ends) live2 → live1 ≡ live_all first begun ends
     → exit ≤ length old → again ≤ length old
     → start ≡ jumped (released both live2 ++ stmts_code c second s ends n (length old - exit) (length old - again)) old
-    → (code c e both n ++ fork n (released both live1 ++ stmts_code c first begun ends n (length start - exit) (length start - again)) (released both live2 ++ stmts_code c second s ends n (length old - exit) (length old - again))) ++ old
+    → (code c e both n ++ branches n (is_plain e) (released both live1 ++ stmts_code c first begun ends n (length start - exit) (length start - again)) (released both live2 ++ stmts_code c second s ends n (length old - exit) (length old - again))) ++ old
     ≡ stmt_code c (tree.IfStmt at e first second) s ends n (length old - exit) (length old - again) ++ old
 if_same c at e first second s begun again_live both live1 live2 ends n exit again old start again_is begun_is live2_is both_is live1_is within within_again start_is =
     let rest = stmts_code c second s ends n (length old - exit) (length old - again) in
@@ -46,7 +58,7 @@ if_same c at e first second s begun again_live both live1 live2 ends n exit agai
     let start_now : start ≡ jumped (released (choice first second s ends) (live_all second s ends) ++ rest) old = start_is ∙ ap (λ (l : List Step). jumped l old) two_is in
     let x : length start - exit ≡ over (released (choice first second s ends) (live_all second s ends) ++ rest) + (length old - exit) = behind_more _ old start exit start_now within in
     let y : length start - again ≡ over (released (choice first second s ends) (live_all second s ends) ++ rest) + (length old - again) = behind_more _ old start again start_now within_again in
-    λ i. (code c e (b i) n ++ fork n (released (b i) (l1 i) ++ stmts_code c first (s_is i) ends n (x i) (y i)) (two_is i)) ++ old
+    λ i. (code c e (b i) n ++ branches n (is_plain e) (released (b i) (l1 i) ++ stmts_code c first (s_is i) ends n (x i) (y i)) (two_is i)) ++ old
 
 pub while_same : (c : Context) (at : ℕ) (e : tree.Expr ℕ) (is : List (tree.Expr ℕ)) (body : tree.Stmts ℕ) (s behind begun live : Variables) (ends en : Ends) (n exit again ex ag done : ℕ) (old start : List Step)
     → behind ≡ s → begun ≡ head_live e body s → en ≡ around s (head_live e body s) → live ≡ live_all body begun en

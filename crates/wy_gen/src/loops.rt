@@ -9,11 +9,11 @@ ghost use Rattle.wy_pieces.specs.Steps as pieces;
 ghost use Rattle.wy_pieces.specs.declared.steps.Step.{Step};
 
 use crate::expressions::code;
-use crate::made::{Made, released};
+use crate::made::{Made, is_plain, release_unless, released};
 use std::alloc::Global;
 use wy_core::{Expr, Stmt};
 use wy_live::{Ends, Variables, head_live, joined, live_block};
-use wy_pieces::{NoMemory, begin_turns, end_turns, fork, jump_over, leave_turns};
+use wy_pieces::{NoMemory, Steps, begin_turns, end_turns, fork, jump_over, leave_turns};
 use wy_tables::Context;
 
 /// What is live behind the loop around and at its head, and how many steps stand behind the end of
@@ -63,6 +63,25 @@ pub fn begin_first(
     })
 }
 
+/// The two blocks of an `if` before the first of them, which begins behind `mid` steps: the second,
+/// which is gone over, ends behind `end` steps. Where neither has code, the value of the test is
+/// released.
+fn branches(
+    alloc: Global,
+    plain: bool,
+    register: u32,
+    end: usize,
+    mid: usize,
+    steps: Steps,
+) -> Result<Steps, NoMemory>
+    ensures value { (one two old : List Step) → steps ≡ one ++ pieces.jumped two old → length old ≡ end → length (pieces.jumped two old) ≡ mid → IfOk result (λ s. s ≡ spec.branches register plain one two ++ old) }
+{
+    if steps.len() == end {
+        return release_unless(alloc, plain, register, steps);
+    }
+    fork(register, end, mid, steps)
+}
+
 /// What only the second block uses is released before the first one; then the test before both.
 pub fn end_choice(
     alloc: Global,
@@ -74,12 +93,12 @@ pub fn end_choice(
     free: u32,
     first: Made,
 ) -> Result<Made, NoMemory>
-    ensures value { (one two old : List Step) → first.steps ≡ one ++ pieces.jumped two old → length old ≡ end → length (pieces.jumped two old) ≡ mid → IfOk result (λ m. m.steps ≡ (expressions.code context.now (seen_expr test.now) both free ++ pieces.fork free (expressions.released both first.live ++ one) two) ++ old) }
+    ensures value { (one two old : List Step) → first.steps ≡ one ++ pieces.jumped two old → length old ≡ end → length (pieces.jumped two old) ≡ mid → IfOk result (λ m. m.steps ≡ (expressions.code context.now (seen_expr test.now) both free ++ spec.branches free (expressions.is_plain (seen_expr test.now)) (expressions.released both first.live ++ one) two) ++ old) }
     ensures live { IfOk result (λ m. m.live ≡ lives.before (seen_expr test.now) both) }
 {
     let Made { live, steps } = first;
     let steps = released(alloc, &both, &live, steps)?;
-    let steps = fork(free, end, mid, steps)?;
+    let steps = branches(alloc, is_plain(test), free, end, mid, steps)?;
     code(alloc, context, test, free, Made { live: both, steps })
 }
 

@@ -8,7 +8,7 @@ ghost use Rattle.wy_pieces.specs.Steps as pieces;
 
 use std::alloc::Global;
 use wy_code::Instr;
-use wy_core::{Expr, ExprKind};
+use wy_core::{Expr, ExprKind, Op};
 use wy_items::Items;
 use wy_live::Variables;
 use wy_pieces::{NoMemory, Steps, clear, clear_one, does, next};
@@ -47,7 +47,18 @@ pub fn released(
     clear(lost(alloc, one, other)?, steps)
 }
 
-/// Whether the value is never a list or a record.
+/// What is so of `&&` and `||` where it is so of their right operand, and of each other operator.
+fn right_or(op: Op, right: bool) -> bool
+    ensures value { result ≡ spec.right_or op right }
+{
+    match op {
+        Op::And => right,
+        Op::Or => right,
+        _ => true,
+    }
+}
+
+/// Whether the value is no list and no record, whatever the variables hold.
 pub fn is_plain(expr: &Expr) -> bool
     ensures value { result ≡ spec.is_plain (seen_expr expr.now) }
 {
@@ -60,8 +71,8 @@ pub fn is_plain(expr: &Expr) -> bool
         ExprKind::Neg(_) => true,
         ExprKind::Not(_) => true,
         ExprKind::Len(_) => true,
-        ExprKind::Binary(_, _, _) => true,
-        ExprKind::Is(_, _) => true,
+        ExprKind::Binary(op, _, right) => right_or(*op, is_plain(right.get())),
+        ExprKind::Is(_, _) => false,
         ExprKind::Index(_, _) => false,
         ExprKind::Field(_, _) => false,
         ExprKind::List(_) => false,

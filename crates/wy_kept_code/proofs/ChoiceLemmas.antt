@@ -20,10 +20,10 @@ use Rattle.wy_compiled.specs.Expressions.{lost, released, is_plain, operator, op
 use Rattle.wy_kept_code.specs.Alive.{LiveAt}
 use Rattle.wy_kept_code.specs.Safe.{Told}
 use Rattle.wy_kept_code.specs.Telling.{Tells}
-use Rattle.wy_kept_code.specs.Fitting.{is_sure, Checked, IsValue, Fits}
-use Rattle.wy_kept_code.proofs.PieceLemmas.{either, one_not_none, less_not, none_below, Spans, front, back, tail, live_first, live_second, Lives, Sure, sure_less, safe_step, safe_at, safe_fork, lives_on, lives_at}
-use Rattle.wy_kept_code.proofs.SetLemmas.{Vars, before_cases, with_cases, still_has}
-use Rattle.wy_kept_code.proofs.TestLemmas.{test_live, dropped_safe, test_safe}
+use Rattle.wy_kept_code.specs.Fitting.{IsValue, Fits}
+use Rattle.wy_kept_code.proofs.PieceLemmas.{either, one_not_none, less_not, none_below, Spans, front, back, tail, live_reads, live_on, live_first, live_second, Lives, Sure, sure_less, safe_step, safe_at, safe_fork_passes, lives_on, lives_at}
+use Rattle.wy_kept_code.proofs.SetLemmas.{not_both, Vars, before_cases, with_cases, still_has}
+use Rattle.wy_kept_code.proofs.TestLemmas.{With, test_live, live_turned, sure_turned, dropped_safe, test_safe}
 use Rattle.wy_kept_code.proofs.ReadLemmas.{from_registers, code_live}
 use Rattle.wy_kept_code.proofs.OperandLemmas.{Range, in_range, code_some, fork_reads, told_not, base_low, known_before, operands_ready, clear_sure, pair_safe, operator_ready}
 
@@ -34,11 +34,11 @@ module _ (body : List Instr) (c : Context) (n : ℕ) (L : Type 0) (t : Told) (f 
 
   -- a value that may be a list or a record
   abbrev H : Expr ℕ → ℕ → ℕ → Type 0
-  H e d r = (r ≡ d) × (is_sure e ≡ false)
+  H e d r = (r ≡ d) × (is_plain e ≡ false)
 
   -- one that the code takes to be none
   abbrev K : Expr ℕ → ℕ → ℕ → Type 0
-  K e d r = (r ≡ d) × ((is_sure e ≡ false) × (is_plain e ≡ true))
+  K e d r = (r ≡ d) × ((is_plain e ≡ false) × (is_plain e ≡ true))
 
   abbrev Comes : ℕ → ℕ → (ℕ → Type 0) → Type 0
   Comes m p P = Lives body t f p P × Sure body t f m p P
@@ -61,9 +61,12 @@ module _ (body : List Instr) (c : Context) (n : ℕ) (L : Type 0) (t : Told) (f 
   abbrev Sf : Expr ℕ → (ℕ → Type 0) → Type 1
   Sf e U = (m : ℕ) (s : Variables) (A : ℕ → Type 0) (d at next : ℕ) → Kn s U → n ≤ d → Ar d A → Spans body at (code c e s d) next → Full m next (B s A) e d → Comes m at (B (before e s) A)
 
-  -- what `&&` and `||` leave: their value is live there, where it isn't none by its form
+  -- what `&&` and `||` leave is what their right operand leaves
   abbrev Open : ℕ → ℕ → (ℕ → Type 0) → Expr ℕ → ℕ → Type 0
-  Open m p P b d = Lives body t f p P × Sure body t f m p (λ r. P r ⊎ H b d r) × Lives body t f p (H b d)
+  Open m p P b d = Lives body t f p P × Sure body t f m p (λ r. P r ⊎ H b d r)
+
+  sure_both : {X : Type 0} (e : Expr ℕ) (d r : ℕ) → K e d r → X
+  sure_both e d r z = not_both (is_plain e) z.1.1 z.1.0
 
   module _ (U : ℕ → Type 0) (low : Lo U) where
     -- what is released where the right operand is left out
@@ -87,10 +90,10 @@ module _ (body : List Instr) (c : Context) (n : ℕ) (L : Type 0) (t : Told) (f 
         let at_d : LiveAt body mid d = fork_reads body c n L mid next d (code c b s d) (released T s) rest (λ e g. some e) in
         one m T A d at mid (known_before body c n L t f tells b U s fit known) nd around (front body at (code c a T d) (fork d (code c b s d) (released T s)) next h) (
           live,
-          safe_fork body t f m mid next d (code c b s d) (released T s) (λ r. B T A r ⊎ H a d r) (B T A) (B T A) (λ r. B s A r ⊎ H b d r) rest
+          safe_fork_passes body t f m mid next d (code c b s d) (released T s) (λ r. B T A r ⊎ H a d r) (B T A) (B T A) (B s A) (H b d) rest
               (λ r u l. either (λ k. live r u k) (λ k. subst (λ (z : ℕ). LiveAt body mid z) (sym k.0) at_d) l)
-              (λ e g. absurd (some e)) (λ r u l. either (λ k. k) (λ k. absurd (l.1 k.0)) l.0) (λ r u l. either (λ k. k) (λ k. absurd (l.1 k.0)) l.0) (λ r u l. either (λ k. exit.0 r u k) (λ k. exit.2 r u k) l)
-              (λ p q sp lq sq. (two m s A d p q known nd around sp ((λ r u k. lq r u (inl k)), sq, (λ r u z. lq r u (inr (z.0, z.1.0))))).1)
+              (λ e g. absurd (some e)) (λ r u l. either (λ k. k) (λ k. absurd (l.1 k.0)) l.0) (λ r u l. either (λ k. k) (λ k. absurd (l.1 k.0)) l.0) exit.0 (λ r w. tells.passes r (let e = w.0 in omega (arith, nd, e)))
+              (λ p q sp lq sq. (two m s A d p q known nd around sp (lq, sq, (λ r u z. sure_both b d r z))).1)
               (λ p sp. skipped_sure b m s A p next sp (sure_less body t f m next (B s A) (λ r. B s A r ⊎ H b d r) (λ r u l. inl l) exit.1)) exit.1,
           (λ r u z. subst (λ (y : ℕ). LiveAt body mid y) (sym z.0) at_d),
         )
@@ -106,34 +109,34 @@ module _ (body : List Instr) (c : Context) (n : ℕ) (L : Type 0) (t : Told) (f 
         let at_d : LiveAt body mid d = fork_reads body c n L mid next d (released T s) (code c b s d) rest (λ e g. some g) in
         one m T A d at mid (known_before body c n L t f tells b U s fit known) nd around (front body at (code c a T d) (fork d (released T s) (code c b s d)) next h) (
           live,
-          safe_fork body t f m mid next d (released T s) (code c b s d) (λ r. B T A r ⊎ H a d r) (B T A) (B T A) (λ r. B s A r ⊎ H b d r) rest
+          safe_fork_passes body t f m mid next d (released T s) (code c b s d) (λ r. B T A r ⊎ H a d r) (B T A) (B T A) (B s A) (H b d) rest
               (λ r u l. either (λ k. live r u k) (λ k. subst (λ (z : ℕ). LiveAt body mid z) (sym k.0) at_d) l)
-              (λ e g. absurd (some g)) (λ r u l. either (λ k. k) (λ k. absurd (l.1 k.0)) l.0) (λ r u l. either (λ k. k) (λ k. absurd (l.1 k.0)) l.0) (λ r u l. either (λ k. exit.0 r u k) (λ k. exit.2 r u k) l)
+              (λ e g. absurd (some g)) (λ r u l. either (λ k. k) (λ k. absurd (l.1 k.0)) l.0) (λ r u l. either (λ k. k) (λ k. absurd (l.1 k.0)) l.0) exit.0 (λ r w. tells.passes r (let e = w.0 in omega (arith, nd, e)))
               (λ p q sp lq sq. skipped_sure b m s A p q sp (sure_less body t f m q (B s A) (λ r. B s A r ⊎ H b d r) (λ r u l. inl l) sq))
-              (λ p sp. (two m s A d p next known nd around sp (exit.0, exit.1, (λ r u z. exit.2 r u (z.0, z.1.0)))).1) exit.1,
+              (λ p sp. (two m s A d p next known nd around sp (exit.0, exit.1, (λ r u z. sure_both b d r z))).1) exit.1,
           (λ r u z. subst (λ (y : ℕ). LiveAt body mid y) (sym z.0) at_d),
         )
 
-    strict_safe : (o : Op) (a b : Expr ℕ) → Checked o b L → (o ≡ op.And → ⊥) → (o ≡ op.Or → ⊥) → Sf a U → Sf b U → Fits c n L b U → (m : ℕ) (s : Variables) (A : ℕ → Type 0) (d at next : ℕ) → Kn s U → n ≤ d → Ar d A
+    strict_safe : (o : Op) (a b : Expr ℕ) → (o ≡ op.And → ⊥) → (o ≡ op.Or → ⊥) → Sf a U → Sf b U → Fits c n L b U → (m : ℕ) (s : Variables) (A : ℕ → Type 0) (d at next : ℕ) → Kn s U → n ≤ d → Ar d A
         → Spans body at (code c a (before b s) d ++ (code c b s (suc d) ++ operator o d (is_plain b))) next → Comes m next (B s A) → Comes m at (B (before a (before b s)) A)
-    strict_safe o a b checked x y one two fit m s A d at next known nd around h exit =
+    strict_safe o a b x y one two fit m s A d at next known nd around h exit =
         pair_safe body c n L t f tells U low a b one two fit m s A d at next (operator o d (is_plain b)) known nd around h
-        (λ p sp. operator_ready body c n L t f tells U low o a b m s A d p next known nd around sp (exit.0, sure_less body t f m next (λ r. B s A r ⊎ ⊥) (B s A) (λ r u l. either (λ k. k) (λ z. absurd z) l) exit.1) checked x y)
+        (λ p sp. operator_ready body c n L t f tells U low o a b m s A d p next known nd around sp (exit.0, sure_less body t f m next (λ r. B s A r ⊎ ⊥) (B s A) (λ r u l. either (λ k. k) (λ z. absurd z) l) exit.1) x y)
 
-    pub binary_safe : (i : ℕ) (o : Op) (a b : Expr ℕ) → Sf a U → Sf b U → Fits c n L b U → Checked o b L → (m : ℕ) (s : Variables) (A : ℕ → Type 0) (d at next : ℕ) → Kn s U → n ≤ d → Ar d A
+    pub binary_safe : (i : ℕ) (o : Op) (a b : Expr ℕ) → Sf a U → Sf b U → Fits c n L b U → (m : ℕ) (s : Variables) (A : ℕ → Type 0) (d at next : ℕ) → Kn s U → n ≤ d → Ar d A
         → Spans body at (code c a (before b s) d ++ operate o d (code c b s (right_register o d)) (released (before b s) s) (is_plain b)) next → Full m next (B s A) (BinaryExpr i o a b) d → Comes m at (B (before a (before b s)) A)
-    binary_safe i op.Add a b one two fit checked m s A d at next known nd around h exit = strict_safe op.Add a b checked (λ e. cc) (λ e. cc) one two fit m s A d at next known nd around h (exit.0, sure_less body t f m next (B s A) (λ r. B s A r ⊎ H (BinaryExpr i op.Add a b) d r) (λ r u l. inl l) exit.1)
-    binary_safe i op.Sub a b one two fit checked m s A d at next known nd around h exit = strict_safe op.Sub a b checked (λ e. cc) (λ e. cc) one two fit m s A d at next known nd around h (exit.0, sure_less body t f m next (B s A) (λ r. B s A r ⊎ H (BinaryExpr i op.Sub a b) d r) (λ r u l. inl l) exit.1)
-    binary_safe i op.Mul a b one two fit checked m s A d at next known nd around h exit = strict_safe op.Mul a b checked (λ e. cc) (λ e. cc) one two fit m s A d at next known nd around h (exit.0, sure_less body t f m next (B s A) (λ r. B s A r ⊎ H (BinaryExpr i op.Mul a b) d r) (λ r u l. inl l) exit.1)
-    binary_safe i op.Div a b one two fit checked m s A d at next known nd around h exit = strict_safe op.Div a b checked (λ e. cc) (λ e. cc) one two fit m s A d at next known nd around h (exit.0, sure_less body t f m next (B s A) (λ r. B s A r ⊎ H (BinaryExpr i op.Div a b) d r) (λ r u l. inl l) exit.1)
-    binary_safe i op.Mod a b one two fit checked m s A d at next known nd around h exit = strict_safe op.Mod a b checked (λ e. cc) (λ e. cc) one two fit m s A d at next known nd around h (exit.0, sure_less body t f m next (B s A) (λ r. B s A r ⊎ H (BinaryExpr i op.Mod a b) d r) (λ r u l. inl l) exit.1)
-    binary_safe i op.Equal a b one two fit checked m s A d at next known nd around h exit = strict_safe op.Equal a b checked (λ e. cc) (λ e. cc) one two fit m s A d at next known nd around h (exit.0, sure_less body t f m next (B s A) (λ r. B s A r ⊎ H (BinaryExpr i op.Equal a b) d r) (λ r u l. inl l) exit.1)
-    binary_safe i op.Less a b one two fit checked m s A d at next known nd around h exit = strict_safe op.Less a b checked (λ e. cc) (λ e. cc) one two fit m s A d at next known nd around h (exit.0, sure_less body t f m next (B s A) (λ r. B s A r ⊎ H (BinaryExpr i op.Less a b) d r) (λ r u l. inl l) exit.1)
-    binary_safe i op.LessEqual a b one two fit checked m s A d at next known nd around h exit = strict_safe op.LessEqual a b checked (λ e. cc) (λ e. cc) one two fit m s A d at next known nd around h (exit.0, sure_less body t f m next (B s A) (λ r. B s A r ⊎ H (BinaryExpr i op.LessEqual a b) d r) (λ r u l. inl l) exit.1)
-    binary_safe i op.Greater a b one two fit checked m s A d at next known nd around h exit = strict_safe op.Greater a b checked (λ e. cc) (λ e. cc) one two fit m s A d at next known nd around h (exit.0, sure_less body t f m next (B s A) (λ r. B s A r ⊎ H (BinaryExpr i op.Greater a b) d r) (λ r u l. inl l) exit.1)
-    binary_safe i op.GreaterEqual a b one two fit checked m s A d at next known nd around h exit = strict_safe op.GreaterEqual a b checked (λ e. cc) (λ e. cc) one two fit m s A d at next known nd around h (exit.0, sure_less body t f m next (B s A) (λ r. B s A r ⊎ H (BinaryExpr i op.GreaterEqual a b) d r) (λ r u l. inl l) exit.1)
-    binary_safe i op.And a b one two fit checked m s A d at next known nd around h exit = and_safe a b one two fit m s A d at next known nd around h (exit.0, exit.1, (λ r u z. exit.2 r u (z.0, (z.1, refl))))
-    binary_safe i op.Or a b one two fit checked m s A d at next known nd around h exit = or_safe a b one two fit m s A d at next known nd around h (exit.0, exit.1, (λ r u z. exit.2 r u (z.0, (z.1, refl))))
+    binary_safe i op.Add a b one two fit m s A d at next known nd around h exit = strict_safe op.Add a b (λ e. cc) (λ e. cc) one two fit m s A d at next known nd around h (exit.0, sure_less body t f m next (B s A) (λ r. B s A r ⊎ H (BinaryExpr i op.Add a b) d r) (λ r u l. inl l) exit.1)
+    binary_safe i op.Sub a b one two fit m s A d at next known nd around h exit = strict_safe op.Sub a b (λ e. cc) (λ e. cc) one two fit m s A d at next known nd around h (exit.0, sure_less body t f m next (B s A) (λ r. B s A r ⊎ H (BinaryExpr i op.Sub a b) d r) (λ r u l. inl l) exit.1)
+    binary_safe i op.Mul a b one two fit m s A d at next known nd around h exit = strict_safe op.Mul a b (λ e. cc) (λ e. cc) one two fit m s A d at next known nd around h (exit.0, sure_less body t f m next (B s A) (λ r. B s A r ⊎ H (BinaryExpr i op.Mul a b) d r) (λ r u l. inl l) exit.1)
+    binary_safe i op.Div a b one two fit m s A d at next known nd around h exit = strict_safe op.Div a b (λ e. cc) (λ e. cc) one two fit m s A d at next known nd around h (exit.0, sure_less body t f m next (B s A) (λ r. B s A r ⊎ H (BinaryExpr i op.Div a b) d r) (λ r u l. inl l) exit.1)
+    binary_safe i op.Mod a b one two fit m s A d at next known nd around h exit = strict_safe op.Mod a b (λ e. cc) (λ e. cc) one two fit m s A d at next known nd around h (exit.0, sure_less body t f m next (B s A) (λ r. B s A r ⊎ H (BinaryExpr i op.Mod a b) d r) (λ r u l. inl l) exit.1)
+    binary_safe i op.Equal a b one two fit m s A d at next known nd around h exit = strict_safe op.Equal a b (λ e. cc) (λ e. cc) one two fit m s A d at next known nd around h (exit.0, sure_less body t f m next (B s A) (λ r. B s A r ⊎ H (BinaryExpr i op.Equal a b) d r) (λ r u l. inl l) exit.1)
+    binary_safe i op.Less a b one two fit m s A d at next known nd around h exit = strict_safe op.Less a b (λ e. cc) (λ e. cc) one two fit m s A d at next known nd around h (exit.0, sure_less body t f m next (B s A) (λ r. B s A r ⊎ H (BinaryExpr i op.Less a b) d r) (λ r u l. inl l) exit.1)
+    binary_safe i op.LessEqual a b one two fit m s A d at next known nd around h exit = strict_safe op.LessEqual a b (λ e. cc) (λ e. cc) one two fit m s A d at next known nd around h (exit.0, sure_less body t f m next (B s A) (λ r. B s A r ⊎ H (BinaryExpr i op.LessEqual a b) d r) (λ r u l. inl l) exit.1)
+    binary_safe i op.Greater a b one two fit m s A d at next known nd around h exit = strict_safe op.Greater a b (λ e. cc) (λ e. cc) one two fit m s A d at next known nd around h (exit.0, sure_less body t f m next (B s A) (λ r. B s A r ⊎ H (BinaryExpr i op.Greater a b) d r) (λ r u l. inl l) exit.1)
+    binary_safe i op.GreaterEqual a b one two fit m s A d at next known nd around h exit = strict_safe op.GreaterEqual a b (λ e. cc) (λ e. cc) one two fit m s A d at next known nd around h (exit.0, sure_less body t f m next (B s A) (λ r. B s A r ⊎ H (BinaryExpr i op.GreaterEqual a b) d r) (λ r u l. inl l) exit.1)
+    binary_safe i op.And a b one two fit m s A d at next known nd around h exit = and_safe a b one two fit m s A d at next known nd around h (exit.0, exit.1)
+    binary_safe i op.Or a b one two fit m s A d at next known nd around h exit = or_safe a b one two fit m s A d at next known nd around h (exit.0, exit.1)
 
     -- ---- one instruction without operands
 
@@ -153,7 +156,8 @@ module _ (body : List Instr) (c : Context) (n : ℕ) (L : Type 0) (t : Told) (f 
 
     -- ---- a test of a type, behind which the value is released
 
-    pub is_test_ready : (ty : Ty) (a : Expr ℕ) (m : ℕ) (s : Variables) (A : ℕ → Type 0) (d p next : ℕ) → Kn s U → n ≤ d → Ar d A → Spans body p (is_test c ty d) next → Comes m next (B s A) → Comes m p (λ r. B s A r ⊎ (r ≡ d))
+    -- what the test says may be any value
+    pub is_test_ready : (ty : Ty) (a : Expr ℕ) (m : ℕ) (s : Variables) (A : ℕ → Type 0) (d p next : ℕ) → Kn s U → n ≤ d → Ar d A → Spans body p (is_test c ty d) next → Leaves m next (B s A) (λ r. (r ≡ d) × (false ≡ false)) → Comes m p (λ r. B s A r ⊎ (r ≡ d))
     is_test_ready ty a m s A d p next known nd around h exit =
         let one = test c ty d (suc d) (suc (suc d)) in
         let last : Instr = instr.Move d (suc d) in
@@ -165,14 +169,17 @@ module _ (body : List Instr) (c : Context) (n : ℕ) (L : Type 0) (t : Told) (f 
         let q = mid + 1 + 1 in
         let e : next ≡ q + 1 = (let z = four.1 in omega (arith, z)) in
         let lows = base_low body c n L t f tells s A U d known low nd around in
-        let live : Lives body t f q (B s A) = lives_on body t f q last (B s A) four.0.0 (λ r b. (less_not r d (lows r b), (less_not r (suc d) (let z = lows r b in omega (arith, z)), tt))) (inl refl) (lives_at body t f next (q + 1) (B s A) e exit.0) in
-        let safe : Sure body t f m q (B s A) = safe_step body t f m q last (B s A) (B s A) four.0.0 live (λ x w. w)
-        (λ r u l. either (λ z. z.0) (λ z. either (λ b. absurd (let w = lows (suc d) b in omega (arith, w))) (λ w. told_not body c n L t f tells r d z.0 u (tells.even (suc d) d (omega (arith, nd)) nd w)) z.1) l)
-        (safe_at body t f m next (q + 1) (B s A) e exit.1) in
-        let facts = dropped_safe body c t f n L tells m mid next d (suc (suc d)) (Does last ∷ []) (B s A) two (λ r b. (less_not r d (lows r b), less_not r (suc (suc d)) (let z = lows r b in omega (arith, z)))) live safe in
-        let un : (r : ℕ) → B s A r ⊎ (r ≡ d) → (r < suc (suc d)) × (r ≢ suc d) = λ r l. either (λ b. let z = lows r b in (omega (arith, z), less_not r (suc d) (omega (arith, z)))) (λ w. (omega (arith, w), λ g. absurd (omega (arith, w, g)))) l in (
-          (λ r u l. test_live body c ty d (suc d) (suc (suc d)) p mid r (front body p one rest next h) (un r l).0 (un r l).1 (facts.1 r u l)),
-          test_safe body c t f n L tells ty m p mid d (suc d) (suc (suc d)) (λ r. B s A r ⊎ (r ≡ d)) (front body p one rest next h) un (omega arith) (omega (arith, nd)) facts.1 facts.0,
+        let answered : ℕ → Type 0 = With (B s A) (suc d) in
+        let live : Lives body t f q answered = λ r u l. either (λ b. live_on body q (q + 1) r last four.0.0 (less_not r d (lows r b), (less_not r (suc d) (let z = lows r b in omega (arith, z)), tt)) (inl refl) (lives_at body t f next (q + 1) (B s A) e exit.0 r u b)) (λ w. live_reads body q r last four.0.0 (inl w)) l in
+        let safe : Sure body t f m q answered = safe_step body t f m q last answered (λ r. B s A r ⊎ ((r ≡ d) × (false ≡ false))) four.0.0 live (λ x w. w)
+        (λ r u l. either (λ z. either (λ b. inl b) (λ w. absurd (z.1.1.0 w)) z.0) (λ z. inr (z.0, refl)) l)
+        (safe_at body t f m next (q + 1) (λ r. B s A r ⊎ ((r ≡ d) × (false ≡ false))) e exit.1) in
+        let apart : (r : ℕ) → answered r → (r ≢ d) × (r ≢ suc (suc d)) = λ r l. either (λ b. let z = lows r b in (less_not r d z, less_not r (suc (suc d)) (omega (arith, z)))) (λ w. ((λ g. absurd (omega (arith, w, g))), (λ g. absurd (omega (arith, w, g))))) l in
+        let facts = dropped_safe body c t f m mid next d (suc (suc d)) (Does last ∷ []) answered two apart live safe in
+        let un : (r : ℕ) → B s A r ⊎ (r ≡ d) → (r < suc (suc d)) × (r ≢ suc d) = λ r l. either (λ b. let z = lows r b in (omega (arith, z), less_not r (suc d) (omega (arith, z)))) (λ w. (omega (arith, w), λ g. absurd (omega (arith, w, g)))) l in
+        let live_mid : Lives body t f mid (With (With (B s A) d) (suc d)) = live_turned body c t f mid (suc d) d (B s A) facts.1 in (
+          (λ r u l. test_live body c ty d (suc d) (suc (suc d)) p mid r (front body p one rest next h) (un r l).0 (un r l).1 (live_mid r u (inl l))),
+          test_safe body c t f ty m p mid d (suc d) (suc (suc d)) (With (B s A) d) (front body p one rest next h) un (omega arith) live_mid (sure_turned body c t f m mid (suc d) d (B s A) facts.0),
         )
 
     -- ---- calls, lists and records

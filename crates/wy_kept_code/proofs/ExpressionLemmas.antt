@@ -13,7 +13,7 @@ use Rattle.wy_pieces.specs.declared.steps.Step.TheVariants.{Does}
 use Rattle.wy_compiled.specs.Expressions.{released, is_plain, call, count_of, field_count, is_test, negated, list, record_of, quantify, code, codes, field_codes}
 use Rattle.wy_kept_code.specs.Safe.{Told}
 use Rattle.wy_kept_code.specs.Telling.{Tells}
-use Rattle.wy_kept_code.specs.Fitting.{is_sure, Fits, FitAll, FitFields}
+use Rattle.wy_kept_code.specs.Fitting.{Fits, FitAll, FitFields}
 use Rattle.wy_kept_code.proofs.PieceLemmas.{either, less_not, Spans, front, back, tail, ended, Lives, Sure, sure_less, safe_step, safe_at, lives_on}
 use Rattle.wy_kept_code.proofs.SetLemmas.{Vars, all_cases, fields_cases}
 use Rattle.wy_kept_code.proofs.ReadLemmas.{low_more, all_used, fields_used}
@@ -28,11 +28,11 @@ module _ (body : List Instr) (c : Context) (n : ℕ) (L : Type 0) (t : Told) (f 
 
   -- a value that may be a list or a record
   abbrev H : Expr ℕ → ℕ → ℕ → Type 0
-  H e d r = (r ≡ d) × (is_sure e ≡ false)
+  H e d r = (r ≡ d) × (is_plain e ≡ false)
 
   -- one that the code takes to be none
   abbrev K : Expr ℕ → ℕ → ℕ → Type 0
-  K e d r = (r ≡ d) × ((is_sure e ≡ false) × (is_plain e ≡ true))
+  K e d r = (r ≡ d) × ((is_plain e ≡ false) × (is_plain e ≡ true))
 
   abbrev Comes : ℕ → ℕ → (ℕ → Type 0) → Type 0
   Comes m p P = Lives body t f p P × Sure body t f m p P
@@ -107,10 +107,10 @@ module _ (body : List Instr) (c : Context) (n : ℕ) (L : Type 0) (t : Told) (f 
     code_safe (FieldExpr i a name) U fit low m s A d at next known nd around h exit =
         unary_safe body c n L t f tells U low a (code_safe a U fit low) m s A d at next (instr.Field d d (number_of name c.table.names)) (H (FieldExpr i a name) d) known nd around h (λ r l. (less_not r d l, tt)) (λ p. inl refl) (inl refl) (λ g. g.0 refl) (λ r P g. (g, refl)) (λ k p P w. w) (two_of m next (B s A) (H (FieldExpr i a name) d) (K (FieldExpr i a name) d) exit)
     code_safe (BinaryExpr i o a b) U fit low m s A d at next known nd around h exit =
-        binary_safe body c n L t f tells U low i o a b (code_safe a U fit.0 low) (code_safe b U fit.1 low) fit.1 fit.2 m s A d at next known nd around h exit
+        binary_safe body c n L t f tells U low i o a b (code_safe a U fit.0 low) (code_safe b U fit.1 low) fit.1 m s A d at next known nd around h exit
     code_safe (IsExpr i a ty) U fit low m s A d at next known nd around h exit =
         let mid = at + length (code c a s d) in
-        let k = is_test_ready body c n L t f tells U low ty a m s A d mid next known nd around (back body at (code c a s d) (is_test c ty d) next h) (plain_exit m next (B s A) (H (IsExpr i a ty) d) (K (IsExpr i a ty) d) exit) in
+        let k = is_test_ready body c n L t f tells U low ty a m s A d mid next known nd around (back body at (code c a s d) (is_test c ty d) next h) (two_of m next (B s A) (H (IsExpr i a ty) d) (K (IsExpr i a ty) d) exit) in
         code_safe a U fit low m s A d at mid known nd around (front body at (code c a s d) (is_test c ty d) next h)
         ((λ r u l. k.0 r u (inl l)), sure_less body t f m mid (λ r. B s A r ⊎ H a d r) (λ r. B s A r ⊎ (r ≡ d)) (λ r u l. either (λ z. inl z) (λ z. inr z.0) l) k.1, (λ r u z. k.0 r u (inr z.0)))
     code_safe (IndexExpr i a b) U fit low m s A d at next known nd around h exit =

@@ -1,21 +1,15 @@
 -- A formed program is as the law on its code asks.
 use Rattle.std.proofs.Common.{◌≡◌, ◌<◌, ◌⊎◌, inl, inr, ℕ, zero, suc, List, [], ◌∷◌, length, Bool, true, false, Option, Some, None, refl, sym, ap, ◌∙◌, subst, arith}
 use Rattle.std.specs.Prelude.{slice_get, is_some}
-use Rattle.wy_core.specs.CoreTree as tree
-use Rattle.wy_core.specs.CoreTree.{Expr, NullExpr, BoolExpr, IntExpr, VarExpr, CallExpr, NegExpr, NotExpr, LenExpr, BinaryExpr, IsExpr, IndexExpr, FieldExpr, ListExpr, RepeatExpr, RecordExpr, QuantExpr, Exprs, NoExprs, MoreExprs, Fields, NoFields, MoreFields, Step, IndexStep, FieldStep, Stmt, DeclareStmt, AssignStmt, CallStmt, ReturnStmt, AssertStmt, BreakStmt, ContinueStmt, SkipStmt, FailStmt, IfStmt, WhileStmt, Stmts, NoStmts, MoreStmts, Param, Alias, Decl, AliasDecl, RoutineDecl, Core, aliases_of, routines_of}
-use Rattle.wy_core.specs.declared.expressions.Op.{Op}
-use Rattle.wy_core.specs.declared.expressions.Op.TheVariants as op
+use Rattle.wy_core.specs.CoreTree.{Expr, NullExpr, BoolExpr, IntExpr, VarExpr, CallExpr, NegExpr, NotExpr, LenExpr, BinaryExpr, IsExpr, IndexExpr, FieldExpr, ListExpr, RepeatExpr, RecordExpr, QuantExpr, Exprs, NoExprs, MoreExprs, Fields, NoFields, MoreFields, Step, IndexStep, FieldStep, Stmt, DeclareStmt, AssignStmt, CallStmt, ReturnStmt, AssertStmt, BreakStmt, ContinueStmt, SkipStmt, FailStmt, IfStmt, WhileStmt, Stmts, NoStmts, MoreStmts, Param, Decl, AliasDecl, RoutineDecl, routines_of}
 use Rattle.wy_formed.specs.Offers.{Signature, Offers, signatures_of, IsCall}
 use Rattle.wy_formed.specs.Bound as formed
 use Rattle.wy_formed.specs.Bound.{Scope, Has, IsNew, BoundExpr, BoundExprs, BoundFields, BoundOption, BoundPath, BoundStmt, BoundStmts, BoundClauses, BoundParams, Around, looped, behind, with_params}
 use Rattle.wy_tables.specs.declared.context.Context.{Context}
 use Rattle.wy_tables.specs.Tables.{target, results_of}
-use Rattle.wy_live.specs.Sets.{Variables}
-use Rattle.wy_live.specs.Walks.{live_all, head_live, around, nothing}
-use Rattle.wy_live.specs.declared.walk.Ends.{Ends}
 use Rattle.wy_compiled.specs.Expressions.{count_of}
-use Rattle.wy_kept_code.specs.Fitting.{SettledOption, SettledAt, SettledStmt, SettledStmts, Checked, IsValue, Fits, FitAll, FitFields, FitsOption, FitsPath, IsAction, MayGive, FitsStmt, FitsStmts}
-use Rattle.wy_kept_code.specs.Dead.{Counts, CountsAll, CountsFields, CountsOption, CountsPath, CountsStmt, CountsStmts, Declares, DeclaresIn, IsParam, Truths, TruthsAll, TruthsFields, TruthsOption, TruthsPath, TruthsStmt, TruthsStmts, LastTruth, TruthsClauses, TruthsTypes, TruthsRoutines}
+use Rattle.wy_kept_code.specs.Fitting.{IsValue, Fits, FitAll, FitFields, FitsOption, FitsPath, IsAction, MayGive, FitsStmt, FitsStmts}
+use Rattle.wy_kept_code.specs.Dead.{Counts, CountsAll, CountsFields, CountsOption, CountsPath, CountsStmt, CountsStmts, Declares, DeclaresIn, IsParam}
 use Rattle.wy_kept_code.proofs.PieceLemmas.{either}
 
 -- ---- what numbers call
@@ -65,51 +59,51 @@ module _ (ds : List (Decl ℕ)) (o : Offers) (offers : o.routines ≡ signatures
     both_more vs W x both = ((λ r h. either (λ e. inr (sym e)) (λ k. inl (both.0 r k)) h), (λ r w. either (λ k. either (λ u. inl u) (λ z. inr (inr z)) (both.1 r k)) (λ e. inr (inl (sym e))) w))
 
     mutual
-      pub fits_expr : (e : Expr ℕ) (vs : Scope) (W : ℕ → Type 0) → Both vs W → BoundExpr o n vs e → Truths L e → ((x : ℕ) → Counts e x → U x → ⊥) → Fits c n L e W
-      fits_expr (NullExpr at) vs W both b tr own = tt
-      fits_expr (BoolExpr at truth) vs W both b tr own = tt
-      fits_expr (IntExpr at number) vs W both b tr own = tt
-      fits_expr (VarExpr at x) vs W both b tr own = both.0 x b
-      fits_expr (CallExpr at g args) vs W both b tr own = (calls_value g (formed.count_of args) b.0, fits_all args vs W both b.1 tr own)
-      fits_expr (NegExpr at a) vs W both b tr own = fits_expr a vs W both b tr own
-      fits_expr (NotExpr at a) vs W both b tr own = fits_expr a vs W both b tr own
-      fits_expr (LenExpr at a) vs W both b tr own = fits_expr a vs W both b tr own
-      fits_expr (BinaryExpr at q a d) vs W both b tr own = (fits_expr a vs W both b.0 tr.0 (λ x k. own x (inl k)), fits_expr d vs W both b.1 tr.1 (λ x k. own x (inr k)), tr.2)
-      fits_expr (IsExpr at a ty) vs W both b tr own = fits_expr a vs W both b.0 tr own
-      fits_expr (IndexExpr at a d) vs W both b tr own = (fits_expr a vs W both b.0 tr.0 (λ x k. own x (inl k)), fits_expr d vs W both b.1 tr.1 (λ x k. own x (inr k)))
-      fits_expr (FieldExpr at a name) vs W both b tr own = fits_expr a vs W both b tr own
-      fits_expr (ListExpr at items) vs W both b tr own = fits_all items vs W both b tr own
-      fits_expr (RepeatExpr at a d) vs W both b tr own = (fits_expr a vs W both b.0 tr.0 (λ x k. own x (inl k)), fits_expr d vs W both b.1 tr.1 (λ x k. own x (inr k)))
-      fits_expr (RecordExpr at fs) vs W both b tr own = fits_fields fs vs W both b.1 tr own
-      fits_expr (QuantExpr at all y a d body) vs W both b tr own = (
-        fits_expr a vs W both b.1 tr.0 (λ x k. own x (inr (inl k))),
-        fits_expr d vs W both b.2 tr.1 (λ x k. own x (inr (inr (inl k)))),
+      pub fits_expr : (e : Expr ℕ) (vs : Scope) (W : ℕ → Type 0) → Both vs W → BoundExpr o n vs e → ((x : ℕ) → Counts e x → U x → ⊥) → Fits c n L e W
+      fits_expr (NullExpr at) vs W both b own = tt
+      fits_expr (BoolExpr at truth) vs W both b own = tt
+      fits_expr (IntExpr at number) vs W both b own = tt
+      fits_expr (VarExpr at x) vs W both b own = both.0 x b
+      fits_expr (CallExpr at g args) vs W both b own = (calls_value g (formed.count_of args) b.0, fits_all args vs W both b.1 own)
+      fits_expr (NegExpr at a) vs W both b own = fits_expr a vs W both b own
+      fits_expr (NotExpr at a) vs W both b own = fits_expr a vs W both b own
+      fits_expr (LenExpr at a) vs W both b own = fits_expr a vs W both b own
+      fits_expr (BinaryExpr at q a d) vs W both b own = (fits_expr a vs W both b.0 (λ x k. own x (inl k)), fits_expr d vs W both b.1 (λ x k. own x (inr k)))
+      fits_expr (IsExpr at a ty) vs W both b own = fits_expr a vs W both b.0 own
+      fits_expr (IndexExpr at a d) vs W both b own = (fits_expr a vs W both b.0 (λ x k. own x (inl k)), fits_expr d vs W both b.1 (λ x k. own x (inr k)))
+      fits_expr (FieldExpr at a name) vs W both b own = fits_expr a vs W both b own
+      fits_expr (ListExpr at items) vs W both b own = fits_all items vs W both b own
+      fits_expr (RepeatExpr at a d) vs W both b own = (fits_expr a vs W both b.0 (λ x k. own x (inl k)), fits_expr d vs W both b.1 (λ x k. own x (inr k)))
+      fits_expr (RecordExpr at fs) vs W both b own = fits_fields fs vs W both b.1 own
+      fits_expr (QuantExpr at all y a d body) vs W both b own = (
+        fits_expr a vs W both b.1 (λ x k. own x (inr (inl k))),
+        fits_expr d vs W both b.2 (λ x k. own x (inr (inr (inl k)))),
         (λ w. either (λ u. own y (inl refl) u) (λ h. b.0.1 h) (both.1 y w)),
         b.0.0,
-        fits_expr body (y ∷ vs) (λ r. W r ⊎ (r ≡ y)) (both_more vs W y both) b.3 tr.2 (λ x k. own x (inr (inr (inr k)))),
+        fits_expr body (y ∷ vs) (λ r. W r ⊎ (r ≡ y)) (both_more vs W y both) b.3 (λ x k. own x (inr (inr (inr k)))),
       )
 
-      pub fits_all : (es : Exprs ℕ) (vs : Scope) (W : ℕ → Type 0) → Both vs W → BoundExprs o n vs es → TruthsAll L es → ((x : ℕ) → CountsAll es x → U x → ⊥) → FitAll c n L es W
-      fits_all NoExprs vs W both b tr own = tt
-      fits_all (MoreExprs e es) vs W both b tr own = (fits_expr e vs W both b.0 tr.0 (λ x k. own x (inl k)), fits_all es vs W both b.1 tr.1 (λ x k. own x (inr k)))
+      pub fits_all : (es : Exprs ℕ) (vs : Scope) (W : ℕ → Type 0) → Both vs W → BoundExprs o n vs es → ((x : ℕ) → CountsAll es x → U x → ⊥) → FitAll c n L es W
+      fits_all NoExprs vs W both b own = tt
+      fits_all (MoreExprs e es) vs W both b own = (fits_expr e vs W both b.0 (λ x k. own x (inl k)), fits_all es vs W both b.1 (λ x k. own x (inr k)))
 
-      pub fits_fields : (fs : Fields ℕ) (vs : Scope) (W : ℕ → Type 0) → Both vs W → BoundFields o n vs fs → TruthsFields L fs → ((x : ℕ) → CountsFields fs x → U x → ⊥) → FitFields c n L fs W
-      fits_fields NoFields vs W both b tr own = tt
-      fits_fields (MoreFields name e fs) vs W both b tr own = (fits_expr e vs W both b.0 tr.0 (λ x k. own x (inl k)), fits_fields fs vs W both b.1 tr.1 (λ x k. own x (inr k)))
+      pub fits_fields : (fs : Fields ℕ) (vs : Scope) (W : ℕ → Type 0) → Both vs W → BoundFields o n vs fs → ((x : ℕ) → CountsFields fs x → U x → ⊥) → FitFields c n L fs W
+      fits_fields NoFields vs W both b own = tt
+      fits_fields (MoreFields name e fs) vs W both b own = (fits_expr e vs W both b.0 (λ x k. own x (inl k)), fits_fields fs vs W both b.1 (λ x k. own x (inr k)))
 
     -- statements, among declared variables alone
     module _ (R : Type 0) where
       own_scope : (vs : Scope) → ((r : ℕ) → Has vs r → U r) → Both vs U
       own_scope vs inside = (inside, λ r u. inl u)
 
-      fits_option : (value : Option (Expr ℕ)) (vs : Scope) → ((r : ℕ) → Has vs r → U r) → BoundOption o n vs value → TruthsOption L value → ((x : ℕ) → CountsOption value x → U x → ⊥) → FitsOption c n L value U
-      fits_option None vs inside b tr own = tt
-      fits_option (Some e) vs inside b tr own = fits_expr e vs U (own_scope vs inside) b tr own
+      fits_option : (value : Option (Expr ℕ)) (vs : Scope) → ((r : ℕ) → Has vs r → U r) → BoundOption o n vs value → ((x : ℕ) → CountsOption value x → U x → ⊥) → FitsOption c n L value U
+      fits_option None vs inside b own = tt
+      fits_option (Some e) vs inside b own = fits_expr e vs U (own_scope vs inside) b own
 
-      fits_path : (path : List (Step ℕ)) (vs : Scope) → ((r : ℕ) → Has vs r → U r) → BoundPath o n vs path → TruthsPath L path → ((x : ℕ) → CountsPath path x → U x → ⊥) → FitsPath c n L path U
-      fits_path [] vs inside b tr own = tt
-      fits_path (IndexStep at e ∷ path) vs inside b tr own = (fits_expr e vs U (own_scope vs inside) b.0 tr.0 (λ x k. own x (inl k)), fits_path path vs inside b.1 tr.1 (λ x k. own x (inr k)))
-      fits_path (FieldStep at name ∷ path) vs inside b tr own = fits_path path vs inside b tr own
+      fits_path : (path : List (Step ℕ)) (vs : Scope) → ((r : ℕ) → Has vs r → U r) → BoundPath o n vs path → ((x : ℕ) → CountsPath path x → U x → ⊥) → FitsPath c n L path U
+      fits_path [] vs inside b own = tt
+      fits_path (IndexStep at e ∷ path) vs inside b own = (fits_expr e vs U (own_scope vs inside) b.0 (λ x k. own x (inl k)), fits_path path vs inside b.1 (λ x k. own x (inr k)))
+      fits_path (FieldStep at name ∷ path) vs inside b own = fits_path path vs inside b own
 
       may_give : (value : Option (Expr ℕ)) (b : Bool) → is_some value ≡ b → (b ≡ true → R) → MayGive R value
       may_give None b e f = tt
@@ -130,26 +124,26 @@ module _ (ds : List (Decl ℕ)) (o : Offers) (offers : o.routines ≡ signatures
       behind_inside (WhileStmt at e invariants body) vs inside dec r h = inside r h
 
       mutual
-        pub fits_stmt : (st : Stmt ℕ) (a : Around) (vs : Scope) → ((r : ℕ) → Has vs r → U r) → ((x : ℕ) → Declares st x → U x) → (a.has_result ≡ true → R) → BoundStmt o n a vs st → TruthsStmt L st → ((x : ℕ) → CountsStmt st x → U x → ⊥) → FitsStmt c n L R st U
-        fits_stmt (DeclareStmt at ty y value) a vs inside dec gives b tr own = (dec y refl, fits_option value vs inside b.1 tr own)
-        fits_stmt (AssignStmt at y path e) a vs inside dec gives b tr own = (inside y b.0, fits_path path vs inside b.1 tr.0 (λ x k. own x (inl k)), fits_expr e vs U (own_scope vs inside) b.2 tr.1 (λ x k. own x (inr k)))
-        fits_stmt (CallStmt at g args) a vs inside dec gives b tr own = (calls_action g (count_of args) false (subst (λ (k : ℕ). IsCall o false g k) (same_count args) b.0), fits_all args vs U (own_scope vs inside) b.1 tr own)
-        fits_stmt (ReturnStmt at value) a vs inside dec gives b tr own = (fits_option value vs inside b.1 tr own, may_give value a.has_result b.0 gives)
-        fits_stmt (AssertStmt at e) a vs inside dec gives b tr own = tt
-        fits_stmt (BreakStmt at) a vs inside dec gives b tr own = tt
-        fits_stmt (ContinueStmt at) a vs inside dec gives b tr own = tt
-        fits_stmt (SkipStmt at) a vs inside dec gives b tr own = tt
-        fits_stmt (FailStmt at) a vs inside dec gives b tr own = tt
-        fits_stmt (IfStmt at e first second) a vs inside dec gives b tr own =
-            (fits_expr e vs U (own_scope vs inside) b.0 tr.0 (λ x k. own x (inl k)), fits_stmts first a vs inside (λ x k. dec x (inl k)) gives b.1 tr.1 (λ x k. own x (inr (inl k))), fits_stmts second a vs inside (λ x k. dec x (inr k)) gives b.2 tr.2 (λ x k. own x (inr (inr k))), tr.3)
-        fits_stmt (WhileStmt at e invariants body) a vs inside dec gives b tr own =
-            (fits_expr e vs U (own_scope vs inside) b.0 tr.0 (λ x k. own x (inl k)), fits_stmts body (looped a) vs inside dec gives b.2 tr.1 (λ x k. own x (inr k)))
+        pub fits_stmt : (st : Stmt ℕ) (a : Around) (vs : Scope) → ((r : ℕ) → Has vs r → U r) → ((x : ℕ) → Declares st x → U x) → (a.has_result ≡ true → R) → BoundStmt o n a vs st → ((x : ℕ) → CountsStmt st x → U x → ⊥) → FitsStmt c n L R st U
+        fits_stmt (DeclareStmt at ty y value) a vs inside dec gives b own = (dec y refl, fits_option value vs inside b.1 own)
+        fits_stmt (AssignStmt at y path e) a vs inside dec gives b own = (inside y b.0, fits_path path vs inside b.1 (λ x k. own x (inl k)), fits_expr e vs U (own_scope vs inside) b.2 (λ x k. own x (inr k)))
+        fits_stmt (CallStmt at g args) a vs inside dec gives b own = (calls_action g (count_of args) false (subst (λ (k : ℕ). IsCall o false g k) (same_count args) b.0), fits_all args vs U (own_scope vs inside) b.1 own)
+        fits_stmt (ReturnStmt at value) a vs inside dec gives b own = (fits_option value vs inside b.1 own, may_give value a.has_result b.0 gives)
+        fits_stmt (AssertStmt at e) a vs inside dec gives b own = tt
+        fits_stmt (BreakStmt at) a vs inside dec gives b own = tt
+        fits_stmt (ContinueStmt at) a vs inside dec gives b own = tt
+        fits_stmt (SkipStmt at) a vs inside dec gives b own = tt
+        fits_stmt (FailStmt at) a vs inside dec gives b own = tt
+        fits_stmt (IfStmt at e first second) a vs inside dec gives b own =
+            (fits_expr e vs U (own_scope vs inside) b.0 (λ x k. own x (inl k)), fits_stmts first a vs inside (λ x k. dec x (inl k)) gives b.1 (λ x k. own x (inr (inl k))), fits_stmts second a vs inside (λ x k. dec x (inr k)) gives b.2 (λ x k. own x (inr (inr k))))
+        fits_stmt (WhileStmt at e invariants body) a vs inside dec gives b own =
+            (fits_expr e vs U (own_scope vs inside) b.0 (λ x k. own x (inl k)), fits_stmts body (looped a) vs inside dec gives b.2 (λ x k. own x (inr k)))
 
-        pub fits_stmts : (ss : Stmts ℕ) (a : Around) (vs : Scope) → ((r : ℕ) → Has vs r → U r) → ((x : ℕ) → DeclaresIn ss x → U x) → (a.has_result ≡ true → R) → BoundStmts o n a vs ss → TruthsStmts L ss → ((x : ℕ) → CountsStmts ss x → U x → ⊥) → FitsStmts c n L R ss U
-        fits_stmts NoStmts a vs inside dec gives b tr own = tt
-        fits_stmts (MoreStmts st rest) a vs inside dec gives b tr own = (
-          fits_stmt st a vs inside (λ x k. dec x (inl k)) gives b.0 tr.0 (λ x k. own x (inl k)),
-          fits_stmts rest a (behind vs st) (λ r h. behind_inside st vs inside (λ x k. dec x (inl k)) r h) (λ x k. dec x (inr k)) gives b.1 tr.1 (λ x k. own x (inr k)),
+        pub fits_stmts : (ss : Stmts ℕ) (a : Around) (vs : Scope) → ((r : ℕ) → Has vs r → U r) → ((x : ℕ) → DeclaresIn ss x → U x) → (a.has_result ≡ true → R) → BoundStmts o n a vs ss → ((x : ℕ) → CountsStmts ss x → U x → ⊥) → FitsStmts c n L R ss U
+        fits_stmts NoStmts a vs inside dec gives b own = tt
+        fits_stmts (MoreStmts st rest) a vs inside dec gives b own = (
+          fits_stmt st a vs inside (λ x k. dec x (inl k)) gives b.0 (λ x k. own x (inl k)),
+          fits_stmts rest a (behind vs st) (λ r h. behind_inside st vs inside (λ x k. dec x (inl k)) r h) (λ x k. dec x (inr k)) gives b.1 (λ x k. own x (inr k)),
         )
 
 -- ---- declared variables have registers
@@ -181,117 +175,3 @@ module _ (o : Offers) (n : ℕ) where
 pub params_scope : (ps : List Param) (vs : Scope) (r : ℕ) → Has (with_params vs ps) r → IsParam ps r ⊎ Has vs r
 params_scope [] vs r h = inr h
 params_scope (p ∷ ps) vs r h = either (λ k. inl (inr k)) (λ k. either (λ e. inl (inl (sym e))) (λ z. inr z) k) (params_scope ps (p.variable ∷ vs) r h)
-
--- ---- where nothing is asked of truth values
-
-module _ (L : Type 0) (l : L) where
-  checked_loose : (o : Op) (b : Expr ℕ) → Checked o b L
-  checked_loose op.Add b = tt
-  checked_loose op.Sub b = tt
-  checked_loose op.Mul b = tt
-  checked_loose op.Div b = tt
-  checked_loose op.Mod b = tt
-  checked_loose op.Equal b = inr l
-  checked_loose op.Less b = tt
-  checked_loose op.LessEqual b = tt
-  checked_loose op.Greater b = tt
-  checked_loose op.GreaterEqual b = tt
-  checked_loose op.And b = tt
-  checked_loose op.Or b = tt
-
-  settled_option : (x : ℕ) (value : Option (Expr ℕ)) (s : Variables) → SettledOption x value s L
-  settled_option x None s = tt
-  settled_option x (Some e) s = inr (inr l)
-
-  settled_at : (x : ℕ) (path : List (Step ℕ)) (e : Expr ℕ) (s : Variables) → SettledAt x path e s L
-  settled_at x [] e s = inr (inr l)
-  settled_at x (step ∷ path) e s = tt
-
-  mutual
-    settled_stmt : (st : Stmt ℕ) (s : Variables) (ends : Ends) → SettledStmt L st s ends
-    settled_stmt (DeclareStmt at ty x value) s ends = settled_option x value s
-    settled_stmt (AssignStmt at x path e) s ends = settled_at x path e s
-    settled_stmt (CallStmt at g args) s ends = tt
-    settled_stmt (ReturnStmt at value) s ends = tt
-    settled_stmt (AssertStmt at e) s ends = tt
-    settled_stmt (BreakStmt at) s ends = tt
-    settled_stmt (ContinueStmt at) s ends = tt
-    settled_stmt (SkipStmt at) s ends = tt
-    settled_stmt (FailStmt at) s ends = tt
-    settled_stmt (IfStmt at e first second) s ends = (settled_stmts first s ends, settled_stmts second s ends)
-    settled_stmt (WhileStmt at e invariants inner) s ends = settled_stmts inner (head_live e inner s) (around s (head_live e inner s))
-
-    settled_stmts : (ss : Stmts ℕ) (s : Variables) (ends : Ends) → SettledStmts L ss s ends
-    settled_stmts NoStmts s ends = tt
-    settled_stmts (MoreStmts st rest) s ends = (settled_stmt st (live_all rest s ends) ends, settled_stmts rest s ends)
-
-  mutual
-    truths_loose : (e : Expr ℕ) → Truths L e
-    truths_loose (NullExpr at) = tt
-    truths_loose (BoolExpr at truth) = tt
-    truths_loose (IntExpr at number) = tt
-    truths_loose (VarExpr at x) = tt
-    truths_loose (CallExpr at g args) = all_loose args
-    truths_loose (NegExpr at a) = truths_loose a
-    truths_loose (NotExpr at a) = truths_loose a
-    truths_loose (LenExpr at a) = truths_loose a
-    truths_loose (BinaryExpr at o a b) = (truths_loose a, truths_loose b, checked_loose o b)
-    truths_loose (IsExpr at a ty) = truths_loose a
-    truths_loose (IndexExpr at a b) = (truths_loose a, truths_loose b)
-    truths_loose (FieldExpr at a name) = truths_loose a
-    truths_loose (ListExpr at items) = all_loose items
-    truths_loose (RepeatExpr at a b) = (truths_loose a, truths_loose b)
-    truths_loose (RecordExpr at fs) = fields_loose fs
-    truths_loose (QuantExpr at all y a b body) = (truths_loose a, truths_loose b, truths_loose body)
-
-    all_loose : (es : Exprs ℕ) → TruthsAll L es
-    all_loose NoExprs = tt
-    all_loose (MoreExprs e es) = (truths_loose e, all_loose es)
-
-    fields_loose : (fs : Fields ℕ) → TruthsFields L fs
-    fields_loose NoFields = tt
-    fields_loose (MoreFields name e fs) = (truths_loose e, fields_loose fs)
-
-  option_loose : (value : Option (Expr ℕ)) → TruthsOption L value
-  option_loose None = tt
-  option_loose (Some e) = truths_loose e
-
-  path_loose : (path : List (Step ℕ)) → TruthsPath L path
-  path_loose [] = tt
-  path_loose (IndexStep at e ∷ path) = (truths_loose e, path_loose path)
-  path_loose (FieldStep at name ∷ path) = path_loose path
-
-  mutual
-    stmt_loose : (st : Stmt ℕ) → TruthsStmt L st
-    stmt_loose (DeclareStmt at ty y value) = option_loose value
-    stmt_loose (AssignStmt at y path e) = (path_loose path, truths_loose e)
-    stmt_loose (CallStmt at g args) = all_loose args
-    stmt_loose (ReturnStmt at value) = option_loose value
-    stmt_loose (AssertStmt at e) = tt
-    stmt_loose (BreakStmt at) = tt
-    stmt_loose (ContinueStmt at) = tt
-    stmt_loose (SkipStmt at) = tt
-    stmt_loose (FailStmt at) = tt
-    stmt_loose (IfStmt at e first second) = (truths_loose e, stmts_loose first, stmts_loose second, inl (inr l))
-    stmt_loose (WhileStmt at e invariants body) = (truths_loose e, stmts_loose body)
-
-    stmts_loose : (ss : Stmts ℕ) → TruthsStmts L ss
-    stmts_loose NoStmts = tt
-    stmts_loose (MoreStmts st rest) = (stmt_loose st, stmts_loose rest)
-
-  clauses_loose : (es : List (Expr ℕ)) → TruthsClauses L es
-  clauses_loose [] = tt
-  clauses_loose (e ∷ es) = (truths_loose e, clauses_loose es)
-
-  last_loose : (es : List (Expr ℕ)) → LastTruth L es
-  last_loose [] = tt
-  last_loose (e ∷ []) = inr l
-  last_loose (e ∷ (d ∷ es)) = last_loose (d ∷ es)
-
-  pub types_loose : (ts : List (Alias ℕ)) → TruthsTypes L ts
-  types_loose [] = tt
-  types_loose (a ∷ more) = (clauses_loose a.clauses, last_loose a.clauses, types_loose more)
-
-  pub routines_loose : (rs : List (tree.Routine ℕ)) → TruthsRoutines L rs
-  routines_loose [] = tt
-  routines_loose (r ∷ rs) = ((stmts_loose r.body, settled_stmts r.body [] nothing), routines_loose rs)

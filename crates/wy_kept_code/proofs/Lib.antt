@@ -17,6 +17,7 @@ pub mod ChoiceLemmas
 pub mod QuantifierLemmas
 pub mod ExpressionLemmas
 -- statements
+pub mod BranchLemmas
 pub mod StatementReadLemmas
 pub mod StatementLemmas
 -- programs

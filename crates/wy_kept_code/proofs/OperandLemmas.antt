@@ -23,7 +23,7 @@ use Rattle.wy_kept_registers.specs.Keeping.{IsNone}
 use Rattle.wy_kept_code.specs.Alive.{IsOne, reads, changes, nexts, LiveAt}
 use Rattle.wy_kept_code.specs.Safe.{Told, gone, Into, After, Onward, Safe}
 use Rattle.wy_kept_code.specs.Telling.{Tells}
-use Rattle.wy_kept_code.specs.Fitting.{is_sure, Settled, Checked, IsValue, Fits}
+use Rattle.wy_kept_code.specs.Fitting.{IsValue, Fits}
 use Rattle.wy_kept_code.proofs.PieceLemmas.{either, less_not, Spans, front, back, tail, ended, live_reads, live_on, Lives, Told_of, Sure, sure_less, safe_step, safe_clears, safe_at, lives_on, lives_at}
 use Rattle.wy_kept_code.proofs.SetLemmas.{not_both, Vars, before_cases}
 use Rattle.wy_kept_code.proofs.ReadLemmas.{Low, occurs_used, code_live}
@@ -103,11 +103,11 @@ module _ (body : List Instr) (c : Context) (n : ℕ) (L : Type 0) where
 
     -- a value that may be a list or a record
     abbrev pub Held : Expr ℕ → ℕ → ℕ → Type 0
-    Held e d r = (r ≡ d) × (is_sure e ≡ false)
+    Held e d r = (r ≡ d) × (is_plain e ≡ false)
 
     -- one that the code takes to be none, so that it doesn't release it
     abbrev pub Kept : Expr ℕ → ℕ → ℕ → Type 0
-    Kept e d r = (r ≡ d) × ((is_sure e ≡ false) × (is_plain e ≡ true))
+    Kept e d r = (r ≡ d) × ((is_plain e ≡ false) × (is_plain e ≡ true))
 
     abbrev pub Around : ℕ → (ℕ → Type 0) → Type 0
     Around d A = (r : ℕ) → A r → (n ≤ r) × (r < d)
@@ -226,7 +226,7 @@ module _ (body : List Instr) (c : Context) (n : ℕ) (L : Type 0) where
 
       -- the instruction that reads both
       pub pair_ready : (a b : Expr ℕ) (m : ℕ) (s : Variables) (A : ℕ → Type 0) (d p next : ℕ) (i : Instr) (H : ℕ → Type 0) → Known s U → n ≤ d → Around d A → Spans body p (Does i ∷ []) next
-          → ((r : ℕ) → r < d → IsNone r (changes i)) → IsOne (p + 1) (nexts p i) → IsOne d (reads i) → IsOne (suc d) (reads i) → (IsNone d (gone i) → ⊥) → ((is_sure b ≡ false) → IsNone (suc d) (gone i) → H (suc d))
+          → ((r : ℕ) → r < d → IsNone r (changes i)) → IsOne (p + 1) (nexts p i) → IsOne d (reads i) → IsOne (suc d) (reads i) → (IsNone d (gone i) → ⊥) → ((is_plain b ≡ false) → IsNone (suc d) (gone i) → H (suc d))
           → ((r : ℕ) (P : ℕ → Type 0) → Into t f i P r → H r) → ((k : ℕ) (P : ℕ → Type 0) → Safe t f body k (p + 1) (After t f i P) → Onward t f (Safe t f body k) p i P)
           → Exit m next (Base s A) H → Ready m p (λ r. Base s A r ⊎ (Held a d r ⊎ Held b (suc d) r))
       pair_ready a b m s A d p next i H known nd around h none to one two left also into onward exit =
@@ -251,11 +251,10 @@ module _ (body : List Instr) (c : Context) (n : ℕ) (L : Type 0) where
           pair_ready a b m s A d p next (instr.Compare d o d (suc d)) Nothing_more known nd around h (λ r l. (less_not r d l, tt)) (inl refl) (inl refl) (inr (inl refl)) (λ g. g.0 refl) (λ e g. g.1.1.0 refl) (λ r P g. g) (λ k P w. w) exit
 
       -- behind an equation its right operand is released where it may be a list or a record
-      equal_ready : (a b : Expr ℕ) (plain : Bool) → is_plain b ≡ plain → Settled b L → (m : ℕ) (s : Variables) (A : ℕ → Type 0) (d p next : ℕ) → Known s U → n ≤ d → Around d A → Spans body p (equal plain d) next → Exit m next (Base s A) Nothing_more → Ready m p (λ r. Base s A r ⊎ (Held a d r ⊎ Held b (suc d) r))
-      equal_ready a b true same settled m s A d p next known nd around h exit =
-          pair_ready a b m s A d p next (instr.Equal d d (suc d)) (λ r. (r ≡ suc d) × L) known nd around h (λ r l. (less_not r d l, tt)) (inl refl) (inl refl) (inr (inl refl)) (λ g. g.0 refl) (λ e g. (refl, either (λ k. either (λ z. not_both (is_plain b) same z) (λ z. not_both (is_sure b) z e) k) (λ l. l) settled)) (λ r P g. absurd g) (λ k P w. w)
-          (exit.0, sure_less body t f m next (λ r. Base s A r ⊎ ((r ≡ suc d) × L)) (λ r. Base s A r ⊎ ⊥) (λ r u l. either (λ z. inl z) (λ z. told_not r (suc d) z.0 u (tells.loose z.1 (suc d) (omega (arith, nd)))) l) exit.1)
-      equal_ready a b false same settled m s A d p next known nd around h exit =
+      equal_ready : (a b : Expr ℕ) (plain : Bool) → is_plain b ≡ plain → (m : ℕ) (s : Variables) (A : ℕ → Type 0) (d p next : ℕ) → Known s U → n ≤ d → Around d A → Spans body p (equal plain d) next → Exit m next (Base s A) Nothing_more → Ready m p (λ r. Base s A r ⊎ (Held a d r ⊎ Held b (suc d) r))
+      equal_ready a b true same m s A d p next known nd around h exit =
+          pair_ready a b m s A d p next (instr.Equal d d (suc d)) Nothing_more known nd around h (λ r l. (less_not r d l, tt)) (inl refl) (inl refl) (inr (inl refl)) (λ g. g.0 refl) (λ e g. not_both (is_plain b) same e) (λ r P g. absurd g) (λ k P w. w) exit
+      equal_ready a b false same m s A d p next known nd around h exit =
           let clears : Instr = instr.Clear (suc d ∷ []) in
           let two = tail body p (instr.Equal d d (suc d)) (Does clears ∷ []) next h in
           let e : next ≡ p + 1 + 1 = (let z = two.1 in omega (arith, z)) in
@@ -264,16 +263,16 @@ module _ (body : List Instr) (c : Context) (n : ℕ) (L : Type 0) where
           pair_ready a b m s A d p (p + 1) (instr.Equal d d (suc d)) (λ r. r ≡ suc d) known nd around ((h.0.0, tt), omega arith) (λ r l. (less_not r d l, tt)) (inl refl) (inl refl) (inr (inl refl)) (λ g. g.0 refl) (λ z g. refl) (λ r P g. absurd g) (λ k P w. w)
           (live, safe_clears body t f m (p + 1) (suc d ∷ []) (λ r. Base s A r ⊎ (r ≡ suc d)) (λ r. Base s A r ⊎ ⊥) two.0.0 (λ r u l. either (λ b. inl b) (λ z. absurd (l.1.0 z)) l.0) (safe_at body t f m next (p + 1 + 1) (λ r. Base s A r ⊎ ⊥) e exit.1))
 
-      pub operator_ready : (o : Op) (a b : Expr ℕ) (m : ℕ) (s : Variables) (A : ℕ → Type 0) (d p next : ℕ) → Known s U → n ≤ d → Around d A → Spans body p (operator o d (is_plain b)) next → Exit m next (Base s A) Nothing_more → Checked o b L → (o ≡ op.And → ⊥) → (o ≡ op.Or → ⊥) → Ready m p (λ r. Base s A r ⊎ (Held a d r ⊎ Held b (suc d) r))
-      operator_ready op.Add a b m s A d p next known nd around h exit checked x y = arith_ready a b arithmetic.Add m s A d p next known nd around h exit
-      operator_ready op.Sub a b m s A d p next known nd around h exit checked x y = arith_ready a b arithmetic.Sub m s A d p next known nd around h exit
-      operator_ready op.Mul a b m s A d p next known nd around h exit checked x y = arith_ready a b arithmetic.Mul m s A d p next known nd around h exit
-      operator_ready op.Div a b m s A d p next known nd around h exit checked x y = arith_ready a b arithmetic.Div m s A d p next known nd around h exit
-      operator_ready op.Mod a b m s A d p next known nd around h exit checked x y = arith_ready a b arithmetic.Mod m s A d p next known nd around h exit
-      operator_ready op.Equal a b m s A d p next known nd around h exit checked x y = equal_ready a b (is_plain b) refl checked m s A d p next known nd around h exit
-      operator_ready op.Less a b m s A d p next known nd around h exit checked x y = compare_ready a b comparison.Less m s A d p next known nd around h exit
-      operator_ready op.LessEqual a b m s A d p next known nd around h exit checked x y = compare_ready a b comparison.LessEqual m s A d p next known nd around h exit
-      operator_ready op.Greater a b m s A d p next known nd around h exit checked x y = compare_ready a b comparison.Greater m s A d p next known nd around h exit
-      operator_ready op.GreaterEqual a b m s A d p next known nd around h exit checked x y = compare_ready a b comparison.GreaterEqual m s A d p next known nd around h exit
-      operator_ready op.And a b m s A d p next known nd around h exit checked x y = absurd (x refl)
-      operator_ready op.Or a b m s A d p next known nd around h exit checked x y = absurd (y refl)
+      pub operator_ready : (o : Op) (a b : Expr ℕ) (m : ℕ) (s : Variables) (A : ℕ → Type 0) (d p next : ℕ) → Known s U → n ≤ d → Around d A → Spans body p (operator o d (is_plain b)) next → Exit m next (Base s A) Nothing_more → (o ≡ op.And → ⊥) → (o ≡ op.Or → ⊥) → Ready m p (λ r. Base s A r ⊎ (Held a d r ⊎ Held b (suc d) r))
+      operator_ready op.Add a b m s A d p next known nd around h exit x y = arith_ready a b arithmetic.Add m s A d p next known nd around h exit
+      operator_ready op.Sub a b m s A d p next known nd around h exit x y = arith_ready a b arithmetic.Sub m s A d p next known nd around h exit
+      operator_ready op.Mul a b m s A d p next known nd around h exit x y = arith_ready a b arithmetic.Mul m s A d p next known nd around h exit
+      operator_ready op.Div a b m s A d p next known nd around h exit x y = arith_ready a b arithmetic.Div m s A d p next known nd around h exit
+      operator_ready op.Mod a b m s A d p next known nd around h exit x y = arith_ready a b arithmetic.Mod m s A d p next known nd around h exit
+      operator_ready op.Equal a b m s A d p next known nd around h exit x y = equal_ready a b (is_plain b) refl m s A d p next known nd around h exit
+      operator_ready op.Less a b m s A d p next known nd around h exit x y = compare_ready a b comparison.Less m s A d p next known nd around h exit
+      operator_ready op.LessEqual a b m s A d p next known nd around h exit x y = compare_ready a b comparison.LessEqual m s A d p next known nd around h exit
+      operator_ready op.Greater a b m s A d p next known nd around h exit x y = compare_ready a b comparison.Greater m s A d p next known nd around h exit
+      operator_ready op.GreaterEqual a b m s A d p next known nd around h exit x y = compare_ready a b comparison.GreaterEqual m s A d p next known nd around h exit
+      operator_ready op.And a b m s A d p next known nd around h exit x y = absurd (x refl)
+      operator_ready op.Or a b m s A d p next known nd around h exit x y = absurd (y refl)

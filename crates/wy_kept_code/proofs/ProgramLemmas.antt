@@ -18,7 +18,7 @@ use Rattle.wy_pieces.specs.declared.steps.Step.TheVariants.{Does}
 use Rattle.wy_pieces.specs.Steps.{clear, dropped, fork}
 use Rattle.wy_pieces.specs.Placing.{placed}
 use Rattle.wy_compiled.specs.TypeTests.{test}
-use Rattle.wy_compiled.specs.Expressions.{code}
+use Rattle.wy_compiled.specs.Expressions.{is_plain, code}
 use Rattle.wy_compiled.specs.Statements.{gives_null, stmts_code}
 use Rattle.wy_compiled.specs.Programs.{unused_params, body_steps, body_routine, clauses_steps, variable_of, taken, type_steps_at, type_routine, body_routines, type_routines, code_of}
 use Rattle.wy_sem.specs.TypeTests.{alias_at}
@@ -30,17 +30,17 @@ use Rattle.wy_kept_registers.specs.Keeping.{IsNone}
 use Rattle.wy_kept_code.specs.Alive.{LiveAt}
 use Rattle.wy_kept_code.specs.Safe.{Told, Safe, SafeCode}
 use Rattle.wy_kept_code.specs.Telling.{Tells}
-use Rattle.wy_kept_code.specs.Fitting.{is_sure, Fits, FitsStmts, SettledStmts}
-use Rattle.wy_kept_code.specs.Dead.{CountsStmts, IsDeclared, OwnCounters, TruthsStmts, LastTruth, TruthsClauses, TruthsTypes, TruthsRoutines, TruthsByForm, variables_in, result_at, told_of, Asked, NothingDeadIsKept, NoDeadVariableIsKept}
+use Rattle.wy_kept_code.specs.Fitting.{Fits, FitsStmts}
+use Rattle.wy_kept_code.specs.Dead.{CountsStmts, IsDeclared, OwnCounters, variables_in, result_at, told_of, Asked, NothingDeadIsKept, NoDeadVariableIsKept}
 use Rattle.wy_kept_code.proofs.SafeLemmas.{safe_less}
 use Rattle.wy_kept_code.proofs.RunLemmas.{safe_runs}
-use Rattle.wy_kept_code.proofs.PieceLemmas.{either, less_not, Spans, front, back, tail, ended, live_reads, live_second, Lives, Told_of, Sure, sure_less, safe_step, safe_returns, safe_at, safe_fork, lives_at}
+use Rattle.wy_kept_code.proofs.PieceLemmas.{either, less_not, Spans, front, back, tail, ended, live_reads, live_second, Lives, Told_of, Sure, sure_less, safe_step, safe_returns, safe_at, lives_at}
 use Rattle.wy_kept_code.proofs.SetLemmas.{not_both, Vars, before_of, with_cases, with_of, none_has}
-use Rattle.wy_kept_code.proofs.TestLemmas.{at_end, dropped_safe, test_live, test_safe}
+use Rattle.wy_kept_code.proofs.TestLemmas.{at_end, With, live_less, sure_less_one, asked_lives, one_safe, dropped_safe, test_live, test_safe}
 use Rattle.wy_kept_code.proofs.ReadLemmas.{Low}
-use Rattle.wy_kept_code.proofs.OperandLemmas.{told_not, ready_less, clear_sure, front_some, code_some, fork_reads}
+use Rattle.wy_kept_code.proofs.OperandLemmas.{ready_less, clear_sure}
 use Rattle.wy_kept_code.proofs.StatementLemmas.{gives_null_sure, value_safe, stmts_safe}
-use Rattle.wy_kept_code.proofs.FitLemmas.{fits_expr, fits_stmts, declares_all_low, params_low, params_scope, types_loose, routines_loose}
+use Rattle.wy_kept_code.proofs.FitLemmas.{fits_expr, fits_stmts, declares_all_low, params_low, params_scope}
 
 -- ---- what is said of which registers
 
@@ -74,15 +74,13 @@ or_left : (a b : Bool) → (a || b) ≡ true → b ≡ false → a ≡ true
 or_left true b e g = refl
 or_left false b e g = absurd (let z : true ≡ false = sym e ∙ g in cc)
 
-beyond : (bs : List Bool) (k : ℕ) → result_at bs (length bs + k) ≡ false
-beyond [] k = refl
-beyond (b ∷ bs) k = subst (λ (z : ℕ). result_at (b ∷ bs) z ≡ false) (next_place (length bs) k) (beyond bs k)
-  where
-    next_place : (a k : ℕ) → suc (a + k) ≡ suc a + k
-    next_place a k = omega arith
+not_declared : (g : ℕ) → target [] g ≡ Declared false → ⊥
+not_declared zero e = cc
+not_declared (suc zero) e = cc
+not_declared (suc (suc g)) e = cc
 
 no_result : (bs : List Bool) (g : ℕ) → target bs g ≡ Declared false → result_at bs g ≡ false
-no_result [] g e = refl
+no_result [] g e = absurd (not_declared g e)
 no_result (b ∷ bs) zero e = declared_same b false e
   where
     declared_same : (a d : Bool) → Declared a ≡ Declared d → a ≡ d
@@ -112,7 +110,7 @@ module _ (core : Core ℕ) (loose : Bool) where
   tells_of f = record {
     even = (λ r q nr nq u. untold_all f q (untold_loose f r u) nq);
     loose = (λ l r nr. untold_all f r l nr);
-    answers = (λ k r nr h. untold_all f r (or_left loose (result_at c.results (length c.results + k)) h (beyond c.results k)) nr);
+    passes = (λ r nr. ap (λ (b : Bool). not b) (not_less r (size_at f) nr));
     nothing = (λ g r nr is h. untold_all f r (or_left loose (result_at c.results g) h (no_result c.results g is)) nr);
   }
 
@@ -139,9 +137,9 @@ module _ (core : Core ℕ) (loose : Bool) where
       by true e g rest = either (λ same. subst (λ (z : ℕ). has s z ≡ true) (order.0 ∙ sym same) e) (λ more. rest more g) (first_or_more k x low)
       by false e g rest = either (λ same. absurd (g.0 (same ∙ sym order.0))) (λ more. rest more g.1) (first_or_more k x low)
 
-  body_safe : (f : ℕ) (r : tree.Routine ℕ) → size_at f ≡ length r.variables → result_at c.results f ≡ is_some r.result → BoundRoutine (offers_of core) r → InOrder 0 r.params → ((x : ℕ) → CountsStmts r.body x → IsDeclared r x → ⊥) → TruthsStmts L r.body × SettledStmts L r.body [] nothing
+  body_safe : (f : ℕ) (r : tree.Routine ℕ) → size_at f ≡ length r.variables → result_at c.results f ≡ is_some r.result → BoundRoutine (offers_of core) r → InOrder 0 r.params → ((x : ℕ) → CountsStmts r.body x → IsDeclared r x → ⊥)
       → (m : ℕ) → Safe t f (body_routine c r).body m 0 (λ x. x < length r.params)
-  body_safe f r e given bound order own truths m =
+  body_safe f r e given bound order own m =
       let n = length r.variables in
       let all = body_steps c r in
       let body = placed 0 all in
@@ -150,7 +148,7 @@ module _ (core : Core ℕ) (loose : Bool) where
       let low : Low body c n L U = λ x u. either (λ k. params_low (offers_of core) n r.params [] bound.params x k) (λ k. declares_all_low (offers_of core) n r.body (record { in_loop = false; has_result = is_some r.result }) (with_params [] r.params) bound.body x k) u in
       let gives : is_some r.result ≡ true → R = λ g. or_second loose (result_at c.results f) (given ∙ g) in
       let fit : FitsStmts c n L R r.body U = fits_stmts core (offers_of core) refl c refl n L U R r.body (record { in_loop = false; has_result = is_some r.result }) (with_params [] r.params)
-      (λ x h. either (λ k. inl k) (λ k. absurd k) (params_scope r.params [] x h)) (λ x k. inr k) gives bound.body truths.0 own in
+      (λ x h. either (λ k. inl k) (λ k. absurd k) (params_scope r.params [] x h)) (λ x k. inr k) gives bound.body own in
       let tells = tells_at f n e in
       let free : (x : ℕ) → n ≤ x → t.untold f x ≡ true → R = λ x h u. any_gives f x u in
       let s = live_all r.body [] nothing in
@@ -166,7 +164,7 @@ module _ (core : Core ℕ) (loose : Bool) where
       let nothing_live : Lives body t f p2 (Vars []) = λ x u v. none_has x v in
       let null = gives_null_sure body c n L R U low t f tells (λ g. g) free m p2 next last in
       let null0 : Lives body t f (p2 + 0) (Vars []) × Sure body t f m (p2 + 0) (Vars []) = ((λ x u v. none_has x v), safe_at body t f m p2 (p2 + 0) (Vars []) (omega arith) null) in
-      let at1 = stmts_safe body c n L R U low t f tells (λ g. g) free r.body fit m [] nothing 0 0 p1 p2 truths.1 (λ x v. none_has x v) (λ x v. none_has x v) (λ x v. none_has x v) (front body p1 two (gives_null n) next behind) (nothing_live, null) null0 null0 in
+      let at1 = stmts_safe body c n L R U low t f tells (λ g. g) free r.body fit m [] nothing 0 0 p1 p2 (λ x v. none_has x v) (λ x v. none_has x v) (λ x v. none_has x v) (front body p1 two (gives_null n) next behind) (nothing_live, null) null0 null0 in
       let at0 = clear_sure body c n L t f tells m 0 p1 un (λ x. x < length r.params) (Vars s) (front body 0 (clear un) rest next whole) (λ x l none. params_kept s r.params 0 order x (omega arith) (omega (arith, l)) none) at1 in
       safe_less t f body m 0 (λ x. x < length r.params) (Told_of body t f (λ x. x < length r.params)) (λ x l. inl l) at0
 
@@ -199,37 +197,21 @@ module _ (core : Core ℕ) (loose : Bool) where
     abbrev FitsClauses : List (Expr ℕ) → Type 0
     FitsClauses es = ClauseFits n x es
 
-    clauses_some : (e : Expr ℕ) (es : List (Expr ℕ)) → Fits c n L e U → clauses_steps c (e ∷ es) s n ≡ [] → ⊥
-    clauses_some e es fit g = front_some body c n L (code c e s n) (fork n (clauses_steps c es s n) []) (code_some body c n L e U s n fit) g
+    -- the value of the last clause may be any, and each other one is tested
+    abbrev Answered : ℕ → Type 0
+    Answered = With (Vars s) n
 
-    -- the value of a clause that isn't the last is tested, and the last is a truth value by its form
-    tested : (e : Expr ℕ) (es : List (Expr ℕ)) → FitsClauses (e ∷ es) → LastTruth L (e ∷ es) → ((is_sure e ≡ true) ⊎ L) ⊎ (clauses_steps c es s n ≡ [] → ⊥)
-    tested e [] fit last = inl last
-    tested e (d ∷ es) fit last = inr (clauses_some d es fit.1.0)
-
-    last_of : (e : Expr ℕ) (es : List (Expr ℕ)) → LastTruth L (e ∷ es) → LastTruth L es
-    last_of e [] last = tt
-    last_of e (d ∷ es) last = last
-
-    clauses_ready : (es : List (Expr ℕ)) → FitsClauses es → LastTruth L es → (m p next : ℕ) → Spans body p (clauses_steps c es s n) next → Comes m next → Comes m p
-    clauses_ready [] fit last m p next h exit = let e = sym (ended body p next h) in (lives_at body t f next p (Vars s) e exit.0, safe_at body t f m next p (Vars s) e exit.1)
-    clauses_ready (e ∷ es) fit last m p next h exit =
+    clauses_ready : (es : List (Expr ℕ)) → FitsClauses es → (m p next : ℕ) → Spans body p (clauses_steps c es s n) next → Lives body t f next Answered → Sure body t f m next Answered → Lives body t f p (Vars s) × Sure body t f m p (Vars s)
+    clauses_ready [] fit m p next h live safe = let e = sym (ended body p next h) in (lives_at body t f next p (Vars s) e (live_less body c t f next n (Vars s) live), safe_at body t f m next p (Vars s) e (sure_less_one body c t f m next n (Vars s) safe))
+    clauses_ready (e ∷ es) fit m p next h live safe =
         let more = clauses_steps c es s n in
         let one = code c e s n in let mid = p + length one in
         let rest = back body p one (fork n more []) next h in
-        let P : ℕ → Type 0 = λ r. Vars s r ⊎ ((r ≡ n) × (is_sure e ≡ false)) in
-        let live_s : Lives body t f mid (Vars s) = λ r u v. live_second body mid next n more [] r rest (λ q sp. at_end body q next r sp (exit.0 r u v)) in
-        let plain_no : (r : ℕ) → t.untold f r ≡ false → (is_sure e ≡ true) ⊎ L → (r ≡ n) × (is_sure e ≡ false) → ⊥ = λ r u k z. either (λ y. not_both (is_sure e) y z.1) (λ y. told_not body c n L t f tells r n z.0 u (tells.loose y n (omega arith))) k in
-        let live_P : Lives body t f mid P = λ r u l. either (λ v. live_s r u v) (λ z. either (λ k. absurd (plain_no r u k z)) (λ k. subst (λ (y : ℕ). LiveAt body mid y) (sym z.0) (fork_reads body c n L mid next n more [] rest (λ g1 g2. k g1))) (tested e es fit last)) l in
-        let at_p = value_safe body c n L R U low t f tells (λ g. g) (λ r h2 u. any_gives f r u) e fit.0 m s p mid (λ r v. is_x r v) (front body p one (fork n more []) next h) (
-          live_s,
-          safe_fork body t f m mid next n more [] P (Vars s) (Vars s) (Vars s) rest live_P
-              (λ g1 g2 r u l. either (λ v. v) (λ z. either (λ k. absurd (plain_no r u k z)) (λ k. absurd (k g1)) (tested e es fit last)) l)
-              (λ r u l. either (λ v. v) (λ z. absurd (l.1 z.0)) l.0) (λ r u l. either (λ v. v) (λ z. absurd (l.1 z.0)) l.0) exit.0
-              (λ p2 q2 sp lq sq. (clauses_ready es fit.1 (last_of e es last) m p2 q2 sp (lq, sq)).1)
-              (λ p2 sp. safe_at body t f m next p2 (Vars s) (sym (ended body p2 next sp)) exit.1) exit.1,
-          (λ r u z. live_P r u (inr (z.0, z.1.0))),
-        ) in
+        let live_s : Lives body t f mid (Vars s) = λ r u v. live_second body mid next n more [] r rest (λ q sp. at_end body q next r sp (live r u (inl v))) in
+        let live_mid : Lives body t f mid Answered = asked_lives body c t f mid next n more [] (Vars s) rest live_s live in
+        let safe_mid : Sure body t f m mid Answered = one_safe body c t f more m mid next n (Vars s) rest live_mid live safe (λ q z sp lq sq. (clauses_ready es fit.1 m q z sp lq sq).1) in
+        let at_p = value_safe body c n L R U low t f tells (λ g. g) (λ r h2 u. any_gives f r u) e fit.0 m s p mid (λ r v. is_x r v) (front body p one (fork n more []) next h)
+        (live_s, sure_less body t f m mid (λ r. Vars s r ⊎ ((r ≡ n) × (is_plain e ≡ false))) Answered (λ r u l. either (λ v. inl v) (λ z. inr z.0) l) safe_mid, (λ r u z. not_both (is_plain e) z.1.1 z.1.0)) in
         ready_less body c n L t f tells m p (Vars s) (Vars (before e s)) (λ r v. before_of e s r (inr v)) at_p
 
     -- the argument comes into the variable
@@ -241,8 +223,8 @@ module _ (core : Core ℕ) (loose : Bool) where
         safe_step body t f m 0 i (λ r. r < 1) (Vars s) h.0.0 (λ r u l. live_reads body 0 r i h.0.0 (inl (omega (arith, l)))) (λ k w. w)
         (λ r u l. either (λ z. absurd (z.1.1.0 (let w = z.0 in omega (arith, w)))) (λ z. with_of [] x r (inl (z.0 ∙ same))) l) (safe_at body t f m next (0 + 1) (Vars s) e exit.1)
 
-    type_body_safe : (a : Alias ℕ) → FitsClauses a.clauses → LastTruth L a.clauses → (next m : ℕ) → Spans body 0 (type_steps_at c a x n) next → Sure body t f m 0 (λ r. r < 1)
-    type_body_safe a fit last next m h =
+    type_body_safe : (a : Alias ℕ) → FitsClauses a.clauses → R → (next m : ℕ) → Spans body 0 (type_steps_at c a x n) next → Sure body t f m 0 (λ r. r < 1)
+    type_body_safe a fit gives next m h =
         let returns : Instr = instr.Return n in
         let end = dropped x (suc n) ++ Does returns ∷ [] in
         let clauses = clauses_steps c a.clauses s n in
@@ -255,52 +237,53 @@ module _ (core : Core ℕ) (loose : Bool) where
         let h3 = back body p2 (fork n clauses []) end next h2 in
         let h4 = tail body p3 (instr.Move (suc n) x) (Does (instr.Clear (suc n ∷ [])) ∷ Does returns ∷ []) next h3 in
         let h5 = tail body (p3 + 1) (instr.Clear (suc n ∷ [])) (Does returns ∷ []) next h4 in
-        let none : ℕ → Type 0 = λ r. ⊥ in
-        let at_return : Sure body t f m (p3 + 1 + 1) none = safe_returns body t f m (p3 + 1 + 1) n none h5.0.0 (λ r u l. absurd l) (λ l. either (λ z. absurd z) (λ u. any_gives f n u) l) in
-        let facts = dropped_safe body c t f n L tells m p3 next x (suc n) (Does returns ∷ []) none h3 (λ r z. absurd z) (λ r u l. absurd l) at_return in
-        let at3 : Comes m p3 = ready_less body c n L t f tells m p3 (Vars s) (λ r. none r ⊎ (r ≡ x)) (λ r v. inr (is_x r v)) (facts.1, facts.0) in
+        let said : ℕ → Type 0 = λ r. r ≡ n in
+        let at_return : Sure body t f m (p3 + 1 + 1) said = safe_returns body t f m (p3 + 1 + 1) n said h5.0.0 (λ r u l. live_reads body (p3 + 1 + 1) r returns h5.0.0 (inl l)) (λ l. gives) in
+        let facts = dropped_safe body c t f m p3 next x (suc n) (Does returns ∷ []) said h3 (λ r z. ((λ g. absurd (omega (arith, z, g, xn))), (λ g. absurd (omega (arith, z, g))))) (λ r u l. live_reads body (p3 + 1 + 1) r returns h5.0.0 (inl l)) at_return in
+        let into : (r : ℕ) → Answered r → With said x r = λ r l. either (λ v. inr (is_x r v)) (λ z. inl z) l in
+        let live3 : Lives body t f p3 Answered = λ r u l. facts.1 r u (into r l) in
+        let safe3 : Sure body t f m p3 Answered = sure_less body t f m p3 Answered (With said x) (λ r u l. into r l) facts.0 in
         let span3 = front body p2 (fork n clauses []) end next h2 in
-        let live2 : Lives body t f p2 (Vars s) = λ r u v. live_second body p2 p3 n clauses [] r span3 (λ q sp. at_end body q p3 r sp (at3.0 r u v)) in
-        let at2 : Sure body t f m p2 (Vars s) = safe_fork body t f m p2 p3 n clauses [] (Vars s) (Vars s) (Vars s) (Vars s) span3 live2 (λ g1 g2 r u l. l) (λ r u l. l.0) (λ r u l. l.0) at3.0
-        (λ q z sp lq sq. (clauses_ready a.clauses fit last m q z sp (lq, sq)).1) (λ q sp. safe_at body t f m p3 q (Vars s) (sym (ended body q p3 sp)) at3.1) at3.1 in
+        let live2 : Lives body t f p2 Answered = asked_lives body c t f p2 p3 n clauses [] (Vars s) span3 (λ r u v. live_second body p2 p3 n clauses [] r span3 (λ q sp. at_end body q p3 r sp (live3 r u (inl v)))) live3 in
+        let at2 : Sure body t f m p2 Answered = one_safe body c t f clauses m p2 p3 n (Vars s) span3 live2 live3 safe3 (λ q z sp lq sq. (clauses_ready a.clauses fit m q z sp lq sq).1) in
         let un : (r : ℕ) → Vars s r → (r < suc n) × (r ≢ n) = λ r v. let e = is_x r v in (omega (arith, e, xn), less_not r n (omega (arith, e, xn))) in
         let span1 = front body p1 tests three next h1 in
-        let at1 : Sure body t f m p1 (Vars s) = test_safe body c t f n L tells a.ty m p1 p2 x n (suc n) (Vars s) span1 un (omega arith) (omega arith) live2 at2 in
-        taken_sure x m p1 refl (front body 0 (taken x) two next h) ((λ r u v. test_lives r u v live2), at1)
+        let at1 : Sure body t f m p1 (Vars s) = test_safe body c t f a.ty m p1 p2 x n (suc n) (Vars s) span1 un (omega arith) live2 at2 in
+        taken_sure x m p1 refl (front body 0 (taken x) two next h) ((λ r u v. test_lives r u v (live_less body c t f p2 n (Vars s) live2)), at1)
       where
         test_lives : (r : ℕ) → t.untold f r ≡ false → Vars s r → Lives body t f (0 + length (taken x) + length (test c a.ty x n (suc n))) (Vars s) → LiveAt body (0 + length (taken x)) r
         test_lives r u v l = test_live body c a.ty x n (suc n) (0 + length (taken x)) (0 + length (taken x) + length (test c a.ty x n (suc n))) r (front body (0 + length (taken x)) (test c a.ty x n (suc n)) (fork n (clauses_steps c a.clauses s n) [] ++ (dropped x (suc n) ++ Does (instr.Return n) ∷ [])) next
             (back body 0 (taken x) (test c a.ty x n (suc n) ++ (fork n (clauses_steps c a.clauses s n) [] ++ (dropped x (suc n) ++ Does (instr.Return n) ∷ []))) next h)) (let e = is_x r v in omega (arith, e, xn)) (less_not r n (let e = is_x r v in omega (arith, e, xn))) (l r u v)
 
-  fits_clauses : (n x : ℕ) (es : List (Expr ℕ)) → BoundClauses (offers_of core) n (x ∷ []) es → TruthsClauses L es → ClauseFits n x es
-  fits_clauses n x [] b tr = tt
-  fits_clauses n x (e ∷ es) b tr =
-      (fits_expr core (offers_of core) refl c refl n L (λ r. ⊥) e (x ∷ []) (λ r. r ≡ x) ((λ r h. either (λ k. sym k) (λ k. absurd k) h), (λ r w. inr (inl (sym w)))) b.0 tr.0 (λ y k z. z), fits_clauses n x es b.1 tr.1)
+  fits_clauses : (n x : ℕ) (es : List (Expr ℕ)) → BoundClauses (offers_of core) n (x ∷ []) es → ClauseFits n x es
+  fits_clauses n x [] b = tt
+  fits_clauses n x (e ∷ es) b =
+      (fits_expr core (offers_of core) refl c refl n L (λ r. ⊥) e (x ∷ []) (λ r. r ≡ x) ((λ r h. either (λ k. sym k) (λ k. absurd k) h), (λ r w. inr (inl (sym w)))) b.0 (λ y k z. z), fits_clauses n x es b.1)
 
   -- the variable of a type has a register, and its clauses fit
-  variable_fits : (v : Option ℕ) (k : ℕ) (es : List (Expr ℕ)) → IsNewOption k [] v → BoundClauses (offers_of core) k (with_option [] v) es → NamesIts v es → TruthsClauses L es → (variable_of v < max 1 k) × ClauseFits (max 1 k) (variable_of v) es
-  variable_fits None k es new b names tr = (omega arith, subst (λ (z : List (Expr ℕ)). ClauseFits (max 1 k) 0 z) (sym names) tt)
-  variable_fits (Some x) k es new b names tr =
+  variable_fits : (v : Option ℕ) (k : ℕ) (es : List (Expr ℕ)) → IsNewOption k [] v → BoundClauses (offers_of core) k (with_option [] v) es → NamesIts v es → (variable_of v < max 1 k) × ClauseFits (max 1 k) (variable_of v) es
+  variable_fits None k es new b names = (omega arith, subst (λ (z : List (Expr ℕ)). ClauseFits (max 1 k) 0 z) (sym names) tt)
+  variable_fits (Some x) k es new b names =
       let l = new.0 in
       let same : k ≡ max 1 k = omega (arith, l) in
-      (omega (arith, l), subst (λ (z : ℕ). ClauseFits z x es) same (fits_clauses k x es b tr))
+      (omega (arith, l), subst (λ (z : ℕ). ClauseFits z x es) same (fits_clauses k x es b))
 
-  type_safe : (f : ℕ) (a : Alias ℕ) → size_at f ≡ max 1 (length a.variables) → BoundAlias (offers_of core) a → NamesIts a.variable a.clauses → TruthsClauses L a.clauses → LastTruth L a.clauses → (m : ℕ) → Safe t f (type_routine c a).body m 0 (λ x. x < 1)
-  type_safe f a e bound names truths last m =
+  type_safe : (f : ℕ) (a : Alias ℕ) → size_at f ≡ max 1 (length a.variables) → BoundAlias (offers_of core) a → NamesIts a.variable a.clauses → t.results f ≡ true → (m : ℕ) → Safe t f (type_routine c a).body m 0 (λ x. x < 1)
+  type_safe f a e bound names gives m =
       let x = variable_of a.variable in let n = max 1 (length a.variables) in
       let all = type_steps_at c a x n in
       let body = placed 0 all in
-      let fits = variable_fits a.variable (length a.variables) a.clauses bound.variable bound.clauses names truths in
+      let fits = variable_fits a.variable (length a.variables) a.clauses bound.variable bound.clauses names in
       safe_less t f body m 0 (λ r. r < 1) (Told_of body t f (λ r. r < 1)) (λ r l. inl l)
-      (type_body_safe f n x (tells_at f n e) fits.0 body a fits.1 last (0 + length all) m (placed_stand all, refl))
+      (type_body_safe f n x (tells_at f n e) fits.0 body a fits.1 gives (0 + length all) m (placed_stand all, refl))
 
   -- ---- all of them
 
   abbrev RoutineFits : tree.Routine ℕ → Type 0
-  RoutineFits r = BoundRoutine (offers_of core) r × InOrder 0 r.params × ((x : ℕ) → CountsStmts r.body x → IsDeclared r x → ⊥) × (TruthsStmts L r.body × SettledStmts L r.body [] nothing)
+  RoutineFits r = BoundRoutine (offers_of core) r × InOrder 0 r.params × ((x : ℕ) → CountsStmts r.body x → IsDeclared r x → ⊥)
 
   abbrev TypeFits : Alias ℕ → Type 0
-  TypeFits a = BoundAlias (offers_of core) a × NamesIts a.variable a.clauses × TruthsClauses L a.clauses × LastTruth L a.clauses
+  TypeFits a = BoundAlias (offers_of core) a × NamesIts a.variable a.clauses
 
   abbrev AllRoutines : List (tree.Routine ℕ) → Type 0
   AllRoutines [] = Unit {0}
@@ -310,15 +293,15 @@ module _ (core : Core ℕ) (loose : Bool) where
   AllTypes [] = Unit {0}
   AllTypes (a ∷ more) = TypeFits a × AllTypes more
 
-  all_routines : (ds : List (Decl ℕ)) → BoundDecls (offers_of core) ds → AllInOrder (routines_of ds) → OwnCounters (routines_of ds) → TruthsRoutines L (routines_of ds) → AllRoutines (routines_of ds)
-  all_routines [] b order own truths = tt
-  all_routines (AliasDecl a ∷ ds) b order own truths = all_routines ds b.1 order own truths
-  all_routines (RoutineDecl r ∷ ds) b order own truths = ((b.0, order.0, own.0, truths.0), all_routines ds b.1 order.1 own.1 truths.1)
+  all_routines : (ds : List (Decl ℕ)) → BoundDecls (offers_of core) ds → AllInOrder (routines_of ds) → OwnCounters (routines_of ds) → AllRoutines (routines_of ds)
+  all_routines [] b order own = tt
+  all_routines (AliasDecl a ∷ ds) b order own = all_routines ds b.1 order own
+  all_routines (RoutineDecl r ∷ ds) b order own = ((b.0, order.0, own.0), all_routines ds b.1 order.1 own.1)
 
-  all_types : (ds : List (Decl ℕ)) → BoundDecls (offers_of core) ds → ((k : ℕ) → k < length (aliases_of ds) → NamesIts (alias_at (aliases_of ds) k).variable (alias_at (aliases_of ds) k).clauses) → TruthsTypes L (aliases_of ds) → AllTypes (aliases_of ds)
-  all_types [] b names truths = tt
-  all_types (AliasDecl a ∷ ds) b names truths = ((b.0, names 0 (omega arith), truths.0, truths.1), all_types ds b.1 (λ k l. names (suc k) (omega (arith, l))) truths.2)
-  all_types (RoutineDecl r ∷ ds) b names truths = all_types ds b.1 names truths
+  all_types : (ds : List (Decl ℕ)) → BoundDecls (offers_of core) ds → ((k : ℕ) → k < length (aliases_of ds) → NamesIts (alias_at (aliases_of ds) k).variable (alias_at (aliases_of ds) k).clauses) → AllTypes (aliases_of ds)
+  all_types [] b names = tt
+  all_types (AliasDecl a ∷ ds) b names = ((b.0, names 0 (omega arith)), all_types ds b.1 (λ k l. names (suc k) (omega (arith, l))))
+  all_types (RoutineDecl r ∷ ds) b names = all_types ds b.1 names
 
   -- the routine with a number is that of a function or method, or tests a type
   record IsBody (rs : List (tree.Routine ℕ)) (more : List (Alias ℕ)) (f : ℕ) (q : Routine) : Type 0 where
@@ -332,6 +315,7 @@ module _ (core : Core ℕ) (loose : Bool) where
     pub alias : Alias ℕ
     pub same : type_routine c alias ≡ q
     pub size : variables_in rs more f ≡ max 1 (length alias.variables)
+    pub result : result_at (results_of rs) f ≡ true
     pub fits : TypeFits alias
 
   no_routine : {X : Type 0} (q : Routine) → None ≡ Some q → X
@@ -342,31 +326,27 @@ module _ (core : Core ℕ) (loose : Bool) where
 
   test_at : (more : List (Alias ℕ)) (f : ℕ) (q : Routine) → AllTypes more → slice_get (type_routines c more) f ≡ Some q → IsTest [] more f q
   test_at [] f q fits e = no_routine q e
-  test_at (a ∷ more) zero q fits e = record { alias = a; same = this_routine (type_routine c a) q e; size = refl; fits = fits.0 }
-  test_at (a ∷ more) (suc f) q fits e = let k = test_at more f q fits.1 e in record { alias = k.alias; same = k.same; size = k.size; fits = k.fits }
+  test_at (a ∷ more) zero q fits e = record { alias = a; same = this_routine (type_routine c a) q e; size = refl; result = refl; fits = fits.0 }
+  test_at (a ∷ more) (suc f) q fits e = let k = test_at more f q fits.1 e in record { alias = k.alias; same = k.same; size = k.size; result = refl; fits = k.fits }
 
   routine_at : (rs : List (tree.Routine ℕ)) (more : List (Alias ℕ)) (f : ℕ) (q : Routine) → AllRoutines rs → AllTypes more → slice_get (body_routines c rs ++ type_routines c more) f ≡ Some q → IsBody rs more f q ⊎ IsTest rs more f q
   routine_at [] more f q one two e = inr (test_at more f q two e)
   routine_at (r ∷ rs) more zero q one two e = inl (record { routine = r; same = this_routine (body_routine c r) q e; size = refl; result = refl; fits = one.0 })
   routine_at (r ∷ rs) more (suc f) q one two e =
-      either (λ k. inl (record { routine = k.routine; same = k.same; size = k.size; result = k.result; fits = k.fits })) (λ k. inr (record { alias = k.alias; same = k.same; size = k.size; fits = k.fits })) (routine_at rs more f q one.1 two e)
+      either (λ k. inl (record { routine = k.routine; same = k.same; size = k.size; result = k.result; fits = k.fits })) (λ k. inr (record { alias = k.alias; same = k.same; size = k.size; result = k.result; fits = k.fits })) (routine_at rs more f q one.1 two e)
 
-  pub program_safe : Asked core → TruthsByForm L core → SafeCode t (code_of core)
-  program_safe asked truths f q is m =
+  pub program_safe : Asked core → SafeCode t (code_of core)
+  program_safe asked f q is m =
       either
-      (λ k. let fits = k.fits in subst (λ (z : Routine). Safe t f z.body m 0 (λ x. x < z.params)) k.same (body_safe f k.routine k.size k.result fits.0 fits.1 fits.2 fits.3 m))
-      (λ k. let fits = k.fits in subst (λ (z : Routine). Safe t f z.body m 0 (λ x. x < z.params)) k.same (type_safe f k.alias k.size fits.0 fits.1 fits.2 fits.3 m))
+      (λ k. let fits = k.fits in subst (λ (z : Routine). Safe t f z.body m 0 (λ x. x < z.params)) k.same (body_safe f k.routine k.size k.result fits.0 fits.1 fits.2 m))
+      (λ k. let fits = k.fits in subst (λ (z : Routine). Safe t f z.body m 0 (λ x. x < z.params)) k.same (type_safe f k.alias k.size fits.0 fits.1 (or_second loose (result_at c.results f) k.result) m))
       (routine_at (routines_of core) (aliases_of core) f q
-      (all_routines core asked.formed.bound asked.order asked.counters truths.0) (all_types core asked.formed.bound asked.names truths.1) is)
+      (all_routines core asked.formed.bound asked.order asked.counters) (all_types core asked.formed.bound asked.names) is)
 
 -- ---- the laws
 
-module _ (L : Type 0) where
-  use_it : (l : L) (core : Core ℕ) → TruthsByForm L core
-  use_it l core = (routines_loose L l (routines_of core), types_loose L l (aliases_of core))
-
 pub no_dead_variable : NoDeadVariableIsKept
-no_dead_variable core asked f vs n = safe_runs (told_of core true) (code_of core) (program_safe core true asked (use_it (true ≡ true) refl core)) f vs n
+no_dead_variable core asked f vs n = safe_runs (told_of core true) (code_of core) (program_safe core true asked) f vs n
 
 pub nothing_dead : NothingDeadIsKept
-nothing_dead core asked truths f vs n = safe_runs (told_of core false) (code_of core) (program_safe core false asked truths) f vs n
+nothing_dead core asked f vs n = safe_runs (told_of core false) (code_of core) (program_safe core false asked) f vs n

@@ -18,7 +18,7 @@ use Rattle.wy_kept_registers.specs.Keeping.{IsNone}
 use Rattle.wy_kept_code.specs.Alive.{LiveAt}
 use Rattle.wy_kept_code.specs.Safe.{Told, Safe}
 use Rattle.wy_kept_code.specs.Telling.{Tells}
-use Rattle.wy_kept_code.specs.Fitting.{is_sure, Fits}
+use Rattle.wy_kept_code.specs.Fitting.{Fits}
 use Rattle.wy_kept_code.proofs.SafeLemmas.{safe_sooner}
 use Rattle.wy_kept_code.proofs.PieceLemmas.{either, nat_up, less_not, Spans, front, back, tail, live_reads, live_on, Lives, Sure, sure_less, safe_step, raw_step, raw_branches, safe_jumps, safe_loops, safe_branches, safe_at, lives_on, lives_at}
 use Rattle.wy_kept_code.proofs.SetLemmas.{Vars, before_of, turned_cases, still_has}
@@ -32,11 +32,11 @@ module _ (body : List Instr) (c : Context) (n : ℕ) (L : Type 0) (t : Told) (f 
 
   -- a value that may be a list or a record
   abbrev H : Expr ℕ → ℕ → ℕ → Type 0
-  H e d r = (r ≡ d) × (is_sure e ≡ false)
+  H e d r = (r ≡ d) × (is_plain e ≡ false)
 
   -- one that the code takes to be none
   abbrev K : Expr ℕ → ℕ → ℕ → Type 0
-  K e d r = (r ≡ d) × ((is_sure e ≡ false) × (is_plain e ≡ true))
+  K e d r = (r ≡ d) × ((is_plain e ≡ false) × (is_plain e ≡ true))
 
   abbrev Comes : ℕ → ℕ → (ℕ → Type 0) → Type 0
   Comes m p P = Lives body t f p P × Sure body t f m p P

@@ -12,30 +12,30 @@ use Rattle.wy_live.specs.Paths.{occurs, any_step_occurs}
 use Rattle.wy_live.specs.Sets.{Variables, has, with, without, joined}
 use Rattle.wy_live.specs.Walks.{before, before_all, before_steps, return_live, live, live_all, alone, head_live, around}
 use Rattle.wy_live.specs.declared.walk.Ends.{Ends}
-use Rattle.wy_pieces.specs.declared.steps.Step as steps
-use Rattle.wy_pieces.specs.declared.steps.Step.TheVariants.{Does, GoesBack, GoesOnUnless}
+use Rattle.wy_pieces.specs.declared.steps.Step.TheVariants.{Does}
 use Rattle.wy_pieces.specs.Placing.{slot_registers}
-use Rattle.wy_pieces.specs.Steps.{clear, fork, over, turns, registers_from}
+use Rattle.wy_pieces.specs.Steps.{clear, over, turns, registers_from}
 use Rattle.wy_compiled.specs.Expressions.{lost, released, is_plain, release_unless, count_of, code, codes}
-use Rattle.wy_compiled.specs.Statements.{store, set, index_count, slots, indices, kept, update, call_step, call, gives_null, give, choice, inside, turn, stmt_code, stmts_code}
+use Rattle.wy_compiled.specs.Statements.{store, set, index_count, slots, indices, kept, update, call_step, call, gives_null, give, choice, branches, inside, turn, stmt_code, stmts_code}
 use Rattle.wy_kept_registers.specs.Keeping.{IsNone}
 use Rattle.wy_kept_code.specs.Alive.{IsOne, LiveAt}
 use Rattle.wy_kept_code.specs.Fitting.{Fits, FitAll, FitsOption, FitsPath, IsAction, FitsStmt, FitsStmts}
-use Rattle.wy_kept_code.proofs.PieceLemmas.{either, nat_up, less_not, Spans, front, back, tail, ended, live_reads, live_on, live_first_over, live_second, turning}
+use Rattle.wy_kept_code.proofs.PieceLemmas.{either, nat_up, less_not, Spans, front, back, tail, ended, live_reads, live_on, turning}
 use Rattle.wy_kept_code.proofs.LivePathLemmas.{lives_more}
 use Rattle.wy_kept_code.proofs.LiveLemmas.{or_cases, of_paths}
 use Rattle.wy_kept_code.proofs.LiveUseLemmas.{has-before_steps}
 use Rattle.wy_kept_code.proofs.SetLemmas.{never, not_both, Vars, before_of, joined_of, not_lost}
 use Rattle.wy_kept_code.proofs.ReadLemmas.{clear_live, Low}
-use Rattle.wy_kept_code.specs.Fitting.{is_sure, Settled, IsPutAway, SettledStmt, SettledStmts, HasCode, SomeCode, MayGive}
+use Rattle.wy_kept_code.specs.Fitting.{MayGive}
 use Rattle.wy_kept_code.specs.Safe.{Told}
 use Rattle.wy_kept_code.specs.Telling.{Tells}
 use Rattle.wy_kept_code.proofs.SafeLemmas.{Less, safe_sooner}
-use Rattle.wy_kept_code.proofs.PieceLemmas.{one_not_none, Lives, Told_of, Sure, Behind, sure_less, safe_step, safe_clears, safe_jumps, safe_loops, safe_branches, safe_at, safe_fork_over, safe_returns, lives_at}
+use Rattle.wy_kept_code.proofs.PieceLemmas.{one_not_none, Lives, Told_of, Sure, Behind, sure_less, safe_step, safe_clears, safe_jumps, safe_loops, safe_branches, safe_at, safe_returns, lives_at}
 use Rattle.wy_kept_code.proofs.LiveLemmas.{to_path, to_paths}
 use Rattle.wy_kept_code.proofs.SetLemmas.{before_cases, all_cases, without_cases, with_cases, joined_cases, none_has, still_has}
 use Rattle.wy_kept_code.proofs.ReadLemmas.{occurs_used, all_used}
-use Rattle.wy_kept_code.proofs.OperandLemmas.{Range, in_range, back_empty, front_some, back_some, code_some, fork_reads, told_not, ready_less, clear_sure}
+use Rattle.wy_kept_code.proofs.OperandLemmas.{Range, in_range, told_not, ready_less, clear_sure}
+use Rattle.wy_kept_code.proofs.BranchLemmas.{branches_first, branches_second, branches_sure}
 use Rattle.wy_kept_code.proofs.ExpressionLemmas.{code_safe, codes_safe}
 use Rattle.wy_kept_code.proofs.StatementReadLemmas.{same_or_other, slots_registers, kept_live, call_step_live, stmt_live, stmts_live}
 
@@ -94,52 +94,6 @@ module _ (body : List Instr) (c : Context) (n : ℕ) (L R : Type 0) (U : ℕ →
     known_stmts NoStmts fit s ends k1 k2 k3 = k1
     known_stmts (MoreStmts st rest) fit s ends k1 k2 k3 = known_stmt st fit.0 (live_all rest s ends) ends (known_stmts rest fit.1 s ends k1 k2 k3) k2 k3
 
-  -- ---- which blocks have code
-
-  step_some : (a : Target) (k g : ℕ) → IsAction a k → call_step a g n k ≡ [] → ⊥
-  step_some (Declared gives) k g act e = cc
-  step_some Prints k g act e = cc
-  step_some PrintsInt k g act e = cc
-  step_some Nothing k g act e = act
-
-  one_some : (e : Expr ℕ) (s : Variables) (d : ℕ) (rest : List steps.Step) → Fits c n L e U → code c e s d ++ rest ≡ [] → ⊥
-  one_some e s d rest fit h = front_some body c n L (code c e s d) rest (code_some body c n L e U s d fit) h
-
-  stmt_some : (st : Stmt ℕ) → FitsStmt c n L R st U → HasCode st → (s : Variables) (ends : Ends) (exit again : ℕ) → stmt_code c st s ends n exit again ≡ [] → ⊥
-  stmt_some (DeclareStmt i ty x None) fit has_it s ends exit again h = has_it
-  stmt_some (DeclareStmt i ty x (Some e)) fit has_it s ends exit again h = one_some e (without s x) n (store x s n (is_plain e)) fit.1 h
-  stmt_some (AssignStmt i x [] e) fit has_it s ends exit again h = one_some e (without s x) n (store x s n (is_plain e)) fit.2 h
-  stmt_some (AssignStmt i x (step ∷ path) e) fit has_it s ends exit again h =
-      let d = n + index_count (step ∷ path) in
-      let rest : List steps.Step = Does (instr.Put x (slots c (step ∷ path) n) d) ∷ kept x s in
-      back_some body c n L (indices c (step ∷ path) (before e (with s x)) n) (code c e (with s x) d ++ rest) (λ g. one_some e (with s x) d rest fit.2 g) h
-  stmt_some (CallStmt i g args) fit has_it s ends exit again h = back_some body c n L (codes c args s n) (call_step (target c.results g) g n (count_of args)) (λ z. step_some (target c.results g) (count_of args) g fit.0 z) h
-  stmt_some (ReturnStmt i None) fit has_it s ends exit again h = cc
-  stmt_some (ReturnStmt i (Some e)) fit has_it s ends exit again h = one_some e [] n (Does (instr.Return n) ∷ []) fit.0 h
-  stmt_some (AssertStmt i e) fit has_it s ends exit again h = has_it
-  stmt_some (BreakStmt i) fit has_it s ends exit again h = cc
-  stmt_some (ContinueStmt i) fit has_it s ends exit again h = cc
-  stmt_some (SkipStmt i) fit has_it s ends exit again h = has_it
-  stmt_some (FailStmt i) fit has_it s ends exit again h = cc
-  stmt_some (IfStmt i e first second) fit has_it s ends exit again h =
-      let both = choice first second s ends in
-      let two = released both (live_all second s ends) ++ stmts_code c second s ends n exit again in
-      let one = released both (live_all first s ends) ++ stmts_code c first s ends n (over two + exit) (over two + again) in
-      one_some e both n (fork n one two) fit.0 h
-  stmt_some (WhileStmt i e invariants inner) fit has_it s ends exit again h =
-      let both = turn e inner s in let gone_code = released both s in
-      let inn = released both (inside e inner s) ++ stmts_code c inner (head_live e inner s) (around s (head_live e inner s)) n (length gone_code + 1) 0 in
-      front_some body c n L (turns (code c e both n) n inn) gone_code
-      (λ g. one_some e both n (GoesOnUnless n (length inn + 1) ∷ (inn ++ GoesBack (length (code c e both n ++ GoesOnUnless n (length inn + 1) ∷ inn)) ∷ [])) fit.0 g) h
-
-  pub stmts_some : (ss : Stmts ℕ) → FitsStmts c n L R ss U → SomeCode ss → (s : Variables) (ends : Ends) (exit again : ℕ) → stmts_code c ss s ends n exit again ≡ [] → ⊥
-  stmts_some NoStmts fit some s ends exit again h = some
-  stmts_some (MoreStmts st rest) fit some s ends exit again h =
-      let after = stmts_code c rest s ends n exit again in
-      let first = stmt_code c st (live_all rest s ends) ends n (length after + exit) (length after + again) in
-      either (λ k. front_some body c n L first after (λ g. stmt_some st fit.0 k (live_all rest s ends) ends (length after + exit) (length after + again) g) h)
-      (λ k. back_some body c n L first after (λ g. stmts_some rest fit.1 k s ends exit again g) h) some
-
   module _ (t : Told) (f : ℕ) (tells : Tells t f c n L) (gives : R → t.results f ≡ true) (any_gives : (r : ℕ) → n ≤ r → t.untold f r ≡ true → t.results f ≡ true) where
     abbrev Comes : ℕ → ℕ → (ℕ → Type 0) → Type 0
     Comes m p P = Lives body t f p P × Sure body t f m p P
@@ -148,11 +102,11 @@ module _ (body : List Instr) (c : Context) (n : ℕ) (L R : Type 0) (U : ℕ →
     Leaves m p P Q = Lives body t f p P × Sure body t f m p (λ r. P r ⊎ Q r)
 
     abbrev H : Expr ℕ → ℕ → ℕ → Type 0
-    H e d r = (r ≡ d) × (is_sure e ≡ false)
+    H e d r = (r ≡ d) × (is_plain e ≡ false)
 
     -- one that the code takes to be none
     abbrev K : Expr ℕ → ℕ → ℕ → Type 0
-    K e d r = (r ≡ d) × ((is_sure e ≡ false) × (is_plain e ≡ true))
+    K e d r = (r ≡ d) × ((is_plain e ≡ false) × (is_plain e ≡ true))
 
     abbrev Full : ℕ → ℕ → (ℕ → Type 0) → Expr ℕ → ℕ → Type 0
     Full m p P e d = Lives body t f p P × Sure body t f m p (λ r. P r ⊎ H e d r) × Lives body t f p (K e d)
@@ -172,12 +126,12 @@ module _ (body : List Instr) (c : Context) (n : ℕ) (L R : Type 0) (U : ℕ →
 
     -- ---- assignments
 
-    -- a value that isn't released is none by its form, or nothing is said
-    unsettled : {X : Type 0} (e : Expr ℕ) (r : ℕ) → is_plain e ≡ true → Settled e L → t.untold f r ≡ false → H e n r → X
-    unsettled e r plain settled u k = either (λ z. either (λ y. not_both (is_plain e) plain y) (λ y. not_both (is_sure e) y k.1) z) (λ l. told_not body c n L t f tells r n k.0 u (tells.loose l n (omega arith))) settled
+    -- a value that isn't released is none by its form
+    unsettled : {X : Type 0} (e : Expr ℕ) (r : ℕ) → is_plain e ≡ true → H e n r → X
+    unsettled e r plain k = not_both (is_plain e) plain k.1
 
-    store_leaves : (e : Expr ℕ) (b plain : Bool) (m x : ℕ) (s : Variables) (p next : ℕ) → Kn s → has s x ≡ b → is_plain e ≡ plain → IsPutAway x e s L → Spans body p (cond b (Does (instr.Move x n) ∷ []) (release_unless plain n)) next → Comes m next (Vars s) → Full m p (Vars (without s x)) e n
-    store_leaves e true plain m x s p next known is same settled h exit =
+    store_leaves : (e : Expr ℕ) (b plain : Bool) (m x : ℕ) (s : Variables) (p next : ℕ) → Kn s → has s x ≡ b → is_plain e ≡ plain → Spans body p (cond b (Does (instr.Move x n) ∷ []) (release_unless plain n)) next → Comes m next (Vars s) → Full m p (Vars (without s x)) e n
+    store_leaves e true plain m x s p next known is same h exit =
         let i : Instr = instr.Move x n in
         let there = comes_at m next (p + 1) (Vars s) (let z = h.1 in omega (arith, z)) exit in
         let live : Lives body t f p (λ r. Vars (without s x) r ⊎ H e n r) = λ r u l. either (λ v. let w = without_cases s x r v in live_on body p (p + 1) r i h.0.0 (w.0, (less_not r n (below s known r w.1), tt)) (inl refl) (there.0 r u w.1)) (λ k. live_reads body p r i h.0.0 (inl k.0)) l in (
@@ -186,10 +140,10 @@ module _ (body : List Instr) (c : Context) (n : ℕ) (L R : Type 0) (U : ℕ →
               (λ r u l. either (λ z. either (λ v. (without_cases s x r v).1) (λ k. absurd (z.1.1.0 k.0)) z.0) (λ z. subst (λ (y : ℕ). has s y ≡ true) (sym z.0) is) l) there.1,
           (λ r u z. live r u (inr (z.0, z.1.0))),
         )
-    store_leaves e false true m x s p next known is same settled h exit =
+    store_leaves e false true m x s p next known is same h exit =
         let there = comes_at m next p (Vars s) (sym (ended body p next h)) exit in
-        ((λ r u v. there.0 r u (without_cases s x r v).1), sure_less body t f m p (λ r. Vars (without s x) r ⊎ H e n r) (Vars s) (λ r u l. either (λ v. (without_cases s x r v).1) (λ k. unsettled e r same (either (λ y. not_both (has s x) y is) (λ y. y) settled) u k) l) there.1, (λ r u z. unsettled e r same (either (λ y. not_both (has s x) y is) (λ y. y) settled) u (z.0, z.1.0)))
-    store_leaves e false false m x s p next known is same settled h exit =
+        ((λ r u v. there.0 r u (without_cases s x r v).1), sure_less body t f m p (λ r. Vars (without s x) r ⊎ H e n r) (Vars s) (λ r u l. either (λ v. (without_cases s x r v).1) (λ k. unsettled e r same k) l) there.1, (λ r u z. unsettled e r same (z.0, z.1.0)))
+    store_leaves e false false m x s p next known is same h exit =
         let i : Instr = instr.Clear (n ∷ []) in
         let there = comes_at m next (p + 1) (Vars s) (let z = h.1 in omega (arith, z)) exit in (
           (λ r u v. let w = (without_cases s x r v).1 in live_on body p (p + 1) r i h.0.0 (less_not r n (below s known r w), tt) (inl refl) (there.0 r u w)),
@@ -197,11 +151,11 @@ module _ (body : List Instr) (c : Context) (n : ℕ) (L R : Type 0) (U : ℕ →
           (λ r u z. not_both (is_plain e) z.1.1 same),
         )
 
-    set_safe : (x : ℕ) (e : Expr ℕ) → Fits c n L e U → (m : ℕ) (s : Variables) (at next : ℕ) → IsPutAway x e s L → Kn s → Spans body at (set c x e s n) next → Comes m next (Vars s) → Sure body t f m at (Vars (before e (without s x)))
-    set_safe x e fit m s at next settled known h exit =
+    set_safe : (x : ℕ) (e : Expr ℕ) → Fits c n L e U → (m : ℕ) (s : Variables) (at next : ℕ) → Kn s → Spans body at (set c x e s n) next → Comes m next (Vars s) → Sure body t f m at (Vars (before e (without s x)))
+    set_safe x e fit m s at next known h exit =
         let one = code c e (without s x) n in let mid = at + length one in
         (value_safe e fit m (without s x) at mid (known_without s x known) (front body at one (store x s n (is_plain e)) next h)
-        (store_leaves e (has s x) (is_plain e) m x s mid next known refl refl settled (back body at one (store x s n (is_plain e)) next h) exit)).1
+        (store_leaves e (has s x) (is_plain e) m x s mid next known refl refl (back body at one (store x s n (is_plain e)) next h) exit)).1
 
     -- the indices of a path, whose values are read behind them
     indices_safe : (path : List (Step ℕ)) → FitsPath c n L path U → (m : ℕ) (s : Variables) (A : ℕ → Type 0) (d at next : ℕ) → Kn s → n ≤ d → ((r : ℕ) → A r → (n ≤ r) × (r < d)) → Spans body at (indices c path s d) next
@@ -329,16 +283,16 @@ module _ (body : List Instr) (c : Context) (n : ℕ) (L R : Type 0) (U : ℕ →
 
     -- what is shown of a block
     abbrev BlockSafe : Stmts ℕ → Type 0
-    BlockSafe ss = (m : ℕ) (s : Variables) (ends : Ends) (exit again at next : ℕ) → SettledStmts L ss s ends → Kn s → Kn ends.exit → Kn ends.again → Spans body at (stmts_code c ss s ends n exit again) next
+    BlockSafe ss = (m : ℕ) (s : Variables) (ends : Ends) (exit again at next : ℕ) → Kn s → Kn ends.exit → Kn ends.again → Spans body at (stmts_code c ss s ends n exit again) next
         → Comes m next (Vars s) → Comes m (next + exit) (Vars ends.exit) → Comes m (next + again) (Vars ends.again) → Sure body t f m at (Vars (live_all ss s ends))
 
     -- what the other block alone uses is released in front
-    opened_sure : (ss : Stmts ℕ) → BlockSafe ss → (both : Variables) (m : ℕ) (s : Variables) (ends : Ends) (exit again at next : ℕ) → SettledStmts L ss s ends → Kn s → Kn ends.exit → Kn ends.again → Spans body at (released both (live_all ss s ends) ++ stmts_code c ss s ends n exit again) next
+    opened_sure : (ss : Stmts ℕ) → BlockSafe ss → (both : Variables) (m : ℕ) (s : Variables) (ends : Ends) (exit again at next : ℕ) → Kn s → Kn ends.exit → Kn ends.again → Spans body at (released both (live_all ss s ends) ++ stmts_code c ss s ends n exit again) next
         → Comes m next (Vars s) → Comes m (next + exit) (Vars ends.exit) → Comes m (next + again) (Vars ends.again) → Sure body t f m at (Vars both)
-    opened_sure ss is both m s ends exit again at next settled k1 k2 k3 h e1 e2 e3 =
+    opened_sure ss is both m s ends exit again at next k1 k2 k3 h e1 e2 e3 =
         let one = released both (live_all ss s ends) in let rest = stmts_code c ss s ends n exit again in let mid = at + length one in
         clear_sure body c n L t f tells m at mid (lost both (live_all ss s ends)) (Vars both) (Vars (live_all ss s ends)) (front body at one rest next h) (λ r v none. still_has both (live_all ss s ends) r v none)
-        (is m s ends exit again mid next settled k1 k2 k3 (back body at one rest next h) e1 e2 e3)
+        (is m s ends exit again mid next k1 k2 k3 (back body at one rest next h) e1 e2 e3)
 
     opened_live : (ss : Stmts ℕ) → FitsStmts c n L R ss U → (both : Variables) (s : Variables) (ends : Ends) (exit again at next r : ℕ) → Kn s → Kn ends.exit → Kn ends.again → Spans body at (released both (live_all ss s ends) ++ stmts_code c ss s ends n exit again) next
         → (Vars s r → LiveAt body next r) → (Vars ends.exit r → LiveAt body (next + exit) r) → (Vars ends.again r → LiveAt body (next + again) r) → Vars (live_all ss s ends) r → LiveAt body at r
@@ -347,43 +301,35 @@ module _ (body : List Instr) (c : Context) (n : ℕ) (L R : Type 0) (U : ℕ →
         clear_live body (lost both (live_all ss s ends)) at mid r (front body at one rest next h) (not_lost both (live_all ss s ends) r (λ w e. not_both (has (live_all ss s ends) r) v e))
         (stmts_live body c n L R U low ss fit s ends exit again mid next r (Vars s r) (Vars ends.exit r) (Vars ends.again r) (low r (known_stmts ss fit s ends k1 k2 k3 r v)) (back body at one rest next h) (λ z. (z, l1 z)) (λ z. (z, l2 z)) (λ z. (z, l3 z)) (to_paths ss s ends r v))
 
-    if_safe : (e : Expr ℕ) (first second : Stmts ℕ) → Fits c n L e U → FitsStmts c n L R first U → FitsStmts c n L R second U → (((is_sure e ≡ true) ⊎ L) ⊎ (SomeCode first ⊎ SomeCode second)) → BlockSafe first → BlockSafe second
-        → (m : ℕ) (s : Variables) (ends : Ends) (exit again at next : ℕ) → SettledStmts L first s ends × SettledStmts L second s ends → Kn s → Kn ends.exit → Kn ends.again → Spans body at (stmt_code c (IfStmt 0 e first second) s ends n exit again) next
+    if_safe : (e : Expr ℕ) (first second : Stmts ℕ) → Fits c n L e U → FitsStmts c n L R first U → FitsStmts c n L R second U → BlockSafe first → BlockSafe second
+        → (m : ℕ) (s : Variables) (ends : Ends) (exit again at next : ℕ) → Kn s → Kn ends.exit → Kn ends.again → Spans body at (stmt_code c (IfStmt 0 e first second) s ends n exit again) next
         → Comes m next (Vars s) → Comes m (next + exit) (Vars ends.exit) → Comes m (next + again) (Vars ends.again) → Sure body t f m at (Vars (before e (choice first second s ends)))
-    if_safe e first second fe f1 f2 tested one two m s ends exit again at next settled k1 k2 k3 h e1 e2 e3 =
+    if_safe e first second fe f1 f2 one two m s ends exit again at next k1 k2 k3 h e1 e2 e3 =
         let l1 = live_all first s ends in let l2 = live_all second s ends in
         let both = choice first second s ends in
         let code2 = released both l2 ++ stmts_code c second s ends n exit again in
         let code1 = released both l1 ++ stmts_code c first s ends n (over code2 + exit) (over code2 + again) in
         let test = code c e both n in
         let mid = at + length test in
-        let rest = back body at test (fork n code1 code2) next h in
+        let rest = back body at test (branches n (is_plain e) code1 code2) next h in
         let known_both = known_joined l1 l2 (known_stmts first f1 s ends k1 k2 k3) (known_stmts second f2 s ends k1 k2 k3) in
         let live_both : Lives body t f mid (Vars both) = λ r u v. either
-        (λ w. live_first_over body mid next n code1 code2 r rest (λ p q sp eq go. opened_live first f1 both s ends (over code2 + exit) (over code2 + again) p q r k1 k2 k3 sp (λ z. go (e1.0 r u z))
+        (λ w. branches_first body (is_plain e) mid next n code1 code2 r rest (less_not r n (below both known_both r v)) (λ p q sp eq go. opened_live first f1 both s ends (over code2 + exit) (over code2 + again) p q r k1 k2 k3 sp (λ z. go (e1.0 r u z))
         (λ z. subst (λ (y : ℕ). LiveAt body y r) (omega (arith, eq)) (e2.0 r u z)) (λ z. subst (λ (y : ℕ). LiveAt body y r) (omega (arith, eq)) (e3.0 r u z)) w))
-        (λ w. live_second body mid next n code1 code2 r rest (λ p sp. opened_live second f2 both s ends exit again p next r k1 k2 k3 sp (λ z. e1.0 r u z) (λ z. e2.0 r u z) (λ z. e3.0 r u z) w))
+        (λ w. branches_second body (is_plain e) mid next n code1 code2 r rest (less_not r n (below both known_both r v)) (λ p sp. opened_live second f2 both s ends exit again p next r k1 k2 k3 sp (λ z. e1.0 r u z) (λ z. e2.0 r u z) (λ z. e3.0 r u z) w))
         (joined_cases l1 l2 r v) in
-        let some1 : SomeCode first → code1 ≡ [] → ⊥ = λ z g. stmts_some first f1 z s ends (over code2 + exit) (over code2 + again) (back_empty (released both l1) (stmts_code c first s ends n (over code2 + exit) (over code2 + again)) g) in
-        let some2 : SomeCode second → code2 ≡ [] → ⊥ = λ z g. stmts_some second f2 z s ends exit again (back_empty (released both l2) (stmts_code c second s ends n exit again) g) in
-        let plain_no : (r : ℕ) → t.untold f r ≡ false → (is_sure e ≡ true) ⊎ L → H e n r → ⊥ = λ r u k z. either (λ y. not_both (is_sure e) y z.1) (λ y. told_not body c n L t f tells r n z.0 u (tells.loose y n (omega arith))) k in
-        let live_n : (r : ℕ) → t.untold f r ≡ false → H e n r → LiveAt body mid r = λ r u z. either (λ k. absurd (plain_no r u k z))
-        (λ k. subst (λ (y : ℕ). LiveAt body mid y) (sym z.0) (fork_reads body c n L mid next n code1 code2 rest (λ g1 g2. either (λ y. some1 y g1) (λ y. some2 y g2) k))) tested in
-        (value_safe e fe m both at mid known_both (front body at test (fork n code1 code2) next h) (
+        (value_safe e fe m both at mid known_both (front body at test (branches n (is_plain e) code1 code2) next h) (
           live_both,
-          safe_fork_over body t f m mid next n code1 code2 (λ r. Vars both r ⊎ H e n r) (Vars both) (Vars both) (Vars s) rest
-              (λ r u l. either (λ v. live_both r u v) (λ z. live_n r u z) l)
-              (λ g1 g2 r u l. either (λ v. v) (λ z. either (λ k. absurd (plain_no r u k z)) (λ k. absurd (either (λ y. some1 y g1) (λ y. some2 y g2) k)) tested) l)
-              (λ r u l. either (λ v. v) (λ z. absurd (l.1 z.0)) l.0) (λ r u l. either (λ v. v) (λ z. absurd (l.1 z.0)) l.0) e1.0
-              (λ p q sp eq lq sq. opened_sure first one both m s ends (over code2 + exit) (over code2 + again) p q settled.0 k1 k2 k3 sp (lq, sq)
+          branches_sure body t f m mid next n (is_plain e) code1 code2 (Vars both) (Vars s) rest live_both e1.0
+              (λ p q sp eq lq sq. opened_sure first one both m s ends (over code2 + exit) (over code2 + again) p q k1 k2 k3 sp (lq, sq)
               (comes_at m (next + exit) (q + (over code2 + exit)) (Vars ends.exit) (omega (arith, eq)) e2) (comes_at m (next + again) (q + (over code2 + again)) (Vars ends.again) (omega (arith, eq)) e3))
-              (λ p sp. opened_sure second two both m s ends exit again p next settled.1 k1 k2 k3 sp e1 e2 e3) e1.1,
-          (λ r u z. live_n r u (z.0, z.1.0)),
+              (λ p sp. opened_sure second two both m s ends exit again p next k1 k2 k3 sp e1 e2 e3) e1.1,
+          (λ r u z. not_both (is_plain e) z.1.1 z.1.0),
         )).1
 
-    while_safe : (e : Expr ℕ) (inner : Stmts ℕ) → Fits c n L e U → FitsStmts c n L R inner U → BlockSafe inner → (m : ℕ) (s : Variables) (ends : Ends) (exit again at next : ℕ) → SettledStmts L inner (head_live e inner s) (around s (head_live e inner s)) → Kn s → Kn ends.exit → Kn ends.again
+    while_safe : (e : Expr ℕ) (inner : Stmts ℕ) → Fits c n L e U → FitsStmts c n L R inner U → BlockSafe inner → (m : ℕ) (s : Variables) (ends : Ends) (exit again at next : ℕ) → Kn s → Kn ends.exit → Kn ends.again
         → Spans body at (stmt_code c (WhileStmt 0 e [] inner) s ends n exit again) next → Comes m next (Vars s) → Sure body t f m at (Vars (head_live e inner s))
-    while_safe e inner fe fi block_safe m s ends exit again p next settled k1 k2 k3 h e1 =
+    while_safe e inner fe fi block_safe m s ends exit again p next k1 k2 k3 h e1 =
         let both = turn e inner s in let head = head_live e inner s in let gone_code = released both s in
         let ins = inside e inner s in
         let block = stmts_code c inner head (around s head) n (length gone_code + 1) 0 in
@@ -419,7 +365,7 @@ module _ (body : List Instr) (c : Context) (n : ℕ) (L R : Type 0) (U : ℕ →
         let rounds : (k : ℕ) → Sure body t f k next (Vars s) → Sure body t f k p P0 = nat_up (λ k. Sure body t f k next (Vars s) → Sure body t f k p P0) (λ z. tt) (λ k less safe.
         let at_long : Sure body t f (suc k) long (Vars both) = clear_sure body c n L t f tells (suc k) long next (lost both s) (Vars both) (Vars s) after_all (λ r v none. still_has both s r v none) safe in
         let at_j : Sure body t f (suc k) j (Vars head) = safe_loops body t f k j p (Vars head) P0 parts.jumps reads_head (λ r u v. grown r v) (less (safe_sooner t f body k next (Told_of body t f (Vars s)) safe)) in
-        let opened = opened_sure inner block_safe both (suc k) head (around s head) (length gone_code + 1) 0 (b + 1) j settled known_head k1 known_head parts.inside (live_j, at_j)
+        let opened = opened_sure inner block_safe both (suc k) head (around s head) (length gone_code + 1) 0 (b + 1) j known_head k1 known_head parts.inside (live_j, at_j)
         (comes_at (suc k) next (j + (length gone_code + 1)) (Vars s) place_x (e1.0, safe)) (comes_at (suc k) j (j + 0) (Vars head) place_j (live_j, at_j)) in
         let live_b : Lives body t f b (λ r. Vars both r ⊎ H e n r) = λ r u l. either (λ v. live_both r u v) (λ z. live_reads body b r (instr.Branch n long) parts.branches (inl z.0)) l in
         (value_safe e fe (suc k) both p b known_both parts.tests (
@@ -432,38 +378,38 @@ module _ (body : List Instr) (c : Context) (n : ℕ) (L R : Type 0) (U : ℕ →
 
     mutual
       -- the code of a statement keeps nothing dead, where what is live at each way out of it is so
-      pub stmt_safe : (st : Stmt ℕ) → FitsStmt c n L R st U → (m : ℕ) (s : Variables) (ends : Ends) (exit again at next : ℕ) → SettledStmt L st s ends → Kn s → Kn ends.exit → Kn ends.again → Spans body at (stmt_code c st s ends n exit again) next
+      pub stmt_safe : (st : Stmt ℕ) → FitsStmt c n L R st U → (m : ℕ) (s : Variables) (ends : Ends) (exit again at next : ℕ) → Kn s → Kn ends.exit → Kn ends.again → Spans body at (stmt_code c st s ends n exit again) next
           → Comes m next (Vars s) → Comes m (next + exit) (Vars ends.exit) → Comes m (next + again) (Vars ends.again) → Sure body t f m at (Vars (live st s ends))
-      stmt_safe (DeclareStmt i ty x None) fit m s ends exit again at next settled k1 k2 k3 h e1 e2 e3 = safe_at body t f m next at (Vars s) (sym (ended body at next h)) e1.1
-      stmt_safe (DeclareStmt i ty x (Some e)) fit m s ends exit again at next settled k1 k2 k3 h e1 e2 e3 = set_safe x e fit.1 m s at next settled k1 h e1
-      stmt_safe (AssignStmt i x [] e) fit m s ends exit again at next settled k1 k2 k3 h e1 e2 e3 = set_safe x e fit.2 m s at next settled k1 h e1
-      stmt_safe (AssignStmt i x (step ∷ path) e) fit m s ends exit again at next settled k1 k2 k3 h e1 e2 e3 = update_safe x (step ∷ path) e fit.0 fit.1 fit.2 m s at next k1 h e1
-      stmt_safe (CallStmt i g args) fit m s ends exit again at next settled k1 k2 k3 h e1 e2 e3 = call_safe g args fit.0 fit.1 m s at next k1 h e1
-      stmt_safe (ReturnStmt i value) fit m s ends exit again at next settled k1 k2 k3 h e1 e2 e3 = give_sure value fit.0 fit.1 m at next h
-      stmt_safe (AssertStmt i e) fit m s ends exit again at next settled k1 k2 k3 h e1 e2 e3 = safe_at body t f m next at (Vars s) (sym (ended body at next h)) e1.1
-      stmt_safe (BreakStmt i) fit m s ends exit again at next settled k1 k2 k3 h e1 e2 e3 =
+      stmt_safe (DeclareStmt i ty x None) fit m s ends exit again at next k1 k2 k3 h e1 e2 e3 = safe_at body t f m next at (Vars s) (sym (ended body at next h)) e1.1
+      stmt_safe (DeclareStmt i ty x (Some e)) fit m s ends exit again at next k1 k2 k3 h e1 e2 e3 = set_safe x e fit.1 m s at next k1 h e1
+      stmt_safe (AssignStmt i x [] e) fit m s ends exit again at next k1 k2 k3 h e1 e2 e3 = set_safe x e fit.2 m s at next k1 h e1
+      stmt_safe (AssignStmt i x (step ∷ path) e) fit m s ends exit again at next k1 k2 k3 h e1 e2 e3 = update_safe x (step ∷ path) e fit.0 fit.1 fit.2 m s at next k1 h e1
+      stmt_safe (CallStmt i g args) fit m s ends exit again at next k1 k2 k3 h e1 e2 e3 = call_safe g args fit.0 fit.1 m s at next k1 h e1
+      stmt_safe (ReturnStmt i value) fit m s ends exit again at next k1 k2 k3 h e1 e2 e3 = give_sure value fit.0 fit.1 m at next h
+      stmt_safe (AssertStmt i e) fit m s ends exit again at next k1 k2 k3 h e1 e2 e3 = safe_at body t f m next at (Vars s) (sym (ended body at next h)) e1.1
+      stmt_safe (BreakStmt i) fit m s ends exit again at next k1 k2 k3 h e1 e2 e3 =
           let there = comes_at m (next + exit) (suc at + exit) (Vars ends.exit) (let e = h.1 in omega (arith, e)) e2 in
           safe_jumps body t f m at (suc at + exit) (Vars ends.exit) (Vars ends.exit) h.0.0 there.0 (λ r u v. v) there.1
-      stmt_safe (ContinueStmt i) fit m s ends exit again at next settled k1 k2 k3 h e1 e2 e3 =
+      stmt_safe (ContinueStmt i) fit m s ends exit again at next k1 k2 k3 h e1 e2 e3 =
           let there = comes_at m (next + again) (suc at + again) (Vars ends.again) (let e = h.1 in omega (arith, e)) e3 in
           safe_jumps body t f m at (suc at + again) (Vars ends.again) (Vars ends.again) h.0.0 there.0 (λ r u v. v) there.1
-      stmt_safe (SkipStmt i) fit m s ends exit again at next settled k1 k2 k3 h e1 e2 e3 = safe_at body t f m next at (Vars s) (sym (ended body at next h)) e1.1
-      stmt_safe (FailStmt i) fit m s ends exit again at next settled k1 k2 k3 h e1 e2 e3 = gives_null_sure m at next h
-      stmt_safe (IfStmt i e first second) fit m s ends exit again at next settled k1 k2 k3 h e1 e2 e3 =
-          if_safe e first second fit.0 fit.1 fit.2 fit.3 (λ m2 s2 ends2 x2 a2 at2 n2 z2 q1 q2 q3 sp c1 c2 c3. stmts_safe first fit.1 m2 s2 ends2 x2 a2 at2 n2 z2 q1 q2 q3 sp c1 c2 c3) (λ m2 s2 ends2 x2 a2 at2 n2 z2 q1 q2 q3 sp c1 c2 c3. stmts_safe second fit.2 m2 s2 ends2 x2 a2 at2 n2 z2 q1 q2 q3 sp c1 c2 c3)
-          m s ends exit again at next settled k1 k2 k3 h e1 e2 e3
-      stmt_safe (WhileStmt i e invariants inner) fit m s ends exit again at next settled k1 k2 k3 h e1 e2 e3 =
-          while_safe e inner fit.0 fit.1 (λ m2 s2 ends2 x2 a2 at2 n2 z2 q1 q2 q3 sp c1 c2 c3. stmts_safe inner fit.1 m2 s2 ends2 x2 a2 at2 n2 z2 q1 q2 q3 sp c1 c2 c3) m s ends exit again at next settled k1 k2 k3 h e1
+      stmt_safe (SkipStmt i) fit m s ends exit again at next k1 k2 k3 h e1 e2 e3 = safe_at body t f m next at (Vars s) (sym (ended body at next h)) e1.1
+      stmt_safe (FailStmt i) fit m s ends exit again at next k1 k2 k3 h e1 e2 e3 = gives_null_sure m at next h
+      stmt_safe (IfStmt i e first second) fit m s ends exit again at next k1 k2 k3 h e1 e2 e3 =
+          if_safe e first second fit.0 fit.1 fit.2 (λ m2 s2 ends2 x2 a2 at2 n2 q1 q2 q3 sp c1 c2 c3. stmts_safe first fit.1 m2 s2 ends2 x2 a2 at2 n2 q1 q2 q3 sp c1 c2 c3) (λ m2 s2 ends2 x2 a2 at2 n2 q1 q2 q3 sp c1 c2 c3. stmts_safe second fit.2 m2 s2 ends2 x2 a2 at2 n2 q1 q2 q3 sp c1 c2 c3)
+          m s ends exit again at next k1 k2 k3 h e1 e2 e3
+      stmt_safe (WhileStmt i e invariants inner) fit m s ends exit again at next k1 k2 k3 h e1 e2 e3 =
+          while_safe e inner fit.0 fit.1 (λ m2 s2 ends2 x2 a2 at2 n2 q1 q2 q3 sp c1 c2 c3. stmts_safe inner fit.1 m2 s2 ends2 x2 a2 at2 n2 q1 q2 q3 sp c1 c2 c3) m s ends exit again at next k1 k2 k3 h e1
 
-      pub stmts_safe : (ss : Stmts ℕ) → FitsStmts c n L R ss U → (m : ℕ) (s : Variables) (ends : Ends) (exit again at next : ℕ) → SettledStmts L ss s ends → Kn s → Kn ends.exit → Kn ends.again → Spans body at (stmts_code c ss s ends n exit again) next
+      pub stmts_safe : (ss : Stmts ℕ) → FitsStmts c n L R ss U → (m : ℕ) (s : Variables) (ends : Ends) (exit again at next : ℕ) → Kn s → Kn ends.exit → Kn ends.again → Spans body at (stmts_code c ss s ends n exit again) next
           → Comes m next (Vars s) → Comes m (next + exit) (Vars ends.exit) → Comes m (next + again) (Vars ends.again) → Sure body t f m at (Vars (live_all ss s ends))
-      stmts_safe NoStmts fit m s ends exit again at next settled k1 k2 k3 h e1 e2 e3 = safe_at body t f m next at (Vars s) (sym (ended body at next h)) e1.1
-      stmts_safe (MoreStmts st rest) fit m s ends exit again at next settled k1 k2 k3 h e1 e2 e3 =
+      stmts_safe NoStmts fit m s ends exit again at next k1 k2 k3 h e1 e2 e3 = safe_at body t f m next at (Vars s) (sym (ended body at next h)) e1.1
+      stmts_safe (MoreStmts st rest) fit m s ends exit again at next k1 k2 k3 h e1 e2 e3 =
           let after = stmts_code c rest s ends n exit again in
           let first = stmt_code c st (live_all rest s ends) ends n (length after + exit) (length after + again) in
           let mid = at + length first in
           let behind = back body at first after next h in
           let size = behind.1 in
-          stmt_safe st fit.0 m (live_all rest s ends) ends (length after + exit) (length after + again) at mid settled.0 (known_stmts rest fit.1 s ends k1 k2 k3) k2 k3 (front body at first after next h)
-          (block_lives rest fit.1 s ends exit again mid next k1 k2 k3 behind e1.0 e2.0 e3.0, stmts_safe rest fit.1 m s ends exit again mid next settled.1 k1 k2 k3 behind e1 e2 e3)
+          stmt_safe st fit.0 m (live_all rest s ends) ends (length after + exit) (length after + again) at mid (known_stmts rest fit.1 s ends k1 k2 k3) k2 k3 (front body at first after next h)
+          (block_lives rest fit.1 s ends exit again mid next k1 k2 k3 behind e1.0 e2.0 e3.0, stmts_safe rest fit.1 m s ends exit again mid next k1 k2 k3 behind e1 e2 e3)
           (comes_at m (next + exit) (mid + (length after + exit)) (Vars ends.exit) (omega (arith, size)) e2) (comes_at m (next + again) (mid + (length after + again)) (Vars ends.again) (omega (arith, size)) e3)

@@ -13,16 +13,17 @@ use Rattle.wy_live.specs.Walks.{before, before_steps, live, live_all, head_live,
 use Rattle.wy_live.specs.declared.walk.Ends.{Ends}
 use Rattle.wy_pieces.specs.declared.steps.Step.TheVariants.{Does}
 use Rattle.wy_pieces.specs.Placing.{slot_registers}
-use Rattle.wy_pieces.specs.Steps.{clear, fork, over, turns, registers_from}
+use Rattle.wy_pieces.specs.Steps.{clear, over, turns, registers_from}
 use Rattle.wy_compiled.specs.Expressions.{lost, released, is_plain, release_unless, count_of, code, codes}
-use Rattle.wy_compiled.specs.Statements.{store, set, index_count, slots, indices, kept, update, call_step, choice, inside, turn, stmt_code, stmts_code}
+use Rattle.wy_compiled.specs.Statements.{store, set, index_count, slots, indices, kept, update, call_step, choice, branches, inside, turn, stmt_code, stmts_code}
 use Rattle.wy_kept_code.specs.Alive.{LiveAt}
 use Rattle.wy_kept_code.specs.Fitting.{Fits, FitsPath, FitsStmt, FitsStmts}
-use Rattle.wy_kept_code.proofs.PieceLemmas.{either, nat_up, less_not, none_below, Spans, front, back, tail, live_reads, live_on, live_last, live_first_over, live_second, turning}
+use Rattle.wy_kept_code.proofs.PieceLemmas.{either, nat_up, less_not, none_below, Spans, front, back, tail, live_reads, live_on, live_last, turning}
 use Rattle.wy_kept_code.proofs.LivePathLemmas.{live_more, lives_more}
 use Rattle.wy_kept_code.proofs.LiveLemmas.{or_cases, of_path, of_paths}
 use Rattle.wy_kept_code.proofs.LiveUseLemmas.{has-before_steps}
 use Rattle.wy_kept_code.proofs.SetLemmas.{never, not_both, same_of, other_of, Vars, before_of, without_of, with_of, joined_of, not_lost}
+use Rattle.wy_kept_code.proofs.BranchLemmas.{branches_first, branches_second}
 use Rattle.wy_kept_code.proofs.TestLemmas.{at_end}
 use Rattle.wy_kept_code.proofs.ReadLemmas.{from_registers, clear_live, Low, two_ways, code_live, codes_live}
 
@@ -202,20 +203,20 @@ module _ (body : List Instr) (c : Context) (n : ℕ) (L R : Type 0) (U : ℕ →
         let code1 = clear1 ++ block1 in
         let test = code c e both n in
         let mid = at + length test in
-        let rest = back body at test (fork n code1 code2) next h in
+        let rest = back body at test (branches n (is_plain e) code1 code2) next h in
         let to_s : A → Vars s r = λ a. (on a).0 in let to_e : E → Vars ends.exit r = λ w. (one w).0 in let to_y : Y → Vars ends.again r = λ w. (two w).0 in
-        reads_code e fit.0 both n at mid r (omega arith) (front body at test (fork n code1 code2) next h) rn
+        reads_code e fit.0 both n at mid r (omega arith) (front body at test (branches n (is_plain e) code1 code2) next h) rn
         (either (λ u. inl u) (λ w. inr (either
         (λ z. let v = in_all first s ends r A E Y to_s to_e to_y z in (
           inl (joined_of (live_all first s ends) (live_all second s ends) r (inl v)),
-          live_first_over body mid next n code1 code2 r rest (λ p q sp eq go.
+          branches_first body (is_plain e) mid next n code1 code2 r rest (less_not r n rn) (λ p q sp eq go.
               clear_passes both (live_all first s ends) p (p + length clear1) r (front body p clear1 block1 q sp) (λ y. v)
               (stmts_live first fit.1 s ends (over code2 + exit) (over code2 + again) (p + length clear1) q r A E Y rn (back body p clear1 block1 q sp) (λ a. ((on a).0, go (on a).1))
               (λ y. ((one y).0, place_of (next + exit) (q + (over code2 + exit)) r (omega (arith, eq)) (one y).1)) (λ y. ((two y).0, place_of (next + again) (q + (over code2 + again)) r (omega (arith, eq)) (two y).1)) z)),
         ))
         (λ z. let v = in_all second s ends r A E Y to_s to_e to_y z in (
           inl (joined_of (live_all first s ends) (live_all second s ends) r (inr v)),
-          live_second body mid next n code1 code2 r rest (λ p sp.
+          branches_second body (is_plain e) mid next n code1 code2 r rest (less_not r n rn) (λ p sp.
               clear_passes both (live_all second s ends) p (p + length clear2) r (front body p clear2 block2 next sp) (λ y. v)
               (stmts_live second fit.2 s ends exit again (p + length clear2) next r A E Y rn (back body p clear2 block2 next sp) on one two z)),
         )) w)) way)

@@ -5,13 +5,11 @@ use Rattle.wy_core.specs.CoreTree as tree
 use Rattle.wy_core.specs.CoreTree.{Expr, NullExpr, BoolExpr, IntExpr, VarExpr, CallExpr, NegExpr, NotExpr, LenExpr, BinaryExpr, IsExpr, IndexExpr, FieldExpr, ListExpr, RepeatExpr, RecordExpr, QuantExpr, Exprs, NoExprs, MoreExprs, Fields, NoFields, MoreFields, Step, IndexStep, FieldStep, Stmt, DeclareStmt, AssignStmt, CallStmt, ReturnStmt, AssertStmt, BreakStmt, ContinueStmt, SkipStmt, FailStmt, IfStmt, WhileStmt, Stmts, NoStmts, MoreStmts, Param, Alias, Core, aliases_of, routines_of}
 use Rattle.wy_formed.specs.Formed.{Formed}
 use Rattle.wy_tables.specs.Tables.{results_of}
-use Rattle.wy_live.specs.Walks.{nothing}
 use Rattle.wy_compiled.specs.Programs.{code_of}
 use Rattle.wy_step.specs.Step.{start, after}
 use Rattle.wy_simulated_tests.specs.Tested.{ClausesNameTheirs}
 use Rattle.wy_simulated_programs.specs.Programs.{AllInOrder}
 use Rattle.wy_kept_code.specs.Safe.{Told, KeepsNothing}
-use Rattle.wy_kept_code.specs.Fitting.{is_sure, Checked, SomeCode, SettledStmts}
 
 -- ---- the variables of quantifiers
 
@@ -103,87 +101,6 @@ abbrev pub OwnCounters : List (tree.Routine ℕ) → Type 0
 OwnCounters [] = Unit {0}
 OwnCounters (r ∷ rs) = ((x : ℕ) → CountsStmts r.body x → IsDeclared r x → ⊥) × OwnCounters rs
 
--- ---- truth values that nothing tests
-
-abbrev mutual
-  -- the right side of each equation that the code takes to be no list and no record is none by its form; or nothing is asked, where L
-  pub Truths : Type 0 → Expr ℕ → Type 0
-  Truths L (NullExpr at) = Unit {0}
-  Truths L (BoolExpr at truth) = Unit {0}
-  Truths L (IntExpr at number) = Unit {0}
-  Truths L (VarExpr at y) = Unit {0}
-  Truths L (CallExpr at g args) = TruthsAll L args
-  Truths L (NegExpr at a) = Truths L a
-  Truths L (NotExpr at a) = Truths L a
-  Truths L (LenExpr at a) = Truths L a
-  Truths L (BinaryExpr at o a b) = Truths L a × Truths L b × Checked o b L
-  Truths L (IsExpr at a ty) = Truths L a
-  Truths L (IndexExpr at a b) = Truths L a × Truths L b
-  Truths L (FieldExpr at a name) = Truths L a
-  Truths L (ListExpr at items) = TruthsAll L items
-  Truths L (RepeatExpr at a b) = Truths L a × Truths L b
-  Truths L (RecordExpr at fs) = TruthsFields L fs
-  Truths L (QuantExpr at all y a b body) = Truths L a × Truths L b × Truths L body
-
-  pub TruthsAll : Type 0 → Exprs ℕ → Type 0
-  TruthsAll L NoExprs = Unit {0}
-  TruthsAll L (MoreExprs e es) = Truths L e × TruthsAll L es
-
-  pub TruthsFields : Type 0 → Fields ℕ → Type 0
-  TruthsFields L NoFields = Unit {0}
-  TruthsFields L (MoreFields name e fs) = Truths L e × TruthsFields L fs
-
-abbrev pub TruthsOption : Type 0 → Option (Expr ℕ) → Type 0
-TruthsOption L None = Unit {0}
-TruthsOption L (Some e) = Truths L e
-
-abbrev pub TruthsPath : Type 0 → List (Step ℕ) → Type 0
-TruthsPath L [] = Unit {0}
-TruthsPath L (IndexStep at e ∷ path) = Truths L e × TruthsPath L path
-TruthsPath L (FieldStep at name ∷ path) = TruthsPath L path
-
-abbrev mutual
-  -- the test of an `if` without code in its blocks is none by its form
-  pub TruthsStmt : Type 0 → Stmt ℕ → Type 0
-  TruthsStmt L (DeclareStmt at ty y value) = TruthsOption L value
-  TruthsStmt L (AssignStmt at y path e) = TruthsPath L path × Truths L e
-  TruthsStmt L (CallStmt at g args) = TruthsAll L args
-  TruthsStmt L (ReturnStmt at value) = TruthsOption L value
-  TruthsStmt L (AssertStmt at e) = Unit {0}
-  TruthsStmt L (BreakStmt at) = Unit {0}
-  TruthsStmt L (ContinueStmt at) = Unit {0}
-  TruthsStmt L (SkipStmt at) = Unit {0}
-  TruthsStmt L (FailStmt at) = Unit {0}
-  TruthsStmt L (IfStmt at e first second) = Truths L e × TruthsStmts L first × TruthsStmts L second × (((is_sure e ≡ true) ⊎ L) ⊎ (SomeCode first ⊎ SomeCode second))
-  TruthsStmt L (WhileStmt at e invariants body) = Truths L e × TruthsStmts L body
-
-  pub TruthsStmts : Type 0 → Stmts ℕ → Type 0
-  TruthsStmts L NoStmts = Unit {0}
-  TruthsStmts L (MoreStmts st rest) = TruthsStmt L st × TruthsStmts L rest
-
--- so is the last clause of a type
-abbrev pub LastTruth : Type 0 → List (Expr ℕ) → Type 0
-LastTruth L [] = Unit {0}
-LastTruth L (e ∷ []) = (is_sure e ≡ true) ⊎ L
-LastTruth L (e ∷ (d ∷ es)) = LastTruth L (d ∷ es)
-
-abbrev pub TruthsClauses : Type 0 → List (Expr ℕ) → Type 0
-TruthsClauses L [] = Unit {0}
-TruthsClauses L (e ∷ es) = Truths L e × TruthsClauses L es
-
-abbrev pub TruthsTypes : Type 0 → List (Alias ℕ) → Type 0
-TruthsTypes L [] = Unit {0}
-TruthsTypes L (a ∷ more) = TruthsClauses L a.clauses × LastTruth L a.clauses × TruthsTypes L more
-
--- what comes into a whole variable that isn't live behind is none by its form, where the code takes it to be none
-abbrev pub TruthsRoutines : Type 0 → List (tree.Routine ℕ) → Type 0
-TruthsRoutines L [] = Unit {0}
-TruthsRoutines L (r ∷ rs) = (TruthsStmts L r.body × SettledStmts L r.body [] nothing) × TruthsRoutines L rs
-
--- of a whole program
-abbrev pub TruthsByForm : Type 0 → Core ℕ → Type 0
-TruthsByForm L core = TruthsRoutines L (routines_of core) × TruthsTypes L (aliases_of core)
-
 -- ---- the law
 
 -- how many variables the routine with this number has, which have the first registers of its frame
@@ -194,15 +111,17 @@ variables_in [] (a ∷ more) (suc f) = variables_in [] more f
 variables_in (r ∷ rs) more zero = length r.variables
 variables_in (r ∷ rs) more (suc f) = variables_in rs more f
 
+-- whether the routine may give a list or a record; what a test of a type says is the value of its last clause, which may be any
 abbrev pub result_at : List Bool → ℕ → Bool
-result_at [] f = false
+result_at [] f = true
 result_at (b ∷ bs) zero = b
 result_at (b ∷ bs) (suc f) = result_at bs f
 
--- of each register something is said; or, where the program is loose, of those of variables alone
+-- of each register something is said, while a jump is next of those of variables alone; or, where the program is loose, of these alone
 abbrev pub told_of : Core ℕ → Bool → Told
 told_of core loose = record {
   untold = (λ f r. loose && not (nat_lt r (variables_in (routines_of core) (aliases_of core) f)));
+  passing = (λ f r. not (nat_lt r (variables_in (routines_of core) (aliases_of core) f)));
   results = (λ f. loose || result_at (results_of (routines_of core)) f);
 }
 
@@ -216,9 +135,9 @@ pub record Asked (core : Core ℕ) : Type 0 where
   pub names : ClausesNameTheirs core
   pub counters : OwnCounters (routines_of core)
 
--- in each run of the code, on whatever arguments, whenever the next instruction of a frame is no `Clear`: each register of the frame that holds a list or a record is live at the frame's place, where each truth value that nothing tests is one by its form
+-- in each run of the code, on whatever arguments, whenever the next instruction of a frame is no `Clear`: each register of the frame that holds a list or a record is live at the frame's place; of a value's register nothing is said while a jump is next
 abbrev pub NothingDeadIsKept : Type 0
-NothingDeadIsKept = (core : Core ℕ) → Asked core → TruthsByForm (false ≡ true) core → RunsKeep core false
+NothingDeadIsKept = (core : Core ℕ) → Asked core → RunsKeep core false
 
 -- in each program, the register of each variable that holds a list or a record is
 abbrev pub NoDeadVariableIsKept : Type 0

@@ -3,7 +3,8 @@ ghost use Rattle.wy_kept_code.specs.Safe.{SafeRunsKeepNothing};
 ghost use Rattle.wy_kept_code.specs.Dead.{NoDeadVariableIsKept, NothingDeadIsKept};
 
 /// Where code is safe from each routine's entry on, whatever its arguments, then in each run of it, whenever the next
-/// instruction of a frame is no `Clear`, each register of the frame that holds a list or a record is live at the frame's place.
+/// instruction of a frame is no `Clear`, each register of the frame of which something is said and that holds a list or a record is
+/// live at the frame's place.
 pub fn runs_of_safe_code_keep_nothing_dead()
     ensures keep { SafeRunsKeepNothing }
 {}
@@ -16,9 +17,8 @@ pub fn no_dead_variable_is_kept()
     ensures keep { NoDeadVariableIsKept }
 {}
 
-/// The same of all registers, where each truth value that no instruction reads is one by its form: what comes into a whole
-/// variable that isn't live behind, or stands at the right of `==`, is no `&&` or `||` whose last operand is a variable, a call,
-/// an item or a field; nor are these the test of an `if` without code in its blocks, or the last clause of a type.
+/// The same of all registers, those of values too, but for a value's register while the next instruction of the frame is a jump:
+/// behind the right operand of `&&` a jump may lead to the release of the value.
 pub fn nothing_dead_is_kept()
     ensures keep { NothingDeadIsKept }
 {}

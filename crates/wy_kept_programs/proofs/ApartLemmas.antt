@@ -1,10 +1,10 @@
 -- Variables of quantifiers and declared ones, in a range of numbers.
-use Rattle.std.proofs.Common.{◌≡◌, ◌<◌, ◌≤◌, ◌⊎◌, inl, inr, ℕ, zero, suc, ◌+◌, List, [], ◌∷◌, ◌++◌, length, Bool, true, false, Option, Some, None, refl, sym, subst, arith}
-use Rattle.wy_core.specs.CoreTree.{Expr, NullExpr, BoolExpr, IntExpr, VarExpr, CallExpr, NegExpr, NotExpr, LenExpr, BinaryExpr, IsExpr, IndexExpr, FieldExpr, ListExpr, RepeatExpr, RecordExpr, QuantExpr, Exprs, NoExprs, MoreExprs, Fields, NoFields, MoreFields, Stmt, Stmts, NoStmts, MoreStmts, exprs_of, stmts_of}
+use Rattle.std.proofs.Common.{◌≡◌, ◌<◌, ◌≤◌, ◌⊎◌, inl, inr, ℕ, ◌+◌, List, [], ◌∷◌, ◌++◌, arith}
+use Rattle.wy_core.specs.CoreTree.{Expr, NullExpr, BoolExpr, IntExpr, VarExpr, CallExpr, NegExpr, NotExpr, LenExpr, BinaryExpr, IsExpr, IndexExpr, FieldExpr, ListExpr, RepeatExpr, RecordExpr, QuantExpr, Exprs, NoExprs, MoreExprs, Fields, NoFields, MoreFields, Stmt, exprs_of, stmts_of}
 use Rattle.wy_formed.specs.Offers.{Offers}
 use Rattle.wy_formed.specs.Bound as formed
 use Rattle.wy_formed.specs.Bound.{Has, BoundExpr, BoundExprs, BoundFields, BoundClauses}
-use Rattle.wy_kept_code.specs.Dead.{Counts, CountsAll, CountsFields, CountsStmt, CountsStmts, Declares, DeclaresIn}
+use Rattle.wy_kept_code.specs.Dead.{Counts, CountsAll, CountsFields, CountsStmts, DeclaresIn}
 
 pub either : {A B C : Type 0} → (A → C) → (B → C) → A ⊎ B → C
 either f g (inl a) = f a

@@ -1,11 +1,9 @@
 -- Variables of quantifiers and declared ones in the functions and methods of a program without a fault of names.
-use Rattle.std.proofs.Common.{◌≡◌, ◌<◌, ◌≤◌, ◌⊎◌, inl, inr, ℕ, ◌+◌, Bool, true, false, List, [], ◌∷◌, length, Option, Some, None, is_some, refl, sym, subst, arith}
+use Rattle.std.proofs.Common.{◌≡◌, ◌<◌, ◌≤◌, ◌⊎◌, inl, inr, ℕ, true, false, List, [], ◌∷◌, length, Option, Some, None, is_some, refl, sym, subst, arith}
 use Rattle.wy_ast.specs.SurfaceTree as surface
 use Rattle.wy_ast.specs.SurfaceTree.{Decl, AliasDecl, FunctionDecl, MethodDecl, PropertyDecl, exprs_of}
 use Rattle.wy_core.specs.CoreTree as core
 use Rattle.wy_core.specs.CoreTree.{routines_of, stmts_of}
-use Rattle.wy_core.specs.CoreSeen.{seen_core}
-use Rattle.wy_core.specs.declared.declarations.Core as rust
 use Rattle.wy_scope.specs.Declarations.{declared as all_declared}
 use Rattle.wy_scope.specs.Faults.{Found}
 use Rattle.wy_scope.specs.Places.{place_of_ty}
@@ -21,19 +19,19 @@ use Rattle.wy_lower.specs.Variables.{Variables, declared, named}
 use Rattle.wy_lower.specs.Uses.{Template}
 use Rattle.wy_lower.specs.Templates.{params_scope, params_named, templates}
 use Rattle.wy_lower.specs.StmtsLowered.{in_clauses, in_stmts}
-use Rattle.wy_lower.specs.DeclsLowered.{in_params, result_clauses, before, after, function_parts, method_parts, in_decls}
+use Rattle.wy_lower.specs.DeclsLowered.{in_params, result_clauses, after, function_parts, method_parts, in_decls}
 use Rattle.wy_formed.specs.Offers.{Offers}
 use Rattle.wy_formed.specs.Bound as formed
 use Rattle.wy_formed.specs.Bound.{with_params}
-use Rattle.wy_names.specs.Named.{scope_of, expansions_of, IsNamed}
-use Rattle.wy_named.proofs.ScopeLemmas.{erased, Leads, below}
+use Rattle.wy_names.specs.Named.{scope_of, expansions_of}
+use Rattle.wy_named.proofs.ScopeLemmas.{erased, Leads}
 use Rattle.wy_named.proofs.GrowLemmas.{through, length_named, grows_clauses}
 use Rattle.wy_named.proofs.DeclLemmas.{before_decls, grows_params, same_params, params_erased, params_lead, grows_named_clauses}
 use Rattle.wy_named.proofs.OfferLemmas.{offered, scope_leads, scope_plain, templates_lead}
 use Rattle.wy_named.proofs.ResolvedCoreLemmas.{nothing_bound}
 use Rattle.wy_kept_code.specs.Dead.{CountsStmts, DeclaresIn, IsParam, OwnCounters}
 use Rattle.wy_kept_programs.specs.NamedCounters.{NamedCountersAreOwn}
-use Rattle.wy_kept_programs.proofs.ApartLemmas.{either, Apart}
+use Rattle.wy_kept_programs.proofs.ApartLemmas.{either}
 use Rattle.wy_kept_programs.proofs.StmtLemmas.{Lead, lead_later, own_stmts}
 
 -- the numbers of parameters

@@ -19,4 +19,4 @@ pub named_no_dead_variable : NamedKeepNoDeadVariable
 named_no_dead_variable ds core source h = no_dead_variable (seen_core core) (asked ds core source h)
 
 pub named_nothing_dead : NamedKeepNothingDead
-named_nothing_dead ds core source h truths = nothing_dead (seen_core core) (asked ds core source h) truths
+named_nothing_dead ds core source h = nothing_dead (seen_core core) (asked ds core source h)

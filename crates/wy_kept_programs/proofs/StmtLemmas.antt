@@ -1,10 +1,9 @@
 -- Variables of quantifiers and declared ones in the statements of a program without a fault of names.
-use Rattle.std.proofs.Common.{◌⊎◌, zero, suc, ◌++◌, ◌≡◌, ◌∙◌, ◌<◌, ◌≤◌, inl, inr, ℕ, ◌+◌, Bool, true, false, not, List, [], ◌∷◌, length, Option, Some, None, is_some, refl, sym, ap, subst, arith, codes}
-use Rattle.wy_ast.specs.SurfaceTree.{Expr, Exprs, NoExprs, MoreExprs}
+use Rattle.std.proofs.Common.{◌⊎◌, suc, ◌≡◌, ◌<◌, ◌≤◌, inl, inr, ℕ, ◌+◌, Bool, true, false, not, List, [], ◌∷◌, length, Option, Some, None, is_some, arith, codes}
+use Rattle.wy_ast.specs.SurfaceTree.{Expr, Exprs}
 use Rattle.wy_ast.specs.SurfaceTree.{Step, IndexStep, FieldStep, Stmt, Stmts, Cases, DeclareStmt, AssignStmt, CallStmt, ReturnStmt, AssertStmt, BreakStmt, ContinueStmt, SkipStmt, FailStmt, IfStmt, WhileStmt, DoStmt, ForStmt, SwitchStmt, SwitchElseStmt, NoStmts, MoreStmts, NoCases, MoreCases, exprs_of}
 use Rattle.wy_core.specs.CoreTree as core
 use Rattle.wy_scope.specs.declared.fault.Cause.TheVariants as cause
-use Rattle.wy_scope.specs.declared.table.Entry.{Entry}
 use Rattle.wy_scope.specs.declared.table.Entry.TheVariants as entry
 use Rattle.wy_scope.specs.Faults.{Found, noted_where}
 use Rattle.wy_scope.specs.Scope.{Scope, entry_of, has, with_name}
@@ -20,19 +19,14 @@ use Rattle.wy_lower.specs.TypesLowered.{in_ty}
 use Rattle.wy_lower.specs.Uses.{Template}
 use Rattle.wy_lower.specs.ExprsLowered.{in_expr, in_exprs}
 use Rattle.wy_lower.specs.StmtsLowered.{in_option, in_path, in_clauses, in_stmt, in_stmts, in_cases, scope_behind, do_test, do_invariants, for_from, for_to, for_invariants, renamed, with_span, switch_value, switch_variables}
-use Rattle.wy_formed.specs.Offers.{Offers, IsCall}
-use Rattle.wy_formed.specs.Bound as formed
-use Rattle.wy_formed.specs.Bound.{Has, IsNew, Around, count_of, BoundExpr, BoundExprs, BoundClauses, BoundOption, BoundPath, BoundStmt}
-use Rattle.wy_formed.specs.Moves.{Moves}
-use Rattle.wy_formed.proofs.MoveLemmas.{moved_expr}
-use Rattle.wy_named.proofs.NotedLemmas.{none_noted, noted_none, not_false}
-use Rattle.wy_named.proofs.BindLemmas.{of_routine, before_expr, before_exprs, before_option, before_path, before_stmts, before_cases}
-use Rattle.wy_named.proofs.ScopeLemmas.{erased, erased_option, seen_entry, erased_more, Leads, entry_leads, leads_kept, leads_with, leads_more, Below, below_later, below_more, is_new}
+use Rattle.wy_formed.specs.Offers.{Offers}
+use Rattle.wy_formed.specs.Bound.{Has}
+use Rattle.wy_named.proofs.NotedLemmas.{noted_none}
+use Rattle.wy_named.proofs.BindLemmas.{before_expr, before_exprs, before_path, before_stmts, before_cases}
+use Rattle.wy_named.proofs.ScopeLemmas.{erased, erased_more, Leads, leads_kept, leads_with, leads_more, Below}
 use Rattle.wy_named.proofs.GrowLemmas.{through, length_named, length_span, grows_expr, grows_option, grows_path, grows_clauses, grows_stmt, grows_stmts, grows_cases}
-use Rattle.wy_named.proofs.TypeLemmas.{bound_ty}
-use Rattle.wy_named.proofs.ExprLemmas.{exprs_bound, count_exprs, is_call, variable_bound, bound_expr, bound_exprs}
+use Rattle.wy_named.proofs.ExprLemmas.{bound_expr, bound_exprs}
 use Rattle.wy_named.proofs.StmtLemmas.{erased_behind}
-use Rattle.wy_named.proofs.BlockLemmas.{Block, behind_all, kept_all, below_all, both_blocks, repeated_bound, spanned, counted_bound, one_of_bound, Arms, switched_bound}
 use Rattle.wy_core.specs.CoreTree.{exprs_of as core_exprs, stmts_of}
 use Rattle.wy_lower.specs.StmtsLowered.{Arm, switch_number, is_one_of, or_labels, chain, span}
 use Rattle.wy_lower.specs.StmtsLowered as lower

@@ -1,5 +1,5 @@
 -- Nothing dead is kept in the code of a program with names.
-use Rattle.std.specs.Prelude.{◌≡◌, ◌<◌, List, length, true, false}
+use Rattle.std.specs.Prelude.{◌<◌, List, length, true, false}
 use Rattle.wy_ast.specs.SurfaceTree.{Decl}
 use Rattle.wy_core.specs.CoreSeen.{seen_core}
 use Rattle.wy_core.specs.declared.declarations.Core.{Core}
@@ -7,7 +7,7 @@ use Rattle.wy_names.specs.Named.{IsNamed}
 use Rattle.wy_named.specs.SourceLiterals.{SourceInts}
 use Rattle.wy_named.specs.SourceClauses.{HaveClauses}
 use Rattle.wy_named_programs.specs.NamedPrograms.{SourcesName}
-use Rattle.wy_kept_code.specs.Dead.{TruthsByForm, RunsKeep}
+use Rattle.wy_kept_code.specs.Dead.{RunsKeep}
 
 -- what is so of each program that is read from a text: it has fewer than 2^32 declarations, its numbers are `int`s, each property has a clause, and each type with clauses has a variable
 pub record IsSource (ds : List Decl) : Type 0 where
@@ -22,4 +22,4 @@ NamedKeepNoDeadVariable = (ds : List Decl) (core : Core) → IsSource ds → IsN
 
 -- all registers
 abbrev pub NamedKeepNothingDead : Type 0
-NamedKeepNothingDead = (ds : List Decl) (core : Core) → IsSource ds → IsNamed ds core → TruthsByForm (false ≡ true) (seen_core core) → RunsKeep (seen_core core) false
+NamedKeepNothingDead = (ds : List Decl) (core : Core) → IsSource ds → IsNamed ds core → RunsKeep (seen_core core) false

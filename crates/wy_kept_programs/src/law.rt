@@ -14,7 +14,7 @@ pub fn named_programs_keep_no_dead_variable()
     ensures keep { NamedKeepNoDeadVariable }
 {}
 
-/// The same of all registers, where each truth value that no instruction reads is one by its form.
+/// The same of all registers, but for a value's register while the next instruction of the frame is a jump.
 pub fn named_programs_keep_nothing_dead()
     ensures keep { NamedKeepNothingDead }
 {}

@@ -1,5 +1,5 @@
 -- Places and scopes of what statements lead to, releases between blocks, and the two blocks of an `if`.
-use Rattle.std.proofs.Common.{◌≡◌, ◌≤◌, ℕ, ◌+◌, List, ◌++◌, length, Bool, true, Some, ◌∙◌, ap, arith, length-append}
+use Rattle.std.proofs.Common.{◌≡◌, ◌≤◌, ℕ, ◌+◌, List, [], ◌∷◌, ◌++◌, length, Bool, true, false, Some, refl, ◌∙◌, ap, arith, length-append}
 use Rattle.wy_value.specs.Datum.{Truth}
 use Rattle.wy_core.specs.CoreTree.{Expr, Stmts, IfStmt}
 use Rattle.wy_formed.specs.Offers.{Offers}
@@ -11,11 +11,12 @@ use Rattle.wy_live.specs.declared.walk.Ends.{Ends}
 use Rattle.wy_code.specs.declared.routines.Code.{Code}
 use Rattle.wy_code.specs.declared.routines.Routine.{Routine}
 use Rattle.wy_tables.specs.declared.context.Context.{Context}
-use Rattle.wy_pieces.specs.Steps.{fork, over}
-use Rattle.wy_compiled.specs.Expressions.{code, lost, released}
-use Rattle.wy_compiled.specs.Statements.{choice, stmts_code}
-use Rattle.wy_sem.specs.Meter.{Meter, ◌>>=◌, choose}
-use Rattle.wy_sem.specs.Expressions.{Store, Setting}
+use Rattle.wy_pieces.specs.declared.steps.Step.{Step}
+use Rattle.wy_pieces.specs.Steps.{over}
+use Rattle.wy_compiled.specs.Expressions.{code, lost, released, is_plain, release_unless}
+use Rattle.wy_compiled.specs.Statements.{choice, branches, stmts_code}
+use Rattle.wy_sem.specs.Meter.{Meter, Outcome, ◌>>=◌, choose}
+use Rattle.wy_sem.specs.Expressions.{Store, Setting, slot}
 use Rattle.wy_sem.specs.Statements as sem
 use Rattle.wy_sem.specs.Statements.{Exit, Went, Broke, Continued, Gave, tested_truth, exec_all}
 use Rattle.wy_step.specs.Step.{State, Caller, cleared}
@@ -31,7 +32,7 @@ use Rattle.wy_simulated_statements.specs.Parts.{cost_all}
 use Rattle.wy_simulated_statements.specs.Led.{Kept, Places, Leads, places, EndsKnown, IsLed, AreLed}
 use Rattle.wy_simulated_statements.proofs.SetLemmas.{joined_left, joined_right}
 use Rattle.wy_simulated_statements.proofs.LiveLemmas.{known_joined, known_lives}
-use Rattle.wy_simulated_statements.proofs.StepLemmas.{then_paid, then_cleared, fork_on, fork_off}
+use Rattle.wy_simulated_statements.proofs.StepLemmas.{Runs, then_paid, then_cleared, fork_on, fork_off}
 use Rattle.wy_simulated_statements.proofs.ValueLemmas.{GotTruth, truth_comes}
 
 -- ---- what is held
@@ -77,6 +78,43 @@ module _ (c : Context) (routines : List Routine) (f : ℕ) (r : Routine) (there 
       (led o a vs s ends exit again (p + length xs) store (cleared regs gone) callers m b known (stand_back r.body p xs ys stands) (kept_cleared vs both (live_all ss s ends) r.registers store regs fewer kept) few)
       (leads_moved f callers r.registers (places (p + length xs) (length ys) exit again) (places p (length (xs ++ ys)) exit again) vs vs vs s ends (λ x h. h) (λ x h. h) (omega (arith, l1)) (omega (arith, l1)) (omega (arith, l1))))
 
+  -- the register of the test's value is released, which no variable has
+  kept_free : (vs : Scope) (s : Variables) (size : ℕ) (store regs : Store) → AreKnown n vs s → Kept vs s size store regs → Kept vs s size store (cleared regs (n ∷ []))
+  kept_free vs s size store regs known h = record {
+    live = record { holds = λ x v i a e. cleared_other regs (n ∷ []) x ((λ same. absurd (let l = known.within x a in omega (arith, l, same))), tt) ∙ h.live.holds x v i a e };
+    size = cleared_size regs (n ∷ []) ∙ h.size;
+    proper = h.proper;
+  }
+
+  -- the blocks of an `if` behind its test, where a block leads there from wherever it stands and from all registers that hold the variables
+  module _ (lo at : ℕ) (regs : Store) (callers : List Caller) (m : Meter) (o : Outcome Exit) (vs : Scope) (both s : Variables) (ends : Ends) (exit again : ℕ) (store : Store) (known : AreKnown n vs both) (kept : Kept vs both r.registers store regs) where
+    abbrev Branched : List Step → Type 0
+    Branched ys = Follows mach wide lo 3 m (at_place f at regs callers m.output) o (Leads f callers r.registers (record { after = at + length ys; exit = at + length ys + exit; again = at + length ys + again }) vs vs s ends)
+
+    abbrev Block : (exit again : ℕ) → List Step → Type 0
+    Block exit again steps = (now : Store) → Kept vs both r.registers store now → Runs mach f r there wide lo 1 m o now callers r.registers vs vs s ends exit again steps
+
+    released_first : (x y : ℕ) → x ≡ exit → y ≡ again → StandAt r.body at (release_unless false n) → Block x y [] → Branched (release_unless false n)
+    released_first x y x_is y_is h run =
+        follows_more mach wide lo 2 lo 3 m (at_place f at regs callers m.output) o (Leads f callers r.registers (record { after = at + 1; exit = at + 1 + exit; again = at + 1 + again }) vs vs s ends) (omega arith) (omega arith)
+        (then_cleared mach f r there wide lo 1 at (n ∷ []) regs callers m o (Leads f callers r.registers (record { after = at + 1; exit = at + 1 + exit; again = at + 1 + again }) vs vs s ends) h
+        (follows_map mach wide lo 1 m (at_place f (at + 1) (cleared regs (n ∷ [])) callers m.output) o (Leads f callers r.registers (record { after = at + 1 + 0; exit = at + 1 + 0 + x; again = at + 1 + 0 + y }) vs vs s ends)
+        (Leads f callers r.registers (record { after = at + 1; exit = at + 1 + exit; again = at + 1 + again }) vs vs s ends)
+        (run (cleared regs (n ∷ [])) (kept_free vs both r.registers store regs known kept) (at + 1) tt)
+        (leads_moved f callers r.registers (record { after = at + 1 + 0; exit = at + 1 + 0 + x; again = at + 1 + 0 + y }) (record { after = at + 1; exit = at + 1 + exit; again = at + 1 + again }) vs vs vs s ends (λ z i. i) (λ z i. i) (omega arith) (omega (arith, x_is)) (omega (arith, y_is)))))
+
+    branches_on : (plain : Bool) (first second : List Step) → StandAt r.body at (branches n plain first second) → slot regs n ≡ Some (Truth true) → Block (over second + exit) (over second + again) first → Branched (branches n plain first second)
+    branches_on true [] [] h e run = fork_on mach f r there wide lo 1 at n regs callers m o r.registers vs vs s ends exit again [] [] h e (run regs kept)
+    branches_on false [] [] h e run = released_first (0 + exit) (0 + again) (omega arith) (omega arith) h run
+    branches_on plain (q ∷ first) [] h e run = fork_on mach f r there wide lo 1 at n regs callers m o r.registers vs vs s ends exit again (q ∷ first) [] h e (run regs kept)
+    branches_on plain first (q ∷ second) h e run = fork_on mach f r there wide lo 1 at n regs callers m o r.registers vs vs s ends exit again first (q ∷ second) h e (run regs kept)
+
+    branches_off : (plain : Bool) (first second : List Step) → StandAt r.body at (branches n plain first second) → slot regs n ≡ Some (Truth false) → Block exit again second → Branched (branches n plain first second)
+    branches_off true [] [] h e run = fork_off mach f r there wide lo 1 at n regs callers m o r.registers vs vs s ends exit again [] [] h e (run regs kept)
+    branches_off false [] [] h e run = released_first exit again refl refl h run
+    branches_off plain (q ∷ first) [] h e run = fork_off mach f r there wide lo 1 at n regs callers m o r.registers vs vs s ends exit again (q ∷ first) [] h e (run regs kept)
+    branches_off plain first (q ∷ second) h e run = fork_off mach f r there wide lo 1 at n regs callers m o r.registers vs vs s ends exit again first (q ∷ second) h e (run regs kept)
+
   -- both blocks of an `if`
   pub if_led : (place : ℕ) (e : Expr ℕ) (first second : Stmts ℕ) → IsEvaluated c routines f r w n wide most e → AreLed c routines f r w fr n wide most first → AreLed c routines f r w fr n wide most second → IsLed c routines f r w fr n wide most (IfStmt place e first second)
   if_led place e first second se one_led two_led o a vs s ends exit again at store regs callers m b known stands kept few =
@@ -84,7 +122,7 @@ module _ (c : Context) (routines : List Routine) (f : ℕ) (r : Routine) (there 
       let two = released both (live_all second s ends) ++ stmts_code c second s ends n exit again in
       let one = released both (live_all first s ends) ++ stmts_code c first s ends n (over two + exit) (over two + again) in
       let xs = code c e both n in
-      let ys = fork n one two in
+      let ys = branches n (is_plain e) one two in
       let l1 : length (xs ++ ys) ≡ length xs + length ys = length-append xs ys in
       let p = at + length xs in
       let Q = Leads f callers r.registers (places at (length (xs ++ ys)) exit again) vs vs s ends in
@@ -97,9 +135,9 @@ module _ (c : Context) (routines : List Routine) (f : ℕ) (r : Routine) (there 
       (λ t i last le got. follows_map mach wide (c1 + c2) 3 i (at_place f p last callers i.output) (choose t (exec_all w fr first store) (exec_all w fr second store) i) (Leads f callers r.registers (record { after = p + length ys; exit = p + length ys + exit; again = p + length ys + again }) vs vs s ends) Q
       (follows_choose mach wide (c1 + c2) 3 i (at_place f p last callers i.output) t (exec_all w fr first store) (exec_all w fr second store) (Leads f callers r.registers (record { after = p + length ys; exit = p + length ys + exit; again = p + length ys + again }) vs vs s ends)
       (λ yes. follows_more mach wide c1 3 (c1 + c2) 3 i (at_place f p last callers i.output) (exec_all w fr first store i) (Leads f callers r.registers (record { after = p + length ys; exit = p + length ys + exit; again = p + length ys + again }) vs vs s ends) (omega arith) (omega arith)
-      (fork_on mach f r there wide c1 1 p n last callers i (exec_all w fr first store i) r.registers vs vs s ends exit again one two (stand_back r.body at xs ys stands) (got.value ∙ ap (λ (z : Bool). Some (Truth z)) yes)
-      (λ g standing. block_led first one_led o a vs both s ends (over two + exit) (over two + again) g store last callers i b.1 known standing (λ x h. joined_left (live_all first s ends) (live_all second s ends) x h) got.kept (omega (arith, le, ticks, few)))))
+      (branches_on c1 p last callers i (exec_all w fr first store i) vs both s ends exit again store both_known got.kept (is_plain e) one two (stand_back r.body at xs ys stands) (got.value ∙ ap (λ (z : Bool). Some (Truth z)) yes)
+      (λ now held g standing. block_led first one_led o a vs both s ends (over two + exit) (over two + again) g store now callers i b.1 known standing (λ x h. joined_left (live_all first s ends) (live_all second s ends) x h) held (omega (arith, le, ticks, few)))))
       (λ no. follows_more mach wide c2 3 (c1 + c2) 3 i (at_place f p last callers i.output) (exec_all w fr second store i) (Leads f callers r.registers (record { after = p + length ys; exit = p + length ys + exit; again = p + length ys + again }) vs vs s ends) (omega arith) (omega arith)
-      (fork_off mach f r there wide c2 1 p n last callers i (exec_all w fr second store i) r.registers vs vs s ends exit again one two (stand_back r.body at xs ys stands) (got.value ∙ ap (λ (z : Bool). Some (Truth z)) no)
-      (λ g standing. block_led second two_led o a vs both s ends exit again g store last callers i b.2 known standing (λ x h. joined_right (live_all first s ends) (live_all second s ends) x h) got.kept (omega (arith, le, ticks, few))))))
+      (branches_off c2 p last callers i (exec_all w fr second store i) vs both s ends exit again store both_known got.kept (is_plain e) one two (stand_back r.body at xs ys stands) (got.value ∙ ap (λ (z : Bool). Some (Truth z)) no)
+      (λ now held g standing. block_led second two_led o a vs both s ends exit again g store now callers i b.2 known standing (λ x h. joined_right (live_all first s ends) (live_all second s ends) x h) held (omega (arith, le, ticks, few))))))
       (leads_moved f callers r.registers (record { after = p + length ys; exit = p + length ys + exit; again = p + length ys + again }) (places at (length (xs ++ ys)) exit again) vs vs vs s ends (λ x h. h) (λ x h. h) (omega (arith, l1)) (omega (arith, l1)) (omega (arith, l1)))))
