@@ -7,7 +7,7 @@ use Rattle.wy_code.specs.declared.instructions.Instr.{Instr}
 use Rattle.wy_code.specs.declared.instructions.Instr.TheVariants as instr
 use Rattle.wy_kept_registers.specs.Keeping.{IsNone}
 use Rattle.wy_kept_code.specs.Alive.{IsOne, reads, changes, nexts, ReadWithin, LiveAt}
-use Rattle.wy_kept_code.specs.Examples.{untested, AnUntestedTruthIsKept}
+use Rattle.wy_kept_code.specs.Examples.{AnUntestedTruthIsKept}
 
 same_instr : (i j : Instr) → Some i ≡ Some j → i ≡ j
 same_instr i j e = cc

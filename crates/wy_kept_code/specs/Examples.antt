@@ -1,5 +1,5 @@
 -- A small program that keeps something dead, which types refuse.
-use Rattle.std.specs.Prelude.{ℕ, List, [], ◌∷◌, true, false, Some, None, pos, codes}
+use Rattle.std.specs.Prelude.{ℕ, [], ◌∷◌, true, false, Some, None, pos, codes}
 use Rattle.wy_value.specs.Datum.{Array, no_items}
 use Rattle.wy_core.specs.Types.{AnyTy, BoolTy}
 use Rattle.wy_core.specs.CoreTree.{BoolExpr, IntExpr, VarExpr, BinaryExpr, DeclareStmt, ReturnStmt, NoStmts, MoreStmts, Core, RoutineDecl}
