@@ -1,3 +1,3 @@
 mod AtomLemmas
 mod EndLemmas
-mod RoundLemmas
+pub mod RoundLemmas

@@ -1,5 +1,5 @@
 -- Acceptance as a step.
-use Rattle.std.proofs.Common.{◌≡◌, ◌∙◌, ℕ, List, map, Bool, true, false, Ok, Err, inl, inr, refl, sym, ap}
+use Rattle.std.proofs.Common.{◌≡◌, ◌∙◌, ℕ, List, map, Bool, true, false, Ok, Err, refl, sym, ap}
 use Rattle.wy_cert.specs.Steps.{Certificates}
 use Rattle.wy_top.specs.Refusals.{invalid_lines}
 use Rattle.wy_shown_conditions.specs.Certified.{AreFormed, AllHold}

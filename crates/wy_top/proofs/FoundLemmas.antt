@@ -1,5 +1,5 @@
 -- The certificates for the conditions that were found, one after the other.
-use Rattle.std.proofs.Common.{◌≡◌, ◌∙◌, ◌<◌, ◌≤◌, ◌+◌, ℕ, zero, suc, List, [], ◌∷◌, ◌++◌, All, length, map, take, get_or, Bool, true, Option, Some, refl, inl, inr, sym, ap, subst, arith}
+use Rattle.std.proofs.Common.{◌≡◌, ◌∙◌, ◌<◌, ◌≤◌, ◌+◌, ℕ, zero, suc, List, [], ◌∷◌, ◌++◌, All, length, map, take, get_or, true, Option, Some, refl, inl, inr, sym, ap, subst, arith}
 use Rattle.std.proofs.lemmas.List.{append-nil, length-map, map-append}
 use Rattle.std.specs.Prelude.{IfSome}
 use Rattle.std.proofs.lemmas.List.Elements.{All-append, All-cons, All-nil}
@@ -7,16 +7,14 @@ use Rattle.wy_cert.specs.Steps.{Certificates, NamesItsTerms, NameTheirTerms, Wri
 use Rattle.wy_cert.specs.declared.step.Cert.{Cert}
 use Rattle.wy_cert.specs.declared.step.Certs.{Certs}
 use Rattle.wy_sound_certificates.specs.Sortedness.{AreSortedSteps}
-use Rattle.wy_term.specs.Condition.{Condition, condition_of}
-use Rattle.wy_term.specs.Nodes.{Plain}
+use Rattle.wy_term.specs.Condition.{Condition}
 use Rattle.wy_term.specs.declared.cond.Cond.{Cond}
 use Rattle.wy_valid.specs.Validity.{IsValid}
-use Rattle.wy_top.specs.Found.{AreFor, Begin, IsMore, IsOneMore, IsOwn, Shows}
+use Rattle.wy_top.specs.Found.{AreFor, Begin, IsMore, IsOneMore, IsOwn}
 use Rattle.wy_top.specs.Known.{End, Known, found, spent, stays_open, supplied}
 use Rattle.wy_top.specs.Proofs.{Finds, is_found}
 use Rattle.wy_top.specs.Seen.{known, seen_end}
 use Rattle.wy_top.specs.declared.verdict.End.{End as CodeEnd}
-use Rattle.wy_top.specs.declared.verdict.End.TheVariants as ends
 use Rattle.wy_top.specs.declared.verdict.Verdict.{Verdict}
 
 -- ---- one condition

@@ -1,5 +1,5 @@
 -- What is known of conditions, one after the other.
-use Rattle.std.proofs.Common.{◌≡◌, ◌∙◌, ◌<◌, ◌≤◌, ◌+◌, ℕ, zero, suc, List, [], ◌∷◌, ◌++◌, All, length, map, take, get_or, Option, Some, None, Result, refl, sym, ap, subst, arith}
+use Rattle.std.proofs.Common.{◌≡◌, ◌∙◌, ◌<◌, ◌≤◌, ◌+◌, ℕ, zero, suc, List, [], ◌∷◌, ◌++◌, All, length, map, take, get_or, Option, Some, None, refl, sym, ap, subst, arith}
 use Rattle.std.proofs.lemmas.List.{length-map}
 use Rattle.wy_checking.proofs.StayLemmas.{as_before, condition_stays, conditions_stay}
 use Rattle.wy_checking.specs.Verdicts.{certificate_for, verdict_on, verdicts_on}
@@ -16,7 +16,7 @@ use Rattle.wy_term.specs.Condition.{Condition, condition_of}
 use Rattle.wy_term.specs.Nodes.{Plain, tree_at}
 use Rattle.wy_term.specs.declared.cond.Cond.{Cond}
 use Rattle.wy_top.specs.Judged.{AreJudged, EndsIn, IsJudged}
-use Rattle.wy_top.specs.Known.{AreKnown, EndsSo, IsKnown, IsSearched, Known, bad_step_of}
+use Rattle.wy_top.specs.Known.{AreKnown, EndsSo, bad_step_of}
 use Rattle.wy_top.specs.Seen.{NameTerms, known, seen_end}
 use Rattle.wy_top.specs.declared.verdict.End.{End}
 use Rattle.wy_top.specs.declared.verdict.End.TheVariants as ends

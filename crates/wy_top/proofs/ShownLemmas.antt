@@ -1,5 +1,5 @@
 -- What verdicts show, and that there is one list of them.
-use Rattle.std.proofs.Common.{◌≡◌, ◌∙◌, ◌+◌, ℕ, List, [], ◌∷◌, map, Bool, true, false, cond, Option, Some, None, refl, sym, ap, subst}
+use Rattle.std.proofs.Common.{◌≡◌, ◌∙◌, ◌+◌, ℕ, List, [], ◌∷◌, Bool, true, false, cond, Option, Some, None, refl, sym, ap, subst}
 use Rattle.std.specs.Prelude.{◌==◌, ◌&&◌}
 use Rattle.wy_checking.specs.Verdicts.{certificate_for, verdict_from, verdict_on}
 use Rattle.wy_checking.specs.declared.verdict.Verdict.{Verdict as Given}
@@ -7,7 +7,7 @@ use Rattle.wy_checking.specs.declared.verdict.Verdict.TheVariants as given
 use Rattle.wy_cert.specs.Steps.{Certificates, Written}
 use Rattle.wy_search.specs.Tree as tree
 use Rattle.wy_search.proofs.VerdictLemmas.{one_verdict}
-use Rattle.wy_shown_conditions.specs.Certified.{AllHold, AreFormed, IsFormed}
+use Rattle.wy_shown_conditions.specs.Certified.{IsFormed}
 use Rattle.wy_shown_conditions.specs.ReadSorted.{AreSortedCertificates}
 use Rattle.wy_shown_conditions.proofs.ReadLemmas.{reads_sorted}
 use Rattle.wy_sound_certificates.specs.Sortedness.{AreSortedSteps}
@@ -16,7 +16,7 @@ use Rattle.wy_term.specs.Condition.{Condition, HoldsAlways}
 use Rattle.wy_sound_search.proofs.FoundLemmas.{found_true}
 use Rattle.wy_valid.specs.Validity.{first_bad}
 use Rattle.wy_top.specs.Acceptance.{are_closed, is_closed}
-use Rattle.wy_top.specs.Known.{AreKnown, End, EndsSo, IsKnown, IsSearched, Known, OneList, end_of, found, spent, stays_open, supplied}
+use Rattle.wy_top.specs.Known.{End, EndsSo, IsKnown, IsSearched, Known, OneList, end_of, found, spent, stays_open, supplied}
 use Rattle.wy_top.specs.Shown.{ClosedIsTrue, ReadIsTrue}
 
 -- ---- supplied certificates

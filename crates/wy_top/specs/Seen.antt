@@ -1,5 +1,5 @@
 -- What the code's verdicts stand for, and what comes with them.
-use Rattle.std.specs.Prelude.{ℕ, List, [], ◌∷◌, length, map}
+use Rattle.std.specs.Prelude.{List, [], ◌∷◌, length, map}
 use Rattle.wy_term.specs.Nodes.{tree_at}
 use Rattle.wy_judging.specs.Seen.{seen_literal, AreOver}
 use Rattle.wy_certifying.specs.Seen.{seen_why}
