@@ -140,8 +140,7 @@ certificates_fine s name count a (without is e) = absurd (no_value [] a e)
 certificates_fine s name count a (from_file is h) = of_steps _ _ (λ b g. loaded_fine s name _ b g) (λ bytes b g. other 6 b _ g.answer refl no_6) a h
 
 accepts_fine : (name cert bytes : List ℕ) (p : Program) (certs : Certificates) (budget : ℕ) (a : Answer) → accepts name cert bytes p certs budget stated (Err a) → Fine a
-accepts_fine name cert bytes p certs budget a (inl h) = other 1 a _ h.answer refl no_1
-accepts_fine name cert bytes p certs budget a (inr h) = found a h.answer
+accepts_fine name cert bytes p certs budget a h = other 1 a _ h.answer refl no_1
 
 source_fine : (s : Setting) (name cert : List ℕ) (budget : ℕ) (bytes : List ℕ) (a : Answer) → accepts_source s name cert budget bytes stated (Err a) → Fine a
 source_fine s name cert budget bytes a h =

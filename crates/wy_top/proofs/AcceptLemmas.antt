@@ -1,21 +1,19 @@
 -- Acceptance as a step.
-use Rattle.std.proofs.Common.{◌≡◌, ◌∙◌, ℕ, List, map, Bool, true, false, Ok, Err, inl, inr, refl, sym, ap}
+use Rattle.std.proofs.Common.{◌≡◌, ◌∙◌, ℕ, List, map, Bool, true, false, Ok, Err, refl, sym, ap}
 use Rattle.wy_cert.specs.Steps.{Certificates}
 use Rattle.wy_top.specs.Refusals.{invalid_lines}
 use Rattle.wy_shown_conditions.specs.Certified.{AreFormed, AllHold}
 use Rattle.wy_shown_conditions.specs.ReadSorted.{AreSortedCertificates}
 use Rattle.wy_top.specs.Known.{Known}
-use Rattle.wy_top.specs.Seen.{AreShown, are_certified, known, some_lacks}
+use Rattle.wy_top.specs.Seen.{known}
 use Rattle.wy_top.specs.declared.verdict.Verdict.{Verdict}
-use Rattle.wy_top.proofs.ShownLemmas.{certified_is_true, one_list}
+use Rattle.wy_top.proofs.ShownLemmas.{closed_is_true, one_list}
 use Rattle.wy_answers.specs.Answers.{refused, IsRefusal}
-use Rattle.wy_answers.specs.Steps.{Setting, Came, Gives, due, uncertified}
-use Rattle.wy_answers.specs.Texts.{not_certified}
+use Rattle.wy_answers.specs.Steps.{Setting, Came, Gives, due}
 use Rattle.wy_answers.specs.declared.answer.Answer.{Answer}
-use Rattle.wy_answers.proofs.StepLemmas.{value_gives, free_gives, memory_gives, refusal_gives}
+use Rattle.wy_answers.proofs.StepLemmas.{value_gives, refusal_gives}
 use Rattle.wy_top.specs.Acceptance.{Acceptance, AreVerdicts, accepts, are_closed, unproved_lines}
 use Rattle.wy_top.specs.Programs.{Program, conditions_of}
-use Rattle.wy_top.proofs.ClosedLemmas.{closed-certified, lacking_finds}
 
 -- ---- one list of verdicts
 
@@ -42,12 +40,11 @@ only_accepted name cert bytes p certs budget lines ks known closed is (Err a) h 
     absurd (never_both (are_closed ks) closed (ap are_closed (one_known certs budget p ks h.verdicts known h.known) ∙ h.some))
 
 pub accepted_gives : (s : Setting) (name cert bytes : List ℕ) (p : Program) (certs : Certificates) (budget : ℕ) (a : Acceptance) (vs : List Verdict)
-    → AreSortedCertificates certs → AreFormed (conditions_of p) → AreVerdicts certs budget p (map known vs) → AreShown (conditions_of p) vs → some_lacks vs ≡ false → are_certified vs ≡ true
+    → AreSortedCertificates certs → AreFormed (conditions_of p) → AreVerdicts certs budget p (map known vs) → are_closed (map known vs) ≡ true
     → a.program ≡ p → a.lines ≡ invalid_lines cert (map known vs) → Gives s (accepts name cert bytes p certs budget) (Ok a)
 unfolding made
-accepted_gives s name cert bytes p certs budget a vs sorted formed so shown none certified program lines =
-    let closed : are_closed (map known vs) ≡ true = sym (closed-certified vs none) ∙ certified in
-    let hold : AllHold (conditions_of p) = certified_is_true certs budget 1 (conditions_of p) vs sorted formed so shown certified in
+accepted_gives s name cert bytes p certs budget a vs sorted formed so closed program lines =
+    let hold : AllHold (conditions_of p) = closed_is_true certs budget 1 (conditions_of p) (map known vs) sorted formed so closed in
     value_gives s (accepts name cert bytes p certs budget) a
     (record { program = program; verdicts = map known vs; known = so; closed = closed; lines = lines }, hold)
     (λ told other h. only_accepted name cert bytes p certs budget a.lines (map known vs) so closed lines other h ∙ ap (λ (q : Program). Ok (made q a.lines)) (sym program))
@@ -62,16 +59,9 @@ only_unproved name cert bytes p certs budget ks known some (Err a) h =
     ap (λ (b : Answer). Err b) (h.answer ∙ ap (λ (ls : List Known). refused 1 (unproved_lines name cert bytes p budget ls)) (one_known certs budget p h.verdicts ks h.known known))
 
 pub unproved_gives : (s : Setting) (name cert bytes : List ℕ) (p : Program) (certs : Certificates) (budget : ℕ) (a : Answer) (vs : List Verdict)
-    → AreVerdicts certs budget p (map known vs) → some_lacks vs ≡ false → are_certified vs ≡ false → IsRefusal 1 (unproved_lines name cert bytes p budget (map known vs)) a
+    → AreVerdicts certs budget p (map known vs) → are_closed (map known vs) ≡ false → IsRefusal 1 (unproved_lines name cert bytes p budget (map known vs)) a
     → Gives s (accepts name cert bytes p certs budget) (Err a)
-unproved_gives s name cert bytes p certs budget a vs so none not_all refusal =
-    let some : are_closed (map known vs) ≡ false = sym (closed-certified vs none) ∙ not_all in
+unproved_gives s name cert bytes p certs budget a vs so some refusal =
     let lines = unproved_lines name cert bytes p budget (map known vs) in
-    refusal_gives s (accepts name cert bytes p certs budget) 1 lines a refusal (inl (record { verdicts = map known vs; known = so; some = some; answer = refl }))
+    refusal_gives s (accepts name cert bytes p certs budget) 1 lines a refusal (record { verdicts = map known vs; known = so; some = some; answer = refl })
     (λ told other h. only_unproved name cert bytes p certs budget (map known vs) so some other h)
-
-pub uncertified_gives : (s : Setting) (name cert bytes : List ℕ) (p : Program) (certs : Certificates) (budget : ℕ) (a : Answer) (vs : List Verdict)
-    → AreVerdicts certs budget p (map known vs) → some_lacks vs ≡ true → IsRefusal 13 not_certified a → Gives s (accepts name cert bytes p certs budget) (Err a)
-uncertified_gives s name cert bytes p certs budget a vs so some (inl e) =
-    free_gives s (accepts name cert bytes p certs budget) a (inr (record { verdicts = map known vs; known = so; finds = lacking_finds vs some; answer = e })) (uncertified e)
-uncertified_gives s name cert bytes p certs budget a vs so some (inr e) = memory_gives s (accepts name cert bytes p certs budget) a e

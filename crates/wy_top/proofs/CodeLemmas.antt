@@ -1,5 +1,5 @@
 -- The code of the program that a source has is such as a machine takes.
-use Rattle.std.proofs.Common.{◌≡◌, ℕ, List, map, subst}
+use Rattle.std.proofs.Common.{ℕ, List, map, subst}
 use Rattle.wy_ast.specs.SurfaceSeen.{seen_decl}
 use Rattle.wy_code_ints.specs.Loadable.{IsLoadable}
 use Rattle.wy_code_ints.proofs.LoadableLemmas.{loadable}

@@ -1,9 +1,10 @@
 -- Counts of verdicts, and tests of all of them.
-use Rattle.std.proofs.Common.{◌≡◌, ◌∙◌, ◌<◌, ◌≤◌, ◌+◌, ℕ, zero, suc, List, [], ◌∷◌, length, drop, get_or, map, Bool, true, false, refl, sym, ap, arith}
-use Rattle.std.specs.Prelude.{◌&&◌, ◌||◌, if◌then◌else◌}
+use Rattle.std.proofs.Common.{◌≡◌, ◌∙◌, ◌<◌, ◌≤◌, ◌+◌, ℕ, zero, suc, List, [], ◌∷◌, length, drop, get_or, map, Bool, true, false, sym, ap, arith}
+use Rattle.std.specs.Prelude.{◌&&◌, if◌then◌else◌}
 use Rattle.std.proofs.lemmas.List.{drop_all}
-use Rattle.wy_top.specs.Known.{End, Known, count}
-use Rattle.wy_top.specs.Seen.{are_certified, is_certified, known, lacks_certificate, seen_end, some_lacks}
+use Rattle.wy_top.specs.Known.{End, count}
+use Rattle.wy_top.specs.Acceptance.{are_closed, is_closed}
+use Rattle.wy_top.specs.Seen.{known, seen_end}
 use Rattle.wy_top.specs.declared.verdict.Verdict.{Verdict}
 
 -- the first of what is left
@@ -37,32 +38,17 @@ count_end test xs i n whole so le =
 
 pub ruleset count_steps = (count_more, count_same, count_end)
 
--- ---- all are certified
+-- ---- all are closed
 
-pub certified_more : (xs : List Verdict) (i : ℕ) (x : Verdict) (whole : Bool) → are_certified (drop i xs) ≡ whole → i < length xs → x ≡ get_or xs i x → is_certified x.end ≡ true → are_certified (drop (i + 1) xs) ≡ whole
-certified_more xs i x whole so lt is so_it_is =
-    sym (ap (λ (b : Bool). b && are_certified (drop (i + 1) xs)) so_it_is) ∙ ap are_certified (sym (at_drop xs i x lt is)) ∙ so
+pub closed_more : (xs : List Verdict) (i : ℕ) (x : Verdict) (whole : Bool) → are_closed (map known (drop i xs)) ≡ whole → i < length xs → x ≡ get_or xs i x → is_closed (seen_end x.end) ≡ true → are_closed (map known (drop (i + 1) xs)) ≡ whole
+closed_more xs i x whole so lt is so_it_is =
+    sym (ap (λ (b : Bool). b && are_closed (map known (drop (i + 1) xs))) so_it_is) ∙ ap (λ (ys : List Verdict). are_closed (map known ys)) (sym (at_drop xs i x lt is)) ∙ so
 
-pub certified_not : (xs : List Verdict) (i : ℕ) (x : Verdict) (whole : Bool) → are_certified (drop i xs) ≡ whole → i < length xs → x ≡ get_or xs i x → is_certified x.end ≡ false → false ≡ whole
-certified_not xs i x whole so lt is not_so =
-    sym (ap (λ (b : Bool). b && are_certified (drop (i + 1) xs)) not_so) ∙ ap are_certified (sym (at_drop xs i x lt is)) ∙ so
+pub closed_not : (xs : List Verdict) (i : ℕ) (x : Verdict) (whole : Bool) → are_closed (map known (drop i xs)) ≡ whole → i < length xs → x ≡ get_or xs i x → is_closed (seen_end x.end) ≡ false → false ≡ whole
+closed_not xs i x whole so lt is not_so =
+    sym (ap (λ (b : Bool). b && are_closed (map known (drop (i + 1) xs))) not_so) ∙ ap (λ (ys : List Verdict). are_closed (map known ys)) (sym (at_drop xs i x lt is)) ∙ so
 
-pub certified_end : (xs : List Verdict) (i : ℕ) (whole : Bool) → are_certified (drop i xs) ≡ whole → length xs ≤ i → true ≡ whole
-certified_end xs i whole so le = ap are_certified (sym (drop_all i xs le)) ∙ so
+pub closed_end : (xs : List Verdict) (i : ℕ) (whole : Bool) → are_closed (map known (drop i xs)) ≡ whole → length xs ≤ i → true ≡ whole
+closed_end xs i whole so le = ap (λ (ys : List Verdict). are_closed (map known ys)) (sym (drop_all i xs le)) ∙ so
 
-pub ruleset certified_steps = (certified_more, certified_not, certified_end)
-
--- ---- some lacks a certificate
-
-pub lacking_more : (xs : List Verdict) (i : ℕ) (x : Verdict) (whole : Bool) → some_lacks (drop i xs) ≡ whole → i < length xs → x ≡ get_or xs i x → lacks_certificate x.end ≡ false → some_lacks (drop (i + 1) xs) ≡ whole
-lacking_more xs i x whole so lt is not_so =
-    sym (ap (λ (b : Bool). b || some_lacks (drop (i + 1) xs)) not_so) ∙ ap some_lacks (sym (at_drop xs i x lt is)) ∙ so
-
-pub lacking_here : (xs : List Verdict) (i : ℕ) (x : Verdict) (whole : Bool) → some_lacks (drop i xs) ≡ whole → i < length xs → x ≡ get_or xs i x → lacks_certificate x.end ≡ true → true ≡ whole
-lacking_here xs i x whole so lt is so_it_is =
-    sym (ap (λ (b : Bool). b || some_lacks (drop (i + 1) xs)) so_it_is) ∙ ap some_lacks (sym (at_drop xs i x lt is)) ∙ so
-
-pub lacking_end : (xs : List Verdict) (i : ℕ) (whole : Bool) → some_lacks (drop i xs) ≡ whole → length xs ≤ i → false ≡ whole
-lacking_end xs i whole so le = ap some_lacks (sym (drop_all i xs le)) ∙ so
-
-pub ruleset lacking_steps = (lacking_more, lacking_here, lacking_end)
+pub ruleset closed_steps = (closed_more, closed_not, closed_end)

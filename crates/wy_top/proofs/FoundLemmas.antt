@@ -1,91 +1,139 @@
--- The certificates that were found, from the last to the first.
-use Rattle.std.proofs.Common.{◌≡◌, ◌∙◌, ◌≤◌, ◌+◌, ℕ, suc, List, [], ◌∷◌, ◌++◌, All, length, map, reverse, refl, sym, ap, subst, arith, append_assoc, length-append}
-use Rattle.std.proofs.lemmas.List.{append-nil, map-append, reverse-append}
-use Rattle.std.proofs.lemmas.List.Elements.{All-append, All-cons, All-nil, All-head, All-tail}
-use Rattle.wy_cert.specs.Steps.{Certificates, Written, NamesItsTerms, steps_of}
+-- The certificates for the conditions that were found, one after the other.
+use Rattle.std.proofs.Common.{◌≡◌, ◌∙◌, ◌<◌, ◌≤◌, ◌+◌, ℕ, zero, suc, List, [], ◌∷◌, ◌++◌, All, length, map, take, get_or, true, Option, Some, refl, inl, inr, sym, ap, subst, arith}
+use Rattle.std.proofs.lemmas.List.{append-nil, length-map, map-append}
+use Rattle.std.specs.Prelude.{IfSome}
+use Rattle.std.proofs.lemmas.List.Elements.{All-append, All-cons, All-nil}
+use Rattle.wy_cert.specs.Steps.{Certificates, NamesItsTerms, NameTheirTerms, Written, certificates_of, steps_of}
 use Rattle.wy_cert.specs.declared.step.Cert.{Cert}
-use Rattle.wy_top.specs.Seen.{NamesTerms, NameTerms}
-use Rattle.wy_top.specs.declared.verdict.End.{End}
-use Rattle.wy_top.specs.declared.verdict.End.TheVariants.{Supplied, Found, Open, Spent, Uncertified}
+use Rattle.wy_cert.specs.declared.step.Certs.{Certs}
+use Rattle.wy_sound_certificates.specs.Sortedness.{AreSortedSteps}
+use Rattle.wy_term.specs.Condition.{Condition}
+use Rattle.wy_term.specs.declared.cond.Cond.{Cond}
+use Rattle.wy_valid.specs.Validity.{IsValid}
+use Rattle.wy_top.specs.Found.{AreFor, Begin, IsMore, IsOneMore, IsOwn}
+use Rattle.wy_top.specs.Known.{End, Known, found, spent, stays_open, supplied}
+use Rattle.wy_top.specs.Proofs.{Finds, is_found}
+use Rattle.wy_top.specs.Seen.{known, seen_end}
+use Rattle.wy_top.specs.declared.verdict.End.{End as CodeEnd}
 use Rattle.wy_top.specs.declared.verdict.Verdict.{Verdict}
-use Rattle.wy_top.specs.Found.{certificate_in, found_from}
+
+-- ---- one condition
+
+pub nothing_more : (n : ℕ) (c : Condition) (e : CodeEnd) (certs : Certificates) → IsOwn n c (seen_end e) [] → IsMore n c (seen_end e) certs certs
+nothing_more n c e certs own = record { own = []; are = own; more_are = sym (append-nil certs) }
+
+pub one_more : (n leaves : ℕ) (c : Condition) (certs more : Certificates) → IsOneMore n c certs more → IsMore n c (found leaves) certs more
+one_more n leaves c certs more h = record { own = (n, h.0) ∷ []; are = (h.0, h.1, refl); more_are = h.2 }
 
 -- a certificate with the number of its condition
 abbrev pub pair_of : ℕ × Cert → ℕ × List Written
 pair_of e = (e.0, steps_of e.1)
 
--- one condition more
-found_push : (n m : ℕ) (vs : List Verdict) (v : Verdict) → m ≡ n + length vs → found_from n (vs ++ v ∷ []) ≡ found_from n vs ++ certificate_in m v.end
-found_push n m [] v is =
-    let same : n ≡ m = omega (arith, is) in
-    append-nil (certificate_in n v.end) ∙ ap (λ (k : ℕ). certificate_in k v.end) same
-found_push n m (w ∷ vs) v is =
-    ap (λ (cs : Certificates). certificate_in n w.end ++ cs) (found_push (suc n) m vs v (omega (arith, is)))
-    ∙ sym (append_assoc (certificate_in n w.end) (found_from (suc n) vs) (certificate_in m v.end))
-
--- these are left, and the certificates for those behind them stand in the list, the last one first
-abbrev pub IsLeft : List Verdict → List (ℕ × Cert) → List Verdict → Type 0
-IsLeft left list all = found_from 1 left ++ reverse (map pair_of list) ≡ found_from 1 all
-
-pub left_first : (all : List Verdict) (list : List (ℕ × Cert)) → list ≡ [] → IsLeft all list all
-left_first all list none = ap (λ (es : List (ℕ × Cert)). found_from 1 all ++ reverse (map pair_of es)) none ∙ append-nil (found_from 1 all)
-
-one_reversed : (number : ℕ) (end : End) → reverse (certificate_in number end) ≡ certificate_in number end
-one_reversed number Supplied = refl
-one_reversed number (Found cert leaves) = refl
-one_reversed number (Open leaf) = refl
-one_reversed number Spent = refl
-one_reversed number (Uncertified leaves) = refl
-
--- at most one certificate more
-more_reversed : (number : ℕ) (end : End) (list more : List (ℕ × Cert)) → map pair_of more ≡ map pair_of list ++ certificate_in number end → reverse (map pair_of more) ≡ certificate_in number end ++ reverse (map pair_of list)
-more_reversed number end list more is =
-    ap reverse is ∙ reverse-append (map pair_of list) (certificate_in number end) ∙ ap (λ (cs : Certificates). cs ++ reverse (map pair_of list)) (one_reversed number end)
-
-pub left_less : (left rest all : List Verdict) (v : Verdict) (list more : List (ℕ × Cert)) (number : ℕ) → left ≡ rest ++ v ∷ [] → number ≡ length rest + 1 → map pair_of more ≡ map pair_of list ++ certificate_in number v.end → IsLeft left list all → IsLeft rest more all
-left_less left rest all v list more number is count pushed so =
-    ap (λ (cs : Certificates). found_from 1 rest ++ cs) (more_reversed number v.end list more pushed)
-    ∙ sym (append_assoc (found_from 1 rest) (certificate_in number v.end) (reverse (map pair_of list)))
-    ∙ ap (λ (cs : Certificates). cs ++ reverse (map pair_of list)) (sym (found_push 1 number rest v (omega (arith, count))))
-    ∙ ap (λ (vs : List Verdict). found_from 1 vs ++ reverse (map pair_of list)) (sym is)
-    ∙ so
-
-map_reversed : (es : List (ℕ × Cert)) → map pair_of (reverse es) ≡ reverse (map pair_of es)
-map_reversed [] = refl
-map_reversed (e ∷ es) =
-    ap (map pair_of) (reverse-append (e ∷ []) es)
-    ∙ (map-append pair_of (reverse es) (e ∷ []) ∙ (ap (λ (cs : Certificates). cs ++ pair_of e ∷ []) (map_reversed es) ∙ sym (reverse-append (pair_of e ∷ []) (map pair_of es))))
-
-pub left_none : (left all : List Verdict) (list turned : List (ℕ × Cert)) → left ≡ [] → turned ≡ reverse list → IsLeft left list all → map pair_of turned ≡ found_from 1 all
-left_none left all list turned none is so =
-    ap (map pair_of) is ∙ (map_reversed list ∙ (sym (ap (λ (vs : List Verdict). found_from 1 vs ++ reverse (map pair_of list)) none) ∙ so))
-
--- there are no more of those that are left
-pub few_left : (left rest all : List Verdict) (v : Verdict) → left ≡ rest ++ v ∷ [] → length left ≤ length all → length rest ≤ length all
-few_left left rest all v is few =
-    let longer : length left ≡ length rest + 1 = ap length is ∙ length-append rest (v ∷ []) in
-    omega (arith, longer, few)
-
-pub none_left : (left : List Verdict) → length left ≡ 0 → left ≡ []
-none_left [] none = refl
-none_left (v ∷ vs) none = absurd (omega (arith, none))
-
--- ---- the numbers in them
+-- the one that was made comes last
+pub pushed : (n : ℕ) (c : Condition) (list more : List (ℕ × Cert)) (cert : Cert) → IsValid c (steps_of cert) → AreSortedSteps (steps_of cert) → more ≡ list ++ (n, cert) ∷ [] → IsOneMore n c (map pair_of list) (map pair_of more)
+pushed n c list more cert valid sorted is =
+    (steps_of cert, record { valid = valid; sorted = sorted }, ap (map pair_of) is ∙ map-append pair_of list ((n, cert) ∷ []))
 
 abbrev NamesIn : ℕ × Cert → Type 0
 NamesIn e = NamesItsTerms e.1
 
-pub named_last : (left rest : List Verdict) (v : Verdict) → left ≡ rest ++ v ∷ [] → NameTerms left → NameTerms rest × NamesTerms v.end
-named_last left rest v is named = by rest (subst NameTerms is named)
-  where
-    by : (vs : List Verdict) → NameTerms (vs ++ v ∷ []) → NameTerms vs × NamesTerms v.end
-    by [] h = (tt, h.0)
-    by (w ∷ vs) h = let more = by vs h.1 in ((h.0, more.0), more.1)
+abbrev some_cert : Cert → Option Cert
+some_cert cert = Some cert
 
-pub named_reversed : (list turned : List (ℕ × Cert)) → turned ≡ reverse list → All (λ (e : ℕ × Cert). NamesItsTerms e.1) list → All (λ (e : ℕ × Cert). NamesItsTerms e.1) turned
-named_reversed list turned is all = subst (λ (es : List (ℕ × Cert)). All NamesIn es) (sym is) (by list all)
+pub named_more : (n : ℕ) (list more : List (ℕ × Cert)) (o : Option Cert) (cert : Cert) → o ≡ some_cert cert → IfSome o NamesItsTerms → more ≡ list ++ (n, cert) ∷ [] → All (λ (e : ℕ × Cert). NamesItsTerms e.1) list → All (λ (e : ℕ × Cert). NamesItsTerms e.1) more
+named_more n list more o cert is names pushed all =
+    subst (λ (es : List (ℕ × Cert)). All NamesIn es) (sym pushed)
+    (All-append NamesIn list ((n, cert) ∷ []) all (All-cons NamesIn (n, cert) [] (subst (λ (p : Option Cert). IfSome p NamesItsTerms) is names) (All-nil NamesIn)))
+
+-- ---- a list of them
+
+own_begins : (n m : ℕ) (c : Condition) (e : End) (own : Certificates) → IsOwn m c e own → m ≡ n → Begin n c e (λ ds. ds ≡ []) own
+own_begins n m c supplied own h same = h
+own_begins n m c (found leaves) own h same = subst (λ (ds : Certificates). Begin n c (found leaves) (λ es. es ≡ []) ds) (sym h.2) (sym same, h.1, refl)
+own_begins n m c (stays_open leaf why literals) own h same = h
+own_begins n m c spent own h same = h
+
+begins_more : (n : ℕ) (c : Condition) (e : End) (P Q : Certificates → Type 0) (certs own : Certificates) → Begin n c e P certs → ((ds : Certificates) → P ds → Q (ds ++ own)) → Begin n c e Q (certs ++ own)
+begins_more n c supplied P Q certs own h later = later certs h
+begins_more n c (found leaves) P Q [] own h later = absurd h
+begins_more n c (found leaves) P Q (d ∷ ds) own h later = (h.0, h.1, later ds h.2)
+begins_more n c (stays_open leaf why literals) P Q certs own h later = later certs h
+begins_more n c spent P Q certs own h later = later certs h
+
+for_push : (n m : ℕ) (cs : List Condition) (ks : List Known) (c : Condition) (k : Known) (certs own : Certificates) → m ≡ n + length cs → AreFor n cs ks certs → IsOwn m c k.end own → AreFor n (cs ++ c ∷ []) (ks ++ k ∷ []) (certs ++ own)
+for_push n m [] [] c k certs own is h are =
+    let same : m ≡ n = omega (arith, is) in
+    subst (λ (ds : Certificates). AreFor n (c ∷ []) (k ∷ []) (ds ++ own)) (sym h) (own_begins n m c k.end own are same)
+for_push n m [] (l ∷ ks) c k certs own is h are = absurd h
+for_push n m (d ∷ cs) [] c k certs own is h are = absurd h
+for_push n m (d ∷ cs) (l ∷ ks) c k certs own is h are =
+    begins_more n d l.end (λ ds. AreFor (suc n) cs ks ds) (λ ds. AreFor (suc n) (cs ++ c ∷ []) (ks ++ k ∷ []) ds) certs own h
+    (λ ds g. for_push (suc n) m cs ks c k ds own (omega (arith, is)) g are)
+
+-- ---- the first so many of a list
+
+taken : {X : Type 0} (xs : List X) (i : ℕ) (x : X) → i < length xs → x ≡ get_or xs i x → take (i + 1) xs ≡ take i xs ++ x ∷ []
+taken [] i x lt is = absurd (omega (arith, lt))
+taken {X} (y ∷ xs) zero x lt is = ap (λ (z : X). z ∷ []) (sym is)
+taken {X} (y ∷ xs) (suc i) x lt is = ap (λ (k : ℕ). take k (y ∷ xs)) behind ∙ ap (λ (zs : List X). y ∷ zs) (taken xs i x (omega (arith, lt)) is)
   where
-    by : (es : List (ℕ × Cert)) → All NamesIn es → All NamesIn (reverse es)
-    by [] are = are
-    by (e ∷ es) are = subst (λ (l : List (ℕ × Cert)). All NamesIn l) (sym (reverse-append (e ∷ []) es))
-        (All-append NamesIn (reverse es) (e ∷ []) (by es (All-tail NamesIn e es are)) (All-cons NamesIn e [] (All-head NamesIn e es are) (All-nil NamesIn)))
+    behind : suc i + 1 ≡ suc (i + 1)
+    behind = omega arith
+
+length_taken : {X : Type 0} (xs : List X) (i : ℕ) → i < length xs → length (take i xs) ≡ i
+length_taken [] i lt = absurd (omega (arith, lt))
+length_taken (x ∷ xs) zero lt = refl
+length_taken (x ∷ xs) (suc i) lt = ap suc (length_taken xs i (omega (arith, lt)))
+
+mapped_at : {X Y : Type 0} (f : X → Y) (xs : List X) (i : ℕ) (x : X) → i < length xs → x ≡ get_or xs i x → f x ≡ get_or (map f xs) i (f x)
+mapped_at f [] i x lt is = absurd (omega (arith, lt))
+mapped_at f (y ∷ xs) zero x lt is = ap f is
+mapped_at f (y ∷ xs) (suc i) x lt is = mapped_at f xs i x (omega (arith, lt)) is
+
+-- ---- what was answered
+
+abbrev some_certs : Certs → Option Certs
+some_certs certs = Some certs
+
+pub is_more : (n : ℕ) (c : Condition) (e : End) (certs : Certificates) (o : Option Certs) (more : Certs) → o ≡ some_certs more → IfSome o (λ (k : Certs). IsMore n c e certs (certificates_of k)) → IsMore n c e certs (certificates_of more)
+is_more n c e certs o more is h = subst (λ (p : Option Certs). IfSome p (λ (k : Certs). IsMore n c e certs (certificates_of k))) is h
+
+pub are_named : (o : Option Certs) (more : Certs) → o ≡ some_certs more → IfSome o NameTheirTerms → NameTheirTerms more
+are_named o more is h = subst (λ (p : Option Certs). IfSome p NameTheirTerms) is h
+
+-- ---- turns
+
+pub found_none : (cs : List Condition) (vs : List Verdict) (certs : Certificates) → certs ≡ [] → AreFor 1 (take 0 cs) (take 0 (map known vs)) certs
+found_none cs vs certs none = none
+
+pub found_turn : (of : Cond → Condition) (conds : List Cond) (vs : List Verdict) (i n : ℕ) (c : Cond) (d : Condition) (v : Verdict) (certs more : Certificates)
+    → length vs ≡ length conds → i < length conds → c ≡ get_or conds i c → v ≡ get_or vs i v → n ≡ i + 1 → d ≡ of c
+    → AreFor 1 (take i (map of conds)) (take i (map known vs)) certs → IsMore n d (seen_end v.end) certs more → AreFor 1 (take (i + 1) (map of conds)) (take (i + 1) (map known vs)) more
+found_turn of conds vs i n c d v certs more each lt at there number same so h =
+    let lc : i < length (map of conds) = omega (arith, lt, length-map conds of) in
+    let lv : i < length vs = omega (arith, lt, each) in
+    let lk : i < length (map known vs) = omega (arith, lv, length-map vs known) in
+    let whole : n ≡ 1 + length (take i (map of conds)) = omega (arith, number, length_taken (map of conds) i lc) in
+    let own : IsOwn n (of c) (known v).end h.own = subst (λ (x : Condition). IsOwn n x (seen_end v.end) h.own) same h.are in
+    subst (λ (cs : List Condition). AreFor 1 cs (take (i + 1) (map known vs)) more) (sym (taken (map of conds) i (of c) lc (mapped_at of conds i c lt at)))
+    (subst (λ (ks : List Known). AreFor 1 (take i (map of conds) ++ of c ∷ []) ks more) (sym (taken (map known vs) i (known v) lk (mapped_at known vs i v lv there)))
+    (subst (λ (ds : Certificates). AreFor 1 (take i (map of conds) ++ of c ∷ []) (take i (map known vs) ++ known v ∷ []) ds) (sym h.more_are)
+    (for_push 1 n (take i (map of conds)) (take i (map known vs)) (of c) (known v) certs h.own whole so own)))
+
+take_past : {X : Type 0} (xs : List X) (i : ℕ) → length xs ≤ i → take i xs ≡ xs
+take_past [] zero le = refl
+take_past [] (suc i) le = refl
+take_past (x ∷ xs) zero le = absurd (omega (arith, le))
+take_past {X} (x ∷ xs) (suc i) le = ap (λ (ys : List X). x ∷ ys) (take_past xs i (omega (arith, le)))
+
+pub found_whole : (of : Cond → Condition) (conds : List Cond) (vs : List Verdict) (i : ℕ) (certs : Certificates) → length vs ≡ length conds → length conds ≤ i
+    → AreFor 1 (take i (map of conds)) (take i (map known vs)) certs → AreFor 1 (map of conds) (map known vs) certs
+found_whole of conds vs i certs each le so =
+    subst (λ (ks : List Known). AreFor 1 (map of conds) ks certs) (take_past (map known vs) i (omega (arith, le, each, length-map vs known)))
+    (subst (λ (cs : List Condition). AreFor 1 cs (take i (map known vs)) certs) (take_past (map of conds) i (omega (arith, le, length-map conds of))) so)
+
+-- one that was found is among them
+pub finds_at : (vs : List Verdict) (i : ℕ) (v : Verdict) → i < length vs → v ≡ get_or vs i v → is_found (seen_end v.end) ≡ true → Finds (map known vs)
+finds_at [] i v lt is h = absurd (omega (arith, lt))
+finds_at (w ∷ vs) zero v lt is h = inl (subst (λ (x : Verdict). is_found (seen_end x.end) ≡ true) is h)
+finds_at (w ∷ vs) (suc i) v lt is h = inr (finds_at vs i v (omega (arith, lt)) is h)

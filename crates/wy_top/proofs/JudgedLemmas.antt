@@ -1,27 +1,23 @@
 -- What is known of conditions, one after the other.
-use Rattle.std.proofs.Common.{◌≡◌, ◌∙◌, ◌<◌, ◌≤◌, ◌+◌, ℕ, zero, suc, List, [], ◌∷◌, ◌++◌, All, length, map, take, get_or, Option, Some, None, Result, refl, sym, ap, subst, arith}
-use Rattle.std.specs.Prelude.{IfOk, IfSome}
+use Rattle.std.proofs.Common.{◌≡◌, ◌∙◌, ◌<◌, ◌≤◌, ◌+◌, ℕ, zero, suc, List, [], ◌∷◌, ◌++◌, All, length, map, take, get_or, Option, Some, None, refl, sym, ap, subst, arith}
 use Rattle.std.proofs.lemmas.List.{length-map}
-use Rattle.wy_checking.proofs.StayLemmas.{as_before, condition_stays}
+use Rattle.wy_checking.proofs.StayLemmas.{as_before, condition_stays, conditions_stay}
 use Rattle.wy_checking.specs.Verdicts.{certificate_for, verdict_on, verdicts_on}
 use Rattle.wy_checking.specs.Within.{IsWithin}
 use Rattle.wy_checking.specs.declared.verdict.Verdict.{Verdict as Given}
 use Rattle.wy_checking.specs.declared.verdict.Verdict.TheVariants as given
-use Rattle.wy_cert.specs.Steps.{Certificates, NamesItsTerms, steps_of}
-use Rattle.wy_cert.specs.declared.step.Cert.{Cert}
+use Rattle.wy_cert.specs.Steps.{Certificates}
 use Rattle.wy_search.specs.Tree as tree
 use Rattle.wy_certifying.specs.Seen as searching
 use Rattle.wy_certifying.specs.OpenLeaf.{OpenLeaf}
 use Rattle.wy_certifying.specs.Searched.{Verdict as Search}
 use Rattle.wy_certifying.specs.Searched.TheVariants as search
-use Rattle.wy_sound_certificates.specs.Sortedness.{AreSortedSteps}
 use Rattle.wy_term.specs.Condition.{Condition, condition_of}
 use Rattle.wy_term.specs.Nodes.{Plain, tree_at}
 use Rattle.wy_term.specs.declared.cond.Cond.{Cond}
-use Rattle.wy_valid.specs.Validity.{IsValid}
 use Rattle.wy_top.specs.Judged.{AreJudged, EndsIn, IsJudged}
-use Rattle.wy_top.specs.Known.{AreKnown, EndsSo, IsKnown, IsSearched, Known, bad_step_of}
-use Rattle.wy_top.specs.Seen.{AreShown, NameTerms, known, seen_end}
+use Rattle.wy_top.specs.Known.{AreKnown, EndsSo, bad_step_of}
+use Rattle.wy_top.specs.Seen.{NameTerms, known, seen_end}
 use Rattle.wy_top.specs.declared.verdict.End.{End}
 use Rattle.wy_top.specs.declared.verdict.End.TheVariants as ends
 use Rattle.wy_top.specs.declared.verdict.Verdict.{Verdict}
@@ -33,6 +29,13 @@ same_condition old new c same kept within = condition_stays old new c (as_before
 
 pub same_within : (old new : List Plain) (c : Cond) → length new ≡ length old → IsWithin (length old) c → IsWithin (length new) c
 same_within old new c same within = subst (λ (n : ℕ). IsWithin n c) (sym same) within
+
+-- so of a list of conditions
+pub same_conditions : (old new : List Plain) (cs : List Cond) → length new ≡ length old → ((t : ℕ) → t < length old → tree_at new t ≡ tree_at old t) → All (IsWithin (length old)) cs → map (condition_of new) cs ≡ map (condition_of old) cs
+same_conditions old new cs same kept within = conditions_stay old new cs (as_before old new same kept) within
+
+pub all_within : (old new : List Plain) (cs : List Cond) → length new ≡ length old → All (IsWithin (length old)) cs → All (IsWithin (length new)) cs
+all_within old new cs same within = subst (λ (n : ℕ). All (IsWithin n) cs) (sym same) within
 
 -- a condition of a list
 pub within_at : (n : ℕ) (cs : List Cond) (i : ℕ) (c : Cond) → All (IsWithin n) cs → i < length cs → c ≡ get_or cs i c → IsWithin n c
@@ -46,30 +49,16 @@ condition_at f (d ∷ cs) (suc i) c lt is = condition_at f cs i c (omega (arith,
 -- ---- ends
 
 pub ends_open : (c : Condition) (budget : ℕ) (leaf : OpenLeaf) → tree.IsVerdict c budget (searching.seen_verdict (search.Open leaf)) → searching.NamesItsTerms (search.Open leaf) → EndsIn c budget (ends.Open leaf)
-ends_open c budget leaf h named = record { searched = record { verdict = searching.seen_verdict (search.Open leaf); searched = h; is = refl }; shown = tt; named = named }
+ends_open c budget leaf h named = record { searched = record { verdict = searching.seen_verdict (search.Open leaf); searched = h; is = refl }; named = named }
 
 pub ends_spent : (c : Condition) (budget : ℕ) → tree.IsVerdict c budget tree.spent → EndsIn c budget ends.Spent
-ends_spent c budget h = record { searched = record { verdict = tree.spent; searched = h; is = refl }; shown = tt; named = tt }
+ends_spent c budget h = record { searched = record { verdict = tree.spent; searched = h; is = refl }; named = tt }
 
-pub ends_found : (c : Condition) (budget leaves : ℕ) (cert : Cert) → IsValid c (steps_of cert) → AreSortedSteps (steps_of cert) → NamesItsTerms cert → tree.IsVerdict c budget (tree.found leaves) → EndsIn c budget (ends.Found cert leaves)
-ends_found c budget leaves cert valid sorted names h = record { searched = record { verdict = tree.found leaves; searched = h; is = refl }; shown = record { valid = valid; sorted = sorted }; named = names }
+pub ends_found : (c : Condition) (budget leaves : ℕ) → tree.IsVerdict c budget (tree.found leaves) → EndsIn c budget (ends.Found leaves)
+ends_found c budget leaves h = record { searched = record { verdict = tree.found leaves; searched = h; is = refl }; named = tt }
 
-pub ends_uncertified : (c : Condition) (budget leaves : ℕ) → tree.IsVerdict c budget (tree.found leaves) → EndsIn c budget (ends.Uncertified leaves)
-ends_uncertified c budget leaves h = record { searched = record { verdict = tree.found leaves; searched = h; is = refl }; shown = tt; named = tt }
-
-abbrev pub some_cert : Cert → Option Cert
-some_cert cert = Some cert
-
--- the certificate that was made
-pub certified_ends : (c : Condition) (budget leaves : ℕ) (o : Option Cert) (cert : Cert) → o ≡ some_cert cert → IfSome o (λ (k : Cert). IsValid c (steps_of k)) → IfSome o (λ (k : Cert). AreSortedSteps (steps_of k)) → IfSome o NamesItsTerms → tree.IsVerdict c budget (tree.found leaves)
-    → EndsIn c budget (ends.Found cert leaves)
-certified_ends c budget leaves o cert is valid sorted names h =
-    ends_found c budget leaves cert (subst (λ (p : Option Cert). IfSome p (λ (k : Cert). IsValid c (steps_of k))) is valid) (subst (λ (p : Option Cert). IfSome p (λ (k : Cert). AreSortedSteps (steps_of k))) is sorted) (subst (λ (p : Option Cert). IfSome p NamesItsTerms) is names) h
-
--- a search that closed all leaves, where the terms are as before
-pub found_there : {E : Type 0} (r : Result End E) (c d : Condition) (budget leaves : ℕ) (v : Search) → d ≡ c → v ≡ search.Found leaves → tree.IsVerdict c budget (searching.seen_verdict v) → (tree.IsVerdict d budget (tree.found leaves) → IfOk r (EndsIn d budget)) → IfOk r (EndsIn c budget)
-found_there r c d budget leaves v same is h f =
-    subst (λ (x : Condition). IfOk r (EndsIn x budget)) same (f (subst (λ (x : Condition). tree.IsVerdict x budget (tree.found leaves)) (sym same) (subst (λ (w : Search). tree.IsVerdict c budget (searching.seen_verdict w)) is h)))
+pub found_there : (c : Condition) (budget leaves : ℕ) (v : Search) → v ≡ search.Found leaves → tree.IsVerdict c budget (searching.seen_verdict v) → EndsIn c budget (ends.Found leaves)
+found_there c budget leaves v is h = ends_found c budget leaves (subst (λ (w : Search). tree.IsVerdict c budget (searching.seen_verdict w)) is h)
 
 pub open_there : (c : Condition) (budget : ℕ) (leaf : OpenLeaf) (v : Search) → v ≡ search.Open leaf → tree.IsVerdict c budget (searching.seen_verdict v) → searching.NamesItsTerms v → EndsIn c budget (ends.Open leaf)
 open_there c budget leaf v is h named = ends_open c budget leaf (subst (λ (w : Search). tree.IsVerdict c budget (searching.seen_verdict w)) is h) (subst (λ (w : Search). searching.NamesItsTerms w) is named)
@@ -87,7 +76,6 @@ supplied_judged c budget g is certs n told =
     let there : given.Supplied ≡ verdict_on c (certificate_for certs n) = sym is ∙ told in
     record {
       known = record { bad_step = ap bad_step_of there; end = subst (λ (h : Given). EndsSo c budget h (seen_end ends.Supplied)) there refl };
-      shown = tt;
       named = tt;
     }
 
@@ -96,7 +84,6 @@ missing_judged c budget g is e h certs n told =
     let there : given.Missing ≡ verdict_on c (certificate_for certs n) = sym is ∙ told in
     record {
       known = record { bad_step = ap bad_step_of there; end = subst (λ (k : Given). EndsSo c budget k (seen_end e)) there h.searched };
-      shown = h.shown;
       named = h.named;
     }
 
@@ -105,7 +92,6 @@ bad_judged c budget step g is e h certs n told =
     let there : given.Bad step ≡ verdict_on c (certificate_for certs n) = sym is ∙ told in
     record {
       known = record { bad_step = ap bad_step_of there; end = subst (λ (k : Given). EndsSo c budget k (seen_end e)) there h.searched };
-      shown = h.shown;
       named = h.named;
     }
 
@@ -184,12 +170,6 @@ all_known certs budget n [] [] h = tt
 all_known certs budget n [] (v ∷ vs) h = absurd h
 all_known certs budget n (c ∷ cs) [] h = absurd h
 all_known certs budget n (c ∷ cs) (v ∷ vs) h = (h.0.known, all_known certs budget (n + 1) cs vs h.1)
-
-pub all_shown : (certs : Certificates) (budget n : ℕ) (cs : List Condition) (vs : List Verdict) → AreJudged certs budget n cs vs → AreShown cs vs
-all_shown certs budget n [] [] h = tt
-all_shown certs budget n [] (v ∷ vs) h = absurd h
-all_shown certs budget n (c ∷ cs) [] h = absurd h
-all_shown certs budget n (c ∷ cs) (v ∷ vs) h = (h.0.shown, all_shown certs budget (n + 1) cs vs h.1)
 
 pub all_named : (certs : Certificates) (budget n : ℕ) (cs : List Condition) (vs : List Verdict) → AreJudged certs budget n cs vs → NameTerms vs
 all_named certs budget n [] [] h = tt

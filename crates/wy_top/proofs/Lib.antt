@@ -16,13 +16,12 @@ pub mod InvalidLemmas
 pub mod LineLemmas
 -- lines of literals
 pub mod LiteralLemmas
--- certificates that were found
+-- certificates for conditions that were found
 pub mod FoundLemmas
 -- what they are
 pub mod GivenLemmas
 pub mod PlaceLemmas
 pub mod OwingLemmas
-pub mod ClosedLemmas
 pub mod AcceptLemmas
 pub mod ProofLemmas
 pub mod LengthLemmas

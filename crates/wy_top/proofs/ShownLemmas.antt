@@ -1,25 +1,23 @@
 -- What verdicts show, and that there is one list of them.
-use Rattle.std.proofs.Common.{◌≡◌, ◌∙◌, ◌+◌, ℕ, List, [], ◌∷◌, map, Bool, true, false, cond, Option, Some, None, refl, sym, ap, subst}
+use Rattle.std.proofs.Common.{◌≡◌, ◌∙◌, ◌+◌, ℕ, List, [], ◌∷◌, Bool, true, false, cond, Option, Some, None, refl, sym, ap, subst}
 use Rattle.std.specs.Prelude.{◌==◌, ◌&&◌}
 use Rattle.wy_checking.specs.Verdicts.{certificate_for, verdict_from, verdict_on}
 use Rattle.wy_checking.specs.declared.verdict.Verdict.{Verdict as Given}
 use Rattle.wy_checking.specs.declared.verdict.Verdict.TheVariants as given
-use Rattle.wy_cert.specs.Steps.{Certificates, Written, steps_of}
+use Rattle.wy_cert.specs.Steps.{Certificates, Written}
 use Rattle.wy_search.specs.Tree as tree
 use Rattle.wy_search.proofs.VerdictLemmas.{one_verdict}
-use Rattle.wy_shown_conditions.specs.Certified.{AllHold, AreFormed, IsFormed}
+use Rattle.wy_shown_conditions.specs.Certified.{IsFormed}
 use Rattle.wy_shown_conditions.specs.ReadSorted.{AreSortedCertificates}
 use Rattle.wy_shown_conditions.proofs.ReadLemmas.{reads_sorted}
 use Rattle.wy_sound_certificates.specs.Sortedness.{AreSortedSteps}
 use Rattle.wy_sound_certificates.proofs.SoundLemmas.{valid_implies_true}
 use Rattle.wy_term.specs.Condition.{Condition, HoldsAlways}
-use Rattle.wy_valid.specs.Validity.{IsValid, first_bad}
-use Rattle.wy_top.specs.Known.{AreKnown, End, EndsSo, IsKnown, IsSearched, Known, OneList, end_of, supplied}
-use Rattle.wy_top.specs.Seen.{AreShown, IsShown, are_certified, is_certified, known, seen_end}
-use Rattle.wy_top.specs.Shown.{CertifiedIsTrue, ReadIsTrue}
-use Rattle.wy_top.specs.declared.verdict.End.{End as CodeEnd}
-use Rattle.wy_top.specs.declared.verdict.End.TheVariants as ends
-use Rattle.wy_top.specs.declared.verdict.Verdict.{Verdict}
+use Rattle.wy_sound_search.proofs.FoundLemmas.{found_true}
+use Rattle.wy_valid.specs.Validity.{first_bad}
+use Rattle.wy_top.specs.Acceptance.{are_closed, is_closed}
+use Rattle.wy_top.specs.Known.{End, EndsSo, IsKnown, IsSearched, Known, OneList, end_of, found, spent, stays_open, supplied}
+use Rattle.wy_top.specs.Shown.{ClosedIsTrue, ReadIsTrue}
 
 -- ---- supplied certificates
 
@@ -58,26 +56,39 @@ supplied_holds certs n c sorted formed is = by (certificate_for certs n) refl is
 
 -- ---- one condition
 
-certified_holds : (certs : Certificates) (budget n : ℕ) (c : Condition) (e : CodeEnd) → AreSortedCertificates certs → IsFormed c → EndsSo c budget (verdict_on c (certificate_for certs n)) (seen_end e) → IsShown c e → is_certified e ≡ true → HoldsAlways c
-certified_holds certs budget n c ends.Supplied sorted formed h shown so_it_is = supplied_holds certs n c sorted formed (is_supplied c budget (verdict_on c (certificate_for certs n)) h)
-certified_holds certs budget n c (ends.Found cert leaves) sorted formed h shown so_it_is = valid_implies_true c (steps_of cert) formed.sorted formed.are_closed shown.sorted shown.valid
-certified_holds certs budget n c (ends.Open leaf) sorted formed h shown so_it_is = absurd (cc)
-certified_holds certs budget n c ends.Spent sorted formed h shown so_it_is = absurd (cc)
-certified_holds certs budget n c (ends.Uncertified leaves) sorted formed h shown so_it_is = absurd (cc)
+found_here : (v : tree.Verdict) (leaves : ℕ) → found leaves ≡ end_of v → v ≡ tree.found leaves
+found_here (tree.found m) leaves is = let same : leaves ≡ m = cc in ap (λ (k : ℕ). tree.found k) (sym same)
+found_here (tree.open_leaf leaf why literals) leaves is = absurd (cc)
+found_here tree.spent leaves is = absurd (cc)
+
+searched_holds : (c : Condition) (budget leaves : ℕ) → IsFormed c → IsSearched c budget (found leaves) → HoldsAlways c
+searched_holds c budget leaves formed h =
+    found_true c budget leaves formed.sorted formed.are_closed (subst (λ (v : tree.Verdict). tree.IsVerdict c budget v) (found_here h.verdict leaves h.is) h.searched)
+
+found_holds : (c : Condition) (budget leaves : ℕ) (g : Given) → IsFormed c → EndsSo c budget g (found leaves) → HoldsAlways c
+found_holds c budget leaves given.Supplied formed h = absurd (cc)
+found_holds c budget leaves given.Missing formed h = searched_holds c budget leaves formed h
+found_holds c budget leaves (given.Bad step) formed h = searched_holds c budget leaves formed h
+
+closed_holds : (certs : Certificates) (budget n : ℕ) (c : Condition) (e : End) → AreSortedCertificates certs → IsFormed c → EndsSo c budget (verdict_on c (certificate_for certs n)) e → is_closed e ≡ true → HoldsAlways c
+closed_holds certs budget n c supplied sorted formed h so_it_is = supplied_holds certs n c sorted formed (is_supplied c budget (verdict_on c (certificate_for certs n)) h)
+closed_holds certs budget n c (found leaves) sorted formed h so_it_is = found_holds c budget leaves (verdict_on c (certificate_for certs n)) formed h
+closed_holds certs budget n c (stays_open leaf why literals) sorted formed h so_it_is = absurd (cc)
+closed_holds certs budget n c spent sorted formed h so_it_is = absurd (cc)
 
 both : (a b : Bool) → (a && b) ≡ true → (a ≡ true) × (b ≡ true)
 both true b e = (refl, e)
 both false b e = absurd (cc)
 
-pub certified_is_true : CertifiedIsTrue
-certified_is_true certs budget n [] vs sorted formed h shown so_it_is = tt
-certified_is_true certs budget n (c ∷ cs) [] sorted formed h shown so_it_is = absurd h
-certified_is_true certs budget n (c ∷ cs) (v ∷ vs) sorted formed h shown so_it_is =
-    let yeses = both (is_certified v.end) (are_certified vs) so_it_is in
-    (certified_holds certs budget n c v.end sorted formed.0 h.0.end shown.0 yeses.0, certified_is_true certs budget (n + 1) cs vs sorted formed.1 h.1 shown.1 yeses.1)
+pub closed_is_true : ClosedIsTrue
+closed_is_true certs budget n [] ks sorted formed h so_it_is = tt
+closed_is_true certs budget n (c ∷ cs) [] sorted formed h so_it_is = absurd h
+closed_is_true certs budget n (c ∷ cs) (k ∷ ks) sorted formed h so_it_is =
+    let yeses = both (is_closed k.end) (are_closed ks) so_it_is in
+    (closed_holds certs budget n c k.end sorted formed.0 h.0.end yeses.0, closed_is_true certs budget (n + 1) cs ks sorted formed.1 h.1 yeses.1)
 
 pub read_is_true : ReadIsTrue
-read_is_true conds bytes certs budget n cs vs reads formed h shown so_it_is = certified_is_true certs budget n cs vs (reads_sorted conds bytes certs reads) formed h shown so_it_is
+read_is_true conds bytes certs budget n cs ks reads formed h so_it_is = closed_is_true certs budget n cs ks (reads_sorted conds bytes certs reads) formed h so_it_is
 
 -- ---- one list
 

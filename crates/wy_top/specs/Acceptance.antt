@@ -1,9 +1,8 @@
--- When is a program accepted? Each of its conditions has a valid certificate, supplied or found within the budget.
-use Rattle.std.specs.Prelude.{◌≡◌, ◌⊎◌, ◌&&◌, ℕ, List, [], ◌∷◌, ◌++◌, Bool, true, false, Ok, Err}
+-- When is a program accepted? For each of its conditions a valid certificate was supplied, or its search closes all leaves within the budget.
+use Rattle.std.specs.Prelude.{◌≡◌, ◌&&◌, ℕ, List, [], ◌∷◌, ◌++◌, Bool, true, false, Ok, Err}
 use Rattle.wy_answers.specs.Answers.{refused, told}
 use Rattle.wy_answers.specs.Loading.{loaded, source_limit}
 use Rattle.wy_answers.specs.Steps.{Came, Sense, stated, due, Setting, and_then, both, done}
-use Rattle.wy_answers.specs.Texts.{not_certified}
 use Rattle.wy_answers.specs.declared.answer.Answer.{Answer}
 use Rattle.wy_cert.specs.Steps.{Certificates}
 use Rattle.wy_top.specs.Owed.{told_by}
@@ -34,7 +33,7 @@ pub record Acceptance : Type 0 where
   pub program : Program
   pub lines : List ℕ
 
--- each condition has a valid certificate, supplied or found within the budget
+-- for each condition a valid certificate was supplied, or its search closes all leaves within the budget
 pub record IsAccepted (cert : List ℕ) (p : Program) (certs : Certificates) (budget : ℕ) (a : Acceptance) : Type 0 where
   pub program : a.program ≡ p
   pub verdicts : List Known
@@ -42,39 +41,21 @@ pub record IsAccepted (cert : List ℕ) (p : Program) (certs : Certificates) (bu
   pub closed : are_closed verdicts ≡ true
   pub lines : a.lines ≡ invalid_lines cert verdicts
 
--- the lines of a refusal: those for certificates that aren't valid, those for conditions without a certificate, and the sum
+-- the lines of a refusal: those for certificates that aren't valid, those for conditions that are open or whose budget is spent, and the sum
 abbrev pub unproved_lines : List ℕ → List ℕ → List ℕ → Program → ℕ → List Known → List ℕ
 unproved_lines name cert bytes p budget ks = invalid_lines cert ks ++ refusal_lines name bytes budget (told_by p.core p.flow) ks
 
--- some condition has none
+-- some condition is neither
 pub record IsUnproved (name cert bytes : List ℕ) (p : Program) (certs : Certificates) (budget : ℕ) (a : Answer) : Type 0 where
   pub verdicts : List Known
   pub known : AreVerdicts certs budget p verdicts
   pub some : are_closed verdicts ≡ false
   pub answer : a ≡ refused 1 (unproved_lines name cert bytes p budget verdicts)
 
-abbrev pub is_found : End → Bool
-is_found supplied = false
-is_found (found leaves) = true
-is_found (stays_open leaf why literals) = false
-is_found spent = false
-
--- the search of a condition closed all leaves
-abbrev pub Finds : List Known → Type 0
-Finds [] = ⊥
-Finds (k ∷ ks) = (is_found k.end ≡ true) ⊎ Finds ks
-
--- the search of some condition closed all leaves, and no certificate was made of them, as was never seen
-pub record IsUncertified (p : Program) (certs : Certificates) (budget : ℕ) (a : Answer) : Type 0 where
-  pub verdicts : List Known
-  pub known : AreVerdicts certs budget p verdicts
-  pub finds : Finds verdicts
-  pub answer : a ≡ refused 13 not_certified
-
 -- the program is accepted, and then all its conditions are true, whatever their names stand for; or it isn't
 abbrev pub accepts : List ℕ → List ℕ → List ℕ → Program → Certificates → ℕ → Sense → Came Acceptance → Type 0
 accepts name cert bytes p certs budget stated (Ok a) = IsAccepted cert p certs budget a × AllHold (conditions_of p)
-accepts name cert bytes p certs budget stated (Err a) = IsUnproved name cert bytes p certs budget a ⊎ IsUncertified p certs budget a
+accepts name cert bytes p certs budget stated (Err a) = IsUnproved name cert bytes p certs budget a
 accepts name cert bytes p certs budget due (Ok a) = IsAccepted cert p certs budget a
 accepts name cert bytes p certs budget due (Err a) = IsUnproved name cert bytes p certs budget a
 

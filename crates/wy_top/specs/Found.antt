@@ -1,27 +1,52 @@
--- The certificates that were found.
+-- Certificates for the conditions that were found.
 use Rattle.std.specs.Prelude.{◌≡◌, ℕ, ◌≤◌, suc, List, [], ◌∷◌, ◌++◌, map}
+use Rattle.wy_cert.specs.Steps.{Certificates, Written}
 use Rattle.wy_checking.specs.Verdicts.{verdicts_on}
 use Rattle.wy_checking.specs.declared.verdict.Verdict.{Verdict as Given}
 use Rattle.wy_checking.specs.declared.verdict.Verdict.TheVariants as accepting
-use Rattle.wy_cert.specs.Steps.{Certificates, steps_of}
+use Rattle.wy_sound_certificates.specs.Sortedness.{AreSortedSteps}
 use Rattle.wy_term.specs.Condition.{Condition}
-use Rattle.wy_top.specs.Seen.{AreShown}
-use Rattle.wy_top.specs.declared.verdict.End.{End}
-use Rattle.wy_top.specs.declared.verdict.End.TheVariants.{Supplied, Found, Open, Spent, Uncertified}
-use Rattle.wy_top.specs.declared.verdict.Verdict.{Verdict}
+use Rattle.wy_valid.specs.Validity.{IsValid}
+use Rattle.wy_top.specs.Known.{End, Known, found, spent, stays_open, supplied}
 
--- the certificate for the condition with this number, if it was found
-abbrev pub certificate_in : ℕ → End → Certificates
-certificate_in number Supplied = []
-certificate_in number (Found cert leaves) = (number, steps_of cert) ∷ []
-certificate_in number (Open leaf) = []
-certificate_in number Spent = []
-certificate_in number (Uncertified leaves) = []
+-- the steps are a valid certificate for the condition, and their terms are of the sorts of their places
+pub record Shows (c : Condition) (steps : List Written) : Type 0 where
+  pub valid : IsValid c steps
+  pub sorted : AreSortedSteps steps
 
--- those for the conditions from this number on, in order
-abbrev pub found_from : ℕ → List Verdict → Certificates
-found_from number [] = []
-found_from number (v ∷ vs) = certificate_in number v.end ++ found_from (suc number) vs
+-- one for the condition with this number comes first, if it was found, and then the others
+abbrev pub Begin : ℕ → Condition → End → (Certificates → Type 0) → Certificates → Type 0
+Begin n c (found leaves) others [] = ⊥
+Begin n c (found leaves) others (d ∷ ds) = (n ≡ d.0) × Shows c d.1 × others ds
+Begin n c supplied others certs = others certs
+Begin n c (stays_open leaf why literals) others certs = others certs
+Begin n c spent others certs = others certs
+
+-- The certificates are for the conditions of a list whose first one has this number: one for each that was found, in order, and none for another one.
+abbrev pub AreFor : ℕ → List Condition → List Known → Certificates → Type 0
+AreFor n [] [] certs = certs ≡ []
+AreFor n [] (k ∷ ks) certs = ⊥
+AreFor n (c ∷ cs) [] certs = ⊥
+AreFor n (c ∷ cs) (k ∷ ks) certs = Begin n c k.end (λ ds. AreFor (suc n) cs ks ds) certs
+
+-- ---- one condition
+
+-- these are the certificates for the condition with this number that ends so: one, if it was found, and else none
+abbrev pub IsOwn : ℕ → Condition → End → Certificates → Type 0
+IsOwn n c (found leaves) certs = (steps : List Written) × Shows c steps × (certs ≡ (n, steps) ∷ [])
+IsOwn n c supplied certs = certs ≡ []
+IsOwn n c (stays_open leaf why literals) certs = certs ≡ []
+IsOwn n c spent certs = certs ≡ []
+
+-- behind some certificates comes one that shows the condition
+abbrev pub IsOneMore : ℕ → Condition → Certificates → Certificates → Type 0
+IsOneMore n c certs more = (steps : List Written) × Shows c steps × (more ≡ certs ++ (n, steps) ∷ [])
+
+-- behind some certificates come those for the condition
+pub record IsMore (n : ℕ) (c : Condition) (e : End) (certs more : Certificates) : Type 0 where
+  pub own : Certificates
+  pub are : IsOwn n c e own
+  pub more_are : more ≡ certs ++ own
 
 -- ---- what they are
 
@@ -30,18 +55,17 @@ abbrev pub AreRising : ℕ → Certificates → Type 0
 AreRising n [] = Unit {0}
 AreRising n (c ∷ cs) = (n ≤ c.0) × AreRising (suc c.0) cs
 
--- the verdict on the certificate that was found, where it is supplied
+-- the verdict on the certificate for it, where they are supplied
 abbrev pub given_in : End → Given
-given_in Supplied = accepting.Missing
-given_in (Found cert leaves) = accepting.Supplied
-given_in (Open leaf) = accepting.Missing
-given_in Spent = accepting.Missing
-given_in (Uncertified leaves) = accepting.Missing
+given_in supplied = accepting.Missing
+given_in (found leaves) = accepting.Supplied
+given_in (stays_open leaf why literals) = accepting.Missing
+given_in spent = accepting.Missing
 
-abbrev pub given_by : Verdict → Given
-given_by v = given_in v.end
+abbrev pub given_by : Known → Given
+given_by k = given_in k.end
 
 -- no condition has two, and where they are supplied each of them is valid for its condition
 pub record FoundIsGiven : Type 0 where
-  pub rising : (vs : List Verdict) → AreRising 1 (found_from 1 vs)
-  pub given : (cs : List Condition) (vs : List Verdict) → AreShown cs vs → verdicts_on (found_from 1 vs) 1 cs ≡ map given_by vs
+  pub rising : (cs : List Condition) (ks : List Known) (certs : Certificates) → AreFor 1 cs ks certs → AreRising 1 certs
+  pub given : (cs : List Condition) (ks : List Known) (certs : Certificates) → AreFor 1 cs ks certs → verdicts_on certs 1 cs ≡ map given_by ks

@@ -3,19 +3,17 @@ use Rattle.std.specs.Prelude.{ℕ, ◌+◌, List, [], ◌∷◌}
 use Rattle.wy_term.specs.Condition.{Condition}
 use Rattle.wy_cert.specs.Steps.{Certificates}
 use Rattle.wy_top.specs.Known.{IsKnown, IsSearched}
-use Rattle.wy_top.specs.Seen.{known, seen_end, IsShown, NamesTerms}
+use Rattle.wy_top.specs.Seen.{known, seen_end, NamesTerms}
 use Rattle.wy_top.specs.declared.verdict.End.{End}
 use Rattle.wy_top.specs.declared.verdict.Verdict.{Verdict}
 
 -- the search of the condition ends so, and what comes with the end
 pub record EndsIn (c : Condition) (budget : ℕ) (end : End) : Type 0 where
   pub searched : IsSearched c budget (seen_end end)
-  pub shown : IsShown c end
   pub named : NamesTerms end
 
 pub record IsJudged (certs : Certificates) (budget n : ℕ) (c : Condition) (v : Verdict) : Type 0 where
   pub known : IsKnown certs budget n c (known v)
-  pub shown : IsShown c v.end
   pub named : NamesTerms v.end
 
 -- so of each condition of a list whose first one has this number

@@ -18,7 +18,7 @@ use Rattle.wy_term.specs.Nodes.{Plain}
 use Rattle.wy_typing.specs.TypedPrograms.{core_of, flow_of}
 use Rattle.wy_vc.specs.Listed.{seen_conds}
 use Rattle.wy_vc.specs.Told.{seen_cond}
-use Rattle.wy_top.specs.Seen.{AreShown, NameTerms, known}
+use Rattle.wy_top.specs.Seen.{NameTerms, known}
 
 -- the program that is kept
 abbrev pub program_in : Owed → Program
@@ -43,11 +43,12 @@ pub record IsKept (o : Owed) : Type 0 where
 abbrev pub judged_program : Judged → Program
 judged_program j = record { core = core_of j.typed; flow = flow_of j.typed }
 
--- there is a verdict on each condition, there are few of them, and each names its own terms
+-- there is a verdict on each condition, there are few of them, each names its own terms, and the conditions' numbers are those of their terms
 pub record AreEach (j : Judged) : Type 0 where
   pub each : length j.verdicts.items ≡ length j.conds.list.items
   pub few : length j.conds.list.items ≤ most_conditions
   pub named : NameTerms j.verdicts.items
+  pub within : All (IsWithin (length j.conds.terms)) j.conds.list.items
 
 -- these numbers have the conditions of the program
 pub record SpellsConditions (p : Program) (j : Judged) : Type 0 where
@@ -58,7 +59,7 @@ pub record SpellsConditions (p : Program) (j : Judged) : Type 0 where
 pub record HasVerdicts (p : Program) (certs : Certificates) (budget : ℕ) (j : Judged) : Type 0 where
   pub program : judged_program j ≡ p
   pub known : AreVerdicts certs budget p (map known j.verdicts.items)
-  pub shown : AreShown (conditions_of p) j.verdicts.items
+  pub conditions : map (condition_of j.conds.terms) j.conds.list.items ≡ conditions_of p
   pub formed : AreFormed (conditions_of p)
   pub count : length j.conds.list.items ≡ length (conditions_of p)
   pub told : SpellsConditions p j

@@ -1,8 +1,7 @@
 -- Which text the list of a source's conditions has, and for what there is none.
 use Rattle.std.specs.Prelude.{◌≡◌, ℕ, suc, List, [], ◌∷◌, ◌++◌, map}
 use Rattle.wy_conditions.specs.Limits.{Passing, Within, TooMany, TooLarge, passing}
-use Rattle.wy_conditions.specs.Numbered.{Node, numbered_core}
-use Rattle.wy_conditions.specs.Owed.{Owed}
+use Rattle.wy_conditions.specs.Numbered.{numbered_core}
 use Rattle.wy_conditions.specs.Programs.{conditions_of, setting_of}
 use Rattle.wy_core.specs.CoreTree.{Core}
 use Rattle.wy_core.specs.Types.{Ty}

@@ -1,18 +1,18 @@
 -- What does the command `prove` make of a source? The verdicts on its conditions, without certificates, and a file of those that it found.
-use Rattle.std.specs.Prelude.{◌≡◌, ℕ, List, [], map, Bool, true, false, Ok, Err}
+use Rattle.std.specs.Prelude.{◌≡◌, ◌⊎◌, ℕ, List, [], ◌∷◌, Bool, true, false, Ok, Err}
 use Rattle.wy_answers.specs.Answers.{refused, written}
 use Rattle.wy_answers.specs.Loading.{Loads, loaded, source_limit}
 use Rattle.wy_answers.specs.Steps.{Came, Sense, stated, due, Setting, and_then, both}
+use Rattle.wy_answers.specs.Texts.{not_certified}
 use Rattle.wy_answers.specs.declared.answer.Answer.{Answer}
+use Rattle.wy_cert.specs.Steps.{Certificates}
 use Rattle.wy_cert_text.specs.Text.{file_text}
 use Rattle.wy_top.specs.Owed.{Owes, told_by}
-use Rattle.wy_top.specs.Found.{found_from}
+use Rattle.wy_top.specs.Found.{AreFor}
 use Rattle.wy_top.specs.Refusals.{refusal_lines}
 use Rattle.wy_report.specs.Lines.{accepted}
-use Rattle.wy_top.specs.Known.{Known}
-use Rattle.wy_top.specs.Seen.{AreShown, known, some_lacks}
-use Rattle.wy_top.specs.declared.verdict.Verdict.{Verdict}
-use Rattle.wy_top.specs.Acceptance.{AreVerdicts, IsUncertified, are_closed}
+use Rattle.wy_top.specs.Known.{End, Known, found, spent, stays_open, supplied}
+use Rattle.wy_top.specs.Acceptance.{AreVerdicts, are_closed}
 use Rattle.wy_top.specs.Programs.{Program, conditions_of, count_of, owes}
 
 -- what is written behind the save, where all conditions are closed and where some aren't
@@ -26,9 +26,31 @@ pub record IsJudged (name bytes : List ℕ) (p : Program) (budget : ℕ) (a : An
   pub known : AreVerdicts [] budget p verdicts
   pub answer : a ≡ proof_answer name bytes p budget verdicts (are_closed verdicts)
 
+-- ---- no certificate
+
+abbrev pub is_found : End → Bool
+is_found supplied = false
+is_found (found leaves) = true
+is_found (stays_open leaf why literals) = false
+is_found spent = false
+
+-- the search of a condition closed all leaves
+abbrev pub Finds : List Known → Type 0
+Finds [] = ⊥
+Finds (k ∷ ks) = (is_found k.end ≡ true) ⊎ Finds ks
+
+-- the search of some condition closed all leaves, and no certificate was made of them, as was never seen
+pub record IsUncertified (p : Program) (budget : ℕ) (a : Answer) : Type 0 where
+  pub verdicts : List Known
+  pub known : AreVerdicts [] budget p verdicts
+  pub finds : Finds verdicts
+  pub answer : a ≡ refused 13 not_certified
+
+-- ---- steps
+
 abbrev pub judges : List ℕ → List ℕ → Program → ℕ → Sense → Came Answer → Type 0
 judges name bytes p budget m (Ok a) = IsJudged name bytes p budget a
-judges name bytes p budget stated (Err a) = IsUncertified p [] budget a
+judges name bytes p budget stated (Err a) = IsUncertified p budget a
 judges name bytes p budget due (Err a) = ⊥
 
 -- the order of the steps up to the save
@@ -42,11 +64,11 @@ proves_file s name budget = and_then (both (loaded s name source_limit)) (proves
 
 -- the text is a file of a valid certificate for each condition of the program that was found, and of no others
 pub record IsProofFile (p : Program) (budget : ℕ) (text : List ℕ) : Type 0 where
-  pub verdicts : List Verdict
-  pub known : AreVerdicts [] budget p (map known verdicts)
-  pub shown : AreShown (conditions_of p) verdicts
-  pub each : some_lacks verdicts ≡ false
-  pub is : text ≡ file_text (found_from 1 verdicts)
+  pub verdicts : List Known
+  pub known : AreVerdicts [] budget p verdicts
+  pub certificates : Certificates
+  pub are : AreFor 1 (conditions_of p) verdicts certificates
+  pub is : text ≡ file_text certificates
 
 -- it is one of the program of the source with these bytes
 pub record ProvesBytes (bytes : List ℕ) (budget : ℕ) (text : List ℕ) : Type 0 where

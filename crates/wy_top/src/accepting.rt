@@ -5,27 +5,26 @@ ghost use Rattle.wy_top.specs.Kept.{AreEach, HasVerdicts, IsKept, IsOfSource, Is
 ghost use Rattle.wy_top.specs.Programs.{Program};
 ghost use Rattle.wy_answers.specs.Answers.{IsRefusal};
 ghost use Rattle.wy_answers.specs.Steps.{During, Gives, Setting, came};
-ghost use Rattle.wy_answers.specs.Texts.{not_certified};
 ghost use Rattle.wy_cert.specs.Steps.{Certificates, NameTheirTerms, certificates_of};
 ghost use Rattle.wy_top.specs.Owed.{told_by};
 ghost use Rattle.wy_top.specs.Refusals as refusals;
 ghost use Rattle.wy_shown_conditions.specs.ReadSorted.{AreSortedCertificates};
 ghost use Rattle.wy_top.specs.Seen.{known};
 
-use crate::counting::{are_certified, some_lack_certificates};
+use crate::counting::are_closed;
 use crate::invalid::invalid_lines;
 use crate::judging::{Judged, judge_all};
 use crate::owing::{Owed, owed_by};
 use crate::refusing::refusal_lines;
 use std::alloc::Global;
-use wy_answers::{Answer, SOURCE_LIMIT, load, no_memory, refusal};
+use wy_answers::{Answer, SOURCE_LIMIT, load, no_memory};
 use wy_cert::Certs;
 use wy_data::Bytes;
 use wy_port::Files;
 use wy_supplied::certificates;
 use wy_typing::Typed;
 
-/// A program of which each condition has a valid certificate.
+/// A program for each condition of which a valid certificate was supplied, or the search closed all leaves.
 #[derive(Drop)]
 pub struct Accepted {
     pub typed: Typed,
@@ -35,18 +34,7 @@ pub struct Accepted {
     pub lines: Bytes,
 }
 
-/// The answer where a search closed all leaves of a condition, and no certificate was made of them.
-pub fn uncertified(alloc: Global) -> Answer
-    ensures value { IsRefusal 13 not_certified result }
-{
-    refusal(
-        alloc,
-        13,
-        String::from_str(alloc, "wy: found and not certified\n"),
-    )
-}
-
-// The answer where some condition has no valid certificate: these lines, and then those for the conditions.
+// The answer where some condition is open, or its budget is spent: these lines, and then those for the conditions.
 fn unproved(
     alloc: Global,
     name: &str,
@@ -80,7 +68,7 @@ fn unproved(
     }
 }
 
-// The program, where all its conditions have certificates, or the answer of why it isn't accepted.
+// The program, where all its conditions are closed, or the answer of why it isn't accepted.
 fn accept(
     alloc: Global,
     name: &str,
@@ -93,14 +81,11 @@ fn accept(
     ensures gives { (s : Setting) → (p : Program) → (certs : Certificates) → AreSortedCertificates certs → HasVerdicts p certs budget judged → Gives s (spec.accepts name.now cert.now bytes.now p certs budget) (came acceptance_in result) }
     ensures whole { (certs : Certificates) → HasVerdicts (judged_program judged) certs budget judged → IsOfSource (judged_program judged) → IfOk result IsWhole }
 {
-    if some_lack_certificates(&judged.verdicts) {
-        return Err(uncertified(alloc));
-    }
     let lines = match invalid_lines(alloc, cert, &judged.verdicts) {
         Ok(lines) => lines,
         Err(_) => return Err(no_memory(alloc)),
     };
-    if !are_certified(&judged.verdicts) {
+    if !are_closed(&judged.verdicts) {
         return Err(unproved(alloc, name, bytes, budget, lines, &judged));
     }
     let count = judged.conds.list.len() as u32;
@@ -159,8 +144,8 @@ fn accept_with<F: Files>(
     }
 }
 
-/// The program of the source with these bytes, where each of its conditions has a valid certificate: one of the file `cert`,
-/// or else one that is found with `budget` leaves. Or the answer of why it isn't accepted.
+/// The program of the source with these bytes, where for each of its conditions the file `cert` has a valid certificate, or else
+/// its search closes all leaves, of which there are at most `budget`. Or the answer of why it isn't accepted.
 pub fn accept_source<F: Files>(
     alloc: Global,
     name: &str,

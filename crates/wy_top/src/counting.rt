@@ -1,5 +1,6 @@
 //! Counts of verdicts.
 ghost use Rattle.std.specs.Prelude.{◌≡◌, ◌<◌, ◌≤◌, ◌^◌, length, map};
+ghost use Rattle.wy_top.specs.Acceptance as acceptance;
 ghost use Rattle.wy_top.specs.Known as plain;
 ghost use Rattle.wy_top.specs.Seen as seen;
 
@@ -35,28 +36,15 @@ pub fn spent(verdicts: &[Verdict]) -> u32
     count
 }
 
-/// Whether each condition has a valid certificate, supplied or found.
-#[tactic(auto, using(crate::proofs::CountLemmas::certified_steps))]
-pub fn are_certified(verdicts: &[Verdict]) -> bool
-    ensures value { result ≡ seen.are_certified verdicts.now }
+/// Whether for each condition a valid certificate was supplied, or its search closed all leaves.
+#[tactic(auto, using(crate::proofs::CountLemmas::closed_steps))]
+pub fn are_closed(verdicts: &[Verdict]) -> bool
+    ensures value { result ≡ acceptance.are_closed (map seen.known verdicts.now) }
 {
     for verdict in verdicts {
-        if !verdict.end.is_certified() {
+        if !verdict.end.is_closed() {
             return false;
         }
     }
     true
-}
-
-/// Whether the search of a condition closed all leaves, and no certificate came of it.
-#[tactic(auto, using(crate::proofs::CountLemmas::lacking_steps))]
-pub fn some_lack_certificates(verdicts: &[Verdict]) -> bool
-    ensures value { result ≡ seen.some_lacks verdicts.now }
-{
-    for verdict in verdicts {
-        if verdict.end.lacks_certificate() {
-            return true;
-        }
-    }
-    false
 }

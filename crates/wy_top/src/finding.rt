@@ -3,23 +3,22 @@ ghost use Rattle.std.specs.Prelude.{◌≡◌, ◌<◌, ℕ, All, length, map, I
 ghost use Rattle.wy_checking.specs.Verdicts.{certificate_for, verdict_on, verdicts_on};
 ghost use Rattle.wy_checking.specs.Within.{IsWithin};
 ghost use Rattle.wy_cert.specs.Steps.{Certificates, certificates_of, NameTheirTerms};
-ghost use Rattle.wy_search.specs.Tree as tree;
 ghost use Rattle.wy_term.specs.Condition.{condition_of};
 ghost use Rattle.wy_term.specs.Nodes.{tree_at};
 ghost use Rattle.wy_top.specs.Judged.{AreJudged, EndsIn, IsJudged};
 ghost use Rattle.wy_top.specs.Known.{AreKnown};
-ghost use Rattle.wy_top.specs.Seen.{known, AreShown, NameTerms};
+ghost use Rattle.wy_top.specs.Seen.{known, NameTerms};
 
 use crate::verdict::{End, Verdict};
 use std::alloc::Global;
 use wy_cert::Certs;
-use wy_certifying::{Verdict as Searched, certified, search};
+use wy_certifying::{Verdict as Searched, search};
 use wy_checking::{Verdict as Given, verdicts};
 use wy_term::{Cond, NoMemory, Terms};
 
 /// What is known of each condition, in order, where these certificates are supplied, each for the condition with its number, from 1:
 /// the first bad step of the first certificate for it, if that isn't valid; and, unless it is valid, what its search at this budget of
-/// leaves ends in, with a valid certificate where all leaves are closed. The terms are as before afterwards, at want of memory too.
+/// leaves ends in. The terms are as before afterwards, at want of memory too.
 /// It takes what checking the certificates and searching the conditions take.
 pub fn judge(
     alloc: Global,
@@ -31,7 +30,6 @@ pub fn judge(
     requires conds { All (IsWithin (length terms.old)) conds.now }
     requires certs { NameTheirTerms certs.now }
     ensures known { IfOk result (λ vs. AreKnown (certificates_of certs.now) budget 1 (map (condition_of terms.old) conds.now) (map known vs.items)) }
-    ensures shown { IfOk result (λ vs. AreShown (map (condition_of terms.old) conds.now) vs.items) }
     ensures named { IfOk result (λ vs. NameTerms vs.items) }
     ensures count { IfOk result (λ vs. length vs.items ≡ length conds.now) }
     ensures length { length terms.new ≡ length terms.old }
@@ -125,22 +123,8 @@ fn searched(terms: &mut Terms, cond: &Cond, budget: u64) -> Result<End, NoMemory
 {
     let verdict = search(terms, cond, budget)?;
     match verdict {
-        Searched::Found(leaves) => found(terms, cond, budget, leaves),
+        Searched::Found(leaves) => Ok(End::Found { leaves }),
         Searched::Open(leaf) => Ok(End::Open(leaf)),
         Searched::Spent => Ok(End::Spent),
-    }
-}
-
-// The end, where the search closed all leaves.
-fn found(terms: &mut Terms, cond: &Cond, budget: u64, leaves: u64) -> Result<End, NoMemory>
-    requires cond { IsWithin (length terms.old) cond.now }
-    ensures value { tree.IsVerdict (condition_of terms.old cond.now) budget (tree.found leaves) → IfOk result (EndsIn (condition_of terms.old cond.now) budget) }
-    ensures length { length terms.new ≡ length terms.old }
-    ensures kept { (t : ℕ) → t < length terms.old → tree_at terms.new t ≡ tree_at terms.old t }
-{
-    let made = certified(terms, cond, budget)?;
-    match made {
-        Some(cert) => Ok(End::Found { cert, leaves }),
-        None => Ok(End::Uncertified { leaves }),
     }
 }

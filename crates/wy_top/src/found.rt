@@ -1,48 +1,93 @@
-//! The certificates that were found.
-ghost use Rattle.std.specs.Prelude.{◌≡◌, ◌<◌, ◌≤◌, ◌^◌, ◌++◌, ◌∷◌, [], length, map, IfOk, OnOk};
-ghost use Rattle.wy_cert.specs.Steps.{certificates_of, NamesItsTerms, NameTheirTerms, steps_of};
+//! Certificates for the conditions that were found.
+ghost use Rattle.std.specs.Prelude.{◌≡◌, ◌<◌, ◌^◌, ℕ, All, None, true, length, map, IfOk, IfSome};
+ghost use Rattle.wy_cert.specs.Steps.{certificates_of, NameTheirTerms};
+ghost use Rattle.wy_checking.specs.Within.{IsWithin};
+ghost use Rattle.wy_term.specs.Condition.{condition_of};
+ghost use Rattle.wy_term.specs.Nodes.{tree_at};
 ghost use Rattle.wy_top.specs.Found as spec;
-ghost use Rattle.wy_top.specs.Seen.{NamesTerms, NameTerms};
+ghost use Rattle.wy_top.specs.Proofs.{Finds, is_found};
+ghost use Rattle.wy_top.specs.Seen.{known, seen_end};
 
 use crate::verdict::{End, Verdict};
 use std::alloc::Global;
 use wy_cert::Certs;
-use wy_term::NoMemory;
+use wy_certifying::certified;
+use wy_term::{Cond, NoMemory, Terms};
 
-/// The certificates that were found, each with the number of its condition, from 1, in order. In time linear in the conditions.
-pub fn found_certificates(alloc: Global, verdicts: Vec<Verdict>) -> Result<Certs, NoMemory>
-    requires few { length verdicts.items < 2 ^ 32 }
-    requires named { NameTerms verdicts.items }
-    ensures value { IfOk result (λ certs. certificates_of certs ≡ spec.found_from 1 verdicts.items) }
-    ensures named { IfOk result NameTheirTerms }
+/// A valid certificate for each condition whose search closed all leaves, with its number, from 1, in order; none where one of them gets
+/// none, as was never seen. The search goes its way again, with this budget of leaves, and notes what shows each node.
+pub fn found_certificates(
+    alloc: Global,
+    terms: &mut Terms,
+    conds: &[Cond],
+    verdicts: &[Verdict],
+    budget: u64,
+) -> Result<Option<Certs>, NoMemory>
+    requires few { length conds.now < 2 ^ 32 }
+    requires each { length verdicts.now ≡ length conds.now }
+    requires within { All (IsWithin (length terms.old)) conds.now }
+    ensures certificates { IfOk result (λ o. IfSome o (λ certs. spec.AreFor 1 (map (condition_of terms.old) conds.now) (map known verdicts.now) (certificates_of certs))) }
+    ensures named { IfOk result (λ o. IfSome o NameTheirTerms) }
+    ensures lacking { IfOk result (λ o. o ≡ None → Finds (map known verdicts.now)) }
 {
-    let mut left = verdicts;
     let mut certs = Certs {
         list: Vec::new(alloc),
     };
-    while let Some(verdict) = left.pop() {
-        let number = left.len() as u32 + 1;
-        let Verdict { end, .. } = verdict;
-        certs = with_found(certs, number, end)?;
+    for i in 0..conds.len() {
+        let number = i as u32 + 1;
+        match with_found(certs, terms, number, &conds[i], &verdicts[i].end, budget)? {
+            Some(more) => certs = more,
+            None => return Ok(None),
+        }
     }
-    let Certs { mut list } = certs;
-    list.reverse();
-    Ok(Certs { list })
+    Ok(Some(certs))
 }
 
-// The certificates, and behind them the one in which it ends, if it does.
-fn with_found(certs: Certs, number: u32, end: End) -> Result<Certs, NoMemory>
+// The certificates, and behind them one for the condition with this number, if it was found; none where it gets none.
+fn with_found(
+    certs: Certs,
+    terms: &mut Terms,
+    number: u32,
+    cond: &Cond,
+    end: &End,
+    budget: u64,
+) -> Result<Option<Certs>, NoMemory>
     requires certs { NameTheirTerms certs }
-    requires end { NamesTerms end }
-    ensures value { IfOk result (λ more. certificates_of more ≡ certificates_of certs ++ spec.certificate_in number end) }
-    ensures named { IfOk result NameTheirTerms }
+    requires cond { IsWithin (length terms.old) cond.now }
+    ensures value { IfOk result (λ o. IfSome o (λ more. spec.IsMore number (condition_of terms.old cond.now) (seen_end end.now) (certificates_of certs) (certificates_of more))) }
+    ensures named { IfOk result (λ o. IfSome o NameTheirTerms) }
+    ensures lacking { IfOk result (λ o. o ≡ None → is_found (seen_end end.now) ≡ true) }
+    ensures length { length terms.new ≡ length terms.old }
+    ensures kept { (t : ℕ) → t < length terms.old → tree_at terms.new t ≡ tree_at terms.old t }
 {
     match end {
-        End::Found { cert, leaves: _ } => {
+        End::Supplied | End::Open(_) | End::Spent => Ok(Some(certs)),
+        End::Found { .. } => with_certified(certs, terms, number, cond, budget),
+    }
+}
+
+// The certificates, and behind them one for the condition with this number; none where it gets none.
+fn with_certified(
+    certs: Certs,
+    terms: &mut Terms,
+    number: u32,
+    cond: &Cond,
+    budget: u64,
+) -> Result<Option<Certs>, NoMemory>
+    requires certs { NameTheirTerms certs }
+    requires cond { IsWithin (length terms.old) cond.now }
+    ensures value { IfOk result (λ o. IfSome o (λ more. spec.IsOneMore number (condition_of terms.old cond.now) (certificates_of certs) (certificates_of more))) }
+    ensures named { IfOk result (λ o. IfSome o NameTheirTerms) }
+    ensures length { length terms.new ≡ length terms.old }
+    ensures kept { (t : ℕ) → t < length terms.old → tree_at terms.new t ≡ tree_at terms.old t }
+{
+    let made = certified(terms, cond, budget)?;
+    match made {
+        Some(cert) => {
             let mut certs = certs;
             certs.list.push((number, cert))?;
-            Ok(certs)
+            Ok(Some(certs))
         }
-        End::Supplied | End::Open(_) | End::Spent | End::Uncertified { .. } => Ok(certs),
+        None => Ok(None),
     }
 }

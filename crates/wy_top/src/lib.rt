@@ -5,7 +5,7 @@
 //!
 //! What is known of each condition: `verdict` has it, `finding` finds it, by a valid certificate that was supplied or else by a
 //! search, and `counting` counts. `invalid` has the lines for certificates that were supplied and aren't valid, `refusing` those
-//! for conditions that are open or whose budget is spent, with the sum, and `found` the certificates that were found.
+//! for conditions that are open or whose budget is spent, with the sum, and `found` makes certificates for those that were found.
 //!
 //! From the file of a source to its acceptance: `owing` reads the typed program and what it owes. `judging` has the verdicts on
 //! that, `accepting` what they mean for the commands that ask for certificates, `checking` the command `check`, and `proving`
@@ -18,7 +18,7 @@
 //! of it, is said in `specs/Statement`.
 //!
 //! `command_laws` says that it comes exactly where it is due, `verdict_laws` that there is one answer, and that where each
-//! condition has a valid certificate, all of them are true, `certificate_laws` what the certificates are that were found, and
+//! condition is closed, all of them are true, `certificate_laws` what the certificates are that were found, and
 //! `code_laws` that the code of a source's program is such as a machine takes.
 #![tactic(auto)]
 
@@ -52,4 +52,4 @@ pub use certificate_laws::found_certificates_are_valid;
 pub use code_laws::the_code_of_a_source_is_loadable;
 pub use command_laws::commands_are_exact;
 pub use commands::run_words;
-pub use verdict_laws::{certified_conditions_hold, one_list};
+pub use verdict_laws::{closed_conditions_hold, one_list};

@@ -1,22 +1,24 @@
 //! What the command `prove` makes of a source.
-ghost use Rattle.std.specs.Prelude.{◌≡◌, ◌≤◌, ◌<◌, ◌^◌, [], ℕ, List, length, map, IfOk};
+ghost use Rattle.std.specs.Prelude.{◌≡◌, ◌≤◌, ◌<◌, ◌^◌, [], ℕ, List, length, map, IfOk, IfErr};
+ghost use Rattle.wy_answers.specs.Answers as answers;
+ghost use Rattle.wy_answers.specs.Answers.{IsRefusal};
+ghost use Rattle.wy_answers.specs.Texts.{not_certified};
+ghost use Rattle.wy_cert.specs.Steps.{NameTheirTerms, certificates_of};
 ghost use Rattle.wy_top.specs.Kept.{AreEach, HasVerdicts, IsKept, answer_in, program_in};
 ghost use Rattle.wy_top.specs.Programs.{Program};
 ghost use Rattle.wy_top.specs.Proofs as spec;
 ghost use Rattle.wy_answers.specs.Steps.{During, Gives, Setting, came};
 ghost use Rattle.wy_cert_text.specs.Text.{file_text};
-ghost use Rattle.wy_top.specs.Found.{found_from};
-ghost use Rattle.wy_top.specs.Seen.{NameTerms, are_certified as are_certified_in, known};
+ghost use Rattle.wy_top.specs.Acceptance.{are_closed as are_closed_in};
+ghost use Rattle.wy_top.specs.Seen.{known};
 
-use crate::accepting::uncertified;
-use crate::counting::{are_certified, some_lack_certificates};
+use crate::counting::are_closed;
 use crate::found::found_certificates;
 use crate::judging::{Judged, judge_all};
 use crate::owing::{Owed, owed_by};
 use crate::refusing::refusal_lines;
-use crate::verdict::Verdict;
 use std::alloc::Global;
-use wy_answers::{Answer, SOURCE_LIMIT, load, no_memory};
+use wy_answers::{Answer, SOURCE_LIMIT, load, no_memory, refusal};
 use wy_cert::Certs;
 use wy_cert_text::write_certs;
 use wy_data::Bytes;
@@ -31,6 +33,17 @@ pub struct Proof {
     pub answer: Answer,
 }
 
+// The answer where a search closed all leaves of a condition, and no certificate was made of them.
+fn uncertified(alloc: Global) -> Answer
+    ensures value { IsRefusal 13 not_certified result }
+{
+    refusal(
+        alloc,
+        13,
+        String::from_str(alloc, "wy: found and not certified\n"),
+    )
+}
+
 // What is answered behind the save.
 fn answer_of(
     alloc: Global,
@@ -40,9 +53,9 @@ fn answer_of(
     judged: &Judged,
 ) -> Result<Answer, NoMemory>
     requires each { AreEach judged.now }
-    ensures value { (p : Program) → HasVerdicts p [] budget judged.now → IfOk result (λ a. a ≡ spec.proof_answer name.now bytes.now p budget (map known judged.now.verdicts.items) (are_certified_in judged.now.verdicts.items)) }
+    ensures value { (p : Program) → HasVerdicts p [] budget judged.now → IfOk result (λ a. a ≡ spec.proof_answer name.now bytes.now p budget (map known judged.now.verdicts.items) (are_closed_in (map known judged.now.verdicts.items))) }
 {
-    if are_certified(&judged.verdicts) {
+    if are_closed(&judged.verdicts) {
         let line = accepted_line(alloc, judged.conds.list.len() as u32)?;
         return Ok(Answer {
             status: 0,
@@ -65,15 +78,19 @@ fn answer_of(
     })
 }
 
-// The file of the certificates that were found.
-fn file_of(alloc: Global, verdicts: Vec<Verdict>) -> Result<Bytes, NoMemory>
-    requires few { length verdicts.items < 2 ^ 32 }
-    requires named { NameTerms verdicts.items }
-    ensures value { IfOk result (λ b. b ≡ file_text (found_from 1 verdicts.items)) }
+// The file of these certificates, with the answer.
+fn saved_with(alloc: Global, certs: &Certs, answer: Answer) -> Result<Proof, Answer>
+    requires named { NameTheirTerms certs.now }
+    ensures value { IfOk result (λ f. (f.saved ≡ file_text (certificates_of certs.now)) × (f.answer ≡ answer)) }
+    ensures memory { IfErr result (λ a. a ≡ answers.no_memory) }
 {
-    let certs = found_certificates(alloc, verdicts)?;
-    let text = write_certs(alloc, &certs)?;
-    Ok(Bytes::new(text))
+    match write_certs(alloc, certs) {
+        Ok(text) => Ok(Proof {
+            saved: Bytes::new(text),
+            answer,
+        }),
+        Err(_) => Err(no_memory(alloc)),
+    }
 }
 
 // The file and the answer.
@@ -88,16 +105,18 @@ fn made(
     ensures gives { (s : Setting) → (p : Program) → HasVerdicts p [] budget judged → Gives s (spec.judges name.now bytes.now p budget) (came answer_in result) }
     ensures file { (p : Program) → HasVerdicts p [] budget judged → IfOk result (λ f. spec.IsProofFile p budget f.saved) }
 {
-    if some_lack_certificates(&judged.verdicts) {
-        return Err(uncertified(alloc));
-    }
     let answer = match answer_of(alloc, name, bytes, budget, &judged) {
         Ok(answer) => answer,
         Err(_) => return Err(no_memory(alloc)),
     };
-    let Judged { verdicts, .. } = judged;
-    match file_of(alloc, verdicts) {
-        Ok(saved) => Ok(Proof { saved, answer }),
+    let Judged {
+        mut conds,
+        verdicts,
+        ..
+    } = judged;
+    match found_certificates(alloc, &mut conds.terms, &conds.list, &verdicts, budget) {
+        Ok(Some(certs)) => saved_with(alloc, &certs, answer),
+        Ok(None) => Err(uncertified(alloc)),
         Err(_) => Err(no_memory(alloc)),
     }
 }

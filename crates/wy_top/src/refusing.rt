@@ -98,7 +98,7 @@ fn put_end(
     ensures value { (bytes : List ℕ) → AreLines bytes lines.now → OnOk result (text.new.items ≡ text.old.items ++ spec.end_lines file.now bytes budget number (seen_cond [] cond.now) (seen_end end.now)) }
 {
     match end {
-        End::Supplied | End::Found { .. } | End::Uncertified { .. } => Ok(()),
+        End::Supplied | End::Found { .. } => Ok(()),
         End::Open(leaf) => put_open(alloc, text, file, lines, number, cond, leaf),
         End::Spent => put_spent(alloc, text, file, lines, budget, number, cond),
     }

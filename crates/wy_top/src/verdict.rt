@@ -1,9 +1,9 @@
 //! What is known of a condition.
 ghost use Rattle.std.specs.Prelude.{◌≡◌};
+ghost use Rattle.wy_top.specs.Acceptance as acceptance;
 ghost use Rattle.wy_top.specs.Known as known;
 ghost use Rattle.wy_top.specs.Seen as seen;
 
-use wy_cert::Cert;
 use wy_certifying::OpenLeaf;
 
 /// How it ends with a condition.
@@ -11,14 +11,12 @@ use wy_certifying::OpenLeaf;
 pub enum End {
     /// The certificate that was supplied for it is valid.
     Supplied,
-    /// Its search closed so many leaves, and this certificate, which was made of them, is valid.
-    Found { cert: Cert, leaves: u64 },
+    /// Its search closed so many leaves, which are all that there are.
+    Found { leaves: u64 },
     /// Its search leaves this leaf open.
     Open(OpenLeaf),
     /// Its search has more leaves than the budget allows, and none of the first so many is open.
     Spent,
-    /// Its search closed so many leaves, and no valid certificate was made of them.
-    Uncertified { leaves: u64 },
 }
 
 /// What is known of a condition.
@@ -37,7 +35,7 @@ impl End {
     {
         match self {
             End::Open(_) => true,
-            End::Supplied | End::Found { .. } | End::Spent | End::Uncertified { .. } => false,
+            End::Supplied | End::Found { .. } | End::Spent => false,
         }
     }
 
@@ -47,27 +45,17 @@ impl End {
     {
         match self {
             End::Spent => true,
-            End::Supplied | End::Found { .. } | End::Open(_) | End::Uncertified { .. } => false,
+            End::Supplied | End::Found { .. } | End::Open(_) => false,
         }
     }
 
-    /// Whether there is a valid certificate, supplied or found.
-    pub fn is_certified(&self) -> bool
-        ensures value { result ≡ seen.is_certified self.now }
+    /// Whether a valid certificate was supplied, or the search closed all leaves.
+    pub fn is_closed(&self) -> bool
+        ensures value { result ≡ acceptance.is_closed (seen.seen_end self.now) }
     {
         match self {
             End::Supplied | End::Found { .. } => true,
-            End::Open(_) | End::Spent | End::Uncertified { .. } => false,
-        }
-    }
-
-    /// Whether the search closed all leaves, and no certificate came of it.
-    pub fn lacks_certificate(&self) -> bool
-        ensures value { result ≡ seen.lacks_certificate self.now }
-    {
-        match self {
-            End::Uncertified { .. } => true,
-            End::Supplied | End::Found { .. } | End::Open(_) | End::Spent => false,
+            End::Open(_) | End::Spent => false,
         }
     }
 }

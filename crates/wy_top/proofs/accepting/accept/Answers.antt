@@ -3,39 +3,31 @@ use Rattle.wy_answers.specs.Answers.{IsRefusal}
 use Rattle.wy_answers.proofs.StepLemmas.{memory_gives}
 use Rattle.wy_top.specs.Owed.{told_by}
 use Rattle.wy_top.specs.Refusals.{invalid_lines, refusal_lines}
-use Rattle.wy_top.specs.Seen.{are_certified, known, some_lacks}
-use Rattle.wy_top.specs.Acceptance.{accepts}
+use Rattle.wy_top.specs.Seen.{known}
+use Rattle.wy_top.specs.Acceptance.{accepts, are_closed}
 use Rattle.wy_top.specs.Kept.{judged_program}
-use Rattle.wy_top.proofs.AcceptLemmas.{accepted_gives, uncertified_gives, unproved_gives}
+use Rattle.wy_top.proofs.AcceptLemmas.{accepted_gives, unproved_gives}
 use Rattle.wy_top.proofs.accepting.accept.Goals as goal
-
-pub returns-then-some_lack_certificates-clause-gives : goal.returns-then-some_lack_certificates-clause-gives
-returns-then-some_lack_certificates-clause-gives c = λ s p certs sorted h.
-    let vs = c.args.judged.verdicts.items in
-    let some : some_lacks vs ≡ true = search rules in
-    uncertified_gives s c.args.name.now c.args.cert.now c.args.bytes.now p certs c.args.budget c.uncertified.result vs h.known some c.uncertified.ensures.value
 
 pub returns-in-Err-clause-gives : goal.returns-in-Err-clause-gives
 returns-in-Err-clause-gives c = λ s p certs sorted h.
     memory_gives s (accepts c.args.name.now c.args.cert.now c.args.bytes.now p certs c.args.budget) c.no_memory.result c.no_memory.ensures.value
 
-pub returns-then-not-are_certified-clause-gives : goal.returns-then-not-are_certified-clause-gives
-returns-then-not-are_certified-clause-gives c = λ s p certs sorted h.
+pub returns-then-not-are_closed-clause-gives : goal.returns-then-not-are_closed-clause-gives
+returns-then-not-are_closed-clause-gives c = λ s p certs sorted h.
     let vs = c.args.judged.verdicts.items in
-    let none : some_lacks vs ≡ false = search rules in
-    let not_all : are_certified vs ≡ false = search rules in
+    let some : are_closed (map known vs) ≡ false = search rules in
     let lines : c.in-Ok.lines.items ≡ invalid_lines c.args.cert.now (map known vs) = search rules in
-    unproved_gives s c.args.name.now c.args.cert.now c.args.bytes.now p certs c.args.budget c.unproved.result vs h.known none not_all
+    unproved_gives s c.args.name.now c.args.cert.now c.args.bytes.now p certs c.args.budget c.unproved.result vs h.known some
     (subst (λ (l : List ℕ). IsRefusal 1 (l ++ refusal_lines c.args.name.now c.args.bytes.now c.args.budget (told_by p.core p.flow) (map known vs)) c.unproved.result) lines (c.unproved.ensures.value p certs h))
 
 pub returns-clause-gives : goal.returns-clause-gives
 returns-clause-gives c = λ s p certs sorted h.
     let vs = c.args.judged.verdicts.items in
-    let none : some_lacks vs ≡ false = search rules in
-    let all : are_certified vs ≡ true = search rules in
+    let closed : are_closed (map known vs) ≡ true = search rules in
     let lines : c.in-Ok.lines.items ≡ invalid_lines c.args.cert.now (map known vs) = search rules in
     rw c.new.ensures.value
-    (accepted_gives s c.args.name.now c.args.cert.now c.args.bytes.now p certs c.args.budget (record { program = judged_program c.args.judged; lines = c.in-Ok.lines.items }) vs sorted h.formed h.known h.shown none all h.program lines)
+    (accepted_gives s c.args.name.now c.args.cert.now c.args.bytes.now p certs c.args.budget (record { program = judged_program c.args.judged; lines = c.in-Ok.lines.items }) vs sorted h.formed h.known closed h.program lines)
 
 pub returns-clause-whole : goal.returns-clause-whole
 returns-clause-whole c = λ certs h source.

@@ -1,4 +1,4 @@
-use Rattle.std.proofs.Common.{◌≡◌, ◌<◌, ◌∙◌, ℕ, length, map, rules, arith}
+use Rattle.std.proofs.Common.{◌<◌, ◌∙◌, length, map, rules, arith}
 use Rattle.wy_cert.specs.Steps.{certificates_of}
 use Rattle.wy_term.specs.Condition.{condition_of}
 use Rattle.wy_top.proofs.JudgedLemmas.{judged_none, judged_turn, judged_whole, same_within, within_at}

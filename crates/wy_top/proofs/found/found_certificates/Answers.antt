@@ -1,21 +1,33 @@
-use Rattle.std.proofs.Common.{◌≡◌, ◌+◌, length, arith}
-use Rattle.wy_top.proofs.FoundLemmas.{few_left, left_less, left_none, named_last, none_left}
+use Rattle.std.proofs.Common.{◌≡◌, ◌<◌, ◌∙◌, ◌+◌, length, true, rules, refl, sym, subst, arith}
+use Rattle.wy_cert.specs.Steps.{certificates_of}
+use Rattle.wy_term.specs.Condition.{condition_of}
+use Rattle.wy_top.specs.Found.{IsMore}
+use Rattle.wy_top.specs.Proofs.{is_found}
+use Rattle.wy_top.specs.Seen.{seen_end}
+use Rattle.wy_top.specs.declared.verdict.Verdict.{Verdict}
+use Rattle.wy_top.proofs.FoundLemmas.{are_named, finds_at, found_turn, is_more}
+use Rattle.wy_top.proofs.JudgedLemmas.{same_condition, within_at}
 use Rattle.wy_top.proofs.found.found_certificates.Goals as goal
 
-pub with_found-requires-clause-end : goal.with_found-requires-clause-end
-with_found-requires-clause-end c = (named_last c.loop-verdict.left.items c.pop.new.self.items c.in-Some.verdict c.in-Some.ensures.items c.loop-verdict.invariant.named).1
+pub returns-in-None-clause-lacking : goal.returns-in-None-clause-lacking
+returns-in-None-clause-lacking c = λ none.
+    let lt : c.loop-i.i < length c.args.conds.now = search rules in
+    finds_at c.args.verdicts.now c.loop-i.i c.index-verdicts-i.result (omega (arith, lt, c.requires.each)) c.index-verdicts-i.is
+    (subst (λ (v : Verdict). is_found (seen_end v.end) ≡ true) (sym c.index-verdicts-i.is) (c.in_ok-more.ensures.lacking c.in-None.is))
 
-pub loop-verdict-preserved : goal.loop-verdict-preserved
-loop-verdict-preserved c =
-    let number : c.len.result + 1 ≡ length c.pop.new.self.items + 1 = omega (arith, c.len.ensures, c.pop.new.self.ok.0) in
+pub loop-i-preserved : goal.loop-i-preserved
+loop-i-preserved c =
+    let lt : c.loop-i.i < length c.args.conds.now = search rules in
+    let old = c.args.terms.now in
+    let now = c.loop-i.terms in
+    let cond = c.index-conds-i.result in
+    let same = same_condition old now cond c.loop-i.invariant.same c.loop-i.invariant.kept (within_at (length old) c.args.conds.now c.loop-i.i cond c.requires.within lt c.index-conds-i.is) in
     record {
-      few = few_left c.loop-verdict.left.items c.pop.new.self.items c.args.verdicts.items c.in-Some.verdict c.in-Some.ensures.items c.loop-verdict.invariant.few;
-      left = left_less c.loop-verdict.left.items c.pop.new.self.items c.args.verdicts.items c.in-Some.verdict c.loop-verdict.certs.list.items c.in_ok-certs.certs.list.items (c.len.result + 1) c.in-Some.ensures.items number c.in_ok-certs.ensures.value c.loop-verdict.invariant.left;
-      named = (named_last c.loop-verdict.left.items c.pop.new.self.items c.in-Some.verdict c.in-Some.ensures.items c.loop-verdict.invariant.named).0;
-      theirs = c.in_ok-certs.ensures.named;
+      so_far = found_turn (condition_of old) c.args.conds.now c.args.verdicts.now c.loop-i.i (c.loop-i.i + 1) cond (condition_of now cond) c.index-verdicts-i.result (certificates_of c.loop-i.certs) (certificates_of c.in-Some.more)
+          c.requires.each lt c.index-conds-i.is c.index-verdicts-i.is refl same c.loop-i.invariant.so_far
+          (subst (λ (v : Verdict). IsMore (c.loop-i.i + 1) (condition_of now cond) (seen_end v.end) (certificates_of c.loop-i.certs) (certificates_of c.in-Some.more)) (sym c.index-verdicts-i.is)
+          (is_more (c.loop-i.i + 1) (condition_of now cond) _ (certificates_of c.loop-i.certs) c.in_ok-more.field-0 c.in-Some.more c.in-Some.is c.in_ok-more.ensures.value));
+      named = are_named c.in_ok-more.field-0 c.in-Some.more c.in-Some.is c.in_ok-more.ensures.named;
+      same = c.in_ok-more.ensures.length ∙ c.loop-i.invariant.same;
+      kept = λ t lt. c.in_ok-more.ensures.kept t (omega (arith, lt, c.loop-i.invariant.same)) ∙ c.loop-i.invariant.kept t lt;
     }
-
-pub returns-clause-value : goal.returns-clause-value
-returns-clause-value c =
-    let none : length c.loop-verdict.left.items ≡ 0 = omega (arith, c.in_default.ensures.cases, c.loop-verdict.left.ok.0) in
-    left_none c.loop-verdict.left.items c.args.verdicts.items c.loop-verdict.certs.list.items c.reverse.new.self.items (none_left c.loop-verdict.left.items none) c.reverse.ensures.items c.loop-verdict.invariant.left

@@ -1,17 +1,16 @@
-use Rattle.std.proofs.Common.{◌≤◌, length}
-use Rattle.wy_cert.specs.Steps.{NameTheirTerms}
-use Rattle.wy_top.specs.Seen.{NameTerms}
-use Rattle.wy_top.proofs.FoundLemmas.{IsLeft}
+use Rattle.std.proofs.Common.{◌≡◌, ◌<◌, ℕ, length, map, take}
+use Rattle.wy_cert.specs.Steps.{NameTheirTerms, certificates_of}
+use Rattle.wy_term.specs.Condition.{condition_of}
+use Rattle.wy_term.specs.Nodes.{tree_at}
+use Rattle.wy_top.specs.Found.{AreFor}
+use Rattle.wy_top.specs.Seen.{known}
 use Rattle.wy_top.proofs.found.found_certificates.Given as goal
 
--- those that are left, and the certificates of those behind them
-abbrev pub invariant-loop-verdict : goal.invariant-loop-verdict
-invariant-loop-verdict l = record {
-  few : length l.left.items ≤ length l.fn.verdicts.items;
-  left : IsLeft l.left.items l.certs.list.items l.fn.verdicts.items;
-  named : NameTerms l.left.items;
-  theirs : NameTheirTerms l.certs;
+-- those for the conditions so far; the terms are as before
+abbrev pub invariant-loop-i : goal.invariant-loop-i
+invariant-loop-i l = record {
+  so_far : AreFor 1 (take l.i (map (condition_of l.fn.terms) l.conds)) (take l.i (map known l.verdicts)) (certificates_of l.certs);
+  named : NameTheirTerms l.certs;
+  same : length l.terms ≡ length l.fn.terms;
+  kept : (t : ℕ) → t < length l.fn.terms → tree_at l.terms t ≡ tree_at l.fn.terms t;
 }
-
-abbrev pub decreases-loop-verdict : goal.decreases-loop-verdict
-decreases-loop-verdict l = length l.left.items

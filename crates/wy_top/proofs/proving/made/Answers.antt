@@ -1,30 +1,30 @@
-use Rattle.std.proofs.Common.{◌≡◌, true, false, rules}
+use Rattle.std.proofs.Common.{List, map, subst}
 use Rattle.wy_answers.proofs.StepLemmas.{memory_gives}
-use Rattle.wy_top.specs.Seen.{some_lacks}
-use Rattle.wy_top.specs.Proofs.{judges}
-use Rattle.wy_top.proofs.ProofLemmas.{judged_gives, unmade_gives}
+use Rattle.wy_cert.specs.Steps.{certificates_of}
+use Rattle.wy_cert_text.specs.Text.{file_text}
+use Rattle.wy_top.specs.Proofs.{Finds, judges}
+use Rattle.wy_top.specs.Seen.{known}
+use Rattle.wy_top.specs.declared.verdict.Verdict.{Verdict}
+use Rattle.wy_top.proofs.ProofLemmas.{found_for, saved_file, saved_gives, unmade_gives}
 use Rattle.wy_top.proofs.proving.made.Goals as goal
-
-pub returns-then-some_lack_certificates-clause-gives : goal.returns-then-some_lack_certificates-clause-gives
-returns-then-some_lack_certificates-clause-gives c = λ s p h.
-    let vs = c.args.judged.verdicts.items in
-    let some : some_lacks vs ≡ true = search rules in
-    unmade_gives s c.args.name.now c.args.bytes.now p c.args.budget c.uncertified.result vs h.known some c.uncertified.ensures.value
 
 pub returns-in-Err-clause-gives : goal.returns-in-Err-clause-gives
 returns-in-Err-clause-gives c = λ s p h. memory_gives s (judges c.args.name.now c.args.bytes.now p c.args.budget) c.no_memory.result c.no_memory.ensures.value
 
-pub returns-in-Ok-file_of-clause-gives : goal.returns-in-Ok-file_of-clause-gives
-returns-in-Ok-file_of-clause-gives c = λ s p h.
-    let vs = c.args.judged.verdicts.items in
-    let none : some_lacks vs ≡ false = search rules in
-    judged_gives s c.args.name.now c.args.bytes.now p c.args.budget c.in-Ok.answer vs h.known none (c.in-Ok.ensures.value p h)
-
-pub returns-in-Ok-file_of-clause-file : goal.returns-in-Ok-file_of-clause-file
-returns-in-Ok-file_of-clause-file c = λ p h.
-    let vs = c.args.judged.verdicts.items in
-    let none : some_lacks vs ≡ false = search rules in
-    record { verdicts = vs; known = h.known; shown = h.shown; each = none; is = c.in-Ok-file_of.ensures.value }
-
 pub returns-clause-gives : goal.returns-clause-gives
-returns-clause-gives c = λ s p h. memory_gives s (judges c.args.name.now c.args.bytes.now p c.args.budget) c.no_memory-in-Err-file_of.result c.no_memory-in-Err-file_of.ensures.value
+returns-clause-gives c = λ s p h. memory_gives s (judges c.args.name.now c.args.bytes.now p c.args.budget) c.no_memory-in-Err-found_certificates.result c.no_memory-in-Err-found_certificates.ensures.value
+
+pub returns-in-Ok-Some-clause-gives : goal.returns-in-Ok-Some-clause-gives
+returns-in-Ok-Some-clause-gives c = λ s p h.
+    saved_gives s c.args.name.now c.args.bytes.now p c.args.budget c.in-Ok.answer (map known c.args.judged.verdicts.items) (file_text (certificates_of c.in-Ok-Some.certs)) c.saved_with.result h.known (c.in-Ok.ensures.value p h)
+    c.saved_with.ensures.value c.saved_with.ensures.memory
+
+pub returns-in-Ok-Some-clause-file : goal.returns-in-Ok-Some-clause-file
+returns-in-Ok-Some-clause-file c = λ p h.
+    saved_file p c.args.budget c.in-Ok.answer (map known c.args.judged.verdicts.items) (certificates_of c.in-Ok-Some.certs) c.saved_with.result h.known
+    (found_for p c.args.judged c.deref.result.now c.deref-2.result.now c.in-Ok-Some.field-0 c.in-Ok-Some.certs c.deref.ensures.value c.deref-2.ensures.value h.conditions c.in-Ok-Some.field-0-is c.in-Ok-Some.ensures.certificates) c.saved_with.ensures.value
+
+pub returns-in-Ok-None-clause-gives : goal.returns-in-Ok-None-clause-gives
+returns-in-Ok-None-clause-gives c = λ s p h.
+    unmade_gives s c.args.name.now c.args.bytes.now p c.args.budget c.uncertified.result (map known c.args.judged.verdicts.items) h.known
+    (subst (λ (vs : List Verdict). Finds (map known vs)) c.deref-2.ensures.value (c.in-Ok-None.ensures.lacking c.in-Ok-None.field-0-is)) c.uncertified.ensures.value

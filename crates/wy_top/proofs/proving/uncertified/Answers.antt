@@ -1,5 +1,5 @@
 use Rattle.wy_answers.specs.Texts.{not_certified}
-use Rattle.wy_top.proofs.accepting.uncertified.Goals as goal
+use Rattle.wy_top.proofs.proving.uncertified.Goals as goal
 
 pub returns : goal.returns
 returns c = record { value = c.refusal.ensures.value not_certified c.from_str.ensures.ok }

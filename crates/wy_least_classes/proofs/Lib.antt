@@ -1,0 +1,5 @@
+mod SizeLemmas
+mod PlaceLemmas
+mod RoundLemmas
+pub mod SoundLemmas
+mod LeastLemmas

@@ -1,0 +1,3 @@
+mod AtomLemmas
+mod EndLemmas
+pub mod RoundLemmas
