@@ -1,7 +1,7 @@
 -- The code of an accepted program does what the program does.
-use Rattle.std.proofs.Common.{◌≡◌, ℕ, List, map, subst}
-use Rattle.wy_core.specs.CoreTree.{Core, Routine, aliases_of, routines_of}
-use Rattle.wy_sem.specs.Evaluation.{Callee, Declared, callee}
+use Rattle.std.proofs.Common.{ℕ, map, subst}
+use Rattle.wy_core.specs.CoreTree.{aliases_of}
+use Rattle.wy_sem.specs.Evaluation.{Callee}
 use Rattle.wy_sem.specs.Precondition.{CalleeMeets, RoutineMeets}
 use Rattle.wy_sound_runs.proofs.ProperLemmas.{values_proper}
 use Rattle.wy_sound_runs.proofs.RunLemmas.{run_rightly}

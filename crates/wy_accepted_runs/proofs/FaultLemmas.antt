@@ -6,7 +6,7 @@ use Rattle.wy_value.specs.Values.{AreValues}
 use Rattle.wy_value.specs.declared.value.Value.{Value}
 use Rattle.wy_core.specs.CoreTree.{Core, Output, Routine, aliases_of, routines_of}
 use Rattle.wy_core.specs.Types.{Ty}
-use Rattle.wy_sem.specs.Meter.{Meter, Outcome, Done, Fault, More, Spent}
+use Rattle.wy_sem.specs.Meter.{Outcome, Done, Fault, More, Spent}
 use Rattle.wy_sem.specs.TypeTests.{clause_setting}
 use Rattle.wy_sem.specs.Precondition.{AreTrue, Meets}
 use Rattle.wy_sem.specs.Evaluation.{Declared, callee, entry_of, evaluate}

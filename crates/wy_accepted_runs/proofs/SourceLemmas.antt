@@ -1,8 +1,7 @@
 -- The program of a source has all that the laws ask for.
-use Rattle.std.proofs.Common.{◌≡◌, ℕ, List, subst}
+use Rattle.std.proofs.Common.{ℕ, subst}
 use Rattle.wy_assign.specs.Assigned.{IsAssigned}
 use Rattle.wy_core.specs.CoreTree.{Core}
-use Rattle.wy_core.specs.Types.{Ty}
 use Rattle.wy_formed.specs.Formed.{Formed}
 use Rattle.wy_sound_typing.specs.Sources.{Sourced}
 use Rattle.wy_source_ints.proofs.FormedInts.{source-formed}

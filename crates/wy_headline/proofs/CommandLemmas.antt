@@ -1,5 +1,5 @@
 -- The commands that run programs, put together.
-use Rattle.std.proofs.Common.{◌≡◌, ◌⊎◌, ◌++◌, inl, inr, ℕ, List, Bool, Ok, Err, sym, ap, subst}
+use Rattle.std.proofs.Common.{◌≡◌, ◌⊎◌, inl, inr, ℕ, List, Bool, Ok, Err, sym, ap, subst}
 use Rattle.wy_answers.specs.Showing.{Shown, Sinks}
 use Rattle.wy_answers.specs.Steps.{Came, EndsFree, EndsOutside, Follows, IsFree, IsOutside, Setting, answer_in, ends, failed, from_outside, goes_on, memory, stated, stuck, uncertified}
 use Rattle.wy_answers.specs.declared.answer.Answer.{Answer}

@@ -1,6 +1,5 @@
 -- Where there are steps enough, the run is done.
-use Rattle.std.proofs.Common.{◌≡◌, ◌≤◌, ◌<◌, ◌⊎◌, inl, inr, ℕ, ◌+◌, ◌*◌, List, Bool, Option, sym, ap, ◌∙◌, arith}
-use Rattle.wy_answers.specs.Showing.{Sinks}
+use Rattle.std.proofs.Common.{◌≡◌, inl, inr, ℕ, ◌+◌, List, Option, sym, ap, ◌∙◌, arith}
 use Rattle.wy_eval_expressions.specs.Settings.{here}
 use Rattle.wy_port.specs.Taken.{with_taken}
 use Rattle.wy_running.specs.Running.{written}
@@ -10,7 +9,7 @@ use Rattle.wy_sem.specs.Meter.{Meter, Done}
 use Rattle.wy_sem.specs.Operations.{or_null}
 use Rattle.wy_sem.proofs.Growth.{is_unique}
 use Rattle.wy_value.specs.Datum.{Datum}
-use Rattle.wy_headline.specs.Runs.{EndsDone, EnoughStepsEnd, Entry, IsDone, finished, no_memory, sink_failed, spends}
+use Rattle.wy_headline.specs.Runs.{EnoughStepsEnd, Entry, IsDone, finished, no_memory, sink_failed, spends}
 
 same_value : (v w : Option Datum) (a b : List ℕ) → Returns v a ≡ Returns w b → v ≡ w
 same_value v w a b e = cc

@@ -1,5 +1,5 @@
 -- What a run shows, said by what the program does.
-use Rattle.std.proofs.Common.{◌≡◌, ◌⊎◌, inl, inr, ℕ, List, Bool, Option, refl}
+use Rattle.std.proofs.Common.{ℕ, List, Bool, Option, refl}
 use Rattle.wy_answers.specs.Showing.{Sinks}
 use Rattle.wy_eval_expressions.specs.Settings.{here}
 use Rattle.wy_running.specs.Running.{WritesFront, written}

@@ -2,7 +2,7 @@
 use Rattle.std.proofs.Common.{◌≡◌, ◌≢◌, ◌⊎◌, inl, inr, ℕ, List, [], Bool, true, false, Option, Some, None, Ok, Err, refl, sym, ◌∙◌, ap, subst, arith}
 use Rattle.wy_answers.specs.Answers.{refused, no_memory}
 use Rattle.wy_answers.specs.Calls.{Faults, IsFaulted}
-use Rattle.wy_answers.specs.Loading.{IsNotLoaded, loaded}
+use Rattle.wy_answers.specs.Loading.{loaded}
 use Rattle.wy_answers.specs.Showing.{Shown, Sinks}
 use Rattle.wy_answers.specs.Steps.{Came, EndsOutside, Follows, goes_on, ends, IsOutside, Sense, Setting, answer_in, failed, memory, stated}
 use Rattle.wy_answers.specs.Texts.{load_status, load_text, not_certified}
@@ -14,7 +14,7 @@ use Rattle.wy_port.specs.declared.files.LoadFault.TheVariants as load
 use Rattle.wy_running.specs.declared.fault.StartFault.{StartFault}
 use Rattle.wy_running.specs.declared.fault.StartFault.TheVariants as start
 use Rattle.wy_supplied.specs.Certificates.{certificates, from_file, no_file, without}
-use Rattle.wy_report.specs.Lines.{save_failed, words_refused}
+use Rattle.wy_report.specs.Lines.{words_refused}
 use Rattle.wy_big.specs.Source.{argument_text, entry}
 use Rattle.wy_top.specs.Acceptance.{Acceptance, accepts, accepts_file, accepts_source, are_closed, check_steps}
 use Rattle.wy_top.specs.Known.{Known}
@@ -24,9 +24,8 @@ use Rattle.wy_top.specs.Programs.{Program, owes}
 use Rattle.wy_top.specs.Proofs.{IsJudged, proof_answer, proves_file}
 use Rattle.wy_top.specs.Saves.{Saves, Saving}
 use Rattle.wy_top.specs.Saves as saves
-use Rattle.wy_top.specs.Statement.{Comes, Does, DoesIf, IsAnswered, ShowsProof}
-use Rattle.wy_top.specs.Texts.{text, text_in, text_steps}
-use Rattle.wy_top.specs.declared.launching.Launch.{Launch}
+use Rattle.wy_top.specs.Statement.{Does, DoesIf, IsAnswered, ShowsProof}
+use Rattle.wy_top.specs.Texts.{text, text_steps}
 use Rattle.wy_top.specs.declared.texts.Text.{Text}
 use Rattle.wy_top.specs.declared.texts.Text.TheVariants as kind_of
 use Rattle.wy_words.specs.CommandLine.{Asked, check, run, prove, conds, fmt, dis, big, command_of}
@@ -141,8 +140,7 @@ certificates_fine s name count a (without is e) = absurd (no_value [] a e)
 certificates_fine s name count a (from_file is h) = of_steps _ _ (λ b g. loaded_fine s name _ b g) (λ bytes b g. other 6 b _ g.answer refl no_6) a h
 
 accepts_fine : (name cert bytes : List ℕ) (p : Program) (certs : Certificates) (budget : ℕ) (a : Answer) → accepts name cert bytes p certs budget stated (Err a) → Fine a
-accepts_fine name cert bytes p certs budget a (inl h) = other 1 a _ h.answer refl no_1
-accepts_fine name cert bytes p certs budget a (inr h) = found a h.answer
+accepts_fine name cert bytes p certs budget a h = other 1 a _ h.answer refl no_1
 
 source_fine : (s : Setting) (name cert : List ℕ) (budget : ℕ) (bytes : List ℕ) (a : Answer) → accepts_source s name cert budget bytes stated (Err a) → Fine a
 source_fine s name cert budget bytes a h =

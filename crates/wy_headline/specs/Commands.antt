@@ -6,7 +6,7 @@ use Rattle.wy_answers.specs.Showing.{Shown, Sinks}
 use Rattle.wy_answers.specs.Steps.{Came, IsOutside, IsTold, Sense, Setting, and_then, due, stated}
 use Rattle.wy_answers.specs.declared.answer.Answer.{Answer}
 use Rattle.wy_big.specs.Source.{argument_text, entry, source_of}
-use Rattle.wy_core.specs.CoreTree.{Core, Routine}
+use Rattle.wy_core.specs.CoreTree.{Core}
 use Rattle.wy_eval_expressions.specs.Settings.{here}
 use Rattle.wy_report.specs.Lines.{steps_spent}
 use Rattle.wy_running.specs.Running.{written}

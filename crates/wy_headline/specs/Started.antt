@@ -1,5 +1,5 @@
 -- Which program was started, and how it came to be accepted.
-use Rattle.std.specs.Prelude.{◌≡◌, ℕ, List, Ok}
+use Rattle.std.specs.Prelude.{ℕ, List, Ok}
 use Rattle.wy_answers.specs.Loading.{Loads, source_limit}
 use Rattle.wy_answers.specs.Steps.{Setting}
 use Rattle.wy_cert.specs.Steps.{Certificates}

@@ -1,13 +1,11 @@
 -- Values are proper data.
-use Rattle.std.proofs.Common.{◌≡◌, ◌≤◌, ◌-◌, ◌^◌, ℕ, List, [], ◌∷◌, map, true, refl, arith, rules}
+use Rattle.std.proofs.Common.{◌≤◌, ◌-◌, ◌^◌, ℕ, [], ◌∷◌, arith, rules}
 use Rattle.std.proofs.lemmas.Int.{ints}
 use Rattle.wy_value.specs.Datum.{Datum, Null, Truth, Whole, Array, Record, Data, no_items, item, Fields, no_fields, field}
-use Rattle.wy_value.specs.Numbers.{is_int}
-use Rattle.wy_value.specs.Seen.{seen, seen_items}
+use Rattle.wy_value.specs.Seen.{seen}
 use Rattle.wy_value.specs.Values.{length_of, IsValue, AreValues, AreValueFields}
 use Rattle.wy_sem.specs.Operations.{longest}
-use Rattle.wy_value.specs.declared.value.Value.{Value}
-use Rattle.wy_kept_values.specs.Kept.{IsProper, AllProper, FieldsProper, ListProper}
+use Rattle.wy_kept_values.specs.Kept.{IsProper, AllProper, FieldsProper}
 use Rattle.wy_sound_runs.specs.Runs.{ValuesAreProper}
 
 few_items : (n : ℕ) → n ≤ 2 ^ 63 - 1 → n ≤ longest

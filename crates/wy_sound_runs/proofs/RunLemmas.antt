@@ -1,19 +1,16 @@
 -- The run of a sound program, put together from the law on its code.
-use Rattle.std.proofs.Common.{◌≡◌, ◌<◌, ◌≤◌, ◌⊎◌, inl, inr, ℕ, ◌+◌, ◌*◌, List, length, Option, refl, sym, ◌∙◌, ap, subst, arith}
+use Rattle.std.proofs.Common.{◌≡◌, ◌<◌, ◌≤◌, ◌⊎◌, inl, inr, ℕ, ◌+◌, ◌*◌, List, Option, refl, sym, ◌∙◌, ap, subst, arith}
 use Rattle.std.proofs.lemmas.Bool.{cases_lt}
 use Rattle.wy_value.specs.Datum.{Datum}
-use Rattle.wy_core.specs.CoreTree.{Core, Routine, routines_of}
-use Rattle.wy_formed.specs.Formed.{Formed}
-use Rattle.wy_kept_values.specs.Kept.{ListProper}
+use Rattle.wy_core.specs.CoreTree.{Core, Routine}
 use Rattle.wy_code.specs.declared.routines.Code.{Code}
 use Rattle.wy_compiled.specs.Programs.{code_of}
 use Rattle.wy_sem.specs.Meter.{Meter, Done}
 use Rattle.wy_sem.specs.Operations.{or_null}
-use Rattle.wy_sem.specs.Evaluation.{Declared, callee, evaluate}
+use Rattle.wy_sem.specs.Evaluation.{evaluate}
 use Rattle.wy_sem.specs.Growth.{Begins, output_of}
 use Rattle.wy_step.specs.Step.{State, Runs, Ended, Stuck, Frame, Caller, start}
-use Rattle.wy_simulated_tests.specs.Tested.{ClausesNameTheirs}
-use Rattle.wy_simulated_programs.specs.Programs.{AllInOrder, IsStuck, PrintsThat, RunsBeside, printed, run_of}
+use Rattle.wy_simulated_programs.specs.Programs.{IsStuck, PrintsThat, RunsBeside, printed, run_of}
 use Rattle.wy_simulated_programs.proofs.RunLemmas.{begins_on, prints_more, stays_ended}
 use Rattle.wy_simulated_programs.proofs.ProgramLemmas.{programs_simulated}
 use Rattle.wy_sound_runs.specs.Results.{IsFaultless}

@@ -1,5 +1,5 @@
 -- What a function or method is to give by its contract.
-use Rattle.std.specs.Prelude.{◌≡◌, ℕ, List, Bool, true, Option, Some, None}
+use Rattle.std.specs.Prelude.{◌≡◌, ℕ, List, true, Option, Some, None}
 use Rattle.wy_value.specs.Datum.{Datum}
 use Rattle.wy_core.specs.CoreTree.{Alias, Core, Output, Routine, aliases_of}
 use Rattle.wy_sem.specs.Expressions.{Store}
