@@ -1,4 +1,4 @@
--- Status 13 comes for a condition that was found and not certified, and for nothing else.
+-- Status 13 comes of `prove` alone, for a condition that was found and not certified.
 use Rattle.std.proofs.Common.{◌≡◌, ◌≢◌, ◌⊎◌, inl, inr, ℕ, List, [], Bool, true, false, Option, Some, None, Ok, Err, refl, sym, ◌∙◌, ap, subst, arith}
 use Rattle.wy_answers.specs.Answers.{refused, no_memory}
 use Rattle.wy_answers.specs.Calls.{Faults, IsFaulted}
@@ -14,7 +14,7 @@ use Rattle.wy_port.specs.declared.files.LoadFault.TheVariants as load
 use Rattle.wy_running.specs.declared.fault.StartFault.{StartFault}
 use Rattle.wy_running.specs.declared.fault.StartFault.TheVariants as start
 use Rattle.wy_supplied.specs.Certificates.{certificates, from_file, no_file, without}
-use Rattle.wy_report.specs.Lines.{words_refused}
+use Rattle.wy_report.specs.Lines.{save_failed, words_refused}
 use Rattle.wy_big.specs.Source.{argument_text, entry}
 use Rattle.wy_top.specs.Acceptance.{Acceptance, accepts, accepts_file, accepts_source, are_closed, check_steps}
 use Rattle.wy_top.specs.Known.{Known}
@@ -32,10 +32,14 @@ use Rattle.wy_words.specs.CommandLine.{Asked, check, run, prove, conds, fmt, dis
 use Rattle.wy_headline.specs.Commands.{AnswersLarge, ComesToLarge, ComesToRun, large_start, line_written, ran, ran_large, refused_large, refused_run, steps_spend}
 use Rattle.wy_headline.specs.Runs as of_runs
 use Rattle.wy_headline.specs.Runs.{Entry}
-use Rattle.wy_headline.specs.Seen.{IsNeverStuck, NeverSticks}
+use Rattle.wy_headline.specs.Seen.{IsNeverStuck, IsNotCertified, NeverSticks}
 use Rattle.wy_headline.proofs.CommandLemmas.{large_right, runs_right}
 
 -- ---- answers
+
+-- its status isn't 13
+abbrev Apart : Answer → Type 0
+Apart a = a.status ≢ 13
 
 -- where its status is 13, it is the line for a condition that was found and not certified
 abbrev Fine : Answer → Type 0
@@ -45,15 +49,15 @@ status_of : Answer → ℕ
 status_of a = a.status
 
 -- an answer with another status
-other : (n : ℕ) (a b : Answer) → a ≡ b → b.status ≡ n → n ≢ 13 → Fine a
+other : (n : ℕ) (a b : Answer) → a ≡ b → b.status ≡ n → n ≢ 13 → Apart a
 unfolding status_of
 other n a b is of apart e = absurd (apart (sym of ∙ (sym (ap status_of is) ∙ e)))
 
+fine : (a : Answer) → Apart a → Fine a
+fine a apart e = absurd (apart e)
+
 found : (a : Answer) → a ≡ refused 13 not_certified → Fine a
 found a is e = is
-
-refused_fine : (n : ℕ) (lines : List ℕ) → n ≢ 13 → Fine (refused n lines)
-refused_fine n lines apart e = absurd (apart e)
 
 no_0 : ◌≢◌ {A = ℕ} 0 13
 no_0 e = omega (arith, e)
@@ -91,15 +95,19 @@ no_10 e = omega (arith, e)
 no_11 : ◌≢◌ {A = ℕ} 11 13
 no_11 e = omega (arith, e)
 
-shown_fine : (a : Answer) (status : ℕ) (k : Sinks) → Fine a → Shown a status k → IsNeverStuck status k
-shown_fine a status k fine (inl w) e =
-    let is = fine (sym w.answer ∙ e) in
+shown_apart : (a : Answer) (status : ℕ) (k : Sinks) → Apart a → Shown a status k → status ≢ 13
+shown_apart a status k apart (inl w) e = apart (sym w.answer ∙ e)
+shown_apart a status k apart (inr f) e = let five = f.answer in omega (arith, five, e)
+
+shown_fine : (a : Answer) (status : ℕ) (k : Sinks) → Fine a → Shown a status k → IsNotCertified status k
+shown_fine a status k is_fine (inl w) e =
+    let is = is_fine (sym w.answer ∙ e) in
     (subst (λ (b : Answer). k.out_after ≡ with_taken k.out_before b.out) is w.out, subst (λ (b : Answer). k.err_after ≡ with_taken k.err_before b.err) is w.err)
-shown_fine a status k fine (inr f) e = let five = f.answer in absurd (omega (arith, five, e))
+shown_fine a status k is_fine (inr f) e = let five = f.answer in absurd (omega (arith, five, e))
 
 -- another status
-others : (n status : ℕ) (k : Sinks) → status ≡ n → n ≢ 13 → IsNeverStuck status k
-others n status k is apart e = absurd (apart (sym is ∙ e))
+others : (n status : ℕ) → status ≡ n → n ≢ 13 → status ≢ 13
+others n status is apart e = absurd (apart (sym is ∙ e))
 
 -- ---- steps
 
@@ -107,47 +115,47 @@ err_is : {Y : Type 0} (a b : Answer) → (let r : Came Y = Err a in r ≡ Err b)
 err_is a b e = cc
 
 -- an answer of the first or of the second step
-of_steps : {X Y : Type 0} (first : Came X → Type 0) (next : X → Came Y → Type 0) → ((a : Answer) → first (Err a) → Fine a) → ((x : X) (a : Answer) → next x (Err a) → Fine a) → (a : Answer) → Follows first next (Err a) → Fine a
-of_steps first next one two a (goes_on x h g) = two x a g
-of_steps first next one two a (ends b h e) = subst Fine (sym (err_is a b e)) (one b h)
+of_steps : {X Y : Type 0} (P : Answer → Type 0) (first : Came X → Type 0) (next : X → Came Y → Type 0) → ((a : Answer) → first (Err a) → P a) → ((x : X) (a : Answer) → next x (Err a) → P a) → (a : Answer) → Follows first next (Err a) → P a
+of_steps P first next one two a (goes_on x h g) = two x a g
+of_steps P first next one two a (ends b h e) = subst P (sym (err_is a b e)) (one b h)
 
-outside_fine : (s : Setting) (a : Answer) → IsOutside s a → Fine a
-outside_fine s a (memory e) = other 9 a _ e refl no_9
-outside_fine s a (failed name e rose) = other 4 a _ e refl no_4
+outside_apart : (s : Setting) (a : Answer) → IsOutside s a → Apart a
+outside_apart s a (memory e) = other 9 a _ e refl no_9
+outside_apart s a (failed name e rose) = other 4 a _ e refl no_4
 
-loaded_fine : (s : Setting) (name : List ℕ) (limit : ℕ) (a : Answer) → loaded s name limit (Err a) → Fine a
-loaded_fine s name limit a h = by h.fault h.answer
+loaded_apart : (s : Setting) (name : List ℕ) (limit : ℕ) (a : Answer) → loaded s name limit (Err a) → Apart a
+loaded_apart s name limit a h = by h.fault h.answer
   where
-    by : (f : LoadFault) → a ≡ refused (load_status f) (load_text name f) → Fine a
+    by : (f : LoadFault) → a ≡ refused (load_status f) (load_text name f) → Apart a
     by load.Absent e = other 3 a _ e refl no_3
     by load.TooLong e = other 10 a _ e refl no_10
     by load.Failed e = other 4 a _ e refl no_4
     by load.NoMemory e = other 9 a _ e refl no_9
 
 -- a fault of another status
-faulted_fine : {F : Type 0} (faults : Faults F) (there : F → Type 0) → ((f : F) → faults.status f ≢ 13) → (a : Answer) → IsFaulted faults there a → Fine a
-faulted_fine faults there apart a h = other (faults.status h.fault) a _ h.answer refl (apart h.fault)
+faulted_apart : {F : Type 0} (faults : Faults F) (there : F → Type 0) → ((f : F) → faults.status f ≢ 13) → (a : Answer) → IsFaulted faults there a → Apart a
+faulted_apart faults there apart a h = other (faults.status h.fault) a _ h.answer refl (apart h.fault)
 
-owes_fine : (name bytes : List ℕ) (a : Answer) → owes name bytes stated (Err a) → Fine a
-owes_fine name bytes a h = faulted_fine _ _ (λ f. no_1) a h
+owes_apart : (name bytes : List ℕ) (a : Answer) → owes name bytes stated (Err a) → Apart a
+owes_apart name bytes a h = faulted_apart _ _ (λ f. no_1) a h
 
 -- no value is an answer
 no_value : {X : Type 0} (x : X) (a : Answer) → (let r : Came X = Err a in r ≡ Ok x) → ⊥
 no_value x a e = absurd cc
 
-certificates_fine : (s : Setting) (name : List ℕ) (count : ℕ) (a : Answer) → certificates s name count (Err a) → Fine a
-certificates_fine s name count a (without is e) = absurd (no_value [] a e)
-certificates_fine s name count a (from_file is h) = of_steps _ _ (λ b g. loaded_fine s name _ b g) (λ bytes b g. other 6 b _ g.answer refl no_6) a h
+certificates_apart : (s : Setting) (name : List ℕ) (count : ℕ) (a : Answer) → certificates s name count (Err a) → Apart a
+certificates_apart s name count a (without is e) = absurd (no_value [] a e)
+certificates_apart s name count a (from_file is h) = of_steps Apart _ _ (λ b g. loaded_apart s name _ b g) (λ bytes b g. other 6 b _ g.answer refl no_6) a h
 
-accepts_fine : (name cert bytes : List ℕ) (p : Program) (certs : Certificates) (budget : ℕ) (a : Answer) → accepts name cert bytes p certs budget stated (Err a) → Fine a
-accepts_fine name cert bytes p certs budget a h = other 1 a _ h.answer refl no_1
+accepts_apart : (name cert bytes : List ℕ) (p : Program) (certs : Certificates) (budget : ℕ) (a : Answer) → accepts name cert bytes p certs budget stated (Err a) → Apart a
+accepts_apart name cert bytes p certs budget a h = other 1 a _ h.answer refl no_1
 
-source_fine : (s : Setting) (name cert : List ℕ) (budget : ℕ) (bytes : List ℕ) (a : Answer) → accepts_source s name cert budget bytes stated (Err a) → Fine a
-source_fine s name cert budget bytes a h =
-    of_steps _ _ (λ b g. owes_fine name bytes b g) (λ p b g. of_steps _ _ (λ c f. certificates_fine s cert _ c f) (λ certs c f. accepts_fine name cert bytes p certs budget c f) b g) a h
+source_apart : (s : Setting) (name cert : List ℕ) (budget : ℕ) (bytes : List ℕ) (a : Answer) → accepts_source s name cert budget bytes stated (Err a) → Apart a
+source_apart s name cert budget bytes a h =
+    of_steps Apart _ _ (λ b g. owes_apart name bytes b g) (λ p b g. of_steps Apart _ _ (λ c f. certificates_apart s cert _ c f) (λ certs c f. accepts_apart name cert bytes p certs budget c f) b g) a h
 
-file_fine : (s : Setting) (name cert : List ℕ) (budget : ℕ) (a : Answer) → accepts_file s name cert budget stated (Err a) → Fine a
-file_fine s name cert budget a h = of_steps _ _ (λ b g. loaded_fine s name _ b g) (λ bytes b g. source_fine s name cert budget bytes b g) a h
+file_apart : (s : Setting) (name cert : List ℕ) (budget : ℕ) (a : Answer) → accepts_file s name cert budget stated (Err a) → Apart a
+file_apart s name cert budget a h = of_steps Apart _ _ (λ b g. loaded_apart s name _ b g) (λ bytes b g. source_apart s name cert budget bytes b g) a h
 
 start_status : (f : StartFault) → fault_status f ≢ 13
 start_status start.NoEntry = no_7
@@ -158,11 +166,11 @@ start_status (start.RequiresFails number) = no_7
 start_status start.TurnsSpent = no_11
 start_status start.NoMemory = no_9
 
-starts_fine : (name arguments : List ℕ) (a : Acceptance) (b : Answer) → starts name arguments a stated (Err b) → Fine b
-starts_fine name arguments a b h = faulted_fine _ _ start_status b h
+starts_apart : (name arguments : List ℕ) (a : Acceptance) (b : Answer) → starts name arguments a stated (Err b) → Apart b
+starts_apart name arguments a b h = faulted_apart _ _ start_status b h
 
-run_fine : (s : Setting) (source cert name arguments : List ℕ) (budget : ℕ) (a : Answer) → run_steps s source cert name arguments budget stated (Err a) → Fine a
-run_fine s source cert name arguments budget a h = of_steps _ _ (λ b g. file_fine s source cert budget b g) (λ x b g. starts_fine name arguments x b g) a h
+run_apart : (s : Setting) (source cert name arguments : List ℕ) (budget : ℕ) (a : Answer) → run_steps s source cert name arguments budget stated (Err a) → Apart a
+run_apart s source cert name arguments budget a h = of_steps Apart _ _ (λ b g. file_apart s source cert budget b g) (λ x b g. starts_apart name arguments x b g) a h
 
 -- ---- commands that answer
 
@@ -172,117 +180,132 @@ answer_is a b e = cc
 no_answer : (a b : Answer) → (let r : Came Answer = Err a in r ≡ Ok b) → ⊥
 no_answer a b e = absurd cc
 
--- what steps come to is fine, where it came from outside too
-of_last : (s : Setting) (step : Sense → Came Answer → Type 0) → ((a : Answer) → step stated (Ok a) → Fine a) → ((a : Answer) → step stated (Err a) → Fine a)
-    → (last : Came Answer) → step stated last ⊎ EndsOutside s last → Fine (answer_in last)
+-- what steps come to has another status, where it came from outside too
+of_last : (s : Setting) (step : Sense → Came Answer → Type 0) → ((a : Answer) → step stated (Ok a) → Apart a) → ((a : Answer) → step stated (Err a) → Apart a)
+    → (last : Came Answer) → step stated last ⊎ EndsOutside s last → Apart (answer_in last)
 of_last s step good bad (Ok a) (inl h) = good a h
 of_last s step good bad (Ok a) (inr h) = absurd h
 of_last s step good bad (Err a) (inl h) = bad a h
-of_last s step good bad (Err a) (inr h) = outside_fine s a h
+of_last s step good bad (Err a) (inr h) = outside_apart s a h
 
-answered_fine : (s : Setting) (step : Sense → Came Answer → Type 0) → ((a : Answer) → step stated (Ok a) → Fine a) → ((a : Answer) → step stated (Err a) → Fine a)
-    → (status : ℕ) (k : Sinks) → IsAnswered s step status k → IsNeverStuck status k
-answered_fine s step good bad status k h = shown_fine h.answer status k (subst Fine (sym h.answers.is) (of_last s step good bad h.answers.last h.answers.gives.comes)) h.shown
+answered_apart : (s : Setting) (step : Sense → Came Answer → Type 0) → ((a : Answer) → step stated (Ok a) → Apart a) → ((a : Answer) → step stated (Err a) → Apart a)
+    → (status : ℕ) (k : Sinks) → IsAnswered s step status k → status ≢ 13
+answered_apart s step good bad status k h = shown_apart h.answer status k (subst Apart (sym h.answers.is) (of_last s step good bad h.answers.last h.answers.gives.comes)) h.shown
 
 -- what stands last in two steps
-value_fine : {X : Type 0} (first : Came X → Type 0) (next : X → Came Answer → Type 0) → ((x : X) (a : Answer) → next x (Ok a) → Fine a) → (a : Answer) → Follows first next (Ok a) → Fine a
-value_fine first next two a (goes_on x h g) = two x a g
-value_fine first next two a (ends b h e) = absurd (no_answer b a (sym e))
+value_apart : {X : Type 0} (first : Came X → Type 0) (next : X → Came Answer → Type 0) → ((x : X) (a : Answer) → next x (Ok a) → Apart a) → (a : Answer) → Follows first next (Ok a) → Apart a
+value_apart first next two a (goes_on x h g) = two x a g
+value_apart first next two a (ends b h e) = absurd (no_answer b a (sym e))
 
-check_good : (s : Setting) (source cert : List ℕ) (budget : ℕ) (a : Answer) → check_steps s source cert budget stated (Ok a) → Fine a
-check_good s source cert budget a h = value_fine _ _ (λ x b g. other 0 b _ (answer_is b _ g) refl no_0) a h
+check_good : (s : Setting) (source cert : List ℕ) (budget : ℕ) (a : Answer) → check_steps s source cert budget stated (Ok a) → Apart a
+check_good s source cert budget a h = value_apart _ _ (λ x b g. other 0 b _ (answer_is b _ g) refl no_0) a h
 
-check_bad : (s : Setting) (source cert : List ℕ) (budget : ℕ) (a : Answer) → check_steps s source cert budget stated (Err a) → Fine a
-check_bad s source cert budget a h = of_steps _ _ (λ b g. file_fine s source cert budget b g) (λ x b g. absurd (no_answer b _ g)) a h
+check_bad : (s : Setting) (source cert : List ℕ) (budget : ℕ) (a : Answer) → check_steps s source cert budget stated (Err a) → Apart a
+check_bad s source cert budget a h = of_steps Apart _ _ (λ b g. file_apart s source cert budget b g) (λ x b g. absurd (no_answer b _ g)) a h
 
-text_good : (s : Setting) (kind : Text) (source : List ℕ) (a : Answer) → text_steps s kind source stated (Ok a) → Fine a
-text_good s kind source a h = value_fine _ _ (λ x b g. other 0 b _ (answer_is b _ g) refl no_0) a h
+text_good : (s : Setting) (kind : Text) (source : List ℕ) (a : Answer) → text_steps s kind source stated (Ok a) → Apart a
+text_good s kind source a h = value_apart _ _ (λ x b g. other 0 b _ (answer_is b _ g) refl no_0) a h
 
-text_kind_fine : (kind : Text) (source bytes : List ℕ) (a : Answer) → text kind source bytes stated (Err a) → Fine a
-text_kind_fine kind_of.Layout source bytes a h = faulted_fine _ _ (λ f. no_1) a h
-text_kind_fine kind_of.Listing source bytes a h = faulted_fine _ _ (λ f. no_1) a h
-text_kind_fine kind_of.Conditions source bytes a h = faulted_fine _ _ (λ f. no_1) a h
+text_kind_apart : (kind : Text) (source bytes : List ℕ) (a : Answer) → text kind source bytes stated (Err a) → Apart a
+text_kind_apart kind_of.Layout source bytes a h = faulted_apart _ _ (λ f. no_1) a h
+text_kind_apart kind_of.Listing source bytes a h = faulted_apart _ _ (λ f. no_1) a h
+text_kind_apart kind_of.Conditions source bytes a h = faulted_apart _ _ (λ f. no_1) a h
 
-text_bad : (s : Setting) (kind : Text) (source : List ℕ) (a : Answer) → text_steps s kind source stated (Err a) → Fine a
+text_bad : (s : Setting) (kind : Text) (source : List ℕ) (a : Answer) → text_steps s kind source stated (Err a) → Apart a
 text_bad s kind source a h =
-    of_steps _ _ (λ b g. of_steps _ _ (λ c f. loaded_fine s source _ c f) (λ bytes c f. text_kind_fine kind source bytes c f) b g) (λ x b g. absurd (no_answer b _ g)) a h
+    of_steps Apart _ _ (λ b g. of_steps Apart _ _ (λ c f. loaded_apart s source _ c f) (λ bytes c f. text_kind_apart kind source bytes c f) b g) (λ x b g. absurd (no_answer b _ g)) a h
 
 -- ---- runs
 
-ran_fine : (e : Entry) (lines : List ℕ) (wanted asked : Bool) (steps status : ℕ) (k : Sinks) → of_runs.ShowsRun e lines wanted asked steps status k → IsNeverStuck status k
-ran_fine e lines wanted asked steps status k (of_runs.finished v output copies nodes is done out left err) = others 0 status k is no_0
-ran_fine e lines wanted asked steps status k (of_runs.spends output is goes out err) = others 8 status k is no_8
-ran_fine e lines wanted asked steps status k (of_runs.sink_failed is rose out err) = others 5 status k is no_5
-ran_fine e lines wanted asked steps status k (of_runs.no_memory is out err) = others 9 status k is no_9
+ran_apart : (e : Entry) (lines : List ℕ) (wanted asked : Bool) (steps status : ℕ) (k : Sinks) → of_runs.ShowsRun e lines wanted asked steps status k → status ≢ 13
+ran_apart e lines wanted asked steps status k (of_runs.finished v output copies nodes is done out left err) = others 0 status is no_0
+ran_apart e lines wanted asked steps status k (of_runs.spends output is goes out err) = others 8 status is no_8
+ran_apart e lines wanted asked steps status k (of_runs.sink_failed is rose out err) = others 5 status is no_5
+ran_apart e lines wanted asked steps status k (of_runs.no_memory is out err) = others 9 status is no_9
 
-run_comes : (s : Setting) (source cert name arguments : List ℕ) (budget steps : ℕ) (stats : Bool) (status : ℕ) (k : Sinks) → ComesToRun s source cert name arguments budget steps stats status k → IsNeverStuck status k
-run_comes s source cert name arguments budget steps stats status k (ran l h) = ran_fine _ _ _ _ _ status k h.shows
-run_comes s source cert name arguments budget steps stats status k (refused_run a (inl h) shown) = shown_fine a status k (run_fine s source cert name arguments budget a h) shown
-run_comes s source cert name arguments budget steps stats status k (refused_run a (inr h) shown) = shown_fine a status k (outside_fine s a h) shown
+run_comes : (s : Setting) (source cert name arguments : List ℕ) (budget steps : ℕ) (stats : Bool) (status : ℕ) (k : Sinks) → ComesToRun s source cert name arguments budget steps stats status k → status ≢ 13
+run_comes s source cert name arguments budget steps stats status k (ran l h) = ran_apart _ _ _ _ _ status k h.shows
+run_comes s source cert name arguments budget steps stats status k (refused_run a (inl h) shown) = shown_apart a status k (run_apart s source cert name arguments budget a h) shown
+run_comes s source cert name arguments budget steps stats status k (refused_run a (inr h) shown) = shown_apart a status k (outside_apart s a h) shown
 
 -- ---- the command `big`
 
-line_fine : (e : Entry) (functions conditions : ℕ) (wanted : Bool) (steps : ℕ) (a : Answer) → AnswersLarge e functions conditions wanted steps a → Fine a
-line_fine e functions conditions wanted steps a (line_written v output done is) = other 0 a _ is refl no_0
-line_fine e functions conditions wanted steps a (steps_spend output goes is) = other 8 a _ is refl no_8
+line_apart : (e : Entry) (functions conditions : ℕ) (wanted : Bool) (steps : ℕ) (a : Answer) → AnswersLarge e functions conditions wanted steps a → Apart a
+line_apart e functions conditions wanted steps a (line_written v output done is) = other 0 a _ is refl no_0
+line_apart e functions conditions wanted steps a (steps_spend output goes is) = other 8 a _ is refl no_8
 
-made_fine : (functions seed : ℕ) (a : Answer) → makes_one functions seed (Err a) → Fine a
-made_fine functions seed a h = other 10 a _ h.1 refl no_10
+made_apart : (functions seed : ℕ) (a : Answer) → makes_one functions seed (Err a) → Apart a
+made_apart functions seed a h = other 10 a _ h.1 refl no_10
 
 -- a source that is made is accepted and started, or refused
-large_fine : (s : Setting) (functions seed budget : ℕ) (a : Answer) → large_start s functions seed budget stated (Err a) → Fine a
-large_fine s functions seed budget a h =
-    of_steps _ _ (λ b g. made_fine functions seed b g) (λ bytes b g. of_steps _ _ (λ c f. source_fine s large_name no_file budget bytes c f) (λ x c f. starts_fine entry (argument_text seed) x c f) b g) a h
+large_apart : (s : Setting) (functions seed budget : ℕ) (a : Answer) → large_start s functions seed budget stated (Err a) → Apart a
+large_apart s functions seed budget a h =
+    of_steps Apart _ _ (λ b g. made_apart functions seed b g) (λ bytes b g. of_steps Apart _ _ (λ c f. source_apart s large_name no_file budget bytes c f) (λ x c f. starts_apart entry (argument_text seed) x c f) b g) a h
 
-large_comes : (s : Setting) (functions seed budget steps : ℕ) (a : Answer) → ComesToLarge s functions seed budget steps a → Fine a
-large_comes s functions seed budget steps a (ran_large l of h) = line_fine _ _ _ _ _ a h
-large_comes s functions seed budget steps a (refused_large (inl h)) = large_fine s functions seed budget a h
-large_comes s functions seed budget steps a (refused_large (inr h)) = outside_fine s a h
+large_comes : (s : Setting) (functions seed budget steps : ℕ) (a : Answer) → ComesToLarge s functions seed budget steps a → Apart a
+large_comes s functions seed budget steps a (ran_large l of h) = line_apart _ _ _ _ _ a h
+large_comes s functions seed budget steps a (refused_large (inl h)) = large_apart s functions seed budget a h
+large_comes s functions seed budget steps a (refused_large (inr h)) = outside_apart s a h
 
 -- ---- the command `prove`
 
-proof_fine : (name bytes : List ℕ) (p : Program) (budget : ℕ) (ks : List Known) (b : Bool) (a : Answer) → a ≡ proof_answer name bytes p budget ks b → Fine a
-proof_fine name bytes p budget ks true a is = other 0 a _ is refl no_0
-proof_fine name bytes p budget ks false a is = other 1 a _ is refl no_1
+proof_apart : (name bytes : List ℕ) (p : Program) (budget : ℕ) (ks : List Known) (b : Bool) (a : Answer) → a ≡ proof_answer name bytes p budget ks b → Apart a
+proof_apart name bytes p budget ks true a is = other 0 a _ is refl no_0
+proof_apart name bytes p budget ks false a is = other 1 a _ is refl no_1
 
-judged_fine : (name bytes : List ℕ) (p : Program) (budget : ℕ) (a : Answer) → IsJudged name bytes p budget a → Fine a
-judged_fine name bytes p budget a h = proof_fine name bytes p budget h.verdicts (are_closed h.verdicts) a h.answer
+judged_apart : (name bytes : List ℕ) (p : Program) (budget : ℕ) (a : Answer) → IsJudged name bytes p budget a → Apart a
+judged_apart name bytes p budget a h = proof_apart name bytes p budget h.verdicts (are_closed h.verdicts) a h.answer
 
-proof_good : (s : Setting) (source : List ℕ) (budget : ℕ) (a : Answer) → proves_file s source budget stated (Ok a) → Fine a
-proof_good s source budget a h = value_fine _ _ (λ bytes b g. value_fine _ _ (λ p c f. judged_fine source bytes p budget c f) b g) a h
+proof_good : (s : Setting) (source : List ℕ) (budget : ℕ) (a : Answer) → proves_file s source budget stated (Ok a) → Apart a
+proof_good s source budget a h = value_apart _ _ (λ bytes b g. value_apart _ _ (λ p c f. judged_apart source bytes p budget c f) b g) a h
 
 proof_bad : (s : Setting) (source : List ℕ) (budget : ℕ) (a : Answer) → proves_file s source budget stated (Err a) → Fine a
-proof_bad s source budget a h = of_steps _ _ (λ b g. loaded_fine s source _ b g) (λ bytes b g. of_steps _ _ (λ c f. owes_fine source bytes c f) (λ p c f. found c f.answer) b g) a h
+proof_bad s source budget a h = of_steps Fine _ _ (λ b g. fine b (loaded_apart s source _ b g)) (λ bytes b g. of_steps Fine _ _ (λ c f. fine c (owes_apart source bytes c f)) (λ p c f. found c f.answer) b g) a h
 
-saved_fine : (name saved : List ℕ) (a : Answer) (v : Saving) (status : ℕ) (k : Sinks) → Fine a → Saves name saved a v status k → IsNeverStuck status k
-saved_fine name saved a v status k fine (saves.whole is shown) = shown_fine a status k fine shown
-saved_fine name saved a v status k fine (saves.failed rose lost (inl shown)) = shown_fine _ status k (other 5 _ _ refl refl no_5) shown
-saved_fine name saved a v status k fine (saves.failed rose lost (inr shown)) = shown_fine no_memory status k (other 9 _ _ refl refl no_9) shown
-saved_fine name saved a v status k fine (saves.no_memory same shown) = shown_fine no_memory status k (other 9 _ _ refl refl no_9) shown
+saved_apart : (name saved : List ℕ) (a : Answer) (v : Saving) (status : ℕ) (k : Sinks) → Apart a → Saves name saved a v status k → status ≢ 13
+saved_apart name saved a v status k apart (saves.whole is shown) = shown_apart a status k apart shown
+saved_apart name saved a v status k apart (saves.failed rose lost (inl shown)) = shown_apart (refused 5 (save_failed name)) status k no_5 shown
+saved_apart name saved a v status k apart (saves.failed rose lost (inr shown)) = shown_apart no_memory status k no_9 shown
+saved_apart name saved a v status k apart (saves.no_memory same shown) = shown_apart no_memory status k no_9 shown
 
-proved_fine : (s : Setting) (source output : List ℕ) (budget : ℕ) (v : Saving) (status : ℕ) (k : Sinks) (r : Came Answer) → proves_file s source budget stated r ⊎ EndsOutside s r → ShowsProof s source output budget v status k r → IsNeverStuck status k
-proved_fine s source output budget v status k (Ok a) (inl h) shown = saved_fine output shown.0 a v status k (proof_good s source budget a h) shown.2
+-- a status that isn't 13
+weak : (status : ℕ) (k : Sinks) → status ≢ 13 → IsNotCertified status k
+weak status k apart e = absurd (apart e)
+
+proved_fine : (s : Setting) (source output : List ℕ) (budget : ℕ) (v : Saving) (status : ℕ) (k : Sinks) (r : Came Answer) → proves_file s source budget stated r ⊎ EndsOutside s r → ShowsProof s source output budget v status k r → IsNotCertified status k
+proved_fine s source output budget v status k (Ok a) (inl h) shown = weak status k (saved_apart output shown.0 a v status k (proof_good s source budget a h) shown.2)
 proved_fine s source output budget v status k (Ok a) (inr h) shown = absurd h
 proved_fine s source output budget v status k (Err a) (inl h) shown = shown_fine a status k (proof_bad s source budget a h) shown.0
-proved_fine s source output budget v status k (Err a) (inr h) shown = shown_fine a status k (outside_fine s a h) shown.0
+proved_fine s source output budget v status k (Err a) (inr h) shown = weak status k (shown_apart a status k (outside_apart s a h) shown.0)
 
 -- ---- all commands
 
-done_fine : (asked : Asked) (s : Setting) (v : Saving) (status : ℕ) (k : Sinks) → Does asked s v status k → IsNeverStuck status k
-done_fine (check source cert budget) s v status k h = answered_fine s (check_steps s source cert budget) (check_good s source cert budget) (check_bad s source cert budget) status k h
+done_fine : (asked : Asked) (s : Setting) (v : Saving) (status : ℕ) (k : Sinks) → Does asked s v status k → IsNeverStuck (Some asked) status k
+done_fine (check source cert budget) s v status k h = answered_apart s (check_steps s source cert budget) (check_good s source cert budget) (check_bad s source cert budget) status k h
 done_fine (run source cert name arguments budget steps stats) s v status k h = run_comes s source cert name arguments budget steps stats status k (runs_right s source cert name arguments budget steps stats status k h).comes
 done_fine (prove source output budget) s v status k h = proved_fine s source output budget v status k h.proof h.gives.comes h.shown
-done_fine (conds source) s v status k h = answered_fine s (text_steps s kind_of.Conditions source) (text_good s kind_of.Conditions source) (text_bad s kind_of.Conditions source) status k h
-done_fine (fmt source) s v status k h = answered_fine s (text_steps s kind_of.Layout source) (text_good s kind_of.Layout source) (text_bad s kind_of.Layout source) status k h
-done_fine (dis source) s v status k h = answered_fine s (text_steps s kind_of.Listing source) (text_good s kind_of.Listing source) (text_bad s kind_of.Listing source) status k h
+done_fine (conds source) s v status k h = answered_apart s (text_steps s kind_of.Conditions source) (text_good s kind_of.Conditions source) (text_bad s kind_of.Conditions source) status k h
+done_fine (fmt source) s v status k h = answered_apart s (text_steps s kind_of.Layout source) (text_good s kind_of.Layout source) (text_bad s kind_of.Layout source) status k h
+done_fine (dis source) s v status k h = answered_apart s (text_steps s kind_of.Listing source) (text_good s kind_of.Listing source) (text_bad s kind_of.Listing source) status k h
 done_fine (big functions seed budget steps) s v status k h =
     let g = large_right s functions seed budget steps status k h in
-    shown_fine g.answer status k (large_comes s functions seed budget steps g.answer g.comes) g.shown
+    shown_apart g.answer status k (large_comes s functions seed budget steps g.answer g.comes) g.shown
 
-asked_fine : (asked : Option Asked) (s : Setting) (v : Saving) (status : ℕ) (k : Sinks) → DoesIf asked s v status k → IsNeverStuck status k
+asked_fine : (asked : Option Asked) (s : Setting) (v : Saving) (status : ℕ) (k : Sinks) → DoesIf asked s v status k → IsNeverStuck asked status k
 asked_fine (Some asked) s v status k h = done_fine asked s v status k h
-asked_fine None s v status k shown = shown_fine (refused 2 words_refused) status k (refused_fine 2 words_refused no_2) shown
+asked_fine None s v status k shown = shown_apart (refused 2 words_refused) status k no_2 shown
+
+-- whatever is asked for
+all_weak : (asked : Option Asked) (status : ℕ) (k : Sinks) → status ≢ 13 → IsNeverStuck asked status k
+all_weak None status k apart = apart
+all_weak (Some (check source cert budget)) status k apart = apart
+all_weak (Some (run source cert name arguments budget steps stats)) status k apart = apart
+all_weak (Some (prove source output budget)) status k apart = weak status k apart
+all_weak (Some (conds source)) status k apart = apart
+all_weak (Some (fmt source)) status k apart = apart
+all_weak (Some (dis source)) status k apart = apart
+all_weak (Some (big functions seed budget steps)) status k apart = apart
 
 pub never_sticks : NeverSticks
 never_sticks words s v status k (inl h) = asked_fine (command_of words) s v status k h
-never_sticks words s v status k (inr shown) = shown_fine no_memory status k (refused_fine 9 [] no_9) shown
+never_sticks words s v status k (inr shown) = all_weak (command_of words) status k (shown_apart no_memory status k no_9 shown)

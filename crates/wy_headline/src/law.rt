@@ -10,7 +10,7 @@ ghost use Rattle.wy_headline.specs.Seen.{NeverSticks};
 /// contract holds of these; 8 where the steps are spent, and the program isn't done at any number of ticks for which they were
 /// enough; 5 where a sink counted a fault, and 9 for want of memory, with fronts of what the program prints. There is no other.
 /// Where files are told, a run that is due is one that comes, but for failed loads (4), failed sinks (5), want of memory (9) and
-/// a condition that was found and not certified (13).
+/// status 13, which `the_machine_never_sticks` rules out.
 pub fn runs_are_right()
     ensures right { RunsAreRight }
 {}
@@ -26,8 +26,8 @@ pub fn big_runs_are_right()
     ensures right { LargeRunsAreRight }
 {}
 
-/// Whatever the words, no call says that the machine found no step: status 13 comes for a condition that was found and not
-/// certified, and for nothing else.
+/// Whatever the words, no call says that the machine found no step: status 13 comes of the command `prove` alone, for a condition
+/// that was found and not certified, and for nothing else.
 pub fn the_machine_never_sticks()
     ensures never { NeverSticks }
 {}

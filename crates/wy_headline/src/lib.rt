@@ -2,8 +2,8 @@
 //!
 //! `run_words` of wy_top says what a run writes by the steps of the code. Here the laws of soundness and of code are put to
 //! that: `specs/Started` says of the program that was started what it is, `specs/Runs` what the sinks take of its run,
-//! `specs/Commands` what the commands that run programs come to, `specs/Seen` that no call has status 13 but for a condition
-//! that was found and not certified, and `specs/Means` all of it of a call.
+//! `specs/Commands` what the commands that run programs come to, `specs/Seen` that no call has status 13 but one of `prove`, for a
+//! condition that was found and not certified, and `specs/Means` all of it of a call.
 #![tactic(auto)]
 
 mod commands;
