@@ -11,7 +11,7 @@ use Rattle.wy_top.specs.Owed.{Owes}
 use Rattle.wy_top.specs.Programs.{conditions_of, count_of}
 use Rattle.wy_top.specs.declared.launching.Launch.{Launch}
 
--- the source with these bytes is accepted: it is a typed and assigned program within the limits, each of its conditions has a valid certificate, supplied or found within the budget, and all of them are true
+-- the source with these bytes is accepted: it is a typed and assigned program within the limits, of each of its conditions a valid certificate was supplied, or the search closes it within the budget, and all of them are true
 pub record AcceptsBytes (s : Setting) (cert : List ℕ) (budget : ℕ) (bytes : List ℕ) (a : Acceptance) : Type 0 where
   pub owes : Owes bytes a.program.core a.program.flow
   pub certs : Certificates
