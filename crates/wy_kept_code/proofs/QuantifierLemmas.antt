@@ -132,8 +132,8 @@ module _ (body : List Instr) (c : Context) (n : ℕ) (L : Type 0) (t : Told) (f 
     quantify_ready all X m s A d p next two_of known nd around h exit =
         let T = turned x inner s in let rs = lost T s in let inn = code c inner T (suc (suc d)) in
         let V : ℕ → Type 0 = λ r. U r ⊎ (r ≡ x) in
-        let P : ℕ → Type 0 = B T A in let P0 : ℕ → Type 0 = λ r. P r ⊎ X r in
-        let R1 : ℕ → Type 0 = λ r. Told_by P r × (r ≢ d) in
+        let P : ℕ → Type 0 = B T A in let AtBounds : ℕ → Type 0 = λ r. P r ⊎ X r in
+        let InTurn : ℕ → Type 0 = λ r. Told_by P r × (r ≢ d) in
         let compare_it : Instr = instr.Compare (suc (suc d)) comparison.Less d (suc d) in
         let share : Instr = instr.Share x d in
         let long = p + length (turns_of body c n L all x d inn rs) in
@@ -148,7 +148,7 @@ module _ (body : List Instr) (c : Context) (n : ℕ) (L : Type 0) (t : Told) (f 
         (either (λ v. either (λ z. inl (λ q e sp. (z.0, code_live body c n L inner V T (suc (suc d)) q e r fit low_V nd2 sp (let w = lows_T r l in omega (arith, w)) (inl z.1))))
         (λ k. inr (kept_lost body c n L x inner U s r low xn fit (inl k), exit.0 r u (inl k))) (turned_cases x inner s r v))
         (λ a. inr (kept_lost body c n L x inner U s r low xn fit (inr (around r a).0), exit.0 r u (inr a))) l) in
-        let live_p : Lives body t f p P0 = λ r u l. either (λ k. live_on body p (p + 1) r compare_it parts.tests.0.0 (less_not r (suc (suc d)) (let w = lows_T r k in omega (arith, w)), tt) (inl refl) (live_1 r u k))
+        let live_p : Lives body t f p AtBounds = λ r u l. either (λ k. live_on body p (p + 1) r compare_it parts.tests.0.0 (less_not r (suc (suc d)) (let w = lows_T r k in omega (arith, w)), tt) (inl refl) (live_1 r u k))
         (λ k. live_reads body p r compare_it parts.tests.0.0 (either (λ e. inl e) (λ e. inr (inl e)) (two_of r k))) l in
         let first_at : p + 1 ≡ b = (let z = parts.tests.1 in omega (arith, z)) in
         let live_b = lives_at body t f (p + 1) b P first_at live_1 in
@@ -159,20 +159,20 @@ module _ (body : List Instr) (c : Context) (n : ℕ) (L : Type 0) (t : Told) (f 
         let behind = parts.behind in
         let untold_no : (r : ℕ) → t.untold f r ≡ false → t.untold f r ≡ true → LiveAt body b r = λ r u w. told_not body c n L t f tells r r refl u w in (
           live_p,
-          nat_up (λ k. Sure body t f k next (B s A) → Sure body t f k p P0) (λ z. tt) (λ k less safe.
+          nat_up (λ k. Sure body t f k next (B s A) → Sure body t f k p AtBounds) (λ z. tt) (λ k less safe.
               let es = ends_sure all (suc k) d rs long next P (B s A) span_ends lows (λ r l none. either (λ v. inl (still_has T s r v none)) (λ a. inr a) l) (exit.0, safe) in
-              let at_j : Sure body t f (suc k) j P = safe_loops body t f k j p P P0 parts.jumps live_p (λ r u l. inl l) (less (safe_sooner t f body k next (Told_by (B s A)) safe)) in
+              let at_j : Sure body t f (suc k) j P = safe_loops body t f k j p P AtBounds parts.jumps live_p (λ r u l. inl l) (less (safe_sooner t f body k next (Told_by (B s A)) safe)) in
               let te = turn_end_ready all (suc k) d (clear rs) p4 j (suc (suc (long + length (clear rs)))) P lows_T (back body p3 inn (turn_end all d (clear rs)) j i1) (omega (arith, behind)) (live_j, at_j) es.1 in
               let body_in = inner_safe (suc k) T A (suc (suc d)) p3 p4 (λ r v. inl (known_T r v)) nd2 (λ r a. let w = around r a in (w.0, let l = w.1 in omega (arith, l))) (front body p3 inn (turn_end all d (clear rs)) j i1)
               ((λ r u l. te.0 r u (inl l)), sure_less body t f (suc k) p4 (λ r. B T A r ⊎ H inner (suc (suc d)) r) (λ r. P r ⊎ (r ≡ suc (suc d))) (λ r u l. either (λ z. inl z) (λ z. inr z.0) l) te.1, (λ r u z. te.0 r u (inr z.0))) in
               let to_inner : (r : ℕ) → P r → B (before inner T) A r = λ r l. either (λ v. inl (before_of inner T r (inr v))) (λ a. inr a) l in
               let at_3 : Safe t f body (suc k) p3 (Told_by P) = sure_less body t f (suc k) p3 P (B (before inner T) A) (λ r u l. to_inner r l) body_in.1 in
-              let live_share : Lives body t f (b + 1) R1 = λ r u l. either (λ z. live_on body (b + 1) p3 r share parts.inside.0.0 (not_x s A d r known around z, tt) (inl refl) (body_in.0 r u (to_inner r z))) (λ w. told_not body c n L t f tells r r refl u w) l.0 in
-              let at_2 : Safe t f body (suc k) (b + 1) R1 = raw_step body t f (suc k) (b + 1) share R1 (Told_by P) parts.inside.0.0 live_share (λ y w. w) (λ r l. either (λ z. z.0.0) (λ z. absurd (z.1.1 refl)) l) at_3 in
-              let live_r : Lives body t f b R1 = λ r u l. either (λ z. live_b r u z) (λ w. told_not body c n L t f tells r r refl u w) l.0 in
-              let at_b : Safe t f body (suc k) b R1 = raw_branches body t f (suc k) b (suc (suc d)) long R1 R1 (Told_by P) parts.branches live_r (λ r l. l) (λ r l. l.0) at_2 es.0 in
-              let live_raw : Lives body t f p (Told_by P0) = λ r u l. either (λ z. live_p r u z) (λ w. told_not body c n L t f tells r r refl u w) l in
-              raw_step body t f (suc k) p compare_it (Told_by P0) R1 parts.tests.0.0 live_raw (λ y w. w)
+              let live_share : Lives body t f (b + 1) InTurn = λ r u l. either (λ z. live_on body (b + 1) p3 r share parts.inside.0.0 (not_x s A d r known around z, tt) (inl refl) (body_in.0 r u (to_inner r z))) (λ w. told_not body c n L t f tells r r refl u w) l.0 in
+              let at_2 : Safe t f body (suc k) (b + 1) InTurn = raw_step body t f (suc k) (b + 1) share InTurn (Told_by P) parts.inside.0.0 live_share (λ y w. w) (λ r l. either (λ z. z.0.0) (λ z. absurd (z.1.1 refl)) l) at_3 in
+              let live_r : Lives body t f b InTurn = λ r u l. either (λ z. live_b r u z) (λ w. told_not body c n L t f tells r r refl u w) l.0 in
+              let at_b : Safe t f body (suc k) b InTurn = raw_branches body t f (suc k) b (suc (suc d)) long InTurn InTurn (Told_by P) parts.branches live_r (λ r l. l) (λ r l. l.0) at_2 es.0 in
+              let live_raw : Lives body t f p (Told_by AtBounds) = λ r u l. either (λ z. live_p r u z) (λ w. told_not body c n L t f tells r r refl u w) l in
+              raw_step body t f (suc k) p compare_it (Told_by AtBounds) InTurn parts.tests.0.0 live_raw (λ y w. w)
               (λ r l. either (λ z. (either (λ w. either (λ y. inl y) (λ y. either (λ e. absurd (z.1.1.0 e)) (λ e. absurd (z.1.1.1.0 e)) (two_of r y)) w) (λ w. inr w) z.0, z.1.1.0)) (λ z. absurd z) l)
-              (subst (λ (z : ℕ). Safe t f body (suc k) z R1) (sym first_at) at_b)) m exit.1,
+              (subst (λ (z : ℕ). Safe t f body (suc k) z InTurn) (sym first_at) at_b)) m exit.1,
         )
