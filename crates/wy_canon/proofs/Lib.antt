@@ -1,1 +1,2 @@
 mod StepLemmas
+pub mod NumberedLemmas

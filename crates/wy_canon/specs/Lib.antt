@@ -1,2 +1,5 @@
 -- definitions of public contracts
 pub mod Width
+-- definitions for functions inside
+pub mod Digests
+pub mod Numbered

@@ -4,6 +4,7 @@ ghost use Rattle.wy_types.specs.Conjuncts.{same_term};
 ghost use Rattle.wy_types.specs.Same as same;
 
 use crate::copies::{copy_atom, copy_conjunct, copy_signed};
+use crate::numbered::NumberedConjuncts;
 use std::alloc::{AllocError, Global};
 use wy_items::Items;
 use wy_types::{Atom, Conjunct, Signed, has_atom, has_conjunct, has_signed};
@@ -63,8 +64,8 @@ pub fn united_atoms(
     Ok(all)
 }
 
-/// The conjuncts, and this one if it isn't there.
-pub fn with_conjunct(
+/// The conjuncts, and this one if it isn't there. They are looked through one by one.
+pub fn with_one(
     all: Items<Conjunct<u32>>,
     conjunct: Conjunct<u32>,
 ) -> Result<Items<Conjunct<u32>>, AllocError>
@@ -78,8 +79,23 @@ pub fn with_conjunct(
     Ok(all)
 }
 
-/// Both lists, each conjunct once.
-pub fn united_conjuncts(
+/// The conjuncts, and this one if it isn't there, in expected time linear in its size.
+pub fn with_conjunct(
+    all: NumberedConjuncts,
+    conjunct: Conjunct<u32>,
+) -> Result<NumberedConjuncts, AllocError>
+    ensures value { IfOk result (λ made. made ≡ same.with_conjunct same_term all conjunct) }
+{
+    let mut all = all;
+    if all.place(&conjunct).is_some() {
+        return Ok(all);
+    }
+    all.push(conjunct)?;
+    Ok(all)
+}
+
+// Both lists, each conjunct once, where the second is short.
+fn united_few(
     alloc: Global,
     first: Items<Conjunct<u32>>,
     more: &[Conjunct<u32>],
@@ -88,7 +104,38 @@ pub fn united_conjuncts(
 {
     let mut all = first;
     for conjunct in more {
+        all = with_one(all, copy_conjunct(alloc, conjunct)?)?;
+    }
+    Ok(all)
+}
+
+// Both lists, each conjunct once, where the second is long.
+fn united_many(
+    alloc: Global,
+    first: NumberedConjuncts,
+    more: &[Conjunct<u32>],
+) -> Result<NumberedConjuncts, AllocError>
+    ensures value { IfOk result (λ made. made ≡ same.united_conjuncts same_term first more.now) }
+{
+    let mut all = first;
+    for conjunct in more {
         all = with_conjunct(all, copy_conjunct(alloc, conjunct)?)?;
     }
     Ok(all)
+}
+
+/// Both lists, each conjunct once, in expected time linear in their sizes.
+pub fn united_conjuncts(
+    alloc: Global,
+    first: Items<Conjunct<u32>>,
+    more: &[Conjunct<u32>],
+) -> Result<Items<Conjunct<u32>>, AllocError>
+    ensures value { IfOk result (λ made. made ≡ same.united_conjuncts same_term first more.now) }
+{
+    if more.len() <= 8 {
+        return united_few(alloc, first, more);
+    }
+    let all = NumberedConjuncts::from_items(alloc, first)?;
+    let all = united_many(alloc, all, more)?;
+    Ok(all.into_items())
 }

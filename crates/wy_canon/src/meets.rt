@@ -8,6 +8,7 @@ ghost use Rattle.wy_types.specs.Merge as merging;
 use crate::copies::{copy_atom, copy_atoms, copy_fields, copy_part, copy_terms};
 use crate::fault::TypeFault;
 use crate::lists::{united, united_atoms, united_conjuncts, with_conjunct};
+use crate::numbered::NumberedConjuncts;
 use std::alloc::{AllocError, Global};
 use wy_data::Name;
 use wy_items::Items;
@@ -144,10 +145,10 @@ fn kept(
 // The list, and what both conjuncts have in common.
 fn with_pair(
     alloc: Global,
-    made: Items<Conjunct<u32>>,
+    made: NumberedConjuncts,
     x: &Conjunct<u32>,
     y: &Conjunct<u32>,
-) -> Result<Items<Conjunct<u32>>, AllocError>
+) -> Result<NumberedConjuncts, AllocError>
     ensures value { IfOk result (λ all. all ≡ merging.with_pair same_term made x.now y.now) }
 {
     match meet(alloc, &x.positive, &y.positive)? {
@@ -169,10 +170,10 @@ fn with_pair(
 
 fn with_pairs(
     alloc: Global,
-    made: Items<Conjunct<u32>>,
+    made: NumberedConjuncts,
     x: &Conjunct<u32>,
     ys: &[Conjunct<u32>],
-) -> Result<Items<Conjunct<u32>>, AllocError>
+) -> Result<NumberedConjuncts, AllocError>
     ensures value { IfOk result (λ all. all ≡ merging.with_pairs same_term made x.now ys.now) }
 {
     let mut made = made;
@@ -199,11 +200,11 @@ pub fn merge(
             }
         }
     }
-    let mut made = Items::new(alloc);
+    let mut made = NumberedConjuncts::new(alloc);
     for x in xs {
         made = with_pairs(alloc, made, x, ys)?;
     }
-    Ok(made)
+    Ok(made.into_items())
 }
 
 /// Both lists, in order, or their merge.

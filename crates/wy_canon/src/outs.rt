@@ -6,7 +6,7 @@ ghost use Rattle.wy_types.specs.Merge as merging;
 
 use crate::copies::copy_atom;
 use crate::fault::TypeFault;
-use crate::lists::{united_conjuncts, with_conjunct};
+use crate::lists::{united_conjuncts, with_one};
 use crate::meets::merge;
 use std::alloc::{AllocError, Global};
 use wy_items::Items;
@@ -163,7 +163,7 @@ fn with_plains(
 {
     let mut made = made;
     for atom in atoms {
-        made = with_conjunct(made, plain(alloc, atom)?)?;
+        made = with_one(made, plain(alloc, atom)?)?;
     }
     Ok(made)
 }

@@ -2,9 +2,9 @@
 //!
 //! What is in a type and not in another is a part, and the question is whether it has a value.
 //! `asks` has the parts whose values decide whether a conjunct has one, and `ways` counts them for a
-//! record. `reach` makes all conjuncts and parts that a question reaches. `clausal` has what these ask
-//! as clauses, of which `marks` and `values` make the least set: those that have a value. `valued`
-//! keeps these, and `inclusion` answers for terms of a table.
+//! record. `reach` makes all conjuncts and parts that a question reaches, each once. `clausal` has
+//! what these ask as clauses, of which `marks` and `values` make the least set: those that have a
+//! value. `valued` keeps these, and `inclusion` answers for terms of a table.
 //! `questions` has the questions about the types of a program.
 #![tactic(auto)]
 

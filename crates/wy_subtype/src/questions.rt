@@ -15,9 +15,9 @@ use wy_types::{Names, Question};
 
 /// Whether every datum in `a` is in `b`, by upward readings of both. Wide exactly where the question
 /// is. The question becomes this one, in time linear in the size of both types and of the two before;
-/// then each part that it reaches falls into conjuncts once, a look for an equal part or conjunct is
-/// linear in those reached before, and values are found in time linear in what is asked, each clause
-/// read once for each thing that it needs.
+/// then each part that it reaches falls into conjuncts once, an equal part or conjunct is found by a
+/// digest in expected time linear in its own size, and values are found in time linear in what is
+/// asked, each clause read once for each thing that it needs.
 pub fn subtype_in(
     alloc: Global,
     names: &Names,

@@ -10,21 +10,23 @@ ghost use Rattle.wy_types.specs.Same as same;
 use crate::asks::options_of;
 use crate::ways::few_ways;
 use std::alloc::{AllocError, Global};
-use wy_canon::{LIMIT, TypeFault, copy_conjunct, copy_terms, dnf_part};
+use wy_canon::{
+    LIMIT, NumberedConjuncts, NumberedParts, TypeFault, copy_conjunct, copy_terms, dnf_part,
+};
 use wy_items::Items;
-use wy_types::{Conjunct, Signed, Table, same_conjunct, same_terms};
+use wy_types::{Conjunct, Signed, Table};
 
 /// Conjuncts, with the number of one of them.
 #[derive(Drop)]
 pub struct Interned {
-    pub conjuncts: Items<Conjunct<u32>>,
+    pub conjuncts: NumberedConjuncts,
     pub number: u32,
 }
 
 /// Conjuncts, with the numbers of some of them.
 #[derive(Drop)]
 pub struct InternedAll {
-    pub conjuncts: Items<Conjunct<u32>>,
+    pub conjuncts: NumberedConjuncts,
     pub numbers: Items<u32>,
 }
 
@@ -32,9 +34,9 @@ pub struct InternedAll {
 /// ask.
 #[derive(Drop)]
 pub struct Reach {
-    pub parts: Items<Items<Signed<u32>>>,
+    pub parts: NumberedParts,
     pub heads: Items<Items<u32>>,
-    pub conjuncts: Items<Conjunct<u32>>,
+    pub conjuncts: NumberedConjuncts,
     pub asks: Items<Items<Items<Items<u32>>>>,
 }
 
@@ -66,50 +68,12 @@ pub struct AddedOptions {
     pub numbers: Items<Items<Items<u32>>>,
 }
 
-#[tactic(auto, using(crate::proofs::NumberLemmas::same_terms_is))]
-fn is_same_part(a: &[Signed<u32>], b: &[Signed<u32>]) -> bool
-    ensures { result ≡ true → a.now ≡ b.now }
-{
-    same_terms(a, b)
-}
-
-#[tactic(auto, using(crate::proofs::NumberLemmas::same_conjunct_number))]
-fn is_same_conjunct(a: &Conjunct<u32>, b: &Conjunct<u32>) -> bool
-    ensures value { result ≡ same.same_conjunct same_term a.now b.now }
-    ensures sound { result ≡ true → a.now ≡ b.now }
-{
-    same_conjunct(a, b)
-}
-
-fn place_of(parts: &[Items<Signed<u32>>], part: &[Signed<u32>]) -> Option<usize>
-    ensures { IfSome result (λ n. slice_get parts.now n ≡ Some part.now) }
-{
-    for (number, other) in parts.iter().enumerate() {
-        if is_same_part(other.as_slice(), part) {
-            return Some(number);
-        }
-    }
-    None
-}
-
-fn place_of_conjunct(conjuncts: &[Conjunct<u32>], conjunct: &Conjunct<u32>) -> Option<usize>
-    ensures found { IfSome result (λ n. slice_get conjuncts.now n ≡ Some conjunct.now) }
-    ensures whether { is_some result ≡ same.has_conjunct same_term conjuncts.now conjunct.now }
-{
-    for (number, other) in conjuncts.iter().enumerate() {
-        if is_same_conjunct(other, conjunct) {
-            return Some(number);
-        }
-    }
-    None
-}
-
 // The conjunct's number, which it gets if it has none.
 fn intern(
     _table: &Table,
     _depth: u32,
     _first: &[Signed<u32>],
-    conjuncts: Items<Conjunct<u32>>,
+    conjuncts: NumberedConjuncts,
     conjunct: Conjunct<u32>,
 ) -> Result<Interned, TypeFault>
     requires different { AreDifferent conjuncts }
@@ -119,7 +83,7 @@ fn intern(
     ensures wide { known.WideOnly result (IsWide _table.now _depth _first.now) }
 {
     let mut conjuncts = conjuncts;
-    if let Some(number) = place_of_conjunct(conjuncts.as_slice(), &conjunct) {
+    if let Some(number) = conjuncts.place(&conjunct) {
         return match u32::try_from(number) {
             Ok(number) => Ok(Interned { conjuncts, number }),
             Err(_) => Err(TypeFault::NoMemory),
@@ -139,7 +103,7 @@ fn intern_all(
     table: &Table,
     depth: u32,
     first: &[Signed<u32>],
-    conjuncts: Items<Conjunct<u32>>,
+    conjuncts: NumberedConjuncts,
     list: &[Conjunct<u32>],
 ) -> Result<InternedAll, TypeFault>
     requires different { AreDifferent conjuncts }
@@ -176,7 +140,7 @@ fn add_part(
     ensures known { IfOk result (known.IsAdded table.now depth first.now reach part) }
     ensures wide { known.WideOnly result (IsWide table.now depth first.now) }
 {
-    if let Some(number) = place_of(reach.parts.as_slice(), part.as_slice()) {
+    if let Some(number) = reach.parts.place(part.as_slice()) {
         return match u32::try_from(number) {
             Ok(number) => Ok(Added { reach, number }),
             Err(_) => Err(TypeFault::NoMemory),
@@ -339,8 +303,8 @@ fn few_options(
     Ok(options)
 }
 
-/// All conjuncts and parts that a part reaches, each part decomposed once. A look for an equal part
-/// or conjunct is linear in what was reached before.
+/// All conjuncts and parts that a part reaches, each part decomposed once. An equal part or conjunct
+/// is found by its digest, in expected time linear in its own size.
 pub fn reach_of(
     alloc: Global,
     table: &Table,
@@ -351,9 +315,9 @@ pub fn reach_of(
     ensures wide { known.WideOnly result (IsWide table.now depth first.now) }
 {
     let nothing = Reach {
-        parts: Items::new(alloc),
+        parts: NumberedParts::new(alloc),
         heads: Items::new(alloc),
-        conjuncts: Items::new(alloc),
+        conjuncts: NumberedConjuncts::new(alloc),
         asks: Items::new(alloc),
     };
     let part = copy_terms(alloc, first)?;

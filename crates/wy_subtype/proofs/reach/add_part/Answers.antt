@@ -9,15 +9,15 @@ use Rattle.wy_subtype.proofs.reach.add_part.Goals as goal
 
 pub intern_all-requires-clause-new : goal.intern_all-requires-clause-new
 intern_all-requires-clause-new c =
-    let is : c.as_slice-4.result.now ≡ dnf_part c.args.table.now c.args.depth c.args.part = c.as_slice-4.ensures ∙ c.in_ok-made.ensures.value ∙ ap (dnf_part c.args.table.now c.args.depth) c.as_slice-3.ensures in
+    let is : c.as_slice-3.result.now ≡ dnf_part c.args.table.now c.args.depth c.args.part = c.as_slice-3.ensures ∙ c.in_ok-made.ensures.value ∙ ap (dnf_part c.args.table.now c.args.depth) c.as_slice-2.ensures in
     subst (λ (xs : List (Conjunct ℕ)). EachOf (Reaches c.args.table.now c.args.depth c.args.first.now) xs) (sym is) (needed_reaches c.args.table.now c.args.depth c.args.first.now c.args.part c.requires.needed)
 
 pub returns-clause-known : goal.returns-clause-known
 returns-clause-known c =
-    let is : c.as_slice-4.result.now ≡ dnf_part c.args.table.now c.args.depth c.args.part = c.as_slice-4.ensures ∙ c.in_ok-made.ensures.value ∙ ap (dnf_part c.args.table.now c.args.depth) c.as_slice-3.ensures in
+    let is : c.as_slice-3.result.now ≡ dnf_part c.args.table.now c.args.depth c.args.part = c.as_slice-3.ensures ∙ c.in_ok-made.ensures.value ∙ ap (dnf_part c.args.table.now c.args.depth) c.as_slice-2.ensures in
     let x = c.in_ok-conjuncts.field-0 in
     let all : AreInterned c.args.table.now c.args.depth c.args.first.now c.args.reach.conjuncts (dnf_part c.args.table.now c.args.depth c.args.part) x =
     subst (λ (xs : List (Conjunct ℕ)). AreInterned c.args.table.now c.args.depth c.args.first.now c.args.reach.conjuncts xs x) is c.in_ok-conjuncts.ensures.known in
-    let narrow : narrow_part c.args.table.now c.args.depth c.args.part ≡ true = ap (narrow_part c.args.table.now c.args.depth) (sym c.as_slice-3.ensures) ∙ c.in_ok-made.ensures.width in
+    let narrow : narrow_part c.args.table.now c.args.depth c.args.part ≡ true = ap (narrow_part c.args.table.now c.args.depth) (sym c.as_slice-2.ensures) ∙ c.in_ok-made.ensures.width in
     added_as c.args.table.now c.args.depth c.args.first.now c.args.reach c.args.part (c.args.reach.parts ++ c.args.part ∷ []) c.push-2.new.self (c.args.reach.heads ++ x.numbers ∷ []) c.push.new.self x.conjuncts c.args.reach.asks (length c.args.reach.parts) c.len-count.result
     (sym c.in_ok-push-2.ensures.ok) (sym c.in_ok-push.ensures.ok) (sym c.len-count.ensures) (known_more c.args.table.now c.args.depth c.args.first.now c.args.reach c.args.part x c.requires.known all narrow)

@@ -1,15 +1,18 @@
-use Rattle.std.proofs.Common.{◌≡◌, ◌∙◌, sym, subst, ap, ℕ, ◌+◌, ◌≤◌, length, List, Some}
-use Rattle.std.specs.Prelude.{slice_get}
+use Rattle.std.proofs.Common.{◌≡◌, ◌∙◌, sym, subst, ap, ℕ, zero, suc, ◌+◌, ◌≤◌, length, List, [], ◌∷◌, Some, None, arith}
+use Rattle.std.specs.Prelude.{slice_get, Ok, Err, IsErrAnd}
+use Rattle.std.specs.declared.result.Result.{Result}
 use Rattle.std.proofs.lemmas.List.{length_push}
 use Rattle.wy_types.specs.declared.conjuncts.Signed.{Signed}
 use Rattle.wy_types.specs.declared.conjuncts.Conjunct.{Conjunct}
 use Rattle.wy_types.specs.Claims.{EachOf}
-use Rattle.wy_types.specs.Reach.{Reaches, IsNeeded}
+use Rattle.wy_types.specs.Reach.{Reaches, IsNeeded, IsWide}
+use Rattle.wy_canon.specs.declared.fault.TypeFault.{TypeFault}
 use Rattle.wy_subtype.specs.declared.reach.Reach.{Reach}
 use Rattle.wy_subtype.specs.Numbers.{AreAllAt}
-use Rattle.wy_subtype.specs.Known.{options_of, IsKnown, asking}
+use Rattle.wy_subtype.specs.Known.{options_of, IsKnown, asking, WideOnly}
 use Rattle.wy_subtype.proofs.NumberLemmas.{each_get}
 use Rattle.wy_subtype.proofs.KnownLemmas.{needed_at, known_asked, more_conjuncts}
+use Rattle.wy_subtype.proofs.RefusalLemmas.{wide_map}
 use Rattle.wy_subtype.proofs.reach.reach_of.Goals as goal
 
 pub add_options-requires-clause-needed : goal.add_options-requires-clause-needed
@@ -44,3 +47,31 @@ loop-j-preserved c =
       many = subst (λ (r : Reach). c.loop-j.j + 1 ≤ length r.conjuncts) (sym made) many;
       begins = subst (λ (r : Reach). slice_get r.parts n ≡ Some c.args.first.now) (sym made) begins;
     }
+
+get_none : {X : Type 0} (xs : List X) (j : ℕ) → slice_get xs j ≡ None → length xs ≤ j
+get_none [] j e = omega arith
+get_none (x ∷ xs) zero e = absurd cc
+get_none (x ∷ xs) (suc j) e = let r = get_none xs j e in omega (arith, r)
+
+pub returns-in-None-clause-known : goal.returns-in-None-clause-known
+returns-in-None-clause-known c =
+    let v = c.loop-j.invariant in
+    let past : length c.loop-j.reach.conjuncts ≤ c.loop-j.j = get_none c.loop-j.reach.conjuncts c.loop-j.j (sym c.in-None.ensures.value) in
+    record {
+      known = v.known;
+      full = omega (arith, v.count, v.many, past);
+      few = omega (arith, past, c.loop-j-test.true);
+      begins = v.begins;
+    }
+
+-- a refusal that is handed on
+wide_on : {X : Type 0} (Y : Type 0) (e : TypeFault) (r : Result X TypeFault) (W : Type 0) → (let q : Result Y TypeFault = Err e in WideOnly q W) → IsErrAnd r (λ f. f ≡ e) → WideOnly r W
+wide_on Y e (Ok x) W h is = tt
+wide_on {X} Y e (Err f) W h is = subst (λ (g : TypeFault). (let q : Result X TypeFault = Err g in WideOnly q W)) (sym is) (turn e h)
+  where
+    turn : (g : TypeFault) → (let q : Result Y TypeFault = Err g in WideOnly q W) → (let q : Result X TypeFault = Err g in WideOnly q W)
+    turn g h = wide_map Y X g W W (λ w. w) h
+
+pub returns-in_err-options-clause-wide : goal.returns-in_err-options-clause-wide
+returns-in_err-options-clause-wide c =
+    wide_on (List (List (List (List (Signed ℕ))))) c.in_err-options.field-0.0 c.from_residual-in_err-options.result (IsWide c.args.table.now c.args.depth c.args.first.now) c.in_err-options.ensures.wide c.from_residual-in_err-options.ensures.1
