@@ -59,7 +59,7 @@ args-texts : (xs : List Expr) → map arg_text xs ≡ texts (map shown xs)
 args-texts [] = refl
 args-texts (x ∷ xs) = ap (λ (l : List (List ℕ)). arg_text x ∷ l) (args-texts xs)
 
--- a row of arguments, as the rule of lists of them has it
+-- a fresh of arguments, as the rule of lists of them has it
 row-args : (m : ℕ) (i : List Token) (x : Args) (j : List Token) → (commas.Row arg_text view one_arg m).reads i x j
     → (Then (Expr_ true m) (λ a. MoreArgs m (Unary true m) (Expr_ true m) (pushed none a))).reads i x j
 row-args m i x j r =

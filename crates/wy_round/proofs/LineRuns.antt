@@ -23,7 +23,7 @@ use Rattle.wy_round.proofs.Pieces.Piece.{gap, mark}
 use Rattle.wy_round.proofs.Marks.{encodes-ascii, codes-plain}
 use Rattle.wy_round.proofs.Sources.{linked-clean, clean-symbols, clean-utf8}
 use Rattle.wy_round.proofs.Lines.{Line, margin, lead, body, entry, next_at, behind, continues_first, IsBody, Good, clean-join, lead-blank, lead-ascii, lead-clean, blanks-read, blocks, blocks-length, blocks-inside, begins-open, begins-new, ended, enters, may-begin, outs-times}
-use Rattle.wy_round.proofs.Lines.Line.{row, further, blank}
+use Rattle.wy_round.proofs.Lines.Line.{fresh, further, blank}
 
 turns-join : {A : Type 0} (turn : A → Rule Symbol Kind A) (a : A) (i : List Symbol) (b : A) (j : List Symbol) (c : A) (l : List Symbol) → Turns turn a i b j → Turns turn b j c l → Turns turn a i c l
 turns-join turn a i b j c l (stop e f) r = subst (λ x. Turns turn x i c l) e (subst (λ m. Turns turn b m c l) (sym f) r)
@@ -96,7 +96,7 @@ tail-run qs made open_level d indent colon m at ls h closed g =
 line-run : (kind : TokenKind) (cs : List ℕ) (m : Character) (qs : List Piece) (from : State) (made : List Token) (to : ℕ) (indent : List ℕ) (at : ℕ) (ls : List Line)
     → IsBody (mark kind cs m ∷ qs) → may_stand from ≡ true → from.more ≡ class.Blank
     → placed from kind at m ≡ within (made ++ token kind at ∷ []) (blocks to) (depth_after kind 0) indent (is_colon kind) m
-    → Turns {X = Kind} (Next true) from (plain_from at (body (row 0 (mark kind cs m ∷ qs) ∷ ls)))
+    → Turns {X = Kind} (Next true) from (plain_from at (body (fresh 0 (mark kind cs m ∷ qs) ∷ ls)))
     (ended (made ++ tokens_from at (mark kind cs m ∷ qs)) to (at + size (letters (mark kind cs m ∷ qs))) (lead ls) (colon_behind (is_colon kind) qs)) (plain_from (next_at (at + size (letters (mark kind cs m ∷ qs))) ls) (body ls))
 line-run kind cs m qs from made to indent at ls b stand blank_more e =
     let there = at + size cs in
@@ -193,9 +193,9 @@ lines-run (blank ∷ ls) made open_level end colon at n h e =
     run-behind (ended made open_level end [] colon) (plain_from at (10 ∷ (lead ls ++ body ls))) (ended made open_level end (lead ls) colon) (plain_from (next_at at ls) (body ls)) n (made ++ behind end (next_at at ls) open_level ls)
     (subst (λ l. Turns {X = Kind} (Next true) (ended made open_level end [] colon) l (ended made open_level end (lead ls) colon) (plain_from (next_at at ls) (body ls))) text
     (more (ended made open_level end (lead ls) colon) (plain_from (next_at at ls) (body ls)) (blank-run made open_level end colon at ls) (stop refl refl))) rest
-lines-run (row l [] ∷ ls) made open_level end colon at n h e = absurd h.0.leads
-lines-run (row l (gap ∷ qs) ∷ ls) made open_level end colon at n h e = absurd h.0.leads
-lines-run (row l (mark kind cs m ∷ qs) ∷ ls) made open_level end colon at n h e =
+lines-run (fresh l [] ∷ ls) made open_level end colon at n h e = absurd h.0.leads
+lines-run (fresh l (gap ∷ qs) ∷ ls) made open_level end colon at n h e = absurd h.0.leads
+lines-run (fresh l (mark kind cs m ∷ qs) ∷ ls) made open_level end colon at n h e =
     let ps : List Piece = mark kind cs m ∷ qs in
     let from : State = ended made open_level end (margin l) colon in
     let en = entry-of open_level l colon at h.2 in
@@ -204,13 +204,13 @@ lines-run (row l (mark kind cs m ∷ qs) ∷ ls) made open_level end colon at n 
     placed-own from kind at m made open_level end (margin l) colon refl h.1 ∙ ap (λ (x : State). added x kind at m) (enters made open_level end (margin l) colon at l en.between en.begins) in
     let there = at + size (letters ps) in
     let rest = lines-run ls (made_is ++ tokens_from at ps) l there (colon_behind (is_colon kind) qs) (next_at there ls) n h.3 (let w = size-line (letters ps) (lead ls) (body ls) in omega (arith, e, w)) in
-    let all : (made_is ++ tokens_from at ps) ++ behind there (next_at there ls) l ls ≡ made ++ behind end at open_level (row l ps ∷ ls) =
+    let all : (made_is ++ tokens_from at ps) ++ behind there (next_at there ls) l ls ≡ made ++ behind end at open_level (fresh l ps ∷ ls) =
     append_assoc made_is (tokens_from at ps) (behind there (next_at there ls) l ls)
     ∙ (append_assoc (made ++ token k.LineEnd end ∷ []) (all_at at en.between) (tokens_from at ps ++ behind there (next_at there ls) l ls)
     ∙ (append_assoc made (token k.LineEnd end ∷ []) (all_at at en.between ++ (tokens_from at ps ++ behind there (next_at there ls) l ls))
     ∙ ap (λ (ts : List Token). made ++ token k.LineEnd end ∷ (ts ++ (tokens_from at ps ++ behind there (next_at there ls) l ls))) en.tokens_are)) in
-    subst (λ ts. Run from (plain_from at (body (row l ps ∷ ls))) n ts) all
-    (run-behind from (plain_from at (body (row l ps ∷ ls))) (ended (made_is ++ tokens_from at ps) l there (lead ls) (colon_behind (is_colon kind) qs)) (plain_from (next_at there ls) (body ls)) n ((made_is ++ tokens_from at ps) ++ behind there (next_at there ls) l ls)
+    subst (λ ts. Run from (plain_from at (body (fresh l ps ∷ ls))) n ts) all
+    (run-behind from (plain_from at (body (fresh l ps ∷ ls))) (ended (made_is ++ tokens_from at ps) l there (lead ls) (colon_behind (is_colon kind) qs)) (plain_from (next_at there ls) (body ls)) n ((made_is ++ tokens_from at ps) ++ behind there (next_at there ls) l ls)
     (line-run kind cs m qs from made_is l [] at ls h.0 (may-begin made open_level end (margin l) colon l en.between en.begins) refl begins) rest)
 lines-run (further l [] ∷ ls) made open_level end colon at n h e = absurd h.0.leads
 lines-run (further l (gap ∷ qs) ∷ ls) made open_level end colon at n h e = absurd h.0.leads
@@ -231,8 +231,8 @@ lines-run (further l (mark kind cs m ∷ qs) ∷ ls) made open_level end colon a
 body-clean : (ls : List Line) (open_level : ℕ) (colon : Bool) → Good open_level colon ls → all_clean (lead ls ++ body ls) ≡ true
 body-clean [] open_level colon h = refl
 body-clean (blank ∷ ls) open_level colon h = body-clean ls open_level colon h
-body-clean (row l ps ∷ ls) open_level colon h =
-    clean-join (lead (row l ps ∷ ls)) (letters ps ++ 10 ∷ (lead ls ++ body ls)) (lead-clean (row l ps ∷ ls)) (clean-join (letters ps) (10 ∷ (lead ls ++ body ls)) (linked-clean class.Blank ps h.0.linked) (body-clean ls l (colon_behind colon ps) h.3))
+body-clean (fresh l ps ∷ ls) open_level colon h =
+    clean-join (lead (fresh l ps ∷ ls)) (letters ps ++ 10 ∷ (lead ls ++ body ls)) (lead-clean (fresh l ps ∷ ls)) (clean-join (letters ps) (10 ∷ (lead ls ++ body ls)) (linked-clean class.Blank ps h.0.linked) (body-clean ls l (colon_behind colon ps) h.3))
 body-clean (further l ps ∷ ls) open_level colon h =
     clean-join (lead (further l ps ∷ ls)) (letters ps ++ 10 ∷ (lead ls ++ body ls)) (lead-clean (further l ps ∷ ls)) (clean-join (letters ps) (10 ∷ (lead ls ++ body ls)) (linked-clean class.Blank ps h.0.linked) (body-clean ls open_level (colon_behind colon ps) h.3))
 
@@ -247,12 +247,12 @@ source_tokens ps ls = tokens_from 0 ps ++ behind (size (letters ps)) (next_at (s
 first-within : (kind : TokenKind) (m : Character) → continues kind ≡ false → placed (first_state []) kind 0 m ≡ within ([] ++ token kind 0 ∷ []) (blocks 0) (depth_after kind 0) [] (is_colon kind) m
 first-within kind m c = ap (λ b. cond b (added (first_state []) kind 0 m) (added (begun (first_state []) 0) kind 0 m)) c
 
-pub source-lines : (ps : List Piece) (ls : List Line) → IsBody ps → continues_first ps ≡ false → Good 0 (colon_behind false ps) ls → Tokens (lines_text (row 0 ps ∷ ls)) (source_tokens ps ls)
+pub source-lines : (ps : List Piece) (ls : List Line) → IsBody ps → continues_first ps ≡ false → Good 0 (colon_behind false ps) ls → Tokens (lines_text (fresh 0 ps ∷ ls)) (source_tokens ps ls)
 source-lines [] ls b c g = absurd b.leads
 source-lines (gap ∷ qs) ls b c g = absurd b.leads
 source-lines (mark kind cs m ∷ qs) ls b c g =
     let ps : List Piece = mark kind cs m ∷ qs in
-    let text : List ℕ = body (row 0 ps ∷ ls) in
+    let text : List ℕ = body (fresh 0 ps ∷ ls) in
     let n = size text in
     let clean : all_clean text ≡ true = clean-join (letters ps) (10 ∷ (lead ls ++ body ls)) (linked-clean class.Blank ps b.linked) (body-clean ls 0 (colon_behind (is_colon kind) qs) g) in
     let there = 0 + size (letters ps) in

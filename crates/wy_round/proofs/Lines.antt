@@ -28,7 +28,7 @@ use Rattle.wy_round.proofs.Segments.{Leads}
 
 -- a line of its own, or one that continues the line before it, with its level; or a blank line
 pub data Line : Type 0 where
-  row : (level : ℕ) (ps : List Piece) → Line
+  fresh : (level : ℕ) (ps : List Piece) → Line
   further : (level : ℕ) (ps : List Piece) → Line
   blank : Line
 
@@ -40,14 +40,14 @@ margin (suc n) = margin n ++ step_in
 -- the characters before the first line's pieces
 abbrev pub lead : List Line → List ℕ
 lead [] = []
-lead (row l ps ∷ ls) = margin l
+lead (fresh l ps ∷ ls) = margin l
 lead (further l ps ∷ ls) = margin l
 lead (blank ∷ ls) = []
 
 -- all behind them
 abbrev pub body : List Line → List ℕ
 body [] = []
-body (row l ps ∷ ls) = letters ps ++ 10 ∷ (lead ls ++ body ls)
+body (fresh l ps ∷ ls) = letters ps ++ 10 ∷ (lead ls ++ body ls)
 body (further l ps ∷ ls) = letters ps ++ 10 ∷ (lead ls ++ body ls)
 body (blank ∷ ls) = 10 ∷ (lead ls ++ body ls)
 
@@ -64,7 +64,7 @@ next_at end ls = (end + 1) + size (lead ls)
 -- the tokens behind a line that ends at the place: the first line's pieces begin at `at`, and blocks are open up to the level
 abbrev pub behind : ℕ → ℕ → ℕ → List Line → List Token
 behind end at open_level [] = token k.LineEnd end ∷ (outs open_level at ++ token k.End at ∷ [])
-behind end at open_level (row l ps ∷ ls) = token k.LineEnd end ∷ (entry open_level l at ++ (tokens_from at ps ++ behind (at + size (letters ps)) (next_at (at + size (letters ps)) ls) l ls))
+behind end at open_level (fresh l ps ∷ ls) = token k.LineEnd end ∷ (entry open_level l at ++ (tokens_from at ps ++ behind (at + size (letters ps)) (next_at (at + size (letters ps)) ls) l ls))
 behind end at open_level (further l ps ∷ ls) = tokens_from at ps ++ behind (at + size (letters ps)) (next_at (at + size (letters ps)) ls) open_level ls
 behind end at open_level (blank ∷ ls) = behind end (next_at at ls) open_level ls
 
@@ -86,7 +86,7 @@ pub record IsBody (ps : List Piece) : Type 0 where
 -- a line stands in an open block, or in a new one behind a colon
 abbrev pub Good : ℕ → Bool → List Line → Type 0
 Good open_level colon [] = ⊤
-Good open_level colon (row l ps ∷ ls) = IsBody ps × (continues_first ps ≡ false) × ((l ≤ open_level) ⊎ ((l ≡ suc open_level) × (colon ≡ true))) × Good l (colon_behind colon ps) ls
+Good open_level colon (fresh l ps ∷ ls) = IsBody ps × (continues_first ps ≡ false) × ((l ≤ open_level) ⊎ ((l ≡ suc open_level) × (colon ≡ true))) × Good l (colon_behind colon ps) ls
 Good open_level colon (further l ps ∷ ls) = IsBody ps × (continues_first ps ≡ true) × (l ≤ open_level) × Good open_level (colon_behind colon ps) ls
 Good open_level colon (blank ∷ ls) = Good open_level colon ls
 
@@ -138,19 +138,19 @@ margin-blank (suc n) = blank-join (margin n) step_in (margin-blank n) refl
 
 pub lead-blank : (ls : List Line) → all_blank (lead ls) ≡ true
 lead-blank [] = refl
-lead-blank (row l ps ∷ ls) = margin-blank l
+lead-blank (fresh l ps ∷ ls) = margin-blank l
 lead-blank (further l ps ∷ ls) = margin-blank l
 lead-blank (blank ∷ ls) = refl
 
 pub lead-ascii : (ls : List Line) → all_ascii (lead ls) ≡ true
 lead-ascii [] = refl
-lead-ascii (row l ps ∷ ls) = margin-ascii l
+lead-ascii (fresh l ps ∷ ls) = margin-ascii l
 lead-ascii (further l ps ∷ ls) = margin-ascii l
 lead-ascii (blank ∷ ls) = refl
 
 pub lead-clean : (ls : List Line) → all_clean (lead ls) ≡ true
 lead-clean [] = refl
-lead-clean (row l ps ∷ ls) = margin-clean l
+lead-clean (fresh l ps ∷ ls) = margin-clean l
 lead-clean (further l ps ∷ ls) = margin-clean l
 lead-clean (blank ∷ ls) = refl
 

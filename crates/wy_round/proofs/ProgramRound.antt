@@ -41,7 +41,7 @@ use Rattle.wy_round.proofs.Enclosed.{begins-letter, name_piece, name-item, name-
 use Rattle.wy_round.proofs.TypeRound.{map-map}
 use Rattle.wy_round.proofs.ExprGives.{gives-level}
 use Rattle.wy_round.proofs.Lines.{Line, next_at}
-use Rattle.wy_round.proofs.Lines.Line.{row as line_at, blank}
+use Rattle.wy_round.proofs.Lines.Line.{fresh as line_at, blank}
 use Rattle.wy_round.proofs.LineRuns.{lines_text}
 use Rattle.wy_round.proofs.StmtLines.{Follows, follows-good, opened, left, left-row, line-ends, row-text, blank-text, lines-append}
 use Rattle.wy_round.proofs.StmtOne.{word_gap, behind-word, item-body}

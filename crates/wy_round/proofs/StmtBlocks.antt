@@ -12,7 +12,7 @@ use Rattle.wy_parse.specs.StmtTrees.{S, Stmts}
 use Rattle.wy_round.proofs.Pieces.{Piece, letters, size, tokens_from, colon_behind}
 use Rattle.wy_round.proofs.Segments.{text_of}
 use Rattle.wy_round.proofs.Lines.{Line, margin, behind, next_at, Good}
-use Rattle.wy_round.proofs.Lines.Line.{row}
+use Rattle.wy_round.proofs.Lines.Line.{fresh}
 use Rattle.wy_round.proofs.LineRuns.{lines_text}
 use Rattle.wy_round.proofs.StmtShown.{View, view}
 use Rattle.wy_round.proofs.StmtLines.{Follows, opened, left, left-row, row-text, lines-append}
@@ -32,7 +32,7 @@ stmts_of rule xs = map (λ (x : AStmt rule). x.stmt_is) xs
 -- their lines, each on the level
 abbrev pub all_lines : (rule : R S) → ℕ → List (AStmt rule) → List Line
 all_lines rule n [] = []
-all_lines rule n (x ∷ xs) = row n x.again.first ∷ (x.again.rest n ++ all_lines rule n xs)
+all_lines rule n (x ∷ xs) = fresh n x.again.first ∷ (x.again.rest n ++ all_lines rule n xs)
 
 pub follows-lines : (rule : R S) (n : ℕ) (xs : List (AStmt rule)) (ls : List Line) → Follows n ls → Follows n (all_lines rule n xs ++ ls)
 follows-lines rule n [] ls f = f

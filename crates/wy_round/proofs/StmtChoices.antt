@@ -31,7 +31,7 @@ use Rattle.wy_round.proofs.Enclosed.{begins-letter, single-item}
 use Rattle.wy_round.proofs.ExprShown as exprs
 use Rattle.wy_round.proofs.ExprLines.{Again, IsPart, From, whole-of}
 use Rattle.wy_round.proofs.Lines.{Line as SourceLine, margin, behind, next_at, IsBody, Good}
-use Rattle.wy_round.proofs.Lines.Line.{row}
+use Rattle.wy_round.proofs.Lines.Line.{fresh}
 use Rattle.wy_round.proofs.LineRuns.{lines_text}
 use Rattle.wy_round.proofs.StmtShown.{View, view, if_view, view_if, if-shown}
 use Rattle.wy_round.proofs.StmtLines.{Follows, opened, left, left-row, row-text, lines-append}
@@ -115,7 +115,7 @@ module _ (rule : R Stmts) (branch : R S) where
   else-blocked : (x : Stmt) (xs : List Stmt) → is_if_alone (shown_stmt x) (map shown_stmt xs) ≡ false → BlockAgain rule (x ∷ xs) → ElseAgain (Otherwise rule branch) (x ∷ xs)
   unfolding Otherwise
   else-blocked x xs e b = record {
-    lines_of = λ n. row n else_colon ∷ b.inner (suc n);
+    lines_of = λ n. fresh n else_colon ∷ b.inner (suc n);
     spelled = λ n.
         row-text n else_colon (b.inner (suc n))
         ∙ (ap (λ (l : List ℕ). margin n ++ l) (ap₂ (λ (u v : List ℕ). u ++ 10 ∷ v) else_colon-text (b.spelled (suc n)))
@@ -126,7 +126,7 @@ module _ (rule : R Stmts) (branch : R S) where
         let inner : List SourceLine = b.inner (suc n) ++ ls in
         let q = colon-block rule (x ∷ xs) b sign n ls f in
         let block_text : List Token = behind (colon_end sign) (next_at (colon_end sign) inner) n inner in
-        let text_is : left p n (row n else_colon ∷ inner) ≡ token k.Else p ∷ token k.Colon sign ∷ block_text = left-row p n else_colon inner ∙ head-tokens p n colon (mark k.Else (codes "else") class.Part ∷ []) [] inner in
+        let text_is : left p n (fresh n else_colon ∷ inner) ≡ token k.Else p ∷ token k.Colon sign ∷ block_text = left-row p n else_colon inner ∙ head-tokens p n colon (mark k.Else (codes "else") class.Part ∷ []) [] inner in
         let path : (Otherwise rule branch).reads (token k.Else p ∷ token k.Colon sign ∷ block_text) (Low q.trees 0) (left q.place n ls) =
         inl (p, token k.Colon sign ∷ block_text, mark-reads t.ELSE k.Else p (token k.Colon sign ∷ block_text) refl, inl (sign, block_text, mark-reads t.COLON k.Colon sign block_text refl, q.reads)) in
         record { trees = q.trees; place = q.place; same = q.same; reads = subst (λ (i : List Token). (Otherwise rule branch).reads i (Low q.trees 0) (left q.place n ls)) (sym text_is) path };
@@ -137,7 +137,7 @@ module _ (rule : R Stmts) (branch : R S) where
   else-if x d =
       let a = d.again in
       record {
-        lines_of = λ n. row n (else_gap ++ a.first) ∷ a.rest n;
+        lines_of = λ n. fresh n (else_gap ++ a.first) ∷ a.rest n;
         spelled = λ n.
             row-text n (else_gap ++ a.first) (a.rest n)
             ∙ (ap (λ (l : List ℕ). margin n ++ l)
@@ -150,7 +150,7 @@ module _ (rule : R Stmts) (branch : R S) where
             let behind_it : List SourceLine = a.rest n ++ ls in
             let r = a.reads n there ls f in
             let inner : List Token = opened there a.first n behind_it in
-            let text_is : left p n (row n (else_gap ++ a.first) ∷ behind_it) ≡ token k.Else p ∷ inner = left-row p n (else_gap ++ a.first) behind_it ∙ head-tokens p n a.first else_gap [] behind_it in
+            let text_is : left p n (fresh n (else_gap ++ a.first) ∷ behind_it) ≡ token k.Else p ∷ inner = left-row p n (else_gap ++ a.first) behind_it ∙ head-tokens p n a.first else_gap [] behind_it in
             let path : (Otherwise rule branch).reads (token k.Else p ∷ inner) (Low (r.tree ∷ []) 0) (left r.place n ls) =
             inl (p, inner, mark-reads t.ELSE k.Else p inner refl, inr (Low r.tree 0, left r.place n ls, r.reads, (refl, refl))) in
             record { trees = r.tree ∷ []; place = r.place; same = ap (λ (v : View). v ∷ []) r.same; reads = subst (λ (i : List Token). (Otherwise rule branch).reads i (Low (r.tree ∷ []) 0) (left r.place n ls)) (sym text_is) path };

@@ -12,7 +12,7 @@ use Rattle.wy_round.proofs.Pieces.Piece.{gap, mark}
 use Rattle.wy_round.proofs.Marks.{encodes-ascii}
 use Rattle.wy_round.proofs.Segments.{text_of}
 use Rattle.wy_round.proofs.Lines.{Line, margin, lead, body, behind, entry, next_at, IsBody, Good, continues_first, margin-ascii}
-use Rattle.wy_round.proofs.Lines.Line.{row, further, blank}
+use Rattle.wy_round.proofs.Lines.Line.{fresh, further, blank}
 use Rattle.wy_round.proofs.LineRuns.{lines_text}
 
 -- ---- texts
@@ -24,7 +24,7 @@ ended-bytes : (cs ds : List ℕ) → encode_utf8_all (cs ++ 10 ∷ ds) ≡ encod
 unfolding encode
 ended-bytes cs ds = encodes-append cs (10 ∷ ds)
 
-pub row-text : (l : ℕ) (ps : List Piece) (ls : List Line) → lines_text (row l ps ∷ ls) ≡ margin l ++ (text_of ps ++ 10 ∷ lines_text ls)
+pub row-text : (l : ℕ) (ps : List Piece) (ls : List Line) → lines_text (fresh l ps ∷ ls) ≡ margin l ++ (text_of ps ++ 10 ∷ lines_text ls)
 row-text l ps ls = encodes-append (margin l) (letters ps ++ 10 ∷ (lead ls ++ body ls)) ∙ ap₂ (λ (a b : List ℕ). a ++ b) (margin-bytes l) (ended-bytes (letters ps) (lead ls ++ body ls))
 
 pub further-text : (l : ℕ) (ps : List Piece) (ls : List Line) → lines_text (further l ps ∷ ls) ≡ margin l ++ (text_of ps ++ 10 ∷ lines_text ls)
@@ -38,7 +38,7 @@ regroup m t a b = sym (append_assoc m (t ++ 10 ∷ a) b ∙ ap (λ (l : List ℕ
 
 pub lines-append : (is bs : List Line) → lines_text (is ++ bs) ≡ lines_text is ++ lines_text bs
 lines-append [] bs = refl
-lines-append (row l ps ∷ is) bs =
+lines-append (fresh l ps ∷ is) bs =
     row-text l ps (is ++ bs) ∙ (ap (λ (x : List ℕ). margin l ++ (text_of ps ++ 10 ∷ x)) (lines-append is bs)
     ∙ (regroup (margin l) (text_of ps) (lines_text is) (lines_text bs) ∙ ap (λ (x : List ℕ). x ++ lines_text bs) (sym (row-text l ps is))))
 lines-append (further l ps ∷ is) bs =
@@ -52,7 +52,7 @@ lines-append (blank ∷ is) bs =
 -- lines behind one of the level: the first that isn't blank stands no deeper
 abbrev pub Follows : ℕ → List Line → Type 0
 Follows n [] = ⊤
-Follows n (row l ps ∷ ls) = (l ≤ n) × IsBody ps × (continues_first ps ≡ false) × Good l (colon_behind false ps) ls
+Follows n (fresh l ps ∷ ls) = (l ≤ n) × IsBody ps × (continues_first ps ≡ false) × Good l (colon_behind false ps) ls
 Follows n (further l ps ∷ ls) = ⊥
 Follows n (blank ∷ ls) = Follows n ls
 
@@ -63,13 +63,13 @@ colon-led a b (mark kind cs m ∷ ps) h = refl
 
 pub follows-good : (n o : ℕ) (c : Bool) (ls : List Line) → n ≤ o → Follows n ls → Good o c ls
 follows-good n o c [] le f = tt
-follows-good n o c (row l ps ∷ ls) le f = (f.1, f.2, inl (omega (arith, le, f.0)), subst (λ b. Good l b ls) (colon-led false c ps f.1) f.3)
+follows-good n o c (fresh l ps ∷ ls) le f = (f.1, f.2, inl (omega (arith, le, f.0)), subst (λ b. Good l b ls) (colon-led false c ps f.1) f.3)
 follows-good n o c (further l ps ∷ ls) le f = absurd f
 follows-good n o c (blank ∷ ls) le f = follows-good n o c ls le f
 
 pub follows-deeper : (n o : ℕ) (ls : List Line) → n ≤ o → Follows n ls → Follows o ls
 follows-deeper n o [] le f = tt
-follows-deeper n o (row l ps ∷ ls) le f = (omega (arith, le, f.0), f.1, f.2, f.3)
+follows-deeper n o (fresh l ps ∷ ls) le f = (omega (arith, le, f.0), f.1, f.2, f.3)
 follows-deeper n o (further l ps ∷ ls) le f = absurd f
 follows-deeper n o (blank ∷ ls) le f = follows-deeper n o ls le f
 
@@ -82,13 +82,13 @@ opened at ps l ls = tokens_from at ps ++ behind (at + size (letters ps)) (next_a
 -- behind the end of a line of the level, and the ends of what is deeper
 abbrev pub left : ℕ → ℕ → List Line → List Token
 left at n [] = outs n at ++ token k.End at ∷ []
-left at n (row l ps ∷ ls) = entry n l at ++ opened at ps l ls
+left at n (fresh l ps ∷ ls) = entry n l at ++ opened at ps l ls
 left at n (further l ps ∷ ls) = []
 left at n (blank ∷ ls) = left (next_at at ls) n ls
 
 pub line-ends : (end at n : ℕ) (ls : List Line) → Follows n ls → behind end at n ls ≡ token k.LineEnd end ∷ left at n ls
 line-ends end at n [] f = refl
-line-ends end at n (row l ps ∷ ls) f = refl
+line-ends end at n (fresh l ps ∷ ls) f = refl
 line-ends end at n (further l ps ∷ ls) f = absurd f
 line-ends end at n (blank ∷ ls) f = line-ends end (next_at at ls) n ls f
 
@@ -101,7 +101,7 @@ entry-same n at = let same : n ≤ n = omega arith in let none : n - n ≡ 0 = o
 pub entry-new : (n at : ℕ) → entry n (suc n) at ≡ token k.BlockIn at ∷ []
 entry-new n at = let new : nat_le (suc n) n ≡ false = grind arith in ap (λ b. cond b (outs (n - suc n) at) (token k.BlockIn at ∷ [])) new
 
-pub left-row : (at n : ℕ) (ps : List Piece) (ls : List Line) → left at n (row n ps ∷ ls) ≡ opened at ps n ls
+pub left-row : (at n : ℕ) (ps : List Piece) (ls : List Line) → left at n (fresh n ps ∷ ls) ≡ opened at ps n ls
 left-row at n ps ls = ap (λ (l : List Token). l ++ opened at ps n ls) (entry-same n at)
 
 -- a block ends before lines that stand before it
@@ -111,7 +111,7 @@ pub record Out (at n : ℕ) (ls : List Line) : Type 0 where
 
 pub block-ends : (at n : ℕ) (ls : List Line) → Follows n ls → Out at n ls
 block-ends at n [] f = record { place = at; is = refl }
-block-ends at n (row l ps ∷ ls) f =
+block-ends at n (fresh l ps ∷ ls) f =
     let le : l ≤ n = f.0 in
     let deep : l ≤ suc n = omega (arith, le) in
     let one : suc n - l ≡ suc (n - l) = omega (arith, le) in

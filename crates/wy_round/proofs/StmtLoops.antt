@@ -35,7 +35,7 @@ use Rattle.wy_round.proofs.ExprLines.{Line, Again, IsPart, From, whole-of}
 use Rattle.wy_round.proofs.ExprUnary.{operand-at}
 use Rattle.wy_round.proofs.ExprRanges.{in_pieces, in_pieces-text, in_pieces-segment, dots, dots-text, dots-segment}
 use Rattle.wy_round.proofs.Lines.{Line as SourceLine, margin, behind, next_at, Good}
-use Rattle.wy_round.proofs.Lines.Line.{row}
+use Rattle.wy_round.proofs.Lines.Line.{fresh}
 use Rattle.wy_round.proofs.LineRuns.{lines_text}
 use Rattle.wy_round.proofs.StmtShown.{View, view, while_view, view_while, while-shown, do_view, view_do, do-shown, for_view, view_for, for-shown}
 use Rattle.wy_round.proofs.StmtLines.{Follows, follows-good, opened, left, left-row, line-ends, row-text, lines-append}
@@ -180,7 +180,7 @@ do-again n rule s x h all body is a b =
     let ps : List Piece = while_pieces a.pieces in
     let cs : List (List Piece) = wheres_pieces n all in
     let whole : Item true true ps = while-item a.pieces (item-any (shown x).begins (shown x).ends a.pieces a.item) in
-    let last : ℕ → List SourceLine = λ m. row m (head_first ps cs []) ∷ head_rest m cs [] in
+    let last : ℕ → List SourceLine = λ m. fresh m (head_first ps cs []) ∷ head_rest m cs [] in
     let ends : (m : ℕ) (ls : List SourceLine) → Follows m ls → Follows m (last m ++ ls) =
     λ m ls f. (omega arith, head-end ps cs whole, head-own ps cs [] tt refl, head-good m [] ps cs ls false (clauses-end cs (are-wheres n all)) (λ c. follows-good m m c ls (omega arith) f)) in
     record {

@@ -32,7 +32,7 @@ use Rattle.wy_round.proofs.Enclosed.{begins-letter, single-item}
 use Rattle.wy_round.proofs.ExprShown as exprs
 use Rattle.wy_round.proofs.ExprLines.{Again}
 use Rattle.wy_round.proofs.Lines.{Line as SourceLine, margin, behind, next_at, IsBody, Good, continues_first}
-use Rattle.wy_round.proofs.Lines.Line.{row}
+use Rattle.wy_round.proofs.Lines.Line.{fresh}
 use Rattle.wy_round.proofs.LineRuns.{lines_text}
 use Rattle.wy_round.proofs.StmtShown.{View, view, CaseView, case_view, made_case, view_case, case-shown, default_text, switch-shown, switch_view, view_switch}
 use Rattle.wy_round.proofs.StmtLines.{Follows, follows-deeper, colon-led, opened, left, left-row, entry-new, row-text, lines-append, block-ends}
@@ -115,7 +115,7 @@ headed-by rule wide P Q cs d f h = record {
 
 pub headed-again : (rule : CaseList → R Cases) (cs : List Case) (d : Option (List Stmt)) → HeadedCases (λ (bs : List Case). rule (Low bs 0)) Any cs d → CasesAgain rule cs d
 headed-again rule cs d h = record {
-  lines_of = λ m. row m h.first ∷ h.rest m;
+  lines_of = λ m. fresh m h.first ∷ h.rest m;
   spelled = λ m. row-text m h.first (h.rest m) ∙ h.spelled m;
   follows = λ n ls f. (omega arith, h.is_body, h.own, h.good n ls f);
   reads = λ n p ls bs f.
@@ -319,7 +319,7 @@ pub switch-again : (n : ℕ) (inner : R Cases) (s : Stmt) (x : Expr) (h : ℕ) (
 switch-again n inner s x h cs d is a z =
     let ps : List Piece = word_gap k.Switch (codes "switch") ++ a.pieces in
     let whole : Item true true ps = behind-word k.Switch 115 (119 ∷ 105 ∷ 116 ∷ 99 ∷ 104 ∷ []) a.pieces switch-mark (begins-letter 115 (omega arith) refl) (record { closed = λ c. refl }) (item-any (shown x).begins (shown x).ends a.pieces a.item) in
-    let inside : ℕ → List SourceLine = λ m. row (suc m) z.first ∷ z.rest (suc m) in
+    let inside : ℕ → List SourceLine = λ m. fresh (suc m) z.first ∷ z.rest (suc m) in
     record {
       first = ps ++ colon;
       rest = inside;
