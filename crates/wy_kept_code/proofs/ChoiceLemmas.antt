@@ -17,14 +17,15 @@ use Rattle.wy_pieces.specs.declared.steps.Step.TheVariants.{Does}
 use Rattle.wy_pieces.specs.Steps.{dropped, fork, registers_from}
 use Rattle.wy_compiled.specs.TypeTests.{test}
 use Rattle.wy_compiled.specs.Expressions.{lost, released, is_plain, operator, operate, right_register, call, is_test, list, code}
+use Rattle.wy_kept_registers.specs.Keeping.{IsNone}
 use Rattle.wy_kept_code.specs.Alive.{LiveAt}
 use Rattle.wy_kept_code.specs.Safe.{Told}
 use Rattle.wy_kept_code.specs.Telling.{Tells}
 use Rattle.wy_kept_code.specs.Fitting.{IsValue, Fits}
-use Rattle.wy_kept_code.proofs.PieceLemmas.{either, one_not_none, less_not, none_below, Spans, front, back, tail, live_reads, live_on, live_first, live_second, Lives, Sure, sure_less, safe_step, safe_at, safe_fork_passes, lives_on, lives_at}
-use Rattle.wy_kept_code.proofs.SetLemmas.{not_both, Vars, before_cases, with_cases, still_has}
+use Rattle.wy_kept_code.proofs.PieceLemmas.{either, one_not_none, less_not, none_below, Spans, front, back, tail, live_reads, live_on, live_first, live_second, Lives, Sure, sure_less, safe_step, safe_at, safe_fork, safe_where, lives_on, lives_at}
+use Rattle.wy_kept_code.proofs.SetLemmas.{not_both, Vars, before_cases, with_cases, still_has, not_lost}
 use Rattle.wy_kept_code.proofs.TestLemmas.{With, test_live, live_turned, sure_turned, dropped_safe, test_safe}
-use Rattle.wy_kept_code.proofs.ReadLemmas.{from_registers, code_live}
+use Rattle.wy_kept_code.proofs.ReadLemmas.{from_registers, clear_live, code_live}
 use Rattle.wy_kept_code.proofs.OperandLemmas.{Range, in_range, code_some, fork_reads, told_not, base_low, known_before, operands_ready, clear_sure, pair_safe, operator_ready}
 
 module _ (body : List Instr) (c : Context) (n : ℕ) (L : Type 0) (t : Told) (f : ℕ) (tells : Tells t f c n L) where
@@ -79,22 +80,34 @@ module _ (body : List Instr) (c : Context) (n : ℕ) (L : Type 0) (t : Told) (f 
         code_live body c n L b U s d p q r fit low nd h (base_low body c n L t f tells (before b s) A U d (known_before body c n L t f tells b U s fit known) low nd around r l)
         (either (λ v. either (λ o. inl o) (λ k. inr (inl k, go (live r u (inl k)))) (before_cases b s r v)) (λ a. inr (inr (around r a).0, go (live r u (inr a)))) l)
 
+    -- what is live behind isn't released there
+    not_skipped : (b : Expr ℕ) → Fits c n L b U → (s : Variables) (A : ℕ → Type 0) (d r : ℕ) → Kn s U → Ar d A → B s A r → IsNone r (lost (before b s) s)
+    not_skipped b fit s A d r known around (inl k) = not_lost (before b s) s r (λ v e. not_both (has s r) k e)
+    not_skipped b fit s A d r known around (inr a) = not_lost (before b s) s r (λ v e. let l = low r (known_before body c n L t f tells b U s fit known r v) in let w = (around r a).0 in absurd (omega (arith, l, w)))
+
     and_safe : (a b : Expr ℕ) → Sf a U → Sf b U → Fits c n L b U → (m : ℕ) (s : Variables) (A : ℕ → Type 0) (d at next : ℕ) → Kn s U → n ≤ d → Ar d A
-        → Spans body at (code c a (before b s) d ++ fork d (code c b s d) (released (before b s) s)) next → Open m next (B s A) b d → Comes m at (B (before a (before b s)) A)
+        → Spans body at (code c a (before b s) d ++ (fork d (code c b s d) [] ++ released (before b s) s)) next → Open m next (B s A) b d → Comes m at (B (before a (before b s)) A)
     and_safe a b one two fit m s A d at next known nd around h exit =
         let T = before b s in
         let mid = at + length (code c a T d) in
-        let rest = back body at (code c a T d) (fork d (code c b s d) (released T s)) next h in
+        let xs = fork d (code c b s d) [] in
+        let q = mid + length xs in
+        let rest = back body at (code c a T d) (xs ++ released T s) next h in
+        let choice = front body mid xs (released T s) next rest in
+        let last = back body mid xs (released T s) next rest in
         let some : code c b s d ≡ [] → ⊥ = code_some body c n L b U s d fit in
-        let live : Lives body t f mid (B T A) = λ r u l. live_first body mid next d (code c b s d) (released T s) r rest (λ p q sp go. through b fit s A d p q next r known nd around sp u exit.0 go l) in
-        let at_d : LiveAt body mid d = fork_reads body c n L mid next d (code c b s d) (released T s) rest (λ e g. some e) in
-        one m T A d at mid (known_before body c n L t f tells b U s fit known) nd around (front body at (code c a T d) (fork d (code c b s d) (released T s)) next h) (
+        -- behind the right operand, in front of the release
+        let live_q : Lives body t f q (B s A) = λ r u l. clear_live body (lost T s) q next r last (not_skipped b fit s A d r known around l) (exit.0 r u l) in
+        let safe_q : Sure body t f m q (λ r. B s A r ⊎ H b d r) = clear_sure body c n L t f tells m q next (lost T s) (λ r. B s A r ⊎ H b d r) (λ r. B s A r ⊎ H b d r) last (λ r l none. l) exit.1 in
+        let live : Lives body t f mid (B T A) = λ r u l. live_first body mid q d (code c b s d) [] r choice (λ p e sp go. through b fit s A d p e q r known nd around sp u live_q go l) in
+        let at_d : LiveAt body mid d = fork_reads body c n L mid q d (code c b s d) [] choice (λ e g. some e) in
+        one m T A d at mid (known_before body c n L t f tells b U s fit known) nd around (front body at (code c a T d) (xs ++ released T s) next h) (
           live,
-          safe_fork_passes body t f m mid next d (code c b s d) (released T s) (λ r. B T A r ⊎ H a d r) (B T A) (B T A) (B s A) (H b d) rest
+          safe_where body t f m mid q d (code c b s d) (λ r. B T A r ⊎ H a d r) (B T A) (B T A) choice some
               (λ r u l. either (λ k. live r u k) (λ k. subst (λ (z : ℕ). LiveAt body mid z) (sym k.0) at_d) l)
-              (λ e g. absurd (some e)) (λ r u l. either (λ k. k) (λ k. absurd (l.1 k.0)) l.0) (λ r u l. either (λ k. k) (λ k. absurd (l.1 k.0)) l.0) exit.0 (λ r w. tells.passes r (let e = w.0 in omega (arith, nd, e)))
-              (λ p q sp lq sq. (two m s A d p q known nd around sp (lq, sq, (λ r u z. sure_both b d r z))).1)
-              (λ p sp. skipped_sure b m s A p next sp (sure_less body t f m next (B s A) (λ r. B s A r ⊎ H b d r) (λ r u l. inl l) exit.1)) exit.1,
+              (λ r u l. either (λ k. k) (λ k. absurd (l.1 k.0)) l.0) (λ r u l. either (λ k. k) (λ k. absurd (l.1 k.0)) l.0)
+              (λ p sp. (two m s A d p q known nd around sp (live_q, safe_q, (λ r u z. sure_both b d r z))).1)
+              (skipped_sure b m s A q next last (sure_less body t f m next (B s A) (λ r. B s A r ⊎ H b d r) (λ r u l. inl l) exit.1)),
           (λ r u z. subst (λ (y : ℕ). LiveAt body mid y) (sym z.0) at_d),
         )
 
@@ -109,11 +122,12 @@ module _ (body : List Instr) (c : Context) (n : ℕ) (L : Type 0) (t : Told) (f 
         let at_d : LiveAt body mid d = fork_reads body c n L mid next d (released T s) (code c b s d) rest (λ e g. some g) in
         one m T A d at mid (known_before body c n L t f tells b U s fit known) nd around (front body at (code c a T d) (fork d (released T s) (code c b s d)) next h) (
           live,
-          safe_fork_passes body t f m mid next d (released T s) (code c b s d) (λ r. B T A r ⊎ H a d r) (B T A) (B T A) (B s A) (H b d) rest
+          safe_fork body t f m mid next d (released T s) (code c b s d) (λ r. B T A r ⊎ H a d r) (B T A) (B T A) (B s A) rest
               (λ r u l. either (λ k. live r u k) (λ k. subst (λ (z : ℕ). LiveAt body mid z) (sym k.0) at_d) l)
-              (λ e g. absurd (some g)) (λ r u l. either (λ k. k) (λ k. absurd (l.1 k.0)) l.0) (λ r u l. either (λ k. k) (λ k. absurd (l.1 k.0)) l.0) exit.0 (λ r w. tells.passes r (let e = w.0 in omega (arith, nd, e)))
-              (λ p q sp lq sq. skipped_sure b m s A p q sp (sure_less body t f m q (B s A) (λ r. B s A r ⊎ H b d r) (λ r u l. inl l) sq))
-              (λ p sp. (two m s A d p next known nd around sp (exit.0, exit.1, (λ r u z. sure_both b d r z))).1) exit.1,
+              (λ e g. absurd (some g)) (λ r u l. either (λ k. k) (λ k. absurd (l.1 k.0)) l.0) (λ r u l. either (λ k. k) (λ k. absurd (l.1 k.0)) l.0) exit.0
+              (λ p q sp lq sq. skipped_sure b m s A p q sp sq)
+              (λ p sp. (two m s A d p next known nd around sp (exit.0, exit.1, (λ r u z. sure_both b d r z))).1)
+              (sure_less body t f m next (B s A) (λ r. B s A r ⊎ H b d r) (λ r u l. inl l) exit.1),
           (λ r u z. subst (λ (y : ℕ). LiveAt body mid y) (sym z.0) at_d),
         )
 

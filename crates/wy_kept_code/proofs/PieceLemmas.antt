@@ -168,8 +168,8 @@ module _ (body : List Instr) where
 
     -- what of these registers is told is live
     fine_of : (p : ℕ) (i : Instr) (P : ℕ → Type 0) → Lives p P → Fine t f body p i (Told_of P)
-    fine_of p i P live c r u j (inl l) = live r u l
-    fine_of p i P live c r u j (inr w) = absurd (let x : true ≡ false = sym w ∙ u in cc)
+    fine_of p i P live c r u (inl l) = live r u l
+    fine_of p i P live c r u (inr w) = absurd (let x : true ≡ false = sym w ∙ u in cc)
 
     -- one instruction, which goes on behind
     pub safe_does : (n p : ℕ) (i : Instr) (P Q : ℕ → Type 0) → slice_get body p ≡ Some i → Lives p P → (Safe t f body n (p + 1) (After t f i (Told_of P)) → Onward t f (Safe t f body n) p i (Told_of P))
@@ -190,14 +190,14 @@ module _ (body : List Instr) where
     raw_step zero p i P Q is live onward less safe = tt
     raw_step (suc n) p i P Q is live onward less safe = λ j e.
         subst (λ (k : Instr). Fine t f body p k P × Onward t f (Safe t f body n) p k P) (same_instr i j (sym is ∙ e))
-        ((λ c r u x l. live r u l), onward n (safe_less t f body n (p + 1) (After t f i P) Q less (safe_sooner t f body n (p + 1) Q safe)))
+        ((λ c r u l. live r u l), onward n (safe_less t f body n (p + 1) (After t f i P) Q less (safe_sooner t f body n (p + 1) Q safe)))
 
     pub raw_branches : (m p d q : ℕ) (P Q R : ℕ → Type 0) → slice_get body p ≡ Some (instr.Branch d q) → Lives p P
         → Within t f P Q → Within t f P R → Safe t f body m (p + 1) Q → Safe t f body m q R → Safe t f body m p P
     raw_branches zero p d q P Q R is live one two safe also = tt
     raw_branches (suc n) p d q P Q R is live one two safe also = λ j e.
         subst (λ (k : Instr). Fine t f body p k P × Onward t f (Safe t f body n) p k P) (same_instr (instr.Branch d q) j (sym is ∙ e)) (
-          (λ c r u x l. live r u l),
+          (λ c r u l. live r u l),
           (
             safe_less t f body n (p + 1) (After t f (instr.Branch d q) P) Q (λ r l. one r (held r l)) (safe_sooner t f body n (p + 1) Q safe),
             safe_less t f body n q (After t f (instr.Branch d q) P) R (λ r l. two r (held r l)) (safe_sooner t f body n q R also),
@@ -221,7 +221,7 @@ module _ (body : List Instr) where
     safe_clears zero p rs P Q is less safe = tt
     safe_clears (suc n) p rs P Q is less safe = λ j e.
         subst (λ (k : Instr). Fine t f body p k (Told_of P) × Onward t f (Safe t f body n) p k (Told_of P)) (same_instr (instr.Clear rs) j (sym is ∙ e))
-        ((λ c r u x l. absurd (let z : true ≡ false = c in cc)), safe_less t f body n (p + 1) (After t f (instr.Clear rs) (Told_of P)) (Told_of Q) (told_after (instr.Clear rs) P Q (λ r u l. less r u (held r l))) (safe_sooner t f body n (p + 1) (Told_of Q) safe))
+        ((λ c r u l. absurd (let z : true ≡ false = c in cc)), safe_less t f body n (p + 1) (After t f (instr.Clear rs) (Told_of P)) (Told_of Q) (told_after (instr.Clear rs) P Q (λ r u l. less r u (held r l))) (safe_sooner t f body n (p + 1) (Told_of Q) safe))
       where
         held : (r : ℕ) → Behind (instr.Clear rs) P r → P r × IsNone r rs
         held r (inl g) = g
@@ -240,18 +240,6 @@ module _ (body : List Instr) where
     pub safe_jumps : (m p q : ℕ) (P Q : ℕ → Type 0) → slice_get body p ≡ Some (instr.Jump q) → Lives q Q → Less t f P Q → Sure m q Q → Sure m p P
     safe_jumps zero p q P Q is live less safe = tt
     safe_jumps (suc n) p q P Q is live less safe = safe_loops n p q P Q is live less (safe_sooner t f body n q (Told_of Q) safe)
-
-    -- a jump that is next while a register of which nothing is then said holds what it likes
-    passes_fine : (p q : ℕ) (V W : ℕ → Type 0) → Lives p V → ((r : ℕ) → W r → t.passing f r ≡ true) → Fine t f body p (instr.Jump q) (Told_of (λ r. V r ⊎ W r))
-    passes_fine p q V W live free c r u j (inl (inl v)) = live r u v
-    passes_fine p q V W live free c r u j (inl (inr w)) = absurd (let x : true ≡ false = sym (free r w) ∙ j in cc)
-    passes_fine p q V W live free c r u j (inr w) = absurd (let x : true ≡ false = sym w ∙ u in cc)
-
-    pub safe_passes : (m p q : ℕ) (V W : ℕ → Type 0) → slice_get body p ≡ Some (instr.Jump q) → Lives p V → ((r : ℕ) → W r → t.passing f r ≡ true) → Sure m q (λ r. V r ⊎ W r) → Sure m p (λ r. V r ⊎ W r)
-    safe_passes zero p q V W is live free safe = tt
-    safe_passes (suc n) p q V W is live free safe = λ j e.
-        subst (λ (k : Instr). Fine t f body p k (Told_of (λ r. V r ⊎ W r)) × Onward t f (Safe t f body n) p k (Told_of (λ r. V r ⊎ W r))) (same_instr (instr.Jump q) j (sym is ∙ e))
-        (passes_fine p q V W live free, safe_less t f body n q (After t f (instr.Jump q) (Told_of (λ r. V r ⊎ W r))) (Told_of (λ r. V r ⊎ W r)) (told_after (instr.Jump q) (λ r. V r ⊎ W r) (λ r. V r ⊎ W r) (jumped q (λ r. V r ⊎ W r) (λ r. V r ⊎ W r) (λ r u l. l))) (safe_sooner t f body n q (Told_of (λ r. V r ⊎ W r)) safe))
 
     -- the end of a routine
     pub safe_returns : (m p d : ℕ) (P : ℕ → Type 0) → slice_get body p ≡ Some (instr.Return d) → Lives p P → (Told_of P d → t.results f ≡ true) → Sure m p P
@@ -308,25 +296,10 @@ module _ (body : List Instr) where
         → Sure m next Q → Sure m at P
     safe_fork m at next d first second P A B Q h live none one two lq a b safe = safe_fork_over m at next d first second P A B Q h live none one two lq (λ p q sp e l s. a p q sp l s) b safe
 
-    -- a fork that leaves a value of which nothing is said while a jump is next
-    pub safe_fork_passes : (m at next d : ℕ) (first second : List Step) (P A B V W : ℕ → Type 0) → Spans at (fork d first second) next
-        → Lives at P → (first ≡ [] → second ≡ [] → Less t f P A) → Less t f (λ r. P r × (r ≢ d)) A → Less t f (λ r. P r × (r ≢ d)) B → Lives next V → ((r : ℕ) → W r → t.passing f r ≡ true)
-        → ((p q : ℕ) → Spans p first q → Lives q V → Sure m q (λ r. V r ⊎ W r) → Sure m p A) → ((p : ℕ) → Spans p second next → Sure m p B)
-        → Sure m next (λ r. V r ⊎ W r) → Sure m at P
-    safe_fork_passes m at next d [] [] P A B V W h live none one two lq free a b safe = sure_less m at P A (none refl refl) (a at next h lq safe)
-    safe_fork_passes m at next d (s ∷ first) [] P A B V W h live none one two lq free a b safe =
+    -- code where the register is true
+    pub safe_where : (m at next d : ℕ) (first : List Step) (P A B : ℕ → Type 0) → Spans at (fork d first []) next → (first ≡ [] → ⊥)
+        → Lives at P → Less t f (λ r. P r × (r ≢ d)) A → Less t f (λ r. P r × (r ≢ d)) B → ((p : ℕ) → Spans p first next → Sure m p A) → Sure m next B → Sure m at P
+    safe_where m at next d [] P A B h some live one two a safe = absurd (some refl)
+    safe_where m at next d (s ∷ first) P A B h some live one two a safe =
         let to : suc at + length (s ∷ first) ≡ next = (let e = h.1 in omega (arith, e)) in
-        safe_branches m at d (suc at + length (s ∷ first)) P A B h.0.0 live one two
-        (a (at + 1) next (h.0.1, let e = h.1 in omega (arith, e)) lq safe) (b (suc at + length (s ∷ first)) (tt, omega (arith, to)))
-    safe_fork_passes m at next d first (s ∷ second) P A B V W h live none one two lq free a b safe =
-        let rest : Spans (at + 1) (first ++ GoesOn (length (s ∷ second)) ∷ s ∷ second) next = (h.0.1, let e = h.1 in omega (arith, e)) in
-        let q = at + 1 + length first in
-        let behind = back (at + 1) first (GoesOn (length (s ∷ second)) ∷ s ∷ second) next rest in
-        let place : q + 1 ≡ suc at + (length first + 1) = omega arith in
-        let out : suc q + length (s ∷ second) ≡ next = (let e = behind.1 in omega (arith, e)) in
-        let lq2 : Lives (suc q + length (s ∷ second)) V = subst (λ (z : ℕ). Lives z V) (sym out) lq in
-        let at_q : Lives q V = λ r u l. live_on q (suc q + length (s ∷ second)) r (instr.Jump (suc q + length (s ∷ second))) behind.0.0 tt (inl refl) (lq2 r u l) in
-        safe_branches m at d (suc at + (length first + 1)) P A B h.0.0 live one two
-        (a (at + 1) q (front (at + 1) first (GoesOn (length (s ∷ second)) ∷ s ∷ second) next rest) at_q
-        (safe_passes m q (suc q + length (s ∷ second)) V W behind.0.0 at_q free (safe_at m next (suc q + length (s ∷ second)) (λ r. V r ⊎ W r) (sym out) safe)))
-        (b (suc at + (length first + 1)) (stand_moved body (q + 1) (suc at + (length first + 1)) (s ∷ second) place behind.0.1, let e = behind.1 in omega (arith, e)))
+        safe_branches m at d (suc at + length (s ∷ first)) P A B h.0.0 live one two (a (at + 1) (h.0.1, let e = h.1 in omega (arith, e))) (safe_at m next (suc at + length (s ∷ first)) B (sym to) safe)

@@ -110,7 +110,6 @@ module _ (core : Core ℕ) (loose : Bool) where
   tells_of f = record {
     even = (λ r q nr nq u. untold_all f q (untold_loose f r u) nq);
     loose = (λ l r nr. untold_all f r l nr);
-    passes = (λ r nr. ap (λ (b : Bool). not b) (not_less r (size_at f) nr));
     nothing = (λ g r nr is h. untold_all f r (or_left loose (result_at c.results g) h (no_result c.results g is)) nr);
   }
 

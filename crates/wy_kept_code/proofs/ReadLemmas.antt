@@ -20,14 +20,15 @@ use Rattle.wy_live.specs.Walks.{before, before_all, before_fields, turned}
 use Rattle.wy_kept_code.proofs.LiveLemmas.{or_cases, and_not}
 use Rattle.wy_pieces.specs.declared.steps.Step.{Step}
 use Rattle.wy_pieces.specs.declared.steps.Step.TheVariants.{Does, GoesOn}
-use Rattle.wy_pieces.specs.Steps.{clear, registers_from}
+use Rattle.wy_pieces.specs.Steps.{clear, fork, registers_from}
 use Rattle.wy_compiled.specs.TypeTests.{test}
 use Rattle.wy_compiled.specs.Expressions.{lost, released, is_plain, operator, operate, right_register, call, count_of, field_count, is_test, negated, list, record_of, turn_end, said, ends, number_turns, quantify, code, codes, field_codes}
 use Rattle.wy_kept_registers.specs.Keeping.{IsNone}
 use Rattle.wy_kept_code.specs.Alive.{IsOne, changes, nexts, LiveAt}
 use Rattle.wy_kept_code.specs.Fitting.{IsValue, Fits, FitAll, FitFields}
+use Rattle.wy_kept_code.proofs.SafeLemmas.{told_or_not}
 use Rattle.wy_kept_code.proofs.PieceLemmas.{either, less_not, From, none_below, Spans, front, back, tail, live_reads, live_on, live_last, live_first, live_second, Turning, turning}
-use Rattle.wy_kept_code.proofs.SetLemmas.{never, not_both, same_of, same_to, other_of, Vars, before_of, all_of, fields_of, turned_cases, turned_of, not_lost}
+use Rattle.wy_kept_code.proofs.SetLemmas.{never, not_both, same_of, same_to, other_of, Vars, before_cases, before_of, all_of, fields_of, turned_cases, turned_of, not_lost}
 use Rattle.wy_kept_code.proofs.TestLemmas.{at_end, test_live}
 
 pub from_registers : (d r n : ℕ) → d ≤ r → From d (registers_from r n)
@@ -246,6 +247,14 @@ module _ (body : List Instr) where
         is s (suc d) mid last r (omega (arith, nd)) (front body mid (code c b s (suc d)) (operator o d (is_plain b)) next h) (omega (arith, low))
         (goes_on (occurs b r) s last next r (λ l. operator_live o d (is_plain b) last next r (back body mid (code c b s (suc d)) (operator o d (is_plain b)) next h) low l) way)
 
+    -- what is live behind `&&` and isn't used by its right operand isn't released in between
+    unused_kept : (b : Expr ℕ) (s : Variables) (r : ℕ) → occurs b r ≡ false → IsNone r (lost (before b s) s)
+    unused_kept b s r no = not_lost (before b s) s r (λ v e. either (λ o. not_both (occurs b r) o no) (λ k. not_both (has s r) k e) (before_cases b s r v))
+
+    behind_and : (b : Expr ℕ) (s : Variables) (q next r : ℕ) → Spans body q (released (before b s) s) next → Goes (occurs b r) s next r → Goes (occurs b r) s q r
+    behind_and b s q next r h (inl u) = inl u
+    behind_and b s q next r h (inr k) = either (λ u. inl u) (λ no. inr (k.0, clear_live (lost (before b s) s) q next r h (unused_kept b s r no) k.1)) (told_or_not (occurs b r))
+
     -- the right operand and the operator
     pub right_live : (o : Op) (b : Expr ℕ) → Lively b → (s : Variables) (d mid next r : ℕ) → n ≤ d
         → Spans body mid (operate o d (code c b s (right_register o d)) (released (before b s) s) (is_plain b)) next → r < d → Goes (occurs b r) s next r → LiveAt body mid r
@@ -260,7 +269,9 @@ module _ (body : List Instr) where
     right_live op.Greater b is s d mid next r nd h low way = strict_live op.Greater b is s d mid next r nd h low way
     right_live op.GreaterEqual b is s d mid next r nd h low way = strict_live op.GreaterEqual b is s d mid next r nd h low way
     right_live op.And b is s d mid next r nd h low way =
-        live_first body mid next d (code c b s d) (released (before b s) s) r h (λ p q sp f. is s d p q r nd sp low (goes_on (occurs b r) s q next r f way))
+        let xs = fork d (code c b s d) [] in let ys = released (before b s) s in let last = mid + length xs in
+        live_first body mid last d (code c b s d) [] r (front body mid xs ys next h)
+        (λ p q sp f. is s d p q r nd sp low (goes_on (occurs b r) s q last r f (behind_and b s last next r (back body mid xs ys next h) way)))
     right_live op.Or b is s d mid next r nd h low way =
         live_second body mid next d (released (before b s) s) (code c b s d) r h (λ p sp. is s d p next r nd sp low way)
 

@@ -406,7 +406,7 @@ module _ (t : Told) (code : Code) (safe : SafeCode t code) where
 
   -- what is safe keeps nothing dead
   frame_keeps : (fr : Frame) (P : ℕ → Type 0) → FrameSafe fr P → ((r : ℕ) → HoldsLarge (slot fr.registers r) → P r) → FrameKeeps t code fr
-  frame_keeps fr P h k r e i is not_clear x told free l = (h r e 1 i is).0 not_clear x told free (k x l)
+  frame_keeps fr P h k r e i is not_clear x told l = (h r e 1 i is).0 not_clear x told (k x l)
 
   callers_keep : (g : ℕ) (callers : List Caller) → CallersSafe g callers → CallersKeep t code callers
   callers_keep g [] h = tt

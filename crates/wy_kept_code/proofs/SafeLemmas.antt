@@ -79,7 +79,7 @@ module _ (t : Told) (f : ℕ) where
     -- fewer registers
     pub safe_less : (n p : ℕ) (P Q : ℕ → Type 0) → Within P Q → Safe t f body n p Q → Safe t f body n p P
     safe_less zero p P Q h k = tt
-    safe_less (suc n) p P Q h k = λ i e. ((λ c r u x l. (k i e).0 c r u x (h r l)), onward_less n p i P Q h (λ q A B g l. safe_less n q A B g l) (k i e).1)
+    safe_less (suc n) p P Q h k = λ i e. ((λ c r u l. (k i e).0 c r u (h r l)), onward_less n p i P Q h (λ q A B g l. safe_less n q A B g l) (k i e).1)
 
     onward_sooner : (n p : ℕ) (i : Instr) (P : ℕ → Type 0) → ((q : ℕ) (A : ℕ → Type 0) → Safe t f body (suc n) q A → Safe t f body n q A)
         → Onward t f (Safe t f body (suc n)) p i P → Onward t f (Safe t f body n) p i P

@@ -117,11 +117,10 @@ result_at [] f = true
 result_at (b ∷ bs) zero = b
 result_at (b ∷ bs) (suc f) = result_at bs f
 
--- of each register something is said, while a jump is next of those of variables alone; or, where the program is loose, of these alone
+-- of each register something is said; or, where the program is loose, of those of variables alone
 abbrev pub told_of : Core ℕ → Bool → Told
 told_of core loose = record {
   untold = (λ f r. loose && not (nat_lt r (variables_in (routines_of core) (aliases_of core) f)));
-  passing = (λ f r. not (nat_lt r (variables_in (routines_of core) (aliases_of core) f)));
   results = (λ f. loose || result_at (results_of (routines_of core)) f);
 }
 
@@ -135,7 +134,7 @@ pub record Asked (core : Core ℕ) : Type 0 where
   pub names : ClausesNameTheirs core
   pub counters : OwnCounters (routines_of core)
 
--- in each run of the code, on whatever arguments, whenever the next instruction of a frame is no `Clear`: each register of the frame that holds a list or a record is live at the frame's place; of a value's register nothing is said while a jump is next
+-- in each run of the code, on whatever arguments, whenever the next instruction of a frame is no `Clear`: each register of the frame that holds a list or a record is live at the frame's place
 abbrev pub NothingDeadIsKept : Type 0
 NothingDeadIsKept = (core : Core ℕ) → Asked core → RunsKeep core false
 

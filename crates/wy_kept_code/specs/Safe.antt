@@ -1,5 +1,5 @@
 -- Code that keeps nothing dead: from a place on, where at most these registers hold lists or records, each that does so is live wherever the next instruction is no `Clear`.
-use Rattle.std.specs.Prelude.{◌≡◌, ◌≢◌, ◌<◌, ◌⊎◌, ℕ, zero, suc, ◌+◌, List, [], ◌∷◌, Bool, ◌&&◌, true, false, Some, slice_get}
+use Rattle.std.specs.Prelude.{◌≡◌, ◌≢◌, ◌<◌, ◌⊎◌, ℕ, zero, suc, ◌+◌, List, [], ◌∷◌, Bool, true, false, Some, slice_get}
 use Rattle.wy_value.specs.Datum.{Datum}
 use Rattle.wy_code.specs.declared.instructions.Instr.{Instr}
 use Rattle.wy_code.specs.declared.instructions.Instr.TheVariants as instr
@@ -9,7 +9,7 @@ use Rattle.wy_pieces.specs.Placing.{slot_registers}
 use Rattle.wy_sem.specs.Expressions.{slot}
 use Rattle.wy_step.specs.Step.{State, Runs, Ended, Stuck, Frame, Caller, start, after}
 use Rattle.wy_kept_registers.specs.Keeping.{HoldsLarge, IsNone}
-use Rattle.wy_kept_code.specs.Alive.{LiveAt, is_clear, is_jump}
+use Rattle.wy_kept_code.specs.Alive.{LiveAt, is_clear}
 
 -- the registers that hold no list and no record behind an instruction that went on, but for what comes into its target: those that it empties, and those whose values must be numbers or truth values
 abbrev pub gone : Instr → List ℕ
@@ -36,10 +36,9 @@ gone (instr.Return r) = []
 gone (instr.Print a) = []
 gone (instr.PrintInt a) = a ∷ []
 
--- nothing is said of some registers of a routine, and of some while the next instruction is a jump; and each routine may give a list or a record, or never does
+-- nothing is said of some registers of a routine; and each routine may give a list or a record, or never does
 pub record Told : Type 0 where
   pub untold : (routine register : ℕ) → Bool
-  pub passing : (routine register : ℕ) → Bool
   pub results : (routine : ℕ) → Bool
 
 -- such a value may come into this register
@@ -98,7 +97,7 @@ Onward t f K p (instr.PrintInt a) P = K (p + 1) (After t f (instr.PrintInt a) P)
 
 -- each of these registers is live, where the next instruction is no `Clear`
 abbrev pub Fine : Told → ℕ → List Instr → ℕ → Instr → (ℕ → Type 0) → Type 0
-Fine t f body p i P = is_clear i ≡ false → (r : ℕ) → t.untold f r ≡ false → (is_jump i && t.passing f r) ≡ false → P r → LiveAt body p r
+Fine t f body p i P = is_clear i ≡ false → (r : ℕ) → t.untold f r ≡ false → P r → LiveAt body p r
 
 -- for so many instructions from the place of the routine on, where at most these registers hold lists or records
 abbrev pub Safe : Told → ℕ → List Instr → ℕ → ℕ → (ℕ → Type 0) → Type 0
@@ -113,7 +112,7 @@ SafeCode t code = (f : ℕ) (r : Routine) → slice_get code.routines f ≡ Some
 
 -- of a frame in this routine: wherever its next instruction is no `Clear`, each register of which something is said and that holds a list or a record is live
 abbrev pub FrameKeeps : Told → Code → Frame → Type 0
-FrameKeeps t code fr = (r : Routine) → slice_get code.routines fr.routine ≡ Some r → (i : Instr) → slice_get r.body fr.at ≡ Some i → is_clear i ≡ false → (x : ℕ) → t.untold fr.routine x ≡ false → (is_jump i && t.passing fr.routine x) ≡ false → HoldsLarge (slot fr.registers x) → LiveAt r.body fr.at x
+FrameKeeps t code fr = (r : Routine) → slice_get code.routines fr.routine ≡ Some r → (i : Instr) → slice_get r.body fr.at ≡ Some i → is_clear i ≡ false → (x : ℕ) → t.untold fr.routine x ≡ false → HoldsLarge (slot fr.registers x) → LiveAt r.body fr.at x
 
 -- so of each frame that waits, and nothing is in the register that the result comes into
 abbrev pub CallersKeep : Told → Code → List Caller → Type 0

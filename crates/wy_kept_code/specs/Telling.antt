@@ -12,5 +12,3 @@ pub record Tells (t : Told) (f : ℕ) (c : Context) (n : ℕ) (L : Type 0) : Typ
   pub loose : L → (r : ℕ) → n ≤ r → t.untold f r ≡ true
   -- methods without a result
   pub nothing : (g r : ℕ) → n ≤ r → target c.results g ≡ Declared false → t.results g ≡ true → t.untold f r ≡ true
-  -- a jump may be next while one of these holds a list or a record
-  pub passes : (r : ℕ) → n ≤ r → t.passing f r ≡ true

@@ -17,8 +17,7 @@ pub fn no_dead_variable_is_kept()
     ensures keep { NoDeadVariableIsKept }
 {}
 
-/// The same of all registers, those of values too, but for a value's register while the next instruction of the frame is a jump:
-/// behind the right operand of `&&` a jump may lead to the release of the value.
+/// The same of all registers, those of values too.
 pub fn nothing_dead_is_kept()
     ensures keep { NothingDeadIsKept }
 {}
