@@ -44,7 +44,7 @@ module _ (body : List Instr) where
   clear_live [] p next q h none l = at_end body p next q h l
   clear_live (r ∷ rs) p next q h none l = live_last body p next q (instr.Clear (r ∷ rs)) h none (inl refl) l
 
-  module _ (c : Context) (n : ℕ) (L : Type 0) where
+  module _ (c : Context) (n : ℕ) where
     -- the variables in use have registers below n
     abbrev pub Low : (ℕ → Type 0) → Type 0
     Low U = (x : ℕ) → U x → x < n
@@ -58,7 +58,7 @@ module _ (body : List Instr) where
 
     mutual
       -- what an expression uses is in use
-      pub occurs_used : (e : Expr ℕ) (U : ℕ → Type 0) → Fits c n L e U → (r : ℕ) → occurs e r ≡ true → U r
+      pub occurs_used : (e : Expr ℕ) (U : ℕ → Type 0) → Fits c n e U → (r : ℕ) → occurs e r ≡ true → U r
       occurs_used (NullExpr at) U fit r h = never h
       occurs_used (BoolExpr at truth) U fit r h = never h
       occurs_used (IntExpr at number) U fit r h = never h
@@ -82,11 +82,11 @@ module _ (body : List Instr) where
           not_same : (r x : ℕ) → (r == x) ≡ false → r ≡ x → ⊥
           not_same r x e same = not_both (r == x) (same_to r x same) e
 
-      pub all_used : (es : Exprs ℕ) (U : ℕ → Type 0) → FitAll c n L es U → (r : ℕ) → any_occurs es r ≡ true → U r
+      pub all_used : (es : Exprs ℕ) (U : ℕ → Type 0) → FitAll c n es U → (r : ℕ) → any_occurs es r ≡ true → U r
       all_used NoExprs U fit r h = never h
       all_used (MoreExprs e es) U fit r h = or_else (occurs e r) (any_occurs es r) (λ k. occurs_used e U fit.0 r k) (λ k. all_used es U fit.1 r k) h
 
-      pub fields_used : (fs : Fields ℕ) (U : ℕ → Type 0) → FitFields c n L fs U → (r : ℕ) → any_field_occurs fs r ≡ true → U r
+      pub fields_used : (fs : Fields ℕ) (U : ℕ → Type 0) → FitFields c n fs U → (r : ℕ) → any_field_occurs fs r ≡ true → U r
       fields_used NoFields U fit r h = never h
       fields_used (MoreFields name e fs) U fit r h = or_else (occurs e r) (any_field_occurs fs r) (λ k. occurs_used e U fit.0 r k) (λ k. fields_used fs U fit.1 r k) h
 
@@ -197,7 +197,7 @@ module _ (body : List Instr) where
         live_on body p (p + 1) r (instr.Compare (suc (suc d)) comparison.Less d (suc d)) (quantifier all x d inner rs p next h).tests.0.0 (less_not r (suc (suc d)) (omega (arith, low)), tt) (inl refl) (branch_live all x d inner rs p next r h low way)
 
     -- what isn't lost
-    pub kept_lost : (x : ℕ) (inner : Expr ℕ) (U : ℕ → Type 0) (s : Variables) (r : ℕ) → Low U → x < n → Fits c n L inner (λ y. U y ⊎ (y ≡ x)) → Keeps s r → IsNone r (lost (turned x inner s) s)
+    pub kept_lost : (x : ℕ) (inner : Expr ℕ) (U : ℕ → Type 0) (s : Variables) (r : ℕ) → Low U → x < n → Fits c n inner (λ y. U y ⊎ (y ≡ x)) → Keeps s r → IsNone r (lost (turned x inner s) s)
     kept_lost x inner U s r low xl fit k = not_lost (turned x inner s) s r (λ h g.
         either (λ v. not_both (has s r) v g)
         (λ above. either (λ z. let l = low_more U x low xl r (occurs_used inner (λ y. U y ⊎ (y ≡ x)) fit r z.1) in absurd (omega (arith, l, above))) (λ v. not_both (has s r) v g) (turned_cases x inner s r h)) k)
@@ -277,7 +277,7 @@ module _ (body : List Instr) where
 
     mutual
       -- what the expression uses is live in front of its code, and so is what is live behind it
-      pub code_live : (e : Expr ℕ) (U : ℕ → Type 0) (s : Variables) (d at next r : ℕ) → Fits c n L e U → Low U → n ≤ d → Spans body at (code c e s d) next → r < d → Goes (occurs e r) s next r → LiveAt body at r
+      pub code_live : (e : Expr ℕ) (U : ℕ → Type 0) (s : Variables) (d at next r : ℕ) → Fits c n e U → Low U → n ≤ d → Spans body at (code c e s d) next → r < d → Goes (occurs e r) s next r → LiveAt body at r
       code_live (NullExpr i) U s d at next r fit lows nd h low (inl u) = never u
       code_live (NullExpr i) U s d at next r fit lows nd h low (inr k) = live_last body at next r (instr.Const d scalar.Null) h (less_not r d low, tt) (inl refl) k.1
       code_live (BoolExpr i truth) U s d at next r fit lows nd h low (inl u) = never u
@@ -338,7 +338,7 @@ module _ (body : List Instr) where
           (either (λ z. let w = and_not (r == x) (occurs inner r) z in inl (λ q e sp. (other_of r x w.0, code_live inner (λ y. U y ⊎ (y ≡ x)) T (suc (suc d)) q e r fit.4 (low_more U x lows fit.3) (omega (arith, nd)) sp (omega (arith, low)) (inl w.1))))
           (λ z. inr (kept_lost x inner U s r lows fit.3 fit.4 z.0, z.1)) k)) g) way
 
-      pub codes_live : (es : Exprs ℕ) (U : ℕ → Type 0) (s : Variables) (d at next r : ℕ) → FitAll c n L es U → Low U → n ≤ d → Spans body at (codes c es s d) next → r < d → Goes (any_occurs es r) s next r → LiveAt body at r
+      pub codes_live : (es : Exprs ℕ) (U : ℕ → Type 0) (s : Variables) (d at next r : ℕ) → FitAll c n es U → Low U → n ≤ d → Spans body at (codes c es s d) next → r < d → Goes (any_occurs es r) s next r → LiveAt body at r
       codes_live NoExprs U s d at next r fit lows nd h low (inl u) = never u
       codes_live NoExprs U s d at next r fit lows nd h low (inr k) = at_end body at next r h k.1
       codes_live (MoreExprs e es) U s d at next r fit lows nd h low way =
@@ -347,7 +347,7 @@ module _ (body : List Instr) where
           (λ g. code_live e U (before_all es s) d at mid r fit.0 lows nd (front body at one (codes c es s (suc d)) next h) low g)
           (λ g. codes_live es U s (suc d) mid next r fit.1 lows (omega (arith, nd)) (back body at one (codes c es s (suc d)) next h) (omega (arith, low)) g) way
 
-      pub field_codes_live : (fs : Fields ℕ) (U : ℕ → Type 0) (s : Variables) (d at next r : ℕ) → FitFields c n L fs U → Low U → n ≤ d → Spans body at (field_codes c fs s d) next → r < d → Goes (any_field_occurs fs r) s next r → LiveAt body at r
+      pub field_codes_live : (fs : Fields ℕ) (U : ℕ → Type 0) (s : Variables) (d at next r : ℕ) → FitFields c n fs U → Low U → n ≤ d → Spans body at (field_codes c fs s d) next → r < d → Goes (any_field_occurs fs r) s next r → LiveAt body at r
       field_codes_live NoFields U s d at next r fit lows nd h low (inl u) = never u
       field_codes_live NoFields U s d at next r fit lows nd h low (inr k) = at_end body at next r h k.1
       field_codes_live (MoreFields name e fs) U s d at next r fit lows nd h low way =
