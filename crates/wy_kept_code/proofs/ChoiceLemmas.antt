@@ -36,10 +36,6 @@ module _ (body : List Instr) (c : Context) (n : ℕ) (t : Gives) (f : ℕ) where
   abbrev H : Expr ℕ → ℕ → ℕ → Type 0
   H e d r = (r ≡ d) × (is_plain e ≡ false)
 
-  -- one that the code takes to be none
-  abbrev K : Expr ℕ → ℕ → ℕ → Type 0
-  K e d r = (r ≡ d) × ((is_plain e ≡ false) × (is_plain e ≡ true))
-
   abbrev Comes : ℕ → ℕ → (ℕ → Type 0) → Type 0
   Comes m p P = Lives body t f p P × Sure body t f m p P
 
@@ -47,7 +43,7 @@ module _ (body : List Instr) (c : Context) (n : ℕ) (t : Gives) (f : ℕ) where
   Leaves m p P Q = Lives body t f p P × Sure body t f m p (λ r. P r ⊎ Q r)
 
   abbrev Full : ℕ → ℕ → (ℕ → Type 0) → Expr ℕ → ℕ → Type 0
-  Full m p P e d = Lives body t f p P × Sure body t f m p (λ r. P r ⊎ H e d r) × Lives body t f p (K e d)
+  Full m p P e d = Lives body t f p P × Sure body t f m p (λ r. P r ⊎ H e d r)
 
   abbrev Kn : Variables → (ℕ → Type 0) → Type 0
   Kn s U = (r : ℕ) → Vars s r → U r
@@ -60,13 +56,6 @@ module _ (body : List Instr) (c : Context) (n : ℕ) (t : Gives) (f : ℕ) where
 
   abbrev Sf : Expr ℕ → (ℕ → Type 0) → Type 1
   Sf e U = (m : ℕ) (s : Variables) (A : ℕ → Type 0) (d at next : ℕ) → Kn s U → n ≤ d → Ar d A → Spans body at (code c e s d) next → Full m next (B s A) e d → Comes m at (B (before e s) A)
-
-  -- what `&&` and `||` leave is what their right operand leaves
-  abbrev Open : ℕ → ℕ → (ℕ → Type 0) → Expr ℕ → ℕ → Type 0
-  Open m p P b d = Lives body t f p P × Sure body t f m p (λ r. P r ⊎ H b d r)
-
-  sure_both : {X : Type 0} (e : Expr ℕ) (d r : ℕ) → K e d r → X
-  sure_both e d r z = not_both (is_plain e) z.1.1 z.1.0
 
   module _ (U : ℕ → Type 0) (low : Lo U) where
     -- what is released where the right operand is left out
@@ -85,7 +74,7 @@ module _ (body : List Instr) (c : Context) (n : ℕ) (t : Gives) (f : ℕ) where
     not_skipped b fit s A d r known around (inr a) = not_lost (before b s) s r (λ v e. let l = low r (known_before body c n t f b U s fit known r v) in let w = (around r a).0 in absurd (omega (arith, l, w)))
 
     and_safe : (a b : Expr ℕ) → Sf a U → Sf b U → Fits c n b U → (m : ℕ) (s : Variables) (A : ℕ → Type 0) (d at next : ℕ) → Kn s U → n ≤ d → Ar d A
-        → Spans body at (code c a (before b s) d ++ (fork d (code c b s d) [] ++ released (before b s) s)) next → Open m next (B s A) b d → Comes m at (B (before a (before b s)) A)
+        → Spans body at (code c a (before b s) d ++ (fork d (code c b s d) [] ++ released (before b s) s)) next → Full m next (B s A) b d → Comes m at (B (before a (before b s)) A)
     and_safe a b one two fit m s A d at next known nd around h exit =
         let T = before b s in
         let mid = at + length (code c a T d) in
@@ -105,13 +94,12 @@ module _ (body : List Instr) (c : Context) (n : ℕ) (t : Gives) (f : ℕ) where
           safe_where body t f m mid q d (code c b s d) (λ r. B T A r ⊎ H a d r) (B T A) (B T A) choice some
               (λ r l. either (λ k. live r k) (λ k. subst (λ (z : ℕ). LiveAt body mid z) (sym k.0) at_d) l)
               (λ r l. either (λ k. k) (λ k. absurd (l.1 k.0)) l.0) (λ r l. either (λ k. k) (λ k. absurd (l.1 k.0)) l.0)
-              (λ p sp. (two m s A d p q known nd around sp (live_q, safe_q, (λ r z. sure_both b d r z))).1)
+              (λ p sp. (two m s A d p q known nd around sp (live_q, safe_q)).1)
               (skipped_sure b m s A q next last (sure_less body t f m next (B s A) (λ r. B s A r ⊎ H b d r) (λ r l. inl l) exit.1)),
-          (λ r z. subst (λ (y : ℕ). LiveAt body mid y) (sym z.0) at_d),
         )
 
     or_safe : (a b : Expr ℕ) → Sf a U → Sf b U → Fits c n b U → (m : ℕ) (s : Variables) (A : ℕ → Type 0) (d at next : ℕ) → Kn s U → n ≤ d → Ar d A
-        → Spans body at (code c a (before b s) d ++ fork d (released (before b s) s) (code c b s d)) next → Open m next (B s A) b d → Comes m at (B (before a (before b s)) A)
+        → Spans body at (code c a (before b s) d ++ fork d (released (before b s) s) (code c b s d)) next → Full m next (B s A) b d → Comes m at (B (before a (before b s)) A)
     or_safe a b one two fit m s A d at next known nd around h exit =
         let T = before b s in
         let mid = at + length (code c a T d) in
@@ -125,9 +113,8 @@ module _ (body : List Instr) (c : Context) (n : ℕ) (t : Gives) (f : ℕ) where
               (λ r l. either (λ k. live r k) (λ k. subst (λ (z : ℕ). LiveAt body mid z) (sym k.0) at_d) l)
               (λ e g. absurd (some g)) (λ r l. either (λ k. k) (λ k. absurd (l.1 k.0)) l.0) (λ r l. either (λ k. k) (λ k. absurd (l.1 k.0)) l.0) exit.0
               (λ p q sp lq sq. skipped_sure b m s A p q sp sq)
-              (λ p sp. (two m s A d p next known nd around sp (exit.0, exit.1, (λ r z. sure_both b d r z))).1)
+              (λ p sp. (two m s A d p next known nd around sp exit).1)
               (sure_less body t f m next (B s A) (λ r. B s A r ⊎ H b d r) (λ r l. inl l) exit.1),
-          (λ r z. subst (λ (y : ℕ). LiveAt body mid y) (sym z.0) at_d),
         )
 
     strict_safe : (o : Op) (a b : Expr ℕ) → (o ≡ op.And → ⊥) → (o ≡ op.Or → ⊥) → Sf a U → Sf b U → Fits c n b U → (m : ℕ) (s : Variables) (A : ℕ → Type 0) (d at next : ℕ) → Kn s U → n ≤ d → Ar d A
@@ -144,12 +131,12 @@ module _ (body : List Instr) (c : Context) (n : ℕ) (t : Gives) (f : ℕ) where
     binary_safe i op.Div a b one two fit m s A d at next known nd around h exit = strict_safe op.Div a b (λ e. cc) (λ e. cc) one two fit m s A d at next known nd around h (exit.0, sure_less body t f m next (B s A) (λ r. B s A r ⊎ H (BinaryExpr i op.Div a b) d r) (λ r l. inl l) exit.1)
     binary_safe i op.Mod a b one two fit m s A d at next known nd around h exit = strict_safe op.Mod a b (λ e. cc) (λ e. cc) one two fit m s A d at next known nd around h (exit.0, sure_less body t f m next (B s A) (λ r. B s A r ⊎ H (BinaryExpr i op.Mod a b) d r) (λ r l. inl l) exit.1)
     binary_safe i op.Equal a b one two fit m s A d at next known nd around h exit = strict_safe op.Equal a b (λ e. cc) (λ e. cc) one two fit m s A d at next known nd around h (exit.0, sure_less body t f m next (B s A) (λ r. B s A r ⊎ H (BinaryExpr i op.Equal a b) d r) (λ r l. inl l) exit.1)
-    binary_safe i op.Within a b one two fit m s A d at next known nd around h exit = strict_safe op.Within a b (λ e. cc) (λ e. cc) one two fit m s A d at next known nd around h (exit.0, sure_less body t f m next (B s A) (λ r. B s A r ⊎ H (BinaryExpr i op.Within a b) d r) (λ r l. inl l) exit.1)
+    binary_safe i op.Less a b one two fit m s A d at next known nd around h exit = strict_safe op.Less a b (λ e. cc) (λ e. cc) one two fit m s A d at next known nd around h (exit.0, sure_less body t f m next (B s A) (λ r. B s A r ⊎ H (BinaryExpr i op.Less a b) d r) (λ r l. inl l) exit.1)
     binary_safe i op.LessEqual a b one two fit m s A d at next known nd around h exit = strict_safe op.LessEqual a b (λ e. cc) (λ e. cc) one two fit m s A d at next known nd around h (exit.0, sure_less body t f m next (B s A) (λ r. B s A r ⊎ H (BinaryExpr i op.LessEqual a b) d r) (λ r l. inl l) exit.1)
     binary_safe i op.Greater a b one two fit m s A d at next known nd around h exit = strict_safe op.Greater a b (λ e. cc) (λ e. cc) one two fit m s A d at next known nd around h (exit.0, sure_less body t f m next (B s A) (λ r. B s A r ⊎ H (BinaryExpr i op.Greater a b) d r) (λ r l. inl l) exit.1)
     binary_safe i op.GreaterEqual a b one two fit m s A d at next known nd around h exit = strict_safe op.GreaterEqual a b (λ e. cc) (λ e. cc) one two fit m s A d at next known nd around h (exit.0, sure_less body t f m next (B s A) (λ r. B s A r ⊎ H (BinaryExpr i op.GreaterEqual a b) d r) (λ r l. inl l) exit.1)
-    binary_safe i op.And a b one two fit m s A d at next known nd around h exit = and_safe a b one two fit m s A d at next known nd around h (exit.0, exit.1)
-    binary_safe i op.Or a b one two fit m s A d at next known nd around h exit = or_safe a b one two fit m s A d at next known nd around h (exit.0, exit.1)
+    binary_safe i op.And a b one two fit m s A d at next known nd around h exit = and_safe a b one two fit m s A d at next known nd around h exit
+    binary_safe i op.Or a b one two fit m s A d at next known nd around h exit = or_safe a b one two fit m s A d at next known nd around h exit
 
     -- ---- one instruction without operands
 
@@ -235,7 +222,6 @@ module _ (body : List Instr) (c : Context) (n : ℕ) (t : Gives) (f : ℕ) where
 
     pub more_of_one : (s u : Variables) (A : ℕ → Type 0) (e : Expr ℕ) (m d p : ℕ) → Comes m p (λ r. Vars s r ⊎ (A r ⊎ (r ≡ d))) → Full m p (B s A) e d
     more_of_one s u A e m d p k = (
-      (λ r w l. k.0 r w (either (λ v. inl v) (λ a. inr (inl a)) l)),
-      sure_less body t f m p (λ r. B s A r ⊎ H e d r) (λ r. Vars s r ⊎ (A r ⊎ (r ≡ d))) (λ r w l. either (λ b. either (λ v. inl v) (λ a. inr (inl a)) b) (λ x. inr (inr x.0)) l) k.1,
-      (λ r w z. k.0 r w (inr (inr z.0))),
+      (λ r l. k.0 r (either (λ v. inl v) (λ a. inr (inl a)) l)),
+      sure_less body t f m p (λ r. B s A r ⊎ H e d r) (λ r. Vars s r ⊎ (A r ⊎ (r ≡ d))) (λ r l. either (λ b. either (λ v. inl v) (λ a. inr (inl a)) b) (λ x. inr (inr x.0)) l) k.1,
     )

@@ -104,10 +104,6 @@ module _ (body : List Instr) (c : Context) (n : ℕ) where
     abbrev pub Held : Expr ℕ → ℕ → ℕ → Type 0
     Held e d r = (r ≡ d) × (is_plain e ≡ false)
 
-    -- one that the code takes to be none, so that it doesn't release it
-    abbrev pub Kept : Expr ℕ → ℕ → ℕ → Type 0
-    Kept e d r = (r ≡ d) × ((is_plain e ≡ false) × (is_plain e ≡ true))
-
     abbrev pub Around : ℕ → (ℕ → Type 0) → Type 0
     Around d A = (r : ℕ) → A r → (n ≤ r) × (r < d)
 
@@ -122,9 +118,9 @@ module _ (body : List Instr) (c : Context) (n : ℕ) where
     abbrev pub Exit : ℕ → ℕ → (ℕ → Type 0) → (ℕ → Type 0) → Type 0
     Exit m p P Q = Lives body t f p P × Sure body t f m p (λ r. P r ⊎ Q r)
 
-    -- so, and what the code doesn't release is live
+    -- so with the value of the expression
     abbrev pub Full : ℕ → ℕ → (ℕ → Type 0) → Expr ℕ → ℕ → Type 0
-    Full m p P e d = Lives body t f p P × Sure body t f m p (λ r. P r ⊎ Held e d r) × Lives body t f p (Kept e d)
+    Full m p P e d = Lives body t f p P × Sure body t f m p (λ r. P r ⊎ Held e d r)
 
     pub ready_less : (m p : ℕ) (P Q : ℕ → Type 0) → ((r : ℕ) → P r → Q r) → Ready m p Q → Ready m p P
     ready_less m p P Q h k = ((λ r l. k.0 r (h r l)), sure_less body t f m p P Q (λ r l. h r l) k.1)
@@ -157,8 +153,8 @@ module _ (body : List Instr) (c : Context) (n : ℕ) where
 
     -- an instruction that reads the operands X
     pub operands_ready : (m p next : ℕ) (i : Instr) (B X H : ℕ → Type 0) → Spans body p (Does i ∷ []) next → ((r : ℕ) → B r → IsNone r (changes i)) → IsOne (p + 1) (nexts p i) → ((r : ℕ) → X r → IsOne r (reads i)) → ((r : ℕ) → X r → IsNone r (gone i) → H r)
-        → ((r : ℕ) → Into t i ((λ q. B q ⊎ X q)) r → H r)
-        → ((k : ℕ) → Safe t f body k (p + 1) (After t i ((λ q. B q ⊎ X q))) → Onward t f (Safe t f body k) p i ((λ q. B q ⊎ X q)))
+        → ((r : ℕ) → Into t i (λ q. B q ⊎ X q) r → H r)
+        → ((k : ℕ) → Safe t f body k (p + 1) (After t i (λ q. B q ⊎ X q)) → Onward t f (Safe t f body k) p i (λ q. B q ⊎ X q))
         → Exit m next B H → Ready m p (λ r. B r ⊎ X r)
     operands_ready m p next i B X H h none to read stays into onward exit =
         let e : next ≡ p + 1 = (let z = h.1 in omega (arith, z)) in
@@ -190,7 +186,7 @@ module _ (body : List Instr) (c : Context) (n : ℕ) where
           is m s A d at mid known nd around (front body at (code c a s d) (Does i ∷ []) next h)
           (let k = operands_ready m mid next i (Base s A) (Held a d) H (back body at (code c a s d) (Does i ∷ []) next h) (λ r b. none r (base_low s A U d known low nd around r b)) (to mid)
           (λ r x. subst (λ (z : ℕ). IsOne z (reads i)) (sym x.0) read) (λ r x g. absurd (left (subst (λ (z : ℕ). IsNone z (gone i)) x.0 g)))
-          (λ r g. into r ((λ q. Base s A q ⊎ Held a d q)) g) (λ q w. onward q mid ((λ z. Base s A z ⊎ Held a d z)) w) exit in ((λ r l. k.0 r (inl l)), k.1, (λ r z. k.0 r (inr (z.0, z.1.0)))))
+          (λ r g. into r (λ q. Base s A q ⊎ Held a d q) g) (λ q w. onward q mid (λ z. Base s A z ⊎ Held a d z) w) exit in ((λ r l. k.0 r (inl l)), k.1))
 
       -- two operands, the first of which waits
       pub pair_safe : (a b : Expr ℕ) → Safely a U → Safely b U → Fits c n b U → (m : ℕ) (s : Variables) (A : ℕ → Type 0) (d at next : ℕ) (rest : List Step) → Known s U → n ≤ d → Around d A
@@ -205,10 +201,9 @@ module _ (body : List Instr) (c : Context) (n : ℕ) where
           let there = two m s B (suc d) mid mid2 known (omega (arith, nd)) (around_more d A (Held a d) nd around (λ r x. x.0)) (front body mid (code c b s (suc d)) rest next behind) (
             (λ r l. k.0 r (regroup s A a d r l)),
             sure_less body t f m mid2 (λ r. Base s B r ⊎ Held b (suc d) r) (λ r. Base s A r ⊎ (Held a d r ⊎ Held b (suc d) r)) (λ r l. either (λ z. either (λ v. inl v) (λ w. inr (inl w)) (regroup2 s A a d r z)) (λ w. inr (inr w)) l) k.1,
-            (λ r z. k.0 r (inr (inr (z.0, z.1.0)))),
           ) in
           one m (before b s) A d at mid (known_before b U s fit_b known) nd around (front body at (code c a (before b s) d) (code c b s (suc d) ++ rest) next h)
-          ((λ r l. there.0 r (either (λ v. inl v) (λ w. inr (inl w)) l)), sure_less body t f m mid (λ r. Base (before b s) A r ⊎ Held a d r) (Base (before b s) B) (λ r l. either (λ z. either (λ v. inl v) (λ w. inr (inl w)) z) (λ w. inr (inr w)) l) there.1, (λ r z. there.0 r (inr (inr (z.0, z.1.0)))))
+          ((λ r l. there.0 r (either (λ v. inl v) (λ w. inr (inl w)) l)), sure_less body t f m mid (λ r. Base (before b s) A r ⊎ Held a d r) (Base (before b s) B) (λ r l. either (λ z. either (λ v. inl v) (λ w. inr (inl w)) z) (λ w. inr (inr w)) l) there.1)
         where
           regroup : (s : Variables) (A : ℕ → Type 0) (a : Expr ℕ) (d r : ℕ) → Base s (λ q. A q ⊎ Held a d q) r → Base s A r ⊎ (Held a d r ⊎ Held b (suc d) r)
           regroup s A a d r (inl v) = inl (inl v)
@@ -229,7 +224,7 @@ module _ (body : List Instr) (c : Context) (n : ℕ) where
           operands_ready m p next i (Base s A) (λ r. Held a d r ⊎ Held b (suc d) r) H h (λ r k. none r (base_low s A U d known low nd around r k)) to
           (λ r x. either (λ y. subst (λ (z : ℕ). IsOne z (reads i)) (sym y.0) one) (λ y. subst (λ (z : ℕ). IsOne z (reads i)) (sym y.0) two) x)
           (λ r x g. either (λ y. absurd (left (subst (λ (z : ℕ). IsNone z (gone i)) y.0 g))) (λ y. subst (λ (z : ℕ). H z) (sym y.0) (also y.1 (subst (λ (z : ℕ). IsNone z (gone i)) y.0 g))) x)
-          (λ r g. into r ((λ q. Base s A q ⊎ (Held a d q ⊎ Held b (suc d) q))) g) (λ k w. onward k ((λ q. Base s A q ⊎ (Held a d q ⊎ Held b (suc d) q))) w) exit
+          (λ r g. into r (λ q. Base s A q ⊎ (Held a d q ⊎ Held b (suc d) q)) g) (λ k w. onward k (λ q. Base s A q ⊎ (Held a d q ⊎ Held b (suc d) q)) w) exit
 
       -- nothing
       abbrev pub Nothing_more : ℕ → Type 0
@@ -266,7 +261,7 @@ module _ (body : List Instr) (c : Context) (n : ℕ) where
       operator_ready op.Div a b m s A d p next known nd around h exit x y = arith_ready a b arithmetic.Div m s A d p next known nd around h exit
       operator_ready op.Mod a b m s A d p next known nd around h exit x y = arith_ready a b arithmetic.Mod m s A d p next known nd around h exit
       operator_ready op.Equal a b m s A d p next known nd around h exit x y = equal_ready a b (is_plain b) refl m s A d p next known nd around h exit
-      operator_ready op.Within a b m s A d p next known nd around h exit x y = compare_ready a b comparison.Within m s A d p next known nd around h exit
+      operator_ready op.Less a b m s A d p next known nd around h exit x y = compare_ready a b comparison.Less m s A d p next known nd around h exit
       operator_ready op.LessEqual a b m s A d p next known nd around h exit x y = compare_ready a b comparison.LessEqual m s A d p next known nd around h exit
       operator_ready op.Greater a b m s A d p next known nd around h exit x y = compare_ready a b comparison.Greater m s A d p next known nd around h exit
       operator_ready op.GreaterEqual a b m s A d p next known nd around h exit x y = compare_ready a b comparison.GreaterEqual m s A d p next known nd around h exit

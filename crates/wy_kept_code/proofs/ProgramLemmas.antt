@@ -155,7 +155,7 @@ module _ (core : Core ℕ) where
         let live_mid : Lives body t f mid Answered = asked_lives body c t f mid next n more [] (Vars s) rest live_s live in
         let safe_mid : Sure body t f m mid Answered = one_safe body c t f more m mid next n (Vars s) rest live_mid live safe (λ q z sp lq sq. (clauses_ready es fit.1 m q z sp lq sq).1) in
         let at_p = value_safe body c n R U low t f nothing_given (λ g. g) e fit.0 m s p mid (λ r v. is_x r v) (front body p one (fork n more []) next h)
-        (live_s, sure_less body t f m mid (λ r. Vars s r ⊎ ((r ≡ n) × (is_plain e ≡ false))) Answered (λ r l. either (λ v. inl v) (λ z. inr z.0) l) safe_mid, (λ r z. not_both (is_plain e) z.1.1 z.1.0)) in
+        (live_s, sure_less body t f m mid (λ r. Vars s r ⊎ ((r ≡ n) × (is_plain e ≡ false))) Answered (λ r l. either (λ v. inl v) (λ z. inr z.0) l) safe_mid) in
         ready_less body c n t f m p (Vars s) (Vars (before e s)) (λ r v. before_of e s r (inr v)) at_p
 
     -- the argument comes into the variable

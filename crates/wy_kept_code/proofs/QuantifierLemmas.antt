@@ -16,10 +16,10 @@ use Rattle.wy_pieces.specs.Steps.{clear}
 use Rattle.wy_compiled.specs.Expressions.{lost, released, is_plain, turn_end, said, ends, quantify, code}
 use Rattle.wy_kept_registers.specs.Keeping.{IsNone}
 use Rattle.wy_kept_code.specs.Alive.{LiveAt}
-use Rattle.wy_kept_code.specs.Safe.{Gives, Safe}
+use Rattle.wy_kept_code.specs.Safe.{Gives}
 use Rattle.wy_kept_code.specs.Fitting.{Fits}
 use Rattle.wy_kept_code.proofs.SafeLemmas.{safe_sooner}
-use Rattle.wy_kept_code.proofs.PieceLemmas.{either, nat_up, less_not, Spans, front, back, tail, live_reads, live_on, Lives, Sure, sure_less, safe_step, raw_step, raw_branches, safe_jumps, safe_loops, safe_branches, safe_at, lives_on, lives_at}
+use Rattle.wy_kept_code.proofs.PieceLemmas.{either, nat_up, less_not, Spans, front, back, tail, live_reads, live_on, Lives, Sure, sure_less, safe_step, safe_jumps, safe_loops, safe_branches, safe_at, lives_on, lives_at}
 use Rattle.wy_kept_code.proofs.SetLemmas.{Vars, before_of, turned_cases, still_has}
 use Rattle.wy_kept_code.proofs.ReadLemmas.{low_more, occurs_used, turns_of, quantifier, branch_live, kept_lost, code_live}
 use Rattle.wy_kept_code.proofs.OperandLemmas.{base_low, clear_sure}
@@ -33,10 +33,6 @@ module _ (body : List Instr) (c : Context) (n : ℕ) (t : Gives) (f : ℕ) where
   abbrev H : Expr ℕ → ℕ → ℕ → Type 0
   H e d r = (r ≡ d) × (is_plain e ≡ false)
 
-  -- one that the code takes to be none
-  abbrev K : Expr ℕ → ℕ → ℕ → Type 0
-  K e d r = (r ≡ d) × ((is_plain e ≡ false) × (is_plain e ≡ true))
-
   abbrev Comes : ℕ → ℕ → (ℕ → Type 0) → Type 0
   Comes m p P = Lives body t f p P × Sure body t f m p P
 
@@ -44,7 +40,7 @@ module _ (body : List Instr) (c : Context) (n : ℕ) (t : Gives) (f : ℕ) where
   Leaves m p P Q = Lives body t f p P × Sure body t f m p (λ r. P r ⊎ Q r)
 
   abbrev Full : ℕ → ℕ → (ℕ → Type 0) → Expr ℕ → ℕ → Type 0
-  Full m p P e d = Lives body t f p P × Sure body t f m p (λ r. P r ⊎ H e d r) × Lives body t f p (K e d)
+  Full m p P e d = Lives body t f p P × Sure body t f m p (λ r. P r ⊎ H e d r)
 
   abbrev Kn : Variables → (ℕ → Type 0) → Type 0
   Kn s U = (r : ℕ) → Vars s r → U r
@@ -130,7 +126,7 @@ module _ (body : List Instr) (c : Context) (n : ℕ) (t : Gives) (f : ℕ) where
         let V : ℕ → Type 0 = λ r. U r ⊎ (r ≡ x) in
         let P : ℕ → Type 0 = B T A in let AtBounds : ℕ → Type 0 = λ r. P r ⊎ X r in
         let InTurn : ℕ → Type 0 = λ r. P r × (r ≢ d) in
-        let compare_it : Instr = instr.Compare (suc (suc d)) comparison.Within d (suc d) in
+        let compare_it : Instr = instr.Compare (suc (suc d)) comparison.Less d (suc d) in
         let share : Instr = instr.Share x d in
         let long = p + length (turns_of body c n all x d inn rs) in
         let parts = quantifier body c n all x d inn rs p next h in
@@ -152,15 +148,14 @@ module _ (body : List Instr) (c : Context) (n : ℕ) (t : Gives) (f : ℕ) where
         let i1 = tail body (b + 1) share (inn ++ turn_end all d (clear rs)) j parts.inside in
         let p3 = b + 1 + 1 in let p4 = p3 + length inn in
         let span_ends = back body p (turns_of body c n all x d inn rs) (ends all d (clear rs)) next h in
-        let behind = parts.behind in
-        (
+        let behind = parts.behind in (
           live_p,
           nat_up (λ k. Sure body t f k next (B s A) → Sure body t f k p AtBounds) (λ z. tt) (λ k less safe.
               let es = ends_sure all (suc k) d rs long next P (B s A) span_ends lows (λ r l none. either (λ v. inl (still_has T s r v none)) (λ a. inr a) l) (exit.0, safe) in
               let at_j : Sure body t f (suc k) j P = safe_loops body t f k j p P AtBounds parts.jumps live_p (λ r l. inl l) (less (safe_sooner t f body k next (B s A) safe)) in
               let te = turn_end_ready all (suc k) d (clear rs) p4 j (suc (suc (long + length (clear rs)))) P lows_T (back body p3 inn (turn_end all d (clear rs)) j i1) (omega (arith, behind)) (live_j, at_j) es.1 in
               let body_in = inner_safe (suc k) T A (suc (suc d)) p3 p4 (λ r v. inl (known_T r v)) nd2 (λ r a. let w = around r a in (w.0, let l = w.1 in omega (arith, l))) (front body p3 inn (turn_end all d (clear rs)) j i1)
-              ((λ r l. te.0 r (inl l)), sure_less body t f (suc k) p4 (λ r. B T A r ⊎ H inner (suc (suc d)) r) (λ r. P r ⊎ (r ≡ suc (suc d))) (λ r l. either (λ z. inl z) (λ z. inr z.0) l) te.1, (λ r z. te.0 r (inr z.0))) in
+              ((λ r l. te.0 r (inl l)), sure_less body t f (suc k) p4 (λ r. B T A r ⊎ H inner (suc (suc d)) r) (λ r. P r ⊎ (r ≡ suc (suc d))) (λ r l. either (λ z. inl z) (λ z. inr z.0) l) te.1) in
               let to_inner : (r : ℕ) → P r → B (before inner T) A r = λ r l. either (λ v. inl (before_of inner T r (inr v))) (λ a. inr a) l in
               let at_3 : Sure body t f (suc k) p3 P = sure_less body t f (suc k) p3 P (B (before inner T) A) (λ r l. to_inner r l) body_in.1 in
               let live_share : Lives body t f (b + 1) InTurn = λ r l. live_on body (b + 1) p3 r share parts.inside.0.0 (not_x s A d r known around l.0, tt) (inl refl) (body_in.0 r (to_inner r l.0)) in

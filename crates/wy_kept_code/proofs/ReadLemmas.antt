@@ -26,9 +26,8 @@ use Rattle.wy_compiled.specs.Expressions.{lost, released, is_plain, operator, op
 use Rattle.wy_kept_registers.specs.Keeping.{IsNone}
 use Rattle.wy_kept_code.specs.Alive.{IsOne, changes, nexts, LiveAt}
 use Rattle.wy_kept_code.specs.Fitting.{IsValue, Fits, FitAll, FitFields}
-use Rattle.wy_kept_code.proofs.SafeLemmas.{told_or_not}
 use Rattle.wy_kept_code.proofs.PieceLemmas.{either, less_not, From, none_below, Spans, front, back, tail, live_reads, live_on, live_last, live_first, live_second, Turning, turning}
-use Rattle.wy_kept_code.proofs.SetLemmas.{never, not_both, same_of, same_to, other_of, Vars, before_cases, before_of, all_of, fields_of, turned_cases, turned_of, not_lost}
+use Rattle.wy_kept_code.proofs.SetLemmas.{never, not_both, true_or_not, same_of, same_to, other_of, Vars, before_cases, before_of, all_of, fields_of, turned_cases, turned_of, not_lost}
 use Rattle.wy_kept_code.proofs.TestLemmas.{at_end, test_live}
 
 pub from_registers : (d r n : ℕ) → d ≤ r → From d (registers_from r n)
@@ -253,7 +252,7 @@ module _ (body : List Instr) where
 
     behind_and : (b : Expr ℕ) (s : Variables) (q next r : ℕ) → Spans body q (released (before b s) s) next → Goes (occurs b r) s next r → Goes (occurs b r) s q r
     behind_and b s q next r h (inl u) = inl u
-    behind_and b s q next r h (inr k) = either (λ u. inl u) (λ no. inr (k.0, clear_live (lost (before b s) s) q next r h (unused_kept b s r no) k.1)) (told_or_not (occurs b r))
+    behind_and b s q next r h (inr k) = either (λ u. inl u) (λ no. inr (k.0, clear_live (lost (before b s) s) q next r h (unused_kept b s r no) k.1)) (true_or_not (occurs b r))
 
     -- the right operand and the operator
     pub right_live : (o : Op) (b : Expr ℕ) → Lively b → (s : Variables) (d mid next r : ℕ) → n ≤ d

@@ -4,10 +4,6 @@ use Rattle.wy_code.specs.declared.instructions.Instr.{Instr}
 use Rattle.wy_code.specs.declared.instructions.Instr.TheVariants as instr
 use Rattle.wy_kept_code.specs.Safe.{Gives, Into, After, Onward, Safe}
 
-pub told_or_not : (b : Bool) → (b ≡ true) ⊎ (b ≡ false)
-told_or_not true = inl refl
-told_or_not false = inr refl
-
 -- the registers of the one set are in the other
 abbrev pub Within : (ℕ → Type 0) → (ℕ → Type 0) → Type 0
 Within P Q = (r : ℕ) → P r → Q r

@@ -103,12 +103,8 @@ module _ (body : List Instr) (c : Context) (n : ℕ) (R : Type 0) (U : ℕ → T
     abbrev H : Expr ℕ → ℕ → ℕ → Type 0
     H e d r = (r ≡ d) × (is_plain e ≡ false)
 
-    -- one that the code takes to be none
-    abbrev K : Expr ℕ → ℕ → ℕ → Type 0
-    K e d r = (r ≡ d) × ((is_plain e ≡ false) × (is_plain e ≡ true))
-
     abbrev Full : ℕ → ℕ → (ℕ → Type 0) → Expr ℕ → ℕ → Type 0
-    Full m p P e d = Lives body t f p P × Sure body t f m p (λ r. P r ⊎ H e d r) × Lives body t f p (K e d)
+    Full m p P e d = Lives body t f p P × Sure body t f m p (λ r. P r ⊎ H e d r)
 
     comes_at : (m p q : ℕ) (P : ℕ → Type 0) → p ≡ q → Comes m p P → Comes m q P
     comes_at m p q P e k = (lives_at body t f p q P e k.0, safe_at body t f m p q P e k.1)
@@ -121,7 +117,7 @@ module _ (body : List Instr) (c : Context) (n : ℕ) (R : Type 0) (U : ℕ → T
     value_safe e fit m s at next known h exit =
         ready_less body c n t f m at (Vars (before e s)) (λ r. Vars (before e s) r ⊎ ⊥) (λ r l. inl l)
         (code_safe body c n t f e U fit low m s (λ r. ⊥) n at next known (omega arith) (λ r a. absurd a) h
-        ((λ r l. either (λ v. exit.0 r v) (λ z. absurd z) l), sure_less body t f m next (λ r. (Vars s r ⊎ ⊥) ⊎ H e n r) (λ r. Vars s r ⊎ H e n r) (λ r l. either (λ k. either (λ v. inl v) (λ z. absurd z) k) (λ k. inr k) l) exit.1, exit.2))
+        ((λ r l. either (λ v. exit.0 r v) (λ z. absurd z) l), sure_less body t f m next (λ r. (Vars s r ⊎ ⊥) ⊎ H e n r) (λ r. Vars s r ⊎ H e n r) (λ r l. either (λ k. either (λ v. inl v) (λ z. absurd z) k) (λ k. inr k) l) exit.1))
 
     -- ---- assignments
 
@@ -137,17 +133,15 @@ module _ (body : List Instr) (c : Context) (n : ℕ) (R : Type 0) (U : ℕ → T
           (λ r l. live r (inl l)),
           safe_step body t f m p i (λ r. Vars (without s x) r ⊎ H e n r) (Vars s) h.0.0 live (λ y w. w)
               (λ r l. either (λ z. either (λ v. (without_cases s x r v).1) (λ k. absurd (z.1.1.0 k.0)) z.0) (λ z. subst (λ (y : ℕ). has s y ≡ true) (sym z.0) is) l) there.1,
-          (λ r z. live r (inr (z.0, z.1.0))),
         )
     store_leaves e false true m x s p next known is same h exit =
         let there = comes_at m next p (Vars s) (sym (ended body p next h)) exit in
-        ((λ r v. there.0 r (without_cases s x r v).1), sure_less body t f m p (λ r. Vars (without s x) r ⊎ H e n r) (Vars s) (λ r l. either (λ v. (without_cases s x r v).1) (λ k. unsettled e r same k) l) there.1, (λ r z. unsettled e r same (z.0, z.1.0)))
+        ((λ r v. there.0 r (without_cases s x r v).1), sure_less body t f m p (λ r. Vars (without s x) r ⊎ H e n r) (Vars s) (λ r l. either (λ v. (without_cases s x r v).1) (λ k. unsettled e r same k) l) there.1)
     store_leaves e false false m x s p next known is same h exit =
         let i : Instr = instr.Clear (n ∷ []) in
         let there = comes_at m next (p + 1) (Vars s) (let z = h.1 in omega (arith, z)) exit in (
           (λ r v. let w = (without_cases s x r v).1 in live_on body p (p + 1) r i h.0.0 (less_not r n (below s known r w), tt) (inl refl) (there.0 r w)),
           safe_clears body t f m p (n ∷ []) (λ r. Vars (without s x) r ⊎ H e n r) (Vars s) h.0.0 (λ r l. either (λ v. (without_cases s x r v).1) (λ k. absurd (l.1.0 k.0)) l.0) there.1,
-          (λ r z. not_both (is_plain e) z.1.1 same),
         )
 
     set_safe : (x : ℕ) (e : Expr ℕ) → Fits c n e U → (m : ℕ) (s : Variables) (at next : ℕ) → Kn s → Spans body at (set c x e s n) next → Comes m next (Vars s) → Sure body t f m at (Vars (before e (without s x)))
@@ -169,7 +163,7 @@ module _ (body : List Instr) (c : Context) (n : ℕ) (R : Type 0) (U : ℕ → T
         (ready_less body c n t f m next (λ r. (Vars s r ⊎ A2 r) ⊎ Range (suc d) (index_count path) r) (λ r. (Vars s r ⊎ A r) ⊎ Range d (suc (index_count path)) r)
         (λ r l. either (λ z. either (λ v. inl (inl v)) (λ a. either (λ y. inl (inr y)) (λ y. inr (omega (arith, y), omega (arith, y))) a) z) (λ z. inr (let y = z.0 in omega (arith, y), let y = z.1 in omega (arith, y))) l) exit) in
         code_safe body c n t f e U fit.0 low m T A d at mid (known_steps path fit.1 s known) nd around (front body at one (indices c path s (suc d)) next h)
-        ((λ r l. k.0 r (either (λ v. inl v) (λ a. inr (inl a)) l)), sure_less body t f m mid (λ r. (Vars T r ⊎ A r) ⊎ H e d r) (λ r. Vars T r ⊎ A2 r) (λ r l. either (λ z. either (λ v. inl v) (λ a. inr (inl a)) z) (λ z. inr (inr z.0)) l) k.1, (λ r z. k.0 r (inr (inr z.0))))
+        ((λ r l. k.0 r (either (λ v. inl v) (λ a. inr (inl a)) l)), sure_less body t f m mid (λ r. (Vars T r ⊎ A r) ⊎ H e d r) (λ r. Vars T r ⊎ A2 r) (λ r l. either (λ z. either (λ v. inl v) (λ a. inr (inl a)) z) (λ z. inr (inr z.0)) l) k.1)
     indices_safe (FieldStep i name ∷ path) fit m s A d at next known nd around h exit = indices_safe path fit m s A d at next known nd around h exit
 
     kept_sure : (b : Bool) (m x : ℕ) (s : Variables) (p next : ℕ) → has s x ≡ b → Spans body p (cond b [] (clear (x ∷ []))) next → Sure body t f m next (Vars s) → Sure body t f m p (λ r. Vars s r ⊎ (r ≡ x))
@@ -194,7 +188,7 @@ module _ (body : List Instr) (c : Context) (n : ℕ) (R : Type 0) (U : ℕ → T
         let live_P : Lives body t f mid2 P = λ r l. either (λ z. either (λ v. live_S r v) (λ y. live_reads body mid2 r put last.0.0 (inr (inr (slot_one r y)))) z) (λ z. live_reads body mid2 r put last.0.0 (inr (inl z.0))) l in
         let after_put : Within (After t put P) (λ r. Vars s r ⊎ (r ≡ x)) = λ r l. either (λ z. either (λ y. either (λ v. either (λ w. inr w) (λ w. inl w) (with_cases s x r v)) (λ y2. absurd (one_not_none r (slot_registers (slots c path n)) (slot_one r y2) z.1.1.1)) y) (λ y. absurd (z.1.1.0 y.0)) z.0) (λ z. inr z) l in
         let at_put = safe_step body t f m mid2 put P (λ r. Vars s r ⊎ (r ≡ x)) last.0.0 live_P (λ y w. w) after_put (kept_sure (has s x) m x s (mid2 + 1) next refl end exit.1) in
-        let at_value = code_safe body c n t f e U fe low m S (Range n k) d mid mid2 known_S (omega arith) (λ r z. z) (front body mid two (Does put ∷ kept x s) next rest) ((λ r l. live_P r (inl l)), at_put, (λ r z. live_P r (inr (z.0, z.1.0)))) in
+        let at_value = code_safe body c n t f e U fe low m S (Range n k) d mid mid2 known_S (omega arith) (λ r z. z) (front body mid two (Does put ∷ kept x s) next rest) ((λ r l. live_P r (inl l)), at_put) in
         (ready_less body c n t f m at (Vars (before_steps path (before e S))) (λ r. Vars (before_steps path (before e S)) r ⊎ ⊥) (λ r l. inl l)
         (indices_safe path fp m (before e S) (λ r. ⊥) n at mid (known_value e fe S known_S) (omega arith) (λ r a. absurd a) (front body at one (two ++ Does put ∷ kept x s) next h)
         (ready_less body c n t f m mid (λ r. (Vars (before e S) r ⊎ ⊥) ⊎ Range n k r) (λ r. Vars (before e S) r ⊎ Range n k r) (λ r l. either (λ z. either (λ v. inl v) (λ y. absurd y) z) (λ z. inr z) l) at_value))).1
@@ -265,7 +259,7 @@ module _ (body : List Instr) (c : Context) (n : ℕ) (R : Type 0) (U : ℕ → T
         let one = code c e [] n in let mid = at + length one in
         let last = back body at one (Does i ∷ []) next h in
         (value_safe e fit m [] at mid known_none (front body at one (Does i ∷ []) next h)
-        ((λ r v. none_has r v), safe_returns body t f m mid n (λ r. Vars [] r ⊎ H e n r) last.0.0 (λ r l. either (λ v. none_has r v) (λ z. live_reads body mid r i last.0.0 (inl z.0)) l) (λ l. gives may), (λ r z. live_reads body mid r i last.0.0 (inl z.0)))).1
+        ((λ r v. none_has r v), safe_returns body t f m mid n (λ r. Vars [] r ⊎ H e n r) last.0.0 (λ r l. either (λ v. none_has r v) (λ z. live_reads body mid r i last.0.0 (inl z.0)) l) (λ l. gives may))).1
 
     -- ---- blocks
 
@@ -323,7 +317,6 @@ module _ (body : List Instr) (c : Context) (n : ℕ) (R : Type 0) (U : ℕ → T
               (λ p q sp eq lq sq. opened_sure first one both m s ends (over code2 + exit) (over code2 + again) p q k1 k2 k3 sp (lq, sq)
               (comes_at m (next + exit) (q + (over code2 + exit)) (Vars ends.exit) (omega (arith, eq)) e2) (comes_at m (next + again) (q + (over code2 + again)) (Vars ends.again) (omega (arith, eq)) e3))
               (λ p sp. opened_sure second two both m s ends exit again p next k1 k2 k3 sp e1 e2 e3) e1.1,
-          (λ r z. not_both (is_plain e) z.1.1 z.1.0),
         )).1
 
     while_safe : (e : Expr ℕ) (inner : Stmts ℕ) → Fits c n e U → FitsStmts c n R inner U → BlockSafe inner → (m : ℕ) (s : Variables) (ends : Ends) (exit again at next : ℕ) → Kn s → Kn ends.exit → Kn ends.again
@@ -360,10 +353,10 @@ module _ (body : List Instr) (c : Context) (n : ℕ) (R : Type 0) (U : ℕ → T
         (λ y. inl (of_paths inner head (around s head) r (lives_more inner r (Vars [] r) (Vars head r) (Vars s r) (Vars s r) (Vars [] r) (Vars head r) (λ z. none_has r z) (λ z. z) (λ z. none_has r z) (to_paths inner [] (alone s) r y))))
         (λ y. inr y) (joined_cases once s r w)))) (before_cases e (joined once s) r v)) in
         let P0 : ℕ → Type 0 = Vars (before e both) in
-        let reads_head : Lives body t f p P0 = (value_safe e fe 0 both p b known_both parts.tests (live_both, tt, (λ r z. live_reads body b r (instr.Branch n long) parts.branches (inl z.0)))).0 in
+        let reads_head : Lives body t f p P0 = (value_safe e fe 0 both p b known_both parts.tests (live_both, tt)).0 in
         let rounds : (k : ℕ) → Sure body t f k next (Vars s) → Sure body t f k p P0 = nat_up (λ k. Sure body t f k next (Vars s) → Sure body t f k p P0) (λ z. tt) (λ k less safe.
         let at_long : Sure body t f (suc k) long (Vars both) = clear_sure body c n t f (suc k) long next (lost both s) (Vars both) (Vars s) after_all (λ r v none. still_has both s r v none) safe in
-        let at_j : Sure body t f (suc k) j (Vars head) = safe_loops body t f k j p (Vars head) P0 parts.jumps reads_head (λ r v. grown r v) (less (safe_sooner t f body k next ((Vars s)) safe)) in
+        let at_j : Sure body t f (suc k) j (Vars head) = safe_loops body t f k j p (Vars head) P0 parts.jumps reads_head (λ r v. grown r v) (less (safe_sooner t f body k next (Vars s) safe)) in
         let opened = opened_sure inner block_safe both (suc k) head (around s head) (length gone_code + 1) 0 (b + 1) j known_head k1 known_head parts.inside (live_j, at_j)
         (comes_at (suc k) next (j + (length gone_code + 1)) (Vars s) place_x (e1.0, safe)) (comes_at (suc k) j (j + 0) (Vars head) place_j (live_j, at_j)) in
         let live_b : Lives body t f b (λ r. Vars both r ⊎ H e n r) = λ r l. either (λ v. live_both r v) (λ z. live_reads body b r (instr.Branch n long) parts.branches (inl z.0)) l in
@@ -371,7 +364,6 @@ module _ (body : List Instr) (c : Context) (n : ℕ) (R : Type 0) (U : ℕ → T
           live_both,
           safe_branches body t f (suc k) b n long (λ r. Vars both r ⊎ H e n r) (Vars both) (Vars both) parts.branches live_b
               (λ r l. either (λ v. v) (λ z. absurd (l.1 z.0)) l.0) (λ r l. either (λ v. v) (λ z. absurd (l.1 z.0)) l.0) opened at_long,
-          (λ r z. live_reads body b r (instr.Branch n long) parts.branches (inl z.0)),
         )).1) in
         sure_less body t f m p (Vars head) P0 (λ r v. grown r v) (rounds m e1.1)
 

@@ -198,7 +198,7 @@ module _ (body : List Instr) where
 
         items_safe : (one : List Step) (m at next : ℕ) → Spans body at (items_test v r g one) next → ItemSafe one → ItemLive one → Lives body t f next P → Sure body t f m next P → Sure body t f m at P × Lives body t f at P
         items_safe one m at next h item passes live safe =
-            let compare : Instr = instr.Compare r comparison.Within (suc g) g in
+            let compare : Instr = instr.Compare r comparison.Less (suc g) g in
             let get : Instr = instr.Get (suc (suc g)) v (suc g) in
             let tests : List Step = Does compare ∷ [] in
             let inner : List Step = Does get ∷ (one ++ item_end r g) in
