@@ -16,7 +16,7 @@ IsValue Nothing = ⊥
 
 abbrev mutual
   -- the variable of a quantifier is none of those in use around it
-  pub Fits : Context → ℕ → Type 0 → Expr ℕ → (ℕ → Type 0) → Type 0
+  pub Fits : Context → ℕ → Expr ℕ → (ℕ → Type 0) → Type 0
   Fits c n (NullExpr at) U = Unit {0}
   Fits c n (BoolExpr at truth) U = Unit {0}
   Fits c n (IntExpr at number) U = Unit {0}
@@ -34,21 +34,21 @@ abbrev mutual
   Fits c n (RecordExpr at fs) U = FitFields c n fs U
   Fits c n (QuantExpr at all x a b body) U = Fits c n a U × Fits c n b U × (U x → ⊥) × (x < n) × Fits c n body (λ r. U r ⊎ (r ≡ x))
 
-  pub FitAll : Context → ℕ → Type 0 → Exprs ℕ → (ℕ → Type 0) → Type 0
+  pub FitAll : Context → ℕ → Exprs ℕ → (ℕ → Type 0) → Type 0
   FitAll c n NoExprs U = Unit {0}
   FitAll c n (MoreExprs e es) U = Fits c n e U × FitAll c n es U
 
-  pub FitFields : Context → ℕ → Type 0 → Fields ℕ → (ℕ → Type 0) → Type 0
+  pub FitFields : Context → ℕ → Fields ℕ → (ℕ → Type 0) → Type 0
   FitFields c n NoFields U = Unit {0}
   FitFields c n (MoreFields name e fs) U = Fits c n e U × FitFields c n fs U
 
 -- ---- statements
 
-abbrev pub FitsOption : Context → ℕ → Type 0 → Option (Expr ℕ) → (ℕ → Type 0) → Type 0
+abbrev pub FitsOption : Context → ℕ → Option (Expr ℕ) → (ℕ → Type 0) → Type 0
 FitsOption c n None U = Unit {0}
 FitsOption c n (Some e) U = Fits c n e U
 
-abbrev pub FitsPath : Context → ℕ → Type 0 → List (Step ℕ) → (ℕ → Type 0) → Type 0
+abbrev pub FitsPath : Context → ℕ → List (Step ℕ) → (ℕ → Type 0) → Type 0
 FitsPath c n [] U = Unit {0}
 FitsPath c n (IndexStep at e ∷ path) U = Fits c n e U × FitsPath c n path U
 FitsPath c n (FieldStep at name ∷ path) U = FitsPath c n path U
@@ -66,7 +66,7 @@ MayGive R None = Unit {0}
 MayGive R (Some e) = R
 
 abbrev mutual
-  pub FitsStmt : Context → ℕ → Type 0 → Type 0 → Stmt ℕ → (ℕ → Type 0) → Type 0
+  pub FitsStmt : Context → ℕ → Type 0 → Stmt ℕ → (ℕ → Type 0) → Type 0
   FitsStmt c n R (DeclareStmt at ty x value) U = U x × FitsOption c n value U
   FitsStmt c n R (AssignStmt at x path e) U = U x × FitsPath c n path U × Fits c n e U
   FitsStmt c n R (CallStmt at g args) U = IsAction (target c.results g) (count_of args) × FitAll c n args U
@@ -79,6 +79,6 @@ abbrev mutual
   FitsStmt c n R (IfStmt at e first second) U = Fits c n e U × FitsStmts c n R first U × FitsStmts c n R second U
   FitsStmt c n R (WhileStmt at e invariants inner) U = Fits c n e U × FitsStmts c n R inner U
 
-  pub FitsStmts : Context → ℕ → Type 0 → Type 0 → Stmts ℕ → (ℕ → Type 0) → Type 0
+  pub FitsStmts : Context → ℕ → Type 0 → Stmts ℕ → (ℕ → Type 0) → Type 0
   FitsStmts c n R NoStmts U = Unit {0}
   FitsStmts c n R (MoreStmts st rest) U = FitsStmt c n R st U × FitsStmts c n R rest U
