@@ -10,7 +10,7 @@ use Rattle.wy_simulation.specs.Places.{StandAt}
 use Rattle.wy_simulation.proofs.PlaceLemmas.{stand_front, stand_back, stand_moved}
 use Rattle.wy_kept_registers.specs.Keeping.{IsNone}
 use Rattle.wy_kept_code.specs.Alive.{IsOne, reads, changes, nexts, LiveAt}
-use Rattle.wy_kept_code.specs.Safe.{Gives, gone, Into, After, Onward, Fine, Safe}
+use Rattle.wy_kept_code.specs.Safe.{Gives, After, Onward, Fine, Safe}
 use Rattle.wy_kept_code.proofs.SafeLemmas.{Within, safe_less, safe_sooner}
 
 pub either : {A B C : Type 0} → (A → C) → (B → C) → A ⊎ B → C

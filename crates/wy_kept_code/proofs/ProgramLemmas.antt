@@ -1,7 +1,6 @@
 -- The code of a program keeps nothing dead.
-use Rattle.std.proofs.Common.{◌≡◌, ◌≢◌, ◌<◌, ◌≤◌, ◌⊎◌, inl, inr, ℕ, zero, suc, ◌+◌, List, [], ◌∷◌, ◌++◌, length, Bool, true, false, not, ◌&&◌, ◌||◌, nat_lt, cond, Option, Some, None, refl, sym, ap, ◌∙◌, subst, arith}
+use Rattle.std.proofs.Common.{◌≡◌, ◌≢◌, ◌<◌, ◌≤◌, ◌⊎◌, inl, inr, ℕ, zero, suc, ◌+◌, List, [], ◌∷◌, ◌++◌, length, Bool, true, false, cond, Option, Some, None, refl, sym, ap, ◌∙◌, subst, arith}
 use Rattle.std.specs.Prelude.{slice_get, is_some, max}
-use Rattle.std.proofs.lemmas.Bool.Decides.{nat_tests}
 use Rattle.wy_core.specs.CoreTree as tree
 use Rattle.wy_core.specs.CoreTree.{Expr, Param, Alias, Decl, AliasDecl, RoutineDecl, Core, aliases_of, routines_of}
 use Rattle.wy_formed.specs.Offers.{offers_of}
@@ -31,10 +30,9 @@ use Rattle.wy_kept_code.specs.Alive.{LiveAt}
 use Rattle.wy_kept_code.specs.Safe.{Gives, Safe, SafeCode}
 use Rattle.wy_kept_code.specs.Fitting.{Fits, FitsStmts}
 use Rattle.wy_kept_code.specs.Dead.{CountsStmts, IsDeclared, OwnCounters, result_at, gives_of, Asked, NothingDeadIsKept}
-use Rattle.wy_kept_code.proofs.SafeLemmas.{safe_less}
 use Rattle.wy_kept_code.proofs.RunLemmas.{safe_runs}
 use Rattle.wy_kept_code.proofs.PieceLemmas.{either, less_not, Spans, front, back, tail, ended, live_reads, live_second, Lives, Sure, sure_less, safe_step, safe_returns, safe_at, lives_at}
-use Rattle.wy_kept_code.proofs.SetLemmas.{not_both, Vars, before_of, with_cases, with_of, none_has}
+use Rattle.wy_kept_code.proofs.SetLemmas.{Vars, before_of, with_cases, with_of, none_has}
 use Rattle.wy_kept_code.proofs.TestLemmas.{at_end, With, live_less, sure_less_one, asked_lives, one_safe, dropped_safe, test_live, test_safe}
 use Rattle.wy_kept_code.proofs.ReadLemmas.{Low}
 use Rattle.wy_kept_code.proofs.OperandLemmas.{ready_less, clear_sure}

@@ -15,7 +15,6 @@ use Rattle.wy_pieces.specs.declared.steps.Step.TheVariants.{Does, GoesOn, GoesOn
 use Rattle.wy_pieces.specs.Steps.{clear}
 use Rattle.wy_compiled.specs.Expressions.{lost, released, is_plain, turn_end, said, ends, quantify, code}
 use Rattle.wy_kept_registers.specs.Keeping.{IsNone}
-use Rattle.wy_kept_code.specs.Alive.{LiveAt}
 use Rattle.wy_kept_code.specs.Safe.{Gives}
 use Rattle.wy_kept_code.specs.Fitting.{Fits}
 use Rattle.wy_kept_code.proofs.SafeLemmas.{safe_sooner}
