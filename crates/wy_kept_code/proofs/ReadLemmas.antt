@@ -248,11 +248,11 @@ module _ (body : List Instr) where
 
     -- what is live behind `&&` and isn't used by its right operand isn't released in between
     unused_kept : (b : Expr ℕ) (s : Variables) (r : ℕ) → occurs b r ≡ false → IsNone r (lost (before b s) s)
-    unused_kept b s r no = not_lost (before b s) s r (λ v e. either (λ o. not_both (occurs b r) o no) (λ k. not_both (has s r) k e) (before_cases b s r v))
+    unused_kept b s r unused = not_lost (before b s) s r (λ v e. either (λ o. not_both (occurs b r) o unused) (λ k. not_both (has s r) k e) (before_cases b s r v))
 
     behind_and : (b : Expr ℕ) (s : Variables) (q next r : ℕ) → Spans body q (released (before b s) s) next → Goes (occurs b r) s next r → Goes (occurs b r) s q r
     behind_and b s q next r h (inl u) = inl u
-    behind_and b s q next r h (inr k) = either (λ u. inl u) (λ no. inr (k.0, clear_live (lost (before b s) s) q next r h (unused_kept b s r no) k.1)) (true_or_not (occurs b r))
+    behind_and b s q next r h (inr k) = either (λ u. inl u) (λ unused. inr (k.0, clear_live (lost (before b s) s) q next r h (unused_kept b s r unused) k.1)) (true_or_not (occurs b r))
 
     -- the right operand and the operator
     pub right_live : (o : Op) (b : Expr ℕ) → Lively b → (s : Variables) (d mid next r : ℕ) → n ≤ d

@@ -27,7 +27,7 @@ use Rattle.wy_kept_code.proofs.LiveUseLemmas.{has-before_steps}
 use Rattle.wy_kept_code.proofs.SetLemmas.{never, not_both, Vars, before_of, joined_of, not_lost}
 use Rattle.wy_kept_code.proofs.ReadLemmas.{clear_live, Low}
 use Rattle.wy_kept_code.specs.Fitting.{MayGive}
-use Rattle.wy_kept_code.specs.Safe.{Gives}
+use Rattle.wy_kept_code.specs.Safe.{Gives, After}
 use Rattle.wy_kept_code.proofs.SafeLemmas.{Within, safe_sooner}
 use Rattle.wy_kept_code.proofs.PieceLemmas.{one_not_none, Lives, Sure, sure_less, safe_step, safe_clears, safe_jumps, safe_loops, safe_branches, safe_at, safe_returns, lives_at}
 use Rattle.wy_kept_code.proofs.LiveLemmas.{to_path, to_paths}
