@@ -48,7 +48,7 @@ operate_small op.Less d right skipped plain h = behind_small right (operator op.
 operate_small op.LessEqual d right skipped plain h = behind_small right (operator op.LessEqual d plain) (omega arith)
 operate_small op.Greater d right skipped plain h = behind_small right (operator op.Greater d plain) (omega arith)
 operate_small op.GreaterEqual d right skipped plain h = behind_small right (operator op.GreaterEqual d plain) (omega arith)
-operate_small op.And d right skipped plain h = let k : length (fork d right skipped) ≤ length right + length skipped + 2 = fork_small d right skipped in omega arith
+operate_small op.And d right skipped plain h = let k : length (fork d right []) ≤ length right + 0 + 2 = fork_small d right [] in omega (arith, length-append (fork d right []) skipped)
 operate_small op.Or d right skipped plain h = let k : length (fork d skipped right) ≤ length skipped + length right + 2 = fork_small d skipped right in omega arith
 
 call_small : (t : Target) (f d count : ℕ) → length (call t f d count) ≤ 2

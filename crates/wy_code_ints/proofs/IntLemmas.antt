@@ -128,7 +128,7 @@ operate_ints op.Less d right skipped plain h k = ints_append right _ h (operator
 operate_ints op.LessEqual d right skipped plain h k = ints_append right _ h (operator_ints op.LessEqual d plain)
 operate_ints op.Greater d right skipped plain h k = ints_append right _ h (operator_ints op.Greater d plain)
 operate_ints op.GreaterEqual d right skipped plain h k = ints_append right _ h (operator_ints op.GreaterEqual d plain)
-operate_ints op.And d right skipped plain h k = fork_ints d right skipped h k
+operate_ints op.And d right skipped plain h k = ints_append (fork d right []) skipped (fork_ints d right [] h tt) k
 operate_ints op.Or d right skipped plain h k = fork_ints d skipped right k h
 
 call_ints : (to : Target) (f d count : ℕ) → AllPut (spec.call to f d count)

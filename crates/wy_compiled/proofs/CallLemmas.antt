@@ -126,7 +126,7 @@ operate_calls t op.Less d right skipped plain h k = calls_append t right _ h (op
 operate_calls t op.LessEqual d right skipped plain h k = calls_append t right _ h (operator_calls t op.LessEqual d plain)
 operate_calls t op.Greater d right skipped plain h k = calls_append t right _ h (operator_calls t op.Greater d plain)
 operate_calls t op.GreaterEqual d right skipped plain h k = calls_append t right _ h (operator_calls t op.GreaterEqual d plain)
-operate_calls t op.And d right skipped plain h k = fork_calls t d right skipped h k
+operate_calls t op.And d right skipped plain h k = calls_append t (fork d right []) skipped (fork_calls t d right [] h tt) k
 operate_calls t op.Or d right skipped plain h k = fork_calls t d skipped right k h
 
 pub called_within : (results : List Bool) (f : ℕ) (gives : Bool) → target results f ≡ Declared gives → f < length results

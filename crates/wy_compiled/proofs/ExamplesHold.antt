@@ -8,5 +8,6 @@ unfolding digits
 programs_have = record {
   absolute = refl;
   a_loop = refl;
+  a_choice = refl;
   a_type = refl;
 }

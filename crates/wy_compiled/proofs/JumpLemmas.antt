@@ -86,7 +86,7 @@ operate_within op.Less d right skipped plain b h k = within_append b right _ (h 
 operate_within op.LessEqual d right skipped plain b h k = within_append b right _ (h _) (operator_within op.LessEqual d plain b)
 operate_within op.Greater d right skipped plain b h k = within_append b right _ (h _) (operator_within op.Greater d plain b)
 operate_within op.GreaterEqual d right skipped plain b h k = within_append b right _ (h _) (operator_within op.GreaterEqual d plain b)
-operate_within op.And d right skipped plain b h k = fork_inside b d right skipped (h b) (k b)
+operate_within op.And d right skipped plain b h k = within_append b (fork d right []) skipped (fork_inside (length skipped + b) d right [] (h _) tt) (k b)
 operate_within op.Or d right skipped plain b h k = fork_inside b d skipped right (k b) (h b)
 
 call_within : (t : Target) (f d count b : ℕ) → Within b (spec.call t f d count)

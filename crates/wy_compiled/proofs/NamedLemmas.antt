@@ -130,7 +130,7 @@ operate_names t op.Less d right skipped plain h k = names_append t right _ h (op
 operate_names t op.LessEqual d right skipped plain h k = names_append t right _ h (operator_names t op.LessEqual d plain)
 operate_names t op.Greater d right skipped plain h k = names_append t right _ h (operator_names t op.Greater d plain)
 operate_names t op.GreaterEqual d right skipped plain h k = names_append t right _ h (operator_names t op.GreaterEqual d plain)
-operate_names t op.And d right skipped plain h k = fork_names t d right skipped h k
+operate_names t op.And d right skipped plain h k = names_append t (fork d right []) skipped (fork_names t d right [] h tt) k
 operate_names t op.Or d right skipped plain h k = fork_names t d skipped right k h
 
 call_names : (t : Shapes) (to : Target) (f d count : ℕ) → AllName t (spec.call to f d count)

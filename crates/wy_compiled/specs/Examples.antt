@@ -1,8 +1,8 @@
 -- The code of small programs, as text.
 use Rattle.std.specs.Prelude.{◌≡◌, ℕ, List, [], ◌∷◌, false, Some, None, pos, codes}
 use Rattle.wy_core.specs.Types.{NullTy, IntTy, AnyTy, UnionTy, RecordTy, NoFieldTys, MoreFieldTys, NamedTy}
-use Rattle.wy_core.specs.CoreTree.{IntExpr, VarExpr, NegExpr, LenExpr, BinaryExpr, IsExpr, IndexStep, DeclareStmt, AssignStmt, ReturnStmt, IfStmt, WhileStmt, Stmts, NoStmts, MoreStmts, Core, AliasDecl, RoutineDecl}
-use Rattle.wy_core.specs.declared.expressions.Op.TheVariants.{Add, Less}
+use Rattle.wy_core.specs.CoreTree.{IntExpr, VarExpr, NegExpr, LenExpr, BinaryExpr, IsExpr, IndexExpr, IndexStep, DeclareStmt, AssignStmt, ReturnStmt, IfStmt, WhileStmt, Stmts, NoStmts, MoreStmts, Core, AliasDecl, RoutineDecl}
+use Rattle.wy_core.specs.declared.expressions.Op.TheVariants.{Add, Less, Greater, And}
 use Rattle.wy_code.specs.Listing.{code_text}
 use Rattle.wy_compiled.specs.Programs.{code_of}
 
@@ -49,12 +49,20 @@ lists = AliasDecl (record {
   clauses = [];
 }) ∷ function (codes "x" ∷ []) (MoreStmts (ReturnStmt 0 (Some (IsExpr 0 (VarExpr 0 0) (NamedTy 0)))) NoStmts)
 
+-- return |xs| > 0 && xs[0] > 0
+abbrev pub first_is_positive : Core ℕ
+first_is_positive = function (codes "xs" ∷ []) (MoreStmts (ReturnStmt 0 (Some (BinaryExpr 0 And (BinaryExpr 0 Greater (LenExpr 0 (VarExpr 0 0)) (IntExpr 0 (pos 0)))
+    (BinaryExpr 0 Greater (IndexExpr 0 (VarExpr 0 0) (IntExpr 0 (pos 0))) (IntExpr 0 (pos 0)))))) NoStmts)
+
 pub record ProgramsHave : Type 0 where
   pub absolute : code_text (code_of absolute_value) ≡
       codes "routine 0\n  Share r1 r0\n  Const r2 0\n  Compare r1 < r1 r2\n  Branch r1 8\n  Move r1 r0\n  Const r2 0\n  Arith r1 - r2 r1\n  Return r1\n  Move r1 r0\n  Return r1\n  Const r1 null\n  Return r1\n"
   -- the array is used in each turn, so it is shared for its length, updated in place, and released behind the loop
   pub a_loop : code_text (code_of counting) ≡
       codes "routine 0\n  Const r2 0\n  Move r1 r2\n  Share r2 r1\n  Share r3 r0\n  Len r3 r3\n  Compare r2 < r2 r3\n  Branch r2 15\n  Share r2 r1\n  Share r3 r1\n  Put r0 [[r2]] r3\n  Move r2 r1\n  Const r3 1\n  Arith r2 + r2 r3\n  Move r1 r2\n  Jump 2\n  Clear [r0]\n  Move r2 r1\n  Return r2\n  Const r2 null\n  Return r2\n"
+  -- the array is moved where the right side is evaluated, and released behind it, where it may have been left out
+  pub a_choice : code_text (code_of first_is_positive) ≡
+      codes "routine 0\n  Share r1 r0\n  Len r1 r1\n  Const r2 0\n  Compare r1 > r1 r2\n  Branch r1 10\n  Move r1 r0\n  Const r2 0\n  Get r1 r1 r2\n  Const r2 0\n  Compare r1 > r1 r2\n  Clear [r0]\n  Return r1\n  Const r1 null\n  Return r1\n"
   -- the value goes to the routine of the type, which asks for null, then for the shape, and then each field in order
   pub a_type : code_text (code_of lists) ≡
       codes "routine 0\n  Move r1 r0\n  Share r3 r1\n  Call r2 1 [r3]\n  Move r3 r1\n  Clear [r3]\n  Move r1 r2\n  Return r1\n  Const r1 null\n  Return r1\nroutine 1\n  Kind r1 r0 null\n  Branch r1 3\n  Jump 15\n  Kind r1 r0 shape 0\n  Branch r1 15\n  Field r2 r0 0\n  Kind r1 r2 int\n  Move r3 r2\n  Clear [r3]\n  Branch r1 15\n  Field r2 r0 1\n  Share r3 r2\n  Call r1 1 [r3]\n  Move r3 r2\n  Clear [r3]\n  Move r2 r0\n  Clear [r2]\n  Return r1\n"

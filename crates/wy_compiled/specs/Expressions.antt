@@ -101,7 +101,7 @@ operator op.GreaterEqual d plain = compare comparison.GreaterEqual d
 operator op.And d plain = []
 operator op.Or d plain = []
 
--- the operator on both operands; `&&` and `||` leave the second out, and release what it alone would have used
+-- the operator on both operands; `&&` and `||` leave the second out, and release what it alone would have used. `&&` does so behind the second operand too, where that has given them up
 abbrev pub operate : Op → ℕ → List Step → List Step → Bool → List Step
 operate op.Add d right skipped plain = right ++ operator op.Add d plain
 operate op.Sub d right skipped plain = right ++ operator op.Sub d plain
@@ -113,7 +113,7 @@ operate op.Less d right skipped plain = right ++ operator op.Less d plain
 operate op.LessEqual d right skipped plain = right ++ operator op.LessEqual d plain
 operate op.Greater d right skipped plain = right ++ operator op.Greater d plain
 operate op.GreaterEqual d right skipped plain = right ++ operator op.GreaterEqual d plain
-operate op.And d right skipped plain = fork d right skipped
+operate op.And d right skipped plain = fork d right [] ++ skipped
 operate op.Or d right skipped plain = fork d skipped right
 
 -- the register of the second operand: that of the first, where the first stands no more

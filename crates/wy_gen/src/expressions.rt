@@ -110,11 +110,10 @@ fn right_side(
 {
     match op {
         Op::And => {
-            let end = behind.steps.len();
             let start = begin_and(alloc, right, behind)?;
-            let mid = start.steps.len();
+            let end = start.steps.len();
             let made = code(alloc, context, right, register, start)?;
-            end_and(register, end, mid, made)
+            end_and(register, end, made)
         }
         Op::Or => {
             let end = behind.steps.len();

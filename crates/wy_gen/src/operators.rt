@@ -1,5 +1,5 @@
 //! The code of operators.
-ghost use Rattle.std.specs.Prelude.{◌≡◌, ◌++◌, IfOk, List, length, suc};
+ghost use Rattle.std.specs.Prelude.{◌≡◌, [], ◌++◌, IfOk, List, length, suc};
 ghost use Rattle.wy_core.specs.CoreSeen.{seen_expr};
 ghost use Rattle.wy_compiled.specs.Expressions as spec;
 ghost use Rattle.wy_live.specs.Walks as lives;
@@ -11,29 +11,26 @@ use std::alloc::Global;
 use wy_code::{Arithmetic, Comparison, Instr};
 use wy_core::{Expr, Op};
 use wy_live::Variables;
-use wy_pieces::{NoMemory, does, fork, jump_over, next};
+use wy_pieces::{NoMemory, does, fork, jump_over, next, where_true};
 
-/// Where `&&` leaves out its right side, what that side alone uses is released.
+/// Behind the right side of `&&`: what that side alone uses is released, since it may be left out.
 pub fn begin_and(alloc: Global, right: &Expr, behind: Made) -> Result<Made, NoMemory>
-    ensures value { IfOk result (λ m. m.steps ≡ pieces.jumped (spec.released (lives.before (seen_expr right.now) behind.live) behind.live) behind.steps) }
+    ensures value { IfOk result (λ m. m.steps ≡ spec.released (lives.before (seen_expr right.now) behind.live) behind.live ++ behind.steps) }
     ensures live { IfOk result (λ m. m.live ≡ behind.live) }
 {
     let Made { live, steps } = behind;
-    let end = steps.len();
     let both = wy_live::before(right, live.copy(alloc)?)?;
     let steps = released(alloc, &both, &live, steps)?;
-    let steps = jump_over(end, steps)?;
     Ok(Made { live, steps })
 }
 
-/// The right side of `&&` where the left one is true. The code where it is false begins behind `mid`
-/// steps, and ends behind `end` steps.
-pub fn end_and(register: u32, end: usize, mid: usize, right: Made) -> Result<Made, NoMemory>
-    ensures value { (first second old : List Step) → right.steps ≡ first ++ pieces.jumped second old → length old ≡ end → length (pieces.jumped second old) ≡ mid → IfOk result (λ m. m.steps ≡ pieces.fork register first second ++ old) }
+/// The right side of `&&`, which ends behind `end` steps, where the left one is true.
+pub fn end_and(register: u32, end: usize, right: Made) -> Result<Made, NoMemory>
+    ensures value { (first old : List Step) → right.steps ≡ first ++ old → length old ≡ end → IfOk result (λ m. m.steps ≡ pieces.fork register first [] ++ old) }
     ensures live { IfOk result (λ m. m.live ≡ right.live) }
 {
     let Made { live, steps } = right;
-    let steps = fork(register, end, mid, steps)?;
+    let steps = where_true(register, end, steps)?;
     Ok(Made { live, steps })
 }
 

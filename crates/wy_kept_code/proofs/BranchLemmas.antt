@@ -6,7 +6,7 @@ use Rattle.wy_pieces.specs.declared.steps.Step.{Step}
 use Rattle.wy_pieces.specs.Steps.{fork, over}
 use Rattle.wy_compiled.specs.Statements.{branches}
 use Rattle.wy_kept_code.specs.Alive.{LiveAt}
-use Rattle.wy_kept_code.specs.Safe.{Told}
+use Rattle.wy_kept_code.specs.Safe.{Gives}
 use Rattle.wy_kept_code.proofs.SetLemmas.{not_both}
 use Rattle.wy_kept_code.proofs.PieceLemmas.{either, Spans, live_reads, live_on, live_first_over, live_second, Lives, Sure, sure_less, safe_clears, safe_fork_over}
 
@@ -25,7 +25,7 @@ module _ (body : List Instr) where
   branches_second plain at next d (s ∷ first) [] r h other two = live_second body at next d (s ∷ first) [] r h two
   branches_second plain at next d first (s ∷ second) r h other two = live_second body at next d first (s ∷ second) r h two
 
-  module _ (t : Told) (f : ℕ) where
+  module _ (t : Gives) (f : ℕ) where
     -- what the test leaves
     abbrev pub Asked_too : (ℕ → Type 0) → ℕ → Bool → ℕ → Type 0
     Asked_too V d plain r = V r ⊎ ((r ≡ d) × (plain ≡ false))
@@ -36,17 +36,17 @@ module _ (body : List Instr) where
         → Sure body t f m next Q → Sure body t f m at (Asked_too V d plain)
     forked m at next d plain first second V Q h asked some live behind one two safe =
         safe_fork_over body t f m at next d first second (Asked_too V d plain) V V Q h
-        (λ r u l. either (λ v. live r u v) (λ z. subst (λ (y : ℕ). LiveAt body at y) (sym z.0) asked) l) (λ e1 e2. absurd (some e1 e2))
-        (λ r u l. either (λ v. v) (λ z. absurd (l.1 z.0)) l.0) (λ r u l. either (λ v. v) (λ z. absurd (l.1 z.0)) l.0) behind one two safe
+        (λ r l. either (λ v. live r v) (λ z. subst (λ (y : ℕ). LiveAt body at y) (sym z.0) asked) l) (λ e1 e2. absurd (some e1 e2))
+        (λ r l. either (λ v. v) (λ z. absurd (l.1 z.0)) l.0) (λ r l. either (λ v. v) (λ z. absurd (l.1 z.0)) l.0) behind one two safe
 
     -- where no block has code, a value that may be a list or a record is released
     pub branches_sure : (m at next d : ℕ) (plain : Bool) (first second : List Step) (V Q : ℕ → Type 0) → Spans body at (branches d plain first second) next → Lives body t f at V → Lives body t f next Q
         → ((p q : ℕ) → Spans body p first q → q + over second ≡ next → Lives body t f q Q → Sure body t f m q Q → Sure body t f m p V) → ((p : ℕ) → Spans body p second next → Sure body t f m p V)
         → Sure body t f m next Q → Sure body t f m at (Asked_too V d plain)
     branches_sure m at next d true [] [] V Q h live behind one two safe =
-        sure_less body t f m at (Asked_too V d true) V (λ r u l. either (λ v. v) (λ z. not_both true refl z.1) l) (two at h)
+        sure_less body t f m at (Asked_too V d true) V (λ r l. either (λ v. v) (λ z. not_both true refl z.1) l) (two at h)
     branches_sure m at next d false [] [] V Q h live behind one two safe =
-        safe_clears body t f m at (d ∷ []) (Asked_too V d false) V h.0.0 (λ r u l. either (λ v. v) (λ z. absurd (l.1.0 z.0)) l.0) (two (at + 1) (tt, let e = h.1 in omega (arith, e)))
+        safe_clears body t f m at (d ∷ []) (Asked_too V d false) V h.0.0 (λ r l. either (λ v. v) (λ z. absurd (l.1.0 z.0)) l.0) (two (at + 1) (tt, let e = h.1 in omega (arith, e)))
     branches_sure m at next d plain (s ∷ first) [] V Q h live behind one two safe =
         forked m at next d plain (s ∷ first) [] V Q h (live_reads body at d (instr.Branch d (suc at + length (s ∷ first))) h.0.0 (inl refl)) (λ e1 e2. cc) live behind one two safe
     branches_sure m at next d plain first (s ∷ second) V Q h live behind one two safe =

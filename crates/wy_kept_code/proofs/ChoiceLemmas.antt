@@ -17,17 +17,17 @@ use Rattle.wy_pieces.specs.declared.steps.Step.TheVariants.{Does}
 use Rattle.wy_pieces.specs.Steps.{dropped, fork, registers_from}
 use Rattle.wy_compiled.specs.TypeTests.{test}
 use Rattle.wy_compiled.specs.Expressions.{lost, released, is_plain, operator, operate, right_register, call, is_test, list, code}
+use Rattle.wy_kept_registers.specs.Keeping.{IsNone}
 use Rattle.wy_kept_code.specs.Alive.{LiveAt}
-use Rattle.wy_kept_code.specs.Safe.{Told}
-use Rattle.wy_kept_code.specs.Telling.{Tells}
+use Rattle.wy_kept_code.specs.Safe.{Gives}
 use Rattle.wy_kept_code.specs.Fitting.{IsValue, Fits}
-use Rattle.wy_kept_code.proofs.PieceLemmas.{either, one_not_none, less_not, none_below, Spans, front, back, tail, live_reads, live_on, live_first, live_second, Lives, Sure, sure_less, safe_step, safe_at, safe_fork_passes, lives_on, lives_at}
-use Rattle.wy_kept_code.proofs.SetLemmas.{not_both, Vars, before_cases, with_cases, still_has}
+use Rattle.wy_kept_code.proofs.PieceLemmas.{either, one_not_none, less_not, none_below, Spans, front, back, tail, live_reads, live_on, live_first, live_second, Lives, Sure, sure_less, safe_step, safe_at, safe_fork, safe_where, lives_on, lives_at}
+use Rattle.wy_kept_code.proofs.SetLemmas.{not_both, Vars, before_cases, with_cases, still_has, not_lost}
 use Rattle.wy_kept_code.proofs.TestLemmas.{With, test_live, live_turned, sure_turned, dropped_safe, test_safe}
-use Rattle.wy_kept_code.proofs.ReadLemmas.{from_registers, code_live}
-use Rattle.wy_kept_code.proofs.OperandLemmas.{Range, in_range, code_some, fork_reads, told_not, base_low, known_before, operands_ready, clear_sure, pair_safe, operator_ready}
+use Rattle.wy_kept_code.proofs.ReadLemmas.{from_registers, clear_live, code_live}
+use Rattle.wy_kept_code.proofs.OperandLemmas.{Range, in_range, code_some, fork_reads, base_low, known_before, operands_ready, clear_sure, pair_safe, operator_ready}
 
-module _ (body : List Instr) (c : Context) (n : ℕ) (L : Type 0) (t : Told) (f : ℕ) (tells : Tells t f c n L) where
+module _ (body : List Instr) (c : Context) (n : ℕ) (t : Gives) (f : ℕ) where
   -- live variables, and the registers of the expressions around
   abbrev B : Variables → (ℕ → Type 0) → ℕ → Type 0
   B s A r = Vars s r ⊎ A r
@@ -36,10 +36,6 @@ module _ (body : List Instr) (c : Context) (n : ℕ) (L : Type 0) (t : Told) (f 
   abbrev H : Expr ℕ → ℕ → ℕ → Type 0
   H e d r = (r ≡ d) × (is_plain e ≡ false)
 
-  -- one that the code takes to be none
-  abbrev K : Expr ℕ → ℕ → ℕ → Type 0
-  K e d r = (r ≡ d) × ((is_plain e ≡ false) × (is_plain e ≡ true))
-
   abbrev Comes : ℕ → ℕ → (ℕ → Type 0) → Type 0
   Comes m p P = Lives body t f p P × Sure body t f m p P
 
@@ -47,7 +43,7 @@ module _ (body : List Instr) (c : Context) (n : ℕ) (L : Type 0) (t : Told) (f 
   Leaves m p P Q = Lives body t f p P × Sure body t f m p (λ r. P r ⊎ Q r)
 
   abbrev Full : ℕ → ℕ → (ℕ → Type 0) → Expr ℕ → ℕ → Type 0
-  Full m p P e d = Lives body t f p P × Sure body t f m p (λ r. P r ⊎ H e d r) × Lives body t f p (K e d)
+  Full m p P e d = Lives body t f p P × Sure body t f m p (λ r. P r ⊎ H e d r)
 
   abbrev Kn : Variables → (ℕ → Type 0) → Type 0
   Kn s U = (r : ℕ) → Vars s r → U r
@@ -61,98 +57,102 @@ module _ (body : List Instr) (c : Context) (n : ℕ) (L : Type 0) (t : Told) (f 
   abbrev Sf : Expr ℕ → (ℕ → Type 0) → Type 1
   Sf e U = (m : ℕ) (s : Variables) (A : ℕ → Type 0) (d at next : ℕ) → Kn s U → n ≤ d → Ar d A → Spans body at (code c e s d) next → Full m next (B s A) e d → Comes m at (B (before e s) A)
 
-  -- what `&&` and `||` leave is what their right operand leaves
-  abbrev Open : ℕ → ℕ → (ℕ → Type 0) → Expr ℕ → ℕ → Type 0
-  Open m p P b d = Lives body t f p P × Sure body t f m p (λ r. P r ⊎ H b d r)
-
-  sure_both : {X : Type 0} (e : Expr ℕ) (d r : ℕ) → K e d r → X
-  sure_both e d r z = not_both (is_plain e) z.1.1 z.1.0
-
   module _ (U : ℕ → Type 0) (low : Lo U) where
     -- what is released where the right operand is left out
     skipped_sure : (b : Expr ℕ) (m : ℕ) (s : Variables) (A : ℕ → Type 0) (p next : ℕ) → Spans body p (released (before b s) s) next → Sure body t f m next (B s A) → Sure body t f m p (B (before b s) A)
-    skipped_sure b m s A p next h safe = clear_sure body c n L t f tells m p next (lost (before b s) s) (B (before b s) A) (B s A) h (λ r l none. either (λ v. inl (still_has (before b s) s r v none)) (λ a. inr a) l) safe
+    skipped_sure b m s A p next h safe = clear_sure body c n t f m p next (lost (before b s) s) (B (before b s) A) (B s A) h (λ r l none. either (λ v. inl (still_has (before b s) s r v none)) (λ a. inr a) l) safe
 
     -- a register that is live in front of an expression, by way of it
-    through : (b : Expr ℕ) → Fits c n L b U → (s : Variables) (A : ℕ → Type 0) (d p q next r : ℕ) → Kn s U → n ≤ d → Ar d A → Spans body p (code c b s d) q → t.untold f r ≡ false → Lives body t f next (B s A) → (LiveAt body next r → LiveAt body q r) → B (before b s) A r → LiveAt body p r
-    through b fit s A d p q next r known nd around h u live go l =
-        code_live body c n L b U s d p q r fit low nd h (base_low body c n L t f tells (before b s) A U d (known_before body c n L t f tells b U s fit known) low nd around r l)
-        (either (λ v. either (λ o. inl o) (λ k. inr (inl k, go (live r u (inl k)))) (before_cases b s r v)) (λ a. inr (inr (around r a).0, go (live r u (inr a)))) l)
+    through : (b : Expr ℕ) → Fits c n b U → (s : Variables) (A : ℕ → Type 0) (d p q next r : ℕ) → Kn s U → n ≤ d → Ar d A → Spans body p (code c b s d) q → Lives body t f next (B s A) → (LiveAt body next r → LiveAt body q r) → B (before b s) A r → LiveAt body p r
+    through b fit s A d p q next r known nd around h live go l =
+        code_live body c n b U s d p q r fit low nd h (base_low body c n t f (before b s) A U d (known_before body c n t f b U s fit known) low nd around r l)
+        (either (λ v. either (λ o. inl o) (λ k. inr (inl k, go (live r (inl k)))) (before_cases b s r v)) (λ a. inr (inr (around r a).0, go (live r (inr a)))) l)
 
-    and_safe : (a b : Expr ℕ) → Sf a U → Sf b U → Fits c n L b U → (m : ℕ) (s : Variables) (A : ℕ → Type 0) (d at next : ℕ) → Kn s U → n ≤ d → Ar d A
-        → Spans body at (code c a (before b s) d ++ fork d (code c b s d) (released (before b s) s)) next → Open m next (B s A) b d → Comes m at (B (before a (before b s)) A)
+    -- what is live behind isn't released there
+    not_skipped : (b : Expr ℕ) → Fits c n b U → (s : Variables) (A : ℕ → Type 0) (d r : ℕ) → Kn s U → Ar d A → B s A r → IsNone r (lost (before b s) s)
+    not_skipped b fit s A d r known around (inl k) = not_lost (before b s) s r (λ v e. not_both (has s r) k e)
+    not_skipped b fit s A d r known around (inr a) = not_lost (before b s) s r (λ v e. let l = low r (known_before body c n t f b U s fit known r v) in let w = (around r a).0 in absurd (omega (arith, l, w)))
+
+    and_safe : (a b : Expr ℕ) → Sf a U → Sf b U → Fits c n b U → (m : ℕ) (s : Variables) (A : ℕ → Type 0) (d at next : ℕ) → Kn s U → n ≤ d → Ar d A
+        → Spans body at (code c a (before b s) d ++ (fork d (code c b s d) [] ++ released (before b s) s)) next → Full m next (B s A) b d → Comes m at (B (before a (before b s)) A)
     and_safe a b one two fit m s A d at next known nd around h exit =
         let T = before b s in
         let mid = at + length (code c a T d) in
-        let rest = back body at (code c a T d) (fork d (code c b s d) (released T s)) next h in
-        let some : code c b s d ≡ [] → ⊥ = code_some body c n L b U s d fit in
-        let live : Lives body t f mid (B T A) = λ r u l. live_first body mid next d (code c b s d) (released T s) r rest (λ p q sp go. through b fit s A d p q next r known nd around sp u exit.0 go l) in
-        let at_d : LiveAt body mid d = fork_reads body c n L mid next d (code c b s d) (released T s) rest (λ e g. some e) in
-        one m T A d at mid (known_before body c n L t f tells b U s fit known) nd around (front body at (code c a T d) (fork d (code c b s d) (released T s)) next h) (
+        let xs = fork d (code c b s d) [] in
+        let q = mid + length xs in
+        let rest = back body at (code c a T d) (xs ++ released T s) next h in
+        let choice = front body mid xs (released T s) next rest in
+        let last = back body mid xs (released T s) next rest in
+        let some : code c b s d ≡ [] → ⊥ = code_some body c n b U s d fit in
+        -- behind the right operand, in front of the release
+        let live_q : Lives body t f q (B s A) = λ r l. clear_live body (lost T s) q next r last (not_skipped b fit s A d r known around l) (exit.0 r l) in
+        let safe_q : Sure body t f m q (λ r. B s A r ⊎ H b d r) = clear_sure body c n t f m q next (lost T s) (λ r. B s A r ⊎ H b d r) (λ r. B s A r ⊎ H b d r) last (λ r l none. l) exit.1 in
+        let live : Lives body t f mid (B T A) = λ r l. live_first body mid q d (code c b s d) [] r choice (λ p e sp go. through b fit s A d p e q r known nd around sp live_q go l) in
+        let at_d : LiveAt body mid d = fork_reads body c n mid q d (code c b s d) [] choice (λ e g. some e) in
+        one m T A d at mid (known_before body c n t f b U s fit known) nd around (front body at (code c a T d) (xs ++ released T s) next h) (
           live,
-          safe_fork_passes body t f m mid next d (code c b s d) (released T s) (λ r. B T A r ⊎ H a d r) (B T A) (B T A) (B s A) (H b d) rest
-              (λ r u l. either (λ k. live r u k) (λ k. subst (λ (z : ℕ). LiveAt body mid z) (sym k.0) at_d) l)
-              (λ e g. absurd (some e)) (λ r u l. either (λ k. k) (λ k. absurd (l.1 k.0)) l.0) (λ r u l. either (λ k. k) (λ k. absurd (l.1 k.0)) l.0) exit.0 (λ r w. tells.passes r (let e = w.0 in omega (arith, nd, e)))
-              (λ p q sp lq sq. (two m s A d p q known nd around sp (lq, sq, (λ r u z. sure_both b d r z))).1)
-              (λ p sp. skipped_sure b m s A p next sp (sure_less body t f m next (B s A) (λ r. B s A r ⊎ H b d r) (λ r u l. inl l) exit.1)) exit.1,
-          (λ r u z. subst (λ (y : ℕ). LiveAt body mid y) (sym z.0) at_d),
+          safe_where body t f m mid q d (code c b s d) (λ r. B T A r ⊎ H a d r) (B T A) (B T A) choice some
+              (λ r l. either (λ k. live r k) (λ k. subst (λ (z : ℕ). LiveAt body mid z) (sym k.0) at_d) l)
+              (λ r l. either (λ k. k) (λ k. absurd (l.1 k.0)) l.0) (λ r l. either (λ k. k) (λ k. absurd (l.1 k.0)) l.0)
+              (λ p sp. (two m s A d p q known nd around sp (live_q, safe_q)).1)
+              (skipped_sure b m s A q next last (sure_less body t f m next (B s A) (λ r. B s A r ⊎ H b d r) (λ r l. inl l) exit.1)),
         )
 
-    or_safe : (a b : Expr ℕ) → Sf a U → Sf b U → Fits c n L b U → (m : ℕ) (s : Variables) (A : ℕ → Type 0) (d at next : ℕ) → Kn s U → n ≤ d → Ar d A
-        → Spans body at (code c a (before b s) d ++ fork d (released (before b s) s) (code c b s d)) next → Open m next (B s A) b d → Comes m at (B (before a (before b s)) A)
+    or_safe : (a b : Expr ℕ) → Sf a U → Sf b U → Fits c n b U → (m : ℕ) (s : Variables) (A : ℕ → Type 0) (d at next : ℕ) → Kn s U → n ≤ d → Ar d A
+        → Spans body at (code c a (before b s) d ++ fork d (released (before b s) s) (code c b s d)) next → Full m next (B s A) b d → Comes m at (B (before a (before b s)) A)
     or_safe a b one two fit m s A d at next known nd around h exit =
         let T = before b s in
         let mid = at + length (code c a T d) in
         let rest = back body at (code c a T d) (fork d (released T s) (code c b s d)) next h in
-        let some : code c b s d ≡ [] → ⊥ = code_some body c n L b U s d fit in
-        let live : Lives body t f mid (B T A) = λ r u l. live_second body mid next d (released T s) (code c b s d) r rest (λ p sp. through b fit s A d p next next r known nd around sp u exit.0 (λ z. z) l) in
-        let at_d : LiveAt body mid d = fork_reads body c n L mid next d (released T s) (code c b s d) rest (λ e g. some g) in
-        one m T A d at mid (known_before body c n L t f tells b U s fit known) nd around (front body at (code c a T d) (fork d (released T s) (code c b s d)) next h) (
+        let some : code c b s d ≡ [] → ⊥ = code_some body c n b U s d fit in
+        let live : Lives body t f mid (B T A) = λ r l. live_second body mid next d (released T s) (code c b s d) r rest (λ p sp. through b fit s A d p next next r known nd around sp exit.0 (λ z. z) l) in
+        let at_d : LiveAt body mid d = fork_reads body c n mid next d (released T s) (code c b s d) rest (λ e g. some g) in
+        one m T A d at mid (known_before body c n t f b U s fit known) nd around (front body at (code c a T d) (fork d (released T s) (code c b s d)) next h) (
           live,
-          safe_fork_passes body t f m mid next d (released T s) (code c b s d) (λ r. B T A r ⊎ H a d r) (B T A) (B T A) (B s A) (H b d) rest
-              (λ r u l. either (λ k. live r u k) (λ k. subst (λ (z : ℕ). LiveAt body mid z) (sym k.0) at_d) l)
-              (λ e g. absurd (some g)) (λ r u l. either (λ k. k) (λ k. absurd (l.1 k.0)) l.0) (λ r u l. either (λ k. k) (λ k. absurd (l.1 k.0)) l.0) exit.0 (λ r w. tells.passes r (let e = w.0 in omega (arith, nd, e)))
-              (λ p q sp lq sq. skipped_sure b m s A p q sp (sure_less body t f m q (B s A) (λ r. B s A r ⊎ H b d r) (λ r u l. inl l) sq))
-              (λ p sp. (two m s A d p next known nd around sp (exit.0, exit.1, (λ r u z. sure_both b d r z))).1) exit.1,
-          (λ r u z. subst (λ (y : ℕ). LiveAt body mid y) (sym z.0) at_d),
+          safe_fork body t f m mid next d (released T s) (code c b s d) (λ r. B T A r ⊎ H a d r) (B T A) (B T A) (B s A) rest
+              (λ r l. either (λ k. live r k) (λ k. subst (λ (z : ℕ). LiveAt body mid z) (sym k.0) at_d) l)
+              (λ e g. absurd (some g)) (λ r l. either (λ k. k) (λ k. absurd (l.1 k.0)) l.0) (λ r l. either (λ k. k) (λ k. absurd (l.1 k.0)) l.0) exit.0
+              (λ p q sp lq sq. skipped_sure b m s A p q sp sq)
+              (λ p sp. (two m s A d p next known nd around sp exit).1)
+              (sure_less body t f m next (B s A) (λ r. B s A r ⊎ H b d r) (λ r l. inl l) exit.1),
         )
 
-    strict_safe : (o : Op) (a b : Expr ℕ) → (o ≡ op.And → ⊥) → (o ≡ op.Or → ⊥) → Sf a U → Sf b U → Fits c n L b U → (m : ℕ) (s : Variables) (A : ℕ → Type 0) (d at next : ℕ) → Kn s U → n ≤ d → Ar d A
+    strict_safe : (o : Op) (a b : Expr ℕ) → (o ≡ op.And → ⊥) → (o ≡ op.Or → ⊥) → Sf a U → Sf b U → Fits c n b U → (m : ℕ) (s : Variables) (A : ℕ → Type 0) (d at next : ℕ) → Kn s U → n ≤ d → Ar d A
         → Spans body at (code c a (before b s) d ++ (code c b s (suc d) ++ operator o d (is_plain b))) next → Comes m next (B s A) → Comes m at (B (before a (before b s)) A)
     strict_safe o a b x y one two fit m s A d at next known nd around h exit =
-        pair_safe body c n L t f tells U low a b one two fit m s A d at next (operator o d (is_plain b)) known nd around h
-        (λ p sp. operator_ready body c n L t f tells U low o a b m s A d p next known nd around sp (exit.0, sure_less body t f m next (λ r. B s A r ⊎ ⊥) (B s A) (λ r u l. either (λ k. k) (λ z. absurd z) l) exit.1) x y)
+        pair_safe body c n t f U low a b one two fit m s A d at next (operator o d (is_plain b)) known nd around h
+        (λ p sp. operator_ready body c n t f U low o a b m s A d p next known nd around sp (exit.0, sure_less body t f m next (λ r. B s A r ⊎ ⊥) (B s A) (λ r l. either (λ k. k) (λ z. absurd z) l) exit.1) x y)
 
-    pub binary_safe : (i : ℕ) (o : Op) (a b : Expr ℕ) → Sf a U → Sf b U → Fits c n L b U → (m : ℕ) (s : Variables) (A : ℕ → Type 0) (d at next : ℕ) → Kn s U → n ≤ d → Ar d A
+    pub binary_safe : (i : ℕ) (o : Op) (a b : Expr ℕ) → Sf a U → Sf b U → Fits c n b U → (m : ℕ) (s : Variables) (A : ℕ → Type 0) (d at next : ℕ) → Kn s U → n ≤ d → Ar d A
         → Spans body at (code c a (before b s) d ++ operate o d (code c b s (right_register o d)) (released (before b s) s) (is_plain b)) next → Full m next (B s A) (BinaryExpr i o a b) d → Comes m at (B (before a (before b s)) A)
-    binary_safe i op.Add a b one two fit m s A d at next known nd around h exit = strict_safe op.Add a b (λ e. cc) (λ e. cc) one two fit m s A d at next known nd around h (exit.0, sure_less body t f m next (B s A) (λ r. B s A r ⊎ H (BinaryExpr i op.Add a b) d r) (λ r u l. inl l) exit.1)
-    binary_safe i op.Sub a b one two fit m s A d at next known nd around h exit = strict_safe op.Sub a b (λ e. cc) (λ e. cc) one two fit m s A d at next known nd around h (exit.0, sure_less body t f m next (B s A) (λ r. B s A r ⊎ H (BinaryExpr i op.Sub a b) d r) (λ r u l. inl l) exit.1)
-    binary_safe i op.Mul a b one two fit m s A d at next known nd around h exit = strict_safe op.Mul a b (λ e. cc) (λ e. cc) one two fit m s A d at next known nd around h (exit.0, sure_less body t f m next (B s A) (λ r. B s A r ⊎ H (BinaryExpr i op.Mul a b) d r) (λ r u l. inl l) exit.1)
-    binary_safe i op.Div a b one two fit m s A d at next known nd around h exit = strict_safe op.Div a b (λ e. cc) (λ e. cc) one two fit m s A d at next known nd around h (exit.0, sure_less body t f m next (B s A) (λ r. B s A r ⊎ H (BinaryExpr i op.Div a b) d r) (λ r u l. inl l) exit.1)
-    binary_safe i op.Mod a b one two fit m s A d at next known nd around h exit = strict_safe op.Mod a b (λ e. cc) (λ e. cc) one two fit m s A d at next known nd around h (exit.0, sure_less body t f m next (B s A) (λ r. B s A r ⊎ H (BinaryExpr i op.Mod a b) d r) (λ r u l. inl l) exit.1)
-    binary_safe i op.Equal a b one two fit m s A d at next known nd around h exit = strict_safe op.Equal a b (λ e. cc) (λ e. cc) one two fit m s A d at next known nd around h (exit.0, sure_less body t f m next (B s A) (λ r. B s A r ⊎ H (BinaryExpr i op.Equal a b) d r) (λ r u l. inl l) exit.1)
-    binary_safe i op.Less a b one two fit m s A d at next known nd around h exit = strict_safe op.Less a b (λ e. cc) (λ e. cc) one two fit m s A d at next known nd around h (exit.0, sure_less body t f m next (B s A) (λ r. B s A r ⊎ H (BinaryExpr i op.Less a b) d r) (λ r u l. inl l) exit.1)
-    binary_safe i op.LessEqual a b one two fit m s A d at next known nd around h exit = strict_safe op.LessEqual a b (λ e. cc) (λ e. cc) one two fit m s A d at next known nd around h (exit.0, sure_less body t f m next (B s A) (λ r. B s A r ⊎ H (BinaryExpr i op.LessEqual a b) d r) (λ r u l. inl l) exit.1)
-    binary_safe i op.Greater a b one two fit m s A d at next known nd around h exit = strict_safe op.Greater a b (λ e. cc) (λ e. cc) one two fit m s A d at next known nd around h (exit.0, sure_less body t f m next (B s A) (λ r. B s A r ⊎ H (BinaryExpr i op.Greater a b) d r) (λ r u l. inl l) exit.1)
-    binary_safe i op.GreaterEqual a b one two fit m s A d at next known nd around h exit = strict_safe op.GreaterEqual a b (λ e. cc) (λ e. cc) one two fit m s A d at next known nd around h (exit.0, sure_less body t f m next (B s A) (λ r. B s A r ⊎ H (BinaryExpr i op.GreaterEqual a b) d r) (λ r u l. inl l) exit.1)
-    binary_safe i op.And a b one two fit m s A d at next known nd around h exit = and_safe a b one two fit m s A d at next known nd around h (exit.0, exit.1)
-    binary_safe i op.Or a b one two fit m s A d at next known nd around h exit = or_safe a b one two fit m s A d at next known nd around h (exit.0, exit.1)
+    binary_safe i op.Add a b one two fit m s A d at next known nd around h exit = strict_safe op.Add a b (λ e. cc) (λ e. cc) one two fit m s A d at next known nd around h (exit.0, sure_less body t f m next (B s A) (λ r. B s A r ⊎ H (BinaryExpr i op.Add a b) d r) (λ r l. inl l) exit.1)
+    binary_safe i op.Sub a b one two fit m s A d at next known nd around h exit = strict_safe op.Sub a b (λ e. cc) (λ e. cc) one two fit m s A d at next known nd around h (exit.0, sure_less body t f m next (B s A) (λ r. B s A r ⊎ H (BinaryExpr i op.Sub a b) d r) (λ r l. inl l) exit.1)
+    binary_safe i op.Mul a b one two fit m s A d at next known nd around h exit = strict_safe op.Mul a b (λ e. cc) (λ e. cc) one two fit m s A d at next known nd around h (exit.0, sure_less body t f m next (B s A) (λ r. B s A r ⊎ H (BinaryExpr i op.Mul a b) d r) (λ r l. inl l) exit.1)
+    binary_safe i op.Div a b one two fit m s A d at next known nd around h exit = strict_safe op.Div a b (λ e. cc) (λ e. cc) one two fit m s A d at next known nd around h (exit.0, sure_less body t f m next (B s A) (λ r. B s A r ⊎ H (BinaryExpr i op.Div a b) d r) (λ r l. inl l) exit.1)
+    binary_safe i op.Mod a b one two fit m s A d at next known nd around h exit = strict_safe op.Mod a b (λ e. cc) (λ e. cc) one two fit m s A d at next known nd around h (exit.0, sure_less body t f m next (B s A) (λ r. B s A r ⊎ H (BinaryExpr i op.Mod a b) d r) (λ r l. inl l) exit.1)
+    binary_safe i op.Equal a b one two fit m s A d at next known nd around h exit = strict_safe op.Equal a b (λ e. cc) (λ e. cc) one two fit m s A d at next known nd around h (exit.0, sure_less body t f m next (B s A) (λ r. B s A r ⊎ H (BinaryExpr i op.Equal a b) d r) (λ r l. inl l) exit.1)
+    binary_safe i op.Less a b one two fit m s A d at next known nd around h exit = strict_safe op.Less a b (λ e. cc) (λ e. cc) one two fit m s A d at next known nd around h (exit.0, sure_less body t f m next (B s A) (λ r. B s A r ⊎ H (BinaryExpr i op.Less a b) d r) (λ r l. inl l) exit.1)
+    binary_safe i op.LessEqual a b one two fit m s A d at next known nd around h exit = strict_safe op.LessEqual a b (λ e. cc) (λ e. cc) one two fit m s A d at next known nd around h (exit.0, sure_less body t f m next (B s A) (λ r. B s A r ⊎ H (BinaryExpr i op.LessEqual a b) d r) (λ r l. inl l) exit.1)
+    binary_safe i op.Greater a b one two fit m s A d at next known nd around h exit = strict_safe op.Greater a b (λ e. cc) (λ e. cc) one two fit m s A d at next known nd around h (exit.0, sure_less body t f m next (B s A) (λ r. B s A r ⊎ H (BinaryExpr i op.Greater a b) d r) (λ r l. inl l) exit.1)
+    binary_safe i op.GreaterEqual a b one two fit m s A d at next known nd around h exit = strict_safe op.GreaterEqual a b (λ e. cc) (λ e. cc) one two fit m s A d at next known nd around h (exit.0, sure_less body t f m next (B s A) (λ r. B s A r ⊎ H (BinaryExpr i op.GreaterEqual a b) d r) (λ r l. inl l) exit.1)
+    binary_safe i op.And a b one two fit m s A d at next known nd around h exit = and_safe a b one two fit m s A d at next known nd around h exit
+    binary_safe i op.Or a b one two fit m s A d at next known nd around h exit = or_safe a b one two fit m s A d at next known nd around h exit
 
     -- ---- one instruction without operands
 
     pub const_ready : (m : ℕ) (s : Variables) (A : ℕ → Type 0) (d at next : ℕ) (k : Scalar) → Kn s U → n ≤ d → Ar d A → Spans body at (Does (instr.Const d k) ∷ []) next → Comes m next (B s A) → Comes m at (B s A)
     const_ready m s A d at next k known nd around h exit =
         let e : next ≡ at + 1 = (let z = h.1 in omega (arith, z)) in
-        let live : Lives body t f at (B s A) = lives_on body t f at (instr.Const d k) (B s A) h.0.0 (λ r b. (less_not r d (base_low body c n L t f tells s A U d known low nd around r b), tt)) (inl refl) (lives_at body t f next (at + 1) (B s A) e exit.0) in
-        (live, safe_step body t f m at (instr.Const d k) (B s A) (B s A) h.0.0 live (λ x w. w) (λ r u l. either (λ z. z.0) (λ z. absurd z) l) (safe_at body t f m next (at + 1) (B s A) e exit.1))
+        let live : Lives body t f at (B s A) = lives_on body t f at (instr.Const d k) (B s A) h.0.0 (λ r b. (less_not r d (base_low body c n t f s A U d known low nd around r b), tt)) (inl refl) (lives_at body t f next (at + 1) (B s A) e exit.0) in
+        (live, safe_step body t f m at (instr.Const d k) (B s A) (B s A) h.0.0 live (λ x w. w) (λ r l. either (λ z. z.0) (λ z. absurd z) l) (safe_at body t f m next (at + 1) (B s A) e exit.1))
 
     -- a variable is shared where it is live behind, or else moved
     pub var_sure : (b : Bool) (x : ℕ) (m : ℕ) (s : Variables) (A : ℕ → Type 0) (d at : ℕ) → has s x ≡ b → slice_get body at ≡ Some (cond b (instr.Share d x) (instr.Move d x)) → Lives body t f at (B (with s x) A)
         → Sure body t f m (at + 1) (λ r. B s A r ⊎ ((r ≡ d) × (false ≡ false))) → Sure body t f m at (B (with s x) A)
     var_sure true x m s A d at e is live safe = safe_step body t f m at (instr.Share d x) (B (with s x) A) (λ r. B s A r ⊎ ((r ≡ d) × (false ≡ false))) is live (λ k w. w)
-        (λ r u l. either (λ z. inl (either (λ v. inl (either (λ w. subst (λ (y : ℕ). has s y ≡ true) (sym w) e) (λ w. w) (with_cases s x r v))) (λ a. inr a) z.0)) (λ z. inr (z.0, refl)) l) safe
+        (λ r l. either (λ z. inl (either (λ v. inl (either (λ w. subst (λ (y : ℕ). has s y ≡ true) (sym w) e) (λ w. w) (with_cases s x r v))) (λ a. inr a) z.0)) (λ z. inr (z.0, refl)) l) safe
     var_sure false x m s A d at e is live safe = safe_step body t f m at (instr.Move d x) (B (with s x) A) (λ r. B s A r ⊎ ((r ≡ d) × (false ≡ false))) is live (λ k w. w)
-        (λ r u l. either (λ z. inl (either (λ v. inl (either (λ w. absurd (z.1.1.0 w)) (λ w. w) (with_cases s x r v))) (λ a. inr a) z.0)) (λ z. inr (z.0, refl)) l) safe
+        (λ r l. either (λ z. inl (either (λ v. inl (either (λ w. absurd (z.1.1.0 w)) (λ w. w) (with_cases s x r v))) (λ a. inr a) z.0)) (λ z. inr (z.0, refl)) l) safe
 
     -- ---- a test of a type, behind which the value is released
 
@@ -168,17 +168,17 @@ module _ (body : List Instr) (c : Context) (n : ℕ) (L : Type 0) (t : Told) (f 
         let four = tail body (mid + 1) (instr.Clear (suc (suc d) ∷ [])) (Does last ∷ []) next three in
         let q = mid + 1 + 1 in
         let e : next ≡ q + 1 = (let z = four.1 in omega (arith, z)) in
-        let lows = base_low body c n L t f tells s A U d known low nd around in
+        let lows = base_low body c n t f s A U d known low nd around in
         let answered : ℕ → Type 0 = With (B s A) (suc d) in
-        let live : Lives body t f q answered = λ r u l. either (λ b. live_on body q (q + 1) r last four.0.0 (less_not r d (lows r b), (less_not r (suc d) (let z = lows r b in omega (arith, z)), tt)) (inl refl) (lives_at body t f next (q + 1) (B s A) e exit.0 r u b)) (λ w. live_reads body q r last four.0.0 (inl w)) l in
+        let live : Lives body t f q answered = λ r l. either (λ b. live_on body q (q + 1) r last four.0.0 (less_not r d (lows r b), (less_not r (suc d) (let z = lows r b in omega (arith, z)), tt)) (inl refl) (lives_at body t f next (q + 1) (B s A) e exit.0 r b)) (λ w. live_reads body q r last four.0.0 (inl w)) l in
         let safe : Sure body t f m q answered = safe_step body t f m q last answered (λ r. B s A r ⊎ ((r ≡ d) × (false ≡ false))) four.0.0 live (λ x w. w)
-        (λ r u l. either (λ z. either (λ b. inl b) (λ w. absurd (z.1.1.0 w)) z.0) (λ z. inr (z.0, refl)) l)
+        (λ r l. either (λ z. either (λ b. inl b) (λ w. absurd (z.1.1.0 w)) z.0) (λ z. inr (z.0, refl)) l)
         (safe_at body t f m next (q + 1) (λ r. B s A r ⊎ ((r ≡ d) × (false ≡ false))) e exit.1) in
         let apart : (r : ℕ) → answered r → (r ≢ d) × (r ≢ suc (suc d)) = λ r l. either (λ b. let z = lows r b in (less_not r d z, less_not r (suc (suc d)) (omega (arith, z)))) (λ w. ((λ g. absurd (omega (arith, w, g))), (λ g. absurd (omega (arith, w, g))))) l in
         let facts = dropped_safe body c t f m mid next d (suc (suc d)) (Does last ∷ []) answered two apart live safe in
         let un : (r : ℕ) → B s A r ⊎ (r ≡ d) → (r < suc (suc d)) × (r ≢ suc d) = λ r l. either (λ b. let z = lows r b in (omega (arith, z), less_not r (suc d) (omega (arith, z)))) (λ w. (omega (arith, w), λ g. absurd (omega (arith, w, g)))) l in
         let live_mid : Lives body t f mid (With (With (B s A) d) (suc d)) = live_turned body c t f mid (suc d) d (B s A) facts.1 in (
-          (λ r u l. test_live body c ty d (suc d) (suc (suc d)) p mid r (front body p one rest next h) (un r l).0 (un r l).1 (live_mid r u (inl l))),
+          (λ r l. test_live body c ty d (suc d) (suc (suc d)) p mid r (front body p one rest next h) (un r l).0 (un r l).1 (live_mid r (inl l))),
           test_safe body c t f ty m p mid d (suc d) (suc (suc d)) (With (B s A) d) (front body p one rest next h) un (omega arith) live_mid (sure_turned body c t f m mid (suc d) d (B s A) facts.0),
         )
 
@@ -188,11 +188,11 @@ module _ (body : List Instr) (c : Context) (n : ℕ) (L : Type 0) (t : Told) (f 
     pub call_ready : (a : Target) → IsValue a → (g k m : ℕ) (s : Variables) (A : ℕ → Type 0) (d p next : ℕ) → Kn s U → n ≤ d → Ar d A → Spans body p (call a g d k) next → Leaves m next (B s A) (λ r. (r ≡ d) × (false ≡ false)) → Comes m p (λ r. B s A r ⊎ Range d k r)
     call_ready (Declared gives) v g k m s A d p next known nd around h exit =
         let i : Instr = instr.Call d g (registers_from d k) in
-        let lows = base_low body c n L t f tells s A U d known low nd around in
-        operands_ready body c n L t f tells m p next i (B s A) (Range d k) (λ r. (r ≡ d) × (false ≡ false)) h
+        let lows = base_low body c n t f s A U d known low nd around in
+        operands_ready body c n t f m p next i (B s A) (Range d k) (λ r. (r ≡ d) × (false ≡ false)) h
         (λ r b. (less_not r d (lows r b), none_below r d (registers_from d k) (lows r b) (from_registers d d k (omega arith)))) (inl refl) (λ r x. in_range d k r x) (λ r x none. absurd (one_not_none r (registers_from d k) (in_range d k r x) none))
-        (λ r u z. (z.0, refl))
-        (λ q w. ((λ r u l none. either (λ y. either (λ b. less_not r d (lows r b)) (λ x. absurd (one_not_none r (registers_from d k) (in_range d k r x) none)) y) (λ w2. told_not body c n L t f tells r r refl u w2) l), w)) exit
+        (λ r z. (z.0, refl))
+        (λ q w. ((λ r l none. either (λ b. less_not r d (lows r b)) (λ x. absurd (one_not_none r (registers_from d k) (in_range d k r x) none)) l), w)) exit
     call_ready Prints v g k m s A d p next known nd around h exit = absurd v
     call_ready PrintsInt v g k m s A d p next known nd around h exit = absurd v
     call_ready Nothing v g k m s A d p next known nd around h exit = absurd v
@@ -200,18 +200,18 @@ module _ (body : List Instr) (c : Context) (n : ℕ) (L : Type 0) (t : Told) (f 
     pub list_ready : (k m : ℕ) (s : Variables) (A : ℕ → Type 0) (d p next : ℕ) → Kn s U → n ≤ d → Ar d A → Spans body p (list k d) next → Leaves m next (B s A) (λ r. (r ≡ d) × (false ≡ false)) → Comes m p (λ r. B s A r ⊎ Range d k r)
     list_ready k m s A d p next known nd around h exit =
         let i : Instr = instr.Array d (registers_from d k) in
-        let lows = base_low body c n L t f tells s A U d known low nd around in
-        operands_ready body c n L t f tells m p next i (B s A) (Range d k) (λ r. (r ≡ d) × (false ≡ false)) h
+        let lows = base_low body c n t f s A U d known low nd around in
+        operands_ready body c n t f m p next i (B s A) (Range d k) (λ r. (r ≡ d) × (false ≡ false)) h
         (λ r b. (less_not r d (lows r b), none_below r d (registers_from d k) (lows r b) (from_registers d d k (omega arith)))) (inl refl) (λ r x. in_range d k r x) (λ r x none. absurd (one_not_none r (registers_from d k) (in_range d k r x) none.1))
-        (λ r u z. (z, refl)) (λ q w. w) exit
+        (λ r z. (z, refl)) (λ q w. w) exit
 
     pub record_ready : (j k m : ℕ) (s : Variables) (A : ℕ → Type 0) (d p next : ℕ) → Kn s U → n ≤ d → Ar d A → Spans body p (Does (instr.Record d j (registers_from d k)) ∷ []) next → Leaves m next (B s A) (λ r. (r ≡ d) × (false ≡ false)) → Comes m p (λ r. B s A r ⊎ Range d k r)
     record_ready j k m s A d p next known nd around h exit =
         let i : Instr = instr.Record d j (registers_from d k) in
-        let lows = base_low body c n L t f tells s A U d known low nd around in
-        operands_ready body c n L t f tells m p next i (B s A) (Range d k) (λ r. (r ≡ d) × (false ≡ false)) h
+        let lows = base_low body c n t f s A U d known low nd around in
+        operands_ready body c n t f m p next i (B s A) (Range d k) (λ r. (r ≡ d) × (false ≡ false)) h
         (λ r b. (less_not r d (lows r b), none_below r d (registers_from d k) (lows r b) (from_registers d d k (omega arith)))) (inl refl) (λ r x. in_range d k r x) (λ r x none. absurd (one_not_none r (registers_from d k) (in_range d k r x) none.1))
-        (λ r u z. (z, refl)) (λ q w. w) exit
+        (λ r z. (z, refl)) (λ q w. w) exit
 
     -- the first of the operands, and the others behind it
     pub first_of_range : (s : Variables) (A : ℕ → Type 0) (d k r : ℕ) → (Vars s r ⊎ (A r ⊎ (r ≡ d))) ⊎ Range (suc d) k r → B s A r ⊎ Range d (suc k) r
@@ -222,7 +222,6 @@ module _ (body : List Instr) (c : Context) (n : ℕ) (L : Type 0) (t : Told) (f 
 
     pub more_of_one : (s u : Variables) (A : ℕ → Type 0) (e : Expr ℕ) (m d p : ℕ) → Comes m p (λ r. Vars s r ⊎ (A r ⊎ (r ≡ d))) → Full m p (B s A) e d
     more_of_one s u A e m d p k = (
-      (λ r w l. k.0 r w (either (λ v. inl v) (λ a. inr (inl a)) l)),
-      sure_less body t f m p (λ r. B s A r ⊎ H e d r) (λ r. Vars s r ⊎ (A r ⊎ (r ≡ d))) (λ r w l. either (λ b. either (λ v. inl v) (λ a. inr (inl a)) b) (λ x. inr (inr x.0)) l) k.1,
-      (λ r w z. k.0 r w (inr (inr z.0))),
+      (λ r l. k.0 r (either (λ v. inl v) (λ a. inr (inl a)) l)),
+      sure_less body t f m p (λ r. B s A r ⊎ H e d r) (λ r. Vars s r ⊎ (A r ⊎ (r ≡ d))) (λ r l. either (λ b. either (λ v. inl v) (λ a. inr (inl a)) b) (λ x. inr (inr x.0)) l) k.1,
     )

@@ -1,5 +1,5 @@
 -- The code of an expression keeps nothing dead.
-use Rattle.std.proofs.Common.{◌≡◌, ◌<◌, ◌≤◌, ◌⊎◌, inl, inr, ℕ, suc, ◌+◌, List, [], ◌∷◌, ◌++◌, length, true, false, pos, refl, sym, arith}
+use Rattle.std.proofs.Common.{◌≡◌, ◌<◌, ◌≤◌, ◌⊎◌, inl, inr, ℕ, suc, ◌+◌, List, [], ◌∷◌, ◌++◌, length, false, pos, refl, sym, arith}
 use Rattle.wy_core.specs.CoreTree.{Expr, NullExpr, BoolExpr, IntExpr, VarExpr, CallExpr, NegExpr, NotExpr, LenExpr, BinaryExpr, IsExpr, IndexExpr, FieldExpr, ListExpr, RepeatExpr, RecordExpr, QuantExpr, Exprs, NoExprs, MoreExprs, Fields, NoFields, MoreFields}
 use Rattle.wy_code.specs.declared.instructions.Scalar.TheVariants as scalar
 use Rattle.wy_code.specs.declared.instructions.Arithmetic.TheVariants as arithmetic
@@ -11,8 +11,7 @@ use Rattle.wy_live.specs.Sets.{Variables, has}
 use Rattle.wy_live.specs.Walks.{before, before_all, before_fields, turned}
 use Rattle.wy_pieces.specs.declared.steps.Step.TheVariants.{Does}
 use Rattle.wy_compiled.specs.Expressions.{released, is_plain, call, count_of, field_count, is_test, negated, list, record_of, quantify, code, codes, field_codes}
-use Rattle.wy_kept_code.specs.Safe.{Told}
-use Rattle.wy_kept_code.specs.Telling.{Tells}
+use Rattle.wy_kept_code.specs.Safe.{Gives}
 use Rattle.wy_kept_code.specs.Fitting.{Fits, FitAll, FitFields}
 use Rattle.wy_kept_code.proofs.PieceLemmas.{either, less_not, Spans, front, back, tail, ended, Lives, Sure, sure_less, safe_step, safe_at, lives_on}
 use Rattle.wy_kept_code.proofs.SetLemmas.{Vars, all_cases, fields_cases}
@@ -21,7 +20,7 @@ use Rattle.wy_kept_code.proofs.OperandLemmas.{Range, ready_less, ready_at, base_
 use Rattle.wy_kept_code.proofs.ChoiceLemmas.{binary_safe, const_ready, var_sure, is_test_ready, call_ready, list_ready, record_ready, first_of_range, more_of_one}
 use Rattle.wy_kept_code.proofs.QuantifierLemmas.{turned_known, quantify_ready}
 
-module _ (body : List Instr) (c : Context) (n : ℕ) (L : Type 0) (t : Told) (f : ℕ) (tells : Tells t f c n L) where
+module _ (body : List Instr) (c : Context) (n : ℕ) (t : Gives) (f : ℕ) where
   -- live variables, and the registers of the expressions around
   abbrev B : Variables → (ℕ → Type 0) → ℕ → Type 0
   B s A r = Vars s r ⊎ A r
@@ -30,10 +29,6 @@ module _ (body : List Instr) (c : Context) (n : ℕ) (L : Type 0) (t : Told) (f 
   abbrev H : Expr ℕ → ℕ → ℕ → Type 0
   H e d r = (r ≡ d) × (is_plain e ≡ false)
 
-  -- one that the code takes to be none
-  abbrev K : Expr ℕ → ℕ → ℕ → Type 0
-  K e d r = (r ≡ d) × ((is_plain e ≡ false) × (is_plain e ≡ true))
-
   abbrev Comes : ℕ → ℕ → (ℕ → Type 0) → Type 0
   Comes m p P = Lives body t f p P × Sure body t f m p P
 
@@ -41,7 +36,7 @@ module _ (body : List Instr) (c : Context) (n : ℕ) (L : Type 0) (t : Told) (f 
   Leaves m p P Q = Lives body t f p P × Sure body t f m p (λ r. P r ⊎ Q r)
 
   abbrev Full : ℕ → ℕ → (ℕ → Type 0) → Expr ℕ → ℕ → Type 0
-  Full m p P e d = Lives body t f p P × Sure body t f m p (λ r. P r ⊎ H e d r) × Lives body t f p (K e d)
+  Full m p P e d = Lives body t f p P × Sure body t f m p (λ r. P r ⊎ H e d r)
 
   abbrev Kn : Variables → (ℕ → Type 0) → Type 0
   Kn s U = (r : ℕ) → Vars s r → U r
@@ -55,14 +50,11 @@ module _ (body : List Instr) (c : Context) (n : ℕ) (L : Type 0) (t : Told) (f 
   abbrev Sf : Expr ℕ → (ℕ → Type 0) → Type 1
   Sf e U = (m : ℕ) (s : Variables) (A : ℕ → Type 0) (d at next : ℕ) → Kn s U → n ≤ d → Ar d A → Spans body at (code c e s d) next → Full m next (B s A) e d → Comes m at (B (before e s) A)
 
-  plain_exit : (m p : ℕ) (P Q K2 : ℕ → Type 0) → Lives body t f p P × Sure body t f m p (λ r. P r ⊎ Q r) × Lives body t f p K2 → Comes m p P
-  plain_exit m p P Q K2 k = (k.0, sure_less body t f m p P (λ r. P r ⊎ Q r) (λ r u l. inl l) k.1)
+  plain_exit : (m p : ℕ) (P Q : ℕ → Type 0) → Leaves m p P Q → Comes m p P
+  plain_exit m p P Q k = (k.0, sure_less body t f m p P (λ r. P r ⊎ Q r) (λ r l. inl l) k.1)
 
-  none_exit : (m p : ℕ) (P Q K2 : ℕ → Type 0) → Lives body t f p P × Sure body t f m p (λ r. P r ⊎ Q r) × Lives body t f p K2 → Leaves m p P (λ r. ⊥)
-  none_exit m p P Q K2 k = (k.0, sure_less body t f m p (λ r. P r ⊎ ⊥) (λ r. P r ⊎ Q r) (λ r u l. either (λ z. inl z) (λ z. absurd z) l) k.1)
-
-  two_of : (m p : ℕ) (P Q K2 : ℕ → Type 0) → Lives body t f p P × Sure body t f m p (λ r. P r ⊎ Q r) × Lives body t f p K2 → Leaves m p P Q
-  two_of m p P Q K2 k = (k.0, k.1)
+  none_exit : (m p : ℕ) (P Q : ℕ → Type 0) → Leaves m p P Q → Leaves m p P (λ r. ⊥)
+  none_exit m p P Q k = (k.0, sure_less body t f m p (λ r. P r ⊎ ⊥) (λ r. P r ⊎ Q r) (λ r l. either (λ z. inl z) (λ z. absurd z) l) k.1)
 
   -- what is shown of expressions one behind the other, whose values are read behind them
   abbrev SfAll : Exprs ℕ → (ℕ → Type 0) → Type 1
@@ -77,81 +69,81 @@ module _ (body : List Instr) (c : Context) (n : ℕ) (L : Type 0) (t : Told) (f 
       let one : Instr = instr.Const (suc d) (scalar.Int (pos 0)) in let two : Instr = instr.Arith d arithmetic.Sub (suc d) d in
       let rest = back body at (code c a s d) (negated d) next h in
       let last = tail body mid one (Does two ∷ []) next rest in
-      let lows = base_low body c n L t f tells s A U d known low nd around in
-      let k = operands_ready body c n L t f tells m (mid + 1) next two (B s A) (H a d) (λ r. ⊥) last (λ r b. (less_not r d (lows r b), tt)) (inl refl) (λ r x. inr (inl x.0)) (λ r x g. absurd (g.0 x.0)) (λ r u z. z) (λ q w. w)
-      (exit.0, sure_less body t f m next (λ r. B s A r ⊎ ⊥) (B s A) (λ r u l. either (λ z. z) (λ z. absurd z) l) exit.1) in
+      let lows = base_low body c n t f s A U d known low nd around in
+      let k = operands_ready body c n t f m (mid + 1) next two (B s A) (H a d) (λ r. ⊥) last (λ r b. (less_not r d (lows r b), tt)) (inl refl) (λ r x. inr (inl x.0)) (λ r x g. absurd (g.0 x.0)) (λ r z. z) (λ q w. w)
+      (exit.0, sure_less body t f m next (λ r. B s A r ⊎ ⊥) (B s A) (λ r l. either (λ z. z) (λ z. absurd z) l) exit.1) in
       let below : (r : ℕ) → B s A r ⊎ H a d r → r < suc d = λ r l. either (λ b. let w = lows r b in omega (arith, w)) (λ z. let w = z.0 in omega (arith, w)) l in
       let live : Lives body t f mid (λ r. B s A r ⊎ H a d r) = lives_on body t f mid one (λ r. B s A r ⊎ H a d r) rest.0.0 (λ r l. (less_not r (suc d) (below r l), tt)) (inl refl) k.0 in
       is m s A d at mid known nd around (front body at (code c a s d) (negated d) next h)
-      ((λ r u l. live r u (inl l)), safe_step body t f m mid one (λ r. B s A r ⊎ H a d r) (λ r. B s A r ⊎ H a d r) rest.0.0 live (λ y w. w) (λ r u l. either (λ z. z.0) (λ z. absurd z) l) k.1, (λ r u z. live r u (inr (z.0, z.1.0))))
+      ((λ r l. live r (inl l)), safe_step body t f m mid one (λ r. B s A r ⊎ H a d r) (λ r. B s A r ⊎ H a d r) rest.0.0 live (λ y w. w) (λ r l. either (λ z. z.0) (λ z. absurd z) l) k.1)
 
   mutual
     -- the code of an expression keeps nothing dead, where what is live behind it is so
-    pub code_safe : (e : Expr ℕ) (U : ℕ → Type 0) → Fits c n L e U → Lo U → Sf e U
-    code_safe (NullExpr i) U fit low m s A d at next known nd around h exit = const_ready body c n L t f tells U low m s A d at next scalar.Null known nd around h (plain_exit m next (B s A) (H (NullExpr i) d) (K (NullExpr i) d) exit)
-    code_safe (BoolExpr i truth) U fit low m s A d at next known nd around h exit = const_ready body c n L t f tells U low m s A d at next (scalar.Bool truth) known nd around h (plain_exit m next (B s A) (H (BoolExpr i truth) d) (K (BoolExpr i truth) d) exit)
-    code_safe (IntExpr i number) U fit low m s A d at next known nd around h exit = const_ready body c n L t f tells U low m s A d at next (scalar.Int number) known nd around h (plain_exit m next (B s A) (H (IntExpr i number) d) (K (IntExpr i number) d) exit)
+    pub code_safe : (e : Expr ℕ) (U : ℕ → Type 0) → Fits c n e U → Lo U → Sf e U
+    code_safe (NullExpr i) U fit low m s A d at next known nd around h exit = const_ready body c n t f U low m s A d at next scalar.Null known nd around h (plain_exit m next (B s A) (H (NullExpr i) d) exit)
+    code_safe (BoolExpr i truth) U fit low m s A d at next known nd around h exit = const_ready body c n t f U low m s A d at next (scalar.Bool truth) known nd around h (plain_exit m next (B s A) (H (BoolExpr i truth) d) exit)
+    code_safe (IntExpr i number) U fit low m s A d at next known nd around h exit = const_ready body c n t f U low m s A d at next (scalar.Int number) known nd around h (plain_exit m next (B s A) (H (IntExpr i number) d) exit)
     code_safe (VarExpr i x) U fit low m s A d at next known nd around h exit =
-        let live = code_lives body c n L t f tells (VarExpr i x) U s A d at next fit low nd known around h exit.0 in
+        let live = code_lives body c n t f (VarExpr i x) U s A d at next fit low nd known around h exit.0 in
         let e : next ≡ at + 1 = (let z = h.1 in omega (arith, z)) in
-        (live, var_sure body c n L t f tells U low (has s x) x m s A d at refl h.0.0 live (safe_at body t f m next (at + 1) (λ r. B s A r ⊎ ((r ≡ d) × (false ≡ false))) e exit.1))
+        (live, var_sure body c n t f U low (has s x) x m s A d at refl h.0.0 live (safe_at body t f m next (at + 1) (λ r. B s A r ⊎ ((r ≡ d) × (false ≡ false))) e exit.1))
     code_safe (CallExpr i g args) U fit low m s A d at next known nd around h exit =
         let last = call (target c.results g) g d (count_of args) in
         codes_safe args U fit.1 low m s A d at (at + length (codes c args s d)) known nd around (front body at (codes c args s d) last next h)
-        (call_ready body c n L t f tells U low (target c.results g) fit.0 g (count_of args) m s A d (at + length (codes c args s d)) next known nd around (back body at (codes c args s d) last next h) (two_of m next (B s A) (H (CallExpr i g args) d) (K (CallExpr i g args) d) exit))
-    code_safe (NegExpr i a) U fit low m s A d at next known nd around h exit = neg_safe U low a (code_safe a U fit low) m s A d at next known nd around h (plain_exit m next (B s A) (H (NegExpr i a) d) (K (NegExpr i a) d) exit)
+        (call_ready body c n t f U low (target c.results g) fit.0 g (count_of args) m s A d (at + length (codes c args s d)) next known nd around (back body at (codes c args s d) last next h) exit)
+    code_safe (NegExpr i a) U fit low m s A d at next known nd around h exit = neg_safe U low a (code_safe a U fit low) m s A d at next known nd around h (plain_exit m next (B s A) (H (NegExpr i a) d) exit)
     code_safe (NotExpr i a) U fit low m s A d at next known nd around h exit =
-        unary_safe body c n L t f tells U low a (code_safe a U fit low) m s A d at next (instr.Not d d) (λ r. ⊥) known nd around h (λ r l. (less_not r d l, tt)) (λ p. inl refl) (inl refl) (λ g. g.0 refl) (λ r P g. g) (λ k p P w. w) (none_exit m next (B s A) (H (NotExpr i a) d) (K (NotExpr i a) d) exit)
+        unary_safe body c n t f U low a (code_safe a U fit low) m s A d at next (instr.Not d d) (λ r. ⊥) known nd around h (λ r l. (less_not r d l, tt)) (λ p. inl refl) (inl refl) (λ g. g.0 refl) (λ r P g. g) (λ k p P w. w) (none_exit m next (B s A) (H (NotExpr i a) d) exit)
     code_safe (LenExpr i a) U fit low m s A d at next known nd around h exit =
-        unary_safe body c n L t f tells U low a (code_safe a U fit low) m s A d at next (instr.Len d d) (λ r. ⊥) known nd around h (λ r l. (less_not r d l, tt)) (λ p. inl refl) (inl refl) (λ g. g.0 refl) (λ r P g. g) (λ k p P w. w) (none_exit m next (B s A) (H (LenExpr i a) d) (K (LenExpr i a) d) exit)
+        unary_safe body c n t f U low a (code_safe a U fit low) m s A d at next (instr.Len d d) (λ r. ⊥) known nd around h (λ r l. (less_not r d l, tt)) (λ p. inl refl) (inl refl) (λ g. g.0 refl) (λ r P g. g) (λ k p P w. w) (none_exit m next (B s A) (H (LenExpr i a) d) exit)
     code_safe (FieldExpr i a name) U fit low m s A d at next known nd around h exit =
-        unary_safe body c n L t f tells U low a (code_safe a U fit low) m s A d at next (instr.Field d d (number_of name c.table.names)) (H (FieldExpr i a name) d) known nd around h (λ r l. (less_not r d l, tt)) (λ p. inl refl) (inl refl) (λ g. g.0 refl) (λ r P g. (g, refl)) (λ k p P w. w) (two_of m next (B s A) (H (FieldExpr i a name) d) (K (FieldExpr i a name) d) exit)
+        unary_safe body c n t f U low a (code_safe a U fit low) m s A d at next (instr.Field d d (number_of name c.table.names)) (H (FieldExpr i a name) d) known nd around h (λ r l. (less_not r d l, tt)) (λ p. inl refl) (inl refl) (λ g. g.0 refl) (λ r P g. (g, refl)) (λ k p P w. w) exit
     code_safe (BinaryExpr i o a b) U fit low m s A d at next known nd around h exit =
-        binary_safe body c n L t f tells U low i o a b (code_safe a U fit.0 low) (code_safe b U fit.1 low) fit.1 m s A d at next known nd around h exit
+        binary_safe body c n t f U low i o a b (code_safe a U fit.0 low) (code_safe b U fit.1 low) fit.1 m s A d at next known nd around h exit
     code_safe (IsExpr i a ty) U fit low m s A d at next known nd around h exit =
         let mid = at + length (code c a s d) in
-        let k = is_test_ready body c n L t f tells U low ty a m s A d mid next known nd around (back body at (code c a s d) (is_test c ty d) next h) (two_of m next (B s A) (H (IsExpr i a ty) d) (K (IsExpr i a ty) d) exit) in
+        let k = is_test_ready body c n t f U low ty a m s A d mid next known nd around (back body at (code c a s d) (is_test c ty d) next h) exit in
         code_safe a U fit low m s A d at mid known nd around (front body at (code c a s d) (is_test c ty d) next h)
-        ((λ r u l. k.0 r u (inl l)), sure_less body t f m mid (λ r. B s A r ⊎ H a d r) (λ r. B s A r ⊎ (r ≡ d)) (λ r u l. either (λ z. inl z) (λ z. inr z.0) l) k.1, (λ r u z. k.0 r u (inr z.0)))
+        ((λ r l. k.0 r (inl l)), sure_less body t f m mid (λ r. B s A r ⊎ H a d r) (λ r. B s A r ⊎ (r ≡ d)) (λ r l. either (λ z. inl z) (λ z. inr z.0) l) k.1)
     code_safe (IndexExpr i a b) U fit low m s A d at next known nd around h exit =
-        pair_safe body c n L t f tells U low a b (code_safe a U fit.0 low) (code_safe b U fit.1 low) fit.1 m s A d at next (Does (instr.Get d d (suc d)) ∷ []) known nd around h
-        (λ p sp. pair_ready body c n L t f tells U low a b m s A d p next (instr.Get d d (suc d)) (H (IndexExpr i a b) d) known nd around sp (λ r l. (less_not r d l, tt)) (inl refl) (inl refl) (inr (inl refl)) (λ g. g.0 refl) (λ e g. absurd (g.1.0 refl)) (λ r P g. (g, refl)) (λ k P w. w) (two_of m next (B s A) (H (IndexExpr i a b) d) (K (IndexExpr i a b) d) exit))
+        pair_safe body c n t f U low a b (code_safe a U fit.0 low) (code_safe b U fit.1 low) fit.1 m s A d at next (Does (instr.Get d d (suc d)) ∷ []) known nd around h
+        (λ p sp. pair_ready body c n t f U low a b m s A d p next (instr.Get d d (suc d)) (H (IndexExpr i a b) d) known nd around sp (λ r l. (less_not r d l, tt)) (inl refl) (inl refl) (inr (inl refl)) (λ g. g.0 refl) (λ e g. absurd (g.1.0 refl)) (λ r P g. (g, refl)) (λ k P w. w) exit)
     code_safe (RepeatExpr i a b) U fit low m s A d at next known nd around h exit =
-        pair_safe body c n L t f tells U low a b (code_safe a U fit.0 low) (code_safe b U fit.1 low) fit.1 m s A d at next (Does (instr.Fill d d (suc d)) ∷ []) known nd around h
-        (λ p sp. pair_ready body c n L t f tells U low a b m s A d p next (instr.Fill d d (suc d)) (H (RepeatExpr i a b) d) known nd around sp (λ r l. (less_not r d l, (less_not r d l, tt))) (inl refl) (inl refl) (inr (inl refl)) (λ g. g.0 refl) (λ e g. absurd (g.1.1.0 refl)) (λ r P g. (g, refl)) (λ k P w. w) (two_of m next (B s A) (H (RepeatExpr i a b) d) (K (RepeatExpr i a b) d) exit))
+        pair_safe body c n t f U low a b (code_safe a U fit.0 low) (code_safe b U fit.1 low) fit.1 m s A d at next (Does (instr.Fill d d (suc d)) ∷ []) known nd around h
+        (λ p sp. pair_ready body c n t f U low a b m s A d p next (instr.Fill d d (suc d)) (H (RepeatExpr i a b) d) known nd around sp (λ r l. (less_not r d l, (less_not r d l, tt))) (inl refl) (inl refl) (inr (inl refl)) (λ g. g.0 refl) (λ e g. absurd (g.1.1.0 refl)) (λ r P g. (g, refl)) (λ k P w. w) exit)
     code_safe (ListExpr i items) U fit low m s A d at next known nd around h exit =
         codes_safe items U fit low m s A d at (at + length (codes c items s d)) known nd around (front body at (codes c items s d) (list (count_of items) d) next h)
-        (list_ready body c n L t f tells U low (count_of items) m s A d (at + length (codes c items s d)) next known nd around (back body at (codes c items s d) (list (count_of items) d) next h) (two_of m next (B s A) (H (ListExpr i items) d) (K (ListExpr i items) d) exit))
+        (list_ready body c n t f U low (count_of items) m s A d (at + length (codes c items s d)) next known nd around (back body at (codes c items s d) (list (count_of items) d) next h) exit)
     code_safe (RecordExpr i fs) U fit low m s A d at next known nd around h exit =
         fields_safe fs U fit low m s A d at (at + length (field_codes c fs s d)) known nd around (front body at (field_codes c fs s d) (record_of c fs d) next h)
-        (record_ready body c n L t f tells U low (shape_number c.table (names_in fs)) (field_count fs) m s A d (at + length (field_codes c fs s d)) next known nd around (back body at (field_codes c fs s d) (record_of c fs d) next h) (two_of m next (B s A) (H (RecordExpr i fs) d) (K (RecordExpr i fs) d) exit))
+        (record_ready body c n t f U low (shape_number c.table (names_in fs)) (field_count fs) m s A d (at + length (field_codes c fs s d)) next known nd around (back body at (field_codes c fs s d) (record_of c fs d) next h) exit)
     code_safe (QuantExpr i all x a b inner) U fit low m s A d at next known nd around h exit =
         let T = turned x inner s in
-        let low_V = low_more body c n L U x low fit.3 in
+        let low_V = low_more body c n U x low fit.3 in
         let inner_safe : Sf inner (λ r. U r ⊎ (r ≡ x)) = code_safe inner (λ r. U r ⊎ (r ≡ x)) fit.4 low_V in
-        pair_safe body c n L t f tells U low a b (code_safe a U fit.0 low) (code_safe b U fit.1 low) fit.1 m T A d at next (quantify all x d (code c inner T (suc (suc d))) (released T s))
-        (turned_known body c n L t f tells U low x fit.2 fit.3 inner fit.4 inner_safe s known) nd around h
-        (λ p sp. quantify_ready body c n L t f tells U low x fit.2 fit.3 inner fit.4 inner_safe all (λ r. H a d r ⊎ H b (suc d) r) m s A d p next (λ r k. either (λ z. inl z.0) (λ z. inr z.0) k) known nd around sp
-        (plain_exit m next (B s A) (H (QuantExpr i all x a b inner) d) (K (QuantExpr i all x a b inner) d) exit))
+        pair_safe body c n t f U low a b (code_safe a U fit.0 low) (code_safe b U fit.1 low) fit.1 m T A d at next (quantify all x d (code c inner T (suc (suc d))) (released T s))
+        (turned_known body c n t f U low x fit.2 fit.3 inner fit.4 inner_safe s known) nd around h
+        (λ p sp. quantify_ready body c n t f U low x fit.2 fit.3 inner fit.4 inner_safe all (λ r. H a d r ⊎ H b (suc d) r) m s A d p next (λ r k. either (λ z. inl z.0) (λ z. inr z.0) k) known nd around sp
+        (plain_exit m next (B s A) (H (QuantExpr i all x a b inner) d) exit))
 
-    pub codes_safe : (es : Exprs ℕ) (U : ℕ → Type 0) → FitAll c n L es U → Lo U → SfAll es U
-    codes_safe NoExprs U fit low m s A d at next known nd around h exit = ready_at body c n L t f tells m next at (B s A) (sym (ended body at next h)) (ready_less body c n L t f tells m next (B s A) (λ r. B s A r ⊎ Range d 0 r) (λ r l. inl l) exit)
+    pub codes_safe : (es : Exprs ℕ) (U : ℕ → Type 0) → FitAll c n es U → Lo U → SfAll es U
+    codes_safe NoExprs U fit low m s A d at next known nd around h exit = ready_at body c n t f m next at (B s A) (sym (ended body at next h)) (ready_less body c n t f m next (B s A) (λ r. B s A r ⊎ Range d 0 r) (λ r l. inl l) exit)
     codes_safe (MoreExprs e es) U fit low m s A d at next known nd around h exit =
         let one = code c e (before_all es s) d in
         let mid = at + length one in
         let A2 : ℕ → Type 0 = λ r. A r ⊎ (r ≡ d) in
-        let k = codes_safe es U fit.1 low m s A2 (suc d) mid next known (omega (arith, nd)) (around_more body c n L t f tells d A (λ r. r ≡ d) nd around (λ r z. z)) (back body at one (codes c es s (suc d)) next h)
-        (ready_less body c n L t f tells m next (λ r. B s A2 r ⊎ Range (suc d) (count_of es) r) (λ r. B s A r ⊎ Range d (suc (count_of es)) r) (λ r l. first_of_range body c n L t f tells U low s A d (count_of es) r l) exit) in
-        code_safe e U fit.0 low m (before_all es s) A d at mid (λ r v. either (λ o. all_used body c n L es U fit.1 r o) (λ z. known r z) (all_cases es s r v)) nd around (front body at one (codes c es s (suc d)) next h)
-        (more_of_one body c n L t f tells U low (before_all es s) s A e m d mid k)
+        let k = codes_safe es U fit.1 low m s A2 (suc d) mid next known (omega (arith, nd)) (around_more body c n t f d A (λ r. r ≡ d) nd around (λ r z. z)) (back body at one (codes c es s (suc d)) next h)
+        (ready_less body c n t f m next (λ r. B s A2 r ⊎ Range (suc d) (count_of es) r) (λ r. B s A r ⊎ Range d (suc (count_of es)) r) (λ r l. first_of_range body c n t f U low s A d (count_of es) r l) exit) in
+        code_safe e U fit.0 low m (before_all es s) A d at mid (λ r v. either (λ o. all_used body c n es U fit.1 r o) (λ z. known r z) (all_cases es s r v)) nd around (front body at one (codes c es s (suc d)) next h)
+        (more_of_one body c n t f U low (before_all es s) s A e m d mid k)
 
-    pub fields_safe : (fs : Fields ℕ) (U : ℕ → Type 0) → FitFields c n L fs U → Lo U → SfFields fs U
-    fields_safe NoFields U fit low m s A d at next known nd around h exit = ready_at body c n L t f tells m next at (B s A) (sym (ended body at next h)) (ready_less body c n L t f tells m next (B s A) (λ r. B s A r ⊎ Range d 0 r) (λ r l. inl l) exit)
+    pub fields_safe : (fs : Fields ℕ) (U : ℕ → Type 0) → FitFields c n fs U → Lo U → SfFields fs U
+    fields_safe NoFields U fit low m s A d at next known nd around h exit = ready_at body c n t f m next at (B s A) (sym (ended body at next h)) (ready_less body c n t f m next (B s A) (λ r. B s A r ⊎ Range d 0 r) (λ r l. inl l) exit)
     fields_safe (MoreFields name e fs) U fit low m s A d at next known nd around h exit =
         let one = code c e (before_fields fs s) d in
         let mid = at + length one in
         let A2 : ℕ → Type 0 = λ r. A r ⊎ (r ≡ d) in
-        let k = fields_safe fs U fit.1 low m s A2 (suc d) mid next known (omega (arith, nd)) (around_more body c n L t f tells d A (λ r. r ≡ d) nd around (λ r z. z)) (back body at one (field_codes c fs s (suc d)) next h)
-        (ready_less body c n L t f tells m next (λ r. B s A2 r ⊎ Range (suc d) (field_count fs) r) (λ r. B s A r ⊎ Range d (suc (field_count fs)) r) (λ r l. first_of_range body c n L t f tells U low s A d (field_count fs) r l) exit) in
-        code_safe e U fit.0 low m (before_fields fs s) A d at mid (λ r v. either (λ o. fields_used body c n L fs U fit.1 r o) (λ z. known r z) (fields_cases fs s r v)) nd around (front body at one (field_codes c fs s (suc d)) next h)
-        (more_of_one body c n L t f tells U low (before_fields fs s) s A e m d mid k)
+        let k = fields_safe fs U fit.1 low m s A2 (suc d) mid next known (omega (arith, nd)) (around_more body c n t f d A (λ r. r ≡ d) nd around (λ r z. z)) (back body at one (field_codes c fs s (suc d)) next h)
+        (ready_less body c n t f m next (λ r. B s A2 r ⊎ Range (suc d) (field_count fs) r) (λ r. B s A r ⊎ Range d (suc (field_count fs)) r) (λ r l. first_of_range body c n t f U low s A d (field_count fs) r l) exit) in
+        code_safe e U fit.0 low m (before_fields fs s) A d at mid (λ r v. either (λ o. fields_used body c n fs U fit.1 r o) (λ z. known r z) (fields_cases fs s r v)) nd around (front body at one (field_codes c fs s (suc d)) next h)
+        (more_of_one body c n t f U low (before_fields fs s) s A e m d mid k)

@@ -43,7 +43,7 @@ same_count : (es : Exprs ℕ) → formed.count_of es ≡ count_of es
 same_count NoExprs = refl
 same_count (MoreExprs e es) = let h = same_count es in omega (arith, h)
 
-module _ (ds : List (Decl ℕ)) (o : Offers) (offers : o.routines ≡ signatures_of ds) (c : Context) (results : c.results ≡ results_of (routines_of ds)) (n : ℕ) (L : Type 0) where
+module _ (ds : List (Decl ℕ)) (o : Offers) (offers : o.routines ≡ signatures_of ds) (c : Context) (results : c.results ≡ results_of (routines_of ds)) (n : ℕ) where
   calls_value : (g k : ℕ) → IsCall o true g k → IsValue (target c.results g)
   calls_value g k call = subst (λ (rs : List Bool). IsValue (target rs g)) (sym results) (value_called ds g call.called (subst (λ (z : List Signature). slice_get z g ≡ Some call.called) offers call.offered) (call.value refl))
 
@@ -59,7 +59,7 @@ module _ (ds : List (Decl ℕ)) (o : Offers) (offers : o.routines ≡ signatures
     both_more vs W x both = ((λ r h. either (λ e. inr (sym e)) (λ k. inl (both.0 r k)) h), (λ r w. either (λ k. either (λ u. inl u) (λ z. inr (inr z)) (both.1 r k)) (λ e. inr (inl (sym e))) w))
 
     mutual
-      pub fits_expr : (e : Expr ℕ) (vs : Scope) (W : ℕ → Type 0) → Both vs W → BoundExpr o n vs e → ((x : ℕ) → Counts e x → U x → ⊥) → Fits c n L e W
+      pub fits_expr : (e : Expr ℕ) (vs : Scope) (W : ℕ → Type 0) → Both vs W → BoundExpr o n vs e → ((x : ℕ) → Counts e x → U x → ⊥) → Fits c n e W
       fits_expr (NullExpr at) vs W both b own = tt
       fits_expr (BoolExpr at truth) vs W both b own = tt
       fits_expr (IntExpr at number) vs W both b own = tt
@@ -83,11 +83,11 @@ module _ (ds : List (Decl ℕ)) (o : Offers) (offers : o.routines ≡ signatures
         fits_expr body (y ∷ vs) (λ r. W r ⊎ (r ≡ y)) (both_more vs W y both) b.3 (λ x k. own x (inr (inr (inr k)))),
       )
 
-      pub fits_all : (es : Exprs ℕ) (vs : Scope) (W : ℕ → Type 0) → Both vs W → BoundExprs o n vs es → ((x : ℕ) → CountsAll es x → U x → ⊥) → FitAll c n L es W
+      pub fits_all : (es : Exprs ℕ) (vs : Scope) (W : ℕ → Type 0) → Both vs W → BoundExprs o n vs es → ((x : ℕ) → CountsAll es x → U x → ⊥) → FitAll c n es W
       fits_all NoExprs vs W both b own = tt
       fits_all (MoreExprs e es) vs W both b own = (fits_expr e vs W both b.0 (λ x k. own x (inl k)), fits_all es vs W both b.1 (λ x k. own x (inr k)))
 
-      pub fits_fields : (fs : Fields ℕ) (vs : Scope) (W : ℕ → Type 0) → Both vs W → BoundFields o n vs fs → ((x : ℕ) → CountsFields fs x → U x → ⊥) → FitFields c n L fs W
+      pub fits_fields : (fs : Fields ℕ) (vs : Scope) (W : ℕ → Type 0) → Both vs W → BoundFields o n vs fs → ((x : ℕ) → CountsFields fs x → U x → ⊥) → FitFields c n fs W
       fits_fields NoFields vs W both b own = tt
       fits_fields (MoreFields name e fs) vs W both b own = (fits_expr e vs W both b.0 (λ x k. own x (inl k)), fits_fields fs vs W both b.1 (λ x k. own x (inr k)))
 
@@ -96,11 +96,11 @@ module _ (ds : List (Decl ℕ)) (o : Offers) (offers : o.routines ≡ signatures
       own_scope : (vs : Scope) → ((r : ℕ) → Has vs r → U r) → Both vs U
       own_scope vs inside = (inside, λ r u. inl u)
 
-      fits_option : (value : Option (Expr ℕ)) (vs : Scope) → ((r : ℕ) → Has vs r → U r) → BoundOption o n vs value → ((x : ℕ) → CountsOption value x → U x → ⊥) → FitsOption c n L value U
+      fits_option : (value : Option (Expr ℕ)) (vs : Scope) → ((r : ℕ) → Has vs r → U r) → BoundOption o n vs value → ((x : ℕ) → CountsOption value x → U x → ⊥) → FitsOption c n value U
       fits_option None vs inside b own = tt
       fits_option (Some e) vs inside b own = fits_expr e vs U (own_scope vs inside) b own
 
-      fits_path : (path : List (Step ℕ)) (vs : Scope) → ((r : ℕ) → Has vs r → U r) → BoundPath o n vs path → ((x : ℕ) → CountsPath path x → U x → ⊥) → FitsPath c n L path U
+      fits_path : (path : List (Step ℕ)) (vs : Scope) → ((r : ℕ) → Has vs r → U r) → BoundPath o n vs path → ((x : ℕ) → CountsPath path x → U x → ⊥) → FitsPath c n path U
       fits_path [] vs inside b own = tt
       fits_path (IndexStep at e ∷ path) vs inside b own = (fits_expr e vs U (own_scope vs inside) b.0 (λ x k. own x (inl k)), fits_path path vs inside b.1 (λ x k. own x (inr k)))
       fits_path (FieldStep at name ∷ path) vs inside b own = fits_path path vs inside b own
@@ -124,7 +124,7 @@ module _ (ds : List (Decl ℕ)) (o : Offers) (offers : o.routines ≡ signatures
       behind_inside (WhileStmt at e invariants body) vs inside dec r h = inside r h
 
       mutual
-        pub fits_stmt : (st : Stmt ℕ) (a : Around) (vs : Scope) → ((r : ℕ) → Has vs r → U r) → ((x : ℕ) → Declares st x → U x) → (a.has_result ≡ true → R) → BoundStmt o n a vs st → ((x : ℕ) → CountsStmt st x → U x → ⊥) → FitsStmt c n L R st U
+        pub fits_stmt : (st : Stmt ℕ) (a : Around) (vs : Scope) → ((r : ℕ) → Has vs r → U r) → ((x : ℕ) → Declares st x → U x) → (a.has_result ≡ true → R) → BoundStmt o n a vs st → ((x : ℕ) → CountsStmt st x → U x → ⊥) → FitsStmt c n R st U
         fits_stmt (DeclareStmt at ty y value) a vs inside dec gives b own = (dec y refl, fits_option value vs inside b.1 own)
         fits_stmt (AssignStmt at y path e) a vs inside dec gives b own = (inside y b.0, fits_path path vs inside b.1 (λ x k. own x (inl k)), fits_expr e vs U (own_scope vs inside) b.2 (λ x k. own x (inr k)))
         fits_stmt (CallStmt at g args) a vs inside dec gives b own = (calls_action g (count_of args) false (subst (λ (k : ℕ). IsCall o false g k) (same_count args) b.0), fits_all args vs U (own_scope vs inside) b.1 own)
@@ -139,7 +139,7 @@ module _ (ds : List (Decl ℕ)) (o : Offers) (offers : o.routines ≡ signatures
         fits_stmt (WhileStmt at e invariants body) a vs inside dec gives b own =
             (fits_expr e vs U (own_scope vs inside) b.0 (λ x k. own x (inl k)), fits_stmts body (looped a) vs inside dec gives b.2 (λ x k. own x (inr k)))
 
-        pub fits_stmts : (ss : Stmts ℕ) (a : Around) (vs : Scope) → ((r : ℕ) → Has vs r → U r) → ((x : ℕ) → DeclaresIn ss x → U x) → (a.has_result ≡ true → R) → BoundStmts o n a vs ss → ((x : ℕ) → CountsStmts ss x → U x → ⊥) → FitsStmts c n L R ss U
+        pub fits_stmts : (ss : Stmts ℕ) (a : Around) (vs : Scope) → ((r : ℕ) → Has vs r → U r) → ((x : ℕ) → DeclaresIn ss x → U x) → (a.has_result ≡ true → R) → BoundStmts o n a vs ss → ((x : ℕ) → CountsStmts ss x → U x → ⊥) → FitsStmts c n R ss U
         fits_stmts NoStmts a vs inside dec gives b own = tt
         fits_stmts (MoreStmts st rest) a vs inside dec gives b own = (
           fits_stmt st a vs inside (λ x k. dec x (inl k)) gives b.0 (λ x k. own x (inl k)),

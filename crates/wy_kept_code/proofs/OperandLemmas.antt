@@ -21,10 +21,9 @@ use Rattle.wy_pieces.specs.Steps.{clear, fork, registers_from}
 use Rattle.wy_compiled.specs.Expressions.{released, is_plain, arith as arith_code, compare, equal, operator, operate, right_register, call, count_of, is_test, negated, list, record_of, quantify, code, codes, field_codes}
 use Rattle.wy_kept_registers.specs.Keeping.{IsNone}
 use Rattle.wy_kept_code.specs.Alive.{IsOne, reads, changes, nexts, LiveAt}
-use Rattle.wy_kept_code.specs.Safe.{Told, gone, Into, After, Onward, Safe}
-use Rattle.wy_kept_code.specs.Telling.{Tells}
+use Rattle.wy_kept_code.specs.Safe.{Gives, gone, Into, After, Onward, Safe}
 use Rattle.wy_kept_code.specs.Fitting.{IsValue, Fits}
-use Rattle.wy_kept_code.proofs.PieceLemmas.{either, less_not, Spans, front, back, tail, ended, live_reads, live_on, Lives, Told_of, Sure, sure_less, safe_step, safe_clears, safe_at, lives_on, lives_at}
+use Rattle.wy_kept_code.proofs.PieceLemmas.{either, less_not, Spans, front, back, tail, ended, live_reads, live_on, Lives, Sure, sure_less, safe_step, safe_clears, safe_at, lives_on, lives_at}
 use Rattle.wy_kept_code.proofs.SetLemmas.{not_both, Vars, before_cases}
 use Rattle.wy_kept_code.proofs.ReadLemmas.{Low, occurs_used, code_live}
 
@@ -52,7 +51,7 @@ pub back_empty : {A : Type 0} (xs ys : List A) → xs ++ ys ≡ [] → ys ≡ []
 back_empty [] ys e = e
 back_empty (x ∷ xs) ys e = absurd (cc)
 
-module _ (body : List Instr) (c : Context) (n : ℕ) (L : Type 0) where
+module _ (body : List Instr) (c : Context) (n : ℕ) where
   call_some : (a : Target) → IsValue a → (g d k : ℕ) → call a g d k ≡ [] → ⊥
   call_some (Declared gives) v g d k e = cc
   call_some Prints v g d k e = v
@@ -71,7 +70,7 @@ module _ (body : List Instr) (c : Context) (n : ℕ) (L : Type 0) where
   back_some a b h e = h (back_empty a b e)
 
   -- each expression has code
-  pub code_some : (e : Expr ℕ) (U : ℕ → Type 0) (s : Variables) (d : ℕ) → Fits c n L e U → code c e s d ≡ [] → ⊥
+  pub code_some : (e : Expr ℕ) (U : ℕ → Type 0) (s : Variables) (d : ℕ) → Fits c n e U → code c e s d ≡ [] → ⊥
   code_some (NullExpr at) U s d fit e = cc
   code_some (BoolExpr at truth) U s d fit e = cc
   code_some (IntExpr at number) U s d fit e = cc
@@ -96,7 +95,7 @@ module _ (body : List Instr) (c : Context) (n : ℕ) (L : Type 0) where
   fork_reads at next d (s ∷ first) [] h some = live_reads body at d (instr.Branch d (suc at + length (s ∷ first))) h.0.0 (inl refl)
   fork_reads at next d first (s ∷ second) h some = live_reads body at d (instr.Branch d (suc at + (length first + 1))) h.0.0 (inl refl)
 
-  module _ (t : Told) (f : ℕ) (tells : Tells t f c n L) where
+  module _ (t : Gives) (f : ℕ) where
     -- live variables, and the registers of the expressions around
     abbrev pub Base : Variables → (ℕ → Type 0) → ℕ → Type 0
     Base s A r = Vars s r ⊎ A r
@@ -104,10 +103,6 @@ module _ (body : List Instr) (c : Context) (n : ℕ) (L : Type 0) where
     -- a value that may be a list or a record
     abbrev pub Held : Expr ℕ → ℕ → ℕ → Type 0
     Held e d r = (r ≡ d) × (is_plain e ≡ false)
-
-    -- one that the code takes to be none, so that it doesn't release it
-    abbrev pub Kept : Expr ℕ → ℕ → ℕ → Type 0
-    Kept e d r = (r ≡ d) × ((is_plain e ≡ false) × (is_plain e ≡ true))
 
     abbrev pub Around : ℕ → (ℕ → Type 0) → Type 0
     Around d A = (r : ℕ) → A r → (n ≤ r) × (r < d)
@@ -123,15 +118,12 @@ module _ (body : List Instr) (c : Context) (n : ℕ) (L : Type 0) where
     abbrev pub Exit : ℕ → ℕ → (ℕ → Type 0) → (ℕ → Type 0) → Type 0
     Exit m p P Q = Lives body t f p P × Sure body t f m p (λ r. P r ⊎ Q r)
 
-    -- so, and what the code doesn't release is live
+    -- so with the value of the expression
     abbrev pub Full : ℕ → ℕ → (ℕ → Type 0) → Expr ℕ → ℕ → Type 0
-    Full m p P e d = Lives body t f p P × Sure body t f m p (λ r. P r ⊎ Held e d r) × Lives body t f p (Kept e d)
-
-    pub told_not : {X : Type 0} (r q : ℕ) → r ≡ q → t.untold f r ≡ false → t.untold f q ≡ true → X
-    told_not r q same u w = absurd (let z : t.untold f q ≡ false = subst (λ (x : ℕ). t.untold f x ≡ false) same u in let y : true ≡ false = sym w ∙ z in cc)
+    Full m p P e d = Lives body t f p P × Sure body t f m p (λ r. P r ⊎ Held e d r)
 
     pub ready_less : (m p : ℕ) (P Q : ℕ → Type 0) → ((r : ℕ) → P r → Q r) → Ready m p Q → Ready m p P
-    ready_less m p P Q h k = ((λ r u l. k.0 r u (h r l)), sure_less body t f m p P Q (λ r u l. h r l) k.1)
+    ready_less m p P Q h k = ((λ r l. k.0 r (h r l)), sure_less body t f m p P Q (λ r l. h r l) k.1)
 
     pub ready_at : (m p q : ℕ) (P : ℕ → Type 0) → p ≡ q → Ready m p P → Ready m q P
     ready_at m p q P e k = (lives_at body t f p q P e k.0, safe_at body t f m p q P e k.1)
@@ -139,65 +131,65 @@ module _ (body : List Instr) (c : Context) (n : ℕ) (L : Type 0) where
     pub exit_at : (m p q : ℕ) (P Q : ℕ → Type 0) → p ≡ q → Exit m p P Q → Exit m q P Q
     exit_at m p q P Q e k = (lives_at body t f p q P e k.0, safe_at body t f m p q (λ r. P r ⊎ Q r) e k.1)
 
-    pub base_low : (s : Variables) (A U : ℕ → Type 0) (d : ℕ) → Known s U → Low body c n L U → n ≤ d → Around d A → (r : ℕ) → Base s A r → r < d
+    pub base_low : (s : Variables) (A U : ℕ → Type 0) (d : ℕ) → Known s U → Low body c n U → n ≤ d → Around d A → (r : ℕ) → Base s A r → r < d
     base_low s A U d known low nd around r (inl v) = let l = low r (known r v) in omega (arith, l, nd)
     base_low s A U d known low nd around r (inr a) = (around r a).1
 
-    pub known_before : (e : Expr ℕ) (U : ℕ → Type 0) (s : Variables) → Fits c n L e U → Known s U → Known (before e s) U
-    known_before e U s fit known r v = either (λ o. occurs_used body c n L e U fit r o) (λ k. known r k) (before_cases e s r v)
+    pub known_before : (e : Expr ℕ) (U : ℕ → Type 0) (s : Variables) → Fits c n e U → Known s U → Known (before e s) U
+    known_before e U s fit known r v = either (λ o. occurs_used body c n e U fit r o) (λ k. known r k) (before_cases e s r v)
 
     pub around_more : (d : ℕ) (A B : ℕ → Type 0) → n ≤ d → Around d A → ((r : ℕ) → B r → r ≡ d) → Around (suc d) (λ r. A r ⊎ B r)
     around_more d A B nd around b r (inl a) = (let h = around r a in (h.0, let l = h.1 in omega (arith, l)))
     around_more d A B nd around b r (inr k) = let e = b r k in (omega (arith, e, nd), omega (arith, e))
 
     -- what is live in front of an expression
-    pub code_lives : (e : Expr ℕ) (U : ℕ → Type 0) (s : Variables) (A : ℕ → Type 0) (d at next : ℕ) → Fits c n L e U → Low body c n L U → n ≤ d → Known s U → Around d A → Spans body at (code c e s d) next
+    pub code_lives : (e : Expr ℕ) (U : ℕ → Type 0) (s : Variables) (A : ℕ → Type 0) (d at next : ℕ) → Fits c n e U → Low body c n U → n ≤ d → Known s U → Around d A → Spans body at (code c e s d) next
         → Lives body t f next (Base s A) → Lives body t f at (Base (before e s) A)
-    code_lives e U s A d at next fit low nd known around h live r u (inl v) =
+    code_lives e U s A d at next fit low nd known around h live r (inl v) =
         let l = low r (known_before e U s fit known r v) in
-        code_live body c n L e U s d at next r fit low nd h (omega (arith, l, nd)) (either (λ o. inl o) (λ k. inr (inl k, live r u (inl k))) (before_cases e s r v))
-    code_lives e U s A d at next fit low nd known around h live r u (inr a) =
-        let k = around r a in code_live body c n L e U s d at next r fit low nd h k.1 (inr (inr k.0, live r u (inr a)))
+        code_live body c n e U s d at next r fit low nd h (omega (arith, l, nd)) (either (λ o. inl o) (λ k. inr (inl k, live r (inl k))) (before_cases e s r v))
+    code_lives e U s A d at next fit low nd known around h live r (inr a) =
+        let k = around r a in code_live body c n e U s d at next r fit low nd h k.1 (inr (inr k.0, live r (inr a)))
 
     -- an instruction that reads the operands X
     pub operands_ready : (m p next : ℕ) (i : Instr) (B X H : ℕ → Type 0) → Spans body p (Does i ∷ []) next → ((r : ℕ) → B r → IsNone r (changes i)) → IsOne (p + 1) (nexts p i) → ((r : ℕ) → X r → IsOne r (reads i)) → ((r : ℕ) → X r → IsNone r (gone i) → H r)
-        → ((r : ℕ) → t.untold f r ≡ false → Into t f i (Told_of body t f (λ q. B q ⊎ X q)) r → H r)
-        → ((k : ℕ) → Safe t f body k (p + 1) (After t f i (Told_of body t f (λ q. B q ⊎ X q))) → Onward t f (Safe t f body k) p i (Told_of body t f (λ q. B q ⊎ X q)))
+        → ((r : ℕ) → Into t i (λ q. B q ⊎ X q) r → H r)
+        → ((k : ℕ) → Safe t f body k (p + 1) (After t i (λ q. B q ⊎ X q)) → Onward t f (Safe t f body k) p i (λ q. B q ⊎ X q))
         → Exit m next B H → Ready m p (λ r. B r ⊎ X r)
     operands_ready m p next i B X H h none to read stays into onward exit =
         let e : next ≡ p + 1 = (let z = h.1 in omega (arith, z)) in
         let there = exit_at m next (p + 1) B H e exit in
-        let live : Lives body t f p (λ r. B r ⊎ X r) = λ r u l. either (λ b. live_on body p (p + 1) r i h.0.0 (none r b) to (there.0 r u b)) (λ x. live_reads body p r i h.0.0 (read r x)) l in (
+        let live : Lives body t f p (λ r. B r ⊎ X r) = λ r l. either (λ b. live_on body p (p + 1) r i h.0.0 (none r b) to (there.0 r b)) (λ x. live_reads body p r i h.0.0 (read r x)) l in (
           live,
           safe_step body t f m p i (λ r. B r ⊎ X r) (λ r. B r ⊎ H r) h.0.0 live onward
-              (λ r u l. either (λ k. either (λ b. inl b) (λ x. inr (stays r x k.1)) k.0) (λ k. inr (into r u k)) l) there.1,
+              (λ r l. either (λ k. either (λ b. inl b) (λ x. inr (stays r x k.1)) k.0) (λ k. inr (into r k)) l) there.1,
         )
 
     pub clear_sure : (m p next : ℕ) (rs : List ℕ) (P Q : ℕ → Type 0) → Spans body p (clear rs) next → ((r : ℕ) → P r → IsNone r rs → Q r) → Sure body t f m next Q → Sure body t f m p P
-    clear_sure m p next [] P Q h less safe = safe_at body t f m next p P (sym (ended body p next h)) (sure_less body t f m next P Q (λ r u l. less r l tt) safe)
+    clear_sure m p next [] P Q h less safe = safe_at body t f m next p P (sym (ended body p next h)) (sure_less body t f m next P Q (λ r l. less r l tt) safe)
     clear_sure m p next (x ∷ rs) P Q h less safe =
         let e : next ≡ p + 1 = (let z = h.1 in omega (arith, z)) in
-        safe_clears body t f m p (x ∷ rs) P Q h.0.0 (λ r u l. less r l.0 l.1) (safe_at body t f m next (p + 1) Q e safe)
+        safe_clears body t f m p (x ∷ rs) P Q h.0.0 (λ r l. less r l.0 l.1) (safe_at body t f m next (p + 1) Q e safe)
 
     -- what is shown of the code of an expression
     abbrev pub Safely : Expr ℕ → (ℕ → Type 0) → Type 1
     Safely e U = (m : ℕ) (s : Variables) (A : ℕ → Type 0) (d at next : ℕ) → Known s U → n ≤ d → Around d A → Spans body at (code c e s d) next → Full m next (Base s A) e d → Ready m at (Base (before e s) A)
 
-    module _ (U : ℕ → Type 0) (low : Low body c n L U) where
+    module _ (U : ℕ → Type 0) (low : Low body c n U) where
       -- an operand and an instruction that reads it
       pub unary_safe : (a : Expr ℕ) → Safely a U → (m : ℕ) (s : Variables) (A : ℕ → Type 0) (d at next : ℕ) (i : Instr) (H : ℕ → Type 0) → Known s U → n ≤ d → Around d A
           → Spans body at (code c a s d ++ Does i ∷ []) next → ((r : ℕ) → r < d → IsNone r (changes i)) → ((p : ℕ) → IsOne (p + 1) (nexts p i)) → IsOne d (reads i) → (IsNone d (gone i) → ⊥)
-          → ((r : ℕ) (P : ℕ → Type 0) → Into t f i P r → H r) → ((k p : ℕ) (P : ℕ → Type 0) → Safe t f body k (p + 1) (After t f i P) → Onward t f (Safe t f body k) p i P)
+          → ((r : ℕ) (P : ℕ → Type 0) → Into t i P r → H r) → ((k p : ℕ) (P : ℕ → Type 0) → Safe t f body k (p + 1) (After t i P) → Onward t f (Safe t f body k) p i P)
           → Exit m next (Base s A) H → Ready m at (Base (before a s) A)
       unary_safe a is m s A d at next i H known nd around h none to read left into onward exit =
           let mid = at + length (code c a s d) in
           is m s A d at mid known nd around (front body at (code c a s d) (Does i ∷ []) next h)
           (let k = operands_ready m mid next i (Base s A) (Held a d) H (back body at (code c a s d) (Does i ∷ []) next h) (λ r b. none r (base_low s A U d known low nd around r b)) (to mid)
           (λ r x. subst (λ (z : ℕ). IsOne z (reads i)) (sym x.0) read) (λ r x g. absurd (left (subst (λ (z : ℕ). IsNone z (gone i)) x.0 g)))
-          (λ r u g. into r (Told_of body t f (λ q. Base s A q ⊎ Held a d q)) g) (λ q w. onward q mid (Told_of body t f (λ z. Base s A z ⊎ Held a d z)) w) exit in ((λ r u l. k.0 r u (inl l)), k.1, (λ r u z. k.0 r u (inr (z.0, z.1.0)))))
+          (λ r g. into r (λ q. Base s A q ⊎ Held a d q) g) (λ q w. onward q mid (λ z. Base s A z ⊎ Held a d z) w) exit in ((λ r l. k.0 r (inl l)), k.1))
 
       -- two operands, the first of which waits
-      pub pair_safe : (a b : Expr ℕ) → Safely a U → Safely b U → Fits c n L b U → (m : ℕ) (s : Variables) (A : ℕ → Type 0) (d at next : ℕ) (rest : List Step) → Known s U → n ≤ d → Around d A
+      pub pair_safe : (a b : Expr ℕ) → Safely a U → Safely b U → Fits c n b U → (m : ℕ) (s : Variables) (A : ℕ → Type 0) (d at next : ℕ) (rest : List Step) → Known s U → n ≤ d → Around d A
           → Spans body at (code c a (before b s) d ++ (code c b s (suc d) ++ rest)) next
           → ((p : ℕ) → Spans body p rest next → Ready m p (λ r. Base s A r ⊎ (Held a d r ⊎ Held b (suc d) r))) → Ready m at (Base (before a (before b s)) A)
       pair_safe a b one two fit_b m s A d at next rest known nd around h last =
@@ -207,12 +199,11 @@ module _ (body : List Instr) (c : Context) (n : ℕ) (L : Type 0) where
           let k = last mid2 (back body mid (code c b s (suc d)) rest next behind) in
           let B : ℕ → Type 0 = λ r. A r ⊎ Held a d r in
           let there = two m s B (suc d) mid mid2 known (omega (arith, nd)) (around_more d A (Held a d) nd around (λ r x. x.0)) (front body mid (code c b s (suc d)) rest next behind) (
-            (λ r u l. k.0 r u (regroup s A a d r l)),
-            sure_less body t f m mid2 (λ r. Base s B r ⊎ Held b (suc d) r) (λ r. Base s A r ⊎ (Held a d r ⊎ Held b (suc d) r)) (λ r u l. either (λ z. either (λ v. inl v) (λ w. inr (inl w)) (regroup2 s A a d r z)) (λ w. inr (inr w)) l) k.1,
-            (λ r u z. k.0 r u (inr (inr (z.0, z.1.0)))),
+            (λ r l. k.0 r (regroup s A a d r l)),
+            sure_less body t f m mid2 (λ r. Base s B r ⊎ Held b (suc d) r) (λ r. Base s A r ⊎ (Held a d r ⊎ Held b (suc d) r)) (λ r l. either (λ z. either (λ v. inl v) (λ w. inr (inl w)) (regroup2 s A a d r z)) (λ w. inr (inr w)) l) k.1,
           ) in
           one m (before b s) A d at mid (known_before b U s fit_b known) nd around (front body at (code c a (before b s) d) (code c b s (suc d) ++ rest) next h)
-          ((λ r u l. there.0 r u (either (λ v. inl v) (λ w. inr (inl w)) l)), sure_less body t f m mid (λ r. Base (before b s) A r ⊎ Held a d r) (Base (before b s) B) (λ r u l. either (λ z. either (λ v. inl v) (λ w. inr (inl w)) z) (λ w. inr (inr w)) l) there.1, (λ r u z. there.0 r u (inr (inr (z.0, z.1.0)))))
+          ((λ r l. there.0 r (either (λ v. inl v) (λ w. inr (inl w)) l)), sure_less body t f m mid (λ r. Base (before b s) A r ⊎ Held a d r) (Base (before b s) B) (λ r l. either (λ z. either (λ v. inl v) (λ w. inr (inl w)) z) (λ w. inr (inr w)) l) there.1)
         where
           regroup : (s : Variables) (A : ℕ → Type 0) (a : Expr ℕ) (d r : ℕ) → Base s (λ q. A q ⊎ Held a d q) r → Base s A r ⊎ (Held a d r ⊎ Held b (suc d) r)
           regroup s A a d r (inl v) = inl (inl v)
@@ -227,20 +218,20 @@ module _ (body : List Instr) (c : Context) (n : ℕ) (L : Type 0) where
       -- the instruction that reads both
       pub pair_ready : (a b : Expr ℕ) (m : ℕ) (s : Variables) (A : ℕ → Type 0) (d p next : ℕ) (i : Instr) (H : ℕ → Type 0) → Known s U → n ≤ d → Around d A → Spans body p (Does i ∷ []) next
           → ((r : ℕ) → r < d → IsNone r (changes i)) → IsOne (p + 1) (nexts p i) → IsOne d (reads i) → IsOne (suc d) (reads i) → (IsNone d (gone i) → ⊥) → ((is_plain b ≡ false) → IsNone (suc d) (gone i) → H (suc d))
-          → ((r : ℕ) (P : ℕ → Type 0) → Into t f i P r → H r) → ((k : ℕ) (P : ℕ → Type 0) → Safe t f body k (p + 1) (After t f i P) → Onward t f (Safe t f body k) p i P)
+          → ((r : ℕ) (P : ℕ → Type 0) → Into t i P r → H r) → ((k : ℕ) (P : ℕ → Type 0) → Safe t f body k (p + 1) (After t i P) → Onward t f (Safe t f body k) p i P)
           → Exit m next (Base s A) H → Ready m p (λ r. Base s A r ⊎ (Held a d r ⊎ Held b (suc d) r))
       pair_ready a b m s A d p next i H known nd around h none to one two left also into onward exit =
           operands_ready m p next i (Base s A) (λ r. Held a d r ⊎ Held b (suc d) r) H h (λ r k. none r (base_low s A U d known low nd around r k)) to
           (λ r x. either (λ y. subst (λ (z : ℕ). IsOne z (reads i)) (sym y.0) one) (λ y. subst (λ (z : ℕ). IsOne z (reads i)) (sym y.0) two) x)
           (λ r x g. either (λ y. absurd (left (subst (λ (z : ℕ). IsNone z (gone i)) y.0 g))) (λ y. subst (λ (z : ℕ). H z) (sym y.0) (also y.1 (subst (λ (z : ℕ). IsNone z (gone i)) y.0 g))) x)
-          (λ r u g. into r (Told_of body t f (λ q. Base s A q ⊎ (Held a d q ⊎ Held b (suc d) q))) g) (λ k w. onward k (Told_of body t f (λ q. Base s A q ⊎ (Held a d q ⊎ Held b (suc d) q))) w) exit
+          (λ r g. into r (λ q. Base s A q ⊎ (Held a d q ⊎ Held b (suc d) q)) g) (λ k w. onward k (λ q. Base s A q ⊎ (Held a d q ⊎ Held b (suc d) q)) w) exit
 
       -- nothing
       abbrev pub Nothing_more : ℕ → Type 0
       Nothing_more r = ⊥
 
       pub exit_none : (m p : ℕ) (B H : ℕ → Type 0) → Exit m p B H → Exit m p B Nothing_more
-      exit_none m p B H k = (k.0, sure_less body t f m p (λ r. B r ⊎ ⊥) (λ r. B r ⊎ H r) (λ r u l. either (λ b. inl b) (λ z. absurd z) l) k.1)
+      exit_none m p B H k = (k.0, sure_less body t f m p (λ r. B r ⊎ ⊥) (λ r. B r ⊎ H r) (λ r l. either (λ b. inl b) (λ z. absurd z) l) k.1)
 
       arith_ready : (a b : Expr ℕ) (o : Arithmetic) (m : ℕ) (s : Variables) (A : ℕ → Type 0) (d p next : ℕ) → Known s U → n ≤ d → Around d A → Spans body p (arith_code o d) next → Exit m next (Base s A) Nothing_more → Ready m p (λ r. Base s A r ⊎ (Held a d r ⊎ Held b (suc d) r))
       arith_ready a b o m s A d p next known nd around h exit =
@@ -261,7 +252,7 @@ module _ (body : List Instr) (c : Context) (n : ℕ) (L : Type 0) where
           let lows = base_low s A U d known low nd around in
           let live : Lives body t f (p + 1) (Base s A) = lives_on body t f (p + 1) clears (Base s A) two.0.0 (λ r b. (less_not r (suc d) (let z = lows r b in omega (arith, z)), tt)) (inl refl) (lives_at body t f next (p + 1 + 1) (Base s A) e exit.0) in
           pair_ready a b m s A d p (p + 1) (instr.Equal d d (suc d)) (λ r. r ≡ suc d) known nd around ((h.0.0, tt), omega arith) (λ r l. (less_not r d l, tt)) (inl refl) (inl refl) (inr (inl refl)) (λ g. g.0 refl) (λ z g. refl) (λ r P g. absurd g) (λ k P w. w)
-          (live, safe_clears body t f m (p + 1) (suc d ∷ []) (λ r. Base s A r ⊎ (r ≡ suc d)) (λ r. Base s A r ⊎ ⊥) two.0.0 (λ r u l. either (λ b. inl b) (λ z. absurd (l.1.0 z)) l.0) (safe_at body t f m next (p + 1 + 1) (λ r. Base s A r ⊎ ⊥) e exit.1))
+          (live, safe_clears body t f m (p + 1) (suc d ∷ []) (λ r. Base s A r ⊎ (r ≡ suc d)) (λ r. Base s A r ⊎ ⊥) two.0.0 (λ r l. either (λ b. inl b) (λ z. absurd (l.1.0 z)) l.0) (safe_at body t f m next (p + 1 + 1) (λ r. Base s A r ⊎ ⊥) e exit.1))
 
       pub operator_ready : (o : Op) (a b : Expr ℕ) (m : ℕ) (s : Variables) (A : ℕ → Type 0) (d p next : ℕ) → Known s U → n ≤ d → Around d A → Spans body p (operator o d (is_plain b)) next → Exit m next (Base s A) Nothing_more → (o ≡ op.And → ⊥) → (o ≡ op.Or → ⊥) → Ready m p (λ r. Base s A r ⊎ (Held a d r ⊎ Held b (suc d) r))
       operator_ready op.Add a b m s A d p next known nd around h exit x y = arith_ready a b arithmetic.Add m s A d p next known nd around h exit

@@ -10,8 +10,8 @@ use Rattle.wy_simulation.specs.Places.{StandAt}
 use Rattle.wy_simulation.proofs.PlaceLemmas.{stand_front, stand_back, stand_moved}
 use Rattle.wy_kept_registers.specs.Keeping.{IsNone}
 use Rattle.wy_kept_code.specs.Alive.{IsOne, reads, changes, nexts, LiveAt}
-use Rattle.wy_kept_code.specs.Safe.{Told, gone, Into, After, Onward, Fine, Safe}
-use Rattle.wy_kept_code.proofs.SafeLemmas.{told_or_not, Within, Less, safe_less, safe_sooner}
+use Rattle.wy_kept_code.specs.Safe.{Gives, After, Onward, Fine, Safe}
+use Rattle.wy_kept_code.proofs.SafeLemmas.{Within, safe_less, safe_sooner}
 
 pub either : {A B C : Type 0} → (A → C) → (B → C) → A ⊎ B → C
 either f g (inl a) = f a
@@ -135,144 +135,92 @@ module _ (body : List Instr) where
 
   -- ---- what is safe
 
-  module _ (t : Told) (f : ℕ) where
+  module _ (t : Gives) (f : ℕ) where
     -- each of these registers is live at the place
     abbrev pub Lives : ℕ → (ℕ → Type 0) → Type 0
-    Lives p P = (r : ℕ) → t.untold f r ≡ false → P r → LiveAt body p r
-
-    -- at most these registers of which something is said hold lists or records
-    abbrev pub Told_of : (ℕ → Type 0) → ℕ → Type 0
-    Told_of P r = P r ⊎ (t.untold f r ≡ true)
+    Lives p P = (r : ℕ) → P r → LiveAt body p r
 
     -- for so many instructions from the place on
     abbrev pub Sure : ℕ → ℕ → (ℕ → Type 0) → Type 0
-    Sure m p P = Safe t f body m p (Told_of P)
-
-    -- what may hold a list or a record behind an instruction
-    abbrev pub Behind : Instr → (ℕ → Type 0) → ℕ → Type 0
-    Behind i P r = (P r × IsNone r (gone i)) ⊎ Into t f i (Told_of P) r
-
-    pub told_less : (P Q : ℕ → Type 0) → Less t f P Q → Within t f (Told_of P) (Told_of Q)
-    told_less P Q h r (inr u) = inr u
-    told_less P Q h r (inl l) = either (λ u. inr u) (λ u. inl (h r u l)) (told_or_not (t.untold f r))
-
-    told_after : (i : Instr) (P Q : ℕ → Type 0) → Less t f (Behind i P) Q → Within t f (After t f i (Told_of P)) (Told_of Q)
-    told_after i P Q h r l = either (λ u. inr u) (λ u. inl (h r u (either (λ k. inl (either (λ z. z) (λ w. absurd (let x : true ≡ false = sym w ∙ u in cc)) k.0, k.1)) (λ k. inr k) l))) (told_or_not (t.untold f r))
+    Sure m p P = Safe t f body m p P
 
     -- fewer registers
-    pub sure_less : (m p : ℕ) (P Q : ℕ → Type 0) → Less t f P Q → Sure m p Q → Sure m p P
-    sure_less m p P Q h k = safe_less t f body m p (Told_of P) (Told_of Q) (told_less P Q h) k
+    pub sure_less : (m p : ℕ) (P Q : ℕ → Type 0) → Within P Q → Sure m p Q → Sure m p P
+    sure_less m p P Q h k = safe_less t f body m p P Q h k
 
     same_instr : (i j : Instr) → Some i ≡ Some j → i ≡ j
     same_instr i j e = cc
 
-    -- what of these registers is told is live
-    fine_of : (p : ℕ) (i : Instr) (P : ℕ → Type 0) → Lives p P → Fine t f body p i (Told_of P)
-    fine_of p i P live c r u j (inl l) = live r u l
-    fine_of p i P live c r u j (inr w) = absurd (let x : true ≡ false = sym w ∙ u in cc)
+    -- what is live at all is so in front of this instruction
+    fine_of : (p : ℕ) (i : Instr) (P : ℕ → Type 0) → Lives p P → Fine body p i P
+    fine_of p i P live c r l = live r l
 
     -- one instruction, which goes on behind
-    pub safe_does : (n p : ℕ) (i : Instr) (P Q : ℕ → Type 0) → slice_get body p ≡ Some i → Lives p P → (Safe t f body n (p + 1) (After t f i (Told_of P)) → Onward t f (Safe t f body n) p i (Told_of P))
-        → Less t f (Behind i P) Q → Sure (suc n) (p + 1) Q → Sure (suc n) p P
+    safe_does : (n p : ℕ) (i : Instr) (P Q : ℕ → Type 0) → slice_get body p ≡ Some i → Lives p P → (Safe t f body n (p + 1) (After t i P) → Onward t f (Safe t f body n) p i P)
+        → Within (After t i P) Q → Sure (suc n) (p + 1) Q → Sure (suc n) p P
     safe_does n p i P Q is live onward less safe j e =
-        subst (λ (k : Instr). Fine t f body p k (Told_of P) × Onward t f (Safe t f body n) p k (Told_of P)) (same_instr i j (sym is ∙ e))
-        (fine_of p i P live, onward (safe_less t f body n (p + 1) (After t f i (Told_of P)) (Told_of Q) (told_after i P Q less) (safe_sooner t f body n (p + 1) (Told_of Q) safe)))
+        subst (λ (k : Instr). Fine body p k P × Onward t f (Safe t f body n) p k P) (same_instr i j (sym is ∙ e))
+        (fine_of p i P live, onward (safe_less t f body n (p + 1) (After t i P) Q less (safe_sooner t f body n (p + 1) Q safe)))
 
     -- the same, whatever the count
-    pub safe_step : (m p : ℕ) (i : Instr) (P Q : ℕ → Type 0) → slice_get body p ≡ Some i → Lives p P → ((n : ℕ) → Safe t f body n (p + 1) (After t f i (Told_of P)) → Onward t f (Safe t f body n) p i (Told_of P))
-        → Less t f (Behind i P) Q → Sure m (p + 1) Q → Sure m p P
+    pub safe_step : (m p : ℕ) (i : Instr) (P Q : ℕ → Type 0) → slice_get body p ≡ Some i → Lives p P → ((n : ℕ) → Safe t f body n (p + 1) (After t i P) → Onward t f (Safe t f body n) p i P)
+        → Within (After t i P) Q → Sure m (p + 1) Q → Sure m p P
     safe_step zero p i P Q is live onward less safe = tt
     safe_step (suc n) p i P Q is live onward less safe = safe_does n p i P Q is live (onward n) less safe
 
-    -- the same of sets that say something of each register
-    pub raw_step : (m p : ℕ) (i : Instr) (P Q : ℕ → Type 0) → slice_get body p ≡ Some i → Lives p P → ((n : ℕ) → Safe t f body n (p + 1) (After t f i P) → Onward t f (Safe t f body n) p i P)
-        → Within t f (After t f i P) Q → Safe t f body m (p + 1) Q → Safe t f body m p P
-    raw_step zero p i P Q is live onward less safe = tt
-    raw_step (suc n) p i P Q is live onward less safe = λ j e.
-        subst (λ (k : Instr). Fine t f body p k P × Onward t f (Safe t f body n) p k P) (same_instr i j (sym is ∙ e))
-        ((λ c r u x l. live r u l), onward n (safe_less t f body n (p + 1) (After t f i P) Q less (safe_sooner t f body n (p + 1) Q safe)))
-
-    pub raw_branches : (m p d q : ℕ) (P Q R : ℕ → Type 0) → slice_get body p ≡ Some (instr.Branch d q) → Lives p P
-        → Within t f P Q → Within t f P R → Safe t f body m (p + 1) Q → Safe t f body m q R → Safe t f body m p P
-    raw_branches zero p d q P Q R is live one two safe also = tt
-    raw_branches (suc n) p d q P Q R is live one two safe also = λ j e.
-        subst (λ (k : Instr). Fine t f body p k P × Onward t f (Safe t f body n) p k P) (same_instr (instr.Branch d q) j (sym is ∙ e)) (
-          (λ c r u x l. live r u l),
-          (
-            safe_less t f body n (p + 1) (After t f (instr.Branch d q) P) Q (λ r l. one r (held r l)) (safe_sooner t f body n (p + 1) Q safe),
-            safe_less t f body n q (After t f (instr.Branch d q) P) R (λ r l. two r (held r l)) (safe_sooner t f body n q R also),
-          ),
-        )
-      where
-        held : (r : ℕ) → After t f (instr.Branch d q) P r → P r
-        held r (inl g) = g.0
-        held r (inr g) = absurd g
-
     -- live in front of an instruction that changes none of these
     pub lives_on : (p : ℕ) (i : Instr) (P : ℕ → Type 0) → slice_get body p ≡ Some i → ((q : ℕ) → P q → IsNone q (changes i)) → IsOne (p + 1) (nexts p i) → Lives (p + 1) P → Lives p P
-    lives_on p i P is none to live r u l = live_on p (p + 1) r i is (none r l) to (live r u l)
+    lives_on p i P is none to live r l = live_on p (p + 1) r i is (none r l) to (live r l)
 
     pub lives_at : (p q : ℕ) (P : ℕ → Type 0) → p ≡ q → Lives p P → Lives q P
     lives_at p q P e h = subst (λ (z : ℕ). Lives z P) e h
 
     -- a release
     pub safe_clears : (m p : ℕ) (rs : List ℕ) (P Q : ℕ → Type 0) → slice_get body p ≡ Some (instr.Clear rs)
-        → Less t f (λ r. P r × IsNone r rs) Q → Sure m (p + 1) Q → Sure m p P
+        → Within (λ r. P r × IsNone r rs) Q → Sure m (p + 1) Q → Sure m p P
     safe_clears zero p rs P Q is less safe = tt
     safe_clears (suc n) p rs P Q is less safe = λ j e.
-        subst (λ (k : Instr). Fine t f body p k (Told_of P) × Onward t f (Safe t f body n) p k (Told_of P)) (same_instr (instr.Clear rs) j (sym is ∙ e))
-        ((λ c r u x l. absurd (let z : true ≡ false = c in cc)), safe_less t f body n (p + 1) (After t f (instr.Clear rs) (Told_of P)) (Told_of Q) (told_after (instr.Clear rs) P Q (λ r u l. less r u (held r l))) (safe_sooner t f body n (p + 1) (Told_of Q) safe))
+        subst (λ (k : Instr). Fine body p k P × Onward t f (Safe t f body n) p k P) (same_instr (instr.Clear rs) j (sym is ∙ e))
+        ((λ c r l. absurd (let z : true ≡ false = c in cc)), safe_less t f body n (p + 1) (After t (instr.Clear rs) P) Q (λ r l. less r (held r l)) (safe_sooner t f body n (p + 1) Q safe))
       where
-        held : (r : ℕ) → Behind (instr.Clear rs) P r → P r × IsNone r rs
+        held : (r : ℕ) → After t (instr.Clear rs) P r → P r × IsNone r rs
         held r (inl g) = g
         held r (inr g) = absurd g
 
-    jumped : (q : ℕ) (P Q : ℕ → Type 0) → Less t f P Q → Less t f (Behind (instr.Jump q) P) Q
-    jumped q P Q h r u (inl g) = h r u g.0
-    jumped q P Q h r u (inr g) = absurd g
+    jumped : (q : ℕ) (P Q : ℕ → Type 0) → Within P Q → Within (After t (instr.Jump q) P) Q
+    jumped q P Q h r (inl g) = h r g.0
+    jumped q P Q h r (inr g) = absurd g
 
     -- back to a place that is safe for one instruction less
-    pub safe_loops : (n p q : ℕ) (P Q : ℕ → Type 0) → slice_get body p ≡ Some (instr.Jump q) → Lives q Q → Less t f P Q → Sure n q Q → Sure (suc n) p P
+    pub safe_loops : (n p q : ℕ) (P Q : ℕ → Type 0) → slice_get body p ≡ Some (instr.Jump q) → Lives q Q → Within P Q → Sure n q Q → Sure (suc n) p P
     safe_loops n p q P Q is live less safe = λ j e.
-        subst (λ (k : Instr). Fine t f body p k (Told_of P) × Onward t f (Safe t f body n) p k (Told_of P)) (same_instr (instr.Jump q) j (sym is ∙ e))
-        (fine_of p (instr.Jump q) P (λ r u l. live_on p q r (instr.Jump q) is tt (inl refl) (live r u (less r u l))), safe_less t f body n q (After t f (instr.Jump q) (Told_of P)) (Told_of Q) (told_after (instr.Jump q) P Q (jumped q P Q less)) safe)
+        subst (λ (k : Instr). Fine body p k P × Onward t f (Safe t f body n) p k P) (same_instr (instr.Jump q) j (sym is ∙ e))
+        (fine_of p (instr.Jump q) P (λ r l. live_on p q r (instr.Jump q) is tt (inl refl) (live r (less r l))), safe_less t f body n q (After t (instr.Jump q) P) Q (jumped q P Q less) safe)
 
-    pub safe_jumps : (m p q : ℕ) (P Q : ℕ → Type 0) → slice_get body p ≡ Some (instr.Jump q) → Lives q Q → Less t f P Q → Sure m q Q → Sure m p P
+    pub safe_jumps : (m p q : ℕ) (P Q : ℕ → Type 0) → slice_get body p ≡ Some (instr.Jump q) → Lives q Q → Within P Q → Sure m q Q → Sure m p P
     safe_jumps zero p q P Q is live less safe = tt
-    safe_jumps (suc n) p q P Q is live less safe = safe_loops n p q P Q is live less (safe_sooner t f body n q (Told_of Q) safe)
-
-    -- a jump that is next while a register of which nothing is then said holds what it likes
-    passes_fine : (p q : ℕ) (V W : ℕ → Type 0) → Lives p V → ((r : ℕ) → W r → t.passing f r ≡ true) → Fine t f body p (instr.Jump q) (Told_of (λ r. V r ⊎ W r))
-    passes_fine p q V W live free c r u j (inl (inl v)) = live r u v
-    passes_fine p q V W live free c r u j (inl (inr w)) = absurd (let x : true ≡ false = sym (free r w) ∙ j in cc)
-    passes_fine p q V W live free c r u j (inr w) = absurd (let x : true ≡ false = sym w ∙ u in cc)
-
-    pub safe_passes : (m p q : ℕ) (V W : ℕ → Type 0) → slice_get body p ≡ Some (instr.Jump q) → Lives p V → ((r : ℕ) → W r → t.passing f r ≡ true) → Sure m q (λ r. V r ⊎ W r) → Sure m p (λ r. V r ⊎ W r)
-    safe_passes zero p q V W is live free safe = tt
-    safe_passes (suc n) p q V W is live free safe = λ j e.
-        subst (λ (k : Instr). Fine t f body p k (Told_of (λ r. V r ⊎ W r)) × Onward t f (Safe t f body n) p k (Told_of (λ r. V r ⊎ W r))) (same_instr (instr.Jump q) j (sym is ∙ e))
-        (passes_fine p q V W live free, safe_less t f body n q (After t f (instr.Jump q) (Told_of (λ r. V r ⊎ W r))) (Told_of (λ r. V r ⊎ W r)) (told_after (instr.Jump q) (λ r. V r ⊎ W r) (λ r. V r ⊎ W r) (jumped q (λ r. V r ⊎ W r) (λ r. V r ⊎ W r) (λ r u l. l))) (safe_sooner t f body n q (Told_of (λ r. V r ⊎ W r)) safe))
+    safe_jumps (suc n) p q P Q is live less safe = safe_loops n p q P Q is live less (safe_sooner t f body n q Q safe)
 
     -- the end of a routine
-    pub safe_returns : (m p d : ℕ) (P : ℕ → Type 0) → slice_get body p ≡ Some (instr.Return d) → Lives p P → (Told_of P d → t.results f ≡ true) → Sure m p P
+    pub safe_returns : (m p d : ℕ) (P : ℕ → Type 0) → slice_get body p ≡ Some (instr.Return d) → Lives p P → (P d → t f ≡ true) → Sure m p P
     safe_returns zero p d P is live gives = tt
     safe_returns (suc n) p d P is live gives = λ j e.
-        subst (λ (k : Instr). Fine t f body p k (Told_of P) × Onward t f (Safe t f body n) p k (Told_of P)) (same_instr (instr.Return d) j (sym is ∙ e))
+        subst (λ (k : Instr). Fine body p k P × Onward t f (Safe t f body n) p k P) (same_instr (instr.Return d) j (sym is ∙ e))
         (fine_of p (instr.Return d) P live, gives)
 
     pub safe_branches : (m p d q : ℕ) (P Q R : ℕ → Type 0) → slice_get body p ≡ Some (instr.Branch d q) → Lives p P
-        → Less t f (λ r. P r × (r ≢ d)) Q → Less t f (λ r. P r × (r ≢ d)) R → Sure m (p + 1) Q → Sure m q R → Sure m p P
+        → Within (λ r. P r × (r ≢ d)) Q → Within (λ r. P r × (r ≢ d)) R → Sure m (p + 1) Q → Sure m q R → Sure m p P
     safe_branches zero p d q P Q R is live one two safe also = tt
     safe_branches (suc n) p d q P Q R is live one two safe also = λ j e.
-        subst (λ (k : Instr). Fine t f body p k (Told_of P) × Onward t f (Safe t f body n) p k (Told_of P)) (same_instr (instr.Branch d q) j (sym is ∙ e)) (
+        subst (λ (k : Instr). Fine body p k P × Onward t f (Safe t f body n) p k P) (same_instr (instr.Branch d q) j (sym is ∙ e)) (
           fine_of p (instr.Branch d q) P live,
           (
-            safe_less t f body n (p + 1) (After t f (instr.Branch d q) (Told_of P)) (Told_of Q) (told_after (instr.Branch d q) P Q (λ r u l. one r u (held r l))) (safe_sooner t f body n (p + 1) (Told_of Q) safe),
-            safe_less t f body n q (After t f (instr.Branch d q) (Told_of P)) (Told_of R) (told_after (instr.Branch d q) P R (λ r u l. two r u (held r l))) (safe_sooner t f body n q (Told_of R) also),
+            safe_less t f body n (p + 1) (After t (instr.Branch d q) P) Q (λ r l. one r (held r l)) (safe_sooner t f body n (p + 1) Q safe),
+            safe_less t f body n q (After t (instr.Branch d q) P) R (λ r l. two r (held r l)) (safe_sooner t f body n q R also),
           ),
         )
       where
-        held : (r : ℕ) → Behind (instr.Branch d q) P r → P r × (r ≢ d)
+        held : (r : ℕ) → After t (instr.Branch d q) P r → P r × (r ≢ d)
         held r (inl g) = (g.0, g.1.0)
         held r (inr g) = absurd g
 
@@ -281,7 +229,7 @@ module _ (body : List Instr) where
 
     -- a fork: the register of its test is read where there is any code
     pub safe_fork_over : (m at next d : ℕ) (first second : List Step) (P A B Q : ℕ → Type 0) → Spans at (fork d first second) next
-        → Lives at P → (first ≡ [] → second ≡ [] → Less t f P A) → Less t f (λ r. P r × (r ≢ d)) A → Less t f (λ r. P r × (r ≢ d)) B → Lives next Q
+        → Lives at P → (first ≡ [] → second ≡ [] → Within P A) → Within (λ r. P r × (r ≢ d)) A → Within (λ r. P r × (r ≢ d)) B → Lives next Q
         → ((p q : ℕ) → Spans p first q → q + over second ≡ next → Lives q Q → Sure m q Q → Sure m p A) → ((p : ℕ) → Spans p second next → Sure m p B)
         → Sure m next Q → Sure m at P
     safe_fork_over m at next d [] [] P A B Q h live none one two lq a b safe = sure_less m at P A (none refl refl) (a at next h (let e = h.1 in omega (arith, e)) lq safe)
@@ -296,37 +244,22 @@ module _ (body : List Instr) where
         let place : q + 1 ≡ suc at + (length first + 1) = omega arith in
         let out : suc q + length (s ∷ second) ≡ next = (let e = behind.1 in omega (arith, e)) in
         let lq2 : Lives (suc q + length (s ∷ second)) Q = subst (λ (z : ℕ). Lives z Q) (sym out) lq in
-        let at_q : Lives q Q = λ r u l. live_on q (suc q + length (s ∷ second)) r (instr.Jump (suc q + length (s ∷ second))) behind.0.0 tt (inl refl) (lq2 r u l) in
+        let at_q : Lives q Q = λ r l. live_on q (suc q + length (s ∷ second)) r (instr.Jump (suc q + length (s ∷ second))) behind.0.0 tt (inl refl) (lq2 r l) in
         safe_branches m at d (suc at + (length first + 1)) P A B h.0.0 live one two
         (a (at + 1) q (front (at + 1) first (GoesOn (length (s ∷ second)) ∷ s ∷ second) next rest) (let e = behind.1 in omega (arith, e)) at_q
-        (safe_jumps m q (suc q + length (s ∷ second)) Q Q behind.0.0 lq2 (λ r u l. l) (safe_at m next (suc q + length (s ∷ second)) Q (sym out) safe)))
+        (safe_jumps m q (suc q + length (s ∷ second)) Q Q behind.0.0 lq2 (λ r l. l) (safe_at m next (suc q + length (s ∷ second)) Q (sym out) safe)))
         (b (suc at + (length first + 1)) (stand_moved body (q + 1) (suc at + (length first + 1)) (s ∷ second) place behind.0.1, let e = behind.1 in omega (arith, e)))
 
     pub safe_fork : (m at next d : ℕ) (first second : List Step) (P A B Q : ℕ → Type 0) → Spans at (fork d first second) next
-        → Lives at P → (first ≡ [] → second ≡ [] → Less t f P A) → Less t f (λ r. P r × (r ≢ d)) A → Less t f (λ r. P r × (r ≢ d)) B → Lives next Q
+        → Lives at P → (first ≡ [] → second ≡ [] → Within P A) → Within (λ r. P r × (r ≢ d)) A → Within (λ r. P r × (r ≢ d)) B → Lives next Q
         → ((p q : ℕ) → Spans p first q → Lives q Q → Sure m q Q → Sure m p A) → ((p : ℕ) → Spans p second next → Sure m p B)
         → Sure m next Q → Sure m at P
     safe_fork m at next d first second P A B Q h live none one two lq a b safe = safe_fork_over m at next d first second P A B Q h live none one two lq (λ p q sp e l s. a p q sp l s) b safe
 
-    -- a fork that leaves a value of which nothing is said while a jump is next
-    pub safe_fork_passes : (m at next d : ℕ) (first second : List Step) (P A B V W : ℕ → Type 0) → Spans at (fork d first second) next
-        → Lives at P → (first ≡ [] → second ≡ [] → Less t f P A) → Less t f (λ r. P r × (r ≢ d)) A → Less t f (λ r. P r × (r ≢ d)) B → Lives next V → ((r : ℕ) → W r → t.passing f r ≡ true)
-        → ((p q : ℕ) → Spans p first q → Lives q V → Sure m q (λ r. V r ⊎ W r) → Sure m p A) → ((p : ℕ) → Spans p second next → Sure m p B)
-        → Sure m next (λ r. V r ⊎ W r) → Sure m at P
-    safe_fork_passes m at next d [] [] P A B V W h live none one two lq free a b safe = sure_less m at P A (none refl refl) (a at next h lq safe)
-    safe_fork_passes m at next d (s ∷ first) [] P A B V W h live none one two lq free a b safe =
+    -- code where the register is true
+    pub safe_where : (m at next d : ℕ) (first : List Step) (P A B : ℕ → Type 0) → Spans at (fork d first []) next → (first ≡ [] → ⊥)
+        → Lives at P → Within (λ r. P r × (r ≢ d)) A → Within (λ r. P r × (r ≢ d)) B → ((p : ℕ) → Spans p first next → Sure m p A) → Sure m next B → Sure m at P
+    safe_where m at next d [] P A B h some live one two a safe = absurd (some refl)
+    safe_where m at next d (s ∷ first) P A B h some live one two a safe =
         let to : suc at + length (s ∷ first) ≡ next = (let e = h.1 in omega (arith, e)) in
-        safe_branches m at d (suc at + length (s ∷ first)) P A B h.0.0 live one two
-        (a (at + 1) next (h.0.1, let e = h.1 in omega (arith, e)) lq safe) (b (suc at + length (s ∷ first)) (tt, omega (arith, to)))
-    safe_fork_passes m at next d first (s ∷ second) P A B V W h live none one two lq free a b safe =
-        let rest : Spans (at + 1) (first ++ GoesOn (length (s ∷ second)) ∷ s ∷ second) next = (h.0.1, let e = h.1 in omega (arith, e)) in
-        let q = at + 1 + length first in
-        let behind = back (at + 1) first (GoesOn (length (s ∷ second)) ∷ s ∷ second) next rest in
-        let place : q + 1 ≡ suc at + (length first + 1) = omega arith in
-        let out : suc q + length (s ∷ second) ≡ next = (let e = behind.1 in omega (arith, e)) in
-        let lq2 : Lives (suc q + length (s ∷ second)) V = subst (λ (z : ℕ). Lives z V) (sym out) lq in
-        let at_q : Lives q V = λ r u l. live_on q (suc q + length (s ∷ second)) r (instr.Jump (suc q + length (s ∷ second))) behind.0.0 tt (inl refl) (lq2 r u l) in
-        safe_branches m at d (suc at + (length first + 1)) P A B h.0.0 live one two
-        (a (at + 1) q (front (at + 1) first (GoesOn (length (s ∷ second)) ∷ s ∷ second) next rest) at_q
-        (safe_passes m q (suc q + length (s ∷ second)) V W behind.0.0 at_q free (safe_at m next (suc q + length (s ∷ second)) (λ r. V r ⊎ W r) (sym out) safe)))
-        (b (suc at + (length first + 1)) (stand_moved body (q + 1) (suc at + (length first + 1)) (s ∷ second) place behind.0.1, let e = behind.1 in omega (arith, e)))
+        safe_branches m at d (suc at + length (s ∷ first)) P A B h.0.0 live one two (a (at + 1) (h.0.1, let e = h.1 in omega (arith, e))) (safe_at m next (suc at + length (s ∷ first)) B (sym to) safe)

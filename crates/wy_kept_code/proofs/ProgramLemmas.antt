@@ -1,7 +1,6 @@
 -- The code of a program keeps nothing dead.
-use Rattle.std.proofs.Common.{◌≡◌, ◌≢◌, ◌<◌, ◌≤◌, ◌⊎◌, inl, inr, ℕ, zero, suc, ◌+◌, List, [], ◌∷◌, ◌++◌, length, Bool, true, false, not, ◌&&◌, ◌||◌, nat_lt, cond, Option, Some, None, refl, sym, ap, ◌∙◌, subst, arith}
+use Rattle.std.proofs.Common.{◌≡◌, ◌≢◌, ◌<◌, ◌≤◌, ◌⊎◌, inl, inr, ℕ, zero, suc, ◌+◌, List, [], ◌∷◌, ◌++◌, length, Bool, true, false, cond, Option, Some, None, refl, sym, ap, ◌∙◌, subst, arith}
 use Rattle.std.specs.Prelude.{slice_get, is_some, max}
-use Rattle.std.proofs.lemmas.Bool.Decides.{nat_tests}
 use Rattle.wy_core.specs.CoreTree as tree
 use Rattle.wy_core.specs.CoreTree.{Expr, Param, Alias, Decl, AliasDecl, RoutineDecl, Core, aliases_of, routines_of}
 use Rattle.wy_formed.specs.Offers.{offers_of}
@@ -28,51 +27,19 @@ use Rattle.wy_simulated_statements.specs.Routines.{InOrder}
 use Rattle.wy_simulated_programs.specs.Programs.{AllInOrder}
 use Rattle.wy_kept_registers.specs.Keeping.{IsNone}
 use Rattle.wy_kept_code.specs.Alive.{LiveAt}
-use Rattle.wy_kept_code.specs.Safe.{Told, Safe, SafeCode}
-use Rattle.wy_kept_code.specs.Telling.{Tells}
+use Rattle.wy_kept_code.specs.Safe.{Gives, Safe, SafeCode}
 use Rattle.wy_kept_code.specs.Fitting.{Fits, FitsStmts}
-use Rattle.wy_kept_code.specs.Dead.{CountsStmts, IsDeclared, OwnCounters, variables_in, result_at, told_of, Asked, NothingDeadIsKept, NoDeadVariableIsKept}
-use Rattle.wy_kept_code.proofs.SafeLemmas.{safe_less}
+use Rattle.wy_kept_code.specs.Dead.{CountsStmts, IsDeclared, OwnCounters, result_at, gives_of, Asked, NothingDeadIsKept}
 use Rattle.wy_kept_code.proofs.RunLemmas.{safe_runs}
-use Rattle.wy_kept_code.proofs.PieceLemmas.{either, less_not, Spans, front, back, tail, ended, live_reads, live_second, Lives, Told_of, Sure, sure_less, safe_step, safe_returns, safe_at, lives_at}
-use Rattle.wy_kept_code.proofs.SetLemmas.{not_both, Vars, before_of, with_cases, with_of, none_has}
+use Rattle.wy_kept_code.proofs.PieceLemmas.{either, less_not, Spans, front, back, tail, ended, live_reads, live_second, Lives, Sure, sure_less, safe_step, safe_returns, safe_at, lives_at}
+use Rattle.wy_kept_code.proofs.SetLemmas.{Vars, before_of, with_cases, with_of, none_has}
 use Rattle.wy_kept_code.proofs.TestLemmas.{at_end, With, live_less, sure_less_one, asked_lives, one_safe, dropped_safe, test_live, test_safe}
 use Rattle.wy_kept_code.proofs.ReadLemmas.{Low}
 use Rattle.wy_kept_code.proofs.OperandLemmas.{ready_less, clear_sure}
 use Rattle.wy_kept_code.proofs.StatementLemmas.{gives_null_sure, value_safe, stmts_safe}
 use Rattle.wy_kept_code.proofs.FitLemmas.{fits_expr, fits_stmts, declares_all_low, params_low, params_scope}
 
--- ---- what is said of which registers
-
-less_true : (a b : ℕ) → nat_lt a b ≡ true → a < b
-less_true a b h = first_of (grind (arith, nat_tests), search arith)
-
-not_less : (r n : ℕ) → n ≤ r → nat_lt r n ≡ false
-not_less r n h = by (nat_lt r n) refl
-  where
-    by : (b : Bool) → nat_lt r n ≡ b → nat_lt r n ≡ false
-    by true e = absurd (let l = less_true r n e in omega (arith, l, h))
-    by false e = e
-
-and_first : (a b : Bool) → (a && b) ≡ true → a ≡ true
-and_first true b e = refl
-and_first false b e = e
-
-and_yes : (a b : Bool) → a ≡ true → b ≡ true → (a && b) ≡ true
-and_yes true b e g = g
-and_yes false b e g = e
-
-or_first : (a b : Bool) → a ≡ true → (a || b) ≡ true
-or_first true b e = refl
-or_first false b e = absurd (let z : false ≡ true = e in cc)
-
-or_second : (a b : Bool) → b ≡ true → (a || b) ≡ true
-or_second true b e = refl
-or_second false b e = e
-
-or_left : (a b : Bool) → (a || b) ≡ true → b ≡ false → a ≡ true
-or_left true b e g = refl
-or_left false b e g = absurd (let z : true ≡ false = sym e ∙ g in cc)
+-- ---- what routines give
 
 not_declared : (g : ℕ) → target [] g ≡ Declared false → ⊥
 not_declared zero e = cc
@@ -87,38 +54,16 @@ no_result (b ∷ bs) zero e = declared_same b false e
     declared_same a d e = cc
 no_result (b ∷ bs) (suc g) e = no_result bs g e
 
-module _ (core : Core ℕ) (loose : Bool) where
+module _ (core : Core ℕ) where
   abbrev c : Context
   c = context_of core
 
-  abbrev L : Type 0
-  L = loose ≡ true
+  abbrev t : Gives
+  t = gives_of core
 
-  abbrev t : Told
-  t = told_of core loose
-
-  abbrev size_at : ℕ → ℕ
-  size_at f = variables_in (routines_of core) (aliases_of core) f
-
-  untold_all : (f r : ℕ) → L → size_at f ≤ r → t.untold f r ≡ true
-  untold_all f r l h = and_yes loose (not (nat_lt r (size_at f))) l (ap (λ (b : Bool). not b) (not_less r (size_at f) h))
-
-  untold_loose : (f r : ℕ) → t.untold f r ≡ true → L
-  untold_loose f r u = and_first loose (not (nat_lt r (size_at f))) u
-
-  tells_of : (f : ℕ) → Tells t f c (size_at f) L
-  tells_of f = record {
-    even = (λ r q nr nq u. untold_all f q (untold_loose f r u) nq);
-    loose = (λ l r nr. untold_all f r l nr);
-    passes = (λ r nr. ap (λ (b : Bool). not b) (not_less r (size_at f) nr));
-    nothing = (λ g r nr is h. untold_all f r (or_left loose (result_at c.results g) h (no_result c.results g is)) nr);
-  }
-
-  tells_at : (f n : ℕ) → size_at f ≡ n → Tells t f c n L
-  tells_at f n e = subst (λ (z : ℕ). Tells t f c z L) e (tells_of f)
-
-  any_gives : (f r : ℕ) → t.untold f r ≡ true → t.results f ≡ true
-  any_gives f r u = or_first loose (result_at c.results f) (untold_loose f r u)
+  -- a method without a result gives null
+  nothing_given : (g : ℕ) → target c.results g ≡ Declared false → t g ≡ true → ⊥
+  nothing_given g is h = absurd (let z : true ≡ false = sym h ∙ no_result c.results g is in cc)
 
   -- ---- functions and methods
 
@@ -137,20 +82,18 @@ module _ (core : Core ℕ) (loose : Bool) where
       by true e g rest = either (λ same. subst (λ (z : ℕ). has s z ≡ true) (order.0 ∙ sym same) e) (λ more. rest more g) (first_or_more k x low)
       by false e g rest = either (λ same. absurd (g.0 (same ∙ sym order.0))) (λ more. rest more g.1) (first_or_more k x low)
 
-  body_safe : (f : ℕ) (r : tree.Routine ℕ) → size_at f ≡ length r.variables → result_at c.results f ≡ is_some r.result → BoundRoutine (offers_of core) r → InOrder 0 r.params → ((x : ℕ) → CountsStmts r.body x → IsDeclared r x → ⊥)
+  body_safe : (f : ℕ) (r : tree.Routine ℕ) → result_at c.results f ≡ is_some r.result → BoundRoutine (offers_of core) r → InOrder 0 r.params → ((x : ℕ) → CountsStmts r.body x → IsDeclared r x → ⊥)
       → (m : ℕ) → Safe t f (body_routine c r).body m 0 (λ x. x < length r.params)
-  body_safe f r e given bound order own m =
+  body_safe f r given bound order own m =
       let n = length r.variables in
       let all = body_steps c r in
       let body = placed 0 all in
       let U : ℕ → Type 0 = IsDeclared r in
-      let R : Type 0 = t.results f ≡ true in
-      let low : Low body c n L U = λ x u. either (λ k. params_low (offers_of core) n r.params [] bound.params x k) (λ k. declares_all_low (offers_of core) n r.body (record { in_loop = false; has_result = is_some r.result }) (with_params [] r.params) bound.body x k) u in
-      let gives : is_some r.result ≡ true → R = λ g. or_second loose (result_at c.results f) (given ∙ g) in
-      let fit : FitsStmts c n L R r.body U = fits_stmts core (offers_of core) refl c refl n L U R r.body (record { in_loop = false; has_result = is_some r.result }) (with_params [] r.params)
+      let R : Type 0 = t f ≡ true in
+      let low : Low body c n U = λ x u. either (λ k. params_low (offers_of core) n r.params [] bound.params x k) (λ k. declares_all_low (offers_of core) n r.body (record { in_loop = false; has_result = is_some r.result }) (with_params [] r.params) bound.body x k) u in
+      let gives : is_some r.result ≡ true → R = λ g. given ∙ g in
+      let fit : FitsStmts c n R r.body U = fits_stmts core (offers_of core) refl c refl n U R r.body (record { in_loop = false; has_result = is_some r.result }) (with_params [] r.params)
       (λ x h. either (λ k. inl k) (λ k. absurd k) (params_scope r.params [] x h)) (λ x k. inr k) gives bound.body own in
-      let tells = tells_at f n e in
-      let free : (x : ℕ) → n ≤ x → t.untold f x ≡ true → R = λ x h u. any_gives f x u in
       let s = live_all r.body [] nothing in
       let un = unused_params s r.params in
       let two = stmts_code c r.body [] nothing n 0 0 in
@@ -161,35 +104,34 @@ module _ (core : Core ℕ) (loose : Bool) where
       let p2 = p1 + length two in
       let behind = back body 0 (clear un) rest next whole in
       let last = back body p1 two (gives_null n) next behind in
-      let nothing_live : Lives body t f p2 (Vars []) = λ x u v. none_has x v in
-      let null = gives_null_sure body c n L R U low t f tells (λ g. g) free m p2 next last in
-      let null0 : Lives body t f (p2 + 0) (Vars []) × Sure body t f m (p2 + 0) (Vars []) = ((λ x u v. none_has x v), safe_at body t f m p2 (p2 + 0) (Vars []) (omega arith) null) in
-      let at1 = stmts_safe body c n L R U low t f tells (λ g. g) free r.body fit m [] nothing 0 0 p1 p2 (λ x v. none_has x v) (λ x v. none_has x v) (λ x v. none_has x v) (front body p1 two (gives_null n) next behind) (nothing_live, null) null0 null0 in
-      let at0 = clear_sure body c n L t f tells m 0 p1 un (λ x. x < length r.params) (Vars s) (front body 0 (clear un) rest next whole) (λ x l none. params_kept s r.params 0 order x (omega arith) (omega (arith, l)) none) at1 in
-      safe_less t f body m 0 (λ x. x < length r.params) (Told_of body t f (λ x. x < length r.params)) (λ x l. inl l) at0
+      let nothing_live : Lives body t f p2 (Vars []) = λ x v. none_has x v in
+      let null = gives_null_sure body c n R U low t f nothing_given (λ g. g) m p2 next last in
+      let null0 : Lives body t f (p2 + 0) (Vars []) × Sure body t f m (p2 + 0) (Vars []) = ((λ x v. none_has x v), safe_at body t f m p2 (p2 + 0) (Vars []) (omega arith) null) in
+      let at1 = stmts_safe body c n R U low t f nothing_given (λ g. g) r.body fit m [] nothing 0 0 p1 p2 (λ x v. none_has x v) (λ x v. none_has x v) (λ x v. none_has x v) (front body p1 two (gives_null n) next behind) (nothing_live, null) null0 null0 in
+      clear_sure body c n t f m 0 p1 un (λ x. x < length r.params) (Vars s) (front body 0 (clear un) rest next whole) (λ x l none. params_kept s r.params 0 order x (omega arith) (omega (arith, l)) none) at1
 
   -- ---- tests of types
 
   -- clauses that speak of one variable
   abbrev ClauseFits : ℕ → ℕ → List (Expr ℕ) → Type 0
   ClauseFits n x [] = Unit {0}
-  ClauseFits n x (e ∷ es) = Fits c n L e (λ r. r ≡ x) × ClauseFits n x es
+  ClauseFits n x (e ∷ es) = Fits c n e (λ r. r ≡ x) × ClauseFits n x es
 
-  module _ (f n x : ℕ) (tells : Tells t f c n L) (xn : x < n) (body : List Instr) where
+  module _ (f n x : ℕ) (xn : x < n) (body : List Instr) where
     abbrev U : ℕ → Type 0
     U r = r ≡ x
 
     abbrev s : Variables
     s = with [] x
 
-    low : Low body c n L U
+    low : Low body c n U
     low r e = omega (arith, e, xn)
 
     is_x : (r : ℕ) → Vars s r → r ≡ x
     is_x r v = either (λ e. e) (λ k. none_has r k) (with_cases [] x r v)
 
     abbrev R : Type 0
-    R = t.results f ≡ true
+    R = t f ≡ true
 
     abbrev Comes : ℕ → ℕ → Type 0
     Comes m p = Lives body t f p (Vars s) × Sure body t f m p (Vars s)
@@ -207,21 +149,21 @@ module _ (core : Core ℕ) (loose : Bool) where
         let more = clauses_steps c es s n in
         let one = code c e s n in let mid = p + length one in
         let rest = back body p one (fork n more []) next h in
-        let live_s : Lives body t f mid (Vars s) = λ r u v. live_second body mid next n more [] r rest (λ q sp. at_end body q next r sp (live r u (inl v))) in
+        let live_s : Lives body t f mid (Vars s) = λ r v. live_second body mid next n more [] r rest (λ q sp. at_end body q next r sp (live r (inl v))) in
         let live_mid : Lives body t f mid Answered = asked_lives body c t f mid next n more [] (Vars s) rest live_s live in
         let safe_mid : Sure body t f m mid Answered = one_safe body c t f more m mid next n (Vars s) rest live_mid live safe (λ q z sp lq sq. (clauses_ready es fit.1 m q z sp lq sq).1) in
-        let at_p = value_safe body c n L R U low t f tells (λ g. g) (λ r h2 u. any_gives f r u) e fit.0 m s p mid (λ r v. is_x r v) (front body p one (fork n more []) next h)
-        (live_s, sure_less body t f m mid (λ r. Vars s r ⊎ ((r ≡ n) × (is_plain e ≡ false))) Answered (λ r u l. either (λ v. inl v) (λ z. inr z.0) l) safe_mid, (λ r u z. not_both (is_plain e) z.1.1 z.1.0)) in
-        ready_less body c n L t f tells m p (Vars s) (Vars (before e s)) (λ r v. before_of e s r (inr v)) at_p
+        let at_p = value_safe body c n R U low t f nothing_given (λ g. g) e fit.0 m s p mid (λ r v. is_x r v) (front body p one (fork n more []) next h)
+        (live_s, sure_less body t f m mid (λ r. Vars s r ⊎ ((r ≡ n) × (is_plain e ≡ false))) Answered (λ r l. either (λ v. inl v) (λ z. inr z.0) l) safe_mid) in
+        ready_less body c n t f m p (Vars s) (Vars (before e s)) (λ r v. before_of e s r (inr v)) at_p
 
     -- the argument comes into the variable
     taken_sure : (y m next : ℕ) → y ≡ x → Spans body 0 (taken y) next → Comes m next → Sure body t f m 0 (λ r. r < 1)
-    taken_sure zero m next same h exit = safe_at body t f m next 0 (λ r. r < 1) (sym (ended body 0 next h)) (sure_less body t f m next (λ r. r < 1) (Vars s) (λ r u l. with_of [] x r (inl (omega (arith, l, same)))) exit.1)
+    taken_sure zero m next same h exit = safe_at body t f m next 0 (λ r. r < 1) (sym (ended body 0 next h)) (sure_less body t f m next (λ r. r < 1) (Vars s) (λ r l. with_of [] x r (inl (omega (arith, l, same)))) exit.1)
     taken_sure (suc y) m next same h exit =
         let i : Instr = instr.Move (suc y) 0 in
         let e : next ≡ 0 + 1 = (let z = h.1 in omega (arith, z)) in
-        safe_step body t f m 0 i (λ r. r < 1) (Vars s) h.0.0 (λ r u l. live_reads body 0 r i h.0.0 (inl (omega (arith, l)))) (λ k w. w)
-        (λ r u l. either (λ z. absurd (z.1.1.0 (let w = z.0 in omega (arith, w)))) (λ z. with_of [] x r (inl (z.0 ∙ same))) l) (safe_at body t f m next (0 + 1) (Vars s) e exit.1)
+        safe_step body t f m 0 i (λ r. r < 1) (Vars s) h.0.0 (λ r l. live_reads body 0 r i h.0.0 (inl (omega (arith, l)))) (λ k w. w)
+        (λ r l. either (λ z. absurd (z.1.1.0 (let w = z.0 in omega (arith, w)))) (λ z. with_of [] x r (inl (z.0 ∙ same))) l) (safe_at body t f m next (0 + 1) (Vars s) e exit.1)
 
     type_body_safe : (a : Alias ℕ) → FitsClauses a.clauses → R → (next m : ℕ) → Spans body 0 (type_steps_at c a x n) next → Sure body t f m 0 (λ r. r < 1)
     type_body_safe a fit gives next m h =
@@ -238,27 +180,27 @@ module _ (core : Core ℕ) (loose : Bool) where
         let h4 = tail body p3 (instr.Move (suc n) x) (Does (instr.Clear (suc n ∷ [])) ∷ Does returns ∷ []) next h3 in
         let h5 = tail body (p3 + 1) (instr.Clear (suc n ∷ [])) (Does returns ∷ []) next h4 in
         let said : ℕ → Type 0 = λ r. r ≡ n in
-        let at_return : Sure body t f m (p3 + 1 + 1) said = safe_returns body t f m (p3 + 1 + 1) n said h5.0.0 (λ r u l. live_reads body (p3 + 1 + 1) r returns h5.0.0 (inl l)) (λ l. gives) in
-        let facts = dropped_safe body c t f m p3 next x (suc n) (Does returns ∷ []) said h3 (λ r z. ((λ g. absurd (omega (arith, z, g, xn))), (λ g. absurd (omega (arith, z, g))))) (λ r u l. live_reads body (p3 + 1 + 1) r returns h5.0.0 (inl l)) at_return in
+        let at_return : Sure body t f m (p3 + 1 + 1) said = safe_returns body t f m (p3 + 1 + 1) n said h5.0.0 (λ r l. live_reads body (p3 + 1 + 1) r returns h5.0.0 (inl l)) (λ l. gives) in
+        let facts = dropped_safe body c t f m p3 next x (suc n) (Does returns ∷ []) said h3 (λ r z. ((λ g. absurd (omega (arith, z, g, xn))), (λ g. absurd (omega (arith, z, g))))) (λ r l. live_reads body (p3 + 1 + 1) r returns h5.0.0 (inl l)) at_return in
         let into : (r : ℕ) → Answered r → With said x r = λ r l. either (λ v. inr (is_x r v)) (λ z. inl z) l in
-        let live3 : Lives body t f p3 Answered = λ r u l. facts.1 r u (into r l) in
-        let safe3 : Sure body t f m p3 Answered = sure_less body t f m p3 Answered (With said x) (λ r u l. into r l) facts.0 in
+        let live3 : Lives body t f p3 Answered = λ r l. facts.1 r (into r l) in
+        let safe3 : Sure body t f m p3 Answered = sure_less body t f m p3 Answered (With said x) (λ r l. into r l) facts.0 in
         let span3 = front body p2 (fork n clauses []) end next h2 in
-        let live2 : Lives body t f p2 Answered = asked_lives body c t f p2 p3 n clauses [] (Vars s) span3 (λ r u v. live_second body p2 p3 n clauses [] r span3 (λ q sp. at_end body q p3 r sp (live3 r u (inl v)))) live3 in
+        let live2 : Lives body t f p2 Answered = asked_lives body c t f p2 p3 n clauses [] (Vars s) span3 (λ r v. live_second body p2 p3 n clauses [] r span3 (λ q sp. at_end body q p3 r sp (live3 r (inl v)))) live3 in
         let at2 : Sure body t f m p2 Answered = one_safe body c t f clauses m p2 p3 n (Vars s) span3 live2 live3 safe3 (λ q z sp lq sq. (clauses_ready a.clauses fit m q z sp lq sq).1) in
         let un : (r : ℕ) → Vars s r → (r < suc n) × (r ≢ n) = λ r v. let e = is_x r v in (omega (arith, e, xn), less_not r n (omega (arith, e, xn))) in
         let span1 = front body p1 tests three next h1 in
         let at1 : Sure body t f m p1 (Vars s) = test_safe body c t f a.ty m p1 p2 x n (suc n) (Vars s) span1 un (omega arith) live2 at2 in
-        taken_sure x m p1 refl (front body 0 (taken x) two next h) ((λ r u v. test_lives r u v (live_less body c t f p2 n (Vars s) live2)), at1)
+        taken_sure x m p1 refl (front body 0 (taken x) two next h) ((λ r v. test_lives r v (live_less body c t f p2 n (Vars s) live2)), at1)
       where
-        test_lives : (r : ℕ) → t.untold f r ≡ false → Vars s r → Lives body t f (0 + length (taken x) + length (test c a.ty x n (suc n))) (Vars s) → LiveAt body (0 + length (taken x)) r
-        test_lives r u v l = test_live body c a.ty x n (suc n) (0 + length (taken x)) (0 + length (taken x) + length (test c a.ty x n (suc n))) r (front body (0 + length (taken x)) (test c a.ty x n (suc n)) (fork n (clauses_steps c a.clauses s n) [] ++ (dropped x (suc n) ++ Does (instr.Return n) ∷ [])) next
-            (back body 0 (taken x) (test c a.ty x n (suc n) ++ (fork n (clauses_steps c a.clauses s n) [] ++ (dropped x (suc n) ++ Does (instr.Return n) ∷ []))) next h)) (let e = is_x r v in omega (arith, e, xn)) (less_not r n (let e = is_x r v in omega (arith, e, xn))) (l r u v)
+        test_lives : (r : ℕ) → Vars s r → Lives body t f (0 + length (taken x) + length (test c a.ty x n (suc n))) (Vars s) → LiveAt body (0 + length (taken x)) r
+        test_lives r v l = test_live body c a.ty x n (suc n) (0 + length (taken x)) (0 + length (taken x) + length (test c a.ty x n (suc n))) r (front body (0 + length (taken x)) (test c a.ty x n (suc n)) (fork n (clauses_steps c a.clauses s n) [] ++ (dropped x (suc n) ++ Does (instr.Return n) ∷ [])) next
+            (back body 0 (taken x) (test c a.ty x n (suc n) ++ (fork n (clauses_steps c a.clauses s n) [] ++ (dropped x (suc n) ++ Does (instr.Return n) ∷ []))) next h)) (let e = is_x r v in omega (arith, e, xn)) (less_not r n (let e = is_x r v in omega (arith, e, xn))) (l r v)
 
   fits_clauses : (n x : ℕ) (es : List (Expr ℕ)) → BoundClauses (offers_of core) n (x ∷ []) es → ClauseFits n x es
   fits_clauses n x [] b = tt
   fits_clauses n x (e ∷ es) b =
-      (fits_expr core (offers_of core) refl c refl n L (λ r. ⊥) e (x ∷ []) (λ r. r ≡ x) ((λ r h. either (λ k. sym k) (λ k. absurd k) h), (λ r w. inr (inl (sym w)))) b.0 (λ y k z. z), fits_clauses n x es b.1)
+      (fits_expr core (offers_of core) refl c refl n (λ r. ⊥) e (x ∷ []) (λ r. r ≡ x) ((λ r h. either (λ k. sym k) (λ k. absurd k) h), (λ r w. inr (inl (sym w)))) b.0 (λ y k z. z), fits_clauses n x es b.1)
 
   -- the variable of a type has a register, and its clauses fit
   variable_fits : (v : Option ℕ) (k : ℕ) (es : List (Expr ℕ)) → IsNewOption k [] v → BoundClauses (offers_of core) k (with_option [] v) es → NamesIts v es → (variable_of v < max 1 k) × ClauseFits (max 1 k) (variable_of v) es
@@ -268,14 +210,13 @@ module _ (core : Core ℕ) (loose : Bool) where
       let same : k ≡ max 1 k = omega (arith, l) in
       (omega (arith, l), subst (λ (z : ℕ). ClauseFits z x es) same (fits_clauses k x es b))
 
-  type_safe : (f : ℕ) (a : Alias ℕ) → size_at f ≡ max 1 (length a.variables) → BoundAlias (offers_of core) a → NamesIts a.variable a.clauses → t.results f ≡ true → (m : ℕ) → Safe t f (type_routine c a).body m 0 (λ x. x < 1)
-  type_safe f a e bound names gives m =
+  type_safe : (f : ℕ) (a : Alias ℕ) → BoundAlias (offers_of core) a → NamesIts a.variable a.clauses → t f ≡ true → (m : ℕ) → Safe t f (type_routine c a).body m 0 (λ x. x < 1)
+  type_safe f a bound names gives m =
       let x = variable_of a.variable in let n = max 1 (length a.variables) in
       let all = type_steps_at c a x n in
       let body = placed 0 all in
       let fits = variable_fits a.variable (length a.variables) a.clauses bound.variable bound.clauses names in
-      safe_less t f body m 0 (λ r. r < 1) (Told_of body t f (λ r. r < 1)) (λ r l. inl l)
-      (type_body_safe f n x (tells_at f n e) fits.0 body a fits.1 gives (0 + length all) m (placed_stand all, refl))
+      type_body_safe f n x fits.0 body a fits.1 gives (0 + length all) m (placed_stand all, refl)
 
   -- ---- all of them
 
@@ -307,14 +248,12 @@ module _ (core : Core ℕ) (loose : Bool) where
   record IsBody (rs : List (tree.Routine ℕ)) (more : List (Alias ℕ)) (f : ℕ) (q : Routine) : Type 0 where
     pub routine : tree.Routine ℕ
     pub same : body_routine c routine ≡ q
-    pub size : variables_in rs more f ≡ length routine.variables
     pub result : result_at (results_of rs) f ≡ is_some routine.result
     pub fits : RoutineFits routine
 
   record IsTest (rs : List (tree.Routine ℕ)) (more : List (Alias ℕ)) (f : ℕ) (q : Routine) : Type 0 where
     pub alias : Alias ℕ
     pub same : type_routine c alias ≡ q
-    pub size : variables_in rs more f ≡ max 1 (length alias.variables)
     pub result : result_at (results_of rs) f ≡ true
     pub fits : TypeFits alias
 
@@ -326,27 +265,24 @@ module _ (core : Core ℕ) (loose : Bool) where
 
   test_at : (more : List (Alias ℕ)) (f : ℕ) (q : Routine) → AllTypes more → slice_get (type_routines c more) f ≡ Some q → IsTest [] more f q
   test_at [] f q fits e = no_routine q e
-  test_at (a ∷ more) zero q fits e = record { alias = a; same = this_routine (type_routine c a) q e; size = refl; result = refl; fits = fits.0 }
-  test_at (a ∷ more) (suc f) q fits e = let k = test_at more f q fits.1 e in record { alias = k.alias; same = k.same; size = k.size; result = refl; fits = k.fits }
+  test_at (a ∷ more) zero q fits e = record { alias = a; same = this_routine (type_routine c a) q e; result = refl; fits = fits.0 }
+  test_at (a ∷ more) (suc f) q fits e = let k = test_at more f q fits.1 e in record { alias = k.alias; same = k.same; result = refl; fits = k.fits }
 
   routine_at : (rs : List (tree.Routine ℕ)) (more : List (Alias ℕ)) (f : ℕ) (q : Routine) → AllRoutines rs → AllTypes more → slice_get (body_routines c rs ++ type_routines c more) f ≡ Some q → IsBody rs more f q ⊎ IsTest rs more f q
   routine_at [] more f q one two e = inr (test_at more f q two e)
-  routine_at (r ∷ rs) more zero q one two e = inl (record { routine = r; same = this_routine (body_routine c r) q e; size = refl; result = refl; fits = one.0 })
+  routine_at (r ∷ rs) more zero q one two e = inl (record { routine = r; same = this_routine (body_routine c r) q e; result = refl; fits = one.0 })
   routine_at (r ∷ rs) more (suc f) q one two e =
-      either (λ k. inl (record { routine = k.routine; same = k.same; size = k.size; result = k.result; fits = k.fits })) (λ k. inr (record { alias = k.alias; same = k.same; size = k.size; result = k.result; fits = k.fits })) (routine_at rs more f q one.1 two e)
+      either (λ k. inl (record { routine = k.routine; same = k.same; result = k.result; fits = k.fits })) (λ k. inr (record { alias = k.alias; same = k.same; result = k.result; fits = k.fits })) (routine_at rs more f q one.1 two e)
 
   pub program_safe : Asked core → SafeCode t (code_of core)
   program_safe asked f q is m =
       either
-      (λ k. let fits = k.fits in subst (λ (z : Routine). Safe t f z.body m 0 (λ x. x < z.params)) k.same (body_safe f k.routine k.size k.result fits.0 fits.1 fits.2 m))
-      (λ k. let fits = k.fits in subst (λ (z : Routine). Safe t f z.body m 0 (λ x. x < z.params)) k.same (type_safe f k.alias k.size fits.0 fits.1 (or_second loose (result_at c.results f) k.result) m))
+      (λ k. let fits = k.fits in subst (λ (z : Routine). Safe t f z.body m 0 (λ x. x < z.params)) k.same (body_safe f k.routine k.result fits.0 fits.1 fits.2 m))
+      (λ k. let fits = k.fits in subst (λ (z : Routine). Safe t f z.body m 0 (λ x. x < z.params)) k.same (type_safe f k.alias fits.0 fits.1 k.result m))
       (routine_at (routines_of core) (aliases_of core) f q
       (all_routines core asked.formed.bound asked.order asked.counters) (all_types core asked.formed.bound asked.names) is)
 
--- ---- the laws
-
-pub no_dead_variable : NoDeadVariableIsKept
-no_dead_variable core asked f vs n = safe_runs (told_of core true) (code_of core) (program_safe core true asked) f vs n
+-- ---- the law
 
 pub nothing_dead : NothingDeadIsKept
-nothing_dead core asked f vs n = safe_runs (told_of core false) (code_of core) (program_safe core false asked) f vs n
+nothing_dead core asked f vs n = safe_runs (gives_of core) (code_of core) (program_safe core asked) f vs n

@@ -20,14 +20,14 @@ use Rattle.wy_live.specs.Walks.{before, before_all, before_fields, turned}
 use Rattle.wy_kept_code.proofs.LiveLemmas.{or_cases, and_not}
 use Rattle.wy_pieces.specs.declared.steps.Step.{Step}
 use Rattle.wy_pieces.specs.declared.steps.Step.TheVariants.{Does, GoesOn}
-use Rattle.wy_pieces.specs.Steps.{clear, registers_from}
+use Rattle.wy_pieces.specs.Steps.{clear, fork, registers_from}
 use Rattle.wy_compiled.specs.TypeTests.{test}
 use Rattle.wy_compiled.specs.Expressions.{lost, released, is_plain, operator, operate, right_register, call, count_of, field_count, is_test, negated, list, record_of, turn_end, said, ends, number_turns, quantify, code, codes, field_codes}
 use Rattle.wy_kept_registers.specs.Keeping.{IsNone}
 use Rattle.wy_kept_code.specs.Alive.{IsOne, changes, nexts, LiveAt}
 use Rattle.wy_kept_code.specs.Fitting.{IsValue, Fits, FitAll, FitFields}
 use Rattle.wy_kept_code.proofs.PieceLemmas.{either, less_not, From, none_below, Spans, front, back, tail, live_reads, live_on, live_last, live_first, live_second, Turning, turning}
-use Rattle.wy_kept_code.proofs.SetLemmas.{never, not_both, same_of, same_to, other_of, Vars, before_of, all_of, fields_of, turned_cases, turned_of, not_lost}
+use Rattle.wy_kept_code.proofs.SetLemmas.{never, not_both, true_or_not, same_of, same_to, other_of, Vars, before_cases, before_of, all_of, fields_of, turned_cases, turned_of, not_lost}
 use Rattle.wy_kept_code.proofs.TestLemmas.{at_end, test_live}
 
 pub from_registers : (d r n : ℕ) → d ≤ r → From d (registers_from r n)
@@ -43,7 +43,7 @@ module _ (body : List Instr) where
   clear_live [] p next q h none l = at_end body p next q h l
   clear_live (r ∷ rs) p next q h none l = live_last body p next q (instr.Clear (r ∷ rs)) h none (inl refl) l
 
-  module _ (c : Context) (n : ℕ) (L : Type 0) where
+  module _ (c : Context) (n : ℕ) where
     -- the variables in use have registers below n
     abbrev pub Low : (ℕ → Type 0) → Type 0
     Low U = (x : ℕ) → U x → x < n
@@ -57,7 +57,7 @@ module _ (body : List Instr) where
 
     mutual
       -- what an expression uses is in use
-      pub occurs_used : (e : Expr ℕ) (U : ℕ → Type 0) → Fits c n L e U → (r : ℕ) → occurs e r ≡ true → U r
+      pub occurs_used : (e : Expr ℕ) (U : ℕ → Type 0) → Fits c n e U → (r : ℕ) → occurs e r ≡ true → U r
       occurs_used (NullExpr at) U fit r h = never h
       occurs_used (BoolExpr at truth) U fit r h = never h
       occurs_used (IntExpr at number) U fit r h = never h
@@ -81,11 +81,11 @@ module _ (body : List Instr) where
           not_same : (r x : ℕ) → (r == x) ≡ false → r ≡ x → ⊥
           not_same r x e same = not_both (r == x) (same_to r x same) e
 
-      pub all_used : (es : Exprs ℕ) (U : ℕ → Type 0) → FitAll c n L es U → (r : ℕ) → any_occurs es r ≡ true → U r
+      pub all_used : (es : Exprs ℕ) (U : ℕ → Type 0) → FitAll c n es U → (r : ℕ) → any_occurs es r ≡ true → U r
       all_used NoExprs U fit r h = never h
       all_used (MoreExprs e es) U fit r h = or_else (occurs e r) (any_occurs es r) (λ k. occurs_used e U fit.0 r k) (λ k. all_used es U fit.1 r k) h
 
-      pub fields_used : (fs : Fields ℕ) (U : ℕ → Type 0) → FitFields c n L fs U → (r : ℕ) → any_field_occurs fs r ≡ true → U r
+      pub fields_used : (fs : Fields ℕ) (U : ℕ → Type 0) → FitFields c n fs U → (r : ℕ) → any_field_occurs fs r ≡ true → U r
       fields_used NoFields U fit r h = never h
       fields_used (MoreFields name e fs) U fit r h = or_else (occurs e r) (any_field_occurs fs r) (λ k. occurs_used e U fit.0 r k) (λ k. fields_used fs U fit.1 r k) h
 
@@ -196,7 +196,7 @@ module _ (body : List Instr) where
         live_on body p (p + 1) r (instr.Compare (suc (suc d)) comparison.Less d (suc d)) (quantifier all x d inner rs p next h).tests.0.0 (less_not r (suc (suc d)) (omega (arith, low)), tt) (inl refl) (branch_live all x d inner rs p next r h low way)
 
     -- what isn't lost
-    pub kept_lost : (x : ℕ) (inner : Expr ℕ) (U : ℕ → Type 0) (s : Variables) (r : ℕ) → Low U → x < n → Fits c n L inner (λ y. U y ⊎ (y ≡ x)) → Keeps s r → IsNone r (lost (turned x inner s) s)
+    pub kept_lost : (x : ℕ) (inner : Expr ℕ) (U : ℕ → Type 0) (s : Variables) (r : ℕ) → Low U → x < n → Fits c n inner (λ y. U y ⊎ (y ≡ x)) → Keeps s r → IsNone r (lost (turned x inner s) s)
     kept_lost x inner U s r low xl fit k = not_lost (turned x inner s) s r (λ h g.
         either (λ v. not_both (has s r) v g)
         (λ above. either (λ z. let l = low_more U x low xl r (occurs_used inner (λ y. U y ⊎ (y ≡ x)) fit r z.1) in absurd (omega (arith, l, above))) (λ v. not_both (has s r) v g) (turned_cases x inner s r h)) k)
@@ -246,6 +246,14 @@ module _ (body : List Instr) where
         is s (suc d) mid last r (omega (arith, nd)) (front body mid (code c b s (suc d)) (operator o d (is_plain b)) next h) (omega (arith, low))
         (goes_on (occurs b r) s last next r (λ l. operator_live o d (is_plain b) last next r (back body mid (code c b s (suc d)) (operator o d (is_plain b)) next h) low l) way)
 
+    -- what is live behind `&&` and isn't used by its right operand isn't released in between
+    unused_kept : (b : Expr ℕ) (s : Variables) (r : ℕ) → occurs b r ≡ false → IsNone r (lost (before b s) s)
+    unused_kept b s r unused = not_lost (before b s) s r (λ v e. either (λ o. not_both (occurs b r) o unused) (λ k. not_both (has s r) k e) (before_cases b s r v))
+
+    behind_and : (b : Expr ℕ) (s : Variables) (q next r : ℕ) → Spans body q (released (before b s) s) next → Goes (occurs b r) s next r → Goes (occurs b r) s q r
+    behind_and b s q next r h (inl u) = inl u
+    behind_and b s q next r h (inr k) = either (λ u. inl u) (λ unused. inr (k.0, clear_live (lost (before b s) s) q next r h (unused_kept b s r unused) k.1)) (true_or_not (occurs b r))
+
     -- the right operand and the operator
     pub right_live : (o : Op) (b : Expr ℕ) → Lively b → (s : Variables) (d mid next r : ℕ) → n ≤ d
         → Spans body mid (operate o d (code c b s (right_register o d)) (released (before b s) s) (is_plain b)) next → r < d → Goes (occurs b r) s next r → LiveAt body mid r
@@ -260,13 +268,15 @@ module _ (body : List Instr) where
     right_live op.Greater b is s d mid next r nd h low way = strict_live op.Greater b is s d mid next r nd h low way
     right_live op.GreaterEqual b is s d mid next r nd h low way = strict_live op.GreaterEqual b is s d mid next r nd h low way
     right_live op.And b is s d mid next r nd h low way =
-        live_first body mid next d (code c b s d) (released (before b s) s) r h (λ p q sp f. is s d p q r nd sp low (goes_on (occurs b r) s q next r f way))
+        let xs = fork d (code c b s d) [] in let ys = released (before b s) s in let last = mid + length xs in
+        live_first body mid last d (code c b s d) [] r (front body mid xs ys next h)
+        (λ p q sp f. is s d p q r nd sp low (goes_on (occurs b r) s q last r f (behind_and b s last next r (back body mid xs ys next h) way)))
     right_live op.Or b is s d mid next r nd h low way =
         live_second body mid next d (released (before b s) s) (code c b s d) r h (λ p sp. is s d p next r nd sp low way)
 
     mutual
       -- what the expression uses is live in front of its code, and so is what is live behind it
-      pub code_live : (e : Expr ℕ) (U : ℕ → Type 0) (s : Variables) (d at next r : ℕ) → Fits c n L e U → Low U → n ≤ d → Spans body at (code c e s d) next → r < d → Goes (occurs e r) s next r → LiveAt body at r
+      pub code_live : (e : Expr ℕ) (U : ℕ → Type 0) (s : Variables) (d at next r : ℕ) → Fits c n e U → Low U → n ≤ d → Spans body at (code c e s d) next → r < d → Goes (occurs e r) s next r → LiveAt body at r
       code_live (NullExpr i) U s d at next r fit lows nd h low (inl u) = never u
       code_live (NullExpr i) U s d at next r fit lows nd h low (inr k) = live_last body at next r (instr.Const d scalar.Null) h (less_not r d low, tt) (inl refl) k.1
       code_live (BoolExpr i truth) U s d at next r fit lows nd h low (inl u) = never u
@@ -327,7 +337,7 @@ module _ (body : List Instr) where
           (either (λ z. let w = and_not (r == x) (occurs inner r) z in inl (λ q e sp. (other_of r x w.0, code_live inner (λ y. U y ⊎ (y ≡ x)) T (suc (suc d)) q e r fit.4 (low_more U x lows fit.3) (omega (arith, nd)) sp (omega (arith, low)) (inl w.1))))
           (λ z. inr (kept_lost x inner U s r lows fit.3 fit.4 z.0, z.1)) k)) g) way
 
-      pub codes_live : (es : Exprs ℕ) (U : ℕ → Type 0) (s : Variables) (d at next r : ℕ) → FitAll c n L es U → Low U → n ≤ d → Spans body at (codes c es s d) next → r < d → Goes (any_occurs es r) s next r → LiveAt body at r
+      pub codes_live : (es : Exprs ℕ) (U : ℕ → Type 0) (s : Variables) (d at next r : ℕ) → FitAll c n es U → Low U → n ≤ d → Spans body at (codes c es s d) next → r < d → Goes (any_occurs es r) s next r → LiveAt body at r
       codes_live NoExprs U s d at next r fit lows nd h low (inl u) = never u
       codes_live NoExprs U s d at next r fit lows nd h low (inr k) = at_end body at next r h k.1
       codes_live (MoreExprs e es) U s d at next r fit lows nd h low way =
@@ -336,7 +346,7 @@ module _ (body : List Instr) where
           (λ g. code_live e U (before_all es s) d at mid r fit.0 lows nd (front body at one (codes c es s (suc d)) next h) low g)
           (λ g. codes_live es U s (suc d) mid next r fit.1 lows (omega (arith, nd)) (back body at one (codes c es s (suc d)) next h) (omega (arith, low)) g) way
 
-      pub field_codes_live : (fs : Fields ℕ) (U : ℕ → Type 0) (s : Variables) (d at next r : ℕ) → FitFields c n L fs U → Low U → n ≤ d → Spans body at (field_codes c fs s d) next → r < d → Goes (any_field_occurs fs r) s next r → LiveAt body at r
+      pub field_codes_live : (fs : Fields ℕ) (U : ℕ → Type 0) (s : Variables) (d at next r : ℕ) → FitFields c n fs U → Low U → n ≤ d → Spans body at (field_codes c fs s d) next → r < d → Goes (any_field_occurs fs r) s next r → LiveAt body at r
       field_codes_live NoFields U s d at next r fit lows nd h low (inl u) = never u
       field_codes_live NoFields U s d at next r fit lows nd h low (inr k) = at_end body at next r h k.1
       field_codes_live (MoreFields name e fs) U s d at next r fit lows nd h low way =

@@ -25,7 +25,7 @@ use Rattle.wy_step.specs.Step as machine
 use Rattle.wy_step.specs.Step.{State, Runs, Ended, Stuck, Frame, Caller, Effect, GoesOn, GoesTo, Calls, Returns, Fails, there, held, moved, moved_all, cleared, where_so, numbers, scalar_of, gives_int, computes, compares, record_of, shape_names, slots_of, has_path, kind_answer, as_bytes, effect, empties, holding, entry_registers, entered, returned, next_of, stepped, executed, step, start, after}
 use Rattle.wy_pieces.specs.Placing.{slot_registers}
 use Rattle.wy_kept_registers.specs.Keeping.{IsLarge, HoldsLarge, IsNone}
-use Rattle.wy_kept_code.specs.Safe.{Told, After, Onward, Safe, SafeCode, FrameKeeps, CallersKeep, KeepsNothing, SafeRunsKeepNothing}
+use Rattle.wy_kept_code.specs.Safe.{Gives, After, Onward, Safe, SafeCode, FrameKeeps, CallersKeep, KeepsNothing, SafeRunsKeepNothing}
 use Rattle.wy_kept_code.proofs.SafeLemmas.{safe_less}
 
 -- ---- registers, one of which gets another value
@@ -69,7 +69,7 @@ scalar_small (scalar.Int z) h = h
 
 -- ---- effects
 
-module _ (t : Told) (f : ℕ) (body : List Instr) (p : ℕ) (regs : Store) where
+module _ (t : Gives) (f : ℕ) (body : List Instr) (p : ℕ) (regs : Store) where
   -- the registers that hold a list or a record
   abbrev Large : Store → ℕ → Type 0
   Large s r = HoldsLarge (slot s r)
@@ -81,8 +81,8 @@ module _ (t : Told) (f : ℕ) (body : List Instr) (p : ℕ) (regs : Store) where
   abbrev EffectKeeps : Effect → Type 0
   EffectKeeps (GoesOn s printed) = Always (p + 1) (Large s)
   EffectKeeps (GoesTo q) = Always q (Large regs)
-  EffectKeeps (Calls d g vs s) = ((r : ℕ) → t.untold f r ≡ false → Large s r → r ≢ d) × Always (p + 1) (λ r. Large s r ⊎ ((r ≡ d) × (t.results g ≡ true)))
-  EffectKeeps (Returns v) = IsLarge v → t.results f ≡ true
+  EffectKeeps (Calls d g vs s) = ((r : ℕ) → Large s r → r ≢ d) × Always (p + 1) (λ r. Large s r ⊎ ((r ≡ d) × (t g ≡ true)))
+  EffectKeeps (Returns v) = IsLarge v → t f ≡ true
   EffectKeeps Fails = Unit {0}
 
   there_keeps : {X : Type 0} (o : Option X) (next : X → Effect) → ((x : X) → o ≡ Some x → EffectKeeps (next x)) → EffectKeeps (there o next)
@@ -185,7 +185,7 @@ module _ (t : Told) (f : ℕ) (body : List Instr) (p : ℕ) (regs : Store) where
   -- ---- instructions
 
   abbrev Behind : Instr → ℕ → Type 0
-  Behind i r = After t f i (Large regs) r
+  Behind i r = After t i (Large regs) r
 
   -- fewer registers hold something large than may do so
   lessen : (q : ℕ) (P Q : ℕ → Type 0) → ((r : ℕ) → P r → Q r) → Always q Q → Always q P
@@ -274,7 +274,7 @@ module _ (t : Told) (f : ℕ) (body : List Instr) (p : ℕ) (regs : Store) where
       by (inl k) = inl (k.1, (k.0.0, k.0.1))
       by (inr k) = inr k.0
 
-  called_in : (d g : ℕ) (rs : List ℕ) (rest : Store) (r : ℕ) → ((x : ℕ) → Large rest x → IsNone x rs × Large regs x) → Large rest r ⊎ ((r ≡ d) × (t.results g ≡ true)) → Behind (instr.Call d g rs) r
+  called_in : (d g : ℕ) (rs : List ℕ) (rest : Store) (r : ℕ) → ((x : ℕ) → Large rest x → IsNone x rs × Large regs x) → Large rest r ⊎ ((r ≡ d) × (t g ≡ true)) → Behind (instr.Call d g rs) r
   called_in d g rs rest r h (inl l) = let o = h r l in inl (o.1, o.0)
   called_in d g rs rest r h (inr e) = inr e
 
@@ -317,8 +317,8 @@ module _ (t : Told) (f : ℕ) (body : List Instr) (p : ℕ) (regs : Store) where
         (lessen (p + 1) (Large (put (put regs v None) a (Some (updated whole ps u)))) (Behind (instr.Put a path v)) (λ r l. updated_in a path v (updated whole ps u) r small l) (λ n. here n (instr.Put a path v) is)))))
     effect_keeps shapes (instr.Kind d a m) is = there_keeps (slot regs a) _ (λ v e. kind_keeps shapes m v _ (λ b. lessen (p + 1) (Large (put regs d (Some (Truth b)))) (Behind (instr.Kind d a m)) (λ r l. let o = small_put d (Truth b) r (λ w. w) l in inl (o.1, (o.0, tt))) (λ n. here n (instr.Kind d a m) is)))
     effect_keeps shapes (instr.Call d g rs) is = moved_all_keeps regs rs _ (λ vs rest h. (
-      (λ r u l. let o = h r l in (here 0 (instr.Call d g rs) is).0 r u o.1 o.0),
-      lessen (p + 1) (λ r. Large rest r ⊎ ((r ≡ d) × (t.results g ≡ true))) (Behind (instr.Call d g rs)) (λ r l. called_in d g rs rest r h l) (λ n. (here n (instr.Call d g rs) is).1),
+      (λ r l. let o = h r l in (here 0 (instr.Call d g rs) is).0 r o.1 o.0),
+      lessen (p + 1) (λ r. Large rest r ⊎ ((r ≡ d) × (t g ≡ true))) (Behind (instr.Call d g rs)) (λ r l. called_in d g rs rest r h l) (λ n. (here n (instr.Call d g rs) is).1),
     ))
     effect_keeps shapes (instr.Return s) is = there_keeps (slot regs s) _ (λ v e h. here 0 (instr.Return s) is (source_large s v e h))
     effect_keeps shapes (instr.Print a) is = there_keeps (slot regs a) _ (λ v e. items_keep v _ (λ ds. bytes_keep ds _ (λ bytes. lessen (p + 1) (Large regs) (Behind (instr.Print a)) (λ r l. inl (l, tt)) (λ n. here n (instr.Print a) is))))
@@ -339,7 +339,7 @@ entry_large (v ∷ vs) n (suc r) h = let l = entry_large vs n r h in omega (arit
 some_same : {A : Type 0} (x y : A) → Some x ≡ Some y → x ≡ y
 some_same x y e = cc
 
-module _ (t : Told) (code : Code) (safe : SafeCode t code) where
+module _ (t : Gives) (code : Code) (safe : SafeCode t code) where
   -- the frame is safe where at most these registers hold lists or records
   abbrev FrameSafe : Frame → (ℕ → Type 0) → Type 0
   FrameSafe fr P = (r : Routine) → slice_get code.routines fr.routine ≡ Some r → (n : ℕ) → Safe t fr.routine r.body n fr.at P
@@ -348,8 +348,8 @@ module _ (t : Told) (code : Code) (safe : SafeCode t code) where
   abbrev CallersSafe : ℕ → List Caller → Type 0
   CallersSafe g [] = Unit {0}
   CallersSafe g (c ∷ callers) =
-      ((r : ℕ) → t.untold c.frame.routine r ≡ false → HoldsLarge (slot c.frame.registers r) → r ≢ c.target)
-      × FrameSafe c.frame (λ r. HoldsLarge (slot c.frame.registers r) ⊎ ((r ≡ c.target) × (t.results g ≡ true))) × CallersSafe c.frame.routine callers
+      ((r : ℕ) → HoldsLarge (slot c.frame.registers r) → r ≢ c.target)
+      × FrameSafe c.frame (λ r. HoldsLarge (slot c.frame.registers r) ⊎ ((r ≡ c.target) × (t g ≡ true))) × CallersSafe c.frame.routine callers
 
   abbrev StateSafe : State → Type 0
   StateSafe (Runs fr callers output) = FrameSafe fr (λ r. HoldsLarge (slot fr.registers r)) × CallersSafe fr.routine callers
@@ -371,11 +371,11 @@ module _ (t : Told) (code : Code) (safe : SafeCode t code) where
       )
       by false g = tt
 
-  returned_safe : (f : ℕ) (v : Datum) (callers : List Caller) (output : List ℕ) → CallersSafe f callers → (IsLarge v → t.results f ≡ true) → StateSafe (returned v callers output)
+  returned_safe : (f : ℕ) (v : Datum) (callers : List Caller) (output : List ℕ) → CallersSafe f callers → (IsLarge v → t f ≡ true) → StateSafe (returned v callers output)
   returned_safe f v [] output h g = tt
-  returned_safe f v (c ∷ callers) output h g = ((λ r e n. safe_less t c.frame.routine r.body n c.frame.at (λ x. HoldsLarge (slot (put c.frame.registers c.target (Some v)) x)) (λ x. HoldsLarge (slot c.frame.registers x) ⊎ ((x ≡ c.target) × (t.results f ≡ true))) (λ x l. by x (put_large c.frame.registers c.target x (Some v) l)) (h.1 r e n)), h.2)
+  returned_safe f v (c ∷ callers) output h g = ((λ r e n. safe_less t c.frame.routine r.body n c.frame.at (λ x. HoldsLarge (slot (put c.frame.registers c.target (Some v)) x)) (λ x. HoldsLarge (slot c.frame.registers x) ⊎ ((x ≡ c.target) × (t f ≡ true))) (λ x l. by x (put_large c.frame.registers c.target x (Some v) l)) (h.1 r e n)), h.2)
     where
-      by : (x : ℕ) → ((x ≡ c.target) × IsLarge v) ⊎ ((x ≢ c.target) × HoldsLarge (slot c.frame.registers x)) → HoldsLarge (slot c.frame.registers x) ⊎ ((x ≡ c.target) × (t.results f ≡ true))
+      by : (x : ℕ) → ((x ≡ c.target) × IsLarge v) ⊎ ((x ≢ c.target) × HoldsLarge (slot c.frame.registers x)) → HoldsLarge (slot c.frame.registers x) ⊎ ((x ≡ c.target) × (t f ≡ true))
       by x (inl k) = inr (k.0, g k.1)
       by x (inr k) = inl k.1
 
@@ -384,7 +384,7 @@ module _ (t : Told) (code : Code) (safe : SafeCode t code) where
   stepped_safe fr r is callers output (GoesOn s printed) g k = ((λ r2 e2 n. subst (λ (z : Routine). Safe t fr.routine z.body n (fr.at + 1) (λ x. HoldsLarge (slot s x))) (some_same r r2 (sym is ∙ e2)) (k n)), g)
   stepped_safe fr r is callers output (GoesTo q) g k = ((λ r2 e2 n. subst (λ (z : Routine). Safe t fr.routine z.body n q (λ x. HoldsLarge (slot fr.registers x))) (some_same r r2 (sym is ∙ e2)) (k n)), g)
   stepped_safe fr r is callers output (Calls d f vs s) g k = entered_safe (slice_get code.routines f) f vs (record { frame = record fr { at = fr.at + 1; registers = s }; target = d } ∷ callers) output refl
-      (k.0, (λ r2 e2 n. subst (λ (z : Routine). Safe t fr.routine z.body n (fr.at + 1) (λ x. HoldsLarge (slot s x) ⊎ ((x ≡ d) × (t.results f ≡ true)))) (some_same r r2 (sym is ∙ e2)) (k.1 n)), g)
+      (k.0, (λ r2 e2 n. subst (λ (z : Routine). Safe t fr.routine z.body n (fr.at + 1) (λ x. HoldsLarge (slot s x) ⊎ ((x ≡ d) × (t f ≡ true)))) (some_same r r2 (sym is ∙ e2)) (k.1 n)), g)
   stepped_safe fr r is callers output (Returns v) g k = returned_safe fr.routine v callers output g k
   stepped_safe fr r is callers output Fails g k = tt
 
@@ -405,14 +405,14 @@ module _ (t : Told) (code : Code) (safe : SafeCode t code) where
   after_safe (suc n) st h = after_safe n (step code st) (step_safe st h)
 
   -- what is safe keeps nothing dead
-  frame_keeps : (fr : Frame) (P : ℕ → Type 0) → FrameSafe fr P → ((r : ℕ) → HoldsLarge (slot fr.registers r) → P r) → FrameKeeps t code fr
-  frame_keeps fr P h k r e i is not_clear x told free l = (h r e 1 i is).0 not_clear x told free (k x l)
+  frame_keeps : (fr : Frame) (P : ℕ → Type 0) → FrameSafe fr P → ((r : ℕ) → HoldsLarge (slot fr.registers r) → P r) → FrameKeeps code fr
+  frame_keeps fr P h k r e i is not_clear x l = (h r e 1 i is).0 not_clear x (k x l)
 
-  callers_keep : (g : ℕ) (callers : List Caller) → CallersSafe g callers → CallersKeep t code callers
+  callers_keep : (g : ℕ) (callers : List Caller) → CallersSafe g callers → CallersKeep code callers
   callers_keep g [] h = tt
-  callers_keep g (c ∷ callers) h = (frame_keeps c.frame (λ r. HoldsLarge (slot c.frame.registers r) ⊎ ((r ≡ c.target) × (t.results g ≡ true))) h.1 (λ r l. inl l), h.0, callers_keep c.frame.routine callers h.2)
+  callers_keep g (c ∷ callers) h = (frame_keeps c.frame (λ r. HoldsLarge (slot c.frame.registers r) ⊎ ((r ≡ c.target) × (t g ≡ true))) h.1 (λ r l. inl l), h.0, callers_keep c.frame.routine callers h.2)
 
-  state_keeps : (st : State) → StateSafe st → KeepsNothing t code st
+  state_keeps : (st : State) → StateSafe st → KeepsNothing code st
   state_keeps (Runs fr callers output) h = (frame_keeps fr (λ r. HoldsLarge (slot fr.registers r)) h.0 (λ r l. l), callers_keep fr.routine callers h.1)
   state_keeps (Ended v output) h = tt
   state_keeps Stuck h = tt

@@ -19,6 +19,10 @@ never e = absurd cc
 pub not_both : {A : Type 0} (b : Bool) → b ≡ true → b ≡ false → A
 not_both b e g = never (sym g ∙ e)
 
+pub true_or_not : (b : Bool) → (b ≡ true) ⊎ (b ≡ false)
+true_or_not true = inl refl
+true_or_not false = inr refl
+
 pub same_of : (x y : ℕ) → (x == y) ≡ true → x ≡ y
 same_of x y e = either (λ (z : ((x == y) ≡ true) × (x ≡ y)). z.1) (λ (z : ((x == y) ≡ false) × (x ≢ y)). not_both (x == y) e z.0) (eqb_tells x y)
 

@@ -47,7 +47,7 @@ slots_registers c [] k = refl
 slots_registers c (IndexStep at e ∷ path) k = ap (λ (z : List ℕ). k ∷ z) (slots_registers c path (suc k))
 slots_registers c (FieldStep at name ∷ path) k = slots_registers c path k
 
-module _ (body : List Instr) (c : Context) (n : ℕ) (L R : Type 0) (U : ℕ → Type 0) (low : Low body c n L U) where
+module _ (body : List Instr) (c : Context) (n : ℕ) (R : Type 0) (U : ℕ → Type 0) (low : Low body c n U) where
   -- it is used, or it is live behind and is a variable
   abbrev G : Bool → Variables → ℕ → ℕ → Type 0
   G used s next r = (used ≡ true) ⊎ ((Vars s r ⊎ (n ≤ r)) × LiveAt body next r)
@@ -56,8 +56,8 @@ module _ (body : List Instr) (c : Context) (n : ℕ) (L R : Type 0) (U : ℕ →
   abbrev On : Type 0 → Variables → ℕ → ℕ → Type 0
   On A s next r = A → Vars s r × LiveAt body next r
 
-  reads_code : (e : Expr ℕ) → Fits c n L e U → (s : Variables) (d at next r : ℕ) → n ≤ d → Spans body at (code c e s d) next → r < n → G (occurs e r) s next r → LiveAt body at r
-  reads_code e fit s d at next r nd h rn way = code_live body c n L e U s d at next r fit low nd h (omega (arith, rn, nd)) way
+  reads_code : (e : Expr ℕ) → Fits c n e U → (s : Variables) (d at next r : ℕ) → n ≤ d → Spans body at (code c e s d) next → r < n → G (occurs e r) s next r → LiveAt body at r
+  reads_code e fit s d at next r nd h rn way = code_live body c n e U s d at next r fit low nd h (omega (arith, rn, nd)) way
 
   clear_passes : (s u : Variables) (p next r : ℕ) → Spans body p (released s u) next → (Vars s r → Vars u r) → LiveAt body next r → LiveAt body p r
   clear_passes s u p next r h keep l = clear_live body (lost s u) p next r h (not_lost s u r (λ v e. not_both (has u r) (keep v) e)) l
@@ -71,18 +71,18 @@ module _ (body : List Instr) (c : Context) (n : ℕ) (L R : Type 0) (U : ℕ →
   store_live false plain x d p next r h one two l = release_live plain d p next r h two l
 
   -- an assignment to a whole variable
-  set_live : (x : ℕ) (e : Expr ℕ) (s : Variables) (at next r : ℕ) (A : Type 0) → Fits c n L e U → Spans body at (set c x e s n) next → r < n → On A s next r → UsedOrKept (occurs e r) r x A → LiveAt body at r
+  set_live : (x : ℕ) (e : Expr ℕ) (s : Variables) (at next r : ℕ) (A : Type 0) → Fits c n e U → Spans body at (set c x e s n) next → r < n → On A s next r → UsedOrKept (occurs e r) r x A → LiveAt body at r
   set_live x e s at next r A fit h rn on way =
       let one = code c e (without s x) n in let mid = at + length one in
       reads_code e fit (without s x) n at mid r (omega arith) (front body at one (store x s n (is_plain e)) next h) rn
       (either (λ u. inl u) (λ k. let l = on k.1 in let other = other_of r x k.0 in inr (inl (without_of s x r (other, l.0)), store_live (has s x) (is_plain e) x n mid next r (back body at one (store x s n (is_plain e)) next h) other (less_not r n rn) l.1)) way)
 
-  indices_live : (path : List (Step ℕ)) → FitsPath c n L path U → (s : Variables) (d at next r : ℕ) → n ≤ d → Spans body at (indices c path s d) next → r < n → G (any_step_occurs path r) s next r → LiveAt body at r
+  indices_live : (path : List (Step ℕ)) → FitsPath c n path U → (s : Variables) (d at next r : ℕ) → n ≤ d → Spans body at (indices c path s d) next → r < n → G (any_step_occurs path r) s next r → LiveAt body at r
   indices_live [] fit s d at next r nd h rn (inl u) = never u
   indices_live [] fit s d at next r nd h rn (inr k) = at_end body at next r h k.1
   indices_live (IndexStep i e ∷ path) fit s d at next r nd h rn way =
       let one = code c e (before_steps path s) d in let mid = at + length one in
-      two_ways body c n L (occurs e r) (any_step_occurs path r) s (before_steps path s) at mid next r (λ k. either (λ v. inl (steps_of path s r (inr v))) (λ l. inr l) k) (λ k. inl (steps_of path s r (inl k)))
+      two_ways body c n (occurs e r) (any_step_occurs path r) s (before_steps path s) at mid next r (λ k. either (λ v. inl (steps_of path s r (inr v))) (λ l. inr l) k) (λ k. inl (steps_of path s r (inl k)))
       (λ g. reads_code e fit.0 (before_steps path s) d at mid r nd (front body at one (indices c path s (suc d)) next h) rn g)
       (λ g. indices_live path fit.1 s (suc d) mid next r (omega (arith, nd)) (back body at one (indices c path s (suc d)) next h) rn g) way
   indices_live (FieldStep i name ∷ path) fit s d at next r nd h rn way = indices_live path fit s d at next r nd h rn way
@@ -92,7 +92,7 @@ module _ (body : List Instr) (c : Context) (n : ℕ) (L R : Type 0) (U : ℕ →
   kept_live false x p next r h other l = clear_live body (x ∷ []) p next r h (other, tt) l
 
   -- an assignment to a part of a variable, which is read
-  update_live : (x : ℕ) (path : List (Step ℕ)) (e : Expr ℕ) (s : Variables) (at next r : ℕ) (A : Type 0) → FitsPath c n L path U → Fits c n L e U → Spans body at (update c x path e s n) next → r < n → On A s next r
+  update_live : (x : ℕ) (path : List (Step ℕ)) (e : Expr ℕ) (s : Variables) (at next r : ℕ) (A : Type 0) → FitsPath c n path U → Fits c n e U → Spans body at (update c x path e s n) next → r < n → On A s next r
       → Used (any_step_occurs path r || (occurs e r || (r == x))) A → LiveAt body at r
   update_live x path e s at next r A fp fe h rn on way =
       let S = with s x in let d = n + index_count path in
@@ -138,7 +138,7 @@ module _ (body : List Instr) (c : Context) (n : ℕ) (L R : Type 0) (U : ℕ →
   BlockLive ss r = (u : Variables) (ends : Ends) (exit again at to : ℕ) (X E Y : Type 0) → Spans body at (stmts_code c ss u ends n exit again) to → On X u to r → On E ends.exit (to + exit) r → On Y ends.again (to + again) r → AreLive ss r X E Y → LiveAt body at r
 
   -- a loop: from its head a path goes through so many turns
-  turns_live : (e : Expr ℕ) (inner : Stmts ℕ) → Fits c n L e U → (s : Variables) (p next r : ℕ) (A : Type 0) → r < n → BlockLive inner r
+  turns_live : (e : Expr ℕ) (inner : Stmts ℕ) → Fits c n e U → (s : Variables) (p next r : ℕ) (A : Type 0) → r < n → BlockLive inner r
       → Spans body p (turns (code c e (turn e inner s) n) n (released (turn e inner s) (inside e inner s) ++ stmts_code c inner (head_live e inner s) (around s (head_live e inner s)) n (length (released (turn e inner s) s) + 1) 0) ++ released (turn e inner s) s) next
       → On A s next r → (k : ℕ) → Turns k (occurs e r) (λ z. AreLive inner r z A z) A → LiveAt body p r
   turns_live e inner fit s p next r A rn inner_live h on =
@@ -175,7 +175,7 @@ module _ (body : List Instr) (c : Context) (n : ℕ) (L R : Type 0) (U : ℕ →
 
   mutual
     -- a variable that some path from the statement on uses before it assigns it is live in front of its code
-    pub stmt_live : (st : Stmt ℕ) → FitsStmt c n L R st U → (s : Variables) (ends : Ends) (exit again at next r : ℕ) (A E Y : Type 0) → r < n → Spans body at (stmt_code c st s ends n exit again) next
+    pub stmt_live : (st : Stmt ℕ) → FitsStmt c n R st U → (s : Variables) (ends : Ends) (exit again at next r : ℕ) (A E Y : Type 0) → r < n → Spans body at (stmt_code c st s ends n exit again) next
         → On A s next r → On E ends.exit (next + exit) r → On Y ends.again (next + again) r → IsLive st r A E Y → LiveAt body at r
     stmt_live (DeclareStmt i ty x None) fit s ends exit again at next r A E Y rn h on one two way = at_end body at next r h (on way).1
     stmt_live (DeclareStmt i ty x (Some e)) fit s ends exit again at next r A E Y rn h on one two way = set_live x e s at next r A fit.1 h rn on way
@@ -183,7 +183,7 @@ module _ (body : List Instr) (c : Context) (n : ℕ) (L R : Type 0) (U : ℕ →
     stmt_live (AssignStmt i x (step ∷ path) e) fit s ends exit again at next r A E Y rn h on one two way = update_live x (step ∷ path) e s at next r A fit.1 fit.2 h rn on way
     stmt_live (CallStmt i g args) fit s ends exit again at next r A E Y rn h on one two way =
         let mid = at + length (codes c args s n) in let last = call_step (target c.results g) g n (count_of args) in
-        codes_live body c n L args U s n at mid r fit.1 low (omega arith) (front body at (codes c args s n) last next h) rn
+        codes_live body c n args U s n at mid r fit.1 low (omega arith) (front body at (codes c args s n) last next h) rn
         (either (λ u. inl u) (λ a. inr (inl (on a).0, call_step_live (target c.results g) g (count_of args) mid next r (back body at (codes c args s n) last next h) rn (on a).1)) way)
     stmt_live (ReturnStmt i None) fit s ends exit again at next r A E Y rn h on one two way = absurd way
     stmt_live (ReturnStmt i (Some e)) fit s ends exit again at next r A E Y rn h on one two way =
@@ -223,7 +223,7 @@ module _ (body : List Instr) (c : Context) (n : ℕ) (L R : Type 0) (U : ℕ →
     stmt_live (WhileStmt i e invariants inner) fit s ends exit again at next r A E Y rn h on one two way =
         turns_live e inner fit.0 s at next r A rn (λ u ends2 exit2 again2 at2 to X E2 Y2 sp o1 o2 o3 z. stmts_live inner fit.1 u ends2 exit2 again2 at2 to r X E2 Y2 rn sp o1 o2 o3 z) h on way.0 way.1
 
-    pub stmts_live : (ss : Stmts ℕ) → FitsStmts c n L R ss U → (s : Variables) (ends : Ends) (exit again at next r : ℕ) (A E Y : Type 0) → r < n → Spans body at (stmts_code c ss s ends n exit again) next
+    pub stmts_live : (ss : Stmts ℕ) → FitsStmts c n R ss U → (s : Variables) (ends : Ends) (exit again at next r : ℕ) (A E Y : Type 0) → r < n → Spans body at (stmts_code c ss s ends n exit again) next
         → On A s next r → On E ends.exit (next + exit) r → On Y ends.again (next + again) r → AreLive ss r A E Y → LiveAt body at r
     stmts_live NoStmts fit s ends exit again at next r A E Y rn h on one two way = at_end body at next r h (on way).1
     stmts_live (MoreStmts st rest) fit s ends exit again at next r A E Y rn h on one two way =

@@ -18,9 +18,9 @@ use Rattle.wy_pieces.specs.Steps.{dropped, fork}
 use Rattle.wy_compiled.specs.TypeTests.{item_end, item_turns, yes, items_test, field_end, test, fields_test}
 use Rattle.wy_kept_registers.specs.Keeping.{IsNone}
 use Rattle.wy_kept_code.specs.Alive.{IsOne, changes, nexts, LiveAt}
-use Rattle.wy_kept_code.specs.Safe.{Told, Into, After, Onward, Safe}
-use Rattle.wy_kept_code.proofs.SafeLemmas.{Less, safe_sooner}
-use Rattle.wy_kept_code.proofs.PieceLemmas.{either, nat_up, Told_of, Sure, Behind, sure_less, less_not, Spans, front, back, tail, ended, live_reads, live_on, live_last, live_first, live_second, turning, Lives, safe_step, safe_clears, safe_loops, safe_branches, safe_at, safe_fork, lives_on, lives_at}
+use Rattle.wy_kept_code.specs.Safe.{Gives, Into, After, Onward, Safe}
+use Rattle.wy_kept_code.proofs.SafeLemmas.{Within, safe_sooner}
+use Rattle.wy_kept_code.proofs.PieceLemmas.{either, nat_up, Sure, sure_less, less_not, Spans, front, back, tail, ended, live_reads, live_on, live_last, live_first, live_second, turning, Lives, safe_step, safe_clears, safe_loops, safe_branches, safe_at, safe_fork, lives_on, lives_at}
 
 -- with one register more
 abbrev pub With : (ℕ → Type 0) → ℕ → ℕ → Type 0
@@ -87,21 +87,21 @@ module _ (body : List Instr) where
         (live_on body (mid + 1) (mid + 1 + 1) q (instr.Clear (suc g ∷ [])) two.0.0 (not_more, tt) (inl refl)
         (live_second body (mid + 1 + 1) next r rest [] q three (λ p s. at_end p next q s l)))))
 
-    module _ (t : Told) (f : ℕ) where
+    module _ (t : Gives) (f : ℕ) where
       -- what a test leaves as it is: registers below the free ones, but for the one of the answer
       abbrev pub Untouched : ℕ → ℕ → (ℕ → Type 0) → Type 0
       Untouched r g P = (q : ℕ) → P q → (q < g) × (q ≢ r)
 
       -- an instruction whose small answer comes into r
-      answered : (m at next r : ℕ) (i : Instr) (P : ℕ → Type 0) → Spans body at (Does i ∷ []) next → ((q : ℕ) → P q → IsNone q (changes i)) → IsOne (at + 1) (nexts at i) → ((k : ℕ) → Safe t f body k (at + 1) (After t f i (Told_of body t f P)) → Onward t f (Safe t f body k) at i (Told_of body t f P))
-          → Less t f (Behind body t f i P) P → Lives body t f next P → Sure body t f m next P → Sure body t f m at P
+      answered : (m at next r : ℕ) (i : Instr) (P : ℕ → Type 0) → Spans body at (Does i ∷ []) next → ((q : ℕ) → P q → IsNone q (changes i)) → IsOne (at + 1) (nexts at i) → ((k : ℕ) → Safe t f body k (at + 1) (After t i P) → Onward t f (Safe t f body k) at i P)
+          → Within (After t i P) P → Lives body t f next P → Sure body t f m next P → Sure body t f m at P
       answered m at next r i P h none to onward less live safe =
           let e : next ≡ at + 1 = (let z = h.1 in omega (arith, z)) in
           safe_step body t f m at i P P h.0.0 (lives_on body t f at i P h.0.0 none to (lives_at body t f next (at + 1) P e live)) onward less (safe_at body t f m next (at + 1) P e safe)
 
-      kept_only : (i : Instr) (P : ℕ → Type 0) → ((q : ℕ) → Into t f i (Told_of body t f P) q → ⊥) → Less t f (Behind body t f i P) P
-      kept_only i P none q u (inl h) = h.0
-      kept_only i P none q u (inr h) = absurd (none q h)
+      kept_only : (i : Instr) (P : ℕ → Type 0) → ((q : ℕ) → Into t i P q → ⊥) → Within (After t i P) P
+      kept_only i P none q (inl h) = h.0
+      kept_only i P none q (inr h) = absurd (none q h)
 
       kind_safe : (m at next v r g : ℕ) (k : Kind) (P : ℕ → Type 0) → Spans body at (Does (instr.Kind r v k) ∷ []) next → Untouched r g P → Lives body t f next P → Sure body t f m next P → Sure body t f m at P
       kind_safe m at next v r g k P h un live safe = answered m at next r (instr.Kind r v k) P h (λ q l. ((un q l).1, tt)) (inl refl) (λ x s. s) (kept_only (instr.Kind r v k) P (λ q z. z)) live safe
@@ -111,10 +111,10 @@ module _ (body : List Instr) where
 
       -- without it again
       pub live_less : (p x : ℕ) (P : ℕ → Type 0) → Lives body t f p (With P x) → Lives body t f p P
-      live_less p x P live q u l = live q u (inl l)
+      live_less p x P live q l = live q (inl l)
 
       pub sure_less_one : (m p x : ℕ) (P : ℕ → Type 0) → Sure body t f m p (With P x) → Sure body t f m p P
-      sure_less_one m p x P safe = sure_less body t f m p P (With P x) (λ q u l. inl l) safe
+      sure_less_one m p x P safe = sure_less body t f m p P (With P x) (λ q l. inl l) safe
 
       -- two more, in either order
       turned : (P : ℕ → Type 0) (x y q : ℕ) → With (With P x) y q → With (With P y) x q
@@ -123,15 +123,15 @@ module _ (body : List Instr) where
       turned P x y q (inr e) = inl (inr e)
 
       pub live_turned : (p x y : ℕ) (P : ℕ → Type 0) → Lives body t f p (With (With P x) y) → Lives body t f p (With (With P y) x)
-      live_turned p x y P live q u l = live q u (turned P y x q l)
+      live_turned p x y P live q l = live q (turned P y x q l)
 
       pub sure_turned : (m p x y : ℕ) (P : ℕ → Type 0) → Sure body t f m p (With (With P x) y) → Sure body t f m p (With (With P y) x)
-      sure_turned m p x y P safe = sure_less body t f m p (With (With P y) x) (With (With P x) y) (λ q u l. turned P y x q l) safe
+      sure_turned m p x y P safe = sure_less body t f m p (With (With P y) x) (With (With P x) y) (λ q l. turned P y x q l) safe
 
       -- the answer is live in front of a fork that asks it
       pub asked_lives : (p next r : ℕ) (first second : List Step) (P : ℕ → Type 0) → Spans body p (fork r first second) next → Lives body t f p P → Lives body t f next (With P r) → Lives body t f p (With P r)
-      asked_lives p next r first second P h live behind q u (inl l) = live q u l
-      asked_lives p next r first second P h live behind q u (inr e) = subst (λ (z : ℕ). LiveAt body p z) (sym e) (asked_live p next r first second h (behind r (subst (λ (z : ℕ). t.untold f z ≡ false) e u) (inr refl)))
+      asked_lives p next r first second P h live behind q (inl l) = live q l
+      asked_lives p next r first second P h live behind q (inr e) = subst (λ (z : ℕ). LiveAt body p z) (sym e) (asked_live p next r first second h (behind r (inr refl)))
 
       -- where it isn't the answer
       pub unasked : (P : ℕ → Type 0) (r q : ℕ) → With P r q × (q ≢ r) → P q
@@ -142,20 +142,20 @@ module _ (body : List Instr) where
       dropped_safe m at next g free rest P h low live safe =
           let move : Instr = instr.Move free g in
           let two = tail body at move (Does (instr.Clear (free ∷ [])) ∷ rest) next h in
-          let there : Lives body t f at (With P g) = λ q u l. either (λ k. live_on body at (at + 1) q move h.0.0 ((low q k).1, ((low q k).0, tt)) (inl refl)
-          (live_on body (at + 1) (at + 1 + 1) q (instr.Clear (free ∷ [])) two.0.0 ((low q k).1, tt) (inl refl) (live q u k)))
+          let there : Lives body t f at (With P g) = λ q l. either (λ k. live_on body at (at + 1) q move h.0.0 ((low q k).1, ((low q k).0, tt)) (inl refl)
+          (live_on body (at + 1) (at + 1 + 1) q (instr.Clear (free ∷ [])) two.0.0 ((low q k).1, tt) (inl refl) (live q k)))
           (λ e. live_reads body at q move h.0.0 (inl e)) l in (
             safe_step body t f m at move (With P g) (With P free) h.0.0 there (λ x s. s) behind
                 (safe_clears body t f m (at + 1) (free ∷ []) (With P free) P two.0.0 cleared safe),
             there,
           )
         where
-          behind : Less t f (Behind body t f (instr.Move free g) (With P g)) (With P free)
-          behind q u (inl k) = either (λ z. inl z) (λ e. absurd (k.1.1.0 e)) k.0
-          behind q u (inr k) = inr k.0
+          behind : Within (After t (instr.Move free g) (With P g)) (With P free)
+          behind q (inl k) = either (λ z. inl z) (λ e. absurd (k.1.1.0 e)) k.0
+          behind q (inr k) = inr k.0
 
-          cleared : Less t f (λ q. With P free q × IsNone q (free ∷ [])) P
-          cleared q u k = either (λ z. z) (λ e. absurd (k.1.0 e)) k.0
+          cleared : Within (λ q. With P free q × IsNone q (free ∷ [])) P
+          cleared q k = either (λ z. z) (λ e. absurd (k.1.0 e)) k.0
 
       module _ (v r g : ℕ) (P : ℕ → Type 0) (un : Untouched r g P) (r_low : r < g) where
         low_of : (q : ℕ) → P q → q < g
@@ -187,10 +187,10 @@ module _ (body : List Instr) where
             let branch : slice_get body b ≡ Some (instr.Branch r out) = subst (λ (z : ℕ). slice_get body b ≡ Some (instr.Branch r z)) to three.0.0 in
             let live_a : Lives body t f (b + 1 + 1) P = lives_on body t f (b + 1 + 1) a1 P three.0.1.1.0 (λ q l. (less_not q (suc g) (let z = low_of q l in omega (arith, z)), tt)) (inl refl) (lives_at body t f next (b + 1 + 1 + 1) P (sym e) live) in
             let live_c : Lives body t f (b + 1) P = lives_on body t f (b + 1) c1 P three.0.1.0 (λ q l. (less_not q (suc (suc g)) (let z = low_of q l in omega (arith, z)), tt)) (inl refl) live_a in
-            let live_b : Lives body t f b (With P r) = λ q u l. either (λ k. live_on body b (b + 1) q (instr.Branch r out) branch tt (inl refl) (live_c q u k)) (λ w. live_reads body b q (instr.Branch r out) branch (inl w)) l in
+            let live_b : Lives body t f b (With P r) = λ q l. either (λ k. live_on body b (b + 1) q (instr.Branch r out) branch tt (inl refl) (live_c q k)) (λ w. live_reads body b q (instr.Branch r out) branch (inl w)) l in
             let facts = dropped_safe m p next (suc (suc g)) (suc (suc (suc g))) rest (With P r) h
             (λ q l. either (λ k. let z = low_of q k in (less_not q (suc (suc g)) (omega (arith, z)), less_not q (suc (suc (suc g))) (omega (arith, z)))) (λ w. (less_not q (suc (suc g)) (omega (arith, w, r_low)), less_not q (suc (suc (suc g))) (omega (arith, w, r_low)))) l) live_b
-            (safe_branches body t f m b r out (With P r) P P branch live_b (λ q u k. unasked P r q k) (λ q u k. unasked P r q k)
+            (safe_branches body t f m b r out (With P r) P P branch live_b (λ q k. unasked P r q k) (λ q k. unasked P r q k)
             (safe_step body t f m (b + 1) c1 P P three.0.1.0 live_c (λ x s. s) (kept_only c1 P (λ q z. z))
             (safe_step body t f m (b + 1 + 1) a1 P P three.0.1.1.0 live_a (λ x s. s) (kept_only a1 P (λ q z. z)) (safe_at body t f m next (b + 1 + 1 + 1) P (sym e) safe)))
             out_safe) in
@@ -209,7 +209,7 @@ module _ (body : List Instr) where
             let live_yes : Lives body t f long P = lives_on body t f long (instr.Const r (scalar.Bool true)) P last.0.0 (λ q l. ((un q l).1, tt)) (inl refl) (lives_at body t f next (long + 1) P (sym yes_at) live) in
             let b = parts.branch in
             let first_at : at + 1 ≡ b = (let z = parts.tests.1 in omega (arith, z)) in
-            let live_b : Lives body t f b P = λ q u l. live_on body b long q (instr.Branch r long) parts.branches tt (inr (inl refl)) (live_yes q u l) in
+            let live_b : Lives body t f b P = λ q l. live_on body b long q (instr.Branch r long) parts.branches tt (inr (inl refl)) (live_yes q l) in
             let live_head : Lives body t f at P = lives_on body t f at compare P parts.tests.0.0 (λ q l. ((un q l).1, tt)) (inl refl) (lives_at body t f b (at + 1) P (sym first_at) live_b) in
             let i1 = tail body (b + 1) get (one ++ item_end r g) parts.jump parts.inside in
             let p2 = b + 1 + 1 in
@@ -217,15 +217,15 @@ module _ (body : List Instr) where
             let end_span = back body p2 one (item_end r g) parts.jump i1 in
             let jump_next : parts.jump + 1 ≡ long = parts.behind in
             let safe_yes : (k : ℕ) → Sure body t f k next P → Sure body t f k long P = λ k s. const_safe k long next r g (scalar.Bool true) P last un live s in
-            let live_jump : Lives body t f parts.jump P = λ q u l. live_on body parts.jump at q (instr.Jump at) parts.jumps tt (inl refl) (live_head q u l) in
+            let live_jump : Lives body t f parts.jump P = λ q l. live_on body parts.jump at q (instr.Jump at) parts.jumps tt (inl refl) (live_head q l) in
             let head : (k : ℕ) → Sure body t f k next P → Sure body t f k at P = nat_up (λ k. Sure body t f k next P → Sure body t f k at P) (λ s. tt) (λ k less s.
-            let end_facts = item_end_safe (suc k) p3 parts.jump next end_span (omega (arith, jump_next, yes_at)) live_jump live (safe_loops body t f k parts.jump at P P parts.jumps live_head (λ q u l. l) (less (safe_sooner t f body k next (Told_of body t f P) s))) s in
+            let end_facts = item_end_safe (suc k) p3 parts.jump next end_span (omega (arith, jump_next, yes_at)) live_jump live (safe_loops body t f k parts.jump at P P parts.jumps live_head (λ q l. l) (less (safe_sooner t f body k next P s))) s in
             safe_step body t f (suc k) at compare P P parts.tests.0.0 live_head (λ x z. z) (kept_only compare P (λ q z. z))
             (safe_at body t f (suc k) b (at + 1) P (sym first_at)
-            (safe_branches body t f (suc k) b r long P P P parts.branches live_b (λ q u z. z.0) (λ q u z. z.0)
+            (safe_branches body t f (suc k) b r long P P P parts.branches live_b (λ q z. z.0) (λ q z. z.0)
             (safe_step body t f (suc k) (b + 1) get P (With P (suc (suc g))) parts.inside.0.0
-            (λ q u l. live_on body (b + 1) (b + 1 + 1) q get parts.inside.0.0 (less_not q (suc (suc g)) (let z = low_of q l in omega (arith, z)), tt) (inl refl) (passes p2 p3 q (front body p2 one (item_end r g) parts.jump i1) (let z = low_of q l in omega (arith, z)) (un q l).1 (end_facts.1 q u (inl (inl l)))))
-            (λ x z. z) (λ q u z. either (λ y. inl y.0) (λ y. inr y) z)
+            (λ q l. live_on body (b + 1) (b + 1 + 1) q get parts.inside.0.0 (less_not q (suc (suc g)) (let z = low_of q l in omega (arith, z)), tt) (inl refl) (passes p2 p3 q (front body p2 one (item_end r g) parts.jump i1) (let z = low_of q l in omega (arith, z)) (un q l).1 (end_facts.1 q (inl (inl l)))))
+            (λ x z. z) (λ q z. either (λ y. inl y.0) (λ y. inr y) z)
             (item (suc k) p2 p3 (front body p2 one (item_end r g) parts.jump i1) end_facts.1 end_facts.0))
             (safe_yes (suc k) s)))) in
             (head m safe, live_head)
@@ -243,7 +243,7 @@ module _ (body : List Instr) where
           → ((p q : ℕ) → Spans body p rest q → Lives body t f q (With P r) → Sure body t f m q (With P r) → Sure body t f m p P) → Sure body t f m at (With P r)
       one_safe [] m at next r P h here live safe inner = safe_at body t f m next at (With P r) (sym (ended body at next h)) safe
       one_safe (s ∷ rest) m at next r P h here live safe inner =
-          safe_fork body t f m at next r (s ∷ rest) [] (With P r) P P (With P r) h here (λ e1 e2. absurd cc) (λ q u k. unasked P r q k) (λ q u k. unasked P r q k) live
+          safe_fork body t f m at next r (s ∷ rest) [] (With P r) P P (With P r) h here (λ e1 e2. absurd cc) (λ q k. unasked P r q k) (λ q k. unasked P r q k) live
           inner (λ p z. empty_safe m p next P z (sure_less_one m next r P safe)) safe
 
       -- more code where the answer is false, or nothing
@@ -251,7 +251,7 @@ module _ (body : List Instr) where
           → ((p : ℕ) → Spans body p rest next → Sure body t f m p P) → Sure body t f m at (With P r)
       other_safe [] m at next r P h here live safe inner = safe_at body t f m next at (With P r) (sym (ended body at next h)) safe
       other_safe (s ∷ rest) m at next r P h here live safe inner =
-          safe_fork body t f m at next r [] (s ∷ rest) (With P r) P P (With P r) h here (λ e1 e2. absurd cc) (λ q u k. unasked P r q k) (λ q u k. unasked P r q k) live
+          safe_fork body t f m at next r [] (s ∷ rest) (With P r) P P (With P r) h here (λ e1 e2. absurd cc) (λ q k. unasked P r q k) (λ q k. unasked P r q k) live
           (λ p q z lq sq. empty_safe m p q P z (sure_less_one m q r P sq)) inner safe
 
       mutual
@@ -266,9 +266,9 @@ module _ (body : List Instr) where
             let i : Instr = instr.Kind r v (kind.Shape (shape_number c.table (ty_names_in fs))) in
             let parts = fields_test c fs v r g in
             let rest = tail body at i (fork r parts []) next h in
-            let live_fork : Lives body t f (at + 1) P = λ q u l. live_second body (at + 1) next r parts [] q rest (λ p s. at_end p next q s (live q u (inl l))) in
+            let live_fork : Lives body t f (at + 1) P = λ q l. live_second body (at + 1) next r parts [] q rest (λ p s. at_end p next q s (live q (inl l))) in
             safe_step body t f m at i P P h.0.0 (lives_on body t f at i P h.0.0 (λ q l. ((un q l).1, tt)) (inl refl) live_fork) (λ x s. s) (kept_only i P (λ q z. z))
-            (safe_fork body t f m (at + 1) next r parts [] P P P (With P r) rest live_fork (λ e1 e2 q u l. l) (λ q u k. k.0) (λ q u k. k.0) live
+            (safe_fork body t f m (at + 1) next r parts [] P P P (With P r) rest live_fork (λ e1 e2 q l. l) (λ q k. k.0) (λ q k. k.0) live
             (λ p q s lq sq. fields_safe fs m p q v r g P s un low lq sq) (λ p s. empty_safe m p next P s (sure_less_one m next r P safe)) safe)
         test_safe (ArrayTy ty) m at next v r g P h un low live safe =
             let i : Instr = instr.Kind r v kind.Array in
@@ -278,9 +278,9 @@ module _ (body : List Instr) where
             let items = items_test v r g one in
             let first : List Step = Does len ∷ Does con ∷ items in
             let rest = tail body at i (fork r first []) next h in
-            let live_fork : Lives body t f (at + 1) P = λ q u l. live_second body (at + 1) next r first [] q rest (λ p s. at_end p next q s (live q u (inl l))) in
+            let live_fork : Lives body t f (at + 1) P = λ q l. live_second body (at + 1) next r first [] q rest (λ p s. at_end p next q s (live q (inl l))) in
             safe_step body t f m at i P P h.0.0 (lives_on body t f at i P h.0.0 (λ q l. ((un q l).1, tt)) (inl refl) live_fork) (λ x s. s) (kept_only i P (λ q z. z))
-            (safe_fork body t f m (at + 1) next r first [] P P P (With P r) rest live_fork (λ e1 e2 q u l. l) (λ q u k. k.0) (λ q u k. k.0) live
+            (safe_fork body t f m (at + 1) next r first [] P P P (With P r) rest live_fork (λ e1 e2 q l. l) (λ q k. k.0) (λ q k. k.0) live
             (λ p q s lq sq.
             let two = tail body p len (Does con ∷ items) q s in
             let three = tail body (p + 1) con items q two in
@@ -295,13 +295,13 @@ module _ (body : List Instr) where
         test_safe (UnionTy a b) m at next v r g P h un low live safe =
             let mid = at + length (test c a v r g) in
             let rest = back body at (test c a v r g) (fork r [] (test c b v r g)) next h in
-            let live_mid : Lives body t f mid (With P r) = asked_lives mid next r [] (test c b v r g) P rest (λ q u l. live_first body mid next r [] (test c b v r g) q rest (λ p z s k. at_end p z q s (k (live q u (inl l))))) live in
+            let live_mid : Lives body t f mid (With P r) = asked_lives mid next r [] (test c b v r g) P rest (λ q l. live_first body mid next r [] (test c b v r g) q rest (λ p z s k. at_end p z q s (k (live q (inl l))))) live in
             test_safe a m at mid v r g P (front body at (test c a v r g) (fork r [] (test c b v r g)) next h) un low live_mid
             (other_safe (test c b v r g) m mid next r P rest live_mid live safe (λ p s. test_safe b m p next v r g P s un low live safe))
         test_safe (InterTy a b) m at next v r g P h un low live safe =
             let mid = at + length (test c a v r g) in
             let rest = back body at (test c a v r g) (fork r (test c b v r g) []) next h in
-            let live_mid : Lives body t f mid (With P r) = asked_lives mid next r (test c b v r g) [] P rest (λ q u l. live_second body mid next r (test c b v r g) [] q rest (λ p s. at_end p next q s (live q u (inl l)))) live in
+            let live_mid : Lives body t f mid (With P r) = asked_lives mid next r (test c b v r g) [] P rest (λ q l. live_second body mid next r (test c b v r g) [] q rest (λ p s. at_end p next q s (live q (inl l)))) live in
             test_safe a m at mid v r g P (front body at (test c a v r g) (fork r (test c b v r g) []) next h) un low live_mid
             (one_safe (test c b v r g) m mid next r P rest live_mid live safe (λ p q s lq sq. test_safe b m p q v r g P s un low lq sq))
         test_safe (NotTy a) m at next v r g P h un low live safe =
@@ -309,17 +309,17 @@ module _ (body : List Instr) where
             let i : Instr = instr.Not r r in
             let rest = back body at (test c a v r g) (Does i ∷ []) next h in
             let e : next ≡ mid + 1 = (let z = rest.1 in omega (arith, z)) in
-            let live_mid : Lives body t f mid (With P r) = λ q u l. either (λ k. live_on body mid (mid + 1) q i rest.0.0 ((un q k).1, tt) (inl refl) (lives_at body t f next (mid + 1) (With P r) e live q u (inl k))) (λ w. live_reads body mid q i rest.0.0 (inl w)) l in
+            let live_mid : Lives body t f mid (With P r) = λ q l. either (λ k. live_on body mid (mid + 1) q i rest.0.0 ((un q k).1, tt) (inl refl) (lives_at body t f next (mid + 1) (With P r) e live q (inl k))) (λ w. live_reads body mid q i rest.0.0 (inl w)) l in
             test_safe a m at mid v r g P (front body at (test c a v r g) (Does i ∷ []) next h) un low live_mid
-            (safe_step body t f m mid i (With P r) P rest.0.0 live_mid (λ x s. s) (λ q u l. either (λ z. unasked P r q (z.0, z.1.0)) (λ z. absurd z) l) (safe_at body t f m next (mid + 1) P e (sure_less_one m next r P safe)))
+            (safe_step body t f m mid i (With P r) P rest.0.0 live_mid (λ x s. s) (λ q l. either (λ z. unasked P r q (z.0, z.1.0)) (λ z. absurd z) l) (safe_at body t f m next (mid + 1) P e (sure_less_one m next r P safe)))
         test_safe (NamedTy k) m at next v r g P h un low live safe =
             let i : Instr = instr.Share g v in let j : Instr = instr.Call r (length c.results + k) (g ∷ []) in
             let two = tail body at i (Does j ∷ []) next h in
             let e : next ≡ at + 1 + 1 = (let z = two.1 in omega (arith, z)) in
-            let live_call : Lives body t f (at + 1) (With P g) = λ q u l. either (λ p. live_on body (at + 1) (at + 1 + 1) q j two.0.0 ((un q p).1, (less_not q g (un q p).0, tt)) (inl refl) (lives_at body t f next (at + 1 + 1) (With P r) e live q u (inl p))) (λ s. live_reads body (at + 1) q j two.0.0 (inl s)) l in
-            let waits : (q : ℕ) → t.untold f q ≡ false → Told_of body t f (With P g) q → IsNone q (g ∷ []) → q ≢ r = λ q u l none. either (λ k. either (λ p. (un q p).1) (λ s. absurd (none.0 s)) k) (λ w. absurd (let x : true ≡ false = sym w ∙ u in cc)) l in
-            let after : Less t f (Behind body t f j (With P g)) (With P r) = λ q u l. either (λ z. either (λ p. inl p) (λ s. absurd (z.1.0 s)) z.0) (λ z. inr z.0) l in
-            safe_step body t f m at i P (With P g) h.0.0 (λ q u l. live_on body at (at + 1) q i h.0.0 (less_not q g (un q l).0, tt) (inl refl) (live_call q u (inl l))) (λ x s. s) (λ q u l. either (λ z. inl z.0) (λ z. inr z.0) l)
+            let live_call : Lives body t f (at + 1) (With P g) = λ q l. either (λ p. live_on body (at + 1) (at + 1 + 1) q j two.0.0 ((un q p).1, (less_not q g (un q p).0, tt)) (inl refl) (lives_at body t f next (at + 1 + 1) (With P r) e live q (inl p))) (λ s. live_reads body (at + 1) q j two.0.0 (inl s)) l in
+            let waits : (q : ℕ) → With P g q → IsNone q (g ∷ []) → q ≢ r = λ q l none. either (λ p. (un q p).1) (λ s. absurd (none.0 s)) l in
+            let after : Within (After t j (With P g)) (With P r) = λ q l. either (λ z. either (λ p. inl p) (λ s. absurd (z.1.0 s)) z.0) (λ z. inr z.0) l in
+            safe_step body t f m at i P (With P g) h.0.0 (λ q l. live_on body at (at + 1) q i h.0.0 (less_not q g (un q l).0, tt) (inl refl) (live_call q (inl l))) (λ x s. s) (λ q l. either (λ z. inl z.0) (λ z. inr z.0) l)
             (safe_step body t f m (at + 1) j (With P g) (With P r) two.0.0 live_call (λ x s. (waits, s)) after (safe_at body t f m next (at + 1 + 1) (With P r) e safe))
         test_safe (NormalTy cs) m at next v r g P h un low live safe = const_safe m at next r g (scalar.Bool false) P h un (live_less next r P live) (sure_less_one m next r P safe)
 
@@ -334,11 +334,11 @@ module _ (body : List Instr) where
             let last = back body (at + 1) one (field_end r g rest) next inner in
             let two = tail body mid (instr.Move (suc g) g) (Does (instr.Clear (suc g ∷ [])) ∷ fork r rest []) next last in
             let three = tail body (mid + 1) (instr.Clear (suc g ∷ [])) (fork r rest []) next two in
-            let live_fork : Lives body t f (mid + 1 + 1) (With P r) = asked_lives (mid + 1 + 1) next r rest [] P three (λ q u l. live_second body (mid + 1 + 1) next r rest [] q three (λ p s. at_end p next q s (live q u (inl l)))) live in
+            let live_fork : Lives body t f (mid + 1 + 1) (With P r) = asked_lives (mid + 1 + 1) next r rest [] P three (λ q l. live_second body (mid + 1 + 1) next r rest [] q three (λ p s. at_end p next q s (live q (inl l)))) live in
             let facts = dropped_safe m mid next g (suc g) (fork r rest []) (With P r) last
             (λ q l. either (λ k. let z = (un q k).0 in (less_not q g z, less_not q (suc g) (omega (arith, z)))) (λ w. (less_not q g (omega (arith, w, low)), less_not q (suc g) (omega (arith, w, low)))) l) live_fork
             (one_safe rest m (mid + 1 + 1) next r P three live_fork live safe (λ p q s lq sq. fields_safe fs m p q v r g P s un low lq sq)) in
             safe_step body t f m at i P (With P g) h.0.0
-            (λ q u l. live_on body at (at + 1) q i h.0.0 (less_not q g (un q l).0, tt) (inl refl) (test_live ty g r (suc g) (at + 1) mid q one_span (let z = (un q l).0 in omega (arith, z)) (un q l).1 (facts.1 q u (inl (inl l)))))
-            (λ x s. s) (λ q u l. either (λ z. inl z.0) (λ z. inr z) l)
+            (λ q l. live_on body at (at + 1) q i h.0.0 (less_not q g (un q l).0, tt) (inl refl) (test_live ty g r (suc g) (at + 1) mid q one_span (let z = (un q l).0 in omega (arith, z)) (un q l).1 (facts.1 q (inl (inl l)))))
+            (λ x s. s) (λ q l. either (λ z. inl z.0) (λ z. inr z) l)
             (test_safe ty m (at + 1) mid g r (suc g) (With P g) one_span (with_untouched r g g P un low (omega arith)) (omega (arith, low)) (live_turned mid r g P facts.1) (sure_turned m mid r g P facts.0))

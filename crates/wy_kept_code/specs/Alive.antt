@@ -118,28 +118,3 @@ is_clear (instr.Call d f rs) = false
 is_clear (instr.Return r) = false
 is_clear (instr.Print a) = false
 is_clear (instr.PrintInt a) = false
-
--- whether an instruction jumps
-abbrev pub is_jump : Instr → Bool
-is_jump (instr.Const d c) = false
-is_jump (instr.Move d r) = false
-is_jump (instr.Share d r) = false
-is_jump (instr.Clear rs) = false
-is_jump (instr.Arith d op a b) = false
-is_jump (instr.Compare d op a b) = false
-is_jump (instr.Equal d a b) = false
-is_jump (instr.Not d a) = false
-is_jump (instr.Jump t) = true
-is_jump (instr.Branch r t) = false
-is_jump (instr.Array d rs) = false
-is_jump (instr.Record d k rs) = false
-is_jump (instr.Fill d v n) = false
-is_jump (instr.Len d a) = false
-is_jump (instr.Get d a i) = false
-is_jump (instr.Field d a f) = false
-is_jump (instr.Put a path v) = false
-is_jump (instr.Kind d a k) = false
-is_jump (instr.Call d f rs) = false
-is_jump (instr.Return r) = false
-is_jump (instr.Print a) = false
-is_jump (instr.PrintInt a) = false

@@ -1,15 +1,15 @@
 -- Nothing dead is kept in the code of a program.
-use Rattle.std.specs.Prelude.{◌≡◌, ◌⊎◌, ℕ, zero, suc, max, List, [], ◌∷◌, length, Bool, true, false, not, ◌&&◌, ◌||◌, nat_lt, Option, Some, None}
+use Rattle.std.specs.Prelude.{◌≡◌, ◌⊎◌, ℕ, zero, suc, List, [], ◌∷◌, Bool, true, Option, Some, None}
 use Rattle.wy_value.specs.Datum.{Datum}
 use Rattle.wy_core.specs.CoreTree as tree
-use Rattle.wy_core.specs.CoreTree.{Expr, NullExpr, BoolExpr, IntExpr, VarExpr, CallExpr, NegExpr, NotExpr, LenExpr, BinaryExpr, IsExpr, IndexExpr, FieldExpr, ListExpr, RepeatExpr, RecordExpr, QuantExpr, Exprs, NoExprs, MoreExprs, Fields, NoFields, MoreFields, Step, IndexStep, FieldStep, Stmt, DeclareStmt, AssignStmt, CallStmt, ReturnStmt, AssertStmt, BreakStmt, ContinueStmt, SkipStmt, FailStmt, IfStmt, WhileStmt, Stmts, NoStmts, MoreStmts, Param, Alias, Core, aliases_of, routines_of}
+use Rattle.wy_core.specs.CoreTree.{Expr, NullExpr, BoolExpr, IntExpr, VarExpr, CallExpr, NegExpr, NotExpr, LenExpr, BinaryExpr, IsExpr, IndexExpr, FieldExpr, ListExpr, RepeatExpr, RecordExpr, QuantExpr, Exprs, NoExprs, MoreExprs, Fields, NoFields, MoreFields, Step, IndexStep, FieldStep, Stmt, DeclareStmt, AssignStmt, CallStmt, ReturnStmt, AssertStmt, BreakStmt, ContinueStmt, SkipStmt, FailStmt, IfStmt, WhileStmt, Stmts, NoStmts, MoreStmts, Param, Core, routines_of}
 use Rattle.wy_formed.specs.Formed.{Formed}
 use Rattle.wy_tables.specs.Tables.{results_of}
 use Rattle.wy_compiled.specs.Programs.{code_of}
 use Rattle.wy_step.specs.Step.{start, after}
 use Rattle.wy_simulated_tests.specs.Tested.{ClausesNameTheirs}
 use Rattle.wy_simulated_programs.specs.Programs.{AllInOrder}
-use Rattle.wy_kept_code.specs.Safe.{Told, KeepsNothing}
+use Rattle.wy_kept_code.specs.Safe.{Gives, KeepsNothing}
 
 -- ---- the variables of quantifiers
 
@@ -103,30 +103,18 @@ OwnCounters (r ∷ rs) = ((x : ℕ) → CountsStmts r.body x → IsDeclared r x 
 
 -- ---- the law
 
--- how many variables the routine with this number has, which have the first registers of its frame
-abbrev pub variables_in : List (tree.Routine ℕ) → List (Alias ℕ) → ℕ → ℕ
-variables_in [] [] f = 0
-variables_in [] (a ∷ more) zero = max 1 (length a.variables)
-variables_in [] (a ∷ more) (suc f) = variables_in [] more f
-variables_in (r ∷ rs) more zero = length r.variables
-variables_in (r ∷ rs) more (suc f) = variables_in rs more f
-
 -- whether the routine may give a list or a record; what a test of a type says is the value of its last clause, which may be any
 abbrev pub result_at : List Bool → ℕ → Bool
 result_at [] f = true
 result_at (b ∷ bs) zero = b
 result_at (b ∷ bs) (suc f) = result_at bs f
 
--- of each register something is said, while a jump is next of those of variables alone; or, where the program is loose, of these alone
-abbrev pub told_of : Core ℕ → Bool → Told
-told_of core loose = record {
-  untold = (λ f r. loose && not (nat_lt r (variables_in (routines_of core) (aliases_of core) f)));
-  passing = (λ f r. not (nat_lt r (variables_in (routines_of core) (aliases_of core) f)));
-  results = (λ f. loose || result_at (results_of (routines_of core)) f);
-}
+-- so of each routine of the code
+abbrev pub gives_of : Core ℕ → Gives
+gives_of core f = result_at (results_of (routines_of core)) f
 
-abbrev pub RunsKeep : Core ℕ → Bool → Type 0
-RunsKeep core loose = (f : ℕ) (vs : List Datum) (n : ℕ) → KeepsNothing (told_of core loose) (code_of core) (after (code_of core) n (start (code_of core) f vs))
+abbrev pub RunsKeep : Core ℕ → Type 0
+RunsKeep core = (f : ℕ) (vs : List Datum) (n : ℕ) → KeepsNothing (code_of core) (after (code_of core) n (start (code_of core) f vs))
 
 -- what is asked of each program
 pub record Asked (core : Core ℕ) : Type 0 where
@@ -135,10 +123,6 @@ pub record Asked (core : Core ℕ) : Type 0 where
   pub names : ClausesNameTheirs core
   pub counters : OwnCounters (routines_of core)
 
--- in each run of the code, on whatever arguments, whenever the next instruction of a frame is no `Clear`: each register of the frame that holds a list or a record is live at the frame's place; of a value's register nothing is said while a jump is next
+-- in each run of the code, on whatever arguments, whenever the next instruction of a frame is no `Clear`: each register of the frame that holds a list or a record is live at the frame's place
 abbrev pub NothingDeadIsKept : Type 0
-NothingDeadIsKept = (core : Core ℕ) → Asked core → RunsKeep core false
-
--- in each program, the register of each variable that holds a list or a record is
-abbrev pub NoDeadVariableIsKept : Type 0
-NoDeadVariableIsKept = (core : Core ℕ) → Asked core → RunsKeep core true
+NothingDeadIsKept = (core : Core ℕ) → Asked core → RunsKeep core

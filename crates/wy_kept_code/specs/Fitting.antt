@@ -16,42 +16,42 @@ IsValue Nothing = ⊥
 
 abbrev mutual
   -- the variable of a quantifier is none of those in use around it
-  pub Fits : Context → ℕ → Type 0 → Expr ℕ → (ℕ → Type 0) → Type 0
-  Fits c n L (NullExpr at) U = Unit {0}
-  Fits c n L (BoolExpr at truth) U = Unit {0}
-  Fits c n L (IntExpr at number) U = Unit {0}
-  Fits c n L (VarExpr at x) U = U x
-  Fits c n L (CallExpr at g args) U = IsValue (target c.results g) × FitAll c n L args U
-  Fits c n L (NegExpr at a) U = Fits c n L a U
-  Fits c n L (NotExpr at a) U = Fits c n L a U
-  Fits c n L (LenExpr at a) U = Fits c n L a U
-  Fits c n L (BinaryExpr at o a b) U = Fits c n L a U × Fits c n L b U
-  Fits c n L (IsExpr at a ty) U = Fits c n L a U
-  Fits c n L (IndexExpr at a b) U = Fits c n L a U × Fits c n L b U
-  Fits c n L (FieldExpr at a name) U = Fits c n L a U
-  Fits c n L (ListExpr at items) U = FitAll c n L items U
-  Fits c n L (RepeatExpr at a b) U = Fits c n L a U × Fits c n L b U
-  Fits c n L (RecordExpr at fs) U = FitFields c n L fs U
-  Fits c n L (QuantExpr at all x a b body) U = Fits c n L a U × Fits c n L b U × (U x → ⊥) × (x < n) × Fits c n L body (λ r. U r ⊎ (r ≡ x))
+  pub Fits : Context → ℕ → Expr ℕ → (ℕ → Type 0) → Type 0
+  Fits c n (NullExpr at) U = Unit {0}
+  Fits c n (BoolExpr at truth) U = Unit {0}
+  Fits c n (IntExpr at number) U = Unit {0}
+  Fits c n (VarExpr at x) U = U x
+  Fits c n (CallExpr at g args) U = IsValue (target c.results g) × FitAll c n args U
+  Fits c n (NegExpr at a) U = Fits c n a U
+  Fits c n (NotExpr at a) U = Fits c n a U
+  Fits c n (LenExpr at a) U = Fits c n a U
+  Fits c n (BinaryExpr at o a b) U = Fits c n a U × Fits c n b U
+  Fits c n (IsExpr at a ty) U = Fits c n a U
+  Fits c n (IndexExpr at a b) U = Fits c n a U × Fits c n b U
+  Fits c n (FieldExpr at a name) U = Fits c n a U
+  Fits c n (ListExpr at items) U = FitAll c n items U
+  Fits c n (RepeatExpr at a b) U = Fits c n a U × Fits c n b U
+  Fits c n (RecordExpr at fs) U = FitFields c n fs U
+  Fits c n (QuantExpr at all x a b body) U = Fits c n a U × Fits c n b U × (U x → ⊥) × (x < n) × Fits c n body (λ r. U r ⊎ (r ≡ x))
 
-  pub FitAll : Context → ℕ → Type 0 → Exprs ℕ → (ℕ → Type 0) → Type 0
-  FitAll c n L NoExprs U = Unit {0}
-  FitAll c n L (MoreExprs e es) U = Fits c n L e U × FitAll c n L es U
+  pub FitAll : Context → ℕ → Exprs ℕ → (ℕ → Type 0) → Type 0
+  FitAll c n NoExprs U = Unit {0}
+  FitAll c n (MoreExprs e es) U = Fits c n e U × FitAll c n es U
 
-  pub FitFields : Context → ℕ → Type 0 → Fields ℕ → (ℕ → Type 0) → Type 0
-  FitFields c n L NoFields U = Unit {0}
-  FitFields c n L (MoreFields name e fs) U = Fits c n L e U × FitFields c n L fs U
+  pub FitFields : Context → ℕ → Fields ℕ → (ℕ → Type 0) → Type 0
+  FitFields c n NoFields U = Unit {0}
+  FitFields c n (MoreFields name e fs) U = Fits c n e U × FitFields c n fs U
 
 -- ---- statements
 
-abbrev pub FitsOption : Context → ℕ → Type 0 → Option (Expr ℕ) → (ℕ → Type 0) → Type 0
-FitsOption c n L None U = Unit {0}
-FitsOption c n L (Some e) U = Fits c n L e U
+abbrev pub FitsOption : Context → ℕ → Option (Expr ℕ) → (ℕ → Type 0) → Type 0
+FitsOption c n None U = Unit {0}
+FitsOption c n (Some e) U = Fits c n e U
 
-abbrev pub FitsPath : Context → ℕ → Type 0 → List (Step ℕ) → (ℕ → Type 0) → Type 0
-FitsPath c n L [] U = Unit {0}
-FitsPath c n L (IndexStep at e ∷ path) U = Fits c n L e U × FitsPath c n L path U
-FitsPath c n L (FieldStep at name ∷ path) U = FitsPath c n L path U
+abbrev pub FitsPath : Context → ℕ → List (Step ℕ) → (ℕ → Type 0) → Type 0
+FitsPath c n [] U = Unit {0}
+FitsPath c n (IndexStep at e ∷ path) U = Fits c n e U × FitsPath c n path U
+FitsPath c n (FieldStep at name ∷ path) U = FitsPath c n path U
 
 -- something is called, on as many values as it takes where that is known
 abbrev pub IsAction : Target → ℕ → Type 0
@@ -66,19 +66,19 @@ MayGive R None = Unit {0}
 MayGive R (Some e) = R
 
 abbrev mutual
-  pub FitsStmt : Context → ℕ → Type 0 → Type 0 → Stmt ℕ → (ℕ → Type 0) → Type 0
-  FitsStmt c n L R (DeclareStmt at ty x value) U = U x × FitsOption c n L value U
-  FitsStmt c n L R (AssignStmt at x path e) U = U x × FitsPath c n L path U × Fits c n L e U
-  FitsStmt c n L R (CallStmt at g args) U = IsAction (target c.results g) (count_of args) × FitAll c n L args U
-  FitsStmt c n L R (ReturnStmt at value) U = FitsOption c n L value U × MayGive R value
-  FitsStmt c n L R (AssertStmt at e) U = Unit {0}
-  FitsStmt c n L R (BreakStmt at) U = Unit {0}
-  FitsStmt c n L R (ContinueStmt at) U = Unit {0}
-  FitsStmt c n L R (SkipStmt at) U = Unit {0}
-  FitsStmt c n L R (FailStmt at) U = Unit {0}
-  FitsStmt c n L R (IfStmt at e first second) U = Fits c n L e U × FitsStmts c n L R first U × FitsStmts c n L R second U
-  FitsStmt c n L R (WhileStmt at e invariants inner) U = Fits c n L e U × FitsStmts c n L R inner U
+  pub FitsStmt : Context → ℕ → Type 0 → Stmt ℕ → (ℕ → Type 0) → Type 0
+  FitsStmt c n R (DeclareStmt at ty x value) U = U x × FitsOption c n value U
+  FitsStmt c n R (AssignStmt at x path e) U = U x × FitsPath c n path U × Fits c n e U
+  FitsStmt c n R (CallStmt at g args) U = IsAction (target c.results g) (count_of args) × FitAll c n args U
+  FitsStmt c n R (ReturnStmt at value) U = FitsOption c n value U × MayGive R value
+  FitsStmt c n R (AssertStmt at e) U = Unit {0}
+  FitsStmt c n R (BreakStmt at) U = Unit {0}
+  FitsStmt c n R (ContinueStmt at) U = Unit {0}
+  FitsStmt c n R (SkipStmt at) U = Unit {0}
+  FitsStmt c n R (FailStmt at) U = Unit {0}
+  FitsStmt c n R (IfStmt at e first second) U = Fits c n e U × FitsStmts c n R first U × FitsStmts c n R second U
+  FitsStmt c n R (WhileStmt at e invariants inner) U = Fits c n e U × FitsStmts c n R inner U
 
-  pub FitsStmts : Context → ℕ → Type 0 → Type 0 → Stmts ℕ → (ℕ → Type 0) → Type 0
-  FitsStmts c n L R NoStmts U = Unit {0}
-  FitsStmts c n L R (MoreStmts st rest) U = FitsStmt c n L R st U × FitsStmts c n L R rest U
+  pub FitsStmts : Context → ℕ → Type 0 → Stmts ℕ → (ℕ → Type 0) → Type 0
+  FitsStmts c n R NoStmts U = Unit {0}
+  FitsStmts c n R (MoreStmts st rest) U = FitsStmt c n R st U × FitsStmts c n R rest U

@@ -2,8 +2,6 @@
 pub mod Alive
 -- code that keeps nothing dead, whatever it holds
 pub mod Safe
--- of which registers something is said
-pub mod Telling
 -- what is asked of expressions and statements
 pub mod Fitting
 -- the law on programs

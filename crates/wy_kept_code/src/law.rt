@@ -1,24 +1,17 @@
 //! Which registers of a run may hold lists and records.
 ghost use Rattle.wy_kept_code.specs.Safe.{SafeRunsKeepNothing};
-ghost use Rattle.wy_kept_code.specs.Dead.{NoDeadVariableIsKept, NothingDeadIsKept};
+ghost use Rattle.wy_kept_code.specs.Dead.{NothingDeadIsKept};
 
 /// Where code is safe from each routine's entry on, whatever its arguments, then in each run of it, whenever the next
-/// instruction of a frame is no `Clear`, each register of the frame of which something is said and that holds a list or a record is
-/// live at the frame's place.
+/// instruction of a frame is no `Clear`, each register of the frame that holds a list or a record is live at the frame's place.
 pub fn runs_of_safe_code_keep_nothing_dead()
     ensures keep { SafeRunsKeepNothing }
 {}
 
 /// In each run of the code of a formed program, on whatever arguments, whenever the next instruction of a frame is no `Clear`,
-/// each register of a variable that holds a list or a record is live at the frame's place: some path of the code from there
-/// reads it before it is changed. The parameters are numbered in order, each type with clauses has a variable, and no variable
-/// of a quantifier has the number of a declared one.
-pub fn no_dead_variable_is_kept()
-    ensures keep { NoDeadVariableIsKept }
-{}
-
-/// The same of all registers, those of values too, but for a value's register while the next instruction of the frame is a jump:
-/// behind the right operand of `&&` a jump may lead to the release of the value.
+/// each register that holds a list or a record, of a variable or of a value, is live at the frame's place: some path of the code
+/// from there reads it before it is changed. The parameters are numbered in order, each type with clauses has a variable, and no
+/// variable of a quantifier has the number of a declared one.
 pub fn nothing_dead_is_kept()
     ensures keep { NothingDeadIsKept }
 {}

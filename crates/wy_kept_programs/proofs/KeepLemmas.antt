@@ -7,16 +7,13 @@ use Rattle.wy_names.specs.Named.{IsNamed}
 use Rattle.wy_named.proofs.FormedLemmas.{named_formed}
 use Rattle.wy_named_programs.proofs.NamedLemmas.{named_in_order, named_name_theirs}
 use Rattle.wy_kept_code.specs.Dead.{Asked}
-use Rattle.wy_kept_code.proofs.ProgramLemmas.{no_dead_variable, nothing_dead}
-use Rattle.wy_kept_programs.specs.NamedKeep.{IsSource, NamedKeepNoDeadVariable, NamedKeepNothingDead}
+use Rattle.wy_kept_code.proofs.ProgramLemmas.{nothing_dead}
+use Rattle.wy_kept_programs.specs.NamedKeep.{IsSource, NamedKeepNothingDead}
 use Rattle.wy_kept_programs.proofs.DeclLemmas.{named_own}
 
 asked : (ds : List Decl) (core : Core) → IsSource ds → IsNamed ds core → Asked (seen_core core)
 asked ds core source h =
     record { formed = named_formed ds core source.few source.ints source.clauses h; order = named_in_order ds core h; names = named_name_theirs ds core source.names h; counters = named_own ds core h }
-
-pub named_no_dead_variable : NamedKeepNoDeadVariable
-named_no_dead_variable ds core source h = no_dead_variable (seen_core core) (asked ds core source h)
 
 pub named_nothing_dead : NamedKeepNothingDead
 named_nothing_dead ds core source h = nothing_dead (seen_core core) (asked ds core source h)

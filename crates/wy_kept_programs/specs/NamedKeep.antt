@@ -1,5 +1,5 @@
 -- Nothing dead is kept in the code of a program with names.
-use Rattle.std.specs.Prelude.{◌<◌, List, length, true, false}
+use Rattle.std.specs.Prelude.{◌<◌, List, length}
 use Rattle.wy_ast.specs.SurfaceTree.{Decl}
 use Rattle.wy_core.specs.CoreSeen.{seen_core}
 use Rattle.wy_core.specs.declared.declarations.Core.{Core}
@@ -16,10 +16,5 @@ pub record IsSource (ds : List Decl) : Type 0 where
   pub clauses : HaveClauses ds
   pub names : SourcesName ds
 
--- the registers of variables
-abbrev pub NamedKeepNoDeadVariable : Type 0
-NamedKeepNoDeadVariable = (ds : List Decl) (core : Core) → IsSource ds → IsNamed ds core → RunsKeep (seen_core core) true
-
--- all registers
 abbrev pub NamedKeepNothingDead : Type 0
-NamedKeepNothingDead = (ds : List Decl) (core : Core) → IsSource ds → IsNamed ds core → RunsKeep (seen_core core) false
+NamedKeepNothingDead = (ds : List Decl) (core : Core) → IsSource ds → IsNamed ds core → RunsKeep (seen_core core)

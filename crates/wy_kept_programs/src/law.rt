@@ -1,6 +1,6 @@
 //! What is known of the code of programs with names.
 ghost use Rattle.wy_kept_programs.specs.NamedCounters.{NamedCountersAreOwn};
-ghost use Rattle.wy_kept_programs.specs.NamedKeep.{NamedKeepNoDeadVariable, NamedKeepNothingDead};
+ghost use Rattle.wy_kept_programs.specs.NamedKeep.{NamedKeepNothingDead};
 
 /// In the core of a program with names no variable of a quantifier that is run has the number of a parameter or of a variable
 /// that a statement declares.
@@ -9,12 +9,7 @@ pub fn named_counters_are_own()
 {}
 
 /// In each run of the code of a program with names, on whatever arguments, whenever the next instruction of a frame is no
-/// `Clear`, each register of a variable that holds a list or a record is live at the frame's place.
-pub fn named_programs_keep_no_dead_variable()
-    ensures keep { NamedKeepNoDeadVariable }
-{}
-
-/// The same of all registers, but for a value's register while the next instruction of the frame is a jump.
+/// `Clear`, each register that holds a list or a record, of a variable or of a value, is live at the frame's place.
 pub fn named_programs_keep_nothing_dead()
     ensures keep { NamedKeepNothingDead }
 {}

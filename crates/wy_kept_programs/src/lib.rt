@@ -5,6 +5,4 @@
 
 mod law;
 
-pub use law::{
-    named_counters_are_own, named_programs_keep_no_dead_variable, named_programs_keep_nothing_dead,
-};
+pub use law::{named_counters_are_own, named_programs_keep_nothing_dead};

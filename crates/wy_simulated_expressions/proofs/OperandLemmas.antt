@@ -18,7 +18,7 @@ use Rattle.wy_pieces.specs.declared.steps.Step.{Step}
 use Rattle.wy_pieces.specs.declared.steps.Step.TheVariants.{Does}
 use Rattle.wy_pieces.specs.Steps.{fork}
 use Rattle.wy_compiled.specs.Expressions.{code, lost, lost_below, released, is_plain, operator, operate, right_register}
-use Rattle.wy_sem.specs.Meter.{Meter, Done, Run, ◌>>=◌, spend}
+use Rattle.wy_sem.specs.Meter.{Meter, Outcome, Done, Fault, More, Spent, Run, ◌>>=◌, spend}
 use Rattle.wy_sem.specs.Operations.{applied, second, operated}
 use Rattle.wy_sem.specs.Expressions.{Store, slot, put, Setting, eval}
 use Rattle.wy_step.specs.Step.{Caller, cleared}
@@ -66,16 +66,31 @@ pub none_behind : (n : ℕ) (s t : Variables) (xs : List ℕ) (y : ℕ) → ((x 
 none_behind n s t [] y below behind h = tt
 none_behind n s t (x ∷ xs) y below behind h = ((λ same. absurd (let l = below x h.0.0 in omega (arith, l, behind, same))), none_behind n s t xs y below behind h.1)
 
--- the registers of variables that are no longer live are released
-pub got_cleared : (vs : Scope) (n d : ℕ) (s t : Variables) (store first regs : Store) (v : Datum) → ((x : ℕ) → has s x ≡ true → x < n) → ((x : ℕ) → has t x ≡ true → has s x ≡ true) → n ≤ d → Got vs n d s store first v regs → Got vs n d t store first v (cleared regs (lost s t))
-got_cleared vs n d s t store first regs v below fewer behind got =
+-- fewer variables are live
+got_fewer : (vs : Scope) (n d : ℕ) (s t : Variables) (store first regs : Store) (v : Datum) → ((x : ℕ) → has t x ≡ true → has s x ≡ true) → Got vs n d s store first v regs → Got vs n d t store first v regs
+got_fewer vs n d s t store first regs v fewer got = record { value = got.value; live = record { holds = λ x u i h e. got.live.holds x u i (fewer x h) e }; kept = got.kept; size = got.size }
+
+-- the registers of variables that aren't live are released
+got_released : (vs : Scope) (n d : ℕ) (s t : Variables) (store first regs : Store) (v : Datum) → ((x : ℕ) → has s x ≡ true → x < n) → n ≤ d → Got vs n d t store first v regs → Got vs n d t store first v (cleared regs (lost s t))
+got_released vs n d s t store first regs v below behind got =
     let gone = are_lost s t (length s) in
     record {
       value = cleared_other regs (lost s t) d (none_behind n s t (lost s t) d below behind gone) ∙ got.value;
-      live = record { holds = λ x u i h e. cleared_other regs (lost s t) x (none_live s t (lost s t) x h gone) ∙ got.live.holds x u i (fewer x h) e };
+      live = record { holds = λ x u i h e. cleared_other regs (lost s t) x (none_live s t (lost s t) x h gone) ∙ got.live.holds x u i h e };
       kept = λ a b l. cleared_other regs (lost s t) a (none_behind n s t (lost s t) a below b gone) ∙ got.kept a b l;
       size = cleared_size regs (lost s t) ∙ got.size;
     }
+
+-- those of variables that are no longer live
+pub got_cleared : (vs : Scope) (n d : ℕ) (s t : Variables) (store first regs : Store) (v : Datum) → ((x : ℕ) → has s x ≡ true → x < n) → ((x : ℕ) → has t x ≡ true → has s x ≡ true) → n ≤ d → Got vs n d s store first v regs → Got vs n d t store first v (cleared regs (lost s t))
+got_cleared vs n d s t store first regs v below fewer behind got = got_released vs n d s t store first regs v below behind (got_fewer vs n d s t store first regs v fewer got)
+
+-- an answer goes on to itself
+bind_done : {X : Type 0} (o : Outcome X) → (o >>= (λ x k. Done x k)) ≡ o
+bind_done (Done x k) = refl
+bind_done (Fault kind at k) = refl
+bind_done (More k) = refl
+bind_done Spent = refl
 
 -- an operator that may leave its second operand out
 abbrev pub IsEarly : Op → Type 0
@@ -189,10 +204,10 @@ module _ (c : Context) (routines : List Routine) (f : ℕ) (r : Routine) (there 
   -- ---- `&&` and `||`
 
   -- what the right side alone would have used is released
-  skipped : (vs : Scope) (d : ℕ) (s t : Variables) (store first regs : Store) (v : Bool) (callers : List Caller) (m : Meter) → ((x : ℕ) → has s x ≡ true → x < n) → ((x : ℕ) → has t x ≡ true → has s x ≡ true) → n ≤ d → Got vs n d s store first (Truth v) regs
-      → (p : ℕ) → StandAt r.body p (released s t) → Follows mach wide 0 1 m (at_place f p regs callers m.output) (Done (Truth v) m) (Comes f (p + length (released s t)) callers (Gained vs n d t store first))
-  skipped vs d s t store first regs v callers m below fewer behind got =
-      clear_runs mach f r there wide (lost s t) regs callers m (Truth v) (Gained vs n d t store first) (tt, got_cleared vs n d s t store first regs (Truth v) below fewer behind got)
+  skipped : (vs : Scope) (d : ℕ) (s t : Variables) (store first regs : Store) (v : Datum) (callers : List Caller) (m : Meter) → ((x : ℕ) → has s x ≡ true → x < n) → n ≤ d → Gained vs n d t store first v regs
+      → (p : ℕ) → StandAt r.body p (released s t) → Follows mach wide 0 1 m (at_place f p regs callers m.output) (Done v m) (Comes f (p + length (released s t)) callers (Gained vs n d t store first))
+  skipped vs d s t store first regs v callers m below behind got =
+      clear_runs mach f r there wide (lost s t) regs callers m v (Gained vs n d t store first) (got.0, got_released vs n d s t store first regs v below behind got.1)
 
   -- two in a row keep what both keep
   both_got : (vs : Scope) (d : ℕ) (s t : Variables) (store first middle regs : Store) (u v : Datum) → Got vs n d s store first u middle → Got vs n d t store middle v regs → Got vs n d t store first v regs
@@ -225,28 +240,51 @@ module _ (c : Context) (routines : List Routine) (f : ℕ) (r : Routine) (there 
         first_part b sb 0 0 (size b) (omega arith) o k vs s d p store middle callers i bb low known behind stood one.live proper (one.size ∙ whole) few (λ u j. applied q place v u j) (p + length (code c b s d)) (Gained vs n d s store regs)
         (λ u j last le pu two. last_truth q early place vs d s store regs v u j (p + length (code c b s d)) last callers (both_got vs d (before b s) s store regs middle last v u one two))
 
+    -- what it alone would have used is released
+    given_up : (v : Datum) (i : Meter) (last : Store) → Gained vs n d s store regs v last → (p : ℕ) → StandAt r.body p (released (before b s) s)
+        → Follows mach wide 0 1 i (at_place f p last callers i.output) (Done v i) (Comes f (p + length (released (before b s) s)) callers (Gained vs n d s store regs))
+    given_up v i last got p stood = skipped vs d (before b s) s store regs last v callers i (is_below n vs (before b s) (known_before o k n low vs b s bb known)) behind got p stood
+
+    -- the value of the first operand is that of the whole
+    first_truth : (v : Datum) (t g : Bool) (middle : Store) → v ≡ Truth t → t ≡ g → Got vs n d (before b s) store regs v middle → Gained vs n d s store regs (Truth g) middle
+    first_truth v t g middle e same one = (tt, got_fewer vs n d (before b s) s store regs middle (Truth g) fewer (subst (λ (x : Datum). Got vs n d (before b s) store regs x middle) (e ∙ ap (λ (x : Bool). Truth x) same) one))
+
     -- or it is left out
     left_out : (v : Datum) (t g : Bool) (i : Meter) (middle : Store) → v ≡ Truth t → t ≡ g → Got vs n d (before b s) store regs v middle → (p : ℕ) → StandAt r.body p (released (before b s) s)
         → Follows mach wide 0 1 i (at_place f p middle callers i.output) (Done (Truth g) i) (Comes f (p + length (released (before b s) s)) callers (Gained vs n d s store regs))
-    left_out v t g i middle e same one p stood =
-        skipped vs d (before b s) s store regs middle g callers i (is_below n vs (before b s) (known_before o k n low vs b s bb known)) fewer behind (subst (λ (x : Datum). Got vs n d (before b s) store regs x middle) (e ∙ ap (λ (x : Bool). Truth x) same) one) p stood
+    left_out v t g i middle e same one p stood = given_up (Truth g) i middle (first_truth v t g middle e same one) p stood
 
     held : (v : Datum) (t g : Bool) (middle : Store) → v ≡ Truth t → t ≡ g → Got vs n d (before b s) store regs v middle → slot middle d ≡ Some (Truth g)
     held v t g middle e same one = one.value ∙ ap (λ (x : Datum). Some x) (e ∙ ap (λ (x : Bool). Truth x) same)
 
+    -- `&&` up to the release
+    and_goes : (v : Datum) (i : Meter) (middle : Store) → i.ticks ≤ most → Got vs n d (before b s) store regs v middle → (p : ℕ) → StandAt r.body p (fork d (code c b s d) [])
+        → Follows mach wide (size b) 2 i (at_place f p middle callers i.output) (operated op.And place (eval w true b store) v i) (Comes f (p + length (fork d (code c b s d) [])) callers (Gained vs n d s store regs))
+    and_goes v i middle few one p stood =
+        let R = Comes f (p + length (fork d (code c b s d) [])) callers (Gained vs n d s store regs) in
+        let st = at_place f p middle callers i.output in
+        follows_truth mach wide (size b) 2 i st place v _ R
+        (λ t e. follows_choose mach wide (size b) 2 i st t (second op.And place (eval w true b store) v) (Done (Truth false)) R
+        (λ yes. fork_on mach f r there wide (size b) 0 p d (code c b s d) [] middle callers i (second op.And place (eval w true b store) v i) (Gained vs n d s store regs) stood (held v t true middle e yes one)
+        (λ g there_b. right_side op.And tt v i middle few one g there_b))
+        (λ no. follows_more mach wide 0 2 (size b) 2 i st (Done (Truth false) i) R (omega arith) (omega arith)
+        (fork_off mach f r there wide 0 0 p d (code c b s d) [] middle callers i (Done (Truth false) i) (Gained vs n d s store regs) stood (held v t false middle e no one)
+        (λ g there_b. follows_at mach wide 0 0 i (at_place f g middle callers i.output) (Done (Truth false) i) f g (g + 0) callers (Gained vs n d s store regs) (omega arith)
+        (stays_last mach f r there wide g middle callers i (Truth false) (Gained vs n d s store regs) (first_truth v t false middle e no one))))))
+
     pub early_goes : (q : Op) → IsEarly q → (v : Datum) (i : Meter) (middle : Store) → i.ticks ≤ most → Got vs n d (before b s) store regs v middle → (p : ℕ) → StandAt r.body p (operate q d (code c b s (right_register q d)) (released (before b s) s) (is_plain b))
         → Follows mach wide (size b) 3 i (at_place f p middle callers i.output) (operated q place (eval w true b store) v i) (Comes f (p + length (operate q d (code c b s (right_register q d)) (released (before b s) s) (is_plain b))) callers (Gained vs n d s store regs))
     early_goes op.And early v i middle few one p stood =
-        let R = Comes f (p + length (fork d (code c b s d) (released (before b s) s))) callers (Gained vs n d s store regs) in
+        let xs = fork d (code c b s d) [] in
+        let ys = released (before b s) s in
+        let long : length (xs ++ ys) ≡ length xs + length ys = length-append xs ys in
         let st = at_place f p middle callers i.output in
-        follows_truth mach wide (size b) 3 i st place v _ R
-        (λ t e. follows_choose mach wide (size b) 3 i st t (second op.And place (eval w true b store) v) (Done (Truth false)) R
-        (λ yes. follows_more mach wide (size b) 2 (size b) 3 i st (second op.And place (eval w true b store) v i) R (omega arith) (omega arith)
-        (fork_on mach f r there wide (size b) 0 p d (code c b s d) (released (before b s) s) middle callers i (second op.And place (eval w true b store) v i) (Gained vs n d s store regs) stood (held v t true middle e yes one)
-        (λ g there_b. right_side op.And tt v i middle few one g there_b)))
-        (λ no. follows_more mach wide 0 3 (size b) 3 i st (Done (Truth false) i) R (omega arith) (omega arith)
-        (fork_off mach f r there wide 0 1 p d (code c b s d) (released (before b s) s) middle callers i (Done (Truth false) i) (Gained vs n d s store regs) stood (held v t false middle e no one)
-        (λ g there_b. left_out v t false i middle e no one g there_b))))
+        let whole_of = operated op.And place (eval w true b store) v i in
+        follows_at mach wide (size b) 3 i st whole_of f (p + length xs + length ys) (p + length (xs ++ ys)) callers (Gained vs n d s store regs) (omega (arith, long))
+        (subst (λ (z : Outcome Datum). Follows mach wide (size b) 3 i st z (Comes f (p + length xs + length ys) callers (Gained vs n d s store regs))) (bind_done whole_of)
+        (follows_then mach wide (size b) 2 0 1 (size b) 3 i st whole_of (λ x j. Done x j) f (p + length xs) callers (Gained vs n d s store regs) (Comes f (p + length xs + length ys) callers (Gained vs n d s store regs)) (omega arith) (omega arith)
+        (and_goes v i middle few one p (stand_front r.body p xs ys stood))
+        (λ x j last le got. given_up x j last got (p + length xs) (stand_back r.body p xs ys stood))))
     early_goes op.Or early v i middle few one p stood =
         let R = Comes f (p + length (fork d (released (before b s) s) (code c b s d))) callers (Gained vs n d s store regs) in
         let st = at_place f p middle callers i.output in

@@ -1,4 +1,4 @@
-use Rattle.std.proofs.Common.{◌≡◌, ◌∙◌, List, ◌∷◌, ◌++◌, IfOk, ℕ, ap, subst, sym, length, append_assoc, Bool, arith}
+use Rattle.std.proofs.Common.{◌≡◌, ◌∙◌, List, [], ◌∷◌, ◌++◌, IfOk, ℕ, ap, subst, sym, length, append_assoc, Bool, arith}
 use Rattle.wy_core.specs.CoreSeen.{seen_expr}
 use Rattle.wy_core.specs.declared.expressions.Expr.{Expr}
 use Rattle.wy_core.specs.declared.expressions.ExprKind as kind
@@ -7,7 +7,7 @@ use Rattle.wy_live.specs.Walks as lives
 use Rattle.wy_core.specs.declared.expressions.Op.{Op}
 use Rattle.wy_pieces.specs.declared.steps.Step.{Step}
 use Rattle.wy_pieces.specs.declared.steps.Step.TheVariants.{GoesBack}
-use Rattle.wy_pieces.specs.Steps.{fork, jumped}
+use Rattle.wy_pieces.specs.Steps.{fork}
 use Rattle.wy_tables.specs.Tables.{target}
 use Rattle.wy_compiled.specs.Expressions as spec
 use Rattle.wy_gen.proofs.ExpressionLemmas.{neg_same, neg_live, not_same, not_live, len_same, len_live, is_same, is_live, field_same, field_live, binary_same, binary_live, index_same, index_live, repeat_same, repeat_live, quant_same, quant_live, call_same, call_live, list_same, list_live, record_code_same, record_code_live}
@@ -190,13 +190,15 @@ right_side-returns-in_ok-made-in-And t c =
     let s = c.args.behind.live in
     let second = spec.released (lives.before b s) s in
     let live : c.in_ok-start-in-And.start.live ≡ s = c.in_ok-start-in-And.ensures.live in
-    let steps : c.in_ok-start-in-And.start.steps ≡ jumped second c.args.behind.steps = c.in_ok-start-in-And.ensures.value in
+    let steps : c.in_ok-start-in-And.start.steps ≡ second ++ c.args.behind.steps = c.in_ok-start-in-And.ensures.value in
+    let first = spec.code c.args.context.now b s c.args.register in
     record {
       value = subst (λ (o : Op). IfOk c.end_and.result (λ m. m.steps ≡ spec.operate o c.args.register (spec.code c.args.context.now b s (spec.right_register o c.args.register)) second (spec.is_plain b) ++ c.args.behind.steps))
           (sym c.in-And.is)
-          (c.end_and.ensures.value (spec.code c.args.context.now b s c.args.register) second c.args.behind.steps
+          (subst (λ (z : List Step). IfOk c.end_and.result (λ m. m.steps ≡ z)) (sym (append_assoc (fork c.args.register first []) second c.args.behind.steps))
+          (c.end_and.ensures.value first (second ++ c.args.behind.steps)
           (c.in_ok-made-in-And.ensures.value ∙ (λ i. spec.code c.args.context.now b (live i) c.args.register ++ steps i))
-          (sym c.len-end.ensures.value) (ap length (sym steps) ∙ sym c.len-mid.ensures.value));
+          (ap length (sym steps) ∙ sym c.len-end.ensures.value)));
       live = subst (λ (z : Variables). IfOk c.end_and.result (λ m. m.live ≡ z)) (c.in_ok-made-in-And.ensures.live ∙ ap (λ (v : Variables). lives.before b v) live) c.end_and.ensures.live;
     }
 
