@@ -2,9 +2,11 @@
 use Rattle.std.proofs.Common.{◌≡◌, inl, inr, ℕ, zero, suc, ◌<◌, ◌≤◌, ◌+◌, Bool, true, false, ◌||◌, List, [], ◌∷◌, ◌++◌, length, map, take, drop, get_or, refl, sym, ap, subst, ◌∙◌, arith}
 use Rattle.std.proofs.Math.Dec.{eqb}
 use Rattle.std.proofs.lemmas.List.{append-nil, append_assoc, drop_more, drop_all, length-append, map-append, take-append-le, take_all, take_more}
+use Rattle.std.proofs.lemmas.List.Elements.{All-get_or}
 use Rattle.wy_term.specs.Term.{Term}
 use Rattle.wy_term.specs.Nodes.{Plain, tree_at}
 use Rattle.wy_conditions.specs.Limits.{is_among, tests_in, tests_in_all}
+use Rattle.wy_vc_operations.specs.Growing.{AreBelow}
 use Rattle.wy_vc.specs.Standing.{AreAlike, AreFirst, AreJoined, AreTested, Stand, Stands}
 use Rattle.wy_vc.specs.declared.standing.Standing.{Standing}
 use Rattle.wy_vc.proofs.AmongLemmas.{among_cases, among_either, among_first, among_left, among_right}
@@ -79,7 +81,7 @@ tests_append [] us = refl
 tests_append (t ∷ ts) us = ap (λ (l : List ℕ). tests_in t ++ l) (tests_append ts us) ∙ sym (append_assoc (tests_in t) (tests_in_all ts) (tests_in_all us))
 
 tests_both : (nodes : List Plain) (ks js : List ℕ) → tests_in_all (map (tree_at nodes) (ks ++ js)) ≡ tests_in_all (map (tree_at nodes) ks) ++ tests_in_all (map (tree_at nodes) js)
-tests_both nodes ks js = ap tests_in_all (map-append (tree_at nodes) ks js) ∙ tests_append (map (tree_at nodes) ks) (map (tree_at nodes) js)
+tests_both nodes ks js = ap (λ (l : List Term). tests_in_all l) (map-append (tree_at nodes) ks js) ∙ tests_append (map (tree_at nodes) ks) (map (tree_at nodes) js)
 
 -- what each of two lists of formulas tests, both test
 pub tested_both : (nodes : List Plain) (ks js a b : List ℕ) → AreAlike a (tests_in_all (map (tree_at nodes) ks)) → AreAlike b (tests_in_all (map (tree_at nodes) js)) → AreAlike (a ++ b) (tests_in_all (map (tree_at nodes) (ks ++ js)))
@@ -99,21 +101,16 @@ taken_twice (suc a) zero xs less = absurd (omega (arith, less))
 taken_twice (suc a) (suc b) [] less = refl
 taken_twice (suc a) (suc b) (x ∷ xs) less = ap (λ (l : List ℕ). x ∷ l) (taken_twice a b xs (omega (arith, less)))
 
-whole_taken : (xs : List ℕ) → take (length xs) xs ≡ xs
-whole_taken xs = take_all (length xs) xs (omega arith)
+same_count : (n : ℕ) → n ≤ n
+same_count n = omega arith
 
--- nothing stands
-pub none_stand : (nodes : List Plain) (types hyps counts : List ℕ) → types ≡ [] → hyps ≡ [] → counts ≡ [] → Stand nodes [] 0 types hyps counts
-none_stand nodes types hyps counts none no_hyps no_counts =
-    subst (λ (l : List ℕ). Stand nodes [] 0 types hyps l) (sym no_counts) (subst (λ (l : List ℕ). Stand nodes [] 0 types l []) (sym no_hyps) (subst (λ (l : List ℕ). Stand nodes [] 0 l [] []) (sym none) begun))
-  where
-    begun : AreTested nodes [] 0 []
-    begun = record { no_fewer = omega arith; alike = λ n. refl }
+whole_taken : (xs : List ℕ) → take (length xs) xs ≡ xs
+whole_taken xs = take_all (length xs) xs (same_count (length xs))
 
 -- no hypothesis has fewer types before it than the first, or more than there are
 count_within : (nodes : List Plain) (seen : List ℕ) (least : ℕ) (types hs cs : List ℕ) (f : ℕ) → Stand nodes seen least types hs cs → (least ≤ get_or cs f (length types)) × (get_or cs f (length types) ≤ length types)
-count_within nodes seen least types [] [] zero s = (s.no_fewer, omega arith)
-count_within nodes seen least types [] [] (suc f) s = (s.no_fewer, omega arith)
+count_within nodes seen least types [] [] zero s = (s.no_fewer, same_count (length types))
+count_within nodes seen least types [] [] (suc f) s = (s.no_fewer, same_count (length types))
 count_within nodes seen least types [] (c ∷ cs) f s = absurd s
 count_within nodes seen least types (h ∷ hs) [] f s = absurd s
 count_within nodes seen least types (h ∷ hs) (c ∷ cs) zero s = (s.0.no_fewer, s.0.within)
@@ -133,46 +130,51 @@ cut_stand nodes seen least types (h ∷ hs) (c ∷ cs) zero s =
     let first : AreFirst nodes seen least c types = s.0 in
     let low = first.no_fewer in
     let long = taken_length c types first.within in
-    record { no_fewer = omega (arith, low, long); alike = first.alike }
+    let tested : AreTested nodes seen least (take c types) = record { no_fewer = omega (arith, low, long); alike = first.alike } in
+    tested
 cut_stand nodes seen least types (h ∷ hs) (c ∷ cs) (suc f) s =
     let first : AreFirst nodes seen least c types = s.0 in
     let m = get_or cs f (length types) in
     let r = count_within nodes (seen ++ h ∷ []) c types hs cs f s.1 in
     let long = taken_length m types r.1 in
     let high = r.0 in
-    (record {
+    let here : AreFirst nodes seen least c (take m types) = record {
       no_fewer = first.no_fewer;
       within = omega (arith, long, high);
       alike = subst (λ (l : List ℕ). AreAlike l (tests_in_all (map (tree_at nodes) seen))) (sym (taken_twice c m types r.0)) first.alike;
-    }, cut_stand nodes (seen ++ h ∷ []) c types hs cs f s.1)
+    } in
+    (here, cut_stand nodes (seen ++ h ∷ []) c types hs cs f s.1)
 
 -- one more
 pub push_stand : (nodes : List Plain) (seen : List ℕ) (least : ℕ) (types hs cs own new : List ℕ) (h : ℕ) → AreJoined types own new → AreAlike own (tests_in_all (map (tree_at nodes) (h ∷ []))) → Stand nodes seen least types hs cs
     → Stand nodes seen least new (hs ++ h ∷ []) (cs ++ length types ∷ [])
 push_stand nodes seen least types [] [] own new h joined tests s =
-    let long = ap length joined.is ∙ length-append types joined.fresh in
-    let low = s.no_fewer in
-    (record {
-      no_fewer = s.no_fewer;
+    let long = ap (λ (l : List ℕ). length l) joined.is ∙ length-append types joined.fresh in
+    let before : AreTested nodes seen least types = s in
+    let here : AreFirst nodes seen least (length types) new = record {
+      no_fewer = before.no_fewer;
       within = omega (arith, long);
       alike = subst (λ (l : List ℕ). AreAlike l (tests_in_all (map (tree_at nodes) seen)))
-          (sym (ap (λ (l : List ℕ). take (length types) l) joined.is ∙ (take-append-le (length types) types joined.fresh (omega arith) ∙ whole_taken types))) s.alike;
-    }, record {
+          (sym (ap (λ (l : List ℕ). take (length types) l) joined.is ∙ (take-append-le (length types) types joined.fresh (same_count (length types)) ∙ whole_taken types))) before.alike;
+    } in
+    let last : AreTested nodes (seen ++ h ∷ []) (length types) new = record {
       no_fewer = omega (arith, long);
-      alike = λ n. joined.alike n ∙ tested_both nodes seen (h ∷ []) types own s.alike tests n;
-    })
+      alike = λ n. joined.alike n ∙ tested_both nodes seen (h ∷ []) types own before.alike tests n;
+    } in
+    (here, last)
 push_stand nodes seen least types [] (c ∷ cs) own new h joined tests s = absurd s
 push_stand nodes seen least types (k ∷ hs) [] own new h joined tests s = absurd s
 push_stand nodes seen least types (k ∷ hs) (c ∷ cs) own new h joined tests s =
     let first : AreFirst nodes seen least c types = s.0 in
-    let long = ap length joined.is ∙ length-append types joined.fresh in
+    let long = ap (λ (l : List ℕ). length l) joined.is ∙ length-append types joined.fresh in
     let within = first.within in
-    (record {
+    let here : AreFirst nodes seen least c new = record {
       no_fewer = first.no_fewer;
       within = omega (arith, long, within);
       alike = subst (λ (l : List ℕ). AreAlike l (tests_in_all (map (tree_at nodes) seen)))
           (sym (ap (λ (l : List ℕ). take c l) joined.is ∙ take-append-le c types joined.fresh first.within)) first.alike;
-    }, push_stand nodes (seen ++ k ∷ []) c types hs cs own new h joined tests s.1)
+    } in
+    (here, push_stand nodes (seen ++ k ∷ []) c types hs cs own new h joined tests s.1)
 
 -- the types are those that all of them test
 pub all_stand : (nodes : List Plain) (seen : List ℕ) (least : ℕ) (types hs cs : List ℕ) → Stand nodes seen least types hs cs → AreAlike types (tests_in_all (map (tree_at nodes) (seen ++ hs)))
@@ -209,3 +211,12 @@ types_told nodes s hyps own ns goal is same tests stands n =
     ap (λ (l : List ℕ). is_among l n) is
     ∙ (tested_both nodes s.hyps.items (goal ∷ []) s.types.items own (all_stand nodes [] 0 s.types.items s.hyps.items s.counts.items stands) tests n
     ∙ ap (λ (l : List ℕ). is_among (tests_in_all (map (tree_at nodes) (l ++ goal ∷ []))) n) same)
+
+-- a hypothesis among others
+pub below_item : (n : ℕ) (ks : List ℕ) (i x : ℕ) → AreBelow n ks → i < length ks → x ≡ get_or ks i x → x < n
+below_item n ks i x below lt is = subst (λ (y : ℕ). y < n) (sym is) (All-get_or (λ k. k < n) ks i x lt below)
+
+-- one more of those that are to stand
+pub stood_more : (hyps : List ℕ) (i x : ℕ) (old new : List ℕ) → i < length hyps → x ≡ get_or hyps i x → new ≡ old ++ x ∷ [] → old ≡ take i hyps → new ≡ take (i + 1) hyps
+stood_more hyps i x old new lt is pushed so =
+    pushed ∙ (ap (λ (l : List ℕ). l ++ x ∷ []) so ∙ sym (take_more hyps i x lt ∙ ap (λ (y : ℕ). take i hyps ++ y ∷ []) (sym is)))
