@@ -213,10 +213,9 @@ types_told nodes s hyps own ns goal is same tests stands n =
     ∙ ap (λ (l : List ℕ). is_among (tests_in_all (map (tree_at nodes) (l ++ goal ∷ []))) n) same)
 
 -- a hypothesis among others
-pub below_item : (n : ℕ) (ks : List ℕ) (i x : ℕ) → AreBelow n ks → i < length ks → x ≡ get_or ks i x → x < n
-below_item n ks i x below lt is = subst (λ (y : ℕ). y < n) (sym is) (All-get_or (λ k. k < n) ks i x lt below)
+pub below_item : (n : ℕ) (ks : List ℕ) (i : ℕ) → AreBelow n ks → i < length ks → get_or ks i 0 < n
+below_item n ks i below lt = All-get_or (λ k. k < n) ks i 0 lt below
 
 -- one more of those that are to stand
-pub stood_more : (hyps : List ℕ) (i x : ℕ) (old new : List ℕ) → i < length hyps → x ≡ get_or hyps i x → new ≡ old ++ x ∷ [] → old ≡ take i hyps → new ≡ take (i + 1) hyps
-stood_more hyps i x old new lt is pushed so =
-    pushed ∙ (ap (λ (l : List ℕ). l ++ x ∷ []) so ∙ sym (take_more hyps i x lt ∙ ap (λ (y : ℕ). take i hyps ++ y ∷ []) (sym is)))
+pub stood_more : (hyps : List ℕ) (i : ℕ) (old new : List ℕ) → i < length hyps → new ≡ old ++ get_or hyps i 0 ∷ [] → old ≡ take i hyps → new ≡ take (i + 1) hyps
+stood_more hyps i old new lt pushed so = pushed ∙ (ap (λ (l : List ℕ). l ++ get_or hyps i 0 ∷ []) so ∙ sym (take_more hyps i 0 lt))

@@ -10,14 +10,14 @@ pub stand-requires : goal.stand-requires
 stand-requires c =
     let lt : c.loop-index.index < length c.args.hyps.now = search rules in
     record {
-      within = below_item (length c.args.terms.now) c.args.hyps.now c.loop-index.index c.index-hyps-index.result c.requires.within lt c.index-hyps-index.is;
+      within = below_item (length c.args.terms.now) c.args.hyps.now c.loop-index.index c.requires.within lt;
       stands = c.loop-index.invariant.0;
     }
 
 pub loop-index-preserved : goal.loop-index-preserved
 loop-index-preserved c =
     let lt : c.loop-index.index < length c.args.hyps.now = search rules in
-    (c.in_ok-stand.ensures.stands, stood_more c.args.hyps.now c.loop-index.index c.index-hyps-index.result c.loop-index.standing.hyps.items c.stand.new.standing.hyps.items lt c.index-hyps-index.is c.in_ok-stand.ensures.hyps c.loop-index.invariant.1)
+    (c.in_ok-stand.ensures.stands, stood_more c.args.hyps.now c.loop-index.index c.loop-index.standing.hyps.items c.stand.new.standing.hyps.items lt c.in_ok-stand.ensures.hyps c.loop-index.invariant.1)
 
 pub returns : goal.returns
 returns c =
