@@ -1,7 +1,7 @@
 -- Hypotheses that stand one on the other, and the named types that they test.
-use Rattle.std.proofs.Common.{◌≡◌, inl, inr, ℕ, zero, suc, ◌<◌, ◌≤◌, ◌+◌, Bool, true, false, ◌||◌, List, [], ◌∷◌, ◌++◌, length, map, take, drop, get_or, refl, sym, ap, subst, ◌∙◌, arith}
+use Rattle.std.proofs.Common.{◌≡◌, inl, inr, ℕ, zero, suc, ◌<◌, ◌≤◌, ◌+◌, Bool, true, false, ◌||◌, List, [], ◌∷◌, ◌++◌, length, map, take, get_or, refl, sym, ap, subst, ◌∙◌, arith}
 use Rattle.std.proofs.Math.Dec.{eqb}
-use Rattle.std.proofs.lemmas.List.{append-nil, append_assoc, drop_more, drop_all, length-append, map-append, take-append-le, take_all, take_more}
+use Rattle.std.proofs.lemmas.List.{append-nil, append_assoc, length-append, map-append, take-append-le, take_all, take_more}
 use Rattle.std.proofs.lemmas.List.Elements.{All-get_or}
 use Rattle.wy_term.specs.Term.{Term}
 use Rattle.wy_term.specs.Nodes.{Plain, tree_at}
@@ -25,17 +25,6 @@ among_both (k ∷ ks) js n = ap (λ (b : Bool). eqb k n || b) (among_both ks js 
 alike_append : (a b c d : List ℕ) → AreAlike a b → AreAlike c d → AreAlike (a ++ c) (b ++ d)
 alike_append a b c d first second = λ n.
     among_both a c n ∙ (ap (λ (x : Bool). x || is_among c n) (first n) ∙ (ap (λ (x : Bool). is_among b n || x) (second n) ∙ sym (among_both b d n)))
-
--- one of them, as far as they were looked at
-pub one_more : (numbers : List ℕ) (i n : ℕ) → i < length numbers → eqb (get_or numbers i 0) n ≡ false → is_among (drop i numbers) n ≡ is_among numbers n → is_among (drop (i + 1) numbers) n ≡ is_among numbers n
-one_more numbers i n lt other so =
-    sym (ap (λ (l : List ℕ). is_among l n) (drop_more numbers i 0 lt) ∙ ap (λ (b : Bool). b || is_among (drop (i + 1) numbers) n) other) ∙ so
-
-pub one_found : (numbers : List ℕ) (i n : ℕ) → i < length numbers → eqb (get_or numbers i 0) n ≡ true → is_among (drop i numbers) n ≡ is_among numbers n → true ≡ is_among numbers n
-one_found numbers i n lt here so = sym (ap (λ (l : List ℕ). is_among l n) (drop_more numbers i 0 lt) ∙ ap (λ (b : Bool). b || is_among (drop (i + 1) numbers) n) here) ∙ so
-
-pub none_found : (numbers : List ℕ) (i n : ℕ) → length numbers ≤ i → is_among (drop i numbers) n ≡ is_among numbers n → false ≡ is_among numbers n
-none_found numbers i n past so = sym (ap (λ (l : List ℕ). is_among l n) (drop_all i numbers past)) ∙ so
 
 -- ---- types that are put behind others
 
