@@ -9,7 +9,7 @@ use Rattle.wy_conditions.specs.Limits.{is_among, tests_in, tests_in_all}
 use Rattle.wy_vc_operations.specs.Growing.{AreBelow}
 use Rattle.wy_vc.specs.Standing.{AreAlike, AreFirst, AreJoined, AreTested, Stand, Stands}
 use Rattle.wy_vc.specs.declared.standing.Standing.{Standing}
-use Rattle.wy_vc.proofs.AmongLemmas.{among_cases, among_either, among_first, among_left, among_right}
+use Rattle.wy_vc.proofs.AmongLemmas.{among_cases, among_either, among_left}
 use Rattle.wy_vc.proofs.SharedLemmas.{same_test}
 
 -- ---- numbers among numbers

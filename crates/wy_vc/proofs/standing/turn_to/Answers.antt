@@ -1,4 +1,4 @@
-use Rattle.std.proofs.Common.{◌≡◌, ◌∙◌, ◌<◌, ◌≤◌, ℕ, List, length, take, sym, ap, rules}
+use Rattle.std.proofs.Common.{◌∙◌, ◌<◌, ◌≤◌, ℕ, List, length, take, sym, ap, rules}
 use Rattle.std.proofs.lemmas.List.{take_all}
 use Rattle.wy_vc.proofs.StandingLemmas.{below_item, stood_more}
 use Rattle.wy_vc.proofs.standing.turn_to.Goals as goal

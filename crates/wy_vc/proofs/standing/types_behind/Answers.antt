@@ -1,4 +1,4 @@
-use Rattle.std.proofs.Common.{◌≡◌, ◌∙◌, ◌++◌, ℕ, List, ap}
+use Rattle.std.proofs.Common.{◌∙◌, ◌++◌, ℕ, List, ap}
 use Rattle.wy_vc.proofs.StandingLemmas.{one_below, types_told}
 use Rattle.wy_vc.proofs.standing.types_behind.Goals as goal
 
