@@ -30,6 +30,8 @@ pub mod CountLemmas
 pub mod SharedLemmas
 -- tests of named types
 pub mod TestedLemmas
+-- hypotheses that stand
+pub mod StandingLemmas
 -- marks of numbers
 pub mod MarkLemmas
 -- which named types are mentioned

@@ -1,5 +1,5 @@
 -- Goals with what their tests of named types stand for.
-use Rattle.std.proofs.Common.{◌≡◌, ◌<◌, ◌≤◌, ◌+◌, ℕ, zero, suc, Bool, true, false, List, [], ◌∷◌, ◌++◌, All, length, map, drop, get_or, reverse, refl, sym, ◌∙◌, ap, subst, arith, inl, inr}
+use Rattle.std.proofs.Common.{◌≡◌, ◌<◌, ◌≤◌, ◌+◌, ℕ, zero, suc, Bool, true, false, List, [], ◌∷◌, ◌++◌, All, length, map, drop, get_or, reverse, refl, sym, ◌∙◌, ap, subst, arith}
 use Rattle.std.specs.Prelude.{if◌then◌else◌}
 use Rattle.std.proofs.lemmas.Bool.{cases_Bool, cond-true, cond-false}
 use Rattle.std.proofs.lemmas.List.{append-nil, append_assoc, drop_more, map-append, reverse-append}
@@ -15,7 +15,6 @@ use Rattle.wy_conditions.specs.Numbered.{Node}
 use Rattle.wy_conditions.specs.Owed.{Owed}
 use Rattle.wy_conditions.specs.Values.{Setting, test_name}
 use Rattle.wy_vc_operations.specs.Growing.{AreBelow}
-use Rattle.wy_vc.proofs.AmongLemmas.{among_cases, among_either}
 use Rattle.wy_vc_expressions.specs.Numbered.{trees_of}
 use Rattle.wy_vc_expressions.specs.State.{IsGoal, seen_goal}
 use Rattle.wy_vc_expressions.specs.declared.goal.Goal.{Goal}
@@ -80,19 +79,6 @@ entries_are nodes s marks ns n (m ∷ ms) are same =
 
 abbrev pub formulas_of : Goal → List ℕ
 formulas_of g = g.hyps.items ++ g.goal ∷ []
-
-below_at : (n : ℕ) (ks : List ℕ) (k : ℕ) → AreBelow n ks → is_among ks k ≡ true → k < n
-below_at n [] k below h = absurd cc
-below_at n (j ∷ ks) k below h = elim (among_cases j ks k h) as (λ _. k < n) [
-  | inl e ↦ subst (λ (x : ℕ). x < n) e (All-head (λ i. i < n) j ks below)
-  | inr e ↦ below_at n ks k (All-tail (λ i. i < n) j ks below) e
-]
-
-pub formulas_below : (nodes : List Plain) (g : Goal) (ks : List ℕ) → IsGoal nodes g → ks ≡ formulas_of g → (k : ℕ) → is_among ks k ≡ true → k < length nodes
-formulas_below nodes g ks is same k h = elim (among_either g.hyps.items (g.goal ∷ []) k (subst (λ (l : List ℕ). is_among l k ≡ true) same h)) as (λ _. k < length nodes) [
-  | inl e ↦ below_at (length nodes) g.hyps.items k is.hyps e
-  | inr e ↦ elim (among_cases g.goal [] k e) as (λ _. k < length nodes) [ inl at ↦ subst (λ (x : ℕ). x < length nodes) at is.goal | inr none ↦ absurd cc ]
-]
 
 pub formulas_trees : (nodes : List Plain) (g : Goal) (ks : List ℕ) → ks ≡ formulas_of g → map (tree_at nodes) ks ≡ trees_of nodes g.hyps.items ++ tree_at nodes g.goal ∷ []
 formulas_trees nodes g ks same = ap (λ (l : List ℕ). map (tree_at nodes) l) same ∙ map-append (tree_at nodes) g.hyps.items (g.goal ∷ [])

@@ -12,6 +12,8 @@ pub mod Entering
 pub mod Shared
 -- tests of named types
 pub mod Tested
+-- types that hypotheses test
+pub mod Standing
 -- what tests of named types stand for
 pub mod Meanings
 -- which named types are mentioned

@@ -92,8 +92,8 @@ fn how_many(terms: &Terms, seen: &Seen) -> usize
     seen.all.len()
 }
 
-// Of how many numbers both lists have the same front.
-fn shared_front(a: &[u32], b: &[u32]) -> usize
+/// Of how many numbers both lists have the same front.
+pub fn shared_front(a: &[u32], b: &[u32]) -> usize
     ensures same { take result a.now ≡ take result b.now }
 {
     for (index, number) in a.iter().enumerate() {

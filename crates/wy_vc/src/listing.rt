@@ -84,9 +84,11 @@ fn first_conditions(alloc: Global, typed: &Typed) -> Result<(Conds, Passing), No
 /// many, or where one has too many terms, the first in the order of the list.
 ///
 /// Terms are shared, and hypotheses stay on a stack on the way through a body, so a condition's hypotheses are those of the one before up
-/// to where the stack was cut, and then what was assumed since; its list is a copy of what stands there. It takes time linear in the
-/// program as its properties and clauses are written out, in these lists, and for each condition in how many different terms it has. Behind
-/// a declaration with which there are too many no other is walked.
+/// to where the stack was cut, and then what was assumed since; its list is a copy of what stands there. Which types they test is kept on a
+/// stack likewise, and terms are counted behind the front that a condition shares with the one before. So it takes time linear in the
+/// program as its properties and clauses are written out, in these lists of numbers, and for each condition in the terms of its goal, of
+/// the hypotheses that the one before hasn't, and of the types that it mentions; where a count would pass a condition's limit, all its terms
+/// are counted anew. Behind a declaration with which there are too many no other is walked.
 pub fn conditions(alloc: Global, typed: &Typed) -> Result<Conds, VcFault>
     ensures list { IfOk result (λ cs. spec.seen_conds cs ≡ spec.told_of typed.now) }
     ensures within { IfOk result (λ cs. spec.limit_of typed.now ≡ limits.Within) }

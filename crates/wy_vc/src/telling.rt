@@ -1,13 +1,14 @@
 //! Goals with what their tests of named types stand for.
-ghost use Rattle.std.specs.Prelude.{◌≡◌, ◌++◌, ◌∷◌, [], All, map, IfOk, OnOk};
+ghost use Rattle.std.specs.Prelude.{◌≡◌, ◌++◌, All, map, IfOk, OnOk};
 ghost use Rattle.wy_conditions.specs.Numbered.{Node};
 ghost use Rattle.wy_conditions.specs.Values.{Setting};
 ghost use Rattle.wy_vc.specs.Meanings.{AreMeanings};
+ghost use Rattle.wy_vc.specs.Standing.{Stands};
 ghost use Rattle.wy_vc.specs.Told as spec;
 ghost use Rattle.wy_vc_expressions.specs.State.{IsGoal, seen_goal};
 
 use crate::mentioned::{is_marked, mentioned};
-use crate::tests_of_types::types_tested;
+use crate::standing::{Standing, nothing_stands, types_behind};
 use crate::unfolding::Meaning;
 use std::alloc::{AllocError, Global};
 use wy_term::{Cond, NoMemory, Terms, Unfold};
@@ -55,30 +56,23 @@ fn entries(
     Ok(made)
 }
 
-// The hypotheses, and the goal behind them.
-fn formulas(alloc: Global, goal: &Goal) -> Result<Vec<u32>, AllocError>
-    ensures value { IfOk result (λ ks. ks.items ≡ goal.now.hyps.items ++ goal.now.goal ∷ []) }
-{
-    let mut formulas = Vec::from_slice(alloc, goal.hyps.as_slice())?;
-    formulas.push(goal.goal)?;
-    Ok(formulas)
-}
-
 /// A goal with the named types that it mentions, and those that these mention, by rising number, with the Val name and the formula that the
-/// test of each stands for. Linear in how many terms the goal and its hypotheses are made of, in the named types, and in what those that it
-/// mentions test.
+/// test of each stands for. Its hypotheses stand from then on in place of others: linear in how many terms the goal is made of and those
+/// hypotheses that don't stand yet, in the named types, and in what those that it mentions test.
 pub fn told(
     alloc: Global,
     terms: &Terms,
     meanings: &[Meaning],
+    standing: &mut Standing,
     goal: Goal,
 ) -> Result<Cond, NoMemory>
     requires goal { IsGoal terms.now goal }
+    requires stands { Stands terms.now standing.old }
+    ensures stands { OnOk result (Stands terms.now standing.new) }
     ensures within { (s : Setting Node) → AreMeanings terms.now s meanings.now → IfOk result (λ c. spec.IsCond terms.now c) }
     ensures value { (s : Setting Node) → AreMeanings terms.now s meanings.now → IfOk result (λ c. spec.seen_cond terms.now c ≡ spec.told s (seen_goal terms.now goal)) }
 {
-    let all = formulas(alloc, &goal)?;
-    let tests = types_tested(terms, all.as_slice())?;
+    let tests = types_behind(terms, standing, goal.hyps.as_slice(), goal.goal)?;
     let marks = mentioned(alloc, meanings, tests.as_slice())?;
     let list = entries(alloc, meanings, marks.as_slice())?;
     let Goal {
@@ -96,7 +90,8 @@ pub fn told(
     })
 }
 
-/// The same of goals, in their order.
+/// The same of goals, in their order. They are told from the last to the first, so a hypothesis is looked at once for all goals that stand
+/// one behind the other under it.
 pub fn told_all(
     alloc: Global,
     terms: &Terms,
@@ -109,8 +104,9 @@ pub fn told_all(
 {
     let mut left = goals;
     let mut list = Vec::new(alloc);
+    let mut standing = nothing_stands(alloc);
     while let Some(goal) = left.pop() {
-        let cond = told(alloc, terms, meanings, goal)?;
+        let cond = told(alloc, terms, meanings, &mut standing, goal)?;
         list.push(cond)?;
     }
     list.reverse();
