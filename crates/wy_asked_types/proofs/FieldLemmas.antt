@@ -1,5 +1,5 @@
 -- Fields of values: where some datum in a part is no record with a field, some value isn't; where each is, a value at the field of one of its records is there in a record of the language in it.
-use Rattle.std.proofs.Common.{◌≡◌, ℕ, pos, List, [], ◌∷◌, Bool, true, false, cond, not, ◌&&◌, ◌||◌, Option, Some, None, refl, sym, ap, ◌∙◌, subst, inl, inr, arith}
+use Rattle.std.proofs.Common.{◌≡◌, ℕ, pos, List, [], ◌∷◌, Bool, true, false, cond, ◌&&◌, ◌||◌, Some, None, refl, sym, ap, ◌∙◌, subst, inl, inr}
 use Rattle.std.specs.Prelude.{is_some}
 use Rattle.std.specs.Str.{bytes_eq}
 use Rattle.wy_data.specs.Words.{IsName}
@@ -12,7 +12,7 @@ use Rattle.wy_types.specs.declared.conjuncts.Atom.{Atom}
 use Rattle.wy_types.specs.declared.conjuncts.Atom.TheVariants as atom
 use Rattle.wy_types.specs.declared.conjuncts.Conjunct.{Conjunct}
 use Rattle.wy_types.specs.declared.table.Table.{Table}
-use Rattle.wy_types.specs.Shape.{Shape, ArrayShape, RecordShape, part_in, fields_in, atom_in, none_in, conjunct_in, any_in}
+use Rattle.wy_types.specs.Shape.{ArrayShape, RecordShape, part_in, fields_in, atom_in, none_in, conjunct_in}
 use Rattle.wy_types.specs.Claims.{SomeOf, EachOf, IsIn}
 use Rattle.wy_types.specs.Membership.{shape_of, item_readers, field_readers, member}
 use Rattle.wy_types.specs.Ranked.{IsRanked}
@@ -24,12 +24,12 @@ use Rattle.wy_types.proofs.TruthLemmas.{both, two_true, or_false, or_true}
 use Rattle.wy_types.proofs.ClaimLemmas.{met_within}
 use Rattle.wy_types.proofs.RankedLemmas.{has_laws}
 use Rattle.wy_types.proofs.TermLemmas.{any_in-dnf_part}
-use Rattle.wy_types.proofs.AskLemmas.{bytes_self, some_fields, ways_from-in, laws_of, HasPiece, options_of-ask, names_only-in}
+use Rattle.wy_types.proofs.AskLemmas.{some_fields, ways_from-in, laws_of, HasPiece, options_of-ask, names_only-in}
 use Rattle.wy_asked_types.specs.Rows.{IsRow}
 use Rattle.wy_asked_types.specs.Shown.{value_at, has_value_at}
 use Rattle.wy_asked_types.proofs.FreshLemmas.{fresh, fresh-none}
 use Rattle.wy_asked_types.proofs.TableLemmas.{AtomHasRow, ConjunctHasRow, names_at}
-use Rattle.wy_asked_types.proofs.KnownLemmas.{zero-int, named, rows_of, Pair, Good, Holds, HasIn, Comes, FieldValues, MoreEach, MoreMet, more_each, more_met, none_kept, one_kept, way_values, any_record_made, made, all_needed, in_part, part_comes}
+use Rattle.wy_asked_types.proofs.KnownLemmas.{zero-int, named, rows_of, Pair, Holds, HasIn, Comes, more_each, more_met, none_kept, one_kept, way_values, any_record_made, made, all_needed, in_part, part_comes}
 use Rattle.wy_asked_types.proofs.ItemLemmas.{conjunct_of, item_comes}
 
 -- whether a field is there is told by the names

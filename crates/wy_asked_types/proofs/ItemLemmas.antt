@@ -1,5 +1,5 @@
 -- A value that is an item of some array in a part is one of an array of the language in it.
-use Rattle.std.proofs.Common.{◌≡◌, ℕ, suc, ◌+◌, ◌≤◌, List, [], ◌∷◌, Bool, true, false, ◌&&◌, ◌||◌, refl, sym, ◌∙◌, subst, inl, inr, arith}
+use Rattle.std.proofs.Common.{◌≡◌, ℕ, List, [], ◌∷◌, Bool, true, false, ◌&&◌, refl, ◌∙◌, subst, inl, inr, arith}
 use Rattle.wy_value.specs.Datum.{Datum, Data, no_items, item}
 use Rattle.wy_value.specs.Datum as datum
 use Rattle.wy_value.specs.Values.{IsValue}

@@ -1,5 +1,5 @@
 -- Values of the language for what a narrow question reaches: for each conjunct reached that has a datum, a value that is kept beside it. A list takes its items from these, so it is no longer than there are conjuncts.
-use Rattle.std.proofs.Common.{◌≡◌, ℕ, zero, suc, ◌+◌, ◌<◌, ◌≤◌, pos, List, [], ◌∷◌, ◌++◌, length, Bool, true, false, cond, not, ◌&&◌, ◌||◌, refl, sym, ap, subst, ◌∙◌, inl, inr, ◌⊎◌, arith}
+use Rattle.std.proofs.Common.{◌≡◌, ℕ, suc, ◌<◌, ◌≤◌, pos, List, [], ◌∷◌, length, Bool, true, false, cond, not, ◌&&◌, ◌||◌, refl, sym, ap, subst, ◌∙◌, inl, inr, ◌⊎◌, arith}
 use Rattle.std.specs.Prelude.{◌^◌, ◌-◌, leb}
 use Rattle.std.specs.Str.{bytes_eq}
 use Rattle.std.specs.List.Sorted.{IsStrictlySortedBy}
@@ -16,17 +16,17 @@ use Rattle.wy_types.specs.declared.conjuncts.Atom.TheVariants as atom
 use Rattle.wy_types.specs.declared.conjuncts.Conjunct.{Conjunct}
 use Rattle.wy_types.specs.declared.table.Node.TheVariants as node
 use Rattle.wy_types.specs.declared.table.Table.{Table}
-use Rattle.wy_types.specs.Shape.{Shape, NullShape, BoolShape, IntShape, ArrayShape, RecordShape, signed_as, part_in, each_in, fields_in, atom_in, none_in, conjunct_in, any_in}
+use Rattle.wy_types.specs.Shape.{NullShape, BoolShape, IntShape, ArrayShape, RecordShape, signed_as, part_in, each_in, fields_in, atom_in, none_in, conjunct_in, any_in}
 use Rattle.wy_types.specs.Claims.{SomeOf, EachOf, IsIn, AreDifferent}
 use Rattle.wy_types.specs.Membership.{shape_of, item_readers, field_readers, member}
-use Rattle.wy_types.specs.Ranked.{IsLawful, IsRanked}
+use Rattle.wy_types.specs.Ranked.{IsRanked}
 use Rattle.wy_types.specs.Conjuncts.{same_term, dnf_part}
 use Rattle.wy_types.specs.Same.{same_conjunct}
 use Rattle.wy_types.specs.NodeLaws.{bytes_are, same_conjunct_is, same_term_is, node_self}
 use Rattle.wy_types.specs.Asks.{with_denied, asked, asked_each, alone, all_alone, ways_from, always, names_only, options_of, all_options, options, IsMet}
-use Rattle.wy_types.specs.Reach.{Reaches, at_first, by_asking, IsAsked, IsNeeded, IsWide}
+use Rattle.wy_types.specs.Reach.{Reaches, at_first, by_asking, IsNeeded, IsWide}
 use Rattle.wy_types.proofs.TruthLemmas.{or_false, or_true, and_false, both, two_true}
-use Rattle.wy_types.proofs.ClaimLemmas.{some_map, each_map, some_split, each_append}
+use Rattle.wy_types.proofs.ClaimLemmas.{some_map, some_split, each_append}
 use Rattle.wy_types.proofs.RankedLemmas.{has_laws}
 use Rattle.wy_types.proofs.TermLemmas.{part_in-with_sides, any_in-dnf_part}
 use Rattle.wy_types.proofs.FoundLemmas.{found}

@@ -1,5 +1,5 @@
 -- Where a narrow question finds a datum in one type and not in another, some value of the language is.
-use Rattle.std.proofs.Common.{◌≡◌, ℕ, List, [], ◌∷◌, Bool, true, false, not, ◌&&◌, Some, refl, sym, ap, ◌∙◌}
+use Rattle.std.proofs.Common.{◌≡◌, ℕ, List, [], Bool, true, false, not, ◌&&◌, Some, refl, sym, ap, ◌∙◌}
 use Rattle.wy_value.specs.Datum.{Datum, Data, Fields}
 use Rattle.wy_value.specs.Datum as datum
 use Rattle.wy_value.specs.Values.{IsValue}
@@ -7,7 +7,7 @@ use Rattle.wy_core.specs.Types.{Ty, NormalTy}
 use Rattle.wy_types.specs.declared.conjuncts.Signed.{Signed}
 use Rattle.wy_types.specs.declared.conjuncts.Conjunct.{Conjunct}
 use Rattle.wy_types.specs.declared.table.Table.{Table}
-use Rattle.wy_types.specs.Shape.{signed_as, part_in}
+use Rattle.wy_types.specs.Shape.{part_in}
 use Rattle.wy_types.specs.Membership.{member}
 use Rattle.wy_types.specs.Ranked.{IsRanked}
 use Rattle.wy_types.specs.Conjuncts.{with_sides, dnf_part}

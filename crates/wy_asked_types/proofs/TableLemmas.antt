@@ -23,7 +23,6 @@ use Rattle.wy_types.specs.Merge as merging
 use Rattle.wy_types.specs.Conjuncts.{same_term, parts_of, named_dnf, node_dnf, dnf, dnf_more, dnf_part, with_sides}
 use Rattle.wy_types.specs.Reading.{ty_at, node_ty, conjuncts_at, atoms_at, atom_at, field_parts_at, part_at, field_tys_at}
 use Rattle.wy_types.specs.Questions.{numbered}
-use Rattle.wy_types.specs.declared.question.Question.{Question}
 use Rattle.std.specs.Str.{bytes_eq}
 use Rattle.wy_types.proofs.TruthLemmas.{both}
 use Rattle.wy_types.proofs.ClaimLemmas.{each_append}

@@ -1,5 +1,5 @@
 -- Types whose record types have the names that a record of the language can have, at any depth, names not unfolded.
-use Rattle.std.specs.Prelude.{ℕ, List, [], ◌∷◌, Bool}
+use Rattle.std.specs.Prelude.{ℕ, List, [], ◌∷◌}
 use Rattle.wy_data.specs.Words.{IsName}
 use Rattle.wy_value.specs.Values.{Rise}
 use Rattle.wy_core.specs.Types.{Ty, FieldTys, Conjuncts, Atoms, Atom, FieldParts, Part, RecordTy, ArrayTy, UnionTy, InterTy, NotTy, NormalTy, NoFieldTys, MoreFieldTys, NoConjuncts, MoreConjuncts, NoAtoms, MoreAtoms, ArrayAtom, RecordAtom, NoFieldParts, MoreFieldParts, NoTerms, MoreTerms}
