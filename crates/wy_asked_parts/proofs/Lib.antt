@@ -1,0 +1,2 @@
+-- the names of records in what is answered
+pub mod AnswerLemmas
