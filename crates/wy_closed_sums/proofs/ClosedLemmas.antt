@@ -1,8 +1,9 @@
 -- A node that has literals of forms is closable where elimination refutes the forms.
-use Rattle.std.proofs.Common.{◌≡◌, ◌∙◌, ◌<◌, ◌&&◌, ℕ, zero, suc, List, [], ◌∷◌, ◌++◌, map, length, Bool, true, false, cond, eqb, ℤ, pos, negsuc, Option, Some, None, refl, sym, ap, subst, arith}
+use Rattle.std.proofs.Common.{◌≡◌, ◌∙◌, ◌<◌, ◌&&◌, ℕ, zero, suc, List, [], ◌∷◌, ◌++◌, map, length, Bool, true, false, cond, eqb, ℤ, pos, Option, Some, None, refl, sym, ap, subst, arith}
 use Rattle.std.specs.Prelude.{nat_lt, int_lt, unsigned_abs, ◌==◌}
 use Rattle.std.specs.Ordering.{int_eq}
 use Rattle.std.proofs.lemmas.Bool.{eqb-true, ltb-true}
+use Rattle.std.proofs.lemmas.Bool.Decides.{Decides-int_eq}
 use Rattle.std.proofs.Math.Dec.{eqb-suc-zero}
 use Rattle.wy_term.specs.Term.{Term, two, at_most}
 use Rattle.wy_term.specs.Condition.{Entry}
@@ -27,15 +28,13 @@ use Rattle.wy_eliminate.specs.Elimination.{elimination}
 use Rattle.wy_eliminate.specs.Validity.{are_named, divides, is_bare}
 use Rattle.wy_chains.proofs.LiteralLemmas.{HasLiterals, has_self, has_more, literal_more, literal_there, numbered}
 use Rattle.wy_chains.proofs.ChainLemmas.{Steps}
-use Rattle.wy_closed_sums.proofs.TwiceLemmas.{both_of, still}
+use Rattle.wy_closed_sums.proofs.TwiceLemmas.{abs_zero, both_of, still}
 use Rattle.wy_closed_sums.proofs.TidyLemmas.{IsTidy, nothing_tidy, tidy_combined}
 use Rattle.wy_closed_sums.proofs.CutLemmas.{IsGood, AreGood, good_over, good_lowered, cut_is}
 use Rattle.wy_closed_sums.proofs.RefutingLemmas.{Rules, ArePlain, refuted_holds}
 
 zero_is : (c : ℤ) → unsigned_abs c ≡ 0 → int_eq c (pos 0) ≡ true
-zero_is (pos zero) e = refl
-zero_is (pos (suc n)) e = absurd (omega (arith, e))
-zero_is (negsuc n) e = absurd (omega (arith, e))
+zero_is c e = (Decides-int_eq c (pos 0)).1 (abs_zero c e)
 
 above_zero : (m : ℕ) → nat_lt 0 m ≡ true → (m == 0) ≡ false
 above_zero zero e = absurd cc

@@ -1,11 +1,11 @@
 -- The terms present stand once, so their places are numbers of theirs; terms of one class are variables of forms both or neither.
 use Rattle.std.proofs.Common.{◌≡◌, ◌⊎◌, ◌∙◌, ◌+◌, ◌<◌, ◌&&◌, ◌||◌, ℕ, zero, suc, List, [], ◌∷◌, ◌++◌, map, length, Bool, true, false, cond, not, eqb, ℤ, pos, Option, Some, None, inl, inr, refl, sym, ap, subst, arith}
-use Rattle.std.specs.Prelude.{slice_index, slice_index_or, is_none, ◌==◌}
+use Rattle.std.specs.Prelude.{slice_index, slice_index_or, is_none}
 use Rattle.std.proofs.lemmas.Bool.{eqb-true, eq-eqb}
 use Rattle.wy_term.specs.Term as term
 use Rattle.wy_term.specs.Term.{Symbol, Term, Of, Parts, no_parts, part, two, Number, equal}
 use Rattle.wy_term.specs.Same.{same_term}
-use Rattle.wy_term.specs.Rewriting.{as_number, count}
+use Rattle.wy_term.specs.Rewriting.{as_number}
 use Rattle.wy_term.specs.Scope.{free_names}
 use Rattle.wy_term.specs.Sorts.{val_sort, sort_in}
 use Rattle.wy_term.proofs.SameLemmas.{terms_are, terms_self}
@@ -20,7 +20,7 @@ use Rattle.wy_least_classes.specs.Least.{IsAmong}
 use Rattle.wy_least_classes.proofs.PlaceLemmas.{place_below, place_same, placed, length_numbers}
 use Rattle.wy_least_classes.proofs.SizeLemmas.{as_long}
 use Rattle.wy_least_classes.proofs.SoundLemmas.{ArePair, ArePairs, Relates, related_classes}
-use Rattle.wy_closed_sums.proofs.VariableLemmas.{is_variable, none_number, val_is}
+use Rattle.wy_closed_sums.proofs.VariableLemmas.{is_end, is_one, is_two, is_variable, none_number, val_is}
 
 false_not_true : (b : Bool) → b ≡ true → b ≡ false → ⊥
 false_not_true b e f = let up : true ≡ false = sym e ∙ f in absurd cc
@@ -232,11 +232,23 @@ pub record AreSameKind (s t : Term) : Type 0 where
   pub variable : is_variable s ≡ is_variable t
 
 module _ (ts : List Term) (ls : List Literal) (vals : (v w : Term) → has_literal ls (record { atom = two equal v w; holds = true }) ≡ true → (sort_in v ≡ val_sort) × (sort_in w ≡ val_sort)) where
-  same_count : (ps qs : Parts) → ArePairs ts AreSameKind ps qs → count ps ≡ count qs
-  same_count no_parts no_parts h = refl
-  same_count no_parts (part t qs) h = absurd h
-  same_count (part s ps) no_parts h = absurd h
-  same_count (part s ps) (part t qs) h = ap suc (same_count ps qs h.1)
+  same_end : (ps qs : Parts) → ArePairs ts AreSameKind ps qs → is_end ps ≡ is_end qs
+  same_end no_parts no_parts h = refl
+  same_end no_parts (part t qs) h = absurd h
+  same_end (part s ps) no_parts h = absurd h
+  same_end (part s ps) (part t qs) h = refl
+
+  same_one : (ps qs : Parts) → ArePairs ts AreSameKind ps qs → is_one ps ≡ is_one qs
+  same_one no_parts no_parts h = refl
+  same_one no_parts (part t qs) h = absurd h
+  same_one (part s ps) no_parts h = absurd h
+  same_one (part s ps) (part t qs) h = same_end ps qs h.1
+
+  same_two : (ps qs : Parts) → ArePairs ts AreSameKind ps qs → is_two ps ≡ is_two qs
+  same_two no_parts no_parts h = refl
+  same_two no_parts (part t qs) h = absurd h
+  same_two (part s ps) no_parts h = absurd h
+  same_two (part s ps) (part t qs) h = same_one ps qs h.1
 
   same_number : (s t : Term) → (s ≡ t) ⊎ ArePair ts AreSameKind s t → as_number s ≡ as_number t
   same_number s t (inl e) = ap as_number e
@@ -250,12 +262,12 @@ module _ (ts : List Term) (ls : List Literal) (vals : (v w : Term) → has_liter
 
   congruent : (a : Symbol) (ps qs : Parts) → ArePairs ts AreSameKind ps qs → AreSameKind (Of a ps) (Of a qs)
   congruent (term.number z) ps qs h = record { number = refl; variable = refl }
-  congruent term.add ps qs h = record { number = refl; variable = ap (λ (n : ℕ). not (n == 2)) (same_count ps qs h) }
-  congruent term.sub ps qs h = record { number = refl; variable = ap (λ (n : ℕ). not (n == 2)) (same_count ps qs h) }
-  congruent term.neg ps qs h = record { number = refl; variable = ap (λ (n : ℕ). not (n == 1)) (same_count ps qs h) }
+  congruent term.add ps qs h = record { number = refl; variable = ap not (same_two ps qs h) }
+  congruent term.sub ps qs h = record { number = refl; variable = ap not (same_two ps qs h) }
+  congruent term.neg ps qs h = record { number = refl; variable = ap not (same_one ps qs h) }
   congruent term.mul ps qs h = record {
     number = refl;
-    variable = ap (λ (n : ℕ). not (n == 2) || none_number ps) (same_count ps qs h) ∙ ap (λ (b : Bool). not (count qs == 2) || b) (same_none ps qs h);
+    variable = ap (λ (b : Bool). not b || none_number ps) (same_two ps qs h) ∙ ap (λ (b : Bool). not (is_two qs) || b) (same_none ps qs h);
   }
   congruent a ps qs h = record { number = refl; variable = refl }
 

@@ -3,6 +3,7 @@ use Rattle.std.proofs.Common.{◌≡◌, ◌*◌, ◌+◌, ◌/◌, ◌<◌, ◌
 use Rattle.std.specs.Prelude.{nat_eq, nat_lt, unsigned_abs, ◌==◌}
 use Rattle.std.specs.Ordering.{int_eq}
 use Rattle.std.proofs.lemmas.Bool.{eqb-true, eq-eqb, ltb-true, lt-ltb}
+use Rattle.std.proofs.lemmas.Bool.Decides.{Decides-int_eq}
 use Rattle.std.proofs.lemmas.Int.{ints}
 use Rattle.std.proofs.lemmas.List.{append-nil}
 use Rattle.std.proofs.Math.Nat.{div-le_self}
@@ -224,9 +225,7 @@ pub tidy_lowered : (d : ℕ) (f : Linear ℕ) → IsTidy f → IsTidy (lowered d
 tidy_lowered d f h = subst IsTidy (sym (lowered_is d f)) (record { parts = tidy_quotients d f.parts h.parts; constant = quotient_fits d f.constant h.constant })
 
 abs_none : (z : ℤ) → int_eq z (pos 0) ≡ true → unsigned_abs z ≡ 0
-abs_none (pos zero) e = refl
-abs_none (pos (suc n)) e = absurd cc
-abs_none (negsuc n) e = absurd cc
+abs_none z e = ap unsigned_abs ((Decides-int_eq z (pos 0)).0 e)
 
 still : (a b : Bool) → a ≡ true → b ≡ true → (a && b) ≡ true
 still true b e f = f

@@ -128,7 +128,7 @@ twice_combined all (m ∷ ms) (n ∷ ns) f g h k doubled twice e i =
     let is : plus nat_eq g (Times (2 * m.0)) (form_at all m.1) ≡ Some b.0 = ap (λ (x : ℕ). plus nat_eq g (Times x) (form_at all m.1)) (sym doubled.0) ∙ (ap (λ (x : ℕ). plus nat_eq g (Times n.0) (form_at all x)) (sym doubled.1) ∙ b.1) in
     twice_combined all ms ns a.0 b.0 h k doubled.2 (twice_plus f g a.0 b.0 m.0 (form_at all m.1) twice a.1 is) a.2 b.2
 
-abs_zero : (z : ℤ) → unsigned_abs z ≡ 0 → z ≡ pos 0
+pub abs_zero : (z : ℤ) → unsigned_abs z ≡ 0 → z ≡ pos 0
 abs_zero (pos n) e = ap (λ (m : ℕ). pos m) e
 abs_zero (negsuc n) e = absurd (omega (arith, e))
 

@@ -1,10 +1,10 @@
 -- The variables of a literal's form are their own forms and no numbers, its numbers fit 128 bits, and no variable has two parts.
-use Rattle.std.proofs.Common.{◌≡◌, ◌∙◌, ◌&&◌, ◌||◌, ℕ, List, [], ◌∷◌, Bool, true, false, cond, not, eqb, ℤ, pos, Option, Some, None, refl, sym, ap, subst}
-use Rattle.std.specs.Prelude.{is_none, ◌==◌}
+use Rattle.std.proofs.Common.{◌≡◌, ◌∙◌, ◌&&◌, ◌||◌, List, [], ◌∷◌, Bool, true, false, cond, not, ℤ, pos, Option, Some, None, refl, sym, ap, subst}
+use Rattle.std.specs.Prelude.{is_none}
 use Rattle.wy_term.specs.Term as term
-use Rattle.wy_term.specs.Term.{Term, Of, Parts, no_parts, part, two, Number}
+use Rattle.wy_term.specs.Term.{Term, Of, Parts, no_parts, part, two}
 use Rattle.wy_term.specs.Same.{same_term}
-use Rattle.wy_term.specs.Rewriting.{fits, as_number, count}
+use Rattle.wy_term.specs.Rewriting.{fits, as_number}
 use Rattle.wy_term.specs.Sorts.{val_sort, sort_in}
 use Rattle.wy_term.proofs.SameLemmas.{terms_are, terms_self}
 use Rattle.wy_lin.specs.declared.arithmetic.Factor.{Factor}
@@ -24,13 +24,26 @@ abbrev pub none_number : Parts → Bool
 none_number no_parts = true
 none_number (part t ps) = is_none (as_number t) && none_number ps
 
+-- there is no part, there is one part, there are two
+abbrev pub is_end : Parts → Bool
+is_end no_parts = true
+is_end (part t ps) = false
+
+abbrev pub is_one : Parts → Bool
+is_one no_parts = false
+is_one (part t ps) = is_end ps
+
+abbrev pub is_two : Parts → Bool
+is_two no_parts = false
+is_two (part t ps) = is_one ps
+
 -- the term isn't taken apart where its form is made
 abbrev pub is_variable : Term → Bool
 is_variable (Of (term.number z) ps) = false
-is_variable (Of term.add ps) = not (count ps == 2)
-is_variable (Of term.sub ps) = not (count ps == 2)
-is_variable (Of term.neg ps) = not (count ps == 1)
-is_variable (Of term.mul ps) = not (count ps == 2) || none_number ps
+is_variable (Of term.add ps) = not (is_two ps)
+is_variable (Of term.sub ps) = not (is_two ps)
+is_variable (Of term.neg ps) = not (is_one ps)
+is_variable (Of term.mul ps) = not (is_two ps) || none_number ps
 is_variable t = true
 
 product_alone : (t : Term) (a b : Option ℤ) (f g : Option (Linear Term)) → (is_none a && (is_none b && true)) ≡ true → form_of_product t a b f g ≡ Some (variable_form t)
