@@ -7,6 +7,7 @@ use Rattle.wy_term.specs.Rewriting.{False, as_constant, kind_given}
 use Rattle.wy_term.specs.Sorts.{val_sort, sort_in}
 use Rattle.wy_term.specs.Condition.{Entry}
 use Rattle.wy_term.proofs.SameLemmas.{terms_self, kinds_are, kinds_self}
+use Rattle.wy_sorted.specs.Sorted.{IsSorted}
 use Rattle.wy_judge.specs.Node.{Literal, Node, same_literal, has_literal, with_literal, with_pending}
 use Rattle.wy_cert.specs.Steps.{Written, clash}
 use Rattle.wy_lin.specs.Linear.{◌>>=◌}
@@ -17,22 +18,29 @@ use Rattle.wy_search.specs.Standing.{present}
 use Rattle.wy_search.specs.Classes.{in_one_class, classes, denies_equal, any_denies, constants_apart, any_apart, kind_by, kinds_by, own_kind, own_kinds, kinds_with, any_kinds, classes_clash, clashes}
 use Rattle.wy_sound_certificates.proofs.Basics.{and_both, or_cases, two_ways, not_is_true}
 use Rattle.wy_sound_certificates.proofs.NodeLemmas.{IsSortedNode}
-use Rattle.wy_chains.specs.Chains.{HasLiterals, AreFolded}
-use Rattle.wy_chains.proofs.LiteralLemmas.{both_true, first_true, second_true, has_first, has_later, literals_are, has_more, literal_more, literal_there, numbered, both_ways_shut, false_shut}
+use Rattle.wy_sound_certificates.specs.Sortedness.{AreSortedTerms}
+use Rattle.wy_reread.specs.Folded.{IsFolded}
+use Rattle.wy_closing.specs.AtLeast.{IsAtLeast}
+use Rattle.wy_closing.proofs.Closing.{IsClosable, CanClose, AreFoldedLiterals, IsFoldedNode, closed_by, led_by}
+use Rattle.wy_chains.specs.Chains.{ClashesClose}
+use Rattle.wy_chains.proofs.LiteralLemmas.{HasLiterals, both_true, first_true, second_true, has_first, has_later, literals_are, has_more, literal_more, literal_there, numbered, both_ways_shut, false_shut}
 use Rattle.wy_chains.proofs.LinkLemmas.{AreLinked, equated, linked_turned}
 use Rattle.wy_chains.proofs.MadeLemmas.{apart_constants, given_val, unknown_kind}
 use Rattle.wy_chains.proofs.KindLemmas.{told_kind, told_two, told_denied, given_other, given_turned, denied_other, denied_turned, given_two, kinds_turned}
 use Rattle.wy_chains.proofs.ChainLemmas.{Steps, Goes, shut_closes, val_leads}
-use Rattle.wy_chains.proofs.ClassLemmas.{literal_formula, one_class}
+use Rattle.wy_chains.proofs.ClassLemmas.{present_sorted, literal_formula, one_class}
 
 -- ---- literals of a folded node
 
-literal_folded : (ls : List Literal) (l : Literal) → AreFolded ls → has_literal ls l ≡ true → folded l.atom ≡ l.atom
+folded_is : (t : Term) → IsFolded t → folded t ≡ t
+folded_is (Of symbol ps) h = h.0
+
+literal_folded : (ls : List Literal) (l : Literal) → AreFoldedLiterals ls → has_literal ls l ≡ true → folded l.atom ≡ l.atom
 literal_folded [] l are e = absurd cc
 literal_folded (k ∷ ls) l are e = by (same_literal k l) refl e (literal_folded ls l are.1)
   where
     by : (b : Bool) → same_literal k l ≡ b → cond b true (has_literal ls l) ≡ true → (has_literal ls l ≡ true → folded l.atom ≡ l.atom) → folded l.atom ≡ l.atom
-    by true f g rest = subst (λ (x : Literal). folded x.atom ≡ x.atom) (literals_are k l f) are.0
+    by true f g rest = subst (λ (x : Literal). folded x.atom ≡ x.atom) (literals_are k l f) (folded_is k.atom are.0)
     by false f g rest = rest g
 
 -- the literals are among these
@@ -99,7 +107,7 @@ module _ (types : List Entry) (Closable : Node → Type 0) (steps : Steps types 
   alone_closes node l e f =
       let n = numbered node.literals l e in
       steps.ends node (clash n.number None)
-      (ap (λ (o : Option Literal). (o >>= λ (k : Literal). Some (clashes_alone k)) >>= λ (b : Bool). only_if b closed) n.is ∙ ap (λ (b : Bool). only_if b closed) f)
+      (ap (λ (o : Option Literal). (o >>= λ (k : Literal). Some (clashes_alone k)) >>= λ (b : Bool). only_if b closed) n.is ∙ ap (λ (b : Bool). only_if b closed) f) tt
 
   together_closes : (node : Node) (l k : Literal) → has_literal node.literals l ≡ true → has_literal node.literals k ≡ true → clash_together node.literals l k ≡ true → Closable node
   together_closes node l k e f g =
@@ -108,7 +116,7 @@ module _ (types : List Entry) (Closable : Node → Type 0) (steps : Steps types 
       steps.ends node (clash n.number (Some m.number))
       (ap (λ (o : Option Literal). (o >>= λ (x : Literal). (literal_at node.literals m.number >>= λ (y : Literal). Some (clash_together node.literals x y))) >>= λ (b : Bool). only_if b closed) n.is
       ∙ (ap (λ (o : Option Literal). (o >>= λ (y : Literal). Some (clash_together node.literals l y)) >>= λ (b : Bool). only_if b closed) m.is
-      ∙ ap (λ (b : Bool). only_if b closed) g))
+      ∙ ap (λ (b : Bool). only_if b closed) g)) tt
 
   -- two neighbours of a chain
   joined_chain : (node : Node) (s t : Term) → are_joined node.literals s t ≡ true → is_chain node.literals s (t ∷ []) ≡ true
@@ -118,7 +126,7 @@ module _ (types : List Entry) (Closable : Node → Type 0) (steps : Steps types 
   by_equation : (node : Node) (s t : Term) → sort_in s ≡ val_sort → are_joined node.literals s t ≡ true → (has_atom node.literals (two equal s t) ≡ true → Closable node) → (has_atom node.literals (two equal t s) ≡ true → Closable node) → Closable node
   by_equation node s t is e f g = or_cases (has_atom node.literals (two equal s t)) (has_atom node.literals (two equal t s)) (Closable node) (equated node.literals s t is e) f g
 
-  module _ (base : Node) (sorted : IsSortedNode base) (plain : AreFolded base.literals) where
+  module _ (base : Node) (sorted : IsSortedNode base) (plain : AreFoldedLiterals base.literals) where
     abbrev OneClass : Term → Term → Type 0
     OneClass s t = in_one_class (present base) (classes (present base) base.literals) s t ≡ true
 
@@ -131,7 +139,7 @@ module _ (types : List Entry) (Closable : Node → Type 0) (steps : Steps types 
         let k : Literal = record { atom = two equal v w; holds = false } in
         let is = literal_formula base.literals k sorted.literals e in
         let next = literal_more node l in
-        val_leads types Closable steps node v w (two equal v w) (w ∷ []) (joined_chain node v w f) is.0.0 refl (literal_folded base.literals k plain e)
+        val_leads types Closable steps node v w (two equal v w) (w ∷ []) (is.0.1, (is.0.2.1, tt)) (joined_chain node v w f) is.0.0 refl (literal_folded base.literals k plain e)
         (shut_closes types Closable steps (with_literal node l) (both_ways_shut (with_literal node l) (two equal v w) (literal_there node l) (next.has k (more.has k e))))
 
     denial_closes : (node : Node) (holds : Bool) (a : Term) → HasLiterals base node → has_literal base.literals (record { atom = a; holds = holds }) ≡ true → denies_equal (present base) (classes (present base) base.literals) holds a ≡ true → Closable node
@@ -147,28 +155,28 @@ module _ (types : List Entry) (Closable : Node → Type 0) (steps : Steps types 
 
     -- ---- different constants
 
-    constants_close : (node : Node) (s t : Term) → HasLiterals base node → are_apart (as_constant s) (as_constant t) ≡ true → OneClass s t → Closable node
-    constants_close node s t more e f = one_class types Closable steps base sorted s t f node more (λ next on link. by next link)
+    constants_close : (node : Node) (s t : Term) → HasLiterals base node → IsSorted s → IsSorted t → are_apart (as_constant s) (as_constant t) ≡ true → OneClass s t → Closable node
+    constants_close node s t more ss st e f = one_class types Closable steps base sorted s t f node more (λ next on link. by next link)
       where
         by : (next : Node) → AreLinked next s t → Closable next
         by next (inl same) = absurd ((apart_constants s t e).differ same)
         by next (inr g) =
             let apart = apart_constants s t e in
-            val_leads types Closable steps next s t False (t ∷ []) (joined_chain next s t g) apart.first refl apart.never
+            val_leads types Closable steps next s t False (t ∷ []) (ss, (st, tt)) (joined_chain next s t g) apart.first refl apart.never
             (shut_closes types Closable steps (with_pending next False) (false_shut next))
 
-    apart_from_closes : (node : Node) (s : Term) (us : List Term) → HasLiterals base node → constants_apart (present base) (classes (present base) base.literals) s us ≡ true → Closable node
-    apart_from_closes node s [] more e = absurd cc
-    apart_from_closes node s (t ∷ us) more e =
+    apart_from_closes : (node : Node) (s : Term) (us : List Term) → HasLiterals base node → IsSorted s → AreSortedTerms us → constants_apart (present base) (classes (present base) base.literals) s us ≡ true → Closable node
+    apart_from_closes node s [] more ss are e = absurd cc
+    apart_from_closes node s (t ∷ us) more ss are e =
         or_cases (are_apart (as_constant s) (as_constant t) && in_one_class (present base) (classes (present base) base.literals) s t) (constants_apart (present base) (classes (present base) base.literals) s us) (Closable node) e
-        (λ f. let h = and_both (are_apart (as_constant s) (as_constant t)) (in_one_class (present base) (classes (present base) base.literals) s t) f in constants_close node s t more h.0 h.1)
-        (λ f. apart_from_closes node s us more f)
+        (λ f. let h = and_both (are_apart (as_constant s) (as_constant t)) (in_one_class (present base) (classes (present base) base.literals) s t) f in constants_close node s t more ss are.0 h.0 h.1)
+        (λ f. apart_from_closes node s us more ss are.1 f)
 
-    apart_closes : (node : Node) (us : List Term) → HasLiterals base node → any_apart (present base) (classes (present base) base.literals) us ≡ true → Closable node
-    apart_closes node [] more e = absurd cc
-    apart_closes node (s ∷ us) more e =
+    apart_closes : (node : Node) (us : List Term) → HasLiterals base node → AreSortedTerms us → any_apart (present base) (classes (present base) base.literals) us ≡ true → Closable node
+    apart_closes node [] more are e = absurd cc
+    apart_closes node (s ∷ us) more are e =
         or_cases (constants_apart (present base) (classes (present base) base.literals) s (present base)) (any_apart (present base) (classes (present base) base.literals) us) (Closable node) e
-        (λ f. apart_from_closes node s (present base) more f) (λ f. apart_closes node us more f)
+        (λ f. apart_from_closes node s (present base) more are.0 (present_sorted base sorted) f) (λ f. apart_closes node us more are.1 f)
 
     -- ---- two kinds
 
@@ -237,22 +245,22 @@ module _ (types : List Entry) (Closable : Node → Type 0) (steps : Steps types 
 
     pub clashes_close : clashes base ≡ true → (node : Node) → HasLiterals base node → Closable node
     clashes_close e node more =
+        let ts = present base in
+        let labels = classes (present base) base.literals in
+        let kinds = kinds_by true base.literals ++ own_kinds (present base) in
+        let are : AllAre (IsGiven base) (kinds_by true base.literals ++ own_kinds (present base)) = all_both (IsGiven base) (kinds_by true base.literals) (own_kinds (present base)) (given_by_literals base base.literals (all_among base.literals)) (own_are base (present base)) in
         or_cases (any_denies ts labels base.literals) (any_apart ts labels ts || (any_kinds in_two_kinds ts labels kinds kinds || any_kinds in_one_kind ts labels kinds (kinds_by false base.literals))) (Closable node) e
         (λ h. denials_close node base.literals more (all_among base.literals) h)
         (λ h. or_cases (any_apart ts labels ts) (any_kinds in_two_kinds ts labels kinds kinds || any_kinds in_one_kind ts labels kinds (kinds_by false base.literals)) (Closable node) h
-        (λ g. apart_closes node ts more g)
+        (λ g. apart_closes node ts more (present_sorted base sorted) g)
         (λ g. or_cases (any_kinds in_two_kinds ts labels kinds kinds) (any_kinds in_one_kind ts labels kinds (kinds_by false base.literals)) (Closable node) g
         (λ k. kinds_close node in_two_kinds (IsGiven base) (two_close node more) kinds kinds are are k)
         (λ k. kinds_close node in_one_kind (IsDenied base) (denied_close node more) kinds (kinds_by false base.literals) are (denied_by_literals base base.literals (all_among base.literals)) k)))
-      where
-        abbrev ts : List Term
-        ts = present base
 
-        abbrev labels : List ℕ
-        labels = classes (present base) base.literals
+-- ---- certificates
 
-        abbrev kinds : List Kinded
-        kinds = kinds_by true base.literals ++ own_kinds (present base)
+steps_close : (types : List Entry) → Steps types (CanClose types)
+steps_close types = record { ends = closed_by types; leads = led_by types }
 
-        are : AllAre (IsGiven base) (kinds_by true base.literals ++ own_kinds (present base))
-        are = all_both (IsGiven base) (kinds_by true base.literals) (own_kinds (present base)) (given_by_literals base base.literals (all_among base.literals)) (own_are base (present base))
+pub clashing_nodes_close : ClashesClose
+clashing_nodes_close types node sorted plain e more are at_least = clashes_close types (CanClose types) (steps_close types) node sorted plain.literals e more (record { has = at_least.literals })

@@ -18,8 +18,7 @@ use Rattle.wy_sound_certificates.proofs.MadeLemmas.{IsFormula}
 use Rattle.wy_sound_certificates.proofs.ChainLemmas.{ends_sorts}
 use Rattle.wy_sound_certificates.proofs.NodeLemmas.{AreSortedLiterals, IsSortedNode}
 use Rattle.wy_sound_search.proofs.StandingLemmas.{node_sorted}
-use Rattle.wy_chains.specs.Chains.{HasLiterals}
-use Rattle.wy_chains.proofs.LiteralLemmas.{literals_are, both_true, first_true, second_true, has_self, has_more}
+use Rattle.wy_chains.proofs.LiteralLemmas.{HasLiterals, literals_are, both_true, first_true, second_true, has_self, has_more}
 use Rattle.wy_chains.proofs.LinkLemmas.{AreLinked, joined_turned, arguments_turned, alike, linked_turned, linked_more, linked_argument, joined_more, equation_joins}
 use Rattle.wy_chains.proofs.ChainLemmas.{Steps, Goes, chained}
 
@@ -44,6 +43,17 @@ only_terms_present (u ∷ us) t h e = by (is_term_sort (sort_in u)) refl e (only
 
 pub is_present : (node : Node) (t : Term) → IsSortedNode node → IsAmong (present node) t → IsPresent t
 is_present node t h e = only_terms_present (standing node) t (node_sorted node h) e
+
+only_terms_sorted : (ts : List Term) → AreSortedTerms ts → AreSortedTerms (only_terms ts)
+only_terms_sorted [] h = tt
+only_terms_sorted (u ∷ us) h = by (is_term_sort (sort_in u)) (only_terms_sorted us h.1)
+  where
+    by : (b : Bool) → AreSortedTerms (only_terms us) → AreSortedTerms (cond b (u ∷ only_terms us) (only_terms us))
+    by true rest = (h.0, rest)
+    by false rest = rest
+
+pub present_sorted : (node : Node) → IsSortedNode node → AreSortedTerms (present node)
+present_sorted node h = only_terms_sorted (standing node) (node_sorted node h)
 
 no_formula : (a : Sort) → is_term_sort a ≡ true → a ≡ formula_sort → ⊥
 no_formula a e f = let is : is_term_sort formula_sort ≡ true = ap is_term_sort (sym f) ∙ e in absurd cc
@@ -80,12 +90,15 @@ module _ (types : List Entry) (Closable : Node → Type 0) (steps : Steps types 
   abbrev pub Reaches : Term → Term → Type 0
   Reaches s t = (node : Node) → HasLiterals base node → Goes types Closable steps node s t → Closable node
 
+  is : (t : Term) → IsAmong (present base) t → IsSorted t
+  is t e = let h = is_present base t sorted e in h.sorted
+
   -- two terms of one class, between which there are chains of the node
-  reached : (node : Node) (s t : Term) (ts us : List Term) → IsAmong (present base) s → IsAmong (present base) t → is_chain node.literals s ts ≡ true → last_of s ts ≡ t → is_chain node.literals t us ≡ true → last_of t us ≡ s → Goes types Closable steps node s t → Closable node
-  reached node s t ts us here there first last second back goes =
+  reached : (node : Node) (s t : Term) (ts us : List Term) → IsAmong (present base) s → IsAmong (present base) t → AreSortedTerms ts → AreSortedTerms us → is_chain node.literals s ts ≡ true → last_of s ts ≡ t → is_chain node.literals t us ≡ true → last_of t us ≡ s → Goes types Closable steps node s t → Closable node
+  reached node s t ts us here there one other first last second back goes =
       let p = is_present base s sorted here in
       let q = is_present base t sorted there in
-      chained types Closable steps node s t ts us first last second back goes p.sorted q.sorted
+      chained types Closable steps node s t ts us (p.sorted, one) (q.sorted, other) first last second back goes
       (sort_in s) refl (ap sort_in (sym last) ∙ sym (ends_sorts node.literals s ts first)) (no_formula (sort_in s) p.term)
 
   -- ---- a congruence
@@ -97,11 +110,11 @@ module _ (types : List Entry) (Closable : Node → Type 0) (steps : Steps types 
   symmetric s t here there reaches node more goes = reaches node more (λ next on link. goes next on (linked_turned next s t link))
 
   -- two joins in a row are a chain
-  in_a_row : (s t u : Term) → IsAmong (present base) s → IsAmong (present base) u → (node : Node) → AreLinked node s t → AreLinked node t u → Goes types Closable steps node s u → Closable node
-  in_a_row s t u here there node (inl e) l goes = goes node (has_self node) (subst (λ (x : Term). AreLinked node x u) (sym e) l)
-  in_a_row s t u here there node (inr e) (inl f) goes = goes node (has_self node) (inr (ap (λ (x : Term). are_joined node.literals s x) (sym f) ∙ e))
-  in_a_row s t u here there node (inr e) (inr f) goes =
-      reached node s u (t ∷ u ∷ []) (t ∷ s ∷ []) here there
+  in_a_row : (s t u : Term) → IsAmong (present base) s → IsAmong (present base) t → IsAmong (present base) u → (node : Node) → AreLinked node s t → AreLinked node t u → Goes types Closable steps node s u → Closable node
+  in_a_row s t u here middle there node (inl e) l goes = goes node (has_self node) (subst (λ (x : Term). AreLinked node x u) (sym e) l)
+  in_a_row s t u here middle there node (inr e) (inl f) goes = goes node (has_self node) (inr (ap (λ (x : Term). are_joined node.literals s x) (sym f) ∙ e))
+  in_a_row s t u here middle there node (inr e) (inr f) goes =
+      reached node s u (t ∷ u ∷ []) (t ∷ s ∷ []) here there (is t middle, (is u there, tt)) (is t middle, (is s here, tt))
       (follows s t u e f) refl (follows u t s (joined_turned node.literals t u f) (joined_turned node.literals s t e)) refl goes
     where
       follows : (x y z : Term) → are_joined node.literals x y ≡ true → are_joined node.literals y z ≡ true → is_chain node.literals x (y ∷ z ∷ []) ≡ true
@@ -113,15 +126,15 @@ module _ (types : List Entry) (Closable : Node → Type 0) (steps : Steps types 
   transitive : (s t u : Term) → IsAmong (present base) s → IsAmong (present base) t → IsAmong (present base) u → Reaches s t → Reaches t u → Reaches s u
   transitive s t u here middle there first second node more goes =
       first node more (λ next on link.
-        second next (has_more base node next more on) (λ last further other.
-          in_a_row s t u here there last (linked_more next last further s t link) other
-          (λ end beyond both. goes end (has_more node next end on (has_more next last end further beyond)) both)))
+      second next (has_more base node next more on) (λ last further other.
+      in_a_row s t u here middle there last (linked_more next last further s t link) other
+      (λ end beyond both. goes end (has_more node next end on (has_more next last end further beyond)) both)))
 
   has : (v w : Term) → IsAmong (present base) v → IsAmong (present base) w → has_literal base.literals (record { atom = two equal v w; holds = true }) ≡ true → Reaches v w
   has v w here there e node more goes =
       let l : Literal = record { atom = two equal v w; holds = true } in
-      let is = literal_formula base.literals l sorted.literals e in
-      goes node (has_self node) (inr (equation_joins node.literals v w is.0.0 is.0.2.0 (more.has l e)))
+      let f = literal_formula base.literals l sorted.literals e in
+      goes node (has_self node) (inr (equation_joins node.literals v w f.0.0 f.0.2.0 (more.has l e)))
 
   -- arguments that are pairwise linked
   arguments : (ps qs : Parts) → ArePairs (present base) Reaches ps qs → (node : Node) → HasLiterals base node → ((next : Node) → HasLiterals node next → arguments_joined next.literals ps qs ≡ true → Closable next) → Closable node
@@ -134,7 +147,7 @@ module _ (types : List Entry) (Closable : Node → Type 0) (steps : Steps types 
       rest next on link =
           arguments ps qs pairs.1 next (has_more base node next more on)
           (λ last further e. goes last (has_more node next last on further)
-            (both_true (same_term s t || are_joined last.literals s t) (arguments_joined last.literals ps qs) (linked_argument last s t (linked_more next last further s t link)) e))
+          (both_true (same_term s t || are_joined last.literals s t) (arguments_joined last.literals ps qs) (linked_argument last s t (linked_more next last further s t link)) e))
 
       by : (s ≡ t) ⊎ ArePair (present base) Reaches s t → Closable node
       by (inl e) = rest node (has_self node) (inl e)
@@ -144,9 +157,9 @@ module _ (types : List Entry) (Closable : Node → Type 0) (steps : Steps types 
   congruent a ps qs here there pairs node more goes =
       arguments ps qs pairs node more
       (λ next on e.
-        reached next (Of a ps) (Of a qs) (Of a qs ∷ []) (Of a ps ∷ []) here there
-        (follows next ps qs e) refl (follows next qs ps (arguments_turned next.literals ps qs e)) refl
-        (λ last further link. goes last (has_more node next last on further) link))
+      reached next (Of a ps) (Of a qs) (Of a qs ∷ []) (Of a ps ∷ []) here there (is (Of a qs) there, tt) (is (Of a ps) here, tt)
+      (follows next ps qs e) refl (follows next qs ps (arguments_turned next.literals ps qs e)) refl
+      (λ last further link. goes last (has_more node next last on further) link))
     where
       follows : (next : Node) (xs ys : Parts) → arguments_joined next.literals xs ys ≡ true → is_chain next.literals (Of a xs) (Of a ys ∷ []) ≡ true
       follows next xs ys e =
@@ -166,4 +179,4 @@ module _ (types : List Entry) (Closable : Node → Type 0) (steps : Steps types 
       by false f =
           related_classes base.literals Reaches (present base) relates s t
           (labelled_among (present base) (classes (present base) base.literals) s t
-            (ap (λ (b : Bool). b || same_label (label_of (classes (present base) base.literals) (place_from (present base) s 0)) (label_of (classes (present base) base.literals) (place_from (present base) t 0))) (sym f) ∙ e)) e
+          (ap (λ (b : Bool). b || same_label (label_of (classes (present base) base.literals) (place_from (present base) s 0)) (label_of (classes (present base) base.literals) (place_from (present base) t 0))) (sym f) ∙ e)) e

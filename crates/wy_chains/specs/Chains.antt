@@ -1,13 +1,11 @@
--- Nodes with at least the literals of another, and literals that are folded.
-use Rattle.std.specs.Prelude.{◌≡◌, List, [], ◌∷◌, true}
-use Rattle.wy_term.specs.Folding.{folded}
-use Rattle.wy_judge.specs.Node.{Literal, Node, has_literal}
+-- What it means that nodes close where their classes clash.
+use Rattle.std.specs.Prelude.{◌≡◌, List, true}
+use Rattle.wy_term.specs.Condition.{Entry}
+use Rattle.wy_judge.specs.Node.{Node}
+use Rattle.wy_search.specs.Classes.{clashes}
+use Rattle.wy_sound_certificates.proofs.NodeLemmas.{IsSortedNode}
+use Rattle.wy_closing.proofs.Closing.{IsClosable, IsFoldedNode}
 
--- the second node has each literal of the first
-pub record HasLiterals (base node : Node) : Type 0 where
-  pub has : (l : Literal) → has_literal base.literals l ≡ true → has_literal node.literals l ≡ true
-
--- folding the atoms changes nothing
-abbrev pub AreFolded : List Literal → Type 0
-AreFolded [] = Unit {0}
-AreFolded (l ∷ ls) = (folded l.atom ≡ l.atom) × AreFolded ls
+-- a node of sorted and folded formulas whose classes clash is closed by some steps of a certificate, and so is each sorted node that has at least as much
+abbrev pub ClashesClose : Type 0
+ClashesClose = (types : List Entry) (node : Node) → IsSortedNode node → IsFoldedNode node → clashes node ≡ true → IsClosable types node
