@@ -1,0 +1,3 @@
+pub mod RelatedLemmas
+pub mod AtLeastLemmas
+pub mod Closing
