@@ -1,8 +1,8 @@
 -- literals, and what folding makes of an equation
-mod LiteralLemmas
+pub mod LiteralLemmas
 mod MadeLemmas
 -- chains
-mod LinkLemmas
+pub mod LinkLemmas
 pub mod ChainLemmas
 pub mod ClassLemmas
 -- clashes
