@@ -5,6 +5,7 @@ use Rattle.std.specs.Ordering.{int_eq}
 use Rattle.std.proofs.lemmas.Bool.{eqb-true}
 use Rattle.std.proofs.lemmas.Bool.Decides.{Decides-int_eq}
 use Rattle.std.proofs.lemmas.Int.{ints}
+use Rattle.std.proofs.Math.IntN.{*ℤ-zero, *ℤ_comm}
 use Rattle.std.proofs.Math.Nat.{div-add-mod, zero-div}
 use Rattle.wy_term.specs.Term as term
 use Rattle.wy_term.specs.Term.{Term, Of, no_parts, part, two, Number, add, mul, at_most}
@@ -46,10 +47,10 @@ abbrev some_terms : List (ℤ × Term) → Option (List (ℤ × Term))
 some_terms ps = Some ps
 
 times_one : (c : ℤ) → c *ℤ pos 1 ≡ c
-times_one c = omega (arith, ints)
+times_one c = *ℤ_comm c (pos 1) ∙ one_times c
 
 times_none : (c : ℤ) → c *ℤ pos 0 ≡ pos 0
-times_none c = omega (arith, ints)
+times_none c = *ℤ-zero c
 
 zero_and : (z : ℤ) → pos 0 +ℤ z ≡ z
 zero_and z = omega (arith, ints)

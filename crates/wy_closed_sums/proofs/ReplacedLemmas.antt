@@ -53,6 +53,9 @@ first_false : (a b : Bool) → (a || b) ≡ false → a ≡ false
 first_false true b e = absurd cc
 first_false false b e = refl
 
+abbrev form_of_parts : List (ℤ × Term) → ℤ → Linear Term
+form_of_parts ps c = record { parts = ps; constant = c }
+
 -- ---- bounds between two variables
 
 order_difference : (s t : Term) → same_term t s ≡ false → difference (variable_form s) (variable_form t) ≡ Some (record { parts = (negsuc 0, s) ∷ (pos 1, t) ∷ []; constant = pos 0 })
@@ -231,14 +234,14 @@ module _ (types : List Entry) (Closable : Node → Type 0) (steps : Steps types 
 
   all_taken : (ps : List (ℤ × ℕ)) → AreFine ps → (node : Node) → HasLiterals base node → ((next : Node) → HasLiterals node next → Have next (taken (takings labels ps)) → Closable next) → Closable node
   all_taken [] fine node more goes = goes node (has_self node) tt
-  all_taken (p ∷ ps) fine node more goes = by (int_eq p.0 (pos 0) || (first_of_class labels p.1 == p.1)) refl goes
+  all_taken (p ∷ ps) fine node more goes = by (λ next on go. all_taken ps fine.1 next on go) (int_eq p.0 (pos 0) || (first_of_class labels p.1 == p.1)) refl goes
     where
-      by : (b : Bool) → (int_eq p.0 (pos 0) || (first_of_class labels p.1 == p.1)) ≡ b → ((next : Node) → HasLiterals node next → Have next (taken (cond b (takings labels ps) (taking_away p.0 p.1 (first_of_class labels p.1) ∷ takings labels ps))) → Closable next) → Closable node
-      by true e go = all_taken ps fine.1 node more go
-      by false e go =
+      by : ((next : Node) → HasLiterals base next → ((last : Node) → HasLiterals next last → Have last (taken (takings labels ps)) → Closable last) → Closable next) → (b : Bool) → (int_eq p.0 (pos 0) || (first_of_class labels p.1 == p.1)) ≡ b → ((next : Node) → HasLiterals node next → Have next (taken (cond b (takings labels ps) (taking_away p.0 p.1 (first_of_class labels p.1) ∷ takings labels ps))) → Closable next) → Closable node
+      by rest true e go = rest node more go
+      by rest false e go =
           to_first node more p.1 fine.0 (second_false (int_eq p.0 (pos 0)) (first_of_class labels p.1 == p.1) e)
           (λ next on bounds.
-          all_taken ps fine.1 next (has_more base node next more on)
+          rest next (has_more base node next more on)
           (λ last beyond have.
           go last (has_more node next last on beyond)
           (form_more (at terms) (length terms) once next last (taking_away p.0 p.1 (first_of_class labels p.1)).1 beyond (has_taking next p.0 p.1 (first_of_class labels p.1) bounds), have)))
@@ -352,7 +355,7 @@ module _ (types : List Entry) (Closable : Node → Type 0) (steps : Steps types 
       let made = literal_made l whole e in
       let fine = fine_numbered whole.parts ones made.variables in
       let f = numbered (present base) whole in
-      let back : whole ≡ seen (at terms) f = sym (ap (λ (ps : List (ℤ × Term)). record { parts = ps; constant = whole.constant }) (seen_numbered (present base) whole.parts (all_placed whole.parts ones))) in
+      let back : whole ≡ seen (at terms) f = sym (ap (λ (ps : List (ℤ × Term)). form_of_parts ps whole.constant) (seen_numbered (present base) whole.parts (all_placed whole.parts ones))) in
       let has : Has node f = record { literal = l; there = more.has l here; form = e ∙ ap (λ (g : Linear Term). Some g) back; good = fine_good f.parts fine } in
       handled node f has (record { parts = tidy_numbered whole.parts ones made.tidy.parts; constant = made.tidy.constant }) more fine
 

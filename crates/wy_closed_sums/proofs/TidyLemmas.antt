@@ -234,8 +234,8 @@ still false b e f = absurd cc
 -- a form of whose parts nothing is left has no variable
 pub none_left : (d : ℕ) (ps : List (ℤ × ℕ)) → quotients d ps ≡ [] → is_bare ps ≡ true
 none_left d [] e = refl
-none_left d (p ∷ ps) e = by (int_eq p.0 (pos 0)) refl e
+none_left d (p ∷ ps) e = by (λ f. none_left d ps f) (int_eq p.0 (pos 0)) refl e
   where
-    by : (b : Bool) → int_eq p.0 (pos 0) ≡ b → cond b (quotients d ps) ((quotient d p.0, p.1) ∷ quotients d ps) ≡ [] → is_bare (p ∷ ps) ≡ true
-    by true f g = still (unsigned_abs p.0 == 0) (is_bare ps) (eq-eqb (unsigned_abs p.0) 0 (abs_none p.0 f)) (none_left d ps g)
-    by false f g = absurd cc
+    by : (quotients d ps ≡ [] → is_bare ps ≡ true) → (b : Bool) → int_eq p.0 (pos 0) ≡ b → cond b (quotients d ps) ((quotient d p.0, p.1) ∷ quotients d ps) ≡ [] → is_bare (p ∷ ps) ≡ true
+    by rest true f g = still (unsigned_abs p.0 == 0) (is_bare ps) (eq-eqb (unsigned_abs p.0) 0 (abs_none p.0 f)) (rest g)
+    by rest false f g = absurd cc
