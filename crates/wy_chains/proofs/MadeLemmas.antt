@@ -155,7 +155,7 @@ constant_val s d e = absurd cc
 -- two constants that differ are two Val terms, of whose equation folding makes `false`
 pub record AreApart (s t : Term) : Type 0 where
   pub differ : s ≡ t → ⊥
-  pub never : is_equal s t ≡ False
+  pub folds : is_equal s t ≡ False
   pub first : sort_in s ≡ val_sort
 
 apart_self : (o : Option Datum) → are_apart o o ≡ true → ⊥
@@ -177,7 +177,7 @@ apart_by s t e None p f g h = absurd cc
 apart_by s t e (Some d) None f g h = absurd cc
 apart_by s t e (Some d) (Some k) f g h = record {
   differ = apart_differ s t e;
-  never = equal_by s t (apart_unlike s t e) (Some d) (Some k) f g ∙ ap decided (not_is_true (same_datum d k) h);
+  folds = equal_by s t (apart_unlike s t e) (Some d) (Some k) f g ∙ ap decided (not_is_true (same_datum d k) h);
   first = constant_val s d f;
 }
 
