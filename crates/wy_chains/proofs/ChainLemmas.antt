@@ -14,7 +14,7 @@ use Rattle.wy_valid.specs.Literals.{only_if, is_shut, are_joined, arguments_join
 use Rattle.wy_valid.specs.Validity.{equality_of, left_with, closed, after}
 use Rattle.wy_chains.proofs.LiteralLemmas.{HasLiterals, both_true, first_true, second_true, has_self, has_more, literal_more, literal_there, false_shut}
 use Rattle.wy_chains.proofs.LinkLemmas.{AreLinked, joined_turned, arguments_turned, alike, linked_turned, linked_more, linked_argument, equation_joins, bounds_join}
-use Rattle.wy_chains.proofs.MadeLemmas.{Makes, one_term, never, stays, turns, equation_makes, MakesBoth, never_first, never_last, stay, bounds_make}
+use Rattle.wy_chains.proofs.MadeLemmas.{Makes, one_term, never, stays, turns, equation_makes, MakesBoth, one_number, never_first, never_last, stay, bounds_make}
 
 -- What is closable: a node at which a step of sorted terms leads nowhere, or to one that is closable.
 pub record Steps (types : List Entry) (Closable : Node → Type 0) : Type 0 where
@@ -68,7 +68,7 @@ module _ (types : List Entry) (Closable : Node → Type 0) (steps : Steps types 
     ints_chained is it = by (bounds_make s t one.0 other.0)
       where
         by : MakesBoth s t → Closable node
-        by (one_term e) = goes node (has_self node) (inl e)
+        by (one_number e) = goes node (has_self node) (inl e)
         by (never_first e f) = int_leads node s t False True ts one first is last e f (shut_closes (with_pending node False) (false_shut node))
         by (never_last e) = int_leads node s t (is_at_most s t) False ts one first is last refl e (shut_closes (with_pending (added node (is_at_most s t)) False) (false_shut (added node (is_at_most s t))))
         by (stay e f) =

@@ -17,12 +17,13 @@ use Rattle.wy_valid.specs.Validity.{is_clash, closed, after}
 use Rattle.wy_search.specs.Standing.{present}
 use Rattle.wy_search.specs.Classes.{in_one_class, classes, denies_equal, any_denies, constants_apart, any_apart, kind_by, kinds_by, own_kind, own_kinds, kinds_with, any_kinds, classes_clash, clashes}
 use Rattle.wy_sound_certificates.proofs.Basics.{and_both, or_cases, two_ways, not_is_true}
-use Rattle.wy_sound_certificates.proofs.NodeLemmas.{IsSortedNode}
+use Rattle.wy_sound_certificates.proofs.NodeLemmas.{AreSortedLiterals, IsSortedNode}
 use Rattle.wy_sound_certificates.specs.Sortedness.{AreSortedTerms}
+use Rattle.wy_sound_search.specs.Closed.{AreLiterals}
 use Rattle.wy_reread.specs.Folded.{IsFolded}
 use Rattle.wy_closing.specs.AtLeast.{IsAtLeast}
 use Rattle.wy_closing.proofs.Closing.{IsClosable, CanClose, AreFoldedLiterals, IsFoldedNode, closed_by, led_by}
-use Rattle.wy_chains.specs.Chains.{ClashesClose}
+use Rattle.wy_chains.specs.Chains.{AreFolded, ClashesClose}
 use Rattle.wy_chains.proofs.LiteralLemmas.{HasLiterals, both_true, first_true, second_true, has_first, has_later, literals_are, has_more, literal_more, literal_there, numbered, both_ways_shut, false_shut}
 use Rattle.wy_chains.proofs.LinkLemmas.{AreLinked, equated, linked_turned}
 use Rattle.wy_chains.proofs.MadeLemmas.{apart_constants, given_val, unknown_kind}
@@ -162,7 +163,7 @@ module _ (types : List Entry) (Closable : Node → Type 0) (steps : Steps types 
         by next (inl same) = absurd ((apart_constants s t e).differ same)
         by next (inr g) =
             let apart = apart_constants s t e in
-            val_leads types Closable steps next s t False (t ∷ []) (ss, (st, tt)) (joined_chain next s t g) apart.first refl apart.never
+            val_leads types Closable steps next s t False (t ∷ []) (ss, (st, tt)) (joined_chain next s t g) apart.first refl apart.folds
             (shut_closes types Closable steps (with_pending next False) (false_shut next))
 
     apart_from_closes : (node : Node) (s : Term) (us : List Term) → HasLiterals base node → IsSorted s → AreSortedTerms us → constants_apart (present base) (classes (present base) base.literals) s us ≡ true → Closable node
@@ -262,5 +263,19 @@ module _ (types : List Entry) (Closable : Node → Type 0) (steps : Steps types 
 steps_close : (types : List Entry) → Steps types (CanClose types)
 steps_close types = record { ends = closed_by types; leads = led_by types }
 
+-- a node of sorted and folded formulas whose classes clash is closable
+pub closable : (types : List Entry) (node : Node) → IsSortedNode node → IsFoldedNode node → clashes node ≡ true → IsClosable types node
+closable types node sorted plain e more are at_least = clashes_close types (CanClose types) (steps_close types) node sorted plain.literals e more (record { has = at_least.literals })
+
+sorted_literals : (ls : List Literal) → AreLiterals ls → AreSortedLiterals ls
+sorted_literals [] h = tt
+sorted_literals (l ∷ ls) h = (h.0, sorted_literals ls h.1)
+
+folded_literals : (ls : List Literal) → AreFolded ls → AreFoldedLiterals ls
+folded_literals [] h = tt
+folded_literals (l ∷ ls) h = (h.0, folded_literals ls h.1)
+
 pub clashing_nodes_close : ClashesClose
-clashing_nodes_close types node sorted plain e more are at_least = clashes_close types (CanClose types) (steps_close types) node sorted plain.literals e more (record { has = at_least.literals })
+clashing_nodes_close types node more sorted plain e at_least =
+    let h = clashes_close types (CanClose types) (steps_close types) node (record { literals = sorted_literals node.literals sorted.literals; pending = sorted.pending }) (folded_literals node.literals plain) e more (record { has = at_least.literals }) in
+    record { steps = h.steps; closes = h.closes; sorted = h.sorted }

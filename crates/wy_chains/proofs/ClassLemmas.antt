@@ -136,22 +136,26 @@ module _ (types : List Entry) (Closable : Node → Type 0) (steps : Steps types 
       let f = literal_formula base.literals l sorted.literals e in
       goes node (has_self node) (inr (equation_joins node.literals v w f.0.0 f.0.2.0 (more.has l e)))
 
+  -- each node that has the literals of this one, and in which these arguments are joined, is closable: then this one is
+  abbrev Joins : Node → Parts → Parts → Type 0
+  Joins node ps qs = ((next : Node) → HasLiterals node next → arguments_joined next.literals ps qs ≡ true → Closable next) → Closable node
+
   -- arguments that are pairwise linked
-  arguments : (ps qs : Parts) → ArePairs (present base) Reaches ps qs → (node : Node) → HasLiterals base node → ((next : Node) → HasLiterals node next → arguments_joined next.literals ps qs ≡ true → Closable next) → Closable node
+  arguments : (ps qs : Parts) → ArePairs (present base) Reaches ps qs → (node : Node) → HasLiterals base node → Joins node ps qs
   arguments no_parts no_parts pairs node more goes = goes node (has_self node) refl
   arguments no_parts (part t qs) pairs node more goes = absurd pairs
   arguments (part s ps) no_parts pairs node more goes = absurd pairs
-  arguments (part s ps) (part t qs) pairs node more goes = by pairs.0
+  arguments (part s ps) (part t qs) pairs node more goes = by pairs.0 (λ next on. arguments ps qs pairs.1 next on)
     where
-      rest : (next : Node) → HasLiterals node next → AreLinked next s t → Closable next
-      rest next on link =
-          arguments ps qs pairs.1 next (has_more base node next more on)
+      rest : ((next : Node) → HasLiterals base next → Joins next ps qs) → (next : Node) → HasLiterals node next → AreLinked next s t → Closable next
+      rest later next on link =
+          later next (has_more base node next more on)
           (λ last further e. goes last (has_more node next last on further)
           (both_true (same_term s t || are_joined last.literals s t) (arguments_joined last.literals ps qs) (linked_argument last s t (linked_more next last further s t link)) e))
 
-      by : (s ≡ t) ⊎ ArePair (present base) Reaches s t → Closable node
-      by (inl e) = rest node (has_self node) (inl e)
-      by (inr pair) = pair.related node more rest
+      by : (s ≡ t) ⊎ ArePair (present base) Reaches s t → ((next : Node) → HasLiterals base next → Joins next ps qs) → Closable node
+      by (inl e) later = rest later node (has_self node) (inl e)
+      by (inr pair) later = pair.related node more (λ next on link. rest later next on link)
 
   congruent : (a : Symbol) (ps qs : Parts) → IsAmong (present base) (Of a ps) → IsAmong (present base) (Of a qs) → ArePairs (present base) Reaches ps qs → Reaches (Of a ps) (Of a qs)
   congruent a ps qs here there pairs node more goes =

@@ -32,10 +32,13 @@ bits_same false = refl
 literal_self : (l : Literal) → same_literal l l ≡ true
 literal_self l = both_true (same_term l.atom l.atom) (beq l.holds l.holds) (terms_self l.atom) (bits_same l.holds)
 
+abbrev signed : Term → Bool → Literal
+signed a b = record { atom = a; holds = b }
+
 pub literals_are : (k l : Literal) → same_literal k l ≡ true → k ≡ l
 literals_are k l e =
     let h = and_both (same_term k.atom l.atom) (beq k.holds l.holds) e in
-    ap (λ (a : Term). record { atom = a; holds = k.holds }) (terms_are k.atom l.atom h.0) ∙ ap (λ (b : Bool). record { atom = l.atom; holds = b }) (bits_are k.holds l.holds h.1)
+    ap (λ (a : Term). signed a k.holds) (terms_are k.atom l.atom h.0) ∙ ap (λ (b : Bool). signed l.atom b) (bits_are k.holds l.holds h.1)
 
 pub has_first : (l : Literal) (ls : List Literal) → has_literal (l ∷ ls) l ≡ true
 has_first l ls = ap (λ (b : Bool). cond b true (has_literal ls l)) (literal_self l)

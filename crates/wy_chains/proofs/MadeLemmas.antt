@@ -33,7 +33,7 @@ number_is (Of (term.number y) no_parts) z is e = ap term.Number (some_is y z e)
 number_is (Of (term.number y) (part t ps)) z is e = absurd is.0
 number_is s z is e = absurd cc
 
-whole_is : (o : Option ℤ) (d : Datum) → as_whole o ≡ Some d → (z : ℤ) × ((o ≡ Some z) × (d ≡ Whole z))
+whole_is : (o : Option ℤ) (d : Datum) → as_whole o ≡ Some d → (z : ℤ) × (o ≡ Some z) × (d ≡ Whole z)
 whole_is None d e = absurd cc
 whole_is (Some z) d e = (z, refl, cc)
 
@@ -74,36 +74,44 @@ pub data Makes (s t : Term) : Type 0 where
   stays : is_equal s t ≡ two equal s t → Makes s t
   turns : is_equal t s ≡ two equal t s → Makes s t
 
+-- an equation of two terms that differ, by what constants they are
+equal_by : (s t : Term) → same_term s t ≡ false → (o p : Option Datum) → as_constant s ≡ o → as_constant t ≡ p → is_equal s t ≡ fold_apart s t o p
+equal_by s t f o p g h =
+    ap (λ (b : Bool). cond b True (fold_apart s t (as_constant s) (as_constant t))) f
+    ∙ (ap (λ (x : Option Datum). fold_apart s t x (as_constant t)) g ∙ ap (λ (x : Option Datum). fold_apart s t o x) h)
+
 stays_by : (e : Term) (o : Option Term) (b : Bool) → b ≡ false → fold_bool e o b ≡ e
 stays_by e None b f = refl
 stays_by e (Some g) true f = absurd cc
 stays_by e (Some g) false f = refl
 
+-- two constants
+constants_make : (s t : Term) (d e : Datum) → IsSorted s → IsSorted t → same_term s t ≡ false → as_constant s ≡ Some d → as_constant t ≡ Some e → (b : Bool) → same_datum d e ≡ b → Makes s t
+constants_make s t d e is it f g h true k = one_term (constant_is s d is g ∙ (ap of_datum (data_are_equal d e k) ∙ sym (constant_is t e it h)))
+constants_make s t d e is it f g h false k = never (equal_by s t f (Some d) (Some e) g h ∙ ap decided k)
+
+-- the turned equation, where the first term is no constant
+turned_makes : (s t : Term) → same_term s t ≡ false → as_constant s ≡ None → (p : Option Datum) → as_constant t ≡ p → is_equal t s ≡ two equal t s
+turned_makes s t f g (Some e) h = equal_by t s (same_turned s t f) (Some e) None h g
+turned_makes s t f g None h = equal_by t s (same_turned s t f) None None h g ∙ stays_by (two equal t s) (as_bool t) (is_truth s) (not_truth s g)
+
+apart_make : (s t : Term) → IsSorted s → IsSorted t → same_term s t ≡ false → (o p : Option Datum) → as_constant s ≡ o → as_constant t ≡ p → Makes s t
+apart_make s t is it f (Some d) (Some e) g h = constants_make s t d e is it f g h (same_datum d e) refl
+apart_make s t is it f (Some d) None g h = stays (equal_by s t f (Some d) None g h)
+apart_make s t is it f None p g h = turns (turned_makes s t f g p h)
+
 pub equation_makes : (s t : Term) → IsSorted s → IsSorted t → Makes s t
 equation_makes s t is it = by (same_term s t) refl
   where
-    apart : (o p : Option Datum) → same_term s t ≡ false → as_constant s ≡ o → as_constant t ≡ p → Makes s t
-    apart (Some d) (Some e) f g h = decide (same_datum d e) refl
-      where
-        decide : (b : Bool) → same_datum d e ≡ b → Makes s t
-        decide true k = one_term (constant_is s d is g ∙ (ap of_datum (data_are_equal d e k) ∙ sym (constant_is t e it h)))
-        decide false k = never (rw (f, g, h, k) refl)
-    apart (Some d) None f g h = stays (rw (f, g, h) refl)
-    apart None p f g h = turns (turned p h)
-      where
-        turned : (q : Option Datum) → as_constant t ≡ q → is_equal t s ≡ two equal t s
-        turned (Some e) k = rw (same_turned s t f, k, g) refl
-        turned None k = rw (same_turned s t f, k, g) (stays_by (two equal t s) (as_bool t) (is_truth s) (not_truth s g))
-
     by : (b : Bool) → same_term s t ≡ b → Makes s t
     by true f = one_term (terms_are s t f)
-    by false f = apart (as_constant s) (as_constant t) f refl refl
+    by false f = apart_make s t is it f (as_constant s) (as_constant t) refl refl
 
 -- ---- bounds
 
 -- the same of two bounds
 pub data MakesBoth (s t : Term) : Type 0 where
-  one_term : s ≡ t → MakesBoth s t
+  one_number : s ≡ t → MakesBoth s t
   never_first : is_at_most s t ≡ False → is_at_most t s ≡ True → MakesBoth s t
   never_last : is_at_most t s ≡ False → MakesBoth s t
   stay : is_at_most s t ≡ two at_most s t → is_at_most t s ≡ two at_most t s → MakesBoth s t
@@ -111,26 +119,30 @@ pub data MakesBoth (s t : Term) : Type 0 where
 both_orders : (a b : ℤ) → meaning.at_most a b ≡ true → meaning.at_most b a ≡ true → a ≡ b
 both_orders a b e f = grind (arith, ints)
 
+-- a bound between two terms that differ, by what numbers they are
+bound_by : (s t : Term) → same_term s t ≡ false → (o p : Option ℤ) → as_number s ≡ o → as_number t ≡ p → is_at_most s t ≡ fold_order (two at_most s t) o p
+bound_by s t f o p g h =
+    ap (λ (b : Bool). cond b True (fold_order (two at_most s t) (as_number s) (as_number t))) f
+    ∙ (ap (λ (x : Option ℤ). fold_order (two at_most s t) x (as_number t)) g ∙ ap (λ (x : Option ℤ). fold_order (two at_most s t) o x) h)
+
+-- two numbers
+ordered_make : (s t : Term) (a b : ℤ) → IsSorted s → IsSorted t → same_term s t ≡ false → as_number s ≡ Some a → as_number t ≡ Some b → (x y : Bool) → meaning.at_most a b ≡ x → meaning.at_most b a ≡ y → MakesBoth s t
+ordered_make s t a b is it f g h true true k l = one_number (number_is s a is g ∙ (ap term.Number (both_orders a b k l) ∙ sym (number_is t b it h)))
+ordered_make s t a b is it f g h false true k l = never_first (bound_by s t f (Some a) (Some b) g h ∙ ap decided k) (bound_by t s (same_turned s t f) (Some b) (Some a) h g ∙ ap decided l)
+ordered_make s t a b is it f g h x false k l = never_last (bound_by t s (same_turned s t f) (Some b) (Some a) h g ∙ ap decided l)
+
+numbers_make : (s t : Term) → IsSorted s → IsSorted t → same_term s t ≡ false → (o p : Option ℤ) → as_number s ≡ o → as_number t ≡ p → MakesBoth s t
+numbers_make s t is it f (Some a) (Some b) g h = ordered_make s t a b is it f g h (meaning.at_most a b) (meaning.at_most b a) refl refl
+numbers_make s t is it f (Some a) None g h = stay (bound_by s t f (Some a) None g h) (bound_by t s (same_turned s t f) None (Some a) h g)
+numbers_make s t is it f None (Some b) g h = stay (bound_by s t f None (Some b) g h) (bound_by t s (same_turned s t f) (Some b) None h g)
+numbers_make s t is it f None None g h = stay (bound_by s t f None None g h) (bound_by t s (same_turned s t f) None None h g)
+
 pub bounds_make : (s t : Term) → IsSorted s → IsSorted t → MakesBoth s t
 bounds_make s t is it = by (same_term s t) refl
   where
-    ordered : (a b : ℤ) → same_term s t ≡ false → as_number s ≡ Some a → as_number t ≡ Some b → MakesBoth s t
-    ordered a b f g h = decide (meaning.at_most a b) (meaning.at_most b a) refl refl
-      where
-        decide : (x y : Bool) → meaning.at_most a b ≡ x → meaning.at_most b a ≡ y → MakesBoth s t
-        decide true true k l = one_term (number_is s a is g ∙ (ap term.Number (both_orders a b k l) ∙ sym (number_is t b it h)))
-        decide false true k l = never_first (rw (f, g, h, k) refl) (rw (same_turned s t f, h, g, l) refl)
-        decide x false k l = never_last (rw (same_turned s t f, h, g, l) refl)
-
-    numbers : (o p : Option ℤ) → same_term s t ≡ false → as_number s ≡ o → as_number t ≡ p → MakesBoth s t
-    numbers (Some a) (Some b) f g h = ordered a b f g h
-    numbers (Some a) None f g h = stay (rw (f, g, h) refl) (rw (same_turned s t f, h) refl)
-    numbers None (Some b) f g h = stay (rw (f, g) refl) (rw (same_turned s t f, h, g) refl)
-    numbers None None f g h = stay (rw (f, g) refl) (rw (same_turned s t f, h) refl)
-
     by : (b : Bool) → same_term s t ≡ b → MakesBoth s t
-    by true f = one_term (terms_are s t f)
-    by false f = numbers (as_number s) (as_number t) f refl refl
+    by true f = one_number (terms_are s t f)
+    by false f = numbers_make s t is it f (as_number s) (as_number t) refl refl
 
 -- ---- different constants
 
@@ -143,33 +155,34 @@ constant_val s d e = absurd cc
 -- two constants that differ are two Val terms, of whose equation folding makes `false`
 pub record AreApart (s t : Term) : Type 0 where
   pub differ : s ≡ t → ⊥
-  pub never : is_equal s t ≡ False
+  pub folds : is_equal s t ≡ False
   pub first : sort_in s ≡ val_sort
 
 apart_self : (o : Option Datum) → are_apart o o ≡ true → ⊥
 apart_self None e = absurd cc
 apart_self (Some d) e = two_ways (same_datum d d) (datum_self d) (not_is_true (same_datum d d) e)
 
-pub apart_constants : (s t : Term) → are_apart (as_constant s) (as_constant t) ≡ true → AreApart s t
-apart_constants s t e = by (as_constant s) (as_constant t) refl refl
+apart_differ : (s t : Term) → are_apart (as_constant s) (as_constant t) ≡ true → s ≡ t → ⊥
+apart_differ s t e same = apart_self (as_constant s) (ap (λ (x : Term). are_apart (as_constant s) (as_constant x)) same ∙ e)
+
+apart_unlike : (s t : Term) → are_apart (as_constant s) (as_constant t) ≡ true → same_term s t ≡ false
+apart_unlike s t e = by (same_term s t) refl
   where
-    differ : s ≡ t → ⊥
-    differ same = apart_self (as_constant s) (ap (λ (x : Term). are_apart (as_constant s) (as_constant x)) same ∙ e)
+    by : (b : Bool) → same_term s t ≡ b → b ≡ false
+    by true f = absurd (apart_differ s t e (terms_are s t f))
+    by false f = refl
 
-    unlike : (b : Bool) → same_term s t ≡ b → b ≡ false
-    unlike true f = absurd (differ (terms_are s t f))
-    unlike false f = refl
+apart_by : (s t : Term) → are_apart (as_constant s) (as_constant t) ≡ true → (o p : Option Datum) → as_constant s ≡ o → as_constant t ≡ p → are_apart o p ≡ true → AreApart s t
+apart_by s t e None p f g h = absurd cc
+apart_by s t e (Some d) None f g h = absurd cc
+apart_by s t e (Some d) (Some k) f g h = record {
+  differ = apart_differ s t e;
+  folds = equal_by s t (apart_unlike s t e) (Some d) (Some k) f g ∙ ap decided (not_is_true (same_datum d k) h);
+  first = constant_val s d f;
+}
 
-    by : (o p : Option Datum) → as_constant s ≡ o → as_constant t ≡ p → AreApart s t
-    by None p f g = let never : are_apart None (as_constant t) ≡ true = ap (λ (x : Option Datum). are_apart x (as_constant t)) (sym f) ∙ e in absurd cc
-    by (Some d) None f g = let never : are_apart (Some d) None ≡ true = ap (λ (x : Option Datum). are_apart x None) (sym f) ∙ (ap (λ (x : Option Datum). are_apart (as_constant s) x) (sym g) ∙ e) in absurd cc
-    by (Some d) (Some k) f g =
-        let apart : not (same_datum d k) ≡ true = ap (λ (x : Option Datum). are_apart x (Some k)) (sym f) ∙ (ap (λ (x : Option Datum). are_apart (as_constant s) x) (sym g) ∙ e) in
-        record {
-          differ = differ;
-          never = rw (unlike (same_term s t) refl, f, g, not_is_true (same_datum d k) apart) refl;
-          first = constant_val s d f;
-        }
+pub apart_constants : (s t : Term) → are_apart (as_constant s) (as_constant t) ≡ true → AreApart s t
+apart_constants s t e = apart_by s t e (as_constant s) (as_constant t) refl refl e
 
 -- ---- kinds
 
