@@ -3,9 +3,10 @@ use Rattle.std.specs.Prelude.{◌≡◌, List}
 use Rattle.wy_term.specs.Condition.{Entry}
 use Rattle.wy_judge.specs.Node.{Node}
 use Rattle.wy_search.specs.Bounds.{refuted, ending}
-use Rattle.wy_sound_certificates.proofs.NodeLemmas.{IsSortedNode}
-use Rattle.wy_closing.proofs.Closing.{IsClosable}
+use Rattle.wy_sound_search.specs.Closed.{IsSortedNode}
+use Rattle.wy_closing.specs.AtLeast.{IsAtLeast}
+use Rattle.wy_chains.specs.Chains.{HasSteps}
 
--- a node of sorted formulas that elimination refutes is closed by some steps of a certificate, and so is each sorted node that has at least as much
+-- where elimination refutes a node, whose formulas are sorted, steps close each node that has at least its literals and pending formulas
 abbrev pub RefutedClose : Type 0
-RefutedClose = (types : List Entry) (node : Node) → IsSortedNode node → ending node ≡ refuted → IsClosable types node
+RefutedClose = (types : List Entry) (node more : Node) → IsSortedNode node → ending node ≡ refuted → IsAtLeast node more → HasSteps types more
