@@ -231,20 +231,21 @@ stands_at ls l e =
 
 -- ---- what the literals say
 
+-- its denial is one of these
+abbrev is_against : List Literal → Literal → Bool
+is_against all k = has_literal all (record { atom = k.atom; holds = not k.holds })
+
 both_ways_there : (all ls : List Literal) (l : Literal) → has_literal ls l ≡ true → has_literal all (record { atom = l.atom; holds = not l.holds }) ≡ true → stands_both_ways all ls ≡ true
 both_ways_there all [] l e f = absurd cc
 both_ways_there all (m ∷ ms) l e f = by (same_literal m l) refl e
   where
-    abbrev against : Literal → Bool
-    against k = has_literal all (record { atom = k.atom; holds = not k.holds })
-
     right : (b : Bool) → stands_both_ways all ms ≡ true → (b || stands_both_ways all ms) ≡ true
     right true h = refl
     right false h = h
 
-    by : (b : Bool) → same_literal m l ≡ b → cond b true (has_literal ms l) ≡ true → (against m || stands_both_ways all ms) ≡ true
-    by true g h = ap (λ (b : Bool). b || stands_both_ways all ms) (ap against (literal_is m l g) ∙ f)
-    by false g h = right (against m) (both_ways_there all ms l h f)
+    by : (b : Bool) → same_literal m l ≡ b → cond b true (has_literal ms l) ≡ true → (is_against all m || stands_both_ways all ms) ≡ true
+    by true g h = ap (λ (b : Bool). b || stands_both_ways all ms) (ap (is_against all) (literal_is m l g) ∙ f)
+    by false g h = right (is_against all m) (both_ways_there all ms l h f)
 
 -- an atom stands both ways
 pub both_ways_shut : (node : Node) (a : Term) → has_literal node.literals (record { atom = a; holds = true }) ≡ true → has_literal node.literals (record { atom = a; holds = false }) ≡ true → is_shut node ≡ true
