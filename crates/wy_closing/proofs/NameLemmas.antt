@@ -66,7 +66,7 @@ module _ (test : Symbol → Bool) where
   any_formulas_push [] g = or_none (any_symbol test g)
   any_formulas_push (f ∷ fs) g = ap (λ (b : Bool). any_symbol test f || b) (any_formulas_push fs g) ∙ sym (or_assoc (any_symbol test f) (any_in_formulas test fs) (any_symbol test g))
 
-  any_literal_there : (ls : List Literal) (k : Literal) → has_literal ls k ≡ true → any_symbol test k.atom ≡ true → any_in_literals test ls ≡ true
+  pub any_literal_there : (ls : List Literal) (k : Literal) → has_literal ls k ≡ true → any_symbol test k.atom ≡ true → any_in_literals test ls ≡ true
   any_literal_there [] k e f = absurd cc
   any_literal_there (l ∷ ls) k e f = by (same_literal l k) refl e
     where
