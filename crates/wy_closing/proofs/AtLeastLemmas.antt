@@ -1,5 +1,6 @@
 -- What is so of each node that has at least as much as another one.
-use Rattle.std.proofs.Common.{◌≡◌, ◌⊎◌, ℕ, zero, suc, ◌-◌, List, [], ◌∷◌, ◌++◌, Bool, true, false, cond, eqb, not, ◌&&◌, ◌||◌, Option, Some, None, inl, inr, refl, sym, ap, ◌∙◌, subst, arith}
+use Rattle.std.proofs.Common.{◌≡◌, ◌⊎◌, ℕ, zero, suc, ◌-◌, List, [], ◌∷◌, ◌++◌, Bool, true, false, cond, not, ◌&&◌, ◌||◌, Some, None, inl, inr, refl, sym, ap, ◌∙◌, subst, arith}
+use Rattle.std.proofs.Math.Dec.{eqb-suc-zero}
 use Rattle.std.specs.Prelude.{slice_get}
 use Rattle.std.specs.Bool.{beq}
 use Rattle.wy_term.specs.Term as term
@@ -227,7 +228,7 @@ pub stands_at : (ls : List Literal) (l : Literal) → has_literal ls l ≡ true 
 stands_at ls l e =
     let h = nth_there ls l e in
     let back : suc h.0 - 1 ≡ h.0 = omega arith in
-    record { number = suc h.0; is = ap (λ (k : ℕ). slice_get ls k) back ∙ h.1 }
+    record { number = suc h.0; is = ap (λ (b : Bool). cond b None (slice_get ls (suc h.0 - 1))) (eqb-suc-zero h.0) ∙ (ap (slice_get ls) back ∙ h.1) }
 
 -- ---- what the literals say
 

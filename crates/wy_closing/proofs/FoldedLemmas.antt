@@ -3,7 +3,6 @@ use Rattle.std.proofs.Common.{◌≡◌, List, [], ◌∷◌, ◌++◌, Bool, tr
 use Rattle.wy_term.specs.Term as term
 use Rattle.wy_term.specs.Term.{Term, Of, Parts, no_parts, part, Not}
 use Rattle.wy_term.specs.Rewriting.{as_denied}
-use Rattle.wy_term.specs.Folding.{folded}
 use Rattle.wy_term.specs.Condition.{Condition}
 use Rattle.wy_reread.specs.Folded.{IsFolded, AreFolded}
 use Rattle.wy_judge.specs.Node.{Literal, has_literal, has_formula, Node, bare, with_literal, with_pending, is_atom, with_atom, added, added_denial, denied_one, added_all, denied_all, with_formulas, first_node}

@@ -1,19 +1,19 @@
 -- Which names are written in a node that has a formula more, and what nodes with the same names have in common.
-use Rattle.std.proofs.Common.{◌≡◌, ◌⊎◌, ◌<◌, ◌≤◌, ◌+◌, ℕ, zero, suc, List, [], ◌∷◌, ◌++◌, Bool, true, false, cond, eqb, ltb, not, ◌&&◌, ◌||◌, inl, inr, refl, sym, ap, ◌∙◌, subst, arith}
+use Rattle.std.proofs.Common.{◌≡◌, ◌⊎◌, ◌<◌, ◌≤◌, ◌+◌, ℕ, zero, suc, List, [], ◌∷◌, ◌++◌, Bool, true, false, cond, eqb, ltb, not, ◌&&◌, ◌||◌, inl, inr, refl, sym, ap, ◌∙◌, arith}
 use Rattle.std.proofs.lemmas.Bool.{eqb-true}
 use Rattle.std.proofs.lemmas.Bool.Decides.{nat_tests}
 use Rattle.std.specs.Prelude.{◌^◌}
 use Rattle.wy_term.specs.Term as term
-use Rattle.wy_term.specs.Term.{Symbol, Term, Of, Parts, no_parts, part, Not, leaf, int_name, val_name, every, exists}
+use Rattle.wy_term.specs.Term.{Symbol, Term, Of, Parts, no_parts, part, Not, leaf, int_name, every, exists}
 use Rattle.wy_term.specs.Same.{same_term}
 use Rattle.wy_term.specs.Scope.{free_names}
 use Rattle.wy_term.proofs.SameLemmas.{terms_are, terms_self}
-use Rattle.wy_subst.specs.Names.{any_symbol, any_in_parts, numbers_by, numbers_in, is_in, top, first_free, new_number}
+use Rattle.wy_subst.specs.Names.{any_symbol, any_in_parts, numbers_in, is_in, top, first_free, new_number}
 use Rattle.wy_subst.proofs.NameLemmas.{is_in-append, has_number, is_in-numbers_in}
 use Rattle.wy_judge.specs.Node.{Literal, Node, same_literal, has_literal, has_formula, with_literal, with_pending, is_atom, with_atom, added, added_denial, denied_one, added_all, denied_all, with_formulas}
 use Rattle.wy_valid.specs.Ranges.{Range, numbers_in_literals, numbers_in_formulas, numbers_in_node, witness, binds_it, any_in_literals, any_in_formulas, any_in_node, is_bound_in, any_bound_in, may_split}
 use Rattle.wy_closing.specs.AtLeast.{IsAtLeast, TestsNames, IsNear}
-use Rattle.wy_closing.proofs.AtLeastLemmas.{literal_is, literal_self, at_least_self, at_least_on, at_least_added, at_least_denied, at_least_formulas, more_added}
+use Rattle.wy_closing.proofs.AtLeastLemmas.{literal_is, literal_self, at_least_self, at_least_added, at_least_denied, more_added}
 
 -- ---- truth values
 

@@ -1,5 +1,5 @@
 -- What the schemas of facts state of folded terms is folded.
-use Rattle.std.proofs.Common.{◌≡◌, ℕ, zero, suc, List, [], ◌∷◌, Bool, true, false, cond, eqb, not, ◌&&◌, ℤ, pos, negsuc, Option, Some, None, refl, subst}
+use Rattle.std.proofs.Common.{◌≡◌, ℕ, zero, suc, List, [], ◌∷◌, Bool, true, false, cond, eqb, not, ℤ, pos, negsuc, Option, Some, None, refl, subst}
 use Rattle.std.specs.Prelude.{bytes_eq}
 use Rattle.wy_term.specs.Term as term
 use Rattle.wy_term.specs.Term.{DataKind, null_kind, bool_kind, int_kind, Term, Of, Parts, no_parts, part, leaf, one}
@@ -8,7 +8,6 @@ use Rattle.wy_term.specs.Rewriting.{as_number, as_bool}
 use Rattle.wy_term.specs.Folding.{folded}
 use Rattle.wy_term.specs.Condition.{Entry}
 use Rattle.wy_reread.specs.Folded.{IsFolded, AreFolded}
-use Rattle.wy_reread.proofs.FoldedLemmas.{folded_is}
 use Rattle.wy_lin.proofs.OptionLemmas.{some_is}
 use Rattle.wy_facts.specs.declared.schema.Schema.{Schema}
 use Rattle.wy_facts.specs.declared.schema.Schema.TheVariants as schema

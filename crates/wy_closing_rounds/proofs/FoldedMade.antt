@@ -1,22 +1,22 @@
 -- What a round states of folded terms is folded.
-use Rattle.std.proofs.Common.{◌≡◌, ◌+◌, ℕ, zero, suc, List, [], ◌∷◌, ◌++◌, Bool, true, false, cond, ltb, ℤ, pos, ◌*ℤ◌, Option, Some, None, refl, subst}
+use Rattle.std.proofs.Common.{◌≡◌, ◌+◌, ℕ, List, [], ◌∷◌, ◌++◌, Bool, true, false, cond, ltb, ℤ, pos, ◌*ℤ◌, Option, Some, None, refl, subst}
 use Rattle.wy_term.specs.Term as term
-use Rattle.wy_term.specs.Term.{DataKind, Symbol, Term, Of, Parts, no_parts, part, leaf, one, two, Number, int_name, val_name, every, exists}
+use Rattle.wy_term.specs.Term.{Symbol, Term, Of, Parts, no_parts, part, leaf, one, Number, int_name, val_name, every, exists}
 use Rattle.wy_term.specs.Same.{same_term}
 use Rattle.wy_term.specs.Rewriting.{fitted}
-use Rattle.wy_term.specs.Folding.{found, found_or, hidden, folded}
+use Rattle.wy_term.specs.Folding.{found, found_or, hidden}
 use Rattle.wy_term.specs.Condition.{Entry}
 use Rattle.wy_reread.specs.Folded.{IsFolded, AreFolded}
 use Rattle.wy_reread.proofs.FoldedLemmas.{folded_is}
 use Rattle.wy_subst.specs.Names.{stands_in, numbers_in, new_number}
-use Rattle.wy_subst.specs.Substitution.{Entered, with_new_name, bound_by, binder_of, entered_by, entered, env_at, renumbered, finished, Put, PutParts, put, put_parts, substituted}
+use Rattle.wy_subst.specs.Substitution.{with_new_name, binder_of, entered_by, entered, env_at, renumbered, finished, put, put_parts, substituted}
 use Rattle.wy_lin.specs.Linear.{◌>>=◌}
-use Rattle.wy_lin.proofs.OptionLemmas.{bind_some, some_is}
+use Rattle.wy_lin.proofs.OptionLemmas.{some_is}
 use Rattle.wy_facts.specs.Made.{made_one, made_two, is_at_most, is_equal, denial, is_below, both, all_three, all_four, either, one_of_three, implies, exactly_where, same_number}
-use Rattle.wy_valid.specs.Ranges.{Range, as_every, as_exists, of_each, of_one, said, body_at, instance_at, witness, witnessed_at}
+use Rattle.wy_valid.specs.Ranges.{Range, as_every, as_exists, said, body_at, instance_at, witnessed_at}
 use Rattle.wy_valid.specs.Membership.{entry_for, unfolded_at, membership, membership_by}
 use Rattle.wy_valid.specs.Sums.{zero_term}
-use Rattle.wy_valid.specs.Products.{Affine, as_product, product_bound, product_of}
+use Rattle.wy_valid.specs.Products.{Affine, product_bound, product_of}
 use Rattle.wy_closing.proofs.Closing.{AreFoldedTerms}
 
 -- ---- terms that are made of folded ones

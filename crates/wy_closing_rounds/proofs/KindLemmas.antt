@@ -1,17 +1,16 @@
 -- A fact on the kinds of a datum adds each of its three members, of which the search takes one.
-use Rattle.std.proofs.Common.{◌≡◌, ◌⊎◌, List, [], ◌∷◌, Bool, true, false, cond, eqb, ◌||◌, Option, Some, None, inl, inr, refl, sym, ap, ◌∙◌, subst}
+use Rattle.std.proofs.Common.{◌≡◌, ◌⊎◌, List, [], ◌∷◌, Bool, true, false, cond, ◌||◌, Option, Some, None, inl, inr, refl, sym, ap, ◌∙◌, subst}
 use Rattle.wy_value.specs.Datum.{Datum}
 use Rattle.wy_term.specs.Term as term
 use Rattle.wy_term.specs.Term.{DataKind, null_kind, bool_kind, int_kind, Symbol, Term, Of, Parts, no_parts, part, leaf, one, two, Not}
 use Rattle.wy_term.specs.Data.{same_datum}
 use Rattle.wy_term.specs.Same.{same_kind, same_term}
 use Rattle.wy_term.specs.Sorts.{Sort, val_sort, sort_in}
-use Rattle.wy_term.specs.Rewriting.{True, False, decided, as_bool, as_int, as_constant, is_true, is_false, is_truth, has_false, has_true, without_true, without_false, joined, fold_and, fold_or, fold_num, fold_bool, fold_apart, fold_equal, fold_kind, kind_given}
-use Rattle.wy_term.specs.Folding.{folded}
+use Rattle.wy_term.specs.Rewriting.{True, False, decided, as_bool, as_int, as_constant, is_true, is_false, is_truth, has_false, has_true, without_true, without_false, joined, fold_and, fold_or, fold_num, fold_bool, fold_apart, fold_kind, kind_given}
 use Rattle.wy_reread.specs.Folded.{IsFolded}
 use Rattle.wy_subst.specs.Names.{any_symbol, any_in_parts}
 use Rattle.wy_facts.specs.declared.schema.Schema.TheVariants as schema
-use Rattle.wy_facts.specs.Made.{made_one, is_equal, denial, all_three, either, implies}
+use Rattle.wy_facts.specs.Made.{made_one, is_equal, all_three, either, implies}
 use Rattle.wy_facts.specs.Schema.{◌>>=◌, whole, number_in, stated, is_val_sort, is_val, only_if, instance, datum_by}
 use Rattle.wy_kept_sorts.specs.SortKept.{HasSort}
 use Rattle.wy_judge.specs.Node.{Node, added, added_all}

@@ -1,30 +1,29 @@
 -- The products of a node's bounds, steps add to each node that has the node's literals.
-use Rattle.std.proofs.Common.{◌≡◌, ◌∙◌, ℕ, List, [], ◌∷◌, Bool, true, false, cond, ◌||◌, ℤ, pos, Option, Some, None, refl, sym, ap, subst}
+use Rattle.std.proofs.Common.{◌≡◌, ◌∙◌, ℕ, List, [], ◌∷◌, Bool, true, false, cond, ◌||◌, ℤ, pos, Option, Some, None, refl, ap, subst}
 use Rattle.std.specs.Prelude.{int_lt, unsigned_abs}
 use Rattle.std.specs.Bool.{beq}
 use Rattle.wy_term.specs.Term as term
-use Rattle.wy_term.specs.Term.{Term, Of, Parts, no_parts, part}
+use Rattle.wy_term.specs.Term.{Term, Of, no_parts, part}
 use Rattle.wy_term.specs.Data.{quotient_down}
 use Rattle.wy_term.specs.Condition.{Entry}
-use Rattle.wy_term.specs.Unfolding.{AreClosed}
 use Rattle.wy_sorted.specs.Sorted.{IsSorted}
-use Rattle.wy_reread.specs.Folded.{IsFolded, AreFolded}
+use Rattle.wy_reread.specs.Folded.{IsFolded}
 use Rattle.wy_lin.specs.Linear.{◌>>=◌, Linear}
 use Rattle.wy_lin.specs.TermForm.{form_of, form_of_literal}
 use Rattle.wy_lin.proofs.OptionLemmas.{bind_some, some_is}
 use Rattle.wy_cert.specs.Steps.{prod}
-use Rattle.wy_judge.specs.Node.{Literal, same_literal, has_literal, Node, added}
-use Rattle.wy_valid.specs.Literals.{formula_of, literal_at}
+use Rattle.wy_judge.specs.Node.{Literal, same_literal, has_literal, Node}
+use Rattle.wy_valid.specs.Literals.{formula_of}
 use Rattle.wy_valid.specs.Sums.{all_zero, form_at}
 use Rattle.wy_valid.specs.Products.{Affine, affine, as_product, product_of, product_stated}
 use Rattle.wy_valid.specs.Validity.{left_with_one}
 use Rattle.wy_search.specs.Standing.{standing}
 use Rattle.wy_search.specs.Expansion.{with_some, tighter, with_bound, bound_by_literal, best_bound, bound_of, with_product, with_four, with_forms, with_products_of, with_products_by, with_products}
-use Rattle.wy_sound_certificates.specs.Sortedness.{AreSortedEntries, AreSortedTerms}
+use Rattle.wy_sound_certificates.specs.Sortedness.{AreSortedTerms}
 use Rattle.wy_sound_certificates.proofs.NodeLemmas.{IsSortedNode}
 use Rattle.wy_closing.specs.AtLeast.{IsAtLeast}
-use Rattle.wy_closing.proofs.AtLeastLemmas.{StandsAt, stands_at, literal_self}
-use Rattle.wy_closing.proofs.Closing.{AreFoldedTerms, IsFoldedNode}
+use Rattle.wy_closing.proofs.AtLeastLemmas.{stands_at, literal_self}
+use Rattle.wy_closing.proofs.Closing.{AreFoldedTerms, IsFoldedNode, LeadsOn}
 use Rattle.wy_closing_rounds.proofs.FoldedMade.{product_folded}
 use Rattle.wy_closing_rounds.proofs.RoundLemmas.{Grows, grows_self, Adds, adds}
 use Rattle.wy_closing_rounds.proofs.PresentLemmas.{standing_sorted, standing_folded}
@@ -108,7 +107,7 @@ factors (Of term.mul (part u (part v no_parts))) s t h e =
     (subst IsFolded (ap (λ (q : Term × Term). q.0) pair) h.1.0, subst IsFolded (ap (λ (q : Term × Term). q.1) pair) h.1.1.0)
 factors p s t h e = absurd cc
 
-module _ (types : List Entry) (are_closed : AreClosed types) (entries : AreSortedEntries types) (base : Node) where
+module _ (types : List Entry) (leads_on : LeadsOn types) (base : Node) where
   product_adds : (more : Node) (p s t g : Term) (f e : Linear Term) (x y : Affine) → IsOf base.literals f x → IsOf base.literals e y → IsSorted p → as_product p ≡ Some (s, t) → form_of s ≡ Some f → form_of t ≡ Some e → product_of p s t x y ≡ Some g → IsAtLeast base more → Adds types more (g ∷ [])
   product_adds more p s t g f e x y one two is e1 e2 e3 e4 keeps =
       let i = stands_at more.literals one.literal (keeps.literals one.literal one.there) in
@@ -125,7 +124,7 @@ module _ (types : List Entry) (are_closed : AreClosed types) (entries : AreSorte
   with_one done p s t f e x y None h is folded one two e1 e2 e3 e4 = h
   with_one done p s t f e x y (Some g) h is folded one two e1 e2 e3 e4 =
       let parts = factors p s t folded e1 in
-      adds types are_closed entries base done g h (product_folded p s t x y g folded parts.0 parts.1 e4) (λ more keeps. product_adds more p s t g f e x y one two is e1 e2 e3 e4 keeps)
+      adds types leads_on base done g h (product_folded p s t x y g folded parts.0 parts.1 e4) (λ more keeps. product_adds more p s t g f e x y one two is e1 e2 e3 e4 keeps)
 
   with_two : (done : Node) (p s t : Term) (f g : Linear Term) (a b : Bool) → Grows types base done → IsSorted p → IsFolded p → as_product p ≡ Some (s, t) → form_of s ≡ Some f → form_of t ≡ Some g → Grows types base (with_product p s t done (bound_of base a f) (bound_of base b g))
   with_two done p s t f g a b h is folded e1 e2 e3 = by (bound_of base a f) (bound_of base b g) refl refl

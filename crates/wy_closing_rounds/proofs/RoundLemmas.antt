@@ -4,7 +4,6 @@ use Rattle.wy_term.specs.Term as term
 use Rattle.wy_term.specs.Term.{DataKind, null_kind, bool_kind, int_kind, array_kind, record_kind, Symbol, Term, Of, Parts, no_parts, part, leaf, one, Number, of_kind}
 use Rattle.wy_term.specs.Same.{same_term}
 use Rattle.wy_term.specs.Condition.{Entry}
-use Rattle.wy_term.specs.Unfolding.{AreClosed}
 use Rattle.wy_sorted.specs.Sorted.{IsSorted}
 use Rattle.wy_reread.specs.Folded.{IsFolded}
 use Rattle.wy_lin.specs.Linear.{◌>>=◌}
@@ -18,14 +17,13 @@ use Rattle.wy_valid.specs.Membership.{fact_among}
 use Rattle.wy_valid.specs.Validity.{after, left_with, left_with_one}
 use Rattle.wy_search.specs.Standing.{standing}
 use Rattle.wy_search.specs.Expansion.{Spot, with_witness, with_witnesses, index_terms, with_instances_of, with_instances_by, with_instances, with_some, with_facts_of_one, measured, all_measured, read_from, with_elements, with_all_elements, with_pairs_of, with_pairs, equal_to, kind_says, is_whole_kind, in_equation, everything, kind_fact, with_kind_facts, with_facts_by, with_schemas, with_facts}
-use Rattle.wy_sound_certificates.specs.Sortedness.{AreSortedEntries, AreSortedTerms, IsSortedStep}
+use Rattle.wy_sound_certificates.specs.Sortedness.{AreSortedTerms, IsSortedStep}
 use Rattle.wy_sound_certificates.proofs.MadeLemmas.{IsFormula, IsVal, equal_sorted, either_sorted, implies_sorted, int_sorted, num_sorted}
 use Rattle.wy_sound_certificates.proofs.NodeLemmas.{IsSortedNode, added_sorted}
-use Rattle.wy_sound_certificates.proofs.StepLemmas.{step_leads}
 use Rattle.wy_closing.specs.AtLeast.{IsAtLeast, IsNear}
 use Rattle.wy_closing.proofs.AtLeastLemmas.{at_least_self, at_least_on, more_added, more_formulas, stands_at, literal_self}
 use Rattle.wy_closing.proofs.NameLemmas.{IsNamedIn, any_literal_there, near_self, near_formulas, witness_same, any_more}
-use Rattle.wy_closing.proofs.Closing.{AreFoldedLiterals, AreFoldedTerms, IsFoldedNode, IsClosableNear, led_by}
+use Rattle.wy_closing.proofs.Closing.{AreFoldedLiterals, AreFoldedTerms, IsFoldedNode, IsClosableNear, LeadsOn, led_by}
 use Rattle.wy_closing.proofs.FoldedLemmas.{added_folded, formulas_folded}
 use Rattle.wy_closing_rounds.proofs.FoldedMade.{number_folded, each_folded, one_of_folded, instance_folded, witnessed_folded, IsFoldedRange, one_folded, equal_folded, either_folded, implies_folded}
 use Rattle.wy_closing_rounds.proofs.FoldedFacts.{fact_folded}
@@ -53,9 +51,9 @@ pub record Adds (types : List Entry) (more : Node) (gs : List Term) : Type 0 whe
   pub sorted : IsSortedStep step
   pub is : after types more step ≡ Some (with_formulas more gs ∷ [])
 
-module _ (types : List Entry) (are_closed : AreClosed types) (entries : AreSortedEntries types) where
+module _ (types : List Entry) (leads_on : LeadsOn types) where
   leads : (more : Node) (gs : List Term) → IsSortedNode more → Adds types more gs → IsSortedNode (with_formulas more gs)
-  leads more gs h s = (step_leads types more s.step (with_formulas more gs ∷ []) are_closed entries h s.sorted s.is).sorted.0
+  leads more gs h s = (leads_on more s.step (with_formulas more gs ∷ []) h s.sorted s.is).0
 
   -- some formulas more, which a step adds to each node that has what the first one has
   adds_all : (base node : Node) (fs : List Term) → Grows types base node → AreFoldedTerms fs → ((more : Node) → IsAtLeast base more → IsNear node more → Adds types more fs) → Grows types base (with_formulas node fs)

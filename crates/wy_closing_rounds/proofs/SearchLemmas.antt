@@ -4,13 +4,12 @@ use Rattle.std.specs.Prelude.{nat_lt}
 use Rattle.wy_term.specs.Term as term
 use Rattle.wy_term.specs.Term.{Term, Of, Parts, no_parts, part}
 use Rattle.wy_term.specs.Sorts.{formula_sort}
-use Rattle.wy_term.specs.Condition.{Entry, Condition}
-use Rattle.wy_term.specs.Unfolding.{AreClosed}
+use Rattle.wy_term.specs.Condition.{Entry}
 use Rattle.wy_sorted.specs.Sorted.{AreSorted, each}
 use Rattle.wy_reread.specs.Folded.{IsFolded, AreFolded}
 use Rattle.wy_judge.specs.Node.{Literal, Node, added, denied_one, first_node}
 use Rattle.wy_judge.specs.Judgement.{of_atom, judged}
-use Rattle.wy_cert.specs.Steps.{Written, split, shut}
+use Rattle.wy_cert.specs.Steps.{split, shut}
 use Rattle.wy_valid.specs.Literals.{is_shut, only_if}
 use Rattle.wy_valid.specs.Ranges.{may_split}
 use Rattle.wy_valid.specs.Validity.{closed as no_node}
@@ -18,16 +17,16 @@ use Rattle.wy_search.specs.Classes.{clashes}
 use Rattle.wy_search.specs.Bounds.{Ending, refuted, consistent, crowded, wide, ending}
 use Rattle.wy_search.specs.Splitting.{joined_atoms, atoms_in, atoms_in_parts, is_open, is_forced, first_forced, first_undecided, first_open, atoms_of, or_else, next_atom}
 use Rattle.wy_search.specs.Expansion.{Spot, with_node, expanded}
-use Rattle.wy_search.specs.Tree.{Why, Next, closed, stays_open, splits, goes_on, why_open, is_more, on_expansion, on_atom, by_ending, next, Verdict, found, spent, follows, searched, first_spot}
-use Rattle.wy_sound_certificates.specs.Sortedness.{AreFormulas, AreSortedEntries}
+use Rattle.wy_search.specs.Tree.{Next, closed, stays_open, splits, goes_on, why_open, is_more, on_expansion, on_atom, by_ending, next, Verdict, found, spent, follows, searched, first_spot}
+use Rattle.wy_sound_certificates.specs.Sortedness.{AreFormulas}
 use Rattle.wy_sound_certificates.proofs.MadeLemmas.{IsFormula}
 use Rattle.wy_sound_certificates.proofs.NodeLemmas.{AreSortedLiterals, IsSortedNode, added_sorted, denied_sorted, first_sorted}
-use Rattle.wy_closing.specs.AtLeast.{IsNear}
+use Rattle.wy_sound_certificates.proofs.StepLemmas.{step_leads}
 use Rattle.wy_closing.proofs.AtLeastLemmas.{shuts_more}
 use Rattle.wy_closing.proofs.NameLemmas.{near_self, near_added, near_denied, splits_near}
-use Rattle.wy_closing.proofs.Closing.{AreFoldedLiterals, AreFoldedTerms, IsFoldedNode, CanClose, IsClosable, IsClosableNear, closed_by, split_by, closable_near, certificate}
+use Rattle.wy_closing.proofs.Closing.{AreFoldedLiterals, AreFoldedTerms, IsFoldedNode, IsClosableNear, LeadsOn, closed_by, split_by, certificate}
 use Rattle.wy_closing.proofs.FoldedLemmas.{added_folded, denied_folded, first_folded}
-use Rattle.wy_closing_rounds.specs.Leaves.{AreSortedAtoms, AreFoldedAtoms, AreFoldedFormulas, IsSorted, IsFoldedThroughout, LeavesClose, Comes, begins, left, right, expands, SplitsFreely, FoundIsCertified}
+use Rattle.wy_closing_rounds.specs.Leaves.{AreSortedAtoms, AreFoldedAtoms, AreFoldedFormulas, LeavesClose, Comes, begins, left, right, expands, FoundIsCertified}
 use Rattle.wy_closing_rounds.proofs.ExpandedLemmas.{expanded_grows}
 
 -- ---- sorted and folded nodes, in both words
@@ -140,7 +139,7 @@ or_cases false b e = inr e
 
 -- ---- what becomes of a node
 
-module _ (leaves : LeavesClose) (types : List Entry) (are_closed : AreClosed types) (entries : AreSortedEntries types) (start : Spot)
+module _ (leaves : LeavesClose) (types : List Entry) (leads_on : LeadsOn types) (start : Spot)
     (splits_freely : (p : Spot) (a : Term) → Comes types start p → next_atom p.node ≡ Some a → may_split p.node a ≡ true) where
   record IsGood (p : Spot) : Type 0 where
     sorted : IsSortedNode p.node
@@ -163,7 +162,7 @@ module _ (leaves : LeavesClose) (types : List Entry) (are_closed : AreClosed typ
     where
       by : (b c : Bool) → next types p ≡ cond b (cond c (goes_on (expanded types p)) (stays_open (why_open e))) (stays_open (why_open e)) → IsNext p (cond b (cond c (goes_on (expanded types p)) (stays_open (why_open e))) (stays_open (why_open e)))
       by true true f =
-          let g = expanded_grows types p are_closed entries h.sorted h.folded in
+          let g = expanded_grows types p leads_on h.sorted h.folded in
           (record { sorted = g.sorted; folded = g.folded; comes = expands p (expanded types p) h.comes f }, g.back)
       by true false f = tt
       by false c f = tt
@@ -230,5 +229,5 @@ pub found_certified : LeavesClose → FoundIsCertified
 found_certified leaves c budget found_leaves sorted are_closed folded freely verdict =
     let first = first_sorted c sorted in
     let good = record { sorted = first; folded = first_folded c (formulas_folded c.hyps folded.0) folded.1; comes = begins } in
-    let all = found_closable leaves c.types are_closed sorted.types (first_spot c) freely budget verdict.0 0 found_leaves (first_spot c ∷ []) (good, tt) verdict.1 in
+    let all = found_closable leaves c.types (λ node s below h g e. (step_leads c.types node s below are_closed sorted.types h g e).sorted) (first_spot c) freely budget verdict.0 0 found_leaves (first_spot c ∷ []) (good, tt) verdict.1 in
     certificate c (all.0 (first_node c) first (near_self (first_node c)))

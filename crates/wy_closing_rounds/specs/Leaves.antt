@@ -36,8 +36,8 @@ AreFoldedFormulas [] = Unit {0}
 AreFoldedFormulas (f ∷ fs) = IsFolded f × AreFoldedFormulas fs
 
 -- the literals and the pending formulas are formulas of sorted parts
-abbrev pub IsSorted : Node → Type 0
-IsSorted node = AreSortedAtoms node.literals × AreFormulas node.pending
+abbrev pub IsSortedThroughout : Node → Type 0
+IsSortedThroughout node = AreSortedAtoms node.literals × AreFormulas node.pending
 
 -- they are folded
 abbrev pub IsFoldedThroughout : Node → Type 0
@@ -45,7 +45,7 @@ IsFoldedThroughout node = AreFoldedAtoms node.literals × AreFoldedFormulas node
 
 -- a tree of steps closes each node of sorted formulas that has at least as much; the steps' terms have sorted parts
 abbrev pub AreClosedBySteps : List Entry → Node → Type 0
-AreClosedBySteps types node = (more : Node) → IsSorted more → IsAtLeast node more → (t : Tree) × Closes types t more × AreSortedSteps (steps_in t)
+AreClosedBySteps types node = (more : Node) → IsSortedThroughout more → IsAtLeast node more → (t : Tree) × Closes types t more × AreSortedSteps (steps_in t)
 
 -- the search closes the node by its classes or by elimination
 abbrev pub IsLeaf : Node → Type 0
@@ -53,7 +53,7 @@ IsLeaf node = (clashes node ≡ true) ⊎ (ending node ≡ refuted)
 
 -- steps close what the search closes so
 abbrev pub LeavesClose : Type 0
-LeavesClose = (types : List Entry) (node : Node) → IsSorted node → IsFoldedThroughout node → IsLeaf node → AreClosedBySteps types node
+LeavesClose = (types : List Entry) (node : Node) → IsSortedThroughout node → IsFoldedThroughout node → IsLeaf node → AreClosedBySteps types node
 
 -- ---- the nodes of a search
 
