@@ -1,5 +1,6 @@
 -- What is so of each node that has at least as much as another one.
-use Rattle.std.proofs.Common.{◌≡◌, ◌⊎◌, ℕ, zero, suc, ◌-◌, List, [], ◌∷◌, ◌++◌, Bool, true, false, cond, eqb, not, ◌&&◌, ◌||◌, Option, Some, None, inl, inr, refl, sym, ap, ◌∙◌, subst, arith}
+use Rattle.std.proofs.Common.{◌≡◌, ◌⊎◌, ℕ, zero, suc, ◌-◌, List, [], ◌∷◌, ◌++◌, Bool, true, false, cond, not, ◌&&◌, ◌||◌, Some, None, inl, inr, refl, sym, ap, ◌∙◌, subst, arith}
+use Rattle.std.proofs.Math.Dec.{eqb-suc-zero}
 use Rattle.std.specs.Prelude.{slice_get}
 use Rattle.std.specs.Bool.{beq}
 use Rattle.wy_term.specs.Term as term
@@ -227,24 +228,25 @@ pub stands_at : (ls : List Literal) (l : Literal) → has_literal ls l ≡ true 
 stands_at ls l e =
     let h = nth_there ls l e in
     let back : suc h.0 - 1 ≡ h.0 = omega arith in
-    record { number = suc h.0; is = ap (λ (k : ℕ). slice_get ls k) back ∙ h.1 }
+    record { number = suc h.0; is = ap (λ (b : Bool). cond b None (slice_get ls (suc h.0 - 1))) (eqb-suc-zero h.0) ∙ (ap (slice_get ls) back ∙ h.1) }
 
 -- ---- what the literals say
+
+-- its denial is one of these
+abbrev is_against : List Literal → Literal → Bool
+is_against all k = has_literal all (record { atom = k.atom; holds = not k.holds })
 
 both_ways_there : (all ls : List Literal) (l : Literal) → has_literal ls l ≡ true → has_literal all (record { atom = l.atom; holds = not l.holds }) ≡ true → stands_both_ways all ls ≡ true
 both_ways_there all [] l e f = absurd cc
 both_ways_there all (m ∷ ms) l e f = by (same_literal m l) refl e
   where
-    abbrev against : Literal → Bool
-    against k = has_literal all (record { atom = k.atom; holds = not k.holds })
-
     right : (b : Bool) → stands_both_ways all ms ≡ true → (b || stands_both_ways all ms) ≡ true
     right true h = refl
     right false h = h
 
-    by : (b : Bool) → same_literal m l ≡ b → cond b true (has_literal ms l) ≡ true → (against m || stands_both_ways all ms) ≡ true
-    by true g h = ap (λ (b : Bool). b || stands_both_ways all ms) (ap against (literal_is m l g) ∙ f)
-    by false g h = right (against m) (both_ways_there all ms l h f)
+    by : (b : Bool) → same_literal m l ≡ b → cond b true (has_literal ms l) ≡ true → (is_against all m || stands_both_ways all ms) ≡ true
+    by true g h = ap (λ (b : Bool). b || stands_both_ways all ms) (ap (is_against all) (literal_is m l g) ∙ f)
+    by false g h = right (is_against all m) (both_ways_there all ms l h f)
 
 -- an atom stands both ways
 pub both_ways_shut : (node : Node) (a : Term) → has_literal node.literals (record { atom = a; holds = true }) ≡ true → has_literal node.literals (record { atom = a; holds = false }) ≡ true → is_shut node ≡ true

@@ -1,15 +1,15 @@
 -- Nodes that steps of a certificate close.
-use Rattle.std.proofs.Common.{◌≡◌, List, [], ◌∷◌, ◌++◌, Some, refl, ap, ◌∙◌}
+use Rattle.std.proofs.Common.{◌≡◌, List, [], ◌∷◌, ◌++◌, Some, refl}
 use Rattle.wy_term.specs.Term.{Term}
 use Rattle.wy_term.specs.Condition.{Entry, Condition}
-use Rattle.wy_judge.specs.Node.{Literal, Node, added, denied_one, first_node, with_formulas}
+use Rattle.wy_judge.specs.Node.{Literal, Node, first_node}
 use Rattle.wy_reread.specs.Folded.{IsFolded}
 use Rattle.wy_cert.specs.Steps.{Written}
-use Rattle.wy_valid.specs.Validity.{after, closed, left_with, IsValid}
-use Rattle.wy_valid.specs.Trees.{Tree, stem, no_trees, tree, steps_in, Closes, IsTreeFor}
+use Rattle.wy_valid.specs.Validity.{after, closed, IsValid}
+use Rattle.wy_valid.specs.Trees.{Tree, stem, no_trees, tree, steps_in, Closes}
 use Rattle.wy_valid.proofs.TreeLemmas.{valid_is_a_tree}
 use Rattle.wy_sound_certificates.specs.Sortedness.{IsSortedStep, AreSortedSteps}
-use Rattle.wy_sound_certificates.proofs.NodeLemmas.{IsSortedNode}
+use Rattle.wy_sound_certificates.proofs.NodeLemmas.{IsSortedNode, AreSortedNodes}
 use Rattle.wy_closing.specs.AtLeast.{IsAtLeast, IsNear}
 
 -- ---- nodes that are closed
@@ -41,6 +41,12 @@ AreFoldedTerms (f ∷ fs) = IsFolded f × AreFoldedTerms fs
 pub record IsFoldedNode (node : Node) : Type 0 where
   pub literals : AreFoldedLiterals node.literals
   pub pending : AreFoldedTerms node.pending
+
+-- ---- where steps lead
+
+-- a valid step with sorted terms leads from a node of sorted formulas to such nodes
+abbrev pub LeadsOn : List Entry → Type 0
+LeadsOn types = (node : Node) (s : Written) (below : List Node) → IsSortedNode node → IsSortedStep s → after types node s ≡ Some below → AreSortedNodes below
 
 -- ---- composition
 
