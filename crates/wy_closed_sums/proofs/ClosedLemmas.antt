@@ -156,7 +156,7 @@ module _ (at : ℕ → Term) (n : ℕ) (once : NamesOnce at n) where
     Closes root all = (node : Node) → HasLiterals root node → HaveForms node all → Closable node
 
     sum_closes : (root : Node) (all : List (Linear ℕ)) (ms : List (ℕ × ℕ)) (f : Linear ℕ) → are_named (length all) ms ≡ true → combined all ms ≡ Some f → is_bare f.parts ≡ true → int_lt f.constant (pos 0) ≡ true → Closes root all
-    sum_closes root all ms f named is bare negative node more have =
+    sum_closes root all ms f named is bare negative node longer have =
         let s = numbered_sum node all ms nothing f have tt named is in
         steps.ends node (sum_of s.pairs)
         (ap (λ (o : Option (Linear Term)). only_if (is_refuting o) closed) s.is
@@ -164,7 +164,7 @@ module _ (at : ℕ → Term) (n : ℕ) (once : NamesOnce at n) where
         tt
 
     cut_closes : (root : Node) (all : List (Linear ℕ)) (d : ℕ) (ms : List (ℕ × ℕ)) (f : Linear ℕ) → nat_lt 1 d ≡ true → are_named (length all) ms ≡ true → combined all ms ≡ Some f → divides d f.parts ≡ true → is_bare f.parts ≡ false → Closes root (all ++ lowered d f ∷ []) → Closes root all
-    cut_closes root all d ms f large named is even free below node more have =
+    cut_closes root all d ms f large named is even free below node longer have =
         let s = numbered_sum node all ms nothing f have tt named is in
         let c = cut_is at n once d f (tidy_combined all nothing ms f nothing_tidy is) s.good large even free in
         let l : Literal = record { atom = two at_most zero_term c.sum; holds = true } in
@@ -172,9 +172,9 @@ module _ (at : ℕ → Term) (n : ℕ) (once : NamesOnce at n) where
         let on : HasLiterals node next = literal_more node l in
         let new : HasForm next (lowered d f) = record { literal = l; there = literal_there node l; form = c.form; good = good_lowered at n once d f s.good } in
         steps.leads node next (cut d s.pairs)
-        (ap (λ (o : Option (Linear Term)). (o >>= λ (g : Linear Term). cut_of d g) >>= left_with_one node) s.is ∙ ap (λ (o : Option Term). o >>= left_with_one node) c.is)
+        (ap (λ (o : Option (Linear Term)). o >>= λ (g : Linear Term). cut_of d g >>= left_with_one node) s.is ∙ ap (λ (o : Option Term). o >>= left_with_one node) c.is)
         tt
-        (below next (has_more root node next more on) (have_last next all (lowered d f) (forms_more node next all on have) new))
+        (below next (has_more root node next longer on) (have_last next all (lowered d f) (forms_more node next all on have) new))
 
     pub closing_rules : (root : Node) → Rules (Closes root)
     closing_rules root = record { by_sum = sum_closes root; by_cut = cut_closes root }

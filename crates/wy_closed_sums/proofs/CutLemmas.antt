@@ -281,7 +281,7 @@ module _ (at : ℕ → Term) (n : ℕ) (once : NamesOnce at n) where
       by [] e = absurd (let up : true ≡ false = sym (none_left d f.parts e) ∙ free in cc)
       by (q ∷ qs) e =
           let good_left : AreGood (q ∷ qs) = subst AreGood e (good_quotients d f.parts good) in
-          let tidy_left : AreTidy eqb (q ∷ qs) = subst (λ (ps : List (ℤ × ℕ)). AreTidy eqb ps) eqb e (tidy_quotients d f.parts tidy.parts) in
+          let tidy_left : AreTidy eqb (q ∷ qs) = subst (λ (ps : List (ℤ × ℕ)). AreTidy eqb ps) e (tidy_quotients d f.parts tidy.parts) in
           let fit = quotient_fits d f.constant tidy.constant in
           let t = total_form q qs (quotient d f.constant) good_left tidy_left fit in
           let total : total_of (divided d (map (seen_part at) f.parts)) (quotient_down f.constant d) ≡ two add t.sum (Number (quotient d f.constant)) =
