@@ -12,7 +12,8 @@ use Rattle.wy_judge.specs.Node.{Literal, Node, with_literal, with_pending, added
 use Rattle.wy_cert.specs.Steps.{Written, shut, chain}
 use Rattle.wy_valid.specs.Literals.{only_if, is_shut, are_joined, arguments_joined, are_alike, is_chain, last_of}
 use Rattle.wy_valid.specs.Validity.{equality_of, left_with, closed, after}
-use Rattle.wy_chains.proofs.LiteralLemmas.{HasLiterals, both_true, first_true, second_true, has_self, has_more, literal_more, literal_there, false_shut}
+use Rattle.wy_chains.specs.Chains.{HasLiterals}
+use Rattle.wy_chains.proofs.LiteralLemmas.{both_true, first_true, second_true, has_self, has_more, literal_more, literal_there, false_shut}
 use Rattle.wy_chains.proofs.LinkLemmas.{AreLinked, joined_turned, arguments_turned, alike, linked_turned, linked_more, linked_argument, equation_joins, bounds_join}
 use Rattle.wy_chains.proofs.MadeLemmas.{Makes, one_term, never, stays, turns, equation_makes, MakesBoth, one_number, never_first, never_last, stay, bounds_make}
 

@@ -1,6 +1,7 @@
 -- literals, and what folding makes of an equation
 mod LiteralLemmas
 mod MadeLemmas
+mod StandingLemmas
 -- chains
 mod LinkLemmas
 pub mod ChainLemmas

@@ -7,7 +7,8 @@ use Rattle.wy_term.proofs.SameLemmas.{terms_are, terms_self, symbols_are, symbol
 use Rattle.wy_judge.specs.Node.{Literal, Node}
 use Rattle.wy_valid.specs.Literals.{has_atom, are_equated, are_between, joined_by, are_joined, arguments_joined, are_alike}
 use Rattle.wy_sound_certificates.proofs.Basics.{and_both, or_cases}
-use Rattle.wy_chains.proofs.LiteralLemmas.{HasLiterals, both_true, first_true, second_true}
+use Rattle.wy_chains.specs.Chains.{HasLiterals}
+use Rattle.wy_chains.proofs.LiteralLemmas.{both_true, first_true, second_true}
 
 -- ---- turned
 
