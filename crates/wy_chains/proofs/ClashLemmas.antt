@@ -1,5 +1,5 @@
 -- A node is closable where the classes of one clash whose literals it has.
-use Rattle.std.proofs.Common.{◌≡◌, ◌⊎◌, ◌∙◌, ℕ, List, [], ◌∷◌, ◌++◌, Bool, true, false, cond, not, ◌&&◌, ◌||◌, Option, Some, None, inl, inr, refl, sym, ap, subst}
+use Rattle.std.proofs.Common.{◌≡◌, ◌⊎◌, ◌∙◌, List, [], ◌∷◌, ◌++◌, Bool, true, false, cond, not, ◌&&◌, ◌||◌, Option, Some, None, inl, inr, refl, sym, ap, subst}
 use Rattle.wy_term.specs.Term.{DataKind, Term, Of, no_parts, part, one, two, equal, of_kind}
 use Rattle.wy_term.specs.Same.{same_kind, same_term}
 use Rattle.wy_term.specs.Folding.{folded}
@@ -13,19 +13,19 @@ use Rattle.wy_cert.specs.Steps.{Written, clash}
 use Rattle.wy_lin.specs.Linear.{◌>>=◌}
 use Rattle.wy_valid.specs.Literals.{only_if, has_atom, literal_at, are_joined, are_alike, is_chain}
 use Rattle.wy_valid.specs.Kinds.{are_apart, clashes_alone, Kinded, in_two_kinds, in_one_kind, clash_together}
-use Rattle.wy_valid.specs.Validity.{is_clash, closed, after}
+use Rattle.wy_valid.specs.Validity.{closed, after}
 use Rattle.wy_search.specs.Standing.{present}
-use Rattle.wy_search.specs.Classes.{in_one_class, classes, denies_equal, any_denies, constants_apart, any_apart, kind_by, kinds_by, own_kind, own_kinds, kinds_with, any_kinds, classes_clash, clashes}
+use Rattle.wy_search.specs.Classes.{in_one_class, classes, denies_equal, any_denies, constants_apart, any_apart, kind_by, kinds_by, own_kind, own_kinds, kinds_with, any_kinds, clashes}
 use Rattle.wy_sound_certificates.proofs.Basics.{and_both, or_cases, two_ways, not_is_true}
 use Rattle.wy_sound_certificates.proofs.NodeLemmas.{AreSortedLiterals, IsSortedNode}
-use Rattle.wy_sound_certificates.specs.Sortedness.{AreFormulas, AreSortedTerms, IsSortedStep, AreSortedSteps}
+use Rattle.wy_sound_certificates.specs.Sortedness.{AreSortedTerms, IsSortedStep, AreSortedSteps}
 use Rattle.wy_chains.specs.Chains.{HasLiterals, AreFolded, AreLiterals, HasSteps, ClashesClose}
 use Rattle.wy_valid.specs.Trees.{stem, no_trees, tree, steps_in}
-use Rattle.wy_chains.proofs.LiteralLemmas.{both_true, first_true, second_true, has_first, has_later, literals_are, has_more, literal_more, literal_there, numbered, both_ways_shut, false_shut}
+use Rattle.wy_chains.proofs.LiteralLemmas.{both_true, first_true, has_first, has_later, literals_are, has_more, literal_more, literal_there, numbered, both_ways_shut, false_shut}
 use Rattle.wy_chains.proofs.LinkLemmas.{AreLinked, equated, linked_turned}
 use Rattle.wy_chains.proofs.MadeLemmas.{apart_constants, given_val, unknown_kind}
 use Rattle.wy_chains.proofs.KindLemmas.{told_kind, told_two, told_denied, given_other, given_turned, denied_other, denied_turned, given_two, kinds_turned}
-use Rattle.wy_chains.proofs.ChainLemmas.{Steps, Goes, shut_closes, val_leads}
+use Rattle.wy_chains.proofs.ChainLemmas.{Steps, shut_closes, val_leads}
 use Rattle.wy_chains.proofs.ClassLemmas.{present_sorted, literal_formula, one_class}
 
 -- ---- literals of a folded node

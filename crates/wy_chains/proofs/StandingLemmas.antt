@@ -1,10 +1,9 @@
 -- What stands in a node of sorted formulas is sorted.
-use Rattle.std.proofs.Common.{◌≡◌, ℕ, zero, suc, List, [], ◌∷◌, ◌++◌, map, Bool, true, false, cond, ◌||◌, refl}
+use Rattle.std.proofs.Common.{ℕ, zero, suc, List, [], ◌∷◌, ◌++◌, map, Bool, true, false, cond, ◌||◌}
 use Rattle.wy_term.specs.Term as term
 use Rattle.wy_term.specs.Term.{Symbol, Term, Of, Parts, no_parts, part, leaf}
-use Rattle.wy_term.specs.Sorts.{formula_sort}
 use Rattle.wy_term.specs.Scope.{free_names}
-use Rattle.wy_sorted.specs.Sorted.{Places, these, each, places, behind, IsSorted, AreSorted}
+use Rattle.wy_sorted.specs.Sorted.{Places, places, behind, IsSorted, AreSorted}
 use Rattle.wy_judge.specs.Node.{Literal, Node, has_formula}
 use Rattle.wy_search.specs.Standing.{Standing, bound_by, part_at, all_parts, below, standing_in, standing_in_parts, have_common, with_unbound, in_literals, in_formulas, standing}
 use Rattle.wy_sound_certificates.specs.Sortedness.{AreFormulas, AreSortedTerms}
