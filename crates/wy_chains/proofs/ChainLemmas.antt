@@ -81,6 +81,6 @@ module _ (types : List Entry) (Closable : Node → Type 0) (steps : Steps types 
 
     -- a chain from each of two terms to the other links them, or shuts the node
     pub chained : (a : Sort) → sort_in s ≡ a → sort_in t ≡ a → (a ≡ formula_sort → ⊥) → Closable node
-    chained int_sort is it no = ints_chained is it
-    chained val_sort is it no = vals_chained is it
-    chained formula_sort is it no = absurd (no refl)
+    chained int_sort is it unlike = ints_chained is it
+    chained val_sort is it unlike = vals_chained is it
+    chained formula_sort is it unlike = absurd (unlike refl)

@@ -179,7 +179,7 @@ module _ (types : List Entry) (Closable : Node → Type 0) (steps : Steps types 
   one_class s t e = by (same_term s t) refl
     where
       by : (b : Bool) → same_term s t ≡ b → Reaches s t
-      by true f node more goes = goes node (has_self node) (inl (terms_are s t f))
+      by true f = λ node more goes. goes node (has_self node) (inl (terms_are s t f))
       by false f =
           related_classes base.literals Reaches (present base) relates s t
           (labelled_among (present base) (classes (present base) base.literals) s t
