@@ -1,7 +1,6 @@
 -- A node is closable where each node is to which chains between two terms may lead.
-use Rattle.std.proofs.Common.{◌≡◌, ◌⊎◌, ◌∙◌, List, [], ◌∷◌, Bool, true, false, ◌&&◌, ◌||◌, Option, Some, None, inl, inr, refl, sym, ap, subst}
-use Rattle.wy_term.specs.Term.{Symbol, Term, Of, Parts, no_parts, part, two, at_most, equal}
-use Rattle.wy_term.specs.Same.{same_term}
+use Rattle.std.proofs.Common.{◌≡◌, ◌∙◌, List, [], ◌∷◌, Bool, true, false, Option, Some, inl, inr, refl, ap}
+use Rattle.wy_term.specs.Term.{Term, two, at_most, equal}
 use Rattle.wy_term.specs.Sorts.{Sort, int_sort, val_sort, formula_sort, sort_in}
 use Rattle.wy_term.specs.Rewriting.{False, True}
 use Rattle.wy_term.specs.Condition.{Entry}
@@ -10,10 +9,11 @@ use Rattle.wy_lin.specs.Linear.{◌>>=◌}
 use Rattle.wy_facts.specs.Made.{is_at_most, is_equal}
 use Rattle.wy_judge.specs.Node.{Literal, Node, with_literal, with_pending, added, with_formulas}
 use Rattle.wy_cert.specs.Steps.{Written, shut, chain}
-use Rattle.wy_valid.specs.Literals.{only_if, is_shut, are_joined, arguments_joined, are_alike, is_chain, last_of}
+use Rattle.wy_valid.specs.Literals.{only_if, is_shut, is_chain, last_of}
 use Rattle.wy_valid.specs.Validity.{equality_of, left_with, closed, after}
-use Rattle.wy_chains.proofs.LiteralLemmas.{HasLiterals, both_true, first_true, second_true, has_self, has_more, literal_more, literal_there, false_shut}
-use Rattle.wy_chains.proofs.LinkLemmas.{AreLinked, joined_turned, arguments_turned, alike, linked_turned, linked_more, linked_argument, equation_joins, bounds_join}
+use Rattle.wy_chains.specs.Chains.{HasLiterals}
+use Rattle.wy_chains.proofs.LiteralLemmas.{has_self, has_more, literal_more, literal_there, false_shut}
+use Rattle.wy_chains.proofs.LinkLemmas.{AreLinked, joined_turned, equation_joins, bounds_join}
 use Rattle.wy_chains.proofs.MadeLemmas.{Makes, one_term, never, stays, turns, equation_makes, MakesBoth, one_number, never_first, never_last, stay, bounds_make}
 
 -- What is closable: a node at which a step of sorted terms leads nowhere, or to one that is closable.
@@ -81,6 +81,6 @@ module _ (types : List Entry) (Closable : Node → Type 0) (steps : Steps types 
 
     -- a chain from each of two terms to the other links them, or shuts the node
     pub chained : (a : Sort) → sort_in s ≡ a → sort_in t ≡ a → (a ≡ formula_sort → ⊥) → Closable node
-    chained int_sort is it no = ints_chained is it
-    chained val_sort is it no = vals_chained is it
-    chained formula_sort is it no = absurd (no refl)
+    chained int_sort is it unlike = ints_chained is it
+    chained val_sort is it unlike = vals_chained is it
+    chained formula_sort is it unlike = absurd (unlike refl)

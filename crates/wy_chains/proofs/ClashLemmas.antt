@@ -1,5 +1,5 @@
 -- A node is closable where the classes of one clash whose literals it has.
-use Rattle.std.proofs.Common.{◌≡◌, ◌⊎◌, ◌∙◌, ℕ, List, [], ◌∷◌, ◌++◌, Bool, true, false, cond, not, ◌&&◌, ◌||◌, Option, Some, None, inl, inr, refl, sym, ap, subst}
+use Rattle.std.proofs.Common.{◌≡◌, ◌⊎◌, ◌∙◌, List, [], ◌∷◌, ◌++◌, Bool, true, false, cond, not, ◌&&◌, ◌||◌, Option, Some, None, inl, inr, refl, sym, ap, subst}
 use Rattle.wy_term.specs.Term.{DataKind, Term, Of, no_parts, part, one, two, equal, of_kind}
 use Rattle.wy_term.specs.Same.{same_kind, same_term}
 use Rattle.wy_term.specs.Folding.{folded}
@@ -13,35 +13,29 @@ use Rattle.wy_cert.specs.Steps.{Written, clash}
 use Rattle.wy_lin.specs.Linear.{◌>>=◌}
 use Rattle.wy_valid.specs.Literals.{only_if, has_atom, literal_at, are_joined, are_alike, is_chain}
 use Rattle.wy_valid.specs.Kinds.{are_apart, clashes_alone, Kinded, in_two_kinds, in_one_kind, clash_together}
-use Rattle.wy_valid.specs.Validity.{is_clash, closed, after}
+use Rattle.wy_valid.specs.Validity.{closed, after}
 use Rattle.wy_search.specs.Standing.{present}
-use Rattle.wy_search.specs.Classes.{in_one_class, classes, denies_equal, any_denies, constants_apart, any_apart, kind_by, kinds_by, own_kind, own_kinds, kinds_with, any_kinds, classes_clash, clashes}
+use Rattle.wy_search.specs.Classes.{in_one_class, classes, denies_equal, any_denies, constants_apart, any_apart, kind_by, kinds_by, own_kind, own_kinds, kinds_with, any_kinds, clashes}
 use Rattle.wy_sound_certificates.proofs.Basics.{and_both, or_cases, two_ways, not_is_true}
 use Rattle.wy_sound_certificates.proofs.NodeLemmas.{AreSortedLiterals, IsSortedNode}
-use Rattle.wy_sound_certificates.specs.Sortedness.{AreSortedTerms}
-use Rattle.wy_sound_search.specs.Closed.{AreLiterals}
-use Rattle.wy_reread.specs.Folded.{IsFolded}
-use Rattle.wy_closing.specs.AtLeast.{IsAtLeast}
-use Rattle.wy_closing.proofs.Closing.{IsClosable, CanClose, AreFoldedLiterals, IsFoldedNode, closed_by, led_by}
-use Rattle.wy_chains.specs.Chains.{AreFolded, ClashesClose}
-use Rattle.wy_chains.proofs.LiteralLemmas.{HasLiterals, both_true, first_true, second_true, has_first, has_later, literals_are, has_more, literal_more, literal_there, numbered, both_ways_shut, false_shut}
+use Rattle.wy_sound_certificates.specs.Sortedness.{AreSortedTerms, IsSortedStep, AreSortedSteps}
+use Rattle.wy_chains.specs.Chains.{HasLiterals, AreFolded, AreLiterals, HasSteps, ClashesClose}
+use Rattle.wy_valid.specs.Trees.{stem, no_trees, tree, steps_in}
+use Rattle.wy_chains.proofs.LiteralLemmas.{both_true, first_true, has_first, has_later, literals_are, has_more, literal_more, literal_there, numbered, both_ways_shut, false_shut}
 use Rattle.wy_chains.proofs.LinkLemmas.{AreLinked, equated, linked_turned}
 use Rattle.wy_chains.proofs.MadeLemmas.{apart_constants, given_val, unknown_kind}
 use Rattle.wy_chains.proofs.KindLemmas.{told_kind, told_two, told_denied, given_other, given_turned, denied_other, denied_turned, given_two, kinds_turned}
-use Rattle.wy_chains.proofs.ChainLemmas.{Steps, Goes, shut_closes, val_leads}
+use Rattle.wy_chains.proofs.ChainLemmas.{Steps, shut_closes, val_leads}
 use Rattle.wy_chains.proofs.ClassLemmas.{present_sorted, literal_formula, one_class}
 
 -- ---- literals of a folded node
 
-folded_is : (t : Term) → IsFolded t → folded t ≡ t
-folded_is (Of symbol ps) h = h.0
-
-literal_folded : (ls : List Literal) (l : Literal) → AreFoldedLiterals ls → has_literal ls l ≡ true → folded l.atom ≡ l.atom
+literal_folded : (ls : List Literal) (l : Literal) → AreFolded ls → has_literal ls l ≡ true → folded l.atom ≡ l.atom
 literal_folded [] l are e = absurd cc
 literal_folded (k ∷ ls) l are e = by (same_literal k l) refl e (literal_folded ls l are.1)
   where
     by : (b : Bool) → same_literal k l ≡ b → cond b true (has_literal ls l) ≡ true → (has_literal ls l ≡ true → folded l.atom ≡ l.atom) → folded l.atom ≡ l.atom
-    by true f g rest = subst (λ (x : Literal). folded x.atom ≡ x.atom) (literals_are k l f) (folded_is k.atom are.0)
+    by true f g rest = subst (λ (x : Literal). folded x.atom ≡ x.atom) (literals_are k l f) are.0
     by false f g rest = rest g
 
 -- the literals are among these
@@ -127,7 +121,7 @@ module _ (types : List Entry) (Closable : Node → Type 0) (steps : Steps types 
   by_equation : (node : Node) (s t : Term) → sort_in s ≡ val_sort → are_joined node.literals s t ≡ true → (has_atom node.literals (two equal s t) ≡ true → Closable node) → (has_atom node.literals (two equal t s) ≡ true → Closable node) → Closable node
   by_equation node s t is e f g = or_cases (has_atom node.literals (two equal s t)) (has_atom node.literals (two equal t s)) (Closable node) (equated node.literals s t is e) f g
 
-  module _ (base : Node) (sorted : IsSortedNode base) (plain : AreFoldedLiterals base.literals) where
+  module _ (base : Node) (sorted : IsSortedNode base) (plain : AreFolded base.literals) where
     abbrev OneClass : Term → Term → Type 0
     OneClass s t = in_one_class (present base) (classes (present base) base.literals) s t ≡ true
 
@@ -258,24 +252,28 @@ module _ (types : List Entry) (Closable : Node → Type 0) (steps : Steps types 
         (λ k. kinds_close node in_two_kinds (IsGiven base) (two_close node more) kinds kinds are are k)
         (λ k. kinds_close node in_one_kind (IsDenied base) (denied_close node more) kinds (kinds_by false base.literals) are (denied_by_literals base base.literals (all_among base.literals)) k)))
 
--- ---- certificates
+-- ---- trees of steps
 
-steps_close : (types : List Entry) → Steps types (CanClose types)
-steps_close types = record { ends = closed_by types; leads = led_by types }
+steps_end : (a : List Written) → AreSortedSteps a → AreSortedSteps (a ++ [])
+steps_end [] h = tt
+steps_end (s ∷ a) h = (h.0, steps_end a h.1)
 
--- a node of sorted and folded formulas whose classes clash is closable
-pub closable : (types : List Entry) (node : Node) → IsSortedNode node → IsFoldedNode node → clashes node ≡ true → IsClosable types node
-closable types node sorted plain e more are at_least = clashes_close types (CanClose types) (steps_close types) node sorted plain.literals e more (record { has = at_least.literals })
+closed_by : (types : List Entry) (node : Node) (s : Written) → after types node s ≡ closed → IsSortedStep s → HasSteps types node
+closed_by types node s e h = record { steps = stem s no_trees; closes = ([], e, tt); sorted = (h, tt) }
 
-sorted_literals : (ls : List Literal) → AreLiterals ls → AreSortedLiterals ls
-sorted_literals [] h = tt
-sorted_literals (l ∷ ls) h = (h.0, sorted_literals ls h.1)
+led_by : (types : List Entry) (node below : Node) (s : Written) → after types node s ≡ Some (below ∷ []) → IsSortedStep s → HasSteps types below → HasSteps types node
+led_by types node below s e h c = record {
+  steps = stem s (tree c.steps no_trees);
+  closes = (below ∷ [], e, (c.closes, tt));
+  sorted = (h, steps_end (steps_in c.steps) c.sorted);
+}
 
-folded_literals : (ls : List Literal) → AreFolded ls → AreFoldedLiterals ls
-folded_literals [] h = tt
-folded_literals (l ∷ ls) h = (h.0, folded_literals ls h.1)
+trees_close : (types : List Entry) → Steps types (HasSteps types)
+trees_close types = record { ends = closed_by types; leads = led_by types }
+
+literals_sorted : (ls : List Literal) → AreLiterals ls → AreSortedLiterals ls
+literals_sorted [] h = tt
+literals_sorted (l ∷ ls) h = (h.0, literals_sorted ls h.1)
 
 pub clashing_nodes_close : ClashesClose
-clashing_nodes_close types node more sorted plain e at_least =
-    let h = clashes_close types (CanClose types) (steps_close types) node (record { literals = sorted_literals node.literals sorted.literals; pending = sorted.pending }) (folded_literals node.literals plain) e more (record { has = at_least.literals }) in
-    record { steps = h.steps; closes = h.closes; sorted = h.sorted }
+clashing_nodes_close types base node literals pending plain e more = clashes_close types (HasSteps types) (trees_close types) base (record { literals = literals_sorted base.literals literals; pending = pending }) plain e node more

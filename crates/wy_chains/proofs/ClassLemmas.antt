@@ -1,8 +1,8 @@
 -- Terms of one class are linked by chains: that they are is a congruence on the terms present.
-use Rattle.std.proofs.Common.{◌≡◌, ◌⊎◌, ◌∙◌, ℕ, zero, suc, List, [], ◌∷◌, Bool, true, false, cond, ◌&&◌, ◌||◌, Option, Some, None, inl, inr, refl, sym, ap, subst}
+use Rattle.std.proofs.Common.{◌≡◌, ◌⊎◌, ◌∙◌, ℕ, suc, List, [], ◌∷◌, Bool, true, false, cond, ◌&&◌, ◌||◌, Option, Some, None, inl, inr, refl, sym, ap, subst}
 use Rattle.wy_term.specs.Term.{Symbol, Term, Of, Parts, no_parts, part, two, equal}
 use Rattle.wy_term.specs.Same.{same_term}
-use Rattle.wy_term.specs.Sorts.{Sort, int_sort, val_sort, formula_sort, sort_of, sort_in}
+use Rattle.wy_term.specs.Sorts.{Sort, formula_sort, sort_in}
 use Rattle.wy_term.specs.Condition.{Entry}
 use Rattle.wy_term.proofs.SameLemmas.{terms_are}
 use Rattle.wy_sorted.specs.Sorted.{IsSorted}
@@ -13,13 +13,13 @@ use Rattle.wy_search.specs.Classes.{place_from, label_of, same_label, in_one_cla
 use Rattle.wy_least_classes.specs.Least.{IsAmong}
 use Rattle.wy_least_classes.proofs.SoundLemmas.{ArePair, ArePairs, Relates, related_classes}
 use Rattle.wy_sound_certificates.specs.Sortedness.{AreSortedTerms}
-use Rattle.wy_sound_certificates.proofs.Basics.{or_cases}
 use Rattle.wy_sound_certificates.proofs.MadeLemmas.{IsFormula}
 use Rattle.wy_sound_certificates.proofs.ChainLemmas.{ends_sorts}
 use Rattle.wy_sound_certificates.proofs.NodeLemmas.{AreSortedLiterals, IsSortedNode}
-use Rattle.wy_sound_search.proofs.StandingLemmas.{node_sorted}
-use Rattle.wy_chains.proofs.LiteralLemmas.{HasLiterals, literals_are, both_true, first_true, second_true, has_self, has_more}
-use Rattle.wy_chains.proofs.LinkLemmas.{AreLinked, joined_turned, arguments_turned, alike, linked_turned, linked_more, linked_argument, joined_more, equation_joins}
+use Rattle.wy_chains.specs.Chains.{HasLiterals}
+use Rattle.wy_chains.proofs.StandingLemmas.{node_sorted}
+use Rattle.wy_chains.proofs.LiteralLemmas.{literals_are, both_true, first_true, second_true, has_self, has_more}
+use Rattle.wy_chains.proofs.LinkLemmas.{AreLinked, joined_turned, arguments_turned, alike, linked_turned, linked_more, linked_argument, equation_joins}
 use Rattle.wy_chains.proofs.ChainLemmas.{Steps, Goes, chained}
 
 -- ---- the terms present
@@ -179,7 +179,7 @@ module _ (types : List Entry) (Closable : Node → Type 0) (steps : Steps types 
   one_class s t e = by (same_term s t) refl
     where
       by : (b : Bool) → same_term s t ≡ b → Reaches s t
-      by true f node more goes = goes node (has_self node) (inl (terms_are s t f))
+      by true f = λ node more goes. goes node (has_self node) (inl (terms_are s t f))
       by false f =
           related_classes base.literals Reaches (present base) relates s t
           (labelled_among (present base) (classes (present base) base.literals) s t

@@ -1,6 +1,7 @@
 -- literals, and what folding makes of an equation
 pub mod LiteralLemmas
 mod MadeLemmas
+mod StandingLemmas
 -- chains
 pub mod LinkLemmas
 pub mod ChainLemmas

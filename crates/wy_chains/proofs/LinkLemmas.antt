@@ -1,13 +1,14 @@
 -- Terms that are one or joined, and chains between them.
-use Rattle.std.proofs.Common.{◌≡◌, ◌⊎◌, ◌∙◌, List, [], ◌∷◌, Bool, true, false, ◌&&◌, ◌||◌, inl, inr, refl, sym, ap, subst}
+use Rattle.std.proofs.Common.{◌≡◌, ◌⊎◌, ◌∙◌, List, true, ◌||◌, inl, inr, refl, sym, ap, subst}
 use Rattle.wy_term.specs.Term.{Symbol, Term, Of, Parts, no_parts, part, two, at_most, equal}
 use Rattle.wy_term.specs.Same.{same_symbol, same_term}
 use Rattle.wy_term.specs.Sorts.{Sort, int_sort, val_sort, formula_sort, sort_in}
-use Rattle.wy_term.proofs.SameLemmas.{terms_are, terms_self, symbols_are, symbols_self}
+use Rattle.wy_term.proofs.SameLemmas.{terms_are, terms_self, symbols_self}
 use Rattle.wy_judge.specs.Node.{Literal, Node}
 use Rattle.wy_valid.specs.Literals.{has_atom, are_equated, are_between, joined_by, are_joined, arguments_joined, are_alike}
 use Rattle.wy_sound_certificates.proofs.Basics.{and_both, or_cases}
-use Rattle.wy_chains.proofs.LiteralLemmas.{HasLiterals, both_true, first_true, second_true}
+use Rattle.wy_chains.specs.Chains.{HasLiterals}
+use Rattle.wy_chains.proofs.LiteralLemmas.{both_true, first_true, second_true}
 
 -- ---- turned
 

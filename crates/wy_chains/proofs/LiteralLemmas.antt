@@ -1,5 +1,5 @@
 -- Literals of a node with one more, their numbers, and nodes that are shut.
-use Rattle.std.proofs.Common.{◌≡◌, ◌∙◌, ℕ, zero, suc, ◌-◌, List, [], ◌∷◌, ◌++◌, Bool, true, false, cond, eqb, not, ◌&&◌, ◌||◌, Option, Some, None, refl, sym, ap, arith}
+use Rattle.std.proofs.Common.{◌≡◌, ◌∙◌, ℕ, suc, ◌-◌, List, [], ◌∷◌, ◌++◌, Bool, true, false, cond, eqb, not, ◌&&◌, ◌||◌, Some, None, refl, ap, arith}
 use Rattle.std.specs.Prelude.{slice_get}
 use Rattle.std.specs.Bool.{beq}
 use Rattle.wy_term.specs.Term.{Term}
@@ -10,6 +10,7 @@ use Rattle.wy_judge.specs.Node.{Literal, Node, same_literal, has_literal, has_fo
 use Rattle.wy_valid.specs.Literals.{literal_at, stands_both_ways, any_no, is_no, is_shut}
 use Rattle.wy_judge.specs.Judgement.{judged}
 use Rattle.wy_sound_certificates.proofs.Basics.{and_both}
+use Rattle.wy_chains.specs.Chains.{HasLiterals}
 
 -- ---- truth values
 
@@ -63,10 +64,6 @@ has_last [] l = has_first l []
 has_last (k ∷ ls) l = has_later k l (ls ++ l ∷ []) (has_last ls l)
 
 -- ---- nodes with more literals
-
--- the second node has each literal of the first
-pub record HasLiterals (base node : Node) : Type 0 where
-  pub has : (l : Literal) → has_literal base.literals l ≡ true → has_literal node.literals l ≡ true
 
 pub has_self : (node : Node) → HasLiterals node node
 has_self node = record { has = λ l e. e }

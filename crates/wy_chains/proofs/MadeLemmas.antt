@@ -1,16 +1,15 @@
 -- What folding makes of an equation, and of the two bounds between numbers.
-use Rattle.std.proofs.Common.{◌≡◌, ◌∙◌, Bool, true, false, cond, not, ℤ, pos, negsuc, Option, Some, None, refl, sym, ap, arith}
-use Rattle.std.specs.Prelude.{int_lt}
+use Rattle.std.proofs.Common.{◌≡◌, ◌∙◌, Bool, true, false, cond, not, ℤ, Option, Some, None, refl, sym, ap, arith}
 use Rattle.std.proofs.lemmas.Int.{ints}
 use Rattle.wy_value.specs.Datum.{Datum, Null, Truth, Whole}
 use Rattle.wy_term.specs.Data.{same_datum}
 use Rattle.wy_term.specs.Term as term
-use Rattle.wy_term.specs.Term.{DataKind, Term, Of, Parts, no_parts, part, one, two, at_most, equal, of_kind}
+use Rattle.wy_term.specs.Term.{DataKind, Term, Of, no_parts, part, one, two, at_most, equal, of_kind}
 use Rattle.wy_term.specs.Same.{same_kind, same_term}
 use Rattle.wy_term.specs.Folding.{folded}
 use Rattle.wy_term.specs.Meaning as meaning
-use Rattle.wy_term.specs.Rewriting.{as_number, as_bool, is_truth, as_constant, as_whole, decided, False, True, fold_order, fold_at_most, fold_bool, fold_apart, fold_equal, kind_given, fold_kind}
-use Rattle.wy_term.specs.Sorts.{int_sort, val_sort, sort_in}
+use Rattle.wy_term.specs.Rewriting.{as_number, as_bool, is_truth, as_constant, as_whole, decided, False, True, fold_order, fold_bool, fold_apart, kind_given, fold_kind}
+use Rattle.wy_term.specs.Sorts.{val_sort, sort_in}
 use Rattle.wy_term.proofs.SameLemmas.{terms_are, terms_self}
 use Rattle.wy_sorted.specs.Sorted.{IsSorted}
 use Rattle.wy_facts.specs.Made.{is_at_most, is_equal}

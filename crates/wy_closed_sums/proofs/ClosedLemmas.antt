@@ -26,7 +26,8 @@ use Rattle.wy_eliminate.specs.declared.steps.Steps.{Steps as LinSteps}
 use Rattle.wy_eliminate.specs.Division.{lowered}
 use Rattle.wy_eliminate.specs.Elimination.{elimination}
 use Rattle.wy_eliminate.specs.Validity.{are_named, divides, is_bare}
-use Rattle.wy_chains.proofs.LiteralLemmas.{HasLiterals, has_self, has_more, literal_more, literal_there, numbered}
+use Rattle.wy_chains.specs.Chains.{HasLiterals}
+use Rattle.wy_chains.proofs.LiteralLemmas.{has_self, has_more, literal_more, literal_there, numbered}
 use Rattle.wy_chains.proofs.ChainLemmas.{Steps}
 use Rattle.wy_closed_sums.proofs.TwiceLemmas.{abs_zero, both_of, still}
 use Rattle.wy_closed_sums.proofs.TidyLemmas.{IsTidy, nothing_tidy, tidy_combined}

@@ -1,27 +1,37 @@
 -- What elimination refutes is closed by chains, cuts and a sum.
-use Rattle.std.proofs.Common.{◌≡◌, List, [], ◌∷◌}
+use Rattle.std.proofs.Common.{◌≡◌, List, [], ◌∷◌, ◌++◌, Some}
 use Rattle.wy_term.specs.Condition.{Entry}
 use Rattle.wy_judge.specs.Node.{Literal, Node}
-use Rattle.wy_search.specs.Bounds.{refuted, ending}
-use Rattle.wy_sound_certificates.proofs.NodeLemmas.{AreSortedLiterals, IsSortedNode}
-use Rattle.wy_sound_search.specs.Closed.{AreLiterals}
-use Rattle.wy_closing.proofs.Closing.{CanClose, IsClosable, closed_by, led_by}
+use Rattle.wy_cert.specs.Steps.{Written}
+use Rattle.wy_valid.specs.Validity.{closed, after}
+use Rattle.wy_valid.specs.Trees.{Tree, stem, no_trees, tree, steps_in, Closes}
+use Rattle.wy_sound_certificates.specs.Sortedness.{IsSortedStep, AreSortedSteps}
+use Rattle.wy_sound_certificates.proofs.NodeLemmas.{AreSortedLiterals}
+use Rattle.wy_chains.specs.Chains.{AreLiterals, HasSteps}
 use Rattle.wy_chains.proofs.ChainLemmas.{Steps}
 use Rattle.wy_closed_sums.specs.Refuted.{RefutedClose}
 use Rattle.wy_closed_sums.proofs.ReplacedLemmas.{refuted_closable}
 
-steps_close : (types : List Entry) → Steps types (CanClose types)
-steps_close types = record { ends = closed_by types; leads = led_by types }
+steps_end : (a : List Written) → AreSortedSteps a → AreSortedSteps (a ++ [])
+steps_end [] h = tt
+steps_end (s ∷ a) h = (h.0, steps_end a h.1)
 
--- a node of sorted formulas that elimination refutes is closable
-pub closable : (types : List Entry) (node : Node) → IsSortedNode node → ending node ≡ refuted → IsClosable types node
-closable types node sorted e more are at_least = refuted_closable types (CanClose types) (steps_close types) node sorted e more (record { has = at_least.literals })
+closed_by : (types : List Entry) (node : Node) (s : Written) → after types node s ≡ closed → IsSortedStep s → HasSteps types node
+closed_by types node s e h = record { steps = stem s no_trees; closes = ([], e, tt); sorted = (h, tt) }
 
-sorted_literals : (ls : List Literal) → AreLiterals ls → AreSortedLiterals ls
-sorted_literals [] h = tt
-sorted_literals (l ∷ ls) h = (h.0, sorted_literals ls h.1)
+led_by : (types : List Entry) (node below : Node) (s : Written) → after types node s ≡ Some (below ∷ []) → IsSortedStep s → HasSteps types below → HasSteps types node
+led_by types node below s e h c = record {
+  steps = stem s (tree c.steps no_trees);
+  closes = (below ∷ [], e, (c.closes, tt));
+  sorted = (h, steps_end (steps_in c.steps) c.sorted);
+}
+
+trees_close : (types : List Entry) → Steps types (HasSteps types)
+trees_close types = record { ends = closed_by types; leads = led_by types }
+
+literals_sorted : (ls : List Literal) → AreLiterals ls → AreSortedLiterals ls
+literals_sorted [] h = tt
+literals_sorted (l ∷ ls) h = (h.0, literals_sorted ls h.1)
 
 pub refuted_nodes_close : RefutedClose
-refuted_nodes_close types node more sorted e at_least =
-    let h = refuted_closable types (CanClose types) (steps_close types) node (record { literals = sorted_literals node.literals sorted.literals; pending = sorted.pending }) e more (record { has = at_least.literals }) in
-    record { steps = h.steps; closes = h.closes; sorted = h.sorted }
+refuted_nodes_close types base node literals pending e more = refuted_closable types (HasSteps types) (trees_close types) base (record { literals = literals_sorted base.literals literals; pending = pending }) e node more

@@ -28,13 +28,13 @@ use Rattle.wy_least_classes.proofs.PlaceLemmas.{place_below, place_same}
 use Rattle.wy_sound_certificates.proofs.Basics.{or_cases}
 use Rattle.wy_sound_certificates.proofs.MadeLemmas.{IsFormula}
 use Rattle.wy_sound_certificates.proofs.NodeLemmas.{AreSortedLiterals, IsSortedNode}
-use Rattle.wy_sound_search.proofs.EvenLemmas.{twice_named}
-use Rattle.wy_sound_search.proofs.PlacedLemmas.{AreAmong, AreOnes, literals_among, literal_ones, one_literal, has_a_place}
-use Rattle.wy_chains.proofs.LiteralLemmas.{HasLiterals, has_self, has_more, has_first, has_later}
+use Rattle.wy_closed_sums.proofs.PlacedLemmas.{AreAmong, AreOnes, literals_among, literal_ones, one_literal, has_a_place}
+use Rattle.wy_chains.specs.Chains.{HasLiterals}
+use Rattle.wy_chains.proofs.LiteralLemmas.{has_self, has_more, has_first, has_later}
 use Rattle.wy_chains.proofs.LinkLemmas.{AreLinked}
 use Rattle.wy_chains.proofs.ChainLemmas.{Steps}
 use Rattle.wy_chains.proofs.ClassLemmas.{literal_formula, one_class}
-use Rattle.wy_closed_sums.proofs.TwiceLemmas.{both_of, still, AreDoubled, doubled_bare}
+use Rattle.wy_closed_sums.proofs.TwiceLemmas.{both_of, still, AreDoubled, doubled_bare, doubled_even}
 use Rattle.wy_closed_sums.proofs.TidyLemmas.{Absent, AreTidy, IsTidy, nothing_tidy, tidy_combined, tidy_plain, tidy_lowered}
 use Rattle.wy_closed_sums.proofs.CutLemmas.{IsVariable, IsGood, AreGood}
 use Rattle.wy_closed_sums.proofs.VariableLemmas.{is_variable, variable_is, AreVariables, literal_made}
@@ -263,7 +263,7 @@ module _ (types : List Entry) (Closable : Node → Type 0) (steps : Steps types 
           let twice = stated_is (f ∷ taken ts) ((2, 0) ∷ named_from 2 ts 1) h e in
           let free = doubled_bare (f ∷ taken ts) ((1, 0) ∷ named_from 1 ts 1) ((2, 0) ∷ named_from 2 ts 1) g h (doubled_all ts) is twice (common_not_bare g.parts some) in
           let rules = closing_rules (at terms) (length terms) once types Closable steps node in (
-            λ goes. reach (rules.by_cut (f ∷ taken ts) 2 ((2, 0) ∷ named_from 2 ts 1) h refl (named_all 2 f ts (omega arith) twice_above positive) twice (twice_named (f ∷ taken ts) ts h twice) free
+            λ goes. reach (rules.by_cut (f ∷ taken ts) 2 ((2, 0) ∷ named_from 2 ts 1) h refl (named_all 2 f ts (omega arith) twice_above positive) twice (doubled_even (f ∷ taken ts) ((1, 0) ∷ named_from 1 ts 1) ((2, 0) ∷ named_from 2 ts 1) g h (doubled_all ts) is twice) free
                 (λ next on have. goes next on (last_of_forms (at terms) (length terms) once next (f ∷ taken ts) (lowered 2 h) have))),
             tidy_lowered 2 h (tidy_combined (f ∷ taken ts) nothing ((2, 0) ∷ named_from 2 ts 1) h nothing_tidy twice),
           )

@@ -1,16 +1,17 @@
 -- Twice a sum has twice its coefficients, so it has a variable where the sum has one.
-use Rattle.std.proofs.Common.{◌≡◌, ◌*◌, ◌+◌, ◌&&◌, ◌∙◌, ℕ, zero, suc, List, [], ◌∷◌, Bool, true, false, cond, eqb, ℤ, pos, negsuc, ◌+ℤ◌, ◌*ℤ◌, Option, Some, refl, sym, ap, subst, arith}
+use Rattle.std.proofs.Common.{◌≡◌, ◌*◌, ◌+◌, ◌%◌, ◌&&◌, ◌∙◌, ℕ, zero, suc, List, [], ◌∷◌, Bool, true, false, cond, eqb, ℤ, pos, negsuc, ◌+ℤ◌, ◌*ℤ◌, Option, Some, refl, sym, ap, subst, arith}
 use Rattle.std.specs.Prelude.{nat_eq, unsigned_abs, ◌==◌}
 use Rattle.std.proofs.lemmas.Bool.{eqb-true, eq-eqb}
-use Rattle.std.proofs.lemmas.Int.{ints}
+use Rattle.std.proofs.lemmas.Int.{ints, unsigned_abs-mul}
 use Rattle.wy_term.specs.Rewriting.{fitted}
 use Rattle.wy_lin.specs.declared.arithmetic.Factor.TheVariants.{Times}
 use Rattle.wy_lin.specs.Linear.{◌>>=◌, more, Linear, nothing, coefficient, with_coefficient, plus_part, plus_parts, plus}
 use Rattle.wy_lin.specs.Combination.{form_at, combined, combined_from}
 use Rattle.wy_lin.proofs.OptionLemmas.{bind_some, some_is, fitted_is}
-use Rattle.wy_lin.proofs.Ring.{distrib_right}
+use Rattle.wy_lin.proofs.Ring.{distrib_right, one_times}
 use Rattle.wy_eliminate.specs.Division.{gcd, common_from, common}
-use Rattle.wy_eliminate.specs.Validity.{is_bare}
+use Rattle.wy_eliminate.specs.Validity.{divides, is_bare}
+use Rattle.wy_eliminate.proofs.ValidityLemmas.{IsEven}
 
 -- ---- forms without variables have no common divisor
 
@@ -159,6 +160,25 @@ doubled_bare all ms ns f g doubled e i free = by (is_bare g.parts) refl
     by : (b : Bool) → is_bare g.parts ≡ b → b ≡ false
     by true h = absurd (let up : true ≡ false = sym (twice_none f.parts g.parts (twice_combined all ms ns nothing nothing f g doubled tt e i) h) ∙ free in cc)
     by false h = refl
+
+even_abs : (z : ℤ) → IsEven z → unsigned_abs z % 2 ≡ 0
+even_abs z even =
+    let two : pos 2 ≡ pos 1 +ℤ pos 1 = omega (arith, ints) in
+    let whole : pos 2 *ℤ even.half ≡ pos 1 *ℤ even.half +ℤ pos 1 *ℤ even.half = ap (λ (y : ℤ). y *ℤ even.half) two ∙ distrib_right (pos 1) (pos 1) even.half in
+    let one = one_times even.half in
+    let twice : z ≡ pos 2 *ℤ even.half = omega (arith, ints, even.is, whole, one) in
+    let size : unsigned_abs z ≡ 2 * unsigned_abs even.half = ap unsigned_abs twice ∙ unsigned_abs-mul (pos 2) even.half in
+    omega (arith, size)
+
+twice_even : (ps qs : List (ℤ × ℕ)) → AreTwice ps qs → divides 2 qs ≡ true
+twice_even [] [] h = refl
+twice_even [] (q ∷ qs) h = absurd h
+twice_even (p ∷ ps) [] h = absurd h
+twice_even (p ∷ ps) (q ∷ qs) h = still (unsigned_abs q.0 % 2 == 0) (divides 2 qs) (eq-eqb (unsigned_abs q.0 % 2) 0 (even_abs q.0 (record { half = p.0; is = h.0 }))) (twice_even ps qs h.2)
+
+-- the double of a sum has even coefficients
+pub doubled_even : (all : List (Linear ℕ)) (ms ns : List (ℕ × ℕ)) (f g : Linear ℕ) → AreDoubled ms ns → combined all ms ≡ Some f → combined all ns ≡ Some g → divides 2 g.parts ≡ true
+doubled_even all ms ns f g doubled e i = twice_even f.parts g.parts (twice_combined all ms ns nothing nothing f g doubled tt e i)
 
 pub twice_bare : (all : List (Linear ℕ)) (m l n u : ℕ) (f g : Linear ℕ) → combined all ((m, l) ∷ (n, u) ∷ []) ≡ Some f → combined all ((2 * m, l) ∷ (2 * n, u) ∷ []) ≡ Some g → is_bare f.parts ≡ false → is_bare g.parts ≡ false
 twice_bare all m l n u f g e i free = doubled_bare all ((m, l) ∷ (n, u) ∷ []) ((2 * m, l) ∷ (2 * n, u) ∷ []) f g (refl, refl, (refl, refl, tt)) e i free
