@@ -1,0 +1,35 @@
+-- Steps close what the search closes by its classes or by elimination.
+use Rattle.std.proofs.Common.{◌≡◌, ◌⊎◌, List, [], ◌∷◌, inl, inr}
+use Rattle.wy_term.specs.Term.{Term, Of}
+use Rattle.wy_term.specs.Folding.{folded}
+use Rattle.wy_term.specs.Condition.{Entry}
+use Rattle.wy_reread.specs.Folded.{IsFolded}
+use Rattle.wy_judge.specs.Node.{Literal, Node}
+use Rattle.wy_chains.specs.Chains.{AreFolded, AreLiterals, HasLiterals, HasSteps}
+use Rattle.wy_chains.proofs.ClashLemmas.{clashing_nodes_close}
+use Rattle.wy_closed_sums.proofs.RefutedLemmas.{refuted_nodes_close}
+use Rattle.wy_closing_rounds.specs.Leaves.{AreSortedAtoms, AreFoldedAtoms, IsSortedThroughout, IsFoldedThroughout, IsLeaf, LeavesClose, FoundIsCertified}
+use Rattle.wy_closing_rounds.proofs.SearchLemmas.{found_certified}
+
+sorted_literals : (ls : List Literal) → AreSortedAtoms ls → AreLiterals ls
+sorted_literals [] h = tt
+sorted_literals (l ∷ ls) h = (h.0, sorted_literals ls h.1)
+
+folded_is : (t : Term) → IsFolded t → folded t ≡ t
+folded_is (Of symbol ps) h = h.0
+
+folded_literals : (ls : List Literal) → AreFoldedAtoms ls → AreFolded ls
+folded_literals [] h = tt
+folded_literals (l ∷ ls) h = (folded_is l.atom h.0, folded_literals ls h.1)
+
+leaf_closes : (types : List Entry) (base node : Node) → IsSortedThroughout base → IsFoldedThroughout base → IsLeaf base → HasLiterals base node → HasSteps types node
+leaf_closes types base node sorted plain (inl e) more = clashing_nodes_close types base node (sorted_literals base.literals sorted.0) sorted.1 (folded_literals base.literals plain.0) e more
+leaf_closes types base node sorted plain (inr e) more = refuted_nodes_close types base node (sorted_literals base.literals sorted.0) sorted.1 e more
+
+leaves_close : LeavesClose
+leaves_close types base sorted plain leaf node above at_least =
+    let h = leaf_closes types base node sorted plain leaf (record { has = at_least.literals }) in
+    (h.steps, h.closes, h.sorted)
+
+pub found_conditions_are_certified : FoundIsCertified
+found_conditions_are_certified = found_certified leaves_close

@@ -1,0 +1,11 @@
+-- literals, and what folding makes of an equation
+pub mod LiteralLemmas
+mod MadeLemmas
+mod StandingLemmas
+-- chains
+pub mod LinkLemmas
+pub mod ChainLemmas
+pub mod ClassLemmas
+-- clashes
+mod KindLemmas
+pub mod ClashLemmas

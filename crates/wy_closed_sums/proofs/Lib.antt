@@ -1,0 +1,14 @@
+-- sums of forms
+pub mod TwiceLemmas
+pub mod TidyLemmas
+pub mod RefutingLemmas
+-- forms of literals
+pub mod QuotientLemmas
+pub mod CutLemmas
+pub mod VariableLemmas
+pub mod PresentLemmas
+pub mod PlacedLemmas
+-- nodes that close
+pub mod ClosedLemmas
+pub mod ReplacedLemmas
+pub mod RefutedLemmas

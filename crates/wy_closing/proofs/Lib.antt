@@ -1,0 +1,5 @@
+pub mod RelatedLemmas
+pub mod AtLeastLemmas
+pub mod NameLemmas
+pub mod Closing
+pub mod FoldedLemmas
