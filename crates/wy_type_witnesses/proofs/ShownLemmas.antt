@@ -16,7 +16,7 @@ use Rattle.wy_parts.specs.Items.{IsItem, IsItemIn}
 use Rattle.wy_parts.specs.Fields.{value_at, has_value_at, SomeLacks, AllHave, IsValueIn}
 use Rattle.wy_type_witnesses.specs.Pieces.{rows, item_parts, declared_rows, declared_item_parts, all_rows, all_item_parts}
 use Rattle.wy_type_witnesses.specs.Witnesses.{IsRow, HaveRows, AreFew, HasItemOfValues, IsLackedByValue, HasFieldOfValues}
-use Rattle.wy_type_witnesses.proofs.FreshLemmas.{fresh, fresh-none}
+use Rattle.wy_asked_types.proofs.FreshLemmas.{fresh, fresh-none}
 use Rattle.wy_type_witnesses.proofs.PickLemmas.{Is, AllAre}
 use Rattle.wy_type_witnesses.proofs.AlikeLemmas.{Among}
 use Rattle.wy_type_witnesses.proofs.ValueLemmas.{in_or, alone, zero-int, every_one, of_declared, of_first, ItsValue, FieldValues, cut, cut-same, cut-value, cut-alike, arrays_alike, kept-value, kept-alike, other, other-value, other-alike, more_fields, its_value, their_values, field_values}

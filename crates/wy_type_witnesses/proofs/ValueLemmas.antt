@@ -18,7 +18,7 @@ use Rattle.wy_types.proofs.TruthLemmas.{both}
 use Rattle.wy_types.proofs.ClaimLemmas.{each_map, each_left, each_right}
 use Rattle.wy_type_witnesses.specs.Pieces.{names_of_tys, names_of_parts, rows, field_rows, part_rows, term_rows, item_parts, field_item_parts, part_item_parts, term_item_parts, declared_rows, declared_item_parts, all_rows, all_item_parts}
 use Rattle.wy_type_witnesses.specs.Witnesses.{IsRow, HaveRows, AreFew, HasItsValue, IsShown}
-use Rattle.wy_type_witnesses.proofs.FreshLemmas.{fresh, fresh-name, fresh-none}
+use Rattle.wy_asked_types.proofs.FreshLemmas.{fresh, fresh-name, fresh-none}
 use Rattle.wy_type_witnesses.proofs.PickLemmas.{each_at, Is, AllAre, Picked, picked, picked-same}
 use Rattle.wy_type_witnesses.proofs.AlikeLemmas.{Among, SameShape, is_alike}
 
