@@ -6,6 +6,7 @@ pub mod RefutingLemmas
 pub mod QuotientLemmas
 pub mod CutLemmas
 pub mod VariableLemmas
+pub mod PlaceLemmas
 pub mod PresentLemmas
 pub mod PlacedLemmas
 -- nodes that close

@@ -2,6 +2,7 @@
 use Rattle.std.proofs.Common.{◌≡◌, ◌⊎◌, ◌∙◌, ◌+◌, ◌<◌, ◌&&◌, ◌||◌, ℕ, zero, suc, List, [], ◌∷◌, ◌++◌, map, length, Bool, true, false, cond, not, eqb, ℤ, pos, Option, Some, None, inl, inr, refl, sym, ap, subst, arith}
 use Rattle.std.specs.Prelude.{slice_index, slice_index_or, is_none}
 use Rattle.std.proofs.lemmas.Bool.{eqb-true, eq-eqb}
+use Rattle.std.proofs.lemmas.List.{length-map}
 use Rattle.wy_term.specs.Term as term
 use Rattle.wy_term.specs.Term.{Symbol, Term, Of, Parts, no_parts, part, two, Number, equal}
 use Rattle.wy_term.specs.Same.{same_term}
@@ -17,8 +18,7 @@ use Rattle.wy_search.specs.Standing.{Standing, have_common, with_unbound, in_lit
 use Rattle.wy_search.specs.Classes.{place_from, label_of, same_label, in_one_class, are_congruent, relabelled, joined, with_equal, with_literal, with_equations, with_congruent, with_all_congruent, rounds, numbers_from, classes}
 use Rattle.wy_search.specs.Bounds.{number_or_end, numbered_part, numbered, first_with, first_of_class}
 use Rattle.wy_least_classes.specs.Least.{IsAmong}
-use Rattle.wy_least_classes.proofs.PlaceLemmas.{place_below, place_same, placed, length_numbers}
-use Rattle.wy_least_classes.proofs.SizeLemmas.{as_long}
+use Rattle.wy_closed_sums.proofs.PlaceLemmas.{place_below, place_same, placed, length_numbers}
 use Rattle.wy_least_classes.proofs.SoundLemmas.{ArePair, ArePairs, Relates, related_classes}
 use Rattle.wy_closed_sums.proofs.VariableLemmas.{is_end, is_one, is_two, is_variable, none_number, val_is}
 
@@ -152,7 +152,7 @@ length_equal ts labels s t = by (label_of labels (place_from ts s 0)) (label_of 
     by : (o p : Option ℕ) → length (joined labels o p) ≡ length labels
     by None p = refl
     by (Some a) None = refl
-    by (Some a) (Some b) = as_long labels a b
+    by (Some a) (Some b) = length-map labels (λ (l : ℕ). cond (eqb l a) b l)
 
 length_literal : (ts : List Term) (labels : List ℕ) (holds : Bool) (a : Term) → length (with_literal ts labels holds a) ≡ length labels
 length_literal ts labels true (Of equal (part v (part w no_parts))) = length_equal ts labels v w
