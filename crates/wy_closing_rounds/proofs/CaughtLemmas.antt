@@ -1,11 +1,11 @@
 -- The search of a condition comes to a split on an atom with a name that is bound there.
-use Rattle.std.proofs.Common.{◌≡◌, Bool, true, false, Option, Some, refl}
+use Rattle.std.proofs.Common.{◌≡◌, Bool, true, false, Some, refl}
 use Rattle.wy_term.specs.Term.{Term, leaf, two, get, equal, null}
 use Rattle.wy_valid.specs.Ranges.{may_split}
 use Rattle.wy_search.specs.Splitting.{next_atom}
 use Rattle.wy_search.specs.Expansion.{Spot, expanded}
-use Rattle.wy_search.specs.Tree.{Next, goes_on, next, first_spot}
-use Rattle.wy_closing_rounds.specs.Leaves.{Comes, begins, expands}
+use Rattle.wy_search.specs.Tree.{goes_on, next, first_spot}
+use Rattle.wy_closing_rounds.specs.Leaves.{begins, expands}
 use Rattle.wy_closing_rounds.specs.Caught.{a_name, k_name, caught, SomeSplitIsCaught}
 
 abbrev behind : Spot
