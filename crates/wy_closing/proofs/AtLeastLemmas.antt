@@ -17,11 +17,15 @@ use Rattle.wy_closing.proofs.RelatedLemmas.{added_related, denied_related, formu
 
 -- ---- lists of literals and of formulas
 
+abbrev made : Term → Bool → Literal
+made a b = record { atom = a; holds = b }
+
 pub literal_is : (k l : Literal) → same_literal k l ≡ true → k ≡ l
 literal_is k l e =
     let h = both (same_term k.atom l.atom) (beq k.holds l.holds) e in
-    let first : k ≡ record { atom = l.atom; holds = k.holds } = ap (λ (t : Term). record { atom = t; holds = k.holds }) (terms_are k.atom l.atom h.0) in
-    first ∙ ap (λ (b : Bool). record { atom = l.atom; holds = b }) (bits_are k.holds l.holds h.1)
+    let first : k ≡ made l.atom k.holds = ap (λ (t : Term). made t k.holds) (terms_are k.atom l.atom h.0) in
+    let second : made l.atom k.holds ≡ l = ap (λ (b : Bool). made l.atom b) (bits_are k.holds l.holds h.1) in
+    first ∙ second
 
 pub literal_self : (l : Literal) → same_literal l l ≡ true
 literal_self l = ap (λ (b : Bool). b && beq l.holds l.holds) (terms_self l.atom) ∙ bits l.holds
@@ -32,11 +36,11 @@ literal_self l = ap (λ (b : Bool). b && beq l.holds l.holds) (terms_self l.atom
 
 pub has_before : (ls : List Literal) (k l : Literal) → has_literal ls l ≡ true → has_literal (ls ++ k ∷ []) l ≡ true
 has_before [] k l e = absurd cc
-has_before (m ∷ ms) k l e = by (same_literal m l) e
+has_before (m ∷ ms) k l e = by (same_literal m l) e (λ h. has_before ms k l h)
   where
-    by : (b : Bool) → cond b true (has_literal ms l) ≡ true → cond b true (has_literal (ms ++ k ∷ []) l) ≡ true
-    by true h = refl
-    by false h = has_before ms k l h
+    by : (b : Bool) → cond b true (has_literal ms l) ≡ true → (has_literal ms l ≡ true → has_literal (ms ++ k ∷ []) l ≡ true) → cond b true (has_literal (ms ++ k ∷ []) l) ≡ true
+    by true h rest = refl
+    by false h rest = rest h
 
 pub has_last : (ls : List Literal) (l : Literal) → has_literal (ls ++ l ∷ []) l ≡ true
 has_last [] l = ap (λ (b : Bool). cond b true false) (literal_self l)
@@ -61,11 +65,11 @@ has_cases (m ∷ ms) k l e = by (same_literal m l) e (λ f. has_cases ms k l f)
 
 pub formula_before : (fs : List Term) (g f : Term) → has_formula fs f ≡ true → has_formula (fs ++ g ∷ []) f ≡ true
 formula_before [] g f e = absurd cc
-formula_before (h ∷ hs) g f e = by (same_term h f) e
+formula_before (h ∷ hs) g f e = by (same_term h f) e (λ k. formula_before hs g f k)
   where
-    by : (b : Bool) → cond b true (has_formula hs f) ≡ true → cond b true (has_formula (hs ++ g ∷ []) f) ≡ true
-    by true k = refl
-    by false k = formula_before hs g f k
+    by : (b : Bool) → cond b true (has_formula hs f) ≡ true → (has_formula hs f ≡ true → has_formula (hs ++ g ∷ []) f ≡ true) → cond b true (has_formula (hs ++ g ∷ []) f) ≡ true
+    by true k rest = refl
+    by false k rest = rest k
 
 pub formula_last : (fs : List Term) (f : Term) → has_formula (fs ++ f ∷ []) f ≡ true
 formula_last [] f = ap (λ (b : Bool). cond b true false) (terms_self f)
@@ -217,11 +221,11 @@ pub record StandsAt (ls : List Literal) (l : Literal) : Type 0 where
 
 nth_there : (ls : List Literal) (l : Literal) → has_literal ls l ≡ true → (k : ℕ) × (slice_get ls k ≡ Some l)
 nth_there [] l e = absurd cc
-nth_there (m ∷ ms) l e = by (same_literal m l) refl e
+nth_there (m ∷ ms) l e = by (same_literal m l) refl e (λ h. nth_there ms l h)
   where
-    by : (b : Bool) → same_literal m l ≡ b → cond b true (has_literal ms l) ≡ true → (k : ℕ) × (slice_get (m ∷ ms) k ≡ Some l)
-    by true f h = (zero, ap (λ (x : Literal). Some x) (literal_is m l f))
-    by false f h = let rest = nth_there ms l h in (suc rest.0, rest.1)
+    by : (b : Bool) → same_literal m l ≡ b → cond b true (has_literal ms l) ≡ true → (has_literal ms l ≡ true → (k : ℕ) × (slice_get ms k ≡ Some l)) → (k : ℕ) × (slice_get (m ∷ ms) k ≡ Some l)
+    by true f h rest = (zero, ap (λ (x : Literal). Some x) (literal_is m l f))
+    by false f h rest = let r = rest h in (suc r.0, r.1)
 
 -- a literal that is there has a number
 pub stands_at : (ls : List Literal) (l : Literal) → has_literal ls l ≡ true → StandsAt ls l
@@ -238,15 +242,15 @@ is_against all k = has_literal all (record { atom = k.atom; holds = not k.holds 
 
 both_ways_there : (all ls : List Literal) (l : Literal) → has_literal ls l ≡ true → has_literal all (record { atom = l.atom; holds = not l.holds }) ≡ true → stands_both_ways all ls ≡ true
 both_ways_there all [] l e f = absurd cc
-both_ways_there all (m ∷ ms) l e f = by (same_literal m l) refl e
+both_ways_there all (m ∷ ms) l e f = by (same_literal m l) refl e (λ h. both_ways_there all ms l h f)
   where
     right : (b : Bool) → stands_both_ways all ms ≡ true → (b || stands_both_ways all ms) ≡ true
     right true h = refl
     right false h = h
 
-    by : (b : Bool) → same_literal m l ≡ b → cond b true (has_literal ms l) ≡ true → (is_against all m || stands_both_ways all ms) ≡ true
-    by true g h = ap (λ (b : Bool). b || stands_both_ways all ms) (ap (is_against all) (literal_is m l g) ∙ f)
-    by false g h = right (is_against all m) (both_ways_there all ms l h f)
+    by : (b : Bool) → same_literal m l ≡ b → cond b true (has_literal ms l) ≡ true → (has_literal ms l ≡ true → stands_both_ways all ms ≡ true) → (is_against all m || stands_both_ways all ms) ≡ true
+    by true g h rest = ap (λ (b : Bool). b || stands_both_ways all ms) (ap (is_against all) (literal_is m l g) ∙ f)
+    by false g h rest = right (is_against all m) (rest h)
 
 -- an atom stands both ways
 pub both_ways_shut : (node : Node) (a : Term) → has_literal node.literals (record { atom = a; holds = true }) ≡ true → has_literal node.literals (record { atom = a; holds = false }) ≡ true → is_shut node ≡ true
@@ -260,17 +264,17 @@ record StandsBoth (all ls : List Literal) : Type 0 where
 
 both_ways_is : (all ls : List Literal) → stands_both_ways all ls ≡ true → StandsBoth all ls
 both_ways_is all [] e = absurd cc
-both_ways_is all (m ∷ ms) e = by (has_literal all (record { atom = m.atom; holds = not m.holds })) refl e
+both_ways_is all (m ∷ ms) e = by (has_literal all (record { atom = m.atom; holds = not m.holds })) refl e (λ h. both_ways_is all ms h)
   where
     right : (b : Bool) (l : Literal) → has_literal ms l ≡ true → cond b true (has_literal ms l) ≡ true
     right true l h = refl
     right false l h = h
 
-    by : (b : Bool) → has_literal all (record { atom = m.atom; holds = not m.holds }) ≡ b → (b || stands_both_ways all ms) ≡ true → StandsBoth all (m ∷ ms)
-    by true f h = record { literal = m; there = ap (λ (b : Bool). cond b true (has_literal ms m)) (literal_self m); against = f }
-    by false f h =
-        let rest = both_ways_is all ms h in
-        record { literal = rest.literal; there = right (same_literal m rest.literal) rest.literal rest.there; against = rest.against }
+    by : (b : Bool) → has_literal all (record { atom = m.atom; holds = not m.holds }) ≡ b → (b || stands_both_ways all ms) ≡ true → (stands_both_ways all ms ≡ true → StandsBoth all ms) → StandsBoth all (m ∷ ms)
+    by true f h rest = record { literal = m; there = ap (λ (b : Bool). cond b true (has_literal ms m)) (literal_self m); against = f }
+    by false f h rest =
+        let r = rest h in
+        record { literal = r.literal; there = right (same_literal m r.literal) r.literal r.there; against = r.against }
 
 both_ways_more : (less more : Node) → IsAtLeast less more → stands_both_ways less.literals less.literals ≡ true → stands_both_ways more.literals more.literals ≡ true
 both_ways_more less more h e =
@@ -356,7 +360,7 @@ module _ (ls more : List Literal) (one_way : IsOneWay more) (among : AreAmong ls
 pub record IsDenied (ls : List Literal) (fs : List Term) : Type 0 where
   pub formula : Term
   pub there : has_formula fs formula ≡ true
-  pub no : judged ls formula ≡ No
+  pub fails : judged ls formula ≡ No
 
 no_is : (v : Verdict) → is_no v ≡ true → v ≡ No
 no_is Yes e = absurd cc
@@ -365,29 +369,29 @@ no_is Open e = absurd cc
 
 denied_is : (ls : List Literal) (fs : List Term) → any_no ls fs ≡ true → IsDenied ls fs
 denied_is ls [] e = absurd cc
-denied_is ls (f ∷ fs) e = by (is_no (judged ls f)) refl e
+denied_is ls (f ∷ fs) e = by (is_no (judged ls f)) refl e (λ k. denied_is ls fs k)
   where
     right : (b : Bool) (g : Term) → has_formula fs g ≡ true → cond b true (has_formula fs g) ≡ true
     right true g h = refl
     right false g h = h
 
-    by : (b : Bool) → is_no (judged ls f) ≡ b → (b || any_no ls fs) ≡ true → IsDenied ls (f ∷ fs)
-    by true h k = record { formula = f; there = ap (λ (b : Bool). cond b true (has_formula fs f)) (terms_self f); no = no_is (judged ls f) h }
-    by false h k =
-        let rest = denied_is ls fs k in
-        record { formula = rest.formula; there = right (same_term f rest.formula) rest.formula rest.there; no = rest.no }
+    by : (b : Bool) → is_no (judged ls f) ≡ b → (b || any_no ls fs) ≡ true → (any_no ls fs ≡ true → IsDenied ls fs) → IsDenied ls (f ∷ fs)
+    by true h k rest = record { formula = f; there = ap (λ (b : Bool). cond b true (has_formula fs f)) (terms_self f); fails = no_is (judged ls f) h }
+    by false h k rest =
+        let r = rest k in
+        record { formula = r.formula; there = right (same_term f r.formula) r.formula r.there; fails = r.fails }
 
 pub any_no_there : (ls : List Literal) (fs : List Term) (f : Term) → has_formula fs f ≡ true → judged ls f ≡ No → any_no ls fs ≡ true
-any_no_there ls [] f e no = absurd cc
-any_no_there ls (g ∷ gs) f e no = by (same_term g f) refl e
+any_no_there ls [] f e fails = absurd cc
+any_no_there ls (g ∷ gs) f e fails = by (same_term g f) refl e (λ k. any_no_there ls gs f k fails)
   where
     right : (b : Bool) → any_no ls gs ≡ true → (b || any_no ls gs) ≡ true
     right true h = refl
     right false h = h
 
-    by : (b : Bool) → same_term g f ≡ b → cond b true (has_formula gs f) ≡ true → (is_no (judged ls g) || any_no ls gs) ≡ true
-    by true h k = ap (λ (v : Verdict). is_no v || any_no ls gs) (ap (λ (t : Term). judged ls t) (terms_are g f h) ∙ no)
-    by false h k = right (is_no (judged ls g)) (any_no_there ls gs f k no)
+    by : (b : Bool) → same_term g f ≡ b → cond b true (has_formula gs f) ≡ true → (has_formula gs f ≡ true → any_no ls gs ≡ true) → (is_no (judged ls g) || any_no ls gs) ≡ true
+    by true h k rest = ap (λ (v : Verdict). is_no v || any_no ls gs) (ap (λ (t : Term). judged ls t) (terms_are g f h) ∙ fails)
+    by false h k rest = right (is_no (judged ls g)) (rest k)
 
 -- ---- nodes that are shut
 
@@ -404,11 +408,11 @@ one_way_or_shut node = by (is_shut node) refl
     by false e = inr (λ a g. never a (has_literal node.literals (record { atom = a; holds = true })) e refl g)
 
 pending_shut : (node : Node) (f : Term) → has_formula node.pending f ≡ true → judged node.literals f ≡ No → is_shut node ≡ true
-pending_shut node f e no = by (stands_both_ways node.literals node.literals)
+pending_shut node f e fails = by (stands_both_ways node.literals node.literals)
   where
     by : (b : Bool) → (b || any_no node.literals node.pending) ≡ true
     by true = refl
-    by false = any_no_there node.literals node.pending f e no
+    by false = any_no_there node.literals node.pending f e fails
 
 pub shuts_more : ShutsMore
 shuts_more less more h e = by (stands_both_ways less.literals less.literals) refl e (one_way_or_shut more)
@@ -419,4 +423,4 @@ shuts_more less more h e = by (stands_both_ways less.literals less.literals) ref
     by false f g (inr one_way) =
         let d = denied_is less.literals less.pending g in
         let stays = judged_stays less.literals more.literals one_way h.literals d.formula in
-        pending_shut more d.formula (h.pending d.formula d.there) (subst (λ (v : Verdict). StaysDecided v (judged more.literals d.formula)) d.no stays)
+        pending_shut more d.formula (h.pending d.formula d.there) (subst (λ (v : Verdict). StaysDecided v (judged more.literals d.formula)) d.fails stays)

@@ -68,19 +68,19 @@ module _ (test : Symbol → Bool) where
 
   pub any_literal_there : (ls : List Literal) (k : Literal) → has_literal ls k ≡ true → any_symbol test k.atom ≡ true → any_in_literals test ls ≡ true
   any_literal_there [] k e f = absurd cc
-  any_literal_there (l ∷ ls) k e f = by (same_literal l k) refl e
+  any_literal_there (l ∷ ls) k e f = by (same_literal l k) refl e (λ h. any_literal_there ls k h f)
     where
-      by : (b : Bool) → same_literal l k ≡ b → cond b true (has_literal ls k) ≡ true → (any_symbol test l.atom || any_in_literals test ls) ≡ true
-      by true g h = or_left (any_symbol test l.atom) (any_in_literals test ls) (ap (λ (m : Literal). any_symbol test m.atom) (literal_is l k g) ∙ f)
-      by false g h = or_right (any_symbol test l.atom) (any_in_literals test ls) (any_literal_there ls k h f)
+      by : (b : Bool) → same_literal l k ≡ b → cond b true (has_literal ls k) ≡ true → (has_literal ls k ≡ true → any_in_literals test ls ≡ true) → (any_symbol test l.atom || any_in_literals test ls) ≡ true
+      by true g h rest = or_left (any_symbol test l.atom) (any_in_literals test ls) (ap (λ (m : Literal). any_symbol test m.atom) (literal_is l k g) ∙ f)
+      by false g h rest = or_right (any_symbol test l.atom) (any_in_literals test ls) (rest h)
 
   any_formula_there : (fs : List Term) (g : Term) → has_formula fs g ≡ true → any_symbol test g ≡ true → any_in_formulas test fs ≡ true
   any_formula_there [] g e h = absurd cc
-  any_formula_there (f ∷ fs) g e h = by (same_term f g) refl e
+  any_formula_there (f ∷ fs) g e h = by (same_term f g) refl e (λ i. any_formula_there fs g i h)
     where
-      by : (b : Bool) → same_term f g ≡ b → cond b true (has_formula fs g) ≡ true → (any_symbol test f || any_in_formulas test fs) ≡ true
-      by true k i = or_left (any_symbol test f) (any_in_formulas test fs) (ap (any_symbol test) (terms_are f g k) ∙ h)
-      by false k i = or_right (any_symbol test f) (any_in_formulas test fs) (any_formula_there fs g i h)
+      by : (b : Bool) → same_term f g ≡ b → cond b true (has_formula fs g) ≡ true → (has_formula fs g ≡ true → any_in_formulas test fs ≡ true) → (any_symbol test f || any_in_formulas test fs) ≡ true
+      by true k i rest = or_left (any_symbol test f) (any_in_formulas test fs) (ap (any_symbol test) (terms_are f g k) ∙ h)
+      by false k i rest = or_right (any_symbol test f) (any_in_formulas test fs) (rest i)
 
   any_literal : (node : Node) (k : Literal) → any_in_node test (with_literal node k) ≡ (any_in_node test node || any_symbol test k.atom)
   any_literal node k = by (has_literal node.literals k) refl
@@ -100,37 +100,37 @@ module _ (test : Symbol → Bool) where
           ap (λ (b : Bool). any_in_literals test node.literals || b) (any_formulas_push node.pending g)
           ∙ sym (or_assoc (any_in_literals test node.literals) (any_in_formulas test node.pending) (any_symbol test g))
 
+  any_in_more_literals : (ls more : List Literal) → ((l : Literal) → has_literal ls l ≡ true → has_literal more l ≡ true) → any_in_literals test ls ≡ true → any_in_literals test more ≡ true
+  any_in_more_literals [] more among f = absurd cc
+  any_in_more_literals (l ∷ ls) more among f = by (or_either (any_symbol test l.atom) (any_in_literals test ls) f) (λ g. any_in_more_literals ls more (λ k there. among k (right (same_literal l k) k there)) g)
+    where
+      right : (b : Bool) (k : Literal) → has_literal ls k ≡ true → cond b true (has_literal ls k) ≡ true
+      right true k g = refl
+      right false k g = g
+
+      by : (any_symbol test l.atom ≡ true) ⊎ (any_in_literals test ls ≡ true) → (any_in_literals test ls ≡ true → any_in_literals test more ≡ true) → any_in_literals test more ≡ true
+      by (inl g) rest = any_literal_there more l (among l (ap (λ (b : Bool). cond b true (has_literal ls l)) (literal_self l))) g
+      by (inr g) rest = rest g
+
+  any_in_more_formulas : (fs more : List Term) → ((f : Term) → has_formula fs f ≡ true → has_formula more f ≡ true) → any_in_formulas test fs ≡ true → any_in_formulas test more ≡ true
+  any_in_more_formulas [] more among f = absurd cc
+  any_in_more_formulas (g ∷ gs) more among f = by (or_either (any_symbol test g) (any_in_formulas test gs) f) (λ i. any_in_more_formulas gs more (λ k there. among k (right (same_term g k) k there)) i)
+    where
+      right : (b : Bool) (k : Term) → has_formula gs k ≡ true → cond b true (has_formula gs k) ≡ true
+      right true k i = refl
+      right false k i = i
+
+      by : (any_symbol test g ≡ true) ⊎ (any_in_formulas test gs ≡ true) → (any_in_formulas test gs ≡ true → any_in_formulas test more ≡ true) → any_in_formulas test more ≡ true
+      by (inl i) rest = any_formula_there more g (among g (ap (λ (b : Bool). cond b true (has_formula gs g)) (terms_self g))) i
+      by (inr i) rest = rest i
+
   -- what a symbol of a node has, each node has that has at least as much
   pub any_more : (less more : Node) → IsAtLeast less more → any_in_node test less ≡ true → any_in_node test more ≡ true
   any_more less more h e = by (or_either (any_in_literals test less.literals) (any_in_formulas test less.pending) e)
     where
-      in_literals : (ls : List Literal) → ((l : Literal) → has_literal ls l ≡ true → has_literal more.literals l ≡ true) → any_in_literals test ls ≡ true → any_in_literals test more.literals ≡ true
-      in_literals [] among f = absurd cc
-      in_literals (l ∷ ls) among f = either (or_either (any_symbol test l.atom) (any_in_literals test ls) f)
-        where
-          right : (b : Bool) (k : Literal) → has_literal ls k ≡ true → cond b true (has_literal ls k) ≡ true
-          right true k g = refl
-          right false k g = g
-
-          either : (any_symbol test l.atom ≡ true) ⊎ (any_in_literals test ls ≡ true) → any_in_literals test more.literals ≡ true
-          either (inl g) = any_literal_there more.literals l (among l (ap (λ (b : Bool). cond b true (has_literal ls l)) (literal_self l))) g
-          either (inr g) = in_literals ls (λ k there. among k (right (same_literal l k) k there)) g
-
-      in_formulas : (fs : List Term) → ((f : Term) → has_formula fs f ≡ true → has_formula more.pending f ≡ true) → any_in_formulas test fs ≡ true → any_in_formulas test more.pending ≡ true
-      in_formulas [] among f = absurd cc
-      in_formulas (g ∷ gs) among f = either (or_either (any_symbol test g) (any_in_formulas test gs) f)
-        where
-          right : (b : Bool) (k : Term) → has_formula gs k ≡ true → cond b true (has_formula gs k) ≡ true
-          right true k i = refl
-          right false k i = i
-
-          either : (any_symbol test g ≡ true) ⊎ (any_in_formulas test gs ≡ true) → any_in_formulas test more.pending ≡ true
-          either (inl i) = any_formula_there more.pending g (among g (ap (λ (b : Bool). cond b true (has_formula gs g)) (terms_self g))) i
-          either (inr i) = in_formulas gs (λ k there. among k (right (same_term g k) k there)) i
-
       by : (any_in_literals test less.literals ≡ true) ⊎ (any_in_formulas test less.pending ≡ true) → any_in_node test more ≡ true
-      by (inl f) = or_left (any_in_literals test more.literals) (any_in_formulas test more.pending) (in_literals less.literals h.literals f)
-      by (inr f) = or_right (any_in_literals test more.literals) (any_in_formulas test more.pending) (in_formulas less.pending h.pending f)
+      by (inl f) = or_left (any_in_literals test more.literals) (any_in_formulas test more.pending) (any_in_more_literals less.literals more.literals h.literals f)
+      by (inr f) = or_right (any_in_literals test more.literals) (any_in_formulas test more.pending) (any_in_more_formulas less.pending more.pending h.pending f)
 
   -- ---- a formula more
 
@@ -313,11 +313,11 @@ not_bound less more t h e = absurd cc
 
 none_bound : (less more : Node) (xs : List Term) → IsNear less more → any_bound_in more xs ≡ true → any_bound_in less xs ≡ true
 none_bound less more [] h e = absurd cc
-none_bound less more (x ∷ xs) h e = by (or_either (is_bound_in more x) (any_bound_in more xs) e)
+none_bound less more (x ∷ xs) h e = by (or_either (is_bound_in more x) (any_bound_in more xs) e) (λ f. none_bound less more xs h f)
   where
-    by : (is_bound_in more x ≡ true) ⊎ (any_bound_in more xs ≡ true) → (is_bound_in less x || any_bound_in less xs) ≡ true
-    by (inl f) = or_left (is_bound_in less x) (any_bound_in less xs) (not_bound less more x h f)
-    by (inr f) = or_right (is_bound_in less x) (any_bound_in less xs) (none_bound less more xs h f)
+    by : (is_bound_in more x ≡ true) ⊎ (any_bound_in more xs ≡ true) → (any_bound_in more xs ≡ true → any_bound_in less xs ≡ true) → (is_bound_in less x || any_bound_in less xs) ≡ true
+    by (inl f) rest = or_left (is_bound_in less x) (any_bound_in less xs) (not_bound less more x h f)
+    by (inr f) rest = or_right (is_bound_in less x) (any_bound_in less xs) (rest f)
 
 -- an atom on which a node may split, near nodes may split on
 pub splits_near : (less more : Node) (f : Term) → IsNear less more → may_split less f ≡ true → may_split more f ≡ true

@@ -137,16 +137,31 @@ of_array (Of term.get (part a (part i no_parts))) k h g = at_number (as_number k
     at_number (Some z) = at_element (numbered_in a z) (numbered_folded a z h.1.0)
 of_array t k h g = tt
 
+abbrev element : Term → Term → Term
+element a i = Of term.get (part a (part i no_parts))
+
+copies_at : (a i : Term) → IsFolded (element a i) → IsFoldedInstance (element_of_copies (element a i))
+copies_at (Of term.repeat (part v (part n no_parts))) i h = (h, (h.1.1.0, (h.1.0.1.1.0, (h.1.0.1.0, tt))))
+copies_at a i h = tt
+
 of_copies : (t : Term) → IsFolded t → IsFoldedInstance (element_of_copies t)
-of_copies (Of term.get (part (Of term.repeat (part v (part n no_parts))) (part i no_parts))) h = (h, (h.1.1.0, (h.1.0.1.1.0, (h.1.0.1.0, tt))))
+of_copies (Of term.get (part a (part i no_parts))) h = copies_at a i h
 of_copies t h = tt
 
+updated_at : (a j : Term) → IsFolded (element a j) → IsFoldedInstance (element_updated (element a j))
+updated_at (Of term.update (part a (part i (part w no_parts)))) j h = (h, (h.1.0.1.0, (h.1.0.1.1.0, (h.1.0.1.1.1.0, (h.1.1.0, tt)))))
+updated_at a j h = tt
+
 of_updated : (t : Term) → IsFolded t → IsFoldedInstance (element_updated t)
-of_updated (Of term.get (part (Of term.update (part a (part i (part w no_parts)))) (part j no_parts))) h = (h, (h.1.0.1.0, (h.1.0.1.1.0, (h.1.0.1.1.1.0, (h.1.1.0, tt)))))
+of_updated (Of term.get (part a (part j no_parts))) h = updated_at a j h
 of_updated t h = tt
 
+elsewhere_at : (a j : Term) → IsFolded (element a j) → IsFoldedInstance (element_elsewhere (element a j))
+elsewhere_at (Of term.update (part a (part i (part w no_parts)))) j h = (h, (h.1.0.1.0, (h.1.0.1.1.0, (h.1.1.0, tt))))
+elsewhere_at a j h = tt
+
 elsewhere : (t : Term) → IsFolded t → IsFoldedInstance (element_elsewhere t)
-elsewhere (Of term.get (part (Of term.update (part a (part i (part w no_parts)))) (part j no_parts))) h = (h, (h.1.0.1.0, (h.1.0.1.1.0, (h.1.1.0, tt))))
+elsewhere (Of term.get (part a (part j no_parts))) h = elsewhere_at a j h
 elsewhere t h = tt
 
 one_index : (s t : Term) → IsFolded s → IsFolded t → IsFoldedInstance (elements_at_one_index s t)
@@ -154,36 +169,58 @@ one_index (Of term.get (part a (part i no_parts))) (Of term.get (part b (part j 
 one_index (Of term.get (part a (part i no_parts))) t h g = tt
 one_index s t h g = tt
 
-set_field_folded : (t : Term) → IsFolded t → IsFoldedInstance (field_updated t)
-set_field_folded (Of (term.field n) (part (Of (term.set_field m) (part r (part w no_parts))) no_parts)) h = by (bytes_eq m n)
+abbrev field_of : List ℕ → Term → Term
+field_of n r = Of (term.field n) (part r no_parts)
+
+set_at : (n : List ℕ) (r : Term) → IsFolded (field_of n r) → IsFoldedInstance (field_updated (field_of n r))
+set_at n (Of (term.set_field m) (part r (part w no_parts))) h = by (bytes_eq m n)
   where
-    by : (b : Bool) → IsFoldedInstance (only_if b (Some w) >>= λ u. instance schema.FieldUpdated (Of (term.field n) (part (Of (term.set_field m) (part r (part w no_parts))) no_parts) ∷ u ∷ []))
+    by : (b : Bool) → IsFoldedInstance (only_if b (Some w) >>= λ u. instance schema.FieldUpdated (field_of n (Of (term.set_field m) (part r (part w no_parts))) ∷ u ∷ []))
     by true = (h, (h.1.0.1.1.0, tt))
     by false = tt
+set_at n r h = tt
+
+set_field_folded : (t : Term) → IsFolded t → IsFoldedInstance (field_updated t)
+set_field_folded (Of (term.field n) (part r no_parts)) h = set_at n r h
 set_field_folded t h = tt
 
-other_field_folded : (t : Term) → IsFolded t → IsFoldedInstance (field_elsewhere t)
-other_field_folded (Of (term.field n) (part (Of (term.set_field m) (part r (part w no_parts))) no_parts)) h = by (not (bytes_eq m n))
+other_at : (n : List ℕ) (r : Term) → IsFolded (field_of n r) → IsFoldedInstance (field_elsewhere (field_of n r))
+other_at n (Of (term.set_field m) (part r (part w no_parts))) h = by (not (bytes_eq m n))
   where
-    by : (b : Bool) → IsFoldedInstance (only_if b (Some (one (term.field n) r)) >>= λ u. instance schema.FieldElsewhere (Of (term.field n) (part (Of (term.set_field m) (part r (part w no_parts))) no_parts) ∷ folded u ∷ []))
+    by : (b : Bool) → IsFoldedInstance (only_if b (Some (one (term.field n) r)) >>= λ u. instance schema.FieldElsewhere (field_of n (Of (term.set_field m) (part r (part w no_parts))) ∷ folded u ∷ []))
     by true = (h, (one_folded (term.field n) r h.1.0.1.0, tt))
     by false = tt
+other_at n r h = tt
+
+other_field_folded : (t : Term) → IsFolded t → IsFoldedInstance (field_elsewhere t)
+other_field_folded (Of (term.field n) (part r no_parts)) h = other_at n r h
 other_field_folded t h = tt
 
 numbers_folded : (t : Term) → IsFolded t → IsFoldedInstance (equal_numbers t)
 numbers_folded (Of term.equal (part v (part w no_parts))) h = (h, (h.1.0, (h.1.1.0, tt)))
 numbers_folded t h = tt
 
+abbrev test_of : DataKind → Term → Term
+test_of kind v = Of (term.of_kind kind) (part v no_parts)
+
+kind_updated_at : (kind : DataKind) (v : Term) → IsFolded (test_of kind v) → IsFoldedInstance (kind_of_updated (test_of kind v))
+kind_updated_at kind (Of term.update (part a (part i (part w no_parts)))) h = (h, (one_folded (term.of_kind kind) a h.1.0.1.0, tt))
+kind_updated_at kind v h = tt
+
 kind_updated_folded : (t : Term) → IsFolded t → IsFoldedInstance (kind_of_updated t)
-kind_updated_folded (Of (term.of_kind kind) (part (Of term.update (part a (part i (part w no_parts)))) no_parts)) h = (h, (one_folded (term.of_kind kind) a h.1.0.1.0, tt))
+kind_updated_folded (Of (term.of_kind kind) (part v no_parts)) h = kind_updated_at kind v h
 kind_updated_folded t h = tt
 
-kind_set_folded : (t : Term) → IsFolded t → IsFoldedInstance (kind_of_field_updated t)
-kind_set_folded (Of (term.of_kind kind) (part (Of (term.set_field m) (part r (part w no_parts))) no_parts)) h = by (has_field kind m)
+kind_set_at : (kind : DataKind) (v : Term) → IsFolded (test_of kind v) → IsFoldedInstance (kind_of_field_updated (test_of kind v))
+kind_set_at kind (Of (term.set_field m) (part r (part w no_parts))) h = by (has_field kind m)
   where
-    by : (b : Bool) → IsFoldedInstance (only_if b (Some (one (term.of_kind kind) r)) >>= λ l. instance schema.KindOfFieldUpdated (Of (term.of_kind kind) (part (Of (term.set_field m) (part r (part w no_parts))) no_parts) ∷ folded l ∷ []))
+    by : (b : Bool) → IsFoldedInstance (only_if b (Some (one (term.of_kind kind) r)) >>= λ l. instance schema.KindOfFieldUpdated (test_of kind (Of (term.set_field m) (part r (part w no_parts))) ∷ folded l ∷ []))
     by true = (h, (one_folded (term.of_kind kind) r h.1.0.1.0, tt))
     by false = tt
+kind_set_at kind v h = tt
+
+kind_set_folded : (t : Term) → IsFolded t → IsFoldedInstance (kind_of_field_updated t)
+kind_set_folded (Of (term.of_kind kind) (part v no_parts)) h = kind_set_at kind v h
 kind_set_folded t h = tt
 
 bool_part : (v f : Term) → IsFolded v → as_bool v ≡ Some f → IsFolded f

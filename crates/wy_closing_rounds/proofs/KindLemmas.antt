@@ -34,11 +34,11 @@ members_joined node (part f (part g ps)) = refl
 
 members_left : (node : Node) (ps : Parts) → added_all node (without_true ps) ≡ added_all node ps
 members_left node no_parts = refl
-members_left node (part f ps) = by (is_true f) refl
+members_left node (part f ps) = by (is_true f) refl (members_left node ps) (members_left (added node f) ps)
   where
-    by : (b : Bool) → is_true f ≡ b → added_all node (cond b (without_true ps) (part f (without_true ps))) ≡ added_all (added node f) ps
-    by true e = members_left node ps ∙ ap (λ (n : Node). added_all n ps) (sym (is_no_member f node e))
-    by false e = members_left (added node f) ps
+    by : (b : Bool) → is_true f ≡ b → added_all node (without_true ps) ≡ added_all node ps → added_all (added node f) (without_true ps) ≡ added_all (added node f) ps → added_all node (cond b (without_true ps) (part f (without_true ps))) ≡ added_all (added node f) ps
+    by true e here there = here ∙ ap (λ (n : Node). added_all n ps) (sym (is_no_member f node e))
+    by false e here there = there
 
 -- where no member is `false`
 pub members_added : (node : Node) (ps : Parts) → has_false ps ≡ false → added node (fold_and ps) ≡ added_all node ps
@@ -107,11 +107,11 @@ module _ (test : Symbol → Bool) (names : TestsNames test) where
 
   parts_without_false : (ps : Parts) → IsWithin (any_in_parts test (without_false ps)) (any_in_parts test ps)
   parts_without_false no_parts e = e
-  parts_without_false (part f ps) = by (is_false f)
+  parts_without_false (part f ps) = by (is_false f) (parts_without_false ps)
     where
-      by : (b : Bool) → IsWithin (any_in_parts test (cond b (without_false ps) (part f (without_false ps)))) (has f || any_in_parts test ps)
-      by true e = or_right (has f) (any_in_parts test ps) (parts_without_false ps e)
-      by false e = or_both (has f) (any_in_parts test (without_false ps)) (has f || any_in_parts test ps) (or_left (has f) (any_in_parts test ps)) (λ g. or_right (has f) (any_in_parts test ps) (parts_without_false ps g)) e
+      by : (b : Bool) → IsWithin (any_in_parts test (without_false ps)) (any_in_parts test ps) → IsWithin (any_in_parts test (cond b (without_false ps) (part f (without_false ps)))) (has f || any_in_parts test ps)
+      by true rest e = or_right (has f) (any_in_parts test ps) (rest e)
+      by false rest e = or_both (has f) (any_in_parts test (without_false ps)) (has f || any_in_parts test ps) (or_left (has f) (any_in_parts test ps)) (λ g. or_right (has f) (any_in_parts test ps) (rest g)) e
 
   or_with_none : (a : Bool) → IsWithin a (a || false)
   or_with_none true e = refl

@@ -6,3 +6,4 @@ pub mod RoundLemmas
 pub mod ProductLemmas
 pub mod ExpandedLemmas
 pub mod SearchLemmas
+pub mod CaughtLemmas

@@ -12,7 +12,7 @@ use Rattle.wy_cert.specs.Steps.{Written, inst, wit, fact}
 use Rattle.wy_judge.specs.Node.{Literal, same_literal, has_literal, Node, added, with_formulas}
 use Rattle.wy_subst.specs.Names.{any_symbol, new_number}
 use Rattle.wy_valid.specs.Literals.{only_if}
-use Rattle.wy_valid.specs.Ranges.{Range, of_each, of_one, is_int, instance_at, witness, witnessed_at, numbers_in_node, any_in_literals}
+use Rattle.wy_valid.specs.Ranges.{Range, of_each, of_one, is_int, instance_at, witness, witnessed_at, numbers_in_node, any_in_literals, any_in_formulas}
 use Rattle.wy_valid.specs.Membership.{fact_among}
 use Rattle.wy_valid.specs.Validity.{after, left_with, left_with_one}
 use Rattle.wy_search.specs.Standing.{standing}
@@ -153,7 +153,7 @@ module _ (types : List Entry) (leads_on : LeadsOn types) where
 
     -- the names of a datum whose kind a literal tells are those of the node
     named : (node : Node) (kind : DataKind) (v : Term) → IsAtLeast base node → has_literal base.literals (record { atom = one (of_kind kind) v; holds = true }) ≡ true → IsNamedIn v node
-    named node kind v keeps e test tests f = any_more test base node keeps (first (any_in_literals test base.literals) _ (there base.literals (record { atom = one (of_kind kind) v; holds = true }) e (right (test (of_kind kind)) (any_symbol test v || false) (first (any_symbol test v) false f))))
+    named node kind v keeps e test tests f = any_more test base node keeps (first (any_in_literals test base.literals) (any_in_formulas test base.pending) (there base.literals (record { atom = one (of_kind kind) v; holds = true }) e (right (test (of_kind kind)) (any_symbol test v || false) (first (any_symbol test v) false f))))
       where
         first : (a b : Bool) → a ≡ true → (a || b) ≡ true
         first true b g = refl

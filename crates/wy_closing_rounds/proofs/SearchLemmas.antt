@@ -228,6 +228,5 @@ module _ (leaves : LeavesClose) (types : List Entry) (leads_on : LeadsOn types) 
 pub found_certified : LeavesClose → FoundIsCertified
 found_certified leaves c budget found_leaves sorted are_closed folded freely verdict =
     let first = first_sorted c sorted in
-    let good = record { sorted = first; folded = first_folded c (formulas_folded c.hyps folded.0) folded.1; comes = begins } in
-    let all = found_closable leaves c.types (λ node s below h g e. (step_leads c.types node s below are_closed sorted.types h g e).sorted) (first_spot c) freely budget verdict.0 0 found_leaves (first_spot c ∷ []) (good, tt) verdict.1 in
+    let all = found_closable leaves c.types (λ node s below h g e. (step_leads c.types node s below are_closed sorted.types h g e).sorted) (first_spot c) freely budget verdict.0 0 found_leaves (first_spot c ∷ []) (record { sorted = first; folded = first_folded c (formulas_folded c.hyps folded.0) folded.1; comes = begins }, tt) verdict.1 in
     certificate c (all.0 (first_node c) first (near_self (first_node c)))

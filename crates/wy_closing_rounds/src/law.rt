@@ -1,4 +1,5 @@
 //! Certificates by closed leaves.
+ghost use Rattle.wy_closing_rounds.specs.Caught.{SomeSplitIsCaught};
 ghost use Rattle.wy_closing_rounds.specs.Leaves.{FoundIsCertified, LeavesClose};
 
 /// Where steps close each node that the search closes by its classes or by elimination, each condition that it finds has a
@@ -6,4 +7,10 @@ ghost use Rattle.wy_closing_rounds.specs.Leaves.{FoundIsCertified, LeavesClose};
 /// where the search does.
 pub fn found_conditions_are_certified_by_leaves()
     ensures certified { LeavesClose → FoundIsCertified }
+{}
+
+/// There is a condition whose search splits on an atom on which a certificate may not: a name of it stands free in the
+/// condition, and the formula of a named type binds it.
+pub fn some_splits_are_caught()
+    ensures { SomeSplitIsCaught }
 {}

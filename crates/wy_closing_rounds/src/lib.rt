@@ -6,4 +6,4 @@
 
 mod law;
 
-pub use law::found_conditions_are_certified_by_leaves;
+pub use law::{found_conditions_are_certified_by_leaves, some_splits_are_caught};
