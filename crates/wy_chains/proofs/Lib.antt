@@ -1,9 +1,9 @@
 -- literals, and what folding makes of an equation
-mod LiteralLemmas
+pub mod LiteralLemmas
 mod MadeLemmas
 mod StandingLemmas
 -- chains
-mod LinkLemmas
+pub mod LinkLemmas
 pub mod ChainLemmas
 pub mod ClassLemmas
 -- clashes
