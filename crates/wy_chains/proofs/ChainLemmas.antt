@@ -1,5 +1,5 @@
 -- A node is closable where each node is to which chains between two terms may lead.
-use Rattle.std.proofs.Common.{◌≡◌, ◌∙◌, List, [], ◌∷◌, Bool, true, false, Option, Some, inl, inr, refl, ap}
+use Rattle.std.proofs.Common.{◌≡◌, ◌∙◌, List, [], ◌∷◌, Bool, true, Option, Some, inl, inr, refl, ap}
 use Rattle.wy_term.specs.Term.{Term, two, at_most, equal}
 use Rattle.wy_term.specs.Sorts.{Sort, int_sort, val_sort, formula_sort, sort_in}
 use Rattle.wy_term.specs.Rewriting.{False, True}

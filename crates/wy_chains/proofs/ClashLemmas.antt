@@ -1,6 +1,6 @@
 -- A node is closable where the classes of one clash whose literals it has.
 use Rattle.std.proofs.Common.{◌≡◌, ◌⊎◌, ◌∙◌, List, [], ◌∷◌, ◌++◌, Bool, true, false, cond, not, ◌&&◌, ◌||◌, Option, Some, None, inl, inr, refl, sym, ap, subst}
-use Rattle.wy_term.specs.Term.{DataKind, Term, Of, no_parts, part, one, two, equal, of_kind}
+use Rattle.wy_term.specs.Term.{DataKind, Term, Of, no_parts, part, two, equal, of_kind}
 use Rattle.wy_term.specs.Same.{same_kind, same_term}
 use Rattle.wy_term.specs.Folding.{folded}
 use Rattle.wy_term.specs.Rewriting.{False, as_constant, kind_given}

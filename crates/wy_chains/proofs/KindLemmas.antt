@@ -1,6 +1,6 @@
 -- Kinds that literals give or deny to terms that are linked.
 use Rattle.std.proofs.Common.{◌≡◌, ◌∙◌, List, [], ◌∷◌, ◌++◌, Bool, true, false, cond, not, ◌||◌, Option, Some, inl, inr, refl, sym, ap}
-use Rattle.wy_term.specs.Term.{DataKind, Term, part, one, two, equal, of_kind}
+use Rattle.wy_term.specs.Term.{DataKind, Term, one, two, equal, of_kind}
 use Rattle.wy_term.specs.Same.{same_kind, same_term}
 use Rattle.wy_term.specs.Rewriting.{as_constant, kind_given}
 use Rattle.wy_term.specs.Sorts.{val_sort, sort_in}

@@ -1,5 +1,5 @@
 -- What folding makes of an equation, and of the two bounds between numbers.
-use Rattle.std.proofs.Common.{◌≡◌, ◌∙◌, Bool, true, false, cond, not, ℤ, Option, Some, None, refl, sym, ap, arith}
+use Rattle.std.proofs.Common.{◌≡◌, ◌∙◌, Bool, true, false, cond, ℤ, Option, Some, None, refl, sym, ap, arith}
 use Rattle.std.proofs.lemmas.Int.{ints}
 use Rattle.wy_value.specs.Datum.{Datum, Null, Truth, Whole}
 use Rattle.wy_term.specs.Data.{same_datum}
