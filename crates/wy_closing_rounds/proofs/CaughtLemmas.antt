@@ -1,6 +1,7 @@
 -- The search of a condition comes to a split on an atom with a name that is bound there.
 use Rattle.std.proofs.Common.{◌≡◌, Bool, true, false, Some, refl}
 use Rattle.wy_term.specs.Term.{Term, leaf, two, get, equal, null}
+use Rattle.wy_eliminate.specs.Division.{gcd}
 use Rattle.wy_valid.specs.Ranges.{may_split}
 use Rattle.wy_search.specs.Splitting.{next_atom}
 use Rattle.wy_search.specs.Expansion.{Spot, expanded}
@@ -15,6 +16,7 @@ abbrev is_null : Term
 is_null = two equal (two get a_name k_name) (leaf null)
 
 goes_there : next caught.types (first_spot caught) ≡ goes_on behind
+unfolding gcd
 goes_there = refl
 
 splits_there : next_atom behind.node ≡ Some is_null

@@ -106,7 +106,7 @@ module _ (test : Symbol → Bool) (names : TestsNames test) where
       by g = cc
 
   parts_without_false : (ps : Parts) → IsWithin (any_in_parts test (without_false ps)) (any_in_parts test ps)
-  parts_without_false no_parts e = e
+  parts_without_false no_parts = λ e. e
   parts_without_false (part f ps) = by (is_false f) (parts_without_false ps)
     where
       by : (b : Bool) → IsWithin (any_in_parts test (without_false ps)) (any_in_parts test ps) → IsWithin (any_in_parts test (cond b (without_false ps) (part f (without_false ps)))) (has f || any_in_parts test ps)
