@@ -30,8 +30,18 @@ impl Heap {
         ensures no_memory { OnErr result (IsAsBefore self.old self.new) }
         ensures kept { SameTable self.old self.new }
     {
-        let part = self.again(p.part())?;
-        Ok(Place::of(part))
+        match p.part() {
+            Part::Key(key) => self.share_node(key),
+            part => Ok(Place::of(part)),
+        }
+    }
+
+    // a second hold on a node, or on a copy of it
+    fn share_node(&mut self, key: usize) -> Result<Place, NoMemory> {
+        match self.again(Part::Key(key)) {
+            Ok(part) => Ok(Place::of(part)),
+            Err(_) => Err(NoMemory),
+        }
     }
 
     // a hold more on this part, or on a copy of it

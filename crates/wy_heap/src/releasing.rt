@@ -25,7 +25,9 @@ impl Heap {
         ensures copies { self.new.copies ≡ self.old.copies }
     {
         let part = p.spent();
-        self.free(part);
+        if let Part::Key(_) = part {
+            self.free(part);
+        }
     }
 
     // lets go of a hold, and frees what nothing holds any more

@@ -10,11 +10,12 @@ ghost use Rattle.wy_mach.specs.Taking.{nulls};
 ghost use Rattle.wy_mach.specs.Sharing.{Spares};
 ghost use Rattle.wy_mach.specs.States.{places_of, places_below, callers_of};
 ghost use Rattle.wy_mach.specs.SharedTurns.{SharesCall, SharesReturn, LeavesNodes, ReturnsLast, EndsSo, IsNoEnd};
+ghost use Rattle.wy_mach.specs.Pacing.{turn_of, IsNoLast, IsLast};
 ghost use Rattle.wy_mach.specs.Running.{TurnsBy, Turned, KeepsRest, HasTextOf, Enters, Resumes, IsEnd, next_by};
 
 use crate::entering::entry_registers;
 use crate::frames::{Caller, Frame, leave};
-use crate::machine::{Machine, Turn};
+use crate::machine::{Machine, Pace, Turn};
 use crate::making::{release_all, take_all};
 use crate::registers::{put, take};
 use crate::stop::Stop;
@@ -24,63 +25,53 @@ use wy_heap::{NoMemory, Place};
 
 impl Machine {
     // `Call`
-    pub(crate) fn call(
-        &mut self,
-        code: &Code,
-        to: u32,
-        number: u32,
-        numbers: &[u32],
-    ) -> Result<Turn, NoMemory>
+    pub(crate) fn call(&mut self, code: &Code, to: u32, number: u32, numbers: &[u32]) -> Pace
         requires stands { Stands self.old.heap (places_of self.old) }
         requires below { self.old.frame.at < 18446744073709551615 }
         ensures stands { Stands self.new.heap (places_of self.new) }
         ensures kept { KeepsRest self.old self.new }
-        ensures turned { IfOk result (λ turn. (before : Option (List ℕ)) (failed : ℕ) → Turned (next_by code.now (Instr.Call to number numbers.now)) self.old self.new before before failed failed turn) }
-        ensures shares { IfOk result (λ turn. turn ≡ Turn.Went → SharesCall code.now self.old self.new to number numbers.now) }
-        ensures no_end { IfOk result IsNoEnd }
+        ensures turned { IfOk (turn_of result) (λ turn. (before : Option (List ℕ)) (failed : ℕ) → Turned (next_by code.now (Instr.Call to number numbers.now)) self.old self.new before before failed failed turn) }
+        ensures shares { IfOk (turn_of result) (λ turn. turn ≡ Turn.Went → SharesCall code.now self.old self.new to number numbers.now) }
+        ensures no_end { IfOk (turn_of result) IsNoEnd }
+        ensures no_last { IsNoLast result }
     {
         let Some(routine) = code.routines.get(number as usize) else {
-            return Ok(Turn::Stuck);
+            return Pace::Stuck;
         };
         if numbers.len() != routine.params as usize {
-            return Ok(Turn::Stuck);
+            return Pace::Stuck;
         }
         if self.callers.reserve(1).is_err() {
-            return Err(NoMemory);
+            return Pace::NoMemory;
         }
         let alloc = self.alloc;
         match take_all(alloc, self.frame.registers.as_mut_slice(), numbers) {
             Ok(arguments) => self.enter(number, to, routine.registers, arguments),
-            Err(Stop::Stuck) => Ok(Turn::Stuck),
-            Err(Stop::NoMemory) => Err(NoMemory),
+            Err(Stop::Stuck) => Pace::Stuck,
+            Err(Stop::NoMemory) => Pace::NoMemory,
         }
     }
 
     // goes into a routine with these arguments, which were taken from the registers
-    fn enter(
-        &mut self,
-        number: u32,
-        to: u32,
-        registers: u32,
-        arguments: Vec<Place>,
-    ) -> Result<Turn, NoMemory>
+    fn enter(&mut self, number: u32, to: u32, registers: u32, arguments: Vec<Place>) -> Pace
         requires stands { Stands self.old.heap (arguments.items ++ places_of self.old) }
         requires below { self.old.frame.at < 18446744073709551615 }
         requires room { vec_len self.old.callers < vec_capacity self.old.callers }
         ensures stands { Stands self.new.heap (places_of self.new) }
         ensures kept { KeepsRest self.old self.new }
-        ensures entered { OnOk result (Enters self.old self.new number to registers arguments.items) }
-        ensures registers { OnOk result (self.new.frame.registers.items ≡ arguments.items ++ nulls (registers - length arguments.items)) }
-        ensures went { IfOk result (λ turn. turn ≡ Turn.Went) }
+        ensures entered { OnOk (turn_of result) (Enters self.old self.new number to registers arguments.items) }
+        ensures registers { OnOk (turn_of result) (self.new.frame.registers.items ≡ arguments.items ++ nulls (registers - length arguments.items)) }
+        ensures went { IfOk (turn_of result) (λ turn. turn ≡ Turn.Went) }
+        ensures no_last { IsNoLast result }
     {
         match entry_registers(registers, arguments) {
             Ok(all) => {
                 self.push_frame(number, to, all);
-                Ok(Turn::Went)
+                Pace::Went
             }
             Err(arguments) => {
                 release_all(&mut self.heap, arguments);
-                Err(NoMemory)
+                Pace::NoMemory
             }
         }
     }
@@ -106,25 +97,26 @@ impl Machine {
     }
 
     // `Return`
-    pub(crate) fn give_back(&mut self, from: u32) -> Result<Turn, NoMemory>
+    pub(crate) fn give_back(&mut self, from: u32) -> Pace
         requires stands { Stands self.old.heap (places_of self.old) }
         ensures stands { Stands self.new.heap (places_of self.new) }
         ensures kept { KeepsRest self.old self.new }
-        ensures turned { IfOk result (TurnsBy (Instr.Return from) self.old self.new) }
-        ensures shares { IfOk result (λ turn. turn ≡ Turn.Went → SharesReturn self.old self.new from) }
-        ensures ends { IfOk result (EndsSo (ReturnsLast self.old from)) }
-        ensures wants { OnErr result (self.old.callers.items ≡ []) }
+        ensures turned { IfOk (turn_of result) (TurnsBy (Instr.Return from) self.old self.new) }
+        ensures shares { IfOk (turn_of result) (λ turn. turn ≡ Turn.Went → SharesReturn self.old self.new from) }
+        ensures no_end { IfOk (turn_of result) IsNoEnd }
+        ensures last { (other : ℕ) → result ≡ Pace.Last other → (other ≡ from) × IsLast self.old self.new from }
+        ensures wants { OnErr (turn_of result) (self.old.callers.items ≡ []) }
     {
         if from as usize >= self.frame.registers.len() {
-            return Ok(Turn::Stuck);
+            return Pace::Stuck;
         }
-        let given = take(self.frame.registers.as_mut_slice(), from);
         match self.callers.pop() {
             Some(caller) => {
+                let given = take(self.frame.registers.as_mut_slice(), from);
                 self.resume(caller, given);
-                Ok(Turn::Went)
+                Pace::Went
             }
-            None => self.end(given),
+            None => Pace::Last(from),
         }
     }
 
@@ -144,6 +136,21 @@ impl Machine {
             target,
             given,
         );
+    }
+
+    // returns from the first frame, with what the register holds
+    pub(crate) fn last(&mut self, from: u32) -> Result<Turn, NoMemory>
+        requires stands { Stands self.old.heap (places_of self.old) }
+        requires there { from < length self.old.frame.registers.items }
+        requires first { self.old.callers.items ≡ [] }
+        ensures stands { Stands self.new.heap (places_of self.new) }
+        ensures kept { KeepsRest self.old self.new }
+        ensures turned { IfOk result (TurnsBy (Instr.Return from) self.old self.new) }
+        ensures shares { IfOk result (λ turn. turn ≡ Turn.Went → SharesReturn self.old self.new from) }
+        ensures ends { IfOk result (EndsSo (ReturnsLast self.old from)) }
+    {
+        let given = take(self.frame.registers.as_mut_slice(), from);
+        self.end(given)
     }
 
     // the run ends with this result

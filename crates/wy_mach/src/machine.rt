@@ -1,10 +1,11 @@
 //! The machine: a heap, the frame that runs and those that wait for it.
-ghost use Rattle.std.specs.Prelude.{◌≡◌, ◌≤◌, ◌<◌, ◌+◌, vec_capacity, [], ℕ, List, Option, reverse, IfOk, OnErr};
+ghost use Rattle.std.specs.Prelude.{◌≡◌, ◌≤◌, ◌<◌, ◌+◌, vec_capacity, [], ℕ, List, Option, Some, reverse, IfOk, OnErr};
 ghost use Rattle.wy_heap.specs.Standing.{Stands};
 ghost use Rattle.wy_code.specs.declared.routines.Code.{Code};
 ghost use Rattle.wy_code.specs.declared.instructions.Instr.{Instr};
 ghost use Rattle.wy_mach.specs.States.{IsMachine, places_of, places_below};
 ghost use Rattle.wy_mach.specs.Running.{Turned, TurnsBy, IsPlain, HasInt, KeepsRest, MayTakeMemory, MayWantMemory, next_in, next_by, instr_of};
+ghost use Rattle.wy_mach.specs.Pacing.{turn_of, IsNoLast, IsLast};
 ghost use Rattle.wy_mach.specs.SharedSteps.{TakesMemoryNext, instr_next};
 ghost use Rattle.wy_mach.specs.SharedTurns.{SameHeld, SharesPlain, BranchesBy, SharesBy, IsNoEnd, EndsSo, EndsBy, WantsIn, WantsBy, TurnsShared, state_of};
 
@@ -47,6 +48,21 @@ pub enum Turn {
     Stuck,
 }
 
+/// What one instruction did, without the parts of an end: a turn hands it from answer to answer.
+#[derive(Clone, Copy, Debug, PartialEq, Eq)]
+pub(crate) enum Pace {
+    /// It went, and the sink took all that it prints.
+    Went,
+    /// It returns from the first frame, with what this register holds. Nothing is done yet.
+    Last(u32),
+    /// The sink failed, and counted it.
+    OutFault,
+    /// An operand is outside of the instruction's domain.
+    Stuck,
+    /// There was no memory for what it was to make.
+    NoMemory,
+}
+
 impl Machine {
     /// Makes one instruction of the code that the run was started on, where every turn before it went.
     /// After any answer but `Went` only `stop` may follow. Want of memory comes only where the instruction
@@ -63,62 +79,86 @@ impl Machine {
         ensures count { O.faults out.old ≤ O.faults out.new }
         ensures has_result { self.new.has_result ≡ self.old.has_result }
     {
+        match self.paced(code, out) {
+            Pace::Went => Ok(Turn::Went),
+            Pace::Last(from) => self.last(from),
+            Pace::OutFault => Ok(Turn::OutFault),
+            Pace::Stuck => Ok(Turn::Stuck),
+            Pace::NoMemory => Err(NoMemory),
+        }
+    }
+
+    // makes the next instruction
+    fn paced<O: Sink>(&mut self, code: &Code, out: &mut O) -> Pace
+        requires is { IsMachine code.now self.old }
+        ensures is { IsMachine code.now self.new }
+        ensures turned { IfOk (turn_of result) (Turned (next_in code.now) self.old self.new (O.taken out.old) (O.taken out.new) (O.faults out.old) (O.faults out.new)) }
+        ensures shared { IfOk (turn_of result) (TurnsShared code.now self.old self.new) }
+        ensures last { (from : ℕ) → result ≡ Pace.Last from → (instr_of code.now self.old ≡ Some (Instr.Return from)) × IsLast self.old self.new from }
+        ensures no_memory { OnErr (turn_of result) (MayWantMemory (instr_of code.now self.old)) }
+        ensures takes_memory { OnErr (turn_of result) (TakesMemoryNext self.old.heap.cap (instr_next code.now (state_of self.old)) (state_of self.old)) }
+        ensures nothing { OnErr (turn_of result) (O.taken out.new ≡ O.taken out.old) }
+        ensures count { O.faults out.old ≤ O.faults out.new }
+        ensures has_result { self.new.has_result ≡ self.old.has_result }
+    {
         let Some(routine) = code.routines.get(self.frame.routine as usize) else {
-            return Ok(Turn::Stuck);
+            return Pace::Stuck;
         };
         if self.frame.at >= routine.body.len() {
-            return Ok(Turn::Stuck);
+            return Pace::Stuck;
         }
         let Some(instr) = routine.body.get(self.frame.at) else {
-            return Ok(Turn::Stuck);
+            return Pace::Stuck;
         };
         self.made(code, instr, out)
     }
 
     // makes this instruction
-    fn made<O: Sink>(&mut self, code: &Code, instr: &Instr, out: &mut O) -> Result<Turn, NoMemory>
+    fn made<O: Sink>(&mut self, code: &Code, instr: &Instr, out: &mut O) -> Pace
         requires is { IsMachine code.now self.old }
         requires int { HasInt instr.now }
         requires below { self.old.frame.at < 18446744073709551615 }
         ensures stands { Stands self.new.heap (places_of self.new) }
         ensures kept { KeepsRest self.old self.new }
-        ensures turned { IfOk result (Turned (next_by code.now instr.now) self.old self.new (O.taken out.old) (O.taken out.new) (O.faults out.old) (O.faults out.new)) }
-        ensures shares { IfOk result (λ turn. turn ≡ Turn.Went → SharesBy code.now instr.now self.old self.new) }
-        ensures ends { IfOk result (EndsSo (EndsBy instr.now self.old)) }
-        ensures no_memory { OnErr result (MayTakeMemory instr.now) }
-        ensures wants { OnErr result (WantsBy instr.now self.old) }
-        ensures nothing { OnErr result (O.taken out.new ≡ O.taken out.old) }
+        ensures turned { IfOk (turn_of result) (Turned (next_by code.now instr.now) self.old self.new (O.taken out.old) (O.taken out.new) (O.faults out.old) (O.faults out.new)) }
+        ensures shares { IfOk (turn_of result) (λ turn. turn ≡ Turn.Went → SharesBy code.now instr.now self.old self.new) }
+        ensures ends { IfOk (turn_of result) (EndsSo (EndsBy instr.now self.old)) }
+        ensures last { (from : ℕ) → result ≡ Pace.Last from → (instr.now ≡ Instr.Return from) × IsLast self.old self.new from }
+        ensures no_memory { OnErr (turn_of result) (MayTakeMemory instr.now) }
+        ensures wants { OnErr (turn_of result) (WantsBy instr.now self.old) }
+        ensures nothing { OnErr (turn_of result) (O.taken out.new ≡ O.taken out.old) }
         ensures count { O.faults out.old ≤ O.faults out.new }
     {
         match instr {
             Instr::Jump(to) => {
                 self.frame.at = *to as usize;
-                Ok(Turn::Went)
+                Pace::Went
             }
-            Instr::Branch(from, to) => Ok(self.branch(*from, *to)),
+            Instr::Branch(from, to) => self.branch(*from, *to),
             Instr::Call(to, routine, numbers) => {
                 self.call(code, *to, *routine, numbers.as_slice())
             }
             Instr::Return(from) => self.give_back(*from),
-            Instr::Print(from) => Ok(self.printed(*from, out)),
-            Instr::PrintInt(from) => Ok(self.number_printed(*from, out)),
+            Instr::Print(from) => self.printed(*from, out),
+            Instr::PrintInt(from) => self.number_printed(*from, out),
             _ => self.went(code, instr),
         }
     }
 
     // an instruction that goes on behind and prints nothing
-    fn went(&mut self, code: &Code, instr: &Instr) -> Result<Turn, NoMemory>
+    fn went(&mut self, code: &Code, instr: &Instr) -> Pace
         requires is { IsMachine code.now self.old }
         requires plain { IsPlain instr.now }
         requires int { HasInt instr.now }
         requires below { self.old.frame.at < 18446744073709551615 }
         ensures stands { Stands self.new.heap (places_of self.new) }
         ensures kept { KeepsRest self.old self.new }
-        ensures turned { IfOk result (λ turn. (before : Option (List ℕ)) (failed : ℕ) → Turned (next_by code.now instr.now) self.old self.new before before failed failed turn) }
-        ensures shares { IfOk result (λ turn. turn ≡ Turn.Went → SharesPlain instr.now self.old self.new) }
-        ensures no_end { IfOk result IsNoEnd }
-        ensures no_memory { OnErr result (MayTakeMemory instr.now) }
-        ensures wants { OnErr result (WantsIn instr.now self.old.heap self.old.frame.registers.items (vec_capacity self.old.path)) }
+        ensures turned { IfOk (turn_of result) (λ turn. (before : Option (List ℕ)) (failed : ℕ) → Turned (next_by code.now instr.now) self.old self.new before before failed failed turn) }
+        ensures shares { IfOk (turn_of result) (λ turn. turn ≡ Turn.Went → SharesPlain instr.now self.old self.new) }
+        ensures no_last { IsNoLast result }
+        ensures no_end { IfOk (turn_of result) IsNoEnd }
+        ensures no_memory { OnErr (turn_of result) (MayTakeMemory instr.now) }
+        ensures wants { OnErr (turn_of result) (WantsIn instr.now self.old.heap self.old.frame.registers.items (vec_capacity self.old.path)) }
     {
         let alloc = self.alloc;
         let registers = self.frame.registers.as_mut_slice();
@@ -132,75 +172,81 @@ impl Machine {
         ) {
             Ok(()) => {
                 self.frame.at += 1;
-                Ok(Turn::Went)
+                Pace::Went
             }
-            Err(Stop::Stuck) => Ok(Turn::Stuck),
-            Err(Stop::NoMemory) => Err(NoMemory),
+            Err(Stop::Stuck) => Pace::Stuck,
+            Err(Stop::NoMemory) => Pace::NoMemory,
         }
     }
 
     // `Branch`
-    fn branch(&mut self, from: u32, to: u32) -> Turn
+    fn branch(&mut self, from: u32, to: u32) -> Pace
         requires stands { Stands self.old.heap (places_of self.old) }
         requires below { self.old.frame.at < 18446744073709551615 }
         ensures stands { Stands self.new.heap (places_of self.new) }
         ensures kept { KeepsRest self.old self.new }
-        ensures turned { TurnsBy (Instr.Branch from to) self.old self.new result }
-        ensures shares { result ≡ Turn.Went → SameHeld self.old self.new × BranchesBy self.old from to self.new.frame.at }
-        ensures no_end { IsNoEnd result }
+        ensures turned { IfOk (turn_of result) (TurnsBy (Instr.Branch from to) self.old self.new) }
+        ensures shares { result ≡ Pace.Went → SameHeld self.old self.new × BranchesBy self.old from to self.new.frame.at }
+        ensures goes { IfOk (turn_of result) IsNoEnd }
+        ensures memory { OnErr (turn_of result) ⊥ }
+        ensures no_last { IsNoLast result }
     {
         match truth(&self.heap, self.frame.registers.as_slice(), from) {
             Some(true) => {
                 self.frame.at += 1;
-                Turn::Went
+                Pace::Went
             }
             Some(false) => {
                 self.frame.at = to as usize;
-                Turn::Went
+                Pace::Went
             }
-            None => Turn::Stuck,
+            None => Pace::Stuck,
         }
     }
 
     // `Print`
-    fn printed<O: Sink>(&mut self, from: u32, out: &mut O) -> Turn
+    fn printed<O: Sink>(&mut self, from: u32, out: &mut O) -> Pace
         requires stands { Stands self.old.heap (places_of self.old) }
         requires below { self.old.frame.at < 18446744073709551615 }
         ensures stands { Stands self.new.heap (places_of self.new) }
         ensures kept { KeepsRest self.old self.new }
-        ensures turned { (code : Code) → Turned (next_by code (Instr.Print from)) self.old self.new (O.taken out.old) (O.taken out.new) (O.faults out.old) (O.faults out.new) result }
-        ensures shares { result ≡ Turn.Went → SameHeld self.old self.new × (self.new.frame.at ≡ self.old.frame.at + 1) }
-        ensures no_end { IsNoEnd result }
+        ensures turned { IfOk (turn_of result) (λ turn. (code : Code) → Turned (next_by code (Instr.Print from)) self.old self.new (O.taken out.old) (O.taken out.new) (O.faults out.old) (O.faults out.new) turn) }
+        ensures shares { result ≡ Pace.Went → SameHeld self.old self.new × (self.new.frame.at ≡ self.old.frame.at + 1) }
+        ensures goes { IfOk (turn_of result) IsNoEnd }
+        ensures memory { OnErr (turn_of result) ⊥ }
+        ensures no_last { IsNoLast result }
         ensures count { O.faults out.old ≤ O.faults out.new }
     {
         match print(&self.heap, self.frame.registers.as_slice(), from, out) {
             Ok(()) => {
                 self.frame.at += 1;
-                Turn::Went
+                Pace::Went
             }
-            Err(PrintStop::Stuck) => Turn::Stuck,
-            Err(PrintStop::OutFault) => Turn::OutFault,
+            Err(PrintStop::Stuck) => Pace::Stuck,
+            Err(PrintStop::OutFault) => Pace::OutFault,
         }
     }
 
     // `PrintInt`
-    fn number_printed<O: Sink>(&mut self, from: u32, out: &mut O) -> Turn
+    fn number_printed<O: Sink>(&mut self, from: u32, out: &mut O) -> Pace
         requires stands { Stands self.old.heap (places_of self.old) }
         requires below { self.old.frame.at < 18446744073709551615 }
         ensures stands { Stands self.new.heap (places_of self.new) }
         ensures kept { KeepsRest self.old self.new }
-        ensures turned { (code : Code) → Turned (next_by code (Instr.PrintInt from)) self.old self.new (O.taken out.old) (O.taken out.new) (O.faults out.old) (O.faults out.new) result }
-        ensures shares { result ≡ Turn.Went → SameHeld self.old self.new × (self.new.frame.at ≡ self.old.frame.at + 1) }
-        ensures no_end { IsNoEnd result }
+        ensures turned { IfOk (turn_of result) (λ turn. (code : Code) → Turned (next_by code (Instr.PrintInt from)) self.old self.new (O.taken out.old) (O.taken out.new) (O.faults out.old) (O.faults out.new) turn) }
+        ensures shares { result ≡ Pace.Went → SameHeld self.old self.new × (self.new.frame.at ≡ self.old.frame.at + 1) }
+        ensures goes { IfOk (turn_of result) IsNoEnd }
+        ensures memory { OnErr (turn_of result) ⊥ }
+        ensures no_last { IsNoLast result }
         ensures count { O.faults out.old ≤ O.faults out.new }
     {
         match print_int(&self.heap, self.frame.registers.as_slice(), from, out) {
             Ok(()) => {
                 self.frame.at += 1;
-                Turn::Went
+                Pace::Went
             }
-            Err(PrintStop::Stuck) => Turn::Stuck,
-            Err(PrintStop::OutFault) => Turn::OutFault,
+            Err(PrintStop::Stuck) => Pace::Stuck,
+            Err(PrintStop::OutFault) => Pace::OutFault,
         }
     }
 

@@ -79,25 +79,29 @@ fn turns<O: Sink>(
     ensures count { O.faults out.old ≤ O.faults out.new }
 {
     for i in 0..steps {
-        let turn = machine.turn(code, out)?;
-        match turn {
-            Turn::Went => {}
-            Turn::Done {
-                text,
-                copies,
-                nodes,
-            } => {
+        match machine.turn(code, out) {
+            Ok(Turn::Went) => {}
+            Ok(
+                Turn::Done {
+                    text,
+                    copies,
+                    nodes,
+                },
+            ) => {
                 return Ok(RunEnd::Done {
                     text,
                     copies,
                     nodes,
                 });
             }
-            Turn::OutFault => {
+            Ok(Turn::OutFault) => {
                 return Ok(RunEnd::OutFault);
             }
-            Turn::Stuck => {
+            Ok(Turn::Stuck) => {
                 return Ok(RunEnd::Stuck);
+            }
+            Err(NoMemory) => {
+                return Err(NoMemory);
             }
         }
     }
