@@ -1,8 +1,10 @@
 -- what the functions owe
 pub mod PutLemmas
+pub mod JoinLemmas
+pub mod LostLemmas
 pub mod WalkLemmas
 -- sets, and what is live
-mod SetLemmas
+pub mod SetLemmas
 mod UseLemmas
 mod PathLemmas
 mod LiveLemmas
