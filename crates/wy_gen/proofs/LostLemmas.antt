@@ -1,9 +1,14 @@
 -- Between two variables that are lost there is none.
 use Rattle.std.proofs.Common.{◌≡◌, ◌⊎◌, inl, inr, ◌<◌, ◌≤◌, ℕ, zero, suc, Bool, true, false, not, ◌&&◌, cond, List, [], ◌∷◌, ◌++◌, refl, sym, ap, ◌∙◌, subst, arith}
 use Rattle.std.proofs.lemmas.List.{append-nil}
-use Rattle.wy_live.specs.Sets.{Variables, is_lost, NoneLost}
-use Rattle.wy_live.proofs.SetLemmas.{either, at_or_past}
+use Rattle.wy_live.specs.Sets.{Variables}
+use Rattle.wy_live.specs.Lost.{is_lost, NoneLost}
+use Rattle.wy_live.proofs.LostLemmas.{at_or_past}
 use Rattle.wy_compiled.specs.Expressions.{lost_below}
+
+either : {A B C : Type 0} → (A → C) → (B → C) → A ⊎ B → C
+either f g (inl a) = f a
+either f g (inr b) = g b
 
 none_more : (s t : Variables) (m n : ℕ) → m ≤ n → NoneLost s t m n → lost_below s t n ≡ lost_below s t m
 none_more s t m zero le f = let e : zero ≡ m = omega arith in ap (λ k. lost_below s t k) e

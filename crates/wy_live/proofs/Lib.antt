@@ -4,7 +4,7 @@ pub mod JoinLemmas
 pub mod LostLemmas
 pub mod WalkLemmas
 -- sets, and what is live
-pub mod SetLemmas
+mod SetLemmas
 mod UseLemmas
 mod PathLemmas
 mod LiveLemmas

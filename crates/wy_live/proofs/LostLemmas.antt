@@ -1,7 +1,14 @@
 -- None is lost so far, block by block and bit by bit.
-use Rattle.std.proofs.Common.{◌≡◌, ◌⊎◌, inl, inr, ◌<◌, ◌≤◌, ℕ, suc, Bool, true, false, not, ◌&&◌, ◌||◌, refl, sym, ap, ◌∙◌, subst, arith}
-use Rattle.wy_live.specs.Sets.{Variables, has, is_lost, NoneLost, NoneSet}
-use Rattle.wy_live.proofs.SetLemmas.{either, at_or_past}
+use Rattle.std.proofs.Common.{◌≡◌, ◌⊎◌, inl, inr, ◌<◌, ◌≤◌, ℕ, zero, suc, Bool, true, false, not, ◌&&◌, ◌||◌, refl, sym, ap, ◌∙◌, subst, arith}
+use Rattle.wy_live.specs.Sets.{Variables, has}
+use Rattle.wy_live.specs.Lost.{is_lost, NoneLost, NoneSet}
+use Rattle.wy_live.proofs.SetLemmas.{either}
+
+pub at_or_past : (x n : ℕ) → (x < n) ⊎ (n ≤ x)
+at_or_past zero zero = inr (omega arith)
+at_or_past zero (suc n) = inl (omega arith)
+at_or_past (suc x) zero = inr (omega arith)
+at_or_past (suc x) (suc n) = either (λ (h : x < n). inl (omega arith)) (λ (h : n ≤ x). inr (omega arith)) (at_or_past x n)
 
 pub none_nowhere : (s t : Variables) (n : ℕ) → NoneLost s t n n
 none_nowhere s t n x from to = absurd (omega arith)

@@ -56,7 +56,7 @@ has-nothing x = refl
 
 -- ---- joins
 
-pub length-either : (s t : Variables) (n : ℕ) → length (either_bits s t n) ≡ n
+length-either : (s t : Variables) (n : ℕ) → length (either_bits s t n) ≡ n
 length-either s t zero = refl
 length-either s t (suc n) = let h = length-either s t n in omega (arith, length-append {A = Bool}, h)
 
@@ -79,14 +79,7 @@ longer_left n m = by_truth (nat_lt n m) (λ t. nat_lt n m ≡ t → n ≤ cond t
 longer_right : (n m : ℕ) → m ≤ longer n m
 longer_right n m = by_truth (nat_lt n m) (λ t. nat_lt n m ≡ t → m ≤ cond t m n) (λ _ _. omega arith) (λ _ h. lt_false n m h) refl
 
--- the longer of two is the one that isn't shorter
-pub longer_of : (n m : ℕ) → m ≤ n → longer n m ≡ n
-longer_of n m h = by_truth (nat_lt n m) (λ t. nat_lt n m ≡ t → cond t m n ≡ n) (λ _ e. let lt = lt_true n m e in absurd (omega arith)) (λ _ _. refl) refl
-
-pub longer_turned : (n m : ℕ) → m ≤ n → longer m n ≡ n
-longer_turned n m h = by_truth (nat_lt m n) (λ t. nat_lt m n ≡ t → cond t n m ≡ n) (λ _ _. refl) (λ _ e. let le = lt_false m n e in omega arith) refl
-
-pub at_or_past : (x n : ℕ) → (x < n) ⊎ (n ≤ x)
+at_or_past : (x n : ℕ) → (x < n) ⊎ (n ≤ x)
 at_or_past x n = by_truth (nat_lt x n) (λ t. nat_lt x n ≡ t → (x < n) ⊎ (n ≤ x)) (λ _ e. inl (lt_true x n e)) (λ _ e. inr (lt_false x n e)) refl
 
 pub has-joined : (s t : Variables) (x : ℕ) → has (joined s t) x ≡ (has s x || has t x)

@@ -1,5 +1,5 @@
 -- Sets of variables, a bit for each of the first ones.
-use Rattle.std.specs.Prelude.{◌≡◌, ◌≤◌, ◌<◌, ℕ, zero, suc, Bool, true, false, not, ◌&&◌, ◌||◌, nat_lt, cond, List, [], ◌∷◌, ◌++◌, length, slice_index_or}
+use Rattle.std.specs.Prelude.{ℕ, zero, suc, Bool, true, false, ◌||◌, nat_lt, cond, List, [], ◌∷◌, ◌++◌, length, slice_index_or}
 
 abbrev pub Variables : Type 0
 Variables = List Bool
@@ -37,15 +37,3 @@ either_bits s t (suc n) = either_bits s t n ++ (has s n || has t n) ∷ []
 -- what is in one of both
 abbrev pub joined : Variables → Variables → Variables
 joined s t = either_bits s t (longer (length s) (length t))
-
--- the variable is in the one set and not in the other
-abbrev pub is_lost : Variables → Variables → ℕ → Bool
-is_lost s t x = has s x && not (has t x)
-
--- no variable between these is
-abbrev pub NoneLost : Variables → Variables → ℕ → ℕ → Type 0
-NoneLost s t from to = (x : ℕ) → from ≤ x → x < to → is_lost s t x ≡ false
-
--- no variable between these is in the set
-abbrev pub NoneSet : Variables → ℕ → ℕ → Type 0
-NoneSet s from to = (x : ℕ) → from ≤ x → x < to → has s x ≡ false

@@ -1,5 +1,6 @@
 //! Sets of variables.
 ghost use Rattle.std.specs.Prelude.{◌≡◌, ◌≤◌, ◌<◌, ◌||◌, ℕ, [], true, false, IfOk, OnOk, length};
+ghost use Rattle.wy_live.specs.Lost as lost;
 ghost use Rattle.wy_live.specs.Sets as spec;
 
 use std::alloc::{AllocError, Global};
@@ -113,7 +114,6 @@ pub fn joined(alloc: Global, first: &Variables, second: &Variables) -> Result<Va
 }
 
 /// The longer set with what is in the shorter one.
-#[tactic(auto, using(crate::proofs::JoinLemmas::joined_of, crate::proofs::JoinLemmas::turned_of))]
 fn merged(alloc: Global, longer: &[bool], shorter: &[bool]) -> Result<Variables, AllocError>
     requires longer { length shorter.now ≤ length longer.now }
     ensures value { IfOk result (λ s. s ≡ spec.joined longer.now shorter.now) }
@@ -145,8 +145,8 @@ pub fn next_lost(one: &Variables, other: &Variables, from: usize) -> usize
     requires within { from ≤ length one.now }
     ensures behind { from ≤ result }
     ensures within { result ≤ length one.now }
-    ensures between { spec.NoneLost one.now other.now from result }
-    ensures lost { result < length one.now → spec.is_lost one.now other.now result ≡ true }
+    ensures between { lost.NoneLost one.now other.now from result }
+    ensures found { result < length one.now → lost.is_lost one.now other.now result ≡ true }
 {
     next_of(one.bits.as_slice(), other.bits.as_slice(), from)
 }
@@ -157,8 +157,8 @@ fn next_of(one: &[bool], other: &[bool], from: usize) -> usize
     requires within { from ≤ length one.now }
     ensures behind { from ≤ result }
     ensures within { result ≤ length one.now }
-    ensures between { spec.NoneLost one.now other.now from result }
-    ensures lost { result < length one.now → spec.is_lost one.now other.now result ≡ true }
+    ensures between { lost.NoneLost one.now other.now from result }
+    ensures found { result < length one.now → lost.is_lost one.now other.now result ≡ true }
 {
     let mut at = from;
     while at < one.len() {
@@ -188,15 +188,15 @@ fn lost_within(one: &[bool], other: &[bool], at: usize, end: usize) -> usize
     requires within { end ≤ length one.now }
     ensures behind { at ≤ result }
     ensures within { result ≤ end }
-    ensures between { spec.NoneLost one.now other.now at result }
-    ensures lost { result < end → spec.is_lost one.now other.now result ≡ true }
+    ensures between { lost.NoneLost one.now other.now at result }
+    ensures found { result < end → lost.is_lost one.now other.now result ≡ true }
 {
     if !is_any_lost(one, other, at, end) {
         return end;
     }
     for variable in at..end {
-        let lost = one[variable] & !is_set(other, variable);
-        if lost {
+        let is_gone = one[variable] & !is_set(other, variable);
+        if is_gone {
             return variable;
         }
     }
@@ -218,7 +218,7 @@ fn is_set(bits: &[bool], index: usize) -> bool
 fn is_any_lost(one: &[bool], other: &[bool], at: usize, end: usize) -> bool
     requires block { at ≤ end }
     requires within { end ≤ length one.now }
-    ensures none { result ≡ false → spec.NoneLost one.now other.now at end }
+    ensures none { result ≡ false → lost.NoneLost one.now other.now at end }
 {
     if end <= other.len() {
         return is_any_apart(one, other, at, end);
@@ -232,13 +232,13 @@ fn is_any_apart(one: &[bool], other: &[bool], at: usize, end: usize) -> bool
     requires block { at ≤ end }
     requires one { end ≤ length one.now }
     requires other { end ≤ length other.now }
-    ensures none { result ≡ false → spec.NoneLost one.now other.now at end }
+    ensures none { result ≡ false → lost.NoneLost one.now other.now at end }
 {
-    let mut lost = false;
+    let mut any = false;
     for i in at..end {
-        lost |= one[i] & !other[i];
+        any |= one[i] & !other[i];
     }
-    lost
+    any
 }
 
 /// Whether a bit of the block is set; without a branch for each.
@@ -246,11 +246,11 @@ fn is_any_apart(one: &[bool], other: &[bool], at: usize, end: usize) -> bool
 fn is_any_set(bits: &[bool], at: usize, end: usize) -> bool
     requires block { at ≤ end }
     requires within { end ≤ length bits.now }
-    ensures none { result ≡ false → spec.NoneSet bits.now at end }
+    ensures none { result ≡ false → lost.NoneSet bits.now at end }
 {
-    let mut set = false;
+    let mut any = false;
     for i in at..end {
-        set |= bits[i];
+        any |= bits[i];
     }
-    set
+    any
 }

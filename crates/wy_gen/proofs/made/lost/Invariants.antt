@@ -1,5 +1,5 @@
 use Rattle.std.proofs.Common.{◌≡◌, ◌<◌, ◌≤◌, ◌-◌, true, length}
-use Rattle.wy_live.specs.Sets.{is_lost}
+use Rattle.wy_live.specs.Lost.{is_lost}
 use Rattle.wy_compiled.specs.Expressions as spec
 use Rattle.wy_gen.proofs.made.lost.Given as goal
 

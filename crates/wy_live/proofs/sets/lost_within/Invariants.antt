@@ -1,4 +1,4 @@
-use Rattle.wy_live.specs.Sets.{NoneLost}
+use Rattle.wy_live.specs.Lost.{NoneLost}
 use Rattle.wy_live.proofs.sets.lost_within.Given as goal
 
 abbrev pub invariant-loop-variable : goal.invariant-loop-variable

@@ -1,5 +1,5 @@
 use Rattle.std.proofs.Common.{◌≤◌, ◌-◌, length}
-use Rattle.wy_live.specs.Sets.{NoneLost}
+use Rattle.wy_live.specs.Lost.{NoneLost}
 use Rattle.wy_live.proofs.sets.next_of.Given as goal
 
 abbrev pub invariant-loop-at : goal.invariant-loop-at
