@@ -11,7 +11,7 @@ use Rattle.wy_vc_names.specs.Described.{IsDescribed, setting}
 use Rattle.wy_vc_operations.specs.Growing.{AreBelow, AreSlotsAt}
 use Rattle.wy_vc_terms.specs.Made.{IsUnderway}
 use Rattle.wy_vc_terms.specs.Wholes.{tys_of, record_parts, clause_parts}
-use Rattle.wy_vc_terms.proofs.values.+values.Given as goal
+use Rattle.wy_vc_terms.proofs.+values.Given as goal
 
 -- how deep calls may still go
 abbrev pub decreases-holds_to : goal.decreases-holds_to
