@@ -23,7 +23,7 @@ use Rattle.wy_lin.proofs.SeenLemmas.{NamesOnce, plus-seen, all_none, all_more}
 use Rattle.wy_facts.specs.Made.{made_two, is_at_most}
 use Rattle.wy_eliminate.specs.Division.{quotient, lowered}
 use Rattle.wy_eliminate.specs.Validity.{divides, is_bare}
-use Rattle.wy_closed_sums.proofs.QuotientLemmas.{quotient_more, times_opposite}
+use Rattle.wy_bounds.proofs.QuotientLemmas.{quotient_more, times_opposite}
 use Rattle.wy_valid.specs.Literals.{only_if}
 use Rattle.wy_valid.specs.Sums as sums
 use Rattle.wy_valid.specs.Sums.{zero_term, divided, added_up, total_of, cut_bound, cut_of}

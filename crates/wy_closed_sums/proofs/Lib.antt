@@ -3,12 +3,9 @@ pub mod TwiceLemmas
 pub mod TidyLemmas
 pub mod RefutingLemmas
 -- forms of literals
-pub mod QuotientLemmas
 pub mod CutLemmas
 pub mod VariableLemmas
-pub mod PlaceLemmas
 pub mod PresentLemmas
-pub mod PlacedLemmas
 -- nodes that close
 pub mod ClosedLemmas
 pub mod ReplacedLemmas

@@ -18,7 +18,7 @@ use Rattle.wy_search.specs.Standing.{Standing, have_common, with_unbound, in_lit
 use Rattle.wy_search.specs.Classes.{place_from, label_of, same_label, in_one_class, are_congruent, relabelled, joined, with_equal, with_literal, with_equations, with_congruent, with_all_congruent, rounds, numbers_from, classes}
 use Rattle.wy_search.specs.Bounds.{number_or_end, numbered_part, numbered, first_with, first_of_class}
 use Rattle.wy_least_classes.specs.Least.{IsAmong}
-use Rattle.wy_closed_sums.proofs.PlaceLemmas.{place_below, place_same, placed, length_numbers}
+use Rattle.wy_least_classes.proofs.PlaceLemmas.{place_below, place_same, placed, length_numbers}
 use Rattle.wy_least_classes.proofs.SoundLemmas.{ArePair, ArePairs, Relates, related_classes}
 use Rattle.wy_closed_sums.proofs.VariableLemmas.{is_end, is_one, is_two, is_variable, none_number, val_is}
 

@@ -24,11 +24,11 @@ use Rattle.wy_eliminate.proofs.ValidityLemmas.{common-divides, common-bare}
 use Rattle.wy_search.specs.Standing.{standing_in, in_literals, standing, present}
 use Rattle.wy_search.specs.Classes.{place_from, classes}
 use Rattle.wy_search.specs.Bounds.{number_or_end, numbered_part, numbered, first_of_class, order_form, taking_away, takings, named_from, all_fit, stated_sum, Replaced, gone, given, refutes, leaves, by_two, by_common, by_sum, replaced_by, replaced, with_form, replaced_forms, is_refuting, is_leaving, any_so, forms_in, Ending, refuted, consistent, crowded, wide, ending_of, ending_by, ending}
-use Rattle.wy_closed_sums.proofs.PlaceLemmas.{place_below, place_same}
+use Rattle.wy_least_classes.proofs.PlaceLemmas.{place_below, place_same}
 use Rattle.wy_sound_certificates.proofs.Basics.{or_cases}
 use Rattle.wy_sound_certificates.proofs.MadeLemmas.{IsFormula}
 use Rattle.wy_sound_certificates.proofs.NodeLemmas.{AreSortedLiterals, IsSortedNode}
-use Rattle.wy_closed_sums.proofs.PlacedLemmas.{AreAmong, AreOnes, literals_among, literal_ones, one_literal, has_a_place}
+use Rattle.wy_sound_search.proofs.PlacedLemmas.{AreAmong, AreOnes, literals_among, literal_ones, one_literal, has_a_place}
 use Rattle.wy_chains.specs.Chains.{HasLiterals}
 use Rattle.wy_chains.proofs.LiteralLemmas.{has_self, has_more, has_first, has_later}
 use Rattle.wy_chains.proofs.LinkLemmas.{AreLinked}

@@ -1,5 +1,5 @@
 mod SizeLemmas
-mod PlaceLemmas
+pub mod PlaceLemmas
 mod RoundLemmas
 pub mod SoundLemmas
 mod LeastLemmas
