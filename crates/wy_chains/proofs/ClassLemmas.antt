@@ -17,7 +17,7 @@ use Rattle.wy_sound_certificates.proofs.MadeLemmas.{IsFormula}
 use Rattle.wy_sound_certificates.proofs.ChainLemmas.{ends_sorts}
 use Rattle.wy_sound_certificates.proofs.NodeLemmas.{AreSortedLiterals, IsSortedNode}
 use Rattle.wy_chains.specs.Chains.{HasLiterals}
-use Rattle.wy_chains.proofs.StandingLemmas.{node_sorted}
+use Rattle.wy_sound_search.proofs.StandingLemmas.{node_sorted}
 use Rattle.wy_chains.proofs.LiteralLemmas.{literals_are, both_true, first_true, second_true, has_self, has_more}
 use Rattle.wy_chains.proofs.LinkLemmas.{AreLinked, joined_turned, arguments_turned, alike, linked_turned, linked_more, linked_argument, equation_joins}
 use Rattle.wy_chains.proofs.ChainLemmas.{Steps, Goes, chained}

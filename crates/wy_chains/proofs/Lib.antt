@@ -1,7 +1,6 @@
 -- literals, and what folding makes of an equation
 pub mod LiteralLemmas
 mod MadeLemmas
-mod StandingLemmas
 -- chains
 pub mod LinkLemmas
 pub mod ChainLemmas
