@@ -20,6 +20,7 @@ use Rattle.wy_pieces.specs.declared.steps.Step.TheVariants.{Does, GoesOn, GoesOn
 use Rattle.wy_pieces.specs.Steps.{clear, dropped, fork, turns, registers_from}
 use Rattle.wy_tables.specs.Tables.{target, number_of, shape_number, names_in}
 use Rattle.wy_compiled.specs.TypeTests.{test}
+use Rattle.wy_compiled.specs.Operands.{variable_in, read, first_read, second_read, standing, unless_read, plain_or_read}
 
 -- ---- what stops being live
 
@@ -77,44 +78,44 @@ abbrev pub release_unless : Bool → ℕ → List Step
 release_unless true r = []
 release_unless false r = clear (r ∷ [])
 
-abbrev pub arith : Arithmetic → ℕ → List Step
-arith o d = Does (instr.Arith d o d (suc d)) ∷ []
+abbrev pub arith : Arithmetic → ℕ → ℕ → ℕ → List Step
+arith o d l r = Does (instr.Arith d o l r) ∷ []
 
-abbrev pub compare : Comparison → ℕ → List Step
-compare o d = Does (instr.Compare d o d (suc d)) ∷ []
+abbrev pub compare : Comparison → ℕ → ℕ → ℕ → List Step
+compare o d l r = Does (instr.Compare d o l r) ∷ []
 
-abbrev pub equal : Bool → ℕ → List Step
-equal plain d = Does (instr.Equal d d (suc d)) ∷ release_unless plain (suc d)
+abbrev pub equal : Bool → ℕ → ℕ → ℕ → List Step
+equal plain d l r = Does (instr.Equal d l r) ∷ release_unless plain r
 
--- the instructions of an operator that evaluates both operands, which stand in d and the register behind it
-abbrev pub operator : Op → ℕ → Bool → List Step
-operator op.Add d plain = arith arithmetic.Add d
-operator op.Sub d plain = arith arithmetic.Sub d
-operator op.Mul d plain = arith arithmetic.Mul d
-operator op.Div d plain = arith arithmetic.Div d
-operator op.Mod d plain = arith arithmetic.Mod d
-operator op.Equal d plain = equal plain d
-operator op.Less d plain = compare comparison.Less d
-operator op.LessEqual d plain = compare comparison.LessEqual d
-operator op.Greater d plain = compare comparison.Greater d
-operator op.GreaterEqual d plain = compare comparison.GreaterEqual d
-operator op.And d plain = []
-operator op.Or d plain = []
+-- the instruction of an operator on the operands in the registers l and r, with what is released behind it; what comes of it comes into d
+abbrev pub operator : Op → ℕ → ℕ → ℕ → Bool → List Step
+operator op.Add d l r plain = arith arithmetic.Add d l r
+operator op.Sub d l r plain = arith arithmetic.Sub d l r
+operator op.Mul d l r plain = arith arithmetic.Mul d l r
+operator op.Div d l r plain = arith arithmetic.Div d l r
+operator op.Mod d l r plain = arith arithmetic.Mod d l r
+operator op.Equal d l r plain = equal plain d l r
+operator op.Less d l r plain = compare comparison.Less d l r
+operator op.LessEqual d l r plain = compare comparison.LessEqual d l r
+operator op.Greater d l r plain = compare comparison.Greater d l r
+operator op.GreaterEqual d l r plain = compare comparison.GreaterEqual d l r
+operator op.And d l r plain = []
+operator op.Or d l r plain = []
 
 -- the operator on both operands; `&&` and `||` leave the second out, and release what it alone would have used. `&&` does so behind the second operand too, where that has given them up
-abbrev pub operate : Op → ℕ → List Step → List Step → Bool → List Step
-operate op.Add d right skipped plain = right ++ operator op.Add d plain
-operate op.Sub d right skipped plain = right ++ operator op.Sub d plain
-operate op.Mul d right skipped plain = right ++ operator op.Mul d plain
-operate op.Div d right skipped plain = right ++ operator op.Div d plain
-operate op.Mod d right skipped plain = right ++ operator op.Mod d plain
-operate op.Equal d right skipped plain = right ++ operator op.Equal d plain
-operate op.Less d right skipped plain = right ++ operator op.Less d plain
-operate op.LessEqual d right skipped plain = right ++ operator op.LessEqual d plain
-operate op.Greater d right skipped plain = right ++ operator op.Greater d plain
-operate op.GreaterEqual d right skipped plain = right ++ operator op.GreaterEqual d plain
-operate op.And d right skipped plain = fork d right [] ++ skipped
-operate op.Or d right skipped plain = fork d skipped right
+abbrev pub operate : Op → ℕ → ℕ → ℕ → List Step → List Step → Bool → List Step
+operate op.Add d l r right skipped plain = right ++ operator op.Add d l r plain
+operate op.Sub d l r right skipped plain = right ++ operator op.Sub d l r plain
+operate op.Mul d l r right skipped plain = right ++ operator op.Mul d l r plain
+operate op.Div d l r right skipped plain = right ++ operator op.Div d l r plain
+operate op.Mod d l r right skipped plain = right ++ operator op.Mod d l r plain
+operate op.Equal d l r right skipped plain = right ++ operator op.Equal d l r plain
+operate op.Less d l r right skipped plain = right ++ operator op.Less d l r plain
+operate op.LessEqual d l r right skipped plain = right ++ operator op.LessEqual d l r plain
+operate op.Greater d l r right skipped plain = right ++ operator op.Greater d l r plain
+operate op.GreaterEqual d l r right skipped plain = right ++ operator op.GreaterEqual d l r plain
+operate op.And d l r right skipped plain = fork d right [] ++ skipped
+operate op.Or d l r right skipped plain = fork d skipped right
 
 -- the register of the second operand: that of the first, where the first stands no more
 abbrev pub right_register : Op → ℕ → ℕ
@@ -156,9 +157,9 @@ is_test c ty d = test c ty d (suc d) (suc (suc d)) ++ (dropped d (suc (suc d)) +
 
 -- ---- parts put together
 
--- the number in d is taken from 0
-abbrev pub negated : ℕ → List Step
-negated d = Does (instr.Const (suc d) (scalar.Int (pos 0))) ∷ Does (instr.Arith d arithmetic.Sub (suc d) d) ∷ []
+-- the number in r is taken from 0, and what comes of it comes into d
+abbrev pub negated : ℕ → ℕ → List Step
+negated d r = Does (instr.Const (suc d) (scalar.Int (pos 0))) ∷ Does (instr.Arith d arithmetic.Sub (suc d) r) ∷ []
 
 -- an array of so many items, which stand in the registers from d on
 abbrev pub list : ℕ → ℕ → List Step
@@ -205,13 +206,18 @@ abbrev mutual
   -- the last use moves
   code c (VarExpr at x) s d = Does (cond (has s x) (instr.Share d x) (instr.Move d x)) ∷ []
   code c (CallExpr at f args) s d = codes c args s d ++ call (target c.results f) f d (count_of args)
-  code c (NegExpr at a) s d = code c a s d ++ negated d
-  code c (NotExpr at a) s d = code c a s d ++ Does (instr.Not d d) ∷ []
-  code c (LenExpr at a) s d = code c a s d ++ Does (instr.Len d d) ∷ []
-  code c (BinaryExpr at o a b) s d = code c a (before b s) d ++ operate o d (code c b s (right_register o d)) (released (before b s) s) (is_plain b)
+  code c (NegExpr at a) s d = unless_read (variable_in a) (code c a s d) ++ negated d (standing (variable_in a) d)
+  code c (NotExpr at a) s d = unless_read (variable_in a) (code c a s d) ++ Does (instr.Not d (standing (variable_in a) d)) ∷ []
+  code c (LenExpr at a) s d = unless_read (read a s) (code c a s d) ++ Does (instr.Len d (standing (read a s) d)) ∷ []
+  code c (BinaryExpr at o a b) s d =
+      unless_read (first_read o a b s) (code c a (before b s) d)
+      ++ operate o d (standing (first_read o a b s) d) (standing (second_read o b s) (right_register o d)) (unless_read (second_read o b s) (code c b s (right_register o d)))
+          (released (before b s) s) (plain_or_read (second_read o b s) (is_plain b))
   code c (IsExpr at a ty) s d = code c a s d ++ is_test c ty d
-  code c (IndexExpr at a b) s d = code c a (before b s) d ++ (code c b s (suc d) ++ Does (instr.Get d d (suc d)) ∷ [])
-  code c (FieldExpr at a name) s d = code c a s d ++ Does (instr.Field d d (number_of name c.table.names)) ∷ []
+  code c (IndexExpr at a b) s d =
+      unless_read (read a s) (code c a (before b s) d)
+      ++ (unless_read (variable_in b) (code c b s (suc d)) ++ Does (instr.Get d (standing (read a s) d) (standing (variable_in b) (suc d))) ∷ [])
+  code c (FieldExpr at a name) s d = unless_read (read a s) (code c a s d) ++ Does (instr.Field d (standing (read a s) d) (number_of name c.table.names)) ∷ []
   code c (ListExpr at items) s d = codes c items s d ++ list (count_of items) d
   code c (RepeatExpr at a b) s d = code c a (before b s) d ++ (code c b s (suc d) ++ Does (instr.Fill d d (suc d)) ∷ [])
   code c (RecordExpr at fs) s d = field_codes c fs s d ++ record_of c fs d
