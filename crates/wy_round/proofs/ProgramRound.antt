@@ -43,7 +43,7 @@ use Rattle.wy_round.proofs.ExprGives.{gives-level}
 use Rattle.wy_round.proofs.Lines.{Line, next_at}
 use Rattle.wy_round.proofs.Lines.Line.{fresh as line_at, blank}
 use Rattle.wy_round.proofs.LineRuns.{lines_text}
-use Rattle.wy_round.proofs.StmtLines.{Follows, follows-good, opened, left, left-row, line-ends, row-text, blank-text, lines-append}
+use Rattle.wy_round.proofs.StmtLines.{Follows, follows-good, opened, left, left-begun, line-ends, begun-text, blank-text, lines-append}
 use Rattle.wy_round.proofs.StmtOne.{word_gap, behind-word, item-body}
 use Rattle.wy_round.proofs.StmtLoops.{AnyBlock}
 use Rattle.wy_round.proofs.StmtNests.{again-nest}
@@ -88,7 +88,7 @@ import_rows (m ∷ ms) = line_at 0 (import_pieces m.0) ∷ import_rows ms
 imports-spelled : (ms : List (List ℕ × ℕ)) → Names ms → lines_text (import_rows ms) ≡ import_lines ms
 imports-spelled [] h = refl
 imports-spelled (m ∷ ms) h =
-    row-text 0 (import_pieces m.0) (import_rows ms)
+    begun-text 0 (import_pieces m.0) (import_rows ms)
     ∙ (ap₂ (λ (a b : List ℕ). a ++ 10 ∷ b) (import-spelled m.0 h.0) (imports-spelled ms h.1)
     ∙ (append_assoc (codes "import ") m.0 (10 ∷ import_lines ms) ∙ ap (λ (l : List ℕ). codes "import " ++ l) (sym (append_assoc m.0 line_end (import_lines ms)))
     ∙ sym (append_assoc (codes "import ") (m.0 ++ line_end) (import_lines ms))))
@@ -113,7 +113,7 @@ imports-read p (m ∷ ms) acc ls h f =
     let end = p + size (letters (import_pieces m.0)) in
     let place = next_at end rest in
     let text_is : left p 0 (line_at 0 (import_pieces m.0) ∷ rest) ≡ token k.Import p ∷ token (k.Name m.0) name_at ∷ token k.LineEnd end ∷ left place 0 rest =
-    left-row p 0 (import_pieces m.0) rest ∙ ap (λ (l : List Token). token k.Import p ∷ token (k.Name m.0) name_at ∷ l) (line-ends end place 0 rest (imports-follow ms ls h.1 f)) in
+    left-begun p 0 (import_pieces m.0) rest ∙ ap (λ (l : List Token). token k.Import p ∷ token (k.Name m.0) name_at ∷ l) (line-ends end place 0 rest (imports-follow ms ls h.1 f)) in
     let one : List ℕ × ℕ = (m.0, name_at) in
     let q = imports-read place ms (acc ++ one ∷ []) ls h.1 f in
     let last : List Token = token k.LineEnd end ∷ left place 0 rest in
@@ -150,7 +150,7 @@ decl_rows rule (x ∷ xs) = line_at 0 x.again.first ∷ (x.again.rest ++ more_ro
 
 row-spelled : (rule : R D) (x : ADecl rule) (ls : List Line) → lines_text (line_at 0 x.again.first ∷ (x.again.rest ++ ls)) ≡ decl_text x.decl_is ++ lines_text ls
 row-spelled rule x ls =
-    row-text 0 x.again.first (x.again.rest ++ ls)
+    begun-text 0 x.again.first (x.again.rest ++ ls)
     ∙ (ap (λ (l : List ℕ). text_of x.again.first ++ 10 ∷ l) (lines-append x.again.rest ls)
     ∙ (sym (append_assoc (text_of x.again.first) (10 ∷ lines_text x.again.rest) (lines_text ls)) ∙ ap (λ (l : List ℕ). l ++ lines_text ls) x.again.spelled))
 
@@ -196,7 +196,7 @@ decls-more rule p x xs acc h n le next =
     let rest : List Line = more_rows rule xs in
     let r = x.again.reads p rest (more-follow rule xs) in
     let q = next r.place (max h r.height) (acc ++ r.tree ∷ []) in
-    let text_is : left p 0 (line_at 0 x.again.first ∷ (x.again.rest ++ rest)) ≡ opened p x.again.first 0 (x.again.rest ++ rest) = left-row p 0 x.again.first (x.again.rest ++ rest) in
+    let text_is : left p 0 (line_at 0 x.again.first ∷ (x.again.rest ++ rest)) ≡ opened p x.again.first 0 (x.again.rest ++ rest) = left-begun p 0 x.again.first (x.again.rest ++ rest) in
     let room : has_place n ≡ true = grind (arith, le) in
     let one = capped (has_place n) rule (opened p x.again.first 0 (x.again.rest ++ rest)) (Low r.tree r.height) (left r.place 0 rest) room r.reads in
     let turn : (NextDecl true rule (Low acc h, n)).reads (opened p x.again.first 0 (x.again.rest ++ rest)) (Low (acc ++ r.tree ∷ []) (max h r.height), n + 1) (left r.place 0 rest) =

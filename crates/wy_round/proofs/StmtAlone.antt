@@ -14,7 +14,7 @@ use Rattle.wy_round.proofs.Lines.{Line, behind, next_at}
 use Rattle.wy_round.proofs.Lines.Line.{fresh}
 use Rattle.wy_round.proofs.LineRuns.{lines_text, source_tokens, source-lines}
 use Rattle.wy_round.proofs.StmtShown.{View}
-use Rattle.wy_round.proofs.StmtLines.{Follows, left, left-row, row-text}
+use Rattle.wy_round.proofs.StmtLines.{Follows, left, left-begun, begun-text}
 use Rattle.wy_round.proofs.StmtOne.{StmtAgain}
 use Rattle.wy_round.proofs.StmtNests.{gives-statement_on}
 
@@ -22,7 +22,7 @@ use Rattle.wy_round.proofs.StmtNests.{gives-statement_on}
 pub lines-cut : (ps : List Piece) (ls : List Line) → Follows 0 (fresh 0 ps ∷ ls) → Tokens (lines_text (fresh 0 ps ∷ ls)) (left 0 0 (fresh 0 ps ∷ ls))
 lines-cut ps ls f =
     let there : size (letters ps) ≡ 0 + size (letters ps) = omega arith in
-    let same : source_tokens ps ls ≡ left 0 0 (fresh 0 ps ∷ ls) = ap (λ (z : ℕ). tokens_from 0 ps ++ behind z (next_at z ls) 0 ls) there ∙ sym (left-row 0 0 ps ls) in
+    let same : source_tokens ps ls ≡ left 0 0 (fresh 0 ps ∷ ls) = ap (λ (z : ℕ). tokens_from 0 ps ++ behind z (next_at z ls) 0 ls) there ∙ sym (left-begun 0 0 ps ls) in
     subst (λ (ts : List Token). Tokens (lines_text (fresh 0 ps ∷ ls)) ts) same (source-lines ps ls f.1 f.2 f.3)
 
 alone : (rule : R S) (s : Stmt) → StmtAgain rule s → StatementAgain rule s
@@ -30,7 +30,7 @@ alone rule s a =
     let lines : List Line = a.rest 0 ++ [] in
     let follows : Follows 0 (fresh 0 a.first ∷ lines) = (omega arith, a.is_body, a.own, a.good 0 [] tt) in
     let r = a.reads 0 0 [] tt in
-    let text_is = row-text 0 a.first lines ∙ (ap (λ (l : List Line). text_of a.first ++ 10 ∷ lines_text l) (append-nil (a.rest 0)) ∙ a.spelled 0) in
+    let text_is = begun-text 0 a.first lines ∙ (ap (λ (l : List Line). text_of a.first ++ 10 ∷ lines_text l) (append-nil (a.rest 0)) ∙ a.spelled 0) in
     record {
       tokens = left 0 0 (fresh 0 a.first ∷ lines);
       cut = subst (λ (l : List ℕ). Tokens l (left 0 0 (fresh 0 a.first ∷ lines))) text_is (lines-cut a.first lines follows);
@@ -38,7 +38,7 @@ alone rule s a =
       same = ap (λ (v : View). v.0) r.same;
       same_text = λ margin. ap (λ (v : View). v.1.text margin) r.same;
       end = r.place;
-      reads = subst (λ (i : List Token). rule.reads i (Low r.tree 0) (left r.place 0 [])) (sym (left-row 0 0 a.first lines)) r.reads;
+      reads = subst (λ (i : List Token). rule.reads i (Low r.tree 0) (left r.place 0 [])) (sym (left-begun 0 0 a.first lines)) r.reads;
     }
 
 pub statement-again : (d w : ℕ) (i : List Token) (s : Stmt) (h : ℕ) (j : List Token) → Each IsProper i → (StatementOn d w).reads i (Low s h) j → StatementAgain (StatementOn d w) s

@@ -15,7 +15,7 @@ use Rattle.wy_round.proofs.Lines.{Line, margin, behind, next_at, Good}
 use Rattle.wy_round.proofs.Lines.Line.{fresh}
 use Rattle.wy_round.proofs.LineRuns.{lines_text}
 use Rattle.wy_round.proofs.StmtShown.{View, view}
-use Rattle.wy_round.proofs.StmtLines.{Follows, opened, left, left-row, row-text, lines-append}
+use Rattle.wy_round.proofs.StmtLines.{Follows, opened, left, left-begun, begun-text, lines-append}
 use Rattle.wy_round.proofs.StmtOne.{StmtAgain, colon, colon-text}
 use Rattle.wy_round.proofs.StmtHeads.{head_first, head_rest, head-good, clause_bytes, head-text, following, head-tokens, Clauses, clauses-colon}
 
@@ -47,7 +47,7 @@ follows-lines rule n (x ∷ xs) ls f =
 pub lines-spelled : (rule : R S) (n : ℕ) (xs : List (AStmt rule)) → lines_text (all_lines rule n xs) ≡ lines (margin n) (map shown_stmt (stmts_of rule xs))
 lines-spelled rule n [] = refl
 lines-spelled rule n (x ∷ xs) =
-    row-text n x.again.first (x.again.rest n ++ all_lines rule n xs)
+    begun-text n x.again.first (x.again.rest n ++ all_lines rule n xs)
     ∙ ap (λ (l : List ℕ). margin n ++ l)
     (ap (λ (l : List ℕ). text_of x.again.first ++ 10 ∷ l) (lines-append (x.again.rest n) (all_lines rule n xs))
     ∙ (sym (append_assoc (text_of x.again.first) (10 ∷ lines_text (x.again.rest n)) (lines_text (all_lines rule n xs)))
@@ -70,7 +70,7 @@ stmts-read rule p n (x ∷ xs) ss ls f =
     let r = x.again.reads n p rest (follows-lines rule n xs ls f) in
     let q = stmts-read rule r.place n xs (ss ++ r.tree ∷ []) ls f in
     let text_is : left p n (all_lines rule n (x ∷ xs) ++ ls) ≡ opened p x.again.first n (x.again.rest n ++ rest) =
-    left-row p n x.again.first ((x.again.rest n ++ all_lines rule n xs) ++ ls) ∙ ap (λ (l : List Line). opened p x.again.first n l) (append_assoc (x.again.rest n) (all_lines rule n xs) ls) in
+    left-begun p n x.again.first ((x.again.rest n ++ all_lines rule n xs) ++ ls) ∙ ap (λ (l : List Line). opened p x.again.first n l) (append_assoc (x.again.rest n) (all_lines rule n xs) ls) in
     let turn : (Piece_of rule (Low ss 0)).reads (opened p x.again.first n (x.again.rest n ++ rest)) (Low (ss ++ r.tree ∷ []) 0) (left r.place n rest) = (Low r.tree 0, left r.place n rest, r.reads, (refl, refl)) in
     record {
       read = r.tree ∷ q.read;

@@ -34,7 +34,7 @@ use Rattle.wy_round.proofs.Lines.{Line as SourceLine, margin, behind, next_at, I
 use Rattle.wy_round.proofs.Lines.Line.{fresh}
 use Rattle.wy_round.proofs.LineRuns.{lines_text}
 use Rattle.wy_round.proofs.StmtShown.{View, view, if_view, view_if, if-shown}
-use Rattle.wy_round.proofs.StmtLines.{Follows, opened, left, left-row, row-text, lines-append}
+use Rattle.wy_round.proofs.StmtLines.{Follows, opened, left, left-begun, begun-text, lines-append}
 use Rattle.wy_round.proofs.StmtOne.{StmtAgain, stmt_node-low, item-colon, colon, colon-text, word_gap, behind-word}
 use Rattle.wy_round.proofs.StmtHeads.{head-good, head-text, head-tokens}
 use Rattle.wy_round.proofs.StmtBlocks.{BlockAgain, colon_end, colon-block}
@@ -117,7 +117,7 @@ module _ (rule : R Stmts) (branch : R S) where
   else-blocked x xs e b = record {
     lines_of = λ n. fresh n else_colon ∷ b.inner (suc n);
     spelled = λ n.
-        row-text n else_colon (b.inner (suc n))
+        begun-text n else_colon (b.inner (suc n))
         ∙ (ap (λ (l : List ℕ). margin n ++ l) (ap₂ (λ (u v : List ℕ). u ++ 10 ∷ v) else_colon-text (b.spelled (suc n)))
         ∙ ap (λ (c : Bool). margin n ++ (codes "else" ++ else_block (margin n) c (shown_stmt x) (map shown_stmt xs))) (sym e));
     follows = λ n ls f. (omega arith, else_colon-body, refl, b.good n ls f);
@@ -126,7 +126,7 @@ module _ (rule : R Stmts) (branch : R S) where
         let inner : List SourceLine = b.inner (suc n) ++ ls in
         let q = colon-block rule (x ∷ xs) b sign n ls f in
         let block_text : List Token = behind (colon_end sign) (next_at (colon_end sign) inner) n inner in
-        let text_is : left p n (fresh n else_colon ∷ inner) ≡ token k.Else p ∷ token k.Colon sign ∷ block_text = left-row p n else_colon inner ∙ head-tokens p n colon (mark k.Else (codes "else") class.Part ∷ []) [] inner in
+        let text_is : left p n (fresh n else_colon ∷ inner) ≡ token k.Else p ∷ token k.Colon sign ∷ block_text = left-begun p n else_colon inner ∙ head-tokens p n colon (mark k.Else (codes "else") class.Part ∷ []) [] inner in
         let path : (Otherwise rule branch).reads (token k.Else p ∷ token k.Colon sign ∷ block_text) (Low q.trees 0) (left q.place n ls) =
         inl (p, token k.Colon sign ∷ block_text, mark-reads t.ELSE k.Else p (token k.Colon sign ∷ block_text) refl, inl (sign, block_text, mark-reads t.COLON k.Colon sign block_text refl, q.reads)) in
         record { trees = q.trees; place = q.place; same = q.same; reads = subst (λ (i : List Token). (Otherwise rule branch).reads i (Low q.trees 0) (left q.place n ls)) (sym text_is) path };
@@ -139,7 +139,7 @@ module _ (rule : R Stmts) (branch : R S) where
       record {
         lines_of = λ n. fresh n (else_gap ++ a.first) ∷ a.rest n;
         spelled = λ n.
-            row-text n (else_gap ++ a.first) (a.rest n)
+            begun-text n (else_gap ++ a.first) (a.rest n)
             ∙ (ap (λ (l : List ℕ). margin n ++ l)
             (ap (λ (l : List ℕ). l ++ 10 ∷ lines_text (a.rest n)) (text-append else_gap a.first ∙ ap (λ (l : List ℕ). l ++ text_of a.first) else_gap-text)
             ∙ (append_assoc (codes "else ") (text_of a.first) (10 ∷ lines_text (a.rest n)) ∙ ap (λ (l : List ℕ). codes "else " ++ l) (a.spelled n)))
@@ -150,7 +150,7 @@ module _ (rule : R Stmts) (branch : R S) where
             let behind_it : List SourceLine = a.rest n ++ ls in
             let r = a.reads n there ls f in
             let inner : List Token = opened there a.first n behind_it in
-            let text_is : left p n (fresh n (else_gap ++ a.first) ∷ behind_it) ≡ token k.Else p ∷ inner = left-row p n (else_gap ++ a.first) behind_it ∙ head-tokens p n a.first else_gap [] behind_it in
+            let text_is : left p n (fresh n (else_gap ++ a.first) ∷ behind_it) ≡ token k.Else p ∷ inner = left-begun p n (else_gap ++ a.first) behind_it ∙ head-tokens p n a.first else_gap [] behind_it in
             let path : (Otherwise rule branch).reads (token k.Else p ∷ inner) (Low (r.tree ∷ []) 0) (left r.place n ls) =
             inl (p, inner, mark-reads t.ELSE k.Else p inner refl, inr (Low r.tree 0, left r.place n ls, r.reads, (refl, refl))) in
             record { trees = r.tree ∷ []; place = r.place; same = ap (λ (v : View). v ∷ []) r.same; reads = subst (λ (i : List Token). (Otherwise rule branch).reads i (Low (r.tree ∷ []) 0) (left r.place n ls)) (sym text_is) path };

@@ -24,8 +24,8 @@ ended-bytes : (cs ds : List ℕ) → encode_utf8_all (cs ++ 10 ∷ ds) ≡ encod
 unfolding encode
 ended-bytes cs ds = encodes-append cs (10 ∷ ds)
 
-pub row-text : (l : ℕ) (ps : List Piece) (ls : List Line) → lines_text (fresh l ps ∷ ls) ≡ margin l ++ (text_of ps ++ 10 ∷ lines_text ls)
-row-text l ps ls = encodes-append (margin l) (letters ps ++ 10 ∷ (lead ls ++ body ls)) ∙ ap₂ (λ (a b : List ℕ). a ++ b) (margin-bytes l) (ended-bytes (letters ps) (lead ls ++ body ls))
+pub begun-text : (l : ℕ) (ps : List Piece) (ls : List Line) → lines_text (fresh l ps ∷ ls) ≡ margin l ++ (text_of ps ++ 10 ∷ lines_text ls)
+begun-text l ps ls = encodes-append (margin l) (letters ps ++ 10 ∷ (lead ls ++ body ls)) ∙ ap₂ (λ (a b : List ℕ). a ++ b) (margin-bytes l) (ended-bytes (letters ps) (lead ls ++ body ls))
 
 pub further-text : (l : ℕ) (ps : List Piece) (ls : List Line) → lines_text (further l ps ∷ ls) ≡ margin l ++ (text_of ps ++ 10 ∷ lines_text ls)
 further-text l ps ls = encodes-append (margin l) (letters ps ++ 10 ∷ (lead ls ++ body ls)) ∙ ap₂ (λ (a b : List ℕ). a ++ b) (margin-bytes l) (ended-bytes (letters ps) (lead ls ++ body ls))
@@ -39,8 +39,8 @@ regroup m t a b = sym (append_assoc m (t ++ 10 ∷ a) b ∙ ap (λ (l : List ℕ
 pub lines-append : (is bs : List Line) → lines_text (is ++ bs) ≡ lines_text is ++ lines_text bs
 lines-append [] bs = refl
 lines-append (fresh l ps ∷ is) bs =
-    row-text l ps (is ++ bs) ∙ (ap (λ (x : List ℕ). margin l ++ (text_of ps ++ 10 ∷ x)) (lines-append is bs)
-    ∙ (regroup (margin l) (text_of ps) (lines_text is) (lines_text bs) ∙ ap (λ (x : List ℕ). x ++ lines_text bs) (sym (row-text l ps is))))
+    begun-text l ps (is ++ bs) ∙ (ap (λ (x : List ℕ). margin l ++ (text_of ps ++ 10 ∷ x)) (lines-append is bs)
+    ∙ (regroup (margin l) (text_of ps) (lines_text is) (lines_text bs) ∙ ap (λ (x : List ℕ). x ++ lines_text bs) (sym (begun-text l ps is))))
 lines-append (further l ps ∷ is) bs =
     further-text l ps (is ++ bs) ∙ (ap (λ (x : List ℕ). margin l ++ (text_of ps ++ 10 ∷ x)) (lines-append is bs)
     ∙ (regroup (margin l) (text_of ps) (lines_text is) (lines_text bs) ∙ ap (λ (x : List ℕ). x ++ lines_text bs) (sym (further-text l ps is))))
@@ -101,8 +101,8 @@ entry-same n at = let same : n ≤ n = omega arith in let none : n - n ≡ 0 = o
 pub entry-new : (n at : ℕ) → entry n (suc n) at ≡ token k.BlockIn at ∷ []
 entry-new n at = let new : nat_le (suc n) n ≡ false = grind arith in ap (λ b. cond b (outs (n - suc n) at) (token k.BlockIn at ∷ [])) new
 
-pub left-row : (at n : ℕ) (ps : List Piece) (ls : List Line) → left at n (fresh n ps ∷ ls) ≡ opened at ps n ls
-left-row at n ps ls = ap (λ (l : List Token). l ++ opened at ps n ls) (entry-same n at)
+pub left-begun : (at n : ℕ) (ps : List Piece) (ls : List Line) → left at n (fresh n ps ∷ ls) ≡ opened at ps n ls
+left-begun at n ps ls = ap (λ (l : List Token). l ++ opened at ps n ls) (entry-same n at)
 
 -- a block ends before lines that stand before it
 pub record Out (at n : ℕ) (ls : List Line) : Type 0 where

@@ -38,7 +38,7 @@ use Rattle.wy_round.proofs.Lines.{Line as SourceLine, margin, behind, next_at, G
 use Rattle.wy_round.proofs.Lines.Line.{fresh}
 use Rattle.wy_round.proofs.LineRuns.{lines_text}
 use Rattle.wy_round.proofs.StmtShown.{View, view, while_view, view_while, while-shown, do_view, view_do, do-shown, for_view, view_for, for-shown}
-use Rattle.wy_round.proofs.StmtLines.{Follows, follows-good, opened, left, left-row, line-ends, row-text, lines-append}
+use Rattle.wy_round.proofs.StmtLines.{Follows, follows-good, opened, left, left-begun, line-ends, begun-text, lines-append}
 use Rattle.wy_round.proofs.StmtOne.{StmtAgain, IsStmt, stmt_node-low, item-colon, colon, word_gap, word_gap-segment, behind-word}
 use Rattle.wy_round.proofs.StmtHeads.{head_first, head_rest, head-good, head-text, following, head-tokens, AnExpr, exprs_of, heights, AreExprs, clauses-end, head-body, head-end, head-own, wheres_pieces, are-wheres, wheres-text, wheres-read, exprs-none, gives-wheres}
 use Rattle.wy_round.proofs.StmtBlocks.{BlockAgain, blocked_rest, blocked-good, blocked-text, blocked-tokens, colon_end, colon-block}
@@ -190,7 +190,7 @@ do-again n rule s x h all body is a b =
           let text : List ℕ = expr_text x in
           let clauses : List ℕ = clause_lines (margin m) (codes "where ") (expr_texts (exprs_of n all)) in
           let tail : lines_text (last m) ≡ margin m ++ ((codes "while " ++ (text ++ clauses)) ++ 10 ∷ []) =
-          row-text m (head_first ps cs []) (head_rest m cs [])
+          begun-text m (head_first ps cs []) (head_rest m cs [])
           ∙ ap (λ (l : List ℕ). margin m ++ l)
           (ap (λ (l : List SourceLine). text_of (head_first ps cs []) ++ 10 ∷ lines_text l) (sym (append-nil (head_rest m cs [])))
           ∙ (head-text m [] ps cs []
@@ -214,7 +214,7 @@ do-again n rule s x h all body is a b =
           let next = word + size (letters ps) in
           let clauses : List Token = following next m cs [] ls in
           let tokens : List Token = tokens_from there a.pieces ++ clauses in
-          let tail_is : left word m behind_it ≡ token k.While word ∷ tokens = left-row word m (head_first ps cs []) (head_rest m cs [] ++ ls) ∙ head-tokens word m [] ps cs ls in
+          let tail_is : left word m behind_it ≡ token k.While word ∷ tokens = left-begun word m (head_first ps cs []) (head_rest m cs [] ++ ls) ∙ head-tokens word m [] ps cs ls in
           let r = a.reads n (omega arith) there clauses in
           let w = wheres-read n next m all [] 0 [] ls in
           let end = w.place + size [] in

@@ -35,7 +35,7 @@ use Rattle.wy_round.proofs.Lines.{Line as SourceLine, margin, behind, next_at, I
 use Rattle.wy_round.proofs.Lines.Line.{fresh}
 use Rattle.wy_round.proofs.LineRuns.{lines_text}
 use Rattle.wy_round.proofs.StmtShown.{View, view, CaseView, case_view, made_case, view_case, case-shown, default_text, switch-shown, switch_view, view_switch}
-use Rattle.wy_round.proofs.StmtLines.{Follows, follows-deeper, colon-led, opened, left, left-row, entry-new, row-text, lines-append, block-ends}
+use Rattle.wy_round.proofs.StmtLines.{Follows, follows-deeper, colon-led, opened, left, left-begun, entry-new, begun-text, lines-append, block-ends}
 use Rattle.wy_round.proofs.StmtOne.{StmtAgain, item-colon, colon, colon-text, word_gap, behind-word}
 use Rattle.wy_round.proofs.StmtHeads.{head-good, head-text, head-tokens}
 use Rattle.wy_round.proofs.StmtBlocks.{BlockAgain, colon_end, colon-block}
@@ -116,7 +116,7 @@ headed-by rule wide P Q cs d f h = record {
 pub headed-again : (rule : CaseList → R Cases) (cs : List Case) (d : Option (List Stmt)) → HeadedCases (λ (bs : List Case). rule (Low bs 0)) Any cs d → CasesAgain rule cs d
 headed-again rule cs d h = record {
   lines_of = λ m. fresh m h.first ∷ h.rest m;
-  spelled = λ m. row-text m h.first (h.rest m) ∙ h.spelled m;
+  spelled = λ m. begun-text m h.first (h.rest m) ∙ h.spelled m;
   follows = λ n ls f. (omega arith, h.is_body, h.own, h.good n ls f);
   reads = λ n p ls bs f.
       let r = h.reads n p ls bs tt f in
@@ -126,7 +126,7 @@ headed-again rule cs d h = record {
         place = r.place;
         same_cases = r.same_cases;
         same_default = r.same_default;
-        reads = subst (λ (i : List Token). (rule (Low bs 0)).reads i (Low (bs ++ r.cases, r.default) 0) (left r.place n ls)) (sym (left-row p (suc n) h.first (h.rest (suc n) ++ ls))) r.reads;
+        reads = subst (λ (i : List Token). (rule (Low bs 0)).reads i (Low (bs ++ r.cases, r.default) 0) (left r.place n ls)) (sym (left-begun p (suc n) h.first (h.rest (suc n) ++ ls))) r.reads;
       };
 }
 
@@ -326,7 +326,7 @@ switch-again n inner s x h cs d is a z =
       spelled = λ m.
           head-text m colon ps [] (inside m)
           ∙ (ap₂ (λ (u v : List ℕ). u ++ v) (text-both (word_gap k.Switch (codes "switch")) a.pieces (codes "switch ") (expr_text x) switch_word-text a.spelled)
-          (ap₂ (λ (u v : List ℕ). u ++ 10 ∷ v) colon-text (row-text (suc m) z.first (z.rest (suc m)) ∙ z.spelled (suc m)))
+          (ap₂ (λ (u v : List ℕ). u ++ 10 ∷ v) colon-text (begun-text (suc m) z.first (z.rest (suc m)) ∙ z.spelled (suc m)))
           ∙ (switch-regroup (codes "switch ") (expr_text x) (codes ":" ++ line_end) (cases_text (suc m) cs d)
           ∙ ap (λ (u : ShownStmt). u.text (margin m)) (sym (switch-shown s x cs d is))));
       is_body = item-colon ps whole;

@@ -95,8 +95,8 @@ module _ (c : Context) (routines : List Routine) (wide : ℕ) (n : ℕ) (a : tre
   abbrev mid_steps : List Step
   mid_steps = fork z CL [] ++ last_steps
 
-  abbrev T1 : List Step
-  T1 = test c a.ty x z (suc z)
+  abbrev asked : List Step
+  asked = test c a.ty x z (suc z)
 
   call_effect : (g q : ℕ) (regs : Store) → slot regs g ≡ Some d → effect c.table (instr.Call q F (g ∷ [])) regs ≡ Calls q F (d ∷ []) (put regs g None)
   call_effect g q regs held = ap (λ (o : Option Datum). where_there o (λ v. Calls q F (v ∷ []) (put regs g None))) held
@@ -159,17 +159,17 @@ module _ (c : Context) (routines : List Routine) (wide : ℕ) (n : ℕ) (a : tre
         (λ e h. follows_at mach wide 0 0 m (at_place F e last cs m.output) (Done false m) F e (e + 0) cs (Inner x z R.registers d) (omega arith) (stays_last mach F R here wide e last cs m false (Inner x z R.registers d) so))))
 
     -- the whole routine, behind taking the argument
-    inside : (p : ℕ) (first : Store) (m : Meter) → slot first x ≡ Some d → length first ≡ R.registers → StandAt R.body p (T1 ++ mid_steps) → Follows mach wide (size_ty a.ty + lo) 3 m (at_place F p first cs m.output) (both A B m) Q
+    inside : (p : ℕ) (first : Store) (m : Meter) → slot first x ≡ Some d → length first ≡ R.registers → StandAt R.body p (asked ++ mid_steps) → Follows mach wide (size_ty a.ty + lo) 3 m (at_place F p first cs m.output) (both A B m) Q
     inside p first m holds long stood =
-        let e = p + length T1 in
-        let behind : StandAt R.body e mid_steps = stand_back R.body p T1 mid_steps stood in
+        let e = p + length asked in
+        let behind : StandAt R.body e mid_steps = stand_back R.body p asked mid_steps stood in
         let e2 = e + length (fork z CL []) in
         let O = Comes F e2 cs (Inner x z R.registers d) in
         let ending : StandAt R.body e2 last_steps = stand_back R.body e (fork z CL []) last_steps behind in
         subst (λ (o : Outcome Bool). Follows mach wide (size_ty a.ty + lo) 3 m (at_place F p first cs m.output) o Q) (bind_done (both A B m))
         (follows_then mach wide (size_ty a.ty + lo) 0 0 3 (size_ty a.ty + lo) 3 m (at_place F p first cs m.output) (both A B m) (λ b k. Done b k) F e2 cs (Inner x z R.registers d) Q (omega arith) (omega arith)
         (leaves_then mach wide (size_ty a.ty) 9 lo 2 (size_ty a.ty + lo) 0 m (at_place F p first cs m.output) (A m) (λ b. choose b B (answer false)) F e cs (Told z (suc z) first) O (omega arith) (omega arith)
-        (one F R here x z (suc z) p first cs m holds (omega (arith, x_below)) (omega arith) (λ same. absurd (omega (arith, same, x_below))) long (stand_front R.body p T1 mid_steps stood))
+        (one F R here x z (suc z) p first cs m holds (omega (arith, x_below)) (omega arith) (λ same. absurd (omega (arith, same, x_below))) long (stand_front R.body p asked mid_steps stood))
         (λ b k last le t. choosing e last k b (record { answer = t.value; held = t.kept x (omega (arith, x_below)) (λ same. absurd (omega (arith, same, x_below))) ∙ holds; size = t.size ∙ long }) (stand_front R.body e (fork z CL []) last_steps behind)))
         (λ b k last le inner. leaving e2 last k b inner ending))
 
@@ -188,16 +188,16 @@ module _ (c : Context) (routines : List Routine) (wide : ℕ) (n : ℕ) (a : tre
         let long : length entry ≡ R.registers = let e = many_empties (R.registers - 1) in omega (arith, e, z_room) in
         plain_then mach f r there wide callers 0 6 at (instr.Share g v) regs regs1 m (both A B m) Q stands.0 (share_does mach.shapes regs g v d held)
         (follows_step mach wide 0 6 (size_ty a.ty + lo) 4 m (at_place f (at + 1) regs1 callers m.output) (at_place F 0 entry cs m.output) (both A B m) Q enters (omega (arith, small)) (omega arith)
-        (taken_then mach F R here wide cs x (size_ty a.ty + lo) 3 (T1 ++ mid_steps) entry d m (both A B m) Q refl long stood
+        (taken_then mach F R here wide cs x (size_ty a.ty + lo) 3 (asked ++ mid_steps) entry d m (both A B m) Q refl long stood
         (λ p first e standing holds long2. inside p first m holds long2 standing)))
       where
         -- the last instruction names a register, so there is one
         room_somewhere : 0 < (type_routine c a).registers
         room_somewhere =
             let whole_steps = type_steps_at c a x z in
-            let stood : StandAt R.body 0 (taken x ++ (T1 ++ mid_steps)) = placed_stand whole_steps in
-            let b1 = stand_back R.body 0 (taken x) (T1 ++ mid_steps) stood in
-            let b2 = stand_back R.body (0 + length (taken x)) T1 mid_steps b1 in
-            let b3 = stand_back R.body (0 + length (taken x) + length T1) (fork z CL []) last_steps b2 in
-            let l = room_at mach F R here (0 + length (taken x) + length T1 + length (fork z CL []) + 1 + 1) z (instr.Return z) [] b3.1.1.0 refl in
+            let stood : StandAt R.body 0 (taken x ++ (asked ++ mid_steps)) = placed_stand whole_steps in
+            let b1 = stand_back R.body 0 (taken x) (asked ++ mid_steps) stood in
+            let b2 = stand_back R.body (0 + length (taken x)) asked mid_steps b1 in
+            let b3 = stand_back R.body (0 + length (taken x) + length asked) (fork z CL []) last_steps b2 in
+            let l = room_at mach F R here (0 + length (taken x) + length asked + length (fork z CL []) + 1 + 1) z (instr.Return z) [] b3.1.1.0 refl in
             omega (arith, l)
