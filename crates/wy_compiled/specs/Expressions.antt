@@ -221,7 +221,7 @@ abbrev mutual
   code c (BinaryExpr at o a b) s d =
       unless_read (first_read o a b s) (code c a (before b s) d)
       ++ operate o d (standing (first_read o a b s) d) (standing (second_read o b s) (right_register o d)) (unless_read (second_read o b s) (code c b s (right_register o d)))
-          (released (before b s) s) (plain_or_read (second_read o b s) (is_plain b))
+      (released (before b s) s) (plain_or_read (second_read o b s) (is_plain b))
   code c (IsExpr at a ty) s d = unless_read (tested_read ty a s) (code c a s d) ++ tested c ty (tested_read ty a s) d
   code c (IndexExpr at a b) s d =
       unless_read (read a s) (code c a (before b s) d)
