@@ -70,7 +70,8 @@ is_small c ty d =
 
 tested_small : (c : Context) (ty : Ty) (o : Option ℕ) (d : ℕ) → length (tested c ty o d) + 1 ≤ 16 * visits ty
 tested_small c ty None d = is_small c ty d
-tested_small c ty (Some x) d = let h : length (test c ty x d (suc d)) + 4 ≤ 16 * visits ty = test_small c ty x d (suc d) in omega arith
+tested_small c ty (Some x) d =
+    let h : length (test c ty x (suc d) (suc (suc d))) + 4 ≤ 16 * visits ty = test_small c ty x (suc d) (suc (suc d)) in omega (arith, length-append (test c ty x (suc d) (suc (suc d))) (Does (instr.Move d (suc d)) ∷ []))
 
 -- ---- quantifiers
 

@@ -140,7 +140,7 @@ operate_ints op.Or d l r right skipped plain h k = fork_ints d skipped right k h
 -- a test, where it leaves the value in its register or releases it
 pub tested_ints : (c : Context) (ty : Ty) (o : Option ℕ) (d : ℕ) → AllPut (spec.tested c ty o d)
 tested_ints c ty None d = ints_append (test.test c ty d (suc d) (suc (suc d))) _ (test_ints c ty d (suc d) (suc (suc d))) (tt, (tt, (tt, tt)))
-tested_ints c ty (Some x) d = test_ints c ty x d (suc d)
+tested_ints c ty (Some x) d = ints_append (test.test c ty x (suc d) (suc (suc d))) _ (test_ints c ty x (suc d) (suc (suc d))) (tt, tt)
 
 call_ints : (to : Target) (f d count : ℕ) → AllPut (spec.call to f d count)
 call_ints (Declared gives) f d count = (tt, tt)

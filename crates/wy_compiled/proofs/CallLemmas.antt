@@ -145,7 +145,7 @@ called_within (b ∷ bs) (suc f) gives h = let l : f < length bs = called_within
 -- a test, where it leaves the value in its register or releases it
 pub tested_calls : (c : Context) (k : ℕ) (ty : Ty) (o : Option ℕ) (d : ℕ) → BoundTy k ty → AllCall (length c.results + k) (spec.tested c ty o d)
 tested_calls c k ty None d h = calls_append (length c.results + k) (test.test c ty d (suc d) (suc (suc d))) _ (test_calls c k ty d (suc d) (suc (suc d)) h) (tt, (tt, (tt, tt)))
-tested_calls c k ty (Some x) d h = test_calls c k ty x d (suc d) h
+tested_calls c k ty (Some x) d h = calls_append (length c.results + k) (test.test c ty x (suc d) (suc (suc d))) _ (test_calls c k ty x (suc d) (suc (suc d)) h) (tt, tt)
 
 call_calls : (results : List Bool) (k f d count : ℕ) → AllCall (length results + k) (spec.call (target results f) f d count)
 call_calls results k f d count = go (target results f) (λ gives is. called_within results f gives is)

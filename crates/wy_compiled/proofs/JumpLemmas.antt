@@ -98,7 +98,7 @@ operate_within op.Or d l r right skipped plain b h k = fork_inside b d skipped r
 -- a test, where it leaves the value in its register or releases it
 pub tested_within : (c : Context) (ty : Ty) (o : Option ℕ) (d b : ℕ) → Within b (spec.tested c ty o d)
 tested_within c ty None d b = within_append b (test.test c ty d (suc d) (suc (suc d))) _ (test_within c ty d (suc d) (suc (suc d)) _) (refl, (refl, (refl, tt)))
-tested_within c ty (Some x) d b = test_within c ty x d (suc d) b
+tested_within c ty (Some x) d b = within_append b (test.test c ty x (suc d) (suc (suc d))) _ (test_within c ty x (suc d) (suc (suc d)) _) (refl, tt)
 
 call_within : (t : Target) (f d count b : ℕ) → Within b (spec.call t f d count)
 call_within (Declared gives) f d count b = (refl, tt)

@@ -142,7 +142,7 @@ operate_names t op.Or d l r right skipped plain h k = fork_names t d skipped rig
 -- a test, where it leaves the value in its register or releases it
 pub tested_names : (c : Context) (ty : Ty) (o : Option ℕ) (d : ℕ) → StandsTy c.table ty → AllName c.table (spec.tested c ty o d)
 tested_names c ty None d h = names_append c.table (test.test c ty d (suc d) (suc (suc d))) _ (test_names c ty d (suc d) (suc (suc d)) h) ((tt, tt), ((tt, tt), ((tt, tt), tt)))
-tested_names c ty (Some x) d h = test_names c ty x d (suc d) h
+tested_names c ty (Some x) d h = names_append c.table (test.test c ty x (suc d) (suc (suc d))) _ (test_names c ty x (suc d) (suc (suc d)) h) ((tt, tt), tt)
 
 call_names : (t : Shapes) (to : Target) (f d count : ℕ) → AllName t (spec.call to f d count)
 call_names t (Declared gives) f d count = ((tt, tt), tt)

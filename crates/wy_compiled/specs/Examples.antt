@@ -90,7 +90,7 @@ pub record ProgramsHave : Type 0 where
       codes "routine 0\n  Equal r1 r0 r0\n  Branch r1 4\n  Move r1 r0\n  Return r1\n  Share r1 r0\n  Move r2 r0\n  Equal r1 r1 r2\n  Clear [r2]\n  Return r1\n  Const r1 null\n  Return r1\n"
   -- a variable that is live behind a test is tested in its register; where the test doesn't read it, it is shared as each other value, and released
   pub a_test : code_text (code_of asked) ≡
-      codes "routine 0\n  Kind r1 r0 int\n  Branch r1 4\n  Move r1 r0\n  Return r1\n  Share r1 r0\n  Const r2 true\n  Move r3 r1\n  Clear [r3]\n  Move r1 r2\n  Branch r1 12\n  Move r1 r0\n  Return r1\n  Move r1 r0\n  Return r1\n  Const r1 null\n  Return r1\n"
+      codes "routine 0\n  Kind r2 r0 int\n  Move r1 r2\n  Branch r1 5\n  Move r1 r0\n  Return r1\n  Share r1 r0\n  Const r2 true\n  Move r3 r1\n  Clear [r3]\n  Move r1 r2\n  Branch r1 13\n  Move r1 r0\n  Return r1\n  Move r1 r0\n  Return r1\n  Const r1 null\n  Return r1\n"
   -- the value goes to the routine of the type, which asks for null, then for the shape, and then each field in order
   pub a_type : code_text (code_of lists) ≡
       codes "routine 0\n  Move r1 r0\n  Share r3 r1\n  Call r2 1 [r3]\n  Move r3 r1\n  Clear [r3]\n  Move r1 r2\n  Return r1\n  Const r1 null\n  Return r1\nroutine 1\n  Kind r1 r0 null\n  Branch r1 3\n  Jump 15\n  Kind r1 r0 shape 0\n  Branch r1 15\n  Field r2 r0 0\n  Kind r1 r2 int\n  Move r3 r2\n  Clear [r3]\n  Branch r1 15\n  Field r2 r0 1\n  Share r3 r2\n  Call r1 1 [r3]\n  Move r3 r2\n  Clear [r3]\n  Move r2 r0\n  Clear [r2]\n  Return r1\n"
