@@ -1,15 +1,14 @@
 -- Operands that are variables, which are read in their registers.
-use Rattle.std.proofs.Common.{◌≡◌, ◌≢◌, ◌<◌, ◌⊎◌, inl, inr, ℕ, suc, List, [], ◌∷◌, Bool, true, false, cond, Option, Some, None, refl, ◌∙◌, arith}
+use Rattle.std.proofs.Common.{◌≡◌, ◌≢◌, ◌<◌, ◌⊎◌, inl, inr, ℕ, Bool, true, false, cond, Option, Some, None, refl, sym, ◌∙◌}
 use Rattle.wy_core.specs.CoreTree.{Expr, NullExpr, BoolExpr, IntExpr, VarExpr, CallExpr, NegExpr, NotExpr, LenExpr, BinaryExpr, IsExpr, IndexExpr, FieldExpr, ListExpr, RepeatExpr, RecordExpr, QuantExpr}
 use Rattle.wy_tables.specs.declared.context.Context.{Context}
 use Rattle.wy_live.specs.Paths.{occurs}
 use Rattle.wy_live.specs.Sets.{Variables, has}
-use Rattle.wy_pieces.specs.declared.steps.Step.{Step}
 use Rattle.wy_compiled.specs.Operands.{variable_in, is_still, read, read_first, standing, unless_read, plain_or_read}
 use Rattle.wy_compiled.specs.Expressions.{code}
 use Rattle.wy_kept_code.specs.Fitting.{Fits}
 use Rattle.wy_kept_code.proofs.PieceLemmas.{less_not}
-use Rattle.wy_kept_code.proofs.SetLemmas.{never, not_both, same_of, Vars}
+use Rattle.wy_kept_code.proofs.SetLemmas.{never, same_of, Vars}
 
 -- what is read in its register is the variable that the operand is, one of these
 abbrev pub IsIts : (ℕ → Type 0) → Option ℕ → Expr ℕ → Type 0
@@ -43,13 +42,10 @@ variable_occurs (RepeatExpr at a b) x r e h = cc
 variable_occurs (RecordExpr at fs) x r e h = cc
 variable_occurs (QuantExpr at all y a b body) x r e h = cc
 
--- where nothing is released of an operand, it is read in its register or its value is plain
+-- what is released behind an equation is the register of a value, so none below
 pub release_apart : (v : Option ℕ) (plain : Bool) (d q : ℕ) → q < d → plain_or_read v plain ≡ false → q ≢ standing v d
 release_apart None plain d q l e = less_not q d l
-release_apart (Some y) plain d q l e = never' e
-  where
-    never' : {A : Type 0} → true ≡ false → A
-    never' e = absurd cc
+release_apart (Some y) plain d q l e = never (sym e)
 
 module _ (c : Context) (n : ℕ) where
   -- the code of the operand is the same, whatever is live behind it

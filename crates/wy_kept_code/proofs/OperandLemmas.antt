@@ -1,12 +1,10 @@
 -- What the code of operands and of their instructions keeps.
-use Rattle.std.proofs.Common.{◌≡◌, ◌<◌, ◌≤◌, ◌⊎◌, inl, inr, ℕ, zero, suc, ◌+◌, List, [], ◌∷◌, ◌++◌, length, Bool, true, false, Option, Some, None, refl, sym, ap, ◌∙◌, subst, arith}
+use Rattle.std.proofs.Common.{◌≡◌, ◌<◌, ◌≤◌, ◌⊎◌, inl, inr, ℕ, zero, suc, ◌+◌, List, [], ◌∷◌, ◌++◌, length, Bool, true, false, Option, Some, None, refl, sym, ap, subst, arith}
 use Rattle.wy_core.specs.CoreTree.{Expr, NullExpr, BoolExpr, IntExpr, VarExpr, CallExpr, NegExpr, NotExpr, LenExpr, BinaryExpr, IsExpr, IndexExpr, FieldExpr, ListExpr, RepeatExpr, RecordExpr, QuantExpr}
 use Rattle.wy_core.specs.declared.expressions.Op.{Op}
 use Rattle.wy_core.specs.declared.expressions.Op.TheVariants as op
 use Rattle.wy_code.specs.declared.instructions.Arithmetic.{Arithmetic}
-use Rattle.wy_code.specs.declared.instructions.Arithmetic.TheVariants as arithmetic
 use Rattle.wy_code.specs.declared.instructions.Comparison.{Comparison}
-use Rattle.wy_code.specs.declared.instructions.Comparison.TheVariants as comparison
 use Rattle.wy_code.specs.declared.instructions.Instr.{Instr}
 use Rattle.wy_code.specs.declared.instructions.Instr.TheVariants as instr
 use Rattle.wy_tables.specs.declared.context.Context.{Context}
@@ -18,8 +16,8 @@ use Rattle.wy_live.specs.Walks.{before, turned}
 use Rattle.wy_pieces.specs.declared.steps.Step.{Step}
 use Rattle.wy_pieces.specs.declared.steps.Step.TheVariants.{Does}
 use Rattle.wy_pieces.specs.Steps.{clear, fork, registers_from}
-use Rattle.wy_compiled.specs.Operands.{variable_in, read, read_first, first_read, second_read, standing, unless_read, plain_or_read}
-use Rattle.wy_compiled.specs.Expressions.{released, is_plain, arith as arith_code, compare, equal, operator, operate, right_register, call, count_of, is_test, negated, list, record_of, quantify, code, codes, field_codes}
+use Rattle.wy_compiled.specs.Operands.{variable_in, read, read_first, standing, unless_read, plain_or_read}
+use Rattle.wy_compiled.specs.Expressions.{released, is_plain, arith as arith_code, compare, equal, operator, call, count_of, is_test, negated, list, record_of, quantify, code, codes, field_codes}
 use Rattle.wy_kept_registers.specs.Keeping.{IsNone}
 use Rattle.wy_kept_code.specs.Alive.{IsOne, reads, changes, nexts, LiveAt}
 use Rattle.wy_kept_code.specs.Safe.{Gives, gone, Into, After, Onward, Safe}

@@ -23,13 +23,13 @@ use Rattle.wy_pieces.specs.declared.steps.Step.TheVariants.{Does, GoesOn}
 use Rattle.wy_pieces.specs.Steps.{clear, fork, registers_from}
 use Rattle.wy_compiled.specs.TypeTests.{test}
 use Rattle.wy_compiled.specs.Operands.{variable_in, read, read_first, standing, unless_read, plain_or_read}
-use Rattle.wy_compiled.specs.Expressions.{lost, released, is_plain, operator, operate, right_register, call, count_of, field_count, is_test, negated, list, record_of, turn_end, said, ends, number_turns, quantify, code, codes, field_codes}
+use Rattle.wy_compiled.specs.Expressions.{lost, released, is_plain, operator, call, count_of, field_count, is_test, negated, list, record_of, turn_end, said, ends, number_turns, quantify, code, codes, field_codes}
 use Rattle.wy_kept_registers.specs.Keeping.{IsNone}
 use Rattle.wy_kept_code.specs.Alive.{IsOne, reads, changes, nexts, LiveAt}
 use Rattle.wy_kept_code.specs.Fitting.{IsValue, Fits, FitAll, FitFields}
 use Rattle.wy_kept_code.proofs.PieceLemmas.{either, less_not, From, none_below, Spans, front, back, tail, live_reads, live_on, live_last, live_first, live_second, Turning, turning}
 use Rattle.wy_kept_code.proofs.SetLemmas.{never, not_both, true_or_not, same_of, same_to, other_of, Vars, before_cases, before_of, with_of, all_of, fields_of, turned_cases, turned_of, not_lost}
-use Rattle.wy_kept_code.proofs.InPlaceLemmas.{IsIts, IsLive, Waits, variable_occurs, release_apart, variable_its, read_its, first_its}
+use Rattle.wy_kept_code.proofs.InPlaceLemmas.{IsIts, Waits, variable_occurs, release_apart, variable_its, read_its, first_its}
 use Rattle.wy_kept_code.proofs.TestLemmas.{at_end, test_live}
 
 pub from_registers : (d r n : ℕ) → d ≤ r → From d (registers_from r n)
@@ -402,9 +402,10 @@ module _ (body : List Instr) where
         let zero_in : Instr = instr.Const (suc d) (scalar.Int (pos 0)) in let minus : Instr = instr.Arith d arithmetic.Sub (suc d) x in
         let its = variable_its c n a U fit in
         one_live U w a its is s d at next r nd (negated d x)
-        (λ p sp. let last = tail body p zero_in (Does minus ∷ []) next sp in
-        (there_of w d p (live_on body p (p + 1) x zero_in sp.0.0 (less_not x (suc d) (standing_below U lows w a its d nd), tt) (inl refl) (live_reads body (p + 1) x minus last.0.0 (inr (inl refl)))),
-        λ l. live_on body p (p + 1) r zero_in sp.0.0 ((below_two r d low).1, tt) (inl refl) (live_last body (p + 1) next r minus last (less_not r d low, tt) (inl refl) l))) h low way
+        (λ p sp. let last = tail body p zero_in (Does minus ∷ []) next sp in (
+          there_of w d p (live_on body p (p + 1) x zero_in sp.0.0 (less_not x (suc d) (standing_below U lows w a its d nd), tt) (inl refl) (live_reads body (p + 1) x minus last.0.0 (inr (inl refl)))),
+          λ l. live_on body p (p + 1) r zero_in sp.0.0 ((below_two r d low).1, tt) (inl refl) (live_last body (p + 1) next r minus last (less_not r d low, tt) (inl refl) l),
+        )) h low way
 
     mutual
       -- what the expression uses is live in front of its code, and so is what is live behind it
