@@ -1,5 +1,5 @@
 -- The code of an expression. Its value comes into a register, and the registers behind that one are free.
-use Rattle.std.specs.Prelude.{ℕ, zero, suc, ◌+◌, List, [], ◌∷◌, ◌++◌, length, Bool, true, false, not, ◌&&◌, cond, pos}
+use Rattle.std.specs.Prelude.{ℕ, zero, suc, ◌+◌, List, [], ◌∷◌, ◌++◌, length, Bool, true, false, not, ◌&&◌, cond, pos, Option, Some, None}
 use Rattle.wy_core.specs.CoreTree.{Expr, NullExpr, BoolExpr, IntExpr, VarExpr, CallExpr, NegExpr, NotExpr, LenExpr, BinaryExpr, IsExpr, IndexExpr, FieldExpr, ListExpr, RepeatExpr, RecordExpr, QuantExpr, Exprs, NoExprs, MoreExprs, Fields, NoFields, MoreFields}
 use Rattle.wy_core.specs.Types.{Ty}
 use Rattle.wy_core.specs.declared.expressions.Op.{Op}
@@ -155,6 +155,11 @@ field_count (MoreFields name e fs) = suc (field_count fs)
 abbrev pub is_test : Context → Ty → ℕ → List Step
 is_test c ty d = test c ty d (suc d) (suc (suc d)) ++ (dropped d (suc (suc d)) ++ Does (instr.Move d (suc d)) ∷ [])
 
+-- the same of a variable that stays in its register: nothing is released
+abbrev pub tested : Context → Ty → Option ℕ → ℕ → List Step
+tested c ty None d = is_test c ty d
+tested c ty (Some x) d = test c ty x d (suc d)
+
 -- ---- parts put together
 
 -- the number in r is taken from 0, and what comes of it comes into d
@@ -213,7 +218,7 @@ abbrev mutual
       unless_read (first_read o a b s) (code c a (before b s) d)
       ++ operate o d (standing (first_read o a b s) d) (standing (second_read o b s) (right_register o d)) (unless_read (second_read o b s) (code c b s (right_register o d)))
           (released (before b s) s) (plain_or_read (second_read o b s) (is_plain b))
-  code c (IsExpr at a ty) s d = code c a s d ++ is_test c ty d
+  code c (IsExpr at a ty) s d = unless_read (read a s) (code c a s d) ++ tested c ty (read a s) d
   code c (IndexExpr at a b) s d =
       unless_read (read a s) (code c a (before b s) d)
       ++ (unless_read (variable_in b) (code c b s (suc d)) ++ Does (instr.Get d (standing (read a s) d) (standing (variable_in b) (suc d))) ∷ [])
