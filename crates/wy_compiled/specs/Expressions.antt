@@ -159,10 +159,10 @@ is_test c ty d = test c ty d (suc d) (suc (suc d)) ++ (dropped d (suc (suc d)) +
 abbrev pub tested_read : {N : Type 0} → Ty → Expr N → Variables → Option ℕ
 tested_read ty e s = cond (looks ty) (read e s) None
 
--- the test of a value in d, or of a variable that stays in its register, of which nothing is released
+-- the test of a value in d, or of a variable that stays in its register, of which nothing is released. What it says may be any value, and is read behind the test where that is released
 abbrev pub tested : Context → Ty → Option ℕ → ℕ → List Step
 tested c ty None d = is_test c ty d
-tested c ty (Some x) d = test c ty x d (suc d)
+tested c ty (Some x) d = test c ty x (suc d) (suc (suc d)) ++ Does (instr.Move d (suc d)) ∷ []
 
 -- ---- parts put together
 
