@@ -1,5 +1,5 @@
 -- What the code of operators, tests, calls and lists keeps.
-use Rattle.std.proofs.Common.{◌≡◌, ◌≢◌, ◌<◌, ◌≤◌, ◌⊎◌, inl, inr, ℕ, suc, ◌+◌, List, [], ◌∷◌, ◌++◌, length, Bool, true, false, cond, Some, refl, sym, subst, arith}
+use Rattle.std.proofs.Common.{◌≡◌, ◌≢◌, ◌<◌, ◌≤◌, ◌⊎◌, inl, inr, ℕ, suc, ◌+◌, List, [], ◌∷◌, ◌++◌, length, Bool, true, false, cond, Some, refl, sym, subst, arith, Option, None}
 use Rattle.std.specs.Prelude.{slice_get}
 use Rattle.wy_core.specs.Types.{Ty}
 use Rattle.wy_core.specs.CoreTree.{Expr, BinaryExpr}
@@ -21,7 +21,7 @@ use Rattle.wy_pieces.specs.declared.steps.Step.TheVariants.{Does}
 use Rattle.wy_pieces.specs.Steps.{dropped, fork, registers_from}
 use Rattle.wy_compiled.specs.TypeTests.{test}
 use Rattle.wy_compiled.specs.Operands.{variable_in, read, read_first, standing, unless_read, plain_or_read}
-use Rattle.wy_compiled.specs.Expressions.{lost, released, is_plain, arith as arith_code, compare, equal, call, is_test, list, code}
+use Rattle.wy_compiled.specs.Expressions.{lost, released, is_plain, arith as arith_code, compare, equal, call, is_test, tested, list, code}
 use Rattle.wy_kept_registers.specs.Keeping.{IsNone}
 use Rattle.wy_kept_code.specs.Alive.{LiveAt}
 use Rattle.wy_kept_code.specs.Safe.{Gives}
@@ -29,9 +29,9 @@ use Rattle.wy_kept_code.specs.Fitting.{IsValue, Fits}
 use Rattle.wy_kept_code.proofs.PieceLemmas.{either, one_not_none, less_not, none_below, Spans, front, back, tail, live_reads, live_on, live_first, live_second, Lives, Sure, sure_less, safe_step, safe_at, safe_fork, safe_where, lives_on, lives_at}
 use Rattle.wy_kept_code.proofs.SetLemmas.{not_both, Vars, before_cases, with_cases, still_has, not_lost}
 use Rattle.wy_kept_code.proofs.TestLemmas.{With, test_live, live_turned, sure_turned, dropped_safe, test_safe}
-use Rattle.wy_kept_code.proofs.InPlaceLemmas.{variable_its, read_its, first_its}
+use Rattle.wy_kept_code.proofs.InPlaceLemmas.{IsLiveIn, variable_its, read_its, first_its}
 use Rattle.wy_kept_code.proofs.ReadLemmas.{from_registers, clear_live, code_live}
-use Rattle.wy_kept_code.proofs.OperandLemmas.{Range, in_range, code_some, fork_reads, base_low, known_before, operands_ready, clear_sure, pair_safe, arith_ready, compare_ready, equal_ready}
+use Rattle.wy_kept_code.proofs.OperandLemmas.{Range, Stands, ready_less, in_range, code_some, fork_reads, base_low, known_before, operands_ready, clear_sure, pair_safe, arith_ready, compare_ready, equal_ready}
 
 module _ (body : List Instr) (c : Context) (n : ℕ) (t : Gives) (f : ℕ) where
   -- live variables, and the registers of the expressions around
@@ -185,7 +185,7 @@ module _ (body : List Instr) (c : Context) (n : ℕ) (t : Gives) (f : ℕ) where
     -- ---- a test of a type, behind which the value is released
 
     -- what the test says may be any value
-    pub is_test_ready : (ty : Ty) (a : Expr ℕ) (m : ℕ) (s : Variables) (A : ℕ → Type 0) (d p next : ℕ) → Kn s U → n ≤ d → Ar d A → Spans body p (is_test c ty d) next → Leaves m next (B s A) (λ r. (r ≡ d) × (false ≡ false)) → Comes m p (λ r. B s A r ⊎ (r ≡ d))
+    is_test_ready : (ty : Ty) (a : Expr ℕ) (m : ℕ) (s : Variables) (A : ℕ → Type 0) (d p next : ℕ) → Kn s U → n ≤ d → Ar d A → Spans body p (is_test c ty d) next → Leaves m next (B s A) (λ r. (r ≡ d) × (false ≡ false)) → Comes m p (λ r. B s A r ⊎ (r ≡ d))
     is_test_ready ty a m s A d p next known nd around h exit =
         let one = test c ty d (suc d) (suc (suc d)) in
         let last : Instr = instr.Move d (suc d) in
@@ -209,6 +209,34 @@ module _ (body : List Instr) (c : Context) (n : ℕ) (t : Gives) (f : ℕ) where
           (λ r l. test_live body c ty d (suc d) (suc (suc d)) p mid r (front body p one rest next h) (un r l).0 (un r l).1 (live_mid r (inl l))),
           test_safe body c t f ty m p mid d (suc d) (suc (suc d)) (With (B s A) d) (front body p one rest next h) un (omega arith) live_mid (sure_turned body c t f m mid (suc d) d (B s A) facts.0),
         )
+
+    -- the variable is live behind, so it stays in its register
+    kept_test_ready : (ty : Ty) (x m : ℕ) (s : Variables) (A : ℕ → Type 0) (d p next : ℕ) → Kn s U → n ≤ d → Ar d A → Spans body p (tested c ty (Some x) d) next → Leaves m next (B s A) (λ r. (r ≡ d) × (false ≡ false)) → Comes m p (B s A)
+    kept_test_ready ty x m s A d p next known nd around h exit =
+        let one = test c ty x (suc d) (suc (suc d)) in
+        let last : Instr = instr.Move d (suc d) in
+        let mid = p + length one in
+        let first = front body p one (Does last ∷ []) next h in
+        let rest = back body p one (Does last ∷ []) next h in
+        let e : next ≡ mid + 1 = (let z = rest.1 in omega (arith, z)) in
+        let lows = base_low body c n t f s A U d known low nd around in
+        let un : (r : ℕ) → B s A r → (r < suc (suc d)) × (r ≢ suc d) = λ r l. let z = lows r l in (omega (arith, z), less_not r (suc d) (omega (arith, z))) in
+        let answered : ℕ → Type 0 = With (B s A) (suc d) in
+        let live : Lives body t f mid answered = λ r l. either (λ b. live_on body mid (mid + 1) r last rest.0.0 (less_not r d (lows r b), ((un r b).1, tt)) (inl refl) (lives_at body t f next (mid + 1) (B s A) e exit.0 r b)) (λ w. live_reads body mid r last rest.0.0 (inl w)) l in
+        let safe : Sure body t f m mid answered = safe_step body t f m mid last answered (λ r. B s A r ⊎ ((r ≡ d) × (false ≡ false))) rest.0.0 live (λ x w. w)
+        (λ r l. either (λ z. either (λ b. inl b) (λ w. absurd (z.1.1.0 w)) z.0) (λ z. inr (z.0, refl)) l)
+        (safe_at body t f m next (mid + 1) (λ r. B s A r ⊎ ((r ≡ d) × (false ≡ false))) e exit.1) in (
+          (λ r l. test_live body c ty x (suc d) (suc (suc d)) p mid r first (un r l).0 (un r l).1 (live r (inl l))),
+          test_safe body c t f ty m p mid x (suc d) (suc (suc d)) (B s A) first un (omega arith) live safe,
+        )
+
+    -- the value, or such a variable
+    pub tested_ready : (ty : Ty) (w : Option ℕ) (a : Expr ℕ) (m : ℕ) (s : Variables) (A : ℕ → Type 0) (d p next : ℕ) → IsLiveIn w s → Kn s U → n ≤ d → Ar d A → Spans body p (tested c ty w d) next → Leaves m next (B s A) (λ r. (r ≡ d) × (false ≡ false))
+        → Comes m p (λ r. B s A r ⊎ Stands body c n t f w a d r)
+    tested_ready ty None a m s A d p next live known nd around h exit =
+        ready_less body c n t f m p (λ r. B s A r ⊎ H a d r) (λ r. B s A r ⊎ (r ≡ d)) (λ r l. either (λ z. inl z) (λ z. inr z.0) l) (is_test_ready ty a m s A d p next known nd around h exit)
+    tested_ready ty (Some x) a m s A d p next live known nd around h exit =
+        ready_less body c n t f m p (λ r. B s A r ⊎ (r ≡ x)) (B s A) (λ r l. either (λ z. z) (λ e. inl (subst (λ (y : ℕ). has s y ≡ true) (sym e) live)) l) (kept_test_ready ty x m s A d p next known nd around h exit)
 
     -- ---- calls, lists and records
 

@@ -11,15 +11,15 @@ use Rattle.wy_live.specs.Sets.{Variables, has}
 use Rattle.wy_live.specs.Walks.{before, before_all, before_fields, turned}
 use Rattle.wy_pieces.specs.declared.steps.Step.TheVariants.{Does}
 use Rattle.wy_compiled.specs.Operands.{variable_in, read, standing, unless_read}
-use Rattle.wy_compiled.specs.Expressions.{released, is_plain, call, count_of, field_count, is_test, negated, list, record_of, quantify, code, codes, field_codes}
+use Rattle.wy_compiled.specs.Expressions.{released, is_plain, call, count_of, field_count, tested, tested_read, negated, list, record_of, quantify, code, codes, field_codes}
 use Rattle.wy_kept_code.specs.Safe.{Gives}
 use Rattle.wy_kept_code.specs.Fitting.{Fits, FitAll, FitFields}
 use Rattle.wy_kept_code.proofs.PieceLemmas.{either, less_not, Spans, front, back, tail, ended, Lives, Sure, sure_less, safe_step, safe_at, lives_on}
 use Rattle.wy_kept_code.proofs.SetLemmas.{Vars, all_cases, fields_cases}
-use Rattle.wy_kept_code.proofs.InPlaceLemmas.{IsIts, variable_its, read_its}
+use Rattle.wy_kept_code.proofs.InPlaceLemmas.{IsIts, variable_its, read_its, tested_its}
 use Rattle.wy_kept_code.proofs.ReadLemmas.{low_more, all_used, fields_used}
 use Rattle.wy_kept_code.proofs.OperandLemmas.{Range, Stands, stands_at, stands_live, ready_less, ready_at, base_low, around_more, code_lives, operands_ready, operand_safe, unary_safe, pair_safe, pair_ready}
-use Rattle.wy_kept_code.proofs.ChoiceLemmas.{binary_safe, const_ready, var_sure, is_test_ready, call_ready, list_ready, record_ready, first_of_range, more_of_one}
+use Rattle.wy_kept_code.proofs.ChoiceLemmas.{binary_safe, const_ready, var_sure, tested_ready, call_ready, list_ready, record_ready, first_of_range, more_of_one}
 use Rattle.wy_kept_code.proofs.QuantifierLemmas.{turned_known, quantify_ready}
 
 module _ (body : List Instr) (c : Context) (n : ℕ) (t : Gives) (f : ℕ) where
@@ -120,10 +120,11 @@ module _ (body : List Instr) (c : Context) (n : ℕ) (t : Gives) (f : ℕ) where
     code_safe (BinaryExpr i o a b) U fit low m s A d at next known nd around h exit =
         binary_safe body c n t f U low i o a b fit.0 (code_safe a U fit.0 low) (code_safe b U fit.1 low) fit.1 m s A d at next known nd around h exit
     code_safe (IsExpr i a ty) U fit low m s A d at next known nd around h exit =
-        let mid = at + length (code c a s d) in
-        let k = is_test_ready body c n t f U low ty a m s A d mid next known nd around (back body at (code c a s d) (is_test c ty d) next h) exit in
-        code_safe a U fit low m s A d at mid known nd around (front body at (code c a s d) (is_test c ty d) next h)
-        ((λ r l. k.0 r (inl l)), sure_less body t f m mid (λ r. B s A r ⊎ H a d r) (λ r. B s A r ⊎ (r ≡ d)) (λ r l. either (λ z. inl z) (λ z. inr z.0) l) k.1)
+        let w = tested_read ty a s in let its = tested_its c n ty a s U fit in
+        let first = unless_read w (code c a s d) in
+        let mid = at + length first in
+        operand_safe body c n t f U low w a its.0 (code_safe a U fit low) m s A d at mid known nd around (front body at first (tested c ty w d) next h)
+        (tested_ready body c n t f U low ty w a m s A d mid next its.1.0 known nd around (back body at first (tested c ty w d) next h) exit)
     code_safe (IndexExpr i a b) U fit low m s A d at next known nd around h exit =
         let w = read a s in let v = variable_in b in let its = read_its c n a s U fit.0 in
         let j : Instr = instr.Get d (standing w d) (standing v (suc d)) in

@@ -1,11 +1,13 @@
 -- Operands that are variables, which are read in their registers.
 use Rattle.std.proofs.Common.{◌≡◌, ◌≢◌, ◌<◌, ◌⊎◌, inl, inr, ℕ, Bool, true, false, cond, Option, Some, None, refl, sym, ◌∙◌}
 use Rattle.wy_core.specs.CoreTree.{Expr, NullExpr, BoolExpr, IntExpr, VarExpr, CallExpr, NegExpr, NotExpr, LenExpr, BinaryExpr, IsExpr, IndexExpr, FieldExpr, ListExpr, RepeatExpr, RecordExpr, QuantExpr}
+use Rattle.wy_core.specs.Types.{Ty}
 use Rattle.wy_tables.specs.declared.context.Context.{Context}
 use Rattle.wy_live.specs.Paths.{occurs}
 use Rattle.wy_live.specs.Sets.{Variables, has}
 use Rattle.wy_compiled.specs.Operands.{variable_in, is_still, read, read_first, standing, unless_read, plain_or_read}
-use Rattle.wy_compiled.specs.Expressions.{code}
+use Rattle.wy_compiled.specs.TypeTests.{looks}
+use Rattle.wy_compiled.specs.Expressions.{tested_read, code}
 use Rattle.wy_kept_code.specs.Fitting.{Fits}
 use Rattle.wy_kept_code.proofs.PieceLemmas.{less_not}
 use Rattle.wy_kept_code.proofs.SetLemmas.{never, same_of, Vars}
@@ -16,9 +18,18 @@ IsIts U None a = Unit {0}
 IsIts U (Some x) a = (variable_in a ≡ Some x) × U x
 
 -- it is live there
-abbrev pub IsLive : Option ℕ → Variables → Type 0
-IsLive None s = Unit {0}
-IsLive (Some x) s = Vars s x
+abbrev pub IsLiveIn : Option ℕ → Variables → Type 0
+IsLiveIn None s = Unit {0}
+IsLiveIn (Some x) s = Vars s x
+
+-- the test of this type begins with a look at it
+abbrev pub IsLooked : Option ℕ → Ty → Type 0
+IsLooked None ty = Unit {0}
+IsLooked (Some x) ty = looks ty ≡ true
+
+looked_at : (w : Option ℕ) (ty : Ty) → looks ty ≡ true → IsLooked w ty
+looked_at None ty e = tt
+looked_at (Some x) ty e = e
 
 same_some : (x y : ℕ) → Some x ≡ Some y → x ≡ y
 same_some x y e = cc
@@ -54,7 +65,7 @@ module _ (c : Context) (n : ℕ) where
 
   -- a first operand that is read in its register stays there while the second one is evaluated
   abbrev pub Waits : Option ℕ → Option ℕ → Expr ℕ → Variables → Type 0
-  Waits w v b s = IsLive w s ⊎ Still v b s
+  Waits w v b s = IsLiveIn w s ⊎ Still v b s
 
   pub variable_its : (a : Expr ℕ) (U : ℕ → Type 0) → Fits c n a U → IsIts U (variable_in a) a
   variable_its (NullExpr at) U fit = tt
@@ -74,11 +85,11 @@ module _ (c : Context) (n : ℕ) where
   variable_its (RecordExpr at fs) U fit = tt
   variable_its (QuantExpr at all x a b body) U fit = tt
 
-  live_its : (b : Bool) (at x : ℕ) (s : Variables) (U : ℕ → Type 0) → has s x ≡ b → U x → IsIts U (cond b (Some x) None) (VarExpr at x) × IsLive (cond b (Some x) None) s
+  live_its : (b : Bool) (at x : ℕ) (s : Variables) (U : ℕ → Type 0) → has s x ≡ b → U x → IsIts U (cond b (Some x) None) (VarExpr at x) × IsLiveIn (cond b (Some x) None) s
   live_its true at x s U e fit = ((refl, fit), e)
   live_its false at x s U e fit = (tt, tt)
 
-  pub read_its : (a : Expr ℕ) (s : Variables) (U : ℕ → Type 0) → Fits c n a U → IsIts U (read a s) a × IsLive (read a s) s
+  pub read_its : (a : Expr ℕ) (s : Variables) (U : ℕ → Type 0) → Fits c n a U → IsIts U (read a s) a × IsLiveIn (read a s) s
   read_its (NullExpr at) s U fit = (tt, tt)
   read_its (BoolExpr at truth) s U fit = (tt, tt)
   read_its (IntExpr at number) s U fit = (tt, tt)
@@ -121,3 +132,11 @@ module _ (c : Context) (n : ℕ) where
 
   pub first_its : (a b : Expr ℕ) (s : Variables) (U : ℕ → Type 0) → Fits c n a U → IsIts U (read_first a b s) a × Waits (read_first a b s) (variable_in b) b s
   first_its a b s U fit = first_by (is_still b) a b s U refl fit
+
+  tested_by : (look : Bool) (ty : Ty) (a : Expr ℕ) (s : Variables) (U : ℕ → Type 0) → looks ty ≡ look → Fits c n a U
+      → IsIts U (cond look (read a s) None) a × (IsLiveIn (cond look (read a s) None) s × IsLooked (cond look (read a s) None) ty)
+  tested_by true ty a s U e fit = let k = read_its a s U fit in (k.0, (k.1, looked_at (read a s) ty e))
+  tested_by false ty a s U e fit = (tt, (tt, tt))
+
+  pub tested_its : (ty : Ty) (a : Expr ℕ) (s : Variables) (U : ℕ → Type 0) → Fits c n a U → IsIts U (tested_read ty a s) a × (IsLiveIn (tested_read ty a s) s × IsLooked (tested_read ty a s) ty)
+  tested_its ty a s U fit = tested_by (looks ty) ty a s U refl fit

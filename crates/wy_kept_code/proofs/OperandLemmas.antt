@@ -15,16 +15,18 @@ use Rattle.wy_live.specs.Sets.{Variables, with}
 use Rattle.wy_live.specs.Walks.{before, turned}
 use Rattle.wy_pieces.specs.declared.steps.Step.{Step}
 use Rattle.wy_pieces.specs.declared.steps.Step.TheVariants.{Does}
-use Rattle.wy_pieces.specs.Steps.{clear, fork, registers_from}
+use Rattle.wy_pieces.specs.Steps.{clear, fork, registers_from, dropped}
+use Rattle.wy_core.specs.Types.{Ty}
+use Rattle.wy_compiled.specs.TypeTests.{test}
 use Rattle.wy_compiled.specs.Operands.{variable_in, read, read_first, standing, unless_read, plain_or_read}
-use Rattle.wy_compiled.specs.Expressions.{released, is_plain, arith as arith_code, compare, equal, operator, call, count_of, is_test, negated, list, record_of, quantify, code, codes, field_codes}
+use Rattle.wy_compiled.specs.Expressions.{released, is_plain, arith as arith_code, compare, equal, operator, call, count_of, is_test, negated, list, record_of, quantify, code, codes, field_codes, tested, tested_read}
 use Rattle.wy_kept_registers.specs.Keeping.{IsNone}
 use Rattle.wy_kept_code.specs.Alive.{IsOne, reads, changes, nexts, LiveAt}
 use Rattle.wy_kept_code.specs.Safe.{Gives, gone, Into, After, Onward, Safe}
 use Rattle.wy_kept_code.specs.Fitting.{IsValue, Fits}
 use Rattle.wy_kept_code.proofs.PieceLemmas.{either, one_not_none, less_not, Spans, front, back, tail, ended, live_reads, live_on, Lives, Sure, sure_less, safe_step, safe_clears, safe_at, lives_on, lives_at}
 use Rattle.wy_kept_code.proofs.SetLemmas.{never, not_both, Vars, before_cases, before_of, with_cases, with_of}
-use Rattle.wy_kept_code.proofs.InPlaceLemmas.{IsIts, IsLive, Waits, variable_occurs}
+use Rattle.wy_kept_code.proofs.InPlaceLemmas.{IsIts, IsLiveIn, Waits, variable_occurs}
 use Rattle.wy_kept_code.proofs.ReadLemmas.{Low, Strict, occurs_used, code_live}
 
 -- ---- a range of registers
@@ -82,6 +84,10 @@ module _ (body : List Instr) (c : Context) (n : ℕ) where
   strict_some : (o : Op) → Strict body c n o → (d x y : ℕ) (plain : Bool) (first second : List Step) → first ++ (second ++ operator o d x y plain) ≡ [] → ⊥
   strict_some o strict d x y plain first second e = back_some first (second ++ operator o d x y plain) (λ g. back_some second (operator o d x y plain) (λ k. operator_some o strict d x y plain k) g) e
 
+  tested_some : (ty : Ty) (w : Option ℕ) (d : ℕ) → tested c ty w d ≡ [] → ⊥
+  tested_some ty None d e = back_some (test c ty d (suc d) (suc (suc d))) (dropped d (suc (suc d)) ++ Does (instr.Move d (suc d)) ∷ []) (λ g. cc) e
+  tested_some ty (Some x) d e = back_some (test c ty x (suc d) (suc (suc d))) (Does (instr.Move d (suc d)) ∷ []) (λ g. cc) e
+
   -- an operator has code, and so has the first operand of `&&` and `||`
   binary_some : (o : Op) (i : ℕ) (a b : Expr ℕ) (s : Variables) (d : ℕ) → (code c a (before b s) d ≡ [] → ⊥) → code c (BinaryExpr i o a b) s d ≡ [] → ⊥
   binary_some op.Add i a b s d h e = strict_some op.Add tt d (standing (read_first a b s) d) (standing (variable_in b) (suc d)) (plain_or_read (variable_in b) (is_plain b)) (unless_read (read_first a b s) (code c a (before b s) d)) (unless_read (variable_in b) (code c b s (suc d))) e
@@ -108,7 +114,7 @@ module _ (body : List Instr) (c : Context) (n : ℕ) where
   code_some (NotExpr at a) U s d fit e = back_some (unless_read (variable_in a) (code c a s d)) (Does (instr.Not d (standing (variable_in a) d)) ∷ []) (λ g. cc) e
   code_some (LenExpr at a) U s d fit e = back_some (unless_read (read a s) (code c a s d)) (Does (instr.Len d (standing (read a s) d)) ∷ []) (λ g. cc) e
   code_some (BinaryExpr at o a b) U s d fit e = binary_some o at a b s d (code_some a U (before b s) d fit.0) e
-  code_some (IsExpr at a ty) U s d fit e = front_some (code c a s d) (is_test c ty d) (code_some a U s d fit) e
+  code_some (IsExpr at a ty) U s d fit e = back_some (unless_read (tested_read ty a s) (code c a s d)) (tested c ty (tested_read ty a s) d) (tested_some ty (tested_read ty a s) d) e
   code_some (IndexExpr at a b) U s d fit e =
       let second = unless_read (variable_in b) (code c b s (suc d)) in let last : List Step = Does (instr.Get d (standing (read a s) d) (standing (variable_in b) (suc d))) ∷ [] in
       back_some (unless_read (read a s) (code c a (before b s) d)) (second ++ last) (λ g. back_some second last (λ k. cc) g) e
@@ -144,7 +150,7 @@ module _ (body : List Instr) (c : Context) (n : ℕ) where
     stands_at (Some x) a d r h = h
 
     -- it is a variable that is live behind, where the register of a value is one of these, which hold no list behind
-    pub stands_live : (w : Option ℕ) (a : Expr ℕ) (s : Variables) (d r : ℕ) (rs : List ℕ) → IsLive w s → IsOne d rs → Stands w a d r → IsNone r rs → Vars s r
+    pub stands_live : (w : Option ℕ) (a : Expr ℕ) (s : Variables) (d r : ℕ) (rs : List ℕ) → IsLiveIn w s → IsOne d rs → Stands w a d r → IsNone r rs → Vars s r
     stands_live None a s d r rs live one h none = absurd (one_not_none r rs (subst (λ (z : ℕ). IsOne z rs) (sym h.0) one) none)
     stands_live (Some x) a s d r rs live one h none = subst (λ (z : ℕ). Vars s z) (sym h) live
 
@@ -340,12 +346,12 @@ module _ (body : List Instr) (c : Context) (n : ℕ) where
           (λ r x g. absurd (g.1.0 (stands_at w a d r x))) (λ r x g. absurd (g.1.1.0 (stands_at v b (suc d) r x))) (λ r P g. g) (λ k P z. z) exit
 
       -- a right operand of an equation that isn't released behind it is plain, or a variable that is live there
-      plain_stays : (v : Option ℕ) (b : Expr ℕ) (s : Variables) (d r : ℕ) → IsLive v s → plain_or_read v (is_plain b) ≡ true → Stands v b d r → Vars s r
+      plain_stays : (v : Option ℕ) (b : Expr ℕ) (s : Variables) (d r : ℕ) → IsLiveIn v s → plain_or_read v (is_plain b) ≡ true → Stands v b d r → Vars s r
       plain_stays None b s d r live e h = not_both (is_plain b) e h.1
       plain_stays (Some x) b s d r live e h = subst (λ (z : ℕ). Vars s z) (sym h) live
 
       -- behind an equation its right operand is released where it may be a list or a record
-      pub equal_ready : (w v : Option ℕ) (a b : Expr ℕ) (plain : Bool) → plain_or_read v (is_plain b) ≡ plain → (m : ℕ) (s : Variables) (A : ℕ → Type 0) (d p next : ℕ) → IsLive w s → IsLive v s → Known s U → n ≤ d → Around d A
+      pub equal_ready : (w v : Option ℕ) (a b : Expr ℕ) (plain : Bool) → plain_or_read v (is_plain b) ≡ plain → (m : ℕ) (s : Variables) (A : ℕ → Type 0) (d p next : ℕ) → IsLiveIn w s → IsLiveIn v s → Known s U → n ≤ d → Around d A
           → Spans body p (equal plain d (standing w d) (standing v (suc d))) next → Exit m next (Base s A) Nothing_more → Ready m p (Both w v a b s A d)
       equal_ready w v a b true same m s A d p next live_w live_v known nd around h exit =
           pair_ready w v a b m s A d p next (instr.Equal d (standing w d) (standing v (suc d))) Nothing_more known nd around h (λ r l. (less_not r d l, tt)) (inl refl) (inl refl) (inr (inl refl))

@@ -23,14 +23,14 @@ use Rattle.wy_pieces.specs.declared.steps.Step.TheVariants.{Does, GoesOn}
 use Rattle.wy_pieces.specs.Steps.{clear, fork, registers_from}
 use Rattle.wy_compiled.specs.TypeTests.{test}
 use Rattle.wy_compiled.specs.Operands.{variable_in, read, read_first, standing, unless_read, plain_or_read}
-use Rattle.wy_compiled.specs.Expressions.{lost, released, is_plain, operator, call, count_of, field_count, is_test, negated, list, record_of, turn_end, said, ends, number_turns, quantify, code, codes, field_codes}
+use Rattle.wy_compiled.specs.Expressions.{lost, released, is_plain, operator, call, count_of, field_count, is_test, tested, tested_read, negated, list, record_of, turn_end, said, ends, number_turns, quantify, code, codes, field_codes}
 use Rattle.wy_kept_registers.specs.Keeping.{IsNone}
 use Rattle.wy_kept_code.specs.Alive.{IsOne, reads, changes, nexts, LiveAt}
 use Rattle.wy_kept_code.specs.Fitting.{IsValue, Fits, FitAll, FitFields}
 use Rattle.wy_kept_code.proofs.PieceLemmas.{either, less_not, From, none_below, Spans, front, back, tail, live_reads, live_on, live_last, live_first, live_second, Turning, turning}
 use Rattle.wy_kept_code.proofs.SetLemmas.{never, not_both, true_or_not, same_of, same_to, other_of, Vars, before_cases, before_of, with_of, all_of, fields_of, turned_cases, turned_of, not_lost}
-use Rattle.wy_kept_code.proofs.InPlaceLemmas.{IsIts, Waits, variable_occurs, release_apart, variable_its, read_its, first_its}
-use Rattle.wy_kept_code.proofs.TestLemmas.{at_end, test_live}
+use Rattle.wy_kept_code.proofs.InPlaceLemmas.{IsIts, IsLooked, tested_its, Waits, variable_occurs, release_apart, variable_its, read_its, first_its}
+use Rattle.wy_kept_code.proofs.TestLemmas.{at_end, test_live, test_reads}
 
 pub from_registers : (d r n : ℕ) → d ≤ r → From d (registers_from r n)
 from_registers d r zero h = tt
@@ -166,7 +166,7 @@ module _ (body : List Instr) where
     operator_live op.And d x y plain p next r h low other l = at_end body p next r h l
     operator_live op.Or d x y plain p next r h low other l = at_end body p next r h l
 
-    pub is_test_live : (ty : Ty) (d p next r : ℕ) → Spans body p (is_test c ty d) next → r < d → LiveAt body next r → LiveAt body p r
+    is_test_live : (ty : Ty) (d p next r : ℕ) → Spans body p (is_test c ty d) next → r < d → LiveAt body next r → LiveAt body p r
     is_test_live ty d p next r h low l =
         let one = test c ty d (suc d) (suc (suc d)) in
         let move : Instr = instr.Move (suc (suc d)) d in let last : Instr = instr.Move d (suc d) in
@@ -271,7 +271,7 @@ module _ (body : List Instr) where
     standing_below U lows (Some x) a its d nd = let l = lows x its.1 in omega (arith, l, nd)
 
     -- what an operand uses is live in front of its code, where what is read in its register is so behind
-    operand_live : (U : ℕ → Type 0) (w : Option ℕ) (a : Expr ℕ) → IsIts U w a → Lively a → (s : Variables) (d at next r : ℕ) → n ≤ d → Spans body at (unless_read w (code c a s d)) next → r < d → ReadThere w next
+    pub operand_live : (U : ℕ → Type 0) (w : Option ℕ) (a : Expr ℕ) → IsIts U w a → Lively a → (s : Variables) (d at next r : ℕ) → n ≤ d → Spans body at (unless_read w (code c a s d)) next → r < d → ReadThere w next
         → Goes (occurs a r) s next r → LiveAt body at r
     operand_live U None a its is s d at next r nd h low there way = is s d at next r nd h low way
     operand_live U (Some x) a its is s d at next r nd h low there way =
@@ -302,6 +302,18 @@ module _ (body : List Instr) where
         let t = with s x in
         operand_live U v b too is t (suc d) at next x (omega (arith, nd)) (subst (λ (z : List Step). Spans body at z next) (still t (suc d)) h) (let l = lows x its.1 in omega (arith, l, nd)) there
         (inr (inl (with_of s x x (inl refl)), here))
+
+    -- a test, which reads a variable that stays in its register
+    tested_live : (ty : Ty) (w : Option ℕ) → IsLooked w ty → (d next r : ℕ) → r < d → (p : ℕ) → Spans body p (tested c ty w d) next → ReadThere w p × (LiveAt body next r → LiveAt body p r)
+    tested_live ty None look d next r low p h = (tt, λ l. is_test_live ty d p next r h low l)
+    tested_live ty (Some x) look d next r low p h =
+        let one = test c ty x (suc d) (suc (suc d)) in let last : Instr = instr.Move d (suc d) in
+        let mid = p + length one in
+        let first = front body p one (Does last ∷ []) next h in
+        let apart = below_two r d low in (
+          test_reads body c ty look x (suc d) (suc (suc d)) p mid first,
+          λ l. test_live body c ty x (suc d) (suc (suc d)) p mid r first (omega (arith, low)) apart.1 (live_last body mid next r last (back body p one (Does last ∷ []) next h) (apart.0, (apart.1, tt)) (inl refl) l),
+        )
 
     -- two operands and what is behind them
     pair_live : (U : ℕ → Type 0) → Low U → (w v : Option ℕ) (a b : Expr ℕ) → IsIts U w a → IsIts U v b → Lively a → Lively b → (s : Variables) (d at next r : ℕ) → n ≤ d → Waits c n w v b s → (rest : List Step)
@@ -439,9 +451,9 @@ module _ (body : List Instr) where
       code_live (BinaryExpr i o a b) U s d at next r fit lows nd h low way =
           binary_live U lows i o a b fit.0 fit.1 (λ s2 d2 at2 next2 r2 nd2 h2 low2 way2. code_live a U s2 d2 at2 next2 r2 fit.0 lows nd2 h2 low2 way2) (λ s2 d2 at2 next2 r2 nd2 h2 low2 way2. code_live b U s2 d2 at2 next2 r2 fit.1 lows nd2 h2 low2 way2) s d at next r nd h low way
       code_live (IsExpr i a ty) U s d at next r fit lows nd h low way =
-          let mid = at + length (code c a s d) in
-          code_live a U s d at mid r fit lows nd (front body at (code c a s d) (is_test c ty d) next h) low
-          (goes_on (occurs a r) s mid next r (λ l. is_test_live ty d mid next r (back body at (code c a s d) (is_test c ty d) next h) low l) way)
+          let w = tested_read ty a s in let its = tested_its c n ty a s U fit in
+          one_live U w a its.0 (λ s2 d2 at2 next2 r2 nd2 h2 low2 way2. code_live a U s2 d2 at2 next2 r2 fit lows nd2 h2 low2 way2) s d at next r nd (tested c ty w d)
+          (λ p sp. tested_live ty w its.1.1 d next r low p sp) h low way
       code_live (IndexExpr i a b) U s d at next r fit lows nd h low way =
           let w = read a s in let v = variable_in b in let j : Instr = instr.Get d (standing w d) (standing v (suc d)) in
           let its = read_its c n a s U fit.0 in
