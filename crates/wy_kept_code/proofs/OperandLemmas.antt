@@ -19,7 +19,7 @@ use Rattle.wy_pieces.specs.Steps.{clear, fork, registers_from, dropped}
 use Rattle.wy_core.specs.Types.{Ty}
 use Rattle.wy_compiled.specs.TypeTests.{test}
 use Rattle.wy_compiled.specs.Operands.{variable_in, read, read_first, standing, unless_read, plain_or_read}
-use Rattle.wy_compiled.specs.Expressions.{released, is_plain, arith as arith_code, compare, equal, operator, call, count_of, is_test, negated, list, record_of, quantify, code, codes, field_codes, tested, tested_read}
+use Rattle.wy_compiled.specs.Expressions.{released, is_plain, arith as arith_code, compare, equal, operator, call, count_of, negated, list, record_of, quantify, code, codes, field_codes, tested, tested_read}
 use Rattle.wy_kept_registers.specs.Keeping.{IsNone}
 use Rattle.wy_kept_code.specs.Alive.{IsOne, reads, changes, nexts, LiveAt}
 use Rattle.wy_kept_code.specs.Safe.{Gives, gone, Into, After, Onward, Safe}
