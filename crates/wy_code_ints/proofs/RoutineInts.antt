@@ -11,12 +11,12 @@ use Rattle.wy_code.specs.declared.instructions.Instr.TheVariants as instr
 use Rattle.wy_pieces.specs.declared.steps.Step as steps
 use Rattle.wy_pieces.specs.declared.steps.Step.TheVariants.{Does, GoesOn, GoesBack, GoesOnUnless}
 use Rattle.wy_pieces.specs.Steps.{clear, dropped, fork, over, turns}
-use Rattle.wy_pieces.specs.Placing.{placed, routine_of}
+use Rattle.wy_pieces.specs.Placing.{placed}
 use Rattle.wy_tables.specs.declared.context.Context.{Context}
 use Rattle.wy_tables.specs.declared.targets.Target.{Target}
 use Rattle.wy_tables.specs.declared.targets.Target.TheVariants.{Declared, Prints, PrintsInt, Nothing}
 use Rattle.wy_tables.specs.Tables.{target, context_of}
-use Rattle.wy_formed.specs.Literals.{IntsExpr, IntsExprs, IntsClauses, IntsOption, IntsPath, IntsStmt, IntsStmts, IntsRoutine, Ints}
+use Rattle.wy_formed.specs.Literals.{IntsExpr, IntsClauses, IntsOption, IntsPath, IntsStmt, IntsStmts, Ints}
 use Rattle.wy_compiled.specs.TypeTests as types
 use Rattle.wy_compiled.specs.Operands.{read, unless_read}
 use Rattle.wy_compiled.specs.Expressions.{released, release_unless, is_plain, count_of, code, codes}
