@@ -25,6 +25,7 @@ use Rattle.wy_pieces.specs.declared.steps.Step.{Step}
 use Rattle.wy_pieces.specs.declared.steps.Step.TheVariants.{Does}
 use Rattle.wy_pieces.specs.Steps.{registers_from, dropped}
 use Rattle.wy_compiled.specs.TypeTests.{test}
+use Rattle.wy_compiled.specs.Operands.{variable_in, read, standing, unless_read}
 use Rattle.wy_compiled.specs.Expressions.{code, codes, field_codes, released, negated, call, is_test, quantify, count_of, field_count}
 use Rattle.wy_numbered_tables.specs.Numbered.{NumberedTy, NumberedExpr, NumberedExprs, NumberedFields}
 use Rattle.wy_sem.specs.Meter.{Meter, Outcome, Done, Fault, More, Spent, Run, ◌>>=◌, turn, choose}
@@ -48,8 +49,9 @@ use Rattle.wy_simulated_expressions.specs.Rests.{Called, Told, Rests}
 use Rattle.wy_simulated_expressions.specs.Evaluated.{Anything, IsDeclared, Fits, FitAll, Gained, GotAll, IsEvaluated, AreEvaluated, ExpressionsAreEvaluated}
 use Rattle.wy_simulated_expressions.proofs.KnownLemmas.{with_has, known_all, known_fields, known_turned, is_below, still_live}
 use Rattle.wy_simulated_expressions.proofs.KnowingLemmas.{slot_proper, literal_proper, negated_proper, denied_proper, length_proper, field_proper, item_proper, repeated_proper, data_proper, data_many}
+use Rattle.wy_simulated_expressions.proofs.ReadLemmas.{stands_low, stood_got, variable_read, live_read, live_kept}
 use Rattle.wy_simulated_expressions.proofs.PartLemmas.{fills, denied_follows, length_follows, field_follows, negated_follows, item_follows, repeated_follows}
-use Rattle.wy_simulated_expressions.proofs.OperandLemmas.{IsBrief, paid, variable, first_part, one_part, two_parts, strict, early}
+use Rattle.wy_simulated_expressions.proofs.OperandLemmas.{IsBrief, paid, variable, first_part, one_part, two_parts, numbers, alike, early}
 use Rattle.wy_simulated_expressions.proofs.QuantifierLemmas.{turns_follow}
 
 -- the fields that values in a row make
@@ -290,55 +292,55 @@ module _ (c : Context) (routines : List Routine) (f : ℕ) (r : Routine) (there 
           (all args nu iz ca.1 me (one_fits (sizes args) top le) o k vs s d at store regs callers j b.1 low known behind (stand_front r.body at xs ys stands) live proper whole (omega (arith, l, few)))
           (λ us t last le2 got. called vs d (at + length xs) g (w.place i) us s store regs last callers t (count_of args) ca.0 (omega (arith, le2, l, few)) (is_below n vs s known) behind whole got (stand_back r.body at xs ys stands))))
       expr (NegExpr i a) nu iz ca me le o k vs s d at store regs callers m b low known behind stands live proper whole few =
-          one_part c routines f r there w n wide most a (expr a nu iz ca me (one_fits (size a) top le)) (negated d) (operations.negated (w.place i)) 0 2 (size a + 1) (omega arith) (omega arith) (λ v j p. negated_proper (w.place i) j v p) o k vs s d at store regs callers m
+          one_part c routines f r there w n wide most a (variable_in a) (variable_read a) (expr a nu iz ca me (one_fits (size a) top le)) (negated d (standing (variable_in a) d)) (operations.negated (w.place i)) 0 2 (size a + 1) (omega arith) (omega arith) (λ v j p. negated_proper (w.place i) j v p) o k vs s d at store regs callers m
           (λ v j p last pv got ys. follows_at mach wide 0 2 j (at_place f p last callers j.output) (operations.negated (w.place i) v j) f (p + 1 + 1) (p + 2) callers (Got vs n d s store regs) (omega arith)
-          (negated_follows mach f r there n wide vs s (is_below n vs s known) store d p behind regs last whole callers (w.place i) j v got ys))
+          (negated_follows mach f r there n wide vs s (is_below n vs s known) store d p (variable_in a) behind regs last whole callers (w.place i) j v got (stands_low vs n d (variable_in a) s store regs last v known behind got) ys))
           b low known behind stands live proper whole few
       expr (NotExpr i a) nu iz ca me le o k vs s d at store regs callers m b low known behind stands live proper whole few =
-          one_part c routines f r there w n wide most a (expr a nu iz ca me (one_fits (size a) top le)) (Does (instr.Not d d) ∷ []) (denied (w.place i)) 0 1 (size a + 1) (omega arith) (omega arith) (λ v j p. denied_proper (w.place i) j v p) o k vs s d at store regs callers m
-          (λ v j p last pv got ys. denied_follows mach f r there n wide vs s (is_below n vs s known) store d p behind regs last whole callers (w.place i) j v got ys.0)
+          one_part c routines f r there w n wide most a (variable_in a) (variable_read a) (expr a nu iz ca me (one_fits (size a) top le)) (Does (instr.Not d (standing (variable_in a) d)) ∷ []) (denied (w.place i)) 0 1 (size a + 1) (omega arith) (omega arith) (λ v j p. denied_proper (w.place i) j v p) o k vs s d at store regs callers m
+          (λ v j p last pv got ys. denied_follows mach f r there n wide vs s (is_below n vs s known) store d p (variable_in a) behind regs last whole callers (w.place i) j v got ys.0)
           b low known behind stands live proper whole few
       expr (LenExpr i a) nu iz ca me le o k vs s d at store regs callers m b low known behind stands live proper whole few =
-          one_part c routines f r there w n wide most a (expr a nu iz ca me (one_fits (size a) top le)) (Does (instr.Len d d) ∷ []) (length_result (w.place i)) 0 1 (size a + 1) (omega arith) (omega arith) (λ v j p. length_proper (w.place i) j v p) o k vs s d at store regs callers m
-          (λ v j p last pv got ys. length_follows mach f r there n wide vs s (is_below n vs s known) store d p behind regs last whole callers (w.place i) j v got ys.0)
+          one_part c routines f r there w n wide most a (read a s) (live_read a s) (expr a nu iz ca me (one_fits (size a) top le)) (Does (instr.Len d (standing (read a s) d)) ∷ []) (length_result (w.place i)) 0 1 (size a + 1) (omega arith) (omega arith) (λ v j p. length_proper (w.place i) j v p) o k vs s d at store regs callers m
+          (λ v j p last pv got ys. length_follows mach f r there n wide vs s (is_below n vs s known) store d p (read a s) behind regs last whole callers (w.place i) j v got ys.0)
           b low known behind stands live proper whole few
       expr (BinaryExpr i op.Add a e2) nu iz ca me le o k vs s d at store regs callers m b low known behind stands live proper whole few =
-          strict c routines f r there w n wide most op.Add tt (w.place i) a e2 (expr a nu.0 iz.0 ca.0 (λ z h. me z (inl h)) (first_fits (size a) (size e2) top le)) (expr e2 nu.1 iz.1 ca.1 (λ z h. me z (inr h)) (second_fits (size a) (size e2) top le)) o k vs s d at store regs callers m b low known behind stands live proper whole few
+          numbers c routines f r there w n wide most op.Add tt (w.place i) a e2 (expr a nu.0 iz.0 ca.0 (λ z h. me z (inl h)) (first_fits (size a) (size e2) top le)) (expr e2 nu.1 iz.1 ca.1 (λ z h. me z (inr h)) (second_fits (size a) (size e2) top le)) s o k vs d at store regs callers m b low known behind stands live proper whole few
       expr (BinaryExpr i op.Sub a e2) nu iz ca me le o k vs s d at store regs callers m b low known behind stands live proper whole few =
-          strict c routines f r there w n wide most op.Sub tt (w.place i) a e2 (expr a nu.0 iz.0 ca.0 (λ z h. me z (inl h)) (first_fits (size a) (size e2) top le)) (expr e2 nu.1 iz.1 ca.1 (λ z h. me z (inr h)) (second_fits (size a) (size e2) top le)) o k vs s d at store regs callers m b low known behind stands live proper whole few
+          numbers c routines f r there w n wide most op.Sub tt (w.place i) a e2 (expr a nu.0 iz.0 ca.0 (λ z h. me z (inl h)) (first_fits (size a) (size e2) top le)) (expr e2 nu.1 iz.1 ca.1 (λ z h. me z (inr h)) (second_fits (size a) (size e2) top le)) s o k vs d at store regs callers m b low known behind stands live proper whole few
       expr (BinaryExpr i op.Mul a e2) nu iz ca me le o k vs s d at store regs callers m b low known behind stands live proper whole few =
-          strict c routines f r there w n wide most op.Mul tt (w.place i) a e2 (expr a nu.0 iz.0 ca.0 (λ z h. me z (inl h)) (first_fits (size a) (size e2) top le)) (expr e2 nu.1 iz.1 ca.1 (λ z h. me z (inr h)) (second_fits (size a) (size e2) top le)) o k vs s d at store regs callers m b low known behind stands live proper whole few
+          numbers c routines f r there w n wide most op.Mul tt (w.place i) a e2 (expr a nu.0 iz.0 ca.0 (λ z h. me z (inl h)) (first_fits (size a) (size e2) top le)) (expr e2 nu.1 iz.1 ca.1 (λ z h. me z (inr h)) (second_fits (size a) (size e2) top le)) s o k vs d at store regs callers m b low known behind stands live proper whole few
       expr (BinaryExpr i op.Div a e2) nu iz ca me le o k vs s d at store regs callers m b low known behind stands live proper whole few =
-          strict c routines f r there w n wide most op.Div tt (w.place i) a e2 (expr a nu.0 iz.0 ca.0 (λ z h. me z (inl h)) (first_fits (size a) (size e2) top le)) (expr e2 nu.1 iz.1 ca.1 (λ z h. me z (inr h)) (second_fits (size a) (size e2) top le)) o k vs s d at store regs callers m b low known behind stands live proper whole few
+          numbers c routines f r there w n wide most op.Div tt (w.place i) a e2 (expr a nu.0 iz.0 ca.0 (λ z h. me z (inl h)) (first_fits (size a) (size e2) top le)) (expr e2 nu.1 iz.1 ca.1 (λ z h. me z (inr h)) (second_fits (size a) (size e2) top le)) s o k vs d at store regs callers m b low known behind stands live proper whole few
       expr (BinaryExpr i op.Mod a e2) nu iz ca me le o k vs s d at store regs callers m b low known behind stands live proper whole few =
-          strict c routines f r there w n wide most op.Mod tt (w.place i) a e2 (expr a nu.0 iz.0 ca.0 (λ z h. me z (inl h)) (first_fits (size a) (size e2) top le)) (expr e2 nu.1 iz.1 ca.1 (λ z h. me z (inr h)) (second_fits (size a) (size e2) top le)) o k vs s d at store regs callers m b low known behind stands live proper whole few
+          numbers c routines f r there w n wide most op.Mod tt (w.place i) a e2 (expr a nu.0 iz.0 ca.0 (λ z h. me z (inl h)) (first_fits (size a) (size e2) top le)) (expr e2 nu.1 iz.1 ca.1 (λ z h. me z (inr h)) (second_fits (size a) (size e2) top le)) s o k vs d at store regs callers m b low known behind stands live proper whole few
       expr (BinaryExpr i op.Equal a e2) nu iz ca me le o k vs s d at store regs callers m b low known behind stands live proper whole few =
-          strict c routines f r there w n wide most op.Equal tt (w.place i) a e2 (expr a nu.0 iz.0 ca.0 (λ z h. me z (inl h)) (first_fits (size a) (size e2) top le)) (expr e2 nu.1 iz.1 ca.1 (λ z h. me z (inr h)) (second_fits (size a) (size e2) top le)) o k vs s d at store regs callers m b low known behind stands live proper whole few
+          alike c routines f r there w n wide most (w.place i) a e2 (expr a nu.0 iz.0 ca.0 (λ z h. me z (inl h)) (first_fits (size a) (size e2) top le)) (expr e2 nu.1 iz.1 ca.1 (λ z h. me z (inr h)) (second_fits (size a) (size e2) top le)) s o k vs d at store regs callers m b low known behind stands live proper whole few
       expr (BinaryExpr i op.Less a e2) nu iz ca me le o k vs s d at store regs callers m b low known behind stands live proper whole few =
-          strict c routines f r there w n wide most op.Less tt (w.place i) a e2 (expr a nu.0 iz.0 ca.0 (λ z h. me z (inl h)) (first_fits (size a) (size e2) top le)) (expr e2 nu.1 iz.1 ca.1 (λ z h. me z (inr h)) (second_fits (size a) (size e2) top le)) o k vs s d at store regs callers m b low known behind stands live proper whole few
+          numbers c routines f r there w n wide most op.Less tt (w.place i) a e2 (expr a nu.0 iz.0 ca.0 (λ z h. me z (inl h)) (first_fits (size a) (size e2) top le)) (expr e2 nu.1 iz.1 ca.1 (λ z h. me z (inr h)) (second_fits (size a) (size e2) top le)) s o k vs d at store regs callers m b low known behind stands live proper whole few
       expr (BinaryExpr i op.LessEqual a e2) nu iz ca me le o k vs s d at store regs callers m b low known behind stands live proper whole few =
-          strict c routines f r there w n wide most op.LessEqual tt (w.place i) a e2 (expr a nu.0 iz.0 ca.0 (λ z h. me z (inl h)) (first_fits (size a) (size e2) top le)) (expr e2 nu.1 iz.1 ca.1 (λ z h. me z (inr h)) (second_fits (size a) (size e2) top le)) o k vs s d at store regs callers m b low known behind stands live proper whole few
+          numbers c routines f r there w n wide most op.LessEqual tt (w.place i) a e2 (expr a nu.0 iz.0 ca.0 (λ z h. me z (inl h)) (first_fits (size a) (size e2) top le)) (expr e2 nu.1 iz.1 ca.1 (λ z h. me z (inr h)) (second_fits (size a) (size e2) top le)) s o k vs d at store regs callers m b low known behind stands live proper whole few
       expr (BinaryExpr i op.Greater a e2) nu iz ca me le o k vs s d at store regs callers m b low known behind stands live proper whole few =
-          strict c routines f r there w n wide most op.Greater tt (w.place i) a e2 (expr a nu.0 iz.0 ca.0 (λ z h. me z (inl h)) (first_fits (size a) (size e2) top le)) (expr e2 nu.1 iz.1 ca.1 (λ z h. me z (inr h)) (second_fits (size a) (size e2) top le)) o k vs s d at store regs callers m b low known behind stands live proper whole few
+          numbers c routines f r there w n wide most op.Greater tt (w.place i) a e2 (expr a nu.0 iz.0 ca.0 (λ z h. me z (inl h)) (first_fits (size a) (size e2) top le)) (expr e2 nu.1 iz.1 ca.1 (λ z h. me z (inr h)) (second_fits (size a) (size e2) top le)) s o k vs d at store regs callers m b low known behind stands live proper whole few
       expr (BinaryExpr i op.GreaterEqual a e2) nu iz ca me le o k vs s d at store regs callers m b low known behind stands live proper whole few =
-          strict c routines f r there w n wide most op.GreaterEqual tt (w.place i) a e2 (expr a nu.0 iz.0 ca.0 (λ z h. me z (inl h)) (first_fits (size a) (size e2) top le)) (expr e2 nu.1 iz.1 ca.1 (λ z h. me z (inr h)) (second_fits (size a) (size e2) top le)) o k vs s d at store regs callers m b low known behind stands live proper whole few
+          numbers c routines f r there w n wide most op.GreaterEqual tt (w.place i) a e2 (expr a nu.0 iz.0 ca.0 (λ z h. me z (inl h)) (first_fits (size a) (size e2) top le)) (expr e2 nu.1 iz.1 ca.1 (λ z h. me z (inr h)) (second_fits (size a) (size e2) top le)) s o k vs d at store regs callers m b low known behind stands live proper whole few
       expr (BinaryExpr i op.And a e2) nu iz ca me le o k vs s d at store regs callers m b low known behind stands live proper whole few =
           early c routines f r there w n wide most op.And tt (w.place i) a e2 (expr a nu.0 iz.0 ca.0 (λ z h. me z (inl h)) (first_fits (size a) (size e2) top le)) (expr e2 nu.1 iz.1 ca.1 (λ z h. me z (inr h)) (second_fits (size a) (size e2) top le)) o k vs s d at store regs callers m b low known behind stands live proper whole few
       expr (BinaryExpr i op.Or a e2) nu iz ca me le o k vs s d at store regs callers m b low known behind stands live proper whole few =
           early c routines f r there w n wide most op.Or tt (w.place i) a e2 (expr a nu.0 iz.0 ca.0 (λ z h. me z (inl h)) (first_fits (size a) (size e2) top le)) (expr e2 nu.1 iz.1 ca.1 (λ z h. me z (inr h)) (second_fits (size a) (size e2) top le)) o k vs s d at store regs callers m b low known behind stands live proper whole few
       expr (IsExpr i a ty) nu iz ca me le o k vs s d at store regs callers m b low known behind stands live proper whole few =
-          one_part c routines f r there w n wide most a (expr a nu.0 iz ca (λ z h. me z (inl h)) (first_fits (size a) (size_ty ty) top le)) (is_test c ty d) (λ v j. w.test true ty v j >>= (λ t. Done (Truth t))) (size_ty ty) 3 (size a + size_ty ty + 1) (omega arith) (omega arith) (λ v j p. truth_gives ty v j) o k vs s d at store regs callers m
-          (λ v j p last pv got ys. told_follows vs d p ty s store regs last callers j v o.types b.1 nu.1 (λ z h. me z (inr h)) (omega (arith, le, small)) (is_below n vs s known) behind whole pv got ys)
+          one_part c routines f r there w n wide most a None tt (expr a nu.0 iz ca (λ z h. me z (inl h)) (first_fits (size a) (size_ty ty) top le)) (is_test c ty d) (λ v j. w.test true ty v j >>= (λ t. Done (Truth t))) (size_ty ty) 3 (size a + size_ty ty + 1) (omega arith) (omega arith) (λ v j p. truth_gives ty v j) o k vs s d at store regs callers m
+          (λ v j p last pv got ys. told_follows vs d p ty s store regs last callers j v o.types b.1 nu.1 (λ z h. me z (inr h)) (omega (arith, le, small)) (is_below n vs s known) behind whole pv (stood_got vs n d s store regs last v got) ys)
           b.0 low known behind stands live proper whole few
       expr (IndexExpr i a e2) nu iz ca me le o k vs s d at store regs callers m b low known behind stands live proper whole few =
-          let ys : List Step = Does (instr.Get d d (suc d)) ∷ [] in
-          paid c routines f r there w n wide most (size a + size e2 + 0) 1 (size a + size e2 + 1) at regs callers m (λ j. eval w true a store j >>= (λ v t. eval w true e2 store t >>= item_of (w.place i) v)) (at + length (code c a (before e2 s) d ++ (code c e2 s (suc d) ++ ys))) (Gained vs n d s store regs) (omega arith) (omega arith)
-          (λ j e l. two_parts c routines f r there w n wide most a e2 (expr a nu.0 iz.0 ca.0 (λ z h. me z (inl h)) (first_fits (size a) (size e2) top le)) (expr e2 nu.1 iz.1 ca.1 (λ z h. me z (inr h)) (second_fits (size a) (size e2) top le)) ys (item_of (w.place i)) 0 1 (λ v u j p q. item_proper (w.place i) j v u p q) o k vs s s d at store regs callers j
-          (λ v u t p middle last le2 pv pu one two ys. item_follows mach f r there n wide vs s (is_below n vs s known) store d p behind regs middle last whole callers (w.place i) t v u one.value one.kept one.size two ys.0)
+          let ys : List Step = Does (instr.Get d (standing (read a s) d) (standing (variable_in e2) (suc d))) ∷ [] in
+          paid c routines f r there w n wide most (size a + size e2 + 0) 1 (size a + size e2 + 1) at regs callers m (λ j. eval w true a store j >>= (λ v t. eval w true e2 store t >>= item_of (w.place i) v)) (at + length (unless_read (read a s) (code c a (before e2 s) d) ++ (unless_read (variable_in e2) (code c e2 s (suc d)) ++ ys))) (Gained vs n d s store regs) (omega arith) (omega arith)
+          (λ j e l. two_parts c routines f r there w n wide most a e2 (read a s) (variable_in e2) (live_read a s) (variable_read e2) (expr a nu.0 iz.0 ca.0 (λ z h. me z (inl h)) (first_fits (size a) (size e2) top le)) (expr e2 nu.1 iz.1 ca.1 (λ z h. me z (inr h)) (second_fits (size a) (size e2) top le)) ys (item_of (w.place i)) 0 1 (λ v u j p q. item_proper (w.place i) j v u p q) o k vs s s d at store regs callers j (live_kept a s)
+          (λ v u t p last le2 pv pu both ys. item_follows mach f r there n wide vs s (is_below n vs s known) store d (standing (read a s) d) (standing (variable_in e2) (suc d)) p behind regs last whole callers (w.place i) t v u both ys.0)
           b.0 b.1 low known behind stands live proper whole (omega (arith, l, few)))
       expr (FieldExpr i a name) nu iz ca me le o k vs s d at store regs callers m b low known behind stands live proper whole few =
-          one_part c routines f r there w n wide most a (expr a nu.0 iz ca me (one_fits (size a) top le)) (Does (instr.Field d d (number_of name c.table.names)) ∷ []) (λ v. field_of (w.place i) v name) 0 1 (size a + 1) (omega arith) (omega arith) (λ v j p. field_proper (w.place i) j name v p) o k vs s d at store regs callers m
-          (λ v j p last pv got ys. field_follows mach f r there n wide vs s (is_below n vs s known) store d p behind regs last whole callers (w.place i) j v got (number_of name c.table.names) name nu.1 ys.0)
+          one_part c routines f r there w n wide most a (read a s) (live_read a s) (expr a nu.0 iz ca me (one_fits (size a) top le)) (Does (instr.Field d (standing (read a s) d) (number_of name c.table.names)) ∷ []) (λ v. field_of (w.place i) v name) 0 1 (size a + 1) (omega arith) (omega arith) (λ v j p. field_proper (w.place i) j name v p) o k vs s d at store regs callers m
+          (λ v j p last pv got ys. field_follows mach f r there n wide vs s (is_below n vs s known) store d p (read a s) behind regs last whole callers (w.place i) j v got (number_of name c.table.names) name nu.1 ys.0)
           b low known behind stands live proper whole few
       expr (ListExpr i items) nu iz ca me le o k vs s d at store regs callers m b low known behind stands live proper whole few =
           let xs = codes c items s d in
@@ -354,8 +356,8 @@ module _ (c : Context) (routines : List Routine) (f : ℕ) (r : Routine) (there 
       expr (RepeatExpr i a e2) nu iz ca me le o k vs s d at store regs callers m b low known behind stands live proper whole few =
           let ys : List Step = Does (instr.Fill d d (suc d)) ∷ [] in
           paid c routines f r there w n wide most (size a + size e2 + 0) 1 (size a + size e2 + 1) at regs callers m (λ j. eval w true a store j >>= (λ v t. eval w true e2 store t >>= repeated (w.place i) v)) (at + length (code c a (before e2 s) d ++ (code c e2 s (suc d) ++ ys))) (Gained vs n d s store regs) (omega arith) (omega arith)
-          (λ j e l. two_parts c routines f r there w n wide most a e2 (expr a nu.0 iz.0 ca.0 (λ z h. me z (inl h)) (first_fits (size a) (size e2) top le)) (expr e2 nu.1 iz.1 ca.1 (λ z h. me z (inr h)) (second_fits (size a) (size e2) top le)) ys (repeated (w.place i)) 0 1 (λ v u j p q. repeated_proper (w.place i) j v u p q) o k vs s s d at store regs callers j
-          (λ v u t p middle last le2 pv pu one two ys. repeated_follows mach f r there n wide vs s (is_below n vs s known) store d p behind regs middle last whole callers (w.place i) t v u one.value one.kept one.size two ys.0)
+          (λ j e l. two_parts c routines f r there w n wide most a e2 None None tt tt (expr a nu.0 iz.0 ca.0 (λ z h. me z (inl h)) (first_fits (size a) (size e2) top le)) (expr e2 nu.1 iz.1 ca.1 (λ z h. me z (inr h)) (second_fits (size a) (size e2) top le)) ys (repeated (w.place i)) 0 1 (λ v u j p q. repeated_proper (w.place i) j v u p q) o k vs s s d at store regs callers j tt
+          (λ v u t p last le2 pv pu both ys. repeated_follows mach f r there n wide vs s (is_below n vs s known) store d p behind regs last whole callers (w.place i) t v u both ys.0)
           b.0 b.1 low known behind stands live proper whole (omega (arith, l, few)))
       expr (RecordExpr i fs) nu iz ca me le o k vs s d at store regs callers m b low known behind stands live proper whole few =
           let xs = field_codes c fs s d in
@@ -379,18 +381,18 @@ module _ (c : Context) (routines : List Routine) (f : ℕ) (r : Routine) (there 
           let ys = quantify q x d (code c body T (suc (suc d))) (released T s) in
           let F = λ (z : ℤ). turn w.limit true (eval w true body (put store x (Some (Whole z)))) in
           paid c routines f r there w n wide most (size a + size e2 + 0) 5 (size a + size e2 + size body + 1) at regs callers m (λ j. eval w true a store j >>= (λ v t. eval w true e2 store t >>= quantified q (w.place i) F v)) (at + length (code c a (before e2 T) d ++ (code c e2 T (suc d) ++ ys))) (Gained vs n d s store regs) (omega arith) (omega arith)
-          (λ j e l. two_parts c routines f r there w n wide most a e2 one two ys (λ v u. quantified q (w.place i) F v u) 0 5 (λ v u t p g. quantified_gives q (w.place i) F v u t) o k vs T s d at store regs callers j
-          (λ v u t p middle last le2 pv pu got_a got_b stood.
+          (λ j e l. two_parts c routines f r there w n wide most a e2 None None tt tt one two ys (λ v u. quantified q (w.place i) F v u) 0 5 (λ v u t p g. quantified_gives q (w.place i) F v u t) o k vs T s d at store regs callers j tt
+          (λ v u t p last le2 pv pu both stood.
           let Q = Comes f (p + length ys) callers (Got vs n d s store regs) in
           let st = at_place f p last callers t.output in
           follows_number mach wide 0 5 t st (w.place i) v (λ from. as_number (w.place i) u (λ to. each q (w.place i) F from (span from to))) Q
           (λ from is_from. follows_number mach wide 0 5 t st (w.place i) u (λ to. each q (w.place i) F from (span from to)) Q
           (λ to is_to. turns_follow c routines f r there w n wide most q x body three (omega (arith, le, small)) o k low vs b.0 b.3 s known d behind store regs proper whole callers (w.place i) p to (number_int u to is_to pu) stood (span from to) from refl (number_int v from is_from pv) last t (omega (arith, le2, l, few)) (record {
-            count = got_b.kept d behind (omega arith) ∙ got_a.value ∙ ap (λ (z : Datum). Some z) is_from;
-            last = got_b.value ∙ ap (λ (z : Datum). Some z) is_to;
-            live = got_b.live;
-            kept = λ z x1 y1. got_b.kept z x1 (omega (arith, y1)) ∙ got_a.kept z x1 y1;
-            size = got_b.size ∙ got_a.size;
+            count = both.left ∙ ap (λ (z : Datum). Some z) is_from;
+            last = both.right ∙ ap (λ (z : Datum). Some z) is_to;
+            live = both.live;
+            kept = both.kept;
+            size = both.size;
           }))))
           b.1 b.2 low known_T behind stands live proper whole (omega (arith, l, few)))
 
