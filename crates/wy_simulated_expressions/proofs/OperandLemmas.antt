@@ -164,13 +164,16 @@ module _ (c : Context) (routines : List Routine) (f : ℕ) (r : Routine) (there 
       (leaves_follows mach wide 1 2 m (at_place f at regs callers m.output) (eval w true (VarExpr i x) store m) (Comes f at callers R)
       (paid 0 0 1 at regs callers m o at R (omega arith) (omega arith)
       (λ j e l. follows_needed mach wide 0 0 j (at_place f at regs callers j.output) (w.place i) (slot store x) Done (Comes f at callers R)
-      (λ v held. stays_last mach f r there wide at regs callers j v R (slot_proper store x v proper held, record {
-        value = live.holds x v b (with_has s x) held;
-        whose = (b, held);
-        live = live_fewer vs (with s x) s store regs (λ y h. still_live y (VarExpr i x) s h) live;
-        kept = λ t y z. refl;
-        size = refl;
-      })))))
+      (λ v held. stays_last mach f r there wide at regs callers j v R (
+        slot_proper store x v proper held,
+        record {
+          value = live.holds x v b (with_has s x) held;
+          whose = (b, held);
+          live = live_fewer vs (with s x) s store regs (λ y h. still_live y (VarExpr i x) s h) live;
+          kept = λ t y z. refl;
+          size = refl;
+        },
+      )))))
 
   -- what goes on from the value of an expression that is read in the register of its variable
   abbrev OperandGoes : {Y : Type 0} → (q : Option ℕ) (lo2 hi lo : ℕ) (vs : Scope) (s : Variables) (d at : ℕ) (store regs : Store) (callers : List Caller) (m : Meter) (tail : Datum → Run Y) (to : ℕ) (R : Y → Store → Type 0) → Expr ℕ → Type 0

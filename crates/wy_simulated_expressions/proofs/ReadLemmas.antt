@@ -1,5 +1,5 @@
 -- Operands that are read in the registers of variables: where their values stand, and how long.
-use Rattle.std.proofs.Common.{◌≡◌, ◌<◌, ◌≤◌, ◌⊎◌, inl, inr, ℕ, suc, List, [], ◌∷◌, ◌++◌, length, Bool, true, false, cond, Option, Some, None, ℤ, refl, sym, ◌∙◌, ap, subst, arith}
+use Rattle.std.proofs.Common.{◌≡◌, ◌<◌, ◌≤◌, ◌⊎◌, inl, inr, ℕ, suc, length, Bool, true, false, cond, Option, Some, None, ℤ, refl, sym, ◌∙◌, ap, subst, arith}
 use Rattle.wy_value.specs.Datum.{Datum}
 use Rattle.wy_core.specs.CoreTree.{Expr, NullExpr, BoolExpr, IntExpr, VarExpr, CallExpr, NegExpr, NotExpr, LenExpr, BinaryExpr, IsExpr, IndexExpr, FieldExpr, ListExpr, RepeatExpr, RecordExpr, QuantExpr}
 use Rattle.wy_formed.specs.Offers.{Offers}
@@ -7,7 +7,6 @@ use Rattle.wy_formed.specs.Bound.{Scope, Has, BoundExpr}
 use Rattle.wy_live.specs.Sets.{Variables, has, with}
 use Rattle.wy_live.specs.Walks.{before}
 use Rattle.wy_tables.specs.declared.context.Context.{Context}
-use Rattle.wy_pieces.specs.declared.steps.Step.{Step}
 use Rattle.wy_compiled.specs.Operands.{variable_in, where_live, is_still, read, standing, unless_read, plain_or_read}
 use Rattle.wy_compiled.specs.Expressions.{code}
 use Rattle.wy_sem.specs.Expressions.{Store, slot}
