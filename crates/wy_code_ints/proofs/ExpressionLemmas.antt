@@ -18,7 +18,7 @@ use Rattle.wy_pieces.specs.declared.steps.Step.TheVariants.{Does, GoesOn}
 use Rattle.wy_pieces.specs.Steps.{dropped, fork}
 use Rattle.wy_compiled.specs.TypeTests.{test}
 use Rattle.wy_compiled.specs.Operands.{variable_in, read, first_read, second_read, standing, unless_read, plain_or_read}
-use Rattle.wy_compiled.specs.Expressions.{lost, released, is_plain, release_unless, equal, operator, operate, right_register, call, count_of, is_test, negated, list, record_of, turn_end, said, ends, number_turns, quantify, code, codes, field_codes}
+use Rattle.wy_compiled.specs.Expressions.{lost, released, is_plain, release_unless, equal, operator, operate, right_register, call, count_of, is_test, tested_read, tested, negated, list, record_of, turn_end, said, ends, number_turns, quantify, code, codes, field_codes}
 use Rattle.wy_code_ints.specs.Ticks.{visits, ticks, all_ticks, field_ticks}
 use Rattle.wy_code_ints.proofs.PieceLemmas.{clear_small, fork_small, turns_small}
 use Rattle.wy_code_ints.proofs.TypeLemmas.{test_small}
@@ -67,6 +67,11 @@ is_small : (c : Context) (ty : Ty) (d : ℕ) → length (is_test c ty d) + 1 ≤
 is_small c ty d =
     let h : length (test c ty d (suc d) (suc (suc d))) + 4 ≤ 16 * visits ty = test_small c ty d (suc d) (suc (suc d)) in
     omega (arith, length-append (test c ty d (suc d) (suc (suc d))) (dropped d (suc (suc d)) ++ Does (instr.Move d (suc d)) ∷ []))
+
+tested_small : (c : Context) (ty : Ty) (o : Option ℕ) (d : ℕ) → length (tested c ty o d) + 1 ≤ 16 * visits ty
+tested_small c ty None d = is_small c ty d
+tested_small c ty (Some x) d =
+    let h : length (test c ty x (suc d) (suc (suc d))) + 4 ≤ 16 * visits ty = test_small c ty x (suc d) (suc (suc d)) in omega (arith, length-append (test c ty x (suc d) (suc (suc d))) (Does (instr.Move d (suc d)) ∷ []))
 
 -- ---- quantifiers
 
@@ -134,7 +139,9 @@ mutual
       let l = standing one d in let r = standing two (right_register o d) in let plain = plain_or_read two (is_plain b) in
       both_small (unless_read one xs) (operate o d l r ys (released (before b s) s) plain) (length ys) (ticks a) (ticks b) (operand_small one xs (16 * ticks a) (expr_small c a (before b s) d))
       (operate_small o d l r ys (released (before b s) s) plain (released_small (before b s) s)) (operand_small two right (16 * ticks b) (expr_small c b s (right_register o d)))
-  expr_small c (IsExpr at a ty) s d = is_sum (code c a s d) (is_test c ty d) (ticks a) (visits ty) (expr_small c a s d) (is_small c ty d)
+  expr_small c (IsExpr at a ty) s d =
+      let one = tested_read ty a s in
+      is_sum (unless_read one (code c a s d)) (tested c ty one d) (ticks a) (visits ty) (operand_small one (code c a s d) (16 * ticks a) (expr_small c a s d)) (tested_small c ty one d)
   expr_small c (IndexExpr at a b) s d =
       let xs = code c a (before b s) d in let ys = unless_read (variable_in b) (code c b s (suc d)) in
       let get = Does (instr.Get d (standing (read a s) d) (standing (variable_in b) (suc d))) ∷ [] in

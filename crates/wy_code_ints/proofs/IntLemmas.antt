@@ -137,6 +137,11 @@ operate_ints op.GreaterEqual d l r right skipped plain h k = ints_append right _
 operate_ints op.And d l r right skipped plain h k = ints_append (fork d right []) skipped (fork_ints d right [] h tt) k
 operate_ints op.Or d l r right skipped plain h k = fork_ints d skipped right k h
 
+-- a test, where it leaves the value in its register or releases it
+pub tested_ints : (c : Context) (ty : Ty) (o : Option ℕ) (d : ℕ) → AllPut (spec.tested c ty o d)
+tested_ints c ty None d = ints_append (test.test c ty d (suc d) (suc (suc d))) _ (test_ints c ty d (suc d) (suc (suc d))) (tt, (tt, (tt, tt)))
+tested_ints c ty (Some x) d = ints_append (test.test c ty x (suc d) (suc (suc d))) _ (test_ints c ty x (suc d) (suc (suc d))) (tt, tt)
+
 call_ints : (to : Target) (f d count : ℕ) → AllPut (spec.call to f d count)
 call_ints (Declared gives) f d count = (tt, tt)
 call_ints Prints f d count = (tt, (tt, tt))
@@ -182,7 +187,8 @@ mutual
       (operate_ints o d (standing one d) (standing two (spec.right_register o d)) (unless_read two right) (spec.released (before y s) s) (plain_or_read two (spec.is_plain y))
       (operand_ints two right (code_ints c y s (spec.right_register o d) h.1)) (released_ints (before y s) s))
   code_ints c (IsExpr at a ty) s d h =
-      ints_append (spec.code c a s d) (spec.is_test c ty d) (code_ints c a s d h) (ints_append (test.test c ty d (suc d) (suc (suc d))) _ (test_ints c ty d (suc d) (suc (suc d))) (tt, (tt, (tt, tt))))
+      let one = spec.tested_read ty a s in
+      ints_append (unless_read one (spec.code c a s d)) (spec.tested c ty one d) (operand_ints one (spec.code c a s d) (code_ints c a s d h)) (tested_ints c ty one d)
   code_ints c (IndexExpr at x y) s d h =
       ints_append (unless_read (read x s) (spec.code c x (before y s) d)) _ (operand_ints (read x s) (spec.code c x (before y s) d) (code_ints c x (before y s) d h.0))
       (ints_append (unless_read (variable_in y) (spec.code c y s (suc d))) _ (operand_ints (variable_in y) (spec.code c y s (suc d)) (code_ints c y s (suc d) h.1)) (tt, tt))
