@@ -155,7 +155,7 @@ module _ (c : Context) (routines : List Routine) (f : ℕ) (r : Routine) (there 
   -- ---- one operand, where it is read
 
   -- a variable is read where it stands: a tick, and no step
-  in_place : (i x : ℕ) (vs : Scope) (s : Variables) (d at : ℕ) (store regs : Store) (callers : List Caller) (m : Meter) → Has vs x → Live vs (with s x) store regs → StoreProper store
+  pub in_place : (i x : ℕ) (vs : Scope) (s : Variables) (d at : ℕ) (store regs : Store) (callers : List Caller) (m : Meter) → Has vs x → Live vs (with s x) store regs → StoreProper store
       → Follows mach wide 1 0 m (at_place f at regs callers m.output) (eval w true (VarExpr i x) store m) (Comes f (at + 0) callers (λ v last. IsProper v × Stands vs n d (Some x) s store regs v last))
   in_place i x vs s d at store regs callers m b live proper =
       let R = λ (v : Datum) (last : Store). IsProper v × Stands vs n d (Some x) s store regs v last in

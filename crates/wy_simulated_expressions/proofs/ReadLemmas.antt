@@ -110,6 +110,11 @@ live_kept a s = by (variable_in a)
     by None = tt
     by (Some x) = on x (has s x) refl
 
+-- where something else is so
+pub read_where : (b : Bool) (a : Expr ℕ) (q : Option ℕ) → IsRead a q → IsRead a (cond b q None)
+read_where true a q h = h
+read_where false a q h = tt
+
 -- what is released of an operand is behind the register of the operation
 pub releases_behind : (p : Option ℕ) (plain : Bool) (d : ℕ) → plain_or_read p plain ≡ false → d < standing p (suc d)
 releases_behind None plain d e = omega arith
