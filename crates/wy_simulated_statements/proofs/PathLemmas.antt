@@ -36,7 +36,7 @@ use Rattle.wy_sem.specs.Statements.{Exit, Went, stored, path_of, assigned, type_
 use Rattle.wy_step.specs.Step.{State, Caller, Effect, GoesOn, there, moved, held, where_so, gives, effect, slots_of, has_part, has_path}
 use Rattle.wy_simulation.specs.Places.{StandAt, IsRoutine}
 use Rattle.wy_simulation.specs.Follows.{Follows, at_place, Comes}
-use Rattle.wy_simulation.specs.Registers.{Live, Got}
+use Rattle.wy_simulation.specs.Registers.{Live}
 use Rattle.wy_simulation.proofs.PlaceLemmas.{stand_front, stand_back}
 use Rattle.wy_simulation.proofs.StoreLemmas.{put_here, put_other, put_size, put_says, live_put, live_fewer}
 use Rattle.wy_simulation.proofs.FollowLemmas.{follows_then, follows_at, follows_end, follows_number, follows_items, follows_fields, follows_needed, follows_check}
