@@ -1,11 +1,10 @@
 -- The bits of the longer set, with those of the shorter one put in, are those of a join.
 use Rattle.std.proofs.Common.{◌≡◌, ◌⊎◌, ◌<◌, ◌≤◌, ℕ, zero, suc, Bool, true, false, ◌||◌, nat_lt, cond, List, ◌∷◌, ◌++◌, length, take, drop, get_or, refl, sym, ap, ◌∙◌, arith, length-append}
-use Rattle.std.proofs.lemmas.Bool.Decides.{nat_tests}
+use Rattle.std.proofs.lemmas.Bool.{cases_lt}
 use Rattle.std.proofs.lemmas.List.{ext_get_or, get_or_past}
 use Rattle.std.proofs.Math.Seq.{take-append_seam}
 use Rattle.wy_live.specs.Sets.{Variables, has, either_bits, longer, joined}
-use Rattle.wy_live.proofs.SetLemmas.{either, by_truth, has-joined}
-use Rattle.wy_live.proofs.LostLemmas.{at_or_past}
+use Rattle.wy_live.proofs.SetLemmas.{either, by_truth, length-either, lt_true, lt_false, has-joined}
 
 or_nothing : (b : Bool) → (b || false) ≡ b
 or_nothing true = refl
@@ -23,33 +22,23 @@ either_of u s t n l below behind x = either (λ (h : x < n). below x h)
     (λ (h : n ≤ x).
     let e : get_or t x false ≡ false = get_or_past t x false (omega arith) in
     behind x h ∙ sym (ap (λ b. get_or s x false || b) e ∙ or_nothing (get_or s x false)))
-    (at_or_past x n)
-
-either_length : (s t : Variables) (n : ℕ) → length (either_bits s t n) ≡ n
-either_length s t zero = refl
-either_length s t (suc n) = let h = either_length s t n in omega (arith, length-append {A = Bool}, h)
-
-below : (a b : ℕ) → nat_lt a b ≡ true → a < b
-below a b h = first_of (grind (arith, nat_tests), search arith)
-
-not_below : (a b : ℕ) → nat_lt a b ≡ false → b ≤ a
-not_below a b h = first_of (grind (arith, nat_tests), search arith)
+    (cases_lt x n)
 
 -- the longer of two is the one that isn't shorter
 longer_of : (n m : ℕ) → m ≤ n → longer n m ≡ n
-longer_of n m h = by_truth (nat_lt n m) (λ t. nat_lt n m ≡ t → cond t m n ≡ n) (λ _ e. let lt = below n m e in absurd (omega arith)) (λ _ _. refl) refl
+longer_of n m h = by_truth (nat_lt n m) (λ t. nat_lt n m ≡ t → cond t m n ≡ n) (λ _ e. let lt = lt_true n m e in absurd (omega arith)) (λ _ _. refl) refl
 
 longer_turned : (n m : ℕ) → m ≤ n → longer m n ≡ n
-longer_turned n m h = by_truth (nat_lt m n) (λ t. nat_lt m n ≡ t → cond t n m ≡ n) (λ _ _. refl) (λ _ e. let le = not_below m n e in omega arith) refl
+longer_turned n m h = by_truth (nat_lt m n) (λ t. nat_lt m n ≡ t → cond t n m ≡ n) (λ _ _. refl) (λ _ e. let le = lt_false m n e in omega arith) refl
 
 pub joined_of : (u s t : Variables) → length t ≤ length s → length u ≡ length s → ((x : ℕ) → has u x ≡ (has s x || has t x)) → u ≡ joined s t
 joined_of u s t le len bits = ext_get_or false u (joined s t)
-    (len ∙ sym (either_length s t (longer (length s) (length t)) ∙ longer_of (length s) (length t) le))
+    (len ∙ sym (length-either s t (longer (length s) (length t)) ∙ longer_of (length s) (length t) le))
     (λ x _. bits x ∙ sym (has-joined s t x))
 
 pub turned_of : (u s t : Variables) → length t ≤ length s → length u ≡ length s → ((x : ℕ) → has u x ≡ (has s x || has t x)) → u ≡ joined t s
 turned_of u s t le len bits = ext_get_or false u (joined t s)
-    (len ∙ sym (either_length t s (longer (length t) (length s)) ∙ longer_turned (length s) (length t) le))
+    (len ∙ sym (length-either t s (longer (length t) (length s)) ∙ longer_turned (length s) (length t) le))
     (λ x _. bits x ∙ (or_turned (has s x) (has t x) ∙ sym (has-joined t s x)))
 
 -- what is lent of a list in memory is written back whole

@@ -1,14 +1,9 @@
 -- None is lost so far, block by block and bit by bit.
 use Rattle.std.proofs.Common.{◌≡◌, ◌⊎◌, inl, inr, ◌<◌, ◌≤◌, ℕ, zero, suc, Bool, true, false, not, ◌&&◌, ◌||◌, refl, sym, ap, ◌∙◌, subst, arith}
+use Rattle.std.proofs.lemmas.Bool.{cases_lt}
 use Rattle.wy_live.specs.Sets.{Variables, has}
 use Rattle.wy_live.specs.Lost.{is_lost, NoneLost, NoneSet}
 use Rattle.wy_live.proofs.SetLemmas.{either}
-
-pub at_or_past : (x n : ℕ) → (x < n) ⊎ (n ≤ x)
-at_or_past zero zero = inr (omega arith)
-at_or_past zero (suc n) = inl (omega arith)
-at_or_past (suc x) zero = inr (omega arith)
-at_or_past (suc x) (suc n) = either (λ (h : x < n). inl (omega arith)) (λ (h : n ≤ x). inr (omega arith)) (at_or_past x n)
 
 pub none_nowhere : (s t : Variables) (n : ℕ) → NoneLost s t n n
 none_nowhere s t n x from to = absurd (omega arith)
@@ -17,11 +12,11 @@ pub unset_nowhere : (s : Variables) (n : ℕ) → NoneSet s n n
 unset_nowhere s n x from to = absurd (omega arith)
 
 pub none_behind : (s t : Variables) (from at to : ℕ) → NoneLost s t from at → NoneLost s t at to → NoneLost s t from to
-none_behind s t from at to f g x l r = either (λ (h : x < at). f x l h) (λ (h : at ≤ x). g x h r) (at_or_past x at)
+none_behind s t from at to f g x l r = either (λ (h : x < at). f x l h) (λ (h : at ≤ x). g x h r) (cases_lt x at)
 
 -- a number below the next one is below this one, or is it
 below_next : (x n : ℕ) → x < suc n → (x < n) ⊎ (x ≡ n)
-below_next x n h = either (λ (l : x < n). inl l) (λ (l : n ≤ x). inr (omega arith)) (at_or_past x n)
+below_next x n h = either (λ (l : x < n). inl l) (λ (l : n ≤ x). inr (omega arith)) (cases_lt x n)
 
 pub none_next : (s t : Variables) (from n : ℕ) → NoneLost s t from n → is_lost s t n ≡ false → NoneLost s t from (suc n)
 none_next s t from n f e x l r = either (λ (h : x < n). f x l h) (λ (h : x ≡ n). ap (λ y. is_lost s t y) h ∙ e) (below_next x n r)
