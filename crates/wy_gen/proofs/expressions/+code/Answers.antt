@@ -1,4 +1,4 @@
-use Rattle.std.proofs.Common.{◌≡◌, ◌∙◌, List, [], ◌∷◌, ◌++◌, IfOk, ℕ, ap, subst, sym, length, append_assoc, Bool, arith}
+use Rattle.std.proofs.Common.{◌≡◌, ◌∙◌, List, [], ◌∷◌, ◌++◌, IfOk, ℕ, ap, subst, sym, length, append_assoc, arith}
 use Rattle.wy_core.specs.CoreSeen.{seen_expr}
 use Rattle.wy_core.specs.declared.expressions.Expr.{Expr}
 use Rattle.wy_core.specs.declared.expressions.ExprKind as kind
