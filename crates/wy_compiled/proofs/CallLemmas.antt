@@ -142,6 +142,11 @@ called_within [] (suc (suc f)) gives h = cc
 called_within (b ∷ bs) zero gives h = omega arith
 called_within (b ∷ bs) (suc f) gives h = let l : f < length bs = called_within bs f gives h in omega arith
 
+-- a test, where it leaves the value in its register or releases it
+pub tested_calls : (c : Context) (k : ℕ) (ty : Ty) (o : Option ℕ) (d : ℕ) → BoundTy k ty → AllCall (length c.results + k) (spec.tested c ty o d)
+tested_calls c k ty None d h = calls_append (length c.results + k) (test.test c ty d (suc d) (suc (suc d))) _ (test_calls c k ty d (suc d) (suc (suc d)) h) (tt, (tt, (tt, tt)))
+tested_calls c k ty (Some x) d h = calls_append (length c.results + k) (test.test c ty x (suc d) (suc (suc d))) _ (test_calls c k ty x (suc d) (suc (suc d)) h) (tt, tt)
+
 call_calls : (results : List Bool) (k f d count : ℕ) → AllCall (length results + k) (spec.call (target results f) f d count)
 call_calls results k f d count = go (target results f) (λ gives is. called_within results f gives is)
   where
@@ -190,7 +195,8 @@ mutual
       (operate_calls all w d (standing one d) (standing two (spec.right_register w d)) (unless_read two right) (spec.released (before y s) s) (plain_or_read two (spec.is_plain y))
       (operand_calls all two right (code_calls c o n vs y s (spec.right_register w d) h.1)) (released_calls all (before y s) s))
   code_calls c o n vs (IsExpr at a ty) s d h =
-      calls_append (length c.results + o.types) (spec.code c a s d) (spec.is_test c ty d) (code_calls c o n vs a s d h.0) (calls_append (length c.results + o.types) (test.test c ty d (suc d) (suc (suc d))) _ (test_calls c o.types ty d (suc d) (suc (suc d)) h.1) (tt, (tt, (tt, tt))))
+      let one = spec.tested_read ty a s in
+      calls_append (length c.results + o.types) (unless_read one (spec.code c a s d)) (spec.tested c ty one d) (operand_calls (length c.results + o.types) one (spec.code c a s d) (code_calls c o n vs a s d h.0)) (tested_calls c o.types ty one d h.1)
   code_calls c o n vs (IndexExpr at x y) s d h =
       let all = length c.results + o.types in
       calls_append all (unless_read (read x s) (spec.code c x (before y s) d)) _ (operand_calls all (read x s) (spec.code c x (before y s) d) (code_calls c o n vs x (before y s) d h.0))

@@ -11,5 +11,6 @@ programs_have = record {
   a_choice = refl;
   a_difference = refl;
   an_equality = refl;
+  a_test = refl;
   a_type = refl;
 }

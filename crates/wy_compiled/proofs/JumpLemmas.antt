@@ -95,6 +95,11 @@ operate_within op.GreaterEqual d l r right skipped plain b h k = within_append b
 operate_within op.And d l r right skipped plain b h k = within_append b (fork d right []) skipped (fork_inside (length skipped + b) d right [] (h _) tt) (k b)
 operate_within op.Or d l r right skipped plain b h k = fork_inside b d skipped right (k b) (h b)
 
+-- a test, where it leaves the value in its register or releases it
+pub tested_within : (c : Context) (ty : Ty) (o : Option ℕ) (d b : ℕ) → Within b (spec.tested c ty o d)
+tested_within c ty None d b = within_append b (test.test c ty d (suc d) (suc (suc d))) _ (test_within c ty d (suc d) (suc (suc d)) _) (refl, (refl, (refl, tt)))
+tested_within c ty (Some x) d b = within_append b (test.test c ty x (suc d) (suc (suc d))) _ (test_within c ty x (suc d) (suc (suc d)) _) (refl, tt)
+
 call_within : (t : Target) (f d count b : ℕ) → Within b (spec.call t f d count)
 call_within (Declared gives) f d count b = (refl, tt)
 call_within Prints f d count b = (refl, (refl, tt))
@@ -144,7 +149,8 @@ mutual
       (operate_within o d (standing one d) (standing two (spec.right_register o d)) (unless_read two right) (spec.released (before y s) s) (plain_or_read two (spec.is_plain y)) b
       (λ n. operand_within n two right (code_within c y s (spec.right_register o d) n)) (λ n. released_within n (before y s) s))
   code_within c (IsExpr at a ty) s d b =
-      within_append b (spec.code c a s d) (spec.is_test c ty d) (code_within c a s d _) (within_append b (test.test c ty d (suc d) (suc (suc d))) _ (test_within c ty d (suc d) (suc (suc d)) _) (refl, (refl, (refl, tt))))
+      let one = spec.tested_read ty a s in
+      within_append b (unless_read one (spec.code c a s d)) (spec.tested c ty one d) (operand_within _ one (spec.code c a s d) (code_within c a s d _)) (tested_within c ty one d b)
   code_within c (IndexExpr at x y) s d b =
       within_append b (unless_read (read x s) (spec.code c x (before y s) d)) _ (operand_within _ (read x s) (spec.code c x (before y s) d) (code_within c x (before y s) d _))
       (within_append b (unless_read (variable_in y) (spec.code c y s (suc d))) _ (operand_within _ (variable_in y) (spec.code c y s (suc d)) (code_within c y s (suc d) _)) (refl, tt))

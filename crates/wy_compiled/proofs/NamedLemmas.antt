@@ -139,6 +139,11 @@ operate_names t op.GreaterEqual d l r right skipped plain h k = names_append t r
 operate_names t op.And d l r right skipped plain h k = names_append t (fork d right []) skipped (fork_names t d right [] h tt) k
 operate_names t op.Or d l r right skipped plain h k = fork_names t d skipped right k h
 
+-- a test, where it leaves the value in its register or releases it
+pub tested_names : (c : Context) (ty : Ty) (o : Option ℕ) (d : ℕ) → StandsTy c.table ty → AllName c.table (spec.tested c ty o d)
+tested_names c ty None d h = names_append c.table (test.test c ty d (suc d) (suc (suc d))) _ (test_names c ty d (suc d) (suc (suc d)) h) ((tt, tt), ((tt, tt), ((tt, tt), tt)))
+tested_names c ty (Some x) d h = names_append c.table (test.test c ty x (suc d) (suc (suc d))) _ (test_names c ty x (suc d) (suc (suc d)) h) ((tt, tt), tt)
+
 call_names : (t : Shapes) (to : Target) (f d count : ℕ) → AllName t (spec.call to f d count)
 call_names t (Declared gives) f d count = ((tt, tt), tt)
 call_names t Prints f d count = ((tt, tt), ((tt, tt), tt))
@@ -184,7 +189,8 @@ mutual
       (operate_names c.table o d (standing one d) (standing two (spec.right_register o d)) (unless_read two right) (spec.released (before y s) s) (plain_or_read two (spec.is_plain y))
       (operand_names c.table two right (code_names c y s (spec.right_register o d) h.1)) (released_names c.table (before y s) s))
   code_names c (IsExpr at a ty) s d h =
-      names_append c.table (spec.code c a s d) (spec.is_test c ty d) (code_names c a s d h.0) (names_append c.table (test.test c ty d (suc d) (suc (suc d))) _ (test_names c ty d (suc d) (suc (suc d)) h.1) ((tt, tt), ((tt, tt), ((tt, tt), tt))))
+      let one = spec.tested_read ty a s in
+      names_append c.table (unless_read one (spec.code c a s d)) (spec.tested c ty one d) (operand_names c.table one (spec.code c a s d) (code_names c a s d h.0)) (tested_names c ty one d h.1)
   code_names c (IndexExpr at x y) s d h =
       names_append c.table (unless_read (read x s) (spec.code c x (before y s) d)) _ (operand_names c.table (read x s) (spec.code c x (before y s) d) (code_names c x (before y s) d h.0))
       (names_append c.table (unless_read (variable_in y) (spec.code c y s (suc d))) _ (operand_names c.table (variable_in y) (spec.code c y s (suc d)) (code_names c y s (suc d) h.1)) ((tt, tt), tt))
