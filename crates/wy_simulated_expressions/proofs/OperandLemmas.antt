@@ -1,4 +1,4 @@
--- Operands: what stands in front of the instructions of an operator, and what `&&` and `||` leave out.
+-- Operands: what stands in front of the instructions of an operator, where each operand is read, and what `&&` and `||` leave out.
 use Rattle.std.proofs.Common.{◌≡◌, ◌<◌, ◌≤◌, ℕ, zero, suc, ◌+◌, List, [], ◌∷◌, ◌++◌, length, Bool, true, false, cond, Option, Some, None, refl, ◌∙◌, ap, subst, arith, length-append}
 use Rattle.std.specs.Prelude.{◌&&◌, not}
 use Rattle.wy_value.specs.Datum.{Datum, Truth}
@@ -240,14 +240,16 @@ module _ (c : Context) (routines : List Routine) (f : ℕ) (r : Routine) (there 
 
   -- ---- an operator that evaluates both
 
+  -- the code of both operands, read so, and of the operator behind them
   abbrev pub strict_code : Op → (a b : Expr ℕ) (q e : Option ℕ) → Variables → ℕ → List Step
   strict_code op a b q e s d = unless_read q (code c a (before b s) d) ++ (unless_read e (code c b s (suc d)) ++ operator op d (standing q d) (standing e (suc d)) (plain_or_read e (is_plain b)))
 
+  -- these steps do what the operator does
   abbrev IsStrictly : (place : ℕ) (op : Op) (a b : Expr ℕ) (vs : Scope) (s : Variables) (d at : ℕ) (store regs : Store) (callers : List Caller) (m : Meter) → List Step → Type 0
   IsStrictly place op a b vs s d at store regs callers m steps =
       StandAt r.body at steps → Leaves (with_table c routines) wide (size a + size b + 1) 2 m (at_place f at regs callers m.output) (spend true (λ j. eval w true a store j >>= (λ v i. second op place (eval w true b store) v i)) m) (Comes f (at + length steps) callers (Gained vs n d s store regs))
 
-  -- where these are live behind the operands
+  -- where t is live behind the operands, of which s is all that is asked for behind the operator
   strict : (op : Op) → IsStrict op → (place : ℕ) (a b : Expr ℕ) (q e : Option ℕ) → IsRead a q → IsRead b e → IsBrief a → IsBrief b → (o : Offers) (k : ℕ) (vs : Scope) (t s : Variables) (d at : ℕ) (store regs : Store) (callers : List Caller) (m : Meter)
       → IsKept q t → ((x : ℕ) → has s x ≡ true → has t x ≡ true) → BoundExpr o k vs a × BoundExpr o k vs b → k ≤ n → AreKnown n vs t → n ≤ d → Live vs (before a (before b t)) store regs → StoreProper store → length regs ≡ r.registers → m.ticks ≤ most
       → IsStrictly place op a b vs s d at store regs callers m (strict_code op a b q e t d)
