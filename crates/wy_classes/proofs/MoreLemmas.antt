@@ -1,6 +1,7 @@
 -- What is judged yes or no stays so with one literal more, of an atom that was undecided.
-use Rattle.std.proofs.Common.{◌≡◌, ◌∙◌, ◌&&◌, ◌||◌, Bool, true, false, cond, List, [], ◌∷◌, ◌++◌, inl, inr, refl, sym, ap, subst}
+use Rattle.std.proofs.Common.{◌≡◌, ◌∙◌, ◌&&◌, ◌||◌, ℕ, Option, Some, None, Bool, true, false, cond, List, [], ◌∷◌, ◌++◌, inl, inr, refl, sym, ap, subst}
 use Rattle.std.specs.Bool.{beq}
+use Rattle.std.specs.Prelude.{IfSome}
 use Rattle.wy_classes.specs.Unmet.{meets, with_one, HasOpen, HasTwoOpen, IsPlain, IsSafe, StaysOpen}
 use Rattle.wy_judge.specs.Judgement.{turned, both, either, of_atom, judged, judged_all, judged_any}
 use Rattle.wy_judge.specs.Node.{Literal, has_literal, same_literal}
@@ -218,10 +219,20 @@ module _ (ls : List Literal) (ps : Parts) (has : HasTwoOpen ls ps) where
       by false e = one e
       by true e = two (ap (λ (t : Term). same_term t has.second) (terms_are a has.first e) ∙ has.apart)
 
-pub or_safe : (ls : List Literal) (f : Term) (ps : Parts) → f ≡ Of term.any_of ps → HasTwoOpen ls ps → IsSafe ls f
-or_safe ls f ps is has = λ a holds up. ap (λ (t : Term). is_no (judged (with_one ls a holds) t)) is
+any_safe : (ls : List Literal) (f : Term) (ps : Parts) → f ≡ Of term.any_of ps → HasTwoOpen ls ps → IsSafe ls f
+any_safe ls f ps is has = λ a holds up. ap (λ (t : Term). is_no (judged (with_one ls a holds) t)) is
     ∙ either_apart ls ps has a (is_no (judged_any (with_one ls a holds) ps) ≡ false) (λ e. any_open ls ps has.first a holds has.one up e) (λ e. any_open ls ps has.second a holds has.two up e)
 
-pub and_safe : (ls : List Literal) (f : Term) (ps : Parts) → f ≡ Of term.all_of ps → HasTwoOpen ls ps → IsSafe ls (Not f)
-and_safe ls f ps is has = λ a holds up. ap (λ (t : Term). is_no (turned (judged (with_one ls a holds) t))) is
+all_safe : (ls : List Literal) (f : Term) (ps : Parts) → f ≡ Of term.all_of ps → HasTwoOpen ls ps → IsSafe ls (Not f)
+all_safe ls f ps is has = λ a holds up. ap (λ (t : Term). is_no (turned (judged (with_one ls a holds) t))) is
     ∙ either_apart ls ps has a (yes_so (judged_all (with_one ls a holds) ps) ≡ false) (λ e. all_open ls ps has.first a holds has.one up e) (λ e. all_open ls ps has.second a holds has.two up e)
+
+pub or_safe : (ls : List Literal) (f : Term) (sign : Bool) (ps : Parts) → f ≡ Of term.any_of ps → sign ≡ true → HasTwoOpen ls ps → IsSafe ls (signed f sign)
+or_safe ls f sign ps is up has = subst (λ (b : Bool). IsSafe ls (signed f b)) (sym up) (any_safe ls f ps is has)
+
+pub and_safe : (ls : List Literal) (f : Term) (sign : Bool) (ps : Parts) → f ≡ Of term.all_of ps → sign ≡ false → HasTwoOpen ls ps → IsSafe ls (signed f sign)
+and_safe ls f sign ps is un_so has = subst (λ (b : Bool). IsSafe ls (signed f b)) (sym un_so) (all_safe ls f ps is has)
+
+pub denied_open : (at : ℕ → Term) (ls : List Literal) (f g : Term) (o : Option ℕ) → f ≡ Of term.denied (part g no_parts) → IfSome o (λ c. StaysOpen ls g (at c)) → IfSome o (λ c. StaysOpen ls f (at c))
+denied_open at ls f g None is stays = tt
+denied_open at ls f g (Some c) is stays = denial_stays ls f g (at c) is stays

@@ -1,4 +1,4 @@
-use Rattle.std.proofs.Common.{length}
+use Rattle.std.proofs.Common.{◌≤◌, length, subst}
 use Rattle.wy_classes.proofs.UnmetLemmas.{enough_end, enough_next, left_over}
 use Rattle.wy_classes.proofs.unmet.unmet.Goals as goal
 use Rattle.wy_judging.proofs.BranchLemmas.{over_get}
@@ -24,4 +24,5 @@ loop-i-preserved c =
 pub returns-clause-value : goal.returns-clause-value
 returns-clause-value c =
     let at = tree_at c.args.terms.now in
-    ?
+    let le : length c.args.branch.now.pending.keys ≤ c.loop-i.i = subst (λ n. n ≤ c.loop-i.i) c.len-i-end.ensures.len c.loop-i-test.false in
+    enough_end at (seen_branch at c.args.branch.now) c.args.branch.now.pending.keys c.loop-i.left.items c.loop-i.i le c.loop-i.invariant.so
