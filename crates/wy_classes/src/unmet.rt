@@ -86,12 +86,7 @@ fn member_at(members: &[u32], i: usize) -> u32
 }
 
 // The first undecided atom, other than this one, that one of the formulas is or denies.
-fn open_among(
-    terms: &Terms,
-    branch: &Branch,
-    members: &[u32],
-    other: Option<u32>,
-) -> Option<u32>
+fn open_among(terms: &Terms, branch: &Branch, members: &[u32], other: Option<u32>) -> Option<u32>
     requires members { AreBelow (length terms.now) members.now }
     requires branch { IsBranch terms.now branch.now }
     requires other { IfSome other (λ d. d < length terms.now) }
