@@ -1,5 +1,5 @@
 -- Lines as a user sees them.
-use Rattle.std.specs.Prelude.{◌≡◌, ◌++◌, codes}
+use Rattle.std.specs.Prelude.{◌≡◌, codes}
 use Rattle.wy_report.specs.Lines.{no_entry, bad_argument, other_count, other_type, requires_fails, save_failed, source_fault, certificate_fault, invalid_step, open_condition, spent_condition, refused, accepted, stats, large_run, words_refused, steps_spent, turns_spent}
 
 abbrev pub AsShown : Type 0

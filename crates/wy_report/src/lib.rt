@@ -1,13 +1,14 @@
 //! The lines of the commands: refusals, verdicts, runs and the list of conditions.
 //!
-//! `lines` has a line for each thing that a command reports, `listing` a condition as it is printed, and `law` a line of
-//! each kind written out. Texts alone:
+//! `lines` has a line for each thing that a command reports, `listing` a condition as it is printed, with the texts of
+//! formulas that `shown` keeps, and `law` a line of each kind written out. Texts alone:
 //! which line comes when, and on which sink, is the top call's.
 #![tactic(auto)]
 
 mod law;
 mod lines;
 mod listing;
+mod shown;
 
 pub use law::lines_are_as_shown;
 pub use lines::{
@@ -16,3 +17,4 @@ pub use lines::{
     stats, steps_spent, turns_spent, words_refused,
 };
 pub use listing::listed;
+pub use shown::{Shown, nothing_shown};

@@ -6,40 +6,55 @@ ghost use Rattle.wy_term.specs.Nodes.{tree_at};
 ghost use Rattle.wy_term.specs.Condition.{word_of};
 ghost use Rattle.wy_report.specs.Lines.{line as whole_line};
 ghost use Rattle.wy_report.specs.Listing as listing;
+ghost use Rattle.wy_report.specs.Shown.{AreShown};
 
+use crate::shown::{Shown, put_shown};
 use std::alloc::Global;
-use wy_show::show_formula;
 use wy_term::{Cond, NoMemory, Terms};
 
 // Appends a formula on a line behind two spaces.
-fn put_formula(out: &mut Vec<u8>, terms: &Terms, formula: u32) -> Result<(), NoMemory>
-    requires { formula < length terms.now }
-    ensures { OnOk result (out.new.items ≡ out.old.items ++ listing.formula_line (tree_at terms.now formula)) }
+fn put_formula(
+    out: &mut Vec<u8>,
+    shown: &mut Shown,
+    terms: &Terms,
+    formula: u32,
+) -> Result<(), NoMemory>
+    requires within { formula < length terms.now }
+    requires shown { AreShown terms.now shown.old }
+    ensures shown { OnOk result (AreShown terms.now shown.new) }
+    ensures value { OnOk result (out.new.items ≡ out.old.items ++ listing.formula_line (tree_at terms.now formula)) }
 {
     out.extend_from_slice(b"  ")?;
-    let text = show_formula(terms, formula)?;
-    out.extend_from_slice(text.as_slice())?;
+    put_shown(out, shown, terms, formula)?;
     out.push(b'\n')?;
     Ok(())
 }
 
 // Appends these formulas, each on a line of its own.
 #[tactic(auto, using(crate::proofs::ListingLemmas::lines_steps))]
-fn put_formulas(out: &mut Vec<u8>, terms: &Terms, formulas: &[u32]) -> Result<(), NoMemory>
-    requires { All (λ (f : ℕ). f < length terms.now) formulas.now }
-    ensures { OnOk result (out.new.items ≡ out.old.items ++ listing.formula_lines (map (tree_at terms.now) formulas.now)) }
+fn put_formulas(
+    out: &mut Vec<u8>,
+    shown: &mut Shown,
+    terms: &Terms,
+    formulas: &[u32],
+) -> Result<(), NoMemory>
+    requires within { All (λ (f : ℕ). f < length terms.now) formulas.now }
+    requires shown { AreShown terms.now shown.old }
+    ensures shown { OnOk result (AreShown terms.now shown.new) }
+    ensures value { OnOk result (out.new.items ≡ out.old.items ++ listing.formula_lines (map (tree_at terms.now) formulas.now)) }
 {
     for formula in formulas {
-        put_formula(out, terms, *formula)?;
+        put_formula(out, shown, terms, *formula)?;
     }
     Ok(())
 }
 
 /// A condition by its number from 1, its kind, and the line and column of the construct that owes it; then its
-/// hypotheses in order, and its goal, each on a line behind two spaces. In time linear in the length of the text, on
-/// which a formula stands as often as it is named.
+/// hypotheses in order, and its goal, each on a line behind two spaces. The text of a formula is made where none is kept for
+/// it, and else copied: linear in the length of the texts that are made, and in the length of the whole by copies alone.
 pub fn listed(
     alloc: Global,
+    shown: &mut Shown,
     terms: &Terms,
     cond: &Cond,
     number: u32,
@@ -48,15 +63,16 @@ pub fn listed(
 ) -> Result<Vec<u8>, NoMemory>
     requires goal { cond.now.goal < length terms.now }
     requires hypotheses { All (λ (f : ℕ). f < length terms.now) cond.now.hyps.items }
+    requires shown { AreShown terms.now shown.old }
+    ensures shown { OnOk result (AreShown terms.now shown.new) }
     ensures value { IfOk result (λ text. text.items ≡ listing.listed number (word_of cond.now.kind) line column (map (tree_at terms.now) cond.now.hyps.items) (tree_at terms.now cond.now.goal)) }
 {
     let kind = cond.kind.word();
     let title = format!(in alloc; "cond {number} {kind} {line}:{column}\n")?;
     let mut out = Vec::from_slice(alloc, title.as_bytes())?;
-    put_formulas(&mut out, terms, cond.hyps.as_slice())?;
+    put_formulas(&mut out, shown, terms, cond.hyps.as_slice())?;
     out.extend_from_slice(b"  goal ")?;
-    let goal = show_formula(terms, cond.goal)?;
-    out.extend_from_slice(goal.as_slice())?;
+    put_shown(&mut out, shown, terms, cond.goal)?;
     out.push(b'\n')?;
     Ok(out)
 }

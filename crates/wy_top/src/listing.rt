@@ -2,16 +2,18 @@
 ghost use Rattle.std.specs.Prelude.{◌≡◌, ◌<◌, ◌^◌, All, IfOk, OnOk, ◌++◌, ℕ, List, length, map};
 ghost use Rattle.wy_checking.specs.Within.{IsWithin};
 ghost use Rattle.wy_lines.specs.Starts.{AreLines};
+ghost use Rattle.wy_report.specs.Shown.{AreShown};
 ghost use Rattle.wy_top.specs.Owed as spec;
 ghost use Rattle.wy_vc.specs.Told.{seen_cond};
 
 use std::alloc::Global;
 use wy_lines::Lines;
-use wy_report::listed;
+use wy_report::{Shown, listed, nothing_shown};
 use wy_term::{Cond, Conds, NoMemory, Terms};
 
 /// The conditions in order, each with its number from 1, its kind, the line and the column of the construct that owes it, its
-/// hypotheses and its goal. The time is linear in the source and in the text, on which a formula stands as often as it is named.
+/// hypotheses and its goal. The text of each formula is made once, and copied where it stands again: so the time is linear in the source and
+/// in the texts of the formulas that are named, each once, and in the length of the whole by copies alone.
 #[tactic(auto, using(crate::proofs::ListLemmas::list_steps))]
 pub fn conditions_text(alloc: Global, source: &[u8], conds: &Conds) -> Result<Vec<u8>, NoMemory>
     requires numbers { All (IsWithin (length conds.now.terms)) conds.now.list.items }
@@ -20,11 +22,13 @@ pub fn conditions_text(alloc: Global, source: &[u8], conds: &Conds) -> Result<Ve
 {
     let lines = Lines::of(alloc, source)?;
     let mut text = Vec::new(alloc);
+    let mut shown = nothing_shown(alloc);
     for i in 0..conds.list.len() {
         let number = i as u32 + 1;
         put_condition(
             alloc,
             &mut text,
+            &mut shown,
             &lines,
             &conds.terms,
             &conds.list[i],
@@ -38,16 +42,19 @@ pub fn conditions_text(alloc: Global, source: &[u8], conds: &Conds) -> Result<Ve
 fn put_condition(
     alloc: Global,
     text: &mut Vec<u8>,
+    shown: &mut Shown,
     lines: &Lines,
     terms: &Terms,
     cond: &Cond,
     number: u32,
 ) -> Result<(), NoMemory>
     requires cond { IsWithin (length terms.now) cond.now }
+    requires shown { AreShown terms.now shown.old }
+    ensures shown { OnOk result (AreShown terms.now shown.new) }
     ensures value { (bytes : List ℕ) → AreLines bytes lines.now → OnOk result (text.new.items ≡ text.old.items ++ spec.condition_text bytes number (seen_cond terms.now cond.now)) }
 {
     let place = lines.place(cond.at);
-    let own = listed(alloc, terms, cond, number, place.line, place.column)?;
+    let own = listed(alloc, shown, terms, cond, number, place.line, place.column)?;
     text.extend_from_slice(own.as_slice())?;
     Ok(())
 }
