@@ -4,12 +4,13 @@ use Rattle.wy_judge.specs.Judgement.{of_atom, judged}
 use Rattle.wy_judge.specs.Node.{Literal, Node, has_literal, with_literal}
 use Rattle.wy_judge.specs.declared.verdict.Verdict.{Verdict}
 use Rattle.wy_judge.specs.declared.verdict.Verdict.TheVariants.{Yes, No, Open}
-use Rattle.wy_judging.specs.Judged as judging
 use Rattle.wy_judging.specs.Seen.{StartsWith, seen_branch, seen_formula, seen_literal}
 use Rattle.wy_judging.specs.declared.branch.Branch.{Branch}
 use Rattle.wy_search.specs.Splitting.{decides, is_open, is_forced}
 use Rattle.wy_classes.specs.Once.{SameBranch}
-use Rattle.wy_classes.specs.Unmet.{AreEnough}
+use Rattle.wy_classes.specs.Reached.{seen_unmet, AreEnough, AreHinted}
+use Rattle.wy_classes.specs.Unmet.{with_one}
+use Rattle.wy_classes.specs.declared.unmet.Reached.{Reached}
 use Rattle.wy_term.specs.Term.{Term}
 use Rattle.wy_valid.specs.Literals as valid
 
@@ -45,29 +46,22 @@ absent ls a false up = by (has_literal ls (literal a true)) (has_literal ls (lit
 
 -- ---- judged with a literal more
 
-same_no : (v : Verdict) → judging.is_no v ≡ valid.is_no v
-same_no Yes = refl
-same_no No = refl
-same_no Open = refl
+abbrev node_with : Node → Literal → Node
+node_with node l = record { literals = node.literals ++ l ∷ []; pending = node.pending }
 
-same_refuted : (ls : List Literal) (fs : List Term) → judging.is_any_refuted ls fs ≡ valid.any_no ls fs
-same_refuted ls [] = refl
-same_refuted ls (f ∷ fs) = ap (λ b. b || judging.is_any_refuted ls fs) (same_no (judged ls f)) ∙ ap (λ b. valid.is_no (judged ls f) || b) (same_refuted ls fs)
-
-abbrev with_one : Node → Literal → Node
-with_one node l = record { literals = node.literals ++ l ∷ []; pending = node.pending }
-
-put : (node : Node) (l : Literal) → has_literal node.literals l ≡ false → with_literal node l ≡ with_one node l
-put node l un_so = ap (λ b. cond b node (with_one node l)) un_so
+put : (node : Node) (l : Literal) → has_literal node.literals l ≡ false → with_literal node l ≡ node_with node l
+put node l un_so = ap (λ b. cond b node (node_with node l)) un_so
 
 -- where these are enough of the pending formulas
-pub decided : (at : ℕ → Term) (node new : Node) (a : Term) (holds up_so : Bool) (ps : List (ℕ × Bool)) → is_open (of_atom node.literals a) ≡ true → AreEnough at node ps → new ≡ with_literal node (literal a holds)
-    → up_so ≡ judging.is_any_refuted new.literals (map (seen_formula at) ps) → up_so ≡ decides node a holds
-decided at node new a holds up_so ps up enough is answers =
+pub decided : (at : ℕ → Term) (node new : Node) (a : Term) (holds up_so : Bool) (us : List Reached) → is_open (of_atom node.literals a) ≡ true → AreEnough at node us → new ≡ with_literal node (literal a holds)
+    → up_so ≡ valid.any_no new.literals (map (seen_unmet at) us) → up_so ≡ decides node a holds
+decided at node new a holds up_so us up enough is answers =
     answers
-    ∙ same_refuted new.literals (map (seen_formula at) ps)
-    ∙ ap (λ (m : Node). valid.any_no m.literals (map (seen_formula at) ps)) (is ∙ put node (literal a holds) (absent node.literals a holds up))
+    ∙ ap (λ (m : Node). valid.any_no m.literals (map (seen_unmet at) us)) (is ∙ put node (literal a holds) (absent node.literals a holds up))
     ∙ enough a holds up
+
+pub literals_more : (node new : Node) (a : Term) (holds : Bool) → is_open (of_atom node.literals a) ≡ true → new ≡ with_literal node (literal a holds) → new.literals ≡ with_one node.literals a holds
+literals_more node new a holds up is = ap (λ (m : Node). m.literals) (is ∙ put node (literal a holds) (absent node.literals a holds up))
 
 -- ---- the node as it was
 
@@ -87,8 +81,11 @@ same_again b c d p q = record { literals = q.literals ∙ p.literals; pending = 
 pub same_self : (b : Branch) → SameBranch b b
 same_self b = record { literals = refl; pending = refl }
 
-pub enough_again : (at : ℕ → Term) (b c : Branch) (ps : List (ℕ × Bool)) → SameBranch b c → AreEnough at (seen_branch at b) ps → AreEnough at (seen_branch at c) ps
-enough_again at b c ps same enough = subst (λ (m : Node). AreEnough at m ps) (sym (seen_same at b c same)) enough
+pub enough_again : (at : ℕ → Term) (b c : Branch) (us : List Reached) → SameBranch b c → AreEnough at (seen_branch at b) us → AreEnough at (seen_branch at c) us
+enough_again at b c us same enough = subst (λ (m : Node). AreEnough at m us) (sym (seen_same at b c same)) enough
+
+pub hinted_again : (at : ℕ → Term) (b c : Branch) (us : List Reached) → SameBranch b c → AreHinted at (seen_branch at b).literals us → AreHinted at (seen_branch at c).literals us
+hinted_again at b c us same hinted = subst (λ (m : Node). AreHinted at m.literals us) (sym (seen_same at b c same)) hinted
 
 -- ---- forced atoms
 

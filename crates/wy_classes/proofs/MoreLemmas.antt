@@ -2,7 +2,7 @@
 use Rattle.std.proofs.Common.{◌≡◌, ◌∙◌, ◌&&◌, ◌||◌, ℕ, Option, Some, None, Bool, true, false, cond, List, [], ◌∷◌, ◌++◌, inl, inr, refl, sym, ap, subst}
 use Rattle.std.specs.Bool.{beq}
 use Rattle.std.specs.Prelude.{IfSome}
-use Rattle.wy_classes.specs.Unmet.{meets, with_one, HasOpen, HasTwoOpen, IsPlain, IsSafe, StaysOpen}
+use Rattle.wy_classes.specs.Unmet.{meets, with_one, HasOpen, HasTwoOpen, IsPlain, IsSafe, IsSafeBut, StaysOpen}
 use Rattle.wy_judge.specs.Judgement.{turned, both, either, of_atom, judged, judged_all, judged_any}
 use Rattle.wy_judge.specs.Node.{Literal, has_literal, same_literal}
 use Rattle.wy_judge.specs.declared.verdict.Verdict.{Verdict}
@@ -125,7 +125,7 @@ yes_safe No w true e keeps = absurd (cc)
 yes_safe No w false e keeps = ap (λ (x : Verdict). fails x false) keeps
 yes_safe Open w holds e keeps = absurd (cc)
 
-no_by_sign : (ls : List Literal) (f : Term) (holds : Bool) → is_no (judged ls (signed f holds)) ≡ fails (judged ls f) holds
+pub no_by_sign : (ls : List Literal) (f : Term) (holds : Bool) → is_no (judged ls (signed f holds)) ≡ fails (judged ls f) holds
 no_by_sign ls f true = by (judged ls f)
   where
     by : (v : Verdict) → is_no v ≡ fails v true
@@ -236,3 +236,13 @@ and_safe ls f sign ps is un_so has = subst (λ (b : Bool). IsSafe ls (signed f b
 pub denied_open : (at : ℕ → Term) (ls : List Literal) (f g : Term) (o : Option ℕ) → f ≡ Of term.denied (part g no_parts) → IfSome o (λ c. StaysOpen ls g (at c)) → IfSome o (λ c. StaysOpen ls f (at c))
 denied_open at ls f g None is stays = tt
 denied_open at ls f g (Some c) is stays = denial_stays ls f g (at c) is stays
+
+pub or_safe_but : (at : ℕ → Term) (ls : List Literal) (f : Term) (sign : Bool) (ps : Parts) (o : Option ℕ) → f ≡ Of term.any_of ps → sign ≡ true → IfSome o (λ c. HasOpen ls ps (at c)) → IfSome o (λ c. IsSafeBut ls (signed f sign) (at c))
+or_safe_but at ls f sign ps None is up has = tt
+or_safe_but at ls f sign ps (Some c) is up has = subst (λ (b : Bool). IsSafeBut ls (signed f b) (at c)) (sym up)
+    (λ a holds un_so apart. ap (λ (t : Term). is_no (judged (with_one ls a holds) t)) is ∙ any_open ls ps (at c) a holds has un_so apart)
+
+pub and_safe_but : (at : ℕ → Term) (ls : List Literal) (f : Term) (sign : Bool) (ps : Parts) (o : Option ℕ) → f ≡ Of term.all_of ps → sign ≡ false → IfSome o (λ c. HasOpen ls ps (at c)) → IfSome o (λ c. IsSafeBut ls (signed f sign) (at c))
+and_safe_but at ls f sign ps None is un_so has = tt
+and_safe_but at ls f sign ps (Some c) is un_so has = subst (λ (b : Bool). IsSafeBut ls (signed f b) (at c)) (sym un_so)
+    (λ a holds up apart. ap (λ (t : Term). is_no (turned (judged (with_one ls a holds) t))) is ∙ all_open ls ps (at c) a holds has up apart)

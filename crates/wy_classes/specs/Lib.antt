@@ -2,6 +2,7 @@
 pub mod Once
 -- which pending formulas aren't judged yes
 pub mod Unmet
+pub mod Reached
 -- which names are bound around what stands in a node
 pub mod Marks
 -- what the walk has still to do, and what it leads to

@@ -1,14 +1,13 @@
 -- Which pending formulas one literal more can refute.
-use Rattle.std.specs.Prelude.{◌≡◌, ◌⊎◌, ◌++◌, ◌||◌, ℕ, Bool, true, false, not, List, [], ◌∷◌, map, if◌then◌else◌}
+use Rattle.std.specs.Prelude.{◌≡◌, ◌⊎◌, ◌++◌, Bool, true, false, not, List, [], ◌∷◌}
 use Rattle.wy_judge.specs.Judgement.{judged, of_atom}
-use Rattle.wy_judge.specs.Node.{Literal, Node}
+use Rattle.wy_judge.specs.Node.{Literal}
 use Rattle.wy_judge.specs.declared.verdict.Verdict.{Verdict}
 use Rattle.wy_judge.specs.declared.verdict.Verdict.TheVariants.{Yes, No, Open}
-use Rattle.wy_judging.specs.Seen.{seen_formula}
 use Rattle.wy_search.specs.Splitting.{is_open}
 use Rattle.wy_term.specs.Same.{same_term}
 use Rattle.wy_term.specs.Term.{Term, Parts, no_parts, part}
-use Rattle.wy_valid.specs.Literals.{any_no, is_no}
+use Rattle.wy_valid.specs.Literals.{is_no}
 
 -- the literals, and behind them one more
 abbrev pub with_one : List Literal → Term → Bool → List Literal
@@ -41,15 +40,10 @@ pub record HasTwoOpen (ls : List Literal) (ps : Parts) : Type 0 where
   pub two : HasOpen ls ps second
   pub apart : same_term first second ≡ false
 
--- the list, and behind it the formula, unless it is safe
-abbrev pub kept_by : Bool → List (ℕ × Bool) → ℕ × Bool → List (ℕ × Bool)
-kept_by safe ps p = if safe then ps else ps ++ p ∷ []
-
 -- no literal of an undecided atom makes it judged no
 abbrev pub IsSafe : List Literal → Term → Type 0
 IsSafe ls f = (a : Term) (holds : Bool) → is_open (of_atom ls a) ≡ true → is_no (judged (with_one ls a holds) f) ≡ false
 
--- with one literal more of an undecided atom, one of these is judged no exactly where a pending formula of the node is
-abbrev pub AreEnough : (ℕ → Term) → Node → List (ℕ × Bool) → Type 0
-AreEnough at node ps =
-    (a : Term) (holds : Bool) → is_open (of_atom node.literals a) ≡ true → any_no (with_one node.literals a holds) (map (seen_formula at) ps) ≡ any_no (with_one node.literals a holds) node.pending
+-- no literal of an undecided atom other than this one does
+abbrev pub IsSafeBut : List Literal → Term → Term → Type 0
+IsSafeBut ls f c = (a : Term) (holds : Bool) → is_open (of_atom ls a) ≡ true → same_term a c ≡ false → is_no (judged (with_one ls a holds) f) ≡ false

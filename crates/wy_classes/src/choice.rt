@@ -1,14 +1,14 @@
 //! The atom on which a node splits.
 ghost use Rattle.std.specs.Prelude.{◌≡◌, ◌<◌, ◌++◌, [], ◌∷◌, true, Some, map, length, option_map, slice_get, IfOk, IfSome, OnOk};
 ghost use Rattle.wy_judge.specs.Judgement.{of_atom};
-ghost use Rattle.wy_judging.specs.Seen.{AreBelow, AreOver, IsBranch, seen_branch, seen_formula};
+ghost use Rattle.wy_judging.specs.Seen.{AreBelow, IsBranch, seen_branch, seen_formula};
 ghost use Rattle.wy_search.specs.Splitting as splitting;
 ghost use Rattle.wy_classes.specs.Once.{SameBranch, first_by, once, undecided};
-ghost use Rattle.wy_classes.specs.Unmet.{AreEnough};
+ghost use Rattle.wy_classes.specs.Reached.{AreEnough, AreHinted, AreWithin};
 ghost use Rattle.wy_term.specs.Nodes.{tree_at};
 
 use crate::atoms::list_atoms;
-use crate::unmet::{is_one_refuted, is_undecided, unmet};
+use crate::unmet::{Reached, is_one_refuted, is_undecided, unmet};
 use indexmap::IndexSet;
 use wy_judge::Verdict;
 use wy_judging::{Branch, add_literal, back_to, judge, nothing_known, pending_at};
@@ -19,14 +19,15 @@ use wy_term::{NoMemory, Terms};
 fn decides(
     terms: &Terms,
     branch: &mut Branch,
-    left: &[(u32, bool)],
+    left: &[Reached],
     a: u32,
     holds: bool,
 ) -> Result<bool, NoMemory>
     requires atom { a < length terms.now }
     requires branch { IsBranch terms.now branch.old }
     requires left { AreEnough (tree_at terms.now) (seen_branch (tree_at terms.now) branch.old) left.now }
-    requires over { AreOver (length terms.now) left.now }
+    requires hinted { AreHinted (tree_at terms.now) (seen_branch (tree_at terms.now) branch.old).literals left.now }
+    requires within { AreWithin (length terms.now) left.now }
     requires undecided { splitting.is_open (of_atom (seen_branch (tree_at terms.now) branch.old).literals (tree_at terms.now a)) ≡ true }
     ensures value { IfOk result (λ yes. yes ≡ splitting.decides (seen_branch (tree_at terms.now) branch.old) (tree_at terms.now a) holds) }
     ensures same { OnOk result (SameBranch branch.old branch.new) }
@@ -35,22 +36,18 @@ fn decides(
     let literals = branch.literals.len();
     let pending = branch.pending.len();
     add_literal(terms, branch, a, holds)?;
-    let answer = is_one_refuted(terms, branch, left)?;
+    let answer = is_one_refuted(terms, branch, left, a)?;
     back_to(branch, literals, pending);
     Ok(answer)
 }
 
 // Whether the atom is undecided, and one of its values makes a pending formula judged no.
-fn is_forced(
-    terms: &Terms,
-    branch: &mut Branch,
-    left: &[(u32, bool)],
-    a: u32,
-) -> Result<bool, NoMemory>
+fn is_forced(terms: &Terms, branch: &mut Branch, left: &[Reached], a: u32) -> Result<bool, NoMemory>
     requires atom { a < length terms.now }
     requires branch { IsBranch terms.now branch.old }
     requires left { AreEnough (tree_at terms.now) (seen_branch (tree_at terms.now) branch.old) left.now }
-    requires over { AreOver (length terms.now) left.now }
+    requires hinted { AreHinted (tree_at terms.now) (seen_branch (tree_at terms.now) branch.old).literals left.now }
+    requires within { AreWithin (length terms.now) left.now }
     ensures value { IfOk result (λ yes. yes ≡ splitting.is_forced (seen_branch (tree_at terms.now) branch.old) (tree_at terms.now a)) }
     ensures same { OnOk result (SameBranch branch.old branch.new) }
     ensures branch { OnOk result (IsBranch terms.now branch.new) }
@@ -93,13 +90,14 @@ fn pending_atoms(terms: &Terms, branch: &Branch) -> Result<IndexSet<u32>, NoMemo
 fn first_forced(
     terms: &Terms,
     branch: &mut Branch,
-    left: &[(u32, bool)],
+    left: &[Reached],
     found: &IndexSet<u32>,
 ) -> Result<Option<u32>, NoMemory>
     requires found { AreBelow (length terms.now) found.now.keys }
     requires branch { IsBranch terms.now branch.old }
     requires left { AreEnough (tree_at terms.now) (seen_branch (tree_at terms.now) branch.old) left.now }
-    requires over { AreOver (length terms.now) left.now }
+    requires hinted { AreHinted (tree_at terms.now) (seen_branch (tree_at terms.now) branch.old).literals left.now }
+    requires within { AreWithin (length terms.now) left.now }
     ensures value { IfOk result (λ o. option_map (tree_at terms.now) o ≡ first_by (splitting.is_forced (seen_branch (tree_at terms.now) branch.old)) (map (tree_at terms.now) found.now.keys)) }
     ensures same { OnOk result (SameBranch branch.old branch.new) }
     ensures branch { OnOk result (IsBranch terms.now branch.new) }
@@ -172,11 +170,12 @@ fn first_open(terms: &Terms, branch: &Branch) -> Result<Option<u32>, NoMemory>
 fn forced_atom(
     terms: &Terms,
     branch: &mut Branch,
-    left: &[(u32, bool)],
+    left: &[Reached],
 ) -> Result<Option<u32>, NoMemory>
     requires branch { IsBranch terms.now branch.old }
     requires left { AreEnough (tree_at terms.now) (seen_branch (tree_at terms.now) branch.old) left.now }
-    requires over { AreOver (length terms.now) left.now }
+    requires hinted { AreHinted (tree_at terms.now) (seen_branch (tree_at terms.now) branch.old).literals left.now }
+    requires within { AreWithin (length terms.now) left.now }
     ensures value { IfOk result (λ o. option_map (tree_at terms.now) o ≡ splitting.first_forced (seen_branch (tree_at terms.now) branch.old) (splitting.atoms_of (seen_branch (tree_at terms.now) branch.old).pending)) }
     ensures same { OnOk result (SameBranch branch.old branch.new) }
     ensures branch { OnOk result (IsBranch terms.now branch.new) }

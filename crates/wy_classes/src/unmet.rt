@@ -1,19 +1,29 @@
 //! The pending formulas that one literal more can refute, and whether one of these is judged no.
 //!
 //! A formula that is judged yes stays so, and one that has two undecided members, as an `or` does in a search, is refuted by
-//! no single literal.
-ghost use Rattle.std.specs.Prelude.{◌≡◌, ◌<◌, true, false, Some, map, length, slice_get, IfOk, IfSome, OnOk};
-ghost use Rattle.wy_judging.specs.Judged.{fails, is_any_refuted};
-ghost use Rattle.wy_judging.specs.Seen.{AreBelow, AreOver, IsBranch, seen_branch, seen_formula};
-ghost use Rattle.wy_classes.specs.Unmet.{meets, AreEnough, HasOpen, HasTwoOpen, IsPlain, IsSafe, StaysOpen, kept_by};
+//! no single literal. One with an undecided member is refuted by no literal of another atom.
+ghost use Rattle.std.specs.Prelude.{◌≡◌, ◌<◌, true, false, Some, map, length, slice_get, IfOk, IfSome};
+ghost use Rattle.wy_judging.specs.Judged.{fails};
+ghost use Rattle.wy_judging.specs.Seen.{AreBelow, IsBranch, seen_branch, seen_formula};
+ghost use Rattle.wy_classes.specs.Unmet.{meets, HasOpen, HasTwoOpen, IsPlain, IsSafe, IsSafeBut, StaysOpen};
+ghost use Rattle.wy_classes.specs.Reached.{AreEnough, AreHinted, AreSpared, AreWithin, IsParted, seen_unmet};
 ghost use Rattle.wy_judge.specs.Judgement.{judged, of_atom};
 ghost use Rattle.wy_search.specs.Splitting as splitting;
 ghost use Rattle.wy_term.specs.Nodes.{parts_at, tree_at};
 ghost use Rattle.wy_term.specs.Same.{same_term};
+ghost use Rattle.wy_valid.specs.Literals.{any_no};
 
 use wy_judge::Verdict;
 use wy_judging::{Branch, has_literal, judge, nothing_known, pending_at};
 use wy_term::{NoMemory, Node, Terms};
+
+/// A pending formula, or its denial, and an undecided atom if it is known that no literal of another one refutes it.
+#[derive(Clone, Copy, Debug)]
+pub struct Reached {
+    pub formula: u32,
+    pub holds: bool,
+    pub by: Option<u32>,
+}
 
 /// Whether neither the atom nor its denial stands among the literals.
 pub fn is_undecided(terms: &Terms, branch: &Branch, a: u32) -> bool
@@ -154,32 +164,39 @@ fn is_safe(terms: &Terms, branch: &Branch, f: u32, holds: bool, verdict: Verdict
     is_out_of_reach(terms, branch, f, holds)
 }
 
-// A formula more, unless it is safe.
-fn note(left: &mut Vec<(u32, bool)>, formula: (u32, bool), safe: bool) -> Result<(), NoMemory>
-    ensures { OnOk result (left.new.items ≡ kept_by safe left.old.items formula) }
+// The undecided atom of a member of an `or`, or of a denied `and`. No literal of another atom refutes these.
+fn only_by(terms: &Terms, branch: &Branch, f: u32, holds: bool) -> Option<u32>
+    requires formula { f < length terms.now }
+    requires branch { IsBranch terms.now branch.now }
+    ensures value { IfSome result (λ c. IsSafeBut (seen_branch (tree_at terms.now) branch.now).literals (seen_formula (tree_at terms.now) (f, holds)) (tree_at terms.now c)) }
+    ensures below { IfSome result (λ c. c < length terms.now) }
 {
-    if safe {
-        return Ok(());
+    match (terms.node(f), holds) {
+        (Node::Or(members), true) => open_among(terms, branch, members, None),
+        (Node::And(members), false) => open_among(terms, branch, members, None),
+        _ => None,
     }
-    left.push(formula)?;
-    Ok(())
 }
 
 /// Pending formulas, in order, of which one is judged no with a literal more of an undecided atom wherever a pending formula
 /// is: those that aren't judged yes, and in which no two undecided atoms stand against it. It takes time linear in how many
 /// formulas the pending ones are made of, each counted once, and their members.
-pub fn unmet(terms: &Terms, branch: &Branch) -> Result<Vec<(u32, bool)>, NoMemory>
+pub fn unmet(terms: &Terms, branch: &Branch) -> Result<Vec<Reached>, NoMemory>
     requires { IsBranch terms.now branch.now }
-    ensures value { IfOk result (λ fs. AreEnough (tree_at terms.now) (seen_branch (tree_at terms.now) branch.now) fs.items) }
-    ensures over { IfOk result (λ fs. AreOver (length terms.now) fs.items) }
+    ensures value { IfOk result (λ us. AreEnough (tree_at terms.now) (seen_branch (tree_at terms.now) branch.now) us.items) }
+    ensures hinted { IfOk result (λ us. AreHinted (tree_at terms.now) (seen_branch (tree_at terms.now) branch.now).literals us.items) }
+    ensures within { IfOk result (λ us. AreWithin (length terms.now) us.items) }
 {
     let mut known = nothing_known(terms.allocator());
     let mut left = Vec::new(terms.allocator());
     for i in 0..branch.pending.len() {
-        let (f, holds) = pending_at(branch, i);
-        let verdict = judge(terms, branch, &mut known, f)?;
-        let safe = is_safe(terms, branch, f, holds, verdict);
-        note(&mut left, (f, holds), safe)?;
+        let (formula, holds) = pending_at(branch, i);
+        let verdict = judge(terms, branch, &mut known, formula)?;
+        if is_safe(terms, branch, formula, holds, verdict) {
+            continue;
+        }
+        let by = only_by(terms, branch, formula, holds);
+        left.push(Reached { formula, holds, by })?;
     }
     Ok(left)
 }
@@ -196,29 +213,47 @@ fn fails(verdict: Verdict, holds: bool) -> bool
 }
 
 // The formula with a place in the list.
-fn formula_at(formulas: &[(u32, bool)], i: usize) -> (u32, bool)
-    requires { i < length formulas.now }
-    ensures { slice_get formulas.now i ≡ Some result }
+fn unmet_at(left: &[Reached], i: usize) -> Reached
+    requires { i < length left.now }
+    ensures { slice_get left.now i ≡ Some result }
 {
-    formulas[i]
+    left[i]
 }
 
-/// Whether one of these formulas is judged no. It takes time linear in how many formulas they are made of, each counted
-/// once, and their members.
+// Whether a literal of the atom doesn't refute the formula, for it is refuted by one of another atom alone.
+fn is_spared(terms: &Terms, unmet: &Reached, atom: u32) -> bool
+    requires within { IfSome unmet.now.by (λ c. c < length terms.now) }
+    requires atom { atom < length terms.now }
+    ensures { result ≡ true → IsParted (tree_at terms.now) unmet.now.by (tree_at terms.now atom) }
+{
+    match unmet.by {
+        Some(c) => !terms.same(atom, c),
+        None => false,
+    }
+}
+
+/// Whether one of these formulas is judged no, where the last literal is of this atom. It takes time linear in how many
+/// formulas those that the atom can refute are made of, each counted once, and their members, and in the number of all.
 pub fn is_one_refuted(
     terms: &Terms,
     branch: &Branch,
-    formulas: &[(u32, bool)],
+    left: &[Reached],
+    atom: u32,
 ) -> Result<bool, NoMemory>
+    requires atom { atom < length terms.now }
     requires branch { IsBranch terms.now branch.now }
-    requires over { AreOver (length terms.now) formulas.now }
-    ensures value { IfOk result (λ yes. yes ≡ is_any_refuted (seen_branch (tree_at terms.now) branch.now).literals (map (seen_formula (tree_at terms.now)) formulas.now)) }
+    requires spared { AreSpared (tree_at terms.now) (seen_branch (tree_at terms.now) branch.now).literals (tree_at terms.now atom) left.now }
+    requires within { AreWithin (length terms.now) left.now }
+    ensures value { IfOk result (λ yes. yes ≡ any_no (seen_branch (tree_at terms.now) branch.now).literals (map (seen_unmet (tree_at terms.now)) left.now)) }
 {
     let mut known = nothing_known(terms.allocator());
-    for i in 0..formulas.len() {
-        let (f, holds) = formula_at(formulas, i);
-        let verdict = judge(terms, branch, &mut known, f)?;
-        if fails(verdict, holds) {
+    for i in 0..left.len() {
+        let unmet = unmet_at(left, i);
+        if is_spared(terms, &unmet, atom) {
+            continue;
+        }
+        let verdict = judge(terms, branch, &mut known, unmet.formula)?;
+        if fails(verdict, unmet.holds) {
             return Ok(true);
         }
     }

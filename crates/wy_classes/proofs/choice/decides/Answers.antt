@@ -1,7 +1,15 @@
 use Rattle.wy_judging.specs.Seen.{seen_branch}
-use Rattle.wy_classes.proofs.DecidingLemmas.{decided}
+use Rattle.wy_classes.proofs.DecidingLemmas.{decided, literals_more}
+use Rattle.wy_classes.proofs.UnmetLemmas.{all_spared}
 use Rattle.wy_classes.proofs.choice.decides.Goals as goal
 use Rattle.wy_term.specs.Nodes.{tree_at}
+
+pub is_one_refuted-requires-clause-spared : goal.is_one_refuted-requires-clause-spared
+is_one_refuted-requires-clause-spared c =
+    let at = tree_at c.args.terms.now in
+    let node = seen_branch at c.args.branch.now in
+    let new = seen_branch at c.add_literal.new.branch in
+    all_spared at node.literals new.literals (at c.args.a) c.args.holds c.args.left.now c.requires.undecided (literals_more node new (at c.args.a) c.args.holds c.requires.undecided c.in_ok-add_literal.ensures.value) c.requires.hinted
 
 pub returns-clause-value : goal.returns-clause-value
 returns-clause-value c =

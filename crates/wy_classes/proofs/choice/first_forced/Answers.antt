@@ -2,7 +2,7 @@ use Rattle.std.proofs.Common.{◌≡◌, ◌∙◌, false, true, length, rules, 
 use Rattle.wy_judge.specs.Node.{Node}
 use Rattle.wy_judging.specs.Seen.{seen_branch}
 use Rattle.wy_search.specs.Splitting.{is_forced}
-use Rattle.wy_classes.proofs.DecidingLemmas.{same_again, seen_same, enough_again}
+use Rattle.wy_classes.proofs.DecidingLemmas.{enough_again, hinted_again, same_again, seen_same}
 use Rattle.wy_classes.proofs.FirstLemmas.{below_at, passes_here, passes_later}
 use Rattle.wy_classes.proofs.choice.first_forced.Goals as goal
 use Rattle.wy_term.specs.Nodes.{tree_at}
@@ -12,6 +12,9 @@ is_forced-requires-clause-atom c = below_at (length c.args.terms.now) c.args.fou
 
 pub is_forced-requires-clause-left : goal.is_forced-requires-clause-left
 is_forced-requires-clause-left c = enough_again (tree_at c.args.terms.now) c.args.branch.now c.loop-i.branch c.args.left.now c.loop-i.invariant.same c.requires.left
+
+pub is_forced-requires-clause-hinted : goal.is_forced-requires-clause-hinted
+is_forced-requires-clause-hinted c = hinted_again (tree_at c.args.terms.now) c.args.branch.now c.loop-i.branch c.args.left.now c.loop-i.invariant.same c.requires.hinted
 
 pub returns-then-branch-clause-value : goal.returns-then-branch-clause-value
 returns-then-branch-clause-value c =
