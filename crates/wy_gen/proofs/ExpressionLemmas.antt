@@ -52,8 +52,10 @@ module _ (c : Context) (x : Expr) (a : Expr) (live s : Variables) (d : ℕ) (old
       let at = stands place p r d place_is r_is in
       operand c x (tree.LenExpr x.at (seen_expr a)) (seen_expr a) place p live s s d (Does (instr.Len d (standing p d)) ∷ []) old steps (seen_len x a is) refl place_is live_is (steps_is ∙ (λ i. Does (instr.Len d (at i)) ∷ old))
 
-  pub is_same : (ty : Ty) → x.kind ≡ kind.Is a ty → steps ≡ spec.is_test c (seen_ty ty) d ++ old → code c (seen_expr a) live d ++ steps ≡ code c (seen_expr x) s d ++ old
-  is_same ty is steps_is = operand c x (tree.IsExpr x.at (seen_expr a) (seen_ty ty)) (seen_expr a) None None live s s d (spec.is_test c (seen_ty ty) d) old steps (seen_is x a ty is) refl refl live_is steps_is
+  pub is_same : (ty : Ty) (place : Option ℕ) → x.kind ≡ kind.Is a ty → place ≡ spec.tested_read (seen_ty ty) (seen_expr a) s → steps ≡ spec.tested c (seen_ty ty) place d ++ old → unless_read place (code c (seen_expr a) live d) ++ steps ≡ code c (seen_expr x) s d ++ old
+  is_same ty place is place_is steps_is =
+      let p = spec.tested_read (seen_ty ty) (seen_expr a) s in
+      operand c x (tree.IsExpr x.at (seen_expr a) (seen_ty ty)) (seen_expr a) place p live s s d (spec.tested c (seen_ty ty) p d) old steps (seen_is x a ty is) refl place_is live_is (steps_is ∙ (λ i. spec.tested c (seen_ty ty) (place_is i) d ++ old))
 
   pub field_same : (name : List ℕ) (number r : ℕ) (place : Option ℕ) → x.kind ≡ kind.Field a name → place ≡ read (seen_expr a) s → r ≡ standing place d → number ≡ number_of name c.table.names → steps ≡ Does (instr.Field d r number) ∷ old
       → unless_read place (code c (seen_expr a) live d) ++ steps ≡ code c (seen_expr x) s d ++ old
@@ -62,9 +64,6 @@ module _ (c : Context) (x : Expr) (a : Expr) (live s : Variables) (d : ℕ) (old
       let at = stands place p r d place_is r_is in
       operand c x (tree.FieldExpr x.at (seen_expr a) name) (seen_expr a) place p live s s d (Does (instr.Field d (standing p d) (number_of name c.table.names)) ∷ []) old steps (seen_field x a name is) refl place_is live_is
       (steps_is ∙ (λ i. Does (instr.Field d (at i) (number_is i)) ∷ old))
-
-  pub is_live : (ty : Ty) → x.kind ≡ kind.Is a ty → before (seen_expr a) live ≡ before (seen_expr x) s
-  is_live ty is = operand_live x (tree.IsExpr x.at (seen_expr a) (seen_ty ty)) (seen_expr a) live s s (seen_is x a ty is) refl live_is
 
 -- two operands: what is live behind the first is live before the second
 module _ (c : Context) (x : Expr) (a b : Expr) (s : Variables) (d : ℕ) (old : List Step) (live : Variables) (steps : List Step) where

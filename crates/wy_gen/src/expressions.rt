@@ -6,7 +6,7 @@ ghost use Rattle.wy_compiled.specs.Expressions as spec;
 ghost use Rattle.wy_compiled.specs.Operands as operands;
 ghost use Rattle.wy_live.specs.Walks as lives;
 
-use crate::calls::{call, is_test};
+use crate::calls::{call, tested, tested_read};
 use crate::made::{Made, is_plain, plain, previous, register_at, used};
 use crate::operands::{
     first_read, in_place, plain_or_read, read, second_read, standing, variable_in,
@@ -70,8 +70,10 @@ pub fn code(
             operand_code(alloc, context, left, place, register, behind)
         }
         ExprKind::Is(operand, ty) => {
-            let behind = is_test(alloc, context, ty, register, behind)?;
-            code(alloc, context, operand.get(), register, behind)
+            let operand = operand.get();
+            let place = tested_read(ty, operand, &behind.live);
+            let behind = tested(alloc, context, ty, place, register, behind)?;
+            operand_code(alloc, context, operand, place, register, behind)
         }
         ExprKind::Index(array, index) => {
             let array = array.get();
@@ -120,7 +122,7 @@ pub fn code(
 /// The code of an operand, of which there is none where it is read in its register: its variable is
 /// live before it.
 #[cycle(code)]
-fn operand_code(
+pub fn operand_code(
     alloc: Global,
     context: &Context,
     expr: &Expr,

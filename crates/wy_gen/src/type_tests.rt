@@ -69,6 +69,27 @@ pub fn test(
     }
 }
 
+/// Whether the test of a type begins with an instruction that reads the value: the answers for any
+/// value and for none are constants.
+pub fn looks(ty: &Ty) -> bool
+    ensures value { result ≡ spec.looks (seen_ty ty.now) }
+{
+    match &ty.kind {
+        TyKind::Null => true,
+        TyKind::Bool => true,
+        TyKind::Int => true,
+        TyKind::Any => false,
+        TyKind::Void => false,
+        TyKind::Record(_) => true,
+        TyKind::Array(_) => true,
+        TyKind::Union(first, _) => looks(first.get()),
+        TyKind::Inter(first, _) => looks(first.get()),
+        TyKind::Not(ty) => looks(ty.get()),
+        TyKind::Named(_) => true,
+        TyKind::Normal(_) => false,
+    }
+}
+
 /// The code behind so many others is run where the register is false.
 fn where_false(register: u32, end: usize, steps: Steps) -> Result<Steps, NoMemory>
     ensures value { (second old : List Step) → steps ≡ second ++ old → length old ≡ end → IfOk result (λ s. s ≡ pieces.fork register [] second ++ old) }

@@ -1,23 +1,27 @@
 //! The code of updates of parts.
-ghost use Rattle.std.specs.Prelude.{◌≡◌, ◌+◌, ◌∷◌, ◌++◌, [], IfOk, List, map, ℕ};
+ghost use Rattle.std.specs.Prelude.{◌≡◌, ◌+◌, ◌∷◌, ◌++◌, [], IfOk, List, map, None, slice_index_or, ℕ};
 ghost use Rattle.wy_core.specs.CoreSeen.{seen_expr, seen_step};
 ghost use Rattle.wy_core.specs.CoreTree as tree;
 ghost use Rattle.wy_live.specs.Sets as sets;
 ghost use Rattle.wy_live.specs.Walks as lives;
 ghost use Rattle.wy_compiled.specs.Statements as spec;
+ghost use Rattle.wy_gen.specs.Places as reads;
 ghost use Rattle.wy_pieces.specs.declared.steps.Step as steps;
 
-use crate::expressions::code;
+use crate::expressions::{code, operand_code};
 use crate::made::{Made, plain, previous, register_at};
+use crate::operands::{read, standing};
 use std::alloc::Global;
 use wy_code::{Instr, Slot};
 use wy_core::{Expr, Step, StepKind};
 use wy_items::Items;
+use wy_live::Variables;
 use wy_pieces::{NoMemory, clear_one, next};
 use wy_tables::{Context, name_number};
 
 /// `x[i].f = e`: the indices, the value, and the update; where the variable isn't live behind, what
-/// it holds is released.
+/// it holds is released. An index that is a variable which is live behind the update is read in its
+/// register: which ones are is asked before the update makes its own variable live.
 pub fn update(
     alloc: Global,
     context: &Context,
@@ -31,11 +35,12 @@ pub fn update(
     ensures live { IfOk result (λ m. m.live ≡ lives.before_steps (map seen_step path.now) (lives.before (seen_expr value.now) (sets.with behind.live variable))) }
 {
     let register = register_at(free, index_count(path)?)?;
-    let slots = slots(alloc, context, path, free)?;
+    let places = places_of(alloc, path, &behind.live)?;
+    let slots = slots(alloc, context, path, &behind.live, free)?;
     let behind = kept(alloc, variable, behind)?;
     let behind = plain(Instr::Put(variable, slots, register), behind)?;
     let behind = code(alloc, context, value, register, behind)?;
-    indices(alloc, context, path, free, behind)
+    indices(alloc, context, path, places.as_slice(), free, behind)
 }
 
 /// A variable that is updated is live before; where it isn't live behind, what it holds is released.
@@ -76,21 +81,55 @@ fn one_more(count: usize) -> Result<usize, NoMemory>
     }
 }
 
-/// The slots of a path whose indices are in the registers from `free` on.
+/// The variable in whose register the index of a step is read, where this is live behind the update.
+fn place_of(step: &Step, live: &Variables) -> Option<u32>
+    ensures value { result ≡ reads.place_of (seen_step step.now) live.now }
+{
+    match &step.kind {
+        StepKind::Index(index) => read(index, live),
+        StepKind::Field(_) => None,
+    }
+}
+
+/// The same of each step of a path.
+fn places_of(alloc: Global, path: &[Step], live: &Variables) -> Result<Items<Option<u32>>, NoMemory>
+    ensures value { IfOk result (λ ps. ps ≡ reads.places (map seen_step path.now) live.now) }
+{
+    let mut places = Items::new(alloc);
+    for step in path {
+        places.push(place_of(step, live))?;
+    }
+    Ok(places)
+}
+
+/// The one of the step at an index; none behind the last.
+fn place_at(places: &[Option<u32>], index: usize) -> Option<u32>
+    ensures value { result ≡ slice_index_or places.now index None }
+{
+    if index < places.len() {
+        places[index]
+    } else {
+        None
+    }
+}
+
+/// The slots of a path whose indices are in the registers from `free` on, but for those that are read
+/// in their variable's.
 fn slots(
     alloc: Global,
     context: &Context,
     path: &[Step],
+    live: &Variables,
     free: u32,
 ) -> Result<Items<Slot>, NoMemory>
-    ensures value { IfOk result (λ s. s ≡ spec.slots context.now (map seen_step path.now) free) }
+    ensures value { IfOk result (λ s. s ≡ spec.slots context.now (map seen_step path.now) live.now free) }
 {
     let mut slots = Items::new(alloc);
     let mut register = free;
     for step in path {
         match &step.kind {
-            StepKind::Index(_) => {
-                slots.push(Slot::Item(register))?;
+            StepKind::Index(index) => {
+                slots.push(Slot::Item(standing(read(index, live), register)))?;
                 register = next(register)?;
             }
             StepKind::Field(name) => {
@@ -109,15 +148,17 @@ struct Indexed {
     made: Made,
 }
 
-/// The indices of a path, each into the register behind the one before.
+/// The indices of a path, each into a register behind that of the one before, but for those that are
+/// read in their variable's.
 fn indices(
     alloc: Global,
     context: &Context,
     path: &[Step],
+    places: &[Option<u32>],
     free: u32,
     behind: Made,
 ) -> Result<Made, NoMemory>
-    ensures value { IfOk result (λ m. m.steps ≡ spec.indices context.now (map seen_step path.now) behind.live free ++ behind.steps) }
+    ensures value { (s : sets.Variables) → places.now ≡ reads.places (map seen_step path.now) s → IfOk result (λ m. m.steps ≡ spec.indices context.now (map seen_step path.now) behind.live s free ++ behind.steps) }
     ensures live { IfOk result (λ m. m.live ≡ lives.before_steps (map seen_step path.now) behind.live) }
 {
     let end = register_at(free, index_count(path)?)?;
@@ -128,7 +169,8 @@ fn indices(
     let mut left = path.len();
     while left > 0 {
         left -= 1;
-        indexed = index(alloc, context, &path[left], indexed)?;
+        let place = place_at(places, left);
+        indexed = index(alloc, context, &path[left], place, indexed)?;
     }
     let Indexed { here: _, made } = indexed;
     Ok(made)
@@ -139,9 +181,10 @@ fn index(
     alloc: Global,
     context: &Context,
     step: &Step,
+    place: Option<u32>,
     behind: Indexed,
 ) -> Result<Indexed, NoMemory>
-    ensures value { (path : List (tree.Step ℕ)) (live : sets.Variables) (old : List steps.Step) → behind.made.live ≡ lives.before_steps path live → behind.made.steps ≡ spec.indices context.now path live behind.here ++ old → IfOk result (λ i. i.made.steps ≡ spec.indices context.now (seen_step step.now ∷ path) live i.here ++ old) }
+    ensures value { (path : List (tree.Step ℕ)) (live s : sets.Variables) (old : List steps.Step) → place ≡ reads.place_of (seen_step step.now) s → behind.made.live ≡ lives.before_steps path live → behind.made.steps ≡ spec.indices context.now path live s behind.here ++ old → IfOk result (λ i. i.made.steps ≡ spec.indices context.now (seen_step step.now ∷ path) live s i.here ++ old) }
     ensures live { IfOk result (λ i. i.made.live ≡ lives.before_step (seen_step step.now) behind.made.live) }
     ensures here { IfOk result (λ i. i.here + spec.index_count (seen_step step.now ∷ []) ≡ behind.here) }
 {
@@ -149,7 +192,7 @@ fn index(
         StepKind::Index(index) => {
             let Indexed { here, made } = behind;
             let here = previous(here)?;
-            let made = code(alloc, context, index, here, made)?;
+            let made = operand_code(alloc, context, index, place, here, made)?;
             Ok(Indexed { here, made })
         }
         StepKind::Field(_) => Ok(behind),

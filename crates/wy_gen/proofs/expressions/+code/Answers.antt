@@ -11,7 +11,7 @@ use Rattle.wy_pieces.specs.Steps.{fork}
 use Rattle.wy_tables.specs.Tables.{target}
 use Rattle.wy_compiled.specs.Expressions as spec
 use Rattle.wy_compiled.specs.Operands as operands
-use Rattle.wy_gen.proofs.ExpressionLemmas.{neg_same, not_same, len_same, is_same, is_live, field_same, binary_same, index_same, repeat_same, repeat_live, quant_same, quant_live, call_same, call_live, list_same, list_live, record_code_same, record_code_live}
+use Rattle.wy_gen.proofs.ExpressionLemmas.{neg_same, not_same, len_same, is_same, field_same, binary_same, index_same, repeat_same, repeat_live, quant_same, quant_live, call_same, call_live, list_same, list_live, record_code_same, record_code_live}
 use Rattle.wy_gen.proofs.LoopLemmas.{codes_turn, codes_turn_live, field_codes_turn, field_codes_turn_live, place_back}
 use Rattle.wy_gen.proofs.PieceLemmas.{quantify_same}
 use Rattle.wy_gen.proofs.OperatorLemmas.{right_made}
@@ -44,19 +44,14 @@ code-returns-in_ok-behind-in-Len-clause-value t c =
     (c.in-Len.is ∙ ap kind.Len (sym c.get-operand-in-Len.ensures)) c.read-place.ensures.value c.standing-in-Len.ensures.value c.in_ok-behind-in-Len.ensures.value)
     c.operand_code-in-Len.ensures.value
 
-pub code-returns-in_ok-behind-in-Is : goal.code-returns-in_ok-behind-in-Is
-code-returns-in_ok-behind-in-Is t c = record {
-  value =
-      let a = c.get.result.now in
-      subst (λ (z : List Step). IfOk c.code.result (λ m. m.steps ≡ z))
-      (is_same c.args.context.now c.args.expr.now a c.in_ok-behind-in-Is.behind.live c.args.behind.live c.args.register c.args.behind.steps c.in_ok-behind-in-Is.behind.steps c.in_ok-behind-in-Is.ensures.live c.in-Is.ty (c.in-Is.is ∙ ap (λ (z : Expr). kind.Is z c.in-Is.ty) (sym c.get.ensures)) c.in_ok-behind-in-Is.ensures.value)
-      c.code.ensures.value;
-  live =
-      let a = c.get.result.now in
-      subst (λ (z : Variables). IfOk c.code.result (λ m. m.live ≡ z))
-      (is_live c.args.context.now c.args.expr.now a c.in_ok-behind-in-Is.behind.live c.args.behind.live c.args.register c.args.behind.steps c.in_ok-behind-in-Is.behind.steps c.in_ok-behind-in-Is.ensures.live c.in-Is.ty (c.in-Is.is ∙ ap (λ (z : Expr). kind.Is z c.in-Is.ty) (sym c.get.ensures)))
-      c.code.ensures.live;
-}
+pub code-returns-in_ok-behind-in-Is-clause-value : goal.code-returns-in_ok-behind-in-Is-clause-value
+code-returns-in_ok-behind-in-Is-clause-value t c =
+    let a = c.get-operand-in-Is.result.now in
+    let b = c.in_ok-behind-in-Is.behind in
+    subst (λ (z : List Step). IfOk c.operand_code-in-Is.result (λ m. m.steps ≡ z))
+    (is_same c.args.context.now c.args.expr.now a b.live c.args.behind.live c.args.register c.args.behind.steps b.steps c.in_ok-behind-in-Is.ensures.live c.in-Is.ty c.tested_read-place.result
+    (c.in-Is.is ∙ ap (λ (z : Expr). kind.Is z c.in-Is.ty) (sym c.get-operand-in-Is.ensures)) c.tested_read-place.ensures.value c.in_ok-behind-in-Is.ensures.value)
+    c.operand_code-in-Is.ensures.value
 
 pub code-returns-in_ok-behind-in-Field-clause-value : goal.code-returns-in_ok-behind-in-Field-clause-value
 code-returns-in_ok-behind-in-Field-clause-value t c =
@@ -96,15 +91,15 @@ code-returns-in_ok-behind-in-Index-2-clause-value t c =
 pub code-returns-in_ok-behind-in-Repeat-2 : goal.code-returns-in_ok-behind-in-Repeat-2
 code-returns-in_ok-behind-in-Repeat-2 t c = record {
   value =
-      let b = c.get-in-Repeat.result.now in let a = c.get-in-Repeat-2.result.now in
-      subst (λ (z : List Step). IfOk c.code-in-Repeat-2.result (λ m. m.steps ≡ z))
-      (repeat_same c.args.context.now c.args.expr.now a b c.args.behind.live c.args.register c.args.behind.steps c.in_ok-behind-in-Repeat-2.behind.live c.in_ok-behind-in-Repeat-2.behind.steps c.in_ok-behind-in-Repeat.behind.live c.in_ok-free-in-Repeat.free c.in_ok-behind-in-Repeat.behind.steps (let p = sym c.get-in-Repeat-2.ensures in let q = sym c.get-in-Repeat.ensures in c.in-Repeat.is ∙ (λ i. kind.Repeat (p i) (q i))) c.in_ok-free-in-Repeat.ensures.value c.in_ok-behind-in-Repeat.ensures.live c.in_ok-behind-in-Repeat.ensures.value c.in_ok-behind-in-Repeat-2.ensures.live c.in_ok-behind-in-Repeat-2.ensures.value)
-      c.code-in-Repeat-2.ensures.value;
+      let b = c.get.result.now in let a = c.get-in-Repeat.result.now in
+      subst (λ (z : List Step). IfOk c.code-in-Repeat.result (λ m. m.steps ≡ z))
+      (repeat_same c.args.context.now c.args.expr.now a b c.args.behind.live c.args.register c.args.behind.steps c.in_ok-behind-in-Repeat-2.behind.live c.in_ok-behind-in-Repeat-2.behind.steps c.in_ok-behind-in-Repeat.behind.live c.in_ok-free-in-Repeat.free c.in_ok-behind-in-Repeat.behind.steps (let p = sym c.get-in-Repeat.ensures in let q = sym c.get.ensures in c.in-Repeat.is ∙ (λ i. kind.Repeat (p i) (q i))) c.in_ok-free-in-Repeat.ensures.value c.in_ok-behind-in-Repeat.ensures.live c.in_ok-behind-in-Repeat.ensures.value c.in_ok-behind-in-Repeat-2.ensures.live c.in_ok-behind-in-Repeat-2.ensures.value)
+      c.code-in-Repeat.ensures.value;
   live =
-      let b = c.get-in-Repeat.result.now in let a = c.get-in-Repeat-2.result.now in
-      subst (λ (z : Variables). IfOk c.code-in-Repeat-2.result (λ m. m.live ≡ z))
-      (repeat_live c.args.context.now c.args.expr.now a b c.args.behind.live c.args.register c.args.behind.steps c.in_ok-behind-in-Repeat-2.behind.live c.in_ok-behind-in-Repeat-2.behind.steps c.in_ok-behind-in-Repeat.behind.live (let p = sym c.get-in-Repeat-2.ensures in let q = sym c.get-in-Repeat.ensures in c.in-Repeat.is ∙ (λ i. kind.Repeat (p i) (q i))) c.in_ok-behind-in-Repeat.ensures.live c.in_ok-behind-in-Repeat-2.ensures.live)
-      c.code-in-Repeat-2.ensures.live;
+      let b = c.get.result.now in let a = c.get-in-Repeat.result.now in
+      subst (λ (z : Variables). IfOk c.code-in-Repeat.result (λ m. m.live ≡ z))
+      (repeat_live c.args.context.now c.args.expr.now a b c.args.behind.live c.args.register c.args.behind.steps c.in_ok-behind-in-Repeat-2.behind.live c.in_ok-behind-in-Repeat-2.behind.steps c.in_ok-behind-in-Repeat.behind.live (let p = sym c.get-in-Repeat.ensures in let q = sym c.get.ensures in c.in-Repeat.is ∙ (λ i. kind.Repeat (p i) (q i))) c.in_ok-behind-in-Repeat.ensures.live c.in_ok-behind-in-Repeat-2.ensures.live)
+      c.code-in-Repeat.ensures.live;
 }
 
 pub code-returns-in_ok-behind-in-Quant-2 : goal.code-returns-in_ok-behind-in-Quant-2
