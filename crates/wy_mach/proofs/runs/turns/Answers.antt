@@ -4,7 +4,6 @@ use Rattle.wy_mach.specs.Running.{Turned, PrintsFront, ShowsFirst, next_in}
 use Rattle.std.specs.Prelude.{IfOk, OnErr}
 use Rattle.wy_mach.specs.Pacing.{turn_of}
 use Rattle.wy_mach.specs.declared.machine.Pace.{Pace}
-use Rattle.wy_mach.specs.declared.machine.Turn.TheVariants as turn
 use Rattle.wy_mach.proofs.TurnLemmas.{on_any_err, no_instr}
 use Rattle.wy_mach.proofs.RunLemmas.{follows_first, follows_on, run_done, run_fault, run_front, run_stuck, run_spent, rose_later}
 use Rattle.wy_mach.specs.SharedTurns.{TurnsShared}

@@ -8,7 +8,7 @@ use Rattle.wy_mach.proofs.PaceLemmas.{went_so}
 use Rattle.wy_mach.proofs.TurnLemmas.{machine_at, jump_steps, if_ok, on_any_err, is_plain, on_err}
 use Rattle.wy_mach.specs.SharedTurns.{SharesPlain, SharesCall, SharesBy, EndsSo, EndsBy, IsNoEnd, WantsIn, WantsBy}
 use Rattle.wy_mach.proofs.SharedTurnLemmas.{plain_by, plain_wants, no_end_so}
-use Rattle.std.specs.Prelude.{vec_capacity, OnErr, IfOk}
+use Rattle.std.specs.Prelude.{vec_capacity}
 use Rattle.wy_mach.specs.Pacing.{turn_of}
 use Rattle.wy_code.specs.declared.routines.Code.{Code}
 use Rattle.wy_mach.proofs.machine.Machine.made.Goals as goal

@@ -1,6 +1,6 @@
-use Rattle.std.proofs.Common.{◌≡◌, Option, Some, sym, subst}
+use Rattle.std.proofs.Common.{◌≡◌, Option, sym, subst}
 use Rattle.std.specs.Prelude.{OnErr}
-use Rattle.wy_mach.specs.Running.{Turned, MayWantMemory, next_in, next_by, instr_of}
+use Rattle.wy_mach.specs.Running.{Turned, MayWantMemory, next_in, next_by}
 use Rattle.wy_mach.proofs.TurnLemmas.{has_int, if_ok, on_err, turned_by}
 use Rattle.wy_mach.specs.Pacing.{turn_of}
 use Rattle.wy_mach.specs.declared.machine.Turn.{Turn}
