@@ -27,6 +27,20 @@ reordered c m ps qs same counts = record {
   meant = counts.meant;
 }
 
+-- a part that is no key holds none
+holds_none : (k : ℕ) (s : Part) → ((j : ℕ) → s ≡ Key j → ⊥) → holds k s ≡ 0
+holds_none k Null none = refl
+holds_none k (Bool b) none = refl
+holds_none k (Int n) none = refl
+holds_none k (Key j) none = absurd (none j refl)
+
+-- a place without a node is let go of, and nothing changes
+pub let_go_scalar : (h : Heap) (s : Part) (others : List Part) → ((j : ℕ) → s ≡ Key j → ⊥) → Counts h (s ∷ others) → Leads h h [] others
+let_go_scalar h s others none counts = record {
+  counts = reordered (count_at h) (map_of h) (s ∷ others) others (λ k. omega (arith, holds_none k s none)) counts;
+  keeps = λ q d among means. means;
+}
+
 -- the key is among places that begin with it
 pub among_first : (p : Part) (others : List Part) → Among (p ∷ others) p
 among_first p others k e = omega (arith, ap (holds k) e, holds_one k)

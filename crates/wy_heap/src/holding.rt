@@ -20,6 +20,7 @@ impl Heap {
     /// with fewer holders than the cap, and its cost is constant then. At the cap the new place holds a copy,
     /// whose parts are shared, or copied in turn where they are at the cap, by a list of new nodes; that is
     /// linear in the parts of what is copied.
+    #[inline(always)]
     pub fn share(&mut self, p: &Place) -> Result<Place, NoMemory>
         requires held { AreHeld self.old (p.now ∷ []) }
         ensures acts { IfOk result (λ made. (others : List Part) → Stands self.old (p.now ∷ others) → Acts self.old self.new (made ∷ []) (p.now ∷ others)) }
@@ -35,6 +36,7 @@ impl Heap {
     }
 
     // a hold more on this part, or on a copy of it
+    #[inline(always)]
     pub(crate) fn again(&mut self, part: Part) -> Result<Part, NoMemory>
         requires held { (places : List Part) × Counts self.old places }
         requires within { IsWithin self.old }
@@ -58,6 +60,7 @@ impl Heap {
     }
 
     // a hold on a copy of the node that the part holds
+    #[inline(never)]
     fn copy_of(&mut self, part: Part) -> Result<Part, NoMemory>
         requires held { (places : List Part) × Counts self.old places }
         requires within { IsWithin self.old }

@@ -17,6 +17,7 @@ use crate::part::{Part, Place};
 impl Heap {
     /// Lets go of a place, and frees each node that nothing holds any more, in time linear in their
     /// parts. It takes no memory, and no stack however deep they lie.
+    #[inline(always)]
     pub fn release(&mut self, p: Place)
         requires held { AreHeld self.old (p ∷ []) }
         ensures acts { (others : List Part) → Stands self.old (p ∷ others) → Acts self.old self.new [] others }
@@ -28,8 +29,24 @@ impl Heap {
         self.free(part);
     }
 
-    // lets go of a hold, and frees what nothing holds any more
+    // lets go of a hold, and frees what nothing holds any more. What holds no node is let go of at once.
+    #[inline(always)]
     pub(crate) fn free(&mut self, part: Part)
+        requires { (others : List Part) × Counts self.old (part ∷ others) }
+        ensures leads { (others : List Part) → Counts self.old (part ∷ others) → Leads self.old self.new [] others }
+        ensures lasts { Lasts (map_of self.old) (map_of self.new) }
+        ensures upheld { Upheld self.old (map_of self.new) part }
+        ensures lower { (k : ℕ) → count_at self.new k ≤ count_at self.old k }
+        ensures rest { SameRest self.old self.new }
+    {
+        if let Part::Key(key) = part {
+            self.free_hold(Part::Key(key));
+        }
+    }
+
+    // the same by the list of the nodes that wait
+    #[inline(never)]
+    fn free_hold(&mut self, part: Part)
         requires { (others : List Part) × Counts self.old (part ∷ others) }
         ensures leads { (others : List Part) → Counts self.old (part ∷ others) → Leads self.old self.new [] others }
         ensures lasts { Lasts (map_of self.old) (map_of self.new) }

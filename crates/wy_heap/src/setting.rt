@@ -78,10 +78,15 @@ impl Heap {
         if self.nodes[key].count == SOLE {
             let place = self.position(key, *step);
             let child = self.swap(key, place, Part::Null);
+            if rest.is_empty() {
+                self.free(child);
+                self.lay(key, place, part);
+                return Ok(Part::Key(key));
+            }
             match self.written(child, rest, part) {
                 Ok(below) => {
-                    self.swap(key, place, below);
-                    Ok(whole)
+                    self.lay(key, place, below);
+                    Ok(Part::Key(key))
                 }
                 Err(error) => {
                     self.swap(key, place, child);

@@ -96,6 +96,16 @@ impl Heap {
         self.shapes.lists.as_slice()[shape as usize].as_slice()
     }
 
+    // puts a part into a slot, in place of what was there
+    pub(crate) fn lay(&mut self, key: usize, place: usize, part: Part)
+        requires { IsNodeSlot (map_of self.old) key place }
+        ensures swaps { Swaps self.old self.new key place part }
+        ensures rest { SameRest self.old self.new }
+    {
+        let node = &mut self.nodes[key];
+        node.parts[place] = part;
+    }
+
     // puts a part into a slot, and takes out what was there
     pub(crate) fn swap(&mut self, key: usize, place: usize, part: Part) -> Part
         requires { IsNodeSlot (map_of self.old) key place }

@@ -30,3 +30,4 @@ pub mod SharedRunLemmas
 pub mod LongestLemmas
 pub mod StartLemmas
 pub mod RunLemmas
+pub mod PaceLemmas

@@ -6,6 +6,7 @@ pub mod Filling
 pub mod Records
 pub mod Kinds
 -- definitions of contracts
+pub mod Pacing
 pub mod Parts
 pub mod Paths
 -- what instructions do to registers that hold scalars and keys, and to nodes

@@ -10,11 +10,12 @@ ghost use Rattle.wy_mach.specs.Taking.{nulls};
 ghost use Rattle.wy_mach.specs.Sharing.{Spares};
 ghost use Rattle.wy_mach.specs.States.{places_of, places_below, callers_of};
 ghost use Rattle.wy_mach.specs.SharedTurns.{SharesCall, SharesReturn, LeavesNodes, ReturnsLast, EndsSo, IsNoEnd};
+ghost use Rattle.wy_mach.specs.Pacing.{turn_of};
 ghost use Rattle.wy_mach.specs.Running.{TurnsBy, Turned, KeepsRest, HasTextOf, Enters, Resumes, IsEnd, next_by};
 
 use crate::entering::entry_registers;
 use crate::frames::{Caller, Frame, leave};
-use crate::machine::{Machine, Turn};
+use crate::machine::{Machine, Pace, Turn};
 use crate::making::{release_all, take_all};
 use crate::registers::{put, take};
 use crate::stop::Stop;
@@ -24,63 +25,52 @@ use wy_heap::{NoMemory, Place};
 
 impl Machine {
     // `Call`
-    pub(crate) fn call(
-        &mut self,
-        code: &Code,
-        to: u32,
-        number: u32,
-        numbers: &[u32],
-    ) -> Result<Turn, NoMemory>
+    #[inline(never)]
+    pub(crate) fn call(&mut self, code: &Code, to: u32, number: u32, numbers: &[u32]) -> Pace
         requires stands { Stands self.old.heap (places_of self.old) }
         requires below { self.old.frame.at < 18446744073709551615 }
         ensures stands { Stands self.new.heap (places_of self.new) }
         ensures kept { KeepsRest self.old self.new }
-        ensures turned { IfOk result (λ turn. (before : Option (List ℕ)) (failed : ℕ) → Turned (next_by code.now (Instr.Call to number numbers.now)) self.old self.new before before failed failed turn) }
-        ensures shares { IfOk result (λ turn. turn ≡ Turn.Went → SharesCall code.now self.old self.new to number numbers.now) }
-        ensures no_end { IfOk result IsNoEnd }
+        ensures turned { IfOk (turn_of result) (λ turn. (before : Option (List ℕ)) (failed : ℕ) → Turned (next_by code.now (Instr.Call to number numbers.now)) self.old self.new before before failed failed turn) }
+        ensures shares { IfOk (turn_of result) (λ turn. turn ≡ Turn.Went → SharesCall code.now self.old self.new to number numbers.now) }
+        ensures no_end { IfOk (turn_of result) IsNoEnd }
     {
         let Some(routine) = code.routines.get(number as usize) else {
-            return Ok(Turn::Stuck);
+            return Pace::Stuck;
         };
         if numbers.len() != routine.params as usize {
-            return Ok(Turn::Stuck);
+            return Pace::Stuck;
         }
         if self.callers.reserve(1).is_err() {
-            return Err(NoMemory);
+            return Pace::NoMemory;
         }
         let alloc = self.alloc;
         match take_all(alloc, self.frame.registers.as_mut_slice(), numbers) {
             Ok(arguments) => self.enter(number, to, routine.registers, arguments),
-            Err(Stop::Stuck) => Ok(Turn::Stuck),
-            Err(Stop::NoMemory) => Err(NoMemory),
+            Err(Stop::Stuck) => Pace::Stuck,
+            Err(Stop::NoMemory) => Pace::NoMemory,
         }
     }
 
     // goes into a routine with these arguments, which were taken from the registers
-    fn enter(
-        &mut self,
-        number: u32,
-        to: u32,
-        registers: u32,
-        arguments: Vec<Place>,
-    ) -> Result<Turn, NoMemory>
+    fn enter(&mut self, number: u32, to: u32, registers: u32, arguments: Vec<Place>) -> Pace
         requires stands { Stands self.old.heap (arguments.items ++ places_of self.old) }
         requires below { self.old.frame.at < 18446744073709551615 }
         requires room { vec_len self.old.callers < vec_capacity self.old.callers }
         ensures stands { Stands self.new.heap (places_of self.new) }
         ensures kept { KeepsRest self.old self.new }
-        ensures entered { OnOk result (Enters self.old self.new number to registers arguments.items) }
-        ensures registers { OnOk result (self.new.frame.registers.items ≡ arguments.items ++ nulls (registers - length arguments.items)) }
-        ensures went { IfOk result (λ turn. turn ≡ Turn.Went) }
+        ensures entered { OnOk (turn_of result) (Enters self.old self.new number to registers arguments.items) }
+        ensures registers { OnOk (turn_of result) (self.new.frame.registers.items ≡ arguments.items ++ nulls (registers - length arguments.items)) }
+        ensures went { IfOk (turn_of result) (λ turn. turn ≡ Turn.Went) }
     {
         match entry_registers(registers, arguments) {
             Ok(all) => {
                 self.push_frame(number, to, all);
-                Ok(Turn::Went)
+                Pace::Went
             }
             Err(arguments) => {
                 release_all(&mut self.heap, arguments);
-                Err(NoMemory)
+                Pace::NoMemory
             }
         }
     }

@@ -1,10 +1,11 @@
 //! The machine: a heap, the frame that runs and those that wait for it.
-ghost use Rattle.std.specs.Prelude.{◌≡◌, ◌≤◌, ◌<◌, ◌+◌, vec_capacity, [], ℕ, List, Option, reverse, IfOk, OnErr};
+ghost use Rattle.std.specs.Prelude.{◌≡◌, ◌≤◌, ◌<◌, ◌+◌, vec_capacity, [], ℕ, List, Option, reverse, IfOk, OnErr, OnSome, Some, option_copied};
 ghost use Rattle.wy_heap.specs.Standing.{Stands};
 ghost use Rattle.wy_code.specs.declared.routines.Code.{Code};
 ghost use Rattle.wy_code.specs.declared.instructions.Instr.{Instr};
 ghost use Rattle.wy_mach.specs.States.{IsMachine, places_of, places_below};
 ghost use Rattle.wy_mach.specs.Running.{Turned, TurnsBy, IsPlain, HasInt, KeepsRest, MayTakeMemory, MayWantMemory, next_in, next_by, instr_of};
+ghost use Rattle.wy_mach.specs.Pacing.{turn_of};
 ghost use Rattle.wy_mach.specs.SharedSteps.{TakesMemoryNext, instr_next};
 ghost use Rattle.wy_mach.specs.SharedTurns.{SameHeld, SharesPlain, BranchesBy, SharesBy, IsNoEnd, EndsSo, EndsBy, WantsIn, WantsBy, TurnsShared, state_of};
 
@@ -29,7 +30,7 @@ pub struct Machine {
     pub(crate) alloc: Global,
 }
 
-/// What one instruction did.
+/// What an instruction did, with the parts of an end.
 #[derive(Drop)]
 pub enum Turn {
     /// It went, and the sink took all that it prints.
@@ -47,78 +48,116 @@ pub enum Turn {
     Stuck,
 }
 
+/// What an instruction did that isn't `Return`: it has no parts, so it is handed from answer to answer at no cost.
+#[derive(Clone, Copy, Debug, PartialEq, Eq)]
+pub enum Pace {
+    /// It went, and the sink took all that it prints.
+    Went,
+    /// The sink failed, and counted it.
+    OutFault,
+    /// An operand is outside of the instruction's domain.
+    Stuck,
+    /// There was no memory for what it was to make.
+    NoMemory,
+}
+
 impl Machine {
-    /// Makes one instruction of the code that the run was started on, where every turn before it went.
-    /// After any answer but `Went` only `stop` may follow. Want of memory comes only where the instruction
-    /// calls, makes or copies a node, is an `Equal`, or ends the entry. It takes constant time beside what
-    /// the instruction makes, copies, compares, prints and frees.
-    pub fn turn<O: Sink>(&mut self, code: &Code, out: &mut O) -> Result<Turn, NoMemory>
+    /// The next instruction of the code that the run was started on, where there is one. It takes no memory,
+    /// and constant time.
+    pub fn next<'a>(&self, code: &'a Code) -> Option<&'a Instr>
+        ensures value { option_copied result ≡ instr_of code.now self.now }
+        ensures below { OnSome result (self.now.frame.at < 18446744073709551615) }
+    {
+        let Some(routine) = code.routines.get(self.frame.routine as usize) else {
+            return None;
+        };
+        if self.frame.at >= routine.body.len() {
+            return None;
+        }
+        routine.body.get(self.frame.at)
+    }
+
+    /// Makes the next instruction, which isn't `Return`, of the code that the run was started on, where every
+    /// turn before it went. After any answer but `Went` only `stop` may follow. Want of memory comes only where
+    /// the instruction calls, makes or copies a node, or is an `Equal`. It takes constant time beside what the
+    /// instruction makes, copies, compares, prints and frees.
+    pub fn turn<O: Sink>(&mut self, code: &Code, instr: &Instr, out: &mut O) -> Pace
         requires is { IsMachine code.now self.old }
+        requires next { instr_of code.now self.old ≡ Some instr.now }
+        requires other { (from : ℕ) → instr.now ≡ Instr.Return from → ⊥ }
+        requires below { self.old.frame.at < 18446744073709551615 }
         ensures is { IsMachine code.now self.new }
-        ensures turned { IfOk result (Turned (next_in code.now) self.old self.new (O.taken out.old) (O.taken out.new) (O.faults out.old) (O.faults out.new)) }
-        ensures shared { IfOk result (TurnsShared code.now self.old self.new) }
-        ensures no_memory { OnErr result (MayWantMemory (instr_of code.now self.old)) }
-        ensures takes_memory { OnErr result (TakesMemoryNext self.old.heap.cap (instr_next code.now (state_of self.old)) (state_of self.old)) }
-        ensures nothing { OnErr result (O.taken out.new ≡ O.taken out.old) }
+        ensures turned { IfOk (turn_of result) (Turned (next_in code.now) self.old self.new (O.taken out.old) (O.taken out.new) (O.faults out.old) (O.faults out.new)) }
+        ensures shared { IfOk (turn_of result) (TurnsShared code.now self.old self.new) }
+        ensures no_memory { OnErr (turn_of result) (MayWantMemory (instr_of code.now self.old)) }
+        ensures takes_memory { OnErr (turn_of result) (TakesMemoryNext self.old.heap.cap (instr_next code.now (state_of self.old)) (state_of self.old)) }
+        ensures nothing { OnErr (turn_of result) (O.taken out.new ≡ O.taken out.old) }
         ensures count { O.faults out.old ≤ O.faults out.new }
         ensures has_result { self.new.has_result ≡ self.old.has_result }
     {
-        let Some(routine) = code.routines.get(self.frame.routine as usize) else {
-            return Ok(Turn::Stuck);
-        };
-        if self.frame.at >= routine.body.len() {
-            return Ok(Turn::Stuck);
-        }
-        let Some(instr) = routine.body.get(self.frame.at) else {
-            return Ok(Turn::Stuck);
-        };
         self.made(code, instr, out)
     }
 
-    // makes this instruction
-    fn made<O: Sink>(&mut self, code: &Code, instr: &Instr, out: &mut O) -> Result<Turn, NoMemory>
+    /// Makes the next instruction, which is `Return`, likewise. Want of memory comes only where it ends the entry.
+    #[inline(never)]
+    pub fn returned(&mut self, code: &Code, from: u32) -> Result<Turn, NoMemory>
+        requires is { IsMachine code.now self.old }
+        requires next { instr_of code.now self.old ≡ Some (Instr.Return from) }
+        ensures is { IsMachine code.now self.new }
+        ensures turned { IfOk result (λ turn. (before : Option (List ℕ)) (failed : ℕ) → Turned (next_in code.now) self.old self.new before before failed failed turn) }
+        ensures shared { IfOk result (TurnsShared code.now self.old self.new) }
+        ensures no_memory { OnErr result (MayWantMemory (instr_of code.now self.old)) }
+        ensures takes_memory { OnErr result (TakesMemoryNext self.old.heap.cap (instr_next code.now (state_of self.old)) (state_of self.old)) }
+        ensures has_result { self.new.has_result ≡ self.old.has_result }
+    {
+        self.give_back(from)
+    }
+
+    // makes this instruction, which isn't `Return`
+    fn made<O: Sink>(&mut self, code: &Code, instr: &Instr, out: &mut O) -> Pace
         requires is { IsMachine code.now self.old }
         requires int { HasInt instr.now }
+        requires other { (from : ℕ) → instr.now ≡ Instr.Return from → ⊥ }
         requires below { self.old.frame.at < 18446744073709551615 }
         ensures stands { Stands self.new.heap (places_of self.new) }
         ensures kept { KeepsRest self.old self.new }
-        ensures turned { IfOk result (Turned (next_by code.now instr.now) self.old self.new (O.taken out.old) (O.taken out.new) (O.faults out.old) (O.faults out.new)) }
-        ensures shares { IfOk result (λ turn. turn ≡ Turn.Went → SharesBy code.now instr.now self.old self.new) }
-        ensures ends { IfOk result (EndsSo (EndsBy instr.now self.old)) }
-        ensures no_memory { OnErr result (MayTakeMemory instr.now) }
-        ensures wants { OnErr result (WantsBy instr.now self.old) }
-        ensures nothing { OnErr result (O.taken out.new ≡ O.taken out.old) }
+        ensures turned { IfOk (turn_of result) (Turned (next_by code.now instr.now) self.old self.new (O.taken out.old) (O.taken out.new) (O.faults out.old) (O.faults out.new)) }
+        ensures shares { IfOk (turn_of result) (λ turn. turn ≡ Turn.Went → SharesBy code.now instr.now self.old self.new) }
+        ensures ends { IfOk (turn_of result) (EndsSo (EndsBy instr.now self.old)) }
+        ensures no_memory { OnErr (turn_of result) (MayTakeMemory instr.now) }
+        ensures wants { OnErr (turn_of result) (WantsBy instr.now self.old) }
+        ensures nothing { OnErr (turn_of result) (O.taken out.new ≡ O.taken out.old) }
         ensures count { O.faults out.old ≤ O.faults out.new }
     {
         match instr {
             Instr::Jump(to) => {
                 self.frame.at = *to as usize;
-                Ok(Turn::Went)
+                Pace::Went
             }
-            Instr::Branch(from, to) => Ok(self.branch(*from, *to)),
+            Instr::Branch(from, to) => self.branch(*from, *to),
             Instr::Call(to, routine, numbers) => {
                 self.call(code, *to, *routine, numbers.as_slice())
             }
-            Instr::Return(from) => self.give_back(*from),
-            Instr::Print(from) => Ok(self.printed(*from, out)),
-            Instr::PrintInt(from) => Ok(self.number_printed(*from, out)),
+            Instr::Print(from) => self.printed(*from, out),
+            Instr::PrintInt(from) => self.number_printed(*from, out),
+            Instr::Return(_) => unreachable!(),
             _ => self.went(code, instr),
         }
     }
 
     // an instruction that goes on behind and prints nothing
-    fn went(&mut self, code: &Code, instr: &Instr) -> Result<Turn, NoMemory>
+    fn went(&mut self, code: &Code, instr: &Instr) -> Pace
         requires is { IsMachine code.now self.old }
         requires plain { IsPlain instr.now }
         requires int { HasInt instr.now }
         requires below { self.old.frame.at < 18446744073709551615 }
         ensures stands { Stands self.new.heap (places_of self.new) }
         ensures kept { KeepsRest self.old self.new }
-        ensures turned { IfOk result (λ turn. (before : Option (List ℕ)) (failed : ℕ) → Turned (next_by code.now instr.now) self.old self.new before before failed failed turn) }
-        ensures shares { IfOk result (λ turn. turn ≡ Turn.Went → SharesPlain instr.now self.old self.new) }
-        ensures no_end { IfOk result IsNoEnd }
-        ensures no_memory { OnErr result (MayTakeMemory instr.now) }
-        ensures wants { OnErr result (WantsIn instr.now self.old.heap self.old.frame.registers.items (vec_capacity self.old.path)) }
+        ensures turned { IfOk (turn_of result) (λ turn. (before : Option (List ℕ)) (failed : ℕ) → Turned (next_by code.now instr.now) self.old self.new before before failed failed turn) }
+        ensures shares { IfOk (turn_of result) (λ turn. turn ≡ Turn.Went → SharesPlain instr.now self.old self.new) }
+        ensures no_end { IfOk (turn_of result) IsNoEnd }
+        ensures no_memory { OnErr (turn_of result) (MayTakeMemory instr.now) }
+        ensures wants { OnErr (turn_of result) (WantsIn instr.now self.old.heap self.old.frame.registers.items (vec_capacity self.old.path)) }
     {
         let alloc = self.alloc;
         let registers = self.frame.registers.as_mut_slice();
@@ -132,75 +171,80 @@ impl Machine {
         ) {
             Ok(()) => {
                 self.frame.at += 1;
-                Ok(Turn::Went)
+                Pace::Went
             }
-            Err(Stop::Stuck) => Ok(Turn::Stuck),
-            Err(Stop::NoMemory) => Err(NoMemory),
+            Err(Stop::Stuck) => Pace::Stuck,
+            Err(Stop::NoMemory) => Pace::NoMemory,
         }
     }
 
     // `Branch`
-    fn branch(&mut self, from: u32, to: u32) -> Turn
+    fn branch(&mut self, from: u32, to: u32) -> Pace
         requires stands { Stands self.old.heap (places_of self.old) }
         requires below { self.old.frame.at < 18446744073709551615 }
         ensures stands { Stands self.new.heap (places_of self.new) }
         ensures kept { KeepsRest self.old self.new }
-        ensures turned { TurnsBy (Instr.Branch from to) self.old self.new result }
-        ensures shares { result ≡ Turn.Went → SameHeld self.old self.new × BranchesBy self.old from to self.new.frame.at }
-        ensures no_end { IsNoEnd result }
+        ensures turned { IfOk (turn_of result) (TurnsBy (Instr.Branch from to) self.old self.new) }
+        ensures shares { result ≡ Pace.Went → SameHeld self.old self.new × BranchesBy self.old from to self.new.frame.at }
+        ensures goes { IfOk (turn_of result) IsNoEnd }
+        ensures memory { OnErr (turn_of result) ⊥ }
     {
         match truth(&self.heap, self.frame.registers.as_slice(), from) {
             Some(true) => {
                 self.frame.at += 1;
-                Turn::Went
+                Pace::Went
             }
             Some(false) => {
                 self.frame.at = to as usize;
-                Turn::Went
+                Pace::Went
             }
-            None => Turn::Stuck,
+            None => Pace::Stuck,
         }
     }
 
     // `Print`
-    fn printed<O: Sink>(&mut self, from: u32, out: &mut O) -> Turn
+    #[inline(never)]
+    fn printed<O: Sink>(&mut self, from: u32, out: &mut O) -> Pace
         requires stands { Stands self.old.heap (places_of self.old) }
         requires below { self.old.frame.at < 18446744073709551615 }
         ensures stands { Stands self.new.heap (places_of self.new) }
         ensures kept { KeepsRest self.old self.new }
-        ensures turned { (code : Code) → Turned (next_by code (Instr.Print from)) self.old self.new (O.taken out.old) (O.taken out.new) (O.faults out.old) (O.faults out.new) result }
-        ensures shares { result ≡ Turn.Went → SameHeld self.old self.new × (self.new.frame.at ≡ self.old.frame.at + 1) }
-        ensures no_end { IsNoEnd result }
+        ensures turned { IfOk (turn_of result) (λ turn. (code : Code) → Turned (next_by code (Instr.Print from)) self.old self.new (O.taken out.old) (O.taken out.new) (O.faults out.old) (O.faults out.new) turn) }
+        ensures shares { result ≡ Pace.Went → SameHeld self.old self.new × (self.new.frame.at ≡ self.old.frame.at + 1) }
+        ensures goes { IfOk (turn_of result) IsNoEnd }
+        ensures memory { OnErr (turn_of result) ⊥ }
         ensures count { O.faults out.old ≤ O.faults out.new }
     {
         match print(&self.heap, self.frame.registers.as_slice(), from, out) {
             Ok(()) => {
                 self.frame.at += 1;
-                Turn::Went
+                Pace::Went
             }
-            Err(PrintStop::Stuck) => Turn::Stuck,
-            Err(PrintStop::OutFault) => Turn::OutFault,
+            Err(PrintStop::Stuck) => Pace::Stuck,
+            Err(PrintStop::OutFault) => Pace::OutFault,
         }
     }
 
     // `PrintInt`
-    fn number_printed<O: Sink>(&mut self, from: u32, out: &mut O) -> Turn
+    #[inline(never)]
+    fn number_printed<O: Sink>(&mut self, from: u32, out: &mut O) -> Pace
         requires stands { Stands self.old.heap (places_of self.old) }
         requires below { self.old.frame.at < 18446744073709551615 }
         ensures stands { Stands self.new.heap (places_of self.new) }
         ensures kept { KeepsRest self.old self.new }
-        ensures turned { (code : Code) → Turned (next_by code (Instr.PrintInt from)) self.old self.new (O.taken out.old) (O.taken out.new) (O.faults out.old) (O.faults out.new) result }
-        ensures shares { result ≡ Turn.Went → SameHeld self.old self.new × (self.new.frame.at ≡ self.old.frame.at + 1) }
-        ensures no_end { IsNoEnd result }
+        ensures turned { IfOk (turn_of result) (λ turn. (code : Code) → Turned (next_by code (Instr.PrintInt from)) self.old self.new (O.taken out.old) (O.taken out.new) (O.faults out.old) (O.faults out.new) turn) }
+        ensures shares { result ≡ Pace.Went → SameHeld self.old self.new × (self.new.frame.at ≡ self.old.frame.at + 1) }
+        ensures goes { IfOk (turn_of result) IsNoEnd }
+        ensures memory { OnErr (turn_of result) ⊥ }
         ensures count { O.faults out.old ≤ O.faults out.new }
     {
         match print_int(&self.heap, self.frame.registers.as_slice(), from, out) {
             Ok(()) => {
                 self.frame.at += 1;
-                Turn::Went
+                Pace::Went
             }
-            Err(PrintStop::Stuck) => Turn::Stuck,
-            Err(PrintStop::OutFault) => Turn::OutFault,
+            Err(PrintStop::Stuck) => Pace::Stuck,
+            Err(PrintStop::OutFault) => Pace::OutFault,
         }
     }
 

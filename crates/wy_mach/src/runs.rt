@@ -9,9 +9,9 @@ ghost use Rattle.wy_mach.specs.States.{IsMachine, HasInts};
 ghost use Rattle.wy_mach.specs.Running.{Ran, PrintsFront, ShowsFirst, state_behind};
 ghost use Rattle.wy_mach.specs.SharedTurns.{DoneShared, RanShared};
 
-use crate::machine::{Machine, Turn};
+use crate::machine::{Machine, Pace, Turn};
 use std::alloc::Global;
-use wy_code::Code;
+use wy_code::{Code, Instr};
 use wy_heap::NoMemory;
 use wy_port::Sink;
 use wy_value::Value;
@@ -79,26 +79,44 @@ fn turns<O: Sink>(
     ensures count { O.faults out.old ≤ O.faults out.new }
 {
     for i in 0..steps {
-        let turn = machine.turn(code, out)?;
-        match turn {
-            Turn::Went => {}
-            Turn::Done {
-                text,
-                copies,
-                nodes,
-            } => {
-                return Ok(RunEnd::Done {
+        let Some(instr) = machine.next(code) else {
+            return Ok(RunEnd::Stuck);
+        };
+        match instr {
+            Instr::Return(from) => match machine.returned(code, *from)? {
+                Turn::Went => {
+                    continue;
+                }
+                Turn::Done {
                     text,
                     copies,
                     nodes,
-                });
-            }
-            Turn::OutFault => {
-                return Ok(RunEnd::OutFault);
-            }
-            Turn::Stuck => {
-                return Ok(RunEnd::Stuck);
-            }
+                } => {
+                    return Ok(RunEnd::Done {
+                        text,
+                        copies,
+                        nodes,
+                    });
+                }
+                Turn::OutFault => {
+                    return Ok(RunEnd::OutFault);
+                }
+                Turn::Stuck => {
+                    return Ok(RunEnd::Stuck);
+                }
+            },
+            _ => match machine.turn(code, instr, out) {
+                Pace::Went => {}
+                Pace::OutFault => {
+                    return Ok(RunEnd::OutFault);
+                }
+                Pace::Stuck => {
+                    return Ok(RunEnd::Stuck);
+                }
+                Pace::NoMemory => {
+                    return Err(NoMemory);
+                }
+            },
         }
     }
     Ok(RunEnd::Spent)

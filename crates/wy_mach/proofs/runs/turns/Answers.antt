@@ -1,7 +1,10 @@
-use Rattle.std.proofs.Common.{◌≡◌, ◌≤◌, ◌+◌, ◌-◌, suc, refl, subst, ◌∙◌, arith, rules}
+use Rattle.std.proofs.Common.{◌≡◌, ◌≤◌, ◌+◌, ◌-◌, suc, refl, sym, subst, ◌∙◌, arith, rules}
 use Rattle.wy_step.specs.Step.{State, after}
 use Rattle.wy_mach.specs.Running.{Turned, PrintsFront, ShowsFirst, next_in}
-use Rattle.wy_mach.proofs.TurnLemmas.{on_any_err}
+use Rattle.std.specs.Prelude.{IfOk, OnErr}
+use Rattle.wy_mach.specs.Pacing.{turn_of}
+use Rattle.wy_mach.specs.declared.machine.Pace.{Pace}
+use Rattle.wy_mach.proofs.TurnLemmas.{on_any_err, no_instr}
 use Rattle.wy_mach.proofs.RunLemmas.{follows_first, follows_on, run_done, run_fault, run_front, run_stuck, run_spent, rose_later}
 use Rattle.wy_mach.specs.SharedTurns.{TurnsShared}
 use Rattle.wy_mach.proofs.SharedTurnLemmas.{along_more, ends_shared}
@@ -16,6 +19,26 @@ loop-i-init g c = record {
   faults = omega arith;
 }
 
+pub loop-i-preserved-in-Went : goal.loop-i-preserved-in-Went
+loop-i-preserved-in-Went g c =
+    let code = c.args.code.now in
+    let old = c.loop-i.machine in
+    let new = c.returned.new.self in
+    let steps = c.args.steps in
+    let i = c.loop-i.i in
+    let first = g.O.Sink.taken c.args.out.now in
+    let before = g.O.Sink.taken c.loop-i.out in
+    let failed = g.O.Sink.faults c.loop-i.out in
+    let less : steps - i ≡ suc (steps - (i + 1)) = omega (arith, c.loop-i-test.true) in
+    record {
+      is = c.returned.ensures.is;
+      follows = follows_on code c.args.machine.now old new first before before steps (steps - i) (steps - (i + 1)) less c.loop-i.invariant.follows
+          (subst (Turned (next_in code) old new before before failed failed) c.in-Went.is (c.in_ok-returned-in-Return.ensures.turned before failed));
+      along = along_more code i (i + 1) c.args.machine.now old new (omega arith) c.loop-i.invariant.along (subst (TurnsShared code old new) c.in-Went.is c.in_ok-returned-in-Return.ensures.shared);
+      has_result = c.returned.ensures.has_result ∙ c.loop-i.invariant.has_result;
+      faults = c.loop-i.invariant.faults;
+    }
+
 pub loop-i-preserved : goal.loop-i-preserved
 loop-i-preserved g c =
     let code = c.args.code.now in
@@ -25,65 +48,122 @@ loop-i-preserved g c =
     let i = c.loop-i.i in
     let first = g.O.Sink.taken c.args.out.now in
     let before = g.O.Sink.taken c.loop-i.out in
-    let now = g.O.Sink.taken c.turn.new.out in
+    let failed = g.O.Sink.faults c.loop-i.out in
     let less : steps - i ≡ suc (steps - (i + 1)) = omega (arith, c.loop-i-test.true) in
+    let now = g.O.Sink.taken c.turn.new.out in
+    let fails = g.O.Sink.faults c.turn.new.out in
     record {
       is = c.turn.ensures.is;
       follows = follows_on code c.args.machine.now old new first before now steps (steps - i) (steps - (i + 1)) less c.loop-i.invariant.follows
-          (subst (Turned (next_in code) old new before now (g.O.Sink.faults c.loop-i.out) (g.O.Sink.faults c.turn.new.out)) c.in-Went.is c.in_ok-turn.ensures.turned);
-      along = along_more code i (i + 1) c.args.machine.now old new (omega arith) c.loop-i.invariant.along (subst (TurnsShared code old new) c.in-Went.is c.in_ok-turn.ensures.shared);
+          (subst (λ (p : Pace). IfOk (turn_of p) (Turned (next_in code) old new before now failed fails)) c.in-Went-turn.is c.turn.ensures.turned);
+      along = along_more code i (i + 1) c.args.machine.now old new (omega arith) c.loop-i.invariant.along (subst (λ (p : Pace). IfOk (turn_of p) (TurnsShared code old new)) c.in-Went-turn.is c.turn.ensures.shared);
       has_result = c.turn.ensures.has_result ∙ c.loop-i.invariant.has_result;
       faults = omega (arith, c.turn.ensures.count, c.loop-i.invariant.faults);
     }
+
+pub returns-in_default-clause-ran : goal.returns-in_default-clause-ran
+returns-in_default-clause-ran g c st shows =
+    let code = c.args.code.now in
+    let old = c.loop-i.machine in
+    let steps = c.args.steps in
+    let i = c.loop-i.i in
+    let less : steps - i ≡ suc (steps - (i + 1)) = omega (arith, c.loop-i-test.true) in
+    run_stuck code c.args.machine.now old (g.O.Sink.taken c.args.out.now) (g.O.Sink.taken c.loop-i.out) steps (steps - i) (steps - (i + 1)) less c.loop-i.invariant.follows (no_instr code old (sym c.in_default.ensures.value)) st shows
 
 pub returns-in-Done-clause-ran : goal.returns-in-Done-clause-ran
 returns-in-Done-clause-ran g c st shows =
     let code = c.args.code.now in
     let old = c.loop-i.machine in
-    let new = c.turn.new.self in
+    let new = c.returned.new.self in
     let steps = c.args.steps in
     let i = c.loop-i.i in
+    let first = g.O.Sink.taken c.args.out.now in
     let before = g.O.Sink.taken c.loop-i.out in
-    let now = g.O.Sink.taken c.turn.new.out in
+    let failed = g.O.Sink.faults c.loop-i.out in
     let less : steps - i ≡ suc (steps - (i + 1)) = omega (arith, c.loop-i-test.true) in
-    run_done code c.args.machine.now old (g.O.Sink.taken c.args.out.now) before now steps (steps - i) (steps - (i + 1)) c.in-Done.text c.in-Done.copies c.in-Done.nodes less c.loop-i.invariant.has_result c.loop-i.invariant.follows
-    (subst (Turned (next_in code) old new before now (g.O.Sink.faults c.loop-i.out) (g.O.Sink.faults c.turn.new.out)) c.in-Done.is c.in_ok-turn.ensures.turned) st shows
+    run_done code c.args.machine.now old first before before steps (steps - i) (steps - (i + 1)) c.in-Done.text c.in-Done.copies c.in-Done.nodes less c.loop-i.invariant.has_result c.loop-i.invariant.follows
+    (subst (Turned (next_in code) old new before before failed failed) c.in-Done.is (c.in_ok-returned-in-Return.ensures.turned before failed)) st shows
 
 pub returns-in-OutFault-clause-ran : goal.returns-in-OutFault-clause-ran
 returns-in-OutFault-clause-ran g c st shows =
     let code = c.args.code.now in
     let old = c.loop-i.machine in
-    let new = c.turn.new.self in
+    let new = c.returned.new.self in
     let steps = c.args.steps in
     let i = c.loop-i.i in
+    let first = g.O.Sink.taken c.args.out.now in
     let before = g.O.Sink.taken c.loop-i.out in
-    let now = g.O.Sink.taken c.turn.new.out in
+    let failed = g.O.Sink.faults c.loop-i.out in
     let less : steps - i ≡ suc (steps - (i + 1)) = omega (arith, c.loop-i-test.true) in
-    let turned = subst (Turned (next_in code) old new before now (g.O.Sink.faults c.loop-i.out) (g.O.Sink.faults c.turn.new.out)) c.in-OutFault.is c.in_ok-turn.ensures.turned in (
-      run_fault code c.args.machine.now old (g.O.Sink.taken c.args.out.now) before now steps (steps - i) (steps - (i + 1)) less c.loop-i.invariant.follows turned.0 st shows,
-      rose_later (g.O.Sink.faults c.args.out.now) (g.O.Sink.faults c.loop-i.out) (g.O.Sink.faults c.turn.new.out) c.loop-i.invariant.faults turned.1,
+    let turned = (subst (Turned (next_in code) old new before before failed failed) c.in-OutFault.is (c.in_ok-returned-in-Return.ensures.turned before failed)) in (
+      run_fault code c.args.machine.now old first before before steps (steps - i) (steps - (i + 1)) less c.loop-i.invariant.follows turned.0 st shows,
+      rose_later (g.O.Sink.faults c.args.out.now) failed failed c.loop-i.invariant.faults turned.1,
     )
 
 pub returns-in-Stuck-clause-ran : goal.returns-in-Stuck-clause-ran
 returns-in-Stuck-clause-ran g c st shows =
     let code = c.args.code.now in
     let old = c.loop-i.machine in
+    let new = c.returned.new.self in
+    let steps = c.args.steps in
+    let i = c.loop-i.i in
+    let first = g.O.Sink.taken c.args.out.now in
+    let before = g.O.Sink.taken c.loop-i.out in
+    let failed = g.O.Sink.faults c.loop-i.out in
+    let less : steps - i ≡ suc (steps - (i + 1)) = omega (arith, c.loop-i-test.true) in
+    let turned = (subst (Turned (next_in code) old new before before failed failed) c.in-Stuck.is (c.in_ok-returned-in-Return.ensures.turned before failed)) in
+    run_stuck code c.args.machine.now old first before steps (steps - i) (steps - (i + 1)) less c.loop-i.invariant.follows turned.0 st shows
+
+pub returns-in-OutFault-turn-clause-ran : goal.returns-in-OutFault-turn-clause-ran
+returns-in-OutFault-turn-clause-ran g c st shows =
+    let code = c.args.code.now in
+    let old = c.loop-i.machine in
     let new = c.turn.new.self in
     let steps = c.args.steps in
     let i = c.loop-i.i in
+    let first = g.O.Sink.taken c.args.out.now in
     let before = g.O.Sink.taken c.loop-i.out in
-    let now = g.O.Sink.taken c.turn.new.out in
+    let failed = g.O.Sink.faults c.loop-i.out in
     let less : steps - i ≡ suc (steps - (i + 1)) = omega (arith, c.loop-i-test.true) in
-    let turned = subst (Turned (next_in code) old new before now (g.O.Sink.faults c.loop-i.out) (g.O.Sink.faults c.turn.new.out)) c.in-Stuck.is c.in_ok-turn.ensures.turned in
-    run_stuck code c.args.machine.now old (g.O.Sink.taken c.args.out.now) before steps (steps - i) (steps - (i + 1)) less c.loop-i.invariant.follows turned.0 st shows
+    let now = g.O.Sink.taken c.turn.new.out in
+    let fails = g.O.Sink.faults c.turn.new.out in
+    let turned = (subst (λ (p : Pace). IfOk (turn_of p) (Turned (next_in code) old new before now failed fails)) c.in-OutFault-turn.is c.turn.ensures.turned) in (
+      run_fault code c.args.machine.now old first before now steps (steps - i) (steps - (i + 1)) less c.loop-i.invariant.follows turned.0 st shows,
+      rose_later (g.O.Sink.faults c.args.out.now) failed fails c.loop-i.invariant.faults turned.1,
+    )
 
-pub returns-in_err-turn-clause-no_memory : goal.returns-in_err-turn-clause-no_memory
-returns-in_err-turn-clause-no_memory g c =
+pub returns-in-Stuck-turn-clause-ran : goal.returns-in-Stuck-turn-clause-ran
+returns-in-Stuck-turn-clause-ran g c st shows =
+    let code = c.args.code.now in
+    let old = c.loop-i.machine in
+    let new = c.turn.new.self in
+    let steps = c.args.steps in
+    let i = c.loop-i.i in
+    let first = g.O.Sink.taken c.args.out.now in
+    let before = g.O.Sink.taken c.loop-i.out in
+    let failed = g.O.Sink.faults c.loop-i.out in
+    let less : steps - i ≡ suc (steps - (i + 1)) = omega (arith, c.loop-i-test.true) in
+    let now = g.O.Sink.taken c.turn.new.out in
+    let fails = g.O.Sink.faults c.turn.new.out in
+    let turned = (subst (λ (p : Pace). IfOk (turn_of p) (Turned (next_in code) old new before now failed fails)) c.in-Stuck-turn.is c.turn.ensures.turned) in
+    run_stuck code c.args.machine.now old first before steps (steps - i) (steps - (i + 1)) less c.loop-i.invariant.follows turned.0 st shows
+
+pub returns-in_err-returned-in-Return-clause-no_memory : goal.returns-in_err-returned-in-Return-clause-no_memory
+returns-in_err-returned-in-Return-clause-no_memory g c =
     let code = c.args.code.now in
     let first = g.O.Sink.taken c.args.out.now in
+    let before = g.O.Sink.taken c.loop-i.out in
+    on_any_err c.from_residual.result ((st : State) → ShowsFirst c.args.machine.now st → PrintsFront first before (after code c.args.steps st))
+    (λ st shows. run_front code c.args.machine.now c.loop-i.machine first before before c.args.steps (c.args.steps - c.loop-i.i) refl c.loop-i.invariant.follows st shows)
+
+pub returns-in-NoMemory-clause-no_memory : goal.returns-in-NoMemory-clause-no_memory
+returns-in-NoMemory-clause-no_memory g c st shows =
+    let code = c.args.code.now in
+    let first = g.O.Sink.taken c.args.out.now in
+    let before = g.O.Sink.taken c.loop-i.out in
     let now = g.O.Sink.taken c.turn.new.out in
-    on_any_err c.from_residual.result ((st : State) → ShowsFirst c.args.machine.now st → PrintsFront first now (after code c.args.steps st))
-    (λ st shows. run_front code c.args.machine.now c.loop-i.machine first (g.O.Sink.taken c.loop-i.out) now c.args.steps (c.args.steps - c.loop-i.i) c.in_err-turn.ensures.nothing c.loop-i.invariant.follows st shows)
+    let nothing = subst (λ (p : Pace). OnErr (turn_of p) (now ≡ before)) c.in-NoMemory.is c.turn.ensures.nothing in
+    run_front code c.args.machine.now c.loop-i.machine first before now c.args.steps (c.args.steps - c.loop-i.i) nothing c.loop-i.invariant.follows st shows
 
 pub returns-clause-ran : goal.returns-clause-ran
 returns-clause-ran g c st shows =
@@ -94,6 +174,6 @@ pub returns-in-Done-clause-shared : goal.returns-in-Done-clause-shared
 returns-in-Done-clause-shared g c =
     let code = c.args.code.now in
     let old = c.loop-i.machine in
-    let new = c.turn.new.self in
-    let ends = subst (TurnsShared code old new) c.in-Done.is c.in_ok-turn.ensures.shared in
+    let new = c.returned.new.self in
+    let ends = (subst (TurnsShared code old new) c.in-Done.is c.in_ok-returned-in-Return.ensures.shared) in
     ends_shared code c.args.machine.now old c.loop-i.i c.args.steps c.in-Done.copies c.in-Done.nodes (omega (arith, c.loop-i-test.true)) c.loop-i.invariant.along ends.0 ends.1

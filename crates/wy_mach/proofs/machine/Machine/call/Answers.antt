@@ -12,6 +12,7 @@ use Rattle.wy_mach.proofs.CallLemmas.{no_routine, other_count, no_argument, call
 use Rattle.wy_mach.specs.SharedTurns.{SharesCall, IsNoEnd}
 use Rattle.wy_mach.proofs.TurnLemmas.{if_ok}
 use Rattle.wy_mach.proofs.SharedTurnLemmas.{on_both, shares_call, went_no_end}
+use Rattle.wy_mach.specs.Pacing.{turn_of}
 use Rattle.wy_mach.proofs.machine.Machine.call.Goals as goal
 
 pub returns-in_default-clause-turned : goal.returns-in_default-clause-turned
@@ -51,7 +52,7 @@ returns-in-Ok-clause-turned c =
     let mid : Machine = record old { frame = record old.frame { registers = with_items old.frame.registers c.take_all.new.registers }; callers = c.reserve.new.self } in
     let long : length c.take_all.new.registers ≡ old.frame.registers.len = omega (arith, c.take_all.auto.registers, ap length c.as_mut_slice.ensures.value, old.frame.registers.ok) in
     let kept_items : (with_items old.frame.registers c.take_all.new.registers).items ≡ c.take_all.new.registers = with_items_is old.frame.registers c.take_all.new.registers long in
-    entered_turned c.enter.result (Enters mid new c.args.number c.args.to r.registers c.in-Ok.arguments.items)
+    entered_turned (turn_of c.enter.result) (Enters mid new c.args.number c.args.to r.registers c.in-Ok.arguments.items)
     (λ (t : Turn). (before : Option (List ℕ)) (failed : ℕ) → Turned (next_by code (instr.Call c.args.to c.args.number rs)) old new before before failed failed t)
     (λ enters before failed. call_steps code old mid new before c.args.to c.args.number rs r c.in-Ok.arguments.items (sym c.in-Some.ensures.value) many refl refl refl
     (kept_items ∙ c.in-Ok.ensures.taken.1 ∙ ap (λ (l : List Part). emptied l rs) c.as_mut_slice.ensures.value) c.reserve.ensures.items
@@ -69,7 +70,7 @@ returns-in-Ok-clause-shares c =
     let mid : Machine = record old { frame = record old.frame { registers = with_items old.frame.registers c.take_all.new.registers }; callers = c.reserve.new.self } in
     let long : length c.take_all.new.registers ≡ old.frame.registers.len = omega (arith, c.take_all.auto.registers, ap length c.as_mut_slice.ensures.value, old.frame.registers.ok) in
     let kept_items : (with_items old.frame.registers c.take_all.new.registers).items ≡ c.take_all.new.registers = with_items_is old.frame.registers c.take_all.new.registers long in
-    on_both c.enter.result (Enters mid new c.args.number c.args.to r.registers arguments) (new.frame.registers.items ≡ arguments ++ nulls (r.registers - length arguments))
+    on_both (turn_of c.enter.result) (Enters mid new c.args.number c.args.to r.registers arguments) (new.frame.registers.items ≡ arguments ++ nulls (r.registers - length arguments))
     (λ (t : Turn). t ≡ turn.Went → SharesCall code old new c.args.to c.args.number rs)
     (λ t enters registers w. shares_call code old mid new c.args.to c.args.number rs r arguments (sym c.in-Some.ensures.value) refl refl refl
     (kept_items ∙ c.in-Ok.ensures.taken.1 ∙ ap (λ (l : List Part). emptied l rs) c.as_mut_slice.ensures.value) c.reserve.ensures.items
@@ -77,4 +78,4 @@ returns-in-Ok-clause-shares c =
     c.enter.ensures.entered c.enter.ensures.registers
 
 pub returns-in-Ok-clause-no_end : goal.returns-in-Ok-clause-no_end
-returns-in-Ok-clause-no_end c = if_ok c.enter.result (λ (t : Turn). t ≡ turn.Went) IsNoEnd went_no_end c.enter.ensures.went
+returns-in-Ok-clause-no_end c = if_ok (turn_of c.enter.result) (λ (t : Turn). t ≡ turn.Went) IsNoEnd went_no_end c.enter.ensures.went

@@ -4,7 +4,7 @@ use Rattle.wy_heap.specs.Nodes.{map_of, count_at, size}
 use Rattle.wy_heap.specs.Standing.{Counts}
 use Rattle.wy_heap.specs.Freeing.{Frees}
 use Rattle.wy_heap.specs.Changing.{SameRest, Lasts, Upheld}
-use Rattle.wy_heap.proofs.heap.Heap.free.Given as goal
+use Rattle.wy_heap.proofs.heap.Heap.free_hold.Given as goal
 
 abbrev pub invariant-loop-dead : goal.invariant-loop-dead
 invariant-loop-dead l = record {
