@@ -1,8 +1,6 @@
 -- What bodies owe.
-use Rattle.std.proofs.Common.{Vec, ◌≡◌, ◌+◌, ℕ, List, [], ◌∷◌, ◌++◌, Option, Some, None, length, map, refl, sym, ◌∙◌, ap, subst}
-use Rattle.std.specs.declared.alloc.Global.{Global}
+use Rattle.std.proofs.Common.{◌≡◌, ◌+◌, ℕ, List, [], ◌∷◌, ◌++◌, Option, refl, sym, ◌∙◌, ap, subst}
 use Rattle.wy_core.specs.CoreSeen.{seen_block, seen_exprs, seen_output, seen_routine}
-use Rattle.wy_core.specs.CoreTree as tree
 use Rattle.wy_core.specs.CoreTree.{Expr}
 use Rattle.wy_core.specs.Types.{Ty}
 use Rattle.wy_core.specs.declared.expressions.Expr as e
@@ -11,7 +9,7 @@ use Rattle.wy_term.specs.Term.{Term}
 use Rattle.wy_term.specs.Nodes.{Plain}
 use Rattle.wy_sem.specs.Evaluation.{types_of}
 use Rattle.wy_conditions.specs.Clauses.{assume_clauses}
-use Rattle.wy_conditions.specs.Numbered.{Node, numbered_block, numbered_list, numbered_routine}
+use Rattle.wy_conditions.specs.Numbered.{Node, numbered_block, numbered_list}
 use Rattle.wy_conditions.specs.Owed.{Owed, assume}
 use Rattle.wy_conditions.specs.Programs as spec
 use Rattle.wy_conditions.specs.Sizes.{exprs_in_list}
@@ -23,7 +21,6 @@ use Rattle.wy_vc_operations.specs.Growing.{Kept}
 use Rattle.wy_vc_actions.specs.declared.here.Here.{Here}
 use Rattle.wy_vc_actions.specs.Types.{types_in}
 use Rattle.wy_vc_actions.proofs.NumberedLemmas.{numbered_types}
-use Rattle.wy_vc_expressions.specs.Numbered.{trees_of}
 use Rattle.wy_vc_expressions.specs.Slots.{AreSlots, slots_of}
 use Rattle.wy_vc_expressions.specs.State.{Steps, hyps_of, owed_of}
 use Rattle.wy_vc_expressions.specs.declared.walk.Walk.{Walk}

@@ -1,5 +1,5 @@
 -- The sides of a branch.
-use Rattle.std.proofs.Common.{All, Vec, ◌≡◌, ◌<◌, ◌≤◌, ℕ, List, [], ◌∷◌, ◌++◌, map, length, take, drop, Bool, Option, Some, None, refl, sym, ◌∙◌, ap, subst}
+use Rattle.std.proofs.Common.{All, Vec, ◌≡◌, ◌<◌, ◌≤◌, ℕ, List, [], ◌++◌, map, length, take, drop, Bool, Option, refl, sym, ◌∙◌, ap, subst}
 use Rattle.std.specs.declared.alloc.Global.{Global}
 use Rattle.std.proofs.lemmas.List.{append-nil, append_assoc, length-take-le}
 use Rattle.wy_core.specs.CoreTree as tree
@@ -35,7 +35,7 @@ use Rattle.wy_vc_actions.proofs.FrameLemmas.{body_kept, spot_behind}
 use Rattle.wy_vc.specs.declared.branches.Fork.{Fork}
 use Rattle.wy_vc.specs.declared.branches.Tested.{Tested}
 use Rattle.wy_vc.specs.Branches.{Forks, IsTested, Turns}
-use Rattle.wy_vc.specs.Flows.{Flows, Moves, end_of}
+use Rattle.wy_vc.specs.Flows.{Flows, end_of}
 use Rattle.wy_vc.proofs.EndLemmas.{end_is, ends_kept, front_below, path_is, path_ok}
 use Rattle.wy_vc.proofs.MoveLemmas.{front_less, front_long, le_at, le_from, le_self, le_through, longer_length, moves_as, moves_less, moves_meets, moves_on, moves_steps, moves_went, went_moves}
 

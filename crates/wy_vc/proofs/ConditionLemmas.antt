@@ -1,5 +1,5 @@
 -- The conditions of a program.
-use Rattle.std.proofs.Common.{Vec, ◌≡◌, ◌≢◌, ◌<◌, ◌≤◌, ◌+◌, ◌⊎◌, inl, inr, ℕ, zero, suc, Bool, true, false, List, [], ◌∷◌, ◌++◌, All, length, take, drop, map, refl, sym, ◌∙◌, ap, subst, arith}
+use Rattle.std.proofs.Common.{Vec, ◌≡◌, ◌<◌, ◌≤◌, ◌+◌, ◌⊎◌, inl, inr, ℕ, zero, suc, Bool, true, false, List, [], ◌∷◌, ◌++◌, All, length, take, drop, map, refl, sym, ◌∙◌, ap, subst, arith}
 use Rattle.std.specs.declared.alloc.Global.{Global}
 use Rattle.std.specs.Prelude.{nat_lt, if◌then◌else◌}
 use Rattle.std.proofs.lemmas.Bool.{lt-ltb, ltb-false, ltb-true}
@@ -22,7 +22,7 @@ use Rattle.wy_conditions.specs.Values.{Setting}
 use Rattle.wy_conditions.specs.Walks as walks
 use Rattle.wy_typing.specs.TypedPrograms.{Triple, core_of, flow_of}
 use Rattle.wy_vc_actions.specs.Frames as frames
-use Rattle.wy_vc.specs.Counted.{is_over, passing_told, terms_told}
+use Rattle.wy_vc.specs.Counted.{passing_told}
 use Rattle.wy_vc.specs.Told.{Told, seen_cond, told}
 use Rattle.wy_vc_names.specs.Described.{setting}
 use Rattle.wy_vc_names.specs.declared.program.Program.{Program}

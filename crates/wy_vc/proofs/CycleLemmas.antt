@@ -4,9 +4,8 @@ use Rattle.std.specs.Prelude.{IfOk, OnOk}
 use Rattle.std.proofs.lemmas.List.{append-nil, take_all}
 use Rattle.wy_core.specs.Types.{Ty}
 use Rattle.wy_core.specs.CoreTree as tree
-use Rattle.wy_core.specs.CoreSeen.{seen_block, seen_exprs}
+use Rattle.wy_core.specs.CoreSeen.{seen_exprs}
 use Rattle.wy_core.specs.declared.expressions.Expr as e
-use Rattle.wy_core.specs.declared.statements.Stmt as st
 use Rattle.wy_term.specs.declared.memory.NoMemory.{NoMemory}
 use Rattle.wy_conditions.specs.Calls.{Walked}
 use Rattle.wy_conditions.specs.Joins as joins
@@ -14,17 +13,13 @@ use Rattle.wy_conditions.specs.Numbered.{Node, numbered, numbered_block, numbere
 use Rattle.wy_conditions.specs.Sizes.{exprs_in, exprs_in_block, exprs_in_list, exprs_in_stmt}
 use Rattle.wy_conditions.specs.Spots.{Spot, Flow, as_list, goes}
 use Rattle.wy_conditions.specs.Statements as spec
-use Rattle.wy_conditions.specs.Variables.{Vars}
 use Rattle.wy_vc_actions.specs.declared.here.Here.{Here}
 use Rattle.wy_vc_expressions.specs.Numbered.{trees_of}
 use Rattle.wy_vc_expressions.specs.Slots.{AreSlots, slots_of}
 use Rattle.wy_vc_expressions.specs.State.{IsSound, hyps_of, owed_of}
 use Rattle.wy_vc_expressions.specs.declared.walk.Walk.{Walk}
-use Rattle.wy_vc_expressions.proofs.NumberedLemmas.{kept_then}
 use Rattle.wy_vc_expressions.proofs.ResultLemmas.{if_ok, on_ok}
-use Rattle.wy_vc_expressions.proofs.SlotLemmas.{slots_on}
 use Rattle.wy_vc_expressions.proofs.StateLemmas.{kept_all}
-use Rattle.wy_vc_actions.proofs.PathLemmas.{paths_on}
 use Rattle.wy_vc_actions.specs.declared.paths.Path.{Path}
 use Rattle.wy_vc_actions.specs.Paths.{ArePaths, Meets, seen_ends, spot_of}
 use Rattle.wy_vc_actions.specs.declared.frame.Frame.{Frame}

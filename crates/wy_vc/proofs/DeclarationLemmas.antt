@@ -1,6 +1,6 @@
 -- One declaration after the other.
-use Rattle.std.proofs.Common.{◌≡◌, ◌<◌, ◌≤◌, ◌+◌, inl, inr, ℕ, Bool, true, nat_lt, List, [], ◌∷◌, ◌++◌, length, drop, get_or, map, refl, sym, ◌∙◌, ap, subst, arith}
-use Rattle.std.proofs.lemmas.List.{append-nil, append_assoc, drop_all}
+use Rattle.std.proofs.Common.{◌≡◌, ◌<◌, ◌≤◌, ◌+◌, inl, inr, ℕ, Bool, true, nat_lt, List, [], ◌++◌, length, drop, get_or, map, refl, sym, ◌∙◌, ap, subst, arith}
+use Rattle.std.proofs.lemmas.List.{append_assoc, drop_all}
 use Rattle.wy_core.specs.CoreSeen.{seen_alias, seen_block, seen_decl, seen_exprs, seen_routine}
 use Rattle.wy_core.specs.CoreTree as tree
 use Rattle.wy_core.specs.declared.declarations.Alias.{Alias}

@@ -8,8 +8,7 @@ use Rattle.wy_core.specs.declared.declarations.Param.{Param}
 use Rattle.wy_core.specs.declared.declarations.Routine.{Routine}
 use Rattle.wy_term.specs.Term.{Term}
 use Rattle.wy_term.specs.Nodes.{Plain, tree_at}
-use Rattle.wy_term.specs.Numbers.{IsAt}
-use Rattle.wy_conditions.specs.Clauses.{Passed, passed, assume_in_type}
+use Rattle.wy_conditions.specs.Clauses.{passed, assume_in_type}
 use Rattle.wy_conditions.specs.Making.{val_name}
 use Rattle.wy_conditions.specs.Numbered.{Node, numbered_routine}
 use Rattle.wy_conditions.specs.Programs.{name_params, assume_params, enter, enter_result, result_word}

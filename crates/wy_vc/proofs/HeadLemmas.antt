@@ -1,5 +1,5 @@
 -- The head and the end of a loop.
-use Rattle.std.proofs.Common.{◌≡◌, ◌<◌, ◌≤◌, ◌+◌, ℕ, List, [], ◌∷◌, ◌++◌, length, take, Bool, Option, Some, None, refl, sym, ◌∙◌, ap, subst}
+use Rattle.std.proofs.Common.{◌≡◌, ◌≤◌, ℕ, List, [], ◌∷◌, ◌++◌, length, take, Bool, Option, Some, None, refl, sym, ◌∙◌, ap, subst}
 use Rattle.std.proofs.lemmas.List.{append-nil, append_assoc}
 use Rattle.std.proofs.lemmas.List.Elements.{All-cons, All-nil}
 use Rattle.wy_core.specs.CoreTree as tree
@@ -16,19 +16,18 @@ use Rattle.wy_conditions.specs.Owed.{Owed, assume}
 use Rattle.wy_conditions.specs.Spots.{Spot, spot, Flow, with_hyps}
 use Rattle.wy_conditions.specs.Statements as spec
 use Rattle.wy_conditions.specs.Variables.{Vars}
-use Rattle.wy_vc_operations.specs.Growing.{Kept}
 use Rattle.wy_vc_actions.specs.declared.here.Here.{Here}
 use Rattle.wy_vc_terms.specs.declared.maker.Maker.{Maker}
 use Rattle.wy_vc_expressions.specs.Numbered.{trees_of}
 use Rattle.wy_vc_expressions.specs.Slots.{AreSlots, slots_of}
 use Rattle.wy_vc_expressions.specs.State.{IsSound, Steps, hyps_of, owed_of, passed_by}
 use Rattle.wy_vc_expressions.specs.declared.walk.Walk.{Walk}
-use Rattle.wy_vc_expressions.proofs.NumberedLemmas.{below_on, here_kept, kept_then, trees_kept}
+use Rattle.wy_vc_expressions.proofs.NumberedLemmas.{kept_then, trees_kept}
 use Rattle.wy_vc_expressions.proofs.SlotLemmas.{slots_kept, slots_on}
-use Rattle.wy_vc_expressions.proofs.StateLemmas.{kept_all, steps_as, steps_noded, steps_on}
+use Rattle.wy_vc_expressions.proofs.StateLemmas.{kept_all, steps_noded, steps_on}
 use Rattle.wy_vc_actions.proofs.PathLemmas.{paths_on}
 use Rattle.wy_vc_actions.specs.declared.paths.Path.{Path}
-use Rattle.wy_vc_actions.specs.Paths.{ArePaths, IsEnd, IsPath, IsSpot, Meets, seen_end, seen_ends, spot_of}
+use Rattle.wy_vc_actions.specs.Paths.{ArePaths, IsPath, IsSpot, Meets, seen_end, seen_ends, spot_of}
 use Rattle.wy_vc_actions.specs.declared.frame.Frame.{Frame}
 use Rattle.wy_vc_actions.specs.Frames.{IsFrame, body_at}
 use Rattle.wy_vc_actions.specs.Going.{Went}

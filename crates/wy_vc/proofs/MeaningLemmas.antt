@@ -1,5 +1,5 @@
 -- What the tests of named types stand for.
-use Rattle.std.proofs.Common.{◌≡◌, ◌<◌, ◌≤◌, ◌+◌, ℕ, zero, suc, List, [], ◌∷◌, ◌++◌, length, map, slice_index_or, true, refl, sym, ◌∙◌, ap, subst, arith, inl, inr}
+use Rattle.std.proofs.Common.{◌≡◌, ◌<◌, ◌≤◌, ◌+◌, ℕ, zero, suc, List, [], ◌∷◌, ◌++◌, length, map, slice_index_or, refl, sym, ◌∙◌, ap, subst, arith, inl, inr}
 use Rattle.std.proofs.lemmas.Bool.{cases_lt}
 use Rattle.std.proofs.lemmas.List.{append-nil}
 use Rattle.wy_core.specs.CoreTree.{Alias}
@@ -12,7 +12,6 @@ use Rattle.wy_conditions.specs.Limits.{formulas_of, is_among, tests_in, tests_in
 use Rattle.wy_conditions.specs.Numbered.{Node}
 use Rattle.wy_conditions.specs.Values.{Setting, defined, named_in, test_name, test_formula}
 use Rattle.wy_vc_operations.specs.Growing.{Kept}
-use Rattle.wy_vc.proofs.AmongLemmas.{among_first}
 use Rattle.wy_vc.specs.Meanings.{AreMeanings, AreMeaningsFrom, IsMeaning, tests_at}
 use Rattle.wy_vc.specs.Mentioned.{reached, tested_by}
 use Rattle.wy_vc.specs.declared.unfolding.Meaning.{Meaning}

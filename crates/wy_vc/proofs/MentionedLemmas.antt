@@ -1,5 +1,5 @@
 -- Which named types are mentioned.
-use Rattle.std.proofs.Common.{◌≡◌, ◌<◌, ◌≤◌, ◌⊎◌, inl, inr, ℕ, zero, suc, ◌+◌, Bool, true, false, ◌&&◌, nat_lt, List, [], ◌∷◌, ◌++◌, length, slice_set, Option, Some, refl, sym, ◌∙◌, ap, subst, arith}
+use Rattle.std.proofs.Common.{◌≡◌, ◌<◌, ◌≤◌, ◌⊎◌, inl, inr, ℕ, zero, suc, Bool, true, false, ◌&&◌, nat_lt, List, [], ◌∷◌, ◌++◌, length, slice_set, Option, Some, refl, sym, ◌∙◌, ap, subst, arith}
 use Rattle.std.specs.Prelude.{option_to_list}
 use Rattle.std.proofs.lemmas.Bool.{and_parts, both_ways, cases_lt, lt-ltb, ltb-true}
 use Rattle.wy_conditions.specs.Limits.{is_among}
@@ -7,7 +7,7 @@ use Rattle.wy_vc_reach.proofs.BoundedLemmas.{Grows, bounded}
 use Rattle.wy_vc.proofs.AmongLemmas.{among_first, among_more, among_cases, among_left, among_right, among_either}
 use Rattle.wy_vc.proofs.SharedLemmas.{same_test}
 use Rattle.wy_vc.specs.Mentioned.{IsReached, IsReaching, IsSettled, marked, reached, tested_by}
-use Rattle.wy_vc.proofs.MarkLemmas.{set_length, set_here, set_keeps, set_only, marked_below}
+use Rattle.wy_vc.proofs.MarkLemmas.{set_length, set_here, set_keeps, set_only}
 
 -- ---- what is tested
 

@@ -1,5 +1,5 @@
 -- One walk behind another, where of the hypotheses the first so many stay.
-use Rattle.std.proofs.Common.{◌≡◌, ◌≤◌, ℕ, List, [], ◌++◌, length, take, Option, refl, sym, ◌∙◌, ap, subst, arith}
+use Rattle.std.proofs.Common.{◌≡◌, ◌≤◌, ℕ, List, [], ◌++◌, length, take, Option, sym, ◌∙◌, ap, arith}
 use Rattle.std.proofs.lemmas.List.{append-nil, append_assoc, length-take, take-take, take_all}
 use Rattle.wy_conditions.specs.Clauses.{Passed}
 use Rattle.wy_conditions.specs.Joins as joins

@@ -3,25 +3,24 @@ use Rattle.std.proofs.Common.{Vec, ◌≡◌, ◌<◌, ◌+◌, ℕ, suc, List, 
 use Rattle.std.specs.declared.alloc.Global.{Global}
 use Rattle.std.proofs.lemmas.List.{append-nil, append_assoc}
 use Rattle.std.proofs.lemmas.List.Elements.{All-nil}
-use Rattle.wy_core.specs.CoreSeen.{seen_alias, seen_block, seen_exprs, seen_output, seen_routine, seen_ty}
+use Rattle.wy_core.specs.CoreSeen.{seen_alias, seen_exprs, seen_output, seen_routine, seen_ty}
 use Rattle.wy_core.specs.CoreTree as tree
 use Rattle.wy_core.specs.declared.declarations.Alias.{Alias}
 use Rattle.wy_core.specs.declared.declarations.Output.{Output}
 use Rattle.wy_core.specs.declared.declarations.Routine.{Routine}
 use Rattle.wy_core.specs.declared.expressions.Expr as e
-use Rattle.wy_core.specs.declared.statements.Stmt as s
 use Rattle.wy_term.specs.Term.{Term}
 use Rattle.wy_term.specs.Nodes.{Plain, tree_at}
-use Rattle.wy_conditions.specs.Clauses.{Passed, passed, assume_in_type, assume_clauses}
+use Rattle.wy_conditions.specs.Clauses.{Passed, passed, assume_in_type}
 use Rattle.wy_conditions.specs.Making.{val_name}
-use Rattle.wy_conditions.specs.Numbered.{Node, numbered_alias, numbered_block, numbered_list, numbered_routine}
+use Rattle.wy_conditions.specs.Numbered.{Node, numbered_alias, numbered_list, numbered_routine}
 use Rattle.wy_conditions.specs.Owed.{Owed}
 use Rattle.wy_conditions.specs.Programs as spec
 use Rattle.wy_conditions.specs.Sizes.{exprs_in_list}
-use Rattle.wy_conditions.specs.Spots.{Spot, Flow, spot, with_hyps}
+use Rattle.wy_conditions.specs.Spots.{Spot}
 use Rattle.wy_conditions.specs.Statements as run
 use Rattle.wy_conditions.specs.Statements.{Body, Renewed, walk_clauses}
-use Rattle.wy_conditions.specs.Values.{Setting, word_at}
+use Rattle.wy_conditions.specs.Values.{word_at}
 use Rattle.wy_conditions.specs.Variables.{Vars, put}
 use Rattle.wy_conditions.specs.Walks as walks
 use Rattle.wy_vc_operations.specs.Growing.{Kept, AreBelow, Makes}
@@ -35,11 +34,8 @@ use Rattle.wy_vc_expressions.proofs.NumberedLemmas.{kept_then}
 use Rattle.wy_vc_expressions.proofs.SlotLemmas.{slots_kept, slots_on, slots_put, are_put}
 use Rattle.wy_vc_expressions.proofs.StateLemmas.{kept_all, steps_on, steps_as}
 use Rattle.wy_vc_expressions.proofs.GivenLemmas.{output_typed}
-use Rattle.wy_vc_actions.specs.Paths.{IsEnd, spot_of}
-use Rattle.wy_vc_actions.specs.Frames.{IsFrame, body_at}
-use Rattle.wy_vc_actions.specs.Going.{Went}
+use Rattle.wy_vc_actions.specs.Paths.{IsEnd}
 use Rattle.wy_vc_actions.specs.Loops.{Renews}
-use Rattle.wy_vc_actions.specs.declared.frame.Frame.{Frame}
 use Rattle.wy_vc.specs.Entering.{Enters, Owes}
 
 -- ---- where something begins

@@ -3,24 +3,26 @@ use Rattle.std.proofs.Common.{◌≡◌, ◌<◌, ◌≤◌, ◌+◌, ◌⊎◌,
 use Rattle.std.specs.Prelude.{if◌then◌else◌, nat_lt}
 use Rattle.std.specs.HashSet.{contains}
 use Rattle.std.proofs.Math.Dec.{eqb}
-use Rattle.std.proofs.lemmas.Bool.{cases_Bool, cond-true, cond-false, both_ways, or_cases, or_left}
-use Rattle.std.proofs.lemmas.List.{append-nil, append_assoc, drop_all, drop_more, length-take, take_more, take_all, take-append-drop, map-append}
+use Rattle.std.proofs.lemmas.Bool.{cases_Bool, cond-true, cond-false, both_ways, le-ltb, or_cases, or_left}
+use Rattle.std.proofs.lemmas.List.{append-nil, append_assoc, drop_all, drop_more, take_more, take_all, take-append-drop, map-append}
 use Rattle.std.proofs.lemmas.List.Elements.{All-get_or, All-head, All-tail}
 use Rattle.wy_term.specs.Term.{Term}
 use Rattle.wy_term.specs.Nodes.{Plain, tree_at}
-use Rattle.wy_term.specs.Condition.{Entry, entry_of}
+use Rattle.wy_term.specs.Condition.{entry_of}
 use Rattle.wy_term.specs.declared.cond.Cond.{Cond}
 use Rattle.wy_conditions.specs.Limits as spec
 use Rattle.wy_conditions.specs.Limits.{different, has_term, is_among, terms_in, terms_in_all, terms_of_unfold}
 use Rattle.wy_vc_operations.specs.Growing.{AreBelow}
-use Rattle.wy_vc.specs.Shared.{AreApart, IsNamed}
-use Rattle.wy_vc.proofs.AmongLemmas.{among_first, among_cases, among_left, among_right, among_either, has_first, has_cases, has_either, has_left, has_right}
+use Rattle.wy_vc.specs.Gathered.{AreGathered, AreHeld, Grown}
+use Rattle.wy_vc.specs.Shared.{AreApart, AreUnder}
+use Rattle.wy_vc.proofs.AmongLemmas.{among_first, among_cases, among_left, among_right, among_either, further_all, has_first, has_cases, has_either, has_left, has_right, in_root, root_in}
 use Rattle.wy_vc.proofs.CountLemmas.{apart_push, counted}
-use Rattle.wy_vc.proofs.SharedLemmas.{OneEach, same_test}
-use Rattle.wy_vc.proofs.DifferentLemmas.{IsWithin, different_both, different_within}
-use Rattle.wy_vc.specs.Counted.{IsCounted, is_over, passing_told, roots_of_entries, roots_of_goal, terms_told}
+use Rattle.wy_vc.proofs.SharedLemmas.{OneEach, listed_count, same_test, whole}
+use Rattle.wy_vc.proofs.DifferentLemmas.{IsWithin, different_within}
+use Rattle.wy_vc.specs.Counted.{IsBounded, IsCounted, is_over, passing_told, roots_of_entries, roots_of_goal, terms_told}
 use Rattle.wy_vc.specs.Told.{IsCond, IsEntry, Told, seen_cond}
 use Rattle.wy_vc.specs.declared.limits.Seen.{Seen}
+use Rattle.wy_vc.specs.declared.shared.Gathered.{Gathered}
 
 -- ---- one term
 
@@ -120,37 +122,20 @@ seeing_turn nodes a b c ks i lt inv one = λ ts counted.
 pub seeing_end : (nodes : List Plain) (a b : Seen) (ks : List ℕ) (i : ℕ) → length ks ≤ i → IsSeeing nodes a b ks i → (ts : List Term) → IsCounted nodes a ts → IsCounted nodes b (ts ++ map (tree_at nodes) ks)
 seeing_end nodes a b ks i past inv ts c = subst (λ (l : List ℕ). IsCounted nodes b (ts ++ map (tree_at nodes) l)) (take_all i ks past) (inv ts c)
 
--- the terms of the roots, where their numbers are these
-pub made_seen : (nodes : List Plain) (seen : Seen) (ts us : List Term) (all : List ℕ)
-    → ((t : Term) → has_term us t ≡ true → IsNamed nodes all t) → ((k : ℕ) → is_among all k ≡ true → k < length nodes) → ((k : ℕ) → k < length nodes → is_among all k ≡ has_term us (tree_at nodes k))
-    → IsCounted nodes seen (ts ++ map (tree_at nodes) all) → IsCounted nodes seen (ts ++ us)
-made_seen nodes seen ts us all whole below value c = record {
-  noted = c.noted;
-  below = c.below;
-  apart = c.apart;
-  whole = λ t h. elim (has_either ts us t h) as (λ _. (j : ℕ) × (is_among seen.all.items j ≡ true) × (tree_at nodes j ≡ t)) [
-    | inl e ↦ c.whole t (has_left ts (map (tree_at nodes) all) t e)
-    | inr e ↦ let r = whole t e in c.whole t (has_right ts (map (tree_at nodes) all) t (subst (λ (x : Term). has_term (map (tree_at nodes) all) x ≡ true) r.2 (named_has all r.0 r.1)))
-  ];
-  inside = λ k h. elim (has_either ts (map (tree_at nodes) all) (tree_at nodes k) (c.inside k h)) as (λ _. has_term (ts ++ us) (tree_at nodes k) ≡ true) [
-    | inl e ↦ has_left ts us (tree_at nodes k) e
-    | inr e ↦ let r = has_named all (tree_at nodes k) e in has_right ts us (tree_at nodes k) (subst (λ (x : Term). has_term us x ≡ true) r.2 (sym (value r.0 (below r.0 r.1)) ∙ r.1))
-  ];
-}
-  where
-    named_has : (ks : List ℕ) (k : ℕ) → is_among ks k ≡ true → has_term (map (tree_at nodes) ks) (tree_at nodes k) ≡ true
-    named_has [] k h = absurd (let f : false ≡ true = h in cc)
-    named_has (j ∷ ks) k h = elim (among_cases j ks k h) as (λ _. has_term (tree_at nodes j ∷ map (tree_at nodes) ks) (tree_at nodes k) ≡ true) [
-      | inl e ↦ subst (λ (x : ℕ). has_term (tree_at nodes j ∷ map (tree_at nodes) ks) (tree_at nodes x) ≡ true) e (has_first (tree_at nodes j) (map (tree_at nodes) ks))
-      | inr e ↦ has_right (tree_at nodes j ∷ []) (map (tree_at nodes) ks) (tree_at nodes k) (named_has ks k e)
-    ]
+-- numbers and the terms that they name
+named_has : (nodes : List Plain) (ks : List ℕ) (k : ℕ) → is_among ks k ≡ true → has_term (map (tree_at nodes) ks) (tree_at nodes k) ≡ true
+named_has nodes [] k h = absurd (let f : false ≡ true = h in cc)
+named_has nodes (j ∷ ks) k h = elim (among_cases j ks k h) as (λ _. has_term (tree_at nodes j ∷ map (tree_at nodes) ks) (tree_at nodes k) ≡ true) [
+  | inl e ↦ subst (λ (x : ℕ). has_term (tree_at nodes j ∷ map (tree_at nodes) ks) (tree_at nodes x) ≡ true) e (has_first (tree_at nodes j) (map (tree_at nodes) ks))
+  | inr e ↦ has_right (tree_at nodes j ∷ []) (map (tree_at nodes) ks) (tree_at nodes k) (named_has nodes ks k e)
+]
 
-    has_named : (ks : List ℕ) (t : Term) → has_term (map (tree_at nodes) ks) t ≡ true → (k : ℕ) × (is_among ks k ≡ true) × (tree_at nodes k ≡ t)
-    has_named [] t h = absurd (let f : false ≡ true = h in cc)
-    has_named (j ∷ ks) t h = elim (has_cases (tree_at nodes j) (map (tree_at nodes) ks) t h) as (λ _. (k : ℕ) × (is_among (j ∷ ks) k ≡ true) × (tree_at nodes k ≡ t)) [
-      | inl e ↦ (j, among_first j ks, e)
-      | inr e ↦ let r = has_named ks t e in (r.0, among_right (j ∷ []) ks r.0 r.1, r.2)
-    ]
+has_named : (nodes : List Plain) (ks : List ℕ) (t : Term) → has_term (map (tree_at nodes) ks) t ≡ true → (k : ℕ) × (is_among ks k ≡ true) × (tree_at nodes k ≡ t)
+has_named nodes [] t h = absurd (let f : false ≡ true = h in cc)
+has_named nodes (j ∷ ks) t h = elim (has_cases (tree_at nodes j) (map (tree_at nodes) ks) t h) as (λ _. (k : ℕ) × (is_among (j ∷ ks) k ≡ true) × (tree_at nodes k ≡ t)) [
+  | inl e ↦ (j, among_first j ks, e)
+  | inr e ↦ let r = has_named nodes ks t e in (r.0, among_right (j ∷ []) ks r.0 r.1, r.2)
+]
 
 -- as many numbers as different terms
 pub seen_count : (nodes : List Plain) (seen : Seen) (ts : List Term) → OneEach nodes → IsCounted nodes seen ts → length seen.all.items ≡ different ts
@@ -178,37 +163,13 @@ roots_turn es i e old mid new all lt is first second so =
     ∙ so
 
 -- the hypotheses behind so many of them
-pub behind_turn : (front : ℕ) (hyps : List ℕ) (i k : ℕ) (old new all : List ℕ) → i < length hyps → k ≡ get_or hyps i k → front ≤ i → new ≡ old ++ k ∷ [] → old ++ drop i hyps ≡ all → new ++ drop (i + 1) hyps ≡ all
-behind_turn front hyps i k old new all lt is past pushed so =
+pub behind_turn : (hyps : List ℕ) (i k : ℕ) (old new all : List ℕ) → i < length hyps → k ≡ get_or hyps i k → new ≡ old ++ k ∷ [] → old ++ drop i hyps ≡ all → new ++ drop (i + 1) hyps ≡ all
+behind_turn hyps i k old new all lt is pushed so =
     ap (λ (l : List ℕ). l ++ drop (i + 1) hyps) pushed ∙ append_assoc old (k ∷ []) (drop (i + 1) hyps) ∙ ap (λ (l : List ℕ). old ++ l) (sym (drop_more hyps i k lt ∙ ap (λ (x : ℕ). x ∷ drop (i + 1) hyps) (sym is))) ∙ so
 
--- so many hypotheses were looked at, and those behind the front are listed
-abbrev pub behind_front : ℕ → List ℕ → ℕ → List ℕ
-behind_front front hyps i = drop front (take i hyps)
-
-pub front_none : (front : ℕ) (hyps roots : List ℕ) → roots ≡ [] → roots ≡ behind_front front hyps 0
-front_none zero hyps roots is = is
-front_none (suc front) hyps roots is = is
-
-pub front_pushed : (front : ℕ) (hyps : List ℕ) (i k : ℕ) (old new : List ℕ) → i < length hyps → k ≡ get_or hyps i k → front ≤ i → new ≡ old ++ k ∷ [] → old ≡ behind_front front hyps i → new ≡ behind_front front hyps (i + 1)
-front_pushed front hyps i k old new lt is past pushed so =
-    pushed ∙ ap (λ (l : List ℕ). l ++ k ∷ []) so ∙ sym (ap (λ (l : List ℕ). drop front l) (take_more hyps i k lt ∙ ap (λ (j : ℕ). take i hyps ++ j ∷ []) (sym is)) ∙ drop_front front (take i hyps) (k ∷ []) (let l = length-take i hyps in omega (arith, past, l, lt)))
-  where
-    drop_front : (n : ℕ) (xs ys : List ℕ) → n ≤ length xs → drop n (xs ++ ys) ≡ drop n xs ++ ys
-    drop_front zero xs ys short = refl
-    drop_front (suc n) [] ys short = absurd (omega (arith, short))
-    drop_front (suc n) (x ∷ xs) ys short = drop_front n xs ys (omega (arith, short))
-
-pub front_passed : (front : ℕ) (hyps : List ℕ) (i : ℕ) (old : List ℕ) → i < front → old ≡ behind_front front hyps i → old ≡ behind_front front hyps (i + 1)
-front_passed front hyps i old short so = so ∙ drop_all front (take i hyps) (let l = length-take-most i hyps in omega (arith, l, short)) ∙ sym (drop_all front (take (i + 1) hyps) (let l = length-take-most (i + 1) hyps in omega (arith, l, short)))
-  where
-    length-take-most : (n : ℕ) (xs : List ℕ) → length (take n xs) ≤ n
-    length-take-most zero xs = omega arith
-    length-take-most (suc n) [] = omega arith
-    length-take-most (suc n) (x ∷ xs) = let l = length-take-most n xs in omega (arith, l)
-
-pub front_end : (front : ℕ) (hyps : List ℕ) (i : ℕ) (roots : List ℕ) → length hyps ≤ i → roots ≡ behind_front front hyps i → roots ≡ drop front hyps
-front_end front hyps i roots past so = so ∙ ap (λ (l : List ℕ). drop front l) (take_all i hyps past)
+-- no hypothesis is left
+pub behind_end : (front : ℕ) (hyps : List ℕ) (i : ℕ) (roots : List ℕ) → length hyps ≤ i → roots ++ drop i hyps ≡ drop front hyps → roots ≡ drop front hyps
+behind_end front hyps i roots past so = sym (append-nil roots) ∙ ap (λ (l : List ℕ). roots ++ l) (sym (drop_all i hyps past)) ∙ so
 
 pub roots_begin : (front : ℕ) (hyps roots pushed : List ℕ) (goal : ℕ) (es : List (ℕ × ℕ × ℕ)) → roots ≡ drop front hyps → pushed ≡ roots ++ goal ∷ [] → pushed ++ roots_of_entries es ≡ drop front hyps ++ (goal ∷ roots_of_entries es)
 roots_begin front hyps roots pushed goal es same is = ap (λ (l : List ℕ). l ++ roots_of_entries es) (is ∙ ap (λ (l : List ℕ). l ++ goal ∷ []) same) ∙ append_assoc (drop front hyps) (goal ∷ []) (roots_of_entries es)
@@ -270,50 +231,100 @@ roots_below nodes c front roots is same k h = elim (among_either (drop front c.h
 
 -- ---- a condition behind another one
 
--- the front that both share is made of terms of the one before
-front_within : (nodes : List Plain) (c : Cond) (last : List ℕ) (front : ℕ) → take front last ≡ take front c.hyps.items → IsWithin (terms_in_all (map (tree_at nodes) (take front c.hyps.items))) (terms_in_all (map (tree_at nodes) last))
-front_within nodes c last front same t h =
-    subst (λ (l : List Term). has_term l t ≡ true) whole (has_left (terms_in_all (map (tree_at nodes) (take front last))) (terms_in_all (map (tree_at nodes) (drop front last))) t
-    (subst (λ (l : List ℕ). has_term (terms_in_all (map (tree_at nodes) l)) t ≡ true) (sym same) h))
-  where
-    whole : terms_in_all (map (tree_at nodes) (take front last)) ++ terms_in_all (map (tree_at nodes) (drop front last)) ≡ terms_in_all (map (tree_at nodes) last)
-    whole =
-        sym (terms_append (map (tree_at nodes) (take front last)) (map (tree_at nodes) (drop front last)))
-        ∙ ap (λ (l : List Term). terms_in_all l) (sym (map-append (tree_at nodes) (take front last) (drop front last)) ∙ ap (λ (l : List ℕ). map (tree_at nodes) l) (take-append-drop front last))
+-- what numbers are made of is among what more numbers are made of
+numbers_within : (nodes : List Plain) (ks js : List ℕ) → ((k : ℕ) → is_among ks k ≡ true → is_among js k ≡ true) → IsWithin (terms_in_all (map (tree_at nodes) ks)) (terms_in_all (map (tree_at nodes) js))
+numbers_within nodes ks js wider t h =
+    let r = in_root (tree_at nodes) ks t h in
+    further_all (map (tree_at nodes) js) (tree_at nodes r.0) t (root_in (tree_at nodes) js r.0 (wider r.0 r.1)) r.2
 
--- what is told of a condition has no more different terms than the bound of the one before and what was added
-pub guess_enough : (nodes : List Plain) (c : Cond) (last roots : List ℕ) (front bound added guess : ℕ) → roots ≡ drop front c.hyps.items ++ roots_of_goal c → take front last ≡ take front c.hyps.items
-    → different (terms_in_all (map (tree_at nodes) last)) ≤ bound → added ≡ different (terms_in_all (map (tree_at nodes) roots)) → guess ≡ bound + added → different (terms_told (seen_cond nodes c)) ≤ guess
-guess_enough nodes c last roots front bound added guess is same bounded added_is guess_is =
-    let F = terms_in_all (map (tree_at nodes) (take front c.hyps.items)) in
-    let R = terms_in_all (map (tree_at nodes) roots) in
-    let whole = ap (λ (l : List Term). different l) (roots_terms nodes c front roots is) in
-    let both = different_both F R in
-    let less = different_within F (terms_in_all (map (tree_at nodes) last)) (front_within nodes c last front same) in
-    omega (arith, whole, both, less, bounded, added_is, guess_is)
+-- what both lists of numbers are made of
+numbers_both : (nodes : List Plain) (ks js : List ℕ) → terms_in_all (map (tree_at nodes) (ks ++ js)) ≡ terms_in_all (map (tree_at nodes) ks) ++ terms_in_all (map (tree_at nodes) js)
+numbers_both nodes ks js = ap (λ (l : List Term). terms_in_all l) (map-append (tree_at nodes) ks js) ∙ terms_append (map (tree_at nodes) ks) (map (tree_at nodes) js)
 
--- the hypotheses are made of the condition's terms
-hyps_within : (nodes : List Plain) (c : Cond) → IsWithin (terms_in_all (map (tree_at nodes) c.hyps.items)) (terms_told (seen_cond nodes c))
-hyps_within nodes c t h =
-    let H = map (tree_at nodes) c.hyps.items in
-    let G = tree_at nodes c.goal in
-    has_left (terms_in_all (H ++ G ∷ [])) (terms_of_unfold (map (entry_of nodes) c.unfold.list.items)) t (subst (λ (l : List Term). has_term l t ≡ true) (sym (terms_append H (G ∷ []))) (has_left (terms_in_all H) (terms_in_all (G ∷ [])) t h))
+-- all that a condition is made of
+abbrev all_roots : Cond → List ℕ
+all_roots c = c.hyps.items ++ roots_of_goal c
 
--- what lies in two lists together
-split_within : (before f r whole : List Term) → f ++ r ≡ whole → IsWithin f before → IsWithin (before ++ whole) (before ++ r)
-split_within before f r whole is within t h = elim (has_either before whole t h) as (λ _. has_term (before ++ r) t ≡ true) [
-  | inl e ↦ has_left before r t e
-  | inr e ↦ elim (has_either f r t (subst (λ (l : List Term). has_term l t ≡ true) (sym is) e)) as (λ _. has_term (before ++ r) t ≡ true) [
-    | inl g ↦ has_left before r t (within t g)
-    | inr g ↦ has_right before r t g
+all_terms : (nodes : List Plain) (c : Cond) → terms_in_all (map (tree_at nodes) (all_roots c)) ≡ terms_told (seen_cond nodes c)
+all_terms nodes c = roots_terms nodes c 0 (all_roots c) refl
+
+among_taken : (n : ℕ) (ks : List ℕ) (k : ℕ) → is_among (take n ks) k ≡ true → is_among ks k ≡ true
+among_taken n ks k h = subst (λ (l : List ℕ). is_among l k ≡ true) (take-append-drop n ks) (among_left (take n ks) (drop n ks) k h)
+
+-- a condition's numbers are those that are shared and those behind
+behind_all : (c : Cond) (front : ℕ) (last held roots : List ℕ) → roots ≡ drop front c.hyps.items ++ roots_of_goal c → take front last ≡ take front c.hyps.items → ((k : ℕ) → is_among last k ≡ true → is_among held k ≡ true)
+    → (k : ℕ) → is_among (all_roots c) k ≡ true → is_among (held ++ roots) k ≡ true
+behind_all c front last held roots is same into k h = elim (among_either c.hyps.items (roots_of_goal c) k h) as (λ _. is_among (held ++ roots) k ≡ true) [
+  | inl e ↦ elim (among_either (take front c.hyps.items) (drop front c.hyps.items) k (subst (λ (l : List ℕ). is_among l k ≡ true) (sym (take-append-drop front c.hyps.items)) e)) as (λ _. is_among (held ++ roots) k ≡ true) [
+    | inl f ↦ among_left held roots k (into k (among_taken front last k (subst (λ (l : List ℕ). is_among l k ≡ true) (sym same) f)))
+    | inr f ↦ back (among_left (drop front c.hyps.items) (roots_of_goal c) k f)
   ]
+  | inr e ↦ back (among_right (drop front c.hyps.items) (roots_of_goal c) k e)
+]
+  where
+    back : is_among (drop front c.hyps.items ++ roots_of_goal c) k ≡ true → is_among (held ++ roots) k ≡ true
+    back g = among_right held roots k (subst (λ (l : List ℕ). is_among l k ≡ true) (sym is) g)
+
+-- those behind are some of all
+behind_some : (c : Cond) (front : ℕ) (roots : List ℕ) → roots ≡ drop front c.hyps.items ++ roots_of_goal c → (k : ℕ) → is_among roots k ≡ true → is_among (all_roots c) k ≡ true
+behind_some c front roots is k h = elim (among_either (drop front c.hyps.items) (roots_of_goal c) k (subst (λ (l : List ℕ). is_among l k ≡ true) is h)) as (λ _. is_among (all_roots c) k ≡ true) [
+  | inl e ↦ among_left c.hyps.items (roots_of_goal c) k (among_dropped front c.hyps.items k e)
+  | inr e ↦ among_right c.hyps.items (roots_of_goal c) k e
 ]
 
-joined_within : (before f r whole : List Term) → f ++ r ≡ whole → IsWithin (before ++ r) (before ++ whole)
-joined_within before f r whole is t h = elim (has_either before r t h) as (λ _. has_term (before ++ whole) t ≡ true) [
-  | inl e ↦ has_left before whole t e
-  | inr e ↦ has_right before whole t (subst (λ (l : List Term). has_term l t ≡ true) is (has_right f r t e))
+-- what the code knows where a condition's own terms were gathered behind the others
+pub record HasGathered (nodes : List Plain) (c : Cond) (old new : Gathered) : Type 0 where
+  pub front : ℕ
+  pub roots : List ℕ
+  pub is : roots ≡ drop front c.hyps.items ++ roots_of_goal c
+  pub one : OneEach nodes
+  pub grown : Grown old.all.items new.all.items
+  pub more : (held : List ℕ) → AreGathered nodes held old → AreGathered nodes (held ++ roots) new
+
+-- what is gathered is of terms from before and of the condition's
+gathered_inside : (nodes : List Plain) (c : Cond) (old new : Gathered) (last : List ℕ) (ts : List Term) (k : HasGathered nodes c old new) (h : AreHeld nodes old last ts)
+    → IsWithin (terms_in_all (map (tree_at nodes) (h.roots ++ k.roots))) (ts ++ terms_told (seen_cond nodes c))
+gathered_inside nodes c old new last ts k h t g = elim (has_either (terms_in_all (map (tree_at nodes) h.roots)) (terms_in_all (map (tree_at nodes) k.roots)) t (subst (λ (l : List Term). has_term l t ≡ true) (numbers_both nodes h.roots k.roots) g)) as (λ _. has_term (ts ++ terms_told (seen_cond nodes c)) t ≡ true) [
+  | inl e ↦ has_left ts (terms_told (seen_cond nodes c)) t (h.inside t e)
+  | inr e ↦ has_right ts (terms_told (seen_cond nodes c)) t (subst (λ (l : List Term). has_term l t ≡ true) (all_terms nodes c) (numbers_within nodes k.roots (all_roots c) (behind_some c k.front k.roots k.is) t e))
 ]
+
+-- all of the condition's terms are gathered
+gathered_all : (nodes : List Plain) (c : Cond) (old new : Gathered) (last : List ℕ) (ts : List Term) (k : HasGathered nodes c old new) (h : AreHeld nodes old last ts) → take k.front last ≡ take k.front c.hyps.items
+    → IsWithin (terms_told (seen_cond nodes c)) (terms_in_all (map (tree_at nodes) (h.roots ++ k.roots)))
+gathered_all nodes c old new last ts k h same t g =
+    numbers_within nodes (all_roots c) (h.roots ++ k.roots) (behind_all c k.front last h.roots k.roots k.is same h.held) t (subst (λ (l : List Term). has_term l t ≡ true) (sym (all_terms nodes c)) g)
+
+-- the hypotheses of the condition are held, with what stays
+pub bounded_held : (nodes : List Plain) (c : Cond) (old new own : Gathered) (last : List ℕ) (ts : List Term) (k : HasGathered nodes c old new) → take k.front last ≡ take k.front c.hyps.items → AreHeld nodes old last ts
+    → IsBounded nodes new c own → AreHeld nodes own c.hyps.items (ts ++ terms_told (seen_cond nodes c))
+bounded_held nodes c old new own last ts k same h (inl is) = subst (λ (g : Gathered). AreHeld nodes g c.hyps.items (ts ++ terms_told (seen_cond nodes c))) (sym is.0) (record {
+  roots = h.roots ++ k.roots;
+  gathered = k.more h.roots h.gathered;
+  inside = gathered_inside nodes c old new last ts k h;
+  held = λ j g. behind_all c k.front last h.roots k.roots k.is same h.held j (among_left c.hyps.items (roots_of_goal c) j g);
+})
+bounded_held nodes c old new own last ts k same h (inr gathered) = record {
+  roots = all_roots c;
+  gathered = gathered;
+  inside = λ t g. has_right ts (terms_told (seen_cond nodes c)) t (subst (λ (l : List Term). has_term l t ≡ true) (all_terms nodes c) g);
+  held = λ j g. among_left c.hyps.items (roots_of_goal c) j g;
+}
+
+not_over : (n : ℕ) → n ≤ spec.most_terms → nat_lt spec.most_terms n ≡ false
+not_over n le = le-ltb spec.most_terms n le
+
+-- as many terms are over the limit as the condition has
+pub bounded_over : (nodes : List Plain) (c : Cond) (old new own : Gathered) (last : List ℕ) (ts : List Term) (k : HasGathered nodes c old new) → take k.front last ≡ take k.front c.hyps.items → AreHeld nodes old last ts
+    → IsBounded nodes new c own → nat_lt spec.most_terms (length own.all.items) ≡ nat_lt spec.most_terms (different (terms_told (seen_cond nodes c)))
+bounded_over nodes c old new own last ts k same h (inl is) =
+    let count = listed_count nodes (h.roots ++ k.roots) new.all.items (contains nat_eq new.noted) k.one (k.more h.roots h.gathered) in
+    let fewer = different_within (terms_told (seen_cond nodes c)) (terms_in_all (map (tree_at nodes) (h.roots ++ k.roots))) (gathered_all nodes c old new last ts k h same) in
+    let le = is.1 in
+    ap (λ (g : Gathered). nat_lt spec.most_terms (length g.all.items)) is.0
+    ∙ not_over (length new.all.items) le ∙ sym (not_over (different (terms_told (seen_cond nodes c))) (omega (arith, count, fewer, le)))
+bounded_over nodes c old new own last ts k same h (inr gathered) =
+    ap (λ (n : ℕ). nat_lt spec.most_terms n) (listed_count nodes (all_roots c) own.all.items (contains nat_eq own.noted) k.one gathered ∙ ap (λ (l : List Term). different l) (all_terms nodes c))
 
 -- the same terms were seen
 counted_as : (nodes : List Plain) (seen : Seen) (ts us : List Term) → IsWithin ts us → IsWithin us ts → IsCounted nodes seen ts → IsCounted nodes seen us
@@ -325,37 +336,79 @@ counted_as nodes seen ts us there back c = record {
   inside = λ k h. there (tree_at nodes k) (c.inside k h);
 }
 
--- what was seen, with what is shared, is all of the condition
-rest_seen : (nodes : List Plain) (seen : Seen) (before : List Term) (c : Cond) (last roots : List ℕ) (front : ℕ) → roots ≡ drop front c.hyps.items ++ roots_of_goal c → take front last ≡ take front c.hyps.items
-    → IsWithin (terms_in_all (map (tree_at nodes) last)) before → IsCounted nodes seen (before ++ terms_in_all (map (tree_at nodes) roots)) → IsCounted nodes seen (before ++ terms_told (seen_cond nodes c))
-rest_seen nodes seen before c last roots front is same within counted =
-    let F = terms_in_all (map (tree_at nodes) (take front c.hyps.items)) in
-    let R = terms_in_all (map (tree_at nodes) roots) in
-    let T = terms_told (seen_cond nodes c) in
-    counted_as nodes seen (before ++ R) (before ++ T) (joined_within before F R T (roots_terms nodes c front roots is))
-    (split_within before F R T (roots_terms nodes c front roots is) (λ t h. within t (front_within nodes c last front same t h))) counted
+-- what stands behind the old numbers
+fresh_is : (old fresh new : List ℕ) → new ≡ old ++ fresh → drop (length old) new ≡ fresh
+fresh_is old fresh new is = ap (λ (l : List ℕ). drop (length old) l) is ∙ behind old
+  where
+    behind : (xs : List ℕ) → drop (length xs) (xs ++ fresh) ≡ fresh
+    behind [] = refl
+    behind (x ∷ xs) = behind xs
+
+-- it names terms
+pub fresh_under : (nodes : List Plain) (c : Cond) (old new : Gathered) (last : List ℕ) (ts : List Term) (k : HasGathered nodes c old new) → AreHeld nodes old last ts
+    → (fresh : List ℕ) → fresh ≡ drop (length old.all.items) new.all.items → AreUnder (length nodes) fresh
+fresh_under nodes c old new last ts k h fresh is j g = (k.more h.roots h.gathered).below j (inl (subst (λ (l : List ℕ). is_among l j ≡ true) (sym k.grown.is) (among_right old.all.items k.grown.fresh j (subst (λ (l : List ℕ). is_among l j ≡ true) (is ∙ fresh_is old.all.items k.grown.fresh new.all.items k.grown.is) g))))
+
+-- what is new among what is gathered was seen, and so all of the condition
+gathered_seen : (nodes : List Plain) (seen : Seen) (c : Cond) (old new : Gathered) (last : List ℕ) (ts : List Term) (k : HasGathered nodes c old new) → take k.front last ≡ take k.front c.hyps.items → AreHeld nodes old last ts
+    → (fresh : List ℕ) → new.all.items ≡ old.all.items ++ fresh → IsCounted nodes seen (ts ++ map (tree_at nodes) fresh) → IsCounted nodes seen (ts ++ terms_told (seen_cond nodes c))
+gathered_seen nodes seen c old new last ts k same h fresh is counted = counted_as nodes seen (ts ++ map (tree_at nodes) fresh) (ts ++ terms_told (seen_cond nodes c)) there back counted
+  where
+    now : AreGathered nodes (h.roots ++ k.roots) new
+    now = k.more h.roots h.gathered
+
+    there : IsWithin (ts ++ map (tree_at nodes) fresh) (ts ++ terms_told (seen_cond nodes c))
+    there t g = elim (has_either ts (map (tree_at nodes) fresh) t g) as (λ _. has_term (ts ++ terms_told (seen_cond nodes c)) t ≡ true) [
+      | inl e ↦ has_left ts (terms_told (seen_cond nodes c)) t e
+      | inr e ↦
+          let r = has_named nodes fresh t e in
+          let at : is_among new.all.items r.0 ≡ true = subst (λ (l : List ℕ). is_among l r.0 ≡ true) (sym is) (among_right old.all.items fresh r.0 r.1) in
+          gathered_inside nodes c old new last ts k h t (subst (λ (x : Term). has_term (terms_in_all (map (tree_at nodes) (h.roots ++ k.roots))) x ≡ true) r.2 (now.inside r.0 (inl at)))
+    ]
+
+    back : IsWithin (ts ++ terms_told (seen_cond nodes c)) (ts ++ map (tree_at nodes) fresh)
+    back t g = elim (has_either ts (terms_told (seen_cond nodes c)) t g) as (λ _. has_term (ts ++ map (tree_at nodes) fresh) t ≡ true) [
+      | inl e ↦ has_left ts (map (tree_at nodes) fresh) t e
+      | inr e ↦
+          let r = whole nodes (h.roots ++ k.roots) new.all.items (contains nat_eq new.noted) now t (gathered_all nodes c old new last ts k h same t e) in
+          elim (among_either old.all.items fresh r.0 (subst (λ (l : List ℕ). is_among l r.0 ≡ true) is r.1)) as (λ _. has_term (ts ++ map (tree_at nodes) fresh) t ≡ true) [
+            | inl f ↦ has_left ts (map (tree_at nodes) fresh) t (subst (λ (x : Term). has_term ts x ≡ true) r.2 (h.inside (tree_at nodes r.0) (h.gathered.inside r.0 (inl f))))
+            | inr f ↦ has_right ts (map (tree_at nodes) fresh) t (subst (λ (x : Term). has_term (map (tree_at nodes) fresh) x ≡ true) r.2 (named_has nodes fresh r.0 f))
+          ]
+    ]
+
+pub fresh_seen : (nodes : List Plain) (seen : Seen) (c : Cond) (old new : Gathered) (last : List ℕ) (ts : List Term) (k : HasGathered nodes c old new) → take k.front last ≡ take k.front c.hyps.items → AreHeld nodes old last ts
+    → (fresh : List ℕ) → fresh ≡ drop (length old.all.items) new.all.items → IsCounted nodes seen (ts ++ map (tree_at nodes) fresh) → IsCounted nodes seen (ts ++ terms_told (seen_cond nodes c))
+fresh_seen nodes seen c old new last ts k same h fresh is counted =
+    let e : fresh ≡ k.grown.fresh = is ∙ fresh_is old.all.items k.grown.fresh new.all.items k.grown.is in
+    gathered_seen nodes seen c old new last ts k same h fresh (k.grown.is ∙ ap (λ (l : List ℕ). old.all.items ++ l) (sym e)) counted
 
 -- ---- one condition after the other
 
--- conditions before this one have these terms, among them those of the hypotheses of the last one, of which there are no more than so many; and with the conditions that are left they pass what all do
-pub record IsPassing (nodes : List Plain) (seen : Seen) (last : List ℕ) (bound k : ℕ) (left : List Cond) (all : spec.Passing) : Type 0 where
+-- conditions before this one have these terms, and what is gathered holds the hypotheses of the last one; and with the conditions that are left they pass what all do
+pub record IsPassing (nodes : List Plain) (seen : Seen) (gathered : Gathered) (last : List ℕ) (k : ℕ) (left : List Cond) (all : spec.Passing) : Type 0 where
   pub before : List Term
   pub counted : IsCounted nodes seen before
-  pub shared : IsWithin (terms_in_all (map (tree_at nodes) last)) before
-  pub bounded : different (terms_in_all (map (tree_at nodes) last)) ≤ bound
+  pub held : AreHeld nodes gathered last before
   pub is : passing_told before k (map (seen_cond nodes) left) ≡ all
 
-pub passing_begin : (nodes : List Plain) (seen : Seen) (last : List ℕ) (conds : List Cond) → last ≡ [] → IsCounted nodes seen [] → IsPassing nodes seen last 0 1 conds (passing_told [] 1 (map (seen_cond nodes) conds))
-passing_begin nodes seen last conds none c = subst (λ (l : List ℕ). IsPassing nodes seen l 0 1 conds (passing_told [] 1 (map (seen_cond nodes) conds))) (sym none) (record { before = []; counted = c; shared = λ t h. h; bounded = omega arith; is = refl })
+pub passing_begin : (nodes : List Plain) (seen : Seen) (gathered : Gathered) (last : List ℕ) (conds : List Cond) → last ≡ [] → IsCounted nodes seen [] → AreGathered nodes [] gathered
+    → IsPassing nodes seen gathered last 1 conds (passing_told [] 1 (map (seen_cond nodes) conds))
+passing_begin nodes seen gathered last conds none c g = subst (λ (l : List ℕ). IsPassing nodes seen gathered l 1 conds (passing_told [] 1 (map (seen_cond nodes) conds))) (sym none) (record {
+  before = [];
+  counted = c;
+  held = record { roots = []; gathered = g; inside = λ t h. h; held = λ k h. h };
+  is = refl;
+})
 
 -- the condition that comes next
 next_is : (nodes : List Plain) (before : List Term) (conds : List Cond) (i : ℕ) (c : Cond) (all : spec.Passing) → i < length conds → c ≡ get_or conds i c → passing_told before (suc i) (map (seen_cond nodes) (drop i conds)) ≡ all
     → passing_told before (suc i) (seen_cond nodes c ∷ map (seen_cond nodes) (drop (i + 1) conds)) ≡ all
 next_is nodes before conds i c all lt is so = ap (λ (l : List Cond). passing_told before (suc i) (map (seen_cond nodes) l)) (sym (drop_more conds i c lt ∙ ap (λ (x : Cond). x ∷ drop (i + 1) conds) (sym is))) ∙ so
 
-pub passing_many : (nodes : List Plain) (seen : Seen) (last : List ℕ) (bound : ℕ) (conds : List Cond) (i : ℕ) (c : Cond) (all : spec.Passing) → i < length conds → c ≡ get_or conds i c → nat_lt spec.most_conditions (suc i) ≡ true
-    → IsPassing nodes seen last bound (suc i) (drop i conds) all → spec.TooMany ≡ all
-passing_many nodes seen last bound conds i c all lt is many inv =
+pub passing_many : (nodes : List Plain) (seen : Seen) (gathered : Gathered) (last : List ℕ) (conds : List Cond) (i : ℕ) (c : Cond) (all : spec.Passing) → i < length conds → c ≡ get_or conds i c → nat_lt spec.most_conditions (suc i) ≡ true
+    → IsPassing nodes seen gathered last (suc i) (drop i conds) all → spec.TooMany ≡ all
+passing_many nodes seen gathered last conds i c all lt is many inv =
     sym (cond-true (nat_lt spec.most_conditions (suc i)) spec.TooMany _ many) ∙ next_is nodes inv.before conds i c all lt is inv.is
 
 -- not too many up to it
@@ -367,51 +420,38 @@ over_is : (one all : ℕ) (t : Told) (before : List Term) → nat_lt spec.most_t
 over_is one all t before one_is all_is over is = sym (is ∙ ap (λ (b : Bool). b || nat_lt spec.most_terms_in_all all) one_is ∙ ap (λ (n : ℕ). is_over (different (terms_told t)) n) all_is)
 
 -- what the code knows of a condition that was counted
-pub record HasCounted (nodes : List Plain) (a b : Seen) (c : Cond) (last : List ℕ) (bound one total : ℕ) (over : Bool) : Type 0 where
-  pub front : ℕ
-  pub roots : List ℕ
-  pub added : ℕ
-  pub guess : ℕ
-  pub roots_is : roots ≡ drop front c.hyps.items ++ roots_of_goal c
-  pub same : take front last ≡ take front c.hyps.items
-  pub added_is : added ≡ different (terms_in_all (map (tree_at nodes) roots))
-  pub guess_is : guess ≡ bound + added
-  pub sees : (ts : List Term) → IsCounted nodes a ts → IsCounted nodes b (ts ++ terms_in_all (map (tree_at nodes) roots))
-  pub one_bound : different (terms_told (seen_cond nodes c)) ≤ guess → different (terms_told (seen_cond nodes c)) ≤ one
-  pub one_over : different (terms_told (seen_cond nodes c)) ≤ guess → nat_lt spec.most_terms one ≡ nat_lt spec.most_terms (different (terms_told (seen_cond nodes c)))
+pub record HasCounted (nodes : List Plain) (a b : Seen) (old new : Gathered) (c : Cond) (last : List ℕ) (one total : ℕ) (over : Bool) : Type 0 where
+  pub holds : (ts : List Term) → AreHeld nodes old last ts → AreHeld nodes new c.hyps.items (ts ++ terms_told (seen_cond nodes c))
+  pub sees : (ts : List Term) → AreHeld nodes old last ts → IsCounted nodes a ts → IsCounted nodes b (ts ++ terms_told (seen_cond nodes c))
+  pub one_over : (ts : List Term) → AreHeld nodes old last ts → nat_lt spec.most_terms one ≡ nat_lt spec.most_terms (different (terms_told (seen_cond nodes c)))
   pub total_is : (ts : List Term) → IsCounted nodes b ts → total ≡ different ts
   pub over_is : over ≡ is_over one total
 
-pub passing_large : (nodes : List Plain) (a b : Seen) (conds : List Cond) (i : ℕ) (c : Cond) (last : List ℕ) (bound one total : ℕ) (over : Bool) (all : spec.Passing) → i < length conds → c ≡ get_or conds i c → nat_lt spec.most_conditions (suc i) ≡ false
-    → HasCounted nodes a b c last bound one total over → over ≡ true → IsPassing nodes a last bound (suc i) (drop i conds) all → spec.TooLarge (suc i) ≡ all
-passing_large nodes a b conds i c last bound one total over all lt is few k is_true inv =
+pub passing_large : (nodes : List Plain) (a b : Seen) (old new : Gathered) (conds : List Cond) (i : ℕ) (c : Cond) (last : List ℕ) (one total : ℕ) (over : Bool) (all : spec.Passing) → i < length conds → c ≡ get_or conds i c → nat_lt spec.most_conditions (suc i) ≡ false
+    → HasCounted nodes a b old new c last one total over → over ≡ true → IsPassing nodes a old last (suc i) (drop i conds) all → spec.TooLarge (suc i) ≡ all
+passing_large nodes a b old new conds i c last one total over all lt is few k is_true inv =
     let T = seen_cond nodes c in
-    let within = guess_enough nodes c last k.roots k.front bound k.added k.guess k.roots_is k.same inv.bounded k.added_is k.guess_is in
-    let now = rest_seen nodes b inv.before c last k.roots k.front k.roots_is k.same inv.shared (k.sees inv.before inv.counted) in
-    sym (cond-true (is_over (different (terms_told T)) (different (inv.before ++ terms_told T))) (spec.TooLarge (suc i)) _ (over_is one total T inv.before (k.one_over within) (k.total_is (inv.before ++ terms_told T) now) over k.over_is ∙ is_true))
+    let now = k.sees inv.before inv.held inv.counted in
+    sym (cond-true (is_over (different (terms_told T)) (different (inv.before ++ terms_told T))) (spec.TooLarge (suc i)) _ (over_is one total T inv.before (k.one_over inv.before inv.held) (k.total_is (inv.before ++ terms_told T) now) over k.over_is ∙ is_true))
     ∙ not_many nodes inv.before conds i c all lt is few inv.is
 
-pub passing_turn : (nodes : List Plain) (a b : Seen) (conds : List Cond) (i : ℕ) (c : Cond) (last hyps : List ℕ) (bound one total : ℕ) (over : Bool) (all : spec.Passing) → i < length conds → c ≡ get_or conds i c → nat_lt spec.most_conditions (suc i) ≡ false
-    → HasCounted nodes a b c last bound one total over → over ≡ false → hyps ≡ c.hyps.items → IsPassing nodes a last bound (suc i) (drop i conds) all → IsPassing nodes b hyps one (suc (i + 1)) (drop (i + 1) conds) all
-passing_turn nodes a b conds i c last hyps bound one total over all lt is few k is_false hyps_is inv =
+pub passing_turn : (nodes : List Plain) (a b : Seen) (old new : Gathered) (conds : List Cond) (i : ℕ) (c : Cond) (last hyps : List ℕ) (one total : ℕ) (over : Bool) (all : spec.Passing) → i < length conds → c ≡ get_or conds i c → nat_lt spec.most_conditions (suc i) ≡ false
+    → HasCounted nodes a b old new c last one total over → over ≡ false → hyps ≡ c.hyps.items → IsPassing nodes a old last (suc i) (drop i conds) all → IsPassing nodes b new hyps (suc (i + 1)) (drop (i + 1) conds) all
+passing_turn nodes a b old new conds i c last hyps one total over all lt is few k is_false hyps_is inv =
     let T = seen_cond nodes c in
     let next : suc (i + 1) ≡ suc (suc i) = omega arith in
-    let within = guess_enough nodes c last k.roots k.front bound k.added k.guess k.roots_is k.same inv.bounded k.added_is k.guess_is in
-    let now = rest_seen nodes b inv.before c last k.roots k.front k.roots_is k.same inv.shared (k.sees inv.before inv.counted) in
-    let least = different_within (terms_in_all (map (tree_at nodes) c.hyps.items)) (terms_told T) (hyps_within nodes c) in
-    let most = k.one_bound within in
-    subst (λ (l : List ℕ). IsPassing nodes b l one (suc (i + 1)) (drop (i + 1) conds) all) (sym hyps_is) (record {
+    let now = k.sees inv.before inv.held inv.counted in
+    subst (λ (l : List ℕ). IsPassing nodes b new l (suc (i + 1)) (drop (i + 1) conds) all) (sym hyps_is) (record {
       before = inv.before ++ terms_told T;
       counted = now;
-      shared = λ t h. has_right inv.before (terms_told T) t (hyps_within nodes c t h);
-      bounded = omega (arith, least, most);
+      held = k.holds inv.before inv.held;
       is = ap (λ (n : ℕ). passing_told (inv.before ++ terms_told T) n (map (seen_cond nodes) (drop (i + 1) conds))) next
-          ∙ sym (cond-false (is_over (different (terms_told T)) (different (inv.before ++ terms_told T))) (spec.TooLarge (suc i)) _ (over_is one total T inv.before (k.one_over within) (k.total_is (inv.before ++ terms_told T) now) over k.over_is ∙ is_false))
+          ∙ sym (cond-false (is_over (different (terms_told T)) (different (inv.before ++ terms_told T))) (spec.TooLarge (suc i)) _ (over_is one total T inv.before (k.one_over inv.before inv.held) (k.total_is (inv.before ++ terms_told T) now) over k.over_is ∙ is_false))
           ∙ not_many nodes inv.before conds i c all lt is few inv.is;
     })
 
-pub passing_end : (nodes : List Plain) (seen : Seen) (last : List ℕ) (bound : ℕ) (conds : List Cond) (i : ℕ) (all : spec.Passing) → length conds ≤ i → IsPassing nodes seen last bound (suc i) (drop i conds) all → spec.Within ≡ all
-passing_end nodes seen last bound conds i all past inv = ap (λ (l : List Cond). passing_told inv.before (suc i) (map (seen_cond nodes) l)) (sym (drop_all i conds past)) ∙ inv.is
+pub passing_end : (nodes : List Plain) (seen : Seen) (gathered : Gathered) (last : List ℕ) (conds : List Cond) (i : ℕ) (all : spec.Passing) → length conds ≤ i → IsPassing nodes seen gathered last (suc i) (drop i conds) all → spec.Within ≡ all
+passing_end nodes seen gathered last conds i all past inv = ap (λ (l : List Cond). passing_told inv.before (suc i) (map (seen_cond nodes) l)) (sym (drop_all i conds past)) ∙ inv.is
 
 -- the condition that comes next has numbers of terms
 pub cond_at : (nodes : List Plain) (conds : List Cond) (i : ℕ) (c : Cond) → i < length conds → c ≡ get_or conds i c → All (IsCond nodes) conds → IsCond nodes c

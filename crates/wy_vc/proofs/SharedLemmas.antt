@@ -2,11 +2,13 @@
 use Rattle.std.proofs.Common.{◌≡◌, ◌⊎◌, inl, inr, ℕ, zero, suc, ◌<◌, ◌↔◌, List, [], ◌∷◌, ◌++◌, All, length, Bool, true, false, map, Some, Option, refl, sym, ap, subst, ◌∙◌, arith}
 use Rattle.std.specs.Prelude.{option_to_list, if◌then◌else◌}
 use Rattle.std.proofs.Math.Dec.{eqb}
+use Rattle.std.proofs.lemmas.List.{append-nil, append_assoc}
 use Rattle.std.proofs.lemmas.Bool.{or_cases, or_left, cases_Bool, cond-true, cond-false, both_ways}
 use Rattle.wy_term.specs.Term.{Term, Of}
 use Rattle.wy_term.specs.Nodes.{Plain, grown, parts_at, tree_at, HasPartsBelow}
 use Rattle.wy_conditions.specs.Limits.{different, has_term, is_among, terms_in, terms_in_parts, terms_in_all}
-use Rattle.wy_vc.specs.Shared.{IsKnown, IsListed, IsMadeOf}
+use Rattle.wy_vc.specs.Gathered.{Grown}
+use Rattle.wy_vc.specs.Shared.{AreUnder, IsKnown, IsListed, IsMadeOf}
 use Rattle.wy_vc.proofs.AmongLemmas.{among_first, among_cases, among_left, among_right, among_either, has_cases, has_more, further_all, part_in, in_part, root_in, in_root}
 use Rattle.wy_vc.proofs.CountLemmas.{apart_push, counted}
 
@@ -31,10 +33,33 @@ begun nodes roots noted below none = record {
   begun = λ k h. inr h;
 }
 
+-- nothing was gathered
+pub none_gathered : (nodes : List Plain) (all : List ℕ) (noted : ℕ → Bool) → all ≡ [] → ((k : ℕ) → noted k ≡ false) → IsListed nodes [] all noted []
+none_gathered nodes all noted empty none = subst (λ (l : List ℕ). IsListed nodes [] l noted []) (sym empty) (begun nodes [] noted (λ k h. absurd cc) none)
+
 -- what is known, with nothing left, is listed
 only_listed : (all : List ℕ) (k : ℕ) → IsKnown all [] k → is_among all k ≡ true
 only_listed all k (inl e) = e
 only_listed all k (inr e) = absurd cc
+
+-- more roots are to be listed behind what is listed
+pub extended : (nodes : List Plain) (roots more all todo : List ℕ) (noted : ℕ → Bool) → AreUnder (length nodes) more → todo ≡ more → IsListed nodes roots all noted [] → IsListed nodes (roots ++ more) all noted todo
+extended nodes roots more all todo noted under is listed = subst (λ (l : List ℕ). IsListed nodes (roots ++ more) all noted l) (sym is) (record {
+  same = listed.same;
+  apart = listed.apart;
+  below = λ k h. elim h as (λ _. k < length nodes) [ inl e ↦ listed.below k (inl e) | inr e ↦ under k e ];
+  inside = λ k h. elim h as (λ _. has_term (terms_in_all (map (tree_at nodes) (roots ++ more))) (tree_at nodes k) ≡ true) [
+    | inl e ↦ roots_wider k (listed.inside k (inl e))
+    | inr e ↦ root_in (tree_at nodes) (roots ++ more) k (among_right roots more k e)
+  ];
+  made = λ k h. let m = listed.made k h in record { symbol = m.symbol; parts = m.parts; tree = m.tree; less = m.less; known = λ p g. inl (only_listed all p (m.known p g)) };
+  begun = λ k h. elim (among_either roots more k h) as (λ _. IsKnown all more k) [ inl e ↦ inl (only_listed all k (listed.begun k e)) | inr e ↦ inr e ];
+})
+  where
+    roots_wider : (k : ℕ) → has_term (terms_in_all (map (tree_at nodes) roots)) (tree_at nodes k) ≡ true → has_term (terms_in_all (map (tree_at nodes) (roots ++ more))) (tree_at nodes k) ≡ true
+    roots_wider k h =
+        let r = in_root (tree_at nodes) roots (tree_at nodes k) h in
+        further_all (map (tree_at nodes) (roots ++ more)) (tree_at nodes r.0) (tree_at nodes k) (root_in (tree_at nodes) (roots ++ more) r.0 (among_left roots more r.0 r.1)) r.2
 
 -- each term that a listed one is made of is listed
 covers : (nodes : List Plain) (roots all : List ℕ) (noted : ℕ → Bool) → IsListed nodes roots all noted [] → (bound k : ℕ) → k < bound → is_among all k ≡ true → (t : Term) → has_term (terms_in (tree_at nodes k)) t ≡ true → (j : ℕ) × (is_among all j ≡ true) × (tree_at nodes j ≡ t)
@@ -183,10 +208,32 @@ one_listed nodes roots all todo noted after t n ks more left lt tree low parts n
 
 -- ---- what is taken from the end
 
-pub taken_below : (nodes : List Plain) (roots all : List ℕ) (noted : ℕ → Bool) (old new : List ℕ) (t : ℕ) (o : Option ℕ) → old ≡ new ++ option_to_list o → o ≡ Some t → IsListed nodes roots all noted old → t < length nodes
-taken_below nodes roots all noted old new t o e is listed =
-    let same : old ≡ new ++ t ∷ [] = e ∙ ap (λ (x : Option ℕ). new ++ option_to_list x) is in
-    listed.below t (inr (subst (λ (l : List ℕ). is_among l t ≡ true) (sym same) (among_right new (t ∷ []) t (among_first t []))))
+pub taken : (old new : List ℕ) (t : ℕ) (o : Option ℕ) → old ≡ new ++ option_to_list o → o ≡ Some t → old ≡ new ++ t ∷ []
+taken old new t o e is = e ∙ ap (λ (x : Option ℕ). new ++ option_to_list x) is
+
+pub taken_under : (bound : ℕ) (old new : List ℕ) (t : ℕ) → old ≡ new ++ t ∷ [] → AreUnder bound old → t < bound
+taken_under bound old new t same under = under t (subst (λ (l : List ℕ). is_among l t ≡ true) (sym same) (among_right new (t ∷ []) t (among_first t [])))
+
+pub left_under : (bound : ℕ) (old new : List ℕ) (t : ℕ) → old ≡ new ++ t ∷ [] → AreUnder bound old → AreUnder bound new
+left_under bound old new t same under k h = under k (subst (λ (l : List ℕ). is_among l k ≡ true) (sym same) (among_left new (t ∷ []) k h))
+
+-- the parts of a term come behind what is to be listed
+pub parts_under : (bound : ℕ) (old new parts : List ℕ) (t : ℕ) (ps : List ℕ) → t < bound → All (λ n. n < t) ps → parts ≡ ps → new ≡ old ++ parts → AreUnder bound old → AreUnder bound new
+parts_under bound old new parts t ps lt low same joined under k h = elim (among_either old parts k (subst (λ (l : List ℕ). is_among l k ≡ true) joined h)) as (λ _. k < bound) [
+  | inl e ↦ under k e
+  | inr e ↦ let l = among_below ps t k low (subst (λ (l : List ℕ). is_among l k ≡ true) same e) in omega (arith, l, lt)
+]
+
+-- ---- what grows
+
+pub grown_none : (xs : List ℕ) → Grown xs xs
+grown_none xs = record { fresh = []; is = sym (append-nil xs) }
+
+pub grown_one : (old new : List ℕ) (t : ℕ) → new ≡ old ++ t ∷ [] → Grown old new
+grown_one old new t is = record { fresh = t ∷ []; is = is }
+
+pub grown_more : (a b c : List ℕ) → Grown a b → Grown b c → Grown a c
+grown_more a b c first second = record { fresh = first.fresh ++ second.fresh; is = second.is ∙ (ap (λ (l : List ℕ). l ++ second.fresh) first.is ∙ append_assoc a first.fresh second.fresh) }
 
 pub none_left : (nodes : List Plain) (roots all : List ℕ) (noted : ℕ → Bool) (old : List ℕ) → old ≡ [] → IsListed nodes roots all noted old → IsListed nodes roots all noted []
 none_left nodes roots all noted old e listed = subst (λ (l : List ℕ). IsListed nodes roots all noted l) e listed

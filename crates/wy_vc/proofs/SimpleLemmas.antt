@@ -1,26 +1,24 @@
 -- Statements that hold no others.
-use Rattle.std.proofs.Common.{◌≡◌, ◌<◌, ℕ, suc, List, [], ◌∷◌, ◌++◌, map, length, take, drop, Bool, false, Option, Some, None, option_map, refl, sym, ◌∙◌, ap, subst, arith}
+use Rattle.std.proofs.Common.{◌≡◌, ◌<◌, ℕ, suc, List, [], ◌∷◌, ◌++◌, map, length, drop, Bool, false, Option, Some, None, refl, sym, ◌∙◌, ap, subst, arith}
 use Rattle.std.proofs.lemmas.List.{append-nil, take_all}
 use Rattle.std.proofs.lemmas.List.Elements.{All-nil}
 use Rattle.wy_core.specs.Types.{Ty}
 use Rattle.wy_core.specs.CoreTree as tree
 use Rattle.wy_term.specs.Term.{Term}
 use Rattle.wy_term.specs.Nodes.{Plain, tree_at}
-use Rattle.wy_term.specs.declared.cond.CondKind.{CondKind}
 use Rattle.wy_term.specs.declared.cond.CondKind.TheVariants as kind
 use Rattle.wy_conditions.specs.Calls.{Walked, call_walk}
 use Rattle.wy_conditions.specs.Clauses.{Passed, passed, owe_clauses}
 use Rattle.wy_conditions.specs.Making.{any_of, falsehood, formula, val_name}
 use Rattle.wy_conditions.specs.Numbered.{Node, numbered, numbered_all}
-use Rattle.wy_conditions.specs.Owed.{Owed, assume, owe}
+use Rattle.wy_conditions.specs.Owed.{assume, owe}
 use Rattle.wy_conditions.specs.Spots as spots
 use Rattle.wy_conditions.specs.Spots.{Spot, spot, Flow, goes, stops, mark}
 use Rattle.wy_conditions.specs.Statements as spec
 use Rattle.wy_conditions.specs.Values.{word_at}
 use Rattle.wy_conditions.specs.Variables.{Vars, put}
-use Rattle.wy_conditions.specs.Walks.{WalkedAll, walk_all}
 use Rattle.wy_vc_expressions.specs.Walking.{walk_all_of, walk_of}
-use Rattle.wy_vc_operations.specs.Growing.{AreAt, AreBelow, Kept, Makes}
+use Rattle.wy_vc_operations.specs.Growing.{AreAt, AreBelow, Makes}
 use Rattle.wy_vc_actions.specs.declared.here.Here.{Here}
 use Rattle.wy_vc_expressions.specs.Numbered.{trees_of}
 use Rattle.wy_vc_expressions.specs.Slots.{AreSlots, slots_of}

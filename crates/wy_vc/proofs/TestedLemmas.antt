@@ -1,12 +1,12 @@
 -- The tests in terms are those of the terms that they are made of.
-use Rattle.std.proofs.Common.{◌≡◌, inl, inr, ℕ, zero, suc, ◌+◌, ◌<◌, List, [], ◌∷◌, ◌++◌, length, drop, get_or, true, map, Result, Ok, Err, IfOk, Vec, refl, sym, ap, subst, ◌∙◌, arith}
-use Rattle.std.proofs.lemmas.List.{drop_more, append_assoc}
+use Rattle.std.proofs.Common.{◌≡◌, ◌⊎◌, inl, inr, Bool, false, Option, Some, None, is_some, ℕ, zero, suc, ◌+◌, ◌<◌, List, [], ◌∷◌, ◌++◌, length, drop, take, get_or, true, map, Result, Ok, Err, IfOk, Vec, refl, sym, ap, subst, ◌∙◌, arith}
+use Rattle.std.proofs.lemmas.List.{drop_more, take_more, append_assoc}
 use Rattle.wy_term.specs.Term as symbols
 use Rattle.wy_term.specs.Term.{Symbol, Term, Of, Parts, no_parts, part}
-use Rattle.wy_term.specs.Nodes.{Plain, grown, tree_at}
+use Rattle.wy_term.specs.Nodes.{Plain, grown, parts_at, tree_at}
 use Rattle.wy_conditions.specs.Limits.{has_term, is_among, terms_in, terms_in_parts, terms_in_all, tests_in, tests_in_parts, tests_in_all}
 use Rattle.wy_vc.specs.Shared.{IsNamed}
-use Rattle.wy_vc.specs.Tested.{listed_if, symbol_of, type_of, types_at}
+use Rattle.wy_vc.specs.Tested.{AreQuiet, listed_if, symbol_of, type_of, types_at}
 use Rattle.wy_vc.proofs.AmongLemmas.{among_first, among_more, among_cases, among_left, among_right, among_either, has_cases, has_either, has_first, has_left, has_more, has_right}
 use Rattle.wy_vc.proofs.SharedLemmas.{same_test}
 
@@ -162,3 +162,51 @@ pub types_if : {E Z : Type 0} (nodes : List Plain) (roots all slice : List ℕ) 
     → IfOk result (λ ns. (n : ℕ) → is_among ns.items n ≡ is_among (tests_in_all (map (tree_at nodes) roots)) n)
 types_if nodes roots all slice (Err e) same are below value whole = tt
 types_if nodes roots all slice (Ok ns) same are below value whole = types_are nodes roots all ns.items (are ∙ ap (types_at nodes) same) below value whole
+
+-- ---- terms that test no type
+
+-- what all parts don't test their term doesn't, but by itself
+pub quiet_parts : (nodes : List Plain) (ks : List ℕ) → ((k : ℕ) → is_among ks k ≡ true → tests_in (tree_at nodes k) ≡ []) → tests_in_parts (parts_at (tree_at nodes) ks) ≡ []
+quiet_parts nodes [] quiet = refl
+quiet_parts nodes (k ∷ ks) quiet = ap (λ (l : List ℕ). l ++ tests_in_parts (parts_at (tree_at nodes) ks)) (quiet k (among_first k ks)) ∙ quiet_parts nodes ks (λ j h. quiet j (among_more k ks j h))
+
+-- the term is no test, and none of its parts is marked
+pub quiet_term : (nodes : List Plain) (marks : List Bool) (t : ℕ) (n : Plain) (ks : List ℕ) → tree_at nodes t ≡ grown (tree_at nodes) n → type_of n.symbol ≡ None → ks ≡ n.parts → ((k : ℕ) → is_among ks k ≡ true → get_or marks k true ≡ false) → AreQuiet nodes marks → tests_in (tree_at nodes t) ≡ []
+quiet_term nodes marks t n ks tree own parts none quiet =
+    ap tests_in tree
+    ∙ own_first n.symbol (parts_at (tree_at nodes) n.parts)
+    ∙ ap (λ (o : Option ℕ). listed_if o ++ tests_in_parts (parts_at (tree_at nodes) n.parts)) own
+    ∙ quiet_parts nodes n.parts (λ k h. quiet k (none k (subst (λ (l : List ℕ). is_among l k ≡ true) (sym parts) h)))
+
+pub none_of : (o : Option ℕ) → is_some o ≡ false → o ≡ None
+none_of None h = refl
+none_of (Some n) h = absurd (let e : true ≡ false = h in cc)
+
+-- one more that isn't marked
+pub quiet_turn : (marks : List Bool) (ks : List ℕ) (i : ℕ) → i < length ks → get_or marks (get_or ks i 0) true ≡ false → ((k : ℕ) → is_among (take i ks) k ≡ true → get_or marks k true ≡ false) → (k : ℕ) → is_among (take (i + 1) ks) k ≡ true → get_or marks k true ≡ false
+quiet_turn marks ks i lt one so k h = elim (among_either (take i ks) (get_or ks i 0 ∷ []) k (subst (λ (l : List ℕ). is_among l k ≡ true) (take_more ks i 0 lt) h)) as (λ _. get_or marks k true ≡ false) [
+  | inl e ↦ so k e
+  | inr e ↦ elim (among_cases (get_or ks i 0) [] k e) as (λ _. get_or marks k true ≡ false) [ inl is ↦ subst (λ (j : ℕ). get_or marks j true ≡ false) is one | inr none ↦ absurd (let f : false ≡ true = none in cc) ]
+]
+
+-- no term is marked
+pub quiet_none : (nodes : List Plain) (marks : List Bool) → marks ≡ [] → AreQuiet nodes marks
+quiet_none nodes marks is k h = absurd (let e : true ≡ false = sym (ap (λ (l : List Bool). get_or l k true) is) ∙ h in cc)
+
+-- one more mark
+pub quiet_more : (nodes : List Plain) (old new : List Bool) (mark : Bool) (t : ℕ) → length old ≡ t → new ≡ old ++ mark ∷ [] → (mark ≡ false → tests_in (tree_at nodes t) ≡ []) → AreQuiet nodes old → AreQuiet nodes new
+quiet_more nodes old new mark t is pushed one quiet k h = elim (split old k (subst (λ (l : List Bool). get_or l k true ≡ false) pushed h)) as (λ _. tests_in (tree_at nodes k) ≡ []) [
+  | inl e ↦ quiet k e
+  | inr e ↦ subst (λ (j : ℕ). tests_in (tree_at nodes j) ≡ []) (sym is ∙ sym e.0) (one e.1)
+]
+  where
+    split : (xs : List Bool) (j : ℕ) → get_or (xs ++ mark ∷ []) j true ≡ false → (get_or xs j true ≡ false) ⊎ ((j ≡ length xs) × (mark ≡ false))
+    split [] zero g = inr (refl, g)
+    split [] (suc j) g = absurd (let e : true ≡ false = g in cc)
+    split (x ∷ xs) zero g = inl g
+    split (x ∷ xs) (suc j) g = elim (split xs j g) as (λ _. (get_or xs j true ≡ false) ⊎ ((suc j ≡ suc (length xs)) × (mark ≡ false))) [ inl e ↦ inl e | inr e ↦ inr (ap (λ (n : ℕ). suc n) e.0, e.1) ]
+
+-- a term that isn't marked tests none
+pub quiet_root : (nodes : List Plain) (marks : List Bool) (root : ℕ) (ns : List ℕ) → ns ≡ [] → get_or marks root true ≡ false → AreQuiet nodes marks → (n : ℕ) → is_among ns n ≡ is_among (tests_in_all (map (tree_at nodes) (root ∷ []))) n
+quiet_root nodes marks root ns none mark quiet n =
+    ap (λ (l : List ℕ). is_among l n) (none ∙ sym (ap (λ (l : List ℕ). l ++ []) (quiet root mark)))

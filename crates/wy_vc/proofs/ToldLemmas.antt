@@ -1,7 +1,6 @@
 -- Goals with what their tests of named types stand for.
-use Rattle.std.proofs.Common.{◌≡◌, ◌<◌, ◌≤◌, ◌+◌, ℕ, zero, suc, Bool, true, false, List, [], ◌∷◌, ◌++◌, All, length, map, drop, get_or, reverse, refl, sym, ◌∙◌, ap, subst, arith}
+use Rattle.std.proofs.Common.{◌≡◌, ◌<◌, ◌≤◌, ◌+◌, ℕ, suc, Bool, true, false, List, [], ◌∷◌, ◌++◌, All, length, map, drop, get_or, reverse, refl, sym, ◌∙◌, ap, subst, arith}
 use Rattle.std.specs.Prelude.{if◌then◌else◌}
-use Rattle.std.proofs.lemmas.Bool.{cases_Bool, cond-true, cond-false}
 use Rattle.std.proofs.lemmas.List.{append-nil, append_assoc, drop_more, map-append, reverse-append}
 use Rattle.std.proofs.lemmas.List.Elements.{All-append, All-cons, All-nil, All-head, All-tail}
 use Rattle.wy_term.specs.Nodes.{Plain, tree_at}
@@ -19,7 +18,7 @@ use Rattle.wy_vc_expressions.specs.Numbered.{trees_of}
 use Rattle.wy_vc_expressions.specs.State.{IsGoal, seen_goal}
 use Rattle.wy_vc_expressions.specs.declared.goal.Goal.{Goal}
 use Rattle.wy_vc.specs.Meanings.{AreMeanings, AreMeaningsFrom, IsMeaning, tests_at}
-use Rattle.wy_vc.specs.Mentioned.{IsReaching, marked, reached}
+use Rattle.wy_vc.specs.Mentioned.{IsReaching, marked}
 use Rattle.wy_vc.specs.Told.{IsCond, IsEntry, Told, entries_by, entry_if, seen_cond, told}
 use Rattle.wy_vc.specs.declared.unfolding.Meaning.{Meaning}
 use Rattle.wy_vc.proofs.MeaningLemmas.{no_tests, reached_mentioned}

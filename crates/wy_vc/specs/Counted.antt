@@ -1,13 +1,15 @@
 -- How many different terms were seen, and which limit conditions pass.
-use Rattle.std.specs.Prelude.{◌≡◌, ℕ, suc, ◌<◌, List, [], ◌∷◌, ◌++◌, map, length, Bool, true, ◌||◌, nat_eq, nat_lt, if◌then◌else◌}
+use Rattle.std.specs.Prelude.{◌≡◌, ◌⊎◌, ℕ, suc, ◌<◌, ◌≤◌, List, [], ◌∷◌, ◌++◌, length, Bool, true, ◌||◌, nat_eq, nat_lt, if◌then◌else◌}
 use Rattle.std.specs.HashSet.{contains}
 use Rattle.wy_term.specs.Term.{Term}
 use Rattle.wy_term.specs.Nodes.{Plain, tree_at}
 use Rattle.wy_term.specs.declared.cond.Cond.{Cond}
 use Rattle.wy_conditions.specs.Limits as spec
 use Rattle.wy_conditions.specs.Limits.{different, has_term, is_among, most_conditions, most_terms, most_terms_in_all, terms_in_all, terms_of_unfold}
+use Rattle.wy_vc.specs.Gathered.{AreGathered}
 use Rattle.wy_vc.specs.Shared.{AreApart}
 use Rattle.wy_vc.specs.Told.{Told}
+use Rattle.wy_vc.specs.declared.shared.Gathered.{Gathered}
 use Rattle.wy_vc.specs.declared.limits.Seen.{Seen}
 use Rattle.wy_vc.specs.declared.limits.Passing.{Passing}
 use Rattle.wy_vc.specs.declared.limits.Passing.TheVariants as passing
@@ -48,3 +50,7 @@ roots_of_entries (e ∷ es) = e.1 ∷ e.2 ∷ roots_of_entries es
 -- the goal of a condition, and what its tests stand for
 abbrev pub roots_of_goal : Cond → List ℕ
 roots_of_goal c = c.goal ∷ roots_of_entries c.unfold.list.items
+
+-- what is gathered for a condition: what was gathered, where it is within a condition's limit, else what it alone is made of
+abbrev pub IsBounded : List Plain → Gathered → Cond → Gathered → Type 0
+IsBounded nodes old c new = ((new ≡ old) × (length old.all.items ≤ most_terms)) ⊎ AreGathered nodes (c.hyps.items ++ roots_of_goal c) new

@@ -1,5 +1,5 @@
 -- How statements go on, and the `break`s in them, by numbers of terms.
-use Rattle.std.specs.Prelude.{◌≡◌, ℕ, List, ◌++◌, length, take, Option, Some, None, option_map}
+use Rattle.std.specs.Prelude.{◌≡◌, ℕ, List, ◌++◌, take, Option, Some, None, option_map}
 use Rattle.wy_term.specs.Nodes.{Plain}
 use Rattle.wy_conditions.specs.Owed.{Owed}
 use Rattle.wy_conditions.specs.Spots.{Spot, Flow}

@@ -10,6 +10,8 @@ pub mod Heads
 pub mod Entering
 -- what is listed so far
 pub mod Shared
+-- terms that were gathered
+pub mod Gathered
 -- tests of named types
 pub mod Tested
 -- types that hypotheses test

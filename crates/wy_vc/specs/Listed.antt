@@ -11,10 +11,7 @@ use Rattle.wy_term.specs.Nodes.{Plain}
 use Rattle.wy_term.specs.declared.cond.Cond.{Cond}
 use Rattle.wy_term.specs.declared.cond.Conds.{Conds}
 use Rattle.wy_typing.specs.TypedPrograms.{Triple, core_of, flow_of}
-use Rattle.wy_vc.specs.Counted.{seen_passing}
 use Rattle.wy_vc.specs.Told.{Told, seen_cond, told}
-use Rattle.wy_vc.specs.declared.limits.Passing.{Passing}
-use Rattle.wy_vc.specs.declared.limits.Passing.TheVariants as passing
 use Rattle.wy_vc.specs.declared.fault.VcFault.{VcFault}
 use Rattle.wy_vc.specs.declared.fault.VcFault.TheVariants as fault
 

@@ -20,6 +20,10 @@ pub record IsMadeOf (nodes : List Plain) (all todo : List ℕ) (k : ℕ) : Type 
 abbrev pub IsNamed : List Plain → List ℕ → Term → Type 0
 IsNamed nodes ks t = (k : ℕ) × (is_among ks k ≡ true) × (tree_at nodes k ≡ t)
 
+-- the numbers are below this one
+abbrev pub AreUnder : ℕ → List ℕ → Type 0
+AreUnder bound ks = (k : ℕ) → is_among ks k ≡ true → k < bound
+
 -- no number stands twice
 abbrev pub AreApart : List ℕ → Type 0
 AreApart [] = Unit {0}

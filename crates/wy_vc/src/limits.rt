@@ -1,17 +1,18 @@
 //! The limits of a list of conditions.
 ghost use Rattle.std.specs.Prelude.{◌≡◌, ◌++◌, ◌∷◌, [], ◌<◌, ◌≤◌, ℕ, suc, List, All, true, false, nat_lt, take, drop, map, length as count_of, IfOk, OnOk};
 ghost use Rattle.wy_conditions.specs.Limits as limits;
-ghost use Rattle.wy_conditions.specs.Limits.{different, is_among, terms_in_all};
+ghost use Rattle.wy_conditions.specs.Limits.{different, is_among};
 ghost use Rattle.wy_term.specs.Nodes.{Plain, tree_at};
 ghost use Rattle.wy_term.specs.Term.{Term};
 ghost use Rattle.wy_vc.specs.Counted as spec;
+ghost use Rattle.wy_vc.specs.Gathered.{AreHeld};
+ghost use Rattle.wy_vc.specs.Shared.{AreUnder};
 ghost use Rattle.wy_vc.specs.Told.{IsCond, seen_cond};
 
-use crate::shared::made_of_all;
+use crate::shared::{Gathered, gather, nothing_gathered};
 use std::alloc::{AllocError, Global};
 use std::collections::HashSet;
 use wy_term::{Cond, NoMemory, Terms};
-use wy_vc_sizes::total;
 
 /// The most conditions of a program.
 const MOST_CONDITIONS: usize = 16384;
@@ -50,8 +51,7 @@ fn nothing_seen(alloc: Global) -> Seen
 
 // Sees a term.
 fn see(terms: &Terms, seen: &mut Seen, term: u32) -> Result<(), AllocError>
-    requires within { term < count_of terms.now }
-    ensures counted { (ts : List Term) → spec.IsCounted terms.now seen.old ts → OnOk result (spec.IsCounted terms.now seen.new (ts ++ tree_at terms.now term ∷ [])) }
+    ensures counted { (ts : List Term) → term < count_of terms.now → spec.IsCounted terms.now seen.old ts → OnOk result (spec.IsCounted terms.now seen.new (ts ++ tree_at terms.now term ∷ [])) }
 {
     terms.one_number_for_each_term();
     if seen.noted.contains(&term) {
@@ -64,24 +64,12 @@ fn see(terms: &Terms, seen: &mut Seen, term: u32) -> Result<(), AllocError>
 
 // Sees terms, one after the other.
 fn see_all(terms: &Terms, seen: &mut Seen, numbers: &[u32]) -> Result<(), AllocError>
-    requires within { (k : ℕ) → is_among numbers.now k ≡ true → k < count_of terms.now }
-    ensures counted { (ts : List Term) → spec.IsCounted terms.now seen.old ts → OnOk result (spec.IsCounted terms.now seen.new (ts ++ map (tree_at terms.now) numbers.now)) }
+    ensures counted { AreUnder (count_of terms.now) numbers.now → (ts : List Term) → spec.IsCounted terms.now seen.old ts → OnOk result (spec.IsCounted terms.now seen.new (ts ++ map (tree_at terms.now) numbers.now)) }
 {
     for number in numbers {
         see(terms, seen, *number)?;
     }
     Ok(())
-}
-
-// Sees what these terms are made of, and tells how many different ones that is.
-fn see_made_of(terms: &Terms, seen: &mut Seen, roots: &[u32]) -> Result<usize, NoMemory>
-    requires within { (r : ℕ) → is_among roots.now r ≡ true → r < count_of terms.now }
-    ensures counted { (ts : List Term) → spec.IsCounted terms.now seen.old ts → OnOk result (spec.IsCounted terms.now seen.new (ts ++ terms_in_all (map (tree_at terms.now) roots.now))) }
-    ensures count { IfOk result (λ n. n ≡ different (terms_in_all (map (tree_at terms.now) roots.now))) }
-{
-    let all = made_of_all(terms, roots)?;
-    see_all(terms, seen, all.as_slice())?;
-    Ok(all.len())
 }
 
 // How many different terms were seen.
@@ -107,15 +95,23 @@ pub fn shared_front(a: &[u32], b: &[u32]) -> usize
     a.len()
 }
 
+// The numbers behind so many.
+fn behind(numbers: &[u32], count: usize) -> &[u32]
+    ensures value { result.now ≡ drop count numbers.now }
+{
+    if count >= numbers.len() {
+        return &[];
+    }
+    &numbers[count..]
+}
+
 // The formulas and Val names of a condition, but for so many hypotheses: the others, its goal, and what its tests stand for.
 fn roots_behind(alloc: Global, cond: &Cond, front: usize) -> Result<Vec<u32>, AllocError>
     ensures value { IfOk result (λ ks. ks.items ≡ drop front cond.now.hyps.items ++ spec.roots_of_goal cond.now) }
 {
     let mut roots = Vec::new(alloc);
-    for (index, hyp) in cond.hyps.as_slice().iter().enumerate() {
-        if index >= front {
-            roots.push(*hyp)?;
-        }
+    for index in front..cond.hyps.len() {
+        roots.push(cond.hyps[index])?;
     }
     roots.push(cond.goal)?;
     for entry in cond.unfold.list.as_slice() {
@@ -125,18 +121,43 @@ fn roots_behind(alloc: Global, cond: &Cond, front: usize) -> Result<Vec<u32>, Al
     Ok(roots)
 }
 
-// How many different terms a condition has, or a number that is no less where that is within the limit.
-fn bounded_count(terms: &Terms, cond: &Cond, guess: usize) -> Result<usize, NoMemory>
+// What was gathered, where it is within a condition's limit, else what the condition alone is made of.
+fn bounded(terms: &Terms, cond: &Cond, gathered: Gathered) -> Result<Gathered, NoMemory>
     requires within { IsCond terms.now cond.now }
-    ensures bound { different (spec.terms_told (seen_cond terms.now cond.now)) ≤ guess → IfOk result (λ n. different (spec.terms_told (seen_cond terms.now cond.now)) ≤ n) }
-    ensures over { different (spec.terms_told (seen_cond terms.now cond.now)) ≤ guess → IfOk result (λ n. nat_lt limits.most_terms n ≡ nat_lt limits.most_terms (different (spec.terms_told (seen_cond terms.now cond.now)))) }
+    ensures value { IfOk result (λ g. spec.IsBounded terms.now gathered cond.now g) }
 {
-    if guess <= MOST_TERMS {
-        return Ok(guess);
+    let few = gathered.all.len() <= MOST_TERMS;
+    if few {
+        return Ok(gathered);
     }
     let roots = roots_behind(terms.allocator(), cond, 0)?;
-    let all = made_of_all(terms, roots.as_slice())?;
-    Ok(all.len())
+    let mut own = nothing_gathered(terms.allocator());
+    gather(terms, &mut own, roots.as_slice())?;
+    Ok(own)
+}
+
+// Gathers what a condition is made of behind so many hypotheses, which it shares with the one before, and sees it.
+fn count(
+    terms: &Terms,
+    cond: &Cond,
+    front: usize,
+    gathered: Gathered,
+    seen: &mut Seen,
+) -> Result<Gathered, NoMemory>
+    requires within { IsCond terms.now cond.now }
+    ensures held { (last : List ℕ) (ts : List Term) → take front last ≡ take front cond.now.hyps.items → AreHeld terms.now gathered last ts → IfOk result (λ g. AreHeld terms.now g cond.now.hyps.items (ts ++ spec.terms_told (seen_cond terms.now cond.now))) }
+    ensures seen { (last : List ℕ) (ts : List Term) → take front last ≡ take front cond.now.hyps.items → AreHeld terms.now gathered last ts → spec.IsCounted terms.now seen.old ts → OnOk result (spec.IsCounted terms.now seen.new (ts ++ spec.terms_told (seen_cond terms.now cond.now))) }
+    ensures over { (last : List ℕ) (ts : List Term) → take front last ≡ take front cond.now.hyps.items → AreHeld terms.now gathered last ts → IfOk result (λ g. nat_lt limits.most_terms (count_of g.all.items) ≡ nat_lt limits.most_terms (different (spec.terms_told (seen_cond terms.now cond.now)))) }
+{
+    terms.one_number_for_each_term();
+    let mut whole = gathered;
+    let before = whole.all.len();
+    let roots = roots_behind(terms.allocator(), cond, front)?;
+    gather(terms, &mut whole, roots.as_slice())?;
+    let fresh = behind(whole.all.as_slice(), before);
+    see_all(terms, seen, fresh)?;
+    let kept = bounded(terms, cond, whole)?;
+    Ok(kept)
 }
 
 // Too many terms in one, or in all up to it.
@@ -164,16 +185,17 @@ fn number_at(index: usize) -> u32
 /// Which limit these conditions pass first, in their order: there are too many, or one of them has too many different terms and formulas, or
 /// it and those before it have. Those of its hypotheses, its goal, and what its tests of named types stand for are counted.
 ///
-/// Of a condition only what it doesn't share with the one before is counted, from the first hypothesis that differs, in time linear in what
-/// that is made of. Where the sum of these counts would pass a condition's limit, all that it has is counted anew.
+/// What conditions are made of is gathered, each term once, and of a condition only what isn't gathered yet is looked at, from the first
+/// hypothesis that it doesn't share with the one before. So a term costs time once, and nothing is counted anew, while all that is gathered
+/// is within a condition's limit; where it would pass that, only what the condition alone is made of stays, in the time to list it.
 pub fn first_limit(terms: &Terms, conds: &[Cond]) -> Result<Passing, NoMemory>
     requires within { All (IsCond terms.now) conds.now }
     ensures value { IfOk result (λ p. spec.seen_passing p ≡ spec.passing_told [] 1 (map (seen_cond terms.now) conds.now)) }
 {
     let alloc = terms.allocator();
     let mut seen = nothing_seen(alloc);
+    let mut gathered = nothing_gathered(alloc);
     let mut last: &[u32] = &[];
-    let mut bound = 0;
     for (index, cond) in conds.iter().enumerate() {
         let many = are_too_many(index);
         if many {
@@ -181,17 +203,15 @@ pub fn first_limit(terms: &Terms, conds: &[Cond]) -> Result<Passing, NoMemory>
         }
         let hyps = cond.hyps.as_slice();
         let front = shared_front(last, hyps);
-        let roots = roots_behind(alloc, cond, front)?;
-        let added = see_made_of(terms, &mut seen, roots.as_slice())?;
-        let guess = total(bound, added)?;
-        let one = bounded_count(terms, cond, guess)?;
+        let kept = count(terms, cond, front, gathered, &mut seen)?;
+        let one = kept.all.len();
+        gathered = kept;
         let all = how_many(terms, &seen);
         let over = is_over(one, all);
         if over {
             return Ok(Passing::TooLarge(number_at(index)));
         }
         last = hyps;
-        bound = one;
     }
     Ok(Passing::Within)
 }

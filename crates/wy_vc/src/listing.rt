@@ -85,10 +85,11 @@ fn first_conditions(alloc: Global, typed: &Typed) -> Result<(Conds, Passing), No
 ///
 /// Terms are shared, and hypotheses stay on a stack on the way through a body, so a condition's hypotheses are those of the one before up
 /// to where the stack was cut, and then what was assumed since; its list is a copy of what stands there. Which types they test is kept on a
-/// stack likewise, and terms are counted behind the front that a condition shares with the one before. So it takes time linear in the
-/// program as its properties and clauses are written out, in these lists of numbers, and for each condition in the terms of its goal, of
-/// the hypotheses that the one before hasn't, and of the types that it mentions; where a count would pass a condition's limit, all its terms
-/// are counted anew. Behind a declaration with which there are too many no other is walked.
+/// stack likewise, and a table, made once, tells which terms test none and need no walk. What conditions are made of is gathered, each term
+/// once, so counting looks at what the conditions before haven't. So it takes time linear in the program as its properties and clauses are
+/// written out, in these lists of numbers, in the different terms of all, and for each condition in the types that it mentions, and in the
+/// terms of its goal and of the hypotheses that the one before hasn't, of those that test a type; where more is gathered than a condition may
+/// have, the next begins with what it alone is made of. Behind a declaration with which there are too many no other is walked.
 pub fn conditions(alloc: Global, typed: &Typed) -> Result<Conds, VcFault>
     ensures list { IfOk result (λ cs. spec.seen_conds cs ≡ spec.told_of typed.now) }
     ensures within { IfOk result (λ cs. spec.limit_of typed.now ≡ limits.Within) }

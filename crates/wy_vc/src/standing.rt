@@ -8,9 +8,10 @@ ghost use Rattle.wy_conditions.specs.Limits.{is_among, tests_in_all};
 ghost use Rattle.wy_term.specs.Nodes.{Plain, tree_at};
 ghost use Rattle.wy_vc_operations.specs.Growing.{AreBelow};
 ghost use Rattle.wy_vc.specs.Standing as spec;
+ghost use Rattle.wy_vc.specs.Tested.{AreQuiet};
 
 use crate::limits::shared_front;
-use crate::tests_of_types::types_tested;
+use crate::testing::types_of_root;
 use std::alloc::{AllocError, Global};
 use wy_term::{NoMemory, Terms};
 
@@ -90,13 +91,14 @@ fn cut_to(_terms: &Terms, standing: &mut Standing, front: usize)
 }
 
 // A hypothesis more.
-fn stand(terms: &Terms, standing: &mut Standing, hyp: u32) -> Result<(), NoMemory>
+fn stand(terms: &Terms, testing: &[bool], standing: &mut Standing, hyp: u32) -> Result<(), NoMemory>
     requires within { hyp < count_of terms.now }
+    requires quiet { AreQuiet terms.now testing.now }
     requires stands { spec.Stands terms.now standing.old }
     ensures stands { OnOk result (spec.Stands terms.now standing.new) }
     ensures hyps { OnOk result (standing.new.hyps.items ≡ standing.old.hyps.items ++ hyp ∷ []) }
 {
-    let own = types_tested(terms, &[hyp])?;
+    let own = types_of_root(terms, testing, hyp)?;
     standing.counts.push(standing.types.len())?;
     standing.hyps.push(hyp)?;
     put_all_new(&mut standing.types, own.as_slice())?;
@@ -104,8 +106,14 @@ fn stand(terms: &Terms, standing: &mut Standing, hyp: u32) -> Result<(), NoMemor
 }
 
 // These hypotheses stand in place of others.
-fn turn_to(terms: &Terms, standing: &mut Standing, hyps: &[u32]) -> Result<(), NoMemory>
+fn turn_to(
+    terms: &Terms,
+    testing: &[bool],
+    standing: &mut Standing,
+    hyps: &[u32],
+) -> Result<(), NoMemory>
     requires within { AreBelow (count_of terms.now) hyps.now }
+    requires quiet { AreQuiet terms.now testing.now }
     requires stands { spec.Stands terms.now standing.old }
     ensures stands { OnOk result (spec.Stands terms.now standing.new) }
     ensures hyps { OnOk result (standing.new.hyps.items ≡ hyps.now) }
@@ -113,7 +121,7 @@ fn turn_to(terms: &Terms, standing: &mut Standing, hyps: &[u32]) -> Result<(), N
     let front = shared_front(standing.hyps.as_slice(), hyps);
     cut_to(terms, standing, front);
     for index in front..hyps.len() {
-        stand(terms, standing, hyps[index])?;
+        stand(terms, testing, standing, hyps[index])?;
     }
     Ok(())
 }
@@ -128,22 +136,24 @@ fn types_and(alloc: Global, standing: &Standing, more: &[u32]) -> Result<Vec<u32
 }
 
 /// The numbers of the named types that these hypotheses and the goal test. The hypotheses stand from then on in place of others. Where they
-/// have a front of those that stood, only hypotheses behind it are looked at: linear in how many terms these and the goal are made of, in
-/// the types that are tested, each once, and, by a comparison of two numbers, in the hypotheses.
+/// have a front of those that stood, only hypotheses behind it are looked at: linear in how many terms those of these and the goal that test
+/// a type are made of, in the types that are tested, each once, and, by a comparison of two numbers, in the hypotheses.
 pub fn types_behind(
     terms: &Terms,
+    testing: &[bool],
     standing: &mut Standing,
     hyps: &[u32],
     goal: u32,
 ) -> Result<Vec<u32>, NoMemory>
     requires within { AreBelow (count_of terms.now) hyps.now }
     requires goal { goal < count_of terms.now }
+    requires quiet { AreQuiet terms.now testing.now }
     requires stands { spec.Stands terms.now standing.old }
     ensures stands { OnOk result (spec.Stands terms.now standing.new) }
     ensures value { IfOk result (λ ns. (n : ℕ) → is_among ns.items n ≡ is_among (tests_in_all (map (tree_at terms.now) (hyps.now ++ goal ∷ []))) n) }
 {
-    turn_to(terms, standing, hyps)?;
-    let own = types_tested(terms, &[goal])?;
+    turn_to(terms, testing, standing, hyps)?;
+    let own = types_of_root(terms, testing, goal)?;
     let types = types_and(terms.allocator(), standing, own.as_slice())?;
     Ok(types)
 }

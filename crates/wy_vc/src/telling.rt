@@ -4,11 +4,13 @@ ghost use Rattle.wy_conditions.specs.Numbered.{Node};
 ghost use Rattle.wy_conditions.specs.Values.{Setting};
 ghost use Rattle.wy_vc.specs.Meanings.{AreMeanings};
 ghost use Rattle.wy_vc.specs.Standing.{Stands};
+ghost use Rattle.wy_vc.specs.Tested.{AreQuiet};
 ghost use Rattle.wy_vc.specs.Told as spec;
 ghost use Rattle.wy_vc_expressions.specs.State.{IsGoal, seen_goal};
 
 use crate::mentioned::{is_marked, mentioned};
 use crate::standing::{Standing, nothing_stands, types_behind};
+use crate::testing::testing_terms;
 use crate::unfolding::Meaning;
 use std::alloc::{AllocError, Global};
 use wy_term::{Cond, NoMemory, Terms, Unfold};
@@ -57,22 +59,24 @@ fn entries(
 }
 
 /// A goal with the named types that it mentions, and those that these mention, by rising number, with the Val name and the formula that the
-/// test of each stands for. Its hypotheses stand from then on in place of others: linear in how many terms the goal is made of and those
-/// hypotheses that don't stand yet, in the named types, and in what those that it mentions test.
+/// test of each stands for. Its hypotheses stand from then on in place of others: linear in those hypotheses that don't stand yet, in how many
+/// terms those of them and the goal that test a type are made of, in the named types, and in what those that it mentions test.
 pub fn told(
     alloc: Global,
     terms: &Terms,
     meanings: &[Meaning],
+    testing: &[bool],
     standing: &mut Standing,
     goal: Goal,
 ) -> Result<Cond, NoMemory>
     requires goal { IsGoal terms.now goal }
+    requires quiet { AreQuiet terms.now testing.now }
     requires stands { Stands terms.now standing.old }
     ensures stands { OnOk result (Stands terms.now standing.new) }
     ensures within { (s : Setting Node) → AreMeanings terms.now s meanings.now → IfOk result (λ c. spec.IsCond terms.now c) }
     ensures value { (s : Setting Node) → AreMeanings terms.now s meanings.now → IfOk result (λ c. spec.seen_cond terms.now c ≡ spec.told s (seen_goal terms.now goal)) }
 {
-    let tests = types_behind(terms, standing, goal.hyps.as_slice(), goal.goal)?;
+    let tests = types_behind(terms, testing, standing, goal.hyps.as_slice(), goal.goal)?;
     let marks = mentioned(alloc, meanings, tests.as_slice())?;
     let list = entries(alloc, meanings, marks.as_slice())?;
     let Goal {
@@ -104,9 +108,17 @@ pub fn told_all(
 {
     let mut left = goals;
     let mut list = Vec::new(alloc);
+    let testing = testing_terms(terms)?;
     let mut standing = nothing_stands(alloc);
     while let Some(goal) = left.pop() {
-        let cond = told(alloc, terms, meanings, &mut standing, goal)?;
+        let cond = told(
+            alloc,
+            terms,
+            meanings,
+            testing.as_slice(),
+            &mut standing,
+            goal,
+        )?;
         list.push(cond)?;
     }
     list.reverse();

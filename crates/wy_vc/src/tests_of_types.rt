@@ -7,8 +7,8 @@ ghost use Rattle.wy_vc.specs.Tested as spec;
 use crate::shared::made_of_all;
 use wy_term::{NoMemory, Node, Terms};
 
-// The named type that a term tests.
-fn type_of(node: &Node) -> Option<u32>
+/// The named type that a term tests itself.
+pub fn type_of(node: &Node) -> Option<u32>
     ensures value { result ≡ spec.type_of (plain node.now).symbol }
 {
     match node {

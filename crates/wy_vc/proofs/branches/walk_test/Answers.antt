@@ -1,4 +1,4 @@
-use Rattle.std.proofs.Common.{List, Option, ℕ, refl}
+use Rattle.std.proofs.Common.{refl}
 use Rattle.wy_core.specs.CoreSeen.{seen_expr}
 use Rattle.wy_conditions.specs.Numbered.{numbered}
 use Rattle.wy_conditions.specs.Statements as spec

@@ -1,4 +1,4 @@
-use Rattle.std.proofs.Common.{◌≡◌, ◌∙◌, List, ℕ, Option, ap, length, subst, sym, rules, arith}
+use Rattle.std.proofs.Common.{◌≡◌, List, ℕ, Option, length, subst, sym, rules}
 use Rattle.wy_conditions.specs.Numbered.{numbered_list, numbered_routine}
 use Rattle.wy_conditions.specs.Programs.{ensures_conditions, enter_result}
 use Rattle.wy_core.specs.CoreSeen.{seen_exprs, seen_output, seen_routine}

@@ -1,4 +1,4 @@
-use Rattle.std.proofs.Common.{refl, sym, ◌∙◌, ap, subst, List}
+use Rattle.std.proofs.Common.{refl, ◌∙◌, ap}
 use Rattle.wy_core.specs.CoreSeen.{seen_exprs}
 use Rattle.wy_conditions.specs.Sizes.{exprs_in_list}
 use Rattle.wy_vc.proofs.DeclarationLemmas.{called_here}

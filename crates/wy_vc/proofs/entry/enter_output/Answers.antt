@@ -2,7 +2,6 @@ use Rattle.std.proofs.Common.{List, ℕ, refl, subst}
 use Rattle.wy_conditions.specs.Making.{val_name}
 use Rattle.wy_vc_names.specs.Described.{setting}
 use Rattle.wy_vc_operations.specs.Growing.{Makes}
-use Rattle.wy_vc_expressions.specs.declared.walk.Walk.{Walk}
 use Rattle.wy_vc_expressions.proofs.StateLemmas.{sound_made}
 use Rattle.wy_vc_expressions.proofs.GivenLemmas.{name_count, name_made}
 use Rattle.wy_vc.proofs.EntryLemmas.{output_entered}

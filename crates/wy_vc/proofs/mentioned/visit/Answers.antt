@@ -1,4 +1,4 @@
-use Rattle.std.proofs.Common.{◌≡◌, ◌≤◌, ◌<◌, ◌++◌, ◌∙◌, ℕ, List, Bool, length, inl, inr, sym, ap, subst, rules}
+use Rattle.std.proofs.Common.{◌≡◌, ◌++◌, ◌∙◌, List, Bool, length, inl, inr, sym, ap, rules}
 use Rattle.std.specs.Prelude.{nat_le}
 use Rattle.wy_vc.specs.Meanings.{tests_at}
 use Rattle.wy_vc.specs.Mentioned.{marked}

@@ -1,4 +1,4 @@
-use Rattle.std.proofs.Common.{◌<◌, List, Option, ℕ, length, sym, subst}
+use Rattle.std.proofs.Common.{List, Option, ℕ, length, sym, subst}
 use Rattle.wy_core.specs.CoreSeen.{seen_exprs}
 use Rattle.wy_core.specs.CoreTree.{exprs_of}
 use Rattle.wy_vc_operations.specs.Growing.{AreBelow}

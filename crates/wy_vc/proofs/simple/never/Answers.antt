@@ -1,6 +1,4 @@
-use Rattle.std.proofs.Common.{◌<◌, List, ℕ, [], length, refl, sym, subst}
-use Rattle.std.proofs.lemmas.List.Elements.{All-nil}
-use Rattle.wy_vc_operations.specs.Growing.{AreAt, AreBelow}
+use Rattle.std.proofs.Common.{[], refl}
 use Rattle.wy_vc_expressions.specs.declared.walk.Walk.{Walk}
 use Rattle.wy_vc_expressions.proofs.StateLemmas.{sound_made}
 use Rattle.wy_vc.proofs.SimpleLemmas.{never_went, none_at}

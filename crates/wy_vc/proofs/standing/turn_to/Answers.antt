@@ -11,6 +11,7 @@ stand-requires c =
     let lt : c.loop-index.index < length c.args.hyps.now = search rules in
     record {
       within = below_item (length c.args.terms.now) c.args.hyps.now c.loop-index.index c.requires.within lt;
+      quiet = c.requires.quiet;
       stands = c.loop-index.invariant.0;
     }
 

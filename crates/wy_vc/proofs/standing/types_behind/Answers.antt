@@ -1,9 +1,6 @@
 use Rattle.std.proofs.Common.{◌∙◌, ◌++◌, ℕ, List, ap}
-use Rattle.wy_vc.proofs.StandingLemmas.{one_below, types_told}
+use Rattle.wy_vc.proofs.StandingLemmas.{types_told}
 use Rattle.wy_vc.proofs.standing.types_behind.Goals as goal
-
-pub types_tested-requires : goal.types_tested-requires
-types_tested-requires c = one_below _ c.args.goal c.requires.goal
 
 pub returns-clause-value : goal.returns-clause-value
 returns-clause-value c =

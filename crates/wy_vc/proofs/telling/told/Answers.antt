@@ -9,6 +9,7 @@ pub types_behind-requires : goal.types_behind-requires
 types_behind-requires c = record {
   within = subst (λ (l : List ℕ). AreBelow (length c.args.terms.now) l) (sym c.as_slice.ensures.value) c.requires.goal.hyps;
   goal = c.requires.goal.goal;
+  quiet = c.requires.quiet;
   stands = c.requires.stands;
 }
 

@@ -1,6 +1,6 @@
-use Rattle.std.proofs.Common.{◌≡◌, [], arith}
-use Rattle.std.proofs.lemmas.List.{nil_from_length}
-use Rattle.wy_vc.proofs.ToldLemmas.{goal_at, telling_begin, telling_end, telling_turn, telling_within}
+use Rattle.std.proofs.Common.{Bool, List, subst, sym}
+use Rattle.wy_vc.specs.Tested.{AreQuiet}
+use Rattle.wy_vc.proofs.ToldLemmas.{goal_at, telling_begin, telling_turn}
 use Rattle.wy_vc.proofs.telling.told_all.Goals as goal
 
 pub loop-goal-init : goal.loop-goal-init
@@ -9,6 +9,7 @@ loop-goal-init c = (c.requires.goals, c.nothing_stands-standing.ensures.stands c
 pub told-requires : goal.told-requires
 told-requires c = record {
   goal = (goal_at c.args.terms.now c.loop-goal.left.items c.pop.new.self.items c.in-Some.goal c.in-Some.ensures.items c.loop-goal.invariant.0).0;
+  quiet = subst (λ (l : List Bool). AreQuiet c.args.terms.now l) (sym c.as_slice.ensures.value) c.in_ok-testing.ensures.quiet;
   stands = c.loop-goal.invariant.1;
 }
 

@@ -1,6 +1,5 @@
-use Rattle.std.proofs.Common.{◌∙◌}
 use Rattle.wy_vc_names.specs.Described.{setting}
-use Rattle.wy_vc.proofs.MeaningLemmas.{up_to_begin, up_to_end, up_to_turn}
+use Rattle.wy_vc.proofs.MeaningLemmas.{up_to_begin, up_to_turn}
 use Rattle.wy_vc.proofs.unfolding.meanings.Goals as goal
 
 pub loop-number-init : goal.loop-number-init
