@@ -1,11 +1,13 @@
 -- Whether one of a list passes, one after the other.
-use Rattle.std.proofs.Common.{◌≡◌, ◌∙◌, ◌+◌, ◌<◌, ◌≤◌, ◌&&◌, ◌||◌, ℕ, List, ◌∷◌, map, drop, length, get_or, Bool, true, false, not, Some, sym, ap}
+use Rattle.std.proofs.Common.{◌≡◌, ◌∙◌, ◌+◌, ◌<◌, ◌≤◌, ◌&&◌, ◌||◌, ℕ, List, [], ◌∷◌, map, drop, length, get_or, Bool, true, false, not, Some, None, refl, sym, ap}
 use Rattle.std.specs.Prelude.{slice_get}
 use Rattle.std.proofs.lemmas.List.{drop_more}
 use Rattle.wy_term.specs.Term.{DataKind, Term}
+use Rattle.wy_term.specs.Rewriting.{as_constant}
 use Rattle.wy_term.specs.Same.{same_kind}
 use Rattle.wy_term.proofs.SameLemmas.{terms_self}
 use Rattle.wy_splits.specs.Groups.{as_wanted, in_kinds}
+use Rattle.wy_judging.proofs.NameLemmas.{and_false, and_true}
 use Rattle.wy_judging.specs.Seen.{seen_literal}
 use Rattle.wy_valid.specs.Kinds as valid
 use Rattle.wy_search.specs.Classes.{in_one_class, any_denies, denies_equal, constants_apart, any_apart, kinds_with, any_kinds}
@@ -44,6 +46,12 @@ any_step ts labels at ks i lt = ap (λ (qs : List ℕ). any_apart ts labels (map
 pub any_end : (ts : List Term) (labels : List ℕ) (at : ℕ → Term) (ks : List ℕ) (i : ℕ) (total : Bool) → length ks ≤ i → any_apart ts labels (map at (drop i ks)) ≡ total → false ≡ total
 any_end ts labels at ks i total le so = sym (ap (λ (qs : List ℕ). any_apart ts labels (map at qs)) (drop_end ks i le)) ∙ so
 
+-- a term that is no constant isn't apart from any
+pub none_apart : (ts : List Term) (labels : List ℕ) (s : Term) (us : List Term) → as_constant s ≡ None → false ≡ constants_apart ts labels s us
+none_apart ts labels s [] none = refl
+none_apart ts labels s (u ∷ us) none =
+    none_apart ts labels s us none ∙ sym (ap (λ o. (valid.are_apart o (as_constant u) && in_one_class ts labels s u) || constants_apart ts labels s us) none)
+
 -- ---- kinds
 
 pub with_step : (test : valid.Kinded → valid.Kinded → Bool) (ts : List Term) (labels : List ℕ) (at : ℕ → Term) (p : valid.Kinded) (qs more : List Kinded) (q : Kinded) → qs ≡ q ∷ more → kinds_with test ts labels p (kinded at qs) ≡ (meets test ts labels p (seen_kinded at q) || kinds_with test ts labels p (kinded at more))
@@ -57,5 +65,8 @@ wanted_of_one : (same : Bool) (t : Term) (k l : DataKind) → as_wanted same (sa
 wanted_of_one true t k l = ap (λ (b : Bool). b && same_kind k l) (sym (terms_self t))
 wanted_of_one false t k l = ap (λ (b : Bool). b && not (same_kind k l)) (sym (terms_self t))
 
-pub kinds_meet : (same : Bool) (ts : List Term) (labels : List ℕ) (t u : Term) (k l : DataKind) (r : Bool) → in_one_class ts labels t u ≡ true → r ≡ as_wanted same (same_kind k l) → r ≡ meets (in_kinds same) ts labels (t, k) (u, l)
-kinds_meet same ts labels t u k l r up is = is ∙ (wanted_of_one same t k l ∙ ap (λ (b : Bool). b && in_kinds same (t, k) (t, l)) (sym up))
+pub kinds_meet : (same : Bool) (ts : List Term) (labels : List ℕ) (t u : Term) (k l : DataKind) (r : Bool) → as_wanted same (same_kind k l) ≡ true → r ≡ in_one_class ts labels t u → r ≡ meets (in_kinds same) ts labels (t, k) (u, l)
+kinds_meet same ts labels t u k l r up is = is ∙ sym (ap (λ (b : Bool). in_one_class ts labels t u && b) (sym (wanted_of_one same t k l) ∙ up) ∙ and_true (in_one_class ts labels t u))
+
+pub kinds_part : (same : Bool) (ts : List Term) (labels : List ℕ) (t u : Term) (k l : DataKind) → as_wanted same (same_kind k l) ≡ false → false ≡ meets (in_kinds same) ts labels (t, k) (u, l)
+kinds_part same ts labels t u k l un_so = sym (ap (λ (b : Bool). in_one_class ts labels t u && b) (sym (wanted_of_one same t k l) ∙ un_so) ∙ and_false (in_one_class ts labels t u))

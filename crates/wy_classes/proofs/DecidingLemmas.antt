@@ -1,5 +1,5 @@
 -- A node with one literal more, what it is judged by, and the node as it was.
-use Rattle.std.proofs.Common.{◌≡◌, ◌∙◌, ◌||◌, ℕ, Bool, true, false, cond, List, [], ◌∷◌, ◌++◌, map, take, length, refl, sym, ap}
+use Rattle.std.proofs.Common.{◌≡◌, ◌∙◌, ◌||◌, ℕ, Bool, true, false, cond, List, [], ◌∷◌, ◌++◌, map, take, length, refl, sym, ap, subst}
 use Rattle.wy_judge.specs.Judgement.{of_atom, judged}
 use Rattle.wy_judge.specs.Node.{Literal, Node, has_literal, with_literal}
 use Rattle.wy_judge.specs.declared.verdict.Verdict.{Verdict}
@@ -9,6 +9,7 @@ use Rattle.wy_judging.specs.Seen.{StartsWith, seen_branch, seen_formula, seen_li
 use Rattle.wy_judging.specs.declared.branch.Branch.{Branch}
 use Rattle.wy_search.specs.Splitting.{decides, is_open, is_forced}
 use Rattle.wy_classes.specs.Once.{SameBranch}
+use Rattle.wy_classes.specs.Unmet.{AreEnough}
 use Rattle.wy_term.specs.Term.{Term}
 use Rattle.wy_valid.specs.Literals as valid
 
@@ -59,12 +60,14 @@ with_one node l = record { literals = node.literals ++ l ∷ []; pending = node.
 put : (node : Node) (l : Literal) → has_literal node.literals l ≡ false → with_literal node l ≡ with_one node l
 put node l un_so = ap (λ b. cond b node (with_one node l)) un_so
 
-pub decided : (node new : Node) (a : Term) (holds up_so : Bool) → is_open (of_atom node.literals a) ≡ true → new ≡ with_literal node (literal a holds)
-    → up_so ≡ judging.is_any_refuted new.literals new.pending → up_so ≡ decides node a holds
-decided node new a holds up_so up is answers =
+-- where these are enough of the pending formulas
+pub decided : (at : ℕ → Term) (node new : Node) (a : Term) (holds up_so : Bool) (ps : List (ℕ × Bool)) → is_open (of_atom node.literals a) ≡ true → AreEnough at node ps → new ≡ with_literal node (literal a holds)
+    → up_so ≡ judging.is_any_refuted new.literals (map (seen_formula at) ps) → up_so ≡ decides node a holds
+decided at node new a holds up_so ps up enough is answers =
     answers
-    ∙ same_refuted new.literals new.pending
-    ∙ ap (λ (m : Node). valid.any_no m.literals m.pending) (is ∙ put node (literal a holds) (absent node.literals a holds up))
+    ∙ same_refuted new.literals (map (seen_formula at) ps)
+    ∙ ap (λ (m : Node). valid.any_no m.literals (map (seen_formula at) ps)) (is ∙ put node (literal a holds) (absent node.literals a holds up))
+    ∙ enough a holds up
 
 -- ---- the node as it was
 
@@ -83,6 +86,9 @@ same_again b c d p q = record { literals = q.literals ∙ p.literals; pending = 
 
 pub same_self : (b : Branch) → SameBranch b b
 same_self b = record { literals = refl; pending = refl }
+
+pub enough_again : (at : ℕ → Term) (b c : Branch) (ps : List (ℕ × Bool)) → SameBranch b c → AreEnough at (seen_branch at b) ps → AreEnough at (seen_branch at c) ps
+enough_again at b c ps same enough = subst (λ (m : Node). AreEnough at m ps) (sym (seen_same at b c same)) enough
 
 -- ---- forced atoms
 

@@ -1,12 +1,13 @@
 -- Terms of other heads, or of other numbers of arguments.
-use Rattle.std.proofs.Common.{◌≡◌, ◌∙◌, ◌&&◌, ℕ, suc, List, [], ◌∷◌, length, Bool, true, false, refl, sym, ap}
-use Rattle.wy_term.specs.Term.{Symbol, Term}
+use Rattle.std.proofs.Common.{◌≡◌, ◌∙◌, ◌&&◌, ℕ, suc, List, [], ◌∷◌, length, Bool, true, false, not, cond, Option, Some, None, refl, sym, ap}
+use Rattle.wy_term.specs.Term.{Symbol, Term, Of, part, no_parts}
 use Rattle.wy_term.specs.Nodes.{Plain, grown, parts_at}
 use Rattle.wy_term.specs.Same.{same_symbol}
-use Rattle.wy_term.proofs.SameLemmas.{symbols_are}
+use Rattle.wy_term.proofs.SameLemmas.{both, symbols_are}
 use Rattle.wy_judging.proofs.NameLemmas.{and_false}
-use Rattle.wy_search.specs.Classes.{in_one_class, arguments_equal, are_congruent}
-use Rattle.wy_classes.specs.Heads.{tag_of}
+use Rattle.wy_search.specs.Classes.{in_one_class, arguments_equal, are_congruent, joined, label_of, place_from, with_congruent, with_equal}
+use Rattle.wy_classes.proofs.LabelLemmas.{joined_self}
+use Rattle.wy_classes.specs.Heads.{tag_of, pair_joined, BeginsWith}
 
 abbrev over : List Term → List ℕ → (ℕ → Term) → List ℕ → List ℕ → Bool
 over ts labels at ss us = arguments_equal ts labels (parts_at at ss) (parts_at at us)
@@ -49,3 +50,53 @@ by_arguments ts labels at s t p q ss us r e f up is so found =
     ∙ (ap (λ (ks : List ℕ). over ts labels at ks us) is
     ∙ (ap (λ (ks : List ℕ). over ts labels at p.parts ks) so
     ∙ sym (grown_both ts labels at s t p q e f ∙ ap (λ (b : Bool). b && over ts labels at p.parts q.parts) up)))
+
+parted : (ts : List Term) (labels : List ℕ) (at : ℕ → Term) (ss us : List ℕ) (j k : ℕ) → BeginsWith ss j → BeginsWith us k → in_one_class ts labels (at j) (at k) ≡ false → over ts labels at ss us ≡ false
+parted ts labels at [] us j k first second apart = absurd (cc)
+parted ts labels at (s ∷ ss) [] j k first second apart = absurd (cc)
+parted ts labels at (s ∷ ss) (u ∷ us) j k first second apart =
+    ap (λ (m : ℕ). in_one_class ts labels (at m) (at u) && over ts labels at ss us) (some_is s j first)
+    ∙ ap (λ (m : ℕ). in_one_class ts labels (at j) (at m) && over ts labels at ss us) (some_is u k second)
+    ∙ ap (λ (b : Bool). b && over ts labels at ss us) apart
+  where
+    some_is : (x y : ℕ) → Some x ≡ Some y → x ≡ y
+    some_is x y e = cc
+
+-- terms whose first arguments are in two classes aren't congruent
+pub other_first : (ts : List Term) (labels : List ℕ) (at : ℕ → Term) (s t : Term) (p q : Plain) (j k : ℕ) (r : Bool) → s ≡ grown at p → t ≡ grown at q → BeginsWith p.parts j → BeginsWith q.parts k → r ≡ in_one_class ts labels (at j) (at k) → not r ≡ true → are_congruent ts labels s t ≡ false
+other_first ts labels at s t p q j k r e f first second is apart =
+    grown_both ts labels at s t p q e f
+    ∙ (ap (λ (b : Bool). same_symbol p.symbol q.symbol && b) (parted ts labels at p.parts q.parts j k first second (sym is ∙ un_not r apart)) ∙ and_false (same_symbol p.symbol q.symbol))
+  where
+    un_not : (b : Bool) → not b ≡ true → b ≡ false
+    un_not true h = absurd (cc)
+    un_not false h = refl
+
+-- ---- terms without arguments
+
+bare_is : (ts : List Term) (labels : List ℕ) (a : Symbol) (t : Term) → are_congruent ts labels (Of a no_parts) t ≡ true → Of a no_parts ≡ t
+bare_is ts labels a (Of b no_parts) e = ap (λ (c : Symbol). Of c no_parts) (symbols_are a b (both (same_symbol a b) true e).0)
+bare_is ts labels a (Of b (part t qs)) e = absurd (apart (both (same_symbol a b) false e).1)
+  where
+    apart : false ≡ true → ⊥
+    apart f = absurd (cc)
+
+joined_one : (labels : List ℕ) (o : Option ℕ) → joined labels o o ≡ labels
+joined_one labels None = refl
+joined_one labels (Some l) = sym (joined_self labels l l (Some l) (Some l) refl refl refl)
+
+bare_joined : (ts : List Term) (labels : List ℕ) (a : Symbol) (t : Term) → pair_joined ts labels (Of a no_parts) t ≡ labels
+bare_joined ts labels a t = by (are_congruent ts labels (Of a no_parts) t) refl
+  where
+    by : (b : Bool) → are_congruent ts labels (Of a no_parts) t ≡ b → cond b (with_equal ts labels (Of a no_parts) t) labels ≡ labels
+    by true e = ap (with_equal ts labels (Of a no_parts)) (sym (bare_is ts labels a t e)) ∙ joined_one labels (label_of labels (place_from ts (Of a no_parts) 0))
+    by false e = refl
+
+bare_all : (ts : List Term) (labels : List ℕ) (a : Symbol) (us : List Term) → with_congruent ts labels (Of a no_parts) us ≡ labels
+bare_all ts labels a [] = refl
+bare_all ts labels a (t ∷ us) = ap (λ (ls : List ℕ). with_congruent ts ls (Of a no_parts) us) (bare_joined ts labels a t) ∙ bare_all ts labels a us
+
+-- a term without arguments is congruent to itself alone
+pub bare_stays : (ts : List Term) (labels : List ℕ) (at : ℕ → Term) (s : Term) (p : Plain) (us : List Term) → s ≡ grown at p → p.parts ≡ [] → labels ≡ with_congruent ts labels s us
+bare_stays ts labels at s p us e none =
+    sym (ap (λ (t : Term). with_congruent ts labels t us) (e ∙ ap (λ (ks : List ℕ). Of p.symbol (parts_at at ks)) none) ∙ bare_all ts labels p.symbol us)

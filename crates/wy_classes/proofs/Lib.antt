@@ -2,6 +2,10 @@
 pub mod OnceLemmas
 -- atoms of formulas by their members
 pub mod AtomLemmas
+-- what a literal more leaves as it is
+pub mod MoreLemmas
+-- pending formulas that aren't judged yes
+pub mod UnmetLemmas
 -- one literal more, and back
 pub mod DecidingLemmas
 -- the first of a list

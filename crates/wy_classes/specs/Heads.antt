@@ -1,5 +1,5 @@
 -- What functions inside owe each other.
-use Rattle.std.specs.Prelude.{◌≡◌, ℕ, zero, suc, ◌==◌, List, [], ◌∷◌, if◌then◌else◌, Option, Some, None}
+use Rattle.std.specs.Prelude.{◌≡◌, ℕ, zero, suc, ◌==◌, List, [], ◌∷◌, if◌then◌else◌, Option, Some, None, slice_get}
 use Rattle.wy_term.specs.Term as term
 use Rattle.wy_term.specs.Term.{Symbol, Term}
 use Rattle.wy_search.specs.Classes.{are_congruent, with_equal}
@@ -51,3 +51,7 @@ first_place (Some k) place = Some k
 -- a number that had no place has this one now; the others have those that they had
 abbrev pub PlacedBehind : (ℕ → Option ℕ) → (ℕ → Option ℕ) → ℕ → ℕ → Type 0
 PlacedBehind old new k place = (t : ℕ) → new t ≡ (if k == t then first_place (old k) place else old t)
+
+-- the list begins with this number
+abbrev pub BeginsWith : List ℕ → ℕ → Type 0
+BeginsWith ks k = slice_get ks 0 ≡ Some k

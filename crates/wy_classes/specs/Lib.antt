@@ -1,5 +1,7 @@
 -- lists in which each term stands once
 pub mod Once
+-- which pending formulas aren't judged yes
+pub mod Unmet
 -- which names are bound around what stands in a node
 pub mod Marks
 -- what the walk has still to do, and what it leads to

@@ -1,33 +1,32 @@
 //! The atom on which a node splits.
 ghost use Rattle.std.specs.Prelude.{◌≡◌, ◌<◌, ◌++◌, [], ◌∷◌, true, Some, map, length, option_map, slice_get, IfOk, IfSome, OnOk};
 ghost use Rattle.wy_judge.specs.Judgement.{of_atom};
-ghost use Rattle.wy_judging.specs.Seen.{AreBelow, IsBranch, seen_branch, seen_formula};
+ghost use Rattle.wy_judging.specs.Seen.{AreBelow, AreOver, IsBranch, seen_branch, seen_formula};
 ghost use Rattle.wy_search.specs.Splitting as splitting;
 ghost use Rattle.wy_classes.specs.Once.{SameBranch, first_by, once, undecided};
+ghost use Rattle.wy_classes.specs.Unmet.{AreEnough};
 ghost use Rattle.wy_term.specs.Nodes.{tree_at};
 
 use crate::atoms::list_atoms;
+use crate::unmet::{is_one_refuted, is_undecided, unmet};
 use indexmap::IndexSet;
 use wy_judge::Verdict;
-use wy_judging::{
-    Branch, add_literal, back_to, has_literal, is_refuted, judge, nothing_known, pending_at,
-};
+use wy_judging::{Branch, add_literal, back_to, judge, nothing_known, pending_at};
 use wy_term::{NoMemory, Terms};
 
-// Whether neither the atom nor its denial stands among the literals.
-fn is_undecided(terms: &Terms, branch: &Branch, a: u32) -> bool
-    requires atom { a < length terms.now }
-    requires branch { IsBranch terms.now branch.now }
-    ensures value { result ≡ splitting.is_open (of_atom (seen_branch (tree_at terms.now) branch.now).literals (tree_at terms.now a)) }
-{
-    !has_literal(terms, branch, a, true) && !has_literal(terms, branch, a, false)
-}
-
-// Whether a pending formula is judged no with one literal more, of an atom that is undecided. The node is as before
-// afterwards.
-fn decides(terms: &Terms, branch: &mut Branch, a: u32, holds: bool) -> Result<bool, NoMemory>
+// Whether a pending formula is judged no with one literal more, of an atom that is undecided, where these are enough of the
+// pending formulas. The node is as before afterwards.
+fn decides(
+    terms: &Terms,
+    branch: &mut Branch,
+    left: &[(u32, bool)],
+    a: u32,
+    holds: bool,
+) -> Result<bool, NoMemory>
     requires atom { a < length terms.now }
     requires branch { IsBranch terms.now branch.old }
+    requires left { AreEnough (tree_at terms.now) (seen_branch (tree_at terms.now) branch.old) left.now }
+    requires over { AreOver (length terms.now) left.now }
     requires undecided { splitting.is_open (of_atom (seen_branch (tree_at terms.now) branch.old).literals (tree_at terms.now a)) ≡ true }
     ensures value { IfOk result (λ yes. yes ≡ splitting.decides (seen_branch (tree_at terms.now) branch.old) (tree_at terms.now a) holds) }
     ensures same { OnOk result (SameBranch branch.old branch.new) }
@@ -36,15 +35,22 @@ fn decides(terms: &Terms, branch: &mut Branch, a: u32, holds: bool) -> Result<bo
     let literals = branch.literals.len();
     let pending = branch.pending.len();
     add_literal(terms, branch, a, holds)?;
-    let answer = is_refuted(terms, branch)?;
+    let answer = is_one_refuted(terms, branch, left)?;
     back_to(branch, literals, pending);
     Ok(answer)
 }
 
 // Whether the atom is undecided, and one of its values makes a pending formula judged no.
-fn is_forced(terms: &Terms, branch: &mut Branch, a: u32) -> Result<bool, NoMemory>
+fn is_forced(
+    terms: &Terms,
+    branch: &mut Branch,
+    left: &[(u32, bool)],
+    a: u32,
+) -> Result<bool, NoMemory>
     requires atom { a < length terms.now }
     requires branch { IsBranch terms.now branch.old }
+    requires left { AreEnough (tree_at terms.now) (seen_branch (tree_at terms.now) branch.old) left.now }
+    requires over { AreOver (length terms.now) left.now }
     ensures value { IfOk result (λ yes. yes ≡ splitting.is_forced (seen_branch (tree_at terms.now) branch.old) (tree_at terms.now a)) }
     ensures same { OnOk result (SameBranch branch.old branch.new) }
     ensures branch { OnOk result (IsBranch terms.now branch.new) }
@@ -52,10 +58,10 @@ fn is_forced(terms: &Terms, branch: &mut Branch, a: u32) -> Result<bool, NoMemor
     if !is_undecided(terms, branch, a) {
         return Ok(false);
     }
-    if decides(terms, branch, a, true)? {
+    if decides(terms, branch, left, a, true)? {
         return Ok(true);
     }
-    decides(terms, branch, a, false)
+    decides(terms, branch, left, a, false)
 }
 
 // The atom with a place in the list.
@@ -87,10 +93,13 @@ fn pending_atoms(terms: &Terms, branch: &Branch) -> Result<IndexSet<u32>, NoMemo
 fn first_forced(
     terms: &Terms,
     branch: &mut Branch,
+    left: &[(u32, bool)],
     found: &IndexSet<u32>,
 ) -> Result<Option<u32>, NoMemory>
     requires found { AreBelow (length terms.now) found.now.keys }
     requires branch { IsBranch terms.now branch.old }
+    requires left { AreEnough (tree_at terms.now) (seen_branch (tree_at terms.now) branch.old) left.now }
+    requires over { AreOver (length terms.now) left.now }
     ensures value { IfOk result (λ o. option_map (tree_at terms.now) o ≡ first_by (splitting.is_forced (seen_branch (tree_at terms.now) branch.old)) (map (tree_at terms.now) found.now.keys)) }
     ensures same { OnOk result (SameBranch branch.old branch.new) }
     ensures branch { OnOk result (IsBranch terms.now branch.new) }
@@ -98,7 +107,7 @@ fn first_forced(
 {
     for i in 0..found.len() {
         let a = atom_at(found, i);
-        if is_forced(terms, branch, a)? {
+        if is_forced(terms, branch, left, a)? {
             return Ok(Some(a));
         }
     }
@@ -159,11 +168,34 @@ fn first_open(terms: &Terms, branch: &Branch) -> Result<Option<u32>, NoMemory>
     Ok(None)
 }
 
+// The first atom of the pending formulas that is forced, where these are enough of them. Where none is left, none is forced.
+fn forced_atom(
+    terms: &Terms,
+    branch: &mut Branch,
+    left: &[(u32, bool)],
+) -> Result<Option<u32>, NoMemory>
+    requires branch { IsBranch terms.now branch.old }
+    requires left { AreEnough (tree_at terms.now) (seen_branch (tree_at terms.now) branch.old) left.now }
+    requires over { AreOver (length terms.now) left.now }
+    ensures value { IfOk result (λ o. option_map (tree_at terms.now) o ≡ splitting.first_forced (seen_branch (tree_at terms.now) branch.old) (splitting.atoms_of (seen_branch (tree_at terms.now) branch.old).pending)) }
+    ensures same { OnOk result (SameBranch branch.old branch.new) }
+    ensures branch { OnOk result (IsBranch terms.now branch.new) }
+    ensures below { IfOk result (λ o. IfSome o (λ a. a < length terms.now)) }
+{
+    if left.is_empty() {
+        return Ok(None);
+    }
+    let found = pending_atoms(terms, branch)?;
+    first_forced(terms, branch, left, &found)
+}
+
 /// The atom on which the node splits, if there is one: of the atoms of its pending formulas, in their order, the first
 /// undecided one that has a value by which a pending formula is judged no; where there is none, the first undecided atom of
 /// the first pending formula that is judged open. The node is as before afterwards.
 ///
-/// In time linear in the number of different atoms, times the size of the pending formulas.
+/// In time linear in the size of the pending formulas, and besides in the number of different atoms that are undecided,
+/// times the size of those pending formulas that one literal more could refute: no formula that is judged yes, and no `or`
+/// with two undecided members.
 pub fn next_atom(terms: &Terms, branch: &mut Branch) -> Result<Option<u32>, NoMemory>
     requires { IsBranch terms.now branch.old }
     ensures value { IfOk result (λ o. option_map (tree_at terms.now) o ≡ splitting.next_atom (seen_branch (tree_at terms.now) branch.old)) }
@@ -171,8 +203,8 @@ pub fn next_atom(terms: &Terms, branch: &mut Branch) -> Result<Option<u32>, NoMe
     ensures branch { OnOk result (IsBranch terms.now branch.new) }
     ensures below { IfOk result (λ o. IfSome o (λ a. a < length terms.now)) }
 {
-    let found = pending_atoms(terms, branch)?;
-    if let Some(a) = first_forced(terms, branch, &found)? {
+    let left = unmet(terms, branch)?;
+    if let Some(a) = forced_atom(terms, branch, &left)? {
         return Ok(Some(a));
     }
     first_open(terms, branch)

@@ -6,7 +6,7 @@ ghost use Rattle.wy_judging.specs.Seen.{IsBranch, seen_branch};
 ghost use Rattle.wy_search.specs.Classes as classes;
 ghost use Rattle.wy_term.specs.Nodes.{tree_at};
 
-use crate::congruent::are_congruent;
+use crate::congruent::{are_congruent, is_bare};
 use crate::labels::{are_same, copied, first_labels, joined};
 use crate::places::label_of;
 use crate::present::Present;
@@ -91,7 +91,7 @@ fn with_pair(
     }
 }
 
-// So for a term and each that is congruent to it.
+// So for a term and each that is congruent to it. A term without parts is congruent to itself alone.
 fn with_congruent(
     terms: &Terms,
     present: &Present,
@@ -102,6 +102,9 @@ fn with_congruent(
     requires present { IsPresent terms.now present.now }
     ensures { IfOk result (λ made. made.items ≡ classes.with_congruent (terms_of (tree_at terms.now) present.now) labels.items (tree_at terms.now s) (terms_of (tree_at terms.now) present.now)) }
 {
+    if is_bare(terms.node(s)) {
+        return Ok(labels);
+    }
     let mut labels = labels;
     for i in 0..present.numbers.len() {
         labels = with_pair(terms, present, labels, s, present.numbers[i])?;
@@ -144,7 +147,8 @@ fn rounds(terms: &Terms, present: &Present, labels: Vec<u32>) -> Result<Vec<u32>
 }
 
 /// The labels of the terms' classes in the least congruence that has the node's equations: two terms present have the same
-/// label where they are in one class. A round compares each term with each, and joins two classes unless it is the last.
+/// label where they are in one class. A round compares each term that has parts with each, in constant time where their
+/// nodes are of two kinds or their first arguments are in two classes, and joins two classes unless it is the last.
 pub fn classes(terms: &Terms, branch: &Branch, present: &Present) -> Result<Vec<u32>, NoMemory>
     requires branch { IsBranch terms.now branch.now }
     requires present { IsPresent terms.now present.now }

@@ -1,6 +1,6 @@
 //! Terms of one head, whose arguments are pairwise in one class.
-ghost use Rattle.std.specs.Prelude.{◌≡◌, ◌<◌, length, IfOk};
-ghost use Rattle.wy_classes.specs.Heads.{tag_of};
+ghost use Rattle.std.specs.Prelude.{◌≡◌, ◌<◌, [], true, false, length, IfOk, IfSome};
+ghost use Rattle.wy_classes.specs.Heads.{tag_of, BeginsWith};
 ghost use Rattle.wy_classes.specs.Seen.{terms_of, IsPresent};
 ghost use Rattle.wy_judging.specs.Seen.{AreBelow};
 ghost use Rattle.wy_search.specs.Classes as classes;
@@ -41,6 +41,31 @@ fn tag(node: &Node) -> u8
         Node::Field(_, _) => 20,
         Node::SetField(_, _, _) => 21,
         _ => 22,
+    }
+}
+
+/// Whether a node is seen to have no parts.
+pub fn is_bare(node: &Node) -> bool
+    ensures { result ≡ true → (plain node.now).parts ≡ [] }
+{
+    match node {
+        Node::Number(_) | Node::IntName(_, _) | Node::ValName(_, _) => true,
+        Node::Null | Node::Bool(_) => true,
+        _ => false,
+    }
+}
+
+// The first part of a node, where it is an operation.
+fn first_part(node: &Node) -> Option<u32>
+    ensures { IfSome result (BeginsWith (plain node.now).parts) }
+{
+    match node {
+        Node::Add(s, _) | Node::Sub(s, _) | Node::Mul(s, _) => Some(*s),
+        Node::Div(s, _) | Node::Mod(s, _) | Node::Neg(s) => Some(*s),
+        Node::Num(v) | Node::Len(v) | Node::Int(v) => Some(*v),
+        Node::Repeat(v, _) | Node::Get(v, _) | Node::Update(v, _, _) => Some(*v),
+        Node::Field(v, _) | Node::SetField(v, _, _) => Some(*v),
+        _ => None,
     }
 }
 
@@ -99,7 +124,23 @@ fn alike(terms: &Terms, present: &Present, labels: &[u32], s: u32, t: u32) -> Re
     Ok(arguments_equal(terms, present, labels, &ss, &ts))
 }
 
-/// Whether two terms have one head, and arguments that are pairwise in one class, in time linear in how many these are.
+// Whether the first arguments of two terms are seen to be in two classes.
+fn are_parted(terms: &Terms, present: &Present, labels: &[u32], s: u32, t: u32) -> bool
+    requires first { s < length terms.now }
+    requires second { t < length terms.now }
+    requires present { IsPresent terms.now present.now }
+    ensures { result ≡ true → classes.are_congruent (terms_of (tree_at terms.now) present.now) labels.now (tree_at terms.now s) (tree_at terms.now t) ≡ false }
+{
+    match (first_part(terms.node(s)), first_part(terms.node(t))) {
+        (Some(p), Some(q)) => !in_one_class(terms, present, labels, p, q),
+        (Some(_), None) => false,
+        (None, _) => false,
+    }
+}
+
+/// Whether two terms have one head, and arguments that are pairwise in one class, in time linear in how many these are. It
+/// takes constant time on average, and no memory, where their nodes are of two kinds or the first arguments of operations
+/// are in two classes.
 pub fn are_congruent(
     terms: &Terms,
     present: &Present,
@@ -113,6 +154,9 @@ pub fn are_congruent(
     ensures { IfOk result (λ yes. yes ≡ classes.are_congruent (terms_of (tree_at terms.now) present.now) labels.now (tree_at terms.now s) (tree_at terms.now t)) }
 {
     if tag(terms.node(s)) != tag(terms.node(t)) {
+        return Ok(false);
+    }
+    if are_parted(terms, present, labels, s, t) {
         return Ok(false);
     }
     alike(terms, present, labels, s, t)

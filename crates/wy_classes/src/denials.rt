@@ -63,6 +63,9 @@ fn constants_apart(terms: &Terms, present: &Present, labels: &[u32], s: u32) -> 
     requires present { IsPresent terms.now present.now }
     ensures { result ≡ classes.constants_apart (terms_of (tree_at terms.now) present.now) labels.now (tree_at terms.now s) (terms_of (tree_at terms.now) present.now) }
 {
+    if constant_at(terms, s).is_none() {
+        return false;
+    }
     for i in 0..present.numbers.len() {
         if are_clashing(terms, present, labels, s, present.numbers[i]) {
             return true;
@@ -71,7 +74,7 @@ fn constants_apart(terms: &Terms, present: &Present, labels: &[u32], s: u32) -> 
     false
 }
 
-/// Whether two different constants are in one class. It compares each term with each.
+/// Whether two different constants are in one class. It compares each constant with each term.
 pub fn any_apart(terms: &Terms, present: &Present, labels: &[u32]) -> bool
     requires { IsPresent terms.now present.now }
     ensures { result ≡ classes.any_apart (terms_of (tree_at terms.now) present.now) labels.now (terms_of (tree_at terms.now) present.now) }

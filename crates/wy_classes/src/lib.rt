@@ -1,8 +1,8 @@
 //! On which atom a node of the search splits.
 //!
 //! `atoms` lists the atoms of formulas, each once, in the order in which they appear; `choice` takes the first of them that
-//! is forced, and where none is, the first undecided one of the first formula that is judged open. Which atom that is,
-//! `wy_search` defines.
+//! is forced, and where none is, the first undecided one of the first formula that is judged open. `unmet` has the formulas
+//! that a further literal could refute: those that aren't judged yes. Which atom it is, `wy_search` defines.
 //!
 //! What stands in a node of the search: its terms and formulas without bound names, each once, by first appearance.
 //!
@@ -38,6 +38,7 @@ mod meeting;
 mod places;
 mod present;
 mod task;
+mod unmet;
 mod walk;
 
 pub use choice::next_atom;

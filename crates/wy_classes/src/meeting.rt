@@ -39,10 +39,10 @@ fn meet(
     requires present { IsPresent terms.now present.now }
     ensures { result ≡ meets (in_kinds same) (terms_of (tree_at terms.now) present.now) labels.now (seen_kinded (tree_at terms.now) p.now) (seen_kinded (tree_at terms.now) q.now) }
 {
-    if !in_one_class(terms, present, labels, p.term, q.term) {
+    if !kinds_are(&p.kind, &q.kind, same) {
         return false;
     }
-    kinds_are(&p.kind, &q.kind, same)
+    in_one_class(terms, present, labels, p.term, q.term)
 }
 
 // So of one and one of these.

@@ -1,5 +1,5 @@
 -- An expression has few steps for each of its ticks.
-use Rattle.std.proofs.Common.{◌≤◌, ◌+◌, ◌*◌, ℕ, suc, Bool, true, false, List, [], ◌∷◌, ◌++◌, length, arith, length-append}
+use Rattle.std.proofs.Common.{◌≤◌, ◌+◌, ◌*◌, ℕ, suc, Bool, true, false, Option, Some, None, List, [], ◌∷◌, ◌++◌, length, arith, length-append}
 use Rattle.wy_core.specs.CoreTree.{Expr, NullExpr, BoolExpr, IntExpr, VarExpr, CallExpr, NegExpr, NotExpr, LenExpr, BinaryExpr, IsExpr, IndexExpr, FieldExpr, ListExpr, RepeatExpr, RecordExpr, QuantExpr, Exprs, NoExprs, MoreExprs, Fields, NoFields, MoreFields}
 use Rattle.wy_core.specs.Types.{Ty}
 use Rattle.wy_core.specs.declared.expressions.Op.{Op}
@@ -17,7 +17,8 @@ use Rattle.wy_pieces.specs.declared.steps.Step.{Step}
 use Rattle.wy_pieces.specs.declared.steps.Step.TheVariants.{Does, GoesOn}
 use Rattle.wy_pieces.specs.Steps.{dropped, fork}
 use Rattle.wy_compiled.specs.TypeTests.{test}
-use Rattle.wy_compiled.specs.Expressions.{lost, released, is_plain, release_unless, equal, operator, operate, right_register, call, count_of, is_test, negated, list, record_of, turn_end, said, ends, number_turns, quantify, code, codes, field_codes}
+use Rattle.wy_compiled.specs.Operands.{variable_in, read, first_read, second_read, standing, unless_read, plain_or_read}
+use Rattle.wy_compiled.specs.Expressions.{lost, released, is_plain, release_unless, equal, operator, operate, right_register, call, count_of, is_test, tested_read, tested, negated, list, record_of, turn_end, said, ends, number_turns, quantify, code, codes, field_codes}
 use Rattle.wy_code_ints.specs.Ticks.{visits, ticks, all_ticks, field_ticks}
 use Rattle.wy_code_ints.proofs.PieceLemmas.{clear_small, fork_small, turns_small}
 use Rattle.wy_code_ints.proofs.TypeLemmas.{test_small}
@@ -29,27 +30,32 @@ pub release_small : (plain : Bool) (r : ℕ) → length (release_unless plain r)
 release_small true r = omega arith
 release_small false r = omega arith
 
+-- an operand that is read in its register has no steps
+pub operand_small : (o : Option ℕ) (steps : List Step) (n : ℕ) → length steps + 2 ≤ n → length (unless_read o steps) + 2 ≤ n
+operand_small None steps n h = h
+operand_small (Some x) steps n h = omega arith
+
 -- ---- operators
 
 behind_small : (right tail : List Step) → length tail ≤ 2 → length (right ++ tail) ≤ length right + 3
 behind_small right tail h = omega (arith, length-append right tail)
 
-equal_small : (plain : Bool) (d : ℕ) → length (equal plain d) ≤ 2
-equal_small plain d = let h : length (release_unless plain (suc d)) ≤ 1 = release_small plain (suc d) in omega arith
+equal_small : (plain : Bool) (d l r : ℕ) → length (equal plain d l r) ≤ 2
+equal_small plain d l r = let h : length (release_unless plain r) ≤ 1 = release_small plain r in omega arith
 
-operate_small : (o : Op) (d : ℕ) (right skipped : List Step) (plain : Bool) → length skipped ≤ 1 → length (operate o d right skipped plain) ≤ length right + 3
-operate_small op.Add d right skipped plain h = behind_small right (operator op.Add d plain) (omega arith)
-operate_small op.Sub d right skipped plain h = behind_small right (operator op.Sub d plain) (omega arith)
-operate_small op.Mul d right skipped plain h = behind_small right (operator op.Mul d plain) (omega arith)
-operate_small op.Div d right skipped plain h = behind_small right (operator op.Div d plain) (omega arith)
-operate_small op.Mod d right skipped plain h = behind_small right (operator op.Mod d plain) (omega arith)
-operate_small op.Equal d right skipped plain h = behind_small right (operator op.Equal d plain) (equal_small plain d)
-operate_small op.Less d right skipped plain h = behind_small right (operator op.Less d plain) (omega arith)
-operate_small op.LessEqual d right skipped plain h = behind_small right (operator op.LessEqual d plain) (omega arith)
-operate_small op.Greater d right skipped plain h = behind_small right (operator op.Greater d plain) (omega arith)
-operate_small op.GreaterEqual d right skipped plain h = behind_small right (operator op.GreaterEqual d plain) (omega arith)
-operate_small op.And d right skipped plain h = let k : length (fork d right []) ≤ length right + 0 + 2 = fork_small d right [] in omega (arith, length-append (fork d right []) skipped)
-operate_small op.Or d right skipped plain h = let k : length (fork d skipped right) ≤ length skipped + length right + 2 = fork_small d skipped right in omega arith
+operate_small : (o : Op) (d l r : ℕ) (right skipped : List Step) (plain : Bool) → length skipped ≤ 1 → length (operate o d l r right skipped plain) ≤ length right + 3
+operate_small op.Add d l r right skipped plain h = behind_small right (operator op.Add d l r plain) (omega arith)
+operate_small op.Sub d l r right skipped plain h = behind_small right (operator op.Sub d l r plain) (omega arith)
+operate_small op.Mul d l r right skipped plain h = behind_small right (operator op.Mul d l r plain) (omega arith)
+operate_small op.Div d l r right skipped plain h = behind_small right (operator op.Div d l r plain) (omega arith)
+operate_small op.Mod d l r right skipped plain h = behind_small right (operator op.Mod d l r plain) (omega arith)
+operate_small op.Equal d l r right skipped plain h = behind_small right (operator op.Equal d l r plain) (equal_small plain d l r)
+operate_small op.Less d l r right skipped plain h = behind_small right (operator op.Less d l r plain) (omega arith)
+operate_small op.LessEqual d l r right skipped plain h = behind_small right (operator op.LessEqual d l r plain) (omega arith)
+operate_small op.Greater d l r right skipped plain h = behind_small right (operator op.Greater d l r plain) (omega arith)
+operate_small op.GreaterEqual d l r right skipped plain h = behind_small right (operator op.GreaterEqual d l r plain) (omega arith)
+operate_small op.And d l r right skipped plain h = let k : length (fork d right []) ≤ length right + 0 + 2 = fork_small d right [] in omega (arith, length-append (fork d right []) skipped)
+operate_small op.Or d l r right skipped plain h = let k : length (fork d skipped right) ≤ length skipped + length right + 2 = fork_small d skipped right in omega arith
 
 call_small : (t : Target) (f d count : ℕ) → length (call t f d count) ≤ 2
 call_small (Declared gives) f d count = omega arith
@@ -61,6 +67,11 @@ is_small : (c : Context) (ty : Ty) (d : ℕ) → length (is_test c ty d) + 1 ≤
 is_small c ty d =
     let h : length (test c ty d (suc d) (suc (suc d))) + 4 ≤ 16 * visits ty = test_small c ty d (suc d) (suc (suc d)) in
     omega (arith, length-append (test c ty d (suc d) (suc (suc d))) (dropped d (suc (suc d)) ++ Does (instr.Move d (suc d)) ∷ []))
+
+tested_small : (c : Context) (ty : Ty) (o : Option ℕ) (d : ℕ) → length (tested c ty o d) + 1 ≤ 16 * visits ty
+tested_small c ty None d = is_small c ty d
+tested_small c ty (Some x) d =
+    let h : length (test c ty x (suc d) (suc (suc d))) + 4 ≤ 16 * visits ty = test_small c ty x (suc d) (suc (suc d)) in omega (arith, length-append (test c ty x (suc d) (suc (suc d))) (Does (instr.Move d (suc d)) ∷ []))
 
 -- ---- quantifiers
 
@@ -120,19 +131,24 @@ mutual
   expr_small c (CallExpr at f args) s d =
       let xs = codes c args s d in let ys = call (target c.results f) f d (count_of args) in
       more_small (length (xs ++ ys) + 2) (all_ticks args) (row_small xs ys (all_ticks args) (codes_small c args s d) (call_small (target c.results f) f d (count_of args)))
-  expr_small c (NegExpr at a) s d = after_small (code c a s d) (negated d) (ticks a) (expr_small c a s d) (omega arith)
-  expr_small c (NotExpr at a) s d = after_small (code c a s d) (Does (instr.Not d d) ∷ []) (ticks a) (expr_small c a s d) (omega arith)
-  expr_small c (LenExpr at a) s d = after_small (code c a s d) (Does (instr.Len d d) ∷ []) (ticks a) (expr_small c a s d) (omega arith)
+  expr_small c (NegExpr at a) s d = after_small (unless_read (variable_in a) (code c a s d)) (negated d (standing (variable_in a) d)) (ticks a) (operand_small (variable_in a) (code c a s d) (16 * ticks a) (expr_small c a s d)) (omega arith)
+  expr_small c (NotExpr at a) s d = after_small (unless_read (variable_in a) (code c a s d)) (Does (instr.Not d (standing (variable_in a) d)) ∷ []) (ticks a) (operand_small (variable_in a) (code c a s d) (16 * ticks a) (expr_small c a s d)) (omega arith)
+  expr_small c (LenExpr at a) s d = after_small (unless_read (read a s) (code c a s d)) (Does (instr.Len d (standing (read a s) d)) ∷ []) (ticks a) (operand_small (read a s) (code c a s d) (16 * ticks a) (expr_small c a s d)) (omega arith)
   expr_small c (BinaryExpr at o a b) s d =
-      let ys = code c b s (right_register o d) in
-      both_small (code c a (before b s) d) (operate o d ys (released (before b s) s) (is_plain b)) (length ys) (ticks a) (ticks b) (expr_small c a (before b s) d)
-      (operate_small o d ys (released (before b s) s) (is_plain b) (released_small (before b s) s)) (expr_small c b s (right_register o d))
-  expr_small c (IsExpr at a ty) s d = is_sum (code c a s d) (is_test c ty d) (ticks a) (visits ty) (expr_small c a s d) (is_small c ty d)
+      let one = first_read o a b s in let two = second_read o b s in let xs = code c a (before b s) d in let right = code c b s (right_register o d) in let ys = unless_read two right in
+      let l = standing one d in let r = standing two (right_register o d) in let plain = plain_or_read two (is_plain b) in
+      both_small (unless_read one xs) (operate o d l r ys (released (before b s) s) plain) (length ys) (ticks a) (ticks b) (operand_small one xs (16 * ticks a) (expr_small c a (before b s) d))
+      (operate_small o d l r ys (released (before b s) s) plain (released_small (before b s) s)) (operand_small two right (16 * ticks b) (expr_small c b s (right_register o d)))
+  expr_small c (IsExpr at a ty) s d =
+      let one = tested_read ty a s in
+      is_sum (unless_read one (code c a s d)) (tested c ty one d) (ticks a) (visits ty) (operand_small one (code c a s d) (16 * ticks a) (expr_small c a s d)) (tested_small c ty one d)
   expr_small c (IndexExpr at a b) s d =
-      let ys = code c b s (suc d) in
-      both_small (code c a (before b s) d) (ys ++ Does (instr.Get d d (suc d)) ∷ []) (length ys) (ticks a) (ticks b) (expr_small c a (before b s) d)
-      (behind_small ys (Does (instr.Get d d (suc d)) ∷ []) (omega arith)) (expr_small c b s (suc d))
-  expr_small c (FieldExpr at a name) s d = after_small (code c a s d) (Does (instr.Field d d (number_of name c.table.names)) ∷ []) (ticks a) (expr_small c a s d) (omega arith)
+      let xs = code c a (before b s) d in let ys = unless_read (variable_in b) (code c b s (suc d)) in
+      let get = Does (instr.Get d (standing (read a s) d) (standing (variable_in b) (suc d))) ∷ [] in
+      both_small (unless_read (read a s) xs) (ys ++ get) (length ys) (ticks a) (ticks b) (operand_small (read a s) xs (16 * ticks a) (expr_small c a (before b s) d))
+      (behind_small ys get (omega arith)) (operand_small (variable_in b) (code c b s (suc d)) (16 * ticks b) (expr_small c b s (suc d)))
+  expr_small c (FieldExpr at a name) s d =
+      after_small (unless_read (read a s) (code c a s d)) (Does (instr.Field d (standing (read a s) d) (number_of name c.table.names)) ∷ []) (ticks a) (operand_small (read a s) (code c a s d) (16 * ticks a) (expr_small c a s d)) (omega arith)
   expr_small c (ListExpr at items) s d = row_small (codes c items s d) (list (count_of items) d) (all_ticks items) (codes_small c items s d) (omega arith)
   expr_small c (RepeatExpr at a b) s d =
       let ys = code c b s (suc d) in

@@ -1,5 +1,5 @@
 -- Each number that the code of a type or an expression puts into a register is an `int`.
-use Rattle.std.proofs.Common.{ℕ, suc, List, [], ◌∷◌, ◌++◌, length, Bool, true, false, not, cond, pos, arith, rules}
+use Rattle.std.proofs.Common.{ℕ, suc, List, [], ◌∷◌, ◌++◌, length, Bool, true, false, not, cond, Option, Some, None, pos, arith, rules}
 use Rattle.std.proofs.lemmas.Int.{ints}
 use Rattle.wy_core.specs.Types.{Ty, NullTy, BoolTy, IntTy, AnyTy, VoidTy, RecordTy, ArrayTy, UnionTy, InterTy, NotTy, NamedTy, NormalTy, FieldTys, NoFieldTys, MoreFieldTys}
 use Rattle.wy_core.specs.CoreTree.{Expr, NullExpr, BoolExpr, IntExpr, VarExpr, CallExpr, NegExpr, NotExpr, LenExpr, BinaryExpr, IsExpr, IndexExpr, FieldExpr, ListExpr, RepeatExpr, RecordExpr, QuantExpr, Exprs, NoExprs, MoreExprs, Fields, NoFields, MoreFields}
@@ -19,6 +19,7 @@ use Rattle.wy_tables.specs.declared.targets.Target.TheVariants.{Declared, Prints
 use Rattle.wy_tables.specs.Tables.{target}
 use Rattle.wy_formed.specs.Literals.{IsInt, IntsExpr, IntsExprs, IntsFields}
 use Rattle.wy_compiled.specs.TypeTests as test
+use Rattle.wy_compiled.specs.Operands.{variable_in, read, first_read, second_read, standing, unless_read, plain_or_read}
 use Rattle.wy_compiled.specs.Expressions as spec
 use Rattle.wy_code_ints.specs.Loadable.{PutsInt}
 
@@ -103,33 +104,43 @@ pub unless_ints : (plain : Bool) (r : ℕ) → AllPut (spec.release_unless plain
 unless_ints true r = tt
 unless_ints false r = (tt, tt)
 
-operator_ints : (o : Op) (d : ℕ) (plain : Bool) → AllPut (spec.operator o d plain)
-operator_ints op.Add d plain = (tt, tt)
-operator_ints op.Sub d plain = (tt, tt)
-operator_ints op.Mul d plain = (tt, tt)
-operator_ints op.Div d plain = (tt, tt)
-operator_ints op.Mod d plain = (tt, tt)
-operator_ints op.Equal d plain = (tt, unless_ints plain (suc d))
-operator_ints op.Less d plain = (tt, tt)
-operator_ints op.LessEqual d plain = (tt, tt)
-operator_ints op.Greater d plain = (tt, tt)
-operator_ints op.GreaterEqual d plain = (tt, tt)
-operator_ints op.And d plain = tt
-operator_ints op.Or d plain = tt
+-- where an operand is read in its register it has no code
+pub operand_ints : (o : Option ℕ) (steps : List Step) → AllPut steps → AllPut (unless_read o steps)
+operand_ints None steps a = a
+operand_ints (Some x) steps a = tt
 
-operate_ints : (o : Op) (d : ℕ) (right skipped : List Step) (plain : Bool) → AllPut right → AllPut skipped → AllPut (spec.operate o d right skipped plain)
-operate_ints op.Add d right skipped plain h k = ints_append right _ h (operator_ints op.Add d plain)
-operate_ints op.Sub d right skipped plain h k = ints_append right _ h (operator_ints op.Sub d plain)
-operate_ints op.Mul d right skipped plain h k = ints_append right _ h (operator_ints op.Mul d plain)
-operate_ints op.Div d right skipped plain h k = ints_append right _ h (operator_ints op.Div d plain)
-operate_ints op.Mod d right skipped plain h k = ints_append right _ h (operator_ints op.Mod d plain)
-operate_ints op.Equal d right skipped plain h k = ints_append right _ h (operator_ints op.Equal d plain)
-operate_ints op.Less d right skipped plain h k = ints_append right _ h (operator_ints op.Less d plain)
-operate_ints op.LessEqual d right skipped plain h k = ints_append right _ h (operator_ints op.LessEqual d plain)
-operate_ints op.Greater d right skipped plain h k = ints_append right _ h (operator_ints op.Greater d plain)
-operate_ints op.GreaterEqual d right skipped plain h k = ints_append right _ h (operator_ints op.GreaterEqual d plain)
-operate_ints op.And d right skipped plain h k = ints_append (fork d right []) skipped (fork_ints d right [] h tt) k
-operate_ints op.Or d right skipped plain h k = fork_ints d skipped right k h
+operator_ints : (o : Op) (d l r : ℕ) (plain : Bool) → AllPut (spec.operator o d l r plain)
+operator_ints op.Add d l r plain = (tt, tt)
+operator_ints op.Sub d l r plain = (tt, tt)
+operator_ints op.Mul d l r plain = (tt, tt)
+operator_ints op.Div d l r plain = (tt, tt)
+operator_ints op.Mod d l r plain = (tt, tt)
+operator_ints op.Equal d l r plain = (tt, unless_ints plain r)
+operator_ints op.Less d l r plain = (tt, tt)
+operator_ints op.LessEqual d l r plain = (tt, tt)
+operator_ints op.Greater d l r plain = (tt, tt)
+operator_ints op.GreaterEqual d l r plain = (tt, tt)
+operator_ints op.And d l r plain = tt
+operator_ints op.Or d l r plain = tt
+
+operate_ints : (o : Op) (d l r : ℕ) (right skipped : List Step) (plain : Bool) → AllPut right → AllPut skipped → AllPut (spec.operate o d l r right skipped plain)
+operate_ints op.Add d l r right skipped plain h k = ints_append right _ h (operator_ints op.Add d l r plain)
+operate_ints op.Sub d l r right skipped plain h k = ints_append right _ h (operator_ints op.Sub d l r plain)
+operate_ints op.Mul d l r right skipped plain h k = ints_append right _ h (operator_ints op.Mul d l r plain)
+operate_ints op.Div d l r right skipped plain h k = ints_append right _ h (operator_ints op.Div d l r plain)
+operate_ints op.Mod d l r right skipped plain h k = ints_append right _ h (operator_ints op.Mod d l r plain)
+operate_ints op.Equal d l r right skipped plain h k = ints_append right _ h (operator_ints op.Equal d l r plain)
+operate_ints op.Less d l r right skipped plain h k = ints_append right _ h (operator_ints op.Less d l r plain)
+operate_ints op.LessEqual d l r right skipped plain h k = ints_append right _ h (operator_ints op.LessEqual d l r plain)
+operate_ints op.Greater d l r right skipped plain h k = ints_append right _ h (operator_ints op.Greater d l r plain)
+operate_ints op.GreaterEqual d l r right skipped plain h k = ints_append right _ h (operator_ints op.GreaterEqual d l r plain)
+operate_ints op.And d l r right skipped plain h k = ints_append (fork d right []) skipped (fork_ints d right [] h tt) k
+operate_ints op.Or d l r right skipped plain h k = fork_ints d skipped right k h
+
+-- a test, where it leaves the value in its register or releases it
+pub tested_ints : (c : Context) (ty : Ty) (o : Option ℕ) (d : ℕ) → AllPut (spec.tested c ty o d)
+tested_ints c ty None d = ints_append (test.test c ty d (suc d) (suc (suc d))) _ (test_ints c ty d (suc d) (suc (suc d))) (tt, (tt, (tt, tt)))
+tested_ints c ty (Some x) d = ints_append (test.test c ty x (suc d) (suc (suc d))) _ (test_ints c ty x (suc d) (suc (suc d))) (tt, tt)
 
 call_ints : (to : Target) (f d count : ℕ) → AllPut (spec.call to f d count)
 call_ints (Declared gives) f d count = (tt, tt)
@@ -167,16 +178,21 @@ mutual
   code_ints c (IntExpr at number) s d h = (h, tt)
   code_ints c (VarExpr at x) s d h = use_ints (has s x) d x
   code_ints c (CallExpr at f args) s d h = ints_append (spec.codes c args s d) _ (codes_ints c args s d h) (call_ints (target c.results f) f d (spec.count_of args))
-  code_ints c (NegExpr at a) s d h = ints_append (spec.code c a s d) _ (code_ints c a s d h) (zero-int, (tt, tt))
-  code_ints c (NotExpr at a) s d h = ints_append (spec.code c a s d) _ (code_ints c a s d h) (tt, tt)
-  code_ints c (LenExpr at a) s d h = ints_append (spec.code c a s d) _ (code_ints c a s d h) (tt, tt)
+  code_ints c (NegExpr at a) s d h = ints_append (unless_read (variable_in a) (spec.code c a s d)) _ (operand_ints (variable_in a) (spec.code c a s d) (code_ints c a s d h)) (zero-int, (tt, tt))
+  code_ints c (NotExpr at a) s d h = ints_append (unless_read (variable_in a) (spec.code c a s d)) _ (operand_ints (variable_in a) (spec.code c a s d) (code_ints c a s d h)) (tt, tt)
+  code_ints c (LenExpr at a) s d h = ints_append (unless_read (read a s) (spec.code c a s d)) _ (operand_ints (read a s) (spec.code c a s d) (code_ints c a s d h)) (tt, tt)
   code_ints c (BinaryExpr at o x y) s d h =
-      ints_append (spec.code c x (before y s) d) _ (code_ints c x (before y s) d h.0)
-      (operate_ints o d (spec.code c y s (spec.right_register o d)) (spec.released (before y s) s) (spec.is_plain y) (code_ints c y s (spec.right_register o d) h.1) (released_ints (before y s) s))
+      let one = first_read o x y s in let two = second_read o y s in let right = spec.code c y s (spec.right_register o d) in
+      ints_append (unless_read one (spec.code c x (before y s) d)) _ (operand_ints one (spec.code c x (before y s) d) (code_ints c x (before y s) d h.0))
+      (operate_ints o d (standing one d) (standing two (spec.right_register o d)) (unless_read two right) (spec.released (before y s) s) (plain_or_read two (spec.is_plain y))
+      (operand_ints two right (code_ints c y s (spec.right_register o d) h.1)) (released_ints (before y s) s))
   code_ints c (IsExpr at a ty) s d h =
-      ints_append (spec.code c a s d) (spec.is_test c ty d) (code_ints c a s d h) (ints_append (test.test c ty d (suc d) (suc (suc d))) _ (test_ints c ty d (suc d) (suc (suc d))) (tt, (tt, (tt, tt))))
-  code_ints c (IndexExpr at x y) s d h = ints_append (spec.code c x (before y s) d) _ (code_ints c x (before y s) d h.0) (ints_append (spec.code c y s (suc d)) _ (code_ints c y s (suc d) h.1) (tt, tt))
-  code_ints c (FieldExpr at a name) s d h = ints_append (spec.code c a s d) _ (code_ints c a s d h) (tt, tt)
+      let one = spec.tested_read ty a s in
+      ints_append (unless_read one (spec.code c a s d)) (spec.tested c ty one d) (operand_ints one (spec.code c a s d) (code_ints c a s d h)) (tested_ints c ty one d)
+  code_ints c (IndexExpr at x y) s d h =
+      ints_append (unless_read (read x s) (spec.code c x (before y s) d)) _ (operand_ints (read x s) (spec.code c x (before y s) d) (code_ints c x (before y s) d h.0))
+      (ints_append (unless_read (variable_in y) (spec.code c y s (suc d))) _ (operand_ints (variable_in y) (spec.code c y s (suc d)) (code_ints c y s (suc d) h.1)) (tt, tt))
+  code_ints c (FieldExpr at a name) s d h = ints_append (unless_read (read a s) (spec.code c a s d)) _ (operand_ints (read a s) (spec.code c a s d) (code_ints c a s d h)) (tt, tt)
   code_ints c (ListExpr at items) s d h = ints_append (spec.codes c items s d) _ (codes_ints c items s d h) (tt, tt)
   code_ints c (RepeatExpr at x y) s d h = ints_append (spec.code c x (before y s) d) _ (code_ints c x (before y s) d h.0) (ints_append (spec.code c y s (suc d)) _ (code_ints c y s (suc d) h.1) (tt, tt))
   code_ints c (RecordExpr at fs) s d h = ints_append (spec.field_codes c fs s d) _ (field_codes_ints c fs s d h) (tt, tt)

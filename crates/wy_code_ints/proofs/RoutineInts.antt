@@ -11,18 +11,19 @@ use Rattle.wy_code.specs.declared.instructions.Instr.TheVariants as instr
 use Rattle.wy_pieces.specs.declared.steps.Step as steps
 use Rattle.wy_pieces.specs.declared.steps.Step.TheVariants.{Does, GoesOn, GoesBack, GoesOnUnless}
 use Rattle.wy_pieces.specs.Steps.{clear, dropped, fork, over, turns}
-use Rattle.wy_pieces.specs.Placing.{placed, routine_of}
+use Rattle.wy_pieces.specs.Placing.{placed}
 use Rattle.wy_tables.specs.declared.context.Context.{Context}
 use Rattle.wy_tables.specs.declared.targets.Target.{Target}
 use Rattle.wy_tables.specs.declared.targets.Target.TheVariants.{Declared, Prints, PrintsInt, Nothing}
 use Rattle.wy_tables.specs.Tables.{target, context_of}
-use Rattle.wy_formed.specs.Literals.{IntsExpr, IntsExprs, IntsClauses, IntsOption, IntsPath, IntsStmt, IntsStmts, IntsRoutine, Ints}
+use Rattle.wy_formed.specs.Literals.{IntsExpr, IntsClauses, IntsOption, IntsPath, IntsStmt, IntsStmts, Ints}
 use Rattle.wy_compiled.specs.TypeTests as types
+use Rattle.wy_compiled.specs.Operands.{read, unless_read}
 use Rattle.wy_compiled.specs.Expressions.{released, release_unless, is_plain, count_of, code, codes}
 use Rattle.wy_compiled.specs.Statements as spec
 use Rattle.wy_compiled.specs.Programs as programs
 use Rattle.wy_code_ints.specs.Loadable.{PutsInt, PutsInts}
-use Rattle.wy_code_ints.proofs.IntLemmas.{AllPut, ints_append, clear_ints, dropped_ints, fork_ints, turns_ints, released_ints, unless_ints, test_ints, code_ints, codes_ints}
+use Rattle.wy_code_ints.proofs.IntLemmas.{AllPut, ints_append, clear_ints, dropped_ints, fork_ints, turns_ints, released_ints, unless_ints, operand_ints, test_ints, code_ints, codes_ints}
 
 -- ---- statements
 
@@ -40,10 +41,12 @@ declare_ints : (c : Context) (x : ℕ) (value : Option (Expr ℕ)) (s : Variable
 declare_ints c x None s n h = tt
 declare_ints c x (Some e) s n h = set_ints c x e s n h
 
-indices_ints : (c : Context) (path : List (Step ℕ)) (s : Variables) (r : ℕ) → IntsPath path → AllPut (spec.indices c path s r)
-indices_ints c [] s r h = tt
-indices_ints c (IndexStep at e ∷ path) s r h = ints_append (code c e (before_steps path s) r) (spec.indices c path s (suc r)) (code_ints c e (before_steps path s) r h.0) (indices_ints c path s (suc r) h.1)
-indices_ints c (FieldStep at name ∷ path) s r h = indices_ints c path s r h
+indices_ints : (c : Context) (path : List (Step ℕ)) (b s : Variables) (r : ℕ) → IntsPath path → AllPut (spec.indices c path b s r)
+indices_ints c [] b s r h = tt
+indices_ints c (IndexStep at e ∷ path) b s r h =
+    let one = code c e (before_steps path b) r in
+    ints_append (unless_read (read e s) one) (spec.indices c path b s (suc r)) (operand_ints (read e s) one (code_ints c e (before_steps path b) r h.0)) (indices_ints c path b s (suc r) h.1)
+indices_ints c (FieldStep at name ∷ path) b s r h = indices_ints c path b s r h
 
 kept_ints : (x : ℕ) (s : Variables) → AllPut (spec.kept x s)
 kept_ints x s = both (has s x)
@@ -54,7 +57,7 @@ kept_ints x s = both (has s x)
 
 update_ints : (c : Context) (x : ℕ) (path : List (Step ℕ)) (e : Expr ℕ) (s : Variables) (n : ℕ) → IntsPath path → IntsExpr e → AllPut (spec.update c x path e s n)
 update_ints c x path e s n h k =
-    ints_append (spec.indices c path (before e (with s x)) n) _ (indices_ints c path (before e (with s x)) n h)
+    ints_append (spec.indices c path (before e (with s x)) s n) _ (indices_ints c path (before e (with s x)) s n h)
     (ints_append (code c e (with s x) (n + spec.index_count path)) _ (code_ints c e (with s x) (n + spec.index_count path) k) (tt, kept_ints x s))
 
 assign_ints : (c : Context) (x : ℕ) (path : List (Step ℕ)) (e : Expr ℕ) (s : Variables) (n : ℕ) → IntsPath path → IntsExpr e → AllPut (spec.assign c x path e s n)

@@ -13,11 +13,12 @@ use Rattle.wy_tables.specs.Tables.{target}
 use Rattle.wy_pieces.specs.declared.steps.Step.{Step}
 use Rattle.wy_pieces.specs.declared.steps.Step.TheVariants.{Does}
 use Rattle.wy_pieces.specs.Steps.{clear, turns}
+use Rattle.wy_compiled.specs.Operands.{read, unless_read}
 use Rattle.wy_compiled.specs.Expressions.{released, is_plain, release_unless, count_of, code, codes}
 use Rattle.wy_compiled.specs.Statements.{store, set, declare, slots, index_count, indices, kept, update, assign, release_where, call_step, call, give, choice, branches, inside, turn, stmt_code, stmts_code}
 use Rattle.wy_code_ints.specs.Ticks.{ticks, all_ticks, option_ticks, path_ticks, stmt_ticks, stmts_ticks}
 use Rattle.wy_code_ints.proofs.PieceLemmas.{clear_small, cond_small, fork_small, turns_small}
-use Rattle.wy_code_ints.proofs.ExpressionLemmas.{released_small, release_small, expr_small, codes_small}
+use Rattle.wy_code_ints.proofs.ExpressionLemmas.{released_small, release_small, operand_small, expr_small, codes_small}
 
 store_small : (x : ℕ) (s : Variables) (r : ℕ) (plain : Bool) → length (store x s r plain) ≤ 1
 store_small x s r plain = cond_small (has s x) (Does (instr.Move x r) ∷ []) (release_unless plain r) 1 (omega arith) (release_small plain r)
@@ -31,12 +32,14 @@ declare_small : (c : Context) (x : ℕ) (value : Option (Expr ℕ)) (s : Variabl
 declare_small c x None s n = omega arith
 declare_small c x (Some e) s n = set_small c x e s n
 
-indices_small : (c : Context) (path : List (tree.Step ℕ)) (s : Variables) (r : ℕ) → length (indices c path s r) ≤ 16 * path_ticks path
-indices_small c [] s r = omega arith
-indices_small c (IndexStep at e ∷ path) s r =
-    let h : length (code c e (before_steps path s) r) + 2 ≤ 16 * ticks e = expr_small c e (before_steps path s) r in let k : length (indices c path s (suc r)) ≤ 16 * path_ticks path = indices_small c path s (suc r) in
-    omega (arith, length-append (code c e (before_steps path s) r) (indices c path s (suc r)))
-indices_small c (FieldStep at name ∷ path) s r = indices_small c path s r
+indices_small : (c : Context) (path : List (tree.Step ℕ)) (b s : Variables) (r : ℕ) → length (indices c path b s r) ≤ 16 * path_ticks path
+indices_small c [] b s r = omega arith
+indices_small c (IndexStep at e ∷ path) b s r =
+    let one = unless_read (read e s) (code c e (before_steps path b) r) in
+    let h : length one + 2 ≤ 16 * ticks e = operand_small (read e s) (code c e (before_steps path b) r) (16 * ticks e) (expr_small c e (before_steps path b) r) in
+    let k : length (indices c path b s (suc r)) ≤ 16 * path_ticks path = indices_small c path b s (suc r) in
+    omega (arith, length-append one (indices c path b s (suc r)))
+indices_small c (FieldStep at name ∷ path) b s r = indices_small c path b s r
 
 kept_small : (x : ℕ) (s : Variables) → length (kept x s) ≤ 1
 kept_small x s = cond_small (has s x) [] (clear (x ∷ [])) 1 (omega arith) (clear_small (x ∷ []))
@@ -46,8 +49,8 @@ update_sum xs ys zs i t u h k l = omega (arith, length-append xs (ys ++ i ∷ zs
 
 update_small : (c : Context) (x : ℕ) (path : List (tree.Step ℕ)) (e : Expr ℕ) (s : Variables) (n : ℕ) → length (update c x path e s n) ≤ 16 * suc (path_ticks path + ticks e)
 update_small c x path e s n =
-    update_sum (indices c path (before e (with s x)) n) (code c e (with s x) (n + index_count path)) (kept x s) (Does (instr.Put x (slots c path n) (n + index_count path))) (path_ticks path) (ticks e)
-    (indices_small c path (before e (with s x)) n) (expr_small c e (with s x) (n + index_count path)) (kept_small x s)
+    update_sum (indices c path (before e (with s x)) s n) (code c e (with s x) (n + index_count path)) (kept x s) (Does (instr.Put x (slots c path s n) (n + index_count path))) (path_ticks path) (ticks e)
+    (indices_small c path (before e (with s x)) s n) (expr_small c e (with s x) (n + index_count path)) (kept_small x s)
 
 assign_small : (c : Context) (x : ℕ) (path : List (tree.Step ℕ)) (e : Expr ℕ) (s : Variables) (n : ℕ) → length (assign c x path e s n) ≤ 16 * suc (path_ticks path + ticks e)
 assign_small c x [] e s n = let h : length (set c x e s n) ≤ 16 * suc (ticks e) = set_small c x e s n in omega arith

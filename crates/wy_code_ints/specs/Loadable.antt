@@ -1,5 +1,5 @@
 -- What does a machine ask of code?
-use Rattle.std.specs.Prelude.{ℕ, All}
+use Rattle.std.specs.Prelude.{All}
 use Rattle.wy_code.specs.declared.instructions.Scalar.{Scalar}
 use Rattle.wy_code.specs.declared.instructions.Scalar.TheVariants as scalar
 use Rattle.wy_code.specs.declared.instructions.Instr.{Instr}

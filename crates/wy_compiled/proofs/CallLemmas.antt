@@ -1,5 +1,5 @@
 -- Each instruction calls a routine of the program.
-use Rattle.std.proofs.Common.{◌≡◌, ◌<◌, ◌+◌, ℕ, zero, suc, List, [], ◌∷◌, ◌++◌, length, Bool, true, false, not, cond, pos, refl, arith}
+use Rattle.std.proofs.Common.{◌≡◌, ◌<◌, ◌+◌, ℕ, zero, suc, List, [], ◌∷◌, ◌++◌, length, Bool, true, false, not, cond, Option, Some, None, pos, refl, arith}
 use Rattle.wy_core.specs.Types.{Ty, NullTy, BoolTy, IntTy, AnyTy, VoidTy, RecordTy, ArrayTy, UnionTy, InterTy, NotTy, NamedTy, NormalTy, FieldTys, NoFieldTys, MoreFieldTys}
 use Rattle.wy_core.specs.CoreTree.{Expr, NullExpr, BoolExpr, IntExpr, VarExpr, CallExpr, NegExpr, NotExpr, LenExpr, BinaryExpr, IsExpr, IndexExpr, FieldExpr, ListExpr, RepeatExpr, RecordExpr, QuantExpr, Exprs, NoExprs, MoreExprs, Fields, NoFields, MoreFields}
 use Rattle.wy_core.specs.declared.expressions.Op.{Op}
@@ -17,6 +17,7 @@ use Rattle.wy_tables.specs.declared.targets.Target.{Target}
 use Rattle.wy_tables.specs.declared.targets.Target.TheVariants.{Declared, Prints, PrintsInt, Nothing}
 use Rattle.wy_tables.specs.Tables.{target}
 use Rattle.wy_compiled.specs.TypeTests as test
+use Rattle.wy_compiled.specs.Operands.{variable_in, read, first_read, second_read, standing, unless_read, plain_or_read}
 use Rattle.wy_compiled.specs.Expressions as spec
 use Rattle.wy_formed.specs.Offers.{Offers}
 use Rattle.wy_formed.specs.Bound.{Scope, BoundTy, BoundFieldTys, BoundExpr, BoundExprs, BoundFields}
@@ -101,33 +102,38 @@ pub unless_calls : (t : ℕ) (plain : Bool) (r : ℕ) → AllCall t (spec.releas
 unless_calls t true r = tt
 unless_calls t false r = (tt, tt)
 
-operator_calls : (t : ℕ) (o : Op) (d : ℕ) (plain : Bool) → AllCall t (spec.operator o d plain)
-operator_calls t op.Add d plain = (tt, tt)
-operator_calls t op.Sub d plain = (tt, tt)
-operator_calls t op.Mul d plain = (tt, tt)
-operator_calls t op.Div d plain = (tt, tt)
-operator_calls t op.Mod d plain = (tt, tt)
-operator_calls t op.Equal d plain = (tt, unless_calls t plain (suc d))
-operator_calls t op.Less d plain = (tt, tt)
-operator_calls t op.LessEqual d plain = (tt, tt)
-operator_calls t op.Greater d plain = (tt, tt)
-operator_calls t op.GreaterEqual d plain = (tt, tt)
-operator_calls t op.And d plain = tt
-operator_calls t op.Or d plain = tt
+-- where an operand is read in its register it has no code
+pub operand_calls : (t : ℕ) (o : Option ℕ) (steps : List Step) → AllCall t steps → AllCall t (unless_read o steps)
+operand_calls t None steps a = a
+operand_calls t (Some x) steps a = tt
 
-operate_calls : (t : ℕ) (o : Op) (d : ℕ) (right skipped : List Step) (plain : Bool) → AllCall t right → AllCall t skipped → AllCall t (spec.operate o d right skipped plain)
-operate_calls t op.Add d right skipped plain h k = calls_append t right _ h (operator_calls t op.Add d plain)
-operate_calls t op.Sub d right skipped plain h k = calls_append t right _ h (operator_calls t op.Sub d plain)
-operate_calls t op.Mul d right skipped plain h k = calls_append t right _ h (operator_calls t op.Mul d plain)
-operate_calls t op.Div d right skipped plain h k = calls_append t right _ h (operator_calls t op.Div d plain)
-operate_calls t op.Mod d right skipped plain h k = calls_append t right _ h (operator_calls t op.Mod d plain)
-operate_calls t op.Equal d right skipped plain h k = calls_append t right _ h (operator_calls t op.Equal d plain)
-operate_calls t op.Less d right skipped plain h k = calls_append t right _ h (operator_calls t op.Less d plain)
-operate_calls t op.LessEqual d right skipped plain h k = calls_append t right _ h (operator_calls t op.LessEqual d plain)
-operate_calls t op.Greater d right skipped plain h k = calls_append t right _ h (operator_calls t op.Greater d plain)
-operate_calls t op.GreaterEqual d right skipped plain h k = calls_append t right _ h (operator_calls t op.GreaterEqual d plain)
-operate_calls t op.And d right skipped plain h k = calls_append t (fork d right []) skipped (fork_calls t d right [] h tt) k
-operate_calls t op.Or d right skipped plain h k = fork_calls t d skipped right k h
+operator_calls : (t : ℕ) (o : Op) (d l r : ℕ) (plain : Bool) → AllCall t (spec.operator o d l r plain)
+operator_calls t op.Add d l r plain = (tt, tt)
+operator_calls t op.Sub d l r plain = (tt, tt)
+operator_calls t op.Mul d l r plain = (tt, tt)
+operator_calls t op.Div d l r plain = (tt, tt)
+operator_calls t op.Mod d l r plain = (tt, tt)
+operator_calls t op.Equal d l r plain = (tt, unless_calls t plain r)
+operator_calls t op.Less d l r plain = (tt, tt)
+operator_calls t op.LessEqual d l r plain = (tt, tt)
+operator_calls t op.Greater d l r plain = (tt, tt)
+operator_calls t op.GreaterEqual d l r plain = (tt, tt)
+operator_calls t op.And d l r plain = tt
+operator_calls t op.Or d l r plain = tt
+
+operate_calls : (t : ℕ) (o : Op) (d l r : ℕ) (right skipped : List Step) (plain : Bool) → AllCall t right → AllCall t skipped → AllCall t (spec.operate o d l r right skipped plain)
+operate_calls t op.Add d l r right skipped plain h k = calls_append t right _ h (operator_calls t op.Add d l r plain)
+operate_calls t op.Sub d l r right skipped plain h k = calls_append t right _ h (operator_calls t op.Sub d l r plain)
+operate_calls t op.Mul d l r right skipped plain h k = calls_append t right _ h (operator_calls t op.Mul d l r plain)
+operate_calls t op.Div d l r right skipped plain h k = calls_append t right _ h (operator_calls t op.Div d l r plain)
+operate_calls t op.Mod d l r right skipped plain h k = calls_append t right _ h (operator_calls t op.Mod d l r plain)
+operate_calls t op.Equal d l r right skipped plain h k = calls_append t right _ h (operator_calls t op.Equal d l r plain)
+operate_calls t op.Less d l r right skipped plain h k = calls_append t right _ h (operator_calls t op.Less d l r plain)
+operate_calls t op.LessEqual d l r right skipped plain h k = calls_append t right _ h (operator_calls t op.LessEqual d l r plain)
+operate_calls t op.Greater d l r right skipped plain h k = calls_append t right _ h (operator_calls t op.Greater d l r plain)
+operate_calls t op.GreaterEqual d l r right skipped plain h k = calls_append t right _ h (operator_calls t op.GreaterEqual d l r plain)
+operate_calls t op.And d l r right skipped plain h k = calls_append t (fork d right []) skipped (fork_calls t d right [] h tt) k
+operate_calls t op.Or d l r right skipped plain h k = fork_calls t d skipped right k h
 
 pub called_within : (results : List Bool) (f : ℕ) (gives : Bool) → target results f ≡ Declared gives → f < length results
 called_within [] zero gives h = cc
@@ -135,6 +141,11 @@ called_within [] (suc zero) gives h = cc
 called_within [] (suc (suc f)) gives h = cc
 called_within (b ∷ bs) zero gives h = omega arith
 called_within (b ∷ bs) (suc f) gives h = let l : f < length bs = called_within bs f gives h in omega arith
+
+-- a test, where it leaves the value in its register or releases it
+pub tested_calls : (c : Context) (k : ℕ) (ty : Ty) (o : Option ℕ) (d : ℕ) → BoundTy k ty → AllCall (length c.results + k) (spec.tested c ty o d)
+tested_calls c k ty None d h = calls_append (length c.results + k) (test.test c ty d (suc d) (suc (suc d))) _ (test_calls c k ty d (suc d) (suc (suc d)) h) (tt, (tt, (tt, tt)))
+tested_calls c k ty (Some x) d h = calls_append (length c.results + k) (test.test c ty x (suc d) (suc (suc d))) _ (test_calls c k ty x (suc d) (suc (suc d)) h) (tt, tt)
 
 call_calls : (results : List Bool) (k f d count : ℕ) → AllCall (length results + k) (spec.call (target results f) f d count)
 call_calls results k f d count = go (target results f) (λ gives is. called_within results f gives is)
@@ -175,16 +186,22 @@ mutual
   code_calls c o n vs (IntExpr at number) s d h = (tt, tt)
   code_calls c o n vs (VarExpr at x) s d h = use_calls (length c.results + o.types) (has s x) d x
   code_calls c o n vs (CallExpr at f args) s d h = calls_append (length c.results + o.types) (spec.codes c args s d) _ (codes_calls c o n vs args s d h.1) (call_calls c.results o.types f d (spec.count_of args))
-  code_calls c o n vs (NegExpr at a) s d h = calls_append (length c.results + o.types) (spec.code c a s d) _ (code_calls c o n vs a s d h) (tt, (tt, tt))
-  code_calls c o n vs (NotExpr at a) s d h = calls_append (length c.results + o.types) (spec.code c a s d) _ (code_calls c o n vs a s d h) (tt, tt)
-  code_calls c o n vs (LenExpr at a) s d h = calls_append (length c.results + o.types) (spec.code c a s d) _ (code_calls c o n vs a s d h) (tt, tt)
+  code_calls c o n vs (NegExpr at a) s d h = calls_append (length c.results + o.types) (unless_read (variable_in a) (spec.code c a s d)) _ (operand_calls (length c.results + o.types) (variable_in a) (spec.code c a s d) (code_calls c o n vs a s d h)) (tt, (tt, tt))
+  code_calls c o n vs (NotExpr at a) s d h = calls_append (length c.results + o.types) (unless_read (variable_in a) (spec.code c a s d)) _ (operand_calls (length c.results + o.types) (variable_in a) (spec.code c a s d) (code_calls c o n vs a s d h)) (tt, tt)
+  code_calls c o n vs (LenExpr at a) s d h = calls_append (length c.results + o.types) (unless_read (read a s) (spec.code c a s d)) _ (operand_calls (length c.results + o.types) (read a s) (spec.code c a s d) (code_calls c o n vs a s d h)) (tt, tt)
   code_calls c o n vs (BinaryExpr at w x y) s d h =
-      calls_append (length c.results + o.types) (spec.code c x (before y s) d) _ (code_calls c o n vs x (before y s) d h.0)
-      (operate_calls (length c.results + o.types) w d (spec.code c y s (spec.right_register w d)) (spec.released (before y s) s) (spec.is_plain y) (code_calls c o n vs y s (spec.right_register w d) h.1) (released_calls (length c.results + o.types) (before y s) s))
+      let all = length c.results + o.types in let one = first_read w x y s in let two = second_read w y s in let right = spec.code c y s (spec.right_register w d) in
+      calls_append all (unless_read one (spec.code c x (before y s) d)) _ (operand_calls all one (spec.code c x (before y s) d) (code_calls c o n vs x (before y s) d h.0))
+      (operate_calls all w d (standing one d) (standing two (spec.right_register w d)) (unless_read two right) (spec.released (before y s) s) (plain_or_read two (spec.is_plain y))
+      (operand_calls all two right (code_calls c o n vs y s (spec.right_register w d) h.1)) (released_calls all (before y s) s))
   code_calls c o n vs (IsExpr at a ty) s d h =
-      calls_append (length c.results + o.types) (spec.code c a s d) (spec.is_test c ty d) (code_calls c o n vs a s d h.0) (calls_append (length c.results + o.types) (test.test c ty d (suc d) (suc (suc d))) _ (test_calls c o.types ty d (suc d) (suc (suc d)) h.1) (tt, (tt, (tt, tt))))
-  code_calls c o n vs (IndexExpr at x y) s d h = calls_append (length c.results + o.types) (spec.code c x (before y s) d) _ (code_calls c o n vs x (before y s) d h.0) (calls_append (length c.results + o.types) (spec.code c y s (suc d)) _ (code_calls c o n vs y s (suc d) h.1) (tt, tt))
-  code_calls c o n vs (FieldExpr at a name) s d h = calls_append (length c.results + o.types) (spec.code c a s d) _ (code_calls c o n vs a s d h) (tt, tt)
+      let one = spec.tested_read ty a s in
+      calls_append (length c.results + o.types) (unless_read one (spec.code c a s d)) (spec.tested c ty one d) (operand_calls (length c.results + o.types) one (spec.code c a s d) (code_calls c o n vs a s d h.0)) (tested_calls c o.types ty one d h.1)
+  code_calls c o n vs (IndexExpr at x y) s d h =
+      let all = length c.results + o.types in
+      calls_append all (unless_read (read x s) (spec.code c x (before y s) d)) _ (operand_calls all (read x s) (spec.code c x (before y s) d) (code_calls c o n vs x (before y s) d h.0))
+      (calls_append all (unless_read (variable_in y) (spec.code c y s (suc d))) _ (operand_calls all (variable_in y) (spec.code c y s (suc d)) (code_calls c o n vs y s (suc d) h.1)) (tt, tt))
+  code_calls c o n vs (FieldExpr at a name) s d h = calls_append (length c.results + o.types) (unless_read (read a s) (spec.code c a s d)) _ (operand_calls (length c.results + o.types) (read a s) (spec.code c a s d) (code_calls c o n vs a s d h)) (tt, tt)
   code_calls c o n vs (ListExpr at items) s d h = calls_append (length c.results + o.types) (spec.codes c items s d) _ (codes_calls c o n vs items s d h) (tt, tt)
   code_calls c o n vs (RepeatExpr at x y) s d h = calls_append (length c.results + o.types) (spec.code c x (before y s) d) _ (code_calls c o n vs x (before y s) d h.0) (calls_append (length c.results + o.types) (spec.code c y s (suc d)) _ (code_calls c o n vs y s (suc d) h.1) (tt, tt))
   code_calls c o n vs (RecordExpr at fs) s d h = calls_append (length c.results + o.types) (spec.field_codes c fs s d) _ (field_codes_calls c o n vs fs s d h.1) (tt, tt)

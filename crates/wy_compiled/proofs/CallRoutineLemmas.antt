@@ -17,13 +17,14 @@ use Rattle.wy_tables.specs.declared.targets.Target.{Target}
 use Rattle.wy_tables.specs.declared.targets.Target.TheVariants.{Declared, Prints, PrintsInt, Nothing}
 use Rattle.wy_tables.specs.Tables.{target, context_of, results_of}
 use Rattle.wy_compiled.specs.TypeTests as types
+use Rattle.wy_compiled.specs.Operands.{read, unless_read}
 use Rattle.wy_compiled.specs.Expressions.{released, release_unless, is_plain, count_of, code, codes}
 use Rattle.wy_formed.specs.Offers.{Offers, offers_of}
 use Rattle.wy_formed.specs.Bound.{Scope, Around, looped, behind, Bound, BoundExpr, BoundOption, BoundPath, BoundStmt, BoundStmts, BoundClauses, BoundAlias, BoundRoutine, BoundDecls}
 use Rattle.wy_compiled.specs.Statements as spec
 use Rattle.wy_compiled.specs.Programs as programs
 use Rattle.wy_compiled.specs.Ranges.{routines_in, CallsBelow}
-use Rattle.wy_compiled.proofs.CallLemmas.{Below, AllCall, calls_append, clear_calls, dropped_calls, fork_calls, turns_calls, released_calls, unless_calls, test_calls, code_calls, codes_calls, called_within}
+use Rattle.wy_compiled.proofs.CallLemmas.{Below, AllCall, calls_append, clear_calls, dropped_calls, fork_calls, turns_calls, released_calls, unless_calls, operand_calls, test_calls, code_calls, codes_calls, called_within}
 
 -- ---- statements
 
@@ -41,10 +42,12 @@ declare_calls : (c : Context) (o : Offers) (m : ℕ) (vs : Scope) (x : ℕ) (val
 declare_calls c o m vs x None s n h = tt
 declare_calls c o m vs x (Some e) s n h = set_calls c o m vs x e s n h
 
-indices_calls : (c : Context) (o : Offers) (m : ℕ) (vs : Scope) (path : List (Step ℕ)) (s : Variables) (r : ℕ) → BoundPath o m vs path → AllCall (length c.results + o.types) (spec.indices c path s r)
-indices_calls c o m vs [] s r h = tt
-indices_calls c o m vs (IndexStep at e ∷ path) s r h = calls_append (length c.results + o.types) (code c e (before_steps path s) r) (spec.indices c path s (suc r)) (code_calls c o m vs e (before_steps path s) r h.0) (indices_calls c o m vs path s (suc r) h.1)
-indices_calls c o m vs (FieldStep at name ∷ path) s r h = indices_calls c o m vs path s r h
+indices_calls : (c : Context) (o : Offers) (m : ℕ) (vs : Scope) (path : List (Step ℕ)) (b s : Variables) (r : ℕ) → BoundPath o m vs path → AllCall (length c.results + o.types) (spec.indices c path b s r)
+indices_calls c o m vs [] b s r h = tt
+indices_calls c o m vs (IndexStep at e ∷ path) b s r h =
+    let one = code c e (before_steps path b) r in
+    calls_append (length c.results + o.types) (unless_read (read e s) one) (spec.indices c path b s (suc r)) (operand_calls (length c.results + o.types) (read e s) one (code_calls c o m vs e (before_steps path b) r h.0)) (indices_calls c o m vs path b s (suc r) h.1)
+indices_calls c o m vs (FieldStep at name ∷ path) b s r h = indices_calls c o m vs path b s r h
 
 kept_calls : (t : ℕ) (x : ℕ) (s : Variables) → AllCall t (spec.kept x s)
 kept_calls t x s = both (has s x)
@@ -55,7 +58,7 @@ kept_calls t x s = both (has s x)
 
 update_calls : (c : Context) (o : Offers) (m : ℕ) (vs : Scope) (x : ℕ) (path : List (Step ℕ)) (e : Expr ℕ) (s : Variables) (n : ℕ) → BoundPath o m vs path → BoundExpr o m vs e → AllCall (length c.results + o.types) (spec.update c x path e s n)
 update_calls c o m vs x path e s n h k =
-    calls_append (length c.results + o.types) (spec.indices c path (before e (with s x)) n) _ (indices_calls c o m vs path (before e (with s x)) n h)
+    calls_append (length c.results + o.types) (spec.indices c path (before e (with s x)) s n) _ (indices_calls c o m vs path (before e (with s x)) s n h)
     (calls_append (length c.results + o.types) (code c e (with s x) (n + spec.index_count path)) _ (code_calls c o m vs e (with s x) (n + spec.index_count path) k) (tt, kept_calls (length c.results + o.types) x s))
 
 assign_calls : (c : Context) (o : Offers) (m : ℕ) (vs : Scope) (x : ℕ) (path : List (Step ℕ)) (e : Expr ℕ) (s : Variables) (n : ℕ) → BoundPath o m vs path → BoundExpr o m vs e → AllCall (length c.results + o.types) (spec.assign c x path e s n)

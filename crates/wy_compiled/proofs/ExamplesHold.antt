@@ -9,5 +9,8 @@ programs_have = record {
   absolute = refl;
   a_loop = refl;
   a_choice = refl;
+  a_difference = refl;
+  an_equality = refl;
+  a_test = refl;
   a_type = refl;
 }

@@ -1,5 +1,5 @@
 -- The jumps in the code of tests of types and of expressions stay within it.
-use Rattle.std.proofs.Common.{◌≤◌, ◌+◌, ℕ, suc, List, [], ◌∷◌, ◌++◌, length, Bool, true, false, not, cond, pos, refl, length-append, arith}
+use Rattle.std.proofs.Common.{◌≤◌, ◌+◌, ℕ, suc, List, [], ◌∷◌, ◌++◌, length, Bool, true, false, not, cond, Option, Some, None, pos, refl, length-append, arith}
 use Rattle.wy_core.specs.Types.{Ty, NullTy, BoolTy, IntTy, AnyTy, VoidTy, RecordTy, ArrayTy, UnionTy, InterTy, NotTy, NamedTy, NormalTy, FieldTys, NoFieldTys, MoreFieldTys}
 use Rattle.wy_core.specs.CoreTree.{Expr, NullExpr, BoolExpr, IntExpr, VarExpr, CallExpr, NegExpr, NotExpr, LenExpr, BinaryExpr, IsExpr, IndexExpr, FieldExpr, ListExpr, RepeatExpr, RecordExpr, QuantExpr, Exprs, NoExprs, MoreExprs, Fields, NoFields, MoreFields}
 use Rattle.wy_core.specs.declared.expressions.Op.{Op}
@@ -17,6 +17,7 @@ use Rattle.wy_tables.specs.declared.targets.Target.{Target}
 use Rattle.wy_tables.specs.declared.targets.Target.TheVariants.{Declared, Prints, PrintsInt, Nothing}
 use Rattle.wy_tables.specs.Tables.{target}
 use Rattle.wy_compiled.specs.TypeTests as test
+use Rattle.wy_compiled.specs.Operands.{variable_in, read, first_read, second_read, standing, unless_read, plain_or_read}
 use Rattle.wy_compiled.specs.Expressions as spec
 use Rattle.wy_compiled.proofs.WithinLemmas.{Within, within_append, clear_within, dropped_within, fork_inside, turns_within}
 
@@ -61,33 +62,43 @@ pub unless_within : (plain : Bool) (r b : ℕ) → Within b (spec.release_unless
 unless_within true r b = tt
 unless_within false r b = (refl, tt)
 
-operator_within : (o : Op) (d : ℕ) (plain : Bool) (b : ℕ) → Within b (spec.operator o d plain)
-operator_within op.Add d plain b = (refl, tt)
-operator_within op.Sub d plain b = (refl, tt)
-operator_within op.Mul d plain b = (refl, tt)
-operator_within op.Div d plain b = (refl, tt)
-operator_within op.Mod d plain b = (refl, tt)
-operator_within op.Equal d plain b = (refl, unless_within plain (suc d) b)
-operator_within op.Less d plain b = (refl, tt)
-operator_within op.LessEqual d plain b = (refl, tt)
-operator_within op.Greater d plain b = (refl, tt)
-operator_within op.GreaterEqual d plain b = (refl, tt)
-operator_within op.And d plain b = tt
-operator_within op.Or d plain b = tt
+-- where an operand is read in its register it has no code
+pub operand_within : (b : ℕ) (o : Option ℕ) (steps : List Step) → Within b steps → Within b (unless_read o steps)
+operand_within b None steps w = w
+operand_within b (Some x) steps w = tt
 
-operate_within : (o : Op) (d : ℕ) (right skipped : List Step) (plain : Bool) (b : ℕ) → ((n : ℕ) → Within n right) → ((n : ℕ) → Within n skipped) → Within b (spec.operate o d right skipped plain)
-operate_within op.Add d right skipped plain b h k = within_append b right _ (h _) (operator_within op.Add d plain b)
-operate_within op.Sub d right skipped plain b h k = within_append b right _ (h _) (operator_within op.Sub d plain b)
-operate_within op.Mul d right skipped plain b h k = within_append b right _ (h _) (operator_within op.Mul d plain b)
-operate_within op.Div d right skipped plain b h k = within_append b right _ (h _) (operator_within op.Div d plain b)
-operate_within op.Mod d right skipped plain b h k = within_append b right _ (h _) (operator_within op.Mod d plain b)
-operate_within op.Equal d right skipped plain b h k = within_append b right _ (h _) (operator_within op.Equal d plain b)
-operate_within op.Less d right skipped plain b h k = within_append b right _ (h _) (operator_within op.Less d plain b)
-operate_within op.LessEqual d right skipped plain b h k = within_append b right _ (h _) (operator_within op.LessEqual d plain b)
-operate_within op.Greater d right skipped plain b h k = within_append b right _ (h _) (operator_within op.Greater d plain b)
-operate_within op.GreaterEqual d right skipped plain b h k = within_append b right _ (h _) (operator_within op.GreaterEqual d plain b)
-operate_within op.And d right skipped plain b h k = within_append b (fork d right []) skipped (fork_inside (length skipped + b) d right [] (h _) tt) (k b)
-operate_within op.Or d right skipped plain b h k = fork_inside b d skipped right (k b) (h b)
+operator_within : (o : Op) (d l r : ℕ) (plain : Bool) (b : ℕ) → Within b (spec.operator o d l r plain)
+operator_within op.Add d l r plain b = (refl, tt)
+operator_within op.Sub d l r plain b = (refl, tt)
+operator_within op.Mul d l r plain b = (refl, tt)
+operator_within op.Div d l r plain b = (refl, tt)
+operator_within op.Mod d l r plain b = (refl, tt)
+operator_within op.Equal d l r plain b = (refl, unless_within plain r b)
+operator_within op.Less d l r plain b = (refl, tt)
+operator_within op.LessEqual d l r plain b = (refl, tt)
+operator_within op.Greater d l r plain b = (refl, tt)
+operator_within op.GreaterEqual d l r plain b = (refl, tt)
+operator_within op.And d l r plain b = tt
+operator_within op.Or d l r plain b = tt
+
+operate_within : (o : Op) (d l r : ℕ) (right skipped : List Step) (plain : Bool) (b : ℕ) → ((n : ℕ) → Within n right) → ((n : ℕ) → Within n skipped) → Within b (spec.operate o d l r right skipped plain)
+operate_within op.Add d l r right skipped plain b h k = within_append b right _ (h _) (operator_within op.Add d l r plain b)
+operate_within op.Sub d l r right skipped plain b h k = within_append b right _ (h _) (operator_within op.Sub d l r plain b)
+operate_within op.Mul d l r right skipped plain b h k = within_append b right _ (h _) (operator_within op.Mul d l r plain b)
+operate_within op.Div d l r right skipped plain b h k = within_append b right _ (h _) (operator_within op.Div d l r plain b)
+operate_within op.Mod d l r right skipped plain b h k = within_append b right _ (h _) (operator_within op.Mod d l r plain b)
+operate_within op.Equal d l r right skipped plain b h k = within_append b right _ (h _) (operator_within op.Equal d l r plain b)
+operate_within op.Less d l r right skipped plain b h k = within_append b right _ (h _) (operator_within op.Less d l r plain b)
+operate_within op.LessEqual d l r right skipped plain b h k = within_append b right _ (h _) (operator_within op.LessEqual d l r plain b)
+operate_within op.Greater d l r right skipped plain b h k = within_append b right _ (h _) (operator_within op.Greater d l r plain b)
+operate_within op.GreaterEqual d l r right skipped plain b h k = within_append b right _ (h _) (operator_within op.GreaterEqual d l r plain b)
+operate_within op.And d l r right skipped plain b h k = within_append b (fork d right []) skipped (fork_inside (length skipped + b) d right [] (h _) tt) (k b)
+operate_within op.Or d l r right skipped plain b h k = fork_inside b d skipped right (k b) (h b)
+
+-- a test, where it leaves the value in its register or releases it
+pub tested_within : (c : Context) (ty : Ty) (o : Option ℕ) (d b : ℕ) → Within b (spec.tested c ty o d)
+tested_within c ty None d b = within_append b (test.test c ty d (suc d) (suc (suc d))) _ (test_within c ty d (suc d) (suc (suc d)) _) (refl, (refl, (refl, tt)))
+tested_within c ty (Some x) d b = within_append b (test.test c ty x (suc d) (suc (suc d))) _ (test_within c ty x (suc d) (suc (suc d)) _) (refl, tt)
 
 call_within : (t : Target) (f d count b : ℕ) → Within b (spec.call t f d count)
 call_within (Declared gives) f d count b = (refl, tt)
@@ -129,16 +140,21 @@ mutual
   code_within c (IntExpr at number) s d b = (refl, tt)
   code_within c (VarExpr at x) s d b = use_within (has s x) d x b
   code_within c (CallExpr at f args) s d b = within_append b (spec.codes c args s d) _ (codes_within c args s d _) (call_within (target c.results f) f d (spec.count_of args) b)
-  code_within c (NegExpr at a) s d b = within_append b (spec.code c a s d) _ (code_within c a s d _) (refl, (refl, tt))
-  code_within c (NotExpr at a) s d b = within_append b (spec.code c a s d) _ (code_within c a s d _) (refl, tt)
-  code_within c (LenExpr at a) s d b = within_append b (spec.code c a s d) _ (code_within c a s d _) (refl, tt)
+  code_within c (NegExpr at a) s d b = within_append b (unless_read (variable_in a) (spec.code c a s d)) _ (operand_within _ (variable_in a) (spec.code c a s d) (code_within c a s d _)) (refl, (refl, tt))
+  code_within c (NotExpr at a) s d b = within_append b (unless_read (variable_in a) (spec.code c a s d)) _ (operand_within _ (variable_in a) (spec.code c a s d) (code_within c a s d _)) (refl, tt)
+  code_within c (LenExpr at a) s d b = within_append b (unless_read (read a s) (spec.code c a s d)) _ (operand_within _ (read a s) (spec.code c a s d) (code_within c a s d _)) (refl, tt)
   code_within c (BinaryExpr at o x y) s d b =
-      within_append b (spec.code c x (before y s) d) _ (code_within c x (before y s) d _)
-      (operate_within o d (spec.code c y s (spec.right_register o d)) (spec.released (before y s) s) (spec.is_plain y) b (λ n. code_within c y s (spec.right_register o d) n) (λ n. released_within n (before y s) s))
+      let one = first_read o x y s in let two = second_read o y s in let right = spec.code c y s (spec.right_register o d) in
+      within_append b (unless_read one (spec.code c x (before y s) d)) _ (operand_within _ one (spec.code c x (before y s) d) (code_within c x (before y s) d _))
+      (operate_within o d (standing one d) (standing two (spec.right_register o d)) (unless_read two right) (spec.released (before y s) s) (plain_or_read two (spec.is_plain y)) b
+      (λ n. operand_within n two right (code_within c y s (spec.right_register o d) n)) (λ n. released_within n (before y s) s))
   code_within c (IsExpr at a ty) s d b =
-      within_append b (spec.code c a s d) (spec.is_test c ty d) (code_within c a s d _) (within_append b (test.test c ty d (suc d) (suc (suc d))) _ (test_within c ty d (suc d) (suc (suc d)) _) (refl, (refl, (refl, tt))))
-  code_within c (IndexExpr at x y) s d b = within_append b (spec.code c x (before y s) d) _ (code_within c x (before y s) d _) (within_append b (spec.code c y s (suc d)) _ (code_within c y s (suc d) _) (refl, tt))
-  code_within c (FieldExpr at a name) s d b = within_append b (spec.code c a s d) _ (code_within c a s d _) (refl, tt)
+      let one = spec.tested_read ty a s in
+      within_append b (unless_read one (spec.code c a s d)) (spec.tested c ty one d) (operand_within _ one (spec.code c a s d) (code_within c a s d _)) (tested_within c ty one d b)
+  code_within c (IndexExpr at x y) s d b =
+      within_append b (unless_read (read x s) (spec.code c x (before y s) d)) _ (operand_within _ (read x s) (spec.code c x (before y s) d) (code_within c x (before y s) d _))
+      (within_append b (unless_read (variable_in y) (spec.code c y s (suc d))) _ (operand_within _ (variable_in y) (spec.code c y s (suc d)) (code_within c y s (suc d) _)) (refl, tt))
+  code_within c (FieldExpr at a name) s d b = within_append b (unless_read (read a s) (spec.code c a s d)) _ (operand_within _ (read a s) (spec.code c a s d) (code_within c a s d _)) (refl, tt)
   code_within c (ListExpr at items) s d b = within_append b (spec.codes c items s d) _ (codes_within c items s d _) (refl, tt)
   code_within c (RepeatExpr at x y) s d b = within_append b (spec.code c x (before y s) d) _ (code_within c x (before y s) d _) (within_append b (spec.code c y s (suc d)) _ (code_within c y s (suc d) _) (refl, tt))
   code_within c (RecordExpr at fs) s d b = within_append b (spec.field_codes c fs s d) _ (fields_codes_within c fs s d _) (refl, tt)

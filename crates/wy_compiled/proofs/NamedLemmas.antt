@@ -1,5 +1,5 @@
 -- Each instruction names shapes and names of fields that stand in the table.
-use Rattle.std.proofs.Common.{◌<◌, ℕ, suc, List, [], ◌∷◌, ◌++◌, length, Bool, true, false, not, cond, pos}
+use Rattle.std.proofs.Common.{◌<◌, ℕ, suc, List, [], ◌∷◌, ◌++◌, length, Bool, true, false, not, cond, Option, Some, None, pos}
 use Rattle.wy_value.specs.declared.shapes.Shapes.{Shapes}
 use Rattle.wy_core.specs.Types.{Ty, NullTy, BoolTy, IntTy, AnyTy, VoidTy, RecordTy, ArrayTy, UnionTy, InterTy, NotTy, NamedTy, NormalTy, FieldTys, NoFieldTys, MoreFieldTys}
 use Rattle.wy_core.specs.CoreTree.{Expr, NullExpr, BoolExpr, IntExpr, VarExpr, CallExpr, NegExpr, NotExpr, LenExpr, BinaryExpr, IsExpr, IndexExpr, FieldExpr, ListExpr, RepeatExpr, RecordExpr, QuantExpr, Exprs, NoExprs, MoreExprs, Fields, NoFields, MoreFields}
@@ -19,6 +19,7 @@ use Rattle.wy_tables.specs.declared.targets.Target.{Target}
 use Rattle.wy_tables.specs.declared.targets.Target.TheVariants.{Declared, Prints, PrintsInt, Nothing}
 use Rattle.wy_tables.specs.Tables.{target, ty_names_in}
 use Rattle.wy_compiled.specs.TypeTests as test
+use Rattle.wy_compiled.specs.Operands.{variable_in, read, first_read, second_read, standing, unless_read, plain_or_read}
 use Rattle.wy_compiled.specs.Expressions as spec
 use Rattle.wy_compiled.specs.Ranges.{shapes_in, fields_in}
 use Rattle.wy_compiled.proofs.TableLemmas.{Listed, StandsTy, StandFieldTys, StandsExpr, StandExprs, StandFields, number_within}
@@ -105,33 +106,43 @@ pub unless_names : (t : Shapes) (plain : Bool) (r : ℕ) → AllName t (spec.rel
 unless_names t true r = tt
 unless_names t false r = ((tt, tt), tt)
 
-operator_names : (t : Shapes) (o : Op) (d : ℕ) (plain : Bool) → AllName t (spec.operator o d plain)
-operator_names t op.Add d plain = ((tt, tt), tt)
-operator_names t op.Sub d plain = ((tt, tt), tt)
-operator_names t op.Mul d plain = ((tt, tt), tt)
-operator_names t op.Div d plain = ((tt, tt), tt)
-operator_names t op.Mod d plain = ((tt, tt), tt)
-operator_names t op.Equal d plain = ((tt, tt), unless_names t plain (suc d))
-operator_names t op.Less d plain = ((tt, tt), tt)
-operator_names t op.LessEqual d plain = ((tt, tt), tt)
-operator_names t op.Greater d plain = ((tt, tt), tt)
-operator_names t op.GreaterEqual d plain = ((tt, tt), tt)
-operator_names t op.And d plain = tt
-operator_names t op.Or d plain = tt
+-- where an operand is read in its register it has no code
+pub operand_names : (t : Shapes) (o : Option ℕ) (steps : List Step) → AllName t steps → AllName t (unless_read o steps)
+operand_names t None steps a = a
+operand_names t (Some x) steps a = tt
 
-operate_names : (t : Shapes) (o : Op) (d : ℕ) (right skipped : List Step) (plain : Bool) → AllName t right → AllName t skipped → AllName t (spec.operate o d right skipped plain)
-operate_names t op.Add d right skipped plain h k = names_append t right _ h (operator_names t op.Add d plain)
-operate_names t op.Sub d right skipped plain h k = names_append t right _ h (operator_names t op.Sub d plain)
-operate_names t op.Mul d right skipped plain h k = names_append t right _ h (operator_names t op.Mul d plain)
-operate_names t op.Div d right skipped plain h k = names_append t right _ h (operator_names t op.Div d plain)
-operate_names t op.Mod d right skipped plain h k = names_append t right _ h (operator_names t op.Mod d plain)
-operate_names t op.Equal d right skipped plain h k = names_append t right _ h (operator_names t op.Equal d plain)
-operate_names t op.Less d right skipped plain h k = names_append t right _ h (operator_names t op.Less d plain)
-operate_names t op.LessEqual d right skipped plain h k = names_append t right _ h (operator_names t op.LessEqual d plain)
-operate_names t op.Greater d right skipped plain h k = names_append t right _ h (operator_names t op.Greater d plain)
-operate_names t op.GreaterEqual d right skipped plain h k = names_append t right _ h (operator_names t op.GreaterEqual d plain)
-operate_names t op.And d right skipped plain h k = names_append t (fork d right []) skipped (fork_names t d right [] h tt) k
-operate_names t op.Or d right skipped plain h k = fork_names t d skipped right k h
+operator_names : (t : Shapes) (o : Op) (d l r : ℕ) (plain : Bool) → AllName t (spec.operator o d l r plain)
+operator_names t op.Add d l r plain = ((tt, tt), tt)
+operator_names t op.Sub d l r plain = ((tt, tt), tt)
+operator_names t op.Mul d l r plain = ((tt, tt), tt)
+operator_names t op.Div d l r plain = ((tt, tt), tt)
+operator_names t op.Mod d l r plain = ((tt, tt), tt)
+operator_names t op.Equal d l r plain = ((tt, tt), unless_names t plain r)
+operator_names t op.Less d l r plain = ((tt, tt), tt)
+operator_names t op.LessEqual d l r plain = ((tt, tt), tt)
+operator_names t op.Greater d l r plain = ((tt, tt), tt)
+operator_names t op.GreaterEqual d l r plain = ((tt, tt), tt)
+operator_names t op.And d l r plain = tt
+operator_names t op.Or d l r plain = tt
+
+operate_names : (t : Shapes) (o : Op) (d l r : ℕ) (right skipped : List Step) (plain : Bool) → AllName t right → AllName t skipped → AllName t (spec.operate o d l r right skipped plain)
+operate_names t op.Add d l r right skipped plain h k = names_append t right _ h (operator_names t op.Add d l r plain)
+operate_names t op.Sub d l r right skipped plain h k = names_append t right _ h (operator_names t op.Sub d l r plain)
+operate_names t op.Mul d l r right skipped plain h k = names_append t right _ h (operator_names t op.Mul d l r plain)
+operate_names t op.Div d l r right skipped plain h k = names_append t right _ h (operator_names t op.Div d l r plain)
+operate_names t op.Mod d l r right skipped plain h k = names_append t right _ h (operator_names t op.Mod d l r plain)
+operate_names t op.Equal d l r right skipped plain h k = names_append t right _ h (operator_names t op.Equal d l r plain)
+operate_names t op.Less d l r right skipped plain h k = names_append t right _ h (operator_names t op.Less d l r plain)
+operate_names t op.LessEqual d l r right skipped plain h k = names_append t right _ h (operator_names t op.LessEqual d l r plain)
+operate_names t op.Greater d l r right skipped plain h k = names_append t right _ h (operator_names t op.Greater d l r plain)
+operate_names t op.GreaterEqual d l r right skipped plain h k = names_append t right _ h (operator_names t op.GreaterEqual d l r plain)
+operate_names t op.And d l r right skipped plain h k = names_append t (fork d right []) skipped (fork_names t d right [] h tt) k
+operate_names t op.Or d l r right skipped plain h k = fork_names t d skipped right k h
+
+-- a test, where it leaves the value in its register or releases it
+pub tested_names : (c : Context) (ty : Ty) (o : Option ℕ) (d : ℕ) → StandsTy c.table ty → AllName c.table (spec.tested c ty o d)
+tested_names c ty None d h = names_append c.table (test.test c ty d (suc d) (suc (suc d))) _ (test_names c ty d (suc d) (suc (suc d)) h) ((tt, tt), ((tt, tt), ((tt, tt), tt)))
+tested_names c ty (Some x) d h = names_append c.table (test.test c ty x (suc d) (suc (suc d))) _ (test_names c ty x (suc d) (suc (suc d)) h) ((tt, tt), tt)
 
 call_names : (t : Shapes) (to : Target) (f d count : ℕ) → AllName t (spec.call to f d count)
 call_names t (Declared gives) f d count = ((tt, tt), tt)
@@ -169,16 +180,21 @@ mutual
   code_names c (IntExpr at number) s d h = ((tt, tt), tt)
   code_names c (VarExpr at x) s d h = use_names c.table (has s x) d x
   code_names c (CallExpr at f args) s d h = names_append c.table (spec.codes c args s d) _ (codes_names c args s d h) (call_names c.table (target c.results f) f d (spec.count_of args))
-  code_names c (NegExpr at a) s d h = names_append c.table (spec.code c a s d) _ (code_names c a s d h) ((tt, tt), ((tt, tt), tt))
-  code_names c (NotExpr at a) s d h = names_append c.table (spec.code c a s d) _ (code_names c a s d h) ((tt, tt), tt)
-  code_names c (LenExpr at a) s d h = names_append c.table (spec.code c a s d) _ (code_names c a s d h) ((tt, tt), tt)
+  code_names c (NegExpr at a) s d h = names_append c.table (unless_read (variable_in a) (spec.code c a s d)) _ (operand_names c.table (variable_in a) (spec.code c a s d) (code_names c a s d h)) ((tt, tt), ((tt, tt), tt))
+  code_names c (NotExpr at a) s d h = names_append c.table (unless_read (variable_in a) (spec.code c a s d)) _ (operand_names c.table (variable_in a) (spec.code c a s d) (code_names c a s d h)) ((tt, tt), tt)
+  code_names c (LenExpr at a) s d h = names_append c.table (unless_read (read a s) (spec.code c a s d)) _ (operand_names c.table (read a s) (spec.code c a s d) (code_names c a s d h)) ((tt, tt), tt)
   code_names c (BinaryExpr at o x y) s d h =
-      names_append c.table (spec.code c x (before y s) d) _ (code_names c x (before y s) d h.0)
-      (operate_names c.table o d (spec.code c y s (spec.right_register o d)) (spec.released (before y s) s) (spec.is_plain y) (code_names c y s (spec.right_register o d) h.1) (released_names c.table (before y s) s))
+      let one = first_read o x y s in let two = second_read o y s in let right = spec.code c y s (spec.right_register o d) in
+      names_append c.table (unless_read one (spec.code c x (before y s) d)) _ (operand_names c.table one (spec.code c x (before y s) d) (code_names c x (before y s) d h.0))
+      (operate_names c.table o d (standing one d) (standing two (spec.right_register o d)) (unless_read two right) (spec.released (before y s) s) (plain_or_read two (spec.is_plain y))
+      (operand_names c.table two right (code_names c y s (spec.right_register o d) h.1)) (released_names c.table (before y s) s))
   code_names c (IsExpr at a ty) s d h =
-      names_append c.table (spec.code c a s d) (spec.is_test c ty d) (code_names c a s d h.0) (names_append c.table (test.test c ty d (suc d) (suc (suc d))) _ (test_names c ty d (suc d) (suc (suc d)) h.1) ((tt, tt), ((tt, tt), ((tt, tt), tt))))
-  code_names c (IndexExpr at x y) s d h = names_append c.table (spec.code c x (before y s) d) _ (code_names c x (before y s) d h.0) (names_append c.table (spec.code c y s (suc d)) _ (code_names c y s (suc d) h.1) ((tt, tt), tt))
-  code_names c (FieldExpr at a name) s d h = names_append c.table (spec.code c a s d) _ (code_names c a s d h.0) ((tt, (number_within name c.table.names h.1, tt)), tt)
+      let one = spec.tested_read ty a s in
+      names_append c.table (unless_read one (spec.code c a s d)) (spec.tested c ty one d) (operand_names c.table one (spec.code c a s d) (code_names c a s d h.0)) (tested_names c ty one d h.1)
+  code_names c (IndexExpr at x y) s d h =
+      names_append c.table (unless_read (read x s) (spec.code c x (before y s) d)) _ (operand_names c.table (read x s) (spec.code c x (before y s) d) (code_names c x (before y s) d h.0))
+      (names_append c.table (unless_read (variable_in y) (spec.code c y s (suc d))) _ (operand_names c.table (variable_in y) (spec.code c y s (suc d)) (code_names c y s (suc d) h.1)) ((tt, tt), tt))
+  code_names c (FieldExpr at a name) s d h = names_append c.table (unless_read (read a s) (spec.code c a s d)) _ (operand_names c.table (read a s) (spec.code c a s d) (code_names c a s d h.0)) ((tt, (number_within name c.table.names h.1, tt)), tt)
   code_names c (ListExpr at items) s d h = names_append c.table (spec.codes c items s d) _ (codes_names c items s d h) ((tt, tt), tt)
   code_names c (RepeatExpr at x y) s d h = names_append c.table (spec.code c x (before y s) d) _ (code_names c x (before y s) d h.0) (names_append c.table (spec.code c y s (suc d)) _ (code_names c y s (suc d) h.1) ((tt, tt), tt))
   code_names c (RecordExpr at fs) s d h = names_append c.table (spec.field_codes c fs s d) _ (field_codes_names c fs s d h.1) (((number_within _ c.table.lists h.0.1, tt), tt), tt)

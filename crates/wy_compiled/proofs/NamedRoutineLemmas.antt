@@ -19,12 +19,13 @@ use Rattle.wy_tables.specs.declared.targets.Target.{Target}
 use Rattle.wy_tables.specs.declared.targets.Target.TheVariants.{Declared, Prints, PrintsInt, Nothing}
 use Rattle.wy_tables.specs.Tables.{target, context_of}
 use Rattle.wy_compiled.specs.TypeTests as types
+use Rattle.wy_compiled.specs.Operands.{read, unless_read}
 use Rattle.wy_compiled.specs.Expressions.{released, release_unless, is_plain, count_of, code, codes}
 use Rattle.wy_compiled.specs.Statements as spec
 use Rattle.wy_compiled.specs.Programs as programs
 use Rattle.wy_compiled.specs.Ranges.{shapes_in, fields_in, slot_fields, IsNamed}
 use Rattle.wy_compiled.proofs.TableLemmas.{StandsTy, StandsExpr, StandExprs, StandsOption, StandsPath, StandsStmt, StandStmts, StandDecls, number_within, core_stands}
-use Rattle.wy_compiled.proofs.NamedLemmas.{Below, AllName, names_append, clear_names, dropped_names, fork_names, turns_names, released_names, unless_names, test_names, code_names, codes_names}
+use Rattle.wy_compiled.proofs.NamedLemmas.{Below, AllName, names_append, clear_names, dropped_names, fork_names, turns_names, released_names, unless_names, operand_names, test_names, code_names, codes_names}
 
 -- ---- statements
 
@@ -42,15 +43,17 @@ declare_names : (c : Context) (x : ℕ) (value : Option (Expr ℕ)) (s : Variabl
 declare_names c x None s n h = tt
 declare_names c x (Some e) s n h = set_names c x e s n h
 
-indices_names : (c : Context) (path : List (Step ℕ)) (s : Variables) (r : ℕ) → StandsPath c.table path → AllName c.table (spec.indices c path s r)
-indices_names c [] s r h = tt
-indices_names c (IndexStep at e ∷ path) s r h = names_append c.table (code c e (before_steps path s) r) (spec.indices c path s (suc r)) (code_names c e (before_steps path s) r h.0) (indices_names c path s (suc r) h.1)
-indices_names c (FieldStep at name ∷ path) s r h = indices_names c path s r h.1
+indices_names : (c : Context) (path : List (Step ℕ)) (b s : Variables) (r : ℕ) → StandsPath c.table path → AllName c.table (spec.indices c path b s r)
+indices_names c [] b s r h = tt
+indices_names c (IndexStep at e ∷ path) b s r h =
+    let one = code c e (before_steps path b) r in
+    names_append c.table (unless_read (read e s) one) (spec.indices c path b s (suc r)) (operand_names c.table (read e s) one (code_names c e (before_steps path b) r h.0)) (indices_names c path b s (suc r) h.1)
+indices_names c (FieldStep at name ∷ path) b s r h = indices_names c path b s r h.1
 
-slots_below : (c : Context) (path : List (Step ℕ)) (r : ℕ) → StandsPath c.table path → Below (length c.table.names) (slot_fields (spec.slots c path r))
-slots_below c [] r h = tt
-slots_below c (IndexStep at e ∷ path) r h = slots_below c path (suc r) h.1
-slots_below c (FieldStep at name ∷ path) r h = (number_within name c.table.names h.0, slots_below c path r h.1)
+slots_below : (c : Context) (path : List (Step ℕ)) (s : Variables) (r : ℕ) → StandsPath c.table path → Below (length c.table.names) (slot_fields (spec.slots c path s r))
+slots_below c [] s r h = tt
+slots_below c (IndexStep at e ∷ path) s r h = slots_below c path s (suc r) h.1
+slots_below c (FieldStep at name ∷ path) s r h = (number_within name c.table.names h.0, slots_below c path s r h.1)
 
 kept_names : (t : Shapes) (x : ℕ) (s : Variables) → AllName t (spec.kept x s)
 kept_names t x s = both (has s x)
@@ -61,8 +64,8 @@ kept_names t x s = both (has s x)
 
 update_names : (c : Context) (x : ℕ) (path : List (Step ℕ)) (e : Expr ℕ) (s : Variables) (n : ℕ) → StandsPath c.table path → StandsExpr c.table e → AllName c.table (spec.update c x path e s n)
 update_names c x path e s n h k =
-    names_append c.table (spec.indices c path (before e (with s x)) n) _ (indices_names c path (before e (with s x)) n h)
-    (names_append c.table (code c e (with s x) (n + spec.index_count path)) _ (code_names c e (with s x) (n + spec.index_count path) k) ((tt, slots_below c path n h), kept_names c.table x s))
+    names_append c.table (spec.indices c path (before e (with s x)) s n) _ (indices_names c path (before e (with s x)) s n h)
+    (names_append c.table (code c e (with s x) (n + spec.index_count path)) _ (code_names c e (with s x) (n + spec.index_count path) k) ((tt, slots_below c path s n h), kept_names c.table x s))
 
 assign_names : (c : Context) (x : ℕ) (path : List (Step ℕ)) (e : Expr ℕ) (s : Variables) (n : ℕ) → StandsPath c.table path → StandsExpr c.table e → AllName c.table (spec.assign c x path e s n)
 assign_names c x [] e s n h k = set_names c x e s n k

@@ -7,15 +7,16 @@ use Rattle.wy_live.specs.declared.walk.Ends.{Ends}
 use Rattle.wy_code.specs.declared.instructions.Instr.TheVariants as instr
 use Rattle.wy_pieces.specs.declared.steps.Step as steps
 use Rattle.wy_pieces.specs.declared.steps.Step.TheVariants.{Does}
-use Rattle.wy_pieces.specs.Steps.{clear, fork, over, turns}
+use Rattle.wy_pieces.specs.Steps.{clear, over, turns}
 use Rattle.wy_tables.specs.declared.context.Context.{Context}
 use Rattle.wy_tables.specs.declared.targets.Target.{Target}
 use Rattle.wy_tables.specs.declared.targets.Target.TheVariants.{Declared, Prints, PrintsInt, Nothing}
 use Rattle.wy_tables.specs.Tables.{target}
+use Rattle.wy_compiled.specs.Operands.{read, unless_read}
 use Rattle.wy_compiled.specs.Expressions.{released, release_unless, is_plain, count_of, code, codes}
 use Rattle.wy_compiled.specs.Statements as spec
 use Rattle.wy_compiled.proofs.WithinLemmas.{Within, within_append, fork_within, turns_within}
-use Rattle.wy_compiled.proofs.JumpLemmas.{code_within, codes_within, released_within, unless_within}
+use Rattle.wy_compiled.proofs.JumpLemmas.{code_within, codes_within, released_within, unless_within, operand_within}
 
 store_within : (x : ℕ) (s : Variables) (r : ℕ) (plain : Bool) (b : ℕ) → Within b (spec.store x s r plain)
 store_within x s r plain b = both (has s x)
@@ -31,10 +32,12 @@ declare_within : (c : Context) (x : ℕ) (value : Option (Expr ℕ)) (s : Variab
 declare_within c x None s n b = tt
 declare_within c x (Some e) s n b = set_within c x e s n b
 
-indices_within : (c : Context) (path : List (Step ℕ)) (s : Variables) (r b : ℕ) → Within b (spec.indices c path s r)
-indices_within c [] s r b = tt
-indices_within c (IndexStep at e ∷ path) s r b = within_append b (code c e (before_steps path s) r) (spec.indices c path s (suc r)) (code_within c e (before_steps path s) r _) (indices_within c path s (suc r) b)
-indices_within c (FieldStep at name ∷ path) s r b = indices_within c path s r b
+indices_within : (c : Context) (path : List (Step ℕ)) (u s : Variables) (r b : ℕ) → Within b (spec.indices c path u s r)
+indices_within c [] u s r b = tt
+indices_within c (IndexStep at e ∷ path) u s r b =
+    let one = code c e (before_steps path u) r in
+    within_append b (unless_read (read e s) one) (spec.indices c path u s (suc r)) (operand_within _ (read e s) one (code_within c e (before_steps path u) r _)) (indices_within c path u s (suc r) b)
+indices_within c (FieldStep at name ∷ path) u s r b = indices_within c path u s r b
 
 kept_within : (x : ℕ) (s : Variables) (b : ℕ) → Within b (spec.kept x s)
 kept_within x s b = both (has s x)
@@ -45,7 +48,7 @@ kept_within x s b = both (has s x)
 
 update_within : (c : Context) (x : ℕ) (path : List (Step ℕ)) (e : Expr ℕ) (s : Variables) (n b : ℕ) → Within b (spec.update c x path e s n)
 update_within c x path e s n b =
-    within_append b (spec.indices c path (before e (with s x)) n) _ (indices_within c path (before e (with s x)) n _)
+    within_append b (spec.indices c path (before e (with s x)) s n) _ (indices_within c path (before e (with s x)) s n _)
     (within_append b (code c e (with s x) (n + spec.index_count path)) _ (code_within c e (with s x) (n + spec.index_count path) _) (refl, kept_within x s b))
 
 assign_within : (c : Context) (x : ℕ) (path : List (Step ℕ)) (e : Expr ℕ) (s : Variables) (n b : ℕ) → Within b (spec.assign c x path e s n)

@@ -1,5 +1,5 @@
 -- The code of an expression. Its value comes into a register, and the registers behind that one are free.
-use Rattle.std.specs.Prelude.{ℕ, zero, suc, ◌+◌, List, [], ◌∷◌, ◌++◌, length, Bool, true, false, not, ◌&&◌, cond, pos}
+use Rattle.std.specs.Prelude.{ℕ, zero, suc, ◌+◌, List, [], ◌∷◌, ◌++◌, length, Bool, true, false, not, ◌&&◌, cond, Option, Some, None, pos}
 use Rattle.wy_core.specs.CoreTree.{Expr, NullExpr, BoolExpr, IntExpr, VarExpr, CallExpr, NegExpr, NotExpr, LenExpr, BinaryExpr, IsExpr, IndexExpr, FieldExpr, ListExpr, RepeatExpr, RecordExpr, QuantExpr, Exprs, NoExprs, MoreExprs, Fields, NoFields, MoreFields}
 use Rattle.wy_core.specs.Types.{Ty}
 use Rattle.wy_core.specs.declared.expressions.Op.{Op}
@@ -19,7 +19,7 @@ use Rattle.wy_pieces.specs.declared.steps.Step.{Step}
 use Rattle.wy_pieces.specs.declared.steps.Step.TheVariants.{Does, GoesOn, GoesOnUnless}
 use Rattle.wy_pieces.specs.Steps.{clear, dropped, fork, turns, registers_from}
 use Rattle.wy_tables.specs.Tables.{target, number_of, shape_number, names_in}
-use Rattle.wy_compiled.specs.TypeTests.{test}
+use Rattle.wy_compiled.specs.TypeTests.{looks, test}
 use Rattle.wy_compiled.specs.Operands.{variable_in, read, first_read, second_read, standing, unless_read, plain_or_read}
 
 -- ---- what stops being live
@@ -155,6 +155,15 @@ field_count (MoreFields name e fs) = suc (field_count fs)
 abbrev pub is_test : Context → Ty → ℕ → List Step
 is_test c ty d = test c ty d (suc d) (suc (suc d)) ++ (dropped d (suc (suc d)) ++ Does (instr.Move d (suc d)) ∷ [])
 
+-- what is tested in its register: a variable that is live behind the test, where the test reads it; of one that nothing reads the value would stay
+abbrev pub tested_read : {N : Type 0} → Ty → Expr N → Variables → Option ℕ
+tested_read ty e s = cond (looks ty) (read e s) None
+
+-- the test of a value in d, or of a variable that stays in its register, of which nothing is released. What it says may be any value, and is read behind the test where that is released
+abbrev pub tested : Context → Ty → Option ℕ → ℕ → List Step
+tested c ty None d = is_test c ty d
+tested c ty (Some x) d = test c ty x (suc d) (suc (suc d)) ++ Does (instr.Move d (suc d)) ∷ []
+
 -- ---- parts put together
 
 -- the number in r is taken from 0, and what comes of it comes into d
@@ -212,8 +221,8 @@ abbrev mutual
   code c (BinaryExpr at o a b) s d =
       unless_read (first_read o a b s) (code c a (before b s) d)
       ++ operate o d (standing (first_read o a b s) d) (standing (second_read o b s) (right_register o d)) (unless_read (second_read o b s) (code c b s (right_register o d)))
-          (released (before b s) s) (plain_or_read (second_read o b s) (is_plain b))
-  code c (IsExpr at a ty) s d = code c a s d ++ is_test c ty d
+      (released (before b s) s) (plain_or_read (second_read o b s) (is_plain b))
+  code c (IsExpr at a ty) s d = unless_read (tested_read ty a s) (code c a s d) ++ tested c ty (tested_read ty a s) d
   code c (IndexExpr at a b) s d =
       unless_read (read a s) (code c a (before b s) d)
       ++ (unless_read (variable_in b) (code c b s (suc d)) ++ Does (instr.Get d (standing (read a s) d) (standing (variable_in b) (suc d))) ∷ [])

@@ -1,5 +1,6 @@
--- the code of tests of types, of expressions, of statements, and of programs
+-- the code of tests of types, of operands, of expressions, of statements, and of programs
 pub mod TypeTests
+pub mod Operands
 pub mod Expressions
 pub mod Statements
 pub mod Programs

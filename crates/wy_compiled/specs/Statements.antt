@@ -15,6 +15,7 @@ use Rattle.wy_pieces.specs.declared.steps.Step as steps
 use Rattle.wy_pieces.specs.declared.steps.Step.TheVariants.{Does, GoesOn}
 use Rattle.wy_pieces.specs.Steps.{clear, fork, over, turns, registers_from}
 use Rattle.wy_tables.specs.Tables.{target, number_of}
+use Rattle.wy_compiled.specs.Operands.{read, standing, unless_read}
 use Rattle.wy_compiled.specs.Expressions.{released, is_plain, release_unless, count_of, code, codes}
 
 -- a value goes from a register into its variable, or is released where the variable isn't live behind
@@ -37,17 +38,17 @@ index_count [] = 0
 index_count (IndexStep at e ∷ path) = suc (index_count path)
 index_count (FieldStep at name ∷ path) = index_count path
 
--- the slots of a path whose indices are in the registers from r on
-abbrev pub slots : Context → List (Step ℕ) → ℕ → List Slot
-slots c [] r = []
-slots c (IndexStep at e ∷ path) r = slot.Item r ∷ slots c path (suc r)
-slots c (FieldStep at name ∷ path) r = slot.Field (number_of name c.table.names) ∷ slots c path r
+-- the slots of a path whose indices are in the registers from r on, but for variables that are live behind the update, which are read in their own
+abbrev pub slots : Context → List (Step ℕ) → Variables → ℕ → List Slot
+slots c [] s r = []
+slots c (IndexStep at e ∷ path) s r = slot.Item (standing (read e s) r) ∷ slots c path s (suc r)
+slots c (FieldStep at name ∷ path) s r = slot.Field (number_of name c.table.names) ∷ slots c path s r
 
--- the indices of a path, each into the register behind the one before
-abbrev pub indices : Context → List (Step ℕ) → Variables → ℕ → List steps.Step
-indices c [] s r = []
-indices c (IndexStep at e ∷ path) s r = code c e (before_steps path s) r ++ indices c path s (suc r)
-indices c (FieldStep at name ∷ path) s r = indices c path s r
+-- the indices of a path, each into a register behind that of the one before: b is live behind them, and s behind the update
+abbrev pub indices : Context → List (Step ℕ) → Variables → Variables → ℕ → List steps.Step
+indices c [] b s r = []
+indices c (IndexStep at e ∷ path) b s r = unless_read (read e s) (code c e (before_steps path b) r) ++ indices c path b s (suc r)
+indices c (FieldStep at name ∷ path) b s r = indices c path b s r
 
 -- where the variable isn't live behind an update, what it holds is released
 abbrev pub kept : ℕ → Variables → List steps.Step
@@ -56,8 +57,8 @@ kept x s = cond (has s x) [] (clear (x ∷ []))
 -- the indices, the value, and the update
 abbrev pub update : Context → ℕ → List (Step ℕ) → Expr ℕ → Variables → ℕ → List steps.Step
 update c x path e s n =
-    indices c path (before e (with s x)) n
-    ++ (code c e (with s x) (n + index_count path) ++ Does (instr.Put x (slots c path n) (n + index_count path)) ∷ kept x s)
+    indices c path (before e (with s x)) s n
+    ++ (code c e (with s x) (n + index_count path) ++ Does (instr.Put x (slots c path s n) (n + index_count path)) ∷ kept x s)
 
 abbrev pub assign : Context → ℕ → List (Step ℕ) → Expr ℕ → Variables → ℕ → List steps.Step
 assign c x [] e s n = set c x e s n

@@ -1,5 +1,5 @@
 -- The code of a test of a type: its visits in the order of the semantics.
-use Rattle.std.specs.Prelude.{ℕ, suc, ◌+◌, List, [], ◌∷◌, ◌++◌, length, true, false, pos}
+use Rattle.std.specs.Prelude.{ℕ, suc, ◌+◌, List, [], ◌∷◌, ◌++◌, length, Bool, true, false, pos}
 use Rattle.wy_core.specs.Types.{Ty, NullTy, BoolTy, IntTy, AnyTy, VoidTy, RecordTy, ArrayTy, UnionTy, InterTy, NotTy, NamedTy, NormalTy, FieldTys, NoFieldTys, MoreFieldTys}
 use Rattle.wy_code.specs.declared.instructions.Scalar.TheVariants as scalar
 use Rattle.wy_code.specs.declared.instructions.Arithmetic.TheVariants.{Add}
@@ -49,6 +49,21 @@ record_test shape v r parts = Does (Kind r v (kind.Shape shape)) ∷ fork r part
 -- behind the test of the field in f it is released, and where it is in its type the next ones are tested
 abbrev pub field_end : ℕ → ℕ → List Step → List Step
 field_end r f rest = dropped f (suc f) ++ fork r rest []
+
+-- whether a test of the type begins with an instruction that reads the value: the answer for `any` and `void` is a constant
+abbrev pub looks : Ty → Bool
+looks NullTy = true
+looks BoolTy = true
+looks IntTy = true
+looks AnyTy = false
+looks VoidTy = false
+looks (RecordTy fs) = true
+looks (ArrayTy t) = true
+looks (UnionTy s t) = looks s
+looks (InterTy s t) = looks s
+looks (NotTy t) = looks t
+looks (NamedTy n) = true
+looks (NormalTy union) = false
 
 abbrev mutual
   -- whether the value in v, which stays there, is in the type comes into r; the registers from f on are free

@@ -1,5 +1,5 @@
 -- The code of an expression, which is made from its end to its beginning.
-use Rattle.std.proofs.Common.{◌≡◌, ◌∙◌, ℕ, suc, List, [], ◌∷◌, ◌++◌, length, Bool, refl, ap, sym, append_assoc}
+use Rattle.std.proofs.Common.{◌≡◌, ◌∙◌, ℕ, suc, List, [], ◌∷◌, ◌++◌, length, Bool, Option, None, refl, ap, sym, append_assoc}
 use Rattle.wy_core.specs.CoreSeen.{seen_expr, seen_exprs, seen_fields, seen_ty}
 use Rattle.wy_core.specs.CoreTree as tree
 use Rattle.wy_core.specs.declared.types.Ty.{Ty}
@@ -15,13 +15,18 @@ use Rattle.wy_tables.specs.declared.context.Context.{Context}
 use Rattle.wy_tables.specs.Tables.{number_of, target}
 use Rattle.wy_compiled.specs.Expressions as spec
 use Rattle.wy_compiled.specs.Expressions.{code, codes, count_of, field_codes}
+use Rattle.wy_compiled.specs.Operands.{variable_in, read, first_read, second_read, standing, unless_read, plain_or_read}
 use Rattle.wy_gen.proofs.SeenLemmas.{seen_call, seen_neg, seen_not, seen_len, seen_binary, seen_is, seen_index, seen_field, seen_list, seen_repeat, seen_record, seen_quant}
 
--- an expression before the rest, where this is live behind it
-operand : (c : Context) (x : Expr) (y : tree.Expr ℕ) (a : tree.Expr ℕ) (live s t : Variables) (d : ℕ) (rest old steps : List Step) → seen_expr x ≡ y → code c y s d ≡ code c a t d ++ rest → live ≡ t → steps ≡ rest ++ old
-    → code c a live d ++ steps ≡ code c (seen_expr x) s d ++ old
-operand c x y a live s t d rest old steps is whole live_is steps_is =
-    (λ i. code c a (live_is i) d ++ steps_is i) ∙ sym (append_assoc (code c a t d) rest old) ∙ ap (λ (l : List Step). l ++ old) (sym (ap (λ (z : tree.Expr ℕ). code c z s d) is ∙ whole))
+-- an operand before the rest, where this is live behind it; it has no code where it is read in its register
+operand : (c : Context) (x : Expr) (y a : tree.Expr ℕ) (place p : Option ℕ) (live s t : Variables) (d : ℕ) (rest old steps : List Step) → seen_expr x ≡ y → code c y s d ≡ unless_read p (code c a t d) ++ rest → place ≡ p → live ≡ t → steps ≡ rest ++ old
+    → unless_read place (code c a live d) ++ steps ≡ code c (seen_expr x) s d ++ old
+operand c x y a place p live s t d rest old steps is whole place_is live_is steps_is =
+    (λ i. unless_read (place_is i) (code c a (live_is i) d) ++ steps_is i) ∙ sym (append_assoc (unless_read p (code c a t d)) rest old) ∙ ap (λ (l : List Step). l ++ old) (sym (ap (λ (z : tree.Expr ℕ). code c z s d) is ∙ whole))
+
+-- where an operand stands
+stands : (place p : Option ℕ) (r d : ℕ) → place ≡ p → r ≡ standing place d → r ≡ standing p d
+stands place p r d place_is r_is = r_is ∙ ap (λ (z : Option ℕ). standing z d) place_is
 
 -- what is live before it
 operand_live : (x : Expr) (y : tree.Expr ℕ) (a : tree.Expr ℕ) (live s t : Variables) → seen_expr x ≡ y → before y s ≡ before a t → live ≡ t → before a live ≡ before (seen_expr x) s
@@ -29,72 +34,78 @@ operand_live x y a live s t is whole live_is = ap (λ (v : Variables). before a 
 
 -- an operand behind which the same is live
 module _ (c : Context) (x : Expr) (a : Expr) (live s : Variables) (d : ℕ) (old steps : List Step) (live_is : live ≡ s) where
-  pub neg_same : x.kind ≡ kind.Neg a → steps ≡ spec.negated d ++ old → code c (seen_expr a) live d ++ steps ≡ code c (seen_expr x) s d ++ old
-  neg_same is steps_is = operand c x (tree.NegExpr x.at (seen_expr a)) (seen_expr a) live s s d (spec.negated d) old steps (seen_neg x a is) refl live_is steps_is
+  pub neg_same : (place : Option ℕ) (r : ℕ) → x.kind ≡ kind.Neg a → place ≡ variable_in (seen_expr a) → r ≡ standing place d → steps ≡ spec.negated d r ++ old → unless_read place (code c (seen_expr a) live d) ++ steps ≡ code c (seen_expr x) s d ++ old
+  neg_same place r is place_is r_is steps_is =
+      let p = variable_in (seen_expr a) in
+      let at = stands place p r d place_is r_is in
+      operand c x (tree.NegExpr x.at (seen_expr a)) (seen_expr a) place p live s s d (spec.negated d (standing p d)) old steps (seen_neg x a is) refl place_is live_is (steps_is ∙ (λ i. spec.negated d (at i) ++ old))
 
-  pub not_same : x.kind ≡ kind.Not a → steps ≡ Does (instr.Not d d) ∷ old → code c (seen_expr a) live d ++ steps ≡ code c (seen_expr x) s d ++ old
-  not_same is steps_is = operand c x (tree.NotExpr x.at (seen_expr a)) (seen_expr a) live s s d (Does (instr.Not d d) ∷ []) old steps (seen_not x a is) refl live_is steps_is
+  pub not_same : (place : Option ℕ) (r : ℕ) → x.kind ≡ kind.Not a → place ≡ variable_in (seen_expr a) → r ≡ standing place d → steps ≡ Does (instr.Not d r) ∷ old → unless_read place (code c (seen_expr a) live d) ++ steps ≡ code c (seen_expr x) s d ++ old
+  not_same place r is place_is r_is steps_is =
+      let p = variable_in (seen_expr a) in
+      let at = stands place p r d place_is r_is in
+      operand c x (tree.NotExpr x.at (seen_expr a)) (seen_expr a) place p live s s d (Does (instr.Not d (standing p d)) ∷ []) old steps (seen_not x a is) refl place_is live_is (steps_is ∙ (λ i. Does (instr.Not d (at i)) ∷ old))
 
-  pub len_same : x.kind ≡ kind.Len a → steps ≡ Does (instr.Len d d) ∷ old → code c (seen_expr a) live d ++ steps ≡ code c (seen_expr x) s d ++ old
-  len_same is steps_is = operand c x (tree.LenExpr x.at (seen_expr a)) (seen_expr a) live s s d (Does (instr.Len d d) ∷ []) old steps (seen_len x a is) refl live_is steps_is
+  pub len_same : (place : Option ℕ) (r : ℕ) → x.kind ≡ kind.Len a → place ≡ read (seen_expr a) s → r ≡ standing place d → steps ≡ Does (instr.Len d r) ∷ old → unless_read place (code c (seen_expr a) live d) ++ steps ≡ code c (seen_expr x) s d ++ old
+  len_same place r is place_is r_is steps_is =
+      let p = read (seen_expr a) s in
+      let at = stands place p r d place_is r_is in
+      operand c x (tree.LenExpr x.at (seen_expr a)) (seen_expr a) place p live s s d (Does (instr.Len d (standing p d)) ∷ []) old steps (seen_len x a is) refl place_is live_is (steps_is ∙ (λ i. Does (instr.Len d (at i)) ∷ old))
 
   pub is_same : (ty : Ty) → x.kind ≡ kind.Is a ty → steps ≡ spec.is_test c (seen_ty ty) d ++ old → code c (seen_expr a) live d ++ steps ≡ code c (seen_expr x) s d ++ old
-  is_same ty is steps_is = operand c x (tree.IsExpr x.at (seen_expr a) (seen_ty ty)) (seen_expr a) live s s d (spec.is_test c (seen_ty ty) d) old steps (seen_is x a ty is) refl live_is steps_is
+  is_same ty is steps_is = operand c x (tree.IsExpr x.at (seen_expr a) (seen_ty ty)) (seen_expr a) None None live s s d (spec.is_test c (seen_ty ty) d) old steps (seen_is x a ty is) refl refl live_is steps_is
 
-  pub field_same : (name : List ℕ) (number : ℕ) → x.kind ≡ kind.Field a name → number ≡ number_of name c.table.names → steps ≡ Does (instr.Field d d number) ∷ old → code c (seen_expr a) live d ++ steps ≡ code c (seen_expr x) s d ++ old
-  field_same name number is number_is steps_is =
-      operand c x (tree.FieldExpr x.at (seen_expr a) name) (seen_expr a) live s s d (Does (instr.Field d d (number_of name c.table.names)) ∷ []) old steps (seen_field x a name is) refl live_is
-      (steps_is ∙ (λ i. Does (instr.Field d d (number_is i)) ∷ old))
-
-  pub neg_live : x.kind ≡ kind.Neg a → before (seen_expr a) live ≡ before (seen_expr x) s
-  neg_live is = operand_live x (tree.NegExpr x.at (seen_expr a)) (seen_expr a) live s s (seen_neg x a is) refl live_is
-
-  pub not_live : x.kind ≡ kind.Not a → before (seen_expr a) live ≡ before (seen_expr x) s
-  not_live is = operand_live x (tree.NotExpr x.at (seen_expr a)) (seen_expr a) live s s (seen_not x a is) refl live_is
-
-  pub len_live : x.kind ≡ kind.Len a → before (seen_expr a) live ≡ before (seen_expr x) s
-  len_live is = operand_live x (tree.LenExpr x.at (seen_expr a)) (seen_expr a) live s s (seen_len x a is) refl live_is
+  pub field_same : (name : List ℕ) (number r : ℕ) (place : Option ℕ) → x.kind ≡ kind.Field a name → place ≡ read (seen_expr a) s → r ≡ standing place d → number ≡ number_of name c.table.names → steps ≡ Does (instr.Field d r number) ∷ old
+      → unless_read place (code c (seen_expr a) live d) ++ steps ≡ code c (seen_expr x) s d ++ old
+  field_same name number r place is place_is r_is number_is steps_is =
+      let p = read (seen_expr a) s in
+      let at = stands place p r d place_is r_is in
+      operand c x (tree.FieldExpr x.at (seen_expr a) name) (seen_expr a) place p live s s d (Does (instr.Field d (standing p d) (number_of name c.table.names)) ∷ []) old steps (seen_field x a name is) refl place_is live_is
+      (steps_is ∙ (λ i. Does (instr.Field d (at i) (number_is i)) ∷ old))
 
   pub is_live : (ty : Ty) → x.kind ≡ kind.Is a ty → before (seen_expr a) live ≡ before (seen_expr x) s
   is_live ty is = operand_live x (tree.IsExpr x.at (seen_expr a) (seen_ty ty)) (seen_expr a) live s s (seen_is x a ty is) refl live_is
 
-  pub field_live : (name : List ℕ) → x.kind ≡ kind.Field a name → before (seen_expr a) live ≡ before (seen_expr x) s
-  field_live name is = operand_live x (tree.FieldExpr x.at (seen_expr a) name) (seen_expr a) live s s (seen_field x a name is) refl live_is
-
 -- two operands: what is live behind the first is live before the second
 module _ (c : Context) (x : Expr) (a b : Expr) (s : Variables) (d : ℕ) (old : List Step) (live : Variables) (steps : List Step) where
-  pub binary_same : (o : Op) → x.kind ≡ kind.Binary o a b → live ≡ before (seen_expr b) s
-      → steps ≡ spec.operate o d (code c (seen_expr b) s (spec.right_register o d)) (spec.released (before (seen_expr b) s) s) (spec.is_plain (seen_expr b)) ++ old
-      → code c (seen_expr a) live d ++ steps ≡ code c (seen_expr x) s d ++ old
-  binary_same o is live_is steps_is =
-      operand c x (tree.BinaryExpr x.at o (seen_expr a) (seen_expr b)) (seen_expr a) live s (before (seen_expr b) s) d
-      (spec.operate o d (code c (seen_expr b) s (spec.right_register o d)) (spec.released (before (seen_expr b) s) s) (spec.is_plain (seen_expr b))) old steps (seen_binary x o a b is) refl live_is steps_is
+  -- the right side, and the operator on what stands in l and where the right side does
+  abbrev right_code : Op → ℕ → List Step
+  right_code o l =
+      let place = second_read o (seen_expr b) s in
+      spec.operate o d l (standing place (spec.right_register o d)) (unless_read place (code c (seen_expr b) s (spec.right_register o d))) (spec.released (before (seen_expr b) s) s) (plain_or_read place (spec.is_plain (seen_expr b)))
 
-  pub binary_live : (o : Op) → x.kind ≡ kind.Binary o a b → live ≡ before (seen_expr b) s → before (seen_expr a) live ≡ before (seen_expr x) s
-  binary_live o is live_is = operand_live x (tree.BinaryExpr x.at o (seen_expr a) (seen_expr b)) (seen_expr a) live s (before (seen_expr b) s) (seen_binary x o a b is) refl live_is
+  pub binary_same : (o : Op) (place : Option ℕ) (l : ℕ) → x.kind ≡ kind.Binary o a b → place ≡ first_read o (seen_expr a) (seen_expr b) s → l ≡ standing place d → live ≡ before (seen_expr b) s → steps ≡ right_code o l ++ old
+      → unless_read place (code c (seen_expr a) live d) ++ steps ≡ code c (seen_expr x) s d ++ old
+  binary_same o place l is place_is l_is live_is steps_is =
+      let p = first_read o (seen_expr a) (seen_expr b) s in
+      let at = stands place p l d place_is l_is in
+      operand c x (tree.BinaryExpr x.at o (seen_expr a) (seen_expr b)) (seen_expr a) place p live s (before (seen_expr b) s) d (right_code o (standing p d)) old steps (seen_binary x o a b is) refl place_is live_is (steps_is ∙ (λ i. right_code o (at i) ++ old))
 
   -- the second operand before an instruction
-  second : (live1 : Variables) (free : ℕ) (one : List Step) (step : Step) → free ≡ suc d → live1 ≡ s → one ≡ step ∷ old → steps ≡ code c (seen_expr b) live1 free ++ one → steps ≡ (code c (seen_expr b) s (suc d) ++ step ∷ []) ++ old
-  second live1 free one step free_is live1_is one_is steps_is =
-      steps_is ∙ (λ i. code c (seen_expr b) (live1_is i) (free_is i) ++ one_is i) ∙ sym (append_assoc (code c (seen_expr b) s (suc d)) (step ∷ []) old)
+  second : (place p : Option ℕ) (live1 : Variables) (free : ℕ) (one : List Step) (step : Step) → place ≡ p → free ≡ suc d → live1 ≡ s → one ≡ step ∷ old → steps ≡ unless_read place (code c (seen_expr b) live1 free) ++ one
+      → steps ≡ (unless_read p (code c (seen_expr b) s (suc d)) ++ step ∷ []) ++ old
+  second place p live1 free one step place_is free_is live1_is one_is steps_is =
+      steps_is ∙ (λ i. unless_read (place_is i) (code c (seen_expr b) (live1_is i) (free_is i)) ++ one_is i) ∙ sym (append_assoc (unless_read p (code c (seen_expr b) s (suc d))) (step ∷ []) old)
 
   second_live : (live1 : Variables) → live1 ≡ s → live ≡ before (seen_expr b) live1 → live ≡ before (seen_expr b) s
   second_live live1 live1_is live_is = live_is ∙ ap (λ (v : Variables). before (seen_expr b) v) live1_is
 
-  pub index_same : (live1 : Variables) (free : ℕ) (one : List Step) → x.kind ≡ kind.Index a b → free ≡ suc d → live1 ≡ s → one ≡ Does (instr.Get d d free) ∷ old → live ≡ before (seen_expr b) live1 → steps ≡ code c (seen_expr b) live1 free ++ one
-      → code c (seen_expr a) live d ++ steps ≡ code c (seen_expr x) s d ++ old
-  index_same live1 free one is free_is live1_is one_is live_is steps_is =
-      operand c x (tree.IndexExpr x.at (seen_expr a) (seen_expr b)) (seen_expr a) live s (before (seen_expr b) s) d (code c (seen_expr b) s (suc d) ++ Does (instr.Get d d (suc d)) ∷ []) old steps (seen_index x a b is) refl
-      (second_live live1 live1_is live_is) (second live1 free one (Does (instr.Get d d (suc d))) free_is live1_is (one_is ∙ (λ i. Does (instr.Get d d (free_is i)) ∷ old)) steps_is)
-
-  pub index_live : (live1 : Variables) → x.kind ≡ kind.Index a b → live1 ≡ s → live ≡ before (seen_expr b) live1 → before (seen_expr a) live ≡ before (seen_expr x) s
-  index_live live1 is live1_is live_is = operand_live x (tree.IndexExpr x.at (seen_expr a) (seen_expr b)) (seen_expr a) live s (before (seen_expr b) s) (seen_index x a b is) refl (second_live live1 live1_is live_is)
+  pub index_same : (whole place : Option ℕ) (l r : ℕ) (live1 : Variables) (free : ℕ) (one : List Step) → x.kind ≡ kind.Index a b → whole ≡ read (seen_expr a) s → l ≡ standing whole d → place ≡ variable_in (seen_expr b) → r ≡ standing place free → free ≡ suc d → live1 ≡ s
+      → one ≡ Does (instr.Get d l r) ∷ old → live ≡ before (seen_expr b) live1 → steps ≡ unless_read place (code c (seen_expr b) live1 free) ++ one → unless_read whole (code c (seen_expr a) live d) ++ steps ≡ code c (seen_expr x) s d ++ old
+  index_same whole place l r live1 free one is whole_is l_is place_is r_is free_is live1_is one_is live_is steps_is =
+      let w = read (seen_expr a) s in
+      let p = variable_in (seen_expr b) in
+      let l_at = stands whole w l d whole_is l_is in
+      let r_at = stands place p r free place_is r_is ∙ ap (λ (n : ℕ). standing p n) free_is in
+      let get = Does (instr.Get d (standing w d) (standing p (suc d))) in
+      operand c x (tree.IndexExpr x.at (seen_expr a) (seen_expr b)) (seen_expr a) whole w live s (before (seen_expr b) s) d (unless_read p (code c (seen_expr b) s (suc d)) ++ get ∷ []) old steps (seen_index x a b is) refl whole_is
+      (second_live live1 live1_is live_is) (second place p live1 free one get place_is free_is live1_is (one_is ∙ (λ i. Does (instr.Get d (l_at i) (r_at i)) ∷ old)) steps_is)
 
   pub repeat_same : (live1 : Variables) (free : ℕ) (one : List Step) → x.kind ≡ kind.Repeat a b → free ≡ suc d → live1 ≡ s → one ≡ Does (instr.Fill d d free) ∷ old → live ≡ before (seen_expr b) live1 → steps ≡ code c (seen_expr b) live1 free ++ one
       → code c (seen_expr a) live d ++ steps ≡ code c (seen_expr x) s d ++ old
   repeat_same live1 free one is free_is live1_is one_is live_is steps_is =
-      operand c x (tree.RepeatExpr x.at (seen_expr a) (seen_expr b)) (seen_expr a) live s (before (seen_expr b) s) d (code c (seen_expr b) s (suc d) ++ Does (instr.Fill d d (suc d)) ∷ []) old steps (seen_repeat x a b is) refl
-      (second_live live1 live1_is live_is) (second live1 free one (Does (instr.Fill d d (suc d))) free_is live1_is (one_is ∙ (λ i. Does (instr.Fill d d (free_is i)) ∷ old)) steps_is)
+      operand c x (tree.RepeatExpr x.at (seen_expr a) (seen_expr b)) (seen_expr a) None None live s (before (seen_expr b) s) d (code c (seen_expr b) s (suc d) ++ Does (instr.Fill d d (suc d)) ∷ []) old steps (seen_repeat x a b is) refl refl
+      (second_live live1 live1_is live_is) (second None None live1 free one (Does (instr.Fill d d (suc d))) refl free_is live1_is (one_is ∙ (λ i. Does (instr.Fill d d (free_is i)) ∷ old)) steps_is)
 
   pub repeat_live : (live1 : Variables) → x.kind ≡ kind.Repeat a b → live1 ≡ s → live ≡ before (seen_expr b) live1 → before (seen_expr a) live ≡ before (seen_expr x) s
   repeat_live live1 is live1_is live_is = operand_live x (tree.RepeatExpr x.at (seen_expr a) (seen_expr b)) (seen_expr a) live s (before (seen_expr b) s) (seen_repeat x a b is) refl (second_live live1 live1_is live_is)
@@ -109,7 +120,7 @@ module _ (c : Context) (x : Expr) (all : Bool) (variable : ℕ) (a b body : Expr
   quant_same free_is one_is steps_is =
       let t = turned variable (seen_expr body) s in
       let q = spec.quantify_code c all variable (seen_expr body) s d in
-      operand c x (tree.QuantExpr x.at all variable (seen_expr a) (seen_expr b) (seen_expr body)) (seen_expr a) live s (before (seen_expr b) t) d (code c (seen_expr b) t (suc d) ++ q) old steps (seen_quant x all variable a b body is) refl bound_live
+      operand c x (tree.QuantExpr x.at all variable (seen_expr a) (seen_expr b) (seen_expr body)) (seen_expr a) None None live s (before (seen_expr b) t) d (code c (seen_expr b) t (suc d) ++ q) old steps (seen_quant x all variable a b body is) refl refl bound_live
       (steps_is ∙ (λ i. code c (seen_expr b) (live1_is i) (free_is i) ++ one_is i) ∙ sym (append_assoc (code c (seen_expr b) t (suc d)) q old))
 
   pub quant_live : before (seen_expr a) live ≡ before (seen_expr x) s

@@ -1,4 +1,5 @@
 pub mod PieceLemmas
+pub mod LostLemmas
 pub mod OperatorLemmas
 pub mod SeenLemmas
 pub mod TypeLemmas

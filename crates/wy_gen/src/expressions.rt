@@ -3,10 +3,14 @@ ghost use Rattle.std.specs.Prelude.{◌≡◌, ◌++◌, IfOk};
 ghost use Rattle.wy_core.specs.CoreSeen.{seen_expr, seen_exprs, seen_fields};
 ghost use Rattle.wy_core.specs.CoreTree.{exprs_of};
 ghost use Rattle.wy_compiled.specs.Expressions as spec;
+ghost use Rattle.wy_compiled.specs.Operands as operands;
 ghost use Rattle.wy_live.specs.Walks as lives;
 
 use crate::calls::{call, is_test};
 use crate::made::{Made, is_plain, plain, previous, register_at, used};
+use crate::operands::{
+    first_read, in_place, plain_or_read, read, second_read, standing, variable_in,
+};
 use crate::operators::{begin_and, end_and, end_or, operator};
 use crate::quantifiers::{Begun, begin_quantifier, end_quantifier};
 use std::alloc::Global;
@@ -40,35 +44,53 @@ pub fn code(
             codes(alloc, context, args.as_slice(), register, behind)
         }
         ExprKind::Neg(operand) => {
-            let behind = negated(register, behind)?;
-            code(alloc, context, operand.get(), register, behind)
+            let operand = operand.get();
+            let place = variable_in(operand);
+            let behind = negated(register, standing(place, register), behind)?;
+            operand_code(alloc, context, operand, place, register, behind)
         }
         ExprKind::Not(operand) => {
-            let behind = plain(Instr::Not(register, register), behind)?;
-            code(alloc, context, operand.get(), register, behind)
+            let operand = operand.get();
+            let place = variable_in(operand);
+            let behind = plain(Instr::Not(register, standing(place, register)), behind)?;
+            operand_code(alloc, context, operand, place, register, behind)
         }
         ExprKind::Len(operand) => {
-            let behind = plain(Instr::Len(register, register), behind)?;
-            code(alloc, context, operand.get(), register, behind)
+            let operand = operand.get();
+            let place = read(operand, &behind.live);
+            let behind = plain(Instr::Len(register, standing(place, register)), behind)?;
+            operand_code(alloc, context, operand, place, register, behind)
         }
         ExprKind::Binary(op, left, right) => {
-            let behind = right_side(alloc, context, *op, right.get(), register, behind)?;
-            code(alloc, context, left.get(), register, behind)
+            let left = left.get();
+            let right = right.get();
+            let place = first_read(*op, left, right, &behind.live);
+            let first = standing(place, register);
+            let behind = right_side(alloc, context, *op, first, right, register, behind)?;
+            operand_code(alloc, context, left, place, register, behind)
         }
         ExprKind::Is(operand, ty) => {
             let behind = is_test(alloc, context, ty, register, behind)?;
             code(alloc, context, operand.get(), register, behind)
         }
         ExprKind::Index(array, index) => {
+            let array = array.get();
+            let index = index.get();
+            let whole = read(array, &behind.live);
+            let place = variable_in(index);
             let free = next(register)?;
-            let behind = plain(Instr::Get(register, register, free), behind)?;
-            let behind = code(alloc, context, index.get(), free, behind)?;
-            code(alloc, context, array.get(), register, behind)
+            let item = Instr::Get(register, standing(whole, register), standing(place, free));
+            let behind = plain(item, behind)?;
+            let behind = operand_code(alloc, context, index, place, free, behind)?;
+            operand_code(alloc, context, array, whole, register, behind)
         }
         ExprKind::Field(whole, name) => {
+            let whole = whole.get();
+            let place = read(whole, &behind.live);
             let number = name_number(name, &context.table)?;
-            let behind = plain(Instr::Field(register, register, number), behind)?;
-            code(alloc, context, whole.get(), register, behind)
+            let part = Instr::Field(register, standing(place, register), number);
+            let behind = plain(part, behind)?;
+            operand_code(alloc, context, whole, place, register, behind)
         }
         ExprKind::List(items) => {
             let behind = list(alloc, items.len(), register, behind)?;
@@ -95,17 +117,38 @@ pub fn code(
     }
 }
 
-/// The right side of an operator, and the operator.
+/// The code of an operand, of which there is none where it is read in its register: its variable is
+/// live before it.
+#[cycle(code)]
+fn operand_code(
+    alloc: Global,
+    context: &Context,
+    expr: &Expr,
+    place: Option<u32>,
+    register: u32,
+    behind: Made,
+) -> Result<Made, NoMemory>
+    ensures value { IfOk result (λ m. m.steps ≡ operands.unless_read place (spec.code context.now (seen_expr expr.now) behind.live register) ++ behind.steps) }
+    ensures live { IfOk result (λ m. m.live ≡ lives.before (seen_expr expr.now) behind.live) }
+{
+    match place {
+        None => code(alloc, context, expr, register, behind),
+        Some(_) => in_place(expr, behind),
+    }
+}
+
+/// The right side of an operator whose left side stands in a register, and the operator.
 #[cycle(code)]
 fn right_side(
     alloc: Global,
     context: &Context,
     op: Op,
+    left: u32,
     right: &Expr,
     register: u32,
     behind: Made,
 ) -> Result<Made, NoMemory>
-    ensures value { IfOk result (λ m. m.steps ≡ spec.operate op register (spec.code context.now (seen_expr right.now) behind.live (spec.right_register op register)) (spec.released (lives.before (seen_expr right.now) behind.live) behind.live) (spec.is_plain (seen_expr right.now)) ++ behind.steps) }
+    ensures value { IfOk result (λ m. m.steps ≡ spec.operate op register left (operands.standing (operands.second_read op (seen_expr right.now) behind.live) (spec.right_register op register)) (operands.unless_read (operands.second_read op (seen_expr right.now) behind.live) (spec.code context.now (seen_expr right.now) behind.live (spec.right_register op register))) (spec.released (lives.before (seen_expr right.now) behind.live) behind.live) (operands.plain_or_read (operands.second_read op (seen_expr right.now) behind.live) (spec.is_plain (seen_expr right.now))) ++ behind.steps) }
     ensures live { IfOk result (λ m. m.live ≡ lives.before (seen_expr right.now) behind.live) }
 {
     match op {
@@ -123,8 +166,11 @@ fn right_side(
         }
         _ => {
             let free = next(register)?;
-            let behind = operator(alloc, op, is_plain(right), register, behind)?;
-            code(alloc, context, right, free, behind)
+            let place = second_read(op, right, &behind.live);
+            let second = standing(place, free);
+            let is_plain = plain_or_read(place, is_plain(right));
+            let behind = operator(alloc, op, is_plain, register, left, second, behind)?;
+            operand_code(alloc, context, right, place, free, behind)
         }
     }
 }
@@ -202,13 +248,13 @@ fn quantify(
 }
 
 /// The number in a register is taken from 0.
-fn negated(register: u32, behind: Made) -> Result<Made, NoMemory>
-    ensures value { IfOk result (λ m. m.steps ≡ spec.negated register ++ behind.steps) }
+fn negated(register: u32, number: u32, behind: Made) -> Result<Made, NoMemory>
+    ensures value { IfOk result (λ m. m.steps ≡ spec.negated register number ++ behind.steps) }
     ensures live { IfOk result (λ m. m.live ≡ behind.live) }
 {
     let free = next(register)?;
     let behind = plain(
-        Instr::Arith(register, Arithmetic::Sub, free, register),
+        Instr::Arith(register, Arithmetic::Sub, free, number),
         behind,
     )?;
     plain(Instr::Const(free, Scalar::Int(0)), behind)

@@ -18,6 +18,7 @@ mod calls;
 mod expressions;
 mod loops;
 mod made;
+mod operands;
 mod operators;
 mod program;
 mod quantifiers;

@@ -10,8 +10,8 @@ use std::alloc::Global;
 use wy_code::Instr;
 use wy_core::{Expr, ExprKind, Op};
 use wy_items::Items;
-use wy_live::Variables;
-use wy_pieces::{NoMemory, Steps, clear, clear_one, does, next};
+use wy_live::{Variables, next_lost};
+use wy_pieces::{NoMemory, Steps, clear, clear_one, does};
 
 /// Code before a point, and what is live there.
 #[derive(Drop)]
@@ -20,19 +20,29 @@ pub struct Made {
     pub steps: Steps,
 }
 
-/// The variables that are live in the one and not in the other. It is linear in the bits of the one.
+/// The variables that are live in the one and not in the other. It is linear in these, and in the bits
+/// of the one, which are looked at many together.
+#[tactic(auto, using(crate::proofs::LostLemmas::first_lost, crate::proofs::LostLemmas::next_lost))]
 fn lost(alloc: Global, one: &Variables, other: &Variables) -> Result<Items<u32>, NoMemory>
     ensures value { IfOk result (λ rs. rs ≡ spec.lost one.now other.now) }
 {
     let mut registers = Items::new(alloc);
-    let mut variable = 0u32;
-    for _ in 0..one.len() {
-        if one.has(variable) && !other.has(variable) {
-            registers.push(variable)?;
-        }
-        variable = next(variable)?;
+    let mut variable = next_lost(one, other, 0);
+    while variable < one.len() {
+        registers.push(register_of(variable)?)?;
+        variable = next_lost(one, other, variable + 1);
     }
     Ok(registers)
+}
+
+/// The register of a variable.
+fn register_of(variable: usize) -> Result<u32, NoMemory>
+    ensures value { IfOk result (λ r. r ≡ variable) }
+{
+    match u32::try_from(variable) {
+        Ok(register) => Ok(register),
+        Err(_) => Err(NoMemory),
+    }
 }
 
 /// They are released before the others.

@@ -11,7 +11,7 @@ use std::alloc::Global;
 use wy_code::{Arithmetic, Comparison, Instr};
 use wy_core::{Expr, Op};
 use wy_live::Variables;
-use wy_pieces::{NoMemory, does, fork, jump_over, next, where_true};
+use wy_pieces::{NoMemory, does, fork, jump_over, where_true};
 
 /// Behind the right side of `&&`: what that side alone uses is released, since it may be left out.
 pub fn begin_and(alloc: Global, right: &Expr, behind: Made) -> Result<Made, NoMemory>
@@ -54,57 +54,77 @@ pub fn end_or(
     Ok(Made { live, steps })
 }
 
-/// An operator that evaluates both sides, which stand in `left` and the register behind it.
+/// An operator that evaluates both sides, which stand in two registers; what comes of it comes into
+/// `register`.
 pub fn operator(
     alloc: Global,
     op: Op,
     is_plain: bool,
+    register: u32,
     left: u32,
+    right: u32,
     behind: Made,
 ) -> Result<Made, NoMemory>
-    ensures value { IfOk result (λ m. m.steps ≡ spec.operator op left is_plain ++ behind.steps) }
+    ensures value { IfOk result (λ m. m.steps ≡ spec.operator op register left right is_plain ++ behind.steps) }
     ensures live { IfOk result (λ m. m.live ≡ behind.live) }
 {
     match op {
-        Op::Add => arith(Arithmetic::Add, left, behind),
-        Op::Sub => arith(Arithmetic::Sub, left, behind),
-        Op::Mul => arith(Arithmetic::Mul, left, behind),
-        Op::Div => arith(Arithmetic::Div, left, behind),
-        Op::Mod => arith(Arithmetic::Mod, left, behind),
-        Op::Less => compare(Comparison::Less, left, behind),
-        Op::LessEqual => compare(Comparison::LessEqual, left, behind),
-        Op::Greater => compare(Comparison::Greater, left, behind),
-        Op::GreaterEqual => compare(Comparison::GreaterEqual, left, behind),
-        Op::Equal => equal(alloc, is_plain, left, behind),
+        Op::Add => arith(Arithmetic::Add, register, left, right, behind),
+        Op::Sub => arith(Arithmetic::Sub, register, left, right, behind),
+        Op::Mul => arith(Arithmetic::Mul, register, left, right, behind),
+        Op::Div => arith(Arithmetic::Div, register, left, right, behind),
+        Op::Mod => arith(Arithmetic::Mod, register, left, right, behind),
+        Op::Less => compare(Comparison::Less, register, left, right, behind),
+        Op::LessEqual => compare(Comparison::LessEqual, register, left, right, behind),
+        Op::Greater => compare(Comparison::Greater, register, left, right, behind),
+        Op::GreaterEqual => compare(Comparison::GreaterEqual, register, left, right, behind),
+        Op::Equal => equal(alloc, is_plain, register, left, right, behind),
         Op::And => Ok(behind),
         Op::Or => Ok(behind),
     }
 }
 
-fn arith(op: Arithmetic, left: u32, behind: Made) -> Result<Made, NoMemory>
-    ensures value { IfOk result (λ m. m.steps ≡ spec.arith op left ++ behind.steps) }
+fn arith(
+    op: Arithmetic,
+    register: u32,
+    left: u32,
+    right: u32,
+    behind: Made,
+) -> Result<Made, NoMemory>
+    ensures value { IfOk result (λ m. m.steps ≡ spec.arith op register left right ++ behind.steps) }
     ensures live { IfOk result (λ m. m.live ≡ behind.live) }
 {
-    let right = next(left)?;
-    plain(Instr::Arith(left, op, left, right), behind)
+    plain(Instr::Arith(register, op, left, right), behind)
 }
 
-fn compare(op: Comparison, left: u32, behind: Made) -> Result<Made, NoMemory>
-    ensures value { IfOk result (λ m. m.steps ≡ spec.compare op left ++ behind.steps) }
+fn compare(
+    op: Comparison,
+    register: u32,
+    left: u32,
+    right: u32,
+    behind: Made,
+) -> Result<Made, NoMemory>
+    ensures value { IfOk result (λ m. m.steps ≡ spec.compare op register left right ++ behind.steps) }
     ensures live { IfOk result (λ m. m.live ≡ behind.live) }
 {
-    let right = next(left)?;
-    plain(Instr::Compare(left, op, left, right), behind)
+    plain(Instr::Compare(register, op, left, right), behind)
 }
 
-/// The left side is given up by the answer that takes its place; the right side is released.
-fn equal(alloc: Global, is_plain: bool, left: u32, behind: Made) -> Result<Made, NoMemory>
-    ensures value { IfOk result (λ m. m.steps ≡ spec.equal is_plain left ++ behind.steps) }
+/// A left side that was evaluated is given up by the answer, which takes its place; a right side that
+/// was is released.
+fn equal(
+    alloc: Global,
+    is_plain: bool,
+    register: u32,
+    left: u32,
+    right: u32,
+    behind: Made,
+) -> Result<Made, NoMemory>
+    ensures value { IfOk result (λ m. m.steps ≡ spec.equal is_plain register left right ++ behind.steps) }
     ensures live { IfOk result (λ m. m.live ≡ behind.live) }
 {
-    let right = next(left)?;
     let Made { live, steps } = behind;
     let steps = release_unless(alloc, is_plain, right, steps)?;
-    let steps = does(Instr::Equal(left, left, right), steps)?;
+    let steps = does(Instr::Equal(register, left, right), steps)?;
     Ok(Made { live, steps })
 }

@@ -1,11 +1,15 @@
 -- What the code of operators, tests, calls and lists keeps.
-use Rattle.std.proofs.Common.{◌≡◌, ◌≢◌, ◌<◌, ◌≤◌, ◌⊎◌, inl, inr, ℕ, suc, ◌+◌, List, [], ◌∷◌, ◌++◌, length, Bool, true, false, cond, Some, refl, sym, subst, arith}
+use Rattle.std.proofs.Common.{◌≡◌, ◌≢◌, ◌<◌, ◌≤◌, ◌⊎◌, inl, inr, ℕ, suc, ◌+◌, List, [], ◌∷◌, ◌++◌, length, Bool, true, false, cond, Some, refl, sym, subst, arith, Option, None}
 use Rattle.std.specs.Prelude.{slice_get}
 use Rattle.wy_core.specs.Types.{Ty}
 use Rattle.wy_core.specs.CoreTree.{Expr, BinaryExpr}
 use Rattle.wy_core.specs.declared.expressions.Op.{Op}
 use Rattle.wy_core.specs.declared.expressions.Op.TheVariants as op
 use Rattle.wy_code.specs.declared.instructions.Scalar.{Scalar}
+use Rattle.wy_code.specs.declared.instructions.Arithmetic.{Arithmetic}
+use Rattle.wy_code.specs.declared.instructions.Arithmetic.TheVariants as arithmetic
+use Rattle.wy_code.specs.declared.instructions.Comparison.{Comparison}
+use Rattle.wy_code.specs.declared.instructions.Comparison.TheVariants as comparison
 use Rattle.wy_code.specs.declared.instructions.Instr.{Instr}
 use Rattle.wy_code.specs.declared.instructions.Instr.TheVariants as instr
 use Rattle.wy_tables.specs.declared.context.Context.{Context}
@@ -16,7 +20,8 @@ use Rattle.wy_live.specs.Walks.{before}
 use Rattle.wy_pieces.specs.declared.steps.Step.TheVariants.{Does}
 use Rattle.wy_pieces.specs.Steps.{dropped, fork, registers_from}
 use Rattle.wy_compiled.specs.TypeTests.{test}
-use Rattle.wy_compiled.specs.Expressions.{lost, released, is_plain, operator, operate, right_register, call, is_test, list, code}
+use Rattle.wy_compiled.specs.Operands.{variable_in, read, read_first, standing, unless_read, plain_or_read}
+use Rattle.wy_compiled.specs.Expressions.{lost, released, is_plain, arith as arith_code, compare, equal, call, is_test, tested, list, code}
 use Rattle.wy_kept_registers.specs.Keeping.{IsNone}
 use Rattle.wy_kept_code.specs.Alive.{LiveAt}
 use Rattle.wy_kept_code.specs.Safe.{Gives}
@@ -24,8 +29,9 @@ use Rattle.wy_kept_code.specs.Fitting.{IsValue, Fits}
 use Rattle.wy_kept_code.proofs.PieceLemmas.{either, one_not_none, less_not, none_below, Spans, front, back, tail, live_reads, live_on, live_first, live_second, Lives, Sure, sure_less, safe_step, safe_at, safe_fork, safe_where, lives_on, lives_at}
 use Rattle.wy_kept_code.proofs.SetLemmas.{not_both, Vars, before_cases, with_cases, still_has, not_lost}
 use Rattle.wy_kept_code.proofs.TestLemmas.{With, test_live, live_turned, sure_turned, dropped_safe, test_safe}
+use Rattle.wy_kept_code.proofs.InPlaceLemmas.{IsLiveIn, variable_its, read_its, first_its}
 use Rattle.wy_kept_code.proofs.ReadLemmas.{from_registers, clear_live, code_live}
-use Rattle.wy_kept_code.proofs.OperandLemmas.{Range, in_range, code_some, fork_reads, base_low, known_before, operands_ready, clear_sure, pair_safe, operator_ready}
+use Rattle.wy_kept_code.proofs.OperandLemmas.{Range, Stands, ready_less, in_range, code_some, fork_reads, base_low, known_before, operands_ready, clear_sure, pair_safe, arith_ready, compare_ready, equal_ready}
 
 module _ (body : List Instr) (c : Context) (n : ℕ) (t : Gives) (f : ℕ) where
   -- live variables, and the registers of the expressions around
@@ -117,26 +123,48 @@ module _ (body : List Instr) (c : Context) (n : ℕ) (t : Gives) (f : ℕ) where
               (sure_less body t f m next (B s A) (λ r. B s A r ⊎ H b d r) (λ r l. inl l) exit.1),
         )
 
-    strict_safe : (o : Op) (a b : Expr ℕ) → (o ≡ op.And → ⊥) → (o ≡ op.Or → ⊥) → Sf a U → Sf b U → Fits c n b U → (m : ℕ) (s : Variables) (A : ℕ → Type 0) (d at next : ℕ) → Kn s U → n ≤ d → Ar d A
-        → Spans body at (code c a (before b s) d ++ (code c b s (suc d) ++ operator o d (is_plain b))) next → Comes m next (B s A) → Comes m at (B (before a (before b s)) A)
-    strict_safe o a b x y one two fit m s A d at next known nd around h exit =
-        pair_safe body c n t f U low a b one two fit m s A d at next (operator o d (is_plain b)) known nd around h
-        (λ p sp. operator_ready body c n t f U low o a b m s A d p next known nd around sp (exit.0, sure_less body t f m next (λ r. B s A r ⊎ ⊥) (B s A) (λ r l. either (λ k. k) (λ z. absurd z) l) exit.1) x y)
+    none_more : (m p : ℕ) (P : ℕ → Type 0) → Comes m p P → Leaves m p P (λ r. ⊥)
+    none_more m p P k = (k.0, sure_less body t f m p (λ r. P r ⊎ ⊥) P (λ r l. either (λ z. z) (λ z. absurd z) l) k.1)
 
-    pub binary_safe : (i : ℕ) (o : Op) (a b : Expr ℕ) → Sf a U → Sf b U → Fits c n b U → (m : ℕ) (s : Variables) (A : ℕ → Type 0) (d at next : ℕ) → Kn s U → n ≤ d → Ar d A
-        → Spans body at (code c a (before b s) d ++ operate o d (code c b s (right_register o d)) (released (before b s) s) (is_plain b)) next → Full m next (B s A) (BinaryExpr i o a b) d → Comes m at (B (before a (before b s)) A)
-    binary_safe i op.Add a b one two fit m s A d at next known nd around h exit = strict_safe op.Add a b (λ e. cc) (λ e. cc) one two fit m s A d at next known nd around h (exit.0, sure_less body t f m next (B s A) (λ r. B s A r ⊎ H (BinaryExpr i op.Add a b) d r) (λ r l. inl l) exit.1)
-    binary_safe i op.Sub a b one two fit m s A d at next known nd around h exit = strict_safe op.Sub a b (λ e. cc) (λ e. cc) one two fit m s A d at next known nd around h (exit.0, sure_less body t f m next (B s A) (λ r. B s A r ⊎ H (BinaryExpr i op.Sub a b) d r) (λ r l. inl l) exit.1)
-    binary_safe i op.Mul a b one two fit m s A d at next known nd around h exit = strict_safe op.Mul a b (λ e. cc) (λ e. cc) one two fit m s A d at next known nd around h (exit.0, sure_less body t f m next (B s A) (λ r. B s A r ⊎ H (BinaryExpr i op.Mul a b) d r) (λ r l. inl l) exit.1)
-    binary_safe i op.Div a b one two fit m s A d at next known nd around h exit = strict_safe op.Div a b (λ e. cc) (λ e. cc) one two fit m s A d at next known nd around h (exit.0, sure_less body t f m next (B s A) (λ r. B s A r ⊎ H (BinaryExpr i op.Div a b) d r) (λ r l. inl l) exit.1)
-    binary_safe i op.Mod a b one two fit m s A d at next known nd around h exit = strict_safe op.Mod a b (λ e. cc) (λ e. cc) one two fit m s A d at next known nd around h (exit.0, sure_less body t f m next (B s A) (λ r. B s A r ⊎ H (BinaryExpr i op.Mod a b) d r) (λ r l. inl l) exit.1)
-    binary_safe i op.Equal a b one two fit m s A d at next known nd around h exit = strict_safe op.Equal a b (λ e. cc) (λ e. cc) one two fit m s A d at next known nd around h (exit.0, sure_less body t f m next (B s A) (λ r. B s A r ⊎ H (BinaryExpr i op.Equal a b) d r) (λ r l. inl l) exit.1)
-    binary_safe i op.Less a b one two fit m s A d at next known nd around h exit = strict_safe op.Less a b (λ e. cc) (λ e. cc) one two fit m s A d at next known nd around h (exit.0, sure_less body t f m next (B s A) (λ r. B s A r ⊎ H (BinaryExpr i op.Less a b) d r) (λ r l. inl l) exit.1)
-    binary_safe i op.LessEqual a b one two fit m s A d at next known nd around h exit = strict_safe op.LessEqual a b (λ e. cc) (λ e. cc) one two fit m s A d at next known nd around h (exit.0, sure_less body t f m next (B s A) (λ r. B s A r ⊎ H (BinaryExpr i op.LessEqual a b) d r) (λ r l. inl l) exit.1)
-    binary_safe i op.Greater a b one two fit m s A d at next known nd around h exit = strict_safe op.Greater a b (λ e. cc) (λ e. cc) one two fit m s A d at next known nd around h (exit.0, sure_less body t f m next (B s A) (λ r. B s A r ⊎ H (BinaryExpr i op.Greater a b) d r) (λ r l. inl l) exit.1)
-    binary_safe i op.GreaterEqual a b one two fit m s A d at next known nd around h exit = strict_safe op.GreaterEqual a b (λ e. cc) (λ e. cc) one two fit m s A d at next known nd around h (exit.0, sure_less body t f m next (B s A) (λ r. B s A r ⊎ H (BinaryExpr i op.GreaterEqual a b) d r) (λ r l. inl l) exit.1)
-    binary_safe i op.And a b one two fit m s A d at next known nd around h exit = and_safe a b one two fit m s A d at next known nd around h exit
-    binary_safe i op.Or a b one two fit m s A d at next known nd around h exit = or_safe a b one two fit m s A d at next known nd around h exit
+    arith_safe : (o : Arithmetic) (a b : Expr ℕ) → Fits c n a U → Sf a U → Sf b U → Fits c n b U → (m : ℕ) (s : Variables) (A : ℕ → Type 0) (d at next : ℕ) → Kn s U → n ≤ d → Ar d A
+        → Spans body at (unless_read (read_first a b s) (code c a (before b s) d) ++ (unless_read (variable_in b) (code c b s (suc d)) ++ arith_code o d (standing (read_first a b s) d) (standing (variable_in b) (suc d)))) next
+        → Comes m next (B s A) → Comes m at (B (before a (before b s)) A)
+    arith_safe o a b fit_a one two fit m s A d at next known nd around h exit =
+        let w = read_first a b s in let v = variable_in b in let k = first_its c n a b s U fit_a in
+        pair_safe body c n t f U low w v a b k.0 (variable_its c n b U fit) one two fit m s A d at next (arith_code o d (standing w d) (standing v (suc d))) k.1 known nd around h
+        (λ p sp. arith_ready body c n t f U low w v a b o m s A d p next known nd around sp (none_more m next (B s A) exit))
+
+    compare_safe : (o : Comparison) (a b : Expr ℕ) → Fits c n a U → Sf a U → Sf b U → Fits c n b U → (m : ℕ) (s : Variables) (A : ℕ → Type 0) (d at next : ℕ) → Kn s U → n ≤ d → Ar d A
+        → Spans body at (unless_read (read_first a b s) (code c a (before b s) d) ++ (unless_read (variable_in b) (code c b s (suc d)) ++ compare o d (standing (read_first a b s) d) (standing (variable_in b) (suc d)))) next
+        → Comes m next (B s A) → Comes m at (B (before a (before b s)) A)
+    compare_safe o a b fit_a one two fit m s A d at next known nd around h exit =
+        let w = read_first a b s in let v = variable_in b in let k = first_its c n a b s U fit_a in
+        pair_safe body c n t f U low w v a b k.0 (variable_its c n b U fit) one two fit m s A d at next (compare o d (standing w d) (standing v (suc d))) k.1 known nd around h
+        (λ p sp. compare_ready body c n t f U low w v a b o m s A d p next known nd around sp (none_more m next (B s A) exit))
+
+    equal_safe : (a b : Expr ℕ) → Fits c n a U → Sf a U → Sf b U → Fits c n b U → (m : ℕ) (s : Variables) (A : ℕ → Type 0) (d at next : ℕ) → Kn s U → n ≤ d → Ar d A
+        → Spans body at (unless_read (read a s) (code c a (before b s) d) ++ (unless_read (read b s) (code c b s (suc d)) ++ equal (plain_or_read (read b s) (is_plain b)) d (standing (read a s) d) (standing (read b s) (suc d)))) next
+        → Comes m next (B s A) → Comes m at (B (before a (before b s)) A)
+    equal_safe a b fit_a one two fit m s A d at next known nd around h exit =
+        let w = read a s in let v = read b s in let plain = plain_or_read v (is_plain b) in
+        let k = read_its c n a s U fit_a in let l = read_its c n b s U fit in
+        pair_safe body c n t f U low w v a b k.0 l.0 one two fit m s A d at next (equal plain d (standing w d) (standing v (suc d))) (inl k.1) known nd around h
+        (λ p sp. equal_ready body c n t f U low w v a b plain refl m s A d p next k.1 l.1 known nd around sp (none_more m next (B s A) exit))
+
+    pub binary_safe : (i : ℕ) (o : Op) (a b : Expr ℕ) → Fits c n a U → Sf a U → Sf b U → Fits c n b U → (m : ℕ) (s : Variables) (A : ℕ → Type 0) (d at next : ℕ) → Kn s U → n ≤ d → Ar d A
+        → Spans body at (code c (BinaryExpr i o a b) s d) next → Full m next (B s A) (BinaryExpr i o a b) d → Comes m at (B (before a (before b s)) A)
+    binary_safe i op.Add a b fit_a one two fit m s A d at next known nd around h exit = arith_safe arithmetic.Add a b fit_a one two fit m s A d at next known nd around h (exit.0, sure_less body t f m next (B s A) (λ r. B s A r ⊎ H (BinaryExpr i op.Add a b) d r) (λ r l. inl l) exit.1)
+    binary_safe i op.Sub a b fit_a one two fit m s A d at next known nd around h exit = arith_safe arithmetic.Sub a b fit_a one two fit m s A d at next known nd around h (exit.0, sure_less body t f m next (B s A) (λ r. B s A r ⊎ H (BinaryExpr i op.Sub a b) d r) (λ r l. inl l) exit.1)
+    binary_safe i op.Mul a b fit_a one two fit m s A d at next known nd around h exit = arith_safe arithmetic.Mul a b fit_a one two fit m s A d at next known nd around h (exit.0, sure_less body t f m next (B s A) (λ r. B s A r ⊎ H (BinaryExpr i op.Mul a b) d r) (λ r l. inl l) exit.1)
+    binary_safe i op.Div a b fit_a one two fit m s A d at next known nd around h exit = arith_safe arithmetic.Div a b fit_a one two fit m s A d at next known nd around h (exit.0, sure_less body t f m next (B s A) (λ r. B s A r ⊎ H (BinaryExpr i op.Div a b) d r) (λ r l. inl l) exit.1)
+    binary_safe i op.Mod a b fit_a one two fit m s A d at next known nd around h exit = arith_safe arithmetic.Mod a b fit_a one two fit m s A d at next known nd around h (exit.0, sure_less body t f m next (B s A) (λ r. B s A r ⊎ H (BinaryExpr i op.Mod a b) d r) (λ r l. inl l) exit.1)
+    binary_safe i op.Equal a b fit_a one two fit m s A d at next known nd around h exit = equal_safe a b fit_a one two fit m s A d at next known nd around h (exit.0, sure_less body t f m next (B s A) (λ r. B s A r ⊎ H (BinaryExpr i op.Equal a b) d r) (λ r l. inl l) exit.1)
+    binary_safe i op.Less a b fit_a one two fit m s A d at next known nd around h exit = compare_safe comparison.Less a b fit_a one two fit m s A d at next known nd around h (exit.0, sure_less body t f m next (B s A) (λ r. B s A r ⊎ H (BinaryExpr i op.Less a b) d r) (λ r l. inl l) exit.1)
+    binary_safe i op.LessEqual a b fit_a one two fit m s A d at next known nd around h exit = compare_safe comparison.LessEqual a b fit_a one two fit m s A d at next known nd around h (exit.0, sure_less body t f m next (B s A) (λ r. B s A r ⊎ H (BinaryExpr i op.LessEqual a b) d r) (λ r l. inl l) exit.1)
+    binary_safe i op.Greater a b fit_a one two fit m s A d at next known nd around h exit = compare_safe comparison.Greater a b fit_a one two fit m s A d at next known nd around h (exit.0, sure_less body t f m next (B s A) (λ r. B s A r ⊎ H (BinaryExpr i op.Greater a b) d r) (λ r l. inl l) exit.1)
+    binary_safe i op.GreaterEqual a b fit_a one two fit m s A d at next known nd around h exit = compare_safe comparison.GreaterEqual a b fit_a one two fit m s A d at next known nd around h (exit.0, sure_less body t f m next (B s A) (λ r. B s A r ⊎ H (BinaryExpr i op.GreaterEqual a b) d r) (λ r l. inl l) exit.1)
+    binary_safe i op.And a b fit_a one two fit m s A d at next known nd around h exit = and_safe a b one two fit m s A d at next known nd around h exit
+    binary_safe i op.Or a b fit_a one two fit m s A d at next known nd around h exit = or_safe a b one two fit m s A d at next known nd around h exit
 
     -- ---- one instruction without operands
 
@@ -157,7 +185,7 @@ module _ (body : List Instr) (c : Context) (n : ℕ) (t : Gives) (f : ℕ) where
     -- ---- a test of a type, behind which the value is released
 
     -- what the test says may be any value
-    pub is_test_ready : (ty : Ty) (a : Expr ℕ) (m : ℕ) (s : Variables) (A : ℕ → Type 0) (d p next : ℕ) → Kn s U → n ≤ d → Ar d A → Spans body p (is_test c ty d) next → Leaves m next (B s A) (λ r. (r ≡ d) × (false ≡ false)) → Comes m p (λ r. B s A r ⊎ (r ≡ d))
+    is_test_ready : (ty : Ty) (a : Expr ℕ) (m : ℕ) (s : Variables) (A : ℕ → Type 0) (d p next : ℕ) → Kn s U → n ≤ d → Ar d A → Spans body p (is_test c ty d) next → Leaves m next (B s A) (λ r. (r ≡ d) × (false ≡ false)) → Comes m p (λ r. B s A r ⊎ (r ≡ d))
     is_test_ready ty a m s A d p next known nd around h exit =
         let one = test c ty d (suc d) (suc (suc d)) in
         let last : Instr = instr.Move d (suc d) in
@@ -181,6 +209,34 @@ module _ (body : List Instr) (c : Context) (n : ℕ) (t : Gives) (f : ℕ) where
           (λ r l. test_live body c ty d (suc d) (suc (suc d)) p mid r (front body p one rest next h) (un r l).0 (un r l).1 (live_mid r (inl l))),
           test_safe body c t f ty m p mid d (suc d) (suc (suc d)) (With (B s A) d) (front body p one rest next h) un (omega arith) live_mid (sure_turned body c t f m mid (suc d) d (B s A) facts.0),
         )
+
+    -- the variable is live behind, so it stays in its register
+    kept_test_ready : (ty : Ty) (x m : ℕ) (s : Variables) (A : ℕ → Type 0) (d p next : ℕ) → Kn s U → n ≤ d → Ar d A → Spans body p (tested c ty (Some x) d) next → Leaves m next (B s A) (λ r. (r ≡ d) × (false ≡ false)) → Comes m p (B s A)
+    kept_test_ready ty x m s A d p next known nd around h exit =
+        let one = test c ty x (suc d) (suc (suc d)) in
+        let last : Instr = instr.Move d (suc d) in
+        let mid = p + length one in
+        let first = front body p one (Does last ∷ []) next h in
+        let rest = back body p one (Does last ∷ []) next h in
+        let e : next ≡ mid + 1 = (let z = rest.1 in omega (arith, z)) in
+        let lows = base_low body c n t f s A U d known low nd around in
+        let un : (r : ℕ) → B s A r → (r < suc (suc d)) × (r ≢ suc d) = λ r l. let z = lows r l in (omega (arith, z), less_not r (suc d) (omega (arith, z))) in
+        let answered : ℕ → Type 0 = With (B s A) (suc d) in
+        let live : Lives body t f mid answered = λ r l. either (λ b. live_on body mid (mid + 1) r last rest.0.0 (less_not r d (lows r b), ((un r b).1, tt)) (inl refl) (lives_at body t f next (mid + 1) (B s A) e exit.0 r b)) (λ w. live_reads body mid r last rest.0.0 (inl w)) l in
+        let safe : Sure body t f m mid answered = safe_step body t f m mid last answered (λ r. B s A r ⊎ ((r ≡ d) × (false ≡ false))) rest.0.0 live (λ x w. w)
+        (λ r l. either (λ z. either (λ b. inl b) (λ w. absurd (z.1.1.0 w)) z.0) (λ z. inr (z.0, refl)) l)
+        (safe_at body t f m next (mid + 1) (λ r. B s A r ⊎ ((r ≡ d) × (false ≡ false))) e exit.1) in (
+          (λ r l. test_live body c ty x (suc d) (suc (suc d)) p mid r first (un r l).0 (un r l).1 (live r (inl l))),
+          test_safe body c t f ty m p mid x (suc d) (suc (suc d)) (B s A) first un (omega arith) live safe,
+        )
+
+    -- the value, or such a variable
+    pub tested_ready : (ty : Ty) (w : Option ℕ) (a : Expr ℕ) (m : ℕ) (s : Variables) (A : ℕ → Type 0) (d p next : ℕ) → IsLiveIn w s → Kn s U → n ≤ d → Ar d A → Spans body p (tested c ty w d) next → Leaves m next (B s A) (λ r. (r ≡ d) × (false ≡ false))
+        → Comes m p (λ r. B s A r ⊎ Stands body c n t f w a d r)
+    tested_ready ty None a m s A d p next live known nd around h exit =
+        ready_less body c n t f m p (λ r. B s A r ⊎ H a d r) (λ r. B s A r ⊎ (r ≡ d)) (λ r l. either (λ z. inl z) (λ z. inr z.0) l) (is_test_ready ty a m s A d p next known nd around h exit)
+    tested_ready ty (Some x) a m s A d p next live known nd around h exit =
+        ready_less body c n t f m p (λ r. B s A r ⊎ (r ≡ x)) (B s A) (λ r l. either (λ z. z) (λ e. inl (subst (λ (y : ℕ). has s y ≡ true) (sym e) live)) l) (kept_test_ready ty x m s A d p next known nd around h exit)
 
     -- ---- calls, lists and records
 

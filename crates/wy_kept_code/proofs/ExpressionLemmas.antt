@@ -1,5 +1,5 @@
 -- The code of an expression keeps nothing dead.
-use Rattle.std.proofs.Common.{◌≡◌, ◌<◌, ◌≤◌, ◌⊎◌, inl, inr, ℕ, suc, ◌+◌, List, [], ◌∷◌, ◌++◌, length, false, pos, refl, sym, arith}
+use Rattle.std.proofs.Common.{◌≡◌, ◌<◌, ◌≤◌, ◌⊎◌, inl, inr, ℕ, suc, ◌+◌, List, [], ◌∷◌, ◌++◌, length, false, Option, Some, None, pos, refl, sym, arith}
 use Rattle.wy_core.specs.CoreTree.{Expr, NullExpr, BoolExpr, IntExpr, VarExpr, CallExpr, NegExpr, NotExpr, LenExpr, BinaryExpr, IsExpr, IndexExpr, FieldExpr, ListExpr, RepeatExpr, RecordExpr, QuantExpr, Exprs, NoExprs, MoreExprs, Fields, NoFields, MoreFields}
 use Rattle.wy_code.specs.declared.instructions.Scalar.TheVariants as scalar
 use Rattle.wy_code.specs.declared.instructions.Arithmetic.TheVariants as arithmetic
@@ -10,14 +10,16 @@ use Rattle.wy_tables.specs.Tables.{target, number_of, shape_number, names_in}
 use Rattle.wy_live.specs.Sets.{Variables, has}
 use Rattle.wy_live.specs.Walks.{before, before_all, before_fields, turned}
 use Rattle.wy_pieces.specs.declared.steps.Step.TheVariants.{Does}
-use Rattle.wy_compiled.specs.Expressions.{released, is_plain, call, count_of, field_count, is_test, negated, list, record_of, quantify, code, codes, field_codes}
+use Rattle.wy_compiled.specs.Operands.{variable_in, read, standing, unless_read}
+use Rattle.wy_compiled.specs.Expressions.{released, is_plain, call, count_of, field_count, tested, tested_read, negated, list, record_of, quantify, code, codes, field_codes}
 use Rattle.wy_kept_code.specs.Safe.{Gives}
 use Rattle.wy_kept_code.specs.Fitting.{Fits, FitAll, FitFields}
 use Rattle.wy_kept_code.proofs.PieceLemmas.{either, less_not, Spans, front, back, tail, ended, Lives, Sure, sure_less, safe_step, safe_at, lives_on}
 use Rattle.wy_kept_code.proofs.SetLemmas.{Vars, all_cases, fields_cases}
+use Rattle.wy_kept_code.proofs.InPlaceLemmas.{IsIts, variable_its, read_its, tested_its}
 use Rattle.wy_kept_code.proofs.ReadLemmas.{low_more, all_used, fields_used}
-use Rattle.wy_kept_code.proofs.OperandLemmas.{Range, ready_less, ready_at, base_low, around_more, code_lives, operands_ready, unary_safe, pair_safe, pair_ready}
-use Rattle.wy_kept_code.proofs.ChoiceLemmas.{binary_safe, const_ready, var_sure, is_test_ready, call_ready, list_ready, record_ready, first_of_range, more_of_one}
+use Rattle.wy_kept_code.proofs.OperandLemmas.{Range, Stands, stands_at, stands_live, ready_less, ready_at, base_low, around_more, code_lives, operands_ready, operand_safe, unary_safe, pair_safe, pair_ready}
+use Rattle.wy_kept_code.proofs.ChoiceLemmas.{binary_safe, const_ready, var_sure, tested_ready, call_ready, list_ready, record_ready, first_of_range, more_of_one}
 use Rattle.wy_kept_code.proofs.QuantifierLemmas.{turned_known, quantify_ready}
 
 module _ (body : List Instr) (c : Context) (n : ℕ) (t : Gives) (f : ℕ) where
@@ -63,19 +65,30 @@ module _ (body : List Instr) (c : Context) (n : ℕ) (t : Gives) (f : ℕ) where
   abbrev SfFields : Fields ℕ → (ℕ → Type 0) → Type 1
   SfFields fs U = (m : ℕ) (s : Variables) (A : ℕ → Type 0) (d at next : ℕ) → Kn s U → n ≤ d → Ar d A → Spans body at (field_codes c fs s d) next → Comes m next (λ r. B s A r ⊎ Range d (field_count fs) r) → Comes m at (B (before_fields fs s) A)
 
-  neg_safe : (U : ℕ → Type 0) (low : Lo U) (a : Expr ℕ) → Sf a U → (m : ℕ) (s : Variables) (A : ℕ → Type 0) (d at next : ℕ) → Kn s U → n ≤ d → Ar d A → Spans body at (code c a s d ++ negated d) next → Comes m next (B s A) → Comes m at (B (before a s) A)
-  neg_safe U low a is m s A d at next known nd around h exit =
-      let mid = at + length (code c a s d) in
-      let one : Instr = instr.Const (suc d) (scalar.Int (pos 0)) in let two : Instr = instr.Arith d arithmetic.Sub (suc d) d in
-      let rest = back body at (code c a s d) (negated d) next h in
+  -- a variable that is read in its register is below the registers of values
+  stands_below : (U : ℕ → Type 0) → Lo U → (w : Option ℕ) (a : Expr ℕ) → IsIts U w a → (d r : ℕ) → n ≤ d → Stands body c n t f w a d r → r < suc d
+  stands_below U low None a its d r nd h = let e = h.0 in omega (arith, e)
+  stands_below U low (Some x) a its d r nd h = let l = low x its.1 in omega (arith, l, nd, h)
+
+  neg_safe : (U : ℕ → Type 0) (low : Lo U) (a : Expr ℕ) → Fits c n a U → Sf a U → (m : ℕ) (s : Variables) (A : ℕ → Type 0) (d at next : ℕ) → Kn s U → n ≤ d → Ar d A
+      → Spans body at (unless_read (variable_in a) (code c a s d) ++ negated d (standing (variable_in a) d)) next → Comes m next (B s A) → Comes m at (B (before a s) A)
+  neg_safe U low a fit is m s A d at next known nd around h exit =
+      let w = variable_in a in let x = standing w d in
+      let its = variable_its c n a U fit in
+      let first = unless_read w (code c a s d) in
+      let mid = at + length first in
+      let one : Instr = instr.Const (suc d) (scalar.Int (pos 0)) in let two : Instr = instr.Arith d arithmetic.Sub (suc d) x in
+      let rest = back body at first (negated d x) next h in
       let last = tail body mid one (Does two ∷ []) next rest in
       let lows = base_low body c n t f s A U d known low nd around in
-      let k = operands_ready body c n t f m (mid + 1) next two (B s A) (H a d) (λ r. ⊥) last (λ r b. (less_not r d (lows r b), tt)) (inl refl) (λ r x. inr (inl x.0)) (λ r x g. absurd (g.0 x.0)) (λ r z. z) (λ q w. w)
+      let X : ℕ → Type 0 = Stands body c n t f w a d in
+      let k = operands_ready body c n t f m (mid + 1) next two (B s A) X (λ r. ⊥) last (λ r b. (less_not r d (lows r b), tt)) (inl refl) (λ r y. inr (inl (stands_at body c n t f w a d r y)))
+      (λ r y g. absurd (g.1.1.0 (stands_at body c n t f w a d r y))) (λ r z. z) (λ q z. z)
       (exit.0, sure_less body t f m next (λ r. B s A r ⊎ ⊥) (B s A) (λ r l. either (λ z. z) (λ z. absurd z) l) exit.1) in
-      let below : (r : ℕ) → B s A r ⊎ H a d r → r < suc d = λ r l. either (λ b. let w = lows r b in omega (arith, w)) (λ z. let w = z.0 in omega (arith, w)) l in
-      let live : Lives body t f mid (λ r. B s A r ⊎ H a d r) = lives_on body t f mid one (λ r. B s A r ⊎ H a d r) rest.0.0 (λ r l. (less_not r (suc d) (below r l), tt)) (inl refl) k.0 in
-      is m s A d at mid known nd around (front body at (code c a s d) (negated d) next h)
-      ((λ r l. live r (inl l)), safe_step body t f m mid one (λ r. B s A r ⊎ H a d r) (λ r. B s A r ⊎ H a d r) rest.0.0 live (λ y w. w) (λ r l. either (λ z. z.0) (λ z. absurd z) l) k.1)
+      let below : (r : ℕ) → B s A r ⊎ X r → r < suc d = λ r l. either (λ b. let z = lows r b in omega (arith, z)) (λ y. stands_below U low w a its d r nd y) l in
+      let live : Lives body t f mid (λ r. B s A r ⊎ X r) = lives_on body t f mid one (λ r. B s A r ⊎ X r) rest.0.0 (λ r l. (less_not r (suc d) (below r l), tt)) (inl refl) k.0 in
+      operand_safe body c n t f U low w a its is m s A d at mid known nd around (front body at first (negated d x) next h)
+      (live, safe_step body t f m mid one (λ r. B s A r ⊎ X r) (λ r. B s A r ⊎ X r) rest.0.0 live (λ y z. z) (λ r l. either (λ z. z.0) (λ z. absurd z) l) k.1)
 
   mutual
     -- the code of an expression keeps nothing dead, where what is live behind it is so
@@ -91,26 +104,37 @@ module _ (body : List Instr) (c : Context) (n : ℕ) (t : Gives) (f : ℕ) where
         let last = call (target c.results g) g d (count_of args) in
         codes_safe args U fit.1 low m s A d at (at + length (codes c args s d)) known nd around (front body at (codes c args s d) last next h)
         (call_ready body c n t f U low (target c.results g) fit.0 g (count_of args) m s A d (at + length (codes c args s d)) next known nd around (back body at (codes c args s d) last next h) exit)
-    code_safe (NegExpr i a) U fit low m s A d at next known nd around h exit = neg_safe U low a (code_safe a U fit low) m s A d at next known nd around h (plain_exit m next (B s A) (H (NegExpr i a) d) exit)
+    code_safe (NegExpr i a) U fit low m s A d at next known nd around h exit = neg_safe U low a fit (code_safe a U fit low) m s A d at next known nd around h (plain_exit m next (B s A) (H (NegExpr i a) d) exit)
     code_safe (NotExpr i a) U fit low m s A d at next known nd around h exit =
-        unary_safe body c n t f U low a (code_safe a U fit low) m s A d at next (instr.Not d d) (λ r. ⊥) known nd around h (λ r l. (less_not r d l, tt)) (λ p. inl refl) (inl refl) (λ g. g.0 refl) (λ r P g. g) (λ k p P w. w) (none_exit m next (B s A) (H (NotExpr i a) d) exit)
+        let w = variable_in a in
+        unary_safe body c n t f U low w a (variable_its c n a U fit) (code_safe a U fit low) m s A d at next (instr.Not d (standing w d)) (λ r. ⊥) known nd around h (λ r l. (less_not r d l, tt)) (λ p. inl refl) (inl refl)
+        (λ r x g. absurd (g.1.0 (stands_at body c n t f w a d r x))) (λ r P g. g) (λ k p P z. z) (none_exit m next (B s A) (H (NotExpr i a) d) exit)
     code_safe (LenExpr i a) U fit low m s A d at next known nd around h exit =
-        unary_safe body c n t f U low a (code_safe a U fit low) m s A d at next (instr.Len d d) (λ r. ⊥) known nd around h (λ r l. (less_not r d l, tt)) (λ p. inl refl) (inl refl) (λ g. g.0 refl) (λ r P g. g) (λ k p P w. w) (none_exit m next (B s A) (H (LenExpr i a) d) exit)
+        let w = read a s in let its = read_its c n a s U fit in
+        unary_safe body c n t f U low w a its.0 (code_safe a U fit low) m s A d at next (instr.Len d (standing w d)) (λ r. ⊥) known nd around h (λ r l. (less_not r d l, tt)) (λ p. inl refl) (inl refl)
+        (λ r x g. stands_live body c n t f w a s d r (d ∷ []) its.1 (inl refl) x g) (λ r P g. g) (λ k p P z. z) (none_exit m next (B s A) (H (LenExpr i a) d) exit)
     code_safe (FieldExpr i a name) U fit low m s A d at next known nd around h exit =
-        unary_safe body c n t f U low a (code_safe a U fit low) m s A d at next (instr.Field d d (number_of name c.table.names)) (H (FieldExpr i a name) d) known nd around h (λ r l. (less_not r d l, tt)) (λ p. inl refl) (inl refl) (λ g. g.0 refl) (λ r P g. (g, refl)) (λ k p P w. w) exit
+        let w = read a s in let its = read_its c n a s U fit in
+        unary_safe body c n t f U low w a its.0 (code_safe a U fit low) m s A d at next (instr.Field d (standing w d) (number_of name c.table.names)) (H (FieldExpr i a name) d) known nd around h (λ r l. (less_not r d l, tt)) (λ p. inl refl) (inl refl)
+        (λ r x g. stands_live body c n t f w a s d r (d ∷ []) its.1 (inl refl) x g) (λ r P g. (g, refl)) (λ k p P z. z) exit
     code_safe (BinaryExpr i o a b) U fit low m s A d at next known nd around h exit =
-        binary_safe body c n t f U low i o a b (code_safe a U fit.0 low) (code_safe b U fit.1 low) fit.1 m s A d at next known nd around h exit
+        binary_safe body c n t f U low i o a b fit.0 (code_safe a U fit.0 low) (code_safe b U fit.1 low) fit.1 m s A d at next known nd around h exit
     code_safe (IsExpr i a ty) U fit low m s A d at next known nd around h exit =
-        let mid = at + length (code c a s d) in
-        let k = is_test_ready body c n t f U low ty a m s A d mid next known nd around (back body at (code c a s d) (is_test c ty d) next h) exit in
-        code_safe a U fit low m s A d at mid known nd around (front body at (code c a s d) (is_test c ty d) next h)
-        ((λ r l. k.0 r (inl l)), sure_less body t f m mid (λ r. B s A r ⊎ H a d r) (λ r. B s A r ⊎ (r ≡ d)) (λ r l. either (λ z. inl z) (λ z. inr z.0) l) k.1)
+        let w = tested_read ty a s in let its = tested_its c n ty a s U fit in
+        let first = unless_read w (code c a s d) in
+        let mid = at + length first in
+        operand_safe body c n t f U low w a its.0 (code_safe a U fit low) m s A d at mid known nd around (front body at first (tested c ty w d) next h)
+        (tested_ready body c n t f U low ty w a m s A d mid next its.1.0 known nd around (back body at first (tested c ty w d) next h) exit)
     code_safe (IndexExpr i a b) U fit low m s A d at next known nd around h exit =
-        pair_safe body c n t f U low a b (code_safe a U fit.0 low) (code_safe b U fit.1 low) fit.1 m s A d at next (Does (instr.Get d d (suc d)) ∷ []) known nd around h
-        (λ p sp. pair_ready body c n t f U low a b m s A d p next (instr.Get d d (suc d)) (H (IndexExpr i a b) d) known nd around sp (λ r l. (less_not r d l, tt)) (inl refl) (inl refl) (inr (inl refl)) (λ g. g.0 refl) (λ e g. absurd (g.1.0 refl)) (λ r P g. (g, refl)) (λ k P w. w) exit)
+        let w = read a s in let v = variable_in b in let its = read_its c n a s U fit.0 in
+        let j : Instr = instr.Get d (standing w d) (standing v (suc d)) in
+        pair_safe body c n t f U low w v a b its.0 (variable_its c n b U fit.1) (code_safe a U fit.0 low) (code_safe b U fit.1 low) fit.1 m s A d at next (Does j ∷ []) (inl its.1) known nd around h
+        (λ p sp. pair_ready body c n t f U low w v a b m s A d p next j (H (IndexExpr i a b) d) known nd around sp (λ r l. (less_not r d l, tt)) (inl refl) (inl refl) (inr (inl refl))
+        (λ r x g. stands_live body c n t f w a s d r (d ∷ []) its.1 (inl refl) x (g.0, tt)) (λ r x g. absurd (g.1.0 (stands_at body c n t f v b (suc d) r x))) (λ r P g. (g, refl)) (λ k P z. z) exit)
     code_safe (RepeatExpr i a b) U fit low m s A d at next known nd around h exit =
-        pair_safe body c n t f U low a b (code_safe a U fit.0 low) (code_safe b U fit.1 low) fit.1 m s A d at next (Does (instr.Fill d d (suc d)) ∷ []) known nd around h
-        (λ p sp. pair_ready body c n t f U low a b m s A d p next (instr.Fill d d (suc d)) (H (RepeatExpr i a b) d) known nd around sp (λ r l. (less_not r d l, (less_not r d l, tt))) (inl refl) (inl refl) (inr (inl refl)) (λ g. g.0 refl) (λ e g. absurd (g.1.1.0 refl)) (λ r P g. (g, refl)) (λ k P w. w) exit)
+        pair_safe body c n t f U low None None a b tt tt (code_safe a U fit.0 low) (code_safe b U fit.1 low) fit.1 m s A d at next (Does (instr.Fill d d (suc d)) ∷ []) (inl tt) known nd around h
+        (λ p sp. pair_ready body c n t f U low None None a b m s A d p next (instr.Fill d d (suc d)) (H (RepeatExpr i a b) d) known nd around sp (λ r l. (less_not r d l, (less_not r d l, tt))) (inl refl) (inl refl) (inr (inl refl))
+        (λ r x g. absurd (g.0 x.0)) (λ r x g. absurd (g.1.1.0 x.0)) (λ r P g. (g, refl)) (λ k P z. z) exit)
     code_safe (ListExpr i items) U fit low m s A d at next known nd around h exit =
         codes_safe items U fit low m s A d at (at + length (codes c items s d)) known nd around (front body at (codes c items s d) (list (count_of items) d) next h)
         (list_ready body c n t f U low (count_of items) m s A d (at + length (codes c items s d)) next known nd around (back body at (codes c items s d) (list (count_of items) d) next h) exit)
@@ -121,7 +145,7 @@ module _ (body : List Instr) (c : Context) (n : ℕ) (t : Gives) (f : ℕ) where
         let T = turned x inner s in
         let low_V = low_more body c n U x low fit.3 in
         let inner_safe : Sf inner (λ r. U r ⊎ (r ≡ x)) = code_safe inner (λ r. U r ⊎ (r ≡ x)) fit.4 low_V in
-        pair_safe body c n t f U low a b (code_safe a U fit.0 low) (code_safe b U fit.1 low) fit.1 m T A d at next (quantify all x d (code c inner T (suc (suc d))) (released T s))
+        pair_safe body c n t f U low None None a b tt tt (code_safe a U fit.0 low) (code_safe b U fit.1 low) fit.1 m T A d at next (quantify all x d (code c inner T (suc (suc d))) (released T s)) (inl tt)
         (turned_known body c n t f U low x fit.2 fit.3 inner fit.4 inner_safe s known) nd around h
         (λ p sp. quantify_ready body c n t f U low x fit.2 fit.3 inner fit.4 inner_safe all (λ r. H a d r ⊎ H b (suc d) r) m s A d p next (λ r k. either (λ z. inl z.0) (λ z. inr z.0) k) known nd around sp
         (plain_exit m next (B s A) (H (QuantExpr i all x a b inner) d) exit))

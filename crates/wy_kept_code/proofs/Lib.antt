@@ -11,6 +11,7 @@ pub mod LivePathLemmas
 pub mod LiveLemmas
 pub mod SetLemmas
 -- expressions
+pub mod InPlaceLemmas
 pub mod ReadLemmas
 pub mod OperandLemmas
 pub mod ChoiceLemmas

@@ -1,5 +1,5 @@
 -- Which registers are live in front of the code of an expression.
-use Rattle.std.proofs.Common.{◌≡◌, ◌≢◌, ◌<◌, ◌≤◌, ◌⊎◌, inl, inr, ℕ, zero, suc, ◌+◌, List, [], ◌∷◌, ◌++◌, length, Bool, true, false, not, ◌&&◌, ◌||◌, ◌==◌, cond, Some, pos, refl, sym, subst, arith}
+use Rattle.std.proofs.Common.{◌≡◌, ◌≢◌, ◌<◌, ◌≤◌, ◌⊎◌, inl, inr, ℕ, zero, suc, ◌+◌, List, [], ◌∷◌, ◌++◌, length, Bool, true, false, not, ◌&&◌, ◌||◌, ◌==◌, cond, Option, Some, None, pos, refl, sym, subst, arith}
 use Rattle.std.specs.Prelude.{slice_get}
 use Rattle.wy_core.specs.Types.{Ty}
 use Rattle.wy_core.specs.CoreTree.{Expr, NullExpr, BoolExpr, IntExpr, VarExpr, CallExpr, NegExpr, NotExpr, LenExpr, BinaryExpr, IsExpr, IndexExpr, FieldExpr, ListExpr, RepeatExpr, RecordExpr, QuantExpr, Exprs, NoExprs, MoreExprs, Fields, NoFields, MoreFields}
@@ -15,20 +15,22 @@ use Rattle.wy_tables.specs.declared.targets.Target.{Target}
 use Rattle.wy_tables.specs.declared.targets.Target.TheVariants.{Declared, Prints, PrintsInt, Nothing}
 use Rattle.wy_tables.specs.Tables.{target, number_of, shape_number, names_in}
 use Rattle.wy_live.specs.Paths.{occurs, any_occurs, any_field_occurs}
-use Rattle.wy_live.specs.Sets.{Variables, has}
+use Rattle.wy_live.specs.Sets.{Variables, has, with}
 use Rattle.wy_live.specs.Walks.{before, before_all, before_fields, turned}
 use Rattle.wy_kept_code.proofs.LiveLemmas.{or_cases, and_not}
 use Rattle.wy_pieces.specs.declared.steps.Step.{Step}
 use Rattle.wy_pieces.specs.declared.steps.Step.TheVariants.{Does, GoesOn}
 use Rattle.wy_pieces.specs.Steps.{clear, fork, registers_from}
 use Rattle.wy_compiled.specs.TypeTests.{test}
-use Rattle.wy_compiled.specs.Expressions.{lost, released, is_plain, operator, operate, right_register, call, count_of, field_count, is_test, negated, list, record_of, turn_end, said, ends, number_turns, quantify, code, codes, field_codes}
+use Rattle.wy_compiled.specs.Operands.{variable_in, read, read_first, standing, unless_read, plain_or_read}
+use Rattle.wy_compiled.specs.Expressions.{lost, released, is_plain, operator, call, count_of, field_count, is_test, tested, tested_read, negated, list, record_of, turn_end, said, ends, number_turns, quantify, code, codes, field_codes}
 use Rattle.wy_kept_registers.specs.Keeping.{IsNone}
-use Rattle.wy_kept_code.specs.Alive.{IsOne, changes, nexts, LiveAt}
+use Rattle.wy_kept_code.specs.Alive.{IsOne, reads, changes, nexts, LiveAt}
 use Rattle.wy_kept_code.specs.Fitting.{IsValue, Fits, FitAll, FitFields}
 use Rattle.wy_kept_code.proofs.PieceLemmas.{either, less_not, From, none_below, Spans, front, back, tail, live_reads, live_on, live_last, live_first, live_second, Turning, turning}
-use Rattle.wy_kept_code.proofs.SetLemmas.{never, not_both, true_or_not, same_of, same_to, other_of, Vars, before_cases, before_of, all_of, fields_of, turned_cases, turned_of, not_lost}
-use Rattle.wy_kept_code.proofs.TestLemmas.{at_end, test_live}
+use Rattle.wy_kept_code.proofs.SetLemmas.{never, not_both, true_or_not, same_of, same_to, other_of, Vars, before_cases, before_of, with_of, all_of, fields_of, turned_cases, turned_of, not_lost}
+use Rattle.wy_kept_code.proofs.InPlaceLemmas.{IsIts, IsLooked, tested_its, Waits, variable_occurs, release_apart, variable_its, read_its, first_its}
+use Rattle.wy_kept_code.proofs.TestLemmas.{at_end, test_live, test_reads}
 
 pub from_registers : (d r n : ℕ) → d ≤ r → From d (registers_from r n)
 from_registers d r zero h = tt
@@ -116,25 +118,55 @@ module _ (body : List Instr) where
     below_two : (r d : ℕ) → r < d → (r ≢ d) × (r ≢ suc d)
     below_two r d low = (less_not r d low, less_not r (suc d) (omega (arith, low)))
 
-    -- through the instructions of an operator
-    operator_live : (o : Op) (d : ℕ) (plain : Bool) (p next r : ℕ) → Spans body p (operator o d plain) next → r < d → LiveAt body next r → LiveAt body p r
-    operator_live op.Add d plain p next r h low l = live_last body p next r (instr.Arith d arithmetic.Add d (suc d)) h (less_not r d low, tt) (inl refl) l
-    operator_live op.Sub d plain p next r h low l = live_last body p next r (instr.Arith d arithmetic.Sub d (suc d)) h (less_not r d low, tt) (inl refl) l
-    operator_live op.Mul d plain p next r h low l = live_last body p next r (instr.Arith d arithmetic.Mul d (suc d)) h (less_not r d low, tt) (inl refl) l
-    operator_live op.Div d plain p next r h low l = live_last body p next r (instr.Arith d arithmetic.Div d (suc d)) h (less_not r d low, tt) (inl refl) l
-    operator_live op.Mod d plain p next r h low l = live_last body p next r (instr.Arith d arithmetic.Mod d (suc d)) h (less_not r d low, tt) (inl refl) l
-    operator_live op.Equal d true p next r h low l = live_last body p next r (instr.Equal d d (suc d)) h (less_not r d low, tt) (inl refl) l
-    operator_live op.Equal d false p next r h low l =
-        live_on body p (p + 1) r (instr.Equal d d (suc d)) h.0.0 (less_not r d low, tt) (inl refl)
-        (live_last body (p + 1) next r (instr.Clear (suc d ∷ [])) (tail body p (instr.Equal d d (suc d)) (Does (instr.Clear (suc d ∷ [])) ∷ []) next h) ((below_two r d low).1, tt) (inl refl) l)
-    operator_live op.Less d plain p next r h low l = live_last body p next r (instr.Compare d comparison.Less d (suc d)) h (less_not r d low, tt) (inl refl) l
-    operator_live op.LessEqual d plain p next r h low l = live_last body p next r (instr.Compare d comparison.LessEqual d (suc d)) h (less_not r d low, tt) (inl refl) l
-    operator_live op.Greater d plain p next r h low l = live_last body p next r (instr.Compare d comparison.Greater d (suc d)) h (less_not r d low, tt) (inl refl) l
-    operator_live op.GreaterEqual d plain p next r h low l = live_last body p next r (instr.Compare d comparison.GreaterEqual d (suc d)) h (less_not r d low, tt) (inl refl) l
-    operator_live op.And d plain p next r h low l = at_end body p next r h l
-    operator_live op.Or d plain p next r h low l = at_end body p next r h l
+    -- it evaluates both operands
+    abbrev pub Strict : Op → Type 0
+    Strict op.Add = Unit {0}
+    Strict op.Sub = Unit {0}
+    Strict op.Mul = Unit {0}
+    Strict op.Div = Unit {0}
+    Strict op.Mod = Unit {0}
+    Strict op.Equal = Unit {0}
+    Strict op.Less = Unit {0}
+    Strict op.LessEqual = Unit {0}
+    Strict op.Greater = Unit {0}
+    Strict op.GreaterEqual = Unit {0}
+    Strict op.And = ⊥
+    Strict op.Or = ⊥
 
-    pub is_test_live : (ty : Ty) (d p next r : ℕ) → Spans body p (is_test c ty d) next → r < d → LiveAt body next r → LiveAt body p r
+    -- its instruction reads both
+    operator_reads : (o : Op) → Strict o → (d x y : ℕ) (plain : Bool) (p next : ℕ) → Spans body p (operator o d x y plain) next → LiveAt body p x × LiveAt body p y
+    operator_reads op.Add strict d x y plain p next h = (live_reads body p x (instr.Arith d arithmetic.Add x y) h.0.0 (inl refl), live_reads body p y (instr.Arith d arithmetic.Add x y) h.0.0 (inr (inl refl)))
+    operator_reads op.Sub strict d x y plain p next h = (live_reads body p x (instr.Arith d arithmetic.Sub x y) h.0.0 (inl refl), live_reads body p y (instr.Arith d arithmetic.Sub x y) h.0.0 (inr (inl refl)))
+    operator_reads op.Mul strict d x y plain p next h = (live_reads body p x (instr.Arith d arithmetic.Mul x y) h.0.0 (inl refl), live_reads body p y (instr.Arith d arithmetic.Mul x y) h.0.0 (inr (inl refl)))
+    operator_reads op.Div strict d x y plain p next h = (live_reads body p x (instr.Arith d arithmetic.Div x y) h.0.0 (inl refl), live_reads body p y (instr.Arith d arithmetic.Div x y) h.0.0 (inr (inl refl)))
+    operator_reads op.Mod strict d x y plain p next h = (live_reads body p x (instr.Arith d arithmetic.Mod x y) h.0.0 (inl refl), live_reads body p y (instr.Arith d arithmetic.Mod x y) h.0.0 (inr (inl refl)))
+    operator_reads op.Equal strict d x y plain p next h = (live_reads body p x (instr.Equal d x y) h.0.0 (inl refl), live_reads body p y (instr.Equal d x y) h.0.0 (inr (inl refl)))
+    operator_reads op.Less strict d x y plain p next h = (live_reads body p x (instr.Compare d comparison.Less x y) h.0.0 (inl refl), live_reads body p y (instr.Compare d comparison.Less x y) h.0.0 (inr (inl refl)))
+    operator_reads op.LessEqual strict d x y plain p next h = (live_reads body p x (instr.Compare d comparison.LessEqual x y) h.0.0 (inl refl), live_reads body p y (instr.Compare d comparison.LessEqual x y) h.0.0 (inr (inl refl)))
+    operator_reads op.Greater strict d x y plain p next h = (live_reads body p x (instr.Compare d comparison.Greater x y) h.0.0 (inl refl), live_reads body p y (instr.Compare d comparison.Greater x y) h.0.0 (inr (inl refl)))
+    operator_reads op.GreaterEqual strict d x y plain p next h = (live_reads body p x (instr.Compare d comparison.GreaterEqual x y) h.0.0 (inl refl), live_reads body p y (instr.Compare d comparison.GreaterEqual x y) h.0.0 (inr (inl refl)))
+    operator_reads op.And strict d x y plain p next h = absurd strict
+    operator_reads op.Or strict d x y plain p next h = absurd strict
+
+    -- through the instructions of an operator; what is released is another register
+    operator_live : (o : Op) (d x y : ℕ) (plain : Bool) (p next r : ℕ) → Spans body p (operator o d x y plain) next → r < d → (plain ≡ false → r ≢ y) → LiveAt body next r → LiveAt body p r
+    operator_live op.Add d x y plain p next r h low other l = live_last body p next r (instr.Arith d arithmetic.Add x y) h (less_not r d low, tt) (inl refl) l
+    operator_live op.Sub d x y plain p next r h low other l = live_last body p next r (instr.Arith d arithmetic.Sub x y) h (less_not r d low, tt) (inl refl) l
+    operator_live op.Mul d x y plain p next r h low other l = live_last body p next r (instr.Arith d arithmetic.Mul x y) h (less_not r d low, tt) (inl refl) l
+    operator_live op.Div d x y plain p next r h low other l = live_last body p next r (instr.Arith d arithmetic.Div x y) h (less_not r d low, tt) (inl refl) l
+    operator_live op.Mod d x y plain p next r h low other l = live_last body p next r (instr.Arith d arithmetic.Mod x y) h (less_not r d low, tt) (inl refl) l
+    operator_live op.Equal d x y true p next r h low other l = live_last body p next r (instr.Equal d x y) h (less_not r d low, tt) (inl refl) l
+    operator_live op.Equal d x y false p next r h low other l =
+        live_on body p (p + 1) r (instr.Equal d x y) h.0.0 (less_not r d low, tt) (inl refl)
+        (live_last body (p + 1) next r (instr.Clear (y ∷ [])) (tail body p (instr.Equal d x y) (Does (instr.Clear (y ∷ [])) ∷ []) next h) (other refl, tt) (inl refl) l)
+    operator_live op.Less d x y plain p next r h low other l = live_last body p next r (instr.Compare d comparison.Less x y) h (less_not r d low, tt) (inl refl) l
+    operator_live op.LessEqual d x y plain p next r h low other l = live_last body p next r (instr.Compare d comparison.LessEqual x y) h (less_not r d low, tt) (inl refl) l
+    operator_live op.Greater d x y plain p next r h low other l = live_last body p next r (instr.Compare d comparison.Greater x y) h (less_not r d low, tt) (inl refl) l
+    operator_live op.GreaterEqual d x y plain p next r h low other l = live_last body p next r (instr.Compare d comparison.GreaterEqual x y) h (less_not r d low, tt) (inl refl) l
+    operator_live op.And d x y plain p next r h low other l = at_end body p next r h l
+    operator_live op.Or d x y plain p next r h low other l = at_end body p next r h l
+
+    is_test_live : (ty : Ty) (d p next r : ℕ) → Spans body p (is_test c ty d) next → r < d → LiveAt body next r → LiveAt body p r
     is_test_live ty d p next r h low l =
         let one = test c ty d (suc d) (suc (suc d)) in
         let move : Instr = instr.Move (suc (suc d)) d in let last : Instr = instr.Move d (suc d) in
@@ -223,28 +255,95 @@ module _ (body : List Instr) where
     abbrev pub Lively : Expr ℕ → Type 0
     Lively e = (s : Variables) (d at next r : ℕ) → n ≤ d → Spans body at (code c e s d) next → r < d → Goes (occurs e r) s next r → LiveAt body at r
 
-    -- behind one operand and an instruction
-    one_live : (a : Expr ℕ) → Lively a → (s : Variables) (d at next r : ℕ) → n ≤ d → (j : Instr) → IsNone r (changes j) → ((p : ℕ) → IsOne (p + 1) (nexts p j))
-        → Spans body at (code c a s d ++ Does j ∷ []) next → r < d → Goes (occurs a r) s next r → LiveAt body at r
-    one_live a is s d at next r nd j none to h low way =
-        let mid = at + length (code c a s d) in
-        is s d at mid r nd (front body at (code c a s d) (Does j ∷ []) next h) low
-        (goes_on (occurs a r) s mid next r (λ l. live_last body mid next r j (back body at (code c a s d) (Does j ∷ []) next h) none (to mid) l) way)
+    -- ---- operands, which may be read in the registers of their variables
 
-    pair_live : (a b : Expr ℕ) → Lively a → Lively b → (s : Variables) (d at next r : ℕ) → n ≤ d → (j : Instr) → IsNone r (changes j) → ((p : ℕ) → IsOne (p + 1) (nexts p j))
-        → Spans body at (code c a (before b s) d ++ (code c b s (suc d) ++ Does j ∷ [])) next → r < d → Goes (occurs a r || occurs b r) s next r → LiveAt body at r
-    pair_live a b one two s d at next r nd j none to h low way =
-        let mid = at + length (code c a (before b s) d) in
+    -- a variable that is read in its register is live there
+    abbrev pub ReadThere : Option ℕ → ℕ → Type 0
+    ReadThere None p = Unit {0}
+    ReadThere (Some x) p = LiveAt body p x
+
+    there_of : (w : Option ℕ) (d p : ℕ) → LiveAt body p (standing w d) → ReadThere w p
+    there_of None d p l = tt
+    there_of (Some x) d p l = l
+
+    standing_below : (U : ℕ → Type 0) → Low U → (w : Option ℕ) (a : Expr ℕ) → IsIts U w a → (d : ℕ) → n ≤ d → standing w d < suc d
+    standing_below U lows None a its d nd = omega arith
+    standing_below U lows (Some x) a its d nd = let l = lows x its.1 in omega (arith, l, nd)
+
+    -- what an operand uses is live in front of its code, where what is read in its register is so behind
+    pub operand_live : (U : ℕ → Type 0) (w : Option ℕ) (a : Expr ℕ) → IsIts U w a → Lively a → (s : Variables) (d at next r : ℕ) → n ≤ d → Spans body at (unless_read w (code c a s d)) next → r < d → ReadThere w next
+        → Goes (occurs a r) s next r → LiveAt body at r
+    operand_live U None a its is s d at next r nd h low there way = is s d at next r nd h low way
+    operand_live U (Some x) a its is s d at next r nd h low there way =
+        at_end body at next r h (either (λ o. subst (λ (z : ℕ). LiveAt body next z) (sym (variable_occurs a x r its.0 o)) there) (λ k. k.1) way)
+
+    -- one operand and what is behind it
+    one_live : (U : ℕ → Type 0) (w : Option ℕ) (a : Expr ℕ) → IsIts U w a → Lively a → (s : Variables) (d at next r : ℕ) → n ≤ d → (rest : List Step)
+        → ((p : ℕ) → Spans body p rest next → ReadThere w p × (LiveAt body next r → LiveAt body p r))
+        → Spans body at (unless_read w (code c a s d) ++ rest) next → r < d → Goes (occurs a r) s next r → LiveAt body at r
+    one_live U w a its is s d at next r nd rest behind h low way =
+        let one = unless_read w (code c a s d) in
+        let mid = at + length one in
+        let facts = behind mid (back body at one rest next h) in
+        operand_live U w a its is s d at mid r nd (front body at one rest next h) low facts.0 (goes_on (occurs a r) s mid next r facts.1 way)
+
+    -- one instruction, which reads the operand
+    reads_one : (w : Option ℕ) (d next r : ℕ) (j : Instr) → r < d → IsOne (standing w d) (reads j) → IsNone r (changes j) → ((p : ℕ) → IsOne (p + 1) (nexts p j))
+        → (p : ℕ) → Spans body p (Does j ∷ []) next → ReadThere w p × (LiveAt body next r → LiveAt body p r)
+    reads_one w d next r j low read none to p h = (there_of w d p (live_reads body p (standing w d) j h.0.0 read), λ l. live_last body p next r j h none (to p) l)
+
+    -- a first operand that is read in its register is live in front of the second one
+    first_there : (U : ℕ → Type 0) → Low U → (w v : Option ℕ) (a b : Expr ℕ) → IsIts U w a → IsIts U v b → Lively b → (s : Variables) (d at next : ℕ) → n ≤ d → Waits c n w v b s → Spans body at (unless_read v (code c b s (suc d))) next
+        → ReadThere w next → ReadThere v next → ReadThere w at
+    first_there U lows None v a b its too is s d at next nd waits h here there = tt
+    first_there U lows (Some x) v a b its too is s d at next nd (inl live) h here there =
+        operand_live U v b too is s (suc d) at next x (omega (arith, nd)) h (let l = lows x its.1 in omega (arith, l, nd)) there (inr (inl live, here))
+    first_there U lows (Some x) v a b its too is s d at next nd (inr still) h here there =
+        let t = with s x in
+        operand_live U v b too is t (suc d) at next x (omega (arith, nd)) (subst (λ (z : List Step). Spans body at z next) (still t (suc d)) h) (let l = lows x its.1 in omega (arith, l, nd)) there
+        (inr (inl (with_of s x x (inl refl)), here))
+
+    -- a test, which reads a variable that stays in its register
+    tested_live : (ty : Ty) (w : Option ℕ) → IsLooked w ty → (d next r : ℕ) → r < d → (p : ℕ) → Spans body p (tested c ty w d) next → ReadThere w p × (LiveAt body next r → LiveAt body p r)
+    tested_live ty None look d next r low p h = (tt, λ l. is_test_live ty d p next r h low l)
+    tested_live ty (Some x) look d next r low p h =
+        let one = test c ty x (suc d) (suc (suc d)) in let last : Instr = instr.Move d (suc d) in
+        let mid = p + length one in
+        let first = front body p one (Does last ∷ []) next h in
+        let apart = below_two r d low in (
+          test_reads body c ty look x (suc d) (suc (suc d)) p mid first,
+          λ l. test_live body c ty x (suc d) (suc (suc d)) p mid r first (omega (arith, low)) apart.1 (live_last body mid next r last (back body p one (Does last ∷ []) next h) (apart.0, (apart.1, tt)) (inl refl) l),
+        )
+
+    -- two operands and what is behind them
+    pair_live : (U : ℕ → Type 0) → Low U → (w v : Option ℕ) (a b : Expr ℕ) → IsIts U w a → IsIts U v b → Lively a → Lively b → (s : Variables) (d at next r : ℕ) → n ≤ d → Waits c n w v b s → (rest : List Step)
+        → ((p : ℕ) → Spans body p rest next → ReadThere w p × ReadThere v p × (LiveAt body next r → LiveAt body p r))
+        → Spans body at (unless_read w (code c a (before b s) d) ++ (unless_read v (code c b s (suc d)) ++ rest)) next → r < d → Goes (occurs a r || occurs b r) s next r → LiveAt body at r
+    pair_live U lows w v a b its too one two s d at next r nd waits rest behind h low way =
+        let xs = unless_read w (code c a (before b s) d) in let ys = unless_read v (code c b s (suc d)) in
+        let mid = at + length xs in let last = mid + length ys in
+        let second = back body at xs (ys ++ rest) next h in
+        let ys_at = front body mid ys rest next second in
+        let facts = behind last (back body mid ys rest next second) in
         two_ways (occurs a r) (occurs b r) s (before b s) at mid next r (keeps_before b s r) (λ k. inl (before_of b s r (inl k)))
-        (λ g. one (before b s) d at mid r nd (front body at (code c a (before b s) d) (code c b s (suc d) ++ Does j ∷ []) next h) low g)
-        (λ g. one_live b two s (suc d) mid next r (omega (arith, nd)) j none to (back body at (code c a (before b s) d) (code c b s (suc d) ++ Does j ∷ []) next h) (omega (arith, low)) g) way
+        (λ g. operand_live U w a its one (before b s) d at mid r nd (front body at xs (ys ++ rest) next h) low (first_there U lows w v a b its too two s d mid last nd waits ys_at facts.0 facts.1) g)
+        (λ g. operand_live U v b too two s (suc d) mid last r (omega (arith, nd)) ys_at (omega (arith, low)) facts.1 (goes_on (occurs b r) s last next r facts.2 g)) way
 
-    strict_live : (o : Op) (b : Expr ℕ) → Lively b → (s : Variables) (d mid next r : ℕ) → n ≤ d
-        → Spans body mid (code c b s (suc d) ++ operator o d (is_plain b)) next → r < d → Goes (occurs b r) s next r → LiveAt body mid r
-    strict_live o b is s d mid next r nd h low way =
-        let last = mid + length (code c b s (suc d)) in
-        is s (suc d) mid last r (omega (arith, nd)) (front body mid (code c b s (suc d)) (operator o d (is_plain b)) next h) (omega (arith, low))
-        (goes_on (occurs b r) s last next r (λ l. operator_live o d (is_plain b) last next r (back body mid (code c b s (suc d)) (operator o d (is_plain b)) next h) low l) way)
+    -- one instruction, which reads both operands
+    reads_pair : (w v : Option ℕ) (d next r : ℕ) (j : Instr) → r < d → IsOne (standing w d) (reads j) → IsOne (standing v (suc d)) (reads j) → IsNone r (changes j) → ((p : ℕ) → IsOne (p + 1) (nexts p j))
+        → (p : ℕ) → Spans body p (Does j ∷ []) next → ReadThere w p × ReadThere v p × (LiveAt body next r → LiveAt body p r)
+    reads_pair w v d next r j low one two none to p h =
+        (there_of w d p (live_reads body p (standing w d) j h.0.0 one), there_of v (suc d) p (live_reads body p (standing v (suc d)) j h.0.0 two), λ l. live_last body p next r j h none (to p) l)
+
+    -- an operator that evaluates both
+    strict_live : (U : ℕ → Type 0) → Low U → (o : Op) → Strict o → (w v : Option ℕ) (a b : Expr ℕ) → IsIts U w a → IsIts U v b → Lively a → Lively b → (s : Variables) (d at next r : ℕ) → n ≤ d → Waits c n w v b s
+        → Spans body at (unless_read w (code c a (before b s) d) ++ (unless_read v (code c b s (suc d)) ++ operator o d (standing w d) (standing v (suc d)) (plain_or_read v (is_plain b)))) next
+        → r < d → Goes (occurs a r || occurs b r) s next r → LiveAt body at r
+    strict_live U lows o strict w v a b its too one two s d at next r nd waits h low way =
+        let x = standing w d in let y = standing v (suc d) in let plain = plain_or_read v (is_plain b) in
+        pair_live U lows w v a b its too one two s d at next r nd waits (operator o d x y plain)
+        (λ p sp. let k = operator_reads o strict d x y plain p next sp in
+        (there_of w d p k.0, there_of v (suc d) p k.1, λ l. operator_live o d x y plain p next r sp low (release_apart v (is_plain b) (suc d) r (omega (arith, low))) l)) h low way
 
     -- what is live behind `&&` and isn't used by its right operand isn't released in between
     unused_kept : (b : Expr ℕ) (s : Variables) (r : ℕ) → occurs b r ≡ false → IsNone r (lost (before b s) s)
@@ -254,25 +353,71 @@ module _ (body : List Instr) where
     behind_and b s q next r h (inl u) = inl u
     behind_and b s q next r h (inr k) = either (λ u. inl u) (λ unused. inr (k.0, clear_live (lost (before b s) s) q next r h (unused_kept b s r unused) k.1)) (true_or_not (occurs b r))
 
-    -- the right operand and the operator
-    pub right_live : (o : Op) (b : Expr ℕ) → Lively b → (s : Variables) (d mid next r : ℕ) → n ≤ d
-        → Spans body mid (operate o d (code c b s (right_register o d)) (released (before b s) s) (is_plain b)) next → r < d → Goes (occurs b r) s next r → LiveAt body mid r
-    right_live op.Add b is s d mid next r nd h low way = strict_live op.Add b is s d mid next r nd h low way
-    right_live op.Sub b is s d mid next r nd h low way = strict_live op.Sub b is s d mid next r nd h low way
-    right_live op.Mul b is s d mid next r nd h low way = strict_live op.Mul b is s d mid next r nd h low way
-    right_live op.Div b is s d mid next r nd h low way = strict_live op.Div b is s d mid next r nd h low way
-    right_live op.Mod b is s d mid next r nd h low way = strict_live op.Mod b is s d mid next r nd h low way
-    right_live op.Equal b is s d mid next r nd h low way = strict_live op.Equal b is s d mid next r nd h low way
-    right_live op.Less b is s d mid next r nd h low way = strict_live op.Less b is s d mid next r nd h low way
-    right_live op.LessEqual b is s d mid next r nd h low way = strict_live op.LessEqual b is s d mid next r nd h low way
-    right_live op.Greater b is s d mid next r nd h low way = strict_live op.Greater b is s d mid next r nd h low way
-    right_live op.GreaterEqual b is s d mid next r nd h low way = strict_live op.GreaterEqual b is s d mid next r nd h low way
-    right_live op.And b is s d mid next r nd h low way =
-        let xs = fork d (code c b s d) [] in let ys = released (before b s) s in let last = mid + length xs in
-        live_first body mid last d (code c b s d) [] r (front body mid xs ys next h)
-        (λ p q sp f. is s d p q r nd sp low (goes_on (occurs b r) s q last r f (behind_and b s last next r (back body mid xs ys next h) way)))
-    right_live op.Or b is s d mid next r nd h low way =
-        live_second body mid next d (released (before b s) s) (code c b s d) r h (λ p sp. is s d p next r nd sp low way)
+    and_live : (a b : Expr ℕ) → Lively a → Lively b → (s : Variables) (d at next r : ℕ) → n ≤ d
+        → Spans body at (code c a (before b s) d ++ (fork d (code c b s d) [] ++ released (before b s) s)) next → r < d → Goes (occurs a r || occurs b r) s next r → LiveAt body at r
+    and_live a b one two s d at next r nd h low way =
+        let xs = fork d (code c b s d) [] in let ys = released (before b s) s in
+        let first = code c a (before b s) d in
+        let mid = at + length first in let last = mid + length xs in
+        let rest = back body at first (xs ++ ys) next h in
+        two_ways (occurs a r) (occurs b r) s (before b s) at mid next r (keeps_before b s r) (λ k. inl (before_of b s r (inl k)))
+        (λ g. one (before b s) d at mid r nd (front body at first (xs ++ ys) next h) low g)
+        (λ g. live_first body mid last d (code c b s d) [] r (front body mid xs ys next rest)
+        (λ p q sp f. two s d p q r nd sp low (goes_on (occurs b r) s q last r f (behind_and b s last next r (back body mid xs ys next rest) g)))) way
+
+    or_live : (a b : Expr ℕ) → Lively a → Lively b → (s : Variables) (d at next r : ℕ) → n ≤ d
+        → Spans body at (code c a (before b s) d ++ fork d (released (before b s) s) (code c b s d)) next → r < d → Goes (occurs a r || occurs b r) s next r → LiveAt body at r
+    or_live a b one two s d at next r nd h low way =
+        let choice = fork d (released (before b s) s) (code c b s d) in
+        let first = code c a (before b s) d in
+        let mid = at + length first in
+        two_ways (occurs a r) (occurs b r) s (before b s) at mid next r (keeps_before b s r) (λ k. inl (before_of b s r (inl k)))
+        (λ g. one (before b s) d at mid r nd (front body at first choice next h) low g)
+        (λ g. live_second body mid next d (released (before b s) s) (code c b s d) r (back body at first choice next h) (λ p sp. two s d p next r nd sp low g)) way
+
+    -- an operator of numbers
+    numbers_live : (U : ℕ → Type 0) → Low U → (o : Op) → Strict o → (a b : Expr ℕ) → Fits c n a U → Fits c n b U → Lively a → Lively b → (s : Variables) (d at next r : ℕ) → n ≤ d
+        → Spans body at (unless_read (read_first a b s) (code c a (before b s) d) ++ (unless_read (variable_in b) (code c b s (suc d)) ++ operator o d (standing (read_first a b s) d) (standing (variable_in b) (suc d)) (plain_or_read (variable_in b) (is_plain b)))) next
+        → r < d → Goes (occurs a r || occurs b r) s next r → LiveAt body at r
+    numbers_live U lows o strict a b fit_a fit_b one two s d at next r nd h low way =
+        let k = first_its c n a b s U fit_a in
+        strict_live U lows o strict (read_first a b s) (variable_in b) a b k.0 (variable_its c n b U fit_b) one two s d at next r nd k.1 h low way
+
+    equal_live : (U : ℕ → Type 0) → Low U → (a b : Expr ℕ) → Fits c n a U → Fits c n b U → Lively a → Lively b → (s : Variables) (d at next r : ℕ) → n ≤ d
+        → Spans body at (unless_read (read a s) (code c a (before b s) d) ++ (unless_read (read b s) (code c b s (suc d)) ++ operator op.Equal d (standing (read a s) d) (standing (read b s) (suc d)) (plain_or_read (read b s) (is_plain b)))) next
+        → r < d → Goes (occurs a r || occurs b r) s next r → LiveAt body at r
+    equal_live U lows a b fit_a fit_b one two s d at next r nd h low way =
+        let k = read_its c n a s U fit_a in
+        strict_live U lows op.Equal tt (read a s) (read b s) a b k.0 (read_its c n b s U fit_b).0 one two s d at next r nd (inl k.1) h low way
+
+    -- both operands and the operator
+    binary_live : (U : ℕ → Type 0) → Low U → (i : ℕ) (o : Op) (a b : Expr ℕ) → Fits c n a U → Fits c n b U → Lively a → Lively b → (s : Variables) (d at next r : ℕ) → n ≤ d
+        → Spans body at (code c (BinaryExpr i o a b) s d) next → r < d → Goes (occurs a r || occurs b r) s next r → LiveAt body at r
+    binary_live U lows i op.Add a b fit_a fit_b one two s d at next r nd h low way = numbers_live U lows op.Add tt a b fit_a fit_b one two s d at next r nd h low way
+    binary_live U lows i op.Sub a b fit_a fit_b one two s d at next r nd h low way = numbers_live U lows op.Sub tt a b fit_a fit_b one two s d at next r nd h low way
+    binary_live U lows i op.Mul a b fit_a fit_b one two s d at next r nd h low way = numbers_live U lows op.Mul tt a b fit_a fit_b one two s d at next r nd h low way
+    binary_live U lows i op.Div a b fit_a fit_b one two s d at next r nd h low way = numbers_live U lows op.Div tt a b fit_a fit_b one two s d at next r nd h low way
+    binary_live U lows i op.Mod a b fit_a fit_b one two s d at next r nd h low way = numbers_live U lows op.Mod tt a b fit_a fit_b one two s d at next r nd h low way
+    binary_live U lows i op.Equal a b fit_a fit_b one two s d at next r nd h low way = equal_live U lows a b fit_a fit_b one two s d at next r nd h low way
+    binary_live U lows i op.Less a b fit_a fit_b one two s d at next r nd h low way = numbers_live U lows op.Less tt a b fit_a fit_b one two s d at next r nd h low way
+    binary_live U lows i op.LessEqual a b fit_a fit_b one two s d at next r nd h low way = numbers_live U lows op.LessEqual tt a b fit_a fit_b one two s d at next r nd h low way
+    binary_live U lows i op.Greater a b fit_a fit_b one two s d at next r nd h low way = numbers_live U lows op.Greater tt a b fit_a fit_b one two s d at next r nd h low way
+    binary_live U lows i op.GreaterEqual a b fit_a fit_b one two s d at next r nd h low way = numbers_live U lows op.GreaterEqual tt a b fit_a fit_b one two s d at next r nd h low way
+    binary_live U lows i op.And a b fit_a fit_b one two s d at next r nd h low way = and_live a b one two s d at next r nd h low way
+    binary_live U lows i op.Or a b fit_a fit_b one two s d at next r nd h low way = or_live a b one two s d at next r nd h low way
+
+    -- behind a number comes its minus
+    neg_live : (U : ℕ → Type 0) → Low U → (a : Expr ℕ) → Fits c n a U → Lively a → (s : Variables) (d at next r : ℕ) → n ≤ d
+        → Spans body at (unless_read (variable_in a) (code c a s d) ++ negated d (standing (variable_in a) d)) next → r < d → Goes (occurs a r) s next r → LiveAt body at r
+    neg_live U lows a fit is s d at next r nd h low way =
+        let w = variable_in a in let x = standing w d in
+        let zero_in : Instr = instr.Const (suc d) (scalar.Int (pos 0)) in let minus : Instr = instr.Arith d arithmetic.Sub (suc d) x in
+        let its = variable_its c n a U fit in
+        one_live U w a its is s d at next r nd (negated d x)
+        (λ p sp. let last = tail body p zero_in (Does minus ∷ []) next sp in (
+          there_of w d p (live_on body p (p + 1) x zero_in sp.0.0 (less_not x (suc d) (standing_below U lows w a its d nd), tt) (inl refl) (live_reads body (p + 1) x minus last.0.0 (inr (inl refl)))),
+          λ l. live_on body p (p + 1) r zero_in sp.0.0 ((below_two r d low).1, tt) (inl refl) (live_last body (p + 1) next r minus last (less_not r d low, tt) (inl refl) l),
+        )) h low way
 
     mutual
       -- what the expression uses is live in front of its code, and so is what is live behind it
@@ -290,26 +435,34 @@ module _ (body : List Instr) where
           let mid = at + length (codes c args s d) in let last = call (target c.results g) g d (count_of args) in
           codes_live args U s d at mid r fit.1 lows nd (front body at (codes c args s d) last next h) low
           (goes_on (any_occurs args r) s mid next r (λ l. call_live (target c.results g) fit.0 g d (count_of args) mid next r (back body at (codes c args s d) last next h) low l) way)
-      code_live (NegExpr i a) U s d at next r fit lows nd h low way =
-          let mid = at + length (code c a s d) in let two = back body at (code c a s d) (negated d) next h in
-          code_live a U s d at mid r fit lows nd (front body at (code c a s d) (negated d) next h) low
-          (goes_on (occurs a r) s mid next r (λ l. live_on body mid (mid + 1) r (instr.Const (suc d) (scalar.Int (pos 0))) two.0.0 ((below_two r d low).1, tt) (inl refl)
-          (live_last body (mid + 1) next r (instr.Arith d arithmetic.Sub (suc d) d) (tail body mid (instr.Const (suc d) (scalar.Int (pos 0))) (Does (instr.Arith d arithmetic.Sub (suc d) d) ∷ []) next two) (less_not r d low, tt) (inl refl) l)) way)
-      code_live (NotExpr i a) U s d at next r fit lows nd h low way = one_live a (λ s2 d2 at2 next2 r2 nd2 h2 low2 way2. code_live a U s2 d2 at2 next2 r2 fit lows nd2 h2 low2 way2) s d at next r nd (instr.Not d d) (less_not r d low, tt) (λ p. inl refl) h low way
-      code_live (LenExpr i a) U s d at next r fit lows nd h low way = one_live a (λ s2 d2 at2 next2 r2 nd2 h2 low2 way2. code_live a U s2 d2 at2 next2 r2 fit lows nd2 h2 low2 way2) s d at next r nd (instr.Len d d) (less_not r d low, tt) (λ p. inl refl) h low way
-      code_live (FieldExpr i a name) U s d at next r fit lows nd h low way = one_live a (λ s2 d2 at2 next2 r2 nd2 h2 low2 way2. code_live a U s2 d2 at2 next2 r2 fit lows nd2 h2 low2 way2) s d at next r nd (instr.Field d d (number_of name c.table.names)) (less_not r d low, tt) (λ p. inl refl) h low way
+      code_live (NegExpr i a) U s d at next r fit lows nd h low way = neg_live U lows a fit (λ s2 d2 at2 next2 r2 nd2 h2 low2 way2. code_live a U s2 d2 at2 next2 r2 fit lows nd2 h2 low2 way2) s d at next r nd h low way
+      code_live (NotExpr i a) U s d at next r fit lows nd h low way =
+          let w = variable_in a in let j : Instr = instr.Not d (standing w d) in
+          one_live U w a (variable_its c n a U fit) (λ s2 d2 at2 next2 r2 nd2 h2 low2 way2. code_live a U s2 d2 at2 next2 r2 fit lows nd2 h2 low2 way2) s d at next r nd (Does j ∷ [])
+          (λ p sp. reads_one w d next r j low (inl refl) (less_not r d low, tt) (λ q. inl refl) p sp) h low way
+      code_live (LenExpr i a) U s d at next r fit lows nd h low way =
+          let w = read a s in let j : Instr = instr.Len d (standing w d) in
+          one_live U w a (read_its c n a s U fit).0 (λ s2 d2 at2 next2 r2 nd2 h2 low2 way2. code_live a U s2 d2 at2 next2 r2 fit lows nd2 h2 low2 way2) s d at next r nd (Does j ∷ [])
+          (λ p sp. reads_one w d next r j low (inl refl) (less_not r d low, tt) (λ q. inl refl) p sp) h low way
+      code_live (FieldExpr i a name) U s d at next r fit lows nd h low way =
+          let w = read a s in let j : Instr = instr.Field d (standing w d) (number_of name c.table.names) in
+          one_live U w a (read_its c n a s U fit).0 (λ s2 d2 at2 next2 r2 nd2 h2 low2 way2. code_live a U s2 d2 at2 next2 r2 fit lows nd2 h2 low2 way2) s d at next r nd (Does j ∷ [])
+          (λ p sp. reads_one w d next r j low (inl refl) (less_not r d low, tt) (λ q. inl refl) p sp) h low way
       code_live (BinaryExpr i o a b) U s d at next r fit lows nd h low way =
-          let rest = operate o d (code c b s (right_register o d)) (released (before b s) s) (is_plain b) in
-          let mid = at + length (code c a (before b s) d) in
-          two_ways (occurs a r) (occurs b r) s (before b s) at mid next r (keeps_before b s r) (λ k. inl (before_of b s r (inl k)))
-          (λ g. code_live a U (before b s) d at mid r fit.0 lows nd (front body at (code c a (before b s) d) rest next h) low g)
-          (λ g. right_live o b (λ s2 d2 at2 next2 r2 nd2 h2 low2 way2. code_live b U s2 d2 at2 next2 r2 fit.1 lows nd2 h2 low2 way2) s d mid next r nd (back body at (code c a (before b s) d) rest next h) low g) way
+          binary_live U lows i o a b fit.0 fit.1 (λ s2 d2 at2 next2 r2 nd2 h2 low2 way2. code_live a U s2 d2 at2 next2 r2 fit.0 lows nd2 h2 low2 way2) (λ s2 d2 at2 next2 r2 nd2 h2 low2 way2. code_live b U s2 d2 at2 next2 r2 fit.1 lows nd2 h2 low2 way2) s d at next r nd h low way
       code_live (IsExpr i a ty) U s d at next r fit lows nd h low way =
-          let mid = at + length (code c a s d) in
-          code_live a U s d at mid r fit lows nd (front body at (code c a s d) (is_test c ty d) next h) low
-          (goes_on (occurs a r) s mid next r (λ l. is_test_live ty d mid next r (back body at (code c a s d) (is_test c ty d) next h) low l) way)
-      code_live (IndexExpr i a b) U s d at next r fit lows nd h low way = pair_live a b (λ s2 d2 at2 next2 r2 nd2 h2 low2 way2. code_live a U s2 d2 at2 next2 r2 fit.0 lows nd2 h2 low2 way2) (λ s2 d2 at2 next2 r2 nd2 h2 low2 way2. code_live b U s2 d2 at2 next2 r2 fit.1 lows nd2 h2 low2 way2) s d at next r nd (instr.Get d d (suc d)) (less_not r d low, tt) (λ p. inl refl) h low way
-      code_live (RepeatExpr i a b) U s d at next r fit lows nd h low way = pair_live a b (λ s2 d2 at2 next2 r2 nd2 h2 low2 way2. code_live a U s2 d2 at2 next2 r2 fit.0 lows nd2 h2 low2 way2) (λ s2 d2 at2 next2 r2 nd2 h2 low2 way2. code_live b U s2 d2 at2 next2 r2 fit.1 lows nd2 h2 low2 way2) s d at next r nd (instr.Fill d d (suc d)) (less_not r d low, (less_not r d low, tt)) (λ p. inl refl) h low way
+          let w = tested_read ty a s in let its = tested_its c n ty a s U fit in
+          one_live U w a its.0 (λ s2 d2 at2 next2 r2 nd2 h2 low2 way2. code_live a U s2 d2 at2 next2 r2 fit lows nd2 h2 low2 way2) s d at next r nd (tested c ty w d)
+          (λ p sp. tested_live ty w its.1.1 d next r low p sp) h low way
+      code_live (IndexExpr i a b) U s d at next r fit lows nd h low way =
+          let w = read a s in let v = variable_in b in let j : Instr = instr.Get d (standing w d) (standing v (suc d)) in
+          let its = read_its c n a s U fit.0 in
+          pair_live U lows w v a b its.0 (variable_its c n b U fit.1) (λ s2 d2 at2 next2 r2 nd2 h2 low2 way2. code_live a U s2 d2 at2 next2 r2 fit.0 lows nd2 h2 low2 way2) (λ s2 d2 at2 next2 r2 nd2 h2 low2 way2. code_live b U s2 d2 at2 next2 r2 fit.1 lows nd2 h2 low2 way2) s d at next r nd (inl its.1) (Does j ∷ [])
+          (λ p sp. reads_pair w v d next r j low (inl refl) (inr (inl refl)) (less_not r d low, tt) (λ q. inl refl) p sp) h low way
+      code_live (RepeatExpr i a b) U s d at next r fit lows nd h low way =
+          let j : Instr = instr.Fill d d (suc d) in
+          pair_live U lows None None a b tt tt (λ s2 d2 at2 next2 r2 nd2 h2 low2 way2. code_live a U s2 d2 at2 next2 r2 fit.0 lows nd2 h2 low2 way2) (λ s2 d2 at2 next2 r2 nd2 h2 low2 way2. code_live b U s2 d2 at2 next2 r2 fit.1 lows nd2 h2 low2 way2) s d at next r nd (inl tt) (Does j ∷ [])
+          (λ p sp. reads_pair None None d next r j low (inl refl) (inr (inl refl)) (less_not r d low, (less_not r d low, tt)) (λ q. inl refl) p sp) h low way
       code_live (ListExpr i items) U s d at next r fit lows nd h low way =
           let mid = at + length (codes c items s d) in
           codes_live items U s d at mid r fit lows nd (front body at (codes c items s d) (list (count_of items) d) next h) low

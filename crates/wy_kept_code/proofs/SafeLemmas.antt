@@ -1,5 +1,5 @@
 -- What is safe stays so for fewer instructions, and for fewer registers.
-use Rattle.std.proofs.Common.{◌≡◌, ◌⊎◌, inl, inr, ℕ, zero, suc, ◌+◌, List}
+use Rattle.std.proofs.Common.{inl, inr, ℕ, zero, suc, ◌+◌, List}
 use Rattle.wy_code.specs.declared.instructions.Instr.{Instr}
 use Rattle.wy_code.specs.declared.instructions.Instr.TheVariants as instr
 use Rattle.wy_kept_code.specs.Safe.{Gives, Into, After, Onward, Safe}

@@ -15,6 +15,7 @@ use Rattle.wy_live.specs.declared.walk.Ends.{Ends}
 use Rattle.wy_pieces.specs.declared.steps.Step.TheVariants.{Does}
 use Rattle.wy_pieces.specs.Placing.{slot_registers}
 use Rattle.wy_pieces.specs.Steps.{clear, over, turns, registers_from}
+use Rattle.wy_compiled.specs.Operands.{read, standing, unless_read}
 use Rattle.wy_compiled.specs.Expressions.{lost, released, is_plain, release_unless, count_of, code, codes}
 use Rattle.wy_compiled.specs.Statements.{store, set, index_count, slots, indices, kept, update, call_step, call, gives_null, give, choice, branches, inside, turn, stmt_code, stmts_code}
 use Rattle.wy_kept_registers.specs.Keeping.{IsNone}
@@ -24,7 +25,8 @@ use Rattle.wy_kept_code.proofs.PieceLemmas.{either, nat_up, less_not, Spans, fro
 use Rattle.wy_kept_code.proofs.LivePathLemmas.{lives_more}
 use Rattle.wy_kept_code.proofs.LiveLemmas.{or_cases, of_paths}
 use Rattle.wy_kept_code.proofs.LiveUseLemmas.{has-before_steps}
-use Rattle.wy_kept_code.proofs.SetLemmas.{never, not_both, Vars, before_of, joined_of, not_lost}
+use Rattle.wy_kept_code.proofs.SetLemmas.{never, not_both, Vars, before_of, with_of, joined_of, not_lost}
+use Rattle.wy_kept_code.proofs.InPlaceLemmas.{IsIts, IsLiveIn, read_its}
 use Rattle.wy_kept_code.proofs.ReadLemmas.{clear_live, Low}
 use Rattle.wy_kept_code.specs.Fitting.{MayGive}
 use Rattle.wy_kept_code.specs.Safe.{Gives, After}
@@ -33,10 +35,10 @@ use Rattle.wy_kept_code.proofs.PieceLemmas.{one_not_none, Lives, Sure, sure_less
 use Rattle.wy_kept_code.proofs.LiveLemmas.{to_path, to_paths}
 use Rattle.wy_kept_code.proofs.SetLemmas.{before_cases, all_cases, without_cases, with_cases, joined_cases, none_has, still_has}
 use Rattle.wy_kept_code.proofs.ReadLemmas.{occurs_used, all_used}
-use Rattle.wy_kept_code.proofs.OperandLemmas.{Range, in_range, ready_less, clear_sure}
+use Rattle.wy_kept_code.proofs.OperandLemmas.{Range, in_range, ready_less, operand_safe, clear_sure}
 use Rattle.wy_kept_code.proofs.BranchLemmas.{branches_first, branches_second, branches_sure}
 use Rattle.wy_kept_code.proofs.ExpressionLemmas.{code_safe, codes_safe}
-use Rattle.wy_kept_code.proofs.StatementReadLemmas.{same_or_other, slots_registers, kept_live, call_step_live, stmt_live, stmts_live}
+use Rattle.wy_kept_code.proofs.StatementReadLemmas.{same_or_other, steps_of, slots_cases, kept_live, call_step_live, stmt_live, stmts_live}
 
 module _ (body : List Instr) (c : Context) (n : ℕ) (R : Type 0) (U : ℕ → Type 0) (low : Low body c n U) where
   -- ---- which variables are live at all
@@ -150,21 +152,36 @@ module _ (body : List Instr) (c : Context) (n : ℕ) (R : Type 0) (U : ℕ → T
         (value_safe e fit m (without s x) at mid (known_without s x known) (front body at one (store x s n (is_plain e)) next h)
         (store_leaves e (has s x) (is_plain e) m x s mid next known refl refl (back body at one (store x s n (is_plain e)) next h) exit)).1
 
-    -- the indices of a path, whose values are read behind them
-    indices_safe : (path : List (Step ℕ)) → FitsPath c n path U → (m : ℕ) (s : Variables) (A : ℕ → Type 0) (d at next : ℕ) → Kn s → n ≤ d → ((r : ℕ) → A r → (n ≤ r) × (r < d)) → Spans body at (indices c path s d) next
-        → Comes m next (λ r. (Vars s r ⊎ A r) ⊎ Range d (index_count path) r) → Comes m at (λ r. Vars (before_steps path s) r ⊎ A r)
-    indices_safe [] fit m s A d at next known nd around h exit =
-        comes_at m next at (λ r. Vars s r ⊎ A r) (sym (ended body at next h)) (ready_less body c n t f m next (λ r. Vars s r ⊎ A r) (λ r. (Vars s r ⊎ A r) ⊎ Range d 0 r) (λ r l. inl l) exit)
-    indices_safe (IndexStep i e ∷ path) fit m s A d at next known nd around h exit =
-        let T = before_steps path s in
-        let one = code c e T d in let mid = at + length one in
+    -- one index, whose register is read behind the others
+    index_safe : (w : Option ℕ) (e : Expr ℕ) → IsIts U w e → (m : ℕ) (s b T : Variables) (A : ℕ → Type 0) (d at mid next : ℕ) (rs : List ℕ) → IsLiveIn w s → Fits c n e U → Kn T → n ≤ d → ((r : ℕ) → A r → (n ≤ r) × (r < d)) → ((r : ℕ) → Vars s r → Vars T r)
+        → Spans body at (unless_read w (code c e T d)) mid
+        → ((A2 : ℕ → Type 0) → ((r : ℕ) → A2 r → (n ≤ r) × (r < suc d)) → Comes m next (λ r. (Vars b r ⊎ A2 r) ⊎ IsOne r rs) → Comes m mid (λ r. Vars T r ⊎ A2 r))
+        → Comes m next (λ r. (Vars b r ⊎ A r) ⊎ IsOne r (standing w d ∷ rs)) → Comes m at (λ r. Vars (before e T) r ⊎ A r)
+    index_safe None e its m s b T A d at mid next rs live fit known nd around within h behind exit =
         let A2 : ℕ → Type 0 = λ r. A r ⊎ (r ≡ d) in
-        let k = indices_safe path fit.1 m s A2 (suc d) mid next known (omega (arith, nd)) (λ r a. either (λ z. let w = around r z in (w.0, let y = w.1 in omega (arith, y))) (λ z. (omega (arith, z, nd), omega (arith, z))) a) (back body at one (indices c path s (suc d)) next h)
-        (ready_less body c n t f m next (λ r. (Vars s r ⊎ A2 r) ⊎ Range (suc d) (index_count path) r) (λ r. (Vars s r ⊎ A r) ⊎ Range d (suc (index_count path)) r)
-        (λ r l. either (λ z. either (λ v. inl (inl v)) (λ a. either (λ y. inl (inr y)) (λ y. inr (omega (arith, y), omega (arith, y))) a) z) (λ z. inr (let y = z.0 in omega (arith, y), let y = z.1 in omega (arith, y))) l) exit) in
-        code_safe body c n t f e U fit.0 low m T A d at mid (known_steps path fit.1 s known) nd around (front body at one (indices c path s (suc d)) next h)
+        let k = behind A2 (λ r a. either (λ z. let w = around r z in (w.0, let y = w.1 in omega (arith, y))) (λ z. (omega (arith, z, nd), omega (arith, z))) a)
+        (ready_less body c n t f m next (λ r. (Vars b r ⊎ A2 r) ⊎ IsOne r rs) (λ r. (Vars b r ⊎ A r) ⊎ IsOne r (d ∷ rs))
+        (λ r l. either (λ z. either (λ v. inl (inl v)) (λ a. either (λ y. inl (inr y)) (λ y. inr (inl y)) a) z) (λ z. inr (inr z)) l) exit) in
+        code_safe body c n t f e U fit low m T A d at mid known nd around h
         ((λ r l. k.0 r (either (λ v. inl v) (λ a. inr (inl a)) l)), sure_less body t f m mid (λ r. (Vars T r ⊎ A r) ⊎ H e d r) (λ r. Vars T r ⊎ A2 r) (λ r l. either (λ z. either (λ v. inl v) (λ a. inr (inl a)) z) (λ z. inr (inr z.0)) l) k.1)
-    indices_safe (FieldStep i name ∷ path) fit m s A d at next known nd around h exit = indices_safe path fit m s A d at next known nd around h exit
+    index_safe (Some x) e its m s b T A d at mid next rs live fit known nd around within h behind exit =
+        let k = behind A (λ r a. let w = around r a in (w.0, let y = w.1 in omega (arith, y)))
+        (ready_less body c n t f m next (λ r. (Vars b r ⊎ A r) ⊎ IsOne r rs) (λ r. (Vars b r ⊎ A r) ⊎ IsOne r (x ∷ rs)) (λ r l. either (λ z. inl z) (λ z. inr (inr z)) l) exit) in
+        operand_safe body c n t f U low (Some x) e its (code_safe body c n t f e U fit low) m T A d at mid known nd around h
+        (ready_less body c n t f m mid (λ r. (Vars T r ⊎ A r) ⊎ (r ≡ x)) (λ r. Vars T r ⊎ A r) (λ r l. either (λ z. z) (λ z. inl (subst (λ (y : ℕ). Vars T y) (sym z) (within x live))) l) k)
+
+    -- the indices of a path, whose registers are read behind them
+    indices_safe : (path : List (Step ℕ)) → FitsPath c n path U → (m : ℕ) (b s : Variables) (A : ℕ → Type 0) (d at next : ℕ) → Kn b → ((r : ℕ) → Vars s r → Vars b r) → n ≤ d → ((r : ℕ) → A r → (n ≤ r) × (r < d)) → Spans body at (indices c path b s d) next
+        → Comes m next (λ r. (Vars b r ⊎ A r) ⊎ IsOne r (slot_registers (slots c path s d))) → Comes m at (λ r. Vars (before_steps path b) r ⊎ A r)
+    indices_safe [] fit m b s A d at next known within nd around h exit =
+        comes_at m next at (λ r. Vars b r ⊎ A r) (sym (ended body at next h)) (ready_less body c n t f m next (λ r. Vars b r ⊎ A r) (λ r. (Vars b r ⊎ A r) ⊎ ⊥) (λ r l. inl l) exit)
+    indices_safe (IndexStep i e ∷ path) fit m b s A d at next known within nd around h exit =
+        let T = before_steps path b in
+        let w = read e s in let its = read_its c n e s U fit.0 in
+        let one = unless_read w (code c e T d) in let mid = at + length one in
+        index_safe w e its.0 m s b T A d at mid next (slot_registers (slots c path s (suc d))) its.1 fit.0 (known_steps path fit.1 b known) nd around (λ r v. steps_of path b r (inr (within r v))) (front body at one (indices c path b s (suc d)) next h)
+        (λ A2 around2 exit2. indices_safe path fit.1 m b s A2 (suc d) mid next known within (omega (arith, nd)) around2 (back body at one (indices c path b s (suc d)) next h) exit2) exit
+    indices_safe (FieldStep i name ∷ path) fit m b s A d at next known within nd around h exit = indices_safe path fit m b s A d at next known within nd around h exit
 
     kept_sure : (b : Bool) (m x : ℕ) (s : Variables) (p next : ℕ) → has s x ≡ b → Spans body p (cond b [] (clear (x ∷ []))) next → Sure body t f m next (Vars s) → Sure body t f m p (λ r. Vars s r ⊎ (r ≡ x))
     kept_sure true m x s p next is h safe = safe_at body t f m next p (λ r. Vars s r ⊎ (r ≡ x)) (sym (ended body p next h)) (sure_less body t f m next (λ r. Vars s r ⊎ (r ≡ x)) (Vars s) (λ r l. either (λ v. v) (λ e. subst (λ (y : ℕ). has s y ≡ true) (sym e) is) l) safe)
@@ -173,25 +190,30 @@ module _ (body : List Instr) (c : Context) (n : ℕ) (R : Type 0) (U : ℕ → T
     update_safe : (x : ℕ) (path : List (Step ℕ)) (e : Expr ℕ) → U x → FitsPath c n path U → Fits c n e U → (m : ℕ) (s : Variables) (at next : ℕ) → Kn s → Spans body at (update c x path e s n) next → Comes m next (Vars s) → Sure body t f m at (Vars (before_steps path (before e (with s x))))
     update_safe x path e ux fp fe m s at next known h exit =
         let S = with s x in let k = index_count path in let d = n + k in
-        let one = indices c path (before e S) n in let two = code c e S d in
-        let put : Instr = instr.Put x (slots c path n) d in
+        let one = indices c path (before e S) s n in let two = code c e S d in
+        let put : Instr = instr.Put x (slots c path s n) d in
+        let rs = slot_registers (slots c path s n) in
         let mid = at + length one in let mid2 = mid + length two in
         let rest = back body at one (two ++ Does put ∷ kept x s) next h in
         let last = back body mid two (Does put ∷ kept x s) next rest in
         let end = tail body mid2 put (kept x s) next last in
         let known_S = known_with s x ux known in
-        let P : ℕ → Type 0 = λ r. (Vars S r ⊎ Range n k r) ⊎ H e d r in
-        let slot_one : (r : ℕ) → Range n k r → IsOne r (slot_registers (slots c path n)) = λ r z. subst (λ (rs : List ℕ). IsOne r rs) (sym (slots_registers c path n)) (in_range n k r z) in
+        -- the registers of the indices that are evaluated
+        let A : ℕ → Type 0 = λ r. IsOne r rs × (n ≤ r) in
+        let around : (r : ℕ) → A r → (n ≤ r) × (r < d) = λ r a. (a.1, either (λ v. let y = low r v.1 in let z = a.1 in absurd (omega (arith, y, z))) (λ l. l.1) (slots_cases body c n R U low path fp s n r a.0)) in
+        let P : ℕ → Type 0 = λ r. (Vars S r ⊎ A r) ⊎ H e d r in
         let live_S : (r : ℕ) → Vars S r → LiveAt body mid2 r = λ r v. either (λ z. live_reads body mid2 r put last.0.0 (inl z))
         (λ other. let w = either (λ z. absurd (other z)) (λ z. z) (with_cases s x r v) in
         live_on body mid2 (mid2 + 1) r put last.0.0 (other, (less_not r d (let y = below s known r w in omega (arith, y)), tt)) (inl refl) (kept_live body c n R U low (has s x) x (mid2 + 1) next r end other (exit.0 r w))) (same_or_other r x) in
-        let live_P : Lives body t f mid2 P = λ r l. either (λ z. either (λ v. live_S r v) (λ y. live_reads body mid2 r put last.0.0 (inr (inr (slot_one r y)))) z) (λ z. live_reads body mid2 r put last.0.0 (inr (inl z.0))) l in
-        let after_put : Within (After t put P) (λ r. Vars s r ⊎ (r ≡ x)) = λ r l. either (λ z. either (λ y. either (λ v. either (λ w. inr w) (λ w. inl w) (with_cases s x r v)) (λ y2. absurd (one_not_none r (slot_registers (slots c path n)) (slot_one r y2) z.1.1.1)) y) (λ y. absurd (z.1.1.0 y.0)) z.0) (λ z. inr z) l in
+        let live_P : Lives body t f mid2 P = λ r l. either (λ z. either (λ v. live_S r v) (λ y. live_reads body mid2 r put last.0.0 (inr (inr y.0))) z) (λ z. live_reads body mid2 r put last.0.0 (inr (inl z.0))) l in
+        let after_put : Within (After t put P) (λ r. Vars s r ⊎ (r ≡ x)) = λ r l. either (λ z. either (λ y. either (λ v. either (λ w. inr w) (λ w. inl w) (with_cases s x r v)) (λ y2. absurd (one_not_none r rs y2.0 z.1.1.1)) y) (λ y. absurd (z.1.1.0 y.0)) z.0) (λ z. inr z) l in
         let at_put = safe_step body t f m mid2 put P (λ r. Vars s r ⊎ (r ≡ x)) last.0.0 live_P (λ y w. w) after_put (kept_sure (has s x) m x s (mid2 + 1) next refl end exit.1) in
-        let at_value = code_safe body c n t f e U fe low m S (Range n k) d mid mid2 known_S (omega arith) (λ r z. z) (front body mid two (Does put ∷ kept x s) next rest) ((λ r l. live_P r (inl l)), at_put) in
+        let at_value = code_safe body c n t f e U fe low m S A d mid mid2 known_S (omega arith) around (front body mid two (Does put ∷ kept x s) next rest) ((λ r l. live_P r (inl l)), at_put) in
+        let within : (r : ℕ) → Vars s r → Vars (before e S) r = λ r v. before_of e S r (inr (with_of s x r (inr v))) in
         (ready_less body c n t f m at (Vars (before_steps path (before e S))) (λ r. Vars (before_steps path (before e S)) r ⊎ ⊥) (λ r l. inl l)
-        (indices_safe path fp m (before e S) (λ r. ⊥) n at mid (known_value e fe S known_S) (omega arith) (λ r a. absurd a) (front body at one (two ++ Does put ∷ kept x s) next h)
-        (ready_less body c n t f m mid (λ r. (Vars (before e S) r ⊎ ⊥) ⊎ Range n k r) (λ r. Vars (before e S) r ⊎ Range n k r) (λ r l. either (λ z. either (λ v. inl v) (λ y. absurd y) z) (λ z. inr z) l) at_value))).1
+        (indices_safe path fp m (before e S) s (λ r. ⊥) n at mid (known_value e fe S known_S) within (omega arith) (λ r a. absurd a) (front body at one (two ++ Does put ∷ kept x s) next h)
+        (ready_less body c n t f m mid (λ r. (Vars (before e S) r ⊎ ⊥) ⊎ IsOne r rs) (λ r. Vars (before e S) r ⊎ A r)
+        (λ r l. either (λ z. either (λ v. inl v) (λ y. absurd y) z) (λ z. either (λ v. inl (within r v.0)) (λ y. inr (z, y.0)) (slots_cases body c n R U low path fp s n r z)) l) at_value))).1
 
     -- ---- calls
 

@@ -1,5 +1,5 @@
 -- Which variables are live in front of the code of a statement: those that some path from there uses before it assigns them.
-use Rattle.std.proofs.Common.{◌≡◌, ◌≢◌, ◌<◌, ◌≤◌, ◌⊎◌, inl, inr, ℕ, zero, suc, ◌+◌, List, [], ◌∷◌, ◌++◌, length, Bool, true, false, ◌||◌, ◌==◌, cond, Some, None, refl, ap, ◌∙◌, subst, arith}
+use Rattle.std.proofs.Common.{◌≡◌, ◌≢◌, ◌<◌, ◌≤◌, ◌⊎◌, inl, inr, ℕ, zero, suc, ◌+◌, List, [], ◌∷◌, ◌++◌, length, Bool, true, false, ◌||◌, ◌==◌, cond, Option, Some, None, refl, sym, ap, ◌∙◌, subst, arith}
 use Rattle.wy_core.specs.CoreTree.{Expr, Step, IndexStep, FieldStep, Stmt, DeclareStmt, AssignStmt, CallStmt, ReturnStmt, AssertStmt, BreakStmt, ContinueStmt, SkipStmt, FailStmt, IfStmt, WhileStmt, Stmts, NoStmts, MoreStmts}
 use Rattle.wy_code.specs.declared.instructions.Instr.{Instr}
 use Rattle.wy_code.specs.declared.instructions.Instr.TheVariants as instr
@@ -14,9 +14,10 @@ use Rattle.wy_live.specs.declared.walk.Ends.{Ends}
 use Rattle.wy_pieces.specs.declared.steps.Step.TheVariants.{Does}
 use Rattle.wy_pieces.specs.Placing.{slot_registers}
 use Rattle.wy_pieces.specs.Steps.{clear, over, turns, registers_from}
+use Rattle.wy_compiled.specs.Operands.{read, standing, unless_read}
 use Rattle.wy_compiled.specs.Expressions.{lost, released, is_plain, release_unless, count_of, code, codes}
 use Rattle.wy_compiled.specs.Statements.{store, set, index_count, slots, indices, kept, update, call_step, choice, branches, inside, turn, stmt_code, stmts_code}
-use Rattle.wy_kept_code.specs.Alive.{LiveAt}
+use Rattle.wy_kept_code.specs.Alive.{IsOne, LiveAt}
 use Rattle.wy_kept_code.specs.Fitting.{Fits, FitsPath, FitsStmt, FitsStmts}
 use Rattle.wy_kept_code.proofs.PieceLemmas.{either, nat_up, less_not, none_below, Spans, front, back, tail, live_reads, live_on, live_last, turning}
 use Rattle.wy_kept_code.proofs.LivePathLemmas.{live_more, lives_more}
@@ -25,7 +26,9 @@ use Rattle.wy_kept_code.proofs.LiveUseLemmas.{has-before_steps}
 use Rattle.wy_kept_code.proofs.SetLemmas.{never, not_both, same_of, other_of, Vars, before_of, without_of, with_of, joined_of, not_lost}
 use Rattle.wy_kept_code.proofs.BranchLemmas.{branches_first, branches_second}
 use Rattle.wy_kept_code.proofs.TestLemmas.{at_end}
-use Rattle.wy_kept_code.proofs.ReadLemmas.{from_registers, clear_live, Low, two_ways, code_live, codes_live}
+use Rattle.wy_kept_code.proofs.InPlaceLemmas.{IsIts, IsLiveIn, read_its}
+use Rattle.wy_kept_code.proofs.OperandLemmas.{Range}
+use Rattle.wy_kept_code.proofs.ReadLemmas.{from_registers, clear_live, Low, two_ways, ReadThere, operand_live, code_live, codes_live}
 
 pub same_or_other : (r x : ℕ) → (r ≡ x) ⊎ (r ≢ x)
 same_or_other zero zero = inl refl
@@ -40,12 +43,6 @@ steps_of path s r h = has-before_steps path s r ∙ or_of (any_step_occurs path 
     or_of true b h = refl
     or_of false b (inl e) = never e
     or_of false b (inr e) = e
-
--- the registers of the indices of a path
-pub slots_registers : (c : Context) (path : List (Step ℕ)) (k : ℕ) → slot_registers (slots c path k) ≡ registers_from k (index_count path)
-slots_registers c [] k = refl
-slots_registers c (IndexStep at e ∷ path) k = ap (λ (z : List ℕ). k ∷ z) (slots_registers c path (suc k))
-slots_registers c (FieldStep at name ∷ path) k = slots_registers c path k
 
 module _ (body : List Instr) (c : Context) (n : ℕ) (R : Type 0) (U : ℕ → Type 0) (low : Low body c n U) where
   -- it is used, or it is live behind and is a variable
@@ -77,15 +74,37 @@ module _ (body : List Instr) (c : Context) (n : ℕ) (R : Type 0) (U : ℕ → T
       reads_code e fit (without s x) n at mid r (omega arith) (front body at one (store x s n (is_plain e)) next h) rn
       (either (λ u. inl u) (λ k. let l = on k.1 in let other = other_of r x k.0 in inr (inl (without_of s x r (other, l.0)), store_live (has s x) (is_plain e) x n mid next r (back body at one (store x s n (is_plain e)) next h) other (less_not r n rn) l.1)) way)
 
-  indices_live : (path : List (Step ℕ)) → FitsPath c n path U → (s : Variables) (d at next r : ℕ) → n ≤ d → Spans body at (indices c path s d) next → r < n → G (any_step_occurs path r) s next r → LiveAt body at r
-  indices_live [] fit s d at next r nd h rn (inl u) = never u
-  indices_live [] fit s d at next r nd h rn (inr k) = at_end body at next r h k.1
-  indices_live (IndexStep i e ∷ path) fit s d at next r nd h rn way =
-      let one = code c e (before_steps path s) d in let mid = at + length one in
-      two_ways body c n (occurs e r) (any_step_occurs path r) s (before_steps path s) at mid next r (λ k. either (λ v. inl (steps_of path s r (inr v))) (λ l. inr l) k) (λ k. inl (steps_of path s r (inl k)))
-      (λ g. reads_code e fit.0 (before_steps path s) d at mid r nd (front body at one (indices c path s (suc d)) next h) rn g)
-      (λ g. indices_live path fit.1 s (suc d) mid next r (omega (arith, nd)) (back body at one (indices c path s (suc d)) next h) rn g) way
-  indices_live (FieldStep i name ∷ path) fit s d at next r nd h rn way = indices_live path fit s d at next r nd h rn way
+  -- the registers that the slots of a path name: of variables that are live, and those of the other indices
+  pub slots_cases : (path : List (Step ℕ)) → FitsPath c n path U → (s : Variables) (k q : ℕ) → IsOne q (slot_registers (slots c path s k)) → (Vars s q × U q) ⊎ Range k (index_count path) q
+  slots_cases [] fit s k q h = absurd h
+  slots_cases (IndexStep i e ∷ path) fit s k q h =
+      let its = read_its c n e s U fit.0 in
+      either (λ z. first (read e s) its.0 its.1 z) (λ z. either (λ v. inl v) (λ l. inr (let y = l.0 in omega (arith, y), let y = l.1 in omega (arith, y))) (slots_cases path fit.1 s (suc k) q z)) h
+    where
+      first : (w : Option ℕ) → IsIts U w e → IsLiveIn w s → q ≡ standing w k → (Vars s q × U q) ⊎ Range k (suc (index_count path)) q
+      first None its live z = inr (omega (arith, z), omega (arith, z))
+      first (Some x) its live z = inl (subst (λ (y : ℕ). Vars s y) (sym z) live, subst U (sym z) its.1)
+  slots_cases (FieldStep i name ∷ path) fit s k q h = slots_cases path fit s k q h
+
+  -- a variable that stands for an index is live where the slots are
+  index_there : (w : Option ℕ) (e : Expr ℕ) (s : Variables) (d p : ℕ) → IsIts U w e → IsLiveIn w s → ((y : ℕ) → U y → Vars s y → y ≡ standing w d → LiveAt body p y) → ReadThere body c n w p
+  index_there None e s d p its live at_it = tt
+  index_there (Some x) e s d p its live at_it = at_it x its.1 live refl
+
+  -- the indices of a path, where the registers that its slots name are live behind them
+  indices_live : (path : List (Step ℕ)) → FitsPath c n path U → (b s : Variables) (d at next r : ℕ) → n ≤ d → ((q : ℕ) → Vars s q → Vars b q) → Spans body at (indices c path b s d) next → r < n
+      → ((q : ℕ) → IsOne q (slot_registers (slots c path s d)) → LiveAt body next q) → G (any_step_occurs path r) b next r → LiveAt body at r
+  indices_live [] fit b s d at next r nd within h rn slotted (inl u) = never u
+  indices_live [] fit b s d at next r nd within h rn slotted (inr k) = at_end body at next r h k.1
+  indices_live (IndexStep i e ∷ path) fit b s d at next r nd within h rn slotted way =
+      let w = read e s in let its = read_its c n e s U fit.0 in
+      let one = unless_read w (code c e (before_steps path b) d) in let mid = at + length one in
+      let rest = back body at one (indices c path b s (suc d)) next h in
+      let there : ReadThere body c n w mid = index_there w e s d mid its.0 its.1 (λ y u v same. indices_live path fit.1 b s (suc d) mid next y (omega (arith, nd)) within rest (low y u) (λ q z. slotted q (inr z)) (inr (inl (within y v), slotted y (inl same)))) in
+      two_ways body c n (occurs e r) (any_step_occurs path r) b (before_steps path b) at mid next r (λ k. either (λ v. inl (steps_of path b r (inr v))) (λ l. inr l) k) (λ k. inl (steps_of path b r (inl k)))
+      (λ g. operand_live body c n U w e its.0 (λ s2 d2 at2 next2 r2 nd2 h2 low2 way2. code_live body c n e U s2 d2 at2 next2 r2 fit.0 low nd2 h2 low2 way2) (before_steps path b) d at mid r nd (front body at one (indices c path b s (suc d)) next h) (omega (arith, rn, nd)) there g)
+      (λ g. indices_live path fit.1 b s (suc d) mid next r (omega (arith, nd)) within rest rn (λ q z. slotted q (inr z)) g) way
+  indices_live (FieldStep i name ∷ path) fit b s d at next r nd within h rn slotted way = indices_live path fit b s d at next r nd within h rn slotted way
 
   pub kept_live : (b : Bool) (x p next r : ℕ) → Spans body p (cond b [] (clear (x ∷ []))) next → r ≢ x → LiveAt body next r → LiveAt body p r
   kept_live true x p next r h other l = at_end body p next r h l
@@ -96,8 +115,8 @@ module _ (body : List Instr) (c : Context) (n : ℕ) (R : Type 0) (U : ℕ → T
       → Used (any_step_occurs path r || (occurs e r || (r == x))) A → LiveAt body at r
   update_live x path e s at next r A fp fe h rn on way =
       let S = with s x in let d = n + index_count path in
-      let one = indices c path (before e S) n in let two = code c e S d in
-      let put : Instr = instr.Put x (slots c path n) d in
+      let one = indices c path (before e S) s n in let two = code c e S d in
+      let put : Instr = instr.Put x (slots c path s n) d in
       let mid = at + length one in let mid2 = mid + length two in
       let rest = back body at one (two ++ Does put ∷ kept x s) next h in
       let last = back body mid two (Does put ∷ kept x s) next rest in
@@ -106,7 +125,12 @@ module _ (body : List Instr) (c : Context) (n : ℕ) (R : Type 0) (U : ℕ → T
       let keeps : (r ≡ x) ⊎ A → Vars S r = λ k. with_of s x r (either (λ e2. inl e2) (λ a. inr (on a).0) k) in
       let tail_way : (occurs e r ≡ true) ⊎ ((r ≡ x) ⊎ A) → LiveAt body mid r = λ k. reads_code e fe S d mid mid2 r (omega arith) (front body mid two (Does put ∷ kept x s) next rest) rn (either (λ u. inl u) (λ z. inr (inl (keeps z), at_put z)) k) in
       let before_keeps : (occurs e r ≡ true) ⊎ ((r ≡ x) ⊎ A) → Vars (before e S) r = λ k. before_of e S r (either (λ u. inl u) (λ z. inr (keeps z)) k) in
-      indices_live path fp (before e S) n at mid r (omega arith) (front body at one (two ++ Does put ∷ kept x s) next h) rn
+      let in_S : (q : ℕ) → Vars s q → Vars S q = λ q v. with_of s x q (inr v) in
+      let slotted : (q : ℕ) → IsOne q (slot_registers (slots c path s n)) → LiveAt body mid q = λ q z.
+      let l : LiveAt body mid2 q = live_reads body mid2 q put last.0.0 (inr (inr z)) in let sp = front body mid two (Does put ∷ kept x s) next rest in
+      either (λ k. code_live body c n e U S d mid mid2 q fe low (omega arith) sp (let y = low q k.1 in omega (arith, y)) (inr (inl (in_S q k.0), l)))
+      (λ k. code_live body c n e U S d mid mid2 q fe low (omega arith) sp k.1 (inr (inr k.0, l))) (slots_cases path fp s n q z) in
+      indices_live path fp (before e S) s n at mid r (omega arith) (λ q v. before_of e S q (inr (in_S q v))) (front body at one (two ++ Does put ∷ kept x s) next h) rn slotted
       (either (λ u. either (λ z. inl z) (λ z. let k : (occurs e r ≡ true) ⊎ ((r ≡ x) ⊎ A) = either (λ w. inl w) (λ w. inr (inl (same_of r x w))) (or_cases (occurs e r) (r == x) z) in inr (inl (before_keeps k), tail_way k)) (or_cases (any_step_occurs path r) (occurs e r || (r == x)) u))
       (λ a. inr (inl (before_keeps (inr (inr a))), tail_way (inr (inr a)))) way)
 

@@ -1,5 +1,5 @@
 -- The code of a test of a type keeps nothing dead.
-use Rattle.std.proofs.Common.{◌≡◌, ◌≢◌, ◌<◌, ◌≤◌, ◌⊎◌, inl, inr, ℕ, suc, ◌+◌, List, [], ◌∷◌, ◌++◌, length, true, false, Some, pos, refl, sym, ◌∙◌, subst, arith}
+use Rattle.std.proofs.Common.{◌≡◌, ◌≢◌, ◌<◌, ◌≤◌, ◌⊎◌, inl, inr, ℕ, suc, ◌+◌, List, [], ◌∷◌, ◌++◌, length, true, false, Some, pos, refl, sym, subst, arith}
 use Rattle.std.specs.Prelude.{slice_get}
 use Rattle.wy_core.specs.Types.{Ty, NullTy, BoolTy, IntTy, AnyTy, VoidTy, RecordTy, ArrayTy, UnionTy, InterTy, NotTy, NamedTy, NormalTy, FieldTys, NoFieldTys, MoreFieldTys}
 use Rattle.wy_code.specs.declared.instructions.Scalar.{Scalar}
@@ -15,7 +15,7 @@ use Rattle.wy_tables.specs.Tables.{number_of, shape_number, ty_names_in}
 use Rattle.wy_pieces.specs.declared.steps.Step.{Step}
 use Rattle.wy_pieces.specs.declared.steps.Step.TheVariants.{Does, GoesOnUnless}
 use Rattle.wy_pieces.specs.Steps.{dropped, fork}
-use Rattle.wy_compiled.specs.TypeTests.{item_end, item_turns, yes, items_test, field_end, test, fields_test}
+use Rattle.wy_compiled.specs.TypeTests.{looks, item_end, item_turns, yes, items_test, field_end, test, fields_test}
 use Rattle.wy_kept_registers.specs.Keeping.{IsNone}
 use Rattle.wy_kept_code.specs.Alive.{IsOne, changes, nexts, LiveAt}
 use Rattle.wy_kept_code.specs.Safe.{Gives, Into, After, Onward, Safe}
@@ -67,6 +67,21 @@ module _ (body : List Instr) where
         let i : Instr = instr.Share g v in let j : Instr = instr.Call r (length c.results + k) (g ∷ []) in
         live_on body at (at + 1) q i h.0.0 (less_not q g low, tt) (inl refl) (live_last body (at + 1) next q j (tail body at i (Does j ∷ []) next h) (other, (less_not q g low, tt)) (inl refl) l)
     test_live (NormalTy cs) v r g at next q h low other l = live_last body at next q (instr.Const r (scalar.Bool false)) h (other, tt) (inl refl) l
+
+    -- a test that looks at the value reads it first
+    pub test_reads : (ty : Ty) → looks ty ≡ true → (v r g at next : ℕ) → Spans body at (test c ty v r g) next → LiveAt body at v
+    test_reads NullTy e v r g at next h = live_reads body at v (instr.Kind r v kind.Null) h.0.0 (inl refl)
+    test_reads BoolTy e v r g at next h = live_reads body at v (instr.Kind r v kind.Bool) h.0.0 (inl refl)
+    test_reads IntTy e v r g at next h = live_reads body at v (instr.Kind r v kind.Int) h.0.0 (inl refl)
+    test_reads AnyTy e v r g at next h = cc
+    test_reads VoidTy e v r g at next h = cc
+    test_reads (RecordTy fs) e v r g at next h = live_reads body at v (instr.Kind r v (kind.Shape (shape_number c.table (ty_names_in fs)))) h.0.0 (inl refl)
+    test_reads (ArrayTy ty) e v r g at next h = live_reads body at v (instr.Kind r v kind.Array) h.0.0 (inl refl)
+    test_reads (UnionTy a b) e v r g at next h = test_reads a e v r g at (at + length (test c a v r g)) (front body at (test c a v r g) (fork r [] (test c b v r g)) next h)
+    test_reads (InterTy a b) e v r g at next h = test_reads a e v r g at (at + length (test c a v r g)) (front body at (test c a v r g) (fork r (test c b v r g) []) next h)
+    test_reads (NotTy a) e v r g at next h = test_reads a e v r g at (at + length (test c a v r g)) (front body at (test c a v r g) (Does (instr.Not r r) ∷ []) next h)
+    test_reads (NamedTy k) e v r g at next h = live_reads body at v (instr.Share g v) h.0.0 (inl refl)
+    test_reads (NormalTy cs) e v r g at next h = cc
 
     -- a test of a field and what is behind it
     pub fields_live : (fs : FieldTys) (v r g at next q : ℕ) → Spans body at (fields_test c fs v r g) next → q < g → q ≢ r → LiveAt body next q → LiveAt body at q

@@ -1,5 +1,7 @@
 -- what the functions owe
 pub mod PutLemmas
+pub mod JoinLemmas
+pub mod LostLemmas
 pub mod WalkLemmas
 -- sets, and what is live
 mod SetLemmas

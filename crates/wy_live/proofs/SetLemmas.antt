@@ -56,7 +56,7 @@ has-nothing x = refl
 
 -- ---- joins
 
-length-either : (s t : Variables) (n : ℕ) → length (either_bits s t n) ≡ n
+pub length-either : (s t : Variables) (n : ℕ) → length (either_bits s t n) ≡ n
 length-either s t zero = refl
 length-either s t (suc n) = let h = length-either s t n in omega (arith, length-append {A = Bool}, h)
 
@@ -67,10 +67,10 @@ either_at s t (suc n) x h = by_same x n (λ b. (x == n) ≡ b → get_or (either
     (λ ne _. let l = length-either s t n in let lt : x < length (either_bits s t n) = omega arith in
     get_or_append_left (either_bits s t n) ((has s n || has t n) ∷ []) false x lt ∙ either_at s t n x (omega arith)) refl
 
-lt_true : (a b : ℕ) → nat_lt a b ≡ true → a < b
+pub lt_true : (a b : ℕ) → nat_lt a b ≡ true → a < b
 lt_true a b h = first_of (grind (arith, nat_tests), search arith)
 
-lt_false : (a b : ℕ) → nat_lt a b ≡ false → b ≤ a
+pub lt_false : (a b : ℕ) → nat_lt a b ≡ false → b ≤ a
 lt_false a b h = first_of (grind (arith, nat_tests), search arith)
 
 longer_left : (n m : ℕ) → n ≤ longer n m

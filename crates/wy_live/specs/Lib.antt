@@ -4,3 +4,5 @@ pub mod LastUses
 -- the reading: what is live at each point, and the marks
 pub mod Sets
 pub mod Walks
+-- what one set has and another lacks
+pub mod Lost

@@ -21,6 +21,6 @@ mod walk;
 pub use fault::NoMemory;
 pub use live::{head_live, live_block};
 pub use program::{Uses, last_uses};
-pub use sets::{Variables, joined};
+pub use sets::{Variables, joined, next_lost};
 pub use uses::{before, before_all, before_fields, before_steps, turned};
 pub use walk::{Ends, nothing};

@@ -1,5 +1,6 @@
 //! Sets of variables.
-ghost use Rattle.std.specs.Prelude.{◌≡◌, [], IfOk, OnOk, length};
+ghost use Rattle.std.specs.Prelude.{◌≡◌, ◌≤◌, ◌<◌, ◌||◌, ℕ, [], true, false, IfOk, OnOk, length};
+ghost use Rattle.wy_live.specs.Lost as lost;
 ghost use Rattle.wy_live.specs.Sets as spec;
 
 use std::alloc::{AllocError, Global};
@@ -101,20 +102,155 @@ fn put_bit(bits: &mut Vec<bool>, index: usize, bit: bool) -> Result<(), AllocErr
     Ok(())
 }
 
-/// What is in one of both. It is linear in the number of bits.
+/// What is in one of both. It is linear in the number of bits: the longer one is copied, and then those
+/// of the shorter one are put in, many at a time.
 pub fn joined(alloc: Global, first: &Variables, second: &Variables) -> Result<Variables, AllocError>
     ensures value { IfOk result (λ s. s ≡ spec.joined first.now second.now) }
 {
-    let len = longer(first.bits.len(), second.bits.len());
-    let mut bits = Vec::with_capacity(alloc, len)?;
-    for i in 0..len {
-        bits.push(first.bit(i) || second.bit(i))?;
+    if first.bits.len() < second.bits.len() {
+        return merged(alloc, second.bits.as_slice(), first.bits.as_slice());
     }
+    merged(alloc, first.bits.as_slice(), second.bits.as_slice())
+}
+
+/// The longer set with what is in the shorter one.
+fn merged(alloc: Global, longer: &[bool], shorter: &[bool]) -> Result<Variables, AllocError>
+    requires longer { length shorter.now ≤ length longer.now }
+    ensures value { IfOk result (λ s. s ≡ spec.joined longer.now shorter.now) }
+    ensures turned { IfOk result (λ s. s ≡ spec.joined shorter.now longer.now) }
+{
+    let mut bits = Vec::from_slice(alloc, longer)?;
+    put_in(bits.as_mut_slice(), shorter);
     Ok(Variables { bits })
 }
 
-fn longer(n: usize, m: usize) -> usize
-    ensures value { result ≡ spec.longer n m }
+/// The bits that are set in the others are set in the first ones too, without a branch for each.
+#[tactic(auto, using(crate::proofs::JoinLemmas::either_of))]
+fn put_in(bits: &mut [bool], others: &[bool])
+    requires longer { length others.now ≤ length bits.old }
+    ensures len { length bits.new ≡ length bits.old }
+    ensures value { (x : ℕ) → spec.has bits.new x ≡ (spec.has bits.old x || spec.has others.now x) }
 {
-    if n < m { m } else { n }
+    for i in 0..others.len() {
+        bits[i] |= others[i];
+    }
+}
+
+/// How many bits are looked at together.
+const BLOCK: usize = 128;
+
+/// The first variable from this one on that the one set has and the other lacks, or the number of bits
+/// of the one where there is none. It is linear in the bits between, which it looks at 128 together.
+pub fn next_lost(one: &Variables, other: &Variables, from: usize) -> usize
+    requires within { from ≤ length one.now }
+    ensures behind { from ≤ result }
+    ensures within { result ≤ length one.now }
+    ensures between { lost.NoneLost one.now other.now from result }
+    ensures found { result < length one.now → lost.is_lost one.now other.now result ≡ true }
+{
+    next_of(one.bits.as_slice(), other.bits.as_slice(), from)
+}
+
+/// The same of bits.
+#[tactic(auto, using(crate::proofs::LostLemmas::none_nowhere, crate::proofs::LostLemmas::none_behind))]
+fn next_of(one: &[bool], other: &[bool], from: usize) -> usize
+    requires within { from ≤ length one.now }
+    ensures behind { from ≤ result }
+    ensures within { result ≤ length one.now }
+    ensures between { lost.NoneLost one.now other.now from result }
+    ensures found { result < length one.now → lost.is_lost one.now other.now result ≡ true }
+{
+    let mut at = from;
+    while at < one.len() {
+        let end = block_end(at, one.len());
+        let found = lost_within(one, other, at, end);
+        if found < end {
+            return found;
+        }
+        at = found;
+    }
+    at
+}
+
+/// Where a block of bits ends.
+fn block_end(at: usize, len: usize) -> usize
+    requires within { at < len }
+    ensures behind { at < result }
+    ensures within { result ≤ len }
+{
+    if len - at < BLOCK { len } else { at + BLOCK }
+}
+
+/// The first one in a block that is lost, or the block's end.
+#[tactic(auto, using(crate::proofs::LostLemmas::none_nowhere, crate::proofs::LostLemmas::none_next))]
+fn lost_within(one: &[bool], other: &[bool], at: usize, end: usize) -> usize
+    requires block { at ≤ end }
+    requires within { end ≤ length one.now }
+    ensures behind { at ≤ result }
+    ensures within { result ≤ end }
+    ensures between { lost.NoneLost one.now other.now at result }
+    ensures found { result < end → lost.is_lost one.now other.now result ≡ true }
+{
+    if !is_any_lost(one, other, at, end) {
+        return end;
+    }
+    for variable in at..end {
+        let is_gone = one[variable] & !is_set(other, variable);
+        if is_gone {
+            return variable;
+        }
+    }
+    end
+}
+
+fn is_set(bits: &[bool], index: usize) -> bool
+    ensures value { result ≡ spec.has bits.now index }
+{
+    if index < bits.len() {
+        bits[index]
+    } else {
+        false
+    }
+}
+
+/// Where not, none in the block is lost.
+#[tactic(auto, using(crate::proofs::LostLemmas::none_of_unset))]
+fn is_any_lost(one: &[bool], other: &[bool], at: usize, end: usize) -> bool
+    requires block { at ≤ end }
+    requires within { end ≤ length one.now }
+    ensures none { result ≡ false → lost.NoneLost one.now other.now at end }
+{
+    if end <= other.len() {
+        return is_any_apart(one, other, at, end);
+    }
+    is_any_set(one, at, end)
+}
+
+/// Whether one in the block is lost, of which both have the bits; without a branch for each.
+#[tactic(auto, using(crate::proofs::LostLemmas::none_nowhere, crate::proofs::LostLemmas::none_so_far))]
+fn is_any_apart(one: &[bool], other: &[bool], at: usize, end: usize) -> bool
+    requires block { at ≤ end }
+    requires one { end ≤ length one.now }
+    requires other { end ≤ length other.now }
+    ensures none { result ≡ false → lost.NoneLost one.now other.now at end }
+{
+    let mut any = false;
+    for i in at..end {
+        any |= one[i] & !other[i];
+    }
+    any
+}
+
+/// Whether a bit of the block is set; without a branch for each.
+#[tactic(auto, using(crate::proofs::LostLemmas::unset_nowhere, crate::proofs::LostLemmas::unset_so_far))]
+fn is_any_set(bits: &[bool], at: usize, end: usize) -> bool
+    requires block { at ≤ end }
+    requires within { end ≤ length bits.now }
+    ensures none { result ≡ false → lost.NoneSet bits.now at end }
+{
+    let mut any = false;
+    for i in at..end {
+        any |= bits[i];
+    }
+    any
 }

@@ -24,8 +24,9 @@ use Rattle.wy_tables.specs.Tables.{target, number_of, shape_number, names_in}
 use Rattle.wy_pieces.specs.declared.steps.Step.{Step}
 use Rattle.wy_pieces.specs.declared.steps.Step.TheVariants.{Does}
 use Rattle.wy_pieces.specs.Steps.{registers_from, dropped}
-use Rattle.wy_compiled.specs.TypeTests.{test}
-use Rattle.wy_compiled.specs.Expressions.{code, codes, field_codes, released, negated, call, is_test, quantify, count_of, field_count}
+use Rattle.wy_compiled.specs.TypeTests.{test, looks}
+use Rattle.wy_compiled.specs.Operands.{variable_in, read, standing, unless_read}
+use Rattle.wy_compiled.specs.Expressions.{code, codes, field_codes, released, negated, call, is_test, tested, tested_read, quantify, count_of, field_count}
 use Rattle.wy_numbered_tables.specs.Numbered.{NumberedTy, NumberedExpr, NumberedExprs, NumberedFields}
 use Rattle.wy_sem.specs.Meter.{Meter, Outcome, Done, Fault, More, Spent, Run, ◌>>=◌, turn, choose}
 use Rattle.wy_sem.specs.Operations as operations
@@ -38,7 +39,7 @@ use Rattle.wy_simulation.specs.Follows.{Follows, at_place, Comes}
 use Rattle.wy_simulation.specs.Registers.{Live, Got}
 use Rattle.wy_simulation.proofs.PlaceLemmas.{stand_front, stand_back}
 use Rattle.wy_simulation.proofs.StoreLemmas.{put_other, put_size, live_put, live_fewer}
-use Rattle.wy_simulation.proofs.FollowLemmas.{follows_then, follows_at, follows_number, follows_needed}
+use Rattle.wy_simulation.proofs.FollowLemmas.{follows_then, follows_more, follows_at, follows_number, follows_needed}
 use Rattle.wy_simulation.proofs.SpareLemmas.{leaves_follows}
 use Rattle.wy_simulation.proofs.InstructionLemmas.{move_does, emptied, emptied_below, emptied_size, array_does, record_does}
 use Rattle.wy_simulation.proofs.PieceLemmas.{stays_last, does_then}
@@ -48,8 +49,9 @@ use Rattle.wy_simulated_expressions.specs.Rests.{Called, Told, Rests}
 use Rattle.wy_simulated_expressions.specs.Evaluated.{Anything, IsDeclared, Fits, FitAll, Gained, GotAll, IsEvaluated, AreEvaluated, ExpressionsAreEvaluated}
 use Rattle.wy_simulated_expressions.proofs.KnownLemmas.{with_has, known_all, known_fields, known_turned, is_below, still_live}
 use Rattle.wy_simulated_expressions.proofs.KnowingLemmas.{slot_proper, literal_proper, negated_proper, denied_proper, length_proper, field_proper, item_proper, repeated_proper, data_proper, data_many}
+use Rattle.wy_simulated_expressions.proofs.ReadLemmas.{Stands, stands_low, stood_got, variable_read, live_read, live_kept, read_where}
 use Rattle.wy_simulated_expressions.proofs.PartLemmas.{fills, denied_follows, length_follows, field_follows, negated_follows, item_follows, repeated_follows}
-use Rattle.wy_simulated_expressions.proofs.OperandLemmas.{IsBrief, paid, variable, first_part, one_part, two_parts, strict, early}
+use Rattle.wy_simulated_expressions.proofs.OperandLemmas.{IsBrief, paid, variable, first_part, one_part, two_parts, numbers, alike, early}
 use Rattle.wy_simulated_expressions.proofs.QuantifierLemmas.{turns_follow}
 
 -- the fields that values in a row make
@@ -246,6 +248,33 @@ module _ (c : Context) (routines : List Routine) (f : ℕ) (r : Routine) (there 
       (record { holds = λ x u i h e. told.kept x (let l = below x h in omega (arith, l, behind)) (λ g. absurd (let l = below x h in omega (arith, l, behind, g))) ∙ got.live.holds x u i h e })
       (λ t a z. told.kept t (omega (arith, z)) (λ e. absurd (omega (arith, z, e))) ∙ got.kept t a z) (told.size ∙ got.size) (stand_back r.body p xs ys stands)))
 
+  -- a variable stays in its register, and nothing is released
+  told_in_place : (vs : Scope) (d p x : ℕ) (ty : Ty) (s : Variables) (store first regs : Store) (callers : List Caller) (m : Meter) (v : Datum) (types : ℕ) → BoundTy types ty → NumberedTy c.table ty → ((q : ℕ) → NamesIn true ty q → P q) → size_ty ty ≤ wide → ((y : ℕ) → has s y ≡ true → y < n) → x < n → n ≤ d → length first ≡ r.registers → IsProper v → Stands vs n d (Some x) s store first v regs
+      → StandAt r.body p (tested c ty (Some x) d) → Follows mach wide (size_ty ty) 3 m (at_place f p regs callers m.output) (w.test true ty v m >>= (λ b. Done (Truth b))) (Comes f (p + length (tested c ty (Some x) d)) callers (Got vs n d s store first))
+  told_in_place vs d p x ty s store first regs callers m v types bound numbered names small below less behind whole proper one stands =
+      let a = suc d in
+      let xs = test c ty x a (suc a) in
+      let ys : List Step = Does (instr.Move d a) ∷ [] in
+      let l1 : length (xs ++ ys) ≡ length xs + 1 = length-append xs ys in
+      let R = Got vs n d s store first in
+      follows_at mach wide (size_ty ty) 3 m (at_place f p regs callers m.output) (w.test true ty v m >>= (λ b. Done (Truth b))) f (p + length xs + 1) (p + length (xs ++ ys)) callers R (omega (arith, l1))
+      (follows_then mach wide (size_ty ty) 0 0 3 (size_ty ty) 3 m (at_place f p regs callers m.output) (w.test true ty v m) (λ b. Done (Truth b)) f (p + length xs) callers (Told a (suc a) regs) (Comes f (p + length xs + 1) callers R) (omega arith) (omega arith)
+      (rests.tests f r there ty x a (suc a) p v regs callers m types bound numbered names small proper one.value (omega (arith, less, behind)) (omega arith) (λ e. absurd (omega (arith, less, behind, e))) (one.size ∙ whole) (stand_front r.body p xs ys stands))
+      (λ b k last le told. follows_more mach wide 0 1 0 3 k (at_place f (p + length xs) last callers k.output) (Done (Truth b) k) (Comes f (p + length xs + 1) callers R) (omega arith) (omega arith)
+      (fills mach f r there n wide vs s below store d (p + length xs) (instr.Move d a) (a ∷ []) last (put last a None) first callers k (Truth b) behind (stand_back r.body p xs ys stands).0 refl (move_does mach.shapes last d a (Truth b) told.value)
+      (put_size last a None ∙ told.size ∙ one.size ∙ whole)
+      (live_put vs s store last a None (λ y i h e. absurd (let l = below y h in omega (arith, l, behind, e))) (record { holds = λ y u i h e. told.kept y (let l = below y h in omega (arith, l, behind)) (λ g. absurd (let l = below y h in omega (arith, l, behind, g))) ∙ one.live.holds y u i h e }))
+      (λ t y z. put_other last a t None (λ e. absurd (omega (arith, z, e))) ∙ told.kept t (omega (arith, z)) (λ e. absurd (omega (arith, z, e))) ∙ one.kept t y z)
+      (put_size last a None ∙ told.size ∙ one.size))))
+
+  -- a value is tested where it stands
+  tested_follows : (q : Option ℕ) (vs : Scope) (d p : ℕ) (ty : Ty) (s : Variables) (store first regs : Store) (callers : List Caller) (m : Meter) (v : Datum) (types : ℕ) → BoundTy types ty → NumberedTy c.table ty → ((q : ℕ) → NamesIn true ty q → P q) → size_ty ty ≤ wide → AreKnown n vs s → n ≤ d → length first ≡ r.registers → IsProper v → Stands vs n d q s store first v regs
+      → StandAt r.body p (tested c ty q d) → Follows mach wide (size_ty ty) 3 m (at_place f p regs callers m.output) (w.test true ty v m >>= (λ b. Done (Truth b))) (Comes f (p + length (tested c ty q d)) callers (Got vs n d s store first))
+  tested_follows None vs d p ty s store first regs callers m v types bound numbered names small known behind whole proper one stands =
+      told_follows vs d p ty s store first regs callers m v types bound numbered names small (is_below n vs s known) behind whole proper (stood_got vs n d s store first regs v one) stands
+  tested_follows (Some x) vs d p ty s store first regs callers m v types bound numbered names small known behind whole proper one stands =
+      told_in_place vs d p x ty s store first regs callers m v types bound numbered names small (is_below n vs s known) (known.below x one.whose.0) behind whole proper one stands
+
   truth_gives : (ty : Ty) (v : Datum) (m : Meter) → Gives IsProper (w.test true ty v m >>= (λ b. Done (Truth b)))
   truth_gives ty v m = by (w.test true ty v m)
     where
@@ -290,55 +319,55 @@ module _ (c : Context) (routines : List Routine) (f : ℕ) (r : Routine) (there 
           (all args nu iz ca.1 me (one_fits (sizes args) top le) o k vs s d at store regs callers j b.1 low known behind (stand_front r.body at xs ys stands) live proper whole (omega (arith, l, few)))
           (λ us t last le2 got. called vs d (at + length xs) g (w.place i) us s store regs last callers t (count_of args) ca.0 (omega (arith, le2, l, few)) (is_below n vs s known) behind whole got (stand_back r.body at xs ys stands))))
       expr (NegExpr i a) nu iz ca me le o k vs s d at store regs callers m b low known behind stands live proper whole few =
-          one_part c routines f r there w n wide most a (expr a nu iz ca me (one_fits (size a) top le)) (negated d) (operations.negated (w.place i)) 0 2 (size a + 1) (omega arith) (omega arith) (λ v j p. negated_proper (w.place i) j v p) o k vs s d at store regs callers m
+          one_part c routines f r there w n wide most a (variable_in a) (variable_read a) (expr a nu iz ca me (one_fits (size a) top le)) (negated d (standing (variable_in a) d)) (operations.negated (w.place i)) 0 2 (size a + 1) (omega arith) (omega arith) (λ v j p. negated_proper (w.place i) j v p) o k vs s d at store regs callers m
           (λ v j p last pv got ys. follows_at mach wide 0 2 j (at_place f p last callers j.output) (operations.negated (w.place i) v j) f (p + 1 + 1) (p + 2) callers (Got vs n d s store regs) (omega arith)
-          (negated_follows mach f r there n wide vs s (is_below n vs s known) store d p behind regs last whole callers (w.place i) j v got ys))
+          (negated_follows mach f r there n wide vs s (is_below n vs s known) store d p (variable_in a) behind regs last whole callers (w.place i) j v got (stands_low vs n d (variable_in a) s store regs last v known behind got) ys))
           b low known behind stands live proper whole few
       expr (NotExpr i a) nu iz ca me le o k vs s d at store regs callers m b low known behind stands live proper whole few =
-          one_part c routines f r there w n wide most a (expr a nu iz ca me (one_fits (size a) top le)) (Does (instr.Not d d) ∷ []) (denied (w.place i)) 0 1 (size a + 1) (omega arith) (omega arith) (λ v j p. denied_proper (w.place i) j v p) o k vs s d at store regs callers m
-          (λ v j p last pv got ys. denied_follows mach f r there n wide vs s (is_below n vs s known) store d p behind regs last whole callers (w.place i) j v got ys.0)
+          one_part c routines f r there w n wide most a (variable_in a) (variable_read a) (expr a nu iz ca me (one_fits (size a) top le)) (Does (instr.Not d (standing (variable_in a) d)) ∷ []) (denied (w.place i)) 0 1 (size a + 1) (omega arith) (omega arith) (λ v j p. denied_proper (w.place i) j v p) o k vs s d at store regs callers m
+          (λ v j p last pv got ys. denied_follows mach f r there n wide vs s (is_below n vs s known) store d p (variable_in a) behind regs last whole callers (w.place i) j v got ys.0)
           b low known behind stands live proper whole few
       expr (LenExpr i a) nu iz ca me le o k vs s d at store regs callers m b low known behind stands live proper whole few =
-          one_part c routines f r there w n wide most a (expr a nu iz ca me (one_fits (size a) top le)) (Does (instr.Len d d) ∷ []) (length_result (w.place i)) 0 1 (size a + 1) (omega arith) (omega arith) (λ v j p. length_proper (w.place i) j v p) o k vs s d at store regs callers m
-          (λ v j p last pv got ys. length_follows mach f r there n wide vs s (is_below n vs s known) store d p behind regs last whole callers (w.place i) j v got ys.0)
+          one_part c routines f r there w n wide most a (read a s) (live_read a s) (expr a nu iz ca me (one_fits (size a) top le)) (Does (instr.Len d (standing (read a s) d)) ∷ []) (length_result (w.place i)) 0 1 (size a + 1) (omega arith) (omega arith) (λ v j p. length_proper (w.place i) j v p) o k vs s d at store regs callers m
+          (λ v j p last pv got ys. length_follows mach f r there n wide vs s (is_below n vs s known) store d p (read a s) behind regs last whole callers (w.place i) j v got ys.0)
           b low known behind stands live proper whole few
       expr (BinaryExpr i op.Add a e2) nu iz ca me le o k vs s d at store regs callers m b low known behind stands live proper whole few =
-          strict c routines f r there w n wide most op.Add tt (w.place i) a e2 (expr a nu.0 iz.0 ca.0 (λ z h. me z (inl h)) (first_fits (size a) (size e2) top le)) (expr e2 nu.1 iz.1 ca.1 (λ z h. me z (inr h)) (second_fits (size a) (size e2) top le)) o k vs s d at store regs callers m b low known behind stands live proper whole few
+          numbers c routines f r there w n wide most op.Add tt (w.place i) a e2 (expr a nu.0 iz.0 ca.0 (λ z h. me z (inl h)) (first_fits (size a) (size e2) top le)) (expr e2 nu.1 iz.1 ca.1 (λ z h. me z (inr h)) (second_fits (size a) (size e2) top le)) s o k vs d at store regs callers m b low known behind stands live proper whole few
       expr (BinaryExpr i op.Sub a e2) nu iz ca me le o k vs s d at store regs callers m b low known behind stands live proper whole few =
-          strict c routines f r there w n wide most op.Sub tt (w.place i) a e2 (expr a nu.0 iz.0 ca.0 (λ z h. me z (inl h)) (first_fits (size a) (size e2) top le)) (expr e2 nu.1 iz.1 ca.1 (λ z h. me z (inr h)) (second_fits (size a) (size e2) top le)) o k vs s d at store regs callers m b low known behind stands live proper whole few
+          numbers c routines f r there w n wide most op.Sub tt (w.place i) a e2 (expr a nu.0 iz.0 ca.0 (λ z h. me z (inl h)) (first_fits (size a) (size e2) top le)) (expr e2 nu.1 iz.1 ca.1 (λ z h. me z (inr h)) (second_fits (size a) (size e2) top le)) s o k vs d at store regs callers m b low known behind stands live proper whole few
       expr (BinaryExpr i op.Mul a e2) nu iz ca me le o k vs s d at store regs callers m b low known behind stands live proper whole few =
-          strict c routines f r there w n wide most op.Mul tt (w.place i) a e2 (expr a nu.0 iz.0 ca.0 (λ z h. me z (inl h)) (first_fits (size a) (size e2) top le)) (expr e2 nu.1 iz.1 ca.1 (λ z h. me z (inr h)) (second_fits (size a) (size e2) top le)) o k vs s d at store regs callers m b low known behind stands live proper whole few
+          numbers c routines f r there w n wide most op.Mul tt (w.place i) a e2 (expr a nu.0 iz.0 ca.0 (λ z h. me z (inl h)) (first_fits (size a) (size e2) top le)) (expr e2 nu.1 iz.1 ca.1 (λ z h. me z (inr h)) (second_fits (size a) (size e2) top le)) s o k vs d at store regs callers m b low known behind stands live proper whole few
       expr (BinaryExpr i op.Div a e2) nu iz ca me le o k vs s d at store regs callers m b low known behind stands live proper whole few =
-          strict c routines f r there w n wide most op.Div tt (w.place i) a e2 (expr a nu.0 iz.0 ca.0 (λ z h. me z (inl h)) (first_fits (size a) (size e2) top le)) (expr e2 nu.1 iz.1 ca.1 (λ z h. me z (inr h)) (second_fits (size a) (size e2) top le)) o k vs s d at store regs callers m b low known behind stands live proper whole few
+          numbers c routines f r there w n wide most op.Div tt (w.place i) a e2 (expr a nu.0 iz.0 ca.0 (λ z h. me z (inl h)) (first_fits (size a) (size e2) top le)) (expr e2 nu.1 iz.1 ca.1 (λ z h. me z (inr h)) (second_fits (size a) (size e2) top le)) s o k vs d at store regs callers m b low known behind stands live proper whole few
       expr (BinaryExpr i op.Mod a e2) nu iz ca me le o k vs s d at store regs callers m b low known behind stands live proper whole few =
-          strict c routines f r there w n wide most op.Mod tt (w.place i) a e2 (expr a nu.0 iz.0 ca.0 (λ z h. me z (inl h)) (first_fits (size a) (size e2) top le)) (expr e2 nu.1 iz.1 ca.1 (λ z h. me z (inr h)) (second_fits (size a) (size e2) top le)) o k vs s d at store regs callers m b low known behind stands live proper whole few
+          numbers c routines f r there w n wide most op.Mod tt (w.place i) a e2 (expr a nu.0 iz.0 ca.0 (λ z h. me z (inl h)) (first_fits (size a) (size e2) top le)) (expr e2 nu.1 iz.1 ca.1 (λ z h. me z (inr h)) (second_fits (size a) (size e2) top le)) s o k vs d at store regs callers m b low known behind stands live proper whole few
       expr (BinaryExpr i op.Equal a e2) nu iz ca me le o k vs s d at store regs callers m b low known behind stands live proper whole few =
-          strict c routines f r there w n wide most op.Equal tt (w.place i) a e2 (expr a nu.0 iz.0 ca.0 (λ z h. me z (inl h)) (first_fits (size a) (size e2) top le)) (expr e2 nu.1 iz.1 ca.1 (λ z h. me z (inr h)) (second_fits (size a) (size e2) top le)) o k vs s d at store regs callers m b low known behind stands live proper whole few
+          alike c routines f r there w n wide most (w.place i) a e2 (expr a nu.0 iz.0 ca.0 (λ z h. me z (inl h)) (first_fits (size a) (size e2) top le)) (expr e2 nu.1 iz.1 ca.1 (λ z h. me z (inr h)) (second_fits (size a) (size e2) top le)) s o k vs d at store regs callers m b low known behind stands live proper whole few
       expr (BinaryExpr i op.Less a e2) nu iz ca me le o k vs s d at store regs callers m b low known behind stands live proper whole few =
-          strict c routines f r there w n wide most op.Less tt (w.place i) a e2 (expr a nu.0 iz.0 ca.0 (λ z h. me z (inl h)) (first_fits (size a) (size e2) top le)) (expr e2 nu.1 iz.1 ca.1 (λ z h. me z (inr h)) (second_fits (size a) (size e2) top le)) o k vs s d at store regs callers m b low known behind stands live proper whole few
+          numbers c routines f r there w n wide most op.Less tt (w.place i) a e2 (expr a nu.0 iz.0 ca.0 (λ z h. me z (inl h)) (first_fits (size a) (size e2) top le)) (expr e2 nu.1 iz.1 ca.1 (λ z h. me z (inr h)) (second_fits (size a) (size e2) top le)) s o k vs d at store regs callers m b low known behind stands live proper whole few
       expr (BinaryExpr i op.LessEqual a e2) nu iz ca me le o k vs s d at store regs callers m b low known behind stands live proper whole few =
-          strict c routines f r there w n wide most op.LessEqual tt (w.place i) a e2 (expr a nu.0 iz.0 ca.0 (λ z h. me z (inl h)) (first_fits (size a) (size e2) top le)) (expr e2 nu.1 iz.1 ca.1 (λ z h. me z (inr h)) (second_fits (size a) (size e2) top le)) o k vs s d at store regs callers m b low known behind stands live proper whole few
+          numbers c routines f r there w n wide most op.LessEqual tt (w.place i) a e2 (expr a nu.0 iz.0 ca.0 (λ z h. me z (inl h)) (first_fits (size a) (size e2) top le)) (expr e2 nu.1 iz.1 ca.1 (λ z h. me z (inr h)) (second_fits (size a) (size e2) top le)) s o k vs d at store regs callers m b low known behind stands live proper whole few
       expr (BinaryExpr i op.Greater a e2) nu iz ca me le o k vs s d at store regs callers m b low known behind stands live proper whole few =
-          strict c routines f r there w n wide most op.Greater tt (w.place i) a e2 (expr a nu.0 iz.0 ca.0 (λ z h. me z (inl h)) (first_fits (size a) (size e2) top le)) (expr e2 nu.1 iz.1 ca.1 (λ z h. me z (inr h)) (second_fits (size a) (size e2) top le)) o k vs s d at store regs callers m b low known behind stands live proper whole few
+          numbers c routines f r there w n wide most op.Greater tt (w.place i) a e2 (expr a nu.0 iz.0 ca.0 (λ z h. me z (inl h)) (first_fits (size a) (size e2) top le)) (expr e2 nu.1 iz.1 ca.1 (λ z h. me z (inr h)) (second_fits (size a) (size e2) top le)) s o k vs d at store regs callers m b low known behind stands live proper whole few
       expr (BinaryExpr i op.GreaterEqual a e2) nu iz ca me le o k vs s d at store regs callers m b low known behind stands live proper whole few =
-          strict c routines f r there w n wide most op.GreaterEqual tt (w.place i) a e2 (expr a nu.0 iz.0 ca.0 (λ z h. me z (inl h)) (first_fits (size a) (size e2) top le)) (expr e2 nu.1 iz.1 ca.1 (λ z h. me z (inr h)) (second_fits (size a) (size e2) top le)) o k vs s d at store regs callers m b low known behind stands live proper whole few
+          numbers c routines f r there w n wide most op.GreaterEqual tt (w.place i) a e2 (expr a nu.0 iz.0 ca.0 (λ z h. me z (inl h)) (first_fits (size a) (size e2) top le)) (expr e2 nu.1 iz.1 ca.1 (λ z h. me z (inr h)) (second_fits (size a) (size e2) top le)) s o k vs d at store regs callers m b low known behind stands live proper whole few
       expr (BinaryExpr i op.And a e2) nu iz ca me le o k vs s d at store regs callers m b low known behind stands live proper whole few =
           early c routines f r there w n wide most op.And tt (w.place i) a e2 (expr a nu.0 iz.0 ca.0 (λ z h. me z (inl h)) (first_fits (size a) (size e2) top le)) (expr e2 nu.1 iz.1 ca.1 (λ z h. me z (inr h)) (second_fits (size a) (size e2) top le)) o k vs s d at store regs callers m b low known behind stands live proper whole few
       expr (BinaryExpr i op.Or a e2) nu iz ca me le o k vs s d at store regs callers m b low known behind stands live proper whole few =
           early c routines f r there w n wide most op.Or tt (w.place i) a e2 (expr a nu.0 iz.0 ca.0 (λ z h. me z (inl h)) (first_fits (size a) (size e2) top le)) (expr e2 nu.1 iz.1 ca.1 (λ z h. me z (inr h)) (second_fits (size a) (size e2) top le)) o k vs s d at store regs callers m b low known behind stands live proper whole few
       expr (IsExpr i a ty) nu iz ca me le o k vs s d at store regs callers m b low known behind stands live proper whole few =
-          one_part c routines f r there w n wide most a (expr a nu.0 iz ca (λ z h. me z (inl h)) (first_fits (size a) (size_ty ty) top le)) (is_test c ty d) (λ v j. w.test true ty v j >>= (λ t. Done (Truth t))) (size_ty ty) 3 (size a + size_ty ty + 1) (omega arith) (omega arith) (λ v j p. truth_gives ty v j) o k vs s d at store regs callers m
-          (λ v j p last pv got ys. told_follows vs d p ty s store regs last callers j v o.types b.1 nu.1 (λ z h. me z (inr h)) (omega (arith, le, small)) (is_below n vs s known) behind whole pv got ys)
+          one_part c routines f r there w n wide most a (tested_read ty a s) (read_where (looks ty) a (read a s) (live_read a s)) (expr a nu.0 iz ca (λ z h. me z (inl h)) (first_fits (size a) (size_ty ty) top le)) (tested c ty (tested_read ty a s) d) (λ v j. w.test true ty v j >>= (λ t. Done (Truth t))) (size_ty ty) 3 (size a + size_ty ty + 1) (omega arith) (omega arith) (λ v j p. truth_gives ty v j) o k vs s d at store regs callers m
+          (λ v j p last pv got ys. tested_follows (tested_read ty a s) vs d p ty s store regs last callers j v o.types b.1 nu.1 (λ z h. me z (inr h)) (omega (arith, le, small)) known behind whole pv got ys)
           b.0 low known behind stands live proper whole few
       expr (IndexExpr i a e2) nu iz ca me le o k vs s d at store regs callers m b low known behind stands live proper whole few =
-          let ys : List Step = Does (instr.Get d d (suc d)) ∷ [] in
-          paid c routines f r there w n wide most (size a + size e2 + 0) 1 (size a + size e2 + 1) at regs callers m (λ j. eval w true a store j >>= (λ v t. eval w true e2 store t >>= item_of (w.place i) v)) (at + length (code c a (before e2 s) d ++ (code c e2 s (suc d) ++ ys))) (Gained vs n d s store regs) (omega arith) (omega arith)
-          (λ j e l. two_parts c routines f r there w n wide most a e2 (expr a nu.0 iz.0 ca.0 (λ z h. me z (inl h)) (first_fits (size a) (size e2) top le)) (expr e2 nu.1 iz.1 ca.1 (λ z h. me z (inr h)) (second_fits (size a) (size e2) top le)) ys (item_of (w.place i)) 0 1 (λ v u j p q. item_proper (w.place i) j v u p q) o k vs s s d at store regs callers j
-          (λ v u t p middle last le2 pv pu one two ys. item_follows mach f r there n wide vs s (is_below n vs s known) store d p behind regs middle last whole callers (w.place i) t v u one.value one.kept one.size two ys.0)
+          let ys : List Step = Does (instr.Get d (standing (read a s) d) (standing (variable_in e2) (suc d))) ∷ [] in
+          paid c routines f r there w n wide most (size a + size e2 + 0) 1 (size a + size e2 + 1) at regs callers m (λ j. eval w true a store j >>= (λ v t. eval w true e2 store t >>= item_of (w.place i) v)) (at + length (unless_read (read a s) (code c a (before e2 s) d) ++ (unless_read (variable_in e2) (code c e2 s (suc d)) ++ ys))) (Gained vs n d s store regs) (omega arith) (omega arith)
+          (λ j e l. two_parts c routines f r there w n wide most a e2 (read a s) (variable_in e2) (live_read a s) (variable_read e2) (expr a nu.0 iz.0 ca.0 (λ z h. me z (inl h)) (first_fits (size a) (size e2) top le)) (expr e2 nu.1 iz.1 ca.1 (λ z h. me z (inr h)) (second_fits (size a) (size e2) top le)) ys (item_of (w.place i)) 0 1 (λ v u j p q. item_proper (w.place i) j v u p q) o k vs s s d at store regs callers j (live_kept a s)
+          (λ v u t p last le2 pv pu both ys. item_follows mach f r there n wide vs s (is_below n vs s known) store d (standing (read a s) d) (standing (variable_in e2) (suc d)) p behind regs last whole callers (w.place i) t v u both ys.0)
           b.0 b.1 low known behind stands live proper whole (omega (arith, l, few)))
       expr (FieldExpr i a name) nu iz ca me le o k vs s d at store regs callers m b low known behind stands live proper whole few =
-          one_part c routines f r there w n wide most a (expr a nu.0 iz ca me (one_fits (size a) top le)) (Does (instr.Field d d (number_of name c.table.names)) ∷ []) (λ v. field_of (w.place i) v name) 0 1 (size a + 1) (omega arith) (omega arith) (λ v j p. field_proper (w.place i) j name v p) o k vs s d at store regs callers m
-          (λ v j p last pv got ys. field_follows mach f r there n wide vs s (is_below n vs s known) store d p behind regs last whole callers (w.place i) j v got (number_of name c.table.names) name nu.1 ys.0)
+          one_part c routines f r there w n wide most a (read a s) (live_read a s) (expr a nu.0 iz ca me (one_fits (size a) top le)) (Does (instr.Field d (standing (read a s) d) (number_of name c.table.names)) ∷ []) (λ v. field_of (w.place i) v name) 0 1 (size a + 1) (omega arith) (omega arith) (λ v j p. field_proper (w.place i) j name v p) o k vs s d at store regs callers m
+          (λ v j p last pv got ys. field_follows mach f r there n wide vs s (is_below n vs s known) store d p (read a s) behind regs last whole callers (w.place i) j v got (number_of name c.table.names) name nu.1 ys.0)
           b low known behind stands live proper whole few
       expr (ListExpr i items) nu iz ca me le o k vs s d at store regs callers m b low known behind stands live proper whole few =
           let xs = codes c items s d in
@@ -354,8 +383,8 @@ module _ (c : Context) (routines : List Routine) (f : ℕ) (r : Routine) (there 
       expr (RepeatExpr i a e2) nu iz ca me le o k vs s d at store regs callers m b low known behind stands live proper whole few =
           let ys : List Step = Does (instr.Fill d d (suc d)) ∷ [] in
           paid c routines f r there w n wide most (size a + size e2 + 0) 1 (size a + size e2 + 1) at regs callers m (λ j. eval w true a store j >>= (λ v t. eval w true e2 store t >>= repeated (w.place i) v)) (at + length (code c a (before e2 s) d ++ (code c e2 s (suc d) ++ ys))) (Gained vs n d s store regs) (omega arith) (omega arith)
-          (λ j e l. two_parts c routines f r there w n wide most a e2 (expr a nu.0 iz.0 ca.0 (λ z h. me z (inl h)) (first_fits (size a) (size e2) top le)) (expr e2 nu.1 iz.1 ca.1 (λ z h. me z (inr h)) (second_fits (size a) (size e2) top le)) ys (repeated (w.place i)) 0 1 (λ v u j p q. repeated_proper (w.place i) j v u p q) o k vs s s d at store regs callers j
-          (λ v u t p middle last le2 pv pu one two ys. repeated_follows mach f r there n wide vs s (is_below n vs s known) store d p behind regs middle last whole callers (w.place i) t v u one.value one.kept one.size two ys.0)
+          (λ j e l. two_parts c routines f r there w n wide most a e2 None None tt tt (expr a nu.0 iz.0 ca.0 (λ z h. me z (inl h)) (first_fits (size a) (size e2) top le)) (expr e2 nu.1 iz.1 ca.1 (λ z h. me z (inr h)) (second_fits (size a) (size e2) top le)) ys (repeated (w.place i)) 0 1 (λ v u j p q. repeated_proper (w.place i) j v u p q) o k vs s s d at store regs callers j tt
+          (λ v u t p last le2 pv pu both ys. repeated_follows mach f r there n wide vs s (is_below n vs s known) store d p behind regs last whole callers (w.place i) t v u both ys.0)
           b.0 b.1 low known behind stands live proper whole (omega (arith, l, few)))
       expr (RecordExpr i fs) nu iz ca me le o k vs s d at store regs callers m b low known behind stands live proper whole few =
           let xs = field_codes c fs s d in
@@ -379,18 +408,18 @@ module _ (c : Context) (routines : List Routine) (f : ℕ) (r : Routine) (there 
           let ys = quantify q x d (code c body T (suc (suc d))) (released T s) in
           let F = λ (z : ℤ). turn w.limit true (eval w true body (put store x (Some (Whole z)))) in
           paid c routines f r there w n wide most (size a + size e2 + 0) 5 (size a + size e2 + size body + 1) at regs callers m (λ j. eval w true a store j >>= (λ v t. eval w true e2 store t >>= quantified q (w.place i) F v)) (at + length (code c a (before e2 T) d ++ (code c e2 T (suc d) ++ ys))) (Gained vs n d s store regs) (omega arith) (omega arith)
-          (λ j e l. two_parts c routines f r there w n wide most a e2 one two ys (λ v u. quantified q (w.place i) F v u) 0 5 (λ v u t p g. quantified_gives q (w.place i) F v u t) o k vs T s d at store regs callers j
-          (λ v u t p middle last le2 pv pu got_a got_b stood.
+          (λ j e l. two_parts c routines f r there w n wide most a e2 None None tt tt one two ys (λ v u. quantified q (w.place i) F v u) 0 5 (λ v u t p g. quantified_gives q (w.place i) F v u t) o k vs T s d at store regs callers j tt
+          (λ v u t p last le2 pv pu both stood.
           let Q = Comes f (p + length ys) callers (Got vs n d s store regs) in
           let st = at_place f p last callers t.output in
           follows_number mach wide 0 5 t st (w.place i) v (λ from. as_number (w.place i) u (λ to. each q (w.place i) F from (span from to))) Q
           (λ from is_from. follows_number mach wide 0 5 t st (w.place i) u (λ to. each q (w.place i) F from (span from to)) Q
           (λ to is_to. turns_follow c routines f r there w n wide most q x body three (omega (arith, le, small)) o k low vs b.0 b.3 s known d behind store regs proper whole callers (w.place i) p to (number_int u to is_to pu) stood (span from to) from refl (number_int v from is_from pv) last t (omega (arith, le2, l, few)) (record {
-            count = got_b.kept d behind (omega arith) ∙ got_a.value ∙ ap (λ (z : Datum). Some z) is_from;
-            last = got_b.value ∙ ap (λ (z : Datum). Some z) is_to;
-            live = got_b.live;
-            kept = λ z x1 y1. got_b.kept z x1 (omega (arith, y1)) ∙ got_a.kept z x1 y1;
-            size = got_b.size ∙ got_a.size;
+            count = both.left ∙ ap (λ (z : Datum). Some z) is_from;
+            last = both.right ∙ ap (λ (z : Datum). Some z) is_to;
+            live = both.live;
+            kept = both.kept;
+            size = both.size;
           }))))
           b.1 b.2 low known_T behind stands live proper whole (omega (arith, l, few)))
 

@@ -21,7 +21,7 @@ with_has [] (suc x) = with_has [] x
 with_has (c ∷ cs) zero = refl
 with_has (c ∷ cs) (suc x) = with_has cs x
 
-with_keeps : (s : Variables) (x y : ℕ) → has s y ≡ true → has (with s x) y ≡ true
+pub with_keeps : (s : Variables) (x y : ℕ) → has s y ≡ true → has (with s x) y ≡ true
 with_keeps [] x y h = absurd (let e : false ≡ true = h in cc)
 with_keeps (c ∷ cs) zero zero h = refl
 with_keeps (c ∷ cs) zero (suc y) h = h
@@ -32,7 +32,7 @@ one_up : {x y : ℕ} {A : Type 0} → (y ≡ x) ⊎ A → (suc y ≡ suc x) ⊎ 
 one_up (inl e) = inl (ap suc e)
 one_up (inr h) = inr h
 
-with_cases : (s : Variables) (x y : ℕ) → has (with s x) y ≡ true → (y ≡ x) ⊎ (has s y ≡ true)
+pub with_cases : (s : Variables) (x y : ℕ) → has (with s x) y ≡ true → (y ≡ x) ⊎ (has s y ≡ true)
 with_cases [] zero zero h = inl refl
 with_cases [] zero (suc y) h = absurd (let e : false ≡ true = h in cc)
 with_cases [] (suc x) zero h = absurd (let e : false ≡ true = h in cc)

@@ -1,14 +1,14 @@
--- Operands: what stands in front of the instructions of an operator, and what `&&` and `||` leave out.
-use Rattle.std.proofs.Common.{◌≡◌, ◌<◌, ◌≤◌, ℕ, zero, suc, ◌+◌, List, [], ◌∷◌, ◌++◌, length, Bool, true, false, cond, Some, None, refl, ◌∙◌, ap, subst, arith, length-append}
+-- Operands: what stands in front of the instructions of an operator, where each operand is read, and what `&&` and `||` leave out.
+use Rattle.std.proofs.Common.{◌≡◌, ◌<◌, ◌≤◌, ℕ, zero, suc, ◌+◌, List, [], ◌∷◌, ◌++◌, length, Bool, true, false, cond, Option, Some, None, refl, ◌∙◌, ap, subst, arith, length-append}
 use Rattle.std.specs.Prelude.{◌&&◌, not}
 use Rattle.wy_value.specs.Datum.{Datum, Truth}
-use Rattle.wy_core.specs.CoreTree.{Expr}
+use Rattle.wy_core.specs.CoreTree.{Expr, VarExpr}
 use Rattle.wy_core.specs.declared.expressions.Op.{Op}
 use Rattle.wy_core.specs.declared.expressions.Op.TheVariants as op
 use Rattle.wy_formed.specs.Offers.{Offers}
-use Rattle.wy_formed.specs.Bound.{Scope, BoundExpr}
+use Rattle.wy_formed.specs.Bound.{Scope, Has, BoundExpr}
 use Rattle.wy_formed.specs.Sizes.{size}
-use Rattle.wy_live.specs.Sets.{Variables, has}
+use Rattle.wy_live.specs.Sets.{Variables, has, with}
 use Rattle.wy_live.specs.Walks.{before}
 use Rattle.wy_code.specs.declared.instructions.Instr.TheVariants as instr
 use Rattle.wy_code.specs.declared.routines.Routine.{Routine}
@@ -17,25 +17,27 @@ use Rattle.wy_tables.specs.declared.context.Context.{Context}
 use Rattle.wy_pieces.specs.declared.steps.Step.{Step}
 use Rattle.wy_pieces.specs.declared.steps.Step.TheVariants.{Does}
 use Rattle.wy_pieces.specs.Steps.{fork}
+use Rattle.wy_compiled.specs.Operands.{variable_in, is_still, read, read_first, standing, unless_read, plain_or_read}
 use Rattle.wy_compiled.specs.Expressions.{code, lost, lost_below, released, is_plain, operator, operate, right_register}
 use Rattle.wy_sem.specs.Meter.{Meter, Outcome, Done, Fault, More, Spent, Run, ◌>>=◌, spend}
-use Rattle.wy_sem.specs.Operations.{applied, second, operated}
+use Rattle.wy_sem.specs.Operations.{needed, applied, second, operated}
 use Rattle.wy_sem.specs.Expressions.{Store, slot, put, Setting, eval}
 use Rattle.wy_step.specs.Step.{Caller, cleared}
 use Rattle.wy_simulation.specs.Places.{StandAt, IsRoutine}
 use Rattle.wy_simulation.specs.Follows.{Follows, at_place, Comes}
 use Rattle.wy_simulation.specs.Registers.{Live, Got}
 use Rattle.wy_simulation.proofs.PlaceLemmas.{stand_front, stand_back}
-use Rattle.wy_simulation.proofs.StoreLemmas.{put_other, put_size, live_put}
-use Rattle.wy_simulation.proofs.FollowLemmas.{follows_then, follows_more, follows_at, follows_truth, follows_choose}
+use Rattle.wy_simulation.proofs.StoreLemmas.{put_other, put_size, live_put, live_fewer}
+use Rattle.wy_simulation.proofs.FollowLemmas.{follows_then, follows_more, follows_at, follows_truth, follows_needed, follows_choose}
 use Rattle.wy_simulation.proofs.SpareLemmas.{Leaves, leaves_spend, leaves_follows}
 use Rattle.wy_simulation.proofs.InstructionLemmas.{share_does, move_does, IsNone, cleared_other, cleared_size}
 use Rattle.wy_simulation.proofs.PieceLemmas.{stays_last, fork_on, fork_off, clear_runs}
 use Rattle.wy_kept_values.specs.Kept.{IsProper, StoreProper, Gives}
 use Rattle.wy_simulated_expressions.specs.Standing.{with_table, AreKnown}
 use Rattle.wy_simulated_expressions.specs.Evaluated.{Gained}
-use Rattle.wy_simulated_expressions.proofs.KnownLemmas.{known_before, is_below, still_live}
-use Rattle.wy_simulated_expressions.proofs.KnowingLemmas.{follows_knowing, applied_proper}
+use Rattle.wy_simulated_expressions.proofs.KnownLemmas.{with_has, known_before, is_below, still_live}
+use Rattle.wy_simulated_expressions.proofs.KnowingLemmas.{slot_proper, follows_knowing, applied_proper}
+use Rattle.wy_simulated_expressions.proofs.ReadLemmas.{IsRead, IsKept, as_variable, variable_read, live_read, live_kept, releases_behind, Stands, Both, got_stands, both_stand, both_fewer, read_bound, known_with, same_code, still_before}
 use Rattle.wy_simulated_expressions.proofs.PartLemmas.{IsStrict, fills, applied_follows}
 
 -- ---- what is released
@@ -150,56 +152,149 @@ module _ (c : Context) (routines : List Routine) (f : ℕ) (r : Routine) (there 
       (leaves_follows mach wide (size a) 2 m (at_place f at regs callers m.output) (eval w true a store m) (Comes f (at + length (code c a s d)) callers (Gained vs n d s store regs)) (sa o k vs s d at store regs callers m b low known behind stands live proper whole few))
       (λ v j last le g. h v j last le g.0 g.1)
 
+  -- ---- one operand, where it is read
+
+  -- a variable is read where it stands: a tick, and no step
+  pub in_place : (i x : ℕ) (vs : Scope) (s : Variables) (d at : ℕ) (store regs : Store) (callers : List Caller) (m : Meter) → Has vs x → Live vs (with s x) store regs → StoreProper store
+      → Follows mach wide 1 0 m (at_place f at regs callers m.output) (eval w true (VarExpr i x) store m) (Comes f (at + 0) callers (λ v last. IsProper v × Stands vs n d (Some x) s store regs v last))
+  in_place i x vs s d at store regs callers m b live proper =
+      let R = λ (v : Datum) (last : Store). IsProper v × Stands vs n d (Some x) s store regs v last in
+      let o = needed (w.place i) (slot store x) Done in
+      follows_at mach wide 1 0 m (at_place f at regs callers m.output) (eval w true (VarExpr i x) store m) f at (at + 0) callers R (omega arith)
+      (leaves_follows mach wide 1 2 m (at_place f at regs callers m.output) (eval w true (VarExpr i x) store m) (Comes f at callers R)
+      (paid 0 0 1 at regs callers m o at R (omega arith) (omega arith)
+      (λ j e l. follows_needed mach wide 0 0 j (at_place f at regs callers j.output) (w.place i) (slot store x) Done (Comes f at callers R)
+      (λ v held. stays_last mach f r there wide at regs callers j v R (
+        slot_proper store x v proper held,
+        record {
+          value = live.holds x v b (with_has s x) held;
+          whose = (b, held);
+          live = live_fewer vs (with s x) s store regs (λ y h. still_live y (VarExpr i x) s h) live;
+          kept = λ t y z. refl;
+          size = refl;
+        },
+      )))))
+
+  -- what goes on from the value of an expression that is read in the register of its variable
+  abbrev OperandGoes : {Y : Type 0} → (q : Option ℕ) (lo2 hi lo : ℕ) (vs : Scope) (s : Variables) (d at : ℕ) (store regs : Store) (callers : List Caller) (m : Meter) (tail : Datum → Run Y) (to : ℕ) (R : Y → Store → Type 0) → Expr ℕ → Type 0
+  OperandGoes q lo2 hi lo vs s d at store regs callers m tail to R a =
+      size a + lo2 ≤ lo → (o : Offers) (k : ℕ) → BoundExpr o k vs a → Live vs (before a s) store regs
+      → ((v : Datum) (j : Meter) (last : Store) → j.ticks ≤ m.ticks → IsProper v → Stands vs n d q s store regs v last → Follows mach wide lo2 hi j (at_place f (at + length (unless_read q (code c a s d))) last callers j.output) (tail v j) (Comes f to callers R))
+      → Follows mach wide lo hi m (at_place f at regs callers m.output) (eval w true a store m >>= tail) (Comes f to callers R)
+
+  -- what goes on from the value of an operand
+  pub operand : {Y : Type 0} (a : Expr ℕ) (q : Option ℕ) → IsRead a q → IsBrief a → (lo2 hi lo : ℕ) → size a + lo2 ≤ lo → (o : Offers) (k : ℕ) (vs : Scope) (s : Variables) (d at : ℕ) (store regs : Store) (callers : List Caller) (m : Meter)
+      → BoundExpr o k vs a → k ≤ n → AreKnown n vs s → n ≤ d → StandAt r.body at (unless_read q (code c a s d)) → Live vs (before a s) store regs → StoreProper store → length regs ≡ r.registers → m.ticks ≤ most
+      → (tail : Datum → Run Y) (to : ℕ) (R : Y → Store → Type 0)
+      → ((v : Datum) (j : Meter) (last : Store) → j.ticks ≤ m.ticks → IsProper v → Stands vs n d q s store regs v last → Follows mach wide lo2 hi j (at_place f (at + length (unless_read q (code c a s d))) last callers j.output) (tail v j) (Comes f to callers R))
+      → Follows mach wide lo hi m (at_place f at regs callers m.output) (eval w true a store m >>= tail) (Comes f to callers R)
+  operand a None is sa lo2 hi lo enough o k vs s d at store regs callers m b low known behind stands live proper whole few tail to R h =
+      first_part a sa lo2 hi lo enough o k vs s d at store regs callers m b low known behind stands live proper whole few tail to R
+      (λ v j last le p got. h v j last le p (got_stands vs n d s store regs last v got))
+  operand a (Some x) is sa lo2 hi lo enough o k vs s d at store regs callers m b low known behind stands live proper whole few tail to R h =
+      as_variable (OperandGoes (Some x) lo2 hi lo vs s d at store regs callers m tail to R) a x is
+      (λ i enough2 o2 k2 b2 live2 h2. follows_then mach wide 1 0 lo2 hi lo hi m (at_place f at regs callers m.output) (eval w true (VarExpr i x) store m) tail f (at + 0) callers (λ v last. IsProper v × Stands vs n d (Some x) s store regs v last) (Comes f to callers R) enough2 (omega arith)
+      (in_place i x vs s d at store regs callers m b2 live2 proper)
+      (λ v j last le g. h2 v j last le g.0 g.1))
+      enough o k b live h
+
   -- ---- one operand
 
-  pub one_part : (a : Expr ℕ) → IsBrief a → (ys : List Step) (tail : Datum → Run Datum) (lo hi total : ℕ) → suc (size a + lo) ≤ total → hi ≤ 14 → ((v : Datum) (j : Meter) → IsProper v → Gives IsProper (tail v j))
+  pub one_part : (a : Expr ℕ) (q : Option ℕ) → IsRead a q → IsBrief a → (ys : List Step) (tail : Datum → Run Datum) (lo hi total : ℕ) → suc (size a + lo) ≤ total → hi ≤ 14 → ((v : Datum) (j : Meter) → IsProper v → Gives IsProper (tail v j))
       → (o : Offers) (k : ℕ) (vs : Scope) (s : Variables) (d at : ℕ) (store regs : Store) (callers : List Caller) (m : Meter)
-      → ((v : Datum) (j : Meter) (p : ℕ) (last : Store) → IsProper v → Got vs n d s store regs v last → StandAt r.body p ys → Follows (with_table c routines) wide lo hi j (at_place f p last callers j.output) (tail v j) (Comes f (p + length ys) callers (Got vs n d s store regs)))
-      → BoundExpr o k vs a → k ≤ n → AreKnown n vs s → n ≤ d → StandAt r.body at (code c a s d ++ ys) → Live vs (before a s) store regs → StoreProper store → length regs ≡ r.registers → m.ticks ≤ most
-      → Leaves (with_table c routines) wide total 2 m (at_place f at regs callers m.output) (spend true (λ j. eval w true a store j >>= tail) m) (Comes f (at + length (code c a s d ++ ys)) callers (Gained vs n d s store regs))
-  one_part a sa ys tail lo hi total enough much gives o k vs s d at store regs callers m finish b low known behind stands live proper whole few =
-      let xs = code c a s d in
+      → ((v : Datum) (j : Meter) (p : ℕ) (last : Store) → IsProper v → Stands vs n d q s store regs v last → StandAt r.body p ys → Follows (with_table c routines) wide lo hi j (at_place f p last callers j.output) (tail v j) (Comes f (p + length ys) callers (Got vs n d s store regs)))
+      → BoundExpr o k vs a → k ≤ n → AreKnown n vs s → n ≤ d → StandAt r.body at (unless_read q (code c a s d) ++ ys) → Live vs (before a s) store regs → StoreProper store → length regs ≡ r.registers → m.ticks ≤ most
+      → Leaves (with_table c routines) wide total 2 m (at_place f at regs callers m.output) (spend true (λ j. eval w true a store j >>= tail) m) (Comes f (at + length (unless_read q (code c a s d) ++ ys)) callers (Gained vs n d s store regs))
+  one_part a q is sa ys tail lo hi total enough much gives o k vs s d at store regs callers m finish b low known behind stands live proper whole few =
+      let xs = unless_read q (code c a s d) in
       let l1 : length (xs ++ ys) ≡ length xs + length ys = length-append xs ys in
       let R = Gained vs n d s store regs in
       paid (size a + lo) hi total at regs callers m (λ j. eval w true a store j >>= tail) (at + length (xs ++ ys)) R enough much
       (λ j e l. follows_at mach wide (size a + lo) hi j (at_place f at regs callers j.output) (eval w true a store j >>= tail) f (at + length xs + length ys) (at + length (xs ++ ys)) callers R (omega (arith, l1))
-      (first_part a sa lo hi (size a + lo) (omega arith) o k vs s d at store regs callers j b low known behind (stand_front r.body at xs ys stands) live proper whole (omega (arith, l, few)) tail (at + length xs + length ys) R
-      (λ v i last le p got. follows_knowing mach wide lo hi i (at_place f (at + length xs) last callers i.output) (tail v i) IsProper f (at + length xs + length ys) callers (Got vs n d s store regs) (gives v i p)
-      (finish v i (at + length xs) last p got (stand_back r.body at xs ys stands)))))
+      (operand a q is sa lo hi (size a + lo) (omega arith) o k vs s d at store regs callers j b low known behind (stand_front r.body at xs ys stands) live proper whole (omega (arith, l, few)) tail (at + length xs + length ys) R
+      (λ v i last le p one. follows_knowing mach wide lo hi i (at_place f (at + length xs) last callers i.output) (tail v i) IsProper f (at + length xs + length ys) callers (Got vs n d s store regs) (gives v i p)
+      (finish v i (at + length xs) last p one (stand_back r.body at xs ys stands)))))
 
   -- ---- two operands
 
-  -- what follows two expressions whose values come into d and the register behind it
-  pub two_parts : (a b : Expr ℕ) → IsBrief a → IsBrief b → (ys : List Step) (tail : Datum → Datum → Run Datum) (lo hi : ℕ) → ((v u : Datum) (j : Meter) → IsProper v → IsProper u → Gives IsProper (tail v u j))
-      → (o : Offers) (k : ℕ) (vs : Scope) (t s : Variables) (d at : ℕ) (store regs : Store) (callers : List Caller) (m : Meter)
-      → ((v u : Datum) (j : Meter) (p : ℕ) (middle last : Store) → j.ticks ≤ m.ticks → IsProper v → IsProper u → Got vs n d (before b t) store regs v middle → Got vs n (suc d) t store middle u last → StandAt r.body p ys
+  -- what follows two expressions whose values stand where they are read, or come into d and the register behind it
+  pub two_parts : (a b : Expr ℕ) (q e : Option ℕ) → IsRead a q → IsRead b e → IsBrief a → IsBrief b → (ys : List Step) (tail : Datum → Datum → Run Datum) (lo hi : ℕ) → ((v u : Datum) (j : Meter) → IsProper v → IsProper u → Gives IsProper (tail v u j))
+      → (o : Offers) (k : ℕ) (vs : Scope) (t s : Variables) (d at : ℕ) (store regs : Store) (callers : List Caller) (m : Meter) → IsKept q t
+      → ((v u : Datum) (j : Meter) (p : ℕ) (last : Store) → j.ticks ≤ m.ticks → IsProper v → IsProper u → Both vs n d (standing q d) (standing e (suc d)) t store regs v u last → StandAt r.body p ys
       → Follows (with_table c routines) wide lo hi j (at_place f p last callers j.output) (tail v u j) (Comes f (p + length ys) callers (Got vs n d s store regs)))
-      → BoundExpr o k vs a → BoundExpr o k vs b → k ≤ n → AreKnown n vs t → n ≤ d → StandAt r.body at (code c a (before b t) d ++ (code c b t (suc d) ++ ys)) → Live vs (before a (before b t)) store regs → StoreProper store → length regs ≡ r.registers → m.ticks ≤ most
-      → Follows (with_table c routines) wide (size a + size b + lo) hi m (at_place f at regs callers m.output) (eval w true a store m >>= (λ v j. eval w true b store j >>= tail v)) (Comes f (at + length (code c a (before b t) d ++ (code c b t (suc d) ++ ys))) callers (Gained vs n d s store regs))
-  two_parts a b sa sb ys tail lo hi gives o k vs t s d at store regs callers m finish ba bb low known behind stands live proper whole few =
-      let xs = code c a (before b t) d in
-      let zs = code c b t (suc d) in
+      → BoundExpr o k vs a → BoundExpr o k vs b → k ≤ n → AreKnown n vs t → n ≤ d → StandAt r.body at (unless_read q (code c a (before b t) d) ++ (unless_read e (code c b t (suc d)) ++ ys)) → Live vs (before a (before b t)) store regs → StoreProper store → length regs ≡ r.registers → m.ticks ≤ most
+      → Follows (with_table c routines) wide (size a + size b + lo) hi m (at_place f at regs callers m.output) (eval w true a store m >>= (λ v j. eval w true b store j >>= tail v)) (Comes f (at + length (unless_read q (code c a (before b t) d) ++ (unless_read e (code c b t (suc d)) ++ ys))) callers (Gained vs n d s store regs))
+  two_parts a b q e is_a is_b sa sb ys tail lo hi gives o k vs t s d at store regs callers m kept finish ba bb low known behind stands live proper whole few =
+      let xs = unless_read q (code c a (before b t) d) in
+      let zs = unless_read e (code c b t (suc d)) in
       let l1 : length (xs ++ (zs ++ ys)) ≡ length xs + length (zs ++ ys) = length-append xs (zs ++ ys) in
       let l2 : length (zs ++ ys) ≡ length zs + length ys = length-append zs ys in
       let behind_a : StandAt r.body (at + length xs) (zs ++ ys) = stand_back r.body at xs (zs ++ ys) stands in
       let to = at + length xs + length zs + length ys in
       let R = Gained vs n d s store regs in
       follows_at mach wide (size a + size b + lo) hi m (at_place f at regs callers m.output) (eval w true a store m >>= (λ v j. eval w true b store j >>= tail v)) f to (at + length (xs ++ (zs ++ ys))) callers R (omega (arith, l1, l2))
-      (first_part a sa (size b + lo) hi (size a + size b + lo) (omega arith) o k vs (before b t) d at store regs callers m ba low (known_before o k n low vs b t bb known) behind (stand_front r.body at xs (zs ++ ys) stands) live proper whole few (λ v j. eval w true b store j >>= tail v) to R
-      (λ v j middle le p one. first_part b sb lo hi (size b + lo) (omega arith) o k vs t (suc d) (at + length xs) store middle callers j bb low known (omega (arith, behind)) (stand_front r.body (at + length xs) zs ys behind_a) one.live proper (one.size ∙ whole) (omega (arith, le, few)) (tail v) to R
-      (λ u i last le2 q two. follows_knowing mach wide lo hi i (at_place f (at + length xs + length zs) last callers i.output) (tail v u i) IsProper f to callers (Got vs n d s store regs) (gives v u i p q)
-      (finish v u i (at + length xs + length zs) middle last (omega (arith, le, le2)) p q one two (stand_back r.body (at + length xs) zs ys behind_a)))))
+      (operand a q is_a sa (size b + lo) hi (size a + size b + lo) (omega arith) o k vs (before b t) d at store regs callers m ba low (known_before o k n low vs b t bb known) behind (stand_front r.body at xs (zs ++ ys) stands) live proper whole few (λ v j. eval w true b store j >>= tail v) to R
+      (λ v j middle le p one. operand b e is_b sb lo hi (size b + lo) (omega arith) o k vs t (suc d) (at + length xs) store middle callers j bb low known (omega (arith, behind)) (stand_front r.body (at + length xs) zs ys behind_a) one.live proper (one.size ∙ whole) (omega (arith, le, few)) (tail v) to R
+      (λ u i last le2 g two. follows_knowing mach wide lo hi i (at_place f (at + length xs + length zs) last callers i.output) (tail v u i) IsProper f to callers (Got vs n d s store regs) (gives v u i p g)
+      (finish v u i (at + length xs + length zs) last (omega (arith, le, le2)) p g (both_stand vs n d q e (before b t) t store regs middle last v u behind kept one two) (stand_back r.body (at + length xs) zs ys behind_a)))))
 
-  -- an operator that evaluates both
-  pub strict : (q : Op) → IsStrict q → (place : ℕ) (a b : Expr ℕ) → IsBrief a → IsBrief b → (o : Offers) (k : ℕ) (vs : Scope) (s : Variables) (d at : ℕ) (store regs : Store) (callers : List Caller) (m : Meter)
-      → BoundExpr o k vs a × BoundExpr o k vs b → k ≤ n → AreKnown n vs s → n ≤ d → StandAt r.body at (code c a (before b s) d ++ (code c b s (suc d) ++ operator q d (is_plain b))) → Live vs (before a (before b s)) store regs → StoreProper store → length regs ≡ r.registers → m.ticks ≤ most
-      → Leaves (with_table c routines) wide (size a + size b + 1) 2 m (at_place f at regs callers m.output) (spend true (λ j. eval w true a store j >>= (λ v i. second q place (eval w true b store) v i)) m)
-      (Comes f (at + length (code c a (before b s) d ++ (code c b s (suc d) ++ operator q d (is_plain b)))) callers (Gained vs n d s store regs))
-  strict q is place a b sa sb o k vs s d at store regs callers m bs low known behind stands live proper whole few =
-      paid (size a + size b + 0) 2 (size a + size b + 1) at regs callers m (λ j. eval w true a store j >>= (λ v i. second q place (eval w true b store) v i)) (at + length (code c a (before b s) d ++ (code c b s (suc d) ++ operator q d (is_plain b)))) (Gained vs n d s store regs) (omega arith) (omega arith)
-      (λ j e l. two_parts a b sa sb (operator q d (is_plain b)) (λ v u i. applied q place v u i) 0 2 (λ v u i p g. applied_proper place i q v u p g) o k vs s s d at store regs callers j
-      (λ v u i p middle last le pv pu one two ys. applied_follows mach f r there n wide vs s (is_below n vs s known) store d p behind regs middle last whole callers place i v u one.value one.kept one.size two q (is_plain b) is pv pu ys)
+  -- ---- an operator that evaluates both
+
+  -- the code of both operands, read so, and of the operator behind them
+  abbrev pub strict_code : Op → (a b : Expr ℕ) (q e : Option ℕ) → Variables → ℕ → List Step
+  strict_code op a b q e s d = unless_read q (code c a (before b s) d) ++ (unless_read e (code c b s (suc d)) ++ operator op d (standing q d) (standing e (suc d)) (plain_or_read e (is_plain b)))
+
+  -- these steps do what the operator does
+  abbrev IsStrictly : (place : ℕ) (op : Op) (a b : Expr ℕ) (vs : Scope) (s : Variables) (d at : ℕ) (store regs : Store) (callers : List Caller) (m : Meter) → List Step → Type 0
+  IsStrictly place op a b vs s d at store regs callers m steps =
+      StandAt r.body at steps → Leaves (with_table c routines) wide (size a + size b + 1) 2 m (at_place f at regs callers m.output) (spend true (λ j. eval w true a store j >>= (λ v i. second op place (eval w true b store) v i)) m) (Comes f (at + length steps) callers (Gained vs n d s store regs))
+
+  -- where t is live behind the operands, of which s is all that is asked for behind the operator
+  strict : (op : Op) → IsStrict op → (place : ℕ) (a b : Expr ℕ) (q e : Option ℕ) → IsRead a q → IsRead b e → IsBrief a → IsBrief b → (o : Offers) (k : ℕ) (vs : Scope) (t s : Variables) (d at : ℕ) (store regs : Store) (callers : List Caller) (m : Meter)
+      → IsKept q t → ((x : ℕ) → has s x ≡ true → has t x ≡ true) → BoundExpr o k vs a × BoundExpr o k vs b → k ≤ n → AreKnown n vs t → n ≤ d → Live vs (before a (before b t)) store regs → StoreProper store → length regs ≡ r.registers → m.ticks ≤ most
+      → IsStrictly place op a b vs s d at store regs callers m (strict_code op a b q e t d)
+  strict op is place a b q e is_a is_b sa sb o k vs t s d at store regs callers m kept fewer bs low known behind live proper whole few stands =
+      let plain = plain_or_read e (is_plain b) in
+      let ys = operator op d (standing q d) (standing e (suc d)) plain in
+      paid (size a + size b + 0) 2 (size a + size b + 1) at regs callers m (λ j. eval w true a store j >>= (λ v i. second op place (eval w true b store) v i)) (at + length (strict_code op a b q e t d)) (Gained vs n d s store regs) (omega arith) (omega arith)
+      (λ j g l. two_parts a b q e is_a is_b sa sb ys (λ v u i. applied op place v u i) 0 2 (λ v u i p z. applied_proper place i op v u p z) o k vs t s d at store regs callers j kept
+      (λ v u i p last le pv pu both stood. applied_follows mach f r there n wide vs s (λ x h. known.within x (fewer x h)) store d (standing q d) (standing e (suc d)) p behind regs last whole callers place i v u (both_fewer vs n d (standing q d) (standing e (suc d)) s t store regs last v u fewer both) op plain (releases_behind e (is_plain b) d) is pv pu stood)
       bs.0 bs.1 low known behind stands live proper whole (omega (arith, l, few)))
+
+  -- its code does what it does, with its operands read so
+  abbrev pub IsOperated : Op → (place : ℕ) (a b : Expr ℕ) (q e : Option ℕ) → Variables → Type 0
+  IsOperated op place a b q e s = (o : Offers) (k : ℕ) (vs : Scope) (d at : ℕ) (store regs : Store) (callers : List Caller) (m : Meter)
+      → BoundExpr o k vs a × BoundExpr o k vs b → k ≤ n → AreKnown n vs s → n ≤ d → StandAt r.body at (strict_code op a b q e s d) → Live vs (before a (before b s)) store regs → StoreProper store → length regs ≡ r.registers → m.ticks ≤ most
+      → Leaves (with_table c routines) wide (size a + size b + 1) 2 m (at_place f at regs callers m.output) (spend true (λ j. eval w true a store j >>= (λ v i. second op place (eval w true b store) v i)) m) (Comes f (at + length (strict_code op a b q e s d)) callers (Gained vs n d s store regs))
+
+  -- a first operand that is live behind the operation, or has a register of its own
+  steady : (op : Op) → IsStrict op → (place : ℕ) (a b : Expr ℕ) (q e : Option ℕ) → IsRead a q → IsRead b e → IsBrief a → IsBrief b → (s : Variables) → IsKept q s → IsOperated op place a b q e s
+  steady op is place a b q e is_a is_b sa sb s kept o k vs d at store regs callers m bs low known behind stands live proper whole few =
+      strict op is place a b q e is_a is_b sa sb o k vs s s d at store regs callers m kept (λ x h. h) bs low known behind live proper whole few stands
+
+  -- or a variable in front of an operand that is still, which may as well be live behind it
+  quiet : (op : Op) → IsStrict op → (place : ℕ) (a b : Expr ℕ) (q : Option ℕ) → variable_in a ≡ q → is_still b ≡ true → IsBrief a → IsBrief b → (s : Variables) → IsOperated op place a b q (variable_in b) s
+  quiet op is place a b None named still sa sb s o k vs d at store regs callers m bs low known behind stands live proper whole few =
+      steady op is place a b None (variable_in b) tt (variable_read b) sa sb s tt o k vs d at store regs callers m bs low known behind stands live proper whole few
+  quiet op is place a b (Some x) named still sa sb s o k vs d at store regs callers m bs low known behind stands live proper whole few =
+      let e = variable_in b in
+      let ys = operator op d x (standing e (suc d)) (plain_or_read e (is_plain b)) in
+      subst (λ (zs : List Step). IsStrictly place op a b vs s d at store regs callers m (zs ++ ys)) (same_code c b (with s x) s (suc d) still)
+      (strict op is place a b (Some x) e named (variable_read b) sa sb o k vs (with s x) s d at store regs callers m (with_has s x) (λ y h. still_live y (VarExpr 0 x) s h) bs low (known_with n vs s x (read_bound o k vs a x named bs.0) known) behind
+      (live_fewer vs (before a (before b s)) (before a (before b (with s x))) store regs (λ y h. still_before a b s x y named still h) live) proper whole few)
+      stands
+
+  -- an operator of numbers
+  pub numbers : (op : Op) → IsStrict op → (place : ℕ) (a b : Expr ℕ) → IsBrief a → IsBrief b → (s : Variables) → IsOperated op place a b (read_first a b s) (variable_in b) s
+  numbers op is place a b sa sb s = by (is_still b) refl
+    where
+      by : (y : Bool) → is_still b ≡ y → IsOperated op place a b (cond y (variable_in a) (read a s)) (variable_in b) s
+      by true e = quiet op is place a b (variable_in a) refl e sa sb s
+      by false e = steady op is place a b (read a s) (variable_in b) (live_read a s) (variable_read b) sa sb s (live_kept a s)
+
+  -- operands that may be of any type
+  pub alike : (place : ℕ) (a b : Expr ℕ) → IsBrief a → IsBrief b → (s : Variables) → IsOperated op.Equal place a b (read a s) (read b s) s
+  alike place a b sa sb s = steady op.Equal tt place a b (read a s) (read b s) (live_read a s) (live_read b s) sa sb s (live_kept a s)
 
   -- ---- `&&` and `||`
 
@@ -272,8 +367,8 @@ module _ (c : Context) (routines : List Routine) (f : ℕ) (r : Routine) (there 
         (λ g there_b. follows_at mach wide 0 0 i (at_place f g middle callers i.output) (Done (Truth false) i) f g (g + 0) callers (Gained vs n d s store regs) (omega arith)
         (stays_last mach f r there wide g middle callers i (Truth false) (Gained vs n d s store regs) (first_truth v t false middle e no one))))))
 
-    pub early_goes : (q : Op) → IsEarly q → (v : Datum) (i : Meter) (middle : Store) → i.ticks ≤ most → Got vs n d (before b s) store regs v middle → (p : ℕ) → StandAt r.body p (operate q d (code c b s (right_register q d)) (released (before b s) s) (is_plain b))
-        → Follows mach wide (size b) 3 i (at_place f p middle callers i.output) (operated q place (eval w true b store) v i) (Comes f (p + length (operate q d (code c b s (right_register q d)) (released (before b s) s) (is_plain b))) callers (Gained vs n d s store regs))
+    pub early_goes : (q : Op) → IsEarly q → (v : Datum) (i : Meter) (middle : Store) → i.ticks ≤ most → Got vs n d (before b s) store regs v middle → (p : ℕ) → StandAt r.body p (operate q d d (right_register q d) (code c b s (right_register q d)) (released (before b s) s) (is_plain b))
+        → Follows mach wide (size b) 3 i (at_place f p middle callers i.output) (operated q place (eval w true b store) v i) (Comes f (p + length (operate q d d (right_register q d) (code c b s (right_register q d)) (released (before b s) s) (is_plain b))) callers (Gained vs n d s store regs))
     early_goes op.And early v i middle few one p stood =
         let xs = fork d (code c b s d) [] in
         let ys = released (before b s) s in
@@ -308,12 +403,12 @@ module _ (c : Context) (routines : List Routine) (f : ℕ) (r : Routine) (there 
     early_goes op.GreaterEqual early v i middle few one p stood = absurd early
 
   pub early : (q : Op) → IsEarly q → (place : ℕ) (a b : Expr ℕ) → IsBrief a → IsBrief b → (o : Offers) (k : ℕ) (vs : Scope) (s : Variables) (d at : ℕ) (store regs : Store) (callers : List Caller) (m : Meter)
-      → BoundExpr o k vs a × BoundExpr o k vs b → k ≤ n → AreKnown n vs s → n ≤ d → StandAt r.body at (code c a (before b s) d ++ operate q d (code c b s (right_register q d)) (released (before b s) s) (is_plain b)) → Live vs (before a (before b s)) store regs → StoreProper store → length regs ≡ r.registers → m.ticks ≤ most
+      → BoundExpr o k vs a × BoundExpr o k vs b → k ≤ n → AreKnown n vs s → n ≤ d → StandAt r.body at (code c a (before b s) d ++ operate q d d (right_register q d) (code c b s (right_register q d)) (released (before b s) s) (is_plain b)) → Live vs (before a (before b s)) store regs → StoreProper store → length regs ≡ r.registers → m.ticks ≤ most
       → Leaves (with_table c routines) wide (size a + size b + 1) 2 m (at_place f at regs callers m.output) (spend true (λ j. eval w true a store j >>= operated q place (eval w true b store)) m)
-      (Comes f (at + length (code c a (before b s) d ++ operate q d (code c b s (right_register q d)) (released (before b s) s) (is_plain b))) callers (Gained vs n d s store regs))
+      (Comes f (at + length (code c a (before b s) d ++ operate q d d (right_register q d) (code c b s (right_register q d)) (released (before b s) s) (is_plain b))) callers (Gained vs n d s store regs))
   early q is place a b sa sb o k vs s d at store regs callers m bs low known behind stands live proper whole few =
       let xs = code c a (before b s) d in
-      let ys = operate q d (code c b s (right_register q d)) (released (before b s) s) (is_plain b) in
+      let ys = operate q d d (right_register q d) (code c b s (right_register q d)) (released (before b s) s) (is_plain b) in
       let l1 : length (xs ++ ys) ≡ length xs + length ys = length-append xs ys in
       let R = Gained vs n d s store regs in
       paid (size a + size b) 3 (size a + size b + 1) at regs callers m (λ j. eval w true a store j >>= operated q place (eval w true b store)) (at + length (xs ++ ys)) R (omega arith) (omega arith)

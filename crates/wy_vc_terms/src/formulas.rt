@@ -13,7 +13,8 @@ ghost use Rattle.wy_vc_terms.specs.Made.{IsMade};
 ghost use Rattle.wy_vc_terms.specs.Wholes.{type_word};
 
 use crate::maker::Maker;
-use crate::values::{defined_to, holds_to, value_to};
+use crate::types::{defined_to, holds_to};
+use crate::values::value_to;
 use crate::words::{word_of, x_word};
 use std::alloc::{AllocError, Global};
 use wy_core::{Core, Expr, Ty};

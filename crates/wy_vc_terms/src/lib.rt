@@ -1,13 +1,17 @@
 //! The terms that stand for what expressions evaluate to, and the formulas that say of a datum that it is in a type.
 //!
-//! `maker` makes terms and new names. `words` has the words of variables, `parts` the formulas of single types. `values` goes through an
-//! expression, and through a type with the term of a datum: a clause is written out by both. `formulas` has what other crates call.
+//! `maker` makes terms and new names. `words` has the words of variables, `parts` the formulas of single types. `types` goes through a type
+//! with the term of a datum, and `values` through an expression, whose items and fields are in `lists`: a clause is written out by all of
+//! them. `walked` has what such a walk gives. `formulas` has what other crates call.
 #![tactic(auto)]
 
 mod formulas;
+mod lists;
 mod maker;
 mod parts;
+mod types;
 mod values;
+mod walked;
 mod words;
 
 pub use formulas::{holds, type_formula, value_formula};

@@ -6,4 +6,4 @@ use Rattle.wy_term.specs.Nodes.{tree_at}
 pub returns-clause-value : goal.returns-clause-value
 returns-clause-value c =
     let at = tree_at c.args.terms.now in
-    decided (seen_branch at c.args.branch.now) (seen_branch at c.add_literal.new.branch) (at c.args.a) c.args.holds c.in_ok-answer.answer c.requires.undecided c.in_ok-add_literal.ensures.value c.in_ok-answer.ensures.value
+    decided at (seen_branch at c.args.branch.now) (seen_branch at c.add_literal.new.branch) (at c.args.a) c.args.holds c.in_ok-answer.answer c.args.left.now c.requires.undecided c.requires.left c.in_ok-add_literal.ensures.value c.in_ok-answer.ensures.value

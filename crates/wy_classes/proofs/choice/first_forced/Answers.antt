@@ -2,13 +2,16 @@ use Rattle.std.proofs.Common.{◌≡◌, ◌∙◌, false, true, length, rules, 
 use Rattle.wy_judge.specs.Node.{Node}
 use Rattle.wy_judging.specs.Seen.{seen_branch}
 use Rattle.wy_search.specs.Splitting.{is_forced}
-use Rattle.wy_classes.proofs.DecidingLemmas.{same_again, seen_same}
+use Rattle.wy_classes.proofs.DecidingLemmas.{same_again, seen_same, enough_again}
 use Rattle.wy_classes.proofs.FirstLemmas.{below_at, passes_here, passes_later}
 use Rattle.wy_classes.proofs.choice.first_forced.Goals as goal
 use Rattle.wy_term.specs.Nodes.{tree_at}
 
 pub is_forced-requires-clause-atom : goal.is_forced-requires-clause-atom
 is_forced-requires-clause-atom c = below_at (length c.args.terms.now) c.args.found.now.keys c.loop-i.i c.atom_at-a.result c.requires.found c.atom_at-a.ensures
+
+pub is_forced-requires-clause-left : goal.is_forced-requires-clause-left
+is_forced-requires-clause-left c = enough_again (tree_at c.args.terms.now) c.args.branch.now c.loop-i.branch c.args.left.now c.loop-i.invariant.same c.requires.left
 
 pub returns-then-branch-clause-value : goal.returns-then-branch-clause-value
 returns-then-branch-clause-value c =

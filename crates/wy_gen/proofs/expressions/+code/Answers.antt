@@ -1,4 +1,4 @@
-use Rattle.std.proofs.Common.{◌≡◌, ◌∙◌, List, [], ◌∷◌, ◌++◌, IfOk, ℕ, ap, subst, sym, length, append_assoc, Bool, arith}
+use Rattle.std.proofs.Common.{◌≡◌, ◌∙◌, List, [], ◌∷◌, ◌++◌, IfOk, ℕ, ap, subst, sym, length, append_assoc, arith}
 use Rattle.wy_core.specs.CoreSeen.{seen_expr}
 use Rattle.wy_core.specs.declared.expressions.Expr.{Expr}
 use Rattle.wy_core.specs.declared.expressions.ExprKind as kind
@@ -10,109 +10,88 @@ use Rattle.wy_pieces.specs.declared.steps.Step.TheVariants.{GoesBack}
 use Rattle.wy_pieces.specs.Steps.{fork}
 use Rattle.wy_tables.specs.Tables.{target}
 use Rattle.wy_compiled.specs.Expressions as spec
-use Rattle.wy_gen.proofs.ExpressionLemmas.{neg_same, neg_live, not_same, not_live, len_same, len_live, is_same, is_live, field_same, field_live, binary_same, binary_live, index_same, index_live, repeat_same, repeat_live, quant_same, quant_live, call_same, call_live, list_same, list_live, record_code_same, record_code_live}
+use Rattle.wy_compiled.specs.Operands as operands
+use Rattle.wy_gen.proofs.ExpressionLemmas.{neg_same, not_same, len_same, is_same, is_live, field_same, binary_same, index_same, repeat_same, repeat_live, quant_same, quant_live, call_same, call_live, list_same, list_live, record_code_same, record_code_live}
 use Rattle.wy_gen.proofs.LoopLemmas.{codes_turn, codes_turn_live, field_codes_turn, field_codes_turn_live, place_back}
 use Rattle.wy_gen.proofs.PieceLemmas.{quantify_same}
-use Rattle.wy_gen.proofs.OperatorLemmas.{both_sides}
+use Rattle.wy_gen.proofs.OperatorLemmas.{right_made}
 use Rattle.wy_gen.proofs.expressions.+code.Goals as goal
 
-pub code-returns-in_ok-behind-in-Neg : goal.code-returns-in_ok-behind-in-Neg
-code-returns-in_ok-behind-in-Neg t c = record {
-  value =
-      let a = c.get.result.now in
-      subst (λ (z : List Step). IfOk c.code.result (λ m. m.steps ≡ z))
-      (neg_same c.args.context.now c.args.expr.now a c.in_ok-behind-in-Neg.behind.live c.args.behind.live c.args.register c.args.behind.steps c.in_ok-behind-in-Neg.behind.steps c.in_ok-behind-in-Neg.ensures.live (c.in-Neg.is ∙ ap kind.Neg (sym c.get.ensures)) c.in_ok-behind-in-Neg.ensures.value)
-      c.code.ensures.value;
-  live =
-      let a = c.get.result.now in
-      subst (λ (z : Variables). IfOk c.code.result (λ m. m.live ≡ z))
-      (neg_live c.args.context.now c.args.expr.now a c.in_ok-behind-in-Neg.behind.live c.args.behind.live c.args.register c.args.behind.steps c.in_ok-behind-in-Neg.behind.steps c.in_ok-behind-in-Neg.ensures.live (c.in-Neg.is ∙ ap kind.Neg (sym c.get.ensures)))
-      c.code.ensures.live;
-}
+pub code-returns-in_ok-behind-in-Neg-clause-value : goal.code-returns-in_ok-behind-in-Neg-clause-value
+code-returns-in_ok-behind-in-Neg-clause-value t c =
+    let a = c.get-operand.result.now in
+    let b = c.in_ok-behind-in-Neg.behind in
+    subst (λ (z : List Step). IfOk c.operand_code.result (λ m. m.steps ≡ z))
+    (neg_same c.args.context.now c.args.expr.now a b.live c.args.behind.live c.args.register c.args.behind.steps b.steps c.in_ok-behind-in-Neg.ensures.live c.variable_in-place.result c.standing.result
+    (c.in-Neg.is ∙ ap kind.Neg (sym c.get-operand.ensures)) c.variable_in-place.ensures.value c.standing.ensures.value c.in_ok-behind-in-Neg.ensures.value)
+    c.operand_code.ensures.value
 
-pub code-returns-in_ok-behind-in-Not : goal.code-returns-in_ok-behind-in-Not
-code-returns-in_ok-behind-in-Not t c = record {
-  value =
-      let a = c.get-in-Not.result.now in
-      subst (λ (z : List Step). IfOk c.code-in-Not.result (λ m. m.steps ≡ z))
-      (not_same c.args.context.now c.args.expr.now a c.in_ok-behind-in-Not.behind.live c.args.behind.live c.args.register c.args.behind.steps c.in_ok-behind-in-Not.behind.steps c.in_ok-behind-in-Not.ensures.live (c.in-Not.is ∙ ap kind.Not (sym c.get-in-Not.ensures)) c.in_ok-behind-in-Not.ensures.value)
-      c.code-in-Not.ensures.value;
-  live =
-      let a = c.get-in-Not.result.now in
-      subst (λ (z : Variables). IfOk c.code-in-Not.result (λ m. m.live ≡ z))
-      (not_live c.args.context.now c.args.expr.now a c.in_ok-behind-in-Not.behind.live c.args.behind.live c.args.register c.args.behind.steps c.in_ok-behind-in-Not.behind.steps c.in_ok-behind-in-Not.ensures.live (c.in-Not.is ∙ ap kind.Not (sym c.get-in-Not.ensures)))
-      c.code-in-Not.ensures.live;
-}
+pub code-returns-in_ok-behind-in-Not-clause-value : goal.code-returns-in_ok-behind-in-Not-clause-value
+code-returns-in_ok-behind-in-Not-clause-value t c =
+    let a = c.get-operand-in-Not.result.now in
+    let b = c.in_ok-behind-in-Not.behind in
+    subst (λ (z : List Step). IfOk c.operand_code-in-Not.result (λ m. m.steps ≡ z))
+    (not_same c.args.context.now c.args.expr.now a b.live c.args.behind.live c.args.register c.args.behind.steps b.steps c.in_ok-behind-in-Not.ensures.live c.variable_in-place-in-Not.result c.standing-in-Not.result
+    (c.in-Not.is ∙ ap kind.Not (sym c.get-operand-in-Not.ensures)) c.variable_in-place-in-Not.ensures.value c.standing-in-Not.ensures.value c.in_ok-behind-in-Not.ensures.value)
+    c.operand_code-in-Not.ensures.value
 
-pub code-returns-in_ok-behind-in-Len : goal.code-returns-in_ok-behind-in-Len
-code-returns-in_ok-behind-in-Len t c = record {
-  value =
-      let a = c.get-in-Len.result.now in
-      subst (λ (z : List Step). IfOk c.code-in-Len.result (λ m. m.steps ≡ z))
-      (len_same c.args.context.now c.args.expr.now a c.in_ok-behind-in-Len.behind.live c.args.behind.live c.args.register c.args.behind.steps c.in_ok-behind-in-Len.behind.steps c.in_ok-behind-in-Len.ensures.live (c.in-Len.is ∙ ap kind.Len (sym c.get-in-Len.ensures)) c.in_ok-behind-in-Len.ensures.value)
-      c.code-in-Len.ensures.value;
-  live =
-      let a = c.get-in-Len.result.now in
-      subst (λ (z : Variables). IfOk c.code-in-Len.result (λ m. m.live ≡ z))
-      (len_live c.args.context.now c.args.expr.now a c.in_ok-behind-in-Len.behind.live c.args.behind.live c.args.register c.args.behind.steps c.in_ok-behind-in-Len.behind.steps c.in_ok-behind-in-Len.ensures.live (c.in-Len.is ∙ ap kind.Len (sym c.get-in-Len.ensures)))
-      c.code-in-Len.ensures.live;
-}
+pub code-returns-in_ok-behind-in-Len-clause-value : goal.code-returns-in_ok-behind-in-Len-clause-value
+code-returns-in_ok-behind-in-Len-clause-value t c =
+    let a = c.get-operand-in-Len.result.now in
+    let b = c.in_ok-behind-in-Len.behind in
+    subst (λ (z : List Step). IfOk c.operand_code-in-Len.result (λ m. m.steps ≡ z))
+    (len_same c.args.context.now c.args.expr.now a b.live c.args.behind.live c.args.register c.args.behind.steps b.steps c.in_ok-behind-in-Len.ensures.live c.read-place.result c.standing-in-Len.result
+    (c.in-Len.is ∙ ap kind.Len (sym c.get-operand-in-Len.ensures)) c.read-place.ensures.value c.standing-in-Len.ensures.value c.in_ok-behind-in-Len.ensures.value)
+    c.operand_code-in-Len.ensures.value
 
 pub code-returns-in_ok-behind-in-Is : goal.code-returns-in_ok-behind-in-Is
 code-returns-in_ok-behind-in-Is t c = record {
   value =
-      let a = c.get-in-Is.result.now in
-      subst (λ (z : List Step). IfOk c.code-in-Is.result (λ m. m.steps ≡ z))
-      (is_same c.args.context.now c.args.expr.now a c.in_ok-behind-in-Is.behind.live c.args.behind.live c.args.register c.args.behind.steps c.in_ok-behind-in-Is.behind.steps c.in_ok-behind-in-Is.ensures.live c.in-Is.ty (c.in-Is.is ∙ ap (λ (z : Expr). kind.Is z c.in-Is.ty) (sym c.get-in-Is.ensures)) c.in_ok-behind-in-Is.ensures.value)
-      c.code-in-Is.ensures.value;
+      let a = c.get.result.now in
+      subst (λ (z : List Step). IfOk c.code.result (λ m. m.steps ≡ z))
+      (is_same c.args.context.now c.args.expr.now a c.in_ok-behind-in-Is.behind.live c.args.behind.live c.args.register c.args.behind.steps c.in_ok-behind-in-Is.behind.steps c.in_ok-behind-in-Is.ensures.live c.in-Is.ty (c.in-Is.is ∙ ap (λ (z : Expr). kind.Is z c.in-Is.ty) (sym c.get.ensures)) c.in_ok-behind-in-Is.ensures.value)
+      c.code.ensures.value;
   live =
-      let a = c.get-in-Is.result.now in
-      subst (λ (z : Variables). IfOk c.code-in-Is.result (λ m. m.live ≡ z))
-      (is_live c.args.context.now c.args.expr.now a c.in_ok-behind-in-Is.behind.live c.args.behind.live c.args.register c.args.behind.steps c.in_ok-behind-in-Is.behind.steps c.in_ok-behind-in-Is.ensures.live c.in-Is.ty (c.in-Is.is ∙ ap (λ (z : Expr). kind.Is z c.in-Is.ty) (sym c.get-in-Is.ensures)))
-      c.code-in-Is.ensures.live;
+      let a = c.get.result.now in
+      subst (λ (z : Variables). IfOk c.code.result (λ m. m.live ≡ z))
+      (is_live c.args.context.now c.args.expr.now a c.in_ok-behind-in-Is.behind.live c.args.behind.live c.args.register c.args.behind.steps c.in_ok-behind-in-Is.behind.steps c.in_ok-behind-in-Is.ensures.live c.in-Is.ty (c.in-Is.is ∙ ap (λ (z : Expr). kind.Is z c.in-Is.ty) (sym c.get.ensures)))
+      c.code.ensures.live;
 }
 
-pub code-returns-in_ok-behind-in-Field : goal.code-returns-in_ok-behind-in-Field
-code-returns-in_ok-behind-in-Field t c = record {
-  value =
-      let a = c.get-in-Field.result.now in
-      subst (λ (z : List Step). IfOk c.code-in-Field.result (λ m. m.steps ≡ z))
-      (field_same c.args.context.now c.args.expr.now a c.in_ok-behind-in-Field.behind.live c.args.behind.live c.args.register c.args.behind.steps c.in_ok-behind-in-Field.behind.steps c.in_ok-behind-in-Field.ensures.live c.in-Field.name c.in_ok-number-in-Field.number (c.in-Field.is ∙ ap (λ (z : Expr). kind.Field z c.in-Field.name) (sym c.get-in-Field.ensures)) c.in_ok-number-in-Field.ensures.value c.in_ok-behind-in-Field.ensures.value)
-      c.code-in-Field.ensures.value;
-  live =
-      let a = c.get-in-Field.result.now in
-      subst (λ (z : Variables). IfOk c.code-in-Field.result (λ m. m.live ≡ z))
-      (field_live c.args.context.now c.args.expr.now a c.in_ok-behind-in-Field.behind.live c.args.behind.live c.args.register c.args.behind.steps c.in_ok-behind-in-Field.behind.steps c.in_ok-behind-in-Field.ensures.live c.in-Field.name (c.in-Field.is ∙ ap (λ (z : Expr). kind.Field z c.in-Field.name) (sym c.get-in-Field.ensures)))
-      c.code-in-Field.ensures.live;
-}
+pub code-returns-in_ok-behind-in-Field-clause-value : goal.code-returns-in_ok-behind-in-Field-clause-value
+code-returns-in_ok-behind-in-Field-clause-value t c =
+    let a = c.get-whole.result.now in
+    let b = c.in_ok-behind-in-Field.behind in
+    subst (λ (z : List Step). IfOk c.operand_code-in-Field.result (λ m. m.steps ≡ z))
+    (field_same c.args.context.now c.args.expr.now a b.live c.args.behind.live c.args.register c.args.behind.steps b.steps c.in_ok-behind-in-Field.ensures.live c.in-Field.name c.in_ok-number-in-Field.number c.standing-in-Field.result c.read-place-in-Field.result
+    (c.in-Field.is ∙ ap (λ (z : Expr). kind.Field z c.in-Field.name) (sym c.get-whole.ensures)) c.read-place-in-Field.ensures.value c.standing-in-Field.ensures.value c.in_ok-number-in-Field.ensures.value c.in_ok-behind-in-Field.ensures.value)
+    c.operand_code-in-Field.ensures.value
 
-pub code-returns-in_ok-behind-in-Binary : goal.code-returns-in_ok-behind-in-Binary
-code-returns-in_ok-behind-in-Binary t c = record {
-  value =
-      let b = c.get-in-Binary.result.now in let a = c.get-in-Binary-2.result.now in
-      subst (λ (z : List Step). IfOk c.code-in-Binary.result (λ m. m.steps ≡ z))
-      (binary_same c.args.context.now c.args.expr.now a b c.args.behind.live c.args.register c.args.behind.steps c.in_ok-behind-in-Binary.behind.live c.in_ok-behind-in-Binary.behind.steps c.in-Binary.op (let p = sym c.get-in-Binary-2.ensures in let q = sym c.get-in-Binary.ensures in c.in-Binary.is ∙ (λ i. kind.Binary c.in-Binary.op (p i) (q i))) c.in_ok-behind-in-Binary.ensures.live c.in_ok-behind-in-Binary.ensures.value)
-      c.code-in-Binary.ensures.value;
-  live =
-      let b = c.get-in-Binary.result.now in let a = c.get-in-Binary-2.result.now in
-      subst (λ (z : Variables). IfOk c.code-in-Binary.result (λ m. m.live ≡ z))
-      (binary_live c.args.context.now c.args.expr.now a b c.args.behind.live c.args.register c.args.behind.steps c.in_ok-behind-in-Binary.behind.live c.in_ok-behind-in-Binary.behind.steps c.in-Binary.op (let p = sym c.get-in-Binary-2.ensures in let q = sym c.get-in-Binary.ensures in c.in-Binary.is ∙ (λ i. kind.Binary c.in-Binary.op (p i) (q i))) c.in_ok-behind-in-Binary.ensures.live)
-      c.code-in-Binary.ensures.live;
-}
+pub code-returns-in_ok-behind-in-Binary-clause-value : goal.code-returns-in_ok-behind-in-Binary-clause-value
+code-returns-in_ok-behind-in-Binary-clause-value t c =
+    let a = c.get-left.result.now in
+    let b = c.get-right.result.now in
+    let m = c.in_ok-behind-in-Binary.behind in
+    let p = sym c.get-left.ensures in
+    let q = sym c.get-right.ensures in
+    subst (λ (z : List Step). IfOk c.operand_code-in-Binary.result (λ m. m.steps ≡ z))
+    (binary_same c.args.context.now c.args.expr.now a b c.args.behind.live c.args.register c.args.behind.steps m.live m.steps c.in-Binary.op c.first_read-place.result c.standing-first.result
+    (c.in-Binary.is ∙ (λ i. kind.Binary c.in-Binary.op (p i) (q i))) c.first_read-place.ensures.value c.standing-first.ensures.value c.in_ok-behind-in-Binary.ensures.live c.in_ok-behind-in-Binary.ensures.value)
+    c.operand_code-in-Binary.ensures.value
 
-pub code-returns-in_ok-behind-in-Index-2 : goal.code-returns-in_ok-behind-in-Index-2
-code-returns-in_ok-behind-in-Index-2 t c = record {
-  value =
-      let b = c.get-in-Index.result.now in let a = c.get-in-Index-2.result.now in
-      subst (λ (z : List Step). IfOk c.code-in-Index-2.result (λ m. m.steps ≡ z))
-      (index_same c.args.context.now c.args.expr.now a b c.args.behind.live c.args.register c.args.behind.steps c.in_ok-behind-in-Index-2.behind.live c.in_ok-behind-in-Index-2.behind.steps c.in_ok-behind-in-Index.behind.live c.in_ok-free-in-Index.free c.in_ok-behind-in-Index.behind.steps (let p = sym c.get-in-Index-2.ensures in let q = sym c.get-in-Index.ensures in c.in-Index.is ∙ (λ i. kind.Index (p i) (q i))) c.in_ok-free-in-Index.ensures.value c.in_ok-behind-in-Index.ensures.live c.in_ok-behind-in-Index.ensures.value c.in_ok-behind-in-Index-2.ensures.live c.in_ok-behind-in-Index-2.ensures.value)
-      c.code-in-Index-2.ensures.value;
-  live =
-      let b = c.get-in-Index.result.now in let a = c.get-in-Index-2.result.now in
-      subst (λ (z : Variables). IfOk c.code-in-Index-2.result (λ m. m.live ≡ z))
-      (index_live c.args.context.now c.args.expr.now a b c.args.behind.live c.args.register c.args.behind.steps c.in_ok-behind-in-Index-2.behind.live c.in_ok-behind-in-Index-2.behind.steps c.in_ok-behind-in-Index.behind.live (let p = sym c.get-in-Index-2.ensures in let q = sym c.get-in-Index.ensures in c.in-Index.is ∙ (λ i. kind.Index (p i) (q i))) c.in_ok-behind-in-Index.ensures.live c.in_ok-behind-in-Index-2.ensures.live)
-      c.code-in-Index-2.ensures.live;
-}
+pub code-returns-in_ok-behind-in-Index-2-clause-value : goal.code-returns-in_ok-behind-in-Index-2-clause-value
+code-returns-in_ok-behind-in-Index-2-clause-value t c =
+    let a = c.get-array.result.now in
+    let b = c.get-index.result.now in
+    let one = c.in_ok-behind-in-Index.behind in
+    let two = c.in_ok-behind-in-Index-2.behind in
+    let p = sym c.get-array.ensures in
+    let q = sym c.get-index.ensures in
+    subst (λ (z : List Step). IfOk c.operand_code-in-Index-2.result (λ m. m.steps ≡ z))
+    (index_same c.args.context.now c.args.expr.now a b c.args.behind.live c.args.register c.args.behind.steps two.live two.steps c.read-whole.result c.variable_in-place-in-Index.result c.standing-in-Index.result c.standing-in-Index-2.result one.live c.in_ok-free-in-Index.free one.steps
+    (c.in-Index.is ∙ (λ i. kind.Index (p i) (q i))) c.read-whole.ensures.value c.standing-in-Index.ensures.value c.variable_in-place-in-Index.ensures.value c.standing-in-Index-2.ensures.value c.in_ok-free-in-Index.ensures.value c.in_ok-behind-in-Index.ensures.live
+    c.in_ok-behind-in-Index.ensures.value c.in_ok-behind-in-Index-2.ensures.live c.in_ok-behind-in-Index-2.ensures.value)
+    c.operand_code-in-Index-2.ensures.value
 
 pub code-returns-in_ok-behind-in-Repeat-2 : goal.code-returns-in_ok-behind-in-Repeat-2
 code-returns-in_ok-behind-in-Repeat-2 t c = record {
@@ -193,7 +172,7 @@ right_side-returns-in_ok-made-in-And t c =
     let steps : c.in_ok-start-in-And.start.steps ≡ second ++ c.args.behind.steps = c.in_ok-start-in-And.ensures.value in
     let first = spec.code c.args.context.now b s c.args.register in
     record {
-      value = subst (λ (o : Op). IfOk c.end_and.result (λ m. m.steps ≡ spec.operate o c.args.register (spec.code c.args.context.now b s (spec.right_register o c.args.register)) second (spec.is_plain b) ++ c.args.behind.steps))
+      value = subst (λ (o : Op). IfOk c.end_and.result (λ m. m.steps ≡ spec.operate o c.args.register c.args.left (operands.standing (operands.second_read o b s) (spec.right_register o c.args.register)) (operands.unless_read (operands.second_read o b s) (spec.code c.args.context.now b s (spec.right_register o c.args.register))) second (operands.plain_or_read (operands.second_read o b s) (spec.is_plain b)) ++ c.args.behind.steps))
           (sym c.in-And.is)
           (subst (λ (z : List Step). IfOk c.end_and.result (λ m. m.steps ≡ z)) (sym (append_assoc (fork c.args.register first []) second c.args.behind.steps))
           (c.end_and.ensures.value first (second ++ c.args.behind.steps)
@@ -210,7 +189,7 @@ right_side-returns-in_ok-made-in-Or t c =
     let after : c.in_ok-after-in-Or.after ≡ s = c.in_ok-after-in-Or.ensures.value in
     let live : c.in_ok-made-in-Or.made.live ≡ lives.before b s = c.in_ok-made-in-Or.ensures.live in
     record {
-      value = subst (λ (o : Op). IfOk c.end_or.result (λ m. m.steps ≡ spec.operate o c.args.register (spec.code c.args.context.now b s (spec.right_register o c.args.register)) (spec.released (lives.before b s) s) (spec.is_plain b) ++ c.args.behind.steps))
+      value = subst (λ (o : Op). IfOk c.end_or.result (λ m. m.steps ≡ spec.operate o c.args.register c.args.left (operands.standing (operands.second_read o b s) (spec.right_register o c.args.register)) (operands.unless_read (operands.second_read o b s) (spec.code c.args.context.now b s (spec.right_register o c.args.register))) (spec.released (lives.before b s) s) (operands.plain_or_read (operands.second_read o b s) (spec.is_plain b)) ++ c.args.behind.steps))
           (sym c.in-Or.is)
           (subst (λ (z : List Step). IfOk c.end_or.result (λ m. m.steps ≡ z)) (λ i. fork c.args.register (spec.released (live i) (after i)) second ++ c.args.behind.steps)
           (c.end_or.ensures.value second c.args.behind.steps c.in_ok-made-in-Or.ensures.value (sym c.len-end-in-Or.ensures.value)));
@@ -259,14 +238,14 @@ field_codes-loop-left-preserved t c =
       value = field_codes_turn c.args.context.now fs l.left x c.args.behind.live l.made.live c.loop-left-test.true l.invariant.within c.index-fields-left.is l.invariant.live l.here c.in_ok-here-2.here c.args.behind.steps l.made.steps c.in_ok-made.made.steps c.in_ok-here-2.ensures.value l.invariant.value c.in_ok-made.ensures.value;
     }
 
-pub right_side-returns-in_ok-behind-in_default : goal.right_side-returns-in_ok-behind-in_default
-right_side-returns-in_ok-behind-in_default t c =
+pub right_side-returns-in_ok-behind-in_default-clause-value : goal.right_side-returns-in_ok-behind-in_default-clause-value
+right_side-returns-in_ok-behind-in_default-clause-value t c =
     let b = seen_expr c.args.right.now in
     let s = c.args.behind.live in
-    record {
-      value = subst (λ (z : List Step). IfOk c.code-in_default.result (λ m. m.steps ≡ z))
-          (both_sides c.args.context.now b c.args.register c.in_ok-free-in_default.free s c.in_ok-behind-in_default.behind.live c.args.behind.steps c.in_ok-behind-in_default.behind.steps c.in_ok-free-in_default.ensures.value c.in_ok-behind-in_default.ensures.live
-          c.args.op (spec.released (lives.before b s) s) (spec.is_plain b) c.in_default.not-And c.in_default.not-Or (subst (λ (z : Bool). c.in_ok-behind-in_default.behind.steps ≡ spec.operator c.args.op c.args.register z ++ c.args.behind.steps) c.is_plain.ensures.value c.in_ok-behind-in_default.ensures.value))
-          c.code-in_default.ensures.value;
-      live = subst (λ (z : Variables). IfOk c.code-in_default.result (λ m. m.live ≡ z)) (ap (λ (v : Variables). lives.before b v) c.in_ok-behind-in_default.ensures.live) c.code-in_default.ensures.live;
-    }
+    let place = c.second_read-place.result in
+    let m = c.in_ok-behind-in_default.behind in
+    subst (λ (z : List Step). IfOk c.operand_code.result (λ m. m.steps ≡ z))
+    (right_made c.args.context.now b c.args.register c.args.left c.in_ok-free-in_default.free s m.live c.args.behind.steps m.steps c.in_ok-free-in_default.ensures.value c.in_ok-behind-in_default.ensures.live
+    c.args.op (spec.released (lives.before b s) s) place c.standing-second.result c.plain_or_read-is_plain.result c.in_default.not-And c.in_default.not-Or c.second_read-place.ensures.value c.standing-second.ensures.value
+    (c.plain_or_read-is_plain.ensures.value ∙ ap (operands.plain_or_read place) c.is_plain.ensures.value) c.in_ok-behind-in_default.ensures.value)
+    c.operand_code.ensures.value

@@ -1,5 +1,5 @@
 use Rattle.wy_vc_terms.proofs.MadeLemmas.{slots_none, slots_some}
-use Rattle.wy_vc_terms.proofs.values.slots_of.Goals as goal
+use Rattle.wy_vc_terms.proofs.types.slots_of.Goals as goal
 
 pub returns-in-None : goal.returns-in-None
 returns-in-None c = record { made = λ ns t at. slots_none ns t c.args.variable c.new-vars.result.items c.in-None.is c.new-vars.ensures.items }

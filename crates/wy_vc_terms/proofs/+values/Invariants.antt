@@ -11,42 +11,42 @@ use Rattle.wy_vc_names.specs.Described.{IsDescribed, setting}
 use Rattle.wy_vc_operations.specs.Growing.{AreBelow, AreSlotsAt}
 use Rattle.wy_vc_terms.specs.Made.{IsUnderway}
 use Rattle.wy_vc_terms.specs.Wholes.{tys_of, record_parts, clause_parts}
-use Rattle.wy_vc_terms.proofs.values.+values.Given as goal
+use Rattle.wy_vc_terms.proofs.+values.Given as goal
 
 -- how deep calls may still go
-abbrev pub decreases-holds_to : goal.decreases-holds_to
-decreases-holds_to l = l.left
+abbrev pub decreases-types::holds_to : goal.decreases-types::holds_to
+decreases-types::holds_to l = l.left
 
-abbrev pub decreases-fields_hold : goal.decreases-fields_hold
-decreases-fields_hold l = l.left
+abbrev pub decreases-types::fields_hold : goal.decreases-types::fields_hold
+decreases-types::fields_hold l = l.left
 
-abbrev pub decreases-named_to : goal.decreases-named_to
-decreases-named_to l = l.left
+abbrev pub decreases-types::named_to : goal.decreases-types::named_to
+decreases-types::named_to l = l.left
 
-abbrev pub decreases-defined_to : goal.decreases-defined_to
-decreases-defined_to l = l.left
+abbrev pub decreases-types::defined_to : goal.decreases-types::defined_to
+decreases-types::defined_to l = l.left
 
-abbrev pub decreases-alias_to : goal.decreases-alias_to
-decreases-alias_to l = l.left
+abbrev pub decreases-types::alias_to : goal.decreases-types::alias_to
+decreases-types::alias_to l = l.left
 
-abbrev pub decreases-clauses_hold : goal.decreases-clauses_hold
-decreases-clauses_hold l = l.left
+abbrev pub decreases-types::clauses_hold : goal.decreases-types::clauses_hold
+decreases-types::clauses_hold l = l.left
 
-abbrev pub decreases-value_to : goal.decreases-value_to
-decreases-value_to l = l.left
+abbrev pub decreases-values::value_to : goal.decreases-values::value_to
+decreases-values::value_to l = l.left
 
-abbrev pub decreases-body_to : goal.decreases-body_to
-decreases-body_to l = l.left
+abbrev pub decreases-values::body_to : goal.decreases-values::body_to
+decreases-values::body_to l = l.left
 
-abbrev pub decreases-values_to : goal.decreases-values_to
-decreases-values_to l = l.left
+abbrev pub decreases-lists::values_to : goal.decreases-lists::values_to
+decreases-lists::values_to l = l.left
 
-abbrev pub decreases-field_values_to : goal.decreases-field_values_to
-decreases-field_values_to l = l.left
+abbrev pub decreases-lists::field_values_to : goal.decreases-lists::field_values_to
+decreases-lists::field_values_to l = l.left
 
 -- the formulas made, and those of the fields that are left
-abbrev pub invariant-fields_hold-loop-item : goal.invariant-fields_hold-loop-item
-invariant-fields_hold-loop-item l = record {
+abbrev pub invariant-types::fields_hold-loop-item : goal.invariant-types::fields_hold-loop-item
+invariant-types::fields_hold-loop-item l = record {
   within : AreBelow (length l.terms) l.parts.items;
   value : l.v < length l.terms;
   grows : length l.fn.terms ≤ length l.terms;
@@ -54,8 +54,8 @@ invariant-fields_hold-loop-item l = record {
 }
 
 -- the formulas made, and those of the clauses that are left
-abbrev pub invariant-clauses_hold-loop-clause : goal.invariant-clauses_hold-loop-clause
-invariant-clauses_hold-loop-clause l = record {
+abbrev pub invariant-types::clauses_hold-loop-clause : goal.invariant-types::clauses_hold-loop-clause
+invariant-types::clauses_hold-loop-clause l = record {
   within : AreBelow (length l.terms) l.parts.items;
   grows : length l.fn.terms ≤ length l.terms;
   vars : l.vars.items ≡ l.fn.vars.items;
@@ -63,8 +63,8 @@ invariant-clauses_hold-loop-clause l = record {
 }
 
 -- the terms made, and those of the expressions that are left
-abbrev pub invariant-values_to-loop-item : goal.invariant-values_to-loop-item
-invariant-values_to-loop-item l = record {
+abbrev pub invariant-lists::values_to-loop-item : goal.invariant-lists::values_to-loop-item
+invariant-lists::values_to-loop-item l = record {
   within : AreBelow (length l.terms) l.made.items;
   grows : length l.fn.terms ≤ length l.terms;
   node : l.next + exprs_in_all (exprs_of (seen_exprs (drop l.item-index l.items))) ≡ l.node + exprs_in_all (exprs_of (seen_exprs l.items));
@@ -73,8 +73,8 @@ invariant-values_to-loop-item l = record {
 }
 
 -- the terms and names made, and those of the fields that are left
-abbrev pub invariant-field_values_to-loop-item : goal.invariant-field_values_to-loop-item
-invariant-field_values_to-loop-item l = record {
+abbrev pub invariant-lists::field_values_to-loop-item : goal.invariant-lists::field_values_to-loop-item
+invariant-lists::field_values_to-loop-item l = record {
   within : AreBelow (length l.terms) (map (λ f. f.1) l.made.items);
   grows : length l.fn.terms ≤ length l.terms;
   node : l.next + exprs_in_fields (seen_fields (drop l.item-index l.items)) ≡ l.node + exprs_in_fields (seen_fields l.items);

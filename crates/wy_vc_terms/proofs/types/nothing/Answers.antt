@@ -4,7 +4,7 @@ use Rattle.wy_vc_operations.specs.Growing.{AreAt}
 use Rattle.wy_vc_operations.proofs.GrowingLemmas.{none_at, more_at}
 use Rattle.wy_vc_terms.proofs.MadeLemmas.{plainly}
 use Rattle.wy_vc_operations.proofs.GrowingLemmas.{onward}
-use Rattle.wy_vc_terms.proofs.values.nothing.Goals as goal
+use Rattle.wy_vc_terms.proofs.types.nothing.Goals as goal
 
 pub returns-clause-made : goal.returns-clause-made
 returns-clause-made c =

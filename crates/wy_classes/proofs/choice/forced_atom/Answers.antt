@@ -1,0 +1,22 @@
+use Rattle.std.proofs.Common.{◌≡◌, ◌∙◌, ap, length, rules}
+use Rattle.std.proofs.lemmas.Result.{IfOk-weaker}
+use Rattle.wy_classes.proofs.FirstLemmas.{forced_by, once_forced}
+use Rattle.wy_classes.proofs.UnmetLemmas.{none_forced}
+use Rattle.wy_classes.proofs.choice.forced_atom.Goals as goal
+use Rattle.wy_classes.specs.Once.{first_by}
+use Rattle.wy_judging.specs.Seen.{seen_branch}
+use Rattle.wy_search.specs.Splitting.{atoms_of, is_forced}
+use Rattle.wy_term.specs.Nodes.{tree_at}
+
+pub returns-then-is_empty-clause-value : goal.returns-then-is_empty-clause-value
+returns-then-is_empty-clause-value c =
+    let at = tree_at c.args.terms.now in
+    let node = seen_branch at c.args.branch.now in
+    let none : length c.args.left.now ≡ 0 = search rules in
+    none_forced at node (atoms_of node.pending) c.args.left.now c.requires.left none ∙ forced_by node (atoms_of node.pending)
+
+pub returns-clause-value : goal.returns-clause-value
+returns-clause-value c =
+    let at = tree_at c.args.terms.now in
+    let node = seen_branch at c.args.branch.now in
+    IfOk-weaker c.first_forced.result _ _ (λ o is. is ∙ ap (first_by (is_forced node)) c.in_ok-found.ensures.value ∙ once_forced node (atoms_of node.pending)) c.first_forced.ensures.value
