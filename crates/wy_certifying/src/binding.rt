@@ -56,11 +56,7 @@ pub fn binds_a_name(terms: &Terms, formula: u32) -> Result<bool, NoMemory>
 }
 
 // One formula more, unless it binds a name.
-fn push_unless_binding(
-    terms: &Terms,
-    kept: &mut Vec<u32>,
-    formula: u32,
-) -> Result<(), NoMemory>
+fn push_unless_binding(terms: &Terms, kept: &mut Vec<u32>, formula: u32) -> Result<(), NoMemory>
     requires formula { formula < length terms.now }
     requires kept { AreBelow (length terms.now) kept.old.items }
     ensures { OnOk result (AreBelow (length terms.now) kept.new.items) }

@@ -40,12 +40,7 @@ fn split(terms: &Terms, spot: Spot, atom: u32) -> Result<Next, NoMemory>
 }
 
 // A round of expansion, at most as many on a path as the manner has.
-fn on_expansion(
-    terms: &mut Terms,
-    cond: &Cond,
-    spot: Spot,
-    manner: Manner,
-) -> Result<Next, Stop>
+fn on_expansion(terms: &mut Terms, cond: &Cond, spot: Spot, manner: Manner) -> Result<Next, Stop>
     requires types { AreTypesBelow (length terms.old) cond.now }
     requires spot { IsSpot terms.old spot }
     ensures next { IfOk result (IsNext terms.new) }
@@ -106,12 +101,7 @@ fn closing(terms: &mut Terms, spot: &Spot) -> Result<Option<Vec<Action>>, NoMemo
 }
 
 // What becomes of a node that isn't shut.
-fn on_classes(
-    terms: &mut Terms,
-    cond: &Cond,
-    spot: Spot,
-    manner: Manner,
-) -> Result<Next, Stop>
+fn on_classes(terms: &mut Terms, cond: &Cond, spot: Spot, manner: Manner) -> Result<Next, Stop>
     requires types { AreTypesBelow (length terms.old) cond.now }
     requires spot { IsSpot terms.old spot }
     ensures next { IfOk result (IsNext terms.new) }

@@ -289,12 +289,7 @@ fn turn(
 
 /// A certificate by the steps of the search, whose tree is gone through in this manner, written up to so many leaves, where no
 /// leaf is open. Older numbers name what they named.
-pub fn written(
-    terms: &mut Terms,
-    cond: &Cond,
-    budget: u64,
-    manner: Manner,
-) -> Result<Cert, Stop>
+pub fn written(terms: &mut Terms, cond: &Cond, budget: u64, manner: Manner) -> Result<Cert, Stop>
     requires hyps { All (λ h. h < length terms.old) cond.now.hyps.items }
     requires goal { cond.now.goal < length terms.old }
     requires types { AreTypesBelow (length terms.old) cond.now }
