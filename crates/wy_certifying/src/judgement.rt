@@ -8,6 +8,7 @@ ghost use Rattle.wy_term.specs.Condition.{condition_of};
 ghost use Rattle.wy_term.specs.Nodes.{tree_at};
 ghost use Rattle.wy_valid.specs.Validity.{IsValid};
 
+use crate::manner::Manner;
 use crate::stop::Stop;
 use crate::walking::written;
 use wy_cert::Cert;
@@ -15,15 +16,20 @@ use wy_checking::{Checked, check};
 use wy_term::{Cond, NoMemory, Terms};
 use wy_well_sorted::is_certificate_sorted;
 
-// A certificate, if one could be written. It makes terms.
-fn drafted(terms: &mut Terms, cond: &Cond, budget: u64) -> Result<Option<Cert>, NoMemory>
+// A certificate, if one could be written in this manner. It makes terms.
+fn drafted(
+    terms: &mut Terms,
+    cond: &Cond,
+    budget: u64,
+    manner: Manner,
+) -> Result<Option<Cert>, NoMemory>
     requires hyps { All (λ h. h < length terms.old) cond.now.hyps.items }
     requires goal { cond.now.goal < length terms.old }
     requires types { AreTypesBelow (length terms.old) cond.now }
     ensures names { IfOk result (λ o. IfSome o NamesItsTerms) }
     ensures stays { Stays terms.old terms.new }
 {
-    match written(terms, cond, budget) {
+    match written(terms, cond, budget, manner) {
         Ok(cert) => Ok(Some(cert)),
         Err(Stop::Unwritten) => Ok(None),
         Err(Stop::NoMemory) => Err(NoMemory),
@@ -50,8 +56,13 @@ fn judged(terms: &mut Terms, cond: &Cond, cert: Cert) -> Result<Option<Cert>, No
     }
 }
 
-// A valid certificate, if one could be written. It makes terms.
-fn found(terms: &mut Terms, cond: &Cond, budget: u64) -> Result<Option<Cert>, NoMemory>
+// A valid certificate, if one could be written in this manner. It makes terms.
+fn found(
+    terms: &mut Terms,
+    cond: &Cond,
+    budget: u64,
+    manner: Manner,
+) -> Result<Option<Cert>, NoMemory>
     requires hyps { All (λ h. h < length terms.old) cond.now.hyps.items }
     requires goal { cond.now.goal < length terms.old }
     requires types { AreTypesBelow (length terms.old) cond.now }
@@ -60,16 +71,34 @@ fn found(terms: &mut Terms, cond: &Cond, budget: u64) -> Result<Option<Cert>, No
     ensures names { IfOk result (λ o. IfSome o NamesItsTerms) }
     ensures stays { Stays terms.old terms.new }
 {
-    match drafted(terms, cond, budget)? {
+    match drafted(terms, cond, budget, manner)? {
         Some(cert) => judged(terms, cond, cert),
         None => Ok(None),
     }
 }
 
+// The same in either manner, the search's own first.
+fn found_somehow(terms: &mut Terms, cond: &Cond, budget: u64) -> Result<Option<Cert>, NoMemory>
+    requires hyps { All (λ h. h < length terms.old) cond.now.hyps.items }
+    requires goal { cond.now.goal < length terms.old }
+    requires types { AreTypesBelow (length terms.old) cond.now }
+    ensures valid { IfOk result (λ o. IfSome o (λ c. IsValid (condition_of terms.old cond.now) (steps_of c))) }
+    ensures sorted { IfOk result (λ o. IfSome o (λ c. AreSortedSteps (steps_of c))) }
+    ensures names { IfOk result (λ o. IfSome o NamesItsTerms) }
+    ensures stays { Stays terms.old terms.new }
+{
+    match found(terms, cond, budget, Manner::AsSearched)? {
+        Some(cert) => Ok(Some(cert)),
+        None => found(terms, cond, budget, Manner::InHalves),
+    }
+}
+
 /// A certificate of a condition, by the search's own tree up to a budget of leaves, judged by the checker: there is one only
-/// where it is valid and its terms are of the sorts that their places want. By trial there is one wherever the search finds at
-/// this budget; no clause says so. The terms are as before afterwards, at want of memory too. It takes the search's time once
-/// more, and the checker's.
+/// where it is valid and its terms are of the sorts that their places want. Where that tree makes none, the tree is tried that adds
+/// what binds names in the second half of a round, behind the splits on the rest. By trial there is one wherever the search finds
+/// at this budget and splits on no atom with a name that is bound in the node; no clause says so. The terms are as before
+/// afterwards, at want of memory too. It takes the search's time once more, and the checker's, and where the first tree makes none
+/// that of the second.
 pub fn certified(terms: &mut Terms, cond: &Cond, budget: u64) -> Result<Option<Cert>, NoMemory>
     requires hyps { All (λ h. h < length terms.old) cond.now.hyps.items }
     requires goal { cond.now.goal < length terms.old }
@@ -81,7 +110,7 @@ pub fn certified(terms: &mut Terms, cond: &Cond, budget: u64) -> Result<Option<C
     ensures kept { (t : ℕ) → t < length terms.old → tree_at terms.new t ≡ tree_at terms.old t }
 {
     let mark = terms.mark();
-    let answer = found(terms, cond, budget);
+    let answer = found_somehow(terms, cond, budget);
     terms.back_to(mark);
     answer
 }

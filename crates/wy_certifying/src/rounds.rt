@@ -5,7 +5,9 @@ ghost use Rattle.wy_facts.specs.Seen.{AreBelow, Stays};
 ghost use Rattle.wy_searching.specs.StatedSeen.{IsSpot};
 ghost use Rattle.wy_judging.specs.Seen.{IsBranch};
 
+use crate::binding::without_binding;
 use crate::facts::push_facts;
+use crate::manner::Manner;
 use crate::products::push_products;
 use wy_explaining::{Action, Named};
 use wy_judging::{Branch, add_all, has_literal, nth_literal};
@@ -129,12 +131,12 @@ fn add_instances(
 
 // ---- facts and products
 
-// The node's facts, and their steps.
-fn facts_with_steps(
+// The node's facts; in a first half those that bind no name.
+fn facts_due(
     terms: &mut Terms,
     cond: &Cond,
     branch: &Branch,
-    plan: &mut Vec<Action>,
+    is_first_half: bool,
 ) -> Result<Vec<u32>, NoMemory>
     requires types { AreTypesBelow (length terms.old) cond.now }
     requires branch { IsBranch terms.old branch.now }
@@ -142,6 +144,26 @@ fn facts_with_steps(
     ensures stays { Stays terms.old terms.new }
 {
     let facts = facts_of(terms, cond, branch)?;
+    if is_first_half {
+        return without_binding(terms, &facts);
+    }
+    Ok(facts)
+}
+
+// The node's facts that are due, and their steps.
+fn facts_with_steps(
+    terms: &mut Terms,
+    cond: &Cond,
+    branch: &Branch,
+    is_first_half: bool,
+    plan: &mut Vec<Action>,
+) -> Result<Vec<u32>, NoMemory>
+    requires types { AreTypesBelow (length terms.old) cond.now }
+    requires branch { IsBranch terms.old branch.now }
+    ensures below { IfOk result (λ fs. AreBelow (length terms.new) fs.items) }
+    ensures stays { Stays terms.old terms.new }
+{
+    let facts = facts_due(terms, cond, branch, is_first_half)?;
     push_facts(terms, cond, branch, &facts, plan)?;
     Ok(facts)
 }
@@ -150,6 +172,7 @@ fn add_facts(
     terms: &mut Terms,
     cond: &Cond,
     branch: &mut Branch,
+    is_first_half: bool,
     plan: &mut Vec<Action>,
 ) -> Result<(), NoMemory>
     requires types { AreTypesBelow (length terms.old) cond.now }
@@ -157,7 +180,7 @@ fn add_facts(
     ensures branch { OnOk result (IsBranch terms.new branch.new) }
     ensures stays { Stays terms.old terms.new }
 {
-    let facts = facts_with_steps(terms, cond, branch, plan)?;
+    let facts = facts_with_steps(terms, cond, branch, is_first_half, plan)?;
     add_all(terms, branch, &facts)
 }
 
@@ -194,6 +217,7 @@ fn add_rest(
     cond: &Cond,
     branch: &mut Branch,
     names: &[u32],
+    is_first_half: bool,
     plan: &mut Vec<Action>,
 ) -> Result<(), NoMemory>
     requires types { AreTypesBelow (length terms.old) cond.now }
@@ -203,7 +227,7 @@ fn add_rest(
     ensures stays { Stays terms.old terms.new }
 {
     add_instances(terms, branch, names, plan)?;
-    add_facts(terms, cond, branch, plan)?;
+    add_facts(terms, cond, branch, is_first_half, plan)?;
     add_products(terms, branch, plan)
 }
 
@@ -213,6 +237,7 @@ fn grown(
     cond: &Cond,
     spot: Spot,
     rounds: u32,
+    is_first_half: bool,
     plan: &mut Vec<Action>,
 ) -> Result<Spot, NoMemory>
     requires types { AreTypesBelow (length terms.old) cond.now }
@@ -226,7 +251,7 @@ fn grown(
         names,
         rounds: _,
     } = spot;
-    add_rest(terms, cond, &mut branch, &names, plan)?;
+    add_rest(terms, cond, &mut branch, &names, is_first_half, plan)?;
     Ok(Spot {
         branch,
         had,
@@ -236,21 +261,24 @@ fn grown(
 }
 
 /// One round of the search: witnesses, instances, facts, products, each read from the node as the item before left it, and
-/// the steps by which a certificate adds these. Older numbers name what they named.
+/// the steps by which a certificate adds these. In a first half, facts that bind a name are left out. Older numbers name what
+/// they named.
 pub fn expanded(
     terms: &mut Terms,
     cond: &Cond,
     spot: Spot,
+    manner: Manner,
     plan: &mut Vec<Action>,
 ) -> Result<Spot, NoMemory>
     requires types { AreTypesBelow (length terms.old) cond.now }
     requires spot { IsSpot terms.old spot }
-    requires rounds { spot.rounds < 2 }
+    requires rounds { spot.rounds < 4 }
     ensures spot { IfOk result (IsSpot terms.new) }
     ensures stays { Stays terms.old terms.new }
 {
+    let is_first_half = manner.is_first_half(spot.rounds);
     let rounds = spot.rounds + 1;
     push_witnesses(terms, &spot.branch, &spot.had, plan)?;
     let found = with_witnesses(terms, spot)?;
-    grown(terms, cond, found, rounds, plan)
+    grown(terms, cond, found, rounds, is_first_half, plan)
 }

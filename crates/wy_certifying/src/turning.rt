@@ -5,6 +5,7 @@ ghost use Rattle.wy_facts.specs.Membership.{AreTypesBelow};
 ghost use Rattle.wy_facts.specs.Seen.{Stays};
 ghost use Rattle.wy_searching.specs.StatedSeen.{IsSpot};
 
+use crate::manner::Manner;
 use crate::rounds::expanded;
 use crate::stop::Stop;
 use std::alloc::Global;
@@ -38,23 +39,29 @@ fn split(terms: &Terms, spot: Spot, atom: u32) -> Result<Next, NoMemory>
     Ok(Next::Splits(atom, left, right))
 }
 
-// A round of expansion, at most two on a path.
-fn on_expansion(terms: &mut Terms, cond: &Cond, spot: Spot) -> Result<Next, Stop>
+// A round of expansion, at most as many on a path as the manner has.
+fn on_expansion(terms: &mut Terms, cond: &Cond, spot: Spot, manner: Manner) -> Result<Next, Stop>
     requires types { AreTypesBelow (length terms.old) cond.now }
     requires spot { IsSpot terms.old spot }
     ensures next { IfOk result (IsNext terms.new) }
     ensures stays { Stays terms.old terms.new }
 {
-    if spot.rounds >= 2 {
+    if spot.rounds >= manner.rounds() || spot.rounds >= 4 {
         return Err(Stop::Unwritten);
     }
     let mut plan = Vec::new(terms.allocator());
-    let more = expanded(terms, cond, spot, &mut plan)?;
+    let more = expanded(terms, cond, spot, manner, &mut plan)?;
     Ok(Next::GoesOn(plan, more))
 }
 
 // A split on this atom, if there is one, or a round of expansion.
-fn on_atom(terms: &mut Terms, cond: &Cond, spot: Spot, atom: Option<u32>) -> Result<Next, Stop>
+fn on_atom(
+    terms: &mut Terms,
+    cond: &Cond,
+    spot: Spot,
+    atom: Option<u32>,
+    manner: Manner,
+) -> Result<Next, Stop>
     requires types { AreTypesBelow (length terms.old) cond.now }
     requires spot { IsSpot terms.old spot }
     requires atom { IfSome atom (λ a. a < length terms.old) }
@@ -63,12 +70,12 @@ fn on_atom(terms: &mut Terms, cond: &Cond, spot: Spot, atom: Option<u32>) -> Res
 {
     match atom {
         Some(a) => Ok(split(terms, spot, a)?),
-        None => on_expansion(terms, cond, spot),
+        None => on_expansion(terms, cond, spot, manner),
     }
 }
 
 // A split, or a round of expansion.
-fn on_open(terms: &mut Terms, cond: &Cond, spot: Spot) -> Result<Next, Stop>
+fn on_open(terms: &mut Terms, cond: &Cond, spot: Spot, manner: Manner) -> Result<Next, Stop>
     requires types { AreTypesBelow (length terms.old) cond.now }
     requires spot { IsSpot terms.old spot }
     ensures next { IfOk result (IsNext terms.new) }
@@ -76,7 +83,7 @@ fn on_open(terms: &mut Terms, cond: &Cond, spot: Spot) -> Result<Next, Stop>
 {
     let found = with_next_atom(terms, spot)?;
     let (spot, atom) = found;
-    on_atom(terms, cond, spot, atom)
+    on_atom(terms, cond, spot, atom, manner)
 }
 
 // The steps that close a node whose classes clash, or which elimination refutes.
@@ -94,7 +101,7 @@ fn closing(terms: &mut Terms, spot: &Spot) -> Result<Option<Vec<Action>>, NoMemo
 }
 
 // What becomes of a node that isn't shut.
-fn on_classes(terms: &mut Terms, cond: &Cond, spot: Spot) -> Result<Next, Stop>
+fn on_classes(terms: &mut Terms, cond: &Cond, spot: Spot, manner: Manner) -> Result<Next, Stop>
     requires types { AreTypesBelow (length terms.old) cond.now }
     requires spot { IsSpot terms.old spot }
     ensures next { IfOk result (IsNext terms.new) }
@@ -102,7 +109,7 @@ fn on_classes(terms: &mut Terms, cond: &Cond, spot: Spot) -> Result<Next, Stop>
 {
     match closing(terms, &spot)? {
         Some(plan) => Ok(Next::Closed(plan)),
-        None => on_open(terms, cond, spot),
+        None => on_open(terms, cond, spot, manner),
     }
 }
 
@@ -115,7 +122,12 @@ fn shut(alloc: Global) -> Result<Vec<Action>, NoMemory> {
 
 /// What becomes of a node of the search, judged anew from its literals and pending formulas, with the steps that show it; there
 /// is none where the node is an open leaf. Older numbers name what they named.
-pub fn what_follows(terms: &mut Terms, cond: &Cond, spot: Spot) -> Result<Next, Stop>
+pub fn what_follows(
+    terms: &mut Terms,
+    cond: &Cond,
+    spot: Spot,
+    manner: Manner,
+) -> Result<Next, Stop>
     requires types { AreTypesBelow (length terms.old) cond.now }
     requires spot { IsSpot terms.old spot }
     ensures next { IfOk result (IsNext terms.new) }
@@ -124,5 +136,5 @@ pub fn what_follows(terms: &mut Terms, cond: &Cond, spot: Spot) -> Result<Next, 
     if is_shut(terms, &spot.branch)? {
         return Ok(Next::Closed(shut(terms.allocator())?));
     }
-    on_classes(terms, cond, spot)
+    on_classes(terms, cond, spot, manner)
 }

@@ -9,6 +9,7 @@ ghost use Rattle.wy_searching.specs.StatedSeen.{IsSpot};
 ghost use Rattle.wy_term.specs.Nodes.{Plain};
 
 use crate::draft::{Draft, Size, first_draft, size_of};
+use crate::manner::Manner;
 use crate::stop::Stop;
 use crate::turning::{Next, what_follows};
 use crate::writing::{write_all, write_split};
@@ -261,7 +262,13 @@ fn behind(
 }
 
 // One turn.
-fn turn(terms: &mut Terms, cond: &Cond, budget: u64, walk: Walk) -> Result<Turned, Stop>
+fn turn(
+    terms: &mut Terms,
+    cond: &Cond,
+    budget: u64,
+    manner: Manner,
+    walk: Walk,
+) -> Result<Turned, Stop>
     requires types { AreTypesBelow (length terms.old) cond.now }
     requires walk { IsWalk terms.old walk }
     ensures turned { IfOk result (IsTurned terms.new) }
@@ -276,13 +283,13 @@ fn turn(terms: &mut Terms, cond: &Cond, budget: u64, walk: Walk) -> Result<Turne
     if leaves == budget {
         return Err(Stop::Unwritten);
     }
-    let next = what_follows(terms, cond, spot)?;
+    let next = what_follows(terms, cond, spot, manner)?;
     behind(terms, cond, leaves, draft, waiting, next)
 }
 
-/// A certificate by the steps of the search, written up to so many leaves, where no leaf is open. Older numbers name what
-/// they named.
-pub fn written(terms: &mut Terms, cond: &Cond, budget: u64) -> Result<Cert, Stop>
+/// A certificate by the steps of the search, whose tree is gone through in this manner, written up to so many leaves, where no
+/// leaf is open. Older numbers name what they named.
+pub fn written(terms: &mut Terms, cond: &Cond, budget: u64, manner: Manner) -> Result<Cert, Stop>
     requires hyps { All (λ h. h < length terms.old) cond.now.hyps.items }
     requires goal { cond.now.goal < length terms.old }
     requires types { AreTypesBelow (length terms.old) cond.now }
@@ -291,7 +298,7 @@ pub fn written(terms: &mut Terms, cond: &Cond, budget: u64) -> Result<Cert, Stop
 {
     let mut walk = first_walk(terms, cond)?;
     for _turn in 0..u64::MAX {
-        match turn(terms, cond, budget, walk)? {
+        match turn(terms, cond, budget, manner, walk)? {
             Turned::Ends(cert) => return Ok(cert),
             Turned::GoesOn(next) => walk = next,
         }
