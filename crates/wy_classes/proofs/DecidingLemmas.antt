@@ -1,6 +1,6 @@
 -- A node with one literal more, what it is judged by, and the node as it was.
 use Rattle.std.proofs.Common.{◌≡◌, ◌∙◌, ◌||◌, ℕ, Bool, true, false, cond, List, [], ◌∷◌, ◌++◌, map, take, length, refl, sym, ap, subst}
-use Rattle.wy_judge.specs.Judgement.{of_atom, judged}
+use Rattle.wy_judge.specs.Judgement.{of_atom}
 use Rattle.wy_judge.specs.Node.{Literal, Node, has_literal, with_literal}
 use Rattle.wy_judge.specs.declared.verdict.Verdict.{Verdict}
 use Rattle.wy_judge.specs.declared.verdict.Verdict.TheVariants.{Yes, No, Open}

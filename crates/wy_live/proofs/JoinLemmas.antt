@@ -1,9 +1,9 @@
 -- The bits of the longer set, with those of the shorter one put in, are those of a join.
-use Rattle.std.proofs.Common.{◌≡◌, ◌⊎◌, ◌<◌, ◌≤◌, ℕ, zero, suc, Bool, true, false, ◌||◌, nat_lt, cond, List, ◌∷◌, ◌++◌, length, take, drop, get_or, refl, sym, ap, ◌∙◌, arith, length-append}
+use Rattle.std.proofs.Common.{◌≡◌, ◌<◌, ◌≤◌, ℕ, Bool, true, false, ◌||◌, nat_lt, cond, List, ◌++◌, length, take, drop, get_or, refl, sym, ap, ◌∙◌, arith}
 use Rattle.std.proofs.lemmas.Bool.{cases_lt}
 use Rattle.std.proofs.lemmas.List.{ext_get_or, get_or_past}
 use Rattle.std.proofs.Math.Seq.{take-append_seam}
-use Rattle.wy_live.specs.Sets.{Variables, has, either_bits, longer, joined}
+use Rattle.wy_live.specs.Sets.{Variables, has, longer, joined}
 use Rattle.wy_live.proofs.SetLemmas.{either, by_truth, length-either, lt_true, lt_false, has-joined}
 
 or_nothing : (b : Bool) → (b || false) ≡ b

@@ -1,4 +1,4 @@
-use Rattle.std.proofs.Common.{◌≡◌, [], true, rules}
+use Rattle.std.proofs.Common.{◌≡◌, true, rules}
 use Rattle.wy_classes.proofs.HeadLemmas.{bare_stays}
 use Rattle.wy_classes.proofs.closing.with_congruent.Goals as goal
 use Rattle.wy_classes.specs.Seen.{terms_of}

@@ -1,4 +1,4 @@
-use Rattle.std.proofs.Common.{◌≡◌, ◌∙◌, true, sym, rules}
+use Rattle.std.proofs.Common.{◌≡◌, true, rules}
 use Rattle.wy_classes.proofs.MoreLemmas.{met_safe}
 use Rattle.wy_classes.proofs.unmet.is_safe.Goals as goal
 use Rattle.wy_classes.specs.Unmet.{meets}

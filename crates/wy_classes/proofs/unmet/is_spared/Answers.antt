@@ -1,4 +1,3 @@
-use Rattle.std.proofs.Common.{refl}
 use Rattle.wy_classes.proofs.UnmetLemmas.{spared_parted}
 use Rattle.wy_classes.proofs.unmet.is_spared.Goals as goal
 use Rattle.wy_term.specs.Nodes.{tree_at}

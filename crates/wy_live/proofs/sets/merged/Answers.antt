@@ -1,4 +1,4 @@
-use Rattle.std.proofs.Common.{◌≡◌, ◌∙◌}
+use Rattle.std.proofs.Common.{◌∙◌}
 use Rattle.wy_live.proofs.JoinLemmas.{spliced, joined_of, turned_of, put_in_copy}
 use Rattle.wy_live.proofs.sets.merged.Goals as goal
 
