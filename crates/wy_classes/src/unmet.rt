@@ -3,7 +3,6 @@
 //! A formula that is judged yes stays so, and one that has two undecided members, as an `or` does in a search, is refuted by
 //! no single literal. One with an undecided member is refuted by no literal of another atom.
 ghost use Rattle.std.specs.Prelude.{◌≡◌, ◌<◌, true, false, Some, map, length, slice_get, IfOk, IfSome};
-ghost use Rattle.wy_judging.specs.Judged.{fails};
 ghost use Rattle.wy_judging.specs.Seen.{AreBelow, IsBranch, seen_branch, seen_formula};
 ghost use Rattle.wy_classes.specs.Unmet.{meets, HasOpen, HasTwoOpen, IsPlain, IsSafe, IsSafeBut, StaysOpen};
 ghost use Rattle.wy_classes.specs.Reached.{AreEnough, AreHinted, AreSpared, AreWithin, IsParted, seen_unmet};
@@ -13,8 +12,7 @@ ghost use Rattle.wy_term.specs.Nodes.{parts_at, tree_at};
 ghost use Rattle.wy_term.specs.Same.{same_term};
 ghost use Rattle.wy_valid.specs.Literals.{any_no};
 
-use wy_judge::Verdict;
-use wy_judging::{Branch, has_literal, judge, nothing_known, pending_at};
+use wy_judging::{Branch, fails, has_literal, judge, nothing_known, pending_at};
 use wy_term::{NoMemory, Node, Terms};
 
 /// A pending formula, or its denial, and an undecided atom if it is known that no literal of another one refutes it.
@@ -199,17 +197,6 @@ pub fn unmet(terms: &Terms, branch: &Branch) -> Result<Vec<Reached>, NoMemory>
         left.push(Reached { formula, holds, by })?;
     }
     Ok(left)
-}
-
-// Whether a formula with this verdict, or its denial, is judged no.
-fn fails(verdict: Verdict, holds: bool) -> bool
-    ensures { result ≡ fails verdict holds }
-{
-    match verdict {
-        Verdict::Yes => !holds,
-        Verdict::No => holds,
-        Verdict::Open => false,
-    }
 }
 
 // The formula with a place in the list.

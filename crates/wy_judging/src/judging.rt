@@ -224,8 +224,8 @@ pub fn judge(terms: &Terms, branch: &Branch, known: &mut Known, f: u32) -> Resul
 
 // ---- pending formulas
 
-// Whether a formula fails, or its denial does.
-fn fails(verdict: Verdict, holds: bool) -> bool
+/// Whether a formula with this verdict fails, or its denial does where that is meant.
+pub fn fails(verdict: Verdict, holds: bool) -> bool
     ensures { result ≡ fails verdict holds }
 {
     match verdict {

@@ -32,7 +32,7 @@ pub use branch::{
     Branch, add_literal, add_pending, back_to, bare, has_literal, literal_at, nth_literal,
 };
 pub use cut::cut_stated;
-pub use judging::{is_refuted, judge, nothing_known, pending_at};
+pub use judging::{fails, is_refuted, judge, nothing_known, pending_at};
 pub use refuting::is_refuting;
 pub use shut::is_shut;
 pub use summed::{form_at, form_of_sum};
