@@ -12,6 +12,7 @@ ghost use Rattle.wy_term.specs.Nodes.{parts_at, tree_at};
 ghost use Rattle.wy_term.specs.Same.{same_term};
 ghost use Rattle.wy_valid.specs.Literals.{any_no};
 
+use wy_judge::Verdict;
 use wy_judging::{Branch, fails, has_literal, judge, nothing_known, pending_at};
 use wy_term::{NoMemory, Node, Terms};
 
