@@ -285,11 +285,11 @@ module _ (body : List Instr) (c : Context) (n : ℕ) (U : ℕ → Type 0) (low :
         ready_less body c n t f m at (Vars (with s y)) (λ r. Alone s r ⊎ (r ≡ y)) (λ r v. either (λ z. inr z) (λ z. inl (inl z)) (with_cases s y r v)) (by b e h)
       where
         moved_apart : has (without S x) y ≡ false → (r : ℕ) → Vars (without S x) r → IsNone r (x ∷ y ∷ [])
-        moved_apart no r v = ((without_cases S x r v).0, ((λ same. not_both (has (without S x) y) (subst (λ (z : ℕ). Vars (without S x) z) same v) no), tt))
+        moved_apart is r v = ((without_cases S x r v).0, ((λ same. not_both (has (without S x) y) (subst (λ (z : ℕ). Vars (without S x) z) same v) is), tt))
 
         by : (b : Bool) → has (without S x) y ≡ b → Spans body at (Does (cond b (instr.Share x y) (instr.Move x y)) ∷ []) next → Comes m at (λ r. Alone (without S x) r ⊎ (r ≡ y))
-        by true yes sp = last_ready m at next x S (instr.Share x y) (λ r. r ≡ y) has_x sp (apart S x) (inl refl) (λ r z. inl z) (λ r z g. subst (λ (q : ℕ). Vars (without S x) q) (sym z) yes) (λ r P g. g.0) (λ k P z. z) exit
-        by false no sp = last_ready m at next x S (instr.Move x y) (λ r. r ≡ y) has_x sp (moved_apart no) (inl refl) (λ r z. inl z) (λ r z g. absurd (g.1.0 z)) (λ r P g. g.0) (λ k P z. z) exit
+        by true is sp = last_ready m at next x S (instr.Share x y) (λ r. r ≡ y) has_x sp (apart S x) (inl refl) (λ r z. inl z) (λ r z g. subst (λ (q : ℕ). Vars (without S x) q) (sym z) is) (λ r P g. g.0) (λ k P z. z) exit
+        by false is sp = last_ready m at next x S (instr.Move x y) (λ r. r ≡ y) has_x sp (moved_apart is) (inl refl) (λ r z. inl z) (λ r z g. absurd (g.1.0 z)) (λ r P g. g.0) (λ k P z. z) exit
 
     -- the list or record of which a part is taken is live behind
     still_there : (w : Option ℕ) (a : Expr ℕ) (s : Variables) (r : ℕ) → is_some w ≡ true → IsLiveIn w s → Stands body c n t f w a n r → Vars s r
