@@ -1,5 +1,5 @@
 -- The code of a value that comes straight into a register: it is that of the expression, but for the register that its last instruction names.
-use Rattle.std.proofs.Common.{◌≡◌, ◌∙◌, ◌+◌, ℕ, suc, Bool, List, [], ◌∷◌, ◌++◌, length, refl, ap, sym, length-append, arith}
+use Rattle.std.proofs.Common.{◌≡◌, ◌∙◌, ◌+◌, ℕ, suc, Bool, List, [], ◌∷◌, ◌++◌, length, refl, ap, sym, length-append}
 use Rattle.wy_core.specs.CoreTree.{Expr, NullExpr, BoolExpr, IntExpr, VarExpr, CallExpr, NegExpr, NotExpr, LenExpr, BinaryExpr, IsExpr, IndexExpr, FieldExpr, ListExpr, RepeatExpr, RecordExpr, QuantExpr}
 use Rattle.wy_core.specs.declared.expressions.Op.{Op}
 use Rattle.wy_core.specs.declared.expressions.Op.TheVariants as op
@@ -38,7 +38,7 @@ code_is_into c (QuantExpr at all x a b body) s d = refl
 -- ---- it has as many steps, whatever its register
 
 same_end : (xs ys zs : List Step) → length ys ≡ length zs → length (xs ++ ys) ≡ length (xs ++ zs)
-same_end xs ys zs h = length-append xs ys ∙ ap (λ n. length xs + n) h ∙ sym (length-append xs zs)
+same_end xs ys zs h = length-append xs ys ∙ ap (λ (n : ℕ). length xs + n) h ∙ sym (length-append xs zs)
 
 where_length : (r q : ℕ) (first : List Step) → length (where_true r first) ≡ length (where_true q first)
 where_length r q [] = refl
@@ -59,7 +59,7 @@ operate_length op.Less t d l r right skipped plain = same_end right (operator op
 operate_length op.LessEqual t d l r right skipped plain = same_end right (operator op.LessEqual t l r plain) (operator op.LessEqual d l r plain) refl
 operate_length op.Greater t d l r right skipped plain = same_end right (operator op.Greater t l r plain) (operator op.Greater d l r plain) refl
 operate_length op.GreaterEqual t d l r right skipped plain = same_end right (operator op.GreaterEqual t l r plain) (operator op.GreaterEqual d l r plain) refl
-operate_length op.And t d l r right skipped plain = omega (arith, fork_length t d right [], length-append (fork t right []) skipped, length-append (fork d right []) skipped)
+operate_length op.And t d l r right skipped plain = length-append (fork t right []) skipped ∙ ap (λ (n : ℕ). n + length skipped) (fork_length t d right []) ∙ sym (length-append (fork d right []) skipped)
 operate_length op.Or t d l r right skipped plain = fork_length t d skipped right
 
 pub into_length : (c : Context) (e : Expr ℕ) (s : Variables) (d t : ℕ) → length (into c e s d t) ≡ length (code c e s d)

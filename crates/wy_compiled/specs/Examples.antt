@@ -95,10 +95,10 @@ pub record ProgramsHave : Type 0 where
   pub a_loop : code_text (code_of counting) ≡
       codes "routine 0\n  Const r1 0\n  Len r3 r0\n  Compare r2 < r1 r3\n  Branch r2 9\n  Share r3 r1\n  Put r0 [[r1]] r3\n  Const r3 1\n  Arith r1 + r1 r3\n  Jump 1\n  Clear [r0]\n  Move r2 r1\n  Return r2\n  Const r2 null\n  Return r2\n"
   -- a part of an array that is live behind comes straight into its variable; where the array is read for the last time it is moved, and the part takes its place
-  a_part : code_text (code_of places) ≡
+  pub a_part : code_text (code_of places) ≡
       codes "routine 0\n  Const r3 0\n  Get r1 r0 r3\n  Move r2 r0\n  Get r2 r2 r1\n  Move r1 r2\n  Move r2 r1\n  Return r2\n  Const r2 null\n  Return r2\n"
   -- a variable that isn't live behind gets no value: what was evaluated is released where it may be a list or a record
-  a_copy : code_text (code_of copies) ≡
+  pub a_copy : code_text (code_of copies) ≡
       codes "routine 0\n  Const r3 0\n  Arith r2 - r3 r0\n  Move r0 r0\n  Move r2 r0\n  Clear [r2]\n  Const r2 0\n  Return r2\n  Const r2 null\n  Return r2\n"
   -- the array is read for its length while it is live; it is moved where the right side is evaluated, and released behind it, where it may have been left out
   pub a_choice : code_text (code_of first_is_positive) ≡
