@@ -1,5 +1,5 @@
 -- Expressions whose last instruction alone fills the register of their value: it may be that of the operation, or that of a variable that isn't live behind.
-use Rattle.std.proofs.Common.{◌≡◌, ◌≢◌, ◌<◌, ◌≤◌, ℕ, suc, ◌+◌, List, [], ◌∷◌, ◌++◌, length, Bool, true, Some, ℤ, refl, arith}
+use Rattle.std.proofs.Common.{◌≡◌, ◌<◌, ◌≤◌, ℕ, suc, ◌+◌, List, [], ◌∷◌, ◌++◌, length, Bool, true, Some, ℤ, refl, arith}
 use Rattle.std.specs.Prelude.{slice_get}
 use Rattle.wy_value.specs.Datum.{Datum, Null, Truth, Whole}
 use Rattle.wy_core.specs.CoreTree.{Expr, NullExpr, BoolExpr, IntExpr, VarExpr, NegExpr, NotExpr, LenExpr, BinaryExpr, IndexExpr, FieldExpr}
@@ -29,7 +29,7 @@ use Rattle.wy_sem.specs.Operations.{needed, denied, length_result, item_of, fiel
 use Rattle.wy_sem.specs.Expressions.{Store, slot, put, Setting, eval}
 use Rattle.wy_step.specs.Step.{Caller, GoesOn as goes_on, effect, instr_at}
 use Rattle.wy_simulation.specs.Places.{StandAt, IsRoutine}
-use Rattle.wy_simulation.specs.Follows.{Follows, at_place, Comes}
+use Rattle.wy_simulation.specs.Follows.{at_place, Comes}
 use Rattle.wy_simulation.specs.Registers.{Live, Got}
 use Rattle.wy_simulation.proofs.StoreLemmas.{live_fewer}
 use Rattle.wy_simulation.proofs.FollowLemmas.{follows_at, follows_needed}
