@@ -21,6 +21,7 @@ use Rattle.wy_formed.specs.Literals.{IsInt, IntsExpr, IntsExprs, IntsFields}
 use Rattle.wy_compiled.specs.TypeTests as test
 use Rattle.wy_compiled.specs.Operands.{variable_in, read, first_read, second_read, standing, unless_read, plain_or_read}
 use Rattle.wy_compiled.specs.Expressions as spec
+use Rattle.wy_compiled.specs.Straight.{into}
 use Rattle.wy_code_ints.specs.Loadable.{PutsInt}
 
 -- the two numbers that code has of its own
@@ -208,3 +209,28 @@ mutual
   field_codes_ints : (c : Context) (fs : Fields ℕ) (s : Variables) (d : ℕ) → IntsFields fs → AllPut (spec.field_codes c fs s d)
   field_codes_ints c NoFields s d h = tt
   field_codes_ints c (MoreFields name e fs) s d h = ints_append (spec.code c e (before_fields fs s) d) _ (code_ints c e (before_fields fs s) d h.0) (field_codes_ints c fs s (suc d) h.1)
+
+-- where the value comes straight into a register
+pub into_ints : (c : Context) (e : Expr ℕ) (s : Variables) (d t : ℕ) → IntsExpr e → AllPut (into c e s d t)
+into_ints c (NullExpr at) s d t h = (tt, tt)
+into_ints c (BoolExpr at truth) s d t h = (tt, tt)
+into_ints c (IntExpr at number) s d t h = (h, tt)
+into_ints c (VarExpr at x) s d t h = use_ints (has s x) t x
+into_ints c (CallExpr at f args) s d t h = code_ints c (CallExpr at f args) s d h
+into_ints c (NegExpr at a) s d t h = ints_append (unless_read (variable_in a) (spec.code c a s d)) _ (operand_ints (variable_in a) (spec.code c a s d) (code_ints c a s d h)) (zero-int, (tt, tt))
+into_ints c (NotExpr at a) s d t h = ints_append (unless_read (variable_in a) (spec.code c a s d)) _ (operand_ints (variable_in a) (spec.code c a s d) (code_ints c a s d h)) (tt, tt)
+into_ints c (LenExpr at a) s d t h = ints_append (unless_read (read a s) (spec.code c a s d)) _ (operand_ints (read a s) (spec.code c a s d) (code_ints c a s d h)) (tt, tt)
+into_ints c (BinaryExpr at o x y) s d t h =
+    let one = first_read o x y s in let two = second_read o y s in let right = spec.code c y s (spec.right_register o d) in
+    ints_append (unless_read one (spec.code c x (before y s) d)) _ (operand_ints one (spec.code c x (before y s) d) (code_ints c x (before y s) d h.0))
+    (operate_ints o t (standing one d) (standing two (spec.right_register o d)) (unless_read two right) (spec.released (before y s) s) (plain_or_read two (spec.is_plain y))
+    (operand_ints two right (code_ints c y s (spec.right_register o d) h.1)) (released_ints (before y s) s))
+into_ints c (IsExpr at a ty) s d t h = code_ints c (IsExpr at a ty) s d h
+into_ints c (IndexExpr at x y) s d t h =
+    ints_append (unless_read (read x s) (spec.code c x (before y s) d)) _ (operand_ints (read x s) (spec.code c x (before y s) d) (code_ints c x (before y s) d h.0))
+    (ints_append (unless_read (variable_in y) (spec.code c y s (suc d))) _ (operand_ints (variable_in y) (spec.code c y s (suc d)) (code_ints c y s (suc d) h.1)) (tt, tt))
+into_ints c (FieldExpr at a name) s d t h = ints_append (unless_read (read a s) (spec.code c a s d)) _ (operand_ints (read a s) (spec.code c a s d) (code_ints c a s d h)) (tt, tt)
+into_ints c (ListExpr at items) s d t h = code_ints c (ListExpr at items) s d h
+into_ints c (RepeatExpr at x y) s d t h = code_ints c (RepeatExpr at x y) s d h
+into_ints c (RecordExpr at fs) s d t h = code_ints c (RecordExpr at fs) s d h
+into_ints c (QuantExpr at all x from to body) s d t h = code_ints c (QuantExpr at all x from to body) s d h

@@ -1,5 +1,5 @@
 -- Each number that the code of a program puts into a register is an `int`.
-use Rattle.std.proofs.Common.{◌+◌, ℕ, zero, suc, max, List, [], ◌∷◌, ◌++◌, length, Bool, true, false, cond, Option, Some, None}
+use Rattle.std.proofs.Common.{◌+◌, ℕ, zero, suc, max, List, [], ◌∷◌, ◌++◌, length, Bool, true, false, ◌&&◌, cond, Option, Some, None}
 use Rattle.std.specs.List.{All}
 use Rattle.std.proofs.lemmas.List.Elements.{All-nil, All-cons, All-append}
 use Rattle.wy_core.specs.CoreTree as tree
@@ -20,10 +20,11 @@ use Rattle.wy_formed.specs.Literals.{IntsExpr, IntsClauses, IntsOption, IntsPath
 use Rattle.wy_compiled.specs.TypeTests as types
 use Rattle.wy_compiled.specs.Operands.{read, unless_read}
 use Rattle.wy_compiled.specs.Expressions.{released, release_unless, is_plain, count_of, code, codes}
+use Rattle.wy_compiled.specs.Straight.{is_straight, into}
 use Rattle.wy_compiled.specs.Statements as spec
 use Rattle.wy_compiled.specs.Programs as programs
 use Rattle.wy_code_ints.specs.Loadable.{PutsInt, PutsInts}
-use Rattle.wy_code_ints.proofs.IntLemmas.{AllPut, ints_append, clear_ints, dropped_ints, fork_ints, turns_ints, released_ints, unless_ints, operand_ints, test_ints, code_ints, codes_ints}
+use Rattle.wy_code_ints.proofs.IntLemmas.{AllPut, ints_append, clear_ints, dropped_ints, fork_ints, turns_ints, released_ints, unless_ints, operand_ints, test_ints, code_ints, codes_ints, into_ints}
 
 -- ---- statements
 
@@ -35,7 +36,11 @@ store_ints x s r plain = both (has s x)
     both false = unless_ints plain r
 
 set_ints : (c : Context) (x : ℕ) (e : Expr ℕ) (s : Variables) (n : ℕ) → IntsExpr e → AllPut (spec.set c x e s n)
-set_ints c x e s n h = ints_append (code c e (without s x) n) (spec.store x s n (is_plain e)) (code_ints c e (without s x) n h) (store_ints x s n (is_plain e))
+set_ints c x e s n h = both (has s x && is_straight e (without s x))
+  where
+    both : (k : Bool) → AllPut (cond k (into c e (without s x) n x) (code c e (without s x) n ++ spec.store x s n (is_plain e)))
+    both true = into_ints c e (without s x) n x h
+    both false = ints_append (code c e (without s x) n) (spec.store x s n (is_plain e)) (code_ints c e (without s x) n h) (store_ints x s n (is_plain e))
 
 declare_ints : (c : Context) (x : ℕ) (value : Option (Expr ℕ)) (s : Variables) (n : ℕ) → IntsOption value → AllPut (spec.declare c x value s n)
 declare_ints c x None s n h = tt

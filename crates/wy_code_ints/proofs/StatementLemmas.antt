@@ -1,5 +1,5 @@
 -- A statement has few steps for each of its ticks.
-use Rattle.std.proofs.Common.{◌≤◌, ◌+◌, ◌*◌, ℕ, suc, Bool, true, false, List, [], ◌∷◌, ◌++◌, length, Option, Some, None, arith, length-append}
+use Rattle.std.proofs.Common.{◌≤◌, ◌+◌, ◌*◌, ℕ, suc, Bool, true, false, ◌&&◌, List, [], ◌∷◌, ◌++◌, length, Option, Some, None, arith, length-append}
 use Rattle.wy_core.specs.CoreTree as tree
 use Rattle.wy_core.specs.CoreTree.{Expr, Exprs, IndexStep, FieldStep, Stmt, DeclareStmt, AssignStmt, CallStmt, ReturnStmt, AssertStmt, BreakStmt, ContinueStmt, SkipStmt, FailStmt, IfStmt, WhileStmt, Stmts, NoStmts, MoreStmts}
 use Rattle.wy_live.specs.Sets.{Variables, has, with, without}
@@ -15,7 +15,9 @@ use Rattle.wy_pieces.specs.declared.steps.Step.TheVariants.{Does}
 use Rattle.wy_pieces.specs.Steps.{clear, turns}
 use Rattle.wy_compiled.specs.Operands.{read, unless_read}
 use Rattle.wy_compiled.specs.Expressions.{released, is_plain, release_unless, count_of, code, codes}
+use Rattle.wy_compiled.specs.Straight.{is_straight, into}
 use Rattle.wy_compiled.specs.Statements.{store, set, declare, slots, index_count, indices, kept, update, assign, release_where, call_step, call, give, choice, branches, inside, turn, stmt_code, stmts_code}
+use Rattle.wy_compiled.proofs.StraightLemmas.{into_length}
 use Rattle.wy_code_ints.specs.Ticks.{ticks, all_ticks, option_ticks, path_ticks, stmt_ticks, stmts_ticks}
 use Rattle.wy_code_ints.proofs.PieceLemmas.{clear_small, cond_small, fork_small, turns_small}
 use Rattle.wy_code_ints.proofs.ExpressionLemmas.{released_small, release_small, operand_small, expr_small, codes_small}
@@ -25,8 +27,9 @@ store_small x s r plain = cond_small (has s x) (Does (instr.Move x r) ∷ []) (r
 
 set_small : (c : Context) (x : ℕ) (e : Expr ℕ) (s : Variables) (n : ℕ) → length (set c x e s n) ≤ 16 * suc (ticks e)
 set_small c x e s n =
+    let straight = into c e (without s x) n x in let stored = code c e (without s x) n ++ store x s n (is_plain e) in
     let h : length (code c e (without s x) n) + 2 ≤ 16 * ticks e = expr_small c e (without s x) n in let k : length (store x s n (is_plain e)) ≤ 1 = store_small x s n (is_plain e) in
-    omega (arith, length-append (code c e (without s x) n) (store x s n (is_plain e)))
+    cond_small (has s x && is_straight e (without s x)) straight stored (16 * suc (ticks e)) (omega (arith, into_length c e (without s x) n x)) (omega (arith, length-append (code c e (without s x) n) (store x s n (is_plain e))))
 
 declare_small : (c : Context) (x : ℕ) (value : Option (Expr ℕ)) (s : Variables) (n : ℕ) → length (declare c x value s n) ≤ 16 * suc (option_ticks value)
 declare_small c x None s n = omega arith

@@ -19,6 +19,7 @@ use Rattle.wy_tables.specs.Tables.{target}
 use Rattle.wy_compiled.specs.TypeTests as test
 use Rattle.wy_compiled.specs.Operands.{variable_in, read, first_read, second_read, standing, unless_read, plain_or_read}
 use Rattle.wy_compiled.specs.Expressions as spec
+use Rattle.wy_compiled.specs.Straight.{into}
 use Rattle.wy_formed.specs.Offers.{Offers}
 use Rattle.wy_formed.specs.Bound.{Scope, BoundTy, BoundFieldTys, BoundExpr, BoundExprs, BoundFields}
 use Rattle.wy_compiled.specs.Ranges.{routines_in}
@@ -217,3 +218,29 @@ mutual
   field_codes_calls : (c : Context) (o : Offers) (n : ℕ) (vs : Scope) (fs : Fields ℕ) (s : Variables) (d : ℕ) → BoundFields o n vs fs → AllCall (length c.results + o.types) (spec.field_codes c fs s d)
   field_codes_calls c o n vs NoFields s d h = tt
   field_codes_calls c o n vs (MoreFields name e fs) s d h = calls_append (length c.results + o.types) (spec.code c e (before_fields fs s) d) _ (code_calls c o n vs e (before_fields fs s) d h.0) (field_codes_calls c o n vs fs s (suc d) h.1)
+
+-- where the value comes straight into a register
+pub into_calls : (c : Context) (o : Offers) (n : ℕ) (vs : Scope) (e : Expr ℕ) (s : Variables) (d t : ℕ) → BoundExpr o n vs e → AllCall (length c.results + o.types) (into c e s d t)
+into_calls c o n vs (NullExpr at) s d t h = (tt, tt)
+into_calls c o n vs (BoolExpr at truth) s d t h = (tt, tt)
+into_calls c o n vs (IntExpr at number) s d t h = (tt, tt)
+into_calls c o n vs (VarExpr at x) s d t h = use_calls (length c.results + o.types) (has s x) t x
+into_calls c o n vs (CallExpr at f args) s d t h = code_calls c o n vs (CallExpr at f args) s d h
+into_calls c o n vs (NegExpr at a) s d t h = calls_append (length c.results + o.types) (unless_read (variable_in a) (spec.code c a s d)) _ (operand_calls (length c.results + o.types) (variable_in a) (spec.code c a s d) (code_calls c o n vs a s d h)) (tt, (tt, tt))
+into_calls c o n vs (NotExpr at a) s d t h = calls_append (length c.results + o.types) (unless_read (variable_in a) (spec.code c a s d)) _ (operand_calls (length c.results + o.types) (variable_in a) (spec.code c a s d) (code_calls c o n vs a s d h)) (tt, tt)
+into_calls c o n vs (LenExpr at a) s d t h = calls_append (length c.results + o.types) (unless_read (read a s) (spec.code c a s d)) _ (operand_calls (length c.results + o.types) (read a s) (spec.code c a s d) (code_calls c o n vs a s d h)) (tt, tt)
+into_calls c o n vs (BinaryExpr at w x y) s d t h =
+    let all = length c.results + o.types in let one = first_read w x y s in let two = second_read w y s in let right = spec.code c y s (spec.right_register w d) in
+    calls_append all (unless_read one (spec.code c x (before y s) d)) _ (operand_calls all one (spec.code c x (before y s) d) (code_calls c o n vs x (before y s) d h.0))
+    (operate_calls all w t (standing one d) (standing two (spec.right_register w d)) (unless_read two right) (spec.released (before y s) s) (plain_or_read two (spec.is_plain y))
+    (operand_calls all two right (code_calls c o n vs y s (spec.right_register w d) h.1)) (released_calls all (before y s) s))
+into_calls c o n vs (IsExpr at a ty) s d t h = code_calls c o n vs (IsExpr at a ty) s d h
+into_calls c o n vs (IndexExpr at x y) s d t h =
+    let all = length c.results + o.types in
+    calls_append all (unless_read (read x s) (spec.code c x (before y s) d)) _ (operand_calls all (read x s) (spec.code c x (before y s) d) (code_calls c o n vs x (before y s) d h.0))
+    (calls_append all (unless_read (variable_in y) (spec.code c y s (suc d))) _ (operand_calls all (variable_in y) (spec.code c y s (suc d)) (code_calls c o n vs y s (suc d) h.1)) (tt, tt))
+into_calls c o n vs (FieldExpr at a name) s d t h = calls_append (length c.results + o.types) (unless_read (read a s) (spec.code c a s d)) _ (operand_calls (length c.results + o.types) (read a s) (spec.code c a s d) (code_calls c o n vs a s d h)) (tt, tt)
+into_calls c o n vs (ListExpr at items) s d t h = code_calls c o n vs (ListExpr at items) s d h
+into_calls c o n vs (RepeatExpr at x y) s d t h = code_calls c o n vs (RepeatExpr at x y) s d h
+into_calls c o n vs (RecordExpr at fs) s d t h = code_calls c o n vs (RecordExpr at fs) s d h
+into_calls c o n vs (QuantExpr at all x from to body) s d t h = code_calls c o n vs (QuantExpr at all x from to body) s d h

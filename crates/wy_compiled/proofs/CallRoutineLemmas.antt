@@ -1,5 +1,5 @@
 -- Each call in a program is one of a routine of it.
-use Rattle.std.proofs.Common.{◌≡◌, ◌<◌, ◌+◌, ◌-◌, ℕ, zero, suc, max, List, [], ◌∷◌, ◌++◌, length, Bool, true, false, cond, Option, Some, None, refl, ap, subst, length-append, arith}
+use Rattle.std.proofs.Common.{◌≡◌, ◌<◌, ◌+◌, ◌-◌, ℕ, zero, suc, max, List, [], ◌∷◌, ◌++◌, length, Bool, true, false, ◌&&◌, cond, Option, Some, None, refl, ap, subst, length-append, arith}
 use Rattle.std.specs.List.{All}
 use Rattle.std.proofs.lemmas.List.Elements.{All-nil, All-cons, All-append}
 use Rattle.wy_core.specs.CoreTree as tree
@@ -21,10 +21,11 @@ use Rattle.wy_compiled.specs.Operands.{read, unless_read}
 use Rattle.wy_compiled.specs.Expressions.{released, release_unless, is_plain, count_of, code, codes}
 use Rattle.wy_formed.specs.Offers.{Offers, offers_of}
 use Rattle.wy_formed.specs.Bound.{Scope, Around, looped, behind, Bound, BoundExpr, BoundOption, BoundPath, BoundStmt, BoundStmts, BoundClauses, BoundAlias, BoundRoutine, BoundDecls}
+use Rattle.wy_compiled.specs.Straight.{is_straight, into}
 use Rattle.wy_compiled.specs.Statements as spec
 use Rattle.wy_compiled.specs.Programs as programs
 use Rattle.wy_compiled.specs.Ranges.{routines_in, CallsBelow}
-use Rattle.wy_compiled.proofs.CallLemmas.{Below, AllCall, calls_append, clear_calls, dropped_calls, fork_calls, turns_calls, released_calls, unless_calls, operand_calls, test_calls, code_calls, codes_calls, called_within}
+use Rattle.wy_compiled.proofs.CallLemmas.{Below, AllCall, calls_append, clear_calls, dropped_calls, fork_calls, turns_calls, released_calls, unless_calls, operand_calls, test_calls, code_calls, codes_calls, into_calls, called_within}
 
 -- ---- statements
 
@@ -36,7 +37,11 @@ store_calls t x s r plain = both (has s x)
     both false = unless_calls t plain r
 
 set_calls : (c : Context) (o : Offers) (m : ℕ) (vs : Scope) (x : ℕ) (e : Expr ℕ) (s : Variables) (n : ℕ) → BoundExpr o m vs e → AllCall (length c.results + o.types) (spec.set c x e s n)
-set_calls c o m vs x e s n h = calls_append (length c.results + o.types) (code c e (without s x) n) (spec.store x s n (is_plain e)) (code_calls c o m vs e (without s x) n h) (store_calls (length c.results + o.types) x s n (is_plain e))
+set_calls c o m vs x e s n h = both (has s x && is_straight e (without s x))
+  where
+    both : (k : Bool) → AllCall (length c.results + o.types) (cond k (into c e (without s x) n x) (code c e (without s x) n ++ spec.store x s n (is_plain e)))
+    both true = into_calls c o m vs e (without s x) n x h
+    both false = calls_append (length c.results + o.types) (code c e (without s x) n) (spec.store x s n (is_plain e)) (code_calls c o m vs e (without s x) n h) (store_calls (length c.results + o.types) x s n (is_plain e))
 
 declare_calls : (c : Context) (o : Offers) (m : ℕ) (vs : Scope) (x : ℕ) (value : Option (Expr ℕ)) (s : Variables) (n : ℕ) → BoundOption o m vs value → AllCall (length c.results + o.types) (spec.declare c x value s n)
 declare_calls c o m vs x None s n h = tt

@@ -8,6 +8,8 @@ unfolding digits
 programs_have = record {
   absolute = refl;
   a_loop = refl;
+  a_part = refl;
+  a_copy = refl;
   a_choice = refl;
   a_difference = refl;
   an_equality = refl;

@@ -19,6 +19,7 @@ use Rattle.wy_tables.specs.Tables.{target}
 use Rattle.wy_compiled.specs.TypeTests as test
 use Rattle.wy_compiled.specs.Operands.{variable_in, read, first_read, second_read, standing, unless_read, plain_or_read}
 use Rattle.wy_compiled.specs.Expressions as spec
+use Rattle.wy_compiled.specs.Straight.{into}
 use Rattle.wy_compiled.proofs.WithinLemmas.{Within, within_append, clear_within, dropped_within, fork_inside, turns_within}
 
 -- ---- tests of types
@@ -170,3 +171,28 @@ mutual
   fields_codes_within : (c : Context) (fs : Fields ℕ) (s : Variables) (d b : ℕ) → Within b (spec.field_codes c fs s d)
   fields_codes_within c NoFields s d b = tt
   fields_codes_within c (MoreFields name e fs) s d b = within_append b (spec.code c e (before_fields fs s) d) _ (code_within c e (before_fields fs s) d _) (fields_codes_within c fs s (suc d) b)
+
+-- where the value comes straight into a register
+pub into_within : (c : Context) (e : Expr ℕ) (s : Variables) (d t b : ℕ) → Within b (into c e s d t)
+into_within c (NullExpr at) s d t b = (refl, tt)
+into_within c (BoolExpr at truth) s d t b = (refl, tt)
+into_within c (IntExpr at number) s d t b = (refl, tt)
+into_within c (VarExpr at x) s d t b = use_within (has s x) t x b
+into_within c (CallExpr at f args) s d t b = code_within c (CallExpr at f args) s d b
+into_within c (NegExpr at a) s d t b = within_append b (unless_read (variable_in a) (spec.code c a s d)) _ (operand_within _ (variable_in a) (spec.code c a s d) (code_within c a s d _)) (refl, (refl, tt))
+into_within c (NotExpr at a) s d t b = within_append b (unless_read (variable_in a) (spec.code c a s d)) _ (operand_within _ (variable_in a) (spec.code c a s d) (code_within c a s d _)) (refl, tt)
+into_within c (LenExpr at a) s d t b = within_append b (unless_read (read a s) (spec.code c a s d)) _ (operand_within _ (read a s) (spec.code c a s d) (code_within c a s d _)) (refl, tt)
+into_within c (BinaryExpr at o x y) s d t b =
+    let one = first_read o x y s in let two = second_read o y s in let right = spec.code c y s (spec.right_register o d) in
+    within_append b (unless_read one (spec.code c x (before y s) d)) _ (operand_within _ one (spec.code c x (before y s) d) (code_within c x (before y s) d _))
+    (operate_within o t (standing one d) (standing two (spec.right_register o d)) (unless_read two right) (spec.released (before y s) s) (plain_or_read two (spec.is_plain y)) b
+    (λ n. operand_within n two right (code_within c y s (spec.right_register o d) n)) (λ n. released_within n (before y s) s))
+into_within c (IsExpr at a ty) s d t b = code_within c (IsExpr at a ty) s d b
+into_within c (IndexExpr at x y) s d t b =
+    within_append b (unless_read (read x s) (spec.code c x (before y s) d)) _ (operand_within _ (read x s) (spec.code c x (before y s) d) (code_within c x (before y s) d _))
+    (within_append b (unless_read (variable_in y) (spec.code c y s (suc d))) _ (operand_within _ (variable_in y) (spec.code c y s (suc d)) (code_within c y s (suc d) _)) (refl, tt))
+into_within c (FieldExpr at a name) s d t b = within_append b (unless_read (read a s) (spec.code c a s d)) _ (operand_within _ (read a s) (spec.code c a s d) (code_within c a s d _)) (refl, tt)
+into_within c (ListExpr at items) s d t b = code_within c (ListExpr at items) s d b
+into_within c (RepeatExpr at x y) s d t b = code_within c (RepeatExpr at x y) s d b
+into_within c (RecordExpr at fs) s d t b = code_within c (RecordExpr at fs) s d b
+into_within c (QuantExpr at all x from to body) s d t b = code_within c (QuantExpr at all x from to body) s d b

@@ -1,4 +1,6 @@
 pub mod ExamplesHold
+-- values that come straight into the register of a variable
+pub mod StraightLemmas
 -- registers and jumps
 pub mod FrameLemmas
 pub mod WithinLemmas

@@ -21,6 +21,7 @@ use Rattle.wy_tables.specs.Tables.{target, ty_names_in}
 use Rattle.wy_compiled.specs.TypeTests as test
 use Rattle.wy_compiled.specs.Operands.{variable_in, read, first_read, second_read, standing, unless_read, plain_or_read}
 use Rattle.wy_compiled.specs.Expressions as spec
+use Rattle.wy_compiled.specs.Straight.{into}
 use Rattle.wy_compiled.specs.Ranges.{shapes_in, fields_in}
 use Rattle.wy_compiled.proofs.TableLemmas.{Listed, StandsTy, StandFieldTys, StandsExpr, StandExprs, StandFields, number_within}
 
@@ -210,3 +211,28 @@ mutual
   field_codes_names : (c : Context) (fs : Fields ℕ) (s : Variables) (d : ℕ) → StandFields c.table fs → AllName c.table (spec.field_codes c fs s d)
   field_codes_names c NoFields s d h = tt
   field_codes_names c (MoreFields name e fs) s d h = names_append c.table (spec.code c e (before_fields fs s) d) _ (code_names c e (before_fields fs s) d h.0) (field_codes_names c fs s (suc d) h.1)
+
+-- where the value comes straight into a register
+pub into_names : (c : Context) (e : Expr ℕ) (s : Variables) (d t : ℕ) → StandsExpr c.table e → AllName c.table (into c e s d t)
+into_names c (NullExpr at) s d t h = ((tt, tt), tt)
+into_names c (BoolExpr at truth) s d t h = ((tt, tt), tt)
+into_names c (IntExpr at number) s d t h = ((tt, tt), tt)
+into_names c (VarExpr at x) s d t h = use_names c.table (has s x) t x
+into_names c (CallExpr at f args) s d t h = code_names c (CallExpr at f args) s d h
+into_names c (NegExpr at a) s d t h = names_append c.table (unless_read (variable_in a) (spec.code c a s d)) _ (operand_names c.table (variable_in a) (spec.code c a s d) (code_names c a s d h)) ((tt, tt), ((tt, tt), tt))
+into_names c (NotExpr at a) s d t h = names_append c.table (unless_read (variable_in a) (spec.code c a s d)) _ (operand_names c.table (variable_in a) (spec.code c a s d) (code_names c a s d h)) ((tt, tt), tt)
+into_names c (LenExpr at a) s d t h = names_append c.table (unless_read (read a s) (spec.code c a s d)) _ (operand_names c.table (read a s) (spec.code c a s d) (code_names c a s d h)) ((tt, tt), tt)
+into_names c (BinaryExpr at o x y) s d t h =
+    let one = first_read o x y s in let two = second_read o y s in let right = spec.code c y s (spec.right_register o d) in
+    names_append c.table (unless_read one (spec.code c x (before y s) d)) _ (operand_names c.table one (spec.code c x (before y s) d) (code_names c x (before y s) d h.0))
+    (operate_names c.table o t (standing one d) (standing two (spec.right_register o d)) (unless_read two right) (spec.released (before y s) s) (plain_or_read two (spec.is_plain y))
+    (operand_names c.table two right (code_names c y s (spec.right_register o d) h.1)) (released_names c.table (before y s) s))
+into_names c (IsExpr at a ty) s d t h = code_names c (IsExpr at a ty) s d h
+into_names c (IndexExpr at x y) s d t h =
+    names_append c.table (unless_read (read x s) (spec.code c x (before y s) d)) _ (operand_names c.table (read x s) (spec.code c x (before y s) d) (code_names c x (before y s) d h.0))
+    (names_append c.table (unless_read (variable_in y) (spec.code c y s (suc d))) _ (operand_names c.table (variable_in y) (spec.code c y s (suc d)) (code_names c y s (suc d) h.1)) ((tt, tt), tt))
+into_names c (FieldExpr at a name) s d t h = names_append c.table (unless_read (read a s) (spec.code c a s d)) _ (operand_names c.table (read a s) (spec.code c a s d) (code_names c a s d h.0)) ((tt, (number_within name c.table.names h.1, tt)), tt)
+into_names c (ListExpr at items) s d t h = code_names c (ListExpr at items) s d h
+into_names c (RepeatExpr at x y) s d t h = code_names c (RepeatExpr at x y) s d h
+into_names c (RecordExpr at fs) s d t h = code_names c (RecordExpr at fs) s d h
+into_names c (QuantExpr at all x from to body) s d t h = code_names c (QuantExpr at all x from to body) s d h

@@ -1,5 +1,5 @@
 -- Each routine names shapes and names of fields that stand in the table of the program.
-use Rattle.std.proofs.Common.{◌<◌, ◌+◌, ℕ, zero, suc, max, List, [], ◌∷◌, ◌++◌, length, Bool, true, false, cond, Option, Some, None}
+use Rattle.std.proofs.Common.{◌<◌, ◌+◌, ℕ, zero, suc, max, List, [], ◌∷◌, ◌++◌, length, Bool, true, false, ◌&&◌, cond, Option, Some, None}
 use Rattle.std.specs.List.{All}
 use Rattle.std.proofs.lemmas.List.Elements.{All-nil, All-cons, All-append}
 use Rattle.wy_value.specs.declared.shapes.Shapes.{Shapes}
@@ -21,11 +21,12 @@ use Rattle.wy_tables.specs.Tables.{target, context_of}
 use Rattle.wy_compiled.specs.TypeTests as types
 use Rattle.wy_compiled.specs.Operands.{read, unless_read}
 use Rattle.wy_compiled.specs.Expressions.{released, release_unless, is_plain, count_of, code, codes}
+use Rattle.wy_compiled.specs.Straight.{is_straight, into}
 use Rattle.wy_compiled.specs.Statements as spec
 use Rattle.wy_compiled.specs.Programs as programs
 use Rattle.wy_compiled.specs.Ranges.{shapes_in, fields_in, slot_fields, IsNamed}
 use Rattle.wy_compiled.proofs.TableLemmas.{StandsTy, StandsExpr, StandExprs, StandsOption, StandsPath, StandsStmt, StandStmts, StandDecls, number_within, core_stands}
-use Rattle.wy_compiled.proofs.NamedLemmas.{Below, AllName, names_append, clear_names, dropped_names, fork_names, turns_names, released_names, unless_names, operand_names, test_names, code_names, codes_names}
+use Rattle.wy_compiled.proofs.NamedLemmas.{Below, AllName, names_append, clear_names, dropped_names, fork_names, turns_names, released_names, unless_names, operand_names, test_names, code_names, codes_names, into_names}
 
 -- ---- statements
 
@@ -37,7 +38,11 @@ store_names t x s r plain = both (has s x)
     both false = unless_names t plain r
 
 set_names : (c : Context) (x : ℕ) (e : Expr ℕ) (s : Variables) (n : ℕ) → StandsExpr c.table e → AllName c.table (spec.set c x e s n)
-set_names c x e s n h = names_append c.table (code c e (without s x) n) (spec.store x s n (is_plain e)) (code_names c e (without s x) n h) (store_names c.table x s n (is_plain e))
+set_names c x e s n h = both (has s x && is_straight e (without s x))
+  where
+    both : (k : Bool) → AllName c.table (cond k (into c e (without s x) n x) (code c e (without s x) n ++ spec.store x s n (is_plain e)))
+    both true = into_names c e (without s x) n x h
+    both false = names_append c.table (code c e (without s x) n) (spec.store x s n (is_plain e)) (code_names c e (without s x) n h) (store_names c.table x s n (is_plain e))
 
 declare_names : (c : Context) (x : ℕ) (value : Option (Expr ℕ)) (s : Variables) (n : ℕ) → StandsOption c.table value → AllName c.table (spec.declare c x value s n)
 declare_names c x None s n h = tt

@@ -1,5 +1,5 @@
 -- The jumps in the code of statements stay within it, the loop around and what stands behind.
-use Rattle.std.proofs.Common.{◌≤◌, ◌+◌, ℕ, suc, List, [], ◌∷◌, ◌++◌, length, Bool, true, false, cond, Option, Some, None, refl, arith}
+use Rattle.std.proofs.Common.{◌≤◌, ◌+◌, ℕ, suc, List, [], ◌∷◌, ◌++◌, length, Bool, true, false, ◌&&◌, cond, Option, Some, None, refl, arith}
 use Rattle.wy_core.specs.CoreTree.{Expr, Step, IndexStep, FieldStep, Stmt, DeclareStmt, AssignStmt, CallStmt, ReturnStmt, AssertStmt, BreakStmt, ContinueStmt, SkipStmt, FailStmt, IfStmt, WhileStmt, Stmts, NoStmts, MoreStmts}
 use Rattle.wy_live.specs.Sets.{Variables, has, with, without}
 use Rattle.wy_live.specs.Walks.{before, before_steps, live_all, head_live, around}
@@ -14,9 +14,10 @@ use Rattle.wy_tables.specs.declared.targets.Target.TheVariants.{Declared, Prints
 use Rattle.wy_tables.specs.Tables.{target}
 use Rattle.wy_compiled.specs.Operands.{read, unless_read}
 use Rattle.wy_compiled.specs.Expressions.{released, release_unless, is_plain, count_of, code, codes}
+use Rattle.wy_compiled.specs.Straight.{is_straight, into}
 use Rattle.wy_compiled.specs.Statements as spec
 use Rattle.wy_compiled.proofs.WithinLemmas.{Within, within_append, fork_within, turns_within}
-use Rattle.wy_compiled.proofs.JumpLemmas.{code_within, codes_within, released_within, unless_within, operand_within}
+use Rattle.wy_compiled.proofs.JumpLemmas.{code_within, codes_within, into_within, released_within, unless_within, operand_within}
 
 store_within : (x : ℕ) (s : Variables) (r : ℕ) (plain : Bool) (b : ℕ) → Within b (spec.store x s r plain)
 store_within x s r plain b = both (has s x)
@@ -26,7 +27,11 @@ store_within x s r plain b = both (has s x)
     both false = unless_within plain r b
 
 set_within : (c : Context) (x : ℕ) (e : Expr ℕ) (s : Variables) (n b : ℕ) → Within b (spec.set c x e s n)
-set_within c x e s n b = within_append b (code c e (without s x) n) (spec.store x s n (is_plain e)) (code_within c e (without s x) n _) (store_within x s n (is_plain e) b)
+set_within c x e s n b = both (has s x && is_straight e (without s x))
+  where
+    both : (h : Bool) → Within b (cond h (into c e (without s x) n x) (code c e (without s x) n ++ spec.store x s n (is_plain e)))
+    both true = into_within c e (without s x) n x b
+    both false = within_append b (code c e (without s x) n) (spec.store x s n (is_plain e)) (code_within c e (without s x) n _) (store_within x s n (is_plain e) b)
 
 declare_within : (c : Context) (x : ℕ) (value : Option (Expr ℕ)) (s : Variables) (n b : ℕ) → Within b (spec.declare c x value s n)
 declare_within c x None s n b = tt

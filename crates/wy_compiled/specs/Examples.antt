@@ -58,6 +58,21 @@ first_is_positive = function (codes "xs" ∷ []) (MoreStmts (ReturnStmt 0 (Some 
 abbrev pub doubled : Core ℕ
 doubled = function (codes "x" ∷ []) (MoreStmts (ReturnStmt 0 (Some (BinaryExpr 0 Sub (VarExpr 0 0) (NegExpr 0 (VarExpr 0 0))))) NoStmts)
 
+-- int n = xs[0]
+-- n = xs[n]
+-- return n
+abbrev pub places : Core ℕ
+places = function (codes "xs" ∷ codes "n" ∷ []) (MoreStmts (DeclareStmt 0 IntTy 1 (Some (IndexExpr 0 (VarExpr 0 0) (IntExpr 0 (pos 0)))))
+    (MoreStmts (AssignStmt 0 1 [] (IndexExpr 0 (VarExpr 0 0) (VarExpr 0 1))) (MoreStmts (ReturnStmt 0 (Some (VarExpr 0 1))) NoStmts)))
+
+-- int n = -x
+-- x = x
+-- n = x
+-- return 0
+abbrev pub copies : Core ℕ
+copies = function (codes "x" ∷ codes "n" ∷ []) (MoreStmts (DeclareStmt 0 IntTy 1 (Some (NegExpr 0 (VarExpr 0 0))))
+    (MoreStmts (AssignStmt 0 0 [] (VarExpr 0 0)) (MoreStmts (AssignStmt 0 1 [] (VarExpr 0 0)) (MoreStmts (ReturnStmt 0 (Some (IntExpr 0 (pos 0)))) NoStmts))))
+
 -- if x == x: return x
 -- return x == x
 abbrev pub itself : Core ℕ
@@ -76,9 +91,15 @@ pub record ProgramsHave : Type 0 where
   -- a number is compared and negated in the register of its variable, at a last use too
   pub absolute : code_text (code_of absolute_value) ≡
       codes "routine 0\n  Const r2 0\n  Compare r1 < r0 r2\n  Branch r1 6\n  Const r2 0\n  Arith r1 - r2 r0\n  Return r1\n  Move r1 r0\n  Return r1\n  Const r1 null\n  Return r1\n"
-  -- the counter and the array are read in their registers, as a place of the array too; the array is updated in place, and released behind the loop
+  -- the counter and the array are read in their registers, as a place of the array too; the array is updated in place, and released behind the loop; what the counter is set to comes straight into its register
   pub a_loop : code_text (code_of counting) ≡
-      codes "routine 0\n  Const r2 0\n  Move r1 r2\n  Len r3 r0\n  Compare r2 < r1 r3\n  Branch r2 11\n  Share r3 r1\n  Put r0 [[r1]] r3\n  Const r3 1\n  Arith r2 + r1 r3\n  Move r1 r2\n  Jump 2\n  Clear [r0]\n  Move r2 r1\n  Return r2\n  Const r2 null\n  Return r2\n"
+      codes "routine 0\n  Const r1 0\n  Len r3 r0\n  Compare r2 < r1 r3\n  Branch r2 9\n  Share r3 r1\n  Put r0 [[r1]] r3\n  Const r3 1\n  Arith r1 + r1 r3\n  Jump 1\n  Clear [r0]\n  Move r2 r1\n  Return r2\n  Const r2 null\n  Return r2\n"
+  -- a part of an array that is live behind comes straight into its variable; where the array is read for the last time it is moved, and the part takes its place
+  pub a_part : code_text (code_of places) ≡
+      codes "routine 0\n  Const r3 0\n  Get r1 r0 r3\n  Move r2 r0\n  Get r2 r2 r1\n  Move r1 r2\n  Move r2 r1\n  Return r2\n  Const r2 null\n  Return r2\n"
+  -- a variable that isn't live behind gets no value: what was evaluated is released where it may be a list or a record
+  pub a_copy : code_text (code_of copies) ≡
+      codes "routine 0\n  Const r3 0\n  Arith r2 - r3 r0\n  Move r0 r0\n  Move r2 r0\n  Clear [r2]\n  Const r2 0\n  Return r2\n  Const r2 null\n  Return r2\n"
   -- the array is read for its length while it is live; it is moved where the right side is evaluated, and released behind it, where it may have been left out
   pub a_choice : code_text (code_of first_is_positive) ≡
       codes "routine 0\n  Len r1 r0\n  Const r2 0\n  Compare r1 > r1 r2\n  Branch r1 9\n  Move r1 r0\n  Const r2 0\n  Get r1 r1 r2\n  Const r2 0\n  Compare r1 > r1 r2\n  Clear [r0]\n  Return r1\n  Const r1 null\n  Return r1\n"

@@ -2,6 +2,7 @@
 pub mod TypeTests
 pub mod Operands
 pub mod Expressions
+pub mod Straight
 pub mod Statements
 pub mod Programs
 pub mod Examples

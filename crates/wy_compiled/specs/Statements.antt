@@ -1,5 +1,5 @@
 -- The code of a statement. The registers from n on are free; the variables have those below.
-use Rattle.std.specs.Prelude.{ℕ, suc, ◌+◌, List, [], ◌∷◌, ◌++◌, length, Bool, true, false, cond, Option, Some, None}
+use Rattle.std.specs.Prelude.{ℕ, suc, ◌+◌, List, [], ◌∷◌, ◌++◌, length, Bool, true, false, ◌&&◌, cond, Option, Some, None}
 use Rattle.wy_core.specs.CoreTree.{Expr, Exprs, Step, IndexStep, FieldStep, Stmt, DeclareStmt, AssignStmt, CallStmt, ReturnStmt, AssertStmt, BreakStmt, ContinueStmt, SkipStmt, FailStmt, IfStmt, WhileStmt, Stmts, NoStmts, MoreStmts}
 use Rattle.wy_live.specs.Sets.{Variables, has, with, without, joined}
 use Rattle.wy_live.specs.Walks.{before, before_steps, live_all, head_live, around}
@@ -17,14 +17,15 @@ use Rattle.wy_pieces.specs.Steps.{clear, fork, over, turns, registers_from}
 use Rattle.wy_tables.specs.Tables.{target, number_of}
 use Rattle.wy_compiled.specs.Operands.{read, standing, unless_read}
 use Rattle.wy_compiled.specs.Expressions.{released, is_plain, release_unless, count_of, code, codes}
+use Rattle.wy_compiled.specs.Straight.{is_straight, into}
 
 -- a value goes from a register into its variable, or is released where the variable isn't live behind
 abbrev pub store : ℕ → Variables → ℕ → Bool → List steps.Step
 store x s r plain = cond (has s x) (Does (instr.Move x r) ∷ []) (release_unless plain r)
 
--- the value of a variable
+-- the value of a variable: where the variable is live behind, it comes straight into its register if it may
 abbrev pub set : Context → ℕ → Expr ℕ → Variables → ℕ → List steps.Step
-set c x e s n = code c e (without s x) n ++ store x s n (is_plain e)
+set c x e s n = cond (has s x && is_straight e (without s x)) (into c e (without s x) n x) (code c e (without s x) n ++ store x s n (is_plain e))
 
 abbrev pub declare : Context → ℕ → Option (Expr ℕ) → Variables → ℕ → List steps.Step
 declare c x None s n = []

@@ -1,6 +1,7 @@
 pub mod PieceLemmas
 pub mod LostLemmas
 pub mod OperatorLemmas
+pub mod StraightLemmas
 pub mod SeenLemmas
 pub mod TypeLemmas
 pub mod ExpressionLemmas

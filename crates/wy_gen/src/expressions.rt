@@ -4,6 +4,7 @@ ghost use Rattle.wy_core.specs.CoreSeen.{seen_expr, seen_exprs, seen_fields};
 ghost use Rattle.wy_core.specs.CoreTree.{exprs_of};
 ghost use Rattle.wy_compiled.specs.Expressions as spec;
 ghost use Rattle.wy_compiled.specs.Operands as operands;
+ghost use Rattle.wy_compiled.specs.Straight as straight;
 ghost use Rattle.wy_live.specs.Walks as lives;
 
 use crate::calls::{call, tested, tested_read};
@@ -34,11 +35,28 @@ pub fn code(
     ensures value { IfOk result (λ m. m.steps ≡ spec.code context.now (seen_expr expr.now) behind.live register ++ behind.steps) }
     ensures live { IfOk result (λ m. m.live ≡ lives.before (seen_expr expr.now) behind.live) }
 {
+    into(alloc, context, expr, register, register, behind)
+}
+
+/// The same, where the value of a straight expression comes into the register `target`. What else
+/// stands in registers is free from `register` on.
+#[cycle(code)]
+pub fn into(
+    alloc: Global,
+    context: &Context,
+    expr: &Expr,
+    register: u32,
+    target: u32,
+    behind: Made,
+) -> Result<Made, NoMemory>
+    ensures value { IfOk result (λ m. m.steps ≡ straight.into context.now (seen_expr expr.now) behind.live register target ++ behind.steps) }
+    ensures live { IfOk result (λ m. m.live ≡ lives.before (seen_expr expr.now) behind.live) }
+{
     match &expr.kind {
-        ExprKind::Null => plain(Instr::Const(register, Scalar::Null), behind),
-        ExprKind::Bool(truth) => plain(Instr::Const(register, Scalar::Bool(*truth)), behind),
-        ExprKind::Int(number) => plain(Instr::Const(register, Scalar::Int(*number)), behind),
-        ExprKind::Var(variable) => used(*variable, register, behind),
+        ExprKind::Null => plain(Instr::Const(target, Scalar::Null), behind),
+        ExprKind::Bool(truth) => plain(Instr::Const(target, Scalar::Bool(*truth)), behind),
+        ExprKind::Int(number) => plain(Instr::Const(target, Scalar::Int(*number)), behind),
+        ExprKind::Var(variable) => used(*variable, target, behind),
         ExprKind::Call(routine, args) => {
             let behind = call(alloc, context, *routine, register, args.len(), behind)?;
             codes(alloc, context, args.as_slice(), register, behind)
@@ -46,19 +64,19 @@ pub fn code(
         ExprKind::Neg(operand) => {
             let operand = operand.get();
             let place = variable_in(operand);
-            let behind = negated(register, standing(place, register), behind)?;
+            let behind = negated(register, target, standing(place, register), behind)?;
             operand_code(alloc, context, operand, place, register, behind)
         }
         ExprKind::Not(operand) => {
             let operand = operand.get();
             let place = variable_in(operand);
-            let behind = plain(Instr::Not(register, standing(place, register)), behind)?;
+            let behind = plain(Instr::Not(target, standing(place, register)), behind)?;
             operand_code(alloc, context, operand, place, register, behind)
         }
         ExprKind::Len(operand) => {
             let operand = operand.get();
             let place = read(operand, &behind.live);
-            let behind = plain(Instr::Len(register, standing(place, register)), behind)?;
+            let behind = plain(Instr::Len(target, standing(place, register)), behind)?;
             operand_code(alloc, context, operand, place, register, behind)
         }
         ExprKind::Binary(op, left, right) => {
@@ -66,7 +84,7 @@ pub fn code(
             let right = right.get();
             let place = first_read(*op, left, right, &behind.live);
             let first = standing(place, register);
-            let behind = right_side(alloc, context, *op, first, right, register, behind)?;
+            let behind = right_side(alloc, context, *op, first, right, register, target, behind)?;
             operand_code(alloc, context, left, place, register, behind)
         }
         ExprKind::Is(operand, ty) => {
@@ -81,7 +99,7 @@ pub fn code(
             let whole = read(array, &behind.live);
             let place = variable_in(index);
             let free = next(register)?;
-            let item = Instr::Get(register, standing(whole, register), standing(place, free));
+            let item = Instr::Get(target, standing(whole, register), standing(place, free));
             let behind = plain(item, behind)?;
             let behind = operand_code(alloc, context, index, place, free, behind)?;
             operand_code(alloc, context, array, whole, register, behind)
@@ -90,7 +108,7 @@ pub fn code(
             let whole = whole.get();
             let place = read(whole, &behind.live);
             let number = name_number(name, &context.table)?;
-            let part = Instr::Field(register, standing(place, register), number);
+            let part = Instr::Field(target, standing(place, register), number);
             let behind = plain(part, behind)?;
             operand_code(alloc, context, whole, place, register, behind)
         }
@@ -139,7 +157,8 @@ pub fn operand_code(
     }
 }
 
-/// The right side of an operator whose left side stands in a register, and the operator.
+/// The right side of an operator whose left side stands in a register, and the operator. Those of
+/// `&&` and `||` come into one register, which is the target of each expression that isn't straight.
 #[cycle(code)]
 fn right_side(
     alloc: Global,
@@ -148,9 +167,10 @@ fn right_side(
     left: u32,
     right: &Expr,
     register: u32,
+    target: u32,
     behind: Made,
 ) -> Result<Made, NoMemory>
-    ensures value { IfOk result (λ m. m.steps ≡ spec.operate op register left (operands.standing (operands.second_read op (seen_expr right.now) behind.live) (spec.right_register op register)) (operands.unless_read (operands.second_read op (seen_expr right.now) behind.live) (spec.code context.now (seen_expr right.now) behind.live (spec.right_register op register))) (spec.released (lives.before (seen_expr right.now) behind.live) behind.live) (operands.plain_or_read (operands.second_read op (seen_expr right.now) behind.live) (spec.is_plain (seen_expr right.now))) ++ behind.steps) }
+    ensures value { IfOk result (λ m. m.steps ≡ spec.operate op target left (operands.standing (operands.second_read op (seen_expr right.now) behind.live) (spec.right_register op register)) (operands.unless_read (operands.second_read op (seen_expr right.now) behind.live) (spec.code context.now (seen_expr right.now) behind.live (spec.right_register op register))) (spec.released (lives.before (seen_expr right.now) behind.live) behind.live) (operands.plain_or_read (operands.second_read op (seen_expr right.now) behind.live) (spec.is_plain (seen_expr right.now))) ++ behind.steps) }
     ensures live { IfOk result (λ m. m.live ≡ lives.before (seen_expr right.now) behind.live) }
 {
     match op {
@@ -158,20 +178,20 @@ fn right_side(
             let start = begin_and(alloc, right, behind)?;
             let end = start.steps.len();
             let made = code(alloc, context, right, register, start)?;
-            end_and(register, end, made)
+            end_and(target, end, made)
         }
         Op::Or => {
             let end = behind.steps.len();
             let after = behind.live.copy(alloc)?;
             let made = code(alloc, context, right, register, behind)?;
-            end_or(alloc, &after, register, end, made)
+            end_or(alloc, &after, target, end, made)
         }
         _ => {
             let free = next(register)?;
             let place = second_read(op, right, &behind.live);
             let second = standing(place, free);
             let is_plain = plain_or_read(place, is_plain(right));
-            let behind = operator(alloc, op, is_plain, register, left, second, behind)?;
+            let behind = operator(alloc, op, is_plain, target, left, second, behind)?;
             operand_code(alloc, context, right, place, free, behind)
         }
     }
@@ -249,16 +269,13 @@ fn quantify(
     end_quantifier(variable, register, live, done, made)
 }
 
-/// The number in a register is taken from 0.
-fn negated(register: u32, number: u32, behind: Made) -> Result<Made, NoMemory>
-    ensures value { IfOk result (λ m. m.steps ≡ spec.negated register number ++ behind.steps) }
+/// The number in a register is taken from 0, and what comes of it comes into `target`.
+fn negated(register: u32, target: u32, number: u32, behind: Made) -> Result<Made, NoMemory>
+    ensures value { IfOk result (λ m. m.steps ≡ straight.negated_into register target number ++ behind.steps) }
     ensures live { IfOk result (λ m. m.live ≡ behind.live) }
 {
     let free = next(register)?;
-    let behind = plain(
-        Instr::Arith(register, Arithmetic::Sub, free, number),
-        behind,
-    )?;
+    let behind = plain(Instr::Arith(target, Arithmetic::Sub, free, number), behind)?;
     plain(Instr::Const(free, Scalar::Int(0)), behind)
 }
 

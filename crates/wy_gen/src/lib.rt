@@ -23,6 +23,7 @@ mod operators;
 mod program;
 mod quantifiers;
 mod simple;
+mod straight;
 mod type_tests;
 mod updates;
 

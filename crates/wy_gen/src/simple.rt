@@ -8,14 +8,15 @@ ghost use Rattle.wy_compiled.specs.Statements as spec;
 ghost use Rattle.wy_pieces.specs.declared.steps.Step.{Step};
 ghost use Rattle.wy_tables.specs.Tables as tables;
 
-use crate::expressions::{code, codes};
+use crate::expressions::{code, codes, into};
 use crate::made::{Made, is_plain, plain, release_unless};
+use crate::straight::is_straight;
 use crate::updates::update;
 use std::alloc::Global;
 use wy_code::{Instr, Scalar};
 use wy_core::{Expr, Step as PathStep};
 use wy_live::Variables;
-use wy_pieces::{NoMemory, Step, clear_one, does, prepend, registers_from};
+use wy_pieces::{NoMemory, Step, Steps, clear_one, does, prepend, registers_from};
 use wy_tables::{Context, Target, called};
 
 /// A step over what stands before so many others, where this is live.
@@ -31,25 +32,22 @@ pub fn jump(live: Variables, end: usize, behind: Made) -> Result<Made, NoMemory>
 /// A value goes from a register into its variable, or is released where the variable isn't live.
 fn store(
     alloc: Global,
+    wanted: bool,
     variable: u32,
     register: u32,
     plain: bool,
-    behind: Made,
-) -> Result<Made, NoMemory>
-    ensures value { IfOk result (λ m. m.steps ≡ spec.store variable behind.live register plain ++ behind.steps) }
-    ensures live { IfOk result (λ m. m.live ≡ sets.without behind.live variable) }
+    steps: Steps,
+) -> Result<Steps, NoMemory>
+    ensures value { (s : sets.Variables) → wanted ≡ sets.has s variable → IfOk result (λ all. all ≡ spec.store variable s register plain ++ steps) }
 {
-    let Made { mut live, steps } = behind;
-    let steps = if live.has(variable) {
-        does(Instr::Move(variable, register), steps)?
-    } else {
-        release_unless(alloc, plain, register, steps)?
-    };
-    live.remove(variable)?;
-    Ok(Made { live, steps })
+    if wanted {
+        return does(Instr::Move(variable, register), steps);
+    }
+    release_unless(alloc, plain, register, steps)
 }
 
-/// The value of a variable.
+/// The value of a variable: where the variable is live behind, it comes straight into its register
+/// if it may.
 fn set(
     alloc: Global,
     context: &Context,
@@ -61,8 +59,15 @@ fn set(
     ensures value { IfOk result (λ m. m.steps ≡ spec.set context.now variable (seen_expr value.now) behind.live free ++ behind.steps) }
     ensures live { IfOk result (λ m. m.live ≡ lives.before (seen_expr value.now) (sets.without behind.live variable)) }
 {
-    let behind = store(alloc, variable, free, is_plain(value), behind)?;
-    code(alloc, context, value, free, behind)
+    let Made { mut live, steps } = behind;
+    let wanted = live.has(variable);
+    live.remove(variable)?;
+    if wanted && is_straight(value, &live) {
+        let behind = Made { live, steps };
+        return into(alloc, context, value, free, variable, behind);
+    }
+    let steps = store(alloc, wanted, variable, free, is_plain(value), steps)?;
+    code(alloc, context, value, free, Made { live, steps })
 }
 
 pub fn declare(

@@ -66,7 +66,7 @@ module _ (body : List Instr) (c : Context) (n : ℕ) (t : Gives) (f : ℕ) where
   SfFields fs U = (m : ℕ) (s : Variables) (A : ℕ → Type 0) (d at next : ℕ) → Kn s U → n ≤ d → Ar d A → Spans body at (field_codes c fs s d) next → Comes m next (λ r. B s A r ⊎ Range d (field_count fs) r) → Comes m at (B (before_fields fs s) A)
 
   -- a variable that is read in its register is below the registers of values
-  stands_below : (U : ℕ → Type 0) → Lo U → (w : Option ℕ) (a : Expr ℕ) → IsIts U w a → (d r : ℕ) → n ≤ d → Stands body c n t f w a d r → r < suc d
+  pub stands_below : (U : ℕ → Type 0) → Lo U → (w : Option ℕ) (a : Expr ℕ) → IsIts U w a → (d r : ℕ) → n ≤ d → Stands body c n t f w a d r → r < suc d
   stands_below U low None a its d r nd h = let e = h.0 in omega (arith, e)
   stands_below U low (Some x) a its d r nd h = let l = low x its.1 in omega (arith, l, nd, h)
 

@@ -17,6 +17,7 @@ pub mod OperandLemmas
 pub mod ChoiceLemmas
 pub mod QuantifierLemmas
 pub mod ExpressionLemmas
+pub mod IntoLemmas
 -- statements
 pub mod BranchLemmas
 pub mod StatementReadLemmas

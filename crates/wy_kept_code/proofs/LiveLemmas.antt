@@ -32,6 +32,10 @@ pub not_and : (a b : Bool) → (a ≡ false) × (b ≡ true) → (not a && b) �
 not_and true b p = never (sym p.0)
 not_and false b p = p.1
 
+pub and_both : (a b : Bool) → (a && b) ≡ true → (a ≡ true) × (b ≡ true)
+and_both true b e = (refl, e)
+and_both false b e = never e
+
 -- the variable is in the set
 abbrev pub In : Variables → ℕ → Type 0
 In s x = has s x ≡ true

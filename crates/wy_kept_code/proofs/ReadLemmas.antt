@@ -262,11 +262,11 @@ module _ (body : List Instr) where
     ReadThere None p = Unit {0}
     ReadThere (Some x) p = LiveAt body p x
 
-    there_of : (w : Option ℕ) (d p : ℕ) → LiveAt body p (standing w d) → ReadThere w p
+    pub there_of : (w : Option ℕ) (d p : ℕ) → LiveAt body p (standing w d) → ReadThere w p
     there_of None d p l = tt
     there_of (Some x) d p l = l
 
-    standing_below : (U : ℕ → Type 0) → Low U → (w : Option ℕ) (a : Expr ℕ) → IsIts U w a → (d : ℕ) → n ≤ d → standing w d < suc d
+    pub standing_below : (U : ℕ → Type 0) → Low U → (w : Option ℕ) (a : Expr ℕ) → IsIts U w a → (d : ℕ) → n ≤ d → standing w d < suc d
     standing_below U lows None a its d nd = omega arith
     standing_below U lows (Some x) a its d nd = let l = lows x its.1 in omega (arith, l, nd)
 
@@ -315,7 +315,15 @@ module _ (body : List Instr) where
           λ l. test_live body c ty x (suc d) (suc (suc d)) p mid r first (omega (arith, low)) apart.1 (live_last body mid next r last (back body p one (Does last ∷ []) next h) (apart.0, (apart.1, tt)) (inl refl) l),
         )
 
-    -- two operands and what is behind them
+    -- two operands, where those that are read in their registers are live behind both
+    pub operands_live : (U : ℕ → Type 0) → Low U → (w v : Option ℕ) (a b : Expr ℕ) → IsIts U w a → IsIts U v b → Lively a → Lively b → (s : Variables) (d at mid last r : ℕ) → n ≤ d → Waits c n w v b s
+        → Spans body at (unless_read w (code c a (before b s) d)) mid → Spans body mid (unless_read v (code c b s (suc d))) last → ReadThere w last → ReadThere v last → r < d → Goes (occurs a r || occurs b r) s last r → LiveAt body at r
+    operands_live U lows w v a b its too one two s d at mid last r nd waits xs ys here there low way =
+        two_ways (occurs a r) (occurs b r) s (before b s) at mid last r (keeps_before b s r) (λ k. inl (before_of b s r (inl k)))
+        (λ g. operand_live U w a its one (before b s) d at mid r nd xs low (first_there U lows w v a b its too two s d mid last nd waits ys here there) g)
+        (λ g. operand_live U v b too two s (suc d) mid last r (omega (arith, nd)) ys (omega (arith, low)) there g) way
+
+    -- and what is behind them
     pair_live : (U : ℕ → Type 0) → Low U → (w v : Option ℕ) (a b : Expr ℕ) → IsIts U w a → IsIts U v b → Lively a → Lively b → (s : Variables) (d at next r : ℕ) → n ≤ d → Waits c n w v b s → (rest : List Step)
         → ((p : ℕ) → Spans body p rest next → ReadThere w p × ReadThere v p × (LiveAt body next r → LiveAt body p r))
         → Spans body at (unless_read w (code c a (before b s) d) ++ (unless_read v (code c b s (suc d)) ++ rest)) next → r < d → Goes (occurs a r || occurs b r) s next r → LiveAt body at r
@@ -323,11 +331,8 @@ module _ (body : List Instr) where
         let xs = unless_read w (code c a (before b s) d) in let ys = unless_read v (code c b s (suc d)) in
         let mid = at + length xs in let last = mid + length ys in
         let second = back body at xs (ys ++ rest) next h in
-        let ys_at = front body mid ys rest next second in
         let facts = behind last (back body mid ys rest next second) in
-        two_ways (occurs a r) (occurs b r) s (before b s) at mid next r (keeps_before b s r) (λ k. inl (before_of b s r (inl k)))
-        (λ g. operand_live U w a its one (before b s) d at mid r nd (front body at xs (ys ++ rest) next h) low (first_there U lows w v a b its too two s d mid last nd waits ys_at facts.0 facts.1) g)
-        (λ g. operand_live U v b too two s (suc d) mid last r (omega (arith, nd)) ys_at (omega (arith, low)) facts.1 (goes_on (occurs b r) s last next r facts.2 g)) way
+        operands_live U lows w v a b its too one two s d at mid last r nd waits (front body at xs (ys ++ rest) next h) (front body mid ys rest next second) facts.0 facts.1 low (goes_on (occurs a r || occurs b r) s last next r facts.2 way)
 
     -- one instruction, which reads both operands
     reads_pair : (w v : Option ℕ) (d next r : ℕ) (j : Instr) → r < d → IsOne (standing w d) (reads j) → IsOne (standing v (suc d)) (reads j) → IsNone r (changes j) → ((p : ℕ) → IsOne (p + 1) (nexts p j))

@@ -1,5 +1,5 @@
 -- The code of a statement keeps nothing dead.
-use Rattle.std.proofs.Common.{◌≡◌, ◌<◌, ◌≤◌, ◌⊎◌, inl, inr, ℕ, suc, ◌+◌, List, [], ◌∷◌, ◌++◌, length, Bool, true, false, cond, Option, Some, None, refl, sym, ◌∙◌, subst, arith}
+use Rattle.std.proofs.Common.{◌≡◌, ◌<◌, ◌≤◌, ◌⊎◌, inl, inr, ℕ, suc, ◌+◌, List, [], ◌∷◌, ◌++◌, length, Bool, true, false, ◌&&◌, cond, Option, Some, None, refl, sym, ◌∙◌, subst, arith}
 use Rattle.wy_core.specs.CoreTree.{Expr, Exprs, Step, IndexStep, FieldStep, Stmt, DeclareStmt, AssignStmt, CallStmt, ReturnStmt, AssertStmt, BreakStmt, ContinueStmt, SkipStmt, FailStmt, IfStmt, WhileStmt, Stmts, NoStmts, MoreStmts}
 use Rattle.wy_code.specs.declared.instructions.Scalar.TheVariants as scalar
 use Rattle.wy_code.specs.declared.instructions.Instr.{Instr}
@@ -17,13 +17,14 @@ use Rattle.wy_pieces.specs.Placing.{slot_registers}
 use Rattle.wy_pieces.specs.Steps.{clear, over, turns, registers_from}
 use Rattle.wy_compiled.specs.Operands.{read, standing, unless_read}
 use Rattle.wy_compiled.specs.Expressions.{lost, released, is_plain, release_unless, count_of, code, codes}
+use Rattle.wy_compiled.specs.Straight.{is_straight, into}
 use Rattle.wy_compiled.specs.Statements.{store, set, index_count, slots, indices, kept, update, call_step, call, gives_null, give, choice, branches, inside, turn, stmt_code, stmts_code}
 use Rattle.wy_kept_registers.specs.Keeping.{IsNone}
 use Rattle.wy_kept_code.specs.Alive.{IsOne, LiveAt}
 use Rattle.wy_kept_code.specs.Fitting.{Fits, FitAll, FitsOption, FitsPath, IsAction, FitsStmt, FitsStmts}
 use Rattle.wy_kept_code.proofs.PieceLemmas.{either, nat_up, less_not, Spans, front, back, tail, ended, live_reads, live_on, turning}
 use Rattle.wy_kept_code.proofs.LivePathLemmas.{lives_more}
-use Rattle.wy_kept_code.proofs.LiveLemmas.{or_cases, of_paths}
+use Rattle.wy_kept_code.proofs.LiveLemmas.{or_cases, and_both, of_paths}
 use Rattle.wy_kept_code.proofs.LiveUseLemmas.{has-before_steps}
 use Rattle.wy_kept_code.proofs.SetLemmas.{never, not_both, Vars, before_of, with_of, joined_of, not_lost}
 use Rattle.wy_kept_code.proofs.InPlaceLemmas.{IsIts, IsLiveIn, read_its}
@@ -38,6 +39,7 @@ use Rattle.wy_kept_code.proofs.ReadLemmas.{occurs_used, all_used}
 use Rattle.wy_kept_code.proofs.OperandLemmas.{Range, in_range, ready_less, operand_safe, clear_sure}
 use Rattle.wy_kept_code.proofs.BranchLemmas.{branches_first, branches_second, branches_sure}
 use Rattle.wy_kept_code.proofs.ExpressionLemmas.{code_safe, codes_safe}
+use Rattle.wy_kept_code.proofs.IntoLemmas.{into_safe}
 use Rattle.wy_kept_code.proofs.StatementReadLemmas.{same_or_other, steps_of, slots_cases, kept_live, call_step_live, stmt_live, stmts_live}
 
 module _ (body : List Instr) (c : Context) (n : ℕ) (R : Type 0) (U : ℕ → Type 0) (low : Low body c n U) where
@@ -146,11 +148,19 @@ module _ (body : List Instr) (c : Context) (n : ℕ) (R : Type 0) (U : ℕ → T
           safe_clears body t f m p (n ∷ []) (λ r. Vars (without s x) r ⊎ H e n r) (Vars s) h.0.0 (λ r l. either (λ v. (without_cases s x r v).1) (λ k. absurd (l.1.0 k.0)) l.0) there.1,
         )
 
-    set_safe : (x : ℕ) (e : Expr ℕ) → Fits c n e U → (m : ℕ) (s : Variables) (at next : ℕ) → Kn s → Spans body at (set c x e s n) next → Comes m next (Vars s) → Sure body t f m at (Vars (before e (without s x)))
-    set_safe x e fit m s at next known h exit =
+    -- the value comes into a free register, and from there into the variable
+    stored_safe : (x : ℕ) (e : Expr ℕ) → Fits c n e U → (m : ℕ) (s : Variables) (at next : ℕ) → Kn s → Spans body at (code c e (without s x) n ++ store x s n (is_plain e)) next → Comes m next (Vars s) → Comes m at (Vars (before e (without s x)))
+    stored_safe x e fit m s at next known h exit =
         let one = code c e (without s x) n in let mid = at + length one in
-        (value_safe e fit m (without s x) at mid (known_without s x known) (front body at one (store x s n (is_plain e)) next h)
-        (store_leaves e (has s x) (is_plain e) m x s mid next known refl refl (back body at one (store x s n (is_plain e)) next h) exit)).1
+        value_safe e fit m (without s x) at mid (known_without s x known) (front body at one (store x s n (is_plain e)) next h)
+        (store_leaves e (has s x) (is_plain e) m x s mid next known refl refl (back body at one (store x s n (is_plain e)) next h) exit)
+
+    set_safe : (x : ℕ) (e : Expr ℕ) → Fits c n e U → (m : ℕ) (s : Variables) (at next : ℕ) → Kn s → Spans body at (set c x e s n) next → Comes m next (Vars s) → Sure body t f m at (Vars (before e (without s x)))
+    set_safe x e fit m s at next known h exit = (by (has s x && is_straight e (without s x)) refl h).1
+      where
+        by : (b : Bool) → (has s x && is_straight e (without s x)) ≡ b → Spans body at (cond b (into c e (without s x) n x) (code c e (without s x) n ++ store x s n (is_plain e))) next → Comes m at (Vars (before e (without s x)))
+        by true is sp = let both = and_both (has s x) (is_straight e (without s x)) is in into_safe body c n U low t f e fit m s x at next both.1 both.0 known sp exit
+        by false is sp = stored_safe x e fit m s at next known sp exit
 
     -- one index, whose register is read behind the others
     index_safe : (w : Option ℕ) (e : Expr ℕ) → IsIts U w e → (m : ℕ) (s b T : Variables) (A : ℕ → Type 0) (d at mid next : ℕ) (rs : List ℕ) → IsLiveIn w s → Fits c n e U → Kn T → n ≤ d → ((r : ℕ) → A r → (n ≤ r) × (r < d)) → ((r : ℕ) → Vars s r → Vars T r)

@@ -1,5 +1,5 @@
 -- Which variables are live in front of the code of a statement: those that some path from there uses before it assigns them.
-use Rattle.std.proofs.Common.{◌≡◌, ◌≢◌, ◌<◌, ◌≤◌, ◌⊎◌, inl, inr, ℕ, zero, suc, ◌+◌, List, [], ◌∷◌, ◌++◌, length, Bool, true, false, ◌||◌, ◌==◌, cond, Option, Some, None, refl, sym, ap, ◌∙◌, subst, arith}
+use Rattle.std.proofs.Common.{◌≡◌, ◌≢◌, ◌<◌, ◌≤◌, ◌⊎◌, inl, inr, ℕ, zero, suc, ◌+◌, List, [], ◌∷◌, ◌++◌, length, Bool, true, false, ◌&&◌, ◌||◌, ◌==◌, cond, Option, Some, None, refl, sym, ap, ◌∙◌, subst, arith}
 use Rattle.wy_core.specs.CoreTree.{Expr, Step, IndexStep, FieldStep, Stmt, DeclareStmt, AssignStmt, CallStmt, ReturnStmt, AssertStmt, BreakStmt, ContinueStmt, SkipStmt, FailStmt, IfStmt, WhileStmt, Stmts, NoStmts, MoreStmts}
 use Rattle.wy_code.specs.declared.instructions.Instr.{Instr}
 use Rattle.wy_code.specs.declared.instructions.Instr.TheVariants as instr
@@ -16,12 +16,13 @@ use Rattle.wy_pieces.specs.Placing.{slot_registers}
 use Rattle.wy_pieces.specs.Steps.{clear, over, turns, registers_from}
 use Rattle.wy_compiled.specs.Operands.{read, standing, unless_read}
 use Rattle.wy_compiled.specs.Expressions.{lost, released, is_plain, release_unless, count_of, code, codes}
+use Rattle.wy_compiled.specs.Straight.{is_straight, into}
 use Rattle.wy_compiled.specs.Statements.{store, set, index_count, slots, indices, kept, update, call_step, choice, branches, inside, turn, stmt_code, stmts_code}
 use Rattle.wy_kept_code.specs.Alive.{IsOne, LiveAt}
 use Rattle.wy_kept_code.specs.Fitting.{Fits, FitsPath, FitsStmt, FitsStmts}
 use Rattle.wy_kept_code.proofs.PieceLemmas.{either, nat_up, less_not, none_below, Spans, front, back, tail, live_reads, live_on, live_last, turning}
 use Rattle.wy_kept_code.proofs.LivePathLemmas.{live_more, lives_more}
-use Rattle.wy_kept_code.proofs.LiveLemmas.{or_cases, of_path, of_paths}
+use Rattle.wy_kept_code.proofs.LiveLemmas.{or_cases, and_both, of_path, of_paths}
 use Rattle.wy_kept_code.proofs.LiveUseLemmas.{has-before_steps}
 use Rattle.wy_kept_code.proofs.SetLemmas.{never, not_both, same_of, other_of, Vars, before_of, without_of, with_of, joined_of, not_lost}
 use Rattle.wy_kept_code.proofs.BranchLemmas.{branches_first, branches_second}
@@ -29,6 +30,7 @@ use Rattle.wy_kept_code.proofs.TestLemmas.{at_end}
 use Rattle.wy_kept_code.proofs.InPlaceLemmas.{IsIts, IsLiveIn, read_its}
 use Rattle.wy_kept_code.proofs.OperandLemmas.{Range}
 use Rattle.wy_kept_code.proofs.ReadLemmas.{from_registers, clear_live, Low, two_ways, ReadThere, operand_live, code_live, codes_live}
+use Rattle.wy_kept_code.proofs.IntoLemmas.{Passes, into_live}
 
 pub same_or_other : (r x : ℕ) → (r ≡ x) ⊎ (r ≢ x)
 same_or_other zero zero = inl refl
@@ -67,12 +69,21 @@ module _ (body : List Instr) (c : Context) (n : ℕ) (R : Type 0) (U : ℕ → T
   store_live true plain x d p next r h one two l = live_last body p next r (instr.Move x d) h (one, (two, tt)) (inl refl) l
   store_live false plain x d p next r h one two l = release_live plain d p next r h two l
 
+  -- a value that comes into a free register and from there into its variable
+  stored_live : (x : ℕ) (e : Expr ℕ) (s : Variables) (at next r : ℕ) → Fits c n e U → Spans body at (code c e (without s x) n ++ store x s n (is_plain e)) next → r < n → Passes body c n U low (occurs e r) s x next r → LiveAt body at r
+  stored_live x e s at next r fit h rn way =
+      let one = code c e (without s x) n in let mid = at + length one in
+      reads_code e fit (without s x) n at mid r (omega arith) (front body at one (store x s n (is_plain e)) next h) rn
+      (either (λ u. inl u) (λ k. inr (inl (without_of s x r (k.0, k.1)), store_live (has s x) (is_plain e) x n mid next r (back body at one (store x s n (is_plain e)) next h) k.0 (less_not r n rn) k.2)) way)
+
   -- an assignment to a whole variable
   set_live : (x : ℕ) (e : Expr ℕ) (s : Variables) (at next r : ℕ) (A : Type 0) → Fits c n e U → Spans body at (set c x e s n) next → r < n → On A s next r → UsedOrKept (occurs e r) r x A → LiveAt body at r
   set_live x e s at next r A fit h rn on way =
-      let one = code c e (without s x) n in let mid = at + length one in
-      reads_code e fit (without s x) n at mid r (omega arith) (front body at one (store x s n (is_plain e)) next h) rn
-      (either (λ u. inl u) (λ k. let l = on k.1 in let other = other_of r x k.0 in inr (inl (without_of s x r (other, l.0)), store_live (has s x) (is_plain e) x n mid next r (back body at one (store x s n (is_plain e)) next h) other (less_not r n rn) l.1)) way)
+      by (has s x && is_straight e (without s x)) refl h (either (λ u. inl u) (λ k. let l = on k.1 in inr (other_of r x k.0, l.0, l.1)) way)
+    where
+      by : (b : Bool) → (has s x && is_straight e (without s x)) ≡ b → Spans body at (cond b (into c e (without s x) n x) (code c e (without s x) n ++ store x s n (is_plain e))) next → Passes body c n U low (occurs e r) s x next r → LiveAt body at r
+      by true is sp go = into_live body c n U low e fit s x at next r (and_both (has s x) (is_straight e (without s x)) is).1 rn sp go
+      by false is sp go = stored_live x e s at next r fit sp rn go
 
   -- the registers that the slots of a path name: of variables that are live, and those of the other indices
   pub slots_cases : (path : List (Step ℕ)) → FitsPath c n path U → (s : Variables) (k q : ℕ) → IsOne q (slot_registers (slots c path s k)) → (Vars s q × U q) ⊎ Range k (index_count path) q

@@ -6,6 +6,7 @@ use Rattle.wy_value.specs.Numbers.{is_int}
 use Rattle.wy_core.specs.Types.{Ty}
 use Rattle.wy_core.specs.CoreTree as tree
 use Rattle.wy_core.specs.CoreTree.{Expr, NullExpr, BoolExpr, IntExpr, VarExpr, CallExpr, NegExpr, NotExpr, LenExpr, BinaryExpr, IsExpr, IndexExpr, FieldExpr, ListExpr, RepeatExpr, RecordExpr, QuantExpr, Exprs, NoExprs, MoreExprs, NoFields, MoreFields}
+use Rattle.wy_core.specs.declared.expressions.Op.{Op}
 use Rattle.wy_core.specs.declared.expressions.Op.TheVariants as op
 use Rattle.wy_formed.specs.Offers.{Offers}
 use Rattle.wy_formed.specs.Bound.{Scope, BoundTy, BoundFields}
@@ -13,24 +14,23 @@ use Rattle.wy_formed.specs.Calls.{CallsExpr, CallsExprs, CallsFields}
 use Rattle.wy_formed.specs.Literals.{IntsExpr, IntsExprs, IntsFields}
 use Rattle.wy_formed.specs.Recursion.{NamesIn, Mentions, MentionsIn, MentionsInFields}
 use Rattle.wy_formed.specs.Sizes.{size, sizes, field_sizes, size_ty}
-use Rattle.wy_live.specs.Sets.{Variables, has, with}
+use Rattle.wy_live.specs.Sets.{Variables, has}
 use Rattle.wy_live.specs.Walks.{before, before_all, before_fields, turned}
-use Rattle.wy_code.specs.declared.instructions.Scalar.TheVariants as scalar
 use Rattle.wy_code.specs.declared.instructions.Instr.TheVariants as instr
 use Rattle.wy_code.specs.declared.routines.Routine.{Routine}
 use Rattle.wy_code.specs.declared.routines.Code.{Code}
 use Rattle.wy_tables.specs.declared.context.Context.{Context}
-use Rattle.wy_tables.specs.Tables.{target, number_of, shape_number, names_in}
+use Rattle.wy_tables.specs.Tables.{target, shape_number, names_in}
 use Rattle.wy_pieces.specs.declared.steps.Step.{Step}
 use Rattle.wy_pieces.specs.declared.steps.Step.TheVariants.{Does}
 use Rattle.wy_pieces.specs.Steps.{registers_from, dropped}
 use Rattle.wy_compiled.specs.TypeTests.{test, looks}
-use Rattle.wy_compiled.specs.Operands.{variable_in, read, standing, unless_read}
-use Rattle.wy_compiled.specs.Expressions.{code, codes, field_codes, released, negated, call, is_test, tested, tested_read, quantify, count_of, field_count}
+use Rattle.wy_compiled.specs.Operands.{read}
+use Rattle.wy_compiled.specs.Straight.{is_on_numbers, is_straight, into}
+use Rattle.wy_compiled.specs.Expressions.{code, codes, field_codes, released, call, is_test, tested, tested_read, quantify, count_of, field_count}
 use Rattle.wy_numbered_tables.specs.Numbered.{NumberedTy, NumberedExpr, NumberedExprs, NumberedFields}
 use Rattle.wy_sem.specs.Meter.{Meter, Outcome, Done, Fault, More, Spent, Run, ◌>>=◌, turn, choose}
-use Rattle.wy_sem.specs.Operations as operations
-use Rattle.wy_sem.specs.Operations.{longest, agrees, or_null, as_number, as_truth, needed, denied, length_result, item_of, field_of, repeated}
+use Rattle.wy_sem.specs.Operations.{longest, agrees, or_null, as_number, as_truth, needed, repeated}
 use Rattle.wy_sem.specs.Expressions.{Store, slot, put, Setting, span, each, quantified, data_of, eval, eval_all, eval_fields}
 use Rattle.wy_step.specs.Step as machine
 use Rattle.wy_step.specs.Step.{Caller, instr_at, shape_names, behind_field}
@@ -38,7 +38,7 @@ use Rattle.wy_simulation.specs.Places.{StandAt, IsRoutine}
 use Rattle.wy_simulation.specs.Follows.{Follows, at_place, Comes}
 use Rattle.wy_simulation.specs.Registers.{Live, Got}
 use Rattle.wy_simulation.proofs.PlaceLemmas.{stand_front, stand_back}
-use Rattle.wy_simulation.proofs.StoreLemmas.{put_other, put_size, live_put, live_fewer}
+use Rattle.wy_simulation.proofs.StoreLemmas.{put_other, put_size, live_put}
 use Rattle.wy_simulation.proofs.FollowLemmas.{follows_then, follows_more, follows_at, follows_number, follows_needed}
 use Rattle.wy_simulation.proofs.SpareLemmas.{leaves_follows}
 use Rattle.wy_simulation.proofs.InstructionLemmas.{move_does, emptied, emptied_below, emptied_size, array_does, record_does}
@@ -46,12 +46,13 @@ use Rattle.wy_simulation.proofs.PieceLemmas.{stays_last, does_then}
 use Rattle.wy_kept_values.specs.Kept.{IsProper, FieldsProper, SlotProper, StoreProper, Gives}
 use Rattle.wy_simulated_expressions.specs.Standing.{with_table, AreKnown}
 use Rattle.wy_simulated_expressions.specs.Rests.{Called, Told, Rests}
-use Rattle.wy_simulated_expressions.specs.Evaluated.{Anything, IsDeclared, Fits, FitAll, Gained, GotAll, IsEvaluated, AreEvaluated, ExpressionsAreEvaluated}
-use Rattle.wy_simulated_expressions.proofs.KnownLemmas.{with_has, known_all, known_fields, known_turned, is_below, still_live}
-use Rattle.wy_simulated_expressions.proofs.KnowingLemmas.{slot_proper, literal_proper, negated_proper, denied_proper, length_proper, field_proper, item_proper, repeated_proper, data_proper, data_many}
-use Rattle.wy_simulated_expressions.proofs.ReadLemmas.{Stands, stands_low, stood_got, variable_read, live_read, live_kept, read_where}
-use Rattle.wy_simulated_expressions.proofs.PartLemmas.{fills, denied_follows, length_follows, field_follows, negated_follows, item_follows, repeated_follows}
-use Rattle.wy_simulated_expressions.proofs.OperandLemmas.{IsBrief, paid, variable, first_part, one_part, two_parts, numbers, alike, early}
+use Rattle.wy_simulated_expressions.specs.Evaluated.{Anything, IsDeclared, Fits, FitAll, Gained, GotAll, IsEvaluated, IsEvaluatedInto, AreEvaluated, ExpressionsAreEvaluated}
+use Rattle.wy_simulated_expressions.proofs.KnownLemmas.{never, apart_behind, known_all, known_fields, known_turned, is_below}
+use Rattle.wy_simulated_expressions.proofs.KnowingLemmas.{repeated_proper, data_proper, data_many}
+use Rattle.wy_simulated_expressions.proofs.ReadLemmas.{Stands, own_target, variable_target, stood_got, live_read, read_where}
+use Rattle.wy_simulated_expressions.proofs.PartLemmas.{IsStrict, fills, repeated_follows}
+use Rattle.wy_simulated_expressions.proofs.OperandLemmas.{IsBrief, paid, first_part, one_part, two_parts, early}
+use Rattle.wy_simulated_expressions.proofs.IntoLemmas.{IsFilled, null_fills, truth_fills, number_fills, variable_fills, negated_fills, denied_fills, length_fills, field_fills, item_fills, operator_fills}
 use Rattle.wy_simulated_expressions.proofs.QuantifierLemmas.{turns_follow}
 
 -- the fields that values in a row make
@@ -101,6 +102,21 @@ some_node (QuantExpr at all x a b body) = omega arith
 few_items : (es : Exprs ℕ) → count_of es ≤ sizes es
 few_items NoExprs = omega arith
 few_items (MoreExprs e es) = let a = some_node e in let b = few_items es in omega (arith, a, b)
+
+-- an operator on numbers evaluates both of its operands
+on_numbers_strict : (o : Op) → is_on_numbers o ≡ true → IsStrict o
+on_numbers_strict op.Add h = tt
+on_numbers_strict op.Sub h = tt
+on_numbers_strict op.Mul h = tt
+on_numbers_strict op.Div h = tt
+on_numbers_strict op.Mod h = tt
+on_numbers_strict op.Equal h = tt
+on_numbers_strict op.Less h = tt
+on_numbers_strict op.LessEqual h = tt
+on_numbers_strict op.Greater h = tt
+on_numbers_strict op.GreaterEqual h = tt
+on_numbers_strict op.And h = never h
+on_numbers_strict op.Or h = never h
 
 -- ---- what is known of numbers and of what quantifiers say
 
@@ -159,7 +175,7 @@ module _ (c : Context) (routines : List Routine) (f : ℕ) (r : Routine) (there 
       → Follows mach wide 0 1 m (at_place f p regs callers m.output) (Done (Array (data_of us)) m) (Comes f (p + 1) callers (Gained vs n d s store first))
   array vs d p count s store first regs us callers m few below behind whole got stands =
       gained vs d p (Array (data_of us)) s store first regs callers m (let a = data_many us in let b = got.many in omega (arith, a, b, few), data_proper us got.proper)
-      (fills mach f r there n wide vs s below store d p (instr.Array d (registers_from d count)) (registers_from d count) regs (emptied regs d (length us)) first callers m (Array (data_of us)) behind stands refl
+      (fills mach f r there n d wide vs s (apart_behind n s d below behind) store p (instr.Array d (registers_from d count)) (registers_from d count) regs (emptied regs d (length us)) first callers m (Array (data_of us)) stands refl
       (array_does mach.shapes regs d count us got.many got.values)
       (emptied_size regs d (length us) ∙ got.size ∙ whole) (emptied_live vs d (length us) s store regs below behind got.live)
       (λ t a b. emptied_below regs d (length us) t b ∙ got.kept t a b) (emptied_size regs d (length us) ∙ got.size))
@@ -171,7 +187,7 @@ module _ (c : Context) (routines : List Routine) (f : ℕ) (r : Routine) (there 
       let got = made.got in
       let us = made.listed in
       gained vs d p (Record ds) s store first regs callers m made.proper
-      (fills mach f r there n wide vs s below store d p (instr.Record d shape (registers_from d count)) (registers_from d count) regs (emptied regs d (length us)) first callers m (Record ds) behind stands refl
+      (fills mach f r there n d wide vs s (apart_behind n s d below behind) store p (instr.Record d shape (registers_from d count)) (registers_from d count) regs (emptied regs d (length us)) first callers m (Record ds) stands refl
       (record_does mach.shapes regs d shape count us names ds got.many got.values shaped made.fields)
       (emptied_size regs d (length us) ∙ got.size ∙ whole) (emptied_live vs d (length us) s store regs below behind got.live)
       (λ t a b. emptied_below regs d (length us) t b ∙ got.kept t a b) (emptied_size regs d (length us) ∙ got.size))
@@ -228,7 +244,7 @@ module _ (c : Context) (routines : List Routine) (f : ℕ) (r : Routine) (there 
       follows_at mach wide 0 3 m (at_place f p regs callers m.output) o f (p + 1 + 1 + 1) (p + 3) callers (Got vs n d s store first) (omega arith)
       (does_then mach f r there wide 0 2 p (instr.Move a d) regs regs1 callers m o (p + 1 + 1 + 1) (Got vs n d s store first) stands.0 (move_does mach.shapes regs a d v held)
       (does_then mach f r there wide 0 1 (p + 1) (instr.Clear (a ∷ [])) regs1 regs2 callers m o (p + 1 + 1 + 1) (Got vs n d s store first) stands.1.0 refl
-      (fills mach f r there n wide vs s below store d (p + 1 + 1) (instr.Move d (suc d)) (suc d ∷ []) regs2 (put regs2 (suc d) None) first callers m (Truth b) behind stands.1.1.0 refl (move_does mach.shapes regs2 d (suc d) (Truth b) answer)
+      (fills mach f r there n d wide vs s (apart_behind n s d below behind) store (p + 1 + 1) (instr.Move d (suc d)) (suc d ∷ []) regs2 (put regs2 (suc d) None) first callers m (Truth b) stands.1.1.0 refl (move_does mach.shapes regs2 d (suc d) (Truth b) answer)
       (put_size regs2 (suc d) None ∙ size2 ∙ size ∙ whole)
       (live_put vs s store regs2 (suc d) None (λ x i h e. absurd (let l = below x h in omega (arith, l, behind, e))) (record { holds = λ x u i h e. far x (let l = below x h in omega (arith, l, behind)) (λ g. absurd (let l = below x h in omega (arith, l, behind, g))) ∙ live.holds x u i h e }))
       (λ t y z. put_other regs2 (suc d) t None (λ e. absurd (omega (arith, z, e))) ∙ far t (omega (arith, z)) (λ e. absurd (omega (arith, z, e))) ∙ kept t y z)
@@ -261,7 +277,7 @@ module _ (c : Context) (routines : List Routine) (f : ℕ) (r : Routine) (there 
       (follows_then mach wide (size_ty ty) 0 0 3 (size_ty ty) 3 m (at_place f p regs callers m.output) (w.test true ty v m) (λ b. Done (Truth b)) f (p + length xs) callers (Told a (suc a) regs) (Comes f (p + length xs + 1) callers R) (omega arith) (omega arith)
       (rests.tests f r there ty x a (suc a) p v regs callers m types bound numbered names small proper one.value (omega (arith, less, behind)) (omega arith) (λ e. absurd (omega (arith, less, behind, e))) (one.size ∙ whole) (stand_front r.body p xs ys stands))
       (λ b k last le told. follows_more mach wide 0 1 0 3 k (at_place f (p + length xs) last callers k.output) (Done (Truth b) k) (Comes f (p + length xs + 1) callers R) (omega arith) (omega arith)
-      (fills mach f r there n wide vs s below store d (p + length xs) (instr.Move d a) (a ∷ []) last (put last a None) first callers k (Truth b) behind (stand_back r.body p xs ys stands).0 refl (move_does mach.shapes last d a (Truth b) told.value)
+      (fills mach f r there n d wide vs s (apart_behind n s d below behind) store (p + length xs) (instr.Move d a) (a ∷ []) last (put last a None) first callers k (Truth b) (stand_back r.body p xs ys stands).0 refl (move_does mach.shapes last d a (Truth b) told.value)
       (put_size last a None ∙ told.size ∙ one.size ∙ whole)
       (live_put vs s store last a None (λ y i h e. absurd (let l = below y h in omega (arith, l, behind, e))) (record { holds = λ y u i h e. told.kept y (let l = below y h in omega (arith, l, behind)) (λ g. absurd (let l = below y h in omega (arith, l, behind, g))) ∙ one.live.holds y u i h e }))
       (λ t y z. put_other last a t None (λ e. absurd (omega (arith, z, e))) ∙ told.kept t (omega (arith, z)) (λ e. absurd (omega (arith, z, e))) ∙ one.kept t y z)
@@ -292,21 +308,10 @@ module _ (c : Context) (routines : List Routine) (f : ℕ) (r : Routine) (there 
 
     mutual
       expr : (e : Expr ℕ) → NumberedExpr c.table e → IntsExpr e → CallsExpr C e → ((q : ℕ) → Mentions e q → P q) → size e ≤ top → IsBrief c routines f r there w n wide most e
-      expr (NullExpr i) nu iz ca me le o k vs s d at store regs callers m b low known behind stands live proper whole few =
-          paid c routines f r there w n wide most 0 1 1 at regs callers m (Done Null) (at + 1) (Gained vs n d s store regs) (omega arith) (omega arith)
-          (λ j e l. gained vs d at Null s store regs regs callers j tt (fills mach f r there n wide vs s (is_below n vs s known) store d at (instr.Const d scalar.Null) [] regs regs regs callers j Null behind stands.0 refl refl whole live (λ t x y. refl) refl))
-      expr (BoolExpr i truth) nu iz ca me le o k vs s d at store regs callers m b low known behind stands live proper whole few =
-          paid c routines f r there w n wide most 0 1 1 at regs callers m (Done (Truth truth)) (at + 1) (Gained vs n d s store regs) (omega arith) (omega arith)
-          (λ j e l. gained vs d at (Truth truth) s store regs regs callers j tt (fills mach f r there n wide vs s (is_below n vs s known) store d at (instr.Const d (scalar.Bool truth)) [] regs regs regs callers j (Truth truth) behind stands.0 refl refl whole live (λ t x y. refl) refl))
-      expr (IntExpr i number) nu iz ca me le o k vs s d at store regs callers m b low known behind stands live proper whole few =
-          paid c routines f r there w n wide most 0 1 1 at regs callers m (Done (Whole number)) (at + 1) (Gained vs n d s store regs) (omega arith) (omega arith)
-          (λ j e l. gained vs d at (Whole number) s store regs regs callers j (literal_proper 0 j number iz) (fills mach f r there n wide vs s (is_below n vs s known) store d at (instr.Const d (scalar.Int number)) [] regs regs regs callers j (Whole number) behind stands.0 refl refl whole live (λ t x y. refl) refl))
-      expr (VarExpr i x) nu iz ca me le o k vs s d at store regs callers m b low known behind stands live proper whole few =
-          let now : has (with s x) x ≡ true = with_has s x in
-          let later : Live vs s store regs = live_fewer vs (with s x) s store regs (λ y h. still_live y (VarExpr i x) s h) live in
-          paid c routines f r there w n wide most 0 1 1 at regs callers m (needed (w.place i) (slot store x) Done) (at + 1) (Gained vs n d s store regs) (omega arith) (omega arith)
-          (λ j e l. follows_needed mach wide 0 1 j (at_place f at regs callers j.output) (w.place i) (slot store x) Done (Comes f (at + 1) callers (Gained vs n d s store regs))
-          (λ v held. gained vs d at v s store regs regs callers j (slot_proper store x v proper held) (variable c routines f r there w n wide most at d x vs s (has s x) store regs callers j v refl known (known.below x b) behind stands (live.holds x v b now held) later whole)))
+      expr (NullExpr i) nu iz ca me le o k vs s d at store regs callers m b low known behind stands live proper whole few = null_fills c routines f r there w n wide most i s d n d o k vs at store regs callers m b low known behind (own_target n d s (is_below n vs s known) behind) stands live proper whole few
+      expr (BoolExpr i truth) nu iz ca me le o k vs s d at store regs callers m b low known behind stands live proper whole few = truth_fills c routines f r there w n wide most i truth s d n d o k vs at store regs callers m b low known behind (own_target n d s (is_below n vs s known) behind) stands live proper whole few
+      expr (IntExpr i number) nu iz ca me le o k vs s d at store regs callers m b low known behind stands live proper whole few = number_fills c routines f r there w n wide most i number iz s d n d o k vs at store regs callers m b low known behind (own_target n d s (is_below n vs s known) behind) stands live proper whole few
+      expr (VarExpr i x) nu iz ca me le o k vs s d at store regs callers m b low known behind stands live proper whole few = variable_fills c routines f r there w n wide most i x s d n d o k vs at store regs callers m b low known behind (own_target n d s (is_below n vs s known) behind) stands live proper whole few
       expr (CallExpr i g args) nu iz ca me le o k vs s d at store regs callers m b low known behind stands live proper whole few =
           let xs = codes c args s d in
           let ys = call (target c.results g) g d (count_of args) in
@@ -318,57 +323,29 @@ module _ (c : Context) (routines : List Routine) (f : ℕ) (r : Routine) (there 
           (follows_then mach wide (sizes args) 0 0 0 (sizes args) 0 j (at_place f at regs callers j.output) (eval_all w true args store j) F f (at + length xs) callers (GotAll vs n d (count_of args) s store regs) (Comes f (at + length xs + length ys) callers R) (omega arith) (omega arith)
           (all args nu iz ca.1 me (one_fits (sizes args) top le) o k vs s d at store regs callers j b.1 low known behind (stand_front r.body at xs ys stands) live proper whole (omega (arith, l, few)))
           (λ us t last le2 got. called vs d (at + length xs) g (w.place i) us s store regs last callers t (count_of args) ca.0 (omega (arith, le2, l, few)) (is_below n vs s known) behind whole got (stand_back r.body at xs ys stands))))
-      expr (NegExpr i a) nu iz ca me le o k vs s d at store regs callers m b low known behind stands live proper whole few =
-          one_part c routines f r there w n wide most a (variable_in a) (variable_read a) (expr a nu iz ca me (one_fits (size a) top le)) (negated d (standing (variable_in a) d)) (operations.negated (w.place i)) 0 2 (size a + 1) (omega arith) (omega arith) (λ v j p. negated_proper (w.place i) j v p) o k vs s d at store regs callers m
-          (λ v j p last pv got ys. follows_at mach wide 0 2 j (at_place f p last callers j.output) (operations.negated (w.place i) v j) f (p + 1 + 1) (p + 2) callers (Got vs n d s store regs) (omega arith)
-          (negated_follows mach f r there n wide vs s (is_below n vs s known) store d p (variable_in a) behind regs last whole callers (w.place i) j v got (stands_low vs n d (variable_in a) s store regs last v known behind got) ys))
-          b low known behind stands live proper whole few
-      expr (NotExpr i a) nu iz ca me le o k vs s d at store regs callers m b low known behind stands live proper whole few =
-          one_part c routines f r there w n wide most a (variable_in a) (variable_read a) (expr a nu iz ca me (one_fits (size a) top le)) (Does (instr.Not d (standing (variable_in a) d)) ∷ []) (denied (w.place i)) 0 1 (size a + 1) (omega arith) (omega arith) (λ v j p. denied_proper (w.place i) j v p) o k vs s d at store regs callers m
-          (λ v j p last pv got ys. denied_follows mach f r there n wide vs s (is_below n vs s known) store d p (variable_in a) behind regs last whole callers (w.place i) j v got ys.0)
-          b low known behind stands live proper whole few
-      expr (LenExpr i a) nu iz ca me le o k vs s d at store regs callers m b low known behind stands live proper whole few =
-          one_part c routines f r there w n wide most a (read a s) (live_read a s) (expr a nu iz ca me (one_fits (size a) top le)) (Does (instr.Len d (standing (read a s) d)) ∷ []) (length_result (w.place i)) 0 1 (size a + 1) (omega arith) (omega arith) (λ v j p. length_proper (w.place i) j v p) o k vs s d at store regs callers m
-          (λ v j p last pv got ys. length_follows mach f r there n wide vs s (is_below n vs s known) store d p (read a s) behind regs last whole callers (w.place i) j v got ys.0)
-          b low known behind stands live proper whole few
-      expr (BinaryExpr i op.Add a e2) nu iz ca me le o k vs s d at store regs callers m b low known behind stands live proper whole few =
-          numbers c routines f r there w n wide most op.Add tt (w.place i) a e2 (expr a nu.0 iz.0 ca.0 (λ z h. me z (inl h)) (first_fits (size a) (size e2) top le)) (expr e2 nu.1 iz.1 ca.1 (λ z h. me z (inr h)) (second_fits (size a) (size e2) top le)) s o k vs d at store regs callers m b low known behind stands live proper whole few
-      expr (BinaryExpr i op.Sub a e2) nu iz ca me le o k vs s d at store regs callers m b low known behind stands live proper whole few =
-          numbers c routines f r there w n wide most op.Sub tt (w.place i) a e2 (expr a nu.0 iz.0 ca.0 (λ z h. me z (inl h)) (first_fits (size a) (size e2) top le)) (expr e2 nu.1 iz.1 ca.1 (λ z h. me z (inr h)) (second_fits (size a) (size e2) top le)) s o k vs d at store regs callers m b low known behind stands live proper whole few
-      expr (BinaryExpr i op.Mul a e2) nu iz ca me le o k vs s d at store regs callers m b low known behind stands live proper whole few =
-          numbers c routines f r there w n wide most op.Mul tt (w.place i) a e2 (expr a nu.0 iz.0 ca.0 (λ z h. me z (inl h)) (first_fits (size a) (size e2) top le)) (expr e2 nu.1 iz.1 ca.1 (λ z h. me z (inr h)) (second_fits (size a) (size e2) top le)) s o k vs d at store regs callers m b low known behind stands live proper whole few
-      expr (BinaryExpr i op.Div a e2) nu iz ca me le o k vs s d at store regs callers m b low known behind stands live proper whole few =
-          numbers c routines f r there w n wide most op.Div tt (w.place i) a e2 (expr a nu.0 iz.0 ca.0 (λ z h. me z (inl h)) (first_fits (size a) (size e2) top le)) (expr e2 nu.1 iz.1 ca.1 (λ z h. me z (inr h)) (second_fits (size a) (size e2) top le)) s o k vs d at store regs callers m b low known behind stands live proper whole few
-      expr (BinaryExpr i op.Mod a e2) nu iz ca me le o k vs s d at store regs callers m b low known behind stands live proper whole few =
-          numbers c routines f r there w n wide most op.Mod tt (w.place i) a e2 (expr a nu.0 iz.0 ca.0 (λ z h. me z (inl h)) (first_fits (size a) (size e2) top le)) (expr e2 nu.1 iz.1 ca.1 (λ z h. me z (inr h)) (second_fits (size a) (size e2) top le)) s o k vs d at store regs callers m b low known behind stands live proper whole few
-      expr (BinaryExpr i op.Equal a e2) nu iz ca me le o k vs s d at store regs callers m b low known behind stands live proper whole few =
-          alike c routines f r there w n wide most (w.place i) a e2 (expr a nu.0 iz.0 ca.0 (λ z h. me z (inl h)) (first_fits (size a) (size e2) top le)) (expr e2 nu.1 iz.1 ca.1 (λ z h. me z (inr h)) (second_fits (size a) (size e2) top le)) s o k vs d at store regs callers m b low known behind stands live proper whole few
-      expr (BinaryExpr i op.Less a e2) nu iz ca me le o k vs s d at store regs callers m b low known behind stands live proper whole few =
-          numbers c routines f r there w n wide most op.Less tt (w.place i) a e2 (expr a nu.0 iz.0 ca.0 (λ z h. me z (inl h)) (first_fits (size a) (size e2) top le)) (expr e2 nu.1 iz.1 ca.1 (λ z h. me z (inr h)) (second_fits (size a) (size e2) top le)) s o k vs d at store regs callers m b low known behind stands live proper whole few
-      expr (BinaryExpr i op.LessEqual a e2) nu iz ca me le o k vs s d at store regs callers m b low known behind stands live proper whole few =
-          numbers c routines f r there w n wide most op.LessEqual tt (w.place i) a e2 (expr a nu.0 iz.0 ca.0 (λ z h. me z (inl h)) (first_fits (size a) (size e2) top le)) (expr e2 nu.1 iz.1 ca.1 (λ z h. me z (inr h)) (second_fits (size a) (size e2) top le)) s o k vs d at store regs callers m b low known behind stands live proper whole few
-      expr (BinaryExpr i op.Greater a e2) nu iz ca me le o k vs s d at store regs callers m b low known behind stands live proper whole few =
-          numbers c routines f r there w n wide most op.Greater tt (w.place i) a e2 (expr a nu.0 iz.0 ca.0 (λ z h. me z (inl h)) (first_fits (size a) (size e2) top le)) (expr e2 nu.1 iz.1 ca.1 (λ z h. me z (inr h)) (second_fits (size a) (size e2) top le)) s o k vs d at store regs callers m b low known behind stands live proper whole few
-      expr (BinaryExpr i op.GreaterEqual a e2) nu iz ca me le o k vs s d at store regs callers m b low known behind stands live proper whole few =
-          numbers c routines f r there w n wide most op.GreaterEqual tt (w.place i) a e2 (expr a nu.0 iz.0 ca.0 (λ z h. me z (inl h)) (first_fits (size a) (size e2) top le)) (expr e2 nu.1 iz.1 ca.1 (λ z h. me z (inr h)) (second_fits (size a) (size e2) top le)) s o k vs d at store regs callers m b low known behind stands live proper whole few
+      expr (NegExpr i a) nu iz ca me le o k vs s d at store regs callers m b low known behind stands live proper whole few = negated_fills c routines f r there w n wide most i a (expr a nu iz ca me (one_fits (size a) top le)) s d n d o k vs at store regs callers m b low known behind (own_target n d s (is_below n vs s known) behind) stands live proper whole few
+      expr (NotExpr i a) nu iz ca me le o k vs s d at store regs callers m b low known behind stands live proper whole few = denied_fills c routines f r there w n wide most i a (expr a nu iz ca me (one_fits (size a) top le)) s d n d o k vs at store regs callers m b low known behind (own_target n d s (is_below n vs s known) behind) stands live proper whole few
+      expr (LenExpr i a) nu iz ca me le o k vs s d at store regs callers m b low known behind stands live proper whole few = length_fills c routines f r there w n wide most i a (expr a nu iz ca me (one_fits (size a) top le)) s d n d o k vs at store regs callers m b low known behind (own_target n d s (is_below n vs s known) behind) stands live proper whole few
+      expr (BinaryExpr i op.Add a e2) nu iz ca me le o k vs s d at store regs callers m b low known behind stands live proper whole few = operator_fills c routines f r there w n wide most i a e2 (expr a nu.0 iz.0 ca.0 (λ z h. me z (inl h)) (first_fits (size a) (size e2) top le)) (expr e2 nu.1 iz.1 ca.1 (λ z h. me z (inr h)) (second_fits (size a) (size e2) top le)) s d n d op.Add tt o k vs at store regs callers m b low known behind (own_target n d s (is_below n vs s known) behind) stands live proper whole few
+      expr (BinaryExpr i op.Sub a e2) nu iz ca me le o k vs s d at store regs callers m b low known behind stands live proper whole few = operator_fills c routines f r there w n wide most i a e2 (expr a nu.0 iz.0 ca.0 (λ z h. me z (inl h)) (first_fits (size a) (size e2) top le)) (expr e2 nu.1 iz.1 ca.1 (λ z h. me z (inr h)) (second_fits (size a) (size e2) top le)) s d n d op.Sub tt o k vs at store regs callers m b low known behind (own_target n d s (is_below n vs s known) behind) stands live proper whole few
+      expr (BinaryExpr i op.Mul a e2) nu iz ca me le o k vs s d at store regs callers m b low known behind stands live proper whole few = operator_fills c routines f r there w n wide most i a e2 (expr a nu.0 iz.0 ca.0 (λ z h. me z (inl h)) (first_fits (size a) (size e2) top le)) (expr e2 nu.1 iz.1 ca.1 (λ z h. me z (inr h)) (second_fits (size a) (size e2) top le)) s d n d op.Mul tt o k vs at store regs callers m b low known behind (own_target n d s (is_below n vs s known) behind) stands live proper whole few
+      expr (BinaryExpr i op.Div a e2) nu iz ca me le o k vs s d at store regs callers m b low known behind stands live proper whole few = operator_fills c routines f r there w n wide most i a e2 (expr a nu.0 iz.0 ca.0 (λ z h. me z (inl h)) (first_fits (size a) (size e2) top le)) (expr e2 nu.1 iz.1 ca.1 (λ z h. me z (inr h)) (second_fits (size a) (size e2) top le)) s d n d op.Div tt o k vs at store regs callers m b low known behind (own_target n d s (is_below n vs s known) behind) stands live proper whole few
+      expr (BinaryExpr i op.Mod a e2) nu iz ca me le o k vs s d at store regs callers m b low known behind stands live proper whole few = operator_fills c routines f r there w n wide most i a e2 (expr a nu.0 iz.0 ca.0 (λ z h. me z (inl h)) (first_fits (size a) (size e2) top le)) (expr e2 nu.1 iz.1 ca.1 (λ z h. me z (inr h)) (second_fits (size a) (size e2) top le)) s d n d op.Mod tt o k vs at store regs callers m b low known behind (own_target n d s (is_below n vs s known) behind) stands live proper whole few
+      expr (BinaryExpr i op.Equal a e2) nu iz ca me le o k vs s d at store regs callers m b low known behind stands live proper whole few = operator_fills c routines f r there w n wide most i a e2 (expr a nu.0 iz.0 ca.0 (λ z h. me z (inl h)) (first_fits (size a) (size e2) top le)) (expr e2 nu.1 iz.1 ca.1 (λ z h. me z (inr h)) (second_fits (size a) (size e2) top le)) s d n d op.Equal tt o k vs at store regs callers m b low known behind (own_target n d s (is_below n vs s known) behind) stands live proper whole few
+      expr (BinaryExpr i op.Less a e2) nu iz ca me le o k vs s d at store regs callers m b low known behind stands live proper whole few = operator_fills c routines f r there w n wide most i a e2 (expr a nu.0 iz.0 ca.0 (λ z h. me z (inl h)) (first_fits (size a) (size e2) top le)) (expr e2 nu.1 iz.1 ca.1 (λ z h. me z (inr h)) (second_fits (size a) (size e2) top le)) s d n d op.Less tt o k vs at store regs callers m b low known behind (own_target n d s (is_below n vs s known) behind) stands live proper whole few
+      expr (BinaryExpr i op.LessEqual a e2) nu iz ca me le o k vs s d at store regs callers m b low known behind stands live proper whole few = operator_fills c routines f r there w n wide most i a e2 (expr a nu.0 iz.0 ca.0 (λ z h. me z (inl h)) (first_fits (size a) (size e2) top le)) (expr e2 nu.1 iz.1 ca.1 (λ z h. me z (inr h)) (second_fits (size a) (size e2) top le)) s d n d op.LessEqual tt o k vs at store regs callers m b low known behind (own_target n d s (is_below n vs s known) behind) stands live proper whole few
+      expr (BinaryExpr i op.Greater a e2) nu iz ca me le o k vs s d at store regs callers m b low known behind stands live proper whole few = operator_fills c routines f r there w n wide most i a e2 (expr a nu.0 iz.0 ca.0 (λ z h. me z (inl h)) (first_fits (size a) (size e2) top le)) (expr e2 nu.1 iz.1 ca.1 (λ z h. me z (inr h)) (second_fits (size a) (size e2) top le)) s d n d op.Greater tt o k vs at store regs callers m b low known behind (own_target n d s (is_below n vs s known) behind) stands live proper whole few
+      expr (BinaryExpr i op.GreaterEqual a e2) nu iz ca me le o k vs s d at store regs callers m b low known behind stands live proper whole few = operator_fills c routines f r there w n wide most i a e2 (expr a nu.0 iz.0 ca.0 (λ z h. me z (inl h)) (first_fits (size a) (size e2) top le)) (expr e2 nu.1 iz.1 ca.1 (λ z h. me z (inr h)) (second_fits (size a) (size e2) top le)) s d n d op.GreaterEqual tt o k vs at store regs callers m b low known behind (own_target n d s (is_below n vs s known) behind) stands live proper whole few
       expr (BinaryExpr i op.And a e2) nu iz ca me le o k vs s d at store regs callers m b low known behind stands live proper whole few =
           early c routines f r there w n wide most op.And tt (w.place i) a e2 (expr a nu.0 iz.0 ca.0 (λ z h. me z (inl h)) (first_fits (size a) (size e2) top le)) (expr e2 nu.1 iz.1 ca.1 (λ z h. me z (inr h)) (second_fits (size a) (size e2) top le)) o k vs s d at store regs callers m b low known behind stands live proper whole few
       expr (BinaryExpr i op.Or a e2) nu iz ca me le o k vs s d at store regs callers m b low known behind stands live proper whole few =
           early c routines f r there w n wide most op.Or tt (w.place i) a e2 (expr a nu.0 iz.0 ca.0 (λ z h. me z (inl h)) (first_fits (size a) (size e2) top le)) (expr e2 nu.1 iz.1 ca.1 (λ z h. me z (inr h)) (second_fits (size a) (size e2) top le)) o k vs s d at store regs callers m b low known behind stands live proper whole few
       expr (IsExpr i a ty) nu iz ca me le o k vs s d at store regs callers m b low known behind stands live proper whole few =
-          one_part c routines f r there w n wide most a (tested_read ty a s) (read_where (looks ty) a (read a s) (live_read a s)) (expr a nu.0 iz ca (λ z h. me z (inl h)) (first_fits (size a) (size_ty ty) top le)) (tested c ty (tested_read ty a s) d) (λ v j. w.test true ty v j >>= (λ t. Done (Truth t))) (size_ty ty) 3 (size a + size_ty ty + 1) (omega arith) (omega arith) (λ v j p. truth_gives ty v j) o k vs s d at store regs callers m
+          one_part c routines f r there w n wide most a (tested_read ty a s) (read_where (looks ty) a (read a s) (live_read a s)) (expr a nu.0 iz ca (λ z h. me z (inl h)) (first_fits (size a) (size_ty ty) top le)) (tested c ty (tested_read ty a s) d) (λ v j. w.test true ty v j >>= (λ t. Done (Truth t))) (size_ty ty) 3 (size a + size_ty ty + 1) (omega arith) (omega arith) (λ v j p. truth_gives ty v j) o k vs s d at store regs callers m (Got vs n d s store regs)
           (λ v j p last pv got ys. tested_follows (tested_read ty a s) vs d p ty s store regs last callers j v o.types b.1 nu.1 (λ z h. me z (inr h)) (omega (arith, le, small)) known behind whole pv got ys)
           b.0 low known behind stands live proper whole few
-      expr (IndexExpr i a e2) nu iz ca me le o k vs s d at store regs callers m b low known behind stands live proper whole few =
-          let ys : List Step = Does (instr.Get d (standing (read a s) d) (standing (variable_in e2) (suc d))) ∷ [] in
-          paid c routines f r there w n wide most (size a + size e2 + 0) 1 (size a + size e2 + 1) at regs callers m (λ j. eval w true a store j >>= (λ v t. eval w true e2 store t >>= item_of (w.place i) v)) (at + length (unless_read (read a s) (code c a (before e2 s) d) ++ (unless_read (variable_in e2) (code c e2 s (suc d)) ++ ys))) (Gained vs n d s store regs) (omega arith) (omega arith)
-          (λ j e l. two_parts c routines f r there w n wide most a e2 (read a s) (variable_in e2) (live_read a s) (variable_read e2) (expr a nu.0 iz.0 ca.0 (λ z h. me z (inl h)) (first_fits (size a) (size e2) top le)) (expr e2 nu.1 iz.1 ca.1 (λ z h. me z (inr h)) (second_fits (size a) (size e2) top le)) ys (item_of (w.place i)) 0 1 (λ v u j p q. item_proper (w.place i) j v u p q) o k vs s s d at store regs callers j (live_kept a s)
-          (λ v u t p last le2 pv pu both ys. item_follows mach f r there n wide vs s (is_below n vs s known) store d (standing (read a s) d) (standing (variable_in e2) (suc d)) p behind regs last whole callers (w.place i) t v u both ys.0)
-          b.0 b.1 low known behind stands live proper whole (omega (arith, l, few)))
-      expr (FieldExpr i a name) nu iz ca me le o k vs s d at store regs callers m b low known behind stands live proper whole few =
-          one_part c routines f r there w n wide most a (read a s) (live_read a s) (expr a nu.0 iz ca me (one_fits (size a) top le)) (Does (instr.Field d (standing (read a s) d) (number_of name c.table.names)) ∷ []) (λ v. field_of (w.place i) v name) 0 1 (size a + 1) (omega arith) (omega arith) (λ v j p. field_proper (w.place i) j name v p) o k vs s d at store regs callers m
-          (λ v j p last pv got ys. field_follows mach f r there n wide vs s (is_below n vs s known) store d p (read a s) behind regs last whole callers (w.place i) j v got (number_of name c.table.names) name nu.1 ys.0)
-          b low known behind stands live proper whole few
+      expr (IndexExpr i a e2) nu iz ca me le o k vs s d at store regs callers m b low known behind stands live proper whole few = item_fills c routines f r there w n wide most i a e2 (expr a nu.0 iz.0 ca.0 (λ z h. me z (inl h)) (first_fits (size a) (size e2) top le)) (expr e2 nu.1 iz.1 ca.1 (λ z h. me z (inr h)) (second_fits (size a) (size e2) top le)) s d n d o k vs at store regs callers m b low known behind (own_target n d s (is_below n vs s known) behind) stands live proper whole few
+      expr (FieldExpr i a name) nu iz ca me le o k vs s d at store regs callers m b low known behind stands live proper whole few = field_fills c routines f r there w n wide most i a (expr a nu.0 iz ca me (one_fits (size a) top le)) s d n d name nu.1 o k vs at store regs callers m b low known behind (own_target n d s (is_below n vs s known) behind) stands live proper whole few
       expr (ListExpr i items) nu iz ca me le o k vs s d at store regs callers m b low known behind stands live proper whole few =
           let xs = codes c items s d in
           let ys : List Step = Does (instr.Array d (registers_from d (count_of items))) ∷ [] in
@@ -383,8 +360,8 @@ module _ (c : Context) (routines : List Routine) (f : ℕ) (r : Routine) (there 
       expr (RepeatExpr i a e2) nu iz ca me le o k vs s d at store regs callers m b low known behind stands live proper whole few =
           let ys : List Step = Does (instr.Fill d d (suc d)) ∷ [] in
           paid c routines f r there w n wide most (size a + size e2 + 0) 1 (size a + size e2 + 1) at regs callers m (λ j. eval w true a store j >>= (λ v t. eval w true e2 store t >>= repeated (w.place i) v)) (at + length (code c a (before e2 s) d ++ (code c e2 s (suc d) ++ ys))) (Gained vs n d s store regs) (omega arith) (omega arith)
-          (λ j e l. two_parts c routines f r there w n wide most a e2 None None tt tt (expr a nu.0 iz.0 ca.0 (λ z h. me z (inl h)) (first_fits (size a) (size e2) top le)) (expr e2 nu.1 iz.1 ca.1 (λ z h. me z (inr h)) (second_fits (size a) (size e2) top le)) ys (repeated (w.place i)) 0 1 (λ v u j p q. repeated_proper (w.place i) j v u p q) o k vs s s d at store regs callers j tt
-          (λ v u t p last le2 pv pu both ys. repeated_follows mach f r there n wide vs s (is_below n vs s known) store d p behind regs last whole callers (w.place i) t v u both ys.0)
+          (λ j e l. two_parts c routines f r there w n wide most a e2 None None tt tt (expr a nu.0 iz.0 ca.0 (λ z h. me z (inl h)) (first_fits (size a) (size e2) top le)) (expr e2 nu.1 iz.1 ca.1 (λ z h. me z (inr h)) (second_fits (size a) (size e2) top le)) ys (repeated (w.place i)) 0 1 (λ v u j p q. repeated_proper (w.place i) j v u p q) o k vs s d at store regs callers j (Got vs n d s store regs) tt
+          (λ v u t p last le2 pv pu both ys. repeated_follows mach f r there n d wide vs s (apart_behind n s d (is_below n vs s known) behind) store p regs last whole callers (w.place i) t v u both ys.0)
           b.0 b.1 low known behind stands live proper whole (omega (arith, l, few)))
       expr (RecordExpr i fs) nu iz ca me le o k vs s d at store regs callers m b low known behind stands live proper whole few =
           let xs = field_codes c fs s d in
@@ -408,7 +385,7 @@ module _ (c : Context) (routines : List Routine) (f : ℕ) (r : Routine) (there 
           let ys = quantify q x d (code c body T (suc (suc d))) (released T s) in
           let F = λ (z : ℤ). turn w.limit true (eval w true body (put store x (Some (Whole z)))) in
           paid c routines f r there w n wide most (size a + size e2 + 0) 5 (size a + size e2 + size body + 1) at regs callers m (λ j. eval w true a store j >>= (λ v t. eval w true e2 store t >>= quantified q (w.place i) F v)) (at + length (code c a (before e2 T) d ++ (code c e2 T (suc d) ++ ys))) (Gained vs n d s store regs) (omega arith) (omega arith)
-          (λ j e l. two_parts c routines f r there w n wide most a e2 None None tt tt one two ys (λ v u. quantified q (w.place i) F v u) 0 5 (λ v u t p g. quantified_gives q (w.place i) F v u t) o k vs T s d at store regs callers j tt
+          (λ j e l. two_parts c routines f r there w n wide most a e2 None None tt tt one two ys (λ v u. quantified q (w.place i) F v u) 0 5 (λ v u t p g. quantified_gives q (w.place i) F v u t) o k vs T d at store regs callers j (Got vs n d s store regs) tt
           (λ v u t p last le2 pv pu both stood.
           let Q = Comes f (p + length ys) callers (Got vs n d s store regs) in
           let st = at_place f p last callers t.output in
@@ -458,6 +435,25 @@ module _ (c : Context) (routines : List Routine) (f : ℕ) (r : Routine) (there 
           (λ ds i last le3 more. stays_last mach f r there wide to last callers i (field name v ds) R
           (record { listed = v ∷ more.listed; got = one_more vs d (field_count fs) (before_fields fs s) s store regs middle last v more.listed behind p one more.got; fields = ap (λ (x : Option Fields). behind_field name v x) more.fields; proper = (p, more.proper) }))))
 
+    -- where its value comes straight into the register of a variable
+    straight : (e : Expr ℕ) → NumberedExpr c.table e → IntsExpr e → CallsExpr C e → ((q : ℕ) → Mentions e q → P q) → size e ≤ top → (s : Variables) → is_straight e s ≡ true → (d from z : ℕ) → IsFilled c routines f r there w n wide most e s d from z (into c e s d z)
+    straight (NullExpr i) nu iz ca me le s is d from z = null_fills c routines f r there w n wide most i s d from z
+    straight (BoolExpr i truth) nu iz ca me le s is d from z = truth_fills c routines f r there w n wide most i truth s d from z
+    straight (IntExpr i number) nu iz ca me le s is d from z = number_fills c routines f r there w n wide most i number iz s d from z
+    straight (VarExpr i x) nu iz ca me le s is d from z = variable_fills c routines f r there w n wide most i x s d from z
+    straight (NegExpr i a) nu iz ca me le s is d from z = negated_fills c routines f r there w n wide most i a (expr a nu iz ca me (one_fits (size a) top le)) s d from z
+    straight (NotExpr i a) nu iz ca me le s is d from z = denied_fills c routines f r there w n wide most i a (expr a nu iz ca me (one_fits (size a) top le)) s d from z
+    straight (LenExpr i a) nu iz ca me le s is d from z = length_fills c routines f r there w n wide most i a (expr a nu iz ca me (one_fits (size a) top le)) s d from z
+    straight (BinaryExpr i o a e2) nu iz ca me le s is d from z = operator_fills c routines f r there w n wide most i a e2 (expr a nu.0 iz.0 ca.0 (λ z h. me z (inl h)) (first_fits (size a) (size e2) top le)) (expr e2 nu.1 iz.1 ca.1 (λ z h. me z (inr h)) (second_fits (size a) (size e2) top le)) s d from z o (on_numbers_strict o is)
+    straight (IndexExpr i a e2) nu iz ca me le s is d from z = item_fills c routines f r there w n wide most i a e2 (expr a nu.0 iz.0 ca.0 (λ z h. me z (inl h)) (first_fits (size a) (size e2) top le)) (expr e2 nu.1 iz.1 ca.1 (λ z h. me z (inr h)) (second_fits (size a) (size e2) top le)) s d from z
+    straight (FieldExpr i a name) nu iz ca me le s is d from z = field_fills c routines f r there w n wide most i a (expr a nu.0 iz ca me (one_fits (size a) top le)) s d from z name nu.1
+    straight (CallExpr i g args) nu iz ca me le s is d from z = never is
+    straight (IsExpr i a ty) nu iz ca me le s is d from z = never is
+    straight (ListExpr i items) nu iz ca me le s is d from z = never is
+    straight (RepeatExpr i a e2) nu iz ca me le s is d from z = never is
+    straight (RecordExpr i fs) nu iz ca me le s is d from z = never is
+    straight (QuantExpr i q x a e2 body) nu iz ca me le s is d from z = never is
+
 -- ---- the law
 
 pub brief_one : (c : Context) (routines : List Routine) (f : ℕ) (r : Routine) (there : IsRoutine (with_table c routines) f r) (w : Setting ℕ) (n wide most : ℕ) (C P : ℕ → Type 0) → Rests c routines w wide most C P
@@ -470,6 +466,12 @@ evaluated_one c routines f r there w n wide most C P rests e h o k vs s d at sto
     leaves_follows (with_table c routines) wide (size e) 2 m (at_place f at regs callers m.output) (eval w true e store m) (Comes f (at + length (code c e s d)) callers (Gained vs n d s store regs))
     (brief_one c routines f r there w n wide most C P rests e h o k vs s d at store regs callers m b low known behind stands live proper whole few)
 
+pub evaluated_into : (c : Context) (routines : List Routine) (f : ℕ) (r : Routine) (there : IsRoutine (with_table c routines) f r) (w : Setting ℕ) (n wide most : ℕ) (C P : ℕ → Type 0) → Rests c routines w wide most C P
+    → (e : Expr ℕ) → Fits c wide C P e → IsEvaluatedInto c routines f r w n wide most e
+evaluated_into c routines f r there w n wide most C P rests e h o k vs s d x at store regs callers m is b low known behind less apart stands live proper whole few =
+    leaves_follows (with_table c routines) wide (size e) 2 m (at_place f at regs callers m.output) (eval w true e store m) (Comes f (at + length (into c e s d x)) callers (Gained vs x x s store regs))
+    (straight c routines f r there w n wide most C P rests (size e) h.nodes h.few e h.numbered h.ints h.calls h.names (omega arith) s is d x x o k vs at store regs callers m b low known behind (variable_target n d x s apart less behind) stands live proper whole few)
+
 pub evaluated_all : (c : Context) (routines : List Routine) (f : ℕ) (r : Routine) (there : IsRoutine (with_table c routines) f r) (w : Setting ℕ) (n wide most : ℕ) (C P : ℕ → Type 0) → Rests c routines w wide most C P
     → (es : Exprs ℕ) → FitAll c wide C P es → AreEvaluated c routines f r w n wide most es
 evaluated_all c routines f r there w n wide most C P rests es h = all c routines f r there w n wide most C P rests (sizes es) h.nodes h.few es h.numbered h.ints h.calls h.names (omega arith)
@@ -477,5 +479,6 @@ evaluated_all c routines f r there w n wide most C P rests es h = all c routines
 pub expressions_evaluated : ExpressionsAreEvaluated
 expressions_evaluated = record {
   one = λ c routines f r there w n wide most types rests e h. evaluated_one c routines f r there w n wide most Anything (IsDeclared types) rests e h;
+  straight = λ c routines f r there w n wide most types rests e h. evaluated_into c routines f r there w n wide most Anything (IsDeclared types) rests e h;
   all = λ c routines f r there w n wide most types rests es h. evaluated_all c routines f r there w n wide most Anything (IsDeclared types) rests es h;
 }

@@ -281,11 +281,19 @@ is_below n vs s h x i = h.within x i
 
 -- ---- a value comes into its register
 
-pub got_put : (vs : Scope) (n : ℕ) (s : Variables) (store first regs : Store) (d : ℕ) (v : Datum) → ((x : ℕ) → has s x ≡ true → x < n) → n ≤ d → d < length regs → Live vs s store regs → ((t : ℕ) → n ≤ t → t < d → slot regs t ≡ slot first t) → length regs ≡ length first
+-- no variable of the set has this register
+abbrev pub Apart : Variables → ℕ → Type 0
+Apart s t = (y : ℕ) → has s y ≡ true → y ≢ t
+
+-- a register behind those of the variables
+pub apart_behind : (n : ℕ) (s : Variables) (d : ℕ) → ((x : ℕ) → has s x ≡ true → x < n) → n ≤ d → Apart s d
+apart_behind n s d below behind y h e = let l = below y h in absurd (omega (arith, l, behind, e))
+
+pub got_put : (vs : Scope) (n : ℕ) (s : Variables) (store first regs : Store) (d : ℕ) (v : Datum) → Apart s d → d < length regs → Live vs s store regs → ((t : ℕ) → n ≤ t → t < d → slot regs t ≡ slot first t) → length regs ≡ length first
     → Got vs n d s store first v (put regs d (Some v))
-got_put vs n s store first regs d v below behind room live kept size = record {
+got_put vs n s store first regs d v apart room live kept size = record {
   value = put_here regs d (Some v) room;
-  live = live_put vs s store regs d (Some v) (λ x i h e. let l = below x h in absurd (omega (arith, l, behind, e))) live;
+  live = live_put vs s store regs d (Some v) (λ x i h. apart x h) live;
   kept = λ t a b. put_other regs d t (Some v) (λ e. absurd (omega (arith, b, e))) ∙ kept t a b;
   size = put_size regs d (Some v) ∙ size;
 }

@@ -4,5 +4,6 @@ pub mod FitLemmas
 pub mod ReadLemmas
 pub mod PartLemmas
 pub mod OperandLemmas
+pub mod IntoLemmas
 pub mod QuantifierLemmas
 pub mod ExpressionLemmas

@@ -1,6 +1,6 @@
 -- Operands: what stands in front of the instructions of an operator, where each operand is read, and what `&&` and `||` leave out.
 use Rattle.std.proofs.Common.{◌≡◌, ◌<◌, ◌≤◌, ℕ, zero, suc, ◌+◌, List, [], ◌∷◌, ◌++◌, length, Bool, true, false, cond, Option, Some, None, refl, ◌∙◌, ap, subst, arith, length-append}
-use Rattle.std.specs.Prelude.{◌&&◌, not}
+use Rattle.std.specs.Prelude.{◌≢◌, ◌&&◌, not}
 use Rattle.wy_value.specs.Datum.{Datum, Truth}
 use Rattle.wy_core.specs.CoreTree.{Expr, VarExpr}
 use Rattle.wy_core.specs.declared.expressions.Op.{Op}
@@ -35,9 +35,9 @@ use Rattle.wy_simulation.proofs.PieceLemmas.{stays_last, fork_on, fork_off, clea
 use Rattle.wy_kept_values.specs.Kept.{IsProper, StoreProper, Gives}
 use Rattle.wy_simulated_expressions.specs.Standing.{with_table, AreKnown}
 use Rattle.wy_simulated_expressions.specs.Evaluated.{Gained}
-use Rattle.wy_simulated_expressions.proofs.KnownLemmas.{with_has, known_before, is_below, still_live}
+use Rattle.wy_simulated_expressions.proofs.KnownLemmas.{Apart, with_has, known_before, is_below, still_live}
 use Rattle.wy_simulated_expressions.proofs.KnowingLemmas.{slot_proper, follows_knowing, applied_proper}
-use Rattle.wy_simulated_expressions.proofs.ReadLemmas.{IsRead, IsKept, as_variable, variable_read, live_read, live_kept, releases_behind, Stands, Both, got_stands, both_stand, both_fewer, read_bound, known_with, same_code, still_before}
+use Rattle.wy_simulated_expressions.proofs.ReadLemmas.{IsRead, IsKept, IsTarget, free_behind, both_within, as_variable, variable_read, live_read, live_kept, releases_behind, Stands, Both, got_stands, both_stand, both_fewer, read_bound, known_with, same_code, still_before}
 use Rattle.wy_simulated_expressions.proofs.PartLemmas.{IsStrict, fills, applied_follows}
 
 -- ---- what is released
@@ -129,15 +129,15 @@ module _ (c : Context) (routines : List Routine) (f : ℕ) (r : Routine) (there 
 
   -- ---- variables
 
-  pub variable : (at d x : ℕ) (vs : Scope) (s : Variables) (shared : Bool) (store regs : Store) (callers : List Caller) (m : Meter) (v : Datum) → has s x ≡ shared → AreKnown n vs s → x < n → n ≤ d → StandAt r.body at (Does (cond shared (instr.Share d x) (instr.Move d x)) ∷ []) → slot regs x ≡ Some v
-      → Live vs s store regs → length regs ≡ r.registers → Follows (with_table c routines) wide 0 1 m (at_place f at regs callers m.output) (Done v m) (Comes f (at + 1) callers (Got vs n d s store regs))
-  variable at d x vs s true store regs callers m v e known less behind stands held live size =
-      fills mach f r there n wide vs s (is_below n vs s known) store d at (instr.Share d x) (x ∷ []) regs regs regs callers m v behind stands.0 refl (share_does mach.shapes regs d x v held) size live (λ t a b. refl) refl
-  variable at d x vs s false store regs callers m v e known less behind stands held live size =
-      fills mach f r there n wide vs s (is_below n vs s known) store d at (instr.Move d x) (x ∷ []) regs (put regs x None) regs callers m v behind stands.0 refl (move_does mach.shapes regs d x v held)
+  pub variable : (from z at x : ℕ) (vs : Scope) (s : Variables) (shared : Bool) (store regs : Store) (callers : List Caller) (m : Meter) (v : Datum) → has s x ≡ shared → Apart s z → ((t : ℕ) → from ≤ t → t < z → t ≢ x) → StandAt r.body at (Does (cond shared (instr.Share z x) (instr.Move z x)) ∷ []) → slot regs x ≡ Some v
+      → Live vs s store regs → length regs ≡ r.registers → Follows (with_table c routines) wide 0 1 m (at_place f at regs callers m.output) (Done v m) (Comes f (at + 1) callers (Got vs from z s store regs))
+  variable from z at x vs s true store regs callers m v e apart before stands held live size =
+      fills mach f r there from z wide vs s apart store at (instr.Share z x) (x ∷ []) regs regs regs callers m v stands.0 refl (share_does mach.shapes regs z x v held) size live (λ t a b. refl) refl
+  variable from z at x vs s false store regs callers m v e apart before stands held live size =
+      fills mach f r there from z wide vs s apart store at (instr.Move z x) (x ∷ []) regs (put regs x None) regs callers m v stands.0 refl (move_does mach.shapes regs z x v held)
       (put_size regs x None ∙ size)
       (live_put vs s store regs x None (λ y i h g. absurd (let a : has s x ≡ true = subst (λ (z : ℕ). has s z ≡ true) g h in cc)) live)
-      (λ t a b. put_other regs x t None (λ g. absurd (omega (arith, less, a, g))))
+      (λ t a b. put_other regs x t None (before t a b))
       (put_size regs x None)
 
   -- ---- what goes on from the value of an expression
@@ -201,86 +201,89 @@ module _ (c : Context) (routines : List Routine) (f : ℕ) (r : Routine) (there 
   -- ---- one operand
 
   pub one_part : (a : Expr ℕ) (q : Option ℕ) → IsRead a q → IsBrief a → (ys : List Step) (tail : Datum → Run Datum) (lo hi total : ℕ) → suc (size a + lo) ≤ total → hi ≤ 14 → ((v : Datum) (j : Meter) → IsProper v → Gives IsProper (tail v j))
-      → (o : Offers) (k : ℕ) (vs : Scope) (s : Variables) (d at : ℕ) (store regs : Store) (callers : List Caller) (m : Meter)
-      → ((v : Datum) (j : Meter) (p : ℕ) (last : Store) → IsProper v → Stands vs n d q s store regs v last → StandAt r.body p ys → Follows (with_table c routines) wide lo hi j (at_place f p last callers j.output) (tail v j) (Comes f (p + length ys) callers (Got vs n d s store regs)))
+      → (o : Offers) (k : ℕ) (vs : Scope) (s : Variables) (d at : ℕ) (store regs : Store) (callers : List Caller) (m : Meter) (R : Datum → Store → Type 0)
+      → ((v : Datum) (j : Meter) (p : ℕ) (last : Store) → IsProper v → Stands vs n d q s store regs v last → StandAt r.body p ys → Follows (with_table c routines) wide lo hi j (at_place f p last callers j.output) (tail v j) (Comes f (p + length ys) callers R))
       → BoundExpr o k vs a → k ≤ n → AreKnown n vs s → n ≤ d → StandAt r.body at (unless_read q (code c a s d) ++ ys) → Live vs (before a s) store regs → StoreProper store → length regs ≡ r.registers → m.ticks ≤ most
-      → Leaves (with_table c routines) wide total 2 m (at_place f at regs callers m.output) (spend true (λ j. eval w true a store j >>= tail) m) (Comes f (at + length (unless_read q (code c a s d) ++ ys)) callers (Gained vs n d s store regs))
-  one_part a q is sa ys tail lo hi total enough much gives o k vs s d at store regs callers m finish b low known behind stands live proper whole few =
+      → Leaves (with_table c routines) wide total 2 m (at_place f at regs callers m.output) (spend true (λ j. eval w true a store j >>= tail) m) (Comes f (at + length (unless_read q (code c a s d) ++ ys)) callers (λ v last. IsProper v × R v last))
+  one_part a q is sa ys tail lo hi total enough much gives o k vs s d at store regs callers m R finish b low known behind stands live proper whole few =
       let xs = unless_read q (code c a s d) in
       let l1 : length (xs ++ ys) ≡ length xs + length ys = length-append xs ys in
-      let R = Gained vs n d s store regs in
-      paid (size a + lo) hi total at regs callers m (λ j. eval w true a store j >>= tail) (at + length (xs ++ ys)) R enough much
-      (λ j e l. follows_at mach wide (size a + lo) hi j (at_place f at regs callers j.output) (eval w true a store j >>= tail) f (at + length xs + length ys) (at + length (xs ++ ys)) callers R (omega (arith, l1))
-      (operand a q is sa lo hi (size a + lo) (omega arith) o k vs s d at store regs callers j b low known behind (stand_front r.body at xs ys stands) live proper whole (omega (arith, l, few)) tail (at + length xs + length ys) R
-      (λ v i last le p one. follows_knowing mach wide lo hi i (at_place f (at + length xs) last callers i.output) (tail v i) IsProper f (at + length xs + length ys) callers (Got vs n d s store regs) (gives v i p)
+      let Q : Datum → Store → Type 0 = λ v last. IsProper v × R v last in
+      paid (size a + lo) hi total at regs callers m (λ j. eval w true a store j >>= tail) (at + length (xs ++ ys)) Q enough much
+      (λ j e l. follows_at mach wide (size a + lo) hi j (at_place f at regs callers j.output) (eval w true a store j >>= tail) f (at + length xs + length ys) (at + length (xs ++ ys)) callers Q (omega (arith, l1))
+      (operand a q is sa lo hi (size a + lo) (omega arith) o k vs s d at store regs callers j b low known behind (stand_front r.body at xs ys stands) live proper whole (omega (arith, l, few)) tail (at + length xs + length ys) Q
+      (λ v i last le p one. follows_knowing mach wide lo hi i (at_place f (at + length xs) last callers i.output) (tail v i) IsProper f (at + length xs + length ys) callers R (gives v i p)
       (finish v i (at + length xs) last p one (stand_back r.body at xs ys stands)))))
 
   -- ---- two operands
 
   -- what follows two expressions whose values stand where they are read, or come into d and the register behind it
   pub two_parts : (a b : Expr ℕ) (q e : Option ℕ) → IsRead a q → IsRead b e → IsBrief a → IsBrief b → (ys : List Step) (tail : Datum → Datum → Run Datum) (lo hi : ℕ) → ((v u : Datum) (j : Meter) → IsProper v → IsProper u → Gives IsProper (tail v u j))
-      → (o : Offers) (k : ℕ) (vs : Scope) (t s : Variables) (d at : ℕ) (store regs : Store) (callers : List Caller) (m : Meter) → IsKept q t
+      → (o : Offers) (k : ℕ) (vs : Scope) (t : Variables) (d at : ℕ) (store regs : Store) (callers : List Caller) (m : Meter) (R : Datum → Store → Type 0) → IsKept q t
       → ((v u : Datum) (j : Meter) (p : ℕ) (last : Store) → j.ticks ≤ m.ticks → IsProper v → IsProper u → Both vs n d (standing q d) (standing e (suc d)) t store regs v u last → StandAt r.body p ys
-      → Follows (with_table c routines) wide lo hi j (at_place f p last callers j.output) (tail v u j) (Comes f (p + length ys) callers (Got vs n d s store regs)))
+      → Follows (with_table c routines) wide lo hi j (at_place f p last callers j.output) (tail v u j) (Comes f (p + length ys) callers R))
       → BoundExpr o k vs a → BoundExpr o k vs b → k ≤ n → AreKnown n vs t → n ≤ d → StandAt r.body at (unless_read q (code c a (before b t) d) ++ (unless_read e (code c b t (suc d)) ++ ys)) → Live vs (before a (before b t)) store regs → StoreProper store → length regs ≡ r.registers → m.ticks ≤ most
-      → Follows (with_table c routines) wide (size a + size b + lo) hi m (at_place f at regs callers m.output) (eval w true a store m >>= (λ v j. eval w true b store j >>= tail v)) (Comes f (at + length (unless_read q (code c a (before b t) d) ++ (unless_read e (code c b t (suc d)) ++ ys))) callers (Gained vs n d s store regs))
-  two_parts a b q e is_a is_b sa sb ys tail lo hi gives o k vs t s d at store regs callers m kept finish ba bb low known behind stands live proper whole few =
+      → Follows (with_table c routines) wide (size a + size b + lo) hi m (at_place f at regs callers m.output) (eval w true a store m >>= (λ v j. eval w true b store j >>= tail v)) (Comes f (at + length (unless_read q (code c a (before b t) d) ++ (unless_read e (code c b t (suc d)) ++ ys))) callers (λ v last. IsProper v × R v last))
+  two_parts a b q e is_a is_b sa sb ys tail lo hi gives o k vs t d at store regs callers m R kept finish ba bb low known behind stands live proper whole few =
       let xs = unless_read q (code c a (before b t) d) in
       let zs = unless_read e (code c b t (suc d)) in
       let l1 : length (xs ++ (zs ++ ys)) ≡ length xs + length (zs ++ ys) = length-append xs (zs ++ ys) in
       let l2 : length (zs ++ ys) ≡ length zs + length ys = length-append zs ys in
       let behind_a : StandAt r.body (at + length xs) (zs ++ ys) = stand_back r.body at xs (zs ++ ys) stands in
       let to = at + length xs + length zs + length ys in
-      let R = Gained vs n d s store regs in
-      follows_at mach wide (size a + size b + lo) hi m (at_place f at regs callers m.output) (eval w true a store m >>= (λ v j. eval w true b store j >>= tail v)) f to (at + length (xs ++ (zs ++ ys))) callers R (omega (arith, l1, l2))
-      (operand a q is_a sa (size b + lo) hi (size a + size b + lo) (omega arith) o k vs (before b t) d at store regs callers m ba low (known_before o k n low vs b t bb known) behind (stand_front r.body at xs (zs ++ ys) stands) live proper whole few (λ v j. eval w true b store j >>= tail v) to R
-      (λ v j middle le p one. operand b e is_b sb lo hi (size b + lo) (omega arith) o k vs t (suc d) (at + length xs) store middle callers j bb low known (omega (arith, behind)) (stand_front r.body (at + length xs) zs ys behind_a) one.live proper (one.size ∙ whole) (omega (arith, le, few)) (tail v) to R
-      (λ u i last le2 g two. follows_knowing mach wide lo hi i (at_place f (at + length xs + length zs) last callers i.output) (tail v u i) IsProper f to callers (Got vs n d s store regs) (gives v u i p g)
+      let Q : Datum → Store → Type 0 = λ v last. IsProper v × R v last in
+      follows_at mach wide (size a + size b + lo) hi m (at_place f at regs callers m.output) (eval w true a store m >>= (λ v j. eval w true b store j >>= tail v)) f to (at + length (xs ++ (zs ++ ys))) callers Q (omega (arith, l1, l2))
+      (operand a q is_a sa (size b + lo) hi (size a + size b + lo) (omega arith) o k vs (before b t) d at store regs callers m ba low (known_before o k n low vs b t bb known) behind (stand_front r.body at xs (zs ++ ys) stands) live proper whole few (λ v j. eval w true b store j >>= tail v) to Q
+      (λ v j middle le p one. operand b e is_b sb lo hi (size b + lo) (omega arith) o k vs t (suc d) (at + length xs) store middle callers j bb low known (omega (arith, behind)) (stand_front r.body (at + length xs) zs ys behind_a) one.live proper (one.size ∙ whole) (omega (arith, le, few)) (tail v) to Q
+      (λ u i last le2 g two. follows_knowing mach wide lo hi i (at_place f (at + length xs + length zs) last callers i.output) (tail v u i) IsProper f to callers R (gives v u i p g)
       (finish v u i (at + length xs + length zs) last (omega (arith, le, le2)) p g (both_stand vs n d q e (before b t) t store regs middle last v u behind kept one two) (stand_back r.body (at + length xs) zs ys behind_a)))))
 
   -- ---- an operator that evaluates both
 
-  -- the code of both operands, read so, and of the operator behind them
-  abbrev pub strict_code : Op → (a b : Expr ℕ) (q e : Option ℕ) → Variables → ℕ → List Step
-  strict_code op a b q e s d = unless_read q (code c a (before b s) d) ++ (unless_read e (code c b s (suc d)) ++ operator op d (standing q d) (standing e (suc d)) (plain_or_read e (is_plain b)))
+  -- the code of both operands, read so, and of the operator behind them, whose value comes into z
+  abbrev pub strict_code : Op → (a b : Expr ℕ) (q e : Option ℕ) → Variables → (d z : ℕ) → List Step
+  strict_code op a b q e s d z = unless_read q (code c a (before b s) d) ++ (unless_read e (code c b s (suc d)) ++ operator op z (standing q d) (standing e (suc d)) (plain_or_read e (is_plain b)))
 
   -- these steps do what the operator does
-  abbrev IsStrictly : (place : ℕ) (op : Op) (a b : Expr ℕ) (vs : Scope) (s : Variables) (d at : ℕ) (store regs : Store) (callers : List Caller) (m : Meter) → List Step → Type 0
-  IsStrictly place op a b vs s d at store regs callers m steps =
-      StandAt r.body at steps → Leaves (with_table c routines) wide (size a + size b + 1) 2 m (at_place f at regs callers m.output) (spend true (λ j. eval w true a store j >>= (λ v i. second op place (eval w true b store) v i)) m) (Comes f (at + length steps) callers (Gained vs n d s store regs))
+  abbrev IsStrictly : (place : ℕ) (op : Op) (a b : Expr ℕ) (vs : Scope) (s : Variables) (from z at : ℕ) (store regs : Store) (callers : List Caller) (m : Meter) → List Step → Type 0
+  IsStrictly place op a b vs s from z at store regs callers m steps =
+      StandAt r.body at steps → Leaves (with_table c routines) wide (size a + size b + 1) 2 m (at_place f at regs callers m.output) (spend true (λ j. eval w true a store j >>= (λ v i. second op place (eval w true b store) v i)) m) (Comes f (at + length steps) callers (Gained vs from z s store regs))
 
   -- where t is live behind the operands, of which s is all that is asked for behind the operator
-  strict : (op : Op) → IsStrict op → (place : ℕ) (a b : Expr ℕ) (q e : Option ℕ) → IsRead a q → IsRead b e → IsBrief a → IsBrief b → (o : Offers) (k : ℕ) (vs : Scope) (t s : Variables) (d at : ℕ) (store regs : Store) (callers : List Caller) (m : Meter)
-      → IsKept q t → ((x : ℕ) → has s x ≡ true → has t x ≡ true) → BoundExpr o k vs a × BoundExpr o k vs b → k ≤ n → AreKnown n vs t → n ≤ d → Live vs (before a (before b t)) store regs → StoreProper store → length regs ≡ r.registers → m.ticks ≤ most
-      → IsStrictly place op a b vs s d at store regs callers m (strict_code op a b q e t d)
-  strict op is place a b q e is_a is_b sa sb o k vs t s d at store regs callers m kept fewer bs low known behind live proper whole few stands =
+  strict : (op : Op) → IsStrict op → (place : ℕ) (a b : Expr ℕ) (q e : Option ℕ) → IsRead a q → IsRead b e → IsBrief a → IsBrief b → (o : Offers) (k : ℕ) (vs : Scope) (t s : Variables) (d from z at : ℕ) (store regs : Store) (callers : List Caller) (m : Meter)
+      → IsKept q t → ((x : ℕ) → has s x ≡ true → has t x ≡ true) → BoundExpr o k vs a × BoundExpr o k vs b → k ≤ n → AreKnown n vs t → n ≤ d → IsTarget n d from z s → Live vs (before a (before b t)) store regs → StoreProper store → length regs ≡ r.registers → m.ticks ≤ most
+      → IsStrictly place op a b vs s from z at store regs callers m (strict_code op a b q e t d z)
+  strict op is place a b q e is_a is_b sa sb o k vs t s d from z at store regs callers m kept fewer bs low known behind target live proper whole few stands =
       let plain = plain_or_read e (is_plain b) in
-      let ys = operator op d (standing q d) (standing e (suc d)) plain in
-      paid (size a + size b + 0) 2 (size a + size b + 1) at regs callers m (λ j. eval w true a store j >>= (λ v i. second op place (eval w true b store) v i)) (at + length (strict_code op a b q e t d)) (Gained vs n d s store regs) (omega arith) (omega arith)
-      (λ j g l. two_parts a b q e is_a is_b sa sb ys (λ v u i. applied op place v u i) 0 2 (λ v u i p z. applied_proper place i op v u p z) o k vs t s d at store regs callers j kept
-      (λ v u i p last le pv pu both stood. applied_follows mach f r there n wide vs s (λ x h. known.within x (fewer x h)) store d (standing q d) (standing e (suc d)) p behind regs last whole callers place i v u (both_fewer vs n d (standing q d) (standing e (suc d)) s t store regs last v u fewer both) op plain (releases_behind e (is_plain b) d) is pv pu stood)
+      let ys = operator op z (standing q d) (standing e (suc d)) plain in
+      let below : (x : ℕ) → has s x ≡ true → x < n = λ x h. known.within x (fewer x h) in
+      paid (size a + size b + 0) 2 (size a + size b + 1) at regs callers m (λ j. eval w true a store j >>= (λ v i. second op place (eval w true b store) v i)) (at + length (strict_code op a b q e t d z)) (Gained vs from z s store regs) (omega arith) (omega arith)
+      (λ j g l. two_parts a b q e is_a is_b sa sb ys (λ v u i. applied op place v u i) 0 2 (λ v u i p g. applied_proper place i op v u p g) o k vs t d at store regs callers j (Got vs from z s store regs) kept
+      (λ v u i p last le pv pu both stood. applied_follows mach f r there from z wide vs s target.apart store (standing q d) (standing e (suc d)) p regs last whole callers place i v u
+      (both_within n d from z s target vs store regs last v (standing q d) (standing e (suc d)) u (both_fewer vs n d (standing q d) (standing e (suc d)) s t store regs last v u fewer both))
+      op plain (λ h. free_behind n d from z s target below behind (standing e (suc d)) (releases_behind e (is_plain b) d h)) is pv pu stood)
       bs.0 bs.1 low known behind stands live proper whole (omega (arith, l, few)))
 
   -- its code does what it does, with its operands read so
   abbrev pub IsOperated : Op → (place : ℕ) (a b : Expr ℕ) (q e : Option ℕ) → Variables → Type 0
-  IsOperated op place a b q e s = (o : Offers) (k : ℕ) (vs : Scope) (d at : ℕ) (store regs : Store) (callers : List Caller) (m : Meter)
-      → BoundExpr o k vs a × BoundExpr o k vs b → k ≤ n → AreKnown n vs s → n ≤ d → StandAt r.body at (strict_code op a b q e s d) → Live vs (before a (before b s)) store regs → StoreProper store → length regs ≡ r.registers → m.ticks ≤ most
-      → Leaves (with_table c routines) wide (size a + size b + 1) 2 m (at_place f at regs callers m.output) (spend true (λ j. eval w true a store j >>= (λ v i. second op place (eval w true b store) v i)) m) (Comes f (at + length (strict_code op a b q e s d)) callers (Gained vs n d s store regs))
+  IsOperated op place a b q e s = (o : Offers) (k : ℕ) (vs : Scope) (d from z at : ℕ) (store regs : Store) (callers : List Caller) (m : Meter)
+      → BoundExpr o k vs a × BoundExpr o k vs b → k ≤ n → AreKnown n vs s → n ≤ d → IsTarget n d from z s → StandAt r.body at (strict_code op a b q e s d z) → Live vs (before a (before b s)) store regs → StoreProper store → length regs ≡ r.registers → m.ticks ≤ most
+      → Leaves (with_table c routines) wide (size a + size b + 1) 2 m (at_place f at regs callers m.output) (spend true (λ j. eval w true a store j >>= (λ v i. second op place (eval w true b store) v i)) m) (Comes f (at + length (strict_code op a b q e s d z)) callers (Gained vs from z s store regs))
 
   -- a first operand that is live behind the operation, or has a register of its own
   steady : (op : Op) → IsStrict op → (place : ℕ) (a b : Expr ℕ) (q e : Option ℕ) → IsRead a q → IsRead b e → IsBrief a → IsBrief b → (s : Variables) → IsKept q s → IsOperated op place a b q e s
-  steady op is place a b q e is_a is_b sa sb s kept o k vs d at store regs callers m bs low known behind stands live proper whole few =
-      strict op is place a b q e is_a is_b sa sb o k vs s s d at store regs callers m kept (λ x h. h) bs low known behind live proper whole few stands
+  steady op is place a b q e is_a is_b sa sb s kept o k vs d from z at store regs callers m bs low known behind target stands live proper whole few =
+      strict op is place a b q e is_a is_b sa sb o k vs s s d from z at store regs callers m kept (λ x h. h) bs low known behind target live proper whole few stands
 
   -- or a variable in front of an operand that is still, which may as well be live behind it
   quiet : (op : Op) → IsStrict op → (place : ℕ) (a b : Expr ℕ) (q : Option ℕ) → variable_in a ≡ q → is_still b ≡ true → IsBrief a → IsBrief b → (s : Variables) → IsOperated op place a b q (variable_in b) s
-  quiet op is place a b None named still sa sb s o k vs d at store regs callers m bs low known behind stands live proper whole few =
-      steady op is place a b None (variable_in b) tt (variable_read b) sa sb s tt o k vs d at store regs callers m bs low known behind stands live proper whole few
-  quiet op is place a b (Some x) named still sa sb s o k vs d at store regs callers m bs low known behind stands live proper whole few =
+  quiet op is place a b None named still sa sb s o k vs d from z at store regs callers m bs low known behind target stands live proper whole few =
+      steady op is place a b None (variable_in b) tt (variable_read b) sa sb s tt o k vs d from z at store regs callers m bs low known behind target stands live proper whole few
+  quiet op is place a b (Some x) named still sa sb s o k vs d from z at store regs callers m bs low known behind target stands live proper whole few =
       let e = variable_in b in
-      let ys = operator op d x (standing e (suc d)) (plain_or_read e (is_plain b)) in
-      subst (λ (zs : List Step). IsStrictly place op a b vs s d at store regs callers m (zs ++ ys)) (same_code c b (with s x) s (suc d) still)
-      (strict op is place a b (Some x) e named (variable_read b) sa sb o k vs (with s x) s d at store regs callers m (with_has s x) (λ y h. still_live y (VarExpr 0 x) s h) bs low (known_with n vs s x (read_bound o k vs a x named bs.0) known) behind
+      let ys = operator op z x (standing e (suc d)) (plain_or_read e (is_plain b)) in
+      subst (λ (zs : List Step). IsStrictly place op a b vs s from z at store regs callers m (zs ++ ys)) (same_code c b (with s x) s (suc d) still)
+      (strict op is place a b (Some x) e named (variable_read b) sa sb o k vs (with s x) s d from z at store regs callers m (with_has s x) (λ y h. still_live y (VarExpr 0 x) s h) bs low (known_with n vs s x (read_bound o k vs a x named bs.0) known) behind target
       (live_fewer vs (before a (before b s)) (before a (before b (with s x))) store regs (λ y h. still_before a b s x y named still h) live) proper whole few)
       stands
 

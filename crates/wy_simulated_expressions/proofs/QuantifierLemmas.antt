@@ -35,7 +35,7 @@ use Rattle.wy_simulation.proofs.InstructionLemmas.{share_does, arith_does, compa
 use Rattle.wy_simulation.proofs.PieceLemmas.{does_then, does_last}
 use Rattle.wy_kept_values.specs.Kept.{StoreProper}
 use Rattle.wy_simulated_expressions.specs.Standing.{with_table, AreKnown}
-use Rattle.wy_simulated_expressions.proofs.KnownLemmas.{turned_live, turned_again, known_turned, known_turn, never, same_or_not, got_put}
+use Rattle.wy_simulated_expressions.proofs.KnownLemmas.{apart_behind, turned_live, turned_again, known_turned, known_turn, never, same_or_not, got_put}
 use Rattle.wy_simulated_expressions.proofs.KnowingLemmas.{store_proper, span_more, span_none, next_int}
 use Rattle.wy_simulated_expressions.proofs.PartLemmas.{room_at}
 use Rattle.wy_simulated_expressions.proofs.OperandLemmas.{IsBrief, first_part, got_cleared}
@@ -154,7 +154,7 @@ module _ (c : Context) (routines : List Routine) (f : ℕ) (r : Routine) (there 
   told : (regs : Store) (i : ℤ) (b : Bool) → d < length regs → Turning regs i → Got vs n d s store first (Truth b) (put (cleared regs (lost T s)) d (Some (Truth b)))
   told regs i b room g =
       let a = got_cleared vs n d T s store first regs (Whole i) known_T.within fewer behind (record { value = g.count; live = g.live; kept = g.kept; size = g.size }) in
-      got_put vs n s store first (cleared regs (lost T s)) d (Truth b) known.within behind (let e = a.size in let l = g.size in omega (arith, room, e, l)) a.live a.kept a.size
+      got_put vs n s store first (cleared regs (lost T s)) d (Truth b) (apart_behind n s d known.within behind) (let e = a.size in let l = g.size in omega (arith, room, e, l)) a.live a.kept a.size
 
   const_room : (e : ℕ) (b : Bool) → instr_at (Some r) e ≡ Some (instr.Const d (scalar.Bool b)) → d < r.registers
   const_room e b stands = room_at mach f r there e d (instr.Const d (scalar.Bool b)) [] stands refl

@@ -1,5 +1,5 @@
 -- Operands that are read in the registers of variables: where their values stand, and how long.
-use Rattle.std.proofs.Common.{◌≡◌, ◌<◌, ◌≤◌, ◌⊎◌, inl, inr, ℕ, suc, length, Bool, true, false, cond, Option, Some, None, ℤ, refl, sym, ◌∙◌, ap, subst, arith}
+use Rattle.std.proofs.Common.{◌≡◌, ◌≢◌, ◌<◌, ◌≤◌, ◌⊎◌, inl, inr, ℕ, suc, length, Bool, true, false, cond, Option, Some, None, ℤ, refl, sym, ◌∙◌, ap, subst, arith}
 use Rattle.wy_value.specs.Datum.{Datum}
 use Rattle.wy_core.specs.CoreTree.{Expr, NullExpr, BoolExpr, IntExpr, VarExpr, CallExpr, NegExpr, NotExpr, LenExpr, BinaryExpr, IsExpr, IndexExpr, FieldExpr, ListExpr, RepeatExpr, RecordExpr, QuantExpr}
 use Rattle.wy_formed.specs.Offers.{Offers}
@@ -13,7 +13,7 @@ use Rattle.wy_sem.specs.Expressions.{Store, slot}
 use Rattle.wy_simulation.specs.Registers.{Live, Got}
 use Rattle.wy_simulation.proofs.StoreLemmas.{live_fewer}
 use Rattle.wy_simulated_expressions.specs.Standing.{AreKnown}
-use Rattle.wy_simulated_expressions.proofs.KnownLemmas.{with_has, with_keeps, with_cases, never}
+use Rattle.wy_simulated_expressions.proofs.KnownLemmas.{Apart, apart_behind, with_has, with_keeps, with_cases, never}
 
 -- ---- how an operand is read
 
@@ -138,6 +138,13 @@ pub record Both (vs : Scope) (n d l r : ℕ) (s : Variables) (store first : Stor
   pub kept : (t : ℕ) → n ≤ t → t < d → slot regs t ≡ slot first t
   pub size : length regs ≡ length first
 
+-- the value of one operand stands in register l
+pub record One (vs : Scope) (n d l : ℕ) (s : Variables) (store first : Store) (v : Datum) (regs : Store) : Type 0 where
+  pub value : slot regs l ≡ Some v
+  pub live : Live vs s store regs
+  pub kept : (t : ℕ) → n ≤ t → t < d → slot regs t ≡ slot first t
+  pub size : length regs ≡ length first
+
 -- what came into its register stands there
 pub got_stands : (vs : Scope) (n d : ℕ) (s : Variables) (store first regs : Store) (v : Datum) → Got vs n d s store first v regs → Stands vs n d None s store first v regs
 got_stands vs n d s store first regs v got = record { value = got.value; whose = tt; live = got.live; kept = got.kept; size = got.size }
@@ -169,6 +176,44 @@ both_stand vs n d q p s t store first middle last v u behind kept one two = reco
 -- fewer variables are live
 pub both_fewer : (vs : Scope) (n d l r : ℕ) (s t : Variables) (store first regs : Store) (v u : Datum) → ((x : ℕ) → has s x ≡ true → has t x ≡ true) → Both vs n d l r t store first v u regs → Both vs n d l r s store first v u regs
 both_fewer vs n d l r s t store first regs v u fewer both = record { left = both.left; right = both.right; live = live_fewer vs t s store regs fewer both.live; kept = both.kept; size = both.size }
+
+-- ---- where the value of an operation comes
+
+-- it may come into register z, where its operands come into those from d on, behind those from n on that are kept: no variable that is live behind has it, and of those before it the ones from a register on are kept
+pub record IsTarget (n d from z : ℕ) (s : Variables) : Type 0 where
+  pub apart : Apart s z
+  pub top : z ≤ d
+  pub within : (t : ℕ) → from ≤ t → t < z → n ≤ t
+
+-- the register of the operation
+pub own_target : (n d : ℕ) (s : Variables) → ((x : ℕ) → has s x ≡ true → x < n) → n ≤ d → IsTarget n d n d s
+own_target n d s below behind = record { apart = apart_behind n s d below behind; top = omega arith; within = λ t a b. a }
+
+-- that of a variable that isn't live behind
+pub variable_target : (n d x : ℕ) (s : Variables) → Apart s x → x < n → n ≤ d → IsTarget n d x x s
+variable_target n d x s apart less behind = record { apart = apart; top = omega (arith, less, behind); within = λ t a b. absurd (omega (arith, a, b)) }
+
+-- a register that may be filled on the way: it is no live variable's, none of those that are kept, and not the one that the value comes into
+pub record IsFree (n z : ℕ) (s : Variables) (g : ℕ) : Type 0 where
+  pub apart : Apart s g
+  pub before : (t : ℕ) → n ≤ t → t < z → t ≢ g
+  pub other : z ≢ g
+
+module _ (n d from z : ℕ) (s : Variables) (target : IsTarget n d from z s) where
+  -- one behind the register of the operation
+  pub free_behind : ((x : ℕ) → has s x ≡ true → x < n) → n ≤ d → (g : ℕ) → d < g → IsFree from z s g
+  free_behind below behind g far = let l = target.top in record {
+    apart = apart_behind n s g below (omega (arith, behind, far));
+    before = λ t a b e. absurd (omega (arith, l, b, far, e));
+    other = λ e. absurd (omega (arith, l, far, e));
+  }
+
+  module _ (vs : Scope) (store first regs : Store) (v : Datum) where
+    pub stands_one : (q : Option ℕ) → Stands vs n d q s store first v regs → One vs from z (standing q d) s store first v regs
+    stands_one q one = let l = target.top in record { value = one.value; live = one.live; kept = λ t a b. one.kept t (target.within t a b) (omega (arith, l, b)); size = one.size }
+
+    pub both_within : (l r : ℕ) (u : Datum) → Both vs n d l r s store first v u regs → Both vs from z l r s store first v u regs
+    both_within l r u both = let e = target.top in record { left = both.left; right = both.right; live = both.live; kept = λ t a b. both.kept t (target.within t a b) (omega (arith, e, b)); size = both.size }
 
 -- ---- a first operand that isn't live behind, in front of a second one that is still
 

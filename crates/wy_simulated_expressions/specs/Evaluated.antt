@@ -1,5 +1,5 @@
 -- The code of an expression does what the expression does, where the code of calls and of tests of types does what these do.
-use Rattle.std.specs.Prelude.{◌≡◌, ◌<◌, ◌≤◌, ℕ, ◌+◌, List, length, true}
+use Rattle.std.specs.Prelude.{◌≡◌, ◌≢◌, ◌<◌, ◌≤◌, ℕ, ◌+◌, List, length, true}
 use Rattle.wy_value.specs.Datum.{Datum}
 use Rattle.wy_core.specs.CoreTree.{Expr, Exprs}
 use Rattle.wy_formed.specs.Offers.{Offers}
@@ -8,11 +8,12 @@ use Rattle.wy_formed.specs.Calls.{CallsExpr, CallsExprs}
 use Rattle.wy_formed.specs.Literals.{IntsExpr, IntsExprs}
 use Rattle.wy_formed.specs.Recursion.{Mentions, MentionsIn}
 use Rattle.wy_formed.specs.Sizes.{size, sizes}
-use Rattle.wy_live.specs.Sets.{Variables}
+use Rattle.wy_live.specs.Sets.{Variables, has}
 use Rattle.wy_live.specs.Walks.{before, before_all}
 use Rattle.wy_code.specs.declared.routines.Routine.{Routine}
 use Rattle.wy_tables.specs.declared.context.Context.{Context}
 use Rattle.wy_compiled.specs.Expressions.{code, codes, count_of}
+use Rattle.wy_compiled.specs.Straight.{is_straight, into}
 use Rattle.wy_numbered_tables.specs.Numbered.{NumberedExpr, NumberedExprs}
 use Rattle.wy_kept_values.specs.Kept.{IsProper, StoreProper, ListProper}
 use Rattle.wy_sem.specs.Meter.{Meter}
@@ -53,6 +54,12 @@ IsEvaluated c routines f r w n wide most e = (o : Offers) (k : ℕ) (vs : Scope)
     → BoundExpr o k vs e → k ≤ n → AreKnown n vs s → n ≤ d → StandAt r.body at (code c e s d) → Live vs (before e s) store regs → StoreProper store → length regs ≡ r.registers → m.ticks ≤ most
     → Follows (with_table c routines) wide (size e) 0 m (at_place f at regs callers m.output) (eval w true e store m) (Comes f (at + length (code c e s d)) callers (Gained vs n d s store regs))
 
+-- so of code whose value comes straight into the register of a variable that isn't live behind it, where the expression is straight: of the registers of values nothing is said
+abbrev pub IsEvaluatedInto : Context → List Routine → ℕ → Routine → Setting ℕ → (n wide most : ℕ) → Expr ℕ → Type 0
+IsEvaluatedInto c routines f r w n wide most e = (o : Offers) (k : ℕ) (vs : Scope) (s : Variables) (d x at : ℕ) (store regs : Store) (callers : List Caller) (m : Meter)
+    → is_straight e s ≡ true → BoundExpr o k vs e → k ≤ n → AreKnown n vs s → n ≤ d → x < n → ((y : ℕ) → has s y ≡ true → y ≢ x) → StandAt r.body at (into c e s d x) → Live vs (before e s) store regs → StoreProper store → length regs ≡ r.registers → m.ticks ≤ most
+    → Follows (with_table c routines) wide (size e) 0 m (at_place f at regs callers m.output) (eval w true e store m) (Comes f (at + length (into c e s d x)) callers (Gained vs x x s store regs))
+
 -- ---- values in a row
 
 -- the values have come into the registers from d on
@@ -79,9 +86,11 @@ Anything g = Unit {0}
 abbrev pub IsDeclared : ℕ → ℕ → Type 0
 IsDeclared types n = n < types
 
--- so of each expression, and of expressions from left to right
+-- so of each expression, also where its value comes straight into the register of a variable, and of expressions from left to right
 pub record ExpressionsAreEvaluated : Type 0 where
   pub one : (c : Context) (routines : List Routine) (f : ℕ) (r : Routine) → IsRoutine (with_table c routines) f r → (w : Setting ℕ) (n wide most types : ℕ) → Rests c routines w wide most Anything (IsDeclared types)
       → (e : Expr ℕ) → Fits c wide Anything (IsDeclared types) e → IsEvaluated c routines f r w n wide most e
+  pub straight : (c : Context) (routines : List Routine) (f : ℕ) (r : Routine) → IsRoutine (with_table c routines) f r → (w : Setting ℕ) (n wide most types : ℕ) → Rests c routines w wide most Anything (IsDeclared types)
+      → (e : Expr ℕ) → Fits c wide Anything (IsDeclared types) e → IsEvaluatedInto c routines f r w n wide most e
   pub all : (c : Context) (routines : List Routine) (f : ℕ) (r : Routine) → IsRoutine (with_table c routines) f r → (w : Setting ℕ) (n wide most types : ℕ) → Rests c routines w wide most Anything (IsDeclared types)
       → (es : Exprs ℕ) → FitAll c wide Anything (IsDeclared types) es → AreEvaluated c routines f r w n wide most es

@@ -25,13 +25,14 @@ use Rattle.wy_simulation.specs.Places.{IsRoutine}
 use Rattle.wy_simulation.proofs.PlaceLemmas.{all_at}
 use Rattle.wy_simulated_expressions.specs.Standing.{with_table}
 use Rattle.wy_simulated_expressions.specs.Rests.{Rests}
-use Rattle.wy_simulated_expressions.specs.Evaluated.{Anything, IsDeclared, IsEvaluated}
+use Rattle.wy_simulated_expressions.specs.Evaluated.{Anything, IsDeclared, Fits}
 use Rattle.wy_simulated_expressions.proofs.FitLemmas.{calls_map}
 use Rattle.wy_simulated_expressions.proofs.ExpressionLemmas.{expressions_evaluated}
 use Rattle.wy_simulated_tests.specs.Tested.{ClausesNameTheirs, HoldsTypes}
 use Rattle.wy_simulated_tests.proofs.RoutineLemmas.{has_type_routines}
 use Rattle.wy_simulated_tests.proofs.TestLemmas.{tests_followed}
 use Rattle.wy_simulated_statements.specs.Parts.{cost_all}
+use Rattle.wy_simulated_statements.specs.Led.{IsValued}
 use Rattle.wy_simulated_statements.specs.Routines.{InOrder, setting_of, owed_of, CallsNest, RoutineFits, RoutinesFit}
 use Rattle.wy_simulated_statements.proofs.CallLemmas.{calls_follow}
 use Rattle.wy_simulated_programs.specs.Programs.{AllInOrder}
@@ -97,16 +98,21 @@ module _ (place : ℕ → ℕ) (core : Core ℕ) (formed : Formed core) (names :
     there = record { is = stands; room = (all_at IsFramed (code_of core).routines g (body_routine c r0) (all_framed core) stands).registers }
 
     value_fits : (j most : ℕ) → CallsNest place core wide j most → (P : ℕ → Type 0) (n : ℕ) (vs : Scope) (e : Expr ℕ) → NumberedExpr c.table e → IntsExpr e → BoundExpr (offers_of core) n vs e → IsSmall e → CallsExpr P e → size e ≤ wide
-        → IsEvaluated c (code_of core).routines g (body_routine c r0) (setting_of place core j) n wide most e
-    value_fits j most calls P n vs e u i b z q room =
-        expressions_evaluated.one c (code_of core).routines g (body_routine c r0) there (setting_of place core j) n wide most (length (aliases_of core)) (rests j most calls) e (record {
+        → IsValued c (code_of core).routines g (body_routine c r0) (setting_of place core j) n wide most e
+    value_fits j most calls P n vs e u i b z q room = (
+      expressions_evaluated.one c (code_of core).routines g (body_routine c r0) there (setting_of place core j) n wide most (length (aliases_of core)) (rests j most calls) e fits,
+      expressions_evaluated.straight c (code_of core).routines g (body_routine c r0) there (setting_of place core j) n wide most (length (aliases_of core)) (rests j most calls) e fits,
+    )
+      where
+        fits : Fits c wide Anything (IsDeclared (length (aliases_of core))) e
+        fits = record {
           numbered = u;
           ints = i;
           calls = calls_map P Anything (λ h k. tt) e q;
           names = λ h k. clauses_below (offers_of core) n vs (e ∷ []) (b, tt) h (inl k);
           nodes = room;
           few = few_enough (size e) z.nodes;
-        })
+        }
 
     routine_fits : BoundRoutine (offers_of core) r0 → CallsRoutine (offers_of core) r0 → IntsRoutine r0 → EachOfRoutine IsSmall r0 → NumberedStmts c.table r0.body → InOrder 0 r0.params → cost_all r0.body < wide → RoutineFits place core (offers_of core) wide g r0
     routine_fits b q i z u order less = record {

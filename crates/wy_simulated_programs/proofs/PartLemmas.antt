@@ -30,7 +30,7 @@ use Rattle.wy_simulated_expressions.specs.Evaluated.{IsEvaluated, AreEvaluated, 
 use Rattle.wy_simulated_expressions.proofs.KnownLemmas.{known_all}
 use Rattle.wy_simulated_statements.specs.Still.{IsStill, IsStillTy}
 use Rattle.wy_simulated_statements.specs.Parts.{EachStep, EachPart, EachPartIn, option_cost, path_cost, cost, cost_all}
-use Rattle.wy_simulated_statements.specs.Led.{asked}
+use Rattle.wy_simulated_statements.specs.Led.{IsValued, asked}
 
 pub few_enough : (n : ℕ) → n ≤ 4096 → n ≤ longest
 unfolding longest
@@ -74,13 +74,13 @@ module _ (c : Context) (routines : List Routine) (f : ℕ) (r : Routine) (w : Se
 -- ---- statements
 
 module _ (c : Context) (routines : List Routine) (f : ℕ) (r : Routine) (w : Setting ℕ) (fr : sem.Frame ℕ) (n wide most : ℕ) (o : Offers) (P : ℕ → Type 0)
-    (value : (vs : Scope) (e : Expr ℕ) → NumberedExpr c.table e → IntsExpr e → BoundExpr o n vs e → IsSmall e → CallsExpr P e → size e ≤ wide → IsEvaluated c routines f r w n wide most e)
+    (value : (vs : Scope) (e : Expr ℕ) → NumberedExpr c.table e → IntsExpr e → BoundExpr o n vs e → IsSmall e → CallsExpr P e → size e ≤ wide → IsValued c routines f r w n wide most e)
     (clause : (vs : Scope) (e : Expr ℕ) → BoundExpr o n vs e → CallsExpr Nothing e → IsStill w e) (ty : (t : Ty) → BoundTy o.types t → IsStillTy fr.member t) where
   arguments_fit : (vs : Scope) (es : Exprs ℕ) → NumberedExprs c.table es → IntsExprs es → BoundExprs o n vs es → EachArgument IsSmall es → CallsExprs P es → sizes es ≤ wide → EachArgument (IsEvaluated c routines f r w n wide most) es
   arguments_fit vs NoExprs u i b z q room = tt
-  arguments_fit vs (MoreExprs e es) u i b z q room = (value vs e u.0 i.0 b.0 z.0 q.0 (omega (arith, room)), arguments_fit vs es u.1 i.1 b.1 z.1 q.1 (omega (arith, room)))
+  arguments_fit vs (MoreExprs e es) u i b z q room = ((value vs e u.0 i.0 b.0 z.0 q.0 (omega (arith, room))).0, arguments_fit vs es u.1 i.1 b.1 z.1 q.1 (omega (arith, room)))
 
-  option_fits : (vs : Scope) (value2 : Option (Expr ℕ)) → NumberedOption c.table value2 → IntsOption value2 → BoundOption o n vs value2 → EachOption IsSmall value2 → CallsOption P value2 → option_cost value2 ≤ wide → EachOption (IsEvaluated c routines f r w n wide most) value2
+  option_fits : (vs : Scope) (value2 : Option (Expr ℕ)) → NumberedOption c.table value2 → IntsOption value2 → BoundOption o n vs value2 → EachOption IsSmall value2 → CallsOption P value2 → option_cost value2 ≤ wide → EachOption (IsValued c routines f r w n wide most) value2
   option_fits vs None u i b z q room = tt
   option_fits vs (Some e) u i b z q room = value vs e u i b z q room
 

@@ -236,7 +236,7 @@ module _ (c : Context) (routines : List Routine) (f : ℕ) (r : Routine) (there 
       let M = mach c routines f r there wide in
       follows_at M wide (size e + path_cost path) 0 m (at_place f at regs callers m.output) (path_of w store (IndexStep place e ∷ path) whole m) f (at + length xs + length ys) (at + length (xs ++ ys)) callers R (omega (arith, l1))
       (index_then e (read e s) (live_read e s) (before_steps path t) d at store regs callers m (path_cost path) 0 (size e + path_cost path) 0 (λ v. indexed place whole v (λ ds i k. path_of w store path (item_at ds i) k >>= (λ ps. Done (ItemSlot i ∷ ps)))) Q
-      q.0 b.0 (known_steps o n vs path t b.1 known) behind (stand_front r.body at xs ys stands) kept few (omega arith) (omega arith)
+      q.0.0 b.0 (known_steps o n vs path t b.1 known) behind (stand_front r.body at xs ys stands) kept few (omega arith) (omega arith)
       (λ v k middle le proper one.
       let st = at_place f (at + length xs) middle callers k.output in
       follows_items M wide (path_cost path) 0 k st place whole (λ ds. as_number place v (λ z. check (is_index z ds) kind.Index place (λ j. path_of w store path (item_at ds (nat_of z)) j >>= (λ ps. Done (ItemSlot (nat_of z) ∷ ps))))) Q

@@ -150,14 +150,14 @@ module _ (c : Context) (routines : List Routine) (f : ℕ) (r : Routine) (there 
         e o (type_at fr.types x) place at store regs m q.1 (stays.types x) b.2 (known_without n vs s x known.after) stands refl kept few)
     led (AssignStmt place x (step ∷ path) e) q room o a vs s ends exit again at store regs callers m b known stands kept few =
         update_follows c routines f r there w fr n wide most o vs x s ends callers (places at (length (stmt_code c (AssignStmt place x (step ∷ path) e) s ends n exit again)) exit again)
-        (step ∷ path) e (type_at fr.types x) place at store regs m q.0 q.1 (stays.types x) b.1 b.2 b.0 known.after stands refl kept few
+        (step ∷ path) e (type_at fr.types x) place at store regs m q.0 q.1.0 (stays.types x) b.1 b.2 b.0 known.after stands refl kept few
     led (CallStmt place g es) q room o a vs s ends exit again at store regs callers m b known stands kept few =
         call_led c routines f r there w wide most (omega (arith, room)) calls n o vs s known.after ends callers (places at (length (stmt_code c (CallStmt place g es) s ends n exit again)) exit again) g place at es store regs m q b.1 stands refl kept few
     led (ReturnStmt place None) q room o a vs s ends exit again at store regs callers m b known stands kept few =
         then_paid mach f r there wide 0 2 1 at regs callers m (leave w fr place fr.result None) (Leads f callers r.registers (places at 2 exit again) vs vs s ends) (omega arith) (omega arith)
         (λ k out ticks. follows_leave mach wide 0 2 f at regs callers w fr k place None (Leads f callers r.registers (places at 2 exit again) vs vs s ends) stays
         (λ j same. gives_nothing c routines f r there wide n at (places at 2 exit again) regs callers j vs vs s ends stands kept.size))
-    led (ReturnStmt place (Some e)) q room o a vs s ends exit again at store regs callers m b known stands kept few = return_led place e q o a vs s ends exit again at store regs callers m b known stands kept few
+    led (ReturnStmt place (Some e)) q room o a vs s ends exit again at store regs callers m b known stands kept few = return_led place e q.0 o a vs s ends exit again at store regs callers m b known stands kept few
     led (AssertStmt place e) q room o a vs s ends exit again at store regs callers m b known stands kept few = assert_led place e q o a vs s ends exit again at store regs callers m b known stands kept few
     led (BreakStmt place) q room o a vs s ends exit again at store regs callers m b known stands kept few =
         let to = suc at + exit in
@@ -177,9 +177,9 @@ module _ (c : Context) (routines : List Routine) (f : ℕ) (r : Routine) (there 
     led (FailStmt place) q room o a vs s ends exit again at store regs callers m b known stands kept few =
         then_paid mach f r there wide 0 0 1 at regs callers m (Fault kind.Fail place) (Leads f callers r.registers (places at 2 exit again) vs vs s ends) (omega arith) (omega arith) (λ k out ticks. tt)
     led (IfStmt place e first second) q room o a vs s ends exit again at store regs callers m b known stands kept few =
-        if_led c routines f r there w fr n wide most place e first second q.0 (leds first q.1 (omega (arith, room))) (leds second q.2 (omega (arith, room))) o a vs s ends exit again at store regs callers m b known stands kept few
+        if_led c routines f r there w fr n wide most place e first second q.0.0 (leds first q.1 (omega (arith, room))) (leds second q.2 (omega (arith, room))) o a vs s ends exit again at store regs callers m b known stands kept few
     led (WhileStmt place e invariants body) q room o a vs s ends exit again at store regs callers m b known stands kept few =
-        while_led c routines f r there w fr n wide most place e invariants body q.0 q.1 (leds body q.2 (omega (arith, room))) room o a vs s ends exit again at store regs callers m b known stands kept few
+        while_led c routines f r there w fr n wide most place e invariants body q.0.0 q.1 (leds body q.2 (omega (arith, room))) room o a vs s ends exit again at store regs callers m b known stands kept few
 
     leds : (ss : Stmts ℕ) → EachPartIn (asked c routines f r w fr n wide most) ss → cost_all ss ≤ wide → AreLed c routines f r w fr n wide most ss
     leds NoStmts q room o a vs s ends exit again at store regs callers m b known stands kept few =

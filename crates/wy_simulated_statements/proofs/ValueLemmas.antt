@@ -1,6 +1,6 @@
 -- A value comes into its variable, and a frame gives its result.
 use Rattle.std.proofs.Common.{◌≡◌, ◌≢◌, ◌<◌, ◌≤◌, ◌⊎◌, inl, inr, ℕ, zero, suc, ◌+◌, List, [], ◌∷◌, ◌++◌, length, Bool, true, false, cond, Option, Some, None, refl, sym, ◌∙◌, ap, subst, arith, length-append}
-use Rattle.std.specs.Prelude.{All}
+use Rattle.std.specs.Prelude.{◌&&◌, All}
 use Rattle.std.proofs.lemmas.List.Elements.{All-head}
 use Rattle.wy_value.specs.Datum.{Datum, Null, Truth}
 use Rattle.wy_core.specs.Types.{Ty}
@@ -16,10 +16,12 @@ use Rattle.wy_code.specs.declared.instructions.Instr.{Instr}
 use Rattle.wy_code.specs.declared.instructions.Instr.TheVariants as instr
 use Rattle.wy_code.specs.declared.routines.Code.{Code}
 use Rattle.wy_code.specs.declared.routines.Routine.{Routine}
+use Rattle.wy_pieces.specs.declared.steps.Step.{Step}
 use Rattle.wy_pieces.specs.declared.steps.Step.TheVariants.{Does}
 use Rattle.wy_pieces.specs.Placing.{registers_in}
 use Rattle.wy_tables.specs.declared.context.Context.{Context}
 use Rattle.wy_compiled.specs.Expressions.{code, is_plain, release_unless}
+use Rattle.wy_compiled.specs.Straight.{is_straight, into}
 use Rattle.wy_compiled.specs.Statements as compiled
 use Rattle.wy_compiled.specs.Statements.{gives_null}
 use Rattle.wy_kept_values.specs.Kept.{IsProper, SlotProper, StoreProper}
@@ -38,13 +40,17 @@ use Rattle.wy_simulation.proofs.StoreLemmas.{put_here, put_other, put_size, put_
 use Rattle.wy_simulation.proofs.FollowLemmas.{one_step, follows_step, follows_then, follows_end, follows_truth}
 use Rattle.wy_simulation.proofs.InstructionLemmas.{move_does}
 use Rattle.wy_simulated_expressions.specs.Standing.{with_table, AreKnown}
-use Rattle.wy_simulated_expressions.specs.Evaluated.{IsEvaluated, Gained}
-use Rattle.wy_simulated_expressions.proofs.KnownLemmas.{same_or_not, without_other}
+use Rattle.wy_simulated_expressions.specs.Evaluated.{IsEvaluated, IsEvaluatedInto, Gained}
+use Rattle.wy_simulated_expressions.proofs.KnownLemmas.{never, same_or_not, without_says, without_other}
 use Rattle.wy_simulated_statements.specs.Still.{IsStillTy}
-use Rattle.wy_simulated_statements.specs.Led.{Kept, Places, Leads}
+use Rattle.wy_simulated_statements.specs.Led.{Kept, Places, Leads, IsValued}
 use Rattle.wy_simulated_statements.proofs.SetLemmas.{either}
 use Rattle.wy_simulated_statements.proofs.StillLemmas.{follows_given}
 use Rattle.wy_simulated_statements.proofs.StepLemmas.{then_on, then_paid}
+
+second_so : (a b : Bool) → (a && b) ≡ true → b ≡ true
+second_so true b e = e
+second_so false b e = never e
 
 -- ---- stores
 
@@ -166,11 +172,11 @@ module _ (c : Context) (routines : List Routine) (f : ℕ) (r : Routine) (there 
                 proper = all_proper;
               }))
 
-      -- the whole of it: the value, what is asked of it, and the variable
-      pub set_follows : (e : Expr ℕ) (o : Offers) (t : Ty) (place at : ℕ) (store regs : Store) (m : Meter) → IsEvaluated c routines f r w n wide most e → IsStillTy fr.member t → BoundExpr o n vs e → AreKnown n vs (without s x)
-          → StandAt r.body at (compiled.set c x e s n) → at + length (compiled.set c x e s n) ≡ pl.after → Kept vs (before e (without s x)) r.registers store regs → m.ticks ≤ most
+      -- the value, what is asked of it, and the variable
+      moved_follows : (e : Expr ℕ) (o : Offers) (t : Ty) (place at : ℕ) (store regs : Store) (m : Meter) → IsEvaluated c routines f r w n wide most e → IsStillTy fr.member t → BoundExpr o n vs e → AreKnown n vs (without s x)
+          → StandAt r.body at (code c e (without s x) n ++ compiled.store x s n (is_plain e)) → at + length (code c e (without s x) n ++ compiled.store x s n (is_plain e)) ≡ pl.after → Kept vs (before e (without s x)) r.registers store regs → m.ticks ≤ most
           → Follows mach wide (size e + 1) 0 m (at_place f at regs callers m.output) (spend true (λ k. eval w true e store k >>= stored fr place x t store) m) (Leads f callers r.registers pl ws us s ends)
-      set_follows e o t place at store regs m se still b fewer stands end kept few =
+      moved_follows e o t place at store regs m se still b fewer stands end kept few =
           let xs = code c e (without s x) n in
           let ys = compiled.store x s n (is_plain e) in
           let l1 : length (xs ++ ys) ≡ length xs + length ys = length-append xs ys in
@@ -178,3 +184,34 @@ module _ (c : Context) (routines : List Routine) (f : ℕ) (r : Routine) (there 
           (λ k out ticks. value_then e o vs (without s x) n at store regs callers k 0 1 (size e) 1 (stored fr place x t store) (Leads f callers r.registers pl ws us s ends) se b fewer (omega arith) (stand_front r.body at xs ys stands) kept (omega (arith, ticks, few)) (omega arith) (omega arith)
           (λ v j last le proper got. follows_given mach wide 0 1 f (at + length xs) last callers fr.member j place t v (Done (Went (put store x (Some v)))) (Leads f callers r.registers pl ws us s ends) still
           (λ i same. store_follows (is_plain e) store regs last v i (at + length xs) (stand_back r.body at xs ys stands) (omega (arith, end, l1)) kept.proper proper got kept.size)))
+
+      -- a value that comes straight into the register of the variable: what is asked of it makes no step
+      straight_follows : (e : Expr ℕ) (o : Offers) (t : Ty) (place at : ℕ) (store regs : Store) (m : Meter) → IsEvaluatedInto c routines f r w n wide most e → is_straight e (without s x) ≡ true → IsStillTy fr.member t → BoundExpr o n vs e → AreKnown n vs (without s x)
+          → StandAt r.body at (into c e (without s x) n x) → at + length (into c e (without s x) n x) ≡ pl.after → Kept vs (before e (without s x)) r.registers store regs → m.ticks ≤ most
+          → Follows mach wide (size e + 1) 0 m (at_place f at regs callers m.output) (spend true (λ k. eval w true e store k >>= stored fr place x t store) m) (Leads f callers r.registers pl ws us s ends)
+      straight_follows e o t place at store regs m se is still b fewer stands end kept few =
+          let to = at + length (into c e (without s x) n x) in
+          let Q = Leads f callers r.registers pl ws us s ends in
+          then_paid mach f r there wide (size e) 0 (size e + 1) at regs callers m (λ k. eval w true e store k >>= stored fr place x t store) Q (omega arith) (omega arith)
+          (λ k out ticks. follows_then mach wide (size e) 0 0 0 (size e) 0 k (at_place f at regs callers k.output) (eval w true e store k) (stored fr place x t store) f to callers (Gained vs x x (without s x) store regs) Q (omega arith) (omega arith)
+          (se o n vs (without s x) n x at store regs callers k is b (omega arith) fewer (omega arith) less (λ y h. (without_says s x y h).0) stands kept.live kept.proper kept.size (omega (arith, ticks, few)))
+          (λ v j last le new. follows_given mach wide 0 0 f to last callers fr.member j place t v (Done (Went (put store x (Some v)))) Q still
+          (λ i same. arrives 0 0 to pl (put store x (Some v)) last callers i ws us s ends end (record {
+            live = live_assigned vs ws x s store last last v scope (λ y a other. refl) (λ a. new.1.value) new.1.live;
+            size = new.1.size ∙ kept.size;
+            proper = proper_put store x (Some v) new.0 kept.proper;
+          }))))
+
+      -- the whole of it
+      pub set_follows : (e : Expr ℕ) (o : Offers) (t : Ty) (place at : ℕ) (store regs : Store) (m : Meter) → IsValued c routines f r w n wide most e → IsStillTy fr.member t → BoundExpr o n vs e → AreKnown n vs (without s x)
+          → StandAt r.body at (compiled.set c x e s n) → at + length (compiled.set c x e s n) ≡ pl.after → Kept vs (before e (without s x)) r.registers store regs → m.ticks ≤ most
+          → Follows mach wide (size e + 1) 0 m (at_place f at regs callers m.output) (spend true (λ k. eval w true e store k >>= stored fr place x t store) m) (Leads f callers r.registers pl ws us s ends)
+      set_follows e o t place at store regs m se still b fewer stands end kept few = by (has s x && is_straight e (without s x)) refl stands end
+        where
+          steps : Bool → List Step
+          steps g = cond g (into c e (without s x) n x) (code c e (without s x) n ++ compiled.store x s n (is_plain e))
+
+          by : (g : Bool) → (has s x && is_straight e (without s x)) ≡ g → StandAt r.body at (steps g) → at + length (steps g) ≡ pl.after
+              → Follows mach wide (size e + 1) 0 m (at_place f at regs callers m.output) (spend true (λ k. eval w true e store k >>= stored fr place x t store) m) (Leads f callers r.registers pl ws us s ends)
+          by true is stood ends_at = straight_follows e o t place at store regs m se.1 (second_so (has s x) (is_straight e (without s x)) is) still b fewer stood ends_at kept few
+          by false is stood ends_at = moved_follows e o t place at store regs m se.0 still b fewer stood ends_at kept few

@@ -1,7 +1,7 @@
 -- The code of a statement does what the statement does.
 use Rattle.std.specs.Prelude.{◌≡◌, ◌≤◌, ◌<◌, ℕ, suc, ◌+◌, List, length, Option, Some, slice_get, Bool, true}
 use Rattle.wy_value.specs.Datum.{Datum}
-use Rattle.wy_core.specs.CoreTree.{Output, Stmt, Stmts}
+use Rattle.wy_core.specs.CoreTree.{Output, Expr, Stmt, Stmts}
 use Rattle.wy_formed.specs.Offers.{Offers}
 use Rattle.wy_formed.specs.Bound.{Scope, Around, BoundStmt, BoundStmts, behind}
 use Rattle.wy_formed.specs.Wholes.{EachClause}
@@ -28,7 +28,7 @@ use Rattle.wy_simulation.specs.Places.{StandAt, IsRoutine}
 use Rattle.wy_simulation.specs.Follows.{Follows, at_place, Comes}
 use Rattle.wy_simulation.specs.Registers.{Live}
 use Rattle.wy_simulated_expressions.specs.Standing.{with_table, AreKnown}
-use Rattle.wy_simulated_expressions.specs.Evaluated.{IsEvaluated, AreEvaluated}
+use Rattle.wy_simulated_expressions.specs.Evaluated.{IsEvaluated, IsEvaluatedInto, AreEvaluated}
 use Rattle.wy_simulated_statements.specs.Still.{IsStill, IsStillTy}
 use Rattle.wy_simulated_statements.specs.Parts.{Asked, EachPartIn, cost, cost_all}
 
@@ -85,10 +85,14 @@ pub record CallsLead (c : Context) (routines : List Routine) (w : Setting ℕ) (
 
 -- ---- statements
 
+-- the code of an expression does what it does, also where its value comes straight into the register of a variable
+abbrev pub IsValued : Context → List Routine → ℕ → Routine → Setting ℕ → (n wide most : ℕ) → Expr ℕ → Type 0
+IsValued c routines f r w n wide most e = IsEvaluated c routines f r w n wide most e × IsEvaluatedInto c routines f r w n wide most e
+
 -- what is asked of the parts of statements in a routine
 abbrev pub asked : Context → List Routine → ℕ → Routine → Setting ℕ → sem.Frame ℕ → (n wide most : ℕ) → Asked
 asked c routines f r w fr n wide most = record {
-  value = IsEvaluated c routines f r w n wide most;
+  value = IsValued c routines f r w n wide most;
   values = AreEvaluated c routines f r w n wide most;
   clause = IsStill w;
   ty = IsStillTy fr.member;
