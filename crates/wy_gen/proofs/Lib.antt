@@ -1,7 +1,6 @@
 pub mod PieceLemmas
 pub mod LostLemmas
 pub mod OperatorLemmas
-pub mod StraightLemmas
 pub mod SeenLemmas
 pub mod TypeLemmas
 pub mod ExpressionLemmas
