@@ -1,7 +1,8 @@
 -- What imports keep.
-use Rattle.std.proofs.Common.{◌≡◌, ℕ, zero, suc, ◌+◌, ◌-◌, ◌≤◌, ◌<◌, List, [], ◌∷◌, ◌++◌, get_or, length, Option, Some, None, IsSome, refl, sym, ◌∙◌, ap, subst, arith, slice_get, append_assoc, take, drop, map, MatchOption}
+use Rattle.std.proofs.Common.{◌≡◌, inl, inr, ℕ, zero, suc, ◌+◌, ◌-◌, ◌≤◌, ◌<◌, List, [], ◌∷◌, ◌++◌, get_or, length, Option, Some, None, IsSome, refl, sym, ◌∙◌, ap, subst, arith, slice_get, append_assoc, take, drop, map, MatchOption}
 use Rattle.std.proofs.Math.Seq.{take-append_seam, drop-append_seam}
 use Rattle.std.proofs.Math.Numerals.{add-one}
+use Rattle.std.proofs.lemmas.Bool.{cases_eq}
 use Rattle.std.proofs.lemmas.List.{append-nil, length-append, reverse-append}
 use Rattle.std.specs.Borrow.{Bor}
 use Rattle.std.proofs.lemmas.Option.{get_or_from_slice_get}
@@ -21,15 +22,15 @@ use Rattle.wy_heap.specs.declared.node.Shape.{Shape}
 use Rattle.wy_heap.specs.declared.node.Shape.TheVariants as shape
 use Rattle.wy_heap.specs.declared.node.Node.{Node}
 use Rattle.wy_heap.specs.declared.heap.Heap.{Heap}
-use Rattle.wy_heap.specs.Nodes.{Form, list_form, record_form, record_of, form_of, no_form, Map, map_of, body_of, at, holds, count_at}
+use Rattle.wy_heap.specs.Nodes.{Form, list_form, record_form, record_of, form_of, no_form, Map, map_of, body_of, at, holds, count_of, count_at}
 use Rattle.wy_heap.specs.Meaning.{data_in, Means, MeanAll, IsNode, IsSplit}
 use Rattle.wy_heap.specs.Standing.{Counts, IsWithin, Stands, Acts}
 use Rattle.wy_heap.specs.Slots.{nth}
 use Rattle.wy_heap.specs.Extending.{Extends, HasNames}
-use Rattle.wy_heap.specs.Importing.{Carries, Grew, kids, IsKid, front_of, rest_of, Job, job_of, jobs_of, Ready, works, LastFit, Gathers, HasKids, Finishes}
+use Rattle.wy_heap.specs.Importing.{Carries, Grew, OnlyOnes, kids, IsKid, front_of, rest_of, Job, job_of, jobs_of, Ready, works, LastFit, Gathers, HasKids, Finishes}
 use Rattle.wy_heap.specs.Changing.{SameNodes, Adopts, Adds, Fits, More, Upholds}
 use Rattle.wy_heap.proofs.CountLemmas.{held-append}
-use Rattle.wy_heap.proofs.ChangeLemmas.{at-map_of}
+use Rattle.wy_heap.proofs.ChangeLemmas.{at-map_of, count_changed, count_others}
 use Rattle.wy_heap.proofs.MeaningLemmas.{Each, means_kept, mean_all-length, means_from_node}
 use Rattle.wy_heap.proofs.LeadLemmas.{reordered, counts_same, same_slots}
 use Rattle.wy_heap.proofs.WriteLemmas.{added_leads, added_node, added_stays}
@@ -178,6 +179,35 @@ grew_rest a b c grew cap shapes copies within = record {
   extends = subst (Extends a.shapes) (sym shapes) grew.extends;
   within = λ w. within (grew.within w);
 }
+
+-- ---- new nodes have one holder each
+
+pub ones_refl : (h : Heap) → OnlyOnes h h
+ones_refl h k = inl refl
+
+pub ones_same : (h n : Heap) → ((k : ℕ) → count_at n k ≡ count_at h k) → OnlyOnes h n
+ones_same h n same k = inl (same k)
+
+pub ones_trans : (a b c : Heap) → OnlyOnes a b → OnlyOnes b c → OnlyOnes a c
+ones_trans a b c first second k = elim (second k) [
+  | inl same ↦ elim (first k) [
+    | inl was ↦ inl (same ∙ was)
+    | inr new ↦ inr (new.0, same ∙ new.1)
+  ]
+  | inr new ↦ elim (first k) [
+    | inl was ↦ inr (sym was ∙ new.0, new.1)
+    | inr old ↦ absurd (omega (arith, old.1, new.0))
+  ]
+]
+
+pub ones_added : (h n : Heap) (key : ℕ) (s : Shape) (parts : List Part) → Adds h n key s parts → OnlyOnes h n
+ones_added h n key s parts adds k = elim (cases_eq k key) [
+  | inr differ ↦ inl (count_others h n key (Some adds.node) adds.changes k differ)
+  | inl same ↦ inr (
+    ap (count_at h) same ∙ ap count_of adds.vacant,
+    ap (count_at n) same ∙ count_changed h n key (Some adds.node) adds.changes ∙ adds.one,
+  )
+]
 
 -- ---- data
 

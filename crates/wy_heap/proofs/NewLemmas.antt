@@ -7,7 +7,7 @@ use Rattle.wy_heap.specs.declared.heap.Heap.{Heap}
 use Rattle.wy_heap.specs.Nodes.{Form, list_form, Body, Map, map_of, at, holds, held, slot_holds, inner, size, count_at}
 use Rattle.wy_heap.specs.Standing.{Counts}
 use Rattle.wy_heap.specs.Changing.{More, Lasts, Upholds, Upheld, Joins, Builds, HasRoom}
-use Rattle.wy_heap.specs.Making.{IsNew, CanHave}
+use Rattle.wy_heap.specs.Making.{IsNew, Came, CanHave}
 use Rattle.wy_heap.specs.Copying.{new_at, news, CopiesBeside, CopiesNew}
 use Rattle.wy_heap.proofs.CountLemmas.{holds_is, holds-le-one, slot-le-inner}
 use Rattle.wy_heap.proofs.ChangeLemmas.{some_or_none, not_there}
@@ -148,6 +148,14 @@ fill_room h n p below k some =
 holds-times : (k n : ℕ) (p : Part) → 1 ≤ n → holds k p ≤ held k (replicate n p)
 holds-times k zero p some = absurd (omega (arith, some))
 holds-times k (suc n) p some = omega arith
+
+-- the array came where it takes no key past the cap, whatever goes with the hold on its item
+pub fill_came : (h n o : Heap) (made : ℕ) (parts : List Part) → Joins h n made list_form parts → Lasts (map_of n) (map_of o) → Came (map_of h) (map_of o) (Key made) list_form parts
+fill_came h n o made parts joins lasts = record {
+  between = map_of n;
+  is_new = record { key = made; is_key = refl; vacant = joins.vacant; is = joins.is; others = joins.others };
+  lasts = lasts;
+}
 
 -- the array is all that is new where it takes no key past the cap
 pub fill_new : (h n o : Heap) (many made : ℕ) (item : Part) (others : List Part) → 1 ≤ many → Joins h n made list_form (replicate many item) → Builds h n list_form (replicate many item) made → Counts h (item ∷ others) → Lasts (map_of n) (map_of o) → Upheld n (map_of o) item → IsNew (map_of h) (map_of o) (Key made) list_form (replicate many item)

@@ -1,5 +1,5 @@
 -- What an import adds to a heap, and what it has left to do.
-use Rattle.std.specs.Prelude.{◌≡◌, ℕ, zero, suc, ◌+◌, ◌*◌, ◌≤◌, ◌<◌, List, [], ◌∷◌, ◌++◌, map, reverse, length}
+use Rattle.std.specs.Prelude.{◌≡◌, ◌⊎◌, ℕ, zero, suc, ◌+◌, ◌*◌, ◌≤◌, ◌<◌, List, [], ◌∷◌, ◌++◌, map, reverse, length}
 use Rattle.std.specs.Borrow.{Bor}
 use Rattle.wy_value.specs.Datum.{Datum, Data, no_items, item}
 use Rattle.wy_value.specs.Datum as datum
@@ -9,7 +9,7 @@ use Rattle.wy_value.specs.Values.{IsDatum, length_of}
 use Rattle.wy_value.specs.Shapes.{IsShapes}
 use Rattle.wy_heap.specs.declared.part.Part.{Part}
 use Rattle.wy_heap.specs.declared.heap.Heap.{Heap}
-use Rattle.wy_heap.specs.Nodes.{Form, Map, map_of}
+use Rattle.wy_heap.specs.Nodes.{Form, Map, map_of, count_at}
 use Rattle.wy_heap.specs.Meaning.{data_in, Means, MeanAll}
 use Rattle.wy_heap.specs.Slots.{nth}
 use Rattle.wy_heap.specs.Standing.{Counts, IsWithin}
@@ -29,6 +29,10 @@ pub record Grew (old new : Heap) : Type 0 where
   pub table : IsShapes new.shapes
   pub extends : Extends old.shapes new.shapes
   pub within : IsWithin old → IsWithin new
+
+-- each count is as before, but that of a new node, which has one holder
+abbrev pub OnlyOnes : Heap → Heap → Type 0
+OnlyOnes old new = (k : ℕ) → (count_at new k ≡ count_at old k) ⊎ ((count_at old k ≡ 0) × (count_at new k ≡ 1))
 
 -- the data right inside a datum
 abbrev pub kids : Datum → Data

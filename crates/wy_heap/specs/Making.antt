@@ -6,6 +6,7 @@ use Rattle.wy_heap.specs.declared.part.Part.{Part}
 use Rattle.wy_heap.specs.declared.part.Part.TheVariants.{Key}
 use Rattle.wy_heap.specs.declared.heap.Heap.{Heap}
 use Rattle.wy_heap.specs.Nodes.{Form, Map, at, count_at}
+use Rattle.wy_heap.specs.Changing.{Lasts}
 
 -- so many times the datum
 abbrev pub repeated : ℕ → Datum → Data
@@ -23,6 +24,12 @@ pub record IsNew (old new : Map) (made : Part) (form : Form) (parts : List Part)
   pub vacant : at old key ≡ None
   pub is : at new key ≡ Some (record { form = form; parts = parts })
   pub others : (k : ℕ) → k ≢ key → at new k ≡ at old k
+
+-- such a node came, and behind it each node is as it was or gone
+pub record Came (old new : Map) (made : Part) (form : Form) (parts : List Part) : Type 0 where
+  pub between : Map
+  pub is_new : IsNew old between made form parts
+  pub lasts : Lasts between new
 
 -- the part holds no node, or one that can have so many holders more within the cap
 abbrev pub CanHave : Heap → ℕ → Part → Type 0

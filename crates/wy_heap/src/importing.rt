@@ -13,7 +13,7 @@ ghost use Rattle.wy_heap.specs.Meaning.{Means, data_in};
 ghost use Rattle.wy_heap.specs.Slots.{nth};
 ghost use Rattle.wy_heap.specs.Standing.{Stands, Counts, IsWithin, AreHeld, Acts, IsAsBefore};
 ghost use Rattle.wy_heap.specs.Changing.{SameRest};
-ghost use Rattle.wy_heap.specs.Importing.{Carries, Grew, IsKid, kids, jobs_of, Ready, works, LastFit, Gathers, HasKids, Finishes};
+ghost use Rattle.wy_heap.specs.Importing.{Carries, Grew, OnlyOnes, IsKid, kids, jobs_of, Ready, works, LastFit, Gathers, HasKids, Finishes};
 
 use crate::heap::{Heap, NoMemory};
 use crate::node::{Node, Shape};
@@ -36,6 +36,7 @@ impl Heap {
         ensures value { IfOk result (λ made. Means (map_of self.new) (seen v.now) made) }
         ensures no_memory { OnErr result (IsAsBefore self.old self.new) }
         ensures grew { Grew self.old self.new }
+        ensures ones { OnlyOnes self.old self.new }
     {
         let mut done: Vec<Part> = Vec::new(self.alloc);
         match self.import_all(v, &mut done) {
@@ -58,6 +59,7 @@ impl Heap {
         ensures value { IfOk result (λ part. Means (map_of self.new) (seen value.now) part) }
         ensures carries { Carries self.old self.new [] done.new.items }
         ensures grew { Grew self.old self.new }
+        ensures ones { OnlyOnes self.old self.new }
     {
         let mut todo: Vec<(&Value, usize)> = Vec::new(self.alloc);
         todo.push((value, 0))?;
@@ -83,6 +85,7 @@ impl Heap {
         ensures less { OnOk result (works (jobs_of todo.new.items) < works ((seen value.now, place) ∷ jobs_of todo.old.items)) }
         ensures carries { Carries self.old self.new done.old.items done.new.items }
         ensures grew { Grew self.old self.new }
+        ensures ones { OnlyOnes self.old self.new }
     {
         match kid(value, place) {
             Some(part) => {
@@ -107,6 +110,7 @@ impl Heap {
         ensures finishes { OnOk result (Finishes (map_of self.old) (map_of self.new) (seen value.now) done.old.items done.new.items many) }
         ensures carries { Carries self.old self.new done.old.items done.new.items }
         ensures grew { Grew self.old self.new }
+        ensures ones { OnlyOnes self.old self.new }
     {
         match value {
             Value::Null => {
@@ -141,6 +145,7 @@ impl Heap {
         ensures carries { Carries self.old self.new done.old.items done.new.items }
         ensures within { 1 ≤ self.old.cap → IsWithin self.old → IsWithin self.new }
         ensures rest { SameRest self.old self.new }
+        ensures ones { OnlyOnes self.old self.new }
     {
         self.nodes.reserve(1)?;
         done.reserve(1)?;

@@ -9,7 +9,7 @@ ghost use Rattle.wy_heap.specs.Nodes.{list_form, record_of, map_of, at, form_of,
 ghost use Rattle.wy_heap.specs.Meaning.{Means, MeanAll, IsNode};
 ghost use Rattle.wy_heap.specs.Standing.{Stands, Counts, IsWithin, AreHeld, Acts, SameTable, IsAsBefore};
 ghost use Rattle.wy_heap.specs.Slots.{joined};
-ghost use Rattle.wy_heap.specs.Making.{repeated, HasShape, IsNew, CanHave};
+ghost use Rattle.wy_heap.specs.Making.{repeated, HasShape, IsNew, Came, CanHave};
 ghost use Rattle.wy_heap.specs.Copying.{CopiesBeside, CopiesNew};
 ghost use Rattle.wy_heap.specs.Changing.{SameRest, SameNodes, Leads, Adds, Joins, JoinsAlone, HasRoom, AreThere, Fits, Builds};
 
@@ -116,6 +116,7 @@ impl Heap {
         ensures copies { IfOk result (λ made. CopiesNew 1 self.old self.new) }
         ensures below { CanHave self.old n item → self.new.copies ≡ self.old.copies }
         ensures new { IfOk result (λ made. 1 ≤ n → CanHave self.old n item → IsNew (map_of self.old) (map_of self.new) made list_form (replicate n item)) }
+        ensures came { IfOk result (λ made. CanHave self.old n item → Came (map_of self.old) (map_of self.new) made list_form (replicate n item)) }
         ensures others { IfOk result (λ made. (k : ℕ) → IsSome (at (map_of self.old) k) → (at (map_of self.new) k ≡ None) ⊎ (at (map_of self.new) k ≡ at (map_of self.old) k)) }
     {
         let before = self.copies;

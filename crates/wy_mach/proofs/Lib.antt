@@ -14,6 +14,7 @@ pub mod RecordLemmas
 pub mod KindLemmas
 pub mod EntryLemmas
 pub mod ShareLemmas
+pub mod CountedLemmas
 pub mod FieldLemmas
 pub mod PartLemmas
 pub mod PathLemmas

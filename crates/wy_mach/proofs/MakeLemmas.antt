@@ -25,6 +25,10 @@ pub on_ok : {T E : Type 0} (r : Result T E) (P Q : Type 0) → (P → Q) → OnO
 on_ok (Ok x) P Q f p = f p
 on_ok (Err e) P Q f p = tt
 
+pub ok_pair : {T E : Type 0} (r : Result T E) (P Q : Type 0) → OnOk r P → OnOk r Q → OnOk r (P × Q)
+ok_pair (Ok x) P Q p q = (p, q)
+ok_pair (Err e) P Q p q = tt
+
 -- ---- what was taken
 
 taken_held : (h : Heap) (ps spent rest : List Part) (rs : List ℕ) → AreWithin (length ps) rs → spent ≡ taken ps rs → rest ≡ emptied ps rs → (others : List Part) → Stands h (ps ++ others) → Stands h (spent ++ (rest ++ others))

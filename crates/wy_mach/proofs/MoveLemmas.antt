@@ -65,7 +65,7 @@ register_held h p ps i is below held = (set ps i Null ++ held.0, taken_out h p p
 abbrev pub Seconds : Heap → Heap → Part → Part → Type 0
 Seconds h n p made = (others : List Part) → Stands h (p ∷ others) → Acts h n (made ∷ []) (p ∷ others)
 
-second_stands : (h n : Heap) (p made : Part) (ps others : List Part) (i : ℕ) → p ≡ get_or ps i Null → i < length ps → Seconds h n p made → Stands h (ps ++ others) → Stands n (made ∷ (ps ++ others))
+pub second_stands : (h n : Heap) (p made : Part) (ps others : List Part) (i : ℕ) → p ≡ get_or ps i Null → i < length ps → Seconds h n p made → Stands h (ps ++ others) → Stands n (made ∷ (ps ++ others))
 second_stands h n p made ps others i is below seconds stands =
     shared_in n made p ps others i is below (seconds (set ps i Null ++ others) (taken_out h p ps others i is below stands)).stands
 

@@ -1,16 +1,14 @@
 -- What instructions do to registers that hold scalars and keys, and to nodes.
-use Rattle.std.proofs.Common.{◌≡◌, ◌⊎◌, inl, inr, ◌≤◌, ℕ, zero, suc, ℤ, pos, List, [], ◌∷◌, set, Some, None, IsSome, refl, sym, ◌∙◌, ap, subst, arith}
+use Rattle.std.proofs.Common.{◌≡◌, inl, inr, ℕ, ℤ, pos, List, ◌∷◌, set, Some, refl, sym, ◌∙◌, ap, subst}
 use Rattle.std.specs.Prelude.{Result, Ok, Err, replicate}
 use Rattle.wy_heap.specs.declared.part.Part.{Part}
 use Rattle.wy_heap.specs.declared.part.Part.TheVariants.{Null}
 use Rattle.wy_heap.specs.declared.heap.Heap.{Heap}
 use Rattle.wy_heap.specs.declared.heap.NoMemory.{NoMemory}
-use Rattle.wy_heap.specs.Nodes.{Form, list_form, Map, at, map_of, holds}
-use Rattle.wy_heap.specs.Meaning.{Means, IsMeant}
-use Rattle.wy_heap.specs.Standing.{IsWithin}
-use Rattle.wy_heap.specs.Making.{IsNew, CanHave, repeated}
+use Rattle.wy_heap.specs.Nodes.{Form, list_form, Map, map_of, holds}
+use Rattle.wy_heap.specs.Making.{IsNew, Came, CanHave}
 use Rattle.wy_heap.specs.Changing.{Lasts}
-use Rattle.wy_value.specs.Datum.{Datum, Whole, Array}
+use Rattle.wy_value.specs.Datum.{Whole}
 use Rattle.wy_sem.specs.Expressions.{Store, slot}
 use Rattle.wy_mach.specs.Showing.{Shows}
 use Rattle.wy_mach.specs.Operands.{Reads, number_in}
@@ -58,22 +56,17 @@ puts_new h n o rest left qs to form parts items made new copies left_is is after
 }
 
 -- an array was filled, of no items or of some, and the hold on it came into the registers
-pub puts_filled : (h n o : Heap) (left qs : List Part) (to many : ℕ) (item made : Part) → (1 ≤ many → CanHave h many item → IsNew (map_of h) (map_of n) made list_form (replicate many item)) → (CanHave h many item → n.copies ≡ h.copies) → ((k : ℕ) → IsSome (at (map_of h) k) → (at (map_of n) k ≡ None) ⊎ (at (map_of n) k ≡ at (map_of h) k)) → ((d : Datum) → Means (map_of h) d item → Means (map_of n) (Array (repeated many d)) made) → IsMeant (map_of h) item → IsWithin h → qs ≡ set left to made → Lasts (map_of n) (map_of o) → o.copies ≡ n.copies → PutsFilled h o left qs to many item
-puts_filled h n o left qs to zero item made new copies others value meant within after lasts kept =
-    let empty = value meant.0 meant.1 in
-    let none : empty.parts ≡ [] = empty.pass_all in
+pub puts_filled : (h n o : Heap) (left qs : List Part) (to many : ℕ) (item made : Part) → (CanHave h many item → Came (map_of h) (map_of n) made list_form (replicate many item)) → (CanHave h many item → n.copies ≡ h.copies) → qs ≡ set left to made → Lasts (map_of n) (map_of o) → o.copies ≡ n.copies → PutsFilled h o left qs to many item
+puts_filled h n o left qs to many item made came copies after lasts kept can =
+    let new = came can in
     record {
-      key = empty.key;
-      between = map_of n;
-      is = empty.is_node ∙ ap (λ (ps : List Part). Some (record { form = list_form; parts = ps })) none;
-      others = others;
-      registers = after ∙ ap (λ (p : Part). set left to p) empty.is_key;
-      lasts = lasts;
-      copies = kept ∙ copies (λ k is. omega (arith, within k));
+      made = made;
+      between = new.between;
+      is_new = new.is_new;
+      registers = after;
+      lasts = lasts_more new.between (map_of n) (map_of o) new.lasts lasts;
+      copies = kept ∙ copies can;
     }
-puts_filled h n o left qs to (suc more) item made new copies others value meant within after lasts kept = λ can.
-    let parts = replicate (suc more) item in
-    puts_new h n o left left qs to list_form parts parts made (new (omega arith) can) (copies can) refl refl after lasts kept
 
 -- the same, told of equal registers and parts
 pub puts_new_as : (h n : Heap) (rest left qs : List Part) (to : ℕ) (form : Form) (parts items : List Part) → rest ≡ left → items ≡ parts → PutsNew h n rest qs to form items → PutsNew h n left qs to form parts

@@ -5,7 +5,6 @@ use Rattle.wy_code.specs.declared.routines.Code.{Code}
 use Rattle.wy_mach.specs.declared.machine.Machine.{Machine}
 use Rattle.wy_mach.specs.SharedSteps.{ShareSteps}
 use Rattle.wy_mach.specs.SharedTurns.{FollowsAlong, HaveRoom, RunsAreCounted, state_of}
-use Rattle.wy_mach.proofs.SharedStepLemmas.{no_dead}
 
 raised_zero : (a b : ℕ) → raised a b ≡ raised a (b + 0)
 raised_zero a b = let same : b ≡ b + 0 = omega arith in ap (raised a) same
@@ -34,7 +33,7 @@ runs_counted code entry args steps cap text copies nodes ran room =
     let all = copies_add code ran.done.made ran.first ran.done.last ran.done.along room in
     record {
       copied = all.0;
-      begins = no_dead ran.first ran.is.stands;
+      begins = ran.begins;
       steps = all.1;
       copies_are = ran.done.copies_are ∙ all.2 ∙ ap (λ (c : ℕ). raised c all.0) ran.none;
       ends = ran.done.ends;

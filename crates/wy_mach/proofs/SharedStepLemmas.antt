@@ -33,15 +33,15 @@ use Rattle.wy_mach.specs.Showing.{ShowsSlot, Shows}
 use Rattle.wy_mach.specs.Operands.{Reads, number_in, truth_in}
 use Rattle.wy_mach.specs.Paths.{IsSlotOf, AreSlotsOf}
 use Rattle.wy_mach.specs.Taking.{emptied}
-use Rattle.wy_mach.specs.Sharing.{part_in, PutsFilled}
+use Rattle.wy_mach.specs.Sharing.{part_in}
 use Rattle.wy_mach.specs.declared.frames.Caller.{Caller}
 use Rattle.wy_mach.specs.declared.machine.Machine.{Machine}
 use Rattle.wy_mach.specs.States.{places_below, places_of, callers_of, IsMachine, PathsFit}
 use Rattle.wy_mach.specs.declared.machine.Turn.{Turn}
 use Rattle.wy_mach.specs.declared.machine.Turn.TheVariants as turn
 use Rattle.wy_mach.specs.Running.{KeepsRest, instr_of}
-use Rattle.wy_mach.specs.SharedSteps.{Waiting, held_below, places_in, holders, HasNoDead, HasOne, WrittenAlong, IsWritten, HaveOne, LeadsTo, LeadAlong, Does, GivesFilled, GoesBehind, Makes, CanTake, WriteFits, HasRoom, HasRoomNext, TakesMemory, LeadsToMany, EndsIn}
-use Rattle.wy_mach.specs.SharedTurns.{SharesPlain, SharesBy, LeavesNodes, ReturnsLast, EndsSo, EndsBy, WantsBy, waiting_of, state_of, Follows, TurnsShared}
+use Rattle.wy_mach.specs.SharedSteps.{Waiting, held_below, places_in, holders, HasNoDead, HasOne, WrittenAlong, IsWritten, HaveOne, LeadsTo, LeadAlong, Does, GoesBehind, Makes, CanTake, WriteFits, HasRoom, HasRoomNext, TakesMemory, LeadsToMany, EndsIn}
+use Rattle.wy_mach.specs.SharedTurns.{SharesPlain, SharesBy, LeavesNodes, ReturnsLast, EndsSo, EndsBy, WantsBy, waiting_of, state_of, CountsIn, CountsNext, Follows, TurnsShared}
 use Rattle.wy_mach.proofs.RegisterLemmas.{shows_slot}
 use Rattle.wy_mach.proofs.CallLemmas.{pushed}
 use Rattle.wy_mach.proofs.SharedTurnLemmas.{turns_shared, ends_so, by_return}
@@ -217,20 +217,13 @@ waiting_is c r a t ps routine next registers target =
     ∙ ap (λ (l : List Part). waits r a l c.target) registers
     ∙ ap (λ (n : ℕ). waits r a ps n) target
 
--- what a fill gives, the nodes before what has no holder is gone, and that no copy was counted
-filled_as : (h n : Heap) (left qs : List Part) (to many : ℕ) (item : Part) → CanHave h many item → PutsFilled h n left qs to many item → (between : Map) × GivesFilled (map_of h) left to many item between qs 0 × Lasts between (map_of n) × (n.copies ≡ h.copies)
-filled_as h n left qs to zero item can puts = (puts.between, record { key = puts.key; is = puts.is; others = puts.others; registers = puts.registers; none = refl }, puts.lasts, puts.copies)
-filled_as h n left qs to (suc more) item can puts =
-    let new = puts can in
-    (new.between, record { made = new.made; is_new = new.is_new; registers = new.registers; none = refl }, new.lasts, new.copies)
-
 pub makes : (code : Code) (i : Instr) (old new : Machine) → Stands old.heap (places_of old) → SharesBy code i old new → HasRoom old.heap.cap i (state_of old) → Made code i old new
 makes code (instr.Const d c) old new stands shares room =
     (0, behind (instr.Const d c) old new (map_of old.heap) 0 (refl, shares.shares.registers, refl) shares.shares.spares.lasts shares, shares.shares.spares.copies)
 makes code (instr.Move d r) old new stands shares room =
     (0, behind (instr.Move d r) old new (map_of old.heap) 0 (refl, shares.shares.registers, refl) shares.shares.spares.lasts shares, shares.shares.spares.copies)
 makes code (instr.Share d r) old new stands shares room =
-    let puts = shares.shares (below_of old.heap (holders (state_of old)) (holders_are old stands) (part_in old.frame.registers.items r) room) in
+    let puts = shares.shares.0 (below_of old.heap (holders (state_of old)) (holders_are old stands) (part_in old.frame.registers.items r) room) in
     (0, behind (instr.Share d r) old new (map_of old.heap) 0 (refl, puts.registers, refl) puts.spares.lasts shares, puts.spares.copies)
 makes code (instr.Clear rs) old new stands shares room =
     (0, behind (instr.Clear rs) old new (map_of old.heap) 0 (refl, shares.shares.0, refl) shares.shares.1.lasts shares, shares.shares.1.copies)
@@ -272,18 +265,17 @@ makes code (instr.Record d k rs) old new stands shares room =
 makes code (instr.Fill d v n) old new stands shares room =
     let sh = machine_shown old stands in
     let ps = old.frame.registers.items in
-    let filled = filled_as old.heap new.heap (set ps v Null) new.frame.registers.items d room.0 (part_in ps v) (can_have old.heap (holders (state_of old)) (holders_are old stands) (part_in ps v) room.0 room.2)
-    (shares.shares sh.0 room.0 sh.1 (shows_int (map_of old.heap) sh.0 ps n (pos room.0) sh.1 room.1)) in
-    (0, behind (instr.Fill d v n) old new filled.0 0 (room.0, room.1, filled.1) filled.2 shares, filled.3)
+    let puts = shares.shares.0 sh.0 room.0 sh.1 (shows_int (map_of old.heap) sh.0 ps n (pos room.0) sh.1 room.1) (can_have old.heap (holders (state_of old)) (holders_are old stands) (part_in ps v) room.0 room.2) in
+    (0, behind (instr.Fill d v n) old new puts.between 0 (room.0, room.1, record { made = puts.made; is_new = puts.is_new; registers = puts.registers; none = refl }) puts.lasts shares, puts.copies)
 makes code (instr.Len d a) old new stands shares room =
     (0, behind (instr.Len d a) old new (map_of old.heap) 0 (shares.shares.0, shares.shares.1, (refl, shares.shares.2.registers, refl)) shares.shares.2.spares.lasts shares, shares.shares.2.spares.copies)
 makes code (instr.Get d a i) old new stands shares room =
     let sh = machine_shown old stands in
     let ps = old.frame.registers.items in
-    let puts = shares.shares sh.0 room.0 sh.1 (shows_int (map_of old.heap) sh.0 ps i (pos room.0) sh.1 room.1) (below_of old.heap (holders (state_of old)) (holders_are old stands) (part_at (map_of old.heap) (part_in ps a) (item_at room.0)) room.2) in
+    let puts = shares.shares.0 sh.0 room.0 sh.1 (shows_int (map_of old.heap) sh.0 ps i (pos room.0) sh.1 room.1) (below_of old.heap (holders (state_of old)) (holders_are old stands) (part_at (map_of old.heap) (part_in ps a) (item_at room.0)) room.2) in
     (0, behind (instr.Get d a i) old new (map_of old.heap) 0 (room.0, room.1, (refl, puts.registers, refl)) puts.spares.lasts shares, puts.spares.copies)
 makes code (instr.Field d a f) old new stands shares room =
-    let puts = shares.shares (below_of old.heap (holders (state_of old)) (holders_are old stands) (part_at (map_of old.heap) (part_in old.frame.registers.items a) (step_of old.heap.shapes (heap_slot.Field f))) room) in
+    let puts = shares.shares.0 (below_of old.heap (holders (state_of old)) (holders_are old stands) (part_at (map_of old.heap) (part_in old.frame.registers.items a) (step_of old.heap.shapes (heap_slot.Field f))) room) in
     (0, behind (instr.Field d a f) old new (map_of old.heap) 0 (refl, puts.registers, refl) puts.spares.lasts shares, puts.spares.copies)
 makes code (instr.Put a path v) old new stands shares room =
     let sh = machine_shown old stands in
@@ -350,6 +342,31 @@ makes code (instr.PrintInt a) old new stands shares room = (
   ap (λ (h : Heap). h.copies) shares.0.heap,
 )
 
+-- what copies an instruction counts, at the cap too
+counts_by : (code : Code) (i : Instr) (old new : Machine) → SharesBy code i old new → CountsIn i old.heap new.heap old.frame.registers.items
+counts_by code (instr.Const d c) old new shares = tt
+counts_by code (instr.Move d r) old new shares = tt
+counts_by code (instr.Share d r) old new shares = shares.shares.1
+counts_by code (instr.Clear rs) old new shares = tt
+counts_by code (instr.Arith d op a b) old new shares = tt
+counts_by code (instr.Compare d op a b) old new shares = tt
+counts_by code (instr.Equal d a b) old new shares = tt
+counts_by code (instr.Not d a) old new shares = tt
+counts_by code (instr.Jump t) old new shares = tt
+counts_by code (instr.Branch r t) old new shares = tt
+counts_by code (instr.Array d rs) old new shares = tt
+counts_by code (instr.Record d k rs) old new shares = tt
+counts_by code (instr.Fill d v n) old new shares = shares.shares.1
+counts_by code (instr.Len d a) old new shares = tt
+counts_by code (instr.Get d a i) old new shares = shares.shares.1
+counts_by code (instr.Field d a f) old new shares = shares.shares.1
+counts_by code (instr.Put a path v) old new shares = tt
+counts_by code (instr.Kind d a k) old new shares = tt
+counts_by code (instr.Call d f rs) old new shares = tt
+counts_by code (instr.Return r) old new shares = tt
+counts_by code (instr.Print a) old new shares = tt
+counts_by code (instr.PrintInt a) old new shares = tt
+
 -- a turn that went follows the step
 pub follows : (code : Code) (i : Instr) (old new : Machine) → instr_of code old ≡ Some i → Stands old.heap (places_of old) → Stands new.heap (places_of new) → new.heap.shapes ≡ old.heap.shapes → new.heap.cap ≡ old.heap.cap → SharesBy code i old new → Follows code old new
 follows code i old new is stands after shapes cap shares = record {
@@ -357,6 +374,7 @@ follows code i old new is stands after shapes cap shares = record {
   step = λ room.
       let made = makes code i old new stands shares (subst (λ (o : Option Instr). HasRoomNext old.heap.cap o (state_of old)) is room) in
       (made.0, record { by = i; is = is; makes = made.1; no_dead = no_dead new after; shapes = shapes }, made.2);
+  counts = subst (λ (o : Option Instr). CountsNext o old.heap new.heap old.frame.registers.items) (sym is) (counts_by code i old new shares);
 }
 
 -- ---- the end of a run

@@ -1,19 +1,23 @@
 -- The first state of a run.
-use Rattle.std.proofs.Common.{◌≡◌, ℕ, ◌-◌, List, [], ◌∷◌, ◌++◌, length, reverse, map, Bool, cond, Option, Some, refl, sym, ◌∙◌, ap, subst, arith}
+use Rattle.std.proofs.Common.{◌≡◌, inl, inr, ℕ, ◌-◌, List, [], ◌∷◌, ◌++◌, length, reverse, map, Bool, cond, Option, Some, IsSome, refl, sym, ◌∙◌, ap, subst, arith}
 use Rattle.std.specs.Prelude.{slice_get}
+use Rattle.std.proofs.lemmas.Bool.{cases_eq}
+use Rattle.std.proofs.lemmas.List.{append-nil}
 use Rattle.wy_value.specs.declared.value.Value.{Value}
 use Rattle.wy_value.specs.declared.shapes.Shapes.{Shapes}
 use Rattle.wy_value.specs.Datum.{Datum, Data, no_items, item}
 use Rattle.wy_value.specs.Seen.{seen, seen_items}
 use Rattle.wy_heap.specs.declared.part.Part.{Part}
 use Rattle.wy_heap.specs.declared.heap.Heap.{Heap}
-use Rattle.wy_heap.specs.Nodes.{Map, map_of}
+use Rattle.wy_heap.specs.Nodes.{Map, map_of, at, count_at}
 use Rattle.wy_heap.specs.Meaning.{Means, MeanAll}
 use Rattle.wy_heap.specs.Extending.{Extends}
-use Rattle.wy_heap.specs.Importing.{Grew}
+use Rattle.wy_heap.specs.Importing.{Grew, OnlyOnes}
+use Rattle.wy_heap.specs.Reaching.{Reach, root, part}
 use Rattle.wy_heap.specs.Standing.{Stands, Acts, Keeps, IsAsBefore}
 use Rattle.wy_heap.proofs.LeadLemmas.{counts_same, within_same}
 use Rattle.wy_heap.proofs.CountLemmas.{held-append}
+use Rattle.wy_heap.proofs.LawLemmas.{nodes_are_reached}
 use Rattle.wy_heap.proofs.RowLemmas.{restood, last_in}
 use Rattle.wy_code.specs.declared.routines.Routine.{Routine}
 use Rattle.wy_code.specs.declared.routines.Code.{Code}
@@ -24,6 +28,11 @@ use Rattle.wy_mach.specs.Taking.{nulls}
 use Rattle.wy_mach.proofs.RegisterLemmas.{keeps_fewer, among_first}
 use Rattle.wy_mach.specs.declared.machine.Machine.{Machine}
 use Rattle.wy_mach.specs.Running.{ShowsFirst, Starts}
+use Rattle.wy_mach.specs.declared.frames.Caller as of_callers
+use Rattle.wy_mach.specs.States.{places_below, places_of}
+use Rattle.wy_mach.specs.SharedSteps.{ArePlaced, IsFirst}
+use Rattle.wy_mach.specs.SharedTurns.{waiting_of, state_of}
+use Rattle.wy_mach.proofs.SharedStepLemmas.{no_dead, holders_are}
 use Rattle.wy_mach.proofs.CallLemmas.{alike, held-nulls}
 
 -- ---- the arguments
@@ -92,6 +101,44 @@ start_shows code entry r vs k is many routine at none shows =
     subst (λ (o : Option Routine). ShowsFirst k (entered o entry vs [] [])) (sym is)
     (subst (λ (b : Bool). ShowsFirst k (cond b (Runs first [] []) Stuck)) (sym (alike (length vs) r.params many))
     (record { frame = record { routine = routine; at = at; registers = shows }; callers = ap reverse none }, refl))
+
+-- what nothing holds has no count
+unreached : (m : Map) (k : ℕ) → Reach m [] k → ⊥
+unreached m k (root _ some) = omega (arith, some)
+unreached m k (part j _ b reach is some) = unreached m j reach
+
+no_counts : (h : Heap) → Stands h [] → (k : ℕ) → count_at h k ≡ 0
+no_counts h stands k = elim (cases_eq (count_at h k) 0) [
+  | inl none ↦ none
+  | inr some ↦ absurd (unreached (map_of h) k ((nodes_are_reached h [] stands k).0 (stands.counts.there k (omega (arith, some)))))
+]
+
+-- where all nodes came to a heap that had none, each has one holder
+one_each : (h n : Heap) (places : List Part) → Stands h [] → OnlyOnes h n → Stands n places → (k : ℕ) → IsSome (at (map_of n) k) → count_at n k ≡ 1
+one_each h n places empty ones stands k is = elim (ones k) [
+  | inl same ↦ absurd (omega (arith, same, no_counts h empty k, stands.counts.alive k is))
+  | inr new ↦ new.1
+]
+
+-- where no frame waits, what the first one holds is all that is held
+pub stands_first : (h : Heap) (k : Machine) (ps : List Part) → k.heap ≡ h → k.frame.registers.items ≡ ps → k.callers.items ≡ [] → Stands h ps → Stands k.heap (places_of k)
+stands_first h k ps heap are none stands =
+    let places : places_of k ≡ ps = ap (λ (l : List of_callers.Caller). k.frame.registers.items ++ places_below (reverse l)) none ∙ append-nil k.frame.registers.items ∙ are in
+    subst (λ (x : Heap). Stands x (places_of k)) (sym heap) (subst (Stands h) (sym places) stands)
+
+-- the machine's state is the first one
+pub start_first : (code : Code) (entry : ℕ) (r : Routine) (vs : List Datum) (k : Machine) (empty : Heap) → slice_get code.routines entry ≡ Some r → k.frame.routine ≡ entry → k.frame.at ≡ 0 → k.callers.items ≡ [] → ArePlaced (map_of k.heap) vs r.registers k.frame.registers.items → Stands empty [] → OnlyOnes empty k.heap → Stands k.heap (places_of k) → Extends code.shapes k.heap.shapes → IsFirst code entry vs (state_of k)
+start_first code entry r vs k empty is routine at_first none placed nothing ones stands extends = record {
+  callee = r;
+  is = is;
+  placed = placed;
+  ones = λ key some. sym (holders_are k stands key) ∙ one_each empty k.heap (places_of k) nothing ones stands key some;
+  no_dead = no_dead k stands;
+  routine = routine;
+  next = at_first;
+  waiting = ap (λ (l : List of_callers.Caller). map waiting_of (reverse l)) none;
+  shapes = extends;
+}
 
 -- the routine that was found takes as many as the one that is asked for
 pub same_params : (o : Option Routine) (r s : Routine) (n : ℕ) → o ≡ Some r → o ≡ Some s → n ≡ r.params → n ≡ s.params

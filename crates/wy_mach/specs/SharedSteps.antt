@@ -1,10 +1,13 @@
 -- The step on shared nodes. Registers hold scalars and keys, and a map has a node for each key: its form, and parts that are scalars and keys. How many holders a key has is counted anew, from the registers of all frames and the slots of all nodes. An instruction makes, writes and copies nodes as is said here, and what has no holder left is gone at once. Which scalar comes where one is computed is said by the step on values.
 use Rattle.std.specs.Prelude.{◌≡◌, ◌⊎◌, ◌↔◌, ℕ, zero, suc, ◌+◌, ◌-◌, ◌≤◌, min, ℤ, pos, int_le, List, [], ◌∷◌, ◌++◌, length, replicate, true, false, Option, Some, None, IsSome, slice_set, slice_get, ⊤}
 use Rattle.wy_value.specs.declared.shapes.Shapes.{Shapes}
+use Rattle.wy_value.specs.Datum.{Datum}
 use Rattle.wy_heap.specs.declared.part.Part.{Part}
 use Rattle.wy_heap.specs.declared.part.Part.TheVariants.{Null, Bool, Int, Key}
 use Rattle.wy_heap.specs.declared.part.Slot.TheVariants as heap_slot
 use Rattle.wy_heap.specs.Nodes.{Form, list_form, Body, Map, at, holds, held, inner, size}
+use Rattle.wy_heap.specs.Meaning.{MeanAll}
+use Rattle.wy_heap.specs.Extending.{Extends}
 use Rattle.wy_heap.specs.Parts.{scalar_part}
 use Rattle.wy_heap.specs.Slots.{Step, item_at, step_of, part_at}
 use Rattle.wy_heap.specs.Making.{IsNew}
@@ -18,6 +21,7 @@ use Rattle.wy_code.specs.declared.instructions.Instr.TheVariants as instr
 use Rattle.wy_code.specs.declared.routines.Routine.{Routine}
 use Rattle.wy_code.specs.declared.routines.Code.{Code}
 use Rattle.wy_sem.specs.Operations.{nat_of}
+use Rattle.wy_sem.specs.Expressions.{data_of}
 use Rattle.wy_step.specs.Step.{instr_at}
 use Rattle.wy_mach.specs.Showing.{scalar_kind}
 use Rattle.wy_mach.specs.Taking.{taken, emptied, nulls}
@@ -58,6 +62,24 @@ holders st k = held k (places_in st) + inner k st.nodes
 pub record HasNoDead (st : Shared) : Type 0 where
   pub counted : (k : ℕ) → IsSome (at st.nodes k) ↔ (1 ≤ holders st k)
   pub reached : (k : ℕ) → IsSome (at st.nodes k) ↔ Reach st.nodes (places_in st) k
+
+-- parts for these data are in the first registers, and null is in those behind them
+pub record ArePlaced (m : Map) (args : List Datum) (many : ℕ) (registers : List Part) : Type 0 where
+  pub parts : List Part
+  pub are : registers ≡ parts ++ nulls (many - length parts)
+  pub mean : MeanAll m (data_of args) parts
+
+-- the first state of a run: the entry's frame over the arguments, with null in each register behind them; each list and each record of an argument is a node of its own, with one holder
+pub record IsFirst (code : Code) (entry : ℕ) (args : List Datum) (st : Shared) : Type 0 where
+  pub callee : Routine
+  pub is : slice_get code.routines entry ≡ Some callee
+  pub placed : ArePlaced st.nodes args callee.registers st.registers
+  pub ones : (k : ℕ) → IsSome (at st.nodes k) → holders st k ≡ 1
+  pub no_dead : HasNoDead st
+  pub routine : st.routine ≡ entry
+  pub next : st.next ≡ 0
+  pub waiting : st.waiting ≡ []
+  pub shapes : Extends code.shapes st.shapes
 
 -- ---- writes
 
@@ -119,19 +141,6 @@ pub record GivesNew (m : Map) (left : List Part) (to : ℕ) (form : Form) (parts
   pub registers : after ≡ slice_set left to made
   pub none : copied ≡ 0
 
--- a node of no parts has the hold that comes into one of the registers that are left, and each old node is as before or gone
-pub record GivesEmpty (m : Map) (left : List Part) (to : ℕ) (between : Map) (after : List Part) (copied : ℕ) : Type 0 where
-  pub key : ℕ
-  pub is : at between key ≡ Some (record { form = list_form; parts = [] })
-  pub others : (k : ℕ) → IsSome (at m k) → (at between k ≡ None) ⊎ (at between k ≡ at m k)
-  pub registers : after ≡ slice_set left to (Key key)
-  pub none : copied ≡ 0
-
--- a node of so many holds on the item comes
-abbrev pub GivesFilled : Map → List Part → ℕ → ℕ → Part → Map → List Part → ℕ → Type 0
-GivesFilled m left to zero item between after copied = GivesEmpty m left to between after copied
-GivesFilled m left to (suc more) item between after copied = GivesNew m left to list_form (replicate (suc more) item) between after copied
-
 -- the item comes to the end of the path into the place, and what that makes into one of the registers that are left; each node beside the path is as before or gone
 pub record GivesWritten (count : ℕ → ℕ) (m : Map) (left : List Part) (to : ℕ) (place item : Part) (path : List Step) (between : Map) (after : List Part) (copied : ℕ) : Type 0 where
   pub made : Part
@@ -158,7 +167,7 @@ Does (instr.Jump n) count t m ps between after copied = ⊥
 Does (instr.Branch r n) count t m ps between after copied = ⊥
 Does (instr.Array d rs) count t m ps between after copied = GivesNew m (emptied ps rs) d list_form (taken ps rs) between after copied
 Does (instr.Record d k rs) count t m ps between after copied = GivesNew m (emptied ps rs) d (shape_form t k) (taken ps rs) between after copied
-Does (instr.Fill d v n) count t m ps between after copied = (k : ℕ) × (part_in ps n ≡ Int (pos k)) × GivesFilled m (slice_set ps v Null) d k (part_in ps v) between after copied
+Does (instr.Fill d v n) count t m ps between after copied = (k : ℕ) × (part_in ps n ≡ Int (pos k)) × GivesNew m (slice_set ps v Null) d list_form (replicate k (part_in ps v)) between after copied
 Does (instr.Len d a) count t m ps between after copied = GivesScalar m ps d between after copied
 Does (instr.Get d a i) count t m ps between after copied = (k : ℕ) × (part_in ps i ≡ Int (pos k)) × Gives m ps d (part_at m (part_in ps a) (item_at k)) between after copied
 Does (instr.Field d a f) count t m ps between after copied = Gives m ps d (part_at m (part_in ps a) (step_of t (heap_slot.Field f))) between after copied

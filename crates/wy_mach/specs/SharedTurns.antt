@@ -1,5 +1,5 @@
 -- What turns of the machine do to its registers and its heap, and that these are steps on shared nodes.
-use Rattle.std.specs.Prelude.{◌≡◌, ◌⊎◌, ◌≤◌, ℕ, zero, suc, ◌+◌, ◌-◌, pos, List, [], ◌∷◌, ◌++◌, length, map, true, false, Option, Some, Vec, slice_set, slice_get, vec_capacity, ⊤}
+use Rattle.std.specs.Prelude.{◌≡◌, ◌⊎◌, ◌≤◌, ℕ, zero, suc, ◌+◌, ◌-◌, pos, List, [], ◌∷◌, ◌++◌, length, map, true, false, Option, Some, None, Vec, slice_set, slice_get, vec_capacity, ⊤}
 use Rattle.std.specs.declared.alloc.Global.{Global}
 use Rattle.wy_value.specs.Datum.{Datum, Whole}
 use Rattle.wy_heap.specs.declared.part.Part.{Part}
@@ -20,7 +20,7 @@ use Rattle.wy_sem.specs.Expressions.{Store, slot}
 use Rattle.wy_mach.specs.Showing.{Shows, scalar_kind}
 use Rattle.wy_mach.specs.Operands.{Reads, truth_in}
 use Rattle.wy_mach.specs.Taking.{taken, emptied, nulls}
-use Rattle.wy_mach.specs.Sharing.{Spares, PutsIn, PutsScalar, PutsSecond, PutsNew, PutsFilled, part_in, shape_form}
+use Rattle.wy_mach.specs.Sharing.{Spares, PutsIn, PutsScalar, PutsSecond, PutsNew, PutsFilled, CountsBeside, part_in, shape_form}
 use Rattle.wy_mach.specs.Writing.{WritesPath, IsNotSole}
 use Rattle.wy_mach.specs.declared.frames.Caller.{Caller}
 use Rattle.wy_mach.specs.declared.machine.Machine.{Machine}
@@ -30,7 +30,7 @@ use Rattle.wy_mach.specs.declared.runs.RunEnd.{RunEnd}
 use Rattle.wy_mach.specs.declared.runs.RunEnd.TheVariants as run_end
 use Rattle.wy_mach.specs.States.{IsMachine, callers_of}
 use Rattle.wy_mach.specs.Running.{Starts}
-use Rattle.wy_mach.specs.SharedSteps.{Waiting, Shared, HasNoDead, ShareStep, ShareSteps, HasRoomNext, EndsIn, instr_next}
+use Rattle.wy_mach.specs.SharedSteps.{Waiting, Shared, IsFirst, ShareStep, ShareSteps, HasRoomNext, EndsIn, instr_next}
 
 -- ---- inside a turn
 
@@ -38,7 +38,7 @@ use Rattle.wy_mach.specs.SharedSteps.{Waiting, Shared, HasNoDead, ShareStep, Sha
 abbrev pub SharesIn : Instr → Heap → Heap → List Part → List Part → Type 0
 SharesIn (instr.Const d c) old new before after = PutsIn old new before after d (scalar_part (scalar_kind c))
 SharesIn (instr.Move d r) old new before after = PutsIn old new (slice_set before r Null) after d (part_in before r)
-SharesIn (instr.Share d r) old new before after = PutsSecond old new before after d (part_in before r)
+SharesIn (instr.Share d r) old new before after = PutsSecond old new before after d (part_in before r) × CountsBeside 0 old new before d
 SharesIn (instr.Clear rs) old new before after = (after ≡ emptied before rs) × Spares old new
 SharesIn (instr.Arith d op a b) old new before after = PutsScalar old new before after d
 SharesIn (instr.Compare d op a b) old new before after = PutsScalar old new before after d
@@ -48,10 +48,10 @@ SharesIn (instr.Jump t) old new before after = ⊤
 SharesIn (instr.Branch r t) old new before after = ⊤
 SharesIn (instr.Array d rs) old new before after = PutsNew old new (emptied before rs) after d list_form (taken before rs)
 SharesIn (instr.Record d k rs) old new before after = PutsNew old new (emptied before rs) after d (shape_form old.shapes k) (taken before rs)
-SharesIn (instr.Fill d v n) old new before after = (s : Store) (k : ℕ) → Shows (map_of old) s before → slot s n ≡ Some (Whole (pos k)) → PutsFilled old new (slice_set before v Null) after d k (part_in before v)
+SharesIn (instr.Fill d v n) old new before after = ((s : Store) (k : ℕ) → Shows (map_of old) s before → slot s n ≡ Some (Whole (pos k)) → PutsFilled old new (slice_set before v Null) after d k (part_in before v)) × CountsBeside 1 old new before d
 SharesIn (instr.Len d a) old new before after = PutsScalar old new before after d
-SharesIn (instr.Get d a i) old new before after = (s : Store) (k : ℕ) → Shows (map_of old) s before → slot s i ≡ Some (Whole (pos k)) → PutsSecond old new before after d (part_at (map_of old) (part_in before a) (item_at k))
-SharesIn (instr.Field d a f) old new before after = PutsSecond old new before after d (part_at (map_of old) (part_in before a) (step_of old.shapes (Field f)))
+SharesIn (instr.Get d a i) old new before after = ((s : Store) (k : ℕ) → Shows (map_of old) s before → slot s i ≡ Some (Whole (pos k)) → PutsSecond old new before after d (part_at (map_of old) (part_in before a) (item_at k))) × CountsBeside 0 old new before d
+SharesIn (instr.Field d a f) old new before after = PutsSecond old new before after d (part_at (map_of old) (part_in before a) (step_of old.shapes (Field f))) × CountsBeside 0 old new before d
 SharesIn (instr.Put a path v) old new before after = WritesPath old new before after a path v
 SharesIn (instr.Kind d a k) old new before after = PutsScalar old new before after d
 SharesIn (instr.Call d f rs) old new before after = ⊤
@@ -193,11 +193,24 @@ state_of k = record {
   shapes = k.heap.shapes;
 }
 
--- where the cap isn't met the state is the next one of the step on shared nodes, and as many copies are counted as that makes; the cap stays
+-- how many copies a share or a fill counts, at the cap too: as many as nodes came at keys that had none, beside the array that a fill makes
+abbrev pub CountsIn : Instr → Heap → Heap → List Part → Type 0
+CountsIn (instr.Share d r) old new before = CountsBeside 0 old new before d
+CountsIn (instr.Fill d v n) old new before = CountsBeside 1 old new before d
+CountsIn (instr.Get d a i) old new before = CountsBeside 0 old new before d
+CountsIn (instr.Field d a f) old new before = CountsBeside 0 old new before d
+CountsIn _ old new before = ⊤
+
+abbrev pub CountsNext : Option Instr → Heap → Heap → List Part → Type 0
+CountsNext None old new before = ⊤
+CountsNext (Some i) old new before = CountsIn i old new before
+
+-- where the cap isn't met the state is the next one of the step on shared nodes, and as many copies are counted as that makes; the cap stays; and what copies are counted at the cap
 pub record Follows (code : Code) (old new : Machine) : Type 0 where
   pub cap : new.heap.cap ≡ old.heap.cap
   pub step : HasRoomNext old.heap.cap (instr_next code (state_of old)) (state_of old)
       → (copied : ℕ) × ShareStep code (state_of old) (state_of new) copied × (new.heap.copies ≡ raised old.heap.copies copied)
+  pub counts : CountsNext (instr_next code (state_of old)) old.heap new.heap old.frame.registers.items
 
 -- what a turn did to the nodes: it followed the step; or it ended the run, and told how many copies were counted and how many nodes the result leads to
 abbrev pub TurnsShared : Code → Machine → Machine → Turn → Type 0
@@ -229,13 +242,14 @@ DoneShared code first steps run_end.Spent = ⊤
 DoneShared code first steps run_end.OutFault = ⊤
 DoneShared code first steps run_end.Stuck = ⊤
 
--- the same, from a machine that shows the first state of the run, at which no copy is counted
+-- the same, from a machine that shows the first state of the run and has the first one of the step on shared nodes, at which no copy is counted
 pub record RanShared (code : Code) (entry : ℕ) (args : List Datum) (steps cap : ℕ) (end : RunEnd) : Type 0 where
   pub first : Machine
   pub is : IsMachine code first
   pub starts : Starts code entry args first
   pub cap_is : first.heap.cap ≡ cap
   pub none : first.heap.copies ≡ 0
+  pub begins : IsFirst code entry args (state_of first)
   pub done : DoneShared code first steps end
 
 -- at each of these turns the holders that the instruction adds take no key past the cap
@@ -243,10 +257,10 @@ abbrev pub HaveRoom : (code : Code) (n : ℕ) (first last : Machine) → Follows
 HaveRoom code zero first last along = ⊤
 HaveRoom code (suc n) first last along = HaveRoom code n first along.0 along.1 × HasRoomNext along.0.heap.cap (instr_next code (state_of along.0)) (state_of along.0)
 
--- where no turn of a run meets the cap, its turns are steps on shared nodes from the run's first state on; `copies` is the number of nodes that these copied, up to 2^64 - 1, and `nodes` that of the keys that the result leads to in the last state
-pub record IsCounted (code : Code) (first last : Machine) (made copies nodes : ℕ) : Type 0 where
+-- where no turn of a run meets the cap, its turns are steps on shared nodes from the run's first state on, in which each node of an argument has one holder; `copies` is the number of nodes that these copied, up to 2^64 - 1, and `nodes` that of the keys that the result leads to in the last state
+pub record IsCounted (code : Code) (entry : ℕ) (args : List Datum) (first last : Machine) (made copies nodes : ℕ) : Type 0 where
   pub copied : ℕ
-  pub begins : HasNoDead (state_of first)
+  pub begins : IsFirst code entry args (state_of first)
   pub steps : ShareSteps code made (state_of first) (state_of last) copied
   pub copies_are : copies ≡ raised 0 copied
   pub ends : EndsIn code (state_of last) nodes
@@ -254,4 +268,4 @@ pub record IsCounted (code : Code) (first last : Machine) (made copies nodes : �
 abbrev pub RunsAreCounted : Type 0
 RunsAreCounted =
     (code : Code) (entry : ℕ) (args : List Datum) (steps cap : ℕ) (text : Option (Vec ℕ Global)) (copies nodes : ℕ) (ran : RanShared code entry args steps cap (run_end.Done text copies nodes))
-    → HaveRoom code ran.done.made ran.first ran.done.last ran.done.along → IsCounted code ran.first ran.done.last ran.done.made copies nodes
+    → HaveRoom code ran.done.made ran.first ran.done.last ran.done.along → IsCounted code entry args ran.first ran.done.last ran.done.made copies nodes

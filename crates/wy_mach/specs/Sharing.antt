@@ -1,13 +1,14 @@
 -- What instructions do to registers that hold scalars and keys, and to the nodes of the heap.
-use Rattle.std.specs.Prelude.{◌≡◌, ◌⊎◌, ℕ, zero, suc, List, [], Some, None, IsSome, slice_index_or, slice_set, slice_get, replicate}
+use Rattle.std.specs.Prelude.{◌≡◌, ℕ, ◌<◌, List, length, slice_index_or, slice_set, slice_get, replicate}
 use Rattle.wy_value.specs.declared.shapes.Shapes.{Shapes}
 use Rattle.wy_heap.specs.declared.part.Part.{Part}
-use Rattle.wy_heap.specs.declared.part.Part.TheVariants.{Null, Key}
+use Rattle.wy_heap.specs.declared.part.Part.TheVariants.{Null}
 use Rattle.wy_heap.specs.declared.heap.Heap.{Heap}
-use Rattle.wy_heap.specs.Nodes.{Form, list_form, record_of, Map, at, map_of, holds}
+use Rattle.wy_heap.specs.Nodes.{Form, list_form, record_of, Map, map_of, holds}
 use Rattle.wy_heap.specs.Parts.{IsBelow}
 use Rattle.wy_heap.specs.Making.{IsNew, CanHave}
 use Rattle.wy_heap.specs.Changing.{Lasts}
+use Rattle.wy_heap.specs.Copying.{CopiesNew}
 
 -- what a register holds
 abbrev pub part_in : List Part → ℕ → Part
@@ -44,17 +45,10 @@ pub record PutsNew (old new : Heap) (left after : List Part) (to : ℕ) (form : 
 abbrev pub shape_form : Shapes → ℕ → Form
 shape_form t shape = record_of t.names (slice_get t.lists shape)
 
--- a hold on a node of no parts comes into one of the registers that are left, and each old node is as before or gone
-pub record PutsEmpty (old new : Heap) (left after : List Part) (to : ℕ) : Type 0 where
-  pub key : ℕ
-  pub between : Map
-  pub is : at between key ≡ Some (record { form = list_form; parts = [] })
-  pub others : (k : ℕ) → IsSome (at (map_of old) k) → (at between k ≡ None) ⊎ (at between k ≡ at (map_of old) k)
-  pub registers : after ≡ slice_set left to (Key key)
-  pub lasts : Lasts between (map_of new)
-  pub copies : new.copies ≡ old.copies
-
--- where this part can have so many holders more within the cap, a node of so many holds on it comes
+-- where this part can have so many holders more within the cap, a node of so many holds on it comes: of none where they are none
 abbrev pub PutsFilled : Heap → Heap → List Part → List Part → ℕ → ℕ → Part → Type 0
-PutsFilled old new left after to zero item = PutsEmpty old new left after to
-PutsFilled old new left after to (suc more) item = CanHave old (suc more) item → PutsNew old new left after to list_form (replicate (suc more) item)
+PutsFilled old new left after to many item = CanHave old many item → PutsNew old new left after to list_form (replicate many item)
+
+-- where there is a register with this number, as many copies were counted as nodes came at keys that had none, beside so many others: at the cap too
+abbrev pub CountsBeside : ℕ → Heap → Heap → List Part → ℕ → Type 0
+CountsBeside others old new before to = to < length before → CopiesNew others old new

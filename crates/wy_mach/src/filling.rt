@@ -10,7 +10,7 @@ ghost use Rattle.wy_code.specs.declared.instructions.Instr.{Instr};
 ghost use Rattle.wy_step.specs.Step.{effect};
 ghost use Rattle.wy_sem.specs.Expressions.{Store, slot};
 ghost use Rattle.wy_mach.specs.Showing.{Shows, WentOn, IsStop, Turns, AreRegisters};
-ghost use Rattle.wy_mach.specs.Sharing.{PutsFilled, part_in};
+ghost use Rattle.wy_mach.specs.Sharing.{PutsFilled, CountsBeside, part_in};
 ghost use Rattle.wy_mach.specs.Taking.{AreTaken, TakenTurns, GivesMade};
 ghost use Rattle.wy_mach.specs.Filling.{is_length, filled};
 
@@ -20,7 +20,8 @@ use crate::stop::Stop;
 use wy_heap::{Heap, Place};
 
 /// `Fill`: an array of so many times what a register held comes into a register. Stuck comes where the
-/// number is none of a length, from 0 to 2^63 - 1. At want of memory what was taken is released.
+/// number is none of a length, from 0 to 2^63 - 1. At the cap it counts as many copies as nodes come beside
+/// the array. At want of memory what was taken is released.
 pub fn fill(
     heap: &mut Heap,
     registers: &mut [Place],
@@ -33,6 +34,7 @@ pub fn fill(
     ensures value { OnOk result ((shapes : Shapes) → WentOn (map_of heap.old) (map_of heap.new) registers.old registers.new (effect shapes (Instr.Fill to from count))) }
     ensures stop { IfErr result (λ stop. (shapes : Shapes) → IsStop (map_of heap.old) registers.old (effect shapes (Instr.Fill to from count)) stop) }
     ensures shares { OnOk result ((s : Store) (n : ℕ) → Shows (map_of heap.old) s registers.old → slot s count ≡ Some (Datum.Whole (pos n)) → PutsFilled heap.old heap.new (slice_set registers.old from Null) registers.new to n (part_in registers.old from)) }
+    ensures counts { OnOk result (CountsBeside 1 heap.old heap.new registers.old to) }
     ensures kept { SameTable heap.old heap.new }
 {
     let Some(number) = number(heap, registers, count) else {
@@ -61,6 +63,7 @@ fn fill_of(
     ensures value { OnOk result (GivesMade heap.old heap.new (item ∷ []) registers.old registers.new to (filled many)) }
     ensures shares { OnOk result (PutsFilled heap.old heap.new registers.old registers.new to many item) }
     ensures no_memory { IfErr result (λ stop. stop ≡ Stop.NoMemory) }
+    ensures counts { OnOk result (CountsBeside 1 heap.old heap.new registers.old to) }
     ensures kept { SameTable heap.old heap.new }
 {
     match heap.fill(item, many) {

@@ -11,7 +11,7 @@ ghost use Rattle.wy_code.specs.declared.instructions.Instr.{Instr};
 ghost use Rattle.wy_step.specs.Step.{effect};
 ghost use Rattle.wy_mach.specs.Showing.{WentOn, HasNone, IsStop, Turns, AreRegisters, IsNoInt, scalar_kind};
 ghost use Rattle.wy_mach.specs.Taking.{emptied};
-ghost use Rattle.wy_mach.specs.Sharing.{PutsIn, PutsSecond, part_in};
+ghost use Rattle.wy_mach.specs.Sharing.{PutsIn, PutsSecond, CountsBeside, part_in};
 
 use crate::registers::{put, take};
 use crate::stop::{Stop, Stuck};
@@ -78,13 +78,14 @@ pub fn move_to(heap: &mut Heap, registers: &mut [Place], to: u32, from: u32) -> 
 }
 
 /// `Share`: puts what is in a register into another one too. It takes memory only where what it shares
-/// has as many holders as the heap's cap allows.
+/// has as many holders as the heap's cap allows, and then counts as many copies as it makes nodes.
 pub fn share(heap: &mut Heap, registers: &mut [Place], to: u32, from: u32) -> Result<(), Stop>
     requires held { AreRegisters heap.old registers.old }
     ensures turns { Turns heap.old heap.new registers.old registers.new }
     ensures value { OnOk result ((shapes : Shapes) → WentOn (map_of heap.old) (map_of heap.new) registers.old registers.new (effect shapes (Instr.Share to from))) }
     ensures stop { IfErr result (λ stop. (shapes : Shapes) → IsStop (map_of heap.old) registers.old (effect shapes (Instr.Share to from)) stop) }
     ensures shares { OnOk result (PutsSecond heap.old heap.new registers.old registers.new to (part_in registers.old from)) }
+    ensures counts { OnOk result (CountsBeside 0 heap.old heap.new registers.old to) }
     ensures memory { IfErr result (λ stop. stop ≡ Stop.NoMemory → IsBelow heap.old heap.old.cap (part_in registers.old from) → ⊥) }
     ensures kept { SameTable heap.old heap.new }
 {

@@ -9,10 +9,12 @@ ghost use Rattle.wy_heap.specs.Extending.{Extends};
 ghost use Rattle.wy_heap.specs.Parts.{IsBelow};
 ghost use Rattle.wy_heap.specs.Slots.{child, step_of, part_at, IsSlot};
 ghost use Rattle.wy_heap.specs.Standing.{Stands, AreHeld, Acts, SameTable, IsAsBefore};
+ghost use Rattle.wy_heap.specs.Changing.{More};
+ghost use Rattle.wy_heap.specs.Copying.{CopiesAsMany};
 ghost use Rattle.wy_code.specs.declared.instructions.Instr.{Instr};
 ghost use Rattle.wy_step.specs.Step.{effect};
 ghost use Rattle.wy_mach.specs.Showing.{WentOn, IsStop, Turns, AreRegisters};
-ghost use Rattle.wy_mach.specs.Sharing.{PutsSecond, part_in};
+ghost use Rattle.wy_mach.specs.Sharing.{PutsSecond, CountsBeside, part_in};
 ghost use Rattle.wy_mach.specs.Parts.{GivesPart, LacksPart};
 
 use crate::registers::put;
@@ -20,7 +22,8 @@ use crate::stop::Stop;
 use wy_heap::{Heap, Place, Slot};
 
 /// `Field`: the field of a record comes into a register too. Stuck comes where there is no record with such
-/// a field. It takes memory only where the field has as many holders as the heap's cap allows.
+/// a field. It takes memory only where the field has as many holders as the heap's cap allows, and then
+/// counts as many copies as it makes nodes.
 pub fn field(
     heap: &mut Heap,
     registers: &mut [Place],
@@ -33,6 +36,7 @@ pub fn field(
     ensures value { OnOk result ((shapes : Shapes) → Extends shapes heap.old.shapes → WentOn (map_of heap.old) (map_of heap.new) registers.old registers.new (effect shapes (Instr.Field to from name))) }
     ensures stop { IfErr result (λ stop. (shapes : Shapes) → Extends shapes heap.old.shapes → IsStop (map_of heap.old) registers.old (effect shapes (Instr.Field to from name)) stop) }
     ensures shares { OnOk result (PutsSecond heap.old heap.new registers.old registers.new to (part_at (map_of heap.old) (part_in registers.old from) (step_of heap.old.shapes (Slot.Field name)))) }
+    ensures counts { OnOk result (CountsBeside 0 heap.old heap.new registers.old to) }
     ensures memory { IfErr result (λ stop. stop ≡ Stop.NoMemory → IsBelow heap.old heap.old.cap (part_at (map_of heap.old) (part_in registers.old from) (step_of heap.old.shapes (Slot.Field name))) → ⊥) }
     ensures kept { SameTable heap.old heap.new }
 {
@@ -55,6 +59,7 @@ fn part(
     ensures value { OnOk result (GivesPart heap.old heap.new registers.old registers.new to from (step_of heap.old.shapes slot)) }
     ensures stop { IfErr result (LacksPart heap.old registers.old from (step_of heap.old.shapes slot)) }
     ensures shares { OnOk result (PutsSecond heap.old heap.new registers.old registers.new to (part_at (map_of heap.old) (part_in registers.old from) (step_of heap.old.shapes slot))) }
+    ensures counts { OnOk result (CountsBeside 0 heap.old heap.new registers.old to) }
     ensures memory { IfErr result (λ stop. stop ≡ Stop.NoMemory → IsBelow heap.old heap.old.cap (part_at (map_of heap.old) (part_in registers.old from) (step_of heap.old.shapes slot)) → ⊥) }
     ensures kept { SameTable heap.old heap.new }
 {
@@ -79,6 +84,8 @@ fn second(heap: &mut Heap, place: &Place, slot: Slot) -> Result<Place, Stop>
     ensures value { IfOk result (λ made. (d : Datum) → Means (map_of heap.old) d place.now → Means (map_of heap.new) (child d (step_of heap.old.shapes slot)) made) }
     ensures stop { IfErr result (λ stop. stop ≡ Stop.Stuck → IsSlot heap.old place.now slot → ⊥) }
     ensures below { IfOk result (λ made. let p = part_at (map_of heap.old) place.now (step_of heap.old.shapes slot) in IsBelow heap.old heap.old.cap p → (made ≡ p) × (map_of heap.new ≡ map_of heap.old) × (heap.new.copies ≡ heap.old.copies)) }
+    ensures stays { OnOk result (More (map_of heap.old) (map_of heap.new)) }
+    ensures copies { OnOk result (CopiesAsMany heap.old heap.new) }
     ensures memory { IfErr result (λ stop. stop ≡ Stop.NoMemory → IsBelow heap.old heap.old.cap (part_at (map_of heap.old) place.now (step_of heap.old.shapes slot)) → ⊥) }
     ensures no_memory { OnErr result (IsAsBefore heap.old heap.new) }
     ensures kept { SameTable heap.old heap.new }

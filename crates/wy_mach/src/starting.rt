@@ -6,12 +6,15 @@ ghost use Rattle.wy_value.specs.Values.{AreValues};
 ghost use Rattle.wy_heap.specs.Nodes.{map_of};
 ghost use Rattle.wy_heap.specs.Meaning.{MeanAll};
 ghost use Rattle.wy_heap.specs.Extending.{Extends};
+ghost use Rattle.wy_heap.specs.Importing.{OnlyOnes};
 ghost use Rattle.wy_heap.specs.Standing.{Stands};
 ghost use Rattle.wy_code.specs.declared.routines.Routine.{Routine};
 ghost use Rattle.wy_step.specs.Step.{holding, empties};
 ghost use Rattle.wy_mach.specs.Showing.{Shows};
 ghost use Rattle.wy_mach.specs.States.{IsMachine, HasInts, PathsFit, RoutinesPathsFit, BodyPathsFit, InstrPathFits};
 ghost use Rattle.wy_mach.specs.Running.{Starts};
+ghost use Rattle.wy_mach.specs.SharedSteps.{IsFirst, ArePlaced};
+ghost use Rattle.wy_mach.specs.SharedTurns.{state_of};
 
 use crate::entering::entry_registers;
 use crate::frames::Frame;
@@ -26,7 +29,8 @@ use wy_value::{Shapes, Value};
 
 impl Machine {
     /// A run of the routine `entry` of the code on these arguments, in which no node ever has more
-    /// holders than `cap`. `has_result` says whether the text of its result is wanted. Room for the longest
+    /// holders than `cap`. Each array and each record of an argument is a node of its own, with one holder.
+    /// `has_result` says whether the text of its result is wanted. Room for the longest
     /// path of the code is reserved here, so that a `Put` in place takes no memory. It is linear in the
     /// code's table, the code, the arguments and the routine's registers.
     pub fn start(
@@ -45,6 +49,7 @@ impl Machine {
         ensures is { IfOk result (IsMachine code.now) }
         ensures starts { IfOk result (Starts code.now entry (map seen args.now)) }
         ensures has_result { IfOk result (λ machine. machine.has_result ≡ has_result) }
+        ensures first { IfOk result (λ machine. IsFirst code.now entry (map seen args.now) (state_of machine)) }
         ensures copies { IfOk result (λ machine. machine.heap.copies ≡ 0) }
         ensures cap { IfOk result (λ machine. machine.heap.cap ≡ cap) }
     {
@@ -81,6 +86,8 @@ fn first_registers(
     requires args { AreValues (seen_items args.now) }
     ensures stands { IfOk result (λ all. Stands heap.new all.items) }
     ensures shows { IfOk result (λ all. Shows (map_of heap.new) (holding (map seen args.now) ++ empties (many - length (map seen args.now))) all.items) }
+    ensures placed { IfOk result (λ all. ArePlaced (map_of heap.new) (map seen args.now) many all.items) }
+    ensures ones { OnOk result (OnlyOnes heap.old heap.new) }
     ensures extends { OnOk result (Extends heap.old.shapes heap.new.shapes) }
     ensures copies { OnOk result (heap.new.copies ≡ heap.old.copies) }
     ensures cap { OnOk result (heap.new.cap ≡ heap.old.cap) }
@@ -101,6 +108,7 @@ fn imported(alloc: Global, heap: &mut Heap, args: &[Value]) -> Result<Vec<Place>
     requires args { AreValues (seen_items args.now) }
     ensures stands { IfOk result (λ places. Stands heap.new places.items) }
     ensures mean { IfOk result (λ places. MeanAll (map_of heap.new) (seen_items args.now) places.items) }
+    ensures ones { OnOk result (OnlyOnes heap.old heap.new) }
     ensures extends { OnOk result (Extends heap.old.shapes heap.new.shapes) }
     ensures copies { OnOk result (heap.new.copies ≡ heap.old.copies) }
     ensures cap { OnOk result (heap.new.cap ≡ heap.old.cap) }

@@ -1,5 +1,5 @@
 -- A state determines how many nodes its next step copies.
-use Rattle.std.proofs.Common.{◌≡◌, inl, inr, ℕ, zero, suc, List, [], ◌∷◌, set, Some, sym, ◌∙◌, ap, subst}
+use Rattle.std.proofs.Common.{◌≡◌, inl, inr, ℕ, List, [], ◌∷◌, set, Some, sym, ◌∙◌, ap, subst}
 use Rattle.wy_heap.specs.declared.part.Part.{Part}
 use Rattle.wy_heap.specs.declared.part.Part.TheVariants.{Null, Key}
 use Rattle.wy_heap.specs.Nodes.{Map}
@@ -9,7 +9,7 @@ use Rattle.wy_code.specs.declared.instructions.Instr.{Instr}
 use Rattle.wy_code.specs.declared.instructions.Instr.TheVariants as instr
 use Rattle.wy_code.specs.declared.routines.Code.{Code}
 use Rattle.wy_mach.specs.Sharing.{part_in}
-use Rattle.wy_mach.specs.SharedSteps.{Shared, holders, HasOne, HaveOne, WrittenAlong, GivesFilled, GoesBehind, Makes}
+use Rattle.wy_mach.specs.SharedSteps.{Shared, holders, HasOne, HaveOne, WrittenAlong, GoesBehind, Makes}
 use Rattle.wy_sharing.specs.Room.{CopiesAreOne, NoneAreCopied, HasNoSecond, IsInPlace}
 use Rattle.wy_sharing.proofs.RoomLemmas.{path_unique}
 
@@ -33,10 +33,6 @@ written_one count m n o (s ∷ path) whole item part made other c d first second
   ]
 ]
 
-filled_none : (m : Map) (left : List Part) (to many : ℕ) (item : Part) (between : Map) (after : List Part) (c : ℕ) → GivesFilled m left to many item between after c → c ≡ 0
-filled_none m left to zero item between after c gives = gives.none
-filled_none m left to (suc more) item between after c gives = gives.none
-
 put_one : (st a b : Shared) (w : ℕ) (path : List Slot) (v c d : ℕ) → GoesBehind (instr.Put w path v) st a c → GoesBehind (instr.Put w path v) st b d → c ≡ d
 put_one st a b w path v c d first second =
     let place = part_in (set st.registers v Null) w in
@@ -58,7 +54,7 @@ makes_one code (instr.Jump n) st a b c d first second = first.none ∙ sym secon
 makes_one code (instr.Branch r n) st a b c d first second = first.none ∙ sym second.none
 makes_one code (instr.Array t rs) st a b c d first second = first.does.none ∙ sym second.does.none
 makes_one code (instr.Record t k rs) st a b c d first second = first.does.none ∙ sym second.does.none
-makes_one code (instr.Fill t v n) st a b c d first second = filled_none st.nodes (set st.registers v Null) t first.does.0 (part_in st.registers v) first.between a.registers c first.does.2 ∙ sym (filled_none st.nodes (set st.registers v Null) t second.does.0 (part_in st.registers v) second.between b.registers d second.does.2)
+makes_one code (instr.Fill t v n) st a b c d first second = first.does.2.none ∙ sym second.does.2.none
 makes_one code (instr.Len t x) st a b c d first second = first.does.2.2 ∙ sym second.does.2.2
 makes_one code (instr.Get t x i) st a b c d first second = first.does.2.2 ∙ sym second.does.2.2
 makes_one code (instr.Field t x f) st a b c d first second = first.does.2 ∙ sym second.does.2
@@ -106,7 +102,7 @@ makes_none code (instr.Jump n) st a c lacks made = made.none
 makes_none code (instr.Branch r n) st a c lacks made = made.none
 makes_none code (instr.Array t rs) st a c lacks made = made.does.none
 makes_none code (instr.Record t k rs) st a c lacks made = made.does.none
-makes_none code (instr.Fill t v n) st a c lacks made = filled_none st.nodes (set st.registers v Null) t made.does.0 (part_in st.registers v) made.between a.registers c made.does.2
+makes_none code (instr.Fill t v n) st a c lacks made = made.does.2.none
 makes_none code (instr.Len t x) st a c lacks made = made.does.2.2
 makes_none code (instr.Get t x i) st a c lacks made = made.does.2.2
 makes_none code (instr.Field t x f) st a c lacks made = made.does.2

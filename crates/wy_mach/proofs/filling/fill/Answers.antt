@@ -1,4 +1,4 @@
-use Rattle.std.proofs.Common.{◌≡◌, ◌∷◌, [], ◌<◌, ◌≤◌, length, true, false, Option, None, ℤ, subst, ◌∙◌, sym, rules, ℕ, Some, pos, set}
+use Rattle.std.proofs.Common.{◌≡◌, ◌∷◌, [], ◌<◌, ◌≤◌, length, true, false, Option, None, ℤ, subst, ◌∙◌, sym, rules, ℕ, Some, pos, set, ap, arith, length-set}
 use Rattle.std.specs.Int.{w128}
 use Rattle.std.proofs.lemmas.Int.{to_z-of_z}
 use mir.Val.{SFits}
@@ -15,7 +15,7 @@ use Rattle.wy_mach.proofs.FillLemmas.{fill_no_number, fill_no_length, fill_beyon
 use Rattle.wy_value.specs.Datum.{Whole}
 use Rattle.wy_heap.specs.declared.part.Part.TheVariants.{Null}
 use Rattle.wy_sem.specs.Expressions.{Store, slot}
-use Rattle.wy_mach.specs.Sharing.{PutsFilled, part_in}
+use Rattle.wy_mach.specs.Sharing.{PutsFilled, CountsBeside, part_in}
 use Rattle.wy_mach.proofs.ShareLemmas.{read_count, puts_filled_as}
 use Rattle.wy_mach.proofs.filling.fill.Goals as goal
 
@@ -85,3 +85,12 @@ returns-clause-shares c =
     puts_filled_as h n c.take-item.new.registers (set ps c.args.from Null) qs c.args.to many k c.take-item.result (part_in ps c.args.from) c.take-item.ensures.registers c.take-item.ensures.value
     (read_count h ps s c.args.count many k number reads (sym same ∙ c.in-Some-length_of.ensures.1) shows is) puts)
     c.fill_of.ensures.shares
+
+pub returns-clause-counts : goal.returns-clause-counts
+returns-clause-counts c =
+    let h = c.args.heap.now in
+    let n = c.fill_of.new.heap in
+    let ps = c.args.registers.now in
+    let rest = c.take-item.new.registers in
+    let long : length rest ≡ length ps = ap length c.take-item.ensures.registers ∙ length-set ps c.args.from Null in
+    on_ok c.fill_of.result (CountsBeside 1 h n rest c.args.to) (CountsBeside 1 h n ps c.args.to) (λ counts within. counts (omega (arith, long, within))) c.fill_of.ensures.counts

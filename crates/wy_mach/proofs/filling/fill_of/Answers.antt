@@ -1,10 +1,9 @@
 use Rattle.std.proofs.Common.{◌∷◌, [], ◌++◌}
 use Rattle.wy_heap.specs.Nodes.{map_of}
-use Rattle.wy_heap.proofs.LeadLemmas.{among_meant}
 use Rattle.wy_mach.specs.Filling.{filled}
 use Rattle.wy_mach.proofs.MakeLemmas.{taken_are_held, made_beside, made_turns, gives_made, refused_held, refused_turns}
 use Rattle.wy_mach.proofs.FillLemmas.{fill_means, one_list}
-use Rattle.wy_mach.proofs.RegisterLemmas.{among_first}
+use Rattle.wy_mach.proofs.CountedLemmas.{fill_counts}
 use Rattle.wy_mach.proofs.ShareLemmas.{puts_filled}
 use Rattle.wy_mach.proofs.filling.fill_of.Goals as goal
 
@@ -32,9 +31,12 @@ returns-in-Err-clause-turns c =
 
 pub returns-in-Ok-clause-shares : goal.returns-in-Ok-clause-shares
 returns-in-Ok-clause-shares c =
-    let h = c.args.heap.now in
-    let item = c.args.item in
-    let held = c.requires.held in
-    let meant = among_meant h (item ∷ (c.args.registers.now ++ held.0)) item held.1.counts (among_first item (c.args.registers.now ++ held.0)) in
-    puts_filled h c.fill.new.self c.put.new.heap c.args.registers.now c.put.new.registers c.args.to c.args.many item c.in-Ok.made c.in-Ok.ensures.new c.fill.ensures.below c.in-Ok.ensures.others c.in-Ok.ensures.value meant held.1.within
+    puts_filled c.args.heap.now c.fill.new.self c.put.new.heap c.args.registers.now c.put.new.registers c.args.to c.args.many c.args.item c.in-Ok.made c.in-Ok.ensures.came c.fill.ensures.below
     c.put.ensures.registers c.put.ensures.lasts c.put.ensures.copies
+
+pub returns-in-Ok-clause-counts : goal.returns-in-Ok-clause-counts
+returns-in-Ok-clause-counts c =
+    let ps = c.args.registers.now in
+    let held = c.requires.held in
+    fill_counts c.args.heap.now c.fill.new.self c.put.new.heap c.args.item ps c.put.new.registers held.0 c.args.to c.in-Ok.made held.1 (c.in-Ok.ensures.acts (ps ++ held.0) held.1).stands
+    c.put.ensures.acts c.put.ensures.registers c.in-Ok.ensures.others c.in-Ok.ensures.copies c.put.ensures.lasts c.put.ensures.copies

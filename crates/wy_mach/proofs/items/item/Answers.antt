@@ -4,7 +4,8 @@ use Rattle.std.proofs.lemmas.Int.{to_z-of_z}
 use mir.Val.{SFits}
 use Rattle.wy_mach.specs.Operands.{Reads, number_in}
 use Rattle.wy_mach.proofs.RegisterLemmas.{read_part}
-use Rattle.wy_mach.proofs.MoveLemmas.{register_held, second_beside, second_turns, unchanged}
+use Rattle.wy_mach.proofs.MoveLemmas.{register_held, second_stands, second_beside, second_turns, unchanged}
+use Rattle.wy_mach.proofs.CountedLemmas.{second_counts}
 use Rattle.wy_mach.proofs.ItemLemmas.{item_goes, item_stops, item_no_number, item_beyond}
 use Rattle.wy_heap.specs.declared.part.Part.{Part}
 use Rattle.wy_heap.specs.declared.part.Part.TheVariants.{Null}
@@ -92,3 +93,14 @@ returns-in-Err-clause-memory c none s i shows is under =
     let reads = subst (λ (r : Option ℤ). Reads h ps c.args.index number_in r) c.in-Some.is c.number.ensures in
     c.in-Err.ensures.memory none i (to_z-of_z w128 c.in-Some.number fits ∙ read_number h ps s c.args.index c.in-Some.number (pos i) reads shows is)
     (subst (λ (q : Part). IsBelow h h.cap (part_at (map_of h) q (item_at i))) (sym here) under)
+
+pub returns-in-Ok-clause-counts : goal.returns-in-Ok-clause-counts
+returns-in-Ok-clause-counts c =
+    let h = c.args.heap.now in
+    let n = c.second_item.new.heap in
+    let ps = c.args.registers.now in
+    let held = c.requires.held in
+    let p = get_or ps c.args.from c.index-registers-at.result in
+    let below : c.args.from < length ps = search rules in
+    second_counts h n c.put.new.heap ps c.put.new.registers held.0 c.args.to c.in-Ok.made held.1 (second_stands h n p c.in-Ok.made ps held.0 c.args.from (read_part ps c.args.from p c.index-registers-at.result below refl) below c.in-Ok.ensures.acts held.1)
+    c.put.ensures.acts c.put.ensures.registers c.in-Ok.ensures.stays c.in-Ok.ensures.copies c.put.ensures.lasts c.put.ensures.copies

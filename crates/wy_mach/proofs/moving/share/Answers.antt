@@ -5,7 +5,8 @@ use Rattle.wy_sem.specs.Expressions.{slot}
 use Rattle.wy_step.specs.Step.{gives}
 use Rattle.wy_mach.proofs.RegisterLemmas.{read_part, slot_beyond}
 use Rattle.wy_mach.proofs.NumberLemmas.{there_none}
-use Rattle.wy_mach.proofs.MoveLemmas.{register_held, second_beside, second_turns, shared_goes, unchanged}
+use Rattle.wy_mach.proofs.MoveLemmas.{register_held, second_stands, second_beside, second_turns, shared_goes, unchanged}
+use Rattle.wy_mach.proofs.CountedLemmas.{second_counts}
 use Rattle.wy_heap.specs.declared.part.Part.TheVariants.{Null}
 use Rattle.wy_heap.specs.Parts.{IsBelow}
 use Rattle.wy_heap.specs.declared.part.Part.{Part}
@@ -71,3 +72,15 @@ returns-in_err-made-clause-memory c = all_err c.from_residual.result (λ (e : St
     let is = read_part ps c.args.from p c.index-registers-index.result below refl in
     let told = (c.share.ensures.below (subst (λ (q : Part). IsBelow h h.cap q) (sym is) under)).0 in
     absurd (grind (rules, told)))
+
+pub returns-clause-counts : goal.returns-clause-counts
+returns-clause-counts c =
+    let h = c.args.heap.now in
+    let n = c.share.new.self in
+    let ps = c.args.registers.now in
+    let made = c.in_ok-made.made in
+    let held = c.requires.held in
+    let p = get_or ps c.args.from c.index-registers-index.result in
+    let below : c.args.from < length ps = search rules in
+    second_counts h n c.put.new.heap ps c.put.new.registers held.0 c.args.to made held.1 (second_stands h n p made ps held.0 c.args.from (read_part ps c.args.from p c.index-registers-index.result below refl) below c.in_ok-made.ensures.acts held.1)
+    c.put.ensures.acts c.put.ensures.registers c.in_ok-made.ensures.stays c.in_ok-made.ensures.copies c.put.ensures.lasts c.put.ensures.copies

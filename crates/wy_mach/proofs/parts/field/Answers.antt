@@ -14,3 +14,6 @@ returns-in-Ok-clause-shares c = c.in-Ok.ensures.shares
 
 pub returns-in-Err-clause-memory : goal.returns-in-Err-clause-memory
 returns-in-Err-clause-memory c = c.in-Err.ensures.memory
+
+pub returns-in-Ok-clause-counts : goal.returns-in-Ok-clause-counts
+returns-in-Ok-clause-counts c = c.in-Ok.ensures.counts

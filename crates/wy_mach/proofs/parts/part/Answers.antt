@@ -1,7 +1,8 @@
 use Rattle.std.proofs.Common.{◌<◌, ◌≤◌, length, get_or, refl, rules, subst, sym, ap, ◌∙◌}
 use Rattle.wy_heap.specs.Slots.{step_of, part_at}
 use Rattle.wy_mach.proofs.RegisterLemmas.{read_part}
-use Rattle.wy_mach.proofs.MoveLemmas.{register_held, second_beside, second_turns, unchanged}
+use Rattle.wy_mach.proofs.MoveLemmas.{register_held, second_stands, second_beside, second_turns, unchanged}
+use Rattle.wy_mach.proofs.CountedLemmas.{second_counts}
 use Rattle.wy_mach.proofs.PartLemmas.{gives_part, lacks_beyond, lacks_by}
 use Rattle.wy_heap.specs.declared.part.Part.{Part}
 use Rattle.wy_heap.specs.declared.part.Part.TheVariants.{Null}
@@ -73,3 +74,14 @@ returns-in-Err-clause-memory c none under =
     let below : c.args.from < length ps = search rules in
     let here = read_part ps c.args.from p c.index-registers-index.result below refl in
     c.in-Err.ensures.memory none (subst (λ (q : Part). IsBelow h h.cap (part_at (map_of h) q step)) (sym here) under)
+
+pub returns-in-Ok-clause-counts : goal.returns-in-Ok-clause-counts
+returns-in-Ok-clause-counts c =
+    let h = c.args.heap.now in
+    let n = c.second.new.heap in
+    let ps = c.args.registers.now in
+    let held = c.requires.held in
+    let p = get_or ps c.args.from c.index-registers-index.result in
+    let below : c.args.from < length ps = search rules in
+    second_counts h n c.put.new.heap ps c.put.new.registers held.0 c.args.to c.in-Ok.made held.1 (second_stands h n p c.in-Ok.made ps held.0 c.args.from (read_part ps c.args.from p c.index-registers-index.result below refl) below c.in-Ok.ensures.acts held.1)
+    c.put.ensures.acts c.put.ensures.registers c.in-Ok.ensures.stays c.in-Ok.ensures.copies c.put.ensures.lasts c.put.ensures.copies

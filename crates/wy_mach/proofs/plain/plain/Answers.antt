@@ -10,7 +10,7 @@ use Rattle.wy_step.specs.Step.{effect}
 use Rattle.wy_mach.specs.declared.stop.Stop.{Stop}
 use Rattle.wy_mach.specs.declared.stop.Stop.TheVariants as stop
 use Rattle.wy_mach.specs.Showing.{WentOn, IsStop}
-use Rattle.wy_mach.proofs.MakeLemmas.{on_ok}
+use Rattle.wy_mach.proofs.MakeLemmas.{on_ok, ok_pair}
 use Rattle.wy_mach.specs.Running.{MayTakeMemory}
 use Rattle.wy_mach.proofs.TurnLemmas.{if_err, all_err, ok_of_stop, err_of_stop, not_memory, is_moving}
 use Rattle.wy_mach.specs.SharedTurns.{SharesIn, WantsIn}
@@ -248,7 +248,7 @@ returns-in-Share-clause-shares c =
     let ps = c.args.registers.now in
     let qs = c.share.new.registers in
     let is : c.args.instr.now ≡ instr.Share c.in-Share.to c.in-Share.from = c.in-Share.is in
-    subst (λ (i : Instr). OnOk c.share.result (SharesIn i h n ps qs)) (sym is) c.share.ensures.shares
+    subst (λ (i : Instr). OnOk c.share.result (SharesIn i h n ps qs)) (sym is) (ok_pair c.share.result _ _ c.share.ensures.shares c.share.ensures.counts)
 
 pub returns-in-Equal-clause-shares : goal.returns-in-Equal-clause-shares
 returns-in-Equal-clause-shares c =
@@ -284,7 +284,7 @@ returns-in-Fill-clause-shares c =
     let ps = c.args.registers.now in
     let qs = c.fill.new.registers in
     let is : c.args.instr.now ≡ instr.Fill c.in-Fill.to c.in-Fill.from c.in-Fill.count = c.in-Fill.is in
-    subst (λ (i : Instr). OnOk c.fill.result (SharesIn i h n ps qs)) (sym is) c.fill.ensures.shares
+    subst (λ (i : Instr). OnOk c.fill.result (SharesIn i h n ps qs)) (sym is) (ok_pair c.fill.result _ _ c.fill.ensures.shares c.fill.ensures.counts)
 
 pub returns-in-Get-clause-shares : goal.returns-in-Get-clause-shares
 returns-in-Get-clause-shares c =
@@ -293,7 +293,7 @@ returns-in-Get-clause-shares c =
     let ps = c.args.registers.now in
     let qs = c.item.new.registers in
     let is : c.args.instr.now ≡ instr.Get c.in-Get.to c.in-Get.from c.in-Get.index = c.in-Get.is in
-    subst (λ (i : Instr). OnOk c.item.result (SharesIn i h n ps qs)) (sym is) c.item.ensures.shares
+    subst (λ (i : Instr). OnOk c.item.result (SharesIn i h n ps qs)) (sym is) (ok_pair c.item.result _ _ c.item.ensures.shares c.item.ensures.counts)
 
 pub returns-in-Field-clause-shares : goal.returns-in-Field-clause-shares
 returns-in-Field-clause-shares c =
@@ -302,7 +302,7 @@ returns-in-Field-clause-shares c =
     let ps = c.args.registers.now in
     let qs = c.field.new.registers in
     let is : c.args.instr.now ≡ instr.Field c.in-Field.to c.in-Field.from c.in-Field.name = c.in-Field.is in
-    subst (λ (i : Instr). OnOk c.field.result (SharesIn i h n ps qs)) (sym is) c.field.ensures.shares
+    subst (λ (i : Instr). OnOk c.field.result (SharesIn i h n ps qs)) (sym is) (ok_pair c.field.result _ _ c.field.ensures.shares c.field.ensures.counts)
 
 pub returns-in-Put-clause-shares : goal.returns-in-Put-clause-shares
 returns-in-Put-clause-shares c =

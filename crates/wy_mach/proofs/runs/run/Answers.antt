@@ -45,4 +45,4 @@ returns-clause-shared g c =
     let code = c.args.code.now in
     let k = c.in-Ok.machine in
     if_ok c.turns-end.result (DoneShared code k c.args.steps) (RanShared code c.args.entry (map seen c.args.args.now) c.args.steps c.args.cap)
-    (λ e done. record { first = k; is = c.in-Ok.ensures.is; starts = c.in-Ok.ensures.starts; cap_is = c.in-Ok.ensures.cap; none = c.in-Ok.ensures.copies; done = done }) c.turns-end.ensures.shared
+    (λ e done. record { first = k; is = c.in-Ok.ensures.is; starts = c.in-Ok.ensures.starts; cap_is = c.in-Ok.ensures.cap; none = c.in-Ok.ensures.copies; begins = c.in-Ok.ensures.first; done = done }) c.turns-end.ensures.shared

@@ -18,3 +18,10 @@ pub release_all-requires : goal.release_all-requires
 release_all-requires c =
     let n = c.imported.new.heap in
     ([], subst (Stands n) (sym (append-nil c.in-Err.places.items)) (subst (Stands n) (sym c.in-Err.ensures.back) c.in_ok-places.ensures.stands))
+
+pub returns-in-Ok-clause-placed : goal.returns-in-Ok-clause-placed
+returns-in-Ok-clause-placed c = record {
+  parts = c.in_ok-places.places.items;
+  are = c.in-Ok.ensures.registers;
+  mean = data_mean (map_of c.imported.new.heap) c.args.args.now c.in_ok-places.places.items c.in_ok-places.ensures.mean;
+}

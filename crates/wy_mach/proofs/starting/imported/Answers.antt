@@ -5,6 +5,7 @@ use Rattle.wy_value.specs.Seen.{seen_items}
 use Rattle.wy_heap.specs.Nodes.{map_of}
 use Rattle.wy_heap.specs.Meaning.{MeanAll}
 use Rattle.wy_heap.specs.Standing.{Stands}
+use Rattle.wy_heap.proofs.ImportLemmas.{ones_refl, ones_trans}
 use Rattle.wy_heap.proofs.RowLemmas.{value_datum}
 use Rattle.wy_mach.proofs.StartLemmas.{one_more, as_grown, extends_same, extends_on}
 use Rattle.wy_mach.proofs.starting.imported.Goals as goal
@@ -13,6 +14,7 @@ pub loop-i-init : goal.loop-i-init
 loop-i-init c = record {
   stands = subst (Stands c.args.heap.now) (sym c.in-Ok.ensures.items) c.requires.stands;
   mean = c.in-Ok.ensures.items;
+  ones = ones_refl c.args.heap.now;
   extends = extends_same c.args.heap.now.shapes c.args.heap.now.shapes refl;
   copies = refl;
   cap = refl;
@@ -37,6 +39,7 @@ loop-i-preserved c =
     record {
       stands = both.0;
       mean = both.1;
+      ones = ones_trans c.args.heap.now h n c.loop-i.invariant.ones c.import.ensures.ones;
       extends = extends_on c.args.heap.now.shapes h.shapes n.shapes c.loop-i.invariant.extends c.import.ensures.grew.extends;
       copies = c.import.ensures.grew.copies ∙ c.loop-i.invariant.copies;
       cap = c.import.ensures.grew.cap ∙ c.loop-i.invariant.cap;

@@ -1,6 +1,6 @@
 use Rattle.std.proofs.Common.{◌≡◌, ◌∷◌, [], List, replicate, sym, subst, ◌∙◌, ap}
 use Rattle.wy_value.specs.Datum as datum
-use Rattle.wy_heap.specs.Making.{repeated, IsNew}
+use Rattle.wy_heap.specs.Making.{repeated, IsNew, Came}
 use Rattle.wy_heap.specs.declared.part.Part.{Part}
 use Rattle.wy_heap.specs.declared.part.Part.TheVariants.{Key}
 use Rattle.wy_heap.specs.Nodes.{list_form, map_of}
@@ -8,7 +8,7 @@ use Rattle.wy_heap.specs.Meaning.{Means}
 use Rattle.wy_heap.specs.Standing.{Counts, Acts}
 use Rattle.wy_heap.specs.Changing.{AreThere, Fits, Joins, Builds, HasRoom, Upheld}
 use Rattle.wy_heap.proofs.BuildLemmas.{fill_there, fill_fits, fill_free, fill_acts, fill_means}
-use Rattle.wy_heap.proofs.NewLemmas.{fill_copies, fill_others, fill_room, fill_new}
+use Rattle.wy_heap.proofs.NewLemmas.{fill_copies, fill_others, fill_room, fill_came, fill_new}
 use Rattle.wy_heap.proofs.heap.Heap.fill.Goals as goal
 
 pub build-requires-clause-there : goal.build-requires-clause-there
@@ -83,3 +83,13 @@ returns-clause-new c some below =
     (subst (Joins h n c.in-Ok-build.key list_form) words alone.joins)
     (subst (λ (ps : List Part). Builds h n list_form ps c.in-Ok-build.key) words c.in-Ok-build.ensures.builds)
     c.requires.held.1.counts c.free.ensures.lasts (subst (Upheld n (map_of o)) c.spent-part.ensures c.free.ensures.upheld))
+
+pub returns-clause-came : goal.returns-clause-came
+returns-clause-came c below =
+    let h = c.args.self.now in
+    let n = c.build.new.self in
+    let o = c.free.new.self in
+    let words : c.in-Ok.words.items ≡ replicate c.args.n c.args.item = c.in-Ok.ensures ∙ ap (replicate c.args.n) c.part.ensures in
+    let alone = c.in-Ok-build.ensures.room (subst (HasRoom h) (sym words) (fill_room h c.args.n c.args.item below)) in
+    subst (λ (p : Part). Came (map_of h) (map_of o) p list_form (replicate c.args.n c.args.item)) (sym c.of.ensures)
+    (fill_came h n o c.in-Ok-build.key (replicate c.args.n c.args.item) (subst (Joins h n c.in-Ok-build.key list_form) words alone.joins) c.free.ensures.lasts)

@@ -4,7 +4,8 @@ use Rattle.wy_heap.specs.declared.node.Node.{Node}
 use Rattle.wy_heap.specs.declared.heap.Heap.{Heap}
 use Rattle.wy_heap.specs.Nodes.{form_of}
 use Rattle.wy_heap.specs.Changing.{Adds}
-use Rattle.wy_heap.proofs.ImportLemmas.{gathered, gather_carries}
+use Rattle.wy_heap.proofs.LeadLemmas.{same_slots}
+use Rattle.wy_heap.proofs.ImportLemmas.{gathered, gather_carries, ones_added, ones_same, ones_trans}
 use Rattle.wy_heap.proofs.heap.Heap.gather.Goals as goal
 
 pub returns-clause-gathers : goal.returns-clause-gathers
@@ -35,3 +36,19 @@ pub returns-clause-carries : goal.returns-clause-carries
 returns-clause-carries c =
     gather_carries c.args.self.now (record c.args.self.now { nodes = c.insert_reserved-key.new.self }) (form_of c.args.self.now.shapes c.args.shape) c.args.done.now.items c.push_reserved.new.self.items c.args.many
     (returns-clause-gathers c) c.requires.fits
+
+pub returns-clause-ones : goal.returns-clause-ones
+returns-clause-ones c =
+    let h = c.args.self.now in
+    let room : Heap = record h { nodes = c.reserve.new.self } in
+    let n : Heap = record h { nodes = c.insert_reserved-key.new.self } in
+    let node : Node = record { count = 1; next = None; shape = c.args.shape; parts = c.in_ok-parts.parts } in
+    let adds : Adds room n c.insert_reserved-key.result c.args.shape c.in_ok-parts.parts.items = record {
+      vacant = c.insert_reserved-key.ensures.was_vacant;
+      node = node;
+      changes = record { shapes = refl; updates = c.insert_reserved-key.ensures.updates };
+      one = refl;
+      shape_is = refl;
+      parts_are = refl;
+    } in
+    ones_trans h room n (ones_same h room (same_slots h room (ap (λ s. s.slots) c.reserve.ensures.rest_kept) refl).counts) (ones_added room n c.insert_reserved-key.result c.args.shape c.in_ok-parts.parts.items adds)

@@ -2,7 +2,7 @@ use Rattle.std.proofs.Common.{◌++◌, ◌∷◌, [], List, sym, subst, ◌∙�
 use Rattle.wy_heap.specs.declared.part.Part.{Part}
 use Rattle.wy_heap.specs.Standing.{Counts, Acts}
 use Rattle.wy_heap.specs.Importing.{Carries}
-use Rattle.wy_heap.proofs.ImportLemmas.{import_acts, carries_failed}
+use Rattle.wy_heap.proofs.ImportLemmas.{import_acts, carries_failed, ones_same}
 use Rattle.wy_heap.proofs.heap.Heap.import.Goals as goal
 
 pub returns-in-Ok-clause-acts : goal.returns-in-Ok-clause-acts
@@ -20,3 +20,6 @@ returns-clause-no_memory c =
     (λ others counts. c.free_all.ensures.counts others (subst (λ (ps : List Part). Counts b (ps ++ others)) (sym c.deref.ensures.value) counts))
     (λ base others counts upholds more. c.free_all.ensures.upheld base others (subst (λ (ps : List Part). Counts b (ps ++ others)) (sym c.deref.ensures.value) counts) upholds more) in
     record { nodes = same.nodes; counts = same.counts; copies = c.free_all.ensures.rest.copies ∙ c.in-Err.ensures.grew.copies }
+
+pub returns-clause-ones : goal.returns-clause-ones
+returns-clause-ones c = ones_same c.args.self.now c.free_all.new.self (returns-clause-no_memory c).counts

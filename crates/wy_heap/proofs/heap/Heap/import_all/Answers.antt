@@ -4,7 +4,7 @@ use Rattle.wy_value.specs.declared.value.Value.{Value}
 use Rattle.wy_value.specs.Seen.{seen}
 use Rattle.wy_heap.specs.Nodes.{map_of}
 use Rattle.wy_heap.specs.Importing.{Job, jobs_of, job_of, Ready}
-use Rattle.wy_heap.proofs.ImportLemmas.{carries_trans, grew_trans, jobs-push}
+use Rattle.wy_heap.proofs.ImportLemmas.{carries_trans, grew_trans, ones_trans, jobs-push}
 use Rattle.wy_heap.proofs.heap.Heap.import_all.Goals as goal
 
 pub import_step-requires-clause-ready : goal.import_step-requires-clause-ready
@@ -24,9 +24,14 @@ jobs-preserved c =
     record {
       carries = carries_trans c.args.self.now c.jobs.self c.import_step.new.self [] c.jobs.done.items c.import_step.new.done.items c.jobs.invariant.carries c.import_step.ensures.carries;
       grew = grew_trans c.args.self.now c.jobs.self c.import_step.new.self c.jobs.invariant.grew c.import_step.ensures.grew;
+      ones = ones_trans c.args.self.now c.jobs.self c.import_step.new.self c.jobs.invariant.ones c.import_step.ensures.ones;
       ready = c.in_ok-import_step.ensures.ready (seen c.args.value.now) (subst (λ (js : List Job). Ready (map_of c.jobs.self) (seen c.args.value.now) js c.jobs.done.items) jobs c.jobs.invariant.ready);
     }
 
 pub returns-in_err-import_step-clause-carries : goal.returns-in_err-import_step-clause-carries
 returns-in_err-import_step-clause-carries c =
     carries_trans c.args.self.now c.jobs.self c.import_step.new.self [] c.jobs.done.items c.import_step.new.done.items c.jobs.invariant.carries c.import_step.ensures.carries
+
+pub returns-in_err-import_step-clause-ones : goal.returns-in_err-import_step-clause-ones
+returns-in_err-import_step-clause-ones c =
+    ones_trans c.args.self.now c.jobs.self c.import_step.new.self c.jobs.invariant.ones c.import_step.ensures.ones
