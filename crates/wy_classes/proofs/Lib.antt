@@ -14,6 +14,10 @@ pub mod FirstLemmas
 pub mod BoundLemmas
 -- what tasks lead to
 pub mod TaskLemmas
+-- terms that have been gone through
+pub mod GoneLemmas
+-- terms that are under way
+pub mod BegunLemmas
 -- the walk as the definition of the search says it
 pub mod StandingLemmas
 -- lists, one item after the other
