@@ -212,6 +212,13 @@ leave_on at done around now is = record {
   smaller = λ n h. tt;
 }
 
+pub begins_one : (old new : ℕ → Bool) (outside : Bool) (k : ℕ) → outside ≡ true → ((q : ℕ) → new q ≡ cond (eqb k q) true (old q)) → BeginsOne old new outside k
+begins_one old new outside k up puts q e = by (eqb k q) refl (sym (puts q) ∙ e)
+  where
+    by : (b : Bool) → eqb k q ≡ b → cond b true (old q) ≡ true → (old q ≡ true) ⊎ ((q ≡ k) × (outside ≡ true))
+    by true f g = inr (sym (eqb-true k q f), up)
+    by false f g = inl g
+
 pub none_around : (xs : List ℕ) (n : ℕ) → n ≡ length xs → eqb n 0 ≡ true → xs ≡ []
 none_around [] n count e = refl
 none_around (x ∷ xs) n count e =

@@ -142,7 +142,8 @@ fn visit(terms: &Terms, walk: &mut Walk, k: u32) -> Result<(), NoMemory>
 {
     let node = terms.node(k);
     let outside = walk.around.is_empty();
-    if !begin(&mut walk.begun, outside, k, node)? {
+    let more = begin(&mut walk.begun, outside, k, node)?;
+    if !more {
         return Ok(());
     }
     let (f, holds) = bare_form(terms, k);
@@ -221,8 +222,9 @@ fn step(terms: &Terms, walk: &mut Walk, task: Task) -> Result<(), NoMemory>
 /// The terms and formulas that stand in a node without bound names, those of the literals in order and then those of the
 /// pending formulas, a term before its parts, each once: as the pending formulas of a node that has no literals.
 ///
-/// It goes through the literals and formulas as trees, and takes time in their size; below quantifiers, each term's size
-/// besides for each quantifier around it.
+/// Outside quantifiers it goes into each term once, and takes time linear in how many terms they are made of and their parts,
+/// each counted once. Below quantifiers it passes over the terms that it met outside before, and goes through the others as
+/// trees, where it looks in each term for the name of each quantifier around it.
 pub fn standing(terms: &Terms, branch: &Branch) -> Result<Branch, NoMemory>
     requires { IsBranch terms.now branch.now }
     ensures value { IfOk result (λ b. (seen_branch (tree_at terms.now) b).pending ≡ search.standing (seen_branch (tree_at terms.now) branch.now)) }
