@@ -10,3 +10,5 @@ pub mod AddingLemmas
 pub mod QuotientLemmas
 pub mod BoundLemmas
 pub mod ProductLemmas
+-- forms that are known
+pub mod KnownLemmas

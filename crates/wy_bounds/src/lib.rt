@@ -5,6 +5,9 @@
 //! `gathering` does so for each literal, and `ending` eliminates the variables of what is left. The definition is that of
 //! `wy_search`.
 //!
+//! `known` keeps the forms of literals that were made, so that each is made once for a whole search: nodes share most of their
+//! literals, and forms are made of terms as deep as a function's body is long.
+//!
 //! The products of bounds that a round of expansion adds to a node.
 //!
 //! `tightest` finds, for a factor of a product, the literal that is its tightest lower or upper bound. `products` lists what the
@@ -14,6 +17,7 @@
 mod ending;
 mod forms;
 mod gathering;
+mod known;
 mod products;
 mod removal;
 mod replacing;
@@ -22,6 +26,7 @@ mod tightest;
 
 pub use ending::{Ending, ending_of_elimination};
 pub use forms::numbered;
+pub use known::{KnownForms, no_forms};
 pub use products::{Bounds, bounds_of, products_of};
 pub use removal::{Taking, takings};
 pub use replacing::{Replaced, replace};

@@ -20,5 +20,6 @@ loop-i-preserved c =
           (terms_stay old now c.args.present.now c.loop-i.invariant.stays c.requires.present)
           (ap (λ (n : Node). n.literals) (node_stays old now c.args.branch.now c.loop-i.invariant.stays c.requires.branch))
           c.in_ok-take_literal.ensures.value c.loop-i.invariant.gathers;
+      known = c.in_ok-take_literal.ensures.known;
       stays = stays_on old now c.take_literal.new.terms c.loop-i.invariant.stays c.in_ok-take_literal.ensures.stays;
     }
