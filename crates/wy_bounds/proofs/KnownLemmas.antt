@@ -159,3 +159,7 @@ placed_over nodes fs k given f is here = subst (λ (g : Form). IsOver (length no
 pub if_known : {X E : Type 0} (r : Result X E) (old new : List Plain) (known : KnownForms) → Stays old new → AreKnown old known → OnOk r (AreKnown new known)
 if_known (Ok x) old new known stays are = known_stays old new known stays are
 if_known (Err e) old new known stays are = tt
+
+pub on_ok : {X E : Type 0} (P : Type 0) (r : Result X E) → P → OnOk r P
+on_ok P (Ok x) is = is
+on_ok P (Err e) is = tt
