@@ -12,3 +12,5 @@ pub mod BoundLemmas
 pub mod ProductLemmas
 -- forms that are known
 pub mod KnownLemmas
+-- first places of classes
+pub mod FirstLemmas

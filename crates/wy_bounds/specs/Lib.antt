@@ -8,3 +8,5 @@ pub mod Bounds
 pub mod Adding
 -- what public contracts cite
 pub mod Known
+-- what functions inside owe each other
+pub mod Firsts

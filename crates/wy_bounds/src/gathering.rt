@@ -1,5 +1,6 @@
 //! What is left of the forms of a node's literals.
 ghost use Rattle.std.specs.Prelude.{◌≡◌, ◌<◌, ◌++◌, [], ◌∷◌, List, length, IfOk, OnOk};
+ghost use Rattle.wy_bounds.specs.Firsts.{AreFirsts};
 ghost use Rattle.wy_bounds.specs.Gathered.{Gathers, TakesLiteral};
 ghost use Rattle.wy_bounds.specs.Known.{AreKnown};
 ghost use Rattle.wy_bounds.specs.Seen.{seen_replaced};
@@ -9,9 +10,10 @@ ghost use Rattle.wy_judging.specs.Seen.{IsBranch, seen_branch};
 ghost use Rattle.wy_search.specs.Bounds as bounds;
 ghost use Rattle.wy_term.specs.Nodes.{tree_at};
 
+use crate::firsts::first_places;
 use crate::forms::numbered;
 use crate::known::{KnownForms, known_form, place_of_form};
-use crate::replacing::{Replaced, replace};
+use crate::replacing::{Replaced, replace_by};
 use std::alloc::Global;
 use wy_classes::Present;
 use wy_judging::Branch;
@@ -57,12 +59,14 @@ fn take_literal(
     branch: &Branch,
     present: &Present,
     labels: &[u32],
+    firsts: &[u32],
     i: usize,
     gathered: &mut Gathered,
 ) -> Result<(), NoMemory>
     requires branch { IsBranch terms.old branch.now }
     requires known { AreKnown terms.old known.old }
     requires present { IsPresent terms.old present.now }
+    requires firsts { AreFirsts labels.now firsts.now }
     requires place { i < length branch.now.literals.keys }
     ensures value { (rs : List bounds.Replaced) → Gathers gathered.old rs → OnOk result (TakesLiteral (terms_of (tree_at terms.old) present.now) labels.now (seen_branch (tree_at terms.old) branch.now).literals i rs gathered.new) }
     ensures known { OnOk result (AreKnown terms.new known.new) }
@@ -71,7 +75,7 @@ fn take_literal(
     match place_of_form(terms, known, branch, i)? {
         Some(place) => {
             let placed = numbered(terms, present, known_form(known, place))?;
-            let one = replace(terms.allocator(), labels, placed)?;
+            let one = replace_by(terms.allocator(), labels, firsts, placed)?;
             take(gathered, one)
         }
         None => Ok(()),
@@ -93,9 +97,19 @@ pub fn gather(
     ensures known { OnOk result (AreKnown terms.new known.new) }
     ensures stays { Stays terms.old terms.new }
 {
+    let firsts = first_places(terms.allocator(), labels)?;
     let mut gathered = nothing(terms.allocator());
     for i in 0..branch.literals.len() {
-        take_literal(terms, known, branch, present, labels, i, &mut gathered)?;
+        take_literal(
+            terms,
+            known,
+            branch,
+            present,
+            labels,
+            &firsts,
+            i,
+            &mut gathered,
+        )?;
     }
     Ok(gathered)
 }
