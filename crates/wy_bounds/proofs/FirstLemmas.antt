@@ -58,30 +58,31 @@ module _ (labels : List ℕ) (was : ℕ → Option ℕ) (l v : ℕ) (lt : v < le
   pub first_new : v ≡ first_of_class labels v
   first_new = sym new_here ∙ ap (λ (m : ℕ). first_with labels m 0) label
 
-  pub noted_new : (now : ℕ → Option ℕ) → ((q : ℕ) → now q ≡ cond (eqb l q) (Some v) (was q)) → AreNoted labels now (v + 1)
-  noted_new now puts = noted_more labels now v v firsts all here
-    where
-      firsts : (m k : ℕ) → now m ≡ Some k → first_with labels m 0 ≡ k
-      firsts m k e = by (eqb l m) refl (sym (puts m) ∙ e)
-        where
-          by : (t : Bool) → eqb l m ≡ t → cond t (some_place v) (was m) ≡ some_place k → first_with labels m 0 ≡ k
-          by true t f =
-              let same : v ≡ k = cc in
-              ap (λ (n : ℕ). first_with labels n 0) (sym (eqb-true l m t)) ∙ (new_here ∙ same)
-          by false t f = noted.first m k f
+  module _ (now : ℕ → Option ℕ) (puts : (q : ℕ) → now q ≡ cond (eqb l q) (some_place v) (was q)) where
+    firsts_new : (m k : ℕ) → now m ≡ Some k → first_with labels m 0 ≡ k
+    firsts_new m k e = by (eqb l m) refl (sym (puts m) ∙ e)
+      where
+        by : (t : Bool) → eqb l m ≡ t → cond t (some_place v) (was m) ≡ some_place k → first_with labels m 0 ≡ k
+        by true t f =
+            let same : v ≡ k = cc in
+            ap (λ (n : ℕ). first_with labels n 0) (sym (eqb-true l m t)) ∙ (new_here ∙ same)
+        by false t f = noted.first m k f
 
-      kept : (m k : ℕ) → was m ≡ Some k → now m ≡ Some k
-      kept m k e = puts m ∙ by (eqb l m) refl
-        where
-          by : (t : Bool) → eqb l m ≡ t → cond t (some_place v) (was m) ≡ some_place k
-          by true t = no_place (was l) k none (ap was (eqb-true l m t) ∙ e)
-          by false t = e
+    kept_new : (m k : ℕ) → was m ≡ Some k → now m ≡ Some k
+    kept_new m k e = puts m ∙ by (eqb l m) refl
+      where
+        by : (t : Bool) → eqb l m ≡ t → cond t (some_place v) (was m) ≡ some_place k
+        by true t = no_place (was l) k none (ap was (eqb-true l m t) ∙ e)
+        by false t = e
 
-      all : (u : ℕ) → u < v → (k : ℕ) × (now (slice_index labels u) ≡ Some k)
-      all u less = let k = noted.all u less in (k.0, kept (slice_index labels u) k.0 k.1)
+    all_new : (u : ℕ) → u < v → (k : ℕ) × (now (slice_index labels u) ≡ Some k)
+    all_new u less = let k = noted.all u less in (k.0, kept_new (slice_index labels u) k.0 k.1)
 
-      here : now (slice_index labels v) ≡ Some v
-      here = ap now (sym label) ∙ (puts l ∙ ap (λ (t : Bool). cond t (some_place v) (was l)) (eq-eqb l l refl))
+    here_new : now (slice_index labels v) ≡ Some v
+    here_new = ap now (sym label) ∙ (puts l ∙ ap (λ (t : Bool). cond t (some_place v) (was l)) (eq-eqb l l refl))
+
+    pub noted_new : AreNoted labels now (v + 1)
+    noted_new = noted_more labels now v v firsts_new all_new here_new
 
 -- ---- the list
 
@@ -92,11 +93,15 @@ pushed P (y ∷ ys) x all here zero k e = all zero k e
 pushed P (y ∷ ys) x all here (suc v) k e = pushed (λ w j. P (suc w) j) ys x (λ w j g. all (suc w) j g) here v k e
 
 pub no_firsts : (labels firsts : List ℕ) → firsts ≡ [] → AreFirsts labels firsts
-no_firsts labels firsts is v k e = absurd (lost v k (subst (λ (xs : List ℕ). slice_get xs v ≡ Some k) is e))
+no_firsts labels [] is v k e = absurd cc
+no_firsts labels (x ∷ xs) is v k e = absurd cc
+
+pub count_more : (xs ys : List ℕ) (x n : ℕ) → ys ≡ xs ++ x ∷ [] → length xs ≡ n → length ys ≡ n + 1
+count_more xs ys x n put is = ap length put ∙ (counted xs ∙ ap (λ (m : ℕ). m + 1) is)
   where
-    lost : (w j : ℕ) → slice_get {ℕ} [] w ≡ Some j → ⊥
-    lost zero j f = cc
-    lost (suc w) j f = cc
+    counted : (zs : List ℕ) → length (zs ++ x ∷ []) ≡ length zs + 1
+    counted [] = refl
+    counted (z ∷ zs) = let e = counted zs in omega (arith, e)
 
 pub firsts_more : (labels fs gs : List ℕ) (v first : ℕ) → length fs ≡ v → first ≡ first_of_class labels v → gs ≡ fs ++ first ∷ [] → AreFirsts labels fs → AreFirsts labels gs
 firsts_more labels fs gs v first count is put are =

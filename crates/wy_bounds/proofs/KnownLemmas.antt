@@ -23,14 +23,17 @@ use Rattle.wy_bounds.specs.declared.known.KnownForms.{KnownForms}
 abbrev some_form : Linear Term → Option (Linear Term)
 some_form f = Some f
 
+abbrev some_literal : Literal → Option Literal
+some_literal l = Some l
+
+same_pair : (p q : ℕ × Bool) → Some p ≡ Some q → p ≡ q
+same_pair p q e = cc
+
 -- ---- literals
 
 pub seen_there : (at : ℕ → Term) (ps : List (ℕ × Bool)) (i : ℕ) (l : ℕ × Bool) → slice_get ps i ≡ Some l → slice_get (map (seen_literal at) ps) i ≡ Some (seen_literal at l)
 seen_there at [] i l e = absurd cc
-seen_there at (p ∷ ps) zero l e = let is : p ≡ l = cc in ap (λ (q : ℕ × Bool). some_literal (seen_literal at q)) is
-  where
-    some_literal : Literal → Option Literal
-    some_literal k = Some k
+seen_there at (p ∷ ps) zero l e = ap (λ (q : ℕ × Bool). some_literal (seen_literal at q)) (same_pair p l e)
 seen_there at (p ∷ ps) (suc i) l e = seen_there at ps i l e
 
 pub form_here : (at : ℕ → Term) (ps : List (ℕ × Bool)) (i n : ℕ) (l : ℕ × Bool) → n ≡ i + 1 → slice_get ps i ≡ Some l → form_at (map (seen_literal at) ps) n ≡ form_of_signed at l

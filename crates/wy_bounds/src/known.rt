@@ -25,10 +25,9 @@ pub struct KnownForms {
 pub fn no_forms(alloc: Global) -> KnownForms
     ensures { (nodes : List Plain) → AreKnown nodes result }
 {
-    KnownForms {
-        places: HashMap::new(alloc),
-        made: Vec::new(alloc),
-    }
+    let places = HashMap::new(alloc);
+    let made = Vec::new(alloc);
+    KnownForms { places, made }
 }
 
 /// The number of the literal with a place.

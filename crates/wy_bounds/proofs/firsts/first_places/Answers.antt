@@ -1,6 +1,6 @@
 use Rattle.std.proofs.Common.{◌≡◌, ◌∙◌, ◌+◌, ℕ, [], length, nat_eq, refl, rules, subst, sym}
 use Rattle.std.specs.HashMap.{get}
-use Rattle.wy_bounds.proofs.FirstLemmas.{firsts_more, no_firsts, none_noted}
+use Rattle.wy_bounds.proofs.FirstLemmas.{count_more, firsts_more, no_firsts, none_noted}
 use Rattle.wy_bounds.proofs.firsts.first_places.Goals as goal
 use Rattle.wy_bounds.specs.Firsts.{AreNoted}
 
@@ -19,6 +19,6 @@ note_first-requires-clause-found c = subst (AreNoted c.args.labels.now (get nat_
 pub loop-i-preserved : goal.loop-i-preserved
 loop-i-preserved c = record {
   noted = subst (λ (n : ℕ). AreNoted c.args.labels.now (get nat_eq c.note_first.new.found) (n + 1)) c.in_ok-v.ensures c.in_ok-first.ensures.found;
-  count = search rules;
+  count = count_more c.loop-i.firsts.items c.push.new.self.items c.in_ok-first.first c.loop-i.i c.in_ok-push.ensures.items c.loop-i.invariant.count;
   firsts = firsts_more c.args.labels.now c.loop-i.firsts.items c.push.new.self.items c.in_ok-v.v c.in_ok-first.first (c.loop-i.invariant.count ∙ sym c.in_ok-v.ensures) c.in_ok-first.ensures.value c.in_ok-push.ensures.items c.loop-i.invariant.firsts;
 }

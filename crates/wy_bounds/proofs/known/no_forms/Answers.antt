@@ -6,5 +6,5 @@ use Rattle.wy_judging.specs.Seen.{same_signed}
 
 pub returns : goal.returns
 returns c = λ nodes l o e.
-    let none : get same_signed c.new.result l ≡ None = rw c.new.ensures.empty refl in
-    none_known (get same_signed c.new.result l) o none e
+    let none : get same_signed c.new-places.result l ≡ None = rw c.new-places.ensures.empty refl in
+    none_known (get same_signed c.new-places.result l) o none e

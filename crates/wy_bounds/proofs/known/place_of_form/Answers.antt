@@ -9,7 +9,7 @@ use Rattle.wy_term.specs.Nodes.{tree_at}
 pub returns-in-Some-clause-value : goal.returns-in-Some-clause-value
 returns-in-Some-clause-value c =
     let old = c.args.terms.now in
-    let literal = c.nth_literal.result in
+    let literal = c.nth_literal-literal.result in
     let found : get same_signed c.args.known.now.places literal ≡ Some c.in-Some.place = search rules in
     let known = c.requires.known literal c.in-Some.place found in
-    subst (IsFormAt old c.args.known.now.made.items c.in-Some.place) (sym (form_here (tree_at old) c.args.branch.now.literals.keys c.args.i _ literal refl c.nth_literal.ensures.value)) known.form
+    subst (IsFormAt old c.args.known.now.made.items c.in-Some.place) (sym (form_here (tree_at old) c.args.branch.now.literals.keys c.args.i _ literal refl c.nth_literal-literal.ensures.value)) known.form
