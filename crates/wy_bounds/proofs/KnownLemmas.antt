@@ -163,6 +163,7 @@ pub if_known : {X E : Type 0} (r : Result X E) (old new : List Plain) (known : K
 if_known (Ok x) old new known stays are = known_stays old new known stays are
 if_known (Err e) old new known stays are = tt
 
-pub on_ok : {X E : Type 0} (P : Type 0) (r : Result X E) → P → OnOk r P
-on_ok P (Ok x) is = is
-on_ok P (Err e) is = tt
+-- what holds anyway
+pub on_ok_anyway : {X E : Type 0} (P : Type 0) (r : Result X E) → P → OnOk r P
+on_ok_anyway P (Ok x) is = is
+on_ok_anyway P (Err e) is = tt

@@ -4,4 +4,3 @@ pub mod TurnLemmas
 pub mod WalkLemmas
 -- what crates above need too of those below
 pub use Rattle.wy_stated_facts.proofs.AddingLemmas
-pub use Rattle.wy_bounds.proofs.KnownLemmas

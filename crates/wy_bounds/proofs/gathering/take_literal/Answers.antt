@@ -8,7 +8,7 @@ use Rattle.wy_search.specs.Bounds.{numbered, replaced}
 use Rattle.wy_classes.specs.Seen.{terms_of}
 use Rattle.wy_bounds.specs.Seen.{seen_replaced}
 use Rattle.wy_bounds.proofs.GatherLemmas.{takes_form, takes_none, literal_there, terms_stay}
-use Rattle.wy_bounds.proofs.KnownLemmas.{on_ok, no_place, place_within, placed_at, placed_is, placed_over}
+use Rattle.wy_bounds.proofs.KnownLemmas.{on_ok_anyway, no_place, place_within, placed_at, placed_is, placed_over}
 use Rattle.wy_bounds.proofs.gathering.take_literal.Goals as goal
 
 pub known_form-requires : goal.known_form-requires
@@ -30,7 +30,7 @@ returns-in_ok-one-in-Some-clause-value c = λ rs was.
     IfOk-weaker c.take.result _ _ (λ u all. takes_form ts c.args.labels.now (map (seen_literal (tree_at old)) keys) c.args.i (c.args.i + 1) _ rs c.take.new.gathered f (seen_replaced c.in_ok-one-in-Some.one) refl here found made all) (c.take.ensures rs was)
 
 pub returns-in_ok-one-in-Some-clause-known : goal.returns-in_ok-one-in-Some-clause-known
-returns-in_ok-one-in-Some-clause-known c = on_ok _ c.take.result c.in_ok-place.ensures.known
+returns-in_ok-one-in-Some-clause-known c = on_ok_anyway _ c.take.result c.in_ok-place.ensures.known
 
 pub returns-in-None-clause-value : goal.returns-in-None-clause-value
 returns-in-None-clause-value c = λ rs was.

@@ -1,6 +1,6 @@
 use Rattle.std.proofs.Common.{◌∙◌, ℕ, List, length, map, sym, ap, subst}
 use Rattle.std.proofs.lemmas.Result.{IfOk-weaker}
-use Rattle.wy_bounds.proofs.KnownLemmas.{on_ok}
+use Rattle.wy_bounds.proofs.KnownLemmas.{on_ok_anyway}
 use Rattle.wy_term.specs.Nodes.{tree_at}
 use Rattle.wy_facts.specs.Seen.{AreBelow}
 use Rattle.wy_judge.specs.Node.{with_formulas}
@@ -27,4 +27,4 @@ returns-clause-value c =
     c.in_ok-products.ensures.value) c.add_all.ensures.value
 
 pub returns-clause-known : goal.returns-clause-known
-returns-clause-known c = on_ok _ c.add_all.result c.in_ok-products.ensures.known
+returns-clause-known c = on_ok_anyway _ c.add_all.result c.in_ok-products.ensures.known

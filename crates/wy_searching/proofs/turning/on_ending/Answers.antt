@@ -1,6 +1,6 @@
 use Rattle.std.proofs.Common.{◌∙◌, sym, ap}
 use Rattle.std.specs.Prelude.{option_map}
-use Rattle.wy_bounds.proofs.KnownLemmas.{on_ok}
+use Rattle.wy_bounds.proofs.KnownLemmas.{on_ok_anyway}
 use Rattle.wy_term.specs.Nodes.{tree_at}
 use Rattle.wy_term.specs.Condition.{condition_of}
 use Rattle.wy_bounds.specs.Seen.{seen_ending}
@@ -24,4 +24,4 @@ returns-in-None-clause-value c =
     (ap (option_map at) (sym c.in-None.is) ∙ c.in_ok-found.ensures.value) c.on_expansion.ensures.value
 
 pub returns-in-Some-clause-known : goal.returns-in-Some-clause-known
-returns-in-Some-clause-known c = on_ok _ c.split.result c.requires.known
+returns-in-Some-clause-known c = on_ok_anyway _ c.split.result c.requires.known

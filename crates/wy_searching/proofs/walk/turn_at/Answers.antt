@@ -1,5 +1,5 @@
 use Rattle.std.proofs.Common.{◌∷◌, map}
-use Rattle.wy_bounds.proofs.KnownLemmas.{on_ok}
+use Rattle.wy_bounds.proofs.KnownLemmas.{on_ok_anyway}
 use Rattle.wy_term.specs.Nodes.{tree_at}
 use Rattle.wy_term.specs.Condition.{condition_of}
 use Rattle.wy_search.specs.Tree as tree
@@ -29,4 +29,4 @@ returns-clause-value c =
     (c.behind.ensures.value p (tree.next types p) c.in_ok-next.ensures.value)
 
 pub returns-clause-known : goal.returns-clause-known
-returns-clause-known c = on_ok _ c.behind.result c.in_ok-next.ensures.known
+returns-clause-known c = on_ok_anyway _ c.behind.result c.in_ok-next.ensures.known
