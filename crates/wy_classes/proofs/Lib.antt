@@ -26,6 +26,8 @@ pub mod LabelLemmas
 pub mod SymbolLemmas
 -- terms of other heads
 pub mod HeadLemmas
+-- terms of one signature
+pub mod SignatureLemmas
 -- classes joined, one term after the other
 pub mod ClosingLemmas
 -- classes in each congruence

@@ -15,3 +15,5 @@ pub mod Heads
 -- what functions inside owe each other
 pub mod Kinded
 pub mod Pairs
+-- numbers that are equal for congruent terms
+pub mod Signatures

@@ -7,6 +7,7 @@ ghost use Rattle.wy_search.specs.Classes as classes;
 ghost use Rattle.wy_term.specs.Nodes.{tree_at};
 
 use crate::congruent::{are_congruent, is_bare};
+use crate::groups::{grouped, is_settled};
 use crate::labels::{are_same, copied, first_labels, joined};
 use crate::places::label_of;
 use crate::present::Present;
@@ -112,7 +113,7 @@ fn with_congruent(
     Ok(labels)
 }
 
-// So for each term.
+// So for each term. A term is passed over where its signature shows that it is congruent to terms of its class alone.
 fn with_all_congruent(
     terms: &Terms,
     present: &Present,
@@ -122,8 +123,15 @@ fn with_all_congruent(
     ensures { IfOk result (λ made. made.items ≡ classes.with_all_congruent (terms_of (tree_at terms.now) present.now) labels.items (terms_of (tree_at terms.now) present.now)) }
 {
     let mut labels = labels;
+    let mut groups = grouped(terms, present, &labels)?;
     for i in 0..present.numbers.len() {
-        labels = with_congruent(terms, present, labels, present.numbers[i])?;
+        if !groups.parted {
+            return Ok(labels);
+        }
+        if !is_settled(terms, present, &labels, &groups, i)? {
+            labels = with_congruent(terms, present, labels, present.numbers[i])?;
+            groups = grouped(terms, present, &labels)?;
+        }
     }
     Ok(labels)
 }
