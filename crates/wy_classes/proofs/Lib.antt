@@ -36,3 +36,5 @@ pub mod SoundLemmas
 pub mod AnyLemmas
 -- kinds, one after the other
 pub mod KindLemmas
+-- kinds that are noted for classes
+pub mod FirstKindLemmas

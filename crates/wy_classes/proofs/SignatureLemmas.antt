@@ -116,9 +116,9 @@ round_stays nodes ts labels ks g i all is single =
     rest_stays nodes all.one ts labels (get nat_eq g.found) ks (drop i ks) is all.each (each_left ks i all.each) (all.told single)
   where
     each_left : (js : List ℕ) (n : ℕ) → ((j : ℕ) → j < length js → IsGrouped nodes ts labels (get nat_eq g.found) (slice_index js j)) → (j : ℕ) → j < length (drop n js) → IsGrouped nodes ts labels (get nat_eq g.found) (slice_index (drop n js) j)
-    each_left js zero each = each
+    each_left js zero each j l = each j l
     each_left [] (suc n) each j l = absurd (omega (arith, l))
-    each_left (k ∷ js) (suc n) each = each_left js n (λ j l. each (suc j) (omega (arith, l)))
+    each_left (k ∷ js) (suc n) each j l = each_left js n (λ i lt. each (suc i) (omega (arith, lt))) j l
 
 -- ---- one class more
 
@@ -202,7 +202,7 @@ kept_noted nodes ts labels f g k keeps is = record {
   noted = λ h. keeps (signature ts labels (tree_at nodes) (node_at nodes k)) (class_at ts labels (tree_at nodes) k) (is.noted h);
 }
 
-less_more : (k n : ℕ) → k < suc n → (k < n) ⊎ (k ≡ n)
+pub less_more : (k n : ℕ) → k < suc n → (k < n) ⊎ (k ≡ n)
 less_more zero zero lt = inr refl
 less_more zero (suc n) lt = inl (omega arith)
 less_more (suc k) zero lt = absurd (omega (arith, lt))

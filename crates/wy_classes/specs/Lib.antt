@@ -17,3 +17,5 @@ pub mod Kinded
 pub mod Pairs
 -- numbers that are equal for congruent terms
 pub mod Signatures
+-- a kind for each class
+pub mod Firsts

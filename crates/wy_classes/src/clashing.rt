@@ -7,6 +7,7 @@ ghost use Rattle.wy_search.specs.Classes as classes;
 ghost use Rattle.wy_term.specs.Nodes.{tree_at};
 
 use crate::denials::{any_apart, any_denies};
+use crate::firsts::kinds_agree;
 use crate::kinds::{kinds_by, with_own_kinds};
 use crate::meeting::any_kinds;
 use crate::present::Present;
@@ -26,10 +27,13 @@ fn kinds_clash(
 {
     let literals = kinds_by(terms, branch, true)?;
     let given = with_own_kinds(terms, present, literals)?;
+    let denied = kinds_by(terms, branch, false)?;
+    if kinds_agree(terms, present, labels, &given, &denied)? {
+        return Ok(false);
+    }
     if any_kinds(terms, present, labels, &given, &given, false) {
         return Ok(true);
     }
-    let denied = kinds_by(terms, branch, false)?;
     Ok(any_kinds(terms, present, labels, &given, &denied, true))
 }
 

@@ -31,6 +31,7 @@ mod clashing;
 mod closing;
 mod congruent;
 mod denials;
+mod firsts;
 mod groups;
 mod kinds;
 mod labels;

@@ -20,5 +20,5 @@ returns-clause-here c =
     let found = get nat_eq c.note.new.groups.found in
     on_ok_weaker c.note.result
     (λ h. grouped_here c.args.terms.now ts c.args.labels.now found c.args.s (plain c.node.result.now) c.is_bare.result c.requires.term c.node.ensures.value c.node.ensures.tree c.node.ensures.within c.is_bare.ensures.value c.is_bare.ensures.parts
-    (λ un. noted_by found c.in_ok-key.key (signature ts c.args.labels.now at (node_at c.args.terms.now c.args.s)) c.class_number.result (class_at ts c.args.labels.now at c.args.s) c.in_ok-key.ensures c.class_number.ensures h))
+    (λ un. noted_by found c.in_ok-key.key (signature ts c.args.labels.now at (node_at c.args.terms.now c.args.s)) c.class_number-class.result (class_at ts c.args.labels.now at c.args.s) c.in_ok-key.ensures c.class_number-class.ensures h))
     c.note.ensures.here
