@@ -23,6 +23,9 @@ some_kind k = Some k
 abbrev some_place : ℕ → Option ℕ
 some_place i = Some i
 
+no_kind : (k : DataKind) → None ≡ some_kind k → ⊥
+no_kind k e = cc
+
 -- ---- one place more
 
 module _ (ks : List Kinded) (f g : ℕ → Option ℕ) (class place : ℕ) (kind : DataKind) (here : kind_at ks (Some place) ≡ Some kind) (puts : (k : ℕ) → g k ≡ cond (eqb class k) (some_place place) (f k)) where
@@ -35,8 +38,7 @@ module _ (ks : List Kinded) (f g : ℕ → Option ℕ) (class place : ℕ) (kind
       by : (x : Bool) → eqb class k ≡ x → kind_at ks (cond x (some_place place) (f k)) ≡ Some l
       by true e =
           let no : f k ≡ None = ap f (sym (eqb-true class k e)) ∙ none in
-          let lost : kind_at ks None ≡ Some l = ap (kind_at ks) (sym no) ∙ h in
-          absurd cc
+          absurd (no_kind l (ap (kind_at ks) (sym no) ∙ h))
       by false e = h
 
 -- ---- places, one after the other

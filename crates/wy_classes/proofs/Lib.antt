@@ -38,3 +38,5 @@ pub mod AnyLemmas
 pub mod KindLemmas
 -- kinds that are noted for classes
 pub mod FirstKindLemmas
+-- constants that are noted with their classes
+pub mod ConstantLemmas

@@ -65,7 +65,7 @@ congruent_same at n one ts labels p q below under h =
 
 -- ---- terms of one signature
 
-one_class : (o : Option Group) (c d : ℕ) → covers o c ≡ true → covers o d ≡ true → are_several o ≡ false → c ≡ d
+pub one_class : (o : Option Group) (c d : ℕ) → covers o c ≡ true → covers o d ≡ true → are_several o ≡ false → c ≡ d
 one_class None c d h g e = absurd cc
 one_class (Some (One k)) c d h g e = sym (eqb-true k c h) ∙ eqb-true k d g
 one_class (Some Several) c d h g e = absurd cc

@@ -1,10 +1,13 @@
 -- Numbers that are equal for congruent terms, and the classes of the terms that have them.
-use Rattle.std.specs.Prelude.{◌≡◌, ℕ, suc, ◌+◌, ◌*◌, ◌%◌, ◌^◌, ◌<◌, List, [], ◌∷◌, map, length, nat_eq, Bool, true, false, Option, Some, None, slice_index, ◌==◌, ◌||◌, if◌then◌else◌}
+use Rattle.std.specs.Prelude.{◌≡◌, ℕ, suc, ◌+◌, ◌*◌, ◌%◌, ◌^◌, ◌<◌, List, [], ◌∷◌, map, length, nat_eq, Bool, true, false, Option, Some, None, slice_index, ◌==◌, ◌||◌, if◌then◌else◌, is_some, option_map}
 use Rattle.std.specs.HashMap.{get}
 use Rattle.wy_term.specs.Term as term
 use Rattle.wy_term.specs.Term.{Symbol, Term}
 use Rattle.wy_term.specs.Nodes.{Plain, grown, node_at, tree_at, HasPartsBelow}
+use Rattle.wy_term.specs.Rewriting.{as_constant}
 use Rattle.wy_search.specs.Classes.{label_of, place_from}
+use Rattle.wy_splits.specs.Constants.{datum_of}
+use Rattle.wy_splits.specs.declared.constants.Constant.{Constant}
 use Rattle.wy_classes.specs.Heads.{tag_of}
 use Rattle.wy_classes.specs.declared.groups.Group.{Group}
 use Rattle.wy_classes.specs.declared.groups.Group.TheVariants.{One, Several}
@@ -102,3 +105,9 @@ pub record AreGrouped (nodes : List Plain) (ts : List Term) (labels : List ℕ) 
   pub one : (s t : ℕ) → s < length nodes → t < length nodes → tree_at nodes s ≡ tree_at nodes t → s ≡ t
   pub each : (j : ℕ) → j < length ks → IsGrouped nodes ts labels (get nat_eq g.found) (slice_index ks j)
   pub told : IsTold g
+
+-- the term's number is noted with its class, if it is a constant
+pub record IsNoted (nodes : List Plain) (ts : List Term) (labels : List ℕ) (found : ℕ → Option Group) (k : ℕ) : Type 0 where
+  pub within : k < length nodes
+  pub constant : (c : Option Constant) × (option_map datum_of c ≡ as_constant (tree_at nodes k))
+  pub noted : is_some (as_constant (tree_at nodes k)) ≡ true → covers (found (class_at ts labels (tree_at nodes) k)) k ≡ true

@@ -38,7 +38,8 @@ fn kinds_clash(
 }
 
 /// Whether a denied equation stands inside a class, or a class has two different constants, two kinds, or a kind and its
-/// denial. It compares each term present with each.
+/// denial. Where the classes don't clash it takes time linear in the number of literals and of terms present on average, but
+/// for the kinds of records, whose names are compared; else it compares terms with each other until it comes to two that clash.
 pub fn classes_clash(
     terms: &Terms,
     branch: &Branch,
@@ -52,7 +53,7 @@ pub fn classes_clash(
     if any_denies(terms, branch, present, labels) {
         return Ok(true);
     }
-    if any_apart(terms, present, labels) {
+    if any_apart(terms, present, labels)? {
         return Ok(true);
     }
     kinds_clash(terms, branch, present, labels)

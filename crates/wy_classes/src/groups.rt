@@ -68,8 +68,8 @@ fn parted_by(parted: bool, group: Group) -> bool
     }
 }
 
-// Notes a class with a signature.
-fn note(groups: &mut Groups, key: u64, class: u64) -> Result<(), NoMemory>
+/// Notes a class with a signature, in constant time on average.
+pub fn note(groups: &mut Groups, key: u64, class: u64) -> Result<(), NoMemory>
     ensures here { OnOk result (covers (get nat_eq groups.new.found key) class ≡ true) }
     ensures kept { OnOk result (Keeps (get nat_eq groups.old.found) (get nat_eq groups.new.found)) }
     ensures told { OnOk result (IsTold groups.old → IsTold groups.new) }
