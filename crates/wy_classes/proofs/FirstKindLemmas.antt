@@ -6,7 +6,7 @@ use Rattle.std.proofs.lemmas.Option.{slice_get_within}
 use Rattle.wy_term.specs.Term.{DataKind, Term}
 use Rattle.wy_term.specs.Nodes.{plain_kind}
 use Rattle.wy_term.specs.Same.{same_kind, same_term}
-use Rattle.wy_term.proofs.SameLemmas.{eqb_self, kinds_self}
+use Rattle.wy_term.proofs.SameLemmas.{eqb_self, kinds_are, kinds_self}
 use Rattle.wy_judging.proofs.NameLemmas.{and_false}
 use Rattle.wy_valid.specs.Kinds as valid
 use Rattle.wy_search.specs.Classes.{in_one_class, kinds_with, any_kinds}
@@ -45,6 +45,13 @@ module _ (ks : List Kinded) (f g : ℕ → Option ℕ) (class place : ℕ) (kind
 
 pub place_kind : (ks : List Kinded) (i : ℕ) (p : Kinded) → slice_get ks i ≡ Some p → kind_at ks (Some i) ≡ Some (plain_kind p.kind)
 place_kind ks i p e = ap (option_map kind_in) e
+
+pub kind_found : (ks : List Kinded) (i : ℕ) (p : Kinded) (kind : DataKind) → slice_get ks i ≡ Some p → same_kind (plain_kind p.kind) kind ≡ true → kind_at ks (Some i) ≡ Some kind
+kind_found ks i p kind e h = place_kind ks i p e ∙ ap (λ (k : DataKind). some_kind k) (kinds_are (plain_kind p.kind) kind h)
+
+pub un_not : (b : Bool) → not b ≡ false → b ≡ true
+un_not true h = refl
+un_not false h = absurd cc
 
 pub place_below : (n : ℕ) (ks : List Kinded) (i : ℕ) (p : Kinded) → AreKinded n ks → slice_get ks i ≡ Some p → p.term < n
 place_below n [] i p below e = absurd cc

@@ -155,8 +155,9 @@ fn rounds(terms: &Terms, present: &Present, labels: Vec<u32>) -> Result<Vec<u32>
 }
 
 /// The labels of the terms' classes in the least congruence that has the node's equations: two terms present have the same
-/// label where they are in one class. A round compares each term that has parts with each, in constant time where their
-/// nodes are of two kinds or their first arguments are in two classes, and joins two classes unless it is the last.
+/// label where they are in one class. A round in which nothing is joined, as the last, takes time linear in the number of
+/// the terms and their parts on average. In another the terms are gone through anew, in that time, for each term that has
+/// congruent ones in other classes, and that term is compared with each.
 pub fn classes(terms: &Terms, branch: &Branch, present: &Present) -> Result<Vec<u32>, NoMemory>
     requires branch { IsBranch terms.now branch.now }
     requires present { IsPresent terms.now present.now }

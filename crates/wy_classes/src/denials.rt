@@ -92,7 +92,8 @@ fn note_constant(
     ensures kept { OnOk result (Keeps (get nat_eq groups.old.found) (get nat_eq groups.new.found)) }
     ensures told { OnOk result (IsTold groups.old → IsTold groups.new) }
 {
-    if constant_at(terms, s).is_none() {
+    let constant = constant_at(terms, s);
+    if constant.is_none() {
         return Ok(());
     }
     let class = class_number(terms, present, labels, s);
