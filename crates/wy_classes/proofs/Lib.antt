@@ -30,6 +30,8 @@ pub mod LabelLemmas
 pub mod SymbolLemmas
 -- terms of other heads
 pub mod HeadLemmas
+-- terms of one signature
+pub mod SignatureLemmas
 -- classes joined, one term after the other
 pub mod ClosingLemmas
 -- classes in each congruence
@@ -38,3 +40,7 @@ pub mod SoundLemmas
 pub mod AnyLemmas
 -- kinds, one after the other
 pub mod KindLemmas
+-- kinds that are noted for classes
+pub mod FirstKindLemmas
+-- constants that are noted with their classes
+pub mod ConstantLemmas

@@ -17,3 +17,7 @@ pub mod Heads
 -- what functions inside owe each other
 pub mod Kinded
 pub mod Pairs
+-- numbers that are equal for congruent terms
+pub mod Signatures
+-- a kind for each class
+pub mod Firsts
