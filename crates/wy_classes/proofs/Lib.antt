@@ -14,6 +14,10 @@ pub mod FirstLemmas
 pub mod BoundLemmas
 -- what tasks lead to
 pub mod TaskLemmas
+-- terms that have been gone through
+pub mod GoneLemmas
+-- terms that are under way
+pub mod BegunLemmas
 -- the walk as the definition of the search says it
 pub mod StandingLemmas
 -- lists, one item after the other
@@ -26,6 +30,8 @@ pub mod LabelLemmas
 pub mod SymbolLemmas
 -- terms of other heads
 pub mod HeadLemmas
+-- terms of one signature
+pub mod SignatureLemmas
 -- classes joined, one term after the other
 pub mod ClosingLemmas
 -- classes in each congruence
@@ -34,3 +40,7 @@ pub mod SoundLemmas
 pub mod AnyLemmas
 -- kinds, one after the other
 pub mod KindLemmas
+-- kinds that are noted for classes
+pub mod FirstKindLemmas
+-- constants that are noted with their classes
+pub mod ConstantLemmas

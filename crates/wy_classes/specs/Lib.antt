@@ -7,6 +7,8 @@ pub mod Reached
 pub mod Marks
 -- what the walk has still to do, and what it leads to
 pub mod Walk
+-- which terms it has gone through
+pub mod Begun
 -- what public contracts cite
 pub mod Seen
 pub mod Congruence
@@ -15,3 +17,7 @@ pub mod Heads
 -- what functions inside owe each other
 pub mod Kinded
 pub mod Pairs
+-- numbers that are equal for congruent terms
+pub mod Signatures
+-- a kind for each class
+pub mod Firsts

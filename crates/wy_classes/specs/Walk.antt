@@ -1,5 +1,5 @@
 -- What the walk has still to do, and what it leads to.
-use Rattle.std.specs.Prelude.{ℕ, ◌<◌, length, map, List, [], ◌∷◌, ◌++◌, Bool, true, false}
+use Rattle.std.specs.Prelude.{ℕ, ◌<◌, length, map, List, [], ◌∷◌, ◌++◌, Bool, true, false, if◌then◌else◌}
 use Rattle.wy_judging.specs.Seen.{AreBelow, IsBranch, seen_formula, signed}
 use Rattle.wy_search.specs.Standing.{standing_in}
 use Rattle.wy_classes.specs.Marks.{all_marked, with_unmarked}
@@ -26,6 +26,10 @@ tasks_of q (a ∷ b ∷ c ∷ ks) = Visit a true ∷ Visit b true ∷ Bind q ∷
 tasks_of q (a ∷ b ∷ []) = []
 tasks_of q (a ∷ []) = []
 tasks_of q [] = []
+
+-- what stands in the term with this number is next, by its node
+abbrev pub next_tasks : ℕ → Plain → List Task
+next_tasks k p = if is_quantifier p.symbol then tasks_of k p.parts else visits p.parts
 
 abbrev pub of_literals : List (ℕ × Bool) → List Task
 of_literals [] = []

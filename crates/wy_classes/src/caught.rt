@@ -29,8 +29,8 @@ fn quantifier_at(around: &[u32], i: usize) -> u32
     around[i]
 }
 
-/// Whether one of these quantifiers binds a name that stands free in the term. It takes time in the size of the term for
-/// each of them.
+/// Whether one of these quantifiers binds a name that stands free in the term. For each of them it takes the time to look for
+/// its name in the term, and where there are none, constant time.
 pub fn is_caught(terms: &Terms, around: &[u32], t: u32) -> Result<bool, NoMemory>
     requires quantifiers { AreBelow (length terms.now) around.now }
     requires term { t < length terms.now }

@@ -7,6 +7,7 @@ ghost use Rattle.wy_search.specs.Classes as classes;
 ghost use Rattle.wy_term.specs.Nodes.{tree_at};
 
 use crate::denials::{any_apart, any_denies};
+use crate::firsts::kinds_agree;
 use crate::kinds::{kinds_by, with_own_kinds};
 use crate::meeting::any_kinds;
 use crate::present::Present;
@@ -26,15 +27,19 @@ fn kinds_clash(
 {
     let literals = kinds_by(terms, branch, true)?;
     let given = with_own_kinds(terms, present, literals)?;
+    let denied = kinds_by(terms, branch, false)?;
+    if kinds_agree(terms, present, labels, &given, &denied)? {
+        return Ok(false);
+    }
     if any_kinds(terms, present, labels, &given, &given, false) {
         return Ok(true);
     }
-    let denied = kinds_by(terms, branch, false)?;
     Ok(any_kinds(terms, present, labels, &given, &denied, true))
 }
 
 /// Whether a denied equation stands inside a class, or a class has two different constants, two kinds, or a kind and its
-/// denial. It compares each term present with each.
+/// denial. Where the classes don't clash it takes time linear in the number of literals and of terms present on average, but
+/// for the kinds of records, whose names are compared; else it compares terms with each other until it comes to two that clash.
 pub fn classes_clash(
     terms: &Terms,
     branch: &Branch,
@@ -48,7 +53,7 @@ pub fn classes_clash(
     if any_denies(terms, branch, present, labels) {
         return Ok(true);
     }
-    if any_apart(terms, present, labels) {
+    if any_apart(terms, present, labels)? {
         return Ok(true);
     }
     kinds_clash(terms, branch, present, labels)

@@ -7,6 +7,7 @@ ghost use Rattle.wy_search.specs.Classes as classes;
 ghost use Rattle.wy_term.specs.Nodes.{tree_at};
 
 use crate::congruent::{are_congruent, is_bare};
+use crate::groups::{grouped, is_settled};
 use crate::labels::{are_same, copied, first_labels, joined};
 use crate::places::label_of;
 use crate::present::Present;
@@ -112,7 +113,7 @@ fn with_congruent(
     Ok(labels)
 }
 
-// So for each term.
+// So for each term. A term is passed over where its signature shows that it is congruent to terms of its class alone.
 fn with_all_congruent(
     terms: &Terms,
     present: &Present,
@@ -122,8 +123,15 @@ fn with_all_congruent(
     ensures { IfOk result (λ made. made.items ≡ classes.with_all_congruent (terms_of (tree_at terms.now) present.now) labels.items (terms_of (tree_at terms.now) present.now)) }
 {
     let mut labels = labels;
+    let mut groups = grouped(terms, present, &labels)?;
     for i in 0..present.numbers.len() {
-        labels = with_congruent(terms, present, labels, present.numbers[i])?;
+        if !groups.parted {
+            return Ok(labels);
+        }
+        if !is_settled(terms, present, &labels, &groups, i)? {
+            labels = with_congruent(terms, present, labels, present.numbers[i])?;
+            groups = grouped(terms, present, &labels)?;
+        }
     }
     Ok(labels)
 }
@@ -147,8 +155,9 @@ fn rounds(terms: &Terms, present: &Present, labels: Vec<u32>) -> Result<Vec<u32>
 }
 
 /// The labels of the terms' classes in the least congruence that has the node's equations: two terms present have the same
-/// label where they are in one class. A round compares each term that has parts with each, in constant time where their
-/// nodes are of two kinds or their first arguments are in two classes, and joins two classes unless it is the last.
+/// label where they are in one class. A round in which nothing is joined, as the last, takes time linear in the number of
+/// the terms and their parts on average. In another the terms are gone through anew, in that time, for each term that has
+/// congruent ones in other classes, and that term is compared with each.
 pub fn classes(terms: &Terms, branch: &Branch, present: &Present) -> Result<Vec<u32>, NoMemory>
     requires branch { IsBranch terms.now branch.now }
     requires present { IsPresent terms.now present.now }

@@ -2,6 +2,7 @@
 ghost use Rattle.std.specs.Prelude.{◌≡◌, ◌<◌, [], true, false, length, IfOk, IfSome};
 ghost use Rattle.wy_classes.specs.Heads.{tag_of, BeginsWith};
 ghost use Rattle.wy_classes.specs.Seen.{terms_of, IsPresent};
+ghost use Rattle.wy_classes.specs.Signatures.{is_leaf};
 ghost use Rattle.wy_judging.specs.Seen.{AreBelow};
 ghost use Rattle.wy_search.specs.Classes as classes;
 ghost use Rattle.wy_subst.specs.Substitution.{renumbered};
@@ -13,8 +14,8 @@ use crate::present::Present;
 use wy_subst::{parts_of, with_parts};
 use wy_term::{NoMemory, Node, Terms};
 
-// A number for each kind of node; nodes of one head have one.
-fn tag(node: &Node) -> u8
+/// A number for each kind of node; nodes of one head have one.
+pub fn tag(node: &Node) -> u8
     ensures { result ≡ tag_of (plain node.now).symbol }
 {
     match node {
@@ -46,7 +47,8 @@ fn tag(node: &Node) -> u8
 
 /// Whether a node is seen to have no parts.
 pub fn is_bare(node: &Node) -> bool
-    ensures { result ≡ true → (plain node.now).parts ≡ [] }
+    ensures value { result ≡ is_leaf (plain node.now).symbol }
+    ensures parts { result ≡ true → (plain node.now).parts ≡ [] }
 {
     match node {
         Node::Number(_) | Node::IntName(_, _) | Node::ValName(_, _) => true,

@@ -1,16 +1,20 @@
 //! Denied equations inside a class, and different constants in one.
-ghost use Rattle.std.specs.Prelude.{◌≡◌, ◌<◌, length};
+ghost use Rattle.std.specs.Prelude.{◌≡◌, ◌<◌, true, false, nat_eq, length, IfOk, OnOk};
+ghost use Rattle.std.specs.HashMap.{get};
 ghost use Rattle.wy_classes.specs.Seen.{terms_of, IsPresent};
 ghost use Rattle.wy_classes.specs.Pairs.{apart_in_class};
+ghost use Rattle.wy_classes.specs.Signatures.{IsNoted, IsTold, Keeps};
 ghost use Rattle.wy_judging.specs.Seen.{IsBranch, seen_branch};
 ghost use Rattle.wy_search.specs.Classes as classes;
 ghost use Rattle.wy_term.specs.Nodes.{tree_at};
 
-use crate::places::in_one_class;
+use crate::groups::{Groups, note};
+use crate::places::{class_number, in_one_class};
 use crate::present::Present;
+use std::collections::HashMap;
 use wy_judging::{Branch, nth_literal};
 use wy_splits::{are_apart, constant_at};
-use wy_term::{Node, Terms};
+use wy_term::{NoMemory, Node, Terms};
 
 // Whether this is a denied equation inside a class.
 fn denies_equal(terms: &Terms, present: &Present, labels: &[u32], atom: u32, holds: bool) -> bool
@@ -74,15 +78,57 @@ fn constants_apart(terms: &Terms, present: &Present, labels: &[u32], s: u32) -> 
     false
 }
 
-/// Whether two different constants are in one class. It compares each constant with each term.
-pub fn any_apart(terms: &Terms, present: &Present, labels: &[u32]) -> bool
-    requires { IsPresent terms.now present.now }
-    ensures { result ≡ classes.any_apart (terms_of (tree_at terms.now) present.now) labels.now (terms_of (tree_at terms.now) present.now) }
+// Notes a constant with its class.
+fn note_constant(
+    terms: &Terms,
+    present: &Present,
+    labels: &[u32],
+    groups: &mut Groups,
+    s: u32,
+) -> Result<(), NoMemory>
+    requires term { s < length terms.now }
+    requires present { IsPresent terms.now present.now }
+    ensures here { OnOk result (IsNoted terms.now (terms_of (tree_at terms.now) present.now) labels.now (get nat_eq groups.new.found) s) }
+    ensures kept { OnOk result (Keeps (get nat_eq groups.old.found) (get nat_eq groups.new.found)) }
+    ensures told { OnOk result (IsTold groups.old → IsTold groups.new) }
 {
+    let constant = constant_at(terms, s);
+    if constant.is_none() {
+        return Ok(());
+    }
+    let class = class_number(terms, present, labels, s);
+    note(groups, class, u64::from(s))
+}
+
+// Whether it is seen that no class has two constants, in linear time on average.
+fn are_single(terms: &Terms, present: &Present, labels: &[u32]) -> Result<bool, NoMemory>
+    requires { IsPresent terms.now present.now }
+    ensures { IfOk result (λ yes. yes ≡ true → classes.any_apart (terms_of (tree_at terms.now) present.now) labels.now (terms_of (tree_at terms.now) present.now) ≡ false) }
+{
+    let mut groups = Groups {
+        found: HashMap::new(terms.allocator()),
+        parted: false,
+    };
+    terms.one_number_for_each_term();
+    for i in 0..present.numbers.len() {
+        note_constant(terms, present, labels, &mut groups, present.numbers[i])?;
+    }
+    Ok(!groups.parted)
+}
+
+/// Whether two different constants are in one class. It takes time linear in the number of terms on average where none are;
+/// else it compares constants with terms, until it comes to two.
+pub fn any_apart(terms: &Terms, present: &Present, labels: &[u32]) -> Result<bool, NoMemory>
+    requires { IsPresent terms.now present.now }
+    ensures { IfOk result (λ yes. yes ≡ classes.any_apart (terms_of (tree_at terms.now) present.now) labels.now (terms_of (tree_at terms.now) present.now)) }
+{
+    if are_single(terms, present, labels)? {
+        return Ok(false);
+    }
     for i in 0..present.numbers.len() {
         if constants_apart(terms, present, labels, present.numbers[i]) {
-            return true;
+            return Ok(true);
         }
     }
-    false
+    Ok(false)
 }

@@ -7,8 +7,9 @@
 //! What stands in a node of the search: its terms and formulas without bound names, each once, by first appearance.
 //!
 //! `walk` goes through the literals and the pending formulas, a term before its parts, by a list of what is still to be done;
-//! it keeps the quantifiers around it, and `caught` tells whether one of them binds a name that stands free in a term. Which
-//! terms stand in a node, and in which order, `wy_search` defines.
+//! it keeps the quantifiers around it, and `caught` tells whether one of them binds a name that stands free in a term. A term
+//! that it met outside quantifiers it doesn't go into again. Which terms stand in a node, and in which order, `wy_search`
+//! defines.
 //!
 //! The classes of the least congruence that has a node's equations, on the terms that are present in the node.
 //!
@@ -31,12 +32,15 @@ mod clashing;
 mod closing;
 mod congruent;
 mod denials;
+mod firsts;
+mod groups;
 mod kinds;
 mod labels;
 mod law;
 mod meeting;
 mod places;
 mod present;
+mod signature;
 mod task;
 mod unmet;
 mod walk;

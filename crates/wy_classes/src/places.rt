@@ -1,6 +1,7 @@
 //! The class of a term.
 ghost use Rattle.std.specs.Prelude.{◌≡◌, ◌<◌, length};
 ghost use Rattle.wy_classes.specs.Seen.{terms_of, IsPresent};
+ghost use Rattle.wy_classes.specs.Signatures.{class_at};
 ghost use Rattle.wy_search.specs.Classes as classes;
 ghost use Rattle.wy_term.specs.Nodes.{tree_at};
 
@@ -17,6 +18,19 @@ pub fn label_of(terms: &Terms, present: &Present, labels: &[u32], t: u32) -> Opt
     match place(terms, present, t) {
         Some(k) => Some(label_at(labels, k)),
         None => None,
+    }
+}
+
+/// A number for a term's class: two terms have one number where they are equal, or both are present and in one class, and
+/// nowhere else.
+pub fn class_number(terms: &Terms, present: &Present, labels: &[u32], t: u32) -> u64
+    requires term { t < length terms.now }
+    requires present { IsPresent terms.now present.now }
+    ensures { result ≡ class_at (terms_of (tree_at terms.now) present.now) labels.now (tree_at terms.now) t }
+{
+    match label_of(terms, present, labels, t) {
+        Some(l) => u64::from(l) * 2,
+        None => u64::from(t) * 2 + 1,
     }
 }
 

@@ -1,26 +1,30 @@
 //! The walk through a node.
-ghost use Rattle.std.specs.Prelude.{◌≡◌, ◌<◌, ◌++◌, [], ◌∷◌, false, true, length, map, IfOk, OnOk};
+ghost use Rattle.std.specs.Prelude.{◌≡◌, ◌<◌, ◌++◌, [], ◌∷◌, false, true, nat_eq, length, map, IfOk, OnOk};
+ghost use Rattle.std.specs.HashSet.{contains};
 ghost use Rattle.wy_judging.specs.Seen.{IsBare, IsBranch, seen_branch, seen_formula};
 ghost use Rattle.wy_search.specs.Standing as search;
+ghost use Rattle.wy_classes.specs.Begun.{AreBegun, BeginsOne};
 ghost use Rattle.wy_classes.specs.Marks.{is_any_bound, listed_unless};
-ghost use Rattle.wy_classes.specs.Walk.{AreTasks, IsWalk, is_quantifier, leads, leads_from, list_of, of_literals, of_pending, tasks_of, visits};
+ghost use Rattle.wy_classes.specs.Walk.{AreTasks, IsWalk, is_quantifier, leads, leads_from, list_of, next_tasks, of_literals, of_pending, tasks_of, visits};
 ghost use Rattle.wy_classes.specs.declared.task.Task.TheVariants.{Visit, Bind, Leave};
 ghost use Rattle.wy_term.specs.Nodes.{plain, tree_at};
 ghost use Rattle.wy_term.specs.Scope.{free_names};
 
 use crate::caught::is_caught;
 use crate::task::Task;
-use std::collections::VecDeque;
+use std::alloc::Global;
+use std::collections::{HashSet, VecDeque};
 use wy_judging::{Branch, add_pending, bare, nth_literal, pending_at};
 use wy_subst::parts_of;
 use wy_term::{NoMemory, Node, Terms};
 
-// What is listed, the quantifiers around, outermost first, and what is still to be done, next first. What is listed is kept
-// as the pending formulas of a node.
+// What is listed, the quantifiers around, outermost first, the terms with parts that were first met outside quantifiers, and
+// what is still to be done, next first. What is listed is kept as the pending formulas of a node.
 #[derive(Drop)]
 struct Walk {
     found: Branch,
     around: Vec<u32>,
+    begun: HashSet<u32>,
     tasks: VecDeque<Task>,
 }
 
@@ -32,6 +36,32 @@ fn is_quantifier(node: &Node) -> bool
         Node::All(_) | Node::Some(_) => true,
         _ => false,
     }
+}
+
+// Whether a node has no parts, as a number or a name.
+fn is_leaf(node: &Node) -> bool
+    ensures { result ≡ true → (plain node.now).parts ≡ [] }
+{
+    match node {
+        Node::Number(_) | Node::IntName(_, _) | Node::ValName(_, _) => true,
+        Node::Null | Node::Bool(_) => true,
+        _ => false,
+    }
+}
+
+// Whether a term is still to be gone into: it isn't where it was met outside quantifiers before. No term stands in itself, so
+// all that stands in it has been met since, and what stands in it without bound names is listed, whatever is around it here.
+fn begin(begun: &mut HashSet<u32>, outside: bool, k: u32, node: &Node) -> Result<bool, NoMemory>
+    ensures known { IfOk result (λ more. more ≡ false → contains nat_eq begun.old k ≡ true) }
+    ensures begun { OnOk result (BeginsOne (contains nat_eq begun.old) (contains nat_eq begun.new) outside k) }
+{
+    if is_leaf(node) {
+        return Ok(true);
+    }
+    if outside {
+        return Ok(begun.insert(k)?);
+    }
+    Ok(!begun.contains(&k))
 }
 
 // The term as it stands in a node: a denial by the formula that it denies.
@@ -54,6 +84,7 @@ fn list(terms: &Terms, walk: &mut Walk, k: u32, holds: bool) -> Result<(), NoMem
     requires bare { IsBare (tree_at terms.now) (k, holds) }
     ensures value { OnOk result (list_of (tree_at terms.now) walk.new ≡ listed_unless (is_any_bound (map (tree_at terms.now) walk.old.around.items) (free_names (seen_formula (tree_at terms.now) (k, holds)))) (list_of (tree_at terms.now) walk.old) (seen_formula (tree_at terms.now) (k, holds))) }
     ensures around { walk.new.around ≡ walk.old.around }
+    ensures begun { walk.new.begun ≡ walk.old.begun }
     ensures tasks { walk.new.tasks ≡ walk.old.tasks }
     ensures walk { OnOk result (IsWalk terms.now walk.new) }
 {
@@ -88,30 +119,46 @@ fn with_range(tasks: &mut VecDeque<Task>, q: u32, parts: &[u32]) -> Result<(), N
     Ok(())
 }
 
-// Lists a term, and goes into its parts.
+// What stands in a term next, by its node.
+fn put_parts(alloc: Global, tasks: &mut VecDeque<Task>, k: u32, node: &Node) -> Result<(), NoMemory>
+    ensures { OnOk result (tasks.new.items ≡ next_tasks k (plain node.now) ++ tasks.old.items) }
+{
+    let parts = parts_of(alloc, node)?;
+    if is_quantifier(node) {
+        with_range(tasks, k, &parts)
+    } else {
+        with_parts(tasks, &parts)
+    }
+}
+
+// Lists a term, and goes into its parts, unless that was begun before.
 fn visit(terms: &Terms, walk: &mut Walk, k: u32) -> Result<(), NoMemory>
     requires term { k < length terms.now }
     requires walk { IsWalk terms.now walk.old }
+    requires begun { AreBegun (tree_at terms.now) walk.old (Visit k true ∷ walk.old.tasks.items) }
     ensures value { OnOk result (leads (tree_at terms.now) walk.new ≡ leads_from (tree_at terms.now) walk.old (Visit k true)) }
     ensures walk { OnOk result (IsWalk terms.now walk.new) }
+    ensures begun { OnOk result (AreBegun (tree_at terms.now) walk.new walk.new.tasks.items) }
 {
+    let node = terms.node(k);
+    let outside = walk.around.is_empty();
+    let more = begin(&mut walk.begun, outside, k, node)?;
+    if !more {
+        return Ok(());
+    }
     let (f, holds) = bare_form(terms, k);
     list(terms, walk, f, holds)?;
-    let node = terms.node(k);
-    let parts = parts_of(terms.allocator(), node)?;
-    if is_quantifier(node) {
-        with_range(&mut walk.tasks, k, &parts)
-    } else {
-        with_parts(&mut walk.tasks, &parts)
-    }
+    put_parts(terms.allocator(), &mut walk.tasks, k, node)
 }
 
 // Lists the denial of a formula, and goes into the formula.
 fn visit_denied(terms: &Terms, walk: &mut Walk, k: u32) -> Result<(), NoMemory>
     requires term { k < length terms.now }
     requires walk { IsWalk terms.now walk.old }
+    requires begun { AreBegun (tree_at terms.now) walk.old (Visit k false ∷ walk.old.tasks.items) }
     ensures value { OnOk result (leads (tree_at terms.now) walk.new ≡ leads_from (tree_at terms.now) walk.old (Visit k false)) }
     ensures walk { OnOk result (IsWalk terms.now walk.new) }
+    ensures begun { OnOk result (AreBegun (tree_at terms.now) walk.new walk.new.tasks.items) }
 {
     list(terms, walk, k, false)?;
     walk.tasks.push_front(Task::Visit(k, true))?;
@@ -148,8 +195,10 @@ fn first_tasks(terms: &Terms, branch: &Branch) -> Result<VecDeque<Task>, NoMemor
 fn step(terms: &Terms, walk: &mut Walk, task: Task) -> Result<(), NoMemory>
     requires task { AreTasks (length terms.now) (task ∷ []) }
     requires walk { IsWalk terms.now walk.old }
+    requires begun { AreBegun (tree_at terms.now) walk.old (task ∷ walk.old.tasks.items) }
     ensures value { OnOk result (leads (tree_at terms.now) walk.new ≡ leads_from (tree_at terms.now) walk.old task) }
     ensures walk { OnOk result (IsWalk terms.now walk.new) }
+    ensures begun { OnOk result (AreBegun (tree_at terms.now) walk.new walk.new.tasks.items) }
 {
     match task {
         Task::Visit(k, holds) => {
@@ -173,8 +222,9 @@ fn step(terms: &Terms, walk: &mut Walk, task: Task) -> Result<(), NoMemory>
 /// The terms and formulas that stand in a node without bound names, those of the literals in order and then those of the
 /// pending formulas, a term before its parts, each once: as the pending formulas of a node that has no literals.
 ///
-/// It goes through the literals and formulas as trees, and takes time in their size; below quantifiers, each term's size
-/// besides for each quantifier around it.
+/// Outside quantifiers it goes into each term once, and takes time linear in how many terms they are made of and their parts,
+/// each counted once. Below quantifiers it passes over the terms that it met outside before, and goes through the others as
+/// trees, where it looks in each term for the name of each quantifier around it.
 pub fn standing(terms: &Terms, branch: &Branch) -> Result<Branch, NoMemory>
     requires { IsBranch terms.now branch.now }
     ensures value { IfOk result (λ b. (seen_branch (tree_at terms.now) b).pending ≡ search.standing (seen_branch (tree_at terms.now) branch.now)) }
@@ -183,6 +233,7 @@ pub fn standing(terms: &Terms, branch: &Branch) -> Result<Branch, NoMemory>
     let mut walk = Walk {
         found: bare(terms.allocator()),
         around: Vec::new(terms.allocator()),
+        begun: HashSet::new(terms.allocator()),
         tasks: first_tasks(terms, branch)?,
     };
     for _turn in 0..u64::MAX {

@@ -9,4 +9,4 @@ returns-then-is_bare c =
     let at = tree_at c.args.terms.now in
     let ts = terms_of at c.args.present.now in
     let up : c.is_bare.result ≡ true = search rules in
-    bare_stays ts c.args.labels.items at (at c.args.s) (plain c.node.result.now) ts c.node.ensures.tree (c.is_bare.ensures up)
+    bare_stays ts c.args.labels.items at (at c.args.s) (plain c.node.result.now) ts c.node.ensures.tree (c.is_bare.ensures.parts up)

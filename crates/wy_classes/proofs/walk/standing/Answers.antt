@@ -1,10 +1,13 @@
-use Rattle.std.proofs.Common.{◌∙◌, ℕ, List, [], length, map, sym, ap, subst, arith}
+use Rattle.std.proofs.Common.{◌≡◌, ◌∙◌, ◌∷◌, ℕ, List, [], false, nat_eq, length, map, sym, ap, subst, arith, rules}
+use Rattle.std.specs.HashSet.{contains}
 use Rattle.wy_judge.specs.Node.{Node}
 use Rattle.wy_judging.specs.Seen.{AreBelow}
 use Rattle.wy_classes.proofs.StandingLemmas.{all_led, first_below}
 use Rattle.wy_classes.proofs.walk.standing.Goals as goal
 use Rattle.wy_classes.specs.Marks.{with_unmarked}
-use Rattle.wy_classes.specs.Walk.{left_at}
+use Rattle.wy_classes.specs.Begun.{IsUnderWay}
+use Rattle.wy_classes.specs.Walk.{left_at, list_of}
+use Rattle.wy_classes.specs.declared.task.Task.{Task}
 use Rattle.wy_term.specs.Nodes.{tree_at}
 
 pub loop-turn-init : goal.loop-turn-init
@@ -22,4 +25,13 @@ loop-turn-init c =
         around = subst (AreBelow n) (sym c.new.ensures.items) nothing;
         tasks = first_below n c.args.branch.now.literals.keys c.args.branch.now.pending.keys c.in_ok-first_tasks.field-0.items c.requires.literals c.requires.pending c.in_ok-first_tasks.ensures.value;
       };
+      begun = record { each = λ k e. let none : contains nat_eq c.new-2.result k ≡ false = search rules in absurd (cc) };
+    }
+
+pub step-requires-clause-begun : goal.step-requires-clause-begun
+step-requires-clause-begun c =
+    let at = tree_at c.args.terms.now in
+    let are : c.loop-turn.walk.tasks.items ≡ c.in-Some.task ∷ c.pop_front.new.self.items = search rules in
+    record {
+      each = λ k e. subst (λ (ts : List Task). IsUnderWay at (list_of at c.loop-turn.walk) ts (map at c.loop-turn.walk.around.items) (at k)) are (c.loop-turn.invariant.begun.each k e);
     }

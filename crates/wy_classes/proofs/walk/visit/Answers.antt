@@ -1,58 +1,91 @@
-use Rattle.std.proofs.Common.{◌≡◌, ◌≤◌, ◌∙◌, ◌++◌, ℕ, List, true, false, length, map, sym, ap, ap₂, subst, arith, rules}
+use Rattle.std.proofs.Common.{◌≡◌, ◌≤◌, ◌∙◌, ◌++◌, ℕ, List, true, false, nat_eq, length, map, sym, ap, subst, arith, rules, vec_len}
+use Rattle.std.specs.HashSet.{contains}
 use Rattle.wy_judging.proofs.JudgingLemmas.{below_up}
 use Rattle.wy_judging.specs.Seen.{AreBelow}
-use Rattle.wy_classes.proofs.TaskLemmas.{on_ok, plain_parts, range_parts, tasks_front, three_parts, visit_led}
+use Rattle.wy_classes.proofs.BegunLemmas.{LeadsTo, begun_still, begun_with, next_below, none_around, passed_on, visit_on}
+use Rattle.wy_classes.proofs.TaskLemmas.{on_ok, three_parts}
 use Rattle.wy_classes.proofs.walk.visit.Goals as goal
-use Rattle.wy_classes.specs.Marks.{is_any_bound, listed_unless}
-use Rattle.wy_classes.specs.Walk.{is_quantifier, list_of, tasks_of, visits}
+use Rattle.wy_classes.specs.Begun.{BeginsOne}
+use Rattle.wy_classes.specs.Marks.{is_any_bound, listed_unless, with_unmarked}
+use Rattle.wy_classes.specs.Walk.{left_at, list_of, next_tasks}
 use Rattle.wy_classes.specs.declared.task.Task.{Task}
-use Rattle.wy_term.specs.Nodes.{parts_at, plain, tree_at}
+use Rattle.wy_classes.specs.declared.task.Task.TheVariants.{Visit}
+use Rattle.wy_term.specs.Nodes.{grown, plain, tree_at}
 use Rattle.wy_term.specs.Scope.{free_names}
-use Rattle.wy_term.specs.Term.{Of, Term}
+use Rattle.wy_term.specs.Term.{Term}
 
-pub returns-then-is_quantifier-clause-value : goal.returns-then-is_quantifier-clause-value
-returns-then-is_quantifier-clause-value c =
+-- ---- a term that was begun before
+
+pub returns-then-not-more-clause-value : goal.returns-then-not-more-clause-value
+returns-then-not-more-clause-value c =
     let at = tree_at c.args.terms.now in
-    let symbol = (plain c.node-node.result.now).symbol in
-    let ks = c.in_ok-parts.parts.items in
-    let around = map at c.args.walk.now.around.items in
-    let is : at c.args.k ≡ Of symbol (parts_at at ks) = c.node-node.ensures.tree ∙ ap (λ (js : List ℕ). Of symbol (parts_at at js)) (sym c.in_ok-parts.ensures.value) in
-    let up : is_quantifier symbol ≡ true = search rules in
-    let three : length ks ≡ 3 = ap (λ (js : List ℕ). length js) c.in_ok-parts.ensures.value ∙ three_parts c.node-node.result.now up in
-    let tasks_are : c.list.new.walk.tasks.items ≡ c.args.walk.now.tasks.items = search rules in
-    let around_is : c.list.new.walk.around.items ≡ c.args.walk.now.around.items = search rules in
-    let listed : list_of at c.list.new.walk ≡ listed_unless (is_any_bound around (free_names (at c.args.k))) (list_of at c.args.walk.now) (at c.args.k) =
-    c.in_ok-list.ensures.value ∙ ap (λ (u : Term). listed_unless (is_any_bound around (free_names u)) (list_of at c.args.walk.now) u) c.bare_form-f.ensures.value in
-    on_ok c.with_range.result _ _ (λ put.
-    visit_led at c.args.k symbol ks (list_of at c.args.walk.now) (list_of at c.list.new.walk) c.args.walk.now.tasks.items c.with_range.new.tasks.items c.args.walk.now.around.items c.list.new.walk.around.items is listed around_is
-    (range_parts at c.args.k symbol ks c.args.walk.now.tasks.items c.with_range.new.tasks.items around is up three
-    (put ∙ ap₂ (λ (js : List ℕ) (ts : List Task). tasks_of c.args.k js ++ ts) c.deref.ensures.value tasks_are))) c.with_range.ensures
+    let ts = c.args.walk.now.tasks.items in
+    let un : c.in_ok-more.more ≡ false = search rules in
+    (passed_on at c.args.k (list_of at c.args.walk.now) (map at c.args.walk.now.around.items) ts (c.requires.begun.each c.args.k (c.in_ok-more.ensures.known un))).same ts
+
+pub returns-then-not-more-clause-begun : goal.returns-then-not-more-clause-begun
+returns-then-not-more-clause-begun c =
+    let at = tree_at c.args.terms.now in
+    let un : c.in_ok-more.more ≡ false = search rules in
+    record {
+      each =
+          begun_still at c.args.k (list_of at c.args.walk.now) (map at c.args.walk.now.around.items) c.args.walk.now.tasks.items (contains nat_eq c.args.walk.now.begun) (contains nat_eq c.begin.new.begun) c.is_empty-outside.result
+          (c.in_ok-more.ensures.known un) c.in_ok-more.ensures.begun c.requires.begun.each;
+    }
+
+-- ---- another
 
 pub returns-clause-value : goal.returns-clause-value
 returns-clause-value c =
     let at = tree_at c.args.terms.now in
-    let symbol = (plain c.node-node.result.now).symbol in
-    let ks = c.in_ok-parts.parts.items in
+    let p = plain c.node-node.result.now in
     let around = map at c.args.walk.now.around.items in
-    let is : at c.args.k ≡ Of symbol (parts_at at ks) = c.node-node.ensures.tree ∙ ap (λ (js : List ℕ). Of symbol (parts_at at js)) (sym c.in_ok-parts.ensures.value) in
-    let un : is_quantifier symbol ≡ false = search rules in
+    let old = list_of at c.args.walk.now in
+    let new = list_of at c.list.new.walk in
     let tasks_are : c.list.new.walk.tasks.items ≡ c.args.walk.now.tasks.items = search rules in
     let around_is : c.list.new.walk.around.items ≡ c.args.walk.now.around.items = search rules in
-    let listed : list_of at c.list.new.walk ≡ listed_unless (is_any_bound around (free_names (at c.args.k))) (list_of at c.args.walk.now) (at c.args.k) =
-    c.in_ok-list.ensures.value ∙ ap (λ (u : Term). listed_unless (is_any_bound around (free_names u)) (list_of at c.args.walk.now) u) c.bare_form-f.ensures.value in
-    on_ok c.with_parts.result _ _ (λ put.
-    visit_led at c.args.k symbol ks (list_of at c.args.walk.now) (list_of at c.list.new.walk) c.args.walk.now.tasks.items c.with_parts.new.tasks.items c.args.walk.now.around.items c.list.new.walk.around.items is listed around_is
-    (plain_parts at symbol ks c.args.walk.now.tasks.items c.with_parts.new.tasks.items around un
-    (put ∙ ap₂ (λ (js : List ℕ) (ts : List Task). visits js ++ ts) c.deref-else-is_quantifier.ensures.value tasks_are))) c.with_parts.ensures
+    let listed : new ≡ listed_unless (is_any_bound around (free_names (at c.args.k))) old (at c.args.k) =
+    c.in_ok-list.ensures.value ∙ ap (λ (u : Term). listed_unless (is_any_bound around (free_names u)) old u) c.bare_form-f.ensures.value in
+    let leads : LeadsTo at old new around (map at c.list.new.walk.around.items) (Visit c.args.k true) (next_tasks c.args.k p) =
+    visit_on at c.args.k p old new c.args.walk.now.around.items c.list.new.walk.around.items c.node-node.ensures.tree (three_parts c.node-node.result.now) listed around_is in
+    on_ok c.put_parts.result _ _ (λ put.
+    ap (λ (ts : List Task). with_unmarked new (left_at at ts (map at c.list.new.walk.around.items))) (put ∙ ap (λ (ts : List Task). next_tasks c.args.k p ++ ts) tasks_are)
+    ∙ leads.same c.args.walk.now.tasks.items) c.put_parts.ensures
 
 pub returns-clause-walk : goal.returns-clause-walk
 returns-clause-walk c =
     let n = length c.args.terms.now in
-    let ks = c.in_ok-parts.parts.items in
+    let p = plain c.node-node.result.now in
     let le : c.args.k ≤ n = omega (arith, c.requires.term) in
-    let low : AreBelow n ks = subst (AreBelow n) (sym c.in_ok-parts.ensures.value) (below_up c.args.k n (plain c.node-node.result.now).parts le c.node-node.ensures.within) in
-    on_ok c.with_parts.result _ _ (λ put. record {
+    let low : AreBelow n p.parts = below_up c.args.k n p.parts le c.node-node.ensures.within in
+    on_ok c.put_parts.result _ _ (λ put. record {
       found = c.in_ok-list.ensures.walk.found;
       around = c.in_ok-list.ensures.walk.around;
-      tasks = tasks_front n ks c.list.new.walk.tasks.items c.with_parts.new.tasks.items low c.in_ok-list.ensures.walk.tasks (put ∙ ap (λ (js : List ℕ). visits js ++ c.list.new.walk.tasks.items) c.deref-else-is_quantifier.ensures.value);
-    }) c.with_parts.ensures
+      tasks = next_below n c.args.k p c.list.new.walk.tasks.items c.put_parts.new.tasks.items c.requires.term low (three_parts c.node-node.result.now) c.in_ok-list.ensures.walk.tasks put;
+    }) c.put_parts.ensures
+
+pub returns-clause-begun : goal.returns-clause-begun
+returns-clause-begun c =
+    let at = tree_at c.args.terms.now in
+    let p = plain c.node-node.result.now in
+    let around = map at c.args.walk.now.around.items in
+    let now = map at c.list.new.walk.around.items in
+    let old = list_of at c.args.walk.now in
+    let new = list_of at c.list.new.walk in
+    let outside = c.is_empty-outside.result in
+    let tasks_are : c.list.new.walk.tasks.items ≡ c.args.walk.now.tasks.items = search rules in
+    let around_is : c.list.new.walk.around.items ≡ c.args.walk.now.around.items = search rules in
+    let begun_is : c.list.new.walk.begun ≡ c.begin.new.begun = search rules in
+    let counts : vec_len c.args.walk.now.around ≡ length c.args.walk.now.around.items = search rules in
+    let listed : new ≡ listed_unless (is_any_bound around (free_names (at c.args.k))) old (at c.args.k) =
+    c.in_ok-list.ensures.value ∙ ap (λ (u : Term). listed_unless (is_any_bound around (free_names u)) old u) c.bare_form-f.ensures.value in
+    let leads : LeadsTo at old new around now (Visit c.args.k true) (next_tasks c.args.k p) =
+    visit_on at c.args.k p old new c.args.walk.now.around.items c.list.new.walk.around.items c.node-node.ensures.tree (three_parts c.node-node.result.now) listed around_is in
+    let one : BeginsOne (contains nat_eq c.args.walk.now.begun) (contains nat_eq c.list.new.walk.begun) outside c.args.k =
+    subst (λ b. BeginsOne (contains nat_eq c.args.walk.now.begun) (contains nat_eq b) outside c.args.k) (sym begun_is) c.in_ok-more.ensures.begun in
+    on_ok c.put_parts.result _ _ (λ put. record {
+      each =
+          begun_with at c.args.k p old new around now c.args.walk.now.tasks.items c.put_parts.new.tasks.items (contains nat_eq c.args.walk.now.begun) (contains nat_eq c.list.new.walk.begun) outside c.node-node.ensures.tree
+          (three_parts c.node-node.result.now) leads (put ∙ ap (λ (ts : List Task). next_tasks c.args.k p ++ ts) tasks_are)
+          (λ e. ap (map at) (none_around c.args.walk.now.around.items (vec_len c.args.walk.now.around) counts (sym c.is_empty-outside.ensures ∙ e))) one c.requires.begun.each;
+    }) c.put_parts.ensures

@@ -1,0 +1,53 @@
+-- Which terms have been gone through, and which are under way.
+use Rattle.std.specs.Prelude.{◌≡◌, ◌<◌, ◌+◌, ◌⊎◌, ℕ, nat_eq, map, List, [], ◌∷◌, ◌++◌, Bool, true, ◌&&◌, ◌||◌}
+use Rattle.std.specs.HashSet.{contains}
+use Rattle.wy_judge.specs.Node.{has_formula}
+use Rattle.wy_judging.specs.Seen.{signed}
+use Rattle.wy_search.specs.Standing.{standing_in}
+use Rattle.wy_classes.specs.Marks.{all_marked, with_unmarked}
+use Rattle.wy_classes.specs.Walk.{left_at, list_of}
+use Rattle.wy_classes.specs.declared.task.Task.{Task}
+use Rattle.wy_classes.specs.declared.task.Task.TheVariants.{Visit, Bind, Leave}
+use Rattle.wy_classes.specs.declared.walk.Walk.{Walk}
+use Rattle.wy_term.specs.Term.{Term, Of, Parts, no_parts, part}
+
+abbrev mutual
+  -- how many symbols a term has
+  pub size : Term → ℕ
+  size (Of symbol ps) = 1 + size_of_parts ps
+
+  pub size_of_parts : Parts → ℕ
+  size_of_parts no_parts = 0
+  size_of_parts (part t ts) = size t + size_of_parts ts
+
+-- each of these is in the list, but for those of which a name is bound
+abbrev pub has_all : List Term → List (Term × Bool) → Bool
+has_all done [] = true
+has_all done (p ∷ ps) = (p.1 || has_formula done p.0) && has_all done ps
+
+-- all that stands in the term without bound names is in the list
+abbrev pub IsGoneThrough : List Term → Term → Type 0
+IsGoneThrough done t = has_all done (all_marked [] (standing_in t)) ≡ true
+
+-- what these tasks visit has fewer symbols than n
+abbrev pub AreSmaller : (ℕ → Term) → ℕ → List Task → Type 0
+AreSmaller at n [] = Unit {0}
+AreSmaller at n (Visit k holds ∷ ts) = (size (signed (at k) holds) < n) × AreSmaller at n ts
+AreSmaller at n (Bind q ∷ ts) = AreSmaller at n ts
+AreSmaller at n (Leave ∷ ts) = AreSmaller at n ts
+
+-- the term will have been gone through when the first of the tasks are done, all of which visit smaller ones
+pub record IsUnderWay (at : ℕ → Term) (done : List Term) (tasks : List Task) (around : List Term) (t : Term) : Type 0 where
+  pub first : List Task
+  pub rest : List Task
+  pub split : tasks ≡ first ++ rest
+  pub smaller : AreSmaller at (size t) first
+  pub gone : IsGoneThrough (with_unmarked done (left_at at first around)) t
+
+-- the terms whose visits began are under way, where these tasks are left
+pub record AreBegun (at : ℕ → Term) (walk : Walk) (tasks : List Task) : Type 0 where
+  pub each : (k : ℕ) → contains nat_eq walk.begun k ≡ true → IsUnderWay at (list_of at walk) tasks (map at walk.around.items) (at k)
+
+-- no more than this one is begun, and only outside quantifiers
+abbrev pub BeginsOne : (ℕ → Bool) → (ℕ → Bool) → Bool → ℕ → Type 0
+BeginsOne old new outside k = (q : ℕ) → new q ≡ true → (old q ≡ true) ⊎ ((q ≡ k) × (outside ≡ true))
