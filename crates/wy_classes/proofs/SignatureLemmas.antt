@@ -1,9 +1,9 @@
 -- Congruent terms have one signature, and where the terms of a signature are in one class, nothing is joined.
-use Rattle.std.proofs.Common.{◌≡◌, ◌∙◌, ◌<◌, ◌&&◌, ◌||◌, ◌+◌, ◌*◌, ◌⊎◌, inl, inr, ℕ, zero, suc, List, [], ◌∷◌, map, length, Bool, true, false, cond, eqb, get_or, drop, nat_eq, Option, Some, None, refl, sym, ap, subst, arith}
+use Rattle.std.proofs.Common.{◌≡◌, ◌∙◌, ◌<◌, ◌||◌, ◌+◌, ◌*◌, ◌⊎◌, inl, inr, ℕ, zero, suc, List, [], ◌∷◌, map, length, Bool, true, false, cond, eqb, get_or, drop, nat_eq, Option, Some, None, refl, sym, ap, subst, arith}
 use Rattle.std.specs.Prelude.{slice_index}
 use Rattle.std.specs.HashMap.{get}
 use Rattle.std.proofs.lemmas.Bool.{eqb-true}
-use Rattle.wy_term.specs.Term.{Symbol, Term, Of}
+use Rattle.wy_term.specs.Term.{Symbol, Term}
 use Rattle.wy_term.specs.Nodes.{Plain, grown, node_at, parts_at, tree_at, HasPartsBelow}
 use Rattle.wy_term.specs.Same.{same_symbol, same_term}
 use Rattle.wy_term.proofs.SameLemmas.{both, eqb_self, symbols_are, terms_are}

@@ -1,5 +1,5 @@
 -- A kind for each class, by the place of a term that has it.
-use Rattle.std.specs.Prelude.{◌≡◌, ◌<◌, ℕ, List, Option, Some, None, option_map, slice_get, Bool, false}
+use Rattle.std.specs.Prelude.{◌≡◌, ◌<◌, ℕ, List, Option, Some, None, option_map, slice_get, false}
 use Rattle.wy_term.specs.Term.{DataKind, Term}
 use Rattle.wy_term.specs.Nodes.{plain_kind}
 use Rattle.wy_term.specs.Same.{same_kind}

@@ -1,5 +1,5 @@
 -- Numbers that are equal for congruent terms, and the classes of the terms that have them.
-use Rattle.std.specs.Prelude.{◌≡◌, ℕ, suc, ◌+◌, ◌*◌, ◌%◌, ◌^◌, ◌<◌, List, [], ◌∷◌, map, length, nat_eq, Bool, true, false, Option, Some, None, slice_index, ◌==◌, ◌||◌, if◌then◌else◌, is_some, option_map}
+use Rattle.std.specs.Prelude.{◌≡◌, ℕ, ◌+◌, ◌*◌, ◌%◌, ◌^◌, ◌<◌, List, [], ◌∷◌, map, length, nat_eq, Bool, true, false, Option, Some, None, slice_index, ◌==◌, if◌then◌else◌, is_some, option_map}
 use Rattle.std.specs.HashMap.{get}
 use Rattle.wy_term.specs.Term as term
 use Rattle.wy_term.specs.Term.{Symbol, Term}

@@ -15,14 +15,15 @@
 //!
 //! `present` lists the terms that stand in a node, with the place of each, and `places` finds the label of a term's class.
 //! `congruent` tells whether two terms have one head and arguments that are pairwise in one class. `closing` joins the
-//! classes of both sides of each equation, and of congruent terms, until nothing changes. Which classes these are, and which
-//! label each of them has, `wy_search` defines.
+//! classes of both sides of each equation, and of congruent terms, until nothing changes. So that it needn't compare each
+//! term with each, `signature` has a number for each term that congruent terms share, and `groups` which signatures have terms
+//! in several classes. Which classes these are, and which label each of them has, `wy_search` defines.
 //!
 //! Whether the classes of a node clash.
 //!
 //! They do where a denied equation stands inside a class, or where a class has two different constants (`denials`), or two
-//! kinds, or a kind and its denial (`kinds`, `meeting`). `clashing` puts these together. The definition is that of
-//! `wy_search`.
+//! kinds, or a kind and its denial (`kinds`, `meeting`); `firsts` finds in one pass that no class has such kinds. `clashing`
+//! puts these together. The definition is that of `wy_search`.
 #![tactic(auto)]
 
 mod atoms;

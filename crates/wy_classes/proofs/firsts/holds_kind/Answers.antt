@@ -1,4 +1,4 @@
-use Rattle.std.proofs.Common.{◌≡◌, ◌∙◌, ℕ, None, Some, ap, length, nat_eq, rules, sym}
+use Rattle.std.proofs.Common.{◌≡◌, ◌∙◌, ℕ, Some, ap, length, nat_eq, rules}
 use Rattle.std.specs.HashMap.{get}
 use Rattle.std.specs.Prelude.{slice_get}
 use Rattle.wy_term.specs.Nodes.{tree_at}

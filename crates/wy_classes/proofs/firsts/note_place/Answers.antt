@@ -2,7 +2,7 @@ use Rattle.std.proofs.Common.{◌≡◌, ◌∙◌, ℕ, None, Some, ap, length,
 use Rattle.std.proofs.lemmas.Result.{IfOk-weaker}
 use Rattle.std.specs.HashMap.{get}
 use Rattle.std.specs.Prelude.{slice_get}
-use Rattle.wy_term.specs.Nodes.{plain_kind, tree_at}
+use Rattle.wy_term.specs.Nodes.{tree_at}
 use Rattle.wy_classes.specs.Firsts.{kind_at}
 use Rattle.wy_classes.specs.Seen.{terms_of}
 use Rattle.wy_classes.proofs.FirstKindLemmas.{first_is, first_none, place_below, place_kind}

@@ -1,7 +1,7 @@
-use Rattle.std.proofs.Common.{◌≡◌, ◌∙◌, ℕ, Bool, ap, true, nat_eq, refl, rules, slice_index, sym}
+use Rattle.std.proofs.Common.{◌≡◌, ◌∙◌, ℕ, ap, true, nat_eq, refl, rules, slice_index, sym}
 use Rattle.std.proofs.lemmas.List.{get_or_read}
 use Rattle.std.specs.HashMap.{get}
-use Rattle.wy_term.specs.Nodes.{Plain, node_at, plain, tree_at}
+use Rattle.wy_term.specs.Nodes.{Plain, node_at, tree_at}
 use Rattle.wy_classes.specs.Seen.{terms_of}
 use Rattle.wy_classes.specs.Signatures.{are_several, is_leaf, signature}
 use Rattle.wy_classes.proofs.SignatureLemmas.{settled, unlike}
