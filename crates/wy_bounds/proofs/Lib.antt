@@ -10,3 +10,7 @@ pub mod AddingLemmas
 pub mod QuotientLemmas
 pub mod BoundLemmas
 pub mod ProductLemmas
+-- forms that are known
+pub mod KnownLemmas
+-- first places of classes
+pub mod FirstLemmas

@@ -6,3 +6,7 @@ pub mod Gathered
 pub mod Bounds
 -- what functions inside owe each other
 pub mod Adding
+-- what public contracts cite
+pub mod Known
+-- what functions inside owe each other
+pub mod Firsts

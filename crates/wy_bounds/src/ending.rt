@@ -1,5 +1,6 @@
 //! How elimination ends.
-ghost use Rattle.std.specs.Prelude.{◌≡◌, IfOk};
+ghost use Rattle.std.specs.Prelude.{◌≡◌, IfOk, OnOk};
+ghost use Rattle.wy_bounds.specs.Known.{AreKnown};
 ghost use Rattle.wy_bounds.specs.Seen.{seen_ending};
 ghost use Rattle.wy_classes.specs.Seen.{terms_of, IsPresent};
 ghost use Rattle.wy_facts.specs.Seen.{Stays};
@@ -8,6 +9,7 @@ ghost use Rattle.wy_search.specs.Bounds as bounds;
 ghost use Rattle.wy_term.specs.Nodes.{tree_at};
 
 use crate::gathering::gather;
+use crate::known::KnownForms;
 use wy_classes::Present;
 use wy_eliminate::{Elim, eliminate};
 use wy_judging::Branch;
@@ -38,19 +40,23 @@ fn ending_of(end: &Elim) -> Ending
 }
 
 /// How the elimination of the node's variables ends, each replaced by the first to appear of its class. It takes the time of
-/// `form` on each literal, and that of the elimination. Older numbers name what they named.
+/// `form` on each literal whose form isn't known yet, time linear in the parts of all these forms, and that of the elimination.
+/// Older numbers name what they named.
 pub fn ending_of_elimination(
     terms: &mut Terms,
+    known: &mut KnownForms,
     branch: &Branch,
     present: &Present,
     labels: &[u32],
 ) -> Result<Ending, NoMemory>
     requires branch { IsBranch terms.old branch.now }
+    requires known { AreKnown terms.old known.old }
     requires present { IsPresent terms.old present.now }
     ensures value { IfOk result (λ e. seen_ending e ≡ bounds.ending_by (bounds.replaced_forms (terms_of (tree_at terms.old) present.now) labels.now (seen_branch (tree_at terms.old) branch.now).literals)) }
+    ensures known { OnOk result (AreKnown terms.new known.new) }
     ensures stays { Stays terms.old terms.new }
 {
-    let found = gather(terms, branch, present, labels)?;
+    let found = gather(terms, known, branch, present, labels)?;
     if found.refutes {
         return Ok(Ending::Refuted);
     }

@@ -1,9 +1,12 @@
 //! How the elimination of a node's variables ends.
 //!
-//! `forms` takes the form of a literal, its variables by their places among the terms present. `removal` says which forms take
-//! the variables away that aren't the first of their class, and `sums` adds them up; `replacing` gives what is left of a form.
-//! `gathering` does so for each literal, and `ending` eliminates the variables of what is left. The definition is that of
-//! `wy_search`.
+//! `forms` takes the form of a literal, its variables by their places among the terms present. `firsts` lists the first place of
+//! each place's class, `removal` says which forms take the variables away that aren't the first of their class, and `sums` adds
+//! them up; `replacing` gives what is left of a form. `gathering` does so for each literal, and `ending` eliminates the variables
+//! of what is left. The definition is that of `wy_search`.
+//!
+//! `known` keeps the forms of literals that were made, so that each is made once for a whole search: nodes share most of their
+//! literals, and forms are made of terms as deep as a function's body is long.
 //!
 //! The products of bounds that a round of expansion adds to a node.
 //!
@@ -12,8 +15,10 @@
 #![tactic(auto)]
 
 mod ending;
+mod firsts;
 mod forms;
 mod gathering;
+mod known;
 mod products;
 mod removal;
 mod replacing;
@@ -22,6 +27,7 @@ mod tightest;
 
 pub use ending::{Ending, ending_of_elimination};
 pub use forms::numbered;
+pub use known::{KnownForms, no_forms};
 pub use products::{Bounds, bounds_of, products_of};
 pub use removal::{Taking, takings};
 pub use replacing::{Replaced, replace};

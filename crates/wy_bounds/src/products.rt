@@ -2,6 +2,7 @@
 ghost use Rattle.std.specs.Prelude.{◌≡◌, ◌<◌, ℕ, Some, length, map, option_map, IfOk, IfSome, OnOk};
 ghost use Rattle.wy_bounds.specs.Adding.{Leads};
 ghost use Rattle.wy_bounds.specs.Bounds.{AreFactor, AreTightest, IsVarying, Pushes};
+ghost use Rattle.wy_bounds.specs.Known.{AreKnown};
 ghost use Rattle.wy_facts.specs.Seen.{terms_at, AreBelow, Stays};
 ghost use Rattle.wy_judge.specs.Node.{Node as TreeNode, with_formulas};
 ghost use Rattle.wy_judging.specs.Seen.{seen_branch, seen_formula, IsBranch};
@@ -14,6 +15,7 @@ ghost use Rattle.wy_term.specs.Term.{Term};
 ghost use Rattle.wy_valid.specs.Products.{as_product, product_stated};
 ghost use Rattle.wy_valid.specs.Sums.{all_zero};
 
+use crate::known::KnownForms;
 use crate::tightest::{Bound, bound_of};
 use wy_checking::product_stated;
 use wy_classes::standing;
@@ -74,27 +76,41 @@ fn varying_form(terms: &Terms, t: u32) -> Result<Option<Form>, NoMemory>
 }
 
 // The tightest bounds of a factor with this form.
-fn bounds_by(terms: &mut Terms, branch: &Branch, form: &Form) -> Result<Bounds, NoMemory>
+fn bounds_by(
+    terms: &mut Terms,
+    known: &mut KnownForms,
+    branch: &Branch,
+    form: &Form,
+) -> Result<Bounds, NoMemory>
     requires branch { IsBranch terms.old branch.now }
+    requires known { AreKnown terms.old known.old }
     requires form { IsOver (length terms.old) (linear_form form.now) }
     ensures value { IfOk result (λ b. AreTightest (seen_branch (tree_at terms.old) branch.now).literals (seen_form (tree_at terms.old) form.now) b) }
+    ensures known { OnOk result (AreKnown terms.new known.new) }
     ensures stays { Stays terms.old terms.new }
 {
-    let lower = bound_of(terms, branch, true, form)?;
-    let upper = bound_of(terms, branch, false, form)?;
+    let lower = bound_of(terms, known, branch, true, form)?;
+    let upper = bound_of(terms, known, branch, false, form)?;
     Ok(Bounds { lower, upper })
 }
 
-/// The tightest bounds of a factor, where it has a form with a variable. It takes twice the time of `form` on each literal.
-/// Older numbers name what they named.
-pub fn bounds_of(terms: &mut Terms, branch: &Branch, t: u32) -> Result<Option<Bounds>, NoMemory>
+/// The tightest bounds of a factor, where it has a form with a variable. It takes the time of `form` on the factor and on each
+/// literal whose form isn't known yet, and twice that of `relation` on each literal's form. Older numbers name what they named.
+pub fn bounds_of(
+    terms: &mut Terms,
+    known: &mut KnownForms,
+    branch: &Branch,
+    t: u32,
+) -> Result<Option<Bounds>, NoMemory>
     requires branch { IsBranch terms.old branch.now }
+    requires known { AreKnown terms.old known.old }
     requires term { t < length terms.old }
     ensures value { IfOk result (λ o. AreFactor (seen_branch (tree_at terms.old) branch.now).literals (tree_at terms.old t) o) }
+    ensures known { OnOk result (AreKnown terms.new known.new) }
     ensures stays { Stays terms.old terms.new }
 {
     match varying_form(terms, t)? {
-        Some(form) => Ok(Some(bounds_by(terms, branch, &form)?)),
+        Some(form) => Ok(Some(bounds_by(terms, known, branch, &form)?)),
         None => Ok(None),
     }
 }
@@ -183,24 +199,27 @@ fn push_four(
 // The same, where both factors have a form with a variable.
 fn push_products_of(
     terms: &mut Terms,
+    known: &mut KnownForms,
     branch: &Branch,
     stated: &mut Vec<u32>,
     p: u32,
     factors: (u32, u32),
 ) -> Result<(), NoMemory>
     requires branch { IsBranch terms.old branch.now }
+    requires known { AreKnown terms.old known.old }
     requires product { p < length terms.old }
     requires first { factors.0 < length terms.old }
     requires second { factors.1 < length terms.old }
     requires factors { as_product (tree_at terms.old p) ≡ Some (tree_at terms.old factors.0, tree_at terms.old factors.1) }
     requires stated { AreBelow (length terms.old) stated.old.items }
     ensures value { OnOk result (Leads terms.old stated.old.items terms.new stated.new.items (λ done. search.with_forms (seen_branch (tree_at terms.old) branch.now) (tree_at terms.old p) (tree_at terms.old factors.0) (tree_at terms.old factors.1) (form_of (tree_at terms.old factors.0)) (form_of (tree_at terms.old factors.1)) done)) }
+    ensures known { OnOk result (AreKnown terms.new known.new) }
     ensures stays { Stays terms.old terms.new }
 {
-    let Some(x) = bounds_of(terms, branch, factors.0)? else {
+    let Some(x) = bounds_of(terms, known, branch, factors.0)? else {
         return Ok(());
     };
-    let Some(y) = bounds_of(terms, branch, factors.1)? else {
+    let Some(y) = bounds_of(terms, known, branch, factors.1)? else {
         return Ok(());
     };
     push_four(terms, branch, stated, p, x, y)
@@ -209,39 +228,48 @@ fn push_products_of(
 // The same of a term, if it is a product.
 fn push_term(
     terms: &mut Terms,
+    known: &mut KnownForms,
     branch: &Branch,
     stated: &mut Vec<u32>,
     p: u32,
     holds: bool,
 ) -> Result<(), NoMemory>
     requires branch { IsBranch terms.old branch.now }
+    requires known { AreKnown terms.old known.old }
     requires term { p < length terms.old }
     requires stated { AreBelow (length terms.old) stated.old.items }
     ensures value { OnOk result (Leads terms.old stated.old.items terms.new stated.new.items (λ done. search.with_products_of (seen_branch (tree_at terms.old) branch.now) (seen_formula (tree_at terms.old) (p, holds)) (as_product (seen_formula (tree_at terms.old) (p, holds))) done)) }
+    ensures known { OnOk result (AreKnown terms.new known.new) }
     ensures stays { Stays terms.old terms.new }
 {
     if !holds {
         return Ok(());
     }
     match as_product(terms, p) {
-        Some(factors) => push_products_of(terms, branch, stated, p, factors),
+        Some(factors) => push_products_of(terms, known, branch, stated, p, factors),
         None => Ok(()),
     }
 }
 
 /// What the products of the tightest bounds of the factors state of each product that stands in the node. For each factor it
-/// takes the time of `form` on each literal. Older numbers name what they named.
-pub fn products_of(terms: &mut Terms, branch: &Branch) -> Result<Vec<u32>, NoMemory>
-    requires { IsBranch terms.old branch.now }
+/// takes the time of `bounds_of`, and for each two bounds that of `product_stated`. Older numbers name what they named.
+pub fn products_of(
+    terms: &mut Terms,
+    known: &mut KnownForms,
+    branch: &Branch,
+) -> Result<Vec<u32>, NoMemory>
+    requires branch { IsBranch terms.old branch.now }
+    requires known { AreKnown terms.old known.old }
     ensures value { IfOk result (λ fs. with_formulas (seen_branch (tree_at terms.old) branch.now) (terms_at terms.new fs.items) ≡ search.with_products (seen_branch (tree_at terms.old) branch.now)) }
     ensures below { IfOk result (λ fs. AreBelow (length terms.new) fs.items) }
+    ensures known { OnOk result (AreKnown terms.new known.new) }
     ensures stays { Stays terms.old terms.new }
 {
     let found = standing(terms, branch)?;
     let mut stated = Vec::new(terms.allocator());
     for i in 0..found.pending.len() {
         let (p, holds) = pending_at(&found, i);
-        push_term(terms, branch, &mut stated, p, holds)?;
+        push_term(terms, known, branch, &mut stated, p, holds)?;
     }
     Ok(stated)
 }

@@ -1,11 +1,12 @@
 //! The forms that take variables away which aren't the first of their class.
-ghost use Rattle.std.specs.Prelude.{◌≡◌, ◌++◌, [], ◌∷◌, slice_index, IfOk, OnOk};
+ghost use Rattle.std.specs.Prelude.{◌≡◌, ◌++◌, [], ◌∷◌, IfOk, OnOk};
+ghost use Rattle.wy_bounds.specs.Firsts.{AreFirsts};
 ghost use Rattle.wy_bounds.specs.Seen.{seen_taking, seen_takings};
 ghost use Rattle.wy_search.specs.Bounds as bounds;
 
+use crate::firsts::{first_of_class, first_places};
 use crate::forms::order_form;
 use std::alloc::Global;
-use wy_items::at;
 use wy_lin::Form;
 use wy_term::NoMemory;
 
@@ -14,40 +15,6 @@ use wy_term::NoMemory;
 pub struct Taking {
     pub times: u128,
     pub form: Form,
-}
-
-// The label at a place, 0 where there is none.
-fn label_at(labels: &[u32], k: u32) -> u32
-    ensures { result ≡ slice_index labels.now k }
-{
-    match at(labels, k as usize) {
-        Some(found) => *found,
-        None => 0,
-    }
-}
-
-// The first place with a label, or the count of places where there is none.
-fn first_with(labels: &[u32], l: u32) -> Result<u32, NoMemory>
-    ensures { IfOk result (λ k. k ≡ bounds.first_with labels.now l 0) }
-{
-    let mut found = 0;
-    for m in labels {
-        if *m == l {
-            return Ok(found);
-        }
-        if found == u32::MAX {
-            return Err(NoMemory);
-        }
-        found += 1;
-    }
-    Ok(found)
-}
-
-// The first place of a place's class, in time linear in that place.
-fn first_of_class(labels: &[u32], v: u32) -> Result<u32, NoMemory>
-    ensures { IfOk result (λ k. k ≡ bounds.first_of_class labels.now v) }
-{
-    first_with(labels, label_at(labels, v))
 }
 
 // The form that takes a variable away, with this coefficient, and how often it does.
@@ -69,16 +36,18 @@ fn taking_away(alloc: Global, c: i128, v: u32, w: u32) -> Result<Taking, NoMemor
 fn push_taking(
     alloc: Global,
     labels: &[u32],
+    firsts: &[u32],
     made: &mut Vec<Taking>,
     c: i128,
     v: u32,
 ) -> Result<(), NoMemory>
+    requires { AreFirsts labels.now firsts.now }
     ensures { OnOk result (seen_takings made.new.items ≡ seen_takings made.old.items ++ bounds.takings labels.now ((c, v) ∷ [])) }
 {
     if c == 0 {
         return Ok(());
     }
-    let first = first_of_class(labels, v)?;
+    let first = first_of_class(labels, firsts, v)?;
     if first == v {
         return Ok(());
     }
@@ -86,7 +55,26 @@ fn push_taking(
     Ok(())
 }
 
-/// What takes those variables of these parts away that aren't the first of their class.
+/// What takes those variables of these parts away that aren't the first of their class, where the first places of classes are
+/// listed. It takes time linear in the parts.
+pub fn takings_by(
+    alloc: Global,
+    labels: &[u32],
+    firsts: &[u32],
+    parts: &[(i128, u32)],
+) -> Result<Vec<Taking>, NoMemory>
+    requires { AreFirsts labels.now firsts.now }
+    ensures { IfOk result (λ ts. seen_takings ts.items ≡ bounds.takings labels.now parts.now) }
+{
+    let mut made = Vec::new(alloc);
+    for part in parts {
+        push_taking(alloc, labels, firsts, &mut made, part.0, part.1)?;
+    }
+    Ok(made)
+}
+
+/// What takes those variables of these parts away that aren't the first of their class, in time linear in the places and in the
+/// parts.
 pub fn takings(
     alloc: Global,
     labels: &[u32],
@@ -94,9 +82,6 @@ pub fn takings(
 ) -> Result<Vec<Taking>, NoMemory>
     ensures { IfOk result (λ ts. seen_takings ts.items ≡ bounds.takings labels.now parts.now) }
 {
-    let mut made = Vec::new(alloc);
-    for part in parts {
-        push_taking(alloc, labels, &mut made, part.0, part.1)?;
-    }
-    Ok(made)
+    let firsts = first_places(alloc, labels)?;
+    takings_by(alloc, labels, &firsts, parts)
 }

@@ -1,11 +1,13 @@
 //! What is left of a form once each variable is replaced by the first of its class.
 ghost use Rattle.std.specs.Prelude.{◌≡◌, ◌<◌, pos, int_lt, if◌then◌else◌, IfOk};
+ghost use Rattle.wy_bounds.specs.Firsts.{AreFirsts};
 ghost use Rattle.wy_bounds.specs.Seen.{seen_replaced, seen_takings, sum_with};
 ghost use Rattle.wy_eliminate.specs.Division as division;
 ghost use Rattle.wy_lin.specs.Seen.{linear_form};
 ghost use Rattle.wy_search.specs.Bounds as bounds;
 
-use crate::removal::{Taking, takings};
+use crate::firsts::first_places;
+use crate::removal::{Taking, takings_by};
 use crate::sums::sum_with;
 use std::alloc::Global;
 use wy_eliminate::{common, lowered};
@@ -64,11 +66,17 @@ fn by_sum(alloc: Global, form: &Form, takings: &[Taking], sum: &Form) -> Result<
     }
 }
 
-/// What is left of a form. It takes time linear in its parts, and for each part in the place of its variable.
-pub fn replace(alloc: Global, labels: &[u32], form: Form) -> Result<Replaced, NoMemory>
+/// What is left of a form, where the first places of classes are listed, in time linear in its parts.
+pub fn replace_by(
+    alloc: Global,
+    labels: &[u32],
+    firsts: &[u32],
+    form: Form,
+) -> Result<Replaced, NoMemory>
+    requires { AreFirsts labels.now firsts.now }
     ensures { IfOk result (λ r. seen_replaced r ≡ bounds.replaced labels.now (linear_form form)) }
 {
-    let takings = takings(alloc, labels, &form.parts)?;
+    let takings = takings_by(alloc, labels, firsts, &form.parts)?;
     if takings.is_empty() {
         return Ok(Replaced::Given(form));
     }
@@ -76,4 +84,12 @@ pub fn replace(alloc: Global, labels: &[u32], form: Form) -> Result<Replaced, No
         Some(sum) => by_sum(alloc, &form, &takings, &sum),
         None => Ok(Replaced::Leaves),
     }
+}
+
+/// What is left of a form, in time linear in the places and in its parts.
+pub fn replace(alloc: Global, labels: &[u32], form: Form) -> Result<Replaced, NoMemory>
+    ensures { IfOk result (λ r. seen_replaced r ≡ bounds.replaced labels.now (linear_form form)) }
+{
+    let firsts = first_places(alloc, labels)?;
+    replace_by(alloc, labels, &firsts, form)
 }

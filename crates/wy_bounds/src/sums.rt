@@ -31,8 +31,8 @@ fn forms_to_add(alloc: Global, form: &Form, takings: &[Taking]) -> Result<Vec<Fo
     Ok(forms)
 }
 
-// An index as the number of a form.
-fn form_number(i: usize) -> Result<u32, NoMemory>
+/// An index as the number of a form or of a place.
+pub fn form_number(i: usize) -> Result<u32, NoMemory>
     ensures { IfOk result (λ k. k ≡ i) }
 {
     match u32::try_from(i) {

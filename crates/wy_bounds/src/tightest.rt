@@ -1,6 +1,7 @@
 //! The tightest bounds of a factor.
-ghost use Rattle.std.specs.Prelude.{◌≡◌, ◌<◌, ◌^◌, ◌/◌, ◌+◌, ◌-ℤ◌, ◌*ℤ◌, pos, Bool, ℤ, List, Option, None, Some, length, map, IfOk, IfSome};
+ghost use Rattle.std.specs.Prelude.{◌≡◌, ◌<◌, ◌^◌, ◌/◌, ◌+◌, ◌-ℤ◌, ◌*ℤ◌, pos, Bool, ℤ, List, Option, None, Some, length, map, IfOk, IfSome, OnOk};
 ghost use Rattle.wy_bounds.specs.Bounds.{AreBounds};
+ghost use Rattle.wy_bounds.specs.Known.{AreKnown};
 ghost use Rattle.wy_facts.specs.Seen.{Stays};
 ghost use Rattle.wy_judge.specs.Node.{Literal};
 ghost use Rattle.wy_judging.specs.Seen.{seen_branch, IsBranch};
@@ -14,8 +15,9 @@ ghost use Rattle.wy_term.specs.Term.{Term};
 ghost use Rattle.wy_valid.specs.Products.{affine, Affine as Factors};
 ghost use Rattle.wy_valid.specs.Sums.{form_at};
 
+use crate::known::{KnownForms, known_form, literal_number, place_of_form};
 use wy_checking::{Affine, relation};
-use wy_judging::{Branch, form_at};
+use wy_judging::Branch;
 use wy_lin::Form;
 use wy_term::{NoMemory, Terms};
 
@@ -84,22 +86,10 @@ fn with_bound(
     )
 }
 
-// The number of the literal with a place.
-fn literal_number(i: usize) -> Result<u32, NoMemory>
-    ensures { IfOk result (λ k. k ≡ i + 1) }
-{
-    match u32::try_from(i) {
-        Ok(k) => match k.checked_add(1) {
-            Some(number) => Ok(number),
-            None => Err(NoMemory),
-        },
-        Err(_) => Err(NoMemory),
-    }
-}
-
 // With what the literal with this place is of a factor with this form.
 fn with_literal(
     terms: &mut Terms,
+    known: &mut KnownForms,
     branch: &Branch,
     below: bool,
     form: &Form,
@@ -107,15 +97,18 @@ fn with_literal(
     best: Option<Bound>,
 ) -> Result<Option<Bound>, NoMemory>
     requires branch { IsBranch terms.old branch.now }
+    requires known { AreKnown terms.old known.old }
     requires form { IsOver (length terms.old) (linear_form form.now) }
     requires place { i < length branch.now.literals.keys }
     ensures value { (given : Option (Factors × ℤ)) → AreBounds (seen_branch (tree_at terms.old) branch.now).literals (seen_form (tree_at terms.old) form.now) below best given → IfOk result (λ made. AreBounds (seen_branch (tree_at terms.old) branch.now).literals (seen_form (tree_at terms.old) form.now) below made (search.with_bound below given (bind (form_at (seen_branch (tree_at terms.old) branch.now).literals (i + 1)) (λ h. affine (seen_form (tree_at terms.old) form.now) h)))) }
+    ensures known { OnOk result (AreKnown terms.new known.new) }
     ensures stays { Stays terms.old terms.new }
 {
     let number = literal_number(i)?;
-    match form_at(terms, branch, number)? {
-        Some(h) => {
-            let x = relation(terms, form, &h)?;
+    match place_of_form(terms, known, branch, i)? {
+        Some(place) => {
+            let h = known_form(known, place);
+            let x = relation(terms, form, h)?;
             Ok(with_bound(below, best, number, h.constant, x))
         }
         None => Ok(best),
@@ -123,21 +116,24 @@ fn with_literal(
 }
 
 /// The tightest lower or upper bound of a factor with this form among the literals, the first of equals. It takes the time of
-/// `form` on each literal. Older numbers name what they named.
+/// `form` on each literal whose form isn't known yet, and that of `relation` on each form. Older numbers name what they named.
 pub fn bound_of(
     terms: &mut Terms,
+    known: &mut KnownForms,
     branch: &Branch,
     below: bool,
     form: &Form,
 ) -> Result<Option<Bound>, NoMemory>
     requires branch { IsBranch terms.old branch.now }
+    requires known { AreKnown terms.old known.old }
     requires form { IsOver (length terms.old) (linear_form form.now) }
     ensures value { IfOk result (λ b. AreBounds (seen_branch (tree_at terms.old) branch.now).literals (seen_form (tree_at terms.old) form.now) below b (search.best_bound below (seen_form (tree_at terms.old) form.now) None (seen_branch (tree_at terms.old) branch.now).literals)) }
+    ensures known { OnOk result (AreKnown terms.new known.new) }
     ensures stays { Stays terms.old terms.new }
 {
     let mut best = None;
     for i in 0..branch.literals.len() {
-        best = with_literal(terms, branch, below, form, i, best)?;
+        best = with_literal(terms, known, branch, below, form, i, best)?;
     }
     Ok(best)
 }

@@ -1,11 +1,12 @@
 //! The products of bounds of a round, by their literals.
-ghost use Rattle.std.specs.Prelude.{◌<◌, IfSome, length};
+ghost use Rattle.std.specs.Prelude.{◌<◌, IfSome, OnOk, length};
 ghost use Rattle.wy_facts.specs.Seen.{Stays};
 ghost use Rattle.wy_judging.specs.Seen.{IsBranch};
+ghost use Rattle.wy_searching.specs.Known.{AreKnown};
 
 use wy_explaining::{Action, Named};
 use wy_judging::{Branch, literal_at, pending_at};
-use wy_searching::{Bound, Bounds, bounds_of, standing};
+use wy_searching::{Bound, Bounds, KnownForms, bounds_of, standing};
 use wy_term::{NoMemory, Node, Terms};
 
 // The literal that is a bound.
@@ -61,12 +62,19 @@ fn named_sides(terms: &Terms, branch: &Branch, bounds: Bounds) -> Sides
 }
 
 // Those of a factor, where it has a form with a variable.
-fn sides_of(terms: &mut Terms, branch: &Branch, s: u32) -> Result<Option<Sides>, NoMemory>
+fn sides_of(
+    terms: &mut Terms,
+    known: &mut KnownForms,
+    branch: &Branch,
+    s: u32,
+) -> Result<Option<Sides>, NoMemory>
     requires branch { IsBranch terms.old branch.now }
+    requires known { AreKnown terms.old known.old }
     requires factor { s < length terms.old }
-    ensures { Stays terms.old terms.new }
+    ensures known { OnOk result (AreKnown terms.new known.new) }
+    ensures stays { Stays terms.old terms.new }
 {
-    match bounds_of(terms, branch, s)? {
+    match bounds_of(terms, known, branch, s)? {
         Some(bounds) => Ok(Some(named_sides(terms, branch, bounds))),
         None => Ok(None),
     }
@@ -83,6 +91,7 @@ fn push_four(plan: &mut Vec<Action>, p: u32, x: Sides, y: Sides) -> Result<(), N
 // Those of the factors of a product.
 fn push_factors(
     terms: &mut Terms,
+    known: &mut KnownForms,
     branch: &Branch,
     plan: &mut Vec<Action>,
     p: u32,
@@ -90,12 +99,14 @@ fn push_factors(
     t: u32,
 ) -> Result<(), NoMemory>
     requires branch { IsBranch terms.old branch.now }
+    requires known { AreKnown terms.old known.old }
     requires first { s < length terms.old }
     requires second { t < length terms.old }
-    ensures { Stays terms.old terms.new }
+    ensures known { OnOk result (AreKnown terms.new known.new) }
+    ensures stays { Stays terms.old terms.new }
 {
-    let first = sides_of(terms, branch, s)?;
-    let second = sides_of(terms, branch, t)?;
+    let first = sides_of(terms, known, branch, s)?;
+    let second = sides_of(terms, known, branch, t)?;
     match (first, second) {
         (Some(x), Some(y)) => push_four(plan, p, x, y),
         _ => Ok(()),
@@ -105,19 +116,22 @@ fn push_factors(
 // Those of a term that stands in the node, if it is a product.
 fn push_term(
     terms: &mut Terms,
+    known: &mut KnownForms,
     branch: &Branch,
     plan: &mut Vec<Action>,
     p: u32,
     holds: bool,
 ) -> Result<(), NoMemory>
-    requires { IsBranch terms.old branch.now }
-    ensures { Stays terms.old terms.new }
+    requires branch { IsBranch terms.old branch.now }
+    requires known { AreKnown terms.old known.old }
+    ensures known { OnOk result (AreKnown terms.new known.new) }
+    ensures stays { Stays terms.old terms.new }
 {
     if !holds || p as usize >= terms.len() {
         return Ok(());
     }
     match factors(terms, p) {
-        Some((s, t)) => push_factors(terms, branch, plan, p, s, t),
+        Some((s, t)) => push_factors(terms, known, branch, plan, p, s, t),
         None => Ok(()),
     }
 }
@@ -126,16 +140,19 @@ fn push_term(
 /// named.
 pub fn push_products(
     terms: &mut Terms,
+    known: &mut KnownForms,
     branch: &Branch,
     plan: &mut Vec<Action>,
 ) -> Result<(), NoMemory>
-    requires { IsBranch terms.old branch.now }
-    ensures { Stays terms.old terms.new }
+    requires branch { IsBranch terms.old branch.now }
+    requires known { AreKnown terms.old known.old }
+    ensures known { OnOk result (AreKnown terms.new known.new) }
+    ensures stays { Stays terms.old terms.new }
 {
     let found = standing(terms, branch)?;
     for i in 0..found.pending.len() {
         let (p, holds) = pending_at(&found, i);
-        push_term(terms, branch, plan, p, holds)?;
+        push_term(terms, known, branch, plan, p, holds)?;
     }
     Ok(())
 }

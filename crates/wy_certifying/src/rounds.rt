@@ -11,7 +11,9 @@ use crate::manner::Manner;
 use crate::products::push_products;
 use wy_explaining::{Action, Named};
 use wy_judging::{Branch, add_all, has_literal, nth_literal};
-use wy_searching::{Spot, facts_of, index_terms, products_of, with_instances, with_witnesses};
+use wy_searching::{
+    Spot, facts_of, index_terms, no_forms, products_of, with_instances, with_witnesses,
+};
 use wy_splits::{of_each, of_one};
 use wy_term::{Cond, NoMemory, Terms};
 
@@ -194,8 +196,9 @@ fn products_with_steps(
     ensures below { IfOk result (λ fs. AreBelow (length terms.new) fs.items) }
     ensures stays { Stays terms.old terms.new }
 {
-    push_products(terms, branch, plan)?;
-    products_of(terms, branch)
+    let mut known = no_forms(terms.allocator());
+    push_products(terms, &mut known, branch, plan)?;
+    products_of(terms, &mut known, branch)
 }
 
 fn add_products(

@@ -16,7 +16,7 @@ pub use expanding::expanded;
 pub use turning::{Next, copied, what_follows, with_atom, with_next_atom};
 pub use verdict::{OpenLeaf, Verdict, Why};
 pub use walk::{first_spot, search};
-pub use wy_bounds::{Bound, Bounds, bounds_of, products_of};
+pub use wy_bounds::{Bound, Bounds, KnownForms, bounds_of, no_forms, products_of};
 pub use wy_classes::{classes, classes_clash, standing, terms_present};
 pub use wy_stated_facts::{
     Spot, facts_of, index_terms, is_element, measured, read_count, with_instances, with_witnesses,

@@ -1,5 +1,6 @@
 //! What becomes of a node.
-ghost use Rattle.std.specs.Prelude.{◌≡◌, ◌<◌, ℕ, List, length, option_map, IfOk, IfSome};
+ghost use Rattle.std.specs.Prelude.{◌≡◌, ◌<◌, ℕ, List, length, option_map, IfOk, IfSome, OnOk};
+ghost use Rattle.wy_bounds.specs.Known.{AreKnown};
 ghost use Rattle.wy_bounds.specs.Seen.{seen_ending};
 ghost use Rattle.wy_facts.specs.Membership.{AreTypesBelow};
 ghost use Rattle.wy_facts.specs.Seen.{Stays};
@@ -15,7 +16,7 @@ ghost use Rattle.wy_term.specs.Term.{Term};
 use crate::expanding::expanded;
 use crate::verdict::Why;
 use std::alloc::Global;
-use wy_bounds::{Ending, ending_of_elimination};
+use wy_bounds::{Ending, KnownForms, ending_of_elimination};
 use wy_classes::{classes, classes_clash, next_atom, terms_present};
 use wy_judging::{add, is_shut};
 use wy_stated_facts::{Spot, copied_branch};
@@ -109,14 +110,17 @@ fn is_more(old: &Spot, new: &Spot) -> bool
 // A round of expansion, at most two on a path.
 fn on_expansion(
     terms: &mut Terms,
+    known: &mut KnownForms,
     cond: &Cond,
     spot: Spot,
     ending: Ending,
 ) -> Result<Next, NoMemory>
     requires types { AreTypesBelow (length terms.old) cond.now }
     requires spot { IsSpot terms.old spot }
+    requires known { AreKnown terms.old known.old }
     ensures value { IfOk result (Follows (tree_at terms.new) (seen_spot (tree_at terms.old) spot) (tree.on_expansion (condition_of terms.old cond.now).types (seen_spot (tree_at terms.old) spot) (seen_ending ending))) }
     ensures next { IfOk result (IsNextOver terms.new) }
+    ensures known { OnOk result (AreKnown terms.new known.new) }
     ensures stays { Stays terms.old terms.new }
 {
     let why = why_open(ending);
@@ -124,7 +128,7 @@ fn on_expansion(
         return Ok(Next::Open(spot, why));
     }
     let before = copied(terms.allocator(), &spot)?;
-    let more = expanded(terms, cond, spot)?;
+    let more = expanded(terms, known, cond, spot)?;
     if is_more(&before, &more) {
         Ok(Next::GoesOn(more))
     } else {
@@ -159,41 +163,63 @@ pub fn with_next_atom(terms: &Terms, spot: Spot) -> Result<(Spot, Option<u32>), 
 }
 
 // A split, or a round of expansion.
-fn on_ending(terms: &mut Terms, cond: &Cond, spot: Spot, ending: Ending) -> Result<Next, NoMemory>
+fn on_ending(
+    terms: &mut Terms,
+    known: &mut KnownForms,
+    cond: &Cond,
+    spot: Spot,
+    ending: Ending,
+) -> Result<Next, NoMemory>
     requires types { AreTypesBelow (length terms.old) cond.now }
     requires spot { IsSpot terms.old spot }
+    requires known { AreKnown terms.old known.old }
     ensures value { IfOk result (Follows (tree_at terms.new) (seen_spot (tree_at terms.old) spot) (tree.on_atom (condition_of terms.old cond.now).types (seen_spot (tree_at terms.old) spot) (seen_ending ending) (splitting.next_atom (seen_spot (tree_at terms.old) spot).node))) }
     ensures next { IfOk result (IsNextOver terms.new) }
+    ensures known { OnOk result (AreKnown terms.new known.new) }
     ensures stays { Stays terms.old terms.new }
 {
     let found = with_next_atom(terms, spot)?;
     let (spot, atom) = found;
     match atom {
         Some(a) => split(terms, spot, a),
-        None => on_expansion(terms, cond, spot, ending),
+        None => on_expansion(terms, known, cond, spot, ending),
     }
 }
 
 // What becomes of a node whose elimination ends so.
-fn by_ending(terms: &mut Terms, cond: &Cond, spot: Spot, ending: Ending) -> Result<Next, NoMemory>
+fn by_ending(
+    terms: &mut Terms,
+    known: &mut KnownForms,
+    cond: &Cond,
+    spot: Spot,
+    ending: Ending,
+) -> Result<Next, NoMemory>
     requires types { AreTypesBelow (length terms.old) cond.now }
     requires spot { IsSpot terms.old spot }
+    requires known { AreKnown terms.old known.old }
     ensures value { IfOk result (Follows (tree_at terms.new) (seen_spot (tree_at terms.old) spot) (tree.by_ending (condition_of terms.old cond.now).types (seen_spot (tree_at terms.old) spot) (seen_ending ending))) }
     ensures next { IfOk result (IsNextOver terms.new) }
+    ensures known { OnOk result (AreKnown terms.new known.new) }
     ensures stays { Stays terms.old terms.new }
 {
     match ending {
         Ending::Refuted => Ok(Next::Closed),
-        Ending::Consistent => on_ending(terms, cond, spot, Ending::Consistent),
-        Ending::Crowded => on_ending(terms, cond, spot, Ending::Crowded),
-        Ending::Wide => on_ending(terms, cond, spot, Ending::Wide),
+        Ending::Consistent => on_ending(terms, known, cond, spot, Ending::Consistent),
+        Ending::Crowded => on_ending(terms, known, cond, spot, Ending::Crowded),
+        Ending::Wide => on_ending(terms, known, cond, spot, Ending::Wide),
     }
 }
 
 // How a node's elimination ends, where its classes don't clash.
-fn ending_of(terms: &mut Terms, spot: &Spot) -> Result<Option<Ending>, NoMemory>
-    requires { IsSpot terms.old spot.now }
+fn ending_of(
+    terms: &mut Terms,
+    known: &mut KnownForms,
+    spot: &Spot,
+) -> Result<Option<Ending>, NoMemory>
+    requires spot { IsSpot terms.old spot.now }
+    requires known { AreKnown terms.old known.old }
     ensures value { IfOk result (IsEnding (seen_spot (tree_at terms.old) spot.now).node) }
+    ensures known { OnOk result (AreKnown terms.new known.new) }
     ensures stays { Stays terms.old terms.new }
 {
     let here = terms_present(terms, &spot.branch)?;
@@ -201,34 +227,48 @@ fn ending_of(terms: &mut Terms, spot: &Spot) -> Result<Option<Ending>, NoMemory>
     if classes_clash(terms, &spot.branch, &here, &labels)? {
         return Ok(None);
     }
-    let end = ending_of_elimination(terms, &spot.branch, &here, &labels)?;
+    let end = ending_of_elimination(terms, known, &spot.branch, &here, &labels)?;
     Ok(Some(end))
 }
 
 // What becomes of a node that isn't shut.
-fn on_classes(terms: &mut Terms, cond: &Cond, spot: Spot) -> Result<Next, NoMemory>
+fn on_classes(
+    terms: &mut Terms,
+    known: &mut KnownForms,
+    cond: &Cond,
+    spot: Spot,
+) -> Result<Next, NoMemory>
     requires types { AreTypesBelow (length terms.old) cond.now }
     requires spot { IsSpot terms.old spot }
+    requires known { AreKnown terms.old known.old }
     ensures value { IfOk result (Follows (tree_at terms.new) (seen_spot (tree_at terms.old) spot) (unshut (condition_of terms.old cond.now).types (seen_spot (tree_at terms.old) spot))) }
     ensures next { IfOk result (IsNextOver terms.new) }
+    ensures known { OnOk result (AreKnown terms.new known.new) }
     ensures stays { Stays terms.old terms.new }
 {
-    match ending_of(terms, &spot)? {
+    match ending_of(terms, known, &spot)? {
         None => Ok(Next::Closed),
-        Some(end) => by_ending(terms, cond, spot, end),
+        Some(end) => by_ending(terms, known, cond, spot, end),
     }
 }
 
 /// What becomes of a node, judged anew from its literals and pending formulas. Older numbers name what they named.
-pub fn what_follows(terms: &mut Terms, cond: &Cond, spot: Spot) -> Result<Next, NoMemory>
+pub fn what_follows(
+    terms: &mut Terms,
+    known: &mut KnownForms,
+    cond: &Cond,
+    spot: Spot,
+) -> Result<Next, NoMemory>
     requires types { AreTypesBelow (length terms.old) cond.now }
     requires spot { IsSpot terms.old spot }
+    requires known { AreKnown terms.old known.old }
     ensures value { IfOk result (Follows (tree_at terms.new) (seen_spot (tree_at terms.old) spot) (tree.next (condition_of terms.old cond.now).types (seen_spot (tree_at terms.old) spot))) }
     ensures next { IfOk result (IsNextOver terms.new) }
+    ensures known { OnOk result (AreKnown terms.new known.new) }
     ensures stays { Stays terms.old terms.new }
 {
     if is_shut(terms, &spot.branch)? {
         return Ok(Next::Closed);
     }
-    on_classes(terms, cond, spot)
+    on_classes(terms, known, cond, spot)
 }

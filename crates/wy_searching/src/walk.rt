@@ -1,5 +1,6 @@
 //! The walk through the tree.
 ghost use Rattle.std.specs.Prelude.{◌≡◌, ◌<◌, ◌≤◌, ◌++◌, [], ◌∷◌, ℕ, All, length, map, IfOk, OnOk};
+ghost use Rattle.wy_bounds.specs.Known.{AreKnown};
 ghost use Rattle.wy_facts.specs.Membership.{AreTypesBelow};
 ghost use Rattle.wy_facts.specs.Seen.{Stays};
 ghost use Rattle.wy_stated_facts.specs.Seen.{seen_spot, IsSpot};
@@ -15,6 +16,7 @@ ghost use Rattle.wy_term.specs.Nodes.{tree_at};
 use crate::turning::{Next, what_follows};
 use crate::verdict::{OpenLeaf, Verdict, Why};
 use std::collections::VecDeque;
+use wy_bounds::{KnownForms, no_forms};
 use wy_judging::{Branch, bare, first_branch, nth_literal};
 use wy_stated_facts::Spot;
 use wy_term::{Cond, NoMemory, Terms};
@@ -153,6 +155,7 @@ fn behind(
 // One turn, where this node comes first: it is closed, or an open leaf, or others come in its place.
 fn turn_at(
     terms: &mut Terms,
+    known: &mut KnownForms,
     cond: &Cond,
     budget: u64,
     leaves: u64,
@@ -163,29 +166,39 @@ fn turn_at(
     requires leaves { leaves ≤ budget }
     requires spots { AreSpots terms.old spots.items }
     requires spot { IsSpot terms.old spot }
+    requires known { AreKnown terms.old known.old }
     ensures value { IfOk result (Leads (tree.one_turn (condition_of terms.old cond.now).types budget leaves (seen_spot (tree_at terms.old) spot ∷ map (seen_spot (tree_at terms.old)) spots.items)) (tree_at terms.new)) }
     ensures walk { IfOk result (IsTurnedOver terms.new budget) }
+    ensures known { OnOk result (AreKnown terms.new known.new) }
     ensures stays { Stays terms.old terms.new }
 {
     if leaves == budget {
         return Ok(Turned::Ends(Verdict::Spent));
     }
-    let next = what_follows(terms, cond, spot)?;
+    let next = what_follows(terms, known, cond, spot)?;
     behind(terms, leaves, budget, spots, next)
 }
 
 // One turn, if a node is left.
-fn turn(terms: &mut Terms, cond: &Cond, budget: u64, walk: Walk) -> Result<Turned, NoMemory>
+fn turn(
+    terms: &mut Terms,
+    known: &mut KnownForms,
+    cond: &Cond,
+    budget: u64,
+    walk: Walk,
+) -> Result<Turned, NoMemory>
     requires types { AreTypesBelow (length terms.old) cond.now }
     requires walk { IsWalk terms.old budget walk }
+    requires known { AreKnown terms.old known.old }
     ensures value { IfOk result (Leads (tree.one_turn (condition_of terms.old cond.now).types budget walk.leaves (map (seen_spot (tree_at terms.old)) walk.spots.items)) (tree_at terms.new)) }
     ensures walk { IfOk result (IsTurnedOver terms.new budget) }
+    ensures known { OnOk result (AreKnown terms.new known.new) }
     ensures stays { Stays terms.old terms.new }
 {
     let Walk { leaves, mut spots } = walk;
     match spots.pop_front() {
         None => Ok(Turned::Ends(Verdict::Found(leaves))),
-        Some(spot) => turn_at(terms, cond, budget, leaves, spots, spot),
+        Some(spot) => turn_at(terms, known, cond, budget, leaves, spots, spot),
     }
 }
 
@@ -199,8 +212,9 @@ fn searched(terms: &mut Terms, cond: &Cond, budget: u64) -> Result<Verdict, NoMe
     ensures stays { Stays terms.old terms.new }
 {
     let mut walk = first_walk(terms, cond)?;
+    let mut known = no_forms(terms.allocator());
     for _turn in 0..u64::MAX {
-        match turn(terms, cond, budget, walk)? {
+        match turn(terms, &mut known, cond, budget, walk)? {
             Turned::Ends(verdict) => return Ok(verdict),
             Turned::GoesOn(next) => walk = next,
         }
@@ -209,7 +223,7 @@ fn searched(terms: &mut Terms, cond: &Cond, budget: u64) -> Result<Verdict, NoMe
 }
 
 /// The verdict of the search of a condition, at a budget of leaves. The terms are as before afterwards, at want of memory too.
-/// Each node is judged anew.
+/// Each node is judged anew; the form of a literal is made once.
 pub fn search(terms: &mut Terms, cond: &Cond, budget: u64) -> Result<Verdict, NoMemory>
     requires hyps { All (λ h. h < length terms.old) cond.now.hyps.items }
     requires goal { cond.now.goal < length terms.old }

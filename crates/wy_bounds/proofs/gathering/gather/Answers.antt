@@ -1,4 +1,4 @@
-use Rattle.std.proofs.Common.{ap}
+use Rattle.std.proofs.Common.{ap, subst, sym}
 use Rattle.wy_term.specs.Nodes.{tree_at}
 use Rattle.wy_judge.specs.Node.{Node}
 use Rattle.wy_judging.specs.Seen.{seen_branch}
@@ -6,10 +6,14 @@ use Rattle.wy_facts.proofs.StepLemmas.{stays_on}
 use Rattle.wy_judging.proofs.SumsBranchLemmas.{branch_stays, node_stays}
 use Rattle.wy_classes.specs.Seen.{terms_of}
 use Rattle.wy_bounds.proofs.GatherLemmas.{gathers_next, terms_stay}
+use Rattle.wy_bounds.specs.Firsts.{AreFirsts}
 use Rattle.wy_bounds.proofs.gathering.gather.Goals as goal
 
 pub take_literal-requires-clause-branch : goal.take_literal-requires-clause-branch
 take_literal-requires-clause-branch c = branch_stays c.args.terms.now c.loop-i.terms c.args.branch.now c.loop-i.invariant.stays c.requires.branch
+
+pub take_literal-requires-clause-firsts : goal.take_literal-requires-clause-firsts
+take_literal-requires-clause-firsts c = subst (AreFirsts c.args.labels.now) (sym c.deref.ensures.value) c.in_ok-firsts.ensures
 
 pub loop-i-preserved : goal.loop-i-preserved
 loop-i-preserved c =
@@ -20,5 +24,6 @@ loop-i-preserved c =
           (terms_stay old now c.args.present.now c.loop-i.invariant.stays c.requires.present)
           (ap (λ (n : Node). n.literals) (node_stays old now c.args.branch.now c.loop-i.invariant.stays c.requires.branch))
           c.in_ok-take_literal.ensures.value c.loop-i.invariant.gathers;
+      known = c.in_ok-take_literal.ensures.known;
       stays = stays_on old now c.take_literal.new.terms c.loop-i.invariant.stays c.in_ok-take_literal.ensures.stays;
     }

@@ -13,7 +13,7 @@ use Rattle.wy_term.specs.Term.{Term}
 use Rattle.wy_valid.specs.Products.{as_product}
 
 pub push_term-requires-clause-branch : goal.push_term-requires-clause-branch
-push_term-requires-clause-branch c = branch_stays c.args.terms.now c.loop-i.terms c.args.branch.now c.loop-i.invariant.stays c.requires
+push_term-requires-clause-branch c = branch_stays c.args.terms.now c.loop-i.terms c.args.branch.now c.loop-i.invariant.stays c.requires.branch
 
 pub push_term-requires-clause-term : goal.push_term-requires-clause-term
 push_term-requires-clause-term c = within_now c.args.terms.now c.loop-i.terms c.in_ok-found.found.pending.keys c.loop-i.i c.pending_at-p.result c.loop-i.invariant.stays c.in_ok-found.ensures.branch.pending c.pending_at-p.ensures
@@ -28,6 +28,7 @@ loop-i-init c =
           ap (λ (ks : List ℕ). with_products_by node (seen_branch (tree_at old) c.in_ok-found.found).pending (with_formulas start (terms_at old ks))) none
           ∙ ap (λ (ts : List Term). with_products_by node ts start) c.in_ok-found.ensures.value;
       below = subst (AreBelow (length old)) (sym none) (λ k d lt. absurd (omega (arith, lt)));
+      known = c.requires.known;
       stays = stays_same old;
     }
 
@@ -39,7 +40,7 @@ loop-i-preserved c =
     let keys = c.in_ok-found.found.pending.keys in
     let p = c.pending_at-p.result in
     let node = seen_branch (tree_at old) c.args.branch.now in
-    let is = node_stays old now c.args.branch.now stays c.requires in
+    let is = node_stays old now c.args.branch.now stays c.requires.branch in
     let tree = formula_kept old now keys c.loop-i.i p stays c.in_ok-found.ensures.branch.pending c.pending_at-p.ensures in
     record {
       leads = λ start.
@@ -47,6 +48,7 @@ loop-i-preserved c =
           (c.in_ok-push_term.ensures.value.value start ∙ ap₂ (λ (n : Node) (t : Term). with_products_of n t (as_product t) (with_formulas start (terms_at now c.loop-i.stated.items))) is tree)
           (c.loop-i.invariant.leads start);
       below = c.in_ok-push_term.ensures.value.below;
+      known = c.in_ok-push_term.ensures.known;
       stays = stays_on old now c.push_term.new.terms stays c.in_ok-push_term.ensures.stays;
     }
 

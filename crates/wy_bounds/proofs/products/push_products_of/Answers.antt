@@ -1,5 +1,6 @@
 use Rattle.std.proofs.Common.{◌≡◌, ◌∙◌, ◌≤◌, ◌<◌, Option, Some, None, ap, ap₂, refl, length, rules, subst, sym, arith}
 use Rattle.wy_bounds.proofs.AddingLemmas.{led_from, unmoved_now}
+use Rattle.wy_bounds.proofs.KnownLemmas.{if_known}
 use Rattle.wy_bounds.proofs.ProductLemmas.{both_vary, constant_first, constant_second, product_at, tightest_at}
 use Rattle.wy_bounds.proofs.products.push_products_of.Goals as goal
 use Rattle.wy_bounds.specs.Bounds.{AreFactor, IsConstant, IsFactor}
@@ -78,3 +79,6 @@ returns-clause-value c =
     led_from c.push_four.result old new c.args.stated.now.items c.push_four.new.terms c.push_four.new.stated.items _ _ stays c.requires.stated
     (λ (done : Node). ap₂ (λ (n : Node) (q : Term). with_four n q s t x.form there.form done) (node_stays old new b stays c.requires.branch) (stays.trees c.args.p c.requires.product) ∙ both_vary node p s t x.form there.form x.is y_is x.varies there.varies done)
     (c.push_four.ensures.value s t x.form there.form factors x.is y_is x_new y_new)
+
+pub returns-clause-known : goal.returns-clause-known
+returns-clause-known c = if_known c.push_four.result c.bounds_of-2.new.terms c.push_four.new.terms c.bounds_of-2.new.known c.push_four.ensures.stays c.in_ok-y.ensures.known

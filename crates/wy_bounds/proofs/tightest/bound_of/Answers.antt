@@ -20,7 +20,7 @@ pub with_literal-requires-clause-form : goal.with_literal-requires-clause-form
 with_literal-requires-clause-form c = form_up (length c.args.terms.now) (length c.loop-i.terms) c.args.form.now c.loop-i.invariant.stays.grows c.requires.form
 
 pub loop-i-init : goal.loop-i-init
-loop-i-init c = record { best = (None, refl, refl); stays = stays_same c.args.terms.now }
+loop-i-init c = record { best = (None, refl, refl); known = c.requires.known; stays = stays_same c.args.terms.now }
 
 pub loop-i-preserved : goal.loop-i-preserved
 loop-i-preserved c =
@@ -38,6 +38,7 @@ loop-i-preserved c =
     let made = at_old c.args.below c.loop-i.i c.loop-i.best c.in_ok-best.best given _ ls _ f same form (c.in_ok-best.ensures.value given) c.loop-i.invariant.best.1 in
     record {
       best = (_, made, best_more ls c.loop-i.i f c.args.below given _ within c.loop-i.invariant.best.2);
+      known = c.in_ok-best.ensures.known;
       stays = stays_on old now c.with_literal.new.terms stays c.in_ok-best.ensures.stays;
     }
 

@@ -1,6 +1,7 @@
 use Rattle.std.proofs.Common.{◌≡◌, ℤ, Option, None, drop}
 use Rattle.wy_bounds.proofs.tightest.bound_of.Given as goal
 use Rattle.wy_bounds.specs.Bounds.{AreBounds}
+use Rattle.wy_bounds.specs.Known.{AreKnown}
 use Rattle.wy_facts.specs.Seen.{Stays}
 use Rattle.wy_judging.specs.Seen.{seen_branch}
 use Rattle.wy_lin.specs.Seen.{seen_form}
@@ -13,5 +14,6 @@ abbrev pub invariant-loop-i : goal.invariant-loop-i
 invariant-loop-i l = record {
   best : (given : Option (Affine × ℤ)) × AreBounds (seen_branch (tree_at l.fn.terms) l.branch).literals (seen_form (tree_at l.fn.terms) l.form) l.below l.best given
       × (best_bound l.below (seen_form (tree_at l.fn.terms) l.form) given (drop l.i (seen_branch (tree_at l.fn.terms) l.branch).literals) ≡ best_bound l.below (seen_form (tree_at l.fn.terms) l.form) None (seen_branch (tree_at l.fn.terms) l.branch).literals);
+  known : AreKnown l.terms l.known;
   stays : Stays l.fn.terms l.terms;
 }

@@ -1,4 +1,5 @@
 use Rattle.std.proofs.Common.{◌≡◌, ◌∙◌, ◌+◌, ℕ, suc, List, length, map, sym, ap, subst, arith}
+use Rattle.wy_bounds.proofs.KnownLemmas.{known_stays}
 use Rattle.wy_term.specs.Nodes.{tree_at}
 use Rattle.wy_term.specs.Condition.{condition_of}
 use Rattle.wy_facts.specs.Seen.{AreBelow}
@@ -15,6 +16,9 @@ use Rattle.wy_searching.proofs.expanding.expanded.Goals as goal
 
 pub grow-requires-clause-types : goal.grow-requires-clause-types
 grow-requires-clause-types c = types_up c.args.terms.now c.with_witnesses.new.terms c.args.cond.now c.in_ok-found.ensures.stays c.requires.types
+
+pub grow-requires-clause-known : goal.grow-requires-clause-known
+grow-requires-clause-known c = known_stays c.args.terms.now c.with_witnesses.new.terms c.args.known.now c.in_ok-found.ensures.stays c.requires.known
 
 pub grow-requires-clause-names : goal.grow-requires-clause-names
 grow-requires-clause-names c = subst (AreBelow (length c.with_witnesses.new.terms)) (sym c.deref.ensures.value) c.in_ok-found.ensures.spot.names

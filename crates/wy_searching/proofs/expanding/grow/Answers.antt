@@ -1,5 +1,6 @@
 use Rattle.std.proofs.Common.{◌≡◌, map}
 use Rattle.std.proofs.lemmas.Result.{IfOk-weaker}
+use Rattle.wy_bounds.proofs.KnownLemmas.{known_stays}
 use Rattle.wy_term.specs.Nodes.{tree_at}
 use Rattle.wy_term.specs.Condition.{condition_of}
 use Rattle.wy_facts.proofs.StepLemmas.{stays_on}
@@ -12,6 +13,10 @@ use Rattle.wy_searching.proofs.expanding.grow.Goals as goal
 
 pub add_facts-requires-clause-types : goal.add_facts-requires-clause-types
 add_facts-requires-clause-types c = types_up c.args.terms.now c.add_instances.new.terms c.args.cond.now c.in_ok-add_instances.ensures.stays c.requires.types
+
+pub add_products-requires-clause-known : goal.add_products-requires-clause-known
+add_products-requires-clause-known c =
+    known_stays c.args.terms.now c.add_facts.new.terms c.args.known.now (stays_on c.args.terms.now c.add_instances.new.terms c.add_facts.new.terms c.in_ok-add_instances.ensures.stays c.in_ok-add_facts.ensures.stays) c.requires.known
 
 pub returns-clause-value : goal.returns-clause-value
 returns-clause-value c =

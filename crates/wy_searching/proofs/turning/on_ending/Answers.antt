@@ -1,5 +1,6 @@
 use Rattle.std.proofs.Common.{◌∙◌, sym, ap}
 use Rattle.std.specs.Prelude.{option_map}
+use Rattle.wy_bounds.proofs.KnownLemmas.{on_ok_anyway}
 use Rattle.wy_term.specs.Nodes.{tree_at}
 use Rattle.wy_term.specs.Condition.{condition_of}
 use Rattle.wy_bounds.specs.Seen.{seen_ending}
@@ -21,3 +22,6 @@ returns-in-None-clause-value c =
     let p = seen_spot at c.args.spot in
     atom_lacking (tree_at c.on_expansion.new.terms) (condition_of c.args.terms.now c.args.cond.now).types p (seen_spot at c.in_ok-found.found.0) (seen_ending c.args.ending) (next_atom p.node) c.on_expansion.result c.in_ok-found.ensures.seen
     (ap (option_map at) (sym c.in-None.is) ∙ c.in_ok-found.ensures.value) c.on_expansion.ensures.value
+
+pub returns-in-Some-clause-known : goal.returns-in-Some-clause-known
+returns-in-Some-clause-known c = on_ok_anyway _ c.split.result c.requires.known

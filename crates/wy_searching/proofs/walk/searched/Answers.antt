@@ -15,6 +15,7 @@ pub loop-turn-init : goal.loop-turn-init
 loop-turn-init c = record {
   reaches = reach_first (condition_of c.args.terms.now c.args.cond.now) c.args.budget c.in_ok-walk.walk.leaves (map (seen_spot (tree_at c.args.terms.now)) c.in_ok-walk.walk.spots.items) c.in_ok-walk.ensures.leaves c.in_ok-walk.ensures.spots;
   walk = c.in_ok-walk.ensures.walk c.args.budget;
+  known = c.no_forms-known.ensures c.args.terms.now;
   stays = stays_same c.args.terms.now;
 }
 
@@ -54,5 +55,6 @@ loop-turn-preserved c =
           (subst (λ (es : List Entry). Leads (tree.one_turn es c.args.budget n ps) (tree_at new) (turned.GoesOn next)) same so)
           c.loop-turn.invariant.reaches;
       walk = subst (IsTurnedOver new c.args.budget) c.in-GoesOn.is c.in_ok-verdict.ensures.walk;
+      known = c.in_ok-verdict.ensures.known;
       stays = stays_on old now new c.loop-turn.invariant.stays c.in_ok-verdict.ensures.stays;
     }

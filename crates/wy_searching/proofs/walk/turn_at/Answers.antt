@@ -1,4 +1,5 @@
 use Rattle.std.proofs.Common.{◌∷◌, map}
+use Rattle.wy_bounds.proofs.KnownLemmas.{on_ok_anyway}
 use Rattle.wy_term.specs.Nodes.{tree_at}
 use Rattle.wy_term.specs.Condition.{condition_of}
 use Rattle.wy_search.specs.Tree as tree
@@ -26,3 +27,6 @@ returns-clause-value c =
     leads_by c.behind.result (tree_at now) (tree.follows (tree.next types p) c.args.leaves p left) (tree.one_turn types c.args.budget c.args.leaves (p ∷ rest))
     (turn_follows types c.args.budget c.args.leaves p rest left c.if-leaves-budget.false (spots_stay old now c.args.spots.items c.in_ok-next.ensures.stays c.requires.spots))
     (c.behind.ensures.value p (tree.next types p) c.in_ok-next.ensures.value)
+
+pub returns-clause-known : goal.returns-clause-known
+returns-clause-known c = on_ok_anyway _ c.behind.result c.in_ok-next.ensures.known

@@ -1,6 +1,6 @@
 use Rattle.std.proofs.Common.{arith}
 use Rattle.wy_bounds.proofs.TakingLemmas.{first_now, first_later, first_never}
-use Rattle.wy_bounds.proofs.removal.first_with.Goals as goal
+use Rattle.wy_bounds.proofs.firsts.first_with.Goals as goal
 
 pub returns-then-m-l : goal.returns-then-m-l
 returns-then-m-l c = first_now c.args.labels.now c.loop-m.m-index c.args.l c.loop-m.found _ c.loop-m-test.true c.if-m-l.true c.loop-m.invariant
