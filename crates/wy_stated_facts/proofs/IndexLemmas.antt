@@ -1,20 +1,20 @@
 -- Which terms stand as an index.
-use Rattle.std.proofs.Common.{◌≡◌, ◌∙◌, ◌≤◌, ◌+◌, ◌||◌, ◌&&◌, ℕ, zero, suc, Some, drop, length, arith, List, [], ◌∷◌, ◌++◌, map, take, Bool, true, false, not, cond, refl, subst, sym, ap, ap₂, append_assoc}
-use Rattle.wy_stated_facts.specs.Indices.{catches, chosen_by, indexes, indexes_in, is_index_of, open_of}
+use Rattle.std.proofs.Common.{◌≡◌, ◌∙◌, ◌≤◌, ◌<◌, ◌+◌, ◌||◌, ◌&&◌, ℕ, zero, suc, Option, None, Some, drop, length, arith, List, [], ◌∷◌, ◌++◌, map, take, Bool, true, false, not, cond, eqb, refl, subst, sym, ap, ap₂, append_assoc}
+use Rattle.wy_stated_facts.specs.Indices.{AreNoted, Notes, WillBeNoted, catches, chosen_by, indexes, indexes_in, is_index_of, is_numbered, open_of}
 use Rattle.wy_judge.specs.Node.{has_formula}
 use Rattle.std.proofs.lemmas.List.{append-nil}
-use Rattle.std.specs.Prelude.{slice_get}
+use Rattle.std.specs.Prelude.{slice_get, IfSome}
 use Rattle.wy_judging.specs.Seen.{seen_formula, seen_literal, signed}
 use Rattle.wy_search.specs.Expansion.{among, index_at, indices_in, only_int}
 use Rattle.wy_search.specs.Standing.{Standing, all_parts, below, bound_by, have_common, in_formulas, in_literals, of_range, standing_in, standing_in_parts, with_unbound}
 use Rattle.wy_judging.proofs.JudgingLemmas.{below_up}
 use Rattle.wy_judging.specs.Seen.{AreBelow}
 use Rattle.wy_classes.proofs.TaskLemmas.{below_taken}
-use Rattle.wy_splits.proofs.WalkLemmas.{or_assoc, or_none, cond_or}
+use Rattle.wy_splits.proofs.WalkLemmas.{any_over-last, or_assoc, or_none, cond_or}
 use Rattle.wy_splits.specs.Free.{is_among, stands_free}
 use Rattle.wy_splits.specs.Walk.{any_first, any_over}
 use Rattle.wy_classes.proofs.BoundLemmas.{none_common}
-use Rattle.wy_term.proofs.SameLemmas.{terms_are, terms_self}
+use Rattle.wy_term.proofs.SameLemmas.{eqb_self, terms_are, terms_self}
 use Rattle.wy_term.specs.declared.node.Node.{Node}
 use Rattle.wy_term.specs.declared.node.Node.TheVariants as node
 use Rattle.wy_term.specs.Nodes.{grown, parts_at, plain}
@@ -290,3 +290,98 @@ index_end at us ps i made whole le so = sym (append-nil made) ∙ sym (ap (λ (q
 pub open_below : (m n : ℕ) (b : Bool) (ks js : List ℕ) → m ≤ n → AreBelow m ks → js ≡ open_of b ks → AreBelow n js
 open_below m n true ks js le below is = below_taken n 2 ks js (below_up m n ks le below) is
 open_below m n false ks js le below is = subst (AreBelow n) (sym is) (below_up m n ks le below)
+
+-- ---- what may be an index
+
+or_true : (a b : Bool) → b ≡ true → (a || b) ≡ true
+or_true true b e = refl
+or_true false b e = e
+
+or_left : (a b : Bool) → a ≡ true → (a || b) ≡ true
+or_left true b e = refl
+or_left false b e = absurd cc
+
+or_cases : (a b : Bool) {P : Type 0} → (a || b) ≡ true → (a ≡ true → P) → (b ≡ true → P) → P
+or_cases true b e f g = f refl
+or_cases false b e f g = g e
+
+over_front : (test : ℕ → Bool) (m : ℕ) (ks : List ℕ) → any_over test (take m ks) ≡ true → any_over test ks ≡ true
+over_front test zero ks e = absurd cc
+over_front test (suc m) [] e = absurd cc
+over_front test (suc m) (k ∷ ks) e = or_cases (test k) (any_over test (take m ks)) e (or_left (test k) (any_over test ks)) (λ f. or_true (test k) (any_over test ks) (over_front test m ks f))
+
+over_open : (test : ℕ → Bool) (caught : Bool) (ks : List ℕ) → any_over test (open_of caught ks) ≡ true → any_over test ks ≡ true
+over_open test true ks e = over_front test 2 ks e
+over_open test false ks e = e
+
+pub notes_one : (before after : ℕ → Bool) (i : ℕ) → ((t : ℕ) → after t ≡ cond (eqb i t) true (before t)) → Notes before after i
+notes_one before after i puts = record { here = puts i ∙ ap (λ (b : Bool). cond b true (before i)) (eqb_self i); kept = λ t e. puts t ∙ by (eqb i t) (before t) e }
+  where
+    by : (b c : Bool) → c ≡ true → cond b true c ≡ true
+    by true c e = refl
+    by false c e = e
+
+numbered : (at : ℕ → Term) (n t : ℕ) (o : Option ℕ) (after : ℕ → Bool) → ((i j : ℕ) → i < n → j < n → at i ≡ at j → i ≡ j) → t < n → IfSome o (λ i. i < n) → IfSome o (λ i. after i ≡ true) → is_numbered at o (at t) ≡ true → after t ≡ true
+numbered at n t None after once lt within noted e = absurd cc
+numbered at n t (Some i) after once lt within noted e = ap after (sym (once i t within lt (terms_are (at i) (at t) e))) ∙ noted
+
+-- a term whose index is noted, and whose parts are to be looked at
+pub note_one : (at : ℕ → Term) (n k : ℕ) (node : Node) (o : Option ℕ) (before after : ℕ → Bool) (ks old new : List ℕ) (ss : List Standing) → ((i j : ℕ) → i < n → j < n → at i ≡ at j → i ≡ j) → at k ≡ grown at (plain node)
+    → ((t : Term) → is_index_of t (at k) ≡ is_numbered at o t) → IfSome o (λ i. i < n) → IfSome o (λ i. after i ≡ true) → ((t : ℕ) → before t ≡ true → after t ≡ true) → ks ≡ (plain node).parts
+    → ((test : ℕ → Bool) → any_over test new ≡ (any_over test ks || any_over test old)) → WillBeNoted at n before (k ∷ old) ss → WillBeNoted at n after new ss
+note_one at n k node o before after ks old new ss once is told within noted kept parts put will = record { each = each }
+  where
+    later : (t : ℕ) → any_over (indexes at (at t)) new ≡ true → (after t || any_over (indexes at (at t)) new) ≡ true
+    later t e = or_true (after t) (any_over (indexes at (at t)) new) e
+
+    here : (t : ℕ) → t < n → indexes at (at t) k ≡ true → (after t || any_over (indexes at (at t)) new) ≡ true
+    here t lt e =
+        let test = indexes at (at t) in
+        let open_ones = open_of (catches (at t) (plain node).symbol) (plain node).parts in
+        or_cases (is_index_of (at t) (at k)) (any_over test open_ones) (sym (indexes_by_parts at (at t) k node is) ∙ e)
+        (λ f. or_left (after t) (any_over test new) (numbered at n t o after once lt within noted (sym (told (at t)) ∙ f)))
+        (λ f. later t (put test ∙ or_left (any_over test ks) (any_over test old) (ap (any_over test) parts ∙ over_open test (catches (at t) (plain node).symbol) (plain node).parts f)))
+
+    each : (t : ℕ) → t < n → indexes_in (at t) ss ≡ true → (after t || any_over (indexes at (at t)) new) ≡ true
+    each t lt e =
+        let test = indexes at (at t) in
+        or_cases (before t) (test k || any_over test old) (will.each t lt e) (λ f. or_left (after t) (any_over test new) (kept t f))
+        (λ f. or_cases (test k) (any_over test old) f (here t lt) (λ g. later t (put test ∙ or_true (any_over test ks) (any_over test old) g)))
+
+pub none_noted : (at : ℕ → Term) (n : ℕ) (noted : ℕ → Bool) (todo : List ℕ) (ss : List Standing) → ((t : Term) → any_over (indexes at t) todo ≡ indexes_in t ss) → WillBeNoted at n noted todo ss
+none_noted at n noted todo ss all = record { each = λ t lt e. or_true (noted t) (any_over (indexes at (at t)) todo) (all (at t) ∙ e) }
+
+-- the greatest one is taken
+pub last_taken : (at : ℕ → Term) (n k : ℕ) (noted : ℕ → Bool) (old new : List ℕ) (ss : List Standing) → old ≡ new ++ k ∷ [] → WillBeNoted at n noted old ss → WillBeNoted at n noted (k ∷ new) ss
+last_taken at n k noted old new ss is will = record { each = λ t lt e. ap (λ (b : Bool). noted t || b) (sym (any_over-last (indexes at (at t)) old new k is)) ∙ will.each t lt e }
+
+pub below_front : (n : ℕ) (old new : List ℕ) (k : ℕ) → old ≡ new ++ k ∷ [] → AreBelow n old → AreBelow n new
+below_front n old new k is low = go new (subst (AreBelow n) is low)
+  where
+    go : (ks : List ℕ) → AreBelow n (ks ++ k ∷ []) → AreBelow n ks
+    go [] all i d lt = absurd (omega (arith, lt))
+    go (j ∷ js) all zero d lt = all 0 d (omega arith)
+    go (j ∷ js) all (suc i) d lt = go js (λ m e l. all (suc m) e (omega (arith, l))) i d (omega (arith, lt))
+
+pub none_left : (ks : List ℕ) → (0 < length ks → ⊥) → ks ≡ []
+none_left [] few = refl
+none_left (k ∷ ks) few = absurd (few (omega arith))
+
+pub all_noted : (at : ℕ → Term) (n : ℕ) (noted : ℕ → Bool) (todo : List ℕ) (ss : List Standing) → todo ≡ [] → WillBeNoted at n noted todo ss → AreNoted at n noted ss
+all_noted at n noted todo ss none will = record {
+  each = λ t lt e. sym (or_none (noted t)) ∙ ap (λ (ks : List ℕ). noted t || any_over (indexes at (at t)) ks) (sym none) ∙ will.each t lt e;
+}
+
+-- a term that isn't noted is no index
+pub un_noted : (at : ℕ → Term) (n t : ℕ) (noted : ℕ → Bool) (ss : List Standing) → t < n → noted t ≡ false → AreNoted at n noted ss → indexes_in (at t) ss ≡ false
+un_noted at n t noted ss lt un are = by (indexes_in (at t) ss) refl
+  where
+    by : (b : Bool) → indexes_in (at t) ss ≡ b → b ≡ false
+    by false e = refl
+    by true e = let up : noted t ≡ true = are.each t lt e in absurd cc
+
+pub not_chosen : (t : Term) (ss : List Standing) (names : List Term) → is_int t ≡ true → has_formula names t ≡ false → indexes_in t ss ≡ false → false ≡ chosen_by ss names t
+not_chosen t ss names int un none =
+    sym (ap (λ (b : Bool). cond b (cond (has_formula names t) true (indexes_in t ss)) false) int
+    ∙ ap (λ (b : Bool). cond b true (indexes_in t ss)) un
+    ∙ none)

@@ -1,11 +1,12 @@
 -- Which terms stand as an index without bound names.
-use Rattle.std.specs.Prelude.{ℕ, List, [], ◌∷◌, Bool, true, false, ◌&&◌, ◌||◌, not, take, if◌then◌else◌}
+use Rattle.std.specs.Prelude.{◌≡◌, ◌<◌, ℕ, List, [], ◌∷◌, Bool, true, false, ◌&&◌, ◌||◌, not, take, Option, Some, None, if◌then◌else◌}
 use Rattle.wy_term.specs.Term.{Symbol, Term, Of, no_parts, part, get, update, every, exists}
 use Rattle.wy_term.specs.Same.{same_term}
 use Rattle.wy_term.specs.Scope.{free_names}
 use Rattle.wy_judge.specs.Node.{has_formula}
 use Rattle.wy_search.specs.Standing.{Standing, have_common, standing_in}
 use Rattle.wy_splits.specs.Free.{stands_free}
+use Rattle.wy_splits.specs.Walk.{any_over}
 use Rattle.wy_valid.specs.Ranges.{is_int}
 
 -- the second part of a `get` or an `upd` is this term
@@ -36,3 +37,21 @@ indexes at t k = indexes_in t (standing_in (at k))
 -- an Int term, which is an index at one of these places or one of these names
 abbrev pub chosen_by : List Standing → List Term → Term → Bool
 chosen_by ss names t = if is_int t then (if has_formula names t then true else indexes_in t ss) else false
+
+-- the term is the one with this number
+abbrev pub is_numbered : (ℕ → Term) → Option ℕ → Term → Bool
+is_numbered at None t = false
+is_numbered at (Some i) t = same_term (at i) t
+
+-- the number is noted, and what was noted before
+pub record Notes (before after : ℕ → Bool) (i : ℕ) : Type 0 where
+  pub here : after i ≡ true
+  pub kept : (t : ℕ) → before t ≡ true → after t ≡ true
+
+-- each of the first n terms that is an index at one of these places is noted, or is one in what is still to be looked at
+pub record WillBeNoted (at : ℕ → Term) (n : ℕ) (noted : ℕ → Bool) (todo : List ℕ) (ss : List Standing) : Type 0 where
+  pub each : (t : ℕ) → t < n → indexes_in (at t) ss ≡ true → (noted t || any_over (indexes at (at t)) todo) ≡ true
+
+-- each of the first n terms that is an index at one of these places is noted
+pub record AreNoted (at : ℕ → Term) (n : ℕ) (noted : ℕ → Bool) (ss : List Standing) : Type 0 where
+  pub each : (t : ℕ) → t < n → indexes_in (at t) ss ≡ true → noted t ≡ true

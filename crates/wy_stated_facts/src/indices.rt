@@ -1,18 +1,19 @@
 //! The Int terms that are an index.
-ghost use Rattle.std.specs.Prelude.{◌≡◌, ◌<◌, ◌||◌, ◌++◌, [], ◌∷◌, length, map, IfOk, OnOk};
+ghost use Rattle.std.specs.Prelude.{◌≡◌, ◌<◌, ◌||◌, ◌++◌, [], ◌∷◌, List, nat_eq, length, map, IfOk, IfSome, OnOk};
+ghost use Rattle.std.specs.HashSet.{contains};
 ghost use Rattle.wy_facts.specs.Seen.{AreBelow};
-ghost use Rattle.wy_stated_facts.specs.Indices.{catches, chosen_by, indexes, indexes_in, is_index_of, open_of};
+ghost use Rattle.wy_stated_facts.specs.Indices.{AreNoted, Notes, WillBeNoted, catches, chosen_by, indexes, indexes_in, is_index_of, is_numbered, open_of};
 ghost use Rattle.wy_judge.specs.Node.{has_formula};
 ghost use Rattle.wy_judging.specs.Seen.{IsBranch, seen_branch, seen_formula};
 ghost use Rattle.wy_search.specs.Expansion as search;
-ghost use Rattle.wy_search.specs.Standing.{standing, with_unbound};
+ghost use Rattle.wy_search.specs.Standing.{Standing, standing, with_unbound};
 ghost use Rattle.wy_splits.specs.Walk.{any_over};
 ghost use Rattle.wy_term.specs.Nodes.{plain, tree_at};
 ghost use Rattle.wy_term.specs.Term.{Term};
 ghost use Rattle.wy_valid.specs.Ranges.{is_int};
 
 use crate::todo::{put_all, put_members};
-use std::collections::BTreeSet;
+use std::collections::{BTreeSet, HashSet};
 use wy_classes::standing;
 use wy_judging::{Branch, pending_at};
 use wy_splits::is_free;
@@ -121,6 +122,67 @@ fn is_index(terms: &Terms, branch: &Branch, t: u32) -> Result<bool, NoMemory>
     Err(NoMemory)
 }
 
+// ---- what may be an index
+
+// The index of a `get` or an `upd`.
+fn index_of(terms: &Terms, k: u32) -> Option<u32>
+    requires { k < length terms.now }
+    ensures value { (t : Term) → is_index_of t (tree_at terms.now k) ≡ is_numbered (tree_at terms.now) result t }
+    ensures within { IfSome result (λ i. i < length terms.now) }
+{
+    match terms.node(k) {
+        Node::Get(_, i) => Some(*i),
+        Node::Update(_, i, _) => Some(*i),
+        _ => None,
+    }
+}
+
+// Notes a number.
+fn note(noted: &mut HashSet<u32>, i: u32) -> Result<(), NoMemory>
+    ensures { OnOk result (Notes (contains nat_eq noted.old) (contains nat_eq noted.new) i) }
+{
+    noted.insert(i)?;
+    Ok(())
+}
+
+// Notes the index of a term, whose parts are to be looked at.
+fn note_index(
+    terms: &Terms,
+    k: u32,
+    noted: &mut HashSet<u32>,
+    todo: &mut BTreeSet<u32>,
+) -> Result<(), NoMemory>
+    requires whole { k < length terms.now }
+    requires todo { AreBelow (length terms.now) todo.old.keys }
+    ensures told { (ss : List Standing) → WillBeNoted (tree_at terms.now) (length terms.now) (contains nat_eq noted.old) (k ∷ todo.old.keys) ss → OnOk result (WillBeNoted (tree_at terms.now) (length terms.now) (contains nat_eq noted.new) todo.new.keys ss) }
+    ensures todo { OnOk result (AreBelow (length terms.now) todo.new.keys) }
+{
+    terms.one_number_for_each_term();
+    let node = terms.node(k);
+    let parts = parts_of(terms.allocator(), node)?;
+    put_all(todo, &parts)?;
+    match index_of(terms, k) {
+        Some(i) => note(noted, i),
+        None => Ok(()),
+    }
+}
+
+// The numbers of the terms that are an index in the node, with bound names or without, each by one look at it.
+fn noted_indices(terms: &Terms, branch: &Branch) -> Result<HashSet<u32>, NoMemory>
+    requires { IsBranch terms.now branch.now }
+    ensures { IfOk result (λ s. AreNoted (tree_at terms.now) (length terms.now) (contains nat_eq s) (search.everything (seen_branch (tree_at terms.now) branch.now))) }
+{
+    let mut noted = HashSet::new(terms.allocator());
+    let mut todo = everything(terms, branch)?;
+    for _turn in 0..u64::MAX {
+        match todo.pop_last() {
+            Some(k) => note_index(terms, k, &mut noted, &mut todo)?,
+            None => return Ok(noted),
+        }
+    }
+    Err(NoMemory)
+}
+
 // ---- the terms
 
 // Whether a term is one of these.
@@ -137,9 +199,16 @@ fn is_among(terms: &Terms, names: &[u32], t: u32) -> bool
     false
 }
 
-// Whether a term is an Int term, and an index or one of these names.
-fn is_chosen(terms: &Terms, branch: &Branch, names: &[u32], t: u32) -> Result<bool, NoMemory>
+// Whether a term is an Int term, and an index or one of these names, where it is told which terms may be an index.
+fn is_chosen(
+    terms: &Terms,
+    branch: &Branch,
+    noted: &HashSet<u32>,
+    names: &[u32],
+    t: u32,
+) -> Result<bool, NoMemory>
     requires branch { IsBranch terms.now branch.now }
+    requires noted { AreNoted (tree_at terms.now) (length terms.now) (contains nat_eq noted.now) (search.everything (seen_branch (tree_at terms.now) branch.now)) }
     requires names { AreBelow (length terms.now) names.now }
     requires term { t < length terms.now }
     ensures { IfOk result (λ yes. yes ≡ chosen_by (search.everything (seen_branch (tree_at terms.now) branch.now)) (map (tree_at terms.now) names.now) (tree_at terms.now t)) }
@@ -150,6 +219,9 @@ fn is_chosen(terms: &Terms, branch: &Branch, names: &[u32], t: u32) -> Result<bo
     if is_among(terms, names, t) {
         return Ok(true);
     }
+    if !noted.contains(&t) {
+        return Ok(false);
+    }
     is_index(terms, branch, t)
 }
 
@@ -157,12 +229,14 @@ fn is_chosen(terms: &Terms, branch: &Branch, names: &[u32], t: u32) -> Result<bo
 fn push_chosen(
     terms: &Terms,
     branch: &Branch,
+    noted: &HashSet<u32>,
     names: &[u32],
     made: &mut Vec<u32>,
     t: u32,
     holds: bool,
 ) -> Result<(), NoMemory>
     requires branch { IsBranch terms.now branch.now }
+    requires noted { AreNoted (tree_at terms.now) (length terms.now) (contains nat_eq noted.now) (search.everything (seen_branch (tree_at terms.now) branch.now)) }
     requires names { AreBelow (length terms.now) names.now }
     requires made { AreBelow (length terms.now) made.old.items }
     requires term { t < length terms.now }
@@ -172,16 +246,16 @@ fn push_chosen(
     if !holds {
         return Ok(());
     }
-    if !is_chosen(terms, branch, names, t)? {
+    if !is_chosen(terms, branch, noted, names, t)? {
         return Ok(());
     }
     made.push(t)?;
     Ok(())
 }
 
-/// The Int terms that are an index without bound names, or one of these names, by first appearance. For each Int term that
-/// stands in the node it takes time n log n in how many terms the node is made of and their parts, each counted once, and for
-/// each quantifier the time to look for its name in the term.
+/// The Int terms that are an index without bound names, or one of these names, by first appearance. It takes the time of
+/// `standing`, and time n log n in how many terms the node is made of and their parts, each counted once; the latter again for
+/// each different Int term that is an index, and for each quantifier the time to look for its name in that term.
 pub fn index_terms(terms: &Terms, branch: &Branch, names: &[u32]) -> Result<Vec<u32>, NoMemory>
     requires branch { IsBranch terms.now branch.now }
     requires names { AreBelow (length terms.now) names.now }
@@ -189,10 +263,11 @@ pub fn index_terms(terms: &Terms, branch: &Branch, names: &[u32]) -> Result<Vec<
     ensures below { IfOk result (λ ts. AreBelow (length terms.now) ts.items) }
 {
     let found = standing(terms, branch)?;
+    let noted = noted_indices(terms, branch)?;
     let mut made = Vec::new(terms.allocator());
     for i in 0..found.pending.len() {
         let (t, holds) = pending_at(&found, i);
-        push_chosen(terms, branch, names, &mut made, t, holds)?;
+        push_chosen(terms, branch, &noted, names, &mut made, t, holds)?;
     }
     Ok(made)
 }
