@@ -5,6 +5,6 @@ use Rattle.wy_certifying.proofs.products.push_factors.Goals as goal
 pub sides_of-requires-2-clause-branch : goal.sides_of-requires-2-clause-branch
 sides_of-requires-2-clause-branch c = branch_stays c.args.terms.now c.sides_of.new.terms c.args.branch.now c.in_ok-first.ensures.stays c.requires.branch
 
--- in the first, four products are pushed
-pub returns-in-0-Some-1-Some-clause-known : goal.returns-in-0-Some-1-Some-clause-known
-returns-in-0-Some-1-Some-clause-known c = on_ok c.push_four.result _ c.in_ok-second.ensures.known
+-- where there are two factors, four products are pushed
+pub returns-in-Some-Some-clause-known : goal.returns-in-Some-Some-clause-known
+returns-in-Some-Some-clause-known c = on_ok c.push_four.result _ c.in_ok-second.ensures.known
