@@ -15,7 +15,7 @@ use Rattle.wy_step.specs.Step as step
 use Rattle.wy_step.specs.Step.{Frame, Caller, State, Runs, Ended, Stuck, Effect, GoesOn, GoesTo, Calls, Returns, Fails, effect, stepped, executed, entered, returned, next_of, after}
 use Rattle.wy_mach.specs.declared.machine.Machine.{Machine}
 use Rattle.wy_mach.specs.States.{ShowsState}
-use Rattle.wy_mach.specs.Running.{Reaches, EndsWith, Breaks, Steps, IsDone, HasNoNext, HasTextOf, LeavesResult, ShowsFirst, Spends, Finishes, PrintsFront, IsStuck, next_in}
+use Rattle.wy_mach.specs.Running.{Reaches, EndsWith, Breaks, Steps, IsDone, HasNoNext, HasSteps, HasTextOf, LeavesResult, ShowsFirst, Spends, Finishes, PrintsFront, IsStuck, next_in}
 use Rattle.wy_mach.proofs.StateLemmas.{nothing_taken}
 
 -- the machine shows the state, and the sink took all that was printed; of what has no step nothing is said
@@ -209,10 +209,14 @@ stuck_now code less k first before (Runs fr callers out) none stays =
 stuck_now code less k first before (Ended v out) none stays = absurd stays
 stuck_now code less k first before Stuck none stays = subst IsStuck (sym (after_stuck code less)) tt
 
-pub run_stuck : (code : Code) (old k : Machine) (first before : Option (List ℕ)) (steps left less : ℕ) → left ≡ suc less → Follows code old k first before steps left → HasNoNext (next_in code) k → (st : State) → ShowsFirst old st → IsStuck (after code steps st)
+run_stuck : (code : Code) (old k : Machine) (first before : Option (List ℕ)) (steps left less : ℕ) → left ≡ suc less → Follows code old k first before steps left → HasNoNext (next_in code) k → (st : State) → ShowsFirst old st → IsStuck (after code steps st)
 run_stuck code old k first before steps left less is follows none st shows =
     let here = follows st shows in
     subst IsStuck (sym (here.2 ∙ ap (λ (n : ℕ). after code n here.0) is)) (stuck_now code less k first before here.0 none here.1)
+
+-- where the run lacks no step, something comes behind what the machine shows
+pub comes_next : (code : Code) (old k : Machine) (first before : Option (List ℕ)) (steps left less : ℕ) → left ≡ suc less → Follows code old k first before steps left → HasSteps code old steps → HasNoNext (next_in code) k → ⊥
+comes_next code old k first before steps left less is follows has none = has.2 (run_stuck code old k first before steps left less is follows none has.0 has.1)
 
 pub rose_later : (a b c : ℕ) → a ≤ b → Rose b c → Rose a c
 rose_later a b c later (inl more) = inl (omega arith)

@@ -185,23 +185,31 @@ PrintsFront before after (Runs fr callers out) = TookFront before after out
 PrintsFront before after (Ended v out) = TookFront before after out
 PrintsFront before after Stuck = ⊤
 
+-- there is no next state, though the run hasn't ended
 abbrev pub IsStuck : State → Type 0
 IsStuck (Runs fr callers out) = ⊥
 IsStuck (Ended v out) = ⊥
 IsStuck Stuck = ⊤
+
+-- none of the steps that led to the state was lacking
+abbrev pub LacksNone : State → Type 0
+LacksNone st = IsStuck st → ⊥
 
 -- how a run ended, by the state behind all its steps, and by what the sink had taken and how often it had failed, before and after
 abbrev pub Ran : State → Bool → Option (List ℕ) → Option (List ℕ) → ℕ → ℕ → RunEnd → Type 0
 Ran st wanted before after failed fails (run_end.Done text copies nodes) = Finishes (λ v. HasTextOf wanted text v × ((old : Heap) × LeavesResult old copies nodes v)) before after st
 Ran st wanted before after failed fails run_end.Spent = Spends before after st
 Ran st wanted before after failed fails run_end.OutFault = PrintsFront before after st × Rose failed fails
-Ran st wanted before after failed fails run_end.Stuck = IsStuck st
 
 -- the machine shows the first state of a run
 abbrev pub ShowsFirst : Machine → State → Type 0
 ShowsFirst k (Runs fr callers out) = ShowsState k fr callers × (out ≡ [])
 ShowsFirst k (Ended v out) = ⊥
 ShowsFirst k Stuck = ⊥
+
+-- the machine shows the first state of a run in which none of so many steps is lacking
+abbrev pub HasSteps : Code → Machine → ℕ → Type 0
+HasSteps code k steps = (st : State) × ShowsFirst k st × LacksNone (after code steps st)
 
 abbrev pub Starts : Code → ℕ → List Datum → Machine → Type 0
 Starts code f args k = ShowsFirst k (start code f args)

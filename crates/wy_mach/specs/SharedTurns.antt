@@ -240,7 +240,6 @@ abbrev pub DoneShared : Code → Machine → ℕ → RunEnd → Type 0
 DoneShared code first steps (run_end.Done text copies nodes) = EndsShared code first steps copies nodes
 DoneShared code first steps run_end.Spent = ⊤
 DoneShared code first steps run_end.OutFault = ⊤
-DoneShared code first steps run_end.Stuck = ⊤
 
 -- the same, from a machine that shows the first state of the run and has the first one of the step on shared nodes, at which no copy is counted
 pub record RanShared (code : Code) (entry : ℕ) (args : List Datum) (steps cap : ℕ) (end : RunEnd) : Type 0 where

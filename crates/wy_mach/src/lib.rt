@@ -55,4 +55,5 @@ mod texts;
 mod updating;
 
 pub use laws::runs_are_counted;
+pub use machine::{Machine, Pace, Turn};
 pub use runs::{RunEnd, run};

@@ -6,7 +6,7 @@ ghost use Rattle.wy_value.specs.Values.{AreValues};
 ghost use Rattle.wy_code.specs.declared.routines.Routine.{Routine};
 ghost use Rattle.wy_step.specs.Step.{State, after};
 ghost use Rattle.wy_mach.specs.States.{IsMachine, HasInts};
-ghost use Rattle.wy_mach.specs.Running.{Ran, PrintsFront, ShowsFirst, state_behind};
+ghost use Rattle.wy_mach.specs.Running.{HasSteps, LacksNone, Ran, PrintsFront, ShowsFirst, state_behind};
 ghost use Rattle.wy_mach.specs.SharedTurns.{DoneShared, RanShared};
 
 use crate::machine::{Machine, Pace, Turn};
@@ -30,12 +30,10 @@ pub enum RunEnd {
     Spent,
     /// The sink failed, and counted it. It took a front of what the run prints within the steps.
     OutFault,
-    /// An operand was outside of an instruction's domain.
-    Stuck,
 }
 
-/// Runs a routine of the code on arguments, for at most so many instructions. Each answer comes when all
-/// places of the run are released.
+/// Runs a routine of the code on arguments, for at most so many instructions. None of these is lacking: behind each
+/// the run goes on, or it has ended. Each answer comes when all places of the run are released.
 pub fn run<O: Sink>(
     alloc: Global,
     code: &Code,
@@ -51,6 +49,7 @@ pub fn run<O: Sink>(
     requires entry { (r : Routine) × (slice_get code.now.routines entry ≡ Some r) × (length args.now ≡ r.params) }
     requires args { AreValues (seen_items args.now) }
     requires cap { 1 ≤ cap }
+    requires steps { LacksNone (state_behind code.now entry (map seen args.now) steps) }
     ensures ran { IfOk result (Ran (state_behind code.now entry (map seen args.now) steps) has_result (O.taken out.old) (O.taken out.new) (O.faults out.old) (O.faults out.new)) }
     ensures shared { IfOk result (RanShared code.now entry (map seen args.now) steps cap) }
     ensures no_memory { OnErr result (PrintsFront (O.taken out.old) (O.taken out.new) (state_behind code.now entry (map seen args.now) steps)) }
@@ -64,7 +63,7 @@ pub fn run<O: Sink>(
     end
 }
 
-// makes at most so many instructions
+// makes at most so many instructions, of which none is lacking
 fn turns<O: Sink>(
     machine: &mut Machine,
     code: &Code,
@@ -72,6 +71,7 @@ fn turns<O: Sink>(
     out: &mut O,
 ) -> Result<RunEnd, NoMemory>
     requires is { IsMachine code.now machine.old }
+    requires steps { HasSteps code.now machine.old steps }
     ensures is { IsMachine code.now machine.new }
     ensures ran { IfOk result (λ end. (st : State) → ShowsFirst machine.old st → Ran (after code.now steps st) machine.old.has_result (O.taken out.old) (O.taken out.new) (O.faults out.old) (O.faults out.new) end) }
     ensures shared { IfOk result (DoneShared code.now machine.old steps) }
@@ -80,7 +80,7 @@ fn turns<O: Sink>(
 {
     for i in 0..steps {
         let Some(instr) = machine.next(code) else {
-            return Ok(RunEnd::Stuck);
+            unreachable!()
         };
         match instr {
             Instr::Return(from) => match machine.returned(code, *from)? {
@@ -101,18 +101,14 @@ fn turns<O: Sink>(
                 Turn::OutFault => {
                     return Ok(RunEnd::OutFault);
                 }
-                Turn::Stuck => {
-                    return Ok(RunEnd::Stuck);
-                }
+                Turn::Stuck => unreachable!(),
             },
             _ => match machine.turn(code, instr, out) {
                 Pace::Went => {}
                 Pace::OutFault => {
                     return Ok(RunEnd::OutFault);
                 }
-                Pace::Stuck => {
-                    return Ok(RunEnd::Stuck);
-                }
+                Pace::Stuck => unreachable!(),
                 Pace::NoMemory => {
                     return Err(NoMemory);
                 }

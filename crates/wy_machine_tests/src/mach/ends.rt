@@ -1,12 +1,17 @@
 //! How a run of two small routines ends.
-ghost use Rattle.std.specs.Prelude.{IfOk};
+ghost use Rattle.std.specs.Prelude.{◌≡◌, ◌≤◌, Some, IfOk, length, slice_get};
+ghost use Rattle.wy_code.specs.declared.routines.Routine.{Routine};
+ghost use Rattle.wy_mach.specs.States.{HasInts};
 ghost use Rattle.wy_value.specs.Seen.{seen_items};
+ghost use Rattle.wy_value.specs.Shapes.{IsShapes};
 ghost use Rattle.wy_value.specs.Values.{AreValues};
 
 use crate::mach::assembler::{code, number_or};
+use crate::mach::turns::{End, turns};
 use std::alloc::{AllocError, Global};
+use wy_code::Code;
 use wy_items::Items;
-use wy_mach::{RunEnd, run};
+use wy_mach::Machine;
 use wy_port::MemSink;
 use wy_value::{Value, read_values};
 
@@ -51,6 +56,22 @@ fn values(alloc: Global, text: &str) -> Result<Items<Value>, AllocError>
     }
 }
 
+// starts the first routine, and makes turns until they end
+fn ran(alloc: Global, limits: Limits, code: &Code, args: &[Value], out: &mut MemSink) -> End
+    requires table { IsShapes code.now.shapes }
+    requires ints { HasInts code.now }
+    requires entry { (r : Routine) × (slice_get code.now.routines 0 ≡ Some r) × (length args.now ≡ r.params) }
+    requires args { AreValues (seen_items args.now) }
+    requires cap { 1 ≤ limits.cap }
+{
+    let Ok(mut machine) = Machine::start(alloc, code, 0, args, limits.cap, true) else {
+        return End::NoMemory;
+    };
+    let end = turns(&mut machine, code, limits.steps, out);
+    machine.stop();
+    end
+}
+
 /// What a run of two routines prints and ends with, of which the first is the entry: the result's text, copies and nodes.
 pub fn ends(
     alloc: Global,
@@ -71,34 +92,23 @@ pub fn ends(
     let mut fails = Vec::new(alloc);
     fails.push(limits.fail as u64)?;
     let mut sink = MemSink::new(alloc, limits.room as usize, limits.most as usize, fails)?;
-    let end = run(
-        alloc,
-        &code,
-        0,
-        args.as_slice(),
-        limits.steps as u64,
-        limits.cap,
-        true,
-        &mut sink,
-    );
+    let end = ran(alloc, limits, &code, args.as_slice(), &mut sink);
     let printed = String::from_utf8_lossy(alloc, sink.bytes())?;
     match end {
-        Ok(
-            RunEnd::Done {
-                text,
-                copies,
-                nodes,
-            },
-        ) => {
+        End::Done {
+            text,
+            copies,
+            nodes,
+        } => {
             let text = match text {
                 Some(text) => String::from_utf8_lossy(alloc, text.as_slice())?,
                 None => String::new(alloc),
             };
             format!(in alloc; "{printed}> {text} copies {copies} nodes {nodes}")
         }
-        Ok(RunEnd::Spent) => format!(in alloc; "{printed}> spent"),
-        Ok(RunEnd::OutFault) => format!(in alloc; "{printed}> fault"),
-        Ok(RunEnd::Stuck) => format!(in alloc; "{printed}> stuck"),
-        Err(_) => format!(in alloc; "{printed}> no memory"),
+        End::Spent => format!(in alloc; "{printed}> spent"),
+        End::OutFault => format!(in alloc; "{printed}> fault"),
+        End::Stuck => format!(in alloc; "{printed}> stuck"),
+        End::NoMemory => format!(in alloc; "{printed}> no memory"),
     }
 }

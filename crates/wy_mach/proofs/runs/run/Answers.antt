@@ -12,7 +12,7 @@ pub returns-in_default-clause-no_memory : goal.returns-in_default-clause-no_memo
 returns-in_default-clause-no_memory g c = no_front (g.O.Sink.taken c.args.out.now) (state_behind c.args.code.now c.args.entry (map seen c.args.args.now) c.args.steps)
 
 pub turns-end-requires : goal.turns-end-requires
-turns-end-requires g c = record { is = c.in-Ok.ensures.is }
+turns-end-requires g c = record { is = c.in-Ok.ensures.is; steps = (start c.args.code.now c.args.entry (map seen c.args.args.now), c.in-Ok.ensures.starts, c.requires.steps) }
 
 pub stop-requires : goal.stop-requires
 stop-requires g c = record { stands = c.turns-end.ensures.is.stands }

@@ -5,7 +5,7 @@ use Rattle.std.specs.Prelude.{IfOk, OnErr}
 use Rattle.wy_mach.specs.Pacing.{turn_of}
 use Rattle.wy_mach.specs.declared.machine.Pace.{Pace}
 use Rattle.wy_mach.proofs.TurnLemmas.{on_any_err, no_instr}
-use Rattle.wy_mach.proofs.RunLemmas.{follows_first, follows_on, run_done, run_fault, run_front, run_stuck, run_spent, rose_later}
+use Rattle.wy_mach.proofs.RunLemmas.{follows_first, follows_on, run_done, run_fault, run_front, comes_next, run_spent, rose_later}
 use Rattle.wy_mach.specs.SharedTurns.{TurnsShared}
 use Rattle.wy_mach.proofs.SharedTurnLemmas.{along_more, ends_shared}
 use Rattle.wy_mach.proofs.runs.turns.Goals as goal
@@ -61,14 +61,14 @@ loop-i-preserved g c =
       faults = omega (arith, c.turn.ensures.count, c.loop-i.invariant.faults);
     }
 
-pub returns-in_default-clause-ran : goal.returns-in_default-clause-ran
-returns-in_default-clause-ran g c st shows =
+pub unreachable-requires : goal.unreachable-requires
+unreachable-requires g c =
     let code = c.args.code.now in
     let old = c.loop-i.machine in
     let steps = c.args.steps in
     let i = c.loop-i.i in
     let less : steps - i ≡ suc (steps - (i + 1)) = omega (arith, c.loop-i-test.true) in
-    run_stuck code c.args.machine.now old (g.O.Sink.taken c.args.out.now) (g.O.Sink.taken c.loop-i.out) steps (steps - i) (steps - (i + 1)) less c.loop-i.invariant.follows (no_instr code old (sym c.in_default.ensures.value)) st shows
+    comes_next code c.args.machine.now old (g.O.Sink.taken c.args.out.now) (g.O.Sink.taken c.loop-i.out) steps (steps - i) (steps - (i + 1)) less c.loop-i.invariant.follows c.requires.steps (no_instr code old (sym c.in_default.ensures.value))
 
 pub returns-in-Done-clause-ran : goal.returns-in-Done-clause-ran
 returns-in-Done-clause-ran g c st shows =
@@ -100,8 +100,8 @@ returns-in-OutFault-clause-ran g c st shows =
       rose_later (g.O.Sink.faults c.args.out.now) failed failed c.loop-i.invariant.faults turned.1,
     )
 
-pub returns-in-Stuck-clause-ran : goal.returns-in-Stuck-clause-ran
-returns-in-Stuck-clause-ran g c st shows =
+pub unreachable-in-Stuck-requires : goal.unreachable-in-Stuck-requires
+unreachable-in-Stuck-requires g c =
     let code = c.args.code.now in
     let old = c.loop-i.machine in
     let new = c.returned.new.self in
@@ -112,7 +112,7 @@ returns-in-Stuck-clause-ran g c st shows =
     let failed = g.O.Sink.faults c.loop-i.out in
     let less : steps - i ≡ suc (steps - (i + 1)) = omega (arith, c.loop-i-test.true) in
     let turned = (subst (Turned (next_in code) old new before before failed failed) c.in-Stuck.is (c.in_ok-returned-in-Return.ensures.turned before failed)) in
-    run_stuck code c.args.machine.now old first before steps (steps - i) (steps - (i + 1)) less c.loop-i.invariant.follows turned.0 st shows
+    comes_next code c.args.machine.now old first before steps (steps - i) (steps - (i + 1)) less c.loop-i.invariant.follows c.requires.steps turned.0
 
 pub returns-in-OutFault-turn-clause-ran : goal.returns-in-OutFault-turn-clause-ran
 returns-in-OutFault-turn-clause-ran g c st shows =
@@ -132,8 +132,8 @@ returns-in-OutFault-turn-clause-ran g c st shows =
       rose_later (g.O.Sink.faults c.args.out.now) failed fails c.loop-i.invariant.faults turned.1,
     )
 
-pub returns-in-Stuck-turn-clause-ran : goal.returns-in-Stuck-turn-clause-ran
-returns-in-Stuck-turn-clause-ran g c st shows =
+pub unreachable-in-Stuck-turn-requires : goal.unreachable-in-Stuck-turn-requires
+unreachable-in-Stuck-turn-requires g c =
     let code = c.args.code.now in
     let old = c.loop-i.machine in
     let new = c.turn.new.self in
@@ -146,7 +146,7 @@ returns-in-Stuck-turn-clause-ran g c st shows =
     let now = g.O.Sink.taken c.turn.new.out in
     let fails = g.O.Sink.faults c.turn.new.out in
     let turned = (subst (λ (p : Pace). IfOk (turn_of p) (Turned (next_in code) old new before now failed fails)) c.in-Stuck-turn.is c.turn.ensures.turned) in
-    run_stuck code c.args.machine.now old first before steps (steps - i) (steps - (i + 1)) less c.loop-i.invariant.follows turned.0 st shows
+    comes_next code c.args.machine.now old first before steps (steps - i) (steps - (i + 1)) less c.loop-i.invariant.follows c.requires.steps turned.0
 
 pub returns-in_err-returned-in-Return-clause-no_memory : goal.returns-in_err-returned-in-Return-clause-no_memory
 returns-in_err-returned-in-Return-clause-no_memory g c =
