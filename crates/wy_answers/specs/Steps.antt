@@ -3,7 +3,7 @@ use Rattle.std.specs.Prelude.{◌≡◌, ◌≢◌, ◌⊎◌, ◌≤◌, ℕ, L
 use Rattle.wy_port.specs.Count.{Rose}
 use Rattle.wy_port.specs.Told.{Told}
 use Rattle.wy_port.specs.Told.Told.{Unknown}
-use Rattle.wy_answers.specs.Texts.{load_failed, not_certified, machine_stuck}
+use Rattle.wy_answers.specs.Texts.{load_failed, not_certified}
 use Rattle.wy_answers.specs.Answers.{refused, no_memory}
 use Rattle.wy_answers.specs.declared.answer.Answer.{Answer}
 
@@ -79,11 +79,10 @@ abbrev pub EndsOutside : {X : Type 0} → Setting → Came X → Type 0
 EndsOutside s (Ok x) = ⊥
 EndsOutside s (Err a) = IsOutside s a
 
--- an answer in place of which another one may be due: one from outside; or, as was never seen, that a condition whose search closed got no certificate, or that the machine found no step
+-- an answer in place of which another one may be due: one from outside; or, as was never seen, that a condition whose search closed got no certificate
 pub data IsFree (s : Setting) (a : Answer) : Type 0 where
   from_outside : IsOutside s a → IsFree s a
   uncertified : a ≡ refused 13 not_certified → IsFree s a
-  stuck : a ≡ refused 13 machine_stuck → IsFree s a
 
 abbrev pub EndsFree : {X : Type 0} → Setting → Came X → Type 0
 EndsFree s (Ok x) = ⊥

@@ -31,7 +31,3 @@ load_text name NoMemory = []
 -- the search closed each branch of a condition, and no certificate was made of it
 abbrev pub not_certified : List ℕ
 not_certified = codes "wy: found and not certified\n"
-
--- the machine found no step
-abbrev pub machine_stuck : List ℕ
-machine_stuck = codes "wy: machine stuck\n"

@@ -1,7 +1,7 @@
 -- The commands that run programs, put together.
 use Rattle.std.proofs.Common.{◌≡◌, ◌⊎◌, inl, inr, ℕ, List, Bool, Ok, Err, sym, ap, subst}
 use Rattle.wy_answers.specs.Showing.{Shown, Sinks}
-use Rattle.wy_answers.specs.Steps.{Came, EndsFree, EndsOutside, Follows, IsFree, IsOutside, Setting, answer_in, ends, failed, from_outside, goes_on, memory, stated, stuck, uncertified}
+use Rattle.wy_answers.specs.Steps.{Came, EndsFree, EndsOutside, Follows, IsFree, IsOutside, Setting, answer_in, ends, failed, from_outside, goes_on, memory, stated, uncertified}
 use Rattle.wy_answers.specs.declared.answer.Answer.{Answer}
 use Rattle.wy_big.specs.Source.{argument_text, entry}
 use Rattle.wy_running.specs.Running.{state_of}
@@ -34,7 +34,6 @@ free_else : (s : Setting) (a : Answer) → IsFree s a → IsElse a.status
 unfolding status_of
 free_else s a (from_outside o) = outside_else s a o
 free_else s a (uncertified e) = inr (inr (inr (ap status_of e)))
-free_else s a (stuck e) = inr (inr (inr (ap status_of e)))
 
 shown_else : (s : Setting) (a : Answer) (status : ℕ) (k : Sinks) → IsFree s a → Shown a status k → IsElse status
 shown_else s a status k free (inl w) = subst IsElse (sym w.answer) (free_else s a free)

@@ -26,6 +26,4 @@ shows_run e lines wanted asked steps (Runs fr callers output) status k h (code.s
 shows_run e lines wanted asked steps (Ended v output) status k h (code.sink_failed five rose took err) = sink_failed five rose (took_of_run e wanted steps k.out_before k.out_after (Ended v output) h took) err
 shows_run e lines wanted asked steps (Runs fr callers output) status k h (code.no_memory nine took err) = no_memory nine (took_of_run e wanted steps k.out_before k.out_after (Runs fr callers output) h took) err
 shows_run e lines wanted asked steps (Ended v output) status k h (code.no_memory nine took err) = no_memory nine (took_of_run e wanted steps k.out_before k.out_after (Ended v output) h took) err
-shows_run e lines wanted asked steps (Runs fr callers output) status k h (code.stuck thirteen is err) = absurd is
-shows_run e lines wanted asked steps (Ended v output) status k h (code.stuck thirteen is err) = absurd is
 shows_run e lines wanted asked steps Stuck status k h shown = absurd h

@@ -6,15 +6,19 @@ use Rattle.wy_answers.specs.declared.answer.Answer.{Answer}
 use Rattle.wy_cert.specs.Steps.{Certificates}
 use Rattle.wy_core.specs.CoreTree.{Routine, routines_of}
 use Rattle.wy_eval_expressions.specs.Settings.{here}
+use Rattle.wy_mach.specs.Running.{LacksNone}
 use Rattle.wy_running.specs.Running.{state_of}
 use Rattle.wy_running.specs.Starting.{Starts}
 use Rattle.wy_running.specs.declared.parts.Start.{Start}
 use Rattle.wy_sem.specs.Evaluation.{Declared, callee}
 use Rattle.wy_shown_conditions.specs.Certified.{AllHold}
+use Rattle.wy_simulated_programs.specs.Programs.{IsStuck}
 use Rattle.wy_sound_runs.specs.Runs.{RunsRightly}
+use Rattle.wy_step.specs.Step.{State, Runs, Ended, Stuck}
 use Rattle.wy_accepted_runs.proofs.AcceptedLemmas.{sources_rightly}
 use Rattle.wy_supplied.specs.Certificates.{certificates}
 use Rattle.wy_top.specs.Acceptance.{Acceptance, IsAccepted, accepts_file, accepts_source}
+use Rattle.wy_top.specs.Going.{AcceptedRunsGo}
 use Rattle.wy_top.specs.Launching.{run_steps}
 use Rattle.wy_top.specs.Owed.{Owes}
 use Rattle.wy_top.specs.Programs.{Program, conditions_of, count_of}
@@ -81,3 +85,15 @@ pub right_run : (s : Setting) (cert : List ℕ) (budget : ℕ) (bytes : List ℕ
 right_run s cert budget bytes a h name arguments start st =
     sources_rightly here bytes a.program.core a.program.flow h.owes.program h.holds start.code st.code start.entry st.routine start.args
     (callee_at (routines_of a.program.core) start.entry st.routine st.entry.there) st.values st.met.met
+
+-- ---- no step is lacking
+
+lacks_none : (st : State) → (IsStuck st → ⊥) → LacksNone st
+lacks_none (Runs fr callers output) goes = λ no. no
+lacks_none (Ended v output) goes = λ no. no
+lacks_none Stuck goes = λ is. goes tt
+
+pub accepted_go : AcceptedRunsGo
+accepted_go bytes core flow program holds name arguments start st steps =
+    let run = sources_rightly here bytes core flow program holds start.code st.code start.entry st.routine start.args (callee_at (routines_of core) start.entry st.routine st.entry.there) st.values st.met.met in
+    lacks_none (state_of start steps) (run.goes steps)

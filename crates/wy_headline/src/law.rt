@@ -26,7 +26,7 @@ pub fn big_runs_are_right()
     ensures right { LargeRunsAreRight }
 {}
 
-/// Whatever the words, no call says that the machine found no step: status 13 comes of the command `prove` alone, for a condition
+/// Whatever the words, a run never lacks a step: status 13 comes of the command `prove` alone, for a condition
 /// that was found and not certified, and for nothing else.
 pub fn the_machine_never_sticks()
     ensures never { NeverSticks }

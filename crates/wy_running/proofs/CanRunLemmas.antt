@@ -16,7 +16,7 @@ use Rattle.wy_core.specs.CoreTree.{Core, Routine, aliases_of, routines_of}
 use Rattle.wy_formed.specs.Literals.{IsInt}
 use Rattle.wy_mach.specs.States.{HasInts}
 use Rattle.wy_mach.specs.Showing.{IsNoInt}
-use Rattle.wy_running.specs.Running.{CanRun}
+use Rattle.wy_running.specs.Running.{CanRun, Goes}
 use Rattle.wy_running.specs.Starting.{Starts}
 use Rattle.wy_running.specs.declared.parts.Start.{Start}
 use Rattle.wy_running.proofs.MeetingLemmas.{met_count}
@@ -57,8 +57,8 @@ body_at c [] more f r e = absurd (no-some r None refl e)
 body_at c (s ∷ rs) more zero r e = ap (λ x. Some (body_routine c x)) (some-is s r e)
 body_at c (s ∷ rs) more (suc f) r e = body_at c rs more f r e
 
-pub starts_can : (core : Core ℕ) (name arguments : List ℕ) (s : Start) → IsLoadable (code_of core) → Starts core name arguments s → CanRun s
-starts_can core name arguments s load st =
+pub starts_can : (core : Core ℕ) (name arguments : List ℕ) (s : Start) → IsLoadable (code_of core) → Starts core name arguments s → Goes s → CanRun s
+starts_can core name arguments s load st goes =
     let c = context_of core in
     let body = body_routine c st.routine in
     let there : slice_get (code_of core).routines s.entry ≡ Some body = body_at c (routines_of core) (type_routines c (aliases_of core)) s.entry st.routine st.entry.there in
@@ -67,4 +67,5 @@ starts_can core name arguments s load st =
       ints = subst HasInts (sym st.code) (has_ints (code_of core) load.ints);
       entry = (body, subst (λ (code : Code). slice_get code.routines s.entry ≡ Some body) (sym st.code) there, met_count core name s.entry st.routine st.entry s.args st.met.met);
       args = st.values;
+      goes = goes;
     }

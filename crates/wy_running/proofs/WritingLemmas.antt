@@ -77,7 +77,6 @@ closes_so wanted text copies nodes before middle after first failed fails st (Do
     subst (λ m. Finished wanted m n before after st) (sym closes.0) (subst (λ m. Finished wanted copies m before after st) (sym closes.1) (all_written wanted text copies nodes before middle after st h closes.2))
 closes_so wanted text copies nodes before middle after first failed fails st end.Spent later h closes = absurd closes
 closes_so wanted text copies nodes before middle after first failed fails st OutFault later h closes = (front_written wanted text copies nodes before middle after st h closes.0, later_rose first failed fails later closes.1)
-closes_so wanted text copies nodes before middle after first failed fails st end.Stuck later h closes = absurd closes
 
 -- the second write failed
 pub err_front : {A E : Type 0} (r : Result A E) (before middle after : Option (List ℕ)) (a b : List ℕ) → middle ≡ with_taken before a → OnErr r (TookFront middle after b) → OnErr r (TookFront before after (a ++ b))

@@ -13,19 +13,28 @@ use Rattle.wy_code.specs.declared.routines.Routine.{Routine}
 use Rattle.wy_step.specs.Step as step
 use Rattle.wy_step.specs.Step.{State, Ended}
 use Rattle.wy_mach.specs.States.{HasInts}
-use Rattle.wy_mach.specs.Running.{IsStuck, LeavesResult, Spends, state_behind}
+use Rattle.wy_mach.specs.Running.{LacksNone, LeavesResult, Spends, state_behind}
 use Rattle.wy_running.specs.declared.parts.Start.{Start}
 use Rattle.wy_running.specs.declared.end.RunEnd.{RunEnd}
-use Rattle.wy_running.specs.declared.end.RunEnd.TheVariants.{Done, Spent, OutFault, Stuck}
+use Rattle.wy_running.specs.declared.end.RunEnd.TheVariants.{Done, Spent, OutFault}
 
 -- ---- what can run
 
--- the table of the code is one of shapes, its numbers are `int`s, the entry takes so many arguments, and these are values
+-- the state behind so many steps of what a start has
+abbrev pub state_of : Start → ℕ → State
+state_of s steps = state_behind s.code s.entry (map seen s.args) steps
+
+-- its run never lacks a step: behind any number of them it goes on, or it has ended
+abbrev pub Goes : Start → Type 0
+Goes s = (steps : ℕ) → LacksNone (state_of s steps)
+
+-- the table of the code is one of shapes, its numbers are `int`s, the entry takes so many arguments, these are values, and the run never lacks a step
 pub record CanRun (s : Start) : Type 0 where
   pub table : IsShapes s.code.shapes
   pub ints : HasInts s.code
   pub entry : (r : Routine) × (slice_get s.code.routines s.entry ≡ Some r) × (length s.args ≡ r.params)
   pub args : AreValues (seen_items s.args)
+  pub goes : Goes s
 
 -- ---- what is written
 
@@ -57,11 +66,6 @@ abbrev pub EndsSo : Bool → State → Option (List ℕ) → Option (List ℕ) �
 EndsSo wanted st before after failed fails (Done copies nodes) = Finished wanted copies nodes before after st
 EndsSo wanted st before after failed fails Spent = Spends before after st
 EndsSo wanted st before after failed fails OutFault = WritesFront wanted before after st × Rose failed fails
-EndsSo wanted st before after failed fails Stuck = IsStuck st
-
--- the state behind so many steps of what a start has
-abbrev pub state_of : Start → ℕ → State
-state_of s steps = state_behind s.code s.entry (map seen s.args) steps
 
 -- so ends a run of what a start has, for so many steps
 abbrev pub RunsTo : Start → ℕ → Option (List ℕ) → Option (List ℕ) → ℕ → ℕ → RunEnd → Type 0
@@ -79,4 +83,3 @@ abbrev pub Closes : Option (Vec ℕ Global) → ℕ → ℕ → Option (List ℕ
 Closes text copies nodes before after failed fails (Done c n) = (c ≡ copies) × (n ≡ nodes) × (after ≡ with_taken before (closing text))
 Closes text copies nodes before after failed fails Spent = ⊥
 Closes text copies nodes before after failed fails OutFault = TookFront before after (closing text) × Rose failed fails
-Closes text copies nodes before after failed fails Stuck = ⊥

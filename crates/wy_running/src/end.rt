@@ -10,6 +10,4 @@ pub enum RunEnd {
     Spent,
     /// The sink failed, and counted it. It took a front of what the run writes.
     OutFault,
-    /// An operand was outside of an instruction's domain.
-    Stuck,
 }

@@ -3,11 +3,11 @@ ghost use Rattle.std.specs.Prelude.{ℕ, List};
 ghost use Rattle.wy_code_ints.specs.Loadable.{IsLoadable};
 ghost use Rattle.wy_compiled.specs.Programs.{code_of};
 ghost use Rattle.wy_core.specs.CoreTree.{Core};
-ghost use Rattle.wy_running.specs.Running.{CanRun};
+ghost use Rattle.wy_running.specs.Running.{CanRun, Goes};
 ghost use Rattle.wy_running.specs.Starting.{Starts};
 ghost use Rattle.wy_running.specs.declared.parts.Start.{Start};
 
-/// Where the code of a program is such as a machine takes, so is each start of it.
+/// Where the code of a program is such as a machine takes, so is each start of it whose run never lacks a step.
 pub fn starts_can_run()
-    ensures can { (core : Core ℕ) → (name : List ℕ) → (arguments : List ℕ) → (s : Start) → IsLoadable (code_of core) → Starts core name arguments s → CanRun s }
+    ensures can { (core : Core ℕ) → (name : List ℕ) → (arguments : List ℕ) → (s : Start) → IsLoadable (code_of core) → Starts core name arguments s → Goes s → CanRun s }
 {}

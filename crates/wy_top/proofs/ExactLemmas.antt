@@ -1,7 +1,7 @@
 -- Why nothing else comes than what is due.
 use Rattle.std.proofs.Common.{◌≡◌, ◌⊎◌, ℕ, List, Bool, Ok, Err, inl, inr, sym, ap, subst}
 use Rattle.wy_answers.specs.Showing.{ShowsWhole, Shown, Sinks}
-use Rattle.wy_answers.specs.Steps.{Came, EndsFree, IsFree, IsOutside, Sense, Setting, answer_in, failed, from_outside, memory, stuck, uncertified}
+use Rattle.wy_answers.specs.Steps.{Came, EndsFree, IsFree, IsOutside, Sense, Setting, answer_in, failed, from_outside, memory, uncertified}
 use Rattle.wy_answers.specs.declared.answer.Answer.{Answer}
 use Rattle.wy_words.specs.CommandLine.{check, run, prove, conds, fmt, dis, big}
 use Rattle.wy_top.specs.Exact.{AnswersExactly, DoesExactly, IsElse, ShowsDue}
@@ -23,7 +23,6 @@ by_free : (s : Setting) (a : Answer) → IsFree s a → IsElse a.status
 unfolding status_of
 by_free s a (from_outside o) = by_outside s a o
 by_free s a (uncertified e) = inr (inr (inr (ap status_of e)))
-by_free s a (stuck e) = inr (inr (inr (ap status_of e)))
 
 -- a free answer that is shown
 free_shown : (s : Setting) (a : Answer) (status : ℕ) (k : Sinks) → IsFree s a → Shown a status k → IsElse status

@@ -8,17 +8,17 @@ use Rattle.wy_answers.specs.declared.answer.Answer.{Answer}
 use Rattle.wy_answers.proofs.StepLemmas.{value_gives, refusal_gives}
 use Rattle.wy_answers.proofs.AnswerLemmas.{last_answers, memory_answers}
 use Rattle.wy_big.specs.Source.{source_of}
-use Rattle.wy_mach.specs.Running.{IsStuck, Spends}
+use Rattle.wy_mach.specs.Running.{Spends}
 use Rattle.wy_report.specs.Lines.{steps_spent}
 use Rattle.wy_running.specs.Running.{EndsSo, Finished, written}
 use Rattle.wy_running.specs.declared.end.RunEnd.{RunEnd}
-use Rattle.wy_running.specs.declared.end.RunEnd.TheVariants.{Done, Spent, OutFault, Stuck}
+use Rattle.wy_running.specs.declared.end.RunEnd.TheVariants.{Done, Spent, OutFault}
 use Rattle.wy_step.specs.Step as step
 use Rattle.wy_step.specs.Step.{State, Ended, Frame, Caller}
 use Rattle.wy_value.specs.Datum.{Datum}
 use Rattle.wy_top.specs.Large.{IsLine, finishes_in, head, large_name, makes, makes_one}
 use Rattle.wy_top.specs.declared.launching.Launch.{Launch}
-use Rattle.std.specs.Prelude.{codes, ⊤}
+use Rattle.std.specs.Prelude.{codes}
 
 -- ---- the source
 
@@ -76,17 +76,11 @@ spent_answers s functions conditions l (step.Runs fr callers output) before afte
 spent_answers s functions conditions l (Ended v output) before after a h refusal = absurd h
 spent_answers s functions conditions l step.Stuck before after a h refusal = stuck_answers s functions conditions l a
 
-pub lost_answers : (s : Setting) (functions conditions : ℕ) (l : Launch) (st : State) (a : Answer) → IsStuck st → Answers s (finishes_in functions conditions l st) a
-lost_answers s functions conditions l (step.Runs fr callers output) a h = absurd h
-lost_answers s functions conditions l (Ended v output) a h = absurd h
-lost_answers s functions conditions l step.Stuck a h = stuck_answers s functions conditions l a
-
 -- the answer that goes with an end of the run, where this was written
 abbrev pub GoesWith : ℕ → ℕ → List ℕ → RunEnd → Answer → Type 0
 GoesWith functions conditions wrote (Done copies nodes) a = IsLine functions conditions wrote a
 GoesWith functions conditions wrote Spent a = IsRefusal 8 steps_spent a
 GoesWith functions conditions wrote OutFault a = a ≡ no_memory
-GoesWith functions conditions wrote Stuck a = ⊤
 
 pub end_answers : (s : Setting) (functions conditions : ℕ) (l : Launch) (st : State) (end : RunEnd) (before : Option (List ℕ)) (wrote : List ℕ) (f g : ℕ) (a : Answer) → before ≡ Some []
     → EndsSo l.start.has_result st before (Some wrote) f g end → GoesWith functions conditions wrote end a → Answers s (finishes_in functions conditions l st) a
@@ -94,4 +88,3 @@ end_answers s functions conditions l st (Done copies nodes) before wrote f g a e
     done_answers s functions conditions l st copies nodes wrote a (subst (λ (b : Option (List ℕ)). Finished l.start.has_result copies nodes b (Some wrote) st) empty ran) goes
 end_answers s functions conditions l st Spent before wrote f g a empty ran goes = spent_answers s functions conditions l st before (Some wrote) a ran goes
 end_answers s functions conditions l st OutFault before wrote f g a empty ran goes = memory_answers s (finishes_in functions conditions l st) a goes
-end_answers s functions conditions l st Stuck before wrote f g a empty ran goes = lost_answers s functions conditions l st a ran

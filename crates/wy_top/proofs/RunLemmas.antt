@@ -3,19 +3,18 @@ use Rattle.std.proofs.Common.{◌≡◌, ◌≤◌, ◌⊎◌, ◌∙◌, ◌++�
 use Rattle.std.proofs.Math.Seq.{take-append-add, take-length}
 use Rattle.std.proofs.lemmas.List.{append-nil, append_assoc, length-append}
 use Rattle.wy_answers.specs.Showing.{sinks}
-use Rattle.wy_answers.specs.Texts.{machine_stuck}
 use Rattle.wy_answers.proofs.LoadLemmas.{rose_within}
 use Rattle.wy_answers.proofs.ShowLemmas.{took_nothing}
-use Rattle.wy_mach.specs.Running.{IsStuck, Spends}
+use Rattle.wy_mach.specs.Running.{Spends}
 use Rattle.wy_port.specs.Count.{Rose}
 use Rattle.wy_port.specs.Taken.{TookFront, with_taken}
 use Rattle.wy_report.specs.Lines.{steps_spent}
 use Rattle.wy_running.specs.Running.{EndsSo, Finished, WritesFront, written}
 use Rattle.wy_running.specs.declared.end.RunEnd.{RunEnd}
-use Rattle.wy_running.specs.declared.end.RunEnd.TheVariants.{Done, Spent, OutFault, Stuck}
+use Rattle.wy_running.specs.declared.end.RunEnd.TheVariants.{Done, Spent, OutFault}
 use Rattle.wy_step.specs.Step as step
 use Rattle.wy_step.specs.Step.{State, Ended}
-use Rattle.wy_top.specs.Runs.{Reports, whole, front, EndsRun, Shows, finished, spends, sink_failed, no_memory, stuck, stats_text}
+use Rattle.wy_top.specs.Runs.{Reports, whole, front, EndsRun, Shows, finished, spends, sink_failed, no_memory, stats_text}
 
 -- ---- texts one behind the other
 
@@ -55,11 +54,6 @@ writes_spent : (wanted : Bool) (before after : Option (List ℕ)) (st : State) �
 writes_spent wanted before after (step.Runs fr callers output) h = took_whole before after output h
 writes_spent wanted before after (Ended v output) h = absurd h
 writes_spent wanted before after step.Stuck h = tt
-
-writes_stuck : (wanted : Bool) (before after : Option (List ℕ)) (st : State) → IsStuck st → WritesFront wanted before after st
-writes_stuck wanted before after (step.Runs fr callers output) h = absurd h
-writes_stuck wanted before after (Ended v output) h = absurd h
-writes_stuck wanted before after step.Stuck h = tt
 
 -- ---- the ends
 
@@ -101,15 +95,9 @@ by_spent : (a : Around) (status : ℕ) → a.err_f ≤ a.err_g → a.err_g ≤ a
 by_spent a status fg gh e h (whole eight took) = spends eight h (whole_behind a.err_before a.err_between a.err_after a.lines steps_spent e took)
 by_spent a status fg gh e h (front five rose took) = broken a status steps_spent fg gh e five rose took (writes_spent a.wanted a.out_before a.out_after a.st h)
 
-by_stuck : (a : Around) (status : ℕ) → a.err_f ≤ a.err_g → a.err_g ≤ a.err_h → a.err_between ≡ with_taken a.err_before a.lines → IsStuck a.st
-    → Reports 13 machine_stuck status a.err_between a.err_after a.err_g a.err_h → ShowsAround a status
-by_stuck a status fg gh e h (whole thirteen took) = stuck thirteen h (whole_behind a.err_before a.err_between a.err_after a.lines machine_stuck e took)
-by_stuck a status fg gh e h (front five rose took) = broken a status machine_stuck fg gh e five rose took (writes_stuck a.wanted a.out_before a.out_after a.st h)
-
 pub ran_ends : (a : Around) (end : RunEnd) (status : ℕ) → a.err_f ≤ a.err_g → a.err_g ≤ a.err_h → a.err_between ≡ with_taken a.err_before a.lines
     → EndsSo a.wanted a.st a.out_before a.out_after a.out_f a.out_g end → EndsRun a.asked end status a.err_between a.err_after a.err_g a.err_h → ShowsAround a status
 ran_ends a (Done copies nodes) status fg gh e ran ends = by_done a status copies nodes fg gh e ran ends
 ran_ends a Spent status fg gh e ran ends = by_spent a status fg gh e ran ends
 ran_ends a OutFault status fg gh e ran ends =
     sink_failed ends.0 (inl ran.1) ran.0 (record { more = []; took = took_whole a.err_before a.err_after (a.lines ++ []) (ends.1 ∙ (e ∙ ap (with_taken a.err_before) (sym (append-nil a.lines)))) })
-ran_ends a Stuck status fg gh e ran ends = by_stuck a status fg gh e ran ends

@@ -12,7 +12,7 @@ use Rattle.wy_assign.specs.Assigned.{IsAssigned}
 use Rattle.wy_conditions.specs.Limits.{most_conditions}
 use Rattle.wy_cert.specs.Steps.{Certificates}
 use Rattle.wy_top.specs.Owed.{Owes, told_by}
-use Rattle.wy_shown_conditions.specs.Certified.{AreFormed}
+use Rattle.wy_shown_conditions.specs.Certified.{AllHold, AreFormed}
 use Rattle.wy_term.specs.Condition.{condition_of}
 use Rattle.wy_term.specs.Nodes.{Plain}
 use Rattle.wy_typing.specs.TypedPrograms.{core_of, flow_of}
@@ -68,10 +68,11 @@ pub record HasVerdicts (p : Program) (certs : Certificates) (budget : ℕ) (j : 
 abbrev pub acceptance_in : Accepted → Acceptance
 acceptance_in a = record { program = record { core = core_of a.typed; flow = flow_of a.typed }; lines = a.lines }
 
--- so many conditions were accepted, of a program of some source
+-- so many conditions were accepted, of a program of some source, and all of them are true
 pub record IsWhole (a : Accepted) : Type 0 where
   pub count : a.count ≡ length (conditions_of (acceptance_in a).program)
   pub source : IsOfSource (acceptance_in a).program
+  pub holds : AllHold (conditions_of (acceptance_in a).program)
 
 -- what is answered behind the save
 abbrev pub answer_in : Proof → Answer

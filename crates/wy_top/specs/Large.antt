@@ -37,7 +37,7 @@ head functions conditions = codes "functions " ++ (decimal functions ++ (codes "
 abbrev pub IsLine : ℕ → ℕ → List ℕ → Answer → Type 0
 IsLine functions conditions wrote a = (a ≡ writes (head functions conditions ++ wrote)) ⊎ (a ≡ no_memory)
 
--- The run ended: behind the front of the line stands what it writes, which is the text of the result and a line end. Or it has no end within its steps. Where the code has no step, as was never seen, nothing is said.
+-- The run ended: behind the front of the line stands what it writes, which is the text of the result and a line end. Or it has no end within its steps. The code lacks no step, so of that nothing is said.
 abbrev pub finishes_in : ℕ → ℕ → Launch → State → Sense → Came Answer → Type 0
 finishes_in functions conditions l (Ended v output) m r = r ≡ Ok (writes (head functions conditions ++ written l.start.has_result output v))
 finishes_in functions conditions l (step.Runs fr callers output) m r = r ≡ Ok (refused 8 steps_spent)

@@ -23,6 +23,8 @@ pub mod Kept
 pub mod Texts
 pub mod Launching
 pub mod Large
+-- what the calls that run programs ask for
+pub mod Going
 -- what sinks and files show of it
 pub mod Runs
 pub mod Saves

@@ -1,14 +1,13 @@
 -- What do the sinks take of a run that started, and which status goes with it?
 use Rattle.std.specs.Prelude.{◌≡◌, ◌⊎◌, ◌++◌, ℕ, List, [], Bool, true, false, Option}
 use Rattle.wy_answers.specs.Showing.{Sinks}
-use Rattle.wy_answers.specs.Texts.{machine_stuck}
-use Rattle.wy_mach.specs.Running.{IsStuck, Spends}
+use Rattle.wy_mach.specs.Running.{Spends}
 use Rattle.wy_port.specs.Count.{Rose}
 use Rattle.wy_port.specs.Taken.{TookFront, with_taken}
 use Rattle.wy_report.specs.Lines.{stats, steps_spent}
 use Rattle.wy_running.specs.Running.{Finished, WritesFront, state_of}
 use Rattle.wy_running.specs.declared.end.RunEnd.{RunEnd}
-use Rattle.wy_running.specs.declared.end.RunEnd.TheVariants.{Done, Spent, OutFault, Stuck}
+use Rattle.wy_running.specs.declared.end.RunEnd.TheVariants.{Done, Spent, OutFault}
 use Rattle.wy_step.specs.Step.{State}
 use Rattle.wy_top.specs.declared.launching.Launch.{Launch}
 
@@ -27,7 +26,6 @@ abbrev pub EndsRun : Bool → RunEnd → ℕ → Option (List ℕ) → Option (L
 EndsRun asked (Done copies nodes) status before after f g = Reports 0 (stats_text asked copies nodes) status before after f g ⊎ ((status ≡ 9) × (after ≡ before))
 EndsRun asked Spent status before after f g = Reports 8 steps_spent status before after f g
 EndsRun asked OutFault status before after f g = (status ≡ 5) × (after ≡ before)
-EndsRun asked Stuck status before after f g = Reports 13 machine_stuck status before after f g
 
 -- the whole text of a run that ended with these counts
 abbrev pub done_text : List ℕ → Bool → ℕ → ℕ → List ℕ
@@ -50,8 +48,6 @@ pub data Shows (lines : List ℕ) (wanted asked : Bool) (st : State) (status : �
       → WritesFront wanted k.out_before k.out_after st → TookOf lines k.err_before k.err_after → Shows lines wanted asked st status k
   -- memory ran out: out took a front of what the run writes
   no_memory : status ≡ 9 → WritesFront wanted k.out_before k.out_after st → k.err_after ≡ with_taken k.err_before lines → Shows lines wanted asked st status k
-  -- the code has no step, as was never seen
-  stuck : status ≡ 13 → IsStuck st → k.err_after ≡ with_taken k.err_before (lines ++ machine_stuck) → Shows lines wanted asked st status k
 
 -- a run of this for so many steps
 abbrev pub Ran : Launch → ℕ → Bool → ℕ → Sinks → Type 0

@@ -79,7 +79,7 @@ fn accept(
 ) -> Result<Accepted, Answer>
     requires each { AreEach judged }
     ensures gives { (s : Setting) → (p : Program) → (certs : Certificates) → AreSortedCertificates certs → HasVerdicts p certs budget judged → Gives s (spec.accepts name.now cert.now bytes.now p certs budget) (came acceptance_in result) }
-    ensures whole { (certs : Certificates) → HasVerdicts (judged_program judged) certs budget judged → IsOfSource (judged_program judged) → IfOk result IsWhole }
+    ensures whole { (certs : Certificates) → AreSortedCertificates certs → HasVerdicts (judged_program judged) certs budget judged → IsOfSource (judged_program judged) → IfOk result IsWhole }
 {
     let lines = match invalid_lines(alloc, cert, &judged.verdicts) {
         Ok(lines) => lines,

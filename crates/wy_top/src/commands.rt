@@ -2,6 +2,7 @@
 ghost use Rattle.std.specs.Prelude.{◌≡◌, ◌≢◌, ◌≤◌, ℕ, List, Some};
 ghost use Rattle.wy_answers.specs.Showing.{sinks};
 ghost use Rattle.wy_answers.specs.Steps.{setting};
+ghost use Rattle.wy_top.specs.Going.{AcceptedRunsGo};
 ghost use Rattle.wy_top.specs.Saves.{saving};
 ghost use Rattle.wy_top.specs.Statement.{Comes, Does, IsKeptBy, saved_name};
 ghost use Rattle.wy_words.specs.CommandLine.{command_of};
@@ -40,7 +41,9 @@ use wy_words::{Words, WordsFault, read_words};
 /// | 8 | the steps are spent |
 /// | 9 | want of memory |
 /// | 11 | the turns of the test of the arguments are spent |
-/// | 13 | a condition was found and not certified, or the machine had no step: never seen |
+/// | 13 | a condition was found and not certified: never seen |
+///
+/// It runs accepted programs alone, and asks that these never lack a step: a law on them stands above this crate.
 pub fn run_words<F: Files, O: Sink, E: Sink>(
     alloc: Global,
     words: &[String],
@@ -48,6 +51,7 @@ pub fn run_words<F: Files, O: Sink, E: Sink>(
     out: &mut O,
     err: &mut E,
 ) -> u8
+    requires { AcceptedRunsGo }
     ensures comes { Comes (words_in words.now)
         (setting (F.told files.old) (F.load_faults files.old) (F.load_faults files.new) (F.misses files.old) (F.misses files.new))
         (saving (F.told files.old (saved_name (command_of (words_in words.now)))) (F.told files.new (saved_name (command_of (words_in words.now)))) (F.save_faults files.old) (F.save_faults files.new))
@@ -78,6 +82,7 @@ fn perform<F: Files, O: Sink, E: Sink>(
     out: &mut O,
     err: &mut E,
 ) -> u8
+    requires { AcceptedRunsGo }
     ensures does { Does (asked_in asked.entry)
         (setting (F.told files.old) (F.load_faults files.old) (F.load_faults files.new) (F.misses files.old) (F.misses files.new))
         (saving (F.told files.old (saved_name (Some (asked_in asked.entry)))) (F.told files.new (saved_name (Some (asked_in asked.entry)))) (F.save_faults files.old) (F.save_faults files.new))

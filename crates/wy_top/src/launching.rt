@@ -5,6 +5,7 @@ ghost use Rattle.wy_top.specs.Kept.{IsWhole, acceptance_in};
 ghost use Rattle.wy_answers.specs.Calls.{AnswersFault};
 ghost use Rattle.wy_answers.specs.Steps.{During, Gives, Setting};
 ghost use Rattle.wy_running.specs.Running.{CanRun};
+ghost use Rattle.wy_top.specs.Going.{AcceptedRunsGo};
 ghost use Rattle.wy_top.specs.Launching as spec;
 
 use crate::accepting::{Accepted, accept_file};
@@ -91,7 +92,8 @@ pub fn launched(
     name: &str,
     arguments: &str,
 ) -> Result<Launch, Answer>
-    requires { IsWhole accepted }
+    requires whole { IsWhole accepted }
+    requires goes { AcceptedRunsGo }
     ensures gives { (s : Setting) → Gives s (spec.starts name.now arguments.now (acceptance_in accepted)) result }
     ensures can { IfOk result (λ l. CanRun l.start) }
 {
@@ -114,6 +116,7 @@ pub fn launch_file<F: Files>(
     budget: u64,
     files: &mut F,
 ) -> Result<Launch, Answer>
+    requires { AcceptedRunsGo }
     ensures gives { During (F.told files.old) (F.load_faults files.old) (F.load_faults files.new) (F.misses files.old) (F.misses files.new) (λ s. Gives s (spec.run_steps s source.now cert.now name.now arguments.now budget) result) }
     ensures can { IfOk result (λ l. CanRun l.start) }
     ensures kept { (other : List ℕ) → F.told files.new other ≡ F.told files.old other }

@@ -4,6 +4,7 @@ ghost use Rattle.std.specs.String.{string_bytes};
 ghost use Rattle.wy_top.specs.Kept.{IsWhole, acceptance_in};
 ghost use Rattle.wy_answers.specs.Steps.{Answers, During, Gives, Setting};
 ghost use Rattle.wy_running.specs.Running.{CanRun};
+ghost use Rattle.wy_top.specs.Going.{AcceptedRunsGo};
 ghost use Rattle.wy_top.specs.Large as spec;
 
 use crate::accepting::{Accepted, accept_source};
@@ -73,14 +74,14 @@ fn finished(alloc: Global, functions: u32, conditions: u32, steps: u64, launch: 
         Ok(RunEnd::Done { .. }) => line(alloc, functions, conditions, out.bytes()),
         Ok(RunEnd::Spent) => refusal(alloc, 8, String::from_str(alloc, steps_spent())),
         Ok(RunEnd::OutFault) => no_memory(alloc),
-        Ok(RunEnd::Stuck) => refusal(alloc, 13, String::from_str(alloc, "wy: machine stuck\n")),
         Err(_) => no_memory(alloc),
     }
 }
 
 // The answer of the run of the accepted program.
 fn run_large(alloc: Global, functions: u32, seed: u32, steps: u64, accepted: Accepted) -> Answer
-    requires { IsWhole accepted }
+    requires whole { IsWhole accepted }
+    requires goes { AcceptedRunsGo }
     ensures answers { (s : Setting) → Answers s (spec.runs functions seed steps (acceptance_in accepted)) result }
 {
     let text = match argument_text(alloc, seed) {
@@ -104,7 +105,8 @@ fn accept_large<F: Files>(
     source: &[u8],
     files: &mut F,
 ) -> Answer
-    requires { length source.now < 2 ^ 32 }
+    requires within { length source.now < 2 ^ 32 }
+    requires goes { AcceptedRunsGo }
     ensures answers { During (F.told files.old) (F.load_faults files.old) (F.load_faults files.new) (F.misses files.old) (F.misses files.new) (λ s. Answers s (spec.accepts_and_runs s functions seed budget steps source.now) result) }
     ensures kept { (other : List ℕ) → F.told files.new other ≡ F.told files.old other }
     ensures load_count { F.load_faults files.old ≤ F.load_faults files.new }
@@ -126,6 +128,7 @@ fn large_of<F: Files>(
     steps: u64,
     files: &mut F,
 ) -> Answer
+    requires { AcceptedRunsGo }
     ensures answers { During (F.told files.old) (F.load_faults files.old) (F.load_faults files.new) (F.misses files.old) (F.misses files.new) (λ s. Answers s (spec.big_steps s functions seed budget steps) result) }
     ensures kept { (other : List ℕ) → F.told files.new other ≡ F.told files.old other }
     ensures load_count { F.load_faults files.old ≤ F.load_faults files.new }
@@ -166,6 +169,7 @@ pub fn large<F: Files>(
     steps: u64,
     files: &mut F,
 ) -> Answer
+    requires { AcceptedRunsGo }
     ensures answers { During (F.told files.old) (F.load_faults files.old) (F.load_faults files.new) (F.misses files.old) (F.misses files.new) (λ s. Answers s (spec.big_steps s functions seed budget steps) result) }
     ensures kept { (other : List ℕ) → F.told files.new other ≡ F.told files.old other }
     ensures load_count { F.load_faults files.old ≤ F.load_faults files.new }

@@ -47,7 +47,6 @@ fn ended<E: Sink>(alloc: Global, end: RunEnd, asked: bool, err: &mut E) -> u8
         },
         RunEnd::Spent => report(err, steps_spent().as_bytes(), 8),
         RunEnd::OutFault => SINK_FAILED,
-        RunEnd::Stuck => report(err, b"wy: machine stuck\n", 13),
     }
 }
 

@@ -100,8 +100,8 @@ returns-in-OutFault-clause-ran g c st shows =
       rose_later (g.O.Sink.faults c.args.out.now) failed failed c.loop-i.invariant.faults turned.1,
     )
 
-pub unreachable-in-Stuck-requires : goal.unreachable-in-Stuck-requires
-unreachable-in-Stuck-requires g c =
+pub unreachable-requires-in-Stuck : goal.unreachable-requires-in-Stuck
+unreachable-requires-in-Stuck g c =
     let code = c.args.code.now in
     let old = c.loop-i.machine in
     let new = c.returned.new.self in
@@ -132,8 +132,8 @@ returns-in-OutFault-turn-clause-ran g c st shows =
       rose_later (g.O.Sink.faults c.args.out.now) failed fails c.loop-i.invariant.faults turned.1,
     )
 
-pub unreachable-in-Stuck-turn-requires : goal.unreachable-in-Stuck-turn-requires
-unreachable-in-Stuck-turn-requires g c =
+pub unreachable-requires-in-Stuck-turn : goal.unreachable-requires-in-Stuck-turn
+unreachable-requires-in-Stuck-turn g c =
     let code = c.args.code.now in
     let old = c.loop-i.machine in
     let new = c.turn.new.self in

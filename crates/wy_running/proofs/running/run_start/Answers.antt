@@ -1,9 +1,14 @@
-use Rattle.std.proofs.Common.{List, map, subst}
-use Rattle.wy_mach.specs.Running.{Ran, state_behind}
+use Rattle.std.proofs.Common.{List, map, subst, sym}
+use Rattle.wy_mach.specs.Running.{LacksNone, Ran, state_behind}
 use Rattle.wy_value.specs.Seen.{seen}
 use Rattle.wy_value.specs.declared.value.Value.{Value}
 use Rattle.wy_running.specs.Running.{state_of}
 use Rattle.wy_running.proofs.running.run_start.Goals as goal
+
+pub run-requires-clause-steps : goal.run-requires-clause-steps
+run-requires-clause-steps g c =
+    let s = c.args.start.now in
+    subst (λ (vs : List Value). LacksNone (state_behind s.code s.entry (map seen vs) c.args.steps)) (sym c.as_slice-args.ensures) (c.requires.goes c.args.steps)
 
 pub returns-in-Ok-clause-runs : goal.returns-in-Ok-clause-runs
 returns-in-Ok-clause-runs g c =

@@ -6,7 +6,9 @@ use Rattle.wy_top.specs.Refusals.{invalid_lines, refusal_lines}
 use Rattle.wy_top.specs.Seen.{known}
 use Rattle.wy_top.specs.Acceptance.{accepts, are_closed}
 use Rattle.wy_top.specs.Kept.{judged_program}
+use Rattle.wy_top.specs.Programs.{conditions_of}
 use Rattle.wy_top.proofs.AcceptLemmas.{accepted_gives, unproved_gives}
+use Rattle.wy_top.proofs.ShownLemmas.{closed_is_true}
 use Rattle.wy_top.proofs.accepting.accept.Goals as goal
 
 pub returns-in-Err-clause-gives : goal.returns-in-Err-clause-gives
@@ -30,6 +32,8 @@ returns-clause-gives c = λ s p certs sorted h.
     (accepted_gives s c.args.name.now c.args.cert.now c.args.bytes.now p certs c.args.budget (record { program = judged_program c.args.judged; lines = c.in-Ok.lines.items }) vs sorted h.formed h.known closed h.program lines)
 
 pub returns-clause-whole : goal.returns-clause-whole
-returns-clause-whole c = λ certs h source.
+returns-clause-whole c = λ certs sorted h source.
+    let vs = c.args.judged.verdicts.items in
     let count : c.len-count.result ≡ length c.args.judged.conds.list.items = search rules in
-    record { count = count ∙ h.count; source = source }
+    let closed : are_closed (map known vs) ≡ true = search rules in
+    record { count = count ∙ h.count; source = source; holds = closed_is_true certs c.args.budget 1 (conditions_of (judged_program c.args.judged)) (map known vs) sorted h.formed h.known closed }

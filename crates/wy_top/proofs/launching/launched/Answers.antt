@@ -15,9 +15,13 @@ returns-in-Ok-clause-gives c = λ s.
 
 pub returns-in-Ok-clause-can : goal.returns-in-Ok-clause-can
 returns-in-Ok-clause-can c =
-    let source = c.requires.source in
+    let source = c.requires.whole.source in
     let p = (acceptance_in c.args.accepted).program in
-    starts_can p.core c.args.name.now c.as_bytes.result.now c.in-Ok.start (source_loadable source.bytes p.core p.flow source.owes.program) c.in-Ok.ensures.starts
+    let name = c.args.name.now in
+    let arguments = c.as_bytes.result.now in
+    let start = c.in-Ok.start in
+    starts_can p.core name arguments start (source_loadable source.bytes p.core p.flow source.owes.program) c.in-Ok.ensures.starts
+    (c.requires.goes source.bytes p.core p.flow source.owes.program c.requires.whole.holds name arguments start c.in-Ok.ensures.starts)
 
 pub returns-clause-gives : goal.returns-clause-gives
 returns-clause-gives c = λ s.

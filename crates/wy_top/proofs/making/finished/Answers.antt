@@ -37,13 +37,6 @@ returns-in-Ok-OutFault c = record {
       memory_answers s (finishes c.args.functions c.args.conditions c.args.steps c.args.launch.now) c.no_memory-in-Ok-OutFault.result c.no_memory-in-Ok-OutFault.ensures.value;
 }
 
-pub returns-in-Ok-Stuck : goal.returns-in-Ok-Stuck
-returns-in-Ok-Stuck c = record {
-  answers = λ s.
-      end_answers s c.args.functions c.args.conditions c.args.launch.now (state_of c.args.launch.now.start c.args.steps) c.in-Ok-Stuck.field-0 _ c.run_start.new.out.bytes _ _ c.refusal-in-Ok-Stuck.result (ap (λ (k : SinkState). Some k.bytes) c.in-Ok.ensures.value)
-      c.in-Ok-Stuck.ensures.runs (subst (λ (e : RunEnd). GoesWith c.args.functions c.args.conditions c.run_start.new.out.bytes e c.refusal-in-Ok-Stuck.result) (sym c.in-Ok-Stuck.field-0-is) tt);
-}
-
 pub returns : goal.returns
 returns c = record {
   answers = λ s.

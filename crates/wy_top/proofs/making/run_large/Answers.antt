@@ -18,7 +18,7 @@ returns-in-Ok-launched c = record {
       let starting = subst (λ (t : List ℕ). Gives s (starts t (argument_text c.args.seed) a) (Ok c.in-Ok-launched.launch)) c.entry.ensures.value
       (subst (λ (t : List ℕ). Gives s (starts c.entry.result.now t a) (Ok c.in-Ok-launched.launch)) (c.as_str.ensures.value ∙ c.in-Ok.ensures.value) (c.in-Ok-launched.ensures.gives s)) in
       then_answers s (starts entry (argument_text c.args.seed) a) (λ l. finishes c.args.functions (count_of a.program) c.args.steps l) c.in-Ok-launched.launch c.finished.result starting
-      (subst (λ (n : ℕ). Answers s (finishes c.args.functions n c.args.steps c.in-Ok-launched.launch) c.finished.result) c.requires.count (c.finished.ensures.answers s));
+      (subst (λ (n : ℕ). Answers s (finishes c.args.functions n c.args.steps c.in-Ok-launched.launch) c.finished.result) c.requires.whole.count (c.finished.ensures.answers s));
 }
 
 pub returns : goal.returns
