@@ -11,8 +11,9 @@ ghost use Rattle.wy_words.specs.Plain.{words_in};
 use std::alloc::Global;
 use wy_port::{Files, Sink};
 
-/// Does what `words` say, over `files`, and answers the exit status: `run_words` of wy_top, with its promises. What they say of
-/// runs by the steps of the code is said here by the value semantics too.
+/// Does what `words` say, over `files`, and answers the exit status: `run_words` of wy_top, with its promises. That asks that runs
+/// of accepted programs never lack a step, which they don't by the laws of soundness and of code. What it says of runs by the
+/// steps of the code is said here by the value semantics too.
 pub fn run_words<F: Files, O: Sink, E: Sink>(
     alloc: Global,
     words: &[String],
@@ -27,7 +28,7 @@ pub fn run_words<F: Files, O: Sink, E: Sink>(
         result
         (sinks (O.taken out.old) (O.taken out.new) (O.faults out.old) (O.faults out.new) (E.taken err.old) (E.taken err.new) (E.faults err.old) (E.faults err.new)) }
 
-    // An accepted program runs as the value semantics says, and its contract holds of what it gives; the machine never sticks.
+    // An accepted program runs as the value semantics says, and its contract holds of what it gives. Status 13 comes of `prove` alone.
     ensures means { Means (words_in words.now)
         (setting (F.told files.old) (F.load_faults files.old) (F.load_faults files.new) (F.misses files.old) (F.misses files.new))
         result

@@ -16,7 +16,7 @@ use wy_port::{Failed, Sink, write_whole};
 /// The most holders that a node has: at one more it is copied.
 const CAP: u32 = 4_294_967_295;
 
-/// Runs what a start has, which never lacks a step, for at most so many. `out` takes what the program prints as it is printed, and then,
+/// Runs what a start has, for at most so many steps, of which it lacks none. `out` takes what the program prints as it is printed, and then,
 /// where the entry gives a result, its text and a line end. All places of the run are released before the answer.
 pub fn run_start<O: Sink>(
     alloc: Global,

@@ -43,7 +43,7 @@ use wy_words::{Words, WordsFault, read_words};
 /// | 11 | the turns of the test of the arguments are spent |
 /// | 13 | a condition was found and not certified: never seen |
 ///
-/// It runs accepted programs alone, and asks that these never lack a step: a law on them stands above this crate.
+/// It runs accepted programs alone, and asks that these never lack a step.
 pub fn run_words<F: Files, O: Sink, E: Sink>(
     alloc: Global,
     words: &[String],

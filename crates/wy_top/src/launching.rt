@@ -85,7 +85,7 @@ fn fault_answer(alloc: Global, lines: Bytes, name: &str, fault: StartFault) -> A
     )
 }
 
-/// What the run of an accepted program starts with, or the answer of why it doesn't start.
+/// What the run of an accepted program starts with, or the answer of why it doesn't start. What starts never lacks a step.
 pub fn launched(
     alloc: Global,
     accepted: Accepted,
