@@ -16,8 +16,9 @@ use wy_port::{Failed, Sink, write_whole};
 /// The most holders that a node has: at one more it is copied.
 const CAP: u32 = 4_294_967_295;
 
-/// Runs what a start has, for at most so many steps, of which it lacks none. `out` takes what the program prints as it is printed, and then,
-/// where the entry gives a result, its text and a line end. All places of the run are released before the answer.
+/// Runs what a start has, for at most so many steps, of which it lacks none. `out` takes what the program prints as it is
+/// printed, and then, where the entry gives a result, its text and a line end. All places of the run are released before
+/// the answer.
 pub fn run_start<O: Sink>(
     alloc: Global,
     start: &Start,
