@@ -1,5 +1,5 @@
 -- The pending formulas that a literal more can refute, one after the other.
-use Rattle.std.proofs.Common.{◌≡◌, ◌∙◌, ◌+◌, ◌≤◌, ◌&&◌, ◌||◌, ℕ, zero, suc, Bool, true, false, cond, List, [], ◌∷◌, ◌++◌, map, drop, length, Result, Ok, Err, Some, inl, inr, refl, sym, ap, subst, arith}
+use Rattle.std.proofs.Common.{◌≡◌, ◌∙◌, ◌+◌, ◌≤◌, ◌&&◌, ◌||◌, ℕ, zero, suc, Bool, true, false, cond, List, [], ◌∷◌, ◌++◌, map, drop, length, Result, Ok, Err, Some, inl, inr, refl, sym, ap, subst}
 use Rattle.std.specs.Prelude.{slice_get, OnOk}
 use Rattle.wy_classes.proofs.FirstLemmas.{drop_here, drop_end}
 use Rattle.wy_classes.proofs.MoreLemmas.{apart_turned, no_by_sign}

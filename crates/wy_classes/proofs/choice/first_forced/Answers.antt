@@ -1,4 +1,4 @@
-use Rattle.std.proofs.Common.{◌≡◌, ◌∙◌, ◌≤◌, length, arith, ap, option_map, subst}
+use Rattle.std.proofs.Common.{◌∙◌, ◌≤◌, length, arith, ap, option_map, subst}
 use Rattle.wy_classes.proofs.DecidingLemmas.{same_again, same_self, seen_same}
 use Rattle.wy_classes.proofs.NearestLemmas.{below_found, nearest_begin, nearest_end, nearest_next}
 use Rattle.wy_classes.proofs.UnmetLemmas.{within_at}

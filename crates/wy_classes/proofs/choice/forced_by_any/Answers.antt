@@ -1,4 +1,4 @@
-use Rattle.std.proofs.Common.{◌≡◌, ◌∙◌, ap}
+use Rattle.std.proofs.Common.{◌∙◌, ap}
 use Rattle.wy_classes.proofs.NearestLemmas.{forced_by_all}
 use Rattle.wy_classes.proofs.choice.forced_by_any.Goals as goal
 use Rattle.wy_classes.specs.Once.{first_by, undecided}

@@ -1,4 +1,4 @@
-use Rattle.std.proofs.Common.{◌≡◌, ◌<◌, true, inr, length, rules}
+use Rattle.std.proofs.Common.{◌≡◌, true, inr, length, rules}
 use Rattle.wy_classes.proofs.FirstLemmas.{below_at}
 use Rattle.wy_classes.proofs.UnmetLemmas.{part_here}
 use Rattle.wy_classes.proofs.unmet.open_members.Goals as goal
