@@ -1,5 +1,5 @@
 -- Terms that are under way.
-use Rattle.std.proofs.Common.{◌≡◌, ◌∙◌, ◌<◌, ◌≤◌, ◌+◌, ◌⊎◌, inl, inr, ℕ, zero, suc, Bool, true, false, cond, eqb, List, [], ◌∷◌, ◌++◌, map, length, append_assoc, refl, sym, ap, ap₂, subst, arith}
+use Rattle.std.proofs.Common.{◌≡◌, ◌∙◌, ◌<◌, ◌≤◌, ◌+◌, ◌⊎◌, inl, inr, ℕ, Bool, true, false, cond, eqb, List, [], ◌∷◌, ◌++◌, map, length, append_assoc, refl, sym, ap, subst, arith}
 use Rattle.std.proofs.lemmas.List.{append-nil}
 use Rattle.std.proofs.lemmas.Bool.{eqb-true}
 use Rattle.wy_judge.specs.Node.{has_formula}
@@ -14,7 +14,7 @@ use Rattle.wy_classes.specs.declared.task.Task.{Task}
 use Rattle.wy_classes.specs.declared.task.Task.TheVariants.{Visit, Bind, Leave}
 use Rattle.wy_term.specs.Nodes.{Plain, grown, parts_at}
 use Rattle.wy_term.specs.Scope.{free_names}
-use Rattle.wy_term.specs.Term.{Symbol, Term, Of}
+use Rattle.wy_term.specs.Term.{Term}
 
 -- ---- a task that leads to others
 

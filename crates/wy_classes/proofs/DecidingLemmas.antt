@@ -1,18 +1,17 @@
 -- A node with one literal more, what it is judged by, and the node as it was.
-use Rattle.std.proofs.Common.{◌≡◌, ◌∙◌, ◌||◌, ℕ, Bool, true, false, cond, List, [], ◌∷◌, ◌++◌, map, take, length, refl, sym, ap, subst}
+use Rattle.std.proofs.Common.{◌≡◌, ◌∙◌, ℕ, Bool, true, false, cond, List, [], ◌∷◌, ◌++◌, map, take, length, refl, sym, ap, subst}
 use Rattle.wy_judge.specs.Judgement.{of_atom}
 use Rattle.wy_judge.specs.Node.{Literal, Node, has_literal, with_literal}
 use Rattle.wy_judge.specs.declared.verdict.Verdict.{Verdict}
 use Rattle.wy_judge.specs.declared.verdict.Verdict.TheVariants.{Yes, No, Open}
 use Rattle.wy_judging.specs.Seen.{StartsWith, seen_branch, seen_formula, seen_literal}
 use Rattle.wy_judging.specs.declared.branch.Branch.{Branch}
-use Rattle.wy_search.specs.Splitting.{decides, is_open, is_forced}
+use Rattle.wy_search.specs.Splitting.{is_open}
 use Rattle.wy_classes.specs.Once.{SameBranch}
-use Rattle.wy_classes.specs.Reached.{seen_unmet, AreEnough, AreHinted}
+use Rattle.wy_classes.specs.Reached.{AreEnough}
 use Rattle.wy_classes.specs.Unmet.{with_one}
 use Rattle.wy_classes.specs.declared.unmet.Reached.{Reached}
 use Rattle.wy_term.specs.Term.{Term}
-use Rattle.wy_valid.specs.Literals as valid
 
 abbrev literal : Term → Bool → Literal
 literal a holds = record { atom = a; holds = holds }
@@ -52,14 +51,6 @@ node_with node l = record { literals = node.literals ++ l ∷ []; pending = node
 put : (node : Node) (l : Literal) → has_literal node.literals l ≡ false → with_literal node l ≡ node_with node l
 put node l un_so = ap (λ b. cond b node (node_with node l)) un_so
 
--- where these are enough of the pending formulas
-pub decided : (at : ℕ → Term) (node new : Node) (a : Term) (holds up_so : Bool) (us : List Reached) → is_open (of_atom node.literals a) ≡ true → AreEnough at node us → new ≡ with_literal node (literal a holds)
-    → up_so ≡ valid.any_no new.literals (map (seen_unmet at) us) → up_so ≡ decides node a holds
-decided at node new a holds up_so us up enough is answers =
-    answers
-    ∙ ap (λ (m : Node). valid.any_no m.literals (map (seen_unmet at) us)) (is ∙ put node (literal a holds) (absent node.literals a holds up))
-    ∙ enough a holds up
-
 pub literals_more : (node new : Node) (a : Term) (holds : Bool) → is_open (of_atom node.literals a) ≡ true → new ≡ with_literal node (literal a holds) → new.literals ≡ with_one node.literals a holds
 literals_more node new a holds up is = ap (λ (m : Node). m.literals) (is ∙ put node (literal a holds) (absent node.literals a holds up))
 
@@ -83,17 +74,3 @@ same_self b = record { literals = refl; pending = refl }
 
 pub enough_again : (at : ℕ → Term) (b c : Branch) (us : List Reached) → SameBranch b c → AreEnough at (seen_branch at b) us → AreEnough at (seen_branch at c) us
 enough_again at b c us same enough = subst (λ (m : Node). AreEnough at m us) (sym (seen_same at b c same)) enough
-
-pub hinted_again : (at : ℕ → Term) (b c : Branch) (us : List Reached) → SameBranch b c → AreHinted at (seen_branch at b).literals us → AreHinted at (seen_branch at c).literals us
-hinted_again at b c us same hinted = subst (λ (m : Node). AreHinted at m.literals us) (sym (seen_same at b c same)) hinted
-
--- ---- forced atoms
-
-pub not_forced : (node : Node) (a : Term) → is_open (of_atom node.literals a) ≡ false → false ≡ is_forced node a
-not_forced node a un_so = sym (ap (λ b. cond b (decides node a true || decides node a false) false) un_so)
-
-pub forced_first : (node : Node) (a : Term) → is_open (of_atom node.literals a) ≡ true → decides node a true ≡ true → true ≡ is_forced node a
-forced_first node a up up_so = sym (ap (λ b. cond b (decides node a true || decides node a false) false) up ∙ ap (λ b. b || decides node a false) up_so)
-
-pub forced_second : (node : Node) (a : Term) (up_so : Bool) → is_open (of_atom node.literals a) ≡ true → decides node a true ≡ false → up_so ≡ decides node a false → up_so ≡ is_forced node a
-forced_second node a up_so up un_so is = is ∙ sym (ap (λ b. cond b (decides node a true || decides node a false) false) up ∙ ap (λ b. b || decides node a false) un_so)

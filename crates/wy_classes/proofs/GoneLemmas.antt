@@ -1,5 +1,5 @@
 -- Terms that have been gone through.
-use Rattle.std.proofs.Common.{◌≡◌, ◌∙◌, ◌<◌, ◌≤◌, ◌+◌, ◌&&◌, ◌||◌, ◌⊎◌, inl, inr, ℕ, Bool, true, false, cond, List, [], ◌∷◌, ◌++◌, refl, ap, ap₂}
+use Rattle.std.proofs.Common.{◌≡◌, ◌∙◌, ◌&&◌, ◌||◌, Bool, true, false, cond, List, [], ◌∷◌, ◌++◌, refl, ap, ap₂}
 use Rattle.wy_judge.specs.Node.{has_formula}
 use Rattle.wy_search.specs.Standing.{Standing, have_common, standing_in}
 use Rattle.wy_classes.specs.Begun.{has_all, IsGoneThrough}

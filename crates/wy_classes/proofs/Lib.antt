@@ -4,10 +4,12 @@ pub mod OnceLemmas
 pub mod AtomLemmas
 -- what a literal more leaves as it is
 pub mod MoreLemmas
--- pending formulas that aren't judged yes
+-- pending formulas that a literal more can refute
 pub mod UnmetLemmas
 -- one literal more, and back
 pub mod DecidingLemmas
+-- the first atom that is forced
+pub mod NearestLemmas
 -- the first of a list
 pub mod FirstLemmas
 -- names that are bound around a term

@@ -2,19 +2,19 @@
 use Rattle.std.proofs.Common.{◌≡◌, ◌∙◌, ◌&&◌, ◌||◌, ℕ, Option, Some, None, Bool, true, false, cond, List, [], ◌∷◌, ◌++◌, inl, inr, refl, sym, ap, subst}
 use Rattle.std.specs.Bool.{beq}
 use Rattle.std.specs.Prelude.{IfSome}
-use Rattle.wy_classes.specs.Unmet.{meets, with_one, HasOpen, HasTwoOpen, IsPlain, IsSafe, IsSafeBut, StaysOpen}
+use Rattle.wy_classes.specs.Unmet.{is_connective, meets, with_one, HasOpen, HasTwoOpen, IsNeeded, IsOpenPart, IsPlain, IsSafe, IsSafeBut, IsSelfOrOpen, StaysOpen}
 use Rattle.wy_judge.specs.Judgement.{turned, both, either, of_atom, judged, judged_all, judged_any}
-use Rattle.wy_judge.specs.Node.{Literal, has_literal, same_literal}
+use Rattle.wy_judge.specs.Node.{Literal, has_formula, has_literal, same_literal}
 use Rattle.wy_judge.specs.declared.verdict.Verdict.{Verdict}
 use Rattle.wy_judge.specs.declared.verdict.Verdict.TheVariants.{Yes, No, Open}
-use Rattle.wy_search.specs.Splitting.{is_open}
-use Rattle.wy_term.proofs.SameLemmas.{both as both_so, terms_are}
+use Rattle.wy_search.specs.Splitting.{atoms_in, atoms_in_parts, is_open, joined_atoms}
+use Rattle.wy_term.proofs.SameLemmas.{both as both_so, terms_are, terms_self}
 use Rattle.wy_term.specs.Same.{same_term}
 use Rattle.wy_term.specs.Term as term
 use Rattle.wy_judging.specs.Judged.{fails}
 use Rattle.wy_judging.specs.Seen.{signed}
 use Rattle.wy_term.specs.Term.{Term, Of, Parts, no_parts, part, Not}
-use Rattle.wy_valid.specs.Literals.{is_no}
+use Rattle.wy_valid.specs.Literals.{any_no, is_no}
 
 abbrev literal : Term → Bool → Literal
 literal a holds = record { atom = a; holds = holds }
@@ -246,3 +246,114 @@ pub and_safe_but : (at : ℕ → Term) (ls : List Literal) (f : Term) (sign : Bo
 and_safe_but at ls f sign ps None is un_so has = tt
 and_safe_but at ls f sign ps (Some c) is un_so has = subst (λ (b : Bool). IsSafeBut ls (signed f b) (at c)) (sym un_so)
     (λ a holds up apart. ap (λ (t : Term). is_no (turned (judged (with_one ls a holds) t))) is ∙ all_open ls ps (at c) a holds has up apart)
+
+-- ---- formulas that are judged no
+
+no_keeps : (v w : Verdict) → Keeps v w → is_no v ≡ true → is_no w ≡ true
+no_keeps Yes w keeps up = absurd (cc)
+no_keeps No w keeps up = ap is_no keeps
+no_keeps Open w keeps up = absurd (cc)
+
+or_so : (x : Bool) → (x || true) ≡ true
+or_so true = refl
+or_so false = refl
+
+pub still_no : (ls : List Literal) (a : Term) (holds : Bool) (fs : List Term) → is_open (of_atom ls a) ≡ true → any_no ls fs ≡ true → any_no (with_one ls a holds) fs ≡ true
+still_no ls a holds [] up has = absurd (cc)
+still_no ls a holds (f ∷ fs) up has = by (still_no ls a holds fs up) (is_no (judged ls f)) refl has
+  where
+    by : (any_no ls fs ≡ true → any_no (with_one ls a holds) fs ≡ true) → (b : Bool) → is_no (judged ls f) ≡ b → (b || any_no ls fs) ≡ true → (is_no (judged (with_one ls a holds) f) || any_no (with_one ls a holds) fs) ≡ true
+    by rest true e h = ap (λ (x : Bool). x || any_no (with_one ls a holds) fs) (no_keeps (judged ls f) (judged (with_one ls a holds) f) (keeps_judged ls a holds f up) e)
+    by rest false e h = ap (λ (x : Bool). is_no (judged (with_one ls a holds) f) || x) (rest h) ∙ or_so (is_no (judged (with_one ls a holds) f))
+
+-- ---- an atom that doesn't stand in a formula
+
+pub apart_turned : (s t : Term) → same_term s t ≡ false → same_term t s ≡ false
+apart_turned s t apart = by (same_term t s) refl
+  where
+    by : (b : Bool) → same_term t s ≡ b → b ≡ false
+    by false e = refl
+    by true e = let is : same_term s t ≡ true = ap (same_term s) (terms_are t s e) ∙ terms_self s in absurd (cc)
+
+not_joined : (xs ys : List Term) (a : Term) → has_formula (xs ++ ys) a ≡ false → (has_formula xs a ≡ false) × (has_formula ys a ≡ false)
+not_joined [] ys a un_so = (refl, un_so)
+not_joined (x ∷ xs) ys a un_so = by (not_joined xs ys a) (same_term x a) un_so
+  where
+    by : (has_formula (xs ++ ys) a ≡ false → (has_formula xs a ≡ false) × (has_formula ys a ≡ false)) → (b : Bool) → cond b true (has_formula (xs ++ ys) a) ≡ false → (cond b true (has_formula xs a) ≡ false) × (has_formula ys a ≡ false)
+    by rest true e = absurd (cc)
+    by rest false e = rest e
+
+not_alone : (t a : Term) → cond (same_term t a) true false ≡ false → same_term t a ≡ false
+not_alone t a e = by (same_term t a) e
+  where
+    by : (b : Bool) → cond b true false ≡ false → b ≡ false
+    by true h = absurd (cc)
+    by false h = refl
+
+other_kind : (t a : Term) → is_connective t ≡ true → is_connective a ≡ false → same_term t a ≡ false
+other_kind t a up plain = by (same_term t a) refl
+  where
+    by : (b : Bool) → same_term t a ≡ b → b ≡ false
+    by false e = refl
+    by true e = let is : is_connective t ≡ is_connective a = ap is_connective (terms_are t a e) in absurd (cc)
+
+or_no : (x : Bool) → (x || false) ≡ x
+or_no true = refl
+or_no false = refl
+
+apart_has : (ls : List Literal) (a t : Term) (holds h : Bool) → same_term t a ≡ false → has_literal (with_one ls a holds) (literal t h) ≡ has_literal ls (literal t h)
+apart_has ls a t holds h apart =
+    has_more ls (literal a holds) (literal t h) ∙ ap (λ (x : Bool). has_literal ls (literal t h) || (x && beq holds h)) (apart_turned t a apart) ∙ or_no (has_literal ls (literal t h))
+
+apart_atom : (ls : List Literal) (a : Term) (holds : Bool) (t : Term) → same_term t a ≡ false → of_atom (with_one ls a holds) t ≡ of_atom ls t
+apart_atom ls a holds t apart =
+    ap (λ (x : Bool). verdict_by x (has_literal (with_one ls a holds) (literal t false))) (apart_has ls a t holds true apart)
+    ∙ ap (verdict_by (has_literal ls (literal t true))) (apart_has ls a t holds false apart)
+
+mutual
+  apart_judged : (ls : List Literal) (a : Term) (holds : Bool) (f : Term) → is_connective a ≡ false → has_formula (atoms_in f) a ≡ false → judged (with_one ls a holds) f ≡ judged ls f
+  apart_judged ls a holds (Of term.denied no_parts) plain out = apart_atom ls a holds (Of term.denied no_parts) (other_kind (Of term.denied no_parts) a refl plain)
+  apart_judged ls a holds (Of term.denied (part f no_parts)) plain out = ap turned (apart_judged ls a holds f plain (not_joined (atoms_in f) [] a out).0)
+  apart_judged ls a holds (Of term.denied (part f (part g gs))) plain out = apart_atom ls a holds (Of term.denied (part f (part g gs))) (other_kind (Of term.denied (part f (part g gs))) a refl plain)
+  apart_judged ls a holds (Of term.all_of ps) plain out = apart_all ls a holds ps plain out
+  apart_judged ls a holds (Of term.any_of ps) plain out = apart_any ls a holds ps plain out
+  apart_judged ls a holds t plain out = apart_atom ls a holds t (not_alone t a out)
+
+  apart_all : (ls : List Literal) (a : Term) (holds : Bool) (ps : Parts) → is_connective a ≡ false → has_formula (joined_atoms (atoms_in_parts ps)) a ≡ false → judged_all (with_one ls a holds) ps ≡ judged_all ls ps
+  apart_all ls a holds no_parts plain out = refl
+  apart_all ls a holds (part f fs) plain out =
+      let un_so = not_joined (atoms_in f) (joined_atoms (atoms_in_parts fs)) a out in
+      ap (λ (v : Verdict). both v (judged_all (with_one ls a holds) fs)) (apart_judged ls a holds f plain un_so.0) ∙ ap (both (judged ls f)) (apart_all ls a holds fs plain un_so.1)
+
+  apart_any : (ls : List Literal) (a : Term) (holds : Bool) (ps : Parts) → is_connective a ≡ false → has_formula (joined_atoms (atoms_in_parts ps)) a ≡ false → judged_any (with_one ls a holds) ps ≡ judged_any ls ps
+  apart_any ls a holds no_parts plain out = refl
+  apart_any ls a holds (part f fs) plain out =
+      let un_so = not_joined (atoms_in f) (joined_atoms (atoms_in_parts fs)) a out in
+      ap (λ (v : Verdict). either v (judged_any (with_one ls a holds) fs)) (apart_judged ls a holds f plain un_so.0) ∙ ap (either (judged ls f)) (apart_any ls a holds fs plain un_so.1)
+
+-- ---- an `or` and an `and` with a member that is judged open
+
+any_part : (ls : List Literal) (ps : Parts) (m a : Term) (holds : Bool) → IsOpenPart ls ps m → is_connective a ≡ false → has_formula (atoms_in m) a ≡ false → is_no (judged_any (with_one ls a holds) ps) ≡ false
+any_part ls no_parts m a holds has plain out = absurd has
+any_part ls (part f fs) m a holds (inl is) plain out =
+    or_open (judged (with_one ls a holds) f) (judged_any (with_one ls a holds) fs) (ap (judged (with_one ls a holds)) is.0 ∙ apart_judged ls a holds m plain out ∙ is.1)
+any_part ls (part f fs) m a holds (inr rest) plain out = or_rest (judged (with_one ls a holds) f) (judged_any (with_one ls a holds) fs) (any_part ls fs m a holds rest plain out)
+
+all_part : (ls : List Literal) (ps : Parts) (m a : Term) (holds : Bool) → IsOpenPart ls ps m → is_connective a ≡ false → has_formula (atoms_in m) a ≡ false → yes_so (judged_all (with_one ls a holds) ps) ≡ false
+all_part ls no_parts m a holds has plain out = absurd has
+all_part ls (part f fs) m a holds (inl is) plain out =
+    and_open (judged (with_one ls a holds) f) (judged_all (with_one ls a holds) fs) (ap (judged (with_one ls a holds)) is.0 ∙ apart_judged ls a holds m plain out ∙ is.1)
+all_part ls (part f fs) m a holds (inr rest) plain out = and_rest (judged (with_one ls a holds) f) (judged_all (with_one ls a holds) fs) (all_part ls fs m a holds rest plain out)
+
+pub self_needed : (ls : List Literal) (f : Term) (sign : Bool) → fails (judged ls f) sign ≡ false → IsNeeded ls (signed f sign) f
+self_needed ls f sign standing = λ a holds free out. no_by_sign (with_one ls a holds) f sign ∙ ap (λ (v : Verdict). fails v sign) (apart_judged ls a holds f free.0 out) ∙ standing
+
+pub or_needed : (ls : List Literal) (f : Term) (sign : Bool) (ps : Parts) (m : Term) → f ≡ Of term.any_of ps → sign ≡ true → fails (judged ls f) sign ≡ false → IsSelfOrOpen ls f ps m → IsNeeded ls (signed f sign) m
+or_needed ls f sign ps m is up standing (inl e) = subst (IsNeeded ls (signed f sign)) (sym e) (self_needed ls f sign standing)
+or_needed ls f sign ps m is up standing (inr has) = subst (λ (b : Bool). IsNeeded ls (signed f b) m) (sym up)
+    (λ a holds free out. ap (λ (t : Term). is_no (judged (with_one ls a holds) t)) is ∙ any_part ls ps m a holds has free.0 out)
+
+pub and_needed : (ls : List Literal) (f : Term) (sign : Bool) (ps : Parts) (m : Term) → f ≡ Of term.all_of ps → sign ≡ false → fails (judged ls f) sign ≡ false → IsSelfOrOpen ls f ps m → IsNeeded ls (signed f sign) m
+and_needed ls f sign ps m is un_so standing (inl e) = subst (IsNeeded ls (signed f sign)) (sym e) (self_needed ls f sign standing)
+and_needed ls f sign ps m is un_so standing (inr has) = subst (λ (b : Bool). IsNeeded ls (signed f b) m) (sym un_so)
+    (λ a holds free out. ap (λ (t : Term). is_no (turned (judged (with_one ls a holds) t))) is ∙ all_part ls ps m a holds has free.0 out)

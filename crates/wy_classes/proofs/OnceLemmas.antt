@@ -4,11 +4,12 @@ use Rattle.std.specs.List.{list_any}
 use Rattle.wy_judge.specs.Node.{has_formula}
 use Rattle.wy_judging.proofs.NameLemmas.{NamesOnce}
 use Rattle.wy_judging.specs.Seen.{AreBelow}
-use Rattle.wy_search.specs.Splitting.{or_else}
+use Rattle.wy_search.specs.Splitting.{atoms_in, atoms_in_parts, atoms_of, joined_atoms, or_else}
 use Rattle.wy_classes.specs.Once.{first_by, once}
+use Rattle.wy_classes.specs.Unmet.{ArePlain}
 use Rattle.wy_term.proofs.SameLemmas.{terms_are}
 use Rattle.wy_term.specs.Same.{same_term}
-use Rattle.wy_term.specs.Term.{Term}
+use Rattle.wy_term.specs.Term.{Term, Of, Parts, no_parts, part, denied, all_of, any_of}
 
 -- ---- one list behind another
 
@@ -77,6 +78,74 @@ listed_or test done t ts rest false has =
 pub first_once : (test : Term → Bool) (done xs : List Term) → first_by test (once done xs) ≡ or_else (first_by test done) (first_by test xs)
 first_once test done [] = sym (or_none (first_by test done))
 first_once test done (t ∷ ts) = listed_or test done t ts (λ d. first_once test d ts) (has_formula done t) refl
+
+-- ---- which terms are listed
+
+or_no : (x : Bool) → (x || false) ≡ x
+or_no true = refl
+or_no false = refl
+
+has_last : (done : List Term) (x t : Term) → has_formula (done ++ x ∷ []) t ≡ (has_formula done t || same_term x t)
+has_last [] x t = by (same_term x t)
+  where
+    by : (b : Bool) → cond b true false ≡ b
+    by true = refl
+    by false = refl
+has_last (d ∷ ds) x t = by (has_last ds x t) (same_term d t)
+  where
+    by : has_formula (ds ++ x ∷ []) t ≡ (has_formula ds t || same_term x t) → (b : Bool) → cond b true (has_formula (ds ++ x ∷ []) t) ≡ (cond b true (has_formula ds t) || same_term x t)
+    by rest true = refl
+    by rest false = rest
+
+here_already : (d s r : Bool) → (s ≡ true → d ≡ true) → (d || r) ≡ (d || cond s true r)
+here_already true s r h = refl
+here_already false true r h = let e : false ≡ true = h refl in absurd (cc)
+here_already false false r h = refl
+
+here_now : (d s r : Bool) → ((d || s) || r) ≡ (d || cond s true r)
+here_now true s r = refl
+here_now false true r = refl
+here_now false false r = refl
+
+has_or : (done : List Term) (x : Term) (xs : List Term) (t : Term) (b : Bool) → has_formula done x ≡ b → (has_formula (cond b done (done ++ x ∷ [])) t || has_formula xs t) ≡ (has_formula done t || cond (same_term x t) true (has_formula xs t))
+has_or done x xs t true e = here_already (has_formula done t) (same_term x t) (has_formula xs t) (λ s. ap (has_formula done) (sym (terms_are x t s)) ∙ e)
+has_or done x xs t false e = ap (λ (b : Bool). b || has_formula xs t) (has_last done x t) ∙ here_now (has_formula done t) (same_term x t) (has_formula xs t)
+
+pub has_once : (done xs : List Term) (t : Term) → has_formula (once done xs) t ≡ (has_formula done t || has_formula xs t)
+has_once done [] t = sym (or_no (has_formula done t))
+has_once done (x ∷ xs) t = has_once (with_one done x) xs t ∙ has_or done x xs t (has_formula done x) refl
+
+-- ---- that they are atoms
+
+plain_joined : (xs ys : List Term) → ArePlain xs → ArePlain ys → ArePlain (xs ++ ys)
+plain_joined [] ys p q = q
+plain_joined (x ∷ xs) ys p q = (p.0, plain_joined xs ys p.1 q)
+
+mutual
+  plain_atoms : (f : Term) → ArePlain (atoms_in f)
+  plain_atoms (Of denied ps) = plain_parts ps
+  plain_atoms (Of all_of ps) = plain_parts ps
+  plain_atoms (Of any_of ps) = plain_parts ps
+  plain_atoms t = (refl, tt)
+
+  plain_parts : (ps : Parts) → ArePlain (joined_atoms (atoms_in_parts ps))
+  plain_parts no_parts = tt
+  plain_parts (part f fs) = plain_joined (atoms_in f) (joined_atoms (atoms_in_parts fs)) (plain_atoms f) (plain_parts fs)
+
+pub plain_all : (fs : List Term) → ArePlain (atoms_of fs)
+plain_all [] = tt
+plain_all (f ∷ fs) = plain_joined (atoms_in f) (atoms_of fs) (plain_atoms f) (plain_all fs)
+
+plain_once : (done xs : List Term) → ArePlain done → ArePlain xs → ArePlain (once done xs)
+plain_once done [] p q = p
+plain_once done (x ∷ xs) p q = plain_once (with_one done x) xs (by (has_formula done x)) q.1
+  where
+    by : (b : Bool) → ArePlain (cond b done (done ++ x ∷ []))
+    by true = p
+    by false = plain_joined done (x ∷ []) p (q.0, tt)
+
+pub plain_listed : (ts fs : List Term) → ts ≡ once [] (atoms_of fs) → ArePlain ts
+plain_listed ts fs is = subst ArePlain (sym is) (plain_once [] (atoms_of fs) tt (plain_all fs))
 
 -- ---- numbers that name the terms
 

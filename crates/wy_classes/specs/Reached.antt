@@ -1,11 +1,11 @@
 -- What the code's list of formulas that one literal more can refute stands for.
-use Rattle.std.specs.Prelude.{◌≡◌, ◌<◌, ℕ, Bool, true, false, List, [], ◌∷◌, map, Option, Some, None, IfSome}
-use Rattle.wy_classes.specs.Unmet.{with_one, IsSafeBut}
+use Rattle.std.specs.Prelude.{◌≡◌, ◌<◌, ◌≤◌, ◌⊎◌, ◌&&◌, ◌||◌, ℕ, Bool, true, false, List, [], ◌∷◌, Some, slice_get, if◌then◌else◌}
+use Rattle.wy_classes.specs.Once.{undecided}
+use Rattle.wy_classes.specs.Unmet.{with_one, IsFree}
 use Rattle.wy_classes.specs.declared.unmet.Reached.{Reached}
-use Rattle.wy_judge.specs.Judgement.{judged, of_atom}
-use Rattle.wy_judge.specs.Node.{Literal, Node}
+use Rattle.wy_judge.specs.Judgement.{judged}
+use Rattle.wy_judge.specs.Node.{Literal, Node, has_formula}
 use Rattle.wy_judging.specs.Seen.{seen_formula}
-use Rattle.wy_search.specs.Splitting.{is_open}
 use Rattle.wy_term.specs.Same.{same_term}
 use Rattle.wy_term.specs.Term.{Term}
 use Rattle.wy_valid.specs.Literals.{any_no, is_no}
@@ -14,33 +14,49 @@ use Rattle.wy_valid.specs.Literals.{any_no, is_no}
 abbrev pub seen_unmet : (ℕ → Term) → Reached → Term
 seen_unmet at u = seen_formula at (u.formula, u.holds)
 
--- with one literal more of an undecided atom, one of these is judged no exactly where a pending formula of the node is
+-- ---- with one literal more
+
+-- one of these formulas is judged no, beside which the literal's atom stands
+abbrev pub refuted_by : (ℕ → Term) → List Literal → List Reached → Term → Bool → Bool
+refuted_by at ls [] a holds = false
+refuted_by at ls (u ∷ us) a holds = (same_term (at u.by) a && is_no (judged (with_one ls a holds) (seen_unmet at u))) || refuted_by at ls us a holds
+
+-- one is so exactly where a pending formula of the node is judged no
 abbrev pub AreEnough : (ℕ → Term) → Node → List Reached → Type 0
-AreEnough at node us =
-    (a : Term) (holds : Bool) → is_open (of_atom node.literals a) ≡ true → any_no (with_one node.literals a holds) (map (seen_unmet at) us) ≡ any_no (with_one node.literals a holds) node.pending
+AreEnough at node us = (a : Term) (holds : Bool) → IsFree node.literals a → refuted_by at node.literals us a holds ≡ any_no (with_one node.literals a holds) node.pending
 
--- the atom that is named is the only one whose literals refute the formula
-abbrev pub IsHinted : (ℕ → Term) → List Literal → Reached → Type 0
-IsHinted at ls u = IfSome u.by (λ c. IsSafeBut ls (seen_unmet at u) (at c))
+-- the second list has besides what refutes this formula
+abbrev pub Notes : (ℕ → Term) → List Literal → Term → List Reached → List Reached → Type 0
+Notes at ls g old new = (a : Term) (holds : Bool) → IsFree ls a → refuted_by at ls new a holds ≡ (refuted_by at ls old a holds || is_no (judged (with_one ls a holds) g))
 
-abbrev pub AreHinted : (ℕ → Term) → List Literal → List Reached → Type 0
-AreHinted at ls [] = Unit {0}
-AreHinted at ls (u ∷ us) = IsHinted at ls u × AreHinted at ls us
+-- the second list has besides this formula with each atom that stands in both lists of atoms
+abbrev pub NotesShared : (ℕ → Term) → Term → List Term → List Term → List Reached → List Reached → Type 0
+NotesShared at g xs ys old new =
+    (ls : List Literal) (a : Term) (holds : Bool) → refuted_by at ls new a holds ≡ (refuted_by at ls old a holds || ((has_formula xs a && has_formula ys a) && is_no (judged (with_one ls a holds) g)))
 
--- another atom than this one is named
-abbrev pub IsParted : (ℕ → Term) → Option ℕ → Term → Type 0
-IsParted at None a = ⊥
-IsParted at (Some c) a = same_term a (at c) ≡ false
+-- ---- forced atoms
 
--- the formulas in which another atom than this one is named aren't judged no
-abbrev pub AreSpared : (ℕ → Term) → List Literal → Term → List Reached → Type 0
-AreSpared at ls a [] = Unit {0}
-AreSpared at ls a (u ∷ us) = (IsParted at u.by a → is_no (judged ls (seen_unmet at u)) ≡ false) × AreSpared at ls a us
+-- the atom beside the formula is undecided, and one of its values makes the formula judged no
+abbrev pub forces : (ℕ → Term) → Node → Reached → Bool
+forces at node u =
+    if undecided node (at u.by) then is_no (judged (with_one node.literals (at u.by) true) (seen_unmet at u)) || is_no (judged (with_one node.literals (at u.by) false) (seen_unmet at u)) else false
+
+-- the atom is undecided, and one of its values makes a formula judged no beside which it stands
+abbrev pub is_forced_among : (ℕ → Term) → Node → List Reached → Term → Bool
+is_forced_among at node us a = if undecided node a then refuted_by at node.literals us a true || refuted_by at node.literals us a false else false
+
+-- the second place is the first, or that of an atom that the formula forces; the formula forces none that comes before it
+pub record IsNearer (at : ℕ → Term) (node : Node) (ks : List ℕ) (u : Reached) (i j : ℕ) : Type 0 where
+  pub within : j ≤ i
+  pub before : (m k : ℕ) → m < j → slice_get ks m ≡ Some k → is_forced_among at node (u ∷ []) (at k) ≡ false
+  pub here : (j ≡ i) ⊎ ((j < i) × ((k : ℕ) → slice_get ks j ≡ Some k → is_forced_among at node (u ∷ []) (at k) ≡ true))
+
+-- ---- numbers
 
 -- the numbers are those of the first n terms
 pub record IsWithin (n : ℕ) (u : Reached) : Type 0 where
   pub formula : u.formula < n
-  pub by : IfSome u.by (λ c. c < n)
+  pub by : u.by < n
 
 abbrev pub AreWithin : ℕ → List Reached → Type 0
 AreWithin n [] = Unit {0}

@@ -1,12 +1,12 @@
 -- Which pending formulas one literal more can refute.
 use Rattle.std.specs.Prelude.{◌≡◌, ◌⊎◌, ◌++◌, Bool, true, false, not, List, [], ◌∷◌}
 use Rattle.wy_judge.specs.Judgement.{judged, of_atom}
-use Rattle.wy_judge.specs.Node.{Literal}
+use Rattle.wy_judge.specs.Node.{Literal, has_formula}
 use Rattle.wy_judge.specs.declared.verdict.Verdict.{Verdict}
 use Rattle.wy_judge.specs.declared.verdict.Verdict.TheVariants.{Yes, No, Open}
-use Rattle.wy_search.specs.Splitting.{is_open}
+use Rattle.wy_search.specs.Splitting.{atoms_in, is_open}
 use Rattle.wy_term.specs.Same.{same_term}
-use Rattle.wy_term.specs.Term.{Term, Parts, no_parts, part}
+use Rattle.wy_term.specs.Term.{Term, Of, Parts, no_parts, part, denied, all_of, any_of}
 use Rattle.wy_valid.specs.Literals.{is_no}
 
 -- the literals, and behind them one more
@@ -47,3 +47,34 @@ IsSafe ls f = (a : Term) (holds : Bool) → is_open (of_atom ls a) ≡ true → 
 -- no literal of an undecided atom other than this one does
 abbrev pub IsSafeBut : List Literal → Term → Term → Type 0
 IsSafeBut ls f c = (a : Term) (holds : Bool) → is_open (of_atom ls a) ≡ true → same_term a c ≡ false → is_no (judged (with_one ls a holds) f) ≡ false
+
+-- ---- members that are no atoms
+
+-- a denial, an `and` or an `or`
+abbrev pub is_connective : Term → Bool
+is_connective (Of denied ps) = true
+is_connective (Of all_of ps) = true
+is_connective (Of any_of ps) = true
+is_connective t = false
+
+-- none of these is
+abbrev pub ArePlain : List Term → Type 0
+ArePlain [] = Unit {0}
+ArePlain (t ∷ ts) = (is_connective t ≡ false) × ArePlain ts
+
+-- an atom that is undecided
+abbrev pub IsFree : List Literal → Term → Type 0
+IsFree ls a = (is_connective a ≡ false) × (is_open (of_atom ls a) ≡ true)
+
+-- this formula has each atom of which a literal makes the other judged no
+abbrev pub IsNeeded : List Literal → Term → Term → Type 0
+IsNeeded ls g m = (a : Term) (holds : Bool) → IsFree ls a → has_formula (atoms_in m) a ≡ false → is_no (judged (with_one ls a holds) g) ≡ false
+
+-- the term is one of these formulas, and is judged open
+abbrev pub IsOpenPart : List Literal → Parts → Term → Type 0
+IsOpenPart ls no_parts m = ⊥
+IsOpenPart ls (part f fs) m = ((f ≡ m) × (judged ls m ≡ Open)) ⊎ IsOpenPart ls fs m
+
+-- the same, or it is the formula that is made of these
+abbrev pub IsSelfOrOpen : List Literal → Term → Parts → Term → Type 0
+IsSelfOrOpen ls f ps m = (m ≡ f) ⊎ IsOpenPart ls ps m

@@ -1,5 +1,5 @@
 //! The atoms of formulas.
-ghost use Rattle.std.specs.Prelude.{◌≡◌, ◌<◌, ◌++◌, [], ◌∷◌, map, length, IfOk, OnOk};
+ghost use Rattle.std.specs.Prelude.{◌≡◌, ◌<◌, ◌++◌, [], ◌∷◌, Some, map, length, slice_get, IfOk, OnOk};
 ghost use Rattle.wy_judging.specs.Seen.{AreBelow, AreOver, seen_formula};
 ghost use Rattle.wy_search.specs.Splitting.{atoms_in, atoms_of};
 ghost use Rattle.wy_classes.specs.Once.{atoms_at, once};
@@ -84,4 +84,15 @@ pub fn list_atoms(terms: &Terms, found: &mut IndexSet<u32>, f: u32) -> Result<()
         }
     }
     Err(NoMemory)
+}
+
+/// The atom with a place in the list, in constant time.
+pub fn atom_at(found: &IndexSet<u32>, i: usize) -> u32
+    requires { i < length found.now.keys }
+    ensures { slice_get found.now.keys i ≡ Some result }
+{
+    match found.get_index(i) {
+        Some(a) => *a,
+        None => 0,
+    }
 }

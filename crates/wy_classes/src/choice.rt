@@ -1,75 +1,66 @@
 //! The atom on which a node splits.
 ghost use Rattle.std.specs.Prelude.{◌≡◌, ◌<◌, ◌++◌, [], ◌∷◌, true, Some, map, length, option_map, slice_get, IfOk, IfSome, OnOk};
-ghost use Rattle.wy_judge.specs.Judgement.{of_atom};
+ghost use Rattle.wy_judge.specs.Judgement.{judged, of_atom};
 ghost use Rattle.wy_judging.specs.Seen.{AreBelow, IsBranch, seen_branch, seen_formula};
 ghost use Rattle.wy_search.specs.Splitting as splitting;
 ghost use Rattle.wy_classes.specs.Once.{SameBranch, first_by, once, undecided};
-ghost use Rattle.wy_classes.specs.Reached.{AreEnough, AreHinted, AreWithin};
+ghost use Rattle.wy_classes.specs.Reached.{AreEnough, AreWithin, IsNearer, IsWithin, forces, seen_unmet};
+ghost use Rattle.wy_classes.specs.Unmet.{ArePlain, with_one};
 ghost use Rattle.wy_term.specs.Nodes.{tree_at};
+ghost use Rattle.wy_valid.specs.Literals.{any_no, is_no};
 
-use crate::atoms::list_atoms;
-use crate::unmet::{Reached, is_one_refuted, is_undecided, unmet};
+use crate::atoms::{atom_at, list_atoms};
+use crate::unmet::{Reached, is_open, is_undecided, unmet};
 use indexmap::IndexSet;
-use wy_judge::Verdict;
-use wy_judging::{Branch, add_literal, back_to, judge, nothing_known, pending_at};
+use wy_judging::{Branch, add_literal, back_to, fails, judge, nothing_known, pending_at};
 use wy_term::{NoMemory, Terms};
 
-// Whether a pending formula is judged no with one literal more, of an atom that is undecided, where these are enough of the
-// pending formulas. The node is as before afterwards.
-fn decides(
+// The formula with a place in the list.
+fn unmet_at(left: &[Reached], i: usize) -> Reached
+    requires { i < length left.now }
+    ensures { slice_get left.now i ≡ Some result }
+{
+    left[i]
+}
+
+// Whether this formula is judged no with one literal more, of the undecided atom beside it. The node is as before afterwards.
+fn refutes(
     terms: &Terms,
     branch: &mut Branch,
-    left: &[Reached],
-    a: u32,
+    unmet: Reached,
     holds: bool,
 ) -> Result<bool, NoMemory>
-    requires atom { a < length terms.now }
+    requires within { IsWithin (length terms.now) unmet }
     requires branch { IsBranch terms.now branch.old }
-    requires left { AreEnough (tree_at terms.now) (seen_branch (tree_at terms.now) branch.old) left.now }
-    requires hinted { AreHinted (tree_at terms.now) (seen_branch (tree_at terms.now) branch.old).literals left.now }
-    requires within { AreWithin (length terms.now) left.now }
-    requires undecided { splitting.is_open (of_atom (seen_branch (tree_at terms.now) branch.old).literals (tree_at terms.now a)) ≡ true }
-    ensures value { IfOk result (λ yes. yes ≡ splitting.decides (seen_branch (tree_at terms.now) branch.old) (tree_at terms.now a) holds) }
+    requires undecided { splitting.is_open (of_atom (seen_branch (tree_at terms.now) branch.old).literals (tree_at terms.now unmet.by)) ≡ true }
+    ensures value { IfOk result (λ yes. yes ≡ is_no (judged (with_one (seen_branch (tree_at terms.now) branch.old).literals (tree_at terms.now unmet.by) holds) (seen_unmet (tree_at terms.now) unmet))) }
     ensures same { OnOk result (SameBranch branch.old branch.new) }
     ensures branch { OnOk result (IsBranch terms.now branch.new) }
 {
     let literals = branch.literals.len();
     let pending = branch.pending.len();
-    add_literal(terms, branch, a, holds)?;
-    let answer = is_one_refuted(terms, branch, left, a)?;
+    add_literal(terms, branch, unmet.by, holds)?;
+    let mut known = nothing_known(terms.allocator());
+    let verdict = judge(terms, branch, &mut known, unmet.formula)?;
     back_to(branch, literals, pending);
-    Ok(answer)
+    Ok(fails(verdict, unmet.holds))
 }
 
-// Whether the atom is undecided, and one of its values makes a pending formula judged no.
-fn is_forced(terms: &Terms, branch: &mut Branch, left: &[Reached], a: u32) -> Result<bool, NoMemory>
-    requires atom { a < length terms.now }
+// Whether the atom is undecided, and one of its values makes the formula that it stands beside judged no.
+fn is_forcing(terms: &Terms, branch: &mut Branch, unmet: Reached) -> Result<bool, NoMemory>
+    requires within { IsWithin (length terms.now) unmet }
     requires branch { IsBranch terms.now branch.old }
-    requires left { AreEnough (tree_at terms.now) (seen_branch (tree_at terms.now) branch.old) left.now }
-    requires hinted { AreHinted (tree_at terms.now) (seen_branch (tree_at terms.now) branch.old).literals left.now }
-    requires within { AreWithin (length terms.now) left.now }
-    ensures value { IfOk result (λ yes. yes ≡ splitting.is_forced (seen_branch (tree_at terms.now) branch.old) (tree_at terms.now a)) }
+    ensures value { IfOk result (λ yes. yes ≡ forces (tree_at terms.now) (seen_branch (tree_at terms.now) branch.old) unmet) }
     ensures same { OnOk result (SameBranch branch.old branch.new) }
     ensures branch { OnOk result (IsBranch terms.now branch.new) }
 {
-    if !is_undecided(terms, branch, a) {
+    if !is_undecided(terms, branch, unmet.by) {
         return Ok(false);
     }
-    if decides(terms, branch, left, a, true)? {
+    if refutes(terms, branch, unmet, true)? {
         return Ok(true);
     }
-    decides(terms, branch, left, a, false)
-}
-
-// The atom with a place in the list.
-fn atom_at(found: &IndexSet<u32>, i: usize) -> u32
-    requires { i < length found.now.keys }
-    ensures { slice_get found.now.keys i ≡ Some result }
-{
-    match found.get_index(i) {
-        Some(a) => *a,
-        None => 0,
-    }
+    refutes(terms, branch, unmet, false)
 }
 
 // The atoms of all pending formulas, each once.
@@ -86,7 +77,36 @@ fn pending_atoms(terms: &Terms, branch: &Branch) -> Result<IndexSet<u32>, NoMemo
     Ok(found)
 }
 
-// The first atom of the list that is forced.
+// The place of the atom that stands beside this formula, if it comes before this one and is forced by the formula, or else this
+// one.
+fn nearer(
+    terms: &Terms,
+    branch: &mut Branch,
+    found: &IndexSet<u32>,
+    unmet: Reached,
+    place: usize,
+) -> Result<usize, NoMemory>
+    requires within { IsWithin (length terms.now) unmet }
+    requires found { AreBelow (length terms.now) found.now.keys }
+    requires branch { IsBranch terms.now branch.old }
+    ensures value { IfOk result (λ j. IsNearer (tree_at terms.now) (seen_branch (tree_at terms.now) branch.old) found.now.keys unmet place j) }
+    ensures same { OnOk result (SameBranch branch.old branch.new) }
+    ensures branch { OnOk result (IsBranch terms.now branch.new) }
+{
+    terms.one_number_for_each_term();
+    let Some(i) = found.get_index_of(&unmet.by) else {
+        return Ok(place);
+    };
+    if i >= place {
+        return Ok(place);
+    }
+    if is_forcing(terms, branch, unmet)? {
+        return Ok(i);
+    }
+    Ok(place)
+}
+
+// The first atom of the list that is forced, where these formulas are enough of the pending ones.
 fn first_forced(
     terms: &Terms,
     branch: &mut Branch,
@@ -94,22 +114,21 @@ fn first_forced(
     found: &IndexSet<u32>,
 ) -> Result<Option<u32>, NoMemory>
     requires found { AreBelow (length terms.now) found.now.keys }
+    requires plain { ArePlain (map (tree_at terms.now) found.now.keys) }
     requires branch { IsBranch terms.now branch.old }
     requires left { AreEnough (tree_at terms.now) (seen_branch (tree_at terms.now) branch.old) left.now }
-    requires hinted { AreHinted (tree_at terms.now) (seen_branch (tree_at terms.now) branch.old).literals left.now }
     requires within { AreWithin (length terms.now) left.now }
     ensures value { IfOk result (λ o. option_map (tree_at terms.now) o ≡ first_by (splitting.is_forced (seen_branch (tree_at terms.now) branch.old)) (map (tree_at terms.now) found.now.keys)) }
     ensures same { OnOk result (SameBranch branch.old branch.new) }
     ensures branch { OnOk result (IsBranch terms.now branch.new) }
     ensures below { IfOk result (λ o. IfSome o (λ a. a < length terms.now)) }
 {
-    for i in 0..found.len() {
-        let a = atom_at(found, i);
-        if is_forced(terms, branch, left, a)? {
-            return Ok(Some(a));
-        }
+    let mut place = found.len();
+    for i in 0..left.len() {
+        let unmet = unmet_at(left, i);
+        place = nearer(terms, branch, found, unmet, place)?;
     }
-    Ok(None)
+    Ok(found.get_index(place).copied())
 }
 
 // The first atom of the list that is undecided.
@@ -140,15 +159,6 @@ fn first_undecided(terms: &Terms, branch: &Branch, f: u32) -> Result<Option<u32>
     Ok(undecided_in(terms, branch, &found))
 }
 
-fn is_open(verdict: Verdict) -> bool
-    ensures { result ≡ splitting.is_open verdict }
-{
-    match verdict {
-        Verdict::Open => true,
-        Verdict::Yes | Verdict::No => false,
-    }
-}
-
 // The first undecided atom of the first pending formula that is judged open.
 fn first_open(terms: &Terms, branch: &Branch) -> Result<Option<u32>, NoMemory>
     requires { IsBranch terms.now branch.now }
@@ -167,14 +177,13 @@ fn first_open(terms: &Terms, branch: &Branch) -> Result<Option<u32>, NoMemory>
 }
 
 // The first atom of the pending formulas that is forced, where these are enough of them. Where none is left, none is forced.
-fn forced_atom(
+fn forced_among(
     terms: &Terms,
     branch: &mut Branch,
     left: &[Reached],
 ) -> Result<Option<u32>, NoMemory>
     requires branch { IsBranch terms.now branch.old }
     requires left { AreEnough (tree_at terms.now) (seen_branch (tree_at terms.now) branch.old) left.now }
-    requires hinted { AreHinted (tree_at terms.now) (seen_branch (tree_at terms.now) branch.old).literals left.now }
     requires within { AreWithin (length terms.now) left.now }
     ensures value { IfOk result (λ o. option_map (tree_at terms.now) o ≡ splitting.first_forced (seen_branch (tree_at terms.now) branch.old) (splitting.atoms_of (seen_branch (tree_at terms.now) branch.old).pending)) }
     ensures same { OnOk result (SameBranch branch.old branch.new) }
@@ -188,13 +197,38 @@ fn forced_atom(
     first_forced(terms, branch, left, &found)
 }
 
+// The first atom of the pending formulas that is forced, where one of these is judged no: the first that is undecided.
+fn forced_by_any(terms: &Terms, branch: &Branch) -> Result<Option<u32>, NoMemory>
+    requires branch { IsBranch terms.now branch.now }
+    requires refuted { any_no (seen_branch (tree_at terms.now) branch.now).literals (seen_branch (tree_at terms.now) branch.now).pending ≡ true }
+    ensures value { IfOk result (λ o. option_map (tree_at terms.now) o ≡ splitting.first_forced (seen_branch (tree_at terms.now) branch.now) (splitting.atoms_of (seen_branch (tree_at terms.now) branch.now).pending)) }
+    ensures below { IfOk result (λ o. IfSome o (λ a. a < length terms.now)) }
+{
+    let found = pending_atoms(terms, branch)?;
+    Ok(undecided_in(terms, branch, &found))
+}
+
+// The first atom of the pending formulas that is forced.
+fn forced_atom(terms: &Terms, branch: &mut Branch) -> Result<Option<u32>, NoMemory>
+    requires { IsBranch terms.now branch.old }
+    ensures value { IfOk result (λ o. option_map (tree_at terms.now) o ≡ splitting.first_forced (seen_branch (tree_at terms.now) branch.old) (splitting.atoms_of (seen_branch (tree_at terms.now) branch.old).pending)) }
+    ensures same { OnOk result (SameBranch branch.old branch.new) }
+    ensures branch { OnOk result (IsBranch terms.now branch.new) }
+    ensures below { IfOk result (λ o. IfSome o (λ a. a < length terms.now)) }
+{
+    match unmet(terms, branch)? {
+        Some(left) => forced_among(terms, branch, &left),
+        None => forced_by_any(terms, branch),
+    }
+}
+
 /// The atom on which the node splits, if there is one: of the atoms of its pending formulas, in their order, the first
 /// undecided one that has a value by which a pending formula is judged no; where there is none, the first undecided atom of
 /// the first pending formula that is judged open. The node is as before afterwards.
 ///
-/// In time linear in the size of the pending formulas, and besides in the number of different atoms that are undecided,
-/// times the size of those pending formulas that one literal more could refute: no formula that is judged yes, and no `or`
-/// with two undecided members.
+/// In time linear in the size of the pending formulas, and besides, for each atom of which a literal may refute a pending
+/// formula, in the size of that formula: none for a formula that is judged yes and for an `or` with two open members that
+/// have no atom in common. An atom that comes after one that is known to be forced costs constant time.
 pub fn next_atom(terms: &Terms, branch: &mut Branch) -> Result<Option<u32>, NoMemory>
     requires { IsBranch terms.now branch.old }
     ensures value { IfOk result (λ o. option_map (tree_at terms.now) o ≡ splitting.next_atom (seen_branch (tree_at terms.now) branch.old)) }
@@ -202,8 +236,7 @@ pub fn next_atom(terms: &Terms, branch: &mut Branch) -> Result<Option<u32>, NoMe
     ensures branch { OnOk result (IsBranch terms.now branch.new) }
     ensures below { IfOk result (λ o. IfSome o (λ a. a < length terms.now)) }
 {
-    let left = unmet(terms, branch)?;
-    if let Some(a) = forced_atom(terms, branch, &left)? {
+    if let Some(a) = forced_atom(terms, branch)? {
         return Ok(Some(a));
     }
     first_open(terms, branch)

@@ -2,7 +2,7 @@
 //!
 //! `atoms` lists the atoms of formulas, each once, in the order in which they appear; `choice` takes the first of them that
 //! is forced, and where none is, the first undecided one of the first formula that is judged open. `unmet` has the formulas
-//! that a further literal could refute: those that aren't judged yes. Which atom it is, `wy_search` defines.
+//! that a further literal could refute, each beside the atoms of such literals. Which atom it is, `wy_search` defines.
 //!
 //! What stands in a node of the search: its terms and formulas without bound names, each once, by first appearance.
 //!

@@ -1,27 +1,32 @@
-//! The pending formulas that one literal more can refute, and whether one of these is judged no.
+//! The pending formulas that one literal more can refute, each beside the atoms of which a literal may do so.
 //!
 //! A formula that is judged yes stays so, and one that has two undecided members, as an `or` does in a search, is refuted by
-//! no single literal. One with an undecided member is refuted by no literal of another atom.
-ghost use Rattle.std.specs.Prelude.{◌≡◌, ◌<◌, true, false, Some, map, length, slice_get, IfOk, IfSome};
+//! no single literal. One with an undecided member is refuted by no literal of another atom, and one with open members only
+//! by literals of an atom that stands in each of these.
+ghost use Rattle.std.specs.Prelude.{◌≡◌, ◌<◌, true, false, Some, map, length, slice_get, IfNone, IfOk, IfSome, OnOk};
+ghost use Rattle.wy_judging.specs.Judged.{fails};
 ghost use Rattle.wy_judging.specs.Seen.{AreBelow, IsBranch, seen_branch, seen_formula};
-ghost use Rattle.wy_classes.specs.Unmet.{meets, HasOpen, HasTwoOpen, IsPlain, IsSafe, IsSafeBut, StaysOpen};
-ghost use Rattle.wy_classes.specs.Reached.{AreEnough, AreHinted, AreSpared, AreWithin, IsParted, seen_unmet};
+ghost use Rattle.wy_classes.specs.Unmet.{meets, HasOpen, HasTwoOpen, IsNeeded, IsPlain, IsSafe, IsSafeBut, IsSelfOrOpen, StaysOpen};
+ghost use Rattle.wy_classes.specs.Reached.{AreEnough, AreWithin, Notes, NotesShared};
 ghost use Rattle.wy_judge.specs.Judgement.{judged, of_atom};
 ghost use Rattle.wy_search.specs.Splitting as splitting;
+ghost use Rattle.wy_search.specs.Splitting.{atoms_in};
 ghost use Rattle.wy_term.specs.Nodes.{parts_at, tree_at};
 ghost use Rattle.wy_term.specs.Same.{same_term};
 ghost use Rattle.wy_valid.specs.Literals.{any_no};
 
+use crate::atoms::{atom_at, list_atoms};
+use indexmap::IndexSet;
 use wy_judge::Verdict;
 use wy_judging::{Branch, fails, has_literal, judge, nothing_known, pending_at};
 use wy_term::{NoMemory, Node, Terms};
 
-/// A pending formula, or its denial, and an undecided atom if it is known that no literal of another one refutes it.
+/// A pending formula, or its denial, and an atom of which a literal may refute it.
 #[derive(Clone, Copy, Debug)]
 pub struct Reached {
     pub formula: u32,
     pub holds: bool,
-    pub by: Option<u32>,
+    pub by: u32,
 }
 
 /// Whether neither the atom nor its denial stands among the literals.
@@ -177,73 +182,160 @@ fn only_by(terms: &Terms, branch: &Branch, f: u32, holds: bool) -> Option<u32>
     }
 }
 
-/// Pending formulas, in order, of which one is judged no with a literal more of an undecided atom wherever a pending formula
-/// is: those that aren't judged yes, and in which no two undecided atoms stand against it. It takes time linear in how many
-/// formulas the pending ones are made of, each counted once, and their members.
-pub fn unmet(terms: &Terms, branch: &Branch) -> Result<Vec<Reached>, NoMemory>
+/// Whether a formula with this verdict is judged open.
+pub fn is_open(verdict: Verdict) -> bool
+    ensures { result ≡ splitting.is_open verdict }
+{
+    match verdict {
+        Verdict::Open => true,
+        Verdict::Yes | Verdict::No => false,
+    }
+}
+
+// The first two of the members that are judged open, or, where there are fewer, the whole formula in their stead.
+fn open_members(
+    terms: &Terms,
+    branch: &Branch,
+    f: u32,
+    members: &[u32],
+) -> Result<(u32, u32), NoMemory>
+    requires formula { f < length terms.now }
+    requires members { AreBelow (length terms.now) members.now }
+    requires branch { IsBranch terms.now branch.now }
+    ensures one { IfOk result (λ r. IsSelfOrOpen (seen_branch (tree_at terms.now) branch.now).literals (tree_at terms.now f) (parts_at (tree_at terms.now) members.now) (tree_at terms.now r.0)) }
+    ensures other { IfOk result (λ r. IsSelfOrOpen (seen_branch (tree_at terms.now) branch.now).literals (tree_at terms.now f) (parts_at (tree_at terms.now) members.now) (tree_at terms.now r.1)) }
+    ensures below { IfOk result (λ r. (r.0 < length terms.now) × (r.1 < length terms.now)) }
+{
+    let mut known = nothing_known(terms.allocator());
+    let mut one = f;
+    for i in 0..members.len() {
+        let member = member_at(members, i);
+        let verdict = judge(terms, branch, &mut known, member)?;
+        if !is_open(verdict) {
+            continue;
+        }
+        if one != f {
+            return Ok((one, member));
+        }
+        one = member;
+    }
+    Ok((one, f))
+}
+
+// Two formulas, each of which has the atom of each literal that refutes the formula, or its denial: open members of an `or`,
+// or of a denied `and`, and the formula itself where there are fewer than two.
+fn needed(terms: &Terms, branch: &Branch, f: u32, holds: bool) -> Result<(u32, u32), NoMemory>
+    requires formula { f < length terms.now }
+    requires branch { IsBranch terms.now branch.now }
+    requires standing { fails (judged (seen_branch (tree_at terms.now) branch.now).literals (tree_at terms.now f)) holds ≡ false }
+    ensures one { IfOk result (λ r. IsNeeded (seen_branch (tree_at terms.now) branch.now).literals (seen_formula (tree_at terms.now) (f, holds)) (tree_at terms.now r.0)) }
+    ensures other { IfOk result (λ r. IsNeeded (seen_branch (tree_at terms.now) branch.now).literals (seen_formula (tree_at terms.now) (f, holds)) (tree_at terms.now r.1)) }
+    ensures below { IfOk result (λ r. (r.0 < length terms.now) × (r.1 < length terms.now)) }
+{
+    match (terms.node(f), holds) {
+        (Node::Or(members), true) => open_members(terms, branch, f, members),
+        (Node::And(members), false) => open_members(terms, branch, f, members),
+        _ => Ok((f, f)),
+    }
+}
+
+// The formula once more for each atom that stands in both lists.
+fn note_shared(
+    terms: &Terms,
+    left: &mut Vec<Reached>,
+    formula: u32,
+    holds: bool,
+    found: &IndexSet<u32>,
+    also: &IndexSet<u32>,
+) -> Result<(), NoMemory>
+    requires formula { formula < length terms.now }
+    requires found { AreBelow (length terms.now) found.now.keys }
+    requires also { AreBelow (length terms.now) also.now.keys }
+    requires within { AreWithin (length terms.now) left.old.items }
+    ensures value { OnOk result (NotesShared (tree_at terms.now) (seen_formula (tree_at terms.now) (formula, holds)) (map (tree_at terms.now) found.now.keys) (map (tree_at terms.now) also.now.keys) left.old.items left.new.items) }
+    ensures within { OnOk result (AreWithin (length terms.now) left.new.items) }
+{
+    terms.one_number_for_each_term();
+    for i in 0..found.len() {
+        let by = atom_at(found, i);
+        if !also.contains(&by) {
+            continue;
+        }
+        left.push(Reached { formula, holds, by })?;
+    }
+    Ok(())
+}
+
+// The formula once more for each atom that stands in both of the needed ones.
+fn note_each(
+    terms: &Terms,
+    left: &mut Vec<Reached>,
+    formula: u32,
+    holds: bool,
+    needed: (u32, u32),
+) -> Result<(), NoMemory>
+    requires formula { formula < length terms.now }
+    requires one { needed.0 < length terms.now }
+    requires other { needed.1 < length terms.now }
+    requires within { AreWithin (length terms.now) left.old.items }
+    ensures value { OnOk result (NotesShared (tree_at terms.now) (seen_formula (tree_at terms.now) (formula, holds)) (atoms_in (tree_at terms.now needed.0)) (atoms_in (tree_at terms.now needed.1)) left.old.items left.new.items) }
+    ensures within { OnOk result (AreWithin (length terms.now) left.new.items) }
+{
+    let mut found = IndexSet::new(terms.allocator());
+    list_atoms(terms, &mut found, needed.0)?;
+    let mut also = IndexSet::new(terms.allocator());
+    list_atoms(terms, &mut also, needed.1)?;
+    note_shared(terms, left, formula, holds, &found, &also)
+}
+
+// Notes a formula, or its denial, with this verdict beside each atom of which a literal may refute it.
+fn reach(
+    terms: &Terms,
+    branch: &Branch,
+    left: &mut Vec<Reached>,
+    pending: (u32, bool),
+    verdict: Verdict,
+) -> Result<(), NoMemory>
+    requires formula { pending.0 < length terms.now }
+    requires branch { IsBranch terms.now branch.now }
+    requires verdict { verdict ≡ judged (seen_branch (tree_at terms.now) branch.now).literals (tree_at terms.now pending.0) }
+    requires standing { fails verdict pending.1 ≡ false }
+    requires within { AreWithin (length terms.now) left.old.items }
+    ensures value { OnOk result (Notes (tree_at terms.now) (seen_branch (tree_at terms.now) branch.now).literals (seen_formula (tree_at terms.now) pending) left.old.items left.new.items) }
+    ensures within { OnOk result (AreWithin (length terms.now) left.new.items) }
+{
+    let (formula, holds) = pending;
+    if is_safe(terms, branch, formula, holds, verdict) {
+        return Ok(());
+    }
+    if let Some(by) = only_by(terms, branch, formula, holds) {
+        left.push(Reached { formula, holds, by })?;
+        return Ok(());
+    }
+    let needed = needed(terms, branch, formula, holds)?;
+    note_each(terms, left, formula, holds, needed)
+}
+
+/// Pending formulas, in order, each beside an atom, so that a literal more of an undecided atom makes a pending formula judged
+/// no exactly where it makes one so beside which that atom stands. There are none where a pending formula is judged no already.
+///
+/// A formula that is judged yes has no such atom, and neither has an `or` with two undecided members; one with other open
+/// members has those that stand in two of these. It takes time linear in the size of the pending formulas.
+pub fn unmet(terms: &Terms, branch: &Branch) -> Result<Option<Vec<Reached>>, NoMemory>
     requires { IsBranch terms.now branch.now }
-    ensures value { IfOk result (λ us. AreEnough (tree_at terms.now) (seen_branch (tree_at terms.now) branch.now) us.items) }
-    ensures hinted { IfOk result (λ us. AreHinted (tree_at terms.now) (seen_branch (tree_at terms.now) branch.now).literals us.items) }
-    ensures within { IfOk result (λ us. AreWithin (length terms.now) us.items) }
+    ensures value { IfOk result (λ o. IfSome o (λ us. AreEnough (tree_at terms.now) (seen_branch (tree_at terms.now) branch.now) us.items)) }
+    ensures within { IfOk result (λ o. IfSome o (λ us. AreWithin (length terms.now) us.items)) }
+    ensures refuted { IfOk result (λ o. IfNone o (any_no (seen_branch (tree_at terms.now) branch.now).literals (seen_branch (tree_at terms.now) branch.now).pending ≡ true)) }
 {
     let mut known = nothing_known(terms.allocator());
     let mut left = Vec::new(terms.allocator());
     for i in 0..branch.pending.len() {
-        let (formula, holds) = pending_at(branch, i);
-        let verdict = judge(terms, branch, &mut known, formula)?;
-        if is_safe(terms, branch, formula, holds, verdict) {
-            continue;
+        let pending = pending_at(branch, i);
+        let verdict = judge(terms, branch, &mut known, pending.0)?;
+        if fails(verdict, pending.1) {
+            return Ok(None);
         }
-        let by = only_by(terms, branch, formula, holds);
-        left.push(Reached { formula, holds, by })?;
+        reach(terms, branch, &mut left, pending, verdict)?;
     }
-    Ok(left)
-}
-
-// The formula with a place in the list.
-fn unmet_at(left: &[Reached], i: usize) -> Reached
-    requires { i < length left.now }
-    ensures { slice_get left.now i ≡ Some result }
-{
-    left[i]
-}
-
-// Whether a literal of the atom doesn't refute the formula, for it is refuted by one of another atom alone.
-fn is_spared(terms: &Terms, unmet: &Reached, atom: u32) -> bool
-    requires within { IfSome unmet.now.by (λ c. c < length terms.now) }
-    requires atom { atom < length terms.now }
-    ensures { result ≡ true → IsParted (tree_at terms.now) unmet.now.by (tree_at terms.now atom) }
-{
-    match unmet.by {
-        Some(c) => !terms.same(atom, c),
-        None => false,
-    }
-}
-
-/// Whether one of these formulas is judged no, where the last literal is of this atom. It takes time linear in how many
-/// formulas those that the atom can refute are made of, each counted once, and their members, and in the number of all.
-pub fn is_one_refuted(
-    terms: &Terms,
-    branch: &Branch,
-    left: &[Reached],
-    atom: u32,
-) -> Result<bool, NoMemory>
-    requires atom { atom < length terms.now }
-    requires branch { IsBranch terms.now branch.now }
-    requires spared { AreSpared (tree_at terms.now) (seen_branch (tree_at terms.now) branch.now).literals (tree_at terms.now atom) left.now }
-    requires within { AreWithin (length terms.now) left.now }
-    ensures value { IfOk result (λ yes. yes ≡ any_no (seen_branch (tree_at terms.now) branch.now).literals (map (seen_unmet (tree_at terms.now)) left.now)) }
-{
-    let mut known = nothing_known(terms.allocator());
-    for i in 0..left.len() {
-        let unmet = unmet_at(left, i);
-        if is_spared(terms, &unmet, atom) {
-            continue;
-        }
-        let verdict = judge(terms, branch, &mut known, unmet.formula)?;
-        if fails(verdict, unmet.holds) {
-            return Ok(true);
-        }
-    }
-    Ok(false)
+    Ok(Some(left))
 }

@@ -1,42 +1,42 @@
-use Rattle.std.proofs.Common.{◌≡◌, ◌∙◌, false, true, length, rules, sym, ap}
+use Rattle.std.proofs.Common.{◌∙◌, ◌≤◌, length, arith, ap, option_map, subst}
+use Rattle.wy_classes.proofs.DecidingLemmas.{same_again, same_self, seen_same}
+use Rattle.wy_classes.proofs.NearestLemmas.{below_found, nearest_begin, nearest_end, nearest_next}
+use Rattle.wy_classes.proofs.UnmetLemmas.{within_at}
+use Rattle.wy_classes.proofs.choice.first_forced.Goals as goal
+use Rattle.wy_classes.specs.Reached.{IsNearer}
 use Rattle.wy_judge.specs.Node.{Node}
 use Rattle.wy_judging.specs.Seen.{seen_branch}
-use Rattle.wy_search.specs.Splitting.{is_forced}
-use Rattle.wy_classes.proofs.DecidingLemmas.{enough_again, hinted_again, same_again, seen_same}
-use Rattle.wy_classes.proofs.FirstLemmas.{below_at, passes_here, passes_later}
-use Rattle.wy_classes.proofs.choice.first_forced.Goals as goal
 use Rattle.wy_term.specs.Nodes.{tree_at}
 
-pub is_forced-requires-clause-atom : goal.is_forced-requires-clause-atom
-is_forced-requires-clause-atom c = below_at (length c.args.terms.now) c.args.found.now.keys c.loop-i.i c.atom_at-a.result c.requires.found c.atom_at-a.ensures
-
-pub is_forced-requires-clause-left : goal.is_forced-requires-clause-left
-is_forced-requires-clause-left c = enough_again (tree_at c.args.terms.now) c.args.branch.now c.loop-i.branch c.args.left.now c.loop-i.invariant.same c.requires.left
-
-pub is_forced-requires-clause-hinted : goal.is_forced-requires-clause-hinted
-is_forced-requires-clause-hinted c = hinted_again (tree_at c.args.terms.now) c.args.branch.now c.loop-i.branch c.args.left.now c.loop-i.invariant.same c.requires.hinted
-
-pub returns-then-branch-clause-value : goal.returns-then-branch-clause-value
-returns-then-branch-clause-value c =
+pub loop-i-init : goal.loop-i-init
+loop-i-init c =
     let at = tree_at c.args.terms.now in
-    let node = seen_branch at c.args.branch.now in
-    let up : c.in_ok-is_forced.field-0 ≡ true = search rules in
-    let same : is_forced (seen_branch at c.loop-i.branch) (at c.atom_at-a.result) ≡ is_forced node (at c.atom_at-a.result) =
-    ap (λ (m : Node). is_forced m (at c.atom_at-a.result)) (seen_same at c.args.branch.now c.loop-i.branch c.loop-i.invariant.same) in
-    passes_here (is_forced node) at c.args.found.now.keys c.loop-i.i c.atom_at-a.result _ c.atom_at-a.ensures c.loop-i.invariant.left (sym same ∙ sym c.in_ok-is_forced.ensures.value ∙ up)
+    record {
+      so = nearest_begin at (seen_branch at c.args.branch.now) c.args.found.now.keys c.args.left.now c.len-place.result c.requires.plain c.requires.left c.len-place.ensures.len;
+      same = same_self c.args.branch.now;
+      branch = c.requires.branch;
+    }
 
-pub returns-then-branch-clause-below : goal.returns-then-branch-clause-below
-returns-then-branch-clause-below c = below_at (length c.args.terms.now) c.args.found.now.keys c.loop-i.i c.atom_at-a.result c.requires.found c.atom_at-a.ensures
+pub nearer-requires-clause-within : goal.nearer-requires-clause-within
+nearer-requires-clause-within c = within_at (length c.args.terms.now) c.args.left.now c.loop-i.i c.unmet_at-unmet.result c.requires.within c.unmet_at-unmet.ensures
 
 pub loop-i-preserved : goal.loop-i-preserved
 loop-i-preserved c =
     let at = tree_at c.args.terms.now in
-    let node = seen_branch at c.args.branch.now in
-    let un : c.in_ok-is_forced.field-0 ≡ false = search rules in
-    let same : is_forced (seen_branch at c.loop-i.branch) (at c.atom_at-a.result) ≡ is_forced node (at c.atom_at-a.result) =
-    ap (λ (m : Node). is_forced m (at c.atom_at-a.result)) (seen_same at c.args.branch.now c.loop-i.branch c.loop-i.invariant.same) in
+    let near : IsNearer at (seen_branch at c.args.branch.now) c.args.found.now.keys c.unmet_at-unmet.result c.loop-i.place c.in_ok-place.place =
+    subst (λ (m : Node). IsNearer at m c.args.found.now.keys c.unmet_at-unmet.result c.loop-i.place c.in_ok-place.place) (seen_same at c.args.branch.now c.loop-i.branch c.loop-i.invariant.same) c.in_ok-place.ensures.value in
     record {
-      left = passes_later (is_forced node) at c.args.found.now.keys c.loop-i.i c.atom_at-a.result _ c.atom_at-a.ensures c.loop-i.invariant.left (sym same ∙ sym c.in_ok-is_forced.ensures.value ∙ un);
-      same = same_again c.args.branch.now c.loop-i.branch c.is_forced.new.branch c.loop-i.invariant.same c.in_ok-is_forced.ensures.same;
-      branch = c.in_ok-is_forced.ensures.branch;
+      so = nearest_next at (seen_branch at c.args.branch.now) c.args.found.now.keys c.args.left.now c.loop-i.i c.unmet_at-unmet.result c.loop-i.place c.in_ok-place.place c.unmet_at-unmet.ensures near c.loop-i.invariant.so;
+      same = same_again c.args.branch.now c.loop-i.branch c.nearer.new.branch c.loop-i.invariant.same c.in_ok-place.ensures.same;
+      branch = c.in_ok-place.ensures.branch;
     }
+
+pub returns-clause-value : goal.returns-clause-value
+returns-clause-value c =
+    let at = tree_at c.args.terms.now in
+    let le : length c.args.left.now ≤ c.loop-i.i = omega (arith, c.loop-i-test.false) in
+    ap (option_map at) (c.copied.ensures ∙ c.get_index.ensures.key)
+    ∙ nearest_end at (seen_branch at c.args.branch.now) c.args.found.now.keys c.args.left.now c.loop-i.i c.loop-i.place le c.loop-i.invariant.so
+
+pub returns-clause-below : goal.returns-clause-below
+returns-clause-below c = below_found (length c.args.terms.now) c.args.found.now.keys c.loop-i.place c.copied.result c.requires.found (c.copied.ensures ∙ c.get_index.ensures.key)

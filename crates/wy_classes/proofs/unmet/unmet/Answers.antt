@@ -1,41 +1,32 @@
-use Rattle.std.proofs.Common.{◌≡◌, ◌≤◌, ◌<◌, true, length, refl, rules, subst}
-use Rattle.wy_classes.proofs.UnmetLemmas.{enough_end, enough_with, enough_without, hinted_last, within_last}
+use Rattle.std.proofs.Common.{◌≡◌, ◌∙◌, ◌≤◌, true, length, rules, subst}
+use Rattle.wy_classes.proofs.UnmetLemmas.{by_verdict, enough_end, enough_next, no_at}
 use Rattle.wy_classes.proofs.unmet.unmet.Goals as goal
 use Rattle.wy_judging.proofs.BranchLemmas.{over_get}
+use Rattle.wy_judging.specs.Judged.{fails}
 use Rattle.wy_judging.specs.Seen.{seen_branch}
 use Rattle.wy_term.specs.Nodes.{tree_at}
 
 pub judge-requires-clause-formula : goal.judge-requires-clause-formula
-judge-requires-clause-formula c = over_get (length c.args.terms.now) c.args.branch.now.pending.keys c.loop-i.i c.pending_at-formula.result c.requires.pending c.pending_at-formula.ensures
+judge-requires-clause-formula c = over_get (length c.args.terms.now) c.args.branch.now.pending.keys c.loop-i.i c.pending_at-pending.result c.requires.pending c.pending_at-pending.ensures
 
-pub is_safe-requires-clause-formula : goal.is_safe-requires-clause-formula
-is_safe-requires-clause-formula c = over_get (length c.args.terms.now) c.args.branch.now.pending.keys c.loop-i.i c.pending_at-formula.result c.requires.pending c.pending_at-formula.ensures
-
-pub only_by-by-requires-clause-formula : goal.only_by-by-requires-clause-formula
-only_by-by-requires-clause-formula c = over_get (length c.args.terms.now) c.args.branch.now.pending.keys c.loop-i.i c.pending_at-formula.result c.requires.pending c.pending_at-formula.ensures
-
-pub loop-i-preserved-then-is_safe : goal.loop-i-preserved-then-is_safe
-loop-i-preserved-then-is_safe c =
+pub returns-then-fails-clause-refuted : goal.returns-then-fails-clause-refuted
+returns-then-fails-clause-refuted c =
     let at = tree_at c.args.terms.now in
-    let node = seen_branch at c.args.branch.now in
-    let up : c.is_safe.result ≡ true = search rules in
-    record {
-      known = c.in_ok-verdict.ensures.known;
-      so = enough_without at node.literals node.pending c.args.branch.now.pending.keys c.loop-i.i c.pending_at-formula.result c.loop-i.left.items c.pending_at-formula.ensures (c.is_safe.ensures up) c.loop-i.invariant.so;
-      hinted = c.loop-i.invariant.hinted;
-      within = c.loop-i.invariant.within;
-    }
+    let ls = (seen_branch at c.args.branch.now).literals in
+    let up : fails c.in_ok-verdict.verdict c.pending_at-pending.result.1 ≡ true = search rules in
+    no_at at ls c.args.branch.now.pending.keys c.loop-i.i c.pending_at-pending.result c.pending_at-pending.ensures (by_verdict at ls c.pending_at-pending.result c.in_ok-verdict.verdict c.in_ok-verdict.ensures.value ∙ up)
+
+pub reach-requires-clause-formula : goal.reach-requires-clause-formula
+reach-requires-clause-formula c = over_get (length c.args.terms.now) c.args.branch.now.pending.keys c.loop-i.i c.pending_at-pending.result c.requires.pending c.pending_at-pending.ensures
 
 pub loop-i-preserved : goal.loop-i-preserved
 loop-i-preserved c =
     let at = tree_at c.args.terms.now in
     let node = seen_branch at c.args.branch.now in
-    let lt : c.pending_at-formula.result.0 < length c.args.terms.now = over_get (length c.args.terms.now) c.args.branch.now.pending.keys c.loop-i.i c.pending_at-formula.result c.requires.pending c.pending_at-formula.ensures in
     record {
       known = c.in_ok-verdict.ensures.known;
-      so = enough_with at node.literals node.pending c.args.branch.now.pending.keys c.loop-i.i c.pending_at-formula.result _ c.loop-i.left.items c.push.new.self.items c.pending_at-formula.ensures refl c.in_ok-push.ensures.items c.loop-i.invariant.so;
-      hinted = hinted_last at node.literals _ c.loop-i.left.items c.push.new.self.items c.loop-i.invariant.hinted c.only_by-by.ensures.value c.in_ok-push.ensures.items;
-      within = within_last (length c.args.terms.now) _ c.loop-i.left.items c.push.new.self.items c.loop-i.invariant.within (record { formula = lt; by = c.only_by-by.ensures.below }) c.in_ok-push.ensures.items;
+      so = enough_next at node.literals node.pending c.args.branch.now.pending.keys c.loop-i.i c.pending_at-pending.result c.loop-i.left.items c.reach.new.left.items c.pending_at-pending.ensures c.in_ok-reach.ensures.value c.loop-i.invariant.so;
+      within = c.in_ok-reach.ensures.within;
     }
 
 pub returns-clause-value : goal.returns-clause-value

@@ -1,7 +1,7 @@
 use Rattle.std.proofs.Common.{drop, length}
 use Rattle.wy_classes.proofs.UnmetLemmas.{SoFar}
 use Rattle.wy_classes.proofs.unmet.unmet.Given as goal
-use Rattle.wy_classes.specs.Reached.{AreHinted, AreWithin}
+use Rattle.wy_classes.specs.Reached.{AreWithin}
 use Rattle.wy_judging.specs.Judged.{Knows}
 use Rattle.wy_judging.specs.Seen.{seen_branch}
 use Rattle.wy_term.specs.Nodes.{tree_at}
@@ -11,6 +11,5 @@ abbrev pub invariant-loop-i : goal.invariant-loop-i
 invariant-loop-i l = record {
   known : Knows (tree_at l.terms) (seen_branch (tree_at l.terms) l.branch).literals l.known;
   so : SoFar (tree_at l.terms) (seen_branch (tree_at l.terms) l.branch).literals (seen_branch (tree_at l.terms) l.branch).pending l.left.items (drop l.i l.branch.pending.keys);
-  hinted : AreHinted (tree_at l.terms) (seen_branch (tree_at l.terms) l.branch).literals l.left.items;
   within : AreWithin (length l.terms) l.left.items;
 }

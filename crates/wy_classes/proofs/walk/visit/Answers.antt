@@ -1,4 +1,4 @@
-use Rattle.std.proofs.Common.{◌≡◌, ◌≤◌, ◌∙◌, ◌++◌, ℕ, List, true, false, nat_eq, length, map, sym, ap, subst, arith, rules, vec_len}
+use Rattle.std.proofs.Common.{◌≡◌, ◌≤◌, ◌∙◌, ◌++◌, List, true, false, nat_eq, length, map, sym, ap, subst, arith, rules, vec_len}
 use Rattle.std.specs.HashSet.{contains}
 use Rattle.wy_judging.proofs.JudgingLemmas.{below_up}
 use Rattle.wy_judging.specs.Seen.{AreBelow}
@@ -10,7 +10,7 @@ use Rattle.wy_classes.specs.Marks.{is_any_bound, listed_unless, with_unmarked}
 use Rattle.wy_classes.specs.Walk.{left_at, list_of, next_tasks}
 use Rattle.wy_classes.specs.declared.task.Task.{Task}
 use Rattle.wy_classes.specs.declared.task.Task.TheVariants.{Visit}
-use Rattle.wy_term.specs.Nodes.{grown, plain, tree_at}
+use Rattle.wy_term.specs.Nodes.{plain, tree_at}
 use Rattle.wy_term.specs.Scope.{free_names}
 use Rattle.wy_term.specs.Term.{Term}
 

@@ -1,8 +1,9 @@
 use Rattle.std.proofs.Common.{◌≡◌, ◌∙◌, ap, length, rules}
 use Rattle.std.proofs.lemmas.Result.{IfOk-weaker}
 use Rattle.wy_classes.proofs.FirstLemmas.{forced_by, once_forced}
-use Rattle.wy_classes.proofs.UnmetLemmas.{none_forced}
-use Rattle.wy_classes.proofs.choice.forced_atom.Goals as goal
+use Rattle.wy_classes.proofs.NearestLemmas.{none_forced}
+use Rattle.wy_classes.proofs.OnceLemmas.{plain_listed}
+use Rattle.wy_classes.proofs.choice.forced_among.Goals as goal
 use Rattle.wy_classes.specs.Once.{first_by}
 use Rattle.wy_judging.specs.Seen.{seen_branch}
 use Rattle.wy_search.specs.Splitting.{atoms_of, is_forced}
@@ -13,7 +14,12 @@ returns-then-is_empty-clause-value c =
     let at = tree_at c.args.terms.now in
     let node = seen_branch at c.args.branch.now in
     let none : length c.args.left.now ≡ 0 = search rules in
-    none_forced at node (atoms_of node.pending) c.args.left.now c.requires.left none ∙ forced_by node (atoms_of node.pending)
+    none_forced at node c.args.left.now c.requires.left none ∙ forced_by node (atoms_of node.pending)
+
+pub first_forced-requires-clause-plain : goal.first_forced-requires-clause-plain
+first_forced-requires-clause-plain c =
+    let node = seen_branch (tree_at c.args.terms.now) c.args.branch.now in
+    plain_listed _ node.pending c.in_ok-found.ensures.value
 
 pub returns-clause-value : goal.returns-clause-value
 returns-clause-value c =
