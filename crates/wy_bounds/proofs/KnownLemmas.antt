@@ -1,14 +1,16 @@
 -- Forms that are known.
-use Rattle.std.proofs.Common.{◌≡◌, ◌∙◌, ◌<◌, ◌≤◌, ◌+◌, ℕ, zero, suc, List, [], ◌∷◌, ◌++◌, All, length, map, set, Bool, true, false, cond, Option, Some, None, Result, Ok, Err, ℤ, refl, sym, ap, subst, arith}
+use Rattle.std.proofs.Common.{◌≡◌, ◌∙◌, ◌<◌, ◌≤◌, ◌+◌, ℕ, zero, suc, List, [], ◌∷◌, ◌++◌, All, length, get_or, map, set, take, Bool, true, false, cond, Option, Some, None, Result, Ok, Err, ℤ, refl, sym, ap, subst, arith}
 use Rattle.std.specs.Bool.{beq}
 use Rattle.std.specs.HashMap.{get}
 use Rattle.std.specs.Prelude.{◌&&◌, nat_eq, option_map, slice_get, IfSome, OnOk}
 use Rattle.std.proofs.lemmas.Bool.{eqb-true}
+use Rattle.std.proofs.lemmas.List.{take_all, take_more}
+use Rattle.std.proofs.Math.Dec.{eqb-suc-suc, eqb-suc-zero, eqb-zero-suc}
 use Rattle.std.proofs.lemmas.Option.{slice_get_within}
 use Rattle.wy_facts.specs.Seen.{Stays}
 use Rattle.wy_judging.specs.Seen.{same_signed, seen_literal}
 use Rattle.wy_judging.proofs.FormLemmas.{form_up}
-use Rattle.wy_lin.proofs.SeenLemmas.{first_of, rest_of}
+use Rattle.wy_lin.proofs.SeenLemmas.{all_more, all_none, first_of, rest_of}
 use Rattle.wy_lin.specs.Linear.{Linear}
 use Rattle.wy_lin.specs.Seen.{linear_form, seen_form, seen_part, IsOver}
 use Rattle.wy_lin.specs.TermForm.{form_of_literal}
@@ -98,6 +100,22 @@ form_pushed n at fs gs f put over = record {
   over = over;
 }
 
+-- ---- variables
+
+all_pushed : {A : Type 0} (P : A → Type 0) (xs : List A) (x : A) → All P xs → P x → All P (xs ++ x ∷ [])
+all_pushed P [] x all one = all_more P x [] one (all_none P)
+all_pushed P (y ∷ ys) x all one = all_more P y (ys ++ x ∷ []) (first_of P y ys all) (all_pushed P ys x (rest_of P y ys all) one)
+
+abbrev pub IsOverParts : ℕ → List (ℤ × ℕ) → Type 0
+IsOverParts n ps = All (λ (p : ℤ × ℕ). p.1 < n) ps
+
+-- one part more
+pub over_more : (n : ℕ) (ps : List (ℤ × ℕ)) (i : ℕ) (d : ℤ × ℕ) → i < length ps → (get_or ps i d).1 < n → IsOverParts n (take i ps) → IsOverParts n (take (i + 1) ps)
+over_more n ps i d lt one all = subst (IsOverParts n) (sym (take_more ps i d lt)) (all_pushed (λ (p : ℤ × ℕ). p.1 < n) (take i ps) (get_or ps i d) all one)
+
+pub over_whole : (n : ℕ) (ps : List (ℤ × ℕ)) (i : ℕ) → length ps ≤ i → IsOverParts n (take i ps) → IsOverParts n ps
+over_whole n ps i le all = subst (IsOverParts n) (take_all i ps le) all
+
 -- ---- other terms
 
 abbrev Agree : ℕ → (ℕ → Term) → (ℕ → Term) → Type 0
@@ -144,19 +162,11 @@ known_stays old new known stays are = record {
 
 -- ---- fewer terms
 
--- what lasts is over terms that both lists name, and nothing passes
-pub cut_lasting : (count : ℕ) (old new : List Plain) (was now : KnownForms) → AgreesUpTo count old new → AreKnown old was → was.floor ≤ count
-    → now.floor ≡ was.floor → now.lasting ≡ was.lasting
-    → AreNoted (length new) (tree_at new) (get same_signed now.passing.places) now.passing.made.items
-    → AreKnown new now
-cut_lasting count old new was now agrees are le floor lasting passing =
-    let kept = noted_agree was.floor was.floor (tree_at old) (tree_at new) (lasting_place was.lasting) was.lasting.made.items (λ t lt. agrees.trees t (omega (arith, lt, le))) (omega arith) are.lasting in
-    record {
-      floor = omega (arith, floor, le, agrees.within);
-      lasting = subst (λ (n : ℕ). AreNoted n (tree_at new) (lasting_place now.lasting) now.lasting.made.items) (sym floor)
-          (subst (λ (t : LastingForms). AreNoted was.floor (tree_at new) (lasting_place t) t.made.items) (sym lasting) kept);
-      passing = passing;
-    }
+-- what lasts is over terms that both lists name
+pub lasting_kept : (count : ℕ) (old new : List Plain) (known : KnownForms) → AgreesUpTo count old new → AreKnown old known → known.floor ≤ count
+    → AreNoted known.floor (tree_at new) (lasting_place known.lasting) known.lasting.made.items
+lasting_kept count old new known agrees are le =
+    noted_agree known.floor known.floor (tree_at old) (tree_at new) (lasting_place known.lasting) known.lasting.made.items (λ t lt. agrees.trees t (omega (arith, lt, le))) (omega arith) are.lasting
 
 -- ---- one literal more
 
@@ -213,12 +223,16 @@ there_pushed [] (suc a) = refl
 there_pushed (o ∷ os) zero = refl
 there_pushed (o ∷ os) (suc a) = there_pushed os a
 
+cond_by : (s t : Bool) (o : Option ℕ) (p : Option (Option ℕ)) → s ≡ t → cond s (some_place o) p ≡ cond t (some_place o) p
+cond_by s t o p e = ap (λ (b : Bool). cond b (some_place o) p) e
+
+-- an atom's place was put where those of literals that hold stand, or where those of denied ones do
 pub there_set : (os : List (Option (Option ℕ))) (k : ℕ) (o : Option ℕ) (a : ℕ) → k < length os → place_there (set os k (Some o)) a ≡ cond (nat_eq k a) (Some o) (place_there os a)
 there_set [] k o a lt = absurd (omega (arith, lt))
 there_set (p ∷ os) zero o zero lt = refl
-there_set (p ∷ os) zero o (suc a) lt = refl
-there_set (p ∷ os) (suc k) o zero lt = refl
-there_set (p ∷ os) (suc k) o (suc a) lt = there_set os k o a (omega (arith, lt))
+there_set (p ∷ os) zero o (suc a) lt = cond_by false (nat_eq 0 (suc a)) o (place_there os a) (sym (eqb-zero-suc a))
+there_set (p ∷ os) (suc k) o zero lt = cond_by false (nat_eq (suc k) 0) o p (sym (eqb-suc-zero k))
+there_set (p ∷ os) (suc k) o (suc a) lt = there_set os k o a (omega (arith, lt)) ∙ cond_by (nat_eq k a) (nat_eq (suc k) (suc a)) o (place_there os a) (sym (eqb-suc-suc k a))
 
 and_true : (a : Bool) → (a && true) ≡ a
 and_true true = refl
@@ -228,10 +242,6 @@ and_false : (a : Bool) → (a && false) ≡ false
 and_false true = refl
 and_false false = refl
 
-cond_by : (s t : Bool) (o : Option ℕ) (p : Option (Option ℕ)) → s ≡ t → cond s (some_place o) p ≡ cond t (some_place o) p
-cond_by s t o p e = ap (λ (b : Bool). cond b (some_place o) p) e
-
--- an atom's place was put where those of literals that hold stand, or where those of denied ones do
 holding_put : (a : ℕ) (o : Option ℕ) (was now denied : List (Option (Option ℕ))) → ((b : ℕ) → place_there now b ≡ cond (nat_eq a b) (Some o) (place_there was b))
     → (b : ℕ) (t : Bool) → place_by t now denied b ≡ cond (nat_eq a b && beq true t) (Some o) (place_by t was denied b)
 holding_put a o was now denied puts b true = puts b ∙ cond_by (nat_eq a b) (nat_eq a b && true) o (place_there was b) (sym (and_true (nat_eq a b)))
