@@ -21,11 +21,10 @@ use Rattle.wy_term.specs.Term.{Term}
 use Rattle.wy_valid.specs.Literals.{signed}
 use Rattle.wy_valid.specs.Sums.{form_at}
 use Rattle.wy_bounds.proofs.GatherLemmas.{form_behind}
-use Rattle.wy_bounds.specs.Known.{form_of_signed, form_placed, lasting_place, place_by, place_there, AgreesUpTo, AreKnown, AreNoted, HasForm, IsFormAt, IsFormIn, IsFormOf, IsKnown, IsPlace, IsPlaced, Notes, StartsWithForms}
+use Rattle.wy_bounds.specs.Known.{form_of_signed, form_placed, lasting_place, place_by, place_there, AgreesUpTo, AreKnown, AreNoted, HasForm, IsFormAt, IsFormIn, IsKnown, IsPlace, IsPlaced, Notes, StartsWithForms}
 use Rattle.wy_bounds.specs.declared.known.KnownForms.{KnownForms}
 use Rattle.wy_bounds.specs.declared.known.Place.{Place}
 use Rattle.wy_bounds.specs.declared.known.Place.TheVariants.{Lasting, Passing}
-use Rattle.wy_bounds.specs.declared.lasting.LastingForms.{LastingForms}
 
 abbrev some_form : Linear Term → Option (Linear Term)
 some_form f = Some f

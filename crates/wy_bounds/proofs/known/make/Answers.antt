@@ -1,11 +1,9 @@
-use Rattle.std.proofs.Common.{◌≡◌, ◌∙◌, Option, ap, refl, subst, sym, arith}
+use Rattle.std.proofs.Common.{◌∙◌, refl, subst, sym, arith}
 use Rattle.std.proofs.lemmas.Result.{IfOk-weaker}
 use Rattle.wy_bounds.proofs.KnownLemmas.{form_here, known_stays, signed_kept}
 use Rattle.wy_bounds.proofs.known.make.Goals as goal
 use Rattle.wy_bounds.specs.Known.{IsFormAt}
-use Rattle.wy_lin.specs.Linear.{Linear}
 use Rattle.wy_term.specs.Nodes.{tree_at}
-use Rattle.wy_term.specs.Term.{Term}
 
 pub note-requires-clause-known : goal.note-requires-clause-known
 note-requires-clause-known c = known_stays c.args.terms.now c.form_at.new.terms c.args.known.now c.in_ok-form.ensures.stays c.requires.known

@@ -1,9 +1,7 @@
-use Rattle.std.proofs.Common.{◌≡◌, ◌∙◌, Option, Some, ap, refl, rules, subst, sym}
-use Rattle.std.specs.Prelude.{IfSome}
+use Rattle.std.proofs.Common.{refl, subst, sym}
 use Rattle.wy_bounds.proofs.KnownLemmas.{form_here}
 use Rattle.wy_bounds.proofs.known.place_of_form.Goals as goal
-use Rattle.wy_bounds.specs.Known.{form_of_signed, IsFormAt}
-use Rattle.wy_bounds.specs.declared.known.Place.{Place}
+use Rattle.wy_bounds.specs.Known.{IsFormAt}
 use Rattle.wy_term.specs.Nodes.{tree_at}
 
 pub returns-in-Some-clause-value : goal.returns-in-Some-clause-value

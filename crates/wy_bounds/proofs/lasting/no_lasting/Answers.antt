@@ -1,4 +1,3 @@
-use Rattle.std.proofs.Common.{◌≡◌, None, refl}
 use Rattle.wy_bounds.proofs.KnownLemmas.{none_known, none_lasts}
 use Rattle.wy_bounds.proofs.lasting.no_lasting.Goals as goal
 

@@ -1,4 +1,4 @@
-use Rattle.std.proofs.Common.{◌≡◌, ◌∙◌, ◌<◌, List, Option, Some, ap, cond, length, refl, rules, arith}
+use Rattle.std.proofs.Common.{◌≡◌, ◌∙◌, List, Option, Some, ap, cond, length, refl, rules, arith}
 use Rattle.std.specs.Prelude.{ℕ, nat_eq}
 use Rattle.wy_bounds.proofs.KnownLemmas.{there_pushed, there_set}
 use Rattle.wy_bounds.proofs.lasting.put.Goals as goal
