@@ -1,5 +1,5 @@
 -- Lists of formulas that are added to a node, and the loops over what stands in it.
-use Rattle.std.proofs.Common.{◌≡◌, ◌∙◌, ◌<◌, ◌≤◌, ◌+◌, ℕ, zero, suc, Bool, List, [], ◌∷◌, ◌++◌, map, drop, length, Option, Some, None, Result, Ok, Err, refl, sym, ap, ap₂, arith}
+use Rattle.std.proofs.Common.{◌≡◌, ◌∙◌, ◌<◌, ◌≤◌, ◌+◌, ℕ, zero, suc, Bool, List, [], ◌∷◌, ◌++◌, map, drop, length, Option, Some, Result, Ok, Err, refl, sym, ap, ap₂, arith}
 use Rattle.std.specs.Prelude.{slice_get, option_map, IfSome, OnOk}
 use Rattle.wy_facts.proofs.StepLemmas.{below_kept, terms_kept}
 use Rattle.wy_facts.specs.Seen.{terms_at, AreBelow, Stays}

@@ -1,17 +1,17 @@
 -- Bounds of a factor.
-use Rattle.std.proofs.Common.{◌≡◌, ◌≢◌, ◌∙◌, ◌<◌, ◌≤◌, ◌+◌, ◌-◌, ℕ, zero, suc, List, [], ◌∷◌, drop, length, map, eqb, Bool, true, false, not, cond, ℤ, pos, negsuc, neg_ℤ, ◌+ℤ◌, ◌-ℤ◌, ◌*ℤ◌, ◌≤ℤ◌, ◌<ℤ◌, Option, Some, None, refl, sym, ap, subst, arith}
+use Rattle.std.proofs.Common.{◌≡◌, ◌≢◌, ◌∙◌, ◌<◌, ◌≤◌, ◌+◌, ◌-◌, ℕ, zero, suc, List, [], ◌∷◌, drop, length, map, Bool, true, false, not, cond, ℤ, pos, neg_ℤ, ◌+ℤ◌, ◌-ℤ◌, ◌*ℤ◌, ◌≤ℤ◌, ◌<ℤ◌, Option, Some, None, refl, sym, ap, subst, arith}
 use Rattle.std.specs.Prelude.{slice_get, unsigned_abs, int_lt, IfSome}
 use Rattle.std.specs.Bool.{beq}
 use Rattle.std.proofs.Math.Dec.{eqb-suc-zero}
 use Rattle.std.proofs.Math.IntN.{*ℤ_comm}
 use Rattle.std.proofs.lemmas.Int.{ints}
 use Rattle.wy_bounds.proofs.QuotientLemmas.{quotient_more, times_opposite}
-use Rattle.wy_bounds.specs.Bounds.{shift, AreBounds, IsBound}
+use Rattle.wy_bounds.specs.Bounds.{shift, AreBounds}
 use Rattle.wy_bounds.specs.declared.tightest.Bound.{Bound}
 use Rattle.wy_judge.specs.Node.{Literal}
 use Rattle.wy_lin.specs.Linear.{◌>>=◌, Linear, coefficient}
 use Rattle.wy_lin.specs.TermForm.{form_of_literal}
-use Rattle.wy_checking.specs.Seen.{number_of, signed_number, AreAffine, IsAffine}
+use Rattle.wy_checking.specs.Seen.{signed_number, AreAffine}
 use Rattle.wy_checking.specs.declared.affine.Affine.{Affine}
 use Rattle.wy_search.specs.Expansion.{best_bound, bound_by_literal, tighter, with_bound}
 use Rattle.wy_term.specs.Data.{quotient_down}

@@ -1,5 +1,5 @@
 -- What is left of forms, one literal after the other.
-use Rattle.std.proofs.Common.{◌≡◌, ◌∙◌, ◌+◌, ◌<◌, ◌≤◌, ◌||◌, ℕ, zero, suc, List, [], ◌∷◌, ◌++◌, ◌-◌, map, take, length, get_or, Bool, true, false, cond, Option, Some, None, refl, sym, ap, subst, arith, append_assoc}
+use Rattle.std.proofs.Common.{◌≡◌, ◌∙◌, ◌+◌, ◌<◌, ◌||◌, ℕ, zero, suc, List, [], ◌∷◌, ◌++◌, ◌-◌, map, take, length, get_or, Bool, true, false, cond, Option, Some, None, refl, sym, ap, subst, arith, append_assoc}
 use Rattle.std.specs.Prelude.{slice_get}
 use Rattle.std.proofs.lemmas.Bool.{ne_eqb}
 use Rattle.std.proofs.lemmas.List.{append-nil}
@@ -19,7 +19,6 @@ use Rattle.wy_bounds.specs.declared.gathering.Gathered.{Gathered}
 use Rattle.wy_bounds.specs.Gathered.{Gathers, TakesLiteral}
 use Rattle.wy_classes.specs.declared.present.Present.{Present}
 use Rattle.wy_classes.specs.Seen.{terms_of, IsPresent}
-use Rattle.wy_classes.proofs.WalkLemmas.{map_last}
 
 -- ---- one more
 

@@ -1,6 +1,6 @@
 -- Forms whose variables are given by places.
-use Rattle.std.proofs.Common.{◌≡◌, ◌∙◌, ◌+◌, ◌<◌, ◌≤◌, ℕ, List, [], ◌∷◌, ◌++◌, map, take, length, get_or, All, refl, sym, ap}
-use Rattle.std.specs.Prelude.{ℤ, pos}
+use Rattle.std.proofs.Common.{◌≡◌, ◌∙◌, ◌+◌, ◌<◌, ℕ, List, [], ◌∷◌, ◌++◌, map, take, length, get_or, sym, ap}
+use Rattle.std.specs.Prelude.{ℤ}
 use Rattle.std.proofs.lemmas.List.{take_more}
 use Rattle.wy_term.specs.Term.{Term}
 use Rattle.wy_lin.specs.Seen.{seen_part}

@@ -1,6 +1,6 @@
 -- What the product of two bounds states, and what becomes of a product whose factors aren't bounded so.
 use Rattle.std.proofs.Common.{◌≡◌, ◌∙◌, ◌||◌, ℕ, List, Bool, true, false, cond, ℤ, Option, Some, None, refl, subst, sym, ap, ap₂}
-use Rattle.wy_bounds.specs.Bounds.{AreBounds, AreTightest, IsBound, IsConstant, Pushes}
+use Rattle.wy_bounds.specs.Bounds.{AreBounds, AreTightest, IsConstant, Pushes}
 use Rattle.wy_bounds.specs.declared.tightest.Bound.{Bound}
 use Rattle.wy_bounds.specs.declared.products.Bounds.{Bounds}
 use Rattle.wy_judge.specs.Node.{Literal, Node}

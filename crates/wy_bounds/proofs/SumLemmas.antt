@@ -1,14 +1,14 @@
 -- Multipliers, and sums with them.
 use Rattle.std.proofs.Common.{◌≡◌, ◌∙◌, ◌+◌, ◌*◌, ◌<◌, ◌≤◌, ◌&&◌, ◌^◌, ℕ, zero, suc, List, [], ◌∷◌, ◌++◌, map, drop, take, length, get_or, All, Bool, true, false, cond, Option, Some, None, refl, sym, ap, subst, arith, append_assoc}
-use Rattle.std.specs.Prelude.{nat_lt, option_map, ℤ}
+use Rattle.std.specs.Prelude.{nat_lt}
 use Rattle.std.proofs.lemmas.List.{append-nil, drop_more, take_more}
 use Rattle.std.proofs.lemmas.Bool.{lt-ltb, le-ltb}
-use Rattle.wy_judging.proofs.NameLemmas.{and_false, and_true}
+use Rattle.wy_judging.proofs.NameLemmas.{and_false}
 use Rattle.wy_lin.specs.Linear.{Linear}
 use Rattle.wy_lin.specs.Combination.{combined}
 use Rattle.wy_lin.specs.Seen.{linear_form}
 use Rattle.wy_eliminate.specs.Division.{common}
-use Rattle.wy_search.specs.Bounds.{Replaced, leaves, named_from, all_fit, stated_sum, replaced_by, by_sum, by_common}
+use Rattle.wy_search.specs.Bounds.{leaves, named_from, all_fit, replaced_by, by_sum, by_common}
 use Rattle.wy_bounds.specs.declared.removal.Taking.{Taking}
 use Rattle.wy_bounds.specs.Seen.{seen_taking, seen_takings, forms_to_add, multipliers_of, sum_with}
 use Rattle.wy_classes.proofs.WalkLemmas.{map_last, drop_end}

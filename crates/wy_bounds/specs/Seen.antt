@@ -1,5 +1,5 @@
 -- What the code's values stand for, and the sum of a form and what takes variables away from it.
-use Rattle.std.specs.Prelude.{◌≡◌, ℕ, List, [], ◌∷◌, map, Bool, true, false, Option, Some, None}
+use Rattle.std.specs.Prelude.{◌≡◌, ℕ, List, ◌∷◌, map, true, false, Option, Some, None}
 use Rattle.wy_lin.specs.Linear.{Linear}
 use Rattle.wy_lin.specs.Seen.{linear_form}
 use Rattle.wy_search.specs.Bounds.{Replaced, gone, given, refutes, leaves, Ending, refuted, consistent, crowded, wide, named_from, all_fit, stated_sum}

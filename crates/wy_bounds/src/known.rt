@@ -1,33 +1,58 @@
 //! The forms of literals that were made once.
-ghost use Rattle.std.specs.Prelude.{◌≡◌, ◌<◌, ◌+◌, List, Some, length, option_map, slice_get, IfOk, IfSome, OnOk};
-ghost use Rattle.wy_bounds.specs.Known.{form_of_signed, AreKnown, IsFormAt, StartsWithForms};
+ghost use Rattle.std.specs.Prelude.{◌≡◌, ◌<◌, ◌≤◌, ◌+◌, ℕ, List, Some, length, option_map, slice_get, true, IfOk, IfSome, OnOk};
+ghost use Rattle.wy_bounds.specs.Known.{form_of_signed, form_placed, AgreesUpTo, AreKnown, IsFormAt, IsFormOf, IsPlace};
+ghost use Rattle.wy_bounds.specs.declared.known.Place.TheVariants as placed;
 ghost use Rattle.wy_facts.specs.Seen.{Stays};
 ghost use Rattle.wy_judging.specs.Seen.{seen_branch, IsBranch};
-ghost use Rattle.wy_lin.specs.Seen.{linear_form, seen_form, IsOver};
+ghost use Rattle.wy_lin.specs.Seen.{linear_form, IsOver};
 ghost use Rattle.wy_term.specs.Nodes.{tree_at, Plain};
+ghost use Rattle.wy_term.specs.Term.{Term};
 ghost use Rattle.wy_valid.specs.Sums.{form_at};
 
+use crate::lasting::{LastingForms, lasting_place, no_lasting, note_lasting};
+use crate::passing::{PassingForms, no_passing, note_passing, passing_place};
 use std::alloc::Global;
-use std::collections::HashMap;
 use wy_judging::{Branch, form_at, nth_literal};
 use wy_lin::Form;
 use wy_term::{NoMemory, Terms};
 
-/// The forms that were made, and for each literal that was asked for, by its atom's number and whether it holds, the place of
-/// its form, from 0, or that it has none. A literal says the same in each node of a search, so one table serves them all.
+/// The forms of literals that were made. A literal says the same in each node of a search, so one table serves them all; and one
+/// whose atom and variables are among the terms below the floor says the same in each search of a list of conditions, since a
+/// search takes away the terms that it made and no older one. So what lasts outlives a search, and what passes doesn't.
 #[derive(Drop)]
 pub struct KnownForms {
-    pub places: HashMap<(u32, bool), Option<usize>>,
-    pub made: Vec<Form>,
+    pub floor: usize,
+    pub lasting: LastingForms,
+    pub passing: PassingForms,
 }
 
-/// No form was made yet. It takes no memory.
-pub fn no_forms(alloc: Global) -> KnownForms
-    ensures { (nodes : List Plain) → AreKnown nodes result }
+/// In which table a form stands, and where there, from 0.
+#[derive(Clone, Copy, Debug, PartialEq, Eq)]
+pub enum Place {
+    Lasting(usize),
+    Passing(usize),
+}
+
+/// No form was made yet; those of terms below the floor are to last. It takes no memory.
+pub fn no_forms(alloc: Global, floor: usize) -> KnownForms
+    ensures { (nodes : List Plain) → floor ≤ length nodes → AreKnown nodes result }
 {
-    let places = HashMap::new(alloc);
-    let made = Vec::new(alloc);
-    KnownForms { places, made }
+    KnownForms {
+        floor,
+        lasting: no_lasting(alloc),
+        passing: no_passing(alloc),
+    }
+}
+
+/// Forgets each form that may name a term from this count on. It takes no memory.
+pub fn forget_from(alloc: Global, known: &mut KnownForms, count: usize)
+    ensures { (old new : List Plain) → AgreesUpTo count old new → AreKnown old known.old → AreKnown new known.new }
+{
+    known.passing = no_passing(alloc);
+    if count < known.floor {
+        known.lasting = no_lasting(alloc);
+        known.floor = count;
+    }
 }
 
 /// The number of the literal with a place.
@@ -43,18 +68,46 @@ pub fn literal_number(i: usize) -> Result<u32, NoMemory>
     }
 }
 
-// A form behind the others, if there is one, and its place.
-fn push_form(made: &mut Vec<Form>, form: Option<Form>) -> Result<Option<usize>, NoMemory>
-    ensures value { (nodes : List Plain) → IfSome form (λ f. IsOver (length nodes) (linear_form f)) → IfOk result (λ o. IsFormAt nodes made.new.items o (option_map (seen_form (tree_at nodes)) form)) }
-    ensures grows { OnOk result (StartsWithForms made.old.items made.new.items) }
+// Whether each variable of a form is one of the first terms.
+fn is_over(form: &Form, floor: usize) -> bool
+    ensures { result ≡ true → IsOver floor (linear_form form.now) }
 {
-    match form {
-        Some(f) => {
-            let place = made.len();
-            made.push(f)?;
-            Ok(Some(place))
+    for part in form.parts.as_slice() {
+        if floor <= part.1 as usize {
+            return false;
         }
-        None => Ok(None),
+    }
+    true
+}
+
+// Whether a literal and its form are over the first terms.
+fn lasts(literal: (u32, bool), form: &Option<Form>, floor: usize) -> bool
+    ensures { (n : ℕ) → (at : ℕ → Term) → IsFormOf n at literal form.now → result ≡ true → IsFormOf floor at literal form.now }
+{
+    if floor <= literal.0 as usize {
+        return false;
+    }
+    match form {
+        Some(f) => is_over(f, floor),
+        None => true,
+    }
+}
+
+fn as_lasting(place: Option<usize>) -> Option<Place>
+    ensures { result ≡ option_map placed.Lasting place }
+{
+    match place {
+        Some(k) => Some(Place::Lasting(k)),
+        None => None,
+    }
+}
+
+fn as_passing(place: Option<usize>) -> Option<Place>
+    ensures { result ≡ option_map placed.Passing place }
+{
+    match place {
+        Some(k) => Some(Place::Passing(k)),
+        None => None,
     }
 }
 
@@ -64,18 +117,20 @@ fn note(
     known: &mut KnownForms,
     literal: (u32, bool),
     form: Option<Form>,
-) -> Result<Option<usize>, NoMemory>
+) -> Result<Option<Place>, NoMemory>
     requires known { AreKnown terms.now known.old }
-    requires literal { literal.0 < length terms.now }
-    requires form { option_map (seen_form (tree_at terms.now)) form ≡ form_of_signed (tree_at terms.now) literal }
-    requires within { IfSome form (λ f. IsOver (length terms.now) (linear_form f)) }
-    ensures value { IfOk result (λ o. IsFormAt terms.now known.new.made.items o (form_of_signed (tree_at terms.now) literal)) }
+    requires form { IsFormOf (length terms.now) (tree_at terms.now) literal form }
+    ensures value { IfOk result (λ o. IsFormAt terms.now known.new o (form_of_signed (tree_at terms.now) literal)) }
     ensures known { OnOk result (AreKnown terms.now known.new) }
 {
     let _terms = terms;
-    let place = push_form(&mut known.made, form)?;
-    known.places.insert(literal, place)?;
-    Ok(place)
+    if lasts(literal, &form, known.floor) {
+        let place = note_lasting(&mut known.lasting, literal, form)?;
+        Ok(as_lasting(place))
+    } else {
+        let place = note_passing(&mut known.passing, literal, form)?;
+        Ok(as_passing(place))
+    }
 }
 
 // The form of a literal that isn't known yet is made and noted.
@@ -85,18 +140,31 @@ fn make(
     branch: &Branch,
     i: usize,
     literal: (u32, bool),
-) -> Result<Option<usize>, NoMemory>
+) -> Result<Option<Place>, NoMemory>
     requires branch { IsBranch terms.old branch.now }
     requires known { AreKnown terms.old known.old }
     requires literal { literal.0 < length terms.old }
     requires here { slice_get branch.now.literals.keys i ≡ Some literal }
-    ensures value { IfOk result (λ o. IsFormAt terms.new known.new.made.items o (form_at (seen_branch (tree_at terms.old) branch.now).literals (i + 1))) }
+    ensures value { IfOk result (λ o. IsFormAt terms.new known.new o (form_at (seen_branch (tree_at terms.old) branch.now).literals (i + 1))) }
     ensures known { OnOk result (AreKnown terms.new known.new) }
     ensures stays { Stays terms.old terms.new }
 {
     let number = literal_number(i)?;
     let form = form_at(terms, branch, number)?;
     note(terms, known, literal, form)
+}
+
+// The place of a literal's form, if the literal is known.
+fn noted_place(known: &KnownForms, literal: (u32, bool)) -> Option<Option<Place>>
+    ensures { (nodes : List Plain) → AreKnown nodes known.now → IfSome result (λ o. IsFormAt nodes known.now o (form_of_signed (tree_at nodes) literal)) }
+{
+    match lasting_place(&known.lasting, literal) {
+        Some(place) => Some(as_lasting(place)),
+        None => match passing_place(&known.passing, literal) {
+            Some(place) => Some(as_passing(place)),
+            None => None,
+        },
+    }
 }
 
 /// The place of the form of the literal with a place, if it has a form. The first time that this is asked of a literal it takes
@@ -106,25 +174,28 @@ pub fn place_of_form(
     known: &mut KnownForms,
     branch: &Branch,
     i: usize,
-) -> Result<Option<usize>, NoMemory>
+) -> Result<Option<Place>, NoMemory>
     requires branch { IsBranch terms.old branch.now }
     requires known { AreKnown terms.old known.old }
     requires place { i < length branch.now.literals.keys }
-    ensures value { IfOk result (λ o. IsFormAt terms.new known.new.made.items o (form_at (seen_branch (tree_at terms.old) branch.now).literals (i + 1))) }
+    ensures value { IfOk result (λ o. IsFormAt terms.new known.new o (form_at (seen_branch (tree_at terms.old) branch.now).literals (i + 1))) }
     ensures known { OnOk result (AreKnown terms.new known.new) }
     ensures stays { Stays terms.old terms.new }
 {
     let literal = nth_literal(terms, branch, i);
-    match known.places.get(&literal).copied() {
+    match noted_place(known, literal) {
         Some(place) => Ok(place),
         None => make(terms, known, branch, i, literal),
     }
 }
 
 /// The form with a place, in constant time.
-pub fn known_form(known: &KnownForms, place: usize) -> &Form
-    requires { place < length known.now.made.items }
-    ensures { slice_get known.now.made.items place ≡ Some result.now }
+pub fn known_form(known: &KnownForms, place: Place) -> &Form
+    requires { IsPlace known.now place }
+    ensures { form_placed known.now place ≡ Some result.now }
 {
-    &known.made[place]
+    match place {
+        Place::Lasting(k) => &known.lasting.made[k],
+        Place::Passing(k) => &known.passing.made[k],
+    }
 }

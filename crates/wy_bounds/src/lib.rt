@@ -5,8 +5,9 @@
 //! them up; `replacing` gives what is left of a form. `gathering` does so for each literal, and `ending` eliminates the variables
 //! of what is left. The definition is that of `wy_search`.
 //!
-//! `known` keeps the forms of literals that were made, so that each is made once for a whole search: nodes share most of their
-//! literals, and forms are made of terms as deep as a function's body is long.
+//! `known` keeps the forms of literals that were made, so that each is made once: nodes share most of their literals, and so do the
+//! conditions of a list, and forms are made of terms as deep as a function's body is long. What it has of old terms (`lasting`)
+//! outlives a search, and the rest (`passing`) goes with the terms that the search made. `made` puts a form behind others.
 //!
 //! The products of bounds that a round of expansion adds to a node.
 //!
@@ -19,6 +20,9 @@ mod firsts;
 mod forms;
 mod gathering;
 mod known;
+mod lasting;
+mod made;
+mod passing;
 mod products;
 mod removal;
 mod replacing;
@@ -27,7 +31,7 @@ mod tightest;
 
 pub use ending::{Ending, ending_of_elimination};
 pub use forms::numbered;
-pub use known::{KnownForms, no_forms};
+pub use known::{KnownForms, forget_from, no_forms};
 pub use products::{Bounds, bounds_of, products_of};
 pub use removal::{Taking, takings};
 pub use replacing::{Replaced, replace};

@@ -26,4 +26,4 @@ mod walking;
 mod writing;
 
 pub use judgement::certified;
-pub use wy_searching::{OpenLeaf, Verdict, Why, search};
+pub use wy_searching::{KnownForms, OpenLeaf, Verdict, Why, no_forms, search};

@@ -196,7 +196,7 @@ fn products_with_steps(
     ensures below { IfOk result (λ fs. AreBelow (length terms.new) fs.items) }
     ensures stays { Stays terms.old terms.new }
 {
-    let mut known = no_forms(terms.allocator());
+    let mut known = no_forms(terms.allocator(), 0);
     push_products(terms, &mut known, branch, plan)?;
     products_of(terms, &mut known, branch)
 }

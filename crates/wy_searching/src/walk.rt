@@ -16,7 +16,7 @@ ghost use Rattle.wy_term.specs.Nodes.{tree_at};
 use crate::turning::{Next, what_follows};
 use crate::verdict::{OpenLeaf, Verdict, Why};
 use std::collections::VecDeque;
-use wy_bounds::{KnownForms, no_forms};
+use wy_bounds::{KnownForms, forget_from};
 use wy_judging::{Branch, bare, first_branch, nth_literal};
 use wy_stated_facts::Spot;
 use wy_term::{Cond, NoMemory, Terms};
@@ -203,18 +203,24 @@ fn turn(
 }
 
 // The walk, which makes terms.
-fn searched(terms: &mut Terms, cond: &Cond, budget: u64) -> Result<Verdict, NoMemory>
+fn searched(
+    terms: &mut Terms,
+    known: &mut KnownForms,
+    cond: &Cond,
+    budget: u64,
+) -> Result<Verdict, NoMemory>
     requires hyps { All (λ h. h < length terms.old) cond.now.hyps.items }
     requires goal { cond.now.goal < length terms.old }
     requires types { AreTypesBelow (length terms.old) cond.now }
+    requires known { AreKnown terms.old known.old }
     ensures verdict { IfOk result (λ v. tree.IsVerdict (condition_of terms.old cond.now) budget (seen_verdict v)) }
     ensures within { IfOk result NamesItsTerms }
+    ensures known { OnOk result (AreKnown terms.new known.new) }
     ensures stays { Stays terms.old terms.new }
 {
     let mut walk = first_walk(terms, cond)?;
-    let mut known = no_forms(terms.allocator());
     for _turn in 0..u64::MAX {
-        match turn(terms, &mut known, cond, budget, walk)? {
+        match turn(terms, known, cond, budget, walk)? {
             Turned::Ends(verdict) => return Ok(verdict),
             Turned::GoesOn(next) => walk = next,
         }
@@ -223,18 +229,27 @@ fn searched(terms: &mut Terms, cond: &Cond, budget: u64) -> Result<Verdict, NoMe
 }
 
 /// The verdict of the search of a condition, at a budget of leaves. The terms are as before afterwards, at want of memory too.
-/// Each node is judged anew; the form of a literal is made once.
-pub fn search(terms: &mut Terms, cond: &Cond, budget: u64) -> Result<Verdict, NoMemory>
+/// Each node is judged anew; the form of a literal is made once, and for all searches with this table where it is of terms below
+/// the table's floor.
+pub fn search(
+    terms: &mut Terms,
+    known: &mut KnownForms,
+    cond: &Cond,
+    budget: u64,
+) -> Result<Verdict, NoMemory>
     requires hyps { All (λ h. h < length terms.old) cond.now.hyps.items }
     requires goal { cond.now.goal < length terms.old }
     requires types { AreTypesBelow (length terms.old) cond.now }
+    requires known { AreKnown terms.old known.old }
     ensures verdict { IfOk result (λ v. tree.IsVerdict (condition_of terms.old cond.now) budget (seen_verdict v)) }
     ensures within { IfOk result NamesItsTerms }
+    ensures known { OnOk result (AreKnown terms.new known.new) }
     ensures length { length terms.new ≡ length terms.old }
     ensures kept { (t : ℕ) → t < length terms.old → tree_at terms.new t ≡ tree_at terms.old t }
 {
     let mark = terms.mark();
-    let verdict = searched(terms, cond, budget);
+    let verdict = searched(terms, known, cond, budget);
     terms.back_to(mark);
+    forget_from(terms.allocator(), known, terms.len());
     verdict
 }

@@ -161,8 +161,9 @@ const ROWS: [Row; 16] = [
 #[test]
 fn small_conditions_end_so(rt: HostRuntime) -> Result<(), NoMemory> {
     for row in &ROWS {
-        let text = ended(rt.alloc(), row)?;
-        assert_eq!(rt; text.as_slice(), row.want.as_bytes());
+        let (first, second) = ended(rt.alloc(), row)?;
+        assert_eq!(rt; first.as_slice(), row.want.as_bytes());
+        assert_eq!(rt; second.as_slice(), row.want.as_bytes());
     }
     Ok(())
 }

@@ -1,4 +1,4 @@
-use Rattle.std.proofs.Common.{◌≡◌, ◌∙◌, ◌+◌, ℕ, [], length, nat_eq, refl, rules, subst, sym}
+use Rattle.std.proofs.Common.{◌≡◌, ◌∙◌, ◌+◌, ℕ, [], nat_eq, refl, rules, subst, sym}
 use Rattle.std.specs.HashMap.{get}
 use Rattle.wy_bounds.proofs.FirstLemmas.{count_more, firsts_more, no_firsts, none_noted}
 use Rattle.wy_bounds.proofs.firsts.first_places.Goals as goal

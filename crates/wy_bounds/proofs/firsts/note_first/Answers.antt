@@ -1,4 +1,4 @@
-use Rattle.std.proofs.Common.{◌≡◌, None, Some, nat_eq, rules, sym}
+use Rattle.std.proofs.Common.{◌≡◌, None, Some, nat_eq, rules}
 use Rattle.std.specs.HashMap.{get}
 use Rattle.wy_bounds.proofs.FirstLemmas.{first_new, first_noted, noted_again, noted_new}
 use Rattle.wy_bounds.proofs.firsts.note_first.Goals as goal

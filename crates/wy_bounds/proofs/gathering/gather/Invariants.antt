@@ -1,9 +1,9 @@
-use Rattle.std.proofs.Common.{◌≡◌, take, length}
+use Rattle.std.proofs.Common.{take}
 use Rattle.wy_facts.specs.Seen.{Stays}
-use Rattle.wy_judging.specs.Seen.{IsBranch, seen_branch}
+use Rattle.wy_judging.specs.Seen.{seen_branch}
 use Rattle.wy_search.specs.Bounds.{replaced_forms}
 use Rattle.wy_term.specs.Nodes.{tree_at}
-use Rattle.wy_classes.specs.Seen.{terms_of, IsPresent}
+use Rattle.wy_classes.specs.Seen.{terms_of}
 use Rattle.wy_bounds.specs.Gathered.{Gathers}
 use Rattle.wy_bounds.specs.Known.{AreKnown}
 use Rattle.wy_bounds.proofs.gathering.gather.Given as goal

@@ -1,6 +1,5 @@
-use Rattle.std.proofs.Common.{◌≡◌, ◌∙◌, ◌++◌, [], ◌∷◌, List, true, refl, sym, ap, subst, map}
+use Rattle.std.proofs.Common.{◌∙◌, ◌++◌, [], ◌∷◌, true, refl, sym, ap, subst, map}
 use Rattle.wy_lin.specs.Seen.{linear_form}
-use Rattle.wy_search.specs.Bounds as bounds
 use Rattle.wy_bounds.specs.declared.replacing.Replaced.{Replaced}
 use Rattle.wy_bounds.specs.Gathered.{Gathers}
 use Rattle.wy_bounds.specs.Seen.{seen_replaced}

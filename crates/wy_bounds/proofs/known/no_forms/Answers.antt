@@ -1,10 +1,10 @@
-use Rattle.std.proofs.Common.{◌≡◌, None, refl}
-use Rattle.std.specs.HashMap.{get}
-use Rattle.wy_bounds.proofs.KnownLemmas.{none_known}
 use Rattle.wy_bounds.proofs.known.no_forms.Goals as goal
-use Rattle.wy_judging.specs.Seen.{same_signed}
+use Rattle.wy_term.specs.Nodes.{tree_at}
+use Rattle.std.proofs.Common.{length}
 
 pub returns : goal.returns
-returns c = λ nodes l o e.
-    let none : get same_signed c.new-places.result l ≡ None = rw c.new-places.ensures.empty refl in
-    none_known (get same_signed c.new-places.result l) o none e
+returns c = λ nodes le. record {
+  floor = le;
+  lasting = c.no_lasting.ensures c.args.floor (tree_at nodes);
+  passing = c.no_passing.ensures (length nodes) (tree_at nodes);
+}

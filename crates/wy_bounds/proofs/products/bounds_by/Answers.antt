@@ -1,4 +1,4 @@
-use Rattle.std.proofs.Common.{◌≡◌, ap, false, length}
+use Rattle.std.proofs.Common.{ap, false, length}
 use Rattle.wy_bounds.proofs.BoundLemmas.{bounds_at}
 use Rattle.wy_bounds.proofs.products.bounds_by.Goals as goal
 use Rattle.wy_judge.specs.Node.{Node}

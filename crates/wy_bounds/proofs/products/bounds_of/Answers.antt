@@ -1,7 +1,6 @@
 use Rattle.std.proofs.Common.{Option, subst}
 use Rattle.wy_bounds.proofs.products.bounds_of.Goals as goal
 use Rattle.wy_bounds.specs.Bounds.{IsVarying}
-use Rattle.wy_lin.specs.Linear.{Linear}
 use Rattle.wy_lin.specs.Seen.{seen_form}
 use Rattle.wy_lin.specs.TermForm.{form_of}
 use Rattle.wy_lin.specs.declared.linear.Form.{Form}

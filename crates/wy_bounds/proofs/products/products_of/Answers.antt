@@ -1,4 +1,4 @@
-use Rattle.std.proofs.Common.{◌≡◌, ◌≤◌, ◌∙◌, ℕ, List, [], ◌∷◌, length, ap, ap₂, refl, rules, subst, sym, arith}
+use Rattle.std.proofs.Common.{◌≡◌, ◌≤◌, ◌∙◌, ℕ, List, [], length, ap, ap₂, refl, rules, subst, sym, arith}
 use Rattle.wy_bounds.proofs.AddingLemmas.{end_led, formula_kept, step_led, within_now}
 use Rattle.wy_bounds.proofs.products.products_of.Goals as goal
 use Rattle.wy_facts.proofs.StepLemmas.{stays_on, stays_same}
@@ -6,7 +6,6 @@ use Rattle.wy_facts.specs.Seen.{terms_at, AreBelow}
 use Rattle.wy_judge.specs.Node.{Node, with_formulas}
 use Rattle.wy_judging.specs.Seen.{seen_branch}
 use Rattle.wy_search.specs.Expansion.{with_products_by, with_products_of}
-use Rattle.wy_search.specs.Standing.{standing}
 use Rattle.wy_judging.proofs.SumsBranchLemmas.{branch_stays, node_stays}
 use Rattle.wy_term.specs.Nodes.{tree_at}
 use Rattle.wy_term.specs.Term.{Term}

@@ -1,11 +1,10 @@
-use Rattle.std.proofs.Common.{◌≡◌, ◌≤◌, ◌<◌, ℕ, List, None, Bool, true, false, ap, length, arith}
+use Rattle.std.proofs.Common.{None, true, false, ap, arith}
 use Rattle.wy_bounds.proofs.AddingLemmas.{leads_if, leads_on}
 use Rattle.wy_bounds.proofs.ProductLemmas.{pushes_at}
 use Rattle.wy_bounds.proofs.products.push_four.Goals as goal
 use Rattle.wy_bounds.specs.Adding.{Leads}
 use Rattle.std.specs.Prelude.{OnOk}
 use Rattle.wy_facts.proofs.StepLemmas.{stays_on}
-use Rattle.wy_facts.specs.Seen.{Stays}
 use Rattle.wy_judge.specs.Node.{Node}
 use Rattle.wy_judging.specs.Seen.{seen_branch}
 use Rattle.wy_search.specs.Expansion.{best_bound}

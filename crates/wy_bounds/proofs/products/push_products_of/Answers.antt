@@ -1,12 +1,11 @@
-use Rattle.std.proofs.Common.{◌≡◌, ◌∙◌, ◌≤◌, ◌<◌, Option, Some, None, ap, ap₂, refl, length, rules, subst, sym, arith}
+use Rattle.std.proofs.Common.{◌≡◌, ◌∙◌, Some, ap, ap₂, refl, subst, sym, arith}
 use Rattle.wy_bounds.proofs.AddingLemmas.{led_from, unmoved_now}
 use Rattle.wy_bounds.proofs.KnownLemmas.{if_known}
 use Rattle.wy_bounds.proofs.ProductLemmas.{both_vary, constant_first, constant_second, product_at, tightest_at}
 use Rattle.wy_bounds.proofs.products.push_products_of.Goals as goal
 use Rattle.wy_bounds.specs.Bounds.{AreFactor, IsConstant, IsFactor}
-use Rattle.wy_bounds.specs.declared.products.Bounds.{Bounds}
 use Rattle.wy_facts.proofs.StepLemmas.{below_kept, stays_on}
-use Rattle.wy_judge.specs.Node.{Literal, Node}
+use Rattle.wy_judge.specs.Node.{Node}
 use Rattle.wy_judging.specs.Seen.{seen_branch}
 use Rattle.wy_lin.specs.TermForm.{form_of}
 use Rattle.wy_search.specs.Expansion.{with_four}

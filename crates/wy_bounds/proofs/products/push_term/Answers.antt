@@ -1,4 +1,4 @@
-use Rattle.std.proofs.Common.{◌≡◌, ◌∙◌, Option, Some, None, Bool, true, false, ap, refl, rules, sym}
+use Rattle.std.proofs.Common.{◌≡◌, ◌∙◌, Option, Some, None, Bool, true, false, ap, rules, sym}
 use Rattle.wy_bounds.proofs.AddingLemmas.{led_if, unmoved}
 use Rattle.wy_bounds.proofs.products.push_term.Goals as goal
 use Rattle.wy_judge.specs.Node.{Node}

@@ -1,4 +1,4 @@
-use Rattle.std.proofs.Common.{◌≡◌, ◌∙◌, ℤ, ℕ, List, Option, Some, None, Bool, true, false, map, ap, refl, rules, subst, sym}
+use Rattle.std.proofs.Common.{◌≡◌, ◌∙◌, ℤ, ℕ, List, Some, None, true, false, map, ap, rules, subst, sym}
 use Rattle.wy_bounds.proofs.products.varying_form.Goals as goal
 use Rattle.wy_bounds.specs.Bounds.{IsConstant}
 use Rattle.wy_lin.specs.Seen.{seen_form, seen_part}

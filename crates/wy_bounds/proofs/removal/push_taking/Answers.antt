@@ -1,4 +1,4 @@
-use Rattle.std.proofs.Common.{◌≡◌, ◌∙◌, false, sym, ap, rules, to_z, FitsSigned}
+use Rattle.std.proofs.Common.{◌≡◌, ◌∙◌, sym, ap, rules, to_z, FitsSigned}
 use Rattle.std.specs.Int.{w128}
 use Rattle.std.proofs.lemmas.Int.{to_z-of_z}
 use Rattle.wy_search.specs.Bounds.{taking_away}

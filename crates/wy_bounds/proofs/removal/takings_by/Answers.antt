@@ -1,10 +1,10 @@
-use Rattle.std.proofs.Common.{◌≡◌, ◌∙◌, ◌++◌, [], ◌∷◌, get_or, ap, rules, FitsSigned}
+use Rattle.std.proofs.Common.{◌∙◌, ◌++◌, [], ◌∷◌, get_or, ap, rules, FitsSigned}
 use Rattle.std.specs.Int.{w128}
 use Rattle.std.proofs.lemmas.Int.{to_z-of_z}
 use Rattle.std.specs.Prelude.{pos, ℤ}
 use Rattle.wy_search.specs.Bounds.{takings}
 use Rattle.wy_bounds.specs.Seen.{seen_takings}
-use Rattle.wy_bounds.proofs.TakingLemmas.{takings_next, takings_end}
+use Rattle.wy_bounds.proofs.TakingLemmas.{takings_next}
 use Rattle.wy_bounds.proofs.removal.takings_by.Goals as goal
 
 pub loop-part-preserved : goal.loop-part-preserved

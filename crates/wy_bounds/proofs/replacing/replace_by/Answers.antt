@@ -1,4 +1,4 @@
-use Rattle.std.proofs.Common.{◌≡◌, ◌∙◌, ℕ, List, Bool, true, false, eqb, length, map, sym, ap, rules, vec_len}
+use Rattle.std.proofs.Common.{◌≡◌, ◌∙◌, List, true, false, eqb, length, sym, ap, rules, vec_len}
 use Rattle.std.specs.Prelude.{option_map}
 use Rattle.std.proofs.lemmas.Result.{IfOk-weaker}
 use Rattle.wy_lin.specs.Seen.{linear_form}

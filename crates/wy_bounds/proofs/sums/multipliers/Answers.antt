@@ -1,4 +1,4 @@
-use Rattle.std.proofs.Common.{◌≡◌, ◌∙◌, ◌+◌, ◌*◌, ◌<◌, ◌≤◌, ◌^◌, ℕ, length, ap, arith, rules}
+use Rattle.std.proofs.Common.{◌≡◌, ◌∙◌, ◌+◌, ◌*◌, ◌<◌, ◌≤◌, ◌^◌, ap, arith, rules}
 use Rattle.wy_bounds.specs.declared.removal.Taking.{Taking}
 use Rattle.wy_bounds.proofs.SumLemmas.{multiplier_more, fit_more, fit_never, one_longer}
 use Rattle.wy_bounds.proofs.sums.multipliers.Goals as goal

@@ -1,9 +1,9 @@
-use Rattle.std.proofs.Common.{ℕ, Option, List, subst, ◌≡◌, ◌∙◌, length, map, ap, rules, sym}
+use Rattle.std.proofs.Common.{ℕ, Option, List, subst, ◌∙◌, length, map, ap, rules, sym}
 use Rattle.std.specs.Prelude.{option_map}
 use Rattle.std.proofs.lemmas.List.{length-map}
 use Rattle.wy_lin.specs.Seen.{linear_form}
 use Rattle.wy_bounds.specs.Seen.{seen_takings, multipliers_of, AreMultipliers}
-use Rattle.wy_bounds.proofs.SumLemmas.{sum_none, sum_fits, multipliers_before, forms_count}
+use Rattle.wy_bounds.proofs.SumLemmas.{sum_none, multipliers_before, forms_count}
 use Rattle.wy_bounds.proofs.sums.sum_with.Goals as goal
 
 pub returns-in_default : goal.returns-in_default

@@ -1,17 +1,14 @@
-use Rattle.std.proofs.Common.{◌≡◌, ◌≤◌, ◌<◌, ◌∙◌, ℕ, ℤ, Option, None, length, refl, rules, sym, ap, ap₂, subst, arith}
+use Rattle.std.proofs.Common.{◌≤◌, ◌<◌, ℕ, None, length, refl, rules, sym, ap, subst}
 use Rattle.wy_bounds.proofs.BoundLemmas.{at_old, best_end, best_more, count_seen}
 use Rattle.wy_bounds.proofs.tightest.bound_of.Goals as goal
 use Rattle.wy_bounds.specs.Bounds.{AreBounds}
-use Rattle.wy_bounds.specs.declared.tightest.Bound.{Bound}
 use Rattle.wy_facts.proofs.StepLemmas.{stays_on, stays_same}
-use Rattle.wy_judge.specs.Node.{Literal, Node}
+use Rattle.wy_judge.specs.Node.{Node}
 use Rattle.wy_judging.specs.Seen.{seen_branch, seen_literal}
-use Rattle.wy_lin.specs.Linear.{Linear}
 use Rattle.wy_lin.specs.Seen.{seen_form}
 use Rattle.wy_judging.proofs.SumsBranchLemmas.{branch_stays, node_stays}
 use Rattle.wy_judging.proofs.FormLemmas.{form_kept, form_up}
 use Rattle.wy_term.specs.Nodes.{tree_at}
-use Rattle.wy_term.specs.Term.{Term}
 
 pub with_literal-requires-clause-branch : goal.with_literal-requires-clause-branch
 with_literal-requires-clause-branch c = branch_stays c.args.terms.now c.loop-i.terms c.args.branch.now c.loop-i.invariant.stays c.requires.branch

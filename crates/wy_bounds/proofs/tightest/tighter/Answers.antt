@@ -1,5 +1,4 @@
-use Rattle.std.proofs.Common.{◌≡◌, ℤ, ◌<ℤ◌, ◌≤ℤ◌, Option, rules, subst, arith}
-use Rattle.std.proofs.lemmas.Int.{ints}
+use Rattle.std.proofs.Common.{◌<ℤ◌, ◌≤ℤ◌, Option, rules, subst}
 use Rattle.wy_bounds.proofs.BoundLemmas.{first_bound, new_bound, old_bound}
 use Rattle.wy_bounds.proofs.tightest.tighter.Goals as goal
 use Rattle.wy_bounds.specs.Bounds.{AreBounds}

@@ -1,7 +1,6 @@
-use Rattle.std.proofs.Common.{◌≡◌, ◌∙◌, FitsSigned, Option, Some, None, ap, rules, subst, sym, length}
+use Rattle.std.proofs.Common.{◌∙◌, FitsSigned, ap, rules, subst, sym, length}
 use Rattle.std.proofs.lemmas.Int.{to_z-of_z}
 use Rattle.std.specs.Int.{w128}
-use Rattle.std.specs.Prelude.{option_map}
 use Rattle.wy_bounds.proofs.BoundLemmas.{affine_size, no_form, some_form}
 use Rattle.wy_bounds.proofs.KnownLemmas.{no_place, place_within, placed_at, placed_is, placed_over}
 use Rattle.wy_bounds.proofs.tightest.with_literal.Goals as goal

@@ -15,7 +15,7 @@ pub loop-turn-init : goal.loop-turn-init
 loop-turn-init c = record {
   reaches = reach_first (condition_of c.args.terms.now c.args.cond.now) c.args.budget c.in_ok-walk.walk.leaves (map (seen_spot (tree_at c.args.terms.now)) c.in_ok-walk.walk.spots.items) c.in_ok-walk.ensures.leaves c.in_ok-walk.ensures.spots;
   walk = c.in_ok-walk.ensures.walk c.args.budget;
-  known = c.no_forms-known.ensures c.args.terms.now;
+  known = c.requires.known;
   stays = stays_same c.args.terms.now;
 }
 
