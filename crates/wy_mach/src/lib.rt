@@ -26,6 +26,9 @@
 //! `plain` has the instructions that go on behind, `calling` those that call and return, `starting`
 //! starts a run, and `runs` a loop over these. Which state of the step on values a machine shows is said
 //! in `specs/States`, and what a turn does in `specs/Running`.
+//!
+//! [`run`] takes a run that lacks no step: behind each that it makes, the step on values goes on or has ended. Who has
+//! no such run makes its turns one by one, with [`Machine`]: a turn may also answer that it is stuck.
 #![tactic(auto)]
 
 mod calling;
