@@ -1,10 +1,10 @@
 //! Writes at a path: in place as far as one place alone holds each node, and by copies from there on.
-ghost use Rattle.std.specs.Prelude.{◌≡◌, ◌≤◌, ◌∷◌, [], ◌++◌, ℕ, List, IfOk, IfErr, OnOk, OnErr, IsOk, slice_set};
+ghost use Rattle.std.specs.Prelude.{◌≡◌, ◌≤◌, ◌∷◌, [], ◌++◌, ℕ, List, IfOk, IfErr, OnOk, OnErr, IsOk, length, slice_set};
 ghost use Rattle.wy_value.specs.Datum.{Datum};
 ghost use Rattle.wy_value.specs.Shapes.{IsShapes};
 ghost use Rattle.wy_heap.specs.declared.part.Part.{Part};
 ghost use Rattle.wy_heap.specs.declared.part.Part.TheVariants.{Key, Null};
-ghost use Rattle.wy_heap.specs.Nodes.{map_of, at, form_in, parts_in};
+ghost use Rattle.wy_heap.specs.Nodes.{map_of, at, form_in, parts_in, count_at};
 ghost use Rattle.wy_heap.specs.Meaning.{Means};
 ghost use Rattle.wy_heap.specs.Standing.{Stands, Counts, IsWithin, AreHeld, Acts, SameTable, IsAsBefore};
 ghost use Rattle.wy_heap.specs.Slots.{steps_of, put, IsPath};
@@ -40,7 +40,7 @@ impl Heap {
         ensures kept { SameTable self.old self.new }
     {
         let before = self.copies;
-        match self.written(p.part(), path, v.part()) {
+        match self.put_along(p.part(), path, v.part()) {
             Ok(made) => {
                 let _part = v.spent();
                 let _old = mem::replace(p, Place::of(made)).spent();
@@ -51,6 +51,55 @@ impl Heap {
                 Err(v)
             }
         }
+    }
+
+    // the whole with the part at the end of the path. A path of one step into a node with one holder, as most are, needs no recursion.
+    #[inline(always)]
+    fn put_along(&mut self, whole: Part, path: &[Slot], part: Part) -> Result<Part, AllocError>
+        requires held { (others : List Part) × Counts self.old (whole ∷ part ∷ others) }
+        requires within { IsWithin self.old }
+        requires some { 1 ≤ self.old.cap }
+        requires table { IsShapes self.old.shapes }
+        requires there { IsPath self.old whole path.now }
+        ensures wrote { IfOk result (λ made. Wrote self.old self.new (whole ∷ part ∷ []) whole (steps_of self.old.shapes path.now) part made) }
+        ensures copies { IfOk result (λ made. CountsCopies self.old self.new whole (steps_of self.old.shapes path.now)) }
+        ensures room { IfOk result (λ made. RoomAlong self.old whole (steps_of self.old.shapes path.now) → Puts self.old self.new whole (steps_of self.old.shapes path.now) part made) }
+        ensures within { IsWithin self.new }
+        ensures sole { Sole self.old whole (steps_of self.old.shapes path.now) → IsOk result }
+        ensures no_memory { OnErr result (SameNodes self.old self.new) }
+        ensures kept { SameTable self.old self.new }
+    {
+        if let [_] = path {
+            if let Part::Key(key) = whole {
+                if self.nodes[key].count == SOLE {
+                    self.put_here(key, path, part);
+                    return Ok(Part::Key(key));
+                }
+            }
+        }
+        self.written(whole, path, part)
+    }
+
+    // the part at the end of a path of one step, in the node with this key, which has one holder
+    #[inline(always)]
+    fn put_here(&mut self, key: usize, path: &[Slot], part: Part)
+        requires held { (others : List Part) × Counts self.old (Key key ∷ part ∷ others) }
+        requires within { IsWithin self.old }
+        requires table { IsShapes self.old.shapes }
+        requires there { IsPath self.old (Key key) path.now }
+        requires last { length path.now ≡ 1 }
+        requires sole { count_at self.old key ≡ 1 }
+        ensures wrote { Wrote self.old self.new (Key key ∷ part ∷ []) (Key key) (steps_of self.old.shapes path.now) part (Key key) }
+        ensures copies { CountsCopies self.old self.new (Key key) (steps_of self.old.shapes path.now) }
+        ensures room { RoomAlong self.old (Key key) (steps_of self.old.shapes path.now) → Puts self.old self.new (Key key) (steps_of self.old.shapes path.now) part (Key key) }
+        ensures within { IsWithin self.new }
+        ensures kept { SameTable self.old self.new }
+    {
+        let [step, ..] = path else { unreachable!() };
+        let place = self.position(key, *step);
+        let child = self.swap(key, place, Part::Null);
+        self.free(child);
+        self.lay(key, place, part);
     }
 
     // the whole with the part at the end of the path
@@ -76,13 +125,12 @@ impl Heap {
             unreachable!()
         };
         if self.nodes[key].count == SOLE {
-            let place = self.position(key, *step);
-            let child = self.swap(key, place, Part::Null);
             if rest.is_empty() {
-                self.free(child);
-                self.lay(key, place, part);
+                self.put_here(key, path, part);
                 return Ok(Part::Key(key));
             }
+            let place = self.position(key, *step);
+            let child = self.swap(key, place, Part::Null);
             match self.written(child, rest, part) {
                 Ok(below) => {
                     self.lay(key, place, below);

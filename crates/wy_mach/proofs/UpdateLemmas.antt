@@ -2,6 +2,7 @@
 use Rattle.std.proofs.Common.{◌≡◌, ℕ, zero, suc, ◌<◌, ◌≤◌, ◌<ℤ◌, ◌≤ℤ◌, List, [], ◌∷◌, ◌++◌, length, get_or, set, Bool, true, false, Option, Some, None, ℤ, pos, negsuc, refl, sym, ◌∙◌, ap, subst, arith}
 use Rattle.std.specs.Prelude.{Result, Ok, Err, IfErr, MatchOption, slice_get, int_le, min}
 use Rattle.std.proofs.lemmas.Int.{ints}
+use Rattle.std.proofs.lemmas.List.{set-set, get_or-set_same}
 use Rattle.std.proofs.lemmas.Bool.Decides.{nat_tests}
 use lib.IntN.{nat_abs}
 use Rattle.wy_value.specs.Datum.{Datum}
@@ -25,14 +26,15 @@ use Rattle.wy_sem.specs.Expressions.{Store, slot, put, data_of}
 use Rattle.wy_step.specs.Step.{Effect, Fails, there, as_number, where_so, gives, slots_of, has_path}
 use Rattle.wy_mach.specs.declared.stop.Stop.{Stop}
 use Rattle.wy_mach.specs.declared.stop.Stop.TheVariants.{Stuck, NoMemory}
-use Rattle.wy_mach.specs.Showing.{Shows, Leaves, WentOn, HasNone, IsStop}
+use Rattle.wy_mach.specs.Showing.{Shows, Leaves, WentOn, HasNone, IsStop, Puts}
 use Rattle.wy_mach.specs.Operands.{number_in, Reads}
 use Rattle.wy_mach.specs.Taking.{taken, emptied, AreWithin, AreTaken, GivesMade}
 use Rattle.wy_mach.proofs.EffectLemmas.{by_there}
 use Rattle.wy_mach.proofs.EqualLemmas.{length-set_part}
 use Rattle.wy_mach.proofs.OperandLemmas.{number-there}
-use Rattle.wy_mach.proofs.RegisterLemmas.{shows_put, shows_slot, slot_within, keeps_fewer}
+use Rattle.wy_mach.proofs.RegisterLemmas.{shows_put, shows_slot, slot_within}
 use Rattle.wy_mach.proofs.MakeLemmas.{Spends}
+use Rattle.wy_mach.proofs.MoveLemmas.{put_acts}
 use Rattle.wy_mach.specs.Paths.{IsSlotOf, AreSlotsOf, LacksSlot, LacksSlots, written_made}
 use Rattle.wy_mach.proofs.PathLemmas.{IsSame, AreSame, path_leads}
 
@@ -226,15 +228,17 @@ set_value h n p q made path value (u ∷ []) mean = absurd (let e = mean.1 in cc
 set_value h n p q made path value (u ∷ w ∷ []) mean = value w u mean.1.0 mean.0
 set_value h n p q made path value (u ∷ w ∷ v ∷ ds) mean = absurd mean.1.1
 
--- both went
-pub both_released : (h n o : Heap) (p q : Part) (others : List Part) → ((others : List Part) → Stands h (p ∷ others) → Acts h n [] others) → ((others : List Part) → Stands n (q ∷ others) → Acts n o [] others) → Stands h (p ∷ q ∷ others) → Acts h o [] others
-both_released h n o p q others first second stands =
-    let one = first (q ∷ others) stands in
-    let two = second others one.stands in
-    record {
-      stands = two.stands;
-      keeps = λ x d among means. two.keeps x d among (keeps_fewer (map_of h) (map_of n) others (q ∷ others) (λ k. omega arith) one.keeps x d among means);
-    }
+nothing_let_go : (h : Heap) (others : List Part) → Stands h (part.Null ∷ others) → Acts h h [] others
+nothing_let_go h others stands = record {
+  stands = restood h (part.Null ∷ others) others (λ k. omega arith) stands;
+  keeps = λ q d among means. means;
+}
+
+-- what was made comes into a register that is empty
+pub null_puts : (h : Heap) (made : Part) (ps : List Part) (i : ℕ) → i < length ps → Puts h h (set ps i part.Null) made (set ps i made)
+null_puts h made ps i below =
+    put_acts h h made part.Null (set ps i part.Null) (set ps i made) i (sym (get_or-set_same ps i part.Null part.Null below)) (omega (arith, below, length-set_part ps i part.Null))
+    (sym (set-set ps i part.Null made)) (nothing_let_go h)
 
 -- ---- indices
 

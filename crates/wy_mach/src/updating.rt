@@ -1,21 +1,22 @@
 //! The instruction `Put`.
-ghost use Rattle.std.specs.Prelude.{◌≡◌, ◌≤◌, length, vec_capacity, ◌∷◌, [], ◌++◌, ℕ, List, OnOk, IfErr};
+ghost use Rattle.std.specs.Prelude.{◌≡◌, ◌≤◌, ◌<◌, length, slice_set, vec_capacity, ◌∷◌, [], OnOk, IfErr};
 ghost use Rattle.wy_value.specs.declared.shapes.Shapes.{Shapes};
-ghost use Rattle.wy_heap.specs.declared.part.Part.{Part};
+ghost use Rattle.wy_heap.specs.declared.part.Part.TheVariants.{Null};
 ghost use Rattle.wy_heap.specs.Nodes.{map_of};
 ghost use Rattle.wy_heap.specs.Extending.{Extends};
 ghost use Rattle.wy_heap.specs.Slots.{steps_of, IsPath};
-ghost use Rattle.wy_heap.specs.Standing.{Stands, AreHeld, Acts, SameTable};
+ghost use Rattle.wy_heap.specs.Standing.{SameTable};
 ghost use Rattle.wy_code.specs.declared.instructions.Instr.{Instr};
 ghost use Rattle.wy_step.specs.Step.{effect};
 ghost use Rattle.wy_mach.specs.Showing.{WentOn, IsStop, Turns, AreRegisters};
 ghost use Rattle.wy_mach.specs.Taking.{AreTaken, TakenTurns, GivesMade};
 ghost use Rattle.wy_mach.specs.Paths.{written_made};
+ghost use Rattle.wy_mach.specs.Sharing.{part_in};
 ghost use Rattle.wy_heap.specs.Putting.{Sole};
 ghost use Rattle.wy_mach.specs.Writing.{PutsAlong, WritesPath, IsNotSole};
 
 use crate::paths::slots;
-use crate::registers::{put, take};
+use crate::registers::take;
 use crate::stop::Stop;
 use wy_code::Slot as Step;
 use wy_heap::{Heap, Place, Slot};
@@ -55,50 +56,36 @@ pub fn update(
         return Err(Stop::Stuck);
     }
     let item = take(registers, from);
-    let place = take(registers, whole);
-    written(heap, registers, whole, item, place, path.as_slice())
+    written(heap, registers, whole, item, path.as_slice())
 }
 
-// the item comes to the end of a path into the place, which comes into a register; both were taken
+// the item, which was taken, comes to the end of a path into what a register holds, which stays there meanwhile
 fn written(
     heap: &mut Heap,
     registers: &mut [Place],
     whole: u32,
     item: Place,
-    place: Place,
     path: &[Slot],
 ) -> Result<(), Stop>
-    requires held { AreTaken heap.old (item ∷ place ∷ []) registers.old }
-    ensures turns { TakenTurns heap.old heap.new (item ∷ place ∷ []) registers.old registers.new }
-    ensures value { OnOk result (GivesMade heap.old heap.new (item ∷ place ∷ []) registers.old registers.new whole (written_made (steps_of heap.old.shapes path.now))) }
-    ensures stop { IfErr result (λ stop. stop ≡ Stop.Stuck → IsPath heap.old place path.now → ⊥) }
-    ensures shares { OnOk result (PutsAlong heap.old heap.new registers.old registers.new whole place item (steps_of heap.old.shapes path.now)) }
-    ensures memory { IfErr result (λ stop. stop ≡ Stop.NoMemory → Sole heap.old place (steps_of heap.old.shapes path.now) → ⊥) }
+    requires held { AreTaken heap.old (item ∷ part_in registers.old whole ∷ []) (slice_set registers.old whole Null) }
+    requires there { whole < length registers.old }
+    ensures turns { TakenTurns heap.old heap.new (item ∷ part_in registers.old whole ∷ []) (slice_set registers.old whole Null) registers.new }
+    ensures value { OnOk result (GivesMade heap.old heap.new (item ∷ part_in registers.old whole ∷ []) (slice_set registers.old whole Null) registers.new whole (written_made (steps_of heap.old.shapes path.now))) }
+    ensures stop { IfErr result (λ stop. stop ≡ Stop.Stuck → IsPath heap.old (part_in registers.old whole) path.now → ⊥) }
+    ensures shares { OnOk result (PutsAlong heap.old heap.new (slice_set registers.old whole Null) registers.new whole (part_in registers.old whole) item (steps_of heap.old.shapes path.now)) }
+    ensures memory { IfErr result (λ stop. stop ≡ Stop.NoMemory → Sole heap.old (part_in registers.old whole) (steps_of heap.old.shapes path.now) → ⊥) }
     ensures kept { SameTable heap.old heap.new }
 {
-    let mut place = place;
-    if !heap.has_path(&place, path) {
-        give_up(heap, item, place);
+    let index = whole as usize;
+    if !heap.has_path(&registers[index], path) {
+        heap.release(item);
         return Err(Stop::Stuck);
     }
-    match heap.set(&mut place, path, item) {
-        Ok(()) => {
-            put(heap, registers, whole, place);
-            Ok(())
-        }
+    match heap.set(&mut registers[index], path, item) {
+        Ok(()) => Ok(()),
         Err(item) => {
-            give_up(heap, item, place);
+            heap.release(item);
             Err(Stop::NoMemory)
         }
     }
-}
-
-// both are released
-fn give_up(heap: &mut Heap, item: Place, place: Place)
-    requires held { AreHeld heap.old (item ∷ place ∷ []) }
-    ensures acts { (others : List Part) → Stands heap.old (item ∷ place ∷ others) → Acts heap.old heap.new [] others }
-    ensures kept { SameTable heap.old heap.new }
-{
-    heap.release(item);
-    heap.release(place);
 }

@@ -1,6 +1,7 @@
 use Rattle.std.proofs.Common.{◌≡◌, ◌-◌, ◌∷◌, [], List, length, take, drop, refl, sym, subst, ap, ◌∙◌, arith, rules}
 use Rattle.wy_value.specs.declared.shapes.Shapes.{Shapes}
 use Rattle.wy_value.specs.Shapes.{IsShapes}
+use Rattle.wy_heap.specs.declared.part.Part.{Part}
 use Rattle.wy_heap.specs.declared.part.Part.TheVariants.{Key}
 use Rattle.wy_heap.specs.Slots.{Step, part_of, steps_of, child, HasPath}
 use Rattle.wy_heap.specs.Nodes.{map_of, at, count_at, count_of}
@@ -59,8 +60,8 @@ written-requires t c =
       ),
     )
 
-pub lay-requires-in-Ok : goal.lay-requires-in-Ok
-lay-requires-in-Ok t c =
+pub lay-requires : goal.lay-requires
+lay-requires t c =
     let h = c.args.self.now in
     let key = c.in-Key.key in
     let place = c.position-place.result in
@@ -106,8 +107,8 @@ returns-in-Ok-clause-wrote t c =
     let hole = place_hole h c.args.whole key place (first_of h path) (rest_of h path) c.swap-child.result level s1 swaps sole c.args.part held.0 held.1 in
     let s2 = c.written.new.self in
     let wrote = subst (λ (u : Shapes). Wrote s1 s2 (c.swap-child.result ∷ c.args.part ∷ []) c.swap-child.result (steps_of u (take (length path - 1) (drop 1 path))) c.args.part c.in-Ok.below) shapes c.in-Ok.ensures.wrote in
-    subst (λ (l : List Step). Wrote h c.lay-in-Ok.new.self (c.args.whole ∷ c.args.part ∷ []) c.args.whole l c.args.part (Key key)) (sym (path_split h.shapes path c.in-len1-up.len_at_least))
-    (place_wrote h c.args.whole key place (first_of h path) (rest_of h path) c.swap-child.result level s1 swaps sole c.args.part held s2 c.lay-in-Ok.new.self c.in-Ok.below (part_of (at (map_of s2) key) place) wrote c.lay-in-Ok.ensures.swaps refl)
+    subst (λ (l : List Step). Wrote h c.lay.new.self (c.args.whole ∷ c.args.part ∷ []) c.args.whole l c.args.part (Key key)) (sym (path_split h.shapes path c.in-len1-up.len_at_least))
+    (place_wrote h c.args.whole key place (first_of h path) (rest_of h path) c.swap-child.result level s1 swaps sole c.args.part held s2 c.lay.new.self c.in-Ok.below (part_of (at (map_of s2) key) place) wrote c.lay.ensures.swaps refl)
 
 pub returns-in-Err-clause-no_memory : goal.returns-in-Err-clause-no_memory
 returns-in-Err-clause-no_memory t c =
@@ -162,9 +163,9 @@ returns-in-Ok-clause-copies t c =
     let sole : count_at h key ≡ 1 = ap count_of c.index.ensures ∙ c.if-index-eq-SOLE.true in
     let s2 = c.written.new.self in
     let further = subst (λ (u : Shapes). CountsCopies s1 s2 c.swap-child.result (steps_of u (take (length path - 1) (drop 1 path)))) shapes c.in-Ok.ensures.copies in
-    subst (CountsCopies h c.lay-in-Ok.new.self c.args.whole) (sym (path_split h.shapes path c.in-len1-up.len_at_least))
-    (place_counts h c.args.whole key place (first_of h path) (rest_of h path) c.swap-child.result level s1 swaps sole (c.args.part ∷ held.0) held.1 s2 c.lay-in-Ok.new.self c.in-Ok.below further c.lay-in-Ok.ensures.swaps
-    c.swap-child.ensures.rest.copies c.lay-in-Ok.ensures.rest.copies
+    subst (CountsCopies h c.lay.new.self c.args.whole) (sym (path_split h.shapes path c.in-len1-up.len_at_least))
+    (place_counts h c.args.whole key place (first_of h path) (rest_of h path) c.swap-child.result level s1 swaps sole (c.args.part ∷ held.0) held.1 s2 c.lay.new.self c.in-Ok.below further c.lay.ensures.swaps
+    c.swap-child.ensures.rest.copies c.lay.ensures.rest.copies
     (sole_inside h c.args.whole key place (first_of h path) (rest_of h path) c.swap-child.result level s1 swaps sole (c.args.part ∷ held.0) held.1))
 
 pub returns-in-Ok-clause-room : goal.returns-in-Ok-clause-room
@@ -187,88 +188,18 @@ returns-in-Ok-clause-room t c room =
     (subst (RoomAlong h c.args.whole) (path_split h.shapes path c.in-len1-up.len_at_least) room) in
     let further = subst (λ (u : Shapes). RoomAlong s1 inside (steps_of u (take (length path - 1) (drop 1 path))) → Puts s1 s2 inside (steps_of u (take (length path - 1) (drop 1 path))) c.args.part c.in-Ok.below) shapes c.in-Ok.ensures.room in
     let there = level_there s1 s2 key place _ _ _ (inside ∷ c.args.part ∷ []) held.0 hole inside (rest_of h path) c.args.part c.in-Ok.below wrote in
-    subst (λ (l : List Step). Puts h c.lay-in-Ok.new.self c.args.whole l c.args.part (Key key)) (sym (path_split h.shapes path c.in-len1-up.len_at_least))
-    (place_puts h c.args.whole key place (first_of h path) (rest_of h path) inside level s1 swaps sole (c.args.part ∷ held.0) held.1 s2 c.lay-in-Ok.new.self c.args.part c.in-Ok.below (further has) c.lay-in-Ok.ensures.swaps there
-    c.swap-child.ensures.rest.copies c.lay-in-Ok.ensures.rest.copies)
-
-pub free-requires-then-is_empty : goal.free-requires-then-is_empty
-free-requires-then-is_empty t c =
-    let h = c.args.self.now in
-    let key = c.in-Key.key in
-    let place = c.position-place.result in
-    let path = c.args.path.now in
-    let level = level_at h c.args.whole key place path c.swap-child.result c.in-Key.is c.requires.there c.in-len1-up.len_at_least c.position-place.ensures c.swap-child.ensures.out in
-    let held = c.requires.held in
-    let s1 = c.swap-child.new.self in
-    let swaps = c.swap-child.ensures.swaps in
-    let shapes = c.swap-child.ensures.rest.shapes in
-    let sole : count_at h key ≡ 1 = ap count_of c.index.ensures ∙ c.if-index-eq-SOLE.true in
-    let hole = place_hole h c.args.whole key place (first_of h path) (rest_of h path) c.swap-child.result level s1 swaps sole c.args.part held.0 held.1 in
-    let inside = c.swap-child.result in
-    (c.args.part ∷ Key key ∷ held.0, hole.counts)
-
-pub lay-requires : goal.lay-requires
-lay-requires t c =
-    let h = c.args.self.now in
-    let key = c.in-Key.key in
-    let place = c.position-place.result in
-    let path = c.args.path.now in
-    let level = level_at h c.args.whole key place path c.swap-child.result c.in-Key.is c.requires.there c.in-len1-up.len_at_least c.position-place.ensures c.swap-child.ensures.out in
-    let held = c.requires.held in
-    let s1 = c.swap-child.new.self in
-    let swaps = c.swap-child.ensures.swaps in
-    let shapes = c.swap-child.ensures.rest.shapes in
-    let sole : count_at h key ≡ 1 = ap count_of c.index.ensures ∙ c.if-index-eq-SOLE.true in
-    let hole = place_hole h c.args.whole key place (first_of h path) (rest_of h path) c.swap-child.result level s1 swaps sole c.args.part held.0 held.1 in
-    let inside = c.swap-child.result in
-    let s2 = c.free-then-is_empty.new.self in
-    let below : rest_of h path ≡ [] = path_nil h.shapes (take (length path - 1) (drop 1 path)) (search rules) in
-    let wrote = subst (λ (l : List Step). Wrote s1 s2 (inside ∷ c.args.part ∷ []) inside l c.args.part c.args.part) (sym below)
-    (end_wrote s1 s2 inside c.args.part (Key key ∷ held.0, hole.counts) c.free-then-is_empty.ensures.leads c.free-then-is_empty.ensures.lasts) in
-    level_slot s1 s2 key place _ _ _ (inside ∷ c.args.part ∷ []) held.0 hole inside (rest_of h path) c.args.part c.args.part wrote
+    subst (λ (l : List Step). Puts h c.lay.new.self c.args.whole l c.args.part (Key key)) (sym (path_split h.shapes path c.in-len1-up.len_at_least))
+    (place_puts h c.args.whole key place (first_of h path) (rest_of h path) inside level s1 swaps sole (c.args.part ∷ held.0) held.1 s2 c.lay.new.self c.args.part c.in-Ok.below (further has) c.lay.ensures.swaps there
+    c.swap-child.ensures.rest.copies c.lay.ensures.rest.copies)
 
 pub returns-then-is_empty-clause-wrote : goal.returns-then-is_empty-clause-wrote
 returns-then-is_empty-clause-wrote t c =
     let h = c.args.self.now in
-    let key = c.in-Key.key in
-    let place = c.position-place.result in
-    let path = c.args.path.now in
-    let level = level_at h c.args.whole key place path c.swap-child.result c.in-Key.is c.requires.there c.in-len1-up.len_at_least c.position-place.ensures c.swap-child.ensures.out in
-    let held = c.requires.held in
-    let s1 = c.swap-child.new.self in
-    let swaps = c.swap-child.ensures.swaps in
-    let shapes = c.swap-child.ensures.rest.shapes in
-    let sole : count_at h key ≡ 1 = ap count_of c.index.ensures ∙ c.if-index-eq-SOLE.true in
-    let hole = place_hole h c.args.whole key place (first_of h path) (rest_of h path) c.swap-child.result level s1 swaps sole c.args.part held.0 held.1 in
-    let inside = c.swap-child.result in
-    let s2 = c.free-then-is_empty.new.self in
-    let below : rest_of h path ≡ [] = path_nil h.shapes (take (length path - 1) (drop 1 path)) (search rules) in
-    let wrote = subst (λ (l : List Step). Wrote s1 s2 (inside ∷ c.args.part ∷ []) inside l c.args.part c.args.part) (sym below)
-    (end_wrote s1 s2 inside c.args.part (Key key ∷ held.0, hole.counts) c.free-then-is_empty.ensures.leads c.free-then-is_empty.ensures.lasts) in
-    subst (λ (l : List Step). Wrote h c.lay.new.self (c.args.whole ∷ c.args.part ∷ []) c.args.whole l c.args.part (Key key)) (sym (path_split h.shapes path c.in-len1-up.len_at_least))
-    (place_wrote h c.args.whole key place (first_of h path) (rest_of h path) inside level s1 swaps sole c.args.part held s2 c.lay.new.self c.args.part (part_of (at (map_of s2) key) place) wrote c.lay.ensures.swaps refl)
+    subst (λ (w : Part). Wrote h c.put_here.new.self (w ∷ c.args.part ∷ []) w (steps_of h.shapes c.args.path.now) c.args.part (Key c.in-Key.key)) (sym c.in-Key.is) c.put_here.ensures.wrote
 
 pub returns-then-is_empty-clause-room : goal.returns-then-is_empty-clause-room
 returns-then-is_empty-clause-room t c room =
     let h = c.args.self.now in
-    let key = c.in-Key.key in
-    let place = c.position-place.result in
-    let path = c.args.path.now in
-    let level = level_at h c.args.whole key place path c.swap-child.result c.in-Key.is c.requires.there c.in-len1-up.len_at_least c.position-place.ensures c.swap-child.ensures.out in
-    let held = c.requires.held in
-    let s1 = c.swap-child.new.self in
-    let swaps = c.swap-child.ensures.swaps in
-    let shapes = c.swap-child.ensures.rest.shapes in
-    let sole : count_at h key ≡ 1 = ap count_of c.index.ensures ∙ c.if-index-eq-SOLE.true in
-    let hole = place_hole h c.args.whole key place (first_of h path) (rest_of h path) c.swap-child.result level s1 swaps sole c.args.part held.0 held.1 in
-    let inside = c.swap-child.result in
-    let s2 = c.free-then-is_empty.new.self in
-    let below : rest_of h path ≡ [] = path_nil h.shapes (take (length path - 1) (drop 1 path)) (search rules) in
-    let wrote = subst (λ (l : List Step). Wrote s1 s2 (inside ∷ c.args.part ∷ []) inside l c.args.part c.args.part) (sym below)
-    (end_wrote s1 s2 inside c.args.part (Key key ∷ held.0, hole.counts) c.free-then-is_empty.ensures.leads c.free-then-is_empty.ensures.lasts) in
-    let further : Puts s1 s2 inside (rest_of h path) c.args.part c.args.part =
-    subst (λ (l : List Step). Puts s1 s2 inside l c.args.part c.args.part) (sym below) (end_puts s1 s2 inside c.args.part c.free-then-is_empty.ensures.lasts c.free-then-is_empty.ensures.rest.copies) in
-    let there = level_there s1 s2 key place _ _ _ (inside ∷ c.args.part ∷ []) held.0 hole inside (rest_of h path) c.args.part c.args.part wrote in
-    subst (λ (l : List Step). Puts h c.lay.new.self c.args.whole l c.args.part (Key key)) (sym (path_split h.shapes path c.in-len1-up.len_at_least))
-    (place_puts h c.args.whole key place (first_of h path) (rest_of h path) inside level s1 swaps sole (c.args.part ∷ held.0) held.1 s2 c.lay.new.self c.args.part c.args.part further c.lay.ensures.swaps there
-    c.swap-child.ensures.rest.copies c.lay.ensures.rest.copies)
+    let path = steps_of h.shapes c.args.path.now in
+    subst (λ (w : Part). Puts h c.put_here.new.self w path c.args.part (Key c.in-Key.key)) (sym c.in-Key.is)
+    (c.put_here.ensures.room (subst (λ (w : Part). RoomAlong h w path) c.in-Key.is room))

@@ -7,7 +7,7 @@ use Rattle.wy_heap.proofs.heap.Heap.set.Goals as goal
 pub returns-in-Ok-clause-acts : goal.returns-in-Ok-clause-acts
 returns-in-Ok-clause-acts c others stands =
     let h = c.args.self.now in
-    let n = c.written.new.self in
+    let n = c.put_along.new.self in
     let made : c.replace.new.dest ≡ c.in-Ok.made = c.replace.ensures.after ∙ c.of.ensures in
     let counts = subst (λ (q : Part). Counts h (q ∷ c.part-2.result ∷ others)) (sym c.part.ensures)
     (subst (λ (q : Part). Counts h (c.args.p.now ∷ q ∷ others)) (sym c.part-2.ensures) stands.counts) in

@@ -1,0 +1,5 @@
+//! Bench.
+#![tactic(auto)]
+
+#[cfg(test)]
+mod mach;
