@@ -1,5 +1,0 @@
-//! Bench.
-#![tactic(auto)]
-
-#[cfg(test)]
-mod mach;
