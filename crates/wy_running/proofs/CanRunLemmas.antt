@@ -1,19 +1,17 @@
 -- A start of a program whose code a machine takes can run.
-use Rattle.std.proofs.Common.{◌≡◌, ◌<◌, ◌≤◌, ℕ, zero, suc, Bool, true, false, true≢false, List, [], ◌∷◌, ◌++◌, length, map, Option, Some, None, refl, sym, ap, ◌∙◌, subst, arith, rules}
+use Rattle.std.proofs.Common.{◌≡◌, ℕ, zero, suc, List, [], ◌∷◌, ◌++◌, Option, Some, None, refl, sym, ap, ◌∙◌, subst, arith, rules}
 use Rattle.std.specs.Prelude.{slice_get}
 use Rattle.std.specs.List.{All}
 use Rattle.std.proofs.lemmas.Int.{ints}
 use Rattle.std.proofs.lemmas.Option.{get_or_from_slice_get, slice_get_within}
 use Rattle.wy_code.specs.declared.instructions.Scalar.{Scalar}
 use Rattle.wy_code.specs.declared.instructions.Scalar.TheVariants as scalar
-use Rattle.wy_code.specs.declared.instructions.Instr.{Instr}
 use Rattle.wy_code.specs.declared.instructions.Instr.TheVariants.{Const}
 use Rattle.wy_code.specs.declared.routines.Routine as compiled
 use Rattle.wy_code.specs.declared.routines.Code.{Code}
 use Rattle.wy_code_ints.specs.Loadable.{IsFine, IsLoadable, PutsInt, PutsInts}
 use Rattle.wy_compiled.specs.Programs.{body_routine, body_routines, code_of, type_routines}
 use Rattle.wy_core.specs.CoreTree.{Core, Routine, aliases_of, routines_of}
-use Rattle.wy_formed.specs.Literals.{IsInt}
 use Rattle.wy_mach.specs.States.{HasInts}
 use Rattle.wy_mach.specs.Showing.{IsNoInt}
 use Rattle.wy_running.specs.Running.{CanRun, Goes}
@@ -23,7 +21,6 @@ use Rattle.wy_running.proofs.MeetingLemmas.{met_count}
 use Rattle.wy_step.specs.Step.{instr_at}
 use Rattle.wy_tables.specs.declared.context.Context.{Context}
 use Rattle.wy_tables.specs.Tables.{context_of}
-use Rattle.wy_value.specs.Numbers.{is_int}
 use Rattle.wy_value.specs.Shapes.{IsShapes}
 
 -- what holds of all holds of the one with this number

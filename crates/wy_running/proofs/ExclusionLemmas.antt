@@ -1,19 +1,17 @@
 -- At most one start and at most one refusal comes of words.
-use Rattle.std.proofs.Common.{◌≡◌, ◌≢◌, ◌<◌, ◌≤◌, ℕ, List, length, map, None, refl, sym, ap, ◌∙◌, subst, arith}
+use Rattle.std.proofs.Common.{◌≡◌, ◌≢◌, ◌<◌, ℕ, List, length, map, None, refl, sym, ap, ◌∙◌, subst, arith}
 use Rattle.std.specs.Prelude.{is_some}
-use Rattle.wy_value.specs.ArgumentText.{Spells}
 use Rattle.wy_value.specs.Seen.{seen}
 use Rattle.wy_value.specs.declared.value.Value.{Value}
 use Rattle.wy_value.proofs.LawLemmas.{one_reading}
 use Rattle.wy_core.specs.CoreTree.{Core, Routine, routines_of}
-use Rattle.wy_sem.specs.Meter.{Outcome, Done}
+use Rattle.wy_sem.specs.Meter.{Outcome}
 use Rattle.wy_sem.specs.Evaluation.{start}
 use Rattle.wy_sem.specs.Precondition as spec
 use Rattle.wy_sem.specs.Precondition.{Verdict, cost, precondition}
 use Rattle.wy_eval_expressions.specs.Settings.{here}
-use Rattle.wy_eval_expressions.specs.Verdicts.{Finds}
 use Rattle.wy_running.specs.Entries.{IsEntry, HasNoEntry}
-use Rattle.wy_running.specs.Starting.{HasBadText, HasFault, IsMet, IsNotMet, IsRefused, IsStopped, Shows, Starts, most_turns}
+use Rattle.wy_running.specs.Starting.{IsMet, IsNotMet, IsRefused, IsStopped, Shows, Starts, most_turns}
 use Rattle.wy_running.specs.Laws.{HaveOneStart, HaveOneRefusal, StartOrRefuse}
 use Rattle.wy_running.specs.declared.parts.Start.{Start}
 use Rattle.wy_running.specs.declared.fault.StartFault.{StartFault}

@@ -1,5 +1,5 @@
 -- What the test of arguments finds of a declared function or method.
-use Rattle.std.proofs.Common.{◌≡◌, ◌≢◌, ◌≤◌, ◌<◌, ℕ, zero, suc, ◌+◌, Bool, true, false, List, [], ◌∷◌, length, map, Option, Some, None, refl, sym, ap, ◌∙◌, subst, arith}
+use Rattle.std.proofs.Common.{◌≡◌, ◌≢◌, ℕ, zero, suc, ◌+◌, Bool, true, false, List, [], ◌∷◌, length, map, Option, Some, None, refl, sym, ap, ◌∙◌, subst}
 use Rattle.std.specs.Prelude.{nat_eq, slice_get}
 use Rattle.std.proofs.lemmas.Bool.{eqb-true, eq-eqb}
 use Rattle.std.proofs.lemmas.List.{length-map}
@@ -8,7 +8,7 @@ use Rattle.wy_value.specs.Seen.{seen}
 use Rattle.wy_value.specs.declared.value.Value.{Value}
 use Rattle.wy_core.specs.CoreTree.{Alias, Core, Expr, Param, Routine, aliases_of, routines_of}
 use Rattle.wy_sem.specs.Meter.{Meter, Outcome, Done, Fault, More, Spent, Run, ◌>>=◌}
-use Rattle.wy_sem.specs.Evaluation.{Callee, Declared, callee, entry_of, start, turns_of}
+use Rattle.wy_sem.specs.Evaluation.{Declared, callee, entry_of, start, turns_of}
 use Rattle.wy_sem.specs.Expressions.{Setting, Store, holds}
 use Rattle.wy_sem.specs.TypeTests.{clause_setting, forgiven, member}
 use Rattle.wy_sem.specs.Precondition.{Verdict, Met, CountFails, TypeFails, RequiresFails, passed, requires_met, types_met, callee_met, CalleeMeets, Meets, RoutineMeets, precondition, cost}

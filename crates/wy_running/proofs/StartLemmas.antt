@@ -1,5 +1,5 @@
 -- The steps of a start, put together.
-use Rattle.std.proofs.Common.{◌≡◌, ◌≢◌, ℕ, List, length, map, None, Result, Ok, Err, refl, sym, ap, ◌∙◌, subst}
+use Rattle.std.proofs.Common.{◌≡◌, ◌≢◌, ℕ, List, length, map, None, Result, Ok, Err, refl, sym, ◌∙◌, subst}
 use Rattle.std.specs.Prelude.{MatchResult, IfOk, IfErr}
 use Rattle.wy_value.specs.ArgumentText.{Answers, IsRefused as IsRefusedText, Meets as MeetsFault, Spells, fault_of}
 use Rattle.wy_value.specs.Seen.{seen, seen_items}
@@ -8,9 +8,7 @@ use Rattle.wy_value.specs.declared.fault.Kind.{Kind}
 use Rattle.wy_value.specs.declared.fault.ValueFault.{ValueFault}
 use Rattle.wy_value.specs.declared.fault.ValueFault.TheVariants as text
 use Rattle.wy_value.specs.declared.value.Value.{Value}
-use Rattle.wy_core.specs.CoreSeen.{seen_core, seen_decl}
 use Rattle.wy_core.specs.CoreTree.{Core, Routine, routines_of}
-use Rattle.wy_core.specs.declared.declarations.Decl.{Decl}
 use Rattle.wy_sem.specs.Precondition.{Meets, cost, precondition}
 use Rattle.wy_eval_expressions.specs.Settings.{here}
 use Rattle.wy_eval_expressions.specs.Verdicts.{IsExact}

@@ -1,12 +1,11 @@
 -- A text of arguments has one fault at most, and none where it spells values.
-use Rattle.std.proofs.Common.{◌≡◌, ◌⊎◌, inl, inr, ◌<◌, ◌≤◌, ℕ, suc, ◌+◌, List, [], ◌∷◌, ◌++◌, length, refl, sym, ap, ◌∙◌, subst, arith, append_assoc}
+use Rattle.std.proofs.Common.{◌≡◌, ◌⊎◌, inl, inr, ◌<◌, ◌≤◌, ℕ, ◌+◌, List, [], ◌∷◌, ◌++◌, length, refl, sym, ap, ◌∙◌, subst, arith, append_assoc}
 use Rattle.std.proofs.lemmas.Bool.{cases_lt}
 use Rattle.std.proofs.lemmas.List.{append-nil, length-append}
 use Rattle.wy_reading.specs.Places as places
 use Rattle.wy_reading.proofs.Exactness.{same_mode}
-use Rattle.wy_value.specs.ArgumentText.{AreText, LeavesAt, Meets, Spells, fault_of, offset, profile, symbols}
+use Rattle.wy_value.specs.ArgumentText.{AreText, LeavesAt, Meets, Spells, offset, profile, symbols}
 use Rattle.wy_value.specs.Grammar.{Text}
-use Rattle.wy_value.specs.declared.fault.Kind.{Kind}
 use Rattle.wy_value.specs.declared.fault.Kind.TheVariants as kind
 use Rattle.wy_value.specs.declared.fault.ValueFault.{ValueFault}
 use Rattle.wy_value.specs.declared.fault.ValueFault.TheVariants.{Shape, Range, Deep, NoMemory}

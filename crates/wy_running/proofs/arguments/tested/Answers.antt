@@ -1,4 +1,4 @@
-use Rattle.std.proofs.Common.{map, sym, subst}
+use Rattle.std.proofs.Common.{sym, subst}
 use Rattle.std.specs.Prelude.{MatchResult}
 use Rattle.wy_core.specs.CoreSeen.{seen_core}
 use Rattle.wy_running.specs.Starting.{IsMet, IsNotMet}
