@@ -78,6 +78,36 @@ pub any_end : (at : ℕ → Term) (ls : List Literal) (ks : List ℕ) (i : ℕ) 
 any_end at ls ks zero w le e = e
 any_end at ls ks (suc i) w le e = absurd (omega (arith, le))
 
+both_no : (v : Verdict) → both v No ≡ No
+both_no Yes = refl
+both_no No = refl
+both_no Open = refl
+
+pub all_no : (at : ℕ → Term) (ls : List Literal) (ks : List ℕ) (i : ℕ) (v : Verdict) → i < length ks → v ≡ judged ls (at (get_or ks i 0)) → fails v true ≡ true → No ≡ judged_all ls (parts_at at ks)
+all_no at ls [] i v lt here is = absurd (omega (arith, lt))
+all_no at ls (k ∷ ks) zero v lt here is = ap (λ (w : Verdict). both w (judged_all ls (parts_at at ks))) (by v is ∙ here)
+  where
+    by : (w : Verdict) → fails w true ≡ true → No ≡ w
+    by Yes e = absurd cc
+    by No e = refl
+    by Open e = absurd cc
+all_no at ls (k ∷ ks) (suc i) v lt here is = sym (both_no (judged ls (at k))) ∙ ap (both (judged ls (at k))) (all_no at ls ks i v (omega (arith, lt)) here is)
+
+either_yes : (v : Verdict) → either v Yes ≡ Yes
+either_yes Yes = refl
+either_yes No = refl
+either_yes Open = refl
+
+pub any_yes : (at : ℕ → Term) (ls : List Literal) (ks : List ℕ) (i : ℕ) (v : Verdict) → i < length ks → v ≡ judged ls (at (get_or ks i 0)) → fails v false ≡ true → Yes ≡ judged_any ls (parts_at at ks)
+any_yes at ls [] i v lt here is = absurd (omega (arith, lt))
+any_yes at ls (k ∷ ks) zero v lt here is = ap (λ (w : Verdict). either w (judged_any ls (parts_at at ks))) (by v is ∙ here)
+  where
+    by : (w : Verdict) → fails w false ≡ true → Yes ≡ w
+    by Yes e = refl
+    by No e = absurd cc
+    by Open e = absurd cc
+any_yes at ls (k ∷ ks) (suc i) v lt here is = sym (either_yes (judged ls (at k))) ∙ ap (either (judged ls (at k))) (any_yes at ls ks i v (omega (arith, lt)) here is)
+
 -- ---- pending formulas
 
 no_by_sign : (ls : List Literal) (f : Term) (holds : Bool) → is_no (judged ls (signed f holds)) ≡ fails (judged ls f) holds

@@ -1,7 +1,7 @@
 -- What is known of formulas, and which pending formulas fail.
 use Rattle.std.specs.Prelude.{◌≡◌, ℕ, List, [], ◌∷◌, ◌||◌, Bool, true, false, not, Some, nat_eq}
 use Rattle.std.specs.HashMap.{get}
-use Rattle.wy_term.specs.Term.{Term}
+use Rattle.wy_term.specs.Term.{Term, Of, denied, all_of, any_of}
 use Rattle.wy_judge.specs.declared.verdict.Verdict.{Verdict}
 use Rattle.wy_judge.specs.declared.verdict.Verdict.TheVariants.{Yes, No, Open}
 use Rattle.wy_judge.specs.Node.{Literal}
@@ -11,6 +11,13 @@ use Rattle.wy_judging.specs.declared.judging.Known.{Known}
 -- what is noted is what the literals say
 abbrev pub Knows : (ℕ → Term) → List Literal → Known → Type 0
 Knows at ls known = (f : ℕ) (v : Verdict) → get nat_eq known.verdicts f ≡ Some v → v ≡ judged ls (at f)
+
+-- a formula that is made of others: what the literals say of any other, they say of an atom
+abbrev pub is_connective : Term → Bool
+is_connective (Of denied ps) = true
+is_connective (Of all_of ps) = true
+is_connective (Of any_of ps) = true
+is_connective t = false
 
 -- a formula with this verdict, or its denial, is judged no
 abbrev pub fails : Verdict → Bool → Bool

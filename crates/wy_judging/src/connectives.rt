@@ -2,6 +2,7 @@
 ghost use Rattle.std.specs.Prelude.{◌≡◌, ◌<◌, length};
 ghost use Rattle.wy_term.specs.Nodes.{tree_at};
 ghost use Rattle.wy_judge.specs.Node.{is_atom};
+ghost use Rattle.wy_judging.specs.Judged.{is_connective};
 
 use wy_term::{Node, Terms};
 
@@ -13,6 +14,17 @@ pub fn is_atom(terms: &Terms, f: u32) -> bool
     match terms.node(f) {
         Node::AtMost(_, _) | Node::Equal(_, _) | Node::Kind(_, _) => true,
         Node::In(_, _) | Node::All(_) | Node::Some(_) => true,
+        _ => false,
+    }
+}
+
+/// Whether a formula is a denial, an `and` or an `or`, in constant time.
+pub fn is_connective(terms: &Terms, f: u32) -> bool
+    requires { f < length terms.now }
+    ensures { result ≡ is_connective (tree_at terms.now f) }
+{
+    match terms.node(f) {
+        Node::Not(_) | Node::And(_) | Node::Or(_) => true,
         _ => false,
     }
 }

@@ -9,6 +9,7 @@ ghost use Rattle.wy_judging.specs.Seen.{seen_branch, IsBranch, AreBelow};
 ghost use Rattle.wy_judging.specs.Judged.{Knows, fails, is_any_refuted};
 
 use crate::branch::{Branch, has_literal};
+use crate::connectives::is_connective;
 use std::alloc::Global;
 use std::collections::HashMap;
 use wy_judge::Verdict;
@@ -61,6 +62,17 @@ fn join(v: Verdict, w: Verdict) -> Verdict
     }
 }
 
+/// Whether a formula with this verdict fails, or its denial does where that is meant.
+pub fn fails(verdict: Verdict, holds: bool) -> bool
+    ensures { result ≡ fails verdict holds }
+{
+    match verdict {
+        Verdict::Yes => !holds,
+        Verdict::No => holds,
+        Verdict::Open => false,
+    }
+}
+
 // ---- what is known
 
 // What is known of a formula.
@@ -93,49 +105,171 @@ fn of_atom(terms: &Terms, branch: &Branch, atom: u32) -> Verdict
     }
 }
 
-// What the literals say of the `and` of these formulas, where it is known of each.
-fn of_all(known: &Known, members: &[u32]) -> Option<Verdict>
-    ensures { (at : ℕ → Term) (ls : List Literal) → Knows at ls known.now → IfSome result (λ v. v ≡ judged_all ls (parts_at at members.now)) }
+// ---- formulas of few atoms
+
+// How many atoms a connective may have that is judged by them each time. Then that costs no more than to look for it.
+const FEW: usize = 4;
+
+// What the literals say of a formula, unless it is a connective.
+fn atom_at(terms: &Terms, branch: &Branch, f: u32) -> Option<Verdict>
+    requires formula { f < length terms.now }
+    requires branch { IsBranch terms.now branch.now }
+    ensures { IfSome result (λ v. v ≡ judged (seen_branch (tree_at terms.now) branch.now).literals (tree_at terms.now f)) }
 {
+    if is_connective(terms, f) {
+        None
+    } else {
+        Some(of_atom(terms, branch, f))
+    }
+}
+
+// What the literals say of the `and` of these formulas, if they are few and none is a connective.
+fn all_of_atoms(terms: &Terms, branch: &Branch, members: &[u32]) -> Option<Verdict>
+    requires members { AreBelow (length terms.now) members.now }
+    requires branch { IsBranch terms.now branch.now }
+    ensures { IfSome result (λ v. v ≡ judged_all (seen_branch (tree_at terms.now) branch.now).literals (parts_at (tree_at terms.now) members.now)) }
+{
+    if members.len() > FEW {
+        return None;
+    }
     let mut verdict = Verdict::Yes;
     let mut left = members.len();
     while left > 0 {
         left -= 1;
-        let Some(v) = known_at(known, members[left]) else {
+        let Some(v) = atom_at(terms, branch, members[left]) else {
             return None;
         };
+        if fails(v, true) {
+            return Some(Verdict::No);
+        }
         verdict = meet(v, verdict);
     }
     Some(verdict)
 }
 
-// What the literals say of the `or` of these formulas, where it is known of each.
-fn of_any(known: &Known, members: &[u32]) -> Option<Verdict>
-    ensures { (at : ℕ → Term) (ls : List Literal) → Knows at ls known.now → IfSome result (λ v. v ≡ judged_any ls (parts_at at members.now)) }
+// What the literals say of the `or` of these formulas, if they are few and none is a connective.
+fn any_of_atoms(terms: &Terms, branch: &Branch, members: &[u32]) -> Option<Verdict>
+    requires members { AreBelow (length terms.now) members.now }
+    requires branch { IsBranch terms.now branch.now }
+    ensures { IfSome result (λ v. v ≡ judged_any (seen_branch (tree_at terms.now) branch.now).literals (parts_at (tree_at terms.now) members.now)) }
 {
+    if members.len() > FEW {
+        return None;
+    }
     let mut verdict = Verdict::No;
     let mut left = members.len();
     while left > 0 {
         left -= 1;
-        let Some(v) = known_at(known, members[left]) else {
+        let Some(v) = atom_at(terms, branch, members[left]) else {
             return None;
         };
+        if fails(v, false) {
+            return Some(Verdict::Yes);
+        }
         verdict = join(v, verdict);
     }
     Some(verdict)
 }
 
-// What the literals say of the denial of a formula, where it is known of the formula.
-fn of_denial(known: &Known, f: u32) -> Option<Verdict>
-    ensures { (at : ℕ → Term) (ls : List Literal) → Knows at ls known.now → IfSome result (λ v. v ≡ turned (judged ls (at f))) }
+// What the literals say of the denial of a formula, unless the formula is a connective.
+fn denied_atom(terms: &Terms, branch: &Branch, f: u32) -> Option<Verdict>
+    requires formula { f < length terms.now }
+    requires branch { IsBranch terms.now branch.now }
+    ensures { IfSome result (λ v. v ≡ turned (judged (seen_branch (tree_at terms.now) branch.now).literals (tree_at terms.now f))) }
 {
-    match known_at(known, f) {
+    match atom_at(terms, branch, f) {
         Some(v) => Some(turn(v)),
         None => None,
     }
 }
 
-// What the literals say of a formula, where it is known of each of its parts.
+// What the literals say of a formula, if it is an atom or a connective of few atoms.
+fn of_few(terms: &Terms, branch: &Branch, f: u32) -> Option<Verdict>
+    requires formula { f < length terms.now }
+    requires branch { IsBranch terms.now branch.now }
+    ensures { IfSome result (λ v. v ≡ judged (seen_branch (tree_at terms.now) branch.now).literals (tree_at terms.now f)) }
+{
+    match terms.node(f) {
+        Node::Not(g) => denied_atom(terms, branch, *g),
+        Node::And(members) => all_of_atoms(terms, branch, members),
+        Node::Or(members) => any_of_atoms(terms, branch, members),
+        _ => Some(of_atom(terms, branch, f)),
+    }
+}
+
+// ---- formulas by what is known
+
+// What the literals say of a formula, if it is made of few atoms or is known.
+fn verdict_at(terms: &Terms, branch: &Branch, known: &Known, f: u32) -> Option<Verdict>
+    requires formula { f < length terms.now }
+    requires branch { IsBranch terms.now branch.now }
+    requires known { Knows (tree_at terms.now) (seen_branch (tree_at terms.now) branch.now).literals known.now }
+    ensures { IfSome result (λ v. v ≡ judged (seen_branch (tree_at terms.now) branch.now).literals (tree_at terms.now f)) }
+{
+    match of_few(terms, branch, f) {
+        Some(v) => Some(v),
+        None => known_at(known, f),
+    }
+}
+
+// What the literals say of the `and` of these formulas, if they tell it by what is known.
+fn of_all(terms: &Terms, branch: &Branch, known: &Known, members: &[u32]) -> Option<Verdict>
+    requires members { AreBelow (length terms.now) members.now }
+    requires branch { IsBranch terms.now branch.now }
+    requires known { Knows (tree_at terms.now) (seen_branch (tree_at terms.now) branch.now).literals known.now }
+    ensures { IfSome result (λ v. v ≡ judged_all (seen_branch (tree_at terms.now) branch.now).literals (parts_at (tree_at terms.now) members.now)) }
+{
+    let mut verdict = Verdict::Yes;
+    let mut left = members.len();
+    while left > 0 {
+        left -= 1;
+        let Some(v) = verdict_at(terms, branch, known, members[left]) else {
+            return None;
+        };
+        if fails(v, true) {
+            return Some(Verdict::No);
+        }
+        verdict = meet(v, verdict);
+    }
+    Some(verdict)
+}
+
+// What the literals say of the `or` of these formulas, if they tell it by what is known.
+fn of_any(terms: &Terms, branch: &Branch, known: &Known, members: &[u32]) -> Option<Verdict>
+    requires members { AreBelow (length terms.now) members.now }
+    requires branch { IsBranch terms.now branch.now }
+    requires known { Knows (tree_at terms.now) (seen_branch (tree_at terms.now) branch.now).literals known.now }
+    ensures { IfSome result (λ v. v ≡ judged_any (seen_branch (tree_at terms.now) branch.now).literals (parts_at (tree_at terms.now) members.now)) }
+{
+    let mut verdict = Verdict::No;
+    let mut left = members.len();
+    while left > 0 {
+        left -= 1;
+        let Some(v) = verdict_at(terms, branch, known, members[left]) else {
+            return None;
+        };
+        if fails(v, false) {
+            return Some(Verdict::Yes);
+        }
+        verdict = join(v, verdict);
+    }
+    Some(verdict)
+}
+
+// What the literals say of the denial of a formula, if they tell it by what is known.
+fn of_denial(terms: &Terms, branch: &Branch, known: &Known, f: u32) -> Option<Verdict>
+    requires formula { f < length terms.now }
+    requires branch { IsBranch terms.now branch.now }
+    requires known { Knows (tree_at terms.now) (seen_branch (tree_at terms.now) branch.now).literals known.now }
+    ensures { IfSome result (λ v. v ≡ turned (judged (seen_branch (tree_at terms.now) branch.now).literals (tree_at terms.now f))) }
+{
+    match verdict_at(terms, branch, known, f) {
+        Some(v) => Some(turn(v)),
+        None => None,
+    }
+}
+
+// What the literals say of a formula, if they tell it by what is known of its parts.
 fn by_parts(terms: &Terms, branch: &Branch, known: &Known, f: u32) -> Option<Verdict>
     requires formula { f < length terms.now }
     requires branch { IsBranch terms.now branch.now }
@@ -143,40 +277,78 @@ fn by_parts(terms: &Terms, branch: &Branch, known: &Known, f: u32) -> Option<Ver
     ensures { IfSome result (λ v. v ≡ judged (seen_branch (tree_at terms.now) branch.now).literals (tree_at terms.now f)) }
 {
     match terms.node(f) {
-        Node::Not(g) => of_denial(known, *g),
-        Node::And(members) => of_all(known, members),
-        Node::Or(members) => of_any(known, members),
+        Node::Not(g) => of_denial(terms, branch, known, *g),
+        Node::And(members) => of_all(terms, branch, known, members),
+        Node::Or(members) => of_any(terms, branch, known, members),
         _ => Some(of_atom(terms, branch, f)),
     }
 }
 
 // ---- the work list
 
-// A formula is to be judged once its parts are.
-fn with_parts(terms: &Terms, todo: &mut Vec<u32>, f: u32) -> Result<(), NoMemory>
+// A formula is to be judged, unless it is made of few atoms or is known.
+fn with_unknown(
+    terms: &Terms,
+    branch: &Branch,
+    known: &Known,
+    todo: &mut Vec<u32>,
+    f: u32,
+) -> Result<(), NoMemory>
     requires formula { f < length terms.now }
+    requires branch { IsBranch terms.now branch.now }
+    requires known { Knows (tree_at terms.now) (seen_branch (tree_at terms.now) branch.now).literals known.now }
     requires todo { AreBelow (length terms.now) todo.old.items }
     ensures todo { OnOk result (AreBelow (length terms.now) todo.new.items) }
 {
-    todo.push(f)?;
+    if verdict_at(terms, branch, known, f).is_none() {
+        todo.push(f)?;
+    }
+    Ok(())
+}
+
+// Each of these formulas is to be judged, unless it is made of few atoms or is known.
+fn with_members(
+    terms: &Terms,
+    branch: &Branch,
+    known: &Known,
+    todo: &mut Vec<u32>,
+    members: &[u32],
+) -> Result<(), NoMemory>
+    requires members { AreBelow (length terms.now) members.now }
+    requires branch { IsBranch terms.now branch.now }
+    requires known { Knows (tree_at terms.now) (seen_branch (tree_at terms.now) branch.now).literals known.now }
+    requires todo { AreBelow (length terms.now) todo.old.items }
+    ensures todo { OnOk result (AreBelow (length terms.now) todo.new.items) }
+{
+    for member in members {
+        with_unknown(terms, branch, known, todo, *member)?;
+    }
+    Ok(())
+}
+
+// The parts of a formula are to be judged, unless they are made of few atoms or are known.
+fn with_parts(
+    terms: &Terms,
+    branch: &Branch,
+    known: &Known,
+    todo: &mut Vec<u32>,
+    f: u32,
+) -> Result<(), NoMemory>
+    requires formula { f < length terms.now }
+    requires branch { IsBranch terms.now branch.now }
+    requires known { Knows (tree_at terms.now) (seen_branch (tree_at terms.now) branch.now).literals known.now }
+    requires todo { AreBelow (length terms.now) todo.old.items }
+    ensures todo { OnOk result (AreBelow (length terms.now) todo.new.items) }
+{
     match terms.node(f) {
-        Node::Not(g) => {
-            todo.push(*g)?;
-            Ok(())
-        }
-        Node::And(members) => {
-            todo.extend_from_slice(members)?;
-            Ok(())
-        }
-        Node::Or(members) => {
-            todo.extend_from_slice(members)?;
-            Ok(())
-        }
+        Node::Not(g) => with_unknown(terms, branch, known, todo, *g),
+        Node::And(members) => with_members(terms, branch, known, todo, members),
+        Node::Or(members) => with_members(terms, branch, known, todo, members),
         _ => Ok(()),
     }
 }
 
-// Judges a formula, or puts it back behind its parts.
+// Judges a formula, unless it is known, or puts it back behind its parts.
 fn step(
     terms: &Terms,
     branch: &Branch,
@@ -191,16 +363,23 @@ fn step(
     ensures known { OnOk result (Knows (tree_at terms.now) (seen_branch (tree_at terms.now) branch.now).literals known.new) }
     ensures todo { OnOk result (AreBelow (length terms.now) todo.new.items) }
 {
+    if known_at(known, f).is_some() {
+        return Ok(());
+    }
     match by_parts(terms, branch, known, f) {
         Some(verdict) => note(known, f, verdict),
-        None => with_parts(terms, todo, f),
+        None => {
+            todo.push(f)?;
+            with_parts(terms, branch, known, todo, f)
+        }
     }
 }
 
 /// What the literals of a node say of a formula: of an atom by whether it or its denial stands among them, of other formulas
-/// by the connectives of three values. What is found of its parts is noted, so that it is known for other formulas too. It
-/// works on a list of what is still to be judged, and takes time linear in how many formulas the formula is made of that
-/// aren't known yet, and their members.
+/// by the connectives of three values. An atom or a connective of few atoms is asked of the literals each time. What is found
+/// of other connectives that stand in the formula is noted, so that it is known for other formulas too; where there are none,
+/// it takes no memory. It works on a list of what is still to be judged, and takes time linear in how many connectives stand
+/// in the formula that aren't known yet, and their members, and in how many members the formula has.
 pub fn judge(terms: &Terms, branch: &Branch, known: &mut Known, f: u32) -> Result<Verdict, NoMemory>
     requires formula { f < length terms.now }
     requires branch { IsBranch terms.now branch.now }
@@ -210,30 +389,18 @@ pub fn judge(terms: &Terms, branch: &Branch, known: &mut Known, f: u32) -> Resul
 {
     let mut todo = Vec::new(terms.allocator());
     for _turn in 0..u64::MAX {
-        if let Some(verdict) = known_at(known, f) {
+        if let Some(t) = todo.pop() {
+            step(terms, branch, known, &mut todo, t)?;
+        } else if let Some(verdict) = by_parts(terms, branch, known, f) {
             return Ok(verdict);
+        } else {
+            with_parts(terms, branch, known, &mut todo, f)?;
         }
-        let t = todo.pop().unwrap_or(f);
-        if known_at(known, t).is_some() {
-            continue;
-        }
-        step(terms, branch, known, &mut todo, t)?;
     }
     Err(NoMemory)
 }
 
 // ---- pending formulas
-
-/// Whether a formula with this verdict fails, or its denial does where that is meant.
-pub fn fails(verdict: Verdict, holds: bool) -> bool
-    ensures { result ≡ fails verdict holds }
-{
-    match verdict {
-        Verdict::Yes => !holds,
-        Verdict::No => holds,
-        Verdict::Open => false,
-    }
-}
 
 /// The pending formula with a place from 0, by its number, and whether it holds, in constant time.
 pub fn pending_at(branch: &Branch, i: usize) -> (u32, bool)
