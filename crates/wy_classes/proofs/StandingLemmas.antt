@@ -41,6 +41,11 @@ all_led at ls ps ts is =
     ∙ ap (with_unmarked []) (literals_left at ls (of_pending ps) [] ∙ ap (λ ms. all_marked [] literals ++ ms) (pending_left at ps []) ∙ sym (marked_joined [] literals formulas))
     ∙ unmarked_is [] (literals ++ formulas)
 
+-- ---- the same pending formulas, in another set
+
+pub seen_still : (at : ℕ → Term) (ls ps qs : List (ℕ × Bool)) (whole : Node) → qs ≡ ps → node (map (seen_literal at) ls) (map (seen_formula at) ps) ≡ whole → node (map (seen_literal at) ls) (map (seen_formula at) qs) ≡ whole
+seen_still at ls ps qs whole same is = ap (λ (ks : List (ℕ × Bool)). node (map (seen_literal at) ls) (map (seen_formula at) ks)) same ∙ is
+
 -- ---- one more
 
 pub listed_put : (done new : List Term) (f : Term) → new ≡ (with_pending (node [] done) f).pending → new ≡ listed_unless false done f

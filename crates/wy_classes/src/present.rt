@@ -95,8 +95,8 @@ pub fn terms_present(terms: &Terms, branch: &Branch) -> Result<Present, NoMemory
 {
     let found = standing(terms, branch)?;
     let mut made = Present {
-        numbers: Vec::new(terms.allocator()),
-        places: HashMap::new(terms.allocator()),
+        numbers: Vec::with_capacity(terms.allocator(), found.pending.len())?,
+        places: HashMap::with_capacity(terms.allocator(), found.pending.len())?,
     };
     for i in 0..found.pending.len() {
         let (k, holds) = pending_at(&found, i);

@@ -1,22 +1,22 @@
 //! The walk through a node.
 ghost use Rattle.std.specs.Prelude.{◌≡◌, ◌<◌, ◌++◌, [], ◌∷◌, false, true, nat_eq, length, map, IfOk, OnOk};
 ghost use Rattle.std.specs.HashSet.{contains};
+ghost use Rattle.wy_judge.specs.Node as judge;
 ghost use Rattle.wy_judging.specs.Seen.{IsBare, IsBranch, seen_branch, seen_formula};
 ghost use Rattle.wy_search.specs.Standing as search;
 ghost use Rattle.wy_classes.specs.Begun.{AreBegun, BeginsOne};
 ghost use Rattle.wy_classes.specs.Marks.{is_any_bound, listed_unless};
-ghost use Rattle.wy_classes.specs.Walk.{AreTasks, IsWalk, is_quantifier, leads, leads_from, list_of, next_tasks, of_literals, of_pending, tasks_of, visits};
+ghost use Rattle.wy_classes.specs.Walk.{AreTasks, IsWalk, leads, leads_from, list_of, next_tasks, of_literals, of_pending, tasks_of, visits};
 ghost use Rattle.wy_classes.specs.declared.task.Task.TheVariants.{Visit, Bind, Leave};
 ghost use Rattle.wy_term.specs.Nodes.{plain, tree_at};
 ghost use Rattle.wy_term.specs.Scope.{free_names};
 
 use crate::caught::is_caught;
 use crate::task::Task;
-use std::alloc::Global;
 use std::collections::{HashSet, VecDeque};
+use wy_data::Name;
 use wy_judging::{Branch, add_pending, bare, nth_literal, pending_at};
-use wy_subst::parts_of;
-use wy_term::{NoMemory, Node, Terms};
+use wy_term::{NoMemory, Node, Quantifier, Terms};
 
 // What is listed, the quantifiers around, outermost first, the terms with parts that were first met outside quantifiers, and
 // what is still to be done, next first. What is listed is kept as the pending formulas of a node.
@@ -26,16 +26,6 @@ struct Walk {
     around: Vec<u32>,
     begun: HashSet<u32>,
     tasks: VecDeque<Task>,
-}
-
-// Whether a node is a quantifier.
-fn is_quantifier(node: &Node) -> bool
-    ensures { result ≡ is_quantifier (plain node.now).symbol }
-{
-    match node {
-        Node::All(_) | Node::Some(_) => true,
-        _ => false,
-    }
 }
 
 // Whether a node has no parts, as a number or a name.
@@ -94,8 +84,35 @@ fn list(terms: &Terms, walk: &mut Walk, k: u32, holds: bool) -> Result<(), NoMem
     add_pending(terms, &mut walk.found, k, holds)
 }
 
+// This term next.
+fn with_one(tasks: &mut VecDeque<Task>, s: u32) -> Result<(), NoMemory>
+    ensures { OnOk result (tasks.new.items ≡ visits (s ∷ []) ++ tasks.old.items) }
+{
+    tasks.push_front(Task::Visit(s, true))?;
+    Ok(())
+}
+
+// These two terms next.
+fn with_two(tasks: &mut VecDeque<Task>, s: u32, t: u32) -> Result<(), NoMemory>
+    ensures { OnOk result (tasks.new.items ≡ visits (s ∷ t ∷ []) ++ tasks.old.items) }
+{
+    tasks.push_front(Task::Visit(t, true))?;
+    tasks.push_front(Task::Visit(s, true))?;
+    Ok(())
+}
+
+// These three terms next.
+fn with_three(tasks: &mut VecDeque<Task>, s: u32, t: u32, u: u32) -> Result<(), NoMemory>
+    ensures { OnOk result (tasks.new.items ≡ visits (s ∷ t ∷ u ∷ []) ++ tasks.old.items) }
+{
+    tasks.push_front(Task::Visit(u, true))?;
+    tasks.push_front(Task::Visit(t, true))?;
+    tasks.push_front(Task::Visit(s, true))?;
+    Ok(())
+}
+
 // These terms next.
-fn with_parts(tasks: &mut VecDeque<Task>, parts: &[u32]) -> Result<(), NoMemory>
+fn with_all(tasks: &mut VecDeque<Task>, parts: &[u32]) -> Result<(), NoMemory>
     ensures { OnOk result (tasks.new.items ≡ visits parts.now ++ tasks.old.items) }
 {
     let mut left = parts.len();
@@ -106,28 +123,48 @@ fn with_parts(tasks: &mut VecDeque<Task>, parts: &[u32]) -> Result<(), NoMemory>
     Ok(())
 }
 
+// The terms in these fields next.
+fn with_fields(tasks: &mut VecDeque<Task>, fields: &[(Name, u32)]) -> Result<(), NoMemory>
+    ensures { OnOk result (tasks.new.items ≡ visits (map (λ p. p.1) fields.now) ++ tasks.old.items) }
+{
+    let mut left = fields.len();
+    while left > 0 {
+        left -= 1;
+        tasks.push_front(Task::Visit(fields[left].1, true))?;
+    }
+    Ok(())
+}
+
 // The bounds of a quantifier next, and its body, in which its name is bound.
-fn with_range(tasks: &mut VecDeque<Task>, q: u32, parts: &[u32]) -> Result<(), NoMemory>
-    requires { length parts.now ≡ 3 }
-    ensures { OnOk result (tasks.new.items ≡ tasks_of q parts.now ++ tasks.old.items) }
+fn with_range(tasks: &mut VecDeque<Task>, q: u32, by: &Quantifier) -> Result<(), NoMemory>
+    ensures { OnOk result (tasks.new.items ≡ tasks_of q (by.now.from ∷ by.now.below ∷ by.now.body ∷ []) ++ tasks.old.items) }
 {
     tasks.push_front(Task::Leave)?;
-    tasks.push_front(Task::Visit(parts[2], true))?;
+    tasks.push_front(Task::Visit(by.body, true))?;
     tasks.push_front(Task::Bind(q))?;
-    tasks.push_front(Task::Visit(parts[1], true))?;
-    tasks.push_front(Task::Visit(parts[0], true))?;
+    tasks.push_front(Task::Visit(by.below, true))?;
+    tasks.push_front(Task::Visit(by.from, true))?;
     Ok(())
 }
 
 // What stands in a term next, by its node.
-fn put_parts(alloc: Global, tasks: &mut VecDeque<Task>, k: u32, node: &Node) -> Result<(), NoMemory>
+fn put_parts(tasks: &mut VecDeque<Task>, k: u32, node: &Node) -> Result<(), NoMemory>
     ensures { OnOk result (tasks.new.items ≡ next_tasks k (plain node.now) ++ tasks.old.items) }
 {
-    let parts = parts_of(alloc, node)?;
-    if is_quantifier(node) {
-        with_range(tasks, k, &parts)
-    } else {
-        with_parts(tasks, &parts)
+    match node {
+        Node::Number(_) | Node::IntName(_, _) | Node::ValName(_, _) => Ok(()),
+        Node::Null | Node::Bool(_) => Ok(()),
+        Node::Neg(s) | Node::Num(s) | Node::Len(s) => with_one(tasks, *s),
+        Node::Int(s) | Node::Truth(s) | Node::Field(s, _) => with_one(tasks, *s),
+        Node::Kind(s, _) | Node::In(s, _) | Node::Not(s) => with_one(tasks, *s),
+        Node::Add(s, t) | Node::Sub(s, t) | Node::Mul(s, t) => with_two(tasks, *s, *t),
+        Node::Div(s, t) | Node::Mod(s, t) | Node::Repeat(s, t) => with_two(tasks, *s, *t),
+        Node::Get(s, t) | Node::SetField(s, _, t) => with_two(tasks, *s, *t),
+        Node::AtMost(s, t) | Node::Equal(s, t) => with_two(tasks, *s, *t),
+        Node::Update(s, t, u) => with_three(tasks, *s, *t, *u),
+        Node::Array(ks) | Node::And(ks) | Node::Or(ks) => with_all(tasks, ks),
+        Node::Record(fields) => with_fields(tasks, fields),
+        Node::All(by) | Node::Some(by) => with_range(tasks, k, by),
     }
 }
 
@@ -148,7 +185,7 @@ fn visit(terms: &Terms, walk: &mut Walk, k: u32) -> Result<(), NoMemory>
     }
     let (f, holds) = bare_form(terms, k);
     list(terms, walk, f, holds)?;
-    put_parts(terms.allocator(), &mut walk.tasks, k, node)
+    put_parts(&mut walk.tasks, k, node)
 }
 
 // Lists the denial of a formula, and goes into the formula.
@@ -165,12 +202,12 @@ fn visit_denied(terms: &Terms, walk: &mut Walk, k: u32) -> Result<(), NoMemory>
     Ok(())
 }
 
-// The atoms of the literals are to be visited, in order.
-fn literal_tasks(terms: &Terms, branch: &Branch) -> Result<VecDeque<Task>, NoMemory>
+// The atoms of the literals are to be visited, in order, with room for so many tasks.
+fn literal_tasks(terms: &Terms, branch: &Branch, room: usize) -> Result<VecDeque<Task>, NoMemory>
     requires { IsBranch terms.now branch.now }
     ensures value { IfOk result (λ ts. ts.items ≡ of_literals branch.now.literals.keys) }
 {
-    let mut tasks = VecDeque::new(terms.allocator());
+    let mut tasks = VecDeque::with_capacity(terms.allocator(), room)?;
     for i in 0..branch.literals.len() {
         let (a, _) = nth_literal(terms, branch, i);
         tasks.push_back(Task::Visit(a, true))?;
@@ -178,17 +215,33 @@ fn literal_tasks(terms: &Terms, branch: &Branch) -> Result<VecDeque<Task>, NoMem
     Ok(tasks)
 }
 
-// All that is to be done at first: the literals in order, and then the pending formulas.
-fn first_tasks(terms: &Terms, branch: &Branch) -> Result<VecDeque<Task>, NoMemory>
+// All that is to be done at first: the literals in order, and then the pending formulas, with room for so many tasks.
+fn first_tasks(terms: &Terms, branch: &Branch, room: usize) -> Result<VecDeque<Task>, NoMemory>
     requires { IsBranch terms.now branch.now }
     ensures value { IfOk result (λ ts. ts.items ≡ of_literals branch.now.literals.keys ++ of_pending branch.now.pending.keys) }
 {
-    let mut tasks = literal_tasks(terms, branch)?;
+    let mut tasks = literal_tasks(terms, branch, room)?;
     for i in 0..branch.pending.len() {
         let (f, holds) = pending_at(branch, i);
         tasks.push_back(Task::Visit(f, holds))?;
     }
     Ok(tasks)
+}
+
+// A list in which nothing is, with room for so many.
+fn with_room(terms: &Terms, room: usize) -> Result<Branch, NoMemory>
+    ensures value { IfOk result (λ b. seen_branch (tree_at terms.now) b ≡ judge.bare) }
+    ensures branch { IfOk result (IsBranch terms.now) }
+{
+    let mut found = bare(terms.allocator());
+    found.pending.reserve(room)?;
+    Ok(found)
+}
+
+// Room for what the walk begins with, and as much again: most literals and formulas have a part at least.
+fn first_room(branch: &Branch) -> usize {
+    let count = branch.literals.len().saturating_add(branch.pending.len());
+    count.saturating_mul(2)
 }
 
 // Does one thing.
@@ -230,11 +283,12 @@ pub fn standing(terms: &Terms, branch: &Branch) -> Result<Branch, NoMemory>
     ensures value { IfOk result (λ b. (seen_branch (tree_at terms.now) b).pending ≡ search.standing (seen_branch (tree_at terms.now) branch.now)) }
     ensures branch { IfOk result (IsBranch terms.now) }
 {
+    let room = first_room(branch);
     let mut walk = Walk {
-        found: bare(terms.allocator()),
+        found: with_room(terms, room)?,
         around: Vec::new(terms.allocator()),
-        begun: HashSet::new(terms.allocator()),
-        tasks: first_tasks(terms, branch)?,
+        begun: HashSet::with_capacity(terms.allocator(), room)?,
+        tasks: first_tasks(terms, branch, room)?,
     };
     for _turn in 0..u64::MAX {
         match walk.tasks.pop_front() {

@@ -17,15 +17,15 @@ loop-turn-init c =
     let nothing : AreBelow n [] = λ k d lt. absurd (omega (arith, lt)) in
     record {
       leads =
-          ap (λ (node : Node). with_unmarked node.pending (left_at at c.in_ok-first_tasks.field-0.items (map at c.new.result.items))) (c.bare.ensures.value at)
+          ap (λ (node : Node). with_unmarked node.pending (left_at at c.in_ok-first_tasks.field-0.items (map at c.new.result.items))) c.in_ok-with_room.ensures.value
           ∙ ap (λ (a : List ℕ). with_unmarked [] (left_at at c.in_ok-first_tasks.field-0.items (map at a))) c.new.ensures.items
           ∙ all_led at c.args.branch.now.literals.keys c.args.branch.now.pending.keys c.in_ok-first_tasks.field-0.items c.in_ok-first_tasks.ensures.value;
       walk = record {
-        found = c.bare.ensures.branch c.args.terms.now;
+        found = c.in_ok-with_room.ensures.branch;
         around = subst (AreBelow n) (sym c.new.ensures.items) nothing;
         tasks = first_below n c.args.branch.now.literals.keys c.args.branch.now.pending.keys c.in_ok-first_tasks.field-0.items c.requires.literals c.requires.pending c.in_ok-first_tasks.ensures.value;
       };
-      begun = record { each = λ k e. let none : contains nat_eq c.new-2.result k ≡ false = search rules in absurd (cc) };
+      begun = record { each = λ k e. let none : contains nat_eq c.in_ok-with_capacity.field-0 k ≡ false = search rules in absurd (cc) };
     }
 
 pub step-requires-clause-begun : goal.step-requires-clause-begun

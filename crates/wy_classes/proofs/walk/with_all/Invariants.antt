@@ -1,5 +1,5 @@
 use Rattle.std.proofs.Common.{◌≡◌, ◌≤◌, ◌++◌, drop, length}
-use Rattle.wy_classes.proofs.walk.with_parts.Given as goal
+use Rattle.wy_classes.proofs.walk.with_all.Given as goal
 use Rattle.wy_classes.specs.Walk.{visits}
 
 -- the parts behind have been put first
