@@ -2,7 +2,7 @@
 use Rattle.std.proofs.Common.{◌≡◌, ◌≢◌, ◌⊎◌, inl, inr, ◌<◌, ◌≤◌, ℕ, zero, suc, Bool, true, false, not, ◌&&◌, ◌||◌, ◌==◌, nat_lt, cond, List, [], ◌∷◌, ◌++◌, length, get_or, refl, sym, ap, ◌∙◌, subst, arith, length-append}
 use Rattle.std.proofs.lemmas.Bool.Decides.{eqb_tells, nat_tests}
 use Rattle.std.proofs.lemmas.List.{get_or_append_left, get_or_push, get_or_past}
-use Rattle.wy_live.specs.Sets.{Variables, has, put, with, without, either_bits, longer, joined}
+use Rattle.wy_live.specs.Sets.{Variables, has, put, fronted, trimmed, with, without, either_bits, longer, joined}
 
 pub either : {A B C : Type 0} → (A → C) → (B → C) → A ⊎ B → C
 either f g (inl a) = f a
@@ -46,9 +46,26 @@ has-put_false s x y = by_same x y (λ t. has (put s y false) x ≡ (not t && has
     (λ e. subst (λ z. has (put s y false) z ≡ false) (sym e) (put_same s y false))
     (λ ne. put_other s y x false ne)
 
+-- a bit in front, with or without bits behind
+fronted_here : (b : Bool) (s : Variables) → get_or (fronted b s) zero false ≡ b
+fronted_here true s = refl
+fronted_here false [] = refl
+fronted_here false (c ∷ cs) = refl
+
+fronted_behind : (b : Bool) (s : Variables) (x : ℕ) → get_or (fronted b s) (suc x) false ≡ get_or s x false
+fronted_behind true s x = refl
+fronted_behind false [] x = refl
+fronted_behind false (c ∷ cs) x = refl
+
+-- the unset bits at the end are no variables
+has-trimmed : (s : Variables) (x : ℕ) → has (trimmed s) x ≡ has s x
+has-trimmed [] x = refl
+has-trimmed (b ∷ bs) zero = fronted_here b (trimmed bs)
+has-trimmed (b ∷ bs) (suc x) = fronted_behind b (trimmed bs) x ∙ has-trimmed bs x
+
 pub has-without : (s : Variables) (x y : ℕ) → has (without s y) x ≡ (not (x == y) && has s x)
-has-without s x y = by_truth (has s y) (λ t. has s y ≡ t → has (cond t (put s y false) s) x ≡ (not (x == y) && has s x))
-    (λ _ _. has-put_false s x y)
+has-without s x y = by_truth (has s y) (λ t. has s y ≡ t → has (cond t (trimmed (put s y false)) s) x ≡ (not (x == y) && has s x))
+    (λ _ _. has-trimmed (put s y false) x ∙ has-put_false s x y)
     (λ _ h. by_same x y (λ t. has s x ≡ (not t && has s x)) (λ e. ap (λ z. has s z) e ∙ h) (λ _. refl)) refl
 
 pub has-nothing : (x : ℕ) → has [] x ≡ false

@@ -1,4 +1,4 @@
--- Sets of variables, a bit for each of the first ones.
+-- Sets of variables, a bit for each of the first ones up to the greatest that is in the set.
 use Rattle.std.specs.Prelude.{ℕ, zero, suc, Bool, true, false, ◌||◌, nat_lt, cond, List, [], ◌∷◌, ◌++◌, length, slice_index_or}
 
 abbrev pub Variables : Type 0
@@ -15,12 +15,23 @@ put [] (suc x) b = false ∷ put [] x b
 put (c ∷ cs) zero b = b ∷ cs
 put (c ∷ cs) (suc x) b = c ∷ put cs x b
 
+-- one more bit in front of a set, and none where nothing is in both
+abbrev pub fronted : Bool → Variables → Variables
+fronted true s = true ∷ s
+fronted false [] = []
+fronted false (c ∷ cs) = false ∷ c ∷ cs
+
+-- without the unset bits at the end
+abbrev pub trimmed : Variables → Variables
+trimmed [] = []
+trimmed (b ∷ bs) = fronted b (trimmed bs)
+
 -- with the variable, and without it
 abbrev pub with : Variables → ℕ → Variables
 with s x = put s x true
 
 abbrev pub without : Variables → ℕ → Variables
-without s x = cond (has s x) (put s x false) s
+without s x = cond (has s x) (trimmed (put s x false)) s
 
 -- the variable is in it only where it was in it before
 abbrev pub restored : Bool → Variables → ℕ → Variables

@@ -63,18 +63,35 @@ bit_other (c ∷ cs) zero (suc y) b other = refl
 bit_other (c ∷ cs) (suc x) zero b other = refl
 bit_other (c ∷ cs) (suc x) (suc y) b other = bit_other cs x y b (λ e. other (ap suc e))
 
+-- a bit in front, with or without bits behind
+fronted_here : (b : Bool) (s : Variables) → has (sets.fronted b s) zero ≡ b
+fronted_here true s = refl
+fronted_here false [] = refl
+fronted_here false (c ∷ cs) = refl
+
+fronted_behind : (b : Bool) (s : Variables) (x : ℕ) → has (sets.fronted b s) (suc x) ≡ has s x
+fronted_behind true s x = refl
+fronted_behind false [] x = refl
+fronted_behind false (c ∷ cs) x = refl
+
+-- the unset bits at the end are no variables
+has-trimmed : (s : Variables) (x : ℕ) → has (sets.trimmed s) x ≡ has s x
+has-trimmed [] x = refl
+has-trimmed (b ∷ bs) zero = fronted_here b (sets.trimmed bs)
+has-trimmed (b ∷ bs) (suc x) = fronted_behind b (sets.trimmed bs) x ∙ has-trimmed bs x
+
 without_here : (s : Variables) (x : ℕ) → has (without s x) x ≡ false
 without_here s x = by (has s x) refl
   where
-    by : (b : Bool) → has s x ≡ b → has (cond b (sets.put s x false) s) x ≡ false
-    by true e = bit_here s x false
+    by : (b : Bool) → has s x ≡ b → has (cond b (sets.trimmed (sets.put s x false)) s) x ≡ false
+    by true e = has-trimmed (sets.put s x false) x ∙ bit_here s x false
     by false e = e
 
 pub without_other : (s : Variables) (x y : ℕ) → y ≢ x → has (without s x) y ≡ has s y
 without_other s x y other = by (has s x)
   where
-    by : (b : Bool) → has (cond b (sets.put s x false) s) y ≡ has s y
-    by true = bit_other s x y false other
+    by : (b : Bool) → has (cond b (sets.trimmed (sets.put s x false)) s) y ≡ has s y
+    by true = has-trimmed (sets.put s x false) y ∙ bit_other s x y false other
     by false = refl
 
 pub same_or_not : (x y : ℕ) → (x ≡ y) ⊎ (x ≢ y)
