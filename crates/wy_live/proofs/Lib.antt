@@ -2,6 +2,7 @@
 pub mod PutLemmas
 pub mod JoinLemmas
 pub mod LostLemmas
+pub mod TrimLemmas
 pub mod WalkLemmas
 -- sets, and what is live
 mod SetLemmas

@@ -1,12 +1,13 @@
 //! Sets of variables.
-ghost use Rattle.std.specs.Prelude.{◌≡◌, ◌≤◌, ◌<◌, ◌||◌, ℕ, [], true, false, IfOk, OnOk, length};
+ghost use Rattle.std.specs.Prelude.{◌≡◌, ◌≤◌, ◌<◌, ◌||◌, ℕ, [], true, false, IfOk, OnOk, length, take};
 ghost use Rattle.wy_live.specs.Lost as lost;
 ghost use Rattle.wy_live.specs.Sets as spec;
 
 use std::alloc::{AllocError, Global};
 use std::marker::Model;
 
-/// A set of variables: a bit for each of the first ones. A variable is its number.
+/// A set of variables: a bit for each of the first ones, up to the greatest that is in it. A variable is
+/// its number.
 #[derive(Drop)]
 pub struct Variables {
     bits: Vec<bool>,
@@ -62,19 +63,22 @@ impl Variables {
         Ok(Variables { bits })
     }
 
-    /// The variable is in it from now on.
+    /// The variable is in it from now on. It takes constant time where a greater one is in it, and else
+    /// time linear in the bits between.
     pub fn insert(&mut self, variable: u32) -> Result<(), AllocError>
         ensures value { OnOk result (self.new ≡ spec.with self.old variable) }
     {
         put_bit(&mut self.bits, variable as usize, true)
     }
 
-    /// The variable is not in it from now on.
+    /// The variable is not in it from now on. It takes constant time where a greater one is in it, and
+    /// else time linear in the bits behind the next one, which are dropped.
     pub fn remove(&mut self, variable: u32) -> Result<(), AllocError>
         ensures value { OnOk result (self.new ≡ spec.without self.old variable) }
     {
         if self.has(variable) {
-            return put_bit(&mut self.bits, variable as usize, false);
+            put_bit(&mut self.bits, variable as usize, false)?;
+            trim(&mut self.bits);
         }
         Ok(())
     }
@@ -91,15 +95,67 @@ impl Variables {
 }
 
 /// The bit at this index is this, and those before it are unset where there were none.
-#[tactic(auto, using(crate::proofs::PutLemmas::put_pushed, crate::proofs::PutLemmas::put_within))]
+#[tactic(auto, using(crate::proofs::PutLemmas::put_within))]
 fn put_bit(bits: &mut Vec<bool>, index: usize, bit: bool) -> Result<(), AllocError>
     ensures value { OnOk result (bits.new.items ≡ spec.put bits.old.items index bit) }
 {
-    while bits.len() <= index {
-        bits.push(false)?;
+    if bits.len() <= index {
+        return put_behind(bits, index, bit);
     }
     bits[index] = bit;
     Ok(())
+}
+
+/// The same behind the last bit.
+#[tactic(auto, using(crate::proofs::PutLemmas::put_behind))]
+fn put_behind(bits: &mut Vec<bool>, index: usize, bit: bool) -> Result<(), AllocError>
+    requires behind { length bits.old.items ≤ index }
+    ensures value { OnOk result (bits.new.items ≡ spec.put bits.old.items index bit) }
+{
+    bits.resize(index, false)?;
+    bits.push(bit)?;
+    Ok(())
+}
+
+/// The unset bits at the end are dropped. It is linear in these, which it looks at 128 together.
+#[tactic(auto)]
+fn trim(bits: &mut Vec<bool>)
+    ensures value { bits.new.items ≡ spec.trimmed bits.old.items }
+{
+    let end = end_of(bits.as_slice());
+    bits.truncate(end);
+}
+
+/// Where the bits end without the unset ones at the end.
+#[tactic(auto, using(crate::proofs::TrimLemmas::trimmed_next, crate::proofs::TrimLemmas::trimmed_none, crate::proofs::TrimLemmas::trimmed_set))]
+fn end_of(bits: &[bool]) -> usize
+    ensures value { take result bits.now ≡ spec.trimmed bits.now }
+{
+    let mut end = blocks_end(bits);
+    while end > 0 {
+        if bits[end - 1] {
+            return end;
+        }
+        end -= 1;
+    }
+    end
+}
+
+/// The same, with less than 128 unset ones at the end.
+#[tactic(auto, using(crate::proofs::TrimLemmas::trimmed_whole, crate::proofs::TrimLemmas::trimmed_block))]
+fn blocks_end(bits: &[bool]) -> usize
+    ensures within { result ≤ length bits.now }
+    ensures value { spec.trimmed (take result bits.now) ≡ spec.trimmed bits.now }
+{
+    let mut end = bits.len();
+    while end >= BLOCK {
+        let start = end - BLOCK;
+        if is_any_set(bits, start, end) {
+            return end;
+        }
+        end = start;
+    }
+    end
 }
 
 /// What is in one of both. It is linear in the number of bits: the longer one is copied, and then those
