@@ -3,6 +3,7 @@ pub mod PutLemmas
 pub mod JoinLemmas
 pub mod LostLemmas
 pub mod TrimLemmas
+pub mod ShortLemmas
 pub mod WalkLemmas
 -- sets, and what is live
 mod SetLemmas

@@ -4,5 +4,7 @@ pub mod LastUses
 -- the reading: what is live at each point, and the marks
 pub mod Sets
 pub mod Walks
+-- how long a set is
+pub mod Short
 -- what one set has and another lacks
 pub mod Lost
