@@ -11,7 +11,7 @@
 //!
 //! What the tests of named types in a condition stand for: `unfolding` has the Val name and the formula of each named type. `mentioned`
 //! finds the types that a condition mentions, through formulas too (`tests_of_types`, and `testing` tells which terms test none), and `telling` puts a goal together with what these
-//! stand for. `standing` keeps the types that hypotheses test from one goal to the next. `limits` counts terms: they share what they are made of, and `shared` lists these, each once.
+//! stand for. `standing` keeps the types that hypotheses test from one goal to the next. `limits` counts terms: they share what they are made of, and `shared` lists these, each once; `small` makes numbers of counts.
 //!
 //! `listing` has the call: it owes what the declarations do, finds what the tests of named types stand for, and counts. `fault` has the
 //! limits.
@@ -34,6 +34,7 @@ mod program;
 mod rounds;
 mod shared;
 mod simple;
+mod small;
 mod standing;
 mod statements;
 mod telling;

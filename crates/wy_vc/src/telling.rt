@@ -9,22 +9,13 @@ ghost use Rattle.wy_vc.specs.Told as spec;
 ghost use Rattle.wy_vc_expressions.specs.State.{IsGoal, seen_goal};
 
 use crate::mentioned::{is_marked, mentioned};
+use crate::small::small;
 use crate::standing::{Standing, nothing_stands, types_behind};
 use crate::testing::testing_terms;
 use crate::unfolding::Meaning;
 use std::alloc::{AllocError, Global};
 use wy_term::{Cond, NoMemory, Terms, Unfold};
 use wy_vc_expressions::Goal;
-
-// A number of 32 bits. A larger one is want of memory.
-fn small(number: usize) -> Result<u32, AllocError>
-    ensures value { IfOk result (λ n. n ≡ number) }
-{
-    match u32::try_from(number) {
-        Ok(small) => Ok(small),
-        Err(_) => Err(AllocError),
-    }
-}
 
 // Puts a named type behind others, with what its test stands for, where it is marked.
 fn put_entry(

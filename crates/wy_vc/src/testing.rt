@@ -6,20 +6,10 @@ ghost use Rattle.wy_term.specs.Nodes.{tree_at};
 ghost use Rattle.wy_conditions.specs.Limits.{is_among, tests_in, tests_in_all};
 ghost use Rattle.wy_vc.specs.Tested as spec;
 
+use crate::small::small;
 use crate::tests_of_types::{type_of, types_tested};
-use std::alloc::AllocError;
 use wy_subst::parts_of;
 use wy_term::{NoMemory, Terms};
-
-// A number of 32 bits. A larger one is want of memory.
-fn small(number: usize) -> Result<u32, AllocError>
-    ensures value { IfOk result (λ n. n ≡ number) }
-{
-    match u32::try_from(number) {
-        Ok(small) => Ok(small),
-        Err(_) => Err(AllocError),
-    }
-}
 
 // Whether a term is marked. One that has no mark counts as marked.
 fn is_testing(marks: &[bool], number: u32) -> bool

@@ -5,6 +5,7 @@ ghost use Rattle.wy_vc.specs.Meanings as spec;
 ghost use Rattle.wy_vc_names.specs.Described.{IsDescribed, setting};
 ghost use Rattle.wy_vc_operations.specs.Growing.{Kept};
 
+use crate::small::small;
 use crate::tests_of_types::types_tested;
 use std::alloc::Global;
 use wy_core::Core;
@@ -39,16 +40,6 @@ fn meaning_of(
         formula,
         tests,
     })
-}
-
-// A number of 32 bits. A larger one is want of memory.
-fn small(number: usize) -> Result<u32, NoMemory>
-    ensures value { IfOk result (λ n. n ≡ number) }
-{
-    match u32::try_from(number) {
-        Ok(small) => Ok(small),
-        Err(_) => Err(NoMemory),
-    }
 }
 
 /// What the tests of all named types stand for, by their numbers. Linear in the formulas as they are written out, and for each in how many
