@@ -6,10 +6,11 @@ ghost use Rattle.wy_term.specs.Nodes.{tree_at, parts_at};
 ghost use Rattle.wy_judge.specs.Node.{Literal};
 ghost use Rattle.wy_judge.specs.Judgement.{turned, judged, judged_all, judged_any};
 ghost use Rattle.wy_judging.specs.Seen.{seen_branch, IsBranch, AreBelow};
-ghost use Rattle.wy_judging.specs.Judged.{Knows, is_any_refuted};
+ghost use Rattle.wy_judging.specs.Judged.{fails, Knows, is_any_refuted};
 
 use crate::branch::Branch;
 use crate::few::{of_atom, of_few};
+use crate::standing::stands_at_once;
 use crate::verdicts::{fails, join, meet, turn};
 use std::alloc::Global;
 use std::collections::HashMap;
@@ -264,6 +265,27 @@ pub fn pending_at(branch: &Branch, i: usize) -> (u32, bool)
     }
 }
 
+// Whether a pending formula is judged no.
+fn is_judged_no(
+    terms: &Terms,
+    branch: &Branch,
+    known: &mut Known,
+    f: u32,
+    holds: bool,
+) -> Result<bool, NoMemory>
+    requires formula { f < length terms.now }
+    requires branch { IsBranch terms.now branch.now }
+    requires known { Knows (tree_at terms.now) (seen_branch (tree_at terms.now) branch.now).literals known.old }
+    ensures value { IfOk result (λ yes. yes ≡ fails (judged (seen_branch (tree_at terms.now) branch.now).literals (tree_at terms.now f)) holds) }
+    ensures known { OnOk result (Knows (tree_at terms.now) (seen_branch (tree_at terms.now) branch.now).literals known.new) }
+{
+    if stands_at_once(terms, branch, f, holds) {
+        return Ok(false);
+    }
+    let verdict = judge(terms, branch, known, f)?;
+    Ok(fails(verdict, holds))
+}
+
 /// Whether a pending formula of a node is judged no. It takes time linear in how many formulas the pending ones are made of,
 /// each counted once, and their members.
 pub fn is_refuted(terms: &Terms, branch: &Branch) -> Result<bool, NoMemory>
@@ -273,8 +295,7 @@ pub fn is_refuted(terms: &Terms, branch: &Branch) -> Result<bool, NoMemory>
     let mut known = nothing_known(terms.allocator());
     for i in 0..branch.pending.len() {
         let (f, holds) = pending_at(branch, i);
-        let verdict = judge(terms, branch, &mut known, f)?;
-        if fails(verdict, holds) {
+        if is_judged_no(terms, branch, &mut known, f, holds)? {
             return Ok(true);
         }
     }

@@ -4,8 +4,8 @@
 //! `adding` adds a formula to a node, and makes the node in which the certificates of a condition begin. `judging` says what
 //! the literals say of a formula, in three values (`verdicts` has their connectives). None of these goes into a formula by
 //! recursion: each works on a list of what is still to be done (`connectives` has the parts of a formula). What takes no list
-//! is in `few`: atoms, and connectives of few atoms. The definitions are those of `wy_judge`; `specs/Seen.antt` says what the
-//! code's nodes stand for.
+//! is in `few`: atoms, and connectives of few atoms; by these `standing` tells of an `or` that it isn't judged no. The
+//! definitions are those of `wy_judge`; `specs/Seen.antt` says what the code's nodes stand for.
 //!
 //! The nodes of a certificate's tree that are still to be closed, as the checker keeps them.
 //!
@@ -26,6 +26,7 @@ mod few;
 mod judging;
 mod refuting;
 mod shut;
+mod standing;
 mod summed;
 mod trail;
 mod verdicts;
@@ -34,6 +35,7 @@ pub use adding::{add, add_all, first_branch};
 pub use branch::{
     Branch, add_literal, add_pending, back_to, bare, has_literal, literal_at, nth_literal,
 };
+pub use connectives::is_connective;
 pub use cut::cut_stated;
 pub use judging::{is_refuted, judge, nothing_known, pending_at};
 pub use refuting::is_refuting;
