@@ -4,6 +4,7 @@ pub mod AddingLemmas
 pub mod JudgingLemmas
 pub mod TrailLemmas
 pub mod ShutLemmas
+pub mod StandingLemmas
 pub mod SumsBranchLemmas
 pub mod FormLemmas
 pub mod OverLemmas

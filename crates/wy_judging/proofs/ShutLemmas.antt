@@ -1,10 +1,16 @@
--- Literals that stand both ways, one after the other.
-use Rattle.std.proofs.Common.{◌≡◌, ◌≤◌, ◌+◌, ◌||◌, ℕ, zero, suc, List, [], ◌∷◌, map, drop, length, Bool, true, false, not, Some, refl, sym, ap, ◌∙◌, arith}
+-- Literals that stand both ways, one after the other: one of the two is denied.
+use Rattle.std.proofs.Common.{◌≡◌, ◌≤◌, ◌+◌, ◌&&◌, ◌||◌, ℕ, zero, suc, List, [], ◌∷◌, map, drop, length, Bool, true, false, not, cond, Some, refl, sym, ap, ◌∙◌, arith}
+use Rattle.std.specs.Bool.{beq}
 use Rattle.std.specs.Prelude.{slice_get}
+use Rattle.wy_term.proofs.SameLemmas.{both, bits_are, terms_are, terms_self}
+use Rattle.wy_term.specs.Same.{same_term}
 use Rattle.wy_term.specs.Term.{Term}
-use Rattle.wy_judge.specs.Node.{Literal, has_literal}
+use Rattle.wy_judge.specs.Node.{Literal, has_literal, same_literal}
+use Rattle.wy_judging.specs.Denied.{any_denied}
 use Rattle.wy_judging.specs.Seen.{seen_literal}
 use Rattle.wy_valid.specs.Literals.{stands_both_ways}
+
+-- ---- one after the other
 
 pair_is : (x y : ℕ × Bool) → Some x ≡ Some y → x ≡ y
 pair_is x y e = cc
@@ -23,17 +29,92 @@ drop_end [] (suc i) le = refl
 drop_end (p ∷ ps) zero le = absurd (omega (arith, le))
 drop_end (p ∷ ps) (suc i) le = drop_end ps i (omega (arith, le))
 
-abbrev pub denied_at : (ℕ → Term) → ℕ × Bool → Literal
-denied_at at p = record { atom = at p.0; holds = not p.1 }
+-- the literal is denied, and its atom holds too
+abbrev pub holds_too : List Literal → (ℕ → Term) → ℕ × Bool → Bool
+holds_too all at p = not p.1 && has_literal all (seen_literal at (p.0, true))
 
-step : (all : List Literal) (at : ℕ → Term) (ps : List (ℕ × Bool)) (i : ℕ) (p : ℕ × Bool) → slice_get ps i ≡ Some p → stands_both_ways all (map (seen_literal at) (drop i ps)) ≡ (has_literal all (denied_at at p) || stands_both_ways all (map (seen_literal at) (drop (i + 1) ps)))
-step all at ps i p e = ap (λ (qs : List (ℕ × Bool)). stands_both_ways all (map (seen_literal at) qs)) (drop_here ps i p e)
+step : (all : List Literal) (at : ℕ → Term) (ps : List (ℕ × Bool)) (i : ℕ) (p : ℕ × Bool) → slice_get ps i ≡ Some p → any_denied all (map (seen_literal at) (drop i ps)) ≡ (holds_too all at p || any_denied all (map (seen_literal at) (drop (i + 1) ps)))
+step all at ps i p e = ap (λ (qs : List (ℕ × Bool)). any_denied all (map (seen_literal at) qs)) (drop_here ps i p e)
 
-pub both_now : (all : List Literal) (at : ℕ → Term) (ps : List (ℕ × Bool)) (i : ℕ) (p : ℕ × Bool) (total : Bool) → slice_get ps i ≡ Some p → stands_both_ways all (map (seen_literal at) (drop i ps)) ≡ total → has_literal all (denied_at at p) ≡ true → true ≡ total
-both_now all at ps i p total here so up = sym (step all at ps i p here ∙ ap (λ (b : Bool). b || stands_both_ways all (map (seen_literal at) (drop (i + 1) ps))) up) ∙ so
+pub both_now : (all : List Literal) (at : ℕ → Term) (ps : List (ℕ × Bool)) (i : ℕ) (p : ℕ × Bool) (total : Bool) → slice_get ps i ≡ Some p → any_denied all (map (seen_literal at) (drop i ps)) ≡ total → holds_too all at p ≡ true → true ≡ total
+both_now all at ps i p total here so up = sym (step all at ps i p here ∙ ap (λ (b : Bool). b || any_denied all (map (seen_literal at) (drop (i + 1) ps))) up) ∙ so
 
-pub both_later : (all : List Literal) (at : ℕ → Term) (ps : List (ℕ × Bool)) (i : ℕ) (p : ℕ × Bool) (total : Bool) → slice_get ps i ≡ Some p → stands_both_ways all (map (seen_literal at) (drop i ps)) ≡ total → has_literal all (denied_at at p) ≡ false → stands_both_ways all (map (seen_literal at) (drop (i + 1) ps)) ≡ total
-both_later all at ps i p total here so un = sym (step all at ps i p here ∙ ap (λ (b : Bool). b || stands_both_ways all (map (seen_literal at) (drop (i + 1) ps))) un) ∙ so
+pub both_later : (all : List Literal) (at : ℕ → Term) (ps : List (ℕ × Bool)) (i : ℕ) (p : ℕ × Bool) (total : Bool) → slice_get ps i ≡ Some p → any_denied all (map (seen_literal at) (drop i ps)) ≡ total → holds_too all at p ≡ false → any_denied all (map (seen_literal at) (drop (i + 1) ps)) ≡ total
+both_later all at ps i p total here so un = sym (step all at ps i p here ∙ ap (λ (b : Bool). b || any_denied all (map (seen_literal at) (drop (i + 1) ps))) un) ∙ so
 
-pub both_end : (all : List Literal) (at : ℕ → Term) (ps : List (ℕ × Bool)) (i : ℕ) (total : Bool) → length ps ≤ i → stands_both_ways all (map (seen_literal at) (drop i ps)) ≡ total → false ≡ total
-both_end all at ps i total le so = sym (ap (λ (qs : List (ℕ × Bool)). stands_both_ways all (map (seen_literal at) qs)) (drop_end ps i le)) ∙ so
+pub both_end : (all : List Literal) (at : ℕ → Term) (ps : List (ℕ × Bool)) (i : ℕ) (total : Bool) → length ps ≤ i → any_denied all (map (seen_literal at) (drop i ps)) ≡ total → false ≡ total
+both_end all at ps i total le so = sym (ap (λ (qs : List (ℕ × Bool)). any_denied all (map (seen_literal at) qs)) (drop_end ps i le)) ∙ so
+
+-- ---- the one that is denied
+
+abbrev literal : Term → Bool → Literal
+literal a holds = record { atom = a; holds = holds }
+
+two_true : (a b : Bool) → a ≡ true → b ≡ true → (a && b) ≡ true
+two_true true b e f = f
+two_true false b e f = e
+
+first_true : (a b : Bool) → a ≡ true → (a || b) ≡ true
+first_true true b e = refl
+first_true false b e = absurd cc
+
+second_true : (a b : Bool) → b ≡ true → (a || b) ≡ true
+second_true true b e = refl
+second_true false b e = e
+
+or_on : (a b c : Bool) → (b ≡ true → c ≡ true) → (a || b) ≡ true → (a || c) ≡ true
+or_on true b c so e = refl
+or_on false b c so e = so e
+
+bit_self : (b : Bool) → beq b b ≡ true
+bit_self true = refl
+bit_self false = refl
+
+stands_so : (all ls : List Literal) → any_denied all ls ≡ true → stands_both_ways all ls ≡ true
+stands_so all [] e = absurd cc
+stands_so all (l ∷ ls) e = by l.holds e (λ h. stands_so all ls h)
+  where
+    by : (b : Bool) → ((not b && has_literal all (literal l.atom true)) || any_denied all ls) ≡ true → (any_denied all ls ≡ true → stands_both_ways all ls ≡ true) → (has_literal all (literal l.atom (not b)) || stands_both_ways all ls) ≡ true
+    by true h rest = second_true (has_literal all (literal l.atom false)) (stands_both_ways all ls) (rest h)
+    by false h rest = or_on (has_literal all (literal l.atom true)) (any_denied all ls) (stands_both_ways all ls) rest h
+
+found_denied : (all ls : List Literal) (a : Term) → has_literal all (literal a true) ≡ true → has_literal ls (literal a false) ≡ true → any_denied all ls ≡ true
+found_denied all [] a up e = absurd cc
+found_denied all (k ∷ ks) a up e = by (same_literal k (literal a false)) refl e (λ h. found_denied all ks a up h)
+  where
+    by : (b : Bool) → same_literal k (literal a false) ≡ b → cond b true (has_literal ks (literal a false)) ≡ true → (has_literal ks (literal a false) ≡ true → any_denied all ks ≡ true) → ((not k.holds && has_literal all (literal k.atom true)) || any_denied all ks) ≡ true
+    by true is h rest =
+        let s = both (same_term k.atom a) (beq k.holds false) is in
+        first_true (not k.holds && has_literal all (literal k.atom true)) (any_denied all ks) (two_true (not k.holds) (has_literal all (literal k.atom true)) (ap not (bits_are k.holds false s.1)) (ap (λ (t : Term). has_literal all (literal t true)) (terms_are k.atom a s.0) ∙ up))
+    by false is h rest = second_true (not k.holds && has_literal all (literal k.atom true)) (any_denied all ks) (rest h)
+
+head_has : (l : Literal) (ls : List Literal) → has_literal (l ∷ ls) (literal l.atom l.holds) ≡ true
+head_has l ls = ap (λ (b : Bool). cond b true (has_literal ls (literal l.atom l.holds))) (two_true (same_term l.atom l.atom) (beq l.holds l.holds) (terms_self l.atom) (bit_self l.holds))
+
+tail_has : (l : Literal) (ls : List Literal) (m : Literal) → has_literal ls m ≡ true → has_literal (l ∷ ls) m ≡ true
+tail_has l ls m e = by (same_literal l m)
+  where
+    by : (b : Bool) → cond b true (has_literal ls m) ≡ true
+    by true = refl
+    by false = e
+
+denied_among : (all ls : List Literal) → ((m : Literal) → has_literal ls m ≡ true → has_literal all m ≡ true) → stands_both_ways all ls ≡ true → any_denied all all ≡ true
+denied_among all [] sub e = absurd cc
+denied_among all (l ∷ ls) sub e = by (has_literal all (literal l.atom (not l.holds))) refl e (λ h. denied_among all ls (λ m f. sub m (tail_has l ls m f)) h)
+  where
+    by_sign : (s : Bool) → has_literal all (literal l.atom s) ≡ true → has_literal all (literal l.atom (not s)) ≡ true → any_denied all all ≡ true
+    by_sign true up down = found_denied all all l.atom up down
+    by_sign false down up = found_denied all all l.atom up down
+
+    by : (b : Bool) → has_literal all (literal l.atom (not l.holds)) ≡ b → (b || stands_both_ways all ls) ≡ true → (stands_both_ways all ls ≡ true → any_denied all all ≡ true) → any_denied all all ≡ true
+    by true is h rest = by_sign l.holds (sub (literal l.atom l.holds) (head_has l ls)) is
+    by false is h rest = rest h
+
+pub denied_both : (all : List Literal) → any_denied all all ≡ stands_both_ways all all
+denied_both all = by (any_denied all all) refl (stands_both_ways all all) refl
+  where
+    by : (a : Bool) → any_denied all all ≡ a → (b : Bool) → stands_both_ways all all ≡ b → a ≡ b
+    by true x true y = refl
+    by false x false y = refl
+    by true x false y = let up : stands_both_ways all all ≡ true = stands_so all all x in absurd cc
+    by false x true y = let up : any_denied all all ≡ true = denied_among all all (λ m e. e) y in absurd cc

@@ -1,8 +1,9 @@
 -- what public contracts cite
 pub mod Seen
+pub mod Judged
 -- what functions inside owe each other
 pub mod Tasks
-pub mod Judged
+pub mod Denied
 -- what public contracts cite
 pub mod Trail
 -- what functions inside owe each other

@@ -4,12 +4,14 @@ ghost use Rattle.std.specs.HashMap.{get};
 ghost use Rattle.wy_term.specs.Term.{Term};
 ghost use Rattle.wy_term.specs.Nodes.{tree_at, parts_at};
 ghost use Rattle.wy_judge.specs.Node.{Literal};
-ghost use Rattle.wy_judge.specs.Judgement.{turned, both, either, of_atom, judged, judged_all, judged_any};
+ghost use Rattle.wy_judge.specs.Judgement.{turned, judged, judged_all, judged_any};
 ghost use Rattle.wy_judging.specs.Seen.{seen_branch, IsBranch, AreBelow};
-ghost use Rattle.wy_judging.specs.Judged.{Knows, fails, is_any_refuted};
+ghost use Rattle.wy_judging.specs.Judged.{fails, Knows, is_any_refuted};
 
-use crate::branch::{Branch, has_literal};
-use crate::connectives::is_connective;
+use crate::branch::Branch;
+use crate::few::{of_atom, of_few};
+use crate::standing::stands_at_once;
+use crate::verdicts::{fails, join, meet, turn};
 use std::alloc::Global;
 use std::collections::HashMap;
 use wy_judge::Verdict;
@@ -30,49 +32,6 @@ pub fn nothing_known(alloc: Global) -> Known
     }
 }
 
-// ---- three values
-
-fn turn(v: Verdict) -> Verdict
-    ensures { result ≡ turned v }
-{
-    match v {
-        Verdict::Yes => Verdict::No,
-        Verdict::No => Verdict::Yes,
-        Verdict::Open => Verdict::Open,
-    }
-}
-
-fn meet(v: Verdict, w: Verdict) -> Verdict
-    ensures { result ≡ both v w }
-{
-    match (v, w) {
-        (Verdict::No, _) | (Verdict::Open, Verdict::No) => Verdict::No,
-        (Verdict::Yes, other) => other,
-        (Verdict::Open, _) => Verdict::Open,
-    }
-}
-
-fn join(v: Verdict, w: Verdict) -> Verdict
-    ensures { result ≡ either v w }
-{
-    match (v, w) {
-        (Verdict::Yes, _) | (Verdict::Open, Verdict::Yes) => Verdict::Yes,
-        (Verdict::No, other) => other,
-        (Verdict::Open, _) => Verdict::Open,
-    }
-}
-
-/// Whether a formula with this verdict fails, or its denial does where that is meant.
-pub fn fails(verdict: Verdict, holds: bool) -> bool
-    ensures { result ≡ fails verdict holds }
-{
-    match verdict {
-        Verdict::Yes => !holds,
-        Verdict::No => holds,
-        Verdict::Open => false,
-    }
-}
-
 // ---- what is known
 
 // What is known of a formula.
@@ -88,113 +47,6 @@ fn note(known: &mut Known, f: u32, verdict: Verdict) -> Result<(), NoMemory>
 {
     known.verdicts.insert(f, verdict)?;
     Ok(())
-}
-
-// What the literals of a node say of an atom.
-fn of_atom(terms: &Terms, branch: &Branch, atom: u32) -> Verdict
-    requires atom { atom < length terms.now }
-    requires branch { IsBranch terms.now branch.now }
-    ensures { result ≡ of_atom (seen_branch (tree_at terms.now) branch.now).literals (tree_at terms.now atom) }
-{
-    if has_literal(terms, branch, atom, true) {
-        Verdict::Yes
-    } else if has_literal(terms, branch, atom, false) {
-        Verdict::No
-    } else {
-        Verdict::Open
-    }
-}
-
-// ---- formulas of few atoms
-
-// How many atoms a connective may have that is judged by them each time. Then that costs no more than to look for it.
-const FEW: usize = 4;
-
-// What the literals say of a formula, unless it is a connective.
-fn atom_at(terms: &Terms, branch: &Branch, f: u32) -> Option<Verdict>
-    requires formula { f < length terms.now }
-    requires branch { IsBranch terms.now branch.now }
-    ensures { IfSome result (λ v. v ≡ judged (seen_branch (tree_at terms.now) branch.now).literals (tree_at terms.now f)) }
-{
-    if is_connective(terms, f) {
-        None
-    } else {
-        Some(of_atom(terms, branch, f))
-    }
-}
-
-// What the literals say of the `and` of these formulas, if they are few and none is a connective.
-fn all_of_atoms(terms: &Terms, branch: &Branch, members: &[u32]) -> Option<Verdict>
-    requires members { AreBelow (length terms.now) members.now }
-    requires branch { IsBranch terms.now branch.now }
-    ensures { IfSome result (λ v. v ≡ judged_all (seen_branch (tree_at terms.now) branch.now).literals (parts_at (tree_at terms.now) members.now)) }
-{
-    if members.len() > FEW {
-        return None;
-    }
-    let mut verdict = Verdict::Yes;
-    let mut left = members.len();
-    while left > 0 {
-        left -= 1;
-        let Some(v) = atom_at(terms, branch, members[left]) else {
-            return None;
-        };
-        if fails(v, true) {
-            return Some(Verdict::No);
-        }
-        verdict = meet(v, verdict);
-    }
-    Some(verdict)
-}
-
-// What the literals say of the `or` of these formulas, if they are few and none is a connective.
-fn any_of_atoms(terms: &Terms, branch: &Branch, members: &[u32]) -> Option<Verdict>
-    requires members { AreBelow (length terms.now) members.now }
-    requires branch { IsBranch terms.now branch.now }
-    ensures { IfSome result (λ v. v ≡ judged_any (seen_branch (tree_at terms.now) branch.now).literals (parts_at (tree_at terms.now) members.now)) }
-{
-    if members.len() > FEW {
-        return None;
-    }
-    let mut verdict = Verdict::No;
-    let mut left = members.len();
-    while left > 0 {
-        left -= 1;
-        let Some(v) = atom_at(terms, branch, members[left]) else {
-            return None;
-        };
-        if fails(v, false) {
-            return Some(Verdict::Yes);
-        }
-        verdict = join(v, verdict);
-    }
-    Some(verdict)
-}
-
-// What the literals say of the denial of a formula, unless the formula is a connective.
-fn denied_atom(terms: &Terms, branch: &Branch, f: u32) -> Option<Verdict>
-    requires formula { f < length terms.now }
-    requires branch { IsBranch terms.now branch.now }
-    ensures { IfSome result (λ v. v ≡ turned (judged (seen_branch (tree_at terms.now) branch.now).literals (tree_at terms.now f))) }
-{
-    match atom_at(terms, branch, f) {
-        Some(v) => Some(turn(v)),
-        None => None,
-    }
-}
-
-// What the literals say of a formula, if it is an atom or a connective of few atoms.
-fn of_few(terms: &Terms, branch: &Branch, f: u32) -> Option<Verdict>
-    requires formula { f < length terms.now }
-    requires branch { IsBranch terms.now branch.now }
-    ensures { IfSome result (λ v. v ≡ judged (seen_branch (tree_at terms.now) branch.now).literals (tree_at terms.now f)) }
-{
-    match terms.node(f) {
-        Node::Not(g) => denied_atom(terms, branch, *g),
-        Node::And(members) => all_of_atoms(terms, branch, members),
-        Node::Or(members) => any_of_atoms(terms, branch, members),
-        _ => Some(of_atom(terms, branch, f)),
-    }
 }
 
 // ---- formulas by what is known
@@ -413,6 +265,27 @@ pub fn pending_at(branch: &Branch, i: usize) -> (u32, bool)
     }
 }
 
+// Whether a pending formula is judged no.
+fn is_judged_no(
+    terms: &Terms,
+    branch: &Branch,
+    known: &mut Known,
+    f: u32,
+    holds: bool,
+) -> Result<bool, NoMemory>
+    requires formula { f < length terms.now }
+    requires branch { IsBranch terms.now branch.now }
+    requires known { Knows (tree_at terms.now) (seen_branch (tree_at terms.now) branch.now).literals known.old }
+    ensures value { IfOk result (λ yes. yes ≡ fails (judged (seen_branch (tree_at terms.now) branch.now).literals (tree_at terms.now f)) holds) }
+    ensures known { OnOk result (Knows (tree_at terms.now) (seen_branch (tree_at terms.now) branch.now).literals known.new) }
+{
+    if stands_at_once(terms, branch, f, holds) {
+        return Ok(false);
+    }
+    let verdict = judge(terms, branch, known, f)?;
+    Ok(fails(verdict, holds))
+}
+
 /// Whether a pending formula of a node is judged no. It takes time linear in how many formulas the pending ones are made of,
 /// each counted once, and their members.
 pub fn is_refuted(terms: &Terms, branch: &Branch) -> Result<bool, NoMemory>
@@ -422,8 +295,7 @@ pub fn is_refuted(terms: &Terms, branch: &Branch) -> Result<bool, NoMemory>
     let mut known = nothing_known(terms.allocator());
     for i in 0..branch.pending.len() {
         let (f, holds) = pending_at(branch, i);
-        let verdict = judge(terms, branch, &mut known, f)?;
-        if fails(verdict, holds) {
+        if is_judged_no(terms, branch, &mut known, f, holds)? {
             return Ok(true);
         }
     }

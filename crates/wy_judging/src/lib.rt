@@ -2,9 +2,10 @@
 //!
 //! `branch` has a node: its literals in order, each found by its atom and sign in constant time, and the pending formulas.
 //! `adding` adds a formula to a node, and makes the node in which the certificates of a condition begin. `judging` says what
-//! the literals say of a formula, in three values. None of these goes into a formula by recursion: each works on a list of
-//! what is still to be done (`connectives` has the parts of a formula). The definitions are those of `wy_judge`;
-//! `specs/Seen.antt` says what the code's nodes stand for.
+//! the literals say of a formula, in three values (`verdicts` has their connectives). None of these goes into a formula by
+//! recursion: each works on a list of what is still to be done (`connectives` has the parts of a formula). What takes no list
+//! is in `few`: atoms, and connectives of few atoms; by these `standing` tells of an `or` that it isn't judged no. The
+//! definitions are those of `wy_judge`; `specs/Seen.antt` says what the code's nodes stand for.
 //!
 //! The nodes of a certificate's tree that are still to be closed, as the checker keeps them.
 //!
@@ -21,19 +22,24 @@ mod adding;
 mod branch;
 mod connectives;
 mod cut;
+mod few;
 mod judging;
 mod refuting;
 mod shut;
+mod standing;
 mod summed;
 mod trail;
+mod verdicts;
 
 pub use adding::{add, add_all, first_branch};
 pub use branch::{
     Branch, add_literal, add_pending, back_to, bare, has_literal, literal_at, nth_literal,
 };
+pub use connectives::is_connective;
 pub use cut::cut_stated;
-pub use judging::{fails, is_refuted, judge, nothing_known, pending_at};
+pub use judging::{is_refuted, judge, nothing_known, pending_at};
 pub use refuting::is_refuting;
 pub use shut::is_shut;
 pub use summed::{form_at, form_of_sum};
 pub use trail::{Trail, close, grow, one_node, split};
+pub use verdicts::fails;

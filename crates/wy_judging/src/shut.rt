@@ -1,21 +1,32 @@
 //! Whether a node can't be.
-ghost use Rattle.std.specs.Prelude.{◌≡◌, IfOk};
+ghost use Rattle.std.specs.Prelude.{◌≡◌, ◌<◌, ◌&&◌, not, true, length, IfOk};
 ghost use Rattle.wy_term.specs.Nodes.{tree_at};
-ghost use Rattle.wy_judging.specs.Seen.{seen_branch, IsBranch};
+ghost use Rattle.wy_judge.specs.Node.{has_literal};
+ghost use Rattle.wy_judging.specs.Seen.{seen_branch, seen_literal, IsBranch};
 ghost use Rattle.wy_valid.specs.Literals.{stands_both_ways, is_shut};
 
 use crate::branch::{Branch, has_literal, nth_literal};
 use crate::judging::is_refuted;
 use wy_term::{NoMemory, Terms};
 
-// Whether a literal stands both ways, in time linear in the number of literals.
+// Whether a literal is denied, and its atom holds too, in constant time on average.
+fn holds_too(terms: &Terms, branch: &Branch, atom: u32, holds: bool) -> bool
+    requires atom { atom < length terms.now }
+    requires branch { IsBranch terms.now branch.now }
+    ensures { result ≡ (not holds && has_literal (seen_branch (tree_at terms.now) branch.now).literals (seen_literal (tree_at terms.now) (atom, true))) }
+{
+    !holds && has_literal(terms, branch, atom, true)
+}
+
+// Whether a literal stands both ways, in time linear in the number of literals. One of the two is denied, so it is enough to
+// look at those that are.
 fn stands_both_ways(terms: &Terms, branch: &Branch) -> bool
     requires { IsBranch terms.now branch.now }
     ensures { result ≡ stands_both_ways (seen_branch (tree_at terms.now) branch.now).literals (seen_branch (tree_at terms.now) branch.now).literals }
 {
     for i in 0..branch.literals.len() {
         let (atom, holds) = nth_literal(terms, branch, i);
-        if has_literal(terms, branch, atom, !holds) {
+        if holds_too(terms, branch, atom, holds) {
             return true;
         }
     }

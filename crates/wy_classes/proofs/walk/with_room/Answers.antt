@@ -1,4 +1,4 @@
-use Rattle.std.proofs.Common.{◌≡◌, length, subst, sym}
+use Rattle.std.proofs.Common.{length, subst, sym}
 use Rattle.wy_judging.specs.Seen.{AreBare, AreOver}
 use Rattle.wy_classes.proofs.StandingLemmas.{seen_still}
 use Rattle.wy_classes.proofs.walk.with_room.Goals as goal

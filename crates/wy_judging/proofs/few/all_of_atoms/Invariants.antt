@@ -2,7 +2,7 @@ use Rattle.std.proofs.Common.{◌≡◌, ◌≤◌, length, drop}
 use Rattle.wy_term.specs.Nodes.{tree_at, parts_at}
 use Rattle.wy_judge.specs.Judgement.{judged_all}
 use Rattle.wy_judging.specs.Seen.{seen_branch}
-use Rattle.wy_judging.proofs.judging.all_of_atoms.Given as goal
+use Rattle.wy_judging.proofs.few.all_of_atoms.Given as goal
 
 -- the members behind have been judged
 abbrev pub invariant-loop-left : goal.invariant-loop-left

@@ -3,7 +3,7 @@ use Rattle.wy_term.specs.Term.{Of, part, no_parts, denied, all_of, any_of}
 use Rattle.wy_term.specs.Nodes.{tree_at, parts_at}
 use Rattle.wy_judging.specs.Seen.{seen_branch}
 use Rattle.wy_judging.proofs.JudgingLemmas.{by_denial, by_all, by_any}
-use Rattle.wy_judging.proofs.judging.of_few.Goals as goal
+use Rattle.wy_judging.proofs.few.of_few.Goals as goal
 
 pub returns-in-Not : goal.returns-in-Not
 returns-in-Not c =
