@@ -1,4 +1,5 @@
 pub mod PlaceLemmas
+pub mod AddingLemmas
 pub mod DivisionLemmas
 pub mod TallyLemmas
 pub mod StartLemmas

@@ -5,4 +5,5 @@ pub mod Sums
 pub mod Elimination
 pub mod Validity
 -- what functions inside owe
+pub mod Adding
 pub mod Seen

@@ -14,6 +14,9 @@ pub fn gcd(a: u128, b: u128) -> u128
     let mut x = a;
     let mut y = b;
     while y != 0 {
+        if y == 1 {
+            return 1;
+        }
         let rest = x % y;
         x = y;
         y = rest;

@@ -1,5 +1,5 @@
 //! Forms and coefficients at places of a list, from 0. Where there is none, the form is 0.
-ghost use Rattle.std.specs.Prelude.{◌≡◌, map, nat_eq};
+ghost use Rattle.std.specs.Prelude.{◌≡◌, map, nat_eq, IfSome};
 ghost use Rattle.wy_lin.specs.Linear.{coefficient as coefficient_of};
 ghost use Rattle.wy_lin.specs.Combination.{form_at};
 ghost use Rattle.wy_lin.specs.Seen.{linear_form};
@@ -7,6 +7,13 @@ ghost use Rattle.wy_eliminate.specs.Variables as variables;
 
 use wy_items::at;
 use wy_lin::Form;
+
+/// The form at a place, if there is one.
+pub fn form_at(all: &[Form], i: u32) -> Option<&Form>
+    ensures value { IfSome result (λ f. linear_form f.now ≡ form_at (map linear_form all.now) i) }
+{
+    at(all, i as usize)
+}
 
 /// The parts of the form at a place.
 pub fn parts_at(all: &[Form], i: u32) -> &[(i128, u32)]

@@ -6,12 +6,13 @@ ghost use Rattle.wy_eliminate.specs.Division.{gcd as gcd_of};
 ghost use Rattle.wy_eliminate.specs.Sums as sums;
 ghost use Rattle.wy_eliminate.specs.Seen.{seen_sum};
 
+use crate::adding::sum_of_two;
 use crate::comparing::opposite;
 use crate::division::{common, gcd, lowered};
-use crate::places::{coefficient_at, constant_at, parts_at};
+use crate::places::{coefficient_at, constant_at, form_at, parts_at};
 use std::alloc::Global;
 use wy_items::Items;
-use wy_lin::{Form, NoMemory, combine};
+use wy_lin::{Form, NoMemory};
 
 /// What a pair gives.
 #[derive(Drop)]
@@ -46,6 +47,9 @@ fn fits(m: u128) -> bool
 fn share(a: u128, g: u128) -> u128
     ensures value { result ≡ a / g }
 {
+    if g == 1 {
+        return a;
+    }
     if g == 0 { 0 } else { a / g }
 }
 
@@ -67,14 +71,13 @@ fn in_step(alloc: Global, all: &[Form], pair: Pair) -> Result<Option<Form>, NoMe
     if !fits(pair.times_lower) || !fits(pair.times_upper) {
         return Ok(None);
     }
-    if pair.lower as usize >= all.len() || pair.upper as usize >= all.len() {
+    let Some(lower) = form_at(all, pair.lower) else {
         return Err(NoMemory);
-    }
-    let ms = [
-        (pair.times_lower, pair.lower),
-        (pair.times_upper, pair.upper),
-    ];
-    combine(alloc, all, &ms)
+    };
+    let Some(upper) = form_at(all, pair.upper) else {
+        return Err(NoMemory);
+    };
+    sum_of_two(alloc, pair.times_lower, lower, pair.times_upper, upper)
 }
 
 // The same pair, each form twice as often.
