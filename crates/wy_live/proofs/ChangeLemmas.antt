@@ -1,17 +1,13 @@
 -- A word written over, put in and taken out.
-use Rattle.std.proofs.Common.{◌≡◌, ◌≢◌, ◌⊎◌, inl, inr, ◌<◌, ◌≤◌, ◌+◌, ◌-◌, ◌/◌, ◌%◌, ℕ, zero, suc, Bool, true, false, not, ◌&&◌, ◌||◌, ◌==◌, List, [], ◌∷◌, ◌++◌, length, get_or, set, take, drop, refl, sym, ap, ◌∙◌, subst, arith, length-set}
+use Rattle.std.proofs.Common.{◌≡◌, ◌≢◌, ◌<◌, ◌/◌, ◌%◌, ℕ, zero, suc, false, not, ◌&&◌, ◌||◌, ◌==◌, List, [], ◌∷◌, length, set, take, drop, refl, sym, ap, ◌∙◌, arith}
 use Rattle.std.specs.List.{insert, remove}
-use Rattle.std.proofs.lemmas.Bool.{cases_lt}
-use Rattle.std.proofs.lemmas.Bool.Decides.{nat_tests}
-use Rattle.std.proofs.lemmas.Grind.{common_steps}
-use Rattle.std.proofs.lemmas.List.{take-append-drop, get_or_append_left, get_or_push}
-use Rattle.std.proofs.lemmas.List.Edits.{length-insert, get_or-insert_below, get_or-insert_at, get_or-insert_above, length-remove, get_or-remove_below, get_or-remove_above}
+use Rattle.std.proofs.lemmas.List.{take-append-drop}
 use Rattle.wy_live.specs.declared.words.Word.{Word}
-use Rattle.wy_live.specs.Words.{is_set, in_word, in_words, no_word, place_at, bits_at, InOrder, BeginsAt, Changed}
-use Rattle.wy_live.proofs.SetLemmas.{either, never, by_same}
-use Rattle.wy_live.proofs.Truth.{is_same, is_other, or_assoc, or_nothing, or_first}
+use Rattle.wy_live.specs.Words.{is_set, in_word, in_words, place_at, InOrder, BeginsAt, Changed}
+use Rattle.wy_live.proofs.SetLemmas.{by_same}
+use Rattle.wy_live.proofs.Truth.{is_same, is_other, or_nothing, or_first}
 use Rattle.wy_live.proofs.BitLemmas.{none_set}
-use Rattle.wy_live.proofs.WordLemmas.{Ascending, in_append, in_push, elsewhere, there, none_behind, first_before, tail_ascending, in_at, begun_elsewhere}
+use Rattle.wy_live.proofs.WordLemmas.{Ascending, in_append, elsewhere, there, none_behind, first_before, tail_ascending, begun_elsewhere}
 
 -- ---- what is in them
 

@@ -1,15 +1,14 @@
 -- What sets of words show behind each change.
-use Rattle.std.proofs.Common.{◌≡◌, ◌≢◌, ◌<◌, ◌≤◌, ℕ, suc, Bool, true, false, not, ◌&&◌, ◌||◌, ◌==◌, nat_lt, cond, List, length, get_or, refl, sym, ap, ◌∙◌, subst, arith}
+use Rattle.std.proofs.Common.{◌≡◌, ◌<◌, ◌≤◌, ℕ, suc, Bool, true, false, not, ◌&&◌, ◌||◌, ◌==◌, nat_lt, cond, List, length, refl, sym, ap, ◌∙◌, arith}
 use Rattle.std.proofs.lemmas.Bool.{cases_lt}
 use Rattle.std.proofs.lemmas.List.{get_or_past}
 use Rattle.wy_live.specs.declared.words.Word.{Word}
 use Rattle.wy_live.specs.Apart.{IsNext}
 use Rattle.wy_live.specs.Lost.{is_lost, NoneLost}
 use Rattle.wy_live.specs.Sets.{Variables, has, put, with, without, longer, joined}
-use Rattle.wy_live.specs.Words.{in_words, shown, InOrder, Kept}
-use Rattle.wy_live.proofs.SetLemmas.{either, never, by_truth, has-with, has-without, has-joined, length-either, lt_true, lt_false, longer_left, longer_right}
+use Rattle.wy_live.specs.Words.{in_words, shown, Kept}
+use Rattle.wy_live.proofs.SetLemmas.{either, never, by_truth, has-with, has-without, has-joined, length-either, lt_true, lt_false}
 use Rattle.wy_live.proofs.ShownLemmas.{length_shown, has_shown, shown_is, length_put_within, length_put_behind}
-use Rattle.wy_live.proofs.Truth.{is_other}
 
 length_put : (s : Variables) (x : ℕ) (b : Bool) → length (put s x b) ≡ longer (length s) (suc x)
 length_put s x b = by_truth (nat_lt (length s) (suc x)) (λ t. nat_lt (length s) (suc x) ≡ t → length (put s x b) ≡ cond t (suc x) (length s))

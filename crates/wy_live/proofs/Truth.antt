@@ -1,5 +1,5 @@
 -- Laws of truth values.
-use Rattle.std.proofs.Common.{◌≡◌, ◌≢◌, ◌⊎◌, inl, inr, ℕ, Bool, true, false, not, ◌&&◌, ◌||◌, ◌==◌, refl, sym, ap, ◌∙◌}
+use Rattle.std.proofs.Common.{◌≡◌, ◌≢◌, ◌⊎◌, inl, inr, ℕ, Bool, true, false, ◌&&◌, ◌||◌, ◌==◌, refl}
 use Rattle.wy_live.proofs.SetLemmas.{never, by_same}
 
 pub is_same : (x y : ℕ) → x ≡ y → (x == y) ≡ true

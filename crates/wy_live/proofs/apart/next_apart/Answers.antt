@@ -1,4 +1,4 @@
-use Rattle.wy_live.proofs.ApartLemmas.{Passing, passing_begun, passing_more, next_found}
+use Rattle.wy_live.proofs.ApartLemmas.{passing_begun, passing_more, next_found}
 use Rattle.wy_live.proofs.apart.next_apart.Goals as goal
 
 pub loop-i-init : goal.loop-i-init

@@ -1,4 +1,4 @@
-use Rattle.std.proofs.Common.{arith, ◌<◌}
+use Rattle.std.proofs.Common.{arith}
 use Rattle.wy_live.proofs.BitLemmas.{none_apart, within_word, first_found, none_before}
 use Rattle.wy_live.proofs.bits.first_apart.Goals as goal
 

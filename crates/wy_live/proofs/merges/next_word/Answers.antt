@@ -1,4 +1,4 @@
-use Rattle.std.proofs.Common.{◌<◌, ◌≤◌, length, arith}
+use Rattle.std.proofs.Common.{arith}
 use Rattle.wy_live.proofs.MergeLemmas.{rising, front_one, front_other}
 use Rattle.wy_live.proofs.merges.next_word.Goals as goal
 

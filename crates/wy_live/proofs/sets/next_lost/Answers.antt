@@ -3,7 +3,7 @@ use Rattle.wy_live.specs.declared.words.Word.{Word}
 use Rattle.wy_live.specs.Apart.{IsNext}
 use Rattle.wy_live.specs.Lost.{is_lost, NoneLost}
 use Rattle.wy_live.specs.Sets.{Variables}
-use Rattle.wy_live.specs.Words.{in_words, shown}
+use Rattle.wy_live.specs.Words.{in_words}
 use Rattle.wy_live.proofs.ShownLemmas.{length_shown}
 use Rattle.wy_live.proofs.KeptLemmas.{next_within, next_lost_so, none_between}
 use Rattle.wy_live.proofs.sets.next_lost.Goals as goal

@@ -1,4 +1,4 @@
-use Rattle.std.proofs.Common.{◌∙◌, arith}
+use Rattle.std.proofs.Common.{arith}
 use Rattle.wy_live.proofs.WordLemmas.{begun_there, begun_elsewhere}
 use Rattle.wy_live.proofs.words.bits_of.Goals as goal
 use Rattle.wy_live.proofs.words.bits_of.Goals.{else-at-words-via-then-at-words+else-words-at, else-at-words-via-else-at-words}

@@ -1,7 +1,7 @@
 use Rattle.std.proofs.Common.{◌≡◌, ◌≢◌, ◌<◌, ◌∙◌, ◌||◌, ◌==◌, ◌/◌, ℕ, List, length, ap, sym, subst, refl, arith}
 use Rattle.std.proofs.lemmas.List.{get_or_default}
 use Rattle.wy_live.specs.declared.words.Word.{Word}
-use Rattle.wy_live.specs.Words.{no_word, place_at, in_words, BeginsAt, Changed}
+use Rattle.wy_live.specs.Words.{no_word, place_at, in_words, BeginsAt}
 use Rattle.wy_live.proofs.ChangeLemmas.{insert_changed, put_value}
 use Rattle.wy_live.proofs.words.put.Goals as goal
 use Rattle.wy_live.proofs.words.put.Goals.{else-at-len-via-then-at-len+else-index-place, else-at-len-via-else-at-len}

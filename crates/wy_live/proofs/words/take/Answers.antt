@@ -1,7 +1,7 @@
-use Rattle.std.proofs.Common.{◌≡◌, ◌≢◌, ◌<◌, ◌∙◌, ◌||◌, ◌&&◌, not, ◌==◌, ◌/◌, ◌%◌, ℕ, List, length, ap, sym, subst, refl, arith}
+use Rattle.std.proofs.Common.{◌≡◌, ◌≢◌, ◌<◌, ◌∙◌, ◌&&◌, not, ◌==◌, ◌/◌, ◌%◌, List, length, ap, sym, subst, refl, arith}
 use Rattle.std.proofs.lemmas.List.{get_or_default}
 use Rattle.wy_live.specs.declared.words.Word.{Word}
-use Rattle.wy_live.specs.Words.{is_set, no_word, place_at, bits_at, in_words, BeginsAt, Changed}
+use Rattle.wy_live.specs.Words.{is_set, no_word, place_at, bits_at, BeginsAt}
 use Rattle.wy_live.proofs.BitLemmas.{none_set}
 use Rattle.wy_live.proofs.WordLemmas.{begun_there, begun_elsewhere}
 use Rattle.wy_live.proofs.ChangeLemmas.{take_value, take_none}
