@@ -20,8 +20,8 @@ pub struct Made {
     pub steps: Steps,
 }
 
-/// The variables that are live in the one and not in the other. It is linear in these, and in the bits
-/// of the one, which are looked at many together.
+/// The variables that are live in the one and not in the other. It is linear in the words of
+/// both sets, beside a search for each of these.
 #[tactic(auto, using(crate::proofs::LostLemmas::first_lost, crate::proofs::LostLemmas::next_lost))]
 fn lost(alloc: Global, one: &Variables, other: &Variables) -> Result<Items<u32>, NoMemory>
     ensures value { IfOk result (λ rs. rs ≡ spec.lost one.now other.now) }

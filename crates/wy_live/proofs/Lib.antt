@@ -1,8 +1,14 @@
 -- what the functions owe
-pub mod PutLemmas
-pub mod JoinLemmas
-pub mod LostLemmas
 pub mod WalkLemmas
+-- sets as words of bits
+mod Truth
+mod BitLemmas
+mod WordLemmas
+mod ChangeLemmas
+mod MergeLemmas
+mod ApartLemmas
+mod ShownLemmas
+mod KeptLemmas
 -- sets, and what is live
 mod SetLemmas
 mod UseLemmas

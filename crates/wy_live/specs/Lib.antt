@@ -6,3 +6,7 @@ pub mod Sets
 pub mod Walks
 -- what one set has and another lacks
 pub mod Lost
+-- sets as words of bits
+pub mod Words
+pub mod Merges
+pub mod Apart

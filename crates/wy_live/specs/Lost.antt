@@ -9,7 +9,3 @@ is_lost s t x = has s x && not (has t x)
 -- no variable between these is
 abbrev pub NoneLost : Variables → Variables → ℕ → ℕ → Type 0
 NoneLost s t from to = (x : ℕ) → from ≤ x → x < to → is_lost s t x ≡ false
-
--- no variable between these is in the set
-abbrev pub NoneSet : Variables → ℕ → ℕ → Type 0
-NoneSet s from to = (x : ℕ) → from ≤ x → x < to → has s x ≡ false

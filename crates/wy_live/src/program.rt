@@ -31,7 +31,7 @@ pub struct Uses {
 /// clauses, invariants and the tests of `assert`. The clauses of a type run, one behind the other.
 ///
 /// It goes through each node once, and once more for each loop or quantifier around it; each `if`,
-/// each loop and each quantifier copies or joins the bits of the variables.
+/// each loop and each quantifier copies or joins the words of what is live.
 pub fn last_uses(alloc: Global, core: &Core) -> Result<Uses, NoMemory>
     ensures sound { IfOk result (λ u. AreLast (seen_core core.now) u.last) }
     ensures complete { IfOk result (λ u. (marks : List Bool) → AreLast (seen_core core.now) marks → marks ≡ u.last) }
