@@ -16,6 +16,7 @@ use wy_heap::{Heap, Kind, Place};
 
 /// `Equal`: whether two registers hold the same, compared by structure, comes into a register. It may
 /// take memory as two nodes nest.
+#[inline(never)]
 pub fn equal(
     heap: &mut Heap,
     registers: &mut [Place],

@@ -22,6 +22,7 @@ use wy_heap::{Heap, Place};
 /// `Fill`: an array of so many times what a register held comes into a register. Stuck comes where the
 /// number is none of a length, from 0 to 2^63 - 1. At the cap it counts as many copies as nodes come beside
 /// the array. At want of memory what was taken is released.
+#[inline(never)]
 pub fn fill(
     heap: &mut Heap,
     registers: &mut [Place],

@@ -21,6 +21,7 @@ use wy_value::Shapes;
 /// `Kind`: whether a register holds something of that kind comes into another one. The shapes are those
 /// of the code's table, which the heap's extends. Stuck comes where there is no such shape or register. It
 /// takes no memory, and constant time.
+#[inline(never)]
 pub fn kind(
     shapes: &Shapes,
     heap: &mut Heap,

@@ -19,6 +19,7 @@ use wy_heap::{Heap, Kind, Place};
 
 /// `Len`: the number of an array's items comes into a register. Stuck comes where there is no array. It
 /// takes no memory, and constant time.
+#[inline(never)]
 pub fn length(heap: &mut Heap, registers: &mut [Place], to: u32, from: u32) -> Result<(), Stuck>
     requires held { AreRegisters heap.old registers.old }
     ensures turns { Turns heap.old heap.new registers.old registers.new }

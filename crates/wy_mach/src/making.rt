@@ -18,6 +18,7 @@ use wy_heap::{Heap, Place};
 
 /// `Array`: an array of what registers held comes into a register. At want of memory what was taken is
 /// released.
+#[inline(never)]
 pub fn array(
     alloc: Global,
     heap: &mut Heap,

@@ -24,6 +24,7 @@ use wy_heap::{Heap, Place, Slot};
 /// `Field`: the field of a record comes into a register too. Stuck comes where there is no record with such
 /// a field. It takes memory only where the field has as many holders as the heap's cap allows, and then
 /// counts as many copies as it makes nodes.
+#[inline(never)]
 pub fn field(
     heap: &mut Heap,
     registers: &mut [Place],

@@ -23,6 +23,7 @@ use wy_value::Shapes;
 /// `Record`: a record of what registers held comes into a register; it has the shape with this number in
 /// the code's table, which the heap's extends. Stuck comes where there is no such shape, or as many fields
 /// as values. At want of memory what was taken is released.
+#[inline(never)]
 pub fn record(
     alloc: Global,
     shapes: &Shapes,
