@@ -7,7 +7,7 @@ ghost use Rattle.wy_eliminate.specs.Seen.{seen_table, seen_turn, IsNext};
 use crate::given::{at_first, given};
 use crate::steps::{Elim, Steps};
 use crate::table::{Outcome, Table, is_crowded};
-use crate::tally::{next_variable, variables};
+use crate::tally::{next_variable, number, variables};
 use crate::turns::turned;
 use std::alloc::Global;
 use wy_lin::{Form, NoMemory};
@@ -73,7 +73,7 @@ pub fn eliminate(alloc: Global, forms: &[Form]) -> Result<Elim, NoMemory>
         Next::Ends(end) => Ok(end),
         Next::GoesOn(table) => {
             let found = variables(alloc, table.all.as_slice(), table.standing.as_slice())?;
-            eliminated(alloc, found.len(), table)
+            eliminated(alloc, number(&found), table)
         }
     }
 }

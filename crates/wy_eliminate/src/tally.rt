@@ -1,25 +1,24 @@
 //! Which variable goes first.
-ghost use Rattle.std.specs.Prelude.{◌≡◌, ◌<◌, map, slice_index_or, IfOk, OnOk};
+ghost use Rattle.std.specs.Prelude.{◌≡◌, ◌<◌, length, map, slice_index_or, IfOk, OnOk};
 ghost use Rattle.indexmap.specs.IndexMap.{index_map_len};
 ghost use Rattle.wy_lin.specs.Seen.{linear_form};
 ghost use Rattle.wy_eliminate.specs.Variables as variables;
+ghost use Rattle.wy_eliminate.specs.Seen.{entries_of};
 
+use crate::few::{few_variables, one_more};
 use crate::places::parts_at;
 use indexmap::IndexMap;
+use smallvec::SmallVec;
 use std::alloc::Global;
 use wy_lin::{Form, NoMemory};
 
-// How many lower and how many upper forms a variable has, with one more, by the sign of the coefficient.
-fn one_more(c: i128, n: (u32, u32)) -> Result<(u32, u32), NoMemory>
-    ensures value { IfOk result (λ m. m ≡ variables.one_more c n) }
-{
-    if c < 0 {
-        let upper = n.1.checked_add(1).ok_or(NoMemory)?;
-        Ok((n.0, upper))
-    } else {
-        let lower = n.0.checked_add(1).ok_or(NoMemory)?;
-        Ok((lower, n.1))
-    }
+/// The variables of forms, by first appearance, each with its number of lower and of upper forms.
+#[derive(Drop)]
+pub enum Tally {
+    /// Few, which are looked through.
+    Few(SmallVec<(u32, (u32, u32)), 20, Global>),
+    /// In a table.
+    Many(IndexMap<u32, (u32, u32)>),
 }
 
 // The counts of a variable.
@@ -54,9 +53,8 @@ fn count_parts(found: &mut IndexMap<u32, (u32, u32)>, parts: &[(i128, u32)]) -> 
     Ok(())
 }
 
-/// The variables of the forms at these places, by first appearance, each with its number of lower and of upper forms, in
-/// time linear in the parts of the forms.
-pub fn variables(
+// The variables of the forms at these places, in a table, in time linear in the parts of the forms.
+fn many_variables(
     alloc: Global,
     all: &[Form],
     places: &[u32],
@@ -68,6 +66,27 @@ pub fn variables(
         count_parts(&mut found, parts_at(all, *i))?;
     }
     Ok(found)
+}
+
+/// The variables of the forms at these places, by first appearance, each with its number of lower and of upper forms, in
+/// time linear in the parts of the forms: up to some 20 variables are looked through for each part, and more stand in a table.
+pub fn variables(alloc: Global, all: &[Form], places: &[u32]) -> Result<Tally, NoMemory>
+    ensures value { IfOk result (λ found. entries_of found ≡ variables.variables (map linear_form all.now) places.now) }
+{
+    match few_variables(alloc, all, places)? {
+        Some(few) => Ok(Tally::Few(few)),
+        None => Ok(Tally::Many(many_variables(alloc, all, places)?)),
+    }
+}
+
+/// How many variables there are.
+pub fn number(found: &Tally) -> usize
+    ensures value { result ≡ length (entries_of found.now) }
+{
+    match found {
+        Tally::Few(few) => few.len(),
+        Tally::Many(many) => many.len(),
+    }
 }
 
 // The one with fewer pairs of a lower and an upper form, the first of equals.
@@ -100,8 +119,19 @@ fn entry_at(found: &IndexMap<u32, (u32, u32)>, i: usize) -> (u32, (u32, u32))
     }
 }
 
-/// The variable with the fewest pairs of a lower and an upper form, the first of equals, with the number of its pairs.
-pub fn next_variable(found: &IndexMap<u32, (u32, u32)>) -> Option<(u32, u64)>
+// The best of few.
+fn best_of_few(entries: &[(u32, (u32, u32))]) -> Option<(u32, u64)>
+    ensures value { result ≡ variables.next_variable entries.now }
+{
+    let mut best = None;
+    for entry in entries {
+        best = better(best, *entry);
+    }
+    best
+}
+
+// The best of a table.
+fn best_of_many(found: &IndexMap<u32, (u32, u32)>) -> Option<(u32, u64)>
     ensures value { result ≡ variables.next_variable found.now.entries }
 {
     let mut best = None;
@@ -109,4 +139,14 @@ pub fn next_variable(found: &IndexMap<u32, (u32, u32)>) -> Option<(u32, u64)>
         best = better(best, entry_at(found, i));
     }
     best
+}
+
+/// The variable with the fewest pairs of a lower and an upper form, the first of equals, with the number of its pairs.
+pub fn next_variable(found: &Tally) -> Option<(u32, u64)>
+    ensures value { result ≡ variables.next_variable (entries_of found.now) }
+{
+    match found {
+        Tally::Few(few) => best_of_few(few.as_slice()),
+        Tally::Many(many) => best_of_many(many),
+    }
 }

@@ -1,4 +1,4 @@
-use Rattle.std.proofs.Common.{rules, ◌≡◌, ℕ, List, ℤ, Some, slice_set, sym, ap, ◌∙◌}
+use Rattle.std.proofs.Common.{rules, ◌≡◌, ℕ, List, ℤ, slice_set, sym, ap, ◌∙◌}
 use Rattle.wy_eliminate.specs.Adding.{part_from}
 use Rattle.wy_eliminate.proofs.AddingLemmas.{put_refilled}
 use Rattle.wy_eliminate.proofs.adding.put.Goals as goal

@@ -1,7 +1,7 @@
 use Rattle.std.proofs.Common.{◌≡◌, ◌<◌, ◌+◌, suc, length, None, arith}
 use Rattle.wy_eliminate.specs.Variables.{best_from}
 use Rattle.wy_eliminate.proofs.TallyLemmas.{best_more}
-use Rattle.wy_eliminate.proofs.tally.next_variable.Goals as goal
+use Rattle.wy_eliminate.proofs.tally.best_of_many.Goals as goal
 
 pub loop-i-preserved : goal.loop-i-preserved
 loop-i-preserved c =
