@@ -54,12 +54,18 @@ fn note_first(found: &mut HashMap<u32, u32>, labels: &[u32], v: u32) -> Result<u
     }
 }
 
-/// For each place the first place of its class, in time linear in the places on average.
+/// The most places for which no list is made: to look through them takes less time than to make a table.
+const FEW: usize = 32;
+
+/// For each place the first place of its class, in time linear in the places on average; an empty list, in constant time, where there are at most `FEW` places.
 pub fn first_places(alloc: Global, labels: &[u32]) -> Result<Vec<u32>, NoMemory>
     ensures { IfOk result (λ fs. AreFirsts labels.now fs.items) }
 {
-    let mut found = HashMap::new(alloc);
     let mut firsts = Vec::new(alloc);
+    if labels.len() <= FEW {
+        return Ok(firsts);
+    }
+    let mut found = HashMap::new(alloc);
     for i in 0..labels.len() {
         let v = form_number(i)?;
         let first = note_first(&mut found, labels, v)?;
@@ -68,7 +74,7 @@ pub fn first_places(alloc: Global, labels: &[u32]) -> Result<Vec<u32>, NoMemory>
     Ok(firsts)
 }
 
-/// The first place of a place's class, in constant time where it is listed, else in time linear in that place.
+/// The first place of a place's class, in constant time where it is listed, else in time linear in that first place.
 pub fn first_of_class(labels: &[u32], firsts: &[u32], v: u32) -> Result<u32, NoMemory>
     requires { AreFirsts labels.now firsts.now }
     ensures { IfOk result (λ k. k ≡ bounds.first_of_class labels.now v) }

@@ -1,4 +1,4 @@
-use Rattle.std.proofs.Common.{◌≡◌, ◌≤◌, ◌∙◌, ◌++◌, ◌∷◌, [], ℕ, List, Bool, length, ap, rules}
+use Rattle.std.proofs.Common.{◌≤◌, ◌∙◌, ◌++◌, ◌∷◌, [], ℕ, List, Bool, length, ap, rules}
 use Rattle.wy_stated_facts.proofs.CopyLemmas.{take_more, taken_all}
 use Rattle.wy_stated_facts.proofs.spot.literals_of.Goals as goal
 
