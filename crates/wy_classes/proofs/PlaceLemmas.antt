@@ -50,16 +50,12 @@ placed_last ks k place t is = by (eqb k t) refl ∙ sym (place_last ks k t 0)
     by false e = sym (or_nothing (number_place ks t 0))
 
 -- a number that has a place keeps it
-pub placed_kept : (f : ℕ → Option ℕ) (k place t : ℕ) → is_some (f k) ≡ true → f t ≡ cond (eqb k t) (first_place (f k) place) (f t)
-placed_kept f k place t has = by (eqb k t) refl
+pub placed_back : (f g h : ℕ → Option ℕ) (k place first t : ℕ) → f k ≡ Some first → g t ≡ cond (eqb k t) (Some place) (f t) → h t ≡ cond (eqb k t) (Some first) (g t) → h t ≡ cond (eqb k t) (first_place (f k) place) (f t)
+placed_back f g h k place first t had puts back = by (eqb k t) puts back
   where
-    first_kept : (o : Option ℕ) → is_some o ≡ true → o ≡ first_place o place
-    first_kept None e = absurd cc
-    first_kept (Some m) e = refl
-
-    by : (b : Bool) → eqb k t ≡ b → f t ≡ cond b (first_place (f k) place) (f t)
-    by true e = ap f (sym (eqb-true k t e)) ∙ first_kept (f k) has
-    by false e = refl
+    by : (b : Bool) → g t ≡ cond b (Some place) (f t) → h t ≡ cond b (Some first) (g t) → h t ≡ cond b (first_place (f k) place) (f t)
+    by true put again = again ∙ sym (ap (λ (o : Option ℕ). first_place o place) had)
+    by false put again = again ∙ put
 
 -- a number that has none gets this one
 pub placed_new : (f g : ℕ → Option ℕ) (k place t : ℕ) → is_some (f k) ≡ false → g t ≡ cond (eqb k t) (Some place) (f t) → g t ≡ cond (eqb k t) (first_place (f k) place) (f t)

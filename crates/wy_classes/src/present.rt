@@ -1,5 +1,5 @@
 //! The terms present in a node.
-ghost use Rattle.std.specs.Prelude.{◌≡◌, ◌<◌, ◌++◌, ◌∷◌, [], nat_eq, length, map, IfOk, OnOk};
+ghost use Rattle.std.specs.Prelude.{◌≡◌, ◌<◌, ◌++◌, ◌∷◌, ◌==◌, ℕ, [], Some, if◌then◌else◌, nat_eq, length, map, IfOk, OnOk};
 ghost use Rattle.std.specs.HashMap.{get};
 ghost use Rattle.wy_classes.specs.Heads.{PlacedBehind};
 ghost use Rattle.wy_classes.specs.Seen.{terms_of, ArePlaced, IsPresent};
@@ -48,15 +48,22 @@ fn place_number(count: usize) -> Result<u32, NoMemory>
     }
 }
 
-// Notes the place of a term, unless it has one.
+// The place that a term had before.
+fn put_back(places: &mut HashMap<u32, u32>, k: u32, first: u32) -> Result<(), NoMemory>
+    ensures { OnOk result ((t : ℕ) → get nat_eq places.new t ≡ (if k == t then Some first else get nat_eq places.old t)) }
+{
+    places.insert(k, first)?;
+    Ok(())
+}
+
+// Notes the place of a term, unless it has one: of those that are met once each, as in a set, all are new.
 fn note_place(places: &mut HashMap<u32, u32>, k: u32, place: u32) -> Result<(), NoMemory>
     ensures { OnOk result (PlacedBehind (get nat_eq places.old) (get nat_eq places.new) k place) }
 {
-    if places.contains_key(&k) {
-        return Ok(());
+    match places.insert(k, place)? {
+        Some(first) => put_back(places, k, first),
+        None => Ok(()),
     }
-    places.insert(k, place)?;
-    Ok(())
 }
 
 // One term more.
