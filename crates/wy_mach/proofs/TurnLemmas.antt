@@ -238,30 +238,6 @@ none_moves (instr.Return q) moving c m l a p n s k = moving
 none_moves (instr.Print x) moving c m l a p n s k = moving
 none_moves (instr.PrintInt x) moving c m l a p n s k = moving
 
-pub is_plain : (i : Instr) → ((t : ℕ) → i ≡ instr.Jump t → ⊥) → ((r t : ℕ) → i ≡ instr.Branch r t → ⊥) → ((d f : ℕ) (rs : List ℕ) → i ≡ instr.Call d f rs → ⊥) → ((r : ℕ) → i ≡ instr.Return r → ⊥) → ((a : ℕ) → i ≡ instr.Print a → ⊥) → ((a : ℕ) → i ≡ instr.PrintInt a → ⊥) → IsPlain i
-is_plain (instr.Const d x) j b c r p n = tt
-is_plain (instr.Move d q) j b c r p n = tt
-is_plain (instr.Share d q) j b c r p n = tt
-is_plain (instr.Clear rs) j b c r p n = tt
-is_plain (instr.Arith d op x y) j b c r p n = tt
-is_plain (instr.Compare d op x y) j b c r p n = tt
-is_plain (instr.Equal d x y) j b c r p n = tt
-is_plain (instr.Not d x) j b c r p n = tt
-is_plain (instr.Jump t) j b c r p n = absurd (j t refl)
-is_plain (instr.Branch q t) j b c r p n = absurd (b q t refl)
-is_plain (instr.Array d rs) j b c r p n = tt
-is_plain (instr.Record d k rs) j b c r p n = tt
-is_plain (instr.Fill d v k) j b c r p n = tt
-is_plain (instr.Len d x) j b c r p n = tt
-is_plain (instr.Get d x k) j b c r p n = tt
-is_plain (instr.Field d x k) j b c r p n = tt
-is_plain (instr.Put x path v) j b c r p n = tt
-is_plain (instr.Kind d x k) j b c r p n = tt
-is_plain (instr.Call d f rs) j b c r p n = absurd (c d f rs refl)
-is_plain (instr.Return q) j b c r p n = absurd (r q refl)
-is_plain (instr.Print x) j b c r p n = absurd (p x refl)
-is_plain (instr.PrintInt x) j b c r p n = absurd (n x refl)
-
 pub has_int : (code : Code) (old : Machine) (i : Instr) → HasInts code → instr_of code old ≡ Some i → HasInt i
 has_int code old (instr.Const d x) ints is = ints old.frame.routine old.frame.at d x is
 has_int code old (instr.Move d q) ints is = tt

@@ -113,7 +113,8 @@ impl Machine {
         self.give_back(from)
     }
 
-    // makes this instruction, which isn't `Return`
+    // makes this instruction, which isn't `Return`. Each that goes on behind has an arm of its own here, so that one jump by the
+    // instruction leads to what is done for it.
     fn made<O: Sink>(&mut self, code: &Code, instr: &Instr, out: &mut O) -> Pace
         requires is { IsMachine code.now self.old }
         requires int { HasInt instr.now }
@@ -130,22 +131,58 @@ impl Machine {
         ensures count { O.faults out.old ≤ O.faults out.new }
     {
         match instr {
+            Instr::Const(_, _) => self.behind(code, instr, out),
+            Instr::Move(_, _) => self.behind(code, instr, out),
+            Instr::Share(_, _) => self.behind(code, instr, out),
+            Instr::Clear(_) => self.behind(code, instr, out),
+            Instr::Arith(_, _, _, _) => self.behind(code, instr, out),
+            Instr::Compare(_, _, _, _) => self.behind(code, instr, out),
+            Instr::Equal(_, _, _) => self.behind(code, instr, out),
+            Instr::Not(_, _) => self.behind(code, instr, out),
             Instr::Jump(to) => {
                 self.frame.at = *to as usize;
                 Pace::Went
             }
             Instr::Branch(from, to) => self.branch(*from, *to),
+            Instr::Array(_, _) => self.behind(code, instr, out),
+            Instr::Record(_, _, _) => self.behind(code, instr, out),
+            Instr::Fill(_, _, _) => self.behind(code, instr, out),
+            Instr::Len(_, _) => self.behind(code, instr, out),
+            Instr::Get(_, _, _) => self.behind(code, instr, out),
+            Instr::Field(_, _, _) => self.behind(code, instr, out),
+            Instr::Put(_, _, _) => self.behind(code, instr, out),
+            Instr::Kind(_, _, _) => self.behind(code, instr, out),
             Instr::Call(to, routine, numbers) => {
                 self.call(code, *to, *routine, numbers.as_slice())
             }
+            Instr::Return(_) => unreachable!(),
             Instr::Print(from) => self.printed(*from, out),
             Instr::PrintInt(from) => self.number_printed(*from, out),
-            Instr::Return(_) => unreachable!(),
-            _ => self.went(code, instr),
         }
     }
 
+    // the same of an instruction that goes on behind and prints nothing
+    #[inline(always)]
+    fn behind<O: Sink>(&mut self, code: &Code, instr: &Instr, out: &mut O) -> Pace
+        requires is { IsMachine code.now self.old }
+        requires plain { IsPlain instr.now }
+        requires int { HasInt instr.now }
+        requires below { self.old.frame.at < 18446744073709551615 }
+        ensures stands { Stands self.new.heap (places_of self.new) }
+        ensures kept { KeepsRest self.old self.new }
+        ensures turned { IfOk (turn_of result) (Turned (next_by code.now instr.now) self.old self.new (O.taken out.old) (O.taken out.new) (O.faults out.old) (O.faults out.new)) }
+        ensures shares { IfOk (turn_of result) (λ turn. turn ≡ Turn.Went → SharesBy code.now instr.now self.old self.new) }
+        ensures ends { IfOk (turn_of result) (EndsSo (EndsBy instr.now self.old)) }
+        ensures no_memory { OnErr (turn_of result) (MayTakeMemory instr.now) }
+        ensures wants { OnErr (turn_of result) (WantsBy instr.now self.old) }
+        ensures nothing { OnErr (turn_of result) (O.taken out.new ≡ O.taken out.old) }
+        ensures count { O.faults out.old ≤ O.faults out.new }
+    {
+        self.went(code, instr)
+    }
+
     // an instruction that goes on behind and prints nothing
+    #[inline(always)]
     fn went(&mut self, code: &Code, instr: &Instr) -> Pace
         requires is { IsMachine code.now self.old }
         requires plain { IsPlain instr.now }

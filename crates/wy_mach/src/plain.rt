@@ -27,6 +27,7 @@ use wy_heap::{Heap, Place, Slot};
 use wy_value::Shapes;
 
 // makes an instruction that goes on behind and prints nothing
+#[inline(always)]
 pub(crate) fn plain(
     alloc: Global,
     shapes: &Shapes,
@@ -75,6 +76,7 @@ pub(crate) fn plain(
 }
 
 // makes an instruction that takes no memory, goes on behind and prints nothing
+#[inline(always)]
 fn moving(
     shapes: &Shapes,
     heap: &mut Heap,

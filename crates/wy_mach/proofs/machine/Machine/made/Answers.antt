@@ -5,10 +5,9 @@ use Rattle.wy_mach.specs.declared.machine.Turn.{Turn}
 use Rattle.wy_mach.specs.declared.machine.Turn.TheVariants as turn
 use Rattle.wy_mach.specs.Running.{Steps, Turned, TurnsBy, MayTakeMemory, next_by}
 use Rattle.wy_mach.proofs.PaceLemmas.{went_so}
-use Rattle.wy_mach.proofs.TurnLemmas.{machine_at, jump_steps, if_ok, on_any_err, is_plain, on_err}
-use Rattle.wy_mach.specs.SharedTurns.{SharesPlain, SharesCall, SharesBy, EndsSo, EndsBy, IsNoEnd, WantsIn, WantsBy}
-use Rattle.wy_mach.proofs.SharedTurnLemmas.{plain_by, plain_wants, no_end_so}
-use Rattle.std.specs.Prelude.{vec_capacity}
+use Rattle.wy_mach.proofs.TurnLemmas.{machine_at, jump_steps, if_ok, on_any_err}
+use Rattle.wy_mach.specs.SharedTurns.{SharesCall, SharesBy, EndsSo, EndsBy, IsNoEnd, WantsBy}
+use Rattle.wy_mach.proofs.SharedTurnLemmas.{no_end_so}
 use Rattle.wy_mach.specs.Pacing.{turn_of}
 use Rattle.wy_code.specs.declared.routines.Code.{Code}
 use Rattle.wy_mach.proofs.machine.Machine.made.Goals as goal
@@ -71,19 +70,6 @@ returns-in-PrintInt-clause-turned g c =
     (λ (t : Turn). Turned (next_by code c.args.instr.now) old new before after failed fails t)
     (λ t turned. subst (λ (i : Instr). Turned (next_by code i) old new before after failed fails t) (sym c.in-PrintInt.is) (turned code)) c.number_printed.ensures.turned
 
-pub went-requires-clause-plain : goal.went-requires-clause-plain
-went-requires-clause-plain g c =
-    is_plain c.args.instr.now c.in_default.not-Jump c.in_default.not-Branch c.in_default.not-Call c.in_default.not-Return c.in_default.not-Print c.in_default.not-PrintInt
-
-pub returns-in_default-clause-turned : goal.returns-in_default-clause-turned
-returns-in_default-clause-turned g c =
-    let old = c.args.self.now in
-    let code = c.args.code.now in
-    let known = g.O.Sink.taken c.args.out.now in
-    let failed = g.O.Sink.faults c.args.out.now in
-    if_ok (turn_of c.went.result) (λ (t : Turn). (before : Option (List ℕ)) (fails : ℕ) → Turned (next_by code c.args.instr.now) old c.went.new.self before before fails fails t)
-    (λ (t : Turn). Turned (next_by code c.args.instr.now) old c.went.new.self known known failed failed t) (λ t turned. turned known failed) c.went.ensures.turned
-
 pub returns-in-Jump-clause-shares : goal.returns-in-Jump-clause-shares
 returns-in-Jump-clause-shares g c w =
     let old = c.args.self.now in
@@ -120,25 +106,8 @@ returns-in-PrintInt-clause-shares g c =
     went_so c.number_printed.result (SharesBy c.args.code.now c.args.instr.now old new)
     (λ w. subst (λ (i : Instr). SharesBy c.args.code.now i old new) (sym c.in-PrintInt.is) (c.number_printed.ensures.shares w))
 
-pub returns-in_default-clause-shares : goal.returns-in_default-clause-shares
-returns-in_default-clause-shares g c =
-    let old = c.args.self.now in
-    let new = c.went.new.self in
-    let code = c.args.code.now in
-    let i = c.args.instr.now in
-    let plain = is_plain i c.in_default.not-Jump c.in_default.not-Branch c.in_default.not-Call c.in_default.not-Return c.in_default.not-Print c.in_default.not-PrintInt in
-    if_ok (turn_of c.went.result) (λ (t : Turn). t ≡ turn.Went → SharesPlain i old new) (λ (t : Turn). t ≡ turn.Went → SharesBy code i old new)
-    (λ t shares w. plain_by code i old new plain (shares w)) c.went.ensures.shares
-
 pub returns-in-Call-clause-wants : goal.returns-in-Call-clause-wants
 returns-in-Call-clause-wants g c = on_any_err (turn_of c.call.result) (WantsBy c.args.instr.now c.args.self.now) (subst (λ (i : Instr). WantsBy i c.args.self.now) (sym c.in-Call.is) tt)
-
-pub returns-in_default-clause-wants : goal.returns-in_default-clause-wants
-returns-in_default-clause-wants g c =
-    let old = c.args.self.now in
-    let i = c.args.instr.now in
-    let plain = is_plain i c.in_default.not-Jump c.in_default.not-Branch c.in_default.not-Call c.in_default.not-Return c.in_default.not-Print c.in_default.not-PrintInt in
-    on_err (turn_of c.went.result) (WantsIn i old.heap old.frame.registers.items (vec_capacity old.path)) (WantsBy i old) (plain_wants i old plain) c.went.ensures.wants
 
 pub returns-in-Branch-clause-ends : goal.returns-in-Branch-clause-ends
 returns-in-Branch-clause-ends g c =
@@ -159,8 +128,3 @@ pub returns-in-PrintInt-clause-ends : goal.returns-in-PrintInt-clause-ends
 returns-in-PrintInt-clause-ends g c =
     let ends = EndsBy c.args.instr.now c.args.self.now in
     if_ok (turn_of c.number_printed.result) IsNoEnd (EndsSo ends) (λ t none. no_end_so t ends none) c.number_printed.ensures.goes
-
-pub returns-in_default-clause-ends : goal.returns-in_default-clause-ends
-returns-in_default-clause-ends g c =
-    let ends = EndsBy c.args.instr.now c.args.self.now in
-    if_ok (turn_of c.went.result) IsNoEnd (EndsSo ends) (λ t none. no_end_so t ends none) c.went.ensures.no_end
