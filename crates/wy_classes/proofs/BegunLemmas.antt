@@ -1,13 +1,14 @@
 -- Terms that are under way.
-use Rattle.std.proofs.Common.{◌≡◌, ◌∙◌, ◌<◌, ◌≤◌, ◌+◌, ◌⊎◌, inl, inr, ℕ, Bool, true, false, cond, eqb, List, [], ◌∷◌, ◌++◌, map, length, append_assoc, refl, sym, ap, subst, arith}
+use Rattle.std.proofs.Common.{◌≡◌, ◌∙◌, ◌<◌, ◌≤◌, ◌+◌, ◌⊎◌, inl, inr, Some, ℕ, zero, suc, Bool, true, false, cond, eqb, List, [], ◌∷◌, ◌++◌, map, take, length, append_assoc, refl, sym, ap, ap₂, subst, arith}
 use Rattle.std.proofs.lemmas.List.{append-nil}
 use Rattle.std.proofs.lemmas.Bool.{eqb-true}
 use Rattle.wy_judge.specs.Node.{has_formula}
-use Rattle.wy_judging.specs.Seen.{AreBelow, signed}
+use Rattle.wy_judging.specs.Seen.{is_denied, seen_formula, signed, AreBare, AreBelow}
+use Rattle.std.specs.Prelude.{slice_get}
 use Rattle.wy_search.specs.Standing.{below, standing_in, standing_in_parts}
-use Rattle.wy_classes.proofs.GoneLemmas.{all_below, all_there, gone_still, listed_has, none_new}
+use Rattle.wy_classes.proofs.GoneLemmas.{all_below, all_there, gone_still, listed_has, listed_or, none_new, number_bare, number_there}
 use Rattle.wy_classes.proofs.TaskLemmas.{denial_led, plain_parts, range_parts, range_tasks, tasks_front, visit_led}
-use Rattle.wy_classes.specs.Begun.{AreSmaller, BeginsOne, IsGoneThrough, IsUnderWay, size, size_of_parts}
+use Rattle.wy_classes.specs.Begun.{AreSmaller, AreUnderWay, BeginListed, BeginsMet, BeginsOne, IsGoneThrough, IsUnderWay, size, size_of_parts}
 use Rattle.wy_classes.specs.Marks.{all_marked, is_any_bound, listed_unless, with_unmarked}
 use Rattle.wy_classes.specs.Walk.{AreTasks, but_last, is_quantifier, left_at, next_tasks, tasks_of, visits}
 use Rattle.wy_classes.specs.declared.task.Task.{Task}
@@ -70,6 +71,11 @@ pub begun_on : (at : ℕ → Term) (old new around now : List Term) (task : Task
     → ((k : ℕ) → after k ≡ true → before k ≡ true) → ((k : ℕ) → before k ≡ true → IsUnderWay at old (task ∷ ts) around (at k)) → (k : ℕ) → after k ≡ true → IsUnderWay at new us now (at k)
 begun_on at old new around now task more ts us before after leads put same each k e = under_way_on at old new around now task more ts us (at k) leads put (each k (same k e))
 
+-- all that was listed before, where no more is listed but denials
+pub listed_on : (at : ℕ → Term) (old new around now : List Term) (task : Task) (more ts us : List Task) → LeadsTo at old new around now task more → us ≡ more ++ ts
+    → ((t : Term) → is_denied t ≡ false → has_formula new t ≡ true → has_formula old t ≡ true) → AreUnderWay at old (task ∷ ts) around → AreUnderWay at new us now
+listed_on at old new around now task more ts us leads put same each = λ t flat e. under_way_on at old new around now task more ts us t leads put (each t flat (same t flat e))
+
 -- ---- sizes
 
 visits_smaller : (at : ℕ → Term) (n : ℕ) (ks : List ℕ) → size_of_parts (parts_at at ks) < n → AreSmaller at n (visits ks)
@@ -128,6 +134,13 @@ visit_on at k p done new old now is three listed kept = record {
   smaller = λ n h. next_smaller at k n p is three (omega (arith, h.0));
 }
 
+-- so where no quantifier is around
+pub visit_first : (at : ℕ → Term) (k : ℕ) (p : Plain) (done new : List Term) (around : List ℕ) → at k ≡ grown at p → (is_quantifier p.symbol ≡ true → length p.parts ≡ 3)
+    → new ≡ listed_unless false done (at k) → around ≡ [] → LeadsTo at done new (map at around) (map at around) (Visit k true) (next_tasks k p)
+visit_first at k p done new around is three listed none =
+    let uncaught : is_any_bound (map at around) (free_names (at k)) ≡ false = ap (λ (ks : List ℕ). is_any_bound (map at ks) (free_names (at k))) none in
+    visit_on at k p done new around around is three (listed ∙ ap (λ (b : Bool). listed_unless b done (at k)) (sym uncaught)) refl
+
 -- it is under way, where no quantifier is around
 begun_here : (at : ℕ → Term) (k : ℕ) (p : Plain) (done new now : List Term) (ts us : List Task) → at k ≡ grown at p → (is_quantifier p.symbol ≡ true → length p.parts ≡ 3)
     → LeadsTo at done new [] now (Visit k true) (next_tasks k p) → us ≡ next_tasks k p ++ ts → IsUnderWay at new us now (at k)
@@ -153,6 +166,33 @@ begun_with at k p done new around now ts us before after outside is three leads 
     by (inr h) =
         let here : LeadsTo at done new [] now (Visit k true) (next_tasks k p) = subst (λ (ws : List Term). LeadsTo at done new ws now (Visit k true) (next_tasks k p)) (none h.1) leads in
         subst (λ (i : ℕ). IsUnderWay at new us now (at i)) (sym h.0) (begun_here at k p done new now ts us is three here put)
+
+-- so is all that is listed, where none was met before
+pub listed_first : (at : ℕ → Term) (k : ℕ) (p : Plain) (done new now : List Term) (ts us : List Task) → at k ≡ grown at p → (is_quantifier p.symbol ≡ true → length p.parts ≡ 3)
+    → LeadsTo at done new [] now (Visit k true) (next_tasks k p) → us ≡ next_tasks k p ++ ts → new ≡ listed_unless false done (at k) → AreUnderWay at done (Visit k true ∷ ts) [] → AreUnderWay at new us now
+listed_first at k p done new now ts us is three leads put listed each = λ t flat e. by t (each t flat) (listed_or false done new (at k) t listed e)
+  where
+    by : (t : Term) → (has_formula done t ≡ true → IsUnderWay at done (Visit k true ∷ ts) [] t) → (has_formula done t ≡ true) ⊎ (t ≡ at k) → IsUnderWay at new us now t
+    by t was (inl f) = under_way_on at done new [] now (Visit k true) (next_tasks k p) ts us t leads put (was f)
+    by t was (inr same) = subst (λ (u : Term). IsUnderWay at new us now u) (sym same) (begun_here at k p done new now ts us is three leads put)
+
+pub bind_on : (at : ℕ → Term) (q : ℕ) (done around now : List Term) → now ≡ around ++ at q ∷ [] → LeadsTo at done done around now (Bind q) []
+bind_on at q done around now is = record {
+  same = λ ts. ap (λ (ws : List Term). with_unmarked done (left_at at ts ws)) is;
+  grows = λ t e. e;
+  smaller = λ n h. tt;
+}
+
+-- what was listed is begun where the first quantifier is met
+pub begun_met : (at : ℕ → Term) (q : ℕ) (ps : List (ℕ × Bool)) (around now : List Term) (ts : List Task) (met : Bool) (before after : ℕ → Bool) → now ≡ around ++ at q ∷ [] → BeginsMet met before after ps → AreBare at ps
+    → ((k : ℕ) → before k ≡ true → IsUnderWay at (map (seen_formula at) ps) (Bind q ∷ ts) around (at k)) → (met ≡ false → AreUnderWay at (map (seen_formula at) ps) (Bind q ∷ ts) around)
+    → (k : ℕ) → after k ≡ true → IsUnderWay at (map (seen_formula at) ps) ts now (at k)
+begun_met at q ps around now ts met before after bound begins bare each listed k e =
+    under_way_on at (map (seen_formula at) ps) (map (seen_formula at) ps) around now (Bind q) [] ts ts (at k) (bind_on at q (map (seen_formula at) ps) around now bound) refl (by (begins k e))
+  where
+    by : (before k ≡ true) ⊎ ((met ≡ false) × ((i : ℕ) × (slice_get ps i ≡ Some (k, true)))) → IsUnderWay at (map (seen_formula at) ps) (Bind q ∷ ts) around (at k)
+    by (inl f) = each k f
+    by (inr h) = listed h.0 (at k) (number_bare at ps h.1.0 k bare h.1.1) (number_there at ps h.1.0 k h.1.1)
 
 -- ---- a term that is passed over
 
@@ -198,13 +238,6 @@ denial_on at k done new old now listed kept = record {
     smaller_part : (n : ℕ) → size (signed (at k) false) < n → size (at k) < n
     smaller_part n lt = let sum : 1 + (size (at k) + 0) < n = lt in omega (arith, sum)
 
-pub bind_on : (at : ℕ → Term) (q : ℕ) (done around now : List Term) → now ≡ around ++ at q ∷ [] → LeadsTo at done done around now (Bind q) []
-bind_on at q done around now is = record {
-  same = λ ts. ap (λ (ws : List Term). with_unmarked done (left_at at ts ws)) is;
-  grows = λ t e. e;
-  smaller = λ n h. tt;
-}
-
 pub leave_on : (at : ℕ → Term) (done around now : List Term) → now ≡ but_last around → LeadsTo at done done around now Leave []
 leave_on at done around now is = record {
   same = λ ts. ap (λ (ws : List Term). with_unmarked done (left_at at ts ws)) is;
@@ -224,3 +257,30 @@ none_around [] n count e = refl
 none_around (x ∷ xs) n count e =
     let none : n ≡ 0 = eqb-true n 0 e in
     absurd (omega (arith, none, count))
+
+-- ---- what is begun where the first quantifier is met
+
+abbrev numbered : ℕ → Bool → ℕ × Bool
+numbered k b = (k, b)
+
+pub begin_more : (first old new : ℕ → Bool) (ps : List (ℕ × Bool)) (i : ℕ) (p : ℕ × Bool) → slice_get ps i ≡ Some p → BeginListed first old ps → BeginsOne old new p.1 p.0 → BeginListed first new ps
+begin_more first old new ps i p here begins one = λ q e. by q (one q e)
+  where
+    by : (q : ℕ) → (old q ≡ true) ⊎ ((q ≡ p.0) × (p.1 ≡ true)) → (first q ≡ true) ⊎ ((j : ℕ) × (slice_get ps j ≡ Some (q, true)))
+    by q (inl f) = begins q f
+    by q (inr h) = let same : p ≡ (q, true) = ap₂ numbered (sym h.0) h.1 in inr (i, here ∙ ap (λ (r : ℕ × Bool). Some r) same)
+
+pub met_now : (met : Bool) (old new : ℕ → Bool) (ps : List (ℕ × Bool)) → met ≡ false → BeginListed old new ps → BeginsMet met old new ps
+met_now met old new ps first begins = λ q e. by q (begins q e)
+  where
+    by : (q : ℕ) → (old q ≡ true) ⊎ ((i : ℕ) × (slice_get ps i ≡ Some (q, true))) → (old q ≡ true) ⊎ ((met ≡ false) × ((i : ℕ) × (slice_get ps i ≡ Some (q, true))))
+    by q (inl f) = inl f
+    by q (inr h) = inr (first, h)
+
+taken_none : (xs : List ℕ) (n : ℕ) → xs ≡ [] → take n xs ≡ []
+taken_none [] zero e = refl
+taken_none [] (suc n) e = refl
+taken_none (x ∷ xs) n e = absurd (cc)
+
+pub none_left : (xs ys : List ℕ) (n : ℕ) → xs ≡ [] → ys ≡ take n xs → ys ≡ []
+none_left xs ys n none is = is ∙ taken_none xs n none

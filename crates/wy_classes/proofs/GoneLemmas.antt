@@ -1,10 +1,12 @@
 -- Terms that have been gone through.
-use Rattle.std.proofs.Common.{◌≡◌, ◌∙◌, ◌&&◌, ◌||◌, Bool, true, false, cond, List, [], ◌∷◌, ◌++◌, refl, ap, ap₂}
+use Rattle.std.proofs.Common.{◌≡◌, ◌∙◌, ◌&&◌, ◌||◌, ◌⊎◌, ◌≤◌, ◌+◌, inl, inr, ℕ, zero, suc, Some, Bool, true, false, cond, List, [], ◌∷◌, ◌++◌, map, length, refl, sym, ap, ap₂, subst, arith}
+use Rattle.std.specs.Prelude.{slice_get}
 use Rattle.wy_judge.specs.Node.{has_formula}
 use Rattle.wy_search.specs.Standing.{Standing, have_common, standing_in}
 use Rattle.wy_classes.specs.Begun.{has_all, IsGoneThrough}
 use Rattle.wy_classes.specs.Marks.{all_marked, is_any_bound, listed_unless, with_unmarked}
-use Rattle.wy_term.proofs.SameLemmas.{terms_self}
+use Rattle.wy_judging.specs.Seen.{is_denied, seen_formula, AreBare}
+use Rattle.wy_term.proofs.SameLemmas.{terms_are, terms_self}
 use Rattle.wy_term.specs.Same.{same_term}
 use Rattle.wy_term.specs.Scope.{free_names}
 use Rattle.wy_term.specs.Term.{Term}
@@ -38,6 +40,88 @@ listed_has caught done u t e = by caught (has_formula done u)
 unmarked_has : (done : List Term) (ms : List (Term × Bool)) (t : Term) → has_formula done t ≡ true → has_formula (with_unmarked done ms) t ≡ true
 unmarked_has done [] t e = e
 unmarked_has done (m ∷ ms) t e = unmarked_has (listed_unless m.1 done m.0) ms t (listed_has m.1 done m.0 t e)
+
+-- ---- what is listed is what was listed, or the last
+
+has_last : (done : List Term) (u t : Term) → has_formula (done ++ u ∷ []) t ≡ (has_formula done t || same_term u t)
+has_last [] u t = by (same_term u t)
+  where
+    by : (b : Bool) → cond b true false ≡ b
+    by true = refl
+    by false = refl
+has_last (g ∷ gs) u t = by (same_term g t) (has_last gs u t)
+  where
+    by : (b : Bool) → has_formula (gs ++ u ∷ []) t ≡ (has_formula gs t || same_term u t) → cond b true (has_formula (gs ++ u ∷ []) t) ≡ (cond b true (has_formula gs t) || same_term u t)
+    by true rest = refl
+    by false rest = rest
+
+last_or : (done : List Term) (u t : Term) → has_formula (done ++ u ∷ []) t ≡ true → (has_formula done t ≡ true) ⊎ (t ≡ u)
+last_or done u t e = by (has_formula done t) (same_term u t) refl refl (sym (has_last done u t) ∙ e)
+  where
+    by : (b c : Bool) → has_formula done t ≡ b → same_term u t ≡ c → (b || c) ≡ true → (has_formula done t ≡ true) ⊎ (t ≡ u)
+    by true c here same f = inl here
+    by false true here same f = inr (sym (terms_are u t same))
+    by false false here same f = absurd (cc)
+
+pub listed_or : (caught : Bool) (done new : List Term) (u t : Term) → new ≡ listed_unless caught done u → has_formula new t ≡ true → (has_formula done t ≡ true) ⊎ (t ≡ u)
+listed_or caught done new u t is e = by caught (has_formula done u) (subst (λ (ts : List Term). has_formula ts t ≡ true) is e)
+  where
+    by : (b c : Bool) → has_formula (cond b done (cond c done (done ++ u ∷ []))) t ≡ true → (has_formula done t ≡ true) ⊎ (t ≡ u)
+    by true c f = inl f
+    by false true f = inl f
+    by false false f = last_or done u t f
+
+-- a denial more
+pub denial_apart : (caught : Bool) (done new : List Term) (u t : Term) → new ≡ listed_unless caught done u → is_denied u ≡ true → is_denied t ≡ false → has_formula new t ≡ true → has_formula done t ≡ true
+denial_apart caught done new u t is denied flat e = by (listed_or caught done new u t is e)
+  where
+    by : (has_formula done t ≡ true) ⊎ (t ≡ u) → has_formula done t ≡ true
+    by (inl f) = f
+    by (inr same) = let up : is_denied t ≡ true = ap is_denied same ∙ denied in absurd (cc)
+
+-- one that was there
+pub listed_same : (done : List Term) (u : Term) → has_formula done u ≡ true → listed_unless false done u ≡ done
+listed_same done u e = by (has_formula done u) e
+  where
+    by : (b : Bool) → b ≡ true → cond b done (done ++ u ∷ []) ≡ done
+    by true f = refl
+    by false f = absurd (cc)
+
+length_last : (ts : List Term) (t : Term) → length (ts ++ t ∷ []) ≡ length ts + 1
+length_last [] t = refl
+length_last (u ∷ us) t = let rest : length (us ++ t ∷ []) ≡ length us + 1 = length_last us t in omega (arith, rest)
+
+length_seen : (at : ℕ → Term) (ps : List (ℕ × Bool)) → length (map (seen_formula at) ps) ≡ length ps
+length_seen at [] = refl
+length_seen at (p ∷ ps) = ap suc (length_seen at ps)
+
+-- it was there where the list is no longer than before
+pub known_there : (at : ℕ → Term) (old new : List (ℕ × Bool)) (t : Term) → map (seen_formula at) new ≡ listed_unless false (map (seen_formula at) old) t → length new ≤ length old → has_formula (map (seen_formula at) old) t ≡ true
+known_there at old new t is le = by (has_formula (map (seen_formula at) old) t) is
+  where
+    by : (b : Bool) → map (seen_formula at) new ≡ cond b (map (seen_formula at) old) (map (seen_formula at) old ++ t ∷ []) → b ≡ true
+    by true same = refl
+    by false more =
+        let longer : length new ≡ length old + 1 = sym (length_seen at new) ∙ ap length more ∙ length_last (map (seen_formula at) old) t ∙ ap (λ (n : ℕ). n + 1) (length_seen at old) in
+        absurd (omega (arith, longer, le))
+
+-- ---- a number that is listed
+
+pub number_there : (at : ℕ → Term) (ps : List (ℕ × Bool)) (i k : ℕ) → slice_get ps i ≡ Some (k, true) → has_formula (map (seen_formula at) ps) (at k) ≡ true
+number_there at [] i k e = absurd (cc)
+number_there at (p ∷ ps) zero k e =
+    let is : p ≡ (k, true) = cc in
+    ap (λ (q : ℕ × Bool). has_formula (seen_formula at q ∷ map (seen_formula at) ps) (at k)) is ∙ ap (λ (b : Bool). cond b true (has_formula (map (seen_formula at) ps) (at k))) (terms_self (at k))
+number_there at (p ∷ ps) (suc i) k e = by (same_term (seen_formula at p) (at k)) (number_there at ps i k e)
+  where
+    by : (b : Bool) → has_formula (map (seen_formula at) ps) (at k) ≡ true → cond b true (has_formula (map (seen_formula at) ps) (at k)) ≡ true
+    by true f = refl
+    by false f = f
+
+pub number_bare : (at : ℕ → Term) (ps : List (ℕ × Bool)) (i k : ℕ) → AreBare at ps → slice_get ps i ≡ Some (k, true) → is_denied (at k) ≡ false
+number_bare at [] i k bare e = absurd (cc)
+number_bare at (p ∷ ps) zero k bare e = let is : p ≡ (k, true) = cc in ap (λ (q : ℕ × Bool). is_denied (at q.0)) (sym is) ∙ bare.0 (ap (λ (q : ℕ × Bool). q.1) is)
+number_bare at (p ∷ ps) (suc i) k bare e = number_bare at ps i k bare.1 e
 
 -- ---- all of these
 

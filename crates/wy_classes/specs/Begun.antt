@@ -1,8 +1,8 @@
 -- Which terms have been gone through, and which are under way.
-use Rattle.std.specs.Prelude.{◌≡◌, ◌<◌, ◌+◌, ◌⊎◌, ℕ, nat_eq, map, List, [], ◌∷◌, ◌++◌, Bool, true, ◌&&◌, ◌||◌}
+use Rattle.std.specs.Prelude.{◌≡◌, ◌<◌, ◌+◌, ◌⊎◌, ℕ, nat_eq, map, List, [], ◌∷◌, ◌++◌, Bool, true, false, Some, slice_get, ◌&&◌, ◌||◌}
 use Rattle.std.specs.HashSet.{contains}
 use Rattle.wy_judge.specs.Node.{has_formula}
-use Rattle.wy_judging.specs.Seen.{signed}
+use Rattle.wy_judging.specs.Seen.{is_denied, signed}
 use Rattle.wy_search.specs.Standing.{standing_in}
 use Rattle.wy_classes.specs.Marks.{all_marked, with_unmarked}
 use Rattle.wy_classes.specs.Walk.{left_at, list_of}
@@ -44,9 +44,23 @@ pub record IsUnderWay (at : ℕ → Term) (done : List Term) (tasks : List Task)
   pub smaller : AreSmaller at (size t) first
   pub gone : IsGoneThrough (with_unmarked done (left_at at first around)) t
 
--- the terms whose visits began are under way, where these tasks are left
+-- all that is listed is under way, but for denials
+abbrev pub AreUnderWay : (ℕ → Term) → List Term → List Task → List Term → Type 0
+AreUnderWay at done tasks around = (t : Term) → is_denied t ≡ false → has_formula done t ≡ true → IsUnderWay at done tasks around t
+
+-- the terms whose visits began are under way, where these tasks are left; so is all that is listed until a quantifier is met
 pub record AreBegun (at : ℕ → Term) (walk : Walk) (tasks : List Task) : Type 0 where
   pub each : (k : ℕ) → contains nat_eq walk.begun k ≡ true → IsUnderWay at (list_of at walk) tasks (map at walk.around.items) (at k)
+  pub listed : walk.quantified ≡ false → AreUnderWay at (list_of at walk) tasks (map at walk.around.items)
+  pub outside : walk.quantified ≡ false → walk.around.items ≡ []
+
+-- no more than those that are listed and are no denials is begun
+abbrev pub BeginListed : (ℕ → Bool) → (ℕ → Bool) → List (ℕ × Bool) → Type 0
+BeginListed old new ps = (q : ℕ) → new q ≡ true → (old q ≡ true) ⊎ ((i : ℕ) × (slice_get ps i ≡ Some (q, true)))
+
+-- and only where no quantifier was met before
+abbrev pub BeginsMet : Bool → (ℕ → Bool) → (ℕ → Bool) → List (ℕ × Bool) → Type 0
+BeginsMet met old new ps = (q : ℕ) → new q ≡ true → (old q ≡ true) ⊎ ((met ≡ false) × ((i : ℕ) × (slice_get ps i ≡ Some (q, true))))
 
 -- no more than this one is begun, and only outside quantifiers
 abbrev pub BeginsOne : (ℕ → Bool) → (ℕ → Bool) → Bool → ℕ → Type 0

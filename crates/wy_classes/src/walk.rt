@@ -2,9 +2,10 @@
 ghost use Rattle.std.specs.Prelude.{◌≡◌, ◌<◌, ◌++◌, [], ◌∷◌, false, true, nat_eq, length, map, IfOk, OnOk};
 ghost use Rattle.std.specs.HashSet.{contains};
 ghost use Rattle.wy_judge.specs.Node as judge;
+ghost use Rattle.wy_judge.specs.Node.{has_formula};
 ghost use Rattle.wy_judging.specs.Seen.{IsBare, IsBranch, seen_branch, seen_formula};
 ghost use Rattle.wy_search.specs.Standing as search;
-ghost use Rattle.wy_classes.specs.Begun.{AreBegun, BeginsOne};
+ghost use Rattle.wy_classes.specs.Begun.{AreBegun, BeginListed, BeginsMet, BeginsOne};
 ghost use Rattle.wy_classes.specs.Marks.{is_any_bound, listed_unless};
 ghost use Rattle.wy_classes.specs.Walk.{AreTasks, IsWalk, leads, leads_from, list_of, next_tasks, of_literals, of_pending, tasks_of, visits};
 ghost use Rattle.wy_classes.specs.declared.task.Task.TheVariants.{Visit, Bind, Leave};
@@ -18,12 +19,14 @@ use wy_data::Name;
 use wy_judging::{Branch, add_pending, bare, nth_literal, pending_at};
 use wy_term::{NoMemory, Node, Quantifier, Terms};
 
-// What is listed, the quantifiers around, outermost first, the terms with parts that were first met outside quantifiers, and
-// what is still to be done, next first. What is listed is kept as the pending formulas of a node.
+// What is listed, the quantifiers around, outermost first, whether one was met, the terms with parts that were first met
+// outside quantifiers, and what is still to be done, next first. What is listed is kept as the pending formulas of a node.
+// Until a quantifier is met, what was met is what is listed, and isn't noted besides.
 #[derive(Drop)]
 struct Walk {
     found: Branch,
     around: Vec<u32>,
+    quantified: bool,
     begun: HashSet<u32>,
     tasks: VecDeque<Task>,
 }
@@ -74,6 +77,7 @@ fn list(terms: &Terms, walk: &mut Walk, k: u32, holds: bool) -> Result<(), NoMem
     requires bare { IsBare (tree_at terms.now) (k, holds) }
     ensures value { OnOk result (list_of (tree_at terms.now) walk.new ≡ listed_unless (is_any_bound (map (tree_at terms.now) walk.old.around.items) (free_names (seen_formula (tree_at terms.now) (k, holds)))) (list_of (tree_at terms.now) walk.old) (seen_formula (tree_at terms.now) (k, holds))) }
     ensures around { walk.new.around ≡ walk.old.around }
+    ensures quantified { walk.new.quantified ≡ walk.old.quantified }
     ensures begun { walk.new.begun ≡ walk.old.begun }
     ensures tasks { walk.new.tasks ≡ walk.old.tasks }
     ensures walk { OnOk result (IsWalk terms.now walk.new) }
@@ -168,11 +172,47 @@ fn put_parts(tasks: &mut VecDeque<Task>, k: u32, node: &Node) -> Result<(), NoMe
     }
 }
 
-// Lists a term, and goes into its parts, unless that was begun before.
-fn visit(terms: &Terms, walk: &mut Walk, k: u32) -> Result<(), NoMemory>
+// Lists a term. Whether it is new there.
+fn list_first(terms: &Terms, found: &mut Branch, k: u32, holds: bool) -> Result<bool, NoMemory>
+    requires term { k < length terms.now }
+    requires branch { IsBranch terms.now found.old }
+    requires bare { IsBare (tree_at terms.now) (k, holds) }
+    ensures value { OnOk result (map (seen_formula (tree_at terms.now)) found.new.pending.keys ≡ listed_unless false (map (seen_formula (tree_at terms.now)) found.old.pending.keys) (seen_formula (tree_at terms.now) (k, holds))) }
+    ensures known { IfOk result (λ more. more ≡ false → has_formula (map (seen_formula (tree_at terms.now)) found.old.pending.keys) (seen_formula (tree_at terms.now) (k, holds)) ≡ true) }
+    ensures branch { OnOk result (IsBranch terms.now found.new) }
+{
+    let before = found.pending.len();
+    add_pending(terms, found, k, holds)?;
+    Ok(found.pending.len() > before)
+}
+
+// Lists a term, and goes into its parts, where no quantifier was met before: unless it is listed, since it was begun then. A
+// denial is listed before it is begun.
+fn visit_first(terms: &Terms, walk: &mut Walk, k: u32) -> Result<(), NoMemory>
     requires term { k < length terms.now }
     requires walk { IsWalk terms.now walk.old }
     requires begun { AreBegun (tree_at terms.now) walk.old (Visit k true ∷ walk.old.tasks.items) }
+    requires quantified { walk.old.quantified ≡ false }
+    ensures value { OnOk result (leads (tree_at terms.now) walk.new ≡ leads_from (tree_at terms.now) walk.old (Visit k true)) }
+    ensures walk { OnOk result (IsWalk terms.now walk.new) }
+    ensures begun { OnOk result (AreBegun (tree_at terms.now) walk.new walk.new.tasks.items) }
+{
+    let node = terms.node(k);
+    let (f, holds) = bare_form(terms, k);
+    let more = list_first(terms, &mut walk.found, f, holds)?;
+    let known = holds && !more;
+    if known {
+        return Ok(());
+    }
+    put_parts(&mut walk.tasks, k, node)
+}
+
+// So where one was met: unless that was begun before outside quantifiers.
+fn visit_again(terms: &Terms, walk: &mut Walk, k: u32) -> Result<(), NoMemory>
+    requires term { k < length terms.now }
+    requires walk { IsWalk terms.now walk.old }
+    requires begun { AreBegun (tree_at terms.now) walk.old (Visit k true ∷ walk.old.tasks.items) }
+    requires quantified { walk.old.quantified ≡ true }
     ensures value { OnOk result (leads (tree_at terms.now) walk.new ≡ leads_from (tree_at terms.now) walk.old (Visit k true)) }
     ensures walk { OnOk result (IsWalk terms.now walk.new) }
     ensures begun { OnOk result (AreBegun (tree_at terms.now) walk.new walk.new.tasks.items) }
@@ -186,6 +226,22 @@ fn visit(terms: &Terms, walk: &mut Walk, k: u32) -> Result<(), NoMemory>
     let (f, holds) = bare_form(terms, k);
     list(terms, walk, f, holds)?;
     put_parts(&mut walk.tasks, k, node)
+}
+
+// Lists a term, and goes into its parts, unless that was begun before.
+fn visit(terms: &Terms, walk: &mut Walk, k: u32) -> Result<(), NoMemory>
+    requires term { k < length terms.now }
+    requires walk { IsWalk terms.now walk.old }
+    requires begun { AreBegun (tree_at terms.now) walk.old (Visit k true ∷ walk.old.tasks.items) }
+    ensures value { OnOk result (leads (tree_at terms.now) walk.new ≡ leads_from (tree_at terms.now) walk.old (Visit k true)) }
+    ensures walk { OnOk result (IsWalk terms.now walk.new) }
+    ensures begun { OnOk result (AreBegun (tree_at terms.now) walk.new walk.new.tasks.items) }
+{
+    if walk.quantified {
+        visit_again(terms, walk, k)
+    } else {
+        visit_first(terms, walk, k)
+    }
 }
 
 // Lists the denial of a formula, and goes into the formula.
@@ -244,6 +300,58 @@ fn first_room(branch: &Branch) -> usize {
     count.saturating_mul(2)
 }
 
+// What is listed is begun, unless it is a denial.
+fn begin_held(begun: &mut HashSet<u32>, k: u32, holds: bool) -> Result<(), NoMemory>
+    ensures { OnOk result (BeginsOne (contains nat_eq begun.old) (contains nat_eq begun.new) holds k) }
+{
+    if !holds {
+        return Ok(());
+    }
+    begun.insert(k)?;
+    Ok(())
+}
+
+// So all that is listed.
+fn begin_listed(begun: &mut HashSet<u32>, found: &Branch) -> Result<(), NoMemory>
+    ensures { OnOk result (BeginListed (contains nat_eq begun.old) (contains nat_eq begun.new) found.now.pending.keys) }
+{
+    for i in 0..found.pending.len() {
+        let (k, holds) = pending_at(found, i);
+        begin_held(begun, k, holds)?;
+    }
+    Ok(())
+}
+
+// A quantifier is met: where it is the first, what was begun before is noted.
+fn meet(walk: &mut Walk) -> Result<(), NoMemory>
+    ensures found { walk.new.found ≡ walk.old.found }
+    ensures around { walk.new.around ≡ walk.old.around }
+    ensures tasks { walk.new.tasks ≡ walk.old.tasks }
+    ensures quantified { OnOk result (walk.new.quantified ≡ true) }
+    ensures begun { OnOk result (BeginsMet walk.old.quantified (contains nat_eq walk.old.begun) (contains nat_eq walk.new.begun) walk.old.found.pending.keys) }
+{
+    if walk.quantified {
+        return Ok(());
+    }
+    begin_listed(&mut walk.begun, &walk.found)?;
+    walk.quantified = true;
+    Ok(())
+}
+
+// The name of a quantifier is bound in what comes next.
+fn bind(terms: &Terms, walk: &mut Walk, q: u32) -> Result<(), NoMemory>
+    requires task { q < length terms.now }
+    requires walk { IsWalk terms.now walk.old }
+    requires begun { AreBegun (tree_at terms.now) walk.old (Bind q ∷ walk.old.tasks.items) }
+    ensures value { OnOk result (leads (tree_at terms.now) walk.new ≡ leads_from (tree_at terms.now) walk.old (Bind q)) }
+    ensures walk { OnOk result (IsWalk terms.now walk.new) }
+    ensures begun { OnOk result (AreBegun (tree_at terms.now) walk.new walk.new.tasks.items) }
+{
+    meet(walk)?;
+    walk.around.push(q)?;
+    Ok(())
+}
+
 // Does one thing.
 fn step(terms: &Terms, walk: &mut Walk, task: Task) -> Result<(), NoMemory>
     requires task { AreTasks (length terms.now) (task ∷ []) }
@@ -261,10 +369,7 @@ fn step(terms: &Terms, walk: &mut Walk, task: Task) -> Result<(), NoMemory>
                 visit_denied(terms, walk, k)
             }
         }
-        Task::Bind(q) => {
-            walk.around.push(q)?;
-            Ok(())
-        }
+        Task::Bind(q) => bind(terms, walk, q),
         Task::Leave => {
             walk.around.pop();
             Ok(())
@@ -287,7 +392,8 @@ pub fn standing(terms: &Terms, branch: &Branch) -> Result<Branch, NoMemory>
     let mut walk = Walk {
         found: with_room(terms, room)?,
         around: Vec::new(terms.allocator()),
-        begun: HashSet::with_capacity(terms.allocator(), room)?,
+        quantified: false,
+        begun: HashSet::with_capacity(terms.allocator(), 0)?,
         tasks: first_tasks(terms, branch, room)?,
     };
     for _turn in 0..u64::MAX {

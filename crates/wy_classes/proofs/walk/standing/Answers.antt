@@ -1,6 +1,6 @@
-use Rattle.std.proofs.Common.{◌≡◌, ◌∙◌, ◌∷◌, ℕ, List, [], false, nat_eq, length, map, sym, ap, subst, arith, rules}
+use Rattle.std.proofs.Common.{◌≡◌, ◌∙◌, ◌∷◌, ℕ, List, [], true, false, nat_eq, length, map, sym, ap, subst, arith, rules}
 use Rattle.std.specs.HashSet.{contains}
-use Rattle.wy_judge.specs.Node.{Node}
+use Rattle.wy_judge.specs.Node.{Node, has_formula}
 use Rattle.wy_judging.specs.Seen.{AreBelow}
 use Rattle.wy_classes.proofs.StandingLemmas.{all_led, first_below}
 use Rattle.wy_classes.proofs.walk.standing.Goals as goal
@@ -25,7 +25,11 @@ loop-turn-init c =
         around = subst (AreBelow n) (sym c.new.ensures.items) nothing;
         tasks = first_below n c.args.branch.now.literals.keys c.args.branch.now.pending.keys c.in_ok-first_tasks.field-0.items c.requires.literals c.requires.pending c.in_ok-first_tasks.ensures.value;
       };
-      begun = record { each = λ k e. let none : contains nat_eq c.in_ok-with_capacity.field-0 k ≡ false = search rules in absurd (cc) };
+      begun = record {
+        each = λ k e. let none : contains nat_eq c.in_ok-with_capacity.field-0 k ≡ false = search rules in absurd (cc);
+        listed = λ un t flat e. let nothing_yet : false ≡ true = sym (ap (λ (node : Node). has_formula node.pending t) c.in_ok-with_room.ensures.value) ∙ e in absurd (cc);
+        outside = λ un. c.new.ensures.items;
+      };
     }
 
 pub step-requires-clause-begun : goal.step-requires-clause-begun
@@ -34,4 +38,6 @@ step-requires-clause-begun c =
     let are : c.loop-turn.walk.tasks.items ≡ c.in-Some.task ∷ c.pop_front.new.self.items = search rules in
     record {
       each = λ k e. subst (λ (ts : List Task). IsUnderWay at (list_of at c.loop-turn.walk) ts (map at c.loop-turn.walk.around.items) (at k)) are (c.loop-turn.invariant.begun.each k e);
+      listed = λ un t flat e. subst (λ (ts : List Task). IsUnderWay at (list_of at c.loop-turn.walk) ts (map at c.loop-turn.walk.around.items) t) are (c.loop-turn.invariant.begun.listed un t flat e);
+      outside = c.loop-turn.invariant.begun.outside;
     }

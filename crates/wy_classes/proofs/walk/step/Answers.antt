@@ -1,6 +1,6 @@
-use Rattle.std.proofs.Common.{◌≡◌, ◌∙◌, ◌++◌, ◌∷◌, [], List, true, false, nat_eq, length, map, sym, ap, refl, subst, rules, vec_len}
+use Rattle.std.proofs.Common.{◌≡◌, ◌∙◌, ◌++◌, ◌∷◌, ◌-◌, [], List, true, false, nat_eq, length, map, sym, ap, refl, subst, rules, vec_len}
 use Rattle.std.specs.HashSet.{contains}
-use Rattle.wy_classes.proofs.BegunLemmas.{begun_on, bind_on, leave_on}
+use Rattle.wy_classes.proofs.BegunLemmas.{begun_on, leave_on, listed_on, none_left}
 use Rattle.wy_classes.proofs.TaskLemmas.{map_last, popped}
 use Rattle.wy_classes.proofs.walk.step.Goals as goal
 use Rattle.wy_classes.specs.Begun.{AreBegun}
@@ -31,20 +31,10 @@ visit_denied-requires-clause-begun c =
     let un : c.in-Visit.holds ≡ false = search rules in
     subst (λ (t : Task). AreBegun at c.args.walk.now (t ∷ c.args.walk.now.tasks.items)) (c.in-Visit.is ∙ ap (Visit c.in-Visit.k) un) c.requires.begun
 
-pub returns-in_ok-push-in-Bind-clause-begun : goal.returns-in_ok-push-in-Bind-clause-begun
-returns-in_ok-push-in-Bind-clause-begun c =
+pub bind-requires-clause-begun : goal.bind-requires-clause-begun
+bind-requires-clause-begun c =
     let at = tree_at c.args.terms.now in
-    let old = list_of at c.args.walk.now in
-    let around = map at c.args.walk.now.around.items in
-    let ts = c.args.walk.now.tasks.items in
-    let begun = contains nat_eq c.args.walk.now.begun in
-    let put : c.push.new.self.items ≡ c.args.walk.now.around.items ++ c.in-Bind.q ∷ [] = search rules in
-    let before : AreBegun at c.args.walk.now (Bind c.in-Bind.q ∷ ts) = subst (λ (t : Task). AreBegun at c.args.walk.now (t ∷ ts)) c.in-Bind.is c.requires.begun in
-    record {
-      each =
-          begun_on at old old around (map at c.push.new.self.items) (Bind c.in-Bind.q) [] ts ts begun begun (bind_on at c.in-Bind.q old around (map at c.push.new.self.items) (map_last at c.args.walk.now.around.items c.push.new.self.items c.in-Bind.q put))
-          refl (λ j e. e) before.each;
-    }
+    subst (λ (t : Task). AreBegun at c.args.walk.now (t ∷ c.args.walk.now.tasks.items)) c.in-Bind.is c.requires.begun
 
 pub returns-in-Leave-clause-begun : goal.returns-in-Leave-clause-begun
 returns-in-Leave-clause-begun c =
@@ -59,4 +49,8 @@ returns-in-Leave-clause-begun c =
       each =
           begun_on at old old around (map at c.pop.new.self.items) Leave [] ts ts begun begun
           (leave_on at old around (map at c.pop.new.self.items) (popped at c.args.walk.now.around.items c.pop.new.self.items (vec_len c.args.walk.now.around) counts c.pop.ensures.rest)) refl (λ j e. e) before.each;
+      listed =
+          λ un. listed_on at old old around (map at c.pop.new.self.items) Leave [] ts ts
+          (leave_on at old around (map at c.pop.new.self.items) (popped at c.args.walk.now.around.items c.pop.new.self.items (vec_len c.args.walk.now.around) counts c.pop.ensures.rest)) refl (λ t flat e. e) (before.listed un);
+      outside = λ un. none_left c.args.walk.now.around.items c.pop.new.self.items (vec_len c.args.walk.now.around - 1) (before.outside un) c.pop.ensures.rest;
     }

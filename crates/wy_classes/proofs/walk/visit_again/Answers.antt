@@ -4,7 +4,7 @@ use Rattle.wy_judging.proofs.JudgingLemmas.{below_up}
 use Rattle.wy_judging.specs.Seen.{AreBelow}
 use Rattle.wy_classes.proofs.BegunLemmas.{LeadsTo, begun_still, begun_with, next_below, none_around, passed_on, visit_on}
 use Rattle.wy_classes.proofs.TaskLemmas.{on_ok, three_parts}
-use Rattle.wy_classes.proofs.walk.visit.Goals as goal
+use Rattle.wy_classes.proofs.walk.visit_again.Goals as goal
 use Rattle.wy_classes.specs.Begun.{BeginsOne}
 use Rattle.wy_classes.specs.Marks.{is_any_bound, listed_unless, with_unmarked}
 use Rattle.wy_classes.specs.Walk.{left_at, list_of, next_tasks}
@@ -27,7 +27,10 @@ pub returns-then-not-more-clause-begun : goal.returns-then-not-more-clause-begun
 returns-then-not-more-clause-begun c =
     let at = tree_at c.args.terms.now in
     let un : c.in_ok-more.more ≡ false = search rules in
+    let met : c.args.walk.now.quantified ≡ true = c.requires.quantified in
     record {
+      listed = λ none. absurd (cc);
+      outside = λ none. absurd (cc);
       each =
           begun_still at c.args.k (list_of at c.args.walk.now) (map at c.args.walk.now.around.items) c.args.walk.now.tasks.items (contains nat_eq c.args.walk.now.begun) (contains nat_eq c.begin.new.begun) c.is_empty-outside.result
           (c.in_ok-more.ensures.known un) c.in_ok-more.ensures.begun c.requires.begun.each;
@@ -83,7 +86,10 @@ returns-clause-begun c =
     visit_on at c.args.k p old new c.args.walk.now.around.items c.list.new.walk.around.items c.node-node.ensures.tree (three_parts c.node-node.result.now) listed around_is in
     let one : BeginsOne (contains nat_eq c.args.walk.now.begun) (contains nat_eq c.list.new.walk.begun) outside c.args.k =
     subst (λ b. BeginsOne (contains nat_eq c.args.walk.now.begun) (contains nat_eq b) outside c.args.k) (sym begun_is) c.in_ok-more.ensures.begun in
+    let met : c.list.new.walk.quantified ≡ true = search rules in
     on_ok c.put_parts.result _ _ (λ put. record {
+      listed = λ none. absurd (cc);
+      outside = λ none. absurd (cc);
       each =
           begun_with at c.args.k p old new around now c.args.walk.now.tasks.items c.put_parts.new.tasks.items (contains nat_eq c.args.walk.now.begun) (contains nat_eq c.list.new.walk.begun) outside c.node-node.ensures.tree
           (three_parts c.node-node.result.now) leads (put ∙ ap (λ (ts : List Task). next_tasks c.args.k p ++ ts) tasks_are)
