@@ -2,7 +2,7 @@
 use Rattle.std.proofs.Common.{◌≡◌, ◌∙◌, ◌&&◌, ◌||◌, ℕ, Option, Some, None, Bool, true, false, cond, List, [], ◌∷◌, ◌++◌, inl, inr, refl, sym, ap, subst}
 use Rattle.std.specs.Bool.{beq}
 use Rattle.std.specs.Prelude.{IfSome}
-use Rattle.wy_classes.specs.Unmet.{is_connective, meets, with_one, HasOpen, HasTwoOpen, IsNeeded, IsOpenPart, IsPlain, IsSafe, IsSafeBut, IsSelfOrOpen, StaysOpen}
+use Rattle.wy_classes.specs.Unmet.{meets, with_one, HasOpen, HasTwoOpen, IsNeeded, IsOpenPart, IsSafe, IsSafeBut, IsSelfOrOpen, StaysOpen}
 use Rattle.wy_judge.specs.Judgement.{turned, both, either, of_atom, judged, judged_all, judged_any}
 use Rattle.wy_judge.specs.Node.{Literal, has_formula, has_literal, same_literal}
 use Rattle.wy_judge.specs.declared.verdict.Verdict.{Verdict}
@@ -11,7 +11,7 @@ use Rattle.wy_search.specs.Splitting.{atoms_in, atoms_in_parts, is_open, joined_
 use Rattle.wy_term.proofs.SameLemmas.{both as both_so, terms_are, terms_self}
 use Rattle.wy_term.specs.Same.{same_term}
 use Rattle.wy_term.specs.Term as term
-use Rattle.wy_judging.specs.Judged.{fails}
+use Rattle.wy_judging.specs.Judged.{fails, is_connective}
 use Rattle.wy_judging.specs.Seen.{signed}
 use Rattle.wy_term.specs.Term.{Term, Of, Parts, no_parts, part, Not}
 use Rattle.wy_valid.specs.Literals.{any_no, is_no}
@@ -162,9 +162,15 @@ absent_still : (ls : List Literal) (a c : Term) (holds h : Bool) → is_open (of
 absent_still ls a c holds h up apart =
     has_more ls (literal a holds) (literal c h) ∙ ap (λ (x : Bool). x || same_literal (literal a holds) (literal c h)) (absent_both ls c h up) ∙ ap (λ (x : Bool). x && beq holds h) apart
 
-pub atom_stays : (ls : List Literal) (c : Term) → IsPlain c → is_open (of_atom ls c) ≡ true → StaysOpen ls c c
-atom_stays ls c plain_so up = λ a holds un_so apart.
-    plain_so (with_one ls a holds)
+judged_plain : (ls : List Literal) (t : Term) → is_connective t ≡ false → judged ls t ≡ of_atom ls t
+judged_plain ls (Of term.denied ps) plain = absurd (cc)
+judged_plain ls (Of term.all_of ps) plain = absurd (cc)
+judged_plain ls (Of term.any_of ps) plain = absurd (cc)
+judged_plain ls t plain = refl
+
+pub atom_stays : (ls : List Literal) (c : Term) → is_connective c ≡ false → is_open (of_atom ls c) ≡ true → StaysOpen ls c c
+atom_stays ls c plain up = λ a holds un_so apart.
+    judged_plain (with_one ls a holds) c plain
     ∙ ap (λ (x : Bool). verdict_by x (has_literal (with_one ls a holds) (literal c false))) (absent_still ls a c holds true up apart)
     ∙ ap (verdict_by false) (absent_still ls a c holds false up apart)
 

@@ -10,13 +10,13 @@ use Rattle.wy_classes.proofs.OnceLemmas.{plain_all}
 use Rattle.wy_classes.proofs.UnmetLemmas.{by_verdict}
 use Rattle.wy_classes.specs.Once.{first_by, once, undecided}
 use Rattle.wy_classes.specs.Reached.{forces, is_forced_among, refuted_by, seen_unmet, AreEnough, IsNearer}
-use Rattle.wy_classes.specs.Unmet.{is_connective, with_one, ArePlain}
+use Rattle.wy_classes.specs.Unmet.{with_one, ArePlain}
 use Rattle.wy_classes.specs.declared.unmet.Reached.{Reached}
 use Rattle.wy_judge.specs.Judgement.{judged, of_atom}
 use Rattle.wy_judge.specs.Node.{Literal, Node, with_literal}
 use Rattle.wy_judge.specs.declared.verdict.Verdict.{Verdict}
 use Rattle.wy_judging.proofs.NameLemmas.{NamesOnce}
-use Rattle.wy_judging.specs.Judged.{fails}
+use Rattle.wy_judging.specs.Judged.{fails, is_connective}
 use Rattle.wy_judging.specs.Seen.{AreBelow}
 use Rattle.wy_search.specs.Splitting.{atoms_of, decides, first_forced, is_forced, is_open}
 use Rattle.wy_term.proofs.SameLemmas.{terms_are, terms_self}

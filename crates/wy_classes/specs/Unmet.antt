@@ -4,9 +4,10 @@ use Rattle.wy_judge.specs.Judgement.{judged, of_atom}
 use Rattle.wy_judge.specs.Node.{Literal, has_formula}
 use Rattle.wy_judge.specs.declared.verdict.Verdict.{Verdict}
 use Rattle.wy_judge.specs.declared.verdict.Verdict.TheVariants.{Yes, No, Open}
+use Rattle.wy_judging.specs.Judged.{is_connective}
 use Rattle.wy_search.specs.Splitting.{atoms_in, is_open}
 use Rattle.wy_term.specs.Same.{same_term}
-use Rattle.wy_term.specs.Term.{Term, Of, Parts, no_parts, part, denied, all_of, any_of}
+use Rattle.wy_term.specs.Term.{Term, Parts, no_parts, part}
 use Rattle.wy_valid.specs.Literals.{is_no}
 
 -- the literals, and behind them one more
@@ -18,10 +19,6 @@ abbrev pub meets : Verdict → Bool → Bool
 meets Yes holds = holds
 meets No holds = not holds
 meets Open holds = false
-
--- the formula is judged by whether it stands among the literals
-abbrev pub IsPlain : Term → Type 0
-IsPlain f = (ls : List Literal) → judged ls f ≡ of_atom ls f
 
 -- the formula is judged open, whatever literal more there is of an undecided atom other than this one
 abbrev pub StaysOpen : List Literal → Term → Term → Type 0
@@ -50,14 +47,7 @@ IsSafeBut ls f c = (a : Term) (holds : Bool) → is_open (of_atom ls a) ≡ true
 
 -- ---- members that are no atoms
 
--- a denial, an `and` or an `or`
-abbrev pub is_connective : Term → Bool
-is_connective (Of denied ps) = true
-is_connective (Of all_of ps) = true
-is_connective (Of any_of ps) = true
-is_connective t = false
-
--- none of these is
+-- none of these is a denial, an `and` or an `or`
 abbrev pub ArePlain : List Term → Type 0
 ArePlain [] = Unit {0}
 ArePlain (t ∷ ts) = (is_connective t ≡ false) × ArePlain ts

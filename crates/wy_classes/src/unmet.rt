@@ -6,7 +6,7 @@
 ghost use Rattle.std.specs.Prelude.{◌≡◌, ◌<◌, true, false, Some, map, length, slice_get, IfNone, IfOk, IfSome, OnOk};
 ghost use Rattle.wy_judging.specs.Judged.{fails};
 ghost use Rattle.wy_judging.specs.Seen.{AreBelow, IsBranch, seen_branch, seen_formula};
-ghost use Rattle.wy_classes.specs.Unmet.{meets, HasOpen, HasTwoOpen, IsNeeded, IsPlain, IsSafe, IsSafeBut, IsSelfOrOpen, StaysOpen};
+ghost use Rattle.wy_classes.specs.Unmet.{meets, HasOpen, HasTwoOpen, IsNeeded, IsSafe, IsSafeBut, IsSelfOrOpen, StaysOpen};
 ghost use Rattle.wy_classes.specs.Reached.{AreEnough, AreWithin, Notes, NotesShared};
 ghost use Rattle.wy_judge.specs.Judgement.{judged, of_atom};
 ghost use Rattle.wy_search.specs.Splitting as splitting;
@@ -18,7 +18,7 @@ ghost use Rattle.wy_valid.specs.Literals.{any_no};
 use crate::atoms::{atom_at, list_atoms};
 use indexmap::IndexSet;
 use wy_judge::Verdict;
-use wy_judging::{Branch, fails, has_literal, judge, nothing_known, pending_at};
+use wy_judging::{Branch, fails, has_literal, is_connective, judge, nothing_known, pending_at};
 use wy_term::{NoMemory, Node, Terms};
 
 /// A pending formula, or its denial, and an atom of which a literal may refute it.
@@ -38,17 +38,6 @@ pub fn is_undecided(terms: &Terms, branch: &Branch, a: u32) -> bool
     !has_literal(terms, branch, a, true) && !has_literal(terms, branch, a, false)
 }
 
-// Whether a formula is no connective.
-fn is_plain(terms: &Terms, f: u32) -> bool
-    requires { f < length terms.now }
-    ensures { result ≡ true → IsPlain (tree_at terms.now f) }
-{
-    match terms.node(f) {
-        Node::Not(_) | Node::And(_) | Node::Or(_) => false,
-        _ => true,
-    }
-}
-
 // The formula itself, if it is an undecided atom.
 fn if_undecided(terms: &Terms, branch: &Branch, a: u32) -> Option<u32>
     requires atom { a < length terms.now }
@@ -57,7 +46,7 @@ fn if_undecided(terms: &Terms, branch: &Branch, a: u32) -> Option<u32>
     ensures below { IfSome result (λ c. c < length terms.now) }
     ensures same { IfSome result (λ c. c ≡ a) }
 {
-    if !is_plain(terms, a) {
+    if is_connective(terms, a) {
         return None;
     }
     if !is_undecided(terms, branch, a) {

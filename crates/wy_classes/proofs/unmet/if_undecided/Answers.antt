@@ -1,4 +1,4 @@
-use Rattle.std.proofs.Common.{◌≡◌, ◌∙◌, true, sym, rules}
+use Rattle.std.proofs.Common.{◌≡◌, ◌∙◌, true, false, sym, rules}
 use Rattle.wy_classes.proofs.MoreLemmas.{atom_stays}
 use Rattle.wy_classes.proofs.unmet.if_undecided.Goals as goal
 use Rattle.wy_judging.specs.Seen.{seen_branch}
@@ -7,6 +7,6 @@ use Rattle.wy_term.specs.Nodes.{tree_at}
 pub returns-clause-open : goal.returns-clause-open
 returns-clause-open c =
     let at = tree_at c.args.terms.now in
-    let flat : c.is_plain.result ≡ true = search rules in
+    let flat : c.is_connective.result ≡ false = search rules in
     let up : c.is_undecided.result ≡ true = search rules in
-    atom_stays (seen_branch at c.args.branch.now).literals (at c.args.a) (c.is_plain.ensures flat) (sym c.is_undecided.ensures.value ∙ up)
+    atom_stays (seen_branch at c.args.branch.now).literals (at c.args.a) (sym c.is_connective.ensures ∙ flat) (sym c.is_undecided.ensures.value ∙ up)
