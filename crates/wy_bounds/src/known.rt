@@ -44,9 +44,11 @@ pub fn no_forms(alloc: Global, floor: usize) -> KnownForms
     }
 }
 
-/// Forgets each form that may name a term from this count on. It takes no memory.
+/// Forgets each form that may name a term from this count on, and keeps those of terms below the floor where the count isn't
+/// below it. It takes no memory.
 pub fn forget_from(alloc: Global, known: &mut KnownForms, count: usize)
-    ensures { (old new : List Plain) → AgreesUpTo count old new → AreKnown old known.old → AreKnown new known.new }
+    ensures kept { known.old.floor ≤ count → known.new.lasting ≡ known.old.lasting }
+    ensures known { (old new : List Plain) → AgreesUpTo count old new → AreKnown old known.old → AreKnown new known.new }
 {
     known.passing = no_passing(alloc);
     if count < known.floor {

@@ -1,5 +1,5 @@
 //! Numbers that are equal for congruent terms.
-ghost use Rattle.std.specs.Prelude.{◌≡◌, ◌<◌, length, map, IfOk};
+ghost use Rattle.std.specs.Prelude.{◌≡◌, ◌<◌, ◌∷◌, [], length, map, IfOk};
 ghost use Rattle.wy_classes.specs.Seen.{terms_of, IsPresent};
 ghost use Rattle.wy_classes.specs.Signatures.{class_at, head_number as head_number_of, mixed as mixed_with, mixed_all, mixed_names, signature as signature_of};
 ghost use Rattle.wy_judging.specs.Seen.{AreBelow};
@@ -73,6 +73,24 @@ fn mixed_classes(terms: &Terms, present: &Present, labels: &[u32], key: u64, par
     key
 }
 
+fn mixed_class(terms: &Terms, present: &Present, labels: &[u32], key: u64, part: u32) -> u64
+    requires part { part < length terms.now }
+    requires present { IsPresent terms.now present.now }
+    ensures { result ≡ mixed_with key (class_at (terms_of (tree_at terms.now) present.now) labels.now (tree_at terms.now) part) }
+{
+    mixed(key, class_number(terms, present, labels, part))
+}
+
+fn mixed_two(terms: &Terms, present: &Present, labels: &[u32], key: u64, parts: (u32, u32)) -> u64
+    requires first { parts.0 < length terms.now }
+    requires second { parts.1 < length terms.now }
+    requires present { IsPresent terms.now present.now }
+    ensures { result ≡ mixed_all key (map (class_at (terms_of (tree_at terms.now) present.now) labels.now (tree_at terms.now)) (parts.0 ∷ parts.1 ∷ [])) }
+{
+    let first = mixed_class(terms, present, labels, key, parts.0);
+    mixed_class(terms, present, labels, first, parts.1)
+}
+
 /// A number for a term's head and the classes of its arguments, in time linear in their number: congruent terms have one
 /// signature.
 pub fn signature(terms: &Terms, present: &Present, labels: &[u32], s: u32) -> Result<u64, NoMemory>
@@ -81,6 +99,17 @@ pub fn signature(terms: &Terms, present: &Present, labels: &[u32], s: u32) -> Re
     ensures { IfOk result (λ key. key ≡ signature_of (terms_of (tree_at terms.now) present.now) labels.now (tree_at terms.now) (node_at terms.now s)) }
 {
     let node = terms.node(s);
-    let parts = parts_of(terms.allocator(), node)?;
-    Ok(mixed_classes(terms, present, labels, head_number(node), &parts))
+    let key = head_number(node);
+    match node {
+        Node::Neg(t) | Node::Num(t) | Node::Len(t) | Node::Int(t) => {
+            Ok(mixed_class(terms, present, labels, key, *t))
+        }
+        Node::Add(t, u) | Node::Sub(t, u) | Node::Mul(t, u) | Node::Get(t, u) => {
+            Ok(mixed_two(terms, present, labels, key, (*t, *u)))
+        }
+        _ => {
+            let parts = parts_of(terms.allocator(), node)?;
+            Ok(mixed_classes(terms, present, labels, key, &parts))
+        }
+    }
 }

@@ -51,8 +51,8 @@ pub fn copied(alloc: Global, spot: &Spot) -> Result<Spot, NoMemory>
     ensures seen { (at : ℕ → Term) → IfOk result (λ p. seen_spot at p ≡ seen_spot at spot.now) }
     ensures spot { (nodes : List Plain) → IsSpot nodes spot.now → IfOk result (IsSpot nodes) }
 {
-    let branch = copied_branch(alloc, &spot.branch)?;
-    let had = copied_branch(alloc, &spot.had)?;
+    let branch = copied_branch(&spot.branch)?;
+    let had = copied_branch(&spot.had)?;
     let names = Vec::from_slice(alloc, &spot.names)?;
     Ok(Spot {
         branch,

@@ -1,9 +1,8 @@
 //! Nodes on a path of the search.
-ghost use Rattle.std.specs.Prelude.{◌≡◌, ◌<◌, Some, length, slice_get, IfOk};
+ghost use Rattle.std.specs.Prelude.{◌≡◌, IfOk};
 ghost use Rattle.wy_judging.specs.Seen.{IsBranch};
 
 use indexmap::IndexSet;
-use std::alloc::Global;
 use wy_judging::{Branch, nth_literal};
 use wy_term::{NoMemory, Terms};
 
@@ -17,39 +16,21 @@ pub struct Spot {
     pub rounds: u32,
 }
 
-// The member with a place, from 0.
-fn member_at(signed: &IndexSet<(u32, bool)>, i: usize) -> (u32, bool)
-    requires { i < length signed.now.keys }
-    ensures { slice_get signed.now.keys i ≡ Some result }
-{
-    match signed.get_index(i) {
-        Some(p) => *p,
-        None => (0, false),
-    }
-}
-
 // A copy of literals, or of pending formulas.
-fn copied_set(
-    alloc: Global,
-    signed: &IndexSet<(u32, bool)>,
-) -> Result<IndexSet<(u32, bool)>, NoMemory>
+fn copied_set(signed: &IndexSet<(u32, bool)>) -> Result<IndexSet<(u32, bool)>, NoMemory>
     ensures { IfOk result (λ s. s.keys ≡ signed.now.keys) }
 {
-    let mut made = IndexSet::new(alloc);
-    for i in 0..signed.len() {
-        made.insert(member_at(signed, i))?;
-    }
-    Ok(made)
+    Ok(signed.clone()?)
 }
 
 /// A copy of a node, in time linear in its literals and pending formulas.
-pub fn copied_branch(alloc: Global, branch: &Branch) -> Result<Branch, NoMemory>
+pub fn copied_branch(branch: &Branch) -> Result<Branch, NoMemory>
     ensures literals { IfOk result (λ b. b.literals.keys ≡ branch.now.literals.keys) }
     ensures pending { IfOk result (λ b. b.pending.keys ≡ branch.now.pending.keys) }
 {
     Ok(Branch {
-        literals: copied_set(alloc, &branch.literals)?,
-        pending: copied_set(alloc, &branch.pending)?,
+        literals: copied_set(&branch.literals)?,
+        pending: copied_set(&branch.pending)?,
     })
 }
 

@@ -19,7 +19,7 @@ returns-clause-known c =
       within = omega (arith, c.len.ensures.value);
       trees = λ t lt. c.back_to.ensures.kept t (omega (arith, lt, c.len.ensures.value, same));
     } in
-    on_ok_weaker c.searched-verdict.result (c.forget_from.ensures c.searched-verdict.new.terms c.back_to.new.self agrees) c.searched-verdict.ensures.known
+    on_ok_weaker c.searched-verdict.result (c.forget_from.ensures.known c.searched-verdict.new.terms c.back_to.new.self agrees) c.searched-verdict.ensures.known
 
 pub returns-clause-kept : goal.returns-clause-kept
 returns-clause-kept c = λ t lt. c.back_to.ensures.kept t (omega (arith, lt, c.mark-mark.ensures.value)) ∙ c.searched-verdict.ensures.stays.trees t lt
