@@ -40,6 +40,34 @@ IsPlain (instr.Print a) = ⊥
 IsPlain (instr.PrintInt a) = ⊥
 IsPlain _ = ⊤
 
+-- the instruction stays in its routine and prints nothing
+abbrev pub IsInside : Instr → Type 0
+IsInside (instr.Call d f rs) = ⊥
+IsInside (instr.Return r) = ⊥
+IsInside (instr.Print a) = ⊥
+IsInside (instr.PrintInt a) = ⊥
+IsInside _ = ⊤
+
+-- the instruction goes on behind, prints nothing, and is none of those that are had by comparisons of its number: `Const`, `Share`, `Arith`, `Compare`, `Put`, `Get`, `Field`
+abbrev pub IsBuilt : Instr → Type 0
+IsBuilt (instr.Move d r) = ⊤
+IsBuilt (instr.Clear rs) = ⊤
+IsBuilt (instr.Equal d a b) = ⊤
+IsBuilt (instr.Not d a) = ⊤
+IsBuilt (instr.Array d rs) = ⊤
+IsBuilt (instr.Record d k rs) = ⊤
+IsBuilt (instr.Fill d v n) = ⊤
+IsBuilt (instr.Len d a) = ⊤
+IsBuilt (instr.Kind d a k) = ⊤
+IsBuilt _ = ⊥
+
+-- the same, or it reads or writes a part of a node
+abbrev pub IsNoded : Instr → Type 0
+IsNoded (instr.Get d a i) = ⊤
+IsNoded (instr.Field d a f) = ⊤
+IsNoded (instr.Put a path v) = ⊤
+IsNoded i = IsBuilt i
+
 -- the instruction takes no memory, goes on behind, and prints nothing
 abbrev pub IsMoving : Instr → Type 0
 IsMoving (instr.Const d c) = ⊤

@@ -12,6 +12,8 @@ ghost use Rattle.wy_mach.specs.SharedTurns.{SameHeld, SharesPlain, BranchesBy, S
 use crate::frames::{Caller, Frame, leave};
 use crate::operands::truth;
 use crate::plain::plain;
+use crate::numbers::compare;
+use wy_code::Comparison;
 use crate::printing::{PrintStop, print, print_int};
 use crate::stop::Stop;
 use std::alloc::Global;
@@ -130,18 +132,62 @@ impl Machine {
         ensures count { O.faults out.old ≤ O.faults out.new }
     {
         match instr {
+            Instr::Call(to, routine, numbers) => {
+                self.call(code, *to, *routine, numbers.as_slice())
+            }
+            Instr::Return(_) => unreachable!(),
+            Instr::Print(from) => self.printed(*from, out),
+            Instr::PrintInt(from) => self.number_printed(*from, out),
+            _ => self.within(code, instr),
+        }
+    }
+
+    // makes this instruction, which neither calls nor returns nor prints
+    fn within(&mut self, code: &Code, instr: &Instr) -> Pace
+        requires is { IsMachine code.now self.old }
+        requires inside { IsInside instr.now }
+        requires int { HasInt instr.now }
+        requires below { self.old.frame.at < 18446744073709551615 }
+        ensures stands { Stands self.new.heap (places_of self.new) }
+        ensures kept { KeepsRest self.old self.new }
+        ensures turned { IfOk (turn_of result) (λ turn. (before : Option (List ℕ)) (failed : ℕ) → Turned (next_by code.now instr.now) self.old self.new before before failed failed turn) }
+        ensures shares { IfOk (turn_of result) (λ turn. turn ≡ Turn.Went → SharesBy code.now instr.now self.old self.new) }
+        ensures no_end { IfOk (turn_of result) IsNoEnd }
+        ensures no_memory { OnErr (turn_of result) (MayTakeMemory instr.now) }
+        ensures wants { OnErr (turn_of result) (WantsBy instr.now self.old) }
+    {
+        let registers = self.frame.registers.as_slice();
+        match instr {
             Instr::Jump(to) => {
                 self.frame.at = *to as usize;
                 Pace::Went
             }
-            Instr::Branch(from, to) => self.branch(*from, *to),
-            Instr::Call(to, routine, numbers) => {
-                self.call(code, *to, *routine, numbers.as_slice())
+            Instr::Branch(from, to) => {
+                let answer = truth(&self.heap, registers, *from);
+                self.branch(*from, answer, *to)
             }
-            Instr::Print(from) => self.printed(*from, out),
-            Instr::PrintInt(from) => self.number_printed(*from, out),
-            Instr::Return(_) => unreachable!(),
+            Instr::Compare(to, op, left, right) => self.compared(*to, *op, *left, *right),
             _ => self.went(code, instr),
+        }
+    }
+
+    // `Compare`
+    fn compared(&mut self, to: u32, op: Comparison, left: u32, right: u32) -> Pace
+        requires stands { Stands self.old.heap (places_of self.old) }
+        requires below { self.old.frame.at < 18446744073709551615 }
+        ensures stands { Stands self.new.heap (places_of self.new) }
+        ensures kept { KeepsRest self.old self.new }
+        ensures turned { IfOk (turn_of result) (TurnsBy (Instr.Compare to op left right) self.old self.new) }
+        ensures shares { result ≡ Pace.Went → SharesPlain (Instr.Compare to op left right) self.old self.new }
+        ensures goes { IfOk (turn_of result) IsNoEnd }
+        ensures memory { OnErr (turn_of result) ⊥ }
+    {
+        match compare(&mut self.heap, self.frame.registers.as_mut_slice(), to, op, left, right) {
+            Ok(()) => {
+                self.frame.at += 1;
+                Pace::Went
+            }
+            Err(_) => Pace::Stuck,
         }
     }
 
@@ -158,7 +204,9 @@ impl Machine {
         ensures no_end { IfOk (turn_of result) IsNoEnd }
         ensures no_memory { OnErr (turn_of result) (MayTakeMemory instr.now) }
         ensures wants { OnErr (turn_of result) (WantsIn instr.now self.old.heap self.old.frame.registers.items (vec_capacity self.old.path)) }
+        requires other { (to : ℕ) (op : Comparison) (left right : ℕ) → instr.now ≡ Instr.Compare to op left right → ⊥ }
     {
+        self.frame.at += 1;
         let alloc = self.alloc;
         let registers = self.frame.registers.as_mut_slice();
         match plain(
@@ -169,19 +217,17 @@ impl Machine {
             &mut self.path,
             instr,
         ) {
-            Ok(()) => {
-                self.frame.at += 1;
-                Pace::Went
-            }
+            Ok(()) => Pace::Went,
             Err(Stop::Stuck) => Pace::Stuck,
             Err(Stop::NoMemory) => Pace::NoMemory,
         }
     }
 
     // `Branch`
-    fn branch(&mut self, from: u32, to: u32) -> Pace
+    fn branch(&mut self, from: u32, answer: Option<bool>, to: u32) -> Pace
         requires stands { Stands self.old.heap (places_of self.old) }
         requires below { self.old.frame.at < 18446744073709551615 }
+        requires answer { Reads self.old.heap self.old.frame.registers.items from truth_in answer }
         ensures stands { Stands self.new.heap (places_of self.new) }
         ensures kept { KeepsRest self.old self.new }
         ensures turned { IfOk (turn_of result) (TurnsBy (Instr.Branch from to) self.old self.new) }
@@ -189,7 +235,7 @@ impl Machine {
         ensures goes { IfOk (turn_of result) IsNoEnd }
         ensures memory { OnErr (turn_of result) ⊥ }
     {
-        match truth(&self.heap, self.frame.registers.as_slice(), from) {
+        match answer {
             Some(true) => {
                 self.frame.at += 1;
                 Pace::Went

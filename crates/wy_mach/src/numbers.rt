@@ -121,13 +121,26 @@ fn within(z: i128) -> Option<i128>
     }
 }
 
-// the result of an operator, where it lies within 128 bits
+// the result of an operator, where it lies within 128 bits. Sums, as most are, need no table of jumps.
 fn exact(op: Arithmetic, x: i128, y: i128) -> Option<i128>
     ensures { (next : ℤ → Effect) → computes op x y (λ z. where_so (is_int z) (next z)) ≡ there result (λ z. where_so (is_int z) (next z)) }
 {
     match op {
         Arithmetic::Add => x.checked_add(y),
         Arithmetic::Sub => x.checked_sub(y),
+        _ => product(op, x, y),
+    }
+}
+
+// the same of an operator that is no sum
+#[inline(never)]
+fn product(op: Arithmetic, x: i128, y: i128) -> Option<i128>
+    requires add { op ≡ Arithmetic.Add → ⊥ }
+    requires sub { op ≡ Arithmetic.Sub → ⊥ }
+    ensures { (next : ℤ → Effect) → computes op x y (λ z. where_so (is_int z) (next z)) ≡ there result (λ z. where_so (is_int z) (next z)) }
+{
+    match op {
+        Arithmetic::Add | Arithmetic::Sub => unreachable!(),
         Arithmetic::Mul => x.checked_mul(y),
         Arithmetic::Div => quotient(x, y),
         Arithmetic::Mod => remainder(x, y),
@@ -152,12 +165,26 @@ fn remainder(x: i128, y: i128) -> Option<i128>
     }
 }
 
+// whether the numbers compare so. What asks for less, as most do, needs no table of jumps.
 fn compared(op: Comparison, x: i128, y: i128) -> bool
     ensures { result ≡ compares op x y }
 {
     match op {
         Comparison::Less => x < y,
         Comparison::LessEqual => x <= y,
+        _ => exceeds(op, x, y),
+    }
+}
+
+// the same of what asks for more
+#[inline(never)]
+fn exceeds(op: Comparison, x: i128, y: i128) -> bool
+    requires less { op ≡ Comparison.Less → ⊥ }
+    requires less_equal { op ≡ Comparison.LessEqual → ⊥ }
+    ensures { result ≡ compares op x y }
+{
+    match op {
+        Comparison::Less | Comparison::LessEqual => unreachable!(),
         Comparison::Greater => x > y,
         Comparison::GreaterEqual => x >= y,
     }

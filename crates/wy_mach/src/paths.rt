@@ -45,7 +45,7 @@ fn step_at(steps: &[Step], i: usize) -> Step
 }
 
 // the slot that a step leads to, where its register holds a number from 0 on
-fn slot(heap: &Heap, registers: &[Place], step: Step) -> Option<Slot>
+pub(crate) fn slot(heap: &Heap, registers: &[Place], step: Step) -> Option<Slot>
     requires held { AreRegisters heap.now registers.now }
     ensures value { MatchOption result (LacksSlot heap.now registers.now step) (λ slot. IsSlotOf heap.now registers.now step slot) }
 {

@@ -26,8 +26,18 @@ use wy_code::Instr;
 use wy_heap::{Heap, Place, Slot};
 use wy_value::Shapes;
 
-// makes an instruction that goes on behind and prints nothing
-pub(crate) fn plain(
+// the same answer, with the reason
+pub(crate) fn stop_of(outcome: Result<(), Stuck>) -> Result<(), Stop>
+    ensures { result ≡ stop_result outcome }
+{
+    match outcome {
+        Ok(()) => Ok(()),
+        Err(Stuck) => Err(Stop::Stuck),
+    }
+}
+
+#[inline(never)]
+pub(crate) fn noded(
     alloc: Global,
     shapes: &Shapes,
     heap: &mut Heap,
@@ -38,7 +48,7 @@ pub(crate) fn plain(
     requires held { AreRegisters heap.old registers.old }
     requires table { IsShapes shapes.now }
     requires extends { Extends shapes.now heap.old.shapes }
-    requires plain { IsPlain instr.now }
+    requires noded { IsNoded instr.now }
     requires int { HasInt instr.now }
     ensures turns { Turns heap.old heap.new registers.old registers.new }
     ensures value { OnOk result (WentOn (map_of heap.old) (map_of heap.new) registers.old registers.new (effect shapes.now instr.now)) }
@@ -50,8 +60,46 @@ pub(crate) fn plain(
     ensures kept { SameTable heap.old heap.new }
 {
     match instr {
-        Instr::Share(to, from) => share(heap, registers, *to, *from),
+        Instr::Put(whole, steps, from) => {
+            update(heap, registers, *whole, steps.as_slice(), *from, path)
+        }
+        Instr::Get(to, from, index) => item(heap, registers, *to, *from, *index),
+        Instr::Field(to, from, name) => field(heap, registers, *to, *from, *name),
+        _ => built(alloc, shapes, heap, registers, path, instr),
+    }
+}
+
+#[inline(never)]
+pub(crate) fn built(
+    alloc: Global,
+    shapes: &Shapes,
+    heap: &mut Heap,
+    registers: &mut [Place],
+    path: &mut Vec<Slot>,
+    instr: &Instr,
+) -> Result<(), Stop>
+    requires held { AreRegisters heap.old registers.old }
+    requires table { IsShapes shapes.now }
+    requires extends { Extends shapes.now heap.old.shapes }
+    requires built { IsBuilt instr.now }
+    requires int { HasInt instr.now }
+    ensures turns { Turns heap.old heap.new registers.old registers.new }
+    ensures value { OnOk result (WentOn (map_of heap.old) (map_of heap.new) registers.old registers.new (effect shapes.now instr.now)) }
+    ensures shares { OnOk result (SharesIn instr.now heap.old heap.new registers.old registers.new) }
+    ensures stop { IfErr result (IsStop (map_of heap.old) registers.old (effect shapes.now instr.now)) }
+    ensures memory { IfErr result (λ stop. stop ≡ Stop.NoMemory → MayTakeMemory instr.now) }
+    ensures wants { IfErr result (λ stop. stop ≡ Stop.NoMemory → WantsIn instr.now heap.old registers.old (vec_capacity path.old)) }
+    ensures room { vec_capacity path.old ≤ vec_capacity path.new }
+    ensures kept { SameTable heap.old heap.new }
+{
+    match instr {
+        Instr::Move(to, from) => stop_of(move_to(heap, registers, *to, *from)),
+        Instr::Clear(numbers) => {
+            clear(heap, registers, numbers.as_slice());
+            Ok(())
+        }
         Instr::Equal(to, left, right) => equal(heap, registers, *to, *left, *right),
+        Instr::Not(to, from) => stop_of(negate(heap, registers, *to, *from)),
         Instr::Array(to, numbers) => array(alloc, heap, registers, *to, numbers.as_slice()),
         Instr::Record(to, shape, numbers) => {
             record(
@@ -65,55 +113,40 @@ pub(crate) fn plain(
             )
         }
         Instr::Fill(to, from, count) => fill(heap, registers, *to, *from, *count),
-        Instr::Get(to, from, index) => item(heap, registers, *to, *from, *index),
-        Instr::Field(to, from, name) => field(heap, registers, *to, *from, *name),
-        Instr::Put(whole, steps, from) => {
-            update(heap, registers, *whole, steps.as_slice(), *from, path)
-        }
-        _ => stop_of(moving(shapes, heap, registers, instr)),
-    }
-}
-
-// makes an instruction that takes no memory, goes on behind and prints nothing
-fn moving(
-    shapes: &Shapes,
-    heap: &mut Heap,
-    registers: &mut [Place],
-    instr: &Instr,
-) -> Result<(), Stuck>
-    requires held { AreRegisters heap.old registers.old }
-    requires table { IsShapes shapes.now }
-    requires extends { Extends shapes.now heap.old.shapes }
-    requires moving { IsMoving instr.now }
-    requires int { HasInt instr.now }
-    ensures turns { Turns heap.old heap.new registers.old registers.new }
-    ensures value { OnOk result (WentOn (map_of heap.old) (map_of heap.new) registers.old registers.new (effect shapes.now instr.now)) }
-    ensures shares { OnOk result (SharesIn instr.now heap.old heap.new registers.old registers.new) }
-    ensures stuck { OnErr result (HasNone (map_of heap.old) registers.old (effect shapes.now instr.now)) }
-    ensures kept { SameTable heap.old heap.new }
-{
-    match instr {
-        Instr::Const(to, constant) => load(heap, registers, *to, *constant),
-        Instr::Move(to, from) => move_to(heap, registers, *to, *from),
-        Instr::Clear(numbers) => {
-            clear(heap, registers, numbers.as_slice());
-            Ok(())
-        }
-        Instr::Arith(to, op, left, right) => arith(heap, registers, *to, *op, *left, *right),
-        Instr::Compare(to, op, left, right) => compare(heap, registers, *to, *op, *left, *right),
-        Instr::Not(to, from) => negate(heap, registers, *to, *from),
-        Instr::Len(to, from) => length(heap, registers, *to, *from),
-        Instr::Kind(to, from, asked) => kind(shapes, heap, registers, *to, *from, *asked),
+        Instr::Len(to, from) => stop_of(length(heap, registers, *to, *from)),
+        Instr::Kind(to, from, asked) => stop_of(kind(shapes, heap, registers, *to, *from, *asked)),
         _ => unreachable!(),
     }
 }
 
-// the same answer, with the reason
-fn stop_of(outcome: Result<(), Stuck>) -> Result<(), Stop>
-    ensures { result ≡ stop_result outcome }
+// makes an instruction that goes on behind and prints nothing
+pub(crate) fn plain(
+    alloc: Global,
+    shapes: &Shapes,
+    heap: &mut Heap,
+    registers: &mut [Place],
+    path: &mut Vec<Slot>,
+    instr: &Instr,
+) -> Result<(), Stop>
+    requires held { AreRegisters heap.old registers.old }
+    requires table { IsShapes shapes.now }
+    requires extends { Extends shapes.now heap.old.shapes }
+    requires plain { IsPlain instr.now }
+    requires other { (to : ℕ) (op : Comparison) (left right : ℕ) → instr.now ≡ Instr.Compare to op left right → ⊥ }
+    requires int { HasInt instr.now }
+    ensures turns { Turns heap.old heap.new registers.old registers.new }
+    ensures value { OnOk result (WentOn (map_of heap.old) (map_of heap.new) registers.old registers.new (effect shapes.now instr.now)) }
+    ensures shares { OnOk result (SharesIn instr.now heap.old heap.new registers.old registers.new) }
+    ensures stop { IfErr result (IsStop (map_of heap.old) registers.old (effect shapes.now instr.now)) }
+    ensures memory { IfErr result (λ stop. stop ≡ Stop.NoMemory → MayTakeMemory instr.now) }
+    ensures wants { IfErr result (λ stop. stop ≡ Stop.NoMemory → WantsIn instr.now heap.old registers.old (vec_capacity path.old)) }
+    ensures room { vec_capacity path.old ≤ vec_capacity path.new }
+    ensures kept { SameTable heap.old heap.new }
 {
-    match outcome {
-        Ok(()) => Ok(()),
-        Err(Stuck) => Err(Stop::Stuck),
+    match instr {
+        Instr::Const(to, constant) => stop_of(load(heap, registers, *to, *constant)),
+        Instr::Arith(to, op, left, right) => stop_of(arith(heap, registers, *to, *op, *left, *right)),
+        Instr::Share(to, from) => share(heap, registers, *to, *from),
+        _ => noded(alloc, shapes, heap, registers, path, instr),
     }
 }

@@ -15,7 +15,7 @@ ghost use Rattle.wy_mach.specs.Sharing.{part_in};
 ghost use Rattle.wy_heap.specs.Putting.{Sole};
 ghost use Rattle.wy_mach.specs.Writing.{PutsAlong, WritesPath, IsNotSole};
 
-use crate::paths::slots;
+use crate::paths::{slot, slots};
 use crate::registers::take;
 use crate::stop::Stop;
 use wy_code::Slot as Step;
@@ -43,6 +43,9 @@ pub fn update(
     ensures room { vec_capacity path.old ≤ vec_capacity path.new }
     ensures kept { SameTable heap.old heap.new }
 {
+    if let [step] = steps {
+        return update_one(heap, registers, whole, *step, from);
+    }
     match slots(heap, registers, steps, path) {
         Ok(()) => {}
         Err(stop) => {
@@ -59,7 +62,38 @@ pub fn update(
     written(heap, registers, whole, item, path.as_slice())
 }
 
+// the same at a path of one step, as most are: its slot is gathered nowhere
+fn update_one(
+    heap: &mut Heap,
+    registers: &mut [Place],
+    whole: u32,
+    step: Step,
+    from: u32,
+) -> Result<(), Stop>
+    requires held { AreRegisters heap.old registers.old }
+    ensures turns { Turns heap.old heap.new registers.old registers.new }
+    ensures value { OnOk result ((shapes : Shapes) → Extends shapes heap.old.shapes → WentOn (map_of heap.old) (map_of heap.new) registers.old registers.new (effect shapes (Instr.Put whole (step ∷ []) from))) }
+    ensures stop { IfErr result (λ stop. (shapes : Shapes) → Extends shapes heap.old.shapes → IsStop (map_of heap.old) registers.old (effect shapes (Instr.Put whole (step ∷ []) from)) stop) }
+    ensures shares { OnOk result (WritesPath heap.old heap.new registers.old registers.new whole (step ∷ []) from) }
+    ensures memory { IfErr result (λ stop. stop ≡ Stop.NoMemory → IsNotSole heap.old registers.old whole (step ∷ []) from) }
+    ensures kept { SameTable heap.old heap.new }
+{
+    let Some(slot) = slot(heap, registers, step) else {
+        return Err(Stop::Stuck);
+    };
+    if from as usize >= registers.len() {
+        return Err(Stop::Stuck);
+    }
+    if whole as usize >= registers.len() {
+        return Err(Stop::Stuck);
+    }
+    let taken = take(registers, from);
+    let path = [slot];
+    written(heap, registers, whole, taken, &path)
+}
+
 // the item, which was taken, comes to the end of a path into what a register holds, which stays there meanwhile
+#[inline(always)]
 fn written(
     heap: &mut Heap,
     registers: &mut [Place],
