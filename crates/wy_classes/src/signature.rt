@@ -1,5 +1,5 @@
 //! Numbers that are equal for congruent terms.
-ghost use Rattle.std.specs.Prelude.{◌≡◌, ◌<◌, length, map, IfOk};
+ghost use Rattle.std.specs.Prelude.{◌≡◌, ◌<◌, ◌∷◌, [], length, map, IfOk};
 ghost use Rattle.wy_classes.specs.Seen.{terms_of, IsPresent};
 ghost use Rattle.wy_classes.specs.Signatures.{class_at, head_number as head_number_of, mixed as mixed_with, mixed_all, mixed_names, signature as signature_of};
 ghost use Rattle.wy_judging.specs.Seen.{AreBelow};
@@ -73,14 +73,66 @@ fn mixed_classes(terms: &Terms, present: &Present, labels: &[u32], key: u64, par
     key
 }
 
+// A part's class besides.
+fn mixed_class(terms: &Terms, present: &Present, labels: &[u32], key: u64, part: u32) -> u64
+    requires part { part < length terms.now }
+    requires present { IsPresent terms.now present.now }
+    ensures { result ≡ mixed_all key (map (class_at (terms_of (tree_at terms.now) present.now) labels.now (tree_at terms.now)) (part ∷ [])) }
+{
+    mixed(key, class_number(terms, present, labels, part))
+}
+
+// The classes of two parts besides.
+fn mixed_two(
+    terms: &Terms,
+    present: &Present,
+    labels: &[u32],
+    key: u64,
+    first: u32,
+    second: u32,
+) -> u64
+    requires first { first < length terms.now }
+    requires second { second < length terms.now }
+    requires present { IsPresent terms.now present.now }
+    ensures { result ≡ mixed_all key (map (class_at (terms_of (tree_at terms.now) present.now) labels.now (tree_at terms.now)) (first ∷ second ∷ [])) }
+{
+    let key = mixed_class(terms, present, labels, key, first);
+    mixed_class(terms, present, labels, key, second)
+}
+
 /// A number for a term's head and the classes of its arguments, in time linear in their number: congruent terms have one
-/// signature.
+/// signature. Of one or two arguments it makes no list.
 pub fn signature(terms: &Terms, present: &Present, labels: &[u32], s: u32) -> Result<u64, NoMemory>
     requires term { s < length terms.now }
     requires present { IsPresent terms.now present.now }
     ensures { IfOk result (λ key. key ≡ signature_of (terms_of (tree_at terms.now) present.now) labels.now (tree_at terms.now) (node_at terms.now s)) }
 {
     let node = terms.node(s);
-    let parts = parts_of(terms.allocator(), node)?;
-    Ok(mixed_classes(terms, present, labels, head_number(node), &parts))
+    match node {
+        Node::Neg(t) | Node::Num(t) | Node::Len(t) | Node::Int(t) => Ok(mixed_class(
+            terms,
+            present,
+            labels,
+            head_number(node),
+            *t,
+        )),
+        Node::Add(t, u) | Node::Sub(t, u) | Node::Mul(t, u) | Node::Get(t, u) => Ok(mixed_two(
+            terms,
+            present,
+            labels,
+            head_number(node),
+            *t,
+            *u,
+        )),
+        _ => {
+            let parts = parts_of(terms.allocator(), node)?;
+            Ok(mixed_classes(
+                terms,
+                present,
+                labels,
+                head_number(node),
+                &parts,
+            ))
+        }
+    }
 }

@@ -1,0 +1,3 @@
+-- definitions of public contracts
+pub mod Places
+pub mod Signed
