@@ -43,15 +43,6 @@ own_labels k (suc n) = k ∷ own_labels (suc k) n
 abbrev pub moved : ℕ → ℕ → ℕ → ℕ
 moved from into l = if l == from then into else l
 
--- the place of a number, or this one where it has none
-abbrev pub first_place : Option ℕ → ℕ → Option ℕ
-first_place None place = Some place
-first_place (Some k) place = Some k
-
--- a number that had no place has this one now; the others have those that they had
-abbrev pub PlacedBehind : (ℕ → Option ℕ) → (ℕ → Option ℕ) → ℕ → ℕ → Type 0
-PlacedBehind old new k place = (t : ℕ) → new t ≡ (if k == t then first_place (old k) place else old t)
-
 -- the list begins with this number
 abbrev pub BeginsWith : List ℕ → ℕ → Type 0
 BeginsWith ks k = slice_get ks 0 ≡ Some k

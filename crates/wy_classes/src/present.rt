@@ -1,7 +1,5 @@
 //! The terms present in a node.
-ghost use Rattle.std.specs.Prelude.{◌≡◌, ◌<◌, ◌++◌, ◌∷◌, ◌==◌, ℕ, [], Some, if◌then◌else◌, nat_eq, length, map, IfOk, OnOk};
-ghost use Rattle.std.specs.HashMap.{get};
-ghost use Rattle.wy_classes.specs.Heads.{PlacedBehind};
+ghost use Rattle.std.specs.Prelude.{◌≡◌, ◌<◌, ◌++◌, ◌∷◌, [], length, map, IfOk, OnOk};
 ghost use Rattle.wy_classes.specs.Seen.{terms_of, ArePlaced, IsPresent};
 ghost use Rattle.wy_judging.specs.Seen.{AreBelow, IsBranch, seen_branch, seen_formula};
 ghost use Rattle.wy_search.specs.Standing.{is_term_sort, only_terms, present as present_in};
@@ -11,10 +9,11 @@ ghost use Rattle.wy_term.specs.Sorts.{sort_in};
 
 use crate::walk::standing;
 use std::collections::HashMap;
+use wy_few::{place_among, push_number};
 use wy_judging::{Branch, pending_at};
 use wy_term::{NoMemory, Node, Terms};
 
-/// The terms present in a node, by first appearance, and the place of each, from 0.
+/// The terms present in a node, by first appearance, and, where they are more than a few, the place of each, from 0.
 #[derive(Drop)]
 pub struct Present {
     pub numbers: Vec<u32>,
@@ -38,43 +37,13 @@ fn is_term(terms: &Terms, k: u32) -> bool
     }
 }
 
-// A count as a place. A list of 2^32 terms or more has none.
-fn place_number(count: usize) -> Result<u32, NoMemory>
-    ensures { IfOk result (λ k. k ≡ count) }
-{
-    match u32::try_from(count) {
-        Ok(k) => Ok(k),
-        Err(_) => Err(NoMemory),
-    }
-}
-
-// The place that a term had before.
-fn put_back(places: &mut HashMap<u32, u32>, k: u32, first: u32) -> Result<(), NoMemory>
-    ensures { OnOk result ((t : ℕ) → get nat_eq places.new t ≡ (if k == t then Some first else get nat_eq places.old t)) }
-{
-    places.insert(k, first)?;
-    Ok(())
-}
-
-// Notes the place of a term, unless it has one: of those that are met once each, as in a set, all are new.
-fn note_place(places: &mut HashMap<u32, u32>, k: u32, place: u32) -> Result<(), NoMemory>
-    ensures { OnOk result (PlacedBehind (get nat_eq places.old) (get nat_eq places.new) k place) }
-{
-    match places.insert(k, place)? {
-        Some(first) => put_back(places, k, first),
-        None => Ok(()),
-    }
-}
-
 // One term more.
 fn note(present: &mut Present, k: u32) -> Result<(), NoMemory>
     requires places { ArePlaced present.old }
     ensures value { OnOk result (present.new.numbers.items ≡ present.old.numbers.items ++ k ∷ []) }
     ensures places { OnOk result (ArePlaced present.new) }
 {
-    let place = place_number(present.numbers.len())?;
-    note_place(&mut present.places, k, place)?;
-    present.numbers.push(k)?;
+    push_number(&mut present.numbers, &mut present.places, k)?;
     Ok(())
 }
 
@@ -103,7 +72,7 @@ pub fn terms_present(terms: &Terms, branch: &Branch) -> Result<Present, NoMemory
     let found = standing(terms, branch)?;
     let mut made = Present {
         numbers: Vec::with_capacity(terms.allocator(), found.pending.len())?,
-        places: HashMap::with_capacity(terms.allocator(), found.pending.len())?,
+        places: HashMap::new(terms.allocator()),
     };
     for i in 0..found.pending.len() {
         let (k, holds) = pending_at(&found, i);
@@ -112,12 +81,13 @@ pub fn terms_present(terms: &Terms, branch: &Branch) -> Result<Present, NoMemory
     Ok(made)
 }
 
-/// The place of a term among those present, if it has one, in constant time on average.
+/// The place of a term among those present, if it has one: few are looked through, and of more it is told in constant time on
+/// average.
 pub fn place(terms: &Terms, present: &Present, k: u32) -> Option<u32>
     requires term { k < length terms.now }
     requires present { IsPresent terms.now present.now }
     ensures { result ≡ place_from (terms_of (tree_at terms.now) present.now) (tree_at terms.now k) 0 }
 {
     terms.one_number_for_each_term();
-    present.places.get(&k).copied()
+    place_among(&present.numbers, &present.places, k)
 }

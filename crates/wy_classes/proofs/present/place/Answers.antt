@@ -1,5 +1,5 @@
 use Rattle.std.proofs.Common.{◌≡◌, ◌∙◌, length, nat_eq, rules}
-use Rattle.std.specs.HashMap.{get}
+use Rattle.wy_few.specs.Places.{number_place}
 use Rattle.wy_term.specs.Nodes.{tree_at}
 use Rattle.wy_classes.proofs.PlaceLemmas.{Forward, forward, place_of_number}
 use Rattle.wy_classes.proofs.present.place.Goals as goal
@@ -9,5 +9,5 @@ returns c =
     let at = tree_at c.args.terms.now in
     let n = length c.args.terms.now in
     let once : Forward at n = forward at n (λ s t ls lt e. (c.one_number_for_each_term.ensures.one s t ls lt).1 e) in
-    let found : c.copied.result ≡ get nat_eq c.args.present.now.places c.args.k = search rules in
-    found ∙ c.requires.present.places c.args.k ∙ place_of_number at n once c.args.present.now.numbers.items c.args.k 0 c.requires.present.below c.requires.term
+    let found : c.place_among.result ≡ number_place c.args.present.now.numbers.items c.args.k 0 = search rules in
+    found ∙ place_of_number at n once c.args.present.now.numbers.items c.args.k 0 c.requires.present.below c.requires.term
