@@ -20,8 +20,8 @@ use wy_judging::{Branch, add_pending, bare, nth_literal, pending_at};
 use wy_term::{NoMemory, Node, Quantifier, Terms};
 
 // What is listed, the quantifiers around, outermost first, whether one was met, the terms with parts that were first met
-// outside quantifiers, and what is still to be done, next first. What is listed is mostly little, and is looked through. Until a
-// quantifier is met, what was met is what is listed, and isn't noted besides.
+// outside quantifiers, and what is still to be done, next first. Where little is listed, it is looked through. Until a quantifier
+// is met, what was met is what is listed, and isn't noted besides.
 #[derive(Drop)]
 struct Walk {
     found: SignedSet,
