@@ -1,6 +1,7 @@
 -- Terms that have been gone through.
-use Rattle.std.proofs.Common.{◌≡◌, ◌∙◌, ◌&&◌, ◌||◌, ◌⊎◌, ◌≤◌, ◌+◌, inl, inr, ℕ, zero, suc, Some, Bool, true, false, cond, List, [], ◌∷◌, ◌++◌, map, length, refl, sym, ap, ap₂, subst, arith}
+use Rattle.std.proofs.Common.{◌≡◌, ◌∙◌, ◌&&◌, ◌||◌, ◌⊎◌, ◌≤◌, ◌+◌, inl, inr, ℕ, zero, suc, Some, Bool, true, false, not, cond, List, [], ◌∷◌, ◌++◌, map, length, refl, sym, ap, ap₂, subst, arith}
 use Rattle.std.specs.Prelude.{slice_get}
+use Rattle.wy_few.specs.Signed.{is_among, listed}
 use Rattle.wy_judge.specs.Node.{has_formula}
 use Rattle.wy_search.specs.Standing.{Standing, have_common, standing_in}
 use Rattle.wy_classes.specs.Begun.{has_all, IsGoneThrough}
@@ -104,6 +105,14 @@ known_there at old new t is le = by (has_formula (map (seen_formula at) old) t) 
     by false more =
         let longer : length new ≡ length old + 1 = sym (length_seen at new) ∙ ap length more ∙ length_last (map (seen_formula at) old) t ∙ ap (λ (n : ℕ). n + 1) (length_seen at old) in
         absurd (omega (arith, longer, le))
+
+-- the list is no longer where that which is listed was there
+pub no_longer : (old new : List (ℕ × Bool)) (p : ℕ × Bool) (more : Bool) → new ≡ listed old p → more ≡ not (is_among old p) → more ≡ false → length new ≤ length old
+no_longer old new p more is told un = by (is_among old p) is told
+  where
+    by : (b : Bool) → new ≡ cond b old (old ++ p ∷ []) → more ≡ not b → length new ≤ length old
+    by true same f = let even : length new ≡ length old = ap length same in omega (arith, even)
+    by false longer f = absurd (cc)
 
 -- ---- a number that is listed
 

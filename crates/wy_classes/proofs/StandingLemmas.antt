@@ -4,13 +4,16 @@ use Rattle.std.proofs.lemmas.List.{append-nil}
 use Rattle.std.specs.Prelude.{slice_get, slice_index_or}
 use Rattle.wy_judge.specs.Node.{Literal, Node, has_formula, with_pending}
 use Rattle.wy_judging.specs.Seen.{AreOver, seen_formula, seen_literal}
-use Rattle.wy_search.specs.Standing.{in_formulas, in_literals, standing, standing_in}
+use Rattle.wy_search.specs.Standing.{Standing, have_common, in_formulas, in_literals, standing, standing_in, with_unbound}
 use Rattle.wy_classes.proofs.BoundLemmas.{unmarked_is}
+use Rattle.wy_classes.proofs.OnceLemmas.{once_joined}
 use Rattle.wy_classes.proofs.TaskLemmas.{marked_joined}
 use Rattle.wy_classes.specs.Marks.{all_marked, binds_one, is_any_bound, listed_unless, with_unmarked}
+use Rattle.wy_classes.specs.Once.{once}
 use Rattle.wy_classes.specs.Walk.{AreTasks, left_at, of_literals, of_pending}
 use Rattle.wy_classes.specs.declared.task.Task.{Task}
 use Rattle.wy_classes.specs.declared.task.Task.TheVariants.{Visit}
+use Rattle.wy_term.specs.Scope.{free_names}
 use Rattle.wy_term.specs.Term.{Term}
 
 -- ---- the tasks at first
@@ -40,11 +43,6 @@ all_led at ls ps ts is =
     ap (λ us. with_unmarked [] (left_at at us [])) is
     ∙ ap (with_unmarked []) (literals_left at ls (of_pending ps) [] ∙ ap (λ ms. all_marked [] literals ++ ms) (pending_left at ps []) ∙ sym (marked_joined [] literals formulas))
     ∙ unmarked_is [] (literals ++ formulas)
-
--- ---- the same pending formulas, in another set
-
-pub seen_still : (at : ℕ → Term) (ls ps qs : List (ℕ × Bool)) (whole : Node) → qs ≡ ps → node (map (seen_literal at) ls) (map (seen_formula at) ps) ≡ whole → node (map (seen_literal at) ls) (map (seen_formula at) qs) ≡ whole
-seen_still at ls ps qs whole same is = ap (λ (ks : List (ℕ × Bool)). node (map (seen_literal at) ls) (map (seen_formula at) ks)) same ∙ is
 
 -- ---- one more
 
@@ -105,6 +103,40 @@ more_pending ts us ps i p whole here so is =
 
 pub all_pending : (ts : List Task) (ps : List (ℕ × Bool)) (i : ℕ) (whole : List Task) → length ps ≤ i → ts ++ of_pending (drop i ps) ≡ whole → ts ≡ whole
 all_pending ts ps i whole le so = sym (append-nil ts) ∙ sym (ap (λ qs. ts ++ of_pending qs) (drop_end ps i le)) ∙ so
+
+-- ---- what is listed, put into a node
+
+once_put : (done : List Term) (t : Term) (bound : Bool) → once [] done ≡ done → once [] (cond (has_formula done t || bound) done (done ++ t ∷ [])) ≡ cond (has_formula done t || bound) done (done ++ t ∷ [])
+once_put done t bound is = by (has_formula done t) bound refl
+  where
+    by : (b c : Bool) → has_formula done t ≡ b → once [] (cond (b || c) done (done ++ t ∷ [])) ≡ cond (b || c) done (done ++ t ∷ [])
+    by true c e = is
+    by false true e = is
+    by false false e = once_joined [] done (t ∷ []) ∙ ap (λ (ts : List Term). once ts (t ∷ [])) is ∙ ap (λ (b : Bool). cond b done (done ++ t ∷ [])) e
+
+once_unbound : (done : List Term) (ss : List Standing) → once [] done ≡ done → once [] (with_unbound done ss) ≡ with_unbound done ss
+once_unbound done [] is = is
+once_unbound done (s ∷ ss) is =
+    once_unbound (cond (has_formula done s.what || have_common (free_names s.what) s.around) done (done ++ s.what ∷ [])) ss (once_put done s.what (have_common (free_names s.what) s.around) is)
+
+-- each stands there once
+pub once_standing : (whole : Node) → once [] (standing whole) ≡ standing whole
+once_standing whole = once_unbound [] (in_literals whole.literals ++ in_formulas whole.pending) refl
+
+pub copied_next : (at : ℕ → Term) (ps : List (ℕ × Bool)) (i : ℕ) (p : ℕ × Bool) (old new : Node) (whole : List Term) → slice_get ps i ≡ Some p → new ≡ with_pending old (seen_formula at p) → once old.pending (map (seen_formula at) (drop i ps)) ≡ whole
+    → once new.pending (map (seen_formula at) (drop (i + 1) ps)) ≡ whole
+copied_next at ps i p old new whole here is so =
+    ap (λ (n : Node). once n.pending (map (seen_formula at) (drop (i + 1) ps))) is
+    ∙ ap (λ (ts : List Term). once ts (map (seen_formula at) (drop (i + 1) ps))) (by (has_formula old.pending (seen_formula at p)))
+    ∙ sym (ap (λ (qs : List (ℕ × Bool)). once old.pending (map (seen_formula at) qs)) (drop_here ps i p here))
+    ∙ so
+  where
+    by : (b : Bool) → (cond b old (node old.literals (old.pending ++ seen_formula at p ∷ []))).pending ≡ cond b old.pending (old.pending ++ seen_formula at p ∷ [])
+    by true = refl
+    by false = refl
+
+pub copied_end : (at : ℕ → Term) (ps : List (ℕ × Bool)) (i : ℕ) (made : Node) (whole : List Term) → length ps ≤ i → once made.pending (map (seen_formula at) (drop i ps)) ≡ whole → made.pending ≡ whole
+copied_end at ps i made whole le so = sym (ap (λ (qs : List (ℕ × Bool)). once made.pending (map (seen_formula at) qs)) (drop_end ps i le)) ∙ so
 
 -- ---- quantifiers around, walked through
 

@@ -1,7 +1,8 @@
 -- Lists, one item after the other.
 use Rattle.std.proofs.Common.{◌≡◌, ◌∙◌, ◌+◌, ◌≤◌, ◌<◌, ℕ, zero, suc, List, [], ◌∷◌, ◌++◌, map, drop, length, get_or, Bool, Some, refl, ap, subst, arith}
 use Rattle.std.specs.Prelude.{slice_get}
-use Rattle.wy_judging.specs.Seen.{AreBelow, AreOver}
+use Rattle.wy_judging.specs.Seen.{AreBare, AreBelow, AreOver, IsBare}
+use Rattle.wy_term.specs.Term.{Term}
 
 some_is : {A : Type 0} (x y : A) → Some x ≡ Some y → x ≡ y
 some_is x y e = cc
@@ -44,3 +45,8 @@ pub over_get : (n : ℕ) (ps : List (ℕ × Bool)) (i : ℕ) (p : ℕ × Bool) �
 over_get n [] i p over e = absurd (cc)
 over_get n (q ∷ qs) zero p over e = let is : q ≡ p = some_is q p e in subst (λ (x : ℕ × Bool). x.0 < n) is over.0
 over_get n (q ∷ qs) (suc i) p over e = over_get n qs i p over.1 e
+
+pub bare_get : (at : ℕ → Term) (ps : List (ℕ × Bool)) (i : ℕ) (p : ℕ × Bool) → AreBare at ps → slice_get ps i ≡ Some p → IsBare at p
+bare_get at [] i p bare e = absurd (cc)
+bare_get at (q ∷ qs) zero p bare e = let is : q ≡ p = some_is q p e in subst (IsBare at) is bare.0
+bare_get at (q ∷ qs) (suc i) p bare e = bare_get at qs i p bare.1 e

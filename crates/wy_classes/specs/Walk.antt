@@ -1,12 +1,14 @@
 -- What the walk has still to do, and what it leads to.
 use Rattle.std.specs.Prelude.{ℕ, ◌<◌, length, map, List, [], ◌∷◌, ◌++◌, Bool, true, false, if◌then◌else◌}
-use Rattle.wy_judging.specs.Seen.{AreBelow, IsBranch, seen_formula, signed}
+use Rattle.wy_few.specs.Signed.{IsSignedSet}
+use Rattle.wy_few.specs.declared.signed.SignedSet.{SignedSet}
+use Rattle.wy_judging.specs.Seen.{AreBare, AreBelow, AreOver, seen_formula, signed}
 use Rattle.wy_search.specs.Standing.{standing_in}
 use Rattle.wy_classes.specs.Marks.{all_marked, with_unmarked}
 use Rattle.wy_classes.specs.declared.task.Task.{Task}
 use Rattle.wy_classes.specs.declared.task.Task.TheVariants.{Visit, Bind, Leave}
 use Rattle.wy_classes.specs.declared.walk.Walk.{Walk}
-use Rattle.wy_term.specs.Nodes.{Plain}
+use Rattle.wy_term.specs.Nodes.{Plain, tree_at}
 use Rattle.wy_term.specs.Term.{Symbol, Term, every, exists}
 
 abbrev pub is_quantifier : Symbol → Bool
@@ -61,7 +63,7 @@ left_at at (Leave ∷ ts) around = left_at at ts (but_last around)
 
 -- what is listed
 abbrev pub list_of : (ℕ → Term) → Walk → List Term
-list_of at walk = map (seen_formula at) walk.found.pending.keys
+list_of at walk = map (seen_formula at) walk.found.keys.items
 
 -- what will be listed in the end, and what that was before a task was taken
 abbrev pub leads : (ℕ → Term) → Walk → List Term
@@ -70,8 +72,14 @@ leads at walk = with_unmarked (list_of at walk) (left_at at walk.tasks.items (ma
 abbrev pub leads_from : (ℕ → Term) → Walk → Task → List Term
 leads_from at walk task = with_unmarked (list_of at walk) (left_at at (task ∷ walk.tasks.items) (map at walk.around.items))
 
+-- the numbers in a list are those of terms, and none of them is given as a denial
+pub record AreListed (nodes : List Plain) (s : SignedSet) : Type 0 where
+  pub over : AreOver (length nodes) s.keys.items
+  pub bare : AreBare (tree_at nodes) s.keys.items
+  pub set : IsSignedSet s
+
 -- the numbers in it are those of terms
 pub record IsWalk (nodes : List Plain) (walk : Walk) : Type 0 where
-  pub found : IsBranch nodes walk.found
+  pub found : AreListed nodes walk.found
   pub around : AreBelow (length nodes) walk.around.items
   pub tasks : AreTasks (length nodes) walk.tasks.items

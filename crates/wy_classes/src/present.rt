@@ -7,10 +7,10 @@ ghost use Rattle.wy_search.specs.Classes.{place_from};
 ghost use Rattle.wy_term.specs.Nodes.{tree_at};
 ghost use Rattle.wy_term.specs.Sorts.{sort_in};
 
-use crate::walk::standing;
+use crate::walk::{listed, listed_at};
 use std::collections::HashMap;
 use wy_few::{place_among, push_number};
-use wy_judging::{Branch, pending_at};
+use wy_judging::Branch;
 use wy_term::{NoMemory, Node, Terms};
 
 /// The terms present in a node, by first appearance, and, where they are more than a few, the place of each, from 0.
@@ -63,19 +63,19 @@ fn take(terms: &Terms, present: &mut Present, k: u32, holds: bool) -> Result<(),
     Ok(())
 }
 
-/// The terms that stand in a node without bound names, each once, by first appearance. It takes the time of `standing`.
+/// The terms that stand in a node without bound names, each once, by first appearance. It takes the time of `listed`.
 pub fn terms_present(terms: &Terms, branch: &Branch) -> Result<Present, NoMemory>
     requires { IsBranch terms.now branch.now }
     ensures value { IfOk result (λ p. terms_of (tree_at terms.now) p ≡ present_in (seen_branch (tree_at terms.now) branch.now)) }
     ensures present { IfOk result (IsPresent terms.now) }
 {
-    let found = standing(terms, branch)?;
+    let found = listed(terms, branch)?;
     let mut made = Present {
-        numbers: Vec::with_capacity(terms.allocator(), found.pending.len())?,
+        numbers: Vec::with_capacity(terms.allocator(), found.keys.len())?,
         places: HashMap::new(terms.allocator()),
     };
-    for i in 0..found.pending.len() {
-        let (k, holds) = pending_at(&found, i);
+    for i in 0..found.keys.len() {
+        let (k, holds) = listed_at(&found, i);
         take(terms, &mut made, k, holds)?;
     }
     Ok(made)

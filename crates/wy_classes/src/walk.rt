@@ -1,13 +1,12 @@
 //! The walk through a node.
-ghost use Rattle.std.specs.Prelude.{◌≡◌, ◌<◌, ◌++◌, [], ◌∷◌, false, true, nat_eq, length, map, IfOk, OnOk};
+ghost use Rattle.std.specs.Prelude.{◌≡◌, ◌<◌, ◌++◌, [], ◌∷◌, false, true, Some, nat_eq, length, map, slice_get, IfOk, OnOk};
 ghost use Rattle.std.specs.HashSet.{contains};
-ghost use Rattle.wy_judge.specs.Node as judge;
 ghost use Rattle.wy_judge.specs.Node.{has_formula};
 ghost use Rattle.wy_judging.specs.Seen.{IsBare, IsBranch, seen_branch, seen_formula};
 ghost use Rattle.wy_search.specs.Standing as search;
 ghost use Rattle.wy_classes.specs.Begun.{AreBegun, BeginListed, BeginsMet, BeginsOne};
 ghost use Rattle.wy_classes.specs.Marks.{is_any_bound, listed_unless};
-ghost use Rattle.wy_classes.specs.Walk.{AreTasks, IsWalk, leads, leads_from, list_of, next_tasks, of_literals, of_pending, tasks_of, visits};
+ghost use Rattle.wy_classes.specs.Walk.{AreListed, AreTasks, IsWalk, leads, leads_from, list_of, next_tasks, of_literals, of_pending, tasks_of, visits};
 ghost use Rattle.wy_classes.specs.declared.task.Task.TheVariants.{Visit, Bind, Leave};
 ghost use Rattle.wy_term.specs.Nodes.{plain, tree_at};
 ghost use Rattle.wy_term.specs.Scope.{free_names};
@@ -16,15 +15,16 @@ use crate::caught::is_caught;
 use crate::task::Task;
 use std::collections::{HashSet, VecDeque};
 use wy_data::Name;
+use wy_few::{SignedSet, no_signed};
 use wy_judging::{Branch, add_pending, bare, nth_literal, pending_at};
 use wy_term::{NoMemory, Node, Quantifier, Terms};
 
 // What is listed, the quantifiers around, outermost first, whether one was met, the terms with parts that were first met
-// outside quantifiers, and what is still to be done, next first. What is listed is kept as the pending formulas of a node.
-// Until a quantifier is met, what was met is what is listed, and isn't noted besides.
+// outside quantifiers, and what is still to be done, next first. Where little is listed, it is looked through. Until a quantifier
+// is met, what was met is what is listed, and isn't noted besides.
 #[derive(Drop)]
 struct Walk {
-    found: Branch,
+    found: SignedSet,
     around: Vec<u32>,
     quantified: bool,
     begun: HashSet<u32>,
@@ -70,6 +70,19 @@ fn bare_form(terms: &Terms, k: u32) -> (u32, bool)
     }
 }
 
+// Lists a term. Whether it is new there.
+fn list_first(terms: &Terms, found: &mut SignedSet, k: u32, holds: bool) -> Result<bool, NoMemory>
+    requires term { k < length terms.now }
+    requires listed { AreListed terms.now found.old }
+    requires bare { IsBare (tree_at terms.now) (k, holds) }
+    ensures value { OnOk result (map (seen_formula (tree_at terms.now)) found.new.keys.items ≡ listed_unless false (map (seen_formula (tree_at terms.now)) found.old.keys.items) (seen_formula (tree_at terms.now) (k, holds))) }
+    ensures known { IfOk result (λ more. more ≡ false → has_formula (map (seen_formula (tree_at terms.now)) found.old.keys.items) (seen_formula (tree_at terms.now) (k, holds)) ≡ true) }
+    ensures listed { OnOk result (AreListed terms.now found.new) }
+{
+    terms.one_number_for_each_term();
+    Ok(wy_few::list(found, k, holds)?)
+}
+
 // Lists a term, unless it is listed or one of its free names is bound here.
 fn list(terms: &Terms, walk: &mut Walk, k: u32, holds: bool) -> Result<(), NoMemory>
     requires term { k < length terms.now }
@@ -85,7 +98,8 @@ fn list(terms: &Terms, walk: &mut Walk, k: u32, holds: bool) -> Result<(), NoMem
     if is_caught(terms, &walk.around, k)? {
         return Ok(());
     }
-    add_pending(terms, &mut walk.found, k, holds)
+    list_first(terms, &mut walk.found, k, holds)?;
+    Ok(())
 }
 
 // This term next.
@@ -170,20 +184,6 @@ fn put_parts(tasks: &mut VecDeque<Task>, k: u32, node: &Node) -> Result<(), NoMe
         Node::Record(fields) => with_fields(tasks, fields),
         Node::All(by) | Node::Some(by) => with_range(tasks, k, by),
     }
-}
-
-// Lists a term. Whether it is new there.
-fn list_first(terms: &Terms, found: &mut Branch, k: u32, holds: bool) -> Result<bool, NoMemory>
-    requires term { k < length terms.now }
-    requires branch { IsBranch terms.now found.old }
-    requires bare { IsBare (tree_at terms.now) (k, holds) }
-    ensures value { OnOk result (map (seen_formula (tree_at terms.now)) found.new.pending.keys ≡ listed_unless false (map (seen_formula (tree_at terms.now)) found.old.pending.keys) (seen_formula (tree_at terms.now) (k, holds))) }
-    ensures known { IfOk result (λ more. more ≡ false → has_formula (map (seen_formula (tree_at terms.now)) found.old.pending.keys) (seen_formula (tree_at terms.now) (k, holds)) ≡ true) }
-    ensures branch { OnOk result (IsBranch terms.now found.new) }
-{
-    let before = found.pending.len();
-    add_pending(terms, found, k, holds)?;
-    Ok(found.pending.len() > before)
 }
 
 // Lists a term, and goes into its parts, where no quantifier was met before: unless it is listed, since it was begun then. A
@@ -284,16 +284,6 @@ fn first_tasks(terms: &Terms, branch: &Branch, room: usize) -> Result<VecDeque<T
     Ok(tasks)
 }
 
-// A list in which nothing is, with room for so many.
-fn with_room(terms: &Terms, room: usize) -> Result<Branch, NoMemory>
-    ensures value { IfOk result (λ b. seen_branch (tree_at terms.now) b ≡ judge.bare) }
-    ensures branch { IfOk result (IsBranch terms.now) }
-{
-    let mut found = bare(terms.allocator());
-    found.pending.reserve(room)?;
-    Ok(found)
-}
-
 // Room for what the walk begins with, and as much again: most literals and formulas have a part at least.
 fn first_room(branch: &Branch) -> usize {
     let count = branch.literals.len().saturating_add(branch.pending.len());
@@ -311,12 +301,20 @@ fn begin_held(begun: &mut HashSet<u32>, k: u32, holds: bool) -> Result<(), NoMem
     Ok(())
 }
 
-// So all that is listed.
-fn begin_listed(begun: &mut HashSet<u32>, found: &Branch) -> Result<(), NoMemory>
-    ensures { OnOk result (BeginListed (contains nat_eq begun.old) (contains nat_eq begun.new) found.now.pending.keys) }
+/// What is listed at a place from 0, in constant time.
+pub fn listed_at(found: &SignedSet, i: usize) -> (u32, bool)
+    requires { i < length found.now.keys.items }
+    ensures { slice_get found.now.keys.items i ≡ Some result }
 {
-    for i in 0..found.pending.len() {
-        let (k, holds) = pending_at(found, i);
+    found.keys[i]
+}
+
+// So all that is listed.
+fn begin_listed(begun: &mut HashSet<u32>, found: &SignedSet) -> Result<(), NoMemory>
+    ensures { OnOk result (BeginListed (contains nat_eq begun.old) (contains nat_eq begun.new) found.now.keys.items) }
+{
+    for i in 0..found.keys.len() {
+        let (k, holds) = listed_at(found, i);
         begin_held(begun, k, holds)?;
     }
     Ok(())
@@ -328,7 +326,7 @@ fn meet(walk: &mut Walk) -> Result<(), NoMemory>
     ensures around { walk.new.around ≡ walk.old.around }
     ensures tasks { walk.new.tasks ≡ walk.old.tasks }
     ensures quantified { OnOk result (walk.new.quantified ≡ true) }
-    ensures begun { OnOk result (BeginsMet walk.old.quantified (contains nat_eq walk.old.begun) (contains nat_eq walk.new.begun) walk.old.found.pending.keys) }
+    ensures begun { OnOk result (BeginsMet walk.old.quantified (contains nat_eq walk.old.begun) (contains nat_eq walk.new.begun) walk.old.found.keys.items) }
 {
     if walk.quantified {
         return Ok(());
@@ -378,19 +376,19 @@ fn step(terms: &Terms, walk: &mut Walk, task: Task) -> Result<(), NoMemory>
 }
 
 /// The terms and formulas that stand in a node without bound names, those of the literals in order and then those of the
-/// pending formulas, a term before its parts, each once: as the pending formulas of a node that has no literals.
+/// pending formulas, a term before its parts, each once.
 ///
 /// Outside quantifiers it goes into each term once, and takes time linear in how many terms they are made of and their parts,
 /// each counted once. Below quantifiers it passes over the terms that it met outside before, and goes through the others as
 /// trees, where it looks in each term for the name of each quantifier around it.
-pub fn standing(terms: &Terms, branch: &Branch) -> Result<Branch, NoMemory>
+pub fn listed(terms: &Terms, branch: &Branch) -> Result<SignedSet, NoMemory>
     requires { IsBranch terms.now branch.now }
-    ensures value { IfOk result (λ b. (seen_branch (tree_at terms.now) b).pending ≡ search.standing (seen_branch (tree_at terms.now) branch.now)) }
-    ensures branch { IfOk result (IsBranch terms.now) }
+    ensures value { IfOk result (λ s. map (seen_formula (tree_at terms.now)) s.keys.items ≡ search.standing (seen_branch (tree_at terms.now) branch.now)) }
+    ensures listed { IfOk result (AreListed terms.now) }
 {
     let room = first_room(branch);
     let mut walk = Walk {
-        found: with_room(terms, room)?,
+        found: no_signed(terms.allocator(), room)?,
         around: Vec::new(terms.allocator()),
         quantified: false,
         begun: HashSet::with_capacity(terms.allocator(), 0)?,
@@ -403,4 +401,19 @@ pub fn standing(terms: &Terms, branch: &Branch) -> Result<Branch, NoMemory>
         }
     }
     Err(NoMemory)
+}
+
+/// What `listed` lists, as the pending formulas of a node that has no literals. It takes the time of `listed`.
+pub fn standing(terms: &Terms, branch: &Branch) -> Result<Branch, NoMemory>
+    requires { IsBranch terms.now branch.now }
+    ensures value { IfOk result (λ b. (seen_branch (tree_at terms.now) b).pending ≡ search.standing (seen_branch (tree_at terms.now) branch.now)) }
+    ensures branch { IfOk result (IsBranch terms.now) }
+{
+    let found = listed(terms, branch)?;
+    let mut made = bare(terms.allocator());
+    for i in 0..found.keys.len() {
+        let (k, holds) = listed_at(&found, i);
+        add_pending(terms, &mut made, k, holds)?;
+    }
+    Ok(made)
 }

@@ -8,6 +8,6 @@ use Rattle.wy_classes.proofs.present.terms_present.Given as goal
 -- what is left comes to what all came to
 abbrev pub invariant-loop-i : goal.invariant-loop-i
 invariant-loop-i l = record {
-  left : terms_of (tree_at l.terms) l.made ++ only_terms (map (seen_formula (tree_at l.terms)) (drop l.i l.found.pending.keys)) ≡ only_terms (map (seen_formula (tree_at l.terms)) l.found.pending.keys);
+  left : terms_of (tree_at l.terms) l.made ++ only_terms (map (seen_formula (tree_at l.terms)) (drop l.i l.found.keys.items)) ≡ only_terms (map (seen_formula (tree_at l.terms)) l.found.keys.items);
   present : IsPresent l.terms l.made;
 }

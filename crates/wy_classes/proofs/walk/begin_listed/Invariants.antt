@@ -5,4 +5,4 @@ use Rattle.wy_classes.specs.Begun.{BeginListed}
 
 -- no others are begun so far
 abbrev pub invariant-loop-i : goal.invariant-loop-i
-invariant-loop-i l = BeginListed (contains nat_eq l.fn.begun) (contains nat_eq l.begun) l.found.pending.keys
+invariant-loop-i l = BeginListed (contains nat_eq l.fn.begun) (contains nat_eq l.begun) l.found.keys.items

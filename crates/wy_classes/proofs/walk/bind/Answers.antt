@@ -21,9 +21,9 @@ returns-clause-begun c =
     let met : c.meet.new.walk.quantified ≡ true = search rules in
     record {
       each = λ k e.
-          let way = begun_met at c.args.q walk.found.pending.keys (map at ks) (map at c.push.new.self.items) walk.tasks.items walk.quantified (contains nat_eq walk.begun) (contains nat_eq c.meet.new.walk.begun) (map_last at ks c.push.new.self.items c.args.q put)
+          let way = begun_met at c.args.q walk.found.keys.items (map at ks) (map at c.push.new.self.items) walk.tasks.items walk.quantified (contains nat_eq walk.begun) (contains nat_eq c.meet.new.walk.begun) (map_last at ks c.push.new.self.items c.args.q put)
           c.in_ok-meet.ensures.begun c.requires.walk.found.bare c.requires.begun.each c.requires.begun.listed k e in
-          subst (λ b. IsUnderWay at (map (seen_formula at) b.pending.keys) c.meet.new.walk.tasks.items (map at c.push.new.self.items) (at k)) (sym found_is)
+          subst (λ b. IsUnderWay at (map (seen_formula at) b.keys.items) c.meet.new.walk.tasks.items (map at c.push.new.self.items) (at k)) (sym found_is)
           (subst (λ ts. IsUnderWay at (list_of at walk) ts.items (map at c.push.new.self.items) (at k)) (sym tasks_are) way);
       listed = λ un. absurd (cc);
       outside = λ un. absurd (cc);

@@ -1,43 +1,39 @@
-use Rattle.std.proofs.Common.{◌≡◌, ◌∙◌, ◌∷◌, ℕ, List, [], true, false, nat_eq, length, map, sym, ap, subst, arith, rules}
-use Rattle.std.specs.HashSet.{contains}
-use Rattle.wy_judge.specs.Node.{Node, has_formula}
-use Rattle.wy_judging.specs.Seen.{AreBelow}
-use Rattle.wy_classes.proofs.StandingLemmas.{all_led, first_below}
+use Rattle.std.proofs.Common.{◌≡◌, ◌≤◌, ◌∙◌, [], length, map, ap, rules}
+use Rattle.wy_judge.specs.Node.{Node}
+use Rattle.wy_judging.specs.Seen.{seen_branch, seen_formula}
+use Rattle.wy_classes.proofs.StandingLemmas.{copied_end, copied_next, once_standing}
+use Rattle.wy_classes.proofs.WalkLemmas.{bare_get, over_get}
 use Rattle.wy_classes.proofs.walk.standing.Goals as goal
-use Rattle.wy_classes.specs.Marks.{with_unmarked}
-use Rattle.wy_classes.specs.Begun.{IsUnderWay}
-use Rattle.wy_classes.specs.Walk.{left_at, list_of}
-use Rattle.wy_classes.specs.declared.task.Task.{Task}
+use Rattle.wy_classes.specs.Once.{once}
 use Rattle.wy_term.specs.Nodes.{tree_at}
 
-pub loop-turn-init : goal.loop-turn-init
-loop-turn-init c =
+pub loop-i-init : goal.loop-i-init
+loop-i-init c =
     let at = tree_at c.args.terms.now in
-    let n = length c.args.terms.now in
-    let nothing : AreBelow n [] = λ k d lt. absurd (omega (arith, lt)) in
     record {
-      leads =
-          ap (λ (node : Node). with_unmarked node.pending (left_at at c.in_ok-first_tasks.field-0.items (map at c.new.result.items))) c.in_ok-with_room.ensures.value
-          ∙ ap (λ (a : List ℕ). with_unmarked [] (left_at at c.in_ok-first_tasks.field-0.items (map at a))) c.new.ensures.items
-          ∙ all_led at c.args.branch.now.literals.keys c.args.branch.now.pending.keys c.in_ok-first_tasks.field-0.items c.in_ok-first_tasks.ensures.value;
-      walk = record {
-        found = c.in_ok-with_room.ensures.branch;
-        around = subst (AreBelow n) (sym c.new.ensures.items) nothing;
-        tasks = first_below n c.args.branch.now.literals.keys c.args.branch.now.pending.keys c.in_ok-first_tasks.field-0.items c.requires.literals c.requires.pending c.in_ok-first_tasks.ensures.value;
-      };
-      begun = record {
-        each = λ k e. let none : contains nat_eq c.in_ok-with_capacity.field-0 k ≡ false = search rules in absurd (cc);
-        listed = λ un t flat e. let nothing_yet : false ≡ true = sym (ap (λ (node : Node). has_formula node.pending t) c.in_ok-with_room.ensures.value) ∙ e in absurd (cc);
-        outside = λ un. c.new.ensures.items;
-      };
+      left =
+          ap (λ (node : Node). once node.pending (map (seen_formula at) c.in_ok-found.found.keys.items)) (c.bare-made.ensures.value at)
+          ∙ ap (once []) c.in_ok-found.ensures.value
+          ∙ once_standing (seen_branch at c.args.branch.now);
+      branch = c.bare-made.ensures.branch c.args.terms.now;
     }
 
-pub step-requires-clause-begun : goal.step-requires-clause-begun
-step-requires-clause-begun c =
+pub add_pending-requires-clause-formula : goal.add_pending-requires-clause-formula
+add_pending-requires-clause-formula c = over_get (length c.args.terms.now) c.in_ok-found.found.keys.items c.loop-i.i c.listed_at-k.result c.in_ok-found.ensures.listed.over c.listed_at-k.ensures
+
+pub add_pending-requires-clause-bare : goal.add_pending-requires-clause-bare
+add_pending-requires-clause-bare c = bare_get (tree_at c.args.terms.now) c.in_ok-found.found.keys.items c.loop-i.i c.listed_at-k.result c.in_ok-found.ensures.listed.bare c.listed_at-k.ensures
+
+pub loop-i-preserved : goal.loop-i-preserved
+loop-i-preserved c =
     let at = tree_at c.args.terms.now in
-    let are : c.loop-turn.walk.tasks.items ≡ c.in-Some.task ∷ c.pop_front.new.self.items = search rules in
     record {
-      each = λ k e. subst (λ (ts : List Task). IsUnderWay at (list_of at c.loop-turn.walk) ts (map at c.loop-turn.walk.around.items) (at k)) are (c.loop-turn.invariant.begun.each k e);
-      listed = λ un t flat e. subst (λ (ts : List Task). IsUnderWay at (list_of at c.loop-turn.walk) ts (map at c.loop-turn.walk.around.items) t) are (c.loop-turn.invariant.begun.listed un t flat e);
-      outside = c.loop-turn.invariant.begun.outside;
+      left = copied_next at c.in_ok-found.found.keys.items c.loop-i.i c.listed_at-k.result (seen_branch at c.loop-i.made) (seen_branch at c.add_pending.new.branch) _ c.listed_at-k.ensures c.in_ok-add_pending.ensures.value c.loop-i.invariant.left;
+      branch = c.in_ok-add_pending.ensures.branch;
     }
+
+pub returns-clause-value : goal.returns-clause-value
+returns-clause-value c =
+    let at = tree_at c.args.terms.now in
+    let le : length c.in_ok-found.found.keys.items ≤ c.loop-i.i = search rules in
+    copied_end at c.in_ok-found.found.keys.items c.loop-i.i (seen_branch at c.loop-i.made) _ le c.loop-i.invariant.left

@@ -1,15 +1,13 @@
-use Rattle.std.proofs.Common.{◌≡◌}
-use Rattle.wy_judging.specs.Seen.{seen_branch}
+use Rattle.std.proofs.Common.{◌≡◌, drop, map}
+use Rattle.wy_judging.specs.Seen.{seen_branch, seen_formula, IsBranch}
 use Rattle.wy_search.specs.Standing.{standing}
 use Rattle.wy_classes.proofs.walk.standing.Given as goal
-use Rattle.wy_classes.specs.Begun.{AreBegun}
-use Rattle.wy_classes.specs.Walk.{IsWalk, leads}
+use Rattle.wy_classes.specs.Once.{once}
 use Rattle.wy_term.specs.Nodes.{tree_at}
 
--- what is listed and what is left lead to all that stands in the node
-abbrev pub invariant-loop-turn : goal.invariant-loop-turn
-invariant-loop-turn l = record {
-  leads : leads (tree_at l.terms) l.walk ≡ standing (seen_branch (tree_at l.terms) l.branch);
-  walk : IsWalk l.terms l.walk;
-  begun : AreBegun (tree_at l.terms) l.walk l.walk.tasks.items;
+-- what is put and what is left come to all that stands in the node
+abbrev pub invariant-loop-i : goal.invariant-loop-i
+invariant-loop-i l = record {
+  left : once (seen_branch (tree_at l.terms) l.made).pending (map (seen_formula (tree_at l.terms)) (drop l.i l.found.keys.items)) ≡ standing (seen_branch (tree_at l.terms) l.branch);
+  branch : IsBranch l.terms l.made;
 }
