@@ -6,6 +6,8 @@ pub mod AtomLemmas
 pub mod MoreLemmas
 -- pending formulas that a literal more can refute
 pub mod UnmetLemmas
+-- the list of atoms
+pub mod ListedLemmas
 -- one literal more, and back
 pub mod DecidingLemmas
 -- the first atom that is forced

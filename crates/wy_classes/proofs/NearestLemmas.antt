@@ -1,17 +1,17 @@
 -- The first of a list of atoms that one of these formulas forces, one formula after the other.
-use Rattle.std.proofs.Common.{◌≡◌, ◌∙◌, ◌+◌, ◌≤◌, ◌<◌, ◌&&◌, ◌||◌, ◌⊎◌, ℕ, zero, suc, Bool, true, false, cond, not, eqb, nat_lt, List, [], ◌∷◌, map, drop, length, Option, Some, None, inl, inr, refl, sym, ap, arith, option_map}
-use Rattle.std.proofs.lemmas.Bool.{eqb-true, ltb-false}
-use Rattle.std.specs.List.{position_or_len}
-use Rattle.std.specs.Prelude.{position, slice_get, IfSome}
+use Rattle.std.proofs.Common.{◌≡◌, ◌∙◌, ◌+◌, ◌≤◌, ◌<◌, ◌&&◌, ◌||◌, ◌⊎◌, ℕ, zero, suc, Bool, true, false, cond, eqb, List, [], ◌∷◌, map, drop, length, Option, Some, None, inl, inr, refl, sym, ap, arith, option_map}
+use Rattle.std.specs.Prelude.{slice_get, IfSome}
 use Rattle.wy_classes.proofs.DecidingLemmas.{literals_more}
 use Rattle.wy_classes.proofs.FirstLemmas.{below_at, drop_here, drop_end, once_forced}
-use Rattle.wy_classes.proofs.MoreLemmas.{apart_turned, still_no}
+use Rattle.wy_classes.proofs.ListedLemmas.{at_place, before_place, without_place}
+use Rattle.wy_classes.proofs.MoreLemmas.{still_no}
 use Rattle.wy_classes.proofs.OnceLemmas.{plain_all}
 use Rattle.wy_classes.proofs.UnmetLemmas.{by_verdict}
 use Rattle.wy_classes.specs.Once.{first_by, once, undecided}
 use Rattle.wy_classes.specs.Reached.{forces, is_forced_among, refuted_by, seen_unmet, AreEnough, IsNearer}
 use Rattle.wy_classes.specs.Unmet.{with_one, ArePlain}
 use Rattle.wy_classes.specs.declared.unmet.Reached.{Reached}
+use Rattle.wy_few.specs.Places.{number_place}
 use Rattle.wy_judge.specs.Judgement.{judged, of_atom}
 use Rattle.wy_judge.specs.Node.{Literal, Node, with_literal}
 use Rattle.wy_judge.specs.declared.verdict.Verdict.{Verdict}
@@ -108,83 +108,41 @@ all_unforced at node u a un_so = by (same_term (at u.by) a) refl
 
 -- ---- places of numbers
 
-before_len : (a : ℕ) (ks : List ℕ) (m k : ℕ) → m < position_or_len (eqb a) ks → slice_get ks m ≡ Some k → eqb a k ≡ false
-before_len a [] m k lt here = absurd (cc)
-before_len a (x ∷ xs) zero k lt here = by (eqb a x) refl lt
-  where
-    by : (b : Bool) → eqb a x ≡ b → 0 < cond (not b) (1 + position_or_len (eqb a) xs) 0 → eqb a k ≡ false
-    by true e l = absurd (omega (arith, l))
-    by false e l = ap (eqb a) (sym (some_is x k here)) ∙ e
-before_len a (x ∷ xs) (suc m) k lt here = by (before_len a xs m k) (eqb a x) lt
-  where
-    by : (m < position_or_len (eqb a) xs → slice_get xs m ≡ Some k → eqb a k ≡ false) → (b : Bool) → suc m < cond (not b) (1 + position_or_len (eqb a) xs) 0 → eqb a k ≡ false
-    by rest true l = absurd (omega (arith, l))
-    by rest false l = rest (omega (arith, l)) here
-
-at_len : (a : ℕ) (ks : List ℕ) (k : ℕ) → slice_get ks (position_or_len (eqb a) ks) ≡ Some k → eqb a k ≡ true
-at_len a [] k here = absurd (cc)
-at_len a (x ∷ xs) k here = by (at_len a xs k) (eqb a x) refl here
-  where
-    by : (slice_get xs (position_or_len (eqb a) xs) ≡ Some k → eqb a k ≡ true) → (b : Bool) → eqb a x ≡ b → slice_get (x ∷ xs) (cond (not b) (1 + position_or_len (eqb a) xs) 0) ≡ Some k → eqb a k ≡ true
-    by rest true e h = ap (eqb a) (sym (some_is x k h)) ∙ e
-    by rest false e h = let one : 1 + position_or_len (eqb a) xs ≡ suc (position_or_len (eqb a) xs) = omega arith in rest (ap (slice_get (x ∷ xs)) (sym one) ∙ h)
-
 get_within : {A : Type 0} (xs : List A) (m : ℕ) (x : A) → slice_get xs m ≡ Some x → m < length xs
 get_within [] m x here = absurd (cc)
 get_within (y ∷ ys) zero x here = omega arith
 get_within (y ∷ ys) (suc m) x here = let lt : m < length ys = get_within ys m x here in omega (arith, lt)
 
--- by whether it is found
-abbrev found : ℕ → List ℕ → Bool → Option ℕ
-found a ks b = cond b (Some (position_or_len (eqb a) ks)) None
-
-none_some : {A : Type 0} (x : A) (P : Type 0) → None ≡ Some x → P
-none_some x P e = absurd (cc)
-
-placed : (a : ℕ) (ks : List ℕ) (i : ℕ) → position (eqb a) ks ≡ Some i → position_or_len (eqb a) ks ≡ i
-placed a ks i is = by (nat_lt (position_or_len (eqb a) ks) (length ks)) is
-  where
-    by : (b : Bool) → found a ks b ≡ Some i → position_or_len (eqb a) ks ≡ i
-    by true e = some_is (position_or_len (eqb a) ks) i e
-    by false e = none_some i (position_or_len (eqb a) ks ≡ i) e
-
-nowhere : (a : ℕ) (ks : List ℕ) → position (eqb a) ks ≡ None → length ks ≤ position_or_len (eqb a) ks
-nowhere a ks is = by (nat_lt (position_or_len (eqb a) ks) (length ks)) refl is
-  where
-    by : (b : Bool) → nat_lt (position_or_len (eqb a) ks) (length ks) ≡ b → found a ks b ≡ None → length ks ≤ position_or_len (eqb a) ks
-    by true e f = none_some (position_or_len (eqb a) ks) (length ks ≤ position_or_len (eqb a) ks) (sym f)
-    by false e f = ltb-false (position_or_len (eqb a) ks) (length ks) e
-
 -- ---- nearer places
 
 module _ (at : ℕ → Term) (n : ℕ) (one : NamesOnce at n) (node : Node) (u : Reached) (within : u.by < n) (ks : List ℕ) (below : AreBelow n ks) where
-  apart_at : (m k : ℕ) → slice_get ks m ≡ Some k → eqb u.by k ≡ false → is_forced_among at node (u ∷ []) (at k) ≡ false
-  apart_at m k here un_so =
-      other_unforced at node u (at k) (apart_turned (at k) (at u.by) (sym (one k u.by (below_at n ks m k below here) within) ∙ un_so))
+  apart_at : (m k : ℕ) → slice_get ks m ≡ Some k → eqb k u.by ≡ false → is_forced_among at node (u ∷ []) (at k) ≡ false
+  apart_at m k here un_so = other_unforced at node u (at k) (sym (one u.by k within (below_at n ks m k below here)) ∙ un_so)
 
-  pub nearer_nowhere : (i : ℕ) → position (eqb u.by) ks ≡ None → IsNearer at node ks u i i
+  pub nearer_nowhere : (i : ℕ) → number_place ks u.by 0 ≡ None → IsNearer at node ks u i i
   nearer_nowhere i is = record {
     within = omega arith;
-    before = λ m k lt here. apart_at m k here (before_len u.by ks m k (let far = nowhere u.by ks is in let l = get_within ks m k here in omega (arith, far, l)) here);
+    before = λ m k lt here. apart_at m k here (without_place ks u.by 0 m k is here);
     here = inl refl;
   }
 
-  pub nearer_later : (i j : ℕ) → position (eqb u.by) ks ≡ Some j → i ≤ j → IsNearer at node ks u i i
+  pub nearer_later : (i j : ℕ) → number_place ks u.by 0 ≡ Some j → i ≤ j → IsNearer at node ks u i i
   nearer_later i j is le = record {
     within = omega arith;
-    before = λ m k lt here. apart_at m k here (before_len u.by ks m k (let e = placed u.by ks j is in omega (arith, e, le, lt)) here);
+    before = λ m k lt here. let l : m + 0 < j = omega (arith, le, lt) in apart_at m k here (before_place ks u.by 0 j m k is l here);
     here = inl refl;
   }
 
-  pub nearer_now : (i j : ℕ) → position (eqb u.by) ks ≡ Some j → j < i → forces at node u ≡ true → IsNearer at node ks u i j
+  pub nearer_now : (i j : ℕ) → number_place ks u.by 0 ≡ Some j → j < i → forces at node u ≡ true → IsNearer at node ks u i j
   nearer_now i j is lt up = record {
     within = omega (arith, lt);
-    before = λ m k l here. apart_at m k here (before_len u.by ks m k (let e = placed u.by ks j is in omega (arith, e, l)) here);
+    before = λ m k l here. let g : m + 0 < j = omega (arith, l) in apart_at m k here (before_place ks u.by 0 j m k is g here);
     here = inr (
       lt,
       λ k here.
-          let e : u.by ≡ k = eqb-true u.by k (at_len u.by ks k (ap (slice_get ks) (placed u.by ks j is) ∙ here)) in
-          ap (λ (m : ℕ). is_forced_among at node (u ∷ []) (at m)) (sym e) ∙ own_forced at node u ∙ up,
+          let there : j ≡ j + 0 = omega arith in
+          let e : k ≡ u.by = at_place ks u.by 0 j j k is there here in
+          ap (λ (m : ℕ). is_forced_among at node (u ∷ []) (at m)) e ∙ own_forced at node u ∙ up,
     );
   }
 

@@ -1,5 +1,7 @@
 -- lists in which each term stands once
 pub mod Once
+-- the code's list of them
+pub mod Atoms
 -- which pending formulas aren't judged yes
 pub mod Unmet
 pub mod Reached

@@ -3,15 +3,15 @@ ghost use Rattle.std.specs.Prelude.{◌≡◌, ◌<◌, ◌++◌, [], ◌∷◌,
 ghost use Rattle.wy_judge.specs.Judgement.{judged, of_atom};
 ghost use Rattle.wy_judging.specs.Seen.{AreBelow, IsBranch, seen_branch, seen_formula};
 ghost use Rattle.wy_search.specs.Splitting as splitting;
+ghost use Rattle.wy_classes.specs.Atoms.{AreAtoms};
 ghost use Rattle.wy_classes.specs.Once.{SameBranch, first_by, once, undecided};
 ghost use Rattle.wy_classes.specs.Reached.{AreEnough, AreWithin, IsNearer, IsWithin, forces, seen_unmet};
 ghost use Rattle.wy_classes.specs.Unmet.{ArePlain, with_one};
 ghost use Rattle.wy_term.specs.Nodes.{tree_at};
 ghost use Rattle.wy_valid.specs.Literals.{any_no, is_no};
 
-use crate::atoms::{atom_at, list_atoms};
+use crate::atoms::{Atoms, atom_at, atom_if_there, list_atoms, no_atoms, place_of_atom};
 use crate::unmet::{Reached, is_open, is_undecided, unmet};
-use indexmap::IndexSet;
 use wy_judging::{Branch, add_literal, back_to, fails, judge, nothing_known, pending_at};
 use wy_term::{NoMemory, Terms};
 
@@ -64,12 +64,12 @@ fn is_forcing(terms: &Terms, branch: &mut Branch, unmet: Reached) -> Result<bool
 }
 
 // The atoms of all pending formulas, each once.
-fn pending_atoms(terms: &Terms, branch: &Branch) -> Result<IndexSet<u32>, NoMemory>
+fn pending_atoms(terms: &Terms, branch: &Branch) -> Result<Atoms, NoMemory>
     requires { IsBranch terms.now branch.now }
-    ensures value { IfOk result (λ s. map (tree_at terms.now) s.keys ≡ once [] (splitting.atoms_of (seen_branch (tree_at terms.now) branch.now).pending)) }
-    ensures below { IfOk result (λ s. AreBelow (length terms.now) s.keys) }
+    ensures value { IfOk result (λ s. map (tree_at terms.now) s.list.items ≡ once [] (splitting.atoms_of (seen_branch (tree_at terms.now) branch.now).pending)) }
+    ensures found { IfOk result (AreAtoms (length terms.now)) }
 {
-    let mut found = IndexSet::new(terms.allocator());
+    let mut found = no_atoms(terms.allocator());
     for i in 0..branch.pending.len() {
         let (f, _) = pending_at(branch, i);
         list_atoms(terms, &mut found, f)?;
@@ -82,21 +82,22 @@ fn pending_atoms(terms: &Terms, branch: &Branch) -> Result<IndexSet<u32>, NoMemo
 fn nearer(
     terms: &Terms,
     branch: &mut Branch,
-    found: &IndexSet<u32>,
+    found: &Atoms,
     unmet: Reached,
     place: usize,
 ) -> Result<usize, NoMemory>
     requires within { IsWithin (length terms.now) unmet }
-    requires found { AreBelow (length terms.now) found.now.keys }
+    requires found { AreAtoms (length terms.now) found.now }
     requires branch { IsBranch terms.now branch.old }
-    ensures value { IfOk result (λ j. IsNearer (tree_at terms.now) (seen_branch (tree_at terms.now) branch.old) found.now.keys unmet place j) }
+    ensures value { IfOk result (λ j. IsNearer (tree_at terms.now) (seen_branch (tree_at terms.now) branch.old) found.now.list.items unmet place j) }
     ensures same { OnOk result (SameBranch branch.old branch.new) }
     ensures branch { OnOk result (IsBranch terms.now branch.new) }
 {
     terms.one_number_for_each_term();
-    let Some(i) = found.get_index_of(&unmet.by) else {
+    let Some(i) = place_of_atom(found, unmet.by) else {
         return Ok(place);
     };
+    let i = i as usize;
     if i >= place {
         return Ok(place);
     }
@@ -111,34 +112,34 @@ fn first_forced(
     terms: &Terms,
     branch: &mut Branch,
     left: &[Reached],
-    found: &IndexSet<u32>,
+    found: &Atoms,
 ) -> Result<Option<u32>, NoMemory>
-    requires found { AreBelow (length terms.now) found.now.keys }
-    requires plain { ArePlain (map (tree_at terms.now) found.now.keys) }
+    requires found { AreAtoms (length terms.now) found.now }
+    requires plain { ArePlain (map (tree_at terms.now) found.now.list.items) }
     requires branch { IsBranch terms.now branch.old }
     requires left { AreEnough (tree_at terms.now) (seen_branch (tree_at terms.now) branch.old) left.now }
     requires within { AreWithin (length terms.now) left.now }
-    ensures value { IfOk result (λ o. option_map (tree_at terms.now) o ≡ first_by (splitting.is_forced (seen_branch (tree_at terms.now) branch.old)) (map (tree_at terms.now) found.now.keys)) }
+    ensures value { IfOk result (λ o. option_map (tree_at terms.now) o ≡ first_by (splitting.is_forced (seen_branch (tree_at terms.now) branch.old)) (map (tree_at terms.now) found.now.list.items)) }
     ensures same { OnOk result (SameBranch branch.old branch.new) }
     ensures branch { OnOk result (IsBranch terms.now branch.new) }
     ensures below { IfOk result (λ o. IfSome o (λ a. a < length terms.now)) }
 {
-    let mut place = found.len();
+    let mut place = found.list.len();
     for i in 0..left.len() {
         let unmet = unmet_at(left, i);
         place = nearer(terms, branch, found, unmet, place)?;
     }
-    Ok(found.get_index(place).copied())
+    Ok(atom_if_there(found, place))
 }
 
 // The first atom of the list that is undecided.
-fn undecided_in(terms: &Terms, branch: &Branch, found: &IndexSet<u32>) -> Option<u32>
-    requires found { AreBelow (length terms.now) found.now.keys }
+fn undecided_in(terms: &Terms, branch: &Branch, found: &Atoms) -> Option<u32>
+    requires found { AreAtoms (length terms.now) found.now }
     requires branch { IsBranch terms.now branch.now }
-    ensures value { option_map (tree_at terms.now) result ≡ first_by (undecided (seen_branch (tree_at terms.now) branch.now)) (map (tree_at terms.now) found.now.keys) }
+    ensures value { option_map (tree_at terms.now) result ≡ first_by (undecided (seen_branch (tree_at terms.now) branch.now)) (map (tree_at terms.now) found.now.list.items) }
     ensures below { IfSome result (λ a. a < length terms.now) }
 {
-    for i in 0..found.len() {
+    for i in 0..found.list.len() {
         let a = atom_at(found, i);
         if is_undecided(terms, branch, a) {
             return Some(a);
@@ -154,7 +155,7 @@ fn first_undecided(terms: &Terms, branch: &Branch, f: u32) -> Result<Option<u32>
     ensures value { IfOk result (λ o. option_map (tree_at terms.now) o ≡ splitting.first_undecided (seen_branch (tree_at terms.now) branch.now) (splitting.atoms_in (tree_at terms.now f))) }
     ensures below { IfOk result (λ o. IfSome o (λ a. a < length terms.now)) }
 {
-    let mut found = IndexSet::new(terms.allocator());
+    let mut found = no_atoms(terms.allocator());
     list_atoms(terms, &mut found, f)?;
     Ok(undecided_in(terms, branch, &found))
 }

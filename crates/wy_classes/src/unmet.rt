@@ -6,6 +6,7 @@
 ghost use Rattle.std.specs.Prelude.{◌≡◌, ◌<◌, true, false, Some, map, length, slice_get, IfNone, IfOk, IfSome, OnOk};
 ghost use Rattle.wy_judging.specs.Judged.{fails};
 ghost use Rattle.wy_judging.specs.Seen.{AreBelow, IsBranch, seen_branch, seen_formula};
+ghost use Rattle.wy_classes.specs.Atoms.{AreAtoms};
 ghost use Rattle.wy_classes.specs.Unmet.{meets, HasOpen, HasTwoOpen, IsNeeded, IsSafe, IsSafeBut, IsSelfOrOpen, StaysOpen};
 ghost use Rattle.wy_classes.specs.Reached.{AreEnough, AreWithin, Notes, NotesShared};
 ghost use Rattle.wy_judge.specs.Judgement.{judged, of_atom};
@@ -15,8 +16,7 @@ ghost use Rattle.wy_term.specs.Nodes.{parts_at, tree_at};
 ghost use Rattle.wy_term.specs.Same.{same_term};
 ghost use Rattle.wy_valid.specs.Literals.{any_no};
 
-use crate::atoms::{atom_at, list_atoms};
-use indexmap::IndexSet;
+use crate::atoms::{Atoms, atom_at, list_atoms, no_atoms, place_of_atom};
 use wy_judge::Verdict;
 use wy_judging::{Branch, fails, has_literal, is_connective, judge, nothing_known, pending_at};
 use wy_term::{NoMemory, Node, Terms};
@@ -234,20 +234,20 @@ fn note_shared(
     left: &mut Vec<Reached>,
     formula: u32,
     holds: bool,
-    found: &IndexSet<u32>,
-    also: &IndexSet<u32>,
+    found: &Atoms,
+    also: &Atoms,
 ) -> Result<(), NoMemory>
     requires formula { formula < length terms.now }
-    requires found { AreBelow (length terms.now) found.now.keys }
-    requires also { AreBelow (length terms.now) also.now.keys }
+    requires found { AreAtoms (length terms.now) found.now }
+    requires also { AreAtoms (length terms.now) also.now }
     requires within { AreWithin (length terms.now) left.old.items }
-    ensures value { OnOk result (NotesShared (tree_at terms.now) (seen_formula (tree_at terms.now) (formula, holds)) (map (tree_at terms.now) found.now.keys) (map (tree_at terms.now) also.now.keys) left.old.items left.new.items) }
+    ensures value { OnOk result (NotesShared (tree_at terms.now) (seen_formula (tree_at terms.now) (formula, holds)) (map (tree_at terms.now) found.now.list.items) (map (tree_at terms.now) also.now.list.items) left.old.items left.new.items) }
     ensures within { OnOk result (AreWithin (length terms.now) left.new.items) }
 {
     terms.one_number_for_each_term();
-    for i in 0..found.len() {
+    for i in 0..found.list.len() {
         let by = atom_at(found, i);
-        if !also.contains(&by) {
+        if place_of_atom(also, by).is_none() {
             continue;
         }
         left.push(Reached { formula, holds, by })?;
@@ -270,9 +270,9 @@ fn note_each(
     ensures value { OnOk result (NotesShared (tree_at terms.now) (seen_formula (tree_at terms.now) (formula, holds)) (atoms_in (tree_at terms.now needed.0)) (atoms_in (tree_at terms.now needed.1)) left.old.items left.new.items) }
     ensures within { OnOk result (AreWithin (length terms.now) left.new.items) }
 {
-    let mut found = IndexSet::new(terms.allocator());
+    let mut found = no_atoms(terms.allocator());
     list_atoms(terms, &mut found, needed.0)?;
-    let mut also = IndexSet::new(terms.allocator());
+    let mut also = no_atoms(terms.allocator());
     list_atoms(terms, &mut also, needed.1)?;
     note_shared(terms, left, formula, holds, &found, &also)
 }

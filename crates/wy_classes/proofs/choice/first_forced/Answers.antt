@@ -12,7 +12,7 @@ pub loop-i-init : goal.loop-i-init
 loop-i-init c =
     let at = tree_at c.args.terms.now in
     record {
-      so = nearest_begin at (seen_branch at c.args.branch.now) c.args.found.now.keys c.args.left.now c.len-place.result c.requires.plain c.requires.left c.len-place.ensures.len;
+      so = nearest_begin at (seen_branch at c.args.branch.now) c.args.found.now.list.items c.args.left.now c.len-place.result c.requires.plain c.requires.left c.len-place.ensures.len;
       same = same_self c.args.branch.now;
       branch = c.requires.branch;
     }
@@ -23,10 +23,10 @@ nearer-requires-clause-within c = within_at (length c.args.terms.now) c.args.lef
 pub loop-i-preserved : goal.loop-i-preserved
 loop-i-preserved c =
     let at = tree_at c.args.terms.now in
-    let near : IsNearer at (seen_branch at c.args.branch.now) c.args.found.now.keys c.unmet_at-unmet.result c.loop-i.place c.in_ok-place.place =
-    subst (λ (m : Node). IsNearer at m c.args.found.now.keys c.unmet_at-unmet.result c.loop-i.place c.in_ok-place.place) (seen_same at c.args.branch.now c.loop-i.branch c.loop-i.invariant.same) c.in_ok-place.ensures.value in
+    let near : IsNearer at (seen_branch at c.args.branch.now) c.args.found.now.list.items c.unmet_at-unmet.result c.loop-i.place c.in_ok-place.place =
+    subst (λ (m : Node). IsNearer at m c.args.found.now.list.items c.unmet_at-unmet.result c.loop-i.place c.in_ok-place.place) (seen_same at c.args.branch.now c.loop-i.branch c.loop-i.invariant.same) c.in_ok-place.ensures.value in
     record {
-      so = nearest_next at (seen_branch at c.args.branch.now) c.args.found.now.keys c.args.left.now c.loop-i.i c.unmet_at-unmet.result c.loop-i.place c.in_ok-place.place c.unmet_at-unmet.ensures near c.loop-i.invariant.so;
+      so = nearest_next at (seen_branch at c.args.branch.now) c.args.found.now.list.items c.args.left.now c.loop-i.i c.unmet_at-unmet.result c.loop-i.place c.in_ok-place.place c.unmet_at-unmet.ensures near c.loop-i.invariant.so;
       same = same_again c.args.branch.now c.loop-i.branch c.nearer.new.branch c.loop-i.invariant.same c.in_ok-place.ensures.same;
       branch = c.in_ok-place.ensures.branch;
     }
@@ -35,8 +35,8 @@ pub returns-clause-value : goal.returns-clause-value
 returns-clause-value c =
     let at = tree_at c.args.terms.now in
     let le : length c.args.left.now ≤ c.loop-i.i = omega (arith, c.loop-i-test.false) in
-    ap (option_map at) (c.copied.ensures ∙ c.get_index.ensures.key)
-    ∙ nearest_end at (seen_branch at c.args.branch.now) c.args.found.now.keys c.args.left.now c.loop-i.i c.loop-i.place le c.loop-i.invariant.so
+    ap (option_map at) (c.atom_if_there.ensures)
+    ∙ nearest_end at (seen_branch at c.args.branch.now) c.args.found.now.list.items c.args.left.now c.loop-i.i c.loop-i.place le c.loop-i.invariant.so
 
 pub returns-clause-below : goal.returns-clause-below
-returns-clause-below c = below_found (length c.args.terms.now) c.args.found.now.keys c.loop-i.place c.copied.result c.requires.found (c.copied.ensures ∙ c.get_index.ensures.key)
+returns-clause-below c = below_found (length c.args.terms.now) c.args.found.now.list.items c.loop-i.place c.atom_if_there.result c.requires.found.below (c.atom_if_there.ensures)

@@ -8,7 +8,7 @@ use Rattle.wy_term.specs.Nodes.{tree_at}
 -- of what was looked at, none forces an atom before the place, and the one at the place is forced
 abbrev pub invariant-loop-i : goal.invariant-loop-i
 invariant-loop-i l = record {
-  so : SoFar (tree_at l.terms) (seen_branch (tree_at l.terms) l.fn.branch) l.found.keys (drop l.i l.left) l.place;
+  so : SoFar (tree_at l.terms) (seen_branch (tree_at l.terms) l.fn.branch) l.found.list.items (drop l.i l.left) l.place;
   same : SameBranch l.fn.branch l.branch;
   branch : IsBranch l.terms l.branch;
 }

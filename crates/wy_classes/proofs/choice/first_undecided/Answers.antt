@@ -10,7 +10,7 @@ pub returns-clause-value : goal.returns-clause-value
 returns-clause-value c =
     let at = tree_at c.args.terms.now in
     let node = seen_branch at c.args.branch.now in
-    let nothing : c.new-found.result.keys ≡ [] = search rules in
+    let nothing : c.no_atoms-found.result.list.items ≡ [] = search rules in
     c.undecided_in.ensures.value
     ∙ ap (first_by (undecided node)) (c.in_ok-list_atoms.ensures.value ∙ ap (λ (ks : List ℕ). once (map at ks) (atoms_in (at c.args.f))) nothing)
     ∙ once_undecided node (atoms_in (at c.args.f))

@@ -10,27 +10,27 @@ returns-in_default-clause-value c =
     let at = tree_at c.args.terms.now in
     let n = length c.args.terms.now in
     let once : NamesOnce at n = names_once at n (λ s t ls lt e. (c.one_number_for_each_term.ensures.one s t ls lt).1 e) in
-    let none : c.get_index_of.result ≡ None = search rules in
-    nearer_nowhere at n once (seen_branch at c.args.branch.now) c.args.unmet c.requires.within.by c.args.found.now.keys c.requires.found c.args.place (sym c.get_index_of.ensures.index ∙ none)
+    let none : c.place_of_atom.result ≡ None = search rules in
+    nearer_nowhere at n once (seen_branch at c.args.branch.now) c.args.unmet c.requires.within.by c.args.found.now.list.items c.requires.found.below c.args.place (sym c.place_of_atom.ensures ∙ none)
 
 pub returns-then-i-place-clause-value : goal.returns-then-i-place-clause-value
 returns-then-i-place-clause-value c =
     let at = tree_at c.args.terms.now in
     let n = length c.args.terms.now in
     let once : NamesOnce at n = names_once at n (λ s t ls lt e. (c.one_number_for_each_term.ensures.one s t ls lt).1 e) in
-    let some : c.get_index_of.result ≡ Some c.in-Some.i = search rules in
+    let some : c.place_of_atom.result ≡ Some c.in-Some.i = search rules in
     let le : c.args.place ≤ c.in-Some.i = omega (arith, c.if-i-place.true) in
-    nearer_later at n once (seen_branch at c.args.branch.now) c.args.unmet c.requires.within.by c.args.found.now.keys c.requires.found c.args.place c.in-Some.i (sym c.get_index_of.ensures.index ∙ some) le
+    nearer_later at n once (seen_branch at c.args.branch.now) c.args.unmet c.requires.within.by c.args.found.now.list.items c.requires.found.below c.args.place c.in-Some.i (sym c.place_of_atom.ensures ∙ some) le
 
 pub returns-then-branch-clause-value : goal.returns-then-branch-clause-value
 returns-then-branch-clause-value c =
     let at = tree_at c.args.terms.now in
     let n = length c.args.terms.now in
     let once : NamesOnce at n = names_once at n (λ s t ls lt e. (c.one_number_for_each_term.ensures.one s t ls lt).1 e) in
-    let some : c.get_index_of.result ≡ Some c.in-Some.i = search rules in
+    let some : c.place_of_atom.result ≡ Some c.in-Some.i = search rules in
     let lt : c.in-Some.i < c.args.place = omega (arith, c.if-i-place.false) in
     let up : c.in_ok-is_forcing.field-0 ≡ true = search rules in
-    nearer_now at n once (seen_branch at c.args.branch.now) c.args.unmet c.requires.within.by c.args.found.now.keys c.requires.found c.args.place c.in-Some.i (sym c.get_index_of.ensures.index ∙ some) lt (sym c.in_ok-is_forcing.ensures.value ∙ up)
+    nearer_now at n once (seen_branch at c.args.branch.now) c.args.unmet c.requires.within.by c.args.found.now.list.items c.requires.found.below c.args.place c.in-Some.i (sym c.place_of_atom.ensures ∙ some) lt (sym c.in_ok-is_forcing.ensures.value ∙ up)
 
 pub returns-clause-value : goal.returns-clause-value
 returns-clause-value c =
@@ -38,4 +38,4 @@ returns-clause-value c =
     let n = length c.args.terms.now in
     let once : NamesOnce at n = names_once at n (λ s t ls lt e. (c.one_number_for_each_term.ensures.one s t ls lt).1 e) in
     let un : c.in_ok-is_forcing.field-0 ≡ false = search rules in
-    nearer_not at n once (seen_branch at c.args.branch.now) c.args.unmet c.requires.within.by c.args.found.now.keys c.requires.found c.args.place (sym c.in_ok-is_forcing.ensures.value ∙ un)
+    nearer_not at n once (seen_branch at c.args.branch.now) c.args.unmet c.requires.within.by c.args.found.now.list.items c.requires.found.below c.args.place (sym c.in_ok-is_forcing.ensures.value ∙ un)

@@ -11,6 +11,6 @@ pub loop-i-preserved : goal.loop-i-preserved
 loop-i-preserved c =
     let at = tree_at c.args.terms.now in
     record {
-      left = atoms_behind at c.args.branch.now.pending.keys c.loop-i.i c.pending_at-f.result (map at c.loop-i.found.keys) (map at c.list_atoms.new.found.keys) _ c.pending_at-f.ensures c.loop-i.invariant.left c.in_ok-list_atoms.ensures.value;
-      below = c.in_ok-list_atoms.ensures.below;
+      left = atoms_behind at c.args.branch.now.pending.keys c.loop-i.i c.pending_at-f.result (map at c.loop-i.found.list.items) (map at c.list_atoms.new.found.list.items) _ c.pending_at-f.ensures c.loop-i.invariant.left c.in_ok-list_atoms.ensures.value;
+      found = c.in_ok-list_atoms.ensures.found;
     }

@@ -7,4 +7,4 @@ use Rattle.wy_term.specs.Nodes.{tree_at}
 -- none so far is undecided
 abbrev pub invariant-loop-i : goal.invariant-loop-i
 invariant-loop-i l =
-    first_by (undecided (seen_branch (tree_at l.terms) l.branch)) (map (tree_at l.terms) (drop l.i l.found.keys)) ≡ first_by (undecided (seen_branch (tree_at l.terms) l.branch)) (map (tree_at l.terms) l.found.keys)
+    first_by (undecided (seen_branch (tree_at l.terms) l.branch)) (map (tree_at l.terms) (drop l.i l.found.list.items)) ≡ first_by (undecided (seen_branch (tree_at l.terms) l.branch)) (map (tree_at l.terms) l.found.list.items)

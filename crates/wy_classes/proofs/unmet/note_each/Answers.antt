@@ -11,9 +11,9 @@ returns-clause-value c =
     let at = tree_at c.args.terms.now in
     let one = atoms_in (at c.args.needed.0) in
     let other = atoms_in (at c.args.needed.1) in
-    let nothing : c.new-found.result.keys ≡ [] = search rules in
-    let none : c.new-also.result.keys ≡ [] = search rules in
+    let nothing : c.no_atoms-found.result.list.items ≡ [] = search rules in
+    let none : c.no_atoms-also.result.list.items ≡ [] = search rules in
     where_ok c.note_shared.result
-    (shared_in at (seen_formula at (c.args.formula, c.args.holds)) (map at c.list_atoms.new.found.keys) (map at c.list_atoms-2.new.found.keys) one other c.args.left.now.items c.note_shared.new.left.items
+    (shared_in at (seen_formula at (c.args.formula, c.args.holds)) (map at c.list_atoms.new.found.list.items) (map at c.list_atoms-2.new.found.list.items) one other c.args.left.now.items c.note_shared.new.left.items
     (c.in_ok-list_atoms.ensures.value ∙ ap (λ (ks : List ℕ). once (map at ks) one) nothing)
     (c.in_ok-list_atoms-2.ensures.value ∙ ap (λ (ks : List ℕ). once (map at ks) other) none)) c.note_shared.ensures.value

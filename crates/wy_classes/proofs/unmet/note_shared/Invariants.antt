@@ -8,6 +8,6 @@ use Rattle.wy_term.specs.Nodes.{tree_at}
 -- the atoms so far that stand in both lists are noted
 abbrev pub invariant-loop-i : goal.invariant-loop-i
 invariant-loop-i l = record {
-  leads : Leads (tree_at l.terms) (seen_formula (tree_at l.terms) (l.formula, l.holds)) (map (tree_at l.terms) l.found.keys) (map (tree_at l.terms) l.also.keys) (map (tree_at l.terms) (drop l.i l.found.keys)) l.fn.left.items l.left.items;
+  leads : Leads (tree_at l.terms) (seen_formula (tree_at l.terms) (l.formula, l.holds)) (map (tree_at l.terms) l.found.list.items) (map (tree_at l.terms) l.also.list.items) (map (tree_at l.terms) (drop l.i l.found.list.items)) l.fn.left.items l.left.items;
   within : AreWithin (length l.terms) l.left.items;
 }
