@@ -1,11 +1,10 @@
-use Rattle.std.proofs.Common.{◌≡◌, ◌≤◌, [], false, length, map, ap}
+use Rattle.std.proofs.Common.{[], length, map, ap}
 use Rattle.wy_judging.proofs.BranchLemmas.{bare_put, over_put, pending_put}
 use Rattle.wy_judging.proofs.NameLemmas.{NamesOnce, names_once}
 use Rattle.wy_judging.specs.Seen.{seen_formula}
 use Rattle.wy_classes.proofs.GoneLemmas.{known_there, no_longer}
 use Rattle.wy_classes.proofs.StandingLemmas.{listed_put}
 use Rattle.wy_classes.proofs.walk.list_first.Goals as goal
-use Rattle.wy_classes.specs.Marks.{listed_unless}
 use Rattle.wy_judge.specs.Node.{Node}
 use Rattle.wy_term.specs.Nodes.{tree_at}
 
@@ -22,14 +21,9 @@ returns-clause-value c =
 pub returns-clause-known : goal.returns-clause-known
 returns-clause-known c = λ un.
     let at = tree_at c.args.terms.now in
-    let n = length c.args.terms.now in
     let old = c.args.found.now.keys.items in
     let new = c.list.new.set.keys.items in
-    let once : NamesOnce at n = names_once at n (λ s t ls lt e. (c.one_number_for_each_term.ensures.one s t ls lt).1 e) in
-    let is : map (seen_formula at) new ≡ listed_unless false (map (seen_formula at) old) (seen_formula at (c.args.k, c.args.holds)) =
-    listed_put (map (seen_formula at) old) (map (seen_formula at) new) (seen_formula at (c.args.k, c.args.holds))
-    (ap (λ (node : Node). node.pending) (pending_put at n once old new [] (c.args.k, c.args.holds) c.requires.listed.over c.requires.listed.bare c.requires.term c.requires.bare c.in_ok-list.ensures.value)) in
-    known_there at old new (seen_formula at (c.args.k, c.args.holds)) is (no_longer old new (c.args.k, c.args.holds) _ c.in_ok-list.ensures.value c.in_ok-list.ensures.told un)
+    known_there at old new (seen_formula at (c.args.k, c.args.holds)) (returns-clause-value c) (no_longer old new (c.args.k, c.args.holds) _ c.in_ok-list.ensures.value c.in_ok-list.ensures.told un)
 
 pub returns-clause-listed : goal.returns-clause-listed
 returns-clause-listed c = record {
