@@ -1,9 +1,6 @@
 -- Terms listed once each, and the first that passes a test.
-use Rattle.std.proofs.Common.{◌≡◌, ◌<◌, ◌||◌, ℕ, zero, suc, arith, Bool, true, false, cond, eqb, List, [], ◌∷◌, ◌++◌, map, Option, Some, None, refl, sym, ap, subst, ◌∙◌}
-use Rattle.std.specs.List.{list_any}
+use Rattle.std.proofs.Common.{◌≡◌, ◌||◌, Bool, true, false, cond, List, [], ◌∷◌, ◌++◌, Option, Some, None, refl, sym, ap, subst, ◌∙◌}
 use Rattle.wy_judge.specs.Node.{has_formula}
-use Rattle.wy_judging.proofs.NameLemmas.{NamesOnce}
-use Rattle.wy_judging.specs.Seen.{AreBelow}
 use Rattle.wy_search.specs.Splitting.{atoms_in, atoms_in_parts, atoms_of, joined_atoms, or_else}
 use Rattle.wy_classes.specs.Once.{first_by, once}
 use Rattle.wy_classes.specs.Unmet.{ArePlain}
@@ -146,41 +143,3 @@ plain_once done (x ∷ xs) p q = plain_once (with_one done x) xs (by (has_formul
 
 pub plain_listed : (ts fs : List Term) → ts ≡ once [] (atoms_of fs) → ArePlain ts
 plain_listed ts fs is = subst ArePlain (sym is) (plain_once [] (atoms_of fs) tt (plain_all fs))
-
--- ---- numbers that name the terms
-
-pub among : (at : ℕ → Term) (n : ℕ) → NamesOnce at n → (ks : List ℕ) (k : ℕ) → AreBelow n ks → k < n → has_formula (map at ks) (at k) ≡ list_any (eqb k) ks
-among at n one [] k below lt = refl
-among at n one (j ∷ js) k below lt =
-    ap (λ (b : Bool). cond b true (has_formula (map at js) (at k))) (sym (one j k (below 0 j (omega arith)) lt))
-    ∙ ap (λ (b : Bool). cond (eqb k j) true b) (among at n one js k (λ i d l. below (suc i) d (omega (arith, l))) lt)
-    ∙ as_or (eqb k j) (list_any (eqb k) js)
-  where
-    as_or : (a b : Bool) → cond a true b ≡ (a || b)
-    as_or true b = refl
-    as_or false b = refl
-
-map_last : (at : ℕ → Term) (ks : List ℕ) (k : ℕ) → map at (ks ++ k ∷ []) ≡ map at ks ++ at k ∷ []
-map_last at [] k = refl
-map_last at (j ∷ js) k = ap (λ ts. at j ∷ ts) (map_last at js k)
-
-pub noted : (at : ℕ → Term) (n : ℕ) → NamesOnce at n → (ks js : List ℕ) (k : ℕ) → AreBelow n ks → k < n → js ≡ cond (list_any (eqb k) ks) ks (ks ++ k ∷ []) → map at js ≡ once (map at ks) (at k ∷ [])
-noted at n one ks js k below lt is =
-    ap (map at) is ∙ by (list_any (eqb k) ks) ∙ ap (λ (b : Bool). cond b (map at ks) (map at ks ++ at k ∷ [])) (sym (among at n one ks k below lt))
-  where
-    by : (b : Bool) → map at (cond b ks (ks ++ k ∷ [])) ≡ cond b (map at ks) (map at ks ++ at k ∷ [])
-    by true = refl
-    by false = map_last at ks k
-
-below_last : (n : ℕ) (k : ℕ) → k < n → (xs : List ℕ) → AreBelow n xs → AreBelow n (xs ++ k ∷ [])
-below_last n k lt [] b zero d l = lt
-below_last n k lt [] b (suc i) d l = absurd (omega (arith, l))
-below_last n k lt (x ∷ xs) b zero d l = b 0 d (omega arith)
-below_last n k lt (x ∷ xs) b (suc i) d l = below_last n k lt xs (λ j e m. b (suc j) e (omega (arith, m))) i d (omega (arith, l))
-
-pub noted_below : (n : ℕ) (ks js : List ℕ) (k : ℕ) → AreBelow n ks → k < n → js ≡ cond (list_any (eqb k) ks) ks (ks ++ k ∷ []) → AreBelow n js
-noted_below n ks js k below lt is = subst (AreBelow n) (sym is) (by (list_any (eqb k) ks))
-  where
-    by : (b : Bool) → AreBelow n (cond b ks (ks ++ k ∷ []))
-    by true = below
-    by false = below_last n k lt ks below

@@ -1,7 +1,7 @@
 //! The atom on which a node splits.
 ghost use Rattle.std.specs.Prelude.{◌≡◌, ◌<◌, ◌++◌, [], ◌∷◌, true, Some, map, length, option_map, slice_get, IfOk, IfSome, OnOk};
 ghost use Rattle.wy_judge.specs.Judgement.{judged, of_atom};
-ghost use Rattle.wy_judging.specs.Seen.{AreBelow, IsBranch, seen_branch, seen_formula};
+ghost use Rattle.wy_judging.specs.Seen.{IsBranch, seen_branch, seen_formula};
 ghost use Rattle.wy_search.specs.Splitting as splitting;
 ghost use Rattle.wy_classes.specs.Atoms.{AreAtoms};
 ghost use Rattle.wy_classes.specs.Once.{SameBranch, first_by, once, undecided};

@@ -1,4 +1,4 @@
-use Rattle.std.proofs.Common.{◌∙◌, ◌≤◌, length, arith, ap, option_map, subst}
+use Rattle.std.proofs.Common.{◌≡◌, ◌∙◌, ◌≤◌, length, arith, ap, option_map, rules, subst}
 use Rattle.wy_classes.proofs.DecidingLemmas.{same_again, same_self, seen_same}
 use Rattle.wy_classes.proofs.NearestLemmas.{below_found, nearest_begin, nearest_end, nearest_next}
 use Rattle.wy_classes.proofs.UnmetLemmas.{within_at}
@@ -11,8 +11,9 @@ use Rattle.wy_term.specs.Nodes.{tree_at}
 pub loop-i-init : goal.loop-i-init
 loop-i-init c =
     let at = tree_at c.args.terms.now in
+    let many : c.len-place.result ≡ length c.args.found.now.list.items = search rules in
     record {
-      so = nearest_begin at (seen_branch at c.args.branch.now) c.args.found.now.list.items c.args.left.now c.len-place.result c.requires.plain c.requires.left c.len-place.ensures.len;
+      so = nearest_begin at (seen_branch at c.args.branch.now) c.args.found.now.list.items c.args.left.now c.len-place.result c.requires.plain c.requires.left many;
       same = same_self c.args.branch.now;
       branch = c.requires.branch;
     }

@@ -1,10 +1,13 @@
-use Rattle.std.proofs.Common.{◌≡◌, ◌∙◌, ℕ, List, [], ap, map, rules}
+use Rattle.std.proofs.Common.{◌≡◌, ◌∙◌, ℕ, List, [], ap, length, map, rules}
 use Rattle.wy_judging.specs.Seen.{seen_branch}
 use Rattle.wy_search.specs.Splitting.{atoms_in}
 use Rattle.wy_classes.proofs.FirstLemmas.{once_undecided}
 use Rattle.wy_classes.proofs.choice.first_undecided.Goals as goal
 use Rattle.wy_classes.specs.Once.{first_by, once, undecided}
 use Rattle.wy_term.specs.Nodes.{tree_at}
+
+pub list_atoms-requires-clause-found : goal.list_atoms-requires-clause-found
+list_atoms-requires-clause-found c = c.no_atoms-found.ensures.atoms (length c.args.terms.now)
 
 pub returns-clause-value : goal.returns-clause-value
 returns-clause-value c =

@@ -1,10 +1,16 @@
-use Rattle.std.proofs.Common.{◌≡◌, ◌∙◌, ℕ, List, [], ap, map, rules}
+use Rattle.std.proofs.Common.{◌≡◌, ◌∙◌, ℕ, List, [], ap, length, map, rules}
 use Rattle.wy_classes.proofs.UnmetLemmas.{shared_in, where_ok}
 use Rattle.wy_classes.proofs.unmet.note_each.Goals as goal
 use Rattle.wy_classes.specs.Once.{once}
 use Rattle.wy_judging.specs.Seen.{seen_formula}
 use Rattle.wy_search.specs.Splitting.{atoms_in}
 use Rattle.wy_term.specs.Nodes.{tree_at}
+
+pub list_atoms-requires-clause-found : goal.list_atoms-requires-clause-found
+list_atoms-requires-clause-found c = c.no_atoms-found.ensures.atoms (length c.args.terms.now)
+
+pub list_atoms-requires-2-clause-found : goal.list_atoms-requires-2-clause-found
+list_atoms-requires-2-clause-found c = c.no_atoms-also.ensures.atoms (length c.args.terms.now)
 
 pub returns-clause-value : goal.returns-clause-value
 returns-clause-value c =

@@ -39,5 +39,6 @@ loop-i-preserved c =
 pub returns-clause-value : goal.returns-clause-value
 returns-clause-value c =
     let at = tree_at c.args.terms.now in
-    let le : length c.args.found.now.list.items ≤ c.loop-i.i = subst (λ n. n ≤ c.loop-i.i) c.len-i-end.ensures.len c.loop-i-test.false in
+    let many : c.len-i-end.result ≡ length c.args.found.now.list.items = search rules in
+    let le : length c.args.found.now.list.items ≤ c.loop-i.i = subst (λ n. n ≤ c.loop-i.i) many c.loop-i-test.false in
     shared_end at (seen_formula at (c.args.formula, c.args.holds)) c.args.found.now.list.items c.loop-i.i (map at c.args.found.now.list.items) (map at c.args.also.now.list.items) c.args.left.now.items c.loop-i.left.items le c.loop-i.invariant.leads
