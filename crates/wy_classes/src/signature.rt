@@ -126,13 +126,7 @@ pub fn signature(terms: &Terms, present: &Present, labels: &[u32], s: u32) -> Re
         )),
         _ => {
             let parts = parts_of(terms.allocator(), node)?;
-            Ok(mixed_classes(
-                terms,
-                present,
-                labels,
-                head_number(node),
-                &parts,
-            ))
+            Ok(mixed_classes(terms, present, labels, head_number(node), &parts))
         }
     }
 }

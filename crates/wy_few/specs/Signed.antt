@@ -1,5 +1,5 @@
 -- Numbers with signs in a row, and which of them are noted.
-use Rattle.std.specs.Prelude.{◌≡◌, ℕ, Bool, false, ◌&&◌, ◌||◌, List, [], ◌∷◌, ◌++◌, length, nat_eq, nat_le, if◌then◌else◌}
+use Rattle.std.specs.Prelude.{◌≡◌, ℕ, Bool, false, ◌&&◌, ◌||◌, List, [], ◌∷◌, ◌++◌, length, nat_eq, nat_le, ◌%◌, Option, None, is_some, slice_index_or, if◌then◌else◌}
 use Rattle.std.specs.Bool.{beq}
 use Rattle.std.specs.HashSet.{contains}
 use Rattle.std.specs.List.{list_any}
@@ -21,9 +21,15 @@ listed keys p = if is_among keys p then keys else keys ++ p ∷ []
 abbrev pub noted_from : ℕ → List (ℕ × Bool) → ℕ × Bool → Bool
 noted_from n keys p = if nat_le n (length keys) then is_among keys p else false
 
--- of few nothing is noted, and of more all
-abbrev pub IsSignedSet : SignedSet → Type 0
-IsSignedSet s = (p : ℕ × Bool) → contains same_key s.table p ≡ noted_from 49 s.keys.items p
+-- where the last number stands that has the same remainder, if there is one
+abbrev pub last_of : List (Option ℕ) → ℕ → Option ℕ
+last_of last k = slice_index_or last (k % 256) None
+
+-- of few nothing is noted in the table, and of more all; where no number has a remainder, none that has it is there
+pub record IsSignedSet (s : SignedSet) : Type 0 where
+  pub table : (p : ℕ × Bool) → contains same_key s.table p ≡ noted_from 81 s.keys.items p
+  pub many : length s.last.items ≡ 256
+  pub last : (p : ℕ × Bool) → is_some (last_of s.last.items p.0) ≡ false → is_among s.keys.items p ≡ false
 
 -- these are noted besides
 abbrev pub NotesAll : (ℕ × Bool → Bool) → (ℕ × Bool → Bool) → List (ℕ × Bool) → Type 0

@@ -1,18 +1,23 @@
 //! Numbers that hold or are denied, each once, in the order in which they came.
 ghost use Rattle.std.specs.Prelude.{◌≡◌, ◌≤◌, ◌++◌, ◌∷◌, ℕ, Bool, [], false, true, not, length, IfOk, OnOk};
 ghost use Rattle.std.specs.HashSet.{contains};
-ghost use Rattle.wy_few.specs.Signed.{is_among, listed, noted_from, same_key, IsSignedSet, NotesAll};
+ghost use Rattle.wy_few.specs.Signed.{is_among, last_of, listed, noted_from, same_key, IsSignedSet, NotesAll};
 
 use std::alloc::{AllocError, Global};
 use std::collections::HashSet;
 
 // How many are looked through.
-const FEW: usize = 48;
+const FEW: usize = 80;
 
-/// Numbers, each with whether it holds, and, where they are more than a few, a table of them.
+// How many remainders of numbers are told apart.
+const REMAINDERS: usize = 256;
+
+/// Numbers, each with whether it holds; for each remainder by 256 the place of the last number that has it, if there is one; and,
+/// where the numbers are more than a few, a table of them.
 #[derive(Drop)]
 pub struct SignedSet {
     pub keys: Vec<(u32, bool)>,
+    pub last: Vec<Option<u32>>,
     pub table: HashSet<(u32, bool)>,
 }
 
@@ -23,6 +28,7 @@ pub fn no_signed(alloc: Global, room: usize) -> Result<SignedSet, AllocError>
 {
     Ok(SignedSet {
         keys: Vec::with_capacity(alloc, room)?,
+        last: vec![in alloc; None; REMAINDERS]?,
         table: HashSet::new(alloc),
     })
 }
@@ -38,9 +44,26 @@ fn is_among_few(keys: &[(u32, bool)], k: u32, holds: bool) -> bool
     false
 }
 
-/// Whether a number is there that holds, or that is denied. Few are looked through, and of more the table tells it in constant
-/// time on average.
-pub fn is_listed(set: &SignedSet, k: u32, holds: bool) -> bool
+// The place of the last number that has the same remainder as this one.
+fn last_like(set: &SignedSet, k: u32) -> Option<u32>
+    requires { IsSignedSet set.now }
+    ensures { result ≡ last_of set.now.last.items k }
+{
+    set.last[k as usize % REMAINDERS]
+}
+
+// Whether the number with its sign stands at a place.
+fn is_at(keys: &[(u32, bool)], place: u32, k: u32, holds: bool) -> bool
+    ensures { result ≡ true → is_among keys.now (k, holds) ≡ true }
+{
+    match keys.get(place as usize) {
+        Some(key) => key.0 == k && key.1 == holds,
+        None => false,
+    }
+}
+
+// Whether it is there, by looking through few, or by the table.
+fn is_among_all(set: &SignedSet, k: u32, holds: bool) -> bool
     requires { IsSignedSet set.now }
     ensures { result ≡ is_among set.now.keys.items (k, holds) }
 {
@@ -48,6 +71,18 @@ pub fn is_listed(set: &SignedSet, k: u32, holds: bool) -> bool
         return is_among_few(&set.keys, k, holds);
     }
     set.table.contains(&(k, holds))
+}
+
+/// Whether a number is there that holds, or that is denied. Where no number has the same remainder, or the last one that has it is
+/// this one, it takes constant time; else few are looked through, and of more the table tells it in constant time on average.
+pub fn is_listed(set: &SignedSet, k: u32, holds: bool) -> bool
+    requires { IsSignedSet set.now }
+    ensures { result ≡ is_among set.now.keys.items (k, holds) }
+{
+    match last_like(set, k) {
+        None => false,
+        Some(place) => is_at(&set.keys, place, k, holds) || is_among_all(set, k, holds),
+    }
 }
 
 // Notes all of these in a table.
@@ -64,7 +99,8 @@ fn note_all(table: &mut HashSet<(u32, bool)>, keys: &[(u32, bool)]) -> Result<()
 fn note_few(set: &mut SignedSet) -> Result<(), AllocError>
     requires set { IsSignedSet set.old }
     ensures keys { set.new.keys ≡ set.old.keys }
-    ensures table { OnOk result ((p : ℕ × Bool) → contains same_key set.new.table p ≡ noted_from 48 set.old.keys.items p) }
+    ensures last { set.new.last ≡ set.old.last }
+    ensures table { OnOk result ((p : ℕ × Bool) → contains same_key set.new.table p ≡ noted_from 80 set.old.keys.items p) }
 {
     if set.keys.len() == FEW {
         return note_all(&mut set.table, &set.keys);
@@ -83,8 +119,10 @@ pub fn list(set: &mut SignedSet, k: u32, holds: bool) -> Result<bool, AllocError
         return Ok(false);
     }
     let count = set.keys.len();
+    let place = u32::try_from(count).map_err(|_| AllocError)?;
     note_few(set)?;
     set.keys.push((k, holds))?;
+    set.last[k as usize % REMAINDERS] = Some(place);
     if count >= FEW {
         set.table.insert((k, holds))?;
     }
