@@ -56,7 +56,7 @@ listed_next old new keys more k was many long puts is p =
 
 -- ---- the last number of each remainder
 
-remainder_below : (n : ℕ) → n % 256 < 256
+remainder_below : (n : ℕ) → n % 128 < 128
 remainder_below n = search rules
 
 unlike : (keys more : List (ℕ × Bool)) (k p : ℕ × Bool) → more ≡ keys ++ k ∷ [] → eqb k.0 p.0 ≡ false → is_among keys p ≡ false → is_among more p ≡ false
@@ -67,26 +67,26 @@ unlike keys more k p is other none =
     ∙ ap (λ (b : Bool). (b && beq k.1 p.1) || false) other))
 
 -- where no number has a remainder, none that has it is there, also with one more
-pub last_next : (keys more : List (ℕ × Bool)) (k : ℕ × Bool) (last : List (Option ℕ)) (place : ℕ) → length last ≡ 256 → ((p : ℕ × Bool) → is_some (last_of last p.0) ≡ false → is_among keys p ≡ false) → more ≡ keys ++ k ∷ []
-    → (p : ℕ × Bool) → is_some (last_of (set last (k.0 % 256) (Some place)) p.0) ≡ false → is_among more p ≡ false
-last_next keys more k last place many was is p none = by (eqb (p.0 % 256) (k.0 % 256)) refl
+pub last_next : (keys more : List (ℕ × Bool)) (k : ℕ × Bool) (last : List (Option ℕ)) (place : ℕ) → length last ≡ 128 → ((p : ℕ × Bool) → is_some (last_of last p.0) ≡ false → is_among keys p ≡ false) → more ≡ keys ++ k ∷ []
+    → (p : ℕ × Bool) → is_some (last_of (set last (k.0 % 128) (Some place)) p.0) ≡ false → is_among more p ≡ false
+last_next keys more k last place many was is p none = by (eqb (p.0 % 128) (k.0 % 128)) refl
   where
-    here : p.0 % 256 ≡ k.0 % 256 → get_or (set last (k.0 % 256) (Some place)) (p.0 % 256) None ≡ Some place
+    here : p.0 % 128 ≡ k.0 % 128 → get_or (set last (k.0 % 128) (Some place)) (p.0 % 128) None ≡ Some place
     here same =
-        let below : k.0 % 256 < length last = omega (arith, many, remainder_below k.0) in
-        ap (λ (i : ℕ). get_or (set last (k.0 % 256) (Some place)) i None) same ∙ get_or-set_same last (k.0 % 256) (Some place) None below
+        let below : k.0 % 128 < length last = omega (arith, many, remainder_below k.0) in
+        ap (λ (i : ℕ). get_or (set last (k.0 % 128) (Some place)) i None) same ∙ get_or-set_same last (k.0 % 128) (Some place) None below
 
-    differs : eqb (p.0 % 256) (k.0 % 256) ≡ false → p.0 % 256 ≢ k.0 % 256
-    differs e same = let yes : eqb (p.0 % 256) (k.0 % 256) ≡ true = search (rules, same) in absurd cc
+    differs : eqb (p.0 % 128) (k.0 % 128) ≡ false → p.0 % 128 ≢ k.0 % 128
+    differs e same = let yes : eqb (p.0 % 128) (k.0 % 128) ≡ true = search (rules, same) in absurd cc
 
-    other : (b : Bool) → eqb k.0 p.0 ≡ b → eqb (p.0 % 256) (k.0 % 256) ≡ false → b ≡ false
+    other : (b : Bool) → eqb k.0 p.0 ≡ b → eqb (p.0 % 128) (k.0 % 128) ≡ false → b ≡ false
     other false is_so e = refl
-    other true is_so e = absurd (differs e (ap (λ (i : ℕ). i % 256) (sym (eqb-true k.0 p.0 is_so))))
+    other true is_so e = absurd (differs e (ap (λ (i : ℕ). i % 128) (sym (eqb-true k.0 p.0 is_so))))
 
-    by : (b : Bool) → eqb (p.0 % 256) (k.0 % 256) ≡ b → is_among more p ≡ false
+    by : (b : Bool) → eqb (p.0 % 128) (k.0 % 128) ≡ b → is_among more p ≡ false
     by true e =
-        let there : is_some (get_or (set last (k.0 % 256) (Some place)) (p.0 % 256) None) ≡ true = ap is_some (here (eqb-true (p.0 % 256) (k.0 % 256) e)) in
+        let there : is_some (get_or (set last (k.0 % 128) (Some place)) (p.0 % 128) None) ≡ true = ap is_some (here (eqb-true (p.0 % 128) (k.0 % 128) e)) in
         absurd cc
     by false e =
-        let still : get_or (set last (k.0 % 256) (Some place)) (p.0 % 256) None ≡ get_or last (p.0 % 256) None = get_or-set_other last (k.0 % 256) (p.0 % 256) (Some place) None (differs e) in
+        let still : get_or (set last (k.0 % 128) (Some place)) (p.0 % 128) None ≡ get_or last (p.0 % 128) None = get_or-set_other last (k.0 % 128) (p.0 % 128) (Some place) None (differs e) in
         unlike keys more k p is (other (eqb k.0 p.0) refl e) (was p (ap is_some (sym still) ∙ none))

@@ -23,13 +23,13 @@ noted_from n keys p = if nat_le n (length keys) then is_among keys p else false
 
 -- where the last number stands that has the same remainder, if there is one
 abbrev pub last_of : List (Option ℕ) → ℕ → Option ℕ
-last_of last k = slice_index_or last (k % 256) None
+last_of last k = slice_index_or last (k % 128) None
 
 -- of few nothing is noted in the table, and of more all; where no number has a remainder, none that has it is there
 pub record IsSignedSet (s : SignedSet) : Type 0 where
   pub table : (p : ℕ × Bool) → contains same_key s.table p ≡ noted_from 81 s.keys.items p
-  pub many : length s.last.items ≡ 256
-  pub last : (p : ℕ × Bool) → is_some (last_of s.last.items p.0) ≡ false → is_among s.keys.items p ≡ false
+  pub many : length s.last ≡ 128
+  pub last : (p : ℕ × Bool) → is_some (last_of s.last p.0) ≡ false → is_among s.keys.items p ≡ false
 
 -- these are noted besides
 abbrev pub NotesAll : (ℕ × Bool → Bool) → (ℕ × Bool → Bool) → List (ℕ × Bool) → Type 0

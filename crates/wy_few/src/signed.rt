@@ -10,14 +10,14 @@ use std::collections::HashSet;
 const FEW: usize = 80;
 
 // How many remainders of numbers are told apart.
-const REMAINDERS: usize = 256;
+const REMAINDERS: usize = 128;
 
-/// Numbers, each with whether it holds; for each remainder by 256 the place of the last number that has it, if there is one; and,
+/// Numbers, each with whether it holds; for each remainder by 128 the place of the last number that has it, if there is one; and,
 /// where the numbers are more than a few, a table of them.
 #[derive(Drop)]
 pub struct SignedSet {
     pub keys: Vec<(u32, bool)>,
-    pub last: Vec<Option<u32>>,
+    pub last: [Option<u32>; REMAINDERS],
     pub table: HashSet<(u32, bool)>,
 }
 
@@ -28,7 +28,7 @@ pub fn no_signed(alloc: Global, room: usize) -> Result<SignedSet, AllocError>
 {
     Ok(SignedSet {
         keys: Vec::with_capacity(alloc, room)?,
-        last: vec![in alloc; None; REMAINDERS]?,
+        last: [None; REMAINDERS],
         table: HashSet::new(alloc),
     })
 }
@@ -47,7 +47,7 @@ fn is_among_few(keys: &[(u32, bool)], k: u32, holds: bool) -> bool
 // The place of the last number that has the same remainder as this one.
 fn last_like(set: &SignedSet, k: u32) -> Option<u32>
     requires { IsSignedSet set.now }
-    ensures { result ≡ last_of set.now.last.items k }
+    ensures { result ≡ last_of set.now.last k }
 {
     set.last[k as usize % REMAINDERS]
 }
