@@ -1,13 +1,16 @@
 //! What a formula adds to a node.
-ghost use Rattle.std.specs.Prelude.{◌≡◌, ◌<◌, ◌++◌, ◌∷◌, [], ℕ, true, false, if◌then◌else◌, map, length, All, IfOk, OnOk};
-ghost use Rattle.wy_term.specs.Nodes.{tree_at};
+ghost use Rattle.std.specs.Prelude.{◌≡◌, ◌<◌, ◌++◌, ◌∷◌, [], ℕ, List, true, false, if◌then◌else◌, map, length, All, IfOk, OnOk};
+ghost use Rattle.wy_term.specs.Nodes.{Plain, tree_at};
+ghost use Rattle.wy_term.specs.Term.{Term};
+ghost use Rattle.wy_judge.specs.Node as node;
 ghost use Rattle.wy_term.specs.Condition.{condition_of};
 ghost use Rattle.wy_judge.specs.Node.{with_atom, added, added_denial, denied_one, with_formulas, first_node};
 ghost use Rattle.wy_judging.specs.Seen.{seen_branch, seen_formula, signed, is_denied, AreOver, IsBranch, AreBelow, Extends};
 ghost use Rattle.wy_judging.specs.Tasks.{tasks_of, after_one, after_all};
 
-use crate::branch::{Branch, add_literal, add_pending, bare};
+use crate::branch::{Branch, add_literal, add_pending};
 use crate::connectives::is_atom;
+use indexmap::IndexSet;
 use std::alloc::Global;
 use std::collections::VecDeque;
 use wy_term::{Cond, NoMemory, Node, Terms};
@@ -137,7 +140,7 @@ fn take(
 
 /// Adds a formula to a node, or the denial of a formula: the members of an `and` and the denied members of a denied `or` one
 /// after the other, an atom or its denial as a literal, any other formula as pending. It works on a list of what is still to
-/// be added, and takes time linear in the size of what is taken apart, as a tree.
+/// be added, and takes time linear in the size of what is taken apart, as a tree. For an atom it makes no list.
 pub fn add(terms: &Terms, branch: &mut Branch, f: u32, holds: bool) -> Result<(), NoMemory>
     requires formula { f < length terms.now }
     requires branch { IsBranch terms.now branch.old }
@@ -145,7 +148,8 @@ pub fn add(terms: &Terms, branch: &mut Branch, f: u32, holds: bool) -> Result<()
     ensures branch { OnOk result (IsBranch terms.now branch.new) }
     ensures grows { OnOk result (Extends branch.old branch.new) }
 {
-    let mut tasks = with_task(VecDeque::new(terms.allocator()), f, holds)?;
+    let none = VecDeque::new(terms.allocator());
+    let mut tasks = take(terms, branch, none, f, holds)?;
     for _turn in 0..u64::MAX {
         match tasks.pop_front() {
             Some((g, sign)) => {
@@ -171,6 +175,17 @@ pub fn add_all(terms: &Terms, branch: &mut Branch, formulas: &[u32]) -> Result<(
     Ok(())
 }
 
+// The node in which nothing is, with room for so many literals.
+fn with_room(alloc: Global, room: usize) -> Result<Branch, NoMemory>
+    ensures value { (at : ℕ → Term) → IfOk result (λ b. seen_branch at b ≡ node.bare) }
+    ensures branch { (nodes : List Plain) → IfOk result (IsBranch nodes) }
+{
+    Ok(Branch {
+        literals: IndexSet::with_capacity(alloc, room)?,
+        pending: IndexSet::new(alloc),
+    })
+}
+
 /// The node in which the certificates of a condition begin: its hypotheses in order, and then its denied goal.
 pub fn first_branch(alloc: Global, terms: &Terms, cond: &Cond) -> Result<Branch, NoMemory>
     requires hyps { All (λ h. h < length terms.now) cond.now.hyps.items }
@@ -178,7 +193,7 @@ pub fn first_branch(alloc: Global, terms: &Terms, cond: &Cond) -> Result<Branch,
     ensures value { IfOk result (λ b. seen_branch (tree_at terms.now) b ≡ first_node (condition_of terms.now cond.now)) }
     ensures branch { IfOk result (IsBranch terms.now) }
 {
-    let mut branch = bare(alloc);
+    let mut branch = with_room(alloc, cond.hyps.len())?;
     add_all(terms, &mut branch, &cond.hyps)?;
     add(terms, &mut branch, cond.goal, false)?;
     Ok(branch)
