@@ -9,8 +9,8 @@ use std::collections::HashMap;
 // How many numbers are looked through.
 const FEW: usize = 48;
 
-// A count as a place. A row of 2^32 numbers or more has none.
-fn place_number(count: usize) -> Result<u32, AllocError>
+/// A count as a place. A row of 2^32 numbers or more has none, which is answered as want of memory.
+pub fn place_number(count: usize) -> Result<u32, AllocError>
     ensures { IfOk result (λ k. k ≡ count) }
 {
     match u32::try_from(count) {
@@ -87,7 +87,8 @@ fn note_few(places: &mut HashMap<u32, u32>, numbers: &[u32]) -> Result<(), Alloc
     Ok(())
 }
 
-/// A number more in a row, in amortized constant time on average.
+/// A number more in a row, in amortized constant time on average. A row that has 2^32 numbers already takes no more: that is answered
+/// as want of memory. After want of memory of either kind the row and its table aren't to be used again.
 pub fn push_number(
     numbers: &mut Vec<u32>,
     places: &mut HashMap<u32, u32>,

@@ -3,6 +3,7 @@ ghost use Rattle.std.specs.Prelude.{◌≡◌, ◌≤◌, ◌++◌, ◌∷◌, �
 ghost use Rattle.std.specs.HashSet.{contains};
 ghost use Rattle.wy_few.specs.Signed.{is_among, last_of, listed, noted_from, same_key, IsSignedSet, NotesAll};
 
+use crate::numbers::place_number;
 use std::alloc::{AllocError, Global};
 use std::collections::HashSet;
 
@@ -108,7 +109,9 @@ fn note_few(set: &mut SignedSet) -> Result<(), AllocError>
     Ok(())
 }
 
-/// Lists a number that holds or is denied, unless it is there, in amortized constant time on average. Whether it is new.
+/// Lists a number that holds or is denied, unless it is there, in amortized constant time on average. Whether it is new. A set that
+/// has 2^32 numbers already takes no more: that is answered as want of memory. After want of memory of either kind the set isn't to
+/// be used again.
 pub fn list(set: &mut SignedSet, k: u32, holds: bool) -> Result<bool, AllocError>
     requires set { IsSignedSet set.old }
     ensures value { OnOk result (set.new.keys.items ≡ listed set.old.keys.items (k, holds)) }
@@ -119,7 +122,7 @@ pub fn list(set: &mut SignedSet, k: u32, holds: bool) -> Result<bool, AllocError
         return Ok(false);
     }
     let count = set.keys.len();
-    let place = u32::try_from(count).map_err(|_| AllocError)?;
+    let place = place_number(count)?;
     note_few(set)?;
     set.keys.push((k, holds))?;
     set.last[k as usize % REMAINDERS] = Some(place);
