@@ -3,6 +3,6 @@ pub mod Draft
 pub mod Nodes
 -- what crates above need too of the search
 pub use Rattle.wy_searching.specs.Seen
-pub use Rattle.wy_searching.specs.Known
+pub use Rattle.wy_searching.specs.Carried
 pub use Rattle.wy_searching.specs.declared.verdict.OpenLeaf
 pub use Rattle.wy_searching.specs.declared.verdict.Verdict as Searched

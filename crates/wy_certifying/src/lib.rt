@@ -26,4 +26,4 @@ mod walking;
 mod writing;
 
 pub use judgement::certified;
-pub use wy_searching::{KnownForms, OpenLeaf, Verdict, Why, no_forms, search};
+pub use wy_searching::{Carried, OpenLeaf, Verdict, Why, nothing_carried, search};

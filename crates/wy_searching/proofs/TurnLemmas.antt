@@ -15,21 +15,30 @@ use Rattle.wy_search.specs.Standing.{present}
 use Rattle.wy_search.specs.Expansion as expansion
 use Rattle.wy_search.specs.Tree as tree
 use Rattle.wy_searching.specs.declared.turning.Next.{Next}
-use Rattle.wy_searching.specs.Turns.{Follows, split_on, unshut, with_side}
+use Rattle.wy_bounds.specs.declared.ending.Ending.{Ending as CodeEnding}
+use Rattle.wy_bounds.specs.Seen.{seen_ending}
+use Rattle.wy_searching.specs.Turns.{Follows, IsEnding, IsUnlessRefuted, split_on, with_side}
 
--- ---- shut, or classes that clash
+-- ---- closed at once, or by how elimination ends
 
-pub next_shut : (types : List Entry) (p : expansion.Spot) → is_shut p.node ≡ true → tree.next types p ≡ tree.closed
-next_shut types p e = ap (λ (b : Bool). cond (b || clashes p.node) tree.closed (tree.by_ending types p (ending p.node))) e
+next_at : (types : List Entry) (p : expansion.Spot) (node : Node) → p.node ≡ node → tree.next types p ≡ cond (is_shut node || clashes node) tree.closed (tree.by_ending types p (ending node))
+next_at types p node same = ap (λ (n : Node). cond (is_shut n || clashes n) tree.closed (tree.by_ending types p (ending n))) same
 
-pub next_unshut : (types : List Entry) (p : expansion.Spot) → is_shut p.node ≡ false → tree.next types p ≡ unshut types p
-next_unshut types p e = ap (λ (b : Bool). cond (b || clashes p.node) tree.closed (tree.by_ending types p (ending p.node))) e
+pub shut_closes : (node : Node) → is_shut node ≡ true → IsEnding node None
+shut_closes node e = λ types p same. next_at types p node same ∙ ap (λ (b : Bool). cond (b || clashes node) tree.closed (tree.by_ending types p (ending node))) e
 
-pub unshut_clash : (types : List Entry) (p : expansion.Spot) → clashes p.node ≡ true → unshut types p ≡ tree.closed
-unshut_clash types p e = ap (λ (b : Bool). cond b tree.closed (tree.by_ending types p (ending p.node))) e
+unshut_at : (types : List Entry) (p : expansion.Spot) (node : Node) → p.node ≡ node → is_shut node ≡ false → tree.next types p ≡ cond (clashes node) tree.closed (tree.by_ending types p (ending node))
+unshut_at types p node same un = next_at types p node same ∙ ap (λ (b : Bool). cond (b || clashes node) tree.closed (tree.by_ending types p (ending node))) un
 
-pub unshut_else : (types : List Entry) (p : expansion.Spot) (e : Ending) → clashes p.node ≡ false → e ≡ ending p.node → tree.by_ending types p e ≡ unshut types p
-unshut_else types p e un is = ap (tree.by_ending types p) is ∙ sym (ap (λ (b : Bool). cond b tree.closed (tree.by_ending types p (ending p.node))) un)
+pub clash_closes : (node : Node) → is_shut node ≡ false → clashes node ≡ true → IsEnding node None
+clash_closes node un e = λ types p same. unshut_at types p node same un ∙ ap (λ (b : Bool). cond b tree.closed (tree.by_ending types p (ending node))) e
+
+apart_at : (types : List Entry) (p : expansion.Spot) (node : Node) → p.node ≡ node → is_shut node ≡ false → clashes node ≡ false → tree.next types p ≡ tree.by_ending types p (ending node)
+apart_at types p node same un apart = unshut_at types p node same un ∙ ap (λ (b : Bool). cond b tree.closed (tree.by_ending types p (ending node))) apart
+
+pub ends_by : (node : Node) (end : CodeEnding) (o : Option CodeEnding) → is_shut node ≡ false → clashes node ≡ false → seen_ending end ≡ ending node → IsUnlessRefuted end o → IsEnding node o
+ends_by node end None un apart is so = λ types p same. apart_at types p node same un apart ∙ ap (tree.by_ending types p) (sym is ∙ so)
+ends_by node end (Some e) un apart is so = λ types p same. apart_at types p node same un apart ∙ ap (tree.by_ending types p) (sym is ∙ sym so)
 
 pub clashes_so : (node : Node) (ts : List Term) (ls : List ℕ) (found : Bool) → ts ≡ present node → ls ≡ classes ts node.literals → found ≡ classes_clash ts ls node.literals → found ≡ clashes node
 clashes_so node ts ls found there labels is =
@@ -44,10 +53,10 @@ ends_so node ts ls e there labels is =
 pub follows_so : {E : Type 0} (at : ℕ → Term) (p q : expansion.Spot) (n m : tree.Next) (r : Result Next E) → p ≡ q → n ≡ m → IfOk r (Follows at p n) → IfOk r (Follows at q m)
 follows_so at p q n m r same is h = subst (λ (x : tree.Next). IfOk r (Follows at q x)) is (subst (λ (x : expansion.Spot). IfOk r (Follows at x n)) same h)
 
-pub moved_ending : {E : Type 0} (at : ℕ → Term) (es fs : List Entry) (p q : expansion.Spot) (e : Ending) (r : Result Next E) → fs ≡ es → q ≡ p → clashes p.node ≡ false → e ≡ ending p.node → IfOk r (Follows at q (tree.by_ending fs q e)) → IfOk r (Follows at p (unshut es p))
-moved_ending at es fs p q e r types same un is h =
-    follows_so at q p (tree.by_ending fs q e) (unshut es p) r same
-    (ap (λ (ts : List Entry). tree.by_ending ts q e) types ∙ (ap (λ (x : expansion.Spot). tree.by_ending es x e) same ∙ unshut_else es p e un is)) h
+pub moved_next : {E : Type 0} (at : ℕ → Term) (es fs : List Entry) (p q : expansion.Spot) (e : Ending) (r : Result Next E) → fs ≡ es → q ≡ p → tree.next es p ≡ tree.by_ending es p e → IfOk r (Follows at q (tree.by_ending fs q e)) → IfOk r (Follows at p (tree.next es p))
+moved_next at es fs p q e r types same is h =
+    follows_so at q p (tree.by_ending fs q e) (tree.next es p) r same
+    (ap (λ (ts : List Entry). tree.by_ending ts q e) types ∙ (ap (λ (x : expansion.Spot). tree.by_ending es x e) same ∙ sym is)) h
 
 -- ---- a split, or a round of expansion
 

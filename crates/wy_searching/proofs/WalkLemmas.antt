@@ -1,6 +1,6 @@
 -- The walk, turn by turn.
 use Rattle.std.proofs.Common.{◌≡◌, ◌∙◌, ◌+◌, ◌<◌, ◌≤◌, ℕ, zero, suc, List, [], ◌∷◌, ◌++◌, map, take, length, Bool, cond, Option, Some, refl, sym, ap, subst, arith}
-use Rattle.std.specs.Prelude.{slice_get, Result, IfOk}
+use Rattle.std.specs.Prelude.{slice_get, Result, Ok, Err, IfOk, OnOk}
 use Rattle.std.proofs.lemmas.Result.{IfOk-weaker}
 use Rattle.std.proofs.lemmas.Bool.{eq-eqb, ne_eqb}
 use Rattle.wy_term.specs.Term.{Term}
@@ -21,7 +21,7 @@ use Rattle.wy_searching.specs.Seen.{seen_why, seen_verdict}
 use Rattle.wy_searching.specs.declared.walk.Turned.{Turned}
 use Rattle.wy_searching.specs.declared.walk.Turned.TheVariants as turned
 use Rattle.wy_searching.specs.Turns.{Follows}
-use Rattle.wy_searching.specs.Walks.{Leads, Reaches}
+use Rattle.wy_searching.specs.Walks.{Comes, Leads, Reaches}
 
 abbrev Go : Type 0
 Go = ℕ → List expansion.Spot → Option tree.Verdict
@@ -82,6 +82,11 @@ reach_on c budget n m ps qs so was = record {
 
 pub reach_end : (c : Condition) (budget n : ℕ) (ps : List expansion.Spot) (v : tree.Verdict) → ((go : Go) → tree.one_turn c.types budget n ps go ≡ Some v) → Reaches c budget n ps → tree.IsVerdict c budget v
 reach_end c budget n ps v so was = was.verdict (suc zero) v (so (λ k rs. tree.searched c.types budget zero k rs))
+
+-- behind a turn
+pub comes_by : (c : Condition) (budget n : ℕ) (ps : List expansion.Spot) (at : ℕ → Term) (t : Turned) → Reaches c budget n ps → Leads (tree.one_turn c.types budget n ps) at t → Comes c budget at t
+comes_by c budget n ps at (turned.Ends v) was so = reach_end c budget n ps (seen_verdict v) so was
+comes_by c budget n ps at (turned.GoesOn w) was so = reach_on c budget n w.leaves ps (map (seen_spot at) w.spots.items) so was
 
 -- ---- literals, one after the other
 
@@ -144,3 +149,9 @@ leads_by r at s t same h = IfOk-weaker r (Leads s at) (Leads t at) (λ x so. by 
 
 pub turn_all : {E : Type 0} (r : Result Turned E) (types : List Entry) (budget n : ℕ) (older at : ℕ → Term) (p : Spot) (ps rest : List Spot) → ps ≡ p ∷ rest → IfOk r (Leads (tree.one_turn types budget n (seen_spot older p ∷ map (seen_spot older) rest)) at) → IfOk r (Leads (tree.one_turn types budget n (map (seen_spot older) ps)) at)
 turn_all r types budget n older at p ps rest is h = subst (λ (qs : List Spot). IfOk r (Leads (tree.one_turn types budget n (map (seen_spot older) qs)) at)) (sym is) h
+
+-- ---- answers
+
+pub on_ok_both : {A E : Type 0} {P Q R : Type 0} (r : Result A E) → (P → Q → R) → OnOk r P → OnOk r Q → OnOk r R
+on_ok_both (Ok x) f p q = f p q
+on_ok_both (Err e) f p q = tt

@@ -1,6 +1,7 @@
 -- what public contracts cite
 pub mod Seen
 pub mod Turns
+pub mod Carried
 -- what functions inside owe each other
 pub mod Walks
 -- what crates above need too of those below

@@ -1,5 +1,5 @@
 -- What becomes of a node, where `at` gives the term of a number.
-use Rattle.std.specs.Prelude.{◌≡◌, ℕ, List, [], Bool, true, false, Option, Some, None, if◌then◌else◌}
+use Rattle.std.specs.Prelude.{◌≡◌, ℕ, List, [], Bool, true, false, Option, Some, None}
 use Rattle.wy_term.specs.Term.{Term}
 use Rattle.wy_term.specs.Condition.{Entry}
 use Rattle.wy_term.specs.Nodes.{Plain}
@@ -8,8 +8,7 @@ use Rattle.wy_judging.specs.Seen.{seen_branch}
 use Rattle.wy_judging.specs.Tasks.{after_one}
 use Rattle.wy_bounds.specs.declared.ending.Ending.{Ending}
 use Rattle.wy_bounds.specs.Seen.{seen_ending}
-use Rattle.wy_search.specs.Bounds.{ending}
-use Rattle.wy_search.specs.Classes.{clashes}
+use Rattle.wy_search.specs.Bounds.{refuted}
 use Rattle.wy_search.specs.Expansion as search
 use Rattle.wy_search.specs.Tree as tree
 use Rattle.wy_stated_facts.specs.Seen.{seen_spot, IsSpot}
@@ -29,14 +28,19 @@ with_side p a holds = search.with_node p (after_one p.node a holds)
 abbrev pub split_on : search.Spot → Term → tree.Next
 split_on p a = tree.splits (search.with_node p (added p.node a)) (search.with_node p (denied_one p.node a))
 
--- how the node's elimination ends, where its classes don't clash
-abbrev pub IsEnding : Node → Option Ending → Type 0
-IsEnding node None = clashes node ≡ true
-IsEnding node (Some e) = (clashes node ≡ false) × (seen_ending e ≡ ending node)
+-- how elimination ends, if not with a refutation
+abbrev pub IsUnlessRefuted : Ending → Option Ending → Type 0
+IsUnlessRefuted end None = seen_ending end ≡ refuted
+IsUnlessRefuted end (Some e) = seen_ending e ≡ seen_ending end
 
--- of a node that isn't shut
-abbrev pub unshut : List Entry → search.Spot → tree.Next
-unshut types p = if clashes p.node then tree.closed else tree.by_ending types p (ending p.node)
+-- the node is closed, or it goes on by how its elimination ends
+abbrev pub IsEnding : Node → Option Ending → Type 0
+IsEnding node None = (types : List Entry) (p : search.Spot) → p.node ≡ node → tree.next types p ≡ tree.closed
+IsEnding node (Some e) = (types : List Entry) (p : search.Spot) → p.node ≡ node → tree.next types p ≡ tree.by_ending types p (seen_ending e)
+
+-- the node before anything came to it on a path
+abbrev pub begun : Node → search.Spot
+begun node = record { node = node; had = []; names = []; rounds = 0 }
 
 -- the code's answer is what becomes of the node; an open leaf comes with the node itself
 abbrev pub Follows : (ℕ → Term) → search.Spot → tree.Next → Next → Type 0

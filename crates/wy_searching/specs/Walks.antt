@@ -33,3 +33,8 @@ Leads step at (turned.GoesOn w) = (go : ℕ → List search.Spot → Option tree
 -- where the verdict that the walk comes to from here is that of the condition
 pub record Reaches (c : Condition) (budget n : ℕ) (ps : List search.Spot) : Type 0 where
   pub verdict : (turns : ℕ) (v : tree.Verdict) → tree.searched c.types budget turns n ps ≡ Some v → tree.IsVerdict c budget v
+
+-- what a turn ended in is the verdict of the condition, or that to which the walk comes from here
+abbrev pub Comes : Condition → ℕ → (ℕ → Term) → Turned → Type 0
+Comes c budget at (turned.Ends v) = tree.IsVerdict c budget (seen_verdict v)
+Comes c budget at (turned.GoesOn w) = Reaches c budget w.leaves (map (seen_spot at) w.spots.items)

@@ -1,17 +1,19 @@
 //! The search for a proof of a condition.
 //!
-//! `expanding` makes one round of expansion. `turning` judges a node anew and says what becomes of it: it is closed, it is an
-//! open leaf, it splits, or it goes on expanded. `walk` goes through the tree, up to a budget of leaves. Which verdict that
-//! is, `wy_search` defines.
+//! `carried` has what one search leaves to the next. `expanding` makes one round of expansion. `turning` judges a node anew and
+//! says what becomes of it: it is closed, it is an open leaf, it splits, or it goes on expanded. `walk` goes through the tree, up to
+//! a budget of leaves. Which verdict that is, `wy_search` defines.
 //!
 //! Of the crates of one step of the search it passes on what certificates of such a search are made with too.
 #![tactic(auto)]
 
+mod carried;
 mod expanding;
 mod turning;
 mod verdict;
 mod walk;
 
+pub use carried::{Carried, nothing_carried};
 pub use expanding::expanded;
 pub use turning::{Next, copied, what_follows, with_atom, with_next_atom};
 pub use verdict::{OpenLeaf, Verdict, Why};

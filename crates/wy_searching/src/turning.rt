@@ -4,11 +4,12 @@ ghost use Rattle.wy_bounds.specs.Known.{AreKnown};
 ghost use Rattle.wy_bounds.specs.Seen.{seen_ending};
 ghost use Rattle.wy_facts.specs.Membership.{AreTypesBelow};
 ghost use Rattle.wy_facts.specs.Seen.{Stays};
+ghost use Rattle.wy_judging.specs.Seen.{seen_branch, IsBranch};
 ghost use Rattle.wy_stated_facts.specs.Seen.{seen_spot, IsSpot};
 ghost use Rattle.wy_search.specs.Splitting as splitting;
 ghost use Rattle.wy_search.specs.Tree as tree;
 ghost use Rattle.wy_searching.specs.Seen.{seen_why};
-ghost use Rattle.wy_searching.specs.Turns.{Follows, IsEnding, IsNextOver, split_on, unshut, with_side};
+ghost use Rattle.wy_searching.specs.Turns.{begun, Follows, IsEnding, IsNextOver, IsUnlessRefuted, split_on, with_side};
 ghost use Rattle.wy_term.specs.Condition.{condition_of};
 ghost use Rattle.wy_term.specs.Nodes.{Plain, tree_at};
 ghost use Rattle.wy_term.specs.Term.{Term};
@@ -18,7 +19,7 @@ use crate::verdict::Why;
 use std::alloc::Global;
 use wy_bounds::{Ending, KnownForms, ending_of_elimination};
 use wy_classes::{classes, classes_clash, next_atom, terms_present};
-use wy_judging::{add, is_shut};
+use wy_judging::{Branch, add, bare, is_shut};
 use wy_stated_facts::{Spot, copied_branch};
 use wy_term::{Cond, NoMemory, Terms};
 
@@ -210,46 +211,41 @@ fn by_ending(
     }
 }
 
-// How a node's elimination ends, where its classes don't clash.
+// How elimination ends, unless it refutes.
+fn unless_refuted(end: Ending) -> Option<Ending>
+    ensures { IsUnlessRefuted end result }
+{
+    match end {
+        Ending::Refuted => None,
+        Ending::Consistent => Some(Ending::Consistent),
+        Ending::Crowded => Some(Ending::Crowded),
+        Ending::Wide => Some(Ending::Wide),
+    }
+}
+
+// How a node's elimination ends, where the node isn't closed: neither by its literals and pending formulas, nor by its classes, nor by
+// the elimination itself.
 fn ending_of(
     terms: &mut Terms,
     known: &mut KnownForms,
-    spot: &Spot,
+    branch: &Branch,
 ) -> Result<Option<Ending>, NoMemory>
-    requires spot { IsSpot terms.old spot.now }
+    requires branch { IsBranch terms.old branch.now }
     requires known { AreKnown terms.old known.old }
-    ensures value { IfOk result (IsEnding (seen_spot (tree_at terms.old) spot.now).node) }
+    ensures value { IfOk result (IsEnding (seen_branch (tree_at terms.old) branch.now)) }
     ensures known { OnOk result (AreKnown terms.new known.new) }
     ensures stays { Stays terms.old terms.new }
 {
-    let here = terms_present(terms, &spot.branch)?;
-    let labels = classes(terms, &spot.branch, &here)?;
-    if classes_clash(terms, &spot.branch, &here, &labels)? {
+    if is_shut(terms, branch)? {
         return Ok(None);
     }
-    let end = ending_of_elimination(terms, known, &spot.branch, &here, &labels)?;
-    Ok(Some(end))
-}
-
-// What becomes of a node that isn't shut.
-fn on_classes(
-    terms: &mut Terms,
-    known: &mut KnownForms,
-    cond: &Cond,
-    spot: Spot,
-) -> Result<Next, NoMemory>
-    requires types { AreTypesBelow (length terms.old) cond.now }
-    requires spot { IsSpot terms.old spot }
-    requires known { AreKnown terms.old known.old }
-    ensures value { IfOk result (Follows (tree_at terms.new) (seen_spot (tree_at terms.old) spot) (unshut (condition_of terms.old cond.now).types (seen_spot (tree_at terms.old) spot))) }
-    ensures next { IfOk result (IsNextOver terms.new) }
-    ensures known { OnOk result (AreKnown terms.new known.new) }
-    ensures stays { Stays terms.old terms.new }
-{
-    match ending_of(terms, known, &spot)? {
-        None => Ok(Next::Closed),
-        Some(end) => by_ending(terms, known, cond, spot, end),
+    let here = terms_present(terms, branch)?;
+    let labels = classes(terms, branch, &here)?;
+    if classes_clash(terms, branch, &here, &labels)? {
+        return Ok(None);
     }
+    let end = ending_of_elimination(terms, known, branch, &here, &labels)?;
+    Ok(unless_refuted(end))
 }
 
 /// What becomes of a node, judged anew from its literals and pending formulas. Older numbers name what they named.
@@ -267,8 +263,46 @@ pub fn what_follows(
     ensures known { OnOk result (AreKnown terms.new known.new) }
     ensures stays { Stays terms.old terms.new }
 {
-    if is_shut(terms, &spot.branch)? {
-        return Ok(Next::Closed);
+    match ending_of(terms, known, &spot.branch)? {
+        None => Ok(Next::Closed),
+        Some(end) => by_ending(terms, known, cond, spot, end),
     }
-    on_classes(terms, known, cond, spot)
+}
+
+// The spot of a node to which nothing has come on a path, as a copy.
+fn begun_spot(alloc: Global, branch: &Branch) -> Result<Spot, NoMemory>
+    ensures seen { (at : ℕ → Term) → IfOk result (λ p. seen_spot at p ≡ begun (seen_branch at branch.now)) }
+    ensures spot { (nodes : List Plain) → IsBranch nodes branch.now → IfOk result (IsSpot nodes) }
+{
+    let branch = copied_branch(branch)?;
+    Ok(Spot {
+        branch,
+        had: bare(alloc),
+        names: Vec::new(alloc),
+        rounds: 0,
+    })
+}
+
+/// What becomes of a node in which a search begins. The node is copied only where it isn't closed.
+pub fn what_follows_first(
+    terms: &mut Terms,
+    known: &mut KnownForms,
+    cond: &Cond,
+    branch: &Branch,
+) -> Result<Next, NoMemory>
+    requires types { AreTypesBelow (length terms.old) cond.now }
+    requires branch { IsBranch terms.old branch.now }
+    requires known { AreKnown terms.old known.old }
+    ensures value { IfOk result (Follows (tree_at terms.new) (begun (seen_branch (tree_at terms.old) branch.now)) (tree.next (condition_of terms.old cond.now).types (begun (seen_branch (tree_at terms.old) branch.now)))) }
+    ensures next { IfOk result (IsNextOver terms.new) }
+    ensures known { OnOk result (AreKnown terms.new known.new) }
+    ensures stays { Stays terms.old terms.new }
+{
+    match ending_of(terms, known, branch)? {
+        None => Ok(Next::Closed),
+        Some(end) => {
+            let spot = begun_spot(terms.allocator(), branch)?;
+            by_ending(terms, known, cond, spot, end)
+        }
+    }
 }

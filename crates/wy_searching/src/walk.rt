@@ -3,20 +3,24 @@ ghost use Rattle.std.specs.Prelude.{◌≡◌, ◌<◌, ◌≤◌, ◌++◌, [],
 ghost use Rattle.wy_bounds.specs.Known.{AreKnown};
 ghost use Rattle.wy_facts.specs.Membership.{AreTypesBelow};
 ghost use Rattle.wy_facts.specs.Seen.{Stays};
+ghost use Rattle.wy_fronts.specs.Front.{IsFront};
 ghost use Rattle.wy_stated_facts.specs.Seen.{seen_spot, IsSpot};
 ghost use Rattle.wy_judging.specs.Seen.{seen_branch, seen_literal, AreOver, IsBranch};
 ghost use Rattle.wy_search.specs.Expansion as search;
 ghost use Rattle.wy_search.specs.Tree as tree;
+ghost use Rattle.wy_searching.specs.Carried.{IsCarried};
 ghost use Rattle.wy_searching.specs.Seen.{seen_verdict, NamesItsTerms};
-ghost use Rattle.wy_searching.specs.Turns.{Follows, IsNextOver};
+ghost use Rattle.wy_searching.specs.Turns.{begun, Follows, IsNextOver};
 ghost use Rattle.wy_searching.specs.Walks.{AreSpots, IsTurnedOver, IsWalk, Leads};
 ghost use Rattle.wy_term.specs.Condition.{condition_of};
 ghost use Rattle.wy_term.specs.Nodes.{tree_at};
 
-use crate::turning::{Next, what_follows};
+use crate::carried::Carried;
+use crate::turning::{Next, what_follows, what_follows_first};
 use crate::verdict::{OpenLeaf, Verdict, Why};
 use std::collections::VecDeque;
 use wy_bounds::{KnownForms, forget_from};
+use wy_fronts::{to_first_node, to_hypotheses};
 use wy_judging::{Branch, bare, first_branch, nth_literal};
 use wy_stated_facts::Spot;
 use wy_term::{Cond, NoMemory, Terms};
@@ -59,19 +63,6 @@ pub fn first_spot(terms: &Terms, cond: &Cond) -> Result<Spot, NoMemory>
         names: Vec::new(alloc),
         rounds: 0,
     })
-}
-
-// The walk before its first turn.
-fn first_walk(terms: &Terms, cond: &Cond) -> Result<Walk, NoMemory>
-    requires hyps { All (λ h. h < length terms.now) cond.now.hyps.items }
-    requires goal { cond.now.goal < length terms.now }
-    ensures leaves { IfOk result (λ w. w.leaves ≡ 0) }
-    ensures spots { IfOk result (λ w. map (seen_spot (tree_at terms.now)) w.spots.items ≡ tree.first_spot (condition_of terms.now cond.now) ∷ []) }
-    ensures walk { (budget : ℕ) → IfOk result (IsWalk terms.now budget) }
-{
-    let spot = first_spot(terms, cond)?;
-    let spots = with_spot(VecDeque::new(terms.allocator()), spot)?;
-    Ok(Walk { leaves: 0, spots })
 }
 
 // A literal more, in terms of another list.
@@ -202,54 +193,109 @@ fn turn(
     }
 }
 
+// The first turn, at the node in which the search begins.
+fn first_turn(
+    terms: &mut Terms,
+    known: &mut KnownForms,
+    cond: &Cond,
+    budget: u64,
+    branch: &Branch,
+) -> Result<Turned, NoMemory>
+    requires types { AreTypesBelow (length terms.old) cond.now }
+    requires branch { IsBranch terms.old branch.now }
+    requires known { AreKnown terms.old known.old }
+    ensures value { IfOk result (Leads (tree.one_turn (condition_of terms.old cond.now).types budget 0 (begun (seen_branch (tree_at terms.old) branch.now) ∷ [])) (tree_at terms.new)) }
+    ensures walk { IfOk result (IsTurnedOver terms.new budget) }
+    ensures known { OnOk result (AreKnown terms.new known.new) }
+    ensures stays { Stays terms.old terms.new }
+{
+    if budget == 0 {
+        return Ok(Turned::Ends(Verdict::Spent));
+    }
+    let next = what_follows_first(terms, known, cond, branch)?;
+    behind(terms, 0, budget, VecDeque::new(terms.allocator()), next)
+}
+
+// The first turn of a condition's search, at the front of the last one, which it leaves at this condition's hypotheses.
+fn begin(
+    terms: &mut Terms,
+    carried: &mut Carried,
+    cond: &Cond,
+    budget: u64,
+) -> Result<Turned, NoMemory>
+    requires hyps { All (λ h. h < length terms.old) cond.now.hyps.items }
+    requires goal { cond.now.goal < length terms.old }
+    requires types { AreTypesBelow (length terms.old) cond.now }
+    requires carried { IsCarried terms.old carried.old }
+    ensures value { IfOk result (Leads (tree.one_turn (condition_of terms.old cond.now).types budget 0 (tree.first_spot (condition_of terms.old cond.now) ∷ [])) (tree_at terms.new)) }
+    ensures walk { IfOk result (IsTurnedOver terms.new budget) }
+    ensures forms { OnOk result (AreKnown terms.new carried.new.forms) }
+    ensures front { OnOk result (IsFront terms.old carried.new.front) }
+    ensures stays { Stays terms.old terms.new }
+{
+    let size = to_first_node(terms, &mut carried.front, cond)?;
+    let turned = first_turn(
+        terms,
+        &mut carried.forms,
+        cond,
+        budget,
+        &carried.front.branch,
+    )?;
+    to_hypotheses(&mut carried.front, size);
+    Ok(turned)
+}
+
 // The walk, which makes terms.
 fn searched(
     terms: &mut Terms,
-    known: &mut KnownForms,
+    carried: &mut Carried,
     cond: &Cond,
     budget: u64,
 ) -> Result<Verdict, NoMemory>
     requires hyps { All (λ h. h < length terms.old) cond.now.hyps.items }
     requires goal { cond.now.goal < length terms.old }
     requires types { AreTypesBelow (length terms.old) cond.now }
-    requires known { AreKnown terms.old known.old }
+    requires carried { IsCarried terms.old carried.old }
     ensures verdict { IfOk result (λ v. tree.IsVerdict (condition_of terms.old cond.now) budget (seen_verdict v)) }
     ensures within { IfOk result NamesItsTerms }
-    ensures known { OnOk result (AreKnown terms.new known.new) }
+    ensures forms { OnOk result (AreKnown terms.new carried.new.forms) }
+    ensures front { OnOk result (IsFront terms.old carried.new.front) }
     ensures stays { Stays terms.old terms.new }
 {
-    let mut walk = first_walk(terms, cond)?;
+    let mut turned = begin(terms, carried, cond, budget)?;
     for _turn in 0..u64::MAX {
-        match turn(terms, known, cond, budget, walk)? {
+        match turned {
             Turned::Ends(verdict) => return Ok(verdict),
-            Turned::GoesOn(next) => walk = next,
+            Turned::GoesOn(walk) => {
+                turned = turn(terms, &mut carried.forms, cond, budget, walk)?;
+            }
         }
     }
     Err(NoMemory)
 }
 
 /// The verdict of the search of a condition, at a budget of leaves. The terms are as before afterwards, at want of memory too.
-/// Each node is judged anew; the form of a literal is made once, and for all searches with this table where it is of terms below
-/// the table's floor.
+/// Each node is judged anew; the form of a literal is made once, and for all searches that carry on with the same where it is of terms
+/// below the floor. Of the hypotheses that the last condition has too, in front of all others, none is added anew.
 pub fn search(
     terms: &mut Terms,
-    known: &mut KnownForms,
+    carried: &mut Carried,
     cond: &Cond,
     budget: u64,
 ) -> Result<Verdict, NoMemory>
     requires hyps { All (λ h. h < length terms.old) cond.now.hyps.items }
     requires goal { cond.now.goal < length terms.old }
     requires types { AreTypesBelow (length terms.old) cond.now }
-    requires known { AreKnown terms.old known.old }
+    requires carried { IsCarried terms.old carried.old }
     ensures verdict { IfOk result (λ v. tree.IsVerdict (condition_of terms.old cond.now) budget (seen_verdict v)) }
     ensures within { IfOk result NamesItsTerms }
-    ensures known { OnOk result (AreKnown terms.new known.new) }
+    ensures carried { OnOk result (IsCarried terms.new carried.new) }
     ensures length { length terms.new ≡ length terms.old }
     ensures kept { (t : ℕ) → t < length terms.old → tree_at terms.new t ≡ tree_at terms.old t }
 {
     let mark = terms.mark();
-    let verdict = searched(terms, known, cond, budget);
+    let verdict = searched(terms, carried, cond, budget);
     terms.back_to(mark);
-    forget_from(terms.allocator(), known, terms.len());
+    forget_from(terms.allocator(), &mut carried.forms, terms.len());
     verdict
 }

@@ -1,6 +1,6 @@
 //! The verdicts on a list of conditions.
 ghost use Rattle.std.specs.Prelude.{◌≡◌, ◌<◌, ℕ, All, length, map, IfOk, OnOk};
-ghost use Rattle.wy_certifying.specs.Known.{AreKnown as AreFormsKnown};
+ghost use Rattle.wy_certifying.specs.Carried.{IsCarried};
 ghost use Rattle.wy_checking.specs.Verdicts.{certificate_for, verdict_on, verdicts_on};
 ghost use Rattle.wy_checking.specs.Within.{IsWithin};
 ghost use Rattle.wy_cert.specs.Steps.{Certificates, certificates_of, NameTheirTerms};
@@ -13,7 +13,7 @@ ghost use Rattle.wy_top.specs.Seen.{known, NameTerms};
 use crate::verdict::{End, Verdict};
 use std::alloc::Global;
 use wy_cert::Certs;
-use wy_certifying::{KnownForms, Verdict as Searched, no_forms, search};
+use wy_certifying::{Carried, Verdict as Searched, nothing_carried, search};
 use wy_checking::{Verdict as Given, verdicts};
 use wy_term::{Cond, NoMemory, Terms};
 
@@ -55,10 +55,10 @@ fn judged_all(
     ensures kept { (t : ℕ) → t < length terms.old → tree_at terms.new t ≡ tree_at terms.old t }
 {
     let given = supplied(alloc, terms, conds, certs)?;
-    let mut forms = no_forms(alloc, terms.len());
+    let mut carried = nothing_carried(alloc, terms.len());
     let mut judged = Vec::new(alloc);
     for i in 0..conds.len() {
-        let verdict = judged_one(terms, &mut forms, &conds[i], given[i], budget)?;
+        let verdict = judged_one(terms, &mut carried, &conds[i], given[i], budget)?;
         judged.push(verdict)?;
     }
     Ok(judged)
@@ -85,15 +85,15 @@ fn supplied(
 // What is known of a condition, where the verdict on what was supplied for it is this.
 fn judged_one(
     terms: &mut Terms,
-    forms: &mut KnownForms,
+    carried: &mut Carried,
     cond: &Cond,
     given: Given,
     budget: u64,
 ) -> Result<Verdict, NoMemory>
     requires cond { IsWithin (length terms.old) cond.now }
-    requires forms { AreFormsKnown terms.old forms.old }
+    requires carried { IsCarried terms.old carried.old }
     ensures value { (certs : Certificates) → (n : ℕ) → given ≡ verdict_on (condition_of terms.old cond.now) (certificate_for certs n) → IfOk result (IsJudged certs budget n (condition_of terms.old cond.now)) }
-    ensures forms { OnOk result (AreFormsKnown terms.new forms.new) }
+    ensures carried { OnOk result (IsCarried terms.new carried.new) }
     ensures length { length terms.new ≡ length terms.old }
     ensures kept { (t : ℕ) → t < length terms.old → tree_at terms.new t ≡ tree_at terms.old t }
 {
@@ -103,14 +103,14 @@ fn judged_one(
             end: End::Supplied,
         }),
         Given::Missing => {
-            let end = searched(terms, forms, cond, budget)?;
+            let end = searched(terms, carried, cond, budget)?;
             Ok(Verdict {
                 bad_step: None,
                 end,
             })
         }
         Given::Bad(step) => {
-            let end = searched(terms, forms, cond, budget)?;
+            let end = searched(terms, carried, cond, budget)?;
             Ok(Verdict {
                 bad_step: Some(step),
                 end,
@@ -122,18 +122,18 @@ fn judged_one(
 // What the search of a condition ends in.
 fn searched(
     terms: &mut Terms,
-    forms: &mut KnownForms,
+    carried: &mut Carried,
     cond: &Cond,
     budget: u64,
 ) -> Result<End, NoMemory>
     requires cond { IsWithin (length terms.old) cond.now }
-    requires forms { AreFormsKnown terms.old forms.old }
+    requires carried { IsCarried terms.old carried.old }
     ensures value { IfOk result (EndsIn (condition_of terms.old cond.now) budget) }
-    ensures forms { OnOk result (AreFormsKnown terms.new forms.new) }
+    ensures carried { OnOk result (IsCarried terms.new carried.new) }
     ensures length { length terms.new ≡ length terms.old }
     ensures kept { (t : ℕ) → t < length terms.old → tree_at terms.new t ≡ tree_at terms.old t }
 {
-    let verdict = search(terms, forms, cond, budget)?;
+    let verdict = search(terms, carried, cond, budget)?;
     match verdict {
         Searched::Found(leaves) => Ok(End::Found { leaves }),
         Searched::Open(leaf) => Ok(End::Open(leaf)),

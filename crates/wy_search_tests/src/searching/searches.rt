@@ -3,7 +3,7 @@ ghost use Rattle.std.specs.Prelude.{◌≡◌, ◌<◌, ◌≤◌, [], All, leng
 ghost use Rattle.wy_facts.specs.Seen.{AreBelow};
 
 use std::alloc::Global;
-use wy_certifying::{OpenLeaf, Verdict, Why, no_forms, search};
+use wy_certifying::{OpenLeaf, Verdict, Why, nothing_carried, search};
 use wy_show::show_formula;
 use wy_spell::read_formula;
 use wy_term::{Cond, CondKind, NoMemory, Terms, Unfold};
@@ -116,12 +116,12 @@ fn written(alloc: Global, verdict: &Verdict) -> Result<Vec<u8>, NoMemory> {
     Ok(text)
 }
 
-/// How the search of a row's condition ends, and how a second one ends that has the forms which the first one left.
+/// How the search of a row's condition ends, and how a second one ends that carries on with what the first one left.
 pub fn ended(alloc: Global, row: &Row) -> Result<(Vec<u8>, Vec<u8>), NoMemory> {
     let mut terms = Terms::new(alloc);
     let cond = condition(&mut terms, row)?;
-    let mut known = no_forms(alloc, terms.len());
-    let first = search(&mut terms, &mut known, &cond, row.budget)?;
-    let second = search(&mut terms, &mut known, &cond, row.budget)?;
+    let mut carried = nothing_carried(alloc, terms.len());
+    let first = search(&mut terms, &mut carried, &cond, row.budget)?;
+    let second = search(&mut terms, &mut carried, &cond, row.budget)?;
     Ok((written(alloc, &first)?, written(alloc, &second)?))
 }

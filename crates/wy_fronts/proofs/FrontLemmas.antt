@@ -1,0 +1,108 @@
+-- How a front grows and shrinks.
+use Rattle.std.proofs.Common.{◌≡◌, ◌∙◌, ◌≤◌, ℕ, zero, suc, List, [], ◌∷◌, ◌++◌, map, take, length, Bool, refl, sym, ap, subst, arith}
+use Rattle.std.proofs.lemmas.List.{take_at, length-append}
+use Rattle.wy_facts.specs.Seen.{Stays}
+use Rattle.wy_facts.proofs.StepLemmas.{below_kept, terms_kept}
+use Rattle.wy_fronts.specs.declared.front.Front.{Front}
+use Rattle.wy_fronts.specs.declared.front.Size.{Size}
+use Rattle.wy_fronts.specs.Front.{node_of, AreMade, IsFirst, IsFront}
+use Rattle.wy_judge.specs.Node.{Node, added, bare, with_formulas}
+use Rattle.wy_judging.specs.declared.branch.Branch.{Branch}
+use Rattle.wy_judging.specs.Seen.{seen_branch, seen_formula, seen_literal, AreBelow, AreOver, Extends, IsBranch, StartsWith}
+use Rattle.wy_judging.proofs.BranchLemmas.{over_take}
+use Rattle.wy_judging.proofs.SumsBranchLemmas.{branch_stays}
+use Rattle.wy_term.specs.Nodes.{Plain, tree_at}
+use Rattle.wy_term.specs.Term.{Term}
+
+abbrev Pairs : Type 0
+Pairs = List (ℕ × Bool)
+
+pub made_whole : (at : ℕ → Term) (ls ps : Pairs) (hs : List ℕ) (ss : List Size) → AreMade at ls ps hs ss → node_of at ls ps ≡ with_formulas bare (map at hs)
+made_whole at ls ps hs [] made = made
+made_whole at ls ps hs (s ∷ ss) made = made.0
+
+-- ---- one more
+
+with_last : (at : ℕ → Term) (node : Node) (hs : List ℕ) (h : ℕ) → with_formulas node (map at (hs ++ h ∷ [])) ≡ added (with_formulas node (map at hs)) (at h)
+with_last at node [] h = refl
+with_last at node (k ∷ ks) h = with_last at (added node (at k)) ks h
+
+front_of : {A : Type 0} (xs ys : List A) (k : ℕ) → (zs : List A) → ys ≡ xs ++ zs → k ≡ length xs → take k ys ≡ xs
+front_of xs ys k zs more here = ap (take k) more ∙ take_at xs zs k here
+
+pub made_more : (at : ℕ → Term) (b c : Branch) (hs : List ℕ) (ss : List Size) (s : Size) (h : ℕ) → s.literals ≡ length b.literals.keys → s.pending ≡ length b.pending.keys → length hs ≡ length ss → Extends b c → seen_branch at c ≡ added (seen_branch at b) (at h) → AreMade at b.literals.keys b.pending.keys hs ss → AreMade at c.literals.keys c.pending.keys (hs ++ h ∷ []) (s ∷ ss)
+made_more at b c hs ss s h literals pending count more is made =
+    let here : node_of at c.literals.keys c.pending.keys ≡ with_formulas bare (map at (hs ++ h ∷ [])) =
+    is ∙ (ap (λ (n : Node). added n (at h)) (made_whole at b.literals.keys b.pending.keys hs ss made) ∙ sym (with_last at bare hs h)) in
+    let ls : take s.literals c.literals.keys ≡ b.literals.keys = front_of b.literals.keys c.literals.keys s.literals more.literals.0 more.literals.1 literals in
+    let ps : take s.pending c.pending.keys ≡ b.pending.keys = front_of b.pending.keys c.pending.keys s.pending more.pending.0 more.pending.1 pending in
+    let ks : take (length ss) (hs ++ h ∷ []) ≡ hs = front_of hs (hs ++ h ∷ []) (length ss) (h ∷ []) refl (sym count) in
+    let one : AreMade at (take s.literals c.literals.keys) b.pending.keys hs ss = subst (λ (xs : Pairs). AreMade at xs b.pending.keys hs ss) (sym ls) made in
+    let two : AreMade at (take s.literals c.literals.keys) (take s.pending c.pending.keys) hs ss = subst (λ (xs : Pairs). AreMade at (take s.literals c.literals.keys) xs hs ss) (sym ps) one in
+    (here, subst (λ (xs : List ℕ). AreMade at (take s.literals c.literals.keys) (take s.pending c.pending.keys) xs ss) (sym ks) two)
+
+-- ---- the goal
+
+-- where a node grew from this size
+pub first_of_grown : (nodes : List Plain) (f g : Front) (s : Size) → IsFront nodes f → g.hyps.items ≡ f.hyps.items → g.sizes.items ≡ f.sizes.items → s.literals ≡ length f.branch.literals.keys → s.pending ≡ length f.branch.pending.keys → Extends f.branch g.branch → IsBranch nodes g.branch → IsFirst nodes s g
+first_of_grown nodes f g s is hyps sizes literals pending more branch =
+    let at = tree_at nodes in
+    let ls : take s.literals g.branch.literals.keys ≡ f.branch.literals.keys = front_of f.branch.literals.keys g.branch.literals.keys s.literals more.literals.0 more.literals.1 literals in
+    let ps : take s.pending g.branch.pending.keys ≡ f.branch.pending.keys = front_of f.branch.pending.keys g.branch.pending.keys s.pending more.pending.0 more.pending.1 pending in
+    let zero : AreMade at f.branch.literals.keys f.branch.pending.keys g.hyps.items f.sizes.items = subst (λ (xs : List ℕ). AreMade at f.branch.literals.keys f.branch.pending.keys xs f.sizes.items) (sym hyps) is.made in
+    let one : AreMade at f.branch.literals.keys f.branch.pending.keys g.hyps.items g.sizes.items = subst (λ (xs : List Size). AreMade at f.branch.literals.keys f.branch.pending.keys g.hyps.items xs) (sym sizes) zero in
+    let two : AreMade at (take s.literals g.branch.literals.keys) f.branch.pending.keys g.hyps.items g.sizes.items = subst (λ (xs : Pairs). AreMade at xs f.branch.pending.keys g.hyps.items g.sizes.items) (sym ls) one in
+    record {
+      branch = branch;
+      hyps = subst (AreBelow (length nodes)) (sym hyps) is.hyps;
+      count = ap length hyps ∙ (is.count ∙ sym (ap length sizes));
+      made = subst (λ (xs : Pairs). AreMade at (take s.literals g.branch.literals.keys) xs g.hyps.items g.sizes.items) (sym ps) two;
+    }
+
+-- the node with this size again
+pub front_of_first : (nodes : List Plain) (f g : Front) (s : Size) → IsFirst nodes s f → g.hyps.items ≡ f.hyps.items → g.sizes.items ≡ f.sizes.items → g.branch.literals.keys ≡ take s.literals f.branch.literals.keys → g.branch.pending.keys ≡ take s.pending f.branch.pending.keys → IsBranch nodes g.branch → IsFront nodes g
+front_of_first nodes f g s is hyps sizes ls ps branch =
+    let at = tree_at nodes in
+    let fs = take s.literals f.branch.literals.keys in
+    let gs = take s.pending f.branch.pending.keys in
+    let one : AreMade at fs gs g.hyps.items f.sizes.items = subst (λ (xs : List ℕ). AreMade at fs gs xs f.sizes.items) (sym hyps) is.made in
+    let two : AreMade at fs gs g.hyps.items g.sizes.items = subst (λ (xs : List Size). AreMade at fs gs g.hyps.items xs) (sym sizes) one in
+    let three : AreMade at g.branch.literals.keys gs g.hyps.items g.sizes.items = subst (λ (xs : Pairs). AreMade at xs gs g.hyps.items g.sizes.items) (sym ls) two in
+    record {
+      branch = branch;
+      hyps = subst (AreBelow (length nodes)) (sym hyps) is.hyps;
+      count = ap length hyps ∙ (is.count ∙ sym (ap length sizes));
+      made = subst (λ (xs : Pairs). AreMade at g.branch.literals.keys xs g.hyps.items g.sizes.items) (sym ps) three;
+    }
+
+-- ---- where the list of terms grows
+
+literals_same : (old new : List Plain) (ps : Pairs) → Stays old new → AreOver (length old) ps → map (seen_literal (tree_at new)) ps ≡ map (seen_literal (tree_at old)) ps
+literals_same old new [] stays over = refl
+literals_same old new (p ∷ ps) stays over = rw (stays.trees p.0 over.0, literals_same old new ps stays over.1) refl
+
+formulas_same : (old new : List Plain) (ps : Pairs) → Stays old new → AreOver (length old) ps → map (seen_formula (tree_at new)) ps ≡ map (seen_formula (tree_at old)) ps
+formulas_same old new [] stays over = refl
+formulas_same old new (p ∷ ps) stays over = rw (stays.trees p.0 over.0, formulas_same old new ps stays over.1) refl
+
+pub below_take : (n k : ℕ) (hs : List ℕ) → AreBelow n hs → AreBelow n (take k hs)
+below_take n zero hs low i d lt = absurd (omega (arith, lt))
+below_take n (suc k) [] low i d lt = absurd (omega (arith, lt))
+below_take n (suc k) (h ∷ hs) low zero d lt = low 0 d (omega arith)
+below_take n (suc k) (h ∷ hs) low (suc i) d lt = below_take n k hs (λ j e l. low (suc j) e (omega (arith, l))) i d (omega (arith, lt))
+
+node_same : (old new : List Plain) (ls ps : Pairs) (hs : List ℕ) → Stays old new → AreOver (length old) ls → AreOver (length old) ps → AreBelow (length old) hs → node_of (tree_at old) ls ps ≡ with_formulas bare (map (tree_at old) hs) → node_of (tree_at new) ls ps ≡ with_formulas bare (map (tree_at new) hs)
+node_same old new ls ps hs stays ols ops low is = rw (literals_same old new ls stays ols, formulas_same old new ps stays ops) (is ∙ ap (with_formulas bare) (sym (terms_kept old new hs stays low)))
+
+made_stays : (old new : List Plain) (ls ps : Pairs) (hs : List ℕ) (ss : List Size) → Stays old new → AreOver (length old) ls → AreOver (length old) ps → AreBelow (length old) hs → AreMade (tree_at old) ls ps hs ss → AreMade (tree_at new) ls ps hs ss
+made_stays old new ls ps hs [] stays ols ops low made = node_same old new ls ps hs stays ols ops low made
+made_stays old new ls ps hs (s ∷ ss) stays ols ops low made =
+    (node_same old new ls ps hs stays ols ops low made.0, made_stays old new (take s.literals ls) (take s.pending ps) (take (length ss) hs) ss stays (over_take (length old) s.literals ls ols) (over_take (length old) s.pending ps ops) (below_take (length old) (length ss) hs low) made.1)
+
+pub front_stays : (old new : List Plain) (f : Front) → Stays old new → IsFront old f → IsFront new f
+front_stays old new f stays is = record {
+  branch = branch_stays old new f.branch stays is.branch;
+  hyps = below_kept old new f.hyps.items stays is.hyps;
+  count = is.count;
+  made = made_stays old new f.branch.literals.keys f.branch.pending.keys f.hyps.items f.sizes.items stays is.branch.literals is.branch.pending is.hyps is.made;
+}
