@@ -44,6 +44,7 @@ fn condition(terms: &mut Terms, row: &Row) -> Result<Cond, NoMemory>
     ensures hyps { IfOk result (λ c. All (λ h. h < length terms.new) c.hyps.items) }
     ensures goal { IfOk result (λ c. c.goal < length terms.new) }
     ensures types { IfOk result (λ c. c.unfold.list.items ≡ []) }
+    ensures grows { length terms.old ≤ length terms.new }
 {
     let alloc = terms.allocator();
     let goal = formula(terms, row.goal)?;
@@ -124,4 +125,15 @@ pub fn ended(alloc: Global, row: &Row) -> Result<(Vec<u8>, Vec<u8>), NoMemory> {
     let first = search(&mut terms, &mut carried, &cond, row.budget)?;
     let second = search(&mut terms, &mut carried, &cond, row.budget)?;
     Ok((written(alloc, &first)?, written(alloc, &second)?))
+}
+
+/// How the search of a row's condition ends, where it carries on with what the search of another row's condition left.
+pub fn ended_behind(alloc: Global, before: &Row, row: &Row) -> Result<Vec<u8>, NoMemory> {
+    let mut terms = Terms::new(alloc);
+    let first = condition(&mut terms, before)?;
+    let second = condition(&mut terms, row)?;
+    let mut carried = nothing_carried(alloc, terms.len());
+    let _verdict = search(&mut terms, &mut carried, &first, before.budget)?;
+    let verdict = search(&mut terms, &mut carried, &second, row.budget)?;
+    written(alloc, &verdict)
 }

@@ -1,5 +1,5 @@
 //! Small conditions, and conditions of programs whose ends were worked out or printed by an independent program.
-use crate::searching::searches::{Row, ended};
+use crate::searching::searches::{Row, ended, ended_behind};
 use wy_term::NoMemory;
 
 const ROWS: [Row; 16] = [
@@ -164,6 +164,15 @@ fn small_conditions_end_so(rt: HostRuntime) -> Result<(), NoMemory> {
         let (first, second) = ended(rt.alloc(), row)?;
         assert_eq!(rt; first.as_slice(), row.want.as_bytes());
         assert_eq!(rt; second.as_slice(), row.want.as_bytes());
+    }
+    Ok(())
+}
+
+#[test]
+fn a_search_ends_so_behind_another(rt: HostRuntime) -> Result<(), NoMemory> {
+    for i in 1..ROWS.len() {
+        let found = ended_behind(rt.alloc(), &ROWS[i - 1], &ROWS[i])?;
+        assert_eq!(rt; found.as_slice(), ROWS[i].want.as_bytes());
     }
     Ok(())
 }
