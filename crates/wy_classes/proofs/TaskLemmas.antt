@@ -1,12 +1,13 @@
 -- What tasks lead to.
-use Rattle.std.proofs.Common.{◌≡◌, ◌∙◌, ◌<◌, ◌-◌, ◌||◌, ℕ, zero, suc, true, false, List, [], ◌∷◌, ◌++◌, map, take, length, append_assoc, Result, Ok, Err, OnOk, refl, sym, ap, ap₂, subst, arith}
+use Rattle.std.proofs.Common.{◌≡◌, ◌∙◌, ◌<◌, ◌-◌, ◌||◌, ℕ, zero, suc, true, false, List, [], ◌∷◌, ◌++◌, map, take, length, append_assoc, Result, Ok, Err, OnOk, Option, Some, None, IfSome, refl, sym, ap, ap₂, subst, arith}
 use Rattle.std.proofs.lemmas.List.{append-nil}
 use Rattle.wy_judging.specs.Seen.{AreBelow, signed}
 use Rattle.wy_search.specs.Standing.{Standing, below, bound_by, have_common, all_parts, of_range, standing_in, standing_in_parts}
 use Rattle.wy_splits.specs.Free.{is_among}
 use Rattle.wy_classes.proofs.BoundLemmas.{crossing, marked_alone}
+use Rattle.wy_classes.specs.Heads.{BeginsWith}
 use Rattle.wy_classes.specs.Marks.{all_marked, binds_one, is_any_bound, listed_unless, with_unmarked}
-use Rattle.wy_classes.specs.Walk.{AreTasks, but_last, is_quantifier, left_at, tasks_of, visits}
+use Rattle.wy_classes.specs.Walk.{AreTasks, but_last, is_quantifier, left_at, tasks_of, visits, with_next}
 use Rattle.wy_classes.specs.declared.task.Task.{Task}
 use Rattle.wy_classes.specs.declared.task.Task.TheVariants.{Visit}
 use Rattle.wy_term.specs.Nodes.{parts_at, plain}
@@ -274,3 +275,18 @@ three_parts (node.Or fs) up = absurd (cc)
 pub on_ok : {X E : Type 0} (r : Result X E) (P Q : Type 0) → (P → Q) → OnOk r P → OnOk r Q
 on_ok (Ok x) P Q f h = f h
 on_ok (Err e) P Q f h = h
+
+-- ---- a part that is gone into at once
+
+pub tasks_behind : (n : ℕ) (next : Option ℕ) (ts : List Task) → AreTasks n (with_next next ts) → AreTasks n ts
+tasks_behind n None ts are = are
+tasks_behind n (Some k) ts are = are.1
+
+-- the first of numbers that are below another is
+pub first_below : (n : ℕ) (ks : List ℕ) → AreBelow n ks → (next : Option ℕ) → IfSome next (BeginsWith ks) → IfSome next (λ k. k < n)
+first_below n ks low None begins = tt
+first_below n [] low (Some k) begins = absurd (cc)
+first_below n (j ∷ js) low (Some k) begins = subst (λ (i : ℕ). i < n) (some_is j k begins) (low 0 j (omega arith))
+  where
+    some_is : (x y : ℕ) → Some x ≡ Some y → x ≡ y
+    some_is x y e = cc

@@ -1,5 +1,5 @@
 -- What the walk has still to do, and what it leads to.
-use Rattle.std.specs.Prelude.{ℕ, ◌<◌, length, map, List, [], ◌∷◌, ◌++◌, Bool, true, false, if◌then◌else◌}
+use Rattle.std.specs.Prelude.{ℕ, suc, ◌<◌, length, map, Option, Some, None, List, [], ◌∷◌, ◌++◌, Bool, true, false, if◌then◌else◌}
 use Rattle.wy_few.specs.Signed.{IsSignedSet}
 use Rattle.wy_few.specs.declared.signed.SignedSet.{SignedSet}
 use Rattle.wy_judging.specs.Seen.{AreBare, AreBelow, AreOver, seen_formula, signed}
@@ -32,6 +32,11 @@ tasks_of q [] = []
 -- what stands in the term with this number is next, by its node
 abbrev pub next_tasks : ℕ → Plain → List Task
 next_tasks k p = if is_quantifier p.symbol then tasks_of k p.parts else visits p.parts
+
+-- the part that is gone into at once, if there is one, and then these
+abbrev pub with_next : Option ℕ → List Task → List Task
+with_next None ts = ts
+with_next (Some k) ts = Visit k true ∷ ts
 
 abbrev pub of_literals : List (ℕ × Bool) → List Task
 of_literals [] = []
@@ -71,6 +76,15 @@ leads at walk = with_unmarked (list_of at walk) (left_at at walk.tasks.items (ma
 
 abbrev pub leads_from : (ℕ → Term) → Walk → Task → List Term
 leads_from at walk task = with_unmarked (list_of at walk) (left_at at (task ∷ walk.tasks.items) (map at walk.around.items))
+
+-- what will be listed in the end, where this part is gone into at once
+abbrev pub leads_with : (ℕ → Term) → Walk → Option ℕ → List Term
+leads_with at walk next = with_unmarked (list_of at walk) (left_at at (with_next next walk.tasks.items) (map at walk.around.items))
+
+-- how far down a part that is gone into at once can lead
+abbrev pub depth_of : Option ℕ → ℕ
+depth_of None = 0
+depth_of (Some k) = suc k
 
 -- the numbers in a list are those of terms, and none of them is given as a denial
 pub record AreListed (nodes : List Plain) (s : SignedSet) : Type 0 where

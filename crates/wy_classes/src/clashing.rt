@@ -14,7 +14,7 @@ use crate::present::Present;
 use wy_judging::Branch;
 use wy_term::{NoMemory, Terms};
 
-// Whether a class has two kinds, or a kind and its denial.
+// Whether a class has two kinds, or a kind and its denial. Where no kind is given, none has, and none that is denied is listed.
 fn kinds_clash(
     terms: &Terms,
     branch: &Branch,
@@ -27,6 +27,9 @@ fn kinds_clash(
 {
     let literals = kinds_by(terms, branch, true)?;
     let given = with_own_kinds(terms, present, literals)?;
+    if given.is_empty() {
+        return Ok(false);
+    }
     let denied = kinds_by(terms, branch, false)?;
     if kinds_agree(terms, present, labels, &given, &denied)? {
         return Ok(false);

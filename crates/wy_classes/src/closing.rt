@@ -2,12 +2,13 @@
 ghost use Rattle.std.specs.Prelude.{◌≡◌, ◌<◌, length, map, IfOk};
 ghost use Rattle.wy_classes.specs.Heads.{pair_joined};
 ghost use Rattle.wy_classes.specs.Seen.{terms_of, IsPresent};
+ghost use Rattle.wy_classes.specs.Signatures.{AreGrouped};
 ghost use Rattle.wy_judging.specs.Seen.{IsBranch, seen_branch};
 ghost use Rattle.wy_search.specs.Classes as classes;
 ghost use Rattle.wy_term.specs.Nodes.{tree_at};
 
 use crate::congruent::{are_congruent, is_bare};
-use crate::groups::{grouped, is_settled};
+use crate::groups::{Groups, grouped, is_settled};
 use crate::labels::{are_same, copied, first_labels, joined};
 use crate::places::label_of;
 use crate::present::Present;
@@ -113,17 +114,20 @@ fn with_congruent(
     Ok(labels)
 }
 
-// So for each term. A term is passed over where its signature shows that it is congruent to terms of its class alone.
+// So for each term, where these are the groups. A term is passed over where its signature shows that it is congruent to terms of
+// its class alone.
 fn with_all_congruent(
     terms: &Terms,
     present: &Present,
     labels: Vec<u32>,
+    groups: Groups,
 ) -> Result<Vec<u32>, NoMemory>
-    requires { IsPresent terms.now present.now }
+    requires present { IsPresent terms.now present.now }
+    requires groups { AreGrouped terms.now (terms_of (tree_at terms.now) present.now) labels.items present.now.numbers.items groups }
     ensures { IfOk result (λ made. made.items ≡ classes.with_all_congruent (terms_of (tree_at terms.now) present.now) labels.items (terms_of (tree_at terms.now) present.now)) }
 {
     let mut labels = labels;
-    let mut groups = grouped(terms, present, &labels)?;
+    let mut groups = groups;
     for i in 0..present.numbers.len() {
         if !groups.parted {
             return Ok(labels);
@@ -136,7 +140,8 @@ fn with_all_congruent(
     Ok(labels)
 }
 
-// As many rounds as there are terms; it ends with the first that changes nothing, since none behind it would.
+// As many rounds as there are terms; it ends before one that has nothing to join, or with the first that changes nothing, since
+// none behind it would.
 fn rounds(terms: &Terms, present: &Present, labels: Vec<u32>) -> Result<Vec<u32>, NoMemory>
     requires { IsPresent terms.now present.now }
     ensures { IfOk result (λ made. made.items ≡ classes.rounds (length (terms_of (tree_at terms.now) present.now)) (terms_of (tree_at terms.now) present.now) labels.items) }
@@ -145,8 +150,12 @@ fn rounds(terms: &Terms, present: &Present, labels: Vec<u32>) -> Result<Vec<u32>
     let mut left = present.numbers.len();
     while left > 0 {
         left -= 1;
+        let groups = grouped(terms, present, &labels)?;
+        if !groups.parted {
+            return Ok(labels);
+        }
         let before = copied(terms.allocator(), &labels)?;
-        labels = with_all_congruent(terms, present, labels)?;
+        labels = with_all_congruent(terms, present, labels, groups)?;
         if are_same(&before, &labels) {
             return Ok(labels);
         }

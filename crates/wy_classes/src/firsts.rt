@@ -96,7 +96,7 @@ fn first_kinds(
     requires present { IsPresent terms.now present.now }
     ensures { IfOk result (λ o. IfSome o (λ firsts. HaveKinds (terms_of (tree_at terms.now) present.now) labels.now (tree_at terms.now) kinds.now (get nat_eq firsts) (length kinds.now))) }
 {
-    let mut firsts = HashMap::new(terms.allocator());
+    let mut firsts = HashMap::with_capacity(terms.allocator(), kinds.len())?;
     for i in 0..kinds.len() {
         if note_place(terms, present, labels, &mut firsts, kinds, i)? {
             return Ok(None);

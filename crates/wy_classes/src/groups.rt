@@ -120,7 +120,7 @@ pub fn grouped(terms: &Terms, present: &Present, labels: &[u32]) -> Result<Group
     ensures { IfOk result (AreGrouped terms.now (terms_of (tree_at terms.now) present.now) labels.now present.now.numbers.items) }
 {
     let mut groups = Groups {
-        found: HashMap::new(terms.allocator()),
+        found: HashMap::with_capacity(terms.allocator(), present.numbers.len())?,
         parted: false,
     };
     terms.one_number_for_each_term();

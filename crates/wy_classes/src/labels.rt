@@ -39,7 +39,7 @@ fn moved(from: u32, into: u32, l: u32) -> u32
 fn relabelled(alloc: Global, from: u32, into: u32, labels: &[u32]) -> Result<Vec<u32>, NoMemory>
     ensures { IfOk result (λ made. made.items ≡ classes.relabelled from into labels.now) }
 {
-    let mut made = Vec::new(alloc);
+    let mut made = Vec::with_capacity(alloc, labels.len())?;
     for l in labels {
         made.push(moved(from, into, *l))?;
     }
@@ -72,7 +72,7 @@ pub fn joined(
 pub fn first_labels(alloc: Global, count: usize) -> Result<Vec<u32>, NoMemory>
     ensures { IfOk result (λ made. made.items ≡ own_labels 0 count) }
 {
-    let mut made = Vec::new(alloc);
+    let mut made = Vec::with_capacity(alloc, count)?;
     for number in 0..count {
         match u32::try_from(number) {
             Ok(l) => made.push(l)?,

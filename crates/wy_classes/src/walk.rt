@@ -1,12 +1,13 @@
 //! The walk through a node.
-ghost use Rattle.std.specs.Prelude.{◌≡◌, ◌<◌, ◌++◌, [], ◌∷◌, false, true, Some, nat_eq, length, map, slice_get, IfOk, OnOk};
+ghost use Rattle.std.specs.Prelude.{◌≡◌, ◌<◌, ◌++◌, [], ◌∷◌, false, true, Some, nat_eq, length, map, slice_get, IfOk, IfSome, OnOk};
 ghost use Rattle.std.specs.HashSet.{contains};
 ghost use Rattle.wy_judge.specs.Node.{has_formula};
 ghost use Rattle.wy_judging.specs.Seen.{IsBare, IsBranch, seen_branch, seen_formula};
 ghost use Rattle.wy_search.specs.Standing as search;
 ghost use Rattle.wy_classes.specs.Begun.{AreBegun, BeginListed, BeginsMet, BeginsOne};
+ghost use Rattle.wy_classes.specs.Heads.{BeginsWith};
 ghost use Rattle.wy_classes.specs.Marks.{is_any_bound, listed_unless};
-ghost use Rattle.wy_classes.specs.Walk.{AreListed, AreTasks, IsWalk, leads, leads_from, list_of, next_tasks, of_literals, of_pending, tasks_of, visits};
+ghost use Rattle.wy_classes.specs.Walk.{AreListed, AreTasks, IsWalk, leads, leads_from, leads_with, list_of, next_tasks, of_literals, of_pending, tasks_of, visits, with_next};
 ghost use Rattle.wy_classes.specs.declared.task.Task.TheVariants.{Visit, Bind, Leave};
 ghost use Rattle.wy_term.specs.Nodes.{plain, tree_at};
 ghost use Rattle.wy_term.specs.Scope.{free_names};
@@ -110,23 +111,28 @@ fn with_one(tasks: &mut VecDeque<Task>, s: u32) -> Result<(), NoMemory>
     Ok(())
 }
 
-// These two terms next.
-fn with_two(tasks: &mut VecDeque<Task>, s: u32, t: u32) -> Result<(), NoMemory>
-    ensures { OnOk result (tasks.new.items ≡ visits (s ∷ t ∷ []) ++ tasks.old.items) }
+// The first of these terms at once, and then the second.
+fn first_of_two(tasks: &mut VecDeque<Task>, s: u32, t: u32) -> Result<Option<u32>, NoMemory>
+    ensures value { IfOk result (λ next. with_next next tasks.new.items ≡ visits (s ∷ t ∷ []) ++ tasks.old.items) }
+    ensures first { IfOk result (λ next. IfSome next (BeginsWith (s ∷ t ∷ []))) }
 {
     tasks.push_front(Task::Visit(t, true))?;
-    tasks.push_front(Task::Visit(s, true))?;
-    Ok(())
+    Ok(Some(s))
 }
 
-// These three terms next.
-fn with_three(tasks: &mut VecDeque<Task>, s: u32, t: u32, u: u32) -> Result<(), NoMemory>
-    ensures { OnOk result (tasks.new.items ≡ visits (s ∷ t ∷ u ∷ []) ++ tasks.old.items) }
+// The first of these terms at once, and then the others.
+fn first_of_three(
+    tasks: &mut VecDeque<Task>,
+    s: u32,
+    t: u32,
+    u: u32,
+) -> Result<Option<u32>, NoMemory>
+    ensures value { IfOk result (λ next. with_next next tasks.new.items ≡ visits (s ∷ t ∷ u ∷ []) ++ tasks.old.items) }
+    ensures first { IfOk result (λ next. IfSome next (BeginsWith (s ∷ t ∷ u ∷ []))) }
 {
     tasks.push_front(Task::Visit(u, true))?;
     tasks.push_front(Task::Visit(t, true))?;
-    tasks.push_front(Task::Visit(s, true))?;
-    Ok(())
+    Ok(Some(s))
 }
 
 // These terms next.
@@ -139,6 +145,18 @@ fn with_all(tasks: &mut VecDeque<Task>, parts: &[u32]) -> Result<(), NoMemory>
         tasks.push_front(Task::Visit(parts[left], true))?;
     }
     Ok(())
+}
+
+// The first of these terms at once, if there is one, and then the others.
+fn first_of_all(tasks: &mut VecDeque<Task>, parts: &[u32]) -> Result<Option<u32>, NoMemory>
+    ensures value { IfOk result (λ next. with_next next tasks.new.items ≡ visits parts.now ++ tasks.old.items) }
+    ensures first { IfOk result (λ next. IfSome next (BeginsWith parts.now)) }
+{
+    let Some((first, others)) = parts.split_first() else {
+        return Ok(None);
+    };
+    with_all(tasks, others)?;
+    Ok(Some(*first))
 }
 
 // The terms in these fields next.
@@ -165,29 +183,68 @@ fn with_range(tasks: &mut VecDeque<Task>, q: u32, by: &Quantifier) -> Result<(),
     Ok(())
 }
 
+// What stands in a term next, by its node: the part that it gives at once, if it gives one, and then the others.
+fn put_others(tasks: &mut VecDeque<Task>, k: u32, node: &Node) -> Result<Option<u32>, NoMemory>
+    ensures value { IfOk result (λ next. with_next next tasks.new.items ≡ next_tasks k (plain node.now) ++ tasks.old.items) }
+    ensures first { IfOk result (λ next. IfSome next (BeginsWith (plain node.now).parts)) }
+{
+    match node {
+        Node::Number(_) | Node::IntName(_, _) | Node::ValName(_, _) => Ok(None),
+        Node::Null | Node::Bool(_) => Ok(None),
+        Node::Neg(s) | Node::Num(s) | Node::Len(s) => Ok(Some(*s)),
+        Node::Int(s) | Node::Truth(s) | Node::Field(s, _) => Ok(Some(*s)),
+        Node::Kind(s, _) | Node::In(s, _) | Node::Not(s) => Ok(Some(*s)),
+        Node::Add(s, t) | Node::Sub(s, t) | Node::Mul(s, t) => first_of_two(tasks, *s, *t),
+        Node::Div(s, t) | Node::Mod(s, t) | Node::Repeat(s, t) => first_of_two(tasks, *s, *t),
+        Node::Get(s, t) | Node::SetField(s, _, t) => first_of_two(tasks, *s, *t),
+        Node::AtMost(s, t) | Node::Equal(s, t) => first_of_two(tasks, *s, *t),
+        Node::Update(s, t, u) => first_of_three(tasks, *s, *t, *u),
+        Node::Array(ks) | Node::And(ks) | Node::Or(ks) => first_of_all(tasks, ks),
+        Node::Record(fields) => {
+            with_fields(tasks, fields)?;
+            Ok(None)
+        }
+        Node::All(by) | Node::Some(by) => {
+            with_range(tasks, k, by)?;
+            Ok(None)
+        }
+    }
+}
+
 // What stands in a term next, by its node.
 fn put_parts(tasks: &mut VecDeque<Task>, k: u32, node: &Node) -> Result<(), NoMemory>
     ensures { OnOk result (tasks.new.items ≡ next_tasks k (plain node.now) ++ tasks.old.items) }
 {
-    match node {
-        Node::Number(_) | Node::IntName(_, _) | Node::ValName(_, _) => Ok(()),
-        Node::Null | Node::Bool(_) => Ok(()),
-        Node::Neg(s) | Node::Num(s) | Node::Len(s) => with_one(tasks, *s),
-        Node::Int(s) | Node::Truth(s) | Node::Field(s, _) => with_one(tasks, *s),
-        Node::Kind(s, _) | Node::In(s, _) | Node::Not(s) => with_one(tasks, *s),
-        Node::Add(s, t) | Node::Sub(s, t) | Node::Mul(s, t) => with_two(tasks, *s, *t),
-        Node::Div(s, t) | Node::Mod(s, t) | Node::Repeat(s, t) => with_two(tasks, *s, *t),
-        Node::Get(s, t) | Node::SetField(s, _, t) => with_two(tasks, *s, *t),
-        Node::AtMost(s, t) | Node::Equal(s, t) => with_two(tasks, *s, *t),
-        Node::Update(s, t, u) => with_three(tasks, *s, *t, *u),
-        Node::Array(ks) | Node::And(ks) | Node::Or(ks) => with_all(tasks, ks),
-        Node::Record(fields) => with_fields(tasks, fields),
-        Node::All(by) | Node::Some(by) => with_range(tasks, k, by),
+    match put_others(tasks, k, node)? {
+        Some(part) => with_one(tasks, part),
+        None => Ok(()),
     }
 }
 
-// Lists a term, and goes into its parts, where no quantifier was met before: unless it is listed, since it was begun then. A
-// denial is listed before it is begun.
+// Lists a term, where no quantifier was met before, and puts its parts next, but for the part that it gives, which comes before
+// them: unless it is listed, since it was begun then. A denial is listed before it is begun.
+fn enter(terms: &Terms, walk: &mut Walk, k: u32) -> Result<Option<u32>, NoMemory>
+    requires term { k < length terms.now }
+    requires walk { IsWalk terms.now walk.old }
+    requires begun { AreBegun (tree_at terms.now) walk.old (Visit k true ∷ walk.old.tasks.items) }
+    requires quantified { walk.old.quantified ≡ false }
+    ensures value { IfOk result (λ next. leads_with (tree_at terms.now) walk.new next ≡ leads_from (tree_at terms.now) walk.old (Visit k true)) }
+    ensures walk { OnOk result (IsWalk terms.now walk.new) }
+    ensures begun { IfOk result (λ next. AreBegun (tree_at terms.now) walk.new (with_next next walk.new.tasks.items)) }
+    ensures lower { IfOk result (λ next. IfSome next (λ s. s < k)) }
+    ensures quantified { walk.new.quantified ≡ walk.old.quantified }
+{
+    let node = terms.node(k);
+    let (f, holds) = bare_form(terms, k);
+    let more = list_first(terms, &mut walk.found, f, holds)?;
+    let known = holds && !more;
+    if known {
+        return Ok(None);
+    }
+    put_others(&mut walk.tasks, k, node)
+}
+
+// Lists a term, and goes into its parts, where no quantifier was met before: a first part is gone into at once, and so on.
 fn visit_first(terms: &Terms, walk: &mut Walk, k: u32) -> Result<(), NoMemory>
     requires term { k < length terms.now }
     requires walk { IsWalk terms.now walk.old }
@@ -197,14 +254,11 @@ fn visit_first(terms: &Terms, walk: &mut Walk, k: u32) -> Result<(), NoMemory>
     ensures walk { OnOk result (IsWalk terms.now walk.new) }
     ensures begun { OnOk result (AreBegun (tree_at terms.now) walk.new walk.new.tasks.items) }
 {
-    let node = terms.node(k);
-    let (f, holds) = bare_form(terms, k);
-    let more = list_first(terms, &mut walk.found, f, holds)?;
-    let known = holds && !more;
-    if known {
-        return Ok(());
+    let mut next = Some(k);
+    while let Some(part) = next {
+        next = enter(terms, walk, part)?;
     }
-    put_parts(&mut walk.tasks, k, node)
+    Ok(())
 }
 
 // So where one was met: unless that was begun before outside quantifiers.

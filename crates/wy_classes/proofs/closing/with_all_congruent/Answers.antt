@@ -7,7 +7,7 @@ use Rattle.wy_classes.specs.Signatures.{AreGrouped}
 use Rattle.wy_classes.proofs.ClosingLemmas.{all_next}
 use Rattle.wy_classes.proofs.SignatureLemmas.{round_stays}
 use Rattle.wy_classes.proofs.closing.with_all_congruent.Goals as goal
-use Rattle.wy_classes.proofs.closing.with_all_congruent.Goals.{then-not-branch+in_ok-labels+in_ok-groups-2, else-not-branch}
+use Rattle.wy_classes.proofs.closing.with_all_congruent.Goals.{then-not-branch+in_ok-labels+in_ok-groups, else-not-branch}
 
 pub returns-then-not-groups : goal.returns-then-not-groups
 returns-then-not-groups c =
@@ -24,16 +24,16 @@ loop-i-preserved c =
     let lt : c.loop-i.i < length ks = omega arith in
     record {
       left = elim c.if-not-branch.branch [
-        | then-not-branch+in_ok-labels+in_ok-groups-2 w ↦
+        | then-not-branch+in_ok-labels+in_ok-groups w ↦
             let is : w.index.result.now ≡ slice_index ks c.loop-i.i = get_or_read ks c.loop-i.i w.index.result.now lt w.index.ensures 0 in
             rw w.labels-is (all_next ts at ks c.loop-i.i old w.in_ok-labels.labels.items total lt (w.in_ok-labels.ensures ∙ ap (λ (k : ℕ). with_congruent ts old (at k) ts) is) c.loop-i.invariant.left)
         | else-not-branch w ↦
             let up : c.in_ok-is_settled.field-0 ≡ true = search rules in
-            let stays : with_congruent ts old (at (slice_index ks c.loop-i.i)) ts ≡ old = subst (λ (ls : List ℕ). with_congruent ts ls (at (slice_index ks c.loop-i.i)) ts ≡ ls) c.deref-in-loop-i.ensures.value (c.in_ok-is_settled.ensures up) in
+            let stays : with_congruent ts old (at (slice_index ks c.loop-i.i)) ts ≡ old = subst (λ (ls : List ℕ). with_congruent ts ls (at (slice_index ks c.loop-i.i)) ts ≡ ls) c.deref.ensures.value (c.in_ok-is_settled.ensures up) in
             rw w.labels-is (all_next ts at ks c.loop-i.i old old total lt (sym stays) c.loop-i.invariant.left)
       ];
       groups = elim c.if-not-branch.branch [
-        | then-not-branch+in_ok-labels+in_ok-groups-2 w ↦ rw (w.labels-is, w.groups-is) (subst (λ (ls : List ℕ). AreGrouped c.args.terms.now ts ls ks w.in_ok-groups-2.groups) w.deref-then-not-branch.ensures.value w.in_ok-groups-2.ensures)
+        | then-not-branch+in_ok-labels+in_ok-groups w ↦ rw (w.labels-is, w.groups-is) (subst (λ (ls : List ℕ). AreGrouped c.args.terms.now ts ls ks w.in_ok-groups.groups) w.deref-then-not-branch.ensures.value w.in_ok-groups.ensures)
         | else-not-branch w ↦ rw (w.labels-is, w.groups-is) c.loop-i.invariant.groups
       ];
     }

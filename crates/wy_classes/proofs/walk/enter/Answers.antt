@@ -1,15 +1,16 @@
 use Rattle.std.proofs.Common.{◌≡◌, ◌≤◌, ◌∙◌, ◌++◌, ◌∷◌, [], List, true, false, nat_eq, length, map, refl, sym, ap, subst, arith, rules}
+use Rattle.std.proofs.lemmas.Result.{IfOk-weaker}
 use Rattle.std.specs.HashSet.{contains}
 use Rattle.wy_judge.specs.Node.{has_formula}
 use Rattle.wy_judging.proofs.JudgingLemmas.{below_up}
 use Rattle.wy_judging.specs.Seen.{is_denied, seen_formula, signed, AreBelow}
 use Rattle.wy_classes.proofs.BegunLemmas.{LeadsTo, begun_on, listed_first, listed_on, next_below, passed_on, visit_first}
 use Rattle.wy_classes.proofs.GoneLemmas.{listed_same}
-use Rattle.wy_classes.proofs.TaskLemmas.{on_ok, three_parts}
-use Rattle.wy_classes.proofs.walk.visit_first.Goals as goal
+use Rattle.wy_classes.proofs.TaskLemmas.{first_below, tasks_behind, three_parts}
+use Rattle.wy_classes.proofs.walk.enter.Goals as goal
 use Rattle.wy_classes.specs.Begun.{AreUnderWay}
 use Rattle.wy_classes.specs.Marks.{listed_unless, with_unmarked}
-use Rattle.wy_classes.specs.Walk.{left_at, list_of, next_tasks}
+use Rattle.wy_classes.specs.Walk.{left_at, list_of, next_tasks, with_next}
 use Rattle.wy_classes.specs.declared.task.Task.{Task}
 use Rattle.wy_classes.specs.declared.task.Task.TheVariants.{Visit}
 use Rattle.wy_term.specs.Nodes.{plain, tree_at}
@@ -64,9 +65,9 @@ returns-clause-value c =
     let new = map (seen_formula at) c.list_first.new.found.keys.items in
     let none : c.args.walk.now.around.items ≡ [] = c.requires.begun.outside c.requires.quantified in
     let listed : new ≡ listed_unless false old (at c.args.k) = c.in_ok-more.ensures.value ∙ ap (listed_unless false old) c.bare_form-f.ensures.value in
-    on_ok c.put_parts.result _ _ (λ put.
+    IfOk-weaker c.put_others.result _ _ (λ next put.
     ap (λ (us : List Task). with_unmarked new (left_at at us (map at c.args.walk.now.around.items))) put
-    ∙ (visit_first at c.args.k p old new c.args.walk.now.around.items c.node-node.ensures.tree (three_parts c.node-node.result.now) listed none).same ts) c.put_parts.ensures
+    ∙ (visit_first at c.args.k p old new c.args.walk.now.around.items c.node-node.ensures.tree (three_parts c.node-node.result.now) listed none).same ts) c.put_others.ensures.value
 
 pub returns-clause-walk : goal.returns-clause-walk
 returns-clause-walk c =
@@ -74,11 +75,11 @@ returns-clause-walk c =
     let p = plain c.node-node.result.now in
     let le : c.args.k ≤ n = omega (arith, c.requires.term) in
     let low : AreBelow n p.parts = below_up c.args.k n p.parts le c.node-node.ensures.within in
-    on_ok c.put_parts.result _ _ (λ put. record {
+    IfOk-weaker c.put_others.result _ _ (λ next put. record {
       found = c.in_ok-more.ensures.listed;
       around = c.requires.walk.around;
-      tasks = next_below n c.args.k p c.args.walk.now.tasks.items c.put_parts.new.tasks.items c.requires.term low (three_parts c.node-node.result.now) c.requires.walk.tasks put;
-    }) c.put_parts.ensures
+      tasks = tasks_behind n next c.put_others.new.tasks.items (next_below n c.args.k p c.args.walk.now.tasks.items (with_next next c.put_others.new.tasks.items) c.requires.term low (three_parts c.node-node.result.now) c.requires.walk.tasks put);
+    }) c.put_others.ensures.value
 
 pub returns-clause-begun : goal.returns-clause-begun
 returns-clause-begun c =
@@ -94,11 +95,14 @@ returns-clause-begun c =
     let listed : new ≡ listed_unless false old (at c.args.k) = c.in_ok-more.ensures.value ∙ ap (listed_unless false old) c.bare_form-f.ensures.value in
     let leads : LeadsTo at old new around around (Visit c.args.k true) (next_tasks c.args.k p) =
     visit_first at c.args.k p old new c.args.walk.now.around.items c.node-node.ensures.tree (three_parts c.node-node.result.now) listed none in
-    on_ok c.put_parts.result _ _ (λ put. record {
-      each = begun_on at old new around around (Visit c.args.k true) (next_tasks c.args.k p) ts c.put_parts.new.tasks.items begun begun leads put (λ j e. e) c.requires.begun.each;
+    IfOk-weaker c.put_others.result _ _ (λ next put. record {
+      each = begun_on at old new around around (Visit c.args.k true) (next_tasks c.args.k p) ts (with_next next c.put_others.new.tasks.items) begun begun leads put (λ j e. e) c.requires.begun.each;
       listed =
-          λ un. listed_first at c.args.k p old new around ts c.put_parts.new.tasks.items c.node-node.ensures.tree (three_parts c.node-node.result.now)
+          λ un. listed_first at c.args.k p old new around ts (with_next next c.put_others.new.tasks.items) c.node-node.ensures.tree (three_parts c.node-node.result.now)
           (subst (λ (ws : List Term). LeadsTo at old new ws around (Visit c.args.k true) (next_tasks c.args.k p)) empty leads) put listed
           (subst (λ (ws : List Term). AreUnderWay at old (Visit c.args.k true ∷ ts) ws) empty (c.requires.begun.listed c.requires.quantified));
       outside = c.requires.begun.outside;
-    }) c.put_parts.ensures
+    }) c.put_others.ensures.value
+
+pub returns-clause-lower : goal.returns-clause-lower
+returns-clause-lower c = IfOk-weaker c.put_others.result _ _ (first_below c.args.k (plain c.node-node.result.now).parts c.node-node.ensures.within) c.put_others.ensures.first
