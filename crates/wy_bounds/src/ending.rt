@@ -63,7 +63,7 @@ pub fn ending_of_elimination(
     if found.leaves {
         return Ok(Ending::Wide);
     }
-    match eliminate(terms.allocator(), &found.forms) {
+    match eliminate(terms.allocator(), found.forms) {
         Ok(end) => Ok(ending_of(&end)),
         Err(_) => Err(NoMemory),
     }

@@ -65,11 +65,11 @@ fn eliminated(alloc: Global, count: usize, table: Table) -> Result<Elim, NoMemor
 }
 
 /// Takes one variable after the other away from forms that are to be at least 0.
-pub fn eliminate(alloc: Global, forms: &[Form]) -> Result<Elim, NoMemory>
-    ensures value { IfOk result (λ e. e ≡ elimination.elimination (map linear_form forms.now)) }
+pub fn eliminate(alloc: Global, forms: Vec<Form>) -> Result<Elim, NoMemory>
+    ensures value { IfOk result (λ e. e ≡ elimination.elimination (map linear_form forms.items)) }
 {
-    let first = at_first(alloc, forms)?;
-    match ended(given(alloc, first, forms)?) {
+    let first = at_first(alloc, forms);
+    match ended(given(alloc, first)?) {
         Next::Ends(end) => Ok(end),
         Next::GoesOn(table) => {
             let found = variables(alloc, table.all.as_slice(), table.standing.as_slice())?;

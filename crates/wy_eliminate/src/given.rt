@@ -1,41 +1,28 @@
 //! The given forms come to stand.
-ghost use Rattle.std.specs.Prelude.{◌≡◌, [], ◌∷◌, map, IfOk};
+ghost use Rattle.std.specs.Prelude.{◌≡◌, ◌<◌, [], ◌∷◌, map, IfOk};
+ghost use Rattle.wy_lin.specs.Combination.{form_at};
 ghost use Rattle.wy_lin.specs.Seen.{linear_form};
+ghost use Rattle.wy_eliminate.specs.Division.{lowered};
 ghost use Rattle.wy_eliminate.specs.Elimination as elimination;
 ghost use Rattle.wy_eliminate.specs.Seen.{seen_table, seen_turn};
 
 use crate::division::{common, lowered};
+use crate::places::{constant_at, form_at, parts_at};
 use crate::table::{Outcome, Table, is_crowded, place_of, refuted_by, with_cut, with_place};
-use smallvec::SmallVec;
 use std::alloc::Global;
 use wy_items::Items;
 use wy_lin::{Form, NoMemory};
 
-// A copy of a form.
-fn copied(alloc: Global, form: &Form) -> Result<Form, NoMemory>
-    ensures value { IfOk result (λ made. linear_form made ≡ linear_form form.now) }
-{
-    let parts = SmallVec::from_slice(alloc, form.parts.as_slice())?;
-    Ok(Form {
-        parts,
-        constant: form.constant,
-    })
-}
-
 /// The table of the given forms, none of which stands yet.
-pub fn at_first(alloc: Global, forms: &[Form]) -> Result<Table, NoMemory>
-    ensures value { IfOk result (λ t. seen_table t ≡ elimination.at_first (map linear_form forms.now)) }
+pub fn at_first(alloc: Global, forms: Vec<Form>) -> Table
+    ensures value { seen_table result ≡ elimination.at_first (map linear_form forms.items) }
 {
-    let mut all = Vec::new(alloc);
-    for form in forms {
-        all.push(copied(alloc, form)?)?;
-    }
-    Ok(Table {
-        all,
+    Table {
+        all: forms,
         standing: Items::new(alloc),
         steps: Items::new(alloc),
         wide: false,
-    })
+    }
 }
 
 // Once the form at a place.
@@ -47,12 +34,24 @@ fn once(alloc: Global, i: u32) -> Result<Items<(u128, u32)>, NoMemory>
     Ok(made)
 }
 
-// A given form, by the greatest common divisor of its coefficients.
-fn given_by(alloc: Global, table: Table, i: u32, form: &Form, d: u128) -> Result<Outcome, NoMemory>
-    ensures value { IfOk result (λ o. seen_turn o ≡ elimination.given_by (seen_table table) i (linear_form form.now) d) }
+// The form at a place, divided, comes to stand.
+fn with_lowered(alloc: Global, table: Table, i: u32, d: u128) -> Result<Table, NoMemory>
+    requires { 0 < d }
+    ensures value { IfOk result (λ t. seen_table t ≡ elimination.with_cut (seen_table table) d ((1, i) ∷ []) (lowered d (form_at (map linear_form table.all.items) i))) }
+{
+    let Some(form) = form_at(table.all.as_slice(), i) else {
+        return Err(NoMemory);
+    };
+    let made = lowered(alloc, d, form)?;
+    with_cut(table, d, once(alloc, i)?, made)
+}
+
+// The given form at a place, by the greatest common divisor of its coefficients.
+fn given_by(alloc: Global, table: Table, i: u32, d: u128) -> Result<Outcome, NoMemory>
+    ensures value { IfOk result (λ o. seen_turn o ≡ elimination.given_by (seen_table table) i (form_at (map linear_form table.all.items) i) d) }
 {
     if d == 0 {
-        if form.constant < 0 {
+        if constant_at(table.all.as_slice(), i) < 0 {
             return refuted_by(table, once(alloc, i)?);
         }
         return Ok(Outcome::GoesOn(table));
@@ -61,22 +60,28 @@ fn given_by(alloc: Global, table: Table, i: u32, form: &Form, d: u128) -> Result
         return Ok(Outcome::GoesOn(table));
     }
     if d == 1 {
-        return Ok(Outcome::GoesOn(with_place(table, i, form)?));
+        return Ok(Outcome::GoesOn(with_place(table, i)?));
     }
-    let once = once(alloc, i)?;
-    let made = lowered(alloc, d, form)?;
-    Ok(Outcome::GoesOn(with_cut(table, d, once, made)?))
+    Ok(Outcome::GoesOn(with_lowered(alloc, table, i, d)?))
 }
 
-/// The given forms one after the other.
-pub fn given(alloc: Global, table: Table, forms: &[Form]) -> Result<Outcome, NoMemory>
-    ensures value { IfOk result (λ o. seen_turn o ≡ elimination.given_from (seen_table table) 0 (map linear_form forms.now)) }
+// The given form at a place.
+fn given_at(alloc: Global, table: Table, i: u32) -> Result<Outcome, NoMemory>
+    ensures value { IfOk result (λ o. seen_turn o ≡ elimination.given (seen_table table) i (form_at (map linear_form table.all.items) i)) }
 {
+    let d = common(parts_at(table.all.as_slice(), i));
+    given_by(alloc, table, i, d)
+}
+
+/// The given forms one after the other. Those of cuts stand behind them.
+pub fn given(alloc: Global, table: Table) -> Result<Outcome, NoMemory>
+    ensures value { IfOk result (λ o. seen_turn o ≡ elimination.given_from (seen_table table) 0 (map linear_form table.all.items)) }
+{
+    let count = table.all.len();
     let mut table = table;
-    for (i, form) in forms.iter().enumerate() {
+    for i in 0..count {
         let place = place_of(i)?;
-        let d = common(form.parts.as_slice());
-        match given_by(alloc, table, place, form, d)? {
+        match given_at(alloc, table, place)? {
             Outcome::GoesOn(next) => table = next,
             Outcome::Refuted(steps) => return Ok(Outcome::Refuted(steps)),
         }

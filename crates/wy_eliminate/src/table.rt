@@ -1,5 +1,6 @@
 //! The forms that stand, and the steps that gave them.
 ghost use Rattle.std.specs.Prelude.{◌≡◌, ◌≤◌, ◌<◌, length, map, slice_index, IfOk};
+ghost use Rattle.wy_lin.specs.Combination.{form_at};
 ghost use Rattle.wy_lin.specs.Seen.{linear_form};
 ghost use Rattle.wy_eliminate.specs.Elimination as elimination;
 ghost use Rattle.wy_eliminate.specs.Seen.{seen_table, seen_turn};
@@ -93,9 +94,9 @@ pub fn place_of(index: usize) -> Result<u32, NoMemory>
     }
 }
 
-/// A form that has a place comes to stand.
-pub fn with_place(table: Table, i: u32, form: &Form) -> Result<Table, NoMemory>
-    ensures value { IfOk result (λ t. seen_table t ≡ elimination.with_place (seen_table table) i (linear_form form.now)) }
+/// The form at a place comes to stand.
+pub fn with_place(table: Table, i: u32) -> Result<Table, NoMemory>
+    ensures value { IfOk result (λ t. seen_table t ≡ elimination.with_place (seen_table table) i (form_at (map linear_form table.all.items) i)) }
 {
     let Table {
         all,
@@ -103,8 +104,17 @@ pub fn with_place(table: Table, i: u32, form: &Form) -> Result<Table, NoMemory>
         steps,
         wide,
     } = table;
-    let equal = equal_place(all.as_slice(), form.parts.as_slice(), standing.as_slice());
-    if !is_less(all.as_slice(), standing.as_slice(), form.constant, equal) {
+    let equal = equal_place(
+        all.as_slice(),
+        parts_at(all.as_slice(), i),
+        standing.as_slice(),
+    );
+    if !is_less(
+        all.as_slice(),
+        standing.as_slice(),
+        constant_at(all.as_slice(), i),
+        equal,
+    ) {
         return Ok(Table {
             all,
             standing,

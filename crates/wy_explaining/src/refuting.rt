@@ -186,13 +186,13 @@ fn push_steps(
     Ok(())
 }
 
-// The plan by the steps of an elimination.
+// The plan by the steps of an elimination, which was given a form for each of these literals.
 fn by_steps(
     terms: &mut Terms,
     branch: &Branch,
     present: &Present,
     labels: &[u32],
-    sources: &Sources,
+    literals: &[usize],
     steps: &Steps,
 ) -> Result<Vec<Action>, NoMemory>
     requires branch { IsBranch terms.old branch.now }
@@ -200,9 +200,9 @@ fn by_steps(
     ensures { Stays terms.old terms.new }
 {
     let alloc = terms.allocator();
-    let given = sources.forms.len();
+    let given = literals.len();
     let marked = needed(alloc, given, &steps.list)?;
-    let all = used_literals(terms, branch, present, labels, &marked, &sources.literals)?;
+    let all = used_literals(terms, branch, present, labels, &marked, literals)?;
     let mut plan = Vec::new(alloc);
     push_chains(terms, branch, present, labels, &all, &mut plan)?;
     let mut stated = Stated {
@@ -256,7 +256,7 @@ fn by_sources(
     branch: &Branch,
     present: &Present,
     labels: &[u32],
-    sources: &Sources,
+    sources: Sources,
 ) -> Result<Option<Vec<Action>>, NoMemory>
     requires branch { IsBranch terms.old branch.now }
     requires present { IsPresent terms.old present.now }
@@ -269,9 +269,9 @@ fn by_sources(
     if sources.leaves {
         return Ok(None);
     }
-    match eliminate(terms.allocator(), &sources.forms) {
+    match eliminate(terms.allocator(), sources.forms) {
         Ok(Elim::Refuted(steps)) => {
-            let plan = by_steps(terms, branch, present, labels, sources, &steps)?;
+            let plan = by_steps(terms, branch, present, labels, &sources.literals, &steps)?;
             Ok(Some(plan))
         }
         Ok(_) => Ok(None),
@@ -293,5 +293,5 @@ pub fn why_it_refutes(
     ensures { Stays terms.old terms.new }
 {
     let sources = sources_of(terms, branch, present, labels)?;
-    by_sources(terms, branch, present, labels, &sources)
+    by_sources(terms, branch, present, labels, sources)
 }

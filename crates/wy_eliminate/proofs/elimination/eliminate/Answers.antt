@@ -10,10 +10,10 @@ use Rattle.wy_eliminate.proofs.elimination.eliminate.Goals as goal
 
 pub returns-in_ok-found-in-GoesOn : goal.returns-in_ok-found-in-GoesOn
 returns-in_ok-found-in-GoesOn c =
-    let fs = map linear_form c.args.forms.now in
+    let fs = map linear_form c.args.forms.items in
     let next : State → Elim = λ s. eliminated (length (variables s.all s.standing)) s in
     let t = seen_table c.in-GoesOn.table in
-    let first : given_from (at_first fs) 0 fs ≡ seen_turn c.in_ok-given.field-0 = ap (λ (s : State). given_from s 0 fs) (sym c.in_ok-first.ensures.value) ∙ sym c.in_ok-given.ensures.value in
+    let first : given_from (at_first fs) 0 fs ≡ seen_turn c.in_ok-given.field-0 = ap (λ (s : State). given_from s 0 s.all) (sym c.at_first-first.ensures.value) ∙ sym c.in_ok-given.ensures.value in
     let then_on : ended (seen_turn c.in_ok-given.field-0) next ≡ next t = c.in-GoesOn.ensures.value next in
     let entries : entries_of c.in_ok-found-in-GoesOn.found ≡ variables t.all t.standing =
     c.in_ok-found-in-GoesOn.ensures.value
