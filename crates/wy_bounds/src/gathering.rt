@@ -28,15 +28,15 @@ pub struct Gathered {
     pub forms: Vec<Form>,
 }
 
-// Nothing yet.
-fn nothing(alloc: Global) -> Gathered
-    ensures { Gathers result [] }
+// Nothing yet, and room for as many forms.
+fn nothing(alloc: Global, room: usize) -> Result<Gathered, NoMemory>
+    ensures { IfOk result (λ g. Gathers g []) }
 {
-    Gathered {
+    Ok(Gathered {
         refutes: false,
         leaves: false,
-        forms: Vec::new(alloc),
-    }
+        forms: Vec::with_capacity(alloc, room)?,
+    })
 }
 
 // What is left of one form more.
@@ -98,7 +98,7 @@ pub fn gather(
     ensures stays { Stays terms.old terms.new }
 {
     let firsts = first_places(terms.allocator(), labels)?;
-    let mut gathered = nothing(terms.allocator());
+    let mut gathered = nothing(terms.allocator(), branch.literals.len())?;
     for i in 0..branch.literals.len() {
         take_literal(
             terms,
