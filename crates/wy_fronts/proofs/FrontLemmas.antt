@@ -1,5 +1,5 @@
 -- How a front grows and shrinks.
-use Rattle.std.proofs.Common.{◌≡◌, ◌∙◌, ◌+◌, ◌<◌, ◌≤◌, ℕ, zero, suc, List, [], ◌∷◌, ◌++◌, map, take, length, Bool, refl, sym, ap, subst, arith}
+use Rattle.std.proofs.Common.{◌≡◌, ◌∙◌, ◌+◌, ◌<◌, ℕ, zero, suc, List, [], ◌∷◌, ◌++◌, map, take, length, Bool, refl, sym, ap, subst, arith}
 use Rattle.std.proofs.lemmas.List.{take_at, length-append, length-take-le}
 use Rattle.wy_facts.specs.Seen.{Stays}
 use Rattle.wy_facts.proofs.StepLemmas.{below_kept, terms_kept}
@@ -8,7 +8,7 @@ use Rattle.wy_fronts.specs.declared.front.Size.{Size}
 use Rattle.wy_fronts.specs.Front.{node_of, AreMade, IsFirst, IsFront}
 use Rattle.wy_judge.specs.Node.{Node, added, bare, with_formulas}
 use Rattle.wy_judging.specs.declared.branch.Branch.{Branch}
-use Rattle.wy_judging.specs.Seen.{seen_branch, seen_formula, seen_literal, AreBelow, AreOver, Extends, IsBranch, StartsWith}
+use Rattle.wy_judging.specs.Seen.{seen_branch, seen_formula, seen_literal, AreBelow, AreOver, Extends, IsBranch}
 use Rattle.wy_judging.proofs.BranchLemmas.{over_take}
 use Rattle.wy_judging.proofs.SumsBranchLemmas.{branch_stays}
 use Rattle.wy_term.specs.Nodes.{Plain, tree_at}

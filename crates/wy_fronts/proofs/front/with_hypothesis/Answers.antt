@@ -1,4 +1,4 @@
-use Rattle.std.proofs.Common.{◌≡◌, ◌∷◌, refl, rules}
+use Rattle.std.proofs.Common.{◌≡◌, ◌∷◌, rules}
 use Rattle.wy_fronts.proofs.FrontLemmas.{more_front}
 use Rattle.wy_fronts.proofs.front.with_hypothesis.Goals as goal
 
