@@ -1,6 +1,6 @@
 -- How a front grows and shrinks.
-use Rattle.std.proofs.Common.{◌≡◌, ◌∙◌, ◌≤◌, ℕ, zero, suc, List, [], ◌∷◌, ◌++◌, map, take, length, Bool, refl, sym, ap, subst, arith}
-use Rattle.std.proofs.lemmas.List.{take_at, length-append}
+use Rattle.std.proofs.Common.{◌≡◌, ◌∙◌, ◌+◌, ◌<◌, ℕ, zero, suc, List, [], ◌∷◌, ◌++◌, map, take, length, Bool, refl, sym, ap, subst, arith}
+use Rattle.std.proofs.lemmas.List.{take_at, length-append, length-take-le}
 use Rattle.wy_facts.specs.Seen.{Stays}
 use Rattle.wy_facts.proofs.StepLemmas.{below_kept, terms_kept}
 use Rattle.wy_fronts.specs.declared.front.Front.{Front}
@@ -8,7 +8,7 @@ use Rattle.wy_fronts.specs.declared.front.Size.{Size}
 use Rattle.wy_fronts.specs.Front.{node_of, AreMade, IsFirst, IsFront}
 use Rattle.wy_judge.specs.Node.{Node, added, bare, with_formulas}
 use Rattle.wy_judging.specs.declared.branch.Branch.{Branch}
-use Rattle.wy_judging.specs.Seen.{seen_branch, seen_formula, seen_literal, AreBelow, AreOver, Extends, IsBranch, StartsWith}
+use Rattle.wy_judging.specs.Seen.{seen_branch, seen_formula, seen_literal, AreBelow, AreOver, Extends, IsBranch}
 use Rattle.wy_judging.proofs.BranchLemmas.{over_take}
 use Rattle.wy_judging.proofs.SumsBranchLemmas.{branch_stays}
 use Rattle.wy_term.specs.Nodes.{Plain, tree_at}
@@ -28,7 +28,7 @@ with_last at node [] h = refl
 with_last at node (k ∷ ks) h = with_last at (added node (at k)) ks h
 
 front_of : {A : Type 0} (xs ys : List A) (k : ℕ) → (zs : List A) → ys ≡ xs ++ zs → k ≡ length xs → take k ys ≡ xs
-front_of xs ys k zs more here = ap (take k) more ∙ take_at xs zs k here
+front_of xs ys k zs more here = ap (take k) more ∙ take_at xs zs k (sym here)
 
 pub made_more : (at : ℕ → Term) (b c : Branch) (hs : List ℕ) (ss : List Size) (s : Size) (h : ℕ) → s.literals ≡ length b.literals.keys → s.pending ≡ length b.pending.keys → length hs ≡ length ss → Extends b c → seen_branch at c ≡ added (seen_branch at b) (at h) → AreMade at b.literals.keys b.pending.keys hs ss → AreMade at c.literals.keys c.pending.keys (hs ++ h ∷ []) (s ∷ ss)
 made_more at b c hs ss s h literals pending count more is made =
@@ -106,3 +106,47 @@ front_stays old new f stays is = record {
   count = is.count;
   made = made_stays old new f.branch.literals.keys f.branch.pending.keys f.hyps.items f.sizes.items stays is.branch.literals is.branch.pending is.hyps is.made;
 }
+
+-- ---- steps
+
+pub below_last : (n k : ℕ) (hs : List ℕ) → AreBelow n hs → k < n → AreBelow n (hs ++ k ∷ [])
+below_last n k [] low lt zero d l = lt
+below_last n k [] low lt (suc i) d l = absurd (omega (arith, l))
+below_last n k (h ∷ hs) low lt zero d l = low 0 d (omega arith)
+below_last n k (h ∷ hs) low lt (suc i) d l = below_last n k hs (λ j e m. low (suc j) e (omega (arith, m))) lt i d (omega (arith, l))
+
+-- the front without its last hypothesis
+pub less_front : (nodes : List Plain) (f g : Front) (s : Size) (ss : List Size) → IsFront nodes f → f.sizes.items ≡ s ∷ ss → g.sizes.items ≡ ss → g.hyps.items ≡ take (length ss) f.hyps.items → g.branch.literals.keys ≡ take s.literals f.branch.literals.keys → g.branch.pending.keys ≡ take s.pending f.branch.pending.keys → IsBranch nodes g.branch → IsFront nodes g
+less_front nodes f g s ss is was sizes hyps ls ps branch =
+    let at = tree_at nodes in
+    let fs = take s.literals f.branch.literals.keys in
+    let gs = take s.pending f.branch.pending.keys in
+    let all : AreMade at f.branch.literals.keys f.branch.pending.keys f.hyps.items (s ∷ ss) = subst (AreMade at f.branch.literals.keys f.branch.pending.keys f.hyps.items) was is.made in
+    let one : AreMade at fs gs g.hyps.items ss = subst (λ (xs : List ℕ). AreMade at fs gs xs ss) (sym hyps) all.1 in
+    let two : AreMade at fs gs g.hyps.items g.sizes.items = subst (λ (xs : List Size). AreMade at fs gs g.hyps.items xs) (sym sizes) one in
+    let three : AreMade at g.branch.literals.keys gs g.hyps.items g.sizes.items = subst (λ (xs : Pairs). AreMade at xs gs g.hyps.items g.sizes.items) (sym ls) two in
+    let long : length f.hyps.items ≡ suc (length ss) = is.count ∙ ap length was in
+    let short : length (take (length ss) f.hyps.items) ≡ length ss = length-take-le (length ss) f.hyps.items (omega (arith, long)) in
+    record {
+      branch = branch;
+      hyps = subst (AreBelow (length nodes)) (sym hyps) (below_take (length nodes) (length ss) f.hyps.items is.hyps);
+      count = ap length hyps ∙ (short ∙ sym (ap length sizes));
+      made = subst (λ (xs : Pairs). AreMade at g.branch.literals.keys xs g.hyps.items g.sizes.items) (sym ps) three;
+    }
+
+-- the front with one hypothesis more
+pub more_front : (nodes : List Plain) (f g : Front) (s : Size) (h : ℕ) → IsFront nodes f → h < length nodes → g.sizes.items ≡ s ∷ f.sizes.items → g.hyps.items ≡ f.hyps.items ++ h ∷ [] → s.literals ≡ length f.branch.literals.keys → s.pending ≡ length f.branch.pending.keys → Extends f.branch g.branch → seen_branch (tree_at nodes) g.branch ≡ added (seen_branch (tree_at nodes) f.branch) (tree_at nodes h) → IsBranch nodes g.branch → IsFront nodes g
+more_front nodes f g s h is lt sizes hyps literals pending more made branch =
+    let at = tree_at nodes in
+    let ls = g.branch.literals.keys in
+    let ps = g.branch.pending.keys in
+    let all : AreMade at ls ps (f.hyps.items ++ h ∷ []) (s ∷ f.sizes.items) = made_more at f.branch g.branch f.hyps.items f.sizes.items s h literals pending is.count more made is.made in
+    let one : AreMade at ls ps g.hyps.items (s ∷ f.sizes.items) = subst (λ (xs : List ℕ). AreMade at ls ps xs (s ∷ f.sizes.items)) (sym hyps) all in
+    let longer : length (f.hyps.items ++ h ∷ []) ≡ length f.hyps.items + 1 = length-append f.hyps.items (h ∷ []) in
+    let counted : length (f.hyps.items ++ h ∷ []) ≡ length (s ∷ f.sizes.items) = omega (arith, longer, is.count) in
+    record {
+      branch = branch;
+      hyps = subst (AreBelow (length nodes)) (sym hyps) (below_last (length nodes) h f.hyps.items is.hyps lt);
+      count = ap length hyps ∙ (counted ∙ sym (ap length sizes));
+      made = subst (AreMade at ls ps g.hyps.items) (sym sizes) one;
+    }
