@@ -9,9 +9,9 @@ use Rattle.wy_searching.specs.Turns.{begun}
 use Rattle.wy_searching.proofs.WalkLemmas.{leads_by, turn_follows, turn_spent}
 use Rattle.wy_searching.proofs.walk.first_turn.Goals as goal
 
-pub returns-then-budget-clause-value : goal.returns-then-budget-clause-value
-returns-then-budget-clause-value c =
-    let none : 0 ≡ c.args.budget = omega (arith, c.if-budget.true) in
+pub returns-then-budget-eq0-clause-value : goal.returns-then-budget-eq0-clause-value
+returns-then-budget-eq0-clause-value c =
+    let none : 0 ≡ c.args.budget = omega (arith, c.if-budget-eq0.true) in
     turn_spent (condition_of c.args.terms.now c.args.cond.now).types c.args.budget 0 (begun (seen_branch (tree_at c.args.terms.now) c.args.branch.now)) [] none
 
 pub returns-clause-value : goal.returns-clause-value
@@ -21,7 +21,7 @@ returns-clause-value c =
     let p = begun (seen_branch (tree_at c.args.terms.now) c.args.branch.now) in
     let left = map (seen_spot (tree_at now)) c.new.result.items in
     leads_by c.behind.result (tree_at now) (tree.follows (tree.next types p) 0 p left) (tree.one_turn types c.args.budget 0 (p ∷ []))
-    (turn_follows types c.args.budget 0 p [] left (λ e. c.if-budget.false (omega (arith, e))) (ap (map (seen_spot (tree_at now))) c.new.ensures.items))
+    (turn_follows types c.args.budget 0 p [] left (λ e. c.if-budget-eq0.false (omega (arith, e))) (ap (map (seen_spot (tree_at now))) c.new.ensures.items))
     (c.behind.ensures.value p (tree.next types p) c.in_ok-next.ensures.value)
 
 pub returns-clause-known : goal.returns-clause-known

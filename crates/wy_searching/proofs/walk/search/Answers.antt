@@ -1,5 +1,4 @@
 use Rattle.std.proofs.Common.{◌≡◌, ◌∙◌, ap, length, length-take, arith}
-use Rattle.std.proofs.lemmas.Result.{on_ok_weaker}
 use Rattle.wy_bounds.specs.Known.{AgreesUpTo}
 use Rattle.wy_facts.specs.Seen.{Stays}
 use Rattle.wy_fronts.proofs.FrontLemmas.{front_stays}

@@ -42,11 +42,11 @@ loop-turn-preserved c =
     let ps = map (seen_spot (tree_at now)) walk.spots.items in
     let same = types_stay old now c.args.cond.now c.loop-turn.invariant.stays c.requires.types in
     record {
-      comes = comes_by cond c.args.budget walk.leaves ps (tree_at new) c.in_ok-turned-2-in-GoesOn.turned
+      comes = comes_by cond c.args.budget walk.leaves ps (tree_at new) c.in_ok-turned-in-GoesOn.turned
           (subst (Comes cond c.args.budget (tree_at now)) c.in-GoesOn.is c.loop-turn.invariant.comes)
-          (subst (λ (es : List Entry). Leads (tree.one_turn es c.args.budget walk.leaves ps) (tree_at new) c.in_ok-turned-2-in-GoesOn.turned) same c.in_ok-turned-2-in-GoesOn.ensures.value);
-      over = c.in_ok-turned-2-in-GoesOn.ensures.walk;
-      forms = c.in_ok-turned-2-in-GoesOn.ensures.known;
+          (subst (λ (es : List Entry). Leads (tree.one_turn es c.args.budget walk.leaves ps) (tree_at new) c.in_ok-turned-in-GoesOn.turned) same c.in_ok-turned-in-GoesOn.ensures.value);
+      over = c.in_ok-turned-in-GoesOn.ensures.walk;
+      forms = c.in_ok-turned-in-GoesOn.ensures.known;
       front = c.loop-turn.invariant.front;
-      stays = stays_on old now new c.loop-turn.invariant.stays c.in_ok-turned-2-in-GoesOn.ensures.stays;
+      stays = stays_on old now new c.loop-turn.invariant.stays c.in_ok-turned-in-GoesOn.ensures.stays;
     }
