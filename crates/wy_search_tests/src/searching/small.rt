@@ -170,9 +170,10 @@ fn small_conditions_end_so(rt: HostRuntime) -> Result<(), NoMemory> {
 
 #[test]
 fn a_search_ends_so_behind_another(rt: HostRuntime) -> Result<(), NoMemory> {
-    for i in 1..ROWS.len() {
-        let found = ended_behind(rt.alloc(), &ROWS[i - 1], &ROWS[i])?;
-        assert_eq!(rt; found.as_slice(), ROWS[i].want.as_bytes());
+    let rows = &ROWS;
+    for i in 1..rows.len() {
+        let found = ended_behind(rt.alloc(), &rows[i - 1], &rows[i])?;
+        assert_eq!(rt; found.as_slice(), rows[i].want.as_bytes());
     }
     Ok(())
 }
