@@ -1,0 +1,7 @@
+mod NumberLemmas
+mod EachLemmas
+mod BoundLemmas
+mod PartLemmas
+mod OnceLemmas
+mod CutLemmas
+mod StandingLemmas

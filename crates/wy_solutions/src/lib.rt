@@ -1,0 +1,8 @@
+//! What the elimination's answer Consistent means.
+//!
+//! `specs/Solutions` says what a solution in fractions is; the elimination is that of `wy_eliminate`.
+#![tactic(auto)]
+
+mod law;
+
+pub use law::no_variable_is_left;
