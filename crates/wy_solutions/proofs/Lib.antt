@@ -5,3 +5,7 @@ mod PartLemmas
 mod OnceLemmas
 mod CutLemmas
 mod StandingLemmas
+mod GivenLemmas
+mod PairLemmas
+mod SideLemmas
+mod TurnLemmas

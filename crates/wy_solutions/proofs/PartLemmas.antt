@@ -189,13 +189,17 @@ either_sum a b (inl e) g = omega (arith, ints, e)
 either_sum a b (inr e) (inl g) = omega (arith, ints, g)
 either_sum a b (inr e) (inr g) = omega (arith, ints, e, g)
 
+pub opposed_coefficient : (ps qs : List (ℤ × ℕ)) (v : ℕ) → opposite ps qs ≡ true → coefficient eqb qs v ≡ neg_ℤ (coefficient eqb ps v)
+opposed_coefficient ps qs v e =
+    let h = both_true (opposes ps qs) (opposes qs ps) e in
+    either_sum (coefficient eqb ps v) (coefficient eqb qs v) (opposed ps qs v h.0) (opposed qs ps v h.1)
+
 turned_around : (a b x : ℤ) → b ≡ neg_ℤ a → b *ℤ x ≡ negsuc 0 *ℤ (a *ℤ x)
 turned_around a b x e = ap (λ (c : ℤ). c *ℤ x) (e ∙ sym (minus_times a)) ∙ times_assoc (negsuc 0) a x
 
 pub worth_opposed : (x : ℕ → ℤ) (ps qs : List (ℤ × ℕ)) → AreOnce ps → AreOnce qs → opposite ps qs ≡ true → worth_of_parts x ps +ℤ worth_of_parts x qs ≡ pos 0
 worth_opposed x ps qs once_p once_q e =
-    let h = both_true (opposes ps qs) (opposes qs ps) e in
-    let is = worth_multiple (negsuc 0) x ps qs once_p once_q (λ v. turned_around (coefficient eqb ps v) (coefficient eqb qs v) (x v) (either_sum (coefficient eqb ps v) (coefficient eqb qs v) (opposed ps qs v h.0) (opposed qs ps v h.1))) in
+    let is = worth_multiple (negsuc 0) x ps qs once_p once_q (λ v. turned_around (coefficient eqb ps v) (coefficient eqb qs v) (x v) (opposed_coefficient ps qs v e)) in
     gone (worth_of_parts x ps) (worth_of_parts x qs) (is ∙ minus_times (worth_of_parts x ps))
   where
     gone : (a b : ℤ) → b ≡ neg_ℤ a → a +ℤ b ≡ pos 0

@@ -152,9 +152,6 @@ module _ (V : ℕ → Type 0) where
           natural_alike g f (worth_agreed x f.parts g.parts once_f (once (slice_index s.standing k)) there.agrees) (not_below f.constant g.constant less) (each_at (λ i. Natural (form_at s.all i)) s.standing k there.within h.natural)
 
       module _ (all : List (Linear ℕ)) (place : ℕ) (steps : List LinStep) (here : form_at all place ≡ f) (grows : (i : ℕ) → (form_at all i ≡ form_at s.all i) ⊎ ((form_at all i ≡ f) × (form_at s.all i ≡ nothing))) where
-        next : State
-        next = record { all = all; standing = room_for s f ++ place ∷ []; steps = steps; wide = s.wide }
-
         ahead : (P : Linear ℕ → Type 0) → P f → (i : ℕ) → P (form_at s.all i) → P (form_at all i)
         ahead P p i h = by (grows i)
           where
