@@ -9,3 +9,5 @@ mod GivenLemmas
 mod PairLemmas
 mod SideLemmas
 mod TurnLemmas
+mod ExtendLemmas
+mod CountLemmas

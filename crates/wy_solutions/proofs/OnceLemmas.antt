@@ -97,7 +97,7 @@ behind_none p ps v once none = by (eqb v p.1) refl
     by true e = ap (coefficient eqb ps) (eqb-true v p.1 e) ∙ once
     by false e = sym (other_coefficient p ps v e) ∙ none
 
-never_none : (c : ℤ) → int_eq c (pos 0) ≡ false → c ≡ pos 0 → ⊥
+pub never_none : (c : ℤ) → int_eq c (pos 0) ≡ false → c ≡ pos 0 → ⊥
 never_none c e f = grind (arith, ints)
 
 divided_none : (d : ℕ) (ps : List (ℤ × ℕ)) (v : ℕ) → AreOnce ps → coefficient eqb ps v ≡ pos 0 → coefficient eqb (each_divided d ps) v ≡ pos 0

@@ -20,17 +20,17 @@ lower_above (negsuc n) e = omega arith
 
 pub upper_is : (c : ℤ) → int_lt c (pos 0) ≡ true → c ≡ neg_ℤ (pos (unsigned_abs c))
 upper_is (pos zero) e = absurd cc
-upper_is (pos (suc n)) e = absurd cc
+upper_is (pos (suc n)) e = absurd (omega (arith, ints, e))
 upper_is (negsuc n) e = refl
 
 pub upper_above : (c : ℤ) → int_lt c (pos 0) ≡ true → 0 < unsigned_abs c
 upper_above (pos zero) e = absurd cc
-upper_above (pos (suc n)) e = absurd cc
+upper_above (pos (suc n)) e = absurd (omega (arith, ints, e))
 upper_above (negsuc n) e = omega arith
 
 neither : (c : ℤ) → int_lt (pos 0) c ≡ false → int_lt c (pos 0) ≡ false → c ≡ pos 0
 neither (pos zero) e f = refl
-neither (pos (suc n)) e f = absurd cc
+neither (pos (suc n)) e f = absurd (omega (arith, ints, e))
 neither (negsuc n) e f = absurd cc
 
 module _ (all : List (Linear ℕ)) (v : ℕ) where

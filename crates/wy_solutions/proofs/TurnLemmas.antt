@@ -1,5 +1,5 @@
 -- A turn: the forms without the variable, and the sums of those on its sides.
-use Rattle.std.proofs.Common.{◌≡◌, ◌∙◌, ◌*◌, ◌/◌, ◌<◌, ℕ, zero, suc, List, [], ◌∷◌, ◌++◌, Bool, true, false, eqb, ℤ, pos, neg_ℤ, ◌+ℤ◌, ◌*ℤ◌, ◌≤ℤ◌, inl, inr, refl, sym, ap, subst, append_assoc, append-nil, arith}
+use Rattle.std.proofs.Common.{◌≡◌, ◌∙◌, ◌*◌, ◌/◌, ◌<◌, ℕ, zero, suc, List, [], ◌∷◌, ◌++◌, length, Bool, true, false, eqb, ℤ, pos, neg_ℤ, ◌+ℤ◌, ◌*ℤ◌, ◌≤ℤ◌, inl, inr, refl, sym, ap, subst, append_assoc, append-nil, arith}
 use Rattle.std.specs.Prelude.{◌⊎◌, unsigned_abs}
 use Rattle.std.proofs.lemmas.Int.{ints}
 use Rattle.std.proofs.Math.IntN.{*ℤ-zero}
@@ -45,21 +45,110 @@ module _ (V : ℕ → Type 0) (D : ℕ) (x : ℕ → ℤ) where
 
   module _ (first : List (Linear ℕ)) (v : ℕ) where
     -- the size of the variable's coefficient
-    abbrev size : ℕ → ℕ
+    abbrev pub size : ℕ → ℕ
     size i = unsigned_abs (coefficient_at first v i)
 
     -- the multipliers leave none of the variables that go
-    abbrev Cancels : ℕ → ℕ → Type 0
+    abbrev pub Cancels : ℕ → ℕ → Type 0
     Cancels l u = (w : ℕ) → V w → pos (size u / gcd (size l) (size u)) *ℤ coefficient eqb (form_at first l).parts w +ℤ pos (size l / gcd (size l) (size u)) *ℤ coefficient eqb (form_at first u).parts w ≡ pos 0
 
-    abbrev Room : ℕ → ℕ → Type 0
+    abbrev pub Room : ℕ → ℕ → Type 0
     Room l u = Suits V D x (size l) (size u) (form_at first l) (form_at first u)
 
-    says_first : (all : List (Linear ℕ)) (l u : ℕ) → ((i : ℕ) → AreOnce (form_at all i).parts) → form_at all l ≡ form_at first l → form_at all u ≡ form_at first u → Cancels l u → Says V D x (Room l u) (summed all v l u)
-    says_first all l u once here there gone = back (form_at all l) (form_at all u) refl refl here there
-      where
-        abs : Linear ℕ → ℕ
-        abs f = 0
+    abbrev Leaves : Linear ℕ → Linear ℕ → Type 0
+    Leaves f g = (w : ℕ) → V w → pos (unsigned_abs (coefficient eqb g.parts v) / gcd (unsigned_abs (coefficient eqb f.parts v)) (unsigned_abs (coefficient eqb g.parts v))) *ℤ coefficient eqb f.parts w +ℤ pos (unsigned_abs (coefficient eqb f.parts v) / gcd (unsigned_abs (coefficient eqb f.parts v)) (unsigned_abs (coefficient eqb g.parts v))) *ℤ coefficient eqb g.parts w ≡ pos 0
 
-        back : (f g : Linear ℕ) → form_at all l ≡ f → form_at all u ≡ g → f ≡ form_at first l → g ≡ form_at first u → Says V D x (Room l u) (summed all v l u)
-        back f g e h i j = ?
+    abbrev Tells : Summed → Linear ℕ → Linear ℕ → Type 0
+    Tells r f g = Says V D x (Suits V D x (unsigned_abs (coefficient eqb f.parts v)) (unsigned_abs (coefficient eqb g.parts v)) f g) r
+
+    says_first : (all : List (Linear ℕ)) (l u : ℕ) → ((i : ℕ) → AreOnce (form_at all i).parts) → form_at all l ≡ form_at first l → form_at all u ≡ form_at first u → Cancels l u → Says V D x (Room l u) (summed all v l u)
+    says_first all l u once here there gone =
+        let left : Leaves (form_at all l) (form_at all u) = subst (λ (f : Linear ℕ). Leaves f (form_at all u)) (sym here) (subst (λ (g : Linear ℕ). Leaves (form_at first l) g) (sym there) gone) in
+        subst (λ (f : Linear ℕ). Tells (summed all v l u) f (form_at first u)) here (subst (λ (g : Linear ℕ). Tells (summed all v l u) (form_at all l) g) there (says_summed V D x all v l u once left))
+
+    uppers_go : (l : ℕ) (s : State) (us : List ℕ) → StartsWith first s.all → OnceAt s → OpenAt s → l < length first → Each (λ u. (u < length first) × Cancels l u) us → Goes V D x s (Each (λ u. Room l u) us) (over_uppers v l s us)
+    uppers_go l s [] starts once open_s lt each = goes_still V D x s (Unit {0}) once open_s tt
+    uppers_go l s (u ∷ us) starts once open_s lt each =
+        goes_then V D x s (Room l u) (Each (λ k. Room l k) us) (after_sum s (summed s.all v l u)) (λ t. over_uppers v l t us)
+        (after_goes s (Room l u) (summed s.all v l u) once open_s (says_first s.all l u once (still_at first s.all l starts lt) (still_at first s.all u starts each.0.0) each.0.1))
+        (λ t follows. uppers_go l t us (starts_on first s.all follows.more t.all starts follows.grown) follows.once follows.open_forms lt each.1)
+
+    lowers_go : (us : List ℕ) (s : State) (ls : List ℕ) → StartsWith first s.all → OnceAt s → OpenAt s → Each (λ l. (l < length first) × Each (λ u. (u < length first) × Cancels l u) us) ls → Goes V D x s (Each (λ l. Each (λ u. Room l u) us) ls) (over_lowers v us s ls)
+    lowers_go us s [] starts once open_s each = goes_still V D x s (Unit {0}) once open_s tt
+    lowers_go us s (l ∷ ls) starts once open_s each =
+        goes_then V D x s (Each (λ u. Room l u) us) (Each (λ k. Each (λ u. Room k u) us) ls) (over_uppers v l s us) (λ t. over_lowers v us t ls)
+        (uppers_go l s us starts once open_s each.0.0 each.0.1)
+        (λ t follows. lowers_go us t ls (starts_on first s.all follows.more t.all starts follows.grown) follows.once follows.open_forms each.1)
+
+-- ---- the whole turn
+
+-- the variable that goes, and each that no form had
+abbrev pub Gone : State → ℕ → ℕ → Type 0
+Gone s v w = (w ≡ v) ⊎ FreeOf s w
+
+module _ (s : State) (v : ℕ) (once : OnceAt s) (open_s : OpenAt s) where
+  -- no form of the place has a variable that no form had
+  abbrev Lacks : ℕ → Type 0
+  Lacks i = (w : ℕ) → FreeOf s w → coefficient eqb (form_at s.all i).parts w ≡ pos 0
+
+  lacks : Each Lacks s.standing
+  lacks = each_swapped (λ w. FreeOf s w) (λ w i. coefficient eqb (form_at s.all i).parts w ≡ pos 0) s.standing (λ w h. h)
+
+  cancelled : (m n a b : ℕ) (y z : ℤ) → m * a ≡ n * b → y ≡ pos a → z ≡ neg_ℤ (pos b) → pos m *ℤ y +ℤ pos n *ℤ z ≡ pos 0
+  cancelled m n a b y z e f g =
+      let first : pos m *ℤ y ≡ pos (m * a) = ap (λ (k : ℤ). pos m *ℤ k) f in
+      let second : pos n *ℤ z ≡ neg_ℤ (pos (n * b)) = ap (λ (k : ℤ). pos n *ℤ k) g ∙ times_neg (pos n) (pos b) in
+      let same : neg_ℤ (pos (n * b)) ≡ neg_ℤ (pos (m * a)) = ap (λ (k : ℕ). neg_ℤ (pos k)) (sym e) in
+      opposite (pos m *ℤ y) (pos n *ℤ z) (pos (m * a)) first (second ∙ same)
+    where
+      opposite : (p q r : ℤ) → p ≡ r → q ≡ neg_ℤ r → p +ℤ q ≡ pos 0
+      opposite p q r h i = omega (arith, ints, h, i)
+
+  none_of_both : (m n y z : ℤ) → y ≡ pos 0 → z ≡ pos 0 → m *ℤ y +ℤ n *ℤ z ≡ pos 0
+  none_of_both m n y z e f =
+      let first = ap (λ (k : ℤ). m *ℤ k) e ∙ *ℤ-zero m in
+      let second = ap (λ (k : ℤ). n *ℤ k) f ∙ *ℤ-zero n in
+      omega (arith, ints, first, second)
+
+  cancels : (D : ℕ) (x : ℕ → ℤ) (l u : ℕ) → Lacks l → IsLower s.all v l → Lacks u → IsUpper s.all v u → Cancels (Gone s v) D x s.all v l u
+  cancels D x l u lacks_l is_l lacks_u is_u w (inl e) =
+      let a = unsigned_abs (coefficient_at s.all v l) in
+      let b = unsigned_abs (coefficient_at s.all v u) in
+      cancelled (b / gcd a b) (a / gcd a b) a b (coefficient eqb (form_at s.all l).parts w) (coefficient eqb (form_at s.all u).parts w) (shares_cancel a b)
+      (ap (coefficient eqb (form_at s.all l).parts) e ∙ lower_is (coefficient_at s.all v l) is_l)
+      (ap (coefficient eqb (form_at s.all u).parts) e ∙ upper_is (coefficient_at s.all v u) is_u)
+  cancels D x l u lacks_l is_l lacks_u is_u w (inr free) =
+      let a = unsigned_abs (coefficient_at s.all v l) in
+      let b = unsigned_abs (coefficient_at s.all v u) in
+      none_of_both (pos (b / gcd a b)) (pos (a / gcd a b)) (coefficient eqb (form_at s.all l).parts w) (coefficient eqb (form_at s.all u).parts w) (lacks_l w free) (lacks_u w free)
+
+  abbrev pub Lower : List ℕ
+  Lower = (sides s.all v s.standing).lower
+
+  abbrev pub Upper : List ℕ
+  Upper = (sides s.all v s.standing).upper
+
+  abbrev pub Without : List ℕ
+  Without = (sides s.all v s.standing).without
+
+  abbrev pub first : State
+  first = record s { standing = Without }
+
+  pub turned_goes : (D : ℕ) (x : ℕ → ℤ) → Goes (Gone s v) D x first (Each (λ l. Each (λ u. Room (Gone s v) D x s.all v l u) Upper) Lower) (turned v s)
+  turned_goes D x =
+      let known = parted s.all v Lacks s.standing lacks in
+      let open_parts = parted s.all v (λ i. IsOpen (form_at s.all i)) s.standing open_s in
+      let open_first = each_so (λ i. IsOpen (form_at s.all i) × IsWithout s.all v i) (λ i. IsOpen (form_at s.all i)) (λ i h. h.0) Without open_parts.2 in
+      lowers_go (Gone s v) D x s.all v Upper first Lower (record { more = []; is = sym (append-nil s.all) }) once open_first
+      (each_so (λ l. Lacks l × IsLower s.all v l) (λ l. (l < length s.all) × Each (λ u. (u < length s.all) × Cancels (Gone s v) D x s.all v l u) Upper)
+      (λ l h. (place_within s.all v l (lower_above (coefficient_at s.all v l) h.1), each_so (λ u. Lacks u × IsUpper s.all v u) (λ u. (u < length s.all) × Cancels (Gone s v) D x s.all v l u) (λ u g. (place_within s.all v u (upper_above (coefficient_at s.all v u) g.1), cancels D x l u h.0 h.1 g.0 g.1)) Upper known.1))
+      Lower known.0)
+
+  -- the variable is gone, and each that no form had still is
+  pub free_first : (w : ℕ) → Gone s v w → FreeOf first w
+  free_first w (inl e) =
+      let known = parted s.all v Lacks s.standing lacks in
+      each_so (λ i. Lacks i × IsWithout s.all v i) (λ i. coefficient eqb (form_at s.all i).parts w ≡ pos 0) (λ i h. ap (coefficient eqb (form_at s.all i).parts) e ∙ h.1) Without known.2
+  free_first w (inr free) =
+      let known = parted s.all v Lacks s.standing lacks in
+      each_so (λ i. Lacks i × IsWithout s.all v i) (λ i. coefficient eqb (form_at s.all i).parts w ≡ pos 0) (λ i h. h.0 w free) Without known.2
