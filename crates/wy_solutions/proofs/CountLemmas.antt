@@ -220,11 +220,11 @@ next_listed es b h = by (best_there None es b h)
 
 best_stays : (c : ℕ × ℕ) (es : List (ℕ × Counts)) → best_from (Some c) es ≡ None → ⊥
 best_stays c [] h = absurd cc
-best_stays c (e ∷ es) h = by (nat_lt (e.1.0 * e.1.1) c.1) h
+best_stays c (e ∷ es) h = by (λ d g. best_stays d es g) (nat_lt (e.1.0 * e.1.1) c.1) h
   where
-    by : (t : Bool) → best_from (cond t (some_best (e.0, e.1.0 * e.1.1)) (some_best c)) es ≡ None → ⊥
-    by true g = best_stays (e.0, e.1.0 * e.1.1) es g
-    by false g = best_stays c es g
+    by : ((d : ℕ × ℕ) → best_from (some_best d) es ≡ None → ⊥) → (t : Bool) → best_from (cond t (some_best (e.0, e.1.0 * e.1.1)) (some_best c)) es ≡ None → ⊥
+    by rest true g = rest (e.0, e.1.0 * e.1.1) g
+    by rest false g = rest c g
 
 pub none_listed : (es : List (ℕ × Counts)) → next_variable es ≡ None → es ≡ []
 none_listed [] h = refl

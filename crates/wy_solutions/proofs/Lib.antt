@@ -11,3 +11,4 @@ mod SideLemmas
 mod TurnLemmas
 mod ExtendLemmas
 mod CountLemmas
+mod EndLemmas

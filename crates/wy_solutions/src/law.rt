@@ -1,7 +1,12 @@
 //! What the elimination's answer Consistent means.
-ghost use Rattle.wy_solutions.specs.Solutions.{TurnsSuffice};
+ghost use Rattle.wy_solutions.specs.Solutions.{ConsistentFormsHaveASolution, TurnsSuffice};
 
-/// However many turns more the elimination had, its answer is the same: where it ends, no variable is left.
+/// However many turns more the elimination had, its answer is the same: where its turns come to their end, no variable is left.
 pub fn no_variable_is_left()
     ensures suffice { TurnsSuffice }
+{}
+
+/// Forms that the elimination finds consistent have a solution in fractions.
+pub fn consistent_forms_have_a_solution()
+    ensures solution { ConsistentFormsHaveASolution }
 {}

@@ -5,4 +5,4 @@
 
 mod law;
 
-pub use law::no_variable_is_left;
+pub use law::{consistent_forms_have_a_solution, no_variable_is_left};
