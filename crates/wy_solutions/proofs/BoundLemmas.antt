@@ -1,9 +1,9 @@
 -- A value between lower and upper bounds, each of the first at most each of the second.
-use Rattle.std.proofs.Common.{◌≡◌, ◌∙◌, ◌+◌, ◌*◌, ◌<◌, ◌≤◌, ℕ, zero, suc, List, [], ◌∷◌, ℤ, pos, negsuc, neg_ℤ, ◌+ℤ◌, ◌*ℤ◌, ◌≤ℤ◌, ◌<ℤ◌, sym, ap, arith}
+use Rattle.std.proofs.Common.{◌≡◌, ◌+◌, ◌*◌, ◌<◌, ◌≤◌, ℕ, List, [], ◌∷◌, ℤ, pos, neg_ℤ, ◌+ℤ◌, ◌*ℤ◌, ◌≤ℤ◌, ◌<ℤ◌, arith}
 use Rattle.std.specs.Prelude.{unsigned_abs}
 use Rattle.std.proofs.lemmas.Int.{ints, by_lt_z}
-use Rattle.wy_lin.proofs.Ring.{one_times, times_pos}
-use Rattle.wy_solutions.proofs.NumberLemmas.{times_neg, times_le, fraction_trans}
+use Rattle.wy_lin.proofs.Ring.{one_times}
+use Rattle.wy_solutions.proofs.NumberLemmas.{times_neg, fraction_trans}
 use Rattle.wy_solutions.proofs.EachLemmas.{Each, each_so}
 
 -- a value over a scale that is at least each lower bound and at most each upper one

@@ -1,5 +1,5 @@
 -- The variables of the forms that stand: each is listed once, and those are listed whose coefficient isn't always 0.
-use Rattle.std.proofs.Common.{◌≡◌, ◌∙◌, ◌*◌, ◌<◌, ◌≤◌, ℕ, zero, suc, List, [], ◌∷◌, length, Bool, true, false, cond, eqb, ℤ, pos, Option, Some, None, inl, inr, refl, sym, ap, arith}
+use Rattle.std.proofs.Common.{◌≡◌, ◌∙◌, ◌*◌, ◌<◌, ◌≤◌, ℕ, suc, List, [], ◌∷◌, length, Bool, true, false, cond, eqb, ℤ, pos, Option, Some, None, inl, inr, refl, sym, ap, arith}
 use Rattle.std.specs.Prelude.{◌⊎◌, nat_lt}
 use Rattle.std.specs.Ordering.{int_eq}
 use Rattle.std.proofs.lemmas.Bool.{eqb-true}

@@ -1,5 +1,5 @@
 -- Sums of two forms, and forms that are divided with the constant rounded down: what they say of the forms before.
-use Rattle.std.proofs.Common.{◌≡◌, ◌∙◌, ◌+◌, ◌-◌, ◌*◌, ◌/◌, ◌%◌, ◌<◌, ℕ, zero, suc, List, [], ◌∷◌, Bool, true, false, cond, eqb, ℤ, pos, negsuc, ◌+ℤ◌, ◌*ℤ◌, ◌≤ℤ◌, Option, Some, refl, sym, ap, subst, arith}
+use Rattle.std.proofs.Common.{◌≡◌, ◌∙◌, ◌+◌, ◌-◌, ◌*◌, ◌/◌, ◌%◌, ◌<◌, ℕ, zero, suc, List, [], ◌∷◌, Bool, true, false, cond, eqb, ℤ, pos, negsuc, ◌+ℤ◌, ◌*ℤ◌, ◌≤ℤ◌, Some, refl, sym, ap, subst, arith}
 use Rattle.std.specs.Prelude.{unsigned_abs, int_lt}
 use Rattle.std.specs.Ordering.{int_eq}
 use Rattle.std.proofs.lemmas.Bool.{eqb-true}
@@ -9,7 +9,7 @@ use Rattle.std.proofs.Math.Nat.{div-add-mod}
 use Rattle.std.proofs.Math.IntN.{*ℤ-zero, zero-*ℤ}
 use Rattle.wy_lin.specs.Linear.{Linear, coefficient}
 use Rattle.wy_lin.specs.Combination.{form_at, combined}
-use Rattle.wy_lin.specs.Worth.{worth_of_parts, worth}
+use Rattle.wy_lin.specs.Worth.{worth_of_parts}
 use Rattle.wy_lin.proofs.Ring.{distrib_left, times_assoc, times_pos, one_times}
 use Rattle.wy_lin.proofs.WorthLemmas.{worth-combined}
 use Rattle.wy_eliminate.specs.Division.{gcd, quotient, common_from, common, lowered}

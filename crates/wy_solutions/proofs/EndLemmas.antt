@@ -1,22 +1,20 @@
 -- Turn for turn: fewer variables are left, and a solution of what is left gives one of what was there.
-use Rattle.std.proofs.Common.{◌≡◌, ◌∙◌, ◌+◌, ◌<◌, ◌≤◌, ℕ, zero, suc, List, [], ◌∷◌, length, All, Bool, true, false, cond, eqb, ℤ, pos, ◌≤ℤ◌, Option, Some, None, inl, inr, refl, sym, ap, subst, arith}
-use Rattle.std.specs.Prelude.{◌⊎◌}
-use Rattle.wy_lin.specs.Linear.{Linear, nothing, coefficient}
+use Rattle.std.proofs.Common.{◌≡◌, ◌+◌, ◌<◌, ◌≤◌, ℕ, zero, suc, List, [], ◌∷◌, length, All, Bool, true, false, cond, eqb, ℤ, pos, ◌≤ℤ◌, Option, Some, None, inl, inr, refl, sym, ap, subst, arith}
+use Rattle.wy_lin.specs.Linear.{Linear, coefficient}
 use Rattle.wy_lin.specs.Combination.{form_at}
-use Rattle.wy_eliminate.specs.declared.steps.LinStep.{LinStep}
 use Rattle.wy_eliminate.specs.declared.steps.Elim.{Elim}
-use Rattle.wy_eliminate.specs.declared.steps.Elim.TheVariants.{Refuted, Consistent, Crowded, Wide}
+use Rattle.wy_eliminate.specs.declared.steps.Elim.TheVariants.{Consistent, Crowded, Wide}
 use Rattle.wy_eliminate.specs.Variables.{Counts, variables, next_variable}
-use Rattle.wy_eliminate.specs.Elimination.{State, is_crowded, Turn, goes_on, refuted, given_from, turned, ended, without_next, eliminated, at_first, elimination}
+use Rattle.wy_eliminate.specs.Elimination.{State, is_crowded, Turn, goes_on, refuted, given_from, turned, ended, without_next, eliminated, at_first}
 use Rattle.wy_eliminate.specs.Validity.{IsPlain}
-use Rattle.wy_solutions.specs.Solutions.{elimination_with, TurnsSuffice, worth_over, HasSolution, ConsistentFormsHaveASolution}
+use Rattle.wy_solutions.specs.Solutions.{TurnsSuffice, worth_over, HasSolution, ConsistentFormsHaveASolution}
 use Rattle.wy_solutions.proofs.EachLemmas.{Each, each_so, each_both}
 use Rattle.wy_solutions.proofs.PartLemmas.{AreOnce, without_at}
 use Rattle.wy_solutions.proofs.OnceLemmas.{once_plain}
 use Rattle.wy_solutions.proofs.CutLemmas.{IsOpen}
 use Rattle.wy_solutions.proofs.StandingLemmas.{OnceAt, OpenAt, FreeOf, Follows, Settled, Goes}
 use Rattle.wy_solutions.proofs.GivenLemmas.{NoneGone, AreNatural, are_at, all_given_go}
-use Rattle.wy_solutions.proofs.TurnLemmas.{Gone, Room, Lower, Upper, Without, first, turned_goes, free_first}
+use Rattle.wy_solutions.proofs.TurnLemmas.{Gone, Room, Lower, Upper, first, turned_goes, free_first}
 use Rattle.wy_solutions.proofs.ExtendLemmas.{Solution, worth_unasked, extended}
 use Rattle.wy_solutions.proofs.CountLemmas.{has, fewer_variables, apart_variables, unlisted, free_unlisted, next_listed, none_listed}
 
@@ -55,8 +53,8 @@ module _ (s : State) (v : ℕ) (once : OnceAt s) (open_s : OpenAt s) (t : State)
   solved_before calm narrow h =
       let y = without_at v h.values in
       let natural = each_so (λ i. (pos 0 ≤ℤ worth_over h.denominator h.values (form_at t.all i)) × (coefficient eqb (form_at t.all i).parts v ≡ pos 0)) (λ i. pos 0 ≤ℤ worth_over h.denominator y (form_at t.all i))
-        (λ i g. subst (λ (z : ℤ). pos 0 ≤ℤ z) (worth_unasked h.denominator h.values v (form_at t.all i) (follows.once i) g.1) g.0) t.standing
-        (each_both (λ i. pos 0 ≤ℤ worth_over h.denominator h.values (form_at t.all i)) (λ i. coefficient eqb (form_at t.all i).parts v ≡ pos 0) t.standing h.natural free_of) in
+      (λ i g. subst (λ (z : ℤ). pos 0 ≤ℤ z) (worth_unasked h.denominator h.values v (form_at t.all i) (follows.once i) g.1) g.0) t.standing
+      (each_both (λ i. pos 0 ≤ℤ worth_over h.denominator h.values (form_at t.all i)) (λ i. coefficient eqb (form_at t.all i).parts v ≡ pos 0) t.standing h.natural free_of) in
       let settled : Settled (Gone s v) h.denominator y t = record { calm = calm; narrow = narrow; natural = natural } in
       let back = (goes h.denominator y).1 settled in
       extended s v once open_s h.denominator h.above h.values back.0.natural back.1
@@ -85,9 +83,9 @@ same_answer (suc m) zero s once open_s le more = none_left (suc m) s (omega (ari
 same_answer (suc m) (suc n) s once open_s le more =
     same_next (next_variable (variables s.all s.standing)) s (λ t. eliminated m t) (λ t. eliminated n t)
     (λ b t is e.
-      let fewer = fewer_left s b.0 once open_s t e (next_listed (variables s.all s.standing) b is) in
-      let known = follows s b.0 once open_s t e in
-      same_answer m n t known.once known.open_forms (omega (arith, fewer, le)) (omega (arith, fewer, more)))
+    let fewer = fewer_left s b.0 once open_s t e (next_listed (variables s.all s.standing) b is) in
+    let known = follows s b.0 once open_s t e in
+    same_answer m n t known.once known.open_forms (omega (arith, fewer, le)) (omega (arith, fewer, more)))
 
 -- ---- solutions, from the last turn back
 
@@ -129,9 +127,9 @@ solved (suc n) s once open_s le e =
     consistent_next (next_variable (variables s.all s.standing)) s (λ t. eliminated n t) (Solution s) e
     (λ none. no_form s open_s (all_free s (none_listed (variables s.all s.standing) none)))
     (λ b t is i calm narrow rest.
-      let fewer = fewer_left s b.0 once open_s t i (next_listed (variables s.all s.standing) b is) in
-      let known = follows s b.0 once open_s t i in
-      solved_before s b.0 once open_s t i calm narrow (solved n t known.once known.open_forms (omega (arith, fewer, le)) rest))
+    let fewer = fewer_left s b.0 once open_s t i (next_listed (variables s.all s.standing) b is) in
+    let known = follows s b.0 once open_s t i in
+    solved_before s b.0 once open_s t i calm narrow (solved n t known.once known.open_forms (omega (arith, fewer, le)) rest))
 
 -- ---- the given forms
 
@@ -171,5 +169,5 @@ pub consistent_solved : ConsistentFormsHaveASolution
 consistent_solved forms plain e =
     consistent_end (given_from (at_first forms) 0 forms) (λ s. eliminated (left s) s) (HasSolution forms) e
     (λ s is calm narrow rest.
-      let known = known_given forms plain s is in
-      given_solved forms plain s is calm narrow (solved (left s) s known.once known.open_forms (omega arith) rest))
+    let known = known_given forms plain s is in
+    given_solved forms plain s is calm narrow (solved (left s) s known.once known.open_forms (omega arith) rest))

@@ -1,5 +1,5 @@
 -- A solution of the forms that a turn leaves gives the variable that went a value.
-use Rattle.std.proofs.Common.{◌≡◌, ◌∙◌, ◌*◌, ◌<◌, ℕ, zero, suc, List, [], ◌∷◌, Bool, true, false, cond, eqb, ℤ, pos, neg_ℤ, ◌+ℤ◌, ◌*ℤ◌, ◌≤ℤ◌, refl, sym, ap, subst, arith}
+use Rattle.std.proofs.Common.{◌≡◌, ◌∙◌, ◌*◌, ◌<◌, ℕ, zero, suc, List, [], ◌∷◌, Bool, cond, eqb, ℤ, pos, neg_ℤ, ◌+ℤ◌, ◌*ℤ◌, ◌≤ℤ◌, sym, ap, subst, arith}
 use Rattle.std.specs.Prelude.{unsigned_abs}
 use Rattle.std.proofs.lemmas.Int.{ints}
 use Rattle.std.proofs.Math.IntN.{zero-*ℤ, *ℤ_comm}
@@ -14,7 +14,7 @@ use Rattle.wy_solutions.proofs.EachLemmas.{Each, each_so, each_both}
 use Rattle.wy_solutions.proofs.NumberLemmas.{times_neg}
 use Rattle.wy_solutions.proofs.BoundLemmas.{IsChosen, chosen}
 use Rattle.wy_solutions.proofs.PartLemmas.{AreOnce, eqb_itself, worth_apart, worth_without, without_at}
-use Rattle.wy_solutions.proofs.StandingLemmas.{OnceAt, OpenAt, FreeOf}
+use Rattle.wy_solutions.proofs.StandingLemmas.{OnceAt, OpenAt}
 use Rattle.wy_solutions.proofs.SideLemmas.{lower_is, lower_above, upper_is, upper_above, IsLower, IsUpper, IsWithout, parted, whole}
 use Rattle.wy_solutions.proofs.TurnLemmas.{Gone, Room, Lower, Upper, Without}
 
@@ -93,9 +93,9 @@ module _ (s : State) (v : ℕ) (once : OnceAt s) (open_s : OpenAt s) (D : ℕ) (
         above = product c.scale D c.above above;
         values = moved D x v c.scale c.value;
         natural = whole s.all v P s.standing
-          (each_so (λ i. (pos 0 ≤ℤ (pos (coefficient_size i) *ℤ c.value +ℤ pos c.scale *ℤ rest i)) × IsLower s.all v i) P (λ i h. lower_moved D x v c.scale c.value (form_at s.all i) (once i) (coefficient_size i) (lower_is (coefficient_at s.all v i) h.1) h.0) ls (each_both (λ i. pos 0 ≤ℤ (pos (coefficient_size i) *ℤ c.value +ℤ pos c.scale *ℤ rest i)) (λ i. IsLower s.all v i) ls c.lower lower))
-          (each_so (λ i. ((pos (coefficient_size i) *ℤ c.value) ≤ℤ (pos c.scale *ℤ rest i)) × IsUpper s.all v i) P (λ i h. upper_moved D x v c.scale c.value (form_at s.all i) (once i) (coefficient_size i) (upper_is (coefficient_at s.all v i) h.1) h.0) us (each_both (λ i. (pos (coefficient_size i) *ℤ c.value) ≤ℤ (pos c.scale *ℤ rest i)) (λ i. IsUpper s.all v i) us c.upper upper))
-          (each_so (λ i. (pos 0 ≤ℤ rest i) × IsWithout s.all v i) P (λ i h. without_moved D x v c.scale c.value (form_at s.all i) (once i) h.1 h.0) (Without s v once open_s) without);
+            (each_so (λ i. (pos 0 ≤ℤ (pos (coefficient_size i) *ℤ c.value +ℤ pos c.scale *ℤ rest i)) × IsLower s.all v i) P (λ i h. lower_moved D x v c.scale c.value (form_at s.all i) (once i) (coefficient_size i) (lower_is (coefficient_at s.all v i) h.1) h.0) ls (each_both (λ i. pos 0 ≤ℤ (pos (coefficient_size i) *ℤ c.value +ℤ pos c.scale *ℤ rest i)) (λ i. IsLower s.all v i) ls c.lower lower))
+            (each_so (λ i. ((pos (coefficient_size i) *ℤ c.value) ≤ℤ (pos c.scale *ℤ rest i)) × IsUpper s.all v i) P (λ i h. upper_moved D x v c.scale c.value (form_at s.all i) (once i) (coefficient_size i) (upper_is (coefficient_at s.all v i) h.1) h.0) us (each_both (λ i. (pos (coefficient_size i) *ℤ c.value) ≤ℤ (pos c.scale *ℤ rest i)) (λ i. IsUpper s.all v i) us c.upper upper))
+            (each_so (λ i. (pos 0 ≤ℤ rest i) × IsWithout s.all v i) P (λ i h. without_moved D x v c.scale c.value (form_at s.all i) (once i) h.1 h.0) (Without s v once open_s) without);
       }
     where
       product : (m n : ℕ) → 0 < m → 0 < n → 0 < m * n

@@ -1,15 +1,15 @@
 -- The given forms come to stand.
-use Rattle.std.proofs.Common.{◌≡◌, ◌∙◌, ◌+◌, ◌<◌, ℕ, zero, suc, List, [], ◌∷◌, ◌++◌, length, drop, Bool, true, false, cond, eqb, ℤ, pos, refl, sym, ap, subst, length-append, arith}
+use Rattle.std.proofs.Common.{◌≡◌, ◌∙◌, ◌<◌, ℕ, zero, suc, List, [], ◌∷◌, ◌++◌, length, drop, Bool, true, false, cond, eqb, ℤ, pos, refl, sym, subst, length-append, arith}
 use Rattle.std.specs.Prelude.{int_lt}
 use Rattle.wy_lin.specs.Linear.{Linear}
 use Rattle.wy_lin.specs.Combination.{form_at}
 use Rattle.wy_eliminate.specs.Division.{common, lowered}
-use Rattle.wy_eliminate.specs.Elimination.{State, with_place, with_cut, Turn, goes_on, refuted, and_then, unless_crowded, refuted_by, given, given_from}
+use Rattle.wy_eliminate.specs.Elimination.{State, with_place, with_cut, goes_on, unless_crowded, refuted_by, given, given_from}
 use Rattle.wy_eliminate.proofs.ValidityLemmas.{common-divides, form_before}
 use Rattle.wy_solutions.proofs.PartLemmas.{AreOnce}
 use Rattle.wy_solutions.proofs.OnceLemmas.{once_lowered}
 use Rattle.wy_solutions.proofs.CutLemmas.{tightened_lowered, natural_before, open_form, open_behind, natural_bare}
-use Rattle.wy_solutions.proofs.StandingLemmas.{OnceAt, OpenAt, Natural, Settled, Goes, Follows, goes_so, goes_then, goes_still, goes_with_place, goes_with_cut}
+use Rattle.wy_solutions.proofs.StandingLemmas.{OnceAt, OpenAt, Natural, Goes, goes_so, goes_then, goes_still, goes_with_place, goes_with_cut}
 
 pub above_none : (d : ℕ) → eqb d 0 ≡ false → 0 < d
 above_none zero e = absurd cc

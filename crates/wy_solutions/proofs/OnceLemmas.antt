@@ -1,5 +1,5 @@
 -- Sums of forms have each variable once, and so has a form that is divided.
-use Rattle.std.proofs.Common.{◌≡◌, ◌∙◌, ◌+◌, ◌*◌, ◌/◌, ◌%◌, ◌<◌, ℕ, zero, suc, List, [], ◌∷◌, ◌++◌, All, Bool, true, false, cond, eqb, ℤ, pos, ◌+ℤ◌, ◌*ℤ◌, Option, Some, None, refl, sym, ap, subst, append_assoc, arith}
+use Rattle.std.proofs.Common.{◌≡◌, ◌∙◌, ℕ, List, [], ◌∷◌, ◌++◌, Bool, true, false, cond, eqb, ℤ, pos, Option, Some, refl, sym, ap, subst, append_assoc, arith}
 use Rattle.std.specs.Ordering.{int_eq}
 use Rattle.std.proofs.lemmas.Bool.{eqb-true}
 use Rattle.std.proofs.lemmas.Int.{ints}
@@ -8,7 +8,7 @@ use Rattle.wy_lin.specs.declared.arithmetic.Factor.TheVariants.{Times}
 use Rattle.wy_lin.specs.Linear.{◌>>=◌, more, Linear, nothing, coefficient, with_coefficient, plus_part, plus_parts, plus}
 use Rattle.wy_lin.specs.Combination.{form_at, combined_from, combined}
 use Rattle.wy_lin.proofs.OptionLemmas.{some_is, bind_some}
-use Rattle.wy_eliminate.specs.Division.{quotient, with_divided, divided_from, lowered}
+use Rattle.wy_eliminate.specs.Division.{quotient, divided_from, lowered}
 use Rattle.wy_eliminate.specs.Validity.{IsPlain}
 use Rattle.wy_solutions.proofs.PartLemmas.{AreOnce, other_coefficient, own_coefficient}
 

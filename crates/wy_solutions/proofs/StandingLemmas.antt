@@ -1,12 +1,11 @@
 -- Forms that come to stand: what is true of each form that stands, before and behind.
-use Rattle.std.proofs.Common.{◌≡◌, ◌∙◌, ◌+◌, ◌<◌, ℕ, zero, suc, List, [], ◌∷◌, ◌++◌, length, Bool, true, false, cond, eqb, ℤ, pos, ◌+ℤ◌, ◌-ℤ◌, ◌*ℤ◌, ◌≤ℤ◌, Option, Some, None, inl, inr, refl, sym, ap, subst, append_assoc, append-nil, arith}
+use Rattle.std.proofs.Common.{◌≡◌, ◌∙◌, ◌+◌, ◌<◌, ℕ, zero, suc, List, [], ◌∷◌, ◌++◌, length, Bool, true, false, cond, eqb, ℤ, pos, ◌+ℤ◌, ◌*ℤ◌, ◌≤ℤ◌, Option, Some, None, inl, inr, refl, sym, ap, subst, append_assoc, append-nil, arith}
 use Rattle.std.specs.Prelude.{◌⊎◌, slice_index, remove, int_lt}
 use Rattle.std.proofs.lemmas.Int.{ints}
 use Rattle.std.proofs.Math.IntN.{*ℤ-zero}
 use Rattle.wy_lin.specs.Linear.{Linear, nothing, coefficient}
 use Rattle.wy_lin.specs.Combination.{form_at}
 use Rattle.wy_lin.specs.Worth.{worth_of_parts}
-use Rattle.wy_lin.proofs.Ring.{distrib_left, times_pos}
 use Rattle.wy_eliminate.specs.declared.steps.LinStep.{LinStep}
 use Rattle.wy_eliminate.specs.declared.steps.LinStep.TheVariants.{Cut}
 use Rattle.wy_eliminate.specs.Variables.{agree}
@@ -192,9 +191,9 @@ module _ (V : ℕ → Type 0) where
             free = λ w v h. stand (λ g. coefficient eqb g.parts w ≡ pos 0) (free_f w v) h;
           },
           λ h.
-            let each = each_before (λ i. Natural (form_at all i)) (room_for s f) place h.natural in
-            let p = subst Natural here each.1 in
-            (record { calm = calm; narrow = h.narrow; natural = stood (equal_from s.all f.parts s.standing 0) refl new p each.0 }, p),
+              let each = each_before (λ i. Natural (form_at all i)) (room_for s f) place h.natural in
+              let p = subst Natural here each.1 in
+              (record { calm = calm; narrow = h.narrow; natural = stood (equal_from s.all f.parts s.standing 0) refl new p each.0 }, p),
         )
 
       module _ (open_f : IsOpen f) (free_f : (w : ℕ) → V w → coefficient eqb f.parts w ≡ pos 0) where

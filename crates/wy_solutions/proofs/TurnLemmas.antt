@@ -1,22 +1,21 @@
 -- A turn: the forms without the variable, and the sums of those on its sides.
-use Rattle.std.proofs.Common.{◌≡◌, ◌∙◌, ◌*◌, ◌/◌, ◌<◌, ℕ, zero, suc, List, [], ◌∷◌, ◌++◌, length, Bool, true, false, eqb, ℤ, pos, neg_ℤ, ◌+ℤ◌, ◌*ℤ◌, ◌≤ℤ◌, inl, inr, refl, sym, ap, subst, append_assoc, append-nil, arith}
+use Rattle.std.proofs.Common.{◌≡◌, ◌∙◌, ◌*◌, ◌/◌, ◌<◌, ℕ, List, [], ◌∷◌, ◌++◌, length, true, false, eqb, ℤ, pos, neg_ℤ, ◌+ℤ◌, ◌*ℤ◌, ◌≤ℤ◌, inl, inr, sym, ap, subst, append_assoc, append-nil, arith}
 use Rattle.std.specs.Prelude.{◌⊎◌, unsigned_abs}
 use Rattle.std.proofs.lemmas.Int.{ints}
 use Rattle.std.proofs.Math.IntN.{*ℤ-zero}
 use Rattle.wy_lin.specs.Linear.{Linear, coefficient}
 use Rattle.wy_lin.specs.Combination.{form_at}
-use Rattle.wy_eliminate.specs.declared.sides.Sides.{Sides}
 use Rattle.wy_eliminate.specs.Division.{gcd}
 use Rattle.wy_eliminate.specs.Variables.{coefficient_at, sides}
 use Rattle.wy_eliminate.specs.Sums.{Summed, refuting, dropped, beyond, cut, summed}
-use Rattle.wy_eliminate.specs.Elimination.{State, Turn, goes_on, refuted, and_then, after_sum, over_uppers, over_lowers, turned}
-use Rattle.wy_eliminate.proofs.ValidityLemmas.{HasVariable, place_within, form_before}
+use Rattle.wy_eliminate.specs.Elimination.{State, goes_on, after_sum, over_uppers, over_lowers, turned}
+use Rattle.wy_eliminate.proofs.ValidityLemmas.{place_within, form_before}
 use Rattle.wy_solutions.specs.Solutions.{worth_over}
-use Rattle.wy_solutions.proofs.EachLemmas.{Each, each_so, each_both, each_swapped}
+use Rattle.wy_solutions.proofs.EachLemmas.{Each, each_so, each_swapped}
 use Rattle.wy_solutions.proofs.NumberLemmas.{times_neg}
 use Rattle.wy_solutions.proofs.PartLemmas.{AreOnce}
 use Rattle.wy_solutions.proofs.CutLemmas.{IsOpen}
-use Rattle.wy_solutions.proofs.StandingLemmas.{OnceAt, OpenAt, FreeOf, Follows, follows_itself, follows_on, Settled, Goes, goes_so, goes_then, goes_still, goes_with_cut}
+use Rattle.wy_solutions.proofs.StandingLemmas.{OnceAt, OpenAt, FreeOf, Goes, goes_so, goes_then, goes_still, goes_with_cut}
 use Rattle.wy_solutions.proofs.PairLemmas.{shares_cancel, Suits, Says, says_summed}
 use Rattle.wy_solutions.proofs.SideLemmas.{lower_is, lower_above, upper_is, upper_above, IsLower, IsUpper, IsWithout, parted}
 
