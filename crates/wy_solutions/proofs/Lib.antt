@@ -12,3 +12,4 @@ mod TurnLemmas
 mod ExtendLemmas
 mod CountLemmas
 mod EndLemmas
+mod PlainLemmas

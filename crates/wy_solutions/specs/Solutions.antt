@@ -1,6 +1,9 @@
 -- Solutions in fractions of forms that are to be at least 0, and the elimination with more turns.
-use Rattle.std.specs.Prelude.{◌≡◌, ℕ, ◌+◌, ◌<◌, List, length, All, ℤ, pos, ◌+ℤ◌, ◌*ℤ◌, ◌≤ℤ◌}
+use Rattle.std.specs.Prelude.{◌≡◌, ℕ, ◌+◌, ◌<◌, List, length, All, ℤ, pos, ◌+ℤ◌, ◌*ℤ◌, ◌≤ℤ◌, Some}
+use Rattle.wy_term.specs.Term.{Term}
 use Rattle.wy_lin.specs.Linear.{Linear}
+use Rattle.wy_lin.specs.TermForm.{form_of_literal}
+use Rattle.wy_lin.specs.Seen.{seen}
 use Rattle.wy_lin.specs.Worth.{worth_of_parts}
 use Rattle.wy_eliminate.specs.declared.steps.Elim.{Elim}
 use Rattle.wy_eliminate.specs.declared.steps.Elim.TheVariants.{Consistent}
@@ -34,3 +37,9 @@ pub record HasSolution (forms : List (Linear ℕ)) : Type 0 where
 -- forms that the elimination finds consistent have a solution in fractions
 abbrev pub ConsistentFormsHaveASolution : Type 0
 ConsistentFormsHaveASolution = (forms : List (Linear ℕ)) → All IsPlain forms → elimination forms ≡ Consistent → HasSolution forms
+
+-- ---- the premise
+
+-- a form over numbers that is the form of a literal over the terms that the numbers name is plain
+abbrev pub FormsOfLiteralsArePlain : Type 0
+FormsOfLiteralsArePlain = (at : ℕ → Term) (t : Term) (f : Linear ℕ) → form_of_literal t ≡ Some (seen at f) → IsPlain f

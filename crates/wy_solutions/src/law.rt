@@ -1,5 +1,5 @@
 //! What the elimination's answer Consistent means.
-ghost use Rattle.wy_solutions.specs.Solutions.{ConsistentFormsHaveASolution, TurnsSuffice};
+ghost use Rattle.wy_solutions.specs.Solutions.{ConsistentFormsHaveASolution, FormsOfLiteralsArePlain, TurnsSuffice};
 
 /// However many turns more the elimination had, its answer is the same: where its turns come to their end, no variable is left.
 pub fn no_variable_is_left()
@@ -9,4 +9,9 @@ pub fn no_variable_is_left()
 /// Forms that the elimination finds consistent have a solution in fractions.
 pub fn consistent_forms_have_a_solution()
     ensures solution { ConsistentFormsHaveASolution }
+{}
+
+/// The form of each literal is such as the laws above ask for.
+pub fn forms_of_literals_are_plain()
+    ensures plain { FormsOfLiteralsArePlain }
 {}

@@ -5,4 +5,4 @@
 
 mod law;
 
-pub use law::{consistent_forms_have_a_solution, no_variable_is_left};
+pub use law::{consistent_forms_have_a_solution, forms_of_literals_are_plain, no_variable_is_left};
