@@ -8,9 +8,10 @@ use Rattle.indexmap.specs.IndexMap.{insert_entry}
 use Rattle.wy_lin.specs.Linear.{Linear, coefficient}
 use Rattle.wy_lin.specs.Combination.{form_at}
 use Rattle.wy_eliminate.specs.Variables.{Counts, counts_of, one_more, counted, counted_parts, counted_from, variables, better, best_from, next_variable}
+use Rattle.wy_solutions.proofs.NumberLemmas.{equal_is, never_equal}
 use Rattle.wy_solutions.proofs.EachLemmas.{Each}
 use Rattle.wy_solutions.proofs.PartLemmas.{AreOnce, eqb_itself, own_coefficient, other_coefficient}
-use Rattle.wy_solutions.proofs.OnceLemmas.{behind_none, never_none}
+use Rattle.wy_solutions.proofs.OnceLemmas.{behind_none}
 
 -- ---- lists of variables
 
@@ -127,11 +128,8 @@ unlisted_parts es (p ∷ ps) w once none h = unlisted_parts (counted es p) ps w 
   where
     by : (b c : Bool) → int_eq p.0 (pos 0) ≡ b → eqb w p.1 ≡ c → has (cond b es (insert_entry eqb es p.1 (one_more p.0 (counts_of es p.1)))) w ≡ false
     by true c e f = h
-    by false true e f = absurd (never_none p.0 e (sym (own_coefficient p ps) ∙ ap (coefficient eqb (p ∷ ps)) (sym (eqb-true w p.1 f)) ∙ none))
+    by false true e f = absurd (never_equal p.0 e (sym (own_coefficient p ps) ∙ ap (coefficient eqb (p ∷ ps)) (sym (eqb-true w p.1 f)) ∙ none))
     by false false e f = has_inserted es p.1 (one_more p.0 (counts_of es p.1)) w f ∙ h
-
-int_eq_is : (a b : ℤ) → int_eq a b ≡ true → a ≡ b
-int_eq_is a b e = grind (arith, ints)
 
 -- a variable that isn't listed behind the parts wasn't before, and has none of them
 unlisted_before : (es : List (ℕ × Counts)) (ps : List (ℤ × ℕ)) (w : ℕ) → has (counted_parts es ps) w ≡ false → (has es w ≡ false) × (coefficient eqb ps w ≡ pos 0)
@@ -141,7 +139,7 @@ unlisted_before es (p ∷ ps) w h =
     by (int_eq p.0 (pos 0)) (eqb w p.1) refl refl rest.0 rest.1
   where
     by : (b c : Bool) → int_eq p.0 (pos 0) ≡ b → eqb w p.1 ≡ c → has (cond b es (insert_entry eqb es p.1 (one_more p.0 (counts_of es p.1)))) w ≡ false → coefficient eqb ps w ≡ pos 0 → (has es w ≡ false) × (coefficient eqb (p ∷ ps) w ≡ pos 0)
-    by true true e f g none = (g, ap (coefficient eqb (p ∷ ps)) (eqb-true w p.1 f) ∙ own_coefficient p ps ∙ int_eq_is p.0 (pos 0) e)
+    by true true e f g none = (g, ap (coefficient eqb (p ∷ ps)) (eqb-true w p.1 f) ∙ own_coefficient p ps ∙ equal_is p.0 (pos 0) e)
     by true false e f g none = (g, other_coefficient p ps w f ∙ none)
     by false true e f g none =
         let own = own_inserted es p.1 (one_more p.0 (counts_of es p.1)) in

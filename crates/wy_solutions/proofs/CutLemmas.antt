@@ -16,7 +16,7 @@ use Rattle.wy_eliminate.specs.Division.{gcd, quotient, common_from, common, lowe
 use Rattle.wy_eliminate.specs.Validity.{divides, is_bare}
 use Rattle.wy_eliminate.proofs.ValidityLemmas.{common-bare}
 use Rattle.wy_solutions.specs.Solutions.{worth_over}
-use Rattle.wy_solutions.proofs.NumberLemmas.{times_swap, above_from_times, times_le}
+use Rattle.wy_solutions.proofs.NumberLemmas.{equal_is, not_less, times_swap, above_from_times, times_le}
 use Rattle.wy_solutions.proofs.PartLemmas.{AreOnce, both_true, own_coefficient, coefficient_worth, worth_at_none}
 use Rattle.wy_solutions.proofs.OnceLemmas.{each_divided, lowered_parts, behind_none}
 
@@ -52,9 +52,6 @@ one_part d q c x w z e f =
     let here : d *ℤ (q *ℤ x) ≡ c *ℤ x = sym (times_assoc d q x) ∙ ap (λ (y : ℤ). y *ℤ x) e in
     omega (arith, ints, apart, here, f)
 
-int_eq_is : (a b : ℤ) → int_eq a b ≡ true → a ≡ b
-int_eq_is a b e = grind (arith, ints)
-
 worth_divided : (x : ℕ → ℤ) (d : ℕ) (ps : List (ℤ × ℕ)) → 0 < d → divides d ps ≡ true → pos d *ℤ worth_of_parts x (each_divided d ps) ≡ worth_of_parts x ps
 worth_divided x d [] lt e = *ℤ-zero (pos d)
 worth_divided x d (p ∷ ps) lt e =
@@ -62,7 +59,7 @@ worth_divided x d (p ∷ ps) lt e =
     by (int_eq p.0 (pos 0)) refl (eqb-true (unsigned_abs p.0 % d) 0 h.0) (worth_divided x d ps lt h.1)
   where
     by : (b : Bool) → int_eq p.0 (pos 0) ≡ b → unsigned_abs p.0 % d ≡ 0 → pos d *ℤ worth_of_parts x (each_divided d ps) ≡ worth_of_parts x ps → pos d *ℤ worth_of_parts x (cond b (each_divided d ps) ((quotient d p.0, p.1) ∷ each_divided d ps)) ≡ p.0 *ℤ x p.1 +ℤ worth_of_parts x ps
-    by true is whole rest = no_part p.0 (x p.1) (worth_of_parts x (each_divided d ps)) (worth_of_parts x ps) (pos d) (int_eq_is p.0 (pos 0) is) rest
+    by true is whole rest = no_part p.0 (x p.1) (worth_of_parts x (each_divided d ps)) (worth_of_parts x ps) (pos d) (equal_is p.0 (pos 0) is) rest
     by false is whole rest = one_part (pos d) (quotient d p.0) p.0 (x p.1) (worth_of_parts x (each_divided d ps)) (worth_of_parts x ps) (part_divided d p.0 lt whole) rest
 
 -- ---- a form divided by a number, or half of twice a form
@@ -161,9 +158,6 @@ bare_worth x [] e = refl
 bare_worth x (p ∷ ps) e =
     let h = both_true (eqb (unsigned_abs p.0) 0) (is_bare ps) e in
     no_worth p.0 (x p.1) (worth_of_parts x ps) (ap (λ (c : ℤ). c *ℤ x p.1) (abs_none p.0 (eqb-true (unsigned_abs p.0) 0 h.0)) ∙ zero-*ℤ (x p.1)) (bare_worth x ps h.1)
-
-not_less : (a b : ℤ) → int_lt a b ≡ false → b ≤ℤ a
-not_less a b e = grind (arith, ints)
 
 -- a form without a variable whose constant isn't negative
 pub natural_bare : (D : ℕ) (x : ℕ → ℤ) (f : Linear ℕ) → eqb (common f.parts) 0 ≡ true → int_lt f.constant (pos 0) ≡ false → pos 0 ≤ℤ worth_over D x f

@@ -1,5 +1,6 @@
 -- Turn for turn: fewer variables are left, and a solution of what is left gives one of what was there.
 use Rattle.std.proofs.Common.{◌≡◌, ◌+◌, ◌<◌, ◌≤◌, ℕ, zero, suc, List, [], ◌∷◌, length, All, Bool, true, false, cond, eqb, ℤ, pos, ◌≤ℤ◌, Option, Some, None, inl, inr, refl, sym, ap, subst, arith}
+use Rattle.std.proofs.lemmas.List.{nil_from_length}
 use Rattle.wy_lin.specs.Linear.{Linear, coefficient}
 use Rattle.wy_lin.specs.Combination.{form_at}
 use Rattle.wy_eliminate.specs.declared.steps.Elim.{Elim}
@@ -14,7 +15,7 @@ use Rattle.wy_solutions.proofs.OnceLemmas.{once_plain}
 use Rattle.wy_solutions.proofs.CutLemmas.{IsOpen}
 use Rattle.wy_solutions.proofs.StandingLemmas.{OnceAt, OpenAt, FreeOf, Follows, Settled, Goes}
 use Rattle.wy_solutions.proofs.GivenLemmas.{NoneGone, AreNatural, are_at, all_given_go}
-use Rattle.wy_solutions.proofs.TurnLemmas.{Gone, Room, Lower, Upper, first, turned_goes, free_first}
+use Rattle.wy_solutions.proofs.TurnLemmas.{Gone, Room, Lower, Upper, first_of, turned_goes, free_first}
 use Rattle.wy_solutions.proofs.ExtendLemmas.{Solution, worth_unasked, extended}
 use Rattle.wy_solutions.proofs.CountLemmas.{has, fewer_variables, apart_variables, unlisted, free_unlisted, next_listed, none_listed}
 
@@ -29,12 +30,12 @@ no_values w = pos 0
 
 module _ (s : State) (v : ℕ) (once : OnceAt s) (open_s : OpenAt s) (t : State) (e : goes_on t ≡ turned v s) where
   abbrev Pairs : ℕ → (ℕ → ℤ) → Type 0
-  Pairs D x = Each (λ l. Each (λ u. Room (Gone s v) D x s.all v l u) (Upper s v once open_s)) (Lower s v once open_s)
+  Pairs D x = Each (λ l. Each (λ u. Room (Gone s v) D x s.all v l u) (Upper s v)) (Lower s v)
 
-  goes : (D : ℕ) (x : ℕ → ℤ) → Goes (Gone s v) D x (first s v once open_s) (Pairs D x) (goes_on t)
-  goes D x = subst (λ (r : Turn). Goes (Gone s v) D x (first s v once open_s) (Pairs D x) r) (sym e) (turned_goes s v once open_s D x)
+  goes : (D : ℕ) (x : ℕ → ℤ) → Goes (Gone s v) D x (first_of s v) (Pairs D x) (goes_on t)
+  goes D x = subst (λ (r : Turn). Goes (Gone s v) D x (first_of s v) (Pairs D x) r) (sym e) (turned_goes s v once open_s D x)
 
-  follows : Follows (Gone s v) (first s v once open_s) t
+  follows : Follows (Gone s v) (first_of s v) t
   follows = (goes 1 no_values).0
 
   free_of : FreeOf t v
@@ -57,17 +58,13 @@ module _ (s : State) (v : ℕ) (once : OnceAt s) (open_s : OpenAt s) (t : State)
       (each_both (λ i. pos 0 ≤ℤ worth_over h.denominator h.values (form_at t.all i)) (λ i. coefficient eqb (form_at t.all i).parts v ≡ pos 0) t.standing h.natural free_of) in
       let settled : Settled (Gone s v) h.denominator y t = record { calm = calm; narrow = narrow; natural = natural } in
       let back = (goes h.denominator y).1 settled in
-      extended s v once open_s h.denominator h.above h.values back.0.natural back.1
+      extended s v once h.denominator h.above h.values back.0.natural back.1
 
 -- ---- no variable is left
 
 none_left : (m : ℕ) (s : State) → left s ≡ 0 → eliminated m s ≡ Consistent
 none_left zero s e = refl
-none_left (suc m) s e = ap (λ (es : List (ℕ × Counts)). without_next (next_variable es) s (λ t. eliminated m t)) (nil (variables s.all s.standing) e)
-  where
-    nil : (es : List (ℕ × Counts)) → length es ≡ 0 → es ≡ []
-    nil [] g = refl
-    nil (x ∷ es) g = absurd (omega (arith, g))
+none_left (suc m) s e = ap (λ (es : List (ℕ × Counts)). without_next (next_variable es) s (λ t. eliminated m t)) (nil_from_length (variables s.all s.standing) e)
 
 same_end : (r : Turn) (f g : State → Elim) → ((t : State) → goes_on t ≡ r → f t ≡ g t) → ended r f ≡ ended r g
 same_end (refuted steps) f g h = refl
@@ -118,11 +115,7 @@ consistent_next None s f Q e none h = none refl
 consistent_next (Some b) s f Q e none h = consistent_end (turned b.0 s) f Q e (λ t i j k g. h b t refl i j k g)
 
 solved : (n : ℕ) (s : State) → OnceAt s → OpenAt s → left s ≤ n → eliminated n s ≡ Consistent → Solution s
-solved zero s once open_s le e = no_form s open_s (all_free s (nil (variables s.all s.standing) (omega (arith, le))))
-  where
-    nil : (es : List (ℕ × Counts)) → length es ≡ 0 → es ≡ []
-    nil [] g = refl
-    nil (x ∷ es) g = absurd (omega (arith, g))
+solved zero s once open_s le e = no_form s open_s (all_free s (nil_from_length (variables s.all s.standing) (omega (arith, le))))
 solved (suc n) s once open_s le e =
     consistent_next (next_variable (variables s.all s.standing)) s (λ t. eliminated n t) (Solution s) e
     (λ none. no_form s open_s (all_free s (none_listed (variables s.all s.standing) none)))

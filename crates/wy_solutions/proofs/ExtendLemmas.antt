@@ -76,17 +76,17 @@ pub record Solution (s : State) : Type 0 where
   pub values : ℕ → ℤ
   pub natural : Each (λ i. pos 0 ≤ℤ worth_over denominator values (form_at s.all i)) s.standing
 
-module _ (s : State) (v : ℕ) (once : OnceAt s) (open_s : OpenAt s) (D : ℕ) (above : 0 < D) (x : ℕ → ℤ) where
+module _ (s : State) (v : ℕ) (once : OnceAt s) (D : ℕ) (above : 0 < D) (x : ℕ → ℤ) where
   abbrev rest : ℕ → ℤ
   rest i = worth_over D (without_at v x) (form_at s.all i)
 
   abbrev coefficient_size : ℕ → ℕ
   coefficient_size i = unsigned_abs (coefficient_at s.all v i)
 
-  with_value : IsChosen coefficient_size rest (Lower s v once open_s) (Upper s v once open_s) → Each (λ i. (pos 0 ≤ℤ rest i) × IsWithout s.all v i) (Without s v once open_s) → Each (λ i. IsLower s.all v i) (Lower s v once open_s) → Each (λ i. IsUpper s.all v i) (Upper s v once open_s) → Solution s
+  with_value : IsChosen coefficient_size rest (Lower s v) (Upper s v) → Each (λ i. (pos 0 ≤ℤ rest i) × IsWithout s.all v i) (Without s v) → Each (λ i. IsLower s.all v i) (Lower s v) → Each (λ i. IsUpper s.all v i) (Upper s v) → Solution s
   with_value c without lower upper =
-      let ls = Lower s v once open_s in
-      let us = Upper s v once open_s in
+      let ls = Lower s v in
+      let us = Upper s v in
       let P : ℕ → Type 0 = λ i. pos 0 ≤ℤ worth_over (c.scale * D) (moved D x v c.scale c.value) (form_at s.all i) in
       record {
         denominator = c.scale * D;
@@ -95,7 +95,7 @@ module _ (s : State) (v : ℕ) (once : OnceAt s) (open_s : OpenAt s) (D : ℕ) (
         natural = whole s.all v P s.standing
             (each_so (λ i. (pos 0 ≤ℤ (pos (coefficient_size i) *ℤ c.value +ℤ pos c.scale *ℤ rest i)) × IsLower s.all v i) P (λ i h. lower_moved D x v c.scale c.value (form_at s.all i) (once i) (coefficient_size i) (lower_is (coefficient_at s.all v i) h.1) h.0) ls (each_both (λ i. pos 0 ≤ℤ (pos (coefficient_size i) *ℤ c.value +ℤ pos c.scale *ℤ rest i)) (λ i. IsLower s.all v i) ls c.lower lower))
             (each_so (λ i. ((pos (coefficient_size i) *ℤ c.value) ≤ℤ (pos c.scale *ℤ rest i)) × IsUpper s.all v i) P (λ i h. upper_moved D x v c.scale c.value (form_at s.all i) (once i) (coefficient_size i) (upper_is (coefficient_at s.all v i) h.1) h.0) us (each_both (λ i. (pos (coefficient_size i) *ℤ c.value) ≤ℤ (pos c.scale *ℤ rest i)) (λ i. IsUpper s.all v i) us c.upper upper))
-            (each_so (λ i. (pos 0 ≤ℤ rest i) × IsWithout s.all v i) P (λ i h. without_moved D x v c.scale c.value (form_at s.all i) (once i) h.1 h.0) (Without s v once open_s) without);
+            (each_so (λ i. (pos 0 ≤ℤ rest i) × IsWithout s.all v i) P (λ i h. without_moved D x v c.scale c.value (form_at s.all i) (once i) h.1 h.0) (Without s v) without);
       }
     where
       product : (m n : ℕ) → 0 < m → 0 < n → 0 < m * n
@@ -104,20 +104,20 @@ module _ (s : State) (v : ℕ) (once : OnceAt s) (open_s : OpenAt s) (D : ℕ) (
       product (suc m) zero f g = absurd (omega (arith, g))
 
   -- the forms without the variable are at least 0 without its value, and so is what each pair leaves
-  pub extended : Each (λ i. pos 0 ≤ℤ rest i) (Without s v once open_s) → Each (λ l. Each (λ u. Room (Gone s v) D (without_at v x) s.all v l u) (Upper s v once open_s)) (Lower s v once open_s) → Solution s
+  pub extended : Each (λ i. pos 0 ≤ℤ rest i) (Without s v) → Each (λ l. Each (λ u. Room (Gone s v) D (without_at v x) s.all v l u) (Upper s v)) (Lower s v) → Solution s
   extended without pairs =
       let known = parted s.all v (λ i. Unit {0}) s.standing (all_so s.standing) in
-      let ls = Lower s v once open_s in
-      let us = Upper s v once open_s in
+      let ls = Lower s v in
+      let us = Upper s v in
       let lower : Each (λ i. IsLower s.all v i) ls = each_so (λ i. Unit {0} × IsLower s.all v i) (λ i. IsLower s.all v i) (λ i h. h.1) ls known.0 in
       let upper : Each (λ i. IsUpper s.all v i) us = each_so (λ i. Unit {0} × IsUpper s.all v i) (λ i. IsUpper s.all v i) (λ i h. h.1) us known.1 in
-      let none : Each (λ i. IsWithout s.all v i) (Without s v once open_s) = each_so (λ i. Unit {0} × IsWithout s.all v i) (λ i. IsWithout s.all v i) (λ i h. h.1) (Without s v once open_s) known.2 in
+      let none : Each (λ i. IsWithout s.all v i) (Without s v) = each_so (λ i. Unit {0} × IsWithout s.all v i) (λ i. IsWithout s.all v i) (λ i h. h.1) (Without s v) known.2 in
       with_value
       (chosen coefficient_size rest ls us
       (each_so (λ i. IsLower s.all v i) (λ i. 0 < coefficient_size i) (λ i h. lower_above (coefficient_at s.all v i) h) ls lower)
       (each_so (λ i. IsUpper s.all v i) (λ i. 0 < coefficient_size i) (λ i h. upper_above (coefficient_at s.all v i) h) us upper)
       pairs)
-      (each_both (λ i. pos 0 ≤ℤ rest i) (λ i. IsWithout s.all v i) (Without s v once open_s) without none)
+      (each_both (λ i. pos 0 ≤ℤ rest i) (λ i. IsWithout s.all v i) (Without s v) without none)
       lower upper
     where
       all_so : (is : List ℕ) → Each (λ i. Unit {0}) is

@@ -1,8 +1,24 @@
 -- Whole numbers: the order of products with natural numbers.
-use Rattle.std.proofs.Common.{◌≡◌, ◌∙◌, ◌<◌, ℕ, ℤ, pos, negsuc, neg_ℤ, ◌+ℤ◌, ◌-ℤ◌, ◌*ℤ◌, ◌≤ℤ◌, sym, ap, arith}
+use Rattle.std.proofs.Common.{◌≡◌, ◌∙◌, ◌<◌, ℕ, true, false, ℤ, pos, negsuc, neg_ℤ, ◌+ℤ◌, ◌-ℤ◌, ◌*ℤ◌, ◌≤ℤ◌, sym, ap, arith}
+use Rattle.std.specs.Prelude.{int_lt}
+use Rattle.std.specs.Ordering.{int_eq}
 use Rattle.std.proofs.lemmas.Int.{ints}
 use Rattle.std.proofs.Math.IntN.{*ℤ_comm, *ℤ-zero, +ℤ_invr}
 use Rattle.wy_lin.proofs.Ring.{distrib_left, times_assoc, times_pos}
+
+-- ---- tests
+
+pub equal_is : (a b : ℤ) → int_eq a b ≡ true → a ≡ b
+equal_is a b e = grind (arith, ints)
+
+pub never_equal : (c : ℤ) → int_eq c (pos 0) ≡ false → c ≡ pos 0 → ⊥
+never_equal c e f = grind (arith, ints)
+
+pub less_is : (a b : ℤ) → int_lt a b ≡ true → a ≤ℤ b
+less_is a b e = grind (arith, ints)
+
+pub not_less : (a b : ℤ) → int_lt a b ≡ false → b ≤ℤ a
+not_less a b e = grind (arith, ints)
 
 -- ---- products
 

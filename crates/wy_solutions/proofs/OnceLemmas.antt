@@ -1,5 +1,5 @@
 -- Sums of forms have each variable once, and so has a form that is divided.
-use Rattle.std.proofs.Common.{◌≡◌, ◌∙◌, ℕ, List, [], ◌∷◌, ◌++◌, Bool, true, false, cond, eqb, ℤ, pos, Option, Some, refl, sym, ap, subst, append_assoc, arith}
+use Rattle.std.proofs.Common.{◌≡◌, ◌∙◌, ℕ, List, [], ◌∷◌, ◌++◌, Bool, true, false, cond, eqb, ℤ, pos, Option, Some, refl, sym, ap, subst, append_assoc, append-nil, arith}
 use Rattle.std.specs.Ordering.{int_eq}
 use Rattle.std.proofs.lemmas.Bool.{eqb-true}
 use Rattle.std.proofs.lemmas.Int.{ints}
@@ -10,6 +10,7 @@ use Rattle.wy_lin.specs.Combination.{form_at, combined_from, combined}
 use Rattle.wy_lin.proofs.OptionLemmas.{some_is, bind_some}
 use Rattle.wy_eliminate.specs.Division.{quotient, divided_from, lowered}
 use Rattle.wy_eliminate.specs.Validity.{IsPlain}
+use Rattle.wy_solutions.proofs.NumberLemmas.{never_equal}
 use Rattle.wy_solutions.proofs.PartLemmas.{AreOnce, other_coefficient, own_coefficient}
 
 -- ---- sums
@@ -34,9 +35,6 @@ once_with (p ∷ ps) v d once = by (eqb v p.1) refl (once_with ps v d once.1)
     by : (b : Bool) → eqb v p.1 ≡ b → AreOnce (with_coefficient eqb ps v d) → AreOnce (cond b ((d, p.1) ∷ ps) (p ∷ with_coefficient eqb ps v d))
     by true is rest = once
     by false is rest = (kept_coefficient ps v p.1 d (apart is) ∙ once.0, rest)
-
-some_parts : List (ℤ × ℕ) → Option (List (ℤ × ℕ))
-some_parts ps = Some ps
 
 once_part : (ps : List (ℤ × ℕ)) (m : Factor) (c : ℤ) (v : ℕ) (qs : List (ℤ × ℕ)) → AreOnce ps → plus_part eqb ps m c v ≡ Some qs → AreOnce qs
 once_part ps m c v qs once e =
@@ -76,11 +74,7 @@ each_divided d [] = []
 each_divided d (p ∷ ps) = cond (int_eq p.0 (pos 0)) (each_divided d ps) ((quotient d p.0, p.1) ∷ each_divided d ps)
 
 divided_behind : (d : ℕ) (done ps : List (ℤ × ℕ)) → divided_from d done ps ≡ done ++ each_divided d ps
-divided_behind d done [] = sym (nil_behind done)
-  where
-    nil_behind : (l : List (ℤ × ℕ)) → l ++ [] ≡ l
-    nil_behind [] = refl
-    nil_behind (x ∷ xs) = ap (λ (l : List (ℤ × ℕ)). x ∷ l) (nil_behind xs)
+divided_behind d done [] = sym (append-nil done)
 divided_behind d done (p ∷ ps) = by (int_eq p.0 (pos 0)) (λ before. divided_behind d before ps)
   where
     by : (b : Bool) → ((before : List (ℤ × ℕ)) → divided_from d before ps ≡ before ++ each_divided d ps) → divided_from d (cond b done (done ++ (quotient d p.0, p.1) ∷ [])) ps ≡ done ++ cond b (each_divided d ps) ((quotient d p.0, p.1) ∷ each_divided d ps)
@@ -97,16 +91,13 @@ behind_none p ps v once none = by (eqb v p.1) refl
     by true e = ap (coefficient eqb ps) (eqb-true v p.1 e) ∙ once
     by false e = sym (other_coefficient p ps v e) ∙ none
 
-pub never_none : (c : ℤ) → int_eq c (pos 0) ≡ false → c ≡ pos 0 → ⊥
-never_none c e f = grind (arith, ints)
-
 divided_none : (d : ℕ) (ps : List (ℤ × ℕ)) (v : ℕ) → AreOnce ps → coefficient eqb ps v ≡ pos 0 → coefficient eqb (each_divided d ps) v ≡ pos 0
 divided_none d [] v once none = refl
 divided_none d (p ∷ ps) v once none = by (int_eq p.0 (pos 0)) (eqb v p.1) refl refl (divided_none d ps v once.1 (behind_none p ps v once.0 none))
   where
     by : (b c : Bool) → int_eq p.0 (pos 0) ≡ b → eqb v p.1 ≡ c → coefficient eqb (each_divided d ps) v ≡ pos 0 → coefficient eqb (cond b (each_divided d ps) ((quotient d p.0, p.1) ∷ each_divided d ps)) v ≡ pos 0
     by true c e f rest = rest
-    by false true e f rest = absurd (never_none p.0 e (sym (own_coefficient p ps) ∙ ap (coefficient eqb (p ∷ ps)) (sym (eqb-true v p.1 f)) ∙ none))
+    by false true e f rest = absurd (never_equal p.0 e (sym (own_coefficient p ps) ∙ ap (coefficient eqb (p ∷ ps)) (sym (eqb-true v p.1 f)) ∙ none))
     by false false e f rest = other_coefficient (quotient d p.0, p.1) (each_divided d ps) v f ∙ rest
 
 once_divided : (d : ℕ) (ps : List (ℤ × ℕ)) → AreOnce ps → AreOnce (each_divided d ps)

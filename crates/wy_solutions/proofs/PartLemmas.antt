@@ -9,7 +9,7 @@ use Rattle.wy_lin.specs.Linear.{coefficient}
 use Rattle.wy_lin.specs.Worth.{worth_of_parts}
 use Rattle.wy_lin.proofs.Ring.{distrib_left, times_assoc, one_times, minus_times}
 use Rattle.wy_eliminate.specs.Variables.{agrees, agree, gives_zero, opposes, opposite}
-use Rattle.wy_solutions.proofs.NumberLemmas.{times_swap}
+use Rattle.wy_solutions.proofs.NumberLemmas.{equal_is, times_swap}
 
 -- the parts behind each part have none of its variable, or 0
 abbrev pub AreOnce : List (ℤ × ℕ) → Type 0
@@ -146,9 +146,6 @@ worth_multiple k x (p ∷ ps) qs once_p once_q same =
 
 -- ---- equal and opposite coefficients
 
-int_eq_is : (a b : ℤ) → int_eq a b ≡ true → a ≡ b
-int_eq_is a b e = grind (arith, ints)
-
 pub both_true : (a b : Bool) → (a && b) ≡ true → (a ≡ true) × (b ≡ true)
 both_true true b e = (refl, e)
 both_true false b e = absurd cc
@@ -160,7 +157,7 @@ agreed (p ∷ ps) qs v e =
     by h.0 (eqb v p.1) refl (agreed ps qs v h.1)
   where
     by : int_eq p.0 (coefficient eqb qs p.1) ≡ true → (b : Bool) → eqb v p.1 ≡ b → (coefficient eqb ps v ≡ coefficient eqb qs v) ⊎ (coefficient eqb ps v ≡ pos 0) → (cond b p.0 (coefficient eqb ps v) ≡ coefficient eqb qs v) ⊎ (cond b p.0 (coefficient eqb ps v) ≡ pos 0)
-    by here true is rest = inl (int_eq_is p.0 (coefficient eqb qs p.1) here ∙ ap (coefficient eqb qs) (sym (eqb-true v p.1 is)))
+    by here true is rest = inl (equal_is p.0 (coefficient eqb qs p.1) here ∙ ap (coefficient eqb qs) (sym (eqb-true v p.1 is)))
     by here false is rest = rest
 
 either_way : (a b : ℤ) → (a ≡ b) ⊎ (a ≡ pos 0) → (b ≡ a) ⊎ (b ≡ pos 0) → a ≡ b
@@ -181,7 +178,7 @@ opposed (p ∷ ps) qs v e =
     by h.0 (eqb v p.1) refl (opposed ps qs v h.1)
   where
     by : gives_zero p.0 (coefficient eqb qs p.1) ≡ true → (b : Bool) → eqb v p.1 ≡ b → (coefficient eqb ps v +ℤ coefficient eqb qs v ≡ pos 0) ⊎ (coefficient eqb ps v ≡ pos 0) → (cond b p.0 (coefficient eqb ps v) +ℤ coefficient eqb qs v ≡ pos 0) ⊎ (cond b p.0 (coefficient eqb ps v) ≡ pos 0)
-    by here true is rest = inl (ap (λ (w : ℕ). p.0 +ℤ coefficient eqb qs w) (eqb-true v p.1 is) ∙ int_eq_is (p.0 +ℤ coefficient eqb qs p.1) (pos 0) here)
+    by here true is rest = inl (ap (λ (w : ℕ). p.0 +ℤ coefficient eqb qs w) (eqb-true v p.1 is) ∙ equal_is (p.0 +ℤ coefficient eqb qs p.1) (pos 0) here)
     by here false is rest = rest
 
 either_sum : (a b : ℤ) → (a +ℤ b ≡ pos 0) ⊎ (a ≡ pos 0) → (b +ℤ a ≡ pos 0) ⊎ (b ≡ pos 0) → b ≡ neg_ℤ a

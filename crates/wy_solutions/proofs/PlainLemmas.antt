@@ -1,5 +1,5 @@
 -- The forms of literals are plain: a variable has one part, and each number fits 128 bits.
-use Rattle.std.proofs.Common.{◌≡◌, ◌∙◌, ℕ, List, [], ◌∷◌, ◌++◌, map, Bool, true, false, cond, eqb, ℤ, pos, ◌+ℤ◌, ◌-ℤ◌, ◌*ℤ◌, Option, Some, None, refl, sym, ap, subst, append_assoc}
+use Rattle.std.proofs.Common.{◌≡◌, ◌∙◌, ℕ, List, [], ◌∷◌, ◌++◌, map, Bool, true, false, cond, eqb, ℤ, pos, ◌+ℤ◌, ◌-ℤ◌, ◌*ℤ◌, Option, Some, None, refl, sym, ap, subst, append_assoc, append-nil}
 use Rattle.std.proofs.lemmas.Bool.{eqb-true}
 use Rattle.std.proofs.Math.IntN.{+ℤ_idl}
 use Rattle.wy_term.specs.Term.{Term, Of, no_parts, part, two, number, add, sub, neg, mul}
@@ -205,11 +205,7 @@ module _ (at : ℕ → Term) where
   all_new_last done p (q ∷ qs) h g = (new_last done p.0 q.1 p.1 h.0 (apart p.1 q.1 g.0), all_new_last done p qs h.1 g.1)
 
   parts_last : (done ps : List (ℤ × ℕ)) → AreTidy (map (seen_part at) ps) → AreNew done ps → plus_parts eqb done (Times 1) ps ≡ Some (done ++ ps)
-  parts_last done [] tidy new = ap (λ (ps : List (ℤ × ℕ)). Some ps) (nil_behind done)
-    where
-      nil_behind : (l : List (ℤ × ℕ)) → l ≡ l ++ []
-      nil_behind [] = refl
-      nil_behind (x ∷ xs) = ap (λ (l : List (ℤ × ℕ)). x ∷ l) (nil_behind xs)
+  parts_last done [] tidy new = ap (λ (ps : List (ℤ × ℕ)). Some ps) (sym (append-nil done))
   parts_last done (p ∷ ps) tidy new =
       ap (λ (o : Option (List (ℤ × ℕ))). o >>= λ rs. plus_parts eqb rs (Times 1) ps) (part_last done p.0 p.1 tidy.0 new.0)
       ∙ (parts_last (done ++ p ∷ []) ps tidy.2 (all_new_last done p ps new.1 tidy.1) ∙ ap (λ (qs : List (ℤ × ℕ)). Some qs) (append_assoc done (p ∷ []) ps))

@@ -12,7 +12,7 @@ use Rattle.wy_eliminate.specs.Variables.{agree}
 use Rattle.wy_eliminate.specs.Elimination.{State, is_crowded, equal_from, is_less, is_new, removed_at, room_for, with_place, with_cut, Turn, goes_on, refuted, and_then, unless_crowded}
 use Rattle.wy_solutions.specs.Solutions.{worth_over}
 use Rattle.wy_solutions.proofs.EachLemmas.{Each, each_so, each_last, each_before, each_at, each_removed, each_put_back}
-use Rattle.wy_solutions.proofs.NumberLemmas.{times_le}
+use Rattle.wy_solutions.proofs.NumberLemmas.{less_is, not_less, times_le}
 use Rattle.wy_solutions.proofs.PartLemmas.{AreOnce, worth_agreed}
 use Rattle.wy_solutions.proofs.CutLemmas.{IsOpen}
 
@@ -56,12 +56,6 @@ stands_at all ps is j e =
     let known = stands_from all ps is 0 j e in
     let same : known.0 ≡ j = omega (arith, known.1) in
     subst (λ (k : ℕ). Stands all ps is k) same known.2
-
-below_is : (a b : ℤ) → int_lt a b ≡ true → a ≤ℤ b
-below_is a b e = grind (arith, ints)
-
-not_below : (a b : ℤ) → int_lt a b ≡ false → b ≤ℤ a
-not_below a b e = grind (arith, ints)
 
 -- ---- at a point
 
@@ -148,7 +142,7 @@ module _ (V : ℕ → Type 0) where
       covered (Some k) e less h =
           let there = stands_at s.all f.parts s.standing k e in
           let g = form_at s.all (slice_index s.standing k) in
-          natural_alike g f (worth_agreed x f.parts g.parts once_f (once (slice_index s.standing k)) there.agrees) (not_below f.constant g.constant less) (each_at (λ i. Natural (form_at s.all i)) s.standing k there.within h.natural)
+          natural_alike g f (worth_agreed x f.parts g.parts once_f (once (slice_index s.standing k)) there.agrees) (not_less f.constant g.constant less) (each_at (λ i. Natural (form_at s.all i)) s.standing k there.within h.natural)
 
       module _ (all : List (Linear ℕ)) (place : ℕ) (steps : List LinStep) (here : form_at all place ≡ f) (grows : (i : ℕ) → (form_at all i ≡ form_at s.all i) ⊎ ((form_at all i ≡ f) × (form_at s.all i ≡ nothing))) where
         ahead : (P : Linear ℕ → Type 0) → P f → (i : ℕ) → P (form_at s.all i) → P (form_at all i)
@@ -179,7 +173,7 @@ module _ (V : ℕ → Type 0) where
             let g = form_at s.all (slice_index s.standing k) in
             each_put_back (λ i. Natural (form_at s.all i)) s.standing k
             (each_so (λ i. Natural (form_at all i)) (λ i. Natural (form_at s.all i)) back (remove s.standing k) h)
-            (natural_alike f g (sym (worth_agreed x f.parts g.parts once_f (once (slice_index s.standing k)) there.agrees)) (below_is f.constant g.constant less) p)
+            (natural_alike f g (sym (worth_agreed x f.parts g.parts once_f (once (slice_index s.standing k)) there.agrees)) (less_is f.constant g.constant less) p)
 
         goes_next : (more : List (Linear ℕ)) → all ≡ s.all ++ more → IsOpen f → ((w : ℕ) → V w → coefficient eqb f.parts w ≡ pos 0) → is_crowded s ≡ false → is_new s f ≡ true → Goes s (Natural f) (goes_on (record { all = all; standing = room_for s f ++ place ∷ []; steps = steps; wide = s.wide }))
         goes_next more grown open_f free_f calm new = (

@@ -85,6 +85,20 @@ module _ (V : ℕ → Type 0) (D : ℕ) (x : ℕ → ℤ) where
 abbrev pub Gone : State → ℕ → ℕ → Type 0
 Gone s v w = (w ≡ v) ⊎ FreeOf s w
 
+-- the forms at the start of the turn, by the variable's sign
+abbrev pub Lower : State → ℕ → List ℕ
+Lower s v = (sides s.all v s.standing).lower
+
+abbrev pub Upper : State → ℕ → List ℕ
+Upper s v = (sides s.all v s.standing).upper
+
+abbrev pub Without : State → ℕ → List ℕ
+Without s v = (sides s.all v s.standing).without
+
+-- the state in which those without it stand
+abbrev pub first_of : State → ℕ → State
+first_of s v = record s { standing = Without s v }
+
 module _ (s : State) (v : ℕ) (once : OnceAt s) (open_s : OpenAt s) where
   -- no form of the place has a variable that no form had
   abbrev Lacks : ℕ → Type 0
@@ -121,33 +135,21 @@ module _ (s : State) (v : ℕ) (once : OnceAt s) (open_s : OpenAt s) where
       let b = unsigned_abs (coefficient_at s.all v u) in
       none_of_both (pos (b / gcd a b)) (pos (a / gcd a b)) (coefficient eqb (form_at s.all l).parts w) (coefficient eqb (form_at s.all u).parts w) (lacks_l w free) (lacks_u w free)
 
-  abbrev pub Lower : List ℕ
-  Lower = (sides s.all v s.standing).lower
-
-  abbrev pub Upper : List ℕ
-  Upper = (sides s.all v s.standing).upper
-
-  abbrev pub Without : List ℕ
-  Without = (sides s.all v s.standing).without
-
-  abbrev pub first : State
-  first = record s { standing = Without }
-
-  pub turned_goes : (D : ℕ) (x : ℕ → ℤ) → Goes (Gone s v) D x first (Each (λ l. Each (λ u. Room (Gone s v) D x s.all v l u) Upper) Lower) (turned v s)
+  pub turned_goes : (D : ℕ) (x : ℕ → ℤ) → Goes (Gone s v) D x (first_of s v) (Each (λ l. Each (λ u. Room (Gone s v) D x s.all v l u) (Upper s v)) (Lower s v)) (turned v s)
   turned_goes D x =
       let known = parted s.all v Lacks s.standing lacks in
       let open_parts = parted s.all v (λ i. IsOpen (form_at s.all i)) s.standing open_s in
-      let open_first = each_so (λ i. IsOpen (form_at s.all i) × IsWithout s.all v i) (λ i. IsOpen (form_at s.all i)) (λ i h. h.0) Without open_parts.2 in
-      lowers_go (Gone s v) D x s.all v Upper first Lower (record { more = []; is = sym (append-nil s.all) }) once open_first
-      (each_so (λ l. Lacks l × IsLower s.all v l) (λ l. (l < length s.all) × Each (λ u. (u < length s.all) × Cancels (Gone s v) D x s.all v l u) Upper)
-      (λ l h. (place_within s.all v l (lower_above (coefficient_at s.all v l) h.1), each_so (λ u. Lacks u × IsUpper s.all v u) (λ u. (u < length s.all) × Cancels (Gone s v) D x s.all v l u) (λ u g. (place_within s.all v u (upper_above (coefficient_at s.all v u) g.1), cancels D x l u h.0 h.1 g.0 g.1)) Upper known.1))
-      Lower known.0)
+      let open_first = each_so (λ i. IsOpen (form_at s.all i) × IsWithout s.all v i) (λ i. IsOpen (form_at s.all i)) (λ i h. h.0) (Without s v) open_parts.2 in
+      lowers_go (Gone s v) D x s.all v (Upper s v) (first_of s v) (Lower s v) (record { more = []; is = sym (append-nil s.all) }) once open_first
+      (each_so (λ l. Lacks l × IsLower s.all v l) (λ l. (l < length s.all) × Each (λ u. (u < length s.all) × Cancels (Gone s v) D x s.all v l u) (Upper s v))
+      (λ l h. (place_within s.all v l (lower_above (coefficient_at s.all v l) h.1), each_so (λ u. Lacks u × IsUpper s.all v u) (λ u. (u < length s.all) × Cancels (Gone s v) D x s.all v l u) (λ u g. (place_within s.all v u (upper_above (coefficient_at s.all v u) g.1), cancels D x l u h.0 h.1 g.0 g.1)) (Upper s v) known.1))
+      (Lower s v) known.0)
 
   -- the variable is gone, and each that no form had still is
-  pub free_first : (w : ℕ) → Gone s v w → FreeOf first w
+  pub free_first : (w : ℕ) → Gone s v w → FreeOf (first_of s v) w
   free_first w (inl e) =
       let known = parted s.all v Lacks s.standing lacks in
-      each_so (λ i. Lacks i × IsWithout s.all v i) (λ i. coefficient eqb (form_at s.all i).parts w ≡ pos 0) (λ i h. ap (coefficient eqb (form_at s.all i).parts) e ∙ h.1) Without known.2
+      each_so (λ i. Lacks i × IsWithout s.all v i) (λ i. coefficient eqb (form_at s.all i).parts w ≡ pos 0) (λ i h. ap (coefficient eqb (form_at s.all i).parts) e ∙ h.1) (Without s v) known.2
   free_first w (inr free) =
       let known = parted s.all v Lacks s.standing lacks in
-      each_so (λ i. Lacks i × IsWithout s.all v i) (λ i. coefficient eqb (form_at s.all i).parts w ≡ pos 0) (λ i h. h.0 w free) Without known.2
+      each_so (λ i. Lacks i × IsWithout s.all v i) (λ i. coefficient eqb (form_at s.all i).parts w ≡ pos 0) (λ i h. h.0 w free) (Without s v) known.2
