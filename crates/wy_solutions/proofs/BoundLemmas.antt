@@ -45,8 +45,8 @@ module _ (a : ℕ → ℕ) (r : ℕ → ℤ) where
   greatest us l [] lt suits = record { place = l; above = lt.0; suits = suits.0; over = (at_most_itself (pos (a l) *ℤ r l), tt) }
   greatest us l (k ∷ ls) lt suits = greater us l (k ∷ ls) lt.0 suits.0 (greatest us k ls lt.1 suits.1)
 
-  reached : (x y z w : ℤ) → z ≡ neg_ℤ x → x ≤ℤ y → pos 0 ≤ℤ (z +ℤ y)
-  reached x y z w e h = omega (arith, ints, e, h)
+  reached : (x y z : ℤ) → z ≡ neg_ℤ x → x ≤ℤ y → pos 0 ≤ℤ (z +ℤ y)
+  reached x y z e h = omega (arith, ints, e, h)
 
   kept : (x y z : ℤ) → z ≡ neg_ℤ x → pos 0 ≤ℤ (x +ℤ y) → z ≤ℤ y
   kept x y z e h = omega (arith, ints, e, h)
@@ -56,7 +56,7 @@ module _ (a : ℕ → ℕ) (r : ℕ → ℤ) where
     scale = a g.place;
     above = g.above;
     value = neg_ℤ (r g.place);
-    lower = each_so (λ i. IsOver g.place i) (λ i. pos 0 ≤ℤ (pos (a i) *ℤ neg_ℤ (r g.place) +ℤ pos (a g.place) *ℤ r i)) (λ i h. reached (pos (a i) *ℤ r g.place) (pos (a g.place) *ℤ r i) (pos (a i) *ℤ neg_ℤ (r g.place)) (pos 0) (times_neg (pos (a i)) (r g.place)) h) ls g.over;
+    lower = each_so (λ i. IsOver g.place i) (λ i. pos 0 ≤ℤ (pos (a i) *ℤ neg_ℤ (r g.place) +ℤ pos (a g.place) *ℤ r i)) (λ i h. reached (pos (a i) *ℤ r g.place) (pos (a g.place) *ℤ r i) (pos (a i) *ℤ neg_ℤ (r g.place)) (times_neg (pos (a i)) (r g.place)) h) ls g.over;
     upper = each_so (λ u. Suits g.place u) (λ i. (pos (a i) *ℤ neg_ℤ (r g.place)) ≤ℤ (pos (a g.place) *ℤ r i)) (λ u h. kept (pos (a u) *ℤ r g.place) (pos (a g.place) *ℤ r u) (pos (a u) *ℤ neg_ℤ (r g.place)) (times_neg (pos (a u)) (r g.place)) h) us g.suits;
   }
 

@@ -3,7 +3,6 @@ use Rattle.std.proofs.Common.{◌≡◌, ◌∙◌, ◌*◌, ◌<◌, ◌≤◌,
 use Rattle.std.specs.Prelude.{◌⊎◌, nat_lt}
 use Rattle.std.specs.Ordering.{int_eq}
 use Rattle.std.proofs.lemmas.Bool.{eqb-true}
-use Rattle.std.proofs.lemmas.Int.{ints}
 use Rattle.indexmap.specs.IndexMap.{insert_entry}
 use Rattle.wy_lin.specs.Linear.{Linear, coefficient}
 use Rattle.wy_lin.specs.Combination.{form_at}
@@ -55,7 +54,7 @@ listed_too true b f e = refl
 listed_too false b f e = let g = f refl in absurd cc
 
 -- a list of variables that are all on another isn't longer
-pub at_most_as_many : (ks ls : List (ℕ × Counts)) → AreApart ks → ((w : ℕ) → has ls w ≡ false → has ks w ≡ false) → length ks ≤ length ls
+at_most_as_many : (ks ls : List (ℕ × Counts)) → AreApart ks → ((w : ℕ) → has ls w ≡ false → has ks w ≡ false) → length ks ≤ length ls
 at_most_as_many [] ls apart h = omega arith
 at_most_as_many (k ∷ ks) ls apart h =
     let own : has (k ∷ ks) k.0 ≡ true = ap (λ (b : Bool). cond b true (has ks k.0)) (eqb_itself k.0) in

@@ -17,7 +17,7 @@ use Rattle.wy_eliminate.specs.Validity.{divides, is_bare}
 use Rattle.wy_eliminate.proofs.ValidityLemmas.{common-bare}
 use Rattle.wy_solutions.specs.Solutions.{worth_over}
 use Rattle.wy_solutions.proofs.NumberLemmas.{equal_is, not_less, times_swap, above_from_times, times_le}
-use Rattle.wy_solutions.proofs.PartLemmas.{AreOnce, both_true, own_coefficient, coefficient_worth, worth_at_none}
+use Rattle.wy_solutions.proofs.PartLemmas.{AreOnce, both_true, own_coefficient, one_at, coefficient_worth, worth_at_none}
 use Rattle.wy_solutions.proofs.OnceLemmas.{each_divided, lowered_parts, behind_none}
 
 -- ---- division
@@ -108,14 +108,14 @@ none_from_times n (pos zero) lt e = refl
 none_from_times n (pos (suc k)) lt e = absurd (omega (arith, ints, lt, e))
 none_from_times n (negsuc k) lt e = absurd (omega (arith, ints, lt, e))
 
-tight_coefficient : (g f : Linear ℕ) → IsTightened g f → AreOnce g.parts → AreOnce f.parts → (t : IsTightened g f) → (v : ℕ) → pos t.into *ℤ coefficient eqb g.parts v ≡ pos t.from *ℤ coefficient eqb f.parts v
-tight_coefficient g f s once_g once_f t v =
+tight_coefficient : (g f : Linear ℕ) (t : IsTightened g f) → AreOnce g.parts → AreOnce f.parts → (v : ℕ) → pos t.into *ℤ coefficient eqb g.parts v ≡ pos t.from *ℤ coefficient eqb f.parts v
+tight_coefficient g f t once_g once_f v =
     ap (λ (z : ℤ). pos t.into *ℤ z) (sym (coefficient_worth v g.parts once_g))
-    ∙ t.parts_are (λ w. cond (eqb v w) (pos 1) (pos 0))
+    ∙ t.parts_are (one_at v)
     ∙ ap (λ (z : ℤ). pos t.from *ℤ z) (coefficient_worth v f.parts once_f)
 
 pub none_behind : (g f : Linear ℕ) → IsTightened g f → AreOnce g.parts → AreOnce f.parts → (v : ℕ) → coefficient eqb f.parts v ≡ pos 0 → coefficient eqb g.parts v ≡ pos 0
-none_behind g f t once_g once_f v none = none_from_times t.into (coefficient eqb g.parts v) t.into_above (tight_coefficient g f t once_g once_f t v ∙ ap (λ (z : ℤ). pos t.from *ℤ z) none ∙ *ℤ-zero (pos t.from))
+none_behind g f t once_g once_f v none = none_from_times t.into (coefficient eqb g.parts v) t.into_above (tight_coefficient g f t once_g once_f v ∙ ap (λ (z : ℤ). pos t.from *ℤ z) none ∙ *ℤ-zero (pos t.from))
 
 -- ---- forms with a variable
 
@@ -144,7 +144,7 @@ open_form f once e none = not_none (common f.parts) (common_none f.parts once no
 
 pub open_behind : (g f : Linear ℕ) → IsTightened g f → AreOnce g.parts → AreOnce f.parts → eqb (common f.parts) 0 ≡ false → IsOpen g
 open_behind g f t once_g once_f e none =
-    open_form f once_f e (λ v. none_from_times t.from (coefficient eqb f.parts v) t.from_above (sym (tight_coefficient g f t once_g once_f t v) ∙ ap (λ (z : ℤ). pos t.into *ℤ z) (none v) ∙ *ℤ-zero (pos t.into)))
+    open_form f once_f e (λ v. none_from_times t.from (coefficient eqb f.parts v) t.from_above (sym (tight_coefficient g f t once_g once_f v) ∙ ap (λ (z : ℤ). pos t.into *ℤ z) (none v) ∙ *ℤ-zero (pos t.into)))
 
 abs_none : (z : ℤ) → unsigned_abs z ≡ 0 → z ≡ pos 0
 abs_none (pos n) e = ap (λ (m : ℕ). pos m) e
@@ -216,8 +216,8 @@ worth_sum D x m n h f g s = over_sum (pos D) (pos m) (pos n) (worth_of_parts x h
 pub coefficient_sum : (m n : ℕ) (h f g : Linear ℕ) → IsSum m n h f g → AreOnce h.parts → AreOnce f.parts → AreOnce g.parts → (v : ℕ) → coefficient eqb h.parts v ≡ pos m *ℤ coefficient eqb f.parts v +ℤ pos n *ℤ coefficient eqb g.parts v
 coefficient_sum m n h f g s once_h once_f once_g v =
     sym (coefficient_worth v h.parts once_h)
-    ∙ s.parts_are (λ w. cond (eqb v w) (pos 1) (pos 0))
-    ∙ ap (λ (z : ℤ). pos m *ℤ z +ℤ pos n *ℤ worth_of_parts (λ w. cond (eqb v w) (pos 1) (pos 0)) g.parts) (coefficient_worth v f.parts once_f)
+    ∙ s.parts_are (one_at v)
+    ∙ ap (λ (z : ℤ). pos m *ℤ z +ℤ pos n *ℤ worth_of_parts (one_at v) g.parts) (coefficient_worth v f.parts once_f)
     ∙ ap (λ (z : ℤ). pos m *ℤ coefficient eqb f.parts v +ℤ pos n *ℤ z) (coefficient_worth v g.parts once_g)
 
 twice : (m n a b : ℤ) → pos 2 *ℤ (m *ℤ a +ℤ n *ℤ b) ≡ (pos 2 *ℤ m) *ℤ a +ℤ (pos 2 *ℤ n) *ℤ b

@@ -30,7 +30,7 @@ no_values w = pos 0
 
 module _ (s : State) (v : ℕ) (once : OnceAt s) (open_s : OpenAt s) (t : State) (e : goes_on t ≡ turned v s) where
   abbrev Pairs : ℕ → (ℕ → ℤ) → Type 0
-  Pairs D x = Each (λ l. Each (λ u. Room (Gone s v) D x s.all v l u) (Upper s v)) (Lower s v)
+  Pairs D x = Each (λ l. Each (λ u. Room D x s.all v l u) (Upper s v)) (Lower s v)
 
   goes : (D : ℕ) (x : ℕ → ℤ) → Goes (Gone s v) D x (first_of s v) (Pairs D x) (goes_on t)
   goes D x = subst (λ (r : Turn). Goes (Gone s v) D x (first_of s v) (Pairs D x) r) (sym e) (turned_goes s v once open_s D x)
@@ -56,7 +56,7 @@ module _ (s : State) (v : ℕ) (once : OnceAt s) (open_s : OpenAt s) (t : State)
       let natural = each_so (λ i. (pos 0 ≤ℤ worth_over h.denominator h.values (form_at t.all i)) × (coefficient eqb (form_at t.all i).parts v ≡ pos 0)) (λ i. pos 0 ≤ℤ worth_over h.denominator y (form_at t.all i))
       (λ i g. subst (λ (z : ℤ). pos 0 ≤ℤ z) (worth_unasked h.denominator h.values v (form_at t.all i) (follows.once i) g.1) g.0) t.standing
       (each_both (λ i. pos 0 ≤ℤ worth_over h.denominator h.values (form_at t.all i)) (λ i. coefficient eqb (form_at t.all i).parts v ≡ pos 0) t.standing h.natural free_of) in
-      let settled : Settled (Gone s v) h.denominator y t = record { calm = calm; narrow = narrow; natural = natural } in
+      let settled : Settled h.denominator y t = record { calm = calm; narrow = narrow; natural = natural } in
       let back = (goes h.denominator y).1 settled in
       extended s v once h.denominator h.above h.values back.0.natural back.1
 
@@ -149,7 +149,7 @@ module _ (forms : List (Linear ℕ)) (plain : All IsPlain forms) where
 
     given_solved : is_crowded s ≡ false → s.wide ≡ false → Solution s → HasSolution forms
     given_solved calm narrow h =
-        let settled : Settled NoneGone h.denominator h.values s = record { calm = calm; narrow = narrow; natural = h.natural } in
+        let settled : Settled h.denominator h.values s = record { calm = calm; narrow = narrow; natural = h.natural } in
         let back = (given_here h.denominator h.values).1 settled in
         record { denominator = h.denominator; above = h.above; values = h.values; natural = each_natural h.denominator h.values forms back.1 }
 

@@ -14,9 +14,9 @@ use Rattle.wy_solutions.proofs.EachLemmas.{Each, each_so, each_both}
 use Rattle.wy_solutions.proofs.NumberLemmas.{times_neg}
 use Rattle.wy_solutions.proofs.BoundLemmas.{IsChosen, chosen}
 use Rattle.wy_solutions.proofs.PartLemmas.{AreOnce, eqb_itself, worth_apart, worth_without, without_at}
-use Rattle.wy_solutions.proofs.StandingLemmas.{OnceAt, OpenAt}
+use Rattle.wy_solutions.proofs.StandingLemmas.{OnceAt}
 use Rattle.wy_solutions.proofs.SideLemmas.{lower_is, lower_above, upper_is, upper_above, IsLower, IsUpper, IsWithout, parted, whole}
-use Rattle.wy_solutions.proofs.TurnLemmas.{Gone, Room, Lower, Upper, Without}
+use Rattle.wy_solutions.proofs.TurnLemmas.{Room, Lower, Upper, Without}
 
 -- ---- a value that is no longer asked for
 
@@ -38,7 +38,7 @@ module _ (D : ℕ) (x : ℕ → ℤ) (v k : ℕ) (value : ℤ) where
       let same = times_assoc K D d in
       omega (arith, ints, e, apart, same)
 
-  pub worth_moved : (f : Linear ℕ) → AreOnce f.parts → worth_over (k * D) moved f ≡ coefficient eqb f.parts v *ℤ value +ℤ pos k *ℤ worth_over D (without_at v x) f
+  worth_moved : (f : Linear ℕ) → AreOnce f.parts → worth_over (k * D) moved f ≡ coefficient eqb f.parts v *ℤ value +ℤ pos k *ℤ worth_over D (without_at v x) f
   worth_moved f once =
       let here : moved v ≡ value = ap (λ (b : Bool). cond b value (pos k *ℤ without_at v x v)) (eqb_itself v) in
       let apart = worth_apart moved (without_at v x) (pos k) v (λ w e. ap (λ (b : Bool). cond b value (pos k *ℤ without_at v x w)) e) (ap (λ (b : Bool). cond b (pos 0) (x v)) (eqb_itself v)) f.parts once in
@@ -49,10 +49,10 @@ module _ (D : ℕ) (x : ℕ → ℤ) (v k : ℕ) (value : ℤ) where
     natural_if : (c : ℤ) → coefficient eqb f.parts v ≡ c → pos 0 ≤ℤ (c *ℤ value +ℤ pos k *ℤ worth_over D (without_at v x) f) → pos 0 ≤ℤ worth_over (k * D) moved f
     natural_if c e h = subst (λ (z : ℤ). pos 0 ≤ℤ z) (sym (worth_moved f once ∙ ap (λ (z : ℤ). z *ℤ value +ℤ pos k *ℤ worth_over D (without_at v x) f) e)) h
 
-    pub lower_moved : (a : ℕ) → coefficient eqb f.parts v ≡ pos a → pos 0 ≤ℤ (pos a *ℤ value +ℤ pos k *ℤ worth_over D (without_at v x) f) → pos 0 ≤ℤ worth_over (k * D) moved f
+    lower_moved : (a : ℕ) → coefficient eqb f.parts v ≡ pos a → pos 0 ≤ℤ (pos a *ℤ value +ℤ pos k *ℤ worth_over D (without_at v x) f) → pos 0 ≤ℤ worth_over (k * D) moved f
     lower_moved a e h = natural_if (pos a) e h
 
-    pub upper_moved : (b : ℕ) → coefficient eqb f.parts v ≡ neg_ℤ (pos b) → (pos b *ℤ value) ≤ℤ (pos k *ℤ worth_over D (without_at v x) f) → pos 0 ≤ℤ worth_over (k * D) moved f
+    upper_moved : (b : ℕ) → coefficient eqb f.parts v ≡ neg_ℤ (pos b) → (pos b *ℤ value) ≤ℤ (pos k *ℤ worth_over D (without_at v x) f) → pos 0 ≤ℤ worth_over (k * D) moved f
     upper_moved b e h = natural_if (neg_ℤ (pos b)) e (over (neg_ℤ (pos b) *ℤ value) (pos b *ℤ value) (pos k *ℤ worth_over D (without_at v x) f) turned h)
       where
         turned : neg_ℤ (pos b) *ℤ value ≡ neg_ℤ (pos b *ℤ value)
@@ -61,7 +61,7 @@ module _ (D : ℕ) (x : ℕ → ℤ) (v k : ℕ) (value : ℤ) where
         over : (p q r : ℤ) → p ≡ neg_ℤ q → q ≤ℤ r → pos 0 ≤ℤ (p +ℤ r)
         over p q r e h = omega (arith, ints, e, h)
 
-    pub without_moved : coefficient eqb f.parts v ≡ pos 0 → pos 0 ≤ℤ worth_over D (without_at v x) f → pos 0 ≤ℤ worth_over (k * D) moved f
+    without_moved : coefficient eqb f.parts v ≡ pos 0 → pos 0 ≤ℤ worth_over D (without_at v x) f → pos 0 ≤ℤ worth_over (k * D) moved f
     without_moved e h = natural_if (pos 0) e (over (pos 0 *ℤ value) (pos k *ℤ worth_over D (without_at v x) f) (zero-*ℤ value) (times_pos k (worth_over D (without_at v x) f) h))
       where
         over : (p r : ℤ) → p ≡ pos 0 → pos 0 ≤ℤ r → pos 0 ≤ℤ (p +ℤ r)
@@ -104,7 +104,7 @@ module _ (s : State) (v : ℕ) (once : OnceAt s) (D : ℕ) (above : 0 < D) (x : 
       product (suc m) zero f g = absurd (omega (arith, g))
 
   -- the forms without the variable are at least 0 without its value, and so is what each pair leaves
-  pub extended : Each (λ i. pos 0 ≤ℤ rest i) (Without s v) → Each (λ l. Each (λ u. Room (Gone s v) D (without_at v x) s.all v l u) (Upper s v)) (Lower s v) → Solution s
+  pub extended : Each (λ i. pos 0 ≤ℤ rest i) (Without s v) → Each (λ l. Each (λ u. Room D (without_at v x) s.all v l u) (Upper s v)) (Lower s v) → Solution s
   extended without pairs =
       let known = parted s.all v (λ i. Unit {0}) s.standing (all_so s.standing) in
       let ls = Lower s v in

@@ -47,31 +47,31 @@ NoneGone w = ⊥
 module _ (D : ℕ) (x : ℕ → ℤ) where
   abbrev pub AreNatural : List (Linear ℕ) → Type 0
   AreNatural [] = Unit {0}
-  AreNatural (f ∷ fs) = Natural NoneGone D x f × AreNatural fs
+  AreNatural (f ∷ fs) = Natural D x f × AreNatural fs
 
-  given_goes : (s : State) (i : ℕ) (f : Linear ℕ) → OnceAt s → OpenAt s → form_at s.all i ≡ f → Goes NoneGone D x s (Natural NoneGone D x f) (given s i f)
+  given_goes : (s : State) (i : ℕ) (f : Linear ℕ) → OnceAt s → OpenAt s → form_at s.all i ≡ f → Goes NoneGone D x s (Natural D x f) (given s i f)
   given_goes s i f once open_s here = by_divisor (eqb (common f.parts) 0) (eqb (common f.parts) 1) refl
     where
       once_f : AreOnce f.parts
       once_f = subst (λ (g : Linear ℕ). AreOnce g.parts) here (once i)
 
-      bare : (b : Bool) → int_lt f.constant (pos 0) ≡ b → eqb (common f.parts) 0 ≡ true → Goes NoneGone D x s (Natural NoneGone D x f) (cond b (refuted_by s ((1, i) ∷ [])) (goes_on s))
+      bare : (b : Bool) → int_lt f.constant (pos 0) ≡ b → eqb (common f.parts) 0 ≡ true → Goes NoneGone D x s (Natural D x f) (cond b (refuted_by s ((1, i) ∷ [])) (goes_on s))
       bare true is none = tt
-      bare false is none = goes_still NoneGone D x s (Natural NoneGone D x f) once open_s (natural_bare D x f none is)
+      bare false is none = goes_still NoneGone D x s (Natural D x f) once open_s (natural_bare D x f none is)
 
-      by_divisor : (b c : Bool) → eqb (common f.parts) 0 ≡ b → Goes NoneGone D x s (Natural NoneGone D x f) (cond b (cond (int_lt f.constant (pos 0)) (refuted_by s ((1, i) ∷ [])) (goes_on s)) (cond c (unless_crowded s (with_place s i f)) (unless_crowded s (with_cut s (common f.parts) ((1, i) ∷ []) (lowered (common f.parts) f)))))
+      by_divisor : (b c : Bool) → eqb (common f.parts) 0 ≡ b → Goes NoneGone D x s (Natural D x f) (cond b (cond (int_lt f.constant (pos 0)) (refuted_by s ((1, i) ∷ [])) (goes_on s)) (cond c (unless_crowded s (with_place s i f)) (unless_crowded s (with_cut s (common f.parts) ((1, i) ∷ []) (lowered (common f.parts) f)))))
       by_divisor true c is = bare (int_lt f.constant (pos 0)) refl is
       by_divisor false true is = goes_with_place NoneGone D x s f once open_s once_f (open_form f once_f is) (λ w v. absurd v) i here
       by_divisor false false is =
           let g = lowered (common f.parts) f in
           let tight = tightened_lowered (common f.parts) f (above_none (common f.parts) is) (common-divides f.parts) in
           let once_g = once_lowered (common f.parts) f once_f in
-          goes_so NoneGone D x s (Natural NoneGone D x g) (Natural NoneGone D x f) (unless_crowded s (with_cut s (common f.parts) ((1, i) ∷ []) g)) (natural_before D x g f tight)
+          goes_so NoneGone D x s (Natural D x g) (Natural D x f) (unless_crowded s (with_cut s (common f.parts) ((1, i) ∷ []) g)) (natural_before D x g f tight)
           (goes_with_cut NoneGone D x s g once open_s once_g (open_behind g f tight once_g once_f is) (λ w v. absurd v) (common f.parts) ((1, i) ∷ []))
 
   pub all_given_go : (s : State) (i : ℕ) (fs : List (Linear ℕ)) → OnceAt s → OpenAt s → AreAt s.all i fs → Goes NoneGone D x s (AreNatural fs) (given_from s i fs)
   all_given_go s i [] once open_s at = goes_still NoneGone D x s (Unit {0}) once open_s tt
   all_given_go s i (f ∷ fs) once open_s at =
-      goes_then NoneGone D x s (Natural NoneGone D x f) (AreNatural fs) (given s i f) (λ t. given_from t (suc i) fs)
+      goes_then NoneGone D x s (Natural D x f) (AreNatural fs) (given s i f) (λ t. given_from t (suc i) fs)
       (given_goes s i f once open_s at.0)
       (λ t follows. all_given_go t (suc i) fs follows.once follows.open_forms (subst (λ (l : List (Linear ℕ)). AreAt l (suc i) fs) (sym follows.grown) (at_grown s.all follows.more (suc i) fs at.2)))

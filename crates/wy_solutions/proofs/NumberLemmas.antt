@@ -50,7 +50,7 @@ times_le n x y h =
     let apart = apart_times n x y in
     omega (arith, ints, more, apart)
 
-pub le_from_times : (n : ℕ) (x y : ℤ) → 0 < n → (pos n *ℤ x) ≤ℤ (pos n *ℤ y) → x ≤ℤ y
+le_from_times : (n : ℕ) (x y : ℤ) → 0 < n → (pos n *ℤ x) ≤ℤ (pos n *ℤ y) → x ≤ℤ y
 le_from_times n x y lt h =
     let apart = apart_times n x y in
     let gap : pos 0 ≤ℤ (pos n *ℤ (y -ℤ x)) = omega (arith, ints, h, apart) in

@@ -1,8 +1,7 @@
 -- Sums of forms have each variable once, and so has a form that is divided.
-use Rattle.std.proofs.Common.{◌≡◌, ◌∙◌, ℕ, List, [], ◌∷◌, ◌++◌, Bool, true, false, cond, eqb, ℤ, pos, Option, Some, refl, sym, ap, subst, append_assoc, append-nil, arith}
+use Rattle.std.proofs.Common.{◌≡◌, ◌∙◌, ℕ, List, [], ◌∷◌, ◌++◌, Bool, true, false, cond, eqb, ℤ, pos, Some, refl, sym, ap, subst, append_assoc, append-nil, arith}
 use Rattle.std.specs.Ordering.{int_eq}
 use Rattle.std.proofs.lemmas.Bool.{eqb-true}
-use Rattle.std.proofs.lemmas.Int.{ints}
 use Rattle.wy_lin.specs.declared.arithmetic.Factor.{Factor}
 use Rattle.wy_lin.specs.declared.arithmetic.Factor.TheVariants.{Times}
 use Rattle.wy_lin.specs.Linear.{◌>>=◌, more, Linear, nothing, coefficient, with_coefficient, plus_part, plus_parts, plus}

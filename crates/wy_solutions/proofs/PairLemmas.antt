@@ -22,7 +22,7 @@ use Rattle.wy_solutions.proofs.GivenLemmas.{above_none}
 
 -- ---- the multipliers
 
-pub share_is : (a b : ℕ) → (gcd a b * (a / gcd a b) ≡ a) × (gcd a b * (b / gcd a b) ≡ b)
+share_is : (a b : ℕ) → (gcd a b * (a / gcd a b) ≡ a) × (gcd a b * (b / gcd a b) ≡ b)
 share_is a b =
     let g = gcd a b in
     let first = div-add-mod a g in
@@ -50,11 +50,11 @@ in_step_is all p f e = by (nat_lt p.times_lower (2 ^ 127) && nat_lt p.times_uppe
 
 -- ---- what a pair gives
 
-module _ (V : ℕ → Type 0) (D : ℕ) (x : ℕ → ℤ) where
-  -- the two forms' bounds on a variable, with these absolute values of its coefficients, leave room for it
-  abbrev pub Suits : ℕ → ℕ → Linear ℕ → Linear ℕ → Type 0
-  Suits a b f g = pos 0 ≤ℤ (pos b *ℤ worth_over D x f +ℤ pos a *ℤ worth_over D x g)
+-- the two forms' bounds on a variable, with these absolute values of its coefficients, leave room for it
+abbrev pub Suits : ℕ → (ℕ → ℤ) → ℕ → ℕ → Linear ℕ → Linear ℕ → Type 0
+Suits D x a b f g = pos 0 ≤ℤ (pos b *ℤ worth_over D x f +ℤ pos a *ℤ worth_over D x g)
 
+module _ (V : ℕ → Type 0) (D : ℕ) (x : ℕ → ℤ) where
   -- what is found says so of the two forms, and has no variable that goes
   abbrev pub Says : Type 0 → Summed → Type 0
   Says Q (refuting ms) = Unit {0}
@@ -62,7 +62,7 @@ module _ (V : ℕ → Type 0) (D : ℕ) (x : ℕ → ℤ) where
   Says Q beyond = Unit {0}
   Says Q (cut d ms h) = AreOnce h.parts × IsOpen h × (pos 0 ≤ℤ worth_over D x h → Q) × ((w : ℕ) → V w → coefficient eqb h.parts w ≡ pos 0)
 
-  pub says_so : (P Q : Type 0) (r : Summed) → (P → Q) → Says P r → Says Q r
+  says_so : (P Q : Type 0) (r : Summed) → (P → Q) → Says P r → Says Q r
   says_so P Q (refuting ms) f h = tt
   says_so P Q dropped f h = f h
   says_so P Q beyond f h = tt
@@ -77,7 +77,7 @@ module _ (V : ℕ → Type 0) (D : ℕ) (x : ℕ → ℤ) where
     IsNatural = pos 0 ≤ℤ (pos m *ℤ worth_over D x (form_at all l) +ℤ pos n *ℤ worth_over D x (form_at all u))
 
     abbrev Room : ℕ → Type 0
-    Room v = Suits (unsigned_abs (coefficient eqb (form_at all l).parts v)) (unsigned_abs (coefficient eqb (form_at all u).parts v)) (form_at all l) (form_at all u)
+    Room v = Suits D x (unsigned_abs (coefficient eqb (form_at all l).parts v)) (unsigned_abs (coefficient eqb (form_at all u).parts v)) (form_at all l) (form_at all u)
 
     module _ (h : Linear ℕ) (is : combined all (multipliers pair) ≡ Some h) where
       sum : IsSum m n h (form_at all l) (form_at all u)
@@ -171,7 +171,7 @@ module _ (V : ℕ → Type 0) (D : ℕ) (x : ℕ → ℤ) where
   -- the sum of the forms at two places, of which no variable that goes is left by the multipliers
   pub says_summed : (all : List (Linear ℕ)) (v l u : ℕ) → ((i : ℕ) → AreOnce (form_at all i).parts) →
       ((w : ℕ) → V w → pos (unsigned_abs (coefficient_at all v u) / gcd (unsigned_abs (coefficient_at all v l)) (unsigned_abs (coefficient_at all v u))) *ℤ coefficient eqb (form_at all l).parts w +ℤ pos (unsigned_abs (coefficient_at all v l) / gcd (unsigned_abs (coefficient_at all v l)) (unsigned_abs (coefficient_at all v u))) *ℤ coefficient eqb (form_at all u).parts w ≡ pos 0) →
-      Says (Suits (unsigned_abs (coefficient_at all v l)) (unsigned_abs (coefficient_at all v u)) (form_at all l) (form_at all u)) (summed all v l u)
+      Says (Suits D x (unsigned_abs (coefficient_at all v l)) (unsigned_abs (coefficient_at all v u)) (form_at all l) (form_at all u)) (summed all v l u)
   says_summed all v l u once gone =
       let a = unsigned_abs (coefficient_at all v l) in
       let b = unsigned_abs (coefficient_at all v u) in

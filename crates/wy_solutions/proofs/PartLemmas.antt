@@ -62,15 +62,12 @@ module _ (x y : ℕ → ℤ) (k : ℤ) (v : ℕ) (off : (w : ℕ) → eqb v w �
 -- ---- values with one of them changed
 
 -- no value but at a variable, where it is 1
-abbrev one_at : ℕ → ℕ → ℤ
+abbrev pub one_at : ℕ → ℕ → ℤ
 one_at v w = cond (eqb v w) (pos 1) (pos 0)
 
 -- the values, with 0 at a variable
 abbrev pub without_at : ℕ → (ℕ → ℤ) → ℕ → ℤ
 without_at v x w = cond (eqb v w) (pos 0) (x w)
-
-none_of_it : (z c : ℤ) → z ≡ c *ℤ pos 1 +ℤ pos 0 *ℤ pos 0 → z ≡ c
-none_of_it z c e = omega (arith, ints, e)
 
 pub coefficient_worth : (v : ℕ) (ps : List (ℤ × ℕ)) → AreOnce ps → worth_of_parts (one_at v) ps ≡ coefficient eqb ps v
 coefficient_worth v ps once =
@@ -102,7 +99,7 @@ worth_at_none (p ∷ ps) = both (p.0 *ℤ pos 0) (worth_of_parts (λ (w : ℕ). 
 sum_none : (a b : ℤ) → a ≡ pos 0 → b ≡ pos 0 → a +ℤ b ≡ pos 0
 sum_none a b e f = omega (arith, ints, e, f)
 
-pub worth_of_none : (x : ℕ → ℤ) (ps : List (ℤ × ℕ)) → AreOnce ps → ((v : ℕ) → coefficient eqb ps v *ℤ x v ≡ pos 0) → worth_of_parts x ps ≡ pos 0
+worth_of_none : (x : ℕ → ℤ) (ps : List (ℤ × ℕ)) → AreOnce ps → ((v : ℕ) → coefficient eqb ps v *ℤ x v ≡ pos 0) → worth_of_parts x ps ≡ pos 0
 worth_of_none x [] once none = refl
 worth_of_none x (p ∷ ps) once none = sum_none (p.0 *ℤ x p.1) (worth_of_parts x ps) (ap (λ (c : ℤ). c *ℤ x p.1) (sym (own_coefficient p ps)) ∙ none p.1) (worth_of_none x ps once.1 (λ v. by v (eqb v p.1) refl))
   where
@@ -125,7 +122,7 @@ both_none k c d o e =
     ap (λ (z : ℤ). c *ℤ z) e ∙ *ℤ-zero c
     ∙ sym (ap (λ (z : ℤ). k *ℤ (d *ℤ z)) e ∙ ap (λ (z : ℤ). k *ℤ z) (*ℤ-zero d) ∙ *ℤ-zero k)
 
-pub worth_multiple : (k : ℤ) (x : ℕ → ℤ) (ps qs : List (ℤ × ℕ)) → AreOnce ps → AreOnce qs → ((v : ℕ) → coefficient eqb qs v *ℤ x v ≡ k *ℤ (coefficient eqb ps v *ℤ x v)) → worth_of_parts x qs ≡ k *ℤ worth_of_parts x ps
+worth_multiple : (k : ℤ) (x : ℕ → ℤ) (ps qs : List (ℤ × ℕ)) → AreOnce ps → AreOnce qs → ((v : ℕ) → coefficient eqb qs v *ℤ x v ≡ k *ℤ (coefficient eqb ps v *ℤ x v)) → worth_of_parts x qs ≡ k *ℤ worth_of_parts x ps
 worth_multiple k x [] qs once_p once_q same = worth_of_none x qs once_q (λ v. times_none k (coefficient eqb qs v *ℤ x v) (x v) (same v)) ∙ sym (*ℤ-zero k)
 worth_multiple k x (p ∷ ps) qs once_p once_q same =
     more_parts p.0 (x p.1) (worth_of_parts x ps) (coefficient eqb ps p.1) (worth_of_parts (without_at p.1 x) ps) k (coefficient eqb qs p.1) (worth_of_parts x qs) (worth_of_parts (without_at p.1 x) qs)

@@ -9,10 +9,10 @@ use Rattle.wy_term.specs.Rewriting.{as_number, fits, fitted}
 use Rattle.wy_term.proofs.SameLemmas.{terms_are, terms_self}
 use Rattle.wy_lin.specs.declared.arithmetic.Factor.{Factor}
 use Rattle.wy_lin.specs.declared.arithmetic.Factor.TheVariants.{Times, Scale, Minus}
-use Rattle.wy_lin.specs.Linear.{◌>>=◌, more, Linear, nothing, number_form, variable_form, coefficient, with_coefficient, plus_part, plus_parts, plus}
+use Rattle.wy_lin.specs.Linear.{◌>>=◌, more, Linear, nothing, number_form, variable_form, coefficient, with_coefficient, plus_part, plus_parts}
 use Rattle.wy_lin.specs.TermForm.{with, multiple, form_of_product, form_of, difference, excess, form_of_denial, form_of_literal}
 use Rattle.wy_lin.specs.Seen.{seen_part, seen}
-use Rattle.wy_lin.proofs.OptionLemmas.{some_is, bind_some, fitted_is}
+use Rattle.wy_lin.proofs.OptionLemmas.{some_is, bind_some}
 use Rattle.wy_lin.proofs.Ring.{one_times}
 use Rattle.wy_eliminate.specs.Validity.{IsPlain}
 use Rattle.wy_solutions.specs.Solutions.{FormsOfLiteralsArePlain}

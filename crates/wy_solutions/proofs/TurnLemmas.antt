@@ -30,6 +30,18 @@ starts_on first all more longer h e = record { more = h.more ++ more; is = e ∙
 still_at : (first all : List (Linear ℕ)) (i : ℕ) → StartsWith first all → i < length first → form_at all i ≡ form_at first i
 still_at first all i h lt = ap (λ (l : List (Linear ℕ)). form_at l i) h.is ∙ form_before first h.more i lt
 
+-- the size of a variable's coefficient in the form at a place
+abbrev pub size : List (Linear ℕ) → ℕ → ℕ → ℕ
+size first v i = unsigned_abs (coefficient_at first v i)
+
+-- two forms leave room for the variable
+abbrev pub Room : ℕ → (ℕ → ℤ) → List (Linear ℕ) → ℕ → ℕ → ℕ → Type 0
+Room D x first v l u = Suits D x (size first v l) (size first v u) (form_at first l) (form_at first u)
+
+-- the multipliers of two forms leave none of these variables
+abbrev pub Cancels : (ℕ → Type 0) → List (Linear ℕ) → ℕ → ℕ → ℕ → Type 0
+Cancels V first v l u = (w : ℕ) → V w → pos (size first v u / gcd (size first v l) (size first v u)) *ℤ coefficient eqb (form_at first l).parts w +ℤ pos (size first v l / gcd (size first v l) (size first v u)) *ℤ coefficient eqb (form_at first u).parts w ≡ pos 0
+
 module _ (V : ℕ → Type 0) (D : ℕ) (x : ℕ → ℤ) where
   goes_wide : (s : State) (Q : Type 0) → OnceAt s → OpenAt s → Goes V D x s Q (goes_on (record s { wide = true }))
   goes_wide s Q once open_s = (record { more = []; grown = sym (append-nil s.all); once = once; open_forms = open_s; free = λ w v h. h }, λ h. let narrow : true ≡ false = h.narrow in absurd cc)
@@ -43,39 +55,28 @@ module _ (V : ℕ → Type 0) (D : ℕ) (x : ℕ → ℤ) where
   -- ---- over the forms at the start of the turn
 
   module _ (first : List (Linear ℕ)) (v : ℕ) where
-    -- the size of the variable's coefficient
-    abbrev pub size : ℕ → ℕ
-    size i = unsigned_abs (coefficient_at first v i)
-
-    -- the multipliers leave none of the variables that go
-    abbrev pub Cancels : ℕ → ℕ → Type 0
-    Cancels l u = (w : ℕ) → V w → pos (size u / gcd (size l) (size u)) *ℤ coefficient eqb (form_at first l).parts w +ℤ pos (size l / gcd (size l) (size u)) *ℤ coefficient eqb (form_at first u).parts w ≡ pos 0
-
-    abbrev pub Room : ℕ → ℕ → Type 0
-    Room l u = Suits V D x (size l) (size u) (form_at first l) (form_at first u)
-
     abbrev Leaves : Linear ℕ → Linear ℕ → Type 0
     Leaves f g = (w : ℕ) → V w → pos (unsigned_abs (coefficient eqb g.parts v) / gcd (unsigned_abs (coefficient eqb f.parts v)) (unsigned_abs (coefficient eqb g.parts v))) *ℤ coefficient eqb f.parts w +ℤ pos (unsigned_abs (coefficient eqb f.parts v) / gcd (unsigned_abs (coefficient eqb f.parts v)) (unsigned_abs (coefficient eqb g.parts v))) *ℤ coefficient eqb g.parts w ≡ pos 0
 
     abbrev Tells : Summed → Linear ℕ → Linear ℕ → Type 0
-    Tells r f g = Says V D x (Suits V D x (unsigned_abs (coefficient eqb f.parts v)) (unsigned_abs (coefficient eqb g.parts v)) f g) r
+    Tells r f g = Says V D x (Suits D x (unsigned_abs (coefficient eqb f.parts v)) (unsigned_abs (coefficient eqb g.parts v)) f g) r
 
-    says_first : (all : List (Linear ℕ)) (l u : ℕ) → ((i : ℕ) → AreOnce (form_at all i).parts) → form_at all l ≡ form_at first l → form_at all u ≡ form_at first u → Cancels l u → Says V D x (Room l u) (summed all v l u)
+    says_first : (all : List (Linear ℕ)) (l u : ℕ) → ((i : ℕ) → AreOnce (form_at all i).parts) → form_at all l ≡ form_at first l → form_at all u ≡ form_at first u → Cancels V first v l u → Says V D x (Room D x first v l u) (summed all v l u)
     says_first all l u once here there gone =
         let left : Leaves (form_at all l) (form_at all u) = subst (λ (f : Linear ℕ). Leaves f (form_at all u)) (sym here) (subst (λ (g : Linear ℕ). Leaves (form_at first l) g) (sym there) gone) in
         subst (λ (f : Linear ℕ). Tells (summed all v l u) f (form_at first u)) here (subst (λ (g : Linear ℕ). Tells (summed all v l u) (form_at all l) g) there (says_summed V D x all v l u once left))
 
-    uppers_go : (l : ℕ) (s : State) (us : List ℕ) → StartsWith first s.all → OnceAt s → OpenAt s → l < length first → Each (λ u. (u < length first) × Cancels l u) us → Goes V D x s (Each (λ u. Room l u) us) (over_uppers v l s us)
+    uppers_go : (l : ℕ) (s : State) (us : List ℕ) → StartsWith first s.all → OnceAt s → OpenAt s → l < length first → Each (λ u. (u < length first) × Cancels V first v l u) us → Goes V D x s (Each (λ u. Room D x first v l u) us) (over_uppers v l s us)
     uppers_go l s [] starts once open_s lt each = goes_still V D x s (Unit {0}) once open_s tt
     uppers_go l s (u ∷ us) starts once open_s lt each =
-        goes_then V D x s (Room l u) (Each (λ k. Room l k) us) (after_sum s (summed s.all v l u)) (λ t. over_uppers v l t us)
-        (after_goes s (Room l u) (summed s.all v l u) once open_s (says_first s.all l u once (still_at first s.all l starts lt) (still_at first s.all u starts each.0.0) each.0.1))
+        goes_then V D x s (Room D x first v l u) (Each (λ k. Room D x first v l k) us) (after_sum s (summed s.all v l u)) (λ t. over_uppers v l t us)
+        (after_goes s (Room D x first v l u) (summed s.all v l u) once open_s (says_first s.all l u once (still_at first s.all l starts lt) (still_at first s.all u starts each.0.0) each.0.1))
         (λ t follows. uppers_go l t us (starts_on first s.all follows.more t.all starts follows.grown) follows.once follows.open_forms lt each.1)
 
-    lowers_go : (us : List ℕ) (s : State) (ls : List ℕ) → StartsWith first s.all → OnceAt s → OpenAt s → Each (λ l. (l < length first) × Each (λ u. (u < length first) × Cancels l u) us) ls → Goes V D x s (Each (λ l. Each (λ u. Room l u) us) ls) (over_lowers v us s ls)
+    lowers_go : (us : List ℕ) (s : State) (ls : List ℕ) → StartsWith first s.all → OnceAt s → OpenAt s → Each (λ l. (l < length first) × Each (λ u. (u < length first) × Cancels V first v l u) us) ls → Goes V D x s (Each (λ l. Each (λ u. Room D x first v l u) us) ls) (over_lowers v us s ls)
     lowers_go us s [] starts once open_s each = goes_still V D x s (Unit {0}) once open_s tt
     lowers_go us s (l ∷ ls) starts once open_s each =
-        goes_then V D x s (Each (λ u. Room l u) us) (Each (λ k. Each (λ u. Room k u) us) ls) (over_uppers v l s us) (λ t. over_lowers v us t ls)
+        goes_then V D x s (Each (λ u. Room D x first v l u) us) (Each (λ k. Each (λ u. Room D x first v k u) us) ls) (over_uppers v l s us) (λ t. over_lowers v us t ls)
         (uppers_go l s us starts once open_s each.0.0 each.0.1)
         (λ t follows. lowers_go us t ls (starts_on first s.all follows.more t.all starts follows.grown) follows.once follows.open_forms each.1)
 
@@ -123,26 +124,26 @@ module _ (s : State) (v : ℕ) (once : OnceAt s) (open_s : OpenAt s) where
       let second = ap (λ (k : ℤ). n *ℤ k) f ∙ *ℤ-zero n in
       omega (arith, ints, first, second)
 
-  cancels : (D : ℕ) (x : ℕ → ℤ) (l u : ℕ) → Lacks l → IsLower s.all v l → Lacks u → IsUpper s.all v u → Cancels (Gone s v) D x s.all v l u
-  cancels D x l u lacks_l is_l lacks_u is_u w (inl e) =
+  cancels : (l u : ℕ) → Lacks l → IsLower s.all v l → Lacks u → IsUpper s.all v u → Cancels (Gone s v) s.all v l u
+  cancels l u lacks_l is_l lacks_u is_u w (inl e) =
       let a = unsigned_abs (coefficient_at s.all v l) in
       let b = unsigned_abs (coefficient_at s.all v u) in
       cancelled (b / gcd a b) (a / gcd a b) a b (coefficient eqb (form_at s.all l).parts w) (coefficient eqb (form_at s.all u).parts w) (shares_cancel a b)
       (ap (coefficient eqb (form_at s.all l).parts) e ∙ lower_is (coefficient_at s.all v l) is_l)
       (ap (coefficient eqb (form_at s.all u).parts) e ∙ upper_is (coefficient_at s.all v u) is_u)
-  cancels D x l u lacks_l is_l lacks_u is_u w (inr free) =
+  cancels l u lacks_l is_l lacks_u is_u w (inr free) =
       let a = unsigned_abs (coefficient_at s.all v l) in
       let b = unsigned_abs (coefficient_at s.all v u) in
       none_of_both (pos (b / gcd a b)) (pos (a / gcd a b)) (coefficient eqb (form_at s.all l).parts w) (coefficient eqb (form_at s.all u).parts w) (lacks_l w free) (lacks_u w free)
 
-  pub turned_goes : (D : ℕ) (x : ℕ → ℤ) → Goes (Gone s v) D x (first_of s v) (Each (λ l. Each (λ u. Room (Gone s v) D x s.all v l u) (Upper s v)) (Lower s v)) (turned v s)
+  pub turned_goes : (D : ℕ) (x : ℕ → ℤ) → Goes (Gone s v) D x (first_of s v) (Each (λ l. Each (λ u. Room D x s.all v l u) (Upper s v)) (Lower s v)) (turned v s)
   turned_goes D x =
       let known = parted s.all v Lacks s.standing lacks in
       let open_parts = parted s.all v (λ i. IsOpen (form_at s.all i)) s.standing open_s in
       let open_first = each_so (λ i. IsOpen (form_at s.all i) × IsWithout s.all v i) (λ i. IsOpen (form_at s.all i)) (λ i h. h.0) (Without s v) open_parts.2 in
       lowers_go (Gone s v) D x s.all v (Upper s v) (first_of s v) (Lower s v) (record { more = []; is = sym (append-nil s.all) }) once open_first
-      (each_so (λ l. Lacks l × IsLower s.all v l) (λ l. (l < length s.all) × Each (λ u. (u < length s.all) × Cancels (Gone s v) D x s.all v l u) (Upper s v))
-      (λ l h. (place_within s.all v l (lower_above (coefficient_at s.all v l) h.1), each_so (λ u. Lacks u × IsUpper s.all v u) (λ u. (u < length s.all) × Cancels (Gone s v) D x s.all v l u) (λ u g. (place_within s.all v u (upper_above (coefficient_at s.all v u) g.1), cancels D x l u h.0 h.1 g.0 g.1)) (Upper s v) known.1))
+      (each_so (λ l. Lacks l × IsLower s.all v l) (λ l. (l < length s.all) × Each (λ u. (u < length s.all) × Cancels (Gone s v) s.all v l u) (Upper s v))
+      (λ l h. (place_within s.all v l (lower_above (coefficient_at s.all v l) h.1), each_so (λ u. Lacks u × IsUpper s.all v u) (λ u. (u < length s.all) × Cancels (Gone s v) s.all v l u) (λ u g. (place_within s.all v u (upper_above (coefficient_at s.all v u) g.1), cancels l u h.0 h.1 g.0 g.1)) (Upper s v) known.1))
       (Lower s v) known.0)
 
   -- the variable is gone, and each that no form had still is
