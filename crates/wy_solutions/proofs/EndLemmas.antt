@@ -8,7 +8,7 @@ use Rattle.wy_eliminate.specs.declared.steps.Elim.TheVariants.{Consistent, Crowd
 use Rattle.wy_eliminate.specs.Variables.{Counts, variables, next_variable}
 use Rattle.wy_eliminate.specs.Elimination.{State, is_crowded, Turn, goes_on, refuted, given_from, turned, ended, without_next, eliminated, at_first}
 use Rattle.wy_eliminate.specs.Validity.{IsPlain}
-use Rattle.wy_solutions.specs.Solutions.{TurnsSuffice, worth_over, HasSolution, ConsistentFormsHaveASolution}
+use Rattle.wy_solutions.specs.Solutions.{TurnsSuffice, Onward, BehindNext, LeavesNone, NoVariableIsLeft, worth_over, HasSolution, ConsistentFormsHaveASolution}
 use Rattle.wy_solutions.proofs.EachLemmas.{Each, each_so, each_both}
 use Rattle.wy_solutions.proofs.PartLemmas.{AreOnce, without_at}
 use Rattle.wy_solutions.proofs.OnceLemmas.{once_plain}
@@ -84,6 +84,23 @@ same_answer (suc m) (suc n) s once open_s le more =
     let known = follows s b.0 once open_s t e in
     same_answer m n t known.once known.open_forms (omega (arith, fewer, le)) (omega (arith, fewer, more)))
 
+leaves_none : (n : ℕ) (s : State) → OnceAt s → OpenAt s → left s ≤ n → LeavesNone n s
+leaves_none zero s once open_s le = nil_from_length (variables s.all s.standing) (omega (arith, le))
+leaves_none (suc n) s once open_s le =
+    by (next_variable (variables s.all s.standing)) refl
+    (λ b t is e.
+    let fewer = fewer_left s b.0 once open_s t e (next_listed (variables s.all s.standing) b is) in
+    let known = follows s b.0 once open_s t e in
+    leaves_none n t known.once known.open_forms (omega (arith, fewer, le)))
+  where
+    onward : (r : Turn) → ((t : State) → goes_on t ≡ r → LeavesNone n t) → Onward r (λ t. LeavesNone n t)
+    onward (refuted steps) h = tt
+    onward (goes_on t) h = λ calm narrow. h t refl
+
+    by : (o : Option (ℕ × ℕ)) → next_variable (variables s.all s.standing) ≡ o → ((b : ℕ × ℕ) (t : State) → next_variable (variables s.all s.standing) ≡ Some b → goes_on t ≡ turned b.0 s → LeavesNone n t) → BehindNext o s (λ t. LeavesNone n t)
+    by None is h = none_listed (variables s.all s.standing) is
+    by (Some b) is h = onward (turned b.0 s) (λ t e. h b t is e)
+
 -- ---- solutions, from the last turn back
 
 no_form : (s : State) → OpenAt s → ((w : ℕ) → FreeOf s w) → Solution s
@@ -152,6 +169,13 @@ module _ (forms : List (Linear ℕ)) (plain : All IsPlain forms) where
         let settled : Settled h.denominator h.values s = record { calm = calm; narrow = narrow; natural = h.natural } in
         let back = (given_here h.denominator h.values).1 settled in
         record { denominator = h.denominator; above = h.above; values = h.values; natural = each_natural h.denominator h.values forms back.1 }
+
+pub none_is_left : NoVariableIsLeft
+none_is_left forms plain = onward (given_from (at_first forms) 0 forms) refl
+  where
+    onward : (r : Turn) → r ≡ given_from (at_first forms) 0 forms → Onward r (λ s. LeavesNone (left s) s)
+    onward (refuted steps) e = tt
+    onward (goes_on s) e = λ calm narrow. let known = known_given forms plain s e in leaves_none (left s) s known.once known.open_forms (omega arith)
 
 pub turns_suffice : TurnsSuffice
 turns_suffice forms plain more =

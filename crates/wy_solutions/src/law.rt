@@ -1,8 +1,10 @@
 //! What the elimination's answer Consistent means.
-ghost use Rattle.wy_solutions.specs.Solutions.{ConsistentFormsHaveASolution, FormsOfLiteralsArePlain, TurnsSuffice};
+ghost use Rattle.wy_solutions.specs.Solutions.{ConsistentFormsHaveASolution, FormsOfLiteralsArePlain, NoVariableIsLeft, TurnsSuffice};
 
-/// However many turns more the elimination had, its answer is the same: where its turns come to their end, no variable is left.
+/// Where the elimination's turns come to their end, no variable is left; and however many turns more it had, its answer is
+/// the same.
 pub fn no_variable_is_left()
+    ensures none { NoVariableIsLeft }
     ensures suffice { TurnsSuffice }
 {}
 
