@@ -8,7 +8,8 @@ use Rattle.wy_eliminate.specs.declared.steps.Elim.TheVariants.{Consistent, Crowd
 use Rattle.wy_eliminate.specs.Variables.{Counts, variables, next_variable}
 use Rattle.wy_eliminate.specs.Elimination.{State, is_crowded, Turn, goes_on, refuted, given_from, turned, ended, without_next, eliminated, at_first}
 use Rattle.wy_eliminate.specs.Validity.{IsPlain}
-use Rattle.wy_solutions.specs.Solutions.{TurnsSuffice, Onward, BehindNext, LeavesNone, NoVariableIsLeft, worth_over, HasSolution, ConsistentFormsHaveASolution}
+use Rattle.wy_solutions.specs.Turns.{TurnsSuffice, Onward, BehindNext, LeavesNone, NoVariableIsLeft}
+use Rattle.wy_solutions.specs.Solutions.{worth_over, HasSolution, ConsistentFormsHaveASolution}
 use Rattle.wy_solutions.proofs.EachLemmas.{Each, each_so, each_both}
 use Rattle.wy_solutions.proofs.PartLemmas.{AreOnce, without_at}
 use Rattle.wy_solutions.proofs.OnceLemmas.{once_plain}

@@ -15,7 +15,7 @@ use Rattle.wy_lin.specs.Seen.{seen_part, seen}
 use Rattle.wy_lin.proofs.OptionLemmas.{some_is, bind_some}
 use Rattle.wy_lin.proofs.Ring.{one_times}
 use Rattle.wy_eliminate.specs.Validity.{IsPlain}
-use Rattle.wy_solutions.specs.Solutions.{FormsOfLiteralsArePlain}
+use Rattle.wy_solutions.specs.Literals.{FormsOfLiteralsArePlain}
 
 -- ---- numbers of 128 bits
 

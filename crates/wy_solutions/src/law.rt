@@ -1,5 +1,7 @@
 //! What the elimination's answer Consistent means.
-ghost use Rattle.wy_solutions.specs.Solutions.{ConsistentFormsHaveASolution, FormsOfLiteralsArePlain, NoVariableIsLeft, TurnsSuffice};
+ghost use Rattle.wy_solutions.specs.Literals.{FormsOfLiteralsArePlain};
+ghost use Rattle.wy_solutions.specs.Solutions.{ConsistentFormsHaveASolution};
+ghost use Rattle.wy_solutions.specs.Turns.{NoVariableIsLeft, TurnsSuffice};
 
 /// Where the elimination's turns come to their end, no variable is left; and however many turns more it had, its answer is
 /// the same.

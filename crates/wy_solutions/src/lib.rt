@@ -1,6 +1,7 @@
 //! What the elimination's answer Consistent means.
 //!
-//! `specs/Solutions` says what a solution in fractions is; the elimination is that of `wy_eliminate`.
+//! The elimination is the definition of `wy_eliminate`. `specs/Turns` says that its turns are enough, `specs/Solutions` what a
+//! solution in fractions is, and `specs/Literals` that the forms of literals are such as both ask for.
 #![tactic(auto)]
 
 mod law;
