@@ -1,0 +1,15 @@
+mod NumberLemmas
+mod EachLemmas
+mod BoundLemmas
+mod PartLemmas
+mod OnceLemmas
+mod CutLemmas
+mod StandingLemmas
+mod GivenLemmas
+mod PairLemmas
+mod SideLemmas
+mod TurnLemmas
+mod ExtendLemmas
+mod CountLemmas
+mod EndLemmas
+mod PlainLemmas

@@ -1,0 +1,4 @@
+-- what public contracts cite
+pub mod Turns
+pub mod Solutions
+pub mod Literals
