@@ -1,6 +1,7 @@
 //! Nodes and equations from texts, with spaces between them. `a` is a name, `fa:f.a` is the application of the node `f`
 //! to the node `a`, and `a=b` is an equation.
-ghost use Rattle.std.specs.Prelude.{length, IsTrue};
+ghost use Rattle.std.specs.Prelude.{◌≡◌, ◌<◌, ℕ, length, IsTrue};
+ghost use Rattle.wy_congruence.specs.declared.nodes.Shape.TheVariants.{Apply};
 ghost use Rattle.wy_congruence.specs.Congruence.{AreBetween, AreWithin};
 
 use std::alloc::Global;
@@ -50,7 +51,10 @@ pub fn equations_of(alloc: Global, nodes: &Nodes, text: &str) -> Result<Vec<(u32
     Ok(list)
 }
 
-fn is_within(shape: Shape, count: usize) -> bool {
+// Whether what a node is of, if it is an application, are among so many nodes.
+fn is_within(shape: Shape, count: usize) -> bool
+    ensures { IsTrue result → (f a : ℕ) → shape ≡ Apply f a → (f < count) × (a < count) }
+{
     match shape {
         Shape::Name => true,
         Shape::Apply(f, a) => (f as usize) < count && (a as usize) < count,
@@ -58,6 +62,7 @@ fn is_within(shape: Shape, count: usize) -> bool {
 }
 
 /// Whether what applications are of are nodes.
+#[tactic(auto, using(crate::proofs::NodeLemmas::below_none))]
 pub fn are_within(shapes: &[Shape]) -> bool
     ensures { IsTrue result → AreWithin shapes.now }
 {
@@ -70,6 +75,7 @@ pub fn are_within(shapes: &[Shape]) -> bool
 }
 
 /// Whether both sides of each equation are among so many nodes.
+#[tactic(auto, using(crate::proofs::NodeLemmas::between_none))]
 pub fn are_between(count: usize, equations: &[(u32, u32)]) -> bool
     ensures { IsTrue result → AreBetween count equations.now }
 {
