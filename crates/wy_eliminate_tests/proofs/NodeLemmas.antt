@@ -1,5 +1,5 @@
 -- What holds of each one of a list, from its end on.
-use Rattle.std.proofs.Common.{◌≡◌, ◌<◌, ◌≤◌, ℕ, zero, suc, List, [], ◌∷◌, get_or, length, drop, Some, refl, subst, arith}
+use Rattle.std.proofs.Common.{◌≡◌, ◌<◌, ◌≤◌, ◌+◌, ℕ, zero, suc, List, [], ◌∷◌, get_or, length, drop, Some, refl, subst, arith}
 use Rattle.std.specs.Prelude.{slice_get}
 use Rattle.wy_congruence.specs.declared.nodes.Shape.{Shape}
 use Rattle.wy_congruence.specs.declared.nodes.Shape.TheVariants.{Apply}
@@ -42,8 +42,10 @@ below_each n xs below i x at a b is = below i a b cc
 each_below : (n : ℕ) (xs : List Shape) → EachIs (IsBelow n) xs → AreBelow n xs
 each_below n xs each i a b at = each i (Apply a b) at a b refl
 
-pub below_more : (n : ℕ) (xs : List Shape) (i : ℕ) (d : Shape) → i < length xs → ((a b : ℕ) → get_or xs i d ≡ Apply a b → (a < n) × (b < n)) → AreBelow n (drop (suc i) xs) → AreBelow n (drop i xs)
-below_more n xs i d lt here rest = each_below n (drop i xs) (each_more (IsBelow n) xs i (get_or xs i d) lt (same_item xs i d lt) here (below_each n (drop (suc i) xs) rest))
+pub below_more : (n : ℕ) (xs : List Shape) (i : ℕ) (d : Shape) → i < length xs → ((a b : ℕ) → get_or xs i d ≡ Apply a b → (a < n) × (b < n)) → AreBelow n (drop (i + 1) xs) → AreBelow n (drop i xs)
+below_more n xs i d lt here rest =
+    let next : i + 1 ≡ suc i = omega arith in
+    each_below n (drop i xs) (each_more (IsBelow n) xs i (get_or xs i d) lt (same_item xs i d lt) here (below_each n (drop (suc i) xs) (subst (λ (k : ℕ). AreBelow n (drop k xs)) next rest)))
 
 pub below_none : (n : ℕ) (xs : List Shape) (k : ℕ) → length xs ≤ k → AreBelow n (drop k xs)
 below_none n xs k le = each_below n (drop k xs) (each_none (IsBelow n) xs k le)
@@ -51,8 +53,10 @@ below_none n xs k le = each_below n (drop k xs) (each_none (IsBelow n) xs k le)
 abbrev IsPair : ℕ → ℕ × ℕ → Type 0
 IsPair n e = (e.0 < n) × (e.1 < n)
 
-pub between_more : (n : ℕ) (xs : List (ℕ × ℕ)) (i : ℕ) (d : ℕ × ℕ) → i < length xs → (get_or xs i d).0 < n → (get_or xs i d).1 < n → AreBetween n (drop (suc i) xs) → AreBetween n (drop i xs)
-between_more n xs i d lt first second rest = each_more (IsPair n) xs i (get_or xs i d) lt (same_item xs i d lt) (first, second) rest
+pub between_more : (n : ℕ) (xs : List (ℕ × ℕ)) (i : ℕ) (d : ℕ × ℕ) → i < length xs → (get_or xs i d).0 < n → (get_or xs i d).1 < n → AreBetween n (drop (i + 1) xs) → AreBetween n (drop i xs)
+between_more n xs i d lt first second rest =
+    let next : i + 1 ≡ suc i = omega arith in
+    each_more (IsPair n) xs i (get_or xs i d) lt (same_item xs i d lt) (first, second) (subst (λ (k : ℕ). AreBetween n (drop k xs)) next rest)
 
 pub between_none : (n : ℕ) (xs : List (ℕ × ℕ)) (k : ℕ) → length xs ≤ k → AreBetween n (drop k xs)
 between_none n xs k le = each_none (IsPair n) xs k le
