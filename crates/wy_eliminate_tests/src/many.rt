@@ -44,7 +44,7 @@ fn push_both(
     push_form(forms, alloc, &parts, turned)
 }
 
-// The forms found, as a text.
+// What elimination finds, as a text.
 fn answer(alloc: Global, forms: Vec<Form>) -> Result<String, NoMemory> {
     let found = eliminate(alloc, forms)?;
     Ok(written(alloc, &found)?)
