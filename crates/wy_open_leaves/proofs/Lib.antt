@@ -1,0 +1,5 @@
+mod PlaceLemmas
+mod TakingLemmas
+mod SumLemmas
+mod BackLemmas
+mod NodeLemmas
