@@ -3,3 +3,4 @@ mod TakingLemmas
 mod SumLemmas
 mod BackLemmas
 mod NodeLemmas
+mod LeafLemmas

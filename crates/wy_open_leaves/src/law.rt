@@ -1,8 +1,15 @@
 //! What the search's open leaves mean.
+ghost use Rattle.wy_open_leaves.specs.Leaves.{OpenLeavesHaveASolution};
 ghost use Rattle.wy_open_leaves.specs.Solutions.{ConsistentNodesHaveASolution};
 
 /// A node of sorted literals whose elimination ends consistent, by the definition of the search, has a solution in
 /// fractions.
 pub fn consistent_nodes_have_a_solution()
     ensures solution { ConsistentNodesHaveASolution }
+{}
+
+/// The literals at which the search of a sorted condition stays open have a solution in fractions, unless it stays open for
+/// too many forms or too large numbers.
+pub fn open_leaves_have_a_solution()
+    ensures solution { OpenLeavesHaveASolution }
 {}
