@@ -1,11 +1,12 @@
 -- The walk of a search comes to sorted nodes alone, and stays open as still only where the elimination ends consistent.
-use Rattle.std.proofs.Common.{◌≡◌, ◌||◌, ℕ, zero, suc, List, [], ◌∷◌, Bool, true, false, cond, eqb, Option, Some, None, refl, sym}
+use Rattle.std.proofs.Common.{◌≡◌, ◌∙◌, ◌||◌, ℕ, zero, suc, List, [], ◌∷◌, Bool, true, false, cond, eqb, Option, Some, None, refl, sym, ap}
 use Rattle.std.specs.Prelude.{nat_lt}
 use Rattle.wy_term.specs.Term.{Term}
 use Rattle.wy_term.specs.Condition.{Entry}
 use Rattle.wy_term.specs.Unfolding.{AreClosed}
 use Rattle.wy_judge.specs.Node.{Literal}
 use Rattle.wy_valid.specs.Literals.{is_shut}
+use Rattle.wy_valid.specs.Sums.{summed, is_refuting}
 use Rattle.wy_search.specs.Classes.{clashes}
 use Rattle.wy_search.specs.Bounds.{Ending, refuted, consistent, crowded, wide, ending}
 use Rattle.wy_search.specs.Splitting.{next_atom}
@@ -16,8 +17,9 @@ use Rattle.wy_sound_certificates.proofs.NodeLemmas.{AreSortedLiterals, IsSortedN
 use Rattle.wy_sound_search.specs.Closed.{AreLiterals}
 use Rattle.wy_search_ends.proofs.AtomLemmas.{splits_less}
 use Rattle.wy_search_ends.proofs.RoundLemmas.{expanded_sorted}
-use Rattle.wy_open_leaves.specs.Leaves.{IsSolvedLeaf, OpenLeavesHaveASolution}
+use Rattle.wy_open_leaves.specs.Leaves.{IsSolvedLeaf, OpenLeavesHaveASolution, NoSumClosesThem}
 use Rattle.wy_open_leaves.proofs.NodeLemmas.{consistent_node}
+use Rattle.wy_open_leaves.proofs.RefutingLemmas.{no_sum}
 
 are_literals : (ls : List Literal) → AreSortedLiterals ls → AreLiterals ls
 are_literals [] h = tt
@@ -90,3 +92,8 @@ module _ (types : List Entry) (are_closed : AreClosed types) (entries : AreSorte
 pub open_leaves : OpenLeavesHaveASolution
 open_leaves c budget leaf literals sorted are_closed verdict =
     open_solved c.types are_closed sorted.types budget verdict.0 0 leaf literals (first_spot c ∷ []) (first_sorted c sorted, tt) verdict.1
+
+pub no_sum_closes : NoSumClosesThem
+no_sum_closes c budget leaf literals pairs sorted are_closed verdict =
+    let solved = open_leaves c budget leaf literals sorted are_closed verdict in
+    sym (ap (λ (ls : List Literal). is_refuting (summed ls pairs)) solved.its) ∙ no_sum solved.node pairs solved.solution

@@ -22,24 +22,9 @@ use Rattle.wy_solutions.proofs.OnceLemmas.{once_plain}
 use Rattle.wy_solutions.proofs.EndLemmas.{AllOnce, once_solved}
 use Rattle.wy_solutions.proofs.PlainLemmas.{literals_plain}
 use Rattle.wy_open_leaves.specs.Solutions.{worth_over, IsMet, HasSolution, ConsistentNodesHaveASolution}
+use Rattle.wy_open_leaves.proofs.ListLemmas.{Each, to_all, from_all}
 use Rattle.wy_open_leaves.proofs.PlaceLemmas.{at, ArePlaced, seen_numbered, of_first, of_place, placed_worth, one_value}
 use Rattle.wy_open_leaves.proofs.BackLemmas.{Comes, Leads, replaced_leads}
-
--- ---- lists
-
--- so is each of the list
-abbrev Each : {A : Type 0} → (A → Type 0) → List A → Type 0
-Each P [] = Unit {0}
-Each P (x ∷ xs) = P x × Each P xs
-
-to_all : {A : Type 0} (P : A → Type 0) (xs : List A) → Each P xs → All P xs
-to_all P [] h i d lt = absurd (omega (arith, lt))
-to_all P (x ∷ xs) h zero d lt = h.0
-to_all P (x ∷ xs) h (suc i) d lt = to_all P xs h.1 i d (omega (arith, lt))
-
-from_all : {A : Type 0} (P : A → Type 0) (xs : List A) → All P xs → Each P xs
-from_all P [] h = tt
-from_all P (x ∷ xs) h = (h 0 x (omega arith), from_all P xs (λ i d lt. h (suc i) d (omega (arith, lt))))
 
 neither : (a b : Bool) → (a || b) ≡ false → (a ≡ false) × (b ≡ false)
 neither true b e = absurd cc

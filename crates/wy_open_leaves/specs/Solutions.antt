@@ -1,11 +1,12 @@
 -- Solutions in fractions of the bounds and the equations of a node.
-use Rattle.std.specs.Prelude.{◌≡◌, ℕ, ◌<◌, All, true, ℤ, pos, ◌+ℤ◌, ◌*ℤ◌, ◌≤ℤ◌, Some}
+use Rattle.std.specs.Prelude.{◌≡◌, ℕ, ◌<◌, List, All, true, false, ℤ, pos, ◌+ℤ◌, ◌*ℤ◌, ◌≤ℤ◌, Some}
 use Rattle.wy_term.specs.Term.{Term}
 use Rattle.wy_lin.specs.Linear.{Linear}
 use Rattle.wy_lin.specs.TermForm.{form_of_literal}
 use Rattle.wy_lin.specs.Worth.{worth_of_parts}
 use Rattle.wy_judge.specs.Node.{Literal, Node}
 use Rattle.wy_valid.specs.Literals.{formula_of}
+use Rattle.wy_valid.specs.Sums.{summed, is_refuting}
 use Rattle.wy_search.specs.Standing.{present}
 use Rattle.wy_search.specs.Classes.{in_one_class, classes}
 use Rattle.wy_search.specs.Bounds.{consistent, ending}
@@ -30,3 +31,7 @@ pub record HasSolution (node : Node) : Type 0 where
 -- a node whose elimination ends consistent has one; its literals are formulas of sorted parts
 abbrev pub ConsistentNodesHaveASolution : Type 0
 ConsistentNodesHaveASolution = (node : Node) → AreLiterals node.literals → ending node ≡ consistent → HasSolution node
+
+-- no sum of a certificate refutes a node that has one, whatever the multipliers are
+abbrev pub NoSumRefutes : Type 0
+NoSumRefutes = (node : Node) (pairs : List (ℕ × ℕ)) → HasSolution node → is_refuting (summed node.literals pairs) ≡ false

@@ -6,4 +6,4 @@
 
 mod law;
 
-pub use law::{consistent_nodes_have_a_solution, open_leaves_have_a_solution};
+pub use law::{consistent_nodes_have_a_solution, no_sum_refutes, open_leaves_have_a_solution};
