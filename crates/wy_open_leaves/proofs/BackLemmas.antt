@@ -1,5 +1,5 @@
 -- What replacing gives is at least 0, and so is the form before; each of its variables has one coefficient.
-use Rattle.std.proofs.Common.{◌≡◌, ◌∙◌, ◌<◌, ◌||◌, ℕ, zero, suc, List, [], ◌∷◌, Bool, true, false, cond, eqb, ℤ, pos, ◌+ℤ◌, ◌*ℤ◌, ◌≤ℤ◌, Option, Some, None, refl, sym, ap, subst, arith}
+use Rattle.std.proofs.Common.{◌≡◌, ◌∙◌, ◌<◌, ℕ, List, [], ◌∷◌, Bool, true, false, cond, eqb, ℤ, pos, ◌+ℤ◌, ◌*ℤ◌, ◌≤ℤ◌, Option, Some, None, refl, sym, ap, subst, arith}
 use Rattle.std.specs.Prelude.{int_lt}
 use Rattle.std.proofs.lemmas.Int.{ints}
 use Rattle.wy_lin.specs.Linear.{Linear}
@@ -7,7 +7,7 @@ use Rattle.wy_lin.specs.Combination.{combined}
 use Rattle.wy_lin.specs.Worth.{worth_of_parts}
 use Rattle.wy_eliminate.specs.Division.{common, lowered}
 use Rattle.wy_eliminate.proofs.ValidityLemmas.{common-divides}
-use Rattle.wy_search.specs.Bounds.{takings, named_from, all_fit, stated_sum, Replaced, gone, given, refutes, leaves, by_two, by_common, by_sum, replaced_by, replaced, is_refuting, is_leaving}
+use Rattle.wy_search.specs.Bounds.{takings, named_from, all_fit, stated_sum, Replaced, gone, given, refutes, leaves, by_two, by_common, by_sum, replaced_by, replaced}
 use Rattle.wy_sound_search.proofs.EliminationLemmas.{not_zero}
 use Rattle.wy_sound_search.proofs.EvenLemmas.{twice_named}
 use Rattle.wy_solutions.specs.Solutions.{worth_over}

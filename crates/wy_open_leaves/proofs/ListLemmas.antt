@@ -1,5 +1,5 @@
 -- What is so of each of a list, by its parts and by its places.
-use Rattle.std.proofs.Common.{◌≡◌, ℕ, zero, suc, List, [], ◌∷◌, All, Option, Some, None, subst, arith}
+use Rattle.std.proofs.Common.{◌≡◌, ℕ, zero, suc, List, [], ◌∷◌, All, Some, subst, arith}
 use Rattle.std.specs.Prelude.{slice_get}
 
 abbrev pub Each : {A : Type 0} → (A → Type 0) → List A → Type 0

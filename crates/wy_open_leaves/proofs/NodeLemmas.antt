@@ -1,9 +1,8 @@
 -- A node whose elimination ends consistent has a solution in fractions.
-use Rattle.std.proofs.Common.{◌≡◌, ◌∙◌, ◌<◌, ◌||◌, ℕ, zero, suc, List, [], ◌∷◌, ◌++◌, map, length, All, Bool, true, false, cond, ℤ, pos, ◌+ℤ◌, ◌*ℤ◌, ◌≤ℤ◌, Option, Some, None, refl, sym, ap, subst, arith}
+use Rattle.std.proofs.Common.{◌≡◌, ◌∙◌, ◌||◌, ℕ, List, [], ◌∷◌, ◌++◌, Bool, true, false, cond, ℤ, pos, ◌+ℤ◌, ◌*ℤ◌, ◌≤ℤ◌, Option, Some, None, refl, sym, ap, subst}
 use Rattle.wy_term.specs.Term.{Term}
 use Rattle.wy_lin.specs.Linear.{Linear}
 use Rattle.wy_lin.specs.TermForm.{form_of_literal}
-use Rattle.wy_lin.specs.Seen.{seen, seen_part}
 use Rattle.wy_lin.proofs.OptionLemmas.{some_is}
 use Rattle.wy_judge.specs.Node.{Literal, Node}
 use Rattle.wy_valid.specs.Literals.{formula_of}
@@ -12,7 +11,7 @@ use Rattle.wy_eliminate.specs.declared.steps.Elim.TheVariants as outcome
 use Rattle.wy_eliminate.specs.Elimination.{elimination}
 use Rattle.wy_search.specs.Standing.{standing_in, in_literals, standing, present}
 use Rattle.wy_search.specs.Classes.{classes}
-use Rattle.wy_search.specs.Bounds.{numbered_part, numbered, Replaced, gone, given, refutes, leaves, replaced, with_form, replaced_forms, is_refuting, is_leaving, any_so, form_in, forms_in, Ending, refuted, consistent, crowded, wide, ending_of, ending_by, ending}
+use Rattle.wy_search.specs.Bounds.{numbered, Replaced, gone, given, refutes, leaves, replaced, with_form, replaced_forms, is_refuting, is_leaving, any_so, form_in, forms_in, refuted, consistent, wide, ending_of, ending_by}
 use Rattle.wy_sound_certificates.proofs.MadeLemmas.{IsFormula}
 use Rattle.wy_sound_search.specs.Closed.{AreLiterals}
 use Rattle.wy_sound_search.proofs.PlacedLemmas.{AreAmong, AreOnes, literals_among, literal_ones, one_literal, has_a_place}
@@ -21,10 +20,10 @@ use Rattle.wy_solutions.proofs.PartLemmas.{AreOnce}
 use Rattle.wy_solutions.proofs.OnceLemmas.{once_plain}
 use Rattle.wy_solutions.proofs.EndLemmas.{AllOnce, once_solved}
 use Rattle.wy_solutions.proofs.PlainLemmas.{literals_plain}
-use Rattle.wy_open_leaves.specs.Solutions.{worth_over, IsMet, HasSolution, ConsistentNodesHaveASolution}
+use Rattle.wy_open_leaves.specs.Solutions.{worth_over, IsMet, ConsistentNodesHaveASolution}
 use Rattle.wy_open_leaves.proofs.ListLemmas.{Each, to_all, from_all}
 use Rattle.wy_open_leaves.proofs.PlaceLemmas.{at, ArePlaced, seen_numbered, of_first, of_place, placed_worth, one_value}
-use Rattle.wy_open_leaves.proofs.BackLemmas.{Comes, Leads, replaced_leads}
+use Rattle.wy_open_leaves.proofs.BackLemmas.{Leads, replaced_leads}
 
 neither : (a b : Bool) → (a || b) ≡ false → (a ≡ false) × (b ≡ false)
 neither true b e = absurd cc
@@ -120,7 +119,9 @@ module _ (ts : List Term) (labels : List ℕ) (D : ℕ) (x : ℕ → ℤ) where
       let leaves_none = neither (is_leaving (replaced labels (numbered ts h))) (any_so is_leaving rest) f in
       let m = first_met (forms.worth_over D (of_first labels x) (numbered ts h)) (replaced labels (numbered ts h)) (forms_in rest) (leads h (once h refl)) refutes_none.0 leaves_none.0 natural in (
         (λ g there. subst (λ (k : Linear Term). pos 0 ≤ℤ worth_over D values k) (some_is h g (sym is ∙ there)) (over_terms h m.0)),
-        refutes_none.1, leaves_none.1, m.1,
+        refutes_none.1,
+        leaves_none.1,
+        m.1,
       )
 
   all_met : (ls : List Literal) → Each (HasOnce ts) ls → any_so is_refuting (replaced_forms ts labels ls) ≡ false → any_so is_leaving (replaced_forms ts labels ls) ≡ false → Each Natural (forms_in (replaced_forms ts labels ls)) → Each (IsMet D values) ls
