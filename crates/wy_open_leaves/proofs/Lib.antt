@@ -8,3 +8,4 @@ mod BackLemmas
 mod NodeLemmas
 mod RefutingLemmas
 mod LeafLemmas
+mod UnsortedLemmas

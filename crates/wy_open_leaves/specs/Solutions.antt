@@ -35,3 +35,7 @@ ConsistentNodesHaveASolution = (node : Node) → AreLiterals node.literals → e
 -- no sum of a certificate refutes a node that has one, whatever the multipliers are
 abbrev pub NoSumRefutes : Type 0
 NoSumRefutes = (node : Node) (pairs : List (ℕ × ℕ)) → HasSolution node → is_refuting (summed node.literals pairs) ≡ false
+
+-- some node whose elimination ends consistent has no solution, its literals not being formulas of sorted parts
+abbrev pub UnsortedNodesMayHaveNone : Type 0
+UnsortedNodesMayHaveNone = (node : Node) × (ending node ≡ consistent) × (HasSolution node → ⊥)

@@ -1,11 +1,12 @@
 //! What the search's open leaves mean.
 ghost use Rattle.wy_open_leaves.specs.Leaves.{NoSumClosesThem, OpenLeavesHaveASolution};
-ghost use Rattle.wy_open_leaves.specs.Solutions.{ConsistentNodesHaveASolution, NoSumRefutes};
+ghost use Rattle.wy_open_leaves.specs.Solutions.{ConsistentNodesHaveASolution, NoSumRefutes, UnsortedNodesMayHaveNone};
 
 /// A node of sorted literals whose elimination ends consistent, by the definition of the search, has a solution in
-/// fractions.
+/// fractions. There is a node of other literals that has none.
 pub fn consistent_nodes_have_a_solution()
     ensures solution { ConsistentNodesHaveASolution }
+    ensures unsorted { UnsortedNodesMayHaveNone }
 {}
 
 /// The literals at which the search of a sorted condition stays open have a solution in fractions, unless it stays open for
