@@ -1,3 +1,3 @@
-mod AtomLemmas
+pub mod AtomLemmas
 mod EndLemmas
 pub mod RoundLemmas

@@ -21,7 +21,7 @@ module _ (types : List Entry) (are_closed : AreClosed types) (entries : AreSorte
       let three = products_follow types (with_facts types (with_instances q.node q.node.literals (index_terms q))) two.sorted in
       three.sorted
 
-  expanded_sorted : (p : Spot) → IsSortedNode p.node → IsSortedNode (expanded types p).node
+  pub expanded_sorted : (p : Spot) → IsSortedNode p.node → IsSortedNode (expanded types p).node
   expanded_sorted p h =
       let one = witnesses_refine types p are_closed entries h in
       round_sorted (with_witnesses p p.node.literals) one.sorted

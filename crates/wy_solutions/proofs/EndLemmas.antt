@@ -6,7 +6,7 @@ use Rattle.wy_lin.specs.Combination.{form_at}
 use Rattle.wy_eliminate.specs.declared.steps.Elim.{Elim}
 use Rattle.wy_eliminate.specs.declared.steps.Elim.TheVariants.{Consistent, Crowded, Wide}
 use Rattle.wy_eliminate.specs.Variables.{Counts, variables, next_variable}
-use Rattle.wy_eliminate.specs.Elimination.{State, is_crowded, Turn, goes_on, refuted, given_from, turned, ended, without_next, eliminated, at_first}
+use Rattle.wy_eliminate.specs.Elimination.{State, is_crowded, Turn, goes_on, refuted, given_from, turned, ended, without_next, eliminated, at_first, elimination}
 use Rattle.wy_eliminate.specs.Validity.{IsPlain}
 use Rattle.wy_solutions.specs.Turns.{TurnsSuffice, Onward, BehindNext, LeavesNone, NoVariableIsLeft}
 use Rattle.wy_solutions.specs.Solutions.{worth_over, HasSolution, ConsistentFormsHaveASolution}
@@ -144,14 +144,23 @@ solved (suc n) s once open_s le e =
 
 -- ---- the given forms
 
-once_forms : (forms : List (Linear ℕ)) → All IsPlain forms → (i : ℕ) → AreOnce (form_at forms i).parts
-once_forms [] plain i = tt
-once_forms (f ∷ fs) plain zero = once_plain f (plain 0 f (omega arith))
-once_forms (f ∷ fs) plain (suc i) = once_forms fs (λ j d lt. plain (suc j) d (omega (arith, lt))) i
+-- each variable of each form has one coefficient
+abbrev pub AllOnce : List (Linear ℕ) → Type 0
+AllOnce [] = Unit {0}
+AllOnce (f ∷ fs) = AreOnce f.parts × AllOnce fs
 
-module _ (forms : List (Linear ℕ)) (plain : All IsPlain forms) where
+plain_once : (forms : List (Linear ℕ)) → All IsPlain forms → AllOnce forms
+plain_once [] plain = tt
+plain_once (f ∷ fs) plain = (once_plain f (plain 0 f (omega arith)), plain_once fs (λ j d lt. plain (suc j) d (omega (arith, lt))))
+
+once_forms : (forms : List (Linear ℕ)) → AllOnce forms → (i : ℕ) → AreOnce (form_at forms i).parts
+once_forms [] once i = tt
+once_forms (f ∷ fs) once zero = once.0
+once_forms (f ∷ fs) once (suc i) = once_forms fs once.1 i
+
+module _ (forms : List (Linear ℕ)) (once : AllOnce forms) where
   given_go : (D : ℕ) (x : ℕ → ℤ) → Goes NoneGone D x (at_first forms) (AreNatural D x forms) (given_from (at_first forms) 0 forms)
-  given_go D x = all_given_go D x (at_first forms) 0 forms (once_forms forms plain) tt (are_at forms 0 forms refl)
+  given_go D x = all_given_go D x (at_first forms) 0 forms (once_forms forms once) tt (are_at forms 0 forms refl)
 
   module _ (s : State) (e : goes_on s ≡ given_from (at_first forms) 0 forms) where
     given_here : (D : ℕ) (x : ℕ → ℤ) → Goes NoneGone D x (at_first forms) (AreNatural D x forms) (goes_on s)
@@ -176,16 +185,19 @@ none_is_left forms plain = onward (given_from (at_first forms) 0 forms) refl
   where
     onward : (r : Turn) → r ≡ given_from (at_first forms) 0 forms → Onward r (λ s. LeavesNone (left s) s)
     onward (refuted steps) e = tt
-    onward (goes_on s) e = λ calm narrow. let known = known_given forms plain s e in leaves_none (left s) s known.once known.open_forms (omega arith)
+    onward (goes_on s) e = λ calm narrow. let known = known_given forms (plain_once forms plain) s e in leaves_none (left s) s known.once known.open_forms (omega arith)
 
 pub turns_suffice : TurnsSuffice
 turns_suffice forms plain more =
     same_end (given_from (at_first forms) 0 forms) (λ s. eliminated (left s + more) s) (λ s. eliminated (left s) s)
-    (λ s e. let known = known_given forms plain s e in same_answer (left s + more) (left s) s known.once known.open_forms (omega arith) (omega arith))
+    (λ s e. let known = known_given forms (plain_once forms plain) s e in same_answer (left s + more) (left s) s known.once known.open_forms (omega arith) (omega arith))
 
-pub consistent_solved : ConsistentFormsHaveASolution
-consistent_solved forms plain e =
+pub once_solved : (forms : List (Linear ℕ)) → AllOnce forms → elimination forms ≡ Consistent → HasSolution forms
+once_solved forms once e =
     consistent_end (given_from (at_first forms) 0 forms) (λ s. eliminated (left s) s) (HasSolution forms) e
     (λ s is calm narrow rest.
-    let known = known_given forms plain s is in
-    given_solved forms plain s is calm narrow (solved (left s) s known.once known.open_forms (omega arith) rest))
+    let known = known_given forms once s is in
+    given_solved forms once s is calm narrow (solved (left s) s known.once known.open_forms (omega arith) rest))
+
+pub consistent_solved : ConsistentFormsHaveASolution
+consistent_solved forms plain e = once_solved forms (plain_once forms plain) e

@@ -1,9 +1,9 @@
-mod NumberLemmas
+pub mod NumberLemmas
 mod EachLemmas
 mod BoundLemmas
-mod PartLemmas
-mod OnceLemmas
-mod CutLemmas
+pub mod PartLemmas
+pub mod OnceLemmas
+pub mod CutLemmas
 mod StandingLemmas
 mod GivenLemmas
 mod PairLemmas
@@ -11,5 +11,5 @@ mod SideLemmas
 mod TurnLemmas
 mod ExtendLemmas
 mod CountLemmas
-mod EndLemmas
-mod PlainLemmas
+pub mod EndLemmas
+pub mod PlainLemmas
