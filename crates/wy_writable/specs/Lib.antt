@@ -1,0 +1,2 @@
+-- what functions inside owe each other
+pub mod Listed
