@@ -20,6 +20,8 @@ pub mod LiteralLemmas
 pub mod FoundLemmas
 -- what they are
 pub mod GivenLemmas
+-- they are read again
+pub mod WritableLemmas
 pub mod PlaceLemmas
 pub mod OwingLemmas
 pub mod AcceptLemmas

@@ -1,0 +1,4 @@
+pub mod FoldedLemmas
+pub mod LaidLemmas
+pub mod StepLemmas
+pub mod TreeLemmas
