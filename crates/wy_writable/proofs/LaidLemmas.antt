@@ -1,5 +1,6 @@
 -- Parts that are of the sorts of their places stand as their layout says.
-use Rattle.std.proofs.Common.{◌≡◌, ◌∙◌, ◌<◌, ◌+◌, ℕ, List, [], ◌∷◌, All, length, map, refl, sym, subst, arith, below_more}
+use Rattle.std.proofs.Common.{◌≡◌, ◌∙◌, ◌<◌, ◌+◌, ℕ, List, [], ◌∷◌, All, Bool, Result, Ok, Err, length, map, refl, sym, subst, arith, below_more}
+use Rattle.std.specs.Prelude.{IfOk, IsTrue}
 use Rattle.std.proofs.lemmas.List.{length-map}
 use Rattle.std.proofs.lemmas.List.Elements.{All-head, All-tail}
 use Rattle.wy_data.specs.declared.name.Name.{Name}
@@ -159,3 +160,8 @@ pub writable_more : (nodes : List Plain) (t : ℕ) (n : Node) → tree_at nodes 
 writable_more nodes t n e below ranges sorted is are =
     below_more (λ (k : ℕ). IsWritableAt (sort_in (tree_at nodes k)) (tree_at nodes k)) t are
     (node_folded nodes t (plain n) e below are is, node_of nodes t (plain n) e below (has_names n) ranges sorted are)
+
+-- the same, where an answer is yes only if the term is folded to itself
+pub writable_if : (nodes : List Plain) (t : ℕ) (n : Node) {E : Type 0} (answer : Result Bool E) → tree_at nodes t ≡ grown (tree_at nodes) (plain n) → HasPartsBelow t (plain n) → IsInRange (plain n).symbol → IsSorted (tree_at nodes t) → AreWritableBelow nodes t → IfOk answer (λ b. IsTrue b → folded (tree_at nodes t) ≡ tree_at nodes t) → IfOk answer (λ b. IsTrue b → AreWritableBelow nodes (t + 1))
+writable_if nodes t n (Ok b) e below ranges sorted are is = λ yes. writable_more nodes t n e below ranges sorted (is yes) are
+writable_if nodes t n (Err e) tree below ranges sorted are is = tt
