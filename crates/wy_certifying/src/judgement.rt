@@ -1,7 +1,7 @@
 //! Certificates that are judged.
 ghost use Rattle.std.specs.Prelude.{◌≡◌, ◌<◌, ℕ, All, length, IfOk, IfSome};
 ghost use Rattle.wy_cert.specs.Steps.{steps_of, NamesItsTerms};
-ghost use Rattle.wy_certificates_reread.specs.Writable.{AreWritable};
+ghost use Rattle.wy_writable.specs.Writable.{AreWritable};
 ghost use Rattle.wy_facts.specs.Membership.{AreTypesBelow};
 ghost use Rattle.wy_facts.specs.Seen.{Stays};
 ghost use Rattle.wy_sound_certificates.specs.Sortedness.{AreSortedSteps};

@@ -3,7 +3,7 @@ use Rattle.std.proofs.Common.{◌≡◌, ◌∙◌, ◌<◌, ◌≤◌, ◌+◌,
 use Rattle.std.proofs.lemmas.List.{append-nil, length-map, map-append}
 use Rattle.std.specs.Prelude.{IfSome}
 use Rattle.std.proofs.lemmas.List.Elements.{All-append, All-cons, All-nil}
-use Rattle.wy_certificates_reread.specs.Writable.{AreWritable}
+use Rattle.wy_writable.specs.Writable.{AreWritable}
 use Rattle.wy_cert.specs.Steps.{Certificates, NamesItsTerms, NameTheirTerms, Written, certificates_of, steps_of}
 use Rattle.wy_cert.specs.declared.step.Cert.{Cert}
 use Rattle.wy_cert.specs.declared.step.Certs.{Certs}

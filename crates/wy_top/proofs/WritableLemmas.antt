@@ -5,8 +5,8 @@ use Rattle.std.proofs.lemmas.Bool.Decides.{nat_tests}
 use Rattle.wy_cert.specs.File.{ReadsFile, is_listed}
 use Rattle.wy_cert.specs.Steps.{Certificates, Written}
 use Rattle.wy_cert_text.specs.Text.{file_text}
-use Rattle.wy_certificates_reread.specs.Writable.{AreWritableBehind}
-use Rattle.wy_certificates_reread.proofs.CertificatesRereadFileLemmas.{reads_what_is_written}
+use Rattle.wy_writable.specs.Writable.{AreWritableBehind}
+use Rattle.wy_writable.proofs.RereadLemmas.{written_is_read}
 use Rattle.wy_term.specs.Condition.{Condition}
 use Rattle.wy_writable.proofs.TreeLemmas.{valid_is_one_tree}
 use Rattle.wy_top.specs.Found.{AreFor, Begin, Shows}
@@ -62,4 +62,4 @@ for_writable conds n (c ∷ cs) (k ∷ ks) done certs first last few sooner h =
 
 -- they are read for as many conditions as there are
 pub found_is_read : (cs : List Condition) (ks : List Known) (certs : Certificates) → length cs < 2 ^ 32 → AreFor 1 cs ks certs → ReadsFile (length cs) (file_text certs) (Ok certs)
-found_is_read cs ks certs few h = reads_what_is_written (length cs) certs (for_writable (length cs) 1 cs ks [] certs (omega arith) (omega arith) few tt h)
+found_is_read cs ks certs few h = written_is_read (length cs) certs (for_writable (length cs) 1 cs ks [] certs (omega arith) (omega arith) few tt h)

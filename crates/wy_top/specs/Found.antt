@@ -1,7 +1,7 @@
 -- Certificates for the conditions that were found.
 use Rattle.std.specs.Prelude.{◌≡◌, ℕ, ◌≤◌, suc, List, [], ◌∷◌, ◌++◌, map}
 use Rattle.wy_cert.specs.Steps.{Certificates, Written}
-use Rattle.wy_certificates_reread.specs.Writable.{AreWritable}
+use Rattle.wy_writable.specs.Writable.{AreWritable}
 use Rattle.wy_checking.specs.Verdicts.{verdicts_on}
 use Rattle.wy_checking.specs.declared.verdict.Verdict.{Verdict as Given}
 use Rattle.wy_checking.specs.declared.verdict.Verdict.TheVariants as accepting

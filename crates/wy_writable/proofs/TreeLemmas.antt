@@ -36,7 +36,7 @@ leads types node shut = where_met 0 (is_shut node) closed refl
 leads types node (chain ts) = behind 1 (chain_stated node.literals ts) (left_with node) (λ fs. refl)
 leads types node (clash i other) = behind 0 (is_clash node.literals i other) (λ b. only_if b closed) (λ b. where_met 0 b closed refl)
 leads types node (sum_of pairs) = where_met 0 (is_refuting (summed node.literals pairs)) closed refl
-leads types node (cut d pairs) = behind 1 (summed node.literals pairs >>= λ f. cut_of d f) (left_with_one node) (λ f. refl)
+leads types node (cut d pairs) = behind 1 (summed node.literals pairs) (λ f. cut_of d f >>= left_with_one node) (λ f. behind 1 (cut_of d f) (left_with_one node) (λ g. refl))
 leads types node (inst i t) = behind 1 (instance_stated node.literals i t) (left_with_one node) (λ f. refl)
 leads types node (wit i) = behind 1 (witness_stated node i) (left_with node) (λ fs. refl)
 leads types node (fact n ts) = behind 1 (fact_among types n ts) (left_with_one node) (λ f. refl)
