@@ -22,6 +22,8 @@ pub mod FoundLemmas
 pub mod GivenLemmas
 -- they are read again
 pub mod WritableLemmas
+-- they are accepted
+pub mod SavedLemmas
 pub mod PlaceLemmas
 pub mod OwingLemmas
 pub mod AcceptLemmas

@@ -1,7 +1,7 @@
 -- Terms that are made once more in another list.
 use Rattle.std.proofs.Common.{◌≡◌, ◌∙◌, ◌<◌, ◌≤◌, ◌+◌, ℕ, List, [], ◌∷◌, All, true, length, ap, sym, subst, arith, below_more}
 use Rattle.std.proofs.lemmas.List.Elements.{All-head, All-tail}
-use Rattle.wy_term.specs.Term.{Term, Of}
+use Rattle.wy_term.specs.Term.{Term}
 use Rattle.wy_term.specs.Folding.{folded}
 use Rattle.wy_term.specs.Nodes.{HasPartsBelow, Plain, grown, parts_at, plain, tree_at}
 use Rattle.wy_term.specs.declared.node.Node.{Node}

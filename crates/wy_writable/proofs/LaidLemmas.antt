@@ -1,12 +1,12 @@
 -- Parts that are of the sorts of their places stand as their layout says.
-use Rattle.std.proofs.Common.{◌≡◌, ◌∙◌, ◌<◌, ◌+◌, ℕ, List, [], ◌∷◌, All, Bool, Result, Ok, Err, length, map, refl, sym, subst, arith, below_more}
+use Rattle.std.proofs.Common.{◌≡◌, ◌∙◌, ◌<◌, ◌+◌, ℕ, List, [], ◌∷◌, All, Bool, Result, Ok, Err, length, refl, sym, subst, arith, below_more}
 use Rattle.std.specs.Prelude.{IfOk, IsTrue}
 use Rattle.std.proofs.lemmas.List.{length-map}
 use Rattle.std.proofs.lemmas.List.Elements.{All-head, All-tail}
 use Rattle.wy_data.specs.declared.name.Name.{Name}
 use Rattle.wy_term.specs.Term as term
 use Rattle.wy_term.specs.Term.{Symbol, Term, Of}
-use Rattle.wy_term.specs.Sorts.{Sort, int_sort, val_sort, formula_sort, sort_in}
+use Rattle.wy_term.specs.Sorts.{Sort, val_sort, sort_in}
 use Rattle.wy_term.specs.Folding.{folded}
 use Rattle.wy_term.specs.Nodes.{HasPartsBelow, Plain, grown, parts_at, plain, tree_at}
 use Rattle.wy_term.specs.declared.node.Node.{Node}

@@ -1,8 +1,8 @@
 -- terms of a list
 pub mod FoldedLemmas
 pub mod LaidLemmas
--- terms of steps
-pub mod StepLemmas
+-- arguments of facts
+pub mod ConstantLemmas
 -- trees
 pub mod TreeLemmas
 -- what is read again

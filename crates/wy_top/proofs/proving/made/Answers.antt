@@ -22,7 +22,7 @@ returns-in-Ok-Some-clause-gives c = λ s p h.
 
 pub returns-in-Ok-Some-clause-file : goal.returns-in-Ok-Some-clause-file
 returns-in-Ok-Some-clause-file c = λ p h.
-    let few : length (conditions_of p) < 2 ^ 32 = omega (arith, c.requires.few, h.count) in
+    let few : length (conditions_of p) < 2 ^ 32 = omega (arith, c.requires.each.few, h.count) in
     saved_file p c.args.budget c.in-Ok.answer (map known c.args.judged.verdicts.items) (certificates_of c.in-Ok-Some.certs) c.saved_with.result h.known
     (found_for p c.args.judged c.deref.result.now c.deref-2.result.now c.in-Ok-Some.field-0 c.in-Ok-Some.certs c.deref.ensures.value c.deref-2.ensures.value h.conditions c.in-Ok-Some.field-0-is c.in-Ok-Some.ensures.certificates) few c.saved_with.ensures.value
 

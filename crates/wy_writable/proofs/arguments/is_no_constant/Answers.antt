@@ -1,5 +1,5 @@
 use Rattle.std.proofs.Common.{◌<◌, length, rules}
-use Rattle.wy_writable.proofs.StepLemmas.{and_of_members, or_of_members}
+use Rattle.wy_writable.proofs.ConstantLemmas.{and_of_members, or_of_members}
 use Rattle.wy_writable.proofs.arguments.is_no_constant.Goals as goal
 
 pub returns-in-And : goal.returns-in-And

@@ -1,6 +1,5 @@
 use Rattle.std.proofs.Common.{◌≡◌, ◌∙◌, ap, rules, sym, true}
-use Rattle.std.specs.Prelude.{IsTrue}
-use Rattle.wy_term.specs.Nodes.{plain, tree_at}
+use Rattle.wy_term.specs.Nodes.{tree_at}
 use Rattle.wy_term.specs.contracts.node.NodePartialEq.TheImpl.{eq-value}
 use Rattle.wy_writable.proofs.FoldedLemmas.{same_more, tree_there}
 use Rattle.wy_writable.proofs.folding.is_folded.Goals as goal

@@ -1,8 +1,4 @@
-use Rattle.std.proofs.Common.{◌≡◌, ◌+◌, IsTrue, rules}
-use Rattle.std.specs.Prelude.{IfOk, Result, Ok, Err}
-use Rattle.wy_term.specs.Folding.{folded}
-use Rattle.wy_term.specs.Nodes.{plain, tree_at}
-use Rattle.wy_writable.specs.Listed.{AreWritableBelow}
+use Rattle.std.proofs.Common.{IsTrue, rules}
 use Rattle.wy_writable.proofs.LaidLemmas.{writable_if}
 use Rattle.wy_writable.proofs.listed.is_listed.Goals as goal
 
