@@ -1,5 +1,5 @@
 -- Certificates for all conditions of a program, where they are supplied.
-use Rattle.std.proofs.Common.{◌≡◌, ◌∙◌, ◌+◌, ℕ, suc, List, [], ◌∷◌, map, Bool, true, false, None, refl, sym, ap, subst}
+use Rattle.std.proofs.Common.{◌≡◌, ◌+◌, ℕ, suc, List, [], ◌∷◌, map, Bool, true, false, None, refl, sym, ap, subst}
 use Rattle.std.specs.Prelude.{◌&&◌}
 use Rattle.wy_search.specs.Tree as search
 use Rattle.wy_checking.specs.Verdicts.{AreSupplied, verdicts_on}

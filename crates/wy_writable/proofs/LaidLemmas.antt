@@ -5,7 +5,7 @@ use Rattle.std.proofs.lemmas.List.{length-map}
 use Rattle.std.proofs.lemmas.List.Elements.{All-head, All-tail}
 use Rattle.wy_data.specs.declared.name.Name.{Name}
 use Rattle.wy_term.specs.Term as term
-use Rattle.wy_term.specs.Term.{Symbol, Term, Of}
+use Rattle.wy_term.specs.Term.{Symbol, Term}
 use Rattle.wy_term.specs.Sorts.{Sort, val_sort, sort_in}
 use Rattle.wy_term.specs.Folding.{folded}
 use Rattle.wy_term.specs.Nodes.{HasPartsBelow, Plain, grown, parts_at, plain, tree_at}

@@ -1,17 +1,15 @@
 -- Steps that close some nodes one after the other are those of as many trees.
-use Rattle.std.proofs.Common.{◌≡◌, ℕ, ◌+◌, List, [], ◌∷◌, ◌++◌, Bool, true, false, Option, Some, None, length, length-append, refl, sym, subst, arith}
-use Rattle.wy_term.specs.Term.{Term}
-use Rattle.wy_term.specs.Condition.{Condition, Entry}
-use Rattle.wy_term.specs.Sorts.{sort_in}
+use Rattle.std.proofs.Common.{◌≡◌, ℕ, ◌+◌, List, [], ◌∷◌, ◌++◌, Bool, true, false, Option, Some, None, length, length-append, refl, subst, arith}
+use Rattle.wy_term.specs.Condition.{Entry}
 use Rattle.wy_lin.specs.Linear.{◌>>=◌}
-use Rattle.wy_judge.specs.Node.{Node, added, denied_one, with_formulas, first_node}
+use Rattle.wy_judge.specs.Node.{Node, added, denied_one, first_node}
 use Rattle.wy_cert.specs.Steps.{Written, split, shut, chain, clash, sum_of, cut, inst, wit, fact, prod, children}
 use Rattle.wy_valid.specs.Literals.{only_if, is_shut}
 use Rattle.wy_valid.specs.Sums.{summed, is_refuting, cut_of}
 use Rattle.wy_valid.specs.Ranges.{may_split, instance_stated, witness_stated}
 use Rattle.wy_valid.specs.Membership.{fact_among}
 use Rattle.wy_valid.specs.Products.{product_stated}
-use Rattle.wy_valid.specs.Validity.{chain_stated, is_clash, closed, left_with, left_with_one, after, or_bad, first_bad_by, IsValid}
+use Rattle.wy_valid.specs.Validity.{chain_stated, is_clash, closed, left_with, left_with_one, after, or_bad, first_bad_by}
 use Rattle.wy_certificates_reread.specs.Writable.{AreTrees}
 use Rattle.wy_writable.specs.Trees.{ValidIsOneTree}
 
