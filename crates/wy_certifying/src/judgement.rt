@@ -1,6 +1,7 @@
 //! Certificates that are judged.
 ghost use Rattle.std.specs.Prelude.{◌≡◌, ◌<◌, ℕ, All, length, IfOk, IfSome};
 ghost use Rattle.wy_cert.specs.Steps.{steps_of, NamesItsTerms};
+ghost use Rattle.wy_writable.specs.Writable.{AreWritable};
 ghost use Rattle.wy_facts.specs.Membership.{AreTypesBelow};
 ghost use Rattle.wy_facts.specs.Seen.{Stays};
 ghost use Rattle.wy_sound_certificates.specs.Sortedness.{AreSortedSteps};
@@ -15,6 +16,7 @@ use wy_cert::Cert;
 use wy_checking::{Checked, check};
 use wy_term::{Cond, NoMemory, Terms};
 use wy_well_sorted::is_certificate_sorted;
+use wy_writable::is_certificate_writable;
 
 // A certificate, if one could be written in this manner. It makes terms.
 fn drafted(
@@ -36,7 +38,7 @@ fn drafted(
     }
 }
 
-// The certificate, where it is valid and its terms are of the sorts that their places want.
+// The certificate, where it is valid, its terms are of the sorts that their places want, and it can be written.
 fn judged(terms: &mut Terms, cond: &Cond, cert: Cert) -> Result<Option<Cert>, NoMemory>
     requires hyps { All (λ h. h < length terms.old) cond.now.hyps.items }
     requires goal { cond.now.goal < length terms.old }
@@ -44,10 +46,14 @@ fn judged(terms: &mut Terms, cond: &Cond, cert: Cert) -> Result<Option<Cert>, No
     requires cert { NamesItsTerms cert }
     ensures valid { IfOk result (λ o. IfSome o (λ c. IsValid (condition_of terms.old cond.now) (steps_of c))) }
     ensures sorted { IfOk result (λ o. IfSome o (λ c. AreSortedSteps (steps_of c))) }
+    ensures writable { IfOk result (λ o. IfSome o (λ c. AreWritable (steps_of c))) }
     ensures names { IfOk result (λ o. IfSome o NamesItsTerms) }
     ensures stays { Stays terms.old terms.new }
 {
     if !is_certificate_sorted(&cert) {
+        return Ok(None);
+    }
+    if !is_certificate_writable(&cert)? {
         return Ok(None);
     }
     match check(terms, cond, &cert)? {
@@ -68,6 +74,7 @@ fn found(
     requires types { AreTypesBelow (length terms.old) cond.now }
     ensures valid { IfOk result (λ o. IfSome o (λ c. IsValid (condition_of terms.old cond.now) (steps_of c))) }
     ensures sorted { IfOk result (λ o. IfSome o (λ c. AreSortedSteps (steps_of c))) }
+    ensures writable { IfOk result (λ o. IfSome o (λ c. AreWritable (steps_of c))) }
     ensures names { IfOk result (λ o. IfSome o NamesItsTerms) }
     ensures stays { Stays terms.old terms.new }
 {
@@ -84,6 +91,7 @@ fn found_somehow(terms: &mut Terms, cond: &Cond, budget: u64) -> Result<Option<C
     requires types { AreTypesBelow (length terms.old) cond.now }
     ensures valid { IfOk result (λ o. IfSome o (λ c. IsValid (condition_of terms.old cond.now) (steps_of c))) }
     ensures sorted { IfOk result (λ o. IfSome o (λ c. AreSortedSteps (steps_of c))) }
+    ensures writable { IfOk result (λ o. IfSome o (λ c. AreWritable (steps_of c))) }
     ensures names { IfOk result (λ o. IfSome o NamesItsTerms) }
     ensures stays { Stays terms.old terms.new }
 {
@@ -94,8 +102,9 @@ fn found_somehow(terms: &mut Terms, cond: &Cond, budget: u64) -> Result<Option<C
 }
 
 /// A certificate of a condition, by the search's own tree up to a budget of leaves, judged by the checker: there is one only
-/// where it is valid and its terms are of the sorts that their places want. Where that tree makes none, the tree is tried that adds
-/// what binds names in the second half of a round, behind the splits on the rest. By trial there is one wherever the search finds
+/// where it is valid, its terms are of the sorts that their places want, and it can be written so that it is read again as it is.
+/// Where that tree makes none, the tree is tried that adds what binds names in the second half of a round, behind the splits on the
+/// rest. By trial there is one wherever the search finds
 /// at this budget and splits on no atom with a name that is bound in the node; no clause says so. The terms are as before
 /// afterwards, at want of memory too. It takes the search's time once more, and the checker's, and where the first tree makes none
 /// that of the second.
@@ -105,6 +114,7 @@ pub fn certified(terms: &mut Terms, cond: &Cond, budget: u64) -> Result<Option<C
     requires types { AreTypesBelow (length terms.old) cond.now }
     ensures valid { IfOk result (λ o. IfSome o (λ cert. IsValid (condition_of terms.old cond.now) (steps_of cert))) }
     ensures sorted { IfOk result (λ o. IfSome o (λ cert. AreSortedSteps (steps_of cert))) }
+    ensures writable { IfOk result (λ o. IfSome o (λ cert. AreWritable (steps_of cert))) }
     ensures names { IfOk result (λ o. IfSome o NamesItsTerms) }
     ensures length { length terms.new ≡ length terms.old }
     ensures kept { (t : ℕ) → t < length terms.old → tree_at terms.new t ≡ tree_at terms.old t }

@@ -3,6 +3,7 @@ use Rattle.std.proofs.Common.{◌≡◌, ◌∙◌, ◌<◌, ◌≤◌, ◌+◌,
 use Rattle.std.proofs.lemmas.List.{append-nil, length-map, map-append}
 use Rattle.std.specs.Prelude.{IfSome}
 use Rattle.std.proofs.lemmas.List.Elements.{All-append, All-cons, All-nil}
+use Rattle.wy_writable.specs.Writable.{AreWritable}
 use Rattle.wy_cert.specs.Steps.{Certificates, NamesItsTerms, NameTheirTerms, Written, certificates_of, steps_of}
 use Rattle.wy_cert.specs.declared.step.Cert.{Cert}
 use Rattle.wy_cert.specs.declared.step.Certs.{Certs}
@@ -30,9 +31,9 @@ abbrev pub pair_of : ℕ × Cert → ℕ × List Written
 pair_of e = (e.0, steps_of e.1)
 
 -- the one that was made comes last
-pub pushed : (n : ℕ) (c : Condition) (list more : List (ℕ × Cert)) (cert : Cert) → IsValid c (steps_of cert) → AreSortedSteps (steps_of cert) → more ≡ list ++ (n, cert) ∷ [] → IsOneMore n c (map pair_of list) (map pair_of more)
-pushed n c list more cert valid sorted is =
-    (steps_of cert, record { valid = valid; sorted = sorted }, ap (map pair_of) is ∙ map-append pair_of list ((n, cert) ∷ []))
+pub pushed : (n : ℕ) (c : Condition) (list more : List (ℕ × Cert)) (cert : Cert) → IsValid c (steps_of cert) → AreSortedSteps (steps_of cert) → AreWritable (steps_of cert) → more ≡ list ++ (n, cert) ∷ [] → IsOneMore n c (map pair_of list) (map pair_of more)
+pushed n c list more cert valid sorted writable is =
+    (steps_of cert, record { valid = valid; sorted = sorted; writable = writable }, ap (map pair_of) is ∙ map-append pair_of list ((n, cert) ∷ []))
 
 abbrev NamesIn : ℕ × Cert → Type 0
 NamesIn e = NamesItsTerms e.1

@@ -20,6 +20,10 @@ pub mod LiteralLemmas
 pub mod FoundLemmas
 -- what they are
 pub mod GivenLemmas
+-- they are read again
+pub mod WritableLemmas
+-- they are accepted
+pub mod SavedLemmas
 pub mod PlaceLemmas
 pub mod OwingLemmas
 pub mod AcceptLemmas

@@ -1,5 +1,5 @@
 -- The verdicts of `prove` as a step.
-use Rattle.std.proofs.Common.{◌≡◌, ◌∙◌, ℕ, List, [], Ok, Err, inl, inr, sym, ap, subst}
+use Rattle.std.proofs.Common.{◌≡◌, ◌∙◌, ◌<◌, ◌^◌, ℕ, List, [], length, Ok, Err, inl, inr, sym, ap, subst}
 use Rattle.wy_top.specs.Known.{Known}
 use Rattle.wy_top.proofs.ShownLemmas.{one_list}
 use Rattle.std.specs.Prelude.{IfErr, IfOk, IfSome, Option, Result, Some, map}
@@ -10,6 +10,7 @@ use Rattle.wy_answers.specs.declared.answer.Answer.{Answer}
 use Rattle.wy_answers.proofs.StepLemmas.{value_gives, free_gives, memory_gives}
 use Rattle.wy_top.specs.Acceptance.{AreVerdicts, are_closed}
 use Rattle.wy_top.specs.Programs.{Program, conditions_of}
+use Rattle.wy_cert.specs.File.{ReadsFile}
 use Rattle.wy_cert.specs.Steps.{Certificates, certificates_of}
 use Rattle.wy_cert.specs.declared.step.Certs.{Certs}
 use Rattle.wy_cert_text.specs.Text.{file_text}
@@ -22,6 +23,7 @@ use Rattle.wy_top.specs.declared.judging.Judged.{Judged}
 use Rattle.wy_top.specs.declared.verdict.Verdict.{Verdict}
 use Rattle.wy_top.specs.Proofs.{Finds, IsProofFile, judges, proof_answer}
 use Rattle.wy_top.specs.declared.proving.Proof.{Proof}
+use Rattle.wy_top.proofs.WritableLemmas.{found_is_read}
 
 by_verdicts : List ℕ → List ℕ → Program → ℕ → List Known → Answer
 by_verdicts name bytes p budget ks = proof_answer name bytes p budget ks (are_closed ks)
@@ -44,10 +46,18 @@ saved_gives s name bytes p budget a ks text (Ok f) so is h g = judged_gives s na
 saved_gives s name bytes p budget a ks text (Err b) so is h g = memory_gives s (judges name bytes p budget) b g
 
 -- what is saved is a file of these certificates
-pub saved_file : (p : Program) (budget : ℕ) (a : Answer) (ks : List Known) (certs : Certificates) (r : Result Proof Answer) → AreVerdicts [] budget p ks → AreFor 1 (conditions_of p) ks certs
+pub saved_file : (p : Program) (budget : ℕ) (a : Answer) (ks : List Known) (certs : Certificates) (r : Result Proof Answer) → AreVerdicts [] budget p ks → AreFor 1 (conditions_of p) ks certs → length (conditions_of p) < 2 ^ 32
     → IfOk r (λ (f : Proof). (f.saved ≡ file_text certs) × (f.answer ≡ a)) → IfOk r (λ (f : Proof). IsProofFile p budget f.saved)
-saved_file p budget a ks certs (Ok f) so are h = record { verdicts = ks; known = so; certificates = certs; are = are; is = h.0 }
-saved_file p budget a ks certs (Err b) so are h = tt
+saved_file p budget a ks certs (Ok f) so are few h =
+    record {
+      verdicts = ks;
+      known = so;
+      certificates = certs;
+      are = are;
+      is = h.0;
+      read = subst (λ (text : List ℕ). ReadsFile (length (conditions_of p)) text (Ok certs)) (sym h.0) (found_is_read (conditions_of p) ks certs few are);
+    }
+saved_file p budget a ks certs (Err b) so are few h = tt
 
 abbrev some_certs : Certs → Option Certs
 some_certs certs = Some certs

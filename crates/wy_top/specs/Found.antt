@@ -1,6 +1,7 @@
 -- Certificates for the conditions that were found.
 use Rattle.std.specs.Prelude.{◌≡◌, ℕ, ◌≤◌, suc, List, [], ◌∷◌, ◌++◌, map}
 use Rattle.wy_cert.specs.Steps.{Certificates, Written}
+use Rattle.wy_writable.specs.Writable.{AreWritable}
 use Rattle.wy_checking.specs.Verdicts.{verdicts_on}
 use Rattle.wy_checking.specs.declared.verdict.Verdict.{Verdict as Given}
 use Rattle.wy_checking.specs.declared.verdict.Verdict.TheVariants as accepting
@@ -9,10 +10,11 @@ use Rattle.wy_term.specs.Condition.{Condition}
 use Rattle.wy_valid.specs.Validity.{IsValid}
 use Rattle.wy_top.specs.Known.{End, Known, found, spent, stays_open, supplied}
 
--- the steps are a valid certificate for the condition, and their terms are of the sorts of their places
+-- the steps are a valid certificate for the condition, their terms are of the sorts of their places, and they can be written
 pub record Shows (c : Condition) (steps : List Written) : Type 0 where
   pub valid : IsValid c steps
   pub sorted : AreSortedSteps steps
+  pub writable : AreWritable steps
 
 -- one for the condition with this number comes first, if it was found, and then the others
 abbrev pub Begin : ℕ → Condition → End → (Certificates → Type 0) → Certificates → Type 0

@@ -28,6 +28,7 @@ pub mod Going
 -- what sinks and files show of it
 pub mod Runs
 pub mod Saves
+pub mod Saved
 -- the statement
 pub mod Statement
 -- a law

@@ -1,10 +1,11 @@
 -- What does the command `prove` make of a source? The verdicts on its conditions, without certificates, and a file of those that it found.
-use Rattle.std.specs.Prelude.{◌≡◌, ◌⊎◌, ℕ, List, [], ◌∷◌, Bool, true, false, Ok, Err}
+use Rattle.std.specs.Prelude.{◌≡◌, ◌⊎◌, ℕ, List, [], ◌∷◌, length, Bool, true, false, Ok, Err}
 use Rattle.wy_answers.specs.Answers.{refused, written}
 use Rattle.wy_answers.specs.Loading.{Loads, loaded, source_limit}
 use Rattle.wy_answers.specs.Steps.{Came, Sense, stated, due, Setting, and_then, both}
 use Rattle.wy_answers.specs.Texts.{not_certified}
 use Rattle.wy_answers.specs.declared.answer.Answer.{Answer}
+use Rattle.wy_cert.specs.File.{ReadsFile}
 use Rattle.wy_cert.specs.Steps.{Certificates}
 use Rattle.wy_cert_text.specs.Text.{file_text}
 use Rattle.wy_top.specs.Owed.{Owes, told_by}
@@ -62,13 +63,14 @@ proves_file s name budget = and_then (both (loaded s name source_limit)) (proves
 
 -- ---- what is saved
 
--- the text is a file of a valid certificate for each condition of the program that was found, and of no others
+-- the text is a file of a valid certificate for each condition of the program that was found, and of no others; it is read, for as many conditions as the program has, as these certificates
 pub record IsProofFile (p : Program) (budget : ℕ) (text : List ℕ) : Type 0 where
   pub verdicts : List Known
   pub known : AreVerdicts [] budget p verdicts
   pub certificates : Certificates
   pub are : AreFor 1 (conditions_of p) verdicts certificates
   pub is : text ≡ file_text certificates
+  pub read : ReadsFile (length (conditions_of p)) text (Ok certificates)
 
 -- it is one of the program of the source with these bytes
 pub record ProvesBytes (bytes : List ℕ) (budget : ℕ) (text : List ℕ) : Type 0 where

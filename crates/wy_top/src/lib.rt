@@ -49,7 +49,7 @@ mod verdict;
 mod verdict_laws;
 mod writing;
 
-pub use certificate_laws::found_certificates_are_valid;
+pub use certificate_laws::{found_certificates_are_valid, saved_certificates_are_accepted};
 pub use code_laws::the_code_of_a_source_is_loadable;
 pub use command_laws::commands_are_exact;
 pub use commands::run_words;

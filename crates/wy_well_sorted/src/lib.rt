@@ -9,4 +9,5 @@ mod places;
 mod sorts;
 mod testing;
 
+pub use sorts::{Sort, is_of_sort};
 pub use testing::{are_terms_sorted, is_certificate_sorted};

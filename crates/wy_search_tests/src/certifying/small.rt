@@ -2,7 +2,7 @@
 use crate::certifying::certificates::{Row, is_certified};
 use wy_term::NoMemory;
 
-const ROWS: [Row; 8] = [
+const ROWS: [Row; 10] = [
     Row {
         hyps: &["1 <= k#0", "k#0 <= 0"],
         goal: "false",
@@ -36,6 +36,16 @@ const ROWS: [Row; 8] = [
         hyps: &["0 <= k#0", "0 <= j#1"],
         goal: "0 <= mul(k#0, j#1)",
         budget: 10,
+    },
+    Row {
+        hyps: &["v.2 = rec{a: w.3, b: u.4}"],
+        goal: "kind(v.2, {a, b})",
+        budget: 20,
+    },
+    Row {
+        hyps: &["v.2 = bool(k#0 <= 3)", "v.2 = true"],
+        goal: "k#0 <= 3",
+        budget: 20,
     },
     Row {
         hyps: &[

@@ -1,7 +1,8 @@
-use Rattle.std.proofs.Common.{List, map, subst}
+use Rattle.std.proofs.Common.{◌<◌, ◌^◌, List, length, map, subst, arith}
 use Rattle.wy_answers.proofs.StepLemmas.{memory_gives}
 use Rattle.wy_cert.specs.Steps.{certificates_of}
 use Rattle.wy_cert_text.specs.Text.{file_text}
+use Rattle.wy_top.specs.Programs.{conditions_of}
 use Rattle.wy_top.specs.Proofs.{Finds, judges}
 use Rattle.wy_top.specs.Seen.{known}
 use Rattle.wy_top.specs.declared.verdict.Verdict.{Verdict}
@@ -21,8 +22,9 @@ returns-in-Ok-Some-clause-gives c = λ s p h.
 
 pub returns-in-Ok-Some-clause-file : goal.returns-in-Ok-Some-clause-file
 returns-in-Ok-Some-clause-file c = λ p h.
+    let few : length (conditions_of p) < 2 ^ 32 = omega (arith, c.requires.each.few, h.count) in
     saved_file p c.args.budget c.in-Ok.answer (map known c.args.judged.verdicts.items) (certificates_of c.in-Ok-Some.certs) c.saved_with.result h.known
-    (found_for p c.args.judged c.deref.result.now c.deref-2.result.now c.in-Ok-Some.field-0 c.in-Ok-Some.certs c.deref.ensures.value c.deref-2.ensures.value h.conditions c.in-Ok-Some.field-0-is c.in-Ok-Some.ensures.certificates) c.saved_with.ensures.value
+    (found_for p c.args.judged c.deref.result.now c.deref-2.result.now c.in-Ok-Some.field-0 c.in-Ok-Some.certs c.deref.ensures.value c.deref-2.ensures.value h.conditions c.in-Ok-Some.field-0-is c.in-Ok-Some.ensures.certificates) few c.saved_with.ensures.value
 
 pub returns-in-Ok-None-clause-gives : goal.returns-in-Ok-None-clause-gives
 returns-in-Ok-None-clause-gives c = λ s p h.

@@ -1,0 +1,65 @@
+-- The certificates for the conditions that were found can be written, so that they are read again.
+use Rattle.std.proofs.Common.{◌≡◌, ◌<◌, ◌≤◌, ◌+◌, ◌^◌, ℕ, suc, List, [], ◌∷◌, ◌++◌, length, Bool, false, refl, sym, ap, ◌∙◌, subst, arith}
+use Rattle.std.specs.Prelude.{◌==◌, ◌||◌, Ok}
+use Rattle.std.proofs.lemmas.Bool.Decides.{nat_tests}
+use Rattle.wy_cert.specs.File.{ReadsFile, is_listed}
+use Rattle.wy_cert.specs.Steps.{Certificates, Written}
+use Rattle.wy_cert_text.specs.Text.{file_text}
+use Rattle.wy_writable.specs.Writable.{AreWritableBehind}
+use Rattle.wy_writable.proofs.RereadLemmas.{written_is_read}
+use Rattle.wy_term.specs.Condition.{Condition}
+use Rattle.wy_writable.proofs.TreeLemmas.{valid_is_one_tree}
+use Rattle.wy_top.specs.Found.{AreFor, Begin, Shows}
+use Rattle.wy_top.specs.Known.{End, Known, found, spent, stays_open, supplied}
+
+-- ---- certificates for conditions before one
+
+abbrev AreSooner : ℕ → Certificates → Type 0
+AreSooner n [] = Unit {0}
+AreSooner n (d ∷ ds) = (d.0 < n) × AreSooner n ds
+
+sooner_later : (m n : ℕ) (done : Certificates) → m ≤ n → AreSooner m done → AreSooner n done
+sooner_later m n [] le are = tt
+sooner_later m n (d ∷ ds) le are = (omega (arith, le, are.0), sooner_later m n ds le are.1)
+
+sooner_more : (n : ℕ) (done : Certificates) (d : ℕ × List Written) → AreSooner n done → d.0 < n → AreSooner n (done ++ d ∷ [])
+sooner_more n [] d are lt = (lt, tt)
+sooner_more n (e ∷ es) d are lt = (are.0, sooner_more n es d are.1 lt)
+
+another : (m n : ℕ) → m < n → (m == n) ≡ false
+another m n lt = grind (arith, nat_tests)
+
+not_listed : (n : ℕ) (done : Certificates) → AreSooner n done → is_listed done n ≡ false
+not_listed n [] are = refl
+not_listed n (d ∷ ds) are = ap (λ (b : Bool). b || is_listed ds n) (another d.0 n are.0) ∙ not_listed n ds are.1
+
+-- ---- one behind the other
+
+-- the one for a condition that was found, and those behind it
+one_writable : (conds n : ℕ) (c : Condition) (d : ℕ × List Written) (done ds : Certificates) → 0 < n → n ≤ conds → conds < 2 ^ 32 → AreSooner n done → n ≡ d.0 → Shows c d.1 → AreWritableBehind conds (done ++ d ∷ []) ds → AreWritableBehind conds done (d ∷ ds)
+one_writable conds n c d done ds first last few sooner is shows rest =
+    ((omega (arith, first, is), omega (arith, last, few, is)), omega (arith, last, is), subst (λ (k : ℕ). is_listed done k ≡ false) is (not_listed n done sooner), valid_is_one_tree c d.1 shows.valid, shows.writable, rest)
+
+abbrev Behind : ℕ → ℕ → (Certificates → Type 0) → Type 0
+Behind conds n P = (done ds : Certificates) → AreSooner (suc n) done → P ds → AreWritableBehind conds done ds
+
+begin_writable : (conds n : ℕ) (c : Condition) (e : End) (P : Certificates → Type 0) (done certs : Certificates) → 0 < n → n ≤ conds → conds < 2 ^ 32 → AreSooner n done → Behind conds n P → Begin n c e P certs → AreWritableBehind conds done certs
+begin_writable conds n c supplied P done certs first last few sooner later h = later done certs (sooner_later n (suc n) done (omega arith) sooner) h
+begin_writable conds n c (found leaves) P done [] first last few sooner later h = absurd h
+begin_writable conds n c (found leaves) P done (d ∷ ds) first last few sooner later h =
+    let same : n ≡ d.0 = h.0 in
+    one_writable conds n c d done ds first last few sooner h.0 h.1 (later (done ++ d ∷ []) ds (sooner_more (suc n) done d (sooner_later n (suc n) done (omega arith) sooner) (omega (arith, same))) h.2)
+begin_writable conds n c (stays_open leaf why literals) P done certs first last few sooner later h = later done certs (sooner_later n (suc n) done (omega arith) sooner) h
+begin_writable conds n c spent P done certs first last few sooner later h = later done certs (sooner_later n (suc n) done (omega arith) sooner) h
+
+for_writable : (conds n : ℕ) (cs : List Condition) (ks : List Known) (done certs : Certificates) → 0 < n → n + length cs ≤ conds + 1 → conds < 2 ^ 32 → AreSooner n done → AreFor n cs ks certs → AreWritableBehind conds done certs
+for_writable conds n [] [] done certs first last few sooner h = subst (AreWritableBehind conds done) (sym h) tt
+for_writable conds n [] (k ∷ ks) done certs first last few sooner h = absurd h
+for_writable conds n (c ∷ cs) [] done certs first last few sooner h = absurd h
+for_writable conds n (c ∷ cs) (k ∷ ks) done certs first last few sooner h =
+    begin_writable conds n c k.end (λ ds. AreFor (suc n) cs ks ds) done certs first (omega (arith, last)) few sooner
+    (λ more ds lt g. for_writable conds (suc n) cs ks more ds (omega arith) (omega (arith, last)) few lt g) h
+
+-- they are read for as many conditions as there are
+pub found_is_read : (cs : List Condition) (ks : List Known) (certs : Certificates) → length cs < 2 ^ 32 → AreFor 1 cs ks certs → ReadsFile (length cs) (file_text certs) (Ok certs)
+found_is_read cs ks certs few h = written_is_read (length cs) certs (for_writable (length cs) 1 cs ks [] certs (omega arith) (omega arith) few tt h)
