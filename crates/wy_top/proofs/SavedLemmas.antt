@@ -49,11 +49,13 @@ known_all (c ∷ cs) = record { bad_step = None; end = supplied } ∷ known_all 
 
 are_known : (certs : Certificates) (other n : ℕ) (cs : List Condition) → AreSupplied (verdicts_on certs n cs) → AreKnown certs other n cs (known_all cs)
 are_known certs other n [] given = tt
-are_known certs other n (c ∷ cs) given =
-    (record {
-      bad_step = sym (ap bad_step_of given.0);
-      end = subst (λ (v : Given). EndsSo c other v supplied) (sym given.0) refl;
-    }, are_known certs other (n + 1) cs given.1)
+are_known certs other n (c ∷ cs) given = (
+  record {
+    bad_step = sym (ap bad_step_of given.0);
+    end = subst (λ (v : Given). EndsSo c other v supplied) (sym given.0) refl;
+  },
+  are_known certs other (n + 1) cs given.1,
+)
 
 all_closed : (cs : List Condition) → are_closed (known_all cs) ≡ true
 all_closed [] = refl
@@ -66,7 +68,7 @@ no_lines file n (c ∷ cs) = no_lines file (suc n) cs
 pub saved_is_accepted : SavedIsAccepted
 saved_is_accepted p budget text f closed cert other =
     let given : AreSupplied (verdicts_on f.certificates 1 (conditions_of p)) =
-        subst AreSupplied (sym (found_is_given.given (conditions_of p) f.verdicts f.certificates f.are)) (all_supplied budget 1 (conditions_of p) f.verdicts f.known closed) in
+    subst AreSupplied (sym (found_is_given.given (conditions_of p) f.verdicts f.certificates f.are)) (all_supplied budget 1 (conditions_of p) f.verdicts f.known closed) in
     record {
       program = refl;
       verdicts = known_all (conditions_of p);
