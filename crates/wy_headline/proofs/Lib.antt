@@ -1,3 +1,6 @@
+pub mod SourceLemmas
+pub mod FaultLemmas
+pub mod AcceptedLemmas
 pub mod StartedLemmas
 pub mod RunLemmas
 pub mod EnoughLemmas

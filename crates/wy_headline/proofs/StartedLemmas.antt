@@ -15,7 +15,7 @@ use Rattle.wy_shown_conditions.specs.Certified.{AllHold}
 use Rattle.wy_simulated_programs.specs.Programs.{IsStuck}
 use Rattle.wy_sound_runs.specs.Runs.{RunsRightly}
 use Rattle.wy_step.specs.Step.{State, Runs, Ended, Stuck}
-use Rattle.wy_accepted_runs.proofs.AcceptedLemmas.{sources_rightly}
+use Rattle.wy_headline.proofs.AcceptedLemmas.{sources_rightly}
 use Rattle.wy_supplied.specs.Certificates.{certificates}
 use Rattle.wy_top.specs.Acceptance.{Acceptance, IsAccepted, accepts_file, accepts_source}
 use Rattle.wy_top.specs.Going.{AcceptedRunsGo}

@@ -1,4 +1,5 @@
 -- what public contracts cite
+pub mod Sources
 pub mod Started
 pub mod Runs
 pub mod Commands

@@ -1,14 +1,22 @@
 //! What the commands come to, said by the value semantics.
 //!
+//! A source whose program is typed and assigned, and of which every condition is true, has all that the laws of soundness and of
+//! code ask for (`specs/Sources`, `accepted_runs`). So its code, from any entry on values that meet it, does what the program does:
+//! that is said of whatever code is that of the core, as `generate` of wy_typed_code promises of its answer.
+//!
 //! `run_words` of wy_top says what a run writes by the steps of the code. Here the laws of soundness and of code are put to
 //! that: `specs/Started` says of the program that was started what it is, `specs/Runs` what the sinks take of its run,
 //! `specs/Commands` what the commands that run programs come to, `specs/Seen` that no call has status 13 but one of `prove`, for a
 //! condition that was found and not certified, and `specs/Means` all of it of a call.
 #![tactic(auto)]
 
+mod accepted_runs;
 mod commands;
 mod law;
 
+pub use accepted_runs::{
+    accepted_sources_run_rightly, shown_programs_run_rightly, sources_are_shown,
+};
 pub use commands::run_words;
 pub use law::{
     big_runs_are_right, calls_mean_what_programs_do, enough_steps_end_the_run, runs_are_right,

@@ -1,5 +1,5 @@
 //! What is known of accepted programs and of their code.
-ghost use Rattle.wy_accepted_runs.specs.Sources.{AcceptedSourcesRunRightly, ShownProgramsRunRightly, SourcesAreShown};
+ghost use Rattle.wy_headline.specs.Sources.{AcceptedSourcesRunRightly, ShownProgramsRunRightly, SourcesAreShown};
 
 /// The typed and assigned program of a source, of which every condition is true, is such as the laws of soundness and of code ask
 /// for.

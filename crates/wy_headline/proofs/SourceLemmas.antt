@@ -9,7 +9,7 @@ use Rattle.wy_sourced_code.specs.Cores.{AsCodeAsks}
 use Rattle.wy_sourced_code.proofs.SourceLemmas.{spelled_as_asked}
 use Rattle.wy_sourced_programs.proofs.SourceLemmas.{spelled_sourced}
 use Rattle.wy_typing.specs.Programs.{IsTyped}
-use Rattle.wy_accepted_runs.specs.Sources.{SourcesAreShown}
+use Rattle.wy_headline.specs.Sources.{SourcesAreShown}
 
 pub source_shown : SourcesAreShown
 source_shown bytes core flow p holds =

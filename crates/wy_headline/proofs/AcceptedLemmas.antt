@@ -6,9 +6,9 @@ use Rattle.wy_sem.specs.Precondition.{CalleeMeets, RoutineMeets}
 use Rattle.wy_sound_runs.proofs.ProperLemmas.{values_proper}
 use Rattle.wy_sound_runs.proofs.RunLemmas.{run_rightly}
 use Rattle.wy_value.specs.Seen.{seen}
-use Rattle.wy_accepted_runs.specs.Sources.{AcceptedSourcesRunRightly, ShownProgramsRunRightly}
-use Rattle.wy_accepted_runs.proofs.FaultLemmas.{faultless, values_bounded}
-use Rattle.wy_accepted_runs.proofs.SourceLemmas.{source_shown}
+use Rattle.wy_headline.specs.Sources.{AcceptedSourcesRunRightly, ShownProgramsRunRightly}
+use Rattle.wy_headline.proofs.FaultLemmas.{faultless, values_bounded}
+use Rattle.wy_headline.proofs.SourceLemmas.{source_shown}
 
 pub shown_rightly : ShownProgramsRunRightly
 shown_rightly place core flow h code is f r vs declared values meets =
