@@ -1,0 +1,16 @@
+//! Certificates as far as they are written.
+//!
+//! `draft` has a draft: the steps so far, with the terms that they name, and the node at which the next step stands. `numbers` gives
+//! each literal the number that it has there. `closing` writes steps that close the node, `stating` those that add to it; each
+//! is tested by the checker's own rule for its kind, and what isn't valid isn't written.
+#![tactic(auto)]
+
+mod closing;
+mod draft;
+mod numbers;
+mod stating;
+
+pub use closing::{close_by_clash, close_by_shut, close_by_sum, write_split};
+pub use draft::{Draft, first_draft};
+pub use numbers::literal_number;
+pub use stating::{write_chain, write_cut, write_fact, write_instance, write_product, write_witness};
