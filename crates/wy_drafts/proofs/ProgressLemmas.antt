@@ -31,7 +31,7 @@ goes_self types a = record { more = []; written = sym (append-nil a.steps); lead
 
 -- three lists of steps behind one another
 behind : (a b c xs ys : List Written) → b ≡ a ++ xs → c ≡ b ++ ys → c ≡ a ++ (xs ++ ys)
-behind a b c xs ys first second = second ∙ (ap (λ (zs : List Written). zs ++ ys) first ∙ append_assoc)
+behind a b c xs ys first second = second ∙ (ap (λ (zs : List Written). zs ++ ys) first ∙ append_assoc a xs ys)
 
 pub goes_on : (types : List Entry) (a b c : Progress) → Goes types a b → Goes types b c → Goes types a c
 goes_on types a b c h g = record {
@@ -45,7 +45,7 @@ ends_behind types a b c h g = record {
   more = h.more ++ g.more;
   last = g.last;
   middle = g.middle;
-  written = behind a.steps b.steps c.steps h.more (g.more ++ g.last ∷ []) h.written g.written ∙ ap (λ (zs : List Written). a.steps ++ zs) (sym append_assoc);
+  written = behind a.steps b.steps c.steps h.more (g.more ++ g.last ∷ []) h.written g.written ∙ ap (λ (zs : List Written). a.steps ++ zs) (sym (append_assoc h.more g.more (g.last ∷ [])));
   leads = leads_on types a.node b.node g.middle h.more g.more h.leads g.leads;
   closes = g.closes;
   sorted = g.sorted;
