@@ -4,6 +4,8 @@ pub mod ProgressLemmas
 pub mod DraftLemmas
 -- a node that has no more
 pub mod GrowingLemmas
+-- steps that close a node
+pub mod ClosingLemmas
 -- what steps state, added to a draft
 pub mod StatingLemmas
 -- the numbers of literals
