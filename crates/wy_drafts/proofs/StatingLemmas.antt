@@ -28,8 +28,8 @@ use Rattle.wy_drafts.proofs.DraftLemmas.{seen_draft_stays}
 -- ---- answers
 
 -- a call answers whether something is there, and wherever it answers, this is so
-pub answered : {E : Type 0} (r : Result Bool E) (S : Type 0) (there : Bool) (W : Bool → Type 0) → (S → W there) → OnOk r S → IfOk r (λ yes. yes ≡ there) → IfOk r W
-answered (Ok yes) S there W f h is = subst W (sym is) (f h)
+pub answered : {E : Type 0} (r : Result Bool E) (S : Type 0) (there : Bool) (W : Bool → Type 0) → (S → W there) → OnOk r S → IfOk r (λ b. b ≡ there) → IfOk r W
+answered (Ok b) S there W f h is = subst W (sym is) (f h)
 answered (Err e) S there W f h is = tt
 
 pub some_below : (n : ℕ) (o : Option (Vec ℕ Global)) (ks : Vec ℕ Global) → o ≡ Some ks → IfSome o (λ fs. AreBelow n fs.items) → AreBelow n ks.items
