@@ -232,7 +232,7 @@ module _ (types : List Entry) (May : List Term → Type 0) (Closable : Node → 
       by true f = inl (terms_are s t f)
       by false f =
           let here = labelled_among (present base) (classes (present base) base.literals) s t
-              (ap (λ (b : Bool). b || same_label (label_of (classes (present base) base.literals) (place_from (present base) s 0)) (label_of (classes (present base) base.literals) (place_from (present base) t 0))) (sym f) ∙ e) in
+          (ap (λ (b : Bool). b || same_label (label_of (classes (present base) base.literals) (place_from (present base) s 0)) (label_of (classes (present base) base.literals) (place_from (present base) t 0))) (sym f) ∙ e) in
           inr (record { first = here.0; second = here.1; both = related_classes base.literals Both (present base) relates s t here.0 e })
 
   -- a chain of the two may be taken

@@ -73,3 +73,22 @@ within (m ∷ ls) (suc k) l e = omega (arith, within ls k l e)
 pub number_within : (ls : List Literal) (i : ℕ) (l : Literal) → literal_at ls i ≡ Some l → (k : ℕ) × (k < length ls) × (i ≡ suc k)
 number_within ls zero l e = absurd cc
 number_within ls (suc i) l e = let back : suc i - 1 ≡ i = omega arith in (i, within ls i l (sym (ap (slice_get ls) back) ∙ e), refl)
+
+-- so where none up to the last clashes, none does
+pub none_alone : (ls : List Literal) (n : ℕ) → length ls ≤ n → ((i : ℕ) → i < n → is_clash ls (suc i) None ≡ Some true → ⊥) → NoneClashes ls
+none_alone ls n le far i e =
+    let h = alone_is ls i e in
+    let k = number_within ls i h.0 h.1 in
+    far k.0 (omega (arith, k.1, le)) (subst (λ (j : ℕ). is_clash ls j None ≡ Some true) k.2 e)
+
+pub none_with : (ls : List Literal) (i n : ℕ) → length ls ≤ n → ((j : ℕ) → j < n → is_clash ls i (Some (suc j)) ≡ Some true → ⊥) → ClashesWithNone ls i
+none_with ls i n le far j e =
+    let h = together_is ls i j e in
+    let k = number_within ls j h.second h.there in
+    far k.0 (omega (arith, k.1, le)) (subst (λ (o : ℕ). is_clash ls i (Some o) ≡ Some true) k.2 e)
+
+pub none_together : (ls : List Literal) (n : ℕ) → length ls ≤ n → ((i : ℕ) → i < n → ClashesWithNone ls (suc i)) → NoTwoClash ls
+none_together ls n le far i j e =
+    let h = together_is ls i j e in
+    let k = number_within ls i h.first h.here in
+    far k.0 (omega (arith, k.1, le)) j (subst (λ (o : ℕ). is_clash ls o (Some j) ≡ Some true) k.2 e)

@@ -75,7 +75,6 @@ stated types ts node next e =
 none_stated : (types : List Entry) (ts fs : List Term) (node : Node) → after types node (chain ts) ≡ None → chain_stated node.literals ts ≡ Some fs → ⊥
 none_stated types ts fs node e f = let there : after types node (chain ts) ≡ Some (with_formulas node fs ∷ []) = ap (λ (o : Option (List Term)). o >>= left_with node) f in absurd cc
 
-
 chain_still : (types : List Entry) (ts : List Term) (old new : Progress) (yes : Bool) → Writes types (chain ts) old new yes → length new.node.literals ≡ length old.node.literals → length new.node.pending ≡ length old.node.pending → (new.node ≡ old.node) × AddsNothing old.node ts
 chain_still types ts old new false w ls fs = (ap (λ (p : Progress). p.node) w.1, λ gs e. absurd (none_stated types ts gs old.node w.0 e))
 chain_still types ts old new true w ls fs =
@@ -104,3 +103,6 @@ grows_on types P Q R a b c x y both first second = record {
       let s = second.still o.1 in
       (s.0 ∙ f.0, both a.node f.1 (subst Q f.0 s.1));
 }
+
+pub grows_weaker : (types : List Entry) (P Q : Node → Type 0) (a b : Progress) (x : Bool) → ((n : Node) → P n → Q n) → Grows types P a b x → Grows types Q a b x
+grows_weaker types P Q a b x weaker h = record { goes = h.goes; still = λ un. let s = h.still un in (s.0, weaker a.node s.1) }

@@ -15,11 +15,7 @@ use wy_drafts::Draft;
 use wy_term::{NoMemory, Terms};
 
 /// Writes chains between terms of one class until none adds anything.
-pub fn saturate(
-    terms: &mut Terms,
-    draft: &mut Draft,
-    labelled: &Labelled,
-) -> Result<(), NoMemory>
+pub fn saturate(terms: &mut Terms, draft: &mut Draft, labelled: &Labelled) -> Result<(), NoMemory>
     requires draft { IsDraft terms.old draft.old }
     requires present { IsPresent terms.old labelled.now.present }
     ensures goes { (types : List Entry) (ts : List Term) → ArePresent terms.old labelled.now.present ts → OnOk result (Goes types (seen_draft (tree_at terms.old) draft.old) (seen_draft (tree_at terms.new) draft.new)) }

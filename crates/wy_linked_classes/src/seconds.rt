@@ -64,11 +64,7 @@ fn link_seconds(
 
 /// The chains of two terms of one class and of three, one after the other: those that are valid and add anything are written. Says whether
 /// any was. It takes the time of a chain for each three terms of one class.
-pub fn link_all(
-    terms: &mut Terms,
-    draft: &mut Draft,
-    labelled: &Labelled,
-) -> Result<bool, NoMemory>
+pub fn link_all(terms: &mut Terms, draft: &mut Draft, labelled: &Labelled) -> Result<bool, NoMemory>
     requires draft { IsDraft terms.old draft.old }
     requires present { IsPresent terms.old labelled.now.present }
     ensures value { (types : List Entry) (ts : List Term) → ArePresent terms.old labelled.now.present ts → IfOk result (Grows types (IsSaturated ts labelled.now.labels.items) (seen_draft (tree_at terms.old) draft.old) (seen_draft (tree_at terms.new) draft.new)) }
