@@ -1,6 +1,7 @@
 -- A clash of a node is one of each that has its literals, by other numbers.
-use Rattle.std.proofs.Common.{◌≡◌, ◌∙◌, ◌<◌, ◌-◌, ℕ, zero, suc, List, [], ◌∷◌, length, Bool, true, false, cond, eqb, Option, Some, None, refl, ap, sym, subst, arith}
+use Rattle.std.proofs.Common.{◌≡◌, ◌∙◌, ◌<◌, ◌≤◌, ◌-◌, ℕ, zero, suc, List, [], ◌∷◌, length, Bool, true, false, cond, eqb, Option, Some, None, refl, ap, sym, subst, arith}
 use Rattle.std.specs.Prelude.{slice_get}
+use Rattle.std.proofs.Math.Dec.{eqb-suc-zero}
 use Rattle.wy_judge.specs.Node.{Literal, Node, has_literal}
 use Rattle.wy_lin.specs.Linear.{◌>>=◌}
 use Rattle.wy_lin.proofs.OptionLemmas.{bind_some, some_is}
@@ -19,9 +20,14 @@ nth_there [] k l e = absurd cc
 nth_there (m ∷ ls) zero l e = subst (λ (x : Literal). has_literal (m ∷ ls) x ≡ true) (some_is m l e) (has_first m ls)
 nth_there (m ∷ ls) (suc k) l e = has_later m l ls (nth_there ls k l e)
 
+above : (ls : List Literal) (i : ℕ) (l : Literal) → literal_at ls (suc i) ≡ Some l → slice_get ls i ≡ Some l
+above ls i l e =
+    let back : suc i - 1 ≡ i = omega arith in
+    sym (ap (slice_get ls) back) ∙ (sym (ap (λ (b : Bool). cond b None (slice_get ls (suc i - 1))) (eqb-suc-zero i)) ∙ e)
+
 numbered_there : (ls : List Literal) (i : ℕ) (l : Literal) → literal_at ls i ≡ Some l → has_literal ls l ≡ true
 numbered_there ls zero l e = absurd cc
-numbered_there ls (suc i) l e = nth_there ls (suc i - 1) l e
+numbered_there ls (suc i) l e = nth_there ls i l (above ls i l e)
 
 -- ---- clashes
 
@@ -72,7 +78,7 @@ within (m ∷ ls) (suc k) l e = omega (arith, within ls k l e)
 -- a literal's number is the one above its place
 pub number_within : (ls : List Literal) (i : ℕ) (l : Literal) → literal_at ls i ≡ Some l → (k : ℕ) × (k < length ls) × (i ≡ suc k)
 number_within ls zero l e = absurd cc
-number_within ls (suc i) l e = let back : suc i - 1 ≡ i = omega arith in (i, within ls i l (sym (ap (slice_get ls) back) ∙ e), refl)
+number_within ls (suc i) l e = (i, within ls i l (above ls i l e), refl)
 
 -- so where none up to the last clashes, none does
 pub none_alone : (ls : List Literal) (n : ℕ) → length ls ≤ n → ((i : ℕ) → i < n → is_clash ls (suc i) None ≡ Some true → ⊥) → NoneClashes ls

@@ -75,7 +75,7 @@ stated types ts node next e =
 none_stated : (types : List Entry) (ts fs : List Term) (node : Node) → after types node (chain ts) ≡ None → chain_stated node.literals ts ≡ Some fs → ⊥
 none_stated types ts fs node e f = let there : after types node (chain ts) ≡ Some (with_formulas node fs ∷ []) = ap (λ (o : Option (List Term)). o >>= left_with node) f in absurd cc
 
-chain_still : (types : List Entry) (ts : List Term) (old new : Progress) (yes : Bool) → Writes types (chain ts) old new yes → length new.node.literals ≡ length old.node.literals → length new.node.pending ≡ length old.node.pending → (new.node ≡ old.node) × AddsNothing old.node ts
+chain_still : (types : List Entry) (ts : List Term) (old new : Progress) (valid : Bool) → Writes types (chain ts) old new valid → length new.node.literals ≡ length old.node.literals → length new.node.pending ≡ length old.node.pending → (new.node ≡ old.node) × AddsNothing old.node ts
 chain_still types ts old new false w ls fs = (ap (λ (p : Progress). p.node) w.1, λ gs e. absurd (none_stated types ts gs old.node w.0 e))
 chain_still types ts old new true w ls fs =
     let h = stated types ts old.node new.node w.0 in
@@ -83,10 +83,10 @@ chain_still types ts old new true w ls fs =
     let same = as_long old.node new.node behind ls fs in
     (same, λ gs e. ap (with_formulas old.node) (some_is gs h.formulas (sym e ∙ h.stated)) ∙ (sym h.leads ∙ same))
 
-pub chain_grows : (types : List Entry) (ts : List Term) (old new : Progress) (yes grew : Bool) → AreSortedTerms ts → Writes types (chain ts) old new yes → (grew ≡ false → (length new.node.literals ≡ length old.node.literals) × (length new.node.pending ≡ length old.node.pending)) → Grows types (λ node. AddsNothing node ts) old new grew
-chain_grows types ts old new yes grew sorted w long = record {
-  goes = writes_goes types (chain ts) old new yes sorted w;
-  still = λ un. let h = long un in chain_still types ts old new yes w h.0 h.1;
+pub chain_grows : (types : List Entry) (ts : List Term) (old new : Progress) (valid grew : Bool) → AreSortedTerms ts → Writes types (chain ts) old new valid → (grew ≡ false → (length new.node.literals ≡ length old.node.literals) × (length new.node.pending ≡ length old.node.pending)) → Grows types (λ node. AddsNothing node ts) old new grew
+chain_grows types ts old new valid grew sorted w long = record {
+  goes = writes_goes types (chain ts) old new valid sorted w;
+  still = λ un. let h = long un in chain_still types ts old new valid w h.0 h.1;
 }
 
 -- ---- one after the other

@@ -86,7 +86,7 @@ module _ (types : List Entry) (base m : Node) (least : ClassesAreCongruent) (is 
   sorted : IsSortedNode base
   sorted = record { literals = literals_sorted base.literals is.literals; pending = is.pending }
 
-  OneClass : Term → Term → Type 0
+  abbrev OneClass : Term → Term → Type 0
   OneClass s t = in_one_class (present base) (classes (present base) base.literals) s t ≡ true
 
   may_link : MayLink base OneClass (AddsNothing m)
