@@ -38,5 +38,5 @@ number_there at ps p i k found is =
     ∙ (slice_get-map (seen_literal at) ps i
     ∙ ap (option_map (seen_literal at)) here))
 
-pub number_lacking : (at : ℕ → Term) (n : ℕ) → NamesOnce at n → (ps : List (ℕ × Bool)) (p : ℕ × Bool) (o : Option ℕ) → AreOver n ps → p.0 < n → is_some o ≡ list_any (same_signed p) ps → None ≡ o → has_literal (map (seen_literal at) ps) (seen_literal at p) ≡ false
-number_lacking at n once ps p o over lt found none = among at n once ps p over lt ∙ (sym found ∙ ap (λ (q : Option ℕ). is_some q) (sym none))
+pub number_lacking : (at : ℕ → Term) (n : ℕ) → NamesOnce at n → (ps : List (ℕ × Bool)) (p : ℕ × Bool) (o : Option ℕ) → AreOver n ps → p.0 < n → is_some o ≡ list_any (same_signed p) ps → o ≡ None → has_literal (map (seen_literal at) ps) (seen_literal at p) ≡ false
+number_lacking at n once ps p o over lt found none = among at n once ps p over lt ∙ (sym found ∙ ap (λ (q : Option ℕ). is_some q) none)

@@ -28,8 +28,8 @@ use Rattle.wy_drafts.proofs.DraftLemmas.{seen_draft_stays}
 -- ---- answers
 
 -- a call answers whether something is there, and wherever it answers, this is so
-pub answered : {E : Type 0} (r : Result Bool E) (S : Type 0) (there : Bool) (W : Bool → Type 0) → (S → W there) → OnOk r S → IfOk r (λ yes. yes ≡ there) → IfOk r W
-answered (Ok yes) S there W f h is = subst W (sym is) (f h)
+pub answered : {E : Type 0} (r : Result Bool E) (S : Type 0) (there : Bool) (W : Bool → Type 0) → (S → W there) → OnOk r S → IfOk r (λ b. b ≡ there) → IfOk r W
+answered (Ok b) S there W f h is = subst W (sym is) (f h)
 answered (Err e) S there W f h is = tt
 
 pub some_below : (n : ℕ) (o : Option (Vec ℕ Global)) (ks : Vec ℕ Global) → o ≡ Some ks → IfSome o (λ fs. AreBelow n fs.items) → AreBelow n ks.items
@@ -81,8 +81,11 @@ module _ (types : List Entry) (old new : List Plain) (d e : Draft) (stays : Stay
   pub witness_written : (i : ℕ) (o : Option (Vec ℕ Global)) → option_map (λ fs. terms_at new fs.items) o ≡ witness_stated (seen_draft (tree_at old) d).node i → States (wit i) (option_map (λ fs. terms_at new fs.items) o) (seen_draft (tree_at new) d) (seen_draft (tree_at new) e) → Writes types (wit i) (seen_draft (tree_at old) d) (seen_draft (tree_at new) e) (is_some o)
   witness_written i o gave h = all_stated (wit i) (wit i) o refl (wit_led types (seen_draft (tree_at old) d).node i (option_map (λ (fs : Vec ℕ Global). terms_at new fs.items) o) gave) h
 
-  pub cut_written : (c : ℕ) (pairs : List (ℕ × ℕ)) (o : Option ℕ) → option_map (tree_at new) o ≡ (summed (seen_draft (tree_at old) d).node.literals pairs >>= λ f. cut_of c f) → States (cut c pairs) (option_map (λ f. tree_at new f ∷ []) o) (seen_draft (tree_at new) d) (seen_draft (tree_at new) e) → Writes types (cut c pairs) (seen_draft (tree_at old) d) (seen_draft (tree_at new) e) (is_some o)
-  cut_written c pairs o gave h = one_stated (cut c pairs) (cut c pairs) o refl (cut_led types (seen_draft (tree_at old) d).node c pairs (option_map (tree_at new) o) gave) h
+  pub cut_written : (c : ℕ) (ps pairs : List (ℕ × ℕ)) (o : Option ℕ) → ps ≡ pairs → option_map (tree_at new) o ≡ (summed (seen_draft (tree_at old) d).node.literals ps >>= λ f. cut_of c f) → States (cut c pairs) (option_map (λ f. tree_at new f ∷ []) o) (seen_draft (tree_at new) d) (seen_draft (tree_at new) e) → Writes types (cut c pairs) (seen_draft (tree_at old) d) (seen_draft (tree_at new) e) (is_some o)
+  cut_written c ps pairs o same gave h =
+      let node = (seen_draft (tree_at old) d).node in
+      let stated = gave ∙ ap (λ (xs : List (ℕ × ℕ)). summed node.literals xs >>= λ f. cut_of c f) same in
+      one_stated (cut c pairs) (cut c pairs) o refl (cut_led types node c pairs (option_map (tree_at new) o) stated) h
 
   pub instance_written : (i t : ℕ) (o : Option ℕ) → t < length old → option_map (tree_at new) o ≡ instance_stated (seen_draft (tree_at old) d).node.literals i (tree_at old t) → States (inst i (tree_at new t)) (option_map (λ f. tree_at new f ∷ []) o) (seen_draft (tree_at new) d) (seen_draft (tree_at new) e) → Writes types (inst i (tree_at old t)) (seen_draft (tree_at old) d) (seen_draft (tree_at new) e) (is_some o)
   instance_written i t o below gave h =
