@@ -18,7 +18,7 @@ pub struct Labelled {
 }
 
 /// Those of a node.
-pub fn labelled(terms: &Terms, base: &Branch) -> Result<Labelled, NoMemory>
+pub fn labelled_terms(terms: &Terms, base: &Branch) -> Result<Labelled, NoMemory>
     requires { IsBranch terms.now base.now }
     ensures terms { IfOk result (λ l. terms_of (tree_at terms.now) l.present ≡ present (seen_branch (tree_at terms.now) base.now)) }
     ensures labels { IfOk result (λ l. l.labels.items ≡ search.classes (present (seen_branch (tree_at terms.now) base.now)) (seen_branch (tree_at terms.now) base.now).literals) }

@@ -8,7 +8,7 @@ ghost use Rattle.wy_term.specs.Condition.{Entry};
 ghost use Rattle.wy_term.specs.Nodes.{tree_at};
 
 use crate::clashing::close_at_once;
-use crate::labelled::labelled;
+use crate::labelled::labelled_terms;
 use crate::rounds::saturate;
 use wy_drafts::Draft;
 use wy_judging::Branch;
@@ -30,7 +30,7 @@ pub fn close_by_classes(
     ensures stays { Stays terms.old terms.new }
 {
     classes_are_least();
-    let labelled = labelled(terms, base)?;
+    let labelled = labelled_terms(terms, base)?;
     saturate(terms, draft, &labelled)?;
     close_at_once(terms, draft)
 }
