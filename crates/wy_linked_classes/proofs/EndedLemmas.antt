@@ -7,6 +7,7 @@ use Rattle.wy_cert.specs.Steps.{Written, shut, clash}
 use Rattle.wy_lin.specs.Linear.{◌>>=◌}
 use Rattle.wy_valid.specs.Literals.{only_if, is_shut}
 use Rattle.wy_valid.specs.Validity.{after, closed, is_clash}
+use Rattle.wy_sound_certificates.specs.Sortedness.{IsSortedStep}
 use Rattle.wy_drafts.specs.Progress.{Progress, Closes, Ends}
 use Rattle.wy_drafts.proofs.ProgressLemmas.{closes_ends}
 use Rattle.wy_linked_classes.specs.Ended.{ClashesWithNone, EndsUnless, IsOpen, NoTwoClash, NoneClashes}
@@ -22,6 +23,31 @@ not_shut types old new h = by (is_shut old.node) refl
     by : (b : Bool) → is_shut old.node ≡ b → is_shut old.node ≡ false
     by false e = e
     by true e = let never = sym h.0 ∙ ap (λ (b : Bool). only_if b closed) e in absurd cc
+
+-- ---- behind steps that leave the draft as it was
+
+pub ends_from : (types : List Entry) (s : Written) (a b c : Progress) (closes : Bool) → IsSortedStep s → b ≡ a → closes ≡ true → Closes types s b c closes → Ends types a c
+ends_from types s a b c closes sorted same up h = subst (λ (p : Progress). Ends types p c) same (closes_ends types s b c sorted (subst (Closes types s b c) up h))
+
+pub no_clash_from : (types : List Entry) (i : ℕ) (other : Option ℕ) (a b c : Progress) (closes : Bool) → b ≡ a → closes ≡ false → Closes types (clash i other) b c closes → (c ≡ a) × (is_clash a.node.literals i other ≡ Some true → ⊥)
+no_clash_from types i other a b c closes same un h =
+    let g : Closes types (clash i other) b c false = subst (Closes types (clash i other) b c) un h in
+    (g.1 ∙ same, λ e. not_clashing types i other b c g (ap (λ (p : Progress). is_clash p.node.literals i other) same ∙ e))
+
+pub ended : (P : Node → Type 0) (types : List Entry) (a b c : Progress) (ends : Bool) → b ≡ a → ends ≡ true → EndsUnless P types b c ends → Ends types a c
+ended P types a b c ends same up h = subst (λ (p : Progress). Ends types p c) same (subst (EndsUnless P types b c) up h)
+
+pub not_ended : (P : Node → Type 0) (types : List Entry) (a b c : Progress) (ends : Bool) → b ≡ a → ends ≡ false → EndsUnless P types b c ends → (c ≡ a) × P a.node
+not_ended P types a b c ends same un h =
+    let g : EndsUnless P types b c false = subst (EndsUnless P types b c) un h in
+    (g.0 ∙ same, subst (λ (p : Progress). P p.node) same g.1)
+
+-- the last of what is tried
+pub all_tried : (types : List Entry) (a b c : Progress) (ends : Bool) → b ≡ a → is_shut a.node ≡ false → NoneClashes a.node.literals → EndsUnless (λ node. NoTwoClash node.literals) types b c ends → EndsUnless IsOpen types a c ends
+all_tried types a b c true same shut alone h = subst (λ (p : Progress). Ends types p c) same h
+all_tried types a b c false same shut alone h =
+    let g = not_ended (λ node. NoTwoClash node.literals) types a b c false same refl h in
+    (g.0, record { shut = shut; alone = alone; together = g.1 })
 
 -- ---- numbers up to this one
 

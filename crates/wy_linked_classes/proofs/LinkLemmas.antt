@@ -1,6 +1,7 @@
 -- Chains that are written one after the other, for each term of a list.
-use Rattle.std.proofs.Common.{◌≡◌, ◌∙◌, ◌<◌, ◌≤◌, ◌+◌, ◌||◌, ℕ, zero, suc, List, [], ◌∷◌, map, length, Bool, true, false, cond, eqb, refl, ap, sym, subst, arith}
-use Rattle.std.specs.Prelude.{slice_index}
+use Rattle.std.proofs.Common.{◌≡◌, ◌∙◌, ◌<◌, ◌≤◌, ◌+◌, ◌||◌, ℕ, zero, suc, List, [], ◌∷◌, map, length, Bool, true, false, cond, eqb, Some, refl, ap, sym, subst, arith}
+use Rattle.std.specs.Prelude.{slice_get, slice_index}
+use Rattle.std.proofs.lemmas.List.{get_or_read}
 use Rattle.std.proofs.lemmas.Bool.{eqb-true, eqb-false}
 use Rattle.wy_term.specs.Term.{Term}
 use Rattle.wy_term.specs.Same.{same_term}
@@ -17,8 +18,8 @@ use Rattle.wy_classes.specs.Seen.{terms_of, IsPresent}
 use Rattle.wy_sound_certificates.specs.Sortedness.{AreSortedTerms}
 use Rattle.wy_chains.proofs.KindLemmas.{formula_first, formula_later}
 use Rattle.wy_drafts.specs.Progress.{Progress}
-use Rattle.wy_linked_classes.specs.Grown.{Grows}
-use Rattle.wy_linked_classes.specs.Links.{ArePresent, IsOneOf}
+use Rattle.wy_linked_classes.specs.Grown.{AddsNothing, Grows}
+use Rattle.wy_linked_classes.specs.Links.{ArePresent, IsOneOf, SecondAddsNothing, ThirdsAddNothing}
 use Rattle.wy_linked_classes.proofs.GrownLemmas.{grows_none, grows_on, grows_weaker}
 
 -- ---- terms of a list
@@ -57,11 +58,24 @@ pub one_stays : (old new : List Plain) (ts : List Term) (k : ℕ) (t : Term) →
 one_stays old new ts k t stays lt is = record { named = stays.trees k lt ∙ is.named; among = is.among }
 
 -- the term at a place
-pub nth_of : (old now : List Plain) (p : Present) (ts : List Term) (i k : ℕ) → Stays old now → IsPresent old p → ArePresent old p ts → i < length p.numbers.items → k ≡ slice_index p.numbers.items i → k < length old → IsOneOf now ts k (tree_at old (slice_index p.numbers.items i))
-nth_of old now p ts i k stays is are lt same below = record {
-  named = stays.trees k below ∙ ap (tree_at old) same;
-  among = subst (λ (us : List Term). IsAmong us (tree_at old (slice_index p.numbers.items i))) are.seen (nth_among (tree_at old) p.numbers.items i lt);
-}
+pub nth_of : (old now : List Plain) (p : Present) (ts : List Term) (i k : ℕ) → Stays old now → IsPresent old p → ArePresent old p ts → i < length p.numbers.items → slice_get p.numbers.items i ≡ Some k → IsOneOf now ts k (tree_at old (slice_index p.numbers.items i))
+nth_of old now p ts i k stays is are lt here =
+    let same : k ≡ slice_index p.numbers.items i = get_or_read p.numbers.items i k lt here 0 in
+    let below : k < length old = omega (arith, same, is.below i 0 lt) in
+    record {
+      named = stays.trees k below ∙ ap (tree_at old) same;
+      among = subst (λ (us : List Term). IsAmong us (tree_at old (slice_index p.numbers.items i))) are.seen (nth_among (tree_at old) p.numbers.items i lt);
+    }
+
+-- two terms and three, as their numbers name them
+pub one_named : (nodes : List Plain) (ts : List Term) (k : ℕ) (t : Term) → AreSortedTerms ts → IsOneOf nodes ts k t → IsSorted (tree_at nodes k)
+one_named nodes ts k t sorted is = subst IsSorted (sym is.named) (one_sorted ts t sorted is.among)
+
+pub two_named : (nodes : List Plain) (ts : List Term) (i j : ℕ) (s t : Term) → IsOneOf nodes ts i s → IsOneOf nodes ts j t → tree_at nodes i ∷ tree_at nodes j ∷ [] ≡ s ∷ t ∷ []
+two_named nodes ts i j s t f g = ap (λ (x : Term). x ∷ tree_at nodes j ∷ []) f.named ∙ ap (λ (x : Term). s ∷ x ∷ []) g.named
+
+pub three_named : (nodes : List Plain) (ts : List Term) (i j k : ℕ) (s t u : Term) → IsOneOf nodes ts i s → IsOneOf nodes ts j t → IsOneOf nodes ts k u → tree_at nodes i ∷ tree_at nodes j ∷ tree_at nodes k ∷ [] ≡ s ∷ t ∷ u ∷ []
+three_named nodes ts i j k s t u f g h = ap (λ (x : Term). x ∷ tree_at nodes j ∷ tree_at nodes k ∷ []) f.named ∙ ap (λ (xs : List Term). s ∷ xs) (two_named nodes ts j k t u g h)
 
 -- ---- so far
 
@@ -87,3 +101,11 @@ up_to_all types P old p ts n a b x are le far =
     grows_weaker types (UpTo P (tree_at old) p.numbers.items n) (λ node. (t : Term) → IsAmong ts t → P t node) a b x
     (λ node each t there. each_among (tree_at old) p.numbers.items (λ u. P u node) (λ i lt. each i (omega (arith, lt, le))) t (subst (λ (us : List Term). IsAmong us t) (sym are.seen) there))
     far
+
+-- ---- the chains that begin with two terms
+
+-- a chain of the two, and then those with a third
+pub behind_two : (types : List Entry) (ts : List Term) (labels : List ℕ) (s t : Term) (two : List Term) (a b c : Progress) (x y : Bool) → two ≡ s ∷ t ∷ [] → Grows types (λ node. AddsNothing node two) a b x → Grows types (ThirdsAddNothing ts labels s t) b c y → Grows types (SecondAddsNothing ts labels s t) a c (x || y)
+behind_two types ts labels s t two a b c x y same =
+    grows_on types (λ node. AddsNothing node two) (ThirdsAddNothing ts labels s t) (SecondAddsNothing ts labels s t) a b c x y
+    (λ node pair thirds one. record { pair = subst (AddsNothing node) same pair; thirds = thirds })

@@ -9,8 +9,8 @@ use Rattle.wy_linked_classes.specs.Links.{ArePresent}
 use Rattle.wy_linked_classes.proofs.rounds.saturate.Given as goal
 
 -- steps were written
-abbrev pub invariant-loop-_round : goal.invariant-loop-_round
-invariant-loop-_round l = record {
+abbrev pub invariant-loop-round : goal.invariant-loop-round
+invariant-loop-round l = record {
   draft : IsDraft l.terms l.draft;
   stays : Stays l.fn.terms l.terms;
   goes : (types : List Entry) (ts : List Term) → ArePresent l.fn.terms l.labelled.present ts → Goes types (seen_draft (tree_at l.fn.terms) l.fn.draft) (seen_draft (tree_at l.terms) l.draft);
