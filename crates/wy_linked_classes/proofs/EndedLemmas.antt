@@ -44,10 +44,10 @@ not_ended P types a b c ends same un h =
 
 -- the last of what is tried
 pub all_tried : (types : List Entry) (a b c : Progress) (ends : Bool) → b ≡ a → is_shut a.node ≡ false → NoneClashes a.node.literals → EndsUnless (λ node. NoTwoClash node.literals) types b c ends → EndsUnless IsOpen types a c ends
-all_tried types a b c true same shut alone h = subst (λ (p : Progress). Ends types p c) same h
-all_tried types a b c false same shut alone h =
+all_tried types a b c true same unshut alone h = subst (λ (p : Progress). Ends types p c) same h
+all_tried types a b c false same unshut alone h =
     let g = not_ended (λ node. NoTwoClash node.literals) types a b c false same refl h in
-    (g.0, record { shut = shut; alone = alone; together = g.1 })
+    (g.0, record { shut = unshut; alone = alone; together = g.1 })
 
 -- ---- numbers up to this one
 

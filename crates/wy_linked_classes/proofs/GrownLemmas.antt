@@ -106,3 +106,7 @@ grows_on types P Q R a b c x y both first second = record {
 
 pub grows_weaker : (types : List Entry) (P Q : Node → Type 0) (a b : Progress) (x : Bool) → ((n : Node) → P n → Q n) → Grows types P a b x → Grows types Q a b x
 grows_weaker types P Q a b x weaker h = record { goes = h.goes; still = λ un. let s = h.still un in (s.0, weaker a.node s.1) }
+
+-- what is so of the node where nothing was added is so of the new one
+pub grown_still : (types : List Entry) (P : Node → Type 0) (a b : Progress) (x : Bool) → x ≡ false → Grows types P a b x → P b.node
+grown_still types P a b x un h = let s = h.still un in subst P (sym s.0) s.1

@@ -1,6 +1,6 @@
 -- Chains that are written one after the other, for each term of a list.
-use Rattle.std.proofs.Common.{◌≡◌, ◌∙◌, ◌<◌, ◌≤◌, ◌+◌, ◌||◌, ℕ, zero, suc, List, [], ◌∷◌, map, length, Bool, true, false, cond, eqb, Some, refl, ap, sym, subst, arith}
-use Rattle.std.specs.Prelude.{slice_get, slice_index}
+use Rattle.std.proofs.Common.{◌≡◌, ◌∙◌, ◌<◌, ◌≤◌, ◌+◌, ◌||◌, ℕ, zero, suc, List, [], ◌∷◌, map, length, Bool, true, false, cond, eqb, get_or, refl, ap, sym, subst, arith}
+use Rattle.std.specs.Prelude.{slice_index}
 use Rattle.std.proofs.lemmas.List.{get_or_read}
 use Rattle.std.proofs.lemmas.Bool.{eqb-true, eqb-false}
 use Rattle.wy_term.specs.Term.{Term}
@@ -58,7 +58,7 @@ pub one_stays : (old new : List Plain) (ts : List Term) (k : ℕ) (t : Term) →
 one_stays old new ts k t stays lt is = record { named = stays.trees k lt ∙ is.named; among = is.among }
 
 -- the term at a place
-pub nth_of : (old now : List Plain) (p : Present) (ts : List Term) (i k : ℕ) → Stays old now → IsPresent old p → ArePresent old p ts → i < length p.numbers.items → slice_get p.numbers.items i ≡ Some k → IsOneOf now ts k (tree_at old (slice_index p.numbers.items i))
+pub nth_of : (old now : List Plain) (p : Present) (ts : List Term) (i k : ℕ) → Stays old now → IsPresent old p → ArePresent old p ts → i < length p.numbers.items → k ≡ get_or p.numbers.items i k → IsOneOf now ts k (tree_at old (slice_index p.numbers.items i))
 nth_of old now p ts i k stays is are lt here =
     let same : k ≡ slice_index p.numbers.items i = get_or_read p.numbers.items i k lt here 0 in
     let below : k < length old = omega (arith, same, is.below i 0 lt) in

@@ -16,16 +16,18 @@ use Rattle.wy_sound_certificates.specs.Sortedness.{AreSortedTerms}
 use Rattle.wy_sound_certificates.proofs.Basics.{only_some, two_ways}
 use Rattle.wy_sound_certificates.proofs.NodeLemmas.{IsSortedNode}
 use Rattle.wy_closing.specs.AtLeast.{IsAtLeast}
-use Rattle.wy_closing.proofs.AtLeastLemmas.{at_least_formulas, shuts_more}
+use Rattle.wy_closing.proofs.AtLeastLemmas.{at_least_on, at_least_formulas, shuts_more}
 use Rattle.wy_chains.specs.Chains.{HasLiterals}
 use Rattle.wy_chains.proofs.LinkLemmas.{AreLinked, linked_more}
 use Rattle.wy_chains.proofs.ChainLemmas.{ByChains}
 use Rattle.wy_chains.proofs.ClassLemmas.{MayLink, class_reached}
 use Rattle.wy_chains.proofs.ClashLemmas.{clashes_close, literals_sorted}
-use Rattle.wy_linked_classes.specs.Linked.{IsBase, AreLinkedClasses}
+use Rattle.wy_drafts.specs.Progress.{Progress, Goes}
+use Rattle.wy_drafts.proofs.ProgressLemmas.{ends_behind, goes_more}
+use Rattle.wy_linked_classes.specs.Linked.{IsBase, AreLinkedClasses, LinksOrEnds}
 use Rattle.wy_linked_classes.specs.Grown.{AddsNothing}
 use Rattle.wy_linked_classes.specs.Links.{IsSaturated}
-use Rattle.wy_linked_classes.specs.Ended.{IsOpen}
+use Rattle.wy_linked_classes.specs.Ended.{EndsUnless, IsOpen}
 use Rattle.wy_linked_classes.proofs.ChainLemmas.{chain_more}
 use Rattle.wy_linked_classes.proofs.ClashLemmas.{none_less}
 use Rattle.wy_linked_classes.proofs.GrownLemmas.{stated}
@@ -82,9 +84,12 @@ module _ (m : Node) (open_node : IsOpen m) where
 
 -- ---- a saturated node
 
+pub base_sorted : (base m : Node) → IsBase base m → IsSortedNode base
+base_sorted base m is = record { literals = literals_sorted base.literals is.literals; pending = is.pending }
+
 module _ (types : List Entry) (base m : Node) (least : ClassesAreCongruent) (is : IsBase base m) (saturated : IsSaturated (present base) (classes (present base) base.literals) m) (open_node : IsOpen m) where
   sorted : IsSortedNode base
-  sorted = record { literals = literals_sorted base.literals is.literals; pending = is.pending }
+  sorted = base_sorted base m is
 
   abbrev OneClass : Term → Term → Type 0
   OneClass s t = in_one_class (present base) (classes (present base) base.literals) s t ≡ true
@@ -109,3 +114,10 @@ module _ (types : List Entry) (base m : Node) (least : ClassesAreCongruent) (is 
       by false e = e
       by true e =
           absurd (clashes_close types (AddsNothing m) (λ n. IsAtLeast n m → ⊥) (by_chains m open_node types ⊥) base sorted OneClass may_link is.folded e base (record { has = λ l there. there }) is.at_least)
+
+-- steps that lead to a saturated node, and one that closes it or none
+pub linked_or_ended : (types : List Entry) (base : Node) (a b c : Progress) (ends : Bool) → ClassesAreCongruent → IsBase base a.node → IsSaturated (present base) (classes (present base) base.literals) b.node → Goes types a b → EndsUnless IsOpen types b c ends → LinksOrEnds types base a c ends
+linked_or_ended types base a b c true least is saturated goes h = ends_behind types a b c goes h
+linked_or_ended types base a b c false least is saturated goes h =
+    let above : IsBase base b.node = record { literals = is.literals; pending = is.pending; folded = is.folded; at_least = at_least_on base a.node b.node is.at_least (goes_more types a b goes) } in
+    subst (λ (p : Progress). LinksOrEnds types base a p false) (sym h.0) (goes, classes_linked types base b.node least above saturated h.1, no_clash types base b.node least above saturated h.1)
