@@ -37,7 +37,7 @@ fn link_second(
     }
     let grew = link(terms, draft, &[s, t])?;
     let more = link_thirds(terms, draft, labelled, s, t)?;
-    Ok(grew || more)
+    Ok(grew | more)
 }
 
 // So for a term and each other.
@@ -57,7 +57,7 @@ fn link_seconds(
     let mut grew = false;
     for j in 0..labelled.present.numbers.len() {
         let more = link_second(terms, draft, labelled, s, labelled.present.numbers[j])?;
-        grew = grew || more;
+        grew |= more;
     }
     Ok(grew)
 }
@@ -74,7 +74,7 @@ pub fn link_all(terms: &mut Terms, draft: &mut Draft, labelled: &Labelled) -> Re
     let mut grew = false;
     for i in 0..labelled.present.numbers.len() {
         let more = link_seconds(terms, draft, labelled, labelled.present.numbers[i])?;
-        grew = grew || more;
+        grew |= more;
     }
     Ok(grew)
 }

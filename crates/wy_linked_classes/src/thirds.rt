@@ -58,7 +58,7 @@ pub fn link_thirds(
     let mut grew = false;
     for k in 0..labelled.present.numbers.len() {
         let more = link_third(terms, draft, labelled, s, t, labelled.present.numbers[k])?;
-        grew = grew || more;
+        grew |= more;
     }
     Ok(grew)
 }

@@ -8,8 +8,8 @@ use Rattle.wy_linked_classes.specs.Links.{SecondAddsNothing}
 use Rattle.wy_linked_classes.proofs.LinkLemmas.{are_present_stay, one_stays, one_named, two_named, behind_two}
 use Rattle.wy_linked_classes.proofs.seconds.link_second.Goals as goal
 
-pub returns-else-grew-clause-value : goal.returns-else-grew-clause-value
-returns-else-grew-clause-value c = λ types ts v w are s t.
+pub returns-clause-value : goal.returns-clause-value
+returns-clause-value c = λ types ts v w are s t.
     let old = c.args.terms.now in
     let now = c.link.new.terms in
     let new = c.link_thirds.new.terms in
@@ -17,23 +17,6 @@ returns-else-grew-clause-value c = λ types ts v w are s t.
     let sorted : AreSortedTerms (terms_at old (c.args.s ∷ c.args.t ∷ [])) = (one_named old ts c.args.s v are.sorted s, (one_named old ts c.args.t w are.sorted t, tt)) in
     let from = seen_draft (tree_at old) c.args.draft.now in
     let to = seen_draft (tree_at new) c.link_thirds.new.draft in
-    let either : (c.in_ok-grew.grew || c.in_ok-more.more) ≡ c.in_ok-more.more = ap (λ (b : Bool). b || c.in_ok-more.more) c.if-grew.false in
-    subst (Grows types (SecondAddsNothing ts c.args.labelled.now.labels.items v w) from to) either
-    (behind_two types ts c.args.labelled.now.labels.items v w (terms_at old (c.args.s ∷ c.args.t ∷ [])) from (seen_draft (tree_at now) c.link.new.draft) to c.in_ok-grew.grew c.in_ok-more.more (two_named old ts c.args.s c.args.t v w s t)
-    (c.in_ok-grew.ensures.value types sorted)
-    (c.in_ok-more.ensures.value types ts v w (are_present_stay old now c.args.labelled.now.present ts stays c.requires.present are) (one_stays old now ts c.args.s v stays c.requires.first s) (one_stays old now ts c.args.t w stays c.requires.second t)))
-
-pub returns-then-grew-clause-value : goal.returns-then-grew-clause-value
-returns-then-grew-clause-value c = λ types ts v w are s t.
-    let old = c.args.terms.now in
-    let now = c.link.new.terms in
-    let new = c.link_thirds.new.terms in
-    let stays = c.in_ok-grew.ensures.stays in
-    let sorted : AreSortedTerms (terms_at old (c.args.s ∷ c.args.t ∷ [])) = (one_named old ts c.args.s v are.sorted s, (one_named old ts c.args.t w are.sorted t, tt)) in
-    let from = seen_draft (tree_at old) c.args.draft.now in
-    let to = seen_draft (tree_at new) c.link_thirds.new.draft in
-    let either : (c.in_ok-grew.grew || c.in_ok-more.more) ≡ true = ap (λ (b : Bool). b || c.in_ok-more.more) c.if-grew.true in
-    subst (Grows types (SecondAddsNothing ts c.args.labelled.now.labels.items v w) from to) either
     (behind_two types ts c.args.labelled.now.labels.items v w (terms_at old (c.args.s ∷ c.args.t ∷ [])) from (seen_draft (tree_at now) c.link.new.draft) to c.in_ok-grew.grew c.in_ok-more.more (two_named old ts c.args.s c.args.t v w s t)
     (c.in_ok-grew.ensures.value types sorted)
     (c.in_ok-more.ensures.value types ts v w (are_present_stay old now c.args.labelled.now.present ts stays c.requires.present are) (one_stays old now ts c.args.s v stays c.requires.first s) (one_stays old now ts c.args.t w stays c.requires.second t)))
