@@ -1,5 +1,5 @@
 -- A chain that is valid at a node is valid at each that has its literals, and states the same.
-use Rattle.std.proofs.Common.{◌≡◌, ◌∙◌, List, [], ◌∷◌, Bool, true, ◌&&◌, ◌||◌, Option, Some, ap, refl}
+use Rattle.std.proofs.Common.{◌≡◌, ◌∙◌, List, [], ◌∷◌, Bool, true, ◌||◌, Some, ap, refl}
 use Rattle.wy_term.specs.Term.{Term, Of, Parts, no_parts, part}
 use Rattle.wy_term.specs.Same.{same_symbol, same_term}
 use Rattle.wy_term.specs.Sorts.{sort_in}

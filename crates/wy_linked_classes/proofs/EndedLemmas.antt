@@ -1,8 +1,8 @@
 -- Numbers of literals that are tried, one after the other.
-use Rattle.std.proofs.Common.{◌≡◌, ◌∙◌, ◌<◌, ◌≤◌, ◌+◌, ℕ, suc, List, length, Bool, true, false, eqb, Option, Some, None, refl, ap, sym, subst, arith}
+use Rattle.std.proofs.Common.{◌≡◌, ◌∙◌, ◌<◌, ◌+◌, ℕ, suc, List, Bool, true, false, eqb, Option, Some, refl, ap, sym, subst, arith}
 use Rattle.std.proofs.lemmas.Bool.{eqb-true, eqb-false}
 use Rattle.wy_term.specs.Condition.{Entry}
-use Rattle.wy_judge.specs.Node.{Literal, Node}
+use Rattle.wy_judge.specs.Node.{Node}
 use Rattle.wy_cert.specs.Steps.{Written, shut, clash}
 use Rattle.wy_lin.specs.Linear.{◌>>=◌}
 use Rattle.wy_valid.specs.Literals.{only_if, is_shut}
@@ -10,7 +10,7 @@ use Rattle.wy_valid.specs.Validity.{after, closed, is_clash}
 use Rattle.wy_sound_certificates.specs.Sortedness.{IsSortedStep}
 use Rattle.wy_drafts.specs.Progress.{Progress, Closes, Ends}
 use Rattle.wy_drafts.proofs.ProgressLemmas.{closes_ends}
-use Rattle.wy_linked_classes.specs.Ended.{ClashesWithNone, EndsUnless, IsOpen, NoTwoClash, NoneClashes}
+use Rattle.wy_linked_classes.specs.Ended.{EndsUnless, IsOpen, NoTwoClash, NoneClashes}
 
 -- a clash isn't valid where none is written
 pub not_clashing : (types : List Entry) (i : ℕ) (other : Option ℕ) (old new : Progress) → Closes types (clash i other) old new false → is_clash old.node.literals i other ≡ Some true → ⊥

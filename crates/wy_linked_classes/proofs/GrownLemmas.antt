@@ -1,17 +1,17 @@
 -- What steps that may add something leave of a node.
-use Rattle.std.proofs.Common.{◌≡◌, ◌∙◌, ◌+◌, ◌≤◌, ◌||◌, List, [], ◌∷◌, ◌++◌, length, Bool, true, false, cond, Option, Some, None, refl, ap, sym, subst, append-nil, append_assoc, arith}
+use Rattle.std.proofs.Common.{◌≡◌, ◌∙◌, ◌||◌, List, [], ◌∷◌, ◌++◌, length, Bool, true, false, cond, Option, Some, None, refl, ap, sym, subst, append-nil, append_assoc, arith}
 use Rattle.std.proofs.lemmas.List.{length-append}
 use Rattle.wy_term.specs.Term.{Term}
 use Rattle.wy_term.specs.Condition.{Entry}
 use Rattle.wy_judge.specs.Node.{Literal, Node, has_literal, has_formula, with_literal, with_pending, with_formulas}
-use Rattle.wy_cert.specs.Steps.{Written, chain}
+use Rattle.wy_cert.specs.Steps.{chain}
 use Rattle.wy_lin.specs.Linear.{◌>>=◌}
 use Rattle.wy_lin.proofs.OptionLemmas.{bind_some, some_is}
 use Rattle.wy_valid.specs.Validity.{after, chain_stated, left_with}
 use Rattle.wy_sound_certificates.specs.Sortedness.{AreSortedTerms}
 use Rattle.wy_sound_certificates.proofs.Basics.{or_false}
 use Rattle.wy_closing.proofs.RelatedLemmas.{formulas_related}
-use Rattle.wy_drafts.specs.Progress.{Progress, Goes, Writes}
+use Rattle.wy_drafts.specs.Progress.{Progress, Writes}
 use Rattle.wy_drafts.proofs.ProgressLemmas.{goes_on, goes_self, writes_goes}
 use Rattle.wy_linked_classes.specs.Grown.{AddsNothing, Grows}
 

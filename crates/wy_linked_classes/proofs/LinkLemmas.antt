@@ -14,7 +14,7 @@ use Rattle.wy_facts.proofs.StepLemmas.{terms_kept, below_kept}
 use Rattle.wy_judge.specs.Node.{Node, has_formula}
 use Rattle.wy_least_classes.specs.Least.{IsAmong}
 use Rattle.wy_classes.specs.declared.present.Present.{Present}
-use Rattle.wy_classes.specs.Seen.{terms_of, IsPresent}
+use Rattle.wy_classes.specs.Seen.{IsPresent}
 use Rattle.wy_sound_certificates.specs.Sortedness.{AreSortedTerms}
 use Rattle.wy_chains.proofs.KindLemmas.{formula_first, formula_later}
 use Rattle.wy_drafts.specs.Progress.{Progress}

@@ -1,18 +1,16 @@
 -- A node to which no chain of terms of one class adds anything, and that neither shuts nor clashes: it joins the terms of each class.
-use Rattle.std.proofs.Common.{◌≡◌, ◌⊎◌, ◌∙◌, ℕ, List, [], ◌∷◌, Bool, true, false, Option, Some, None, inl, inr, refl, ap, sym, subst}
-use Rattle.wy_term.specs.Term.{Symbol, Term, Of, Parts, no_parts, part}
+use Rattle.std.proofs.Common.{◌≡◌, ◌⊎◌, ◌∙◌, ℕ, List, [], ◌∷◌, Bool, true, false, Option, Some, inl, inr, refl, ap, sym, subst}
+use Rattle.wy_term.specs.Term.{Term, Parts, no_parts, part}
 use Rattle.wy_term.specs.Condition.{Entry}
 use Rattle.wy_judge.specs.Node.{Literal, Node, with_formulas}
 use Rattle.wy_cert.specs.Steps.{clash, chain}
-use Rattle.wy_lin.specs.Linear.{◌>>=◌}
 use Rattle.wy_lin.proofs.OptionLemmas.{bind_some}
-use Rattle.wy_valid.specs.Literals.{only_if, are_joined, is_shut}
+use Rattle.wy_valid.specs.Literals.{only_if, is_shut}
 use Rattle.wy_valid.specs.Validity.{after, closed, is_clash}
 use Rattle.wy_search.specs.Standing.{present}
 use Rattle.wy_search.specs.Classes.{in_one_class, classes, clashes}
-use Rattle.wy_least_classes.specs.Least.{AreAlike, AreBoth, ClassesAreCongruent, IsAmong, IsCongruence}
+use Rattle.wy_least_classes.specs.Least.{AreAlike, AreBoth, ClassesAreCongruent, IsCongruence}
 use Rattle.wy_least_classes.proofs.SoundLemmas.{ArePair, ArePairs, Relates}
-use Rattle.wy_sound_certificates.specs.Sortedness.{AreSortedTerms}
 use Rattle.wy_sound_certificates.proofs.Basics.{only_some, two_ways}
 use Rattle.wy_sound_certificates.proofs.NodeLemmas.{IsSortedNode}
 use Rattle.wy_closing.specs.AtLeast.{IsAtLeast}

@@ -1,5 +1,5 @@
 -- When a node can be closed by its formulas alone, or by one literal or two.
-use Rattle.std.specs.Prelude.{◌≡◌, ℕ, List, Bool, true, false, Option, Some, None}
+use Rattle.std.specs.Prelude.{◌≡◌, ℕ, List, Bool, true, false, Some, None}
 use Rattle.wy_term.specs.Condition.{Entry}
 use Rattle.wy_judge.specs.Node.{Literal, Node}
 use Rattle.wy_valid.specs.Literals.{is_shut}

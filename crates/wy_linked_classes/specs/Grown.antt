@@ -1,5 +1,5 @@
 -- Steps that are written as long as they add anything.
-use Rattle.std.specs.Prelude.{◌≡◌, List, Bool, true, false, Some}
+use Rattle.std.specs.Prelude.{◌≡◌, List, Bool, false, Some}
 use Rattle.wy_term.specs.Term.{Term}
 use Rattle.wy_term.specs.Condition.{Entry}
 use Rattle.wy_judge.specs.Node.{Node, with_formulas}

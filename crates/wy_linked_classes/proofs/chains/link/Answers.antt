@@ -1,4 +1,4 @@
-use Rattle.std.proofs.Common.{◌≡◌, ◌∙◌, ℕ, true, false, length, not, nat_eq, sym, arith, rules}
+use Rattle.std.proofs.Common.{◌≡◌, ◌∙◌, true, length, not, nat_eq, sym, arith}
 use Rattle.std.proofs.lemmas.Bool.Decides.{nat_tests}
 use Rattle.std.proofs.lemmas.List.{length-map}
 use Rattle.wy_term.specs.Nodes.{tree_at}

@@ -1,4 +1,4 @@
-use Rattle.std.proofs.Common.{◌≡◌, ◌≤◌, ◌∙◌, ◌+◌, ℕ, [], length, false, true, Some, arith, rules}
+use Rattle.std.proofs.Common.{◌≡◌, ◌≤◌, ◌+◌, [], length, false, true, Some, arith, rules}
 use Rattle.std.proofs.lemmas.List.{length-map}
 use Rattle.wy_term.specs.Nodes.{tree_at}
 use Rattle.wy_judging.specs.Seen.{seen_literal}

@@ -1,10 +1,8 @@
-use Rattle.std.proofs.Common.{◌≡◌, [], ◌∷◌, Bool, true, ◌||◌, ap, subst}
+use Rattle.std.proofs.Common.{[], ◌∷◌}
 use Rattle.wy_term.specs.Nodes.{tree_at}
 use Rattle.wy_facts.specs.Seen.{terms_at}
 use Rattle.wy_sound_certificates.specs.Sortedness.{AreSortedTerms}
 use Rattle.wy_drafts.specs.Draft.{seen_draft}
-use Rattle.wy_linked_classes.specs.Grown.{Grows}
-use Rattle.wy_linked_classes.specs.Links.{SecondAddsNothing}
 use Rattle.wy_linked_classes.proofs.LinkLemmas.{are_present_stay, one_stays, one_named, two_named, behind_two}
 use Rattle.wy_linked_classes.proofs.seconds.link_second.Goals as goal
 
