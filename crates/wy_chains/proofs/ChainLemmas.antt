@@ -1,5 +1,5 @@
 -- A node is closable where each node is to which chains between two terms may lead.
-use Rattle.std.proofs.Common.{◌≡◌, ◌∙◌, List, [], ◌∷◌, Bool, true, Option, Some, inl, inr, refl, ap}
+use Rattle.std.proofs.Common.{◌≡◌, ◌∙◌, ℕ, List, [], ◌∷◌, Bool, true, Option, Some, inl, inr, refl, ap}
 use Rattle.wy_term.specs.Term.{Term, two, at_most, equal}
 use Rattle.wy_term.specs.Sorts.{Sort, int_sort, val_sort, formula_sort, sort_in}
 use Rattle.wy_term.specs.Rewriting.{False, True}
@@ -8,7 +8,7 @@ use Rattle.wy_sound_certificates.specs.Sortedness.{AreSortedTerms, IsSortedStep}
 use Rattle.wy_lin.specs.Linear.{◌>>=◌}
 use Rattle.wy_facts.specs.Made.{is_at_most, is_equal}
 use Rattle.wy_judge.specs.Node.{Literal, Node, with_literal, with_pending, added, with_formulas}
-use Rattle.wy_cert.specs.Steps.{Written, shut, chain}
+use Rattle.wy_cert.specs.Steps.{Written, shut, chain, clash}
 use Rattle.wy_valid.specs.Literals.{only_if, is_shut, is_chain, last_of}
 use Rattle.wy_valid.specs.Validity.{equality_of, left_with, closed, after}
 use Rattle.wy_chains.specs.Chains.{HasLiterals}
@@ -21,25 +21,39 @@ pub record Steps (types : List Entry) (Closable : Node → Type 0) : Type 0 wher
   pub ends : (node : Node) (step : Written) → after types node step ≡ closed → IsSortedStep step → Closable node
   pub leads : (node next : Node) (step : Written) → after types node step ≡ Some (next ∷ []) → IsSortedStep step → Closable next → Closable node
 
-module _ (types : List Entry) (Closable : Node → Type 0) (steps : Steps types Closable) where
-  pub shut_closes : (node : Node) → is_shut node ≡ true → Closable node
-  shut_closes node e = steps.ends node shut (ap (λ (b : Bool). only_if b closed) e) tt
+-- The same of fewer steps: a node that can be shut, or of which literals clash, or from which a chain that may be taken leads to one that is closable.
+pub record ByChains (types : List Entry) (May : List Term → Type 0) (Closable : Node → Type 0) : Type 0 where
+  pub shuts : (node : Node) → is_shut node ≡ true → Closable node
+  pub clashes : (node : Node) (i : ℕ) (other : Option ℕ) → after types node (clash i other) ≡ closed → Closable node
+  pub leads : (node next : Node) (ts : List Term) → after types node (chain ts) ≡ Some (next ∷ []) → AreSortedTerms ts → May ts → Closable next → Closable node
 
+-- each chain may be taken
+abbrev pub AnyChain : List Term → Type 0
+AnyChain ts = Unit {0}
+
+pub any_chains : (types : List Entry) (Closable : Node → Type 0) → Steps types Closable → ByChains types AnyChain Closable
+any_chains types Closable steps = record {
+  shuts = λ node e. steps.ends node shut (ap (λ (b : Bool). only_if b closed) e) tt;
+  clashes = λ node i other e. steps.ends node (clash i other) e tt;
+  leads = λ node next ts e are may. steps.leads node next (chain ts) e are;
+}
+
+module _ (types : List Entry) (May : List Term → Type 0) (Closable : Node → Type 0) (chains : ByChains types May Closable) where
   -- ---- one chain
 
-  chain_leads : (node : Node) (s : Term) (ts fs : List Term) → AreSortedTerms (s ∷ ts) → is_chain node.literals s ts ≡ true → equality_of (sort_in s) s (last_of s ts) ≡ Some fs → Closable (with_formulas node fs) → Closable node
-  chain_leads node s ts fs are e f =
-      steps.leads node (with_formulas node fs) (chain (s ∷ ts))
-      (ap (λ (b : Bool). only_if b (equality_of (sort_in s) s (last_of s ts)) >>= left_with node) e ∙ ap (λ (o : Option (List Term)). o >>= left_with node) f) are
+  chain_leads : (node : Node) (s : Term) (ts fs : List Term) → AreSortedTerms (s ∷ ts) → May (s ∷ ts) → is_chain node.literals s ts ≡ true → equality_of (sort_in s) s (last_of s ts) ≡ Some fs → Closable (with_formulas node fs) → Closable node
+  chain_leads node s ts fs are may e f =
+      chains.leads node (with_formulas node fs) (s ∷ ts)
+      (ap (λ (b : Bool). only_if b (equality_of (sort_in s) s (last_of s ts)) >>= left_with node) e ∙ ap (λ (o : Option (List Term)). o >>= left_with node) f) are may
 
-  pub val_leads : (node : Node) (s t f : Term) (ts : List Term) → AreSortedTerms (s ∷ ts) → is_chain node.literals s ts ≡ true → sort_in s ≡ val_sort → last_of s ts ≡ t → is_equal s t ≡ f → Closable (added node f) → Closable node
-  val_leads node s t f ts are e is last made =
-      chain_leads node s ts (f ∷ []) are e
+  pub val_leads : (node : Node) (s t f : Term) (ts : List Term) → AreSortedTerms (s ∷ ts) → May (s ∷ ts) → is_chain node.literals s ts ≡ true → sort_in s ≡ val_sort → last_of s ts ≡ t → is_equal s t ≡ f → Closable (added node f) → Closable node
+  val_leads node s t f ts are may e is last made =
+      chain_leads node s ts (f ∷ []) are may e
       (ap (λ (a : Sort). equality_of a s (last_of s ts)) is ∙ (ap (λ (u : Term). equality_of val_sort s u) last ∙ ap (λ (g : Term). Some (g ∷ [])) made))
 
-  int_leads : (node : Node) (s t f g : Term) (ts : List Term) → AreSortedTerms (s ∷ ts) → is_chain node.literals s ts ≡ true → sort_in s ≡ int_sort → last_of s ts ≡ t → is_at_most s t ≡ f → is_at_most t s ≡ g → Closable (added (added node f) g) → Closable node
-  int_leads node s t f g ts are e is last first second =
-      chain_leads node s ts (f ∷ g ∷ []) are e
+  int_leads : (node : Node) (s t f g : Term) (ts : List Term) → AreSortedTerms (s ∷ ts) → May (s ∷ ts) → is_chain node.literals s ts ≡ true → sort_in s ≡ int_sort → last_of s ts ≡ t → is_at_most s t ≡ f → is_at_most t s ≡ g → Closable (added (added node f) g) → Closable node
+  int_leads node s t f g ts are may e is last first second =
+      chain_leads node s ts (f ∷ g ∷ []) are may e
       (ap (λ (a : Sort). equality_of a s (last_of s ts)) is ∙ (ap (λ (u : Term). equality_of int_sort s u) last ∙ (ap (λ (x : Term). Some (x ∷ is_at_most t s ∷ [])) first ∙ ap (λ (x : Term). Some (f ∷ x ∷ [])) second)))
 
   -- ---- two terms between which chains lead
@@ -48,20 +62,20 @@ module _ (types : List Entry) (Closable : Node → Type 0) (steps : Steps types 
   abbrev pub Goes : Node → Term → Term → Type 0
   Goes node s t = (next : Node) → HasLiterals node next → AreLinked next s t → Closable next
 
-  module _ (node : Node) (s t : Term) (ts us : List Term) (one : AreSortedTerms (s ∷ ts)) (other : AreSortedTerms (t ∷ us)) (first : is_chain node.literals s ts ≡ true) (last : last_of s ts ≡ t) (second : is_chain node.literals t us ≡ true) (back : last_of t us ≡ s) (goes : Goes node s t) where
+  module _ (node : Node) (s t : Term) (ts us : List Term) (one : AreSortedTerms (s ∷ ts)) (other : AreSortedTerms (t ∷ us)) (may : May (s ∷ ts)) (turn : May (t ∷ us)) (first : is_chain node.literals s ts ≡ true) (last : last_of s ts ≡ t) (second : is_chain node.literals t us ≡ true) (back : last_of t us ≡ s) (goes : Goes node s t) where
     vals_chained : sort_in s ≡ val_sort → sort_in t ≡ val_sort → Closable node
     vals_chained is it = by (equation_makes s t one.0 other.0)
       where
         by : Makes s t → Closable node
         by (one_term e) = goes node (has_self node) (inl e)
-        by (never e) = val_leads node s t False ts one first is last e (shut_closes (with_pending node False) (false_shut node))
+        by (never e) = val_leads node s t False ts one may first is last e (chains.shuts (with_pending node False) (false_shut node))
         by (stays e) =
             let l : Literal = record { atom = two equal s t; holds = true } in
-            val_leads node s t (two equal s t) ts one first is last e
+            val_leads node s t (two equal s t) ts one may first is last e
             (goes (with_literal node l) (literal_more node l) (inr (equation_joins (with_literal node l).literals s t is it (literal_there node l))))
         by (turns e) =
             let l : Literal = record { atom = two equal t s; holds = true } in
-            val_leads node t s (two equal t s) us other second it back e
+            val_leads node t s (two equal t s) us other turn second it back e
             (goes (with_literal node l) (literal_more node l) (inr (joined_turned (with_literal node l).literals t s (equation_joins (with_literal node l).literals t s it is (literal_there node l)))))
 
     ints_chained : sort_in s ≡ int_sort → sort_in t ≡ int_sort → Closable node
@@ -69,13 +83,13 @@ module _ (types : List Entry) (Closable : Node → Type 0) (steps : Steps types 
       where
         by : MakesBoth s t → Closable node
         by (one_number e) = goes node (has_self node) (inl e)
-        by (never_first e f) = int_leads node s t False True ts one first is last e f (shut_closes (with_pending node False) (false_shut node))
-        by (never_last e) = int_leads node s t (is_at_most s t) False ts one first is last refl e (shut_closes (with_pending (added node (is_at_most s t)) False) (false_shut (added node (is_at_most s t))))
+        by (never_first e f) = int_leads node s t False True ts one may first is last e f (chains.shuts (with_pending node False) (false_shut node))
+        by (never_last e) = int_leads node s t (is_at_most s t) False ts one may first is last refl e (chains.shuts (with_pending (added node (is_at_most s t)) False) (false_shut (added node (is_at_most s t))))
         by (stay e f) =
             let l : Literal = record { atom = two at_most s t; holds = true } in
             let k : Literal = record { atom = two at_most t s; holds = true } in
             let here : HasLiterals (with_literal node l) (with_literal (with_literal node l) k) = literal_more (with_literal node l) k in
-            int_leads node s t (two at_most s t) (two at_most t s) ts one first is last e f
+            int_leads node s t (two at_most s t) (two at_most t s) ts one may first is last e f
             (goes (with_literal (with_literal node l) k) (has_more node (with_literal node l) (with_literal (with_literal node l) k) (literal_more node l) here)
             (inr (bounds_join (with_literal (with_literal node l) k).literals s t is it (here.has l (literal_there node l)) (literal_there (with_literal node l) k))))
 

@@ -25,8 +25,8 @@ use Rattle.wy_chains.proofs.LiteralLemmas.{both_true, first_true, has_first, has
 use Rattle.wy_chains.proofs.LinkLemmas.{AreLinked, equated, linked_turned}
 use Rattle.wy_chains.proofs.MadeLemmas.{apart_constants, given_val, unknown_kind}
 use Rattle.wy_chains.proofs.KindLemmas.{told_kind, told_two, told_denied, given_other, given_turned, denied_other, denied_turned, given_two, kinds_turned}
-use Rattle.wy_chains.proofs.ChainLemmas.{Steps, shut_closes, val_leads}
-use Rattle.wy_chains.proofs.ClassLemmas.{present_sorted, literal_formula, one_class}
+use Rattle.wy_chains.proofs.ChainLemmas.{Steps, ByChains, AnyChain, any_chains, Goes, val_leads}
+use Rattle.wy_chains.proofs.ClassLemmas.{present_sorted, literal_formula, MayLink, AnyTwo, may_link_any, class_pair, class_reached}
 
 -- ---- literals of a folded node
 
@@ -97,21 +97,21 @@ kind_is k l e = cc
 
 -- ---- clashes
 
-module _ (types : List Entry) (Closable : Node → Type 0) (steps : Steps types Closable) where
+module _ (types : List Entry) (May : List Term → Type 0) (Closable : Node → Type 0) (chains : ByChains types May Closable) where
   alone_closes : (node : Node) (l : Literal) → has_literal node.literals l ≡ true → clashes_alone l ≡ true → Closable node
   alone_closes node l e f =
       let n = numbered node.literals l e in
-      steps.ends node (clash n.number None)
-      (ap (λ (o : Option Literal). (o >>= λ (k : Literal). Some (clashes_alone k)) >>= λ (b : Bool). only_if b closed) n.is ∙ ap (λ (b : Bool). only_if b closed) f) tt
+      chains.clashes node n.number None
+      (ap (λ (o : Option Literal). (o >>= λ (k : Literal). Some (clashes_alone k)) >>= λ (b : Bool). only_if b closed) n.is ∙ ap (λ (b : Bool). only_if b closed) f)
 
   together_closes : (node : Node) (l k : Literal) → has_literal node.literals l ≡ true → has_literal node.literals k ≡ true → clash_together node.literals l k ≡ true → Closable node
   together_closes node l k e f g =
       let n = numbered node.literals l e in
       let m = numbered node.literals k f in
-      steps.ends node (clash n.number (Some m.number))
+      chains.clashes node n.number (Some m.number)
       (ap (λ (o : Option Literal). (o >>= λ (x : Literal). (literal_at node.literals m.number >>= λ (y : Literal). Some (clash_together node.literals x y))) >>= λ (b : Bool). only_if b closed) n.is
       ∙ (ap (λ (o : Option Literal). (o >>= λ (y : Literal). Some (clash_together node.literals l y)) >>= λ (b : Bool). only_if b closed) m.is
-      ∙ ap (λ (b : Bool). only_if b closed) g)) tt
+      ∙ ap (λ (b : Bool). only_if b closed) g))
 
   -- two neighbours of a chain
   joined_chain : (node : Node) (s t : Term) → are_joined node.literals s t ≡ true → is_chain node.literals s (t ∷ []) ≡ true
@@ -121,24 +121,34 @@ module _ (types : List Entry) (Closable : Node → Type 0) (steps : Steps types 
   by_equation : (node : Node) (s t : Term) → sort_in s ≡ val_sort → are_joined node.literals s t ≡ true → (has_atom node.literals (two equal s t) ≡ true → Closable node) → (has_atom node.literals (two equal t s) ≡ true → Closable node) → Closable node
   by_equation node s t is e f g = or_cases (has_atom node.literals (two equal s t)) (has_atom node.literals (two equal t s)) (Closable node) (equated node.literals s t is e) f g
 
-  module _ (base : Node) (sorted : IsSortedNode base) (plain : AreFolded base.literals) where
+  module _ (base : Node) (sorted : IsSortedNode base) (R : Term → Term → Type 0) (may : MayLink base R May) (plain : AreFolded base.literals) where
     abbrev OneClass : Term → Term → Type 0
     OneClass s t = in_one_class (present base) (classes (present base) base.literals) s t ≡ true
 
+    reached : (s t : Term) → OneClass s t → (node : Node) → HasLiterals base node → Goes types May Closable chains node s t → Closable node
+    reached = class_reached types May Closable chains base sorted R may
+
     -- ---- a denied equation
 
-    denied_there : (node : Node) (v w : Term) → HasLiterals base node → has_literal base.literals (record { atom = two equal v w; holds = false }) ≡ true → AreLinked node v w → Closable node
-    denied_there node v w more e (inl same) = alone_closes node (record { atom = two equal v w; holds = false }) (more.has (record { atom = two equal v w; holds = false }) e) (ap (λ (x : Term). same_term v x) (sym same) ∙ terms_self v)
-    denied_there node v w more e (inr f) =
+    one_denied : (node : Node) (v w : Term) → HasLiterals base node → has_literal base.literals (record { atom = two equal v w; holds = false }) ≡ true → v ≡ w → Closable node
+    one_denied node v w more e same = alone_closes node (record { atom = two equal v w; holds = false }) (more.has (record { atom = two equal v w; holds = false }) e) (ap (λ (x : Term). same_term v x) (sym same) ∙ terms_self v)
+
+    denied_there : (node : Node) (v w : Term) → May (v ∷ w ∷ []) → HasLiterals base node → has_literal base.literals (record { atom = two equal v w; holds = false }) ≡ true → AreLinked node v w → Closable node
+    denied_there node v w way more e (inl same) = one_denied node v w more e same
+    denied_there node v w way more e (inr f) =
         let l : Literal = record { atom = two equal v w; holds = true } in
         let k : Literal = record { atom = two equal v w; holds = false } in
         let is = literal_formula base.literals k sorted.literals e in
         let next = literal_more node l in
-        val_leads types Closable steps node v w (two equal v w) (w ∷ []) (is.0.1, (is.0.2.1, tt)) (joined_chain node v w f) is.0.0 refl (literal_folded base.literals k plain e)
-        (shut_closes types Closable steps (with_literal node l) (both_ways_shut (with_literal node l) (two equal v w) (literal_there node l) (next.has k (more.has k e))))
+        val_leads types May Closable chains node v w (two equal v w) (w ∷ []) (is.0.1, (is.0.2.1, tt)) way (joined_chain node v w f) is.0.0 refl (literal_folded base.literals k plain e)
+        (chains.shuts (with_literal node l) (both_ways_shut (with_literal node l) (two equal v w) (literal_there node l) (next.has k (more.has k e))))
 
     denial_closes : (node : Node) (holds : Bool) (a : Term) → HasLiterals base node → has_literal base.literals (record { atom = a; holds = holds }) ≡ true → denies_equal (present base) (classes (present base) base.literals) holds a ≡ true → Closable node
-    denial_closes node false (Of equal (part v (part w no_parts))) more e f = one_class types Closable steps base sorted v w f node more (λ next on link. denied_there next v w (has_more base node next more on) e link)
+    denial_closes node false (Of equal (part v (part w no_parts))) more e f = by (class_pair types May Closable chains base sorted R may v w f)
+      where
+        by : (v ≡ w) ⊎ May (v ∷ w ∷ []) → Closable node
+        by (inl same) = one_denied node v w more e same
+        by (inr way) = reached v w f node more (λ next on link. denied_there next v w way (has_more base node next more on) e link)
     denial_closes node holds a more e f = absurd cc
 
     denials_close : (node : Node) (ls : List Literal) → HasLiterals base node → AreAmong ls base.literals → any_denies (present base) (classes (present base) base.literals) ls ≡ true → Closable node
@@ -151,14 +161,18 @@ module _ (types : List Entry) (Closable : Node → Type 0) (steps : Steps types 
     -- ---- different constants
 
     constants_close : (node : Node) (s t : Term) → HasLiterals base node → IsSorted s → IsSorted t → are_apart (as_constant s) (as_constant t) ≡ true → OneClass s t → Closable node
-    constants_close node s t more ss st e f = one_class types Closable steps base sorted s t f node more (λ next on link. by next link)
+    constants_close node s t more ss st e f = by (class_pair types May Closable chains base sorted R may s t f)
       where
-        by : (next : Node) → AreLinked next s t → Closable next
-        by next (inl same) = absurd ((apart_constants s t e).differ same)
-        by next (inr g) =
+        linked : (next : Node) → May (s ∷ t ∷ []) → AreLinked next s t → Closable next
+        linked next way (inl same) = absurd ((apart_constants s t e).differ same)
+        linked next way (inr g) =
             let apart = apart_constants s t e in
-            val_leads types Closable steps next s t False (t ∷ []) (ss, (st, tt)) (joined_chain next s t g) apart.first refl apart.folds
-            (shut_closes types Closable steps (with_pending next False) (false_shut next))
+            val_leads types May Closable chains next s t False (t ∷ []) (ss, (st, tt)) way (joined_chain next s t g) apart.first refl apart.folds
+            (chains.shuts (with_pending next False) (false_shut next))
+
+        by : (s ≡ t) ⊎ May (s ∷ t ∷ []) → Closable node
+        by (inl same) = absurd ((apart_constants s t e).differ same)
+        by (inr way) = reached s t f node more (λ next on link. linked next way link)
 
     apart_from_closes : (node : Node) (s : Term) (us : List Term) → HasLiterals base node → IsSorted s → AreSortedTerms us → constants_apart (present base) (classes (present base) base.literals) s us ≡ true → Closable node
     apart_from_closes node s [] more ss are e = absurd cc
@@ -201,7 +215,7 @@ module _ (types : List Entry) (Closable : Node → Type 0) (steps : Steps types 
     two_close : (node : Node) → HasLiterals base node → (p q : Kinded) → IsGiven base p → IsGiven base q → OneClass p.0 q.0 → in_two_kinds p (p.0, q.1) ≡ true → Closable node
     two_close node more p q f g e h =
         let k = and_both (same_term p.0 p.0) (not (same_kind p.1 q.1)) h in
-        one_class types Closable steps base sorted p.0 q.0 e node more
+        reached p.0 q.0 e node more
         (λ next on link. two_there next p.0 q.0 p.1 q.1 (has_more base node next more on) f g (not_is_true (same_kind p.1 q.1) k.1) link)
 
     -- ---- a kind that is denied
@@ -218,7 +232,7 @@ module _ (types : List Entry) (Closable : Node → Type 0) (steps : Steps types 
     denied_close : (node : Node) → HasLiterals base node → (p q : Kinded) → IsGiven base p → IsDenied base q → OneClass p.0 q.0 → in_one_kind p (p.0, q.1) ≡ true → Closable node
     denied_close node more p q f g e h =
         let k = and_both (same_term p.0 p.0) (same_kind p.1 q.1) h in
-        one_class types Closable steps base sorted p.0 q.0 e node more
+        reached p.0 q.0 e node more
         (λ next on link. denied_at next p.0 q.0 p.1 q.1 (has_more base node next more on) f g k.1 link)
 
     -- ---- kinds of two terms of one class
@@ -271,9 +285,9 @@ led_by types node below s e h c = record {
 trees_close : (types : List Entry) → Steps types (HasSteps types)
 trees_close types = record { ends = closed_by types; leads = led_by types }
 
-literals_sorted : (ls : List Literal) → AreLiterals ls → AreSortedLiterals ls
+pub literals_sorted : (ls : List Literal) → AreLiterals ls → AreSortedLiterals ls
 literals_sorted [] h = tt
 literals_sorted (l ∷ ls) h = (h.0, literals_sorted ls h.1)
 
 pub clashing_nodes_close : ClashesClose
-clashing_nodes_close types base node literals pending plain e more = clashes_close types (HasSteps types) (trees_close types) base (record { literals = literals_sorted base.literals literals; pending = pending }) plain e node more
+clashing_nodes_close types base node literals pending plain e more = clashes_close types AnyChain (HasSteps types) (any_chains types (HasSteps types) (trees_close types)) base (record { literals = literals_sorted base.literals literals; pending = pending }) AnyTwo (may_link_any base) plain e node more

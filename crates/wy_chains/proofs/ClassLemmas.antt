@@ -11,6 +11,7 @@ use Rattle.wy_valid.specs.Literals.{are_joined, arguments_joined, are_alike, is_
 use Rattle.wy_search.specs.Standing.{is_term_sort, only_terms, standing, present}
 use Rattle.wy_search.specs.Classes.{place_from, label_of, same_label, in_one_class, classes}
 use Rattle.wy_least_classes.specs.Least.{IsAmong}
+use Rattle.wy_least_classes.proofs.PlaceLemmas.{among}
 use Rattle.wy_least_classes.proofs.SoundLemmas.{ArePair, ArePairs, Relates, related_classes}
 use Rattle.wy_sound_certificates.specs.Sortedness.{AreSortedTerms}
 use Rattle.wy_sound_certificates.proofs.MadeLemmas.{IsFormula}
@@ -20,7 +21,7 @@ use Rattle.wy_chains.specs.Chains.{HasLiterals}
 use Rattle.wy_sound_search.proofs.StandingLemmas.{node_sorted}
 use Rattle.wy_chains.proofs.LiteralLemmas.{literals_are, both_true, first_true, second_true, has_self, has_more}
 use Rattle.wy_chains.proofs.LinkLemmas.{AreLinked, joined_turned, arguments_turned, alike, linked_turned, linked_more, linked_argument, equation_joins}
-use Rattle.wy_chains.proofs.ChainLemmas.{Steps, Goes, chained}
+use Rattle.wy_chains.proofs.ChainLemmas.{Steps, ByChains, AnyChain, any_chains, Goes, chained}
 
 -- ---- the terms present
 
@@ -58,21 +59,14 @@ present_sorted node h = only_terms_sorted (standing node) (node_sorted node h)
 no_formula : (a : Sort) → is_term_sort a ≡ true → a ≡ formula_sort → ⊥
 no_formula a e f = let is : is_term_sort formula_sort ≡ true = ap is_term_sort (sym f) ∙ e in absurd cc
 
--- a term with a place is of the list
-among_from : (ts : List Term) (t : Term) (k i : ℕ) → place_from ts t k ≡ Some i → has_formula ts t ≡ true
-among_from [] t k i e = absurd cc
-among_from (u ∷ us) t k i e = by (λ f. among_from us t (suc k) i f) (same_term u t) e
+-- two terms with one label are of the list
+labelled_among : (ts : List Term) (labels : List ℕ) (s t : Term) → same_label (label_of labels (place_from ts s 0)) (label_of labels (place_from ts t 0)) ≡ true → IsAmong ts s × IsAmong ts t
+labelled_among ts labels s t e = by (place_from ts s 0) (place_from ts t 0) refl refl e
   where
-    by : (place_from us t (suc k) ≡ Some i → has_formula us t ≡ true) → (b : Bool) → cond b (Some k) (place_from us t (suc k)) ≡ Some i → cond b true (has_formula us t) ≡ true
-    by rest true f = refl
-    by rest false f = rest f
-
-labelled_among : (ts : List Term) (labels : List ℕ) (s t : Term) → same_label (label_of labels (place_from ts s 0)) (label_of labels (place_from ts t 0)) ≡ true → IsAmong ts s
-labelled_among ts labels s t e = by (place_from ts s 0) refl e
-  where
-    by : (o : Option ℕ) → place_from ts s 0 ≡ o → same_label (label_of labels o) (label_of labels (place_from ts t 0)) ≡ true → IsAmong ts s
-    by None f g = absurd cc
-    by (Some i) f g = among_from ts s 0 i f
+    by : (o p : Option ℕ) → place_from ts s 0 ≡ o → place_from ts t 0 ≡ p → same_label (label_of labels o) (label_of labels p) ≡ true → IsAmong ts s × IsAmong ts t
+    by None p f g h = absurd cc
+    by (Some i) None f g h = absurd cc
+    by (Some i) (Some j) f g h = (among ts s i f, among ts t j g)
 
 -- each literal's atom is a formula
 pub literal_formula : (ls : List Literal) (l : Literal) → AreSortedLiterals ls → has_literal ls l ≡ true → IsFormula l.atom
@@ -83,22 +77,51 @@ literal_formula (k ∷ ls) l are e = by (same_literal k l) refl e (literal_formu
     by true f g rest = subst (λ (x : Literal). IsFormula x.atom) (literals_are k l f) are.0
     by false f g rest = rest g
 
+-- ---- chains that may be taken
+
+-- A congruence on the terms present that has the node's equations. Of terms that it relates, chains of two and of three may be taken.
+pub record MayLink (base : Node) (R : Term → Term → Type 0) (May : List Term → Type 0) : Type 0 where
+  pub relates : Relates (present base) base.literals R
+  pub pairs : (s t : Term) → IsAmong (present base) s → IsAmong (present base) t → R s t → May (s ∷ t ∷ [])
+  pub triples : (s t u : Term) → IsAmong (present base) s → IsAmong (present base) t → IsAmong (present base) u → R s t → R t u → May (s ∷ t ∷ u ∷ [])
+
+-- any two terms
+abbrev pub AnyTwo : Term → Term → Type 0
+AnyTwo s t = Unit {0}
+
+pub may_link_any : (base : Node) → MayLink base AnyTwo AnyChain
+may_link_any base = record {
+  relates = record {
+    reflexive = λ t here. tt;
+    symmetric = λ s t here there e. tt;
+    transitive = λ s t u here middle there e f. tt;
+    has = λ v w here there e. tt;
+    congruent = λ a ps qs here there pairs. tt;
+  };
+  pairs = λ s t here there e. tt;
+  triples = λ s t u here middle there e f. tt;
+}
+
 -- ---- chains from every node that has the literals
 
-module _ (types : List Entry) (Closable : Node → Type 0) (steps : Steps types Closable) (base : Node) (sorted : IsSortedNode base) where
+module _ (types : List Entry) (May : List Term → Type 0) (Closable : Node → Type 0) (chains : ByChains types May Closable) (base : Node) (sorted : IsSortedNode base) (R : Term → Term → Type 0) (may : MayLink base R May) where
   -- each node that has the base's literals is closable where each is that has its literals, and in which the terms are linked
   abbrev pub Reaches : Term → Term → Type 0
-  Reaches s t = (node : Node) → HasLiterals base node → Goes types Closable steps node s t → Closable node
+  Reaches s t = (node : Node) → HasLiterals base node → Goes types May Closable chains node s t → Closable node
 
   is : (t : Term) → IsAmong (present base) t → IsSorted t
   is t e = let h = is_present base t sorted e in h.sorted
 
+  -- besides, they are related
+  abbrev Both : Term → Term → Type 0
+  Both s t = R s t × Reaches s t
+
   -- two terms of one class, between which there are chains of the node
-  reached : (node : Node) (s t : Term) (ts us : List Term) → IsAmong (present base) s → IsAmong (present base) t → AreSortedTerms ts → AreSortedTerms us → is_chain node.literals s ts ≡ true → last_of s ts ≡ t → is_chain node.literals t us ≡ true → last_of t us ≡ s → Goes types Closable steps node s t → Closable node
-  reached node s t ts us here there one other first last second back goes =
+  reached : (node : Node) (s t : Term) (ts us : List Term) → IsAmong (present base) s → IsAmong (present base) t → AreSortedTerms ts → AreSortedTerms us → May (s ∷ ts) → May (t ∷ us) → is_chain node.literals s ts ≡ true → last_of s ts ≡ t → is_chain node.literals t us ≡ true → last_of t us ≡ s → Goes types May Closable chains node s t → Closable node
+  reached node s t ts us here there one other way turn first last second back goes =
       let p = is_present base s sorted here in
       let q = is_present base t sorted there in
-      chained types Closable steps node s t ts us (p.sorted, one) (q.sorted, other) first last second back goes
+      chained types May Closable chains node s t ts us (p.sorted, one) (q.sorted, other) way turn first last second back goes
       (sort_in s) refl (ap sort_in (sym last) ∙ sym (ends_sorts node.literals s ts first)) (no_formula (sort_in s) p.term)
 
   -- ---- a congruence
@@ -110,11 +133,12 @@ module _ (types : List Entry) (Closable : Node → Type 0) (steps : Steps types 
   symmetric s t here there reaches node more goes = reaches node more (λ next on link. goes next on (linked_turned next s t link))
 
   -- two joins in a row are a chain
-  in_a_row : (s t u : Term) → IsAmong (present base) s → IsAmong (present base) t → IsAmong (present base) u → (node : Node) → AreLinked node s t → AreLinked node t u → Goes types Closable steps node s u → Closable node
-  in_a_row s t u here middle there node (inl e) l goes = goes node (has_self node) (subst (λ (x : Term). AreLinked node x u) (sym e) l)
-  in_a_row s t u here middle there node (inr e) (inl f) goes = goes node (has_self node) (inr (ap (λ (x : Term). are_joined node.literals s x) (sym f) ∙ e))
-  in_a_row s t u here middle there node (inr e) (inr f) goes =
+  in_a_row : (s t u : Term) → IsAmong (present base) s → IsAmong (present base) t → IsAmong (present base) u → R s t → R t u → (node : Node) → AreLinked node s t → AreLinked node t u → Goes types May Closable chains node s u → Closable node
+  in_a_row s t u here middle there one other node (inl e) l goes = goes node (has_self node) (subst (λ (x : Term). AreLinked node x u) (sym e) l)
+  in_a_row s t u here middle there one other node (inr e) (inl f) goes = goes node (has_self node) (inr (ap (λ (x : Term). are_joined node.literals s x) (sym f) ∙ e))
+  in_a_row s t u here middle there one other node (inr e) (inr f) goes =
       reached node s u (t ∷ u ∷ []) (t ∷ s ∷ []) here there (is t middle, (is u there, tt)) (is t middle, (is s here, tt))
+      (may.triples s t u here middle there one other) (may.triples u t s there middle here (may.relates.symmetric t u middle there other) (may.relates.symmetric s t here middle one))
       (follows s t u e f) refl (follows u t s (joined_turned node.literals t u f) (joined_turned node.literals s t e)) refl goes
     where
       follows : (x y z : Term) → are_joined node.literals x y ≡ true → are_joined node.literals y z ≡ true → is_chain node.literals x (y ∷ z ∷ []) ≡ true
@@ -123,11 +147,11 @@ module _ (types : List Entry) (Closable : Node → Type 0) (steps : Steps types 
           (first_true (are_joined node.literals x y) (are_alike node.literals x y) g)
           (both_true (are_joined node.literals y z || are_alike node.literals y z) true (first_true (are_joined node.literals y z) (are_alike node.literals y z) h) refl)
 
-  transitive : (s t u : Term) → IsAmong (present base) s → IsAmong (present base) t → IsAmong (present base) u → Reaches s t → Reaches t u → Reaches s u
+  transitive : (s t u : Term) → IsAmong (present base) s → IsAmong (present base) t → IsAmong (present base) u → Both s t → Both t u → Reaches s u
   transitive s t u here middle there first second node more goes =
-      first node more (λ next on link.
-      second next (has_more base node next more on) (λ last further other.
-      in_a_row s t u here middle there last (linked_more next last further s t link) other
+      first.1 node more (λ next on link.
+      second.1 next (has_more base node next more on) (λ last further other.
+      in_a_row s t u here middle there first.0 second.0 last (linked_more next last further s t link) other
       (λ end beyond both. goes end (has_more node next end on (has_more next last end further beyond)) both)))
 
   has : (v w : Term) → IsAmong (present base) v → IsAmong (present base) w → has_literal base.literals (record { atom = two equal v w; holds = true }) ≡ true → Reaches v w
@@ -141,7 +165,7 @@ module _ (types : List Entry) (Closable : Node → Type 0) (steps : Steps types 
   Joins node ps qs = ((next : Node) → HasLiterals node next → arguments_joined next.literals ps qs ≡ true → Closable next) → Closable node
 
   -- arguments that are pairwise linked
-  arguments : (ps qs : Parts) → ArePairs (present base) Reaches ps qs → (node : Node) → HasLiterals base node → Joins node ps qs
+  arguments : (ps qs : Parts) → ArePairs (present base) Both ps qs → (node : Node) → HasLiterals base node → Joins node ps qs
   arguments no_parts no_parts pairs node more goes = goes node (has_self node) refl
   arguments no_parts (part t qs) pairs node more goes = absurd pairs
   arguments (part s ps) no_parts pairs node more goes = absurd pairs
@@ -153,15 +177,16 @@ module _ (types : List Entry) (Closable : Node → Type 0) (steps : Steps types 
           (λ last further e. goes last (has_more node next last on further)
           (both_true (same_term s t || are_joined last.literals s t) (arguments_joined last.literals ps qs) (linked_argument last s t (linked_more next last further s t link)) e))
 
-      by : (s ≡ t) ⊎ ArePair (present base) Reaches s t → ((next : Node) → HasLiterals base next → Joins next ps qs) → Closable node
+      by : (s ≡ t) ⊎ ArePair (present base) Both s t → ((next : Node) → HasLiterals base next → Joins next ps qs) → Closable node
       by (inl e) later = rest later node (has_self node) (inl e)
-      by (inr pair) later = pair.related node more (λ next on link. rest later next on link)
+      by (inr pair) later = pair.related.1 node more (λ next on link. rest later next on link)
 
-  congruent : (a : Symbol) (ps qs : Parts) → IsAmong (present base) (Of a ps) → IsAmong (present base) (Of a qs) → ArePairs (present base) Reaches ps qs → Reaches (Of a ps) (Of a qs)
-  congruent a ps qs here there pairs node more goes =
+  congruent : (a : Symbol) (ps qs : Parts) → IsAmong (present base) (Of a ps) → IsAmong (present base) (Of a qs) → R (Of a ps) (Of a qs) → ArePairs (present base) Both ps qs → Reaches (Of a ps) (Of a qs)
+  congruent a ps qs here there one pairs node more goes =
       arguments ps qs pairs node more
       (λ next on e.
       reached next (Of a ps) (Of a qs) (Of a qs ∷ []) (Of a ps ∷ []) here there (is (Of a qs) there, tt) (is (Of a ps) here, tt)
+      (may.pairs (Of a ps) (Of a qs) here there one) (may.pairs (Of a qs) (Of a ps) there here (may.relates.symmetric (Of a ps) (Of a qs) here there one))
       (follows next ps qs e) refl (follows next qs ps (arguments_turned next.literals ps qs e)) refl
       (λ last further link. goes last (has_more node next last on further) link))
     where
@@ -170,17 +195,62 @@ module _ (types : List Entry) (Closable : Node → Type 0) (steps : Steps types 
           both_true (are_joined next.literals (Of a xs) (Of a ys) || are_alike next.literals (Of a xs) (Of a ys)) true
           (second_true (are_joined next.literals (Of a xs) (Of a ys)) (are_alike next.literals (Of a xs) (Of a ys)) (alike next.literals a xs ys e)) refl
 
-  relates : Relates (present base) base.literals Reaches
-  relates = record { reflexive = reflexive; symmetric = symmetric; transitive = transitive; has = has; congruent = congruent }
+  -- arguments that are pairwise related
+  pairs_related : (ps qs : Parts) → ArePairs (present base) Both ps qs → ArePairs (present base) R ps qs
+  pairs_related no_parts no_parts pairs = tt
+  pairs_related no_parts (part t qs) pairs = absurd pairs
+  pairs_related (part s ps) no_parts pairs = absurd pairs
+  pairs_related (part s ps) (part t qs) pairs = (by pairs.0, pairs_related ps qs pairs.1)
+    where
+      by : (s ≡ t) ⊎ ArePair (present base) Both s t → (s ≡ t) ⊎ ArePair (present base) R s t
+      by (inl e) = inl e
+      by (inr pair) = inr (record { first = pair.first; second = pair.second; related = pair.related.0 })
+
+  relates : Relates (present base) base.literals Both
+  relates = record {
+    reflexive = λ t here. (may.relates.reflexive t here, reflexive t here);
+    symmetric = λ s t here there both. (may.relates.symmetric s t here there both.0, symmetric s t here there both.1);
+    transitive = λ s t u here middle there first second. (may.relates.transitive s t u here middle there first.0 second.0, transitive s t u here middle there first second);
+    has = λ v w here there e. (may.relates.has v w here there e, has v w here there e);
+    congruent = λ a ps qs here there pairs.
+        let one = may.relates.congruent a ps qs here there (pairs_related ps qs pairs) in
+        (one, congruent a ps qs here there one pairs);
+  }
 
   -- ---- terms of one class
 
-  pub one_class : (s t : Term) → in_one_class (present base) (classes (present base) base.literals) s t ≡ true → Reaches s t
-  one_class s t e = by (same_term s t) refl
+  -- they are one, or both are present and linked
+  record IsClassed (s t : Term) : Type 0 where
+    first : IsAmong (present base) s
+    second : IsAmong (present base) t
+    both : Both s t
+
+  classed : (s t : Term) → in_one_class (present base) (classes (present base) base.literals) s t ≡ true → (s ≡ t) ⊎ IsClassed s t
+  classed s t e = by (same_term s t) refl
     where
-      by : (b : Bool) → same_term s t ≡ b → Reaches s t
-      by true f = λ node more goes. goes node (has_self node) (inl (terms_are s t f))
+      by : (b : Bool) → same_term s t ≡ b → (s ≡ t) ⊎ IsClassed s t
+      by true f = inl (terms_are s t f)
       by false f =
-          related_classes base.literals Reaches (present base) relates s t
-          (labelled_among (present base) (classes (present base) base.literals) s t
-          (ap (λ (b : Bool). b || same_label (label_of (classes (present base) base.literals) (place_from (present base) s 0)) (label_of (classes (present base) base.literals) (place_from (present base) t 0))) (sym f) ∙ e)) e
+          let here = labelled_among (present base) (classes (present base) base.literals) s t
+          (ap (λ (b : Bool). b || same_label (label_of (classes (present base) base.literals) (place_from (present base) s 0)) (label_of (classes (present base) base.literals) (place_from (present base) t 0))) (sym f) ∙ e) in
+          inr (record { first = here.0; second = here.1; both = related_classes base.literals Both (present base) relates s t here.0 e })
+
+  -- a chain of the two may be taken
+  pub class_pair : (s t : Term) → in_one_class (present base) (classes (present base) base.literals) s t ≡ true → (s ≡ t) ⊎ May (s ∷ t ∷ [])
+  class_pair s t e = by (classed s t e)
+    where
+      by : (s ≡ t) ⊎ IsClassed s t → (s ≡ t) ⊎ May (s ∷ t ∷ [])
+      by (inl same) = inl same
+      by (inr h) = inr (may.pairs s t h.first h.second h.both.0)
+
+  pub class_reached : (s t : Term) → in_one_class (present base) (classes (present base) base.literals) s t ≡ true → Reaches s t
+  class_reached s t e = by (classed s t e)
+    where
+      by : (s ≡ t) ⊎ IsClassed s t → Reaches s t
+      by (inl same) = λ node more goes. goes node (has_self node) (inl same)
+      by (inr h) = h.both.1
+
+-- so where each chain may be taken
+pub one_class : (types : List Entry) (Closable : Node → Type 0) (steps : Steps types Closable) (base : Node) → IsSortedNode base → (s t : Term) → in_one_class (present base) (classes (present base) base.literals) s t ≡ true
+    → (node : Node) → HasLiterals base node → Goes types AnyChain Closable (any_chains types Closable steps) node s t → Closable node
+one_class types Closable steps base sorted = class_reached types AnyChain Closable (any_chains types Closable steps) base sorted AnyTwo (may_link_any base)

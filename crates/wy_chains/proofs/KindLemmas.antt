@@ -14,7 +14,7 @@ use Rattle.wy_chains.proofs.LinkLemmas.{AreLinked, equated}
 
 -- ---- terms among others
 
-formula_front : (xs ys : List Term) (t : Term) → has_formula xs t ≡ true → has_formula (xs ++ ys) t ≡ true
+pub formula_front : (xs ys : List Term) (t : Term) → has_formula xs t ≡ true → has_formula (xs ++ ys) t ≡ true
 formula_front [] ys t e = absurd cc
 formula_front (x ∷ xs) ys t e = by (same_term x t) e (formula_front xs ys t)
   where
@@ -22,18 +22,18 @@ formula_front (x ∷ xs) ys t e = by (same_term x t) e (formula_front xs ys t)
     by true f rest = refl
     by false f rest = rest f
 
-formula_later : (x t : Term) (xs : List Term) → has_formula xs t ≡ true → has_formula (x ∷ xs) t ≡ true
+pub formula_later : (x t : Term) (xs : List Term) → has_formula xs t ≡ true → has_formula (x ∷ xs) t ≡ true
 formula_later x t xs e = by (same_term x t)
   where
     by : (b : Bool) → cond b true (has_formula xs t) ≡ true
     by true = refl
     by false = e
 
-formula_back : (xs ys : List Term) (t : Term) → has_formula ys t ≡ true → has_formula (xs ++ ys) t ≡ true
+pub formula_back : (xs ys : List Term) (t : Term) → has_formula ys t ≡ true → has_formula (xs ++ ys) t ≡ true
 formula_back [] ys t e = e
 formula_back (x ∷ xs) ys t e = formula_later x t (xs ++ ys) (formula_back xs ys t e)
 
-formula_first : (t : Term) (xs : List Term) → has_formula (t ∷ xs) t ≡ true
+pub formula_first : (t : Term) (xs : List Term) → has_formula (t ∷ xs) t ≡ true
 formula_first t xs = ap (λ (b : Bool). cond b true (has_formula xs t)) (terms_self t)
 
 -- ---- the other sides of equations
@@ -68,7 +68,7 @@ linked_there node s t is (inr e) = formula_later t s (equated_to node.literals t
 
 -- ---- pairs
 
-with_each : (test : Kinded → Kinded → Bool) (p : Kinded) (kind : DataKind) (us : List Term) (s : Term) → has_formula us s ≡ true → test p (s, kind) ≡ true → any_with test p (each_of_kind kind us) ≡ true
+pub with_each : (test : Kinded → Kinded → Bool) (p : Kinded) (kind : DataKind) (us : List Term) (s : Term) → has_formula us s ≡ true → test p (s, kind) ≡ true → any_with test p (each_of_kind kind us) ≡ true
 with_each test p kind [] s e f = absurd cc
 with_each test p kind (u ∷ us) s e f = by (same_term u s) refl e (with_each test p kind us s)
   where

@@ -6,5 +6,5 @@ pub mod LinkLemmas
 pub mod ChainLemmas
 pub mod ClassLemmas
 -- clashes
-mod KindLemmas
+pub mod KindLemmas
 pub mod ClashLemmas

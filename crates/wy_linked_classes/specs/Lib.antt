@@ -1,2 +1,6 @@
 -- what public contracts cite
 pub mod Linked
+-- what functions inside owe each other
+pub mod Grown
+pub mod Links
+pub mod Ended

@@ -7,12 +7,17 @@ ghost use Rattle.wy_linked_classes.specs.Linked.{IsBase, LinksOrEnds};
 ghost use Rattle.wy_term.specs.Condition.{Entry};
 ghost use Rattle.wy_term.specs.Nodes.{tree_at};
 
+use crate::clashing::close_at_once;
+use crate::labelled::labelled_terms;
+use crate::rounds::saturate;
 use wy_drafts::Draft;
 use wy_judging::Branch;
+use wy_least_classes::classes_are_least;
 use wy_term::{NoMemory, Terms};
 
 /// Writes chains that join the terms of each class of a node, the base, of which the draft's node has at least as much; where the draft's
-/// node can then be shut, or literals of it clash, writes that too, and says whether it did.
+/// node can then be shut, or literals of it clash, writes that too, and says whether it did. It writes chains until none adds anything:
+/// each round takes the time of a chain for each three terms of one class.
 pub fn close_by_classes(
     terms: &mut Terms,
     draft: &mut Draft,
@@ -24,5 +29,8 @@ pub fn close_by_classes(
     ensures draft { OnOk result (IsDraft terms.new draft.new) }
     ensures stays { Stays terms.old terms.new }
 {
-    Err(NoMemory)
+    classes_are_least();
+    let labelled = labelled_terms(terms, base)?;
+    saturate(terms, draft, &labelled)?;
+    close_at_once(terms, draft)
 }
