@@ -1,0 +1,75 @@
+-- Loops over what stands in a node: what they have done so far is what the definition makes of the first items.
+use Rattle.std.proofs.Common.{◌≡◌, ◌∙◌, ◌<◌, ◌≤◌, ◌+◌, ℕ, zero, suc, List, [], ◌∷◌, ◌++◌, map, take, get_or, length, Bool, true, false, cond, Some, None, refl, sym, ap, subst, arith}
+use Rattle.std.specs.Prelude.{slice_get}
+use Rattle.std.proofs.lemmas.Option.{slice_get-get_or}
+use Rattle.wy_term.specs.Condition.{Entry}
+use Rattle.wy_judge.specs.Node.{Literal, Node, same_literal, has_literal}
+use Rattle.wy_closing.proofs.AtLeastLemmas.{literal_self}
+use Rattle.wy_drafts.specs.Progress.{Progress}
+use Rattle.wy_written_rounds.specs.Moving.{AllOf, Moves}
+use Rattle.wy_written_rounds.proofs.MovingLemmas.{moves_none, moves_on, moves_as}
+
+some_is : {X : Type 0} (x y : X) → Some x ≡ Some y → x ≡ y
+some_is x y e = cc
+
+take_next : {X : Type 0} (xs : List X) (i : ℕ) (x : X) → slice_get xs i ≡ Some x → take (suc i) xs ≡ take i xs ++ x ∷ []
+take_next [] i x e = absurd cc
+take_next (y ∷ ys) zero x e = ap (λ z. z ∷ []) (some_is y x e)
+take_next (y ∷ ys) (suc i) x e = ap (λ zs. y ∷ zs) (take_next ys i x e)
+
+take_here : {X : Type 0} (xs : List X) (i : ℕ) (x : X) → slice_get xs i ≡ Some x → take (i + 1) xs ≡ take i xs ++ x ∷ []
+take_here xs i x e = let next : i + 1 ≡ suc i = omega arith in ap (λ (j : ℕ). take j xs) next ∙ take_next xs i x e
+
+take_all : {X : Type 0} (xs : List X) (i : ℕ) → length xs ≤ i → take i xs ≡ xs
+take_all [] zero le = refl
+take_all [] (suc i) le = refl
+take_all (x ∷ xs) zero le = absurd (omega (arith, le))
+take_all (x ∷ xs) (suc i) le = ap (λ ys. x ∷ ys) (take_all xs i (omega (arith, le)))
+
+map_last : {X Y : Type 0} (f : X → Y) (xs : List X) (x : X) → map f (xs ++ x ∷ []) ≡ map f xs ++ f x ∷ []
+map_last f [] x = refl
+map_last f (y ∷ ys) x = ap (λ zs. f y ∷ zs) (map_last f ys x)
+
+-- the items so far, and one more
+pub so_far : {X Y : Type 0} (f : X → Y) (xs : List X) (i : ℕ) (x : X) → slice_get xs i ≡ Some x → map f (take (i + 1) xs) ≡ map f (take i xs) ++ f x ∷ []
+so_far f xs i x e = ap (map f) (take_here xs i x e) ∙ map_last f (take i xs) x
+
+pub all_so_far : {X Y : Type 0} (f : X → Y) (xs : List X) (i : ℕ) → length xs ≤ i → map f (take i xs) ≡ map f xs
+all_so_far f xs i le = ap (map f) (take_all xs i le)
+
+-- ---- what holds of each item
+
+pub of_all : {X Y : Type 0} (P : Y → Type 0) (f : X → Y) (xs : List X) (i : ℕ) (x : X) → slice_get xs i ≡ Some x → AllOf P (map f xs) → P (f x)
+of_all P f [] i x e h = absurd cc
+of_all P f (y ∷ ys) zero x e h = subst (λ z. P (f z)) (some_is y x e) h.0
+of_all P f (y ∷ ys) (suc i) x e h = of_all P f ys i x e h.1
+
+pub literal_there : {X : Type 0} (f : X → Literal) (xs : List X) (i : ℕ) (x : X) → slice_get xs i ≡ Some x → has_literal (map f xs) (f x) ≡ true
+literal_there f [] i x e = absurd cc
+literal_there f (y ∷ ys) zero x e = ap (λ (l : Literal). has_literal (l ∷ map f ys) (f x)) (ap f (some_is y x e)) ∙ ap (λ (b : Bool). cond b true (has_literal (map f ys) (f x))) (literal_self (f x))
+literal_there f (y ∷ ys) (suc i) x e = by (same_literal (f y) (f x)) (literal_there f ys i x e)
+  where
+    by : (b : Bool) → has_literal (map f ys) (f x) ≡ true → cond b true (has_literal (map f ys) (f x)) ≡ true
+    by true g = refl
+    by false g = g
+
+-- ---- functions of a list that take one item after the other
+
+pub one_more : {S X : Type 0} (F : S → List X → S) (g : S → X → S) → ((s : S) → F s [] ≡ s) → ((s : S) (x : X) (xs : List X) → F s (x ∷ xs) ≡ F (g s x) xs) → (xs : List X) (x : X) (s : S) → F s (xs ++ x ∷ []) ≡ g (F s xs) x
+one_more F g none so [] x s = so s x [] ∙ none (g s x) ∙ ap (λ r. g r x) (sym (none s))
+one_more F g none so (y ∷ ys) x s = so s y (ys ++ x ∷ []) ∙ one_more F g none so ys x (g s y) ∙ ap (λ r. g r x) (sym (so s y ys))
+
+-- ---- moves
+
+module _ {X Y : Type 0} (types : List Entry) (base : Node) (F : Node → List Y → Node) (g : Node → Y → Node) (none : (node : Node) → F node [] ≡ node) (so : (node : Node) (y : Y) (ys : List Y) → F node (y ∷ ys) ≡ F (g node y) ys) (f : X → Y) (xs : List X) where
+  pub loop_begins : (d : Progress) → Moves types base (λ node. F node (map f (take 0 xs))) d d
+  loop_begins d = moves_none types base (λ node. F node (map f (take 0 xs))) d (λ node. sym (none node))
+
+  pub loop_goes : (i : ℕ) (x : X) (old now new : Progress) → slice_get xs i ≡ Some x → Moves types base (λ node. F node (map f (take i xs))) old now → Moves types base (λ node. g node (f x)) now new → Moves types base (λ node. F node (map f (take (i + 1) xs))) old new
+  loop_goes i x old now new here h k =
+      moves_as types base (λ node. g (F node (map f (take i xs))) (f x)) (λ node. F node (map f (take (i + 1) xs))) old new
+      (λ node. sym (ap (F node) (so_far f xs i x here) ∙ one_more F g none so (map f (take i xs)) (f x) node))
+      (moves_on types base (λ node. F node (map f (take i xs))) (λ node. g node (f x)) old now new h k)
+
+  pub loop_ends : (i : ℕ) (old now : Progress) → length xs ≤ i → Moves types base (λ node. F node (map f (take i xs))) old now → Moves types base (λ node. F node (map f xs)) old now
+  loop_ends i old now le h = moves_as types base (λ node. F node (map f (take i xs))) (λ node. F node (map f xs)) old now (λ node. ap (F node) (all_so_far f xs i le)) h

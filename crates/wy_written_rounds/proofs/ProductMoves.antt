@@ -1,0 +1,53 @@
+-- Products of bounds.
+use Rattle.std.proofs.Common.{◌≡◌, ◌∙◌, ◌-◌, ℕ, zero, suc, List, [], ◌∷◌, Bool, true, false, cond, eqb, Option, Some, None, refl, sym, ap, ap₂, subst}
+use Rattle.std.specs.Prelude.{slice_get}
+use Rattle.wy_term.specs.Term.{Term}
+use Rattle.wy_lin.specs.Linear.{◌>>=◌, Linear}
+use Rattle.wy_lin.specs.TermForm.{form_of, form_of_literal}
+use Rattle.wy_judge.specs.Node.{Literal, same_literal, has_literal}
+use Rattle.wy_valid.specs.Literals.{literal_at, formula_of}
+use Rattle.wy_valid.specs.Sums.{form_at}
+use Rattle.wy_valid.specs.Products.{Affine, affine, as_product, product_of, product_stated}
+use Rattle.wy_closing.proofs.AtLeastLemmas.{literal_self}
+
+some_is : {X : Type 0} (x y : X) → Some x ≡ Some y → x ≡ y
+some_is x y e = cc
+
+slice_there : (ls : List Literal) (i : ℕ) (l : Literal) → slice_get ls i ≡ Some l → has_literal ls l ≡ true
+slice_there [] i l e = absurd cc
+slice_there (k ∷ ks) zero l e = ap (λ (m : Literal). has_literal (m ∷ ks) l) (some_is k l e) ∙ ap (λ (b : Bool). cond b true (has_literal ks l)) (literal_self l)
+slice_there (k ∷ ks) (suc i) l e = by (same_literal k l) (slice_there ks i l e)
+  where
+    by : (b : Bool) → has_literal ks l ≡ true → cond b true (has_literal ks l) ≡ true
+    by true g = refl
+    by false g = g
+
+-- a literal with a number stands there
+pub numbered_there : (ls : List Literal) (i : ℕ) (l : Literal) → literal_at ls i ≡ Some l → has_literal ls l ≡ true
+numbered_there ls i l e = by (eqb i 0) e
+  where
+    by : (b : Bool) → cond b None (slice_get ls (i - 1)) ≡ Some l → has_literal ls l ≡ true
+    by true f = absurd cc
+    by false f = slice_there ls (i - 1) l f
+
+abbrev form_by : Option Literal → Option (Linear Term)
+form_by o = o >>= λ l. form_of_literal (formula_of l)
+
+abbrev stated_by : Option (Linear Term) → Option (Linear Term) → Term → Option Term
+stated_by a b p = as_product p >>= λ u. form_of u.0 >>= λ f. form_of u.1 >>= λ g. a >>= λ h. b >>= λ k. affine f h >>= λ x. affine g k >>= λ y. product_of p u.0 u.1 x y
+
+-- the same literals state the same of a product, whatever their numbers
+pub stated_same : (ls ms : List Literal) (i j a b : ℕ) (p : Term) → literal_at ls i ≡ literal_at ms a → literal_at ls j ≡ literal_at ms b → product_stated ls i j p ≡ product_stated ms a b p
+stated_same ls ms i j a b p one two = ap₂ (λ (o q : Option Literal). stated_by (form_by o) (form_by q) p) one two
+
+-- a literal that is a bound is there
+pub record IsThere (ls : List Literal) (n : ℕ) : Type 0 where
+  pub literal : Literal
+  pub is : literal_at ls n ≡ Some literal
+
+pub bound_there : (ls : List Literal) (n : ℕ) (f : Linear Term) (x : Affine) → (form_at ls n >>= λ h. affine f h) ≡ Some x → IsThere ls n
+bound_there ls n f x e = by (literal_at ls n) refl e
+  where
+    by : (o : Option Literal) → literal_at ls n ≡ o → (form_by o >>= λ h. affine f h) ≡ Some x → IsThere ls n
+    by None g k = absurd cc
+    by (Some l) g k = record { literal = l; is = g }
