@@ -1,6 +1,6 @@
 -- Loops over what stands in a node: what they have done so far is what the definition makes of the first items.
-use Rattle.std.proofs.Common.{◌≡◌, ◌∙◌, ◌<◌, ◌≤◌, ◌+◌, ℕ, zero, suc, List, [], ◌∷◌, ◌++◌, map, take, get_or, length, Bool, true, false, cond, Some, None, refl, sym, ap, subst, arith}
-use Rattle.std.specs.Prelude.{slice_get}
+use Rattle.std.proofs.Common.{◌≡◌, ◌∙◌, ◌<◌, ◌≤◌, ◌+◌, ℕ, zero, suc, List, [], ◌∷◌, ◌++◌, map, take, get_or, length, Bool, true, false, cond, Some, None, Result, Ok, Err, refl, sym, ap, subst, arith}
+use Rattle.std.specs.Prelude.{slice_get, OnOk}
 use Rattle.std.proofs.lemmas.Option.{slice_get-get_or}
 use Rattle.wy_term.specs.Condition.{Entry}
 use Rattle.wy_judge.specs.Node.{Literal, Node, same_literal, has_literal}
@@ -73,3 +73,20 @@ module _ {X Y : Type 0} (types : List Entry) (base : Node) (F : Node → List Y 
 
   pub loop_ends : (i : ℕ) (old now : Progress) → length xs ≤ i → Moves types base (λ node. F node (map f (take i xs))) old now → Moves types base (λ node. F node (map f xs)) old now
   loop_ends i old now le h = moves_as types base (λ node. F node (map f (take i xs))) (λ node. F node (map f xs)) old now (λ node. ap (F node) (all_so_far f xs i le)) h
+
+-- ---- as more terms are there
+
+pub moves_at : {X : Type 0} (es fs : List Entry) (b c : Node) (t u : X) (M : List Entry → Node → X → Node → Node) (old new : Progress) → es ≡ fs → b ≡ c → t ≡ u → Moves es b (M es b t) old new → Moves fs c (M fs c u) old new
+moves_at es fs b c t u M old new types base same h =
+    subst (λ (x : _). Moves fs c (M fs c x) old new) same
+    (subst (λ (n : Node). Moves fs n (M fs n t) old new) base
+    (subst (λ (ts : List Entry). Moves ts b (M ts b t) old new) types h))
+
+-- the same of an answer
+pub moves_from : {X E : Type 0} (r : Result X E) (es fs : List Entry) (b c : Node) (d e : Progress) (f g : Node → Node) (new : Progress) → es ≡ fs → b ≡ c → d ≡ e → ((node : Node) → f node ≡ g node) → OnOk r (Moves es b f d new) → OnOk r (Moves fs c g e new)
+moves_from (Ok x) es fs b c d e f g new types base draft so h =
+    moves_as fs c f g e new so
+    (subst (λ (p : Progress). Moves fs c f p new) draft
+    (subst (λ (n : Node). Moves fs n f d new) base
+    (subst (λ (ts : List Entry). Moves ts b f d new) types h)))
+moves_from (Err x) es fs b c d e f g new types base draft so h = tt

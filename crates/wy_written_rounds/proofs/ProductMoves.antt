@@ -1,10 +1,17 @@
 -- Products of bounds.
-use Rattle.std.proofs.Common.{◌≡◌, ◌∙◌, ◌-◌, ℕ, zero, suc, List, [], ◌∷◌, Bool, true, false, cond, eqb, Option, Some, None, refl, sym, ap, ap₂, subst}
-use Rattle.std.specs.Prelude.{slice_get}
+use Rattle.std.proofs.Common.{◌≡◌, ◌∙◌, ◌-◌, ℕ, zero, suc, List, [], ◌∷◌, Bool, true, false, cond, eqb, ℤ, Option, Some, None, Result, refl, sym, ap, ap₂, subst}
+use Rattle.std.specs.Prelude.{slice_get, IfNone, IfOk, IfSome}
+use Rattle.wy_bounds.specs.Bounds.{AreBounds, Pushes}
+use Rattle.wy_bounds.specs.declared.tightest.Bound.{Bound}
+use Rattle.wy_term.specs.Condition.{Entry}
+use Rattle.wy_search.specs.Expansion.{with_product}
+use Rattle.wy_drafts.specs.Progress.{Progress}
+use Rattle.wy_written_rounds.specs.Moving.{Moves}
+use Rattle.wy_written_rounds.proofs.MovingLemmas.{moves_none}
 use Rattle.wy_term.specs.Term.{Term}
 use Rattle.wy_lin.specs.Linear.{◌>>=◌, Linear}
 use Rattle.wy_lin.specs.TermForm.{form_of, form_of_literal}
-use Rattle.wy_judge.specs.Node.{Literal, same_literal, has_literal}
+use Rattle.wy_judge.specs.Node.{Literal, Node, same_literal, has_literal}
 use Rattle.wy_valid.specs.Literals.{literal_at, formula_of}
 use Rattle.wy_valid.specs.Sums.{form_at}
 use Rattle.wy_valid.specs.Products.{Affine, affine, as_product, product_of, product_stated}
@@ -51,3 +58,23 @@ bound_there ls n f x e = by (literal_at ls n) refl e
     by : (o : Option Literal) → literal_at ls n ≡ o → (form_by o >>= λ h. affine f h) ≡ Some x → IsThere ls n
     by None g k = absurd cc
     by (Some l) g k = record { literal = l; is = g }
+
+abbrev pub first_of : Option (Affine × ℤ) → Option Affine
+first_of o = o >>= λ q. Some q.0
+
+-- what two bounds lead to, as more terms are there
+pub product_led : (leads : Node → (Node → Node) → Type 0) (now old : Node) (p q s t : Term) (x y : Option Bound) (f g : Linear Term) (b c : Bool) (v w : Option (Affine × ℤ)) → now ≡ old → p ≡ q → as_product q ≡ Some (s, t) → form_of s ≡ Some f → form_of t ≡ Some g → AreBounds old.literals f b x v → AreBounds old.literals g c y w → Pushes now.literals p x y (leads now) → leads old (λ done. with_product q s t done (first_of v) (first_of w))
+product_led leads now old p q s t x y f g b c v w node tree factors one two first second pushes =
+    (subst (λ (u : Term). Pushes old.literals u x y (leads old)) tree (subst (λ (n : Node). Pushes n.literals p x y (leads n)) node pushes)) s t f g b c v w factors one two first second
+
+-- nothing was written, but more terms are there
+pub moves_kept : (types : List Entry) (base : Node) (more : Node → Node) (d e : Progress) → e ≡ d → ((node : Node) → node ≡ more node) → Moves types base more d e
+moves_kept types base more d e same so = subst (λ (p : Progress). Moves types base more d p) (sym same) (moves_none types base more d so)
+
+-- ---- numbers of literals
+
+pub if_there : {E : Type 0} (r : Result (Option ℕ) E) (ls : List Literal) (l : Literal) (o : Option Literal) → Some l ≡ o → IfOk r (λ q. IfSome q (λ k. literal_at ls k ≡ Some l)) → IfOk r (λ q. IfSome q (λ k. literal_at ls k ≡ o))
+if_there r ls l o e h = subst (λ (q : Option Literal). IfOk r (λ m. IfSome m (λ k. literal_at ls k ≡ q))) e h
+
+pub if_lacking : {E : Type 0} (r : Result (Option ℕ) E) (ls : List Literal) (l m : Literal) (o : Option Literal) → Some l ≡ o → o ≡ Some m → IfOk r (λ q. IfNone q (has_literal ls l ≡ false)) → IfOk r (λ q. IfNone q (has_literal ls m ≡ false))
+if_lacking r ls l m o e is h = subst (λ (k : Literal). IfOk r (λ q. IfNone q (has_literal ls k ≡ false))) (some_is l m (e ∙ is)) h

@@ -1,5 +1,9 @@
 -- Witnesses and instances.
-use Rattle.std.proofs.Common.{◌≡◌, ◌∙◌, ℕ, List, [], ◌∷◌, ◌++◌, Bool, true, false, Option, Some, None, refl, sym, ap, subst}
+use Rattle.std.proofs.Common.{◌≡◌, ◌∙◌, ◌+◌, ℕ, List, [], ◌∷◌, ◌++◌, map, take, Bool, true, false, cond, Option, Some, None, refl, sym, ap, subst}
+use Rattle.std.specs.Prelude.{slice_get}
+use Rattle.wy_judging.specs.Seen.{seen_literal}
+use Rattle.wy_stated_facts.proofs.SpotLemmas.{witness_had}
+use Rattle.wy_written_rounds.proofs.LoopLemmas.{one_more, so_far}
 use Rattle.wy_term.specs.Term.{Term}
 use Rattle.wy_term.specs.Condition.{Entry}
 use Rattle.wy_lin.specs.Linear.{◌>>=◌}
@@ -56,3 +60,34 @@ witness_follows types base node l r k old new yes w at is h =
     ∙ (ap (λ (o : Option Range). (o >>= λ r. Some (witnessed_at l.holds r (witness old.node r))) >>= left_with old.node) is
     ∙ ap (λ (x : Term). left_with old.node (witnessed_at l.holds r x)) (sym (witness_same node old.node r h.near))))
     (more_formulas base node fs h.keeps) (near_formulas node old.node fs h.near)
+
+-- ---- spots
+
+abbrev spot_with : Node → List Literal → List Term → ℕ → Spot
+spot_with node had names rounds = record { node = node; had = had; names = names; rounds = rounds }
+
+module _ (p : Spot) (l : Literal) (r : Range) (lacks : has_literal p.had l ≡ false) where
+  abbrev made : Spot
+  made = spot_with (with_formulas p.node (witnessed_at l.holds r (witness p.node r))) (p.had ++ l ∷ []) (p.names ++ witness p.node r ∷ []) p.rounds
+
+  by_lack : (b : Bool) → b ≡ false → cond b p made ≡ made
+  by_lack true e = absurd cc
+  by_lack false e = refl
+
+  -- a literal that had no witness
+  pub witness_new : with_witness p l (Some r) ≡ made
+  witness_new = by_lack (has_literal p.had l) lacks
+
+pub none_witness : (p : Spot) (l : Literal) → of_one l ≡ None → p ≡ with_witness p l (of_one l)
+none_witness p l e = sym (ap (with_witness p l) e)
+
+pub had_witness : (p : Spot) (l : Literal) (r : Range) → of_one l ≡ Some r → has_literal p.had l ≡ true → p ≡ with_witness p l (of_one l)
+had_witness p l r e up = witness_had p l r up ∙ sym (ap (with_witness p l) e)
+
+pub new_witness : (p : Spot) (l : Literal) (r : Range) → of_one l ≡ Some r → has_literal p.had l ≡ false → spot_with (with_formulas p.node (witnessed_at l.holds r (witness p.node r))) (p.had ++ l ∷ []) (p.names ++ witness p.node r ∷ []) p.rounds ≡ with_witness p l (of_one l)
+new_witness p l r e lacks = sym (ap (with_witness p l) e ∙ witness_new p l r lacks)
+
+-- one literal more
+pub witnesses_more : (at : ℕ → Term) (ps : List (ℕ × Bool)) (i : ℕ) (q : ℕ × Bool) (p : Spot) → slice_get ps i ≡ Some q
+    → with_witnesses p (map (seen_literal at) (take (i + 1) ps)) ≡ with_witness (with_witnesses p (map (seen_literal at) (take i ps))) (seen_literal at q) (of_one (seen_literal at q))
+witnesses_more at ps i q p here = ap (with_witnesses p) (so_far (seen_literal at) ps i q here) ∙ one_more with_witnesses (λ s l. with_witness s l (of_one l)) (λ s. refl) (λ s l ls. refl) (map (seen_literal at) (take i ps)) (seen_literal at q) p
