@@ -95,7 +95,7 @@ not_some : (n : Node) → left_only (Some n) ≡ None → ⊥
 not_some n e = cc
 
 -- a step that is tried, where it is known to which node it leads, if to any
-pub tried : (types : List Entry) (base a b : Node) (s : Written) (old new : Progress) (yes : Bool) (o : Option Node) → Writes types s old new yes → IsSortedStep s → IsAlong types base a old → after types old.node s ≡ left_only o → IsAtLeast base b → IsNear b (or_same old.node o) → Follows types base b old new
+pub tried : (types : List Entry) (base a b : Node) (s : Written) (old new : Progress) (valid : Bool) (o : Option Node) → Writes types s old new valid → IsSortedStep s → IsAlong types base a old → after types old.node s ≡ left_only o → IsAtLeast base b → IsNear b (or_same old.node o) → Follows types base b old new
 tried types base a b s old new true (Some n) w sorted h e keeps near =
     along_by types base a b old new h (w.1 sorted) keeps (subst (IsNear b) (only_one n new.node (sym e ∙ w.0)) near)
 tried types base a b s old new true None w sorted h e keeps near = absurd (not_none new.node (sym e ∙ w.0))

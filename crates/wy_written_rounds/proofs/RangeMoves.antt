@@ -52,10 +52,10 @@ instances_so holds (Some r) node t ts = refl
 
 -- ---- witnesses
 
-pub witness_follows : (types : List Entry) (base node : Node) (l : Literal) (r : Range) (k : ℕ) (old new : Progress) (yes : Bool) → Writes types (wit k) old new yes → literal_at old.node.literals k ≡ Some l → of_one l ≡ Some r → IsAlong types base node old → Follows types base (with_formulas node (witnessed_at l.holds r (witness node r))) old new
-witness_follows types base node l r k old new yes w at is h =
+pub witness_follows : (types : List Entry) (base node : Node) (l : Literal) (r : Range) (k : ℕ) (old new : Progress) (valid : Bool) → Writes types (wit k) old new valid → literal_at old.node.literals k ≡ Some l → of_one l ≡ Some r → IsAlong types base node old → Follows types base (with_formulas node (witnessed_at l.holds r (witness node r))) old new
+witness_follows types base node l r k old new valid w at is h =
     let fs = witnessed_at l.holds r (witness node r) in
-    tried types base node (with_formulas node fs) (wit k) old new yes (Some (with_formulas old.node fs)) w tt h
+    tried types base node (with_formulas node fs) (wit k) old new valid (Some (with_formulas old.node fs)) w tt h
     (ap (λ (o : Option Literal). (o >>= λ l. of_one l >>= λ r. Some (witnessed_at l.holds r (witness old.node r))) >>= left_with old.node) at
     ∙ (ap (λ (o : Option Range). (o >>= λ r. Some (witnessed_at l.holds r (witness old.node r))) >>= left_with old.node) is
     ∙ ap (λ (x : Term). left_with old.node (witnessed_at l.holds r x)) (sym (witness_same node old.node r h.near))))
