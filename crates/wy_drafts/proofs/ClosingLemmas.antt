@@ -1,8 +1,7 @@
 -- Steps that close a node: one is written where it is valid, and nothing is changed where it isn't.
-use Rattle.std.proofs.Common.{◌≡◌, ℕ, Bool, true, false, List, ◌∷◌, [], ◌++◌, Option, Some, None, sym, ap, ◌∙◌}
+use Rattle.std.proofs.Common.{◌≡◌, ℕ, Bool, true, false, List, Option, sym, ap, ◌∙◌}
 use Rattle.wy_term.specs.Condition.{Entry}
 use Rattle.wy_term.specs.Nodes.{Plain, tree_at}
-use Rattle.wy_term.specs.Term.{Term}
 use Rattle.wy_facts.specs.Seen.{Stays}
 use Rattle.wy_judge.specs.Node.{Node}
 use Rattle.wy_cert.specs.Steps.{Written, sum_of}

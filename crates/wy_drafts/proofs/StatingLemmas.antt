@@ -1,5 +1,5 @@
 -- What a step states, added to a draft: the step was written, or adds nothing.
-use Rattle.std.proofs.Common.{◌≡◌, ◌<◌, ◌⊎◌, inl, inr, ℕ, List, [], ◌∷◌, ◌++◌, Bool, true, false, Option, Some, None, Result, Ok, Err, length, refl, sym, ap, ◌∙◌, subst}
+use Rattle.std.proofs.Common.{◌≡◌, ◌<◌, ◌⊎◌, inl, inr, ℕ, List, [], ◌∷◌, ◌++◌, Bool, true, Option, Some, None, Result, Ok, Err, length, refl, sym, ap, ◌∙◌, subst}
 use Rattle.std.specs.Prelude.{IfOk, IfSome, OnOk, Vec, is_some, option_map}
 use Rattle.std.specs.declared.alloc.Global.{Global}
 use Rattle.wy_term.specs.Term.{Term}
@@ -9,7 +9,7 @@ use Rattle.wy_lin.specs.Linear.{◌>>=◌}
 use Rattle.wy_lin.proofs.OptionLemmas.{some}
 use Rattle.wy_facts.specs.Seen.{AreBelow, Stays, terms_at}
 use Rattle.wy_facts.proofs.StepLemmas.{terms_kept}
-use Rattle.wy_judge.specs.Node.{Node, added, with_formulas}
+use Rattle.wy_judge.specs.Node.{Node, added}
 use Rattle.wy_cert.specs.Steps.{Written, chain, cut, inst, wit, fact, prod}
 use Rattle.wy_valid.specs.Sums.{summed, cut_of}
 use Rattle.wy_valid.specs.Ranges.{instance_stated, witness_stated}
