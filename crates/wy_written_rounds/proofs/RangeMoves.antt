@@ -1,6 +1,6 @@
 -- Witnesses and instances.
 use Rattle.std.proofs.Common.{◌≡◌, ◌∙◌, ◌+◌, ℕ, List, [], ◌∷◌, ◌++◌, map, take, Bool, true, false, cond, Option, Some, None, refl, sym, ap, subst}
-use Rattle.std.specs.Prelude.{slice_get}
+use Rattle.std.specs.Prelude.{slice_get, is_some, option_map}
 use Rattle.wy_judging.specs.Seen.{seen_literal}
 use Rattle.wy_stated_facts.proofs.SpotLemmas.{witness_had}
 use Rattle.wy_written_rounds.proofs.LoopLemmas.{one_more, so_far}
@@ -91,3 +91,13 @@ new_witness p l r e lacks = sym (ap (with_witness p l) e ∙ witness_new p l r l
 pub witnesses_more : (at : ℕ → Term) (ps : List (ℕ × Bool)) (i : ℕ) (q : ℕ × Bool) (p : Spot) → slice_get ps i ≡ Some q
     → with_witnesses p (map (seen_literal at) (take (i + 1) ps)) ≡ with_witness (with_witnesses p (map (seen_literal at) (take i ps))) (seen_literal at q) (of_one (seen_literal at q))
 witnesses_more at ps i q p here = ap (with_witnesses p) (so_far (seen_literal at) ps i q here) ∙ one_more with_witnesses (λ s l. with_witness s l (of_one l)) (λ s. refl) (λ s l ls. refl) (map (seen_literal at) (take i ps)) (seen_literal at q) p
+
+-- ---- whether there is a range
+
+pub some_mapped : {X Y : Type 0} (f : X → Y) (o : Option X) → is_some o ≡ is_some (option_map f o)
+some_mapped f None = refl
+some_mapped f (Some x) = refl
+
+pub some_of : {X : Type 0} (o : Option X) → is_some o ≡ true → (x : X) × (o ≡ Some x)
+some_of None e = absurd cc
+some_of (Some x) e = (x, refl)

@@ -16,7 +16,7 @@ ghost use Rattle.wy_written_rounds.specs.Moving.{AllOf, IsFit, Moves};
 use crate::stated::write_stated;
 use wy_drafts::Draft;
 use wy_judging::{Branch, pending_at};
-use wy_searching::{is_element, read_count};
+use wy_stated_facts::{is_element, read_count};
 use wy_term::{Cond, NoMemory, Node, Terms};
 
 // ---- elements of an array that is written out

@@ -16,7 +16,7 @@ use crate::kinds::write_kind_facts;
 use crate::plain::{write_lengths, write_plain};
 use wy_drafts::Draft;
 use wy_judging::Branch;
-use wy_searching::standing;
+use wy_classes::standing;
 use wy_term::{Cond, NoMemory, Terms};
 
 // The facts of one schema.

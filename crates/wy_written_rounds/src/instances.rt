@@ -1,5 +1,5 @@
 //! Instances.
-ghost use Rattle.std.specs.Prelude.{◌≡◌, ◌<◌, [], ◌∷◌, List, true, OnOk, length, map};
+ghost use Rattle.std.specs.Prelude.{◌≡◌, ◌<◌, [], ◌∷◌, List, true, IfOk, OnOk, is_some, length, map};
 ghost use Rattle.wy_drafts.specs.Draft.{IsDraft, seen_draft};
 ghost use Rattle.wy_facts.specs.Seen.{AreBelow, Stays};
 ghost use Rattle.wy_judge.specs.Node.{Node, has_literal};
@@ -60,6 +60,15 @@ fn write_instances_of(
     Ok(())
 }
 
+// Whether a literal calls for instances.
+fn calls_for_instances(terms: &Terms, atom: u32, holds: bool) -> Result<bool, NoMemory>
+    requires { atom < length terms.now }
+    ensures { IfOk result (λ b. b ≡ is_some (of_each (seen_literal (tree_at terms.now) (atom, holds)))) }
+{
+    let range = of_each(terms, atom, holds)?;
+    Ok(range.is_some())
+}
+
 // The same, where only a literal that calls for instances is looked at.
 fn write_instances_by(
     terms: &mut Terms,
@@ -75,9 +84,10 @@ fn write_instances_by(
     ensures draft { OnOk result (IsDraft terms.new draft.new) }
     ensures stays { Stays terms.old terms.new }
 {
-    match of_each(terms, atom, holds)? {
-        Some(_) => write_instances_of(terms, draft, atom, holds, all),
-        None => Ok(()),
+    if calls_for_instances(terms, atom, holds)? {
+        write_instances_of(terms, draft, atom, holds, all)
+    } else {
+        Ok(())
     }
 }
 

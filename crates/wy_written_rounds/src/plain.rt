@@ -14,7 +14,7 @@ ghost use Rattle.wy_written_rounds.specs.Moving.{AllOf, IsFit, Moves};
 use crate::stated::write_stated;
 use wy_drafts::Draft;
 use wy_judging::{Branch, pending_at};
-use wy_searching::measured;
+use wy_stated_facts::measured;
 use wy_term::{Cond, NoMemory, Terms};
 
 // What a schema states of a term; of a denial none states anything.

@@ -1,6 +1,7 @@
 //! Products of bounds.
 ghost use Rattle.std.specs.Prelude.{◌≡◌, ◌<◌, List, Some, false, option_map, IfNone, IfOk, IfSome, OnOk, length, map};
 ghost use Rattle.wy_bounds.specs.Bounds.{AreTightest, Pushes};
+ghost use Rattle.wy_bounds.specs.Known.{AreKnown};
 ghost use Rattle.wy_closing_rounds.specs.Leaves.{IsFoldedThroughout, IsSortedThroughout};
 ghost use Rattle.wy_drafts.specs.Draft.{IsDraft, seen_draft};
 ghost use Rattle.wy_facts.specs.Seen.{Stays};
@@ -10,7 +11,6 @@ ghost use Rattle.wy_lin.specs.Linear.{Linear};
 ghost use Rattle.wy_lin.specs.TermForm.{form_of};
 ghost use Rattle.wy_search.specs.Expansion as search;
 ghost use Rattle.wy_search.specs.Standing.{standing};
-ghost use Rattle.wy_searching.specs.Known.{AreKnown};
 ghost use Rattle.wy_term.specs.Condition.{Entry};
 ghost use Rattle.wy_term.specs.Nodes.{tree_at};
 ghost use Rattle.wy_term.specs.Term.{Term};
@@ -18,9 +18,10 @@ ghost use Rattle.wy_valid.specs.Literals.{literal_at};
 ghost use Rattle.wy_valid.specs.Products.{as_product};
 ghost use Rattle.wy_written_rounds.specs.Moving.{IsFit, Moves};
 
+use wy_bounds::{Bound, Bounds, KnownForms, bounds_of};
+use wy_classes::standing;
 use wy_drafts::{Draft, literal_number, write_product};
 use wy_judging::{Branch, literal_at, pending_at};
-use wy_searching::{Bound, Bounds, KnownForms, bounds_of, standing};
 use wy_term::{NoMemory, Node, Terms};
 
 // The number that the literal with this number in the node has in the draft's node, if it stands there.

@@ -29,6 +29,6 @@ pub fn write_stated(
     ensures draft { OnOk result (IsDraft terms.new draft.new) }
     ensures stays { Stays terms.old terms.new }
 {
-    write_fact(terms, cond, draft, schema, all)?;
+    write_fact(terms, draft, cond, schema, all)?;
     Ok(())
 }

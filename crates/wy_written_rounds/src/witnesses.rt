@@ -1,5 +1,5 @@
 //! Witnesses.
-ghost use Rattle.std.specs.Prelude.{◌≡◌, ◌<◌, List, Some, true, OnOk, length};
+ghost use Rattle.std.specs.Prelude.{◌≡◌, ◌<◌, List, Some, true, IfOk, OnOk, is_some, length};
 ghost use Rattle.wy_drafts.specs.Draft.{IsDraft, seen_draft};
 ghost use Rattle.wy_facts.specs.Seen.{Stays};
 ghost use Rattle.wy_judge.specs.Node.{Node, has_literal, with_formulas};
@@ -40,6 +40,15 @@ fn write_witness_of(
     }
 }
 
+// Whether a literal calls for a witness.
+fn calls_for_witness(terms: &Terms, atom: u32, holds: bool) -> Result<bool, NoMemory>
+    requires { atom < length terms.now }
+    ensures { IfOk result (λ b. b ≡ is_some (of_one (seen_literal (tree_at terms.now) (atom, holds)))) }
+{
+    let range = of_one(terms, atom, holds)?;
+    Ok(range.is_some())
+}
+
 // That of a literal, if it calls for one and had none, and that it had one.
 fn write_new_witness(
     terms: &mut Terms,
@@ -57,16 +66,14 @@ fn write_new_witness(
     ensures draft { OnOk result (IsDraft terms.new draft.new) }
     ensures stays { Stays terms.old terms.new }
 {
-    match of_one(terms, atom, holds)? {
-        None => Ok(()),
-        Some(_) => {
-            if has_literal(terms, had, atom, holds) {
-                return Ok(());
-            }
-            add_literal(terms, had, atom, holds)?;
-            write_witness_of(terms, draft, atom, holds)
-        }
+    if !calls_for_witness(terms, atom, holds)? {
+        return Ok(());
     }
+    if has_literal(terms, had, atom, holds) {
+        return Ok(());
+    }
+    add_literal(terms, had, atom, holds)?;
+    write_witness_of(terms, draft, atom, holds)
 }
 
 /// The witness of each literal that calls for one and had none. Older numbers name what they named.

@@ -29,7 +29,7 @@ returns-then-has_literal-clause-value c = λ fit.
     let is = c.in-Kind.ensures.value in
     let up : has_literal node.literals (record { atom = t; holds = true }) ≡ true = search rules in
     let test : IsSorted (one (of_kind is.0) v) = subst IsSorted is.1 fit.sorted in
-    on_ok c.write_stated.result _ _ (test_moves (condition_of c.args.terms.now c.args.cond.now).types node t v is.0 _ _ is.1 fit up) (c.write_stated.ensures.value node (test.1, tt))
+    on_ok c.write_stated-then-has_literal.result _ _ (test_moves (condition_of c.args.terms.now c.args.cond.now).types node t v is.0 _ _ is.1 fit up) (c.write_stated-then-has_literal.ensures.value node (test.1, tt))
 
 pub returns-else-has_literal-clause-value : goal.returns-else-has_literal-clause-value
 returns-else-has_literal-clause-value c = λ fit.

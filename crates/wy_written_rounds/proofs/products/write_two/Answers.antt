@@ -15,8 +15,8 @@ returns-in_default-clause-value c = λ types fit s t f g a b v w factors one two
     let none : c.args.x ≡ None = search rules in
     moves_none types base _ (seen_draft at c.args.draft.now) (none_first (at c.args.p) s t v w (subst (λ (o : Option Bound). AreBounds base.literals f a o v) none x))
 
-pub returns-in_default-b-clause-value : goal.returns-in_default-b-clause-value
-returns-in_default-b-clause-value c = λ types fit s t f g a b v w factors one two x y.
+pub returns-in_default-y-clause-value : goal.returns-in_default-y-clause-value
+returns-in_default-y-clause-value c = λ types fit s t f g a b v w factors one two x y.
     let at = tree_at c.args.terms.now in
     let base = seen_branch at c.args.branch.now in
     let none : c.args.y ≡ None = search rules in
