@@ -84,7 +84,8 @@ fn write_instances_by(
     ensures draft { OnOk result (IsDraft terms.new draft.new) }
     ensures stays { Stays terms.old terms.new }
 {
-    if calls_for_instances(terms, atom, holds)? {
+    let calls = calls_for_instances(terms, atom, holds)?;
+    if calls {
         write_instances_of(terms, draft, atom, holds, all)
     } else {
         Ok(())

@@ -66,7 +66,8 @@ fn write_new_witness(
     ensures draft { OnOk result (IsDraft terms.new draft.new) }
     ensures stays { Stays terms.old terms.new }
 {
-    if !calls_for_witness(terms, atom, holds)? {
+    let calls = calls_for_witness(terms, atom, holds)?;
+    if !calls {
         return Ok(());
     }
     if has_literal(terms, had, atom, holds) {

@@ -19,11 +19,11 @@ use Rattle.wy_written_rounds.proofs.MovingLemmas.{on_ok}
 use Rattle.wy_written_rounds.proofs.RoundLemmas.{beside_along, facts_reach}
 use Rattle.wy_written_rounds.proofs.expanding.add_facts.Goals as goal
 
-pub facts_of-facts-requires-clause-branch : goal.facts_of-facts-requires-clause-branch
-facts_of-facts-requires-clause-branch c = branch_stays c.args.terms.now c.write_facts.new.terms c.args.branch.now c.in_ok-write_facts.ensures.stays c.requires.branch
+pub facts_of-requires-clause-branch : goal.facts_of-requires-clause-branch
+facts_of-requires-clause-branch c = branch_stays c.args.terms.now c.write_facts.new.terms c.args.branch.now c.in_ok-write_facts.ensures.stays c.requires.branch
 
-pub facts_of-facts-requires-clause-types : goal.facts_of-facts-requires-clause-types
-facts_of-facts-requires-clause-types c = types_up c.args.terms.now c.write_facts.new.terms c.args.cond.now c.in_ok-write_facts.ensures.stays c.requires.types
+pub facts_of-requires-clause-types : goal.facts_of-requires-clause-types
+facts_of-requires-clause-types c = types_up c.args.terms.now c.write_facts.new.terms c.args.cond.now c.in_ok-write_facts.ensures.stays c.requires.types
 
 pub add_all-requires-clause-formulas : goal.add_all-requires-clause-formulas
 add_all-requires-clause-formulas c = subst (AreBelow (length c.facts_of.new.terms)) (sym c.deref.ensures.value) c.in_ok-facts.ensures.below

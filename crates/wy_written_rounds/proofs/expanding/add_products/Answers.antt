@@ -22,8 +22,8 @@ write_products-requires-clause-known c =
     let le : c.len.result ≤ length c.args.terms.now = omega arith in
     c.no_forms-known.ensures c.args.terms.now le
 
-pub products_of-products-requires-clause-branch : goal.products_of-products-requires-clause-branch
-products_of-products-requires-clause-branch c = branch_stays c.args.terms.now c.write_products.new.terms c.args.branch.now c.in_ok-write_products.ensures.stays c.requires.branch
+pub products_of-requires-clause-branch : goal.products_of-requires-clause-branch
+products_of-requires-clause-branch c = branch_stays c.args.terms.now c.write_products.new.terms c.args.branch.now c.in_ok-write_products.ensures.stays c.requires.branch
 
 pub add_all-requires-clause-formulas : goal.add_all-requires-clause-formulas
 add_all-requires-clause-formulas c = subst (AreBelow (length c.products_of.new.terms)) (sym c.deref.ensures.value) c.in_ok-products.ensures.below

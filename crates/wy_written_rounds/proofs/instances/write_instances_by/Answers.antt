@@ -10,8 +10,8 @@ use Rattle.wy_valid.specs.Ranges.{Range, of_each}
 use Rattle.wy_written_rounds.proofs.MovingLemmas.{moves_none}
 use Rattle.wy_written_rounds.proofs.instances.write_instances_by.Goals as goal
 
-pub returns-else-calls_for_instances-clause-value : goal.returns-else-calls_for_instances-clause-value
-returns-else-calls_for_instances-clause-value c = λ types base there are.
+pub returns-else-calls-clause-value : goal.returns-else-calls-clause-value
+returns-else-calls-clause-value c = λ types base there are.
     let at = tree_at c.args.terms.now in
     let none : is_some (of_each (seen_literal at (c.args.atom, c.args.holds))) ≡ false = search rules in
     let is = sym (is_none (of_each (seen_literal at (c.args.atom, c.args.holds))) none) in

@@ -7,4 +7,4 @@ use Rattle.wy_written_rounds.proofs.RangeMoves.{some_mapped}
 use Rattle.wy_written_rounds.proofs.witnesses.calls_for_witness.Goals as goal
 
 pub returns : goal.returns
-returns c = some_mapped (seen_range (tree_at c.args.terms.now)) c.in_ok-range.range ∙ ap (λ (o : Option Range). is_some o) c.in_ok-range.ensures.value
+returns c = c.is_some.ensures ∙ some_mapped (seen_range (tree_at c.args.terms.now)) c.in_ok-range.range ∙ ap (λ (o : Option Range). is_some o) c.in_ok-range.ensures.value

@@ -15,8 +15,8 @@ use Rattle.wy_written_rounds.proofs.MovingLemmas.{follows_self, on_ok}
 use Rattle.wy_written_rounds.proofs.RangeMoves.{had_witness, new_witness, none_witness, some_of}
 use Rattle.wy_written_rounds.proofs.witnesses.write_new_witness.Goals as goal
 
-pub returns-then-not-calls_for_witness-clause-value : goal.returns-then-not-calls_for_witness-clause-value
-returns-then-not-calls_for_witness-clause-value c = λ types base p had there along.
+pub returns-then-not-calls-clause-value : goal.returns-then-not-calls-clause-value
+returns-then-not-calls-clause-value c = λ types base p had there along.
     let at = tree_at c.args.terms.now in
     let l = seen_literal at (c.args.atom, c.args.holds) in
     let d = seen_draft at c.args.draft.now in
@@ -24,8 +24,8 @@ returns-then-not-calls_for_witness-clause-value c = λ types base p had there al
     let none = is_none (of_one l) un in
     subst (λ (q : Spot). Follows types base q.node d d) (none_witness p l none) (follows_self types base p.node d along)
 
-pub returns-then-not-calls_for_witness-clause-noted : goal.returns-then-not-calls_for_witness-clause-noted
-returns-then-not-calls_for_witness-clause-noted c = λ p had.
+pub returns-then-not-calls-clause-noted : goal.returns-then-not-calls-clause-noted
+returns-then-not-calls-clause-noted c = λ p had.
     let at = tree_at c.args.terms.now in
     let l = seen_literal at (c.args.atom, c.args.holds) in
     let un : is_some (of_one l) ≡ false = search rules in

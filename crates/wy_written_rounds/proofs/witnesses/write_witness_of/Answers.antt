@@ -15,7 +15,7 @@ returns-in_ok-write_witness-in-Some-clause-value c = λ types base node r one th
     let e = seen_draft (tree_at c.write_witness.new.terms) c.write_witness.new.draft in
     let l = seen_literal at (c.args.atom, c.args.holds) in
     let is : literal_at d.node.literals c.in-Some.i ≡ Some l = subst (λ (o : Option ℕ). IfSome o (λ k. literal_at d.node.literals k ≡ Some l)) c.in-Some.is c.in_ok-i.ensures.there in
-    witness_follows types base node l r c.in-Some.i d e _ (c.in_ok-write_witness.ensures.value types) is one along
+    witness_follows types base node l r c.in-Some.i d e _ (c.in_ok-write_witness-in-Some.ensures.value types) is one along
 
 pub returns-in-None-clause-value : goal.returns-in-None-clause-value
 returns-in-None-clause-value c = λ types base node r one there along.
