@@ -1,17 +1,15 @@
 -- Facts, schema by schema.
-use Rattle.std.proofs.Common.{◌≡◌, ◌∙◌, ◌≤◌, ◌+◌, ◌-◌, ℕ, zero, suc, List, [], ◌∷◌, Bool, true, false, refl, sym, ap, arith}
+use Rattle.std.proofs.Common.{◌≡◌, ◌∙◌, ◌≤◌, ◌+◌, ◌-◌, ℕ, zero, suc, List, sym, ap, arith}
 use Rattle.wy_term.specs.Term as term
 use Rattle.wy_term.specs.Term.{Term, Of, no_parts, part}
 use Rattle.wy_term.specs.Condition.{Entry}
 use Rattle.wy_judge.specs.Node.{Node}
-use Rattle.wy_judging.specs.Seen.{signed}
-use Rattle.wy_valid.specs.Membership.{fact_among}
-use Rattle.wy_search.specs.Expansion.{with_some, measured, with_facts_by, with_schemas}
+use Rattle.wy_search.specs.Expansion.{measured, with_facts_by, with_schemas}
 use Rattle.wy_sorted.specs.Sorted.{IsSorted}
 use Rattle.wy_sound_certificates.specs.Sortedness.{AreSortedTerms}
 use Rattle.wy_drafts.specs.Progress.{Progress}
-use Rattle.wy_written_rounds.specs.Moving.{IsFit, Moves}
-use Rattle.wy_written_rounds.proofs.MovingLemmas.{moves_as, moves_none, moves_on}
+use Rattle.wy_written_rounds.specs.Moving.{Moves}
+use Rattle.wy_written_rounds.proofs.MovingLemmas.{moves_as, moves_on}
 
 pub measured_sorted : (t : Term) → IsSorted t → AreSortedTerms (measured t)
 measured_sorted (Of term.len (part v no_parts)) h = (h.1, tt)

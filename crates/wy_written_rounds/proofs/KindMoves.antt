@@ -1,6 +1,6 @@
 -- The whole fact on a datum's kinds has what the search adds of it.
-use Rattle.std.proofs.Common.{◌≡◌, ◌∙◌, ◌&&◌, ◌||◌, List, [], ◌∷◌, Bool, true, false, cond, not, Option, Some, None, refl, sym, ap, subst}
-use Rattle.wy_term.specs.Term.{DataKind, null_kind, bool_kind, int_kind, array_kind, record_kind, Symbol, Term, one, bool, of_kind}
+use Rattle.std.proofs.Common.{◌≡◌, ◌∙◌, ◌&&◌, ◌||◌, List, [], ◌∷◌, Bool, true, false, cond, not, Option, None, refl, sym, ap, subst}
+use Rattle.wy_term.specs.Term.{DataKind, null_kind, bool_kind, int_kind, array_kind, record_kind, Term, one, bool, of_kind}
 use Rattle.wy_term.specs.Condition.{Entry}
 use Rattle.wy_subst.specs.Names.{any_symbol}
 use Rattle.wy_judge.specs.Node.{Literal, Node, has_literal, added}

@@ -1,5 +1,5 @@
 -- Witnesses and instances.
-use Rattle.std.proofs.Common.{◌≡◌, ◌∙◌, ◌+◌, ℕ, List, [], ◌∷◌, ◌++◌, map, take, Bool, true, false, cond, Option, Some, None, refl, sym, ap, subst}
+use Rattle.std.proofs.Common.{◌≡◌, ◌∙◌, ◌+◌, ℕ, List, [], ◌∷◌, ◌++◌, map, take, Bool, true, false, cond, Option, Some, None, refl, sym, ap}
 use Rattle.std.specs.Prelude.{slice_get, is_some, option_map}
 use Rattle.wy_judging.specs.Seen.{seen_literal}
 use Rattle.wy_stated_facts.proofs.SpotLemmas.{witness_had}
@@ -11,14 +11,13 @@ use Rattle.wy_cert.specs.Steps.{wit}
 use Rattle.wy_judge.specs.Node.{Literal, Node, has_literal, with_formulas}
 use Rattle.wy_valid.specs.Literals.{only_if, literal_at}
 use Rattle.wy_valid.specs.Ranges.{Range, of_each, of_one, is_int, instance_at, instance_stated, witness, witnessed_at}
-use Rattle.wy_valid.specs.Validity.{after, left_with}
+use Rattle.wy_valid.specs.Validity.{left_with}
 use Rattle.wy_search.specs.Expansion.{Spot, with_witness, with_witnesses, with_instances_by, with_some}
-use Rattle.wy_closing.specs.AtLeast.{IsAtLeast, IsNear}
 use Rattle.wy_closing.proofs.AtLeastLemmas.{more_formulas}
 use Rattle.wy_closing.proofs.NameLemmas.{near_formulas, witness_same}
 use Rattle.wy_drafts.specs.Progress.{Progress, Writes}
 use Rattle.wy_written_rounds.specs.Moving.{IsAlong, Follows, Moves}
-use Rattle.wy_written_rounds.proofs.MovingLemmas.{tried, moves_as, left_only}
+use Rattle.wy_written_rounds.proofs.MovingLemmas.{tried}
 
 -- ---- literals of the draft's node
 

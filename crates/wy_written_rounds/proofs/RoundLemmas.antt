@@ -1,5 +1,5 @@
 -- Items of a round: a draft beside the node before one is beside the node behind it.
-use Rattle.std.proofs.Common.{◌≡◌, ◌∙◌, List, [], refl, sym, subst}
+use Rattle.std.proofs.Common.{◌≡◌, List, [], sym, subst}
 use Rattle.wy_term.specs.Term.{Term}
 use Rattle.wy_term.specs.Condition.{Entry}
 use Rattle.wy_judge.specs.Node.{Node}
@@ -14,7 +14,7 @@ use Rattle.wy_closing_rounds.proofs.RoundLemmas.{Grows, facts_grow, instances_gr
 use Rattle.wy_closing_rounds.proofs.ProductLemmas.{products_grow}
 use Rattle.wy_drafts.specs.Progress.{Progress}
 use Rattle.wy_drafts.proofs.ProgressLemmas.{goes_on}
-use Rattle.wy_written_rounds.specs.Rounds.{IsBeside, GoesBeside}
+use Rattle.wy_written_rounds.specs.Rounds.{IsBeside}
 use Rattle.wy_written_rounds.specs.Moving.{IsAlong, Follows, Moves, Reaches}
 use Rattle.wy_written_rounds.proofs.NodeLemmas.{sorted_node, node_sorted, folded_node, node_folded}
 

@@ -1,5 +1,5 @@
 -- A step that adds one formula, if it is valid.
-use Rattle.std.proofs.Common.{◌≡◌, ◌∙◌, ℕ, List, [], ◌∷◌, Bool, Option, Some, None, refl, ap}
+use Rattle.std.proofs.Common.{◌≡◌, ℕ, List, Bool, Option, Some, None, refl}
 use Rattle.wy_term.specs.Term.{Term}
 use Rattle.wy_term.specs.Condition.{Entry}
 use Rattle.wy_sorted.specs.Sorted.{IsSorted}
@@ -16,7 +16,7 @@ use Rattle.wy_closing.proofs.AtLeastLemmas.{more_added}
 use Rattle.wy_closing.proofs.NameLemmas.{near_added}
 use Rattle.wy_drafts.specs.Progress.{Progress, Writes}
 use Rattle.wy_written_rounds.specs.Moving.{IsAlong, Follows, Moves}
-use Rattle.wy_written_rounds.proofs.MovingLemmas.{left_only, tried}
+use Rattle.wy_written_rounds.proofs.MovingLemmas.{tried}
 
 pub follows_one : (types : List Entry) (base node : Node) (s : Written) (o : Option Term) (old new : Progress) (valid : Bool) → after types old.node s ≡ (o >>= left_with_one old.node) → Writes types s old new valid → IsSortedStep s → IsAlong types base node old → Follows types base (with_some node o) old new
 follows_one types base node s None old new valid is w sorted h = tried types base node node s old new valid None w sorted h is h.keeps h.near

@@ -14,9 +14,9 @@ ghost use Rattle.wy_written_rounds.specs.Moving.{AllOf, IsFit, Moves};
 use crate::elements::{write_elements, write_pairs};
 use crate::kinds::write_kind_facts;
 use crate::plain::{write_lengths, write_plain};
+use wy_classes::standing;
 use wy_drafts::Draft;
 use wy_judging::Branch;
-use wy_classes::standing;
 use wy_term::{Cond, NoMemory, Terms};
 
 // The facts of one schema.

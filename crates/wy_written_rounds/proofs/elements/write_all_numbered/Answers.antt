@@ -1,4 +1,4 @@
-use Rattle.std.proofs.Common.{◌≡◌, ◌≤◌, ◌+◌, [], ◌∷◌, List, ℕ, suc, pos, ap, refl, rules, subst, sym, arith}
+use Rattle.std.proofs.Common.{◌≡◌, ◌+◌, [], ◌∷◌, List, suc, pos, ap, refl, rules, subst, sym, arith}
 use Rattle.wy_drafts.specs.Draft.{seen_draft}
 use Rattle.wy_facts.proofs.StepLemmas.{stays_on, stays_same}
 use Rattle.wy_judge.specs.Node.{Node}

@@ -1,4 +1,4 @@
-use Rattle.std.proofs.Common.{◌≡◌, ◌≤◌, ◌∙◌, List, [], ◌∷◌, length, refl, sym, ap₂, subst, rules, arith}
+use Rattle.std.proofs.Common.{◌≤◌, List, length, refl, sym, subst, rules}
 use Rattle.wy_facts.proofs.StepLemmas.{stays_on, stays_same}
 use Rattle.wy_judge.specs.Node.{Node}
 use Rattle.wy_judging.specs.Seen.{seen_formula}
@@ -8,7 +8,6 @@ use Rattle.wy_stated_facts.proofs.AddingLemmas.{formula_kept, types_stay, types_
 use Rattle.wy_term.specs.Condition.{Entry, condition_of}
 use Rattle.wy_term.specs.Nodes.{tree_at}
 use Rattle.wy_term.specs.Term.{Term}
-use Rattle.wy_valid.specs.Membership.{fact_among}
 use Rattle.wy_written_rounds.specs.Moving.{IsFit}
 use Rattle.wy_written_rounds.proofs.LoopLemmas.{loop_begins, loop_ends, loop_goes, moves_at, of_all}
 use Rattle.wy_written_rounds.proofs.elements.write_elements.Goals as goal

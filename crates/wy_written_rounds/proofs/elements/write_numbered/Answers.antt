@@ -1,11 +1,11 @@
-use Rattle.std.proofs.Common.{◌≡◌, [], ◌∷◌, pos, ap₂, refl, subst, sym}
+use Rattle.std.proofs.Common.{[], ◌∷◌, ap₂, refl, subst, sym}
 use Rattle.wy_drafts.proofs.DraftLemmas.{draft_stays, seen_draft_stays}
 use Rattle.wy_judge.specs.Node.{Node}
 use Rattle.wy_search.specs.Expansion.{with_some}
 use Rattle.wy_sorted.specs.Sorted.{IsSorted}
 use Rattle.wy_stated_facts.proofs.AddingLemmas.{types_stay, types_up}
 use Rattle.wy_term.specs.Nodes.{tree_at}
-use Rattle.wy_term.specs.Term.{Term, Number}
+use Rattle.wy_term.specs.Term.{Term}
 use Rattle.wy_valid.specs.Membership.{fact_among}
 use Rattle.wy_written_rounds.proofs.LoopLemmas.{moves_from}
 use Rattle.wy_written_rounds.proofs.elements.write_numbered.Goals as goal

@@ -7,7 +7,7 @@ use Rattle.wy_stated_facts.proofs.DenialLemmas.{no_pair, pair_none}
 use Rattle.wy_term.specs.Condition.{condition_of}
 use Rattle.wy_term.specs.Nodes.{tree_at}
 use Rattle.wy_term.specs.Same.{same_term}
-use Rattle.wy_term.specs.Term.{Term, Not}
+use Rattle.wy_term.specs.Term.{Not}
 use Rattle.wy_valid.specs.Membership.{fact_among}
 use Rattle.wy_written_rounds.specs.Moving.{IsFit}
 use Rattle.wy_written_rounds.proofs.MovingLemmas.{if_moves, moves_none}

@@ -1,4 +1,4 @@
-use Rattle.std.proofs.Common.{◌≡◌, ◌∙◌, List, Bool, true, false, None, map, ap, refl, rules, subst, sym}
+use Rattle.std.proofs.Common.{◌≡◌, ◌∙◌, Bool, true, false, map, ap, refl, rules, subst, sym}
 use Rattle.std.specs.Prelude.{is_some}
 use Rattle.wy_drafts.specs.Draft.{seen_draft}
 use Rattle.wy_facts.specs.Schema.{as_element}
@@ -8,7 +8,7 @@ use Rattle.wy_search.specs.Expansion.{with_pairs_of}
 use Rattle.wy_stated_facts.proofs.DenialLemmas.{is_none, pairs_none}
 use Rattle.wy_term.specs.Condition.{condition_of}
 use Rattle.wy_term.specs.Nodes.{tree_at}
-use Rattle.wy_term.specs.Term.{Term, Not}
+use Rattle.wy_term.specs.Term.{Not}
 use Rattle.wy_written_rounds.specs.Moving.{IsFit}
 use Rattle.wy_written_rounds.proofs.MovingLemmas.{if_moves, moves_none}
 use Rattle.wy_written_rounds.proofs.elements.write_pairs_with.Goals as goal

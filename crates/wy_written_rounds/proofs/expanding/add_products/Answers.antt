@@ -1,11 +1,11 @@
-use Rattle.std.proofs.Common.{◌≡◌, ◌≤◌, ◌∙◌, ℕ, List, length, map, sym, ap, subst, arith}
+use Rattle.std.proofs.Common.{◌≤◌, ◌∙◌, ℕ, List, length, map, sym, ap, subst, arith}
 use Rattle.wy_bounds.proofs.KnownLemmas.{on_ok_anyway}
 use Rattle.wy_drafts.specs.Draft.{seen_draft}
 use Rattle.wy_drafts.specs.Progress.{Progress}
 use Rattle.wy_drafts.proofs.DraftLemmas.{draft_stays, seen_draft_stays}
 use Rattle.wy_facts.specs.Seen.{AreBelow}
 use Rattle.wy_facts.proofs.StepLemmas.{stays_on}
-use Rattle.wy_judge.specs.Node.{Node, with_formulas}
+use Rattle.wy_judge.specs.Node.{with_formulas}
 use Rattle.wy_judging.specs.Seen.{seen_branch}
 use Rattle.wy_judging.proofs.SumsBranchLemmas.{branch_stays, node_stays}
 use Rattle.wy_search.specs.Expansion.{with_products}

@@ -1,4 +1,4 @@
-use Rattle.std.proofs.Common.{◌≡◌, ◌≢◌, ℕ, List, map, ap, rules, sym}
+use Rattle.std.proofs.Common.{◌≡◌, ◌≢◌, ℕ, map, ap, rules, sym}
 use Rattle.wy_judge.specs.Node.{Node}
 use Rattle.wy_judging.specs.Seen.{seen_branch, seen_formula}
 use Rattle.wy_search.specs.Expansion.{with_facts_by}

@@ -1,7 +1,7 @@
 use Rattle.std.proofs.Common.{◌≡◌, [], ◌∷◌, false, Some, Option, ℕ, subst}
 use Rattle.std.specs.Prelude.{IfNone, IfSome}
 use Rattle.wy_drafts.specs.Draft.{seen_draft}
-use Rattle.wy_judge.specs.Node.{Node, has_literal}
+use Rattle.wy_judge.specs.Node.{has_literal}
 use Rattle.wy_judging.specs.Seen.{seen_literal}
 use Rattle.wy_search.specs.Expansion.{with_instances_by, with_some}
 use Rattle.wy_term.specs.Nodes.{tree_at}

@@ -1,4 +1,4 @@
-use Rattle.std.proofs.Common.{◌≡◌, ◌≤◌, ◌<◌, List, [], ◌∷◌, true, map, length, refl, sym, ap₂, subst, rules, arith}
+use Rattle.std.proofs.Common.{◌≡◌, ◌≤◌, List, true, map, length, refl, sym, ap₂, subst, rules}
 use Rattle.wy_drafts.specs.Draft.{seen_draft}
 use Rattle.wy_facts.proofs.StepLemmas.{below_kept, stays_on, stays_same, terms_kept}
 use Rattle.wy_judge.specs.Node.{Literal, Node, has_literal}

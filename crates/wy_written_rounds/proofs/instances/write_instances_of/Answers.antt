@@ -1,8 +1,8 @@
-use Rattle.std.proofs.Common.{◌≡◌, ◌≤◌, ◌<◌, List, [], ◌∷◌, true, get_or, length, refl, sym, ap₂, subst, rules, arith}
+use Rattle.std.proofs.Common.{◌≡◌, ◌≤◌, List, [], ◌∷◌, true, get_or, length, refl, sym, ap₂, subst, rules, arith}
 use Rattle.std.proofs.lemmas.Option.{slice_get-get_or}
 use Rattle.wy_drafts.specs.Draft.{seen_draft}
 use Rattle.wy_facts.proofs.StepLemmas.{stays_on, stays_same}
-use Rattle.wy_judge.specs.Node.{Literal, Node, has_literal}
+use Rattle.wy_judge.specs.Node.{Node, has_literal}
 use Rattle.wy_judging.specs.Seen.{seen_literal}
 use Rattle.wy_search.specs.Expansion.{with_instances_by}
 use Rattle.wy_term.specs.Condition.{Entry}

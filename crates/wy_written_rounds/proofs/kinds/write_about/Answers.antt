@@ -1,4 +1,4 @@
-use Rattle.std.proofs.Common.{◌≡◌, ◌∙◌, ◌<◌, [], ◌∷◌, length, Option, None, Bool, true, false, ap, rules, subst, sym}
+use Rattle.std.proofs.Common.{◌≡◌, true, false, ap, rules, subst}
 use Rattle.wy_drafts.specs.Draft.{seen_draft}
 use Rattle.wy_judge.specs.Node.{Node, has_literal}
 use Rattle.wy_judging.specs.Seen.{seen_branch}
@@ -6,8 +6,7 @@ use Rattle.wy_search.specs.Expansion.{kind_fact, with_some}
 use Rattle.wy_sorted.specs.Sorted.{IsSorted}
 use Rattle.wy_term.specs.Condition.{condition_of}
 use Rattle.wy_term.specs.Nodes.{tree_at}
-use Rattle.wy_term.specs.Term.{Term, one, of_kind}
-use Rattle.wy_written_rounds.specs.About.{IsAbout, IsAboutBelow}
+use Rattle.wy_term.specs.Term.{one, of_kind}
 use Rattle.wy_written_rounds.proofs.KindMoves.{formula_told, nothing_moves, test_lacks, test_moves}
 use Rattle.wy_written_rounds.proofs.MovingLemmas.{if_moves, on_ok}
 use Rattle.wy_written_rounds.proofs.kinds.write_about.Goals as goal

@@ -1,4 +1,4 @@
-use Rattle.std.proofs.Common.{◌≡◌, Bool, true, false, ap, refl, rules, subst, sym}
+use Rattle.std.proofs.Common.{◌≡◌, Bool, true, false, ap, rules, subst, sym}
 use Rattle.wy_drafts.specs.Draft.{seen_draft}
 use Rattle.wy_judge.specs.Node.{Node}
 use Rattle.wy_judging.specs.Seen.{seen_branch, signed}

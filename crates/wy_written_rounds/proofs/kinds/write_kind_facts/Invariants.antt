@@ -1,7 +1,6 @@
 use Rattle.std.proofs.Common.{map, take}
 use Rattle.wy_drafts.specs.Draft.{IsDraft, seen_draft}
 use Rattle.wy_facts.specs.Seen.{Stays}
-use Rattle.wy_judge.specs.Node.{Node}
 use Rattle.wy_judging.specs.Seen.{seen_branch, seen_formula}
 use Rattle.wy_search.specs.Expansion.{with_kind_facts}
 use Rattle.wy_term.specs.Condition.{condition_of}

@@ -1,4 +1,4 @@
-use Rattle.std.proofs.Common.{◌≡◌, ◌≤◌, ◌∙◌, List, [], ◌∷◌, length, refl, sym, ap₂, subst, rules, arith}
+use Rattle.std.proofs.Common.{◌≤◌, List, [], ◌∷◌, length, refl, sym, subst, rules}
 use Rattle.wy_facts.proofs.StepLemmas.{stays_on, stays_same}
 use Rattle.wy_judge.specs.Node.{Node}
 use Rattle.wy_judging.specs.Seen.{seen_formula}

@@ -1,6 +1,5 @@
-use Rattle.std.proofs.Common.{◌≡◌, ◌∙◌, Some, None, sym}
+use Rattle.std.proofs.Common.{◌≡◌, None}
 use Rattle.wy_drafts.specs.Draft.{seen_draft}
-use Rattle.wy_judge.specs.Node.{Literal}
 use Rattle.wy_judging.specs.Seen.{seen_branch, seen_literal}
 use Rattle.wy_term.specs.Nodes.{tree_at}
 use Rattle.wy_valid.specs.Literals.{literal_at}

@@ -1,8 +1,8 @@
-use Rattle.std.proofs.Common.{◌≡◌, ◌∙◌, ℕ, Option, Some, false, ap, subst}
+use Rattle.std.proofs.Common.{◌≡◌, ◌∙◌, ℕ, Option, false, ap, subst}
 use Rattle.std.specs.Prelude.{IfNone, IfSome}
 use Rattle.wy_bounds.proofs.ProductLemmas.{pushed}
 use Rattle.wy_drafts.specs.Draft.{seen_draft}
-use Rattle.wy_judge.specs.Node.{Node, has_literal}
+use Rattle.wy_judge.specs.Node.{has_literal}
 use Rattle.wy_judging.specs.Seen.{seen_branch}
 use Rattle.wy_search.specs.Expansion.{with_some}
 use Rattle.wy_term.specs.Nodes.{tree_at}

@@ -1,4 +1,4 @@
-use Rattle.std.proofs.Common.{◌≤◌, ◌<◌, None, true, false, refl, subst, sym, arith}
+use Rattle.std.proofs.Common.{None, true, false, subst, sym, arith}
 use Rattle.std.specs.Prelude.{OnOk}
 use Rattle.wy_drafts.specs.Draft.{seen_draft}
 use Rattle.wy_facts.proofs.StepLemmas.{stays_on}

@@ -1,5 +1,4 @@
-use Rattle.std.proofs.Common.{◌≡◌, ◌≤◌, ◌∙◌, List, [], ◌∷◌, map, length, refl, sym, ap, subst, rules}
-use Rattle.wy_closing_rounds.specs.Leaves.{IsFoldedThroughout, IsSortedThroughout}
+use Rattle.std.proofs.Common.{◌≤◌, List, map, length, refl, sym, subst, rules}
 use Rattle.wy_drafts.specs.Draft.{seen_draft}
 use Rattle.wy_facts.proofs.StepLemmas.{stays_on, stays_same}
 use Rattle.wy_judge.specs.Node.{Node}

@@ -1,4 +1,4 @@
-use Rattle.std.proofs.Common.{◌≡◌, ◌∙◌, ◌≤◌, ◌<◌, Some, ap, ap₂, refl, subst, sym, arith}
+use Rattle.std.proofs.Common.{◌≡◌, ◌∙◌, Some, ap, ap₂, refl, subst, sym, arith}
 use Rattle.wy_bounds.proofs.KnownLemmas.{if_known}
 use Rattle.wy_bounds.proofs.ProductLemmas.{both_vary, constant_first, constant_second, product_at, tightest_at}
 use Rattle.wy_bounds.specs.Bounds.{AreFactor, IsConstant, IsFactor}

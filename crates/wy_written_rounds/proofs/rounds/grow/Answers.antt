@@ -1,6 +1,5 @@
 use Rattle.std.proofs.Common.{◌≡◌, List, map, subst, sym}
 use Rattle.wy_drafts.specs.Draft.{seen_draft}
-use Rattle.wy_drafts.specs.Progress.{Progress}
 use Rattle.wy_facts.proofs.StepLemmas.{stays_on}
 use Rattle.wy_judging.specs.Seen.{seen_branch}
 use Rattle.wy_search.specs.Expansion.{with_facts, with_instances, with_products}

@@ -1,4 +1,4 @@
-use Rattle.std.proofs.Common.{◌≡◌, ◌∙◌, Option, ap}
+use Rattle.std.proofs.Common.{◌∙◌, Option, ap}
 use Rattle.std.specs.Prelude.{is_some}
 use Rattle.wy_splits.specs.Seen.{seen_range}
 use Rattle.wy_term.specs.Nodes.{tree_at}

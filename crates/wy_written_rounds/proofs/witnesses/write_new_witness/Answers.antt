@@ -1,4 +1,4 @@
-use Rattle.std.proofs.Common.{◌≡◌, ◌∙◌, ◌++◌, ◌∷◌, [], List, Option, Some, None, Bool, true, false, ap, rules, sym, subst}
+use Rattle.std.proofs.Common.{◌≡◌, ◌∙◌, ◌++◌, ◌∷◌, [], List, true, false, ap, rules, sym, subst}
 use Rattle.std.specs.Prelude.{is_some}
 use Rattle.wy_bounds.proofs.KnownLemmas.{on_ok_anyway}
 use Rattle.wy_drafts.specs.Draft.{seen_draft}

@@ -1,8 +1,8 @@
-use Rattle.std.proofs.Common.{◌≡◌, ◌∙◌, ◌≤◌, ◌<◌, List, true, map, take, length, refl, sym, ap, subst, rules, arith}
+use Rattle.std.proofs.Common.{◌≡◌, ◌∙◌, ◌≤◌, List, true, map, take, length, sym, ap, subst, rules}
 use Rattle.wy_drafts.specs.Draft.{seen_draft}
 use Rattle.wy_facts.proofs.StepLemmas.{stays_on, stays_same}
 use Rattle.wy_judge.specs.Node.{Literal, Node, has_literal}
-use Rattle.wy_judging.specs.Seen.{seen_branch, seen_literal}
+use Rattle.wy_judging.specs.Seen.{seen_literal}
 use Rattle.wy_judging.proofs.SumsBranchLemmas.{branch_stays}
 use Rattle.wy_search.specs.Expansion.{Spot, with_witness, with_witnesses}
 use Rattle.wy_searching.proofs.SpotLemmas.{copy_over, same_node}
