@@ -1,6 +1,9 @@
 -- Loops over what stands in a node: what they have done so far is what the definition makes of the first items.
 use Rattle.std.proofs.Common.{◌≡◌, ◌∙◌, ◌≤◌, ◌+◌, ℕ, zero, suc, List, [], ◌∷◌, ◌++◌, map, take, length, Bool, true, false, cond, Some, Result, Ok, Err, refl, sym, ap, subst, arith}
-use Rattle.std.specs.Prelude.{slice_get, OnOk}
+use Rattle.std.specs.Prelude.{option_map, slice_get, OnOk}
+use Rattle.std.proofs.lemmas.List.{map-append, take_all, take_more}
+use Rattle.std.proofs.lemmas.Option.{get_or_from_slice_get, slice_get-map, slice_get_within}
+use Rattle.wy_lin.proofs.OptionLemmas.{some_is}
 use Rattle.wy_term.specs.Condition.{Entry}
 use Rattle.wy_judge.specs.Node.{Literal, Node, same_literal, has_literal}
 use Rattle.wy_closing.proofs.AtLeastLemmas.{literal_self}
@@ -8,33 +11,15 @@ use Rattle.wy_drafts.specs.Progress.{Progress}
 use Rattle.wy_written_rounds.specs.Moving.{AllOf, Moves}
 use Rattle.wy_written_rounds.proofs.MovingLemmas.{moves_none, moves_on, moves_as}
 
-some_is : {X : Type 0} (x y : X) → Some x ≡ Some y → x ≡ y
-some_is x y e = cc
-
-take_next : {X : Type 0} (xs : List X) (i : ℕ) (x : X) → slice_get xs i ≡ Some x → take (suc i) xs ≡ take i xs ++ x ∷ []
-take_next [] i x e = absurd cc
-take_next (y ∷ ys) zero x e = ap (λ z. z ∷ []) (some_is y x e)
-take_next (y ∷ ys) (suc i) x e = ap (λ zs. y ∷ zs) (take_next ys i x e)
-
 take_here : {X : Type 0} (xs : List X) (i : ℕ) (x : X) → slice_get xs i ≡ Some x → take (i + 1) xs ≡ take i xs ++ x ∷ []
-take_here xs i x e = let next : i + 1 ≡ suc i = omega arith in ap (λ (j : ℕ). take j xs) next ∙ take_next xs i x e
-
-take_all : {X : Type 0} (xs : List X) (i : ℕ) → length xs ≤ i → take i xs ≡ xs
-take_all [] zero le = refl
-take_all [] (suc i) le = refl
-take_all (x ∷ xs) zero le = absurd (omega (arith, le))
-take_all (x ∷ xs) (suc i) le = ap (λ ys. x ∷ ys) (take_all xs i (omega (arith, le)))
-
-map_last : {X Y : Type 0} (f : X → Y) (xs : List X) (x : X) → map f (xs ++ x ∷ []) ≡ map f xs ++ f x ∷ []
-map_last f [] x = refl
-map_last f (y ∷ ys) x = ap (λ zs. f y ∷ zs) (map_last f ys x)
+take_here xs i x e = take_more xs i x (slice_get_within xs i x e) ∙ ap (λ y. take i xs ++ y ∷ []) (get_or_from_slice_get xs i x x e)
 
 -- the items so far, and one more
 pub so_far : {X Y : Type 0} (f : X → Y) (xs : List X) (i : ℕ) (x : X) → slice_get xs i ≡ Some x → map f (take (i + 1) xs) ≡ map f (take i xs) ++ f x ∷ []
-so_far f xs i x e = ap (map f) (take_here xs i x e) ∙ map_last f (take i xs) x
+so_far f xs i x e = ap (map f) (take_here xs i x e) ∙ map-append f (take i xs) (x ∷ [])
 
 pub all_so_far : {X Y : Type 0} (f : X → Y) (xs : List X) (i : ℕ) → length xs ≤ i → map f (take i xs) ≡ map f xs
-all_so_far f xs i le = ap (map f) (take_all xs i le)
+all_so_far f xs i le = ap (map f) (take_all i xs le)
 
 -- ---- what holds of each item
 
@@ -43,14 +28,17 @@ of_all P f [] i x e h = absurd cc
 of_all P f (y ∷ ys) zero x e h = subst (λ z. P (f z)) (some_is y x e) h.0
 of_all P f (y ∷ ys) (suc i) x e h = of_all P f ys i x e h.1
 
-pub literal_there : {X : Type 0} (f : X → Literal) (xs : List X) (i : ℕ) (x : X) → slice_get xs i ≡ Some x → has_literal (map f xs) (f x) ≡ true
-literal_there f [] i x e = absurd cc
-literal_there f (y ∷ ys) zero x e = ap (λ (l : Literal). has_literal (l ∷ map f ys) (f x)) (ap f (some_is y x e)) ∙ ap (λ (b : Bool). cond b true (has_literal (map f ys) (f x))) (literal_self (f x))
-literal_there f (y ∷ ys) (suc i) x e = by (same_literal (f y) (f x)) (literal_there f ys i x e)
+pub slice_there : (ls : List Literal) (i : ℕ) (l : Literal) → slice_get ls i ≡ Some l → has_literal ls l ≡ true
+slice_there [] i l e = absurd cc
+slice_there (k ∷ ks) zero l e = ap (λ (m : Literal). has_literal (m ∷ ks) l) (some_is k l e) ∙ ap (λ (b : Bool). cond b true (has_literal ks l)) (literal_self l)
+slice_there (k ∷ ks) (suc i) l e = by (same_literal k l) (slice_there ks i l e)
   where
-    by : (b : Bool) → has_literal (map f ys) (f x) ≡ true → cond b true (has_literal (map f ys) (f x)) ≡ true
+    by : (b : Bool) → has_literal ks l ≡ true → cond b true (has_literal ks l) ≡ true
     by true g = refl
     by false g = g
+
+pub literal_there : {X : Type 0} (f : X → Literal) (xs : List X) (i : ℕ) (x : X) → slice_get xs i ≡ Some x → has_literal (map f xs) (f x) ≡ true
+literal_there f xs i x e = slice_there (map f xs) i (f x) (slice_get-map f xs i ∙ ap (option_map f) e)
 
 -- ---- functions of a list that take one item after the other
 

@@ -7,27 +7,17 @@ use Rattle.wy_term.specs.Condition.{Entry}
 use Rattle.wy_search.specs.Expansion.{with_product}
 use Rattle.wy_drafts.specs.Progress.{Progress}
 use Rattle.wy_written_rounds.specs.Moving.{Moves}
+use Rattle.wy_written_rounds.proofs.LoopLemmas.{slice_there}
 use Rattle.wy_written_rounds.proofs.MovingLemmas.{moves_none}
 use Rattle.wy_term.specs.Term.{Term}
 use Rattle.wy_lin.specs.Linear.{◌>>=◌, Linear}
 use Rattle.wy_lin.specs.TermForm.{form_of, form_of_literal}
+use Rattle.wy_lin.proofs.OptionLemmas.{some_is}
 use Rattle.wy_judge.specs.Node.{Literal, Node, same_literal, has_literal}
 use Rattle.wy_valid.specs.Literals.{literal_at, formula_of}
 use Rattle.wy_valid.specs.Sums.{form_at}
 use Rattle.wy_valid.specs.Products.{Affine, affine, as_product, product_of, product_stated}
 use Rattle.wy_closing.proofs.AtLeastLemmas.{literal_self}
-
-some_is : {X : Type 0} (x y : X) → Some x ≡ Some y → x ≡ y
-some_is x y e = cc
-
-slice_there : (ls : List Literal) (i : ℕ) (l : Literal) → slice_get ls i ≡ Some l → has_literal ls l ≡ true
-slice_there [] i l e = absurd cc
-slice_there (k ∷ ks) zero l e = ap (λ (m : Literal). has_literal (m ∷ ks) l) (some_is k l e) ∙ ap (λ (b : Bool). cond b true (has_literal ks l)) (literal_self l)
-slice_there (k ∷ ks) (suc i) l e = by (same_literal k l) (slice_there ks i l e)
-  where
-    by : (b : Bool) → has_literal ks l ≡ true → cond b true (has_literal ks l) ≡ true
-    by true g = refl
-    by false g = g
 
 -- a literal with a number stands there
 pub numbered_there : (ls : List Literal) (i : ℕ) (l : Literal) → literal_at ls i ≡ Some l → has_literal ls l ≡ true

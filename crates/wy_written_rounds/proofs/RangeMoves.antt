@@ -1,7 +1,8 @@
 -- Witnesses and instances.
-use Rattle.std.proofs.Common.{◌≡◌, ◌∙◌, ◌+◌, ℕ, List, [], ◌∷◌, ◌++◌, map, take, Bool, true, false, cond, Option, Some, None, refl, sym, ap}
+use Rattle.std.proofs.Common.{◌≡◌, ◌∙◌, ◌+◌, ℕ, List, [], ◌∷◌, ◌++◌, map, take, Bool, true, false, cond, Option, Some, None, refl, sym, ap, subst}
 use Rattle.std.specs.Prelude.{slice_get, is_some, option_map}
 use Rattle.wy_judging.specs.Seen.{seen_literal}
+use Rattle.wy_searching.proofs.SpotLemmas.{made_spot}
 use Rattle.wy_stated_facts.proofs.SpotLemmas.{witness_had}
 use Rattle.wy_written_rounds.proofs.LoopLemmas.{one_more, so_far}
 use Rattle.wy_term.specs.Term.{Term}
@@ -62,12 +63,9 @@ witness_follows types base node l r k old new valid w at is h =
 
 -- ---- spots
 
-abbrev spot_with : Node → List Literal → List Term → ℕ → Spot
-spot_with node had names rounds = record { node = node; had = had; names = names; rounds = rounds }
-
 module _ (p : Spot) (l : Literal) (r : Range) (lacks : has_literal p.had l ≡ false) where
   abbrev made : Spot
-  made = spot_with (with_formulas p.node (witnessed_at l.holds r (witness p.node r))) (p.had ++ l ∷ []) (p.names ++ witness p.node r ∷ []) p.rounds
+  made = made_spot (with_formulas p.node (witnessed_at l.holds r (witness p.node r))) (p.had ++ l ∷ []) (p.names ++ witness p.node r ∷ []) p.rounds
 
   by_lack : (b : Bool) → b ≡ false → cond b p made ≡ made
   by_lack true e = absurd cc
@@ -83,8 +81,14 @@ none_witness p l e = sym (ap (with_witness p l) e)
 pub had_witness : (p : Spot) (l : Literal) (r : Range) → of_one l ≡ Some r → has_literal p.had l ≡ true → p ≡ with_witness p l (of_one l)
 had_witness p l r e up = witness_had p l r up ∙ sym (ap (with_witness p l) e)
 
-pub new_witness : (p : Spot) (l : Literal) (r : Range) → of_one l ≡ Some r → has_literal p.had l ≡ false → spot_with (with_formulas p.node (witnessed_at l.holds r (witness p.node r))) (p.had ++ l ∷ []) (p.names ++ witness p.node r ∷ []) p.rounds ≡ with_witness p l (of_one l)
+new_witness : (p : Spot) (l : Literal) (r : Range) → of_one l ≡ Some r → has_literal p.had l ≡ false → made_spot (with_formulas p.node (witnessed_at l.holds r (witness p.node r))) (p.had ++ l ∷ []) (p.names ++ witness p.node r ∷ []) p.rounds ≡ with_witness p l (of_one l)
 new_witness p l r e lacks = sym (ap (with_witness p l) e ∙ witness_new p l r lacks)
+
+pub new_follows : (types : List Entry) (base : Node) (p : Spot) (l : Literal) (r : Range) (old new : Progress) → of_one l ≡ Some r → has_literal p.had l ≡ false → Follows types base (with_formulas p.node (witnessed_at l.holds r (witness p.node r))) old new → Follows types base (with_witness p l (of_one l)).node old new
+new_follows types base p l r old new e lacks h = subst (λ (q : Spot). Follows types base q.node old new) (new_witness p l r e lacks) h
+
+pub new_noted : (p : Spot) (l : Literal) (r : Range) → of_one l ≡ Some r → has_literal p.had l ≡ false → (with_witness p l (of_one l)).had ≡ p.had ++ l ∷ []
+new_noted p l r e lacks = sym (ap (λ (q : Spot). q.had) (new_witness p l r e lacks))
 
 -- one literal more
 pub witnesses_more : (at : ℕ → Term) (ps : List (ℕ × Bool)) (i : ℕ) (q : ℕ × Bool) (p : Spot) → slice_get ps i ≡ Some q

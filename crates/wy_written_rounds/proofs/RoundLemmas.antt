@@ -5,6 +5,7 @@ use Rattle.wy_term.specs.Condition.{Entry}
 use Rattle.wy_judge.specs.Node.{Node}
 use Rattle.wy_search.specs.Expansion.{Spot, with_witnesses, with_instances, with_facts, with_products}
 use Rattle.wy_searching.specs.Turns.{begun, index_terms_in}
+use Rattle.wy_searching.proofs.SpotLemmas.{made_spot}
 use Rattle.wy_sound_certificates.proofs.StepLemmas.{step_leads}
 use Rattle.wy_closing.proofs.AtLeastLemmas.{at_least_self}
 use Rattle.wy_closing.specs.AtLeast.{IsNear}
@@ -41,14 +42,11 @@ pub witnesses_reach : (types : List Entry) (p : Spot) (old new : Progress) → I
 witnesses_reach types p old new h follows =
     reaches_by types p.node (with_witnesses p p.node.literals) old new (witnesses_grow types (leads types p old h) p (sorted_node p.node h.sorted) (folded_node p.node h.folded)) follows
 
-abbrev named : Node → List Term → Spot
-named node names = record { node = node; had = []; names = names; rounds = 0 }
-
 pub instances_reach : (types : List Entry) (node made : Node) (names : List Term) (old new : Progress) → made ≡ with_instances node node.literals (index_terms_in node names) → IsBeside types (begun node) old → Moves types node (λ n. with_instances n node.literals (index_terms_in node names)) old new → Reaches types (begun made) old new
 instances_reach types node made names old new is h moves =
     subst (λ (n : Node). Reaches types (begun n) old new) (sym is)
     (reaches_by types node (begun (with_instances node node.literals (index_terms_in node names))) old new
-    (instances_grow types (leads types (begun node) old h) (named node names) (sorted_node node h.sorted) (folded_node node h.folded)) (moves.each node (beside_along types (begun node) old h)))
+    (instances_grow types (leads types (begun node) old h) (made_spot node [] names 0) (sorted_node node h.sorted) (folded_node node h.folded)) (moves.each node (beside_along types (begun node) old h)))
 
 pub facts_reach : (types : List Entry) (node made : Node) (old new : Progress) → made ≡ with_facts types node → IsBeside types (begun node) old → Follows types node (with_facts types node) old new → Reaches types (begun made) old new
 facts_reach types node made old new is h follows =

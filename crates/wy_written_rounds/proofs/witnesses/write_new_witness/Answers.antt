@@ -12,7 +12,7 @@ use Rattle.wy_term.specs.Nodes.{tree_at}
 use Rattle.wy_valid.specs.Ranges.{of_one}
 use Rattle.wy_written_rounds.specs.Moving.{Follows}
 use Rattle.wy_written_rounds.proofs.MovingLemmas.{follows_self, on_ok}
-use Rattle.wy_written_rounds.proofs.RangeMoves.{had_witness, new_witness, none_witness, some_of}
+use Rattle.wy_written_rounds.proofs.RangeMoves.{had_witness, new_follows, new_noted, none_witness, some_of}
 use Rattle.wy_written_rounds.proofs.witnesses.write_new_witness.Goals as goal
 
 pub returns-then-not-calls-clause-value : goal.returns-then-not-calls-clause-value
@@ -63,7 +63,8 @@ returns-clause-value c = λ types base p had there along.
     let some = some_of (of_one l) calls in
     let one = some.1 in
     let un : has_literal (seen_branch at c.args.had.now).literals l ≡ false = search rules in
-    on_ok c.write_witness_of.result _ _ (λ h. subst (λ (q : Spot). Follows types base q.node d e) (new_witness p l some.0 one (ap (λ (ls : List Literal). has_literal ls l) had ∙ un)) h)
+    let lacks : has_literal p.had l ≡ false = ap (λ (ls : List Literal). has_literal ls l) had ∙ un in
+    on_ok c.write_witness_of.result _ _ (new_follows types base p l some.0 d e one lacks)
     (c.write_witness_of.ensures.value types base p.node some.0 one there along)
 
 pub returns-clause-noted : goal.returns-clause-noted
@@ -79,7 +80,7 @@ returns-clause-noted c = λ p had.
     let more = had_more (seen_branch at c.args.had.now) (seen_branch at c.add_literal.new.branch) l c.in_ok-add_literal.ensures.value un in
     let kept = ap (λ (n : Node). n.literals) (node_stays old new c.add_literal.new.branch c.write_witness_of.ensures.stays c.in_ok-add_literal.ensures.branch) in
     on_ok_anyway _ c.write_witness_of.result
-    (sym (ap (λ (q : Spot). q.had) (new_witness p l some.0 one (ap (λ (ls : List Literal). has_literal ls l) had ∙ un))) ∙ ap (λ (ls : List Literal). ls ++ l ∷ []) had ∙ sym more ∙ sym kept)
+    (new_noted p l some.0 one (ap (λ (ls : List Literal). has_literal ls l) had ∙ un) ∙ ap (λ (ls : List Literal). ls ++ l ∷ []) had ∙ sym more ∙ sym kept)
 
 pub returns-clause-had : goal.returns-clause-had
 returns-clause-had c = on_ok_anyway _ c.write_witness_of.result (branch_stays c.args.terms.now c.write_witness_of.new.terms c.add_literal.new.branch c.write_witness_of.ensures.stays c.in_ok-add_literal.ensures.branch)
