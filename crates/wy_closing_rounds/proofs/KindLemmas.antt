@@ -296,3 +296,14 @@ bool_near v less more h named near = three_near v (bool_said v) less more (bool_
 
 pub int_near : (v : Term) (less more : Node) → IsUntold v → IsNamedIn v less → IsNear less more → IsNear (added less (int_said v)) (added more (all_said v))
 int_near v less more h named near = three_near v (int_said v) less more (int_is_one v) h named near
+
+-- a node with all three is near one without them
+pub all_near : (v : Term) (less more : Node) → IsUntold v → IsNamedIn v less → IsNear less more → IsNear less (added more (all_said v))
+all_near v less more h named near = record {
+  at_least = more_added less more (all_said v) near.at_least;
+  names = λ test tests e. by test tests (or_either (any_in_node test less) (any_symbol test (null_said v)) (sym (any_added test tests less (null_said v)) ∙ (null_near v less more h named near).names test tests e));
+}
+  where
+    by : (test : Symbol → Bool) → TestsNames test → (any_in_node test less ≡ true) ⊎ (any_symbol test (null_said v) ≡ true) → any_in_node test less ≡ true
+    by test tests (inl e) = e
+    by test tests (inr e) = null_within test tests v (any_in_node test less) (no_bool v h.kind) (named test tests) e

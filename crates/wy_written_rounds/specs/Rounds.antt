@@ -2,7 +2,6 @@
 use Rattle.std.specs.Prelude.{List}
 use Rattle.wy_term.specs.Condition.{Entry}
 use Rattle.wy_term.specs.Unfolding.{AreClosed}
-use Rattle.wy_judge.specs.Node.{Node}
 use Rattle.wy_search.specs.Expansion.{Spot, expanded}
 use Rattle.wy_closing.specs.AtLeast.{IsNear}
 use Rattle.wy_closing_rounds.specs.Leaves.{IsSortedThroughout, IsFoldedThroughout}

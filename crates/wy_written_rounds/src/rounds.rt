@@ -1,17 +1,45 @@
 //! A round, with its steps.
-ghost use Rattle.std.specs.Prelude.{◌≡◌, ◌<◌, IfOk, OnOk, length};
+ghost use Rattle.std.specs.Prelude.{◌≡◌, ◌<◌, IfOk, OnOk, length, map};
 ghost use Rattle.wy_drafts.specs.Draft.{IsDraft, seen_draft};
 ghost use Rattle.wy_facts.specs.Membership.{AreTypesBelow};
-ghost use Rattle.wy_facts.specs.Seen.{Stays};
+ghost use Rattle.wy_facts.specs.Seen.{AreBelow, Stays};
+ghost use Rattle.wy_judging.specs.Seen.{IsBranch, seen_branch};
 ghost use Rattle.wy_search.specs.Expansion as search;
 ghost use Rattle.wy_searching.specs.StatedSeen.{IsSpot, seen_spot};
+ghost use Rattle.wy_searching.specs.Turns.{begun, index_terms_in};
 ghost use Rattle.wy_term.specs.Condition.{condition_of};
 ghost use Rattle.wy_term.specs.Nodes.{tree_at};
+ghost use Rattle.wy_written_rounds.specs.Moving.{Reaches};
 ghost use Rattle.wy_written_rounds.specs.Rounds.{GoesBeside, IsBeside};
 
+use crate::expanding::{add_facts, add_instances, add_products, add_witnesses};
 use wy_drafts::Draft;
+use wy_judging::Branch;
 use wy_searching::Spot;
 use wy_term::{Cond, NoMemory, Terms};
+
+// What a round adds to a node behind its witnesses, whose names these are.
+fn grow(
+    terms: &mut Terms,
+    cond: &Cond,
+    draft: &mut Draft,
+    branch: &mut Branch,
+    names: &[u32],
+) -> Result<(), NoMemory>
+    requires types { AreTypesBelow (length terms.old) cond.now }
+    requires draft { IsDraft terms.old draft.old }
+    requires branch { IsBranch terms.old branch.old }
+    requires names { AreBelow (length terms.old) names.now }
+    ensures seen { OnOk result (seen_branch (tree_at terms.new) branch.new ≡ search.with_products (search.with_facts (condition_of terms.old cond.now).types (search.with_instances (seen_branch (tree_at terms.old) branch.old) (seen_branch (tree_at terms.old) branch.old).literals (index_terms_in (seen_branch (tree_at terms.old) branch.old) (map (tree_at terms.old) names.now))))) }
+    ensures value { IsBeside (condition_of terms.old cond.now).types (begun (seen_branch (tree_at terms.old) branch.old)) (seen_draft (tree_at terms.old) draft.old) → OnOk result (Reaches (condition_of terms.old cond.now).types (begun (seen_branch (tree_at terms.new) branch.new)) (seen_draft (tree_at terms.old) draft.old) (seen_draft (tree_at terms.new) draft.new)) }
+    ensures branch { OnOk result (IsBranch terms.new branch.new) }
+    ensures draft { OnOk result (IsDraft terms.new draft.new) }
+    ensures stays { Stays terms.old terms.new }
+{
+    add_instances(terms, draft, branch, names)?;
+    add_facts(terms, cond, draft, branch)?;
+    add_products(terms, draft, branch)
+}
 
 /// One round of the search at a node of a path, and its steps written to a draft whose node has at least as much. The node behind the
 /// round.
@@ -31,5 +59,19 @@ pub fn write_round(
     ensures draft { OnOk result (IsDraft terms.new draft.new) }
     ensures stays { Stays terms.old terms.new }
 {
-    Err(NoMemory)
+    let rounds = spot.rounds + 1;
+    let found = add_witnesses(terms, draft, spot)?;
+    let Spot {
+        mut branch,
+        had,
+        names,
+        rounds: _,
+    } = found;
+    grow(terms, cond, draft, &mut branch, &names)?;
+    Ok(Spot {
+        branch,
+        had,
+        names,
+        rounds,
+    })
 }
