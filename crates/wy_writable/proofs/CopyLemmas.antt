@@ -1,20 +1,16 @@
 -- Which terms can be written, and their numbers in another list.
-use Rattle.std.proofs.Common.{◌≡◌, ◌∙◌, ◌↔◌, ◌<◌, ◌≤◌, ◌+◌, ℕ, suc, List, [], ◌∷◌, ◌++◌, All, Option, Some, None, Result, Ok, Err, length, get_or, length-append, ap, refl, sym, subst, arith, ◌⊎◌, inl, inr}
-use Rattle.std.proofs.lemmas.Bool.{cases_lt}
-use Rattle.std.proofs.lemmas.List.{get_or_append_left}
-use Rattle.std.proofs.Math.Seq.{get_or-append_seam}
+use Rattle.std.proofs.Common.{◌≡◌, ◌∙◌, ℕ, suc, List, [], ◌∷◌, All, Option, Some, None, Result, Ok, Err, ap, refl, sym, subst, arith}
 use Rattle.std.proofs.lemmas.List.Elements.{All-cons, All-head, All-nil, All-tail}
-use Rattle.std.specs.Prelude.{IfOk, IsSome}
+use Rattle.std.specs.Prelude.{IfOk}
 use Rattle.wy_term.specs.Term.{Symbol, Term, Of}
 use Rattle.wy_term.specs.Folding.{folded}
 use Rattle.wy_term.specs.Nodes.{Plain, grown, of, parts_at, plain, tree_at}
-use Rattle.wy_term.specs.Sorts.{Sort, sort_in}
+use Rattle.wy_term.specs.Sorts.{sort_in}
 use Rattle.wy_term.specs.declared.node.Node.{Node}
 use Rattle.wy_sorted.specs.Sorted.{IsSorted}
 use Rattle.wy_spell.specs.Grammar.{IsInRange, layout}
 use Rattle.wy_reread.specs.Folded.{AreFolded}
-use Rattle.wy_certificates_reread.specs.Writable.{IsWritableAt}
-use Rattle.wy_writable.specs.Listed.{AreCopies, ArePartsCopied, CanBeWritten, IsCopy, IsFoldedThere, TellWritable}
+use Rattle.wy_writable.specs.Listed.{ArePartsCopied, CanBeWritten, IsCopy, IsFoldedThere}
 use Rattle.wy_writable.proofs.LaidLemmas.{AreOwn, node_of, own_parts, sorted_of}
 
 -- ---- parts
