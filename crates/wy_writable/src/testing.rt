@@ -55,7 +55,9 @@ fn are_steps_writable(terms: &Terms, copies: &[Option<u32>], steps: &[Step]) -> 
 }
 
 /// Whether a certificate can be written: the terms that its steps name are folded and of the sorts of their places, names and
-/// numbers are within their ranges, and no list is empty. It takes time linear in the certificate, and makes its terms once more.
+/// numbers are within their ranges, and no list is empty. It takes time linear in the certificate, and makes those of its terms
+/// once more that can be written. Want of memory is also the answer where it has 2^32 terms, and where a thousand quantifiers over
+/// short ranges stand one in another.
 pub fn is_certificate_writable(cert: &Cert) -> Result<bool, NoMemory>
     requires { NamesItsTerms cert.now }
     ensures exactly { IfOk result (λ b. (b ≡ true) ↔ AreWritable (steps_of cert.now)) }
