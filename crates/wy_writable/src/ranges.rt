@@ -1,5 +1,5 @@
 //! Names and numbers that stand in a node beside its parts.
-ghost use Rattle.std.specs.Prelude.{◌≡◌, IfOk, IsTrue, map};
+ghost use Rattle.std.specs.Prelude.{◌≡◌, ◌↔◌, IfOk, IsTrue, map};
 ghost use Rattle.wy_scan.specs.Words.{AreFields, IsWord};
 ghost use Rattle.wy_spell.specs.Grammar.{IsInRange, IsKind, IsNumbered};
 ghost use Rattle.wy_term.specs.Nodes.{plain, plain_kind};
@@ -11,7 +11,7 @@ use wy_term::{Kind, NoMemory, Node};
 
 // Whether a name is a word that is read as a whole.
 fn is_word(alloc: Global, name: &Name) -> Result<bool, NoMemory>
-    ensures { IfOk result (λ b. IsTrue b → IsWord name.now) }
+    ensures { IfOk result (λ b. IsTrue b ↔ IsWord name.now) }
 {
     match word(alloc, name.as_bytes())? {
         Some((_, rest)) => Ok(rest.is_empty()),
@@ -21,7 +21,7 @@ fn is_word(alloc: Global, name: &Name) -> Result<bool, NoMemory>
 
 // Whether a name is one with a number that is read again.
 fn is_numbered(alloc: Global, name: &Name, number: u128) -> Result<bool, NoMemory>
-    ensures { IfOk result (λ b. IsTrue b → IsNumbered name.now number) }
+    ensures { IfOk result (λ b. IsTrue b ↔ IsNumbered name.now number) }
 {
     if number >= 1 << 127 {
         return Ok(false);
@@ -42,7 +42,7 @@ fn names_of(alloc: Global, fields: &[(Name, u32)]) -> Result<Vec<Name>, NoMemory
 
 // Whether a record's names are words that rise.
 fn is_record(alloc: Global, fields: &Vec<(Name, u32)>) -> Result<bool, NoMemory>
-    ensures { IfOk result (λ b. IsTrue b → AreFields (map (λ p. p.0) fields.now.items)) }
+    ensures { IfOk result (λ b. IsTrue b ↔ AreFields (map (λ p. p.0) fields.now.items)) }
 {
     let names = names_of(alloc, fields)?;
     Ok(are_fields(alloc, &names)?)
@@ -50,7 +50,7 @@ fn is_record(alloc: Global, fields: &Vec<(Name, u32)>) -> Result<bool, NoMemory>
 
 // Whether a kind is null's, that of truth values, of numbers or of arrays, or one of records whose names are words that rise.
 fn is_kind(alloc: Global, kind: &Kind) -> Result<bool, NoMemory>
-    ensures { IfOk result (λ b. IsTrue b → IsKind (plain_kind kind.now)) }
+    ensures { IfOk result (λ b. IsTrue b ↔ IsKind (plain_kind kind.now)) }
 {
     match kind {
         Kind::Record(names) => Ok(are_fields(alloc, names)?),
@@ -60,7 +60,7 @@ fn is_kind(alloc: Global, kind: &Kind) -> Result<bool, NoMemory>
 
 /// Whether what stands in a node beside its parts is within its range, in time linear in the node.
 pub fn is_in_range(alloc: Global, node: &Node) -> Result<bool, NoMemory>
-    ensures value { IfOk result (λ b. IsTrue b → IsInRange (plain node.now).symbol) }
+    ensures exactly { IfOk result (λ b. IsTrue b ↔ IsInRange (plain node.now).symbol) }
 {
     match node {
         Node::Number(number) => {
