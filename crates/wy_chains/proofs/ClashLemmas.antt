@@ -9,7 +9,7 @@ use Rattle.wy_term.specs.Condition.{Entry}
 use Rattle.wy_term.proofs.SameLemmas.{terms_self, kinds_are, kinds_self}
 use Rattle.wy_sorted.specs.Sorted.{IsSorted}
 use Rattle.wy_judge.specs.Node.{Literal, Node, same_literal, has_literal, with_literal, with_pending}
-use Rattle.wy_cert.specs.Steps.{Written, clash}
+use Rattle.wy_cert.specs.Steps.{Written}
 use Rattle.wy_lin.specs.Linear.{◌>>=◌}
 use Rattle.wy_valid.specs.Literals.{only_if, has_atom, literal_at, are_joined, are_alike, is_chain}
 use Rattle.wy_valid.specs.Kinds.{are_apart, clashes_alone, Kinded, in_two_kinds, in_one_kind, clash_together}

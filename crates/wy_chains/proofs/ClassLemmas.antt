@@ -1,5 +1,5 @@
 -- Terms of one class are linked by chains: that they are is a congruence on the terms present.
-use Rattle.std.proofs.Common.{◌≡◌, ◌⊎◌, ◌∙◌, ℕ, suc, List, [], ◌∷◌, Bool, true, false, cond, ◌&&◌, ◌||◌, Option, Some, None, inl, inr, refl, sym, ap, subst}
+use Rattle.std.proofs.Common.{◌≡◌, ◌⊎◌, ◌∙◌, ℕ, List, [], ◌∷◌, Bool, true, false, cond, ◌&&◌, ◌||◌, Option, Some, None, inl, inr, refl, sym, ap, subst}
 use Rattle.wy_term.specs.Term.{Symbol, Term, Of, Parts, no_parts, part, two, equal}
 use Rattle.wy_term.specs.Same.{same_term}
 use Rattle.wy_term.specs.Sorts.{Sort, formula_sort, sort_in}
