@@ -110,7 +110,7 @@ module _ (all : List (Linear ℕ)) (v : ℕ) where
       let next = side_have s i lower upper in
       sides_have (with_side all v s i) is next.0 next.1
 
-abbrev AreAt : List (Linear ℕ) → ℕ → List (Linear ℕ) → Type 0
+abbrev pub AreAt : List (Linear ℕ) → ℕ → List (Linear ℕ) → Type 0
 AreAt all i [] = Unit {0}
 AreAt all i (f ∷ fs) = (form_at all i ≡ f) × (i < length all) × AreAt all (suc i) fs
 
@@ -128,7 +128,7 @@ first_dropped (x ∷ xs) (suc i) f fs e =
     let known = first_dropped xs i f fs e in
     (known.0, omega (arith, known.1), known.2)
 
-are_at : (all : List (Linear ℕ)) (i : ℕ) (fs : List (Linear ℕ)) → drop i all ≡ fs → AreAt all i fs
+pub are_at : (all : List (Linear ℕ)) (i : ℕ) (fs : List (Linear ℕ)) → drop i all ≡ fs → AreAt all i fs
 are_at all i [] e = tt
 are_at all i (f ∷ fs) e =
     let known = first_dropped all i f fs e in

@@ -1,5 +1,5 @@
 -- What becomes of a draft where cuts are written.
-use Rattle.std.specs.Prelude.{◌≡◌, ℕ, ◌*◌, ◌==◌, List, [], ◌∷◌, ◌++◌, Bool, true, false, Option, Some, None}
+use Rattle.std.specs.Prelude.{◌≡◌, ℕ, ◌*◌, ◌==◌, List, [], ◌∷◌, ◌++◌, map, Bool, true, false, Option, Some, None}
 use Rattle.wy_term.specs.Term.{Term}
 use Rattle.wy_term.specs.Condition.{Entry}
 use Rattle.wy_lin.specs.Linear.{◌>>=◌, Linear}
@@ -38,8 +38,7 @@ StatesCut types d pairs old new o = (a : Term) → cut_among old.node.literals d
 
 -- each multiplier twice
 abbrev pub twice : List (ℕ × ℕ) → List (ℕ × ℕ)
-twice [] = []
-twice (p ∷ ps) = (2 * p.0, p.1) ∷ twice ps
+twice ps = map (λ (p : ℕ × ℕ). (2 * p.0, p.1)) ps
 
 -- these are the pairs, and there are some
 abbrev pub ArePairs : List (ℕ × ℕ) → Option (List (ℕ × ℕ)) → Type 0

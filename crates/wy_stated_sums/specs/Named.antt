@@ -1,5 +1,5 @@
 -- Literals by their numbers, and the forms that they have over the places of terms.
-use Rattle.std.specs.Prelude.{◌≡◌, ◌<◌, ℕ, List, [], ◌∷◌, length, slice_index_or, true, false, ℤ, pos, Option, Some, None}
+use Rattle.std.specs.Prelude.{◌≡◌, ◌<◌, ℕ, List, [], ◌∷◌, length, map, slice_index_or, true, false, ℤ, pos, Option, Some, None}
 use Rattle.wy_term.specs.Term.{Term, Number}
 use Rattle.wy_term.specs.Rewriting.{as_number}
 use Rattle.wy_lin.specs.Linear.{Linear, variable_form}
@@ -54,5 +54,4 @@ Names base ls f (Some k) = IsNamed base ls k f
 
 -- the multipliers, each beside the number at its place, or beside 0, which no literal has, where there is none
 abbrev pub with_numbers : List ℕ → List (ℕ × ℕ) → List (ℕ × ℕ)
-with_numbers ks [] = []
-with_numbers ks (m ∷ ms) = (m.0, slice_index_or ks m.1 0) ∷ with_numbers ks ms
+with_numbers ks ms = map (λ (m : ℕ × ℕ). (m.0, slice_index_or ks m.1 0)) ms

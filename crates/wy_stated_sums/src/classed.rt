@@ -16,7 +16,7 @@ pub struct Classed {
 }
 
 /// The classes of a node.
-pub fn classed(terms: &Terms, base: &Branch) -> Result<Classed, NoMemory>
+pub fn classes_of(terms: &Terms, base: &Branch) -> Result<Classed, NoMemory>
     requires base { IsBranch terms.now base.now }
     ensures value { IfOk result (IsClassed terms.now (seen_branch (tree_at terms.now) base.now)) }
 {

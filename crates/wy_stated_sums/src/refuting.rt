@@ -13,7 +13,7 @@ ghost use Rattle.wy_stated_sums.specs.Replacing.{AreStated, IsLinked};
 ghost use Rattle.wy_term.specs.Condition.{Entry};
 ghost use Rattle.wy_term.specs.Nodes.{tree_at};
 
-use crate::classed::classed;
+use crate::classed::classes_of;
 use crate::literals::take_literal;
 use crate::stated::{Stated, Turn, nothing_stated};
 use crate::steps::write_steps;
@@ -57,7 +57,7 @@ pub fn close_by_elimination(
     ensures draft { OnOk result (IsDraft terms.new draft.new) }
     ensures stays { Stays terms.old terms.new }
 {
-    let classed = classed(terms, base)?;
+    let classed = classes_of(terms, base)?;
     let mut stated = nothing_stated(terms.allocator());
     for i in 0..base.literals.len() {
         match take_literal(terms, draft, base, &classed, i, &mut stated)? {
