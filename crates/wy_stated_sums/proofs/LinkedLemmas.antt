@@ -52,12 +52,12 @@ pub linked_kept : (base a b : Node) → Appends a b → IsLinked base a → IsLi
 linked_kept base a b more h =
     let has = appends_has a b more in
     let at_least : IsAtLeast base b = record {
-      literals = λ l e. has.has l (h.base.at_least.literals l e);
-      pending = λ f e. subst (λ (fs : List Term). has_formula fs f ≡ true) (sym more.pending) (h.base.at_least.pending f e);
+      literals = λ l e. has.has l (h.given.at_least.literals l e);
+      pending = λ f e. subst (λ (fs : List Term). has_formula fs f ≡ true) (sym more.pending) (h.given.at_least.pending f e);
     } in
     record {
-      base = record { literals = h.base.literals; pending = h.base.pending; folded = h.base.folded; at_least = at_least };
-      linked = λ s t e. linked_more a b has s t (h.linked s t e);
+      given = record { literals = h.given.literals; pending = h.given.pending; folded = h.given.folded; at_least = at_least };
+      joined = λ s t e. linked_more a b has s t (h.joined s t e);
     }
 
 -- ---- nodes of sorted formulas
@@ -98,7 +98,7 @@ module _ (base node : Node) (h : IsLinked base node) where
   labels = classes (present base) base.literals
 
   sorted : IsSortedNode base
-  sorted = sorted_base base node h.base
+  sorted = sorted_base base node h.given
 
   abbrev Fine : ℕ → Type 0
   Fine v = IsFine no_entries Anything any_steps base sorted v
@@ -145,7 +145,7 @@ module _ (base node : Node) (h : IsLinked base node) where
       let is_w : IsVariable base w = record { below = one.below; form = is.form; free = is.free } in
       let differ = not_same no_entries Anything any_steps base sorted v w fine.below one.below apart in
       let turned = not_same no_entries Anything any_steps base sorted w v one.below fine.below (eqb_back no_entries Anything any_steps base sorted v w apart) in
-      by w is_w differ turned (h.linked (at base v) (at base w) one.one)
+      by w is_w differ turned (h.joined (at base v) (at base w) one.one)
     where
       by : (w : ℕ) → IsVariable base w → same_term (at base v) (at base w) ≡ false → same_term (at base w) (at base v) ≡ false → (at base v ≡ at base w) ⊎ (are_joined node.literals (at base v) (at base w) ≡ true) → IsBound base node.literals (taking_away c v w).1
       by w is_w differ turned (inl e) = absurd (apart_ways (same_term (at base v) (at base w)) (ap (λ (x : Term). same_term (at base v) x) (sym e) ∙ terms_self (at base v)) differ)
@@ -173,7 +173,7 @@ module _ (base node : Node) (h : IsLinked base node) where
       let fine = fine_numbered no_entries Anything any_steps base sorted whole.parts ones made.variables in
       let back : whole ≡ seen (at base) f = sym (ap (λ (ps : List (ℤ × Term)). form_of_parts ps whole.constant) (seen_numbered (present base) whole.parts (all_placed no_entries Anything any_steps base sorted whole.parts ones))) in
       record {
-        own = record {
+        named = record {
           form = ap (λ (o : Option Literal). o >>= λ (k : Literal). form_of_literal (formula_of k)) number ∙ (e ∙ ap (λ (g : Linear Term). Some g) back);
           variables = all_of_fine f.parts fine;
         };

@@ -157,7 +157,7 @@ module _ (base node : Node) where
 
 -- the literal that such a cut states has the divided form
 pub stated_gives : (types : List Entry) (base : Node) (old new : Progress) (d : ℕ) (pairs : List (ℕ × ℕ)) (f : Linear ℕ) (o : Option ℕ) → IsStating base old.node d pairs f → StatesCut types d pairs old new o → Gives types base (lowered d f) old new o
-stated_gives types base old new d pairs f o is states = by o (states (two at_most zero_term is.sum) is.is refl)
+stated_gives types base old new d pairs f o is states = by o (states zero_term is.sum is.is)
   where
     by : (p : Option ℕ) → States types (two at_most zero_term is.sum) old new p → Gives types base (lowered d f) old new p
     by None h = h

@@ -64,7 +64,7 @@ module _ (base : Node) (ls : List Literal) where
   whole_match own k f ts ps qs some above h are scaled = (
     refl,
     some,
-    h.own,
+    h.named,
     taken_match (f ∷ taken ts) k 1 ts ps qs above (are_at (f ∷ taken ts) 1 (taken ts) refl) h.bounds are scaled,
   )
 

@@ -1,10 +1,10 @@
 -- What becomes of a draft where cuts are written.
 use Rattle.std.specs.Prelude.{◌≡◌, ℕ, ◌*◌, ◌==◌, List, [], ◌∷◌, ◌++◌, map, Bool, true, false, Option, Some, None}
-use Rattle.wy_term.specs.Term.{Term}
+use Rattle.wy_term.specs.Term.{Term, two, at_most}
 use Rattle.wy_term.specs.Condition.{Entry}
 use Rattle.wy_lin.specs.Linear.{◌>>=◌, Linear}
 use Rattle.wy_lin.specs.Seen.{seen}
-use Rattle.wy_judge.specs.Node.{Literal, Node, is_atom}
+use Rattle.wy_judge.specs.Node.{Literal, Node}
 use Rattle.wy_valid.specs.Literals.{literal_at}
 use Rattle.wy_valid.specs.Sums.{summed, cut_of}
 use Rattle.wy_eliminate.specs.Division.{common}
@@ -32,9 +32,9 @@ abbrev pub States : List Entry → Term → Progress → Progress → Option ℕ
 States types a old new None = ⊥
 States types a old new (Some k) = Grows types old new × (literal_at new.node.literals k ≡ Some (holding a))
 
--- where the cut states an atom
+-- where the cut states a bound
 abbrev pub StatesCut : List Entry → ℕ → List (ℕ × ℕ) → Progress → Progress → Option ℕ → Type 0
-StatesCut types d pairs old new o = (a : Term) → cut_among old.node.literals d pairs ≡ Some a → is_atom a ≡ true → States types a old new o
+StatesCut types d pairs old new o = (s t : Term) → cut_among old.node.literals d pairs ≡ Some (two at_most s t) → States types (two at_most s t) old new o
 
 -- each multiplier twice
 abbrev pub twice : List (ℕ × ℕ) → List (ℕ × ℕ)

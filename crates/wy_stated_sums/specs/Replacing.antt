@@ -20,8 +20,8 @@ use Rattle.wy_stated_sums.specs.declared.stated.Turn.TheVariants.{GoesOn, Closes
 
 -- the first node is given, and its classes are joined in the second
 pub record IsLinked (base node : Node) : Type 0 where
-  pub base : IsBase base node
-  pub linked : AreLinkedClasses base node
+  pub given : IsBase base node
+  pub joined : AreLinkedClasses base node
 
 -- ---- bounds
 
@@ -42,7 +42,7 @@ AreBounds base ls (t ∷ ts) = (0 < t.0) × IsBound base ls t.1 × AreBounds bas
 
 -- the number has a literal with this form, and bounds take its variables away
 pub record IsReplaceable (base : Node) (ls : List Literal) (own : ℕ) (f : Linear ℕ) (ts : List (ℕ × Linear ℕ)) : Type 0 where
-  pub own : IsNamed base ls own f
+  pub named : IsNamed base ls own f
   pub bounds : AreBounds base ls ts
 
 -- each pair says how often a form is taken, and which literal has it
