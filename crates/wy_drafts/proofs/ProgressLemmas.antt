@@ -31,7 +31,7 @@ goes_self types a = record { more = []; written = sym (append-nil a.steps); lead
 
 -- three lists of steps behind one another
 behind : (a b c xs ys : List Written) → b ≡ a ++ xs → c ≡ b ++ ys → c ≡ a ++ (xs ++ ys)
-behind a b c xs ys first second = second ∙ (ap (λ (zs : List Written). zs ++ ys) first ∙ append_assoc)
+behind a b c xs ys first second = second ∙ (ap (λ (zs : List Written). zs ++ ys) first ∙ append_assoc a xs ys)
 
 pub goes_on : (types : List Entry) (a b c : Progress) → Goes types a b → Goes types b c → Goes types a c
 goes_on types a b c h g = record {
@@ -45,7 +45,7 @@ ends_behind types a b c h g = record {
   more = h.more ++ g.more;
   last = g.last;
   middle = g.middle;
-  written = behind a.steps b.steps c.steps h.more (g.more ++ g.last ∷ []) h.written g.written ∙ ap (λ (zs : List Written). a.steps ++ zs) (sym append_assoc);
+  written = behind a.steps b.steps c.steps h.more (g.more ++ g.last ∷ []) h.written g.written ∙ ap (λ (zs : List Written). a.steps ++ zs) (sym (append_assoc h.more g.more (g.last ∷ [])));
   leads = leads_on types a.node b.node g.middle h.more g.more h.leads g.leads;
   closes = g.closes;
   sorted = g.sorted;
@@ -71,7 +71,7 @@ goes_by types s a b valid sorted written = record { more = s ∷ []; written = w
 pub goes_nowhere : (types : List Entry) (a b : Progress) → b ≡ a → Goes types a b
 goes_nowhere types a b same = subst (λ (p : Progress). Goes types a p) (sym same) (goes_self types a)
 
-pub writes_goes : (types : List Entry) (s : Written) (a b : Progress) (yes : Bool) → IsSortedStep s → Writes types s a b yes → Goes types a b
+pub writes_goes : (types : List Entry) (s : Written) (a b : Progress) (valid : Bool) → IsSortedStep s → Writes types s a b valid → Goes types a b
 writes_goes types s a b true sorted h = h.1 sorted
 writes_goes types s a b false sorted h = goes_nowhere types a b h.1
 
@@ -85,8 +85,8 @@ closed_never : (may : Bool) (b : Node) → only_if may closed ≡ some (b ∷ []
 closed_never true b e = cc
 closed_never false b e = cc
 
-clash_never : (o : Option Bool) (b : Node) → (o >>= λ yes. only_if yes closed) ≡ some (b ∷ []) → ⊥
-clash_never (Some yes) b e = closed_never yes b e
+clash_never : (o : Option Bool) (b : Node) → (o >>= λ may. only_if may closed) ≡ some (b ∷ []) → ⊥
+clash_never (Some may) b e = closed_never may b e
 clash_never None b e = cc
 
 one_is : (x y : Node) → some (x ∷ []) ≡ some (y ∷ []) → x ≡ y

@@ -8,6 +8,7 @@ ghost use Rattle.wy_term.specs.Condition.{Entry};
 ghost use Rattle.wy_term.specs.Nodes.{tree_at};
 
 use crate::draft::Draft;
+use crate::putting::put;
 use wy_cert::Step;
 use wy_judging::{is_refuting, is_shut};
 use wy_splits::{is_clash, may_split};
@@ -22,7 +23,7 @@ pub fn close_by_shut(terms: &Terms, draft: &mut Draft) -> Result<bool, NoMemory>
     if !is_shut(terms, &draft.branch)? {
         return Ok(false);
     }
-    draft.steps.push(Step::Shut)?;
+    put(terms, draft, Step::Shut)?;
     Ok(true)
 }
 
@@ -39,7 +40,7 @@ pub fn close_by_clash(
 {
     match is_clash(terms, &draft.branch, i, other)? {
         Some(true) => {
-            draft.steps.push(Step::Clash(i, other))?;
+            put(terms, draft, Step::Clash(i, other))?;
             Ok(true)
         }
         _ => Ok(false),
@@ -60,7 +61,7 @@ pub fn close_by_sum(
     if !is_refuting(terms, &draft.branch, &pairs)? {
         return Ok(false);
     }
-    draft.steps.push(Step::Sum(pairs))?;
+    put(terms, draft, Step::Sum(pairs))?;
     Ok(true)
 }
 
@@ -76,7 +77,6 @@ pub fn write_split(terms: &Terms, draft: &mut Draft, atom: u32) -> Result<bool, 
     if !may_split(terms, &draft.branch, atom)? {
         return Ok(false);
     }
-    let own = draft.terms.copy(terms, atom)?;
-    draft.steps.push(Step::Split(own))?;
+    put(terms, draft, Step::Split(atom))?;
     Ok(true)
 }

@@ -2,12 +2,17 @@
 //!
 //! `draft` has a draft: the steps so far, with the terms that they name, and the node at which the next step stands. `numbers` gives
 //! each literal the number that it has there. `closing` writes steps that close the node, `stating` those that add to it; each
-//! is tested by the checker's own rule for its kind, and what isn't valid isn't written.
+//! is tested by the checker's own rule for its kind, and what isn't valid isn't written. Both put their steps by `putting`, which copies
+//! a step's terms to the draft's own (`copying`) and, for a step that adds formulas, writes it only where they add something to the
+//! node (`growing`).
 #![tactic(auto)]
 
 mod closing;
+mod copying;
 mod draft;
+mod growing;
 mod numbers;
+mod putting;
 mod stating;
 
 pub use closing::{close_by_clash, close_by_shut, close_by_sum, write_split};

@@ -1,5 +1,5 @@
 //! Steps that add to a node.
-ghost use Rattle.std.specs.Prelude.{◌≡◌, ◌<◌, List, Bool, IfOk, IfSome, OnOk, is_some, length};
+ghost use Rattle.std.specs.Prelude.{◌≡◌, ◌<◌, List, Bool, IfOk, IfSome, OnOk, is_some, length, option_map};
 ghost use Rattle.wy_cert.specs.Steps.{chain, cut, fact as fact_step, inst, prod, wit};
 ghost use Rattle.wy_drafts.specs.Draft.{IsDraft, seen_draft};
 ghost use Rattle.wy_drafts.specs.Progress.{Writes};
@@ -8,8 +8,15 @@ ghost use Rattle.wy_facts.specs.Seen.{AreBelow, Stays, terms_at};
 ghost use Rattle.wy_judge.specs.Node.{added};
 ghost use Rattle.wy_term.specs.Condition.{Entry, condition_of};
 ghost use Rattle.wy_term.specs.Nodes.{tree_at};
+ghost use Rattle.wy_valid.specs.Membership.{fact_among};
 
 use crate::draft::Draft;
+use crate::putting::{state_all, state_one};
+use wy_cert::Step;
+use wy_checking::product_stated;
+use wy_facts::fact;
+use wy_judging::cut_stated;
+use wy_splits::{chain_stated, instance_stated, witness_stated};
 use wy_term::{Cond, NoMemory, Terms};
 
 /// Writes `chain` of terms, where neighbours are joined or alike, unless its ends' equality adds nothing to the node. Says whether the
@@ -21,7 +28,9 @@ pub fn write_chain(terms: &mut Terms, draft: &mut Draft, all: &[u32]) -> Result<
     ensures draft { OnOk result (IsDraft terms.new draft.new) }
     ensures stays { Stays terms.old terms.new }
 {
-    Err(NoMemory)
+    let stated = chain_stated(terms, &draft.branch, all)?;
+    let named = Vec::from_slice(terms.allocator(), all)?;
+    state_all(terms, draft, Step::Chain(named), stated)
 }
 
 /// Writes `cut` by a divisor of literals by their multipliers and numbers, unless what it states is there. The formula that it states, where
@@ -39,7 +48,9 @@ pub fn write_cut(
     ensures draft { OnOk result (IsDraft terms.new draft.new) }
     ensures stays { Stays terms.old terms.new }
 {
-    Err(NoMemory)
+    let stated = cut_stated(terms, &draft.branch, d, &pairs)?;
+    state_one(terms, draft, Step::Cut(d, pairs), stated)?;
+    Ok(stated)
 }
 
 /// Writes `inst` of the literal with this number at a term, where it calls for instances, unless the instance adds nothing. Says whether
@@ -56,7 +67,8 @@ pub fn write_instance(
     ensures draft { OnOk result (IsDraft terms.new draft.new) }
     ensures stays { Stays terms.old terms.new }
 {
-    Err(NoMemory)
+    let stated = instance_stated(terms, &draft.branch, i, t)?;
+    state_one(terms, draft, Step::Inst(i, t), stated)
 }
 
 /// Writes `wit` of the literal with this number, where it calls for a witness, and says whether it is valid.
@@ -66,7 +78,27 @@ pub fn write_witness(terms: &mut Terms, draft: &mut Draft, i: u32) -> Result<boo
     ensures draft { OnOk result (IsDraft terms.new draft.new) }
     ensures stays { Stays terms.old terms.new }
 {
-    Err(NoMemory)
+    let stated = witness_stated(terms, &draft.branch, i)?;
+    state_all(terms, draft, Step::Wit(i), stated)
+}
+
+// The formula that a schema states of these arguments, where they are such as it takes.
+fn fact_stated(
+    terms: &mut Terms,
+    cond: &Cond,
+    schema: u32,
+    all: &[u32],
+) -> Result<Option<u32>, NoMemory>
+    requires types { AreTypesBelow (length terms.old) cond.now }
+    requires terms { AreBelow (length terms.old) all.now }
+    ensures value { IfOk result (λ o. option_map (tree_at terms.new) o ≡ fact_among (condition_of terms.old cond.now).types schema (terms_at terms.old all.now)) }
+    ensures within { IfOk result (λ o. IfSome o (λ f. f < length terms.new)) }
+    ensures stays { Stays terms.old terms.new }
+{
+    match fact(terms, cond, schema, all) {
+        Ok(stated) => Ok(stated),
+        Err(_) => Err(NoMemory),
+    }
 }
 
 /// Writes `fact` of a schema and arguments, where they are such as it takes, unless its formula adds nothing. Says whether it is valid.
@@ -84,7 +116,9 @@ pub fn write_fact(
     ensures draft { OnOk result (IsDraft terms.new draft.new) }
     ensures stays { Stays terms.old terms.new }
 {
-    Err(NoMemory)
+    let stated = fact_stated(terms, cond, schema, all)?;
+    let named = Vec::from_slice(terms.allocator(), all)?;
+    state_one(terms, draft, Step::Fact(schema, named), stated)
 }
 
 /// Writes `prod` of two literals by their numbers and a product, where they are bounds of its factors, unless it adds nothing. Says whether
@@ -102,5 +136,6 @@ pub fn write_product(
     ensures draft { OnOk result (IsDraft terms.new draft.new) }
     ensures stays { Stays terms.old terms.new }
 {
-    Err(NoMemory)
+    let stated = product_stated(terms, &draft.branch, i, j, p)?;
+    state_one(terms, draft, Step::Prod(i, j, p), stated)
 }
