@@ -144,7 +144,7 @@ module _ (types : List Entry) (Closable : Node → Type 0) (steps : Steps types 
   abbrev labels : List ℕ
   labels = classes (present base) base.literals
 
-  once : NamesOnce (at (present base)) (length (present base))
+  pub once : NamesOnce (at (present base)) (length (present base))
   once = places_once (present base) (present_distinct base)
 
   abbrev Has : Node → Linear ℕ → Type 0
@@ -163,10 +163,10 @@ module _ (types : List Entry) (Closable : Node → Type 0) (steps : Steps types 
   AreFine [] = Unit {0}
   AreFine (p ∷ ps) = IsFine p.1 × AreFine ps
 
-  pub good_of : (k : ℕ) → IsFine k → IsGood (at terms) (length terms) once k
+  good_of : (k : ℕ) → IsFine k → IsGood (at terms) (length terms) once k
   good_of k h = record { below = h.below; variable = variable_is (at terms k) h.variable }
 
-  pub fine_good : (ps : List (ℤ × ℕ)) → AreFine ps → AreGood (at terms) (length terms) once ps
+  fine_good : (ps : List (ℤ × ℕ)) → AreFine ps → AreGood (at terms) (length terms) once ps
   fine_good [] h = tt
   fine_good (p ∷ ps) h = (good_of p.1 h.0, fine_good ps h.1)
 
@@ -176,7 +176,7 @@ module _ (types : List Entry) (Closable : Node → Type 0) (steps : Steps types 
   vals v w e = let is = literal_formula base.literals (record { atom = two equal v w; holds = true }) sorted.literals e in (is.0.0, is.0.2.0)
 
   -- two different variables, each at most the other
-  pub both_bounds : (node : Node) (v w : ℕ) → IsGood (at terms) (length terms) once v → IsGood (at terms) (length terms) once w → same_term (at terms v) (at terms w) ≡ false → same_term (at terms w) (at terms v) ≡ false → are_between node.literals (at terms v) (at terms w) ≡ true → Has node (order_form v w) × Has node (order_form w v)
+  both_bounds : (node : Node) (v w : ℕ) → IsGood (at terms) (length terms) once v → IsGood (at terms) (length terms) once w → same_term (at terms v) (at terms w) ≡ false → same_term (at terms w) (at terms v) ≡ false → are_between node.literals (at terms v) (at terms w) ≡ true → Has node (order_form v w) × Has node (order_form w v)
   both_bounds node v w good_v good_w apart turned e =
       let h = both_of (has_atom node.literals (two at_most (at terms v) (at terms w))) (has_atom node.literals (two at_most (at terms w) (at terms v))) e in (
         record {

@@ -168,9 +168,6 @@ stated_fits forms ms f e = by (all_fit ms) e
     by false g = absurd cc
 
 module _ (types : List Entry) (base : Node) (old new : Progress) (own : ℕ) (f : Linear ℕ) (ts : List (ℕ × Linear ℕ)) (rest : List (ℕ × ℕ)) (h : IsReplaceable base old.node.literals own f ts) (are : AreTaken base old.node.literals ts rest) (sum : Linear ℕ) (is : combined (f ∷ taken ts) ((1, 0) ∷ named_from 1 ts 1) ≡ Some sum) (some : (common sum.parts == 0) ≡ false) where
-  abbrev all : List (Linear ℕ)
-  all = f ∷ taken ts
-
   once_matches : Matches base old.node.literals (f ∷ taken ts) ((1, 0) ∷ named_from 1 ts 1) ((1, own) ∷ rest)
   once_matches = whole_match base old.node.literals own 1 f ts rest rest refl once_above h are (scaled_once rest)
 
