@@ -6,7 +6,7 @@ ghost use Rattle.wy_drafts.specs.Draft.{IsDraft, seen_draft};
 ghost use Rattle.wy_facts.specs.Seen.{Stays};
 ghost use Rattle.wy_judge.specs.Node.{Node};
 ghost use Rattle.wy_lin.specs.Seen.{linear_form};
-ghost use Rattle.wy_search.specs.Standing.{present};
+ghost use Rattle.wy_search.specs.Standing as standing;
 ghost use Rattle.wy_stated_sums.specs.Named.{holding, HasNumber, Names};
 ghost use Rattle.wy_stated_sums.specs.Replacing.{AreBounds, AreSummands, IsBound};
 ghost use Rattle.wy_term.specs.Nodes.{tree_at};
@@ -46,7 +46,7 @@ fn order_number(
 ) -> Result<Option<u32>, NoMemory>
     requires draft { IsDraft terms.old draft.now }
     requires present { IsPresent terms.old present.now }
-    ensures value { (base : Node) → terms_of (tree_at terms.old) present.now ≡ present base → IsBound base (seen_draft (tree_at terms.old) draft.now).node.literals (linear_form form.now) → IfOk result (Names base (seen_draft (tree_at terms.old) draft.now).node.literals (linear_form form.now)) }
+    ensures value { (base : Node) → terms_of (tree_at terms.old) present.now ≡ standing.present base → IsBound base (seen_draft (tree_at terms.old) draft.now).node.literals (linear_form form.now) → IfOk result (Names base (seen_draft (tree_at terms.old) draft.now).node.literals (linear_form form.now)) }
     ensures stays { Stays terms.old terms.new }
 {
     let [v, w] = form.parts.as_slice() else {
@@ -72,7 +72,7 @@ pub fn summands(
 ) -> Result<Option<Vec<(u128, u32)>>, NoMemory>
     requires draft { IsDraft terms.old draft.now }
     requires present { IsPresent terms.old present.now }
-    ensures value { (base : Node) → terms_of (tree_at terms.old) present.now ≡ present base → AreBounds base (seen_draft (tree_at terms.old) draft.now).node.literals (seen_takings taken.now) → IfOk result (λ o. AreSummands base (seen_draft (tree_at terms.old) draft.now).node.literals own (seen_takings taken.now) (option_map (λ v. v.items) o)) }
+    ensures value { (base : Node) → terms_of (tree_at terms.old) present.now ≡ standing.present base → AreBounds base (seen_draft (tree_at terms.old) draft.now).node.literals (seen_takings taken.now) → IfOk result (λ o. AreSummands base (seen_draft (tree_at terms.old) draft.now).node.literals own (seen_takings taken.now) (option_map (λ v. v.items) o)) }
     ensures stays { Stays terms.old terms.new }
 {
     let mut pairs = Vec::new(terms.allocator());

@@ -8,8 +8,6 @@ ghost use Rattle.wy_judging.specs.Seen.{seen_branch, seen_literal, IsBranch};
 ghost use Rattle.wy_lin.specs.Seen.{linear_form, seen_form, IsOver};
 ghost use Rattle.wy_lin.specs.TermForm.{form_of_literal};
 ghost use Rattle.wy_search.specs.Bounds as bounds;
-ghost use Rattle.wy_search.specs.Classes.{classes};
-ghost use Rattle.wy_search.specs.Standing.{present};
 ghost use Rattle.wy_stated_sums.specs.Classed.{IsClassed};
 ghost use Rattle.wy_stated_sums.specs.Replacing.{left_of, AreStated, IsLinked, Turns};
 ghost use Rattle.wy_term.specs.Condition.{Entry};

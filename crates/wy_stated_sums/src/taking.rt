@@ -7,7 +7,7 @@ ghost use Rattle.wy_facts.specs.Seen.{Stays};
 ghost use Rattle.wy_judge.specs.Node as judge;
 ghost use Rattle.wy_lin.specs.Linear.{Linear};
 ghost use Rattle.wy_search.specs.Bounds as bounds;
-ghost use Rattle.wy_search.specs.Standing.{present};
+ghost use Rattle.wy_search.specs.Standing as standing;
 ghost use Rattle.wy_stated_sums.specs.Cuts.{Gives};
 ghost use Rattle.wy_stated_sums.specs.Replacing.{AreStated, IsReplaceable, Turns};
 ghost use Rattle.wy_stated_sums.specs.Steps.{Closed};
@@ -32,7 +32,7 @@ fn given_number(
 ) -> Result<Option<u32>, NoMemory>
     requires draft { IsDraft terms.old draft.old }
     requires present { IsPresent terms.old present.now }
-    ensures value { (types : List Entry) (base : judge.Node) (f g : Linear ℕ) → terms_of (tree_at terms.old) present.now ≡ present base → IsReplaceable base (seen_draft (tree_at terms.old) draft.old).node.literals own f (seen_takings taken.now) → bounds.replaced_by f (seen_takings taken.now) ≡ bounds.given g → IfOk result (Gives types base g (seen_draft (tree_at terms.old) draft.old) (seen_draft (tree_at terms.new) draft.new)) }
+    ensures value { (types : List Entry) (base : judge.Node) (f g : Linear ℕ) → terms_of (tree_at terms.old) present.now ≡ standing.present base → IsReplaceable base (seen_draft (tree_at terms.old) draft.old).node.literals own f (seen_takings taken.now) → bounds.replaced_by f (seen_takings taken.now) ≡ bounds.given g → IfOk result (Gives types base g (seen_draft (tree_at terms.old) draft.old) (seen_draft (tree_at terms.new) draft.new)) }
     ensures draft { OnOk result (IsDraft terms.new draft.new) }
     ensures stays { Stays terms.old terms.new }
 {
@@ -55,7 +55,7 @@ fn close_by_bounds(
 ) -> Result<bool, NoMemory>
     requires draft { IsDraft terms.old draft.old }
     requires present { IsPresent terms.old present.now }
-    ensures value { (types : List Entry) (base : judge.Node) (f : Linear ℕ) → terms_of (tree_at terms.old) present.now ≡ present base → IsReplaceable base (seen_draft (tree_at terms.old) draft.old).node.literals own f (seen_takings taken.now) → bounds.replaced_by f (seen_takings taken.now) ≡ bounds.refutes → IfOk result (Closed types (seen_draft (tree_at terms.old) draft.old) (seen_draft (tree_at terms.new) draft.new)) }
+    ensures value { (types : List Entry) (base : judge.Node) (f : Linear ℕ) → terms_of (tree_at terms.old) present.now ≡ standing.present base → IsReplaceable base (seen_draft (tree_at terms.old) draft.old).node.literals own f (seen_takings taken.now) → bounds.replaced_by f (seen_takings taken.now) ≡ bounds.refutes → IfOk result (Closed types (seen_draft (tree_at terms.old) draft.old) (seen_draft (tree_at terms.new) draft.new)) }
     ensures draft { OnOk result (IsDraft terms.new draft.new) }
     ensures stays { Stays terms.old terms.new }
 {
@@ -78,7 +78,7 @@ pub fn take(
 ) -> Result<Turn, NoMemory>
     requires draft { IsDraft terms.old draft.old }
     requires present { IsPresent terms.old present.now }
-    ensures value { (types : List Entry) (base : judge.Node) (f : Linear ℕ) (rs : List bounds.Replaced) → terms_of (tree_at terms.old) present.now ≡ present base → IsReplaceable base (seen_draft (tree_at terms.old) draft.old).node.literals own f (seen_takings taken.now) → seen_replaced left ≡ bounds.replaced_by f (seen_takings taken.now) → AreStated base (seen_draft (tree_at terms.old) draft.old).node.literals rs stated.old → IfOk result (Turns types base (seen_draft (tree_at terms.old) draft.old) (seen_draft (tree_at terms.new) draft.new) (rs ++ seen_replaced left ∷ []) stated.new) }
+    ensures value { (types : List Entry) (base : judge.Node) (f : Linear ℕ) (rs : List bounds.Replaced) → terms_of (tree_at terms.old) present.now ≡ standing.present base → IsReplaceable base (seen_draft (tree_at terms.old) draft.old).node.literals own f (seen_takings taken.now) → seen_replaced left ≡ bounds.replaced_by f (seen_takings taken.now) → AreStated base (seen_draft (tree_at terms.old) draft.old).node.literals rs stated.old → IfOk result (Turns types base (seen_draft (tree_at terms.old) draft.old) (seen_draft (tree_at terms.new) draft.new) (rs ++ seen_replaced left ∷ []) stated.new) }
     ensures draft { OnOk result (IsDraft terms.new draft.new) }
     ensures stays { Stays terms.old terms.new }
 {
