@@ -1,11 +1,10 @@
 -- A draft and what it stands for, as terms and steps are added.
-use Rattle.std.proofs.Common.{◌≡◌, ◌<◌, ◌≤◌, ℕ, zero, suc, List, [], ◌∷◌, ◌++◌, All, map, length, get_or, refl, sym, ap, ◌∙◌, subst, arith}
+use Rattle.std.proofs.Common.{◌≡◌, ◌≤◌, ℕ, zero, suc, List, [], ◌∷◌, ◌++◌, All, map, length, get_or, refl, sym, ap, ◌∙◌, subst, arith}
 use Rattle.std.proofs.lemmas.List.{map-append}
 use Rattle.wy_term.specs.Nodes.{Plain, tree_at}
 use Rattle.wy_facts.specs.Seen.{AreBelow, Stays}
 use Rattle.wy_facts.proofs.StepLemmas.{terms_kept}
 use Rattle.wy_judge.specs.Node.{Node}
-use Rattle.wy_judging.specs.Seen.{seen_branch}
 use Rattle.wy_judging.proofs.SumsBranchLemmas.{branch_stays, node_stays}
 use Rattle.wy_cert.specs.declared.step.Step.{Step}
 use Rattle.wy_cert.specs.declared.step.Step.TheVariants as step

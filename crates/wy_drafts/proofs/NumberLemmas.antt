@@ -1,5 +1,5 @@
 -- The number of a literal, from 1, by its place, from 0.
-use Rattle.std.proofs.Common.{◌≡◌, ◌<◌, ◌+◌, ◌-◌, ℕ, suc, List, Bool, true, false, Option, Some, None, cond, eqb, map, length, get_or, sym, ap, subst, ◌∙◌, arith}
+use Rattle.std.proofs.Common.{◌≡◌, ◌<◌, ◌+◌, ◌-◌, ℕ, suc, List, Bool, true, false, Option, Some, None, cond, eqb, map, get_or, sym, ap, ◌∙◌, arith}
 use Rattle.std.specs.Prelude.{slice_get, option_map, is_some}
 use Rattle.std.specs.Bool.{beq}
 use Rattle.std.specs.List.{position, list_any}

@@ -1,5 +1,5 @@
 -- What a step states, added to a draft: the step was written, or adds nothing.
-use Rattle.std.proofs.Common.{◌≡◌, ◌<◌, ◌⊎◌, inl, inr, ℕ, List, [], ◌∷◌, ◌++◌, Bool, true, false, Option, Some, None, Result, Ok, Err, length, refl, sym, ap, ◌∙◌, subst}
+use Rattle.std.proofs.Common.{◌≡◌, ◌<◌, ◌⊎◌, inl, inr, ℕ, List, [], ◌∷◌, ◌++◌, Bool, true, Option, Some, None, Result, Ok, Err, length, refl, sym, ap, ◌∙◌, subst}
 use Rattle.std.specs.Prelude.{IfOk, IfSome, OnOk, Vec, is_some, option_map}
 use Rattle.std.specs.declared.alloc.Global.{Global}
 use Rattle.wy_term.specs.Term.{Term}
@@ -9,7 +9,7 @@ use Rattle.wy_lin.specs.Linear.{◌>>=◌}
 use Rattle.wy_lin.proofs.OptionLemmas.{some}
 use Rattle.wy_facts.specs.Seen.{AreBelow, Stays, terms_at}
 use Rattle.wy_facts.proofs.StepLemmas.{terms_kept}
-use Rattle.wy_judge.specs.Node.{Node, added, with_formulas}
+use Rattle.wy_judge.specs.Node.{Node, added}
 use Rattle.wy_cert.specs.Steps.{Written, chain, cut, inst, wit, fact, prod}
 use Rattle.wy_valid.specs.Sums.{summed, cut_of}
 use Rattle.wy_valid.specs.Ranges.{instance_stated, witness_stated}
@@ -81,8 +81,11 @@ module _ (types : List Entry) (old new : List Plain) (d e : Draft) (stays : Stay
   pub witness_written : (i : ℕ) (o : Option (Vec ℕ Global)) → option_map (λ fs. terms_at new fs.items) o ≡ witness_stated (seen_draft (tree_at old) d).node i → States (wit i) (option_map (λ fs. terms_at new fs.items) o) (seen_draft (tree_at new) d) (seen_draft (tree_at new) e) → Writes types (wit i) (seen_draft (tree_at old) d) (seen_draft (tree_at new) e) (is_some o)
   witness_written i o gave h = all_stated (wit i) (wit i) o refl (wit_led types (seen_draft (tree_at old) d).node i (option_map (λ (fs : Vec ℕ Global). terms_at new fs.items) o) gave) h
 
-  pub cut_written : (c : ℕ) (pairs : List (ℕ × ℕ)) (o : Option ℕ) → option_map (tree_at new) o ≡ (summed (seen_draft (tree_at old) d).node.literals pairs >>= λ f. cut_of c f) → States (cut c pairs) (option_map (λ f. tree_at new f ∷ []) o) (seen_draft (tree_at new) d) (seen_draft (tree_at new) e) → Writes types (cut c pairs) (seen_draft (tree_at old) d) (seen_draft (tree_at new) e) (is_some o)
-  cut_written c pairs o gave h = one_stated (cut c pairs) (cut c pairs) o refl (cut_led types (seen_draft (tree_at old) d).node c pairs (option_map (tree_at new) o) gave) h
+  pub cut_written : (c : ℕ) (ps pairs : List (ℕ × ℕ)) (o : Option ℕ) → ps ≡ pairs → option_map (tree_at new) o ≡ (summed (seen_draft (tree_at old) d).node.literals ps >>= λ f. cut_of c f) → States (cut c pairs) (option_map (λ f. tree_at new f ∷ []) o) (seen_draft (tree_at new) d) (seen_draft (tree_at new) e) → Writes types (cut c pairs) (seen_draft (tree_at old) d) (seen_draft (tree_at new) e) (is_some o)
+  cut_written c ps pairs o same gave h =
+      let node = (seen_draft (tree_at old) d).node in
+      let stated = gave ∙ ap (λ (xs : List (ℕ × ℕ)). summed node.literals xs >>= λ f. cut_of c f) same in
+      one_stated (cut c pairs) (cut c pairs) o refl (cut_led types node c pairs (option_map (tree_at new) o) stated) h
 
   pub instance_written : (i t : ℕ) (o : Option ℕ) → t < length old → option_map (tree_at new) o ≡ instance_stated (seen_draft (tree_at old) d).node.literals i (tree_at old t) → States (inst i (tree_at new t)) (option_map (λ f. tree_at new f ∷ []) o) (seen_draft (tree_at new) d) (seen_draft (tree_at new) e) → Writes types (inst i (tree_at old t)) (seen_draft (tree_at old) d) (seen_draft (tree_at new) e) (is_some o)
   instance_written i t o below gave h =

@@ -18,4 +18,6 @@ mod stating;
 pub use closing::{close_by_clash, close_by_shut, close_by_sum, write_split};
 pub use draft::{Draft, first_draft};
 pub use numbers::literal_number;
-pub use stating::{write_chain, write_cut, write_fact, write_instance, write_product, write_witness};
+pub use stating::{
+    write_chain, write_cut, write_fact, write_instance, write_product, write_witness,
+};

@@ -26,12 +26,7 @@ pub fn put(terms: &Terms, draft: &mut Draft, step: Step) -> Result<(), NoMemory>
 }
 
 // Adds formulas to the node, and writes the step that states them, unless the node has no more afterwards.
-fn add(
-    terms: &Terms,
-    draft: &mut Draft,
-    step: Step,
-    formulas: &[u32],
-) -> Result<(), NoMemory>
+fn add(terms: &Terms, draft: &mut Draft, step: Step, formulas: &[u32]) -> Result<(), NoMemory>
     requires draft { IsDraft terms.now draft.old }
     requires step { IsBelow (length terms.now) step }
     requires formulas { AreBelow (length terms.now) formulas.now }
