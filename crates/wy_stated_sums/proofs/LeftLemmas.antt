@@ -1,5 +1,6 @@
 -- What replacing leaves of a node's forms, one literal after the other, and how elimination ends over all.
-use Rattle.std.proofs.Common.{◌≡◌, ◌∙◌, ◌||◌, ℕ, List, [], ◌∷◌, ◌++◌, map, drop, Bool, true, false, cond, Option, Some, None, refl, sym, ap, subst, append_assoc}
+use Rattle.std.proofs.Common.{◌≡◌, ◌∙◌, ◌||◌, ◌+◌, ◌<◌, ℕ, zero, suc, List, [], ◌∷◌, ◌++◌, map, drop, length, Bool, true, false, cond, Option, Some, None, refl, sym, ap, subst, append_assoc, arith}
+use Rattle.std.specs.Prelude.{slice_get}
 use Rattle.std.proofs.lemmas.List.{append-nil}
 use Rattle.wy_term.specs.Term.{Term}
 use Rattle.wy_term.specs.Condition.{Entry}
@@ -7,19 +8,27 @@ use Rattle.wy_lin.specs.Linear.{Linear}
 use Rattle.wy_lin.specs.TermForm.{form_of_literal}
 use Rattle.wy_lin.specs.Seen.{linear_form}
 use Rattle.wy_lin.specs.declared.linear.Form.{Form}
-use Rattle.wy_judge.specs.Node.{Literal, Node}
+use Rattle.wy_term.specs.Nodes.{Plain}
+use Rattle.wy_judge.specs.Node.{Literal, Node, has_literal}
+use Rattle.wy_judging.specs.Seen.{seen_literal}
 use Rattle.wy_valid.specs.Literals.{formula_of}
 use Rattle.wy_eliminate.specs.declared.steps.Elim.{Elim}
 use Rattle.wy_eliminate.specs.Elimination.{elimination}
 use Rattle.wy_search.specs.Standing.{present}
 use Rattle.wy_search.specs.Classes.{classes}
-use Rattle.wy_search.specs.Bounds.{Replaced, gone, given, refutes, leaves, is_refuting, is_leaving, any_so, form_in, forms_in, with_form, replaced_forms, Ending, refuted, wide, ending_of, ending_by, ending}
-use Rattle.wy_drafts.specs.Progress.{Progress, Goes}
+use Rattle.wy_search.specs.Bounds.{Replaced, gone, given, refutes, leaves, is_refuting, is_leaving, any_so, form_in, forms_in, replaced, numbered, with_form, replaced_forms, Ending, refuted, wide, ending_of, ending_by, ending}
+use Rattle.wy_drafts.specs.Progress.{Progress, Goes, Ends}
 use Rattle.wy_drafts.proofs.ProgressLemmas.{goes_self, goes_on, ends_behind}
 use Rattle.wy_stated_sums.specs.Named.{IsNamed, AreNamed}
 use Rattle.wy_stated_sums.specs.Cuts.{Appends, Grows}
-use Rattle.wy_stated_sums.specs.Replacing.{AreStated, IsLinked, left_of}
+use Rattle.wy_stated_sums.specs.Replacing.{AreStated, IsLinked, Turns, left_of}
+use Rattle.wy_stated_sums.specs.Steps.{Closed}
+use Rattle.wy_stated_sums.specs.Classed.{IsClassed}
+use Rattle.wy_stated_sums.specs.declared.classed.Classed.{Classed}
 use Rattle.wy_stated_sums.specs.declared.stated.Stated.{Stated}
+use Rattle.wy_stated_sums.specs.declared.stated.Turn.{Turn}
+use Rattle.wy_stated_sums.specs.declared.stated.Turn.TheVariants.{GoesOn, Closes, Lacks}
+use Rattle.wy_chains.proofs.LiteralLemmas.{has_first, has_later}
 use Rattle.wy_stated_sums.proofs.NamedLemmas.{are_named_kept, named_last}
 use Rattle.wy_stated_sums.proofs.LinkedLemmas.{linked_kept}
 use Rattle.wy_stated_sums.specs.Refuted.{EndsIfRefuted}
@@ -160,3 +169,70 @@ up_to_all types base old now s h = subst (λ (rs : List Replaced). AreStated bas
 pub ends_or_goes : (types : List Entry) (base : Node) (old now new : Progress) (yes : Bool) → Goes types old now → EndsIfRefuted types base now new yes → EndsIfRefuted types base old new yes
 ends_or_goes types base old now new true goes h = ends_behind types old now new goes h
 ends_or_goes types base old now new false goes h = (goes_on types old now new goes h.0, h.1)
+
+-- ---- the literal with a place
+
+-- the literal there, and those behind it
+record IsThere (ls : List Literal) (i : ℕ) : Type 0 where
+  literal : Literal
+  here : slice_get ls i ≡ Some literal
+  left : drop i ls ≡ literal ∷ drop (i + 1) ls
+
+is_there : (ls : List Literal) (i : ℕ) → i < length ls → IsThere ls i
+is_there [] i lt = absurd (omega (arith, lt))
+is_there (l ∷ ls) zero lt = record { literal = l; here = refl; left = refl }
+is_there (l ∷ ls) (suc i) lt =
+    let rest = is_there ls i (omega (arith, lt)) in
+    let next : suc i + 1 ≡ suc (i + 1) = omega arith in
+    record { literal = rest.literal; here = rest.here; left = rest.left ∙ ap (λ (n : ℕ). rest.literal ∷ drop n (l ∷ ls)) (sym next) }
+
+pub there_has : (ls : List Literal) (i : ℕ) (l : Literal) → slice_get ls i ≡ Some l → has_literal ls l ≡ true
+there_has [] i l e = absurd cc
+there_has (k ∷ ls) zero l e = subst (λ (x : Literal). has_literal (k ∷ ls) x ≡ true) (one_literal k l e) (has_first k ls)
+  where
+    one_literal : (x y : Literal) → Some x ≡ Some y → x ≡ y
+    one_literal x y f = cc
+there_has (k ∷ ls) (suc i) l e = has_later k l ls (there_has ls i l e)
+
+-- the literal of a code's literal with a place
+pub seen_there : (at : ℕ → Term) (ps : List (ℕ × Bool)) (i : ℕ) (p : ℕ × Bool) (l : Literal) → slice_get ps i ≡ Some p → slice_get (map (seen_literal at) ps) i ≡ Some l → l ≡ seen_literal at p
+seen_there at [] i p l e f = absurd cc
+seen_there at (q ∷ ps) zero p l e f =
+    let first : q ≡ p = cc in
+    let second : seen_literal at q ≡ l = cc in
+    sym second ∙ ap (seen_literal at) first
+seen_there at (q ∷ ps) (suc i) p l e f = seen_there at ps i p l e f
+
+-- what comes of one literal more
+abbrev pub TurnsOn : List Entry → Node → Progress → Progress → Stated → List Literal → Turn → Type 0
+TurnsOn types base old new t left GoesOn = IsUpTo types base old new t left
+TurnsOn types base old new t left Closes = Ends types old new
+TurnsOn types base old new t left Lacks = ⊥
+
+-- whatever the literal there is, this comes of it
+abbrev pub TakesOne : List Entry → List Plain → Classed → Progress → Progress → ℕ → Stated → Stated → Turn → Node → Type 0
+TakesOne types nodes c now new i s t turn base = (l : Literal) (rs : List Replaced) → IsClassed nodes base c → IsLinked base now.node → slice_get base.literals i ≡ Some l → AreStated base now.node.literals rs s → Turns types base now new (rs ++ left_of base l) t turn
+
+pub turn_taken : (types : List Entry) (nodes : List Plain) (c : Classed) (base : Node) (old now new : Progress) (i : ℕ) (s t : Stated) (turn : Turn) → i < length base.literals → IsClassed nodes base c → IsUpTo types base old now s (drop i base.literals) → TakesOne types nodes c now new i s t turn base → TurnsOn types base old new t (drop (i + 1) base.literals) turn
+turn_taken types nodes c base old now new i s t turn lt classed h takes =
+    let one = is_there base.literals i lt in
+    let h_one : IsUpTo types base old now s (one.literal ∷ drop (i + 1) base.literals) = subst (λ (ls : List Literal). IsUpTo types base old now s ls) one.left h in
+    by one.literal h_one turn (takes one.literal h_one.before classed h_one.linked one.here h_one.stated)
+  where
+    by : (l : Literal) (g : IsUpTo types base old now s (l ∷ drop (i + 1) base.literals)) (x : Turn) → Turns types base now new (g.before ++ left_of base l) t x → TurnsOn types base old new t (drop (i + 1) base.literals) x
+    by l g GoesOn turned = up_to_next types base old now new s t l (drop (i + 1) base.literals) g turned.0 turned.1
+    by l g Closes turned = ends_behind types old now new g.grows.goes turned
+    by l g Lacks turned = turned
+
+pub closed_ends : (types : List Entry) (base : Node) (old new : Progress) (wrote : Bool) → Closed types old new wrote → EndsIfRefuted types base old new wrote
+closed_ends types base old new true h = h
+closed_ends types base old new false h = absurd h
+
+-- what a literal with a form leaves
+pub form_left : (base : Node) (l : Literal) (whole : Linear Term) (r : Replaced) → form_of_literal (formula_of l) ≡ Some whole → r ≡ replaced (classes (present base) base.literals) (numbered (present base) whole) → r ∷ [] ≡ left_of base l
+form_left base l whole r form is =
+    ap (λ (x : Replaced). x ∷ []) is ∙ sym (ap (λ (o : Option (Linear Term)). with_form (present base) (classes (present base) base.literals) [] o) form)
+
+-- and one without
+pub none_left : (base : Node) (l : Literal) (rs : List Replaced) → form_of_literal (formula_of l) ≡ None → rs ++ left_of base l ≡ rs
+none_left base l rs form = ap (λ (o : Option (Linear Term)). rs ++ with_form (present base) (classes (present base) base.literals) [] o) form ∙ append-nil rs

@@ -3,6 +3,7 @@ use Rattle.std.proofs.Common.{◌≡◌, ◌⊎◌, ◌∙◌, ◌<◌, ◌||◌
 use Rattle.std.specs.Prelude.{int_lt, ◌==◌}
 use Rattle.std.specs.Ordering.{int_eq}
 use Rattle.wy_term.specs.Term.{Term, two, at_most}
+use Rattle.wy_term.specs.Rewriting.{True, as_number, fold_order}
 use Rattle.wy_term.specs.Same.{same_term}
 use Rattle.wy_term.specs.Sorts.{sort_in}
 use Rattle.wy_term.specs.Condition.{Entry}
@@ -115,14 +116,17 @@ module _ (base node : Node) (h : IsLinked base node) where
 
   -- ---- bounds between a variable and the first of its class
 
-  one_bound : (v w : ℕ) → IsVariable base v → IsVariable base w → same_term (at base w) (at base v) ≡ false → has_atom node.literals (two at_most (at base v) (at base w)) ≡ true → IsBound base node.literals (order_form v w)
-  one_bound v w is_v is_w apart there = record {
+  one_bound : (v w : ℕ) → IsVariable base v → IsVariable base w → same_term (at base v) (at base w) ≡ false → same_term (at base w) (at base v) ≡ false → has_atom node.literals (two at_most (at base v) (at base w)) ≡ true → IsBound base node.literals (order_form v w)
+  one_bound v w is_v is_w differ apart there = record {
     lower = v;
     upper = w;
     is = refl;
     first = is_v;
     second = is_w;
     form = bound_form (at base v) (at base w) (record { form = is_v.form; free = is_v.free }) (record { form = is_w.form; free = is_w.free }) apart;
+    made =
+        ap (λ (b : Bool). cond b True (fold_order (two at_most (at base v) (at base w)) (as_number (at base v)) (as_number (at base w)))) differ
+        ∙ ap (λ (o : Option ℤ). fold_order (two at_most (at base v) (at base w)) o (as_number (at base w))) is_v.free;
     there = there;
   }
 
@@ -133,8 +137,8 @@ module _ (base node : Node) (h : IsLinked base node) where
       both = both_of (has_atom node.literals (two at_most (at base v) (at base w))) (has_atom node.literals (two at_most (at base w) (at base v))) e
 
       by : (b : Bool) → IsBound base node.literals (cond b (order_form w v) (order_form v w))
-      by true = one_bound w v is_w is_v apart both.1
-      by false = one_bound v w is_v is_w turned both.0
+      by true = one_bound w v is_w is_v turned apart both.1
+      by false = one_bound v w is_v is_w apart turned both.0
 
   first_bound : (c : ℤ) (v : ℕ) → Fine v → eqb (first_of_class labels v) v ≡ false → IsBound base node.literals (taking_away c v (first_of_class labels v)).1
   first_bound c v fine apart =

@@ -1,6 +1,6 @@
 -- A cut that is written: the node has the bound that it states, and that has a number.
 use Rattle.std.proofs.Common.{◌≡◌, ◌∙◌, ◌<◌, ℕ, List, [], ◌∷◌, ◌++◌, map, Bool, true, false, cond, eqb, ℤ, pos, Option, Some, None, refl, sym, ap, subst}
-use Rattle.std.specs.Prelude.{unsigned_abs, ◌==◌, option_map}
+use Rattle.std.specs.Prelude.{unsigned_abs, ◌==◌, IfNone, IfOk, IfSome, Result, Ok, Err}
 use Rattle.std.proofs.lemmas.List.{append-nil}
 use Rattle.wy_term.specs.Term.{Term, two, at_most}
 use Rattle.wy_term.specs.Condition.{Entry}
@@ -12,10 +12,11 @@ use Rattle.wy_valid.specs.Literals.{literal_at}
 use Rattle.wy_valid.specs.Sums.{summed, cut_of}
 use Rattle.wy_valid.specs.Validity.{after, left_with_one}
 use Rattle.wy_eliminate.specs.Division.{gcd, common_from, common}
+use Rattle.wy_search.specs.Bounds.{all_fit}
 use Rattle.wy_drafts.specs.Progress.{Progress, Writes}
 use Rattle.wy_chains.proofs.LiteralLemmas.{literal_there}
 use Rattle.wy_stated_sums.specs.Named.{holding, HasNumber}
-use Rattle.wy_stated_sums.specs.Cuts.{Appends, Grows, cut_among, States, StatesCut, StatesBy, StatesDivided}
+use Rattle.wy_stated_sums.specs.Cuts.{Appends, Grows, cut_among, States, StatesCut, twice, ArePairs, StatesBy, StatesDivided}
 
 -- ---- a literal more
 
@@ -27,9 +28,16 @@ with_appends node l = by (has_literal node.literals l)
     by false = record { more = l ∷ []; literals = refl; pending = refl }
 
 -- the two clauses on a number that is looked up
-pub has_number : (ls : List Literal) (l : Literal) (o : Option ℕ) → ((k : ℕ) → o ≡ Some k → literal_at ls k ≡ Some l) → (o ≡ None → has_literal ls l ≡ false) → HasNumber ls l o
-has_number ls l None there lacking = lacking refl
-has_number ls l (Some k) there lacking = there k refl
+number_is : (ls : List Literal) (l : Literal) (o : Option ℕ) → IfSome o (λ k. literal_at ls k ≡ Some l) → IfNone o (has_literal ls l ≡ false) → HasNumber ls l o
+number_is ls l None there lacking = lacking
+number_is ls l (Some k) there lacking = there
+
+pub ok_both : {X E : Type 0} (r : Result X E) (P Q R : X → Type 0) → ((x : X) → P x → Q x → R x) → IfOk r P → IfOk r Q → IfOk r R
+ok_both (Ok x) P Q R f p q = f x p q
+ok_both (Err e) P Q R f p q = tt
+
+pub has_number : {E : Type 0} (ls : List Literal) (l : Literal) (r : Result (Option ℕ) E) → IfOk r (λ o. IfSome o (λ k. literal_at ls k ≡ Some l)) → IfOk r (λ o. IfNone o (has_literal ls l ≡ false)) → IfOk r (HasNumber ls l)
+has_number ls l r there lacking = ok_both r (λ o. IfSome o (λ k. literal_at ls k ≡ Some l)) (λ o. IfNone o (has_literal ls l ≡ false)) (HasNumber ls l) (number_is ls l) there lacking
 
 -- ---- what a cut states
 
@@ -99,3 +107,9 @@ divided_stated types old new pairs at sum o is states bt f e =
 
 pub divided_lacking : (types : List Entry) (old new : Progress) (pairs : List (ℕ × ℕ)) → None ≡ summed old.node.literals pairs → StatesDivided types pairs old new None
 divided_lacking types old new pairs is at f e = absurd (let up : None ≡ Some (seen at f) = is ∙ e in cc)
+
+-- where the doubled pairs are these, the cut of them is that of the doubled ones
+pub twice_states : (types : List Entry) (old new : Progress) (pairs ps made : List (ℕ × ℕ)) (q : Option (List (ℕ × ℕ))) (o : Option ℕ) → ps ≡ pairs → q ≡ Some made → (all_fit (twice ps) ≡ true → ArePairs (twice ps) q) → StatesCut types 2 made old new o → all_fit (twice pairs) ≡ true → StatesCut types 2 (twice pairs) old new o
+twice_states types old new pairs ps made q o same is are states fits =
+    let made_is : made ≡ twice ps = subst (λ (p : Option (List (ℕ × ℕ))). ArePairs (twice ps) p) is (are (subst (λ (qs : List (ℕ × ℕ)). all_fit (twice qs) ≡ true) (sym same) fits)) in
+    subst (λ (qs : List (ℕ × ℕ)). StatesCut types 2 qs old new o) (made_is ∙ ap twice same) states

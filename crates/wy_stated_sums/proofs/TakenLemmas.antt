@@ -13,6 +13,8 @@ use Rattle.wy_eliminate.specs.Division.{common, lowered}
 use Rattle.wy_eliminate.specs.Validity.{is_bare}
 use Rattle.wy_eliminate.proofs.ValidityLemmas.{common-divides, common-bare}
 use Rattle.wy_search.specs.Bounds.{named_from, all_fit, stated_sum, Replaced, gone, given, refutes, leaves, by_two, by_common, by_sum, replaced_by}
+use Rattle.wy_bounds.specs.declared.removal.Taking.{Taking}
+use Rattle.wy_bounds.specs.Seen.{seen_taking, seen_takings}
 use Rattle.wy_drafts.specs.Progress.{Progress, Closes}
 use Rattle.wy_drafts.proofs.ProgressLemmas.{closes_ends}
 use Rattle.wy_closed_sums.proofs.TwiceLemmas.{both_of, doubled_bare, doubled_even}
@@ -196,7 +198,7 @@ module _ (types : List Entry) (base : Node) (old new : Progress) (own : ℕ) (f 
   left_gives g o true one left states = subst (λ (x : Linear ℕ). Gives types base x old new o) (sym left.2) (double_gives left.0 o left.1 states)
   left_gives g o false one left states = subst (λ (x : Linear ℕ). Gives types base x old new o) (sym left) (divided_gives o one states)
 
-pub cut_gives : (types : List Entry) (base : Node) (old new : Progress) (own : ℕ) (f g : Linear ℕ) (t : ℕ × Linear ℕ) (ts : List (ℕ × Linear ℕ)) (pairs : List (ℕ × ℕ)) (o : Option ℕ) → IsReplaceable base old.node.literals own f (t ∷ ts) → AreSummands base old.node.literals own (t ∷ ts) (Some pairs) → replaced_by f (t ∷ ts) ≡ given g → StatesDivided types pairs old new o → Gives types base g old new o
+cut_gives : (types : List Entry) (base : Node) (old new : Progress) (own : ℕ) (f g : Linear ℕ) (t : ℕ × Linear ℕ) (ts : List (ℕ × Linear ℕ)) (pairs : List (ℕ × ℕ)) (o : Option ℕ) → IsReplaceable base old.node.literals own f (t ∷ ts) → AreSummands base old.node.literals own (t ∷ ts) (Some pairs) → replaced_by f (t ∷ ts) ≡ given g → StatesDivided types pairs old new o → Gives types base g old new o
 cut_gives types base old new own f g t ts pairs o h are e states =
     let r = given_of f (t ∷ ts) g (once_sum f (t ∷ ts)) refl e in
     let is = stated_is (f ∷ taken (t ∷ ts)) ((1, 0) ∷ named_from 1 (t ∷ ts) 1) r.sum r.is in
@@ -213,8 +215,10 @@ twice_fit (p ∷ ps) zero d e lt = (both_of (nat_lt (2 * p.0) (2 ^ 127)) (all_fi
 twice_fit (p ∷ ps) (suc i) d e lt = twice_fit ps i d (both_of (nat_lt (2 * p.0) (2 ^ 127)) (all_fit (twice ps)) e).1 (omega (arith, lt))
 
 -- the multipliers of the pairs fit when they are doubled
-pub twice_below : (ps : List (ℕ × ℕ)) (i : ℕ) (d : ℕ × ℕ) → all_fit (twice ps) ≡ true → i < length ps → 2 * (get_or ps i d).0 < 2 ^ 127
-twice_below ps i d e lt = ltb-true (2 * (get_or ps i d).0) (2 ^ 127) (twice_fit ps i d e lt)
+pub twice_below : (ps : List (ℕ × ℕ)) (i : ℕ) (d : ℕ × ℕ) → all_fit (twice ps) ≡ true → i < length ps → (get_or ps i d).0 * 2 < 2 ^ 128
+twice_below ps i d e lt =
+    let small = ltb-true (2 * (get_or ps i d).0) (2 ^ 127) (twice_fit ps i d e lt) in
+    omega (arith, small)
 
 -- a literal, and the bounds before those that are left, are listed; with those that are left they are all
 pub record IsTaking (base : Node) (ls : List Literal) (own : ℕ) (pairs : List (ℕ × ℕ)) (all left : List (ℕ × Linear ℕ)) : Type 0 where
@@ -236,3 +240,17 @@ taking_next base ls own pairs next all left t m k is times named h = record {
 
 pub taking_ends : (base : Node) (ls : List Literal) (own : ℕ) (pairs : List (ℕ × ℕ)) (all : List (ℕ × Linear ℕ)) → IsTaking base ls own pairs all [] → AreSummands base ls own all (Some pairs)
 taking_ends base ls own pairs all h = (h.rest, h.is, subst (λ (ps : List (ℕ × ℕ)). AreTaken base ls all ps) (append-nil h.rest) (h.behind [] tt))
+
+-- ---- where something is taken away
+
+takings_some : (ts : List Taking) → (length ts ≡ 0 → ⊥) → (t : ℕ × Linear ℕ) × (rest : List (ℕ × Linear ℕ)) × (seen_takings ts ≡ t ∷ rest)
+takings_some [] h = absurd (h refl)
+takings_some (t ∷ ts) h = (seen_taking t, seen_takings ts, refl)
+
+pub taken_give : (types : List Entry) (base : Node) (old new : Progress) (own : ℕ) (f g : Linear ℕ) (ts : List Taking) (pairs : List (ℕ × ℕ)) (o : Option ℕ) → (length ts ≡ 0 → ⊥) → IsReplaceable base old.node.literals own f (seen_takings ts) → AreSummands base old.node.literals own (seen_takings ts) (Some pairs) → replaced_by f (seen_takings ts) ≡ given g → StatesDivided types pairs old new o → Gives types base g old new o
+taken_give types base old new own f g ts pairs o some h are e states =
+    let x = takings_some ts some in
+    cut_gives types base old new own f g x.0 x.1 pairs o
+    (subst (λ (us : List (ℕ × Linear ℕ)). IsReplaceable base old.node.literals own f us) x.2 h)
+    (subst (λ (us : List (ℕ × Linear ℕ)). AreSummands base old.node.literals own us (Some pairs)) x.2 are)
+    (ap (λ (us : List (ℕ × Linear ℕ)). replaced_by f us) (sym x.2) ∙ e) states

@@ -5,6 +5,7 @@ use Rattle.wy_term.specs.Condition.{Entry}
 use Rattle.wy_lin.specs.Linear.{Linear}
 use Rattle.wy_lin.specs.TermForm.{form_of_literal}
 use Rattle.wy_lin.specs.Seen.{linear_form, seen}
+use Rattle.wy_facts.specs.Made.{is_at_most}
 use Rattle.wy_judge.specs.Node.{Literal, Node, has_literal}
 use Rattle.wy_valid.specs.Literals.{formula_of}
 use Rattle.wy_search.specs.Standing.{present}
@@ -33,6 +34,7 @@ pub record IsBound (base : Node) (ls : List Literal) (f : Linear ℕ) : Type 0 w
   pub first : IsVariable base lower
   pub second : IsVariable base upper
   pub form : form_of_literal (two at_most (at base lower) (at base upper)) ≡ Some (seen (at base) (order_form lower upper))
+  pub made : is_at_most (at base lower) (at base upper) ≡ two at_most (at base lower) (at base upper)
   pub there : has_literal ls (holding (two at_most (at base lower) (at base upper))) ≡ true
 
 -- so for each form that takes a variable away, which it does at least once

@@ -1,16 +1,16 @@
 //! The literals that are bounds between variables.
-ghost use Rattle.std.specs.Prelude.{◌≡◌, ◌<◌, length, None, option_map, IfOk};
+ghost use Rattle.std.specs.Prelude.{◌≡◌, ◌<◌, length, option_map, IfOk};
 ghost use Rattle.wy_bounds.specs.Seen.{seen_takings};
 ghost use Rattle.wy_classes.specs.Seen.{terms_of, IsPresent};
 ghost use Rattle.wy_drafts.specs.Draft.{IsDraft, seen_draft};
+ghost use Rattle.wy_facts.specs.Made.{is_at_most};
 ghost use Rattle.wy_facts.specs.Seen.{Stays};
-ghost use Rattle.wy_judge.specs.Node.{Node};
+ghost use Rattle.wy_judge.specs.Node as judge;
 ghost use Rattle.wy_lin.specs.Seen.{linear_form};
 ghost use Rattle.wy_search.specs.Standing as standing;
 ghost use Rattle.wy_stated_sums.specs.Named.{holding, HasNumber, Names};
 ghost use Rattle.wy_stated_sums.specs.Replacing.{AreBounds, AreSummands, IsBound};
 ghost use Rattle.wy_term.specs.Nodes.{tree_at};
-ghost use Rattle.wy_term.specs.Rewriting.{as_number};
 ghost use Rattle.wy_term.specs.Term.{two, at_most};
 
 use wy_bounds::Taking;
@@ -30,7 +30,7 @@ fn bound_number(
     requires draft { IsDraft terms.old draft.now }
     requires lower { lower < length terms.old }
     requires upper { upper < length terms.old }
-    ensures value { as_number (tree_at terms.old lower) ≡ None → IfOk result (HasNumber (seen_draft (tree_at terms.old) draft.now).node.literals (holding (two at_most (tree_at terms.old lower) (tree_at terms.old upper)))) }
+    ensures value { is_at_most (tree_at terms.old lower) (tree_at terms.old upper) ≡ two at_most (tree_at terms.old lower) (tree_at terms.old upper) → IfOk result (HasNumber (seen_draft (tree_at terms.old) draft.now).node.literals (holding (two at_most (tree_at terms.old lower) (tree_at terms.old upper)))) }
     ensures stays { Stays terms.old terms.new }
 {
     let atom = terms.intern(Node::AtMost(lower, upper))?;
@@ -46,7 +46,7 @@ fn order_number(
 ) -> Result<Option<u32>, NoMemory>
     requires draft { IsDraft terms.old draft.now }
     requires present { IsPresent terms.old present.now }
-    ensures value { (base : Node) → terms_of (tree_at terms.old) present.now ≡ standing.present base → IsBound base (seen_draft (tree_at terms.old) draft.now).node.literals (linear_form form.now) → IfOk result (Names base (seen_draft (tree_at terms.old) draft.now).node.literals (linear_form form.now)) }
+    ensures value { (base : judge.Node) → terms_of (tree_at terms.old) present.now ≡ standing.present base → IsBound base (seen_draft (tree_at terms.old) draft.now).node.literals (linear_form form.now) → IfOk result (Names base (seen_draft (tree_at terms.old) draft.now).node.literals (linear_form form.now)) }
     ensures stays { Stays terms.old terms.new }
 {
     let [v, w] = form.parts.as_slice() else {
@@ -72,7 +72,7 @@ pub fn summands(
 ) -> Result<Option<Vec<(u128, u32)>>, NoMemory>
     requires draft { IsDraft terms.old draft.now }
     requires present { IsPresent terms.old present.now }
-    ensures value { (base : Node) → terms_of (tree_at terms.old) present.now ≡ standing.present base → AreBounds base (seen_draft (tree_at terms.old) draft.now).node.literals (seen_takings taken.now) → IfOk result (λ o. AreSummands base (seen_draft (tree_at terms.old) draft.now).node.literals own (seen_takings taken.now) (option_map (λ v. v.items) o)) }
+    ensures value { (base : judge.Node) → terms_of (tree_at terms.old) present.now ≡ standing.present base → AreBounds base (seen_draft (tree_at terms.old) draft.now).node.literals (seen_takings taken.now) → IfOk result (λ o. AreSummands base (seen_draft (tree_at terms.old) draft.now).node.literals own (seen_takings taken.now) (option_map (λ v. v.items) o)) }
     ensures stays { Stays terms.old terms.new }
 {
     let mut pairs = Vec::new(terms.allocator());
