@@ -64,6 +64,9 @@ sum_written types base old now new numbers ms left false h closes =
     let none : after types now.node (sum_of (with_numbers numbers ms)) ≡ None = closes.0 in
     absurd cc
 
+stated_so : (types : List Entry) (now new : Progress) (d : ℕ) (ps qs : List (ℕ × ℕ)) (o p : Option ℕ) → ps ≡ qs → o ≡ p → StatesCut types d ps now new o → StatesCut types d qs now new p
+stated_so types now new d ps qs o p same is states = subst (λ (rs : List (ℕ × ℕ)). StatesCut types d rs now new p) same (subst (λ (x : Option ℕ). StatesCut types d ps now new x) is states)
+
 cut_gives : (types : List Entry) (base : Node) (old now new : Progress) (numbers : List ℕ) (d : ℕ) (ms : List (ℕ × ℕ)) (left : List LinStep) (o : Option ℕ) → (h : IsWriting types base old now numbers (Cut d ms ∷ left)) → StatesCut types d (with_numbers numbers ms) now new o → Gives types base (lowered d h.refutes.0) now new o
 cut_gives types base old now new numbers d ms left o h states =
     let r = h.refutes in
@@ -71,9 +74,9 @@ cut_gives types base old now new numbers d ms left o h states =
     (cut_states base now.node h.all d ms (with_numbers numbers ms) r.0 (matched base now.node.literals numbers h.all ms h.named r.1.named) r.1.large r.1.is r.1.even r.1.free)
     states
 
-pub cut_written : (types : List Entry) (base : Node) (old now new : Progress) (numbers : List ℕ) (d : ℕ) (ms : List (ℕ × ℕ)) (left : List LinStep) (k : ℕ) → IsWriting types base old now numbers (Cut d ms ∷ left) → StatesCut types d (with_numbers numbers ms) now new (Some k) → IsWriting types base old new (numbers ++ k ∷ []) left
-cut_written types base old now new numbers d ms left k h states =
-    let g = cut_gives types base old now new numbers d ms left (Some k) h states in
+pub cut_written : (types : List Entry) (base : Node) (old now new : Progress) (numbers : List ℕ) (d : ℕ) (ms pairs : List (ℕ × ℕ)) (left : List LinStep) (k : ℕ) (o : Option ℕ) → IsWriting types base old now numbers (Cut d ms ∷ left) → pairs ≡ with_numbers numbers ms → o ≡ Some k → StatesCut types d pairs now new o → IsWriting types base old new (numbers ++ k ∷ []) left
+cut_written types base old now new numbers d ms pairs left k o h same is states =
+    let g = cut_gives types base old now new numbers d ms left (Some k) h (stated_so types now new d pairs (with_numbers numbers ms) o (Some k) same is states) in
     record {
       goes = goes_on types old now new h.goes g.0.goes;
       all = h.all ++ lowered d h.refutes.0 ∷ [];
@@ -81,5 +84,5 @@ cut_written types base old now new numbers d ms left k h states =
       refutes = h.refutes.2;
     }
 
-pub cut_there : (types : List Entry) (base : Node) (old now new : Progress) (numbers : List ℕ) (d : ℕ) (ms : List (ℕ × ℕ)) (left : List LinStep) → IsWriting types base old now numbers (Cut d ms ∷ left) → StatesCut types d (with_numbers numbers ms) now new None → ⊥
-cut_there types base old now new numbers d ms left h states = cut_gives types base old now new numbers d ms left None h states
+pub cut_there : (types : List Entry) (base : Node) (old now new : Progress) (numbers : List ℕ) (d : ℕ) (ms pairs : List (ℕ × ℕ)) (left : List LinStep) (o : Option ℕ) → IsWriting types base old now numbers (Cut d ms ∷ left) → pairs ≡ with_numbers numbers ms → o ≡ None → StatesCut types d pairs now new o → ⊥
+cut_there types base old now new numbers d ms pairs left o h same is states = cut_gives types base old now new numbers d ms left None h (stated_so types now new d pairs (with_numbers numbers ms) o None same is states)

@@ -1,4 +1,4 @@
-use Rattle.std.proofs.Common.{◌≡◌, ◌∙◌, ◌+◌, ◌≤◌, ℕ, List, [], ◌∷◌, drop, length, get_or, Option, sym, ap, subst, arith}
+use Rattle.std.proofs.Common.{◌≡◌, ◌∙◌, ◌+◌, ◌≤◌, ℕ, List, [], ◌∷◌, drop, length, sym, ap, subst, arith}
 use Rattle.std.proofs.lemmas.List.{drop_more, drop_all}
 use Rattle.std.proofs.lemmas.Result.{IfOk-weaker}
 use Rattle.wy_term.specs.Nodes.{tree_at}
@@ -8,7 +8,6 @@ use Rattle.wy_facts.proofs.StepLemmas.{stays_on}
 use Rattle.wy_drafts.specs.Draft.{seen_draft}
 use Rattle.wy_drafts.specs.Progress.{Closes}
 use Rattle.wy_stated_sums.specs.Named.{with_numbers}
-use Rattle.wy_stated_sums.specs.Cuts.{StatesCut}
 use Rattle.wy_stated_sums.proofs.WritingLemmas.{IsWriting, sum_written, cut_written, cut_there}
 use Rattle.wy_stated_sums.proofs.steps.write_steps.Goals as goal
 
@@ -42,8 +41,7 @@ returns-in-None-clause-value c = λ types base all named refutes.
     let w = subst (λ (l : List LinStep). IsWriting types base before now numbers l) left (c.loop-step.invariant.writing types base all named refutes) in
     let v = subst (λ (s : LinStep). IsWriting types base before now numbers (s ∷ drop (i + 1) steps)) c.in-Cut.is w in
     let same = c.in_ok-pairs-in-Cut.ensures ∙ (ap (λ (ks : List ℕ). with_numbers ks c.as_slice-in-Cut.result.now) c.deref-in-Cut.ensures.value ∙ ap (with_numbers numbers) c.as_slice-in-Cut.ensures) in
-    let none = subst (λ (o : Option ℕ). StatesCut types _ c.in_ok-pairs-in-Cut.pairs.items now behind o) c.in-None.is (c.in_ok-k-in-Cut.ensures.value types) in
-    cut_there types base before now behind numbers _ _ (drop (i + 1) steps) v (subst (λ (ps : List (ℕ × ℕ)). StatesCut types _ ps now behind _) same none)
+    cut_there types base before now behind numbers _ _ c.in_ok-pairs-in-Cut.pairs.items (drop (i + 1) steps) c.in_ok-k-in-Cut.field-0 v same c.in-None.is (c.in_ok-k-in-Cut.ensures.value types)
 
 pub loop-step-preserved : goal.loop-step-preserved
 loop-step-preserved c = record {
@@ -59,9 +57,8 @@ loop-step-preserved c = record {
       let w = subst (λ (l : List LinStep). IsWriting types base before now numbers l) left (c.loop-step.invariant.writing types base all named refutes) in
       let v = subst (λ (s : LinStep). IsWriting types base before now numbers (s ∷ drop (i + 1) steps)) c.in-Cut.is w in
       let same = c.in_ok-pairs-in-Cut.ensures ∙ (ap (λ (ks : List ℕ). with_numbers ks c.as_slice-in-Cut.result.now) c.deref-in-Cut.ensures.value ∙ ap (with_numbers numbers) c.as_slice-in-Cut.ensures) in
-      let some = subst (λ (o : Option ℕ). StatesCut types _ c.in_ok-pairs-in-Cut.pairs.items now behind o) c.in-Some.is (c.in_ok-k-in-Cut.ensures.value types) in
       subst (λ (ks : List ℕ). IsWriting types base before behind ks (drop (i + 1) steps)) (sym c.in_ok-push-in-Some.ensures.items)
-      (cut_written types base before now behind numbers _ _ (drop (i + 1) steps) c.in-Some.k v (subst (λ (ps : List (ℕ × ℕ)). StatesCut types _ ps now behind _) same some));
+      (cut_written types base before now behind numbers _ _ c.in_ok-pairs-in-Cut.pairs.items (drop (i + 1) steps) c.in-Some.k c.in_ok-k-in-Cut.field-0 v same c.in-Some.is (c.in_ok-k-in-Cut.ensures.value types));
   draft = c.in_ok-k-in-Cut.ensures.draft;
   stays = stays_on c.args.terms.now c.loop-step.terms c.state_cut.new.terms c.loop-step.invariant.stays c.in_ok-k-in-Cut.ensures.stays;
 }

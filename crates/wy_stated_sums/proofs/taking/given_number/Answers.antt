@@ -1,4 +1,5 @@
-use Rattle.std.proofs.Common.{◌≡◌, ◌∙◌, ℕ, length, false, Option, Some, sym, subst, rules}
+use Rattle.std.proofs.Common.{◌≡◌, ◌∙◌, ℕ, length, true, false, Option, Some, subst}
+use Rattle.std.proofs.lemmas.Bool.{eq-eqb}
 use Rattle.std.specs.Prelude.{option_map, Vec}
 use Rattle.std.specs.declared.alloc.Global.{Global}
 use Rattle.std.proofs.lemmas.Result.{IfOk-weaker}
@@ -24,7 +25,9 @@ returns-in-Some-clause-value c = λ types base f g same h e.
     let kept = seen_draft_stays old c.summands.new.terms c.args.draft.now c.in_ok-pairs.ensures.stays c.requires.draft in
     let are : AreSummands base before.node.literals c.args.own ts (Some c.in-Some.pairs.items) =
     subst (λ (o : Option (Vec (ℕ × ℕ) Global)). AreSummands base before.node.literals c.args.own ts (option_map (λ v. v.items) o)) c.in-Some.is (c.in_ok-pairs.ensures.value base same h.bounds) in
-    let some : length c.args.taken.now ≡ 0 → ⊥ = ? in
+    let some : length c.args.taken.now ≡ 0 → ⊥ = λ none.
+    let up : false ≡ true = c.if-is_empty.ensures ∙ eq-eqb (length c.args.taken.now) 0 none in
+    cc in
     IfOk-weaker c.state_divided.result _ _
     (λ o states.
     taken_give types base before behind c.args.own f g c.args.taken.now c.in-Some.pairs.items o some h are e
