@@ -1,5 +1,5 @@
 -- The classes of a node, as terms are added.
-use Rattle.std.proofs.Common.{◌≡◌, ◌∙◌, List}
+use Rattle.std.proofs.Common.{◌∙◌, List}
 use Rattle.wy_term.specs.Nodes.{Plain}
 use Rattle.wy_facts.specs.Seen.{Stays}
 use Rattle.wy_judge.specs.Node.{Node}

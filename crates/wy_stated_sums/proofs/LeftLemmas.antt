@@ -1,5 +1,5 @@
--- What replacing leaves of a node's forms, one literal after the other, and how elimination ends over all.
-use Rattle.std.proofs.Common.{◌≡◌, ◌∙◌, ◌||◌, ◌+◌, ◌<◌, ℕ, zero, suc, List, [], ◌∷◌, ◌++◌, map, drop, length, Bool, true, false, cond, Option, Some, None, refl, sym, ap, subst, append_assoc, arith}
+-- What replacing leaves of a node's forms, one literal after the other.
+use Rattle.std.proofs.Common.{◌≡◌, ◌∙◌, ◌||◌, ◌+◌, ◌<◌, ℕ, zero, suc, List, [], ◌∷◌, ◌++◌, map, drop, length, Bool, true, false, Option, Some, None, refl, sym, ap, subst, append_assoc, arith}
 use Rattle.std.specs.Prelude.{slice_get}
 use Rattle.std.proofs.lemmas.List.{append-nil}
 use Rattle.wy_term.specs.Term.{Term}
@@ -12,11 +12,9 @@ use Rattle.wy_term.specs.Nodes.{Plain}
 use Rattle.wy_judge.specs.Node.{Literal, Node, has_literal}
 use Rattle.wy_judging.specs.Seen.{seen_literal}
 use Rattle.wy_valid.specs.Literals.{formula_of}
-use Rattle.wy_eliminate.specs.declared.steps.Elim.{Elim}
-use Rattle.wy_eliminate.specs.Elimination.{elimination}
 use Rattle.wy_search.specs.Standing.{present}
 use Rattle.wy_search.specs.Classes.{classes}
-use Rattle.wy_search.specs.Bounds.{Replaced, gone, given, refutes, leaves, is_refuting, is_leaving, any_so, form_in, forms_in, replaced, numbered, with_form, replaced_forms, Ending, refuted, wide, ending_of, ending_by, ending}
+use Rattle.wy_search.specs.Bounds.{Replaced, gone, given, leaves, is_refuting, is_leaving, any_so, form_in, forms_in, replaced, numbered, with_form, replaced_forms}
 use Rattle.wy_drafts.specs.Progress.{Progress, Goes, Ends}
 use Rattle.wy_drafts.proofs.ProgressLemmas.{goes_self, goes_on, ends_behind}
 use Rattle.wy_stated_sums.specs.Named.{IsNamed, AreNamed}
@@ -119,27 +117,6 @@ one_more_left base rs l ls =
     let labels = classes (present base) base.literals in
     let rest = replaced_forms (present base) labels ls in
     append_assoc rs (left_of base l) rest ∙ ap (λ (qs : List Replaced). rs ++ qs) (sym (rest_behind (present base) labels rest (form_of_literal (formula_of l))))
-
--- ---- how elimination ends
-
-module _ (base : Node) (ls : List Literal) (s : Stated) (h : AreStated base ls (replaced_forms (present base) (classes (present base) base.literals) base.literals) s) where
-  abbrev whole : List Replaced
-  whole = replaced_forms (present base) (classes (present base) base.literals) base.literals
-
-  ends_by : (b c : Bool) → any_so is_refuting whole ≡ b → any_so is_leaving whole ≡ c → ending base ≡ cond b refuted (cond c wide (ending_of (elimination (forms_in whole))))
-  ends_by b c e f =
-      ap (λ (x : Bool). cond x refuted (cond (any_so is_leaving whole) wide (ending_of (elimination (forms_in whole))))) e
-      ∙ ap (λ (x : Bool). cond b refuted (cond x wide (ending_of (elimination (forms_in whole))))) f
-
-  wide_not : wide ≡ refuted → ⊥
-  wide_not e = cc
-
-  -- a number leaves 128 bits
-  pub wide_ends : s.leaves ≡ true → ending base ≡ refuted → ⊥
-  wide_ends e is = wide_not (sym (ends_by false true h.refutes (sym h.leaves ∙ e)) ∙ is)
-
-  pub forms_end : s.leaves ≡ false → (e : Elim) → e ≡ elimination (map linear_form s.forms.items) → ending base ≡ ending_of e
-  forms_end none e is = ends_by false false h.refutes (sym h.leaves ∙ none) ∙ ap ending_of (sym (is ∙ ap elimination h.forms))
 
 -- ---- one literal after the other
 

@@ -1,5 +1,5 @@
 -- A literal of a node whose classes are joined in another: bounds of the other take the variables of its form away.
-use Rattle.std.proofs.Common.{◌≡◌, ◌⊎◌, ◌∙◌, ◌<◌, ◌||◌, ℕ, List, [], ◌∷◌, ◌++◌, map, length, Bool, true, false, cond, eqb, ℤ, pos, negsuc, Option, Some, None, inl, inr, refl, sym, ap, subst, arith}
+use Rattle.std.proofs.Common.{◌≡◌, ◌⊎◌, ◌∙◌, ◌||◌, ℕ, List, [], ◌∷◌, ◌++◌, Bool, true, false, cond, eqb, ℤ, pos, Option, Some, inl, inr, refl, sym, ap, subst}
 use Rattle.std.specs.Prelude.{int_lt, ◌==◌}
 use Rattle.std.specs.Ordering.{int_eq}
 use Rattle.wy_term.specs.Term.{Term, two, at_most}
@@ -31,7 +31,7 @@ use Rattle.wy_closed_sums.proofs.PresentLemmas.{present_distinct, among_place, l
 use Rattle.wy_closed_sums.proofs.ReplacedLemmas.{IsFine, AreFine, vals, not_same, eqb_back, joined_between, bound_form, abs_some, apart_ways, first_false, second_false, fine_numbered, all_placed, form_of_parts, forms_handled, all_there, all_plain}
 use Rattle.wy_closed_sums.proofs.RefutedLemmas.{literals_sorted}
 use Rattle.wy_linked_classes.specs.Linked.{IsBase}
-use Rattle.wy_stated_sums.specs.Named.{at, holding, IsVariable, AreVariables, IsNamed}
+use Rattle.wy_stated_sums.specs.Named.{at, IsVariable, AreVariables}
 use Rattle.wy_stated_sums.specs.Cuts.{Appends}
 use Rattle.wy_stated_sums.specs.Replacing.{IsLinked, IsBound, AreBounds, IsReplaceable}
 

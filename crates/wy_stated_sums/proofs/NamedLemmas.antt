@@ -1,5 +1,5 @@
 -- Literals by their numbers: they keep these as more come behind them, and a sum of them is that of their forms.
-use Rattle.std.proofs.Common.{◌≡◌, ◌∙◌, ◌<◌, ◌-◌, ℕ, zero, suc, List, [], ◌∷◌, ◌++◌, map, length, Bool, true, false, cond, eqb, ℤ, pos, Option, Some, None, refl, sym, ap, subst, arith}
+use Rattle.std.proofs.Common.{◌≡◌, ◌∙◌, ◌<◌, ◌-◌, ℕ, zero, suc, List, [], ◌∷◌, ◌++◌, map, length, Bool, true, false, cond, eqb, ℤ, pos, Option, Some, None, sym, ap, subst, arith}
 use Rattle.std.specs.Prelude.{nat_lt, int_lt, slice_get, slice_index_or, ◌==◌}
 use Rattle.wy_term.specs.Term.{Term, two, at_most}
 use Rattle.wy_term.specs.Condition.{Entry}
@@ -22,10 +22,10 @@ use Rattle.wy_search.specs.Standing.{present}
 use Rattle.wy_drafts.specs.Progress.{Progress}
 use Rattle.wy_closed_sums.proofs.TwiceLemmas.{still}
 use Rattle.wy_closed_sums.proofs.TidyLemmas.{nothing_tidy, tidy_combined}
-use Rattle.wy_closed_sums.proofs.CutLemmas.{IsGood, AreGood, good_lowered, cut_is}
+use Rattle.wy_closed_sums.proofs.CutLemmas.{AreGood, good_lowered, cut_is}
 use Rattle.wy_closed_sums.proofs.PresentLemmas.{present_distinct, places_once}
 use Rattle.wy_closed_sums.proofs.ClosedLemmas.{one_more, good_plus, bare_zero}
-use Rattle.wy_stated_sums.specs.Named.{at, holding, IsVariable, AreVariables, IsNamed, AreNamed}
+use Rattle.wy_stated_sums.specs.Named.{at, AreVariables, IsNamed, AreNamed}
 use Rattle.wy_stated_sums.specs.Cuts.{Appends, cut_among, States, StatesCut, Gives}
 
 -- ---- numbers are kept
@@ -161,7 +161,10 @@ stated_gives types base old new d pairs f o is states = by o (states zero_term i
   where
     by : (p : Option ℕ) → States types (two at_most zero_term is.sum) old new p → Gives types base (lowered d f) old new p
     by None h = h
-    by (Some k) h = (h.0, record {
-      form = ap (λ (x : Option Literal). x >>= λ l. form_of_literal (formula_of l)) h.1 ∙ is.form;
-      variables = is.variables;
-    })
+    by (Some k) h = (
+      h.0,
+      record {
+        form = ap (λ (x : Option Literal). x >>= λ l. form_of_literal (formula_of l)) h.1 ∙ is.form;
+        variables = is.variables;
+      },
+    )

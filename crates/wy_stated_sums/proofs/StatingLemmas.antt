@@ -1,5 +1,5 @@
 -- A cut that is written: the node has the bound that it states, and that has a number.
-use Rattle.std.proofs.Common.{◌≡◌, ◌∙◌, ◌<◌, ℕ, List, [], ◌∷◌, ◌++◌, map, Bool, true, false, cond, eqb, ℤ, pos, Option, Some, None, refl, sym, ap, subst}
+use Rattle.std.proofs.Common.{◌≡◌, ◌∙◌, ℕ, List, [], ◌∷◌, ◌++◌, map, Bool, true, false, cond, ℤ, Option, Some, None, refl, sym, ap, subst}
 use Rattle.std.specs.Prelude.{unsigned_abs, ◌==◌, IfNone, IfOk, IfSome, Result, Ok, Err}
 use Rattle.std.proofs.lemmas.List.{append-nil}
 use Rattle.wy_term.specs.Term.{Term, two, at_most}
@@ -16,7 +16,7 @@ use Rattle.wy_search.specs.Bounds.{all_fit}
 use Rattle.wy_drafts.specs.Progress.{Progress, Writes}
 use Rattle.wy_chains.proofs.LiteralLemmas.{literal_there}
 use Rattle.wy_stated_sums.specs.Named.{holding, HasNumber}
-use Rattle.wy_stated_sums.specs.Cuts.{Appends, Grows, cut_among, States, StatesCut, twice, ArePairs, StatesBy, StatesDivided}
+use Rattle.wy_stated_sums.specs.Cuts.{Appends, cut_among, States, StatesCut, twice, ArePairs, StatesBy, StatesDivided}
 
 -- ---- a literal more
 
@@ -77,16 +77,12 @@ cut_numbered types old new d pairs a o wrote is writes number s t e =
     let same : a ≡ two at_most s t = same_atom a (two at_most s t) (is ∙ e) in
     number_states types old new d pairs s t e o wrote writes (subst (λ (x : Term). HasNumber new.node.literals (holding x) o) same number)
 
-pub cut_lacking : (types : List Entry) (old new : Progress) (d : ℕ) (pairs : List (ℕ × ℕ)) → None ≡ cut_among old.node.literals d pairs → StatesCut types d pairs old new None
-cut_lacking types old new d pairs is s t e = absurd (let up : None ≡ Some (two at_most s t) = is ∙ e in cc)
-
 -- ---- the common divisor of a sum
 
 common_of : ℕ → List ℤ → ℕ
 unfolding gcd
 common_of g [] = g
 common_of g (c ∷ cs) = common_of (gcd g (unsigned_abs c)) cs
-
 
 commons : (at : ℕ → Term) (g : ℕ) (ps : List (ℤ × ℕ)) → common_from g ps ≡ common_of g (map (λ (p : ℤ × Term). p.0) (map (seen_part at) ps))
 unfolding common_of
@@ -104,9 +100,6 @@ same_form f g e = cc
 pub divided_stated : (types : List Entry) (old new : Progress) (pairs : List (ℕ × ℕ)) (at : ℕ → Term) (sum : Linear ℕ) (o : Option ℕ) → Some (seen at sum) ≡ summed old.node.literals pairs → StatesBy (common sum.parts == 1) types (common sum.parts) pairs old new o → StatesDivided types pairs old new o
 divided_stated types old new pairs at sum o is states bt f e =
     subst (λ (d : ℕ). StatesBy (d == 1) types d pairs old new o) (same_common at bt sum f (same_form (seen at sum) (seen bt f) (is ∙ e))) states
-
-pub divided_lacking : (types : List Entry) (old new : Progress) (pairs : List (ℕ × ℕ)) → None ≡ summed old.node.literals pairs → StatesDivided types pairs old new None
-divided_lacking types old new pairs is at f e = absurd (let up : None ≡ Some (seen at f) = is ∙ e in cc)
 
 -- where the doubled pairs are these, the cut of them is that of the doubled ones
 pub twice_states : (types : List Entry) (old new : Progress) (pairs ps made : List (ℕ × ℕ)) (q : Option (List (ℕ × ℕ))) (o : Option ℕ) → ps ≡ pairs → q ≡ Some made → (all_fit (twice ps) ≡ true → ArePairs (twice ps) q) → StatesCut types 2 made old new o → all_fit (twice pairs) ≡ true → StatesCut types 2 (twice pairs) old new o

@@ -1,18 +1,17 @@
 -- Sums of a literal and of the bounds that take variables of its form away: what they refute or leave is what replacing gives.
-use Rattle.std.proofs.Common.{◌≡◌, ◌∙◌, ◌<◌, ◌*◌, ◌&&◌, ◌^◌, ℕ, zero, suc, List, [], ◌∷◌, ◌++◌, map, length, get_or, Bool, true, false, cond, ℤ, pos, Option, Some, None, refl, sym, ap, subst, arith, append_assoc}
+use Rattle.std.proofs.Common.{◌≡◌, ◌∙◌, ◌<◌, ◌*◌, ◌&&◌, ◌^◌, ℕ, zero, suc, List, [], ◌∷◌, ◌++◌, length, get_or, Bool, true, false, cond, pos, Option, Some, None, refl, sym, ap, subst, arith, append_assoc}
 use Rattle.std.proofs.lemmas.List.{append-nil}
 use Rattle.std.specs.Prelude.{nat_lt, int_lt, ◌==◌}
 use Rattle.std.proofs.lemmas.Bool.{eqb-true, ltb-true, lt-ltb}
 use Rattle.wy_term.specs.Condition.{Entry}
 use Rattle.wy_lin.specs.Linear.{Linear}
-use Rattle.wy_lin.specs.Combination.{form_at, combined}
+use Rattle.wy_lin.specs.Combination.{combined}
 use Rattle.wy_judge.specs.Node.{Literal, Node}
 use Rattle.wy_cert.specs.Steps.{sum_of}
 use Rattle.wy_valid.specs.Validity.{after, closed}
 use Rattle.wy_eliminate.specs.Division.{common, lowered}
-use Rattle.wy_eliminate.specs.Validity.{is_bare}
 use Rattle.wy_eliminate.proofs.ValidityLemmas.{common-divides, common-bare}
-use Rattle.wy_search.specs.Bounds.{named_from, all_fit, stated_sum, Replaced, gone, given, refutes, leaves, by_two, by_common, by_sum, replaced_by}
+use Rattle.wy_search.specs.Bounds.{named_from, all_fit, stated_sum, gone, given, refutes, by_two, by_common, by_sum, replaced_by}
 use Rattle.wy_bounds.specs.declared.removal.Taking.{Taking}
 use Rattle.wy_bounds.specs.Seen.{seen_taking, seen_takings}
 use Rattle.wy_drafts.specs.Progress.{Progress, Closes}
@@ -226,9 +225,6 @@ pub record IsTaking (base : Node) (ls : List Literal) (own : ℕ) (pairs : List 
   pub is : pairs ≡ (1, own) ∷ rest
   pub bounds : AreBounds base ls left
   pub behind : (more : List (ℕ × ℕ)) → AreTaken base ls left more → AreTaken base ls all (rest ++ more)
-
-pub taking_begins : (base : Node) (ls : List Literal) (own : ℕ) (pairs : List (ℕ × ℕ)) (all : List (ℕ × Linear ℕ)) → pairs ≡ (1, own) ∷ [] → AreBounds base ls all → IsTaking base ls own pairs all all
-taking_begins base ls own pairs all is bounds = record { rest = []; is = is; bounds = bounds; behind = λ more h. h }
 
 pub taking_next : (base : Node) (ls : List Literal) (own : ℕ) (pairs next : List (ℕ × ℕ)) (all left : List (ℕ × Linear ℕ)) (t : ℕ × Linear ℕ) (m k : ℕ) → next ≡ pairs ++ (m, k) ∷ [] → m ≡ t.0 → IsNamed base ls k t.1 → IsTaking base ls own pairs all (t ∷ left) → IsTaking base ls own next all left
 taking_next base ls own pairs next all left t m k is times named h = record {

@@ -1,13 +1,12 @@
 -- Steps by which elimination refutes forms, written over literals that have these.
-use Rattle.std.proofs.Common.{◌≡◌, ◌∙◌, ◌<◌, ◌&&◌, ℕ, List, [], ◌∷◌, ◌++◌, length, Bool, true, false, Option, Some, None, refl, sym, ap, subst, arith}
-use Rattle.std.specs.Prelude.{nat_lt, slice_index_or}
+use Rattle.std.proofs.Common.{◌≡◌, ◌&&◌, ℕ, List, [], ◌∷◌, ◌++◌, length, Bool, true, false, Option, Some, None, refl, subst}
+use Rattle.std.specs.Prelude.{nat_lt}
 use Rattle.std.proofs.lemmas.Bool.{ltb-true}
 use Rattle.wy_term.specs.Condition.{Entry}
 use Rattle.wy_lin.specs.Linear.{Linear}
-use Rattle.wy_lin.specs.Combination.{form_at}
 use Rattle.wy_judge.specs.Node.{Literal, Node}
 use Rattle.wy_cert.specs.Steps.{sum_of}
-use Rattle.wy_valid.specs.Validity.{after, closed}
+use Rattle.wy_valid.specs.Validity.{after}
 use Rattle.wy_eliminate.specs.declared.steps.LinStep.{LinStep}
 use Rattle.wy_eliminate.specs.declared.steps.LinStep.TheVariants.{Sum, Cut}
 use Rattle.wy_eliminate.specs.declared.steps.Elim.TheVariants.{Refuted}
@@ -15,13 +14,13 @@ use Rattle.wy_eliminate.specs.declared.steps.Steps.{Steps}
 use Rattle.wy_eliminate.specs.Division.{lowered}
 use Rattle.wy_eliminate.specs.Elimination.{elimination}
 use Rattle.wy_eliminate.specs.Validity.{are_named}
-use Rattle.wy_drafts.specs.Progress.{Progress, Goes, Ends, Closes}
-use Rattle.wy_drafts.proofs.ProgressLemmas.{goes_self, goes_on, ends_behind, closes_ends}
+use Rattle.wy_drafts.specs.Progress.{Progress, Goes, Closes}
+use Rattle.wy_drafts.proofs.ProgressLemmas.{goes_on, ends_behind, closes_ends}
 use Rattle.wy_closed_sums.proofs.TwiceLemmas.{both_of}
 use Rattle.wy_closed_sums.proofs.RefutingLemmas.{StepRules, ArePlain, steps_hold}
 use Rattle.wy_stated_sums.specs.Named.{AreNamed, with_numbers}
 use Rattle.wy_stated_sums.specs.Cuts.{Gives, StatesCut}
-use Rattle.wy_stated_sums.specs.Steps.{IsRefuting, IsCut, Refutes, Closed}
+use Rattle.wy_stated_sums.specs.Steps.{Refutes, Closed}
 use Rattle.wy_stated_sums.proofs.NamedLemmas.{are_named_kept, named_at, named_last, Matches, sum_closes, cut_states, stated_gives}
 
 -- ---- what elimination finds
@@ -52,9 +51,6 @@ pub record IsWriting (types : List Entry) (base : Node) (old now : Progress) (nu
   pub all : List (Linear ℕ)
   pub named : AreNamed base now.node.literals numbers all
   pub refutes : Refutes all left
-
-pub writing_begins : (types : List Entry) (base : Node) (old : Progress) (numbers : List ℕ) (all : List (Linear ℕ)) (steps : List LinStep) → AreNamed base old.node.literals numbers all → Refutes all steps → IsWriting types base old old numbers steps
-writing_begins types base old numbers all steps named refutes = record { goes = goes_self types old; all = all; named = named; refutes = refutes }
 
 pub sum_written : (types : List Entry) (base : Node) (old now new : Progress) (numbers : List ℕ) (ms : List (ℕ × ℕ)) (left : List LinStep) (yes : Bool) → IsWriting types base old now numbers (Sum ms ∷ left) → Closes types (sum_of (with_numbers numbers ms)) now new yes → Closed types old new yes
 sum_written types base old now new numbers ms left true h closes = ends_behind types old now new h.goes (closes_ends types (sum_of (with_numbers numbers ms)) now new tt closes)

@@ -1,5 +1,5 @@
 -- What becomes of a draft where cuts are written.
-use Rattle.std.specs.Prelude.{◌≡◌, ℕ, ◌*◌, ◌==◌, List, [], ◌∷◌, ◌++◌, map, Bool, true, false, Option, Some, None}
+use Rattle.std.specs.Prelude.{◌≡◌, ℕ, ◌*◌, ◌==◌, List, ◌++◌, map, Bool, true, false, Option, Some, None}
 use Rattle.wy_term.specs.Term.{Term, two, at_most}
 use Rattle.wy_term.specs.Condition.{Entry}
 use Rattle.wy_lin.specs.Linear.{◌>>=◌, Linear}

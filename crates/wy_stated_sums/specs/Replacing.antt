@@ -1,6 +1,6 @@
 -- Bounds by which the variables of a literal's form are replaced, and what has been stated of a node's forms.
-use Rattle.std.specs.Prelude.{◌≡◌, ◌<◌, ℕ, List, [], ◌∷◌, ◌++◌, map, Bool, true, false, Option, Some, None}
-use Rattle.wy_term.specs.Term.{Term, two, at_most}
+use Rattle.std.specs.Prelude.{◌≡◌, ◌<◌, ℕ, List, [], ◌∷◌, map, true, false, Option, Some, None}
+use Rattle.wy_term.specs.Term.{two, at_most}
 use Rattle.wy_term.specs.Condition.{Entry}
 use Rattle.wy_lin.specs.Linear.{Linear}
 use Rattle.wy_lin.specs.TermForm.{form_of_literal}

@@ -23,11 +23,7 @@ use wy_judging::Branch;
 use wy_term::{NoMemory, Terms};
 
 // Writes the steps by which elimination refutes the forms of a node, where all are stated, and says whether it did.
-fn close_by_forms(
-    terms: &mut Terms,
-    draft: &mut Draft,
-    stated: Stated,
-) -> Result<bool, NoMemory>
+fn close_by_forms(terms: &mut Terms, draft: &mut Draft, stated: Stated) -> Result<bool, NoMemory>
     requires draft { IsDraft terms.old draft.old }
     ensures value { (types : List Entry) (base : Node) → IsLinked base (seen_draft (tree_at terms.old) draft.old).node → AreStated base (seen_draft (tree_at terms.old) draft.old).node.literals (bounds.replaced_forms (present base) (classes (present base) base.literals) base.literals) stated → IfOk result (EndsIfRefuted types base (seen_draft (tree_at terms.old) draft.old) (seen_draft (tree_at terms.new) draft.new)) }
     ensures draft { OnOk result (IsDraft terms.new draft.new) }
@@ -37,7 +33,12 @@ fn close_by_forms(
         return Ok(false);
     }
     match eliminate(terms.allocator(), stated.forms) {
-        Ok(Elim::Refuted(steps)) => write_steps(terms, draft, stated.numbers, steps.list.as_slice()),
+        Ok(Elim::Refuted(steps)) => write_steps(
+            terms,
+            draft,
+            stated.numbers,
+            steps.list.as_slice(),
+        ),
         Ok(_) => Ok(false),
         Err(_) => Err(NoMemory),
     }

@@ -11,7 +11,7 @@ use Rattle.wy_drafts.specs.Progress.{Progress}
 use Rattle.wy_drafts.proofs.DraftLemmas.{draft_stays, seen_draft_stays}
 use Rattle.wy_stated_sums.specs.Named.{Names}
 use Rattle.wy_stated_sums.specs.Replacing.{IsBound}
-use Rattle.wy_stated_sums.proofs.TakenLemmas.{IsTaking, taking_begins, taking_next, taking_ends}
+use Rattle.wy_stated_sums.proofs.TakenLemmas.{IsTaking, taking_next, taking_ends}
 use Rattle.wy_stated_sums.proofs.bounds.summands.Goals as goal
 
 pub order_number-requires-clause-draft : goal.order_number-requires-clause-draft

@@ -1,4 +1,4 @@
-use Rattle.std.proofs.Common.{◌≡◌, ◌∙◌, ◌∷◌, ◌++◌, [], ℕ, List, ℤ, Option, Some, sym, ap, subst}
+use Rattle.std.proofs.Common.{◌≡◌, ◌∙◌, ◌++◌, ℕ, List, ℤ, Option, Some, sym, ap, subst}
 use Rattle.std.specs.Prelude.{IfSome}
 use Rattle.std.proofs.lemmas.Result.{IfOk-weaker}
 use Rattle.wy_term.specs.Term.{Term}
@@ -11,11 +11,10 @@ use Rattle.wy_valid.specs.Literals.{literal_at}
 use Rattle.wy_search.specs.Standing.{present}
 use Rattle.wy_search.specs.Classes.{classes}
 use Rattle.wy_search.specs.Bounds.{Replaced, numbered, takings, replaced, replaced_by}
-use Rattle.wy_bounds.specs.declared.removal.Taking.{Taking}
 use Rattle.wy_bounds.specs.Seen.{seen_replaced, seen_takings}
 use Rattle.wy_drafts.specs.Draft.{seen_draft}
 use Rattle.wy_drafts.specs.Progress.{Progress}
-use Rattle.wy_stated_sums.specs.Replacing.{IsReplaceable, Turns, left_of}
+use Rattle.wy_stated_sums.specs.Replacing.{IsReplaceable, Turns}
 use Rattle.wy_stated_sums.proofs.LinkedLemmas.{replaceable}
 use Rattle.wy_stated_sums.proofs.LeftLemmas.{form_left}
 use Rattle.wy_stated_sums.proofs.literals.take_form.Goals as goal

@@ -1,5 +1,5 @@
-use Rattle.std.proofs.Common.{◌≡◌, ◌∙◌, ◌++◌, ℕ, List, Bool, true, None, Some, Option, refl, sym, ap, subst}
-use Rattle.std.specs.Prelude.{option_map, slice_get}
+use Rattle.std.proofs.Common.{◌≡◌, ◌∙◌, ◌++◌, List, true, None, Some, sym, ap, subst}
+use Rattle.std.specs.Prelude.{option_map}
 use Rattle.std.proofs.lemmas.Result.{IfOk-weaker}
 use Rattle.wy_term.specs.Term.{Term}
 use Rattle.wy_term.specs.Nodes.{tree_at}
@@ -8,7 +8,6 @@ use Rattle.wy_lin.specs.TermForm.{form_of_literal}
 use Rattle.wy_judge.specs.Node.{Literal, Node, has_literal}
 use Rattle.wy_judging.specs.Seen.{seen_branch, seen_literal}
 use Rattle.wy_valid.specs.Literals.{formula_of}
-use Rattle.wy_valid.specs.Sums.{form_at}
 use Rattle.wy_search.specs.Bounds.{Replaced}
 use Rattle.wy_bounds.proofs.GatherLemmas.{form_behind}
 use Rattle.wy_drafts.specs.Draft.{seen_draft}
@@ -56,11 +55,10 @@ returns-in-None-clause-value c = λ types l rs classed linked here stated.
     let now : Progress = seen_draft (tree_at mid) c.args.draft.now in
     let kept : now ≡ before = seen_draft_stays old mid c.args.draft.now c.in_ok-form.ensures.stays c.requires.draft in
     let form : form_of_literal (formula_of l) ≡ None =
-    sym (form_behind base.literals c.args.i c.in_ok-number_of_place.field-0 l c.in_ok-number_of_place.ensures here) ∙ (sym c.in_ok-form.ensures.value ∙ ap (option_map (seen_form (tree_at mid))) c.in-None.is) in
-    (
+    sym (form_behind base.literals c.args.i c.in_ok-number_of_place.field-0 l c.in_ok-number_of_place.ensures here) ∙ (sym c.in_ok-form.ensures.value ∙ ap (option_map (seen_form (tree_at mid))) c.in-None.is) in (
       subst (λ (p : Progress). Grows types before p) (sym kept) (grows_self types before),
       subst (λ (p : Progress). AreStated base p.node.literals (rs ++ left_of base l) c.args.stated.now) (sym kept)
-      (subst (λ (qs : List Replaced). AreStated base before.node.literals qs c.args.stated.now) (sym (none_left base l rs form)) stated),
+          (subst (λ (qs : List Replaced). AreStated base before.node.literals qs c.args.stated.now) (sym (none_left base l rs form)) stated),
     )
 
 pub returns-in-None-clause-draft : goal.returns-in-None-clause-draft
