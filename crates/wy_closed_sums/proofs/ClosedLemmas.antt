@@ -96,7 +96,7 @@ module _ (at : ℕ → Term) (n : ℕ) (once : NamesOnce at n) where
       let a = bind_some (plus_part eqb ps m k.0 k.1) (λ rs. plus_parts eqb rs m ks) qs e in
       good_parts a.0 m ks qs (good_part ps m k.0 k.1 a.0 h g.0 a.1) g.1 a.2
 
-  good_plus : (f : Linear ℕ) (m : Factor) (g h : Linear ℕ) → AreGood at n once f.parts → AreGood at n once g.parts → plus eqb f m g ≡ Some h → AreGood at n once h.parts
+  pub good_plus : (f : Linear ℕ) (m : Factor) (g h : Linear ℕ) → AreGood at n once f.parts → AreGood at n once g.parts → plus eqb f m g ≡ Some h → AreGood at n once h.parts
   good_plus f m g h is_f is_g e =
       let a = bind_some (plus_parts eqb f.parts m g.parts) (λ ps. more f.constant m g.constant >>= λ c. Some (record { parts = ps; constant = c })) h e in
       let b = bind_some (more f.constant m g.constant) (λ c. Some (record { parts = a.0; constant = c })) h a.2 in
@@ -114,7 +114,7 @@ module _ (at : ℕ → Term) (n : ℕ) (once : NamesOnce at n) where
   form_numbered : (node : Node) (f : Linear ℕ) (h : HasForm node f) (i : ℕ) → literal_at node.literals i ≡ Some h.literal → sums.form_at node.literals i ≡ Some (seen at f)
   form_numbered node f h i e = ap (λ (o : Option Literal). o >>= λ (l : Literal). form_of_literal (formula_of l)) e ∙ h.form
 
-  one_more : (node : Node) (f g h : Linear ℕ) (m i : ℕ) → nat_lt 0 m ≡ true → sums.form_at node.literals i ≡ Some (seen at g) → AreGood at n once f.parts → AreGood at n once g.parts → plus eqb f (Times m) g ≡ Some h → plus_literal node.literals (seen at f) m i ≡ Some (seen at h)
+  pub one_more : (node : Node) (f g h : Linear ℕ) (m i : ℕ) → nat_lt 0 m ≡ true → sums.form_at node.literals i ≡ Some (seen at g) → AreGood at n once f.parts → AreGood at n once g.parts → plus eqb f (Times m) g ≡ Some h → plus_literal node.literals (seen at f) m i ≡ Some (seen at h)
   one_more node f g h m i lt e is_f is_g gives =
       ap (λ (b : Bool). cond b None (sums.form_at node.literals i >>= λ (k : Linear Term). with (seen at f) (Times m) k)) (above_zero m lt)
       ∙ (ap (λ (o : Option (Linear Term)). o >>= λ (k : Linear Term). with (seen at f) (Times m) k) e
@@ -143,7 +143,7 @@ module _ (at : ℕ → Term) (n : ℕ) (once : NamesOnce at n) where
         good = next.good;
       }
 
-  bare_zero : (ps : List (ℤ × ℕ)) → is_bare ps ≡ true → all_zero (map (seen_part at) ps) ≡ true
+  pub bare_zero : (ps : List (ℤ × ℕ)) → is_bare ps ≡ true → all_zero (map (seen_part at) ps) ≡ true
   bare_zero [] e = refl
   bare_zero (p ∷ ps) e =
       let h = both_of (unsigned_abs p.0 == 0) (is_bare ps) e in

@@ -29,7 +29,7 @@ led_by types node below s e h c = record {
 trees_close : (types : List Entry) → Steps types (HasSteps types)
 trees_close types = record { ends = closed_by types; leads = led_by types }
 
-literals_sorted : (ls : List Literal) → AreLiterals ls → AreSortedLiterals ls
+pub literals_sorted : (ls : List Literal) → AreLiterals ls → AreSortedLiterals ls
 literals_sorted [] h = tt
 literals_sorted (l ∷ ls) h = (h.0, literals_sorted ls h.1)
 

@@ -1,4 +1,4 @@
--- Where elimination refutes forms, whatever holds of lists of forms that a sum refutes, and of those to which a cut leads back, holds of these.
+-- Where elimination refutes forms, whatever holds of lists of forms that a sum refutes, and of those to which a cut leads back, holds of these: of the forms beside the steps, and of the forms alone.
 use Rattle.std.proofs.Common.{◌≡◌, ◌<◌, ◌*◌, ℕ, zero, suc, List, [], ◌∷◌, ◌++◌, length, drop, Bool, true, false, cond, ℤ, pos, negsuc, Option, Some, None, refl, sym, ap, subst, ◌∙◌, append_assoc, append-nil, length-append, arith}
 use Rattle.std.specs.Prelude.{nat_eq, nat_lt, ◌==◌, ◌&&◌, unsigned_abs, int_lt, int_le, ◌+ℤ◌, ◌^◌}
 use Rattle.std.proofs.lemmas.Bool.{eqb-true, lt-ltb}
@@ -6,7 +6,7 @@ use Rattle.wy_lin.specs.declared.arithmetic.Factor.TheVariants.{Times}
 use Rattle.wy_lin.specs.Linear.{◌>>=◌, Linear, nothing, plus}
 use Rattle.wy_lin.specs.Combination.{form_at, combined}
 use Rattle.wy_eliminate.specs.declared.steps.LinStep.{LinStep}
-use Rattle.wy_eliminate.specs.declared.steps.LinStep.TheVariants.{Cut}
+use Rattle.wy_eliminate.specs.declared.steps.LinStep.TheVariants.{Sum, Cut}
 use Rattle.wy_eliminate.specs.declared.steps.Elim.{Elim}
 use Rattle.wy_eliminate.specs.declared.steps.Elim.TheVariants.{Refuted, Crowded, Wide}
 use Rattle.wy_eliminate.specs.declared.steps.Steps.{Steps}
@@ -26,6 +26,11 @@ pub record Rules (P : List (Linear ℕ) → Type 0) : Type 0 where
   pub by_sum : (all : List (Linear ℕ)) (ms : List (ℕ × ℕ)) (f : Linear ℕ) → are_named (length all) ms ≡ true → combined all ms ≡ Some f → is_bare f.parts ≡ true → int_lt f.constant (pos 0) ≡ true → P all
   -- and where it holds with what a number that divides the coefficients of a sum, which has a variable, leaves of it
   pub by_cut : (all : List (Linear ℕ)) (d : ℕ) (ms : List (ℕ × ℕ)) (f : Linear ℕ) → nat_lt 1 d ≡ true → are_named (length all) ms ≡ true → combined all ms ≡ Some f → divides d f.parts ≡ true → is_bare f.parts ≡ false → P (all ++ lowered d f ∷ []) → P all
+
+-- what holds of such lists beside steps that refute them
+pub record StepRules (P : List (Linear ℕ) → List LinStep → Type 0) : Type 0 where
+  pub by_sum : (all : List (Linear ℕ)) (ms : List (ℕ × ℕ)) (f : Linear ℕ) → are_named (length all) ms ≡ true → combined all ms ≡ Some f → is_bare f.parts ≡ true → int_lt f.constant (pos 0) ≡ true → P all (Sum ms ∷ [])
+  pub by_cut : (all : List (Linear ℕ)) (d : ℕ) (ms : List (ℕ × ℕ)) (f : Linear ℕ) (rest : List LinStep) → nat_lt 1 d ≡ true → are_named (length all) ms ≡ true → combined all ms ≡ Some f → divides d f.parts ≡ true → is_bare f.parts ≡ false → P (all ++ lowered d f ∷ []) rest → P all (Cut d ms ∷ rest)
 
 abbrev some_form : Linear ℕ → Option (Linear ℕ)
 some_form f = Some f
@@ -105,7 +110,7 @@ module _ (all : List (Linear ℕ)) (v : ℕ) where
       let next = side_have s i lower upper in
       sides_have (with_side all v s i) is next.0 next.1
 
-abbrev AreAt : List (Linear ℕ) → ℕ → List (Linear ℕ) → Type 0
+abbrev pub AreAt : List (Linear ℕ) → ℕ → List (Linear ℕ) → Type 0
 AreAt all i [] = Unit {0}
 AreAt all i (f ∷ fs) = (form_at all i ≡ f) × (i < length all) × AreAt all (suc i) fs
 
@@ -123,7 +128,7 @@ first_dropped (x ∷ xs) (suc i) f fs e =
     let known = first_dropped xs i f fs e in
     (known.0, omega (arith, known.1), known.2)
 
-are_at : (all : List (Linear ℕ)) (i : ℕ) (fs : List (Linear ℕ)) → drop i all ≡ fs → AreAt all i fs
+pub are_at : (all : List (Linear ℕ)) (i : ℕ) (fs : List (Linear ℕ)) → drop i all ≡ fs → AreAt all i fs
 are_at all i [] e = tt
 are_at all i (f ∷ fs) e =
     let known = first_dropped all i f fs e in
@@ -138,15 +143,18 @@ abbrev pub ArePlain : List (Linear ℕ) → Type 0
 ArePlain [] = Unit {0}
 ArePlain (f ∷ fs) = IsPlain f × ArePlain fs
 
+refuted_is : (a b : Steps) → Refuted a ≡ Refuted b → a ≡ b
+refuted_is a b e = cc
+
 -- ---- what holds
 
-module _ (P : List (Linear ℕ) → Type 0) (rules : Rules P) where
+module _ (P : List (Linear ℕ) → List LinStep → Type 0) (rules : StepRules P) where
   -- the sum of a pair
   abbrev GoodSum : List (Linear ℕ) → Summed → Type 0
-  GoodSum all (refuting ms) = P all
+  GoodSum all (refuting ms) = P all (Sum ms ∷ [])
   GoodSum all dropped = Unit {0}
   GoodSum all beyond = Unit {0}
-  GoodSum all (cut d ms f) = P (all ++ f ∷ []) → P all
+  GoodSum all (cut d ms f) = (rest : List LinStep) → P (all ++ f ∷ []) rest → P all (Cut d ms ∷ rest)
 
   module _ (all : List (Linear ℕ)) (p : Pair) (lower : p.lower < length all) (upper : p.upper < length all) (first : 0 < p.times_lower) (second : 0 < p.times_upper) where
     named : are_named (length all) (multipliers p) ≡ true
@@ -159,7 +167,7 @@ module _ (P : List (Linear ℕ) → Type 0) (rules : Rules P) where
     good_two f None once free e = tt
     good_two f (Some g) once free e =
         let is = in_step_some all (doubled p) g e in
-        rules.by_cut all 2 (multipliers (doubled p)) g refl named_twice is (twice-divides all p.times_lower p.lower p.times_upper p.upper g is)
+        λ rest. rules.by_cut all 2 (multipliers (doubled p)) g rest refl named_twice is (twice-divides all p.times_lower p.lower p.times_upper p.upper g is)
         (twice_bare all p.times_lower p.lower p.times_upper p.upper f g once is free)
 
     good_common : (f : Linear ℕ) → in_step all p ≡ some_form f → GoodSum all (by_common all p f (common f.parts))
@@ -169,7 +177,7 @@ module _ (P : List (Linear ℕ) → Type 0) (rules : Rules P) where
         by true true c none negative one = rules.by_sum all (multipliers p) f named (in_step_some all p f e) (common-bare f.parts (eqb-true (common f.parts) 0 none)) negative
         by true false c none negative one = tt
         by false b true none negative one = good_two f (in_step all (doubled p)) (in_step_some all p f e) (common_not_bare f.parts none) refl
-        by false b false none negative one = rules.by_cut all (common f.parts) (multipliers p) f (large_one (common f.parts) none one) named (in_step_some all p f e) (common-divides f.parts) (common_not_bare f.parts none)
+        by false b false none negative one = λ rest. rules.by_cut all (common f.parts) (multipliers p) f rest (large_one (common f.parts) none one) named (in_step_some all p f e) (common-divides f.parts) (common_not_bare f.parts none)
 
     good_by : (o : Option (Linear ℕ)) → in_step all p ≡ o → GoodSum all (by_sum all p o)
     good_by (Some f) e = good_common f e
@@ -190,11 +198,11 @@ module _ (P : List (Linear ℕ) → Type 0) (rules : Rules P) where
     -- ---- states
 
     abbrev Good : State → Type 0
-    Good s = P s.all → P forms
+    Good s = (rest : List LinStep) → P s.all rest → P forms (s.steps ++ rest)
 
     abbrev GoodTurn : State → Turn → Type 0
     GoodTurn s (goes_on t) = Good t × Grows s t
-    GoodTurn s (refuted steps) = P forms
+    GoodTurn s (refuted steps) = P forms steps
 
     turn_on : (s t : State) (x : Turn) → Grows s t → GoodTurn t x → GoodTurn s x
     turn_on s t (goes_on u) a h = (h.0, grows_on s t u a h.1)
@@ -215,11 +223,11 @@ module _ (P : List (Linear ℕ) → Type 0) (rules : Rules P) where
           by true = (good, record { more = []; grown = sym (append-nil s.all) })
           by false = stays
 
-      good_cut : (d : ℕ) (ms : List (ℕ × ℕ)) (f : Linear ℕ) → (P (s.all ++ f ∷ []) → P s.all) → GoodTurn s (goes_on (with_cut s d ms f))
+      good_cut : (d : ℕ) (ms : List (ℕ × ℕ)) (f : Linear ℕ) → ((rest : List LinStep) → P (s.all ++ f ∷ []) rest → P s.all (Cut d ms ∷ rest)) → GoodTurn s (goes_on (with_cut s d ms f))
       good_cut d ms f back = by (is_new s f)
         where
           by : (b : Bool) → GoodTurn s (goes_on (cond b (record { all = s.all ++ f ∷ []; standing = room_for s f ++ length s.all ∷ []; steps = s.steps ++ Cut d ms ∷ []; wide = s.wide }) s))
-          by true = (λ h. good (back h), record { more = f ∷ []; grown = refl })
+          by true = (λ rest h. subst (P forms) (sym (append_assoc s.steps (Cut d ms ∷ []) rest)) (good (Cut d ms ∷ rest) (back rest h)), record { more = f ∷ []; grown = refl })
           by false = stays
 
       good_unless : (t : State) → GoodTurn s (goes_on t) → GoodTurn s (unless_crowded s t)
@@ -230,7 +238,7 @@ module _ (P : List (Linear ℕ) → Type 0) (rules : Rules P) where
           by false = h
 
       good_sum : (x : Summed) → GoodSum s.all x → GoodTurn s (after_sum s x)
-      good_sum (refuting ms) h = good h
+      good_sum (refuting ms) h = good (Sum ms ∷ []) h
       good_sum dropped h = stays
       good_sum beyond h = (good, record { more = []; grown = sym (append-nil s.all) })
       good_sum (cut d ms f) h = good_unless (with_cut s d ms f) (good_cut d ms f h)
@@ -273,13 +281,13 @@ module _ (P : List (Linear ℕ) → Type 0) (rules : Rules P) where
 
         by : (a b c : Bool) → (common f.parts == 0) ≡ a → int_lt f.constant (pos 0) ≡ b → (common f.parts == 1) ≡ c →
             GoodTurn s (cond a (cond b (refuted_by s ((1, i) ∷ [])) (goes_on s)) (cond c (unless_crowded s (with_place s i f)) (unless_crowded s (with_cut s (common f.parts) ((1, i) ∷ []) (lowered (common f.parts) f)))))
-        by true true c none negative one = good (rules.by_sum s.all ((1, i) ∷ []) f named_it is (common-bare f.parts (eqb-true (common f.parts) 0 none)) negative)
+        by true true c none negative one = good (Sum ((1, i) ∷ []) ∷ []) (rules.by_sum s.all ((1, i) ∷ []) f named_it is (common-bare f.parts (eqb-true (common f.parts) 0 none)) negative)
         by true false c none negative one = stays s good
         by false b true none negative one = good_unless s good (with_place s i f) (good_place s good i f)
         by false b false none negative one =
             good_unless s good (with_cut s (common f.parts) ((1, i) ∷ []) (lowered (common f.parts) f))
             (good_cut s good (common f.parts) ((1, i) ∷ []) (lowered (common f.parts) f)
-            (rules.by_cut s.all (common f.parts) ((1, i) ∷ []) f (large_one (common f.parts) none one) named_it is (common-divides f.parts) (common_not_bare f.parts none)))
+            (λ rest. rules.by_cut s.all (common f.parts) ((1, i) ∷ []) f rest (large_one (common f.parts) none one) named_it is (common-divides f.parts) (common_not_bare f.parts none)))
 
     good_from : (s : State) (i : ℕ) (fs : List (Linear ℕ)) → Good s → AreAt s.all i fs → ArePlain fs → GoodTurn s (given_from s i fs)
     good_from s i [] good at plain = stays s good
@@ -291,13 +299,13 @@ module _ (P : List (Linear ℕ) → Type 0) (rules : Rules P) where
     -- ---- the whole
 
     abbrev EndsWell : Elim → Type 0
-    EndsWell e = (steps : Steps) → e ≡ Refuted steps → P forms
+    EndsWell e = (steps : Steps) → e ≡ Refuted steps → P forms steps.list
 
     well_ended : (s : State) (x : Turn) (f : State → Elim) → GoodTurn s x → ((t : State) → Good t → EndsWell (f t)) → EndsWell (ended x f)
-    well_ended s (refuted list) f h next steps e = h
+    well_ended s (refuted list) f h next steps e = subst (λ (x : Steps). P forms x.list) (refuted_is (record { list = list }) steps e) h
     well_ended s (goes_on t) f h next steps e = by (is_crowded t) t.wide e
       where
-        by : (a b : Bool) → cond a Crowded (cond b Wide (f t)) ≡ Refuted steps → P forms
+        by : (a b : Bool) → cond a Crowded (cond b Wide (f t)) ≡ Refuted steps → P forms steps.list
         by true b g = absurd cc
         by false true g = absurd cc
         by false false g = next t h.0 steps g
@@ -310,10 +318,17 @@ module _ (P : List (Linear ℕ) → Type 0) (rules : Rules P) where
     well_eliminated zero s good steps e = absurd cc
     well_eliminated (suc n) s good steps e = well_next (next_variable (variables s.all s.standing)) s (λ t. eliminated n t) good (λ t good_t. well_eliminated n t good_t) steps e
 
-    -- where elimination refutes such forms
-    pub refuted_holds : ArePlain forms → (steps : Steps) → elimination forms ≡ Refuted steps → P forms
-    refuted_holds plain =
+    -- where elimination refutes such forms, it holds of them and its steps
+    pub steps_hold : ArePlain forms → (steps : Steps) → elimination forms ≡ Refuted steps → P forms steps.list
+    steps_hold plain =
         let first = at_first forms in
         well_ended first (given_from first 0 forms) (λ s. eliminated (length (variables s.all s.standing)) s)
-        (good_from first 0 forms (λ h. h) (are_at forms 0 forms refl) plain)
+        (good_from first 0 forms (λ rest h. h) (are_at forms 0 forms refl) plain)
         (λ t good_t. well_eliminated (length (variables t.all t.standing)) t good_t)
+
+-- where elimination refutes such forms
+pub refuted_holds : (P : List (Linear ℕ) → Type 0) → Rules P → (forms : List (Linear ℕ)) → ArePlain forms → (steps : Steps) → elimination forms ≡ Refuted steps → P forms
+refuted_holds P rules forms =
+    steps_hold (λ all steps. P all)
+    (record { by_sum = rules.by_sum; by_cut = λ all d ms f rest large named is even free h. rules.by_cut all d ms f large named is even free h })
+    forms

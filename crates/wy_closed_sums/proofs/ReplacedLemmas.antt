@@ -42,18 +42,18 @@ use Rattle.wy_closed_sums.proofs.RefutingLemmas.{Rules, ArePlain, large_one, com
 use Rattle.wy_closed_sums.proofs.PresentLemmas.{at, present_distinct, places_once, at_place, among_place, length_classes, first_is, same_kinds, ArePlaced, seen_numbered, one_place}
 use Rattle.wy_closed_sums.proofs.ClosedLemmas.{HasForm, HaveForms, form_more, last_of_forms, closing_rules, refuted_closes}
 
-apart_ways : (b : Bool) → b ≡ true → b ≡ false → ⊥
+pub apart_ways : (b : Bool) → b ≡ true → b ≡ false → ⊥
 apart_ways b e f = let up : true ≡ false = sym e ∙ f in absurd cc
 
-second_false : (a b : Bool) → (a || b) ≡ false → b ≡ false
+pub second_false : (a b : Bool) → (a || b) ≡ false → b ≡ false
 second_false true b e = absurd cc
 second_false false b e = e
 
-first_false : (a b : Bool) → (a || b) ≡ false → a ≡ false
+pub first_false : (a b : Bool) → (a || b) ≡ false → a ≡ false
 first_false true b e = absurd cc
 first_false false b e = refl
 
-abbrev form_of_parts : List (ℤ × Term) → ℤ → Linear Term
+abbrev pub form_of_parts : List (ℤ × Term) → ℤ → Linear Term
 form_of_parts ps c = record { parts = ps; constant = c }
 
 -- ---- bounds between two variables
@@ -61,12 +61,12 @@ form_of_parts ps c = record { parts = ps; constant = c }
 order_difference : (s t : Term) → same_term t s ≡ false → difference (variable_form s) (variable_form t) ≡ Some (record { parts = (negsuc 0, s) ∷ (pos 1, t) ∷ []; constant = pos 0 })
 order_difference s t apart = rw (apart, terms_self s) refl
 
-bound_form : (s t : Term) → IsVariable s → IsVariable t → same_term t s ≡ false → form_of_literal (two at_most s t) ≡ Some (record { parts = (negsuc 0, s) ∷ (pos 1, t) ∷ []; constant = pos 0 })
+pub bound_form : (s t : Term) → IsVariable s → IsVariable t → same_term t s ≡ false → form_of_literal (two at_most s t) ≡ Some (record { parts = (negsuc 0, s) ∷ (pos 1, t) ∷ []; constant = pos 0 })
 bound_form s t is it apart =
     ap (λ (o : Option (Linear Term)). o >>= λ (f : Linear Term). form_of t >>= λ (g : Linear Term). difference f g) is.form
     ∙ (ap (λ (o : Option (Linear Term)). o >>= λ (g : Linear Term). difference (variable_form s) g) it.form ∙ order_difference s t apart)
 
-joined_between : (ls : List Literal) (s t : Term) (a b : Sort) → a ≡ int_sort → joined_by a b ls s t ≡ true → are_between ls s t ≡ true
+pub joined_between : (ls : List Literal) (s t : Term) (a b : Sort) → a ≡ int_sort → joined_by a b ls s t ≡ true → are_between ls s t ≡ true
 joined_between ls s t int_sort int_sort e j = j
 joined_between ls s t int_sort val_sort e j = absurd cc
 joined_between ls s t int_sort formula_sort e j = absurd cc
@@ -80,7 +80,7 @@ abbrev ArePositive : List (ℕ × Linear ℕ) → Type 0
 ArePositive [] = Unit {0}
 ArePositive (t ∷ ts) = (0 < t.0) × ArePositive ts
 
-abs_some : (c : ℤ) → int_eq c (pos 0) ≡ false → 0 < unsigned_abs c
+pub abs_some : (c : ℤ) → int_eq c (pos 0) ≡ false → 0 < unsigned_abs c
 abs_some (pos zero) e = absurd cc
 abs_some (pos (suc n)) e = omega arith
 abs_some (negsuc n) e = omega arith
@@ -93,7 +93,7 @@ takings_positive labels (p ∷ ps) = by (int_eq p.0 (pos 0) || (first_of_class l
     by true e rest = rest
     by false e rest = (abs_some p.0 (first_false (int_eq p.0 (pos 0)) (first_of_class labels p.1 == p.1) e), rest)
 
-abbrev taken : List (ℕ × Linear ℕ) → List (Linear ℕ)
+abbrev pub taken : List (ℕ × Linear ℕ) → List (Linear ℕ)
 taken ts = map (λ (u : ℕ × Linear ℕ). u.1) ts
 
 length_taken : (ts : List (ℕ × Linear ℕ)) → length (taken ts) ≡ length ts
@@ -121,7 +121,7 @@ doubled_from : (ts : List (ℕ × Linear ℕ)) (i : ℕ) → AreDoubled (named_f
 doubled_from [] i = tt
 doubled_from (t ∷ ts) i = (twice_one t.0, refl, doubled_from ts (suc i))
 
-doubled_all : (ts : List (ℕ × Linear ℕ)) → AreDoubled ((1, 0) ∷ named_from 1 ts 1) ((2, 0) ∷ named_from 2 ts 1)
+pub doubled_all : (ts : List (ℕ × Linear ℕ)) → AreDoubled ((1, 0) ∷ named_from 1 ts 1) ((2, 0) ∷ named_from 2 ts 1)
 doubled_all ts = (refl, refl, doubled_from ts 1)
 
 once_above : (x : ℕ) → 0 < x → 0 < 1 * x
@@ -130,7 +130,7 @@ once_above x h = omega (arith, h)
 twice_above : (x : ℕ) → 0 < x → 0 < 2 * x
 twice_above x h = omega (arith, h)
 
-stated_is : (forms : List (Linear ℕ)) (ms : List (ℕ × ℕ)) (f : Linear ℕ) → stated_sum forms ms ≡ Some f → combined forms ms ≡ Some f
+pub stated_is : (forms : List (Linear ℕ)) (ms : List (ℕ × ℕ)) (f : Linear ℕ) → stated_sum forms ms ≡ Some f → combined forms ms ≡ Some f
 stated_is forms ms f e = by (all_fit ms) e
   where
     by : (b : Bool) → cond b (combined forms ms) None ≡ Some f → combined forms ms ≡ Some f
@@ -144,7 +144,7 @@ module _ (types : List Entry) (Closable : Node → Type 0) (steps : Steps types 
   abbrev labels : List ℕ
   labels = classes (present base) base.literals
 
-  once : NamesOnce (at (present base)) (length (present base))
+  pub once : NamesOnce (at (present base)) (length (present base))
   once = places_once (present base) (present_distinct base)
 
   abbrev Has : Node → Linear ℕ → Type 0
@@ -154,12 +154,12 @@ module _ (types : List Entry) (Closable : Node → Type 0) (steps : Steps types 
   Have node fs = HaveForms (at terms) (length terms) once node fs
 
   -- a number of an Int term that is a variable
-  record IsFine (k : ℕ) : Type 0 where
-    below : k < length (present base)
-    variable : is_variable (at (present base) k) ≡ true
-    int : sort_in (at (present base) k) ≡ int_sort
+  pub record IsFine (k : ℕ) : Type 0 where
+    pub below : k < length (present base)
+    pub variable : is_variable (at (present base) k) ≡ true
+    pub int : sort_in (at (present base) k) ≡ int_sort
 
-  abbrev AreFine : List (ℤ × ℕ) → Type 0
+  abbrev pub AreFine : List (ℤ × ℕ) → Type 0
   AreFine [] = Unit {0}
   AreFine (p ∷ ps) = IsFine p.1 × AreFine ps
 
@@ -172,7 +172,7 @@ module _ (types : List Entry) (Closable : Node → Type 0) (steps : Steps types 
 
   -- ---- chains to the first of a class
 
-  vals : (v w : Term) → has_literal base.literals (record { atom = two equal v w; holds = true }) ≡ true → (sort_in v ≡ val_sort) × (sort_in w ≡ val_sort)
+  pub vals : (v w : Term) → has_literal base.literals (record { atom = two equal v w; holds = true }) ≡ true → (sort_in v ≡ val_sort) × (sort_in w ≡ val_sort)
   vals v w e = let is = literal_formula base.literals (record { atom = two equal v w; holds = true }) sorted.literals e in (is.0.0, is.0.2.0)
 
   -- two different variables, each at most the other
@@ -193,14 +193,14 @@ module _ (types : List Entry) (Closable : Node → Type 0) (steps : Steps types 
         },
       )
 
-  not_same : (v w : ℕ) → v < length terms → w < length terms → eqb w v ≡ false → same_term (at terms v) (at terms w) ≡ false
+  pub not_same : (v w : ℕ) → v < length terms → w < length terms → eqb w v ≡ false → same_term (at terms v) (at terms w) ≡ false
   not_same v w lv lw e = by (same_term (at terms v) (at terms w)) refl
     where
       by : (b : Bool) → same_term (at terms v) (at terms w) ≡ b → b ≡ false
       by true f = absurd (apart_ways (eqb w v) (eq-eqb w v (one_place terms (present_distinct base) w v lw lv (sym (terms_are (at terms v) (at terms w) f)))) e)
       by false f = refl
 
-  eqb_back : (v w : ℕ) → eqb w v ≡ false → eqb v w ≡ false
+  pub eqb_back : (v w : ℕ) → eqb w v ≡ false → eqb v w ≡ false
   eqb_back v w e = by (eqb v w) refl
     where
       by : (b : Bool) → eqb v w ≡ b → b ≡ false
@@ -311,7 +311,7 @@ module _ (types : List Entry) (Closable : Node → Type 0) (steps : Steps types 
         int = ap sort_in one ∙ int;
       }
 
-  fine_numbered : (ps : List (ℤ × Term)) → AreOnes (standing base) ps → AreVariables ps → AreFine (map (numbered_part (present base)) ps)
+  pub fine_numbered : (ps : List (ℤ × Term)) → AreOnes (standing base) ps → AreVariables ps → AreFine (map (numbered_part (present base)) ps)
   fine_numbered [] ones variables = tt
   fine_numbered (p ∷ ps) ones variables =
       let has = has_a_place base p.1 ones.0 in (
@@ -319,7 +319,7 @@ module _ (types : List Entry) (Closable : Node → Type 0) (steps : Steps types 
         fine_numbered ps ones.1 variables.1,
       )
 
-  all_placed : (ps : List (ℤ × Term)) → AreOnes (standing base) ps → ArePlaced (present base) ps
+  pub all_placed : (ps : List (ℤ × Term)) → AreOnes (standing base) ps → ArePlaced (present base) ps
   all_placed [] ones = tt
   all_placed (p ∷ ps) ones = (has_a_place base p.1 ones.0, all_placed ps ones.1)
 
@@ -361,12 +361,12 @@ module _ (types : List Entry) (Closable : Node → Type 0) (steps : Steps types 
 
   -- ---- all forms
 
-  abbrev AreHandled : List Replaced → Type 0
+  abbrev pub AreHandled : List Replaced → Type 0
   AreHandled [] = Unit {0}
   AreHandled (r ∷ rs) = ((node : Node) → HasLiterals base node → Handled node r) × AreHandled rs
 
   -- each of these is a literal of the node
-  abbrev AreThere : List Literal → Type 0
+  abbrev pub AreThere : List Literal → Type 0
   AreThere [] = Unit {0}
   AreThere (l ∷ ls) = (has_literal base.literals l ≡ true) × AreThere ls
 
@@ -374,7 +374,7 @@ module _ (types : List Entry) (Closable : Node → Type 0) (steps : Steps types 
   with_form_handled l rest None e here is among h = h
   with_form_handled l rest (Some whole) e here is among h = (form_handled l here is among whole e, h)
 
-  forms_handled : (ls : List Literal) → AreThere ls → AreSortedLiterals ls → AreAmong (standing base) (in_literals ls) → AreHandled (replaced_forms (present base) labels ls)
+  pub forms_handled : (ls : List Literal) → AreThere ls → AreSortedLiterals ls → AreAmong (standing base) (in_literals ls) → AreHandled (replaced_forms (present base) labels ls)
   forms_handled [] there are among = tt
   forms_handled (l ∷ ls) there are among =
       let apart = one_literal (standing base) l ls among in
@@ -387,7 +387,7 @@ module _ (types : List Entry) (Closable : Node → Type 0) (steps : Steps types 
   one_refutes node more (refutes ∷ rs) h e = h.0 node more
   one_refutes node more (leaves ∷ rs) h e = one_refutes node more rs h.1 e
 
-  all_plain : (rs : List Replaced) → AreHandled rs → ArePlain (forms_in rs)
+  pub all_plain : (rs : List Replaced) → AreHandled rs → ArePlain (forms_in rs)
   all_plain [] h = tt
   all_plain (gone ∷ rs) h = all_plain rs h.1
   all_plain (given f ∷ rs) h = (tidy_plain f (h.0 base (has_self base)).1, all_plain rs h.1)
@@ -419,7 +419,7 @@ module _ (types : List Entry) (Closable : Node → Type 0) (steps : Steps types 
       by false true is g = absurd cc
       by false false is g = end_closes rs (elimination (forms_in rs)) h refl g node more
 
-  all_there : (ls : List Literal) → ((l : Literal) → has_literal ls l ≡ true → has_literal base.literals l ≡ true) → AreThere ls
+  pub all_there : (ls : List Literal) → ((l : Literal) → has_literal ls l ≡ true → has_literal base.literals l ≡ true) → AreThere ls
   all_there [] h = tt
   all_there (l ∷ ls) h = (h l (has_first l ls), all_there ls (λ k e. h k (has_later l k ls e)))
 

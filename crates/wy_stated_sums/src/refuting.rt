@@ -1,19 +1,52 @@
-//! The steps of elimination, written.
+//! Nodes that elimination refutes, closed.
 ghost use Rattle.std.specs.Prelude.{List, IfOk, OnOk};
 ghost use Rattle.wy_drafts.specs.Draft.{IsDraft, seen_draft};
 ghost use Rattle.wy_facts.specs.Seen.{Stays};
+ghost use Rattle.wy_judge.specs.Node.{Node};
 ghost use Rattle.wy_judging.specs.Seen.{seen_branch, IsBranch};
 ghost use Rattle.wy_linked_classes.specs.Linked.{AreLinkedClasses, IsBase};
+ghost use Rattle.wy_search.specs.Bounds as bounds;
+ghost use Rattle.wy_search.specs.Classes.{classes};
+ghost use Rattle.wy_search.specs.Standing.{present};
 ghost use Rattle.wy_stated_sums.specs.Refuted.{EndsIfRefuted};
+ghost use Rattle.wy_stated_sums.specs.Replacing.{AreStated, IsLinked};
 ghost use Rattle.wy_term.specs.Condition.{Entry};
 ghost use Rattle.wy_term.specs.Nodes.{tree_at};
 
+use crate::classed::classes_of;
+use crate::literals::take_literal;
+use crate::stated::{Stated, Turn, nothing_stated};
+use crate::steps::write_steps;
 use wy_drafts::Draft;
+use wy_eliminate::{Elim, eliminate};
 use wy_judging::Branch;
 use wy_term::{NoMemory, Terms};
 
+// Writes the steps by which elimination refutes the forms of a node, where all are stated, and says whether it did.
+fn close_by_forms(terms: &mut Terms, draft: &mut Draft, stated: Stated) -> Result<bool, NoMemory>
+    requires draft { IsDraft terms.old draft.old }
+    ensures value { (types : List Entry) (base : Node) → IsLinked base (seen_draft (tree_at terms.old) draft.old).node → AreStated base (seen_draft (tree_at terms.old) draft.old).node.literals (bounds.replaced_forms (present base) (classes (present base) base.literals) base.literals) stated → IfOk result (EndsIfRefuted types base (seen_draft (tree_at terms.old) draft.old) (seen_draft (tree_at terms.new) draft.new)) }
+    ensures draft { OnOk result (IsDraft terms.new draft.new) }
+    ensures stays { Stays terms.old terms.new }
+{
+    if stated.leaves {
+        return Ok(false);
+    }
+    match eliminate(terms.allocator(), stated.forms) {
+        Ok(Elim::Refuted(steps)) => write_steps(
+            terms,
+            draft,
+            stated.numbers,
+            steps.list.as_slice(),
+        ),
+        Ok(_) => Ok(false),
+        Err(_) => Err(NoMemory),
+    }
+}
+
 /// Writes the cuts and the sum by which elimination refutes a node, the base, of which the draft's node has at least as much and joins the
-/// classes, and says whether it did.
+/// classes, and says whether it did. It takes the time of elimination, and for each literal that of its form and of the cut that states
+/// what replacing leaves of it.
 pub fn close_by_elimination(
     terms: &mut Terms,
     draft: &mut Draft,
@@ -25,5 +58,14 @@ pub fn close_by_elimination(
     ensures draft { OnOk result (IsDraft terms.new draft.new) }
     ensures stays { Stays terms.old terms.new }
 {
-    Err(NoMemory)
+    let classed = classes_of(terms, base)?;
+    let mut stated = nothing_stated(terms.allocator());
+    for i in 0..base.literals.len() {
+        match take_literal(terms, draft, base, &classed, i, &mut stated)? {
+            Turn::GoesOn => {}
+            Turn::Closes => return Ok(true),
+            Turn::Lacks => return Ok(false),
+        }
+    }
+    close_by_forms(terms, draft, stated)
 }
