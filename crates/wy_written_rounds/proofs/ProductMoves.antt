@@ -1,5 +1,5 @@
 -- Products of bounds.
-use Rattle.std.proofs.Common.{◌≡◌, ◌∙◌, ◌-◌, ℕ, zero, suc, List, [], ◌∷◌, Bool, true, false, cond, eqb, ℤ, Option, Some, None, Result, refl, sym, ap, ap₂, subst}
+use Rattle.std.proofs.Common.{◌≡◌, ◌∙◌, ◌-◌, ℕ, List, Bool, true, false, cond, eqb, ℤ, Option, Some, None, Result, refl, sym, ap₂, subst}
 use Rattle.std.specs.Prelude.{slice_get, IfNone, IfOk, IfSome}
 use Rattle.wy_bounds.specs.Bounds.{AreBounds, Pushes}
 use Rattle.wy_bounds.specs.declared.tightest.Bound.{Bound}
@@ -13,11 +13,10 @@ use Rattle.wy_term.specs.Term.{Term}
 use Rattle.wy_lin.specs.Linear.{◌>>=◌, Linear}
 use Rattle.wy_lin.specs.TermForm.{form_of, form_of_literal}
 use Rattle.wy_lin.proofs.OptionLemmas.{some_is}
-use Rattle.wy_judge.specs.Node.{Literal, Node, same_literal, has_literal}
+use Rattle.wy_judge.specs.Node.{Literal, Node, has_literal}
 use Rattle.wy_valid.specs.Literals.{literal_at, formula_of}
 use Rattle.wy_valid.specs.Sums.{form_at}
 use Rattle.wy_valid.specs.Products.{Affine, affine, as_product, product_of, product_stated}
-use Rattle.wy_closing.proofs.AtLeastLemmas.{literal_self}
 
 -- a literal with a number stands there
 pub numbered_there : (ls : List Literal) (i : ℕ) (l : Literal) → literal_at ls i ≡ Some l → has_literal ls l ≡ true
