@@ -1,14 +1,16 @@
-//! A round of expansion, with its steps.
-ghost use Rattle.std.specs.Prelude.{◌<◌, IfOk, OnOk, length};
+//! Half a round of expansion, with its steps.
+ghost use Rattle.std.specs.Prelude.{◌<◌, IfOk, IfSome, OnOk, length};
+ghost use Rattle.wy_drafts.specs.Draft.{IsDraft};
 ghost use Rattle.wy_facts.specs.Membership.{AreTypesBelow};
 ghost use Rattle.wy_facts.specs.Seen.{AreBelow, Stays};
 ghost use Rattle.wy_searching.specs.StatedSeen.{IsSpot};
 ghost use Rattle.wy_judging.specs.Seen.{IsBranch};
 
+use crate::additions::make_additions;
 use crate::binding::without_binding;
 use crate::facts::push_facts;
-use crate::manner::Manner;
 use crate::products::push_products;
+use wy_drafts::Draft;
 use wy_explaining::{Action, Named};
 use wy_judging::{Branch, add_all, has_literal, nth_literal};
 use wy_searching::{
@@ -263,14 +265,12 @@ fn grown(
     })
 }
 
-/// One round of the search: witnesses, instances, facts, products, each read from the node as the item before left it, and
-/// the steps by which a certificate adds these. In a first half, facts that bind a name are left out. Older numbers name what
-/// they named.
-pub fn expanded(
+// Half a round of the search: witnesses, instances, facts, products, each read from the node as the item before left it, and the
+// steps by which a certificate adds these. In a first half, facts that bind a name are left out.
+fn expanded(
     terms: &mut Terms,
     cond: &Cond,
     spot: Spot,
-    manner: Manner,
     plan: &mut Vec<Action>,
 ) -> Result<Spot, NoMemory>
     requires types { AreTypesBelow (length terms.old) cond.now }
@@ -279,9 +279,52 @@ pub fn expanded(
     ensures spot { IfOk result (IsSpot terms.new) }
     ensures stays { Stays terms.old terms.new }
 {
-    let is_first_half = manner.is_first_half(spot.rounds);
+    let is_first_half = spot.rounds == 0 || spot.rounds == 2;
     let rounds = spot.rounds + 1;
     push_witnesses(terms, &spot.branch, &spot.had, plan)?;
     let found = with_witnesses(terms, spot)?;
     grown(terms, cond, found, rounds, is_first_half, plan)
+}
+
+// Half a round and its steps.
+fn expanded_beside(
+    terms: &mut Terms,
+    cond: &Cond,
+    draft: &mut Draft,
+    spot: Spot,
+) -> Result<Spot, NoMemory>
+    requires types { AreTypesBelow (length terms.old) cond.now }
+    requires draft { IsDraft terms.old draft.old }
+    requires spot { IsSpot terms.old spot }
+    requires rounds { spot.rounds < 4 }
+    ensures spot { IfOk result (IsSpot terms.new) }
+    ensures draft { OnOk result (IsDraft terms.new draft.new) }
+    ensures stays { Stays terms.old terms.new }
+{
+    let mut plan = Vec::new(terms.allocator());
+    let more = expanded(terms, cond, spot, &mut plan)?;
+    make_additions(terms, draft, cond, &plan)?;
+    Ok(more)
+}
+
+/// Half a round of the search at a node, at most four on a path, and its steps written to a draft. The node behind it. Older numbers
+/// name what they named.
+pub fn half_round(
+    terms: &mut Terms,
+    cond: &Cond,
+    draft: &mut Draft,
+    spot: Spot,
+) -> Result<Option<Spot>, NoMemory>
+    requires types { AreTypesBelow (length terms.old) cond.now }
+    requires draft { IsDraft terms.old draft.old }
+    requires spot { IsSpot terms.old spot }
+    ensures spot { IfOk result (λ o. IfSome o (IsSpot terms.new)) }
+    ensures draft { OnOk result (IsDraft terms.new draft.new) }
+    ensures stays { Stays terms.old terms.new }
+{
+    if spot.rounds >= 4 {
+        return Ok(None);
+    }
+    let more = expanded_beside(terms, cond, draft, spot)?;
+    Ok(Some(more))
 }
