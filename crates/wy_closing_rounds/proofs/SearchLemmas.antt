@@ -43,7 +43,11 @@ pub folded_atoms : (ls : List Literal) → AreFoldedLiterals ls → AreFoldedAto
 folded_atoms [] h = tt
 folded_atoms (l ∷ ls) h = (h.0, folded_atoms ls h.1)
 
-folded_formulas : (fs : List Term) → AreFoldedTerms fs → AreFoldedFormulas fs
+pub atoms_folded : (ls : List Literal) → AreFoldedAtoms ls → AreFoldedLiterals ls
+atoms_folded [] h = tt
+atoms_folded (l ∷ ls) h = (h.0, atoms_folded ls h.1)
+
+pub folded_formulas : (fs : List Term) → AreFoldedTerms fs → AreFoldedFormulas fs
 folded_formulas [] h = tt
 folded_formulas (f ∷ fs) h = (h.0, folded_formulas fs h.1)
 
