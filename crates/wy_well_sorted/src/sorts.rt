@@ -1,8 +1,8 @@
 //! Which sort a term is of.
-ghost use Rattle.std.specs.Prelude.{◌≡◌, ◌<◌, length, IsTrue, All};
+ghost use Rattle.std.specs.Prelude.{◌≡◌, ◌<◌, ◌↔◌, length, IsTrue};
 ghost use Rattle.wy_term.specs.Nodes.{tree_at};
 ghost use Rattle.wy_term.specs.Sorts.{sort_in};
-ghost use Rattle.wy_well_sorted.specs.Sorts.{seen_sort, AreOfSort};
+ghost use Rattle.wy_well_sorted.specs.Sorts.{seen_sort};
 
 use wy_term::{Node, Terms};
 
@@ -32,27 +32,10 @@ fn sort_at(terms: &Terms, term: u32) -> Sort
 }
 
 /// Whether a term is of a sort, in constant time.
+#[tactic(auto, using(crate::proofs::SortLemmas::same_sorts))]
 pub fn is_of_sort(terms: &Terms, term: u32, sort: Sort) -> bool
     requires { term < length terms.now }
-    ensures value { IsTrue result → sort_in (tree_at terms.now term) ≡ seen_sort sort }
+    ensures exactly { IsTrue result ↔ (sort_in (tree_at terms.now term) ≡ seen_sort sort) }
 {
-    match (sort_at(terms, term), sort) {
-        (Sort::Int, Sort::Int) => true,
-        (Sort::Val, Sort::Val) => true,
-        (Sort::Formula, Sort::Formula) => true,
-        _ => false,
-    }
-}
-
-/// Whether each of these terms is of a sort.
-pub fn are_of_sort(terms: &Terms, parts: &[u32], sort: Sort) -> bool
-    requires { All (λ k. k < length terms.now) parts.now }
-    ensures value { IsTrue result → AreOfSort (tree_at terms.now) (seen_sort sort) parts.now }
-{
-    for part in parts {
-        if !is_of_sort(terms, *part, sort) {
-            return false;
-        }
-    }
-    true
+    sort_at(terms, term) == sort
 }

@@ -1,67 +1,77 @@
-//! The terms of a certificate, and its steps.
-ghost use Rattle.std.specs.Prelude.{◌≡◌, ◌<◌, length, map, All, IsTrue};
+//! The steps of a certificate.
+ghost use Rattle.std.specs.Prelude.{◌≡◌, ◌<◌, ◌↔◌, length, map, true, All, IfOk, IsTrue};
 ghost use Rattle.wy_cert.specs.Steps.{IsBelow, NamesItsTerms, steps_of, written};
-ghost use Rattle.wy_sound_certificates.specs.Sortedness.{AreSortedSteps, IsSortedStep};
+ghost use Rattle.wy_sorted.specs.Sorted.{IsSorted};
+ghost use Rattle.wy_sound_certificates.specs.Sortedness.{AreSortedSteps, AreSortedTerms, IsSortedStep};
 ghost use Rattle.wy_term.specs.Nodes.{tree_at};
-ghost use Rattle.wy_well_sorted.specs.Sorts.{AreSortedBelow};
+ghost use Rattle.wy_well_sorted.specs.Sorts.{MarkSorted};
 
-use crate::places::has_sorted_parts;
-use crate::sorts::{Sort, is_of_sort};
+use crate::marks::sorted_terms;
+use crate::parts::{has_sort, is_marked};
+use crate::sorts::Sort;
 use wy_cert::{Cert, Step};
-use wy_term::Terms;
+use wy_term::{NoMemory, Terms};
 
-/// Whether each term of the list has parts of the sorts that their places want, in time linear in the terms and their parts.
-pub fn are_terms_sorted(terms: &Terms) -> bool
-    ensures value { IsTrue result → AreSortedBelow terms.now (length terms.now) }
+// Whether a term is sorted throughout.
+fn is_sorted_term(terms: &Terms, marks: &[bool], term: u32) -> bool
+    requires below { term < length marks.now }
+    requires marks { MarkSorted terms.now marks.now }
+    ensures exactly { IsTrue result ↔ IsSorted (tree_at terms.now term) }
 {
-    let Ok(count) = u32::try_from(terms.len()) else {
-        return false;
-    };
-    for number in 0..count {
-        if !has_sorted_parts(terms, terms.node(number)) {
+    let _terms = terms;
+    is_marked(marks, term)
+}
+
+// Whether each of these terms is.
+fn are_sorted_terms(terms: &Terms, marks: &[bool], all: &[u32]) -> bool
+    requires below { All (λ k. k < length marks.now) all.now }
+    requires marks { MarkSorted terms.now marks.now }
+    ensures exactly { IsTrue result ↔ AreSortedTerms (map (tree_at terms.now) all.now) }
+{
+    for term in all {
+        if !is_sorted_term(terms, marks, *term) {
             return false;
         }
     }
     true
 }
 
-// Whether a step splits on a formula, if it is a split.
-#[tactic(auto, using(crate::proofs::SortLemmas::chain_sorted, crate::proofs::SortLemmas::fact_sorted))]
-fn splits_on_formula(terms: &Terms, step: &Step) -> bool
-    requires below { IsBelow (length terms.now) step.now }
-    requires sorted { AreSortedBelow terms.now (length terms.now) }
-    ensures value { IsTrue result → IsSortedStep (written (tree_at terms.now) step.now) }
+// Whether a step splits on a formula, if it is a split, and its terms are sorted throughout.
+fn is_sorted_step(terms: &Terms, marks: &[bool], step: &Step) -> bool
+    requires below { IsBelow (length marks.now) step.now }
+    requires marks { MarkSorted terms.now marks.now }
+    ensures exactly { IsTrue result ↔ IsSortedStep (written (tree_at terms.now) step.now) }
 {
     match step {
-        Step::Split(atom) => is_of_sort(terms, *atom, Sort::Formula),
+        Step::Split(atom) => has_sort(terms, marks, *atom, Sort::Formula),
+        Step::Inst(_, term) | Step::Prod(_, _, term) => is_sorted_term(terms, marks, *term),
+        Step::Chain(all) => are_sorted_terms(terms, marks, all),
+        Step::Fact(_, all) => are_sorted_terms(terms, marks, all),
         Step::Shut | Step::Clash(_, _) | Step::Sum(_) | Step::Cut(_, _) | Step::Wit(_) => true,
-        Step::Inst(_, _) | Step::Prod(_, _, _) => true,
-        Step::Chain(_) | Step::Fact(_, _) => true,
     }
 }
 
-/// Whether a certificate splits on formulas alone, and its terms have parts of the sorts that their places want. It takes time
-/// linear in the certificate, and no memory.
-pub fn is_certificate_sorted(cert: &Cert) -> bool
-    requires { NamesItsTerms cert.now }
-    ensures value { IsTrue result → AreSortedSteps (steps_of cert.now) }
-{
-    if !are_terms_sorted(&cert.terms) {
-        return false;
-    }
-    are_steps_sorted(&cert.terms, &cert.steps)
-}
-
-// Whether each step that is a split splits on a formula.
-fn are_steps_sorted(terms: &Terms, steps: &[Step]) -> bool
-    requires below { All (IsBelow (length terms.now)) steps.now }
-    requires sorted { AreSortedBelow terms.now (length terms.now) }
-    ensures value { IsTrue result → AreSortedSteps (map (written (tree_at terms.now)) steps.now) }
+// Whether each step does, and its terms are.
+fn are_sorted_steps(terms: &Terms, marks: &[bool], steps: &[Step]) -> bool
+    requires below { All (IsBelow (length marks.now)) steps.now }
+    requires marks { MarkSorted terms.now marks.now }
+    ensures exactly { IsTrue result ↔ AreSortedSteps (map (written (tree_at terms.now)) steps.now) }
 {
     for step in steps {
-        if !splits_on_formula(terms, step) {
+        if !is_sorted_step(terms, marks, step) {
             return false;
         }
     }
     true
+}
+
+/// Whether a certificate splits on formulas alone, and the terms that its steps name have parts of the sorts that their places
+/// want. It takes time linear in the certificate, and a mark for each of its terms.
+pub fn is_certificate_sorted(cert: &Cert) -> Result<bool, NoMemory>
+    requires { NamesItsTerms cert.now }
+    ensures exactly { IfOk result (λ b. (b ≡ true) ↔ AreSortedSteps (steps_of cert.now)) }
+    ensures value { IfOk result (λ b. IsTrue b → AreSortedSteps (steps_of cert.now)) }
+{
+    let marks = sorted_terms(&cert.terms)?;
+    Ok(are_sorted_steps(&cert.terms, &marks, &cert.steps))
 }
