@@ -1,5 +1,6 @@
 -- What becomes of a draft by the steps of a plan.
-use Rattle.std.specs.Prelude.{ℕ, List, list_any, nat_eq, ◌≡◌, Bool, true, false, All}
+use Rattle.std.specs.Prelude.{ℕ, List, nat_eq, ◌≡◌, Bool, true, false, All}
+use Rattle.std.specs.List.{list_any}
 use Rattle.wy_term.specs.Condition.{Entry}
 use Rattle.wy_term.specs.Nodes.{Plain, tree_at}
 use Rattle.wy_sorted.specs.Sorted.{IsSorted}

@@ -32,12 +32,7 @@ fn are_among(known: &[u32], all: &[u32]) -> bool
 }
 
 // The equality of a chain's ends, if its terms are among those that are known.
-fn chain(
-    terms: &mut Terms,
-    draft: &mut Draft,
-    known: &[u32],
-    all: &[u32],
-) -> Result<(), NoMemory>
+fn chain(terms: &mut Terms, draft: &mut Draft, known: &[u32], all: &[u32]) -> Result<(), NoMemory>
     requires draft { IsDraft terms.old draft.old }
     requires known { AreBelow (length terms.old) known.now }
     ensures value { (types : List Entry) → AreSortedAt terms.old known.now → OnOk result (Goes types (seen_draft (tree_at terms.old) draft.old) (seen_draft (tree_at terms.new) draft.new)) }
@@ -54,12 +49,7 @@ fn chain(
 // ---- steps that close the node
 
 // `shut`, or else `clash` of one literal or two.
-fn clash(
-    terms: &Terms,
-    draft: &mut Draft,
-    i: Named,
-    other: Option<Named>,
-) -> Result<bool, NoMemory>
+fn clash(terms: &Terms, draft: &mut Draft, i: Named, other: Option<Named>) -> Result<bool, NoMemory>
     requires draft { IsDraft terms.now draft.old }
     ensures value { (types : List Entry) → IfOk result (GoesOrEnds types (seen_draft (tree_at terms.now) draft.old) (seen_draft (tree_at terms.now) draft.new)) }
     ensures draft { OnOk result (IsDraft terms.now draft.new) }
@@ -107,11 +97,7 @@ fn sum(
 // ---- cuts
 
 // The number of a formula that a cut stated, and 0 where it states none, which is no literal's number.
-fn number_stated(
-    terms: &Terms,
-    draft: &Draft,
-    formula: Option<u32>,
-) -> Result<u32, NoMemory>
+fn number_stated(terms: &Terms, draft: &Draft, formula: Option<u32>) -> Result<u32, NoMemory>
     requires draft { IsDraft terms.now draft.now }
     requires formula { IfSome formula (λ f. f < length terms.now) }
 {
