@@ -1,5 +1,6 @@
 -- A draft and what it stands for, as terms and steps are added.
 use Rattle.std.proofs.Common.{◌≡◌, ◌<◌, ◌≤◌, ℕ, zero, suc, List, [], ◌∷◌, ◌++◌, All, map, length, get_or, refl, sym, ap, ◌∙◌, subst, arith}
+use Rattle.std.proofs.lemmas.List.{map-append}
 use Rattle.wy_term.specs.Nodes.{Plain, tree_at}
 use Rattle.wy_facts.specs.Seen.{AreBelow, Stays}
 use Rattle.wy_facts.proofs.StepLemmas.{terms_kept}
@@ -11,6 +12,7 @@ use Rattle.wy_cert.specs.declared.step.Step.TheVariants as step
 use Rattle.wy_cert.specs.Steps.{Written, split, chain, inst, fact, prod, written, IsBelow}
 use Rattle.wy_drafts.specs.declared.draft.Draft.{Draft}
 use Rattle.wy_drafts.specs.Progress.{Progress}
+use Rattle.wy_drafts.specs.Adding.{with_step}
 use Rattle.wy_drafts.specs.Draft.{IsDraft, seen_draft}
 
 abbrev pub progress : List Written → Node → Progress
@@ -67,3 +69,31 @@ draft_stays old new d stays is = record { steps = is.steps; branch = branch_stay
 
 pub seen_draft_stays : (old new : List Plain) (d : Draft) → Stays old new → IsDraft old d → seen_draft (tree_at new) d ≡ seen_draft (tree_at old) d
 seen_draft_stays old new d stays is = ap (progress (map (written (tree_at d.terms)) d.steps.items)) (node_stays old new d.branch stays is.branch)
+
+-- ---- a step more
+
+pub no_steps : (n : ℕ) (ss : List Step) → ss ≡ [] → All (IsBelow n) ss
+no_steps n ss none = subst (All (IsBelow n)) (sym none) (λ i d lt. absurd (omega (arith, lt)))
+
+pub steps_more : (n : ℕ) (ss new : List Step) (s : Step) → new ≡ ss ++ s ∷ [] → All (IsBelow n) ss → IsBelow n s → All (IsBelow n) new
+steps_more n ss new s is all last = subst (All (IsBelow n)) (sym is) (by ss all)
+  where
+    put : (x : Step) (xs : List Step) → IsBelow n x → All (IsBelow n) xs → All (IsBelow n) (x ∷ xs)
+    put x xs h hs zero d lt = h
+    put x xs h hs (suc i) d lt = hs i d (omega (arith, lt))
+
+    by : (xs : List Step) → All (IsBelow n) xs → All (IsBelow n) (xs ++ s ∷ [])
+    by [] h = put s [] last (λ i d lt. absurd (omega (arith, lt)))
+    by (x ∷ xs) h = put x (xs ++ s ∷ []) (first_of (IsBelow n) x xs h) (by xs (rest_of (IsBelow n) x xs h))
+
+-- a step that names terms of the longer list of the draft's own, behind the others
+pub put_seen : (own grown : List Plain) (ss ts : List Step) (s : Step) (w : Written) (node : Node) → Stays own grown → All (IsBelow (length own)) ss → ts ≡ ss ++ s ∷ [] → written (tree_at grown) s ≡ w
+    → progress (map (written (tree_at grown)) ts) node ≡ with_step (progress (map (written (tree_at own)) ss) node) w
+put_seen own grown ss ts s w node stays all is e = ap (λ (xs : List Written). progress xs node)
+    (ap (map (written (tree_at grown))) is
+    ∙ (map-append (written (tree_at grown)) ss (s ∷ [])
+    ∙ (ap (λ (xs : List Written). xs ++ written (tree_at grown) s ∷ []) (steps_kept own grown ss stays all)
+    ∙ ap (λ (x : Written). map (written (tree_at own)) ss ++ x ∷ []) e)))
+
+pub put_below : (own grown : List Plain) (ss ts : List Step) (s : Step) → Stays own grown → All (IsBelow (length own)) ss → ts ≡ ss ++ s ∷ [] → IsBelow (length grown) s → All (IsBelow (length grown)) ts
+put_below own grown ss ts s stays all is last = steps_more (length grown) ss ts s is (steps_up (length own) (length grown) ss stays.grows all) last

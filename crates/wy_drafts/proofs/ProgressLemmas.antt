@@ -71,7 +71,7 @@ goes_by types s a b valid sorted written = record { more = s ∷ []; written = w
 pub goes_nowhere : (types : List Entry) (a b : Progress) → b ≡ a → Goes types a b
 goes_nowhere types a b same = subst (λ (p : Progress). Goes types a p) (sym same) (goes_self types a)
 
-pub writes_goes : (types : List Entry) (s : Written) (a b : Progress) (yes : Bool) → IsSortedStep s → Writes types s a b yes → Goes types a b
+pub writes_goes : (types : List Entry) (s : Written) (a b : Progress) (valid : Bool) → IsSortedStep s → Writes types s a b valid → Goes types a b
 writes_goes types s a b true sorted h = h.1 sorted
 writes_goes types s a b false sorted h = goes_nowhere types a b h.1
 
@@ -85,8 +85,8 @@ closed_never : (may : Bool) (b : Node) → only_if may closed ≡ some (b ∷ []
 closed_never true b e = cc
 closed_never false b e = cc
 
-clash_never : (o : Option Bool) (b : Node) → (o >>= λ yes. only_if yes closed) ≡ some (b ∷ []) → ⊥
-clash_never (Some yes) b e = closed_never yes b e
+clash_never : (o : Option Bool) (b : Node) → (o >>= λ may. only_if may closed) ≡ some (b ∷ []) → ⊥
+clash_never (Some may) b e = closed_never may b e
 clash_never None b e = cc
 
 one_is : (x y : Node) → some (x ∷ []) ≡ some (y ∷ []) → x ≡ y

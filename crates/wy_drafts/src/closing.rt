@@ -1,5 +1,5 @@
 //! Steps that close a node, and splits.
-ghost use Rattle.std.specs.Prelude.{◌<◌, List, IfOk, OnOk, length, map};
+ghost use Rattle.std.specs.Prelude.{◌≡◌, ◌<◌, List, IfOk, OnOk, length, map};
 ghost use Rattle.wy_cert.specs.Steps.{clash, shut, split, sum_of};
 ghost use Rattle.wy_drafts.specs.Draft.{IsDraft, seen_draft};
 ghost use Rattle.wy_drafts.specs.Progress.{Closes, Splits};

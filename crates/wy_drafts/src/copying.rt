@@ -45,6 +45,10 @@ pub fn own_step(own: &mut Terms, terms: &Terms, step: Step) -> Result<Step, NoMe
         Step::Inst(i, t) => Ok(Step::Inst(i, own_term(own, terms, t)?)),
         Step::Fact(schema, all) => Ok(Step::Fact(schema, own_terms(own, terms, &all)?)),
         Step::Prod(i, j, p) => Ok(Step::Prod(i, j, own_term(own, terms, p)?)),
-        other => Ok(other),
+        Step::Shut => Ok(Step::Shut),
+        Step::Clash(i, other) => Ok(Step::Clash(i, other)),
+        Step::Sum(pairs) => Ok(Step::Sum(pairs)),
+        Step::Cut(d, pairs) => Ok(Step::Cut(d, pairs)),
+        Step::Wit(i) => Ok(Step::Wit(i)),
     }
 }

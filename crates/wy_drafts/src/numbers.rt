@@ -21,7 +21,7 @@ pub fn literal_number(
     ensures there { IfOk result (λ o. IfSome o (λ k. literal_at (seen_branch (tree_at terms.now) branch.now).literals k ≡ Some (seen_literal (tree_at terms.now) (atom, holds)))) }
     ensures lacking { IfOk result (λ o. IfNone o (has_literal (seen_branch (tree_at terms.now) branch.now).literals (seen_literal (tree_at terms.now) (atom, holds)) ≡ false)) }
 {
-    let _terms = terms;
+    terms.one_number_for_each_term();
     match branch.literals.get_index_of(&(atom, holds)) {
         Some(i) => match u32::try_from(i) {
             Ok(k) => match k.checked_add(1) {
