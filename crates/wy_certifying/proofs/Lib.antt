@@ -6,3 +6,7 @@ pub mod TrackLemmas
 pub mod SplitLemmas
 -- numbers of terms of sorted parts, and plans over them
 pub mod PlanLemmas
+-- the walk, turn by turn
+pub mod WalkLemmas
+-- closed nodes
+pub mod LeafLemmas

@@ -124,7 +124,7 @@ open_never c budget all n p ps why is apart h = let t = turned_to c budget all n
 
 -- ---- nodes beside one another
 
-same_beside : (types : List Entry) (p : Spot) (d e : Progress) → e.node ≡ d.node → IsBeside types p d → IsBeside types p e
+pub same_beside : (types : List Entry) (p : Spot) (d e : Progress) → e.node ≡ d.node → IsBeside types p d → IsBeside types p e
 same_beside types p d e same h = record {
   entries = h.entries;
   closed = h.closed;
