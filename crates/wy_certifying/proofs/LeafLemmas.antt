@@ -1,5 +1,7 @@
 -- What becomes of a draft at a closed node.
 use Rattle.std.proofs.Common.{◌≡◌, ◌∙◌, List, Bool, true, false, inl, inr, sym, subst}
+use Rattle.std.specs.Prelude.{Result, IfOk}
+use Rattle.std.proofs.lemmas.Result.{IfOk-weaker}
 use Rattle.wy_term.specs.Condition.{Entry}
 use Rattle.wy_term.specs.Nodes.{Plain, tree_at}
 use Rattle.wy_judge.specs.Node.{Node}
@@ -38,6 +40,17 @@ pub ended_behind : (types : List Entry) (a b c : Progress) (yes : Bool) → Goes
 ended_behind types a b c true goes h = ends_behind types a b c goes h
 ended_behind types a b c false goes h = h
 
+-- ---- answers
+
+pub closes_ok : {E : Type 0} (r : Result Bool E) (types : List Entry) (s : Written) (a b : Progress) → IsSortedStep s → IfOk r (Closes types s a b) → IfOk r (GoesOrEnds types a b)
+closes_ok r types s a b sorted h = IfOk-weaker r (Closes types s a b) (GoesOrEnds types a b) (λ yes so. closes_so types s a b yes sorted so) h
+
+pub behind_ok : {E : Type 0} (r : Result Bool E) (types : List Entry) (a b c : Progress) → Goes types a b → IfOk r (GoesOrEnds types b c) → IfOk r (GoesOrEnds types a c)
+behind_ok r types a b c goes h = IfOk-weaker r (GoesOrEnds types b c) (GoesOrEnds types a c) (λ yes so. so_behind types a b c yes goes so) h
+
+pub ended_ok : {E : Type 0} (r : Result Bool E) (types : List Entry) (a b c : Progress) → Goes types a b → IfOk r (IsEnded types b c) → IfOk r (IsEnded types a c)
+ended_ok r types a b c goes h = IfOk-weaker r (IsEnded types b c) (IsEnded types a c) (λ yes so. ended_behind types a b c yes goes so) h
+
 -- ---- the plain way
 
 pub base_on : (types : List Entry) (base : Node) (a b : Progress) → Goes types a b → IsBase base a.node → IsBase base b.node
@@ -52,6 +65,9 @@ pub plainly : (types : List Entry) (base : Node) (a b c : Progress) (yes : Bool)
 plainly types base a b c true goes apart leaf h = ends_behind types a b c goes h
 plainly types base a b c false goes apart (inl e) h = let f : true ≡ false = sym e ∙ apart in absurd cc
 plainly types base a b c false goes apart (inr e) h = h.1 e
+
+pub plainly_ok : {E : Type 0} (r : Result Bool E) (types : List Entry) (base : Node) (a b c : Progress) → Goes types a b → clashes base ≡ false → IsLeaf base → IfOk r (EndsIfRefuted types base b c) → IfOk r (IsEnded types a c)
+plainly_ok r types base a b c goes apart leaf h = IfOk-weaker r (EndsIfRefuted types base b c) (IsEnded types a c) (λ yes so. plainly types base a b c yes goes apart leaf so) h
 
 -- ---- nodes beside one another
 

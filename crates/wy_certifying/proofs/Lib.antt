@@ -10,3 +10,7 @@ pub mod PlanLemmas
 pub mod WalkLemmas
 -- closed nodes
 pub mod LeafLemmas
+-- the search's nodes, judged
+pub mod TurningLemmas
+-- answers
+pub mod AnswerLemmas

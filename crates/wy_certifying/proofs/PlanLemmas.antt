@@ -32,11 +32,10 @@ get_same [] i d e lt = absurd (omega (arith, lt))
 get_same (x ∷ xs) zero d e lt = refl
 get_same (x ∷ xs) (suc i) d e lt = get_same xs i d e (omega (arith, lt))
 
--- one more of them
-pub among_more : (known ks : List ℕ) (k : ℕ) → k < length ks → list_any (λ x. nat_eq x (get_or ks k 0)) known ≡ true → ((i d : ℕ) → i < k → list_any (λ x. nat_eq x (get_or ks i d)) known ≡ true) → (i d : ℕ) → i < k + 1 → list_any (λ x. nat_eq x (get_or ks i d)) known ≡ true
-among_more known ks k within here so_far i d lt =
-    below_more (λ j. (e : ℕ) → list_any (λ x. nat_eq x (get_or ks j e)) known ≡ true) k (λ j below e. so_far j e below)
-    (λ e. ap (λ (v : ℕ). list_any (λ x. nat_eq x v) known) (get_same ks k e 0 within) ∙ here) i lt d
+-- one more of which it holds
+pub all_more : (P : ℕ → Type 0) (ks : List ℕ) (k : ℕ) → k < length ks → P (get_or ks k 0) → ((i d : ℕ) → i < k → P (get_or ks i d)) → (i d : ℕ) → i < k + 1 → P (get_or ks i d)
+all_more P ks k within here so_far i d lt =
+    below_more (λ j. (e : ℕ) → P (get_or ks j e)) k (λ j below e. so_far j e below) (λ e. subst P (get_same ks k 0 e within) here) i lt d
 
 -- ---- terms of sorted parts
 

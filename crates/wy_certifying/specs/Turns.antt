@@ -8,7 +8,7 @@ use Rattle.wy_valid.specs.Literals.{is_shut}
 use Rattle.wy_classes.specs.Seen.{terms_of, IsPresent}
 use Rattle.wy_search.specs.Standing.{present}
 use Rattle.wy_search.specs.Classes.{clashes}
-use Rattle.wy_search.specs.Bounds.{Ending, refuted, ending}
+use Rattle.wy_search.specs.Bounds.{Ending, refuted, consistent, crowded, wide, ending}
 use Rattle.wy_search.specs.Splitting.{next_atom}
 use Rattle.wy_search.specs.Expansion as search
 use Rattle.wy_search.specs.Tree as tree
@@ -22,6 +22,13 @@ use Rattle.wy_certifying.specs.declared.turning.Plan.{Plan}
 use Rattle.wy_certifying.specs.declared.turning.Leaf.{Leaf}
 use Rattle.wy_certifying.specs.declared.turning.Next.{Next}
 use Rattle.wy_certifying.specs.declared.turning.Next.TheVariants as next
+
+-- elimination ended in a refutation
+abbrev pub is_refutation : Ending → Bool
+is_refutation refuted = true
+is_refutation consistent = false
+is_refutation crowded = false
+is_refutation wide = false
 
 -- neither its literals and pending formulas nor its classes nor elimination close the node
 pub record IsOpenNode (node : Node) : Type 0 where

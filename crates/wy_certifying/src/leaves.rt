@@ -1,12 +1,13 @@
 //! Closed nodes of the search, closed in a draft.
 ghost use Rattle.std.specs.Prelude.{◌≡◌, List, IfOk, OnOk};
-ghost use Rattle.wy_certifying.specs.Plans.{GoesOrEnds, IsEnded};
+ghost use Rattle.wy_certifying.specs.Plans.{IsEnded};
 ghost use Rattle.wy_certifying.specs.Turns.{IsLeafOver};
-ghost use Rattle.wy_classes.specs.Seen.{terms_of, IsPresent};
+ghost use Rattle.wy_classes.specs.Seen.{terms_of};
 ghost use Rattle.wy_closing_rounds.specs.Leaves.{IsLeaf};
 ghost use Rattle.wy_drafts.specs.Draft.{IsDraft, seen_draft};
 ghost use Rattle.wy_facts.specs.Seen.{Stays};
 ghost use Rattle.wy_judging.specs.Seen.{seen_branch, IsBranch};
+ghost use Rattle.wy_linked_classes.specs.Linked.{IsBase};
 ghost use Rattle.wy_search.specs.Standing.{present};
 ghost use Rattle.wy_searching.specs.StatedSeen.{seen_spot};
 ghost use Rattle.wy_term.specs.Condition.{Entry};

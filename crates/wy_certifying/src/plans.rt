@@ -1,6 +1,6 @@
 //! The steps of a plan that is to close a node, written to a draft.
-ghost use Rattle.std.specs.Prelude.{◌<◌, ℕ, List, All, IfOk, IfSome, IsTrue, OnOk, length};
-ghost use Rattle.wy_certifying.specs.Plans.{AreSortedAt, GoesOrEnds};
+ghost use Rattle.std.specs.Prelude.{◌<◌, List, IfOk, IfSome, IsTrue, OnOk, length};
+ghost use Rattle.wy_certifying.specs.Plans.{AreAmong, AreSortedAt, GoesOrEnds};
 ghost use Rattle.wy_drafts.specs.Draft.{IsDraft, seen_draft};
 ghost use Rattle.wy_drafts.specs.Progress.{Goes};
 ghost use Rattle.wy_facts.specs.Seen.{AreBelow, Stays};
@@ -21,7 +21,7 @@ use wy_term::{NoMemory, Terms};
 
 // Whether each of the numbers is one of these.
 fn are_among(known: &[u32], all: &[u32]) -> bool
-    ensures { IsTrue result → (P : ℕ → Type 0) → All P known.now → All P all.now }
+    ensures { IsTrue result → AreAmong known.now all.now }
 {
     for k in all {
         if !known.contains(k) {

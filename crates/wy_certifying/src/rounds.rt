@@ -66,7 +66,8 @@ fn whole_round(
     }
     let before = size_of(&spot.branch);
     let more = write_round(terms, cond, draft, spot)?;
-    if is_more(before, size_of(&more.branch)) {
+    let after = size_of(&more.branch);
+    if is_more(before, after) {
         Ok(Some(more))
     } else {
         Ok(None)

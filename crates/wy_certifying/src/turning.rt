@@ -1,10 +1,11 @@
 //! What becomes of a node of the search.
-ghost use Rattle.std.specs.Prelude.{◌≡◌, ◌<◌, ◌↔◌, true, false, Some, IfOk, IfSome, length};
-ghost use Rattle.wy_certifying.specs.Turns.{IsClosing, IsJudged, IsNext, IsOpenNode, IsPlanOver};
+ghost use Rattle.std.specs.Prelude.{◌≡◌, ◌<◌, Some, IfOk, IfSome, length};
+ghost use Rattle.wy_bounds.specs.Seen.{seen_ending};
+ghost use Rattle.wy_certifying.specs.Turns.{is_refutation, IsClosing, IsJudged, IsNext, IsOpenNode, IsPlanOver};
 ghost use Rattle.wy_classes.specs.Seen.{terms_of, IsPresent};
 ghost use Rattle.wy_facts.specs.Seen.{Stays};
 ghost use Rattle.wy_judging.specs.Seen.{seen_branch, IsBranch};
-ghost use Rattle.wy_search.specs.Bounds.{ending_by, refuted, replaced_forms};
+ghost use Rattle.wy_search.specs.Bounds.{ending_by, replaced_forms};
 ghost use Rattle.wy_search.specs.Splitting.{next_atom};
 ghost use Rattle.wy_searching.specs.StatedSeen.{seen_spot, IsSpot};
 ghost use Rattle.wy_term.specs.Nodes.{tree_at};
@@ -47,6 +48,18 @@ pub enum Next {
 
 // ---- closed nodes
 
+// Whether elimination ended in a refutation.
+fn refutes(end: Ending) -> bool
+    ensures { result ≡ is_refutation (seen_ending end) }
+{
+    match end {
+        Ending::Refuted => true,
+        Ending::Consistent => false,
+        Ending::Crowded => false,
+        Ending::Wide => false,
+    }
+}
+
 // Whether elimination refutes a node.
 fn is_refuted(
     terms: &mut Terms,
@@ -56,14 +69,12 @@ fn is_refuted(
 ) -> Result<bool, NoMemory>
     requires branch { IsBranch terms.old branch.now }
     requires present { IsPresent terms.old present.now }
-    ensures value { IfOk result (λ yes. (yes ≡ true) ↔ (ending_by (replaced_forms (terms_of (tree_at terms.old) present.now) labels.now (seen_branch (tree_at terms.old) branch.now).literals) ≡ refuted)) }
+    ensures value { IfOk result (λ yes. yes ≡ is_refutation (ending_by (replaced_forms (terms_of (tree_at terms.old) present.now) labels.now (seen_branch (tree_at terms.old) branch.now).literals))) }
     ensures stays { Stays terms.old terms.new }
 {
     let mut known = no_forms(terms.allocator(), 0);
-    match ending_of_elimination(terms, &mut known, branch, present, labels)? {
-        Ending::Refuted => Ok(true),
-        Ending::Consistent | Ending::Crowded | Ending::Wide => Ok(false),
-    }
+    let end = ending_of_elimination(terms, &mut known, branch, present, labels)?;
+    Ok(refutes(end))
 }
 
 // The steps by which elimination refutes a node, as far as they are found.

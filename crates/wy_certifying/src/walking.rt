@@ -225,7 +225,8 @@ fn fork(
     ensures turned { (budget : ℕ) → leaves ≤ budget → IfOk result (IsTurned terms.now budget) }
 {
     let mut draft = draft;
-    if !write_split(terms, &mut draft, atom)? {
+    let splits = write_split(terms, &mut draft, atom)?;
+    if !splits {
         return Ok(Turned::Stops);
     }
     let branch = both_sides(terms, &mut draft, atom)?;

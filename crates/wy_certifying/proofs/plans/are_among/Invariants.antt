@@ -1,4 +1,4 @@
-use Rattle.std.proofs.Common.{◌≡◌, ◌<◌, ◌≤◌, ℕ, get_or, true, length}
+use Rattle.std.proofs.Common.{◌≡◌, ◌<◌, ℕ, get_or, true}
 use Rattle.std.specs.Prelude.{nat_eq}
 use Rattle.std.specs.List.{list_any}
 use Rattle.wy_certifying.proofs.plans.are_among.Given as goal
