@@ -80,10 +80,10 @@ abbrev progress : List Written → Node → Progress
 progress steps node = record { steps = steps; node = node }
 
 pub fork_left : (c : Condition) (budget all n : ℕ) (p l r : search.Spot) (d e f : Progress) (second : Node) (a : Term) (ws vs : List Pair) → n < budget → IsOpenNode p.node → next_atom p.node ≡ Some a → l ≡ with_side p a true → r ≡ with_side p a false → Splits a d e true → f ≡ record { steps = e.steps; node = added e.node a } → second ≡ denied_one e.node a → vs ≡ (r, second) ∷ ws → StandsAt c budget all n p d ws → StandsAt c budget all n l f vs
-fork_left c budget all n p l r d e f second a ws vs below open atom isl isr may isf iss isvs h =
+fork_left c budget all n p l r d e f second a ws vs below free atom isl isr may isf iss isvs h =
     let up = search.with_node p (added p.node a) in
     let down = search.with_node p (denied_one p.node a) in
-    let is : tree.next c.types p ≡ tree.splits up down = open_next c.types p open.shut open.clashes open.refuted ∙ ap (tree.on_atom c.types p (ending p.node)) atom in
+    let is : tree.next c.types p ≡ tree.splits up down = open_next c.types p free.shut free.clashes free.refuted ∙ ap (tree.on_atom c.types p (ending p.node)) atom in
     let both = split_left c budget all n p d.node d.steps ws a (λ g. omega (arith, below, g)) atom is may.0 h in
     stands_so c budget all n up l (progress (d.steps ++ split a ∷ []) (added d.node a)) f (pair down (denied_one d.node a) ∷ ws) vs isl
     (isf ∙ ap (λ (x : Progress). progress x.steps (added x.node a)) may.1)
@@ -95,18 +95,18 @@ fork_never c budget all n p d e a ws atom caught h = never_caught c budget all n
 -- ---- behind a round
 
 stays_next : (types : List Entry) (p : search.Spot) → IsOpenNode p.node → next_atom p.node ≡ None → tree.next types p ≡ tree.on_expansion types p (ending p.node)
-stays_next types p open none = open_next types p open.shut open.clashes open.refuted ∙ ap (tree.on_atom types p (ending p.node)) none
+stays_next types p free none = open_next types p free.shut free.clashes free.refuted ∙ ap (tree.on_atom types p (ending p.node)) none
 
 pub round_stands : (c : Condition) (budget all n : ℕ) (types : List Entry) (p q : search.Spot) (d e : Progress) (ws : List Pair) → c.types ≡ types → n < budget → IsOpenNode p.node → next_atom p.node ≡ None → tree.on_expansion types p (ending p.node) ≡ tree.goes_on q → Goes types d e → IsBeside types q e → StandsAt c budget all n p d ws → StandsAt c budget all n q e ws
-round_stands c budget all n types p q d e ws same below open none is goes beside h =
+round_stands c budget all n types p q d e ws same below free none is goes beside h =
     round_left c budget all n p q d e ws (λ g. omega (arith, below, g))
-    (stays_next c.types p open none ∙ (ap (λ (ts : List Entry). tree.on_expansion ts p (ending p.node)) same ∙ is))
+    (stays_next c.types p free none ∙ (ap (λ (ts : List Entry). tree.on_expansion ts p (ending p.node)) same ∙ is))
     (subst (λ (ts : List Entry). Goes ts d e) (sym same) goes) (subst (λ (ts : List Entry). IsBeside ts q e) (sym same) beside) h
 
 pub round_never : (c : Condition) (budget all n : ℕ) (types : List Entry) (p : search.Spot) (d : Progress) (ws : List Pair) → c.types ≡ types → n < budget → IsOpenNode p.node → next_atom p.node ≡ None → tree.on_expansion types p (ending p.node) ≡ tree.stays_open (tree.why_open (ending p.node)) → StandsAt c budget all n p d ws → ⊥
-round_never c budget all n types p d ws same below open none is h =
+round_never c budget all n types p d ws same below free none is h =
     never_open c budget all n p d.node d.steps ws (tree.why_open (ending p.node))
-    (stays_next c.types p open none ∙ (ap (λ (ts : List Entry). tree.on_expansion ts p (ending p.node)) same ∙ is)) (λ g. omega (arith, below, g)) h
+    (stays_next c.types p free none ∙ (ap (λ (ts : List Entry). tree.on_expansion ts p (ending p.node)) same ∙ is)) (λ g. omega (arith, below, g)) h
 
 -- the draft's node is beside the search's
 pub stands_beside : (c : Condition) (budget all n : ℕ) (p : search.Spot) (d : Progress) (ws : List Pair) (types : List Entry) → c.types ≡ types → StandsAt c budget all n p d ws → IsBeside types p d

@@ -1,6 +1,7 @@
 use Rattle.std.proofs.Common.{◌≡◌, ◌∙◌, true, false, inl, inr, refl, sym, ap, rules}
 use Rattle.wy_term.specs.Nodes.{tree_at}
 use Rattle.wy_judging.specs.Seen.{seen_branch}
+use Rattle.wy_judging.proofs.SumsBranchLemmas.{branch_stays}
 use Rattle.wy_classes.specs.Seen.{terms_of}
 use Rattle.wy_search.specs.Bounds.{ending, ending_by, replaced_forms}
 use Rattle.wy_searching.proofs.TurnLemmas.{clashes_so, ends_so}
@@ -37,3 +38,6 @@ returns-clause-value c =
       sym (clashes_so node ts c.deref.result.now c.in_ok-classes_clash.field-0 c.in_ok-present.ensures.value (c.deref.ensures.value ∙ c.in_ok-labels.ensures) c.in_ok-classes_clash.ensures) ∙ apart,
       no_refutation (ending node) (ap is_refutation (sym same) ∙ (sym c.in_ok-is_refuted.ensures.value ∙ un)),
     )
+
+pub refuting-requires-clause-branch : goal.refuting-requires-clause-branch
+refuting-requires-clause-branch c = branch_stays c.args.terms.now c.is_refuted.new.terms c.args.branch.now c.in_ok-is_refuted.ensures.stays c.requires.branch

@@ -39,5 +39,5 @@ returns-in-None-clause-value c =
     let un : c.in_ok-is_shut.field-0 ≡ false = search rules in
     let h = subst (IsClosing (tree_at old) (seen_branch (tree_at old) c.args.spot.branch)) c.in-None.is c.in_ok-plan.ensures.value in
     let same = seen_stays old new c.args.spot c.in_ok-plan.ensures.stays c.requires in
-    let open : IsOpenNode (seen_spot (tree_at old) c.args.spot).node = record { shut = sym c.in_ok-is_shut.ensures ∙ un; clashes = h.0; refuted = h.1 } in
-    subst (λ (p : Spot). IfOk c.on_open.result (IsJudged (tree_at new) p)) same (c.on_open.ensures.value (subst (λ (p : Spot). IsOpenNode p.node) (sym same) open))
+    let free : IsOpenNode (seen_spot (tree_at old) c.args.spot).node = record { shut = sym c.in_ok-is_shut.ensures ∙ un; clashes = h.0; refuted = h.1 } in
+    subst (λ (p : Spot). IfOk c.on_open.result (IsJudged (tree_at new) p)) same (c.on_open.ensures.value (subst (λ (p : Spot). IsOpenNode p.node) (sym same) free))

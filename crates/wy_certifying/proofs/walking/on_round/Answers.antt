@@ -24,12 +24,12 @@ returns-in-Some-clause-value c = λ k budget all p same manner below h judged.
     let e = seen_draft (tree_at new) c.round.new.draft in
     let ws = map (seen_waiting at) c.args.waiting.items in
     let stands = stands_so k budget all c.args.leaves p q d d ws ws judged.2 refl refl h in
-    let open = subst (λ (x : search.Spot). IsOpenNode x.node) (sym judged.2) judged.0 in
+    let free = subst (λ (x : search.Spot). IsOpenNode x.node) (sym judged.2) judged.0 in
     let none = subst (λ (x : search.Spot). next_atom x.node ≡ None) (sym judged.2) judged.1 in
     let r = subst (IsRound types q (ending q.node) (tree_at new) d e) c.in-Some.is (c.in_ok-more.ensures.value (ending q.node) manner (stands_beside k budget all c.args.leaves q d ws types same stands)) in
     let more = seen_spot (tree_at new) c.in-Some.more in
     stands_so k budget all c.args.leaves more more e e ws (map (seen_waiting (tree_at new)) c.args.waiting.items) refl refl (waiting_seen old new c.args.waiting.items c.in_ok-more.ensures.stays c.requires.waiting)
-    (round_stands k budget all c.args.leaves types q more d e ws same below open none r.0 r.1 r.2 stands)
+    (round_stands k budget all c.args.leaves types q more d e ws same below free none r.0 r.1 r.2 stands)
 
 pub returns-in-Some-clause-turned : goal.returns-in-Some-clause-turned
 returns-in-Some-clause-turned c = λ budget le. (record {
@@ -49,7 +49,7 @@ returns-in-None-clause-value c = λ k budget all p same manner below h judged.
     let e = seen_draft (tree_at new) c.round.new.draft in
     let ws = map (seen_waiting at) c.args.waiting.items in
     let stands = stands_so k budget all c.args.leaves p q d d ws ws judged.2 refl refl h in
-    let open = subst (λ (x : search.Spot). IsOpenNode x.node) (sym judged.2) judged.0 in
+    let free = subst (λ (x : search.Spot). IsOpenNode x.node) (sym judged.2) judged.0 in
     let none = subst (λ (x : search.Spot). next_atom x.node ≡ None) (sym judged.2) judged.1 in
     let r = subst (IsRound types q (ending q.node) (tree_at new) d e) c.in-None.is (c.in_ok-more.ensures.value (ending q.node) manner (stands_beside k budget all c.args.leaves q d ws types same stands)) in
-    absurd (round_never k budget all c.args.leaves types q d ws same below open none r stands)
+    absurd (round_never k budget all c.args.leaves types q d ws same below free none r stands)
