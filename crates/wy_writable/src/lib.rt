@@ -6,12 +6,7 @@
 //! writer asks too.
 #![tactic(auto)]
 
-mod arguments;
-mod folding;
 mod law;
-mod listed;
-mod numbers;
-mod ranges;
 mod testing;
 
 pub use law::valid_certificates_are_trees;
