@@ -20,17 +20,17 @@ returns-in-Some-clause-value c =
     let new = c.closing.new.terms in
     let h = subst (IsClosing (tree_at old) (seen_branch (tree_at old) c.args.spot.branch)) c.in-Some.is c.in_ok-plan.ensures.value in
     let over = subst (λ (o : Option Plan). IfSome o (IsPlanOver old)) c.in-Some.is c.in_ok-plan.ensures.plan in
-    (h.0, seen_stays old new c.args.spot c.in_ok-plan.ensures.stays c.requires, terms_kept old new c.in-Some.plan.present.numbers.items c.in_ok-plan.ensures.stays over.below ∙ h.1)
+    (h.0, seen_stays old new c.args.spot c.in_ok-plan.ensures.stays c.requires.spot, terms_kept old new c.in-Some.plan.present.numbers.items c.in_ok-plan.ensures.stays over.below ∙ h.1)
 
 pub returns-in-Some-clause-next : goal.returns-in-Some-clause-next
 returns-in-Some-clause-next c =
     let old = c.args.terms.now in
     let new = c.closing.new.terms in
     let over = subst (λ (o : Option Plan). IfSome o (IsPlanOver old)) c.in-Some.is c.in_ok-plan.ensures.plan in
-    (spot_stays old new c.args.spot c.in_ok-plan.ensures.stays c.requires, present_stays old new c.in-Some.plan.present c.in_ok-plan.ensures.stays over)
+    (spot_stays old new c.args.spot c.in_ok-plan.ensures.stays c.requires.spot, present_stays old new c.in-Some.plan.present c.in_ok-plan.ensures.stays over)
 
 pub on_open-requires : goal.on_open-requires
-on_open-requires c = record { spot = spot_stays c.args.terms.now c.closing.new.terms c.args.spot c.in_ok-plan.ensures.stays c.requires }
+on_open-requires c = record { spot = spot_stays c.args.terms.now c.closing.new.terms c.args.spot c.in_ok-plan.ensures.stays c.requires.spot }
 
 pub returns-in-None-clause-value : goal.returns-in-None-clause-value
 returns-in-None-clause-value c =
@@ -38,6 +38,6 @@ returns-in-None-clause-value c =
     let new = c.closing.new.terms in
     let un : c.in_ok-is_shut.field-0 ≡ false = search rules in
     let h = subst (IsClosing (tree_at old) (seen_branch (tree_at old) c.args.spot.branch)) c.in-None.is c.in_ok-plan.ensures.value in
-    let same = seen_stays old new c.args.spot c.in_ok-plan.ensures.stays c.requires in
+    let same = seen_stays old new c.args.spot c.in_ok-plan.ensures.stays c.requires.spot in
     let free : IsOpenNode (seen_spot (tree_at old) c.args.spot).node = record { shut = sym c.in_ok-is_shut.ensures ∙ un; clashes = h.0; refuted = h.1 } in
     subst (λ (p : Spot). IfOk c.on_open.result (IsJudged (tree_at new) p)) same (c.on_open.ensures.value (subst (λ (p : Spot). IsOpenNode p.node) (sym same) free))

@@ -32,11 +32,14 @@ returns-in-Some-clause-value c = λ k budget all p same manner below h judged.
     (round_stands k budget all c.args.leaves types q more d e ws same below free none r.0 r.1 r.2 stands)
 
 pub returns-in-Some-clause-turned : goal.returns-in-Some-clause-turned
-returns-in-Some-clause-turned c = λ budget le. (record {
+returns-in-Some-clause-turned c = λ budget le. (
+  record {
     draft = c.in_ok-more.ensures.draft;
     spot = subst (λ (o : Option Spot). IfSome o (IsSpot c.round.new.terms)) c.in-Some.is c.in_ok-more.ensures.spot;
     waiting = waiting_stay c.args.terms.now c.round.new.terms c.args.waiting.items c.in_ok-more.ensures.stays c.requires.waiting;
-}, le)
+  },
+  le,
+)
 
 pub returns-in-None-clause-value : goal.returns-in-None-clause-value
 returns-in-None-clause-value c = λ k budget all p same manner below h judged.

@@ -24,3 +24,6 @@ returns-else-branch-clause-value c = λ k all p h judged.
     let ws = map (seen_waiting at) c.args.waiting.items in
     let un : c.in_ok-close_by_shut.field-0 ≡ false = search rules in
     subst (IsEnded k.types d e) un (shut_ends k.types p d e c.in_ok-close_by_shut.field-0 judged (stands_beside k c.args.budget all c.args.leaves p d ws k.types refl h) (c.in_ok-close_by_shut.ensures.value k.types))
+
+pub returns-then-branch-clause-turned : goal.returns-then-branch-clause-turned
+returns-then-branch-clause-turned c = c.close.ensures.turned c.args.terms.now c.in_ok-close_by_shut.ensures.draft c.requires.waiting
