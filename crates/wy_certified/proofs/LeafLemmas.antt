@@ -11,14 +11,14 @@ use Rattle.wy_closed_sums.proofs.RefutedLemmas.{refuted_nodes_close}
 use Rattle.wy_closing_rounds.specs.Leaves.{AreSortedAtoms, AreFoldedAtoms, IsSortedThroughout, IsFoldedThroughout, IsLeaf, LeavesClose, FoundIsCertified}
 use Rattle.wy_closing_rounds.proofs.SearchLemmas.{found_certified}
 
-sorted_literals : (ls : List Literal) → AreSortedAtoms ls → AreLiterals ls
+pub sorted_literals : (ls : List Literal) → AreSortedAtoms ls → AreLiterals ls
 sorted_literals [] h = tt
 sorted_literals (l ∷ ls) h = (h.0, sorted_literals ls h.1)
 
 folded_is : (t : Term) → IsFolded t → folded t ≡ t
 folded_is (Of symbol ps) h = h.0
 
-folded_literals : (ls : List Literal) → AreFoldedAtoms ls → AreFolded ls
+pub folded_literals : (ls : List Literal) → AreFoldedAtoms ls → AreFolded ls
 folded_literals [] h = tt
 folded_literals (l ∷ ls) h = (folded_is l.atom h.0, folded_literals ls h.1)
 

@@ -1,42 +1,24 @@
 //! Certificates that are judged.
-ghost use Rattle.std.specs.Prelude.{◌≡◌, ◌<◌, ℕ, All, length, IfOk, IfSome};
+ghost use Rattle.std.specs.Prelude.{◌≡◌, ◌<◌, ℕ, All, length, IfNone, IfOk, IfSome};
 ghost use Rattle.wy_cert.specs.Steps.{steps_of, NamesItsTerms};
-ghost use Rattle.wy_writable.specs.Writable.{AreWritable};
+ghost use Rattle.wy_certifying.specs.Answers.{AnswersWhatIsFound, HasUnwritable};
+ghost use Rattle.wy_certifying.specs.Tracks.{IsFoundFreely};
+ghost use Rattle.wy_certifying.specs.declared.manner.Manner.TheVariants.{AsSearched};
 ghost use Rattle.wy_facts.specs.Membership.{AreTypesBelow};
 ghost use Rattle.wy_facts.specs.Seen.{Stays};
 ghost use Rattle.wy_sound_certificates.specs.Sortedness.{AreSortedSteps};
 ghost use Rattle.wy_term.specs.Condition.{condition_of};
 ghost use Rattle.wy_term.specs.Nodes.{tree_at};
 ghost use Rattle.wy_valid.specs.Validity.{IsValid};
+ghost use Rattle.wy_writable.specs.Writable.{AreWritable};
 
 use crate::manner::Manner;
-use crate::stop::Stop;
-use crate::walking::written;
+use crate::walking::written_by;
 use wy_cert::Cert;
 use wy_checking::{Checked, check};
 use wy_term::{Cond, NoMemory, Terms};
 use wy_well_sorted::is_certificate_sorted;
 use wy_writable::is_certificate_writable;
-
-// A certificate, if one could be written in this manner. It makes terms.
-fn drafted(
-    terms: &mut Terms,
-    cond: &Cond,
-    budget: u64,
-    manner: Manner,
-) -> Result<Option<Cert>, NoMemory>
-    requires hyps { All (λ h. h < length terms.old) cond.now.hyps.items }
-    requires goal { cond.now.goal < length terms.old }
-    requires types { AreTypesBelow (length terms.old) cond.now }
-    ensures names { IfOk result (λ o. IfSome o NamesItsTerms) }
-    ensures stays { Stays terms.old terms.new }
-{
-    match written(terms, cond, budget, manner) {
-        Ok(cert) => Ok(Some(cert)),
-        Err(Stop::Unwritten) => Ok(None),
-        Err(Stop::NoMemory) => Err(NoMemory),
-    }
-}
 
 // The certificate, where it is valid, its terms are of the sorts that their places want, and it can be written.
 fn judged(terms: &mut Terms, cond: &Cond, cert: Cert) -> Result<Option<Cert>, NoMemory>
@@ -44,13 +26,14 @@ fn judged(terms: &mut Terms, cond: &Cond, cert: Cert) -> Result<Option<Cert>, No
     requires goal { cond.now.goal < length terms.old }
     requires types { AreTypesBelow (length terms.old) cond.now }
     requires cert { NamesItsTerms cert }
+    ensures complete { IsValid (condition_of terms.old cond.now) (steps_of cert) → AreSortedSteps (steps_of cert) → IfOk result (λ o. IfNone o (AreWritable (steps_of cert) → ⊥)) }
     ensures valid { IfOk result (λ o. IfSome o (λ c. IsValid (condition_of terms.old cond.now) (steps_of c))) }
     ensures sorted { IfOk result (λ o. IfSome o (λ c. AreSortedSteps (steps_of c))) }
     ensures writable { IfOk result (λ o. IfSome o (λ c. AreWritable (steps_of c))) }
     ensures names { IfOk result (λ o. IfSome o NamesItsTerms) }
     ensures stays { Stays terms.old terms.new }
 {
-    if !is_certificate_sorted(&cert) {
+    if !is_certificate_sorted(&cert)? {
         return Ok(None);
     }
     if !is_certificate_writable(&cert)? {
@@ -72,13 +55,14 @@ fn found(
     requires hyps { All (λ h. h < length terms.old) cond.now.hyps.items }
     requires goal { cond.now.goal < length terms.old }
     requires types { AreTypesBelow (length terms.old) cond.now }
+    ensures complete { (leaves : ℕ) → IsFoundFreely (condition_of terms.old cond.now) budget leaves → manner ≡ AsSearched → IfOk result (λ o. IfNone o (HasUnwritable (condition_of terms.old cond.now))) }
     ensures valid { IfOk result (λ o. IfSome o (λ c. IsValid (condition_of terms.old cond.now) (steps_of c))) }
     ensures sorted { IfOk result (λ o. IfSome o (λ c. AreSortedSteps (steps_of c))) }
     ensures writable { IfOk result (λ o. IfSome o (λ c. AreWritable (steps_of c))) }
     ensures names { IfOk result (λ o. IfSome o NamesItsTerms) }
     ensures stays { Stays terms.old terms.new }
 {
-    match drafted(terms, cond, budget, manner)? {
+    match written_by(terms, cond, budget, manner)? {
         Some(cert) => judged(terms, cond, cert),
         None => Ok(None),
     }
@@ -89,6 +73,7 @@ fn found_somehow(terms: &mut Terms, cond: &Cond, budget: u64) -> Result<Option<C
     requires hyps { All (λ h. h < length terms.old) cond.now.hyps.items }
     requires goal { cond.now.goal < length terms.old }
     requires types { AreTypesBelow (length terms.old) cond.now }
+    ensures complete { (leaves : ℕ) → IsFoundFreely (condition_of terms.old cond.now) budget leaves → IfOk result (λ o. IfNone o (HasUnwritable (condition_of terms.old cond.now))) }
     ensures valid { IfOk result (λ o. IfSome o (λ c. IsValid (condition_of terms.old cond.now) (steps_of c))) }
     ensures sorted { IfOk result (λ o. IfSome o (λ c. AreSortedSteps (steps_of c))) }
     ensures writable { IfOk result (λ o. IfSome o (λ c. AreWritable (steps_of c))) }
@@ -103,15 +88,16 @@ fn found_somehow(terms: &mut Terms, cond: &Cond, budget: u64) -> Result<Option<C
 
 /// A certificate of a condition, by the search's own tree up to a budget of leaves, judged by the checker: there is one only
 /// where it is valid, its terms are of the sorts that their places want, and it can be written so that it is read again as it is.
-/// Where that tree makes none, the tree is tried that adds what binds names in the second half of a round, behind the splits on the
-/// rest. By trial there is one wherever the search finds
-/// at this budget and splits on no atom with a name that is bound in the node; no clause says so. The terms are as before
-/// afterwards, at want of memory too. It takes the search's time once more, and the checker's, and where the first tree makes none
-/// that of the second.
+/// There is one wherever the search finds at this budget, if the condition's formulas are sorted and folded and a certificate may split
+/// where the search does, unless the one that was made can't be written. Where the search's own tree makes none, the tree is tried that
+/// adds what binds names in the second half of a round, behind the splits on the rest; of that, no clause says where it makes one. The
+/// terms are as before afterwards, at want of memory too. It takes the search's time once more, and the checker's, and where the first
+/// tree makes none that of the second.
 pub fn certified(terms: &mut Terms, cond: &Cond, budget: u64) -> Result<Option<Cert>, NoMemory>
     requires hyps { All (λ h. h < length terms.old) cond.now.hyps.items }
     requires goal { cond.now.goal < length terms.old }
     requires types { AreTypesBelow (length terms.old) cond.now }
+    ensures complete { IfOk result (AnswersWhatIsFound (condition_of terms.old cond.now) budget) }
     ensures valid { IfOk result (λ o. IfSome o (λ cert. IsValid (condition_of terms.old cond.now) (steps_of cert))) }
     ensures sorted { IfOk result (λ o. IfSome o (λ cert. AreSortedSteps (steps_of cert))) }
     ensures writable { IfOk result (λ o. IfSome o (λ cert. AreWritable (steps_of cert))) }

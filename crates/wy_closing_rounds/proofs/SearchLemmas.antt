@@ -31,30 +31,34 @@ use Rattle.wy_closing_rounds.proofs.ExpandedLemmas.{expanded_grows}
 
 -- ---- sorted and folded nodes, in both words
 
-sorted_atoms : (ls : List Literal) → AreSortedLiterals ls → AreSortedAtoms ls
+pub sorted_atoms : (ls : List Literal) → AreSortedLiterals ls → AreSortedAtoms ls
 sorted_atoms [] h = tt
 sorted_atoms (l ∷ ls) h = (h.0, sorted_atoms ls h.1)
 
-atoms_sorted : (ls : List Literal) → AreSortedAtoms ls → AreSortedLiterals ls
+pub atoms_sorted : (ls : List Literal) → AreSortedAtoms ls → AreSortedLiterals ls
 atoms_sorted [] h = tt
 atoms_sorted (l ∷ ls) h = (h.0, atoms_sorted ls h.1)
 
-folded_atoms : (ls : List Literal) → AreFoldedLiterals ls → AreFoldedAtoms ls
+pub folded_atoms : (ls : List Literal) → AreFoldedLiterals ls → AreFoldedAtoms ls
 folded_atoms [] h = tt
 folded_atoms (l ∷ ls) h = (h.0, folded_atoms ls h.1)
 
-folded_formulas : (fs : List Term) → AreFoldedTerms fs → AreFoldedFormulas fs
+pub atoms_folded : (ls : List Literal) → AreFoldedAtoms ls → AreFoldedLiterals ls
+atoms_folded [] h = tt
+atoms_folded (l ∷ ls) h = (h.0, atoms_folded ls h.1)
+
+pub folded_formulas : (fs : List Term) → AreFoldedTerms fs → AreFoldedFormulas fs
 folded_formulas [] h = tt
 folded_formulas (f ∷ fs) h = (h.0, folded_formulas fs h.1)
 
-formulas_folded : (fs : List Term) → AreFoldedFormulas fs → AreFoldedTerms fs
+pub formulas_folded : (fs : List Term) → AreFoldedFormulas fs → AreFoldedTerms fs
 formulas_folded [] h = tt
 formulas_folded (f ∷ fs) h = (h.0, formulas_folded fs h.1)
 
 -- ---- atoms of pending formulas
 
 -- a formula of sorted parts that is folded
-abbrev IsFit : Term → Type 0
+abbrev pub IsFit : Term → Type 0
 IsFit f = IsFormula f × IsFolded f
 
 abbrev AreFit : List Term → Type 0
@@ -110,7 +114,7 @@ either_fit : (o q : Option Term) (a : Term) → (o ≡ Some a → IsFit a) → (
 either_fit None q a f g e = g e
 either_fit (Some b) q a f g e = f e
 
-next_fit : (node : Node) (a : Term) → IsSortedNode node → IsFoldedNode node → next_atom node ≡ Some a → IsFit a
+pub next_fit : (node : Node) (a : Term) → IsSortedNode node → IsFoldedNode node → next_atom node ≡ Some a → IsFit a
 next_fit node a h g e =
     either_fit (first_forced node (atoms_of node.pending)) (first_open node node.pending) a
     (λ f. forced_fit node (atoms_of node.pending) a (all_fit node.pending h.pending g.pending) f) (λ f. open_fit node node.pending a h.pending g.pending f) e

@@ -1,4 +1,6 @@
 use Rattle.std.proofs.Common.{◌∙◌, ap, length, length-take, arith}
+use Rattle.wy_term.specs.Condition.{condition_of}
+use Rattle.wy_certifying.proofs.AnswerLemmas.{answers_ok}
 use Rattle.wy_certifying.proofs.judgement.certified.Goals as goal
 
 pub returns-clause-length : goal.returns-clause-length
@@ -9,3 +11,6 @@ returns-clause-length c =
 
 pub returns-clause-kept : goal.returns-clause-kept
 returns-clause-kept c = λ t lt. c.back_to.ensures.kept t (omega (arith, lt, c.mark-mark.ensures.value)) ∙ c.found_somehow-answer.ensures.stays.trees t lt
+
+pub returns-clause-complete : goal.returns-clause-complete
+returns-clause-complete c = answers_ok (condition_of c.args.terms.now c.args.cond.now) c.args.budget c.found_somehow-answer.result c.found_somehow-answer.ensures.complete

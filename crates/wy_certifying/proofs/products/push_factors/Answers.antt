@@ -1,5 +1,5 @@
 use Rattle.wy_judging.proofs.SumsBranchLemmas.{branch_stays}
-use Rattle.wy_certifying.proofs.DraftLemmas.{on_ok}
+use Rattle.wy_bounds.proofs.KnownLemmas.{on_ok_anyway}
 use Rattle.wy_certifying.proofs.products.push_factors.Goals as goal
 
 pub sides_of-requires-2-clause-branch : goal.sides_of-requires-2-clause-branch
@@ -7,4 +7,4 @@ sides_of-requires-2-clause-branch c = branch_stays c.args.terms.now c.sides_of.n
 
 -- where there are two factors, four products are pushed
 pub returns-in-Some-Some-clause-known : goal.returns-in-Some-Some-clause-known
-returns-in-Some-Some-clause-known c = on_ok c.push_four.result _ c.in_ok-second.ensures.known
+returns-in-Some-Some-clause-known c = on_ok_anyway _ c.push_four.result c.in_ok-second.ensures.known

@@ -1,15 +1,28 @@
-use Rattle.std.proofs.Common.{subst}
-use Rattle.wy_certifying.specs.Nodes.{AreWaiting}
+use Rattle.std.proofs.Common.{◌≡◌, ◌+◌, List, [], ◌∷◌, map, ap, sym, subst, arith, rules}
+use Rattle.wy_cert.specs.Steps.{Written, written}
+use Rattle.wy_term.specs.Nodes.{tree_at}
+use Rattle.wy_valid.specs.Validity.{IsValid}
+use Rattle.wy_sound_certificates.specs.Sortedness.{AreSortedSteps}
+use Rattle.wy_certifying.specs.declared.walking.Waiting.{Waiting}
+use Rattle.wy_certifying.specs.Tracks.{IsLeft}
+use Rattle.wy_certifying.specs.Walks.{seen_waiting, AreWaiting}
+use Rattle.wy_certifying.proofs.TrackLemmas.{none_left}
 use Rattle.wy_certifying.proofs.walking.close.Goals as goal
 
-pub returns-in-None : goal.returns-in-None
-returns-in-None c = c.ended.ensures c.args.terms.now c.requires.draft
+pub returns-in-None-clause-value : goal.returns-in-None-clause-value
+returns-in-None-clause-value c = λ k all at h.
+    let none : c.args.waiting.items ≡ [] = search rules in
+    let steps = map (written (tree_at c.args.draft.terms)) c.args.draft.steps.items in
+    let so = none_left k c.args.budget all (c.args.leaves + 1) steps (subst (λ (ws : List Waiting). IsLeft k c.args.budget all (c.args.leaves + 1) steps (map (seen_waiting at) ws)) none h) in
+    subst (λ (ss : List Written). IsValid k ss × AreSortedSteps ss) (sym c.ended.ensures.steps) so
 
-pub resumed-requires-clause-spot : goal.resumed-requires-clause-spot
-resumed-requires-clause-spot c = (subst (AreWaiting c.args.terms.now) c.in-Some.ensures.items c.requires.waiting).0
+pub returns-in-None-clause-turned : goal.returns-in-None-clause-turned
+returns-in-None-clause-turned c = λ nodes is are. c.ended.ensures.names nodes is
 
-pub resumed-requires-clause-atom : goal.resumed-requires-clause-atom
-resumed-requires-clause-atom c = (subst (AreWaiting c.args.terms.now) c.in-Some.ensures.items c.requires.waiting).1
+pub returns-in-Some-clause-value : goal.returns-in-Some-clause-value
+returns-in-Some-clause-value c = λ k all at h.
+    let steps = map (written (tree_at c.args.draft.terms)) c.args.draft.steps.items in
+    c.resumed.ensures.value k c.args.budget all at (subst (λ (ws : List Waiting). IsLeft k c.args.budget all (c.args.leaves + 1) steps (map (seen_waiting at) ws)) c.in-Some.ensures.items h)
 
-pub resumed-requires-clause-waiting : goal.resumed-requires-clause-waiting
-resumed-requires-clause-waiting c = (subst (AreWaiting c.args.terms.now) c.in-Some.ensures.items c.requires.waiting).2
+pub returns-in-Some-clause-turned : goal.returns-in-Some-clause-turned
+returns-in-Some-clause-turned c = λ nodes is are. (c.resumed.ensures.walk nodes is (subst (AreWaiting nodes) c.in-Some.ensures.items are), omega (arith, c.resumed.ensures.leaves, c.requires))

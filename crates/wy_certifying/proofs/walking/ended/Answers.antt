@@ -1,4 +1,5 @@
+use Rattle.std.proofs.Common.{refl}
 use Rattle.wy_certifying.proofs.walking.ended.Goals as goal
 
 pub returns : goal.returns
-returns c = λ nodes is. is.steps
+returns c = record { steps = refl; names = λ nodes is. is.steps }
