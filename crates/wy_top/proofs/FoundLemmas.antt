@@ -1,7 +1,7 @@
 -- The certificates for the conditions that were found, one after the other.
 use Rattle.std.proofs.Common.{◌≡◌, ◌∙◌, ◌<◌, ◌≤◌, ◌+◌, ℕ, zero, suc, List, [], ◌∷◌, ◌++◌, All, length, map, take, get_or, true, Option, Some, None, refl, inl, inr, sym, ap, subst, arith}
 use Rattle.std.proofs.lemmas.List.{append-nil, length-map, map-append}
-use Rattle.std.specs.Prelude.{IfSome}
+use Rattle.std.specs.Prelude.{IfOk, IfSome, Result, Ok, Err}
 use Rattle.std.proofs.lemmas.List.Elements.{All-append, All-cons, All-nil}
 use Rattle.wy_writable.specs.Writable.{AreWritable}
 use Rattle.wy_cert.specs.Steps.{Certificates, NamesItsTerms, NameTheirTerms, Written, certificates_of, steps_of}
@@ -138,6 +138,11 @@ pub found_whole : (of : Cond → Condition) (conds : List Cond) (vs : List Verdi
 found_whole of conds vs i certs each le so =
     subst (λ (ks : List Known). AreFor 1 (map of conds) ks certs) (take_past (map known vs) i (omega (arith, le, each, length-map vs known)))
     (subst (λ (cs : List Condition). AreFor 1 cs (take i (map known vs)) certs) (take_past (map of conds) i (omega (arith, le, length-map conds of))) so)
+
+-- one that was found and got none was found
+pub found_lacks : {E : Type 0} (e : CodeEnd) (Q : Type 0) (r : Result (Option Certs) E) → is_found (seen_end e) ≡ true → IfOk r (λ (o : Option Certs). o ≡ None → Q) → IfOk r (λ (o : Option Certs). o ≡ None → (is_found (seen_end e) ≡ true) × Q)
+found_lacks e Q (Ok o) is h = λ none. (is, h none)
+found_lacks e Q (Err x) is h = tt
 
 -- one that was found and got none is among them
 pub lacks_at : (budget : ℕ) (of : Cond → Condition) (conds : List Cond) (vs : List Verdict) (i : ℕ) (c : Cond) (d : Condition) (v : Verdict) → i < length conds → i < length vs → c ≡ get_or conds i c → v ≡ get_or vs i v → d ≡ of c
