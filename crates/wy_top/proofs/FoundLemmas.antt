@@ -1,7 +1,7 @@
 -- The certificates for the conditions that were found, one after the other.
-use Rattle.std.proofs.Common.{◌≡◌, ◌∙◌, ◌<◌, ◌≤◌, ◌+◌, ℕ, zero, suc, List, [], ◌∷◌, ◌++◌, All, length, map, take, get_or, true, Option, Some, refl, inl, inr, sym, ap, subst, arith}
+use Rattle.std.proofs.Common.{◌≡◌, ◌∙◌, ◌<◌, ◌≤◌, ◌+◌, ℕ, zero, suc, List, [], ◌∷◌, ◌++◌, All, length, map, take, get_or, true, Option, Some, None, refl, inl, inr, sym, ap, subst, arith}
 use Rattle.std.proofs.lemmas.List.{append-nil, length-map, map-append}
-use Rattle.std.specs.Prelude.{IfSome}
+use Rattle.std.specs.Prelude.{IfOk, IfSome, Result, Ok, Err}
 use Rattle.std.proofs.lemmas.List.Elements.{All-append, All-cons, All-nil}
 use Rattle.wy_writable.specs.Writable.{AreWritable}
 use Rattle.wy_cert.specs.Steps.{Certificates, NamesItsTerms, NameTheirTerms, Written, certificates_of, steps_of}
@@ -11,9 +11,15 @@ use Rattle.wy_sound_certificates.specs.Sortedness.{AreSortedSteps}
 use Rattle.wy_term.specs.Condition.{Condition}
 use Rattle.wy_term.specs.declared.cond.Cond.{Cond}
 use Rattle.wy_valid.specs.Validity.{IsValid}
-use Rattle.wy_top.specs.Found.{AreFor, Begin, IsMore, IsOneMore, IsOwn}
-use Rattle.wy_top.specs.Known.{End, Known, found, spent, stays_open, supplied}
-use Rattle.wy_top.specs.Proofs.{Finds, is_found}
+use Rattle.wy_certifying.specs.Answers.{AnswersWhatIsFound}
+use Rattle.wy_closing_rounds.specs.Leaves.{AreFoldedFormulas, IsFoldedCondition}
+use Rattle.wy_folded_conditions.specs.FoldedConditions.{AllFolded, AreFoldedThroughout, IsFoldedThroughout}
+use Rattle.wy_search.specs.Tree as search
+use Rattle.wy_shown_conditions.specs.Certified.{AreFormed, IsFormed}
+use Rattle.wy_term.specs.Term.{Term}
+use Rattle.wy_top.specs.Found.{AreFor, Begin, IsMore, IsOneMore, IsOwn, LacksOne}
+use Rattle.wy_top.specs.Known.{AreKnown, End, IsKnown, Known, end_of, found, is_found, spent, stays_open, supplied}
+use Rattle.wy_top.specs.Proofs.{IsLeftOut, LeavesOut}
 use Rattle.wy_top.specs.Seen.{known, seen_end}
 use Rattle.wy_top.specs.declared.verdict.End.{End as CodeEnd}
 use Rattle.wy_top.specs.declared.verdict.Verdict.{Verdict}
@@ -133,8 +139,44 @@ found_whole of conds vs i certs each le so =
     subst (λ (ks : List Known). AreFor 1 (map of conds) ks certs) (take_past (map known vs) i (omega (arith, le, each, length-map vs known)))
     (subst (λ (cs : List Condition). AreFor 1 cs (take i (map known vs)) certs) (take_past (map of conds) i (omega (arith, le, length-map conds of))) so)
 
--- one that was found is among them
-pub finds_at : (vs : List Verdict) (i : ℕ) (v : Verdict) → i < length vs → v ≡ get_or vs i v → is_found (seen_end v.end) ≡ true → Finds (map known vs)
-finds_at [] i v lt is h = absurd (omega (arith, lt))
-finds_at (w ∷ vs) zero v lt is h = inl (subst (λ (x : Verdict). is_found (seen_end x.end) ≡ true) is h)
-finds_at (w ∷ vs) (suc i) v lt is h = inr (finds_at vs i v (omega (arith, lt)) is h)
+-- one that was found and got none was found
+pub found_lacks : {E : Type 0} (e : CodeEnd) (Q : Type 0) (r : Result (Option Certs) E) → is_found (seen_end e) ≡ true → IfOk r (λ (o : Option Certs). o ≡ None → Q) → IfOk r (λ (o : Option Certs). o ≡ None → (is_found (seen_end e) ≡ true) × Q)
+found_lacks e Q (Ok o) is h = λ none. (is, h none)
+found_lacks e Q (Err x) is h = tt
+
+-- one that was found and got none is among them
+pub lacks_at : (budget : ℕ) (of : Cond → Condition) (conds : List Cond) (vs : List Verdict) (i : ℕ) (c : Cond) (d : Condition) (v : Verdict) → i < length conds → i < length vs → c ≡ get_or conds i c → v ≡ get_or vs i v → d ≡ of c
+    → is_found (seen_end v.end) ≡ true → AnswersWhatIsFound d budget None → LacksOne budget (map of conds) (map known vs)
+lacks_at budget of [] vs i c d v lc lv at there same is lacks = absurd (omega (arith, lc))
+lacks_at budget of (e ∷ conds) [] i c d v lc lv at there same is lacks = absurd (omega (arith, lv))
+lacks_at budget of (e ∷ conds) (w ∷ vs) zero c d v lc lv at there same is lacks =
+    inl (subst (λ (x : Verdict). is_found (seen_end x.end) ≡ true) there is, subst (λ (x : Condition). AnswersWhatIsFound x budget None) (same ∙ ap of at) lacks)
+lacks_at budget of (e ∷ conds) (w ∷ vs) (suc i) c d v lc lv at there same is lacks = inr (lacks_at budget of conds vs i c d v (omega (arith, lc)) (omega (arith, lv)) at there same is lacks)
+
+-- ---- what lacks a certificate
+
+is_folded : (c : Condition) → IsFoldedThroughout c → IsFoldedCondition c
+is_folded c h = (formulas_folded c.hyps h.hyps, h.goal)
+  where
+    formulas_folded : (fs : List Term) → AllFolded fs → AreFoldedFormulas fs
+    formulas_folded [] g = tt
+    formulas_folded (f ∷ fs) g = (g.0, formulas_folded fs g.1)
+
+-- the search found it, with so many leaves
+found_with : (c : Condition) (budget : ℕ) (verdict : search.Verdict) → search.IsVerdict c budget verdict → is_found (end_of verdict) ≡ true → (leaves : ℕ) × search.IsVerdict c budget (search.found leaves)
+found_with c budget (search.found leaves) is e = (leaves, is)
+found_with c budget (search.open_leaf leaf why literals) is e = absurd cc
+found_with c budget search.spent is e = absurd cc
+
+left_one : (c : Condition) (budget n : ℕ) (k : Known) → IsKnown [] budget n c k → IsFormed c → IsFoldedThroughout c → is_found k.end ≡ true → AnswersWhatIsFound c budget None → IsLeftOut c
+left_one c budget n k known formed folded is lacks free =
+    let e = known.end in
+    let f = found_with c budget e.verdict e.searched (subst (λ (x : End). is_found x ≡ true) e.is is) in
+    lacks formed.sorted formed.are_closed (is_folded c folded) free f.0 f.1
+
+-- of the conditions of a program one is left out, where one that was found got none
+pub left_out : (budget n : ℕ) (cs : List Condition) (ks : List Known) → AreKnown [] budget n cs ks → AreFormed cs → AreFoldedThroughout cs → LacksOne budget cs ks → LeavesOut cs ks
+left_out budget n [] ks known formed folded lacks = absurd lacks
+left_out budget n (c ∷ cs) [] known formed folded lacks = absurd lacks
+left_out budget n (c ∷ cs) (k ∷ ks) known formed folded (inl h) = inl (h.0, left_one c budget n k known.0 formed.0 folded.0 h.0 h.1)
+left_out budget n (c ∷ cs) (k ∷ ks) known formed folded (inr h) = inr (left_out budget (n + 1) cs ks known.1 formed.1 folded.1 h)

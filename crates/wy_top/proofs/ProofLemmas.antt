@@ -14,14 +14,14 @@ use Rattle.wy_cert.specs.File.{ReadsFile}
 use Rattle.wy_cert.specs.Steps.{Certificates, certificates_of}
 use Rattle.wy_cert.specs.declared.step.Certs.{Certs}
 use Rattle.wy_cert_text.specs.Text.{file_text}
-use Rattle.wy_top.specs.Found.{AreFor}
+use Rattle.wy_top.specs.Found.{AreFor, LacksOne}
 use Rattle.wy_term.specs.Condition.{Condition, condition_of}
 use Rattle.wy_term.specs.declared.cond.Cond.{Cond}
 use Rattle.wy_top.specs.Kept.{answer_in}
 use Rattle.wy_top.specs.Seen.{known}
 use Rattle.wy_top.specs.declared.judging.Judged.{Judged}
 use Rattle.wy_top.specs.declared.verdict.Verdict.{Verdict}
-use Rattle.wy_top.specs.Proofs.{Finds, IsProofFile, judges, proof_answer}
+use Rattle.wy_top.specs.Proofs.{IsProofFile, LeavesOut, judges, proof_answer}
 use Rattle.wy_top.specs.declared.proving.Proof.{Proof}
 use Rattle.wy_top.proofs.WritableLemmas.{found_is_read}
 
@@ -70,6 +70,13 @@ found_for p j list vs o certs conds verdicts conditions is h =
     (subst (λ (ws : List Verdict). AreFor 1 (map (condition_of j.conds.terms) list) (map known ws) (certificates_of certs)) verdicts
     (subst (λ (q : Option Certs). IfSome q (λ (k : Certs). AreFor 1 (map (condition_of j.conds.terms) list) (map known vs) (certificates_of k))) is h))
 
-pub unmade_gives : (s : Setting) (name bytes : List ℕ) (p : Program) (budget : ℕ) (a : Answer) (ks : List Known) → AreVerdicts [] budget p ks → Finds ks → IsRefusal 13 not_certified a → Gives s (judges name bytes p budget) (Err a)
-unmade_gives s name bytes p budget a ks so some (inl e) = free_gives s (judges name bytes p budget) a (record { verdicts = ks; known = so; finds = some; answer = e }) (uncertified e)
+-- one of the program's conditions lacks a certificate
+pub lacks_for : (p : Program) (budget : ℕ) (j : Judged) (list : List Cond) (vs : List Verdict) → list ≡ j.conds.list.items → vs ≡ j.verdicts.items → map (condition_of j.conds.terms) j.conds.list.items ≡ conditions_of p
+    → LacksOne budget (map (condition_of j.conds.terms) list) (map known vs) → LacksOne budget (conditions_of p) (map known j.verdicts.items)
+lacks_for p budget j list vs conds verdicts conditions h =
+    subst (λ (cs : List Condition). LacksOne budget cs (map known j.verdicts.items)) (ap (map (condition_of j.conds.terms)) conds ∙ conditions)
+    (subst (λ (ws : List Verdict). LacksOne budget (map (condition_of j.conds.terms) list) (map known ws)) verdicts h)
+
+pub unmade_gives : (s : Setting) (name bytes : List ℕ) (p : Program) (budget : ℕ) (a : Answer) (ks : List Known) → AreVerdicts [] budget p ks → LeavesOut (conditions_of p) ks → IsRefusal 13 not_certified a → Gives s (judges name bytes p budget) (Err a)
+unmade_gives s name bytes p budget a ks so some (inl e) = free_gives s (judges name bytes p budget) a (record { verdicts = ks; known = so; left = some; answer = e }) (uncertified e)
 unmade_gives s name bytes p budget a ks so some (inr e) = memory_gives s (judges name bytes p budget) a e

@@ -15,7 +15,7 @@ use Rattle.wy_top.specs.Texts.{text_steps}
 use Rattle.wy_top.specs.declared.launching.Launch.{Launch}
 use Rattle.wy_top.specs.declared.texts.Text.TheVariants as kind_of
 
--- a load failed, a sink or a save failed, memory ran out, or, as was never seen, a condition was found and not certified
+-- a load failed, a sink or a save failed, memory ran out, or a condition was found and not certified
 abbrev pub IsElse : ℕ → Type 0
 IsElse status = (status ≡ 4) ⊎ ((status ≡ 5) ⊎ ((status ≡ 9) ⊎ (status ≡ 13)))
 

@@ -70,6 +70,12 @@ is_spent (found leaves) = false
 is_spent (stays_open leaf why literals) = false
 is_spent spent = true
 
+abbrev pub is_found : End → Bool
+is_found supplied = false
+is_found (found leaves) = true
+is_found (stays_open leaf why literals) = false
+is_found spent = false
+
 -- how many end so
 abbrev pub count : (End → Bool) → List Known → ℕ
 count test [] = 0

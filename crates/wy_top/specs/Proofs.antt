@@ -8,11 +8,14 @@ use Rattle.wy_answers.specs.declared.answer.Answer.{Answer}
 use Rattle.wy_cert.specs.File.{ReadsFile}
 use Rattle.wy_cert.specs.Steps.{Certificates}
 use Rattle.wy_cert_text.specs.Text.{file_text}
+use Rattle.wy_certifying.specs.Answers.{HasUnwritable}
+use Rattle.wy_closing_rounds.specs.Leaves.{SplitsFreely}
+use Rattle.wy_term.specs.Condition.{Condition}
 use Rattle.wy_top.specs.Owed.{Owes, told_by}
 use Rattle.wy_top.specs.Found.{AreFor}
 use Rattle.wy_top.specs.Refusals.{refusal_lines}
 use Rattle.wy_report.specs.Lines.{accepted}
-use Rattle.wy_top.specs.Known.{End, Known, found, spent, stays_open, supplied}
+use Rattle.wy_top.specs.Known.{Known, is_found}
 use Rattle.wy_top.specs.Acceptance.{AreVerdicts, are_closed}
 use Rattle.wy_top.specs.Programs.{Program, conditions_of, count_of, owes}
 
@@ -29,22 +32,21 @@ pub record IsJudged (name bytes : List ℕ) (p : Program) (budget : ℕ) (a : An
 
 -- ---- no certificate
 
-abbrev pub is_found : End → Bool
-is_found supplied = false
-is_found (found leaves) = true
-is_found (stays_open leaf why literals) = false
-is_found spent = false
+-- the search splits the condition where a certificate may not, or else there is a valid certificate of it that can't be written
+abbrev pub IsLeftOut : Condition → Type 0
+IsLeftOut c = SplitsFreely c → HasUnwritable c
 
--- the search of a condition closed all leaves
-abbrev pub Finds : List Known → Type 0
-Finds [] = ⊥
-Finds (k ∷ ks) = (is_found k.end ≡ true) ⊎ Finds ks
+-- of these conditions, of which this is known, one was found and is left out
+abbrev pub LeavesOut : List Condition → List Known → Type 0
+LeavesOut [] ks = ⊥
+LeavesOut (c ∷ cs) [] = ⊥
+LeavesOut (c ∷ cs) (k ∷ ks) = ((is_found k.end ≡ true) × IsLeftOut c) ⊎ LeavesOut cs ks
 
--- the search of some condition closed all leaves, and no certificate was made of them, as was never seen
+-- the search of some condition closed all leaves, and no certificate that can be written was made of them
 pub record IsUncertified (p : Program) (budget : ℕ) (a : Answer) : Type 0 where
   pub verdicts : List Known
   pub known : AreVerdicts [] budget p verdicts
-  pub finds : Finds verdicts
+  pub left : LeavesOut (conditions_of p) verdicts
   pub answer : a ≡ refused 13 not_certified
 
 -- ---- steps

@@ -1,11 +1,12 @@
 //! Certificates for the conditions that were found.
 ghost use Rattle.std.specs.Prelude.{◌≡◌, ◌<◌, ◌^◌, ℕ, All, None, true, length, map, IfOk, IfSome};
 ghost use Rattle.wy_cert.specs.Steps.{certificates_of, NameTheirTerms};
+ghost use Rattle.wy_certifying.specs.Answers.{AnswersWhatIsFound};
 ghost use Rattle.wy_checking.specs.Within.{IsWithin};
 ghost use Rattle.wy_term.specs.Condition.{condition_of};
 ghost use Rattle.wy_term.specs.Nodes.{tree_at};
 ghost use Rattle.wy_top.specs.Found as spec;
-ghost use Rattle.wy_top.specs.Proofs.{Finds, is_found};
+ghost use Rattle.wy_top.specs.Known.{is_found};
 ghost use Rattle.wy_top.specs.Seen.{known, seen_end};
 
 use crate::verdict::{End, Verdict};
@@ -15,7 +16,8 @@ use wy_certifying::certified;
 use wy_term::{Cond, NoMemory, Terms};
 
 /// A valid certificate for each condition whose search closed all leaves, with its number, from 1, in order; none where one of them gets
-/// none, as was never seen. The search goes its way again, with this budget of leaves, and notes what shows each node.
+/// none: its search splits where a certificate may not, or the certificate has a name or a number that no file spells. The search goes its
+/// way again, with this budget of leaves, and writes the steps that show each node.
 pub fn found_certificates(
     alloc: Global,
     terms: &mut Terms,
@@ -28,7 +30,7 @@ pub fn found_certificates(
     requires within { All (IsWithin (length terms.old)) conds.now }
     ensures certificates { IfOk result (λ o. IfSome o (λ certs. spec.AreFor 1 (map (condition_of terms.old) conds.now) (map known verdicts.now) (certificates_of certs))) }
     ensures named { IfOk result (λ o. IfSome o NameTheirTerms) }
-    ensures lacking { IfOk result (λ o. o ≡ None → Finds (map known verdicts.now)) }
+    ensures lacking { IfOk result (λ o. o ≡ None → spec.LacksOne budget (map (condition_of terms.old) conds.now) (map known verdicts.now)) }
 {
     let mut certs = Certs {
         list: Vec::new(alloc),
@@ -56,7 +58,7 @@ fn with_found(
     requires cond { IsWithin (length terms.old) cond.now }
     ensures value { IfOk result (λ o. IfSome o (λ more. spec.IsMore number (condition_of terms.old cond.now) (seen_end end.now) (certificates_of certs) (certificates_of more))) }
     ensures named { IfOk result (λ o. IfSome o NameTheirTerms) }
-    ensures lacking { IfOk result (λ o. o ≡ None → is_found (seen_end end.now) ≡ true) }
+    ensures lacking { IfOk result (λ o. o ≡ None → (is_found (seen_end end.now) ≡ true) × AnswersWhatIsFound (condition_of terms.old cond.now) budget None) }
     ensures length { length terms.new ≡ length terms.old }
     ensures kept { (t : ℕ) → t < length terms.old → tree_at terms.new t ≡ tree_at terms.old t }
 {
@@ -78,6 +80,7 @@ fn with_certified(
     requires cond { IsWithin (length terms.old) cond.now }
     ensures value { IfOk result (λ o. IfSome o (λ more. spec.IsOneMore number (condition_of terms.old cond.now) (certificates_of certs) (certificates_of more))) }
     ensures named { IfOk result (λ o. IfSome o NameTheirTerms) }
+    ensures lacking { IfOk result (λ o. o ≡ None → AnswersWhatIsFound (condition_of terms.old cond.now) budget None) }
     ensures length { length terms.new ≡ length terms.old }
     ensures kept { (t : ℕ) → t < length terms.old → tree_at terms.new t ≡ tree_at terms.old t }
 {

@@ -2,18 +2,23 @@ use Rattle.std.proofs.Common.{◌≡◌, ◌<◌, ◌∙◌, ◌+◌, length, tr
 use Rattle.wy_cert.specs.Steps.{certificates_of}
 use Rattle.wy_term.specs.Condition.{condition_of}
 use Rattle.wy_top.specs.Found.{IsMore}
-use Rattle.wy_top.specs.Proofs.{is_found}
+use Rattle.wy_top.specs.Known.{is_found}
 use Rattle.wy_top.specs.Seen.{seen_end}
 use Rattle.wy_top.specs.declared.verdict.Verdict.{Verdict}
-use Rattle.wy_top.proofs.FoundLemmas.{are_named, finds_at, found_turn, is_more}
+use Rattle.wy_top.proofs.FoundLemmas.{are_named, found_turn, is_more, lacks_at}
 use Rattle.wy_top.proofs.JudgedLemmas.{same_condition, within_at}
 use Rattle.wy_top.proofs.found.found_certificates.Goals as goal
 
 pub returns-in-None-clause-lacking : goal.returns-in-None-clause-lacking
 returns-in-None-clause-lacking c = λ none.
     let lt : c.loop-i.i < length c.args.conds.now = search rules in
-    finds_at c.args.verdicts.now c.loop-i.i c.index-verdicts-i.result (omega (arith, lt, c.requires.each)) c.index-verdicts-i.is
-    (subst (λ (v : Verdict). is_found (seen_end v.end) ≡ true) (sym c.index-verdicts-i.is) (c.in_ok-more.ensures.lacking c.in-None.is))
+    let old = c.args.terms.now in
+    let now = c.loop-i.terms in
+    let cond = c.index-conds-i.result in
+    let same = same_condition old now cond c.loop-i.invariant.same c.loop-i.invariant.kept (within_at (length old) c.args.conds.now c.loop-i.i cond c.requires.within lt c.index-conds-i.is) in
+    let h = c.in_ok-more.ensures.lacking c.in-None.is in
+    lacks_at c.args.budget (condition_of old) c.args.conds.now c.args.verdicts.now c.loop-i.i cond (condition_of now cond) c.index-verdicts-i.result lt (omega (arith, lt, c.requires.each)) c.index-conds-i.is c.index-verdicts-i.is same
+    (subst (λ (v : Verdict). is_found (seen_end v.end) ≡ true) (sym c.index-verdicts-i.is) h.0) h.1
 
 pub loop-i-preserved : goal.loop-i-preserved
 loop-i-preserved c =

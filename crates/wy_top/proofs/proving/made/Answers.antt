@@ -3,10 +3,12 @@ use Rattle.wy_answers.proofs.StepLemmas.{memory_gives}
 use Rattle.wy_cert.specs.Steps.{certificates_of}
 use Rattle.wy_cert_text.specs.Text.{file_text}
 use Rattle.wy_top.specs.Programs.{conditions_of}
-use Rattle.wy_top.specs.Proofs.{Finds, judges}
+use Rattle.wy_top.specs.Proofs.{judges}
 use Rattle.wy_top.specs.Seen.{known}
 use Rattle.wy_top.specs.declared.verdict.Verdict.{Verdict}
-use Rattle.wy_top.proofs.ProofLemmas.{found_for, saved_file, saved_gives, unmade_gives}
+use Rattle.wy_folded_conditions.proofs.OwedLemmas.{conditions_folded}
+use Rattle.wy_top.proofs.FoundLemmas.{left_out}
+use Rattle.wy_top.proofs.ProofLemmas.{found_for, lacks_for, saved_file, saved_gives, unmade_gives}
 use Rattle.wy_top.proofs.proving.made.Goals as goal
 
 pub returns-in-Err-clause-gives : goal.returns-in-Err-clause-gives
@@ -29,4 +31,5 @@ returns-in-Ok-Some-clause-file c = λ p h.
 pub returns-in-Ok-None-clause-gives : goal.returns-in-Ok-None-clause-gives
 returns-in-Ok-None-clause-gives c = λ s p h.
     unmade_gives s c.args.name.now c.args.bytes.now p c.args.budget c.uncertified.result (map known c.args.judged.verdicts.items) h.known
-    (subst (λ (vs : List Verdict). Finds (map known vs)) c.deref-2.ensures.value (c.in-Ok-None.ensures.lacking c.in-Ok-None.field-0-is)) c.uncertified.ensures.value
+    (left_out c.args.budget 1 (conditions_of p) (map known c.args.judged.verdicts.items) h.known h.formed (conditions_folded p.core p.flow)
+    (lacks_for p c.args.budget c.args.judged c.deref.result.now c.deref-2.result.now c.deref.ensures.value c.deref-2.ensures.value h.conditions (c.in-Ok-None.ensures.lacking c.in-Ok-None.field-0-is))) c.uncertified.ensures.value
