@@ -66,7 +66,8 @@ fn are_sorted_steps(terms: &Terms, marks: &[bool], steps: &[Step]) -> bool
 }
 
 /// Whether a certificate splits on formulas alone, and the terms that its steps name have parts of the sorts that their places
-/// want. It takes time linear in the certificate, and a mark for each of its terms.
+/// want. It takes time linear in the certificate, and a mark for each of its terms. Want of memory is also the answer where it has
+/// 2^32 terms.
 pub fn is_certificate_sorted(cert: &Cert) -> Result<bool, NoMemory>
     requires { NamesItsTerms cert.now }
     ensures exactly { IfOk result (λ b. (b ≡ true) ↔ AreSortedSteps (steps_of cert.now)) }

@@ -1,51 +1,55 @@
 -- Terms that are made once more in another list.
-use Rattle.std.proofs.Common.{◌≡◌, ◌∙◌, ◌<◌, ◌≤◌, ◌+◌, ℕ, List, [], ◌∷◌, All, true, length, ap, sym, subst, arith, below_more}
+use Rattle.std.proofs.Common.{◌≡◌, ◌∙◌, ◌↔◌, ◌<◌, ℕ, List, [], ◌∷◌, All, true, length, ap, refl, sym, arith}
 use Rattle.std.proofs.lemmas.List.Elements.{All-head, All-tail}
-use Rattle.wy_term.specs.Term.{Term}
-use Rattle.wy_term.specs.Folding.{folded}
-use Rattle.wy_term.specs.Nodes.{HasPartsBelow, Plain, grown, parts_at, plain, tree_at}
+use Rattle.wy_term.specs.Term.{Symbol, Term, Of, Parts, part}
+use Rattle.wy_term.specs.Nodes.{HasPartsBelow, Plain, grown, of, parts_at, plain, tree_at}
 use Rattle.wy_term.specs.declared.node.Node.{Node}
 use Rattle.wy_term.specs.contracts.node.NodePartialEq.TheImpl.{eq-value}
 use Rattle.wy_term.proofs.NodesLemmas.{grown-same}
-use Rattle.wy_term.proofs.NodeEqLemmas.{nodes_are}
-use Rattle.wy_reread.specs.Folded.{AreFolded, IsFolded}
-use Rattle.wy_writable.specs.Listed.{AreWritableBelow, HasSame}
+use Rattle.wy_term.proofs.NodeEqLemmas.{nodes_are, nodes_compare}
 
--- ---- the other list
+-- ---- one number for each tree
 
-pub same_kept : (old new nodes : List Plain) (n : ℕ) → HasSame old nodes n → length old ≤ length new → ((t : ℕ) → t < length old → tree_at new t ≡ tree_at old t) → HasSame new nodes n
-same_kept old new nodes n is grows kept = record {
-  many = omega (arith, is.many, grows);
-  same = λ k lt. kept k (omega (arith, lt, is.many)) ∙ is.same k lt;
-}
+of_same : (a b : Symbol) (ps qs : Parts) → Of a ps ≡ Of b qs → (a ≡ b) × (ps ≡ qs)
+of_same a b ps qs e = (cc, cc)
 
-pub parts_within : (old nodes : List Plain) (n : ℕ) (p q : Plain) → HasSame old nodes n → p ≡ q → HasPartsBelow n q → HasPartsBelow (length old) p
-parts_within old nodes n p q is same below =
-    subst (λ (x : Plain). HasPartsBelow (length old) x) (sym same) (λ j d lt. let k = below j d lt in omega (arith, k, is.many))
+part_same : (s t : Term) (ps qs : Parts) → part s ps ≡ part t qs → (s ≡ t) × (ps ≡ qs)
+part_same s t ps qs e = (cc, cc)
 
--- the tree of a copy, made of the same parts
-pub tree_again : (old nodes : List Plain) (n : ℕ) (p q : Plain) → HasSame old nodes n → p ≡ q → HasPartsBelow n q → tree_at nodes n ≡ grown (tree_at nodes) q → grown (tree_at old) p ≡ tree_at nodes n
-tree_again old nodes n p q is same below tree =
-    ap (grown (tree_at old)) same ∙ (grown-same (tree_at old) (tree_at nodes) n q below is.same ∙ sym tree)
+made_same : (a b : Symbol) (ks js : List ℕ) → a ≡ b → ks ≡ js → of a ks ≡ of b js
+made_same a b ks js e f = cc
 
--- nodes that compare as equal have the same trees
-pub tree_there : (again nodes : List Plain) (n : ℕ) (a b : Node) → HasSame again nodes n → eq-value.it a b ≡ true → HasPartsBelow n (plain b) → tree_at again n ≡ grown (tree_at again) (plain a) → tree_at nodes n ≡ grown (tree_at nodes) (plain b) → tree_at again n ≡ tree_at nodes n
-tree_there again nodes n a b is equal below there here = there ∙ tree_again again nodes n (plain a) (plain b) is (nodes_are a b equal) below here
+abbrev HasOneNumber : (ℕ → Term) → ℕ → Type 0
+HasOneNumber at bound = (s t : ℕ) → s < bound → t < bound → (s ≡ t) ↔ (at s ≡ at t)
 
-pub same_more : (again nodes : List Plain) (n : ℕ) → HasSame again nodes n → n < length again → tree_at again n ≡ tree_at nodes n → HasSame again nodes (n + 1)
-same_more again nodes n is lt here = record {
-  many = omega (arith, lt);
-  same = below_more (λ (k : ℕ). tree_at again k ≡ tree_at nodes k) n is.same here;
-}
+parts_one : (at : ℕ → Term) (bound : ℕ) → HasOneNumber at bound → (ks js : List ℕ) → All (λ k. k < bound) ks → All (λ k. k < bound) js → parts_at at ks ≡ parts_at at js → ks ≡ js
+parts_one at bound one [] [] in_ks in_js e = refl
+parts_one at bound one [] (j ∷ js) in_ks in_js e = absurd cc
+parts_one at bound one (k ∷ ks) [] in_ks in_js e = absurd cc
+parts_one at bound one (k ∷ ks) (j ∷ js) in_ks in_js e =
+    let same = part_same (at k) (at j) (parts_at at ks) (parts_at at js) e in
+    let first : k ≡ j = (one k j (All-head (λ (i : ℕ). i < bound) k ks in_ks) (All-head (λ (i : ℕ). i < bound) j js in_js)).1 same.0 in
+    let rest : ks ≡ js = parts_one at bound one ks js (All-tail (λ (i : ℕ). i < bound) k ks in_ks) (All-tail (λ (i : ℕ). i < bound) j js in_js) same.1 in
+    rw (first, rest) refl
 
--- ---- folded terms
+plain_one : (at : ℕ → Term) (bound : ℕ) (p q : Plain) → HasOneNumber at bound → HasPartsBelow bound p → HasPartsBelow bound q → grown at p ≡ grown at q → p ≡ q
+plain_one at bound p q one in_p in_q e =
+    let same = of_same p.symbol q.symbol (parts_at at p.parts) (parts_at at q.parts) e in
+    made_same p.symbol q.symbol p.parts q.parts same.0 (parts_one at bound one p.parts q.parts in_p in_q same.1)
 
-folded_parts : (at : ℕ → Term) (bound : ℕ) (ks : List ℕ) → All (λ k. k < bound) ks → ((k : ℕ) → k < bound → IsFolded (at k)) → AreFolded (parts_at at ks)
-folded_parts at bound [] below are = tt
-folded_parts at bound (k ∷ ks) below are =
-    (are k (All-head (λ (i : ℕ). i < bound) k ks below), folded_parts at bound ks (All-tail (λ (i : ℕ). i < bound) k ks below) are)
+smaller : (bound s : ℕ) (p : Plain) → s < bound → HasPartsBelow s p → HasPartsBelow bound p
+smaller bound s p lt below j d inside = let at = below j d inside in omega (arith, at)
 
--- a node that is folded to itself, whose parts are folded
-pub node_folded : (nodes : List Plain) (t : ℕ) (n : Plain) → tree_at nodes t ≡ grown (tree_at nodes) n → HasPartsBelow t n → AreWritableBelow nodes t → folded (tree_at nodes t) ≡ tree_at nodes t → IsFolded (tree_at nodes t)
-node_folded nodes t n e below are is =
-    subst IsFolded (sym e) (subst (λ (u : Term). folded u ≡ u) e is, folded_parts (tree_at nodes) t n.parts below (λ k lt. (are k lt).0))
+-- ---- the node of a number compares as equal with a node exactly where the number's term is the node's
+
+pub tree_of_same : (nodes : List Plain) (t : ℕ) (a b : Node) → tree_at nodes t ≡ grown (tree_at nodes) (plain a) → eq-value.it a b ≡ true → tree_at nodes t ≡ grown (tree_at nodes) (plain b)
+tree_of_same nodes t a b tree equal = tree ∙ ap (grown (tree_at nodes)) (nodes_are a b equal)
+
+pub same_of_tree : (nodes : List Plain) (t : ℕ) (a b : Node) → HasOneNumber (tree_at nodes) (length nodes) → t < length nodes → tree_at nodes t ≡ grown (tree_at nodes) (plain a) → HasPartsBelow t (plain a) → HasPartsBelow (length nodes) (plain b) → tree_at nodes t ≡ grown (tree_at nodes) (plain b) → eq-value.it a b ≡ true
+same_of_tree nodes t a b one lt tree below inside same =
+    nodes_compare a b (plain_one (tree_at nodes) (length nodes) (plain a) (plain b) one (smaller (length nodes) t (plain a) lt below) inside (sym tree ∙ same))
+
+-- ---- the same node in a list that has grown
+
+pub made_there : (old new : List Plain) (p q r : Plain) → p ≡ r → q ≡ r → HasPartsBelow (length old) r → ((k : ℕ) → k < length old → tree_at new k ≡ tree_at old k) → grown (tree_at old) p ≡ grown (tree_at new) q
+made_there old new p q r is_p is_q below kept = ap (grown (tree_at old)) is_p ∙ (sym (grown-same (tree_at new) (tree_at old) (length old) r below kept) ∙ ap (grown (tree_at new)) (sym is_q))

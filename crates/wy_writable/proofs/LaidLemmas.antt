@@ -1,23 +1,16 @@
--- Parts that are of the sorts of their places stand as their layout says.
-use Rattle.std.proofs.Common.{◌≡◌, ◌∙◌, ◌<◌, ◌+◌, ℕ, List, [], ◌∷◌, All, Bool, Result, Ok, Err, length, refl, sym, subst, arith, below_more}
-use Rattle.std.specs.Prelude.{IfOk, IsTrue}
-use Rattle.std.proofs.lemmas.List.{length-map}
-use Rattle.std.proofs.lemmas.List.Elements.{All-head, All-tail}
+-- Parts stand as their layout says exactly where they are of the sorts of their places and each can be written as one of its sort.
+use Rattle.std.proofs.Common.{◌≡◌, ◌∙◌, ℕ, List, [], ◌∷◌, refl, sym, subst, map}
 use Rattle.wy_data.specs.declared.name.Name.{Name}
 use Rattle.wy_term.specs.Term as term
-use Rattle.wy_term.specs.Term.{Symbol, Term}
-use Rattle.wy_term.specs.Sorts.{Sort, val_sort, sort_in}
-use Rattle.wy_term.specs.Folding.{folded}
-use Rattle.wy_term.specs.Nodes.{HasPartsBelow, Plain, grown, parts_at, plain, tree_at}
+use Rattle.wy_term.specs.Term.{Symbol, Term, Of, Parts, no_parts, part}
+use Rattle.wy_term.specs.Sorts.{Sort, val_sort, sort_in, sort_of}
+use Rattle.wy_term.specs.Nodes.{parts_at, plain}
 use Rattle.wy_term.specs.declared.node.Node.{Node}
 use Rattle.wy_term.specs.declared.node.Node.TheVariants as node
 use Rattle.wy_sorted.specs.Sorted.{AreSorted, IsSorted, Places, each, places, these}
-use Rattle.wy_spell.specs.Grammar.{Gap, IsInRange, Layout, Series, field_gaps, first_of, gapped, layout, more_of}
+use Rattle.wy_spell.specs.Grammar.{Gap, IsInRange, Layout, field_gaps, first_of, gapped, layout, more_of}
 use Rattle.wy_spell.specs.Grammar.{sort_in as series_sort}
 use Rattle.wy_reread.specs.Shown.{AreOf, IsOf}
-use Rattle.wy_certificates_reread.specs.Writable.{IsWritableAt}
-use Rattle.wy_writable.specs.Listed.{AreWritableBelow}
-use Rattle.wy_writable.proofs.FoldedLemmas.{node_folded}
 
 -- ---- places and layouts that go together
 
@@ -27,91 +20,67 @@ FitGaps [] (g ∷ gs) = ⊥
 FitGaps (s ∷ ss) [] = ⊥
 FitGaps (s ∷ ss) (g ∷ gs) = (s ≡ g.0) × FitGaps ss gs
 
+abbrev FitEachGap : Sort → List Gap → Type 0
+FitEachGap s [] = Unit {0}
+FitEachGap s (g ∷ gs) = (s ≡ g.0) × FitEachGap s gs
+
 abbrev Fits : Places → Layout → Type 0
 Fits (these ss) (gapped gs) = FitGaps ss gs
 Fits (these ss) (first_of r) = ⊥
 Fits (these ss) (more_of r) = ⊥
-Fits (each s) (gapped gs) = ⊥
+Fits (each s) (gapped gs) = FitEachGap s gs
 Fits (each s) (first_of r) = s ≡ series_sort r
 Fits (each s) (more_of r) = s ≡ series_sort r
 
--- the terms below a number are of their sorts
-abbrev AreOfSorts : (ℕ → Term) → ℕ → Type 0
-AreOfSorts at bound = (k : ℕ) → k < bound → IsOf (at k) (sort_in (at k))
+-- as many parts as gaps
+abbrev FillGaps : Parts → List Gap → Type 0
+FillGaps no_parts [] = Unit {0}
+FillGaps no_parts (g ∷ gs) = ⊥
+FillGaps (part t ps) [] = ⊥
+FillGaps (part t ps) (g ∷ gs) = FillGaps ps gs
 
-abbrev AreBelow : ℕ → List ℕ → Type 0
-AreBelow bound ks = All (λ k. k < bound) ks
+-- the same, where the places don't say how many parts there are
+abbrev Fill : Parts → Places → Layout → Type 0
+Fill ps (each s) (gapped gs) = FillGaps ps gs
+Fill ps wanted l = Unit {0}
 
-first_below : (bound k : ℕ) (ks : List ℕ) → AreBelow bound (k ∷ ks) → k < bound
-first_below bound k ks below = All-head (λ (i : ℕ). i < bound) k ks below
+-- each part is of its own sort
+abbrev pub AreOwn : Parts → Type 0
+AreOwn no_parts = Unit {0}
+AreOwn (part t ps) = IsOf t (sort_in t) × AreOwn ps
 
-rest_below : (bound k : ℕ) (ks : List ℕ) → AreBelow bound (k ∷ ks) → AreBelow bound ks
-rest_below bound k ks below = All-tail (λ (i : ℕ). i < bound) k ks below
+-- ---- from places to the layout
 
--- ---- parts
+at_place : (t : Term) (s : Sort) → IsOf t (sort_in t) → sort_in t ≡ s → IsOf t s
+at_place t s own e = subst (IsOf t) e own
 
--- a part of the sort that its place wants
-part_of : (at : ℕ → Term) (bound k : ℕ) (s : Sort) → AreOfSorts at bound → k < bound → sort_in (at k) ≡ s → IsOf (at k) s
-part_of at bound k s are lt e = subst (IsOf (at k)) e (are k lt)
+laid : (ps : Parts) (wanted : Places) (l : Layout) → Fits wanted l → Fill ps wanted l → AreSorted ps wanted → AreOwn ps → AreOf ps l
+laid no_parts (these []) (gapped []) fits fill sorted own = tt
+laid no_parts (these []) (gapped (g ∷ gs)) fits fill sorted own = absurd fits
+laid no_parts (these []) (first_of r) fits fill sorted own = tt
+laid no_parts (these []) (more_of r) fits fill sorted own = tt
+laid no_parts (these (s ∷ ss)) l fits fill sorted own = absurd sorted
+laid no_parts (each s) (gapped []) fits fill sorted own = tt
+laid no_parts (each s) (gapped (g ∷ gs)) fits fill sorted own = absurd fill
+laid no_parts (each s) (first_of r) fits fill sorted own = tt
+laid no_parts (each s) (more_of r) fits fill sorted own = tt
+laid (part t ps) (these []) l fits fill sorted own = absurd sorted.0
+laid (part t ps) (these (s ∷ ss)) (gapped []) fits fill sorted own = absurd fits
+laid (part t ps) (these (s ∷ ss)) (gapped (g ∷ gs)) fits fill sorted own = (at_place t g.0 own.0 (sorted.0 ∙ fits.0), laid ps (these ss) (gapped gs) fits.1 tt sorted.2 own.1)
+laid (part t ps) (these (s ∷ ss)) (first_of r) fits fill sorted own = absurd fits
+laid (part t ps) (these (s ∷ ss)) (more_of r) fits fill sorted own = absurd fits
+laid (part t ps) (each s) (gapped []) fits fill sorted own = absurd fill
+laid (part t ps) (each s) (gapped (g ∷ gs)) fits fill sorted own = (at_place t g.0 own.0 (sorted.0 ∙ fits.0), laid ps (each s) (gapped gs) fits.1 fill sorted.2 own.1)
+laid (part t ps) (each s) (first_of r) fits fill sorted own = (at_place t (series_sort r) own.0 (sorted.0 ∙ fits), laid ps (each s) (more_of r) fits tt sorted.2 own.1)
+laid (part t ps) (each s) (more_of r) fits fill sorted own = (at_place t (series_sort r) own.0 (sorted.0 ∙ fits), laid ps (each s) (more_of r) fits tt sorted.2 own.1)
 
-gaps_laid : (at : ℕ → Term) (bound : ℕ) (ks : List ℕ) (ss : List Sort) (gs : List Gap) → FitGaps ss gs → AreSorted (parts_at at ks) (these ss) → AreBelow bound ks → AreOfSorts at bound → AreOf (parts_at at ks) (gapped gs)
-gaps_laid at bound [] [] [] fits sorted below are = tt
-gaps_laid at bound [] [] (g ∷ gs) fits sorted below are = absurd fits
-gaps_laid at bound [] (s ∷ ss) gs fits sorted below are = absurd sorted
-gaps_laid at bound (k ∷ ks) [] gs fits sorted below are = absurd sorted.0
-gaps_laid at bound (k ∷ ks) (s ∷ ss) [] fits sorted below are = absurd fits
-gaps_laid at bound (k ∷ ks) (s ∷ ss) (g ∷ gs) fits sorted below are =
-    (part_of at bound k g.0 are (first_below bound k ks below) (sorted.0 ∙ fits.0), gaps_laid at bound ks ss gs fits.1 sorted.2 (rest_below bound k ks below) are)
+-- ---- what symbols want
 
-more_laid : (at : ℕ → Term) (bound : ℕ) (ks : List ℕ) (s : Sort) (r : Series) → s ≡ series_sort r → AreSorted (parts_at at ks) (each s) → AreBelow bound ks → AreOfSorts at bound → AreOf (parts_at at ks) (more_of r)
-more_laid at bound [] s r fits sorted below are = tt
-more_laid at bound (k ∷ ks) s r fits sorted below are =
-    (part_of at bound k (series_sort r) are (first_below bound k ks below) (sorted.0 ∙ fits), more_laid at bound ks s r fits sorted.2 (rest_below bound k ks below) are)
+each_gap : (names : List (List ℕ)) → FitEachGap val_sort (field_gaps names)
+each_gap [] = (refl, tt)
+each_gap (n ∷ ns) = (refl, each_gap ns)
 
-all_laid : (at : ℕ → Term) (bound : ℕ) (ks : List ℕ) (s : Sort) (r : Series) → s ≡ series_sort r → AreSorted (parts_at at ks) (each s) → AreBelow bound ks → AreOfSorts at bound → AreOf (parts_at at ks) (first_of r)
-all_laid at bound [] s r fits sorted below are = tt
-all_laid at bound (k ∷ ks) s r fits sorted below are =
-    (part_of at bound k (series_sort r) are (first_below bound k ks below) (sorted.0 ∙ fits), more_laid at bound ks s r fits sorted.2 (rest_below bound k ks below) are)
-
-laid : (at : ℕ → Term) (bound : ℕ) (ks : List ℕ) (wanted : Places) (l : Layout) → Fits wanted l → AreSorted (parts_at at ks) wanted → AreBelow bound ks → AreOfSorts at bound → AreOf (parts_at at ks) l
-laid at bound ks (these ss) (gapped gs) fits sorted below are = gaps_laid at bound ks ss gs fits sorted below are
-laid at bound ks (these ss) (first_of r) fits sorted below are = absurd fits
-laid at bound ks (these ss) (more_of r) fits sorted below are = absurd fits
-laid at bound ks (each s) (gapped gs) fits sorted below are = absurd fits
-laid at bound ks (each s) (first_of r) fits sorted below are = all_laid at bound ks s r fits sorted below are
-laid at bound ks (each s) (more_of r) fits sorted below are = more_laid at bound ks s r fits sorted below are
-
--- ---- records: as many parts as names
-
-abbrev HasNames : Symbol → List ℕ → Type 0
-HasNames (term.fields names) ks = length ks ≡ length names
-HasNames symbol ks = Unit {0}
-
-pub has_names : (n : Node) → HasNames (plain n).symbol (plain n).parts
-has_names (node.Record fields) = length-map fields.items (λ (p : Name × ℕ). p.1) ∙ sym (length-map fields.items (λ (p : Name × ℕ). p.0))
-has_names n = tt
-
-fields_laid : (at : ℕ → Term) (bound k : ℕ) (ks : List ℕ) (names : List (List ℕ)) → length ks ≡ length names → AreSorted (parts_at at (k ∷ ks)) (each val_sort) → AreBelow bound (k ∷ ks) → AreOfSorts at bound → AreOf (parts_at at (k ∷ ks)) (gapped (field_gaps names))
-fields_laid at bound k [] [] many sorted below are = (part_of at bound k val_sort are (first_below bound k [] below) sorted.0, tt)
-fields_laid at bound k [] (n ∷ ns) many sorted below are = absurd (omega (arith, many))
-fields_laid at bound k (j ∷ js) [] many sorted below are = absurd (omega (arith, many))
-fields_laid at bound k (j ∷ js) (n ∷ ns) many sorted below are =
-    (part_of at bound k val_sort are (first_below bound k (j ∷ js) below) sorted.0, fields_laid at bound j js ns (omega (arith, many)) sorted.2 (rest_below bound k (j ∷ js) below) are)
-
-record_laid : (at : ℕ → Term) (bound : ℕ) (ks : List ℕ) (names : List (List ℕ)) → length ks ≡ length names → AreSorted (parts_at at ks) (each val_sort) → AreBelow bound ks → AreOfSorts at bound → AreOf (parts_at at ks) (layout (term.fields names))
-record_laid at bound [] [] many sorted below are = tt
-record_laid at bound [] (n ∷ ns) many sorted below are = absurd (omega (arith, many))
-record_laid at bound (k ∷ ks) [] many sorted below are = absurd (omega (arith, many))
-record_laid at bound (k ∷ ks) (n ∷ ns) many sorted below are = fields_laid at bound k ks ns (omega (arith, many)) sorted below are
-
--- ---- nodes
-
--- of each symbol but a record's
-abbrev FitsOwn : Symbol → Type 0
-FitsOwn (term.fields names) = Unit {0}
-FitsOwn symbol = Fits (places symbol) (layout symbol)
-
-fits_own : (symbol : Symbol) → FitsOwn symbol
+fits_own : (symbol : Symbol) → Fits (places symbol) (layout symbol)
 fits_own (term.number z) = tt
 fits_own (term.int_name word n) = tt
 fits_own term.add = (refl, (refl, tt))
@@ -131,7 +100,8 @@ fits_own term.array = refl
 fits_own term.repeat = (refl, (refl, tt))
 fits_own term.update = (refl, (refl, (refl, tt)))
 fits_own term.get = (refl, (refl, tt))
-fits_own (term.fields names) = tt
+fits_own (term.fields []) = tt
+fits_own (term.fields (n ∷ ns)) = each_gap ns
 fits_own (term.field name) = (refl, tt)
 fits_own (term.set_field name) = (refl, (refl, tt))
 fits_own term.at_most = (refl, (refl, tt))
@@ -144,24 +114,57 @@ fits_own term.denied = (refl, tt)
 fits_own term.all_of = refl
 fits_own term.any_of = refl
 
-node_laid : (at : ℕ → Term) (bound : ℕ) (ks : List ℕ) (symbol : Symbol) → FitsOwn symbol → HasNames symbol ks → AreSorted (parts_at at ks) (places symbol) → AreBelow bound ks → AreOfSorts at bound → AreOf (parts_at at ks) (layout symbol)
-node_laid at bound ks (term.fields names) fits many sorted below are = record_laid at bound ks names many sorted below are
-node_laid at bound ks symbol fits many sorted below are = laid at bound ks (places symbol) (layout symbol) fits sorted below are
+-- a record has as many parts as names
+fields_fill : (at : ℕ → Term) (f : Name × ℕ) (fs : List (Name × ℕ)) → FillGaps (parts_at at (map (λ p. p.1) (f ∷ fs))) (field_gaps (map (λ p. p.0) fs))
+fields_fill at f [] = tt
+fields_fill at f (g ∷ gs) = fields_fill at g gs
 
--- a node whose own names and numbers are within their ranges, and whose parts can be written
-node_of : (nodes : List Plain) (t : ℕ) (n : Plain) → tree_at nodes t ≡ grown (tree_at nodes) n → HasPartsBelow t n → HasNames n.symbol n.parts → IsInRange n.symbol → IsSorted (tree_at nodes t) → AreWritableBelow nodes t → IsOf (tree_at nodes t) (sort_in (tree_at nodes t))
-node_of nodes t n e below names ranges sorted are =
-    let inside : AreSorted (parts_at (tree_at nodes) n.parts) (places n.symbol) = subst IsSorted e sorted in
-    subst (λ (u : Term). IsOf u (sort_in u)) (sym e)
-    (refl, ranges, node_laid (tree_at nodes) t n.parts n.symbol (fits_own n.symbol) names inside below (λ k lt. (are k lt).1))
+record_fills : (at : ℕ → Term) (fields : List (Name × ℕ)) → Fill (parts_at at (map (λ p. p.1) fields)) (each val_sort) (layout (term.fields (map (λ p. p.0) fields)))
+record_fills at [] = tt
+record_fills at (f ∷ fs) = fields_fill at f fs
 
--- one number more
-pub writable_more : (nodes : List Plain) (t : ℕ) (n : Node) → tree_at nodes t ≡ grown (tree_at nodes) (plain n) → HasPartsBelow t (plain n) → IsInRange (plain n).symbol → IsSorted (tree_at nodes t) → folded (tree_at nodes t) ≡ tree_at nodes t → AreWritableBelow nodes t → AreWritableBelow nodes (t + 1)
-writable_more nodes t n e below ranges sorted is are =
-    below_more (λ (k : ℕ). IsWritableAt (sort_in (tree_at nodes k)) (tree_at nodes k)) t are
-    (node_folded nodes t (plain n) e below are is, node_of nodes t (plain n) e below (has_names n) ranges sorted are)
+fills : (at : ℕ → Term) (n : Node) → Fill (parts_at at (plain n).parts) (places (plain n).symbol) (layout (plain n).symbol)
+fills at (node.Record fields) = record_fills at fields.items
+fills at n = tt
 
--- the same, where an answer is yes only if the term is folded to itself
-pub writable_if : (nodes : List Plain) (t : ℕ) (n : Node) {E : Type 0} (answer : Result Bool E) → tree_at nodes t ≡ grown (tree_at nodes) (plain n) → HasPartsBelow t (plain n) → IsInRange (plain n).symbol → IsSorted (tree_at nodes t) → AreWritableBelow nodes t → IfOk answer (λ b. IsTrue b → folded (tree_at nodes t) ≡ tree_at nodes t) → IfOk answer (λ b. IsTrue b → AreWritableBelow nodes (t + 1))
-writable_if nodes t n (Ok b) e below ranges sorted are is = λ yes. writable_more nodes t n e below ranges sorted (is yes) are
-writable_if nodes t n (Err e) tree below ranges sorted are is = tt
+-- ---- from the layout to places
+
+own_sort : (t : Term) (s : Sort) → IsOf t s → sort_in t ≡ s
+own_sort (Of symbol ps) s is = is.0
+
+own_of : (t : Term) (s : Sort) → IsOf t s → IsOf t (sort_in t)
+own_of t s is = subst (IsOf t) (sym (own_sort t s is)) is
+
+pub own_parts : (ps : Parts) (l : Layout) → AreOf ps l → AreOwn ps
+own_parts no_parts l are = tt
+own_parts (part t ps) (gapped []) are = absurd are
+own_parts (part t ps) (gapped (g ∷ gs)) are = (own_of t g.0 are.0, own_parts ps (gapped gs) are.1)
+own_parts (part t ps) (first_of r) are = (own_of t (series_sort r) are.0, own_parts ps (more_of r) are.1)
+own_parts (part t ps) (more_of r) are = (own_of t (series_sort r) are.0, own_parts ps (more_of r) are.1)
+
+mutual
+  pub sorted_of : (t : Term) (s : Sort) → IsOf t s → IsSorted t
+  sorted_of (Of symbol ps) s is = sorted_parts ps (places symbol) (layout symbol) (fits_own symbol) is.2
+
+  sorted_parts : (ps : Parts) (wanted : Places) (l : Layout) → Fits wanted l → AreOf ps l → AreSorted ps wanted
+  sorted_parts no_parts (these []) l fits are = tt
+  sorted_parts no_parts (these (s ∷ ss)) (gapped []) fits are = absurd fits
+  sorted_parts no_parts (these (s ∷ ss)) (gapped (g ∷ gs)) fits are = absurd are
+  sorted_parts no_parts (these (s ∷ ss)) (first_of r) fits are = absurd fits
+  sorted_parts no_parts (these (s ∷ ss)) (more_of r) fits are = absurd fits
+  sorted_parts no_parts (each s) l fits are = tt
+  sorted_parts (part t ps) wanted (gapped []) fits are = absurd are
+  sorted_parts (part t ps) (these []) (gapped (g ∷ gs)) fits are = absurd fits
+  sorted_parts (part t ps) (these (s ∷ ss)) (gapped (g ∷ gs)) fits are = (own_sort t g.0 are.0 ∙ sym fits.0, sorted_of t g.0 are.0, sorted_parts ps (these ss) (gapped gs) fits.1 are.1)
+  sorted_parts (part t ps) (these ss) (first_of r) fits are = absurd fits
+  sorted_parts (part t ps) (these ss) (more_of r) fits are = absurd fits
+  sorted_parts (part t ps) (each s) (gapped (g ∷ gs)) fits are = (own_sort t g.0 are.0 ∙ sym fits.0, sorted_of t g.0 are.0, sorted_parts ps (each s) (gapped gs) fits.1 are.1)
+  sorted_parts (part t ps) (each s) (first_of r) fits are = (own_sort t (series_sort r) are.0 ∙ sym fits, sorted_of t (series_sort r) are.0, sorted_parts ps (each s) (more_of r) fits are.1)
+  sorted_parts (part t ps) (each s) (more_of r) fits are = (own_sort t (series_sort r) are.0 ∙ sym fits, sorted_of t (series_sort r) are.0, sorted_parts ps (each s) (more_of r) fits are.1)
+
+-- ---- nodes
+
+-- a node whose own names and numbers are within their ranges, and whose parts are sorted and of their own sorts
+pub node_of : (at : ℕ → Term) (n : Node) → IsInRange (plain n).symbol → AreSorted (parts_at at (plain n).parts) (places (plain n).symbol) → AreOwn (parts_at at (plain n).parts) → IsOf (Of (plain n).symbol (parts_at at (plain n).parts)) (sort_of (plain n).symbol)
+node_of at n ranges sorted own =
+    (refl, ranges, laid (parts_at at (plain n).parts) (places (plain n).symbol) (layout (plain n).symbol) (fits_own (plain n).symbol) (fills at n) sorted own)

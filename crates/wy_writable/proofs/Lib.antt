@@ -1,6 +1,9 @@
+-- names
+pub mod RangeLemmas
 -- terms of a list
 pub mod FoldedLemmas
 pub mod LaidLemmas
+pub mod CopyLemmas
 -- arguments of facts
 pub mod ConstantLemmas
 -- trees

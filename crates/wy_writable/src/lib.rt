@@ -6,7 +6,12 @@
 //! writer asks too.
 #![tactic(auto)]
 
+mod arguments;
+mod folding;
 mod law;
+mod listed;
+mod numbers;
+mod ranges;
 mod testing;
 
 pub use law::valid_certificates_are_trees;
