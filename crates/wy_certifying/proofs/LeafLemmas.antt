@@ -16,9 +16,9 @@ use Rattle.wy_closing.proofs.AtLeastLemmas.{at_least_on}
 use Rattle.wy_chains.proofs.ClassLemmas.{present_sorted}
 use Rattle.wy_certified.proofs.LeafLemmas.{sorted_literals, folded_literals}
 use Rattle.wy_closing_rounds.specs.Leaves.{IsLeaf}
-use Rattle.wy_drafts.specs.Progress.{Progress, Closes, Goes, Ends}
+use Rattle.wy_drafts.specs.Progress.{Progress, Closes, Goes}
 use Rattle.wy_drafts.proofs.ProgressLemmas.{closes_ends, ends_behind, goes_more, goes_nowhere, goes_on}
-use Rattle.wy_linked_classes.specs.Linked.{IsBase, LinksOrEnds}
+use Rattle.wy_linked_classes.specs.Linked.{IsBase}
 use Rattle.wy_stated_sums.specs.Refuted.{EndsIfRefuted}
 use Rattle.wy_written_rounds.specs.Rounds.{IsBeside}
 use Rattle.wy_certifying.specs.Plans.{AreSortedAt, GoesOrEnds, IsEnded}

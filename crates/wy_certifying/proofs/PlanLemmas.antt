@@ -1,11 +1,10 @@
 -- Lists of numbers of terms of sorted parts.
-use Rattle.std.proofs.Common.{◌≡◌, ◌∙◌, ◌+◌, ◌<◌, ◌≤◌, ℕ, zero, suc, List, [], ◌∷◌, All, Bool, true, false, ◌||◌, eqb, length, map, get_or, refl, sym, ap, subst, arith}
+use Rattle.std.proofs.Common.{◌≡◌, ◌+◌, ◌<◌, ℕ, zero, suc, List, [], ◌∷◌, All, Bool, true, false, ◌||◌, length, get_or, refl, sym, subst, arith}
 use Rattle.std.specs.Prelude.{nat_eq}
 use Rattle.std.specs.List.{list_any}
 use Rattle.std.proofs.lemmas.Bool.{eqb-true}
 use borrow.Author.Count.{below_more}
-use Rattle.wy_term.specs.Term.{Term}
-use Rattle.wy_term.specs.Nodes.{Plain, tree_at}
+use Rattle.wy_term.specs.Nodes.{Plain}
 use Rattle.wy_sorted.specs.Sorted.{IsSorted}
 use Rattle.wy_facts.specs.Seen.{AreBelow, Stays, terms_at}
 use Rattle.wy_sound_certificates.specs.Sortedness.{AreSortedTerms}

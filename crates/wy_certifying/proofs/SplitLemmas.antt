@@ -1,8 +1,8 @@
 -- What is left of a search that finds behind a split, and at its beginning.
-use Rattle.std.proofs.Common.{◌≡◌, ◌∙◌, ℕ, List, [], ◌∷◌, ◌++◌, Bool, true, false, Option, Some, refl, sym, ap, subst, append_assoc}
+use Rattle.std.proofs.Common.{◌≡◌, ℕ, List, [], ◌∷◌, ◌++◌, Bool, true, false, Option, Some, refl, sym, subst, append_assoc}
 use Rattle.wy_term.specs.Term.{Term}
 use Rattle.wy_term.specs.Condition.{Entry, Condition}
-use Rattle.wy_judge.specs.Node.{Literal, Node, added, denied_one, first_node}
+use Rattle.wy_judge.specs.Node.{Node, added, denied_one, first_node}
 use Rattle.wy_cert.specs.Steps.{Written, split}
 use Rattle.wy_valid.specs.Literals.{only_if}
 use Rattle.wy_valid.specs.Ranges.{may_split}
@@ -10,12 +10,11 @@ use Rattle.wy_valid.specs.Validity.{IsValid}
 use Rattle.wy_search.specs.Splitting.{next_atom}
 use Rattle.wy_search.specs.Expansion.{Spot, with_node}
 use Rattle.wy_search.specs.Tree.{next, splits, first_spot}
-use Rattle.wy_sound_certificates.specs.Sortedness.{AreSortedSteps}
 use Rattle.wy_sound_certificates.proofs.NodeLemmas.{IsSortedNode, added_sorted, denied_sorted, first_sorted}
 use Rattle.wy_closing.proofs.Closing.{IsFoldedNode}
 use Rattle.wy_closing.proofs.FoldedLemmas.{added_folded, denied_folded, first_folded}
 use Rattle.wy_closing.proofs.NameLemmas.{near_self, near_added, near_denied, splits_near}
-use Rattle.wy_closing_rounds.specs.Leaves.{IsSortedThroughout, IsFoldedThroughout, Comes, begins, left, right}
+use Rattle.wy_closing_rounds.specs.Leaves.{IsSortedThroughout, IsFoldedThroughout, begins, left, right}
 use Rattle.wy_closing_rounds.proofs.SearchLemmas.{IsFit, sorted_atoms, atoms_sorted, folded_atoms, atoms_folded, folded_formulas, formulas_folded, next_fit}
 use Rattle.wy_drafts.specs.Progress.{Progress}
 use Rattle.wy_written_rounds.specs.Rounds.{IsBeside}

@@ -1,25 +1,22 @@
 -- What is left of a search that finds, node by node.
-use Rattle.std.proofs.Common.{◌≡◌, ◌∙◌, ◌+◌, ℕ, zero, suc, List, [], ◌∷◌, ◌++◌, Bool, true, false, cond, eqb, ◌||◌, Option, Some, None, inl, inr, ◌⊎◌, refl, sym, ap, subst, arith, append_assoc, append-nil}
+use Rattle.std.proofs.Common.{◌≡◌, ◌∙◌, ◌+◌, ℕ, zero, suc, List, [], ◌∷◌, ◌++◌, Bool, true, false, cond, eqb, ◌||◌, Option, Some, inl, inr, refl, sym, ap, subst, arith, append_assoc, append-nil}
 use Rattle.std.proofs.lemmas.Bool.{ne_eqb, eq-eqb}
-use Rattle.wy_term.specs.Term.{Term}
 use Rattle.wy_term.specs.Condition.{Entry, Condition}
-use Rattle.wy_term.specs.Unfolding.{AreClosed}
-use Rattle.wy_judge.specs.Node.{Literal, Node, added, denied_one, first_node}
-use Rattle.wy_cert.specs.Steps.{Written, split}
-use Rattle.wy_valid.specs.Literals.{is_shut, only_if}
-use Rattle.wy_valid.specs.Ranges.{may_split}
+use Rattle.wy_judge.specs.Node.{Node}
+use Rattle.wy_cert.specs.Steps.{Written}
+use Rattle.wy_valid.specs.Literals.{is_shut}
 use Rattle.wy_valid.specs.Validity.{closed as no_node, after, first_bad_by, or_bad, IsValid}
 use Rattle.wy_search.specs.Classes.{clashes}
 use Rattle.wy_search.specs.Bounds.{Ending, refuted, consistent, crowded, wide, ending}
 use Rattle.wy_search.specs.Splitting.{next_atom}
-use Rattle.wy_search.specs.Expansion.{Spot, with_node, expanded}
-use Rattle.wy_search.specs.Tree.{Next, Why, closed, stays_open, splits, goes_on, why_open, on_expansion, on_atom, by_ending, next, Verdict, found, spent, follows, searched, first_spot}
-use Rattle.wy_sound_certificates.specs.Sortedness.{IsSortedStep, AreSortedSteps}
-use Rattle.wy_drafts.specs.Progress.{Progress, Leads, Goes, Ends, Splits}
+use Rattle.wy_search.specs.Expansion.{Spot}
+use Rattle.wy_search.specs.Tree.{Next, Why, closed, stays_open, goes_on, on_atom, by_ending, next, Verdict, found, spent, follows, searched}
+use Rattle.wy_sound_certificates.specs.Sortedness.{AreSortedSteps}
+use Rattle.wy_drafts.specs.Progress.{Progress, Leads, Goes, Ends}
 use Rattle.wy_closing.specs.AtLeast.{IsNear}
-use Rattle.wy_closing_rounds.specs.Leaves.{IsLeaf, IsSortedThroughout, Comes, left, right, expands}
+use Rattle.wy_closing_rounds.specs.Leaves.{IsLeaf, IsSortedThroughout, expands}
 use Rattle.wy_written_rounds.specs.Rounds.{IsBeside}
-use Rattle.wy_certifying.specs.Tracks.{Pair, spots_of, nodes_of, AreBeside, AreClosedBy, Finds, IsLeft}
+use Rattle.wy_certifying.specs.Tracks.{Pair, spots_of, nodes_of, AreClosedBy, Finds, IsLeft}
 
 -- ---- steps that close nodes
 

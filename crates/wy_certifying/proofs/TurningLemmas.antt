@@ -1,5 +1,5 @@
 -- What the search's node is judged to be.
-use Rattle.std.proofs.Common.{◌≡◌, ◌∙◌, ℕ, List, Bool, true, false, ◌||◌, length, refl, sym, ap}
+use Rattle.std.proofs.Common.{◌≡◌, ◌∙◌, ℕ, Bool, true, false, ◌||◌, length, refl, sym, ap}
 use Rattle.std.specs.Prelude.{nat_lt}
 use Rattle.wy_term.specs.Term.{Term}
 use Rattle.wy_judging.specs.declared.branch.Branch.{Branch}

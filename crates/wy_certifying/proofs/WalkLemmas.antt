@@ -1,5 +1,5 @@
 -- The walk's nodes stand for the same as the list of terms grows, and what is left behind each turn.
-use Rattle.std.proofs.Common.{◌≡◌, ◌∙◌, ◌<◌, ◌+◌, ℕ, List, [], ◌∷◌, ◌++◌, map, Bool, true, false, Option, Some, None, refl, sym, ap, subst, arith}
+use Rattle.std.proofs.Common.{◌≡◌, ◌∙◌, ◌<◌, ◌+◌, ℕ, List, [], ◌∷◌, ◌++◌, map, Bool, true, false, Some, None, refl, sym, ap, subst, arith}
 use Rattle.wy_term.specs.Term.{Term}
 use Rattle.wy_term.specs.Condition.{Entry, Condition}
 use Rattle.wy_term.specs.Nodes.{Plain, tree_at}
@@ -10,11 +10,10 @@ use Rattle.wy_judging.proofs.SumsBranchLemmas.{branch_stays, node_stays}
 use Rattle.wy_cert.specs.Steps.{Written, shut, split}
 use Rattle.wy_valid.specs.Literals.{is_shut, only_if}
 use Rattle.wy_valid.specs.Validity.{closed as no_node}
-use Rattle.wy_search.specs.Bounds.{Ending, ending}
+use Rattle.wy_search.specs.Bounds.{ending}
 use Rattle.wy_search.specs.Expansion as search
 use Rattle.wy_search.specs.Tree as tree
 use Rattle.wy_search.specs.Splitting.{next_atom}
-use Rattle.wy_searching.specs.Spot.{Spot}
 use Rattle.wy_searching.specs.StatedSeen.{seen_spot}
 use Rattle.wy_searching.specs.Turns.{with_side}
 use Rattle.wy_searching.proofs.SpotLemmas.{spot_stays, seen_stays}
@@ -24,8 +23,6 @@ use Rattle.wy_drafts.specs.Progress.{Progress, Closes, Goes, Ends, Splits}
 use Rattle.wy_drafts.proofs.ProgressLemmas.{closes_ends}
 use Rattle.wy_written_rounds.specs.Rounds.{IsBeside}
 use Rattle.wy_certifying.specs.declared.walking.Waiting.{Waiting}
-use Rattle.wy_certifying.specs.declared.walking.Turned.{Turned}
-use Rattle.wy_certifying.specs.declared.walking.Turned.TheVariants as turned
 use Rattle.wy_certifying.specs.Plans.{IsEnded}
 use Rattle.wy_certifying.specs.Tracks.{Pair, IsLeft}
 use Rattle.wy_certifying.specs.Turns.{IsOpenNode}

@@ -1,5 +1,5 @@
 -- The walk through the tree of the search, where `at` gives the term of a number.
-use Rattle.std.specs.Prelude.{◌<◌, ◌≤◌, ℕ, List, [], ◌∷◌, map, length, Option, Some, None}
+use Rattle.std.specs.Prelude.{◌≤◌, ℕ, List, [], ◌∷◌, map, Option, Some, None}
 use Rattle.wy_term.specs.Term.{Term}
 use Rattle.wy_term.specs.Condition.{Condition}
 use Rattle.wy_term.specs.Nodes.{Plain}

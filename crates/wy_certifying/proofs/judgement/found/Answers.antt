@@ -1,4 +1,4 @@
-use Rattle.std.proofs.Common.{arith, length, sym, subst}
+use Rattle.std.proofs.Common.{arith, sym, subst}
 use Rattle.std.specs.Prelude.{IfOk, IfSome}
 use Rattle.wy_term.specs.Condition.{Condition, condition_of}
 use Rattle.wy_cert.specs.Steps.{steps_of}

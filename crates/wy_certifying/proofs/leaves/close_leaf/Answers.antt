@@ -1,5 +1,4 @@
 use Rattle.std.proofs.Common.{◌≡◌, true, false, length, sym, subst, rules}
-use Rattle.std.specs.Prelude.{IfOk}
 use Rattle.wy_term.specs.Nodes.{tree_at}
 use Rattle.wy_facts.specs.Seen.{AreBelow}
 use Rattle.wy_facts.proofs.StepLemmas.{stays_on}

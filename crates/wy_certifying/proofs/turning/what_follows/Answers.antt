@@ -1,7 +1,7 @@
 use Rattle.std.proofs.Common.{◌≡◌, ◌∙◌, Option, true, false, sym, subst, rules}
 use Rattle.std.specs.Prelude.{IfOk, IfSome}
 use Rattle.wy_term.specs.Nodes.{tree_at}
-use Rattle.wy_facts.proofs.StepLemmas.{stays_on, terms_kept}
+use Rattle.wy_facts.proofs.StepLemmas.{terms_kept}
 use Rattle.wy_bounds.proofs.GatherLemmas.{present_stays}
 use Rattle.wy_judging.specs.Seen.{seen_branch}
 use Rattle.wy_search.specs.Expansion.{Spot}

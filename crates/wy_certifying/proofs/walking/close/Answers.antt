@@ -1,4 +1,4 @@
-use Rattle.std.proofs.Common.{◌≡◌, ◌+◌, List, [], ◌∷◌, map, ap, sym, subst, arith, rules}
+use Rattle.std.proofs.Common.{◌≡◌, ◌+◌, List, [], map, sym, subst, arith, rules}
 use Rattle.wy_cert.specs.Steps.{Written, written}
 use Rattle.wy_term.specs.Nodes.{tree_at}
 use Rattle.wy_valid.specs.Validity.{IsValid}

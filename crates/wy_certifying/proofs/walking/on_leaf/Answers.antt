@@ -1,4 +1,4 @@
-use Rattle.std.proofs.Common.{◌≡◌, ◌+◌, List, true, false, map, refl, sym, subst, rules}
+use Rattle.std.proofs.Common.{◌≡◌, ◌+◌, true, false, map, refl, sym, subst, rules}
 use Rattle.wy_term.specs.Nodes.{tree_at}
 use Rattle.wy_classes.specs.Seen.{terms_of}
 use Rattle.wy_search.specs.Standing.{present}
@@ -7,7 +7,7 @@ use Rattle.wy_searching.specs.StatedSeen.{seen_spot}
 use Rattle.wy_closing_rounds.specs.Leaves.{IsLeaf}
 use Rattle.wy_drafts.specs.Draft.{seen_draft}
 use Rattle.wy_certifying.specs.Plans.{IsEnded}
-use Rattle.wy_certifying.specs.Tracks.{Pair, IsLeft}
+use Rattle.wy_certifying.specs.Tracks.{IsLeft}
 use Rattle.wy_certifying.specs.Walks.{seen_waiting}
 use Rattle.wy_certifying.proofs.WalkLemmas.{closed_left, stands_beside, stands_so, waiting_seen, waiting_stay}
 use Rattle.wy_certifying.proofs.walking.on_leaf.Goals as goal
